@@ -1,0 +1,4 @@
+pub mod Limits
+pub mod Weight
+pub mod Charge
+pub mod Placement

@@ -1,0 +1,20 @@
+//! The numbers of a fair scheduler: what a nice level weighs, how a time that was run is charged to a
+//! virtual runtime, how far a lag may go, and where a task with a lag is placed.
+//!
+//! Real times are in nanoseconds. Virtual times are signed whole numbers: a task of weight 1024, that of
+//! nice level 0, ages one unit of virtual time a nanosecond, a heavier task more slowly. No call takes memory.
+#![tactic(auto)]
+
+mod charging;
+mod nice_level;
+mod placement;
+mod time_slice;
+mod time_step;
+mod weight_table;
+
+pub use charging::{charge, lag_limit};
+pub use nice_level::Nice;
+pub use placement::{BOUND, is_in_range, placed};
+pub use time_slice::Slice;
+pub use time_step::Ns;
+pub use weight_table::weight;

@@ -1,0 +1,67 @@
+ghost use Rattle.std.specs.Prelude.{◌≡◌, ◌≤◌, ◌^◌, ◌+◌, ◌*ℤ◌, ◌-ℤ◌, pos, unsigned_abs, true};
+ghost use Rattle.eevdf_weight.specs.Limits as limits;
+ghost use Rattle.eevdf_weight.specs.Placement.{floor_div, placement_of, within_range};
+
+/// The greatest distance from 0 of a virtual time that a task or a queue may have.
+pub const BOUND: i64 = 1 << 60;
+
+/// Whether a virtual time may be had by a task or a queue.
+pub fn is_in_range(time: i64) -> bool
+    ensures { result ≡ limits.is_in_range time }
+{
+    -BOUND <= time && time <= BOUND
+}
+
+/// The virtual runtime at which a task of weight `w` and of this lag joins runnable tasks of the weight
+/// `total` at the virtual time `v0`: `v0 - floor(lag * (total + w) / total)`. `None` exactly where that is
+/// out of range.
+pub fn placed(v0: i64, total: u64, lag: i64, w: u64) -> Option<i64>
+    requires time { limits.is_in_range v0 ≡ true }
+    requires some { 1 ≤ total }
+    requires few { total ≤ 2 ^ 40 }
+    requires kept { unsigned_abs lag ≤ 2 ^ 38 }
+    requires weighs { 1 ≤ w }
+    requires light { w ≤ 88761 }
+    ensures { result ≡ within_range (placement_of v0 total lag w) }
+{
+    in_range(earlier(v0, stretched(lag, total, w)))
+}
+
+/// A virtual time that was computed in the wider type, where it is in range.
+fn in_range(time: i128) -> Option<i64>
+    ensures { result ≡ within_range time }
+{
+    if time.unsigned_abs() <= 1 << 60 {
+        Some(time as i64)
+    } else {
+        None
+    }
+}
+
+fn earlier(time: i64, by: i128) -> i128
+    requires start { limits.is_in_range time ≡ true }
+    requires small { unsigned_abs by ≤ 2 ^ 100 }
+    ensures { result ≡ time -ℤ by }
+{
+    i128::from(time) - by
+}
+
+/// The lag, stretched by the weight that it brings.
+fn stretched(lag: i64, total: u64, w: u64) -> i128
+    requires some { 1 ≤ total }
+    requires few { total ≤ 2 ^ 40 }
+    requires kept { unsigned_abs lag ≤ 2 ^ 38 }
+    requires light { w ≤ 88761 }
+    ensures value { result ≡ floor_div (lag *ℤ pos (total + w)) total }
+    ensures small { unsigned_abs result ≤ 2 ^ 100 }
+{
+    product(lag, total + w).div_euclid(i128::from(total))
+}
+
+fn product(lag: i64, weight: u64) -> i128
+    requires kept { unsigned_abs lag ≤ 2 ^ 38 }
+    requires light { weight ≤ 2 ^ 41 }
+    ensures value { result ≡ lag *ℤ pos weight }
+{
+    i128::from(lag) * i128::from(weight)
+}
