@@ -1,0 +1,127 @@
+-- A list of tasks of which one gets another entry.
+use Rattle.std.proofs.Common.{◌≡◌, ℕ, Bool, true, false, cond, eqb, List, [], ◌∷◌, ◌++◌, length, Option, Some, None, refl, sym, subst, ap, ◌∙◌, arith}
+use Rattle.std.specs.Prelude.{ℤ, is_some}
+use Rattle.std.specs.Ordering.{nat_cmp}
+use Rattle.std.specs.FinMap.{FinMap, insert, get}
+use Rattle.eevdf_queue.specs.declared.run_entry.Entry.{Entry}
+use Rattle.eevdf_queue.specs.declared.task.Task.{Task}
+use Rattle.eevdf_queue.specs.declared.tree_key.Key.{Key}
+use Rattle.eevdf_queue.specs.Order.{is_before}
+use Rattle.eevdf_queue.specs.Moves.{is_entry_in_range}
+use Rattle.eevdf_queue.specs.TaskLists.{find_task, set_entry, runnable_in, AreRunnable}
+use Rattle.eevdf_queue.specs.TreeKeys.{is_under, is_over}
+use Rattle.eevdf_queue.specs.TreeTasks.{precedes, PrecedesAll, AreOrdered, IsSorted, IsAtDeadline}
+use Rattle.eevdf_queue.specs.TreeStores.{AllTasks, IsNoted, IsRunnableStore}
+use Rattle.eevdf_queue.proofs.RunnableMaps.{runnable_after, runnable_in-set_entry}
+use Rattle.eevdf_queue.proofs.TreeSearch.{IsPlaced, find_left, missed-left, missed-left_over, own_key, some_of, own_deadline, over_apart, over_not_itself, same_number}
+
+set_step : (b : Bool) (e : Entry) (x t : Task) (xs ys ws zs : List Task) (o : Option Task) → (o ≡ Some t → ws ≡ zs ++ ys) → cond b (Some x) o ≡ Some t
+    → cond b (record x { entry = e } ∷ xs ++ ys) (x ∷ ws) ≡ cond b (record x { entry = e } ∷ xs) (x ∷ zs) ++ ys
+set_step true e x t xs ys ws zs o k h = refl
+set_step false e x t xs ys ws zs o k h = ap (λ (z : List Task). x ∷ z) (k h)
+
+set-found : (q : ℕ) (e : Entry) (xs ys : List Task) (t : Task) → find_task q xs ≡ Some t → set_entry q e (xs ++ ys) ≡ set_entry q e xs ++ ys
+set-found q e [] ys t h = cc
+set-found q e (x ∷ xs) ys t h =
+    set_step (eqb x.number q) e x t xs ys (set_entry q e (xs ++ ys)) (set_entry q e xs) (find_task q xs) (set-found q e xs ys t) h
+
+set_past : (b : Bool) (x : Task) (us ws zs : List Task) (o : Option Task) → (o ≡ None → ws ≡ zs) → cond b (Some x) o ≡ None → cond b us (x ∷ ws) ≡ x ∷ zs
+set_past true x us ws zs o k h = cc
+set_past false x us ws zs o k h = ap (λ (z : List Task). x ∷ z) (k h)
+
+set-missed : (q : ℕ) (e : Entry) (xs ys : List Task) → find_task q xs ≡ None → set_entry q e (xs ++ ys) ≡ xs ++ set_entry q e ys
+set-missed q e [] ys h = refl
+set-missed q e (x ∷ xs) ys h =
+    set_past (eqb x.number q) x (record x { entry = e } ∷ xs ++ ys) (set_entry q e (xs ++ ys)) (xs ++ set_entry q e ys) (find_task q xs) (set-missed q e xs ys) h
+
+pub set_left : (e : Entry) (k : Key) (ts xs : List Task) (u : Task) (ys : List Task) → ts ≡ xs ++ u ∷ ys → AreOrdered ts → IsPlaced k ts → is_some (find_task k.number ts) ≡ true
+    → is_under k u ≡ true → set_entry k.number e ts ≡ set_entry k.number e xs ++ u ∷ ys
+set_left e k ts xs u ys i o a s p =
+    let f = some_of (find_task k.number xs) (ap is_some (sym (find_left k ts xs u ys i o a p)) ∙ s) in
+    ap (set_entry k.number e) i ∙ set-found k.number e xs (u ∷ ys) f.0 f.1
+
+pub set_right : (e : Entry) (k : Key) (ts xs : List Task) (u : Task) (ys : List Task) → ts ≡ xs ++ u ∷ ys → AreOrdered ts → IsPlaced k ts
+    → is_over k u ≡ true → set_entry k.number e ts ≡ xs ++ u ∷ set_entry k.number e ys
+set_right e k ts xs u ys i o a p =
+    let o' = subst AreOrdered i o in
+    let a' = subst (IsPlaced k) i a in
+    let n = missed-left_over k xs u ys o' a' p in
+    let other = over_apart (eqb u.number k.number) k u refl (λ h. over_not_itself k u h p) (own_deadline k xs u ys a' n) in
+    ap (set_entry k.number e) i
+    ∙ set-missed k.number e xs (u ∷ ys) n
+    ∙ ap (λ b. xs ++ cond b (record u { entry = e } ∷ ys) (u ∷ set_entry k.number e ys)) other
+
+pub set_here : (e : Entry) (k : Key) (ts xs : List Task) (u : Task) (ys : List Task) → ts ≡ xs ++ u ∷ ys → AreOrdered ts → IsPlaced k ts
+    → is_under k u ≡ false → is_over k u ≡ false → set_entry k.number e ts ≡ xs ++ record u { entry = e } ∷ ys
+set_here e k ts xs u ys i o a p q =
+    let g = own_key k u p q in
+    ap (set_entry k.number e) i
+    ∙ set-missed k.number e xs (u ∷ ys) (missed-left k xs u ys (subst AreOrdered i o) (subst (IsPlaced k) i a) g)
+    ∙ ap (λ b. xs ++ cond b (record u { entry = e } ∷ ys) (u ∷ set_entry k.number e ys)) (same_number u.number k.number g.number)
+
+-- with the same deadline each task keeps its place
+same_before : (x t : Task) (e : Entry) → t.entry.d ≡ e.d → precedes x (record t { entry = e }) ≡ precedes x t
+same_before x t e h = ap (λ (z : ℤ). is_before (x.number, x.entry) (t.number, record t.entry { d = z })) (sym h)
+
+same_after : (x t : Task) (e : Entry) → t.entry.d ≡ e.d → precedes (record t { entry = e }) x ≡ precedes t x
+same_after x t e h = ap (λ (z : ℤ). is_before (t.number, record t.entry { d = z }) (x.number, x.entry)) (sym h)
+
+follow_all : (t : Task) (e : Entry) (us : List Task) → t.entry.d ≡ e.d → PrecedesAll t us → PrecedesAll (record t { entry = e }) us
+follow_all t e [] h a = tt
+follow_all t e (u ∷ us) h a = (same_after u t e h ∙ a.0, follow_all t e us h a.1)
+
+at_own : (d : ℤ) (b : Bool) (t : Task) (o : Option Task) → IsAtDeadline d (cond b (Some t) o) → b ≡ true → t.entry.d ≡ d
+at_own d true t o a h = a
+at_own d false t o a h = cc
+
+at_rest : (d : ℤ) (b : Bool) (t : Task) (o : Option Task) → IsAtDeadline d (cond b (Some t) o) → b ≡ false → IsAtDeadline d o
+at_rest d true t o a h = cc
+at_rest d false t o a h = a
+
+all_by : (q : ℕ) (e : Entry) (x t : Task) (us : List Task) (b : Bool) → eqb t.number q ≡ b → IsAtDeadline e.d (cond b (Some t) (find_task q us)) → PrecedesAll x (t ∷ us)
+    → (IsAtDeadline e.d (find_task q us) → PrecedesAll x (set_entry q e us)) → PrecedesAll x (cond b (record t { entry = e } ∷ us) (t ∷ set_entry q e us))
+all_by q e x t us true i a h k = (same_before x t e a ∙ h.0, h.1)
+all_by q e x t us false i a h k = (h.0, k a)
+
+all-set : (q : ℕ) (e : Entry) (x : Task) (ts : List Task) → IsAtDeadline e.d (find_task q ts) → PrecedesAll x ts → PrecedesAll x (set_entry q e ts)
+all-set q e x [] a h = tt
+all-set q e x (t ∷ us) a h = all_by q e x t us (eqb t.number q) refl a h (λ a'. all-set q e x us a' h.1)
+
+ordered_by : (q : ℕ) (e : Entry) (t : Task) (us : List Task) (b : Bool) → IsAtDeadline e.d (cond b (Some t) (find_task q us)) → AreOrdered (t ∷ us)
+    → (IsAtDeadline e.d (find_task q us) → AreOrdered (set_entry q e us)) → AreOrdered (cond b (record t { entry = e } ∷ us) (t ∷ set_entry q e us))
+ordered_by q e t us true a h k = (follow_all t e us a h.0, h.1)
+ordered_by q e t us false a h k = (all-set q e t us a h.0, k a)
+
+ordered-set : (q : ℕ) (e : Entry) (ts : List Task) → IsAtDeadline e.d (find_task q ts) → AreOrdered ts → AreOrdered (set_entry q e ts)
+ordered-set q e [] a h = tt
+ordered-set q e (t ∷ us) a h = ordered_by q e t us (eqb t.number q) a h (λ a'. ordered-set q e us a' h.1)
+
+pub sorted-set : (q : ℕ) (e : Entry) (ts rs : List Task) → IsSorted ts → IsAtDeadline e.d (find_task q ts) → rs ≡ set_entry q e ts → length rs ≡ length ts → IsSorted rs
+sorted-set q e ts rs s a i l = record {
+  ordered = subst AreOrdered (sym i) (ordered-set q e ts a s.ordered);
+  few = let f = s.few in omega arith;
+}
+
+-- and the table of deadlines stays right
+noted_by : (table : List ℤ) (q : ℕ) (e : Entry) (t : Task) (us : List Task) (b : Bool) → IsAtDeadline e.d (cond b (Some t) (find_task q us)) → AllTasks (IsNoted table) (t ∷ us)
+    → (IsAtDeadline e.d (find_task q us) → AllTasks (IsNoted table) (set_entry q e us)) → AllTasks (IsNoted table) (cond b (record t { entry = e } ∷ us) (t ∷ set_entry q e us))
+noted_by table q e t us true a h k = (h.0 ∙ a, h.1)
+noted_by table q e t us false a h k = (h.0, k a)
+
+noted-set : (table : List ℤ) (q : ℕ) (e : Entry) (ts : List Task) → IsAtDeadline e.d (find_task q ts) → AllTasks (IsNoted table) ts → AllTasks (IsNoted table) (set_entry q e ts)
+noted-set table q e [] a h = tt
+noted-set table q e (t ∷ us) a h = noted_by table q e t us (eqb t.number q) a h (λ a'. noted-set table q e us a' h.1)
+
+pub stored-set : (table : List ℤ) (q : ℕ) (e : Entry) (ts rs : List Task) → IsRunnableStore table ts → IsAtDeadline e.d (find_task q ts) → is_entry_in_range e ≡ true
+    → rs ≡ set_entry q e ts → IsRunnableStore table rs
+stored-set table q e ts rs s a r i = record {
+  runnable = subst AreRunnable (sym i) (runnable_after q e ts r s.runnable);
+  noted = subst (AllTasks (IsNoted table)) (sym i) (noted-set table q e ts a s.noted);
+}
+
+pub set_seen : (q : ℕ) (e : Entry) (ts rs : List Task) (m : FinMap nat_cmp Entry) → runnable_in ts ≡ m → is_some (get m q) ≡ true → rs ≡ set_entry q e ts
+    → runnable_in rs ≡ insert m q e
+set_seen q e ts rs m v h i =
+    ap runnable_in i
+    ∙ runnable_in-set_entry q e ts (ap (λ (z : FinMap nat_cmp Entry). is_some (get z q)) v ∙ h)
+    ∙ ap (λ (z : FinMap nat_cmp Entry). insert z q e) v

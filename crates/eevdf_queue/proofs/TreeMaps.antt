@@ -1,0 +1,151 @@
+-- What is asked of the maps of runnable and of sleeping tasks, answered from rising lists of them.
+use Rattle.std.proofs.Common.{◌≡◌, ℕ, ◌<◌, Bool, true, false, cond, eqb, List, [], ◌∷◌, length, Option, Some, None, refl, sym, subst, ap, ◌∙◌}
+use Rattle.std.specs.Prelude.{ℤ, is_some}
+use Rattle.std.specs.Ordering.{nat_cmp}
+use Rattle.std.specs.FinMap.{FinMap, insert, remove, get}
+use Rattle.eevdf_queue.specs.declared.run_entry.Entry.{Entry}
+use Rattle.eevdf_queue.specs.declared.task.Task.{Task}
+use Rattle.eevdf_queue.specs.declared.tree_key.Key.{Key}
+use Rattle.eevdf_queue.specs.Moves.{is_entry_in_range}
+use Rattle.eevdf_queue.specs.TaskLists.{find_task, runnable_in, AreRunnable}
+use Rattle.eevdf_queue.specs.TreeTasks.{insert_task, without, IsAtDeadline}
+use Rattle.eevdf_queue.specs.TreeStores.{AllTasks, deadline_at, IsNoted, IsRunnableStore}
+use Rattle.eevdf_queue.proofs.ListMaps.{AreNumbered, numbered_runnable}
+use Rattle.eevdf_queue.proofs.RunnableMaps.{get-runnable_in}
+use Rattle.eevdf_queue.proofs.TreeLists.{all-insert, all-without, all-found, numbered-insert, numbered-without, room}
+use Rattle.eevdf_queue.proofs.TreeSearch.{found_number}
+use Rattle.eevdf_queue.proofs.TreeSeen.{itself, missed-own, seen-insert, seen-without, seen-moved, seen_absent, seen_present, seen_found}
+
+abbrev pub InRange : Task → Type 0
+InRange t = is_entry_in_range t.entry ≡ true
+
+pub all_in_range : (ts : List Task) → AreRunnable ts → AllTasks InRange ts
+all_in_range [] h = tt
+all_in_range (t ∷ ts) h = (h.2, all_in_range ts h.3)
+
+pub runnable_from : (ts : List Task) → AreNumbered ts → AllTasks InRange ts → AreRunnable ts
+runnable_from [] h r = tt
+runnable_from (t ∷ ts) h r = (h.0, h.1, r.0, runnable_from ts h.2 r.1)
+
+pub runnable-insert : (t : Task) (ts : List Task) → find_task t.number ts ≡ None → t.number < 1024 → InRange t → AreRunnable ts → AreRunnable (insert_task t ts)
+runnable-insert t ts n l r h =
+    runnable_from (insert_task t ts) (numbered-insert t ts n l (numbered_runnable ts h)) (all-insert InRange t ts r (all_in_range ts h))
+
+pub runnable-without : (q : ℕ) (ts : List Task) → AreRunnable ts → AreRunnable (without q ts)
+runnable-without q ts h =
+    runnable_from (without q ts) (numbered-without q ts (numbered_runnable ts h)) (all-without InRange q ts (all_in_range ts h))
+
+-- the tables
+pub placed_by : (d : ℤ) (o : Option Task) → ((t : Task) → o ≡ Some t → t.entry.d ≡ d) → IsAtDeadline d o
+placed_by d None h = tt
+placed_by d (Some t) h = h t refl
+
+noted_deadline : (table : List ℤ) (q : ℕ) (ts : List Task) (t : Task) → AllTasks (IsNoted table) ts → find_task q ts ≡ Some t → t.entry.d ≡ deadline_at table q
+noted_deadline table q ts t a h =
+    sym (all-found (IsNoted table) q ts t a h) ∙ ap (deadline_at table) (found_number q ts t h)
+
+pub placed : (table : List ℤ) (k : Key) (ts : List Task) → AllTasks (IsNoted table) ts → k.deadline ≡ deadline_at table k.number → IsAtDeadline k.deadline (find_task k.number ts)
+placed table k ts a e =
+    placed_by k.deadline (find_task k.number ts) (λ t h. noted_deadline table k.number ts t a h ∙ sym e)
+
+-- the table after one more deadline
+abbrev pub IsTableWith : Task → List ℤ → List ℤ → Type 0
+IsTableWith t table table' = (q : ℕ) → deadline_at table' q ≡ cond (eqb q t.number) t.entry.d (deadline_at table q)
+
+chosen : (b : Bool) (x y : ℤ) → b ≡ true → cond b x y ≡ x
+chosen true x y h = refl
+chosen false x y h = cc
+
+passed : (b : Bool) (x y : ℤ) → b ≡ false → cond b x y ≡ y
+passed true x y h = cc
+passed false x y h = refl
+
+pub noted-own : (t : Task) (table table' : List ℤ) → IsTableWith t table table' → IsNoted table' t
+noted-own t table table' w = w t.number ∙ chosen (eqb t.number t.number) t.entry.d (deadline_at table t.number) (itself t.number)
+
+apart : (b : Bool) (x : Task) (o : Option Task) → cond b (Some x) o ≡ None → (b ≡ false) × (o ≡ None)
+apart true x o h = cc
+apart false x o h = (refl, h)
+
+pub noted-others : (t : Task) (table table' : List ℤ) (ts : List Task) → IsTableWith t table table' → find_task t.number ts ≡ None → AllTasks (IsNoted table) ts → AllTasks (IsNoted table') ts
+noted-others t table table' [] w n a = tt
+noted-others t table table' (u ∷ us) w n a =
+    let s = apart (eqb u.number t.number) u (find_task t.number us) n in
+    (w u.number ∙ passed (eqb u.number t.number) t.entry.d (deadline_at table u.number) s.0 ∙ a.0, noted-others t table table' us w s.1 a.1)
+
+-- the store after a deed
+pub stored-insert : (table table' : List ℤ) (t : Task) (ts rs : List Task) → IsRunnableStore table ts → find_task t.number ts ≡ None → t.number < 1024 → InRange t
+    → IsTableWith t table table' → rs ≡ insert_task t ts → IsRunnableStore table' rs
+stored-insert table table' t ts rs s n l r w e = record {
+  runnable = subst AreRunnable (sym e) (runnable-insert t ts n l r s.runnable);
+  noted = subst (AllTasks (IsNoted table')) (sym e) (all-insert (IsNoted table') t ts (noted-own t table table' w) (noted-others t table table' ts w n s.noted));
+}
+
+pub stored-without : (table : List ℤ) (q : ℕ) (ts rs : List Task) → IsRunnableStore table ts → rs ≡ without q ts → IsRunnableStore table rs
+stored-without table q ts rs s e = record {
+  runnable = subst AreRunnable (sym e) (runnable-without q ts s.runnable);
+  noted = subst (AllTasks (IsNoted table)) (sym e) (all-without (IsNoted table) q ts s.noted);
+}
+
+pub are_below : (ts : List Task) → AreNumbered ts → AllTasks (λ t. t.number < 1024) ts
+are_below [] h = tt
+are_below (t ∷ ts) h = (h.1, are_below ts h.2)
+
+-- what a store is seen as: a map, given by a list
+pub find_absent : (ts : List Task) (m : FinMap nat_cmp Entry) (q : ℕ) → runnable_in ts ≡ m → get m q ≡ None → find_task q ts ≡ None
+find_absent = seen_absent (λ t. t.entry) runnable_in get-runnable_in
+
+pub find_present : (ts : List Task) (m : FinMap nat_cmp Entry) (q : ℕ) → runnable_in ts ≡ m → is_some (get m q) ≡ true → is_some (find_task q ts) ≡ true
+find_present = seen_present (λ t. t.entry) runnable_in get-runnable_in
+
+-- a task put in
+module _ (table table' : List ℤ) (t : Task) (ts us : List Task) (m : FinMap nat_cmp Entry) (s : IsRunnableStore table ts) (v : runnable_in ts ≡ m)
+    (n : get m t.number ≡ None) (l : t.number < 1024) (e : us ≡ insert_task t ts) where
+  pub added_stored : InRange t → IsTableWith t table table' → IsRunnableStore table' us
+  added_stored r w = stored-insert table table' t ts us s (find_absent ts m t.number v n) l r w e
+
+  pub added_seen : runnable_in us ≡ insert m t.number t.entry
+  added_seen =
+      ap runnable_in e
+      ∙ seen-insert (λ t. t.entry) runnable_in get-runnable_in t ts (find_absent ts m t.number v n)
+      ∙ ap (λ (z : FinMap nat_cmp Entry). insert z t.number t.entry) v
+
+pub added_room : (table : List ℤ) (ts : List Task) (m : FinMap nat_cmp Entry) (t : Task) → IsRunnableStore table ts → runnable_in ts ≡ m → get m t.number ≡ None → t.number < 1024
+    → length ts < 1024
+added_room table ts m t s v n l = room t ts (find_absent ts m t.number v n) l (numbered_runnable ts s.runnable)
+
+-- a task taken out
+module _ (table : List ℤ) (q : ℕ) (t : Task) (ts rs : List Task) (s : IsRunnableStore table ts) (f : find_task q ts ≡ Some t) (e : rs ≡ without q ts) where
+  taken_missed : find_task q rs ≡ None
+  taken_missed = ap (find_task q) e ∙ missed-own q ts (numbered_runnable ts s.runnable)
+
+  pub taken_absent : find_task t.number rs ≡ None
+  taken_absent = ap (λ (z : ℕ). find_task z rs) (found_number q ts t f) ∙ taken_missed
+
+  pub taken_below : t.number < 1024
+  taken_below = all-found (λ t. t.number < 1024) q ts t (are_below ts (numbered_runnable ts s.runnable)) f
+
+  pub taken_stored : IsRunnableStore table rs
+  taken_stored = stored-without table q ts rs s e
+
+  pub taken_room : length rs < 1024
+  taken_room = room t rs taken_absent taken_below (numbered_runnable rs taken_stored.runnable)
+
+  pub taken_seen : (m : FinMap nat_cmp Entry) → runnable_in ts ≡ m → runnable_in rs ≡ remove m q
+  taken_seen m v = ap runnable_in e ∙ seen-without (λ t. t.entry) runnable_in get-runnable_in q ts (numbered_runnable ts s.runnable) ∙ ap (λ (z : FinMap nat_cmp Entry). remove z q) v
+
+  -- and put in again
+  pub moved_stored : (table' : List ℤ) (u : Task) (us : List Task) → u.number ≡ t.number → us ≡ insert_task u rs → InRange u → IsTableWith u table table' → IsRunnableStore table' us
+  moved_stored table' u us k i r w =
+      stored-insert table table' u rs us taken_stored (ap (λ (z : ℕ). find_task z rs) k ∙ taken_absent) (subst (λ (z : ℕ). z < 1024) (sym k) taken_below) r w i
+
+  pub moved_seen : (m : FinMap nat_cmp Entry) (u : Task) (us : List Task) → runnable_in ts ≡ m → u.number ≡ t.number → us ≡ insert_task u rs → runnable_in us ≡ insert m q u.entry
+  moved_seen m u us v k i =
+      let p : u.number ≡ q = k ∙ found_number q ts t f in
+      ap runnable_in (i ∙ ap (insert_task u) (e ∙ ap (λ (z : ℕ). without z ts) (sym p)))
+      ∙ seen-moved (λ t. t.entry) runnable_in get-runnable_in u ts (numbered_runnable ts s.runnable)
+      ∙ ap (λ (z : ℕ). insert (runnable_in ts) z u.entry) p
+      ∙ ap (λ (z : FinMap nat_cmp Entry). insert z q u.entry) v
+
+pub found_entry : (ts : List Task) (m : FinMap nat_cmp Entry) (q : ℕ) (t : Task) → runnable_in ts ≡ m → find_task q ts ≡ Some t → get m q ≡ Some t.entry
+found_entry = seen_found (λ t. t.entry) runnable_in get-runnable_in

@@ -1,0 +1,81 @@
+-- The order of tasks by key, and lists whose keys rise.
+use Rattle.std.proofs.Common.{◌≡◌, Bool, true, false, cond, List, [], ◌∷◌, ◌++◌, refl, sym, subst, ap, ◌∙◌, arith}
+use Rattle.std.proofs.lemmas.Int.{ints}
+use Rattle.eevdf_queue.specs.declared.task.Task.{Task}
+use Rattle.eevdf_queue.specs.TreeTasks.{precedes, PrecedesAll, AreOrdered, insert_task}
+use Rattle.eevdf_queue.proofs.Earliest.{told}
+
+pub precedes-trans : (a b c : Task) → precedes a b ≡ true → precedes b c ≡ true → precedes a c ≡ true
+precedes-trans a b c p q =
+    grind (arith, ints, told a.entry.d b.entry.d a.number b.number, told b.entry.d c.entry.d b.number c.number, told a.entry.d c.entry.d a.number c.number)
+
+pub not_earlier : (t x u : Task) → precedes x u ≡ true → precedes t u ≡ false → precedes t x ≡ false
+not_earlier t x u p q =
+    grind (arith, ints, told x.entry.d u.entry.d x.number u.number, told t.entry.d u.entry.d t.number u.number, told t.entry.d x.entry.d t.number x.number)
+
+-- each of some tasks precedes one
+abbrev pub AllPrecede : List Task → Task → Type 0
+AllPrecede [] u = Unit {0}
+AllPrecede (x ∷ xs) u = (precedes x u ≡ true) × AllPrecede xs u
+
+pub all_left : (t : Task) (xs ys : List Task) → PrecedesAll t (xs ++ ys) → PrecedesAll t xs
+all_left t [] ys h = tt
+all_left t (x ∷ xs) ys h = (h.0, all_left t xs ys h.1)
+
+pub all_right : (t : Task) (xs ys : List Task) → PrecedesAll t (xs ++ ys) → PrecedesAll t ys
+all_right t [] ys h = h
+all_right t (x ∷ xs) ys h = all_right t xs ys h.1
+
+pub all_both : (t : Task) (xs ys : List Task) → PrecedesAll t xs → PrecedesAll t ys → PrecedesAll t (xs ++ ys)
+all_both t [] ys h k = k
+all_both t (x ∷ xs) ys h k = (h.0, all_both t xs ys h.1 k)
+
+pub left_ordered : (xs : List Task) (u : Task) (ys : List Task) → AreOrdered (xs ++ u ∷ ys) → AreOrdered xs
+left_ordered [] u ys h = tt
+left_ordered (x ∷ xs) u ys h = (all_left x xs (u ∷ ys) h.0, left_ordered xs u ys h.1)
+
+pub right_ordered : (xs : List Task) (u : Task) (ys : List Task) → AreOrdered (xs ++ u ∷ ys) → AreOrdered ys
+right_ordered [] u ys h = h.1
+right_ordered (x ∷ xs) u ys h = right_ordered xs u ys h.1
+
+pub left_precede : (xs : List Task) (u : Task) (ys : List Task) → AreOrdered (xs ++ u ∷ ys) → AllPrecede xs u
+left_precede [] u ys h = tt
+left_precede (x ∷ xs) u ys h = ((all_right x xs (u ∷ ys) h.0).0, left_precede xs u ys h.1)
+
+pub right_follow : (xs : List Task) (u : Task) (ys : List Task) → AreOrdered (xs ++ u ∷ ys) → PrecedesAll u ys
+right_follow [] u ys h = h.0
+right_follow (x ∷ xs) u ys h = right_follow xs u ys h.1
+
+insert_first : (t x : Task) (ws xs ys zs : List Task) → ws ≡ xs ++ ys → zs ≡ insert_task t xs ++ ys → (b : Bool)
+    → cond b (t ∷ x ∷ ws) (x ∷ zs) ≡ cond b (t ∷ x ∷ xs) (x ∷ insert_task t xs) ++ ys
+insert_first t x ws xs ys zs e h true = ap (λ (z : List Task). t ∷ x ∷ z) e
+insert_first t x ws xs ys zs e h false = ap (λ (z : List Task). x ∷ z) h
+
+pub insert-left : (t : Task) (xs : List Task) (u : Task) (ys : List Task) → precedes t u ≡ true → insert_task t (xs ++ u ∷ ys) ≡ insert_task t xs ++ u ∷ ys
+insert-left t [] u ys h = ap (λ b. cond b (t ∷ u ∷ ys) (u ∷ insert_task t ys)) h
+insert-left t (x ∷ xs) u ys h =
+    insert_first t x (xs ++ u ∷ ys) xs (u ∷ ys) (insert_task t (xs ++ u ∷ ys)) refl (insert-left t xs u ys h) (precedes t x)
+
+pub insert-right : (t : Task) (xs : List Task) (u : Task) (ys : List Task) → precedes t u ≡ false → AreOrdered (xs ++ u ∷ ys)
+    → insert_task t (xs ++ u ∷ ys) ≡ xs ++ u ∷ insert_task t ys
+insert-right t [] u ys h o = ap (λ b. cond b (t ∷ u ∷ ys) (u ∷ insert_task t ys)) h
+insert-right t (x ∷ xs) u ys h o =
+    ap (λ b. cond b (t ∷ x ∷ xs ++ u ∷ ys) (x ∷ insert_task t (xs ++ u ∷ ys))) (not_earlier t x u (all_right x xs (u ∷ ys) o.0).0 h)
+    ∙ ap (λ (z : List Task). x ∷ z) (insert-right t xs u ys h o.1)
+
+pub ordered_left : (ts xs : List Task) (u : Task) (ys : List Task) → ts ≡ xs ++ u ∷ ys → AreOrdered ts → AreOrdered xs
+ordered_left ts xs u ys e h = left_ordered xs u ys (subst AreOrdered e h)
+
+pub ordered_right : (ts xs : List Task) (u : Task) (ys : List Task) → ts ≡ xs ++ u ∷ ys → AreOrdered ts → AreOrdered ys
+ordered_right ts xs u ys e h = right_ordered xs u ys (subst AreOrdered e h)
+
+-- what stands around a task after an insertion on either side
+pub inserted_left : (t : Task) (ts xs : List Task) (u : Task) (ys ws rs : List Task) → ts ≡ xs ++ u ∷ ys → precedes t u ≡ true
+    → ws ≡ insert_task t xs → rs ≡ ws ++ u ∷ ys → rs ≡ insert_task t ts
+inserted_left t ts xs u ys ws rs e p i j =
+    j ∙ ap (λ (z : List Task). z ++ u ∷ ys) i ∙ sym (insert-left t xs u ys p) ∙ ap (insert_task t) (sym e)
+
+pub inserted_right : (t : Task) (ts xs : List Task) (u : Task) (ys ws rs : List Task) → ts ≡ xs ++ u ∷ ys → precedes t u ≡ false → AreOrdered ts
+    → ws ≡ insert_task t ys → rs ≡ xs ++ u ∷ ws → rs ≡ insert_task t ts
+inserted_right t ts xs u ys ws rs e p h i j =
+    j ∙ ap (λ (z : List Task). xs ++ u ∷ z) i ∙ sym (insert-right t xs u ys p (subst AreOrdered e h)) ∙ ap (insert_task t) (sym e)

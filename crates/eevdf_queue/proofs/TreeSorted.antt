@@ -1,0 +1,157 @@
+-- Lists whose keys rise: they stay so, and their first and last are the earliest and the latest.
+use Rattle.std.proofs.Common.{◌≡◌, ℕ, suc, ◌/◌, ◌<◌, ◌≤◌, Bool, true, false, cond, eqb, List, [], ◌∷◌, length, Option, Some, None, refl, sym, subst, ap, ◌∙◌, arith}
+use Rattle.std.specs.Prelude.{is_some}
+use Rattle.std.specs.Option.{option_map}
+use Rattle.std.proofs.Math.Pow.{pow_mono}
+use Rattle.std.proofs.lemmas.Int.{ints}
+use Rattle.std.proofs.lemmas.Bool.Decides.{nat_tests}
+use Rattle.eevdf_queue.specs.declared.run_entry.Entry.{Entry}
+use Rattle.eevdf_queue.specs.declared.task.Task.{Task}
+use Rattle.eevdf_queue.specs.TaskLists.{find_task, entries_of}
+use Rattle.eevdf_queue.specs.Order.{earlier, earliest}
+use Rattle.eevdf_queue.specs.Candidate.{is_running, later, latest_waiting}
+use Rattle.eevdf_queue.specs.TreeShape.{IsFull}
+use Rattle.eevdf_queue.specs.TreeTasks.{precedes, PrecedesAll, AreOrdered, IsSorted, insert_task, without, first_that, last_waiting, last_or, numbered_entry}
+use Rattle.eevdf_queue.proofs.Earliest.{told}
+use Rattle.eevdf_queue.proofs.TreeOrder.{precedes-trans}
+use Rattle.eevdf_queue.proofs.TreeSearch.{none_from}
+
+all_through : (t u : Task) (us : List Task) → precedes t u ≡ true → PrecedesAll u us → PrecedesAll t us
+all_through t u [] p h = tt
+all_through t u (x ∷ xs) p h = (precedes-trans t u x p h.0, all_through t u xs p h.1)
+
+all_insert : (u t : Task) (us : List Task) → precedes u t ≡ true → PrecedesAll u us → PrecedesAll u (insert_task t us)
+all_insert u t [] p h = (p, tt)
+all_insert u t (x ∷ xs) p h =
+    elim (precedes t x) as (λ b. PrecedesAll u (cond b (t ∷ x ∷ xs) (x ∷ insert_task t xs))) [
+      | true ↦ (p, h)
+      | false ↦ (h.0, all_insert u t xs p h.1)
+    ]
+
+other_way : (t u : Task) → precedes t u ≡ false → eqb u.number t.number ≡ false → precedes u t ≡ true
+other_way t u p n =
+    grind (arith, ints, nat_tests, told t.entry.d u.entry.d t.number u.number, told u.entry.d t.entry.d u.number t.number)
+
+apart : (b : Bool) (x : Task) (o : Option Task) → cond b (Some x) o ≡ None → (b ≡ false) × (o ≡ None)
+apart true x o h = cc
+apart false x o h = (refl, h)
+
+ordered_by : (t u : Task) (us : List Task) (b : Bool) → precedes t u ≡ b → AreOrdered (u ∷ us) → eqb u.number t.number ≡ false → AreOrdered (insert_task t us)
+    → AreOrdered (cond b (t ∷ u ∷ us) (u ∷ insert_task t us))
+ordered_by t u us true p o n i = ((p, all_through t u us p o.0), o)
+ordered_by t u us false p o n i = (all_insert u t us (other_way t u p n) o.0, i)
+
+pub ordered-insert : (t : Task) (ts : List Task) → AreOrdered ts → find_task t.number ts ≡ None → AreOrdered (insert_task t ts)
+ordered-insert t [] o n = (tt, tt)
+ordered-insert t (u ∷ us) o n =
+    let a = apart (eqb u.number t.number) u (find_task t.number us) n in
+    ordered_by t u us (precedes t u) refl o a.0 (ordered-insert t us o.1 a.1)
+
+all_without : (q : ℕ) (u : Task) (ts : List Task) → PrecedesAll u ts → PrecedesAll u (without q ts)
+all_without q u [] h = tt
+all_without q u (x ∷ xs) h =
+    elim (eqb x.number q) as (λ b. PrecedesAll u (cond b xs (x ∷ without q xs))) [
+      | true ↦ h.1
+      | false ↦ (h.0, all_without q u xs h.1)
+    ]
+
+pub ordered-without : (q : ℕ) (ts : List Task) → AreOrdered ts → AreOrdered (without q ts)
+ordered-without q [] o = tt
+ordered-without q (x ∷ xs) o =
+    elim (eqb x.number q) as (λ b. AreOrdered (cond b xs (x ∷ without q xs))) [
+      | true ↦ o.1
+      | false ↦ (all_without q x xs o.0, ordered-without q xs o.1)
+    ]
+
+-- the tree's own list after an insertion or a removal
+pub sorted-insert : (ts rs : List Task) (t : Task) → IsSorted ts → find_task t.number ts ≡ None → length ts < 1024 → rs ≡ insert_task t ts → length rs ≡ suc (length ts) → IsSorted rs
+sorted-insert ts rs t s n l e k = record {
+  ordered = subst AreOrdered (sym e) (ordered-insert t ts s.ordered n);
+  few = omega arith;
+}
+
+pub sorted-without : (q : ℕ) (ts rs : List Task) → IsSorted ts → rs ≡ without q ts → length ts ≡ suc (length rs) → IsSorted rs
+sorted-without q ts rs s e k = record {
+  ordered = subst AreOrdered (sym e) (ordered-without q ts s.ordered);
+  few = let f = s.few in omega arith;
+}
+
+follows_by : (b : Bool) (t x u : Task) (o : Option Task) → precedes t x ≡ true → (o ≡ Some u → precedes t u ≡ true) → cond b (Some x) o ≡ Some u → precedes t u ≡ true
+follows_by true t x u o p k h = let same : x ≡ u = cc in subst (λ (z : Task). precedes t z ≡ true) same p
+follows_by false t x u o p k h = k h
+
+first_follows : (passes : Entry → Bool) (t : Task) (ts : List Task) (u : Task) → PrecedesAll t ts → first_that passes ts ≡ Some u → precedes t u ≡ true
+first_follows passes t [] u a h = cc
+first_follows passes t (x ∷ xs) u a h = follows_by (passes x.entry) t x u (first_that passes xs) a.0 (first_follows passes t xs u a.1) h
+
+not_back : (t u : Task) → precedes t u ≡ true → precedes u t ≡ false
+not_back t u p = grind (arith, ints, told t.entry.d u.entry.d t.number u.number, told u.entry.d t.entry.d u.number t.number)
+
+earlier_first : (t : Task) (o : Option Task) → ((u : Task) → o ≡ Some u → precedes t u ≡ true) → earlier (numbered_entry t) (option_map numbered_entry o) ≡ numbered_entry t
+earlier_first t None h = refl
+earlier_first t (Some u) h = ap (λ b. cond b (numbered_entry u) (numbered_entry t)) (not_back t u (h u refl))
+
+earliest_step : (b : Bool) (t : Task) (x : Option (ℕ × Entry)) (o : Option Task) → x ≡ option_map numbered_entry o
+    → earlier (numbered_entry t) (option_map numbered_entry o) ≡ numbered_entry t
+    → cond b (Some (earlier (numbered_entry t) x)) x ≡ option_map numbered_entry (cond b (Some t) o)
+earliest_step true t x o e h = ap (λ (z : Option (ℕ × Entry)). Some (earlier (numbered_entry t) z)) e ∙ ap (λ (z : ℕ × Entry). Some z) h
+earliest_step false t x o e h = e
+
+pub earliest-ordered : (passes : Entry → Bool) (ts : List Task) → AreOrdered ts → earliest passes (entries_of ts) ≡ option_map numbered_entry (first_that passes ts)
+earliest-ordered passes [] o = refl
+earliest-ordered passes (t ∷ ts) o =
+    earliest_step (passes t.entry) t (earliest passes (entries_of ts)) (first_that passes ts) (earliest-ordered passes ts o.1)
+    (earlier_first t (first_that passes ts) (λ u. first_follows passes t ts u o.0))
+
+last_by : (b : Bool) (t x u : Task) → precedes t x ≡ true → cond b None (Some x) ≡ Some u → precedes t u ≡ true
+last_by true t x u p h = cc
+last_by false t x u p h = let same : x ≡ u = cc in subst (λ (z : Task). precedes t z ≡ true) same p
+
+last_follows_by : (r : Option ℕ) (t x u : Task) (o : Option Task) → precedes t x ≡ true → (o ≡ Some u → precedes t u ≡ true) → last_or x r o ≡ Some u → precedes t u ≡ true
+last_follows_by r t x u (Some w) p k h = k h
+last_follows_by r t x u None p k h = last_by (is_running r x.number) t x u p h
+
+last_follows : (r : Option ℕ) (t : Task) (ts : List Task) (u : Task) → PrecedesAll t ts → last_waiting r ts ≡ Some u → precedes t u ≡ true
+last_follows r t [] u a h = cc
+last_follows r t (x ∷ xs) u a h = last_follows_by r t x u (last_waiting r xs) a.0 (last_follows r t xs u a.1) h
+
+latest_by : (b : Bool) (t : Task) → cond b None (Some (numbered_entry t)) ≡ option_map numbered_entry (cond b None (Some t))
+latest_by true t = refl
+latest_by false t = refl
+
+latest_step : (r : Option ℕ) (t : Task) (x : Option (ℕ × Entry)) (o : Option Task) → x ≡ option_map numbered_entry o → ((u : Task) → o ≡ Some u → precedes t u ≡ true)
+    → cond (is_running r t.number) x (Some (later (numbered_entry t) x)) ≡ option_map numbered_entry (last_or t r o)
+latest_step r t x None e h =
+    ap (λ (z : Option (ℕ × Entry)). cond (is_running r t.number) z (Some (later (numbered_entry t) z))) e ∙ latest_by (is_running r t.number) t
+latest_step r t x (Some u) e h =
+    ap (λ (z : Option (ℕ × Entry)). cond (is_running r t.number) z (Some (later (numbered_entry t) z))) e
+    ∙ ap (λ b. cond (is_running r t.number) (Some (numbered_entry u)) (Some (cond b (numbered_entry u) (numbered_entry t)))) (h u refl)
+    ∙ both_ways (is_running r t.number) (numbered_entry u)
+  where
+    both_ways : (b : Bool) (e : ℕ × Entry) → cond b (Some e) (Some e) ≡ Some e
+    both_ways true e = refl
+    both_ways false e = refl
+
+pub latest-ordered : (r : Option ℕ) (ts : List Task) → AreOrdered ts → latest_waiting r (entries_of ts) ≡ option_map numbered_entry (last_waiting r ts)
+latest-ordered r [] o = refl
+latest-ordered r (t ∷ ts) o =
+    latest_step r t (latest_waiting r (entries_of ts)) (last_waiting r ts) (latest-ordered r ts o.1) (λ u. last_follows r t ts u o.0)
+
+pub full-lower : (k h n : ℕ) → k ≤ h → IsFull h n → IsFull k n
+full-lower k h n l f = let e : k / 2 ≤ h / 2 = omega arith in omega (arith, pow_mono e)
+
+-- the same of the list that a tree is seen as
+pub earliest_found : (passes : Entry → Bool) (ts vs : List Task) (t : Task) → ts ≡ vs → IsSorted ts → first_that passes ts ≡ Some t
+    → Some (numbered_entry t) ≡ earliest passes (entries_of vs)
+earliest_found passes ts vs t e s h =
+    sym (ap (λ (z : List Task). earliest passes (entries_of z)) (sym e) ∙ earliest-ordered passes ts s.ordered ∙ ap (option_map numbered_entry) h)
+
+pub earliest_missed : (passes : Entry → Bool) (ts vs : List Task) → ts ≡ vs → IsSorted ts → is_some (first_that passes ts) ≡ false
+    → None ≡ earliest passes (entries_of vs)
+earliest_missed passes ts vs e s h =
+    sym (ap (λ (z : List Task). earliest passes (entries_of z)) (sym e) ∙ earliest-ordered passes ts s.ordered ∙ ap (option_map numbered_entry) (none_from (first_that passes ts) h))
+
+pub latest_found : (r : Option ℕ) (ts vs : List Task) (o : Option Task) → ts ≡ vs → IsSorted ts → o ≡ last_waiting r ts
+    → option_map numbered_entry o ≡ latest_waiting r (entries_of vs)
+latest_found r ts vs o e s h =
+    ap (option_map numbered_entry) h ∙ sym (latest-ordered r ts s.ordered) ∙ ap (λ (z : List Task). latest_waiting r (entries_of z)) e

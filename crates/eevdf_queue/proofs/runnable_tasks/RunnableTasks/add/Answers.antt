@@ -1,0 +1,33 @@
+use Rattle.std.proofs.Common.{◌≡◌, ◌∙◌, ℕ, ◌<◌, ap, sym, subst}
+use Rattle.std.specs.FinMap as map
+use Rattle.eevdf_queue.specs.declared.task.Task.{Task}
+use Rattle.eevdf_queue.specs.State.{Contents}
+use Rattle.eevdf_queue.specs.TaskLists.{first_task}
+use Rattle.eevdf_queue.proofs.TreeMaps.{find_absent, added_stored, added_seen, added_room}
+use Rattle.eevdf_queue.proofs.runnable_tasks.RunnableTasks.add.Goals as goal
+
+pub put-requires-clause-absent : goal.put-requires-clause-absent
+put-requires-clause-absent c =
+    let k : (first_task c.into_node.result.value.tasks).number ≡ c.args.parcel.task = ap (λ (p : Contents). p.task) c.into_node.ensures.contents in
+    find_absent c.self.inside.tree c.args.self.now (first_task c.into_node.result.value.tasks).number c.self.view_is (ap (map.get c.args.self.now) k ∙ c.requires.absent)
+
+pub put-requires-clause-few : goal.put-requires-clause-few
+put-requires-clause-few c =
+    let k : (first_task c.into_node.result.value.tasks).number ≡ c.args.parcel.task = ap (λ (p : Contents). p.task) c.into_node.ensures.contents in
+    added_room c.self.inside.deadlines c.self.inside.tree c.args.self.now (first_task c.into_node.result.value.tasks) c.self.invariant c.self.view_is
+    (ap (map.get c.args.self.now) k ∙ c.requires.absent) (subst (λ (z : ℕ). z < 1024) (sym k) c.into_node.ensures.below)
+
+pub invariant_of-self : goal.invariant_of-self
+invariant_of-self c =
+    let k : (first_task c.into_node.result.value.tasks).number ≡ c.args.parcel.task = ap (λ (p : Contents). p.task) c.into_node.ensures.contents in
+    let t : Task = record (first_task c.into_node.result.value.tasks) { entry = c.args.entry } in
+    added_stored c.self.inside.deadlines c.put.new.deadlines t c.self.inside.tree c.put.new.tree c.args.self.now c.self.invariant c.self.view_is
+    (ap (map.get c.args.self.now) k ∙ c.requires.absent) (subst (λ (z : ℕ). z < 1024) (sym k) c.into_node.ensures.below) c.put.ensures.tree c.requires.in_range c.put.ensures.table
+
+pub returns : goal.returns
+returns c =
+    let k : (first_task c.into_node.result.value.tasks).number ≡ c.args.parcel.task = ap (λ (p : Contents). p.task) c.into_node.ensures.contents in
+    let t : Task = record (first_task c.into_node.result.value.tasks) { entry = c.args.entry } in
+    added_seen c.self.inside.deadlines c.put.new.deadlines t c.self.inside.tree c.put.new.tree c.args.self.now c.self.invariant c.self.view_is
+    (ap (map.get c.args.self.now) k ∙ c.requires.absent) (subst (λ (z : ℕ). z < 1024) (sym k) c.into_node.ensures.below) c.put.ensures.tree
+    ∙ ap (λ (q : ℕ). map.insert c.args.self.now q c.args.entry) k

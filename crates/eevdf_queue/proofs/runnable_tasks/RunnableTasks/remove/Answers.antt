@@ -1,0 +1,51 @@
+use Rattle.std.proofs.Common.{◌≡◌, ◌∙◌, ℕ, Option, Some, true, ap, sym, subst}
+use Rattle.std.specs.Prelude.{ℤ, is_some, IfSome}
+use Rattle.std.specs.Option.{option_map}
+use Rattle.std.proofs.lemmas.Int.{to_z-of_z}
+use mir.Syntax.{w64}
+use Rattle.eevdf_queue.specs.declared.run_entry.Entry.{Entry}
+use Rattle.eevdf_queue.specs.State.{Contents}
+use Rattle.eevdf_queue.specs.Lag.{is_lag}
+use Rattle.eevdf_queue.specs.TaskLists.{first_task, find_task}
+use Rattle.eevdf_queue.specs.TreeTasks.{without}
+use Rattle.eevdf_queue.specs.TreeStores.{deadline_at, leaving}
+use Rattle.eevdf_queue.proofs.TreeSearch.{found_number}
+use Rattle.eevdf_queue.proofs.TreeMaps.{find_present, placed, taken_stored, taken_seen, found_entry}
+use Rattle.eevdf_queue.proofs.runnable_tasks.RunnableTasks.remove.Goals as goal
+
+pub remove-node-requires-clause-here : goal.remove-node-requires-clause-here
+remove-node-requires-clause-here c =
+    ap (λ (q : ℕ). is_some (find_task q c.self.inside.tree)) c.key-key.ensures.number
+    ∙ find_present c.self.inside.tree c.args.self.now c.args.task c.self.view_is c.requires.here
+
+pub remove-node-requires-clause-placed : goal.remove-node-requires-clause-placed
+remove-node-requires-clause-placed c =
+    let d : c.key-key.result.deadline ≡ deadline_at c.self.inside.deadlines c.key-key.result.number = cc in
+    placed c.self.inside.deadlines c.key-key.result c.self.inside.tree c.self.invariant.noted d
+
+pub leave-requires-clause-limited : goal.leave-requires-clause-limited
+leave-requires-clause-limited c =
+    let f : find_task c.args.task c.self.inside.tree ≡ Some (first_task c.remove-node.result.value.tasks) = ap (λ (q : ℕ). find_task q c.self.inside.tree) (sym c.key-key.ensures.number) ∙ c.remove-node.ensures.task in
+    let g = found_entry c.self.inside.tree c.args.self.now c.args.task (first_task c.remove-node.result.value.tasks) c.self.view_is f in
+    let h : is_lag c.args.lag (first_task c.remove-node.result.value.tasks).entry.nice (first_task c.remove-node.result.value.tasks).entry.slice ≡ true = subst (λ (o : Option Entry). IfSome o (λ e. is_lag c.args.lag e.nice e.slice ≡ true)) g c.requires.limited in
+    ap (λ (z : ℤ). is_lag z (first_task c.remove-node.result.value.tasks).entry.nice (first_task c.remove-node.result.value.tasks).entry.slice) (to_z-of_z w64 c.args.lag c.ranges.lag) ∙ h
+
+pub invariant_of-self : goal.invariant_of-self
+invariant_of-self c =
+    let f : find_task c.args.task c.self.inside.tree ≡ Some (first_task c.remove-node.result.value.tasks) = ap (λ (q : ℕ). find_task q c.self.inside.tree) (sym c.key-key.ensures.number) ∙ c.remove-node.ensures.task in
+    let e : c.remove-node.new.self ≡ without c.args.task c.self.inside.tree = c.remove-node.ensures.rest ∙ ap (λ (q : ℕ). without q c.self.inside.tree) c.key-key.ensures.number in
+    taken_stored c.self.inside.deadlines c.args.task (first_task c.remove-node.result.value.tasks) c.self.inside.tree c.remove-node.new.self c.self.invariant f e
+
+pub returns-clause-rest : goal.returns-clause-rest
+returns-clause-rest c =
+    let f : find_task c.args.task c.self.inside.tree ≡ Some (first_task c.remove-node.result.value.tasks) = ap (λ (q : ℕ). find_task q c.self.inside.tree) (sym c.key-key.ensures.number) ∙ c.remove-node.ensures.task in
+    let e : c.remove-node.new.self ≡ without c.args.task c.self.inside.tree = c.remove-node.ensures.rest ∙ ap (λ (q : ℕ). without q c.self.inside.tree) c.key-key.ensures.number in
+    taken_seen c.self.inside.deadlines c.args.task (first_task c.remove-node.result.value.tasks) c.self.inside.tree c.remove-node.new.self c.self.invariant f e c.args.self.now c.self.view_is
+
+pub returns-clause-parcel : goal.returns-clause-parcel
+returns-clause-parcel c =
+    let f : find_task c.args.task c.self.inside.tree ≡ Some (first_task c.remove-node.result.value.tasks) = ap (λ (q : ℕ). find_task q c.self.inside.tree) (sym c.key-key.ensures.number) ∙ c.remove-node.ensures.task in
+    ap (option_map (leaving c.args.task c.args.lag)) (found_entry c.self.inside.tree c.args.self.now c.args.task (first_task c.remove-node.result.value.tasks) c.self.view_is f)
+    ∙ ap (λ (q : ℕ). Some (leaving q c.args.lag (first_task c.remove-node.result.value.tasks).entry)) (sym (found_number c.args.task c.self.inside.tree (first_task c.remove-node.result.value.tasks) f))
+    ∙ ap (λ (z : ℤ). Some (leaving (first_task c.remove-node.result.value.tasks).number z (first_task c.remove-node.result.value.tasks).entry)) (sym (to_z-of_z w64 c.args.lag c.ranges.lag))
+    ∙ ap (λ (p : Contents). Some p) (sym c.leave.ensures)

@@ -1,0 +1,25 @@
+-- Which task another CPU may pull: of those that don't run the one of latest deadline, ties by number.
+use Rattle.std.specs.Prelude.{ℕ, ◌==◌, Bool, false, List, [], ◌∷◌, if◌then◌else◌, Option, Some, None}
+use Rattle.std.specs.Option.{option_map}
+use Rattle.std.specs.FinMap as map
+use Rattle.eevdf_queue.specs.declared.run_entry.Entry.{Entry}
+use Rattle.eevdf_queue.specs.Sums.{Tasks}
+use Rattle.eevdf_queue.specs.Order.{is_before}
+
+abbrev pub is_running : Option ℕ → ℕ → Bool
+is_running None task = false
+is_running (Some running) task = task == running
+
+abbrev pub later : ℕ × Entry → Option (ℕ × Entry) → ℕ × Entry
+later a None = a
+later a (Some b) = if is_before a b then b else a
+
+-- the last by deadline and number of those that don't run
+abbrev pub latest_waiting : Option ℕ → List (ℕ × Entry) → Option (ℕ × Entry)
+latest_waiting running [] = None
+latest_waiting running (a ∷ es) =
+    if is_running running a.0 then latest_waiting running es else Some (later a (latest_waiting running es))
+
+-- the number of the candidate, by a scan
+abbrev pub candidate_of : Tasks → Option ℕ → Option ℕ
+candidate_of tasks running = option_map (λ (a : ℕ × Entry). a.0) (latest_waiting running (map.entries tasks))

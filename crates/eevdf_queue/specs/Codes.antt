@@ -1,0 +1,36 @@
+-- How values are told apart.
+use Rattle.std.specs.Prelude.{ℕ, ℤ, Option, refl}
+use Rattle.std.specs.Ordering.{nat_cmp}
+use Rattle.std.specs.FinMap as map
+use Rattle.std.specs.Coded.{Coded, code_by, coded×, coded_option, coded_ℕ, coded_ℤ}
+use Rattle.eevdf_queue.specs.declared.run_entry.Entry.{Entry}
+use Rattle.eevdf_queue.specs.State.{Sleeper, State, View}
+
+-- an entry is stored as nested pairs of its fields
+abbrev pub entry_code : Coded Entry
+entry_code =
+    code_by (ℤ × (ℤ × (ℤ × ℕ))) (coded× coded_ℤ (coded× coded_ℤ (coded× coded_ℤ coded_ℕ)))
+    (λ e. (e.v, (e.d, (e.nice, e.slice)))) (λ p. record { v = p.0; d = p.1.0; nice = p.1.1.0; slice = p.1.1.1 }) (λ _. refl)
+
+-- and so is what is kept of a sleeping task
+abbrev pub sleeper_code : Coded Sleeper
+sleeper_code =
+    code_by (ℤ × (ℤ × ℕ)) (coded× coded_ℤ (coded× coded_ℤ coded_ℕ))
+    (λ s. (s.lag, (s.nice, s.slice))) (λ p. record { lag = p.0; nice = p.1.0; slice = p.1.1 }) (λ _. refl)
+
+abbrev pub RunnableMap : Type 0
+RunnableMap = map.FinMap nat_cmp Entry
+
+abbrev pub AsleepMap : Type 0
+AsleepMap = map.FinMap nat_cmp Sleeper
+
+-- a state is stored as nested pairs too
+abbrev pub state_code : Coded State
+state_code =
+    code_by (RunnableMap × (Option ℕ × (AsleepMap × ℤ)))
+    (coded× (map.code coded_ℕ entry_code) (coded× (coded_option coded_ℕ) (coded× (map.code coded_ℕ sleeper_code) coded_ℤ)))
+    (λ q. (q.runnable, (q.running, (q.asleep, q.base))))
+    (λ p. record { runnable = p.0; running = p.1.0; asleep = p.1.1.0; base = p.1.1.1 }) (λ _. refl)
+
+abbrev pub view_code : Coded View
+view_code = code_by (State × ℕ) (coded× state_code coded_ℕ) (λ w. (w.state, w.turns)) (λ p. record { state = p.0; turns = p.1 }) (λ _. refl)

@@ -1,0 +1,35 @@
+-- What a queue keeps, as contracts see it.
+use Rattle.std.specs.Prelude.{ℕ, ℤ, pos, Option, None}
+use Rattle.std.specs.Ordering.{nat_cmp}
+use Rattle.std.specs.FinMap as map
+use Rattle.eevdf_queue.specs.declared.run_entry.Entry.{Entry}
+
+-- what a queue keeps of a sleeping task
+pub record Sleeper : Type 0 where
+  pub lag : ℤ
+  pub nice : ℤ
+  pub slice : ℕ
+
+-- the runnable tasks and the sleeping ones by their numbers, who runs, and the virtual time that stands
+-- while nothing is runnable
+pub record State : Type 0 where
+  pub runnable : map.FinMap nat_cmp Entry
+  pub running : Option ℕ
+  pub asleep : map.FinMap nat_cmp Sleeper
+  pub base : ℤ
+
+-- what is seen of a queue: its state, and beside it the turns that its last pick took
+pub record View : Type 0 where
+  pub state : State
+  pub turns : ℕ
+
+abbrev pub empty_state : State
+empty_state = record { runnable = map.empty; running = None; asleep = map.empty; base = pos 0 }
+
+-- what a parcel carries: a task, the virtual runtime that it starts at, and the lag that it has
+pub record Contents : Type 0 where
+  pub task : ℕ
+  pub nice : ℤ
+  pub slice : ℕ
+  pub start : ℤ
+  pub lag : ℤ

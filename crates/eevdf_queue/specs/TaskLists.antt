@@ -1,0 +1,67 @@
+-- Tasks in a list, and the maps that such a list stands for.
+use Rattle.std.specs.Prelude.{◌≡◌, ℕ, ◌<◌, ◌==◌, true, pos, List, [], ◌∷◌, if◌then◌else◌, Option, Some, None}
+use Rattle.std.specs.Ordering.{nat_cmp}
+use Rattle.std.specs.FinMap as map
+use Rattle.eevdf_queue.specs.declared.run_entry.Entry.{Entry}
+use Rattle.eevdf_queue.specs.declared.task.Task.{Task}
+use Rattle.eevdf_queue.specs.State.{Sleeper, Contents}
+use Rattle.eevdf_queue.specs.Moves.{is_entry_in_range}
+use Rattle.eevdf_queue.specs.Lag.{is_lag}
+
+-- the first task; in an empty list, which no node has, the task 0 with zeros
+abbrev pub first_task : List Task → Task
+first_task [] =
+    record { number = 0; entry = record { v = pos 0; d = pos 0; nice = pos 0; slice = 0 }; lag = pos 0 }
+first_task (t ∷ ts) = t
+
+-- the first task of a number
+abbrev pub find_task : ℕ → List Task → Option Task
+find_task q [] = None
+find_task q (t ∷ ts) = if t.number == q then Some t else find_task q ts
+
+-- the tasks with another entry at the first of a number
+abbrev pub set_entry : ℕ → Entry → List Task → List Task
+set_entry q e [] = []
+set_entry q e (t ∷ ts) = if t.number == q then record t { entry = e } ∷ ts else t ∷ set_entry q e ts
+
+-- what a function reads of the tasks, by number
+abbrev pub keyed : {X : Type 0} → (Task → X) → List Task → List (ℕ × X)
+keyed read [] = []
+keyed read (t ∷ ts) = (t.number, read t) ∷ keyed read ts
+
+-- the entries by number
+abbrev pub entries_of : List Task → List (ℕ × Entry)
+entries_of ts = keyed (λ t. t.entry) ts
+
+-- the map from their numbers to their entries
+unfoldable pub runnable_in : List Task → map.FinMap nat_cmp Entry
+runnable_in ts = map.from_entries (entries_of ts)
+
+abbrev pub sleeper_in : Task → Sleeper
+sleeper_in t = record { lag = t.lag; nice = t.entry.nice; slice = t.entry.slice }
+
+-- the map from their numbers to what is kept of them asleep
+unfoldable pub asleep_in : List Task → map.FinMap nat_cmp Sleeper
+asleep_in ts = map.from_entries (keyed sleeper_in ts)
+
+-- what a parcel with this task carries
+abbrev pub contents_of : Task → Contents
+contents_of t =
+    record { task = t.number; nice = t.entry.nice; slice = t.entry.slice; start = t.entry.v; lag = t.lag }
+
+-- numbers differ and are below the limit, and each virtual runtime and deadline is in range
+abbrev pub AreRunnable : List Task → Type 0
+AreRunnable [] = Unit {0}
+AreRunnable (t ∷ ts) =
+    (find_task t.number ts ≡ None) × (t.number < 1024) × (is_entry_in_range t.entry ≡ true) × AreRunnable ts
+
+-- numbers differ and are below the limit, and each lag is within its limit
+abbrev pub AreAsleep : List Task → Type 0
+AreAsleep [] = Unit {0}
+AreAsleep (t ∷ ts) =
+    (find_task t.number ts ≡ None) × (t.number < 1024) × (is_lag t.lag t.entry.nice t.entry.slice ≡ true) × AreAsleep ts
+
+-- one task, whose lag is within its limit
+pub record IsLone (ts : List Task) : Type 0 where
+  pub alone : ts ≡ first_task ts ∷ []
+  pub limited : is_lag (first_task ts).lag (first_task ts).entry.nice (first_task ts).entry.slice ≡ true

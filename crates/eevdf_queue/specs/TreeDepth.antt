@@ -1,0 +1,21 @@
+-- Each side of a node has fewer tasks than the whole.
+use Rattle.std.specs.Prelude.{◌≤◌, ◌∷◌, ◌++◌, length, Some, None}
+use Rattle.std.proofs.Common.{arith, length-append}
+use Rattle.eevdf_queue.specs.declared.task.Task.{Task}
+use Rattle.eevdf_queue.specs.declared.tree_node.TreeNode.TheInside.{Inside}
+use Rattle.eevdf_queue.specs.declared.tree_node.TreeNode.TheDeep.{deep-TreeNode}
+use Rattle.eevdf_queue.specs.TreeShape.{tasks_in}
+use Rattle.eevdf_queue.specs.TreeNodes.{tasks_of}
+
+pub depth-le-length : (a : Inside) → deep-TreeNode a ≤ length (tasks_of a)
+depth-le-length a =
+    elim a.left as (λ l. deep-TreeNode (record a { left = l }) ≤ length (tasks_in l ++ a.task ∷ tasks_in a.right)) [
+      | None ↦ elim a.right as (λ r. deep-TreeNode (record a { left = None; right = r }) ≤ length (a.task ∷ tasks_in r)) [
+        | None ↦ omega (arith, length-append {A = Task})
+        | Some c ↦ omega (arith, length-append {A = Task})
+      ]
+      | Some b ↦ elim a.right as (λ r. deep-TreeNode (record a { left = Some b; right = r }) ≤ length (b.value.tasks ++ a.task ∷ tasks_in r)) [
+        | None ↦ omega (arith, length-append {A = Task})
+        | Some c ↦ omega (arith, length-append {A = Task})
+      ]
+    ]

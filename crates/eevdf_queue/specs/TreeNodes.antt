@@ -1,0 +1,22 @@
+-- What holds of a node, and what it is seen as.
+use Rattle.std.specs.Prelude.{◌≡◌, suc, ◌≤◌, max, List, ◌∷◌, ◌++◌, length}
+use Rattle.eevdf_queue.specs.declared.task.Task.{Task}
+use Rattle.eevdf_queue.specs.declared.tree_node.TreeNode.TheInside.{Inside}
+use Rattle.eevdf_queue.specs.TreeShape.{Tree, tasks_in, height_in, DifferByAtMost, IsFull}
+use Rattle.eevdf_queue.specs.TreeSummary.{summary_of, IsSmall, AreLow}
+
+abbrev pub tasks_of : Inside → List Task
+tasks_of a = tasks_in a.left ++ a.task ∷ tasks_in a.right
+
+abbrev pub tree_of : Inside → Tree
+tree_of a = record { tasks = tasks_of a; height = a.height }
+
+-- the sides are of nearly one height, and what is kept of the subtree is right
+pub record IsNode (a : Inside) : Type 0 where
+  pub height : a.height ≡ suc (max (height_in a.left) (height_in a.right))
+  pub balanced : DifferByAtMost 1 (height_in a.left) (height_in a.right)
+  pub low : a.height ≤ length (tasks_of a)
+  pub full : IsFull a.height (length (tasks_of a))
+  pub summary : a.summary ≡ summary_of (tasks_of a)
+  pub small : IsSmall a.summary
+  pub bounded : AreLow (tasks_of a)

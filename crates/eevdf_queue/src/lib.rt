@@ -1,0 +1,41 @@
+//! One EEVDF run queue: the runnable tasks of a CPU with their virtual runtimes and virtual deadlines, the
+//! running one among them, the sleeping tasks with their kept lags, and the queue's virtual time.
+//!
+//! A task is eligible when its lag isn't negative, and the eligible task of earliest virtual deadline is
+//! picked (Stoica and Abdel-Wahab 1995; the Linux kernel's documentation of its EEVDF scheduler). Contracts
+//! see a queue as a record of two finite maps; the laws of that model are functions of [`laws`].
+#![tactic(auto)]
+
+mod answers;
+mod deadline_table;
+mod lag;
+pub mod laws;
+mod request;
+mod run_entry;
+mod run_queue;
+mod runnable_tasks;
+mod sleepers;
+mod task;
+mod task_number;
+mod task_parcel;
+mod task_tree;
+mod totals;
+mod tree_balance;
+mod tree_change;
+mod tree_eligible;
+mod tree_insert;
+mod tree_key;
+mod tree_node;
+mod tree_remove;
+mod tree_summary;
+
+pub use answers::TickAnswer;
+pub use run_entry::Entry;
+pub use run_queue::Queue;
+pub use task_number::TaskId;
+pub use task_parcel::Parcel;
+
+#[cfg(test)]
+mod tests;
+#[cfg(test)]
+mod tree_tests;

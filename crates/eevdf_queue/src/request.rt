@@ -1,0 +1,95 @@
+//! What a request of a task costs, and how a task is charged.
+
+ghost use Rattle.std.specs.Prelude.{◌≡◌, ◌≤◌, ◌^◌, pos, unsigned_abs, true};
+ghost use Rattle.eevdf_weight.specs.Limits as limits;
+ghost use Rattle.eevdf_weight.specs.Charge.{charge_of};
+ghost use Rattle.eevdf_weight.specs.Weight.{weight_of};
+ghost use Rattle.eevdf_queue.specs.Moves.{entry_in_range, fresh_entry};
+ghost use Rattle.eevdf_queue.specs.Moves as moves;
+ghost use Rattle.eevdf_queue.specs.Tick as ticks;
+
+use crate::run_entry::Entry;
+use eevdf_weight::{Ns, charge, is_in_range, weight};
+
+/// An entry after a tick, and whether it has got a fresh request.
+#[derive(Clone, Copy)]
+pub struct ChargedEntry {
+    pub entry: Entry,
+    pub resched: bool,
+}
+
+/// Whether the virtual runtime and deadline are in range.
+pub fn is_entry_in_range(entry: &Entry) -> bool
+    ensures { result ≡ moves.is_entry_in_range entry.now }
+{
+    is_in_range(entry.v) && is_in_range(entry.d)
+}
+
+/// A task at the virtual runtime of the entry, with a fresh request. `None` exactly where it would be out of
+/// range.
+pub fn started(entry: &Entry) -> Option<Entry>
+    ensures { result ≡ entry_in_range (fresh_entry entry.now.v entry.now.nice entry.now.slice) }
+{
+    if !is_in_range(entry.v) {
+        return None;
+    }
+    let fresh = renewed(entry);
+    if is_in_range(fresh.d) {
+        Some(fresh)
+    } else {
+        None
+    }
+}
+
+/// The entry with a fresh request.
+fn renewed(entry: &Entry) -> Entry
+    requires { unsigned_abs entry.now.v ≤ 2 ^ 61 }
+    ensures { result ≡ fresh_entry entry.now.v entry.now.nice entry.now.slice }
+{
+    Entry {
+        d: entry.v + cost(entry, entry.slice.get()),
+        ..*entry
+    }
+}
+
+/// What a task with this entry is charged for so many nanoseconds.
+#[tactic(auto, using(crate::proofs::Bounds::charge_of_small))]
+fn cost(entry: &Entry, ns: u64) -> i64
+    requires { ns ≤ 1000000000 }
+    ensures value { result ≡ pos (charge_of ns (weight_of entry.now.nice)) }
+    ensures small { charge_of ns (weight_of entry.now.nice) ≤ 2 ^ 40 }
+{
+    charge(ns, weight(entry.nice))
+}
+
+/// The entry after the task has run for `ns`.
+fn aged(entry: &Entry, ns: Ns) -> Entry
+    requires { limits.is_in_range entry.now.v ≡ true }
+    ensures value { result ≡ record entry.now { v = ticks.aged entry.now ns } }
+    ensures small { unsigned_abs result.v ≤ 2 ^ 61 }
+{
+    Entry {
+        v: entry.v + cost(entry, ns.get()),
+        ..*entry
+    }
+}
+
+/// The entry after the task has run for `ns`, with a fresh request where the old one is used up.
+pub fn charged(entry: &Entry, ns: Ns) -> ChargedEntry
+    requires { limits.is_in_range entry.now.v ≡ true }
+    ensures entry { result.entry ≡ ticks.charged entry.now ns }
+    ensures resched { result.resched ≡ ticks.is_used_up entry.now ns }
+{
+    let older = aged(entry, ns);
+    if older.v >= entry.d {
+        ChargedEntry {
+            entry: renewed(&older),
+            resched: true,
+        }
+    } else {
+        ChargedEntry {
+            entry: older,
+            resched: false,
+        }
+    }
+}

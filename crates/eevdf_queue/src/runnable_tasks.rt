@@ -1,0 +1,234 @@
+ghost use Rattle.std.specs.Prelude.{◌≡◌, ℕ, ◌==◌, ◌<◌, if◌then◌else◌, ◌*◌, ◌≤◌, ◌^◌, None, Some, true, unsigned_abs, length, IfSome, IsNone, ◌↔◌};
+ghost use Rattle.std.specs.Option.{option_map};
+ghost use Rattle.std.specs.FinMap as map;
+ghost use Rattle.eevdf_queue.specs.Sums.{total_weight, total_moment};
+ghost use Rattle.eevdf_queue.specs.Order.{earliest};
+ghost use Rattle.eevdf_queue.specs.Pick.{IsPick, is_eligible_at, pick_of};
+ghost use Rattle.eevdf_queue.specs.Candidate.{candidate_of};
+ghost use Rattle.eevdf_queue.specs.Moves.{is_entry_in_range};
+ghost use Rattle.eevdf_queue.specs.Kept.{AreInRange};
+ghost use Rattle.eevdf_queue.specs.TreeShape.{IsAlone, IsFull};
+ghost use Rattle.eevdf_queue.specs.TaskLists.{first_task, find_task, contents_of};
+ghost use Rattle.eevdf_queue.specs.Lag.{is_lag};
+ghost use Rattle.eevdf_queue.specs.TreeTasks.{insert_task};
+ghost use Rattle.eevdf_queue.specs.TreeStores.{deadline_at, leaving};
+
+use crate::deadline_table::DeadlineTable;
+use crate::run_entry::Entry;
+use crate::task_number::TaskId;
+use crate::task_parcel::Parcel;
+use crate::task_tree::TaskTree;
+use crate::totals::Totals;
+use crate::tree_node::TreeNode;
+use std::marker::Model;
+
+/// The runnable tasks of a queue, seen as the map from their numbers to their entries.
+#[derive(Drop)]
+pub struct RunnableTasks {
+    tree: TaskTree,
+    deadlines: DeadlineTable,
+}
+
+impl Model for RunnableTasks {
+    ghost use Rattle.std.specs.Ordering.{nat_cmp};
+    ghost use Rattle.std.specs.Coded.{coded_ℕ};
+    ghost use Rattle.std.specs.FinMap as map;
+    ghost use Rattle.eevdf_queue.specs.declared.run_entry.Entry.{Entry};
+    ghost use Rattle.eevdf_queue.specs.Codes.{entry_code};
+
+    ghost Value = { map.FinMap nat_cmp Entry };
+
+    ghost coded = { map.code coded_ℕ entry_code };
+
+    ghost use Rattle.eevdf_queue.specs.TaskLists.{runnable_in};
+    ghost use Rattle.eevdf_queue.specs.TreeStores.{IsRunnableStore};
+
+    ghost view = { λ a. runnable_in a.tree };
+
+    ghost invariant = { λ a. IsRunnableStore a.deadlines a.tree };
+}
+
+/// The task that is to run, and the turns of the descent to it.
+#[derive(Clone, Copy)]
+pub struct First {
+    pub task: TaskId,
+    pub turns: u32,
+}
+
+impl RunnableTasks {
+    #[tactic(auto, using(crate::proofs::RunnableMaps::basics))]
+    pub fn new() -> RunnableTasks
+        ensures { result ≡ map.empty }
+    {
+        RunnableTasks {
+            tree: TaskTree::new(),
+            deadlines: DeadlineTable::new(),
+        }
+    }
+
+    #[tactic(auto, using(crate::proofs::RunnableMaps::lengths))]
+    pub fn len(&self) -> usize
+        ensures { result ≡ map.len self.now }
+    {
+        self.tree.len()
+    }
+
+    /// The sums over the tasks.
+    #[tactic(auto, using(crate::proofs::RunnableMaps::sums))]
+    pub fn totals(&self) -> Totals
+        ensures weight { result.weight ≡ total_weight self.now }
+        ensures moment { result.moment ≡ total_moment self.now }
+        ensures few { result.weight ≤ 2 ^ 27 }
+        ensures small { unsigned_abs result.moment ≤ 2 ^ 60 * result.weight }
+    {
+        self.tree.totals()
+    }
+
+    #[tactic(auto, using(crate::proofs::RunnableMaps::basics))]
+    pub fn get(&self, task: TaskId) -> Option<Entry>
+        ensures { result ≡ map.get self.now task }
+    {
+        match self.tree.find(&self.deadlines.key(task)) {
+            None => None,
+            Some(found) => Some(found.entry),
+        }
+    }
+
+    /// Gives a task that is here another entry. Where the deadline stays, the task keeps its place.
+    pub fn set(&mut self, task: TaskId, entry: Entry)
+        requires here { map.contains_key self.old task ≡ true }
+        requires in_range { is_entry_in_range entry ≡ true }
+        ensures { self.new ≡ map.insert self.old task entry }
+    {
+        let key = self.deadlines.key(task);
+        if key.is_at(&entry) {
+            self.tree.change(&key, &entry);
+            return;
+        }
+        let node = self.tree.remove(&key);
+        put(&mut self.tree, &mut self.deadlines, node, entry);
+    }
+
+    /// Adds a task that isn't here, in the node of its parcel.
+    pub fn add(&mut self, parcel: Parcel, entry: Entry)
+        requires absent { map.get self.old parcel.task ≡ None }
+        requires in_range { is_entry_in_range entry ≡ true }
+        ensures { self.new ≡ map.insert self.old parcel.task entry }
+    {
+        put(
+            &mut self.tree,
+            &mut self.deadlines,
+            parcel.into_node(),
+            entry,
+        );
+    }
+
+    /// Takes out a task that is here, in a parcel with the lag that it keeps.
+    pub fn remove(&mut self, task: TaskId, lag: i64) -> Parcel
+        requires here { map.contains_key self.old task ≡ true }
+        requires limited { IfSome (map.get self.old task) (λ e. is_lag lag e.nice e.slice ≡ true) }
+        ensures rest { self.new ≡ map.remove self.old task }
+        ensures parcel { option_map (leaving task lag) (map.get self.old task) ≡ Some result }
+    {
+        let key = self.deadlines.key(task);
+        let node = self.tree.remove(&key);
+        leave(node, lag)
+    }
+
+    /// The number of the first task, by deadline and number, of those that are eligible at these sums.
+    pub fn earliest(&self, totals: &Totals) -> Option<TaskId>
+        requires { totals.now.weight ≤ 2 ^ 40 }
+        ensures { result
+            ≡ option_map (λ a. a.0) (earliest (is_eligible_at totals.now.weight totals.now.moment) (map.entries self.now)) }
+    {
+        match self.first(totals) {
+            None => None,
+            Some(first) => Some(first.task),
+        }
+    }
+
+    /// The first task, by deadline and number, of those that are eligible at these sums, and the turns of the
+    /// descent to it.
+    #[tactic(auto, using(crate::proofs::RunnableMaps::firsts))]
+    pub fn first(&self, totals: &Totals) -> Option<First>
+        requires { totals.now.weight ≤ 2 ^ 40 }
+        ensures task { option_map (λ f. f.task) result
+            ≡ option_map (λ a. a.0) (earliest (is_eligible_at totals.now.weight totals.now.moment) (map.entries self.now)) }
+        ensures positive { IfSome result (λ f. 1 ≤ f.turns) }
+        ensures turns { IfSome result (λ f. IsFull f.turns (map.len self.now)) }
+    {
+        match self.tree.earliest(totals) {
+            None => None,
+            Some(found) => Some(First {
+                task: found.task.number,
+                turns: found.turns,
+            }),
+        }
+    }
+
+    /// The eligible task of earliest virtual deadline, and `None` exactly where there is no task.
+    pub fn pick(&self) -> Option<TaskId>
+        ensures number { result ≡ pick_of self.now }
+        ensures picked { IfSome result (IsPick self.now) }
+        ensures none { IsNone result ↔ (self.now ≡ map.empty) }
+        ensures here { IfSome result (λ t. map.contains_key self.now t ≡ true) }
+    {
+        self.earliest(&self.totals())
+    }
+
+    /// The pick, and the turns of the descent to it.
+    pub fn pick_with_turns(&self) -> Option<First>
+        ensures number { option_map (λ f. f.task) result ≡ pick_of self.now }
+        ensures picked { IfSome result (λ f. IsPick self.now f.task) }
+        ensures none { IsNone result ↔ (self.now ≡ map.empty) }
+        ensures here { IfSome result (λ f. map.contains_key self.now f.task ≡ true) }
+        ensures positive { IfSome result (λ f. 1 ≤ f.turns) }
+        ensures turns { IfSome result (λ f. IsFull f.turns (map.len self.now)) }
+    {
+        self.first(&self.totals())
+    }
+
+    /// The last task by deadline and number of those that don't run.
+    pub fn candidate(&self, running: Option<TaskId>) -> Option<TaskId>
+        ensures { result ≡ candidate_of self.now running }
+    {
+        match self.tree.latest_waiting(running) {
+            None => None,
+            Some(task) => Some(task.number),
+        }
+    }
+
+    /// Learns what every task here keeps.
+    pub fn keeps(&self)
+        ensures { AreInRange self.now }
+    {
+        let _tree = &self.tree;
+    }
+}
+
+/// Puts the task of a lone node into the tree with another entry, and notes its deadline.
+fn put(tree: &mut TaskTree, deadlines: &mut DeadlineTable, mut node: Box<TreeNode>, entry: Entry)
+    requires alone { IsAlone node.value }
+    requires absent { find_task (first_task node.value.tasks).number tree.old ≡ None }
+    requires few { length tree.old < 1024 }
+    ensures tree { tree.new ≡ insert_task (record (first_task node.value.tasks) { entry = entry }) tree.old }
+    ensures table { (q : ℕ) → deadline_at deadlines.new q ≡ (if q == (first_task node.value.tasks).number then entry.d else deadline_at deadlines.old q) }
+{
+    let mut task = node.task();
+    task.entry = entry;
+    node.replace(task);
+    deadlines.note(&task);
+    tree.insert(node);
+}
+
+/// The parcel of a lone node's task, with another lag.
+fn leave(mut node: Box<TreeNode>, lag: i64) -> Parcel
+    requires alone { IsAlone node.value }
+    requires limited { is_lag lag (first_task node.value.tasks).entry.nice (first_task node.value.tasks).entry.slice ≡ true }
+    ensures { result ≡ record (contents_of (first_task node.value.tasks)) { lag = lag } }
+{
+    let mut task = node.task();
+    task.lag = lag;
+    node.replace(task);
+    Parcel::of(node)
+}

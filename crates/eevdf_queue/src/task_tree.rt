@@ -1,0 +1,133 @@
+ghost use Rattle.std.specs.Prelude.{◌≡◌, suc, ◌<◌, ◌≤◌, ◌/◌, ◌^◌, [], length, is_some, true, None, Some, IfSome};
+ghost use Rattle.std.specs.Option.{option_map};
+ghost use Rattle.eevdf_queue.specs.TaskLists.{first_task, find_task, set_entry, entries_of};
+ghost use Rattle.eevdf_queue.specs.Sums.{sum_weights, sum_moments};
+ghost use Rattle.eevdf_queue.specs.Order.{earliest};
+ghost use Rattle.eevdf_queue.specs.Pick.{is_eligible_at};
+ghost use Rattle.eevdf_queue.specs.Candidate.{latest_waiting};
+ghost use Rattle.eevdf_queue.specs.TreeShape.{IsAlone, IsFull};
+ghost use Rattle.eevdf_queue.specs.TreeTasks.{IsAtDeadline, insert_task, without, numbered_entry};
+
+use crate::run_entry::Entry;
+use crate::task::Task;
+use crate::task_number::TaskId;
+use crate::totals::Totals;
+use crate::tree_change::change;
+use crate::tree_insert::insert;
+use crate::tree_key::Key;
+use crate::tree_node::{
+    Found, TreeNode, find, first_eligible, has_eligible, last_waiting, summary,
+};
+use crate::tree_remove::{Removed, remove};
+use std::marker::Model;
+
+/// Tasks in a balanced tree by deadline and number, seen as the list of them in that order.
+#[derive(Drop)]
+pub struct TaskTree {
+    root: Option<Box<TreeNode>>,
+}
+
+impl Model for TaskTree {
+    ghost use Rattle.std.specs.Prelude.{List};
+    ghost use Rattle.eevdf_queue.specs.declared.task.Task.{Task};
+
+    ghost Value = { List Task };
+
+    ghost use Rattle.eevdf_queue.specs.TreeShape.{tasks_in};
+    ghost use Rattle.eevdf_queue.specs.TreeTasks.{IsSorted};
+
+    ghost view = { λ a. tasks_in a.root };
+
+    ghost invariant = { λ a. IsSorted (tasks_in a.root) };
+}
+
+impl TaskTree {
+    pub fn new() -> TaskTree
+        ensures { result ≡ [] }
+    {
+        TaskTree { root: None }
+    }
+
+    pub fn len(&self) -> usize
+        ensures value { result ≡ length self.now }
+        ensures few { result ≤ 1024 }
+    {
+        summary(&self.root).count as usize
+    }
+
+    /// The sums over the tasks.
+    pub fn totals(&self) -> Totals
+        ensures weight { result.weight ≡ sum_weights (entries_of self.now) }
+        ensures moment { result.moment ≡ sum_moments (entries_of self.now) }
+    {
+        let summary = summary(&self.root);
+        Totals {
+            weight: summary.weight,
+            moment: summary.moment,
+        }
+    }
+
+    /// The task of a key's number, which stands at the key where it is here.
+    pub fn find(&self, key: &Key) -> Option<Task>
+        requires { IsAtDeadline key.now.deadline (find_task key.now.number self.now) }
+        ensures { result ≡ find_task key.now.number self.now }
+    {
+        find(&self.root, key)
+    }
+
+    /// Puts in the task of a lone node, whose number isn't here.
+    pub fn insert(&mut self, node: Box<TreeNode>)
+        requires alone { IsAlone node.value }
+        requires absent { find_task (first_task node.value.tasks).number self.old ≡ None }
+        requires few { length self.old < 1024 }
+        ensures { self.new ≡ insert_task (first_task node.value.tasks) self.old }
+    {
+        self.root = Some(insert(self.root.take(), node));
+    }
+
+    /// Gives the task of a key, which is here, another entry of the same deadline.
+    pub fn change(&mut self, key: &Key, entry: &Entry)
+        requires here { is_some (find_task key.now.number self.old) ≡ true }
+        requires placed { IsAtDeadline key.now.deadline (find_task key.now.number self.old) }
+        requires stays { key.now.deadline ≡ entry.now.d }
+        ensures { self.new ≡ set_entry key.now.number entry.now self.old }
+    {
+        self.root = change(self.root.take(), key, entry);
+    }
+
+    /// Takes out the task of a key, which is here, in its node.
+    pub fn remove(&mut self, key: &Key) -> Box<TreeNode>
+        requires here { is_some (find_task key.now.number self.old) ≡ true }
+        requires placed { IsAtDeadline key.now.deadline (find_task key.now.number self.old) }
+        ensures alone { IsAlone result.value }
+        ensures task { find_task key.now.number self.old ≡ Some (first_task result.value.tasks) }
+        ensures rest { self.new ≡ without key.now.number self.old }
+    {
+        let Removed { node, rest } = remove(self.root.take(), key);
+        self.root = rest;
+        node
+    }
+
+    /// The first by deadline and number of the tasks that are eligible at these sums, and the turns of the
+    /// descent to it.
+    pub fn earliest(&self, totals: &Totals) -> Option<Found>
+        requires { totals.now.weight ≤ 2 ^ 40 }
+        ensures task { option_map (λ f. numbered_entry f.task) result
+            ≡ earliest (is_eligible_at totals.now.weight totals.now.moment) (entries_of self.now) }
+        ensures positive { IfSome result (λ f. 1 ≤ f.turns) }
+        ensures turns { IfSome result (λ f. IsFull f.turns (length self.now)) }
+    {
+        if has_eligible(&self.root, totals) {
+            Some(first_eligible(&self.root, totals))
+        } else {
+            None
+        }
+    }
+
+    /// The last by deadline and number of the tasks that don't run.
+    pub fn latest_waiting(&self, running: Option<TaskId>) -> Option<Task>
+        ensures { option_map numbered_entry result ≡ latest_waiting running (entries_of self.now) }
+    {
+        last_waiting(&self.root, &running)
+    }
+}

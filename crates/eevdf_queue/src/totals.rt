@@ -1,0 +1,34 @@
+ghost use Rattle.std.specs.Prelude.{◌≡◌, ◌*◌, ◌≤◌, ◌^◌, unsigned_abs, true};
+ghost use Rattle.eevdf_weight.specs.Limits as limits;
+ghost use Rattle.eevdf_weight.specs.Placement.{floor_div};
+
+/// The sums over tasks: of their weights, and of weight times virtual runtime.
+#[derive(Clone, Copy)]
+pub struct Totals {
+    pub weight: u64,
+    pub moment: i128,
+}
+
+/// The weighted mean of the virtual runtimes, rounded down.
+#[tactic(auto, using(crate::proofs::Bounds::floor_small, crate::proofs::Bounds::within_range))]
+pub fn mean(totals: &Totals) -> i64
+    requires some { 1 ≤ totals.now.weight }
+    requires few { totals.now.weight ≤ 2 ^ 39 }
+    requires small { unsigned_abs totals.now.moment ≤ 2 ^ 60 * totals.now.weight }
+    ensures value { result ≡ floor_div totals.now.moment totals.now.weight }
+    ensures in_range { limits.is_in_range result ≡ true }
+{
+    quotient(totals) as i64
+}
+
+/// The weighted mean, rounded down, in the wider type.
+#[tactic(auto, using(crate::proofs::Bounds::floor_small))]
+fn quotient(totals: &Totals) -> i128
+    requires some { 1 ≤ totals.now.weight }
+    requires few { totals.now.weight ≤ 2 ^ 39 }
+    requires small { unsigned_abs totals.now.moment ≤ 2 ^ 60 * totals.now.weight }
+    ensures value { result ≡ floor_div totals.now.moment totals.now.weight }
+    ensures small { unsigned_abs result ≤ 2 ^ 60 }
+{
+    totals.moment.div_euclid(i128::from(totals.weight))
+}

@@ -1,0 +1,38 @@
+ghost use Rattle.std.specs.Prelude.{◌≡◌, ◌*◌, ◌≤◌, ◌^◌, pos, ◌*ℤ◌, int_le};
+ghost use Rattle.eevdf_queue.specs.Pick.{is_eligible_at};
+
+use crate::task::Task;
+use crate::totals::Totals;
+use crate::tree_summary::Summary;
+
+/// Whether a task is eligible among tasks with these sums.
+pub fn is_task_eligible(totals: &Totals, task: &Task) -> bool
+    requires { totals.now.weight ≤ 2 ^ 40 }
+    ensures { result ≡ is_eligible_at totals.now.weight totals.now.moment task.now.entry }
+{
+    runtime_scaled(task, totals) <= totals.moment
+}
+
+/// Whether the least virtual runtime is eligible among tasks with these sums.
+pub fn is_least_eligible(totals: &Totals, summary: &Summary) -> bool
+    requires { totals.now.weight ≤ 2 ^ 40 }
+    ensures { result ≡ int_le (summary.now.least *ℤ pos totals.now.weight) totals.now.moment }
+{
+    least_scaled(summary, totals) <= totals.moment
+}
+
+/// The virtual runtime of a task times the sum of the weights.
+fn runtime_scaled(task: &Task, totals: &Totals) -> i128
+    requires { totals.now.weight ≤ 2 ^ 40 }
+    ensures { result ≡ task.now.entry.v *ℤ pos totals.now.weight }
+{
+    i128::from(task.entry.v) * i128::from(totals.weight)
+}
+
+/// The least virtual runtime times the sum of the weights.
+fn least_scaled(summary: &Summary, totals: &Totals) -> i128
+    requires { totals.now.weight ≤ 2 ^ 40 }
+    ensures { result ≡ summary.now.least *ℤ pos totals.now.weight }
+{
+    i128::from(summary.least) * i128::from(totals.weight)
+}

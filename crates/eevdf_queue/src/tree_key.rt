@@ -1,0 +1,38 @@
+ghost use Rattle.std.specs.Prelude.{◌≡◌, ◌↔◌, IsTrue};
+ghost use Rattle.eevdf_queue.specs.TreeKeys as keys;
+
+use crate::run_entry::Entry;
+use crate::task::Task;
+use crate::task_number::TaskId;
+
+/// What places a task in a tree: the deadline, then the number.
+#[derive(Clone, Copy)]
+pub struct Key {
+    pub deadline: i64,
+    pub number: TaskId,
+}
+
+impl Key {
+    /// Whether the key comes before a task's.
+    pub fn is_under(&self, task: &Task) -> bool
+        ensures { result ≡ keys.is_under self.now task.now }
+    {
+        self.deadline < task.entry.d
+            || self.deadline == task.entry.d && self.number.get() < task.number.get()
+    }
+
+    /// Whether the key comes after a task's.
+    pub fn is_over(&self, task: &Task) -> bool
+        ensures { result ≡ keys.is_over self.now task.now }
+    {
+        task.entry.d < self.deadline
+            || task.entry.d == self.deadline && task.number.get() < self.number.get()
+    }
+
+    /// Whether an entry has the key's deadline.
+    pub fn is_at(&self, entry: &Entry) -> bool
+        ensures { IsTrue result ↔ (self.now.deadline ≡ entry.now.d) }
+    {
+        self.deadline == entry.d
+    }
+}

@@ -1,0 +1,254 @@
+//! The boxed node of a balanced tree of tasks. It carries one task, alone in a parcel or between the two
+//! sides of a subtree, and keeps the height and the sums of that subtree.
+
+ghost use Rattle.std.specs.Prelude.{◌≡◌, suc, ◌+◌, ◌≤◌, ◌^◌, max, [], ◌∷◌, ◌++◌, length, is_some, true, Some};
+ghost use Rattle.eevdf_queue.specs.TaskLists.{first_task, find_task};
+ghost use Rattle.eevdf_queue.specs.Pick.{is_eligible_at};
+ghost use Rattle.eevdf_queue.specs.Candidate as candidate;
+ghost use Rattle.eevdf_queue.specs.TreeTasks as ordering;
+ghost use Rattle.eevdf_queue.specs.TreeTasks.{AreOrdered, IsAtDeadline, first_that};
+ghost use Rattle.eevdf_queue.specs.TreeShape.{tasks_in, height_in, DifferByAtMost, IsFull, IsAlone};
+ghost use Rattle.eevdf_queue.specs.TreeSummary.{summary_of, IsSmall, AreLow};
+
+use crate::task::Task;
+use crate::task_number::TaskId;
+use crate::totals::Totals;
+use crate::tree_eligible::{is_least_eligible, is_task_eligible};
+use crate::tree_key::Key;
+use crate::tree_summary::Summary;
+use std::marker::Model;
+
+/// A task, and the nodes on either side of it.
+#[derive(Drop)]
+pub struct TreeNode {
+    task: Task,
+    height: u32,
+    summary: Summary,
+    left: Option<Box<TreeNode>>,
+    right: Option<Box<TreeNode>>,
+}
+
+impl Model for TreeNode {
+    ghost use Rattle.std.specs.Prelude.{length};
+    ghost use Rattle.eevdf_queue.specs.TreeShape.{Tree};
+
+    ghost Value = { Tree };
+
+    ghost use Rattle.eevdf_queue.specs.TreeNodes.{tree_of, IsNode};
+
+    ghost view = { tree_of };
+
+    ghost invariant = { IsNode };
+
+    ghost size = { λ a. length a.tasks };
+
+    ghost use Rattle.eevdf_queue.specs.TreeDepth.{depth-le-length};
+
+    ghost size_decreases = { λ a h. depth-le-length a };
+}
+
+/// A task that a descent has found, and the turns that it took.
+#[derive(Clone, Copy)]
+pub struct Found {
+    pub task: Task,
+    pub turns: u32,
+}
+
+/// The two sides of a node.
+#[derive(Drop)]
+pub struct Sides {
+    pub left: Option<Box<TreeNode>>,
+    pub right: Option<Box<TreeNode>>,
+}
+
+/// The height below a link.
+pub fn height(link: &Option<Box<TreeNode>>) -> u32
+    ensures value { result ≡ height_in link.now }
+    ensures low { result ≤ length (tasks_in link.now) }
+    ensures full { IsFull result (length (tasks_in link.now)) }
+{
+    match link {
+        None => 0,
+        Some(node) => node.height(),
+    }
+}
+
+/// The summary of the tasks below a link.
+pub fn summary(link: &Option<Box<TreeNode>>) -> Summary
+    ensures value { result ≡ summary_of (tasks_in link.now) }
+    ensures small { IsSmall result }
+    ensures bounded { AreLow (tasks_in link.now) }
+{
+    match link {
+        None => Summary::none(),
+        Some(node) => node.summary(),
+    }
+}
+
+impl TreeNode {
+    /// A task alone.
+    pub fn new(task: Task) -> TreeNode
+        ensures tasks { result.tasks ≡ task ∷ [] }
+    {
+        TreeNode {
+            task,
+            height: 1,
+            summary: Summary::of(&task),
+            left: None,
+            right: None,
+        }
+    }
+
+    /// The height.
+    pub fn height(&self) -> u32
+        ensures value { result ≡ self.now.height }
+        ensures full { IsFull self.now.height (length self.now.tasks) }
+        ensures low { self.now.height ≤ length self.now.tasks }
+    {
+        self.height
+    }
+
+    /// The summary of the tasks.
+    pub fn summary(&self) -> Summary
+        ensures value { result ≡ summary_of self.now.tasks }
+        ensures small { IsSmall result }
+        ensures bounded { AreLow self.now.tasks }
+    {
+        self.summary
+    }
+
+    /// The task of a node that is alone.
+    pub fn task(&self) -> Task
+        requires { IsAlone self.now }
+        ensures { result ≡ first_task self.now.tasks }
+    {
+        self.task
+    }
+
+    /// Gives another task to a node that is alone.
+    pub fn replace(&mut self, task: Task)
+        requires { IsAlone self.old }
+        ensures { self.new.tasks ≡ task ∷ [] }
+    {
+        *self = TreeNode::new(task);
+    }
+
+    /// Gives two sides to a node that is alone.
+    pub fn hold(&mut self, left: Option<Box<TreeNode>>, right: Option<Box<TreeNode>>)
+        requires alone { IsAlone self.old }
+        requires balanced { DifferByAtMost 1 (height_in left) (height_in right) }
+        requires few { length (tasks_in left) + length (tasks_in right) ≤ 2 ^ 20 }
+        ensures tasks { self.new.tasks ≡ tasks_in left ++ first_task self.old.tasks ∷ tasks_in right }
+        ensures height { self.new.height ≡ suc (max (height_in left) (height_in right)) }
+    {
+        self.height = height(&left).max(height(&right)) + 1;
+        self.summary = summary(&left).merge(&Summary::of(&self.task).merge(&summary(&right)));
+        self.left = left;
+        self.right = right;
+    }
+
+    /// Parts this node from its sides.
+    pub fn part(&mut self) -> Sides
+        ensures alone { IsAlone self.new }
+        ensures tasks { self.old.tasks ≡ tasks_in result.left ++ first_task self.new.tasks ∷ tasks_in result.right }
+        ensures height { self.old.height ≡ suc (max (height_in result.left) (height_in result.right)) }
+        ensures balanced { DifferByAtMost 1 (height_in result.left) (height_in result.right) }
+    {
+        let left = self.left.take();
+        let right = self.right.take();
+        self.height = 1;
+        self.summary = Summary::of(&self.task);
+        Sides { left, right }
+    }
+}
+
+/// The task of a key's number, which stands at the key where it is here.
+pub fn find(link: &Option<Box<TreeNode>>, key: &Key) -> Option<Task>
+    requires ordered { AreOrdered (tasks_in link.now) }
+    requires placed { IsAtDeadline key.now.deadline (find_task key.now.number (tasks_in link.now)) }
+    ensures { result ≡ find_task key.now.number (tasks_in link.now) }
+{
+    let Some(node) = link else { return None };
+    let node: &TreeNode = node;
+    if key.is_under(&node.task) {
+        find(&node.left, key)
+    } else if key.is_over(&node.task) {
+        find(&node.right, key)
+    } else {
+        Some(node.task)
+    }
+}
+
+/// Whether a task below a link is eligible at these sums.
+pub fn has_eligible(link: &Option<Box<TreeNode>>, totals: &Totals) -> bool
+    requires { totals.now.weight ≤ 2 ^ 40 }
+    ensures { result ≡ is_some (first_that (is_eligible_at totals.now.weight totals.now.moment) (tasks_in link.now)) }
+{
+    match link {
+        None => false,
+        Some(node) => {
+            let node: &TreeNode = node;
+            is_least_eligible(totals, &node.summary)
+        }
+    }
+}
+
+/// The first eligible task below a link that has one, left before right, and the turns that lead to it.
+pub fn first_eligible(link: &Option<Box<TreeNode>>, totals: &Totals) -> Found
+    requires few { totals.now.weight ≤ 2 ^ 40 }
+    requires small { length (tasks_in link.now) ≤ 2 ^ 20 }
+    requires some { is_some (first_that (is_eligible_at totals.now.weight totals.now.moment) (tasks_in link.now)) ≡ true }
+    ensures task { first_that (is_eligible_at totals.now.weight totals.now.moment) (tasks_in link.now) ≡ Some result.task }
+    ensures positive { 1 ≤ result.turns }
+    ensures turns { result.turns ≤ height_in link.now }
+    ensures few_turns { IsFull result.turns (length (tasks_in link.now)) }
+{
+    let Some(node) = link else { unreachable!() };
+    let node: &TreeNode = node;
+    if has_eligible(&node.left, totals) {
+        let found = first_eligible(&node.left, totals);
+        return Found {
+            task: found.task,
+            turns: found.turns + 1,
+        };
+    }
+    if is_task_eligible(totals, &node.task) {
+        return Found {
+            task: node.task,
+            turns: 1,
+        };
+    }
+    let found = first_eligible(&node.right, totals);
+    Found {
+        task: found.task,
+        turns: found.turns + 1,
+    }
+}
+
+/// The last task below a link that isn't the running one.
+pub fn last_waiting(link: &Option<Box<TreeNode>>, running: &Option<TaskId>) -> Option<Task>
+    ensures { result ≡ ordering.last_waiting running.now (tasks_in link.now) }
+{
+    let Some(node) = link else { return None };
+    let node: &TreeNode = node;
+    match last_waiting(&node.right, running) {
+        Some(task) => Some(task),
+        None => {
+            if is_running(running, node.task.number) {
+                last_waiting(&node.left, running)
+            } else {
+                Some(node.task)
+            }
+        }
+    }
+}
+
+/// Whether this number is the running task's.
+fn is_running(running: &Option<TaskId>, number: TaskId) -> bool
+    ensures { result ≡ candidate.is_running running.now number }
+{
+    match running {
+        None => false,
+        Some(running) => number == *running,
+    }
+}
