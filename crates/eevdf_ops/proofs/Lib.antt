@@ -1,0 +1,3 @@
+pub mod Charges
+pub mod Starting
+pub mod Machines

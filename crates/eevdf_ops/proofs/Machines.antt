@@ -1,0 +1,82 @@
+-- A list of queues and the machine that it is.
+use Rattle.std.proofs.Common.{Bool, true, false, ◌&&◌, ◌++◌, drop, drop-cons, add-one, append_assoc, ◌≡◌, ℕ, zero, suc, ◌+◌, ◌<◌, List, [], ◌∷◌, length, get_or, set, replicate, refl, sym, ap, ◌∙◌, arith}
+use Rattle.std.proofs.Math.ListN.{length-set, length-replicate}
+use Rattle.std.proofs.lemmas.Bool.{false≢true}
+use Rattle.std.specs.List.{list_all}
+use Rattle.eevdf_ops.specs.declared.deeds.Deed.{Deed}
+use Rattle.eevdf_ops.specs.declared.deeds.Answer.{Answer}
+use Rattle.eevdf_ops.specs.declared.deeds.Line.{Line}
+use Rattle.eevdf_ops.specs.Whole.{whole, lines_of, machine_after}
+use Rattle.std.specs.Prelude.{pos}
+use Rattle.eevdf_queue.specs.State.{State, View, Contents, empty_state}
+use Rattle.eevdf_ops.specs.declared.task_spec.TaskSpec.{TaskSpec}
+use Rattle.eevdf_ops.specs.Machine.{Machine, queue_at, begin, joined, begin_at_homes}
+use Rattle.eevdf_ops.specs.Outcome.{machine_of}
+
+get_machine : (queues : List View) (k : ℕ) (d : View) → k < length queues → get_or (machine_of queues) k empty_state ≡ (get_or queues k d).state
+get_machine [] k d h = absurd (omega arith)
+get_machine (x ∷ queues) zero d h = refl
+get_machine (x ∷ queues) (suc k) d h = get_machine queues k d (omega arith)
+
+-- the queue that is read stands in the machine
+pub queue_read : (queues : List View) (cpu k : ℕ) (d : View) → k ≡ cpu → k < length queues → queue_at (machine_of queues) cpu ≡ (get_or queues k d).state
+queue_read queues cpu k d at h = ap (λ (i : ℕ). get_or (machine_of queues) i empty_state) (sym at) ∙ get_machine queues k d h
+
+set_machine : (queues : List View) (k : ℕ) (q : View) → machine_of (set queues k q) ≡ set (machine_of queues) k q.state
+set_machine [] k q = refl
+set_machine (x ∷ queues) zero q = refl
+set_machine (x ∷ queues) (suc k) q = ap (λ (m : Machine). x.state ∷ m) (set_machine queues k q)
+
+-- the machine with a queue written
+pub machine_with : (queues : List View) (cpu k : ℕ) (q : View) (s : State) → k ≡ cpu → q.state ≡ s → machine_of (set queues k q) ≡ set (machine_of queues) cpu s
+machine_with queues cpu k q s at e = set_machine queues k q ∙ ap (λ (i : ℕ). set (machine_of queues) i q.state) at ∙ ap (λ (t : State). set (machine_of queues) cpu t) e
+
+pub length-machine_of : (queues : List View) → length (machine_of queues) ≡ length queues
+length-machine_of [] = refl
+length-machine_of (x ∷ queues) = ap suc (length-machine_of queues)
+
+pub length-begin_at_homes : (task : ℕ) (ts : List TaskSpec) (m : Machine) → length (begin_at_homes task ts m) ≡ length m
+length-begin_at_homes task [] m = refl
+length-begin_at_homes task (t ∷ ts) m = length-set (begin_at_homes (task + 1) ts m) t.home _ ∙ length-begin_at_homes (task + 1) ts m
+
+-- a task that joins by its parcel begins
+pub joins_as_it_begins : (task : ℕ) (t : TaskSpec) (p : Contents) (q : State) → p ≡ record { task = task; nice = t.nice; slice = t.slice; start = t.start; lag = pos 0 } → joined t.asleep p q ≡ begin task t q
+joins_as_it_begins task t p q e = ap (λ (r : Contents). joined t.asleep r q) e
+
+-- a machine that has this start has so many queues
+pub start_has : (queues : List View) (task n : ℕ) (ts : List TaskSpec) → machine_of queues ≡ begin_at_homes task ts (replicate n empty_state) → length queues ≡ n
+start_has queues task n ts e =
+    sym (length-machine_of queues) ∙ ap (λ (m : Machine). length m) e ∙ length-begin_at_homes task ts (replicate n empty_state) ∙ length-replicate n empty_state
+
+drop_step : (ds : List Deed) (i : ℕ) (d : Deed) → i < length ds → d ≡ get_or ds i d → drop i ds ≡ d ∷ drop (i + 1) ds
+drop_step ds i d h e =
+    let apart : drop i ds ≡ get_or ds i d ∷ drop (i + 1) ds = rw (add-one, drop-cons ds i d) in
+    apart ∙ ap (λ (x : Deed). x ∷ drop (i + 1) ds) (sym e)
+
+-- one deed more of a list
+pub lines_step : (homes homes' : List ℕ) (m m' : Machine) (ds : List Deed) (i : ℕ) (d : Deed) (answer : Answer) (lines lines' all : List Line) → i < length ds → d ≡ get_or ds i d → homes' ≡ homes → m' ≡ (whole homes d m).1
+    → answer ≡ (whole homes d m).0 → lines' ≡ lines ++ record { deed = d; answer = answer } ∷ []
+    → lines ++ lines_of homes m (drop i ds) ≡ all → lines' ++ lines_of homes' m' (drop (i + 1) ds) ≡ all
+lines_step homes homes' m m' ds i d answer lines lines' all h at eh em ea el inv =
+    let line : Answer → Line = λ a. record { deed = d; answer = a } in
+    ap (λ (ls : List Line). ls ++ lines_of homes' m' (drop (i + 1) ds)) el
+    ∙ ap (λ (hs : List ℕ). (lines ++ line answer ∷ []) ++ lines_of hs m' (drop (i + 1) ds)) eh
+    ∙ ap (λ (n : Machine). (lines ++ line answer ∷ []) ++ lines_of homes n (drop (i + 1) ds)) em
+    ∙ append_assoc lines (line answer ∷ []) (lines_of homes (whole homes d m).1 (drop (i + 1) ds))
+    ∙ ap (λ (a : Answer). lines ++ (line a ∷ lines_of homes (whole homes d m).1 (drop (i + 1) ds))) ea
+    ∙ ap (λ (es : List Deed). lines ++ lines_of homes m es) (sym (drop_step ds i d h at)) ∙ inv
+
+pub machine_step : (homes homes' : List ℕ) (m m' last : Machine) (ds : List Deed) (i : ℕ) (d : Deed) → i < length ds → d ≡ get_or ds i d → homes' ≡ homes → m' ≡ (whole homes d m).1
+    → machine_after homes m (drop i ds) ≡ last → machine_after homes' m' (drop (i + 1) ds) ≡ last
+machine_step homes homes' m m' last ds i d h at eh em inv =
+    ap (λ (hs : List ℕ). machine_after hs m' (drop (i + 1) ds)) eh
+    ∙ ap (λ (n : Machine). machine_after homes n (drop (i + 1) ds)) em
+    ∙ ap (λ (es : List Deed). machine_after homes m es) (sym (drop_step ds i d h at)) ∙ inv
+
+both : (a b : Bool) → (a && b) ≡ true → (a ≡ true) × (b ≡ true)
+both true b e = (refl, e)
+both false b e = absurd (false≢true e)
+
+-- the deed that comes next is allowed, and so are those after it
+pub allowed_step : (p : Deed → Bool) (ds : List Deed) (i : ℕ) (d : Deed) → i < length ds → d ≡ get_or ds i d → list_all p (drop i ds) ≡ true → (p d ≡ true) × (list_all p (drop (i + 1) ds) ≡ true)
+allowed_step p ds i d h at e = both (p d) (list_all p (drop (i + 1) ds)) (ap (list_all p) (sym (drop_step ds i d h at)) ∙ e)

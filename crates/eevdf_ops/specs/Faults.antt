@@ -1,0 +1,48 @@
+-- The first fault of a setup.
+use Rattle.std.specs.Prelude.{◌≡◌, ◌⊎◌, ℕ, ◌+◌, nat_lt, nat_le, Bool, ◌&&◌, List, [], ◌∷◌, length, if◌then◌else◌, Option, Some, None, Result, MatchResult}
+use Rattle.std.specs.Option.{option_or}
+use Rattle.eevdf_queue.specs.Moves.{fresh_entry, is_entry_in_range}
+use Rattle.eevdf_ops.specs.declared.task_spec.TaskSpec.{TaskSpec}
+use Rattle.eevdf_ops.specs.declared.deeds.Op.{Op}
+use Rattle.eevdf_ops.specs.declared.setup_fault.SetupFault.{SetupFault}
+use Rattle.eevdf_ops.specs.declared.setup_fault.SetupFault.TheVariants.{BadCpus, BadTasks, BadHome, BadStart, TooLong, Memory}
+use Rattle.eevdf_ops.specs.Numbers.{most_cpus, most_tasks, most_operations}
+use Rattle.eevdf_ops.specs.Setup.{Setup}
+
+-- a fault, unless the test passes
+abbrev pub unless : Bool → SetupFault → Option SetupFault
+unless passes f = if passes then None else Some f
+
+-- the start of a task, and the deadline that it gives, are in range
+abbrev pub starts_in_range : TaskSpec → Bool
+starts_in_range t = is_entry_in_range (fresh_entry t.start t.nice t.slice)
+
+abbrev pub task_fault : ℕ → ℕ → TaskSpec → Option SetupFault
+task_fault cpus place t = option_or (unless (nat_lt t.home cpus) (BadHome place)) (unless (starts_in_range t) (BadStart place))
+
+abbrev pub tasks_fault : ℕ → ℕ → List TaskSpec → Option SetupFault
+tasks_fault cpus place [] = None
+tasks_fault cpus place (t ∷ ts) = option_or (task_fault cpus place t) (tasks_fault cpus (place + 1) ts)
+
+abbrev pub program_fault : ℕ → List Op → Option SetupFault
+program_fault cpu program = unless (nat_le (length program) most_operations) (TooLong cpu)
+
+abbrev pub programs_fault : ℕ → List (List Op) → Option SetupFault
+programs_fault cpu [] = None
+programs_fault cpu (p ∷ ps) = option_or (program_fault cpu p) (programs_fault (cpu + 1) ps)
+
+abbrev pub is_count : ℕ → ℕ → Bool
+is_count n most = nat_le 1 n && nat_le n most
+
+-- the first fault, in the order: the number of CPUs, that of tasks, each task, each program
+abbrev pub setup_fault : List TaskSpec → List (List Op) → Option SetupFault
+setup_fault tasks programs =
+    option_or (unless (is_count (length programs) most_cpus) BadCpus)
+    (option_or (unless (is_count (length tasks) most_tasks) BadTasks)
+    (option_or (tasks_fault (length programs) 0 tasks) (programs_fault 0 programs)))
+
+-- the first fault is answered; where there is none, the setup or want of memory
+abbrev pub IsSetupOf : List TaskSpec → List (List Op) → Result Setup SetupFault → Type 0
+IsSetupOf tasks programs result =
+    MatchResult result (λ s. (setup_fault tasks programs ≡ None) × (s ≡ record { tasks = tasks; programs = programs }))
+    (λ f. (setup_fault tasks programs ≡ Some f) ⊎ ((setup_fault tasks programs ≡ None) × (f ≡ Memory)))

@@ -1,0 +1,39 @@
+-- The machine, and how it begins.
+use Rattle.std.specs.Prelude.{◌≡◌, ℕ, Bool, None, ◌+◌, pos, List, [], ◌∷◌, if◌then◌else◌, replicate, slice_index_or, slice_set}
+use Rattle.std.specs.FinMap as finite
+use Rattle.eevdf_queue.specs.State.{State, Contents, empty_state}
+use Rattle.eevdf_queue.specs.Moves.{fresh_entry, put_asleep}
+use Rattle.eevdf_ops.specs.declared.task_spec.TaskSpec.{TaskSpec}
+use Rattle.eevdf_ops.specs.Setup.{Setup, cpus_of}
+
+-- the states of the CPUs' queues, by CPU
+abbrev pub Machine : Type 0
+Machine = List State
+
+abbrev pub queue_at : Machine → ℕ → State
+queue_at m cpu = slice_index_or m cpu empty_state
+
+-- a task joins the queue that it begins in: runnable at its start, or asleep with lag 0
+abbrev pub begin : ℕ → TaskSpec → State → State
+begin task t q =
+    if t.asleep then record q { asleep = finite.insert q.asleep task (record { lag = pos 0; nice = t.nice; slice = t.slice }) }
+    else record q { runnable = finite.insert q.runnable task (fresh_entry t.start t.nice t.slice) }
+
+-- each task begins at its home, numbered from a number on
+abbrev pub begin_at_homes : ℕ → List TaskSpec → Machine → Machine
+begin_at_homes task [] m = m
+begin_at_homes task (t ∷ ts) m =
+    slice_set (begin_at_homes (task + 1) ts m) t.home (begin task t (queue_at (begin_at_homes (task + 1) ts m) t.home))
+
+-- the machine at the start: each task at its home, and nobody runs
+abbrev pub start : Setup → Machine
+start s = begin_at_homes 0 s.tasks (replicate (cpus_of s) empty_state)
+
+-- a number that stands nowhere in a queue
+pub record IsAbsent (q : State) (task : ℕ) : Type 0 where
+  pub runnable : finite.get q.runnable task ≡ None
+  pub asleep : finite.get q.asleep task ≡ None
+
+-- a queue with one task more, asleep or runnable at its start
+abbrev pub joined : Bool → Contents → State → State
+joined asleep p q = if asleep then put_asleep q p else record q { runnable = finite.insert q.runnable p.task (fresh_entry p.start p.nice p.slice) }

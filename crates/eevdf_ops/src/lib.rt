@@ -1,0 +1,26 @@
+//! The scheduler of one thread: what a machine is set up from, the deeds that are done on it and their
+//! answers, and their history.
+//!
+//! A machine is the list of its CPUs' run queues. A deed is done at once and answered; the history of a list
+//! of deeds is the list of deeds with their answers, and the machine that they leave.
+#![tactic(auto)]
+
+mod cpu_number;
+mod deeds;
+mod machine_setup;
+mod machine_start;
+pub mod one_thread;
+mod outcome;
+mod setup_fault;
+mod setup_test;
+mod solo_machine;
+mod task_spec;
+mod whole_deeds;
+
+pub use cpu_number::CpuId;
+pub use deeds::{Answer, Deed, Line, Op};
+pub use machine_setup::Setup;
+pub use outcome::Outcome;
+pub use setup_fault::SetupFault;
+pub use solo_machine::Solo;
+pub use task_spec::TaskSpec;

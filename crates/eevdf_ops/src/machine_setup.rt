@@ -1,0 +1,113 @@
+ghost use Rattle.std.specs.Prelude.{◌≡◌, ◌<◌, ◌≤◌, length, map, slice_index_or, IfOk, None};
+ghost use Rattle.eevdf_ops.specs.Faults.{IsSetupOf, tasks_fault};
+ghost use Rattle.eevdf_ops.specs.Setup as setup;
+
+use crate::cpu_number::CpuId;
+use crate::deeds::{Deed, Op};
+use crate::setup_fault::SetupFault;
+use crate::setup_test::setup_fault;
+use crate::task_spec::TaskSpec;
+use eevdf_queue::TaskId;
+use std::alloc::{AllocError, Global};
+use std::marker::Model;
+
+/// What a machine is set up from: the tasks, each numbered by its place, and a program for each CPU.
+#[derive(Drop)]
+pub struct Setup {
+    tasks: Vec<TaskSpec>,
+    programs: Vec<Vec<Op>>,
+}
+
+impl Model for Setup {
+    ghost use Rattle.std.specs.Prelude.{◌≡◌, None, map};
+    ghost use Rattle.eevdf_ops.specs.Setup as setup;
+    ghost use Rattle.eevdf_ops.specs.Faults.{setup_fault};
+
+    ghost Value = { setup.Setup };
+
+    ghost view = { λ s. record { tasks = s.tasks.items; programs = map (λ p. p.items) s.programs.items } };
+
+    ghost invariant = { λ s. setup_fault s.tasks.items (map (λ p. p.items) s.programs.items) ≡ None };
+}
+
+impl Setup {
+    /// A setup of these tasks and programs, copied. Where it has a fault, the first one is answered: in the
+    /// number of programs, in that of tasks, then of each task in order its home and its start, then of each
+    /// program in order its length. Want of memory is answered only where there is no fault.
+    pub fn make(
+        alloc: Global,
+        tasks: &[TaskSpec],
+        programs: &[Vec<Op>],
+    ) -> Result<Setup, SetupFault>
+        ensures { IsSetupOf tasks.now (map (λ p. p.items) programs.now) result }
+    {
+        match setup_fault(tasks, programs) {
+            Some(fault) => Err(fault),
+            None => {
+                let tasks = Vec::from_slice(alloc, tasks).map_err(|_| SetupFault::Memory)?;
+                let programs = copy_programs(alloc, programs).map_err(|_| SetupFault::Memory)?;
+                Ok(Setup { tasks, programs })
+            }
+        }
+    }
+
+    /// The number of CPUs.
+    pub fn cpus(&self) -> usize
+        ensures cpus { result ≡ setup.cpus_of self.now }
+        ensures some { 1 ≤ result }
+        ensures few { result ≤ 16 }
+    {
+        self.programs.len()
+    }
+
+    /// The number of tasks.
+    pub fn tasks(&self) -> usize
+        ensures { result ≡ length self.now.tasks }
+    {
+        self.tasks.len()
+    }
+
+    /// The tasks by their numbers. None of them, and no program, has a fault.
+    pub(crate) fn task_specs(&self) -> &[TaskSpec]
+        ensures tasks { result.now ≡ self.now.tasks }
+        ensures few { length result.now ≤ 1024 }
+        ensures well { tasks_fault (setup.cpus_of self.now) 0 result.now ≡ None }
+    {
+        &self.tasks
+    }
+
+    /// A task of the setup as it was given.
+    pub fn spec(&self, task: TaskId) -> &TaskSpec
+        requires { task < length self.now.tasks }
+        ensures { result.now ≡ slice_index_or self.now.tasks task result.now }
+    {
+        &self.tasks[task.get() as usize]
+    }
+
+    /// The program of a CPU of the setup.
+    pub fn program(&self, cpu: CpuId) -> &[Op]
+        requires { cpu < setup.cpus_of self.now }
+        ensures { result.now ≡ slice_index_or self.now.programs cpu result.now }
+    {
+        &self.programs[cpu.get() as usize]
+    }
+
+    /// Whether a deed names only what the setup has.
+    pub fn allows(&self, deed: &Deed) -> bool
+        ensures { result ≡ setup.allows self.now deed.now }
+    {
+        match *deed {
+            Deed::Tick { cpu, .. } | Deed::Pick { cpu } => (cpu.get() as usize) < self.cpus(),
+        }
+    }
+}
+
+fn copy_programs(alloc: Global, programs: &[Vec<Op>]) -> Result<Vec<Vec<Op>>, AllocError>
+    ensures { IfOk result (λ copies. map (λ p. p.items) copies.items ≡ map (λ p. p.items) programs.now) }
+{
+    let mut copies = Vec::with_capacity(alloc, programs.len())?;
+    for program in programs {
+        copies.push(Vec::from_slice(alloc, program)?)?;
+    }
+    Ok(copies)
+}

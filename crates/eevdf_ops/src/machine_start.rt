@@ -1,0 +1,86 @@
+//! The machine at the start: each task at its home.
+
+ghost use Rattle.std.specs.Prelude.{◌≡◌, ◌≤◌, ◌<◌, None, true, length, replicate, slice_set, IfOk, OnOk};
+ghost use Rattle.eevdf_queue.specs.State.{empty_state};
+ghost use Rattle.eevdf_queue.specs.Moves.{fresh_entry, is_entry_in_range};
+ghost use Rattle.eevdf_ops.specs.Faults.{starts_in_range, tasks_fault};
+ghost use Rattle.eevdf_ops.specs.Machine as machine;
+ghost use Rattle.eevdf_ops.specs.Outcome.{machine_of};
+
+use crate::task_spec::TaskSpec;
+use eevdf_queue::{Parcel, Queue, TaskId};
+use std::alloc::{AllocError, Global};
+
+/// The queues of so many CPUs, with each task at its home.
+pub(crate) fn queues_at_start(
+    alloc: Global,
+    cpus: usize,
+    tasks: &[TaskSpec],
+) -> Result<Vec<Queue>, AllocError>
+    requires few { length tasks.now ≤ 1024 }
+    requires well { tasks_fault cpus 0 tasks.now ≡ None }
+    ensures start { IfOk result (λ queues.
+        machine_of queues.items ≡ machine.begin_at_homes 0 tasks.now (replicate cpus empty_state)) }
+    ensures cpus { IfOk result (λ queues. length queues.items ≡ cpus) }
+{
+    let mut queues = empty_queues(alloc, cpus)?;
+    for place in (0..tasks.len()).rev() {
+        begin(alloc, &mut queues, task_number(place), tasks[place])?;
+    }
+    Ok(queues)
+}
+
+fn empty_queues(alloc: Global, cpus: usize) -> Result<Vec<Queue>, AllocError>
+    ensures { IfOk result (λ queues. machine_of queues.items ≡ replicate cpus empty_state) }
+{
+    let mut queues = Vec::with_capacity(alloc, cpus)?;
+    for _cpu in 0..cpus {
+        queues.push(Queue::open())?;
+    }
+    Ok(queues)
+}
+
+/// The number of the task at a place of the list of tasks.
+fn task_number(place: usize) -> TaskId
+    requires { place < 1024 }
+    ensures { result ≡ place }
+{
+    match TaskId::new(place as u64) {
+        Some(task) => task,
+        None => unreachable!(),
+    }
+}
+
+/// Puts a task into the queue of its home.
+fn begin(
+    alloc: Global,
+    queues: &mut [Queue],
+    task: TaskId,
+    spec: TaskSpec,
+) -> Result<(), AllocError>
+    requires home { spec.home < length queues.old }
+    requires in_range { starts_in_range spec ≡ true }
+    requires absent { machine.IsAbsent (machine.queue_at (machine_of queues.old) spec.home) task }
+    ensures { OnOk result (machine_of queues.new ≡ slice_set (machine_of queues.old) spec.home
+        (machine.begin task spec (machine.queue_at (machine_of queues.old) spec.home))) }
+{
+    let parcel = Parcel::make(alloc, task, spec.nice, spec.slice, spec.start)?;
+    let home = spec.home.get() as usize;
+    join(&mut queues[home], parcel, spec.asleep);
+    Ok(())
+}
+
+/// Puts a task that is in no place yet into a queue, asleep or runnable at its start.
+fn join(queue: &mut Queue, parcel: Parcel, asleep: bool)
+    requires absent { machine.IsAbsent queue.old.state parcel.task }
+    requires in_range { is_entry_in_range (fresh_entry parcel.start parcel.nice parcel.slice) ≡ true }
+    ensures { queue.new.state ≡ machine.joined asleep parcel queue.old.state }
+{
+    if asleep {
+        queue.put_asleep(parcel);
+        return;
+    }
+    if let Err(_) = queue.admit(parcel) {
+        unreachable!()
+    }
+}

@@ -1,0 +1,83 @@
+ghost use Rattle.std.specs.Prelude.{◌≡◌, ◌<◌, length, map, true, IfOk, slice_index_or};
+ghost use Rattle.eevdf_ops.specs.Setup.{cpus_of, homes_of, is_allowed};
+ghost use Rattle.eevdf_ops.specs.Machine as machine;
+ghost use Rattle.eevdf_ops.specs.Outcome.{machine_of};
+ghost use Rattle.eevdf_ops.specs.Whole.{whole};
+
+use crate::cpu_number::CpuId;
+use crate::deeds::{Answer, Deed};
+use crate::machine_setup::Setup;
+use crate::machine_start::queues_at_start;
+use crate::task_spec::TaskSpec;
+use crate::whole_deeds::{pick, tick};
+use eevdf_queue::Queue;
+use std::alloc::{AllocError, Global};
+use std::marker::Model;
+
+/// The scheduler of one thread: the queues of all CPUs, on which each deed is done at once.
+#[derive(Drop)]
+pub struct Solo {
+    homes: Vec<CpuId>,
+    queues: Vec<Queue>,
+}
+
+impl Model for Solo {
+    ghost use Rattle.eevdf_ops.specs.Outcome as outcome;
+    ghost use Rattle.std.specs.Coded.{codes};
+    ghost use Rattle.eevdf_queue.specs.Codes.{view_code};
+
+    ghost Value = { outcome.Solo };
+
+    ghost coded = { Prim.hlevel (codes, view_code) };
+
+    ghost view = { λ s. record { homes = s.homes.items; queues = s.queues.items } };
+}
+
+impl Solo {
+    /// The machine as the setup has it at the start. It takes all the memory that the machine ever needs.
+    pub fn open(alloc: Global, setup: &Setup) -> Result<Solo, AllocError>
+        ensures homes { IfOk result (λ s. s.homes ≡ homes_of setup.now) }
+        ensures start { IfOk result (λ s. machine_of s.queues ≡ machine.start setup.now) }
+        ensures cpus { IfOk result (λ s. length s.queues ≡ cpus_of setup.now) }
+    {
+        let homes = copy_homes(alloc, setup.task_specs())?;
+        let queues = queues_at_start(alloc, setup.cpus(), setup.task_specs())?;
+        Ok(Solo { homes, queues })
+    }
+
+    /// Does a deed at once, and answers it. It takes no memory.
+    pub fn apply(&mut self, deed: Deed) -> Answer
+        requires { is_allowed (length self.old.queues) self.old.homes deed ≡ true }
+        ensures answer { result ≡ (whole self.old.homes deed (machine_of self.old.queues)).0 }
+        ensures machine { machine_of self.new.queues ≡ (whole self.old.homes deed (machine_of self.old.queues)).1 }
+        ensures homes { self.new.homes ≡ self.old.homes }
+        ensures cpus { length self.new.queues ≡ length self.old.queues }
+    {
+        match deed {
+            Deed::Tick { cpu, ns } => tick(&mut self.queues, cpu, ns),
+            Deed::Pick { cpu } => pick(&mut self.queues, cpu),
+        }
+    }
+
+    /// The queue of a CPU.
+    pub fn queue(&self, cpu: CpuId) -> &Queue
+        requires { cpu < length self.now.queues }
+        ensures { result.now ≡ slice_index_or self.now.queues cpu result.now }
+    {
+        &self.queues[cpu.get() as usize]
+    }
+
+    /// The queues, by CPU.
+    pub fn into_queues(self) -> Vec<Queue>
+        ensures { result.items ≡ self.queues }
+    {
+        let Solo { homes: _, queues } = self;
+        queues
+    }
+}
+
+fn copy_homes(alloc: Global, tasks: &[TaskSpec]) -> Result<Vec<CpuId>, AllocError>
+    ensures { IfOk result (λ homes. homes.items ≡ map (λ (t : TaskSpec). t.home) tasks.now) }
+{
+    tasks.iter().map(|task| task.home).collect(alloc)
+}
