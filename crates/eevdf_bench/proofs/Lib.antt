@@ -1,0 +1,9 @@
+pub mod ReadingWords
+pub mod ReadingLists
+pub mod KnownBytes
+pub mod ReadingDocuments
+pub mod ByNumber
+pub mod ReadingPrinted
+pub mod InputLimit
+pub mod QueueLines
+pub mod EngineAnswers

@@ -1,0 +1,13 @@
+pub mod Words
+pub mod MeaningSteps
+pub mod Meaning
+pub mod Watch
+pub mod Streams
+pub mod Text
+pub mod TextDeed
+pub mod TextQueue
+pub mod TextReport
+pub mod TextFault
+pub mod Command
+pub mod WordsPrinted
+pub mod Runs

@@ -1,0 +1,15 @@
+-- A reader or a writer, and whether one of its calls has failed.
+use Rattle.std.specs.Prelude.{ℕ, ◌==◌, Bool, true, not, ◌&&◌, List, length, Result, Ok, Err, refl}
+use Rattle.std.specs.Coded.{Coded, code_by, coded×, coded_bool}
+
+pub record Watch (E : Type 0) : Type 0 where
+  pub end : E
+  pub failed : Bool
+
+abbrev pub watch_code : {E : Type 0} → Coded E → Coded (Watch E)
+watch_code {E} e = code_by (E × Bool) (coded× e coded_bool) (λ w. (w.end, w.failed)) (λ p. record { end = p.0; failed = p.1 }) (λ _. refl)
+
+-- a write that failed: an error, or nothing taken of a piece that isn't empty
+abbrev pub takes_nothing : {E : Type 0} → Result ℕ E → List ℕ → Bool
+takes_nothing (Ok n) piece = (n == 0) && not (length piece == 0)
+takes_nothing (Err _) piece = true

@@ -1,0 +1,57 @@
+//! From the bytes of a workload to the bytes of its report.
+
+ghost use Rattle.std.specs.Prelude.{◌≡◌, ◌≢◌, true, false, IfOk, IfErr, IfSome, OnOk, OnErr, Err};
+ghost use Rattle.std.specs.Io.KnownBytes.{Keeps};
+ghost use Rattle.eevdf_bench.specs.Runs.{Answers, LoadsAs, Writes, solo_answer};
+ghost use Rattle.eevdf_bench.specs.Streams.{HasBegun};
+
+use crate::bench_fault::BenchFault;
+use crate::byte_streams::{read_input, write_text};
+use crate::command_words::{Command, Kind};
+use crate::load_fault::LoadFault;
+use crate::reading::read_workload;
+use crate::solo_run::solo_text;
+use crate::watched::Watched;
+use std::alloc::Global;
+use std::io::{Read, Write};
+
+/// Reads a workload to its end, makes the whole report that the command asks for, and writes it.
+///
+/// A reader that goes on for more than 16777216 bytes is read to one byte more, and then refused. `Read` comes
+/// only where the reader failed, `Write` only where the writer did. After any fault but `Write` nothing was written.
+pub fn engine<R: Read, W: Write>(
+    alloc: Global,
+    reader: &mut Watched<R>,
+    writer: &mut Watched<W>,
+    command: Command,
+) -> Result<(), BenchFault>
+    requires reader { reader.old.failed ≡ false }
+    requires writer { writer.old.failed ≡ false }
+    ensures report { OnOk result (IfSome (R.remaining reader.old.end) (λ input.
+        Writes (solo_answer input command.history) (W.contents writer.old.end) (W.contents writer.new.end))) }
+    ensures load { IfErr result (λ f. IfSome (R.remaining reader.old.end) (λ input.
+        LoadsAs (solo_answer input command.history) f)) }
+    ensures read { result ≡ Err BenchFault.Read → reader.new.failed ≡ true }
+    ensures write { result ≡ Err BenchFault.Write → writer.new.failed ≡ true }
+    ensures unwritten { IfErr result (λ f. f ≢ BenchFault.Write → Keeps (W.contents writer.old.end) (W.contents writer.new.end)) }
+{
+    let input = read_input(alloc, reader)?;
+    let text = match answer(alloc, &input, command) {
+        Ok(text) => text,
+        Err(fault) => return Err(fault),
+    };
+    write_text(writer, &text)
+}
+
+/// The text of the report that a command makes of the bytes of a workload.
+fn answer(alloc: Global, input: &[u8], command: Command) -> Result<Vec<u8>, BenchFault>
+    ensures { Answers (solo_answer input.now command.history) result }
+{
+    let workload = match read_workload(alloc, input) {
+        Ok(workload) => workload,
+        Err(fault) => return Err(BenchFault::Load(fault)),
+    };
+    match command.kind {
+        Kind::Solo => solo_text(alloc, &workload, command.history),
+    }
+}

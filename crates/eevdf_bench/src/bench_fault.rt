@@ -1,0 +1,19 @@
+use crate::load_fault::LoadFault;
+use thiserror::Error;
+
+/// Why a run of the workbench failed.
+#[derive(Clone, Copy, PartialEq, Eq, Debug, Error)]
+pub enum BenchFault {
+    /// The workload is refused, or lacks the part that the command needs.
+    #[error("{0}")]
+    Load(LoadFault),
+    /// The reader failed.
+    #[error("reading failed")]
+    Read,
+    /// The writer failed.
+    #[error("writing failed")]
+    Write,
+    /// There was no memory.
+    #[error("out of memory")]
+    Memory,
+}

@@ -1,0 +1,96 @@
+//! Reading the whole input, up to a limit, and writing the whole report.
+
+ghost use Rattle.std.specs.Prelude.{◌≡◌, ℕ, ◌+◌, ◌≤◌, ◌<◌, ◌⊎◌, length, take, true, false, vec_len, IfOk, OnOk, IfErr, OnErr, IfSome, Err};
+ghost use Rattle.std.specs.Io.KnownBytes.{Appends, Keeps};
+ghost use Rattle.eevdf_bench.specs.Streams.{ReadsOn, HasBegun};
+
+use crate::bench_fault::BenchFault;
+use crate::watched::Watched;
+use std::alloc::Global;
+use std::io::{Read, Write};
+
+/// One byte more than a workload may have: enough to see that there are too many.
+const READ_LIMIT: usize = 16777217;
+
+/// Reads to the end, or to one byte past the limit of a workload.
+pub(crate) fn read_input<R: Read>(
+    alloc: Global,
+    reader: &mut Watched<R>,
+) -> Result<Vec<u8>, BenchFault>
+    requires { reader.old.failed ≡ false }
+    ensures bytes { IfOk result (λ input. IfSome (R.remaining reader.old.end)
+        (λ all. input.items ≡ take 16777217 all)) }
+    ensures failed { result ≡ Err BenchFault.Read → reader.new.failed ≡ true }
+    ensures kinds { IfErr result (λ f. (f ≡ BenchFault.Read) ⊎ (f ≡ BenchFault.Memory)) }
+{
+    let mut input = Vec::new(alloc);
+    while input.len() < READ_LIMIT {
+        let count = read_piece(reader, &mut input)?;
+        if count == 0 {
+            break;
+        }
+    }
+    Ok(input)
+}
+
+/// Reads one piece onto the end of the input, and says how long it is.
+fn read_piece<R: Read>(reader: &mut Watched<R>, input: &mut Vec<u8>) -> Result<usize, BenchFault>
+    requires room { vec_len input.old < READ_LIMIT }
+    requires whole { reader.old.failed ≡ false }
+    ensures piece { IfOk result (ReadsOn (R.remaining reader.old.end) (R.remaining reader.new.end)
+        input.old.items input.new.items) }
+    ensures limit { vec_len input.new ≤ READ_LIMIT }
+    ensures grown { IfOk result (λ n. vec_len input.new ≡ vec_len input.old + n) }
+    ensures whole { OnOk result (reader.new.failed ≡ false) }
+    ensures failed { result ≡ Err BenchFault.Read → reader.new.failed ≡ true }
+    ensures kinds { IfErr result (λ f. (f ≡ BenchFault.Read) ⊎ (f ≡ BenchFault.Memory)) }
+{
+    let mut buffer = [0u8; 8192];
+    let room = (READ_LIMIT - input.len()).min(buffer.len());
+    let count = match reader.read(&mut buffer[..room]) {
+        Ok(count) => count,
+        Err(_) => return Err(BenchFault::Read),
+    };
+    match input.extend_from_slice(&buffer[..count]) {
+        Ok(()) => Ok(count),
+        Err(_) => Err(BenchFault::Memory),
+    }
+}
+
+/// Writes a whole text and flushes. After a failure a beginning of the text is written.
+pub(crate) fn write_text<W: Write>(writer: &mut Watched<W>, text: &[u8]) -> Result<(), BenchFault>
+    requires { writer.old.failed ≡ false }
+    ensures written { OnOk result (Appends (W.contents writer.old.end) (W.contents writer.new.end) text.now) }
+    ensures begun { OnErr result (HasBegun (W.contents writer.old.end) (W.contents writer.new.end) text.now) }
+    ensures failed { OnErr result (writer.new.failed ≡ true) }
+    ensures kind { IfErr result (λ f. f ≡ BenchFault.Write) }
+{
+    let mut done = 0;
+    while done < text.len() {
+        let taken = write_piece(writer, &text[done..])?;
+        done += taken;
+    }
+    match writer.flush() {
+        Ok(()) => Ok(()),
+        Err(_) => Err(BenchFault::Write),
+    }
+}
+
+/// Writes the front of a text, and says how long that is.
+fn write_piece<W: Write>(writer: &mut Watched<W>, text: &[u8]) -> Result<usize, BenchFault>
+    requires some { 0 < length text.now }
+    requires whole { writer.old.failed ≡ false }
+    ensures written { IfOk result (λ n. Appends (W.contents writer.old.end) (W.contents writer.new.end) (take n text.now)) }
+    ensures some { IfOk result (λ n. 0 < n) }
+    ensures within { IfOk result (λ n. n ≤ length text.now) }
+    ensures whole { OnOk result (writer.new.failed ≡ false) }
+    ensures kept { OnErr result (Keeps (W.contents writer.old.end) (W.contents writer.new.end)) }
+    ensures failed { OnErr result (writer.new.failed ≡ true) }
+    ensures kind { IfErr result (λ f. f ≡ BenchFault.Write) }
+{
+    match writer.write(text) {
+        Ok(0) => Err(BenchFault::Write),
+        Ok(taken) => Ok(taken),
+        Err(_) => Err(BenchFault::Write),
+    }
+}

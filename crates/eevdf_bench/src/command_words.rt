@@ -1,0 +1,114 @@
+//! The command for which the program's words ask.
+
+ghost use Rattle.std.specs.Prelude.{◌≡◌, IfOk, Err, Some, map, option_and_then, true, false, is_some};
+ghost use Rattle.clap.specs.Words.{app_of, kind_of, subcommand_name_of};
+ghost use Rattle.clap.specs.declared.builder.command.Command.TheViews.{out-Command as fields_of};
+ghost use Rattle.eevdf_bench.specs.Command as spec;
+ghost use Rattle.eevdf_bench.specs.declared.command_words.WordFault.TheVariants.{Memory};
+
+use clap::error::ErrorKind;
+use clap::{ArgMatches, Error};
+use std::alloc::{AllocError, Global};
+use std::convert::AsStr;
+use thiserror::Error;
+
+/// What the program is asked to do with a workload.
+#[derive(Clone, Copy, PartialEq, Eq, Debug)]
+pub enum Kind {
+    /// It applies the script's deeds in one thread.
+    Solo,
+}
+
+/// What the program's words ask for.
+#[derive(Clone, Copy, PartialEq, Eq, Debug)]
+pub struct Command {
+    pub kind: Kind,
+    /// Whether the order of commits is to be printed too.
+    pub history: bool,
+}
+
+/// Why the words gave no command.
+#[derive(Clone, Copy, PartialEq, Eq, Debug, Error)]
+pub enum WordFault {
+    /// They are no command line of the program, as a call for help isn't.
+    #[error("the words are no command line of this program")]
+    Words,
+    /// There was no memory.
+    #[error("out of memory")]
+    Memory,
+}
+
+impl From<Error> for WordFault {
+    ghost from_gives = { λ e f. f ≡ spec.word_fault (kind_of e) };
+
+    fn from(error: Error) -> WordFault {
+        match error.kind() {
+            ErrorKind::OutOfMemory => WordFault::Memory,
+            _ => WordFault::Words,
+        }
+    }
+}
+
+impl From<AllocError> for WordFault {
+    ghost from_gives = { λ _ f. f ≡ Memory };
+
+    fn from(_error: AllocError) -> WordFault {
+        WordFault::Memory
+    }
+}
+
+/// Reads the program's words, of which the first is the program's name. Memory is answered only
+/// where it ran out, and may come in place of any other answer.
+pub fn command_of<S: AsStr>(alloc: Global, words: &[S]) -> Result<Command, WordFault>
+    ensures ok { IfOk result (spec.IsAskedBy (map S.text words.now)) }
+    ensures refused { result ≡ Err WordFault.Words → spec.is_taken (map S.text words.now) ≡ false }
+{
+    let matches = matches_of(alloc, words)?;
+    let kind = kind_met(&matches).ok_or(WordFault::Words)?;
+    Ok(Command {
+        kind,
+        history: false,
+    })
+}
+
+fn matches_of<'a, S: AsStr>(alloc: Global, words: &'a [S]) -> Result<ArgMatches<'a>, WordFault>
+    ensures ok { IfOk result (λ m. (spec.is_taken (map S.text words.entry.now) ≡ true)
+        × (is_some (option_and_then spec.kind_named (subcommand_name_of m)) ≡ true)
+        × (spec.subcommand_named (map S.text words.entry.now) ≡ subcommand_name_of m)) }
+    ensures refused { result ≡ Err WordFault.Words
+        → spec.is_taken (map S.text words.entry.now) ≡ false }
+{
+    let matches = program(alloc)?.try_get_matches_from(words)?;
+    Ok(matches)
+}
+
+// The program as `clap` knows it: its subcommands, and no flag.
+fn program<'a>(alloc: Global) -> Result<clap::Command<'a>, AllocError>
+    ensures model { IfOk result (λ c. app_of c ≡ spec.program) }
+    ensures local { IfOk result (λ c. (fields_of c).has_globals ≡ false) }
+{
+    clap::Command::new(alloc, "eevdf")
+        .subcommand_required(true)
+        .disable_help_flag(true)
+        .disable_help_subcommand(true)
+        .subcommand(clap::Command::new(alloc, "solo"))
+}
+
+// The kind that the subcommand names.
+fn kind_met(matches: &ArgMatches<'_>) -> Option<Kind>
+    ensures { result ≡ option_and_then spec.kind_named (subcommand_name_of matches.now) }
+{
+    matches.subcommand_name().and_then(kind_named)
+}
+
+fn kind_named(word: &str) -> Option<Kind>
+    ensures { result ≡ spec.kind_named word.now }
+{
+    match word {
+        "solo" => Some(Kind::Solo),
+        _ => None,
+    }
+}
+
+#[cfg(test)]
+mod tests;

@@ -1,0 +1,223 @@
+ghost use Rattle.std.specs.Prelude.{◌≡◌, ◌++◌, OnOk, IfOk};
+ghost use Rattle.eevdf_bench.specs.Text.{task_text};
+ghost use Rattle.eevdf_bench.specs.TextFault.{program_key, operation_key, key_text, setup_fault_text, load_fault_text, bench_fault_text, fault_line, setup_status, load_status};
+ghost use Rattle.eevdf_bench.specs.TextFault as texts;
+
+use crate::bench_fault::BenchFault;
+use crate::load_fault::{Key, LoadFault};
+use crate::text_numbers::{push_number, push_task};
+use eevdf_ops::SetupFault;
+use std::alloc::{AllocError, Global};
+
+/// The line that is printed for a fault, with its end.
+pub fn fault_text(alloc: Global, fault: &BenchFault) -> Result<Vec<u8>, AllocError>
+    ensures { IfOk result (λ text. text.items ≡ fault_line fault.now) }
+{
+    let mut text = Vec::new(alloc);
+    text.extend_from_slice(b"fault: ")?;
+    push_bench_fault(&mut text, *fault)?;
+    text.extend_from_slice(b"\n")?;
+    Ok(text)
+}
+
+/// The program's status after a fault: 1 where the workload is refused, 3 where memory, reading or writing
+/// failed.
+pub fn status_of(fault: &BenchFault) -> u8
+    ensures { result ≡ texts.status_of fault.now }
+{
+    match fault {
+        BenchFault::Load(LoadFault::Memory) => 3,
+        BenchFault::Load(LoadFault::Setup(SetupFault::Memory)) => 3,
+        BenchFault::Load(_) => 1,
+        BenchFault::Read | BenchFault::Write | BenchFault::Memory => 3,
+    }
+}
+
+fn push_bench_fault(text: &mut Vec<u8>, fault: BenchFault) -> Result<(), AllocError>
+    ensures { OnOk result (text.new.items ≡ text.old.items ++ bench_fault_text fault) }
+{
+    match fault {
+        BenchFault::Load(fault) => push_load_fault(text, fault),
+        BenchFault::Read => text.extend_from_slice(b"reading"),
+        BenchFault::Write => text.extend_from_slice(b"writing"),
+        BenchFault::Memory => text.extend_from_slice(b"memory"),
+    }
+}
+
+fn push_load_fault(text: &mut Vec<u8>, fault: LoadFault) -> Result<(), AllocError>
+    ensures { OnOk result (text.new.items ≡ text.old.items ++ load_fault_text fault) }
+{
+    match fault {
+        LoadFault::TooLarge => text.extend_from_slice(b"workload longer than 16777216 bytes"),
+        LoadFault::NotToml => text.extend_from_slice(b"not a TOML document"),
+        LoadFault::Missing { key } => {
+            text.extend_from_slice(b"missing ")?;
+            push_key(text, key)
+        }
+        LoadFault::BadValue { key } => {
+            text.extend_from_slice(b"bad value at ")?;
+            push_key(text, key)
+        }
+        LoadFault::Setup(fault) => push_setup_fault(text, fault),
+        LoadFault::Memory => text.extend_from_slice(b"memory"),
+    }
+}
+
+fn push_setup_fault(text: &mut Vec<u8>, fault: SetupFault) -> Result<(), AllocError>
+    ensures { OnOk result (text.new.items ≡ text.old.items ++ setup_fault_text fault) }
+{
+    match fault {
+        SetupFault::BadCpus => text.extend_from_slice(b"number of cpus"),
+        SetupFault::BadTasks => text.extend_from_slice(b"number of tasks"),
+        SetupFault::BadHome { task } => {
+            text.extend_from_slice(b"home of ")?;
+            push_task(text, task as u64)
+        }
+        SetupFault::BadStart { task } => {
+            text.extend_from_slice(b"start of ")?;
+            push_task(text, task as u64)
+        }
+        SetupFault::TooLong { cpu } => {
+            push_program_key(text, cpu)?;
+            text.extend_from_slice(b" too long")
+        }
+        SetupFault::Memory => text.extend_from_slice(b"memory"),
+    }
+}
+
+fn push_program_key(text: &mut Vec<u8>, cpu: usize) -> Result<(), AllocError>
+    ensures { OnOk result (text.new.items ≡ text.old.items ++ program_key cpu) }
+{
+    text.extend_from_slice(b"program ")?;
+    push_number(text, cpu as u64)
+}
+
+fn push_operation_key(text: &mut Vec<u8>, cpu: usize, place: usize) -> Result<(), AllocError>
+    ensures { OnOk result (text.new.items ≡ text.old.items ++ operation_key cpu place) }
+{
+    push_program_key(text, cpu)?;
+    text.extend_from_slice(b" at ")?;
+    push_number(text, place as u64)
+}
+
+/// Writes a task's key with a word after it.
+fn push_task_word(text: &mut Vec<u8>, task: usize, word: &[u8]) -> Result<(), AllocError>
+    ensures { OnOk result (text.new.items ≡ text.old.items ++ (task_text task ++ word.now)) }
+{
+    push_task(text, task as u64)?;
+    text.extend_from_slice(word)
+}
+
+fn push_key(text: &mut Vec<u8>, key: Key) -> Result<(), AllocError>
+    ensures { OnOk result (text.new.items ≡ text.old.items ++ key_text key) }
+{
+    match key {
+        Key::Version => text.extend_from_slice(b"version"),
+        Key::Tasks => text.extend_from_slice(b"task"),
+        Key::Task(task) => push_task(text, task as u64),
+        Key::Home(task) => push_task_word(text, task, b" home"),
+        Key::Nice(task) => push_task_word(text, task, b" nice"),
+        Key::Slice(task) => push_task_word(text, task, b" slice"),
+        Key::Start(task) => push_task_word(text, task, b" start"),
+        Key::Asleep(task) => push_task_word(text, task, b" asleep"),
+        Key::Programs => text.extend_from_slice(b"program"),
+        Key::Program(cpu) => push_program_key(text, cpu),
+        Key::Op(cpu, place) => push_operation_key(text, cpu, place),
+        Key::Scripts => text.extend_from_slice(b"script"),
+        Key::Script(place) => {
+            text.extend_from_slice(b"script at ")?;
+            push_number(text, place as u64)
+        }
+    }
+}
+
+#[cfg(test)]
+mod tests {
+    use super::*;
+    use std::test::Fail;
+
+    #[test]
+    fn each_fault_has_its_line_and_status(rt: HostRuntime) -> Result<(), Fail> {
+        let key = Key::Nice(0);
+        let bad = Key::Op(0, 12);
+        let cases = [
+            (
+                BenchFault::Load(LoadFault::TooLarge),
+                1,
+                "fault: workload longer than 16777216 bytes\n",
+            ),
+            (
+                BenchFault::Load(LoadFault::NotToml),
+                1,
+                "fault: not a TOML document\n",
+            ),
+            (
+                BenchFault::Load(LoadFault::Missing { key: Key::Version }),
+                1,
+                "fault: missing version\n",
+            ),
+            (
+                BenchFault::Load(LoadFault::Missing { key: Key::Scripts }),
+                1,
+                "fault: missing script\n",
+            ),
+            (
+                BenchFault::Load(LoadFault::BadValue { key }),
+                1,
+                "fault: bad value at task 0 nice\n",
+            ),
+            (
+                BenchFault::Load(LoadFault::BadValue { key: bad }),
+                1,
+                "fault: bad value at program 0 at 12\n",
+            ),
+            (
+                BenchFault::Load(LoadFault::BadValue {
+                    key: Key::Script(3),
+                }),
+                1,
+                "fault: bad value at script at 3\n",
+            ),
+            (
+                BenchFault::Load(LoadFault::Setup(SetupFault::BadCpus)),
+                1,
+                "fault: number of cpus\n",
+            ),
+            (
+                BenchFault::Load(LoadFault::Setup(SetupFault::BadTasks)),
+                1,
+                "fault: number of tasks\n",
+            ),
+            (
+                BenchFault::Load(LoadFault::Setup(SetupFault::BadHome { task: 7 })),
+                1,
+                "fault: home of task 7\n",
+            ),
+            (
+                BenchFault::Load(LoadFault::Setup(SetupFault::BadStart { task: 0 })),
+                1,
+                "fault: start of task 0\n",
+            ),
+            (
+                BenchFault::Load(LoadFault::Setup(SetupFault::TooLong { cpu: 1 })),
+                1,
+                "fault: program 1 too long\n",
+            ),
+            (
+                BenchFault::Load(LoadFault::Setup(SetupFault::Memory)),
+                3,
+                "fault: memory\n",
+            ),
+            (BenchFault::Load(LoadFault::Memory), 3, "fault: memory\n"),
+            (BenchFault::Read, 3, "fault: reading\n"),
+            (BenchFault::Write, 3, "fault: writing\n"),
+            (BenchFault::Memory, 3, "fault: memory\n"),
+        ];
+        for (fault, status, line) in cases {
+            let text = fault_text(rt.alloc(), &fault)?;
+            assert!(rt; text.as_slice() == line.as_bytes(), "{line}");
+            assert_eq!(rt; status_of(&fault), status, "{line}");
+        }
+        Ok(())
+    }
+}

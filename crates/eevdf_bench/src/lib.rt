@@ -1,0 +1,31 @@
+//! The workbench: it reads a workload, runs it on the scheduler and reports each CPU's schedule.
+#![tactic(auto)]
+
+mod bench_engine;
+mod bench_fault;
+mod byte_streams;
+mod command_words;
+mod fault_texts;
+mod load_fault;
+mod loaded_workload;
+mod reading;
+pub mod reading_laws;
+mod solo_run;
+mod text_deeds;
+mod text_lines;
+mod text_numbers;
+mod text_queue;
+mod text_report;
+mod text_tasks;
+mod watched;
+
+pub use bench_engine::engine;
+pub use bench_fault::BenchFault;
+pub use command_words::{Command, Kind, WordFault, command_of};
+pub use fault_texts::{fault_text, status_of};
+pub use load_fault::{Key, LoadFault};
+pub use loaded_workload::Workload;
+pub use reading::read_workload;
+pub use solo_run::solo_text;
+pub use text_report::report;
+pub use watched::Watched;

@@ -1,0 +1,64 @@
+ghost use Rattle.std.specs.Prelude.{◌≡◌, map};
+ghost use Rattle.eevdf_bench.specs.Meaning.{operation_at, program_at, programs};
+ghost use Rattle.eevdf_bench.specs.MeaningSteps.{each, Reads};
+ghost use Rattle.toml.specs.View.{items_view, table_view, view};
+
+use crate::load_fault::{Key, LoadFault};
+use crate::reading::document_keys::{array_at, member};
+use crate::reading::operation_text::operation;
+use eevdf_ops::Op;
+use std::alloc::Global;
+use toml::{Table, Value};
+
+/// The programs, one for each CPU.
+#[tactic(auto, unfolding(crate::specs::Meaning::programs))]
+pub(crate) fn programs(alloc: Global, document: &Table) -> Result<Vec<Vec<Op>>, LoadFault>
+    ensures { Reads (λ ps. map (λ p. p.items) ps.items) (programs (table_view document.now)) result }
+{
+    match member(document, "program") {
+        Some(value) => programs_of(alloc, array_at(value, Key::Programs)?),
+        None => Err(LoadFault::Missing { key: Key::Programs }),
+    }
+}
+
+fn programs_of(alloc: Global, members: &[Value]) -> Result<Vec<Vec<Op>>, LoadFault>
+    ensures { Reads (λ ps. map (λ p. p.items) ps.items) (each program_at 0 (items_view members.now)) result }
+{
+    let mut programs = Vec::new(alloc);
+    for (cpu, member) in members.iter().enumerate() {
+        programs.push(program_at(alloc, cpu, member)?)?;
+    }
+    Ok(programs)
+}
+
+// The program of a CPU.
+#[tactic(auto, unfolding(crate::specs::Meaning::program_at))]
+fn program_at(alloc: Global, cpu: usize, value: &Value) -> Result<Vec<Op>, LoadFault>
+    ensures { Reads (λ p. p.items) (program_at cpu (view value.now)) result }
+{
+    let members = array_at(value, Key::Program(cpu))?;
+    operations(alloc, cpu, members)
+}
+
+fn operations(alloc: Global, cpu: usize, members: &[Value]) -> Result<Vec<Op>, LoadFault>
+    ensures { Reads (λ p. p.items) (each (operation_at cpu) 0 (items_view members.now)) result }
+{
+    let mut program = Vec::new(alloc);
+    for (place, member) in members.iter().enumerate() {
+        program.push(operation_at(cpu, place, member)?)?;
+    }
+    Ok(program)
+}
+
+#[tactic(auto, unfolding(crate::specs::Meaning::operation_at))]
+fn operation_at(cpu: usize, place: usize, value: &Value) -> Result<Op, LoadFault>
+    ensures { result ≡ operation_at cpu place (view value.now) }
+{
+    let found = match value.as_str() {
+        Some(text) => operation(text),
+        None => None,
+    };
+    found.ok_or(LoadFault::BadValue {
+        key: Key::Op(cpu, place),
+    })
+}

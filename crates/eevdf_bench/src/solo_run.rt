@@ -1,0 +1,27 @@
+//! Running a workload's script in one thread.
+
+ghost use Rattle.eevdf_bench.specs.Runs.{Makes, solo_report};
+
+use crate::bench_fault::BenchFault;
+use crate::load_fault::{Key, LoadFault};
+use crate::loaded_workload::Workload;
+use crate::text_report::report;
+use eevdf_ops::one_thread::solo;
+use std::alloc::Global;
+
+/// The report of the workload's script, done deed by deed in one thread. A workload without a script is refused
+/// before anything else is done.
+pub fn solo_text(alloc: Global, workload: &Workload, history: bool) -> Result<Vec<u8>, BenchFault>
+    ensures { Makes (solo_report workload.now history) result }
+{
+    let Some(deeds) = workload.script() else {
+        return Err(BenchFault::Load(LoadFault::Missing { key: Key::Scripts }));
+    };
+    let Ok(outcome) = solo(alloc, workload.setup(), deeds) else {
+        return Err(BenchFault::Memory);
+    };
+    match report(alloc, &outcome, history) {
+        Ok(text) => Ok(text),
+        Err(_) => Err(BenchFault::Memory),
+    }
+}
