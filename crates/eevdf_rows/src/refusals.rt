@@ -1,0 +1,115 @@
+//! Workloads and words that are refused.
+
+use crate::table::{Row, check};
+use eevdf_bench::{Command, Kind, WordFault, command_of};
+use std::test::Fail;
+
+const SOLO: Command = Command {
+    kind: Kind::Solo,
+    history: false,
+};
+
+const ROWS: [Row; 12] = [
+    Row {
+        name: "nothing at all",
+        command: SOLO,
+        workload: b"",
+        printed: "fault: missing version\n",
+        status: 1,
+    },
+    Row {
+        name: "a byte that is no text",
+        command: SOLO,
+        workload: b"\xff",
+        printed: "fault: not a TOML document\n",
+        status: 1,
+    },
+    Row {
+        name: "a nice level past the lightest",
+        command: SOLO,
+        workload: b"version = 1\nprogram = [[]]\nscript = []\n[[task]]\nnice = 20\n",
+        printed: "fault: bad value at task 0 nice\n",
+        status: 1,
+    },
+    Row {
+        name: "a home without a CPU",
+        command: SOLO,
+        workload: b"version = 1\nprogram = [[]]\nscript = []\n[[task]]\nhome = 1\n",
+        printed: "fault: home of task 0\n",
+        status: 1,
+    },
+    Row {
+        name: "a number with a leading zero",
+        command: SOLO,
+        workload: b"version = 1\nprogram = [[\"tick 01\"]]\nscript = []\n[[task]]\n",
+        printed: "fault: bad value at program 0 at 0\n",
+        status: 1,
+    },
+    Row {
+        name: "no script",
+        command: SOLO,
+        workload: b"version = 1\nprogram = [[]]\n[[task]]\n",
+        printed: "fault: missing script\n",
+        status: 1,
+    },
+    Row {
+        name: "a start from which the deadline leaves the range",
+        command: SOLO,
+        workload: b"version = 1\nprogram = [[]]\nscript = []\n[[task]]\nstart = 1152921504606746977\nslice = 100000\n",
+        printed: "fault: start of task 0\n",
+        status: 1,
+    },
+    Row {
+        name: "another version",
+        command: SOLO,
+        workload: b"version = 3\n",
+        printed: "fault: bad value at version\n",
+        status: 1,
+    },
+    Row {
+        name: "two faults, of which the tasks' comes first",
+        command: SOLO,
+        workload: b"version = 1\nprogram = 5\n[[task]]\nslice = 1\n",
+        printed: "fault: bad value at task 0 slice\n",
+        status: 1,
+    },
+    Row {
+        name: "a deed of a CPU that the setup hasn't",
+        command: SOLO,
+        workload: b"version = 1\nprogram = [[]]\nscript = [\"0 pick\", \"1 pick\"]\n[[task]]\n",
+        printed: "fault: bad value at script at 1\n",
+        status: 1,
+    },
+    Row {
+        name: "a tick of no time",
+        command: SOLO,
+        workload: b"version = 1\nprogram = [[]]\nscript = [\"0 tick 0\"]\n[[task]]\n",
+        printed: "fault: bad value at script at 0\n",
+        status: 1,
+    },
+    Row {
+        name: "two programs, for now",
+        command: SOLO,
+        workload: b"version = 1\nprogram = [[], []]\nscript = []\n[[task]]\n",
+        printed: "fault: number of cpus\n",
+        status: 1,
+    },
+];
+
+#[test]
+fn workloads_get_their_fault_lines(rt: HostRuntime) -> Result<(), Fail> {
+    for row in &ROWS {
+        check(&rt, rt.alloc(), row)?;
+    }
+    Ok(())
+}
+
+#[test]
+fn only_the_known_command_is_taken(rt: HostRuntime) {
+    let taken = ["eevdf", "solo"];
+    assert!(rt; command_of(rt.alloc(), taken.as_slice()) == Ok(SOLO));
+    let alone = ["eevdf"];
+    assert!(rt; command_of(rt.alloc(), alone.as_slice()) == Err(WordFault::Words));
+    let other = ["eevdf", "stop"];
+    assert!(rt; command_of(rt.alloc(), other.as_slice()) == Err(WordFault::Words));
+}

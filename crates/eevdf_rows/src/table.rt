@@ -1,0 +1,37 @@
+//! One row of a table, and how it is run.
+
+use eevdf_bench::{Command, Watched, engine, fault_text, status_of};
+use std::alloc::{AllocError, Global};
+use std::process::Abort;
+
+/// A workload, and what the program prints for it and ends with.
+#[derive(Clone, Copy)]
+pub struct Row {
+    pub name: &'static str,
+    pub command: Command,
+    pub workload: &'static [u8],
+    pub printed: &'static str,
+    pub status: u8,
+}
+
+/// Runs the engine over memory, and compares what it comes to with the row.
+pub fn check(rt: &impl Abort, alloc: Global, row: &Row) -> Result<(), AllocError> {
+    let (printed, status) = run(alloc, row.workload, row.command)?;
+    assert!(rt;
+        printed.as_slice() == row.printed.as_bytes(),
+        "printed: {}",
+        row.name
+    );
+    assert!(rt; status == row.status, "status: {}", row.name);
+    Ok(())
+}
+
+/// What is printed for a workload, and the exit status.
+fn run(alloc: Global, workload: &[u8], command: Command) -> Result<(Vec<u8>, u8), AllocError> {
+    let mut reader = Watched::new(workload);
+    let mut writer = Watched::new(Vec::new(alloc));
+    match engine(alloc, &mut reader, &mut writer, command) {
+        Ok(()) => Ok((writer.into_inner(), 0)),
+        Err(fault) => Ok((fault_text(alloc, &fault)?, status_of(&fault))),
+    }
+}
