@@ -8,6 +8,7 @@
 mod charging;
 mod nice_level;
 mod placement;
+mod quotient;
 mod time_slice;
 mod time_step;
 mod weight_table;
@@ -15,6 +16,7 @@ mod weight_table;
 pub use charging::{charge, lag_limit};
 pub use nice_level::Nice;
 pub use placement::{BOUND, is_in_range, placed};
+pub use quotient::floor_quotient;
 pub use time_slice::Slice;
 pub use time_step::Ns;
 pub use weight_table::weight;

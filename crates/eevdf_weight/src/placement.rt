@@ -2,6 +2,8 @@ ghost use Rattle.std.specs.Prelude.{◌≡◌, ◌≤◌, ◌^◌, ◌+◌, ◌*
 ghost use Rattle.eevdf_weight.specs.Limits as limits;
 ghost use Rattle.eevdf_weight.specs.Placement.{floor_div, placement_of, within_range};
 
+use crate::quotient::floor_quotient;
+
 /// The greatest distance from 0 of a virtual time that a task or a queue may have.
 pub const BOUND: i64 = 1 << 60;
 
@@ -55,7 +57,7 @@ fn stretched(lag: i64, total: u64, w: u64) -> i128
     ensures value { result ≡ floor_div (lag *ℤ pos (total + w)) total }
     ensures small { unsigned_abs result ≤ 2 ^ 100 }
 {
-    product(lag, total + w).div_euclid(i128::from(total))
+    floor_quotient(product(lag, total + w), total)
 }
 
 fn product(lag: i64, weight: u64) -> i128
