@@ -1,51 +1,98 @@
--- What is asked of the map of sleeping tasks, answered from a list of them.
-use Rattle.std.proofs.Common.{◌≡◌, ℕ, ◌<◌, Bool, true, false, cond, eqb, List, [], ◌∷◌, Option, Some, None, refl, sym, subst, ◌∙◌, arith}
-use Rattle.std.specs.Option.{option_map}
+-- What is asked of the map of sleeping tasks, answered from their slots.
+use Rattle.std.proofs.Common.{◌≡◌, ℕ, zero, suc, ◌+◌, ◌<◌, Bool, true, false, cond, eqb, List, [], ◌∷◌, length, get_or, Option, Some, None, refl, sym, subst, ap, ◌∙◌, arith}
+use Rattle.std.specs.Prelude.{is_some, Box}
+use Rattle.std.specs.Ordering.{nat_cmp, eq_by_cmp}
 use Rattle.std.specs.Cmp.{nat_cmp_total}
-use Rattle.std.specs.FinMap.{empty, insert, get, get-from_entries}
+use Rattle.std.specs.FinMap.{FinMap, find, empty, insert, remove, get, nat_cmp-IsAntisymmetric, get-from_entries, get-insert, get-remove, get-empty, same_map}
 use Rattle.std.proofs.lemmas.Bool.Decides.{nat_tests}
-use Rattle.eevdf_queue.specs.declared.task.Task.{Task}
 use Rattle.eevdf_queue.specs.State.{Sleeper}
 use Rattle.eevdf_queue.specs.Lag.{is_lag}
 use Rattle.eevdf_queue.specs.Kept.{AreLimited}
-use Rattle.eevdf_queue.specs.TaskLists.{find_task, keyed, sleeper_in, asleep_in, AreAsleep}
-use Rattle.eevdf_queue.proofs.ListMaps.{find-keyed}
+use Rattle.eevdf_queue.specs.TreeShape.{Tree}
+use Rattle.eevdf_queue.specs.Slots.{sleeper_of_node, sleeper_in_slot, sleepers_from, asleep_in, slot_at, IsSlot, AreSlots, IsWith}
 
-pub asleep_in-none : asleep_in [] ≡ empty
-unfolding asleep_in
-asleep_in-none = refl
+abbrev Slot : Type 0 → Type 0
+Slot Z = Option (Box Tree Z)
 
-pub asleep_in-push : (t : Task) (ts : List Task) → asleep_in (t ∷ ts) ≡ insert (asleep_in ts) t.number (sleeper_in t)
-unfolding asleep_in
-asleep_in-push t ts = refl
+module _ {Z : Type 0} where
+  -- no slot from a number on is of a lower number
+  find-below : (ss : List (Slot Z)) (n q : ℕ) → q < n → find nat_cmp q (sleepers_from n ss) ≡ None
+  find-below [] n q h = refl
+  find-below (None ∷ ss) n q h = find-below ss (suc n) q (omega arith)
+  find-below (Some b ∷ ss) n q h =
+      ap (λ c. cond c (Some (sleeper_of_node b.value)) (find nat_cmp q (sleepers_from (suc n) ss))) (let e : eq_by_cmp nat_cmp q n ≡ false = grind (arith, nat_tests) in e)
+      ∙ find-below ss (suc n) q (omega arith)
 
-pub get-asleep_in : (ts : List Task) (q : ℕ) → get (asleep_in ts) q ≡ option_map sleeper_in (find_task q ts)
-unfolding asleep_in
-get-asleep_in ts q = get-from_entries nat_cmp_total (keyed sleeper_in ts) q ∙ find-keyed sleeper_in ts q
+  find-slots : (ss : List (Slot Z)) (n k : ℕ) → find nat_cmp (n + k) (sleepers_from n ss) ≡ sleeper_in_slot (get_or ss k None)
+  find-slots [] n k = refl
+  find-slots (None ∷ ss) n zero = find-below ss (suc n) (n + 0) (omega arith)
+  find-slots (None ∷ ss) n (suc k) = ap (λ (x : ℕ). find nat_cmp x (sleepers_from (suc n) ss)) (let e : n + suc k ≡ suc n + k = omega arith in e) ∙ find-slots ss (suc n) k
+  find-slots (Some b ∷ ss) n zero =
+      ap (λ c. cond c (Some (sleeper_of_node b.value)) (find nat_cmp (n + 0) (sleepers_from (suc n) ss))) (let e : eq_by_cmp nat_cmp (n + 0) n ≡ true = grind (arith, nat_tests) in e)
+  find-slots (Some b ∷ ss) n (suc k) =
+      ap (λ c. cond c (Some (sleeper_of_node b.value)) (find nat_cmp (n + suc k) (sleepers_from (suc n) ss))) (let e : eq_by_cmp nat_cmp (n + suc k) n ≡ false = grind (arith, nat_tests) in e)
+      ∙ ap (λ (x : ℕ). find nat_cmp x (sleepers_from (suc n) ss)) (let e : n + suc k ≡ suc n + k = omega arith in e)
+      ∙ find-slots ss (suc n) k
 
-absent : (o : Option Task) → option_map sleeper_in o ≡ None → o ≡ None
-absent None h = refl
-absent (Some t) h = cc
+  pub get-asleep_in : (ss : List (Slot Z)) (q : ℕ) → get (asleep_in ss) q ≡ sleeper_in_slot (slot_at ss q)
+  unfolding asleep_in
+  get-asleep_in ss q =
+      get-from_entries nat_cmp_total (sleepers_from 0 ss) q
+      ∙ ap (λ (x : ℕ). find nat_cmp x (sleepers_from 0 ss)) (let e : q ≡ 0 + q = omega arith in e)
+      ∙ find-slots ss 0 q
 
-pub asleep_with : (t : Task) (ts : List Task) → get (asleep_in ts) t.number ≡ None → t.number < 1024 → is_lag t.lag t.entry.nice t.entry.slice ≡ true → AreAsleep ts → AreAsleep (t ∷ ts)
-asleep_with t ts h n r k = (absent (find_task t.number ts) (sym (get-asleep_in ts t.number) ∙ h), n, r, k)
+  limited_by : (q : ℕ) (o : Slot Z) (s : Sleeper) → IsSlot q o → sleeper_in_slot o ≡ Some s → (q < 1024) × (is_lag s.lag s.nice s.slice ≡ true)
+  limited_by q None s h e = cc
+  limited_by q (Some b) s h e =
+      let is : sleeper_of_node b.value ≡ s = cc in
+      (h.below, subst (λ (x : Sleeper). is_lag x.lag x.nice x.slice ≡ true) is h.lone.limited)
 
-abbrev Limited : ℕ → Sleeper → Type 0
-Limited q s = (q < 1024) × (is_lag s.lag s.nice s.slice ≡ true)
+  pub limited_in : (ss : List (Slot Z)) → AreSlots ss → AreLimited (asleep_in ss)
+  limited_in ss h = λ q s e. limited_by q (slot_at ss q) s (h q) (sym (get-asleep_in ss q) ∙ e)
 
-found : (q : ℕ) (s : Sleeper) (t : Task) (b : Bool) (o : Option Task) → eqb t.number q ≡ b → t.number < 1024 → is_lag t.lag t.entry.nice t.entry.slice ≡ true
-    → (option_map sleeper_in o ≡ Some s → Limited q s) → option_map sleeper_in (cond b (Some t) o) ≡ Some s → Limited q s
-found q s t true o e n r rest h =
-    let same : t.number ≡ q = grind (arith, nat_tests) in
-    let is : sleeper_in t ≡ s = cc in
-    (subst (λ (x : ℕ). x < 1024) same n, subst (λ (x : Sleeper). is_lag x.lag x.nice x.slice ≡ true) is r)
-found q s t false o e n r rest h = rest h
+  pub asleep_in-none : (ss : List (Slot Z)) → ((q : ℕ) → slot_at ss q ≡ None) → asleep_in ss ≡ empty
+  asleep_in-none ss h =
+      same_map nat_cmp_total nat_cmp-IsAntisymmetric _ _ (λ x. get-asleep_in ss x ∙ ap sleeper_in_slot (h x) ∙ sym (get-empty nat_cmp x))
 
-limited_list : (ts : List Task) → AreAsleep ts → (q : ℕ) (s : Sleeper) → option_map sleeper_in (find_task q ts) ≡ Some s → Limited q s
-limited_list [] h q s e = cc
-limited_list (t ∷ ts) h q s e = found q s t (eqb t.number q) (find_task q ts) refl h.1 h.2 (limited_list ts h.3 q s) e
+  pub all_empty : (ss : List (Slot Z)) → ((i : ℕ) → i < length ss → slot_at ss i ≡ None) → (q : ℕ) → slot_at ss q ≡ None
+  all_empty [] h q = refl
+  all_empty (s ∷ ss) h zero = h 0 (omega arith)
+  all_empty (s ∷ ss) h (suc q) = all_empty ss (λ i l. h (suc i) (omega arith)) q
 
-pub limited_in : (ts : List Task) → AreAsleep ts → AreLimited (asleep_in ts)
-limited_in ts h = λ q s e. limited_list ts h q s (sym (get-asleep_in ts q) ∙ e)
+  -- a task in a slot
+  module _ (ss : List (Slot Z)) (m : FinMap nat_cmp Sleeper) (v : asleep_in ss ≡ m) where
+    pub sleeper_is : (q : ℕ) → get m q ≡ sleeper_in_slot (slot_at ss q)
+    sleeper_is q = ap (λ (z : FinMap nat_cmp Sleeper). get z q) (sym v) ∙ get-asleep_in ss q
 
-pub ruleset asleep_maps = (asleep_in-none, asleep_in-push, get-asleep_in, asleep_with, limited_in)
+    slot_is : (q : ℕ) (o : Slot Z) (b : Bool) → sleeper_in_slot (cond b o (slot_at ss q)) ≡ cond b (sleeper_in_slot o) (get m q)
+    slot_is q o true = refl
+    slot_is q o false = sym (sleeper_is q)
+
+    turned : (x q : ℕ) → eqb x q ≡ eq_by_cmp nat_cmp x q
+    turned x q = grind (arith, nat_tests)
+
+    get-changed : (rs : List (Slot Z)) (q x : ℕ) (o : Slot Z) → IsWith q o ss rs → get (asleep_in rs) x ≡ cond (eq_by_cmp nat_cmp x q) (sleeper_in_slot o) (get m x)
+    get-changed rs q x o w =
+        get-asleep_in rs x
+        ∙ ap sleeper_in_slot (w x)
+        ∙ slot_is x o (eqb x q)
+        ∙ ap (λ b. cond b (sleeper_in_slot o) (get m x)) (turned x q)
+
+    pub filled : (rs : List (Slot Z)) (q : ℕ) (b : Box Tree Z) → IsWith q (Some b) ss rs → asleep_in rs ≡ insert m q (sleeper_of_node b.value)
+    filled rs q b w =
+        same_map nat_cmp_total nat_cmp-IsAntisymmetric _ _ (λ x.
+        get-changed rs q x (Some b) w ∙ sym (get-insert nat_cmp_total m q (sleeper_of_node b.value) x))
+
+    pub emptied : (rs : List (Slot Z)) (q : ℕ) → IsWith q None ss rs → asleep_in rs ≡ remove m q
+    emptied rs q w =
+        same_map nat_cmp_total nat_cmp-IsAntisymmetric _ _ (λ x.
+        get-changed rs q x None w ∙ sym (get-remove nat_cmp_total m q x))
+
+    pub is_filled : (o : Slot Z) → is_some (sleeper_in_slot o) ≡ is_some o
+    is_filled None = refl
+    is_filled (Some b) = refl
+
+    pub contains_is : (q : ℕ) → is_some (get m q) ≡ is_some (slot_at ss q)
+    contains_is q = ap is_some (sleeper_is q) ∙ is_filled (slot_at ss q)
+
+pub ruleset asleep_maps = (asleep_in-none, get-asleep_in, is_filled, limited_in)

@@ -12,12 +12,15 @@ use Rattle.eevdf_weight.proofs.Weighing.{weight_of-greatest}
 use Rattle.eevdf_queue.specs.declared.run_entry.Entry.{Entry}
 use Rattle.eevdf_queue.specs.declared.task.Task.{Task}
 use Rattle.eevdf_queue.specs.Sums.{sum_weights, sum_moments}
-use Rattle.eevdf_queue.specs.Lag.{cut}
+use Rattle.eevdf_queue.specs.Lag.{cut, is_lag}
 use Rattle.eevdf_queue.specs.Moves.{is_entry_in_range}
 use Rattle.eevdf_queue.specs.TaskLists.{entries_of, AreRunnable}
 
 pub within : (v : ℤ) → is_in_range v ≡ true → unsigned_abs v ≤ 2 ^ 60
 within v h = grind (arith, nat_tests)
+
+pub scaled_near : (v : ℤ) (w : ℕ) → unsigned_abs v ≤ 2 ^ 63 → unsigned_abs (v *ℤ pos w) ≤ 2 ^ 63 * w
+scaled_near v w h = omega (arith, unsigned_abs-mul v (pos w), mul-le-mul_right w h)
 
 pub scaled_small : (v : ℤ) (w : ℕ) → is_in_range v ≡ true → unsigned_abs (v *ℤ pos w) ≤ 2 ^ 60 * w
 scaled_small v w h =
@@ -37,6 +40,13 @@ added_small a b m n h k = omega (arith, ints)
 
 pub range_v : (e : Entry) → is_entry_in_range e ≡ true → is_in_range e.v ≡ true
 range_v e h = grind (arith, nat_tests)
+
+pub range_d : (e : Entry) → is_entry_in_range e ≡ true → is_in_range e.d ≡ true
+range_d e h = grind (arith, nat_tests)
+
+-- another deadline in range
+pub range_with : (e : Entry) (d : ℤ) → is_entry_in_range e ≡ true → is_in_range d ≡ true → is_entry_in_range (record e { d = d }) ≡ true
+range_with e d h k = grind (arith, nat_tests)
 
 pub sum_moments_small : (ts : List Task) → AreRunnable ts → unsigned_abs (sum_moments (entries_of ts)) ≤ 2 ^ 60 * sum_weights (entries_of ts)
 sum_moments_small [] h = omega (arith, ints)
@@ -64,3 +74,11 @@ within_range z h = grind (arith, nat_tests)
 
 pub cut_small : (z : ℤ) (limit : ℕ) → unsigned_abs (cut z limit) ≤ limit
 cut_small z limit = omega (arith, ints, clamps)
+
+-- what may be kept as a lag
+pub lag_small : (lag nice : ℤ) (slice : ℕ) → slice ≤ 100000000 → is_lag lag nice slice ≡ true → unsigned_abs lag ≤ 2 ^ 38
+unfolding charge_of
+lag_small lag nice slice h k =
+    let l : unsigned_abs lag ≤ charge_of (2 * slice) (weight_of nice) = grind (arith, nat_tests) in
+    let q : 2 * slice * 1024 / weight_of nice ≤ 2 * slice * 1024 = div-le_self (2 * slice * 1024) (weight_of nice) in
+    omega arith

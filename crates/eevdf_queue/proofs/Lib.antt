@@ -3,7 +3,7 @@ mod MapFolds
 mod ListMaps
 mod Earliest
 mod RunnableMaps
-mod TreeSums
+mod TreeLeasts
 mod TreeHeights
 mod TreeOrder
 mod TreeSearch
@@ -20,6 +20,8 @@ mod SleepingLag
 mod TreeLists
 mod TreeSeen
 mod TreeMaps
-mod TreeAsleep
 mod TreeCandidates
 mod TreeChange
+mod TreeTotals
+mod Waiting
+mod SmallSums

@@ -7,7 +7,7 @@ use Rattle.std.specs.FinMap.{find}
 use Rattle.std.proofs.lemmas.Bool.Decides.{nat_tests}
 use Rattle.std.proofs.lemmas.Map.Steps.{length-le_from_distinct_below}
 use Rattle.eevdf_queue.specs.declared.task.Task.{Task}
-use Rattle.eevdf_queue.specs.TaskLists.{find_task, keyed, AreRunnable, AreAsleep}
+use Rattle.eevdf_queue.specs.TaskLists.{find_task, keyed, AreRunnable}
 use Rattle.eevdf_queue.proofs.MapFolds.{AreDistinct}
 
 pub same_number : (q x : ℕ) → eq_by_cmp nat_cmp q x ≡ eqb x q
@@ -32,10 +32,6 @@ AreNumbered (t ∷ ts) = (find_task t.number ts ≡ None) × (t.number < 1024) �
 pub numbered_runnable : (ts : List Task) → AreRunnable ts → AreNumbered ts
 numbered_runnable [] h = tt
 numbered_runnable (t ∷ ts) h = (h.0, h.1, numbered_runnable ts h.3)
-
-pub numbered_asleep : (ts : List Task) → AreAsleep ts → AreNumbered ts
-numbered_asleep [] h = tt
-numbered_asleep (t ∷ ts) h = (h.0, h.1, numbered_asleep ts h.3)
 
 pub distinct_keyed : {X : Type 0} (read : Task → X) (ts : List Task) → AreNumbered ts → AreDistinct (keyed read ts)
 distinct_keyed read [] h = tt

@@ -5,6 +5,7 @@ use Rattle.std.specs.Option.{option_map}
 use Rattle.std.specs.FinMap.{empty, contains_key, entries}
 use Rattle.eevdf_queue.specs.declared.run_entry.Entry.{Entry}
 use Rattle.eevdf_queue.specs.Sums.{Tasks, total_weight, total_moment}
+use Rattle.eevdf_queue.specs.Laws.{PickIsFirst, PickOfNobody}
 use Rattle.eevdf_queue.specs.Order.{earliest}
 use Rattle.eevdf_queue.specs.Pick.{IsPick, is_eligible, is_eligible_at, pick_of}
 use Rattle.eevdf_queue.proofs.MapFolds.{entries-empty}
@@ -41,3 +42,9 @@ pub first_is_pick : (tasks : Tasks) (r : Option ℕ) (weight : ℕ) (moment : �
 first_is_pick tasks r weight moment h k e = e
     ∙ ap (λ (w : ℕ). option_map (λ (a : ℕ × Entry). a.0) (earliest (is_eligible_at w moment) (entries tasks))) h
     ∙ ap (λ (s : ℤ). option_map (λ (a : ℕ × Entry). a.0) (earliest (is_eligible_at (total_weight tasks) s) (entries tasks))) k
+
+pub pick_is_first : PickIsFirst
+pick_is_first = pick_is
+
+pub pick_of_nobody : PickOfNobody
+pick_of_nobody tasks = none_picked tasks (pick_of tasks) refl

@@ -59,32 +59,32 @@ abbrev pub IsEarliest : (Entry → Bool) → List (ℕ × Entry) → Option (ℕ
 IsEarliest passes es None = NonePasses passes es
 IsEarliest passes es (Some a) = Best passes es a
 
-equal_number : (u x : ℕ) → eq_by_cmp nat_cmp u x ≡ true → u ≡ x
+pub equal_number : (u x : ℕ) → eq_by_cmp nat_cmp u x ≡ true → u ≡ x
 equal_number u x h = grind (arith, nat_tests, same_number u x)
 
-itself : (k : ℕ) → eq_by_cmp nat_cmp k k ≡ true
+pub itself : (k : ℕ) → eq_by_cmp nat_cmp k k ≡ true
 itself k = grind (arith, nat_tests, same_number k k)
 
 -- a look-up in a longer list is at the head or behind it
-found_by : {X : Type 0} (P : ℕ → X → Type 0) (e : ℕ × X) (es : List (ℕ × X)) (u : ℕ) (f : X) (b : Bool) → eq_by_cmp nat_cmp u e.0 ≡ b
+pub found_by : {X : Type 0} (P : ℕ → X → Type 0) (e : ℕ × X) (es : List (ℕ × X)) (u : ℕ) (f : X) (b : Bool) → eq_by_cmp nat_cmp u e.0 ≡ b
     → (u ≡ e.0 → e.1 ≡ f → P u f) → (find nat_cmp u es ≡ Some f → P u f) → cond b (Some e.1) (find nat_cmp u es) ≡ Some f → P u f
 found_by P e es u f true k at behind h = at (equal_number u e.0 k) cc
 found_by P e es u f false k at behind h = behind h
 
 -- what is found behind a head that isn't found there has another number
-behind : {X : Type 0} (e a : ℕ × X) (es : List (ℕ × X)) (b : Bool) → eq_by_cmp nat_cmp a.0 e.0 ≡ b → find nat_cmp e.0 es ≡ None → find nat_cmp a.0 es ≡ Some a.1
+pub behind : {X : Type 0} (e a : ℕ × X) (es : List (ℕ × X)) (b : Bool) → eq_by_cmp nat_cmp a.0 e.0 ≡ b → find nat_cmp e.0 es ≡ None → find nat_cmp a.0 es ≡ Some a.1
     → cond b (Some e.1) (find nat_cmp a.0 es) ≡ Some a.1
 behind e a es true k none here =
     let same : find nat_cmp a.0 es ≡ None = ap (λ n. find nat_cmp n es) (equal_number a.0 e.0 k) ∙ none in cc
 behind e a es false k none here = here
 
-never_before : (a : ℕ × Entry) → is_before a a ≡ false
+pub never_before : (a : ℕ × Entry) → is_before a a ≡ false
 never_before a = grind (arith, ints, told a.1.d a.1.d a.0 a.0)
 
-one_way : (a b : ℕ × Entry) → is_before a b ≡ true → is_before b a ≡ false
+pub one_way : (a b : ℕ × Entry) → is_before a b ≡ true → is_before b a ≡ false
 one_way a b h = grind (arith, ints, told a.1.d b.1.d a.0 b.0, told b.1.d a.1.d b.0 a.0)
 
-no_later : (a b c : ℕ × Entry) → is_before c b ≡ false → is_before b a ≡ false → is_before c a ≡ false
+pub no_later : (a b c : ℕ × Entry) → is_before c b ≡ false → is_before b a ≡ false → is_before c a ≡ false
 no_later a b c h k =
     grind (arith, ints, told c.1.d b.1.d c.0 b.0, told b.1.d a.1.d b.0 a.0, told c.1.d a.1.d c.0 a.0)
 
@@ -160,7 +160,7 @@ none_behind passes e es none h = (
   λ u f found. h u f (behind e (u, f) es (eq_by_cmp nat_cmp u e.0) refl none found),
 )
 
-later_by : (v : Bool) (d e : ℤ) (t u : ℕ) → v ≡ false → ((v ≡ true) × ((e <ℤ d) ⊎ ((e ≡ d) × (u < t)))) ⊎ ((v ≡ false) × ((d <ℤ e) ⊎ ((e ≡ d) × (t ≤ u))))
+pub later_by : (v : Bool) (d e : ℤ) (t u : ℕ) → v ≡ false → ((v ≡ true) × ((e <ℤ d) ⊎ ((e ≡ d) × (u < t)))) ⊎ ((v ≡ false) × ((d <ℤ e) ⊎ ((e ≡ d) × (t ≤ u))))
     → (d <ℤ e) ⊎ ((d ≡ e) × (t ≤ u))
 later_by v d e t u h k = grind (arith, ints)
 

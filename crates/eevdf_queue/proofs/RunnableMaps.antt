@@ -1,5 +1,5 @@
 -- What is asked of the map of runnable tasks, answered from a list of them.
-use Rattle.std.proofs.Common.{◌≡◌, ◌≢◌, ℕ, suc, ◌+◌, ◌^◌, ◌<◌, ◌≤◌, Bool, true, false, cond, eqb, List, [], ◌∷◌, length, Option, Some, None, refl, sym, ap, subst, ◌∙◌, arith}
+use Rattle.std.proofs.Common.{◌≡◌, ◌≢◌, ℕ, suc, ◌+◌, ◌*◌, ◌<◌, ◌≤◌, Bool, true, false, cond, eqb, List, [], ◌∷◌, length, Option, Some, None, refl, sym, ap, subst, ◌∙◌, arith}
 use Rattle.std.specs.Prelude.{pos, ◌+ℤ◌, ◌*ℤ◌, is_some}
 use Rattle.std.specs.Option.{option_map}
 use Rattle.std.specs.Ordering.{nat_cmp, eq_by_cmp}
@@ -65,7 +65,7 @@ len-runnable_in ts h =
 pub few_runnable : (ts : List Task) → AreRunnable ts → length ts ≤ 1024
 few_runnable ts h = few ts (numbered_runnable ts h)
 
-pub light : (ts : List Task) → AreRunnable ts → sum_weights (entries_of ts) ≤ 2 ^ 27
+pub light : (ts : List Task) → AreRunnable ts → sum_weights (entries_of ts) ≤ 88761 * 1024
 light ts h = let a = sum_weights_small ts in let b = few_runnable ts h in omega arith
 
 -- another entry at one number

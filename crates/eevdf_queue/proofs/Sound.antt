@@ -1,14 +1,16 @@
 -- What a queue keeps through its calls.
-use Rattle.std.proofs.Common.{◌≡◌, ℕ, Bool, true, false, cond, Option, Some, None, refl, sym, ap, ◌∙◌, arith}
+use Rattle.std.proofs.Common.{◌≡◌, ℕ, Bool, true, false, cond, eqb, Option, Some, None, refl, sym, ap, subst, ◌∙◌, arith}
 use Rattle.std.specs.Prelude.{ℤ, is_some}
+use Rattle.std.specs.Option.{option_map}
 use Rattle.std.specs.Ordering.{nat_cmp, eq_by_cmp}
 use Rattle.std.specs.Cmp.{nat_cmp_total}
-use Rattle.std.specs.FinMap.{FinMap, empty, insert, get, contains_key, get-empty, get-insert}
+use Rattle.std.specs.FinMap.{FinMap, empty, insert, remove, get, contains_key, get-empty, get-insert, get-remove}
 use Rattle.std.proofs.lemmas.Bool.Decides.{nat_tests}
 use Rattle.eevdf_weight.specs.Limits.{is_in_range}
 use Rattle.eevdf_queue.specs.declared.run_entry.Entry.{Entry}
-use Rattle.eevdf_queue.specs.State.{Sleeper}
+use Rattle.eevdf_queue.specs.State.{Sleeper, Contents}
 use Rattle.eevdf_queue.specs.Sums.{Tasks}
+use Rattle.eevdf_queue.specs.Leaving.{stopped, leaving, IsNowhere}
 use Rattle.eevdf_queue.specs.Kept.{RunnerIsHere, AreApart, IsSound}
 
 abbrev Asleep : Type 0
@@ -72,3 +74,73 @@ sound_sleep m r n n' b t s is none h = record {
   apart = λ u here. ap (λ a. get a u) is ∙ get-insert nat_cmp_total n t s u ∙ other_sleeper m n t u s (eq_by_cmp nat_cmp u t) refl none here (h.apart u here);
   based = h.based;
 }
+
+-- a number that is still among the tasks was there
+was_there : (b : Bool) (o : Option Entry) → is_some (cond b None o) ≡ true → is_some o ≡ true
+was_there true o h = cc
+was_there false o h = h
+
+other_number : (t u : ℕ) → eqb t u ≡ false → eq_by_cmp nat_cmp u t ≡ false
+other_number t u h = grind (arith, nat_tests)
+
+runs_without : (m : Tasks) (t u : ℕ) (b : Bool) → eqb t u ≡ b → contains_key m u ≡ true → RunnerIsHere (remove m t) (cond b None (Some u))
+runs_without m t u true k h = tt
+runs_without m t u false k h =
+    ap is_some (get-remove nat_cmp_total m t u ∙ ap (λ b. cond b None (get m u)) (other_number t u k)) ∙ h
+
+runs_after : (m : Tasks) (t : ℕ) (r : Option ℕ) → RunnerIsHere m r → RunnerIsHere (remove m t) (stopped r t)
+runs_after m t None h = tt
+runs_after m t (Some u) h = runs_without m t u (eqb t u) refl h
+
+left : (m : Tasks) (r : Option ℕ) (n : Asleep) (b b' : ℤ) (t : ℕ) → is_in_range b' ≡ true
+    → IsSound (record { runnable = m; running = r; asleep = n; base = b }) → IsSound (record { runnable = remove m t; running = stopped r t; asleep = n; base = b' })
+left m r n b b' t h k = record {
+  runs = runs_after m t r k.runs;
+  apart = λ u here. k.apart u (was_there (eq_by_cmp nat_cmp u t) (get m u) (sym (ap is_some (get-remove nat_cmp_total m t u)) ∙ here));
+  based = h;
+}
+
+pub sound_leave : (m m' : Tasks) (r r' : Option ℕ) (n : Asleep) (b b' : ℤ) (t : ℕ) → m' ≡ remove m t → r' ≡ stopped r t → is_in_range b' ≡ true
+    → IsSound (record { runnable = m; running = r; asleep = n; base = b }) → IsSound (record { runnable = m'; running = r'; asleep = n; base = b' })
+sound_leave m m' r r' n b b' t is out h k =
+    subst (λ (x : Tasks). IsSound (record { runnable = x; running = r'; asleep = n; base = b' })) (sym is)
+    (subst (λ (x : Option ℕ). IsSound (record { runnable = remove m t; running = x; asleep = n; base = b' })) (sym out)
+    (left m r n b b' t h k))
+
+-- a woken task is among the tasks, and no longer among the sleepers
+none_without : (b : Bool) (o : Option Sleeper) → (b ≡ false → o ≡ None) → cond b None o ≡ None
+none_without true o h = refl
+none_without false o h = h refl
+
+apart_woken : (m : Tasks) (n : Asleep) (t u : ℕ) (e : Entry) → AreApart m n → contains_key (insert m t e) u ≡ true → get (remove n t) u ≡ None
+apart_woken m n t u e h here =
+    get-remove nat_cmp_total n t u
+    ∙ none_without (eq_by_cmp nat_cmp u t) (get n u) (λ other.
+    h u (ap (λ b. is_some (cond b (Some e) (get m u))) (sym other) ∙ sym (ap is_some (get-insert nat_cmp_total m t e u)) ∙ here))
+
+pub sound_wake : (m m' : Tasks) (r : Option ℕ) (n n' : Asleep) (b : ℤ) (t : ℕ) (e : Entry) → m' ≡ insert m t e → n' ≡ remove n t
+    → IsSound (record { runnable = m; running = r; asleep = n; base = b }) → IsSound (record { runnable = m'; running = r; asleep = n'; base = b })
+sound_wake m m' r n n' b t e is out h = record {
+  runs = runs_on m m' t e r is h.runs;
+  apart = λ u here. ap (λ a. get a u) out ∙ apart_woken m n t u e h.apart (sym (ap (λ a. contains_key a u) is) ∙ here);
+  based = h.based;
+}
+
+-- who has left carries the number that it had
+left_number : (t : ℕ) (lag : ℤ) (o : Option Entry) (p : Contents) → option_map (leaving t lag) o ≡ Some p → p.task ≡ t
+left_number t lag None p h = cc
+left_number t lag (Some e) p h =
+    let same : leaving t lag e ≡ p = grind arith in sym (ap (λ (c : Contents). c.task) same)
+
+gone : (m : Tasks) (t : ℕ) → get (remove m t) t ≡ None
+gone m t =
+    let same : eq_by_cmp nat_cmp t t ≡ true = grind (arith, nat_tests) in
+    get-remove nat_cmp_total m t t ∙ ap (λ b. cond b None (get m t)) same
+
+-- and stands nowhere in the queue that it has left
+pub nowhere_after : (m m' : Tasks) (r r' : Option ℕ) (n : Asleep) (b b' lag : ℤ) (t : ℕ) (e : Entry) (p : Contents) → m' ≡ remove m t → get m t ≡ Some e
+    → option_map (leaving t lag) (get m t) ≡ Some p → IsSound (record { runnable = m; running = r; asleep = n; base = b })
+    → IsNowhere (record { runnable = m'; running = r'; asleep = n; base = b' }) p.task
+nowhere_after m m' r r' n b b' lag t e p is here left h =
+    subst (λ (u : ℕ). IsNowhere (record { runnable = m'; running = r'; asleep = n; base = b' }) u) (sym (left_number t lag (get m t) p left))
+    (record { not_runnable = ap (λ a. get a t) is ∙ gone m t; not_asleep = h.apart t (ap is_some here) })

@@ -6,8 +6,12 @@ use Rattle.std.proofs.Math.Nat.{mul-le-mul_right}
 use Rattle.std.proofs.lemmas.Int.{ints, clamps}
 use Rattle.eevdf_queue.specs.declared.task.Task.{Task}
 use Rattle.eevdf_queue.specs.Pick.{is_eligible_at}
-use Rattle.eevdf_queue.specs.TreeSummary.{least_runtime, AreLow}
+use Rattle.eevdf_queue.specs.TreeLeast.{least_runtime, AreLow}
 use Rattle.eevdf_queue.specs.TreeTasks.{first_that}
+use Rattle.eevdf_queue.specs.TreeShape.{tasks_in}
+use Rattle.eevdf_queue.specs.TreeNodes.{tasks_of, IsNode}
+use Rattle.eevdf_queue.specs.declared.tree_least.Least.{Least}
+use Rattle.eevdf_queue.specs.declared.tree_node.TreeNode.TheInside.{Inside}
 
 scaled_up : (a b : ℤ) (n : ℕ) → a ≤ℤ b → (a *ℤ pos n) ≤ℤ (b *ℤ pos n)
 scaled_up (pos a) (pos b) n h = let k : a ≤ b = omega (arith, ints) in omega (arith, ints, mul-le-mul_right n k)
@@ -64,3 +68,9 @@ some-least w s (u ∷ us) xs t ys e h = some-least_by w s u us h
 pub low-around : (xs : List Task) (t : Task) (ys : List Task) → AreLow xs → AreLow (t ∷ []) → AreLow ys → AreLow (xs ++ t ∷ ys)
 low-around [] t ys h k l = (k.0, l)
 low-around (x ∷ xs) t ys h k l = (h.0, low-around xs t ys h.1 k l)
+
+-- a node has an eligible task exactly where its least virtual runtime is eligible
+pub some-node : (w : ℕ) (s : ℤ) (a : Inside) → IsNode a → int_le (a.least.runtime *ℤ pos w) s ≡ is_some (first_that (is_eligible_at w s) (tasks_of a))
+some-node w s a h =
+    ap (λ (z : Least). int_le (z.runtime *ℤ pos w) s) h.least
+    ∙ sym (some-least w s (tasks_of a) (tasks_in a.left) a.task (tasks_in a.right) refl h.bounded)

@@ -1,6 +1,7 @@
 -- The order of tasks by key, and lists whose keys rise.
 use Rattle.std.proofs.Common.{◌≡◌, Bool, true, false, cond, List, [], ◌∷◌, ◌++◌, refl, sym, subst, ap, ◌∙◌, arith}
 use Rattle.std.proofs.lemmas.Int.{ints}
+use Rattle.eevdf_queue.specs.TaskLists.{first_task}
 use Rattle.eevdf_queue.specs.declared.task.Task.{Task}
 use Rattle.eevdf_queue.specs.TreeTasks.{precedes, PrecedesAll, AreOrdered, insert_task}
 use Rattle.eevdf_queue.proofs.Earliest.{told}
@@ -79,3 +80,20 @@ pub inserted_right : (t : Task) (ts xs : List Task) (u : Task) (ys ws rs : List 
     → ws ≡ insert_task t ys → rs ≡ xs ++ u ∷ ws → rs ≡ insert_task t ts
 inserted_right t ts xs u ys ws rs e p h i j =
     j ∙ ap (λ (z : List Task). xs ++ u ∷ z) i ∙ sym (insert-right t xs u ys p (subst AreOrdered e h)) ∙ ap (insert_task t) (sym e)
+
+-- two sides that were taken from a node, and the node between them again
+pub rejoined : (rs xs ys vs ws us bs : List Task) (t : Task) → rs ≡ vs ++ first_task (us ++ t ∷ bs) ∷ ws → vs ≡ xs → ws ≡ ys → us ≡ []
+    → rs ≡ xs ++ t ∷ ys
+rejoined rs xs ys vs ws us bs t k e f n =
+    k
+    ∙ ap (λ (z : List Task). z ++ first_task (us ++ t ∷ bs) ∷ ws) e
+    ∙ ap (λ (z : List Task). xs ++ first_task (us ++ t ∷ bs) ∷ z) f
+    ∙ ap (λ (z : List Task). xs ++ first_task (z ++ t ∷ bs) ∷ ys) n
+
+-- the node alone
+pub left_alone : (x t : Task) (us bs : List Task) → x ≡ first_task (us ++ t ∷ bs) → us ≡ [] → x ≡ t
+left_alone x t us bs k n = k ∙ ap (λ (z : List Task). first_task (z ++ t ∷ bs)) n
+
+-- the two sides without it
+pub both_sides : (rs xs ys vs ws : List Task) → rs ≡ vs ++ ws → vs ≡ xs → ws ≡ ys → rs ≡ xs ++ ys
+both_sides rs xs ys vs ws k e f = k ∙ ap (λ (z : List Task). z ++ ws) e ∙ ap (λ (z : List Task). xs ++ z) f

@@ -176,6 +176,10 @@ find_own k ts xs u ys e o a p q =
 pub placed_on : (k : Key) (ts xs : List Task) → find_task k.number ts ≡ find_task k.number xs → IsPlaced k ts → IsPlaced k xs
 placed_on k ts xs e a = subst (IsAtDeadline k.deadline) e a
 
+pub some_of : (o : Option Task) → is_some o ≡ true → (t : Task) × (o ≡ Some t)
+some_of None h = cc
+some_of (Some t) h = (t, refl)
+
 -- the first that passes, left before right
 first_middle : (b : Bool) (u : Task) (o : Option Task) → b ≡ true → cond b (Some u) o ≡ Some u
 first_middle true u o h = refl
@@ -192,6 +196,11 @@ none_from (Some t) h = cc
 pub first_left : (passes : Entry → Bool) (ts xs : List Task) (u : Task) (ys : List Task) (t : Task) → ts ≡ xs ++ u ∷ ys → first_that passes xs ≡ Some t
     → first_that passes ts ≡ Some t
 first_left passes ts xs u ys t e h = ap (first_that passes) e ∙ first-found passes xs (u ∷ ys) t h
+
+pub first_left_same : (passes : Entry → Bool) (ts xs : List Task) (u : Task) (ys : List Task) → ts ≡ xs ++ u ∷ ys → is_some (first_that passes xs) ≡ true
+    → first_that passes ts ≡ first_that passes xs
+first_left_same passes ts xs u ys e s =
+    let f = some_of (first_that passes xs) s in first_left passes ts xs u ys f.0 e f.1 ∙ sym f.1
 
 pub first_here : (passes : Entry → Bool) (ts xs : List Task) (u : Task) (ys : List Task) → ts ≡ xs ++ u ∷ ys → is_some (first_that passes xs) ≡ false
     → passes u.entry ≡ true → first_that passes ts ≡ Some u
@@ -222,10 +231,6 @@ pub without-missed : (q : ℕ) (xs ys : List Task) → find_task q xs ≡ None �
 without-missed q [] ys h = refl
 without-missed q (x ∷ xs) ys h =
     without_past (eqb x.number q) x (xs ++ ys) (without q (xs ++ ys)) (xs ++ without q ys) (find_task q xs) (without-missed q xs ys) h
-
-pub some_of : (o : Option Task) → is_some o ≡ true → (t : Task) × (o ≡ Some t)
-some_of None h = cc
-some_of (Some t) h = (t, refl)
 
 pub without_left : (k : Key) (ts xs : List Task) (u : Task) (ys : List Task) → ts ≡ xs ++ u ∷ ys → AreOrdered ts → IsPlaced k ts → is_some (find_task k.number ts) ≡ true
     → is_under k u ≡ true → without k.number ts ≡ without k.number xs ++ u ∷ ys

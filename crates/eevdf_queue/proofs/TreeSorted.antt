@@ -1,6 +1,5 @@
 -- Lists whose keys rise: they stay so, and their first and last are the earliest and the latest.
 use Rattle.std.proofs.Common.{◌≡◌, ℕ, suc, ◌/◌, ◌<◌, ◌≤◌, Bool, true, false, cond, eqb, List, [], ◌∷◌, length, Option, Some, None, refl, sym, subst, ap, ◌∙◌, arith}
-use Rattle.std.specs.Prelude.{is_some}
 use Rattle.std.specs.Option.{option_map}
 use Rattle.std.proofs.Math.Pow.{pow_mono}
 use Rattle.std.proofs.lemmas.Int.{ints}
@@ -14,7 +13,6 @@ use Rattle.eevdf_queue.specs.TreeShape.{IsFull}
 use Rattle.eevdf_queue.specs.TreeTasks.{precedes, PrecedesAll, AreOrdered, IsSorted, insert_task, without, first_that, last_waiting, last_or, numbered_entry}
 use Rattle.eevdf_queue.proofs.Earliest.{told}
 use Rattle.eevdf_queue.proofs.TreeOrder.{precedes-trans}
-use Rattle.eevdf_queue.proofs.TreeSearch.{none_from}
 
 all_through : (t u : Task) (us : List Task) → precedes t u ≡ true → PrecedesAll u us → PrecedesAll t us
 all_through t u [] p h = tt
@@ -141,15 +139,15 @@ pub full-lower : (k h n : ℕ) → k ≤ h → IsFull h n → IsFull k n
 full-lower k h n l f = let e : k / 2 ≤ h / 2 = omega arith in omega (arith, pow_mono e)
 
 -- the same of the list that a tree is seen as
-pub earliest_found : (passes : Entry → Bool) (ts vs : List Task) (t : Task) → ts ≡ vs → IsSorted ts → first_that passes ts ≡ Some t
-    → Some (numbered_entry t) ≡ earliest passes (entries_of vs)
-earliest_found passes ts vs t e s h =
-    sym (ap (λ (z : List Task). earliest passes (entries_of z)) (sym e) ∙ earliest-ordered passes ts s.ordered ∙ ap (option_map numbered_entry) h)
+number_of : (o : Option Task) → option_map (λ (t : Task). t.number) o ≡ option_map (λ (a : ℕ × Entry). a.0) (option_map numbered_entry o)
+number_of None = refl
+number_of (Some t) = refl
 
-pub earliest_missed : (passes : Entry → Bool) (ts vs : List Task) → ts ≡ vs → IsSorted ts → is_some (first_that passes ts) ≡ false
-    → None ≡ earliest passes (entries_of vs)
-earliest_missed passes ts vs e s h =
-    sym (ap (λ (z : List Task). earliest passes (entries_of z)) (sym e) ∙ earliest-ordered passes ts s.ordered ∙ ap (option_map numbered_entry) (none_from (first_that passes ts) h))
+pub earliest_found : (passes : Entry → Bool) (ts vs : List Task) → ts ≡ vs → IsSorted ts
+    → option_map (λ (t : Task). t.number) (first_that passes ts) ≡ option_map (λ (a : ℕ × Entry). a.0) (earliest passes (entries_of vs))
+earliest_found passes ts vs e s =
+    number_of (first_that passes ts)
+    ∙ ap (option_map (λ (a : ℕ × Entry). a.0)) (sym (earliest-ordered passes ts s.ordered) ∙ ap (λ (z : List Task). earliest passes (entries_of z)) e)
 
 pub latest_found : (r : Option ℕ) (ts vs : List Task) (o : Option Task) → ts ≡ vs → IsSorted ts → o ≡ last_waiting r ts
     → option_map numbered_entry o ≡ latest_waiting r (entries_of vs)

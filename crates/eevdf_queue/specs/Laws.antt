@@ -1,10 +1,10 @@
 -- Laws of the model of a queue.
-use Rattle.std.specs.Prelude.{◌≡◌, ℕ, ℤ, pos, ◌+ℤ◌, ◌-ℤ◌, ◌*ℤ◌, List, [], ◌∷◌}
+use Rattle.std.specs.Prelude.{◌≡◌, ◌↔◌, ℕ, ◌*◌, ◌^◌, ◌<◌, ◌≤◌, ℤ, pos, ◌+ℤ◌, ◌-ℤ◌, ◌*ℤ◌, unsigned_abs, List, [], ◌∷◌, Some, IsNone}
 use Rattle.std.specs.FinMap as map
 use Rattle.eevdf_weight.specs.Weight.{weight_of}
 use Rattle.eevdf_queue.specs.declared.run_entry.Entry.{Entry}
 use Rattle.eevdf_queue.specs.Sums.{Tasks, total_weight, total_moment}
-use Rattle.eevdf_queue.specs.Pick.{Eligible}
+use Rattle.eevdf_queue.specs.Pick.{Eligible, IsPick, pick_of}
 
 -- the sum of weight times lag, where a lag is the mean less the virtual runtime; the mean is a quotient, so
 -- all lags stand times the total weight
@@ -22,3 +22,19 @@ LagsBalance =
 abbrev pub SomeTaskIsEligible : Type 0
 SomeTaskIsEligible =
     (tasks : Tasks) → (tasks ≡ map.empty → ⊥) → (t : ℕ) × ((e : Entry) × Eligible tasks t e)
+
+-- the task that the scan answers is the pick
+abbrev pub PickIsFirst : Type 0
+PickIsFirst = (tasks : Tasks) (task : ℕ) → pick_of tasks ≡ Some task → IsPick tasks task
+
+-- the scan answers none exactly where nothing is runnable
+abbrev pub PickOfNobody : Type 0
+PickOfNobody = (tasks : Tasks) → IsNone (pick_of tasks) ↔ (tasks ≡ map.empty)
+
+-- the total weight `W` is at most 1024 greatest weights, and the sum `S` of weight times virtual runtime at
+-- most `2 ^ 60 * W`; so `S` and each `v * W` that is compared with it are below `2 ^ 88`
+pub record AreSumsSmall (tasks : Tasks) : Type 0 where
+  pub weight : total_weight tasks ≤ 88761 * 1024
+  pub moment : unsigned_abs (total_moment tasks) ≤ 2 ^ 60 * total_weight tasks
+  pub sum : unsigned_abs (total_moment tasks) < 2 ^ 88
+  pub compared : (t : ℕ) (e : Entry) → map.get tasks t ≡ Some e → unsigned_abs (e.v *ℤ pos (total_weight tasks)) < 2 ^ 88

@@ -6,11 +6,15 @@ pub mod Pick
 pub mod Lag
 pub mod Moves
 pub mod Tick
+pub mod Yield
 pub mod TaskLists
 pub mod Codes
 pub mod Candidate
+pub mod Leaving
+pub mod Placing
+pub mod Wake
 pub mod TreeTasks
-pub mod TreeSummary
+pub mod TreeLeast
 pub mod TreeShape
 pub mod TreeNodes
 pub mod TreeDepth
@@ -18,3 +22,4 @@ pub mod TreeKeys
 pub mod Kept
 pub mod Laws
 pub mod TreeStores
+pub mod Slots

@@ -40,10 +40,6 @@ runnable_in ts = map.from_entries (entries_of ts)
 abbrev pub sleeper_in : Task → Sleeper
 sleeper_in t = record { lag = t.lag; nice = t.entry.nice; slice = t.entry.slice }
 
--- the map from their numbers to what is kept of them asleep
-unfoldable pub asleep_in : List Task → map.FinMap nat_cmp Sleeper
-asleep_in ts = map.from_entries (keyed sleeper_in ts)
-
 -- what a parcel with this task carries
 abbrev pub contents_of : Task → Contents
 contents_of t =
@@ -54,12 +50,6 @@ abbrev pub AreRunnable : List Task → Type 0
 AreRunnable [] = Unit {0}
 AreRunnable (t ∷ ts) =
     (find_task t.number ts ≡ None) × (t.number < 1024) × (is_entry_in_range t.entry ≡ true) × AreRunnable ts
-
--- numbers differ and are below the limit, and each lag is within its limit
-abbrev pub AreAsleep : List Task → Type 0
-AreAsleep [] = Unit {0}
-AreAsleep (t ∷ ts) =
-    (find_task t.number ts ≡ None) × (t.number < 1024) × (is_lag t.lag t.entry.nice t.entry.slice ≡ true) × AreAsleep ts
 
 -- one task, whose lag is within its limit
 pub record IsLone (ts : List Task) : Type 0 where

@@ -3,7 +3,7 @@ use Rattle.std.specs.Prelude.{◌≡◌, suc, ◌≤◌, max, List, ◌∷◌, �
 use Rattle.eevdf_queue.specs.declared.task.Task.{Task}
 use Rattle.eevdf_queue.specs.declared.tree_node.TreeNode.TheInside.{Inside}
 use Rattle.eevdf_queue.specs.TreeShape.{Tree, tasks_in, height_in, DifferByAtMost, IsFull}
-use Rattle.eevdf_queue.specs.TreeSummary.{summary_of, IsSmall, AreLow}
+use Rattle.eevdf_queue.specs.TreeLeast.{least_of, AreLow}
 
 abbrev pub tasks_of : Inside → List Task
 tasks_of a = tasks_in a.left ++ a.task ∷ tasks_in a.right
@@ -17,6 +17,5 @@ pub record IsNode (a : Inside) : Type 0 where
   pub balanced : DifferByAtMost 1 (height_in a.left) (height_in a.right)
   pub low : a.height ≤ length (tasks_of a)
   pub full : IsFull a.height (length (tasks_of a))
-  pub summary : a.summary ≡ summary_of (tasks_of a)
-  pub small : IsSmall a.summary
+  pub least : a.least ≡ least_of (tasks_of a)
   pub bounded : AreLow (tasks_of a)

@@ -1,9 +1,9 @@
 -- What the stores over trees keep.
 use Rattle.std.specs.Prelude.{◌≡◌, ℕ, ℤ, pos, List, [], ◌∷◌, slice_index_or}
-use Rattle.eevdf_queue.specs.declared.run_entry.Entry.{Entry}
 use Rattle.eevdf_queue.specs.declared.task.Task.{Task}
-use Rattle.eevdf_queue.specs.State.{Contents}
-use Rattle.eevdf_queue.specs.TaskLists.{AreRunnable, AreAsleep}
+use Rattle.eevdf_queue.specs.declared.totals.Totals.{Totals}
+use Rattle.eevdf_queue.specs.Sums.{sum_weights, sum_moments}
+use Rattle.eevdf_queue.specs.TaskLists.{entries_of, AreRunnable}
 
 abbrev pub AllTasks : (Task → Type 0) → List Task → Type 0
 AllTasks P [] = Unit {0}
@@ -22,15 +22,12 @@ pub record IsRunnableStore (table : List ℤ) (ts : List Task) : Type 0 where
   pub runnable : AreRunnable ts
   pub noted : AllTasks (IsNoted table) ts
 
--- the deadline 0, so that tasks stand by their numbers
-abbrev pub IsUnranked : Task → Type 0
-IsUnranked t = t.entry.d ≡ pos 0
+-- the sums are those over the tasks
+pub record AreTotals (s : Totals) (ts : List Task) : Type 0 where
+  pub weight : s.weight ≡ sum_weights (entries_of ts)
+  pub moment : s.moment ≡ sum_moments (entries_of ts)
 
--- the tasks are sleeping ones, by their numbers
-pub record IsAsleepStore (ts : List Task) : Type 0 where
-  pub asleep : AreAsleep ts
-  pub unranked : AllTasks IsUnranked ts
-
--- what a runnable task takes along when it leaves with a lag
-abbrev pub leaving : ℕ → ℤ → Entry → Contents
-leaving task lag e = record { task = task; nice = e.nice; slice = e.slice; start = e.v; lag = lag }
+-- the same, and the sums stand beside the tasks
+pub record IsSummedStore (table : List ℤ) (s : Totals) (ts : List Task) : Type 0 where
+  pub store : IsRunnableStore table ts
+  pub totals : AreTotals s ts

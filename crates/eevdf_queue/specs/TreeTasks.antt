@@ -57,3 +57,8 @@ numbered_entry t = (t.number, t.entry)
 pub record IsSorted (ts : List Task) : Type 0 where
   pub ordered : AreOrdered ts
   pub few : length ts ≤ 1024
+
+-- the same, and the count is right
+pub record IsCounted (count : ℕ) (ts : List Task) : Type 0 where
+  pub sorted : IsSorted ts
+  pub counted : count ≡ length ts

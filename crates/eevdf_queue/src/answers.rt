@@ -10,3 +10,25 @@ pub enum TickAnswer {
     /// The virtual runtime or deadline would have left the range, and nothing was charged.
     Range,
 }
+
+/// What a yield answers.
+#[derive(Clone, Copy, PartialEq, Eq, Debug)]
+pub enum YieldAnswer {
+    /// The running task's deadline grew by one request.
+    Yielded,
+    /// No task runs.
+    Idle,
+    /// The deadline would have left the range, and nothing changed.
+    Range,
+}
+
+/// What a wake answers.
+#[derive(Clone, Copy, PartialEq, Eq, Debug)]
+pub enum WakeAnswer {
+    /// The task slept here and is runnable now.
+    Woken,
+    /// The task doesn't sleep here.
+    Awake,
+    /// The virtual runtime or deadline would have been out of range, and the task sleeps on.
+    Range,
+}

@@ -1,6 +1,6 @@
 //! Laws of the model of a queue, each the contract of a function that does nothing.
 
-ghost use Rattle.eevdf_queue.specs.Laws.{LagsBalance, SomeTaskIsEligible};
+ghost use Rattle.eevdf_queue.specs.Laws.{AreSumsSmall, LagsBalance, PickIsFirst, PickOfNobody, SomeTaskIsEligible};
 ghost use Rattle.eevdf_queue.specs.Kept.{IsKept};
 
 use crate::run_queue::Queue;
@@ -22,4 +22,22 @@ pub fn every_queue(queue: &Queue)
     ensures { IsKept queue.now.state }
 {
     queue.keeps();
+}
+
+/// A task that is picked is eligible, and no eligible task comes before it.
+pub fn pick_is_first()
+    ensures { PickIsFirst }
+{}
+
+/// No task is picked exactly where none is runnable.
+pub fn pick_of_nobody()
+    ensures { PickOfNobody }
+{}
+
+/// How large the sums of every queue can be: where `W` is the sum of the weights and `S` the sum of `w * v`,
+/// `W` is at most 88761 * 1024, and `S` and each `v * W` are below 2^88, far within 128 bits.
+pub fn sums_are_small(queue: &Queue)
+    ensures { AreSumsSmall queue.now.state.runnable }
+{
+    queue.sums_are_small();
 }

@@ -7,6 +7,7 @@ ghost use Rattle.eevdf_weight.specs.Weight.{weight_of};
 ghost use Rattle.eevdf_queue.specs.Moves.{entry_in_range, fresh_entry};
 ghost use Rattle.eevdf_queue.specs.Moves as moves;
 ghost use Rattle.eevdf_queue.specs.Tick as ticks;
+ghost use Rattle.eevdf_queue.specs.Yield as yields;
 
 use crate::run_entry::Entry;
 use eevdf_weight::{Ns, charge, is_in_range, weight};
@@ -23,6 +24,13 @@ pub fn is_entry_in_range(entry: &Entry) -> bool
     ensures { result ≡ moves.is_entry_in_range entry.now }
 {
     is_in_range(entry.v) && is_in_range(entry.d)
+}
+
+/// Whether the virtual deadline is in range.
+pub fn is_deadline_in_range(entry: &Entry) -> bool
+    ensures { result ≡ limits.is_in_range entry.now.d }
+{
+    is_in_range(entry.d)
 }
 
 /// A task at the virtual runtime of the entry, with a fresh request. `None` exactly where it would be out of
@@ -91,5 +99,16 @@ pub fn charged(entry: &Entry, ns: Ns) -> ChargedEntry
             entry: older,
             resched: false,
         }
+    }
+}
+
+/// The entry with a deadline one request later.
+pub fn yielded(entry: &Entry) -> Entry
+    requires { limits.is_in_range entry.now.d ≡ true }
+    ensures { result ≡ yields.yielded entry.now }
+{
+    Entry {
+        d: entry.d + cost(entry, entry.slice.get()),
+        ..*entry
     }
 }

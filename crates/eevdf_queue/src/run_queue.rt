@@ -1,33 +1,29 @@
-ghost use Rattle.std.specs.Prelude.{◌≡◌, ◌≤◌, ◌↔◌, unsigned_abs, Some, None, IfSome, IsNone, MatchResult, pos, true};
+ghost use Rattle.std.specs.Prelude.{◌≡◌, ◌≤◌, ◌↔◌, unsigned_abs, IfSome, IsNone, true, false};
 ghost use Rattle.std.specs.FinMap as map;
 ghost use Rattle.eevdf_weight.specs.Limits as limits;
 ghost use Rattle.eevdf_queue.specs.State.{empty_state};
 ghost use Rattle.eevdf_queue.specs.Sums.{total_weight, virtual_time};
-ghost use Rattle.eevdf_queue.specs.Moves as moves;
-ghost use Rattle.eevdf_queue.specs.Pick.{IsPick, pick_of, after_pick};
+ghost use Rattle.eevdf_queue.specs.Candidate as candidates;
 ghost use Rattle.eevdf_queue.specs.Lag as lags;
-ghost use Rattle.eevdf_queue.specs.Tick as ticks;
 ghost use Rattle.eevdf_queue.specs.Kept.{IsKept};
+ghost use Rattle.eevdf_queue.specs.Laws.{AreSumsSmall};
 
-use crate::answers::TickAnswer;
 use crate::lag::kept_lag;
-use crate::request::{charged, is_entry_in_range, started};
 use crate::run_entry::Entry;
 use crate::runnable_tasks::RunnableTasks;
 use crate::sleepers::Sleepers;
 use crate::task_number::TaskId;
-use crate::task_parcel::Parcel;
 use crate::totals::mean;
-use eevdf_weight::Ns;
 use std::marker::Model;
 
 /// The run queue of one CPU.
 #[derive(Drop)]
 pub struct Queue {
-    runnable: RunnableTasks,
-    running: Option<TaskId>,
-    asleep: Sleepers,
-    base: i64,
+    pub(crate) runnable: RunnableTasks,
+    pub(crate) running: Option<TaskId>,
+    pub(crate) asleep: Sleepers,
+    pub(crate) base: i64,
+    pub(crate) turns: u32,
 }
 
 impl Model for Queue {
@@ -43,7 +39,7 @@ impl Model for Queue {
 
     ghost view = { λ a. record {
       state = record { runnable = a.runnable; running = a.running; asleep = a.asleep; base = a.base };
-      turns = 0;
+      turns = a.turns;
     } };
 
     ghost invariant = { λ a. IsSound
@@ -60,6 +56,7 @@ impl Queue {
             running: None,
             asleep: Sleepers::new(),
             base: 0,
+            turns: 0,
         }
     }
 
@@ -105,6 +102,18 @@ impl Queue {
         }
     }
 
+    /// The task that another CPU may pull: of the runnable tasks that don't run the one of latest virtual
+    /// deadline, the greater number where deadlines are equal. `None` exactly where no task waits.
+    pub fn candidate(&self) -> Option<TaskId>
+        ensures value { result ≡ candidates.candidate_of self.now.state.runnable self.now.state.running }
+        ensures last { IfSome result (candidates.IsCandidate self.now.state.runnable self.now.state.running) }
+        ensures waiting { IfSome result (λ t. (map.contains_key self.now.state.runnable t ≡ true)
+            × (candidates.is_running self.now.state.running t ≡ false)) }
+        ensures none { IsNone result ↔ candidates.NoneWaits self.now.state.runnable self.now.state.running }
+    {
+        self.runnable.candidate(self.running)
+    }
+
     /// The lag that a runnable task would keep if it left now, the kept lag of a sleeping one, and `None` of
     /// any other.
     pub fn lag_of(&self, task: TaskId) -> Option<i64>
@@ -126,74 +135,12 @@ impl Queue {
         self.asleep.contains(task)
     }
 
-    /// Makes a task runnable at the start of its parcel, with a fresh request. Where the virtual runtime or
-    /// the deadline would be out of range, the parcel comes back and nothing has changed.
-    pub fn admit(&mut self, parcel: Parcel) -> Result<(), Parcel>
-        requires not_runnable { map.get self.old.state.runnable parcel.task ≡ None }
-        requires not_asleep { map.get self.old.state.asleep parcel.task ≡ None }
-        ensures cases { MatchResult result (λ _. moves.admit self.old.state parcel ≡ Some self.new.state)
-            (λ back. (moves.admit self.old.state parcel ≡ None) × (back ≡ parcel) × (self.new.state ≡ self.old.state)) }
-        ensures turns { self.new.turns ≡ self.old.turns }
+    /// The turns of the descent to the task that the last pick answered: `k` such that `2 ^ (k / 2) <= n + 1` with
+    /// `n` tasks runnable at that pick. 0 where it answered none, and before the first pick.
+    pub fn pick_steps(&self) -> u32
+        ensures { result ≡ self.now.turns }
     {
-        match started(&parcel.entry()) {
-            None => Err(parcel),
-            Some(entry) => {
-                self.runnable.add(parcel, entry);
-                Ok(())
-            }
-        }
-    }
-
-    /// Puts a task to sleep here, with the lag of its parcel.
-    pub fn put_asleep(&mut self, parcel: Parcel)
-        requires not_runnable { map.get self.old.state.runnable parcel.task ≡ None }
-        requires not_asleep { map.get self.old.state.asleep parcel.task ≡ None }
-        ensures after { self.new.state ≡ moves.put_asleep self.old.state parcel }
-        ensures turns { self.new.turns ≡ self.old.turns }
-    {
-        self.asleep.add(parcel);
-    }
-
-    /// Lets the eligible task of earliest virtual deadline run, the lower number where deadlines are equal.
-    /// `None` exactly when nothing is runnable.
-    pub fn pick(&mut self) -> Option<TaskId>
-        ensures number { result ≡ pick_of self.old.state.runnable }
-        ensures picked { IfSome result (IsPick self.old.state.runnable) }
-        ensures none { IsNone result ↔ (self.old.state.runnable ≡ map.empty) }
-        ensures after { self.new.state ≡ after_pick self.old.state }
-    {
-        match self.runnable.pick() {
-            None => None,
-            Some(task) => {
-                self.running = Some(task);
-                Some(task)
-            }
-        }
-    }
-
-    /// Charges the running task for `ns`, and gives it a fresh request where it has used up its own. Nobody
-    /// else is picked.
-    pub fn tick(&mut self, ns: Ns) -> TickAnswer
-        ensures answer { result ≡ (ticks.tick self.old.state ns).0 }
-        ensures after { self.new.state ≡ (ticks.tick self.old.state ns).1 }
-        ensures turns { self.new.turns ≡ self.old.turns }
-    {
-        let Some(task) = self.running else {
-            return TickAnswer::Idle;
-        };
-        self.runnable.keeps();
-        let Some(entry) = self.runnable.get(task) else {
-            return TickAnswer::Idle;
-        };
-        let charged = charged(&entry, ns);
-        if !is_entry_in_range(&charged.entry) {
-            return TickAnswer::Range;
-        }
-        self.runnable.set(task, charged.entry);
-        TickAnswer::Charged {
-            task,
-            resched: charged.resched,
-        }
+        self.turns
     }
 
     /// Learns what every queue keeps.
@@ -203,5 +150,12 @@ impl Queue {
         self.runnable.keeps();
         self.asleep.keeps();
         let _time = self.floor_time();
+    }
+
+    /// Learns how large the sums can be.
+    pub(crate) fn sums_are_small(&self)
+        ensures { AreSumsSmall self.now.state.runnable }
+    {
+        self.runnable.sums_are_small();
     }
 }

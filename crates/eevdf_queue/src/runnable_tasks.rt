@@ -7,11 +7,13 @@ ghost use Rattle.eevdf_queue.specs.Pick.{IsPick, is_eligible_at, pick_of};
 ghost use Rattle.eevdf_queue.specs.Candidate.{candidate_of};
 ghost use Rattle.eevdf_queue.specs.Moves.{is_entry_in_range};
 ghost use Rattle.eevdf_queue.specs.Kept.{AreInRange};
+ghost use Rattle.eevdf_queue.specs.Laws.{AreSumsSmall};
 ghost use Rattle.eevdf_queue.specs.TreeShape.{IsAlone, IsFull};
 ghost use Rattle.eevdf_queue.specs.TaskLists.{first_task, find_task, contents_of};
 ghost use Rattle.eevdf_queue.specs.Lag.{is_lag};
 ghost use Rattle.eevdf_queue.specs.TreeTasks.{insert_task};
-ghost use Rattle.eevdf_queue.specs.TreeStores.{deadline_at, leaving};
+ghost use Rattle.eevdf_queue.specs.TreeStores.{deadline_at};
+ghost use Rattle.eevdf_queue.specs.Leaving.{leaving};
 
 use crate::deadline_table::DeadlineTable;
 use crate::run_entry::Entry;
@@ -19,6 +21,7 @@ use crate::task_number::TaskId;
 use crate::task_parcel::Parcel;
 use crate::task_tree::TaskTree;
 use crate::totals::Totals;
+use crate::totals_edit::{exchanged, share, with_share, without_share};
 use crate::tree_node::TreeNode;
 use std::marker::Model;
 
@@ -27,6 +30,7 @@ use std::marker::Model;
 pub struct RunnableTasks {
     tree: TaskTree,
     deadlines: DeadlineTable,
+    totals: Totals,
 }
 
 impl Model for RunnableTasks {
@@ -41,11 +45,11 @@ impl Model for RunnableTasks {
     ghost coded = { map.code coded_ℕ entry_code };
 
     ghost use Rattle.eevdf_queue.specs.TaskLists.{runnable_in};
-    ghost use Rattle.eevdf_queue.specs.TreeStores.{IsRunnableStore};
+    ghost use Rattle.eevdf_queue.specs.TreeStores.{IsSummedStore};
 
     ghost view = { λ a. runnable_in a.tree };
 
-    ghost invariant = { λ a. IsRunnableStore a.deadlines a.tree };
+    ghost invariant = { λ a. IsSummedStore a.deadlines a.totals a.tree };
 }
 
 /// The task that is to run, and the turns of the descent to it.
@@ -63,6 +67,10 @@ impl RunnableTasks {
         RunnableTasks {
             tree: TaskTree::new(),
             deadlines: DeadlineTable::new(),
+            totals: Totals {
+                weight: 0,
+                moment: 0,
+            },
         }
     }
 
@@ -78,10 +86,10 @@ impl RunnableTasks {
     pub fn totals(&self) -> Totals
         ensures weight { result.weight ≡ total_weight self.now }
         ensures moment { result.moment ≡ total_moment self.now }
-        ensures few { result.weight ≤ 2 ^ 27 }
+        ensures few { result.weight ≤ 88761 * 1024 }
         ensures small { unsigned_abs result.moment ≤ 2 ^ 60 * result.weight }
     {
-        self.tree.totals()
+        self.totals
     }
 
     #[tactic(auto, using(crate::proofs::RunnableMaps::basics))]
@@ -102,10 +110,12 @@ impl RunnableTasks {
     {
         let key = self.deadlines.key(task);
         if key.is_at(&entry) {
-            self.tree.change(&key, &entry);
+            let older = self.tree.change(&key, &entry);
+            self.totals = exchanged(&self.totals, &older, &entry);
             return;
         }
         let node = self.tree.remove(&key);
+        self.totals = exchanged(&self.totals, &node.task().entry, &entry);
         put(&mut self.tree, &mut self.deadlines, node, entry);
     }
 
@@ -115,6 +125,7 @@ impl RunnableTasks {
         requires in_range { is_entry_in_range entry ≡ true }
         ensures { self.new ≡ map.insert self.old parcel.task entry }
     {
+        self.totals = with_share(&self.totals, &share(&entry));
         put(
             &mut self.tree,
             &mut self.deadlines,
@@ -132,25 +143,14 @@ impl RunnableTasks {
     {
         let key = self.deadlines.key(task);
         let node = self.tree.remove(&key);
+        self.totals = without_share(&self.totals, &share(&node.task().entry));
         leave(node, lag)
-    }
-
-    /// The number of the first task, by deadline and number, of those that are eligible at these sums.
-    pub fn earliest(&self, totals: &Totals) -> Option<TaskId>
-        requires { totals.now.weight ≤ 2 ^ 40 }
-        ensures { result
-            ≡ option_map (λ a. a.0) (earliest (is_eligible_at totals.now.weight totals.now.moment) (map.entries self.now)) }
-    {
-        match self.first(totals) {
-            None => None,
-            Some(first) => Some(first.task),
-        }
     }
 
     /// The first task, by deadline and number, of those that are eligible at these sums, and the turns of the
     /// descent to it.
     #[tactic(auto, using(crate::proofs::RunnableMaps::firsts))]
-    pub fn first(&self, totals: &Totals) -> Option<First>
+    fn first(&self, totals: &Totals) -> Option<First>
         requires { totals.now.weight ≤ 2 ^ 40 }
         ensures task { option_map (λ f. f.task) result
             ≡ option_map (λ a. a.0) (earliest (is_eligible_at totals.now.weight totals.now.moment) (map.entries self.now)) }
@@ -160,24 +160,15 @@ impl RunnableTasks {
         match self.tree.earliest(totals) {
             None => None,
             Some(found) => Some(First {
-                task: found.task.number,
+                task: found.task,
                 turns: found.turns,
             }),
         }
     }
 
-    /// The eligible task of earliest virtual deadline, and `None` exactly where there is no task.
-    pub fn pick(&self) -> Option<TaskId>
-        ensures number { result ≡ pick_of self.now }
-        ensures picked { IfSome result (IsPick self.now) }
-        ensures none { IsNone result ↔ (self.now ≡ map.empty) }
-        ensures here { IfSome result (λ t. map.contains_key self.now t ≡ true) }
-    {
-        self.earliest(&self.totals())
-    }
-
-    /// The pick, and the turns of the descent to it.
-    pub fn pick_with_turns(&self) -> Option<First>
+    /// The eligible task of earliest virtual deadline, and the turns of the descent to it. `None` exactly where
+    /// there is no task.
+    pub fn pick(&self) -> Option<First>
         ensures number { option_map (λ f. f.task) result ≡ pick_of self.now }
         ensures picked { IfSome result (λ f. IsPick self.now f.task) }
         ensures none { IsNone result ↔ (self.now ≡ map.empty) }
@@ -203,6 +194,14 @@ impl RunnableTasks {
         ensures { AreInRange self.now }
     {
         let _tree = &self.tree;
+    }
+
+    /// Learns how large the sums over the tasks can be.
+    pub fn sums_are_small(&self)
+        ensures { AreSumsSmall self.now }
+    {
+        self.keeps();
+        let _totals = self.totals();
     }
 }
 

@@ -1,26 +1,25 @@
-ghost use Rattle.std.specs.Prelude.{◌≡◌, pos, None, Some, true, is_some};
+ghost use Rattle.std.specs.Prelude.{◌≡◌, ℕ, Some, None, is_some, true};
+ghost use Rattle.std.specs.Option.{option_map};
 ghost use Rattle.std.specs.FinMap as map;
 ghost use Rattle.eevdf_queue.specs.Lag.{sleeping_lag};
+ghost use Rattle.eevdf_queue.specs.Placing.{sleeper_from};
 ghost use Rattle.eevdf_queue.specs.Moves.{sleeper_of};
 ghost use Rattle.eevdf_queue.specs.Kept.{AreLimited};
-ghost use Rattle.eevdf_queue.specs.TaskLists.{first_task, find_task, sleeper_in, IsLone};
-ghost use Rattle.eevdf_queue.specs.TreeShape.{IsAlone};
-ghost use Rattle.eevdf_queue.specs.TreeTasks.{without};
-ghost use Rattle.eevdf_queue.specs.TreeStores.{IsUnranked, AllTasks};
+ghost use Rattle.eevdf_queue.specs.Slots.{slot_at, IsWith};
 
-use crate::task::Task;
+use crate::placing::Newcomer;
+use crate::task::newcomer;
 use crate::task_number::TaskId;
 use crate::task_parcel::Parcel;
-use crate::task_tree::TaskTree;
-use crate::tree_key::Key;
 use crate::tree_node::TreeNode;
+use std::array;
 use std::marker::Model;
 
-/// The sleeping tasks of a queue, seen as the map from their numbers to what is kept of them. Each stands at
-/// the deadline 0, so that the tree is ordered by number alone.
+/// The sleeping tasks of a queue, seen as the map from their numbers to what is kept of them. Each stands in
+/// the slot of its number, in the node that carries it. The slots are in the queue itself and take no memory.
 #[derive(Drop)]
 pub struct Sleepers {
-    tree: TaskTree,
+    slots: [Option<Box<TreeNode>>; 1024],
 }
 
 impl Model for Sleepers {
@@ -34,12 +33,11 @@ impl Model for Sleepers {
 
     ghost coded = { map.code coded_ℕ sleeper_code };
 
-    ghost use Rattle.eevdf_queue.specs.TaskLists.{asleep_in};
-    ghost use Rattle.eevdf_queue.specs.TreeStores.{IsAsleepStore};
+    ghost use Rattle.eevdf_queue.specs.Slots.{asleep_in, AreSlots};
 
-    ghost view = { λ a. asleep_in a.tree };
+    ghost view = { λ a. asleep_in a.slots };
 
-    ghost invariant = { λ a. IsAsleepStore a.tree };
+    ghost invariant = { λ a. AreSlots a.slots };
 }
 
 impl Sleepers {
@@ -47,26 +45,34 @@ impl Sleepers {
     pub fn new() -> Sleepers
         ensures { result ≡ map.empty }
     {
-        Sleepers {
-            tree: TaskTree::new(),
-        }
+        Sleepers { slots: empty() }
     }
 
     #[tactic(auto, using(crate::proofs::AsleepMaps::asleep_maps))]
     pub fn contains(&self, task: TaskId) -> bool
         ensures { result ≡ map.contains_key self.now task }
     {
-        find(&self.tree, task).is_some()
+        slot(&self.slots, task).is_some()
     }
 
     /// The kept lag of a task that sleeps here.
-    #[tactic(auto, using(crate::proofs::AsleepMaps::asleep_maps))]
     pub fn lag(&self, task: TaskId) -> Option<i64>
         ensures { result ≡ sleeping_lag (map.get self.now task) }
     {
-        match find(&self.tree, task) {
+        match self.get(task) {
             None => None,
-            Some(found) => Some(found.lag),
+            Some(sleeper) => Some(sleeper.lag),
+        }
+    }
+
+    /// What is kept of a task that sleeps here.
+    #[tactic(auto, using(crate::proofs::AsleepMaps::asleep_maps))]
+    pub fn get(&self, task: TaskId) -> Option<Newcomer>
+        ensures { option_map sleeper_from result ≡ map.get self.now task }
+    {
+        match slot(&self.slots, task) {
+            None => None,
+            Some(node) => Some(newcomer(&node.task())),
         }
     }
 
@@ -75,7 +81,8 @@ impl Sleepers {
         requires { map.get self.old parcel.task ≡ None }
         ensures { self.new ≡ map.insert self.old parcel.task (sleeper_of parcel) }
     {
-        self.tree.insert(unranked(parcel.into_node()));
+        let task = parcel.task();
+        fill(&mut self.slots, task, parcel.into_node());
     }
 
     /// Takes out a task that sleeps here, in a parcel with its kept lag.
@@ -85,59 +92,44 @@ impl Sleepers {
         ensures task { result.task ≡ task }
         ensures parcel { map.get self.old task ≡ Some (sleeper_of result) }
     {
-        Parcel::of(take(&mut self.tree, task))
+        Parcel::of(take(&mut self.slots, task))
     }
 
     /// Learns what every task here keeps.
+    #[tactic(auto, using(crate::proofs::AsleepMaps::asleep_maps))]
     pub fn keeps(&self)
         ensures { AreLimited self.now }
     {
-        let _tree = &self.tree;
+        let _slots = &self.slots;
     }
 }
 
-/// The task of a number among tasks that stand by number.
-#[tactic(auto, using(crate::proofs::TreeAsleep::placed_unranked))]
-fn find(tree: &TaskTree, task: TaskId) -> Option<Task>
-    requires { AllTasks IsUnranked tree.now }
-    ensures { result ≡ find_task task tree.now }
+/// Slots without a node.
+fn empty() -> [Option<Box<TreeNode>>; 1024]
+    ensures { (q : ℕ) → slot_at result q ≡ None }
 {
-    tree.find(&key_of(task))
+    array::from_fn(|_| None)
 }
 
-/// Takes the task of a number, which is here, from among tasks that stand by number.
-#[tactic(auto, using(crate::proofs::TreeAsleep::placed_unranked))]
-fn take(tree: &mut TaskTree, task: TaskId) -> Box<TreeNode>
-    requires unranked { AllTasks IsUnranked tree.old }
-    requires here { is_some (find_task task tree.old) ≡ true }
-    ensures alone { IsAlone result.value }
-    ensures task { find_task task tree.old ≡ Some (first_task result.value.tasks) }
-    ensures rest { tree.new ≡ without task tree.old }
+/// The slot of a number.
+fn slot(slots: &[Option<Box<TreeNode>>; 1024], task: TaskId) -> &Option<Box<TreeNode>>
+    ensures { result.now ≡ slot_at slots.now task }
 {
-    tree.remove(&key_of(task))
+    &slots[task.get() as usize]
 }
 
-/// Where a task of this number stands among the sleeping ones.
-fn key_of(number: TaskId) -> Key
-    ensures number { result.number ≡ number }
-    ensures deadline { result.deadline ≡ pos 0 }
+/// Puts a node into the slot of a number.
+fn fill(slots: &mut [Option<Box<TreeNode>>; 1024], task: TaskId, node: Box<TreeNode>)
+    ensures { IsWith task (Some node) slots.old slots.new }
 {
-    Key {
-        deadline: 0,
-        number,
-    }
+    slots[task.get() as usize] = Some(node);
 }
 
-/// The lone node with the deadline 0.
-fn unranked(mut node: Box<TreeNode>) -> Box<TreeNode>
-    requires { IsLone node.value.tasks }
-    ensures lone { IsLone result.value.tasks }
-    ensures unranked { IsUnranked (first_task result.value.tasks) }
-    ensures number { (first_task result.value.tasks).number ≡ (first_task node.value.tasks).number }
-    ensures kept { sleeper_in (first_task result.value.tasks) ≡ sleeper_in (first_task node.value.tasks) }
+/// Takes the node out of the slot of a number.
+fn take(slots: &mut [Option<Box<TreeNode>>; 1024], task: TaskId) -> Box<TreeNode>
+    requires { is_some (slot_at slots.old task) ≡ true }
+    ensures node { slot_at slots.old task ≡ Some result }
+    ensures rest { IsWith task None slots.old slots.new }
 {
-    let mut task = node.task();
-    task.entry.d = 0;
-    node.replace(task);
-    node
+    slots[task.get() as usize].take().unwrap()
 }

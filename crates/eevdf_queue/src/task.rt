@@ -1,3 +1,8 @@
+ghost use Rattle.std.specs.Prelude.{◌≡◌};
+ghost use Rattle.eevdf_queue.specs.TaskLists.{sleeper_in};
+ghost use Rattle.eevdf_queue.specs.Placing.{sleeper_from};
+
+use crate::placing::Newcomer;
 use crate::run_entry::Entry;
 use crate::task_number::TaskId;
 
@@ -8,4 +13,15 @@ pub struct Task {
     pub number: TaskId,
     pub entry: Entry,
     pub lag: i64,
+}
+
+/// What the task brings along when it joins a queue.
+pub fn newcomer(task: &Task) -> Newcomer
+    ensures { sleeper_from result ≡ sleeper_in task.now }
+{
+    Newcomer {
+        lag: task.lag,
+        nice: task.entry.nice,
+        slice: task.entry.slice,
+    }
 }

@@ -1,9 +1,12 @@
 ghost use Rattle.std.specs.Prelude.{◌≡◌, ◌<◌, IfOk, pos, true};
 ghost use Rattle.eevdf_queue.specs.Lag.{is_lag};
+ghost use Rattle.eevdf_queue.specs.Moves.{sleeper_of};
+ghost use Rattle.eevdf_queue.specs.Placing.{sleeper_from};
 ghost use Rattle.eevdf_queue.specs.TaskLists.{first_task, contents_of, IsLone};
 
+use crate::placing::Newcomer;
 use crate::run_entry::Entry;
-use crate::task::Task;
+use crate::task::{Task, newcomer};
 use crate::task_number::TaskId;
 use crate::tree_node::TreeNode;
 use eevdf_weight::{Nice, Slice};
@@ -102,6 +105,14 @@ impl Parcel {
         ensures slice { result.slice ≡ self.now.slice }
     {
         self.node.task().entry
+    }
+
+    /// What the task brings along.
+    pub(crate) fn newcomer(&self) -> Newcomer
+        ensures value { sleeper_from result ≡ sleeper_of self.now }
+        ensures limited { is_lag result.lag result.nice result.slice ≡ true }
+    {
+        newcomer(&self.node.task())
     }
 
     /// The node, alone.

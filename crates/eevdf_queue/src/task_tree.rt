@@ -1,7 +1,6 @@
 ghost use Rattle.std.specs.Prelude.{◌≡◌, suc, ◌<◌, ◌≤◌, ◌/◌, ◌^◌, [], length, is_some, true, None, Some, IfSome};
 ghost use Rattle.std.specs.Option.{option_map};
 ghost use Rattle.eevdf_queue.specs.TaskLists.{first_task, find_task, set_entry, entries_of};
-ghost use Rattle.eevdf_queue.specs.Sums.{sum_weights, sum_moments};
 ghost use Rattle.eevdf_queue.specs.Order.{earliest};
 ghost use Rattle.eevdf_queue.specs.Pick.{is_eligible_at};
 ghost use Rattle.eevdf_queue.specs.Candidate.{latest_waiting};
@@ -12,19 +11,17 @@ use crate::run_entry::Entry;
 use crate::task::Task;
 use crate::task_number::TaskId;
 use crate::totals::Totals;
-use crate::tree_change::change;
-use crate::tree_insert::insert;
 use crate::tree_key::Key;
 use crate::tree_node::{
-    Found, TreeNode, find, first_eligible, has_eligible, last_waiting, summary,
+    Found, TreeNode, change, find, first_eligible, insert, last_waiting, remove,
 };
-use crate::tree_remove::{Removed, remove};
 use std::marker::Model;
 
 /// Tasks in a balanced tree by deadline and number, seen as the list of them in that order.
 #[derive(Drop)]
 pub struct TaskTree {
     root: Option<Box<TreeNode>>,
+    count: usize,
 }
 
 impl Model for TaskTree {
@@ -34,37 +31,28 @@ impl Model for TaskTree {
     ghost Value = { List Task };
 
     ghost use Rattle.eevdf_queue.specs.TreeShape.{tasks_in};
-    ghost use Rattle.eevdf_queue.specs.TreeTasks.{IsSorted};
+    ghost use Rattle.eevdf_queue.specs.TreeTasks.{IsCounted};
 
     ghost view = { λ a. tasks_in a.root };
 
-    ghost invariant = { λ a. IsSorted (tasks_in a.root) };
+    ghost invariant = { λ a. IsCounted a.count (tasks_in a.root) };
 }
 
 impl TaskTree {
     pub fn new() -> TaskTree
         ensures { result ≡ [] }
     {
-        TaskTree { root: None }
+        TaskTree {
+            root: None,
+            count: 0,
+        }
     }
 
     pub fn len(&self) -> usize
         ensures value { result ≡ length self.now }
         ensures few { result ≤ 1024 }
     {
-        summary(&self.root).count as usize
-    }
-
-    /// The sums over the tasks.
-    pub fn totals(&self) -> Totals
-        ensures weight { result.weight ≡ sum_weights (entries_of self.now) }
-        ensures moment { result.moment ≡ sum_moments (entries_of self.now) }
-    {
-        let summary = summary(&self.root);
-        Totals {
-            weight: summary.weight,
-            moment: summary.moment,
-        }
+        self.count
     }
 
     /// The task of a key's number, which stands at the key where it is here.
@@ -82,17 +70,21 @@ impl TaskTree {
         requires few { length self.old < 1024 }
         ensures { self.new ≡ insert_task (first_task node.value.tasks) self.old }
     {
-        self.root = Some(insert(self.root.take(), node));
+        insert(&mut self.root, node);
+        self.count += 1;
     }
 
-    /// Gives the task of a key, which is here, another entry of the same deadline.
-    pub fn change(&mut self, key: &Key, entry: &Entry)
+    /// Gives the task of a key, which is here, another entry of the same deadline, and gives its old one back.
+    pub fn change(&mut self, key: &Key, entry: &Entry) -> Entry
         requires here { is_some (find_task key.now.number self.old) ≡ true }
         requires placed { IsAtDeadline key.now.deadline (find_task key.now.number self.old) }
         requires stays { key.now.deadline ≡ entry.now.d }
-        ensures { self.new ≡ set_entry key.now.number entry.now self.old }
+        ensures older { option_map (λ t. t.entry) (find_task key.now.number self.old) ≡ Some result }
+        ensures tasks { self.new ≡ set_entry key.now.number entry.now self.old }
     {
-        self.root = change(self.root.take(), key, entry);
+        let mut older = *entry;
+        change(&mut self.root, key, &mut older);
+        older
     }
 
     /// Takes out the task of a key, which is here, in its node.
@@ -103,25 +95,21 @@ impl TaskTree {
         ensures task { find_task key.now.number self.old ≡ Some (first_task result.value.tasks) }
         ensures rest { self.new ≡ without key.now.number self.old }
     {
-        let Removed { node, rest } = remove(self.root.take(), key);
-        self.root = rest;
-        node
+        let taken = remove(&mut self.root, key);
+        self.count -= 1;
+        taken.node
     }
 
     /// The first by deadline and number of the tasks that are eligible at these sums, and the turns of the
     /// descent to it.
     pub fn earliest(&self, totals: &Totals) -> Option<Found>
         requires { totals.now.weight ≤ 2 ^ 40 }
-        ensures task { option_map (λ f. numbered_entry f.task) result
-            ≡ earliest (is_eligible_at totals.now.weight totals.now.moment) (entries_of self.now) }
+        ensures task { option_map (λ f. f.task) result
+            ≡ option_map (λ a. a.0) (earliest (is_eligible_at totals.now.weight totals.now.moment) (entries_of self.now)) }
         ensures positive { IfSome result (λ f. 1 ≤ f.turns) }
         ensures turns { IfSome result (λ f. IsFull f.turns (length self.now)) }
     {
-        if has_eligible(&self.root, totals) {
-            Some(first_eligible(&self.root, totals))
-        } else {
-            None
-        }
+        first_eligible(&self.root, totals)
     }
 
     /// The last by deadline and number of the tasks that don't run.

@@ -42,31 +42,6 @@ fn shows(
 }
 
 #[test]
-fn takes_turns(rt: HostRuntime) -> Result<(), Fail> {
-    let mut queue = Queue::open();
-    assert_eq!(rt; queue.pick(), None);
-    assert_eq!(rt; tick(&mut queue, 1)?, TickAnswer::Idle);
-    assert!(rt; admit(&rt, &mut queue, parcel(rt.alloc(), 0, 0, 3_000_000, 0)?));
-    assert!(rt; admit(&rt, &mut queue, parcel(rt.alloc(), 1, 0, 3_000_000, 0)?));
-    assert_eq!(rt; queue.pick(), TaskId::new(0));
-    let task = TaskId::new(0).ok_or("number")?;
-    assert_eq!(rt;
-        tick(&mut queue, 3_000_000)?,
-        TickAnswer::Charged {
-            task,
-            resched: true
-        }
-    );
-    assert_eq!(rt; queue.pick(), TaskId::new(1));
-    assert_eq!(rt; queue.running(), TaskId::new(1));
-    assert_eq!(rt; queue.len(), 2);
-    assert_eq!(rt; queue.load(), 2048);
-    assert_eq!(rt; queue.floor_time(), 1_500_000);
-    shows(&rt, &queue, 0, 3_000_000, 6_000_000, -1_500_000)?;
-    shows(&rt, &queue, 1, 0, 3_000_000, 1_500_000)
-}
-
-#[test]
 fn charges_by_weight(rt: HostRuntime) -> Result<(), Fail> {
     let mut queue = Queue::open();
     assert!(rt; admit(&rt, &mut queue, parcel(rt.alloc(), 0, 0, 3_000_000, 0)?));
@@ -99,46 +74,6 @@ fn compares_with_the_exact_mean(rt: HostRuntime) -> Result<(), Fail> {
 }
 
 #[test]
-fn stops_at_the_range(rt: HostRuntime) -> Result<(), Fail> {
-    let mut queue = Queue::open();
-    let last = 1_152_921_504_606_746_976;
-    assert!(rt;
-        !admit(
-            &rt,
-            &mut queue,
-            parcel(rt.alloc(), 0, 0, 100_000, last + 1)?
-        )
-    );
-    assert_eq!(rt; queue.len(), 0);
-    assert!(rt; admit(&rt, &mut queue, parcel(rt.alloc(), 0, 0, 100_000, last)?));
-    assert_eq!(rt; queue.pick(), TaskId::new(0));
-    let task = TaskId::new(0).ok_or("number")?;
-    assert_eq!(rt;
-        tick(&mut queue, 99_998)?,
-        TickAnswer::Charged {
-            task,
-            resched: false
-        }
-    );
-    assert_eq!(rt;
-        tick(&mut queue, 1)?,
-        TickAnswer::Charged {
-            task,
-            resched: false
-        }
-    );
-    assert_eq!(rt; tick(&mut queue, 1)?, TickAnswer::Range);
-    shows(
-        &rt,
-        &queue,
-        0,
-        1_152_921_504_606_846_975,
-        1_152_921_504_606_846_976,
-        0,
-    )
-}
-
-#[test]
 fn keeps_sleepers_apart(rt: HostRuntime) -> Result<(), Fail> {
     let mut queue = Queue::open();
     let sleeper = parcel(rt.alloc(), 7, 0, 3_000_000, 5)?;
@@ -156,4 +91,52 @@ fn keeps_sleepers_apart(rt: HostRuntime) -> Result<(), Fail> {
     assert_eq!(rt; queue.pick(), None);
     assert_eq!(rt; queue.floor_time(), 0);
     Ok(())
+}
+
+/// Two tasks of equal weight, of which the first runs and has been charged for a million nanoseconds.
+fn first_of_two(rt: &impl Abort, alloc: Global) -> Result<Queue, Fail> {
+    let mut queue = Queue::open();
+    assert!(rt; admit(rt, &mut queue, parcel(alloc, 0, 0, 3_000_000, 0)?));
+    assert!(rt; admit(rt, &mut queue, parcel(alloc, 1, 0, 3_000_000, 0)?));
+    assert_eq!(rt; queue.pick(), TaskId::new(0));
+    let _charged = tick(&mut queue, 1_000_000)?;
+    Ok(queue)
+}
+
+/// Attaches a task that isn't here and can join.
+fn attach(rt: &impl Abort, queue: &mut Queue, parcel: Parcel) {
+    let task = parcel.task();
+    assert!(rt; queue.entry(task).is_none());
+    assert!(rt; !queue.asleep(task));
+    assert!(rt; queue.can_place(parcel.nice(), parcel.slice(), parcel.lag()));
+    queue.attach(parcel);
+}
+
+#[test]
+fn pulls_and_yields(rt: HostRuntime) -> Result<(), Fail> {
+    let mut queue = first_of_two(&rt, rt.alloc())?;
+    let task = queue.candidate().ok_or("nobody waits")?;
+    let pulled = queue.detach(task);
+    assert_eq!(rt; pulled.task().get(), 1);
+    assert_eq!(rt; pulled.lag(), 500_000);
+    assert_eq!(rt; queue.floor_time(), 1_000_000);
+    attach(&rt, &mut queue, pulled);
+    shows(&rt, &queue, 1, 0, 3_000_000, 500_000)?;
+    assert_eq!(rt; queue.yield_now(), YieldAnswer::Yielded);
+    shows(&rt, &queue, 0, 1_000_000, 6_000_000, -500_000)
+}
+
+#[test]
+fn sleeps_and_wakes(rt: HostRuntime) -> Result<(), Fail> {
+    let mut queue = first_of_two(&rt, rt.alloc())?;
+    let task = TaskId::new(0).ok_or("number")?;
+    let sleeper = queue.detach_running(task).ok_or("not running")?;
+    assert_eq!(rt; queue.yield_now(), YieldAnswer::Idle);
+    assert!(rt; queue.entry(sleeper.task()).is_none());
+    assert!(rt; !queue.asleep(sleeper.task()));
+    queue.put_asleep(sleeper);
+    assert_eq!(rt; queue.lag_of(task), Some(-500_000));
+    assert_eq!(rt; queue.wake(task), WakeAnswer::Woken);
+    assert_eq!(rt; queue.wake(task), WakeAnswer::Awake);
+    shows(&rt, &queue, 0, 1_000_000, 4_000_000, -500_000)
 }

@@ -2,6 +2,8 @@ ghost use Rattle.std.specs.Prelude.{◌≡◌, ◌*◌, ◌≤◌, ◌^◌, unsi
 ghost use Rattle.eevdf_weight.specs.Limits as limits;
 ghost use Rattle.eevdf_weight.specs.Placement.{floor_div};
 
+use eevdf_weight::floor_quotient;
+
 /// The sums over tasks: of their weights, and of weight times virtual runtime.
 #[derive(Clone, Copy)]
 pub struct Totals {
@@ -30,5 +32,5 @@ fn quotient(totals: &Totals) -> i128
     ensures value { result ≡ floor_div totals.now.moment totals.now.weight }
     ensures small { unsigned_abs result ≤ 2 ^ 60 }
 {
-    totals.moment.div_euclid(i128::from(totals.weight))
+    floor_quotient(totals.moment, totals.weight)
 }

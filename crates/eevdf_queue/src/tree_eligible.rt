@@ -3,7 +3,7 @@ ghost use Rattle.eevdf_queue.specs.Pick.{is_eligible_at};
 
 use crate::task::Task;
 use crate::totals::Totals;
-use crate::tree_summary::Summary;
+use crate::tree_least::Least;
 
 /// Whether a task is eligible among tasks with these sums.
 pub fn is_task_eligible(totals: &Totals, task: &Task) -> bool
@@ -14,11 +14,11 @@ pub fn is_task_eligible(totals: &Totals, task: &Task) -> bool
 }
 
 /// Whether the least virtual runtime is eligible among tasks with these sums.
-pub fn is_least_eligible(totals: &Totals, summary: &Summary) -> bool
+pub fn is_least_eligible(totals: &Totals, least: &Least) -> bool
     requires { totals.now.weight ≤ 2 ^ 40 }
-    ensures { result ≡ int_le (summary.now.least *ℤ pos totals.now.weight) totals.now.moment }
+    ensures { result ≡ int_le (least.now.runtime *ℤ pos totals.now.weight) totals.now.moment }
 {
-    least_scaled(summary, totals) <= totals.moment
+    least_scaled(least, totals) <= totals.moment
 }
 
 /// The virtual runtime of a task times the sum of the weights.
@@ -26,13 +26,13 @@ fn runtime_scaled(task: &Task, totals: &Totals) -> i128
     requires { totals.now.weight ≤ 2 ^ 40 }
     ensures { result ≡ task.now.entry.v *ℤ pos totals.now.weight }
 {
-    i128::from(task.entry.v) * i128::from(totals.weight)
+    i128::from(task.entry.v) * i128::from(totals.weight as i64)
 }
 
 /// The least virtual runtime times the sum of the weights.
-fn least_scaled(summary: &Summary, totals: &Totals) -> i128
+fn least_scaled(least: &Least, totals: &Totals) -> i128
     requires { totals.now.weight ≤ 2 ^ 40 }
-    ensures { result ≡ summary.now.least *ℤ pos totals.now.weight }
+    ensures { result ≡ least.now.runtime *ℤ pos totals.now.weight }
 {
-    i128::from(summary.least) * i128::from(totals.weight)
+    i128::from(least.runtime) * i128::from(totals.weight as i64)
 }

@@ -1,5 +1,6 @@
 ghost use Rattle.std.specs.Prelude.{◌≡◌, ◌↔◌, IsTrue};
 ghost use Rattle.eevdf_queue.specs.TreeKeys as keys;
+ghost use Rattle.eevdf_queue.specs.TreeTasks as ordering;
 
 use crate::run_entry::Entry;
 use crate::task::Task;
@@ -35,4 +36,12 @@ impl Key {
     {
         self.deadline == entry.d
     }
+}
+
+/// Whether a task has the earlier deadline, or the same and the lower number.
+pub fn precedes(task: &Task, other: &Task) -> bool
+    ensures { result ≡ ordering.precedes task.now other.now }
+{
+    task.entry.d < other.entry.d
+        || task.entry.d == other.entry.d && task.number.get() < other.number.get()
 }

@@ -1,29 +1,34 @@
 //! The boxed node of a balanced tree of tasks. It carries one task, alone in a parcel or between the two
-//! sides of a subtree, and keeps the height and the sums of that subtree.
+//! sides of a subtree, and keeps the height and the least virtual runtime of
+//! that subtree.
 
-ghost use Rattle.std.specs.Prelude.{◌≡◌, suc, ◌+◌, ◌≤◌, ◌^◌, max, [], ◌∷◌, ◌++◌, length, is_some, true, Some};
+ghost use Rattle.std.specs.Prelude.{◌≡◌, suc, ◌+◌, ◌≤◌, ◌^◌, max, [], ◌∷◌, ◌++◌, length, is_some, true, Some, IfSome};
+ghost use Rattle.std.specs.Option.{option_map};
 ghost use Rattle.eevdf_queue.specs.TaskLists.{first_task, find_task};
 ghost use Rattle.eevdf_queue.specs.Pick.{is_eligible_at};
-ghost use Rattle.eevdf_queue.specs.Candidate as candidate;
 ghost use Rattle.eevdf_queue.specs.TreeTasks as ordering;
 ghost use Rattle.eevdf_queue.specs.TreeTasks.{AreOrdered, IsAtDeadline, first_that};
 ghost use Rattle.eevdf_queue.specs.TreeShape.{tasks_in, height_in, DifferByAtMost, IsFull, IsAlone};
-ghost use Rattle.eevdf_queue.specs.TreeSummary.{summary_of, IsSmall, AreLow};
+ghost use Rattle.eevdf_queue.specs.TreeLeast.{least_of, AreLow};
 
+mod tree_edit;
+
+use crate::running::is_running;
 use crate::task::Task;
 use crate::task_number::TaskId;
 use crate::totals::Totals;
 use crate::tree_eligible::{is_least_eligible, is_task_eligible};
 use crate::tree_key::Key;
-use crate::tree_summary::Summary;
+use crate::tree_least::Least;
 use std::marker::Model;
+pub use tree_edit::{change, insert, remove};
 
 /// A task, and the nodes on either side of it.
 #[derive(Drop)]
 pub struct TreeNode {
     task: Task,
     height: u32,
-    summary: Summary,
+    least: Least,
     left: Option<Box<TreeNode>>,
     right: Option<Box<TreeNode>>,
 }
@@ -47,10 +52,10 @@ impl Model for TreeNode {
     ghost size_decreases = { λ a h. depth-le-length a };
 }
 
-/// A task that a descent has found, and the turns that it took.
+/// The number of a task that a descent has found, and the turns that it took.
 #[derive(Clone, Copy)]
 pub struct Found {
-    pub task: Task,
+    pub task: TaskId,
     pub turns: u32,
 }
 
@@ -73,15 +78,14 @@ pub fn height(link: &Option<Box<TreeNode>>) -> u32
     }
 }
 
-/// The summary of the tasks below a link.
-pub fn summary(link: &Option<Box<TreeNode>>) -> Summary
-    ensures value { result ≡ summary_of (tasks_in link.now) }
-    ensures small { IsSmall result }
+/// The least virtual runtime of the tasks below a link.
+pub fn least(link: &Option<Box<TreeNode>>) -> Least
+    ensures value { result ≡ least_of (tasks_in link.now) }
     ensures bounded { AreLow (tasks_in link.now) }
 {
     match link {
-        None => Summary::none(),
-        Some(node) => node.summary(),
+        None => Least::none(),
+        Some(node) => node.least(),
     }
 }
 
@@ -93,7 +97,7 @@ impl TreeNode {
         TreeNode {
             task,
             height: 1,
-            summary: Summary::of(&task),
+            least: Least::of(&task),
             left: None,
             right: None,
         }
@@ -108,13 +112,12 @@ impl TreeNode {
         self.height
     }
 
-    /// The summary of the tasks.
-    pub fn summary(&self) -> Summary
-        ensures value { result ≡ summary_of self.now.tasks }
-        ensures small { IsSmall result }
+    /// The least virtual runtime of the tasks.
+    pub fn least(&self) -> Least
+        ensures value { result ≡ least_of self.now.tasks }
         ensures bounded { AreLow self.now.tasks }
     {
-        self.summary
+        self.least
     }
 
     /// The task of a node that is alone.
@@ -130,7 +133,8 @@ impl TreeNode {
         requires { IsAlone self.old }
         ensures { self.new.tasks ≡ task ∷ [] }
     {
-        *self = TreeNode::new(task);
+        self.task = task;
+        self.least = Least::of(&self.task);
     }
 
     /// Gives two sides to a node that is alone.
@@ -142,7 +146,7 @@ impl TreeNode {
         ensures height { self.new.height ≡ suc (max (height_in left) (height_in right)) }
     {
         self.height = height(&left).max(height(&right)) + 1;
-        self.summary = summary(&left).merge(&Summary::of(&self.task).merge(&summary(&right)));
+        self.least = least_around(&left, &self.task, &right);
         self.left = left;
         self.right = right;
     }
@@ -157,9 +161,17 @@ impl TreeNode {
         let left = self.left.take();
         let right = self.right.take();
         self.height = 1;
-        self.summary = Summary::of(&self.task);
+        self.least = Least::of(&self.task);
         Sides { left, right }
     }
+}
+
+/// The least virtual runtime of a task and of those below the links on either side of it.
+fn least_around(left: &Option<Box<TreeNode>>, task: &Task, right: &Option<Box<TreeNode>>) -> Least
+    ensures value { result ≡ least_of (tasks_in left.now ++ task.now ∷ tasks_in right.now) }
+    ensures bounded { AreLow (tasks_in left.now ++ task.now ∷ tasks_in right.now) }
+{
+    least(left).or(&Least::of(task).or(&least(right)))
 }
 
 /// The task of a key's number, which stands at the key where it is here.
@@ -168,60 +180,73 @@ pub fn find(link: &Option<Box<TreeNode>>, key: &Key) -> Option<Task>
     requires placed { IsAtDeadline key.now.deadline (find_task key.now.number (tasks_in link.now)) }
     ensures { result ≡ find_task key.now.number (tasks_in link.now) }
 {
-    let Some(node) = link else { return None };
-    let node: &TreeNode = node;
-    if key.is_under(&node.task) {
-        find(&node.left, key)
-    } else if key.is_over(&node.task) {
-        find(&node.right, key)
-    } else {
-        Some(node.task)
+    let mut at = link;
+    'down: while let Some(node) = at {
+        let node: &TreeNode = node;
+        if key.is_under(&node.task) {
+            at = &node.left;
+        } else if key.is_over(&node.task) {
+            at = &node.right;
+        } else {
+            return Some(node.task);
+        }
     }
+    None
 }
 
-/// Whether a task below a link is eligible at these sums.
-pub fn has_eligible(link: &Option<Box<TreeNode>>, totals: &Totals) -> bool
-    requires { totals.now.weight ≤ 2 ^ 40 }
-    ensures { result ≡ is_some (first_that (is_eligible_at totals.now.weight totals.now.moment) (tasks_in link.now)) }
+/// The first eligible task below a link, left before right, and the turns that lead to it.
+pub fn first_eligible(link: &Option<Box<TreeNode>>, totals: &Totals) -> Option<Found>
+    requires few { totals.now.weight ≤ 2 ^ 40 }
+    requires small { length (tasks_in link.now) ≤ 2 ^ 20 }
+    ensures task { option_map (λ f. f.task) result
+        ≡ option_map (λ t. t.number) (first_that (is_eligible_at totals.now.weight totals.now.moment) (tasks_in link.now)) }
+    ensures positive { IfSome result (λ f. 1 ≤ f.turns) }
+    ensures few_turns { IfSome result (λ f. IsFull f.turns (length (tasks_in link.now))) }
 {
     match link {
-        None => false,
-        Some(node) => {
-            let node: &TreeNode = node;
-            is_least_eligible(totals, &node.summary)
+        None => None,
+        Some(root) => {
+            let root: &TreeNode = root;
+            if is_least_eligible(totals, &root.least) {
+                Some(first_under(root, totals))
+            } else {
+                None
+            }
         }
     }
 }
 
-/// The first eligible task below a link that has one, left before right, and the turns that lead to it.
-pub fn first_eligible(link: &Option<Box<TreeNode>>, totals: &Totals) -> Found
+/// The first eligible task of a node that has one, left before right, and the turns that lead to it.
+fn first_under(root: &TreeNode, totals: &Totals) -> Found
     requires few { totals.now.weight ≤ 2 ^ 40 }
-    requires small { length (tasks_in link.now) ≤ 2 ^ 20 }
-    requires some { is_some (first_that (is_eligible_at totals.now.weight totals.now.moment) (tasks_in link.now)) ≡ true }
-    ensures task { first_that (is_eligible_at totals.now.weight totals.now.moment) (tasks_in link.now) ≡ Some result.task }
+    requires small { length root.now.tasks ≤ 2 ^ 20 }
+    requires some { is_some (first_that (is_eligible_at totals.now.weight totals.now.moment) root.now.tasks) ≡ true }
+    ensures task { option_map (λ t. t.number) (first_that (is_eligible_at totals.now.weight totals.now.moment) root.now.tasks) ≡ Some result.task }
     ensures positive { 1 ≤ result.turns }
-    ensures turns { result.turns ≤ height_in link.now }
-    ensures few_turns { IsFull result.turns (length (tasks_in link.now)) }
+    ensures turns { IsFull result.turns (length root.now.tasks) }
 {
-    let Some(node) = link else { unreachable!() };
-    let node: &TreeNode = node;
-    if has_eligible(&node.left, totals) {
-        let found = first_eligible(&node.left, totals);
-        return Found {
-            task: found.task,
-            turns: found.turns + 1,
+    let _height = root.height();
+    let mut at = root;
+    let mut turns: u32 = 0;
+    'down: loop {
+        turns += 1;
+        if let Some(left) = &at.left {
+            let left: &TreeNode = left;
+            if is_least_eligible(totals, &left.least) {
+                at = left;
+                continue;
+            }
+        }
+        if is_task_eligible(totals, &at.task) {
+            return Found {
+                task: at.task.number,
+                turns,
+            };
+        }
+        let Some(right) = &at.right else {
+            unreachable!()
         };
-    }
-    if is_task_eligible(totals, &node.task) {
-        return Found {
-            task: node.task,
-            turns: 1,
-        };
-    }
-    let found = first_eligible(&node.right, totals);
-    Found {
-        task: found.task,
-        turns: found.turns + 1,
+        at = right;
     }
 }
 
@@ -240,15 +265,5 @@ pub fn last_waiting(link: &Option<Box<TreeNode>>, running: &Option<TaskId>) -> O
                 Some(node.task)
             }
         }
-    }
-}
-
-/// Whether this number is the running task's.
-fn is_running(running: &Option<TaskId>, number: TaskId) -> bool
-    ensures { result ≡ candidate.is_running running.now number }
-{
-    match running {
-        None => false,
-        Some(running) => number == *running,
     }
 }

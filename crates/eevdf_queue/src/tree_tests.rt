@@ -1,4 +1,5 @@
 use crate::request::{is_entry_in_range, started};
+use crate::run_queue::Queue;
 use crate::runnable_tasks::RunnableTasks;
 use crate::sleepers::Sleepers;
 use crate::task_number::TaskId;
@@ -25,64 +26,75 @@ fn add(rt: &impl Abort, alloc: Global, tree: &mut RunnableTasks, number: u64) ->
     Ok(())
 }
 
-/// Asks that the picks come in ascending number, each after few turns, when each picked task is taken out.
-fn empties_in_order(rt: &impl Abort, tree: &mut RunnableTasks) -> Result<(), Fail> {
-    let first = tree.pick_with_turns().ok_or("empty")?;
-    assert!(rt; first.turns >= 6);
+fn admit(rt: &impl Abort, alloc: Global, queue: &mut Queue, number: u64) -> Result<(), Fail> {
+    let task = TaskId::new(number).ok_or("number")?;
+    let parcel = parcel(alloc, task)?;
+    assert!(rt; queue.entry(parcel.task()).is_none());
+    assert!(rt; !queue.asleep(parcel.task()));
+    assert!(rt; queue.admit(parcel).is_ok());
+    Ok(())
+}
+
+/// Asks that this task is picked after few turns, and takes it out.
+fn takes_next(rt: &impl Abort, queue: &mut Queue, number: u64) -> Result<(), Fail> {
+    let task = queue.pick().ok_or("empty")?;
+    assert_eq!(rt; task.get(), number);
+    assert!(rt; queue.pick_steps() <= 21);
+    let parcel = queue.detach_running(task).ok_or("not running")?;
+    assert!(rt; parcel.task() == task);
+    Ok(())
+}
+
+/// Asks that the picks come in ascending number when each picked task is taken out.
+fn empties_in_order(rt: &impl Abort, queue: &mut Queue) -> Result<(), Fail> {
+    assert!(rt; queue.pick() == TaskId::new(0));
+    assert!(rt; queue.pick_steps() >= 6);
     for number in 0..1024 {
-        let first = tree.pick_with_turns().ok_or("empty")?;
-        assert_eq!(rt; first.task.get(), number);
-        assert!(rt; first.turns <= 21);
-        let entry = tree.get(first.task).ok_or("absent")?;
-        let left = tree.remove(first.task, 0);
-        assert_eq!(rt; left.start(), entry.v);
-        assert_eq!(rt; tree.len() as u64, 1023 - number);
+        takes_next(rt, queue, number)?;
     }
-    assert!(rt; tree.pick().is_none());
+    assert!(rt; queue.pick().is_none());
+    assert_eq!(rt; queue.pick_steps(), 0);
     Ok(())
 }
 
 #[test]
 fn picks_one_task_in_one_turn(rt: HostRuntime) -> Result<(), Fail> {
-    let mut tree = RunnableTasks::new();
-    assert!(rt; tree.pick_with_turns().is_none());
-    add(&rt, rt.alloc(), &mut tree, 7)?;
-    let first = tree.pick_with_turns().ok_or("empty")?;
-    assert_eq!(rt; first.task.get(), 7);
-    assert_eq!(rt; first.turns, 1);
-    assert!(rt; tree.candidate(None) == TaskId::new(7));
-    assert!(rt; tree.candidate(TaskId::new(7)).is_none());
+    let mut queue = Queue::open();
+    admit(&rt, rt.alloc(), &mut queue, 7)?;
+    assert!(rt; queue.candidate() == TaskId::new(7));
+    assert!(rt; queue.pick() == TaskId::new(7));
+    assert_eq!(rt; queue.pick_steps(), 1);
+    assert!(rt; queue.candidate().is_none());
     Ok(())
 }
 
 #[test]
 fn picks_from_an_ascending_tree(rt: HostRuntime) -> Result<(), Fail> {
-    let mut tree = RunnableTasks::new();
+    let mut queue = Queue::open();
     for number in 0..1024 {
-        add(&rt, rt.alloc(), &mut tree, number)?;
+        admit(&rt, rt.alloc(), &mut queue, number)?;
     }
-    empties_in_order(&rt, &mut tree)
+    empties_in_order(&rt, &mut queue)
 }
 
 #[test]
 fn picks_from_a_descending_tree(rt: HostRuntime) -> Result<(), Fail> {
-    let mut tree = RunnableTasks::new();
+    let mut queue = Queue::open();
     for number in 0..1024 {
-        add(&rt, rt.alloc(), &mut tree, 1023 - number)?;
+        admit(&rt, rt.alloc(), &mut queue, 1023 - number)?;
     }
-    empties_in_order(&rt, &mut tree)
+    empties_in_order(&rt, &mut queue)
 }
 
 #[test]
 fn picks_from_an_alternating_tree(rt: HostRuntime) -> Result<(), Fail> {
-    let mut tree = RunnableTasks::new();
+    let mut queue = Queue::open();
     for number in 0..512 {
-        add(&rt, rt.alloc(), &mut tree, number)?;
-        add(&rt, rt.alloc(), &mut tree, 1023 - number)?;
+        admit(&rt, rt.alloc(), &mut queue, number)?;
+        admit(&rt, rt.alloc(), &mut queue, 1023 - number)?;
     }
-    assert!(rt; tree.candidate(None) == TaskId::new(1023));
-    assert!(rt; tree.candidate(TaskId::new(1023)) == TaskId::new(1022));
-    empties_in_order(&rt, &mut tree)
+    assert!(rt; queue.candidate() == TaskId::new(1023));
+    empties_in_order(&rt, &mut queue)
 }
 
 /// Gives each task an entry that starts later, first with its old deadline and then with a later one.
@@ -103,7 +115,7 @@ fn renews_each_task(rt: HostRuntime) -> Result<(), Fail> {
         assert_eq!(rt; tree.totals().moment, 1_024_000 * i128::from(number + 1));
     }
     for number in 0..64 {
-        let first = tree.pick().ok_or("empty")?;
+        let first = tree.pick().ok_or("empty")?.task;
         assert_eq!(rt; first.get(), number);
         let entry = tree.get(first).ok_or("absent")?;
         let mut later = started(&entry).ok_or("range")?;
@@ -112,7 +124,8 @@ fn renews_each_task(rt: HostRuntime) -> Result<(), Fail> {
         tree.set(first, later);
         assert_eq!(rt; tree.get(first), Some(later));
     }
-    assert!(rt; tree.pick() == TaskId::new(0));
+    let first = tree.pick().ok_or("empty")?;
+    assert_eq!(rt; first.task.get(), 0);
     assert!(rt; tree.candidate(TaskId::new(63)) == TaskId::new(62));
     Ok(())
 }

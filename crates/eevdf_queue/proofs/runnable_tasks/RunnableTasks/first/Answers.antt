@@ -6,4 +6,4 @@ use Rattle.eevdf_queue.proofs.runnable_tasks.RunnableTasks.first.Goals as goal
 
 pub returns-in-Some-clause-turns : goal.returns-in-Some-clause-turns
 returns-in-Some-clause-turns c =
-    subst (λ (z : ℕ). IsFull c.in-Some.found.turns z) (sym (len-runnable_in c.self.inside.tree c.self.invariant.runnable) ∙ ap (λ m. map.len m) c.self.view_is) c.in-Some.ensures.turns
+    subst (λ (z : ℕ). IsFull c.in-Some.found.turns z) (sym (len-runnable_in c.self.inside.tree c.self.invariant.store.runnable) ∙ ap (λ m. map.len m) c.self.view_is) c.in-Some.ensures.turns

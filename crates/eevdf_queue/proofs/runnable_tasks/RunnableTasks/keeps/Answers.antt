@@ -4,4 +4,4 @@ use Rattle.eevdf_queue.proofs.RunnableMaps.{in_range_in}
 use Rattle.eevdf_queue.proofs.runnable_tasks.RunnableTasks.keeps.Goals as goal
 
 pub returns : goal.returns
-returns c = subst AreInRange c.self.view_is (in_range_in _ c.self.invariant.runnable)
+returns c = subst AreInRange c.self.view_is (in_range_in _ c.self.invariant.store.runnable)

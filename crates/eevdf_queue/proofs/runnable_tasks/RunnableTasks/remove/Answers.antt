@@ -1,4 +1,4 @@
-use Rattle.std.proofs.Common.{◌≡◌, ◌∙◌, ℕ, Option, Some, true, ap, sym, subst}
+use Rattle.std.proofs.Common.{◌≡◌, ◌∙◌, ℕ, ◌≤◌, Option, Some, true, ap, sym, subst}
 use Rattle.std.specs.Prelude.{ℤ, is_some, IfSome}
 use Rattle.std.specs.Option.{option_map}
 use Rattle.std.proofs.lemmas.Int.{to_z-of_z}
@@ -8,9 +8,11 @@ use Rattle.eevdf_queue.specs.State.{Contents}
 use Rattle.eevdf_queue.specs.Lag.{is_lag}
 use Rattle.eevdf_queue.specs.TaskLists.{first_task, find_task}
 use Rattle.eevdf_queue.specs.TreeTasks.{without}
-use Rattle.eevdf_queue.specs.TreeStores.{deadline_at, leaving}
+use Rattle.eevdf_queue.specs.TreeStores.{deadline_at}
+use Rattle.eevdf_queue.specs.Leaving.{leaving}
 use Rattle.eevdf_queue.proofs.TreeSearch.{found_number}
 use Rattle.eevdf_queue.proofs.TreeMaps.{find_present, placed, taken_stored, taken_seen, found_entry}
+use Rattle.eevdf_queue.proofs.TreeTotals.{totals-without, totals_part, totals_near}
 use Rattle.eevdf_queue.proofs.runnable_tasks.RunnableTasks.remove.Goals as goal
 
 pub remove-node-requires-clause-here : goal.remove-node-requires-clause-here
@@ -21,7 +23,7 @@ remove-node-requires-clause-here c =
 pub remove-node-requires-clause-placed : goal.remove-node-requires-clause-placed
 remove-node-requires-clause-placed c =
     let d : c.key-key.result.deadline ≡ deadline_at c.self.inside.deadlines c.key-key.result.number = cc in
-    placed c.self.inside.deadlines c.key-key.result c.self.inside.tree c.self.invariant.noted d
+    placed c.self.inside.deadlines c.key-key.result c.self.inside.tree c.self.invariant.store.noted d
 
 pub leave-requires-clause-limited : goal.leave-requires-clause-limited
 leave-requires-clause-limited c =
@@ -34,13 +36,20 @@ pub invariant_of-self : goal.invariant_of-self
 invariant_of-self c =
     let f : find_task c.args.task c.self.inside.tree ≡ Some (first_task c.remove-node.result.value.tasks) = ap (λ (q : ℕ). find_task q c.self.inside.tree) (sym c.key-key.ensures.number) ∙ c.remove-node.ensures.task in
     let e : c.remove-node.new.self ≡ without c.args.task c.self.inside.tree = c.remove-node.ensures.rest ∙ ap (λ (q : ℕ). without q c.self.inside.tree) c.key-key.ensures.number in
-    taken_stored c.self.inside.deadlines c.args.task (first_task c.remove-node.result.value.tasks) c.self.inside.tree c.remove-node.new.self c.self.invariant f e
+    let x : (first_task c.remove-node.result.value.tasks).entry ≡ c.task.result.entry = cc in
+    record {
+      store = taken_stored c.self.inside.deadlines c.args.task (first_task c.remove-node.result.value.tasks) c.self.inside.tree c.remove-node.new.self c.self.invariant.store f e;
+      totals =
+          totals-without c.args.task (first_task c.remove-node.result.value.tasks) c.task.result.entry c.self.inside.tree c.remove-node.new.self c.self.inside.totals c.without_share-self-inside.result
+          c.share.result.weight c.share.result.moment c.self.invariant.totals f x e c.share.ensures.weight c.share.ensures.moment
+          c.without_share-self-inside.ensures.weight c.without_share-self-inside.ensures.moment;
+    }
 
 pub returns-clause-rest : goal.returns-clause-rest
 returns-clause-rest c =
     let f : find_task c.args.task c.self.inside.tree ≡ Some (first_task c.remove-node.result.value.tasks) = ap (λ (q : ℕ). find_task q c.self.inside.tree) (sym c.key-key.ensures.number) ∙ c.remove-node.ensures.task in
     let e : c.remove-node.new.self ≡ without c.args.task c.self.inside.tree = c.remove-node.ensures.rest ∙ ap (λ (q : ℕ). without q c.self.inside.tree) c.key-key.ensures.number in
-    taken_seen c.self.inside.deadlines c.args.task (first_task c.remove-node.result.value.tasks) c.self.inside.tree c.remove-node.new.self c.self.invariant f e c.args.self.now c.self.view_is
+    taken_seen c.self.inside.deadlines c.args.task (first_task c.remove-node.result.value.tasks) c.self.inside.tree c.remove-node.new.self c.self.invariant.store f e c.args.self.now c.self.view_is
 
 pub returns-clause-parcel : goal.returns-clause-parcel
 returns-clause-parcel c =
@@ -49,3 +58,13 @@ returns-clause-parcel c =
     ∙ ap (λ (q : ℕ). Some (leaving q c.args.lag (first_task c.remove-node.result.value.tasks).entry)) (sym (found_number c.args.task c.self.inside.tree (first_task c.remove-node.result.value.tasks) f))
     ∙ ap (λ (z : ℤ). Some (leaving (first_task c.remove-node.result.value.tasks).number z (first_task c.remove-node.result.value.tasks).entry)) (sym (to_z-of_z w64 c.args.lag c.ranges.lag))
     ∙ ap (λ (p : Contents). Some p) (sym c.leave.ensures)
+
+pub without_share-self-inside-requires-clause-part : goal.without_share-self-inside-requires-clause-part
+without_share-self-inside-requires-clause-part c =
+    let f : find_task c.args.task c.self.inside.tree ≡ Some (first_task c.remove-node.result.value.tasks) = ap (λ (q : ℕ). find_task q c.self.inside.tree) (sym c.key-key.ensures.number) ∙ c.remove-node.ensures.task in
+    let x : (first_task c.remove-node.result.value.tasks).entry ≡ c.task.result.entry = cc in
+    subst (λ (z : ℕ). z ≤ c.self.inside.totals.weight) (sym c.share.ensures.weight)
+    (totals_part c.args.task (first_task c.remove-node.result.value.tasks) c.task.result.entry c.self.inside.totals c.self.inside.tree c.self.invariant.totals f x)
+
+pub without_share-self-inside-requires-clause-small : goal.without_share-self-inside-requires-clause-small
+without_share-self-inside-requires-clause-small c = totals_near c.self.inside.deadlines c.self.inside.totals c.self.inside.tree c.self.invariant

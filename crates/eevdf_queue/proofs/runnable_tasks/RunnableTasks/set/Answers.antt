@@ -2,10 +2,11 @@ use Rattle.std.proofs.Common.{◌≡◌, ◌∙◌, ℕ, Some, refl, ap, sym, su
 use Rattle.std.specs.Prelude.{ℤ, is_some}
 use Rattle.eevdf_queue.specs.declared.task.Task.{Task}
 use Rattle.eevdf_queue.specs.TaskLists.{first_task, find_task, set_entry}
-use Rattle.eevdf_queue.specs.TreeTasks.{without, IsAtDeadline}
+use Rattle.eevdf_queue.specs.TreeTasks.{insert_task, without, IsAtDeadline}
 use Rattle.eevdf_queue.specs.TreeStores.{deadline_at}
 use Rattle.eevdf_queue.proofs.TreeMaps.{find_present, placed, taken_absent, taken_room, moved_stored, moved_seen}
 use Rattle.eevdf_queue.proofs.TreeChange.{stored-set, set_seen}
+use Rattle.eevdf_queue.proofs.TreeTotals.{totals-set, totals-moved, totals_part, totals_few, totals_small, entry_found}
 use Rattle.eevdf_queue.proofs.runnable_tasks.RunnableTasks.set.Goals as goal
 
 pub remove-node-requires-clause-here : goal.remove-node-requires-clause-here
@@ -16,53 +17,90 @@ remove-node-requires-clause-here c =
 pub remove-node-requires-clause-placed : goal.remove-node-requires-clause-placed
 remove-node-requires-clause-placed c =
     let d : c.key-key.result.deadline ≡ deadline_at c.self.inside.deadlines c.key-key.result.number = cc in
-    placed c.self.inside.deadlines c.key-key.result c.self.inside.tree c.self.invariant.noted d
+    placed c.self.inside.deadlines c.key-key.result c.self.inside.tree c.self.invariant.store.noted d
 
 pub put-requires-clause-absent : goal.put-requires-clause-absent
 put-requires-clause-absent c =
     let f : find_task c.args.task c.self.inside.tree ≡ Some (first_task c.remove-node.result.value.tasks) = ap (λ (q : ℕ). find_task q c.self.inside.tree) (sym c.key-key.ensures.number) ∙ c.remove-node.ensures.task in
     let e : c.remove-node.new.self ≡ without c.args.task c.self.inside.tree = c.remove-node.ensures.rest ∙ ap (λ (q : ℕ). without q c.self.inside.tree) c.key-key.ensures.number in
-    taken_absent c.self.inside.deadlines c.args.task (first_task c.remove-node.result.value.tasks) c.self.inside.tree c.remove-node.new.self c.self.invariant f e
+    taken_absent c.self.inside.deadlines c.args.task (first_task c.remove-node.result.value.tasks) c.self.inside.tree c.remove-node.new.self c.self.invariant.store f e
 
 pub put-requires-clause-few : goal.put-requires-clause-few
 put-requires-clause-few c =
     let f : find_task c.args.task c.self.inside.tree ≡ Some (first_task c.remove-node.result.value.tasks) = ap (λ (q : ℕ). find_task q c.self.inside.tree) (sym c.key-key.ensures.number) ∙ c.remove-node.ensures.task in
     let e : c.remove-node.new.self ≡ without c.args.task c.self.inside.tree = c.remove-node.ensures.rest ∙ ap (λ (q : ℕ). without q c.self.inside.tree) c.key-key.ensures.number in
-    taken_room c.self.inside.deadlines c.args.task (first_task c.remove-node.result.value.tasks) c.self.inside.tree c.remove-node.new.self c.self.invariant f e
+    taken_room c.self.inside.deadlines c.args.task (first_task c.remove-node.result.value.tasks) c.self.inside.tree c.remove-node.new.self c.self.invariant.store f e
 
 pub invariant_of-self-2 : goal.invariant_of-self-2
 invariant_of-self-2 c =
     let f : find_task c.args.task c.self.inside.tree ≡ Some (first_task c.remove-node.result.value.tasks) = ap (λ (q : ℕ). find_task q c.self.inside.tree) (sym c.key-key.ensures.number) ∙ c.remove-node.ensures.task in
     let e : c.remove-node.new.self ≡ without c.args.task c.self.inside.tree = c.remove-node.ensures.rest ∙ ap (λ (q : ℕ). without q c.self.inside.tree) c.key-key.ensures.number in
     let u : Task = record (first_task c.remove-node.result.value.tasks) { entry = c.args.entry } in
-    moved_stored c.self.inside.deadlines c.args.task (first_task c.remove-node.result.value.tasks) c.self.inside.tree c.remove-node.new.self c.self.invariant f e c.put.new.deadlines u c.put.new.tree refl c.put.ensures.tree c.requires.in_range c.put.ensures.table
+    let x : (first_task c.remove-node.result.value.tasks).entry ≡ c.task.result.entry = cc in
+    record {
+      store = moved_stored c.self.inside.deadlines c.args.task (first_task c.remove-node.result.value.tasks) c.self.inside.tree c.remove-node.new.self c.self.invariant.store f e c.put.new.deadlines u c.put.new.tree refl c.put.ensures.tree c.requires.in_range c.put.ensures.table;
+      totals =
+          totals-moved c.args.task (first_task c.remove-node.result.value.tasks) c.task.result.entry c.args.entry c.self.inside.tree c.put.new.tree c.self.inside.totals c.exchanged-self-inside-2.result
+          c.self.invariant.totals f x c.exchanged-self-inside-2.ensures.weight c.exchanged-self-inside-2.ensures.moment
+          (c.put.ensures.tree ∙ ap (insert_task u) e);
+    }
 
 pub returns : goal.returns
 returns c =
     let f : find_task c.args.task c.self.inside.tree ≡ Some (first_task c.remove-node.result.value.tasks) = ap (λ (q : ℕ). find_task q c.self.inside.tree) (sym c.key-key.ensures.number) ∙ c.remove-node.ensures.task in
     let e : c.remove-node.new.self ≡ without c.args.task c.self.inside.tree = c.remove-node.ensures.rest ∙ ap (λ (q : ℕ). without q c.self.inside.tree) c.key-key.ensures.number in
     let u : Task = record (first_task c.remove-node.result.value.tasks) { entry = c.args.entry } in
-    moved_seen c.self.inside.deadlines c.args.task (first_task c.remove-node.result.value.tasks) c.self.inside.tree c.remove-node.new.self c.self.invariant f e c.args.self.now u c.put.new.tree c.self.view_is refl c.put.ensures.tree
+    moved_seen c.self.inside.deadlines c.args.task (first_task c.remove-node.result.value.tasks) c.self.inside.tree c.remove-node.new.self c.self.invariant.store f e c.args.self.now u c.put.new.tree c.self.view_is refl c.put.ensures.tree
 
-pub change-requires-clause-here : goal.change-requires-clause-here
-change-requires-clause-here c =
+pub change-older-requires-clause-here : goal.change-older-requires-clause-here
+change-older-requires-clause-here c =
     ap (λ (q : ℕ). is_some (find_task q c.self.inside.tree)) c.key-key.ensures.number
     ∙ find_present c.self.inside.tree c.args.self.now c.args.task c.self.view_is c.requires.here
 
-pub change-requires-clause-placed : goal.change-requires-clause-placed
-change-requires-clause-placed c =
+pub change-older-requires-clause-placed : goal.change-older-requires-clause-placed
+change-older-requires-clause-placed c =
     let d : c.key-key.result.deadline ≡ deadline_at c.self.inside.deadlines c.key-key.result.number = cc in
-    placed c.self.inside.deadlines c.key-key.result c.self.inside.tree c.self.invariant.noted d
+    placed c.self.inside.deadlines c.key-key.result c.self.inside.tree c.self.invariant.store.noted d
 
 pub invariant_of-self : goal.invariant_of-self
 invariant_of-self c =
     let d : c.key-key.result.deadline ≡ deadline_at c.self.inside.deadlines c.key-key.result.number = cc in
-    let a = placed c.self.inside.deadlines c.key-key.result c.self.inside.tree c.self.invariant.noted d in
+    let a = placed c.self.inside.deadlines c.key-key.result c.self.inside.tree c.self.invariant.store.noted d in
     let same : c.key-key.result.deadline ≡ c.args.entry.d = search rules in
-    stored-set c.self.inside.deadlines c.key-key.result.number c.args.entry c.self.inside.tree c.change.new.self c.self.invariant
-    (subst (λ (z : ℤ). IsAtDeadline z (find_task c.key-key.result.number c.self.inside.tree)) same a) c.requires.in_range c.change.ensures
+    let g = entry_found (find_task c.key-key.result.number c.self.inside.tree) c.change-older.result c.change-older.ensures.older in
+    record {
+      store =
+          stored-set c.self.inside.deadlines c.key-key.result.number c.args.entry c.self.inside.tree c.change-older.new.self c.self.invariant.store
+          (subst (λ (z : ℤ). IsAtDeadline z (find_task c.key-key.result.number c.self.inside.tree)) same a) c.requires.in_range c.change-older.ensures.tasks;
+      totals =
+          totals-set c.key-key.result.number g.0 c.change-older.result c.args.entry c.self.inside.tree c.change-older.new.self c.self.inside.totals c.exchanged-self-inside.result
+          c.self.invariant.totals g.1.0 g.1.1 c.exchanged-self-inside.ensures.weight c.exchanged-self-inside.ensures.moment c.change-older.ensures.tasks;
+    }
 
 pub returns-then-is_at : goal.returns-then-is_at
 returns-then-is_at c =
-    set_seen c.args.task c.args.entry c.self.inside.tree c.change.new.self c.args.self.now c.self.view_is c.requires.here
-    (c.change.ensures ∙ ap (λ (q : ℕ). set_entry q c.args.entry c.self.inside.tree) c.key-key.ensures.number)
+    set_seen c.args.task c.args.entry c.self.inside.tree c.change-older.new.self c.args.self.now c.self.view_is c.requires.here
+    (c.change-older.ensures.tasks ∙ ap (λ (q : ℕ). set_entry q c.args.entry c.self.inside.tree) c.key-key.ensures.number)
+
+pub exchanged-self-inside-requires-clause-part : goal.exchanged-self-inside-requires-clause-part
+exchanged-self-inside-requires-clause-part c =
+    let g = entry_found (find_task c.key-key.result.number c.self.inside.tree) c.change-older.result c.change-older.ensures.older in
+    totals_part c.key-key.result.number g.0 c.change-older.result c.self.inside.totals c.self.inside.tree c.self.invariant.totals g.1.0 g.1.1
+
+pub exchanged-self-inside-requires-clause-few : goal.exchanged-self-inside-requires-clause-few
+exchanged-self-inside-requires-clause-few c = totals_few c.self.inside.deadlines c.self.inside.totals c.self.inside.tree c.self.invariant
+
+pub exchanged-self-inside-requires-clause-small : goal.exchanged-self-inside-requires-clause-small
+exchanged-self-inside-requires-clause-small c = totals_small c.self.inside.deadlines c.self.inside.totals c.self.inside.tree c.self.invariant
+
+pub exchanged-self-inside-requires-2-clause-part : goal.exchanged-self-inside-requires-2-clause-part
+exchanged-self-inside-requires-2-clause-part c =
+    let f : find_task c.args.task c.self.inside.tree ≡ Some (first_task c.remove-node.result.value.tasks) = ap (λ (q : ℕ). find_task q c.self.inside.tree) (sym c.key-key.ensures.number) ∙ c.remove-node.ensures.task in
+    let x : (first_task c.remove-node.result.value.tasks).entry ≡ c.task.result.entry = cc in
+    totals_part c.args.task (first_task c.remove-node.result.value.tasks) c.task.result.entry c.self.inside.totals c.self.inside.tree c.self.invariant.totals f x
+
+pub exchanged-self-inside-requires-2-clause-few : goal.exchanged-self-inside-requires-2-clause-few
+exchanged-self-inside-requires-2-clause-few c = totals_few c.self.inside.deadlines c.self.inside.totals c.self.inside.tree c.self.invariant
+
+pub exchanged-self-inside-requires-2-clause-small : goal.exchanged-self-inside-requires-2-clause-small
+exchanged-self-inside-requires-2-clause-small c = totals_small c.self.inside.deadlines c.self.inside.totals c.self.inside.tree c.self.invariant

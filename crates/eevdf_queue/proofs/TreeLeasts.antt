@@ -1,0 +1,44 @@
+-- The least virtual runtime of some tasks from those of its parts.
+use Rattle.std.proofs.Common.{◌≡◌, Bool, true, false, refl, List, [], ◌∷◌, ◌++◌, sym, ap, ◌∙◌, arith}
+use Rattle.std.specs.Prelude.{ℤ, pos, ◌≤ℤ◌, not}
+use Rattle.std.specs.Int.{int_min}
+use Rattle.std.proofs.lemmas.Int.{ints, clamps}
+use Rattle.eevdf_queue.specs.declared.task.Task.{Task}
+use Rattle.eevdf_queue.specs.declared.tree_least.Least.{Least}
+use Rattle.eevdf_queue.specs.TreeLeast.{least_runtime, least_of, lesser}
+
+least_below : (ts : List Task) → least_runtime ts ≤ℤ pos 0x7fff_ffff_ffff_ffff
+least_below [] = grind (arith, ints)
+least_below (t ∷ ts) = let k = least_below ts in grind (arith, ints)
+
+int_min_assoc : (a b c : ℤ) → int_min a (int_min b c) ≡ int_min (int_min a b) c
+int_min_assoc a b c = omega (arith, ints, clamps)
+
+least-append : (xs ys : List Task) → least_runtime (xs ++ ys) ≡ int_min (least_runtime xs) (least_runtime ys)
+least-append [] ys = let k = least_below ys in grind (arith, ints)
+least-append (x ∷ xs) ys = ap (int_min x.entry.v) (least-append xs ys) ∙ int_min_assoc x.entry.v (least_runtime xs) (least_runtime ys)
+
+least-around : (xs : List Task) (t : Task) (ys : List Task) → least_runtime (xs ++ t ∷ ys) ≡ int_min (least_runtime xs) (int_min (least_runtime (t ∷ [])) (least_runtime ys))
+least-around xs t ys = least-append xs (t ∷ ys) ∙ ap (int_min (least_runtime xs)) (least-append (t ∷ []) ys)
+
+pub least-node : (s a m b e : Least) (xs : List Task) (t : Task) (ys : List Task) → s ≡ lesser a m → m ≡ lesser b e
+    → a ≡ least_of xs → b ≡ least_of (t ∷ []) → e ≡ least_of ys → s ≡ least_of (xs ++ t ∷ ys)
+least-node s a m b e xs t ys es em ea eb ee =
+    es
+    ∙ ap (λ (z : Least). lesser z m) ea
+    ∙ ap (lesser (least_of xs)) (em ∙ ap (λ (z : Least). lesser z e) eb ∙ ap (lesser (least_of (t ∷ []))) ee)
+    ∙ sym (ap (λ (z : ℤ). record { runtime = z }) (least-around xs t ys))
+
+-- where one side has the same least, so has the whole
+pub least-same_left : (xs zs : List Task) (t : Task) (ys : List Task) → least_of zs ≡ least_of xs → least_of (zs ++ t ∷ ys) ≡ least_of (xs ++ t ∷ ys)
+least-same_left xs zs t ys h =
+    ap (λ (z : ℤ). record { runtime = z }) (least-around zs t ys ∙ ap (λ (l : Least). int_min l.runtime (int_min (least_runtime (t ∷ [])) (least_runtime ys))) h ∙ sym (least-around xs t ys))
+
+pub least-same_right : (xs : List Task) (t : Task) (ys zs : List Task) → least_of zs ≡ least_of ys → least_of (xs ++ t ∷ zs) ≡ least_of (xs ++ t ∷ ys)
+least-same_right xs t ys zs h =
+    ap (λ (z : ℤ). record { runtime = z }) (least-around xs t zs ∙ ap (λ (l : Least). int_min (least_runtime xs) (int_min (least_runtime (t ∷ [])) l.runtime)) h ∙ sym (least-around xs t ys))
+
+-- a flag that isn't set
+pub unset : (b : Bool) → not b ≡ true → b ≡ false
+unset true h = cc
+unset false h = refl

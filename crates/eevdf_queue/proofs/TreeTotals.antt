@@ -1,0 +1,141 @@
+-- The sums over a list of tasks after an insertion, a removal and a change.
+use Rattle.std.proofs.Common.{◌≡◌, ℕ, ◌+◌, ◌*◌, ◌^◌, ◌≤◌, Bool, true, false, cond, eqb, List, [], ◌∷◌, Option, Some, None, refl, sym, ap, ◌∙◌, arith}
+use Rattle.std.specs.Prelude.{ℤ, pos, ◌+ℤ◌, ◌*ℤ◌, unsigned_abs}
+use Rattle.std.specs.Option.{option_map}
+use Rattle.std.proofs.lemmas.Int.{ints}
+use Rattle.eevdf_weight.specs.Weight.{weight_of}
+use Rattle.eevdf_queue.specs.declared.run_entry.Entry.{Entry}
+use Rattle.eevdf_queue.specs.declared.task.Task.{Task}
+use Rattle.eevdf_queue.specs.declared.totals.Totals.{Totals}
+use Rattle.eevdf_queue.specs.Sums.{sum_weights, sum_moments}
+use Rattle.eevdf_queue.specs.TaskLists.{find_task, set_entry, entries_of}
+use Rattle.eevdf_queue.specs.TreeTasks.{precedes, insert_task, without}
+use Rattle.eevdf_queue.specs.TreeStores.{AreTotals, IsSummedStore}
+use Rattle.eevdf_queue.proofs.RunnableMaps.{light}
+use Rattle.eevdf_queue.proofs.Bounds.{sum_moments_small}
+
+-- of any sum
+module _ {A : Type 0} (F : List Task → A) (op : Task → A → A) (more : (t : Task) (ts : List Task) → F (t ∷ ts) ≡ op t (F ts))
+    (swap : (a b : Task) (x : A) → op a (op b x) ≡ op b (op a x)) where
+  sum-insert_by : (b : Bool) (t u : Task) (us : List Task) → F (insert_task t us) ≡ op t (F us) → F (cond b (t ∷ u ∷ us) (u ∷ insert_task t us)) ≡ op t (F (u ∷ us))
+  sum-insert_by true t u us h = more t (u ∷ us)
+  sum-insert_by false t u us h = more u (insert_task t us) ∙ ap (op u) h ∙ swap u t (F us) ∙ ap (op t) (sym (more u us))
+
+  pub sum-insert : (t : Task) (ts : List Task) → F (insert_task t ts) ≡ op t (F ts)
+  sum-insert t [] = more t []
+  sum-insert t (u ∷ us) = sum-insert_by (precedes t u) t u us (sum-insert t us)
+
+  sum-without_by : (b : Bool) (q : ℕ) (t u : Task) (us : List Task) → (find_task q us ≡ Some t → F us ≡ op t (F (without q us)))
+      → cond b (Some u) (find_task q us) ≡ Some t → F (u ∷ us) ≡ op t (F (cond b us (u ∷ without q us)))
+  sum-without_by true q t u us k h = let same : u ≡ t = cc in more u us ∙ ap (λ (z : Task). op z (F us)) same
+  sum-without_by false q t u us k h = more u us ∙ ap (op u) (k h) ∙ swap u t (F (without q us)) ∙ ap (op t) (sym (more u (without q us)))
+
+  pub sum-without : (q : ℕ) (t : Task) (ts : List Task) → find_task q ts ≡ Some t → F ts ≡ op t (F (without q ts))
+  sum-without q t [] h = cc
+  sum-without q t (u ∷ us) h = sum-without_by (eqb u.number q) q t u us (sum-without q t us) h
+
+  sum-set_by : (b : Bool) (q : ℕ) (e : Entry) (t u : Task) (us : List Task) → (find_task q us ≡ Some t → F (set_entry q e us) ≡ op (record t { entry = e }) (F (without q us)))
+      → cond b (Some u) (find_task q us) ≡ Some t → F (cond b (record u { entry = e } ∷ us) (u ∷ set_entry q e us)) ≡ op (record t { entry = e }) (F (cond b us (u ∷ without q us)))
+  sum-set_by true q e t u us k h = let same : u ≡ t = cc in more (record u { entry = e }) us ∙ ap (λ (z : Task). op (record z { entry = e }) (F us)) same
+  sum-set_by false q e t u us k h =
+      more u (set_entry q e us) ∙ ap (op u) (k h) ∙ swap u (record t { entry = e }) (F (without q us)) ∙ ap (op (record t { entry = e })) (sym (more u (without q us)))
+
+  pub sum-set : (q : ℕ) (e : Entry) (t : Task) (ts : List Task) → find_task q ts ≡ Some t → F (set_entry q e ts) ≡ op (record t { entry = e }) (F (without q ts))
+  sum-set q e t [] h = cc
+  sum-set q e t (u ∷ us) h = sum-set_by (eqb u.number q) q e t u us (sum-set q e t us) h
+
+abbrev weights : List Task → ℕ
+weights ts = sum_weights (entries_of ts)
+
+abbrev heavier : Task → ℕ → ℕ
+heavier t n = weight_of t.entry.nice + n
+
+abbrev moments : List Task → ℤ
+moments ts = sum_moments (entries_of ts)
+
+abbrev further : Task → ℤ → ℤ
+further t z = (t.entry.v *ℤ pos (weight_of t.entry.nice)) +ℤ z
+
+weights-insert : (t : Task) (ts : List Task) → weights (insert_task t ts) ≡ heavier t (weights ts)
+weights-insert = sum-insert weights heavier (λ t ts. refl) (λ a b x. omega arith)
+
+moments-insert : (t : Task) (ts : List Task) → moments (insert_task t ts) ≡ further t (moments ts)
+moments-insert = sum-insert moments further (λ t ts. refl) (λ a b x. omega (arith, ints))
+
+weights-without : (q : ℕ) (t : Task) (ts : List Task) → find_task q ts ≡ Some t → weights ts ≡ heavier t (weights (without q ts))
+weights-without = sum-without weights heavier (λ t ts. refl) (λ a b x. omega arith)
+
+moments-without : (q : ℕ) (t : Task) (ts : List Task) → find_task q ts ≡ Some t → moments ts ≡ further t (moments (without q ts))
+moments-without = sum-without moments further (λ t ts. refl) (λ a b x. omega (arith, ints))
+
+weights-set : (q : ℕ) (e : Entry) (t : Task) (ts : List Task) → find_task q ts ≡ Some t → weights (set_entry q e ts) ≡ heavier (record t { entry = e }) (weights (without q ts))
+weights-set = sum-set weights heavier (λ t ts. refl) (λ a b x. omega arith)
+
+moments-set : (q : ℕ) (e : Entry) (t : Task) (ts : List Task) → find_task q ts ≡ Some t → moments (set_entry q e ts) ≡ further (record t { entry = e }) (moments (without q ts))
+moments-set = sum-set moments further (λ t ts. refl) (λ a b x. omega (arith, ints))
+
+added : (a b c x y : ℤ) → a ≡ x +ℤ b → b ≡ c → y ≡ x +ℤ c → a ≡ y
+added a b c x y h k l = omega (arith, ints)
+
+taken : (a b c x : ℤ) → a ≡ x +ℤ b → a ≡ x +ℤ c → b ≡ c
+taken a b c x h k = omega (arith, ints)
+
+swapped : (a b c x y z : ℤ) → x +ℤ b ≡ y +ℤ a → a ≡ x +ℤ c → z ≡ y +ℤ c → b ≡ z
+swapped a b c x y z h k l = omega (arith, ints)
+
+-- how large they are
+module _ (table : List ℤ) (s : Totals) (ts : List Task) (a : IsSummedStore table s ts) where
+  pub totals_few : s.weight ≤ 88761 * 1024
+  totals_few = omega (arith, a.totals.weight, light ts a.store.runnable)
+
+  pub totals_small : unsigned_abs s.moment ≤ 2 ^ 60 * s.weight
+  totals_small = omega (arith, a.totals.weight, ap unsigned_abs a.totals.moment, sum_moments_small ts a.store.runnable)
+
+  pub totals_near : unsigned_abs s.moment ≤ 2 ^ 110
+  totals_near = omega (arith, totals_few, totals_small)
+
+-- the share of a task is a part of them
+pub totals_part : (q : ℕ) (t : Task) (x : Entry) (s : Totals) (ts : List Task) → AreTotals s ts → find_task q ts ≡ Some t → t.entry ≡ x → weight_of x.nice ≤ s.weight
+totals_part q t x s ts a f j = omega (arith, a.weight, weights-without q t ts f, ap (λ (z : Entry). weight_of z.nice) j)
+
+-- with one task more
+pub totals-insert : (t : Task) (ts us : List Task) (s r : Totals) (w : ℕ) (m : ℤ) → AreTotals s ts → us ≡ insert_task t ts
+    → w ≡ weight_of t.entry.nice → m ≡ t.entry.v *ℤ pos (weight_of t.entry.nice) → r.weight ≡ w + s.weight → r.moment ≡ m +ℤ s.moment → AreTotals r us
+totals-insert t ts us s r w m a e i j h k = record {
+  weight = omega (arith, h, i, a.weight, weights-insert t ts, ap weights e);
+  moment = added r.moment s.moment (moments ts) m (moments us) k a.moment (ap moments e ∙ moments-insert t ts ∙ ap (λ (z : ℤ). z +ℤ moments ts) (sym j));
+}
+
+-- without one of the tasks
+pub totals-without : (q : ℕ) (t : Task) (x : Entry) (ts rs : List Task) (s r : Totals) (w : ℕ) (m : ℤ) → AreTotals s ts → find_task q ts ≡ Some t → t.entry ≡ x → rs ≡ without q ts
+    → w ≡ weight_of x.nice → m ≡ x.v *ℤ pos (weight_of x.nice) → s.weight ≡ w + r.weight → s.moment ≡ m +ℤ r.moment → AreTotals r rs
+totals-without q t x ts rs s r w m a f l e i j h k =
+    let i' : w ≡ weight_of t.entry.nice = i ∙ ap (λ (z : Entry). weight_of z.nice) (sym l) in
+    let j' : m ≡ t.entry.v *ℤ pos (weight_of t.entry.nice) = j ∙ ap (λ (z : Entry). z.v *ℤ pos (weight_of z.nice)) (sym l) in
+    record {
+      weight = omega (arith, h, i', a.weight, weights-without q t ts f, ap weights e);
+      moment = taken s.moment r.moment (moments rs) m k (a.moment ∙ moments-without q t ts f ∙ ap (λ (z : ℤ). z +ℤ moments (without q ts)) (sym j') ∙ ap (λ (z : List Task). m +ℤ moments z) (sym e));
+    }
+
+-- where a task gets another entry
+module _ (q : ℕ) (t : Task) (x e : Entry) (ts us : List Task) (s r : Totals) (a : AreTotals s ts) (f : find_task q ts ≡ Some t) (l : t.entry ≡ x)
+    (h : weight_of x.nice + r.weight ≡ weight_of e.nice + s.weight)
+    (k : (x.v *ℤ pos (weight_of x.nice)) +ℤ r.moment ≡ (e.v *ℤ pos (weight_of e.nice)) +ℤ s.moment) where
+  exchanged : weights us ≡ weight_of e.nice + weights (without q ts) → moments us ≡ (e.v *ℤ pos (weight_of e.nice)) +ℤ moments (without q ts) → AreTotals r us
+  exchanged i j = record {
+    weight = omega (arith, h, a.weight, weights-without q t ts f, ap (λ (z : Entry). weight_of z.nice) l, i);
+    moment =
+        swapped s.moment r.moment (moments (without q ts)) (x.v *ℤ pos (weight_of x.nice)) (e.v *ℤ pos (weight_of e.nice)) (moments us) k
+        (a.moment ∙ moments-without q t ts f ∙ ap (λ (z : Entry). (z.v *ℤ pos (weight_of z.nice)) +ℤ moments (without q ts)) l) j;
+  }
+
+  pub totals-set : us ≡ set_entry q e ts → AreTotals r us
+  totals-set i = exchanged (ap weights i ∙ weights-set q e t ts f) (ap moments i ∙ moments-set q e t ts f)
+
+  pub totals-moved : us ≡ insert_task (record t { entry = e }) (without q ts) → AreTotals r us
+  totals-moved i = exchanged (ap weights i ∙ weights-insert (record t { entry = e }) (without q ts)) (ap moments i ∙ moments-insert (record t { entry = e }) (without q ts))
+
+-- a task that has an entry
+pub entry_found : (o : Option Task) (e : Entry) → option_map (λ (t : Task). t.entry) o ≡ Some e → (t : Task) × ((o ≡ Some t) × (t.entry ≡ e))
+entry_found None e h = cc
+entry_found (Some t) e h = (t, (refl, cc))

@@ -1,0 +1,74 @@
+use Rattle.std.proofs.Common.{◌≡◌, ◌∙◌, ◌+◌, true, false, [], ap, sym, arith, List, length}
+use Rattle.std.specs.Prelude.{is_some}
+use Rattle.std.specs.Option.{option_map}
+use Rattle.eevdf_queue.specs.declared.task.Task.{Task}
+use Rattle.eevdf_queue.specs.Pick.{is_eligible_at}
+use Rattle.eevdf_queue.specs.TreeShape.{tasks_in, height_in}
+use Rattle.eevdf_queue.specs.TreeNodes.{tasks_of}
+use Rattle.eevdf_queue.specs.TreeTasks.{first_that}
+use Rattle.eevdf_queue.proofs.TreeEligible.{some-node}
+use Rattle.eevdf_queue.proofs.TreeSorted.{full-lower}
+use Rattle.eevdf_queue.proofs.TreeSearch.{first_left_same, first_here, first_right}
+use Rattle.eevdf_queue.proofs.tree_node.first_under.Goals as goal
+use Rattle.eevdf_queue.proofs.tree_node.first_under.Goals.{After-is_task_eligible, in-Some+else-is_least_eligible, in_default}
+
+pub down-preserved-then-is_least_eligible : goal.down-preserved-then-is_least_eligible
+down-preserved-then-is_least_eligible c =
+    let e : c.down.at.now.tasks ≡ tasks_of c.at.inside = cc in
+    let h : c.down.at.now.height ≡ c.at.inside.height = cc in
+    let l : tasks_in c.at.inside.left ≡ c.deref-left.result.now.tasks = cc in
+    let k : height_in c.at.inside.left ≡ c.deref-left.result.now.height = cc in
+    let i : c.deref-left.result.now.tasks ≡ tasks_of c.left.inside = cc in
+    let s = ap (λ (z : List Task). is_some (first_that (is_eligible_at c.args.totals.now.weight c.args.totals.now.moment) z)) i
+    ∙ sym (some-node c.args.totals.now.weight c.args.totals.now.moment c.left.inside c.left.invariant) ∙ sym c.is_least_eligible.ensures ∙ c.if-is_least_eligible.true in (
+      s,
+      (
+        c.down.invariant.1.0
+            ∙ first_left_same (is_eligible_at c.args.totals.now.weight c.args.totals.now.moment) c.down.at.now.tasks (tasks_in c.at.inside.left) c.at.inside.task (tasks_in c.at.inside.right) e
+            (ap (λ (z : List Task). is_some (first_that (is_eligible_at c.args.totals.now.weight c.args.totals.now.moment) z)) l ∙ s)
+            ∙ ap (first_that (is_eligible_at c.args.totals.now.weight c.args.totals.now.moment)) l,
+        omega (arith, h, k, c.at.invariant.height, c.down.invariant.1.1),
+      ),
+    )
+
+-- no task on the left is eligible, once the own task is asked
+missed : (c : After-is_task_eligible) → is_some (first_that (is_eligible_at c.args.totals.now.weight c.args.totals.now.moment) (tasks_in c.at.inside.left)) ≡ false
+missed c =
+    elim c.match-at.branch [
+      | in-Some+else-is_least_eligible w ↦
+          let l : tasks_in c.at.inside.left ≡ tasks_of w.left.inside = cc in
+          ap (λ (z : List Task). is_some (first_that (is_eligible_at c.args.totals.now.weight c.args.totals.now.moment) z)) l
+          ∙ sym (some-node c.args.totals.now.weight c.args.totals.now.moment w.left.inside w.left.invariant) ∙ sym w.is_least_eligible.ensures ∙ w.if-is_least_eligible.false
+      | in_default w ↦
+          let l : tasks_in c.at.inside.left ≡ [] = ap tasks_in w.in_default.is in
+          ap (λ (z : List Task). is_some (first_that (is_eligible_at c.args.totals.now.weight c.args.totals.now.moment) z)) l
+    ]
+
+pub returns-then-is_task_eligible-clause-task : goal.returns-then-is_task_eligible-clause-task
+returns-then-is_task_eligible-clause-task c =
+    let e : c.down.at.now.tasks ≡ tasks_of c.at.inside = cc in
+    ap (option_map (λ (t : Task). t.number))
+    (c.down.invariant.1.0 ∙ first_here (is_eligible_at c.args.totals.now.weight c.args.totals.now.moment) c.down.at.now.tasks (tasks_in c.at.inside.left) c.at.inside.task (tasks_in c.at.inside.right) e (missed (goal.at.returns-then-is_task_eligible-clause-task c).After-is_task_eligible) (sym c.is_task_eligible.ensures ∙ c.if-is_task_eligible.true))
+
+pub returns-then-is_task_eligible-clause-turns : goal.returns-then-is_task_eligible-clause-turns
+returns-then-is_task_eligible-clause-turns c =
+    let h : c.down.at.now.height ≡ c.at.inside.height = cc in
+    full-lower (c.down.turns + 1) c.args.root.now.height (length c.args.root.now.tasks) (omega (arith, h, c.at.invariant.height, c.down.invariant.1.1)) c.height-height.ensures.full
+
+pub unreachable-requires : goal.unreachable-requires
+unreachable-requires c =
+    let e : c.down.at.now.tasks ≡ tasks_of c.at.inside = cc in
+    let f = first_right (is_eligible_at c.args.totals.now.weight c.args.totals.now.moment) c.down.at.now.tasks (tasks_in c.at.inside.left) c.at.inside.task (tasks_in c.at.inside.right) e (missed (goal.at.unreachable-requires c).After-is_task_eligible) (sym c.is_task_eligible.ensures ∙ c.if-is_task_eligible.false) in
+    let r : tasks_in c.at.inside.right ≡ [] = ap tasks_in c.in_default-right.is in
+    let n : true ≡ false = sym c.down.invariant.0 ∙ ap is_some (f ∙ ap (first_that (is_eligible_at c.args.totals.now.weight c.args.totals.now.moment)) r) in
+    cc
+
+pub down-preserved : goal.down-preserved
+down-preserved c =
+    let e : c.down.at.now.tasks ≡ tasks_of c.at.inside = cc in
+    let h : c.down.at.now.height ≡ c.at.inside.height = cc in
+    let r : tasks_in c.at.inside.right ≡ c.deref-at.result.now.tasks = cc in
+    let k : height_in c.at.inside.right ≡ c.deref-at.result.now.height = cc in
+    let f = first_right (is_eligible_at c.args.totals.now.weight c.args.totals.now.moment) c.down.at.now.tasks (tasks_in c.at.inside.left) c.at.inside.task (tasks_in c.at.inside.right) e (missed (goal.at.down-preserved c).After-is_task_eligible) (sym c.is_task_eligible.ensures ∙ c.if-is_task_eligible.false)
+    ∙ ap (first_that (is_eligible_at c.args.totals.now.weight c.args.totals.now.moment)) r in
+    (ap is_some (sym f) ∙ c.down.invariant.0, (c.down.invariant.1.0 ∙ f, omega (arith, h, k, c.at.invariant.height, c.down.invariant.1.1)))

@@ -1,0 +1,35 @@
+-- How a task with a lag joins a queue.
+use Rattle.std.specs.Prelude.{ℕ, ◌==◌, ℤ, Bool, is_some, if◌then◌else◌, Option}
+use Rattle.eevdf_weight.specs.Weight.{weight_of}
+use Rattle.eevdf_weight.specs.Placement.{placement_of}
+use Rattle.eevdf_queue.specs.declared.run_entry.Entry.{Entry}
+use Rattle.eevdf_queue.specs.declared.placing.Newcomer.{Newcomer}
+use Rattle.eevdf_queue.specs.State.{State, Sleeper}
+use Rattle.eevdf_queue.specs.Sums.{total_weight, virtual_time}
+use Rattle.eevdf_queue.specs.Moves.{fresh_entry, entry_in_range, with_runnable}
+
+-- the virtual runtime that a task gets at a virtual time, beside others of this total weight
+abbrev pub runtime_of : ℤ → ℕ → ℤ → ℤ → ℤ
+runtime_of time total lag nice = if total == 0 then time else placement_of time total lag (weight_of nice)
+
+-- what a task brings along, as it would be kept asleep
+abbrev pub sleeper_from : Newcomer → Sleeper
+sleeper_from n = record { lag = n.lag; nice = n.nice; slice = n.slice }
+
+-- the virtual runtime that the task gets: beside others so far from the virtual time that, but for rounding,
+-- its lag stays what it was, alone at the time that stands
+abbrev pub placement : State → Sleeper → ℤ
+placement q s =
+    if total_weight q.runnable == 0 then q.base
+    else placement_of (virtual_time q) (total_weight q.runnable) s.lag (weight_of s.nice)
+
+-- the entry that it gets; none where that is out of range
+abbrev pub placed_entry : State → Sleeper → Option Entry
+placed_entry q s = entry_in_range (fresh_entry (placement q s) s.nice s.slice)
+
+abbrev pub can_place : State → Sleeper → Bool
+can_place q s = is_some (placed_entry q s)
+
+-- the queue with the task runnable; none where its entry would be out of range
+abbrev pub put : State → ℕ → Sleeper → Option State
+put q task s = with_runnable q task (placed_entry q s)

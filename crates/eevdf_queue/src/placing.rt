@@ -1,0 +1,55 @@
+//! Where a task with a lag is placed when it joins a queue.
+
+ghost use Rattle.std.specs.Prelude.{◌≡◌, ◌==◌, ◌≤◌, ◌^◌, if◌then◌else◌, true};
+ghost use Rattle.eevdf_weight.specs.Limits as limits;
+ghost use Rattle.eevdf_weight.specs.Placement.{within_range};
+ghost use Rattle.eevdf_queue.specs.Lag.{is_lag};
+ghost use Rattle.eevdf_queue.specs.Moves.{entry_in_range, fresh_entry};
+ghost use Rattle.eevdf_queue.specs.Placing.{runtime_of};
+
+use crate::request::started;
+use crate::run_entry::Entry;
+use eevdf_weight::{Nice, Slice, placed, weight};
+
+/// What a task brings along when it joins a queue.
+#[derive(Clone, Copy)]
+pub struct Newcomer {
+    pub lag: i64,
+    pub nice: Nice,
+    pub slice: Slice,
+}
+
+/// The entry of a task that joins runnable tasks of this total weight at this virtual time. `None` exactly
+/// where it would be out of range.
+pub fn placed_entry(time: i64, total: u64, newcomer: &Newcomer) -> Option<Entry>
+    requires time { limits.is_in_range time ≡ true }
+    requires few { total ≤ 2 ^ 40 }
+    requires limited { is_lag newcomer.now.lag newcomer.now.nice newcomer.now.slice ≡ true }
+    ensures { result ≡ entry_in_range (fresh_entry (runtime_of time total newcomer.now.lag newcomer.now.nice) newcomer.now.nice newcomer.now.slice) }
+{
+    match runtime(time, total, newcomer) {
+        None => None,
+        Some(v) => started(&Entry {
+            v,
+            d: v,
+            nice: newcomer.nice,
+            slice: newcomer.slice,
+        }),
+    }
+}
+
+/// The virtual runtime that it gets: among no tasks the time itself.
+#[tactic(auto, using(crate::proofs::Bounds::lag_small))]
+fn runtime(time: i64, total: u64, newcomer: &Newcomer) -> Option<i64>
+    requires time { limits.is_in_range time ≡ true }
+    requires few { total ≤ 2 ^ 40 }
+    requires limited { is_lag newcomer.now.lag newcomer.now.nice newcomer.now.slice ≡ true }
+    ensures { result ≡ within_range (runtime_of time total newcomer.now.lag newcomer.now.nice) }
+{
+    prove!(newcomer.slice.get() <= 100_000_000);
+    if total == 0 {
+        Some(time)
+    } else {
+        placed(time, total, newcomer.lag, weight(newcomer.nice))
+    }
+}

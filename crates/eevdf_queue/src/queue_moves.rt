@@ -1,0 +1,147 @@
+//! How tasks come into a queue and leave it.
+
+ghost use Rattle.std.specs.Prelude.{◌≡◌, ◌↔◌, Some, None, IfSome, IsNone, MatchResult, true, false};
+ghost use Rattle.std.specs.FinMap as map;
+ghost use Rattle.eevdf_queue.specs.Moves as moves;
+ghost use Rattle.eevdf_queue.specs.Candidate.{is_running};
+ghost use Rattle.eevdf_queue.specs.Lag.{is_lag};
+ghost use Rattle.eevdf_queue.specs.Placing as placing;
+ghost use Rattle.eevdf_queue.specs.Wake as wakes;
+ghost use Rattle.eevdf_queue.specs.Leaving.{carried, leave, carried_running, leave_running, IsNowhere};
+
+use crate::answers::WakeAnswer;
+use crate::lag::kept_lag;
+use crate::placing::{Newcomer, placed_entry};
+use crate::request::started;
+use crate::run_entry::Entry;
+use crate::run_queue::Queue;
+use crate::running::{is_running, stopped};
+use crate::task_number::TaskId;
+use crate::task_parcel::Parcel;
+use eevdf_weight::{Nice, Slice};
+
+impl Queue {
+    /// Makes a task runnable at the start of its parcel, with a fresh request. Where the virtual runtime or
+    /// the deadline would be out of range, the parcel comes back and nothing has changed.
+    pub fn admit(&mut self, parcel: Parcel) -> Result<(), Parcel>
+        requires not_runnable { map.get self.old.state.runnable parcel.task ≡ None }
+        requires not_asleep { map.get self.old.state.asleep parcel.task ≡ None }
+        ensures cases { MatchResult result (λ _. moves.admit self.old.state parcel ≡ Some self.new.state)
+            (λ back. (moves.admit self.old.state parcel ≡ None) × (back ≡ parcel) × (self.new.state ≡ self.old.state)) }
+        ensures turns { self.new.turns ≡ self.old.turns }
+    {
+        match started(&parcel.entry()) {
+            None => Err(parcel),
+            Some(entry) => {
+                self.runnable.add(parcel, entry);
+                Ok(())
+            }
+        }
+    }
+
+    /// Puts a task to sleep here, with the lag of its parcel.
+    pub fn put_asleep(&mut self, parcel: Parcel)
+        requires not_runnable { map.get self.old.state.runnable parcel.task ≡ None }
+        requires not_asleep { map.get self.old.state.asleep parcel.task ≡ None }
+        ensures after { self.new.state ≡ moves.put_asleep self.old.state parcel }
+        ensures turns { self.new.turns ≡ self.old.turns }
+    {
+        self.asleep.add(parcel);
+    }
+
+    /// Takes out the running task, with the lag that it keeps, and nobody runs. Its virtual runtime is the time
+    /// that stands. `None` exactly where the task doesn't run here, and then nothing has changed.
+    pub fn detach_running(&mut self, task: TaskId) -> Option<Parcel>
+        ensures parcel { result ≡ carried_running self.old.state task }
+        ensures none { IsNone result ↔ (is_running self.old.state.running task ≡ false) }
+        ensures after { self.new.state ≡ leave_running self.old.state task }
+        ensures nowhere { IfSome result (λ parcel. IsNowhere self.new.state parcel.task) }
+        ensures turns { self.new.turns ≡ self.old.turns }
+    {
+        if is_running(&self.running, task) {
+            Some(self.take(task))
+        } else {
+            None
+        }
+    }
+
+    /// Takes out a runnable task that doesn't run, with the lag that it keeps. Its virtual runtime is the time
+    /// that stands.
+    pub fn detach(&mut self, task: TaskId) -> Parcel
+        requires here { map.contains_key self.old.state.runnable task ≡ true }
+        requires waiting { is_running self.old.state.running task ≡ false }
+        ensures parcel { carried self.old.state task ≡ Some result }
+        ensures after { self.new.state ≡ leave self.old.state task }
+        ensures nowhere { IsNowhere self.new.state result.task }
+        ensures turns { self.new.turns ≡ self.old.turns }
+    {
+        self.take(task)
+    }
+
+    /// Takes out a runnable task, with the lag that it keeps. Its virtual runtime is the time that stands.
+    fn take(&mut self, task: TaskId) -> Parcel
+        requires { map.contains_key self.old.state.runnable task ≡ true }
+        ensures parcel { carried self.old.state task ≡ Some result }
+        ensures after { self.new.state ≡ leave self.old.state task }
+        ensures nowhere { IsNowhere self.new.state result.task }
+        ensures turns { self.new.turns ≡ self.old.turns }
+    {
+        self.runnable.keeps();
+        let entry = self.runnable.get(task).unwrap();
+        let lag = kept_lag(self.floor_time(), &entry);
+        let parcel = self.runnable.remove(task, lag);
+        self.running = stopped(&self.running, task);
+        self.base = entry.v;
+        parcel
+    }
+
+    /// Whether a task of this nice level, slice and lag, which is within its limit, can join: whether its
+    /// virtual runtime and deadline would be in range.
+    pub fn can_place(&self, nice: Nice, slice: Slice, lag: i64) -> bool
+        requires { is_lag lag nice slice ≡ true }
+        ensures { result ≡ placing.can_place self.now.state (record { lag = lag; nice = nice; slice = slice }) }
+    {
+        self.placed(&Newcomer { lag, nice, slice }).is_some()
+    }
+
+    /// Makes the task of a parcel, which isn't here and can join, runnable with the lag of the parcel: beside others
+    /// so far from the virtual time that, but for rounding, this is its lag afterwards, alone at the time that
+    /// stands.
+    pub fn attach(&mut self, parcel: Parcel)
+        requires not_runnable { map.get self.old.state.runnable parcel.task ≡ None }
+        requires not_asleep { map.get self.old.state.asleep parcel.task ≡ None }
+        requires room { placing.can_place self.old.state (moves.sleeper_of parcel) ≡ true }
+        ensures after { placing.put self.old.state parcel.task (moves.sleeper_of parcel) ≡ Some self.new.state }
+        ensures turns { self.new.turns ≡ self.old.turns }
+    {
+        let entry = self.placed(&parcel.newcomer()).unwrap();
+        self.runnable.add(parcel, entry);
+    }
+
+    /// Makes a task that sleeps here runnable with the lag that it kept, placed as by `attach`. `Awake` where it
+    /// doesn't sleep here; `Range` where its virtual runtime or deadline would be out of range, and then it sleeps on.
+    pub fn wake(&mut self, task: TaskId) -> WakeAnswer
+        ensures answer { result ≡ (wakes.wake self.old.state task).0 }
+        ensures after { self.new.state ≡ (wakes.wake self.old.state task).1 }
+        ensures turns { self.new.turns ≡ self.old.turns }
+    {
+        let Some(sleeper) = self.asleep.get(task) else {
+            return WakeAnswer::Awake;
+        };
+        self.asleep.keeps();
+        let Some(entry) = self.placed(&sleeper) else {
+            return WakeAnswer::Range;
+        };
+        let parcel = self.asleep.remove(task);
+        self.runnable.add(parcel, entry);
+        WakeAnswer::Woken
+    }
+
+    /// The entry of a task that joins. `None` exactly where it would be out of range.
+    fn placed(&self, newcomer: &Newcomer) -> Option<Entry>
+        requires { is_lag newcomer.now.lag newcomer.now.nice newcomer.now.slice ≡ true }
+        ensures { result ≡ placing.placed_entry self.now.state (placing.sleeper_from newcomer.now) }
+    {
+        placed_entry(self.floor_time(), self.runnable.totals().weight, newcomer)
+    }
+}

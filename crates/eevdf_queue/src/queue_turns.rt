@@ -1,0 +1,87 @@
+//! Which task of a queue runs, and what it is charged.
+
+ghost use Rattle.std.specs.Prelude.{◌≡◌, ◌≤◌, ◌↔◌, ◌+◌, ◌/◌, ◌^◌, IfSome, IsNone};
+ghost use Rattle.std.specs.FinMap as map;
+ghost use Rattle.eevdf_queue.specs.Pick.{IsPick, pick_of, after_pick};
+ghost use Rattle.eevdf_queue.specs.Tick as ticks;
+ghost use Rattle.eevdf_queue.specs.Yield as yields;
+
+use crate::answers::{TickAnswer, YieldAnswer};
+use crate::request::{charged, is_deadline_in_range, is_entry_in_range, yielded};
+use crate::run_queue::Queue;
+use crate::task_number::TaskId;
+use eevdf_weight::Ns;
+
+impl Queue {
+    /// Lets the eligible task of earliest virtual deadline run, the lower number where deadlines are equal.
+    /// `None` exactly when nothing is runnable. With `n` runnable tasks, the descent to it in the tree takes `k`
+    /// turns such that `2 ^ (k / 2) <= n + 1`.
+    pub fn pick(&mut self) -> Option<TaskId>
+        ensures number { result ≡ pick_of self.old.state.runnable }
+        ensures picked { IfSome result (IsPick self.old.state.runnable) }
+        ensures none { IsNone result ↔ (self.old.state.runnable ≡ map.empty) }
+        ensures after { self.new.state ≡ after_pick self.old.state }
+        ensures no_turns { IsNone result → self.new.turns ≡ 0 }
+        ensures turns { IfSome result (λ _. 1 ≤ self.new.turns) }
+        ensures few_turns { IfSome result (λ _. 2 ^ (self.new.turns / 2) ≤ map.len self.old.state.runnable + 1) }
+    {
+        match self.runnable.pick() {
+            None => {
+                self.turns = 0;
+                None
+            }
+            Some(first) => {
+                self.running = Some(first.task);
+                self.turns = first.turns;
+                Some(first.task)
+            }
+        }
+    }
+
+    /// Charges the running task for `ns`, and gives it a fresh request where it has used up its own. Nobody
+    /// else is picked.
+    pub fn tick(&mut self, ns: Ns) -> TickAnswer
+        ensures answer { result ≡ (ticks.tick self.old.state ns).0 }
+        ensures after { self.new.state ≡ (ticks.tick self.old.state ns).1 }
+        ensures turns { self.new.turns ≡ self.old.turns }
+    {
+        let Some(task) = self.running else {
+            return TickAnswer::Idle;
+        };
+        self.runnable.keeps();
+        let Some(entry) = self.runnable.get(task) else {
+            return TickAnswer::Idle;
+        };
+        let charged = charged(&entry, ns);
+        if !is_entry_in_range(&charged.entry) {
+            return TickAnswer::Range;
+        }
+        self.runnable.set(task, charged.entry);
+        TickAnswer::Charged {
+            task,
+            resched: charged.resched,
+        }
+    }
+
+    /// Makes the running task's deadline one request later: by its slice, charged to its weight. The task runs
+    /// on until the next pick. Nothing has changed where the answer isn't `Yielded`.
+    pub fn yield_now(&mut self) -> YieldAnswer
+        ensures answer { result ≡ (yields.yield_now self.old.state).0 }
+        ensures after { self.new.state ≡ (yields.yield_now self.old.state).1 }
+        ensures turns { self.new.turns ≡ self.old.turns }
+    {
+        let Some(task) = self.running else {
+            return YieldAnswer::Idle;
+        };
+        self.runnable.keeps();
+        let Some(entry) = self.runnable.get(task) else {
+            return YieldAnswer::Idle;
+        };
+        let yielded = yielded(&entry);
+        if !is_deadline_in_range(&yielded) {
+            return YieldAnswer::Range;
+        }
+        self.runnable.set(task, yielded);
+        YieldAnswer::Yielded
+    }
+}

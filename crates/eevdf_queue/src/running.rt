@@ -1,0 +1,28 @@
+//! The task that runs, if any.
+
+ghost use Rattle.std.specs.Prelude.{◌≡◌};
+ghost use Rattle.eevdf_queue.specs.Candidate as candidate;
+ghost use Rattle.eevdf_queue.specs.Leaving as leaving;
+
+use crate::task_number::TaskId;
+
+/// Whether this number is the running task's.
+pub fn is_running(running: &Option<TaskId>, number: TaskId) -> bool
+    ensures { result ≡ candidate.is_running running.now number }
+{
+    match running {
+        None => false,
+        Some(running) => number == *running,
+    }
+}
+
+/// Whoever runs, unless it is this task.
+pub fn stopped(running: &Option<TaskId>, number: TaskId) -> Option<TaskId>
+    ensures { result ≡ leaving.stopped running.now number }
+{
+    if is_running(running, number) {
+        None
+    } else {
+        *running
+    }
+}
