@@ -1,3 +1,17 @@
 pub mod Charges
 pub mod Starting
 pub mod Machines
+pub mod MapCounts
+pub mod QueuePlaces
+pub mod MachinePlaces
+pub mod Carried
+pub mod Pulling
+pub mod DeedNames
+pub mod WholePlaces
+pub mod StartingPlaces
+pub mod SoloPlaces
+pub mod Loads
+pub mod PullLaws
+pub mod LocalParts
+pub mod PartsProofs
+pub mod PartsHistories

@@ -22,6 +22,10 @@ get_machine (x ∷ queues) (suc k) d h = get_machine queues k d (omega arith)
 pub queue_read : (queues : List View) (cpu k : ℕ) (d : View) → k ≡ cpu → k < length queues → queue_at (machine_of queues) cpu ≡ (get_or queues k d).state
 queue_read queues cpu k d at h = ap (λ (i : ℕ). get_or (machine_of queues) i empty_state) (sym at) ∙ get_machine queues k d h
 
+-- and what was read is what stands there
+pub queue_state : (queues : List View) (cpu k : ℕ) (d : View) → d ≡ get_or queues k d → k ≡ cpu → k < length queues → d.state ≡ queue_at (machine_of queues) cpu
+queue_state queues cpu k d is at h = ap (λ (v : View). v.state) is ∙ sym (queue_read queues cpu k d at h)
+
 set_machine : (queues : List View) (k : ℕ) (q : View) → machine_of (set queues k q) ≡ set (machine_of queues) k q.state
 set_machine [] k q = refl
 set_machine (x ∷ queues) zero q = refl

@@ -13,11 +13,11 @@ use Rattle.eevdf_ops.specs.declared.setup_fault.SetupFault.{SetupFault}
 use Rattle.eevdf_ops.specs.Faults.{unless, starts_in_range, task_fault, tasks_fault}
 use Rattle.eevdf_ops.specs.Machine.{Machine, IsAbsent, queue_at, begin, begin_at_homes}
 
-or_none_left : (f g : Option SetupFault) → option_or f g ≡ None → f ≡ None
+pub or_none_left : (f g : Option SetupFault) → option_or f g ≡ None → f ≡ None
 or_none_left None g e = refl
 or_none_left (Some f) g e = e
 
-or_none_right : (f g : Option SetupFault) → option_or f g ≡ None → g ≡ None
+pub or_none_right : (f g : Option SetupFault) → option_or f g ≡ None → g ≡ None
 or_none_right None g e = e
 or_none_right (Some f) g e = cc
 
@@ -30,7 +30,7 @@ pub record BeginsWell (cpus : ℕ) (t : TaskSpec) : Type 0 where
   pub at_home : nat_lt t.home cpus ≡ true
   pub in_range : starts_in_range t ≡ true
 
-begins_well : (cpus place : ℕ) (t : TaskSpec) → task_fault cpus place t ≡ None → BeginsWell cpus t
+pub begins_well : (cpus place : ℕ) (t : TaskSpec) → task_fault cpus place t ≡ None → BeginsWell cpus t
 begins_well cpus place t e = record {
   at_home = passes _ _ (or_none_left _ _ e);
   in_range = passes _ _ (or_none_right _ _ e);
@@ -58,7 +58,7 @@ absent_begin task k t q apart a =
       | false ↦ record { runnable = get_other q.runnable task k _ apart a.runnable; asleep = a.asleep }
     ]
 
-absent_nowhere : (k : ℕ) → IsAbsent empty_state k
+pub absent_nowhere : (k : ℕ) → IsAbsent empty_state k
 absent_nowhere k = record { runnable = finite.get-empty nat_cmp k; asleep = finite.get-empty nat_cmp k }
 
 absent_set : (m : Machine) (c h k : ℕ) (q : State) → IsAbsent (queue_at m c) k → IsAbsent q k → IsAbsent (queue_at (set m h q) c) k
@@ -68,7 +68,7 @@ absent_set (x ∷ m) zero (suc h) k q a b = a
 absent_set (x ∷ m) (suc c) zero k q a b = a
 absent_set (x ∷ m) (suc c) (suc h) k q a b = absent_set m c h k q a b
 
-absent_empty : (n c k : ℕ) → IsAbsent (queue_at (replicate n empty_state) c) k
+pub absent_empty : (n c k : ℕ) → IsAbsent (queue_at (replicate n empty_state) c) k
 absent_empty zero c k = absent_nowhere k
 absent_empty (suc n) zero k = absent_nowhere k
 absent_empty (suc n) (suc c) k = absent_empty n c k

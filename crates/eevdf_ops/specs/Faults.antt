@@ -4,10 +4,11 @@ use Rattle.std.specs.Option.{option_or}
 use Rattle.eevdf_queue.specs.Moves.{fresh_entry, is_entry_in_range}
 use Rattle.eevdf_ops.specs.declared.task_spec.TaskSpec.{TaskSpec}
 use Rattle.eevdf_ops.specs.declared.deeds.Op.{Op}
+use Rattle.eevdf_ops.specs.declared.deeds.Op.TheVariants as op
 use Rattle.eevdf_ops.specs.declared.setup_fault.SetupFault.{SetupFault}
-use Rattle.eevdf_ops.specs.declared.setup_fault.SetupFault.TheVariants.{BadCpus, BadTasks, BadHome, BadStart, TooLong, Memory}
+use Rattle.eevdf_ops.specs.declared.setup_fault.SetupFault.TheVariants.{BadCpus, BadTasks, BadHome, BadStart, TooLong, UnknownTask, BadPull, Memory}
 use Rattle.eevdf_ops.specs.Numbers.{most_cpus, most_tasks, most_operations}
-use Rattle.eevdf_ops.specs.Setup.{Setup}
+use Rattle.eevdf_ops.specs.Setup.{Setup, is_source}
 
 -- a fault, unless the test passes
 abbrev pub unless : Bool → SetupFault → Option SetupFault
@@ -24,22 +25,38 @@ abbrev pub tasks_fault : ℕ → ℕ → List TaskSpec → Option SetupFault
 tasks_fault cpus place [] = None
 tasks_fault cpus place (t ∷ ts) = option_or (task_fault cpus place t) (tasks_fault cpus (place + 1) ts)
 
-abbrev pub program_fault : ℕ → List Op → Option SetupFault
-program_fault cpu program = unless (nat_le (length program) most_operations) (TooLong cpu)
+-- an operation names only tasks of the setup, and pulls from another CPU of it
+abbrev pub operation_fault : ℕ → ℕ → ℕ → ℕ → Op → Option SetupFault
+operation_fault tasks cpus cpu place (op.Sleep task) = unless (nat_lt task tasks) (UnknownTask cpu place)
+operation_fault tasks cpus cpu place (op.Post task) = unless (nat_lt task tasks) (UnknownTask cpu place)
+operation_fault tasks cpus cpu place (op.Pull source) = unless (is_source cpus cpu source) (BadPull cpu place)
+operation_fault tasks cpus cpu place (op.Tick ns) = None
+operation_fault tasks cpus cpu place op.Pick = None
+operation_fault tasks cpus cpu place op.Yield = None
+operation_fault tasks cpus cpu place op.Drain = None
 
-abbrev pub programs_fault : ℕ → List (List Op) → Option SetupFault
-programs_fault cpu [] = None
-programs_fault cpu (p ∷ ps) = option_or (program_fault cpu p) (programs_fault (cpu + 1) ps)
+abbrev pub operations_fault : ℕ → ℕ → ℕ → ℕ → List Op → Option SetupFault
+operations_fault tasks cpus cpu place [] = None
+operations_fault tasks cpus cpu place (o ∷ os) =
+    option_or (operation_fault tasks cpus cpu place o) (operations_fault tasks cpus cpu (place + 1) os)
+
+abbrev pub program_fault : ℕ → ℕ → ℕ → List Op → Option SetupFault
+program_fault tasks cpus cpu program =
+    option_or (unless (nat_le (length program) most_operations) (TooLong cpu)) (operations_fault tasks cpus cpu 0 program)
+
+abbrev pub programs_fault : ℕ → ℕ → ℕ → List (List Op) → Option SetupFault
+programs_fault tasks cpus cpu [] = None
+programs_fault tasks cpus cpu (p ∷ ps) = option_or (program_fault tasks cpus cpu p) (programs_fault tasks cpus (cpu + 1) ps)
 
 abbrev pub is_count : ℕ → ℕ → Bool
 is_count n most = nat_le 1 n && nat_le n most
 
--- the first fault, in the order: the number of CPUs, that of tasks, each task, each program
+-- the first fault, in the order: the number of CPUs, that of tasks, each task, each program with its operations
 abbrev pub setup_fault : List TaskSpec → List (List Op) → Option SetupFault
 setup_fault tasks programs =
     option_or (unless (is_count (length programs) most_cpus) BadCpus)
     (option_or (unless (is_count (length tasks) most_tasks) BadTasks)
-    (option_or (tasks_fault (length programs) 0 tasks) (programs_fault 0 programs)))
+    (option_or (tasks_fault (length programs) 0 tasks) (programs_fault (length tasks) (length programs) 0 programs)))
 
 -- the first fault is answered; where there is none, the setup or want of memory
 abbrev pub IsSetupOf : List TaskSpec → List (List Op) → Result Setup SetupFault → Type 0

@@ -2,5 +2,14 @@ pub mod Numbers
 pub mod Setup
 pub mod Faults
 pub mod Machine
+pub mod OneQueue
+pub mod WholeSleep
+pub mod WholePull
+pub mod PullOffer
 pub mod Whole
+pub mod Places
 pub mod Outcome
+pub mod Laws
+pub mod Parts
+pub mod PartsLaws
+pub mod PartsHistory

@@ -10,7 +10,7 @@ checked_cpu n = if nat_lt n 16 then Some n else None
 
 -- a setup has at most so many CPUs
 abbrev pub most_cpus : ℕ
-most_cpus = 1
+most_cpus = 16
 
 -- a setup has at most so many tasks
 abbrev pub most_tasks : ℕ

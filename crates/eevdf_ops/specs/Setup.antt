@@ -1,9 +1,9 @@
 -- What a machine is set up from.
-use Rattle.std.specs.Prelude.{ℕ, nat_lt, Bool, List, map, length}
+use Rattle.std.specs.Prelude.{ℕ, nat_lt, ◌==◌, Bool, ◌&&◌, not, List, map, length, slice_index_or}
 use Rattle.eevdf_ops.specs.declared.task_spec.TaskSpec.{TaskSpec}
 use Rattle.eevdf_ops.specs.declared.deeds.Op.{Op}
 use Rattle.eevdf_ops.specs.declared.deeds.Deed.{Deed}
-use Rattle.eevdf_ops.specs.declared.deeds.Deed.TheVariants.{Tick, Pick}
+use Rattle.eevdf_ops.specs.declared.deeds.Deed.TheVariants.{Tick, Pick, Yield, Sleep, Wake, Pull}
 
 -- the tasks by their numbers, and the program of each CPU
 pub record Setup : Type 0 where
@@ -18,10 +18,29 @@ cpus_of s = length s.programs
 abbrev pub homes_of : Setup → List ℕ
 homes_of s = map (λ (t : TaskSpec). t.home) s.tasks
 
--- whether a deed names only CPUs and tasks that there are, and a task's own home where it must
+abbrev pub home_of : List ℕ → ℕ → ℕ
+home_of homes task = slice_index_or homes task 0
+
+abbrev pub is_task : List ℕ → ℕ → Bool
+is_task homes task = nat_lt task (length homes)
+
+-- whether a task has its home at a CPU
+abbrev pub is_at_home : List ℕ → ℕ → ℕ → Bool
+is_at_home homes task cpu = is_task homes task && (slice_index_or homes task cpu == cpu)
+
+-- whether a CPU may pull from another
+abbrev pub is_source : ℕ → ℕ → ℕ → Bool
+is_source cpus cpu source = nat_lt source cpus && not (source == cpu)
+
+-- whether a deed names only CPUs and tasks that there are, wakes at the task's own home, and doesn't pull
+-- from its own CPU
 abbrev pub is_allowed : ℕ → List ℕ → Deed → Bool
 is_allowed cpus homes (Tick cpu ns) = nat_lt cpu cpus
 is_allowed cpus homes (Pick cpu) = nat_lt cpu cpus
+is_allowed cpus homes (Yield cpu) = nat_lt cpu cpus
+is_allowed cpus homes (Sleep cpu task) = nat_lt cpu cpus && is_task homes task
+is_allowed cpus homes (Wake cpu task sender) = nat_lt cpu cpus && nat_lt sender cpus && is_at_home homes task cpu
+is_allowed cpus homes (Pull cpu source) = nat_lt cpu cpus && is_source cpus cpu source
 
 abbrev pub allows : Setup → Deed → Bool
 allows s deed = is_allowed (cpus_of s) (homes_of s) deed

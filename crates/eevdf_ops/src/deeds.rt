@@ -9,27 +9,79 @@ pub enum Op {
     Tick(Ns),
     /// The eligible task of earliest virtual deadline runs.
     Pick,
+    /// The running task's virtual deadline grows by one request.
+    Yield,
+    /// This task, if it runs here, falls asleep at its home.
+    Sleep(TaskId),
+    /// A wake of this task is posted to its home.
+    Post(TaskId),
+    /// The wakes that were posted here are done, at most one of each sender.
+    Drain,
+    /// A task is pulled from this CPU.
+    Pull(CpuId),
 }
 
 /// What is done on the machine at once.
 #[derive(Clone, Copy, PartialEq, Eq, Debug)]
 pub enum Deed {
     /// The CPU's running task is charged so many nanoseconds.
-    Tick { cpu: CpuId, ns: Ns },
+    Tick {
+        cpu: CpuId,
+        ns: Ns,
+    },
     /// The CPU's eligible task of earliest virtual deadline runs.
-    Pick { cpu: CpuId },
+    Pick {
+        cpu: CpuId,
+    },
+    /// The virtual deadline of the CPU's running task grows by one request.
+    Yield {
+        cpu: CpuId,
+    },
+    /// The task, if it runs on the CPU, falls asleep at its home with the lag that it keeps.
+    Sleep {
+        cpu: CpuId,
+        task: TaskId,
+    },
+    /// The task, if it sleeps on the CPU, becomes runnable there. `sender` is the CPU that asked for it.
+    Wake {
+        cpu: CpuId,
+        task: TaskId,
+        sender: CpuId,
+    },
+    /// The waiting task of latest virtual deadline comes from `source` to the CPU, if that levels their loads.
+    Pull {
+        cpu: CpuId,
+        source: CpuId,
+    },
 }
 
-/// What a deed is answered.
+/// What a deed is answered. After `Idle`, `NotRunning`, `Awake`, `Balanced`, `Nothing` and `Range` the machine
+/// is as it was.
 #[derive(Clone, Copy, PartialEq, Eq, Debug)]
 pub enum Answer {
     /// A tick charged this task; `resched` says that it had used up its request and got a new deadline.
     Charged { task: TaskId, resched: bool },
     /// A pick chose this task, which runs.
     Picked(TaskId),
-    /// Nobody runs, or there is nothing to pick; nothing changed.
+    /// Nobody runs, or there is nothing to pick.
     Idle,
-    /// A virtual runtime or deadline would have left the range; nothing changed.
+    /// The running task yielded.
+    Yielded,
+    /// The task fell asleep and keeps this lag, in virtual time.
+    Slept(i64),
+    /// The task that was to sleep doesn't run on the CPU.
+    NotRunning,
+    /// The task woke.
+    Woken,
+    /// The task that was to wake doesn't sleep on the CPU.
+    Awake,
+    /// This task was pulled.
+    Pulled(TaskId),
+    /// With the candidate the CPU would be loaded no less than the source.
+    Balanced,
+    /// No task waits at the source.
+    Nothing,
+    /// A virtual runtime or deadline would have left the range.
     Range,
 }
 

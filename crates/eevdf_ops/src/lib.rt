@@ -7,8 +7,10 @@
 
 mod cpu_number;
 mod deeds;
+pub mod laws;
 mod machine_setup;
 mod machine_start;
+pub mod one_queue;
 pub mod one_thread;
 mod outcome;
 mod setup_fault;
@@ -16,6 +18,8 @@ mod setup_test;
 mod solo_machine;
 mod task_spec;
 mod whole_deeds;
+pub mod whole_pull;
+pub mod whole_sleep;
 
 pub use cpu_number::CpuId;
 pub use deeds::{Answer, Deed, Line, Op};

@@ -1,4 +1,5 @@
-ghost use Rattle.std.specs.Prelude.{◌≡◌, ◌<◌, ◌≤◌, length, map, slice_index_or, IfOk, None};
+ghost use Rattle.std.specs.Prelude.{◌≡◌, ◌<◌, ◌≤◌, nat_lt, length, map, slice_index_or, IfOk, None};
+ghost use Rattle.eevdf_ops.specs.Faults as faults;
 ghost use Rattle.eevdf_ops.specs.Faults.{IsSetupOf, tasks_fault};
 ghost use Rattle.eevdf_ops.specs.Setup as setup;
 
@@ -33,7 +34,8 @@ impl Model for Setup {
 impl Setup {
     /// A setup of these tasks and programs, copied. Where it has a fault, the first one is answered: in the
     /// number of programs, in that of tasks, then of each task in order its home and its start, then of each
-    /// program in order its length. Want of memory is answered only where there is no fault.
+    /// program in order its length and each of its operations. Want of memory is answered only where there is
+    /// no fault.
     pub fn make(
         alloc: Global,
         tasks: &[TaskSpec],
@@ -51,11 +53,12 @@ impl Setup {
         }
     }
 
-    /// The number of CPUs.
+    /// The number of CPUs. No setup has a fault.
     pub fn cpus(&self) -> usize
         ensures cpus { result ≡ setup.cpus_of self.now }
         ensures some { 1 ≤ result }
         ensures few { result ≤ 16 }
+        ensures sound { faults.setup_fault self.now.tasks self.now.programs ≡ None }
     {
         self.programs.len()
     }
@@ -92,13 +95,39 @@ impl Setup {
         &self.programs[cpu.get() as usize]
     }
 
-    /// Whether a deed names only what the setup has.
+    /// Whether the setup has the CPU, the task, the sender and the source that a deed names, a wake is at the
+    /// task's home, and a pull is from another CPU.
     pub fn allows(&self, deed: &Deed) -> bool
         ensures { result ≡ setup.allows self.now deed.now }
     {
         match *deed {
-            Deed::Tick { cpu, .. } | Deed::Pick { cpu } => (cpu.get() as usize) < self.cpus(),
+            Deed::Tick { cpu, .. } | Deed::Pick { cpu } | Deed::Yield { cpu } => self.has_cpu(cpu),
+            Deed::Sleep { cpu, task } => self.has_cpu(cpu) && self.has_task(task),
+            Deed::Wake { cpu, task, sender } => {
+                self.has_cpu(cpu) && self.has_cpu(sender) && self.is_at_home(task, cpu)
+            }
+            Deed::Pull { cpu, source } => {
+                self.has_cpu(cpu) && self.has_cpu(source) && source.get() != cpu.get()
+            }
         }
+    }
+
+    fn has_cpu(&self, cpu: CpuId) -> bool
+        ensures { result ≡ nat_lt cpu (setup.cpus_of self.now) }
+    {
+        (cpu.get() as usize) < self.cpus()
+    }
+
+    fn has_task(&self, task: TaskId) -> bool
+        ensures { result ≡ setup.is_task (setup.homes_of self.now) task }
+    {
+        (task.get() as usize) < self.tasks()
+    }
+
+    fn is_at_home(&self, task: TaskId, cpu: CpuId) -> bool
+        ensures { result ≡ setup.is_at_home (setup.homes_of self.now) task cpu }
+    {
+        self.has_task(task) && self.spec(task).home.get() == cpu.get()
     }
 }
 

@@ -11,6 +11,11 @@ pub enum SetupFault {
     BadStart { task: usize },
     /// The program of this CPU has too many operations.
     TooLong { cpu: usize },
+    /// The operation at this place of the program of this CPU names no task of the setup.
+    UnknownTask { cpu: usize, at: usize },
+    /// The operation at this place of the program of this CPU pulls from its own CPU, or from none of the
+    /// setup.
+    BadPull { cpu: usize, at: usize },
     /// There was no memory.
     Memory,
 }

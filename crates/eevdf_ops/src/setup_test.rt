@@ -4,14 +4,16 @@ ghost use Rattle.std.specs.Prelude.{◌≡◌, ◌+ℤ◌, pos, true, length, ma
 ghost use Rattle.eevdf_weight.specs.Limits as limits;
 ghost use Rattle.eevdf_queue.specs.Moves.{request_of};
 ghost use Rattle.eevdf_ops.specs.Faults as faults;
+ghost use Rattle.eevdf_ops.specs.Setup.{is_source};
 
+use crate::cpu_number::CpuId;
 use crate::deeds::Op;
 use crate::setup_fault::SetupFault;
 use crate::task_spec::TaskSpec;
 use eevdf_weight::{charge, is_in_range, weight};
 
 /// A setup has at most so many CPUs.
-const MOST_CPUS: usize = 1;
+const MOST_CPUS: usize = 16;
 
 /// A setup has at most so many tasks.
 const MOST_TASKS: usize = 1024;
@@ -26,7 +28,7 @@ pub(crate) fn setup_fault(tasks: &[TaskSpec], programs: &[Vec<Op>]) -> Option<Se
     unless(is_count(programs.len(), MOST_CPUS), SetupFault::BadCpus)
         .or(unless(is_count(tasks.len(), MOST_TASKS), SetupFault::BadTasks))
         .or(tasks_fault(programs.len(), tasks))
-        .or(programs_fault(programs))
+        .or(programs_fault(tasks.len(), programs.len(), programs))
 }
 
 fn tasks_fault(cpus: usize, tasks: &[TaskSpec]) -> Option<SetupFault>
@@ -64,11 +66,11 @@ fn first_deadline(task: TaskSpec) -> i64
     task.start + charge(task.slice.get(), weight(task.nice))
 }
 
-fn programs_fault(programs: &[Vec<Op>]) -> Option<SetupFault>
-    ensures { result ≡ faults.programs_fault 0 (map (λ p. p.items) programs.now) }
+fn programs_fault(tasks: usize, cpus: usize, programs: &[Vec<Op>]) -> Option<SetupFault>
+    ensures { result ≡ faults.programs_fault tasks cpus 0 (map (λ p. p.items) programs.now) }
 {
     for (cpu, program) in programs.iter().enumerate() {
-        let fault = program_fault(cpu, program);
+        let fault = program_fault(tasks, cpus, cpu, program);
         if fault.is_some() {
             return fault;
         }
@@ -76,13 +78,56 @@ fn programs_fault(programs: &[Vec<Op>]) -> Option<SetupFault>
     None
 }
 
-fn program_fault(cpu: usize, program: &[Op]) -> Option<SetupFault>
-    ensures { result ≡ faults.program_fault cpu program.now }
+fn program_fault(tasks: usize, cpus: usize, cpu: usize, program: &[Op]) -> Option<SetupFault>
+    ensures { result ≡ faults.program_fault tasks cpus cpu program.now }
 {
     unless(
         program.len() <= MOST_OPERATIONS,
         SetupFault::TooLong { cpu },
     )
+    .or(operations_fault(tasks, cpus, cpu, program))
+}
+
+fn operations_fault(tasks: usize, cpus: usize, cpu: usize, program: &[Op]) -> Option<SetupFault>
+    ensures { result ≡ faults.operations_fault tasks cpus cpu 0 program.now }
+{
+    for (at, operation) in program.iter().enumerate() {
+        let fault = operation_fault(tasks, cpus, cpu, at, *operation);
+        if fault.is_some() {
+            return fault;
+        }
+    }
+    None
+}
+
+fn operation_fault(
+    tasks: usize,
+    cpus: usize,
+    cpu: usize,
+    at: usize,
+    operation: Op,
+) -> Option<SetupFault>
+    ensures { result ≡ faults.operation_fault tasks cpus cpu at operation }
+{
+    match operation {
+        Op::Tick(_) | Op::Pick | Op::Yield | Op::Drain => None,
+        Op::Sleep(task) | Op::Post(task) => unless(
+            (task.get() as usize) < tasks,
+            SetupFault::UnknownTask { cpu, at },
+        ),
+        Op::Pull(source) => unless(
+            is_source(cpus, cpu, source),
+            SetupFault::BadPull { cpu, at },
+        ),
+    }
+}
+
+/// Whether a CPU may pull from this one.
+fn is_source(cpus: usize, cpu: usize, source: CpuId) -> bool
+    ensures { result ≡ is_source cpus cpu source }
+{
+    let source = source.get() as usize;
+    source < cpus && source != cpu
 }
 
 fn is_count(n: usize, most: usize) -> bool

@@ -2,14 +2,15 @@ ghost use Rattle.std.specs.Prelude.{◌≡◌, ◌<◌, length, map, true, IfOk,
 ghost use Rattle.eevdf_ops.specs.Setup.{cpus_of, homes_of, is_allowed};
 ghost use Rattle.eevdf_ops.specs.Machine as machine;
 ghost use Rattle.eevdf_ops.specs.Outcome.{machine_of};
-ghost use Rattle.eevdf_ops.specs.Whole.{whole};
+ghost use Rattle.eevdf_ops.specs.Places.{IsPlaced};
+ghost use Rattle.eevdf_ops.specs.Whole as operation;
 
 use crate::cpu_number::CpuId;
 use crate::deeds::{Answer, Deed};
 use crate::machine_setup::Setup;
 use crate::machine_start::queues_at_start;
 use crate::task_spec::TaskSpec;
-use crate::whole_deeds::{pick, tick};
+use crate::whole_deeds::whole;
 use eevdf_queue::Queue;
 use std::alloc::{AllocError, Global};
 use std::marker::Model;
@@ -31,6 +32,13 @@ impl Model for Solo {
     ghost coded = { Prim.hlevel (codes, view_code) };
 
     ghost view = { λ s. record { homes = s.homes.items; queues = s.queues.items } };
+
+    ghost use Rattle.std.specs.Prelude.{length};
+    ghost use Rattle.eevdf_ops.specs.Outcome.{machine_of};
+    ghost use Rattle.eevdf_ops.specs.Places.{AreCpus, IsPlaced};
+
+    ghost invariant = { λ s. AreCpus (length s.queues.items) s.homes.items
+        × IsPlaced s.homes.items (machine_of s.queues.items) };
 }
 
 impl Solo {
@@ -48,15 +56,12 @@ impl Solo {
     /// Does a deed at once, and answers it. It takes no memory.
     pub fn apply(&mut self, deed: Deed) -> Answer
         requires { is_allowed (length self.old.queues) self.old.homes deed ≡ true }
-        ensures answer { result ≡ (whole self.old.homes deed (machine_of self.old.queues)).0 }
-        ensures machine { machine_of self.new.queues ≡ (whole self.old.homes deed (machine_of self.old.queues)).1 }
+        ensures answer { result ≡ (operation.whole self.old.homes deed (machine_of self.old.queues)).0 }
+        ensures machine { machine_of self.new.queues ≡ (operation.whole self.old.homes deed (machine_of self.old.queues)).1 }
         ensures homes { self.new.homes ≡ self.old.homes }
         ensures cpus { length self.new.queues ≡ length self.old.queues }
     {
-        match deed {
-            Deed::Tick { cpu, ns } => tick(&mut self.queues, cpu, ns),
-            Deed::Pick { cpu } => pick(&mut self.queues, cpu),
-        }
+        whole(&self.homes, deed, &mut self.queues)
     }
 
     /// The queue of a CPU.
@@ -65,6 +70,13 @@ impl Solo {
         ensures { result.now ≡ slice_index_or self.now.queues cpu result.now }
     {
         &self.queues[cpu.get() as usize]
+    }
+
+    /// Learns where the tasks stand.
+    pub(crate) fn keeps(&self)
+        ensures { IsPlaced self.now.homes (machine_of self.now.queues) }
+    {
+        let _homes = &self.homes;
     }
 
     /// The queues, by CPU.

@@ -1,0 +1,141 @@
+-- Each deed as changes of single queues.
+use Rattle.std.proofs.Common.{◌≡◌, ◌≢◌, ℕ, ◌<◌, Bool, true, false, cond, ◌||◌, List, length, set, refl, sym, ap, ◌∙◌, arith}
+use Rattle.std.specs.Prelude.{◌==◌, Option, Some, None, Result, Ok, Err}
+use Rattle.std.proofs.Math.ListN.{length-set}
+use Rattle.std.proofs.lemmas.List.{get_or-set_same}
+use Rattle.std.proofs.lemmas.Bool.Decides.{nat_tests}
+use Rattle.eevdf_queue.specs.State.{State, Contents, empty_state}
+use Rattle.eevdf_queue.specs.Moves.{sleeper_of, put_asleep}
+use Rattle.eevdf_queue.specs.Placing.{can_place}
+use Rattle.eevdf_queue.specs.Leaving.{carried_running, leave}
+use Rattle.eevdf_ops.specs.declared.deeds.Deed.{Deed}
+use Rattle.eevdf_ops.specs.declared.deeds.Deed.TheVariants.{Tick, Pick, Yield, Sleep, Wake, Pull}
+use Rattle.eevdf_ops.specs.declared.deeds.Answer.{Answer}
+use Rattle.eevdf_ops.specs.declared.deeds.Answer.TheVariants.{Nothing, Balanced, Range}
+use Rattle.eevdf_ops.specs.Setup.{home_of}
+use Rattle.eevdf_ops.specs.Machine.{Machine, queue_at}
+use Rattle.eevdf_ops.specs.OneQueue.{one_tick, one_pick, one_yield, one_wake}
+use Rattle.eevdf_ops.specs.Parts.{decider, giver, taker, Moved, given, answer_of_sleep, answer_of_pull, local_answer, taken, after_leaving, after_falling_asleep, after_joining, only_at, local_after}
+use Rattle.eevdf_ops.specs.PartsLaws as laws
+use Rattle.eevdf_ops.specs.Whole.{whole}
+use Rattle.eevdf_ops.specs.WholeSleep.{sleep_carrying, task_leaves}
+use Rattle.eevdf_ops.specs.WholePull.{offer, load_of, is_lighter, decision, with_task, pull_decided}
+use Rattle.eevdf_ops.proofs.MapCounts.{equal}
+use Rattle.eevdf_ops.proofs.MachinePlaces.{other_queue}
+use Rattle.eevdf_ops.proofs.Pulling.{decision-taken, decided_at}
+use Rattle.eevdf_ops.proofs.DeedNames.{DeedNames, deed_names}
+
+unequal : (k c : ℕ) → (k == c) ≡ false → k ≢ c
+unequal k c e = grind (arith, nat_tests)
+
+changed_by : (f : State → State) (m : Machine) (c k : ℕ) (b : Bool) → (k == c) ≡ b → c < length m → queue_at (set m c (f (queue_at m c))) k ≡ cond b (f (queue_at m k)) (queue_at m k)
+changed_by f m c k true e h =
+    let at : k ≡ c = equal k c e in
+    ap (λ (i : ℕ). queue_at (set m c (f (queue_at m c))) i) at ∙ get_or-set_same m c (f (queue_at m c)) empty_state h ∙ ap (λ (i : ℕ). f (queue_at m i)) (sym at)
+changed_by f m c k false e h = other_queue m c k (f (queue_at m c)) (unequal k c e)
+
+-- one queue changes
+changed : (f : State → State) (m : Machine) (c k : ℕ) → c < length m → queue_at (set m c (f (queue_at m c))) k ≡ only_at c k f (queue_at m k)
+changed f m c k h = changed_by f m c k (k == c) refl h
+
+-- one changes, and then another
+changed_twice : (f g : State → State) (m : Machine) (c d k : ℕ) → c < length m → d < length m
+    → queue_at (set (set m c (f (queue_at m c))) d (g (queue_at (set m c (f (queue_at m c))) d))) k ≡ only_at d k g (only_at c k f (queue_at m k))
+changed_twice f g m c d k h i =
+    changed g (set m c (f (queue_at m c))) d k (omega (arith, length-set m c (f (queue_at m c)))) ∙ ap (only_at d k g) (changed f m c k h)
+
+idle : (b : Bool) (q : State) → cond b q q ≡ q
+idle true q = refl
+idle false q = refl
+
+nothing_moves : (c d k : ℕ) (q : State) → only_at d k (λ r. r) (only_at c k (λ r. r) q) ≡ q
+nothing_moves c d k q = idle (k == d) (only_at c k (λ r. r) q) ∙ idle (k == c) q
+
+sleep_after : (m : Machine) (cpu home k : ℕ) (o : Option Contents) → cpu < length m → home < length m
+    → queue_at (sleep_carrying m cpu home o).1 k ≡ only_at home k (after_falling_asleep o) (only_at cpu k (after_leaving o) (queue_at m k))
+sleep_after m cpu home k None h i = sym (nothing_moves cpu home k (queue_at m k))
+sleep_after m cpu home k (Some p) h i = changed_twice (λ q. leave q p.task) (λ q. put_asleep q p) m cpu home k h i
+
+untaken_by : (p : Contents) (b c : Bool) (why : Answer) (o : Option Contents) → cond b (cond c (Ok p) (Err Range)) (Err Balanced) ≡ Err why → taken why o ≡ None
+untaken_by p true true why o e = cc
+untaken_by p true false why o e = let is : Range ≡ why = cc in ap (λ (a : Answer). taken a o) (sym is)
+untaken_by p false c why o e = let is : Balanced ≡ why = cc in ap (λ (a : Answer). taken a o) (sym is)
+
+untaken : (q : State) (load : ℕ) (offered o : Option Contents) (why : Answer) → decision q load offered ≡ Err why → taken why o ≡ None
+untaken q load None o why e = let is : Nothing ≡ why = cc in ap (λ (a : Answer). taken a o) (sym is)
+untaken q load (Some p) o why e = untaken_by p (is_lighter (load_of q) p load) (can_place q (sleeper_of p)) why o e
+
+abbrev pulled_queue : Machine → ℕ → ℕ → ℕ → Option Contents → State
+pulled_queue m cpu source k o = only_at cpu k (after_joining o) (only_at source k (after_leaving o) (queue_at m k))
+
+pull_after : (m : Machine) (cpu source k : ℕ) (d : Result Contents Answer) → cpu < length m → source < length m → decided_at m cpu source ≡ d
+    → queue_at (pull_decided m cpu source d).1 k ≡ pulled_queue m cpu source k (taken (answer_of_pull d) (offer (queue_at m source)))
+pull_after m cpu source k (Err why) h i e =
+    sym (ap (pulled_queue m cpu source k) (untaken (queue_at m cpu) (load_of (queue_at m source)) (offer (queue_at m source)) (offer (queue_at m source)) why e)
+    ∙ nothing_moves source cpu k (queue_at m k))
+pull_after m cpu source k (Ok p) h i e =
+    changed_twice (λ q. leave q p.task) (λ q. with_task q p) m source cpu k i h
+    ∙ ap (pulled_queue m cpu source k) (sym (decision-taken (queue_at m cpu) (load_of (queue_at m source)) (offer (queue_at m source)) p e).offered_it)
+
+sleep_answer : (m : Machine) (cpu home : ℕ) (o : Option Contents) → (sleep_carrying m cpu home o).0 ≡ answer_of_sleep o
+sleep_answer m cpu home None = refl
+sleep_answer m cpu home (Some p) = refl
+
+pull_answer : (m : Machine) (cpu source : ℕ) (d : Result Contents Answer) → (pull_decided m cpu source d).0 ≡ answer_of_pull d
+pull_answer m cpu source (Err why) = refl
+pull_answer m cpu source (Ok p) = refl
+
+-- what the giver has for a deed
+abbrev pub moved_by : Machine → Deed → Moved
+moved_by m deed = given deed (queue_at m (giver deed))
+
+-- the decider answers
+pub whole-answer : (homes : List ℕ) (deed : Deed) (m : Machine) → (whole homes deed m).0 ≡ local_answer deed (queue_at m (decider deed)) (moved_by m deed)
+whole-answer homes (Tick cpu ns) m = refl
+whole-answer homes (Pick cpu) m = refl
+whole-answer homes (Yield cpu) m = refl
+whole-answer homes (Sleep cpu task) m = sleep_answer m cpu (home_of homes task) (carried_running (queue_at m cpu) task)
+whole-answer homes (Wake cpu task sender) m = refl
+whole-answer homes (Pull cpu source) m = pull_answer m cpu source (decided_at m cpu source)
+
+-- and each queue changes by itself
+pub whole-after : (homes : List ℕ) (deed : Deed) (m : Machine) (k : ℕ) → laws.Fits homes deed m
+    → queue_at (whole homes deed m).1 k ≡ local_after homes deed k (queue_at m k) (whole homes deed m).0 (moved_by m deed)
+whole-after homes (Tick cpu ns) m k fits = changed (λ q. (one_tick q ns).1) m cpu k (deed_names homes (Tick cpu ns) m fits.allowed fits.cpus).of_decider
+whole-after homes (Pick cpu) m k fits = changed (λ q. (one_pick q).1) m cpu k (deed_names homes (Pick cpu) m fits.allowed fits.cpus).of_decider
+whole-after homes (Yield cpu) m k fits = changed (λ q. (one_yield q).1) m cpu k (deed_names homes (Yield cpu) m fits.allowed fits.cpus).of_decider
+whole-after homes (Sleep cpu task) m k fits =
+    let named : DeedNames homes (Sleep cpu task) m = deed_names homes (Sleep cpu task) m fits.allowed fits.cpus in
+    sleep_after m cpu (home_of homes task) k (carried_running (queue_at m cpu) task) named.of_decider named.of_taker
+whole-after homes (Wake cpu task sender) m k fits =
+    changed (λ q. (one_wake q task).1) m cpu k (deed_names homes (Wake cpu task sender) m fits.allowed fits.cpus).of_decider
+whole-after homes (Pull cpu source) m k fits =
+    let named : DeedNames homes (Pull cpu source) m = deed_names homes (Pull cpu source) m fits.allowed fits.cpus in
+    pull_after m cpu source k (decided_at m cpu source) named.of_decider named.of_giver refl
+    ∙ ap (λ (a : Answer). pulled_queue m cpu source k (taken a (offer (queue_at m source)))) (sym (pull_answer m cpu source (decided_at m cpu source)))
+
+or_false : (a b : Bool) → (a || b) ≡ false → (a ≡ false) × (b ≡ false)
+or_false true b e = cc
+or_false false b e = (refl, e)
+
+sleep_stays : (m : Machine) (cpu home k : ℕ) (o : Option Contents) → k ≢ cpu → k ≢ home → queue_at (sleep_carrying m cpu home o).1 k ≡ queue_at m k
+sleep_stays m cpu home k None h i = refl
+sleep_stays m cpu home k (Some p) h i = other_queue (task_leaves m cpu p.task) home k _ i ∙ other_queue m cpu k _ h
+
+pull_stays : (m : Machine) (cpu source k : ℕ) (d : Result Contents Answer) → k ≢ cpu → k ≢ source → queue_at (pull_decided m cpu source d).1 k ≡ queue_at m k
+pull_stays m cpu source k (Err why) h i = refl
+pull_stays m cpu source k (Ok p) h i = other_queue (task_leaves m source p.task) cpu k _ h ∙ other_queue m source k _ i
+
+stays : (homes : List ℕ) (deed : Deed) (m : Machine) (k : ℕ) → k ≢ decider deed → k ≢ giver deed → k ≢ taker homes deed → queue_at (whole homes deed m).1 k ≡ queue_at m k
+stays homes (Tick cpu ns) m k d g t = other_queue m cpu k _ d
+stays homes (Pick cpu) m k d g t = other_queue m cpu k _ d
+stays homes (Yield cpu) m k d g t = other_queue m cpu k _ d
+stays homes (Sleep cpu task) m k d g t = sleep_stays m cpu (home_of homes task) k (carried_running (queue_at m cpu) task) d t
+stays homes (Wake cpu task sender) m k d g t = other_queue m cpu k _ d
+stays homes (Pull cpu source) m k d g t = pull_stays m cpu source k (decided_at m cpu source) d g
+
+pub others_stay : laws.OthersStay
+others_stay homes deed m c e =
+    let first : (c == decider deed) ≡ false = (or_false _ _ e).0 in
+    let rest : ((c == giver deed) || (c == taker homes deed)) ≡ false = (or_false (c == decider deed) _ e).1 in
+    stays homes deed m c (unequal c (decider deed) first) (unequal c (giver deed) (or_false _ _ rest).0) (unequal c (taker homes deed) (or_false (c == giver deed) _ rest).1)

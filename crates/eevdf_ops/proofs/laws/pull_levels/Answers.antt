@@ -1,0 +1,5 @@
+use Rattle.eevdf_ops.proofs.PullLaws as pulls
+use Rattle.eevdf_ops.proofs.laws.pull_levels.Goals as goal
+
+pub returns : goal.returns
+returns c = pulls.pull_levels

@@ -1,0 +1,21 @@
+use Rattle.std.proofs.Common.{◌≡◌, ◌<◌, length, ap, ◌∙◌, arith}
+use Rattle.std.specs.Prelude.{Some}
+use Rattle.eevdf_queue.specs.State.{State}
+use Rattle.eevdf_queue.specs.Moves.{sleeper_of}
+use Rattle.eevdf_queue.specs.Placing.{put}
+use Rattle.eevdf_ops.specs.Machine.{queue_at}
+use Rattle.eevdf_ops.specs.Outcome.{machine_of}
+use Rattle.eevdf_ops.specs.WholePull.{with_task}
+use Rattle.eevdf_ops.proofs.Machines.{queue_read, machine_with}
+use Rattle.eevdf_ops.proofs.Pulling.{with_task-put}
+use Rattle.eevdf_ops.proofs.whole_pull.join.Goals as goal
+
+pub returns : goal.returns
+returns c =
+    let within : c.get.result < length c.args.queues.now = omega (arith, c.requires.cpu, c.get.ensures.number) in
+    let q : State = queue_at (machine_of c.args.queues.now) c.args.cpu in
+    let put_there : put q c.args.parcel.task (sleeper_of c.args.parcel) ≡ Some c.attach.new.self.state =
+    ap (λ (r : State). put r c.args.parcel.task (sleeper_of c.args.parcel))
+    (queue_read c.args.queues.now c.args.cpu c.get.result c.index-queues-get.result c.get.ensures.number within) ∙ c.attach.ensures.after in
+    let is : put q c.args.parcel.task (sleeper_of c.args.parcel) ≡ Some (with_task q c.args.parcel) = with_task-put q c.args.parcel c.requires.room in
+    machine_with c.args.queues.now c.args.cpu c.get.result c.attach.new.self (with_task q c.args.parcel) c.get.ensures.number (cc)

@@ -1,0 +1,48 @@
+-- A pull: the candidate of the source comes to the CPU, where that levels their loads.
+use Rattle.std.specs.Prelude.{ℕ, ◌+◌, nat_lt, Bool, if◌then◌else◌, Option, Some, None, Result, Ok, Err, slice_set}
+use Rattle.std.specs.Option.{option_and_then, unwrap_or}
+use Rattle.eevdf_weight.specs.Weight.{weight_of}
+use Rattle.eevdf_queue.specs.State.{State, Contents}
+use Rattle.eevdf_queue.specs.Sums.{total_weight}
+use Rattle.eevdf_queue.specs.Moves.{sleeper_of}
+use Rattle.eevdf_queue.specs.Candidate.{candidate_of}
+use Rattle.eevdf_queue.specs.Leaving.{carried}
+use Rattle.eevdf_queue.specs.Placing.{can_place, put}
+use Rattle.eevdf_ops.specs.declared.deeds.Answer.{Answer}
+use Rattle.eevdf_ops.specs.declared.deeds.Answer.TheVariants.{Pulled, Balanced, Nothing, Range}
+use Rattle.eevdf_ops.specs.Machine.{Machine, queue_at}
+use Rattle.eevdf_ops.specs.WholeSleep.{task_leaves}
+
+-- what a pull reads of its source, beside the load: the candidate, with what it would carry
+abbrev pub offer : State → Option Contents
+offer q = option_and_then (carried q) (candidate_of q.runnable q.running)
+
+abbrev pub load_of : State → ℕ
+load_of q = total_weight q.runnable
+
+-- whether a CPU of this load would with the task still be loaded less than the source is
+abbrev pub is_lighter : ℕ → Contents → ℕ → Bool
+is_lighter load p source_load = nat_lt (load + weight_of p.nice) source_load
+
+-- what the CPU decides, from the source's load and offer: the task that it takes, or why it takes none
+abbrev pub decision : State → ℕ → Option Contents → Result Contents Answer
+decision q source_load None = Err Nothing
+decision q source_load (Some p) =
+    if is_lighter (load_of q) p source_load then (if can_place q (sleeper_of p) then Ok p else Err Range)
+    else Err Balanced
+
+-- a queue with the task, where it can be placed there
+abbrev pub with_task : State → Contents → State
+with_task q p = unwrap_or (put q p.task (sleeper_of p)) q
+
+-- the machine with a task runnable at a CPU
+abbrev pub task_joins : Machine → ℕ → Contents → Machine
+task_joins m cpu p = slice_set m cpu (with_task (queue_at m cpu) p)
+
+abbrev pub pull_decided : Machine → ℕ → ℕ → Result Contents Answer → Answer × Machine
+pull_decided m cpu source (Err refusal) = (refusal, m)
+pull_decided m cpu source (Ok p) = (Pulled p.task, task_joins (task_leaves m source p.task) cpu p)
+
+abbrev pub pull : Machine → ℕ → ℕ → Answer × Machine
+pull m cpu source =
+    pull_decided m cpu source (decision (queue_at m cpu) (load_of (queue_at m source)) (offer (queue_at m source)))

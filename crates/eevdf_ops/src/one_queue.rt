@@ -1,0 +1,94 @@
+//! Deeds on one queue of a machine, done at once.
+
+ghost use Rattle.std.specs.Prelude.{◌≡◌, ◌<◌, length, slice_set};
+ghost use Rattle.eevdf_ops.specs.Machine.{queue_at};
+ghost use Rattle.eevdf_ops.specs.Outcome.{machine_of};
+ghost use Rattle.eevdf_ops.specs.OneQueue as whole;
+
+use crate::cpu_number::CpuId;
+use crate::deeds::Answer;
+use eevdf_queue::{Queue, TaskId, TickAnswer, WakeAnswer, YieldAnswer};
+use eevdf_weight::Ns;
+
+/// Charges the CPU's running task.
+pub fn tick(queues: &mut [Queue], cpu: CpuId, ns: Ns) -> Answer
+    requires { cpu < length queues.old }
+    ensures answer { result ≡ (whole.one_tick (queue_at (machine_of queues.old) cpu) ns).0 }
+    ensures machine { machine_of queues.new ≡ slice_set (machine_of queues.old) cpu
+        (whole.one_tick (queue_at (machine_of queues.old) cpu) ns).1 }
+{
+    let queue = &mut queues[cpu.get() as usize];
+    answer_of_tick(queue.tick(ns))
+}
+
+/// Lets the CPU's eligible task of earliest deadline run.
+pub fn pick(queues: &mut [Queue], cpu: CpuId) -> Answer
+    requires { cpu < length queues.old }
+    ensures answer { result ≡ (whole.one_pick (queue_at (machine_of queues.old) cpu)).0 }
+    ensures machine { machine_of queues.new ≡ slice_set (machine_of queues.old) cpu
+        (whole.one_pick (queue_at (machine_of queues.old) cpu)).1 }
+{
+    let queue = &mut queues[cpu.get() as usize];
+    answer_of_pick(queue.pick())
+}
+
+/// Makes the deadline of the CPU's running task one request later.
+pub fn yield_now(queues: &mut [Queue], cpu: CpuId) -> Answer
+    requires { cpu < length queues.old }
+    ensures answer { result ≡ (whole.one_yield (queue_at (machine_of queues.old) cpu)).0 }
+    ensures machine { machine_of queues.new ≡ slice_set (machine_of queues.old) cpu
+        (whole.one_yield (queue_at (machine_of queues.old) cpu)).1 }
+{
+    let queue = &mut queues[cpu.get() as usize];
+    answer_of_yield(queue.yield_now())
+}
+
+/// Makes a task runnable that sleeps on the CPU.
+pub fn wake(queues: &mut [Queue], cpu: CpuId, task: TaskId) -> Answer
+    requires { cpu < length queues.old }
+    ensures answer { result ≡ (whole.one_wake (queue_at (machine_of queues.old) cpu) task).0 }
+    ensures machine { machine_of queues.new ≡ slice_set (machine_of queues.old) cpu
+        (whole.one_wake (queue_at (machine_of queues.old) cpu) task).1 }
+{
+    let queue = &mut queues[cpu.get() as usize];
+    answer_of_wake(queue.wake(task))
+}
+
+fn answer_of_tick(answer: TickAnswer) -> Answer
+    ensures { result ≡ whole.answer_of_tick answer }
+{
+    match answer {
+        TickAnswer::Charged { task, resched } => Answer::Charged { task, resched },
+        TickAnswer::Idle => Answer::Idle,
+        TickAnswer::Range => Answer::Range,
+    }
+}
+
+fn answer_of_pick(picked: Option<TaskId>) -> Answer
+    ensures { result ≡ whole.answer_of_pick picked }
+{
+    match picked {
+        Some(task) => Answer::Picked(task),
+        None => Answer::Idle,
+    }
+}
+
+fn answer_of_yield(answer: YieldAnswer) -> Answer
+    ensures { result ≡ whole.answer_of_yield answer }
+{
+    match answer {
+        YieldAnswer::Yielded => Answer::Yielded,
+        YieldAnswer::Idle => Answer::Idle,
+        YieldAnswer::Range => Answer::Range,
+    }
+}
+
+fn answer_of_wake(answer: WakeAnswer) -> Answer
+    ensures { result ≡ whole.answer_of_wake answer }
+{
+    match answer {
+        WakeAnswer::Woken => Answer::Woken,
+        WakeAnswer::Awake => Answer::Awake,
+        WakeAnswer::Range => Answer::Range,
+    }
+}

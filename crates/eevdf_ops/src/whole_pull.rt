@@ -1,0 +1,125 @@
+//! A pull, done at once: the candidate of the source comes to the CPU, where that levels their loads.
+
+ghost use Rattle.std.specs.Prelude.{◌≡◌, ◌≢◌, ◌<◌, ◌≤◌, length, nat_lt, ◌+◌, Some, IfSome, true, false};
+ghost use Rattle.eevdf_weight.specs.Weight.{weight_of};
+ghost use Rattle.std.specs.Option.{option_map};
+ghost use Rattle.std.specs.FinMap as map;
+ghost use Rattle.eevdf_queue.specs.Candidate.{is_running};
+ghost use Rattle.eevdf_queue.specs.Lag.{is_lag};
+ghost use Rattle.eevdf_queue.specs.Leaving as leaving;
+ghost use Rattle.eevdf_queue.specs.Moves.{sleeper_of};
+ghost use Rattle.eevdf_queue.specs.Placing.{can_place};
+ghost use Rattle.eevdf_ops.specs.Machine.{queue_at};
+ghost use Rattle.eevdf_ops.specs.Outcome.{machine_of};
+ghost use Rattle.eevdf_ops.specs.Places.{places, places_in};
+ghost use Rattle.eevdf_ops.specs.PullOffer.{task_of, offer_of};
+ghost use Rattle.eevdf_ops.specs.WholeSleep.{task_leaves};
+ghost use Rattle.eevdf_ops.specs.WholePull as whole;
+
+use crate::cpu_number::CpuId;
+use crate::deeds::Answer;
+use eevdf_queue::{Parcel, Queue, TaskId};
+use eevdf_weight::{Nice, Slice, weight};
+
+/// What a source offers: its candidate, with what that would carry.
+#[derive(Clone, Copy)]
+struct Offer {
+    task: TaskId,
+    nice: Nice,
+    slice: Slice,
+    lag: i64,
+}
+
+/// Brings the candidate of the source to the CPU, where that levels their loads.
+pub fn pull(queues: &mut [Queue], cpu: CpuId, source: CpuId) -> Answer
+    requires cpu { cpu < length queues.old }
+    requires source { source < length queues.old }
+    requires apart { cpu ≢ source }
+    requires once { (task : _) → places (machine_of queues.old) task ≤ 1 }
+    ensures answer { result ≡ (whole.pull (machine_of queues.old) cpu source).0 }
+    ensures machine { machine_of queues.new ≡ (whole.pull (machine_of queues.old) cpu source).1 }
+{
+    match decide(&queues[cpu.get() as usize], &queues[source.get() as usize]) {
+        Err(refusal) => refusal,
+        Ok(task) => {
+            let parcel = take(queues, source, task);
+            join(queues, cpu, parcel);
+            Answer::Pulled(task)
+        }
+    }
+}
+
+/// The task that the CPU takes, or why it takes none.
+pub fn decide(puller: &Queue, source: &Queue) -> Result<TaskId, Answer>
+    ensures { result ≡ task_of
+        (whole.decision puller.now.state (whole.load_of source.now.state) (whole.offer source.now.state)) }
+{
+    let Some(offer) = candidate(source) else {
+        return Err(Answer::Nothing);
+    };
+    if !is_lighter(puller.load(), offer.nice, source.load()) {
+        return Err(Answer::Balanced);
+    }
+    if puller.can_place(offer.nice, offer.slice, offer.lag) {
+        Ok(offer.task)
+    } else {
+        Err(Answer::Range)
+    }
+}
+
+/// Whether a load stays below the source's with a task of this nice level.
+fn is_lighter(load: u64, nice: Nice, source_load: u64) -> bool
+    ensures { result ≡ nat_lt (load + weight_of nice) source_load }
+{
+    weight(nice) < source_load.saturating_sub(load)
+}
+
+/// The queue's candidate.
+fn candidate(queue: &Queue) -> Option<Offer>
+    ensures offer { result ≡ option_map offer_of (whole.offer queue.now.state) }
+    ensures limited { IfSome result (λ o. is_lag o.lag o.nice o.slice ≡ true) }
+{
+    match queue.candidate() {
+        None => None,
+        Some(task) => Some(offered(queue, task)),
+    }
+}
+
+/// What a runnable task would carry.
+fn offered(queue: &Queue, task: TaskId) -> Offer
+    requires { map.contains_key queue.now.state.runnable task ≡ true }
+    ensures offer { option_map offer_of (leaving.carried queue.now.state task) ≡ Some result }
+    ensures limited { is_lag result.lag result.nice result.slice ≡ true }
+{
+    let entry = queue.entry(task).unwrap();
+    let lag = queue.lag_of(task).unwrap();
+    Offer {
+        task,
+        nice: entry.nice,
+        slice: entry.slice,
+        lag,
+    }
+}
+
+/// Takes a waiting task out of the CPU's queue.
+pub fn take(queues: &mut [Queue], cpu: CpuId, task: TaskId) -> Parcel
+    requires cpu { cpu < length queues.old }
+    requires here { map.contains_key (queue_at (machine_of queues.old) cpu).runnable task ≡ true }
+    requires waiting { is_running (queue_at (machine_of queues.old) cpu).running task ≡ false }
+    ensures parcel { leaving.carried (queue_at (machine_of queues.old) cpu) task ≡ Some result }
+    ensures machine { machine_of queues.new ≡ task_leaves (machine_of queues.old) cpu task }
+{
+    let queue = &mut queues[cpu.get() as usize];
+    queue.detach(task)
+}
+
+/// Puts a task that stands nowhere on the CPU among the runnable ones there.
+pub fn join(queues: &mut [Queue], cpu: CpuId, parcel: Parcel)
+    requires cpu { cpu < length queues.old }
+    requires nowhere { places_in (queue_at (machine_of queues.old) cpu) parcel.task ≡ 0 }
+    requires room { can_place (queue_at (machine_of queues.old) cpu) (sleeper_of parcel) ≡ true }
+    ensures { machine_of queues.new ≡ whole.task_joins (machine_of queues.old) cpu parcel }
+{
+    let queue = &mut queues[cpu.get() as usize];
+    queue.attach(parcel);
+}
