@@ -1,0 +1,292 @@
+-- What becomes of the locks at a step.
+use Rattle.std.proofs.Common.{◌≡◌, ◌≢◌, ℕ, zero, suc, ◌+◌, ◌-◌, ◌<◌, ◌≤◌, Bool, true, false, cond, List, [], ◌∷◌, ◌++◌, length, take, drop, get_or, set, replicate, inl, inr, ◌⊎◌, sym, ap, subst, ◌∙◌, arith, refl}
+use Rattle.std.proofs.lemmas.Bool.{false≢true, cases_lt}
+use Rattle.std.proofs.lemmas.Bool.Decides.{nat_tests}
+use Rattle.std.proofs.lemmas.List.{get_or-set_same, get_or-set_other, get_or_default}
+use Rattle.std.proofs.Math.ListN.{length-set, length-replicate}
+use Rattle.std.proofs.Math.Seq.{take-append_seam}
+use Rattle.std.specs.Prelude.{slice_get, nat_lt, ◌==◌, Option, Some, None}
+use Rattle.eevdf_ops.specs.declared.deeds.Op.{Op}
+use Rattle.eevdf_steps.specs.declared.micro_steps.Micro.{Micro}
+use Rattle.eevdf_steps.specs.declared.micro_steps.Micro.TheVariants.{Acquire, Act, Detach, Attach, Commit, Take, Settle, Release, Post}
+use Rattle.eevdf_steps.specs.declared.program_plan.Step.{Step}
+use Rattle.eevdf_steps.specs.Plan.{Plan, callers, is_sound_op}
+use Rattle.eevdf_steps.specs.MicroSteps.{steps_by, steps_of}
+use Rattle.eevdf_steps.specs.Counters.{Counters, blocked_by, count_of, counted, held_after, held_by_steps, holder, holds, least, refused, step_next}
+use Rattle.eevdf_steps.specs.Orders.{counters_at_start}
+use Rattle.eevdf_steps.specs.SoundSteps.{is_sound_micro, is_sound_step}
+use Rattle.eevdf_steps.specs.Holders.{AreHolders, given_up, holders_after, is_holder, names_lock}
+use Rattle.eevdf_steps.specs.Callers.{Callers}
+use Rattle.eevdf_steps.proofs.SoundSteps.{IsNext}
+use Rattle.eevdf_steps.proofs.Lists.{both, true_lt}
+use Rattle.eevdf_steps.proofs.CounterLists.{programs_past}
+
+pub take_next : {A : Type 0} (xs : List A) (k : ℕ) (x : A) → slice_get xs k ≡ Some x → take (suc k) xs ≡ take k xs ++ x ∷ []
+take_next [] k x e = cc
+take_next (y ∷ xs) zero x e = let same : y ≡ x = cc in ap (λ z. z ∷ []) same
+take_next (y ∷ xs) (suc k) x e = ap (λ zs. y ∷ zs) (take_next xs k x e)
+
+held_next : (cpu : ℕ) (held : Bool) (ss : List Step) (s : Step) → held_by_steps cpu held (ss ++ s ∷ []) ≡ held_after cpu (held_by_steps cpu held ss) s.micro
+held_next cpu held [] s = refl
+held_next cpu held (t ∷ ss) s = held_next cpu (held_after cpu held t.micro) ss s
+
+-- the caller of a step
+pub holds_own : (plan : Plan) (counters : Counters) (cpu p : ℕ) (s : Step) → p < length counters → step_next plan counters p ≡ Some s
+    → holds plan (counted counters p) cpu p ≡ held_after cpu (holds plan counters cpu p) s.micro
+holds_own plan counters cpu p s h e =
+    ap (λ (k : ℕ). held_by_steps cpu false (take k (steps_by plan p)))
+    (get_or-set_same counters p (count_of counters p + 1) 0 h ∙ (let one : count_of counters p + 1 ≡ suc (count_of counters p) = omega arith in one))
+    ∙ ap (λ (ss : List Step). held_by_steps cpu false ss) (take_next (steps_by plan p) (count_of counters p) s e)
+    ∙ held_next cpu false (take (count_of counters p) (steps_by plan p)) s
+
+-- any other caller
+pub holds_other : (plan : Plan) (counters : Counters) (cpu p q : ℕ) → q ≢ p → holds plan (counted counters p) cpu q ≡ holds plan counters cpu q
+holds_other plan counters cpu p q apart =
+    ap (λ (k : ℕ). held_by_steps cpu false (take k (steps_by plan q))) (get_or-set_other counters p q (count_of counters p + 1) 0 apart)
+
+least_same : (f g : ℕ → Bool) (from n : ℕ) → ((p : ℕ) → f p ≡ g p) → least f from n ≡ least g from n
+least_same f g from zero same = refl
+least_same f g from (suc n) same =
+    ap (λ (b : Bool). cond b (Some from) (least f (from + 1) n)) (same from)
+    ∙ ap (λ (o : Option ℕ). cond (g from) (Some from) o) (least_same f g (from + 1) n same)
+
+least_none : (from n : ℕ) → least (is_holder None) from n ≡ None
+least_none from zero = refl
+least_none from (suc n) = least_none (from + 1) n
+
+eq_test : (a b : ℕ) (x : Bool) → (a == b) ≡ x → cond x (a ≡ b) (a ≢ b)
+eq_test a b true e = grind (arith, nat_tests)
+eq_test a b false e = λ same. false≢true (sym e ∙ grind (arith, nat_tests))
+
+least_step : (q from : ℕ) (rest : Option ℕ) (b : Bool) → (q == from) ≡ b → (q ≢ from → rest ≡ Some q) → cond b (Some from) rest ≡ Some q
+least_step q from rest true e later = ap (λ (k : ℕ). Some k) (sym (eq_test q from true e))
+least_step q from rest false e later = later (eq_test q from false e)
+
+least_some : (q from n : ℕ) → from ≤ q → q < from + n → least (is_holder (Some q)) from n ≡ Some q
+least_some q from zero low high = absurd (omega arith)
+least_some q from (suc n) low high =
+    least_step q from (least (is_holder (Some q)) (from + 1) n) (q == from) refl
+    (λ apart. least_some q (from + 1) n (omega arith) (omega arith))
+
+taken_none : (cpu k : ℕ) → held_by_steps cpu false (take k []) ≡ false
+taken_none cpu zero = refl
+taken_none cpu (suc k) = refl
+
+nobody_past : (plan : Plan) (counters : Counters) (cpu p : ℕ) → callers plan ≤ p → holds plan counters cpu p ≡ false
+nobody_past plan counters cpu p h =
+    subst (λ (os : List Op). held_by_steps cpu false (take (count_of counters p) (steps_of plan p os)) ≡ false) (sym (programs_past plan.programs p h)) (taken_none cpu (count_of counters p))
+
+pub same_number : (q : ℕ) → (q == q) ≡ true
+same_number q = grind (arith, nat_tests)
+
+pub other_number : (a b : ℕ) → a ≢ b → (a == b) ≡ false
+other_number a b h = grind (arith, nat_tests)
+
+holder_below : (plan : Plan) (counters : Counters) (holders : List (Option ℕ)) (cpu : ℕ) (h : Option ℕ) → cpu < callers plan → AreHolders plan counters holders
+    → get_or holders cpu None ≡ h → least (is_holder h) 0 (callers plan) ≡ h
+holder_below plan counters holders cpu None k a e = least_none 0 (callers plan)
+holder_below plan counters holders cpu (Some q) k a e =
+    elim (cases_lt q (callers plan)) [
+      | inl below ↦ least_some q 0 (callers plan) (omega arith) (omega arith)
+      | inr past ↦ absurd (false≢true (sym (nobody_past plan counters cpu q past) ∙ a.held cpu q k ∙ ap (λ (o : Option ℕ). is_holder o q) e ∙ same_number q))
+    ]
+
+-- the holder that is written down is the holder
+pub holder_is : (plan : Plan) (counters : Counters) (holders : List (Option ℕ)) (cpu : ℕ) → cpu < callers plan → AreHolders plan counters holders
+    → holder plan counters cpu ≡ get_or holders cpu None
+holder_is plan counters holders cpu k a =
+    least_same (holds plan counters cpu) (is_holder (get_or holders cpu None)) 0 (callers plan) (λ p. a.held cpu p k)
+    ∙ holder_below plan counters holders cpu (get_or holders cpu None) k a refl
+
+same_or_not : (a b : ℕ) (x : Bool) → (a == b) ≡ x → (a ≡ b) ⊎ (a ≢ b)
+same_or_not a b true e = inl (eq_test a b true e)
+same_or_not a b false e = inr (eq_test a b false e)
+
+pub number_cases : (a b : ℕ) → (a ≡ b) ⊎ (a ≢ b)
+number_cases a b = same_or_not a b (a == b) refl
+
+-- what a step of a caller does to its own hold of a lock
+abbrev Follows : Plan → Counters → ℕ → Micro → Type 0
+Follows plan counters p m = (cpu : ℕ) → holds plan (counted counters p) cpu p ≡ held_after cpu (holds plan counters cpu p) m
+
+abbrev Matches : Plan → Counters → List (Option ℕ) → ℕ → ℕ → Type 0
+Matches plan counters holders cpu q = holds plan counters cpu q ≡ is_holder (get_or holders cpu None) q
+
+-- at any other lock nothing changes
+elsewhere : (plan : Plan) (counters : Counters) (holders : List (Option ℕ)) (p c cpu q : ℕ) (h : Option ℕ)
+    → cpu ≢ c → Matches plan counters holders cpu q → holds plan (counted counters p) cpu q ≡ holds plan counters cpu q
+    → Matches plan (counted counters p) (set holders c h) cpu q
+elsewhere plan counters holders p c cpu q h apart here same =
+    same ∙ here ∙ ap (λ (o : Option ℕ). is_holder o q) (sym (get_or-set_other holders c cpu h None apart))
+
+own_or_other : (plan : Plan) (counters : Counters) (p cpu q : ℕ) (m : Micro) → Follows plan counters p m → held_after cpu (holds plan counters cpu p) m ≡ holds plan counters cpu p
+    → holds plan (counted counters p) cpu q ≡ holds plan counters cpu q
+own_or_other plan counters p cpu q m follows still =
+    elim (number_cases q p) [
+      | inl same ↦ subst (λ (r : ℕ). holds plan (counted counters p) cpu r ≡ holds plan counters cpu r) (sym same) (follows cpu ∙ still)
+      | inr apart ↦ holds_other plan counters cpu p q apart
+    ]
+
+other_lock : (c cpu : ℕ) (a held : Bool) → cpu ≢ c → cond (c == cpu) a held ≡ held
+other_lock c cpu a held apart = ap (λ (b : Bool). cond b a held) (other_number c cpu (λ same. apart (sym same)))
+
+at_lock : (plan : Plan) (counters : Counters) (holders : List (Option ℕ)) (p c q : ℕ) (h : Option ℕ) → c < length holders
+    → holds plan (counted counters p) c q ≡ is_holder h q → Matches plan (counted counters p) (set holders c h) c q
+at_lock plan counters holders p c q h within e = e ∙ ap (λ (o : Option ℕ). is_holder o q) (sym (get_or-set_same holders c h None within))
+
+acquires_at : (plan : Plan) (counters : Counters) (p c q : ℕ) → Follows plan counters p (Acquire c) → holds plan counters c q ≡ false
+    → holds plan (counted counters p) c q ≡ is_holder (Some p) q
+acquires_at plan counters p c q follows free =
+    elim (number_cases q p) [
+      | inl same ↦ subst (λ (r : ℕ). holds plan (counted counters p) c r ≡ (p == r)) (sym same)
+          (follows c ∙ ap (λ (b : Bool). cond b true (holds plan counters c p)) (same_number c) ∙ sym (same_number p))
+      | inr apart ↦ holds_other plan counters c p q apart ∙ free ∙ sym (other_number p q (λ same. apart (sym same)))
+    ]
+
+pub acquired : (plan : Plan) (counters : Counters) (holders : List (Option ℕ)) (p c : ℕ) → AreHolders plan counters holders → Follows plan counters p (Acquire c)
+    → c < callers plan → get_or holders c None ≡ None → AreHolders plan (counted counters p) (set holders c (Some p))
+acquired plan counters holders p c a follows below free = record {
+  each = length-set holders c (Some p) ∙ a.each;
+  held = λ cpu q k.
+      elim (number_cases cpu c) [
+        | inl same ↦ subst (λ (r : ℕ). Matches plan (counted counters p) (set holders c (Some p)) r q) (sym same)
+            (at_lock plan counters holders p c q (Some p) (omega (arith, a.each))
+            (acquires_at plan counters p c q follows (a.held c q below ∙ ap (λ (o : Option ℕ). is_holder o q) free)))
+        | inr apart ↦ elsewhere plan counters holders p c cpu q (Some p) apart (a.held cpu q k)
+            (own_or_other plan counters p cpu q (Acquire c) follows (other_lock c cpu true (holds plan counters cpu p) apart))
+      ];
+}
+
+gives_up : (h : Option ℕ) (p q : ℕ) (b : Bool) → is_holder h p ≡ b → q ≢ p → is_holder h q ≡ is_holder (cond b None h) q
+gives_up h p q false e apart = refl
+gives_up None p q true e apart = refl
+gives_up (Some r) p q true e apart = let same : r ≡ p = eq_test r p true e in other_number r q (λ k. apart (sym k ∙ same))
+
+gave_up : (h : Option ℕ) (p : ℕ) (b : Bool) → is_holder h p ≡ b → false ≡ is_holder (cond b None h) p
+gave_up h p true e = refl
+gave_up h p false e = sym e
+
+releases_at : (plan : Plan) (counters : Counters) (p c q : ℕ) (h : Option ℕ) → Follows plan counters p (Release c) → holds plan counters c q ≡ is_holder h q
+    → holds plan (counted counters p) c q ≡ is_holder (given_up h p) q
+releases_at plan counters p c q h follows here =
+    elim (number_cases q p) [
+      | inl same ↦ subst (λ (r : ℕ). holds plan (counted counters p) c r ≡ is_holder (given_up h p) r) (sym same)
+          (follows c ∙ ap (λ (b : Bool). cond b false (holds plan counters c p)) (same_number c) ∙ gave_up h p (is_holder h p) refl)
+      | inr apart ↦ holds_other plan counters c p q apart ∙ here ∙ gives_up h p q (is_holder h p) refl apart
+    ]
+
+pub released : (plan : Plan) (counters : Counters) (holders : List (Option ℕ)) (p c : ℕ) → AreHolders plan counters holders → Follows plan counters p (Release c)
+    → c < callers plan → AreHolders plan (counted counters p) (set holders c (given_up (get_or holders c None) p))
+released plan counters holders p c a follows below = record {
+  each = length-set holders c (given_up (get_or holders c None) p) ∙ a.each;
+  held = λ cpu q k.
+      elim (number_cases cpu c) [
+        | inl same ↦ subst (λ (r : ℕ). Matches plan (counted counters p) (set holders c (given_up (get_or holders c None) p)) r q) (sym same)
+            (at_lock plan counters holders p c q (given_up (get_or holders c None) p) (omega (arith, a.each))
+            (releases_at plan counters p c q (get_or holders c None) follows (a.held c q below)))
+        | inr apart ↦ elsewhere plan counters holders p c cpu q (given_up (get_or holders c None) p) apart (a.held cpu q k)
+            (own_or_other plan counters p cpu q (Release c) follows (other_lock c cpu false (holds plan counters cpu p) apart))
+      ];
+}
+
+kept : (plan : Plan) (counters : Counters) (holders : List (Option ℕ)) (p : ℕ) (m : Micro) → AreHolders plan counters holders → Follows plan counters p m
+    → ((cpu : ℕ) (b : Bool) → held_after cpu b m ≡ b) → AreHolders plan (counted counters p) holders
+kept plan counters holders p m a follows still = record {
+  each = a.each;
+  held = λ cpu q k. own_or_other plan counters p cpu q m follows (still cpu (holds plan counters cpu p)) ∙ a.held cpu q k;
+}
+
+not_blocked : (cpu : ℕ) (o : Option ℕ) → blocked_by cpu o ≡ None → o ≡ None
+not_blocked cpu None e = refl
+not_blocked cpu (Some q) e = cc
+
+-- the holders after a step that nothing refuses
+holders_step : (plan : Plan) (counters : Counters) (holders : List (Option ℕ)) (p : ℕ) (m : Micro) → AreHolders plan counters holders → Follows plan counters p m
+    → is_sound_micro plan m ≡ true → refused plan counters m ≡ None → AreHolders plan (counted counters p) (holders_after p m holders)
+holders_step plan counters holders p (Acquire c) a follows sound free =
+    let below : c < callers plan = true_lt c (callers plan) sound in
+    acquired plan counters holders p c a follows below (sym (holder_is plan counters holders c below a) ∙ not_blocked c (holder plan counters c) free)
+holders_step plan counters holders p (Release c) a follows sound free = released plan counters holders p c a follows (true_lt c (callers plan) sound)
+holders_step plan counters holders p Act a follows sound free = kept plan counters holders p Act a follows (λ cpu b. refl)
+holders_step plan counters holders p Detach a follows sound free = kept plan counters holders p Detach a follows (λ cpu b. refl)
+holders_step plan counters holders p Attach a follows sound free = kept plan counters holders p Attach a follows (λ cpu b. refl)
+holders_step plan counters holders p Commit a follows sound free = kept plan counters holders p Commit a follows (λ cpu b. refl)
+holders_step plan counters holders p (Take q) a follows sound free = kept plan counters holders p (Take q) a follows (λ cpu b. refl)
+holders_step plan counters holders p (Settle q) a follows sound free = kept plan counters holders p (Settle q) a follows (λ cpu b. refl)
+holders_step plan counters holders p (Post t) a follows sound free = kept plan counters holders p (Post t) a follows (λ cpu b. refl)
+
+pub holders_next : (plan : Plan) (counters : Counters) (holders : List (Option ℕ)) (p : ℕ) (s : Step) → AreHolders plan counters holders → p < length counters
+    → step_next plan counters p ≡ Some s → is_sound_step plan s ≡ true → refused plan counters s.micro ≡ None
+    → AreHolders plan (counted counters p) (holders_after p s.micro holders)
+holders_next plan counters holders p s a h e sound free =
+    holders_step plan counters holders p s.micro a (λ cpu. holds_own plan counters cpu p s h e) (both (is_sound_op plan s.op) (is_sound_micro plan s.micro) sound).1 free
+
+-- at the start nobody holds a lock
+pub count_first : (n p : ℕ) → ◌≡◌ {A = ℕ} (get_or (replicate n 0) p 0) 0
+count_first zero p = refl
+count_first (suc n) zero = refl
+count_first (suc n) (suc p) = count_first n p
+
+none_first : (n c : ℕ) → ◌≡◌ {A = Option ℕ} (get_or (replicate n None) c None) None
+none_first zero c = refl
+none_first (suc n) zero = refl
+none_first (suc n) (suc c) = none_first n c
+
+pub holders_first : (plan : Plan) → AreHolders plan (counters_at_start plan) (replicate (callers plan) None)
+holders_first plan = record {
+  each = length-replicate (callers plan) None;
+  held = λ cpu q k.
+      ap (λ (n : ℕ). held_by_steps cpu false (take n (steps_by plan q))) (count_first (callers plan) q)
+      ∙ ap (λ (o : Option ℕ). is_holder o q) (sym (none_first (callers plan) cpu));
+}
+
+-- the same, where the plan, the counters and the list are known by equations
+pub same_holders : (plan plan' : Plan) (counters counters' : Counters) (holders holders' : List (Option ℕ)) → plan' ≡ plan → counters' ≡ counters → holders' ≡ holders
+    → AreHolders plan counters holders → AreHolders plan' counters' holders'
+same_holders plan plan' counters counters' holders holders' e f g a =
+    subst (λ (p : Plan). AreHolders p counters' holders') (sym e)
+    (subst (λ (cs : Counters). AreHolders plan cs holders') (sym f) (subst (λ (hs : List (Option ℕ)). AreHolders plan counters hs) (sym g) a))
+
+-- what a write through a slice leaves
+pub written_back : {A : Type 0} (n : ℕ) (xs ys : List A) → length xs ≡ n → take n (xs ++ drop (length xs) ys) ≡ xs
+written_back n xs ys e = ap (λ (k : ℕ). take k (xs ++ drop (length xs) ys)) (sym e) ∙ take-append_seam xs (drop (length xs) ys)
+
+pub sound_lock : (plan : Plan) (n : ℕ) (m : Micro) → n ≡ callers plan → is_sound_micro plan m ≡ true → names_lock n m ≡ true
+sound_lock plan n (Acquire c) e h = ap (λ (k : ℕ). nat_lt c k) e ∙ h
+sound_lock plan n (Release c) e h = ap (λ (k : ℕ). nat_lt c k) e ∙ h
+sound_lock plan n Act e h = refl
+sound_lock plan n Detach e h = refl
+sound_lock plan n Attach e h = refl
+sound_lock plan n Commit e h = refl
+sound_lock plan n (Take q) e h = refl
+sound_lock plan n (Settle q) e h = refl
+sound_lock plan n (Post t) e h = refl
+
+pub length-holders_after : (p : ℕ) (m : Micro) (holders : List (Option ℕ)) → length (holders_after p m holders) ≡ length holders
+length-holders_after p (Acquire c) holders = length-set holders c (Some p)
+length-holders_after p (Release c) holders = length-set holders c (given_up (get_or holders c None) p)
+length-holders_after p Act holders = refl
+length-holders_after p Detach holders = refl
+length-holders_after p Attach holders = refl
+length-holders_after p Commit holders = refl
+length-holders_after p (Take q) holders = refl
+length-holders_after p (Settle q) holders = refl
+length-holders_after p (Post t) holders = refl
+
+-- the holder that was read
+pub read_holder : (plan : Plan) (counters : Counters) (holders : List (Option ℕ)) (cpu k : ℕ) (h : Option ℕ) → k ≡ cpu → cpu < callers plan → AreHolders plan counters holders
+    → h ≡ get_or holders k h → h ≡ holder plan counters cpu
+read_holder plan counters holders cpu k h at below a e =
+    e ∙ get_or_default holders k h None (omega (arith, a.each)) ∙ ap (λ (i : ℕ). get_or holders i None) at ∙ sym (holder_is plan counters holders cpu below a)
+
+pub holders_then : (w : Callers) (holders : List (Option ℕ)) (p : ℕ) (m : Micro) → AreHolders w.plan w.counters holders → p < length w.counters → IsNext w p m
+    → refused w.plan w.counters m ≡ None → AreHolders w.plan (counted w.counters p) (holders_after p m holders)
+holders_then w holders p m a h n free =
+    subst (λ (k : Micro). AreHolders w.plan (counted w.counters p) (holders_after p k holders)) n.micro
+    (holders_next w.plan w.counters holders p n.step a h n.is_step n.sound (ap (λ (k : Micro). refused w.plan w.counters k) n.micro ∙ free))
+
+-- a number that doesn't pass is passed over
+pub least_past : (f : ℕ → Bool) (from n : ℕ) → from < n → f from ≡ false → least f from (n - from) ≡ least f (from + 1) (n - (from + 1))
+least_past f from n below fails =
+    ap (λ (k : ℕ). least f from k) (let e : n - from ≡ suc (n - (from + 1)) = omega arith in e)
+    ∙ ap (λ (b : Bool). cond b (Some from) (least f (from + 1) (n - (from + 1)))) fails

@@ -1,0 +1,17 @@
+pub mod Drains
+pub mod Lists
+pub mod Plans
+pub mod Setups
+pub mod CounterLists
+pub mod Positions
+pub mod SoundSteps
+pub mod WorkPlaces
+pub mod WorkSteps
+pub mod Posting
+pub mod Progressing
+pub mod Rooms
+pub mod PlayerSteps
+pub mod Beginning
+pub mod Leaving
+pub mod Decisions
+pub mod Holders

@@ -1,0 +1,164 @@
+-- A player one step later.
+use Rattle.std.proofs.Common.{◌≡◌, ℕ, ◌+◌, ◌<◌, ◌≤◌, true, List, ◌++◌, length, get_or, set, sym, ap, subst, ◌∙◌, arith, refl}
+use Rattle.std.proofs.Math.ListN.{length-set, length-append}
+use Rattle.std.specs.Prelude.{nat_lt, Option, Some, None}
+use Rattle.eevdf_ops.specs.declared.deeds.Op.{Op}
+use Rattle.eevdf_ops.specs.declared.deeds.Op.TheVariants as op
+use Rattle.eevdf_steps.specs.declared.micro_steps.Micro.{Micro}
+use Rattle.eevdf_steps.specs.declared.micro_steps.Micro.TheVariants.{Acquire, Act, Detach, Attach, Commit, Take, Settle, Release, Post}
+use Rattle.eevdf_steps.specs.declared.program_plan.Step.{Step}
+use Rattle.eevdf_steps.specs.Plan.{IsSound, Plan, callers, is_sound_op}
+use Rattle.eevdf_steps.specs.Counters.{Counters, counted, step_next}
+use Rattle.eevdf_steps.specs.Commits.{committed}
+use Rattle.eevdf_steps.specs.Callers.{Callers}
+use Rattle.eevdf_steps.specs.SoundSteps.{is_sound_micro}
+use Rattle.eevdf_steps.specs.Requests.{Progress}
+use Rattle.eevdf_steps.specs.PostLists.{PostList, has_room, list_at, place_of, posts_after, request_after}
+use Rattle.eevdf_steps.specs.Room.{lines_of, lines_to_come}
+use Rattle.eevdf_steps.specs.Work.{hand, pulls_from}
+use Rattle.eevdf_steps.specs.MicroState.{answers, appends, home_for, micro_by, works}
+use Rattle.eevdf_steps.specs.Journals.{noted}
+use Rattle.eevdf_steps.specs.Recorded.{Recorded}
+use Rattle.eevdf_steps.specs.Working.{IsWorking}
+use Rattle.eevdf_steps.specs.Players.{IsPlaying, Player, player_of, player_step}
+use Rattle.eevdf_steps.proofs.Lists.{both}
+use Rattle.eevdf_steps.proofs.SoundSteps.{is_caller, step_sound}
+use Rattle.eevdf_steps.proofs.WorkPlaces.{hand_nowhere}
+use Rattle.eevdf_steps.proofs.WorkSteps.{works_kept}
+use Rattle.eevdf_steps.proofs.Posting.{posts_step}
+use Rattle.eevdf_steps.proofs.Progressing.{progress_then}
+use Rattle.eevdf_steps.proofs.Rooms.{few_lines, less_to_come}
+
+-- a player whose caller is to do a step
+pub record Stepping (w : Callers) (lists : List PostList) (found : List (Option ℕ)) (done : Recorded) (p : ℕ) (s : Step) : Type 0 where
+  pub playing : IsPlaying w lists found done
+  pub sound : IsSound w.plan
+  pub each : length w.counters ≡ callers w.plan
+  pub step : step_next w.plan w.counters p ≡ Some s
+  pub caller : p < callers w.plan
+  pub sound_op : is_sound_op w.plan s.op ≡ true
+  pub sound_micro : is_sound_micro w.plan s.micro ≡ true
+
+pub stepping : (w : Callers) (lists : List PostList) (found : List (Option ℕ)) (done : Recorded) (p : ℕ) (s : Step) (a : Player) → player_of w lists found done ≡ a
+    → IsPlaying w lists found done → IsSound w.plan → length w.counters ≡ callers w.plan → step_next a.plan a.state.progress.counters p ≡ Some s
+    → Stepping w lists found done p s
+stepping w lists found done p s a same playing sound each e =
+    let step : step_next w.plan w.counters p ≡ Some s = ap (λ (b : Player). step_next b.plan b.state.progress.counters p) same ∙ e in
+    let caller : p < callers w.plan = is_caller w.plan w.counters p s step in
+    let parts : (is_sound_op w.plan s.op ≡ true) × (is_sound_micro w.plan s.micro ≡ true)
+    = both (is_sound_op w.plan s.op) (is_sound_micro w.plan s.micro) (step_sound w.plan w.counters p s sound caller step) in
+    record { playing = playing; sound = sound; each = each; step = step; caller = caller; sound_op = parts.0; sound_micro = parts.1 }
+
+pub is_working : (w : Callers) (lists : List PostList) (found : List (Option ℕ)) (done : Recorded) (p h : ℕ) (s : Step) → Stepping w lists found done p s → h < callers w.plan
+    → IsWorking done.work p h
+is_working w lists found done p h s st home = record {
+  queue = omega (arith, st.caller, st.playing.work.queues);
+  home = omega (arith, home, st.playing.work.queues);
+  holds = omega (arith, st.caller, st.playing.work.hands);
+  keeps = omega (arith, st.caller, st.playing.work.answers);
+  nowhere = hand_nowhere w.plan done.work p p (hand done.work p) st.playing.work st.caller refl;
+  at_home = hand_nowhere w.plan done.work p h (hand done.work p) st.playing.work home refl;
+}
+
+pulls_by : (plan : Plan) (n : ℕ) (o : Op) → n ≡ callers plan → is_sound_op plan o ≡ true → pulls_from n o ≡ true
+pulls_by plan n (op.Pull source) e h = ap (λ (k : ℕ). nat_lt source k) e ∙ h
+pulls_by plan n (op.Sleep t) e h = refl
+pulls_by plan n (op.Tick ns) e h = refl
+pulls_by plan n op.Pick e h = refl
+pulls_by plan n op.Yield e h = refl
+pulls_by plan n (op.Post t) e h = refl
+pulls_by plan n op.Drain e h = refl
+
+pub pulls : (w : Callers) (lists : List PostList) (found : List (Option ℕ)) (done : Recorded) (p : ℕ) (s : Step) → Stepping w lists found done p s
+    → pulls_from (length done.work.machine) s.op ≡ true
+pulls w lists found done p s st = pulls_by w.plan (length done.work.machine) s.op st.playing.work.queues st.sound_op
+
+pub room_for : (w : Callers) (lists : List PostList) (found : List (Option ℕ)) (done : Recorded) (p : ℕ) (s : Step) (f : Option ℕ) → Stepping w lists found done p s
+    → length done.journal.lines + length (appends done.work p s.op s.micro f) ≤ done.journal.room
+room_for w lists found done p s f st =
+    let few : length (appends done.work p s.op s.micro f) ≤ lines_of s.micro = few_lines done.work p s.op s.micro f in
+    let less : lines_to_come w.plan w.counters ≡ lines_to_come w.plan (counted w.counters p) + lines_of s.micro
+    = less_to_come w.plan w.counters p s (omega (arith, st.caller, st.each)) st.caller st.step in
+    omega (arith, st.playing.room)
+
+pub posts_have_room : (w : Callers) (lists : List PostList) (found : List (Option ℕ)) (done : Recorded) (p : ℕ) (s : Step) → Stepping w lists found done p s
+    → has_room (list_at lists (place_of w.plan p s.micro)) s.micro ≡ true
+posts_have_room w lists found done p s st =
+    (posts_step w.plan w.counters lists p s st.sound st.playing.posts (omega (arith, st.caller, st.each)) st.caller st.step st.sound_micro).0
+
+-- what is done by a step, with the home of its task and the request that was found
+abbrev done_then : Recorded → ℕ → Step → ℕ → Option ℕ → Recorded
+done_then done p s h f = record {
+  work = works h done.work p s.op s.micro f;
+  journal = noted done.journal (committed f p s.op s.micro) (answers done.work p s.micro f);
+}
+
+playing_then : (w : Callers) (lists : List PostList) (found : List (Option ℕ)) (done : Recorded) (p h : ℕ) (s : Step) (f r : Option ℕ) → Stepping w lists found done p s → h < callers w.plan
+    → IsPlaying (record { plan = w.plan; counters = counted w.counters p }) (posts_after (place_of w.plan p s.micro) s.micro lists) (set found p r) (done_then done p s h f)
+playing_then w lists found done p h s f r st home = record {
+  posts = (posts_step w.plan w.counters lists p s st.sound st.playing.posts (omega (arith, st.caller, st.each)) st.caller st.step st.sound_micro).1;
+  found = length-set found p r ∙ st.playing.found;
+  work = works_kept w.plan done.work p h s.op s.micro f st.playing.work st.caller home (pulls_by w.plan (callers w.plan) s.op refl st.sound_op);
+  room =
+      let few : length (appends done.work p s.op s.micro f) ≤ lines_of s.micro = few_lines done.work p s.op s.micro f in
+      let less : lines_to_come w.plan w.counters ≡ lines_to_come w.plan (counted w.counters p) + lines_of s.micro
+      = less_to_come w.plan w.counters p s (omega (arith, st.caller, st.each)) st.caller st.step in
+      omega (arith, st.playing.room, length-append done.journal.lines (appends done.work p s.op s.micro f));
+}
+
+-- the parts after a step, by equations
+pub record After (w w' : Callers) (lists lists' : List PostList) (found found' : List (Option ℕ)) (done done' : Recorded) (p h : ℕ) (s : Step) (f r : Option ℕ) : Type 0 where
+  pub plan : w'.plan ≡ w.plan
+  pub counters : w'.counters ≡ counted w.counters p
+  pub lists_are : lists' ≡ posts_after (place_of w.plan p s.micro) s.micro lists
+  pub found_are : found' ≡ set found p r
+  pub done_is : done' ≡ done_then done p s h f
+
+pub playing_after : (w w' : Callers) (lists lists' : List PostList) (found found' : List (Option ℕ)) (done done' : Recorded) (p h : ℕ) (s : Step) (f r : Option ℕ)
+    → Stepping w lists found done p s → h < callers w.plan → After w w' lists lists' found found' done done' p h s f r → IsPlaying w' lists' found' done'
+playing_after w w' lists lists' found found' done done' p h s f r st home t =
+    subst (λ (pl : Plan). IsPlaying (record { plan = pl; counters = w'.counters }) lists' found' done') (sym t.plan)
+    (subst (λ (cs : Counters). IsPlaying (record { plan = w.plan; counters = cs }) lists' found' done') (sym t.counters)
+    (subst (λ (ls : List PostList). IsPlaying (record { plan = w.plan; counters = counted w.counters p }) ls found' done') (sym t.lists_are)
+    (subst (λ (fs : List (Option ℕ)). IsPlaying (record { plan = w.plan; counters = counted w.counters p }) (posts_after (place_of w.plan p s.micro) s.micro lists) fs done') (sym t.found_are)
+    (subst (λ (d : Recorded). IsPlaying (record { plan = w.plan; counters = counted w.counters p }) (posts_after (place_of w.plan p s.micro) s.micro lists) (set found p r) d) (sym t.done_is)
+    (playing_then w lists found done p h s f r st home)))))
+
+abbrev player_in : Plan → Counters → List PostList → List (Option ℕ) → Recorded → Player
+player_in plan counters lists found done = player_of (record { plan = plan; counters = counters }) lists found done
+
+pub state_after : (w w' : Callers) (lists lists' : List PostList) (found found' : List (Option ℕ)) (done done' : Recorded) (p h : ℕ) (s : Step) (f r : Option ℕ) (a : Player)
+    → player_of w lists found done ≡ a → Stepping w lists found done p s → After w w' lists lists' found found' done done' p h s f r
+    → h ≡ home_for w.plan p s.op → f ≡ get_or found p None → r ≡ request_after (place_of w.plan p s.micro) s.micro lists f
+    → player_of w' lists' found' done' ≡ player_step a p
+state_after w w' lists lists' found found' done done' p h s f r a same st t at read asked =
+    ap (λ (pl : Plan). player_in pl w'.counters lists' found' done') t.plan
+    ∙ ap (λ (cs : Counters). player_in w.plan cs lists' found' done') t.counters
+    ∙ ap (λ (ls : List PostList). player_in w.plan (counted w.counters p) ls found' done') t.lists_are
+    ∙ ap (λ (fs : List (Option ℕ)). player_in w.plan (counted w.counters p) (posts_after (place_of w.plan p s.micro) s.micro lists) fs done') t.found_are
+    ∙ ap (λ (d : Recorded). player_in w.plan (counted w.counters p) (posts_after (place_of w.plan p s.micro) s.micro lists) (set found p r) d) t.done_is
+    ∙ ap (λ (x : ℕ). player_in w.plan (counted w.counters p) (posts_after (place_of w.plan p s.micro) s.micro lists) (set found p r) (done_then done p s x f)) at
+    ∙ ap (λ (x : Option ℕ). player_in w.plan (counted w.counters p) (posts_after (place_of w.plan p s.micro) s.micro lists) (set found p x) (done_then done p s (home_for w.plan p s.op) f)) asked
+    ∙ ap (λ (x : Option ℕ). player_in w.plan (counted w.counters p) (posts_after (place_of w.plan p s.micro) s.micro lists)
+    (set found p (request_after (place_of w.plan p s.micro) s.micro lists x)) (done_then done p s (home_for w.plan p s.op) x)) read
+    ∙ ap (λ (g : Progress). record {
+      plan = w.plan;
+      state = record {
+        work = works (home_for w.plan p s.op) done.work p s.op s.micro (get_or found p None);
+        progress = g;
+        lines = done.journal.lines ++ appends done.work p s.op s.micro (get_or found p None);
+      };
+    }) (progress_then w.plan w.counters lists found p s st.playing.posts st.caller st.step st.sound_micro)
+    ∙ ap (λ (o : Option Step). record { plan = w.plan; state = micro_by w.plan (player_of w lists found done).state p o }) (sym st.step)
+    ∙ ap (λ (b : Player). player_step b p) same
+
+pub length-posts_after : (k : ℕ) (m : Micro) (lists : List PostList) → length (posts_after k m lists) ≡ length lists
+length-posts_after k (Take q) lists = length-set lists k _
+length-posts_after k (Post t) lists = length-set lists k _
+length-posts_after k (Settle q) lists = refl
+length-posts_after k (Acquire l) lists = refl
+length-posts_after k (Release l) lists = refl
+length-posts_after k Act lists = refl
+length-posts_after k Detach lists = refl
+length-posts_after k Attach lists = refl
+length-posts_after k Commit lists = refl

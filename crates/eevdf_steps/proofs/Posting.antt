@@ -1,0 +1,204 @@
+-- The lists of requests stay those that the steps have posted.
+use Rattle.std.proofs.Common.{append_assoc, ◌≡◌, ◌≢◌, ℕ, zero, suc, ◌+◌, ◌*◌, ◌<◌, ◌≤◌, Bool, true, false, cond, List, [], ◌∷◌, ◌++◌, length, take, set, inl, inr, sym, ap, subst, ◌∙◌, arith, refl}
+use Rattle.std.proofs.Math.ListN.{length-set, length-append}
+use Rattle.std.proofs.lemmas.List.{get_or-set_same, get_or-set_other}
+use Rattle.std.proofs.lemmas.Nat.{mul-add-lt, same_from_place}
+use Rattle.std.specs.Prelude.{Some}
+use Rattle.eevdf_steps.specs.declared.micro_steps.Micro.{Micro}
+use Rattle.eevdf_steps.specs.declared.micro_steps.Micro.TheVariants.{Acquire, Act, Detach, Attach, Commit, Take, Settle, Release, Post}
+use Rattle.eevdf_steps.specs.declared.program_plan.Step.{Step}
+use Rattle.eevdf_steps.specs.Plan.{IsSound, Plan, callers, home, pair}
+use Rattle.eevdf_steps.specs.MicroSteps.{steps_by}
+use Rattle.eevdf_steps.specs.Counters.{Counters, count_of, counted, done_by, step_next}
+use Rattle.eevdf_steps.specs.Requests.{post_to, posted, posts_to}
+use Rattle.eevdf_steps.specs.PostLists.{ArePosted, PostList, has_room, list_at, no_posts, place_of, posted_more, posts_after, taken_more}
+use Rattle.eevdf_steps.specs.SoundSteps.{is_sound_micro}
+use Rattle.eevdf_steps.proofs.SoundSteps.{home_below}
+use Rattle.eevdf_steps.proofs.Lists.{lt_true, true_lt}
+use Rattle.eevdf_steps.proofs.Holders.{number_cases, other_number, same_number, take_next}
+
+pub posts_joined : (plan : Plan) (c : ℕ) (xs ys : List Step) → posts_to plan c (xs ++ ys) ≡ posts_to plan c xs ++ posts_to plan c ys
+posts_joined plan c [] ys = refl
+posts_joined plan c (x ∷ xs) ys =
+    ap (λ (l : List ℕ). post_to plan c x.micro ++ l) (posts_joined plan c xs ys) ∙ sym (append_assoc (post_to plan c x.micro) (posts_to plan c xs) (posts_to plan c ys))
+
+append_nothing : (l : List ℕ) → l ++ [] ≡ l
+append_nothing [] = refl
+append_nothing (x ∷ l) = ap (λ (k : List ℕ). x ∷ k) (append_nothing l)
+
+-- what a caller has posted after its step
+posted_own : (plan : Plan) (counters : Counters) (p c : ℕ) (s : Step) → p < length counters → step_next plan counters p ≡ Some s
+    → posted plan (counted counters p) p c ≡ posted plan counters p c ++ post_to plan c s.micro
+posted_own plan counters p c s h e =
+    ap (λ (k : ℕ). posts_to plan c (take k (steps_by plan p)))
+    (get_or-set_same counters p (count_of counters p + 1) 0 h ∙ (let one : count_of counters p + 1 ≡ suc (count_of counters p) = omega arith in one))
+    ∙ ap (λ (ss : List Step). posts_to plan c ss) (take_next (steps_by plan p) (count_of counters p) s e)
+    ∙ posts_joined plan c (done_by plan counters p) (s ∷ [])
+    ∙ ap (λ (l : List ℕ). posted plan counters p c ++ l) (append_nothing (post_to plan c s.micro))
+
+posted_other : (plan : Plan) (counters : Counters) (p q c : ℕ) → q ≢ p → posted plan (counted counters p) q c ≡ posted plan counters q c
+posted_other plan counters p q c apart =
+    ap (λ (k : ℕ). posts_to plan c (take k (steps_by plan q))) (get_or-set_other counters p q (count_of counters p + 1) 0 apart)
+
+-- a step that posts nothing to a home
+quiet : (plan : Plan) (counters : Counters) (p q c : ℕ) (s : Step) → p < length counters → step_next plan counters p ≡ Some s → post_to plan c s.micro ≡ []
+    → posted plan (counted counters p) q c ≡ posted plan counters q c
+quiet plan counters p q c s h e none =
+    elim (number_cases q p) [
+      | inl same ↦ subst (λ (r : ℕ). posted plan (counted counters p) r c ≡ posted plan counters r c) (sym same)
+          (posted_own plan counters p c s h e ∙ ap (λ (l : List ℕ). posted plan counters p c ++ l) none ∙ append_nothing (posted plan counters p c))
+      | inr apart ↦ posted_other plan counters p q c apart
+    ]
+
+pair_below : (plan : Plan) (q c : ℕ) → q < callers plan → c < callers plan → pair plan q c < callers plan * callers plan
+pair_below plan q c h k = mul-add-lt q (callers plan) c (callers plan) h k
+
+-- a list is written, the others stay
+list_same : (lists : List PostList) (k : ℕ) (l : PostList) → k < length lists → list_at (set lists k l) k ≡ l
+list_same lists k l h = get_or-set_same lists k l no_posts h
+
+list_other : (lists : List PostList) (k i : ℕ) (l : PostList) → i ≢ k → list_at (set lists k l) i ≡ list_at lists i
+list_other lists k i l apart = get_or-set_other lists k i l no_posts apart
+
+-- the lists are as they were, and so is what was posted
+still_posted : (plan : Plan) (counters : Counters) (lists : List PostList) (p : ℕ) (s : Step) → ArePosted plan counters lists → p < length counters
+    → step_next plan counters p ≡ Some s → ((c : ℕ) → post_to plan c s.micro ≡ []) → ArePosted plan (counted counters p) lists
+still_posted plan counters lists p s a h e none = record {
+  each = a.each;
+  posted = λ q c i j. a.posted q c i j ∙ sym (quiet plan counters p q c s h e (none c));
+  room = a.room;
+}
+
+-- a list in which only the number of taken requests changes
+retaken : (plan : Plan) (counters : Counters) (lists : List PostList) (k : ℕ) (l : PostList) → ArePosted plan counters lists → k < length lists
+    → l.posted ≡ (list_at lists k).posted → l.room ≡ (list_at lists k).room → ArePosted plan counters (set lists k l)
+retaken plan counters lists k l a h same room = record {
+  each = length-set lists k l ∙ a.each;
+  posted = λ q c i j.
+      elim (number_cases (pair plan q c) k) [
+        | inl here ↦ ap (λ (m : PostList). m.posted) (ap (λ (x : ℕ). list_at (set lists k l) x) here ∙ list_same lists k l h) ∙ same
+            ∙ ap (λ (x : ℕ). (list_at lists x).posted) (sym here) ∙ a.posted q c i j
+        | inr apart ↦ ap (λ (m : PostList). m.posted) (list_other lists k (pair plan q c) l apart) ∙ a.posted q c i j
+      ];
+  room = λ q c i j.
+      elim (number_cases (pair plan q c) k) [
+        | inl here ↦ subst (λ (n : ℕ). length (posts_to plan c (steps_by plan q)) ≤ n)
+            (sym (ap (λ (m : PostList). m.room) (ap (λ (x : ℕ). list_at (set lists k l) x) here ∙ list_same lists k l h) ∙ room
+            ∙ ap (λ (x : ℕ). (list_at lists x).room) (sym here))) (a.room q c i j)
+        | inr apart ↦ subst (λ (n : ℕ). length (posts_to plan c (steps_by plan q)) ≤ n)
+            (sym (ap (λ (m : PostList). m.room) (list_other lists k (pair plan q c) l apart))) (a.room q c i j)
+      ];
+}
+
+more_taken : (l : PostList) (b : Bool) → (cond b (record l { taken = l.taken + 1 }) l).posted ≡ l.posted
+more_taken l true = refl
+more_taken l false = refl
+
+more_taken_room : (l : PostList) (b : Bool) → (cond b (record l { taken = l.taken + 1 }) l).room ≡ l.room
+more_taken_room l true = refl
+more_taken_room l false = refl
+
+post_here : (plan : Plan) (t : ℕ) → post_to plan (home plan t) (Post t) ≡ t ∷ []
+post_here plan t = ap (λ (b : Bool). cond b (t ∷ []) []) (same_number (home plan t))
+
+post_elsewhere : (plan : Plan) (t c : ℕ) → c ≢ home plan t → post_to plan c (Post t) ≡ []
+post_elsewhere plan t c apart = ap (λ (b : Bool). cond b (t ∷ []) []) (other_number (home plan t) c (λ e. apart (sym e)))
+
+-- what is posted is a part of what all steps post
+posts_within : (plan : Plan) (c k : ℕ) (ss : List Step) → length (posts_to plan c (take k ss)) ≤ length (posts_to plan c ss)
+posts_within plan c zero ss = omega arith
+posts_within plan c (suc k) [] = omega arith
+posts_within plan c (suc k) (s ∷ ss) =
+    let rest : length (posts_to plan c (take k ss)) ≤ length (posts_to plan c ss) = posts_within plan c k ss in
+    omega (arith, length-append (post_to plan c s.micro) (posts_to plan c (take k ss)), length-append (post_to plan c s.micro) (posts_to plan c ss))
+
+-- a caller that posts a task to its home
+record Posts (plan : Plan) (counters : Counters) (p t : ℕ) : Type 0 where
+  counted_it : p < length counters
+  caller : p < callers plan
+  at_home : home plan t < callers plan
+  adds : (c : ℕ) → posted plan (counted counters p) p c ≡ posted plan counters p c ++ post_to plan c (Post t)
+
+posts_room : (plan : Plan) (counters : Counters) (lists : List PostList) (p t : ℕ) → ArePosted plan counters lists → Posts plan counters p t
+    → length (list_at lists (pair plan p (home plan t))).posted < (list_at lists (pair plan p (home plan t))).room
+posts_room plan counters lists p t a ps =
+    let here : length (list_at lists (pair plan p (home plan t))).posted ≡ length (posted plan counters p (home plan t))
+    = ap (λ (l : List ℕ). length l) (a.posted p (home plan t) ps.caller ps.at_home) in
+    let more : length (posted plan (counted counters p) p (home plan t)) ≡ length (posted plan counters p (home plan t)) + 1
+    = ap (λ (l : List ℕ). length l) (ps.adds (home plan t)) ∙ length-append (posted plan counters p (home plan t)) (post_to plan (home plan t) (Post t))
+    ∙ ap (λ (l : List ℕ). length (posted plan counters p (home plan t)) + length l) (post_here plan t) in
+    let within : length (posted plan (counted counters p) p (home plan t)) ≤ length (posts_to plan (home plan t) (steps_by plan p))
+    = posts_within plan (home plan t) (count_of (counted counters p) p) (steps_by plan p) in
+    let room : length (posts_to plan (home plan t) (steps_by plan p)) ≤ (list_at lists (pair plan p (home plan t))).room = a.room p (home plan t) ps.caller ps.at_home in
+    omega arith
+
+posts_kept : (plan : Plan) (counters : Counters) (lists : List PostList) (p t : ℕ) → ArePosted plan counters lists → Posts plan counters p t
+    → ArePosted plan (counted counters p) (posts_after (pair plan p (home plan t)) (Post t) lists)
+posts_kept plan counters lists p t a ps =
+    let k : ℕ = pair plan p (home plan t) in
+    let l : PostList = posted_more (list_at lists k) t in
+    let below : k < length lists = subst (λ (n : ℕ). k < n) (sym a.each) (pair_below plan p (home plan t) ps.caller ps.at_home) in
+    record {
+      each = length-set lists k l ∙ a.each;
+      posted = λ q c i j.
+          elim (number_cases (pair plan q c) k) [
+            | inl here ↦
+                let both_same : (q ≡ p) × (c ≡ home plan t) = same_from_place q c p (home plan t) (callers plan) j ps.at_home here in
+                subst (λ (x : ℕ). (list_at (set lists k l) (pair plan x c)).posted ≡ posted plan (counted counters p) x c) (sym both_same.0)
+                (subst (λ (y : ℕ). (list_at (set lists k l) (pair plan p y)).posted ≡ posted plan (counted counters p) p y) (sym both_same.1)
+                (ap (λ (m : PostList). m.posted) (list_same lists k l below)
+                ∙ ap (λ (xs : List ℕ). xs ++ t ∷ []) (a.posted p (home plan t) ps.caller ps.at_home)
+                ∙ ap (λ (ys : List ℕ). posted plan counters p (home plan t) ++ ys) (sym (post_here plan t)) ∙ sym (ps.adds (home plan t))))
+            | inr apart ↦ ap (λ (m : PostList). m.posted) (list_other lists k (pair plan q c) l apart) ∙ a.posted q c i j ∙ sym (unposted q c i j apart)
+          ];
+      room = λ q c i j.
+          elim (number_cases (pair plan q c) k) [
+            | inl here ↦ subst (λ (n : ℕ). length (posts_to plan c (steps_by plan q)) ≤ n)
+                (sym (ap (λ (m : PostList). m.room) (ap (λ (x : ℕ). list_at (set lists k l) x) here ∙ list_same lists k l below)
+                ∙ ap (λ (x : ℕ). (list_at lists x).room) (sym here))) (a.room q c i j)
+            | inr apart ↦ subst (λ (n : ℕ). length (posts_to plan c (steps_by plan q)) ≤ n)
+                (sym (ap (λ (m : PostList). m.room) (list_other lists k (pair plan q c) l apart))) (a.room q c i j)
+          ];
+    } where
+      unposted : (q c : ℕ) → q < callers plan → c < callers plan → pair plan q c ≢ pair plan p (home plan t) → posted plan (counted counters p) q c ≡ posted plan counters q c
+      unposted q c i j apart =
+          elim (number_cases q p) [
+            | inl same ↦ subst (λ (x : ℕ). posted plan (counted counters p) x c ≡ posted plan counters x c) (sym same)
+                (ps.adds c ∙ ap (λ (ys : List ℕ). posted plan counters p c ++ ys)
+                (post_elsewhere plan t c (λ at. apart (ap (λ (x : ℕ). pair plan x c) same ∙ ap (λ (y : ℕ). pair plan p y) at)))
+                ∙ append_nothing (posted plan counters p c))
+            | inr other ↦ posted_other plan counters p q c other
+          ]
+
+-- the step of a caller, by its micro-step
+posts_by : (plan : Plan) (counters : Counters) (lists : List PostList) (p : ℕ) (s : Step) (m : Micro) → IsSound plan → ArePosted plan counters lists → p < length counters → p < callers plan
+    → step_next plan counters p ≡ Some s → s.micro ≡ m → is_sound_micro plan m ≡ true
+    → (has_room (list_at lists (place_of plan p m)) m ≡ true) × ArePosted plan (counted counters p) (posts_after (place_of plan p m) m lists)
+posts_by plan counters lists p s (Post t) sound a h below e is well =
+    let ps : Posts plan counters p t = record {
+      counted_it = h;
+      caller = below;
+      at_home = home_below plan t sound (true_lt t (length plan.homes) well);
+      adds = λ c. posted_own plan counters p c s h e ∙ ap (λ (m : Micro). posted plan counters p c ++ post_to plan c m) is;
+    } in
+    (lt_true _ _ (posts_room plan counters lists p t a ps), posts_kept plan counters lists p t a ps)
+posts_by plan counters lists p s (Take q) sound a h below e is well =
+    let k : ℕ = pair plan q p in
+    let within : k < length lists = subst (λ (n : ℕ). k < n) (sym a.each) (pair_below plan q p (true_lt q (callers plan) well) below) in (
+      refl,
+      still_posted plan counters (set lists k (taken_more (list_at lists k))) p s
+          (retaken plan counters lists k (taken_more (list_at lists k)) a within (more_taken (list_at lists k) _) (more_taken_room (list_at lists k) _))
+          h e (λ c. ap (λ (m : Micro). post_to plan c m) is),
+    )
+posts_by plan counters lists p s (Settle q) sound a h below e is well = (refl, still_posted plan counters lists p s a h e (λ c. ap (λ (m : Micro). post_to plan c m) is))
+posts_by plan counters lists p s (Acquire l) sound a h below e is well = (refl, still_posted plan counters lists p s a h e (λ c. ap (λ (m : Micro). post_to plan c m) is))
+posts_by plan counters lists p s (Release l) sound a h below e is well = (refl, still_posted plan counters lists p s a h e (λ c. ap (λ (m : Micro). post_to plan c m) is))
+posts_by plan counters lists p s Act sound a h below e is well = (refl, still_posted plan counters lists p s a h e (λ c. ap (λ (m : Micro). post_to plan c m) is))
+posts_by plan counters lists p s Detach sound a h below e is well = (refl, still_posted plan counters lists p s a h e (λ c. ap (λ (m : Micro). post_to plan c m) is))
+posts_by plan counters lists p s Attach sound a h below e is well = (refl, still_posted plan counters lists p s a h e (λ c. ap (λ (m : Micro). post_to plan c m) is))
+posts_by plan counters lists p s Commit sound a h below e is well = (refl, still_posted plan counters lists p s a h e (λ c. ap (λ (m : Micro). post_to plan c m) is))
+
+pub posts_step : (plan : Plan) (counters : Counters) (lists : List PostList) (p : ℕ) (s : Step) → IsSound plan → ArePosted plan counters lists → p < length counters → p < callers plan
+    → step_next plan counters p ≡ Some s → is_sound_micro plan s.micro ≡ true
+    → (has_room (list_at lists (place_of plan p s.micro)) s.micro ≡ true) × ArePosted plan (counted counters p) (posts_after (place_of plan p s.micro) s.micro lists)
+posts_step plan counters lists p s sound a h below e well = posts_by plan counters lists p s s.micro sound a h below e refl well

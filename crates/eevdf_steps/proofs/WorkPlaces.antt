@@ -1,0 +1,41 @@
+-- Each task stands in one place while the callers work.
+use Rattle.std.proofs.Common.{◌≡◌, ℕ, zero, suc, ◌+◌, ◌<◌, ◌≤◌, Bool, true, false, List, [], ◌∷◌, get_or, ap, ◌∙◌, arith}
+use Rattle.std.proofs.lemmas.Bool.Decides.{nat_tests}
+use Rattle.std.specs.Prelude.{◌==◌, IfSome, Option, Some, None}
+use Rattle.eevdf_queue.specs.State.{Contents}
+use Rattle.eevdf_ops.specs.Machine.{queue_at}
+use Rattle.eevdf_ops.specs.Places.{count, places, places_in}
+use Rattle.eevdf_ops.specs.Setup.{is_task}
+use Rattle.eevdf_ops.proofs.MachinePlaces.{places-at}
+use Rattle.eevdf_steps.specs.Plan.{Plan, callers}
+use Rattle.eevdf_steps.specs.Players.{IsWork}
+use Rattle.eevdf_steps.specs.Places.{hands_with, is_in_hand}
+use Rattle.eevdf_steps.specs.Work.{Work, hand}
+
+own_hand : (p : Contents) → count (is_in_hand (Some p) p.task) ≡ 1
+own_hand p = ap count (let same : (p.task == p.task) ≡ true = grind (arith, nat_tests) in same)
+
+-- what is in a hand is in one
+in_one : (hands : List (Option Contents)) (k : ℕ) (p : Contents) → get_or hands k None ≡ Some p → 1 ≤ hands_with hands p.task
+in_one [] k p e = cc
+in_one (h ∷ hands) zero p e =
+    let here : count (is_in_hand h p.task) ≡ 1 = ap (λ (o : Option Contents). count (is_in_hand o p.task)) e ∙ own_hand p in omega arith
+in_one (h ∷ hands) (suc k) p e = let rest : 1 ≤ hands_with hands p.task = in_one hands k p e in omega arith
+
+pub count-le : (b : Bool) → count b ≤ 1
+count-le true = omega arith
+count-le false = omega arith
+
+-- a task in a hand stands in no queue
+pub held_nowhere : (plan : Plan) (w : Work) (k c : ℕ) (p : Contents) → IsWork plan w → c < callers plan → hand w k ≡ Some p → places_in (queue_at w.machine c) p.task ≡ 0
+held_nowhere plan w k c p works below e =
+    let held : 1 ≤ hands_with w.hands p.task = in_one w.hands k p e in
+    let once : places w.machine p.task + hands_with w.hands p.task ≡ count (is_task plan.homes p.task) = works.once p.task in
+    let few : count (is_task plan.homes p.task) ≤ 1 = count-le (is_task plan.homes p.task) in
+    let here : places_in (queue_at w.machine c) p.task ≤ places w.machine p.task = places-at w.machine c p.task (omega (arith, works.queues)) in
+    omega arith
+
+pub hand_nowhere : (plan : Plan) (w : Work) (k c : ℕ) (h : Option Contents) → IsWork plan w → c < callers plan → hand w k ≡ h
+    → IfSome h (λ (p : Contents). places_in (queue_at w.machine c) p.task ≡ 0)
+hand_nowhere plan w k c None works below e = tt
+hand_nowhere plan w k c (Some p) works below e = held_nowhere plan w k c p works below e

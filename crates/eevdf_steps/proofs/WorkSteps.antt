@@ -1,0 +1,173 @@
+-- Every step of a caller keeps each task in one place.
+use Rattle.std.proofs.Common.{◌≡◌, ℕ, zero, suc, ◌+◌, ◌<◌, ◌≤◌, Bool, true, false, cond, List, [], ◌∷◌, length, get_or, set, ap, ◌∙◌, arith, refl}
+use Rattle.std.proofs.Math.ListN.{length-set}
+use Rattle.std.specs.Prelude.{◌==◌, is_some, Option, Some, None, Result, Ok, Err}
+use Rattle.eevdf_queue.specs.State.{State, Contents}
+use Rattle.eevdf_queue.specs.Moves.{put_asleep, sleeper_of}
+use Rattle.eevdf_queue.specs.Leaving.{carried_running, leave}
+use Rattle.eevdf_queue.specs.Placing.{placed_entry}
+use Rattle.eevdf_ops.specs.declared.deeds.Op.{Op}
+use Rattle.eevdf_ops.specs.declared.deeds.Op.TheVariants as op
+use Rattle.eevdf_ops.specs.declared.deeds.Answer.{Answer}
+use Rattle.eevdf_ops.specs.declared.deeds.Answer.TheVariants.{NotRunning, Pulled}
+use Rattle.eevdf_ops.specs.Machine.{queue_at}
+use Rattle.eevdf_ops.specs.Places.{count, places, places_in}
+use Rattle.eevdf_ops.specs.OneQueue.{one_tick, one_pick, one_yield, one_wake}
+use Rattle.eevdf_ops.specs.Setup.{is_task}
+use Rattle.eevdf_ops.specs.WholePull.{load_of, offer, with_task}
+use Rattle.eevdf_ops.specs.WholeSleep.{slept}
+use Rattle.eevdf_ops.proofs.MachinePlaces.{places-set, places-at}
+use Rattle.eevdf_ops.proofs.QueuePlaces.{IsSame, IsWith, IsWithout, tick-same, pick-same, yield-same, wake-same, asleep-with, runnable-with}
+use Rattle.eevdf_ops.proofs.Carried.{running-carries, offer-carries, leaves-without}
+use Rattle.eevdf_ops.proofs.Pulling.{IsTaken, decision-taken, with_task-put}
+use Rattle.eevdf_steps.specs.declared.micro_steps.Micro.{Micro}
+use Rattle.eevdf_steps.specs.declared.micro_steps.Micro.TheVariants.{Acquire, Act, Detach, Attach, Commit, Take, Settle, Release, Post}
+use Rattle.eevdf_steps.specs.Plan.{Plan, callers}
+use Rattle.eevdf_steps.specs.Players.{IsWork}
+use Rattle.eevdf_steps.specs.Places.{hands_with, is_in_hand, places_of}
+use Rattle.eevdf_steps.specs.Work.{Work, act, answered, attach, attach_asleep, attach_joining, detach_pulled, detach_running, detached_by, hand, has_room, pull_decision, pulls_from}
+use Rattle.eevdf_steps.specs.MicroState.{settled, works}
+use Rattle.eevdf_steps.proofs.Lists.{true_lt}
+use Rattle.eevdf_steps.proofs.WorkPlaces.{held_nowhere, count-le}
+
+hands-set : (hands : List (Option Contents)) (k u : ℕ) (h : Option Contents) → k < length hands
+    → hands_with (set hands k h) u + count (is_in_hand (get_or hands k None) u) ≡ hands_with hands u + count (is_in_hand h u)
+hands-set [] k u h below = absurd (omega arith)
+hands-set (x ∷ hands) zero u h below = omega arith
+hands-set (x ∷ hands) (suc k) u h below = omega (arith, hands-set hands k u h (omega arith))
+
+same_queue : (plan : Plan) (w : Work) (p : ℕ) (q : State) (kept : List (Option Answer)) → IsWork plan w → p < callers plan → IsSame (queue_at w.machine p) q
+    → length kept ≡ length w.answers → IsWork plan (record w { machine = set w.machine p q; answers = kept })
+same_queue plan w p q kept works below same long = record {
+  queues = length-set w.machine p q ∙ works.queues;
+  hands = works.hands;
+  answers = long ∙ works.answers;
+  once = λ u.
+      let anew : places (set w.machine p q) u + places_in (queue_at w.machine p) u ≡ places w.machine u + places_in q u = places-set w.machine p u q (omega (arith, works.queues)) in
+      let before : places_of w u ≡ count (is_task plan.homes u) = works.once u in
+      omega (arith, same.places u);
+}
+
+kept_answer : (plan : Plan) (w : Work) (p : ℕ) (a : Answer) → IsWork plan w → IsWork plan (answered w p a)
+kept_answer plan w p a works = record { queues = works.queues; hands = works.hands; answers = length-set w.answers p (Some a) ∙ works.answers; once = works.once }
+
+taken_out : (plan : Plan) (w : Work) (p c : ℕ) (q : State) (t : Contents) (a : Answer) → IsWork plan w → p < callers plan → c < callers plan
+    → IsWithout (queue_at w.machine c) t.task q → hand w p ≡ None
+    → IsWork plan (record { machine = set w.machine c q; hands = set w.hands p (Some t); answers = set w.answers p (Some a) })
+taken_out plan w p c q t a works below source without empty = record {
+  queues = length-set w.machine c q ∙ works.queues;
+  hands = length-set w.hands p (Some t) ∙ works.hands;
+  answers = length-set w.answers p (Some a) ∙ works.answers;
+  once = λ u.
+      let anew : places (set w.machine c q) u + places_in (queue_at w.machine c) u ≡ places w.machine u + places_in q u = places-set w.machine c u q (omega (arith, works.queues)) in
+      let held : hands_with (set w.hands p (Some t)) u + count (is_in_hand (hand w p) u) ≡ hands_with w.hands u + count (u == t.task) = hands-set w.hands p u (Some t) (omega (arith, works.hands)) in
+      let nothing : count (is_in_hand (hand w p) u) ≡ 0 = ap (λ (h : Option Contents). count (is_in_hand h u)) empty in
+      let before : places_of w u ≡ count (is_task plan.homes u) = works.once u in
+      omega (arith, without.places u);
+}
+
+put_in : (plan : Plan) (w : Work) (p c : ℕ) (q : State) (t : Contents) → IsWork plan w → p < callers plan → c < callers plan
+    → IsWith (queue_at w.machine c) t.task q → hand w p ≡ Some t
+    → IsWork plan (record w { machine = set w.machine c q; hands = set w.hands p None })
+put_in plan w p c q t works below target with full = record {
+  queues = length-set w.machine c q ∙ works.queues;
+  hands = length-set w.hands p None ∙ works.hands;
+  answers = works.answers;
+  once = λ u.
+      let anew : places (set w.machine c q) u + places_in (queue_at w.machine c) u ≡ places w.machine u + places_in q u = places-set w.machine c u q (omega (arith, works.queues)) in
+      let held : hands_with (set w.hands p None) u + count (is_in_hand (hand w p) u) ≡ hands_with w.hands u + 0 = hands-set w.hands p u None (omega (arith, works.hands)) in
+      let something : count (is_in_hand (hand w p) u) ≡ count (u == t.task) = ap (λ (h : Option Contents). count (is_in_hand h u)) full in
+      let before : places_of w u ≡ count (is_task plan.homes u) = works.once u in
+      omega (arith, with.places u);
+}
+
+act_kept : (plan : Plan) (w : Work) (p : ℕ) (o : Op) → IsWork plan w → p < callers plan → IsWork plan (act w p o)
+act_kept plan w p (op.Tick ns) works below =
+    same_queue plan w p (one_tick (queue_at w.machine p) ns).1 (set w.answers p (Some (one_tick (queue_at w.machine p) ns).0)) works below (tick-same (queue_at w.machine p) ns)
+    (length-set w.answers p (Some (one_tick (queue_at w.machine p) ns).0))
+act_kept plan w p op.Pick works below =
+    same_queue plan w p (one_pick (queue_at w.machine p)).1 (set w.answers p (Some (one_pick (queue_at w.machine p)).0)) works below (pick-same (queue_at w.machine p))
+    (length-set w.answers p (Some (one_pick (queue_at w.machine p)).0))
+act_kept plan w p op.Yield works below =
+    same_queue plan w p (one_yield (queue_at w.machine p)).1 (set w.answers p (Some (one_yield (queue_at w.machine p)).0)) works below (yield-same (queue_at w.machine p))
+    (length-set w.answers p (Some (one_yield (queue_at w.machine p)).0))
+act_kept plan w p (op.Sleep task) works below = works
+act_kept plan w p (op.Pull source) works below = works
+act_kept plan w p (op.Post task) works below = works
+act_kept plan w p op.Drain works below = works
+
+running_kept : (plan : Plan) (w : Work) (p task : ℕ) (r : Option Contents) → IsWork plan w → p < callers plan → hand w p ≡ None
+    → carried_running (queue_at w.machine p) task ≡ r → IsWork plan (detach_running w p r)
+running_kept plan w p task None works below empty e = kept_answer plan w p NotRunning works
+running_kept plan w p task (Some t) works below empty e =
+    taken_out plan w p p (leave (queue_at w.machine p) t.task) t (slept t) works below below
+    (leaves-without (queue_at w.machine p) task t (running-carries (queue_at w.machine p) task t e)) empty
+
+pulled_kept : (plan : Plan) (w : Work) (p d : ℕ) (r : Result Contents Answer) → IsWork plan w → p < callers plan → d < callers plan → hand w p ≡ None
+    → pull_decision w.machine p d ≡ r → IsWork plan (detach_pulled w p d r)
+pulled_kept plan w p d (Err refusal) works below source empty e = kept_answer plan w p refusal works
+pulled_kept plan w p d (Ok t) works below source empty e =
+    let taken : IsTaken (queue_at w.machine p) (load_of (queue_at w.machine d)) (offer (queue_at w.machine d)) t
+    = decision-taken (queue_at w.machine p) (load_of (queue_at w.machine d)) (offer (queue_at w.machine d)) t e in
+    taken_out plan w p d (leave (queue_at w.machine d) t.task) t (Pulled t.task) works below source
+    (leaves-without (queue_at w.machine d) t.task t (offer-carries (queue_at w.machine d) t taken.offered_it)) empty
+
+detached_kept : (plan : Plan) (w : Work) (p : ℕ) (o : Op) → IsWork plan w → p < callers plan → pulls_from (callers plan) o ≡ true → hand w p ≡ None → IsWork plan (detached_by w p o)
+detached_kept plan w p (op.Sleep task) works below from empty =
+    running_kept plan w p task (carried_running (queue_at w.machine p) task) works below empty refl
+detached_kept plan w p (op.Pull source) works below from empty =
+    pulled_kept plan w p source (pull_decision w.machine p source) works below (true_lt source (callers plan) from) empty refl
+detached_kept plan w p (op.Tick ns) works below from empty = works
+detached_kept plan w p op.Pick works below from empty = works
+detached_kept plan w p op.Yield works below from empty = works
+detached_kept plan w p (op.Post task) works below from empty = works
+detached_kept plan w p op.Drain works below from empty = works
+
+detach_by_hand : (plan : Plan) (w : Work) (p : ℕ) (o : Op) (h : Option Contents) → IsWork plan w → p < callers plan → pulls_from (callers plan) o ≡ true → hand w p ≡ h
+    → IsWork plan (cond (is_some h) w (detached_by w p o))
+detach_by_hand plan w p o None works below from e = detached_kept plan w p o works below from e
+detach_by_hand plan w p o (Some t) works below from e = works
+
+asleep_kept : (plan : Plan) (w : Work) (p c : ℕ) (h : Option Contents) → IsWork plan w → p < callers plan → c < callers plan → hand w p ≡ h → IsWork plan (attach_asleep w p c h)
+asleep_kept plan w p c None works below home e = works
+asleep_kept plan w p c (Some t) works below home e =
+    put_in plan w p c (put_asleep (queue_at w.machine c) t) t works below home
+    (asleep-with (queue_at w.machine c) t (held_nowhere plan w p c t works home e)) e
+
+joins_kept : (plan : Plan) (w : Work) (p : ℕ) (h : Option Contents) (b : Bool) → IsWork plan w → p < callers plan → hand w p ≡ h → has_room (queue_at w.machine p) h ≡ b
+    → IsWork plan (cond b (attach_joining w p h) w)
+joins_kept plan w p h false works below e room = works
+joins_kept plan w p None true works below e room = works
+joins_kept plan w p (Some t) true works below e room =
+    put_in plan w p p (with_task (queue_at w.machine p) t) t works below below
+    (runnable-with (queue_at w.machine p) (with_task (queue_at w.machine p) t) t.task (placed_entry (queue_at w.machine p) (sleeper_of t))
+    (held_nowhere plan w p p t works below e) (with_task-put (queue_at w.machine p) t room)) e
+
+attach_kept : (plan : Plan) (w : Work) (p c : ℕ) (o : Op) → IsWork plan w → p < callers plan → c < callers plan → IsWork plan (attach c w p o)
+attach_kept plan w p c (op.Sleep task) works below home = asleep_kept plan w p c (hand w p) works below home refl
+attach_kept plan w p c (op.Pull source) works below home = joins_kept plan w p (hand w p) (has_room (queue_at w.machine p) (hand w p)) works below refl refl
+attach_kept plan w p c (op.Tick ns) works below home = works
+attach_kept plan w p c op.Pick works below home = works
+attach_kept plan w p c op.Yield works below home = works
+attach_kept plan w p c (op.Post task) works below home = works
+attach_kept plan w p c op.Drain works below home = works
+
+settled_kept : (plan : Plan) (w : Work) (p : ℕ) (f : Option ℕ) → IsWork plan w → p < callers plan → IsWork plan (settled w p f)
+settled_kept plan w p None works below = works
+settled_kept plan w p (Some t) works below =
+    let here : places_in (queue_at w.machine p) t ≤ places w.machine t = places-at w.machine p t (omega (arith, works.queues)) in
+    let before : places_of w t ≡ count (is_task plan.homes t) = works.once t in
+    let few : count (is_task plan.homes t) ≤ 1 = count-le (is_task plan.homes t) in
+    same_queue plan w p (one_wake (queue_at w.machine p) t).1 w.answers works below (wake-same (queue_at w.machine p) t (omega arith)) refl
+
+pub works_kept : (plan : Plan) (w : Work) (p c : ℕ) (o : Op) (m : Micro) (f : Option ℕ) → IsWork plan w → p < callers plan → c < callers plan → pulls_from (callers plan) o ≡ true
+    → IsWork plan (works c w p o m f)
+works_kept plan w p c o Act f works below home from = act_kept plan w p o works below
+works_kept plan w p c o Detach f works below home from = detach_by_hand plan w p o (hand w p) works below from refl
+works_kept plan w p c o Attach f works below home from = attach_kept plan w p c o works below home
+works_kept plan w p c o Commit f works below home from = works
+works_kept plan w p c o (Settle q) f works below home from = settled_kept plan w p f works below
+works_kept plan w p c o (Take q) f works below home from = works
+works_kept plan w p c o (Post t) f works below home from = works
+works_kept plan w p c o (Acquire l) f works below home from = works
+works_kept plan w p c o (Release l) f works below home from = works

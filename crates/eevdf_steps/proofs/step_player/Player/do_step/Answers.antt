@@ -1,0 +1,78 @@
+use Rattle.std.proofs.Common.{◌≡◌, ◌<◌, ℕ, get_or, set, ap, ◌∙◌, arith}
+use Rattle.std.specs.Prelude.{None}
+use Rattle.eevdf_steps.specs.Plan.{callers}
+use Rattle.eevdf_steps.specs.PostLists.{has_room, list_at, place_of, posts_after, request_after}
+use Rattle.std.proofs.lemmas.List.{get_or_default}
+use Rattle.eevdf_steps.specs.Counters.{counted}
+use Rattle.eevdf_steps.proofs.PlayerSteps.{After, Stepping, is_working, playing_after, posts_have_room, pulls, room_for, state_after, stepping}
+use Rattle.eevdf_steps.proofs.step_player.Player.do_step.Goals as goal
+use Rattle.eevdf_steps.proofs.step_player.Player.do_step.Goals.{After-keeps, After-advance}
+
+is_stepping : (c : After-keeps) → Stepping c.self.inside.callers c.self.inside.posts c.self.inside.found.items c.self.inside.done c.args.cpu c.args.step.now
+is_stepping c =
+    stepping c.self.inside.callers c.self.inside.posts c.self.inside.found.items c.self.inside.done c.args.cpu c.args.step.now c.args.self.now
+    c.self.view_is c.self.invariant c.keeps.ensures.sound c.keeps.ensures.each c.requires.next
+
+pub home_for-requires-clause-sound : goal.home_for-requires-clause-sound
+home_for-requires-clause-sound c = (is_stepping (goal.at.home_for-requires-clause-sound c).After-keeps).sound_op
+
+pub place-requires-clause-sound : goal.place-requires-clause-sound
+place-requires-clause-sound c = (is_stepping (goal.at.place-requires-clause-sound c).After-keeps).sound_micro
+
+pub do_step-requires-clause-work : goal.do_step-requires-clause-work
+do_step-requires-clause-work c =
+    is_working c.self.inside.callers c.self.inside.posts c.self.inside.found.items c.self.inside.done c.args.cpu c.home_for.result c.args.step.now
+    (is_stepping (goal.at.do_step-requires-clause-work c).After-keeps) c.home_for.ensures.below
+
+pub do_step-requires-clause-source : goal.do_step-requires-clause-source
+do_step-requires-clause-source c =
+    pulls c.self.inside.callers c.self.inside.posts c.self.inside.found.items c.self.inside.done c.args.cpu c.args.step.now
+    (is_stepping (goal.at.do_step-requires-clause-source c).After-keeps)
+
+pub do_step-requires-clause-room : goal.do_step-requires-clause-room
+do_step-requires-clause-room c =
+    room_for c.self.inside.callers c.self.inside.posts c.self.inside.found.items c.self.inside.done c.args.cpu c.args.step.now c.index.result.now
+    (is_stepping (goal.at.do_step-requires-clause-room c).After-keeps)
+
+pub pass-request-requires-clause-room : goal.pass-request-requires-clause-room
+pass-request-requires-clause-room c =
+    ap (λ (k : ℕ). has_room (list_at c.self.inside.posts k) c.args.step.now.micro) c.place.ensures.place
+    ∙ posts_have_room c.self.inside.callers c.self.inside.posts c.self.inside.found.items c.self.inside.done c.args.cpu c.args.step.now
+    (is_stepping (goal.at.pass-request-requires-clause-room c).After-keeps)
+
+passed : (c : After-advance) → c.pass-request.new.self ≡ posts_after (place_of c.self.inside.callers.plan c.args.cpu c.args.step.now.micro) c.args.step.now.micro c.self.inside.posts
+passed c = c.pass-request.ensures.posts ∙ ap (λ (k : ℕ). posts_after k c.args.step.now.micro c.self.inside.posts) c.place.ensures.place
+
+asked : (c : After-advance) → c.pass-request.result
+    ≡ request_after (place_of c.self.inside.callers.plan c.args.cpu c.args.step.now.micro) c.args.step.now.micro c.self.inside.posts c.index.result.now
+asked c =
+    c.pass-request.ensures.found
+    ∙ ap (λ (k : ℕ). request_after k c.args.step.now.micro c.self.inside.posts c.index.result.now) c.place.ensures.place
+
+after : (c : After-advance) → After c.self.inside.callers c.advance.new.self c.self.inside.posts c.pass-request.new.self
+    c.self.inside.found.items (set c.self.inside.found.items c.get-caller.result c.pass-request.result)
+    c.self.inside.done c.do_step.new.self c.args.cpu c.home_for.result c.args.step.now c.index.result.now c.pass-request.result
+after c = record {
+  plan = c.advance.ensures.plan;
+  counters = c.advance.ensures.counters ∙ ap (λ (k : ℕ). counted c.self.inside.callers.counters k) c.get-caller.ensures.number;
+  lists_are = passed c;
+  found_are = ap (λ (k : ℕ). set c.self.inside.found.items k c.pass-request.result) c.get-caller.ensures.number;
+  done_is = c.do_step.ensures;
+}
+
+pub invariant_of-self : goal.invariant_of-self
+invariant_of-self c =
+    playing_after c.self.inside.callers c.advance.new.self c.self.inside.posts _ c.self.inside.found.items _ c.self.inside.done c.do_step.new.self
+    c.args.cpu c.home_for.result c.args.step.now c.index.result.now c.pass-request.result
+    (is_stepping (goal.at.invariant_of-self c).After-keeps) c.home_for.ensures.below (after c)
+
+pub returns : goal.returns
+returns c =
+    let caller : c.args.cpu < callers c.self.inside.callers.plan = (is_stepping (goal.at.returns c).After-keeps).caller in
+    state_after c.self.inside.callers c.advance.new.self c.self.inside.posts _ c.self.inside.found.items _ c.self.inside.done c.do_step.new.self
+    c.args.cpu c.home_for.result c.args.step.now c.index.result.now c.pass-request.result c.args.self.now
+    c.self.view_is (is_stepping (goal.at.returns c).After-keeps) (after c) c.home_for.ensures.home
+    (c.index.ensures ∙ get_or_default c.self.inside.found.items c.get-caller.result c.index.result.now None
+    (omega (arith, caller, c.self.invariant.found, c.get-caller.ensures.number))
+    ∙ ap (λ (k : ℕ). get_or c.self.inside.found.items k None) c.get-caller.ensures.number)
+    (asked c)

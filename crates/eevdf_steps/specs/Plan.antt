@@ -1,0 +1,48 @@
+-- What the callers are to do.
+use Rattle.std.specs.Prelude.{◌≡◌, ℕ, ◌*◌, ◌+◌, ◌≤◌, nat_lt, nat_le, Bool, ◌&&◌, true, List, [], length, slice_index_or}
+use Rattle.std.specs.List.{list_all}
+use Rattle.eevdf_ops.specs.declared.deeds.Op.{Op}
+use Rattle.eevdf_ops.specs.declared.deeds.Op.TheVariants as op
+use Rattle.eevdf_ops.specs.Numbers.{most_cpus, most_operations}
+use Rattle.eevdf_ops.specs.Setup.{Setup, homes_of}
+
+-- the home of each task, and the program of each caller, who stands on the CPU of the same number
+pub record Plan : Type 0 where
+  pub homes : List ℕ
+  pub programs : List (List Op)
+
+abbrev pub plan_of : Setup → Plan
+plan_of s = record { homes = homes_of s; programs = s.programs }
+
+-- how many callers there are, one for each CPU
+abbrev pub callers : Plan → ℕ
+callers plan = length plan.programs
+
+abbrev pub program : Plan → ℕ → List Op
+program plan caller = slice_index_or plan.programs caller []
+
+abbrev pub home : Plan → ℕ → ℕ
+home plan task = slice_index_or plan.homes task 0
+
+-- the place of what goes from a sender to a home, in a list of one for each pair
+abbrev pub pair : Plan → ℕ → ℕ → ℕ
+pair plan sender home = sender * callers plan + home
+
+-- an operation names only tasks and callers that there are
+abbrev pub is_sound_op : Plan → Op → Bool
+is_sound_op plan (op.Sleep task) = nat_lt task (length plan.homes)
+is_sound_op plan (op.Post task) = nat_lt task (length plan.homes)
+is_sound_op plan (op.Pull source) = nat_lt source (callers plan)
+is_sound_op plan (op.Tick ns) = true
+is_sound_op plan op.Pick = true
+is_sound_op plan op.Yield = true
+is_sound_op plan op.Drain = true
+
+abbrev pub is_sound_program : Plan → List Op → Bool
+is_sound_program plan ops = nat_le (length ops) most_operations && list_all (is_sound_op plan) ops
+
+-- what a setup without faults makes sure of
+pub record IsSound (plan : Plan) : Type 0 where
+  pub few : callers plan ≤ most_cpus
+  pub homes : list_all (λ (h : ℕ). nat_lt h (callers plan)) plan.homes ≡ true
+  pub programs : list_all (is_sound_program plan) plan.programs ≡ true

@@ -1,0 +1,136 @@
+-- The work that the callers do on the queues.
+use Rattle.std.specs.Prelude.{ℕ, nat_lt, Bool, true, false, List, slice_index_or, slice_set, if◌then◌else◌, is_some, Option, Some, None, Result, Ok, Err}
+use Rattle.eevdf_queue.specs.State.{State, Contents}
+use Rattle.eevdf_queue.specs.Moves.{sleeper_of}
+use Rattle.eevdf_queue.specs.Leaving.{carried_running}
+use Rattle.eevdf_queue.specs.Placing.{can_place}
+use Rattle.eevdf_ops.specs.declared.deeds.Op.{Op}
+use Rattle.eevdf_ops.specs.declared.deeds.Op.TheVariants as op
+use Rattle.eevdf_ops.specs.declared.deeds.Answer.{Answer}
+use Rattle.eevdf_ops.specs.declared.deeds.Answer.TheVariants.{NotRunning, Pulled}
+use Rattle.eevdf_ops.specs.Machine.{Machine, queue_at}
+use Rattle.eevdf_ops.specs.OneQueue.{one_tick, one_pick, one_yield, one_wake}
+use Rattle.eevdf_ops.specs.WholeSleep.{falls_asleep, slept, task_leaves}
+use Rattle.eevdf_ops.specs.WholePull.{decision, load_of, offer, task_joins}
+
+-- the queues, the task in each caller's hand, and the answer that each caller keeps
+pub record Work : Type 0 where
+  pub machine : Machine
+  pub hands : List (Option Contents)
+  pub answers : List (Option Answer)
+
+abbrev pub hand : Work → ℕ → Option Contents
+hand w caller = slice_index_or w.hands caller None
+
+abbrev pub answer : Work → ℕ → Option Answer
+answer w caller = slice_index_or w.answers caller None
+
+-- a caller keeps an answer
+abbrev pub answered : Work → ℕ → Answer → Work
+answered w caller a = record w { answers = slice_set w.answers caller (Some a) }
+
+-- a deed on the caller's own queue is done, and its answer kept
+abbrev pub acted : Work → ℕ → Answer × State → Work
+acted w caller done = record w {
+  machine = slice_set w.machine caller done.1;
+  answers = slice_set w.answers caller (Some done.0);
+}
+
+abbrev pub act : Work → ℕ → Op → Work
+act w caller (op.Tick ns) = acted w caller (one_tick (queue_at w.machine caller) ns)
+act w caller op.Pick = acted w caller (one_pick (queue_at w.machine caller))
+act w caller op.Yield = acted w caller (one_yield (queue_at w.machine caller))
+act w caller (op.Sleep task) = w
+act w caller (op.Pull source) = w
+act w caller (op.Post task) = w
+act w caller op.Drain = w
+
+-- a caller takes a task into its hand, and keeps an answer
+abbrev pub grasped : Work → ℕ → Contents → Answer → Work
+grasped w caller p a = record w { hands = slice_set w.hands caller (Some p); answers = slice_set w.answers caller (Some a) }
+
+-- a task leaves a queue into the caller's hand, and an answer is kept
+abbrev pub detached : Work → ℕ → ℕ → Contents → Answer → Work
+detached w caller cpu p a = grasped (record w { machine = task_leaves w.machine cpu p.task }) caller p a
+
+-- the task that is to sleep leaves, where it runs
+abbrev pub detach_running : Work → ℕ → Option Contents → Work
+detach_running w caller None = answered w caller NotRunning
+detach_running w caller (Some p) = detached w caller caller p (slept p)
+
+-- the task that is pulled leaves its source, unless the pull is refused
+abbrev pub detach_pulled : Work → ℕ → ℕ → Result Contents Answer → Work
+detach_pulled w caller source (Err refusal) = answered w caller refusal
+detach_pulled w caller source (Ok p) = detached w caller source p (Pulled p.task)
+
+abbrev pub pull_decision : Machine → ℕ → ℕ → Result Contents Answer
+pull_decision m cpu source = decision (queue_at m cpu) (load_of (queue_at m source)) (offer (queue_at m source))
+
+-- the machine when what was decided is taken from the source
+abbrev pub taken_from : Machine → ℕ → Result Contents Answer → Machine
+taken_from m source (Err refusal) = m
+taken_from m source (Ok p) = task_leaves m source p.task
+
+abbrev pub detached_by : Work → ℕ → Op → Work
+detached_by w caller (op.Sleep task) = detach_running w caller (carried_running (queue_at w.machine caller) task)
+detached_by w caller (op.Pull source) = detach_pulled w caller source (pull_decision w.machine caller source)
+detached_by w caller (op.Tick ns) = w
+detached_by w caller op.Pick = w
+detached_by w caller op.Yield = w
+detached_by w caller (op.Post task) = w
+detached_by w caller op.Drain = w
+
+-- the task of an operation leaves into the caller's hand, which is empty
+abbrev pub detach : Work → ℕ → Op → Work
+detach w caller o = if is_some (hand w caller) then w else detached_by w caller o
+
+-- a pull is from one of so many queues
+abbrev pub pulls_from : ℕ → Op → Bool
+pulls_from queues (op.Pull source) = nat_lt source queues
+pulls_from queues (op.Sleep task) = true
+pulls_from queues (op.Tick ns) = true
+pulls_from queues op.Pick = true
+pulls_from queues op.Yield = true
+pulls_from queues (op.Post task) = true
+pulls_from queues op.Drain = true
+
+-- a caller's hand is emptied
+abbrev pub emptied : Work → ℕ → Work
+emptied w caller = record w { hands = slice_set w.hands caller None }
+
+-- the task in the caller's hand is put down, which gives this machine
+abbrev pub put_down : Work → ℕ → Machine → Work
+put_down w caller m = record (emptied w caller) { machine = m }
+
+abbrev pub attach_asleep : Work → ℕ → ℕ → Option Contents → Work
+attach_asleep w caller cpu None = w
+attach_asleep w caller cpu (Some p) = put_down w caller (falls_asleep w.machine cpu p)
+
+-- a queue has room for a task, where there is one
+abbrev pub has_room : State → Option Contents → Bool
+has_room q None = false
+has_room q (Some p) = can_place q (sleeper_of p)
+
+abbrev pub attach_joining : Work → ℕ → Option Contents → Work
+attach_joining w caller None = w
+attach_joining w caller (Some p) = put_down w caller (task_joins w.machine caller p)
+
+abbrev pub attach_pulled : Work → ℕ → Option Contents → Work
+attach_pulled w caller h = if has_room (queue_at w.machine caller) h then attach_joining w caller h else w
+
+-- the home of the task is given
+abbrev pub attach : ℕ → Work → ℕ → Op → Work
+attach home w caller (op.Sleep task) = attach_asleep w caller home (hand w caller)
+attach home w caller (op.Pull source) = attach_pulled w caller (hand w caller)
+attach home w caller (op.Tick ns) = w
+attach home w caller op.Pick = w
+attach home w caller op.Yield = w
+attach home w caller (op.Post task) = w
+attach home w caller op.Drain = w
+
+-- a task is woken on the caller's own queue, with this answer
+abbrev pub woken : Work → ℕ → ℕ → Work
+woken w caller task = record w { machine = slice_set w.machine caller (one_wake (queue_at w.machine caller) task).1 }
+
+abbrev pub wake_answer : Work → ℕ → ℕ → Answer
+wake_answer w caller task = (one_wake (queue_at w.machine caller) task).0

@@ -1,0 +1,112 @@
+//! The callers on their way through their programs.
+
+ghost use Rattle.std.specs.Prelude.{◌≡◌, ◌<◌, ◌≤◌, true, is_some, length, replicate, IfOk, IfSome};
+ghost use Rattle.std.specs.Option.{option_map};
+ghost use Rattle.eevdf_steps.specs.Plan.{IsSound, callers, home, plan_of, program};
+ghost use Rattle.eevdf_steps.specs.SoundSteps.{is_sound_step};
+ghost use Rattle.eevdf_steps.specs.Counters.{counted, step_next};
+ghost use Rattle.eevdf_steps.specs.Orders.{counters_at_start};
+
+use crate::program_plan::{Plan, Position, Step};
+use eevdf_ops::{CpuId, Setup};
+use eevdf_queue::TaskId;
+use std::alloc::{AllocError, Global};
+use std::marker::Model;
+
+/// What the callers are to do, and how far each has come.
+#[derive(Drop)]
+pub(crate) struct Callers {
+    plan: Plan,
+    positions: Vec<Position>,
+}
+
+impl Model for Callers {
+    ghost use Rattle.eevdf_steps.specs.Callers as way;
+
+    ghost Value = { way.Callers };
+
+    ghost view = { λ c. way.callers_at c.plan c.positions.items };
+
+    ghost invariant = { λ c. way.AreCallers c.plan c.positions.items };
+}
+
+impl Callers {
+    /// The callers of a setup, none of whom has done a step.
+    pub(crate) fn open(alloc: Global, setup: &Setup) -> Result<Callers, AllocError>
+        ensures plan { IfOk result (λ c. c.plan ≡ plan_of setup.now) }
+        ensures counters { IfOk result (λ c. c.counters ≡ counters_at_start (plan_of setup.now)) }
+    {
+        let plan = Plan::make(alloc, setup)?;
+        let positions = first_positions(alloc, plan.callers())?;
+        Ok(Callers { plan, positions })
+    }
+
+    /// Learns what is kept of the callers.
+    pub(crate) fn keeps(&self)
+        ensures sound { IsSound self.now.plan }
+        ensures each { length self.now.counters ≡ callers self.now.plan }
+    {
+        self.plan.keeps();
+        let _ = &self.positions;
+    }
+
+    /// The number of callers, one for each CPU.
+    pub(crate) fn count(&self) -> usize
+        ensures callers { result ≡ callers self.now.plan }
+        ensures few { result ≤ 16 }
+    {
+        self.plan.callers()
+    }
+
+    /// The number of operations of a caller's program.
+    pub(crate) fn operations(&self, caller: usize) -> usize
+        requires { caller < callers self.now.plan }
+        ensures operations { result ≡ length (program self.now.plan caller) }
+        ensures few { result ≤ 10000 }
+    {
+        self.plan.operations(caller)
+    }
+
+    /// The CPU at which a task sleeps.
+    pub(crate) fn home(&self, task: TaskId) -> CpuId
+        requires { task < length self.now.plan.homes }
+        ensures home { result ≡ home self.now.plan task }
+        ensures below { result < callers self.now.plan }
+    {
+        self.plan.home(task)
+    }
+
+    /// The step that a caller does next, with its operation.
+    pub(crate) fn next(&self, caller: usize) -> Option<Step>
+        ensures step { result ≡ step_next self.now.plan self.now.counters caller }
+        ensures sound { IfSome result (λ s. is_sound_step self.now.plan s ≡ true) }
+    {
+        self.plan.keeps();
+        if caller >= self.positions.len() {
+            return None;
+        }
+        self.plan.step_at(caller, self.positions[caller])
+    }
+
+    /// Counts a step of a caller.
+    pub(crate) fn advance(&mut self, caller: usize)
+        requires { is_some (step_next self.old.plan self.old.counters caller) ≡ true }
+        ensures plan { self.new.plan ≡ self.old.plan }
+        ensures counters { self.new.counters ≡ counted self.old.counters caller }
+    {
+        if caller >= self.positions.len() {
+            return;
+        }
+        self.positions[caller] = self.plan.position_after(caller, self.positions[caller]);
+    }
+}
+
+fn first_positions(alloc: Global, callers: usize) -> Result<Vec<Position>, AllocError>
+    ensures { IfOk result (λ ps. ps.items ≡ replicate callers (record { operation = 0; steps = 0 })) }
+{
+    let first = Position {
+        operation: 0,
+        steps: 0,
+    };
+    vec![in alloc; first; callers]
+}

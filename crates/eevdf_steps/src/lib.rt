@@ -1,0 +1,33 @@
+//! The scheduler of many callers, each with a program of operations, played step by step in any order.
+//!
+//! An operation is a list of micro-steps: locks of CPUs are acquired and released, a task is taken out of one
+//! queue and put into another, a request is posted, taken and settled, a deed is committed to the history. A
+//! player does the next micro-step of whichever caller it is told, if that caller may do it.
+#![tactic(auto)]
+
+mod callers;
+mod commits;
+mod journal;
+pub mod laws;
+mod lists_of_steps;
+mod locked_callers;
+mod micro_steps;
+mod openings;
+mod play_fault;
+mod played_order;
+mod post_list;
+mod program_plan;
+mod queue_work;
+mod recorded_work;
+mod requests;
+mod step_fault;
+mod step_player;
+mod task_place;
+mod work_steps;
+
+pub use micro_steps::Micro;
+pub use play_fault::PlayFault;
+pub use played_order::play;
+pub use step_fault::StepFault;
+pub use step_player::Player;
+pub use task_place::Place;

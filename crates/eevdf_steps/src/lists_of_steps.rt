@@ -1,0 +1,120 @@
+//! The micro-steps of operations by their places.
+
+ghost use Rattle.std.specs.Prelude.{◌≡◌, ◌+◌, ◌*◌, ◌<◌, ◌≤◌, min, max, slice_get, ◌∷◌, []};
+ghost use Rattle.eevdf_steps.specs.declared.micro_steps.Micro.TheVariants.{Act, Commit};
+ghost use Rattle.eevdf_steps.specs.MicroSteps as steps;
+
+use crate::micro_steps::Micro;
+use eevdf_ops::CpuId;
+
+/// The micro-steps of a deed on the caller's own queue.
+pub(crate) fn act_step(cpu: CpuId, at: usize) -> Option<Micro>
+    ensures { result ≡ slice_get (steps.under_lock cpu steps.acting) at }
+{
+    let list = [
+        Micro::Acquire(cpu),
+        Micro::Act,
+        Micro::Commit,
+        Micro::Release(cpu),
+    ];
+    list.get(at).copied()
+}
+
+/// The micro-steps of a task that goes to sleep.
+pub(crate) fn sleep_step(cpu: CpuId, home: CpuId, at: usize) -> Option<Micro>
+    ensures { result ≡ slice_get (steps.sleeping cpu home) at }
+{
+    if cpu.get() == home.get() {
+        move_step(cpu, at)
+    } else {
+        move_between_step(cpu, home, at)
+    }
+}
+
+/// The micro-steps of a task's move on one queue.
+fn move_step(cpu: CpuId, at: usize) -> Option<Micro>
+    ensures { result ≡ slice_get (steps.under_lock cpu steps.moving) at }
+{
+    let list = [
+        Micro::Acquire(cpu),
+        Micro::Detach,
+        Micro::Attach,
+        Micro::Commit,
+        Micro::Release(cpu),
+    ];
+    list.get(at).copied()
+}
+
+/// The micro-steps of a task's move between two queues.
+pub(crate) fn move_between_step(a: CpuId, b: CpuId, at: usize) -> Option<Micro>
+    ensures { result ≡ slice_get (steps.under_locks a b steps.moving) at }
+{
+    let first = lesser(a, b);
+    let second = greater(a, b);
+    let list = [
+        Micro::Acquire(first),
+        Micro::Acquire(second),
+        Micro::Detach,
+        Micro::Attach,
+        Micro::Commit,
+        Micro::Release(second),
+        Micro::Release(first),
+    ];
+    list.get(at).copied()
+}
+
+fn lesser(a: CpuId, b: CpuId) -> CpuId
+    ensures { result ≡ min a b }
+{
+    if a.get() <= b.get() { a } else { b }
+}
+
+fn greater(a: CpuId, b: CpuId) -> CpuId
+    ensures { result ≡ max a b }
+{
+    if a.get() <= b.get() { b } else { a }
+}
+
+/// The micro-steps of a drain: the senders come in order, and each has two.
+pub(crate) fn drain_step(cpus: usize, cpu: CpuId, at: usize) -> Option<Micro>
+    requires { cpus ≤ 16 }
+    ensures { result ≡ slice_get (steps.under_lock cpu (steps.draining cpus 0)) at }
+{
+    if at == 0 {
+        return Some(Micro::Acquire(cpu));
+    }
+    let sender = (at - 1) / 2;
+    if sender >= cpus {
+        return drained_step(cpus, cpu, at);
+    }
+    let sender = cpu_number(sender);
+    if at % 2 == 1 {
+        Some(Micro::Take(sender))
+    } else {
+        Some(Micro::Settle(sender))
+    }
+}
+
+/// The micro-steps of a drain that has come to the end of the senders.
+fn drained_step(cpus: usize, cpu: CpuId, at: usize) -> Option<Micro>
+    requires few { cpus ≤ 16 }
+    requires past { 2 * cpus < at }
+    ensures { result ≡ slice_get (steps.under_lock cpu (steps.draining cpus 0)) at }
+{
+    if at == 2 * cpus + 1 {
+        Some(Micro::Release(cpu))
+    } else {
+        None
+    }
+}
+
+/// The CPU of a number.
+pub(crate) fn cpu_number(number: usize) -> CpuId
+    requires { number < 16 }
+    ensures { result ≡ number }
+{
+    match CpuId::new(number as u64) {
+        Some(cpu) => cpu,
+        None => unreachable!(),
+    }
+}

@@ -1,0 +1,249 @@
+//! What the callers are to do.
+
+ghost use Rattle.std.specs.Prelude.{◌≡◌, ◌+◌, ◌<◌, ◌≤◌, is_some, Some, true, length, slice_get, slice_index_or, map, None, IfOk, IfSome};
+ghost use Rattle.std.specs.Option.{option_map};
+ghost use Rattle.eevdf_ops.specs.Faults as faults;
+ghost use Rattle.eevdf_ops.specs.Setup.{homes_of};
+ghost use Rattle.eevdf_steps.specs.Plan.{IsSound, callers, home, is_sound_op, plan_of, program};
+ghost use Rattle.eevdf_steps.specs.MicroSteps.{micros_of, steps_by};
+ghost use Rattle.eevdf_steps.specs.Positions.{counter_at, is_position};
+
+use crate::lists_of_steps::{act_step, cpu_number, drain_step, move_between_step, sleep_step};
+use crate::micro_steps::Micro;
+use eevdf_ops::{CpuId, Op, Setup};
+use eevdf_queue::TaskId;
+use std::alloc::{AllocError, Global};
+use std::marker::Model;
+
+/// A micro-step with the operation that it is a part of.
+#[derive(Clone, Copy, Debug)]
+pub(crate) struct Step {
+    pub(crate) op: Op,
+    pub(crate) micro: Micro,
+}
+
+/// A step with all that it is done with: the caller's CPU, the home of the task that the operation names, the
+/// place of the list of requests that it reads or adds to, and the request that the caller has found.
+#[derive(Clone, Copy, Debug)]
+pub(crate) struct Turn {
+    pub(crate) cpu: CpuId,
+    pub(crate) op: Op,
+    pub(crate) micro: Micro,
+    pub(crate) home: CpuId,
+    pub(crate) place: usize,
+    pub(crate) found: Option<TaskId>,
+}
+
+/// The micro-step alone.
+pub(crate) fn micro_of(step: Option<Step>) -> Option<Micro>
+    ensures { result ≡ option_map (λ (s : _). s.micro) step }
+{
+    match step {
+        None => None,
+        Some(step) => Some(step.micro),
+    }
+}
+
+/// Where a caller stands in its program: at an operation, of which so many steps are done.
+#[derive(Clone, Copy, Debug)]
+pub(crate) struct Position {
+    pub(crate) operation: usize,
+    pub(crate) steps: usize,
+}
+
+/// The home of each task, and the program of each caller.
+#[derive(Drop)]
+pub(crate) struct Plan {
+    homes: Vec<CpuId>,
+    programs: Vec<Vec<Op>>,
+}
+
+impl Model for Plan {
+    ghost use Rattle.std.specs.Prelude.{map};
+    ghost use Rattle.eevdf_steps.specs.Plan as plan;
+
+    ghost Value = { plan.Plan };
+
+    ghost view = { λ p. record { homes = p.homes.items; programs = map (λ (q : _). q.items) p.programs.items } };
+
+    ghost invariant = { λ p. plan.IsSound (record { homes = p.homes.items; programs = map (λ (q : _). q.items) p.programs.items }) };
+}
+
+impl Plan {
+    /// What a setup has its callers do, copied.
+    pub(crate) fn make(alloc: Global, setup: &Setup) -> Result<Plan, AllocError>
+        ensures { IfOk result (λ p. p ≡ plan_of setup.now) }
+    {
+        let homes = copy_homes(alloc, setup)?;
+        let programs = copy_programs(alloc, setup)?;
+        Ok(Plan { homes, programs })
+    }
+
+    /// Learns what every plan keeps.
+    pub(crate) fn keeps(&self)
+        ensures { IsSound self.now }
+    {
+        let _ = &self.programs;
+    }
+
+    /// The number of callers, one for each CPU.
+    pub(crate) fn callers(&self) -> usize
+        ensures callers { result ≡ callers self.now }
+        ensures few { result ≤ 16 }
+    {
+        self.programs.len()
+    }
+
+    /// The number of operations of a caller's program.
+    pub(crate) fn operations(&self, caller: usize) -> usize
+        requires { caller < callers self.now }
+        ensures operations { result ≡ length (program self.now caller) }
+        ensures few { result ≤ 10000 }
+    {
+        self.keeps();
+        self.listed_operations(caller)
+    }
+
+    fn listed_operations(&self, caller: usize) -> usize
+        requires { caller < callers self.now }
+        ensures { result ≡ length (program self.now caller) }
+    {
+        self.programs[caller].len()
+    }
+
+    /// The CPU at which a task sleeps.
+    pub(crate) fn home(&self, task: TaskId) -> CpuId
+        requires { task < length self.now.homes }
+        ensures home { result ≡ home self.now task }
+        ensures below { result < callers self.now }
+    {
+        self.homes[task.get() as usize]
+    }
+
+    /// The operation at a place of a caller's program.
+    pub(crate) fn operation(&self, caller: usize, at: usize) -> Option<Op>
+        requires { caller < callers self.now }
+        ensures op { result ≡ slice_get (program self.now caller) at }
+        ensures sound { IfSome result (λ o. is_sound_op self.now o ≡ true) }
+        ensures within { IfSome result (λ _. at < 10000) }
+    {
+        self.keeps();
+        self.listed_operation(caller, at)
+    }
+
+    fn listed_operation(&self, caller: usize, at: usize) -> Option<Op>
+        requires { caller < callers self.now }
+        ensures { result ≡ slice_get (program self.now caller) at }
+    {
+        self.programs[caller].get(at).copied()
+    }
+
+    /// The micro-step of an operation at a place of its list.
+    pub(crate) fn micro_at(&self, cpu: CpuId, op: Op, at: usize) -> Option<Micro>
+        requires { is_sound_op self.now op ≡ true }
+        ensures { result ≡ slice_get (micros_of self.now cpu op) at }
+    {
+        match op {
+            Op::Tick(_) | Op::Pick | Op::Yield => act_step(cpu, at),
+            Op::Sleep(task) => sleep_step(cpu, self.home(task), at),
+            Op::Pull(source) => move_between_step(cpu, source, at),
+            Op::Drain => drain_step(self.callers(), cpu, at),
+            Op::Post(task) => {
+                if at == 0 {
+                    Some(Micro::Post(task))
+                } else {
+                    None
+                }
+            }
+        }
+    }
+
+    /// The step of a caller at a position, with its operation.
+    pub(crate) fn step_at(&self, caller: usize, position: Position) -> Option<Step>
+        requires caller { caller < callers self.now }
+        requires position { is_position self.now caller position ≡ true }
+        ensures { result ≡ slice_get (steps_by self.now caller) (counter_at self.now caller position) }
+    {
+        self.keeps();
+        match self.operation(caller, position.operation) {
+            None => None,
+            Some(op) => self.step_of(cpu_number(caller), op, position.steps),
+        }
+    }
+
+    fn step_of(&self, cpu: CpuId, op: Op, at: usize) -> Option<Step>
+        requires { is_sound_op self.now op ≡ true }
+        ensures { result ≡ option_map (λ (m : _). record { op = op; micro = m }) (slice_get (micros_of self.now cpu op) at) }
+    {
+        self.micro_at(cpu, op, at).map(|micro| Step { op, micro })
+    }
+
+    /// The position of a caller that has done one step more.
+    pub(crate) fn position_after(&self, caller: usize, position: Position) -> Position
+        requires caller { caller < callers self.now }
+        requires position { is_position self.now caller position ≡ true }
+        requires step { is_some (slice_get (steps_by self.now caller) (counter_at self.now caller position)) ≡ true }
+        ensures position { is_position self.now caller result ≡ true }
+        ensures counter { counter_at self.now caller result ≡ counter_at self.now caller position + 1 }
+    {
+        self.keeps();
+        match self.operation(caller, position.operation) {
+            None => unreachable!(),
+            Some(op) => self.position_within(cpu_number(caller), op, position),
+        }
+    }
+
+    fn position_within(&self, cpu: CpuId, op: Op, position: Position) -> Position
+        requires sound { is_sound_op self.now op ≡ true }
+        requires op { slice_get (program self.now cpu) position.operation ≡ Some op }
+        requires short { position.operation < 10000 }
+        requires within { position.steps < length (micros_of self.now cpu op) }
+        ensures position { is_position self.now cpu result ≡ true }
+        ensures counter { counter_at self.now cpu result ≡ counter_at self.now cpu position + 1 }
+    {
+        self.keeps();
+        match self.micro_at(cpu, op, position.steps + 1) {
+            Some(_) => Position {
+                operation: position.operation,
+                steps: position.steps + 1,
+            },
+            None => Position {
+                operation: position.operation + 1,
+                steps: 0,
+            },
+        }
+    }
+}
+
+fn copy_homes(alloc: Global, setup: &Setup) -> Result<Vec<CpuId>, AllocError>
+    ensures { IfOk result (λ homes. homes.items ≡ homes_of setup.now) }
+{
+    let _cpus = setup.cpus();
+    let mut homes = Vec::with_capacity(alloc, setup.tasks())?;
+    for place in 0..setup.tasks() {
+        homes.push(setup.spec(task_number(place)).home)?;
+    }
+    Ok(homes)
+}
+
+fn copy_programs(alloc: Global, setup: &Setup) -> Result<Vec<Vec<Op>>, AllocError>
+    ensures programs { IfOk result (λ programs. map (λ (p : _). p.items) programs.items ≡ setup.now.programs) }
+    ensures sound { faults.setup_fault setup.now.tasks setup.now.programs ≡ None }
+{
+    let mut programs = Vec::with_capacity(alloc, setup.cpus())?;
+    for cpu in 0..setup.cpus() {
+        programs.push(Vec::from_slice(alloc, setup.program(cpu_number(cpu)))?)?;
+    }
+    Ok(programs)
+}
+
+/// The number of the task at a place of the list of tasks.
+fn task_number(place: usize) -> TaskId
+    requires { place < 1024 }
+    ensures { result ≡ place }
+{
+    match TaskId::new(place as u64) {
+        Some(task) => task,
+        None => unreachable!(),
+    }
+}

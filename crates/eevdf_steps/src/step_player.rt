@@ -1,0 +1,181 @@
+ghost use Rattle.std.specs.Prelude.{◌≡◌, ◌<◌, true, length, Some, None, drop, map, IfOk};
+ghost use Rattle.eevdf_ops.specs.Machine.{queue_at};
+ghost use Rattle.eevdf_steps.specs.Counters as counters;
+ghost use Rattle.eevdf_steps.specs.Plan.{callers};
+ghost use Rattle.eevdf_steps.specs.Places.{stands_at};
+ghost use Rattle.eevdf_steps.specs.Players as player;
+ghost use Rattle.eevdf_steps.specs.Plays as plays;
+
+use crate::lists_of_steps::cpu_number;
+use crate::locked_callers::LockedCallers;
+use crate::micro_steps::Micro;
+use crate::openings::{lines, nothing_found};
+use crate::program_plan::{Step, Turn, micro_of};
+use crate::recorded_work::{Parts, RecordedWork};
+use crate::requests::Requests;
+use crate::step_fault::StepFault;
+use crate::task_place::Place;
+use eevdf_ops::laws::every_task_in_one_place;
+use eevdf_ops::{CpuId, Line, Outcome, Setup, Solo};
+use eevdf_queue::{Queue, TaskId};
+use std::alloc::{AllocError, Global};
+use std::marker::Model;
+
+/// The callers of a setup, each of whom does its program step by step as it is told.
+#[derive(Drop)]
+pub struct Player {
+    callers: LockedCallers,
+    posts: Requests,
+    found: Vec<Option<TaskId>>,
+    done: RecordedWork,
+}
+
+impl Model for Player {
+    ghost use Rattle.eevdf_steps.specs.Players as player;
+    ghost use Rattle.std.specs.Coded.{codes};
+    ghost use Rattle.eevdf_queue.specs.Codes.{state_code};
+
+    ghost Value = { player.Player };
+
+    ghost coded = { Prim.hlevel (codes, state_code) };
+
+    ghost view = { λ a. player.player_of a.callers a.posts a.found.items a.done };
+
+    ghost invariant = { λ a. player.IsPlaying a.callers a.posts a.found.items a.done };
+}
+
+impl Player {
+    /// The callers of a setup, none of whom has done a step. It takes all the memory that they ever need.
+    pub fn open(alloc: Global, setup: &Setup) -> Result<Player, AllocError>
+        ensures { IfOk result (λ a. a ≡ player.player_start setup.now) }
+    {
+        let callers = LockedCallers::open(alloc, setup)?;
+        let posts = Requests::open(alloc, &callers)?;
+        let found = nothing_found(alloc, callers.count())?;
+        let solo = Solo::open(alloc, setup)?;
+        every_task_in_one_place(&solo);
+        let done = RecordedWork::open(alloc, solo.into_queues(), lines(&callers))?;
+        Ok(Player {
+            callers,
+            posts,
+            found,
+            done,
+        })
+    }
+
+    /// The micro-step that a caller does next: `None` exactly where it is done or there is no such caller.
+    pub fn next(&self, caller: usize) -> Option<Micro>
+        ensures { result ≡ counters.next self.now.plan self.now.state.progress.counters caller }
+    {
+        micro_of(self.callers.next(caller))
+    }
+
+    /// Who holds the lock of a CPU of the setup.
+    pub fn holder(&self, cpu: CpuId) -> Option<usize>
+        requires { cpu < callers self.now.plan }
+        ensures { result ≡ counters.holder self.now.plan self.now.state.progress.counters cpu }
+    {
+        self.callers.holder(cpu)
+    }
+
+    /// Where a task of the setup stands: the one place, since no task stands in two.
+    pub fn place_of(&self, task: TaskId) -> Place
+        requires { task < length self.now.plan.homes }
+        ensures { stands_at self.now.state.work task result ≡ true }
+    {
+        self.callers.keeps();
+        match self.done.place_of(task) {
+            Some(place) => place,
+            None => unreachable!(),
+        }
+    }
+
+    /// The queue of a CPU of the setup.
+    pub fn queue(&self, cpu: CpuId) -> &Queue
+        requires { cpu < callers self.now.plan }
+        ensures { result.now.state ≡ queue_at self.now.state.work.machine cpu }
+    {
+        self.done.queue(cpu)
+    }
+
+    /// The deeds that were done with their answers, in the order in which they were done.
+    pub fn history(&self) -> &[Line]
+        ensures { result.now ≡ self.now.state.lines }
+    {
+        self.done.lines()
+    }
+
+    /// Does the next step of a caller, where nothing refuses it. A refusal changes nothing. It takes no memory.
+    pub fn step(&mut self, caller: usize) -> Result<(), StepFault>
+        ensures { player.IsStep self.old caller result self.new }
+    {
+        if let Some(fault) = self.callers.refusal(caller) {
+            return Err(fault);
+        }
+        self.callers.keeps();
+        if let Some(step) = self.callers.next(caller) {
+            self.do_step(cpu_number(caller), &step);
+        }
+        Ok(())
+    }
+
+    /// Learns what is kept of the queues and of what the callers hold.
+    pub(crate) fn keeps(&self)
+        ensures { player.IsWork self.now.plan self.now.state.work }
+    {
+        let _ = &self.done;
+    }
+
+    /// The least caller that isn't done.
+    pub(crate) fn unfinished(&self) -> Option<usize>
+        ensures { result ≡ counters.unfinished self.now.plan self.now.state.progress.counters }
+    {
+        self.callers.unfinished()
+    }
+
+    /// What the steps have come to, with the requests that are left, where every caller is done. Else the player
+    /// comes back as it was. It takes no memory.
+    pub fn outcome(self) -> Result<Outcome, Player>
+        ensures { plays.IsEnd self result }
+    {
+        if self.unfinished().is_some() {
+            return Err(self);
+        }
+        Ok(self.into_outcome())
+    }
+
+    /// What the steps have come to, with the requests that are left. It takes no memory.
+    pub(crate) fn into_outcome(self) -> Outcome
+        ensures { plays.IsOutcome self result }
+    {
+        let Player {
+            callers: _,
+            posts,
+            found: _,
+            done,
+        } = self;
+        let Parts { lines, queues } = done.into_parts();
+        Outcome::of(lines, queues, posts.into_left())
+    }
+
+    fn do_step(&mut self, cpu: CpuId, step: &Step)
+        requires next { counters.step_next self.old.plan self.old.state.progress.counters cpu ≡ Some step.now }
+        requires free { counters.refused self.old.plan self.old.state.progress.counters step.now.micro ≡ None }
+        ensures { self.new ≡ player.player_step self.old cpu }
+    {
+        self.callers.keeps();
+        let caller = cpu.get() as usize;
+        let turn = Turn {
+            cpu,
+            op: step.op,
+            micro: step.micro,
+            home: self.callers.home_for(cpu, step.op),
+            place: self.callers.place(cpu, step.micro),
+            found: self.found[caller],
+        };
+        self.done.do_step(&turn);
+        let request = self.posts.pass(&turn);
+        self.found[caller] = request;
+        self.callers.advance(caller, step.micro);
+    }
+}
