@@ -1,6 +1,6 @@
 -- From the meaning of a workload to what the engine answers.
 use Rattle.std.proofs.Common.{◌≡◌, ℕ, ◌+◌, Bool, true, false, ◌&&◌, List, [], ◌∷◌, take, refl, sym, ap, subst, ◌∙◌, inl, inr}
-use Rattle.std.specs.Prelude.{Option, Some, None, IfSome, Result, Ok, Err, OnOk, Vec, if◌then◌else◌}
+use Rattle.std.specs.Prelude.{Option, Some, None, IfSome, Result, Ok, Err, OnOk, OnErr, Vec, if◌then◌else◌}
 use Rattle.std.specs.declared.alloc.Global.{Global}
 use Rattle.std.specs.List.{list_all}
 use Rattle.std.specs.Io.KnownBytes.{Appends}
@@ -13,7 +13,8 @@ use Rattle.eevdf_bench.specs.declared.bench_fault.BenchFault.{BenchFault}
 use Rattle.eevdf_bench.specs.declared.bench_fault.BenchFault.TheVariants as bench
 use Rattle.eevdf_bench.specs.Meaning.{Workload, meaning, allowed, allowed_from}
 use Rattle.eevdf_bench.specs.MeaningSteps.{◌>>=◌, Reads}
-use Rattle.eevdf_bench.specs.Runs.{solo_report, solo_answer, Makes, Answers, IsRefusal, LoadsAs, Writes}
+use Rattle.eevdf_bench.specs.Runs.{solo_report, solo_answer, Makes, Answers, IsRefusal, LoadsAs, Writes, Begins}
+use Rattle.eevdf_bench.specs.Streams.{HasBegun}
 use Rattle.eevdf_bench.proofs.InputLimit.{solo_answer_cut}
 
 err_is_no_ok : (r : Result (Unit {0}) LoadFault) (f : LoadFault) → r ≡ Err f → r ≡ Ok tt → ⊥
@@ -51,14 +52,32 @@ answered bytes history w r e h =
     by_cases (solo_answer bytes history) (solo_report w history) r
     (answer_is bytes history ∙ ap (λ (m : Result Workload LoadFault). m >>= (λ v. solo_report v history)) e) h
 
+-- a workload that is cut at its limit is answered as the whole
+of_the_whole : (all input : List ℕ) (history : Bool) → input ≡ take 16777217 all → solo_answer all history ≡ solo_answer input history
+of_the_whole all input history cut = sym (ap (λ (bytes : List ℕ). solo_answer bytes history) cut ∙ solo_answer_cut all history)
+
+-- the same answer, of bytes and of a text under other names
+pub answered_as : (bytes input made text : List ℕ) (history : Bool) → bytes ≡ input → text ≡ made → solo_answer bytes history ≡ Ok made → solo_answer input history ≡ Ok text
+answered_as bytes input made text history b t h = ap (λ (bs : List ℕ). solo_answer bs history) (sym b) ∙ h ∙ ap (λ (bs : List ℕ). Ok bs) (sym t)
+
 -- what was written for a workload that was read up to its limit
 pub written : (left : Option (List ℕ)) (input text : List ℕ) (history : Bool) (held held' : Option (List ℕ)) → IfSome left (λ all. input ≡ take 16777217 all) → solo_answer input history ≡ Ok text
     → Appends held held' text → IfSome left (λ all. Writes (solo_answer all history) held held')
 written None input text history held held' cut a w = tt
 written (Some all) input text history held held' cut a w = record {
   text = text;
-  answered = sym (ap (λ (bytes : List ℕ). solo_answer bytes history) cut ∙ solo_answer_cut all history) ∙ a;
+  answered = of_the_whole all input history cut ∙ a;
   written = w;
+}
+
+-- the same where a beginning was written
+pub begun : (left : Option (List ℕ)) (input text : List ℕ) (history : Bool) (held held' : Option (List ℕ)) → IfSome left (λ all. input ≡ take 16777217 all) → solo_answer input history ≡ Ok text
+    → HasBegun held held' text → IfSome left (λ all. Begins (solo_answer all history) held held')
+begun None input text history held held' cut a w = tt
+begun (Some all) input text history held held' cut a w = record {
+  text = text;
+  answered = of_the_whole all input history cut ∙ a;
+  begun = w;
 }
 
 -- why nothing was written for it
@@ -70,8 +89,12 @@ not_loaded (Some all) input history bench.Write cut h = tt
 not_loaded (Some all) input history bench.Memory cut h = tt
 not_loaded (Some all) input history (bench.Load l) cut (inl e) = inl e
 not_loaded (Some all) input history (bench.Load l) cut (inr e) =
-    inr (sym (ap (λ (bytes : List ℕ). solo_answer bytes history) cut ∙ solo_answer_cut all history) ∙ e)
+    inr (of_the_whole all input history cut ∙ e)
 
 pub on_ok : {E : Type 0} (r : Result (Unit {0}) E) (P Q : Type 0) → OnOk r P → (P → Q) → OnOk r Q
 on_ok (Ok x) P Q h f = f h
 on_ok (Err e) P Q h f = tt
+
+pub on_err : {E : Type 0} (r : Result (Unit {0}) E) (e : E) (P : Type 0) → OnErr r P → r ≡ Err e → P
+on_err (Ok x) e P h is = cc
+on_err (Err f) e P h is = h

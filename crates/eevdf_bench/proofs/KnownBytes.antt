@@ -1,10 +1,10 @@
 -- One write or read after another, where the bytes are known.
-use Rattle.std.proofs.Common.{◌≡◌, ℕ, ◌+◌, ◌-◌, ◌≤◌, List, ◌++◌, length, take, drop, sym, ap, ◌∙◌, subst, append_assoc, append-nil, arith}
+use Rattle.std.proofs.Common.{◌≡◌, ℕ, ◌+◌, ◌-◌, ◌≤◌, List, [], ◌++◌, length, take, drop, sym, ap, ◌∙◌, subst, append_assoc, append-nil, arith}
 use Rattle.std.specs.Prelude.{Option, Some, None, IfSome}
-use Rattle.std.specs.Io.KnownBytes.{Appends, Consumes, IsAtEnd}
-use Rattle.eevdf_bench.specs.Streams.{ReadsOn}
+use Rattle.std.specs.Io.KnownBytes.{Appends, Consumes, IsAtEnd, Keeps}
+use Rattle.eevdf_bench.specs.Streams.{ReadsOn, ReadsTo, ReadsWithin}
 use Rattle.std.proofs.Math.Seq.{take-add, take-append_seam}
-use Rattle.std.proofs.lemmas.List.{take_all, length-drop}
+use Rattle.std.proofs.lemmas.List.{take_all, length-drop, length-append}
 
 pub appends_both : (a b c : Option (List ℕ)) (xs ys : List ℕ) → Appends a b xs → Appends b c ys → Appends a c (xs ++ ys)
 appends_both None b c xs ys p q = tt
@@ -42,9 +42,47 @@ read_front (Some u) (Some v) input limit p h =
     subst (λ (n : ℕ). input ≡ take n u) h
     (subst (λ (xs : List ℕ). input ≡ take (length input) xs) (sym p) (sym (take-append_seam input v)))
 
+consumes_on : (a b c : Option (List ℕ)) (input input' : List ℕ) (n : ℕ) → Consumes a b input → ReadsOn b c input input' n → Consumes a c input'
+consumes_on a b c input input' n p r =
+    subst (λ (xs : List ℕ). Consumes a c xs) (sym r.grows) (consumes_both a b c input r.piece p r.consumes)
+
 -- the same where the last read gave nothing
 pub read_end : (a b c : Option (List ℕ)) (input input' : List ℕ) (n limit : ℕ) → Consumes a b input → ReadsOn b c input input' n → n ≡ 0 → length input' ≤ limit → IfSome a (λ all. input' ≡ take limit all)
 read_end a b c input input' n limit p r e h =
-    read_all a c input' limit
-    (subst (λ (xs : List ℕ). Consumes a c xs) (sym r.grows) (consumes_both a b c input r.piece p r.consumes))
-    (r.ends e) h
+    read_all a c input' limit (consumes_on a b c input input' n p r) (r.ends e) h
+
+-- how far the reader was read, where what was read is the front of what it had
+reads_to : (a b : Option (List ℕ)) (input : List ℕ) (limit : ℕ) → Consumes a b input → IfSome a (λ all. input ≡ take limit all) → ReadsTo limit a b
+reads_to None b input limit p e = tt
+reads_to (Some u) None input limit p e = absurd p
+reads_to (Some u) (Some v) input limit p e = subst (λ (xs : List ℕ). u ≡ xs ++ v) e p
+
+-- the same where the last read gave nothing
+pub reads_to_end : (a b c : Option (List ℕ)) (input input' : List ℕ) (n limit : ℕ) → Consumes a b input → ReadsOn b c input input' n → n ≡ 0 → length input' ≤ limit → ReadsTo limit a c
+reads_to_end a b c input input' n limit p r e h =
+    reads_to a c input' limit (consumes_on a b c input input' n p r) (read_end a b c input input' n limit p r e h)
+
+-- as far as a limit
+pub reads_to_front : (a b : Option (List ℕ)) (input : List ℕ) (limit : ℕ) → Consumes a b input → length input ≡ limit → ReadsTo limit a b
+reads_to_front a b input limit p h = reads_to a b input limit p (read_front a b input limit p h)
+
+pub within_limit : (a b : Option (List ℕ)) (input : List ℕ) (limit : ℕ) → Consumes a b input → length input ≤ limit → ReadsWithin limit a b
+within_limit a b input limit p h = record {
+  piece = input;
+  within = h;
+  consumes = p;
+}
+
+-- nothing was read
+pub within_kept : (a b : Option (List ℕ)) (limit : ℕ) → Keeps a b → ReadsWithin limit a b
+within_kept None b limit k = within_limit None b [] limit tt (omega (arith))
+within_kept (Some u) None limit k = absurd k
+within_kept (Some u) (Some v) limit k = within_limit (Some u) (Some v) [] limit (sym k) (omega (arith))
+
+-- one reading within what the one before left of the limit
+pub within_both : (a b c : Option (List ℕ)) (input : List ℕ) (room limit : ℕ) → Consumes a b input → ReadsWithin room b c → length input + room ≤ limit → ReadsWithin limit a c
+within_both a b c input room limit p r h = record {
+  piece = input ++ r.piece;
+  within = omega (arith, h, r.within, length-append input r.piece);
+  consumes = consumes_both a b c input r.piece p r.consumes;
+}

@@ -62,10 +62,6 @@ checked_home z = option_and_then checked_cpu (natural z)
 abbrev pub checked_length : ℤ → Option ℕ
 checked_length z = option_and_then checked_slice (natural z)
 
--- no task begins asleep
-abbrev pub awake : Bool → Option Bool
-awake asleep = if asleep then None else Some asleep
-
 -- the keys of a task
 unfoldable pub home_of : ℕ → Members → Result ℕ LoadFault
 home_of place task = good_at (key.Home place) (option_and_then checked_home (integer_or default_home (get_member (codes "home") task)))
@@ -80,7 +76,7 @@ unfoldable pub start_of : ℕ → Members → Result ℤ LoadFault
 start_of place task = good_at (key.Start place) (integer_or default_start (get_member (codes "start") task))
 
 unfoldable pub asleep_of : ℕ → Members → Result Bool LoadFault
-asleep_of place task = good_at (key.Asleep place) (option_and_then awake (boolean_or false (get_member (codes "asleep") task)))
+asleep_of place task = good_at (key.Asleep place) (boolean_or false (get_member (codes "asleep") task))
 
 -- a task, of which the number is its place
 unfoldable pub task_of : ℕ → Members → Result TaskSpec LoadFault

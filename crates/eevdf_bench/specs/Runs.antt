@@ -13,6 +13,7 @@ use Rattle.eevdf_bench.specs.declared.bench_fault.BenchFault.{BenchFault}
 use Rattle.eevdf_bench.specs.declared.bench_fault.BenchFault.TheVariants.{Load, Memory}
 use Rattle.eevdf_bench.specs.Meaning.{Workload, meaning}
 use Rattle.eevdf_bench.specs.MeaningSteps.{◌>>=◌}
+use Rattle.eevdf_bench.specs.Streams.{HasBegun}
 use Rattle.eevdf_bench.specs.TextReport.{report_text}
 
 -- the report of the history of a list of deeds, of which no request is left
@@ -60,3 +61,9 @@ pub record Writes (answer : Result (List ℕ) LoadFault) (held held' : Option (L
   pub text : List ℕ
   pub answered : answer ≡ Ok text
   pub written : Appends held held' text
+
+-- the text is what is answered, and a beginning of it was written after what was there
+pub record Begins (answer : Result (List ℕ) LoadFault) (held held' : Option (List ℕ)) : Type 0 where
+  pub text : List ℕ
+  pub answered : answer ≡ Ok text
+  pub begun : HasBegun held held' text

@@ -38,6 +38,8 @@ setup_fault_text setup.BadTasks = codes "number of tasks"
 setup_fault_text (setup.BadHome task) = codes "home of " ++ task_text task
 setup_fault_text (setup.BadStart task) = codes "start of " ++ task_text task
 setup_fault_text (setup.TooLong cpu) = program_key cpu ++ codes " too long"
+setup_fault_text (setup.UnknownTask cpu at) = codes "unknown task at " ++ operation_key cpu at
+setup_fault_text (setup.BadPull cpu at) = codes "bad pull at " ++ operation_key cpu at
 setup_fault_text setup.Memory = codes "memory"
 
 abbrev pub load_fault_text : LoadFault → List ℕ

@@ -5,6 +5,7 @@ use Rattle.std.specs.Str.{bytes_eq}
 use Rattle.std.specs.Char.{is_ascii_digit}
 use Rattle.std.specs.Str.Parse.{digits_value}
 use Rattle.eevdf_weight.specs.Limits.{checked_tick}
+use Rattle.eevdf_queue.specs.Numbers.{checked_number}
 use Rattle.eevdf_ops.specs.Numbers.{checked_cpu}
 use Rattle.eevdf_ops.specs.declared.deeds.Op.{Op}
 use Rattle.eevdf_ops.specs.declared.deeds.Op.TheVariants as op
@@ -33,37 +34,70 @@ abbrev pub only_number : List (List ℕ) → Option ℕ
 only_number (word ∷ []) = number word
 only_number _ = None
 
--- the operation with these arguments
-abbrev pub tick_of : List (List ℕ) → Option Op
-tick_of arguments = option_map op.Tick (option_and_then checked_tick (only_number arguments))
+-- the time, the task and the CPU that the only word numbers
+abbrev pub only_time : List (List ℕ) → Option ℕ
+only_time ws = option_and_then checked_tick (only_number ws)
 
-abbrev pub pick_of : List (List ℕ) → Option Op
-pick_of [] = Some op.Pick
-pick_of _ = None
+abbrev pub only_task : List (List ℕ) → Option ℕ
+only_task ws = option_and_then checked_number (only_number ws)
+
+abbrev pub only_cpu : List (List ℕ) → Option ℕ
+only_cpu ws = option_and_then checked_cpu (only_number ws)
+
+-- an operation that nothing follows
+abbrev pub alone : Op → List (List ℕ) → Option Op
+alone o [] = Some o
+alone o _ = None
 
 -- the operation that the first word names, with the other words as its arguments
 abbrev pub operation_of : List ℕ → List (List ℕ) → Option Op
 operation_of verb arguments =
-    if bytes_eq verb (codes "tick") then tick_of arguments
-    else if bytes_eq verb (codes "pick") then pick_of arguments
+    if bytes_eq verb (codes "tick") then option_map op.Tick (only_time arguments)
+    else if bytes_eq verb (codes "pick") then alone op.Pick arguments
+    else if bytes_eq verb (codes "yield") then alone op.Yield arguments
+    else if bytes_eq verb (codes "sleep") then option_map op.Sleep (only_task arguments)
+    else if bytes_eq verb (codes "post") then option_map op.Post (only_task arguments)
+    else if bytes_eq verb (codes "drain") then alone op.Drain arguments
+    else if bytes_eq verb (codes "pull") then option_map op.Pull (only_cpu arguments)
     else None
 
 unfoldable pub operation : List (List ℕ) → Option Op
 operation [] = None
 operation (verb ∷ arguments) = operation_of verb arguments
 
--- the deed that an operation of a CPU is
+-- the deed that an operation of a CPU is; a post and a drain are none
 abbrev pub deed_of : ℕ → Op → Option Deed
 deed_of cpu (op.Tick ns) = Some (deed.Tick cpu ns)
 deed_of cpu op.Pick = Some (deed.Pick cpu)
+deed_of cpu op.Yield = Some (deed.Yield cpu)
+deed_of cpu (op.Sleep task) = Some (deed.Sleep cpu task)
+deed_of cpu (op.Post task) = None
+deed_of cpu op.Drain = None
+deed_of cpu (op.Pull source) = Some (deed.Pull cpu source)
 
--- the CPU that a word numbers
+-- the CPU and the task that a word numbers
 abbrev pub cpu_in : List ℕ → Option ℕ
 cpu_in word = option_and_then checked_cpu (number word)
 
+abbrev pub task_in : List ℕ → Option ℕ
+task_in word = option_and_then checked_number (number word)
+
+-- the CPU that stands after `from`
+abbrev pub sender_of : List (List ℕ) → Option ℕ
+sender_of [] = None
+sender_of (word ∷ ws) = if bytes_eq word (codes "from") then only_cpu ws else None
+
+-- the wake of the task that the first word numbers, by the sender that follows it
+abbrev pub wake_of : ℕ → List (List ℕ) → Option Deed
+wake_of cpu [] = None
+wake_of cpu (word ∷ ws) = option_and_then (λ task. option_map (deed.Wake cpu task) (sender_of ws)) (task_in word)
+
 -- the deed on a CPU that the words after its number name
 abbrev pub deed_on : ℕ → List (List ℕ) → Option Deed
-deed_on cpu ws = option_and_then (deed_of cpu) (operation ws)
+deed_on cpu [] = None
+deed_on cpu (verb ∷ arguments) =
+    if bytes_eq verb (codes "wake") then wake_of cpu arguments
+    else option_and_then (deed_of cpu) (operation_of verb arguments)
 
 unfoldable pub deed_in : List (List ℕ) → Option Deed
 deed_in [] = None

@@ -2,8 +2,8 @@
 
 ghost use Rattle.std.specs.Prelude.{◌≡◌, ◌≢◌, true, false, IfOk, IfErr, IfSome, OnOk, OnErr, Err};
 ghost use Rattle.std.specs.Io.KnownBytes.{Keeps};
-ghost use Rattle.eevdf_bench.specs.Runs.{Answers, LoadsAs, Writes, solo_answer};
-ghost use Rattle.eevdf_bench.specs.Streams.{HasBegun};
+ghost use Rattle.eevdf_bench.specs.Runs.{Answers, Begins, LoadsAs, Writes, solo_answer};
+ghost use Rattle.eevdf_bench.specs.Streams.{HasBegun, ReadsTo, ReadsWithin};
 
 use crate::bench_fault::BenchFault;
 use crate::byte_streams::{read_input, write_text};
@@ -17,8 +17,10 @@ use std::io::{Read, Write};
 
 /// Reads a workload to its end, makes the whole report that the command asks for, and writes it.
 ///
-/// A reader that goes on for more than 16777216 bytes is read to one byte more, and then refused. `Read` comes
-/// only where the reader failed, `Write` only where the writer did. After any fault but `Write` nothing was written.
+/// A reader that goes on for more than 16777216 bytes is read to one byte more, and then refused; it is never read
+/// further. `Read` comes only where the reader failed, `Write` only where the writer did, and `Ok` where neither did.
+/// After a `Write` a beginning of the report was written, and after any other fault nothing. Only `Read` and `Memory`
+/// may come before the workload has been read to its end.
 pub fn engine<R: Read, W: Write>(
     alloc: Global,
     reader: &mut Watched<R>,
@@ -31,6 +33,13 @@ pub fn engine<R: Read, W: Write>(
         Writes (solo_answer input command.history) (W.contents writer.old.end) (W.contents writer.new.end))) }
     ensures load { IfErr result (λ f. IfSome (R.remaining reader.old.end) (λ input.
         LoadsAs (solo_answer input command.history) f)) }
+    ensures begun { result ≡ Err BenchFault.Write → IfSome (R.remaining reader.old.end) (λ input.
+        Begins (solo_answer input command.history) (W.contents writer.old.end) (W.contents writer.new.end)) }
+    ensures consumed { result ≢ Err BenchFault.Read → result ≢ Err BenchFault.Memory →
+        ReadsTo 16777217 (R.remaining reader.old.end) (R.remaining reader.new.end) }
+    ensures limit { ReadsWithin 16777217 (R.remaining reader.old.end) (R.remaining reader.new.end) }
+    ensures read_whole { OnOk result (reader.new.failed ≡ false) }
+    ensures written_whole { OnOk result (writer.new.failed ≡ false) }
     ensures read { result ≡ Err BenchFault.Read → reader.new.failed ≡ true }
     ensures write { result ≡ Err BenchFault.Write → writer.new.failed ≡ true }
     ensures unwritten { IfErr result (λ f. f ≢ BenchFault.Write → Keeps (W.contents writer.old.end) (W.contents writer.new.end)) }

@@ -1,8 +1,8 @@
 //! Reading the whole input, up to a limit, and writing the whole report.
 
-ghost use Rattle.std.specs.Prelude.{◌≡◌, ℕ, ◌+◌, ◌≤◌, ◌<◌, ◌⊎◌, length, take, true, false, vec_len, IfOk, OnOk, IfErr, OnErr, IfSome, Err};
+ghost use Rattle.std.specs.Prelude.{◌≡◌, ℕ, ◌+◌, ◌-◌, ◌≤◌, ◌<◌, ◌⊎◌, length, take, true, false, vec_len, IfOk, OnOk, IfErr, OnErr, IfSome, Err};
 ghost use Rattle.std.specs.Io.KnownBytes.{Appends, Keeps};
-ghost use Rattle.eevdf_bench.specs.Streams.{ReadsOn, HasBegun};
+ghost use Rattle.eevdf_bench.specs.Streams.{ReadsOn, ReadsTo, ReadsWithin, HasBegun};
 
 use crate::bench_fault::BenchFault;
 use crate::watched::Watched;
@@ -12,7 +12,7 @@ use std::io::{Read, Write};
 /// One byte more than a workload may have: enough to see that there are too many.
 const READ_LIMIT: usize = 16777217;
 
-/// Reads to the end, or to one byte past the limit of a workload.
+/// Reads to the end, or to one byte past the limit of a workload, and no further.
 pub(crate) fn read_input<R: Read>(
     alloc: Global,
     reader: &mut Watched<R>,
@@ -20,6 +20,9 @@ pub(crate) fn read_input<R: Read>(
     requires { reader.old.failed ≡ false }
     ensures bytes { IfOk result (λ input. IfSome (R.remaining reader.old.end)
         (λ all. input.items ≡ take 16777217 all)) }
+    ensures consumed { OnOk result (ReadsTo 16777217 (R.remaining reader.old.end) (R.remaining reader.new.end)) }
+    ensures limit { ReadsWithin 16777217 (R.remaining reader.old.end) (R.remaining reader.new.end) }
+    ensures whole { OnOk result (reader.new.failed ≡ false) }
     ensures failed { result ≡ Err BenchFault.Read → reader.new.failed ≡ true }
     ensures kinds { IfErr result (λ f. (f ≡ BenchFault.Read) ⊎ (f ≡ BenchFault.Memory)) }
 {
@@ -40,6 +43,7 @@ fn read_piece<R: Read>(reader: &mut Watched<R>, input: &mut Vec<u8>) -> Result<u
     ensures piece { IfOk result (ReadsOn (R.remaining reader.old.end) (R.remaining reader.new.end)
         input.old.items input.new.items) }
     ensures limit { vec_len input.new ≤ READ_LIMIT }
+    ensures within { ReadsWithin (READ_LIMIT - vec_len input.old) (R.remaining reader.old.end) (R.remaining reader.new.end) }
     ensures grown { IfOk result (λ n. vec_len input.new ≡ vec_len input.old + n) }
     ensures whole { OnOk result (reader.new.failed ≡ false) }
     ensures failed { result ≡ Err BenchFault.Read → reader.new.failed ≡ true }
@@ -62,6 +66,7 @@ pub(crate) fn write_text<W: Write>(writer: &mut Watched<W>, text: &[u8]) -> Resu
     requires { writer.old.failed ≡ false }
     ensures written { OnOk result (Appends (W.contents writer.old.end) (W.contents writer.new.end) text.now) }
     ensures begun { OnErr result (HasBegun (W.contents writer.old.end) (W.contents writer.new.end) text.now) }
+    ensures whole { OnOk result (writer.new.failed ≡ false) }
     ensures failed { OnErr result (writer.new.failed ≡ true) }
     ensures kind { IfErr result (λ f. f ≡ BenchFault.Write) }
 {

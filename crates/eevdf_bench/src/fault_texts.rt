@@ -81,6 +81,10 @@ fn push_setup_fault(text: &mut Vec<u8>, fault: SetupFault) -> Result<(), AllocEr
             push_program_key(text, cpu)?;
             text.extend_from_slice(b" too long")
         }
+        SetupFault::UnknownTask { cpu, at } => {
+            push_at_operation(text, b"unknown task at ", cpu, at)
+        }
+        SetupFault::BadPull { cpu, at } => push_at_operation(text, b"bad pull at ", cpu, at),
         SetupFault::Memory => text.extend_from_slice(b"memory"),
     }
 }
@@ -98,6 +102,19 @@ fn push_operation_key(text: &mut Vec<u8>, cpu: usize, place: usize) -> Result<()
     push_program_key(text, cpu)?;
     text.extend_from_slice(b" at ")?;
     push_number(text, place as u64)
+}
+
+/// Writes an operation's key with words before it.
+fn push_at_operation(
+    text: &mut Vec<u8>,
+    words: &[u8],
+    cpu: usize,
+    place: usize,
+) -> Result<(), AllocError>
+    ensures { OnOk result (text.new.items ≡ text.old.items ++ (words.now ++ operation_key cpu place)) }
+{
+    text.extend_from_slice(words)?;
+    push_operation_key(text, cpu, place)
 }
 
 /// Writes a task's key with a word after it.
@@ -202,6 +219,16 @@ mod tests {
                 BenchFault::Load(LoadFault::Setup(SetupFault::TooLong { cpu: 1 })),
                 1,
                 "fault: program 1 too long\n",
+            ),
+            (
+                BenchFault::Load(LoadFault::Setup(SetupFault::UnknownTask { cpu: 1, at: 20 })),
+                1,
+                "fault: unknown task at program 1 at 20\n",
+            ),
+            (
+                BenchFault::Load(LoadFault::Setup(SetupFault::BadPull { cpu: 15, at: 0 })),
+                1,
+                "fault: bad pull at program 15 at 0\n",
             ),
             (
                 BenchFault::Load(LoadFault::Setup(SetupFault::Memory)),

@@ -4,6 +4,8 @@ ghost use Rattle.eevdf_bench.specs.Meaning.{allowed, allowed_from, document_of, 
 ghost use Rattle.eevdf_bench.specs.MeaningSteps.{Reads};
 ghost use Rattle.toml.specs.View.{table_view};
 
+mod argument_words;
+mod deed_text;
 mod document_keys;
 mod no_memory;
 mod number_text;
@@ -128,6 +130,40 @@ mod tests {
             key: Key::Script(0),
         };
         assert_eq!(rt; fault_of(alloc, deed), Some(bad_deed));
+        Ok(())
+    }
+
+    #[test]
+    fn operations_name_tasks_and_cpus_of_the_setup(rt: HostRuntime) -> Result<(), Fail> {
+        let alloc = rt.alloc();
+        let sleep = b"version = 1\nprogram = [[], [\"drain\", \"sleep 1\"]]\n[[task]]\n";
+        let unknown = LoadFault::Setup(SetupFault::UnknownTask { cpu: 1, at: 1 });
+        assert_eq!(rt; fault_of(alloc, sleep), Some(unknown));
+        let own = b"version = 1\nprogram = [[], [\"pull 1\"]]\n[[task]]\n";
+        let bad_pull = LoadFault::Setup(SetupFault::BadPull { cpu: 1, at: 0 });
+        assert_eq!(rt; fault_of(alloc, own), Some(bad_pull));
+        Ok(())
+    }
+
+    #[test]
+    fn a_task_wakes_at_its_home(rt: HostRuntime) -> Result<(), Fail> {
+        let alloc = rt.alloc();
+        let wake =
+            b"version = 1\nprogram = [[], []]\nscript = [\"1 wake 0 from 0\", \"0 wake 0 from 0\"]\n[[task]]\nhome = 1\nasleep = true\n";
+        let elsewhere = LoadFault::BadValue {
+            key: Key::Script(1),
+        };
+        assert_eq!(rt; fault_of(alloc, wake), Some(elsewhere));
+        let sender = b"version = 1\nprogram = [[]]\nscript = [\"0 wake 0 from 1\"]\n[[task]]\n";
+        let no_cpu = LoadFault::BadValue {
+            key: Key::Script(0),
+        };
+        assert_eq!(rt; fault_of(alloc, sender), Some(no_cpu));
+        let asleep = b"version = 1\nprogram = [[]]\n[[task]]\nasleep = 1\n";
+        let bad_asleep = LoadFault::BadValue {
+            key: Key::Asleep(0),
+        };
+        assert_eq!(rt; fault_of(alloc, asleep), Some(bad_asleep));
         Ok(())
     }
 

@@ -14,6 +14,17 @@ pub fn operation_is_its_text(text: &str, op: Op)
             let _within = ns.get();
         }
         Op::Pick => {}
+        Op::Yield => {}
+        Op::Sleep(task) => {
+            let _below = task.get();
+        }
+        Op::Post(task) => {
+            let _below = task.get();
+        }
+        Op::Drain => {}
+        Op::Pull(source) => {
+            let _below = source.get();
+        }
     }
 }
 
@@ -27,7 +38,23 @@ pub fn deed_is_its_text(text: &str, deed: Deed)
             let _within = ns.get();
         }
         Deed::Pick { cpu } => {
-            let _number = cpu.get();
+            let _below = cpu.get();
+        }
+        Deed::Yield { cpu } => {
+            let _below = cpu.get();
+        }
+        Deed::Sleep { cpu, task } => {
+            let _below = cpu.get();
+            let _known = task.get();
+        }
+        Deed::Wake { cpu, task, sender } => {
+            let _below = cpu.get();
+            let _known = task.get();
+            let _sends = sender.get();
+        }
+        Deed::Pull { cpu, source } => {
+            let _below = cpu.get();
+            let _pulled = source.get();
         }
     }
 }

@@ -1,8 +1,8 @@
-ghost use Rattle.std.specs.Prelude.{◌≡◌, ◌++◌, OnOk, codes};
+ghost use Rattle.std.specs.Prelude.{◌≡◌, ◌++◌, OnOk, codes, decimal};
 ghost use Rattle.eevdf_bench.specs.TextDeed.{deed_text, answer_text, resched_text, schedule_line, script_line};
 ghost use Rattle.eevdf_bench.specs.TextDeed as texts;
 
-use crate::text_numbers::push_number;
+use crate::text_numbers::{push_number, push_signed};
 use eevdf_ops::{Answer, CpuId, Deed, Line};
 use std::alloc::AllocError;
 
@@ -13,6 +13,10 @@ pub(crate) fn cpu_of(deed: Deed) -> CpuId
     match deed {
         Deed::Tick { cpu, .. } => cpu,
         Deed::Pick { cpu } => cpu,
+        Deed::Yield { cpu } => cpu,
+        Deed::Sleep { cpu, .. } => cpu,
+        Deed::Wake { cpu, .. } => cpu,
+        Deed::Pull { cpu, .. } => cpu,
     }
 }
 
@@ -20,12 +24,24 @@ pub(crate) fn push_deed(text: &mut Vec<u8>, deed: Deed) -> Result<(), AllocError
     ensures { OnOk result (text.new.items ≡ text.old.items ++ deed_text deed) }
 {
     match deed {
-        Deed::Tick { ns, .. } => {
-            text.extend_from_slice(b"tick ")?;
-            push_number(text, ns.get())
-        }
+        Deed::Tick { ns, .. } => push_with_number(text, b"tick ", ns.get()),
         Deed::Pick { .. } => text.extend_from_slice(b"pick"),
+        Deed::Yield { .. } => text.extend_from_slice(b"yield"),
+        Deed::Sleep { task, .. } => push_with_number(text, b"sleep ", task.get()),
+        Deed::Wake { task, sender, .. } => {
+            push_with_number(text, b"wake ", task.get())?;
+            push_with_number(text, b" from ", sender.get())
+        }
+        Deed::Pull { source, .. } => push_with_number(text, b"pull ", source.get()),
     }
+}
+
+/// Writes a word with a number after it.
+fn push_with_number(text: &mut Vec<u8>, word: &[u8], number: u64) -> Result<(), AllocError>
+    ensures { OnOk result (text.new.items ≡ text.old.items ++ (word.now ++ decimal number)) }
+{
+    text.extend_from_slice(word)?;
+    push_number(text, number)
 }
 
 fn push_resched(text: &mut Vec<u8>, resched: bool) -> Result<(), AllocError>
@@ -43,15 +59,22 @@ pub(crate) fn push_answer(text: &mut Vec<u8>, answer: Answer) -> Result<(), Allo
 {
     match answer {
         Answer::Charged { task, resched } => {
-            text.extend_from_slice(b"charged ")?;
-            push_number(text, task.get())?;
+            push_with_number(text, b"charged ", task.get())?;
             push_resched(text, resched)
         }
-        Answer::Picked(task) => {
-            text.extend_from_slice(b"picked ")?;
-            push_number(text, task.get())
-        }
+        Answer::Picked(task) => push_with_number(text, b"picked ", task.get()),
         Answer::Idle => text.extend_from_slice(b"idle"),
+        Answer::Yielded => text.extend_from_slice(b"yielded"),
+        Answer::Slept(lag) => {
+            text.extend_from_slice(b"slept ")?;
+            push_signed(text, lag)
+        }
+        Answer::NotRunning => text.extend_from_slice(b"not running"),
+        Answer::Woken => text.extend_from_slice(b"woken"),
+        Answer::Awake => text.extend_from_slice(b"awake"),
+        Answer::Pulled(task) => push_with_number(text, b"pulled ", task.get()),
+        Answer::Balanced => text.extend_from_slice(b"balanced"),
+        Answer::Nothing => text.extend_from_slice(b"nothing"),
         Answer::Range => text.extend_from_slice(b"range"),
     }
 }
@@ -82,29 +105,145 @@ mod tests {
     use super::*;
     use eevdf_queue::TaskId;
     use eevdf_weight::Ns;
+    use std::alloc::Global;
     use std::process::Abort;
     use std::test::Fail;
 
-    fn charged(rt: &impl Abort) -> Line {
-        let cpu = CpuId::new(11).expect(rt, "a CPU");
-        let ns = Ns::new(3000000).expect(rt, "a time");
-        let task = TaskId::new(1023).expect(rt, "a task");
-        Line {
-            deed: Deed::Tick { cpu, ns },
-            answer: Answer::Charged {
-                task,
-                resched: true,
-            },
+    // Whether a deed with its answer prints as this line of a schedule and this line of a script.
+    fn prints(alloc: Global, line: &Line, want: &[u8]) -> Result<bool, AllocError> {
+        let mut text = Vec::new(alloc);
+        push_schedule_line(&mut text, *line)?;
+        push_script_line(&mut text, *line)?;
+        Ok(text.as_slice() == want)
+    }
+
+    fn task(rt: &impl Abort) -> TaskId {
+        TaskId::new(1023).expect(rt, "a task")
+    }
+
+    fn cpu(rt: &impl Abort, number: u64) -> CpuId {
+        CpuId::new(number).expect(rt, "a CPU")
+    }
+
+    fn tick(rt: &impl Abort) -> Deed {
+        Deed::Tick {
+            cpu: cpu(rt, 11),
+            ns: Ns::new(3000000).expect(rt, "a time"),
+        }
+    }
+
+    fn sleep(rt: &impl Abort) -> Deed {
+        Deed::Sleep {
+            cpu: cpu(rt, 11),
+            task: task(rt),
+        }
+    }
+
+    fn wake(rt: &impl Abort) -> Deed {
+        Deed::Wake {
+            cpu: cpu(rt, 11),
+            task: task(rt),
+            sender: cpu(rt, 2),
+        }
+    }
+
+    fn pull(rt: &impl Abort) -> Deed {
+        Deed::Pull {
+            cpu: cpu(rt, 11),
+            source: cpu(rt, 2),
         }
     }
 
     #[test]
-    fn one_line_in_a_schedule_and_in_a_script(rt: HostRuntime) -> Result<(), Fail> {
-        let mut text = Vec::new(rt.alloc());
-        push_schedule_line(&mut text, charged(&rt))?;
-        push_script_line(&mut text, charged(&rt))?;
-        let want = "tick 3000000: charged 1023 resched\n\"11 tick 3000000\",\n";
-        assert!(rt; text.as_slice() == want.as_bytes());
+    fn deeds_on_the_running_task(rt: HostRuntime) -> Result<(), Fail> {
+        let cases = [
+            (
+                Line {
+                    deed: tick(&rt),
+                    answer: Answer::Charged {
+                        task: task(&rt),
+                        resched: true,
+                    },
+                },
+                "tick 3000000: charged 1023 resched\n\"11 tick 3000000\",\n",
+            ),
+            (
+                Line {
+                    deed: Deed::Pick { cpu: cpu(&rt, 11) },
+                    answer: Answer::Picked(task(&rt)),
+                },
+                "pick: picked 1023\n\"11 pick\",\n",
+            ),
+            (
+                Line {
+                    deed: Deed::Yield { cpu: cpu(&rt, 11) },
+                    answer: Answer::Yielded,
+                },
+                "yield: yielded\n\"11 yield\",\n",
+            ),
+            (
+                Line {
+                    deed: sleep(&rt),
+                    answer: Answer::Slept(-200000),
+                },
+                "sleep 1023: slept -200000\n\"11 sleep 1023\",\n",
+            ),
+            (
+                Line {
+                    deed: sleep(&rt),
+                    answer: Answer::NotRunning,
+                },
+                "sleep 1023: not running\n\"11 sleep 1023\",\n",
+            ),
+        ];
+        for (line, want) in cases {
+            assert!(rt; prints(rt.alloc(), &line, want.as_bytes())?, "{want}");
+        }
+        Ok(())
+    }
+
+    #[test]
+    fn deeds_on_other_tasks(rt: HostRuntime) -> Result<(), Fail> {
+        let cases = [
+            (
+                Line {
+                    deed: wake(&rt),
+                    answer: Answer::Woken,
+                },
+                "wake 1023 from 2: woken\n\"11 wake 1023 from 2\",\n",
+            ),
+            (
+                Line {
+                    deed: wake(&rt),
+                    answer: Answer::Awake,
+                },
+                "wake 1023 from 2: awake\n\"11 wake 1023 from 2\",\n",
+            ),
+            (
+                Line {
+                    deed: pull(&rt),
+                    answer: Answer::Pulled(task(&rt)),
+                },
+                "pull 2: pulled 1023\n\"11 pull 2\",\n",
+            ),
+            (
+                Line {
+                    deed: pull(&rt),
+                    answer: Answer::Balanced,
+                },
+                "pull 2: balanced\n\"11 pull 2\",\n",
+            ),
+            (
+                Line {
+                    deed: pull(&rt),
+                    answer: Answer::Nothing,
+                },
+                "pull 2: nothing\n\"11 pull 2\",\n",
+            ),
+        ];
+        for (line, want) in cases {
+            assert!(rt; prints(rt.alloc(), &line, want.as_bytes())?, "{want}");
+        }
         Ok(())
     }
 }

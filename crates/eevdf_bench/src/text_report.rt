@@ -60,3 +60,51 @@ fn push_left_of(text: &mut Vec<u8>, outcome: &Outcome, home: usize) -> Result<()
     }
     Ok(())
 }
+
+#[cfg(test)]
+mod tests {
+    use super::*;
+    use crate::reading::read_workload;
+    use eevdf_ops::{Answer, CpuId, Deed, Solo};
+    use eevdf_queue::TaskId;
+    use std::test::Fail;
+
+    const TWO_CPUS: &[u8] =
+        b"version = 1\nprogram = [[], []]\n[[task]]\nstart = -1\n[[task]]\nhome = 1\nasleep = true\n[[task]]\nhome = 1\n";
+
+    const REPORT: &[u8] =
+        b"cpu 0\npull 1: nothing\nload 1024 floor -1\ntask 0 v -1 d 2999999 lag 0\nleft 2 from 1\nleft 1 from 1\n\
+        cpu 1\npick: idle\nload 1024 floor 0\ntask 2 v 0 d 3000000 lag 0\nasleep 1 lag 0\nleft 0 from 0\n\
+        script = [\n\"1 pick\",\n\"0 pull 1\",\n]\n";
+
+    #[test]
+    fn two_cpus_with_requests_left(rt: HostRuntime) -> Result<(), Fail> {
+        let alloc = rt.alloc();
+        let workload = read_workload(alloc, TWO_CPUS).map_err(|_| Fail::from("refused"))?;
+        let queues = Solo::open(alloc, workload.setup())?.into_queues();
+        let cpu = CpuId::new(0).expect(&rt, "a CPU");
+        let other = CpuId::new(1).expect(&rt, "a CPU");
+        let pick = Line {
+            deed: Deed::Pick { cpu: other },
+            answer: Answer::Idle,
+        };
+        let pull = Line {
+            deed: Deed::Pull { cpu, source: other },
+            answer: Answer::Nothing,
+        };
+        let first = TaskId::new(0).expect(&rt, "a task");
+        let second = TaskId::new(1).expect(&rt, "a task");
+        let third = TaskId::new(2).expect(&rt, "a task");
+        let lines = vec![in alloc; pick, pull]?;
+        let mut left = Vec::new(alloc);
+        left.push(Vec::new(alloc))?;
+        left.push(vec![in alloc; first]?)?;
+        left.push(vec![in alloc; third, second]?)?;
+        left.push(Vec::new(alloc))?;
+        assert!(rt; left.len() == queues.len() * queues.len());
+        let outcome = Outcome::of(lines, queues, left);
+        let text = report(alloc, &outcome, true)?;
+        assert!(rt; text.as_slice() == REPORT);
+        Ok(())
+    }
+}

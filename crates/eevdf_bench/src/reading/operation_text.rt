@@ -1,77 +1,86 @@
-ghost use Rattle.std.specs.Prelude.{◌≡◌, option_and_then};
-ghost use Rattle.eevdf_bench.specs.Words.{cpu_in, deed_in, deed_of, deed_on, fitting, only_number, operation, pick_of, tick_of, words};
+ghost use Rattle.std.specs.Prelude.{◌≡◌};
+ghost use Rattle.eevdf_bench.specs.Words.{alone, operation, operation_of, words};
 
-use crate::reading::number_text::number;
+use crate::reading::argument_words::{only_cpu, only_task, only_time};
 use crate::reading::word_list::Words;
-use eevdf_ops::{CpuId, Deed, Op};
-use eevdf_weight::Ns;
+use eevdf_ops::Op;
 
 /// The operation that a text is.
+#[tactic(auto, unfolding(crate::specs::Words::operation))]
 pub(crate) fn operation(text: &str) -> Option<Op>
     ensures { result ≡ operation (words text.now) }
 {
-    named_operation(Words::new(text))
-}
-
-/// The deed that a text is: the number of a CPU, and what it does.
-#[tactic(auto, unfolding(crate::specs::Words::deed_in))]
-pub(crate) fn deed(text: &str) -> Option<Deed>
-    ensures { result ≡ deed_in (words text.now) }
-{
     let mut words = Words::new(text);
-    let cpu = cpu(words.next()?)?;
-    deed_on(cpu, words)
+    let verb = words.next()?;
+    operation_of(verb, words)
 }
 
-fn deed_on(cpu: CpuId, words: Words) -> Option<Deed>
-    ensures { result ≡ deed_on cpu words.entry }
+/// The operation that a word names, with the words after it as its arguments.
+pub(crate) fn operation_of(verb: &str, arguments: Words) -> Option<Op>
+    ensures { result ≡ operation_of verb.now arguments.entry }
 {
-    match named_operation(words)? {
-        Op::Tick(ns) => Some(Deed::Tick { cpu, ns }),
-        Op::Pick => Some(Deed::Pick { cpu }),
-    }
-}
-
-#[tactic(auto, unfolding(crate::specs::Words::operation))]
-fn named_operation(mut words: Words) -> Option<Op>
-    ensures { result ≡ operation words.entry }
-{
-    match words.next()? {
-        "tick" => tick(words),
-        "pick" => pick(words),
+    match verb {
+        "tick" => Some(Op::Tick(only_time(arguments)?)),
+        "pick" => alone(Op::Pick, arguments),
+        "yield" => alone(Op::Yield, arguments),
+        "sleep" => Some(Op::Sleep(only_task(arguments)?)),
+        "post" => Some(Op::Post(only_task(arguments)?)),
+        "drain" => alone(Op::Drain, arguments),
+        "pull" => Some(Op::Pull(only_cpu(arguments)?)),
         _ => None,
     }
 }
 
-fn tick(arguments: Words) -> Option<Op>
-    ensures { result ≡ tick_of arguments.entry }
-{
-    let ns = Ns::new(only_number(arguments)?)?;
-    Some(Op::Tick(ns))
-}
-
-fn pick(mut arguments: Words) -> Option<Op>
-    ensures { result ≡ pick_of arguments.entry }
+// An operation that nothing follows.
+fn alone(op: Op, mut arguments: Words) -> Option<Op>
+    ensures { result ≡ alone op arguments.entry }
 {
     match arguments.next() {
-        None => Some(Op::Pick),
+        None => Some(op),
         Some(_) => None,
     }
 }
 
-fn cpu(word: &str) -> Option<CpuId>
-    ensures { result ≡ cpu_in word.now }
-{
-    CpuId::new(number(word)?)
-}
+#[cfg(test)]
+mod tests {
+    use super::*;
+    use eevdf_ops::CpuId;
+    use eevdf_queue::TaskId;
 
-// The number that is the only word.
-fn only_number(mut words: Words) -> Option<u64>
-    ensures { result ≡ option_and_then fitting (only_number words.entry) }
-{
-    let word = words.next()?;
-    match words.next() {
-        None => number(word),
-        Some(_) => None,
+    #[test]
+    fn operations_are_read(rt: HostRuntime) {
+        let task = TaskId::new(1023).expect(&rt, "a task");
+        let cpu = CpuId::new(15).expect(&rt, "a CPU");
+        assert_eq!(rt; operation("pick"), Some(Op::Pick));
+        assert_eq!(rt; operation("yield"), Some(Op::Yield));
+        assert_eq!(rt; operation("sleep 1023"), Some(Op::Sleep(task)));
+        assert_eq!(rt; operation("post 1023"), Some(Op::Post(task)));
+        assert_eq!(rt; operation("drain"), Some(Op::Drain));
+        assert_eq!(rt; operation("pull 15"), Some(Op::Pull(cpu)));
+    }
+
+    #[test]
+    fn other_texts_are_no_operations(rt: HostRuntime) {
+        let texts = [
+            "",
+            "tick",
+            "tick 0",
+            "tick 1000000001",
+            "tick 01",
+            "tick 5 ",
+            "yield 1",
+            "sleep 1024",
+            "sleep",
+            "post -1",
+            "post 1 2",
+            "drain ",
+            "pull 16",
+            "pull  1",
+            "wake 0 from 1",
+            "Pick",
+        ];
+        for text in texts {
+            assert!(rt; operation(text).is_none(), "{text}");
+        }
     }
 }

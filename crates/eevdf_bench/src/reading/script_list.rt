@@ -4,8 +4,8 @@ ghost use Rattle.eevdf_bench.specs.MeaningSteps.{each, Reads};
 ghost use Rattle.toml.specs.View.{items_view, table_view, view};
 
 use crate::load_fault::{Key, LoadFault};
+use crate::reading::deed_text::deed;
 use crate::reading::document_keys::{array_at, member};
-use crate::reading::operation_text::deed;
 use eevdf_ops::Deed;
 use std::alloc::Global;
 use toml::{Table, Value};

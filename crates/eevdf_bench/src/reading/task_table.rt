@@ -105,10 +105,7 @@ fn start_of(place: usize, task: &Table) -> Result<i64, LoadFault>
 fn asleep_of(place: usize, task: &Table) -> Result<bool, LoadFault>
     ensures { result ≡ asleep_of place (table_view task.now) }
 {
-    match boolean_or(task, "asleep", false) {
-        Some(false) => Ok(false),
-        _ => Err(LoadFault::BadValue {
-            key: Key::Asleep(place),
-        }),
-    }
+    boolean_or(task, "asleep", false).ok_or(LoadFault::BadValue {
+        key: Key::Asleep(place),
+    })
 }

@@ -1,0 +1,54 @@
+ghost use Rattle.std.specs.Prelude.{◌≡◌, option_and_then};
+ghost use Rattle.eevdf_bench.specs.Words.{cpu_in, fitting, only_cpu, only_number, only_task, only_time, task_in};
+
+use crate::reading::number_text::number;
+use crate::reading::word_list::Words;
+use eevdf_ops::CpuId;
+use eevdf_queue::TaskId;
+use eevdf_weight::Ns;
+
+/// The CPU that a word numbers.
+pub(crate) fn cpu(word: &str) -> Option<CpuId>
+    ensures { result ≡ cpu_in word.now }
+{
+    CpuId::new(number(word)?)
+}
+
+/// The task that a word numbers.
+pub(crate) fn task(word: &str) -> Option<TaskId>
+    ensures { result ≡ task_in word.now }
+{
+    TaskId::new(number(word)?)
+}
+
+/// The CPU that the only word numbers.
+pub(crate) fn only_cpu(words: Words) -> Option<CpuId>
+    ensures { result ≡ only_cpu words.entry }
+{
+    CpuId::new(only_number(words)?)
+}
+
+/// The task that the only word numbers.
+pub(crate) fn only_task(words: Words) -> Option<TaskId>
+    ensures { result ≡ only_task words.entry }
+{
+    TaskId::new(only_number(words)?)
+}
+
+/// The length of a tick that the only word numbers.
+pub(crate) fn only_time(words: Words) -> Option<Ns>
+    ensures { result ≡ only_time words.entry }
+{
+    Ns::new(only_number(words)?)
+}
+
+// The number that is the only word.
+fn only_number(mut words: Words) -> Option<u64>
+    ensures { result ≡ option_and_then fitting (only_number words.entry) }
+{
+    let word = words.next()?;
+    match words.next() {
+        None => number(word),
+        Some(_) => None,
+    }
+}
