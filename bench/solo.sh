@@ -1,38 +1,72 @@
 #!/usr/bin/env bash
-# Times the workbench on one CPU: 1024 tasks of mixed nice levels and slices, a script of 160000 ticks and
-# picks. Prints wall time, deeds per second and the greatest resident memory. No proof speaks of any of it.
+# Times the workbench in one thread: 1024 tasks of mixed nice levels and slices on 16 CPUs, an eighth of them asleep
+# at first, and a script of 160000 deeds of all kinds. Prints wall time, deeds per second, the greatest resident
+# memory, and how often each answer was given. No proof speaks of any of it.
 set -eu
 cd "$(dirname "$0")/.."
 tasks=${1:-1024}
 deeds=${2:-160000}
+cpus=${3:-16}
 
 workload=$(mktemp)
-trap 'rm -f "$workload" "$workload.time"' EXIT
-awk -v tasks="$tasks" -v deeds="$deeds" 'BEGIN {
+trap 'rm -f "$workload" "$workload.time" "$workload.report" "$workload.refused"' EXIT
+awk -v tasks="$tasks" -v deeds="$deeds" -v cpus="$cpus" '
+function random(n) {
+  seed = (seed * 1103515245 + 12345) % 2147483648
+  return int(seed / 256) % n
+}
+BEGIN {
   seed = 12345
+  for (t = 0; t < tasks; t++) {
+    nice[t] = random(40) - 20
+    # heavy tasks run most, so these are the ones that are told to sleep and to wake
+    if (nice[t] < -15 || t < cpus) heavy[t % cpus, count[t % cpus]++] = t
+  }
   print "version = 1"
-  print "program = [[]]"
+  printf "program = ["
+  for (c = 0; c < cpus; c++) printf "%s[]", (c ? ", " : "")
+  print "]"
   print "script = ["
   for (i = 0; i < deeds; i++) {
-    seed = (seed * 1103515245 + 12345) % 2147483648
-    if (i % 2 == 0) print "\"0 pick\","; else print "\"0 tick " (1 + seed % 4000000) "\","
+    c = random(cpus)
+    kind = random(100)
+    if (kind < 30) deed = "pick"
+    else if (kind < 60) deed = "tick " (1 + random(4000000))
+    else if (kind < 65) deed = "yield"
+    else if (kind < 85) deed = "sleep " heavy[c, random(count[c])]
+    else if (kind < 95 || cpus == 1) deed = "wake " heavy[c, random(count[c])] " from " random(cpus)
+    else deed = "pull " ((c + 1 + random(cpus - 1)) % cpus)
+    print "\"" c " " deed "\","
   }
   print "]"
   for (t = 0; t < tasks; t++) {
-    seed = (seed * 1103515245 + 12345) % 2147483648
-    nice = int(seed / 65536) % 40 - 20
-    seed = (seed * 1103515245 + 12345) % 2147483648
-    slice = 100000 + int(seed / 256) % 9900000
     print "[[task]]"
-    print "nice = " nice
-    print "slice = " slice
+    print "home = " (t % cpus)
+    print "nice = " nice[t]
+    print "slice = " (100000 + random(9900000))
+    if (random(8) == 0) print "asleep = true"
   }
 }' >"$workload"
 
 ./eevdf solo <examples/two-tasks.toml >/dev/null
+program=crates/eevdf/out/eevdf
+
+seconds() {
+  awk -v start="$1" -v end="$(date +%s.%N)" 'BEGIN { printf "%.3f", end - start }'
+}
+
 start=$(date +%s.%N)
-/usr/bin/env time -f '%M' -o "$workload.time" crates/eevdf/out/eevdf solo <"$workload" >/dev/null
-end=$(date +%s.%N)
-awk -v start="$start" -v end="$end" -v deeds="$deeds" -v kib="$(tail -n 1 "$workload.time")" 'BEGIN {
-  printf "%.2f s, %d deeds a second, %d MiB resident at most\n", end - start, deeds / (end - start), kib / 1024
+/usr/bin/env time -f '%M' -o "$workload.time" "$program" solo <"$workload" >"$workload.report"
+whole=$(seconds "$start")
+
+# a pull from its own CPU in place of the last deed is refused after the last step of reading
+tac "$workload" | sed '0,/^"[0-9]* [a-z].*",$/s//"0 pull 0",/' | tac >"$workload.refused"
+start=$(date +%s.%N)
+"$program" solo <"$workload.refused" >/dev/null || true
+reading=$(seconds "$start")
+
+awk -v whole="$whole" -v reading="$reading" -v deeds="$deeds" -v kib="$(tail -n 1 "$workload.time")" 'BEGIN {
+  printf "%.2f s, %d deeds a second, %d MiB resident at most\n", whole, deeds / whole, kib / 1024
+  printf "reading alone %.2f s\n", reading
 }'
+sed -n 's/^[a-z0-9 ]*: //p' "$workload.report" | sed 's/ -\{0,1\}[0-9]\{1,\}//' | sort | uniq -c

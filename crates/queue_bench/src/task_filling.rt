@@ -1,0 +1,24 @@
+ghost use Rattle.std.specs.Prelude.{◌≤◌};
+
+use crate::draws::Draws;
+use eevdf_queue::{Parcel, Queue, TaskId};
+use std::alloc::{AllocError, Global};
+
+/// Admits tasks of mixed nice levels and slices, numbered from 0.
+pub fn fill(
+    alloc: Global,
+    queue: &mut Queue,
+    draws: &mut Draws,
+    tasks: u64,
+) -> Result<(), AllocError>
+    requires { tasks ≤ 1024 }
+{
+    for number in 0..tasks {
+        let task = TaskId::new(number).unwrap();
+        let parcel = Parcel::make(alloc, task, draws.nice(), draws.slice(), draws.start())?;
+        if queue.entry(task).is_none() && !queue.asleep(task) {
+            let _ = queue.admit(parcel);
+        }
+    }
+    Ok(())
+}
