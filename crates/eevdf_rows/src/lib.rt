@@ -3,10 +3,18 @@
 #![tactic(auto)]
 
 #[cfg(test)]
+mod ample_memory;
+#[cfg(test)]
+mod broken_ends;
+#[cfg(test)]
 mod calls;
+#[cfg(test)]
+mod interleavings;
 #[cfg(test)]
 mod refusals;
 #[cfg(test)]
 mod schedules;
+#[cfg(test)]
+mod several_cpus;
 #[cfg(test)]
 mod table;

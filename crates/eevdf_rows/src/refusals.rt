@@ -9,7 +9,7 @@ const SOLO: Command = Command {
     history: false,
 };
 
-const ROWS: [Row; 12] = [
+const ROWS: [Row; 20] = [
     Row {
         name: "nothing at all",
         command: SOLO,
@@ -88,10 +88,66 @@ const ROWS: [Row; 12] = [
         status: 1,
     },
     Row {
-        name: "two programs, for now",
+        name: "no CPU at all",
         command: SOLO,
-        workload: b"version = 1\nprogram = [[], []]\nscript = []\n[[task]]\n",
+        workload: b"version = 1\nprogram = []\nscript = []\n[[task]]\n",
         printed: "fault: number of cpus\n",
+        status: 1,
+    },
+    Row {
+        name: "seventeen CPUs",
+        command: SOLO,
+        workload: b"version = 1\nprogram = [[], [], [], [], [], [], [], [], [], [], [], [], [], [], [], [], []]\nscript = []\n[[task]]\n",
+        printed: "fault: number of cpus\n",
+        status: 1,
+    },
+    Row {
+        name: "a pull from its own CPU",
+        command: SOLO,
+        workload: b"version = 1\nprogram = [[\"pull 0\"]]\n[[task]]\n",
+        printed: "fault: bad pull at program 0 at 0\n",
+        status: 1,
+    },
+    Row {
+        name: "a pull from no CPU",
+        command: SOLO,
+        workload: b"version = 1\nprogram = [[], [\"pick\", \"pull 2\"]]\n[[task]]\n",
+        printed: "fault: bad pull at program 1 at 1\n",
+        status: 1,
+    },
+    Row {
+        name: "a program that names no task",
+        command: SOLO,
+        workload: b"version = 1\nprogram = [[\"post 0\", \"sleep 1\"]]\n[[task]]\n",
+        printed: "fault: unknown task at program 0 at 1\n",
+        status: 1,
+    },
+    Row {
+        name: "a wake away from the task's home",
+        command: SOLO,
+        workload: b"version = 1\nprogram = [[], []]\nscript = [\"1 wake 0 from 0\"]\n[[task]]\n",
+        printed: "fault: bad value at script at 0\n",
+        status: 1,
+    },
+    Row {
+        name: "a deed that pulls from its own CPU",
+        command: SOLO,
+        workload: b"version = 1\nprogram = [[], []]\nscript = [\"1 pull 1\"]\n[[task]]\n",
+        printed: "fault: bad value at script at 0\n",
+        status: 1,
+    },
+    Row {
+        name: "a wake from no CPU",
+        command: SOLO,
+        workload: b"version = 1\nprogram = [[]]\nscript = [\"0 pick\", \"0 wake 0 from 1\"]\n[[task]]\n",
+        printed: "fault: bad value at script at 1\n",
+        status: 1,
+    },
+    Row {
+        name: "a post as a deed",
+        command: SOLO,
+        workload: b"version = 1\nprogram = [[]]\nscript = [\"0 post 0\"]\n[[task]]\n",
+        printed: "fault: bad value at script at 0\n",
         status: 1,
     },
 ];

@@ -9,7 +9,7 @@ const SOLO: Command = Command {
     history: false,
 };
 
-const ROWS: [Row; 8] = [
+const ROWS: [Row; 16] = [
     Row {
         name: "two tasks take turns",
         command: SOLO,
@@ -41,8 +41,8 @@ const ROWS: [Row; 8] = [
     Row {
         name: "the range is kept at its end",
         command: SOLO,
-        workload: b"version = 1\nprogram = [[]]\nscript = [\"0 pick\", \"0 tick 99998\", \"0 tick 1\", \"0 tick 1\", \"0 tick 1000\"]\n[[task]]\nstart = 1152921504606746976\nslice = 100000\n",
-        printed: "cpu 0\npick: picked 0\ntick 99998: charged 0\ntick 1: charged 0\ntick 1: range\ntick 1000: range\nload 1024 floor 1152921504606846975\ntask 0 v 1152921504606846975 d 1152921504606846976 lag 0 running\n",
+        workload: b"version = 1\nprogram = [[]]\nscript = [\"0 pick\", \"0 tick 99998\", \"0 tick 1\", \"0 tick 1\", \"0 tick 1000\", \"0 yield\"]\n[[task]]\nstart = 1152921504606746976\nslice = 100000\n",
+        printed: "cpu 0\npick: picked 0\ntick 99998: charged 0\ntick 1: charged 0\ntick 1: range\ntick 1000: range\nyield: range\nload 1024 floor 1152921504606846975\ntask 0 v 1152921504606846975 d 1152921504606846976 lag 0 running\n",
         status: 0,
     },
     Row {
@@ -64,6 +64,62 @@ const ROWS: [Row; 8] = [
         command: SOLO,
         workload: b"version = 1\nprogram = [[]]\nscript = []\norder = 7\ncolour = \"red\"\n[[task]]\nshape = [1, 2]\n",
         printed: "cpu 0\nload 1024 floor 0\ntask 0 v 0 d 3000000 lag 0\n",
+        status: 0,
+    },
+    Row {
+        name: "a sleeping task is neither picked nor charged",
+        command: SOLO,
+        workload: b"version = 1\nprogram = [[]]\nscript = [\"0 pick\", \"0 tick 1\", \"0 yield\"]\n[[task]]\nasleep = true\n",
+        printed: "cpu 0\npick: idle\ntick 1: idle\nyield: idle\nload 0 floor 0\nasleep 0 lag 0\n",
+        status: 0,
+    },
+    Row {
+        name: "a task that has run ahead sleeps and wakes with the lag that it had",
+        command: SOLO,
+        workload: b"version = 1\nprogram = [[]]\nscript = [\"0 pick\", \"0 tick 3000000\", \"0 sleep 0\", \"0 wake 0 from 0\"]\n[[task]]\n[[task]]\n",
+        printed: "cpu 0\npick: picked 0\ntick 3000000: charged 0 resched\nsleep 0: slept -1500000\nwake 0 from 0: woken\nload 2048 floor 1500000\ntask 0 v 3000000 d 6000000 lag -1500000\ntask 1 v 0 d 3000000 lag 1500000\n",
+        status: 0,
+    },
+    Row {
+        name: "no more lag is kept than two slices cost",
+        command: SOLO,
+        workload: b"version = 1\nprogram = [[]]\nscript = [\"0 pick\", \"0 tick 1000000\", \"0 sleep 0\", \"0 pick\", \"0 wake 0 from 0\"]\n[[task]]\nslice = 100000\n[[task]]\nslice = 100000\n",
+        printed: "cpu 0\npick: picked 0\ntick 1000000: charged 0 resched\nsleep 0: slept -200000\npick: picked 1\nwake 0 from 0: woken\nload 2048 floor 200000\ntask 0 v 400000 d 500000 lag -200000\ntask 1 v 0 d 100000 lag 200000 running\n",
+        status: 0,
+    },
+    Row {
+        name: "an empty queue keeps the time at which its last task left",
+        command: SOLO,
+        workload: b"version = 1\nprogram = [[]]\nscript = [\"0 pick\", \"0 tick 700000\", \"0 sleep 0\", \"0 pick\", \"0 tick 1\", \"0 wake 0 from 0\"]\n[[task]]\n",
+        printed: "cpu 0\npick: picked 0\ntick 700000: charged 0\nsleep 0: slept 0\npick: idle\ntick 1: idle\nwake 0 from 0: woken\nload 1024 floor 700000\ntask 0 v 700000 d 3700000 lag 0\n",
+        status: 0,
+    },
+    Row {
+        name: "a yield lets the next one be picked",
+        command: SOLO,
+        workload: b"version = 1\nprogram = [[]]\nscript = [\"0 pick\", \"0 yield\", \"0 pick\"]\n[[task]]\n[[task]]\n",
+        printed: "cpu 0\npick: picked 0\nyield: yielded\npick: picked 1\nload 2048 floor 0\ntask 0 v 0 d 6000000 lag 0\ntask 1 v 0 d 3000000 lag 0 running\n",
+        status: 0,
+    },
+    Row {
+        name: "a waiting task neither falls asleep nor wakes",
+        command: SOLO,
+        workload: b"version = 1\nprogram = [[]]\nscript = [\"0 pick\", \"0 sleep 1\", \"0 wake 1 from 0\"]\n[[task]]\n[[task]]\n",
+        printed: "cpu 0\npick: picked 0\nsleep 1: not running\nwake 1 from 0: awake\nload 2048 floor 0\ntask 0 v 0 d 3000000 lag 0 running\ntask 1 v 0 d 3000000 lag 0\n",
+        status: 0,
+    },
+    Row {
+        name: "a task whose deadline would be out of range sleeps on",
+        command: SOLO,
+        workload: b"version = 1\nprogram = [[]]\nscript = [\"0 pick\", \"0 tick 99999\", \"0 sleep 0\", \"0 wake 0 from 0\"]\n[[task]]\nstart = 1152921504606746976\nslice = 100000\n",
+        printed: "cpu 0\npick: picked 0\ntick 99999: charged 0\nsleep 0: slept 0\nwake 0 from 0: range\nload 0 floor 1152921504606846975\nasleep 0 lag 0\n",
+        status: 0,
+    },
+    Row {
+        name: "tasks at both ends of the range",
+        command: SOLO,
+        workload: b"version = 1\nprogram = [[]]\nscript = [\"0 pick\"]\n[[task]]\nstart = 1152921504603846976\n[[task]]\nstart = -1152921504606846976\n",
+        printed: "cpu 0\npick: picked 1\nload 2048 floor -1500000\ntask 0 v 1152921504603846976 d 1152921504606846976 lag -6000000\ntask 1 v -1152921504606846976 d -1152921504603846976 lag 6000000 running\n",
         status: 0,
     },
 ];
