@@ -1,9 +1,11 @@
 mod Bounds
 mod MapFolds
 mod ListMaps
+mod Foremost
 mod Earliest
 mod RunnableMaps
 mod TreeLeasts
+mod TreeEdits
 mod TreeHeights
 mod TreeOrder
 mod TreeSearch

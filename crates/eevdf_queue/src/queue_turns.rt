@@ -1,16 +1,26 @@
 //! Which task of a queue runs, and what it is charged.
 
-ghost use Rattle.std.specs.Prelude.{◌≡◌, ◌≤◌, ◌↔◌, ◌+◌, ◌/◌, ◌^◌, IfSome, IsNone};
+ghost use Rattle.std.specs.Prelude.{◌≡◌, ◌≤◌, ◌↔◌, ◌+◌, ◌/◌, ◌^◌, true, Some, IfSome, IsNone};
+ghost use Rattle.std.specs.Option.{option_map};
 ghost use Rattle.std.specs.FinMap as map;
+ghost use Rattle.eevdf_queue.specs.Moves as moves;
 ghost use Rattle.eevdf_queue.specs.Pick.{IsPick, pick_of, after_pick};
 ghost use Rattle.eevdf_queue.specs.Tick as ticks;
 ghost use Rattle.eevdf_queue.specs.Yield as yields;
 
 use crate::answers::{TickAnswer, YieldAnswer};
 use crate::request::{charged, is_deadline_in_range, is_entry_in_range, yielded};
+use crate::run_entry::Entry;
 use crate::run_queue::Queue;
 use crate::task_number::TaskId;
 use eevdf_weight::Ns;
+
+/// The task that runs, with its entry.
+#[derive(Clone, Copy)]
+struct Runner {
+    task: TaskId,
+    entry: Entry,
+}
 
 impl Queue {
     /// Lets the eligible task of earliest virtual deadline run, the lower number where deadlines are equal.
@@ -45,20 +55,16 @@ impl Queue {
         ensures after { self.new.state ≡ (ticks.tick self.old.state ns).1 }
         ensures turns { self.new.turns ≡ self.old.turns }
     {
-        let Some(task) = self.running else {
+        let Some(runner) = self.runner() else {
             return TickAnswer::Idle;
         };
-        self.runnable.keeps();
-        let Some(entry) = self.runnable.get(task) else {
-            return TickAnswer::Idle;
-        };
-        let charged = charged(&entry, ns);
+        let charged = charged(&runner.entry, ns);
         if !is_entry_in_range(&charged.entry) {
             return TickAnswer::Range;
         }
-        self.runnable.set(task, charged.entry);
+        self.runnable.set(runner.task, charged.entry);
         TickAnswer::Charged {
-            task,
+            task: runner.task,
             resched: charged.resched,
         }
     }
@@ -70,18 +76,30 @@ impl Queue {
         ensures after { self.new.state ≡ (yields.yield_now self.old.state).1 }
         ensures turns { self.new.turns ≡ self.old.turns }
     {
-        let Some(task) = self.running else {
+        let Some(runner) = self.runner() else {
             return YieldAnswer::Idle;
         };
-        self.runnable.keeps();
-        let Some(entry) = self.runnable.get(task) else {
-            return YieldAnswer::Idle;
-        };
-        let yielded = yielded(&entry);
+        let yielded = yielded(&runner.entry);
         if !is_deadline_in_range(&yielded) {
             return YieldAnswer::Range;
         }
-        self.runnable.set(task, yielded);
+        self.runnable.set(runner.task, yielded);
         YieldAnswer::Yielded
+    }
+
+    /// The task that runs, with its entry.
+    fn runner(&self) -> Option<Runner>
+        ensures task { option_map (λ r. r.task) result ≡ self.now.state.running }
+        ensures entry { IfSome result (λ r. map.get self.now.state.runnable r.task ≡ Some r.entry) }
+        ensures in_range { IfSome result (λ r. moves.is_entry_in_range r.entry ≡ true) }
+    {
+        let Some(task) = self.running else {
+            return None
+        };
+        self.runnable.keeps();
+        match self.runnable.get(task) {
+            None => None,
+            Some(entry) => Some(Runner { task, entry }),
+        }
     }
 }

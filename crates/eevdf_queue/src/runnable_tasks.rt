@@ -22,7 +22,7 @@ use crate::task_parcel::Parcel;
 use crate::task_tree::TaskTree;
 use crate::totals::Totals;
 use crate::totals_edit::{exchanged, share, with_share, without_share};
-use crate::tree_node::TreeNode;
+use crate::tree_node::{Found, TreeNode};
 use std::marker::Model;
 
 /// The runnable tasks of a queue, seen as the map from their numbers to their entries.
@@ -50,13 +50,6 @@ impl Model for RunnableTasks {
     ghost view = { λ a. runnable_in a.tree };
 
     ghost invariant = { λ a. IsSummedStore a.deadlines a.totals a.tree };
-}
-
-/// The task that is to run, and the turns of the descent to it.
-#[derive(Clone, Copy)]
-pub struct First {
-    pub task: TaskId,
-    pub turns: u32,
 }
 
 impl RunnableTasks {
@@ -150,25 +143,19 @@ impl RunnableTasks {
     /// The first task, by deadline and number, of those that are eligible at these sums, and the turns of the
     /// descent to it.
     #[tactic(auto, using(crate::proofs::RunnableMaps::firsts))]
-    fn first(&self, totals: &Totals) -> Option<First>
+    fn first(&self, totals: &Totals) -> Option<Found>
         requires { totals.now.weight ≤ 2 ^ 40 }
         ensures task { option_map (λ f. f.task) result
             ≡ option_map (λ a. a.0) (earliest (is_eligible_at totals.now.weight totals.now.moment) (map.entries self.now)) }
         ensures positive { IfSome result (λ f. 1 ≤ f.turns) }
         ensures turns { IfSome result (λ f. IsFull f.turns (map.len self.now)) }
     {
-        match self.tree.earliest(totals) {
-            None => None,
-            Some(found) => Some(First {
-                task: found.task,
-                turns: found.turns,
-            }),
-        }
+        self.tree.earliest(totals)
     }
 
     /// The eligible task of earliest virtual deadline, and the turns of the descent to it. `None` exactly where
     /// there is no task.
-    pub fn pick(&self) -> Option<First>
+    pub fn pick(&self) -> Option<Found>
         ensures number { option_map (λ f. f.task) result ≡ pick_of self.now }
         ensures picked { IfSome result (λ f. IsPick self.now f.task) }
         ensures none { IsNone result ↔ (self.now ≡ map.empty) }

@@ -1,6 +1,5 @@
-//! The boxed node of a balanced tree of tasks. It carries one task, alone in a parcel or between the two
-//! sides of a subtree, and keeps the height and the least virtual runtime of
-//! that subtree.
+//! The boxed node of a balanced tree of tasks. It carries one task, alone in a parcel or between the two sides
+//! of a subtree, and keeps the height and the least virtual runtime of that subtree.
 
 ghost use Rattle.std.specs.Prelude.{◌≡◌, suc, ◌+◌, ◌≤◌, ◌^◌, max, [], ◌∷◌, ◌++◌, length, is_some, true, Some, IfSome};
 ghost use Rattle.std.specs.Option.{option_map};
@@ -11,6 +10,7 @@ ghost use Rattle.eevdf_queue.specs.TreeTasks.{AreOrdered, IsAtDeadline, first_th
 ghost use Rattle.eevdf_queue.specs.TreeShape.{tasks_in, height_in, DifferByAtMost, IsFull, IsAlone};
 ghost use Rattle.eevdf_queue.specs.TreeLeast.{least_of, AreLow};
 
+mod node_parts;
 mod tree_edit;
 
 use crate::running::is_running;
@@ -20,6 +20,7 @@ use crate::totals::Totals;
 use crate::tree_eligible::{is_least_eligible, is_task_eligible};
 use crate::tree_key::Key;
 use crate::tree_least::Least;
+use node_parts::part_from;
 use std::marker::Model;
 pub use tree_edit::{change, insert, remove};
 
@@ -158,11 +159,13 @@ impl TreeNode {
         ensures height { self.old.height ≡ suc (max (height_in result.left) (height_in result.right)) }
         ensures balanced { DifferByAtMost 1 (height_in result.left) (height_in result.right) }
     {
-        let left = self.left.take();
-        let right = self.right.take();
-        self.height = 1;
-        self.least = Least::of(&self.task);
-        Sides { left, right }
+        part_from(
+            &mut self.height,
+            &mut self.least,
+            &mut self.left,
+            &self.task,
+            &mut self.right,
+        )
     }
 }
 

@@ -1,5 +1,5 @@
 //! Tasks put in, taken out and changed where they stand: one path of the tree is walked down, and its heights
-//! and least virtual runtimes are corrected on the way back.
+//! and least virtual runtimes are corrected on the way back, as long as they change.
 
 ghost use Rattle.std.specs.Prelude.{◌≡◌, suc, ◌+◌, ◌<◌, ◌≤◌, ◌^◌, max, [], ◌∷◌, ◌++◌, length, is_some, true, false, Some};
 ghost use Rattle.std.specs.Option.{option_map};
@@ -8,12 +8,12 @@ ghost use Rattle.eevdf_queue.specs.TreeTasks.{AreOrdered, IsAtDeadline, insert_t
 ghost use Rattle.eevdf_queue.specs.TreeLeast.{least_of};
 ghost use Rattle.eevdf_queue.specs.TreeShape.{tasks_in, height_in, DifferByAtMost, IsAlone, IsHeightOfBalanced};
 
-use super::{TreeNode, height, least_around};
+use super::node_parts::{look_around, part_from};
+use super::{Sides, TreeNode};
 use crate::run_entry::Entry;
 use crate::task::Task;
 use crate::tree_balance::balance;
 use crate::tree_key::{Key, precedes};
-use crate::tree_least::Least;
 use crate::tree_remove::merge;
 
 /// Puts a node that is alone below a link, where keys rise. Answers whether the height or the least virtual
@@ -35,63 +35,29 @@ pub fn insert(link: &mut Option<Box<TreeNode>>, node: Box<TreeNode>) -> bool
         return true;
     };
     let root: &mut TreeNode = root;
-    if precedes(&node.task(), &root.task) {
-        let changed = insert(&mut root.left, node);
-        if !changed {
-            let _left = height(&root.left);
-            let _right = height(&root.right);
-            let _around = least_around(&root.left, &root.task, &root.right);
-            return false;
-        }
-        let left_height = height(&root.left);
-        let right_height = height(&root.right);
-        let least = least_around(&root.left, &root.task, &root.right);
-        if left_height > right_height + 1 {
-            let left = root.left.take();
-            let right = root.right.take();
-            root.height = 1;
-            root.least = Least::of(&root.task);
-            rejoin(link, left, right);
-            return true;
-        }
-        let height = left_height.max(right_height) + 1;
-        let changed = differ(root.height, &root.least, height, &least);
-        root.height = height;
-        root.least = least;
-        changed
+    let changed = if precedes(&node.task(), &root.task) {
+        insert(&mut root.left, node)
     } else {
-        let changed = insert(&mut root.right, node);
-        if !changed {
-            let _left = height(&root.left);
-            let _right = height(&root.right);
-            let _around = least_around(&root.left, &root.task, &root.right);
-            return false;
-        }
-        let left_height = height(&root.left);
-        let right_height = height(&root.right);
-        let least = least_around(&root.left, &root.task, &root.right);
-        if right_height > left_height + 1 {
-            let left = root.left.take();
-            let right = root.right.take();
-            root.height = 1;
-            root.least = Least::of(&root.task);
-            rejoin(link, left, right);
-            return true;
-        }
-        let height = left_height.max(right_height) + 1;
-        let changed = differ(root.height, &root.least, height, &least);
-        root.height = height;
-        root.least = least;
-        changed
+        insert(&mut root.right, node)
+    };
+    if !changed {
+        // for the proof alone: what is kept is right of the tasks as they are now
+        look_around(&root.left, &root.task, &root.right);
+        return false;
     }
-}
-
-/// Whether a height or a least virtual runtime is another than before.
-fn differ(old_height: u32, old_least: &Least, height: u32, least: &Least) -> bool
-    ensures height { result ≡ false → height ≡ old_height }
-    ensures least { result ≡ false → least.now ≡ old_least.now }
-{
-    height != old_height || least.runtime != old_least.runtime
+    let around = look_around(&root.left, &root.task, &root.right);
+    if around.is_uneven() {
+        let sides = part_from(
+            &mut root.height,
+            &mut root.least,
+            &mut root.left,
+            &root.task,
+            &mut root.right,
+        );
+        rejoin(link, sides);
+        return true;
+    }
+    around.renew(&mut root.height, &mut root.least)
 }
 
 /// A node taken out of a tree, and whether the tree's height or least virtual runtime may have changed.
@@ -119,110 +85,77 @@ pub fn remove(link: &mut Option<Box<TreeNode>>, key: &Key) -> Taken
 {
     let Some(root) = link else { unreachable!() };
     let root: &mut TreeNode = root;
-    if key.is_under(&root.task) {
-        let taken = remove(&mut root.left, key);
-        if !taken.changed {
-            let _left = height(&root.left);
-            let _right = height(&root.right);
-            let _around = least_around(&root.left, &root.task, &root.right);
-            return taken;
-        }
-        let left_height = height(&root.left);
-        let right_height = height(&root.right);
-        let least = least_around(&root.left, &root.task, &root.right);
-        if right_height > left_height + 1 {
-            let left = root.left.take();
-            let right = root.right.take();
-            root.height = 1;
-            root.least = Least::of(&root.task);
-            rejoin(link, left, right);
-            return taken;
-        }
-        let height = left_height.max(right_height) + 1;
-        let changed = differ(root.height, &root.least, height, &least);
-        root.height = height;
-        root.least = least;
+    let taken = if key.is_under(&root.task) {
+        remove(&mut root.left, key)
+    } else if key.is_over(&root.task) {
+        remove(&mut root.right, key)
+    } else {
+        let sides = part_from(
+            &mut root.height,
+            &mut root.least,
+            &mut root.left,
+            &root.task,
+            &mut root.right,
+        );
         return Taken {
-            node: taken.node,
-            changed,
+            node: replaced(link, sides),
+            changed: true,
         };
+    };
+    if !taken.changed {
+        // for the proof alone, as at an insertion
+        look_around(&root.left, &root.task, &root.right);
+        return taken;
     }
-    if key.is_over(&root.task) {
-        let taken = remove(&mut root.right, key);
-        if !taken.changed {
-            let _left = height(&root.left);
-            let _right = height(&root.right);
-            let _around = least_around(&root.left, &root.task, &root.right);
-            return taken;
-        }
-        let left_height = height(&root.left);
-        let right_height = height(&root.right);
-        let least = least_around(&root.left, &root.task, &root.right);
-        if left_height > right_height + 1 {
-            let left = root.left.take();
-            let right = root.right.take();
-            root.height = 1;
-            root.least = Least::of(&root.task);
-            rejoin(link, left, right);
-            return taken;
-        }
-        let height = left_height.max(right_height) + 1;
-        let changed = differ(root.height, &root.least, height, &least);
-        root.height = height;
-        root.least = least;
-        return Taken {
-            node: taken.node,
-            changed,
-        };
+    let around = look_around(&root.left, &root.task, &root.right);
+    if around.is_uneven() {
+        let sides = part_from(
+            &mut root.height,
+            &mut root.least,
+            &mut root.left,
+            &root.task,
+            &mut root.right,
+        );
+        rejoin(link, sides);
+        return taken;
     }
-    let left = root.left.take();
-    let right = root.right.take();
-    root.height = 1;
-    root.least = Least::of(&root.task);
+    let changed = around.renew(&mut root.height, &mut root.least);
     Taken {
-        node: replaced(link, left, right),
-        changed: true,
+        node: taken.node,
+        changed,
     }
 }
 
 /// Takes the lone node below a link out, and puts two sides of nearly one height in its place.
-fn replaced(
-    link: &mut Option<Box<TreeNode>>,
-    left: Option<Box<TreeNode>>,
-    right: Option<Box<TreeNode>>,
-) -> Box<TreeNode>
+fn replaced(link: &mut Option<Box<TreeNode>>, sides: Sides) -> Box<TreeNode>
     requires alone { tasks_in link.old ≡ first_task (tasks_in link.old) ∷ [] }
-    requires balanced { DifferByAtMost 1 (height_in left) (height_in right) }
-    requires few { length (tasks_in left) + length (tasks_in right) ≤ 2 ^ 20 }
+    requires balanced { DifferByAtMost 1 (height_in sides.left) (height_in sides.right) }
+    requires few { length (tasks_in sides.left) + length (tasks_in sides.right) ≤ 2 ^ 20 }
     ensures alone { IsAlone result.value }
     ensures task { first_task result.value.tasks ≡ first_task (tasks_in link.old) }
-    ensures tasks { tasks_in link.new ≡ tasks_in left ++ tasks_in right }
-    ensures not_lower { max (height_in left) (height_in right) ≤ height_in link.new }
-    ensures at_most_one_higher { height_in link.new ≤ suc (max (height_in left) (height_in right)) }
+    ensures tasks { tasks_in link.new ≡ tasks_in sides.left ++ tasks_in sides.right }
+    ensures not_lower { max (height_in sides.left) (height_in sides.right) ≤ height_in link.new }
+    ensures at_most_one_higher { height_in link.new ≤ suc (max (height_in sides.left) (height_in sides.right)) }
 {
     let Some(node) = link.take() else {
         unreachable!()
     };
-    *link = merge(left, right);
+    *link = merge(sides.left, sides.right);
     node
 }
 
 /// Joins the lone node below a link with two sides whose heights differ by at most two.
-fn rejoin(
-    link: &mut Option<Box<TreeNode>>,
-    left: Option<Box<TreeNode>>,
-    right: Option<Box<TreeNode>>,
-)
+fn rejoin(link: &mut Option<Box<TreeNode>>, sides: Sides)
     requires alone { tasks_in link.old ≡ first_task (tasks_in link.old) ∷ [] }
-    requires near { DifferByAtMost 2 (height_in left) (height_in right) }
-    requires few { length (tasks_in left) + length (tasks_in right) ≤ 2 ^ 20 }
-    ensures tasks { tasks_in link.new ≡ tasks_in left ++ first_task (tasks_in link.old) ∷ tasks_in right }
-    ensures height { IsHeightOfBalanced (height_in left) (height_in right) (height_in link.new) }
+    requires near { DifferByAtMost 2 (height_in sides.left) (height_in sides.right) }
+    requires few { length (tasks_in sides.left) + length (tasks_in sides.right) ≤ 2 ^ 20 }
+    ensures tasks { tasks_in link.new ≡ tasks_in sides.left ++ first_task (tasks_in link.old) ∷ tasks_in sides.right }
+    ensures height { IsHeightOfBalanced (height_in sides.left) (height_in sides.right) (height_in link.new) }
 {
     let Some(node) = link.take() else {
         unreachable!()
     };
-    *link = Some(balance(node, left, right));
+    *link = Some(balance(node, sides.left, sides.right));
 }
 
 /// Exchanges the entry of a key's task, which stands below a link, for another. The shape of the tree stays.
@@ -241,40 +174,20 @@ pub fn change(link: &mut Option<Box<TreeNode>>, key: &Key, entry: &mut Entry) ->
 {
     let Some(node) = link else { unreachable!() };
     let node: &mut TreeNode = node;
-    if key.is_under(&node.task) {
-        let changed = change(&mut node.left, key, entry);
-        if !changed {
-            let _around = least_around(&node.left, &node.task, &node.right);
-            return false;
-        }
-        let least = least_around(&node.left, &node.task, &node.right);
-        let changed = is_another(&node.least, &least);
-        node.least = least;
-        changed
+    let changed = if key.is_under(&node.task) {
+        change(&mut node.left, key, entry)
     } else if key.is_over(&node.task) {
-        let changed = change(&mut node.right, key, entry);
-        if !changed {
-            let _around = least_around(&node.left, &node.task, &node.right);
-            return false;
-        }
-        let least = least_around(&node.left, &node.task, &node.right);
-        let changed = is_another(&node.least, &least);
-        node.least = least;
-        changed
+        change(&mut node.right, key, entry)
     } else {
         let older = node.task.entry;
         node.task.entry = *entry;
         *entry = older;
-        let least = least_around(&node.left, &node.task, &node.right);
-        let changed = is_another(&node.least, &least);
-        node.least = least;
-        changed
+        true
+    };
+    if !changed {
+        // for the proof alone, as at an insertion
+        look_around(&node.left, &node.task, &node.right);
+        return false;
     }
-}
-
-/// Whether a least virtual runtime is another than before.
-fn is_another(old: &Least, least: &Least) -> bool
-    ensures { result ≡ false → least.now ≡ old.now }
-{
-    least.runtime != old.runtime
+    look_around(&node.left, &node.task, &node.right).renew_least(&mut node.least)
 }

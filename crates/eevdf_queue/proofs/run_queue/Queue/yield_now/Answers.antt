@@ -1,5 +1,7 @@
-use Rattle.std.proofs.Common.{◌≡◌, true, ap, sym, ◌∙◌}
+use Rattle.std.proofs.Common.{◌≡◌, true, ap, ◌∙◌}
 use Rattle.std.specs.Prelude.{is_some}
+use Rattle.std.specs.FinMap.{contains_key}
+use Rattle.eevdf_queue.specs.State.{View}
 use Rattle.eevdf_weight.specs.Limits.{is_in_range}
 use Rattle.eevdf_queue.specs.Moves.{is_entry_in_range}
 use Rattle.eevdf_queue.specs.Yield.{yielded}
@@ -8,16 +10,15 @@ use Rattle.eevdf_queue.proofs.Sound.{sound_change}
 use Rattle.eevdf_queue.proofs.run_queue.Queue.yield_now.Goals as goal
 
 pub yielded-yielded-requires : goal.yielded-yielded-requires
-yielded-yielded-requires c =
-    range_d c.in-Some-get.entry (c.keeps.ensures _ c.in-Some-get.entry (sym c.in-Some-get.ensures)).1
+yielded-yielded-requires c = range_d c.in-Some.runner.entry c.in-Some.ensures.in_range
 
 pub set-requires-clause-in_range : goal.set-requires-clause-in_range
 set-requires-clause-in_range c =
-    let e : c.yielded-yielded.result ≡ yielded c.in-Some-get.entry = c.yielded-yielded.ensures in
-    let d : is_in_range (yielded c.in-Some-get.entry).d ≡ true = cc in
+    let e : c.yielded-yielded.result ≡ yielded c.in-Some.runner.entry = c.yielded-yielded.ensures in
+    let d : is_in_range (yielded c.in-Some.runner.entry).d ≡ true = cc in
     ap is_entry_in_range e
-    ∙ range_with c.in-Some-get.entry (yielded c.in-Some-get.entry).d (c.keeps.ensures _ c.in-Some-get.entry (sym c.in-Some-get.ensures)).1 d
+    ∙ range_with c.in-Some.runner.entry (yielded c.in-Some.runner.entry).d c.in-Some.ensures.in_range d
 
 pub invariant_of-self : goal.invariant_of-self
 invariant_of-self c =
-    sound_change _ _ _ _ _ _ _ c.set.ensures (ap is_some (sym c.in-Some-get.ensures)) c.self.invariant
+    sound_change _ _ _ _ _ _ _ c.set.ensures (ap (λ (v : View). contains_key v.state.runnable c.in-Some.runner.task) c.self.view_is ∙ ap is_some c.in-Some.ensures.entry) c.self.invariant

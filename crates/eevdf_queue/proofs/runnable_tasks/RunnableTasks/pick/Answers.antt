@@ -2,20 +2,20 @@ use Rattle.std.proofs.Common.{◌≡◌, ℕ, true, Option, Some, None, refl}
 use Rattle.std.specs.Prelude.{IfSome, IsNone, ◌↔◌}
 use Rattle.std.specs.Option.{option_map}
 use Rattle.std.specs.FinMap as map
-use Rattle.eevdf_queue.specs.declared.runnable_tasks.First.{First}
+use Rattle.eevdf_queue.specs.declared.tree_node.Found.{Found}
 use Rattle.eevdf_queue.specs.Pick.{IsPick}
 use Rattle.eevdf_queue.proofs.Picked.{picked, none_picked, picked_here, first_is_pick}
 use Rattle.eevdf_queue.proofs.runnable_tasks.RunnableTasks.pick.Goals as goal
 
-abbrev task_of : First → ℕ
+abbrev task_of : Found → ℕ
 task_of f = f.task
 
 -- what holds of the number holds of the task that is first
-of_task : (P : ℕ → Type 0) (o : Option First) → IfSome (option_map task_of o) P → IfSome o (λ f. P f.task)
+of_task : (P : ℕ → Type 0) (o : Option Found) → IfSome (option_map task_of o) P → IfSome o (λ f. P f.task)
 of_task P None h = h
 of_task P (Some f) h = h
 
-none_of_task : (A : Type 0) (o : Option First) → IsNone (option_map task_of o) ↔ A → IsNone o ↔ A
+none_of_task : (A : Type 0) (o : Option Found) → IsNone (option_map task_of o) ↔ A → IsNone o ↔ A
 none_of_task A None h = (λ _. h.0 refl, λ _. refl)
 none_of_task A (Some f) h = (λ n. absurd (cc), λ a. absurd (let n = h.1 a in cc))
 

@@ -14,6 +14,7 @@ use Rattle.eevdf_queue.proofs.TreeSearch.{found_number}
 use Rattle.eevdf_queue.proofs.TreeMaps.{find_present, placed, taken_stored, taken_seen, found_entry}
 use Rattle.eevdf_queue.proofs.TreeTotals.{totals-without, totals_part, totals_near}
 use Rattle.eevdf_queue.proofs.runnable_tasks.RunnableTasks.remove.Goals as goal
+use Rattle.eevdf_queue.proofs.runnable_tasks.RunnableTasks.remove.Goals.{After-remove-node}
 
 pub remove-node-requires-clause-here : goal.remove-node-requires-clause-here
 remove-node-requires-clause-here c =
@@ -25,17 +26,24 @@ remove-node-requires-clause-placed c =
     let d : c.key-key.result.deadline ≡ deadline_at c.self.inside.deadlines c.key-key.result.number = cc in
     placed c.self.inside.deadlines c.key-key.result c.self.inside.tree c.self.invariant.store.noted d
 
+-- the task that was taken out, and what is left
+found : (c : After-remove-node) → find_task c.args.task c.self.inside.tree ≡ Some (first_task c.remove-node.result.value.tasks)
+found c = ap (λ (q : ℕ). find_task q c.self.inside.tree) (sym c.key-key.ensures.number) ∙ c.remove-node.ensures.task
+
+left_over : (c : After-remove-node) → c.remove-node.new.self ≡ without c.args.task c.self.inside.tree
+left_over c = c.remove-node.ensures.rest ∙ ap (λ (q : ℕ). without q c.self.inside.tree) c.key-key.ensures.number
+
 pub leave-requires-clause-limited : goal.leave-requires-clause-limited
 leave-requires-clause-limited c =
-    let f : find_task c.args.task c.self.inside.tree ≡ Some (first_task c.remove-node.result.value.tasks) = ap (λ (q : ℕ). find_task q c.self.inside.tree) (sym c.key-key.ensures.number) ∙ c.remove-node.ensures.task in
+    let f = found (goal.at.leave-requires-clause-limited c).After-remove-node in
     let g = found_entry c.self.inside.tree c.args.self.now c.args.task (first_task c.remove-node.result.value.tasks) c.self.view_is f in
     let h : is_lag c.args.lag (first_task c.remove-node.result.value.tasks).entry.nice (first_task c.remove-node.result.value.tasks).entry.slice ≡ true = subst (λ (o : Option Entry). IfSome o (λ e. is_lag c.args.lag e.nice e.slice ≡ true)) g c.requires.limited in
     ap (λ (z : ℤ). is_lag z (first_task c.remove-node.result.value.tasks).entry.nice (first_task c.remove-node.result.value.tasks).entry.slice) (to_z-of_z w64 c.args.lag c.ranges.lag) ∙ h
 
 pub invariant_of-self : goal.invariant_of-self
 invariant_of-self c =
-    let f : find_task c.args.task c.self.inside.tree ≡ Some (first_task c.remove-node.result.value.tasks) = ap (λ (q : ℕ). find_task q c.self.inside.tree) (sym c.key-key.ensures.number) ∙ c.remove-node.ensures.task in
-    let e : c.remove-node.new.self ≡ without c.args.task c.self.inside.tree = c.remove-node.ensures.rest ∙ ap (λ (q : ℕ). without q c.self.inside.tree) c.key-key.ensures.number in
+    let f = found (goal.at.invariant_of-self c).After-remove-node in
+    let e = left_over (goal.at.invariant_of-self c).After-remove-node in
     let x : (first_task c.remove-node.result.value.tasks).entry ≡ c.task.result.entry = cc in
     record {
       store = taken_stored c.self.inside.deadlines c.args.task (first_task c.remove-node.result.value.tasks) c.self.inside.tree c.remove-node.new.self c.self.invariant.store f e;
@@ -47,13 +55,13 @@ invariant_of-self c =
 
 pub returns-clause-rest : goal.returns-clause-rest
 returns-clause-rest c =
-    let f : find_task c.args.task c.self.inside.tree ≡ Some (first_task c.remove-node.result.value.tasks) = ap (λ (q : ℕ). find_task q c.self.inside.tree) (sym c.key-key.ensures.number) ∙ c.remove-node.ensures.task in
-    let e : c.remove-node.new.self ≡ without c.args.task c.self.inside.tree = c.remove-node.ensures.rest ∙ ap (λ (q : ℕ). without q c.self.inside.tree) c.key-key.ensures.number in
+    let f = found (goal.at.returns-clause-rest c).After-remove-node in
+    let e = left_over (goal.at.returns-clause-rest c).After-remove-node in
     taken_seen c.self.inside.deadlines c.args.task (first_task c.remove-node.result.value.tasks) c.self.inside.tree c.remove-node.new.self c.self.invariant.store f e c.args.self.now c.self.view_is
 
 pub returns-clause-parcel : goal.returns-clause-parcel
 returns-clause-parcel c =
-    let f : find_task c.args.task c.self.inside.tree ≡ Some (first_task c.remove-node.result.value.tasks) = ap (λ (q : ℕ). find_task q c.self.inside.tree) (sym c.key-key.ensures.number) ∙ c.remove-node.ensures.task in
+    let f = found (goal.at.returns-clause-parcel c).After-remove-node in
     ap (option_map (leaving c.args.task c.args.lag)) (found_entry c.self.inside.tree c.args.self.now c.args.task (first_task c.remove-node.result.value.tasks) c.self.view_is f)
     ∙ ap (λ (q : ℕ). Some (leaving q c.args.lag (first_task c.remove-node.result.value.tasks).entry)) (sym (found_number c.args.task c.self.inside.tree (first_task c.remove-node.result.value.tasks) f))
     ∙ ap (λ (z : ℤ). Some (leaving (first_task c.remove-node.result.value.tasks).number z (first_task c.remove-node.result.value.tasks).entry)) (sym (to_z-of_z w64 c.args.lag c.ranges.lag))
@@ -61,7 +69,7 @@ returns-clause-parcel c =
 
 pub without_share-self-inside-requires-clause-part : goal.without_share-self-inside-requires-clause-part
 without_share-self-inside-requires-clause-part c =
-    let f : find_task c.args.task c.self.inside.tree ≡ Some (first_task c.remove-node.result.value.tasks) = ap (λ (q : ℕ). find_task q c.self.inside.tree) (sym c.key-key.ensures.number) ∙ c.remove-node.ensures.task in
+    let f = found (goal.at.without_share-self-inside-requires-clause-part c).After-remove-node in
     let x : (first_task c.remove-node.result.value.tasks).entry ≡ c.task.result.entry = cc in
     subst (λ (z : ℕ). z ≤ c.self.inside.totals.weight) (sym c.share.ensures.weight)
     (totals_part c.args.task (first_task c.remove-node.result.value.tasks) c.task.result.entry c.self.inside.totals c.self.inside.tree c.self.invariant.totals f x)

@@ -8,6 +8,7 @@ use Rattle.eevdf_queue.proofs.TreeMaps.{find_present, placed, taken_absent, take
 use Rattle.eevdf_queue.proofs.TreeChange.{stored-set, set_seen}
 use Rattle.eevdf_queue.proofs.TreeTotals.{totals-set, totals-moved, totals_part, totals_few, totals_small, entry_found}
 use Rattle.eevdf_queue.proofs.runnable_tasks.RunnableTasks.set.Goals as goal
+use Rattle.eevdf_queue.proofs.runnable_tasks.RunnableTasks.set.Goals.{After-remove-node}
 
 pub remove-node-requires-clause-here : goal.remove-node-requires-clause-here
 remove-node-requires-clause-here c =
@@ -19,22 +20,29 @@ remove-node-requires-clause-placed c =
     let d : c.key-key.result.deadline ≡ deadline_at c.self.inside.deadlines c.key-key.result.number = cc in
     placed c.self.inside.deadlines c.key-key.result c.self.inside.tree c.self.invariant.store.noted d
 
+-- the task that was taken out, and what is left
+found : (c : After-remove-node) → find_task c.args.task c.self.inside.tree ≡ Some (first_task c.remove-node.result.value.tasks)
+found c = ap (λ (q : ℕ). find_task q c.self.inside.tree) (sym c.key-key.ensures.number) ∙ c.remove-node.ensures.task
+
+left_over : (c : After-remove-node) → c.remove-node.new.self ≡ without c.args.task c.self.inside.tree
+left_over c = c.remove-node.ensures.rest ∙ ap (λ (q : ℕ). without q c.self.inside.tree) c.key-key.ensures.number
+
 pub put-requires-clause-absent : goal.put-requires-clause-absent
 put-requires-clause-absent c =
-    let f : find_task c.args.task c.self.inside.tree ≡ Some (first_task c.remove-node.result.value.tasks) = ap (λ (q : ℕ). find_task q c.self.inside.tree) (sym c.key-key.ensures.number) ∙ c.remove-node.ensures.task in
-    let e : c.remove-node.new.self ≡ without c.args.task c.self.inside.tree = c.remove-node.ensures.rest ∙ ap (λ (q : ℕ). without q c.self.inside.tree) c.key-key.ensures.number in
+    let f = found (goal.at.put-requires-clause-absent c).After-remove-node in
+    let e = left_over (goal.at.put-requires-clause-absent c).After-remove-node in
     taken_absent c.self.inside.deadlines c.args.task (first_task c.remove-node.result.value.tasks) c.self.inside.tree c.remove-node.new.self c.self.invariant.store f e
 
 pub put-requires-clause-few : goal.put-requires-clause-few
 put-requires-clause-few c =
-    let f : find_task c.args.task c.self.inside.tree ≡ Some (first_task c.remove-node.result.value.tasks) = ap (λ (q : ℕ). find_task q c.self.inside.tree) (sym c.key-key.ensures.number) ∙ c.remove-node.ensures.task in
-    let e : c.remove-node.new.self ≡ without c.args.task c.self.inside.tree = c.remove-node.ensures.rest ∙ ap (λ (q : ℕ). without q c.self.inside.tree) c.key-key.ensures.number in
+    let f = found (goal.at.put-requires-clause-few c).After-remove-node in
+    let e = left_over (goal.at.put-requires-clause-few c).After-remove-node in
     taken_room c.self.inside.deadlines c.args.task (first_task c.remove-node.result.value.tasks) c.self.inside.tree c.remove-node.new.self c.self.invariant.store f e
 
 pub invariant_of-self-2 : goal.invariant_of-self-2
 invariant_of-self-2 c =
-    let f : find_task c.args.task c.self.inside.tree ≡ Some (first_task c.remove-node.result.value.tasks) = ap (λ (q : ℕ). find_task q c.self.inside.tree) (sym c.key-key.ensures.number) ∙ c.remove-node.ensures.task in
-    let e : c.remove-node.new.self ≡ without c.args.task c.self.inside.tree = c.remove-node.ensures.rest ∙ ap (λ (q : ℕ). without q c.self.inside.tree) c.key-key.ensures.number in
+    let f = found (goal.at.invariant_of-self-2 c).After-remove-node in
+    let e = left_over (goal.at.invariant_of-self-2 c).After-remove-node in
     let u : Task = record (first_task c.remove-node.result.value.tasks) { entry = c.args.entry } in
     let x : (first_task c.remove-node.result.value.tasks).entry ≡ c.task.result.entry = cc in
     record {
@@ -47,8 +55,8 @@ invariant_of-self-2 c =
 
 pub returns : goal.returns
 returns c =
-    let f : find_task c.args.task c.self.inside.tree ≡ Some (first_task c.remove-node.result.value.tasks) = ap (λ (q : ℕ). find_task q c.self.inside.tree) (sym c.key-key.ensures.number) ∙ c.remove-node.ensures.task in
-    let e : c.remove-node.new.self ≡ without c.args.task c.self.inside.tree = c.remove-node.ensures.rest ∙ ap (λ (q : ℕ). without q c.self.inside.tree) c.key-key.ensures.number in
+    let f = found (goal.at.returns c).After-remove-node in
+    let e = left_over (goal.at.returns c).After-remove-node in
     let u : Task = record (first_task c.remove-node.result.value.tasks) { entry = c.args.entry } in
     moved_seen c.self.inside.deadlines c.args.task (first_task c.remove-node.result.value.tasks) c.self.inside.tree c.remove-node.new.self c.self.invariant.store f e c.args.self.now u c.put.new.tree c.self.view_is refl c.put.ensures.tree
 
@@ -95,7 +103,7 @@ exchanged-self-inside-requires-clause-small c = totals_small c.self.inside.deadl
 
 pub exchanged-self-inside-requires-2-clause-part : goal.exchanged-self-inside-requires-2-clause-part
 exchanged-self-inside-requires-2-clause-part c =
-    let f : find_task c.args.task c.self.inside.tree ≡ Some (first_task c.remove-node.result.value.tasks) = ap (λ (q : ℕ). find_task q c.self.inside.tree) (sym c.key-key.ensures.number) ∙ c.remove-node.ensures.task in
+    let f = found (goal.at.exchanged-self-inside-requires-2-clause-part c).After-remove-node in
     let x : (first_task c.remove-node.result.value.tasks).entry ≡ c.task.result.entry = cc in
     totals_part c.args.task (first_task c.remove-node.result.value.tasks) c.task.result.entry c.self.inside.totals c.self.inside.tree c.self.invariant.totals f x
 

@@ -1,0 +1,105 @@
+//! What is done to a node between the parts of it: these see the sides, the task and what is kept of them
+//! apart, while what is kept isn't right yet.
+
+ghost use Rattle.std.specs.Prelude.{◌≡◌, suc, ◌+◌, ◌<◌, ◌≤◌, ◌⊎◌, ◌^◌, max, [], ◌∷◌, ◌++◌, length, true, false, None};
+ghost use Rattle.eevdf_queue.specs.TreeLeast.{least_of, AreLow};
+ghost use Rattle.eevdf_queue.specs.TreeShape.{tasks_in, height_in, DifferByAtMost, IsFull};
+
+use super::{Sides, TreeNode, height, least_around};
+use crate::task::Task;
+use crate::tree_least::Least;
+
+/// Takes the two sides from a node, and leaves it alone.
+pub fn part_from(
+    node_height: &mut u32,
+    node_least: &mut Least,
+    left: &mut Option<Box<TreeNode>>,
+    task: &Task,
+    right: &mut Option<Box<TreeNode>>,
+) -> Sides
+    ensures left { tasks_in result.left ≡ tasks_in left.old }
+    ensures right { tasks_in result.right ≡ tasks_in right.old }
+    ensures left_height { height_in result.left ≡ height_in left.old }
+    ensures right_height { height_in result.right ≡ height_in right.old }
+    ensures no_left { left.new ≡ None }
+    ensures no_right { right.new ≡ None }
+    ensures height { node_height.new ≡ 1 }
+    ensures least { node_least.new ≡ least_of (task.now ∷ []) }
+    ensures low { AreLow (task.now ∷ []) }
+{
+    *node_height = 1;
+    *node_least = Least::of(task);
+    Sides {
+        left: left.take(),
+        right: right.take(),
+    }
+}
+
+/// What stands on the two sides of a task: their heights, and the least virtual runtime with the task's own.
+#[derive(Clone, Copy)]
+pub struct Around {
+    pub left: u32,
+    pub right: u32,
+    pub least: Least,
+}
+
+/// Looks at a task and what is below the links on either side of it.
+pub fn look_around(
+    left: &Option<Box<TreeNode>>,
+    task: &Task,
+    right: &Option<Box<TreeNode>>,
+) -> Around
+    ensures left { result.left ≡ height_in left.now }
+    ensures right { result.right ≡ height_in right.now }
+    ensures least { result.least ≡ least_of (tasks_in left.now ++ task.now ∷ tasks_in right.now) }
+    ensures low { suc (max (height_in left.now) (height_in right.now)) ≤ length (tasks_in left.now ++ task.now ∷ tasks_in right.now) }
+    ensures full { DifferByAtMost 1 (height_in left.now) (height_in right.now)
+        → IsFull (suc (max (height_in left.now) (height_in right.now))) (length (tasks_in left.now ++ task.now ∷ tasks_in right.now)) }
+    ensures bounded { AreLow (tasks_in left.now ++ task.now ∷ tasks_in right.now) }
+{
+    Around {
+        left: height(left),
+        right: height(right),
+        least: least_around(left, task, right),
+    }
+}
+
+impl Around {
+    /// Whether one side is more than one higher than the other.
+    pub fn is_uneven(&self) -> bool
+        ensures even { result ≡ false → DifferByAtMost 1 self.now.left self.now.right }
+        ensures uneven { result ≡ true → (suc self.now.left < self.now.right) ⊎ (suc self.now.right < self.now.left) }
+    {
+        self.left.abs_diff(self.right) > 1
+    }
+
+    /// Makes what is kept of a node right again. Answers whether any of it has changed.
+    pub fn renew(&self, node_height: &mut u32, node_least: &mut Least) -> bool
+        requires { max self.now.left self.now.right ≤ 2 ^ 20 }
+        ensures height { node_height.new ≡ suc (max self.now.left self.now.right) }
+        ensures least { node_least.new ≡ self.now.least }
+        ensures same_height { result ≡ false → node_height.new ≡ node_height.old }
+        ensures same_least { result ≡ false → node_least.new ≡ node_least.old }
+    {
+        let older = *node_height;
+        *node_height = self.left.max(self.right) + 1;
+        self.renew_least(node_least) || *node_height != older
+    }
+
+    /// Makes the least virtual runtime of a node right again. Answers whether it has changed.
+    pub fn renew_least(&self, node_least: &mut Least) -> bool
+        ensures least { node_least.new ≡ self.now.least }
+        ensures same_least { result ≡ false → node_least.new ≡ node_least.old }
+    {
+        let older = *node_least;
+        *node_least = self.least;
+        is_another(&older, node_least)
+    }
+}
+
+/// Whether a least virtual runtime is another than before.
+fn is_another(older: &Least, least: &Least) -> bool
+    ensures { result ≡ false → least.now ≡ older.now }
+{
+    least.runtime != older.runtime
+}
