@@ -35,7 +35,7 @@ changed_by f m c k true e h =
 changed_by f m c k false e h = other_queue m c k (f (queue_at m c)) (unequal k c e)
 
 -- one queue changes
-changed : (f : State → State) (m : Machine) (c k : ℕ) → c < length m → queue_at (set m c (f (queue_at m c))) k ≡ only_at c k f (queue_at m k)
+pub changed : (f : State → State) (m : Machine) (c k : ℕ) → c < length m → queue_at (set m c (f (queue_at m c))) k ≡ only_at c k f (queue_at m k)
 changed f m c k h = changed_by f m c k (k == c) refl h
 
 -- one changes, and then another
@@ -44,7 +44,7 @@ changed_twice : (f g : State → State) (m : Machine) (c d k : ℕ) → c < leng
 changed_twice f g m c d k h i =
     changed g (set m c (f (queue_at m c))) d k (omega (arith, length-set m c (f (queue_at m c)))) ∙ ap (only_at d k g) (changed f m c k h)
 
-idle : (b : Bool) (q : State) → cond b q q ≡ q
+pub idle : (b : Bool) (q : State) → cond b q q ≡ q
 idle true q = refl
 idle false q = refl
 
@@ -61,7 +61,7 @@ untaken_by p true true why o e = cc
 untaken_by p true false why o e = let is : Range ≡ why = cc in ap (λ (a : Answer). taken a o) (sym is)
 untaken_by p false c why o e = let is : Balanced ≡ why = cc in ap (λ (a : Answer). taken a o) (sym is)
 
-untaken : (q : State) (load : ℕ) (offered o : Option Contents) (why : Answer) → decision q load offered ≡ Err why → taken why o ≡ None
+pub untaken : (q : State) (load : ℕ) (offered o : Option Contents) (why : Answer) → decision q load offered ≡ Err why → taken why o ≡ None
 untaken q load None o why e = let is : Nothing ≡ why = cc in ap (λ (a : Answer). taken a o) (sym is)
 untaken q load (Some p) o why e = untaken_by p (is_lighter (load_of q) p load) (can_place q (sleeper_of p)) why o e
 

@@ -7,10 +7,9 @@ use Rattle.eevdf_ops.specs.declared.deeds.Deed.{Deed}
 use Rattle.eevdf_ops.specs.declared.deeds.Answer.{Answer}
 use Rattle.eevdf_ops.specs.declared.deeds.Line.{Line}
 use Rattle.eevdf_ops.specs.Whole.{whole, lines_of, machine_after}
-use Rattle.std.specs.Prelude.{pos}
 use Rattle.eevdf_queue.specs.State.{State, View, Contents, empty_state}
 use Rattle.eevdf_ops.specs.declared.task_spec.TaskSpec.{TaskSpec}
-use Rattle.eevdf_ops.specs.Machine.{Machine, queue_at, begin, joined, begin_at_homes}
+use Rattle.eevdf_ops.specs.Machine.{Machine, queue_at, begin, beginner, joined, begin_at_homes}
 use Rattle.eevdf_ops.specs.Outcome.{machine_of}
 
 get_machine : (queues : List View) (k : ℕ) (d : View) → k < length queues → get_or (machine_of queues) k empty_state ≡ (get_or queues k d).state
@@ -44,7 +43,7 @@ length-begin_at_homes task [] m = refl
 length-begin_at_homes task (t ∷ ts) m = length-set (begin_at_homes (task + 1) ts m) t.home _ ∙ length-begin_at_homes (task + 1) ts m
 
 -- a task that joins by its parcel begins
-pub joins_as_it_begins : (task : ℕ) (t : TaskSpec) (p : Contents) (q : State) → p ≡ record { task = task; nice = t.nice; slice = t.slice; start = t.start; lag = pos 0 } → joined t.asleep p q ≡ begin task t q
+pub joins_as_it_begins : (task : ℕ) (t : TaskSpec) (p : Contents) (q : State) → p ≡ beginner task t → joined t.asleep p q ≡ begin task t q
 joins_as_it_begins task t p q e = ap (λ (r : Contents). joined t.asleep r q) e
 
 -- a machine that has this start has so many queues

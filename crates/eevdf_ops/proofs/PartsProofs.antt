@@ -49,11 +49,20 @@ the_whole_has_parts homes deed m c = record {
 }
 
 -- on machines that agree where a deed touches them, it comes to the same
-comes_alike : (homes : List ℕ) (deed : Deed) (m n : Machine) → laws.Fits homes deed n → ((c : ℕ) → touches homes deed c ≡ true → queue_at m c ≡ queue_at n c)
+comes_alike : (homes : List ℕ) (deed : Deed) (m n : Machine) → laws.Fits homes deed n → laws.AgreeWhereTouched homes deed m n
     → laws.ComesTo homes deed n (whole homes deed m).0 (moved_by m deed)
 comes_alike homes deed m n fits alike =
     parts_make_the_whole homes deed n (whole homes deed m).0 (moved_by m deed) fits
     (λ c t. subst (λ (q : State). Agrees deed c q (whole homes deed m).0 (moved_by m deed)) (alike c t) (the_whole_has_parts homes deed m c))
+
+pub touched_decide : laws.TouchedDecide
+touched_decide homes deed m n fm fn alike =
+    let comes : laws.ComesTo homes deed n (whole homes deed m).0 (moved_by m deed) = comes_alike homes deed m n fn alike in
+    record {
+      answers = sym comes.answers;
+      leaves = λ c t. whole-after homes deed m c fm
+          ∙ ap (λ (q : State). local_after homes deed c q (whole homes deed m).0 (moved_by m deed)) (alike c t) ∙ sym (comes.leaves c);
+    }
 
 fits_after : (homes : List ℕ) (a b : Deed) (m : Machine) → laws.Fits homes a m → laws.Fits homes a (whole homes b m).1
 fits_after homes a b m fits = record {
@@ -74,7 +83,7 @@ comes_after : (homes : List ℕ) (a b : Deed) (m : Machine) → laws.Fits homes 
     → laws.ComesTo homes a (whole homes b m).1 (whole homes a m).0 (moved_by m a)
 comes_after homes a b m fits apart = comes_alike homes a m (whole homes b m).1 (fits_after homes a b m fits) (λ c t. sym (others_stay homes b m c (apart c t)))
 
-same_machine : (m n : Machine) → length m ≡ length n → ((c : ℕ) → queue_at m c ≡ queue_at n c) → m ≡ n
+pub same_machine : (m n : Machine) → length m ≡ length n → ((c : ℕ) → queue_at m c ≡ queue_at n c) → m ≡ n
 same_machine [] [] e all = refl
 same_machine [] (y ∷ n) e all = absurd (omega arith)
 same_machine (x ∷ m) [] e all = absurd (omega arith)

@@ -1,17 +1,17 @@
 -- What a setup without a fault gives for each task, and where a task isn't yet while the tasks begin.
 use Rattle.std.proofs.Common.{◌≡◌, ◌≢◌, ℕ, zero, suc, ◌+◌, ◌<◌, Bool, true, false, cond, List, [], ◌∷◌, length, get_or, set, refl, sym, subst, ap, ◌∙◌, arith}
-use Rattle.std.specs.Prelude.{Option, Some, None, nat_lt, ◌==◌, pos, if◌then◌else◌, replicate}
+use Rattle.std.specs.Prelude.{Option, Some, None, nat_lt, ◌==◌, replicate}
 use Rattle.std.specs.Option.{option_or}
 use Rattle.std.specs.Ordering.{nat_cmp, eq_by_cmp}
 use Rattle.std.specs.FinMap as finite
 use Rattle.std.specs.Cmp.{nat_cmp_total, unsigned_tied}
 use Rattle.std.proofs.lemmas.Bool.Decides.{nat_tests}
-use Rattle.eevdf_queue.specs.Moves.{fresh_entry}
-use Rattle.eevdf_queue.specs.State.{State, empty_state}
+use Rattle.eevdf_queue.specs.Leaving.{IsNowhere}
+use Rattle.eevdf_queue.specs.State.{State, Contents, empty_state}
 use Rattle.eevdf_ops.specs.declared.task_spec.TaskSpec.{TaskSpec}
 use Rattle.eevdf_ops.specs.declared.setup_fault.SetupFault.{SetupFault}
 use Rattle.eevdf_ops.specs.Faults.{unless, starts_in_range, task_fault, tasks_fault}
-use Rattle.eevdf_ops.specs.Machine.{Machine, IsAbsent, queue_at, begin, begin_at_homes}
+use Rattle.eevdf_ops.specs.Machine.{Machine, queue_at, joined, beginner, begin_at_homes}
 
 pub or_none_left : (f g : Option SetupFault) → option_or f g ≡ None → f ≡ None
 or_none_left None g e = refl
@@ -49,36 +49,31 @@ pub get_other : {X : Type 0} (m : finite.FinMap nat_cmp X) (j k : ℕ) (v : X) �
 get_other m j k v apart e = let no : eq_by_cmp nat_cmp k j ≡ false = unsigned_tied k j ∙ not_equal k j apart in
     finite.get-insert nat_cmp_total m j v k ∙ ap (λ (b : Bool). cond b (Some v) (finite.get m k)) no ∙ e
 
-absent_begin : (task k : ℕ) (t : TaskSpec) (q : State) → k ≢ task → IsAbsent q k → IsAbsent (begin task t q) k
-absent_begin task k t q apart a =
-    elim t.asleep as (λ b.
-    IsAbsent (if b then record q { asleep = finite.insert q.asleep task (record { lag = pos 0; nice = t.nice; slice = t.slice }) }
-    else record q { runnable = finite.insert q.runnable task (fresh_entry t.start t.nice t.slice) }) k) [
-      | true ↦ record { runnable = a.runnable; asleep = get_other q.asleep task k _ apart a.asleep }
-      | false ↦ record { runnable = get_other q.runnable task k _ apart a.runnable; asleep = a.asleep }
-    ]
+absent_join : (asleep : Bool) (p : Contents) (k : ℕ) (q : State) → k ≢ p.task → IsNowhere q k → IsNowhere (joined asleep p q) k
+absent_join true p k q apart a = record { not_runnable = a.not_runnable; not_asleep = get_other q.asleep p.task k _ apart a.not_asleep }
+absent_join false p k q apart a = record { not_runnable = get_other q.runnable p.task k _ apart a.not_runnable; not_asleep = a.not_asleep }
 
-pub absent_nowhere : (k : ℕ) → IsAbsent empty_state k
-absent_nowhere k = record { runnable = finite.get-empty nat_cmp k; asleep = finite.get-empty nat_cmp k }
+pub absent_nowhere : (k : ℕ) → IsNowhere empty_state k
+absent_nowhere k = record { not_runnable = finite.get-empty nat_cmp k; not_asleep = finite.get-empty nat_cmp k }
 
-absent_set : (m : Machine) (c h k : ℕ) (q : State) → IsAbsent (queue_at m c) k → IsAbsent q k → IsAbsent (queue_at (set m h q) c) k
+absent_set : (m : Machine) (c h k : ℕ) (q : State) → IsNowhere (queue_at m c) k → IsNowhere q k → IsNowhere (queue_at (set m h q) c) k
 absent_set [] c h k q a b = absent_nowhere k
 absent_set (x ∷ m) zero zero k q a b = b
 absent_set (x ∷ m) zero (suc h) k q a b = a
 absent_set (x ∷ m) (suc c) zero k q a b = a
 absent_set (x ∷ m) (suc c) (suc h) k q a b = absent_set m c h k q a b
 
-pub absent_empty : (n c k : ℕ) → IsAbsent (queue_at (replicate n empty_state) c) k
+pub absent_empty : (n c k : ℕ) → IsNowhere (queue_at (replicate n empty_state) c) k
 absent_empty zero c k = absent_nowhere k
 absent_empty (suc n) zero k = absent_nowhere k
 absent_empty (suc n) (suc c) k = absent_empty n c k
 
 -- while the tasks from a number on have begun, no lower number stands anywhere
-pub absent_before : (n task : ℕ) (ts : List TaskSpec) (c k : ℕ) → k < task → IsAbsent (queue_at (begin_at_homes task ts (replicate n empty_state)) c) k
+pub absent_before : (n task : ℕ) (ts : List TaskSpec) (c k : ℕ) → k < task → IsNowhere (queue_at (begin_at_homes task ts (replicate n empty_state)) c) k
 absent_before n task [] c k h = absent_empty n c k
 absent_before n task (t ∷ ts) c k h =
-    let rest : (c : ℕ) → IsAbsent (queue_at (begin_at_homes (task + 1) ts (replicate n empty_state)) c) k = λ c. absent_before n (task + 1) ts c k (omega arith) in
-    absent_set _ c t.home k _ (rest c) (absent_begin task k t _ (omega arith) (rest t.home))
+    let rest : (c : ℕ) → IsNowhere (queue_at (begin_at_homes (task + 1) ts (replicate n empty_state)) c) k = λ c. absent_before n (task + 1) ts c k (omega arith) in
+    absent_set _ c t.home k _ (rest c) (absent_join t.asleep (beginner task t) k _ (omega arith) (rest t.home))
 
 -- what is known of the task at a place that was read
 pub begins_well_at : (cpus : ℕ) (ts : List TaskSpec) (k : ℕ) (t : TaskSpec) → tasks_fault cpus 0 ts ≡ None → k < length ts → t ≡ get_or ts k t → BeginsWell cpus t

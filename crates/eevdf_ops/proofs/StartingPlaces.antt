@@ -1,17 +1,18 @@
 -- At the start each task stands in one place, and a sleeping one at its home.
 use Rattle.std.proofs.Common.{◌≡◌, ℕ, zero, suc, ◌+◌, ◌-◌, ◌<◌, ◌≤◌, Bool, true, false, ◌&&◌, ◌||◌, List, [], ◌∷◌, length, map, replicate, refl, sym, ap, ◌∙◌, arith}
-use Rattle.std.specs.Prelude.{nat_lt, nat_le, ◌==◌, is_some, None, pos, if◌then◌else◌}
-use Rattle.std.specs.FinMap.{contains_key, insert}
+use Rattle.std.specs.Prelude.{nat_lt, nat_le, ◌==◌, is_some, None}
+use Rattle.std.specs.FinMap.{contains_key}
 use Rattle.std.proofs.Math.ListN.{length-replicate}
 use Rattle.std.proofs.lemmas.List.{length-map}
 use Rattle.std.proofs.lemmas.Bool.{false≢true}
 use Rattle.std.proofs.lemmas.Bool.Decides.{nat_tests}
-use Rattle.eevdf_queue.specs.Moves.{fresh_entry}
-use Rattle.eevdf_queue.specs.State.{State, empty_state}
+use Rattle.eevdf_queue.specs.Leaving.{IsNowhere}
+use Rattle.eevdf_queue.specs.Moves.{fresh_entry, sleeper_of}
+use Rattle.eevdf_queue.specs.State.{State, Contents, empty_state}
 use Rattle.eevdf_ops.specs.declared.task_spec.TaskSpec.{TaskSpec}
 use Rattle.eevdf_ops.specs.Faults.{tasks_fault, task_fault}
 use Rattle.eevdf_ops.specs.Setup.{home_of}
-use Rattle.eevdf_ops.specs.Machine.{Machine, IsAbsent, queue_at, begin, begin_at_homes}
+use Rattle.eevdf_ops.specs.Machine.{Machine, queue_at, joined, beginner, begin, begin_at_homes}
 use Rattle.eevdf_ops.specs.Places.{count, places, IsPlaced, AreCpus}
 use Rattle.eevdf_ops.proofs.Machines.{length-begin_at_homes}
 use Rattle.eevdf_ops.proofs.MapCounts.{equal, count-insert, contains-insert}
@@ -25,15 +26,10 @@ homes ts = map (λ (t : TaskSpec). t.home) ts
 abbrev begun : ℕ → ℕ → List TaskSpec → Machine
 begun n task ts = begin_at_homes task ts (replicate n empty_state)
 
--- a task that begins stands in a place more
-begin-with : (task : ℕ) (t : TaskSpec) (q : State) → IsAbsent q task → IsWith q task (begin task t q)
-begin-with task t q a =
-    elim t.asleep as (λ b.
-    IsWith q task (if b then record q { asleep = insert q.asleep task (record { lag = pos 0; nice = t.nice; slice = t.slice }) }
-    else record q { runnable = insert q.runnable task (fresh_entry t.start t.nice t.slice) })) [
-      | true ↦ record { places = λ u. omega (arith, count-insert q.asleep task u (record { lag = pos 0; nice = t.nice; slice = t.slice }) (ap is_some a.asleep)) }
-      | false ↦ record { places = λ u. omega (arith, count-insert q.runnable task u (fresh_entry t.start t.nice t.slice) (ap is_some a.runnable)) }
-    ]
+-- a task that joins stands in a place more
+join-with : (asleep : Bool) (p : Contents) (q : State) → IsNowhere q p.task → IsWith q p.task (joined asleep p q)
+join-with true p q a = record { places = λ u. omega (arith, count-insert q.asleep p.task u (sleeper_of p) (ap is_some a.not_asleep)) }
+join-with false p q a = record { places = λ u. omega (arith, count-insert q.runnable p.task u (fresh_entry p.start p.nice p.slice) (ap is_some a.not_runnable)) }
 
 -- whether a number is one of so many from another on
 abbrev is_from : ℕ → ℕ → ℕ → Bool
@@ -48,8 +44,8 @@ one_from task n u = grind (arith, nat_tests)
 places_empty : (n u : ℕ) → places (replicate n empty_state) u ≡ 0
 places_empty zero u = refl
 places_empty (suc n) u =
-    let runnable : count (contains_key empty_state.runnable u) ≡ 0 = ap (λ o. count (is_some o)) (absent_nowhere u).runnable in
-    let asleep : count (contains_key empty_state.asleep u) ≡ 0 = ap (λ o. count (is_some o)) (absent_nowhere u).asleep in
+    let runnable : count (contains_key empty_state.runnable u) ≡ 0 = ap (λ o. count (is_some o)) (absent_nowhere u).not_runnable in
+    let asleep : count (contains_key empty_state.asleep u) ≡ 0 = ap (λ o. count (is_some o)) (absent_nowhere u).not_asleep in
     omega (arith, places_empty n u)
 
 home_within : (n place : ℕ) (t : TaskSpec) (l : ℕ) → task_fault n place t ≡ None → l ≡ n → t.home < l
@@ -62,7 +58,7 @@ places_begun n place task u (t ∷ ts) well =
     let q : State = begin task t (queue_at rest t.home) in
     let within : t.home < length rest = home_within n place t (length rest) (or_none_left _ _ well)
     (length-begin_at_homes (task + 1) ts (replicate n empty_state) ∙ length-replicate n empty_state) in
-    let more : IsWith (queue_at rest t.home) task q = begin-with task t (queue_at rest t.home) (absent_before n (task + 1) ts t.home task (omega arith)) in
+    let more : IsWith (queue_at rest t.home) task q = join-with t.asleep (beginner task t) (queue_at rest t.home) (absent_before n (task + 1) ts t.home task (omega arith)) in
     omega (
       arith,
       places-set rest t.home u q within,
@@ -91,27 +87,23 @@ begun_by : (task u : ℕ) (t : TaskSpec) (ts : List TaskSpec) (b c : Bool) → (
 begun_by task u t ts true c f g e = first task u t ts (f refl)
 begun_by task u t ts false c f g e = further task u t.home t ts (g e)
 
-begin-at_home : (task : ℕ) (t : TaskSpec) (ts : List TaskSpec) (q : State) → BegunAtHome (task + 1) ts t.home q → BegunAtHome task (t ∷ ts) t.home (begin task t q)
-begin-at_home task t ts q rest =
-    elim t.asleep as (λ b.
-    BegunAtHome task (t ∷ ts) t.home (if b then record q { asleep = insert q.asleep task (record { lag = pos 0; nice = t.nice; slice = t.slice }) }
-    else record q { runnable = insert q.runnable task (fresh_entry t.start t.nice t.slice) })) [
-      | true ↦ λ u a. begun_by task u t ts (u == task) (contains_key q.asleep u) (equal u task) (rest u)
-          (sym (contains-insert q.asleep task u (record { lag = pos 0; nice = t.nice; slice = t.slice })) ∙ a)
-      | false ↦ λ u a. further task u t.home t ts (rest u a)
-    ]
+join-at_home : (task : ℕ) (t : TaskSpec) (ts : List TaskSpec) (asleep : Bool) (q : State) → BegunAtHome (task + 1) ts t.home q
+    → BegunAtHome task (t ∷ ts) t.home (joined asleep (beginner task t) q)
+join-at_home task t ts true q rest = λ u a.
+    begun_by task u t ts (u == task) (contains_key q.asleep u) (equal u task) (rest u) (sym (contains-insert q.asleep task u (sleeper_of (beginner task t))) ∙ a)
+join-at_home task t ts false q rest = λ u a. further task u t.home t ts (rest u a)
 
 nobody_asleep : (u : ℕ) → contains_key empty_state.asleep u ≡ true → ⊥
-nobody_asleep u a = false≢true (ap is_some (sym (absent_nowhere u).asleep) ∙ a)
+nobody_asleep u a = false≢true (ap is_some (sym (absent_nowhere u).not_asleep) ∙ a)
 
 empty_at_home : (n task cpu : ℕ) → BegunAtHome task [] cpu (queue_at (replicate n empty_state) cpu)
-empty_at_home n task cpu u a = absurd (false≢true (ap is_some (sym (absent_empty n cpu u).asleep) ∙ a))
+empty_at_home n task cpu u a = absurd (false≢true (ap is_some (sym (absent_empty n cpu u).not_asleep) ∙ a))
 
 begun-at_home : (n task : ℕ) (ts : List TaskSpec) (cpu : ℕ) → BegunAtHome task ts cpu (queue_at (begun n task ts) cpu)
 begun-at_home n task [] cpu = empty_at_home n task cpu
 begun-at_home n task (t ∷ ts) cpu =
     each-set (BegunAtHome task (t ∷ ts)) (begun n (task + 1) ts) t.home (begin task t (queue_at (begun n (task + 1) ts) t.home))
-    (begin-at_home task t ts (queue_at (begun n (task + 1) ts) t.home) (begun-at_home n (task + 1) ts t.home))
+    (join-at_home task t ts t.asleep (queue_at (begun n (task + 1) ts) t.home) (begun-at_home n (task + 1) ts t.home))
     (λ k u a. further task u k t ts (begun-at_home n (task + 1) ts k u a)) cpu
 
 from_first : (n u l : ℕ) → l ≡ n → is_from 0 n u ≡ nat_lt u l

@@ -13,3 +13,6 @@ pub mod Laws
 pub mod Parts
 pub mod PartsLaws
 pub mod PartsHistory
+pub mod Programs
+pub mod Histories
+pub mod Followed

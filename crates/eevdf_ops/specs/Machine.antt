@@ -1,5 +1,5 @@
 -- The machine, and how it begins.
-use Rattle.std.specs.Prelude.{◌≡◌, ℕ, Bool, None, ◌+◌, pos, List, [], ◌∷◌, if◌then◌else◌, replicate, slice_index_or, slice_set}
+use Rattle.std.specs.Prelude.{ℕ, Bool, ◌+◌, pos, List, [], ◌∷◌, if◌then◌else◌, replicate, slice_index_or, slice_set}
 use Rattle.std.specs.FinMap as finite
 use Rattle.eevdf_queue.specs.State.{State, Contents, empty_state}
 use Rattle.eevdf_queue.specs.Moves.{fresh_entry, put_asleep}
@@ -13,11 +13,19 @@ Machine = List State
 abbrev pub queue_at : Machine → ℕ → State
 queue_at m cpu = slice_index_or m cpu empty_state
 
--- a task joins the queue that it begins in: runnable at its start, or asleep with lag 0
+-- a queue with one task more, asleep or runnable at its start
+abbrev pub joined : Bool → Contents → State → State
+joined asleep p q =
+    if asleep then put_asleep q p
+    else record q { runnable = finite.insert q.runnable p.task (fresh_entry p.start p.nice p.slice) }
+
+-- a task before it has run: it has the lag 0
+abbrev pub beginner : ℕ → TaskSpec → Contents
+beginner task t = record { task = task; nice = t.nice; slice = t.slice; start = t.start; lag = pos 0 }
+
+-- a task joins the queue that it begins in
 abbrev pub begin : ℕ → TaskSpec → State → State
-begin task t q =
-    if t.asleep then record q { asleep = finite.insert q.asleep task (record { lag = pos 0; nice = t.nice; slice = t.slice }) }
-    else record q { runnable = finite.insert q.runnable task (fresh_entry t.start t.nice t.slice) }
+begin task t q = joined t.asleep (beginner task t) q
 
 -- each task begins at its home, numbered from a number on
 abbrev pub begin_at_homes : ℕ → List TaskSpec → Machine → Machine
@@ -28,12 +36,3 @@ begin_at_homes task (t ∷ ts) m =
 -- the machine at the start: each task at its home, and nobody runs
 abbrev pub start : Setup → Machine
 start s = begin_at_homes 0 s.tasks (replicate (cpus_of s) empty_state)
-
--- a number that stands nowhere in a queue
-pub record IsAbsent (q : State) (task : ℕ) : Type 0 where
-  pub runnable : finite.get q.runnable task ≡ None
-  pub asleep : finite.get q.asleep task ≡ None
-
--- a queue with one task more, asleep or runnable at its start
-abbrev pub joined : Bool → Contents → State → State
-joined asleep p q = if asleep then put_asleep q p else record q { runnable = finite.insert q.runnable p.task (fresh_entry p.start p.nice p.slice) }

@@ -38,6 +38,21 @@ TheWholeHasParts =
     (homes : List ℕ) (deed : Deed) (m : Machine) (c : ℕ) →
     Agrees deed c (queue_at m c) (whole homes deed m).0 (given deed (queue_at m (giver deed)))
 
+-- two machines agree on the queues that a deed touches
+abbrev pub AgreeWhereTouched : List ℕ → Deed → Machine → Machine → Type 0
+AgreeWhereTouched homes deed m n = (c : ℕ) → touches homes deed c ≡ true → queue_at m c ≡ queue_at n c
+
+-- a deed is answered alike on two machines, and leaves alike the queues that it touches
+pub record IsAlike (homes : List ℕ) (deed : Deed) (m n : Machine) : Type 0 where
+  pub answers : (whole homes deed m).0 ≡ (whole homes deed n).0
+  pub leaves : AgreeWhereTouched homes deed (whole homes deed m).1 (whole homes deed n).1
+
+-- a deed depends on the queues alone that it touches
+abbrev pub TouchedDecide : Type 0
+TouchedDecide =
+    (homes : List ℕ) (deed : Deed) (m n : Machine) → Fits homes deed m → Fits homes deed n →
+    AgreeWhereTouched homes deed m n → IsAlike homes deed m n
+
 -- no queue is touched by both
 abbrev pub AreApart : List ℕ → Deed → Deed → Type 0
 AreApart homes a b = (c : ℕ) → touches homes a c && touches homes b c ≡ false

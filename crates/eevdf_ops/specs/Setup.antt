@@ -26,7 +26,7 @@ is_task homes task = nat_lt task (length homes)
 
 -- whether a task has its home at a CPU
 abbrev pub is_at_home : List ℕ → ℕ → ℕ → Bool
-is_at_home homes task cpu = is_task homes task && (slice_index_or homes task cpu == cpu)
+is_at_home homes task cpu = is_task homes task && (home_of homes task == cpu)
 
 -- whether a CPU may pull from another
 abbrev pub is_source : ℕ → ℕ → ℕ → Bool

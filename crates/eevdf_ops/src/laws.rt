@@ -9,6 +9,7 @@ ghost use Rattle.eevdf_ops.specs.PartsLaws.{
   OthersStay,
   PartsMakeTheWhole,
   TheWholeHasParts,
+  TouchedDecide,
   WakeIsLocal,
 };
 ghost use Rattle.eevdf_ops.specs.Places.{AreCpus, IsPlaced};
@@ -68,6 +69,12 @@ pub fn the_whole_has_parts()
 /// the history of the deeds, and each queue that it leaves is the one replayed by itself.
 pub fn history_by_parts()
     ensures { HistoryByParts }
+{}
+
+/// A deed depends on the queues alone that it touches: on machines that agree there it has the same answer, and
+/// leaves the same queues there.
+pub fn touched_queues_decide()
+    ensures { TouchedDecide }
 {}
 
 /// Two deeds that touch no common queue have the same answers, and leave the same machine, in either order.

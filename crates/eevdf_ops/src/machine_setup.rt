@@ -53,6 +53,15 @@ impl Setup {
         }
     }
 
+    /// The same setup in memory of its own.
+    pub fn try_clone(&self, alloc: Global) -> Result<Setup, AllocError>
+        ensures { IfOk result (λ s. s ≡ self.now) }
+    {
+        let tasks = Vec::from_slice(alloc, &self.tasks)?;
+        let programs = copy_programs(alloc, &self.programs)?;
+        Ok(Setup { tasks, programs })
+    }
+
     /// The number of CPUs. No setup has a fault.
     pub fn cpus(&self) -> usize
         ensures cpus { result ≡ setup.cpus_of self.now }
@@ -68,6 +77,13 @@ impl Setup {
         ensures { result ≡ length self.now.tasks }
     {
         self.tasks.len()
+    }
+
+    /// The home of each task by its number, copied. Fails only for want of memory.
+    pub(crate) fn homes(&self, alloc: Global) -> Result<Vec<CpuId>, AllocError>
+        ensures { IfOk result (λ homes. homes.items ≡ setup.homes_of self.now) }
+    {
+        self.tasks.iter().map(|task| task.home).collect(alloc)
     }
 
     /// The tasks by their numbers. None of them, and no program, has a fault.

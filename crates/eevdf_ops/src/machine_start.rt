@@ -2,6 +2,7 @@
 
 ghost use Rattle.std.specs.Prelude.{◌≡◌, ◌≤◌, ◌<◌, None, true, length, replicate, slice_set, IfOk, OnOk};
 ghost use Rattle.eevdf_queue.specs.State.{empty_state};
+ghost use Rattle.eevdf_queue.specs.Leaving.{IsNowhere};
 ghost use Rattle.eevdf_queue.specs.Moves.{fresh_entry, is_entry_in_range};
 ghost use Rattle.eevdf_ops.specs.Faults.{starts_in_range, tasks_fault};
 ghost use Rattle.eevdf_ops.specs.Machine as machine;
@@ -60,7 +61,7 @@ fn begin(
 ) -> Result<(), AllocError>
     requires home { spec.home < length queues.old }
     requires in_range { starts_in_range spec ≡ true }
-    requires absent { machine.IsAbsent (machine.queue_at (machine_of queues.old) spec.home) task }
+    requires absent { IsNowhere (machine.queue_at (machine_of queues.old) spec.home) task }
     ensures { OnOk result (machine_of queues.new ≡ slice_set (machine_of queues.old) spec.home
         (machine.begin task spec (machine.queue_at (machine_of queues.old) spec.home))) }
 {
@@ -72,7 +73,7 @@ fn begin(
 
 /// Puts a task that is in no place yet into a queue, asleep or runnable at its start.
 fn join(queue: &mut Queue, parcel: Parcel, asleep: bool)
-    requires absent { machine.IsAbsent queue.old.state parcel.task }
+    requires absent { IsNowhere queue.old.state parcel.task }
     requires in_range { is_entry_in_range (fresh_entry parcel.start parcel.nice parcel.slice) ≡ true }
     ensures { queue.new.state ≡ machine.joined asleep parcel queue.old.state }
 {

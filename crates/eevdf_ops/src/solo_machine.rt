@@ -1,4 +1,4 @@
-ghost use Rattle.std.specs.Prelude.{◌≡◌, ◌<◌, length, map, true, IfOk, slice_index_or};
+ghost use Rattle.std.specs.Prelude.{◌≡◌, ◌<◌, length, true, IfOk, slice_index_or};
 ghost use Rattle.eevdf_ops.specs.Setup.{cpus_of, homes_of, is_allowed};
 ghost use Rattle.eevdf_ops.specs.Machine as machine;
 ghost use Rattle.eevdf_ops.specs.Outcome.{machine_of};
@@ -9,7 +9,6 @@ use crate::cpu_number::CpuId;
 use crate::deeds::{Answer, Deed};
 use crate::machine_setup::Setup;
 use crate::machine_start::queues_at_start;
-use crate::task_spec::TaskSpec;
 use crate::whole_deeds::whole;
 use eevdf_queue::Queue;
 use std::alloc::{AllocError, Global};
@@ -48,7 +47,7 @@ impl Solo {
         ensures start { IfOk result (λ s. machine_of s.queues ≡ machine.start setup.now) }
         ensures cpus { IfOk result (λ s. length s.queues ≡ cpus_of setup.now) }
     {
-        let homes = copy_homes(alloc, setup.task_specs())?;
+        let homes = setup.homes(alloc)?;
         let queues = queues_at_start(alloc, setup.cpus(), setup.task_specs())?;
         Ok(Solo { homes, queues })
     }
@@ -86,10 +85,4 @@ impl Solo {
         let Solo { homes: _, queues } = self;
         queues
     }
-}
-
-fn copy_homes(alloc: Global, tasks: &[TaskSpec]) -> Result<Vec<CpuId>, AllocError>
-    ensures { IfOk result (λ homes. homes.items ≡ map (λ (t : TaskSpec). t.home) tasks.now) }
-{
-    tasks.iter().map(|task| task.home).collect(alloc)
 }

@@ -71,6 +71,7 @@ pub fn decide(puller: &Queue, source: &Queue) -> Result<TaskId, Answer>
 fn is_lighter(load: u64, nice: Nice, source_load: u64) -> bool
     ensures { result ≡ nat_lt (load + weight_of nice) source_load }
 {
+    // no sum of the load and the weight, which 64 bits might not hold
     weight(nice) < source_load.saturating_sub(load)
 }
 

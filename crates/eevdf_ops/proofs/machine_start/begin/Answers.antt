@@ -1,22 +1,18 @@
 use Rattle.std.proofs.Common.{◌≡◌, ◌<◌, length, sym, ap, ◌∙◌, arith, rules}
-use Rattle.std.specs.Prelude.{ℕ, ℤ, pos}
+use Rattle.std.specs.Prelude.{ℤ}
 use Rattle.std.proofs.lemmas.Int.{to_z-of_z}
 use mir.Syntax.{w64}
 use mir.Val.{SFits}
-use Rattle.eevdf_queue.specs.State.{State, Contents}
-use Rattle.eevdf_ops.specs.declared.task_spec.TaskSpec.{TaskSpec}
-use Rattle.eevdf_ops.specs.Machine.{begin}
+use Rattle.eevdf_queue.specs.State.{State}
+use Rattle.eevdf_ops.specs.Machine.{begin, beginner}
 use Rattle.eevdf_ops.proofs.Machines.{queue_read, machine_with, joins_as_it_begins}
 use Rattle.eevdf_ops.proofs.machine_start.begin.Goals as goal
 use Rattle.eevdf_ops.proofs.machine_start.begin.Goals.{After-join}
 
-abbrev contents : ℕ → TaskSpec → ℤ → Contents
-contents task t start = record { task = task; nice = t.nice; slice = t.slice; start = start; lag = pos 0 }
-
-carries : (c : After-join) → c.in_ok-parcel.parcel ≡ contents c.args.task c.args.spec c.args.spec.start
+carries : (c : After-join) → c.in_ok-parcel.parcel ≡ beginner c.args.task c.args.spec
 carries c =
     let fits : SFits w64 c.args.spec.start = search rules in
-    c.in_ok-parcel.ensures ∙ ap (contents c.args.task c.args.spec) (to_z-of_z w64 c.args.spec.start fits)
+    c.in_ok-parcel.ensures ∙ ap (λ (z : ℤ). record (beginner c.args.task c.args.spec) { start = z }) (to_z-of_z w64 c.args.spec.start fits)
 
 pub returns : goal.returns
 returns c =

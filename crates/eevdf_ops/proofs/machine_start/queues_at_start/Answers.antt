@@ -2,8 +2,9 @@ use Rattle.std.proofs.Common.{◌≡◌, ◌<◌, ◌-◌, ℕ, List, length, dr
 use Rattle.std.proofs.Math.ListN.{length-replicate}
 use Rattle.std.proofs.lemmas.Bool.Decides.{nat_tests}
 use Rattle.std.specs.Prelude.{nat_lt}
+use Rattle.eevdf_queue.specs.Leaving.{IsNowhere}
 use Rattle.eevdf_queue.specs.State.{View, empty_state}
-use Rattle.eevdf_ops.specs.Machine.{Machine, IsAbsent, queue_at, begin_at_homes}
+use Rattle.eevdf_ops.specs.Machine.{Machine, queue_at, begin_at_homes}
 use Rattle.eevdf_ops.specs.Outcome.{machine_of}
 use Rattle.eevdf_ops.proofs.Machines.{length-machine_of, length-begin_at_homes}
 use Rattle.eevdf_ops.proofs.Starting.{BeginsWell, begins_well_at, absent_before}
@@ -34,6 +35,6 @@ begin-requires-clause-in_range c = (well c).in_range
 
 pub begin-requires-clause-absent : goal.begin-requires-clause-absent
 begin-requires-clause-absent c =
-    subst (λ (m : Machine). IsAbsent (queue_at m c.index-tasks-place.result.home) c.task_number.result) (sym (machine_is c))
+    subst (λ (m : Machine). IsNowhere (queue_at m c.index-tasks-place.result.home) c.task_number.result) (sym (machine_is c))
     (absent_before c.args.cpus c.loop-place.place (drop c.loop-place.place c.args.tasks.now) c.index-tasks-place.result.home c.task_number.result
     (omega (arith, c.task_number.ensures)))

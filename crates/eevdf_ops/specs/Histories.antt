@@ -1,0 +1,22 @@
+-- The history that lines tell, and an outcome that is one.
+use Rattle.std.specs.Prelude.{◌≡◌, ℕ, List}
+use Rattle.eevdf_ops.specs.declared.deeds.Deed.{Deed}
+use Rattle.eevdf_ops.specs.declared.deeds.Line.{Line}
+use Rattle.eevdf_ops.specs.Machine.{Machine}
+use Rattle.eevdf_ops.specs.Outcome.{Outcome, machine_of}
+use Rattle.eevdf_ops.specs.Programs.{deeds_of}
+use Rattle.eevdf_ops.specs.Whole.{lines_of, machine_after}
+
+-- the machine that the deeds of lines leave, done as whole operations one after the other
+abbrev pub machine_told : List ℕ → Machine → List Line → Machine
+machine_told homes start lines = machine_after homes start (deeds_of lines)
+
+-- the answer of each line is that of its deed, done as a whole operation after those before it
+abbrev pub AreHistory : List ℕ → Machine → List Line → Type 0
+AreHistory homes start lines = lines ≡ lines_of homes start (deeds_of lines)
+
+-- an outcome of the one thread that does these deeds one after the other, each as a whole operation
+pub record IsOneThread (homes : List ℕ) (start : Machine) (deeds : List Deed) (o : Outcome) : Type 0 where
+  pub deeds_are : deeds_of o.lines ≡ deeds
+  pub lines : o.lines ≡ lines_of homes start deeds
+  pub machine : machine_of o.queues ≡ machine_after homes start deeds
