@@ -11,7 +11,8 @@ use Rattle.eevdf_ops.specs.Places.{IsPlaced}
 use Rattle.eevdf_ops.specs.Setup.{Setup, homes_of}
 use Rattle.eevdf_steps.specs.declared.micro_steps.Micro.TheVariants.{Release}
 use Rattle.eevdf_steps.specs.declared.program_plan.Step.{Step}
-use Rattle.eevdf_steps.specs.Plan.{Plan, callers, home, pair, plan_of, program}
+use Rattle.eevdf_steps.proofs.SerialStart.{serial_start}
+use Rattle.eevdf_steps.specs.Plan.{IsSound, Plan, callers, home, pair, plan_of, program}
 use Rattle.eevdf_steps.specs.MicroSteps.{draining, moving, steps_by, steps_of, under_lock, under_locks}
 use Rattle.eevdf_steps.specs.Counters.{Counters}
 use Rattle.eevdf_steps.specs.Orders.{counters_at_start}
@@ -23,7 +24,8 @@ use Rattle.eevdf_steps.specs.Openings.{AreEmpty, most_lines}
 use Rattle.eevdf_steps.specs.Places.{hands_with}
 use Rattle.eevdf_steps.specs.MicroState.{micro_start}
 use Rattle.eevdf_steps.specs.Recorded.{Recorded, done_at_start}
-use Rattle.eevdf_steps.specs.Players.{IsPlaying, player_of, player_start}
+use Rattle.eevdf_steps.specs.Players.{player_start}
+use Rattle.eevdf_steps.specs.Playing.{IsPlaying, player_of}
 use Rattle.eevdf_steps.proofs.Positions.{micros_in, step_in}
 use Rattle.eevdf_steps.proofs.Holders.{count_first}
 use Rattle.eevdf_steps.proofs.Posting.{posts_joined}
@@ -130,9 +132,9 @@ taken_none (l ∷ lists) (suc n) e h =
     ap (λ (k : ℕ). k ∷ map (λ (m : PostList). m.taken) lists) (h 0 (omega arith))
     ∙ ap (λ (ns : List ℕ). 0 ∷ ns) (taken_none lists n (omega arith) (λ k below. h (suc k) (omega arith)))
 
-pub playing_first : (plan : Plan) (lists : List PostList) (m : Machine) → AreEmpty plan lists → length m ≡ callers plan → IsPlaced plan.homes m
+pub playing_first : (plan : Plan) (lists : List PostList) (m : Machine) → IsSound plan → m ≡ plan.start → AreEmpty plan lists → length m ≡ callers plan → IsPlaced plan.homes m
     → IsPlaying (record { plan = plan; counters = counters_at_start plan }) lists (replicate (callers plan) None) (done_at_start m (callers plan) (most_lines plan 0 (callers plan)))
-playing_first plan lists m a long placed = record {
+playing_first plan lists m sound is a long placed = record {
   posts = posts_first plan lists a;
   found = length-replicate (callers plan) None;
   work = record {
@@ -142,6 +144,7 @@ playing_first plan lists m a long placed = record {
     once = λ u. omega (arith, placed.once u, none_held (callers plan) u);
   };
   room = omega (arith, sum_lines plan 0 (callers plan) (omega arith));
+  serial = serial_start plan m sound is;
 }
 
 pub progress_first : (plan : Plan) (lists : List PostList) → AreEmpty plan lists
@@ -152,6 +155,7 @@ progress_first plan lists a =
 
 -- a player whose parts are known by equations
 pub record Opened (s : Setup) (w : Callers) (lists : List PostList) (found : List (Option ℕ)) (done : Recorded) (m : Machine) (n room : ℕ) : Type 0 where
+  pub sound : IsSound w.plan
   pub plan : w.plan ≡ plan_of s
   pub counters : w.counters ≡ counters_at_start (plan_of s)
   pub empty : AreEmpty w.plan lists
@@ -192,7 +196,7 @@ playing_open s w lists found done m n room o =
     subst (λ (v : Callers). IsPlaying v lists found done) (sym (callers_open s w lists found done m n room o))
     (subst (λ (fs : List (Option ℕ)). IsPlaying (record { plan = plan_of s; counters = counters_at_start (plan_of s) }) lists fs done) (sym (found_open s w lists found done m n room o))
     (subst (λ (d : Recorded). IsPlaying (record { plan = plan_of s; counters = counters_at_start (plan_of s) }) lists (replicate (callers (plan_of s)) None) d) (sym (done_open s w lists found done m n room o))
-    (playing_first (plan_of s) lists m (subst (λ (p : Plan). AreEmpty p lists) o.plan o.empty) (o.each ∙ o.queues ∙ ap callers o.plan) o.placed)))
+    (playing_first (plan_of s) lists m (subst IsSound o.plan o.sound) o.machine (subst (λ (p : Plan). AreEmpty p lists) o.plan o.empty) (o.each ∙ o.queues ∙ ap callers o.plan) o.placed)))
 
 pub player_open : (s : Setup) (w : Callers) (lists : List PostList) (found : List (Option ℕ)) (done : Recorded) (m : Machine) (n room : ℕ) → Opened s w lists found done m n room
     → player_of w lists found done ≡ player_start s

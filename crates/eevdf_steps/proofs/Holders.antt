@@ -72,7 +72,7 @@ taken_none : (cpu k : ℕ) → held_by_steps cpu false (take k []) ≡ false
 taken_none cpu zero = refl
 taken_none cpu (suc k) = refl
 
-nobody_past : (plan : Plan) (counters : Counters) (cpu p : ℕ) → callers plan ≤ p → holds plan counters cpu p ≡ false
+pub nobody_past : (plan : Plan) (counters : Counters) (cpu p : ℕ) → callers plan ≤ p → holds plan counters cpu p ≡ false
 nobody_past plan counters cpu p h =
     subst (λ (os : List Op). held_by_steps cpu false (take (count_of counters p) (steps_of plan p os)) ≡ false) (sym (programs_past plan.programs p h)) (taken_none cpu (count_of counters p))
 
@@ -196,7 +196,7 @@ kept plan counters holders p m a follows still = record {
   held = λ cpu q k. own_or_other plan counters p cpu q m follows (still cpu (holds plan counters cpu p)) ∙ a.held cpu q k;
 }
 
-not_blocked : (cpu : ℕ) (o : Option ℕ) → blocked_by cpu o ≡ None → o ≡ None
+pub not_blocked : (cpu : ℕ) (o : Option ℕ) → blocked_by cpu o ≡ None → o ≡ None
 not_blocked cpu None e = refl
 not_blocked cpu (Some q) e = cc
 
@@ -227,7 +227,7 @@ count_first zero p = refl
 count_first (suc n) zero = refl
 count_first (suc n) (suc p) = count_first n p
 
-none_first : (n c : ℕ) → ◌≡◌ {A = Option ℕ} (get_or (replicate n None) c None) None
+pub none_first : {A : Type 0} (n c : ℕ) → ◌≡◌ {A = Option A} (get_or (replicate n None) c None) None
 none_first zero c = refl
 none_first (suc n) zero = refl
 none_first (suc n) (suc c) = none_first n c

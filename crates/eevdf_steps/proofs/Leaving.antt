@@ -7,7 +7,8 @@ use Rattle.eevdf_steps.specs.Requests.{left, posted}
 use Rattle.eevdf_steps.specs.PostLists.{PostList, list_at, progress_in}
 use Rattle.eevdf_steps.specs.Callers.{Callers}
 use Rattle.eevdf_steps.specs.Recorded.{Recorded}
-use Rattle.eevdf_steps.specs.Players.{IsPlaying, Player, player_of}
+use Rattle.eevdf_steps.specs.Players.{Player}
+use Rattle.eevdf_steps.specs.Playing.{IsPlaying, player_of}
 use Rattle.eevdf_steps.proofs.Progressing.{get_taken}
 
 abbrev rest : PostList → List ℕ

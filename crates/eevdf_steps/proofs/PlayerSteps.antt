@@ -8,8 +8,13 @@ use Rattle.eevdf_steps.specs.declared.micro_steps.Micro.{Micro}
 use Rattle.eevdf_steps.specs.declared.micro_steps.Micro.TheVariants.{Acquire, Act, Detach, Attach, Commit, Take, Settle, Release, Post}
 use Rattle.eevdf_steps.specs.declared.program_plan.Step.{Step}
 use Rattle.eevdf_steps.specs.Plan.{IsSound, Plan, callers, is_sound_op}
-use Rattle.eevdf_steps.specs.Counters.{Counters, counted, step_next}
-use Rattle.eevdf_steps.specs.Commits.{committed}
+use Rattle.eevdf_steps.specs.Counters.{Counters, counted, refused, step_next}
+use Rattle.eevdf_ops.specs.declared.deeds.Deed.{Deed}
+use Rattle.eevdf_ops.specs.declared.deeds.Line.{Line}
+use Rattle.eevdf_ops.specs.Programs.{deeds_of}
+use Rattle.std.proofs.lemmas.List.{map-append}
+use Rattle.std.specs.Option.{option_to_list}
+use Rattle.eevdf_steps.specs.Commits.{committed, committed_by}
 use Rattle.eevdf_steps.specs.Callers.{Callers}
 use Rattle.eevdf_steps.specs.SoundSteps.{is_sound_micro}
 use Rattle.eevdf_steps.specs.Requests.{Progress}
@@ -20,10 +25,13 @@ use Rattle.eevdf_steps.specs.MicroState.{answers, appends, home_for, micro_by, w
 use Rattle.eevdf_steps.specs.Journals.{noted}
 use Rattle.eevdf_steps.specs.Recorded.{Recorded}
 use Rattle.eevdf_steps.specs.Working.{IsWorking}
-use Rattle.eevdf_steps.specs.Players.{IsPlaying, Player, player_of, player_step}
+use Rattle.eevdf_steps.specs.Players.{Player, player_step}
+use Rattle.eevdf_steps.specs.Playing.{IsPlaying, player_of}
 use Rattle.eevdf_steps.proofs.Lists.{both}
 use Rattle.eevdf_steps.proofs.SoundSteps.{is_caller, step_sound}
 use Rattle.eevdf_steps.proofs.WorkPlaces.{hand_nowhere}
+use Rattle.eevdf_steps.specs.Reduced.{IsSerial}
+use Rattle.eevdf_steps.proofs.SerialSteps.{SerialStep, serial_step}
 use Rattle.eevdf_steps.proofs.WorkSteps.{works_kept}
 use Rattle.eevdf_steps.proofs.Posting.{posts_step}
 use Rattle.eevdf_steps.proofs.Progressing.{progress_then}
@@ -38,16 +46,26 @@ pub record Stepping (w : Callers) (lists : List PostList) (found : List (Option 
   pub caller : p < callers w.plan
   pub sound_op : is_sound_op w.plan s.op ≡ true
   pub sound_micro : is_sound_micro w.plan s.micro ≡ true
+  pub free : refused w.plan w.counters s.micro ≡ None
 
 pub stepping : (w : Callers) (lists : List PostList) (found : List (Option ℕ)) (done : Recorded) (p : ℕ) (s : Step) (a : Player) → player_of w lists found done ≡ a
     → IsPlaying w lists found done → IsSound w.plan → length w.counters ≡ callers w.plan → step_next a.plan a.state.progress.counters p ≡ Some s
-    → Stepping w lists found done p s
-stepping w lists found done p s a same playing sound each e =
+    → refused a.plan a.state.progress.counters s.micro ≡ None → Stepping w lists found done p s
+stepping w lists found done p s a same playing sound each e free =
     let step : step_next w.plan w.counters p ≡ Some s = ap (λ (b : Player). step_next b.plan b.state.progress.counters p) same ∙ e in
     let caller : p < callers w.plan = is_caller w.plan w.counters p s step in
     let parts : (is_sound_op w.plan s.op ≡ true) × (is_sound_micro w.plan s.micro ≡ true)
     = both (is_sound_op w.plan s.op) (is_sound_micro w.plan s.micro) (step_sound w.plan w.counters p s sound caller step) in
-    record { playing = playing; sound = sound; each = each; step = step; caller = caller; sound_op = parts.0; sound_micro = parts.1 }
+    record {
+      playing = playing;
+      sound = sound;
+      each = each;
+      step = step;
+      caller = caller;
+      sound_op = parts.0;
+      sound_micro = parts.1;
+      free = ap (λ (b : Player). refused b.plan b.state.progress.counters s.micro) same ∙ free;
+    }
 
 pub is_working : (w : Callers) (lists : List PostList) (found : List (Option ℕ)) (done : Recorded) (p h : ℕ) (s : Step) → Stepping w lists found done p s → h < callers w.plan
     → IsWorking done.work p h
@@ -93,17 +111,40 @@ done_then done p s h f = record {
   journal = noted done.journal (committed f p s.op s.micro) (answers done.work p s.micro f);
 }
 
+-- the step, seen from the history
+pub step_of : (w : Callers) (lists : List PostList) (found : List (Option ℕ)) (done : Recorded) (p : ℕ) (s : Step) (f : Option ℕ) → Stepping w lists found done p s
+    → SerialStep w.plan w.plan.start w.counters p done.work done.journal.lines s f
+step_of w lists found done p s f st =
+    serial_step w.plan w.plan.start w.counters p done.work done.journal.lines s f st.sound st.sound.start
+    (record { each = st.each; queues = st.playing.work.queues; hands = st.playing.work.hands; answers = st.playing.work.answers })
+    st.playing.serial st.step st.free
+
+-- the deeds done after the step
+pub commits_then : (w : Callers) (lists : List PostList) (found : List (Option ℕ)) (done done' : Recorded) (p h : ℕ) (s : Step) (f : Option ℕ) (a : Player)
+    → player_of w lists found done ≡ a → Stepping w lists found done p s → done' ≡ done_then done p s h f → f ≡ get_or found p None
+    → deeds_of done'.journal.lines ≡ deeds_of a.state.lines ++ committed_by a.state.progress p (step_next a.plan a.state.progress.counters p)
+commits_then w lists found done done' p h s f a same st is read =
+    ap (λ (d : Recorded). deeds_of d.journal.lines) is
+    ∙ map-append (λ (l : Line). l.deed) done.journal.lines (appends done.work p s.op s.micro f)
+    ∙ ap (λ (ds : List Deed). deeds_of done.journal.lines ++ ds) (step_of w lists found done p s f st).commits
+    ∙ ap (λ (r : Option ℕ). deeds_of done.journal.lines ++ option_to_list (committed r p s.op s.micro)) read
+    ∙ ap (λ (o : Option Step). deeds_of done.journal.lines ++ committed_by (player_of w lists found done).state.progress p o) (sym st.step)
+    ∙ ap (λ (b : Player). deeds_of b.state.lines ++ committed_by b.state.progress p (step_next b.plan b.state.progress.counters p)) same
+
 playing_then : (w : Callers) (lists : List PostList) (found : List (Option ℕ)) (done : Recorded) (p h : ℕ) (s : Step) (f r : Option ℕ) → Stepping w lists found done p s → h < callers w.plan
-    → IsPlaying (record { plan = w.plan; counters = counted w.counters p }) (posts_after (place_of w.plan p s.micro) s.micro lists) (set found p r) (done_then done p s h f)
-playing_then w lists found done p h s f r st home = record {
+    → h ≡ home_for w.plan p s.op → IsPlaying (record { plan = w.plan; counters = counted w.counters p }) (posts_after (place_of w.plan p s.micro) s.micro lists) (set found p r) (done_then done p s h f)
+playing_then w lists found done p h s f r st home at = record {
   posts = (posts_step w.plan w.counters lists p s st.sound st.playing.posts (omega (arith, st.caller, st.each)) st.caller st.step st.sound_micro).1;
   found = length-set found p r ∙ st.playing.found;
-  work = works_kept w.plan done.work p h s.op s.micro f st.playing.work st.caller home (pulls_by w.plan (callers w.plan) s.op refl st.sound_op);
+  work = works_kept w.plan done.work p h s.op s.micro f st.playing.work st.caller home (pulls_by w.plan (callers w.plan) s.op refl st.sound_op)
+      (step_of w lists found done p s f st).hand;
   room =
       let few : length (appends done.work p s.op s.micro f) ≤ lines_of s.micro = few_lines done.work p s.op s.micro f in
       let less : lines_to_come w.plan w.counters ≡ lines_to_come w.plan (counted w.counters p) + lines_of s.micro
       = less_to_come w.plan w.counters p s (omega (arith, st.caller, st.each)) st.caller st.step in
       omega (arith, st.playing.room, length-append done.journal.lines (appends done.work p s.op s.micro f));
+  serial = subst (λ (k : ℕ). IsSerial w.plan w.plan.start (counted w.counters p) (works k done.work p s.op s.micro f) (done.journal.lines ++ appends done.work p s.op s.micro f)) (sym at)
+      (step_of w lists found done p s f st).serial;
 }
 
 -- the parts after a step, by equations
@@ -115,14 +156,15 @@ pub record After (w w' : Callers) (lists lists' : List PostList) (found found' :
   pub done_is : done' ≡ done_then done p s h f
 
 pub playing_after : (w w' : Callers) (lists lists' : List PostList) (found found' : List (Option ℕ)) (done done' : Recorded) (p h : ℕ) (s : Step) (f r : Option ℕ)
-    → Stepping w lists found done p s → h < callers w.plan → After w w' lists lists' found found' done done' p h s f r → IsPlaying w' lists' found' done'
-playing_after w w' lists lists' found found' done done' p h s f r st home t =
+    → Stepping w lists found done p s → h < callers w.plan → h ≡ home_for w.plan p s.op → After w w' lists lists' found found' done done' p h s f r
+    → IsPlaying w' lists' found' done'
+playing_after w w' lists lists' found found' done done' p h s f r st home at t =
     subst (λ (pl : Plan). IsPlaying (record { plan = pl; counters = w'.counters }) lists' found' done') (sym t.plan)
     (subst (λ (cs : Counters). IsPlaying (record { plan = w.plan; counters = cs }) lists' found' done') (sym t.counters)
     (subst (λ (ls : List PostList). IsPlaying (record { plan = w.plan; counters = counted w.counters p }) ls found' done') (sym t.lists_are)
     (subst (λ (fs : List (Option ℕ)). IsPlaying (record { plan = w.plan; counters = counted w.counters p }) (posts_after (place_of w.plan p s.micro) s.micro lists) fs done') (sym t.found_are)
     (subst (λ (d : Recorded). IsPlaying (record { plan = w.plan; counters = counted w.counters p }) (posts_after (place_of w.plan p s.micro) s.micro lists) (set found p r) d) (sym t.done_is)
-    (playing_then w lists found done p h s f r st home)))))
+    (playing_then w lists found done p h s f r st home at)))))
 
 abbrev player_in : Plan → Counters → List PostList → List (Option ℕ) → Recorded → Player
 player_in plan counters lists found done = player_of (record { plan = plan; counters = counters }) lists found done

@@ -27,7 +27,7 @@ append_nothing [] = refl
 append_nothing (x ∷ l) = ap (λ (k : List ℕ). x ∷ k) (append_nothing l)
 
 -- what a caller has posted after its step
-posted_own : (plan : Plan) (counters : Counters) (p c : ℕ) (s : Step) → p < length counters → step_next plan counters p ≡ Some s
+pub posted_own : (plan : Plan) (counters : Counters) (p c : ℕ) (s : Step) → p < length counters → step_next plan counters p ≡ Some s
     → posted plan (counted counters p) p c ≡ posted plan counters p c ++ post_to plan c s.micro
 posted_own plan counters p c s h e =
     ap (λ (k : ℕ). posts_to plan c (take k (steps_by plan p)))
@@ -36,12 +36,12 @@ posted_own plan counters p c s h e =
     ∙ posts_joined plan c (done_by plan counters p) (s ∷ [])
     ∙ ap (λ (l : List ℕ). posted plan counters p c ++ l) (append_nothing (post_to plan c s.micro))
 
-posted_other : (plan : Plan) (counters : Counters) (p q c : ℕ) → q ≢ p → posted plan (counted counters p) q c ≡ posted plan counters q c
+pub posted_other : (plan : Plan) (counters : Counters) (p q c : ℕ) → q ≢ p → posted plan (counted counters p) q c ≡ posted plan counters q c
 posted_other plan counters p q c apart =
     ap (λ (k : ℕ). posts_to plan c (take k (steps_by plan q))) (get_or-set_other counters p q (count_of counters p + 1) 0 apart)
 
 -- a step that posts nothing to a home
-quiet : (plan : Plan) (counters : Counters) (p q c : ℕ) (s : Step) → p < length counters → step_next plan counters p ≡ Some s → post_to plan c s.micro ≡ []
+pub quiet : (plan : Plan) (counters : Counters) (p q c : ℕ) (s : Step) → p < length counters → step_next plan counters p ≡ Some s → post_to plan c s.micro ≡ []
     → posted plan (counted counters p) q c ≡ posted plan counters q c
 quiet plan counters p q c s h e none =
     elim (number_cases q p) [

@@ -1,5 +1,5 @@
 -- The plan of a setup is sound.
-use Rattle.std.proofs.Common.{◌≡◌, ℕ, ◌+◌, ◌≤◌, Bool, true, false, ◌&&◌, not, List, [], ◌∷◌, length, map, sym, subst, refl}
+use Rattle.std.proofs.Common.{◌≡◌, ℕ, ◌+◌, Bool, true, false, ◌&&◌, not, List, [], ◌∷◌, length, map, replicate, sym, subst, ◌∙◌, refl}
 use Rattle.std.proofs.lemmas.List.{length-map}
 use Rattle.std.specs.List.{list_all}
 use Rattle.std.specs.Option.{option_or}
@@ -8,9 +8,12 @@ use Rattle.eevdf_ops.specs.declared.task_spec.TaskSpec.{TaskSpec}
 use Rattle.eevdf_ops.specs.declared.deeds.Op.{Op}
 use Rattle.eevdf_ops.specs.declared.deeds.Op.TheVariants as op
 use Rattle.eevdf_ops.specs.declared.setup_fault.SetupFault.{SetupFault}
-use Rattle.eevdf_ops.specs.Setup.{Setup, cpus_of, homes_of, is_source}
+use Rattle.eevdf_ops.specs.Setup.{Setup, cpus_of, is_source}
+use Rattle.eevdf_queue.specs.State.{empty_state}
+use Rattle.eevdf_ops.proofs.Machines.{length-begin_at_homes}
+use Rattle.std.proofs.Math.ListN.{length-replicate}
 use Rattle.eevdf_ops.specs.Faults.{is_count, operation_fault, operations_fault, program_fault, programs_fault, setup_fault, task_fault, tasks_fault, unless}
-use Rattle.eevdf_steps.specs.Plan.{IsSound, Plan, callers, is_sound_op, is_sound_program, plan_of}
+use Rattle.eevdf_steps.specs.Plan.{IsSound, Plan, all_pull_elsewhere, callers, is_sound_op, is_sound_program, plan_of, pulls_elsewhere}
 use Rattle.eevdf_steps.proofs.Lists.{both, true_le}
 
 neither : {X : Type 0} (a b : Option X) → option_or a b ≡ None → (a ≡ None) × (b ≡ None)
@@ -60,6 +63,30 @@ programs_are_sound plan cpu (p ∷ ps) h =
     = neither (program_fault (length plan.homes) (callers plan) cpu p) (programs_fault (length plan.homes) (callers plan) (cpu + 1) ps) h in
     and_true (is_sound_program plan p) _ (program_is_sound plan cpu p parts.0) (programs_are_sound plan (cpu + 1) ps parts.1)
 
+op_pulls_elsewhere : (tasks cpus cpu place : ℕ) (o : Op) → operation_fault tasks cpus cpu place o ≡ None → pulls_elsewhere cpu o ≡ true
+op_pulls_elsewhere tasks cpus cpu place (op.Pull source) h = (both (nat_lt source cpus) (not (source == cpu)) (passes (is_source cpus cpu source) _ h)).1
+op_pulls_elsewhere tasks cpus cpu place (op.Sleep task) h = refl
+op_pulls_elsewhere tasks cpus cpu place (op.Post task) h = refl
+op_pulls_elsewhere tasks cpus cpu place (op.Tick ns) h = refl
+op_pulls_elsewhere tasks cpus cpu place op.Pick h = refl
+op_pulls_elsewhere tasks cpus cpu place op.Yield h = refl
+op_pulls_elsewhere tasks cpus cpu place op.Drain h = refl
+
+ops_pull_elsewhere : (tasks cpus cpu place : ℕ) (os : List Op) → operations_fault tasks cpus cpu place os ≡ None → list_all (pulls_elsewhere cpu) os ≡ true
+ops_pull_elsewhere tasks cpus cpu place [] h = refl
+ops_pull_elsewhere tasks cpus cpu place (o ∷ os) h =
+    let parts : (operation_fault tasks cpus cpu place o ≡ None) × (operations_fault tasks cpus cpu (place + 1) os ≡ None)
+    = neither (operation_fault tasks cpus cpu place o) (operations_fault tasks cpus cpu (place + 1) os) h in
+    and_true (pulls_elsewhere cpu o) _ (op_pulls_elsewhere tasks cpus cpu place o parts.0) (ops_pull_elsewhere tasks cpus cpu (place + 1) os parts.1)
+
+programs_pull_elsewhere : (tasks cpus cpu : ℕ) (ps : List (List Op)) → programs_fault tasks cpus cpu ps ≡ None → all_pull_elsewhere cpu ps ≡ true
+programs_pull_elsewhere tasks cpus cpu [] h = refl
+programs_pull_elsewhere tasks cpus cpu (p ∷ ps) h =
+    let parts : (program_fault tasks cpus cpu p ≡ None) × (programs_fault tasks cpus (cpu + 1) ps ≡ None)
+    = neither (program_fault tasks cpus cpu p) (programs_fault tasks cpus (cpu + 1) ps) h in
+    and_true (list_all (pulls_elsewhere cpu) p) _ (ops_pull_elsewhere tasks cpus cpu 0 p (neither _ (operations_fault tasks cpus cpu 0 p) parts.0).1)
+    (programs_pull_elsewhere tasks cpus (cpu + 1) ps parts.1)
+
 -- the four parts of a setup without faults
 record Parts (s : Setup) : Type 0 where
   cpus : is_count (cpus_of s) 16 ≡ true
@@ -74,20 +101,12 @@ parts_of s h =
     let third = neither _ _ second.1 in
     record { cpus = passes _ _ first.0; tasks = passes _ _ second.0; homes = third.0; programs = third.1 }
 
-pub few_tasks : (s : Setup) → setup_fault s.tasks s.programs ≡ None → length s.tasks ≤ 1024
-few_tasks s h = true_le (length s.tasks) 1024 (both (nat_le 1 (length s.tasks)) (nat_le (length s.tasks) 1024) (parts_of s h).tasks).1
-
 pub plan_sound : (s : Setup) → setup_fault s.tasks s.programs ≡ None → IsSound (plan_of s)
 plan_sound s h = record {
   few = true_le (cpus_of s) 16 (both (nat_le 1 (cpus_of s)) (nat_le (cpus_of s) 16) (parts_of s h).cpus).1;
   homes = at_cpus (cpus_of s) 0 s.tasks (parts_of s h).homes;
   programs = programs_are_sound (plan_of s) 0 s.programs
       (subst (λ (n : ℕ). programs_fault n (cpus_of s) 0 s.programs ≡ None) (sym (length-map s.tasks (λ (t : TaskSpec). t.home))) (parts_of s h).programs);
+  pulls = programs_pull_elsewhere (length s.tasks) (cpus_of s) 0 s.programs (parts_of s h).programs;
+  start = length-begin_at_homes 0 s.tasks (replicate (cpus_of s) empty_state) ∙ length-replicate (cpus_of s) empty_state;
 }
-
--- a plan with the homes and the programs of a setup
-pub copied_sound : (s : Setup) (hs : List ℕ) (ps : List (List Op)) → hs ≡ homes_of s → ps ≡ s.programs → setup_fault s.tasks s.programs ≡ None
-    → IsSound (record { homes = hs; programs = ps })
-copied_sound s hs ps e f h =
-    subst (λ (ks : List ℕ). IsSound (record { homes = ks; programs = ps })) (sym e)
-    (subst (λ (qs : List (List Op)). IsSound (record { homes = homes_of s; programs = qs })) (sym f) (plan_sound s h))

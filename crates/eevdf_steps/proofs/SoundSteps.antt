@@ -21,7 +21,7 @@ use Rattle.eevdf_steps.proofs.Positions.{step_in}
 use Rattle.eevdf_steps.proofs.Setups.{and_true}
 use Rattle.eevdf_steps.proofs.CounterLists.{no_step}
 
-all_joined : {A : Type 0} (test : A → Bool) (xs ys : List A) → list_all test xs ≡ true → list_all test ys ≡ true → list_all test (xs ++ ys) ≡ true
+pub all_joined : {A : Type 0} (test : A → Bool) (xs ys : List A) → list_all test xs ≡ true → list_all test ys ≡ true → list_all test (xs ++ ys) ≡ true
 all_joined test [] ys h k = k
 all_joined test (x ∷ xs) ys h k =
     let parts : (test x ≡ true) × (list_all test xs ≡ true) = both (test x) (list_all test xs) h in
@@ -75,15 +75,17 @@ steps_sound plan p (o ∷ os) s h all =
     all_joined (is_sound_step plan) (map (step_in o) (micros_of plan p o)) (steps_of plan p os)
     (in_op plan o (micros_of plan p o) parts.0 (micros_sound plan p o s h parts.0)) (steps_sound plan p os s h parts.1)
 
-some_all : {A : Type 0} (test : A → Bool) (xs : List A) (k : ℕ) (x : A) → list_all test xs ≡ true → slice_get xs k ≡ Some x → test x ≡ true
+pub some_all : {A : Type 0} (test : A → Bool) (xs : List A) (k : ℕ) (x : A) → list_all test xs ≡ true → slice_get xs k ≡ Some x → test x ≡ true
 some_all test [] k x all e = cc
 some_all test (y ∷ xs) zero x all e =
     let same : y ≡ x = cc in subst (λ z. test z ≡ true) same (both (test y) (list_all test xs) all).0
 some_all test (y ∷ xs) (suc k) x all e = some_all test xs k x (both (test y) (list_all test xs) all).1 e
 
+pub all_steps_sound : (plan : Plan) (p : ℕ) → IsSound plan → p < callers plan → list_all (is_sound_step plan) (steps_by plan p) ≡ true
+all_steps_sound plan p sound h = steps_sound plan p (program plan p) sound h (program_ops_sound plan p sound)
+
 pub step_sound : (plan : Plan) (counters : Counters) (p : ℕ) (s : Step) → IsSound plan → p < callers plan → step_next plan counters p ≡ Some s → is_sound_step plan s ≡ true
-step_sound plan counters p s sound h e =
-    some_all (is_sound_step plan) (steps_by plan p) (count_of counters p) s (steps_sound plan p (program plan p) sound h (program_ops_sound plan p sound)) e
+step_sound plan counters p s sound h e = some_all (is_sound_step plan) (steps_by plan p) (count_of counters p) s (all_steps_sound plan p sound h) e
 
 pub some_step_sound : (plan : Plan) (counters : Counters) (p : ℕ) (r : Option Step) → IsSound plan → p < callers plan → r ≡ step_next plan counters p
     → IfSome r (λ (s : Step). is_sound_step plan s ≡ true)

@@ -8,7 +8,7 @@ use Rattle.eevdf_ops.specs.Places.{count, places, places_in}
 use Rattle.eevdf_ops.specs.Setup.{is_task}
 use Rattle.eevdf_ops.proofs.MachinePlaces.{places-at}
 use Rattle.eevdf_steps.specs.Plan.{Plan, callers}
-use Rattle.eevdf_steps.specs.Players.{IsWork}
+use Rattle.eevdf_steps.specs.Playing.{IsWork}
 use Rattle.eevdf_steps.specs.Places.{hands_with, is_in_hand}
 use Rattle.eevdf_steps.specs.Work.{Work, hand}
 

@@ -1,11 +1,11 @@
 -- Every step of a caller keeps each task in one place.
-use Rattle.std.proofs.Common.{◌≡◌, ℕ, zero, suc, ◌+◌, ◌<◌, ◌≤◌, Bool, true, false, cond, List, [], ◌∷◌, length, get_or, set, ap, ◌∙◌, arith, refl}
+use Rattle.std.proofs.Common.{◌≡◌, ℕ, zero, suc, ◌+◌, ◌<◌, ◌≤◌, true, List, [], ◌∷◌, length, get_or, set, ap, ◌∙◌, arith, refl}
 use Rattle.std.proofs.Math.ListN.{length-set}
-use Rattle.std.specs.Prelude.{◌==◌, is_some, Option, Some, None, Result, Ok, Err}
+use Rattle.std.specs.Prelude.{◌==◌, IfSome, Option, Some, None, Result, Ok, Err}
 use Rattle.eevdf_queue.specs.State.{State, Contents}
 use Rattle.eevdf_queue.specs.Moves.{put_asleep, sleeper_of}
 use Rattle.eevdf_queue.specs.Leaving.{carried_running, leave}
-use Rattle.eevdf_queue.specs.Placing.{placed_entry}
+use Rattle.eevdf_queue.specs.Placing.{can_place, placed_entry}
 use Rattle.eevdf_ops.specs.declared.deeds.Op.{Op}
 use Rattle.eevdf_ops.specs.declared.deeds.Op.TheVariants as op
 use Rattle.eevdf_ops.specs.declared.deeds.Answer.{Answer}
@@ -23,9 +23,10 @@ use Rattle.eevdf_ops.proofs.Pulling.{IsTaken, decision-taken, with_task-put}
 use Rattle.eevdf_steps.specs.declared.micro_steps.Micro.{Micro}
 use Rattle.eevdf_steps.specs.declared.micro_steps.Micro.TheVariants.{Acquire, Act, Detach, Attach, Commit, Take, Settle, Release, Post}
 use Rattle.eevdf_steps.specs.Plan.{Plan, callers}
-use Rattle.eevdf_steps.specs.Players.{IsWork}
+use Rattle.eevdf_steps.specs.Playing.{IsWork}
 use Rattle.eevdf_steps.specs.Places.{hands_with, is_in_hand, places_of}
-use Rattle.eevdf_steps.specs.Work.{Work, act, answered, attach, attach_asleep, attach_joining, detach_pulled, detach_running, detached_by, hand, has_room, pull_decision, pulls_from}
+use Rattle.eevdf_steps.specs.Work.{Work, act, answered, attach, attach_asleep, attach_pulled, detach, detach_pulled, detach_running, hand, pull_decision, pulls_from}
+use Rattle.eevdf_steps.specs.Working.{FitsHand, HasRoom}
 use Rattle.eevdf_steps.specs.MicroState.{settled, works}
 use Rattle.eevdf_steps.proofs.Lists.{true_lt}
 use Rattle.eevdf_steps.proofs.WorkPlaces.{held_nowhere, count-le}
@@ -112,21 +113,16 @@ pulled_kept plan w p d (Ok t) works below source empty e =
     taken_out plan w p d (leave (queue_at w.machine d) t.task) t (Pulled t.task) works below source
     (leaves-without (queue_at w.machine d) t.task t (offer-carries (queue_at w.machine d) t taken.offered_it)) empty
 
-detached_kept : (plan : Plan) (w : Work) (p : ℕ) (o : Op) → IsWork plan w → p < callers plan → pulls_from (callers plan) o ≡ true → hand w p ≡ None → IsWork plan (detached_by w p o)
-detached_kept plan w p (op.Sleep task) works below from empty =
+detach_kept : (plan : Plan) (w : Work) (p : ℕ) (o : Op) → IsWork plan w → p < callers plan → pulls_from (callers plan) o ≡ true → hand w p ≡ None → IsWork plan (detach w p o)
+detach_kept plan w p (op.Sleep task) works below from empty =
     running_kept plan w p task (carried_running (queue_at w.machine p) task) works below empty refl
-detached_kept plan w p (op.Pull source) works below from empty =
+detach_kept plan w p (op.Pull source) works below from empty =
     pulled_kept plan w p source (pull_decision w.machine p source) works below (true_lt source (callers plan) from) empty refl
-detached_kept plan w p (op.Tick ns) works below from empty = works
-detached_kept plan w p op.Pick works below from empty = works
-detached_kept plan w p op.Yield works below from empty = works
-detached_kept plan w p (op.Post task) works below from empty = works
-detached_kept plan w p op.Drain works below from empty = works
-
-detach_by_hand : (plan : Plan) (w : Work) (p : ℕ) (o : Op) (h : Option Contents) → IsWork plan w → p < callers plan → pulls_from (callers plan) o ≡ true → hand w p ≡ h
-    → IsWork plan (cond (is_some h) w (detached_by w p o))
-detach_by_hand plan w p o None works below from e = detached_kept plan w p o works below from e
-detach_by_hand plan w p o (Some t) works below from e = works
+detach_kept plan w p (op.Tick ns) works below from empty = works
+detach_kept plan w p op.Pick works below from empty = works
+detach_kept plan w p op.Yield works below from empty = works
+detach_kept plan w p (op.Post task) works below from empty = works
+detach_kept plan w p op.Drain works below from empty = works
 
 asleep_kept : (plan : Plan) (w : Work) (p c : ℕ) (h : Option Contents) → IsWork plan w → p < callers plan → c < callers plan → hand w p ≡ h → IsWork plan (attach_asleep w p c h)
 asleep_kept plan w p c None works below home e = works
@@ -134,23 +130,22 @@ asleep_kept plan w p c (Some t) works below home e =
     put_in plan w p c (put_asleep (queue_at w.machine c) t) t works below home
     (asleep-with (queue_at w.machine c) t (held_nowhere plan w p c t works home e)) e
 
-joins_kept : (plan : Plan) (w : Work) (p : ℕ) (h : Option Contents) (b : Bool) → IsWork plan w → p < callers plan → hand w p ≡ h → has_room (queue_at w.machine p) h ≡ b
-    → IsWork plan (cond b (attach_joining w p h) w)
-joins_kept plan w p h false works below e room = works
-joins_kept plan w p None true works below e room = works
-joins_kept plan w p (Some t) true works below e room =
+joins_kept : (plan : Plan) (w : Work) (p : ℕ) (h : Option Contents) → IsWork plan w → p < callers plan → hand w p ≡ h
+    → IfSome h (λ (t : Contents). can_place (queue_at w.machine p) (sleeper_of t) ≡ true) → IsWork plan (attach_pulled w p h)
+joins_kept plan w p None works below e room = works
+joins_kept plan w p (Some t) works below e room =
     put_in plan w p p (with_task (queue_at w.machine p) t) t works below below
     (runnable-with (queue_at w.machine p) (with_task (queue_at w.machine p) t) t.task (placed_entry (queue_at w.machine p) (sleeper_of t))
     (held_nowhere plan w p p t works below e) (with_task-put (queue_at w.machine p) t room)) e
 
-attach_kept : (plan : Plan) (w : Work) (p c : ℕ) (o : Op) → IsWork plan w → p < callers plan → c < callers plan → IsWork plan (attach c w p o)
-attach_kept plan w p c (op.Sleep task) works below home = asleep_kept plan w p c (hand w p) works below home refl
-attach_kept plan w p c (op.Pull source) works below home = joins_kept plan w p (hand w p) (has_room (queue_at w.machine p) (hand w p)) works below refl refl
-attach_kept plan w p c (op.Tick ns) works below home = works
-attach_kept plan w p c op.Pick works below home = works
-attach_kept plan w p c op.Yield works below home = works
-attach_kept plan w p c (op.Post task) works below home = works
-attach_kept plan w p c op.Drain works below home = works
+attach_kept : (plan : Plan) (w : Work) (p c : ℕ) (o : Op) → IsWork plan w → p < callers plan → c < callers plan → HasRoom w p o → IsWork plan (attach c w p o)
+attach_kept plan w p c (op.Sleep task) works below home room = asleep_kept plan w p c (hand w p) works below home refl
+attach_kept plan w p c (op.Pull source) works below home room = joins_kept plan w p (hand w p) works below refl room
+attach_kept plan w p c (op.Tick ns) works below home room = works
+attach_kept plan w p c op.Pick works below home room = works
+attach_kept plan w p c op.Yield works below home room = works
+attach_kept plan w p c (op.Post task) works below home room = works
+attach_kept plan w p c op.Drain works below home room = works
 
 settled_kept : (plan : Plan) (w : Work) (p : ℕ) (f : Option ℕ) → IsWork plan w → p < callers plan → IsWork plan (settled w p f)
 settled_kept plan w p None works below = works
@@ -161,13 +156,13 @@ settled_kept plan w p (Some t) works below =
     same_queue plan w p (one_wake (queue_at w.machine p) t).1 w.answers works below (wake-same (queue_at w.machine p) t (omega arith)) refl
 
 pub works_kept : (plan : Plan) (w : Work) (p c : ℕ) (o : Op) (m : Micro) (f : Option ℕ) → IsWork plan w → p < callers plan → c < callers plan → pulls_from (callers plan) o ≡ true
-    → IsWork plan (works c w p o m f)
-works_kept plan w p c o Act f works below home from = act_kept plan w p o works below
-works_kept plan w p c o Detach f works below home from = detach_by_hand plan w p o (hand w p) works below from refl
-works_kept plan w p c o Attach f works below home from = attach_kept plan w p c o works below home
-works_kept plan w p c o Commit f works below home from = works
-works_kept plan w p c o (Settle q) f works below home from = settled_kept plan w p f works below
-works_kept plan w p c o (Take q) f works below home from = works
-works_kept plan w p c o (Post t) f works below home from = works
-works_kept plan w p c o (Acquire l) f works below home from = works
-works_kept plan w p c o (Release l) f works below home from = works
+    → FitsHand w p o m → IsWork plan (works c w p o m f)
+works_kept plan w p c o Act f works below home from hand = act_kept plan w p o works below
+works_kept plan w p c o Detach f works below home from hand = detach_kept plan w p o works below from hand
+works_kept plan w p c o Attach f works below home from hand = attach_kept plan w p c o works below home hand
+works_kept plan w p c o Commit f works below home from hand = works
+works_kept plan w p c o (Settle q) f works below home from hand = settled_kept plan w p f works below
+works_kept plan w p c o (Take q) f works below home from hand = works
+works_kept plan w p c o (Post t) f works below home from hand = works
+works_kept plan w p c o (Acquire l) f works below home from hand = works
+works_kept plan w p c o (Release l) f works below home from hand = works

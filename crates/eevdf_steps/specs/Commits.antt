@@ -2,25 +2,16 @@
 use Rattle.std.specs.Prelude.{ℕ, List, [], ◌∷◌, ◌++◌, Option, Some, None}
 use Rattle.std.specs.Option.{option_to_list}
 use Rattle.eevdf_ops.specs.declared.deeds.Op.{Op}
-use Rattle.eevdf_ops.specs.declared.deeds.Op.TheVariants as op
 use Rattle.eevdf_ops.specs.declared.deeds.Deed.{Deed}
 use Rattle.eevdf_ops.specs.declared.deeds.Deed.TheVariants as deed
+use Rattle.eevdf_ops.specs.Programs.{deed_of}
+use Rattle.eevdf_ops.specs.Setup.{Setup}
 use Rattle.eevdf_steps.specs.declared.micro_steps.Micro.{Micro}
 use Rattle.eevdf_steps.specs.declared.micro_steps.Micro.TheVariants.{Acquire, Act, Detach, Attach, Commit, Take, Settle, Release, Post}
 use Rattle.eevdf_steps.specs.declared.program_plan.Step.{Step}
-use Rattle.eevdf_steps.specs.Plan.{Plan}
+use Rattle.eevdf_steps.specs.Plan.{Plan, plan_of}
 use Rattle.eevdf_steps.specs.Counters.{step_next}
-use Rattle.eevdf_steps.specs.Requests.{Progress, found_by, progress_step}
-
--- the deed of an operation on a CPU; a post and a drain have none of their own
-abbrev pub deed_of : ℕ → Op → Option Deed
-deed_of cpu (op.Tick ns) = Some (deed.Tick cpu ns)
-deed_of cpu op.Pick = Some (deed.Pick cpu)
-deed_of cpu op.Yield = Some (deed.Yield cpu)
-deed_of cpu (op.Sleep task) = Some (deed.Sleep cpu task)
-deed_of cpu (op.Pull source) = Some (deed.Pull cpu source)
-deed_of cpu (op.Post task) = None
-deed_of cpu op.Drain = None
+use Rattle.eevdf_steps.specs.Requests.{Progress, found_by, progress_at_start, progress_step}
 
 -- the wake of a request that was found
 abbrev pub wake_of : ℕ → ℕ → Option ℕ → Option Deed
@@ -47,3 +38,7 @@ committed_by g caller (Some s) = option_to_list (committed (found_by g caller) c
 abbrev pub commits : Plan → Progress → List ℕ → List Deed
 commits plan g [] = []
 commits plan g (p ∷ order) = committed_by g p (step_next plan g.counters p) ++ commits plan (progress_step plan g p) order
+
+-- the deeds that an order commits from the start of a setup on
+abbrev pub deeds_committed : Setup → List ℕ → List Deed
+deeds_committed setup order = commits (plan_of setup) (progress_at_start (plan_of setup)) order

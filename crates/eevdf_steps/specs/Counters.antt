@@ -96,3 +96,7 @@ is_under_way plan counters caller = is_some (step_next plan counters caller)
 -- the least caller that has steps to do
 abbrev pub unfinished : Plan → Counters → Option ℕ
 unfinished plan counters = least (is_under_way plan counters) 0 (callers plan)
+
+-- the least caller that may do its next step
+abbrev pub ready : Plan → Counters → Option ℕ
+ready plan counters = least (may_step plan counters) 0 (callers plan)

@@ -3,6 +3,7 @@ pub mod MicroSteps
 pub mod Counters
 pub mod Orders
 pub mod Requests
+pub mod LeftLists
 pub mod Commits
 pub mod Positions
 pub mod PostLists
@@ -16,6 +17,10 @@ pub mod Journals
 pub mod Recorded
 pub mod Working
 pub mod Room
+pub mod UnderWay
+pub mod Reduced
 pub mod Players
+pub mod Playing
 pub mod Openings
 pub mod Plays
+pub mod PlayedSteps

@@ -1,5 +1,5 @@
 -- Orders in which the callers take their steps, and what is wrong with one.
-use Rattle.std.specs.Prelude.{ℕ, ◌+◌, nat_lt, Bool, true, ◌&&◌, List, [], ◌∷◌, length, replicate, if◌then◌else◌, is_none, Option, Some, None}
+use Rattle.std.specs.Prelude.{◌≡◌, ◌≤◌, ℕ, ◌+◌, nat_lt, Bool, true, ◌&&◌, List, [], ◌∷◌, length, replicate, if◌then◌else◌, is_none, Option, Some, None}
 use Rattle.std.specs.Option.{option_map}
 use Rattle.eevdf_steps.specs.declared.step_fault.StepFault.{StepFault}
 use Rattle.eevdf_steps.specs.declared.step_fault.StepFault.TheVariants as step
@@ -26,6 +26,11 @@ is_lawful plan counters (p ∷ order) = may_step plan counters p && is_lawful pl
 abbrev pub is_complete : Plan → Counters → List ℕ → Bool
 is_complete plan counters order = is_none (unfinished plan (counters_after counters order))
 
+-- an order is both
+pub record IsWhole (plan : Plan) (counters : Counters) (order : List ℕ) : Type 0 where
+  pub lawful : is_lawful plan counters order ≡ true
+  pub complete : is_complete plan counters order ≡ true
+
 abbrev pub fault_at : ℕ → StepFault → PlayFault
 fault_at at step.NoCaller = NoCaller at
 fault_at at step.Done = Done at
@@ -49,3 +54,7 @@ most_places = 1000000
 abbrev pub play_fault : Plan → List ℕ → Option PlayFault
 play_fault plan order =
     if nat_lt most_places (length order) then Some TooLong else order_fault plan (counters_at_start plan) 0 order
+
+-- a lawful and complete order that isn't too long has no fault
+abbrev pub WholeIsPlayed : Type 0
+WholeIsPlayed = (plan : Plan) (order : List ℕ) → length order ≤ most_places → IsWhole plan (counters_at_start plan) order → play_fault plan order ≡ None

@@ -1,18 +1,21 @@
 -- What the callers are to do.
-use Rattle.std.specs.Prelude.{◌≡◌, ℕ, ◌*◌, ◌+◌, ◌≤◌, nat_lt, nat_le, Bool, ◌&&◌, true, List, [], length, slice_index_or}
+use Rattle.std.specs.Prelude.{◌≡◌, ℕ, ◌*◌, ◌+◌, ◌≤◌, ◌==◌, nat_lt, nat_le, Bool, ◌&&◌, not, true, List, [], ◌∷◌, length, slice_index_or}
 use Rattle.std.specs.List.{list_all}
 use Rattle.eevdf_ops.specs.declared.deeds.Op.{Op}
 use Rattle.eevdf_ops.specs.declared.deeds.Op.TheVariants as op
 use Rattle.eevdf_ops.specs.Numbers.{most_cpus, most_operations}
 use Rattle.eevdf_ops.specs.Setup.{Setup, homes_of}
+use Rattle.eevdf_ops.specs.Machine.{Machine, start}
 
--- the home of each task, and the program of each caller, who stands on the CPU of the same number
+-- the home of each task, the program of each caller, who stands on the CPU of the same number, and the machine on
+-- which they start
 pub record Plan : Type 0 where
   pub homes : List ℕ
   pub programs : List (List Op)
+  pub start : Machine
 
 abbrev pub plan_of : Setup → Plan
-plan_of s = record { homes = homes_of s; programs = s.programs }
+plan_of s = record { homes = homes_of s; programs = s.programs; start = start s }
 
 -- how many callers there are, one for each CPU
 abbrev pub callers : Plan → ℕ
@@ -41,8 +44,25 @@ is_sound_op plan op.Drain = true
 abbrev pub is_sound_program : Plan → List Op → Bool
 is_sound_program plan ops = nat_le (length ops) most_operations && list_all (is_sound_op plan) ops
 
+-- an operation of a CPU pulls from no queue but another's
+abbrev pub pulls_elsewhere : ℕ → Op → Bool
+pulls_elsewhere cpu (op.Pull source) = not (source == cpu)
+pulls_elsewhere cpu (op.Sleep task) = true
+pulls_elsewhere cpu (op.Post task) = true
+pulls_elsewhere cpu (op.Tick ns) = true
+pulls_elsewhere cpu op.Pick = true
+pulls_elsewhere cpu op.Yield = true
+pulls_elsewhere cpu op.Drain = true
+
+-- the same of the programs of the CPUs from one on
+abbrev pub all_pull_elsewhere : ℕ → List (List Op) → Bool
+all_pull_elsewhere cpu [] = true
+all_pull_elsewhere cpu (ops ∷ programs) = list_all (pulls_elsewhere cpu) ops && all_pull_elsewhere (cpu + 1) programs
+
 -- what a setup without faults makes sure of
 pub record IsSound (plan : Plan) : Type 0 where
   pub few : callers plan ≤ most_cpus
   pub homes : list_all (λ (h : ℕ). nat_lt h (callers plan)) plan.homes ≡ true
   pub programs : list_all (is_sound_program plan) plan.programs ≡ true
+  pub pulls : all_pull_elsewhere 0 plan.programs ≡ true
+  pub start : length plan.start ≡ callers plan

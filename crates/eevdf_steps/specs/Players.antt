@@ -1,15 +1,18 @@
--- A player, and what it keeps.
-use Rattle.std.specs.Prelude.{◌≡◌, ℕ, ◌+◌, ◌≤◌, List, length, Option, Result, MatchResult, Some, None}
+-- A player: what the callers are to do, and what their steps have come to.
+use Rattle.std.specs.Prelude.{◌≡◌, ℕ, ◌++◌, true, List, Option, Result, MatchResult, Some, None}
+use Rattle.eevdf_queue.specs.State.{State}
+use Rattle.eevdf_ops.specs.declared.deeds.Deed.{Deed}
+use Rattle.eevdf_ops.specs.Histories.{machine_told}
+use Rattle.eevdf_ops.specs.Machine.{Machine, queue_at}
 use Rattle.eevdf_ops.specs.Places.{count}
+use Rattle.eevdf_ops.specs.Programs.{deeds_of}
 use Rattle.eevdf_ops.specs.Setup.{Setup, is_task}
+use Rattle.eevdf_steps.specs.declared.micro_steps.Micro.{Micro}
 use Rattle.eevdf_steps.specs.declared.step_fault.StepFault.{StepFault}
-use Rattle.eevdf_steps.specs.Plan.{Plan, callers, plan_of}
-use Rattle.eevdf_steps.specs.Counters.{refusal}
-use Rattle.eevdf_steps.specs.Callers.{Callers}
-use Rattle.eevdf_steps.specs.PostLists.{ArePosted, PostList, progress_in}
-use Rattle.eevdf_steps.specs.Recorded.{Recorded}
-use Rattle.eevdf_steps.specs.Room.{lines_to_come}
-use Rattle.eevdf_steps.specs.Work.{Work}
+use Rattle.eevdf_steps.specs.Plan.{Plan, plan_of}
+use Rattle.eevdf_steps.specs.Counters as counters
+use Rattle.eevdf_steps.specs.Counters.{holds}
+use Rattle.eevdf_steps.specs.Commits.{committed_by}
 use Rattle.eevdf_steps.specs.Places.{places_of}
 use Rattle.eevdf_steps.specs.MicroState.{MicroState, micro_start, micro_step}
 
@@ -18,24 +21,35 @@ pub record Player : Type 0 where
   pub plan : Plan
   pub state : MicroState
 
-abbrev pub player_of : Callers → List PostList → List (Option ℕ) → Recorded → Player
-player_of way lists found done = record {
-  plan = way.plan;
-  state = record { work = done.work; progress = progress_in way.counters lists found; lines = done.journal.lines };
-}
+-- the step that a caller does next, what refuses it, and the least caller that nothing refuses
+abbrev pub next : Player → ℕ → Option Micro
+next a caller = counters.next a.plan a.state.progress.counters caller
 
--- each caller has a queue, a hand and an answer, and each task stands in one place
-pub record IsWork (plan : Plan) (work : Work) : Type 0 where
-  pub queues : length work.machine ≡ callers plan
-  pub hands : length work.hands ≡ callers plan
-  pub answers : length work.answers ≡ callers plan
-  pub once : (task : ℕ) → places_of work task ≡ count (is_task plan.homes task)
+abbrev pub refusal : Player → ℕ → Option StepFault
+refusal a caller = counters.refusal a.plan a.state.progress.counters caller
 
-pub record IsPlaying (way : Callers) (lists : List PostList) (requests : List (Option ℕ)) (done : Recorded) : Type 0 where
-  pub posts : ArePosted way.plan way.counters lists
-  pub found : length requests ≡ callers way.plan
-  pub work : IsWork way.plan done.work
-  pub room : length done.journal.lines + lines_to_come way.plan way.counters ≤ done.journal.room
+abbrev pub ready : Player → Option ℕ
+ready a = counters.ready a.plan a.state.progress.counters
+
+-- the least caller that isn't done
+abbrev pub unfinished : Player → Option ℕ
+unfinished a = counters.unfinished a.plan a.state.progress.counters
+
+-- who holds the lock of a CPU
+abbrev pub holder : Player → ℕ → Option ℕ
+holder a cpu = counters.holder a.plan a.state.progress.counters cpu
+
+-- the deed that a caller's next step commits, where it commits one
+abbrev pub committed_next : Player → ℕ → List Deed
+committed_next a caller = committed_by a.state.progress caller (counters.step_next a.plan a.state.progress.counters caller)
+
+-- the queue of a CPU, as it stands
+abbrev pub queue_of : Player → ℕ → State
+queue_of a cpu = queue_at a.state.work.machine cpu
+
+-- the machine that the deeds committed so far leave, done as whole operations one after the other
+abbrev pub machine_of_history : Player → Machine
+machine_of_history a = machine_told a.plan.homes a.plan.start a.state.lines
 
 -- the player one step of a caller later
 abbrev pub player_step : Player → ℕ → Player
@@ -44,9 +58,20 @@ player_step a caller = record a { state = micro_step a.plan a.state caller }
 -- the step is done exactly where nothing refuses it, and else nothing has changed
 abbrev pub IsStep : Player → ℕ → Result (Unit {0}) StepFault → Player → Type 0
 IsStep a caller result b =
-    MatchResult result (λ _. (refusal a.plan a.state.progress.counters caller ≡ None) × (b ≡ player_step a caller))
-    (λ f. (refusal a.plan a.state.progress.counters caller ≡ Some f) × (b ≡ a))
+    MatchResult result (λ _. (refusal a caller ≡ None) × (b ≡ player_step a caller)) (λ f. (refusal a caller ≡ Some f) × (b ≡ a))
+
+-- the deed that a step commits comes after those before it
+abbrev pub Appends : Player → ℕ → Player → Type 0
+Appends a caller b = deeds_of b.state.lines ≡ deeds_of a.state.lines ++ committed_next a caller
 
 -- a player of whose callers nobody has done a step
 abbrev pub player_start : Setup → Player
 player_start s = record { plan = plan_of s; state = micro_start s }
+
+-- each task of the setup stands in one place, and no other number stands anywhere
+abbrev pub EachInOnePlace : Player → Type 0
+EachInOnePlace a = (task : ℕ) → places_of a.state.work task ≡ count (is_task a.plan.homes task)
+
+-- no two callers hold one lock
+abbrev pub OneHolder : Player → Type 0
+OneHolder a = (cpu p q : ℕ) → holds a.plan a.state.progress.counters cpu p ≡ true → holds a.plan a.state.progress.counters cpu q ≡ true → p ≡ q

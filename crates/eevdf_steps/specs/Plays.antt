@@ -1,16 +1,14 @@
 -- What a whole order comes to.
-use Rattle.std.specs.Prelude.{◌≡◌, ◌⊎◌, ℕ, ◌*◌, ◌<◌, nat_lt, is_some, true, false, List, [], length, slice_index_or, Option, Some, None, MatchOption, Result, MatchResult}
-use Rattle.std.specs.Option.{option_map}
+use Rattle.std.specs.Prelude.{◌≡◌, ◌⊎◌, ℕ, ◌*◌, ◌<◌, nat_lt, is_some, true, false, List, [], length, slice_index_or, Some, None, Result, MatchResult}
 use Rattle.eevdf_ops.specs.Outcome.{Outcome, machine_of}
 use Rattle.eevdf_ops.specs.Setup.{Setup}
 use Rattle.eevdf_steps.specs.declared.play_fault.PlayFault.{PlayFault}
-use Rattle.eevdf_steps.specs.declared.play_fault.PlayFault.TheVariants.{Memory, Short}
+use Rattle.eevdf_steps.specs.declared.play_fault.PlayFault.TheVariants.{Memory}
 use Rattle.eevdf_steps.specs.Plan.{callers, pair, plan_of}
-use Rattle.eevdf_steps.specs.Counters.{unfinished}
-use Rattle.eevdf_steps.specs.Orders.{most_places, order_fault, play_fault}
+use Rattle.eevdf_steps.specs.Orders.{most_places, play_fault}
 use Rattle.eevdf_steps.specs.Requests.{left}
-use Rattle.eevdf_steps.specs.MicroState.{micro, micro_after}
-use Rattle.eevdf_steps.specs.Players.{Player}
+use Rattle.eevdf_steps.specs.MicroState.{micro}
+use Rattle.eevdf_steps.specs.Players.{Player, unfinished}
 
 -- the lines and the queues of a player, and the requests that were posted and not taken
 pub record IsOutcome (a : Player) (o : Outcome) : Type 0 where
@@ -22,16 +20,7 @@ pub record IsOutcome (a : Player) (o : Outcome) : Type 0 where
 -- the outcome comes exactly where every caller is done; else the player comes back
 abbrev pub IsEnd : Player → Result Outcome Player → Type 0
 IsEnd a result =
-    MatchResult result (λ o. (unfinished a.plan a.state.progress.counters ≡ None) × IsOutcome a o)
-    (λ b. (is_some (unfinished a.plan a.state.progress.counters) ≡ true) × (b ≡ a))
-
--- an order is played up to its first faulty place, or to its end
-abbrev pub IsPlayed : Player → List ℕ → Option PlayFault → Player → Type 0
-IsPlayed a order result b =
-    MatchOption result
-    ((order_fault a.plan a.state.progress.counters 0 order ≡ option_map (λ (p : ℕ). Short p) (unfinished a.plan b.state.progress.counters))
-    × (b ≡ record a { state = micro_after a.plan a.state order }))
-    (λ f. order_fault a.plan a.state.progress.counters 0 order ≡ Some f)
+    MatchResult result (λ o. (unfinished a ≡ None) × IsOutcome a o) (λ b. (is_some (unfinished a) ≡ true) × (b ≡ a))
 
 -- the fault of the order is answered; where there is none, the outcome of the state that the order leaves. Want
 -- of memory may come in place of either, unless the order is too long

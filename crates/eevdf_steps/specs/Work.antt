@@ -1,9 +1,7 @@
 -- The work that the callers do on the queues.
-use Rattle.std.specs.Prelude.{ℕ, nat_lt, Bool, true, false, List, slice_index_or, slice_set, if◌then◌else◌, is_some, Option, Some, None, Result, Ok, Err}
+use Rattle.std.specs.Prelude.{ℕ, nat_lt, Bool, true, List, slice_index_or, slice_set, Option, Some, None, Result, Ok, Err}
 use Rattle.eevdf_queue.specs.State.{State, Contents}
-use Rattle.eevdf_queue.specs.Moves.{sleeper_of}
 use Rattle.eevdf_queue.specs.Leaving.{carried_running}
-use Rattle.eevdf_queue.specs.Placing.{can_place}
 use Rattle.eevdf_ops.specs.declared.deeds.Op.{Op}
 use Rattle.eevdf_ops.specs.declared.deeds.Op.TheVariants as op
 use Rattle.eevdf_ops.specs.declared.deeds.Answer.{Answer}
@@ -71,18 +69,15 @@ abbrev pub taken_from : Machine → ℕ → Result Contents Answer → Machine
 taken_from m source (Err refusal) = m
 taken_from m source (Ok p) = task_leaves m source p.task
 
-abbrev pub detached_by : Work → ℕ → Op → Work
-detached_by w caller (op.Sleep task) = detach_running w caller (carried_running (queue_at w.machine caller) task)
-detached_by w caller (op.Pull source) = detach_pulled w caller source (pull_decision w.machine caller source)
-detached_by w caller (op.Tick ns) = w
-detached_by w caller op.Pick = w
-detached_by w caller op.Yield = w
-detached_by w caller (op.Post task) = w
-detached_by w caller op.Drain = w
-
--- the task of an operation leaves into the caller's hand, which is empty
+-- the task of an operation leaves into the caller's hand
 abbrev pub detach : Work → ℕ → Op → Work
-detach w caller o = if is_some (hand w caller) then w else detached_by w caller o
+detach w caller (op.Sleep task) = detach_running w caller (carried_running (queue_at w.machine caller) task)
+detach w caller (op.Pull source) = detach_pulled w caller source (pull_decision w.machine caller source)
+detach w caller (op.Tick ns) = w
+detach w caller op.Pick = w
+detach w caller op.Yield = w
+detach w caller (op.Post task) = w
+detach w caller op.Drain = w
 
 -- a pull is from one of so many queues
 abbrev pub pulls_from : ℕ → Op → Bool
@@ -106,17 +101,9 @@ abbrev pub attach_asleep : Work → ℕ → ℕ → Option Contents → Work
 attach_asleep w caller cpu None = w
 attach_asleep w caller cpu (Some p) = put_down w caller (falls_asleep w.machine cpu p)
 
--- a queue has room for a task, where there is one
-abbrev pub has_room : State → Option Contents → Bool
-has_room q None = false
-has_room q (Some p) = can_place q (sleeper_of p)
-
-abbrev pub attach_joining : Work → ℕ → Option Contents → Work
-attach_joining w caller None = w
-attach_joining w caller (Some p) = put_down w caller (task_joins w.machine caller p)
-
 abbrev pub attach_pulled : Work → ℕ → Option Contents → Work
-attach_pulled w caller h = if has_room (queue_at w.machine caller) h then attach_joining w caller h else w
+attach_pulled w caller None = w
+attach_pulled w caller (Some p) = put_down w caller (task_joins w.machine caller p)
 
 -- the home of the task is given
 abbrev pub attach : ℕ → Work → ℕ → Op → Work

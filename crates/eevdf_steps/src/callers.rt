@@ -1,7 +1,6 @@
 //! The callers on their way through their programs.
 
 ghost use Rattle.std.specs.Prelude.{◌≡◌, ◌<◌, ◌≤◌, true, is_some, length, replicate, IfOk, IfSome};
-ghost use Rattle.std.specs.Option.{option_map};
 ghost use Rattle.eevdf_steps.specs.Plan.{IsSound, callers, home, plan_of, program};
 ghost use Rattle.eevdf_steps.specs.SoundSteps.{is_sound_step};
 ghost use Rattle.eevdf_steps.specs.Counters.{counted, step_next};
@@ -21,9 +20,13 @@ pub(crate) struct Callers {
 }
 
 impl Model for Callers {
+    ghost use Rattle.std.specs.Coded.{codes};
+    ghost use Rattle.eevdf_queue.specs.Codes.{state_code};
     ghost use Rattle.eevdf_steps.specs.Callers as way;
 
     ghost Value = { way.Callers };
+
+    ghost coded = { Prim.hlevel (codes, state_code) };
 
     ghost view = { λ c. way.callers_at c.plan c.positions.items };
 

@@ -1,6 +1,7 @@
 //! What the steps of the callers add to the history.
 
 ghost use Rattle.std.specs.Prelude.{◌≡◌, ◌+◌, ◌≤◌, length};
+ghost use Rattle.eevdf_ops.specs.Programs.{deed_of};
 ghost use Rattle.eevdf_steps.specs.Commits as commits;
 ghost use Rattle.eevdf_steps.specs.Journals as journals;
 ghost use Rattle.eevdf_steps.specs.MicroState.{line_of};
@@ -38,7 +39,7 @@ fn committed(turn: &Turn) -> Option<Deed>
 }
 
 fn deed_of(cpu: CpuId, op: Op) -> Option<Deed>
-    ensures { result ≡ commits.deed_of cpu op }
+    ensures { result ≡ deed_of cpu op }
 {
     match op {
         Op::Tick(ns) => Some(Deed::Tick { cpu, ns }),

@@ -1,6 +1,6 @@
 //! The history, with room for all that it will have.
 
-ghost use Rattle.std.specs.Prelude.{◌≡◌, ◌<◌, [], ◌∷◌, ◌++◌, length, IfOk};
+ghost use Rattle.std.specs.Prelude.{◌≡◌, ◌<◌, [], length, IfOk};
 ghost use Rattle.eevdf_steps.specs.Journals as journal;
 
 use eevdf_ops::{Answer, Deed, Line};

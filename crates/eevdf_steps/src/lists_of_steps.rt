@@ -1,7 +1,6 @@
 //! The micro-steps of operations by their places.
 
-ghost use Rattle.std.specs.Prelude.{◌≡◌, ◌+◌, ◌*◌, ◌<◌, ◌≤◌, min, max, slice_get, ◌∷◌, []};
-ghost use Rattle.eevdf_steps.specs.declared.micro_steps.Micro.TheVariants.{Act, Commit};
+ghost use Rattle.std.specs.Prelude.{◌≡◌, ◌*◌, ◌<◌, ◌≤◌, min, max, slice_get};
 ghost use Rattle.eevdf_steps.specs.MicroSteps as steps;
 
 use crate::micro_steps::Micro;

@@ -26,10 +26,14 @@ pub(crate) struct LockedCallers {
 }
 
 impl Model for LockedCallers {
+    ghost use Rattle.std.specs.Coded.{codes};
+    ghost use Rattle.eevdf_queue.specs.Codes.{state_code};
     ghost use Rattle.eevdf_steps.specs.Callers as way;
     ghost use Rattle.eevdf_steps.specs.Holders as locks;
 
     ghost Value = { way.Callers };
+
+    ghost coded = { Prim.hlevel (codes, state_code) };
 
     ghost view = { λ c. c.callers };
 
@@ -137,6 +141,18 @@ impl LockedCallers {
     {
         for caller in 0..self.count() {
             if self.next(caller).is_some() {
+                return Some(caller);
+            }
+        }
+        None
+    }
+
+    /// The least caller that may do its next step.
+    pub(crate) fn ready(&self) -> Option<usize>
+        ensures { result ≡ counters.ready self.now.plan self.now.counters }
+    {
+        for caller in 0..self.count() {
+            if self.refusal(caller).is_none() {
                 return Some(caller);
             }
         }

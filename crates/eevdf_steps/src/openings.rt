@@ -1,6 +1,6 @@
 //! What a player reserves when it opens.
 
-ghost use Rattle.std.specs.Prelude.{◌≡◌, ◌<◌, ◌*◌, length, replicate, None, IfOk};
+ghost use Rattle.std.specs.Prelude.{◌≡◌, replicate, None, IfOk};
 ghost use Rattle.eevdf_steps.specs.Plan.{callers as number};
 ghost use Rattle.eevdf_steps.specs.Openings as openings;
 

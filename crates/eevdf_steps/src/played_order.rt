@@ -1,8 +1,18 @@
 //! Playing a whole order.
 
-ghost use Rattle.std.specs.Prelude.{◌≡◌};
+ghost use Rattle.std.specs.List.{list_all};
+ghost use Rattle.std.specs.Prelude.{◌≡◌, true, IfOk, OnOk};
+ghost use Rattle.eevdf_ops.specs.Followed.{FollowsPrograms};
+ghost use Rattle.eevdf_ops.specs.Histories.{IsOneThread};
+ghost use Rattle.eevdf_ops.specs.Machine.{start};
+ghost use Rattle.eevdf_ops.specs.Programs.{deeds_of};
+ghost use Rattle.eevdf_ops.specs.Setup.{allows, homes_of};
+ghost use Rattle.eevdf_steps.specs.Commits.{deeds_committed};
 ghost use Rattle.eevdf_steps.specs.Orders as orders;
-ghost use Rattle.eevdf_steps.specs.Plays as plays;
+ghost use Rattle.eevdf_steps.specs.Orders.{IsWhole};
+ghost use Rattle.eevdf_steps.specs.Plan.{plan_of};
+ghost use Rattle.eevdf_steps.specs.PlayedSteps.{IsPlayed};
+ghost use Rattle.eevdf_steps.specs.Plays.{IsPlay};
 
 use crate::play_fault::PlayFault;
 use crate::step_fault::StepFault;
@@ -13,8 +23,17 @@ use std::alloc::Global;
 /// Lets the callers of a setup do their steps in an order, which is a list of callers. An order of more than
 /// 1000000 places is refused first. Else its first faulty place is, and where no place is faulty, an order that
 /// ends before all callers are done. Want of memory may be answered in place of all but the first.
+///
+/// Whatever the order, its outcome is that of one thread that does the deeds of the order's commits one after the other,
+/// each at once: the same answers, the same queues. The setup allows each of these deeds. The lines of each CPU are its
+/// program's operations, in order and each once, and each request that was posted was either drained once, in order, or
+/// is left.
 pub fn play(alloc: Global, setup: &Setup, order: &[usize]) -> Result<Outcome, PlayFault>
-    ensures { plays.IsPlay setup.now order.now result }
+    ensures play { IsPlay setup.now order.now result }
+    ensures whole { OnOk result (IsWhole (plan_of setup.now) (orders.counters_at_start (plan_of setup.now)) order.now) }
+    ensures one_thread { IfOk result (λ o. IsOneThread (homes_of setup.now) (start setup.now) (deeds_committed setup.now order.now) o) }
+    ensures allowed { IfOk result (λ o. list_all (allows setup.now) (deeds_of o.lines) ≡ true) }
+    ensures programs { IfOk result (λ o. FollowsPrograms setup.now o) }
 {
     if order.len() > 1000000 {
         return Err(PlayFault::TooLong);
@@ -33,7 +52,7 @@ pub fn play(alloc: Global, setup: &Setup, order: &[usize]) -> Result<Outcome, Pl
 
 /// Does the steps of an order up to its first faulty place, whose fault is the answer.
 fn play_order(player: &mut Player, order: &[usize]) -> Option<PlayFault>
-    ensures { plays.IsPlayed player.old order.now result player.new }
+    ensures { IsPlayed player.old order.now result player.new }
 {
     for at in 0..order.len() {
         if let Err(fault) = player.step(order[at]) {

@@ -51,39 +51,41 @@ pub(crate) struct Position {
     pub(crate) steps: usize,
 }
 
-/// The home of each task, and the program of each caller.
+/// What the callers of a setup are to do, with the setup itself.
 #[derive(Drop)]
 pub(crate) struct Plan {
-    homes: Vec<CpuId>,
-    programs: Vec<Vec<Op>>,
+    setup: Setup,
 }
 
 impl Model for Plan {
-    ghost use Rattle.std.specs.Prelude.{map};
+    ghost use Rattle.std.specs.Coded.{codes};
+    ghost use Rattle.eevdf_queue.specs.Codes.{state_code};
     ghost use Rattle.eevdf_steps.specs.Plan as plan;
 
     ghost Value = { plan.Plan };
 
-    ghost view = { λ p. record { homes = p.homes.items; programs = map (λ (q : _). q.items) p.programs.items } };
+    ghost coded = { Prim.hlevel (codes, state_code) };
 
-    ghost invariant = { λ p. plan.IsSound (record { homes = p.homes.items; programs = map (λ (q : _). q.items) p.programs.items }) };
+    ghost view = { λ p. plan.plan_of p.setup };
+
+    ghost invariant = { λ p. plan.IsSound (plan.plan_of p.setup) };
 }
 
 impl Plan {
-    /// What a setup has its callers do, copied.
+    /// The plan of a setup, copied.
     pub(crate) fn make(alloc: Global, setup: &Setup) -> Result<Plan, AllocError>
         ensures { IfOk result (λ p. p ≡ plan_of setup.now) }
     {
-        let homes = copy_homes(alloc, setup)?;
-        let programs = copy_programs(alloc, setup)?;
-        Ok(Plan { homes, programs })
+        let _cpus = setup.cpus();
+        let setup = setup.try_clone(alloc)?;
+        Ok(Plan { setup })
     }
 
     /// Learns what every plan keeps.
     pub(crate) fn keeps(&self)
         ensures { IsSound self.now }
     {
-        let _ = &self.programs;
+        let _ = &self.setup;
     }
 
     /// The number of callers, one for each CPU.
@@ -91,7 +93,7 @@ impl Plan {
         ensures callers { result ≡ callers self.now }
         ensures few { result ≤ 16 }
     {
-        self.programs.len()
+        self.setup.cpus()
     }
 
     /// The number of operations of a caller's program.
@@ -104,11 +106,18 @@ impl Plan {
         self.listed_operations(caller)
     }
 
+    fn listed(&self, caller: usize) -> &[Op]
+        requires { caller < callers self.now }
+        ensures { result.now ≡ program self.now caller }
+    {
+        self.setup.program(cpu_number(caller))
+    }
+
     fn listed_operations(&self, caller: usize) -> usize
         requires { caller < callers self.now }
         ensures { result ≡ length (program self.now caller) }
     {
-        self.programs[caller].len()
+        self.listed(caller).len()
     }
 
     /// The CPU at which a task sleeps.
@@ -117,7 +126,15 @@ impl Plan {
         ensures home { result ≡ home self.now task }
         ensures below { result < callers self.now }
     {
-        self.homes[task.get() as usize]
+        self.keeps();
+        self.listed_home(task)
+    }
+
+    fn listed_home(&self, task: TaskId) -> CpuId
+        requires { task < length self.now.homes }
+        ensures { result ≡ home self.now task }
+    {
+        self.setup.spec(task).home
     }
 
     /// The operation at a place of a caller's program.
@@ -135,7 +152,7 @@ impl Plan {
         requires { caller < callers self.now }
         ensures { result ≡ slice_get (program self.now caller) at }
     {
-        self.programs[caller].get(at).copied()
+        self.listed(caller).get(at).copied()
     }
 
     /// The micro-step of an operation at a place of its list.
@@ -212,38 +229,5 @@ impl Plan {
                 steps: 0,
             },
         }
-    }
-}
-
-fn copy_homes(alloc: Global, setup: &Setup) -> Result<Vec<CpuId>, AllocError>
-    ensures { IfOk result (λ homes. homes.items ≡ homes_of setup.now) }
-{
-    let _cpus = setup.cpus();
-    let mut homes = Vec::with_capacity(alloc, setup.tasks())?;
-    for place in 0..setup.tasks() {
-        homes.push(setup.spec(task_number(place)).home)?;
-    }
-    Ok(homes)
-}
-
-fn copy_programs(alloc: Global, setup: &Setup) -> Result<Vec<Vec<Op>>, AllocError>
-    ensures programs { IfOk result (λ programs. map (λ (p : _). p.items) programs.items ≡ setup.now.programs) }
-    ensures sound { faults.setup_fault setup.now.tasks setup.now.programs ≡ None }
-{
-    let mut programs = Vec::with_capacity(alloc, setup.cpus())?;
-    for cpu in 0..setup.cpus() {
-        programs.push(Vec::from_slice(alloc, setup.program(cpu_number(cpu)))?)?;
-    }
-    Ok(programs)
-}
-
-/// The number of the task at a place of the list of tasks.
-fn task_number(place: usize) -> TaskId
-    requires { place < 1024 }
-    ensures { result ≡ place }
-{
-    match TaskId::new(place as u64) {
-        Some(task) => task,
-        None => unreachable!(),
     }
 }

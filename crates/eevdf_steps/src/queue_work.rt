@@ -1,7 +1,9 @@
 //! The work that the callers do on the queues.
 
-ghost use Rattle.std.specs.Prelude.{◌≡◌, ◌<◌, ◌≤◌, length, replicate, vec_len, is_some, true, Some, None, IfOk, IfSome};
+ghost use Rattle.std.specs.Prelude.{◌≡◌, ◌<◌, ◌≤◌, length, replicate, vec_len, true, None, IfOk, IfSome};
 ghost use Rattle.eevdf_queue.specs.Leaving.{carried_running};
+ghost use Rattle.eevdf_queue.specs.Moves.{sleeper_of};
+ghost use Rattle.eevdf_queue.specs.Placing.{can_place};
 ghost use Rattle.eevdf_ops.specs.Machine.{queue_at};
 ghost use Rattle.eevdf_ops.specs.Outcome.{machine_of};
 ghost use Rattle.eevdf_ops.specs.Places.{places_in};
@@ -162,29 +164,9 @@ impl Work {
         requires queue { cpu < length self.old.machine }
         requires answer { cpu < length self.old.answers }
         requires hand { cpu < length self.old.hands }
+        requires empty { work.hand self.old cpu ≡ None }
         requires source { work.pulls_from (length self.old.machine) op ≡ true }
         ensures { self.new ≡ work.detach self.old cpu op }
-    {
-        if self.holds(cpu) {
-            return;
-        }
-        self.detach_by(cpu, op);
-    }
-
-    /// Whether a caller has a task in its hand.
-    fn holds(&self, cpu: CpuId) -> bool
-        requires { cpu < length self.now.hands }
-        ensures { result ≡ is_some (work.hand self.now cpu) }
-    {
-        self.hands[cpu.get() as usize].is_some()
-    }
-
-    fn detach_by(&mut self, cpu: CpuId, op: Op)
-        requires queue { cpu < length self.old.machine }
-        requires answer { cpu < length self.old.answers }
-        requires hand { cpu < length self.old.hands }
-        requires source { work.pulls_from (length self.old.machine) op ≡ true }
-        ensures { self.new ≡ work.detached_by self.old cpu op }
     {
         match op {
             Op::Sleep(task) => self.detach_running(cpu, task),
@@ -242,33 +224,13 @@ impl Work {
         requires queue { cpu < length self.old.machine }
         requires hand { cpu < length self.old.hands }
         requires nowhere { IfSome (work.hand self.old cpu) (λ p. places_in (queue_at self.old.machine cpu) p.task ≡ 0) }
+        requires room { IfSome (work.hand self.old cpu) (λ p. can_place (queue_at self.old.machine cpu) (sleeper_of p) ≡ true) }
         ensures { self.new ≡ work.attach_pulled self.old cpu (work.hand self.old cpu) }
-    {
-        if self.has_room(cpu) {
-            self.attach_joining(cpu);
-        }
-    }
-
-    fn attach_joining(&mut self, cpu: CpuId)
-        requires queue { cpu < length self.old.machine }
-        requires hand { cpu < length self.old.hands }
-        requires nowhere { IfSome (work.hand self.old cpu) (λ p. places_in (queue_at self.old.machine cpu) p.task ≡ 0) }
-        requires room { work.has_room (queue_at self.old.machine cpu) (work.hand self.old cpu) ≡ true }
-        ensures { self.new ≡ work.attach_joining self.old cpu (work.hand self.old cpu) }
     {
         match self.let_go(cpu) {
             None => {}
             Some(parcel) => join(&mut self.queues, cpu, parcel),
         }
-    }
-
-    fn has_room(&self, cpu: CpuId) -> bool
-        requires queue { cpu < length self.now.machine }
-        requires hand { cpu < length self.now.hands }
-        ensures { result ≡ work.has_room (queue_at self.now.machine cpu) (work.hand self.now cpu) }
-    {
-        let at = cpu.get() as usize;
-        room_for(&self.queues[at], &self.hands[at])
     }
 
     /// Takes the task out of the caller's hand.
@@ -317,16 +279,6 @@ fn take_pulled(queues: &mut [Queue], cpu: CpuId, source: CpuId) -> Result<Parcel
     match decide(&queues[cpu.get() as usize], &queues[source.get() as usize]) {
         Err(refusal) => Err(refusal),
         Ok(task) => Ok(take(queues, source, task)),
-    }
-}
-
-/// Whether a queue has room for the task in a hand, where there is one.
-fn room_for(queue: &Queue, hand: &Option<Parcel>) -> bool
-    ensures { result ≡ work.has_room queue.now.state hand.now }
-{
-    match hand {
-        None => false,
-        Some(parcel) => queue.can_place(parcel.nice(), parcel.slice(), parcel.lag()),
     }
 }
 

@@ -7,7 +7,7 @@ ghost use Rattle.eevdf_steps.specs.MicroState as state;
 ghost use Rattle.eevdf_steps.specs.Places as places;
 ghost use Rattle.eevdf_steps.specs.Recorded as recorded;
 ghost use Rattle.eevdf_steps.specs.Work.{pulls_from};
-ghost use Rattle.eevdf_steps.specs.Working.{IsWorking};
+ghost use Rattle.eevdf_steps.specs.Working.{FitsHand, IsWorking};
 
 use crate::commits::commit;
 use crate::journal::Journal;
@@ -64,6 +64,7 @@ impl RecordedWork {
     pub(crate) fn do_step(&mut self, turn: &Turn)
         requires work { IsWorking self.old.work turn.now.cpu turn.now.home }
         requires source { pulls_from (length self.old.work.machine) turn.now.op ≡ true }
+        requires hand { FitsHand self.old.work turn.now.cpu turn.now.op turn.now.micro }
         requires room { length self.old.journal.lines
             + length (state.appends self.old.work turn.now.cpu turn.now.op turn.now.micro turn.now.found) ≤ self.old.journal.room }
         ensures { self.new ≡ recorded.done_on turn.now self.old }

@@ -1,10 +1,14 @@
-ghost use Rattle.std.specs.Prelude.{◌≡◌, ◌<◌, true, length, Some, None, drop, map, IfOk};
+ghost use Rattle.std.specs.Prelude.{◌≡◌, ◌<◌, true, is_none, length, Some, None, drop, map, IfOk, OnOk};
+ghost use Rattle.eevdf_ops.specs.Histories.{AreHistory, IsOneThread};
 ghost use Rattle.eevdf_ops.specs.Machine.{queue_at};
+ghost use Rattle.eevdf_ops.specs.Programs.{deeds_of};
 ghost use Rattle.eevdf_steps.specs.Counters as counters;
-ghost use Rattle.eevdf_steps.specs.Plan.{callers};
+ghost use Rattle.eevdf_steps.specs.Plan.{IsSound, callers};
 ghost use Rattle.eevdf_steps.specs.Places.{stands_at};
 ghost use Rattle.eevdf_steps.specs.Players as player;
+ghost use Rattle.eevdf_steps.specs.Playing as playing;
 ghost use Rattle.eevdf_steps.specs.Plays as plays;
+ghost use Rattle.eevdf_steps.specs.Reduced.{IsSerial};
 
 use crate::lists_of_steps::cpu_number;
 use crate::locked_callers::LockedCallers;
@@ -32,6 +36,7 @@ pub struct Player {
 
 impl Model for Player {
     ghost use Rattle.eevdf_steps.specs.Players as player;
+    ghost use Rattle.eevdf_steps.specs.Playing as playing;
     ghost use Rattle.std.specs.Coded.{codes};
     ghost use Rattle.eevdf_queue.specs.Codes.{state_code};
 
@@ -39,9 +44,9 @@ impl Model for Player {
 
     ghost coded = { Prim.hlevel (codes, state_code) };
 
-    ghost view = { λ a. player.player_of a.callers a.posts a.found.items a.done };
+    ghost view = { λ a. playing.player_of a.callers a.posts a.found.items a.done };
 
-    ghost invariant = { λ a. player.IsPlaying a.callers a.posts a.found.items a.done };
+    ghost invariant = { λ a. playing.IsPlaying a.callers a.posts a.found.items a.done };
 }
 
 impl Player {
@@ -50,6 +55,7 @@ impl Player {
         ensures { IfOk result (λ a. a ≡ player.player_start setup.now) }
     {
         let callers = LockedCallers::open(alloc, setup)?;
+        callers.keeps();
         let posts = Requests::open(alloc, &callers)?;
         let found = nothing_found(alloc, callers.count())?;
         let solo = Solo::open(alloc, setup)?;
@@ -65,20 +71,30 @@ impl Player {
 
     /// The micro-step that a caller does next: `None` exactly where it is done or there is no such caller.
     pub fn next(&self, caller: usize) -> Option<Micro>
-        ensures { result ≡ counters.next self.now.plan self.now.state.progress.counters caller }
+        ensures { result ≡ player.next self.now caller }
     {
         micro_of(self.callers.next(caller))
     }
 
-    /// Who holds the lock of a CPU of the setup.
+    /// The least caller whose next step nothing refuses: `None` exactly where all callers are done. Until then there
+    /// is one, since every operation acquires its locks in ascending order of the CPUs.
+    pub fn ready(&self) -> Option<usize>
+        ensures ready { result ≡ player.ready self.now }
+        ensures none { is_none result ≡ is_none (player.unfinished self.now) }
+    {
+        self.callers.keeps();
+        self.callers.ready()
+    }
+
+    /// Who holds the lock of a CPU of the setup: one caller at most (`laws::one_holder`).
     pub fn holder(&self, cpu: CpuId) -> Option<usize>
         requires { cpu < callers self.now.plan }
-        ensures { result ≡ counters.holder self.now.plan self.now.state.progress.counters cpu }
+        ensures { result ≡ player.holder self.now cpu }
     {
         self.callers.holder(cpu)
     }
 
-    /// Where a task of the setup stands: the one place, since no task stands in two.
+    /// Where a task of the setup stands: the one place, since no task stands in two (`laws::every_task_in_one_place`).
     pub fn place_of(&self, task: TaskId) -> Place
         requires { task < length self.now.plan.homes }
         ensures { stands_at self.now.state.work task result ≡ true }
@@ -90,24 +106,32 @@ impl Player {
         }
     }
 
-    /// The queue of a CPU of the setup.
+    /// The queue of a CPU of the setup. While nobody holds its lock, it is that of the history: of the deeds committed so
+    /// far, done one after the other as whole operations.
     pub fn queue(&self, cpu: CpuId) -> &Queue
         requires { cpu < callers self.now.plan }
-        ensures { result.now.state ≡ queue_at self.now.state.work.machine cpu }
+        ensures queue { result.now.state ≡ player.queue_of self.now cpu }
+        ensures free { player.holder self.now cpu ≡ None
+            → result.now.state ≡ queue_at (player.machine_of_history self.now) cpu }
     {
+        self.keeps();
         self.done.queue(cpu)
     }
 
-    /// The deeds that were done with their answers, in the order in which they were done.
+    /// The deeds that were committed with their answers, in the order of the commits. Each answer is that of the deed done
+    /// as a whole operation after those before it.
     pub fn history(&self) -> &[Line]
-        ensures { result.now ≡ self.now.state.lines }
+        ensures lines { result.now ≡ self.now.state.lines }
+        ensures answers { AreHistory self.now.plan.homes self.now.plan.start result.now }
     {
+        self.keeps();
         self.done.lines()
     }
 
     /// Does the next step of a caller, where nothing refuses it. A refusal changes nothing. It takes no memory.
     pub fn step(&mut self, caller: usize) -> Result<(), StepFault>
-        ensures { player.IsStep self.old caller result self.new }
+        ensures step { player.IsStep self.old caller result self.new }
+        ensures commits { OnOk result (player.Appends self.old caller self.new) }
     {
         if let Some(fault) = self.callers.refusal(caller) {
             return Err(fault);
@@ -121,14 +145,18 @@ impl Player {
 
     /// Learns what is kept of the queues and of what the callers hold.
     pub(crate) fn keeps(&self)
-        ensures { player.IsWork self.now.plan self.now.state.work }
+        ensures work { playing.IsWork self.now.plan self.now.state.work }
+        ensures serial { IsSerial self.now.plan self.now.plan.start self.now.state.progress.counters self.now.state.work self.now.state.lines }
+        ensures sound { IsSound self.now.plan }
+        ensures each { length self.now.state.progress.counters ≡ callers self.now.plan }
     {
+        self.callers.keeps();
         let _ = &self.done;
     }
 
     /// The least caller that isn't done.
     pub(crate) fn unfinished(&self) -> Option<usize>
-        ensures { result ≡ counters.unfinished self.now.plan self.now.state.progress.counters }
+        ensures { result ≡ player.unfinished self.now }
     {
         self.callers.unfinished()
     }
@@ -136,7 +164,9 @@ impl Player {
     /// What the steps have come to, with the requests that are left, where every caller is done. Else the player
     /// comes back as it was. It takes no memory.
     pub fn outcome(self) -> Result<Outcome, Player>
-        ensures { plays.IsEnd self result }
+        ensures end { plays.IsEnd self result }
+        ensures history { IfOk result (λ o.
+            IsOneThread self.plan.homes self.plan.start (deeds_of self.state.lines) o) }
     {
         if self.unfinished().is_some() {
             return Err(self);
@@ -146,8 +176,12 @@ impl Player {
 
     /// What the steps have come to, with the requests that are left. It takes no memory.
     pub(crate) fn into_outcome(self) -> Outcome
-        ensures { plays.IsOutcome self result }
+        ensures outcome { plays.IsOutcome self result }
+        ensures sound { IsSound self.plan }
+        ensures history { player.unfinished self ≡ None
+            → IsOneThread self.plan.homes self.plan.start (deeds_of self.state.lines) result }
     {
+        self.keeps();
         let Player {
             callers: _,
             posts,
@@ -161,7 +195,8 @@ impl Player {
     fn do_step(&mut self, cpu: CpuId, step: &Step)
         requires next { counters.step_next self.old.plan self.old.state.progress.counters cpu ≡ Some step.now }
         requires free { counters.refused self.old.plan self.old.state.progress.counters step.now.micro ≡ None }
-        ensures { self.new ≡ player.player_step self.old cpu }
+        ensures step { self.new ≡ player.player_step self.old cpu }
+        ensures commits { player.Appends self.old cpu self.new }
     {
         self.callers.keeps();
         let caller = cpu.get() as usize;

@@ -2,7 +2,7 @@
 
 ghost use Rattle.std.specs.Prelude.{◌≡◌, ◌<◌, length, true};
 ghost use Rattle.eevdf_steps.specs.MicroState as state;
-ghost use Rattle.eevdf_steps.specs.Working.{IsWorking};
+ghost use Rattle.eevdf_steps.specs.Working.{FitsHand, HasRoom, IsWorking};
 ghost use Rattle.eevdf_steps.specs.Work as steps;
 
 use crate::micro_steps::Micro;
@@ -15,6 +15,7 @@ use eevdf_queue::TaskId;
 pub(crate) fn do_work(work: &mut Work, turn: &Turn) -> Option<Answer>
     requires work { IsWorking work.old turn.now.cpu turn.now.home }
     requires source { steps.pulls_from (length work.old.machine) turn.now.op ≡ true }
+    requires hand { FitsHand work.old turn.now.cpu turn.now.op turn.now.micro }
     ensures work { work.new ≡ state.works turn.now.home work.old turn.now.cpu turn.now.op turn.now.micro turn.now.found }
     ensures answer { result ≡ state.answers work.old turn.now.cpu turn.now.micro turn.now.found }
 {
@@ -39,7 +40,8 @@ pub(crate) fn do_work(work: &mut Work, turn: &Turn) -> Option<Answer>
 }
 
 fn attach(work: &mut Work, cpu: CpuId, op: Op, home: CpuId)
-    requires { IsWorking work.old cpu home }
+    requires work { IsWorking work.old cpu home }
+    requires room { HasRoom work.old cpu op }
     ensures { work.new ≡ steps.attach home work.old cpu op }
 {
     match op {

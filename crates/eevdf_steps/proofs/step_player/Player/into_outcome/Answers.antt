@@ -2,10 +2,13 @@ use Rattle.std.proofs.Common.{◌≡◌, ◌*◌, ℕ, List, [], length, get_or,
 use Rattle.std.proofs.lemmas.List.{length-map}
 use Rattle.eevdf_queue.specs.State.{View}
 use Rattle.eevdf_ops.specs.Machine.{Machine}
+use Rattle.eevdf_ops.specs.Programs.{deeds_of}
 use Rattle.eevdf_ops.specs.Outcome.{machine_of}
 use Rattle.eevdf_ops.proofs.Machines.{length-machine_of}
 use Rattle.eevdf_steps.specs.Plan.{callers, pair}
-use Rattle.eevdf_steps.specs.Players.{Player, player_of}
+use Rattle.eevdf_steps.specs.Players.{Player}
+use Rattle.eevdf_steps.specs.Playing.{player_of}
+use Rattle.eevdf_steps.proofs.Finished.{finished_machine}
 use Rattle.eevdf_steps.proofs.Leaving.{left_each, left_over}
 use Rattle.eevdf_steps.proofs.step_player.Player.into_outcome.Goals as goal
 
@@ -22,8 +25,8 @@ of-requires c =
     = omega (arith, c.into_parts-lines.result.queues.ok.0, length-machine_of c.into_parts-lines.result.queues.items, machine, c.self.invariant.work.queues) in
     left ∙ ap (λ (n : ℕ). n * n) (sym queues)
 
-pub returns : goal.returns
-returns c = record {
+pub returns-clause-outcome : goal.returns-clause-outcome
+returns-clause-outcome c = record {
   lines = c.of.ensures.lines ∙ c.into_parts-lines.ensures.lines ∙ ap (λ (a : Player). a.state.lines) c.self.view_is;
   machine = ap (λ (qs : List View). machine_of qs) c.of.ensures.queues ∙ c.into_parts-lines.ensures.machine ∙ ap (λ (a : Player). a.state.work.machine) c.self.view_is;
   each = ap (λ (ls : List (List ℕ)). length ls) c.of.ensures.left
@@ -32,3 +35,16 @@ returns c = record {
       ap (λ (ls : List (List ℕ)). get_or ls (pair c.args.self.plan q h) []) c.of.ensures.left
       ∙ left_over c.self.inside.callers c.self.inside.posts c.self.inside.found.items c.self.inside.done c.args.self _ c.self.view_is c.self.invariant c.into_left.ensures q h i j;
 }
+
+pub returns-clause-history : goal.returns-clause-history
+returns-clause-history c = λ done.
+    let lines : c.of.result.lines ≡ c.args.self.state.lines
+    = c.of.ensures.lines ∙ c.into_parts-lines.ensures.lines ∙ ap (λ (a : Player). a.state.lines) c.self.view_is in
+    let machine : machine_of c.of.result.queues ≡ c.args.self.state.work.machine
+    = ap (λ (qs : List View). machine_of qs) c.of.ensures.queues ∙ c.into_parts-lines.ensures.machine ∙ ap (λ (a : Player). a.state.work.machine) c.self.view_is in
+    record {
+      deeds_are = ap deeds_of lines;
+      lines = lines ∙ c.keeps.ensures.serial.history;
+      machine = machine ∙ finished_machine c.args.self.plan c.args.self.state.progress.counters c.args.self.state.work c.args.self.state.lines
+          c.keeps.ensures.sound c.keeps.ensures.each c.keeps.ensures.work.queues c.keeps.ensures.serial done;
+    }

@@ -16,6 +16,7 @@ opened c =
     let long : length c.into_queues.result.items ≡ length c.in_ok-solo.solo.queues = ap (λ (qs : List View). length qs) c.into_queues.ensures in
     let same : callers c.in_ok-callers.callers.plan ≡ callers (plan_of c.args.setup.now) = ap callers c.in_ok-callers.ensures.plan in
     record {
+      sound = c.keeps.ensures.sound;
       plan = c.in_ok-callers.ensures.plan;
       counters = c.in_ok-callers.ensures.counters;
       empty = c.in_ok-posts.ensures;

@@ -1,0 +1,171 @@
+-- Every order of a sound plan commits only deeds that are allowed.
+use Rattle.std.proofs.Common.{◌≡◌, ℕ, zero, suc, ◌<◌, Bool, true, false, ◌&&◌, cond, List, [], ◌∷◌, length, get_or, set, take, inl, inr, sym, subst, refl}
+use Rattle.std.proofs.lemmas.List.{get_or-set_other}
+use Rattle.std.proofs.lemmas.List.Elements.{All-take}
+use Rattle.std.proofs.lemmas.List.Sums.{AllPass-from_list_all, list_all-from_AllPass}
+use Rattle.std.specs.List.{list_all}
+use Rattle.std.specs.Option.{option_to_list}
+use Rattle.std.specs.Prelude.{slice_get, nat_lt, ◌==◌, IfSome, Option, Some, None}
+use Rattle.eevdf_ops.specs.declared.deeds.Op.{Op}
+use Rattle.eevdf_ops.specs.declared.deeds.Deed.{Deed}
+use Rattle.eevdf_ops.specs.Programs.{deed_of}
+use Rattle.eevdf_ops.specs.Setup.{Setup, allows, is_allowed, is_at_home}
+use Rattle.eevdf_steps.specs.declared.micro_steps.Micro.{Micro}
+use Rattle.eevdf_steps.specs.declared.micro_steps.Micro.TheVariants.{Acquire, Act, Detach, Attach, Commit, Take, Settle, Release, Post}
+use Rattle.eevdf_steps.specs.declared.program_plan.Step.{Step}
+use Rattle.eevdf_steps.specs.Plan.{IsSound, Plan, callers, home, is_sound_op, plan_of, pulls_elsewhere}
+use Rattle.eevdf_steps.specs.MicroSteps.{steps_by}
+use Rattle.eevdf_steps.specs.Counters.{count_of, done_by, step_next}
+use Rattle.eevdf_steps.specs.Requests.{Progress, found_by, oldest, post_to, posted, posts_to, progress_at_start, progress_by, progress_step, requested, taken_of, takes}
+use Rattle.eevdf_steps.specs.Commits.{commits, committed, committed_by, deeds_committed, wake_of}
+use Rattle.eevdf_steps.specs.SoundSteps.{is_sound_micro, is_sound_step}
+use Rattle.eevdf_steps.proofs.Holders.{none_first, number_cases}
+use Rattle.eevdf_steps.proofs.Lists.{both, lt_true, true_lt}
+use Rattle.eevdf_steps.proofs.Setups.{and_true}
+use Rattle.eevdf_steps.proofs.SoundSteps.{all_joined, all_steps_sound, is_caller, some_all, step_sound}
+use Rattle.eevdf_steps.proofs.SoundDeeds.{allowed_op, next_pulls_elsewhere}
+
+all_taken : {A : Type 0} (test : A → Bool) (xs : List A) (k : ℕ) → list_all test xs ≡ true → list_all test (take k xs) ≡ true
+all_taken test xs k all = list_all-from_AllPass test (take k xs) (All-take (λ x. test x ≡ true) k xs (AllPass-from_list_all test xs all))
+
+-- an element of a list all of whose elements pass, where there is one
+some_passes : {A : Type 0} (test : A → Bool) (xs : List A) (k : ℕ) (r : Option A) → list_all test xs ≡ true → slice_get xs k ≡ r → IfSome r (λ (x : A). test x ≡ true)
+some_passes test xs k None all e = tt
+some_passes test xs k (Some x) all e = some_all test xs k x all e
+
+set_passes : {A : Type 0} (P : A → Type 0) (xs : List A) (k : ℕ) (x d : A) → P x → P (get_or xs k d) → P (get_or (set xs k x) k d)
+set_passes P [] k x d new old = old
+set_passes P (y ∷ xs) zero x d new old = new
+set_passes P (y ∷ xs) (suc k) x d new old = set_passes P xs k x d new old
+
+-- a request to a home is for a task of that home
+abbrev IsForHome : Plan → ℕ → Option ℕ → Type 0
+IsForHome plan c r = IfSome r (λ (task : ℕ). is_at_home plan.homes task c ≡ true)
+
+post_is_for_home : (plan : Plan) (c : ℕ) (m : Micro) → is_sound_micro plan m ≡ true → list_all (λ (t : ℕ). is_at_home plan.homes t c) (post_to plan c m) ≡ true
+post_is_for_home plan c (Post task) well = by_home (home plan task == c) refl
+  where
+    by_home : (b : Bool) → (home plan task == c) ≡ b → list_all (λ (t : ℕ). is_at_home plan.homes t c) (cond b (task ∷ []) []) ≡ true
+    by_home true e = and_true (is_at_home plan.homes task c) true (and_true (nat_lt task (length plan.homes)) (home plan task == c) well e) refl
+    by_home false e = refl
+post_is_for_home plan c (Acquire cpu) well = refl
+post_is_for_home plan c (Release cpu) well = refl
+post_is_for_home plan c Act well = refl
+post_is_for_home plan c Detach well = refl
+post_is_for_home plan c Attach well = refl
+post_is_for_home plan c Commit well = refl
+post_is_for_home plan c (Take q) well = refl
+post_is_for_home plan c (Settle q) well = refl
+
+posts_are_for_home : (plan : Plan) (c : ℕ) (ss : List Step) → list_all (is_sound_step plan) ss ≡ true → list_all (λ (t : ℕ). is_at_home plan.homes t c) (posts_to plan c ss) ≡ true
+posts_are_for_home plan c [] all = refl
+posts_are_for_home plan c (s ∷ ss) all =
+    let parts : (is_sound_step plan s ≡ true) × (list_all (is_sound_step plan) ss ≡ true) = both (is_sound_step plan s) (list_all (is_sound_step plan) ss) all in
+    all_joined (λ (t : ℕ). is_at_home plan.homes t c) (post_to plan c s.micro) (posts_to plan c ss)
+    (post_is_for_home plan c s.micro (both (is_sound_op plan s.op) (is_sound_micro plan s.micro) parts.0).1) (posts_are_for_home plan c ss parts.1)
+
+oldest_is_for_home : (plan : Plan) (g : Progress) (q c : ℕ) → IsSound plan → q < callers plan → IsForHome plan c (oldest plan g q c)
+oldest_is_for_home plan g q c sound h =
+    some_passes (λ (t : ℕ). is_at_home plan.homes t c) (posted plan g.counters q c) (taken_of plan g q c) (oldest plan g q c)
+    (posts_are_for_home plan c (done_by plan g.counters q)
+    (all_taken (is_sound_step plan) (steps_by plan q) (count_of g.counters q) (all_steps_sound plan q sound h))) refl
+
+-- what the callers have found are requests to their own homes
+abbrev FindTheirOwn : Plan → Progress → Type 0
+FindTheirOwn plan g = (c : ℕ) → IsForHome plan c (found_by g c)
+
+found_first : (plan : Plan) → FindTheirOwn plan (progress_at_start plan)
+found_first plan c = subst (λ (r : Option ℕ). IsForHome plan c r) (sym (none_first (callers plan) c)) tt
+
+-- a caller finds something, or nothing
+found_next : (plan : Plan) (found : List (Option ℕ)) (x : ℕ) (r : Option ℕ) → ((c : ℕ) → IsForHome plan c (get_or found c None)) → IsForHome plan x r
+    → (c : ℕ) → IsForHome plan c (get_or (set found x r) c None)
+found_next plan found x r own new c =
+    elim (number_cases c x) [
+      | inl same ↦ subst (λ (k : ℕ). IsForHome plan k (get_or (set found x r) k None)) (sym same)
+          (set_passes (λ (o : Option ℕ). IsForHome plan x o) found x r None new (own x))
+      | inr apart ↦ subst (λ (o : Option ℕ). IsForHome plan c o) (sym (get_or-set_other found x c r None apart)) (own c)
+    ]
+
+takes_own : (plan : Plan) (g : Progress) (x s : ℕ) (r : Option ℕ) → FindTheirOwn plan g → IsForHome plan x r → FindTheirOwn plan (takes plan g x s r)
+takes_own plan g x s None own new = found_next plan g.found x None own new
+takes_own plan g x s (Some task) own new = found_next plan g.found x (Some task) own new
+
+requested_own : (plan : Plan) (g : Progress) (x : ℕ) (m : Micro) → IsSound plan → is_sound_micro plan m ≡ true → FindTheirOwn plan g → FindTheirOwn plan (requested plan g x m)
+requested_own plan g x (Take s) sound well own =
+    takes_own plan g x s (oldest plan g s x) own (oldest_is_for_home plan g s x sound (true_lt s (callers plan) well))
+requested_own plan g x (Settle s) sound well own = found_next plan g.found x None own tt
+requested_own plan g x (Post task) sound well own = own
+requested_own plan g x (Acquire cpu) sound well own = own
+requested_own plan g x (Release cpu) sound well own = own
+requested_own plan g x Act sound well own = own
+requested_own plan g x Detach sound well own = own
+requested_own plan g x Attach sound well own = own
+requested_own plan g x Commit sound well own = own
+
+-- what is known of a step that a caller is to do
+record SoundStep (plan : Plan) (g : Progress) (x : ℕ) (s : Step) : Type 0 where
+  caller : x < callers plan
+  op : is_sound_op plan s.op ≡ true
+  micro : is_sound_micro plan s.micro ≡ true
+  pulls : pulls_elsewhere x s.op ≡ true
+
+sound_step : (plan : Plan) (g : Progress) (x : ℕ) (s : Step) → IsSound plan → step_next plan g.counters x ≡ Some s → SoundStep plan g x s
+sound_step plan g x s sound e =
+    let caller : x < callers plan = is_caller plan g.counters x s e in
+    let parts : (is_sound_op plan s.op ≡ true) × (is_sound_micro plan s.micro ≡ true)
+    = both (is_sound_op plan s.op) (is_sound_micro plan s.micro) (step_sound plan g.counters x s sound caller e) in
+    record { caller = caller; op = parts.0; micro = parts.1; pulls = next_pulls_elsewhere plan g.counters x s sound e }
+
+abbrev AllAllowed : Plan → List Deed → Type 0
+AllAllowed plan deeds = list_all (is_allowed (callers plan) plan.homes) deeds ≡ true
+
+one_allowed : (plan : Plan) (d : Deed) → is_allowed (callers plan) plan.homes d ≡ true → AllAllowed plan (d ∷ [])
+one_allowed plan d e = and_true (is_allowed (callers plan) plan.homes d) true e refl
+
+op_allowed : (plan : Plan) (x : ℕ) (o : Op) (r : Option Deed) → x < callers plan → is_sound_op plan o ≡ true → pulls_elsewhere x o ≡ true → deed_of x o ≡ r
+    → AllAllowed plan (option_to_list r)
+op_allowed plan x o None h well pulls e = refl
+op_allowed plan x o (Some d) h well pulls e = one_allowed plan d (allowed_op plan x o d h well pulls e)
+
+wake_allowed : (plan : Plan) (x s : ℕ) (found : Option ℕ) → x < callers plan → nat_lt s (callers plan) ≡ true → IsForHome plan x found
+    → AllAllowed plan (option_to_list (wake_of x s found))
+wake_allowed plan x s None h well own = refl
+wake_allowed plan x s (Some task) h well own =
+    and_true ((nat_lt x (callers plan) && nat_lt s (callers plan)) && is_at_home plan.homes task x) true
+    (and_true (nat_lt x (callers plan) && nat_lt s (callers plan)) (is_at_home plan.homes task x)
+    (and_true (nat_lt x (callers plan)) (nat_lt s (callers plan)) (lt_true x (callers plan) h) well) own) refl
+
+micro_allowed : (plan : Plan) (found : Option ℕ) (x : ℕ) (o : Op) (m : Micro) → x < callers plan → is_sound_op plan o ≡ true → pulls_elsewhere x o ≡ true
+    → is_sound_micro plan m ≡ true → IsForHome plan x found → AllAllowed plan (option_to_list (committed found x o m))
+micro_allowed plan found x o Commit h sound pulls well own = op_allowed plan x o (deed_of x o) h sound pulls refl
+micro_allowed plan found x o (Settle s) h sound pulls well own = wake_allowed plan x s found h well own
+micro_allowed plan found x o (Take s) h sound pulls well own = refl
+micro_allowed plan found x o (Post task) h sound pulls well own = refl
+micro_allowed plan found x o (Acquire cpu) h sound pulls well own = refl
+micro_allowed plan found x o (Release cpu) h sound pulls well own = refl
+micro_allowed plan found x o Act h sound pulls well own = refl
+micro_allowed plan found x o Detach h sound pulls well own = refl
+micro_allowed plan found x o Attach h sound pulls well own = refl
+
+-- a step commits what is allowed, and leaves each caller with requests of its own
+step_allowed : (plan : Plan) (g : Progress) (x : ℕ) (r : Option Step) → IsSound plan → FindTheirOwn plan g → step_next plan g.counters x ≡ r
+    → AllAllowed plan (committed_by g x r) × FindTheirOwn plan (progress_by plan g x r)
+step_allowed plan g x None sound own e = (refl, own)
+step_allowed plan g x (Some s) sound own e =
+    let st : SoundStep plan g x s = sound_step plan g x s sound e in
+    (micro_allowed plan (found_by g x) x s.op s.micro st.caller st.op st.pulls st.micro (own x), requested_own plan g x s.micro sound st.micro own)
+
+allowed_from : (plan : Plan) (g : Progress) (order : List ℕ) → IsSound plan → FindTheirOwn plan g → AllAllowed plan (commits plan g order)
+allowed_from plan g [] sound own = refl
+allowed_from plan g (x ∷ order) sound own =
+    let now : AllAllowed plan (committed_by g x (step_next plan g.counters x)) × FindTheirOwn plan (progress_step plan g x)
+    = step_allowed plan g x (step_next plan g.counters x) sound own refl in
+    all_joined (is_allowed (callers plan) plan.homes) (committed_by g x (step_next plan g.counters x)) (commits plan (progress_step plan g x) order)
+    now.0 (allowed_from plan (progress_step plan g x) order sound now.1)
+
+pub commits_allowed : (plan : Plan) (order : List ℕ) → IsSound plan → list_all (is_allowed (callers plan) plan.homes) (commits plan (progress_at_start plan) order) ≡ true
+commits_allowed plan order sound = allowed_from plan (progress_at_start plan) order sound (found_first plan)
+
+pub deeds_allowed : (setup : Setup) (order : List ℕ) → IsSound (plan_of setup) → list_all (allows setup) (deeds_committed setup order) ≡ true
+deeds_allowed setup order sound = commits_allowed (plan_of setup) order sound

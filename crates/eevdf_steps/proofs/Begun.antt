@@ -1,0 +1,130 @@
+-- What a caller has under way stands in queues that it holds, and depends on them alone.
+use Rattle.std.proofs.Common.{◌≡◌, ℕ, Bool, true, false, cond, ◌||◌, List, [], length, ap, ◌∙◌, refl}
+use Rattle.std.specs.Prelude.{◌==◌, MatchOption, Option, Some, None}
+use Rattle.eevdf_queue.specs.State.{State, Contents}
+use Rattle.eevdf_ops.specs.declared.deeds.Op.{Op}
+use Rattle.eevdf_ops.specs.declared.deeds.Op.TheVariants as op
+use Rattle.eevdf_ops.specs.declared.deeds.Deed.{Deed}
+use Rattle.eevdf_ops.specs.declared.deeds.Deed.TheVariants as deed
+use Rattle.eevdf_ops.specs.declared.deeds.Answer.{Answer}
+use Rattle.eevdf_ops.specs.Machine.{Machine, queue_at}
+use Rattle.eevdf_ops.specs.Parts.{after_leaving, decider, given, giver, only_at, taker, touches}
+use Rattle.eevdf_ops.specs.PartsLaws as laws
+use Rattle.eevdf_ops.specs.Whole.{whole}
+use Rattle.eevdf_ops.proofs.PartsProofs.{touched_decide}
+use Rattle.eevdf_steps.specs.declared.micro_steps.Micro.{Micro}
+use Rattle.eevdf_steps.specs.declared.micro_steps.Micro.TheVariants.{Acquire, Act, Detach, Attach, Commit, Take, Settle, Release, Post}
+use Rattle.eevdf_steps.specs.declared.program_plan.Step.{Step}
+use Rattle.eevdf_steps.specs.Plan.{Plan, callers, home}
+use Rattle.eevdf_steps.specs.Counters.{Counters, counted, holds, step_next}
+use Rattle.eevdf_ops.specs.Programs.{deed_of}
+use Rattle.eevdf_steps.specs.UnderWay.{UnderWay, begun, hand_seen, leaves, leaving, queue_seen, under_way, under_way_before}
+use Rattle.eevdf_steps.specs.Reduced.{begun_by}
+use Rattle.eevdf_steps.proofs.Holders.{same_number}
+use Rattle.eevdf_steps.proofs.Walks.{Covers, Fits, FitsMicro, Walk, touched}
+
+thrice : (a : Bool) → a ≡ (a || (a || a))
+thrice true = refl
+thrice false = refl
+
+first_again : (a b : Bool) → (a || b) ≡ (a || (a || b))
+first_again true b = refl
+first_again false b = refl
+
+first_last : (a b : Bool) → (a || b) ≡ (a || (b || a))
+first_last true b = refl
+first_last false true = refl
+first_last false false = refl
+
+pub any_second : (a b c : Bool) → b ≡ true → (a || (b || c)) ≡ true
+any_second true b c e = refl
+any_second false b c e = ap (λ (x : Bool). x || c) e
+
+-- the queues that an operation touches are those that its deed touches
+pub touched_is : (plan : Plan) (p : ℕ) (o : Op) (d : Deed) (c : ℕ) → deed_of p o ≡ Some d → touched plan p o c ≡ touches plan.homes d c
+touched_is plan p (op.Tick ns) d c e = let is : deed.Tick p ns ≡ d = cc in thrice (c == p) ∙ ap (λ (x : Deed). touches plan.homes x c) is
+touched_is plan p op.Pick d c e = let is : deed.Pick p ≡ d = cc in thrice (c == p) ∙ ap (λ (x : Deed). touches plan.homes x c) is
+touched_is plan p op.Yield d c e = let is : deed.Yield p ≡ d = cc in thrice (c == p) ∙ ap (λ (x : Deed). touches plan.homes x c) is
+touched_is plan p (op.Sleep t) d c e =
+    let is : deed.Sleep p t ≡ d = cc in first_again (c == p) (c == home plan t) ∙ ap (λ (x : Deed). touches plan.homes x c) is
+touched_is plan p (op.Pull s) d c e = let is : deed.Pull p s ≡ d = cc in first_last (c == p) (c == s) ∙ ap (λ (x : Deed). touches plan.homes x c) is
+touched_is plan p (op.Post t) d c e = cc
+touched_is plan p op.Drain d c e = cc
+
+-- a caller that holds the locks of the queues that a deed touches, and of no others
+abbrev pub HoldsTouched : Plan → Counters → ℕ → Deed → Type 0
+HoldsTouched plan counters p d = (c : ℕ) → holds plan counters c p ≡ touches plan.homes d c
+
+-- a deed names CPUs of any machine of so many queues
+abbrev pub FitsAll : Plan → Deed → Type 0
+FitsAll plan d = (m : Machine) → length m ≡ callers plan → laws.Fits plan.homes d m
+
+pub holds_touched : (plan : Plan) (counters : Counters) (p : ℕ) (o : Op) (d : Deed) (w : Walk plan counters p) → Covers plan p o w.held → deed_of p o ≡ Some d
+    → HoldsTouched plan counters p d
+holds_touched plan counters p o d w covers e = λ c. w.holds_them c ∙ covers c ∙ touched_is plan p o d c e
+
+begun_deed : (done : Bool) (o : Option Deed) (u : UnderWay) → begun done o ≡ Some u → o ≡ Some u.deed
+begun_deed done None u e = cc
+begun_deed done (Some d) u e = let is : record { deed = d; done = done } ≡ u = cc in ap (λ (v : UnderWay). Some v.deed) is
+
+-- what stands before a step of which something is under way
+pub record Standing (plan : Plan) (counters : Counters) (p : ℕ) (u : UnderWay) : Type 0 where
+  pub next : Step
+  pub is_next : step_next plan counters p ≡ Some next
+  pub deed_is : deed_of p next.op ≡ Some u.deed
+  pub holds_all : HoldsTouched plan counters p u.deed
+
+standing_by : (plan : Plan) (counters : Counters) (p : ℕ) (u : UnderWay) (w : Walk plan counters p) (o : Op) (m : Micro) (following : Option Step)
+    → FitsMicro plan p w.held o m following → step_next plan counters p ≡ Some (record { op = o; micro = m }) → under_way_before p o m ≡ Some u
+    → Standing plan counters p u
+standing_by plan counters p u w o Attach following f n e =
+    let d : deed_of p o ≡ Some u.deed = begun_deed false (deed_of p o) u e in
+    record { next = record { op = o; micro = Attach }; is_next = n; deed_is = d; holds_all = holds_touched plan counters p o u.deed w f.covers d }
+standing_by plan counters p u w o Commit following f n e =
+    let d : deed_of p o ≡ Some u.deed = begun_deed true (deed_of p o) u e in
+    record { next = record { op = o; micro = Commit }; is_next = n; deed_is = d; holds_all = holds_touched plan counters p o u.deed w f.covers d }
+standing_by plan counters p u w o Act following f n e = cc
+standing_by plan counters p u w o Detach following f n e = cc
+standing_by plan counters p u w o (Take q) following f n e = cc
+standing_by plan counters p u w o (Settle q) following f n e = cc
+standing_by plan counters p u w o (Post t) following f n e = cc
+standing_by plan counters p u w o (Acquire c) following f n e = cc
+standing_by plan counters p u w o (Release c) following f n e = cc
+
+standing_at : (plan : Plan) (counters : Counters) (p : ℕ) (u : UnderWay) (w : Walk plan counters p) (o : Option Step)
+    → MatchOption o (w.held ≡ []) (λ s. Fits plan p w.held s (step_next plan (counted counters p) p)) → step_next plan counters p ≡ o → under_way p o ≡ Some u
+    → Standing plan counters p u
+standing_at plan counters p u w None f n e = cc
+standing_at plan counters p u w (Some s) f n e = standing_by plan counters p u w s.op s.micro (step_next plan (counted counters p) p) f n e
+
+pub standing : (plan : Plan) (counters : Counters) (p : ℕ) (u : UnderWay) → Walk plan counters p → begun_by plan counters p ≡ Some u → Standing plan counters p u
+standing plan counters p u w e = standing_at plan counters p u w (step_next plan counters p) w.fits refl e
+
+-- on machines that agree where the deed touches them, all that is seen is the same
+pub record SeenAlike (homes : List ℕ) (u : UnderWay) (m n : Machine) : Type 0 where
+  pub queues : (c : ℕ) → touches homes u.deed c ≡ true → queue_seen homes m (Some u) c ≡ queue_seen homes n (Some u) c
+  pub hand : hand_seen homes m (Some u) ≡ hand_seen homes n (Some u)
+  pub answer : (whole homes u.deed m).0 ≡ (whole homes u.deed n).0
+
+leaves_alike : (homes : List ℕ) (d : Deed) (m n : Machine) → laws.IsAlike homes d m n → laws.AgreeWhereTouched homes d m n → leaves homes m d ≡ leaves homes n d
+leaves_alike homes d m n alike agree =
+    ap (λ (a : Answer). leaving d a (given d (queue_at m (giver d)))) alike.answers
+    ∙ ap (λ (q : State). leaving d (whole homes d n).0 (given d q))
+    (agree (giver d) (any_second (giver d == decider d) (giver d == giver d) (giver d == taker homes d) (same_number (giver d))))
+
+either : {A : Type 0} (b : Bool) (x y z w : A) → x ≡ z → y ≡ w → cond b x y ≡ cond b z w
+either true x y z w e f = e
+either false x y z w e f = f
+
+pub seen_alike : (homes : List ℕ) (u : UnderWay) (m n : Machine) → laws.Fits homes u.deed m → laws.Fits homes u.deed n → laws.AgreeWhereTouched homes u.deed m n
+    → SeenAlike homes u m n
+seen_alike homes u m n fm fn agree =
+    let alike : laws.IsAlike homes u.deed m n = touched_decide homes u.deed m n fm fn agree in
+    let same_leaves : leaves homes m u.deed ≡ leaves homes n u.deed = leaves_alike homes u.deed m n alike agree in
+    record {
+      queues = λ c t. either u.done _ _ _ _ (alike.leaves c t)
+          (ap (λ (x : Option Contents). only_at (giver u.deed) c (after_leaving x) (queue_at m c)) same_leaves
+          ∙ ap (λ (q : State). only_at (giver u.deed) c (after_leaving (leaves homes n u.deed)) q) (agree c t));
+      hand = either u.done _ _ _ _ refl same_leaves;
+      answer = alike.answers;
+    }

@@ -1,0 +1,125 @@
+-- Where a lawful order leads, and where a complete one ends.
+use Rattle.std.proofs.Common.{◌≡◌, ℕ, ◌+◌, ◌<◌, ◌≤◌, Bool, true, false, ◌&&◌, cond, List, [], ◌∷◌, length, inl, inr, sym, ap, subst, ◌∙◌, arith, refl}
+use Rattle.std.proofs.Math.ListN.{length-set}
+use Rattle.std.proofs.lemmas.Bool.{cases_lt, false≢true}
+use Rattle.std.proofs.lemmas.Bool.Decides.{nat_tests}
+use Rattle.std.proofs.lemmas.Option.{none-some}
+use Rattle.std.specs.Prelude.{nat_lt, is_none, is_some, Option, Some, None}
+use Rattle.std.specs.Option.{option_map}
+use Rattle.eevdf_steps.specs.declared.program_plan.Step.{Step}
+use Rattle.eevdf_steps.specs.declared.step_fault.StepFault.{StepFault}
+use Rattle.eevdf_steps.specs.declared.step_fault.StepFault.TheVariants.{NoCaller, Done}
+use Rattle.eevdf_steps.specs.declared.play_fault.PlayFault.{PlayFault}
+use Rattle.eevdf_steps.specs.declared.play_fault.PlayFault.TheVariants.{Short, TooLong}
+use Rattle.eevdf_steps.specs.Plan.{Plan, callers}
+use Rattle.eevdf_steps.specs.Counters.{Counters, count_of, counted, is_under_way, may_step, refusal, refused_next, step_next, unfinished}
+use Rattle.eevdf_steps.specs.Orders.{IsWhole, WholeIsPlayed, counters_after, counters_at_start, fault_at, fault_or, is_lawful, most_places, order_fault, play_fault}
+use Rattle.eevdf_steps.specs.Requests.{Progress, progress_after, progress_by, progress_step}
+use Rattle.eevdf_steps.proofs.CounterLists.{no_step}
+use Rattle.eevdf_steps.proofs.Lists.{both}
+use Rattle.eevdf_steps.proofs.Ready.{least_there}
+
+-- where a step isn't refused there is one
+not_refused : (plan : Plan) (counters : Counters) (p : ℕ) (r : Option Step) (b : Bool)
+    → cond b (refused_next plan counters (option_map (λ (s : Step). s.micro) r)) (Some NoCaller) ≡ None → (s : Step) × (r ≡ Some s)
+not_refused plan counters p (Some s) b e = (s, refl)
+not_refused plan counters p None true e = absurd (none-some Done (sym e))
+not_refused plan counters p None false e = absurd (none-some NoCaller (sym e))
+
+pub has_step : (plan : Plan) (counters : Counters) (p : ℕ) → refusal plan counters p ≡ None → (s : Step) × (step_next plan counters p ≡ Some s)
+has_step plan counters p e = not_refused plan counters p (step_next plan counters p) (nat_lt p (callers plan)) e
+
+none_of : {A : Type 0} (r : Option A) → is_none r ≡ true → r ≡ None
+none_of None e = refl
+none_of (Some x) e = cc
+
+-- the counters do not depend on what is taken and found
+pub counters_step : (plan : Plan) (g : Progress) (p : ℕ) → refusal plan g.counters p ≡ None → (progress_step plan g p).counters ≡ counted g.counters p
+counters_step plan g p e = ap (λ (r : Option Step). (progress_by plan g p r).counters) (has_step plan g.counters p e).1
+
+pub counters_lawful : (plan : Plan) (g : Progress) (order : List ℕ) → is_lawful plan g.counters order ≡ true
+    → (progress_after plan g order).counters ≡ counters_after g.counters order
+counters_lawful plan g [] lawful = refl
+counters_lawful plan g (p ∷ order) lawful =
+    let parts : (may_step plan g.counters p ≡ true) × (is_lawful plan (counted g.counters p) order ≡ true)
+    = both (may_step plan g.counters p) (is_lawful plan (counted g.counters p) order) lawful in
+    let here : (progress_step plan g p).counters ≡ counted g.counters p = counters_step plan g p (none_of (refusal plan g.counters p) parts.0) in
+    counters_lawful plan (progress_step plan g p) order (subst (λ (cs : Counters). is_lawful plan cs order ≡ true) (sym here) parts.1)
+    ∙ ap (λ (cs : Counters). counters_after cs order) here
+
+not_faulty : (at : ℕ) (first : Option StepFault) (later : Option PlayFault) → fault_or at first later ≡ None → (first ≡ None) × (later ≡ None)
+not_faulty at None later e = (refl, e)
+not_faulty at (Some f) later e = absurd (none-some (fault_at at f) (sym e))
+
+not_short : (r : Option ℕ) → option_map (λ (p : ℕ). Short p) r ≡ None → is_none r ≡ true
+not_short None e = refl
+not_short (Some p) e = absurd (none-some (Short p) (sym e))
+
+pub faultless_whole : (plan : Plan) (counters : Counters) (at : ℕ) (order : List ℕ) → order_fault plan counters at order ≡ None → IsWhole plan counters order
+faultless_whole plan counters at [] e = record { lawful = refl; complete = not_short (unfinished plan counters) e }
+faultless_whole plan counters at (p ∷ order) e =
+    let parts : (refusal plan counters p ≡ None) × (order_fault plan (counted counters p) (at + 1) order ≡ None)
+    = not_faulty at (refusal plan counters p) (order_fault plan (counted counters p) (at + 1) order) e in
+    let rest : IsWhole plan (counted counters p) order = faultless_whole plan (counted counters p) (at + 1) order parts.1 in
+    record {
+      lawful = ap (λ (r : Option StepFault). is_none r && is_lawful plan (counted counters p) order) parts.0 ∙ rest.lawful;
+      complete = rest.complete;
+    }
+
+-- and the other way round
+no_short : (r : Option ℕ) → is_none r ≡ true → option_map (λ (p : ℕ). Short p) r ≡ None
+no_short None e = refl
+no_short (Some p) e = cc
+
+pub whole_faultless : (plan : Plan) (counters : Counters) (at : ℕ) (order : List ℕ) → IsWhole plan counters order → order_fault plan counters at order ≡ None
+whole_faultless plan counters at [] w = no_short (unfinished plan counters) w.complete
+whole_faultless plan counters at (p ∷ order) w =
+    let parts : (may_step plan counters p ≡ true) × (is_lawful plan (counted counters p) order ≡ true)
+    = both (may_step plan counters p) (is_lawful plan (counted counters p) order) w.lawful in
+    ap (λ (f : Option StepFault). fault_or at f (order_fault plan (counted counters p) (at + 1) order)) (none_of (refusal plan counters p) parts.0)
+    ∙ whole_faultless plan (counted counters p) (at + 1) order (record { lawful = parts.1; complete = w.complete })
+
+-- an order that may be played has no fault
+not_too_long : (long : Bool) (r : Option PlayFault) → cond long (Some TooLong) r ≡ None → r ≡ None
+not_too_long true r e = absurd (none-some TooLong (sym e))
+not_too_long false r e = e
+
+pub playable_faultless : (plan : Plan) (order : List ℕ) → play_fault plan order ≡ None → order_fault plan (counters_at_start plan) 0 order ≡ None
+playable_faultless plan order e =
+    not_too_long (nat_lt most_places (length order)) (order_fault plan (counters_at_start plan) 0 order) e
+
+-- after a whole order everybody is done
+pub whole_ends : (plan : Plan) (g : Progress) (order : List ℕ) → IsWhole plan g.counters order → unfinished plan (progress_after plan g order).counters ≡ None
+whole_ends plan g order w =
+    ap (λ (cs : Counters). unfinished plan cs) (counters_lawful plan g order w.lawful)
+    ∙ none_of (unfinished plan (counters_after g.counters order)) w.complete
+
+not_under_way : (plan : Plan) (counters : Counters) (p : ℕ) (r : Option Step) → step_next plan counters p ≡ r → unfinished plan counters ≡ None
+    → p < callers plan → r ≡ None
+not_under_way plan counters p None e none below = refl
+not_under_way plan counters p (Some s) e none below =
+    absurd (false≢true (sym (least_there (is_under_way plan counters) 0 (callers plan) p (ap (λ (r : Option Step). is_some r) e) (omega arith) (omega arith))
+    ∙ ap (λ (r : Option ℕ). is_none r) none))
+
+pub done_by_all : (plan : Plan) (counters : Counters) (p : ℕ) → unfinished plan counters ≡ None → step_next plan counters p ≡ None
+done_by_all plan counters p e =
+    elim (cases_lt p (callers plan)) [
+      | inl below ↦ not_under_way plan counters p (step_next plan counters p) refl e below
+      | inr past ↦ no_step plan counters p past
+    ]
+
+-- each step counts one caller on
+pub length-progress_step : (plan : Plan) (g : Progress) (p : ℕ) → length (progress_step plan g p).counters ≡ length g.counters
+length-progress_step plan g p = counted_once plan g p (step_next plan g.counters p)
+  where
+    counted_once : (plan : Plan) (g : Progress) (p : ℕ) (r : Option Step) → length (progress_by plan g p r).counters ≡ length g.counters
+    counted_once plan g p None = refl
+    counted_once plan g p (Some s) = length-set g.counters p (count_of g.counters p + 1)
+
+fits_in : (n most : ℕ) → n ≤ most → nat_lt most n ≡ false
+fits_in n most h = grind (arith, nat_tests)
+
+pub whole_is_played : WholeIsPlayed
+whole_is_played plan order short whole =
+    ap (λ (b : Bool). cond b (Some TooLong) (order_fault plan (counters_at_start plan) 0 order)) (fits_in (length order) most_places short)
+    ∙ whole_faultless plan (counters_at_start plan) 0 order whole

@@ -1,0 +1,159 @@
+-- A step of one caller leaves all others as they are, and what they see.
+use Rattle.std.proofs.Common.{◌≡◌, ◌≢◌, ℕ, ◌+◌, Bool, true, false, length, sym, ap, subst, ◌∙◌, inl, inr, refl}
+use Rattle.std.proofs.lemmas.Bool.{false≢true}
+use Rattle.std.proofs.lemmas.List.{get_or-set_other}
+use Rattle.std.specs.Prelude.{slice_get, Option, Some, None}
+use Rattle.eevdf_ops.specs.declared.deeds.Answer.{Answer}
+use Rattle.eevdf_ops.specs.Machine.{Machine, queue_at}
+use Rattle.eevdf_steps.specs.declared.program_plan.Step.{Step}
+use Rattle.eevdf_steps.specs.Plan.{Plan, callers}
+use Rattle.eevdf_steps.specs.MicroSteps.{steps_by}
+use Rattle.eevdf_steps.specs.Counters.{Counters, count_of, counted, holds, step_next}
+use Rattle.eevdf_steps.specs.Work.{Work, answer, hand}
+use Rattle.eevdf_steps.specs.UnderWay.{KeepsAnswer, UnderWay, hand_seen, queue_seen, under_way}
+use Rattle.eevdf_steps.specs.Reduced.{IsFree, IsReduced, begun_by}
+use Rattle.eevdf_steps.proofs.Holders.{holds_other, number_cases}
+use Rattle.eevdf_steps.proofs.Walks.{Walk}
+use Rattle.eevdf_steps.proofs.Begun.{FitsAll, SeenAlike, Standing, seen_alike, standing}
+
+pub next_other : (plan : Plan) (counters : Counters) (p q : ℕ) → q ≢ p → step_next plan (counted counters p) q ≡ step_next plan counters q
+next_other plan counters p q apart = ap (λ (k : ℕ). slice_get (steps_by plan q) k) (get_or-set_other counters p q (count_of counters p + 1) 0 apart)
+
+-- what a step of a caller does to the queues, the hands and the answers, where the history goes from one machine to
+-- another
+pub record IsStepOf (plan : Plan) (counters : Counters) (p : ℕ) (m m' : Machine) (w w' : Work) : Type 0 where
+  pub long : length m ≡ callers plan
+  pub still_long : length m' ≡ callers plan
+  pub stay : (c : ℕ) → holds plan counters c p ≡ false → queue_at w'.machine c ≡ queue_at w.machine c
+  pub past : (c : ℕ) → holds plan counters c p ≡ false → queue_at m' c ≡ queue_at m c
+  pub hands : (q : ℕ) → q ≢ p → hand w' q ≡ hand w q
+  pub answers : (q : ℕ) → q ≢ p → answer w' q ≡ answer w q
+  pub own : (c : ℕ) → holds plan (counted counters p) c p ≡ true → queue_at w'.machine c ≡ queue_seen plan.homes m' (begun_by plan (counted counters p) p) c
+  pub own_hand : hand w' p ≡ hand_seen plan.homes m' (begun_by plan (counted counters p) p)
+  pub own_answer : KeepsAnswer plan.homes m' (begun_by plan (counted counters p) p) (answer w' p)
+  pub released : (c : ℕ) → holds plan counters c p ≡ true → holds plan (counted counters p) c p ≡ false → queue_at w'.machine c ≡ queue_at m' c
+  pub acquired : (c : ℕ) → holds plan counters c p ≡ false → holds plan (counted counters p) c p ≡ true → IsFree plan counters c
+
+-- what is known of the callers on their way
+pub record AreWalking (plan : Plan) (counters : Counters) : Type 0 where
+  pub walks : (q : ℕ) (u : UnderWay) → begun_by plan counters q ≡ Some u → Walk plan counters q
+  pub fits : (q : ℕ) (u : UnderWay) → begun_by plan counters q ≡ Some u → FitsAll plan u.deed
+
+not_held : (plan : Plan) (m : Machine) (counters : Counters) (w : Work) (c p q : ℕ) (b : Bool) → IsReduced plan m counters w → q ≢ p → holds plan counters c q ≡ true
+    → holds plan counters c p ≡ b → b ≡ false
+not_held plan m counters w c p q true r apart held e = absurd (apart (r.alone c q p held e))
+not_held plan m counters w c p q false r apart held e = refl
+
+-- what a caller sees, on two machines
+record AreAlike (plan : Plan) (counters : Counters) (q : ℕ) (m n : Machine) (o : Option UnderWay) : Type 0 where
+  queues : (c : ℕ) → holds plan counters c q ≡ true → queue_seen plan.homes m o c ≡ queue_seen plan.homes n o c
+  hand : hand_seen plan.homes m o ≡ hand_seen plan.homes n o
+  answer : (a : Option Answer) → KeepsAnswer plan.homes m o a → KeepsAnswer plan.homes n o a
+
+others_alike : (plan : Plan) (counters : Counters) (p q : ℕ) (m n : Machine) (w : Work) (o : Option UnderWay) → begun_by plan counters q ≡ o → q ≢ p
+    → IsReduced plan m counters w → AreWalking plan counters → length m ≡ callers plan → length n ≡ callers plan
+    → ((c : ℕ) → holds plan counters c p ≡ false → queue_at n c ≡ queue_at m c) → AreAlike plan counters q m n o
+others_alike plan counters p q m n w None e apart r walking long still_long past = record {
+  queues = λ c held. sym (past c (not_held plan m counters w c p q (holds plan counters c p) r apart held refl));
+  hand = refl;
+  answer = λ a k. k;
+}
+others_alike plan counters p q m n w (Some u) e apart r walking long still_long past =
+    let st : Standing plan counters q u = standing plan counters q u (walking.walks q u e) e in
+    let fits : FitsAll plan u.deed = walking.fits q u e in
+    let alike : SeenAlike plan.homes u m n = seen_alike plan.homes u m n (fits m long) (fits n still_long)
+    (λ c t. sym (past c (not_held plan m counters w c p q (holds plan counters c p) r apart (st.holds_all c ∙ t) refl))) in
+    record {
+      queues = λ c held. alike.queues c (sym (st.holds_all c) ∙ held);
+      hand = alike.hand;
+      answer = λ a k. k ∙ ap (λ (b : Answer). Some b) alike.answer;
+    }
+
+other_alike : (plan : Plan) (counters : Counters) (p q : ℕ) (m m' : Machine) (w w' : Work) → q ≢ p → IsReduced plan m counters w → AreWalking plan counters
+    → IsStepOf plan counters p m m' w w' → AreAlike plan counters q m m' (begun_by plan counters q)
+other_alike plan counters p q m m' w w' apart r walking s =
+    others_alike plan counters p q m m' w (begun_by plan counters q) refl apart r walking s.long s.still_long s.past
+
+begun_other : (plan : Plan) (counters : Counters) (p q : ℕ) → q ≢ p → begun_by plan (counted counters p) q ≡ begun_by plan counters q
+begun_other plan counters p q apart = ap (λ (o : Option Step). under_way q o) (next_other plan counters p q apart)
+
+held_then : (plan : Plan) (counters : Counters) (p : ℕ) (m m' : Machine) (w w' : Work) → IsReduced plan m counters w → AreWalking plan counters → IsStepOf plan counters p m m' w w'
+    → (c q : ℕ) → holds plan (counted counters p) c q ≡ true → queue_at w'.machine c ≡ queue_seen plan.homes m' (begun_by plan (counted counters p) q) c
+held_then plan counters p m m' w w' r walking s c q h =
+    elim (number_cases q p) [
+      | inl same ↦ subst (λ (k : ℕ). queue_at w'.machine c ≡ queue_seen plan.homes m' (begun_by plan (counted counters p) k) c) (sym same)
+          (s.own c (ap (λ (k : ℕ). holds plan (counted counters p) c k) (sym same) ∙ h))
+      | inr apart ↦
+          let held : holds plan counters c q ≡ true = sym (holds_other plan counters c p q apart) ∙ h in
+          s.stay c (not_held plan m counters w c p q (holds plan counters c p) r apart held refl) ∙ r.held c q held
+          ∙ (other_alike plan counters p q m m' w w' apart r walking s).queues c held
+          ∙ ap (λ (o : Option UnderWay). queue_seen plan.homes m' o c) (sym (begun_other plan counters p q apart))
+    ]
+
+hands_then : (plan : Plan) (counters : Counters) (p : ℕ) (m m' : Machine) (w w' : Work) → IsReduced plan m counters w → AreWalking plan counters → IsStepOf plan counters p m m' w w'
+    → (q : ℕ) → hand w' q ≡ hand_seen plan.homes m' (begun_by plan (counted counters p) q)
+hands_then plan counters p m m' w w' r walking s q =
+    elim (number_cases q p) [
+      | inl same ↦ subst (λ (k : ℕ). hand w' k ≡ hand_seen plan.homes m' (begun_by plan (counted counters p) k)) (sym same) s.own_hand
+      | inr apart ↦
+          s.hands q apart ∙ r.hands q ∙ (other_alike plan counters p q m m' w w' apart r walking s).hand
+          ∙ ap (λ (o : Option UnderWay). hand_seen plan.homes m' o) (sym (begun_other plan counters p q apart))
+    ]
+
+answers_then : (plan : Plan) (counters : Counters) (p : ℕ) (m m' : Machine) (w w' : Work) → IsReduced plan m counters w → AreWalking plan counters → IsStepOf plan counters p m m' w w'
+    → (q : ℕ) → KeepsAnswer plan.homes m' (begun_by plan (counted counters p) q) (answer w' q)
+answers_then plan counters p m m' w w' r walking s q =
+    elim (number_cases q p) [
+      | inl same ↦ subst (λ (k : ℕ). KeepsAnswer plan.homes m' (begun_by plan (counted counters p) k) (answer w' k)) (sym same) s.own_answer
+      | inr apart ↦
+          subst (λ (o : Option UnderWay). KeepsAnswer plan.homes m' o (answer w' q)) (sym (begun_other plan counters p q apart))
+          (subst (λ (a : Option Answer). KeepsAnswer plan.homes m' (begun_by plan counters q) a) (sym (s.answers q apart))
+          ((other_alike plan counters p q m m' w w' apart r walking s).answer (answer w q) (r.answers q)))
+    ]
+
+-- a queue that nobody holds any more
+free_by : (plan : Plan) (counters : Counters) (p : ℕ) (m m' : Machine) (w w' : Work) (c : ℕ) (b : Bool) → IsReduced plan m counters w → IsStepOf plan counters p m m' w w'
+    → IsFree plan (counted counters p) c → holds plan counters c p ≡ b → queue_at w'.machine c ≡ queue_at m' c
+free_by plan counters p m m' w w' c true r s free e = s.released c e (free p)
+free_by plan counters p m m' w w' c false r s free e =
+    let before : IsFree plan counters c = λ q.
+    elim (number_cases q p) [
+      | inl same ↦ ap (λ (k : ℕ). holds plan counters c k) same ∙ e
+      | inr apart ↦ sym (holds_other plan counters c p q apart) ∙ free q
+    ] in
+    s.stay c e ∙ r.free c before ∙ sym (s.past c e)
+
+-- nobody else holds what the caller holds
+alone_by : (plan : Plan) (counters : Counters) (p : ℕ) (m m' : Machine) (w w' : Work) (c q : ℕ) (b : Bool) → IsReduced plan m counters w → IsStepOf plan counters p m m' w w' → q ≢ p
+    → holds plan (counted counters p) c q ≡ true → holds plan (counted counters p) c p ≡ true → holds plan counters c p ≡ b → q ≡ p
+alone_by plan counters p m m' w w' c q true r s apart h k e = r.alone c q p (sym (holds_other plan counters c p q apart) ∙ h) e
+alone_by plan counters p m m' w w' c q false r s apart h k e =
+    absurd (false≢true (sym (s.acquired c e k q) ∙ sym (holds_other plan counters c p q apart) ∙ h))
+
+alone_then : (plan : Plan) (counters : Counters) (p : ℕ) (m m' : Machine) (w w' : Work) → IsReduced plan m counters w → IsStepOf plan counters p m m' w w'
+    → (c q r : ℕ) → holds plan (counted counters p) c q ≡ true → holds plan (counted counters p) c r ≡ true → q ≡ r
+alone_then plan counters p m m' w w' red s c q r h k =
+    elim (number_cases q p) [
+      | inl same ↦
+          elim (number_cases r p) [
+            | inl also ↦ same ∙ sym also
+            | inr apart ↦ same ∙ sym (alone_by plan counters p m m' w w' c r (holds plan counters c p) red s apart k
+                (ap (λ (i : ℕ). holds plan (counted counters p) c i) (sym same) ∙ h) refl)
+          ]
+      | inr apart ↦
+          elim (number_cases r p) [
+            | inl also ↦ alone_by plan counters p m m' w w' c q (holds plan counters c p) red s apart h
+                (ap (λ (i : ℕ). holds plan (counted counters p) c i) (sym also) ∙ k) refl ∙ sym also
+            | inr apart' ↦ red.alone c q r (sym (holds_other plan counters c p q apart) ∙ h) (sym (holds_other plan counters c p r apart') ∙ k)
+          ]
+    ]
+
+pub reduced_then : (plan : Plan) (counters : Counters) (p : ℕ) (m m' : Machine) (w w' : Work) → IsReduced plan m counters w → AreWalking plan counters
+    → IsStepOf plan counters p m m' w w' → IsReduced plan m' (counted counters p) w'
+reduced_then plan counters p m m' w w' r walking s = record {
+  alone = alone_then plan counters p m m' w w' r s;
+  free = λ c free. free_by plan counters p m m' w w' c (holds plan counters c p) r s free refl;
+  held = held_then plan counters p m m' w w' r walking s;
+  hands = hands_then plan counters p m m' w w' r walking s;
+  answers = answers_then plan counters p m m' w w' r walking s;
+}

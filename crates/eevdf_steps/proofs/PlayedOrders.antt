@@ -1,0 +1,66 @@
+-- The deeds of an order that is played step by step.
+use Rattle.std.proofs.Common.{◌≡◌, ℕ, true, List, ◌∷◌, ◌++◌, append_assoc, sym, ap, subst, ◌∙◌, refl}
+use Rattle.eevdf_ops.specs.declared.deeds.Deed.{Deed}
+use Rattle.eevdf_ops.specs.Followed.{FollowsPrograms}
+use Rattle.eevdf_ops.specs.Outcome.{Outcome}
+use Rattle.eevdf_ops.specs.Programs.{deeds_of}
+use Rattle.eevdf_ops.specs.Setup.{Setup, allows}
+use Rattle.std.specs.List.{list_all}
+use Rattle.std.specs.Prelude.{Option, None}
+use Rattle.std.specs.Option.{option_map}
+use Rattle.eevdf_steps.specs.declared.play_fault.PlayFault.TheVariants.{Short}
+use Rattle.eevdf_steps.specs.Plan.{IsSound, Plan, plan_of}
+use Rattle.eevdf_steps.specs.Counters.{step_next, unfinished}
+use Rattle.eevdf_steps.specs.Orders.{IsWhole, counters_at_start, order_fault}
+use Rattle.eevdf_steps.specs.Requests.{Progress, progress_step}
+use Rattle.eevdf_steps.specs.Commits.{commits, committed_by, deeds_committed}
+use Rattle.eevdf_steps.specs.Players.{Appends, Player, player_start, player_step}
+use Rattle.eevdf_steps.specs.PlayedSteps.{HasPlayed}
+use Rattle.eevdf_steps.specs.Plays.{IsOutcome}
+use Rattle.eevdf_steps.proofs.LawfulOrders.{faultless_whole}
+use Rattle.eevdf_steps.proofs.AllowedCommits.{deeds_allowed}
+use Rattle.eevdf_steps.proofs.FollowedPrograms.{outcome_follows, step_progress}
+
+-- the deeds done by a player, and those that an order still commits
+abbrev pub deeds_with : Player → List ℕ → List Deed
+deeds_with a order = deeds_of a.state.lines ++ commits a.plan a.state.progress order
+
+pub commits_step : (a b : Player) (p : ℕ) (rest : List ℕ) → b ≡ player_step a p → Appends a p b → deeds_with b rest ≡ deeds_with a (p ∷ rest)
+commits_step a b p rest e k =
+    ap (λ (ds : List Deed). ds ++ commits b.plan b.state.progress rest) k
+    ∙ ap (λ (c : Player). (deeds_of a.state.lines ++ committed_by a.state.progress p (step_next a.plan a.state.progress.counters p)) ++ commits c.plan c.state.progress rest) e
+    ∙ ap (λ (g : Progress). (deeds_of a.state.lines ++ committed_by a.state.progress p (step_next a.plan a.state.progress.counters p)) ++ commits a.plan g rest)
+    (step_progress a.plan a.state p (step_next a.plan a.state.progress.counters p) refl)
+    ∙ append_assoc (deeds_of a.state.lines) (committed_by a.state.progress p (step_next a.plan a.state.progress.counters p)) (commits a.plan (progress_step a.plan a.state.progress p) rest)
+
+-- an order that is played from the start to its end
+played_plan : (setup : Setup) (order : List ℕ) (b : Player) → HasPlayed (player_start setup) order b → b.plan ≡ plan_of setup
+played_plan setup order b played = ap (λ (a : Player). a.plan) played.state
+
+played_deeds : (setup : Setup) (order : List ℕ) (b : Player) (o : Outcome) → HasPlayed (player_start setup) order b → IsOutcome b o → deeds_of o.lines ≡ deeds_committed setup order
+played_deeds setup order b o played is = ap deeds_of is.lines ∙ played.commits
+
+pub play_allowed : (setup : Setup) (order : List ℕ) (b : Player) (o : Outcome) → HasPlayed (player_start setup) order b → IsSound b.plan → IsOutcome b o
+    → list_all (allows setup) (deeds_of o.lines) ≡ true
+play_allowed setup order b o played sound is =
+    ap (λ (ds : List Deed). list_all (allows setup) ds) (played_deeds setup order b o played is)
+    ∙ deeds_allowed setup order (subst IsSound (played_plan setup order b played) sound)
+
+-- the same, where nobody is left to step
+played_faultless : (setup : Setup) (order : List ℕ) (b : Player) → HasPlayed (player_start setup) order b → unfinished b.plan b.state.progress.counters ≡ None
+    → order_fault (plan_of setup) (counters_at_start (plan_of setup)) 0 order ≡ None
+played_faultless setup order b played done =
+    let over : unfinished (plan_of setup) b.state.progress.counters ≡ None =
+    ap (λ (p : Plan). unfinished p b.state.progress.counters) (sym (played_plan setup order b played)) ∙ done in
+    played.fault ∙ ap (λ (r : Option ℕ). option_map (λ (p : ℕ). Short p) r) over
+
+pub play_whole : (setup : Setup) (order : List ℕ) (b : Player) → HasPlayed (player_start setup) order b → unfinished b.plan b.state.progress.counters ≡ None
+    → IsWhole (plan_of setup) (counters_at_start (plan_of setup)) order
+play_whole setup order b played done = faultless_whole (plan_of setup) (counters_at_start (plan_of setup)) 0 order (played_faultless setup order b played done)
+
+pub play_follows : (setup : Setup) (order : List ℕ) (b : Player) (o : Outcome) → HasPlayed (player_start setup) order b → unfinished b.plan b.state.progress.counters ≡ None
+    → IsSound b.plan → IsOutcome b o → FollowsPrograms setup o
+play_follows setup order b o played done sound is =
+    outcome_follows setup order o (subst IsSound (played_plan setup order b played) sound) (played_faultless setup order b played done)
+    (played_deeds setup order b o played is)
+    (subst (λ (a : Player). IsOutcome a o) played.state is)

@@ -1,0 +1,47 @@
+-- What a caller has posted when it is done is what its program posts.
+use Rattle.std.proofs.Common.{append-nil, ◌≡◌, ℕ, zero, suc, ◌+◌, Bool, true, false, cond, List, [], ◌∷◌, ◌++◌, map, min, max, ap, ◌∙◌, refl}
+use Rattle.std.proofs.lemmas.List.{take_all}
+use Rattle.std.specs.Prelude.{◌==◌, None}
+use Rattle.eevdf_ops.specs.declared.deeds.Op.{Op}
+use Rattle.eevdf_ops.specs.declared.deeds.Op.TheVariants as op
+use Rattle.eevdf_ops.specs.Programs.{post_of, posts_in}
+use Rattle.eevdf_steps.specs.declared.micro_steps.Micro.TheVariants.{Release}
+use Rattle.eevdf_steps.specs.declared.program_plan.Step.{Step}
+use Rattle.eevdf_steps.specs.Plan.{Plan, callers, home, program}
+use Rattle.eevdf_steps.specs.MicroSteps.{draining, moving, steps_by, steps_of, under_lock}
+use Rattle.eevdf_steps.specs.Counters.{Counters, count_of, step_next}
+use Rattle.eevdf_steps.specs.Requests.{posted, posts_to}
+use Rattle.eevdf_steps.proofs.Lists.{got_past}
+use Rattle.eevdf_steps.proofs.Positions.{micros_in, step_in}
+use Rattle.eevdf_steps.proofs.Posting.{posts_joined}
+
+sleep_posts : (plan : Plan) (p a b c t : ℕ) (here : Bool)
+    → posts_to plan c (map (step_in (op.Sleep t)) (cond here (under_lock p moving) (under_lock a (under_lock b moving)))) ≡ []
+sleep_posts plan p a b c t true = refl
+sleep_posts plan p a b c t false = refl
+
+drain_posts : (plan : Plan) (p c n s : ℕ) → posts_to plan c (map (step_in op.Drain) (draining n s ++ Release p ∷ [])) ≡ []
+drain_posts plan p c zero s = refl
+drain_posts plan p c (suc n) s = drain_posts plan p c n (s + 1)
+
+operation_posts : (plan : Plan) (p c : ℕ) (o : Op) → posts_to plan c (micros_in plan p o) ≡ post_of plan.homes c o
+operation_posts plan p c (op.Tick ns) = refl
+operation_posts plan p c op.Pick = refl
+operation_posts plan p c op.Yield = refl
+operation_posts plan p c (op.Sleep t) = sleep_posts plan p (min p (home plan t)) (max p (home plan t)) c t (p == home plan t)
+operation_posts plan p c (op.Pull s) = refl
+operation_posts plan p c (op.Post t) = append-nil (cond (home plan t == c) (t ∷ []) [])
+operation_posts plan p c op.Drain = drain_posts plan p c (callers plan) 0
+
+program_posts : (plan : Plan) (p c : ℕ) (ops : List Op) → posts_to plan c (steps_of plan p ops) ≡ posts_in plan.homes c ops
+program_posts plan p c [] = refl
+program_posts plan p c (o ∷ ops) =
+    posts_joined plan c (micros_in plan p o) (steps_of plan p ops)
+    ∙ ap (λ (l : List ℕ). l ++ posts_to plan c (steps_of plan p ops)) (operation_posts plan p c o)
+    ∙ ap (λ (l : List ℕ). post_of plan.homes c o ++ l) (program_posts plan p c ops)
+
+pub posted_when_done : (plan : Plan) (counters : Counters) (q c : ℕ) → step_next plan counters q ≡ None
+    → posted plan counters q c ≡ posts_in plan.homes c (program plan q)
+posted_when_done plan counters q c done =
+    ap (λ (ss : List Step). posts_to plan c ss) (take_all (count_of counters q) (steps_by plan q) (got_past (steps_by plan q) (count_of counters q) done))
+    ∙ program_posts plan q c (program plan q)

@@ -1,0 +1,91 @@
+-- The deeds of a sound plan name CPUs and tasks of the machine.
+use Rattle.std.proofs.Common.{◌≡◌, ℕ, ◌+◌, ◌<◌, Bool, true, ◌&&◌, not, List, [], ◌∷◌, length, map, sym, ap, subst, ◌∙◌, refl, arith}
+use Rattle.std.specs.List.{list_all}
+use Rattle.std.specs.Prelude.{◌==◌, nat_lt, Option, Some, None}
+use Rattle.eevdf_ops.specs.declared.deeds.Op.{Op}
+use Rattle.eevdf_ops.specs.declared.deeds.Op.TheVariants as op
+use Rattle.eevdf_ops.specs.declared.deeds.Deed.{Deed}
+use Rattle.eevdf_ops.specs.declared.deeds.Deed.TheVariants as deed
+use Rattle.eevdf_ops.specs.Places.{AreCpus}
+use Rattle.eevdf_ops.specs.Setup.{is_allowed}
+use Rattle.eevdf_steps.specs.declared.micro_steps.Micro.{Micro}
+use Rattle.eevdf_steps.specs.declared.program_plan.Step.{Step}
+use Rattle.eevdf_steps.specs.Plan.{IsSound, Plan, callers, is_sound_op, program, pulls_elsewhere}
+use Rattle.eevdf_steps.specs.MicroSteps.{micros_of, steps_by, steps_of}
+use Rattle.eevdf_steps.specs.Counters.{Counters, count_of, step_next}
+use Rattle.eevdf_ops.specs.Programs.{deed_of}
+use Rattle.eevdf_steps.specs.SoundSteps.{is_sound_micro}
+use Rattle.eevdf_steps.specs.UnderWay.{UnderWay, under_way}
+use Rattle.eevdf_steps.specs.Reduced.{begun_by}
+use Rattle.eevdf_steps.proofs.Lists.{both, lt_true}
+use Rattle.eevdf_steps.proofs.Positions.{step_in}
+use Rattle.eevdf_steps.proofs.Setups.{and_true}
+use Rattle.eevdf_steps.proofs.SoundSteps.{all_joined, home_below, is_caller, some_all, step_sound}
+use Rattle.eevdf_steps.proofs.Walks.{Walk}
+use Rattle.eevdf_steps.proofs.Walking.{program_pulls, walking}
+use Rattle.eevdf_steps.proofs.Begun.{FitsAll, Standing, standing}
+use Rattle.eevdf_steps.proofs.OtherCallers.{AreWalking}
+
+abbrev step_pulls_elsewhere : ℕ → Step → Bool
+step_pulls_elsewhere p s = pulls_elsewhere p s.op
+
+of_op : (p : ℕ) (o : Op) (ms : List Micro) → pulls_elsewhere p o ≡ true → list_all (step_pulls_elsewhere p) (map (step_in o) ms) ≡ true
+of_op p o [] h = refl
+of_op p o (m ∷ ms) h = and_true (pulls_elsewhere p o) _ h (of_op p o ms h)
+
+of_ops : (plan : Plan) (p : ℕ) (os : List Op) → list_all (pulls_elsewhere p) os ≡ true → list_all (step_pulls_elsewhere p) (steps_of plan p os) ≡ true
+of_ops plan p [] h = refl
+of_ops plan p (o ∷ os) h =
+    let parts : (pulls_elsewhere p o ≡ true) × (list_all (pulls_elsewhere p) os ≡ true) = both (pulls_elsewhere p o) (list_all (pulls_elsewhere p) os) h in
+    all_joined (step_pulls_elsewhere p) (map (step_in o) (micros_of plan p o)) (steps_of plan p os) (of_op p o (micros_of plan p o) parts.0) (of_ops plan p os parts.1)
+
+-- the operation of a step pulls from no queue but another's
+pub next_pulls_elsewhere : (plan : Plan) (counters : Counters) (p : ℕ) (s : Step) → IsSound plan → step_next plan counters p ≡ Some s → pulls_elsewhere p s.op ≡ true
+next_pulls_elsewhere plan counters p s sound e =
+    some_all (step_pulls_elsewhere p) (steps_by plan p) (count_of counters p) s (of_ops plan p (program plan p)
+    (subst (λ (k : ℕ). list_all (pulls_elsewhere k) (program plan p) ≡ true) (let z : 0 + p ≡ p = omega arith in z) (program_pulls 0 p plan.programs sound.pulls))) e
+
+pub next_sound_op : (plan : Plan) (counters : Counters) (p : ℕ) (s : Step) → IsSound plan → step_next plan counters p ≡ Some s → is_sound_op plan s.op ≡ true
+next_sound_op plan counters p s sound e =
+    (both (is_sound_op plan s.op) (is_sound_micro plan s.micro) (step_sound plan counters p s sound (is_caller plan counters p s e) e)).0
+
+pub allowed_op : (plan : Plan) (p : ℕ) (o : Op) (d : Deed) → p < callers plan → is_sound_op plan o ≡ true → pulls_elsewhere p o ≡ true → deed_of p o ≡ Some d
+    → is_allowed (callers plan) plan.homes d ≡ true
+allowed_op plan p (op.Tick ns) d h s k e =
+    let is : deed.Tick p ns ≡ d = cc in ap (λ (x : Deed). is_allowed (callers plan) plan.homes x) (sym is) ∙ lt_true p (callers plan) h
+allowed_op plan p op.Pick d h s k e =
+    let is : deed.Pick p ≡ d = cc in ap (λ (x : Deed). is_allowed (callers plan) plan.homes x) (sym is) ∙ lt_true p (callers plan) h
+allowed_op plan p op.Yield d h s k e =
+    let is : deed.Yield p ≡ d = cc in ap (λ (x : Deed). is_allowed (callers plan) plan.homes x) (sym is) ∙ lt_true p (callers plan) h
+allowed_op plan p (op.Sleep t) d h s k e =
+    let is : deed.Sleep p t ≡ d = cc in
+    ap (λ (x : Deed). is_allowed (callers plan) plan.homes x) (sym is) ∙ and_true (nat_lt p (callers plan)) (nat_lt t (length plan.homes)) (lt_true p (callers plan) h) s
+allowed_op plan p (op.Pull q) d h s k e =
+    let is : deed.Pull p q ≡ d = cc in
+    ap (λ (x : Deed). is_allowed (callers plan) plan.homes x) (sym is)
+    ∙ and_true (nat_lt p (callers plan)) (nat_lt q (callers plan) && not (q == p)) (lt_true p (callers plan) h) (and_true (nat_lt q (callers plan)) (not (q == p)) s k)
+allowed_op plan p (op.Post t) d h s k e = cc
+allowed_op plan p op.Drain d h s k e = cc
+
+pub deed_fits : (plan : Plan) (counters : Counters) (p : ℕ) (s : Step) (d : Deed) → IsSound plan → step_next plan counters p ≡ Some s → deed_of p s.op ≡ Some d → FitsAll plan d
+deed_fits plan counters p s d sound e is = λ m long. record {
+  allowed = ap (λ (n : ℕ). is_allowed n plan.homes d) long
+      ∙ allowed_op plan p s.op d (is_caller plan counters p s e) (next_sound_op plan counters p s sound e) (next_pulls_elsewhere plan counters p s sound e) is;
+  cpus = subst (λ (n : ℕ). AreCpus n plan.homes) (sym long) (λ t h. home_below plan t sound h);
+}
+
+begun_walks : (plan : Plan) (counters : Counters) (q : ℕ) (u : UnderWay) (o : Option Step) → IsSound plan → length counters ≡ callers plan
+    → under_way q o ≡ Some u → step_next plan counters q ≡ o → Walk plan counters q
+begun_walks plan counters q u None sound each b e = cc
+begun_walks plan counters q u (Some s) sound each b e = walking plan counters q sound each (is_caller plan counters q s e)
+
+pub are_walking : (plan : Plan) (counters : Counters) → IsSound plan → length counters ≡ callers plan → AreWalking plan counters
+are_walking plan counters sound each =
+    let walks : (q : ℕ) (u : UnderWay) → begun_by plan counters q ≡ Some u → Walk plan counters q
+    = λ q u b. begun_walks plan counters q u (step_next plan counters q) sound each b refl in
+    record {
+      walks = walks;
+      fits = λ q u b.
+          let st : Standing plan counters q u = standing plan counters q u (walks q u b) b in
+          deed_fits plan counters q st.next u.deed sound st.is_next st.deed_is;
+    }

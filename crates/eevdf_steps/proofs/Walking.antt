@@ -1,0 +1,321 @@
+-- Each caller walks through its program with its locks as its steps need them.
+use Rattle.std.proofs.Common.{◌≡◌, ◌≢◌, ℕ, zero, suc, ◌+◌, ◌<◌, ◌≤◌, Bool, true, false, cond, not, ◌||◌, List, [], ◌∷◌, ◌++◌, length, map, take, drop, get_or, min, max, inl, inr, sym, ap, subst, ◌∙◌, arith, refl}
+use Rattle.std.proofs.lemmas.Bool.{false≢true, cases_lt}
+use Rattle.std.proofs.lemmas.Bool.Decides.{nat_tests}
+use Rattle.std.proofs.lemmas.List.{get_or-replicate, get_or-set_same}
+use Rattle.std.specs.List.{list_all}
+use Rattle.std.specs.Prelude.{slice_get, nat_lt, ◌==◌, MatchOption, Option}
+use Rattle.eevdf_ops.specs.declared.deeds.Op.{Op}
+use Rattle.eevdf_ops.specs.declared.deeds.Op.TheVariants as op
+use Rattle.eevdf_steps.specs.declared.micro_steps.Micro.{Micro}
+use Rattle.eevdf_steps.specs.declared.micro_steps.Micro.TheVariants.{Acquire, Act, Detach, Attach, Commit, Take, Settle, Release, Post}
+use Rattle.eevdf_steps.specs.declared.program_plan.Step.{Step}
+use Rattle.eevdf_steps.specs.Plan.{IsSound, Plan, all_pull_elsewhere, callers, home, is_sound_op, program, pulls_elsewhere}
+use Rattle.eevdf_steps.specs.MicroSteps.{acting, draining, micros_of, moving, steps_by, steps_of, under_lock, under_locks}
+use Rattle.eevdf_steps.specs.Counters.{Counters, count_of, counted, held_after, held_by_steps, step_next}
+use Rattle.eevdf_steps.specs.Orders.{counters_at_start}
+use Rattle.eevdf_steps.proofs.Lists.{both, lt_true, true_lt}
+use Rattle.eevdf_steps.proofs.Setups.{and_true}
+use Rattle.eevdf_steps.proofs.CounterLists.{no_step}
+use Rattle.eevdf_steps.proofs.Plans.{program_ops_sound}
+use Rattle.eevdf_steps.proofs.SoundSteps.{home_below}
+use Rattle.eevdf_steps.proofs.Holders.{number_cases, other_number, same_number}
+use Rattle.eevdf_steps.proofs.Positions.{step_in}
+use Rattle.eevdf_steps.proofs.Walks.{Covers, Fits, FitsMicro, Walk, is_above, is_acting, is_falling, is_fresh, is_in, is_locking, is_moving, stack_after, touched}
+
+-- from these locks on each step of a list fits the locks that are held then, and in the end none is held
+abbrev Walks : Plan → ℕ → List ℕ → List Step → Type 0
+Walks plan p held [] = held ≡ []
+Walks plan p held (s ∷ ss) = Fits plan p held s (slice_get ss 0) × Walks plan p (stack_after held s.micro) ss
+
+swapped : (a b : ℕ) → (a == b) ≡ (b == a)
+swapped a b = elim (number_cases a b) [
+  | inl same ↦ ap (λ (k : ℕ). k == b) same ∙ ap (λ (k : ℕ). b == k) (sym same)
+  | inr apart ↦ other_number a b apart ∙ sym (other_number b a (λ same. apart (sym same)))
+]
+
+tested : (b : Bool) → cond b true false ≡ b
+tested true = refl
+tested false = refl
+
+first_tested : (a b : Bool) → cond a true (cond b true false) ≡ (a || b)
+first_tested true b = refl
+first_tested false b = tested b
+
+last_tested : (a b : Bool) → cond b true (cond a true false) ≡ (a || b)
+last_tested true true = refl
+last_tested true false = refl
+last_tested false true = refl
+last_tested false false = refl
+
+one_lock : (p c : ℕ) → is_in c (p ∷ []) ≡ (c == p)
+one_lock p c = tested (p == c) ∙ swapped p c
+
+lower_first : (p q c : ℕ) → is_in c (q ∷ p ∷ []) ≡ ((c == p) || (c == q))
+lower_first p q c = last_tested (p == c) (q == c) ∙ ap (λ (b : Bool). b || (q == c)) (swapped p c) ∙ ap (λ (b : Bool). (c == p) || b) (swapped q c)
+
+upper_first : (p q c : ℕ) → is_in c (p ∷ q ∷ []) ≡ ((c == p) || (c == q))
+upper_first p q c = first_tested (p == c) (q == c) ∙ ap (λ (b : Bool). b || (q == c)) (swapped p c) ∙ ap (λ (b : Bool). (c == p) || b) (swapped q c)
+
+-- where the rest of a program begins
+record Rest (plan : Plan) (p : ℕ) (rest : List Step) : Type 0 where
+  fresh : is_fresh (slice_get rest 0) ≡ true
+  walks : Walks plan p [] rest
+
+act_walks : (plan : Plan) (p : ℕ) (o : Op) (rest : List Step) → p < callers plan → is_acting o ≡ true → is_locking o ≡ true → Covers plan p o (p ∷ [])
+    → Rest plan p rest → Walks plan p [] (map (step_in o) (under_lock p acting) ++ rest)
+act_walks plan p o rest h acts locks covers r = (
+  record { above = refl; below = h; locking = locks; fresh = refl },
+  (
+    record { acting = acts; covers = covers; follows = refl },
+    (record { acting_or_moving = ap (λ (b : Bool). b || is_moving o) acts; covers = covers; fresh = refl }, (record { last = refl; fresh = r.fresh }, r.walks)),
+  ),
+)
+
+either : (a b : Bool) → b ≡ true → (a || b) ≡ true
+either true b h = refl
+either false b h = h
+
+move_walks : (plan : Plan) (p : ℕ) (o : Op) (rest : List Step) → p < callers plan → is_moving o ≡ true → is_locking o ≡ true → Covers plan p o (p ∷ [])
+    → Rest plan p rest → Walks plan p [] (map (step_in o) (under_lock p moving) ++ rest)
+move_walks plan p o rest h moves locks covers r = (
+  record { above = refl; below = h; locking = locks; fresh = refl },
+  (
+    record { moving = moves; covers = covers; follows = refl },
+    (
+      record { moving = moves; covers = covers; follows = refl },
+      (
+        record { acting_or_moving = either (is_acting o) (is_moving o) moves; covers = covers; fresh = refl },
+        (record { last = refl; fresh = r.fresh }, r.walks),
+      ),
+    ),
+  ),
+)
+
+between_walks : (plan : Plan) (p : ℕ) (o : Op) (a b : ℕ) (rest : List Step) → a < b → b < callers plan → is_moving o ≡ true → is_locking o ≡ true
+    → Covers plan p o (b ∷ a ∷ []) → Rest plan p rest → Walks plan p [] (map (step_in o) (under_lock a (under_lock b moving)) ++ rest)
+between_walks plan p o a b rest h k moves locks covers r = (
+  record { above = refl; below = omega arith; locking = locks; fresh = refl },
+  (
+    record { above = and_true (nat_lt a b) true (lt_true a b h) refl; below = k; locking = locks; fresh = refl },
+    (
+      record { moving = moves; covers = covers; follows = refl },
+      (
+        record { moving = moves; covers = covers; follows = refl },
+        (
+          record { acting_or_moving = either (is_acting o) (is_moving o) moves; covers = covers; fresh = refl },
+          (record { last = refl; fresh = refl }, (record { last = refl; fresh = r.fresh }, r.walks)),
+        ),
+      ),
+    ),
+  ),
+)
+
+lesser : (a b : ℕ) → a < b → min a b ≡ a
+lesser a b h = grind arith
+
+greater : (a b : ℕ) → a < b → max a b ≡ b
+greater a b h = grind arith
+
+lesser_last : (a b : ℕ) → b < a → min a b ≡ b
+lesser_last a b h = grind arith
+
+greater_last : (a b : ℕ) → b < a → max a b ≡ a
+greater_last a b h = grind arith
+
+-- the caller's own CPU and another, in whichever order their locks come
+both_walk : (plan : Plan) (p q : ℕ) (o : Op) (rest : List Step) → p < callers plan → q < callers plan → p ≢ q → is_moving o ≡ true → is_locking o ≡ true
+    → ((c : ℕ) → touched plan p o c ≡ ((c == p) || (c == q))) → Rest plan p rest → Walks plan p [] (map (step_in o) (under_locks p q moving) ++ rest)
+both_walk plan p q o rest h k apart moves locks touches r =
+    elim (cases_lt p q) [
+      | inl below ↦ subst (λ (a : ℕ). Walks plan p [] (map (step_in o) (under_lock a (under_lock (max p q) moving)) ++ rest)) (sym (lesser p q below))
+          (subst (λ (b : ℕ). Walks plan p [] (map (step_in o) (under_lock p (under_lock b moving)) ++ rest)) (sym (greater p q below))
+          (between_walks plan p o p q rest below k moves locks (λ c. lower_first p q c ∙ sym (touches c)) r))
+      | inr past ↦ let above : q < p = grind arith in
+          subst (λ (a : ℕ). Walks plan p [] (map (step_in o) (under_lock a (under_lock (max p q) moving)) ++ rest)) (sym (lesser_last p q above))
+          (subst (λ (b : ℕ). Walks plan p [] (map (step_in o) (under_lock q (under_lock b moving)) ++ rest)) (sym (greater_last p q above))
+          (between_walks plan p o q p rest above h moves locks (λ c. upper_first p q c ∙ sym (touches c)) r))
+    ]
+
+abbrev drained : Plan → ℕ → ℕ → ℕ → List Step → List Step
+drained plan p n q rest = map (step_in op.Drain) (draining n q ++ Release p ∷ []) ++ rest
+
+drained_fresh : (plan : Plan) (p n q : ℕ) (rest : List Step) → is_fresh (slice_get (drained plan p n q rest) 0) ≡ true
+drained_fresh plan p zero q rest = refl
+drained_fresh plan p (suc n) q rest = refl
+
+drains_walk : (plan : Plan) (p n q : ℕ) (rest : List Step) → q + n ≤ callers plan → Rest plan p rest → Walks plan p (p ∷ []) (drained plan p n q rest)
+drains_walk plan p zero q rest h r = (record { last = refl; fresh = r.fresh }, r.walks)
+drains_walk plan p (suc n) q rest h r = (
+  record { drains = refl; covers = one_lock p; sender = omega arith; follows = refl },
+  (
+    record { drains = refl; covers = one_lock p; sender = omega arith; fresh = drained_fresh plan p n (q + 1) rest },
+    drains_walk plan p n (q + 1) rest (omega arith) r,
+  ),
+)
+
+not_same : (a b : ℕ) (x : Bool) → (a == b) ≡ x → x ≡ false → a ≢ b
+not_same a b x e f same = false≢true (sym f ∙ sym e ∙ ap (λ (k : ℕ). k == b) same ∙ same_number b)
+
+same_home : (a b : ℕ) → (a == b) ≡ true → a ≡ b
+same_home a b h = grind (arith, nat_tests)
+
+at_home_twice : (p h c : ℕ) → p ≡ h → is_in c (p ∷ []) ≡ ((c == p) || (c == h))
+at_home_twice p h c same = one_lock p c ∙ sym (twice (c == p)) ∙ ap (λ (k : ℕ). (c == p) || (c == k)) same where
+  twice : (b : Bool) → (b || b) ≡ b
+  twice true = refl
+  twice false = refl
+
+sleep_walks : (plan : Plan) (p t : ℕ) (rest : List Step) (x : Bool) → p < callers plan → home plan t < callers plan → (p == home plan t) ≡ x → Rest plan p rest
+    → Walks plan p [] (map (step_in (op.Sleep t)) (cond x (under_lock p moving) (under_locks p (home plan t) moving)) ++ rest)
+sleep_walks plan p t rest true h k e r = move_walks plan p (op.Sleep t) rest h refl refl (λ c. at_home_twice p (home plan t) c (same_home p (home plan t) e)) r
+sleep_walks plan p t rest false h k e r = both_walk plan p (home plan t) (op.Sleep t) rest h k (not_same p (home plan t) false e refl) refl refl (λ c. refl) r
+
+other_source : (q p : ℕ) → not (q == p) ≡ true → p ≢ q
+other_source q p h same = false≢true (ap not (sym (same_number p) ∙ ap (λ (k : ℕ). k == p) same) ∙ h)
+
+op_walks : (plan : Plan) (p : ℕ) (o : Op) (rest : List Step) → IsSound plan → p < callers plan → is_sound_op plan o ≡ true → pulls_elsewhere p o ≡ true → Rest plan p rest
+    → Walks plan p [] (map (step_in o) (micros_of plan p o) ++ rest)
+op_walks plan p (op.Tick ns) rest s h k e r = act_walks plan p (op.Tick ns) rest h refl refl (one_lock p) r
+op_walks plan p op.Pick rest s h k e r = act_walks plan p op.Pick rest h refl refl (one_lock p) r
+op_walks plan p op.Yield rest s h k e r = act_walks plan p op.Yield rest h refl refl (one_lock p) r
+op_walks plan p (op.Sleep t) rest s h k e r = sleep_walks plan p t rest (p == home plan t) h (home_below plan t s (true_lt t (length plan.homes) k)) refl r
+op_walks plan p (op.Pull q) rest s h k e r = both_walk plan p q (op.Pull q) rest h (true_lt q (callers plan) k) (other_source q p e) refl refl (λ c. refl) r
+op_walks plan p op.Drain rest s h k e r = (
+  record { above = refl; below = h; locking = refl; fresh = drained_fresh plan p (callers plan) 0 rest },
+  drains_walk plan p (callers plan) 0 rest (omega arith) r,
+)
+op_walks plan p (op.Post t) rest s h k e r = (record { holds_none = refl; fresh = r.fresh }, r.walks)
+
+sleep_fresh : (plan : Plan) (p h : ℕ) (o : Op) (rest : List Step) (x : Bool)
+    → is_fresh (slice_get (map (step_in o) (cond x (under_lock p moving) (under_locks p h moving)) ++ rest) 0) ≡ true
+sleep_fresh plan p h o rest true = refl
+sleep_fresh plan p h o rest false = refl
+
+op_fresh : (plan : Plan) (p : ℕ) (o : Op) (rest : List Step) → is_fresh (slice_get (map (step_in o) (micros_of plan p o) ++ rest) 0) ≡ true
+op_fresh plan p (op.Tick ns) rest = refl
+op_fresh plan p op.Pick rest = refl
+op_fresh plan p op.Yield rest = refl
+op_fresh plan p (op.Sleep t) rest = sleep_fresh plan p (home plan t) (op.Sleep t) rest (p == home plan t)
+op_fresh plan p (op.Pull q) rest = refl
+op_fresh plan p op.Drain rest = refl
+op_fresh plan p (op.Post t) rest = refl
+
+steps_fresh : (plan : Plan) (p : ℕ) (os : List Op) → is_fresh (slice_get (steps_of plan p os) 0) ≡ true
+steps_fresh plan p [] = refl
+steps_fresh plan p (o ∷ os) = op_fresh plan p o (steps_of plan p os)
+
+ops_walk : (plan : Plan) (p : ℕ) (os : List Op) → IsSound plan → p < callers plan → list_all (is_sound_op plan) os ≡ true → list_all (pulls_elsewhere p) os ≡ true
+    → Walks plan p [] (steps_of plan p os)
+ops_walk plan p [] s h all elsewhere = refl
+ops_walk plan p (o ∷ os) s h all elsewhere =
+    let sounds : (is_sound_op plan o ≡ true) × (list_all (is_sound_op plan) os ≡ true) = both (is_sound_op plan o) (list_all (is_sound_op plan) os) all in
+    let pulls : (pulls_elsewhere p o ≡ true) × (list_all (pulls_elsewhere p) os ≡ true) = both (pulls_elsewhere p o) (list_all (pulls_elsewhere p) os) elsewhere in
+    op_walks plan p o (steps_of plan p os) s h sounds.0 pulls.0
+    (record { fresh = steps_fresh plan p os; walks = ops_walk plan p os s h sounds.1 pulls.1 })
+
+pub program_pulls : (cpu p : ℕ) (programs : List (List Op)) → all_pull_elsewhere cpu programs ≡ true → list_all (pulls_elsewhere (cpu + p)) (get_or programs p []) ≡ true
+program_pulls cpu p [] all = refl
+program_pulls cpu zero (os ∷ programs) all =
+    subst (λ (k : ℕ). list_all (pulls_elsewhere k) os ≡ true) (let e : cpu ≡ cpu + 0 = omega arith in e) (both (list_all (pulls_elsewhere cpu) os) (all_pull_elsewhere (cpu + 1) programs) all).0
+program_pulls cpu (suc p) (os ∷ programs) all =
+    subst (λ (k : ℕ). list_all (pulls_elsewhere k) (get_or programs p []) ≡ true) (let e : cpu + 1 + p ≡ cpu + suc p = omega arith in e)
+    (program_pulls (cpu + 1) p programs (both (list_all (pulls_elsewhere cpu) os) (all_pull_elsewhere (cpu + 1) programs) all).1)
+
+program_walks : (plan : Plan) (p : ℕ) → IsSound plan → p < callers plan → Walks plan p [] (steps_by plan p)
+program_walks plan p s h =
+    ops_walk plan p (program plan p) s h (program_ops_sound plan p s)
+    (subst (λ (k : ℕ). list_all (pulls_elsewhere k) (program plan p) ≡ true) (let e : 0 + p ≡ p = omega arith in e) (program_pulls 0 p plan.programs s.pulls))
+
+-- a number that is above all of a list isn't in it
+pub above_apart : (c : ℕ) (held : List ℕ) → is_above c held ≡ true → is_in c held ≡ false
+above_apart c [] h = refl
+above_apart c (d ∷ held) h =
+    let parts : (nat_lt d c ≡ true) × (is_above c held ≡ true) = both (nat_lt d c) (is_above c held) h in
+    let below : d < c = true_lt d c parts.0 in
+    ap (λ (b : Bool). cond b true (is_in c held)) (other_number d c (λ same. absurd (omega (arith, same)))) ∙ above_apart c held parts.1
+
+released : (c d : ℕ) (held : List ℕ) (b : Bool) → (d == c) ≡ b → is_in d held ≡ false → cond b false (cond b true (is_in c held)) ≡ is_in c held
+released c d held true e apart = sym (ap (λ (k : ℕ). is_in k held) (sym (same_home d c e)) ∙ apart)
+released c d held false e apart = refl
+
+gives_up : (c d : ℕ) (held : List ℕ) → take 1 held ≡ d ∷ [] → is_falling held ≡ true → held_after c (is_in c held) (Release d) ≡ is_in c (drop 1 held)
+gives_up c d [] last falls = cc
+gives_up c d (e ∷ held) last falls =
+    let same : e ≡ d = cc in
+    ap (λ (k : ℕ). cond (d == c) false (cond (k == c) true (is_in c held))) same
+    ∙ released c d held (d == c) refl (ap (λ (k : ℕ). is_in k held) (sym same) ∙ above_apart e held (both (is_above e held) (is_falling held) falls).0)
+
+-- the locks that are held after a step are those of the list
+held_then : (plan : Plan) (p : ℕ) (held : List ℕ) (o : Op) (m : Micro) (following : Option Step) → FitsMicro plan p held o m following → is_falling held ≡ true
+    → (c : ℕ) → held_after c (is_in c held) m ≡ is_in c (stack_after held m)
+held_then plan p held o (Release d) following fits falls c = gives_up c d held fits.last falls
+held_then plan p held o (Acquire d) following fits falls c = refl
+held_then plan p held o Act following fits falls c = refl
+held_then plan p held o Detach following fits falls c = refl
+held_then plan p held o Attach following fits falls c = refl
+held_then plan p held o Commit following fits falls c = refl
+held_then plan p held o (Take q) following fits falls c = refl
+held_then plan p held o (Settle q) following fits falls c = refl
+held_then plan p held o (Post t) following fits falls c = refl
+
+falling_rest : (held : List ℕ) → is_falling held ≡ true → is_falling (drop 1 held) ≡ true
+falling_rest [] h = refl
+falling_rest (d ∷ held) h = (both (is_above d held) (is_falling held) h).1
+
+falling_then : (plan : Plan) (p : ℕ) (held : List ℕ) (o : Op) (m : Micro) (following : Option Step) → FitsMicro plan p held o m following → is_falling held ≡ true
+    → is_falling (stack_after held m) ≡ true
+falling_then plan p held o (Acquire d) following fits falls = and_true (is_above d held) (is_falling held) fits.above falls
+falling_then plan p held o (Release d) following fits falls = falling_rest held falls
+falling_then plan p held o Act following fits falls = falls
+falling_then plan p held o Detach following fits falls = falls
+falling_then plan p held o Attach following fits falls = falls
+falling_then plan p held o Commit following fits falls = falls
+falling_then plan p held o (Take q) following fits falls = falls
+falling_then plan p held o (Settle q) following fits falls = falls
+falling_then plan p held o (Post t) following fits falls = falls
+
+-- where a caller stands that has done so many steps of a list from these locks on
+record Standing (plan : Plan) (p : ℕ) (first : List ℕ) (ss : List Step) (k : ℕ) : Type 0 where
+  held : List ℕ
+  holds_them : (c : ℕ) → held_by_steps c (is_in c first) (take k ss) ≡ is_in c held
+  falling : is_falling held ≡ true
+  fits : MatchOption (slice_get ss k) (held ≡ []) (λ s. Fits plan p held s (slice_get ss (suc k)))
+
+standing : (plan : Plan) (p : ℕ) (first : List ℕ) (ss : List Step) (k : ℕ) → Walks plan p first ss → is_falling first ≡ true → Standing plan p first ss k
+standing plan p first [] zero walks falls = record { held = first; holds_them = λ c. refl; falling = falls; fits = walks }
+standing plan p first [] (suc k) walks falls = record { held = first; holds_them = λ c. refl; falling = falls; fits = walks }
+standing plan p first (s ∷ ss) zero walks falls = record { held = first; holds_them = λ c. refl; falling = falls; fits = walks.0 }
+standing plan p first (s ∷ ss) (suc k) walks falls =
+    let later : Standing plan p (stack_after first s.micro) ss k
+    = standing plan p (stack_after first s.micro) ss k walks.1 (falling_then plan p first s.op s.micro (slice_get ss 0) walks.0 falls) in
+    record {
+      held = later.held;
+      holds_them = λ c. ap (λ (b : Bool). held_by_steps c b (take k ss)) (held_then plan p first s.op s.micro (slice_get ss 0) walks.0 falls c) ∙ later.holds_them c;
+      falling = later.falling;
+      fits = later.fits;
+    }
+
+-- the steps of a caller fit the locks that it holds
+pub walking : (plan : Plan) (counters : Counters) (caller : ℕ) → IsSound plan → length counters ≡ callers plan → caller < callers plan → Walk plan counters caller
+walking plan counters caller sound each below =
+    let here : Standing plan caller [] (steps_by plan caller) (count_of counters caller)
+    = standing plan caller [] (steps_by plan caller) (count_of counters caller) (program_walks plan caller sound below) refl in
+    let one_more : suc (count_of counters caller) ≡ count_of (counted counters caller) caller
+    = (let e : suc (count_of counters caller) ≡ count_of counters caller + 1 = omega arith in e)
+    ∙ sym (get_or-set_same counters caller (count_of counters caller + 1) 0 (omega (arith, each, below))) in
+    record {
+      held = here.held;
+      holds_them = here.holds_them;
+      falling = here.falling;
+      fits =
+          subst (λ (k : ℕ). MatchOption (step_next plan counters caller) (here.held ≡ []) (λ s. Fits plan caller here.held s (slice_get (steps_by plan caller) k)))
+          one_more here.fits;
+    }
+
+pub fresh_at_start : (plan : Plan) (caller : ℕ) → IsSound plan → is_fresh (step_next plan (counters_at_start plan) caller) ≡ true
+fresh_at_start plan caller sound =
+    elim (cases_lt caller (callers plan)) [
+      | inl below ↦ ap (λ (k : ℕ). is_fresh (slice_get (steps_by plan caller) k)) (get_or-replicate (callers plan) caller 0 0 below) ∙ steps_fresh plan caller (program plan caller)
+      | inr past ↦ ap is_fresh (no_step plan (counters_at_start plan) caller past)
+    ]

@@ -1,0 +1,23 @@
+use Rattle.std.proofs.Common.{subst, sym}
+use Rattle.eevdf_steps.specs.Players.{Player}
+use Rattle.eevdf_steps.specs.PlayedSteps.{HasPlayed}
+use Rattle.eevdf_steps.proofs.PlayedOrders.{play_allowed, play_follows, play_whole}
+use Rattle.eevdf_steps.proofs.played_order.play.Goals as goal
+
+pub returns-clause-allowed : goal.returns-clause-allowed
+returns-clause-allowed c =
+    play_allowed c.args.setup.now c.args.order.now c.play_order.new.player c.into_outcome.result
+    (subst (λ (a : Player). HasPlayed a c.args.order.now c.play_order.new.player) c.in-Ok.ensures c.in_default-play_order.ensures)
+    c.into_outcome.ensures.sound c.into_outcome.ensures.outcome
+
+pub returns-clause-programs : goal.returns-clause-programs
+returns-clause-programs c =
+    play_follows c.args.setup.now c.args.order.now c.play_order.new.player c.into_outcome.result
+    (subst (λ (a : Player). HasPlayed a c.args.order.now c.play_order.new.player) c.in-Ok.ensures c.in_default-play_order.ensures)
+    (sym c.in_default-unfinished.ensures) c.into_outcome.ensures.sound c.into_outcome.ensures.outcome
+
+pub returns-clause-whole : goal.returns-clause-whole
+returns-clause-whole c =
+    play_whole c.args.setup.now c.args.order.now c.play_order.new.player
+    (subst (λ (a : Player). HasPlayed a c.args.order.now c.play_order.new.player) c.in-Ok.ensures c.in_default-play_order.ensures)
+    (sym c.in_default-unfinished.ensures)
