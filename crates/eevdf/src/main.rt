@@ -1,5 +1,5 @@
-//! The workbench as a program: `eevdf solo` reads a workload from standard input and prints each CPU's
-//! schedule, or one line that says why not.
+//! The workbench as a program: `eevdf solo` and `eevdf replay` read a workload from standard input and print each
+//! CPU's schedule, or one line that says why not.
 #![tactic(auto)]
 
 use eevdf_bench::{

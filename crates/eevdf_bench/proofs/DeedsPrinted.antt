@@ -12,7 +12,8 @@ use Rattle.eevdf_ops.specs.declared.deeds.Op.TheVariants as op
 use Rattle.eevdf_ops.specs.declared.deeds.Deed.{Deed}
 use Rattle.eevdf_ops.specs.declared.deeds.Deed.TheVariants.{Tick, Pick, Yield, Sleep, Wake, Pull}
 use Rattle.eevdf_bench.specs.TextDeed.{cpu_of, deed_text}
-use Rattle.eevdf_bench.specs.Words.{words, operation_of, deed_of, sender_of, wake_of, task_in, cpu_in, deed_on, deed_in}
+use Rattle.eevdf_ops.specs.Programs.{deed_of}
+use Rattle.eevdf_bench.specs.Words.{words, operation_of, sender_of, wake_of, task_in, cpu_in, deed_on, deed_in}
 use Rattle.eevdf_bench.specs.WordsPrinted.{numbered_deed_text, operation_text}
 use Rattle.eevdf_bench.proofs.ReadingPrinted.{number-decimal, words-decimal, words-after_decimal, joined_words}
 use Rattle.eevdf_bench.proofs.OperationsPrinted.{is_task, is_cpu, small_tick, small_task, small_cpu, task_passes, cpu_passes, tested_word, only_word, mapped_parts, named, text-operation_of}

@@ -7,7 +7,8 @@ use Rattle.eevdf_bench.specs.declared.load_fault.LoadFault.{LoadFault}
 use Rattle.eevdf_bench.specs.declared.load_fault.LoadFault.TheVariants as fault
 use Rattle.eevdf_bench.specs.Meaning.{Workload, meaning, document_of, workload_of}
 use Rattle.eevdf_bench.specs.MeaningSteps.{◌>>=◌}
-use Rattle.eevdf_bench.specs.Runs.{solo_answer, solo_report}
+use Rattle.eevdf_bench.specs.declared.command_words.Command.{Command}
+use Rattle.eevdf_bench.specs.Runs.{answer_of, loaded, report_of}
 
 too_long : (m n : ℕ) → nat_lt m n ≡ true → m < n
 too_long m n h = grind (arith, nat_tests)
@@ -31,6 +32,6 @@ pub meaning_cut : (bytes : List ℕ) → meaning (take 16777217 bytes) ≡ meani
 unfolding meaning
 meaning_cut bytes = cut 16777216 16777217 (Err fault.TooLarge) (λ (bs : List ℕ). document_of bs >>= workload_of) bytes (nat_lt 16777216 (length bytes)) refl refl
 
-pub solo_answer_cut : (bytes : List ℕ) (history : Bool) → solo_answer (take 16777217 bytes) history ≡ solo_answer bytes history
-unfolding solo_answer
-solo_answer_cut bytes history = ap (λ (r : Result Workload LoadFault). r >>= (λ w. solo_report w history)) (meaning_cut bytes)
+pub answer_cut : (c : Command) (bytes : List ℕ) → answer_of c (take 16777217 bytes) ≡ answer_of c bytes
+unfolding answer_of
+answer_cut c bytes = ap (λ (r : Result Workload LoadFault). loaded r (λ w. report_of c.kind w c.history)) (meaning_cut bytes)

@@ -9,3 +9,5 @@ pub mod DeedsPrinted
 pub mod InputLimit
 pub mod QueueLines
 pub mod EngineAnswers
+pub mod LeftLists
+pub mod ReplayAnswers

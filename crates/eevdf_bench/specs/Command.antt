@@ -1,29 +1,43 @@
 -- The command for which the program's words ask, by `clap`'s own definition of a parse.
-use Rattle.std.specs.Prelude.{◌≡◌, Bool, true, false, Option, Some, None, List, if◌then◌else◌, codes, option_map}
+use Rattle.std.specs.Prelude.{◌≡◌, Bool, true, false, Option, Some, None, List, if◌then◌else◌, codes, option_map, option_and_then}
 use Rattle.std.specs.Str.{bytes_eq}
-use Rattle.clap.specs.Words.{App, Text, fault_of, new_app, subcommand_of, with_subcommand}
+use Rattle.std.specs.Option.{option_map_or}
+use Rattle.clap.specs.Words.{App, Row, Rule, Text, fault_of, first_of, new_app, new_rule, subcommand_of, with_rule, with_subcommand}
 use Rattle.clap.specs.Walk.{is_empty}
 use Rattle.clap.specs.Simple.{on_top}
+use Rattle.clap.specs.declared.builder.action.ArgAction.TheVariants.{SetTrue}
 use Rattle.clap.specs.declared.error.kind.ErrorKind.{ErrorKind}
 use Rattle.clap.specs.declared.error.kind.ErrorKind.TheVariants.{OutOfMemory}
 use Rattle.eevdf_bench.specs.declared.command_words.Command.{Command}
 use Rattle.eevdf_bench.specs.declared.command_words.Kind.{Kind}
-use Rattle.eevdf_bench.specs.declared.command_words.Kind.TheVariants.{Solo}
+use Rattle.eevdf_bench.specs.declared.command_words.Kind.TheVariants.{Solo, Replay}
 use Rattle.eevdf_bench.specs.declared.command_words.WordFault.{WordFault}
 use Rattle.eevdf_bench.specs.declared.command_words.WordFault.TheVariants.{Words, Memory}
 
 -- the word that names a kind
 abbrev pub word_of : Kind → Text
 word_of Solo = codes "solo"
+word_of Replay = codes "replay"
 
--- the program as `clap` knows it: a subcommand for each kind, one of which must be there, and no
--- flag or subcommand for help
-abbrev pub program : App
-program = with_subcommand (on_top (λ s. record s {
+-- the flag that each subcommand has
+abbrev pub history_rule : Rule
+history_rule = record (new_rule (codes "history")) { long = Some (codes "history"); action = Some SetTrue }
+
+-- a subcommand with its flag
+abbrev pub subcommand : Text → App
+subcommand name = with_rule (new_app name) history_rule
+
+-- the program without its subcommands: one of them must be there, and there is no flag or subcommand for help
+abbrev pub bare_program : App
+bare_program = on_top (λ s. record s {
   subcommand_required = true;
   disable_help_flag = true;
   disable_help_subcommand = true;
-}) (new_app (codes "eevdf"))) (new_app (word_of Solo)).top
+}) (new_app (codes "eevdf"))
+
+-- the program as `clap` knows it
+abbrev pub program : App
+program = with_subcommand (with_subcommand bare_program (subcommand (word_of Solo)).top) (subcommand (word_of Replay)).top
 
 -- the parse of the words has no fault
 abbrev pub is_taken : List Text → Bool
@@ -33,14 +47,27 @@ is_taken words = is_empty (fault_of program words)
 abbrev pub subcommand_named : List Text → Option Text
 subcommand_named words = option_map (λ p. p.0) (subcommand_of program words)
 
--- the words are taken, and their subcommand is the command's kind
+-- the text that a flag holds says that it was given
+abbrev pub is_set : Option Text → Bool
+is_set held = option_map_or (λ text. bytes_eq text (codes "true")) held false
+
+-- among the matches of a subcommand its flag is given
+abbrev pub history_in : Option (List Row) → Bool
+history_in matches = is_set (option_and_then (first_of (codes "history")) matches)
+
+-- the subcommand's flag is given
+abbrev pub has_history : List Text → Bool
+has_history words = history_in (option_map (λ p. p.1) (subcommand_of program words))
+
+-- the words are taken, their subcommand is the command's kind, and its flag asks for the history
 abbrev pub IsAskedBy : List Text → Command → Type 0
 IsAskedBy words c = (is_taken words ≡ true)
-    × (subcommand_named words ≡ Some (word_of c.kind)) × (c.history ≡ false)
+    × (subcommand_named words ≡ Some (word_of c.kind)) × (c.history ≡ has_history words)
 
 -- the kind that a word names
 abbrev pub kind_named : Text → Option Kind
-kind_named word = if bytes_eq word (word_of Solo) then Some Solo else None
+kind_named word = if bytes_eq word (word_of Solo) then Some Solo
+    else if bytes_eq word (word_of Replay) then Some Replay else None
 
 -- what an error of `clap` comes to
 abbrev pub word_fault : ErrorKind → WordFault

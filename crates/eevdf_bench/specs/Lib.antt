@@ -11,3 +11,4 @@ pub mod TextFault
 pub mod Command
 pub mod WordsPrinted
 pub mod Runs
+pub mod Replays

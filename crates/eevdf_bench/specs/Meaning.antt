@@ -18,9 +18,11 @@ use Rattle.eevdf_bench.specs.declared.load_fault.LoadFault.TheVariants as fault
 use Rattle.eevdf_bench.specs.MeaningSteps.{◌>>=◌, good_at, required, if_present, integer_or, boolean_or, natural, array_at, at_most, each}
 use Rattle.eevdf_bench.specs.Words.{words, operation, deed_in}
 
--- a workload: what the machine is set up from, and the deeds that are done on it, if it lists any
+-- a workload: what the machine is set up from, the callers in the order of their steps and the deeds that are done on
+-- it, if it lists them
 pub record Workload : Type 0 where
   pub setup : Setup
+  pub order : Option (List ℕ)
   pub script : Option (List Deed)
 
 -- a workload has at most so many bytes
@@ -112,6 +114,17 @@ programs_of d = array_at key.Programs d >>= each program_at 0
 unfoldable pub programs : Members → Result (List (List Op)) LoadFault
 programs document = required key.Programs programs_of (get_member (codes "program") document)
 
+-- ---- the order
+
+unfoldable pub caller_at : ℕ → Data → Result ℕ LoadFault
+caller_at place d = good_at (key.Order place) (option_and_then natural (as_integer d))
+
+abbrev pub order_of : Data → Result (List ℕ) LoadFault
+order_of d = array_at key.Orders d >>= each caller_at 0
+
+unfoldable pub order : Members → Result (Option (List ℕ)) LoadFault
+order document = if_present order_of (get_member (codes "order") document)
+
 -- ---- the script
 
 unfoldable pub deed_at : ℕ → Data → Result Deed LoadFault
@@ -147,10 +160,11 @@ workload_of document = do
   number ← version document
   specs ← tasks document
   operations ← programs document
+  callers ← order document
   deeds ← script document
   setup ← setup_of specs operations
   nothing ← allowed setup deeds
-  Ok (record { setup = setup; script = deeds })
+  Ok (record { setup = setup; order = callers; script = deeds })
 
 -- the bytes as a document
 unfoldable pub document_of : List ℕ → Result Members LoadFault

@@ -3,15 +3,20 @@ use Rattle.std.specs.Prelude.{ℕ, List, ◌++◌, codes, decimal}
 use Rattle.eevdf_ops.specs.declared.setup_fault.SetupFault.{SetupFault}
 use Rattle.eevdf_ops.specs.declared.setup_fault.SetupFault.TheVariants as setup
 use Rattle.eevdf_bench.specs.declared.load_fault.Key.{Key}
-use Rattle.eevdf_bench.specs.declared.load_fault.Key.TheVariants.{Version, Tasks, Task, Home, Nice, Slice, Start, Asleep, Programs, Program, Op, Scripts, Script}
+use Rattle.eevdf_bench.specs.declared.load_fault.Key.TheVariants.{Version, Tasks, Task, Home, Nice, Slice, Start, Asleep, Programs, Program, Op, Orders, Order, Scripts, Script}
 use Rattle.eevdf_bench.specs.declared.load_fault.LoadFault.{LoadFault}
 use Rattle.eevdf_bench.specs.declared.load_fault.LoadFault.TheVariants as load
 use Rattle.eevdf_bench.specs.declared.bench_fault.BenchFault.{BenchFault}
 use Rattle.eevdf_bench.specs.declared.bench_fault.BenchFault.TheVariants as bench
+use Rattle.eevdf_steps.specs.declared.play_fault.PlayFault.{PlayFault}
+use Rattle.eevdf_steps.specs.declared.play_fault.PlayFault.TheVariants as play
 use Rattle.eevdf_bench.specs.Text.{as_line, task_text}
 
 abbrev pub program_key : ℕ → List ℕ
 program_key cpu = codes "program " ++ decimal cpu
+
+abbrev pub place_key : ℕ → List ℕ
+place_key at = codes "order at " ++ decimal at
 
 abbrev pub operation_key : ℕ → ℕ → List ℕ
 operation_key cpu place = program_key cpu ++ codes " at " ++ decimal place
@@ -29,6 +34,8 @@ key_text (Asleep i) = task_text i ++ codes " asleep"
 key_text Programs = codes "program"
 key_text (Program cpu) = program_key cpu
 key_text (Op cpu i) = operation_key cpu i
+key_text Orders = codes "order"
+key_text (Order i) = place_key i
 key_text Scripts = codes "script"
 key_text (Script i) = codes "script at " ++ decimal i
 
@@ -50,8 +57,17 @@ load_fault_text (load.BadValue key) = codes "bad value at " ++ key_text key
 load_fault_text (load.Setup fault) = setup_fault_text fault
 load_fault_text load.Memory = codes "memory"
 
+abbrev pub play_fault_text : PlayFault → List ℕ
+play_fault_text play.TooLong = codes "order longer than 1000000"
+play_fault_text play.Memory = codes "memory"
+play_fault_text (play.NoCaller at) = place_key at ++ codes ": no caller"
+play_fault_text (play.Done at) = place_key at ++ codes ": done"
+play_fault_text (play.Blocked at cpu) = place_key at ++ codes ": blocked on " ++ decimal cpu
+play_fault_text (play.Short caller) = codes "order short at " ++ decimal caller
+
 abbrev pub bench_fault_text : BenchFault → List ℕ
 bench_fault_text (bench.Load fault) = load_fault_text fault
+bench_fault_text (bench.Play fault) = play_fault_text fault
 bench_fault_text bench.Read = codes "reading"
 bench_fault_text bench.Write = codes "writing"
 bench_fault_text bench.Memory = codes "memory"
@@ -59,7 +75,7 @@ bench_fault_text bench.Memory = codes "memory"
 abbrev pub fault_line : BenchFault → List ℕ
 fault_line fault = as_line (codes "fault: " ++ bench_fault_text fault)
 
--- 1 where the workload is refused, 3 where memory, reading or writing failed
+-- 1 where the workload or its order is refused, 3 where memory, reading or writing failed
 abbrev pub setup_status : SetupFault → ℕ
 setup_status setup.Memory = 3
 setup_status _ = 1
@@ -69,6 +85,11 @@ load_status (load.Setup fault) = setup_status fault
 load_status load.Memory = 3
 load_status _ = 1
 
+abbrev pub play_status : PlayFault → ℕ
+play_status play.Memory = 3
+play_status _ = 1
+
 abbrev pub status_of : BenchFault → ℕ
 status_of (bench.Load fault) = load_status fault
+status_of (bench.Play fault) = play_status fault
 status_of _ = 3

@@ -1,5 +1,5 @@
 -- The texts of one queue's tasks.
-use Rattle.std.specs.Prelude.{ℕ, ◌==◌, ℤ, Bool, true, false, List, [], ◌++◌, codes, decimal, Option, Some, None}
+use Rattle.std.specs.Prelude.{ℕ, ℤ, Bool, true, false, List, [], ◌++◌, codes, decimal, Option, Some, None}
 use Rattle.std.specs.Fmt.{signed_decimal}
 use Rattle.std.specs.List.{flat_map}
 use Rattle.std.specs.FinMap as finite
@@ -7,6 +7,7 @@ use Rattle.eevdf_queue.specs.declared.run_entry.Entry.{Entry}
 use Rattle.eevdf_queue.specs.State.{State, Sleeper}
 use Rattle.eevdf_queue.specs.Sums.{total_weight, virtual_time}
 use Rattle.eevdf_queue.specs.Lag.{kept_lag}
+use Rattle.eevdf_queue.specs.Candidate.{is_running}
 use Rattle.eevdf_bench.specs.Text.{as_line, task_text}
 
 abbrev pub load_line : ℕ → ℤ → List ℕ
@@ -30,10 +31,6 @@ task_line task e lag runs = as_line (task_text task ++ times_text e.v e.d ++ lag
 abbrev pub asleep_line : ℕ → ℤ → List ℕ
 asleep_line task lag = as_line (codes "asleep " ++ decimal task ++ lag_text lag)
 
-abbrev pub is_task : Option ℕ → ℕ → Bool
-is_task None task = false
-is_task (Some t) task = t == task
-
 -- the text of a number's entry, where it has one
 abbrev pub text_at : {X : Type 0} → (ℕ × X → List ℕ) → ℕ → Option X → List ℕ
 text_at f number None = []
@@ -41,7 +38,7 @@ text_at f number (Some x) = f (number, x)
 
 -- one runnable task, with the lag that it would keep
 abbrev pub runnable_line : State → ℕ × Entry → List ℕ
-runnable_line q a = task_line a.0 a.1 (kept_lag q a.1) (is_task q.running a.0)
+runnable_line q a = task_line a.0 a.1 (kept_lag q a.1) (is_running q.running a.0)
 
 -- one sleeping task, with the lag that it keeps
 abbrev pub sleeper_line : ℕ × Sleeper → List ℕ

@@ -8,6 +8,7 @@ use Rattle.eevdf_weight.specs.Limits.{checked_tick}
 use Rattle.eevdf_queue.specs.Numbers.{checked_number}
 use Rattle.eevdf_ops.specs.Numbers.{checked_cpu}
 use Rattle.eevdf_ops.specs.declared.deeds.Op.{Op}
+use Rattle.eevdf_ops.specs.Programs.{deed_of}
 use Rattle.eevdf_ops.specs.declared.deeds.Op.TheVariants as op
 use Rattle.eevdf_ops.specs.declared.deeds.Deed.{Deed}
 use Rattle.eevdf_ops.specs.declared.deeds.Deed.TheVariants as deed
@@ -64,16 +65,6 @@ operation_of verb arguments =
 unfoldable pub operation : List (List ℕ) → Option Op
 operation [] = None
 operation (verb ∷ arguments) = operation_of verb arguments
-
--- the deed that an operation of a CPU is; a post and a drain are none
-abbrev pub deed_of : ℕ → Op → Option Deed
-deed_of cpu (op.Tick ns) = Some (deed.Tick cpu ns)
-deed_of cpu op.Pick = Some (deed.Pick cpu)
-deed_of cpu op.Yield = Some (deed.Yield cpu)
-deed_of cpu (op.Sleep task) = Some (deed.Sleep cpu task)
-deed_of cpu (op.Post task) = None
-deed_of cpu op.Drain = None
-deed_of cpu (op.Pull source) = Some (deed.Pull cpu source)
 
 -- the CPU and the task that a word numbers
 abbrev pub cpu_in : List ℕ → Option ℕ

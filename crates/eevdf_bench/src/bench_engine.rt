@@ -2,14 +2,17 @@
 
 ghost use Rattle.std.specs.Prelude.{◌≡◌, ◌≢◌, true, false, IfOk, IfErr, IfSome, OnOk, OnErr, Err};
 ghost use Rattle.std.specs.Io.KnownBytes.{Keeps};
-ghost use Rattle.eevdf_bench.specs.Runs.{Answers, Begins, LoadsAs, Writes, solo_answer};
+ghost use Rattle.eevdf_bench.specs.Replays.{IsReplay, IsReplayOf, WritesReplay};
+ghost use Rattle.eevdf_bench.specs.Runs.{Answers, Begins, LoadsAs, Makes, PlaysAs, Writes, answer_of, report_of};
 ghost use Rattle.eevdf_bench.specs.Streams.{HasBegun, ReadsTo, ReadsWithin};
 
 use crate::bench_fault::BenchFault;
 use crate::byte_streams::{read_input, write_text};
 use crate::command_words::{Command, Kind};
 use crate::load_fault::LoadFault;
+use crate::loaded_workload::Workload;
 use crate::reading::read_workload;
+use crate::replay_run::replay_text;
 use crate::solo_run::solo_text;
 use crate::watched::Watched;
 use std::alloc::Global;
@@ -30,11 +33,15 @@ pub fn engine<R: Read, W: Write>(
     requires reader { reader.old.failed ≡ false }
     requires writer { writer.old.failed ≡ false }
     ensures report { OnOk result (IfSome (R.remaining reader.old.end) (λ input.
-        Writes (solo_answer input command.history) (W.contents writer.old.end) (W.contents writer.new.end))) }
+        Writes (answer_of command input) (W.contents writer.old.end) (W.contents writer.new.end))) }
     ensures load { IfErr result (λ f. IfSome (R.remaining reader.old.end) (λ input.
-        LoadsAs (solo_answer input command.history) f)) }
+        LoadsAs (answer_of command input) f)) }
+    ensures play { IfErr result (λ f. IfSome (R.remaining reader.old.end) (λ input.
+        PlaysAs (answer_of command input) f)) }
+    ensures one_thread { command.kind ≡ Kind.Replay → OnOk result (IfSome (R.remaining reader.old.end) (λ input.
+        WritesReplay input command.history (W.contents writer.old.end) (W.contents writer.new.end))) }
     ensures begun { result ≡ Err BenchFault.Write → IfSome (R.remaining reader.old.end) (λ input.
-        Begins (solo_answer input command.history) (W.contents writer.old.end) (W.contents writer.new.end)) }
+        Begins (answer_of command input) (W.contents writer.old.end) (W.contents writer.new.end)) }
     ensures consumed { result ≢ Err BenchFault.Read → result ≢ Err BenchFault.Memory →
         ReadsTo 16777217 (R.remaining reader.old.end) (R.remaining reader.new.end) }
     ensures limit { ReadsWithin 16777217 (R.remaining reader.old.end) (R.remaining reader.new.end) }
@@ -54,13 +61,23 @@ pub fn engine<R: Read, W: Write>(
 
 /// The text of the report that a command makes of the bytes of a workload.
 fn answer(alloc: Global, input: &[u8], command: Command) -> Result<Vec<u8>, BenchFault>
-    ensures { Answers (solo_answer input.now command.history) result }
+    ensures answer { Answers (answer_of command input.now) result }
+    ensures one_thread { command.kind ≡ Kind.Replay → IfOk result (λ t. IsReplayOf input.now command.history t.items) }
 {
     let workload = match read_workload(alloc, input) {
         Ok(workload) => workload,
         Err(fault) => return Err(BenchFault::Load(fault)),
     };
+    text_of(alloc, &workload, command)
+}
+
+/// The text of the report that a command makes of a workload.
+fn text_of(alloc: Global, workload: &Workload, command: Command) -> Result<Vec<u8>, BenchFault>
+    ensures report { Makes (report_of command.kind workload.now command.history) result }
+    ensures one_thread { command.kind ≡ Kind.Replay → IfOk result (λ t. IsReplay workload.now command.history t.items) }
+{
     match command.kind {
-        Kind::Solo => solo_text(alloc, &workload, command.history),
+        Kind::Solo => solo_text(alloc, workload, command.history),
+        Kind::Replay => replay_text(alloc, workload, command.history),
     }
 }

@@ -1,4 +1,5 @@
 use crate::load_fault::LoadFault;
+use eevdf_steps::PlayFault;
 use thiserror::Error;
 
 /// Why a run of the workbench failed.
@@ -7,6 +8,9 @@ pub enum BenchFault {
     /// The workload is refused, or lacks the part that the command needs.
     #[error("{0}")]
     Load(LoadFault),
+    /// The order can't be played.
+    #[error("a bad order: {0:?}")]
+    Play(PlayFault),
     /// The reader failed.
     #[error("reading failed")]
     Read,

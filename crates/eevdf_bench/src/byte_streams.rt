@@ -13,10 +13,7 @@ use std::io::{Read, Write};
 const READ_LIMIT: usize = 16777217;
 
 /// Reads to the end, or to one byte past the limit of a workload, and no further.
-pub(crate) fn read_input<R: Read>(
-    alloc: Global,
-    reader: &mut Watched<R>,
-) -> Result<Vec<u8>, BenchFault>
+pub fn read_input<R: Read>(alloc: Global, reader: &mut Watched<R>) -> Result<Vec<u8>, BenchFault>
     requires { reader.old.failed ≡ false }
     ensures bytes { IfOk result (λ input. IfSome (R.remaining reader.old.end)
         (λ all. input.items ≡ take 16777217 all)) }
@@ -62,7 +59,7 @@ fn read_piece<R: Read>(reader: &mut Watched<R>, input: &mut Vec<u8>) -> Result<u
 }
 
 /// Writes a whole text and flushes. After a failure a beginning of the text is written.
-pub(crate) fn write_text<W: Write>(writer: &mut Watched<W>, text: &[u8]) -> Result<(), BenchFault>
+pub fn write_text<W: Write>(writer: &mut Watched<W>, text: &[u8]) -> Result<(), BenchFault>
     requires { writer.old.failed ≡ false }
     ensures written { OnOk result (Appends (W.contents writer.old.end) (W.contents writer.new.end) text.now) }
     ensures begun { OnErr result (HasBegun (W.contents writer.old.end) (W.contents writer.new.end) text.now) }

@@ -1,13 +1,13 @@
 //! The command for which the program's words ask.
 
-ghost use Rattle.std.specs.Prelude.{◌≡◌, IfOk, Err, Some, map, option_and_then, true, false, is_some};
-ghost use Rattle.clap.specs.Words.{app_of, kind_of, subcommand_name_of};
+ghost use Rattle.std.specs.Prelude.{◌≡◌, IfOk, Err, Some, map, option_map, option_and_then, true, false, is_some};
+ghost use Rattle.clap.specs.Words.{app_of, kind_of, subcommand_name_of, subcommand_rows_of};
 ghost use Rattle.clap.specs.declared.builder.command.Command.TheViews.{out-Command as fields_of};
 ghost use Rattle.eevdf_bench.specs.Command as spec;
 ghost use Rattle.eevdf_bench.specs.declared.command_words.WordFault.TheVariants.{Memory};
 
 use clap::error::ErrorKind;
-use clap::{ArgMatches, Error};
+use clap::{Arg, ArgAction, ArgMatches, Error};
 use std::alloc::{AllocError, Global};
 use std::convert::AsStr;
 use thiserror::Error;
@@ -17,6 +17,8 @@ use thiserror::Error;
 pub enum Kind {
     /// It applies the script's deeds in one thread.
     Solo,
+    /// It plays the programs' steps in the order that the workload gives.
+    Replay,
 }
 
 /// What the program's words ask for.
@@ -65,16 +67,15 @@ pub fn command_of<S: AsStr>(alloc: Global, words: &[S]) -> Result<Command, WordF
 {
     let matches = matches_of(alloc, words)?;
     let kind = kind_met(&matches).ok_or(WordFault::Words)?;
-    Ok(Command {
-        kind,
-        history: false,
-    })
+    let history = has_history(&matches);
+    Ok(Command { kind, history })
 }
 
 fn matches_of<'a, S: AsStr>(alloc: Global, words: &'a [S]) -> Result<ArgMatches<'a>, WordFault>
     ensures ok { IfOk result (λ m. (spec.is_taken (map S.text words.entry.now) ≡ true)
         × (is_some (option_and_then spec.kind_named (subcommand_name_of m)) ≡ true)
-        × (spec.subcommand_named (map S.text words.entry.now) ≡ subcommand_name_of m)) }
+        × (spec.subcommand_named (map S.text words.entry.now) ≡ subcommand_name_of m)
+        × (spec.has_history (map S.text words.entry.now) ≡ spec.history_in (option_map (λ p. p.1) (subcommand_rows_of m)))) }
     ensures refused { result ≡ Err WordFault.Words
         → spec.is_taken (map S.text words.entry.now) ≡ false }
 {
@@ -82,7 +83,7 @@ fn matches_of<'a, S: AsStr>(alloc: Global, words: &'a [S]) -> Result<ArgMatches<
     Ok(matches)
 }
 
-// The program as `clap` knows it: its subcommands, and no flag.
+// The program as `clap` knows it.
 fn program<'a>(alloc: Global) -> Result<clap::Command<'a>, AllocError>
     ensures model { IfOk result (λ c. app_of c ≡ spec.program) }
     ensures local { IfOk result (λ c. (fields_of c).has_globals ≡ false) }
@@ -91,7 +92,19 @@ fn program<'a>(alloc: Global) -> Result<clap::Command<'a>, AllocError>
         .subcommand_required(true)
         .disable_help_flag(true)
         .disable_help_subcommand(true)
-        .subcommand(clap::Command::new(alloc, "solo"))
+        .subcommand(subcommand(alloc, "solo")?)?
+        .subcommand(subcommand(alloc, "replay")?)
+}
+
+// A subcommand with its flag.
+fn subcommand<'a>(alloc: Global, name: &'a str) -> Result<clap::Command<'a>, AllocError>
+    ensures model { IfOk result (λ c. app_of c ≡ spec.subcommand name.entry.now) }
+    ensures local { IfOk result (λ c. (fields_of c).has_globals ≡ false) }
+{
+    let history = Arg::new(alloc, "history")
+        .long("history")
+        .action(ArgAction::SetTrue);
+    clap::Command::new(alloc, name).arg(history)
 }
 
 // The kind that the subcommand names.
@@ -101,11 +114,22 @@ fn kind_met(matches: &ArgMatches<'_>) -> Option<Kind>
     matches.subcommand_name().and_then(kind_named)
 }
 
+// Whether the subcommand's flag was given. `clap` holds a flag as the text `true` or `false`.
+fn has_history(matches: &ArgMatches<'_>) -> bool
+    ensures { result ≡ spec.history_in (option_map (λ p. p.1) (subcommand_rows_of matches.now)) }
+{
+    match matches.subcommand() {
+        Some((_, found)) => found.get_str("history") == Some("true"),
+        None => false,
+    }
+}
+
 fn kind_named(word: &str) -> Option<Kind>
     ensures { result ≡ spec.kind_named word.now }
 {
     match word {
         "solo" => Some(Kind::Solo),
+        "replay" => Some(Kind::Replay),
         _ => None,
     }
 }

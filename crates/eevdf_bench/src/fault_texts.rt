@@ -1,12 +1,13 @@
-ghost use Rattle.std.specs.Prelude.{◌≡◌, ◌++◌, OnOk, IfOk};
+ghost use Rattle.std.specs.Prelude.{◌≡◌, ◌++◌, OnOk, IfOk, decimal};
 ghost use Rattle.eevdf_bench.specs.Text.{task_text};
-ghost use Rattle.eevdf_bench.specs.TextFault.{program_key, operation_key, key_text, setup_fault_text, load_fault_text, bench_fault_text, fault_line, setup_status, load_status};
+ghost use Rattle.eevdf_bench.specs.TextFault.{program_key, operation_key, place_key, key_text, setup_fault_text, load_fault_text, play_fault_text, bench_fault_text, fault_line, setup_status, load_status, play_status};
 ghost use Rattle.eevdf_bench.specs.TextFault as texts;
 
 use crate::bench_fault::BenchFault;
 use crate::load_fault::{Key, LoadFault};
 use crate::text_numbers::{push_number, push_task};
 use eevdf_ops::SetupFault;
+use eevdf_steps::PlayFault;
 use std::alloc::{AllocError, Global};
 
 /// The line that is printed for a fault, with its end.
@@ -20,7 +21,7 @@ pub fn fault_text(alloc: Global, fault: &BenchFault) -> Result<Vec<u8>, AllocErr
     Ok(text)
 }
 
-/// The program's status after a fault: 1 where the workload is refused, 3 where memory, reading or writing
+/// The program's status after a fault: 1 where the workload or its order is refused, 3 where memory, reading or writing
 /// failed.
 pub fn status_of(fault: &BenchFault) -> u8
     ensures { result ≡ texts.status_of fault.now }
@@ -28,7 +29,8 @@ pub fn status_of(fault: &BenchFault) -> u8
     match fault {
         BenchFault::Load(LoadFault::Memory) => 3,
         BenchFault::Load(LoadFault::Setup(SetupFault::Memory)) => 3,
-        BenchFault::Load(_) => 1,
+        BenchFault::Play(PlayFault::Memory) => 3,
+        BenchFault::Load(_) | BenchFault::Play(_) => 1,
         BenchFault::Read | BenchFault::Write | BenchFault::Memory => 3,
     }
 }
@@ -38,6 +40,7 @@ fn push_bench_fault(text: &mut Vec<u8>, fault: BenchFault) -> Result<(), AllocEr
 {
     match fault {
         BenchFault::Load(fault) => push_load_fault(text, fault),
+        BenchFault::Play(fault) => push_play_fault(text, fault),
         BenchFault::Read => text.extend_from_slice(b"reading"),
         BenchFault::Write => text.extend_from_slice(b"writing"),
         BenchFault::Memory => text.extend_from_slice(b"memory"),
@@ -87,6 +90,44 @@ fn push_setup_fault(text: &mut Vec<u8>, fault: SetupFault) -> Result<(), AllocEr
         SetupFault::BadPull { cpu, at } => push_at_operation(text, b"bad pull at ", cpu, at),
         SetupFault::Memory => text.extend_from_slice(b"memory"),
     }
+}
+
+fn push_play_fault(text: &mut Vec<u8>, fault: PlayFault) -> Result<(), AllocError>
+    ensures { OnOk result (text.new.items ≡ text.old.items ++ play_fault_text fault) }
+{
+    match fault {
+        PlayFault::TooLong => text.extend_from_slice(b"order longer than 1000000"),
+        PlayFault::Memory => text.extend_from_slice(b"memory"),
+        PlayFault::NoCaller { at } => push_at_place(text, at, b": no caller"),
+        PlayFault::Done { at } => push_at_place(text, at, b": done"),
+        PlayFault::Blocked { at, cpu } => {
+            push_at_place(text, at, b": blocked on ")?;
+            push_number(text, cpu.get())
+        }
+        PlayFault::Short { caller } => push_numbered(text, b"order short at ", caller as u64),
+    }
+}
+
+/// Writes words with a number after them.
+fn push_numbered(text: &mut Vec<u8>, words: &[u8], number: u64) -> Result<(), AllocError>
+    ensures { OnOk result (text.new.items ≡ text.old.items ++ (words.now ++ decimal number)) }
+{
+    text.extend_from_slice(words)?;
+    push_number(text, number)
+}
+
+fn push_place_key(text: &mut Vec<u8>, at: usize) -> Result<(), AllocError>
+    ensures { OnOk result (text.new.items ≡ text.old.items ++ place_key at) }
+{
+    push_numbered(text, b"order at ", at as u64)
+}
+
+/// Writes the key of a place of the order with words after it.
+fn push_at_place(text: &mut Vec<u8>, at: usize, words: &[u8]) -> Result<(), AllocError>
+    ensures { OnOk result (text.new.items ≡ text.old.items ++ (place_key at ++ words.now)) }
+{
+    push_place_key(text, at)?;
+    text.extend_from_slice(words)
 }
 
 fn push_program_key(text: &mut Vec<u8>, cpu: usize) -> Result<(), AllocError>
@@ -140,6 +181,8 @@ fn push_key(text: &mut Vec<u8>, key: Key) -> Result<(), AllocError>
         Key::Programs => text.extend_from_slice(b"program"),
         Key::Program(cpu) => push_program_key(text, cpu),
         Key::Op(cpu, place) => push_operation_key(text, cpu, place),
+        Key::Orders => text.extend_from_slice(b"order"),
+        Key::Order(place) => push_place_key(text, place),
         Key::Scripts => text.extend_from_slice(b"script"),
         Key::Script(place) => {
             text.extend_from_slice(b"script at ")?;
@@ -151,12 +194,14 @@ fn push_key(text: &mut Vec<u8>, key: Key) -> Result<(), AllocError>
 #[cfg(test)]
 mod tests {
     use super::*;
+    use eevdf_ops::CpuId;
     use std::test::Fail;
 
     #[test]
     fn each_fault_has_its_line_and_status(rt: HostRuntime) -> Result<(), Fail> {
         let key = Key::Nice(0);
         let bad = Key::Op(0, 12);
+        let last = CpuId::new(15).ok_or("cpu")?;
         let cases = [
             (
                 BenchFault::Load(LoadFault::TooLarge),
@@ -236,6 +281,47 @@ mod tests {
                 "fault: memory\n",
             ),
             (BenchFault::Load(LoadFault::Memory), 3, "fault: memory\n"),
+            (
+                BenchFault::Load(LoadFault::BadValue { key: Key::Orders }),
+                1,
+                "fault: bad value at order\n",
+            ),
+            (
+                BenchFault::Load(LoadFault::BadValue { key: Key::Order(1) }),
+                1,
+                "fault: bad value at order at 1\n",
+            ),
+            (
+                BenchFault::Load(LoadFault::Missing { key: Key::Orders }),
+                1,
+                "fault: missing order\n",
+            ),
+            (
+                BenchFault::Play(PlayFault::TooLong),
+                1,
+                "fault: order longer than 1000000\n",
+            ),
+            (
+                BenchFault::Play(PlayFault::NoCaller { at: 1 }),
+                1,
+                "fault: order at 1: no caller\n",
+            ),
+            (
+                BenchFault::Play(PlayFault::Done { at: 4 }),
+                1,
+                "fault: order at 4: done\n",
+            ),
+            (
+                BenchFault::Play(PlayFault::Blocked { at: 4, cpu: last }),
+                1,
+                "fault: order at 4: blocked on 15\n",
+            ),
+            (
+                BenchFault::Play(PlayFault::Short { caller: 2 }),
+                1,
+                "fault: order short at 2\n",
+            ),
+            (BenchFault::Play(PlayFault::Memory), 3, "fault: memory\n"),
             (BenchFault::Read, 3, "fault: reading\n"),
             (BenchFault::Write, 3, "fault: writing\n"),
             (BenchFault::Memory, 3, "fault: memory\n"),

@@ -22,6 +22,10 @@ pub enum Key {
     Program(usize),
     /// One operation of one program: the CPU, then the place
     Op(usize, usize),
+    /// `order`, the whole array
+    Orders,
+    /// One place of the order
+    Order(usize),
     /// `script`, the whole array
     Scripts,
     /// One deed of the script

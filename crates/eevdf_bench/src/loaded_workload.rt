@@ -4,10 +4,12 @@ ghost use Rattle.eevdf_bench.specs.Meaning.{allowed};
 use eevdf_ops::{Deed, Setup};
 use std::marker::Model;
 
-/// A workload: the setup of a machine, and the deeds to be done on it, if it lists any.
+/// A workload: the setup of a machine, the order in which its callers are to take their steps and the deeds to be
+/// done on it, if it lists them.
 #[derive(Drop)]
 pub struct Workload {
     setup: Setup,
+    order: Option<Vec<usize>>,
     script: Option<Vec<Deed>>,
 }
 
@@ -17,7 +19,7 @@ impl Model for Workload {
 
     ghost Value = { meant.Workload };
 
-    ghost view = { λ w. record { setup = w.setup; script = option_map (λ ds. ds.items) w.script } };
+    ghost view = { λ w. record { setup = w.setup; order = option_map (λ ps. ps.items) w.order; script = option_map (λ ds. ds.items) w.script } };
 
     ghost invariant = { λ w. meant.allowed w.setup (option_map (λ ds. ds.items) w.script) ≡ Ok tt };
 }
@@ -25,12 +27,20 @@ impl Model for Workload {
 impl Workload {
     ghost use Rattle.std.specs.Prelude.{option_map};
 
-    /// A workload of this setup and this script.
-    pub(crate) fn new(setup: Setup, script: Option<Vec<Deed>>) -> Workload
+    /// A workload of this setup, this order and this script.
+    pub(crate) fn new(
+        setup: Setup,
+        order: Option<Vec<usize>>,
+        script: Option<Vec<Deed>>,
+    ) -> Workload
         requires { allowed setup (option_map (λ ds. ds.items) script) ≡ Ok tt }
-        ensures { result ≡ record { setup = setup; script = option_map (λ ds. ds.items) script } }
+        ensures { result ≡ record { setup = setup; order = option_map (λ ps. ps.items) order; script = option_map (λ ds. ds.items) script } }
     {
-        Workload { setup, script }
+        Workload {
+            setup,
+            order,
+            script,
+        }
     }
 
     /// What the machine is set up from.
@@ -38,6 +48,16 @@ impl Workload {
         ensures { result.now ≡ self.now.setup }
     {
         &self.setup
+    }
+
+    /// The callers in the order in which they are to take their steps, if the workload lists them.
+    pub fn order(&self) -> Option<&[usize]>
+        ensures { option_map (λ ps. ps.now) result ≡ self.now.order }
+    {
+        match &self.order {
+            Some(callers) => Some(callers.as_slice()),
+            None => None,
+        }
     }
 
     /// The deeds to be done on the machine, in order, if the workload lists any. The setup allows each.

@@ -10,6 +10,7 @@ mod document_keys;
 mod no_memory;
 mod number_text;
 mod operation_text;
+mod order_list;
 mod program_lists;
 mod script_list;
 mod task_table;
@@ -18,6 +19,7 @@ mod word_list;
 use crate::load_fault::{Key, LoadFault};
 use crate::loaded_workload::Workload;
 use crate::reading::document_keys::version;
+use crate::reading::order_list::order;
 use crate::reading::program_lists::programs;
 use crate::reading::script_list::script;
 use crate::reading::task_table::tasks;
@@ -59,10 +61,11 @@ fn workload_of(alloc: Global, document: &Table) -> Result<Workload, LoadFault>
     version(document)?;
     let tasks = tasks(alloc, document)?;
     let programs = programs(alloc, document)?;
+    let order = order(alloc, document)?;
     let script = script(alloc, document)?;
     let setup = setup_of(alloc, &tasks, &programs)?;
     check_script(&setup, &script)?;
-    Ok(Workload::new(setup, script))
+    Ok(Workload::new(setup, order, script))
 }
 
 #[tactic(auto, unfolding(crate::specs::Meaning::setup_of))]

@@ -1,6 +1,8 @@
 ghost use Rattle.std.specs.Prelude.{◌≡◌, ◌++◌, ◌<◌, OnOk};
 ghost use Rattle.eevdf_queue.specs.State.{View};
-ghost use Rattle.eevdf_bench.specs.TextQueue.{queue_text, task_lines, asleep_lines, task_at, asleep_at, is_task};
+ghost use Rattle.eevdf_queue.specs.Kept.{IsKept};
+ghost use Rattle.eevdf_queue.specs.Candidate.{is_running};
+ghost use Rattle.eevdf_bench.specs.TextQueue.{queue_text, task_lines, asleep_lines, task_at, asleep_at};
 
 use crate::text_tasks::{push_asleep_line, push_load_line, push_task_line};
 use eevdf_queue::laws::every_queue;
@@ -32,10 +34,10 @@ fn push_task_lines(text: &mut Vec<u8>, queue: &Queue) -> Result<(), AllocError>
 fn push_asleep_lines(text: &mut Vec<u8>, queue: &Queue) -> Result<(), AllocError>
     ensures { OnOk result (text.new.items ≡ text.old.items ++ asleep_lines queue.now.state) }
 {
+    every_queue(queue);
     for number in 0..NUMBERS {
         push_asleep_at(text, queue, number)?;
     }
-    every_queue(queue);
     Ok(())
 }
 
@@ -50,7 +52,8 @@ fn push_task_at(text: &mut Vec<u8>, queue: &Queue, number: u64) -> Result<(), Al
 }
 
 fn push_asleep_at(text: &mut Vec<u8>, queue: &Queue, number: u64) -> Result<(), AllocError>
-    requires { number < 1024 }
+    requires number { number < 1024 }
+    requires kept { IsKept queue.now.state }
     ensures { OnOk result (text.new.items ≡ text.old.items ++ asleep_at queue.now.state number) }
 {
     match TaskId::new(number) {
@@ -71,9 +74,9 @@ fn push_if_runnable(text: &mut Vec<u8>, queue: &Queue, task: TaskId) -> Result<(
 }
 
 fn push_if_asleep(text: &mut Vec<u8>, queue: &Queue, task: TaskId) -> Result<(), AllocError>
+    requires kept { IsKept queue.now.state }
     ensures { OnOk result (text.new.items ≡ text.old.items ++ asleep_at queue.now.state task) }
 {
-    every_queue(queue);
     match (queue.asleep(task), queue.lag_of(task)) {
         (true, Some(lag)) => push_asleep_line(text, task, lag),
         _ => Ok(()),
@@ -81,7 +84,7 @@ fn push_if_asleep(text: &mut Vec<u8>, queue: &Queue, task: TaskId) -> Result<(),
 }
 
 fn runs(running: Option<TaskId>, task: TaskId) -> bool
-    ensures { result ≡ is_task running task }
+    ensures { result ≡ is_running running task }
 {
     running == Some(task)
 }

@@ -22,13 +22,44 @@ fn solo_is_read(rt: HostRuntime) -> Result<(), Fail> {
 }
 
 #[test]
+fn each_command_has_its_flag(rt: HostRuntime) {
+    let alloc = rt.alloc();
+    for (name, kind) in [("solo", Kind::Solo), ("replay", Kind::Replay)] {
+        let plain = Command {
+            kind,
+            history: false,
+        };
+        let with_history = Command {
+            kind,
+            history: true,
+        };
+        assert!(rt; command_of(alloc, &["eevdf", name]) == Ok(plain), "{name}");
+        assert!(rt;
+            command_of(alloc, &["eevdf", name, "--history"]) == Ok(with_history),
+            "{name}"
+        );
+        assert!(rt; is_refused(alloc, &["eevdf", "--history", name]), "{name}");
+        assert!(rt;
+            is_refused(alloc, &["eevdf", name, "--history", "--history"]),
+            "{name}"
+        );
+        assert!(rt;
+            is_refused(alloc, &["eevdf", name, "--history=true"]),
+            "{name}"
+        );
+        assert!(rt; is_refused(alloc, &["eevdf", name, "-h"]), "{name}");
+    }
+}
+
+#[test]
 fn other_words_are_refused(rt: HostRuntime) {
     let alloc = rt.alloc();
     assert!(rt; is_refused(alloc, &[]));
     assert!(rt; is_refused(alloc, &["eevdf"]));
     assert!(rt; is_refused(alloc, &["eevdf", "stop"]));
     assert!(rt; is_refused(alloc, &["eevdf", "solo", "x"]));
-    assert!(rt; is_refused(alloc, &["eevdf", "solo", "--history"]));
+    assert!(rt; is_refused(alloc, &["eevdf", "solo", "replay"]));
+    assert!(rt; is_refused(alloc, &["eevdf", "run"]));
 }
 
 #[test]

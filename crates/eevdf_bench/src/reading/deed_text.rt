@@ -1,5 +1,6 @@
 ghost use Rattle.std.specs.Prelude.{◌≡◌, option_and_then};
-ghost use Rattle.eevdf_bench.specs.Words.{deed_in, deed_of, deed_on, operation_of, sender_of, wake_of, words};
+ghost use Rattle.eevdf_ops.specs.Programs.{deed_of};
+ghost use Rattle.eevdf_bench.specs.Words.{deed_in, deed_on, operation_of, sender_of, wake_of, words};
 
 use crate::reading::argument_words::{cpu, only_cpu, task};
 use crate::reading::operation_text::operation_of;

@@ -1,8 +1,8 @@
 use Rattle.eevdf_bench.proofs.EngineAnswers.{refused, answered}
 use Rattle.eevdf_bench.proofs.bench_engine.answer.Goals as goal
 
-pub returns-in-Err : goal.returns-in-Err
-returns-in-Err c = refused c.args.input.now c.args.command.history c.in-Err.fault c.in-Err.ensures
+pub returns-in-Err-clause-answer : goal.returns-in-Err-clause-answer
+returns-in-Err-clause-answer c = refused c.args.command c.args.input.now c.in-Err.fault c.in-Err.ensures
 
-pub returns : goal.returns
-returns c = answered c.args.input.now c.args.command.history c.in-Ok.workload c.solo_text.result c.in-Ok.ensures c.solo_text.ensures
+pub returns-clause-answer : goal.returns-clause-answer
+returns-clause-answer c = answered c.args.command c.args.input.now c.in-Ok.workload c.text_of.result c.in-Ok.ensures c.text_of.ensures.report

@@ -12,7 +12,7 @@ use Rattle.clap.specs.declared.parser.matches.ArgMatches.{ArgMatches}
 use Rattle.clap.specs.declared.parser.matches.ArgMatches.TheViews.{out-ArgMatches, out-SubCommand}
 use Rattle.std.specs.Box.{box_value}
 use Rattle.clap.specs.declared.parser.matches.SubCommand.{SubCommand}
-use Rattle.eevdf_bench.specs.Command.{kind_named, program, subcommand_named}
+use Rattle.eevdf_bench.specs.Command.{has_history, history_in, kind_named, program, subcommand_named}
 use Rattle.eevdf_bench.proofs.command_words.matches_of.Goals as goal
 
 -- `clap` tells all of a parse by this command line
@@ -42,6 +42,12 @@ name_met : (c : Command) (words : List Text) (m : ArgMatches) → app_of c ≡ p
 name_met c words m is h =
     let rows : subcommand_rows_of m ≡ subcommand_of (app_of c) words = (h (ap is_simple is)).1 in
     sym (ap (λ a. option_map (λ (p : Text × List Row). p.0) (subcommand_of a words)) is) ∙ sym (ap (option_map (λ (p : Text × List Row). p.0)) rows) ∙ name_of_rows (out-ArgMatches m).subcommand
+
+-- and so are its matches
+rows_met : (c : Command) (words : List Text) (m : ArgMatches) → app_of c ≡ program → HasMatchesOf (app_of c) words m → has_history words ≡ history_in (option_map (λ p. p.1) (subcommand_rows_of m))
+rows_met c words m is h =
+    sym (ap (λ a. history_in (option_map (λ (p : Text × List Row). p.1) (subcommand_of a words))) is)
+    ∙ sym (ap (λ (o : Option (Text × List Row)). history_in (option_map (λ p. p.1) o)) (h (ap is_simple is)).1)
 
 -- and names a kind
 module _ (P : Text → Bool) where
@@ -86,4 +92,4 @@ returns-clause-ok g c =
     let no_fault = ap (λ a. fault_of a words) (sym is_program) ∙ parse.kinds (ap is_simple_and_free is_program) in
     let name = name_met _ words matches is_program parse.matches in
     let met = subcommand_is_met _ matches is_program known.local parse.parsed in
-    (ap is_empty no_fault, kind_is_met words _ name (has_name matches met), name)
+    (ap is_empty no_fault, kind_is_met words _ name (has_name matches met), name, rows_met _ words matches is_program parse.matches)

@@ -1,0 +1,114 @@
+-- From what an order comes to, to what is answered.
+use Rattle.std.proofs.Common.{◌≡◌, ◌≢◌, ◌⊎◌, ℕ, ◌+◌, Bool, true, false, List, [], ◌∷◌, length, refl, sym, ap, subst, ◌∙◌, inl, inr}
+use Rattle.std.specs.Prelude.{nat_lt, if◌then◌else◌, Option, Some, None, Ok, Err}
+use Rattle.std.specs.Option.{option_map}
+use Rattle.eevdf_ops.specs.Setup.{Setup, allows, homes_of}
+use Rattle.std.specs.List.{list_all}
+use Rattle.eevdf_ops.specs.Programs.{deeds_of}
+use Rattle.eevdf_ops.specs.Followed.{FollowsPrograms}
+use Rattle.eevdf_ops.specs.Histories.{IsOneThread}
+use Rattle.eevdf_ops.specs.declared.deeds.Line.{Line}
+use Rattle.eevdf_ops.specs.Machine.{Machine, start}
+use Rattle.eevdf_steps.specs.Commits.{deeds_committed}
+use Rattle.eevdf_bench.specs.Replays.{IsReplay}
+use Rattle.eevdf_ops.specs.Outcome.{Outcome, machine_of}
+use Rattle.eevdf_steps.specs.declared.step_fault.StepFault.{StepFault}
+use Rattle.eevdf_steps.specs.declared.step_fault.StepFault.TheVariants as step
+use Rattle.eevdf_steps.specs.declared.play_fault.PlayFault.{PlayFault}
+use Rattle.eevdf_steps.specs.declared.play_fault.PlayFault.TheVariants.{TooLong, Memory, NoCaller, Done, Blocked, Short}
+use Rattle.eevdf_steps.specs.Plan.{Plan, plan_of}
+use Rattle.eevdf_steps.specs.Counters.{Counters, counted, refusal, unfinished}
+use Rattle.eevdf_steps.specs.Orders.{counters_at_start, fault_or, most_places, order_fault, play_fault}
+use Rattle.eevdf_steps.specs.MicroState.{micro}
+use Rattle.eevdf_steps.specs.Plays.{IsOutcome, IsPlay}
+use Rattle.eevdf_bench.specs.declared.bench_fault.BenchFault.{BenchFault}
+use Rattle.eevdf_bench.specs.declared.bench_fault.BenchFault.TheVariants as bench
+use Rattle.eevdf_bench.specs.Meaning.{Workload}
+use Rattle.eevdf_bench.specs.Runs.{IsFault, Makes, order_report, play_refusal, replay_report, state_report, unless}
+use Rattle.eevdf_bench.specs.TextReport.{report_text}
+use Rattle.eevdf_bench.proofs.LeftLists.{all_left}
+
+-- no place of an order, nor its end, is too long
+end_in_time : (u : Option ℕ) → option_map (λ (p : ℕ). Short p) u ≢ Some TooLong
+end_in_time None e = cc
+end_in_time (Some p) e = cc
+
+place_in_time : (at : ℕ) (f : Option StepFault) (later : Option PlayFault) → later ≢ Some TooLong → fault_or at f later ≢ Some TooLong
+place_in_time at None later in_time e = in_time e
+place_in_time at (Some step.NoCaller) later in_time e = cc
+place_in_time at (Some step.Done) later in_time e = cc
+place_in_time at (Some (step.Blocked cpu holder)) later in_time e = cc
+
+order_in_time : (plan : Plan) (c : Counters) (at : ℕ) (order : List ℕ) → order_fault plan c at order ≢ Some TooLong
+order_in_time plan c at [] = end_in_time (unfinished plan c)
+order_in_time plan c at (p ∷ order) =
+    place_in_time at (refusal plan c p) (order_fault plan (counted c p) (at + 1) order) (order_in_time plan (counted c p) (at + 1) order)
+
+-- an order that isn't too long has no such fault
+in_time : (plan : Plan) (order : List ℕ) → nat_lt most_places (length order) ≡ false → play_fault plan order ≢ Some TooLong
+in_time plan order short e =
+    order_in_time plan (counters_at_start plan) 0 order
+    (subst (λ (b : Bool). (if b then Some TooLong else order_fault plan (counters_at_start plan) 0 order) ≡ Some TooLong) short e)
+
+fault_made : (f : PlayFault) → IsFault (bench.Play f) (play_refusal f)
+fault_made TooLong = inl refl
+fault_made Memory = inr ((λ e. cc), refl)
+fault_made (NoCaller at) = inl refl
+fault_made (Done at) = inl refl
+fault_made (Blocked at cpu) = inl refl
+fault_made (Short caller) = inl refl
+
+memory_made : (fault : Option PlayFault) (text : List ℕ) → fault ≢ Some TooLong → Makes (unless fault text) (Err bench.Memory)
+memory_made None text in_time = refl
+memory_made (Some p) text in_time = inr ((λ e. in_time (ap (λ (q : PlayFault). Some q) e)), refl)
+
+-- the fault of an order that isn't played
+refused : (plan : Plan) (order text : List ℕ) (f : PlayFault) → (play_fault plan order ≡ Some f) ⊎ ((nat_lt most_places (length order) ≡ false) × (f ≡ Memory))
+    → Makes (unless (play_fault plan order) text) (Err (play_refusal f))
+refused plan order text f (inl e) = subst (λ (o : Option PlayFault). Makes (unless o text) (Err (play_refusal f))) (sym e) (fault_made f)
+refused plan order text f (inr e) =
+    subst (λ (p : PlayFault). Makes (unless (play_fault plan order) text) (Err (play_refusal p))) (sym e.1)
+    (memory_made (play_fault plan order) text (in_time plan order e.0))
+
+pub not_replayed : (w : Workload) (history : Bool) (s : Setup) (order : List ℕ) (f : PlayFault) (g : BenchFault) → Some order ≡ w.order → s ≡ w.setup → IsPlay s order (Err f) → g ≡ play_refusal f
+    → Makes (replay_report w history) (Err g)
+not_replayed w history s order f g there same is e =
+    subst (λ (b : BenchFault). Makes (replay_report w history) (Err b)) (sym e)
+    (subst (λ (o : Option (List ℕ)). Makes (order_report w.setup o history) (Err (play_refusal f))) there
+    (subst (λ (t : Setup). Makes (order_report t (Some order) history) (Err (play_refusal f))) same
+    (refused (plan_of s) order _ f is)))
+
+-- the report of an outcome is that of the state that the order leaves
+reported : (s : Setup) (order : List ℕ) (history : Bool) (o : Outcome) → IsOutcome (record { plan = plan_of s; state = micro s order }) o
+    → report_text o.lines (machine_of o.queues) o.left history ≡ state_report s (micro s order) history
+reported s order history o is =
+    ap (λ (ls : List Line). report_text ls (machine_of o.queues) o.left history) is.lines
+    ∙ ap (λ (m : Machine). report_text (micro s order).lines m o.left history) is.machine
+    ∙ ap (λ (l : List (List ℕ)). report_text (micro s order).lines (micro s order).work.machine l history) (all_left _ o is)
+
+-- and answers an order that is played
+played : (s : Setup) (order text : List ℕ) (history : Bool) (o : Outcome) → IsPlay s order (Ok o) → text ≡ report_text o.lines (machine_of o.queues) o.left history
+    → order_report s (Some order) history ≡ Ok text
+played s order text history o is t =
+    ap (λ (f : Option PlayFault). unless f (state_report s (micro s order) history)) is.0
+    ∙ ap (λ (bs : List ℕ). Ok bs) (sym (t ∙ reported s order history o is.1))
+
+pub replayed : (w : Workload) (history : Bool) (s : Setup) (order text : List ℕ) (o : Outcome) → Some order ≡ w.order → s ≡ w.setup → IsPlay s order (Ok o)
+    → text ≡ report_text o.lines (machine_of o.queues) o.left history → replay_report w history ≡ Ok text
+replayed w history s order text o there same is t =
+    ap (λ (p : Option (List ℕ)). order_report w.setup p history) (sym there)
+    ∙ ap (λ (u : Setup). order_report u (Some order) history) (sym same)
+    ∙ played s order text history o is t
+
+-- the outcome is one thread's, and follows the programs
+pub replay_is : (w : Workload) (history : Bool) (s : Setup) (order text : List ℕ) (o : Outcome) → Some order ≡ w.order → s ≡ w.setup
+    → IsOneThread (homes_of s) (start s) (deeds_committed s order) o → list_all (allows s) (deeds_of o.lines) ≡ true → FollowsPrograms s o → text ≡ report_text o.lines (machine_of o.queues) o.left history → IsReplay w history text
+replay_is w history s order text o there same one allowed follows t = record {
+  order = order;
+  outcome = o;
+  listed = sym there;
+  one_thread = subst (λ (u : Setup). IsOneThread (homes_of u) (start u) (deeds_committed u order) o) same one;
+  allowed = subst (λ (u : Setup). list_all (allows u) (deeds_of o.lines) ≡ true) same allowed;
+  programs = subst (λ (u : Setup). FollowsPrograms u o) same follows;
+  says = t;
+}

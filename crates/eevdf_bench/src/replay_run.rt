@@ -1,0 +1,41 @@
+//! Playing a workload's order.
+
+ghost use Rattle.std.specs.Prelude.{◌≡◌, IfOk};
+ghost use Rattle.eevdf_bench.specs.Replays.{IsReplay};
+ghost use Rattle.eevdf_bench.specs.Runs.{Makes, play_refusal, replay_report};
+
+use crate::bench_fault::BenchFault;
+use crate::load_fault::{Key, LoadFault};
+use crate::loaded_workload::Workload;
+use crate::text_report::report;
+use eevdf_steps::{PlayFault, play};
+use std::alloc::Global;
+
+/// The report of what the programs' steps come to in the workload's order, with the requests that are left. A
+/// workload without an order is refused before anything else is done, and then an order that can't be played to
+/// its end.
+pub fn replay_text(alloc: Global, workload: &Workload, history: bool) -> Result<Vec<u8>, BenchFault>
+    ensures report { Makes (replay_report workload.now history) result }
+    ensures one_thread { IfOk result (λ t. IsReplay workload.now history t.items) }
+{
+    let Some(order) = workload.order() else {
+        return Err(BenchFault::Load(LoadFault::Missing { key: Key::Orders }));
+    };
+    let outcome = match play(alloc, workload.setup(), order) {
+        Ok(outcome) => outcome,
+        Err(fault) => return Err(refusal(fault)),
+    };
+    match report(alloc, &outcome, history) {
+        Ok(text) => Ok(text),
+        Err(_) => Err(BenchFault::Memory),
+    }
+}
+
+fn refusal(fault: PlayFault) -> BenchFault
+    ensures { result ≡ play_refusal fault }
+{
+    match fault {
+        PlayFault::Memory => BenchFault::Memory,
+        fault => BenchFault::Play(fault),
+    }
+}
