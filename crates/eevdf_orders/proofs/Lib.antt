@@ -1,0 +1,5 @@
+pub mod CutWorkloads
+pub mod GoingAround
+pub mod PlacedOrders
+pub mod SeedReading
+pub mod StepsLeft

@@ -1,0 +1,19 @@
+use Rattle.std.proofs.Common.{ℕ, List, subst}
+use Rattle.eevdf_orders.specs.OrderedWorkload.{RefusesAs}
+use Rattle.eevdf_orders.proofs.CutWorkloads.{begun_whole, ordered_as, printed_whole, refused_whole}
+use Rattle.eevdf_orders.proofs.ordered_workload.print_ordered.Goals as goal
+
+pub returns-in-Err-ordered_text-clause-refused : goal.returns-in-Err-ordered_text-clause-refused
+returns-in-Err-ordered_text-clause-refused g c =
+    refused_whole _ c.in-Ok.input.items c.in-Err-ordered_text.fault c.in-Ok.ensures.bytes
+    (subst (λ (bytes : List ℕ). RefusesAs bytes c.in-Err-ordered_text.fault) c.deref.ensures.value c.in-Err-ordered_text.ensures.refused)
+
+pub returns-in-Ok-write_text-clause-printed : goal.returns-in-Ok-write_text-clause-printed
+returns-in-Ok-write_text-clause-printed g c =
+    printed_whole _ c.in-Ok.input.items c.deref-2.result.now _ _ c.in-Ok.ensures.bytes
+    (ordered_as _ _ _ _ c.deref.ensures.value c.deref-2.ensures.value c.in-Ok-ordered_text.ensures.ordered) c.in-Ok-write_text.ensures.written
+
+pub returns-clause-begun : goal.returns-clause-begun
+returns-clause-begun g c e =
+    begun_whole _ c.in-Ok.input.items c.deref-2.result.now _ _ c.in-Ok.ensures.bytes
+    (ordered_as _ _ _ _ c.deref.ensures.value c.deref-2.ensures.value c.in-Ok-ordered_text.ensures.ordered) c.in-Err-write_text.ensures.begun

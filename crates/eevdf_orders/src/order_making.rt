@@ -1,0 +1,86 @@
+//! Making an order by playing it.
+
+ghost use Rattle.std.specs.Prelude.{◌≡◌, ◌-◌, ◌<◌, ◌≤◌, true, is_some, ℕ, List, Err, None, IfOk};
+ghost use Rattle.eevdf_orders.specs.CallerSteps.{IsStepAmong, IsStepOf};
+ghost use Rattle.eevdf_steps.specs.Counters.{ready};
+ghost use Rattle.eevdf_steps.specs.Orders.{play_fault};
+ghost use Rattle.eevdf_steps.specs.Plan.{callers, plan_of};
+
+use crate::caller_choice::Choice;
+use eevdf_ops::Setup;
+use eevdf_steps::Player;
+use std::alloc::Global;
+use thiserror::Error;
+
+/// An order has at most so many places.
+const MOST_PLACES: usize = 1_000_000;
+
+/// Why no order was made.
+#[derive(Clone, Copy, PartialEq, Eq, Debug, Error)]
+pub enum OrderFault {
+    /// There was no memory.
+    #[error("out of memory")]
+    Memory,
+    /// The callers have more than 1000000 steps to do.
+    #[error("order longer than 1000000")]
+    TooLong,
+}
+
+/// An order in which the callers of a setup can do all their steps: at each place a caller that may step, and at the
+/// end every caller is done. `TooLong` comes exactly where every order is refused.
+pub fn order_of(alloc: Global, setup: &Setup, mut choice: Choice) -> Result<Vec<usize>, OrderFault>
+    ensures faultless { IfOk result (λ order. play_fault (plan_of setup.now) order.items ≡ None) }
+    ensures too_long { result ≡ Err OrderFault.TooLong → (order : List ℕ) → is_some (play_fault (plan_of setup.now) order) ≡ true }
+{
+    let Ok(mut player) = Player::open(alloc, setup) else {
+        return Err(OrderFault::Memory);
+    };
+    let count = setup.cpus();
+    let mut order = Vec::new(alloc);
+    let mut last = count - 1;
+    for _place in 0..MOST_PLACES {
+        if player.ready().is_none() {
+            return Ok(order);
+        }
+        last = step_from(&mut player, count, choice.first(count, last));
+        if order.push(last).is_err() {
+            return Err(OrderFault::Memory);
+        }
+    }
+    match player.ready() {
+        None => Ok(order),
+        Some(_) => Err(OrderFault::TooLong),
+    }
+}
+
+/// Does the next step of the first caller that may step, going around from one on.
+fn step_from(player: &mut Player, count: usize, first: usize) -> usize
+    requires count { count ≡ callers player.old.plan }
+    requires first { first < count }
+    requires some { is_some (ready player.old.plan player.old.state.progress.counters) ≡ true }
+    ensures { IsStepOf player.old result player.new }
+{
+    if let Some(caller) = step_among(player, first, count) {
+        return caller;
+    }
+    match step_among(player, 0, first) {
+        Some(caller) => caller,
+        None => unreachable!(),
+    }
+}
+
+/// Does the next step of the first caller, of those from one to before another, that may step.
+fn step_among(player: &mut Player, from: usize, end: usize) -> Option<usize>
+    requires { from ≤ end }
+    ensures { IsStepAmong player.old from (end - from) result player.new }
+{
+    for caller in from..end {
+        if player.step(caller).is_ok() {
+            return Some(caller);
+        }
+    }
+    None
+}
+
+#[cfg(test)]
+mod tests;

@@ -1,0 +1,64 @@
+use super::order_of;
+use crate::caller_choice::Choice;
+use eevdf_bench::read_workload;
+use eevdf_steps::play;
+use std::alloc::Global;
+use std::process::Abort;
+use std::test::Fail;
+
+const WORKLOADS: [&[u8]; 4] = [
+    b"version = 1\nprogram = [[\"pull 1\", \"pull 1\"], [\"pull 2\", \"pull 2\"], [\"pull 0\", \"pull 0\"]]\n[[task]]\n[[task]]\n[[task]]\n",
+    b"version = 1\nprogram = [[\"pick\", \"tick 5\", \"sleep 0\", \"drain\", \"post 2\"], [\"post 0\", \"drain\", \"yield\"], [\"drain\", \"sleep 1\"]]\n[[task]]\n[[task]]\nhome = 1\n[[task]]\nhome = 2\nasleep = true\n",
+    b"version = 1\nprogram = [[], [\"pick\", \"pull 3\", \"drain\", \"pull 0\", \"pick\", \"yield\"], [\"post 0\"], [\"pull 1\"]]\n[[task]]\nasleep = true\n[[task]]\nhome = 3\n",
+    b"version = 1\nprogram = [[]]\n[[task]]\n",
+];
+
+/// The order of a workload, and whether it plays.
+fn order_played(
+    rt: &impl Abort,
+    alloc: Global,
+    workload: &[u8],
+    seed: Option<u64>,
+) -> Result<Vec<usize>, Fail> {
+    let workload = read_workload(alloc, workload).ok().ok_or("workload")?;
+    let order = order_of(alloc, workload.setup(), Choice::of_seed(seed))
+        .ok()
+        .ok_or("order")?;
+    assert!(rt; play(alloc, workload.setup(), &order).is_ok());
+    Ok(order)
+}
+
+#[test]
+fn orders_play(rt: HostRuntime) -> Result<(), Fail> {
+    let alloc = rt.alloc();
+    for workload in WORKLOADS {
+        order_played(&rt, alloc, workload, None)?;
+        for seed in 0..20 {
+            order_played(&rt, alloc, workload, Some(seed))?;
+        }
+    }
+    Ok(())
+}
+
+#[test]
+fn callers_that_wait_are_passed_over(rt: HostRuntime) -> Result<(), Fail> {
+    let alloc = rt.alloc();
+    let picks = b"version = 1\nprogram = [[\"pick\"], [\"pick\"]]\n[[task]]\n";
+    let order = order_played(&rt, alloc, picks, None)?;
+    assert!(rt; order.as_slice() == [0, 1, 0, 1, 0, 1, 0, 1].as_slice());
+    let pulls = b"version = 1\nprogram = [[\"pull 1\"], [\"pull 0\"]]\n[[task]]\n";
+    let order = order_played(&rt, alloc, pulls, None)?;
+    assert!(rt; order.as_slice() == [0, 0, 0, 0, 0, 0, 0, 1, 1, 1, 1, 1, 1, 1].as_slice());
+    Ok(())
+}
+
+#[test]
+fn a_seed_draws_one_order(rt: HostRuntime) -> Result<(), Fail> {
+    let alloc = rt.alloc();
+    let first = order_played(&rt, alloc, WORKLOADS[1], Some(1))?;
+    let again = order_played(&rt, alloc, WORKLOADS[1], Some(1))?;
+    let other = order_played(&rt, alloc, WORKLOADS[1], Some(2))?;
+    assert!(rt; first.as_slice() == again.as_slice());
+    assert!(rt; first.as_slice() != other.as_slice());
+    Ok(())
+}

@@ -1,0 +1,84 @@
+//! From the bytes of a workload to the same bytes with an order.
+
+ghost use Rattle.std.specs.Prelude.{◌≡◌, ◌≢◌, false, true, IfOk, IfErr, IfSome, OnOk, Err};
+ghost use Rattle.std.specs.Io.KnownBytes.{Keeps};
+ghost use Rattle.eevdf_bench.specs.Streams.{ReadsTo, ReadsWithin};
+ghost use Rattle.eevdf_orders.specs.OrderedWorkload as texts;
+
+use crate::caller_choice::Choice;
+use crate::order_making::{OrderFault, order_of};
+use crate::order_text::ordered;
+use crate::print_fault::PrintFault;
+use eevdf_bench::{BenchFault, Watched, read_input, read_workload, write_text};
+use eevdf_steps::PlayFault;
+use std::alloc::Global;
+use std::io::{Read, Write};
+
+/// Reads a workload to its end and writes it with an order of its callers' steps. A workload that has an order
+/// already is refused.
+///
+/// A reader that goes on for more than 16777216 bytes is read to one byte more, and then refused. Nothing is written
+/// before the whole order is made: after a fault of the writer a beginning was written, and after any other nothing.
+pub fn print_ordered<R: Read, W: Write>(
+    alloc: Global,
+    reader: &mut Watched<R>,
+    writer: &mut Watched<W>,
+    seed: Option<u64>,
+) -> Result<(), PrintFault>
+    requires reader { reader.old.failed ≡ false }
+    requires writer { writer.old.failed ≡ false }
+    ensures printed { OnOk result (IfSome (R.remaining reader.old.end) (λ input.
+        texts.Prints input (W.contents writer.old.end) (W.contents writer.new.end))) }
+    ensures refused { IfErr result (λ f. IfSome (R.remaining reader.old.end) (λ input. texts.RefusesAs input f)) }
+    ensures begun { result ≡ Err (PrintFault.Bench BenchFault.Write) → IfSome (R.remaining reader.old.end) (λ input.
+        texts.Begins input (W.contents writer.old.end) (W.contents writer.new.end)) }
+    ensures limit { ReadsWithin 16777217 (R.remaining reader.old.end) (R.remaining reader.new.end) }
+    ensures read_whole { OnOk result (reader.new.failed ≡ false) }
+    ensures written_whole { OnOk result (writer.new.failed ≡ false) }
+    ensures read { result ≡ Err (PrintFault.Bench BenchFault.Read) → reader.new.failed ≡ true }
+    ensures write { result ≡ Err (PrintFault.Bench BenchFault.Write) → writer.new.failed ≡ true }
+    ensures unwritten { IfErr result (λ f. f ≢ PrintFault.Bench BenchFault.Write → Keeps (W.contents writer.old.end) (W.contents writer.new.end)) }
+{
+    let input = match read_input(alloc, reader) {
+        Ok(input) => input,
+        Err(fault) => return Err(PrintFault::Bench(fault)),
+    };
+    let text = match ordered_text(alloc, &input, seed) {
+        Ok(text) => text,
+        Err(fault) => return Err(fault),
+    };
+    match write_text(writer, &text) {
+        Ok(()) => Ok(()),
+        Err(fault) => Err(PrintFault::Bench(fault)),
+    }
+}
+
+/// The bytes of a workload with an order of its callers' steps.
+fn ordered_text(alloc: Global, input: &[u8], seed: Option<u64>) -> Result<Vec<u8>, PrintFault>
+    ensures ordered { IfOk result (λ text. texts.IsOrdered input.now text.items) }
+    ensures refused { IfErr result (λ f. texts.RefusesAs input.now f) }
+    ensures read { result ≢ Err (PrintFault.Bench BenchFault.Read) }
+    ensures write { result ≢ Err (PrintFault.Bench BenchFault.Write) }
+{
+    let workload = match read_workload(alloc, input) {
+        Ok(workload) => workload,
+        Err(fault) => return Err(PrintFault::Bench(BenchFault::Load(fault))),
+    };
+    if workload.order().is_some() {
+        return Err(PrintFault::Ordered);
+    }
+    let order = match order_of(alloc, workload.setup(), Choice::of_seed(seed)) {
+        Ok(order) => order,
+        Err(OrderFault::Memory) => return Err(PrintFault::Bench(BenchFault::Memory)),
+        Err(OrderFault::TooLong) => {
+            return Err(PrintFault::Bench(BenchFault::Play(PlayFault::TooLong)));
+        }
+    };
+    match ordered(alloc, &order, input) {
+        Ok(text) => Ok(text),
+        Err(_) => Err(PrintFault::Bench(BenchFault::Memory)),
+    }
+}
+
+#[cfg(test)]
+mod tests;

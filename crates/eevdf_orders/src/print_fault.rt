@@ -1,0 +1,38 @@
+ghost use Rattle.std.specs.Prelude.{◌≡◌, IfOk};
+ghost use Rattle.eevdf_orders.specs.FaultLines as lines;
+
+use eevdf_bench::{BenchFault, fault_text, status_of as bench_status_of};
+use std::alloc::{AllocError, Global};
+use thiserror::Error;
+
+/// Why no workload was printed.
+#[derive(Clone, Copy, PartialEq, Eq, Debug, Error)]
+pub enum PrintFault {
+    /// The workload is refused, has no order of at most 1000000 places, or reading, writing or memory failed.
+    #[error("{0}")]
+    Bench(BenchFault),
+    /// The workload has an order already.
+    #[error("the workload has an order already")]
+    Ordered,
+}
+
+/// The line that is printed for a fault, with its end.
+pub fn fault_line(alloc: Global, fault: &PrintFault) -> Result<Vec<u8>, AllocError>
+    ensures { IfOk result (λ line. line.items ≡ lines.fault_line fault.now) }
+{
+    match fault {
+        PrintFault::Bench(fault) => fault_text(alloc, fault),
+        PrintFault::Ordered => Vec::from_slice(alloc, b"fault: workload has an order already\n"),
+    }
+}
+
+/// The program's status after a fault: 1 where the workload is refused, 3 where memory, reading or writing
+/// failed.
+pub fn status_of(fault: &PrintFault) -> u8
+    ensures { result ≡ lines.status_of fault.now }
+{
+    match fault {
+        PrintFault::Bench(fault) => bench_status_of(fault),
+        PrintFault::Ordered => 1,
+    }
+}
