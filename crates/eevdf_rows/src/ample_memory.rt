@@ -1,6 +1,6 @@
 //! Calls that can want memory, each with ample memory.
 
-use eevdf_bench::{read_workload, report, solo_text};
+use eevdf_bench::{read_workload, replay_text, report, solo_text};
 use eevdf_ops::one_thread::solo;
 use eevdf_ops::{Answer, CpuId, Deed, Outcome, Setup, Solo, TaskSpec};
 use eevdf_queue::TaskId;
@@ -85,6 +85,21 @@ fn a_workload_is_read_and_run(rt: HostRuntime) -> Result<(), Fail> {
     let bytes = b"version = 1\nprogram = [[]]\nscript = [\"0 pick\"]\n[[task]]\nasleep = true\n";
     let workload = read_workload(rt.alloc(), bytes).ok().ok_or("workload")?;
     let text = solo_text(rt.alloc(), &workload, false).ok().ok_or("text")?;
+    let want = "cpu 0\npick: idle\nload 0 floor 0\nasleep 0 lag 0\n";
+    assert!(rt; text.as_slice() == want.as_bytes());
+    Ok(())
+}
+
+#[test]
+fn a_workload_is_read_and_replayed(rt: HostRuntime) -> Result<(), Fail> {
+    let bytes =
+        b"version = 1\nprogram = [[\"pick\"]]\norder = [0, 0, 0, 0]\n[[task]]\nasleep = true\n";
+    let workload = read_workload(rt.alloc(), bytes).ok().ok_or("workload")?;
+    let order = [0, 0, 0, 0];
+    assert!(rt; workload.order() == Some(order.as_slice()));
+    let text = replay_text(rt.alloc(), &workload, false)
+        .ok()
+        .ok_or("text")?;
     let want = "cpu 0\npick: idle\nload 0 floor 0\nasleep 0 lag 0\n";
     assert!(rt; text.as_slice() == want.as_bytes());
     Ok(())

@@ -1,10 +1,13 @@
 //! Orders of micro-steps that are played to a report, or refused at their first fault.
 
+ghost use Rattle.std.specs.Prelude.{◌≡◌};
+
 use eevdf_bench::{read_workload, report};
 use eevdf_ops::{CpuId, Outcome};
 use eevdf_queue::TaskId;
 use eevdf_steps::{Place, PlayFault, Player, StepFault, play};
 use std::alloc::Global;
+use std::process::Abort;
 use std::test::Fail;
 
 const TWO_POSTS: &[u8] =
@@ -13,7 +16,7 @@ const TWO_POSTS: &[u8] =
 const LATE_POST: &[u8] =
     b"version = 1\nprogram = [[\"drain\"], [\"post 0\"]]\n[[task]]\nasleep = true\n";
 
-const PULL_UNDER_WAY: &[u8] =
+pub(crate) const PULL_UNDER_WAY: &[u8] =
     b"version = 1\nprogram = [[\"pick\"], [\"pull 0\"], [\"pick\"]]\n[[task]]\n[[task]]\n[[task]]\n";
 
 const ONE_PICK: &[u8] = b"version = 1\nprogram = [[\"pick\"]]\n[[task]]\n";
@@ -42,6 +45,13 @@ fn report_of(alloc: Global, workload: &[u8], order: &[usize]) -> Result<Vec<u8>,
 /// The fault of an order that is refused.
 fn fault_of(alloc: Global, workload: &[u8], order: &[usize]) -> Result<PlayFault, Fail> {
     Ok(played(alloc, workload, order)?.err().ok_or("fault")?)
+}
+
+/// Does a caller's next step, which nothing is to refuse.
+fn step_on(rt: &impl Abort, player: &mut Player, caller: usize)
+    ensures { player.new.plan ≡ player.old.plan }
+{
+    assert!(rt; player.step(caller) == Ok(()));
 }
 
 #[test]
@@ -113,10 +123,13 @@ fn a_pulled_task_is_in_its_callers_hand(rt: HostRuntime) -> Result<(), Fail> {
     let task = TaskId::new(2).ok_or("task")?;
     let source = CpuId::new(0).ok_or("cpu")?;
     assert!(rt; player.place_of(task) == Place::Runnable(source));
-    for _step in 0..3 {
-        assert!(rt; player.step(1) == Ok(()));
-    }
-    assert!(rt; player.step(2) == Ok(()));
+    step_on(&rt, &mut player, 1);
+    step_on(&rt, &mut player, 1);
+    step_on(&rt, &mut player, 1);
+    assert!(rt; player.place_of(task) == Place::InHand(1));
+    assert!(rt; player.queue(source).load() == 2048);
+    assert!(rt; player.holder(source) == Some(1));
+    step_on(&rt, &mut player, 2);
     let blocked = StepFault::Blocked {
         cpu: source,
         holder: 1,

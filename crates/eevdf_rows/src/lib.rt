@@ -1,5 +1,5 @@
 //! Tests that cross the crates: worked examples as tables of what is read and what is printed, each run by the
-//! workbench's engine over memory, and worked values of single calls.
+//! workbench's engine over memory, every order of the steps of small workloads, and worked values of single calls.
 #![tactic(auto)]
 
 #[cfg(test)]
@@ -9,9 +9,15 @@ mod broken_ends;
 #[cfg(test)]
 mod calls;
 #[cfg(test)]
+mod every_interleaving;
+#[cfg(test)]
 mod interleavings;
 #[cfg(test)]
+mod ready_callers;
+#[cfg(test)]
 mod refusals;
+#[cfg(test)]
+mod replays;
 #[cfg(test)]
 mod schedules;
 #[cfg(test)]

@@ -1,13 +1,8 @@
 //! Workloads and words that are refused.
 
-use crate::table::{Row, check};
-use eevdf_bench::{Command, Kind, WordFault, command_of};
+use crate::table::{REPLAY, REPLAY_WITH_HISTORY, Row, SOLO, SOLO_WITH_HISTORY, check};
+use eevdf_bench::{WordFault, command_of};
 use std::test::Fail;
-
-const SOLO: Command = Command {
-    kind: Kind::Solo,
-    history: false,
-};
 
 const ROWS: [Row; 20] = [
     Row {
@@ -161,9 +156,13 @@ fn workloads_get_their_fault_lines(rt: HostRuntime) -> Result<(), Fail> {
 }
 
 #[test]
-fn only_the_known_command_is_taken(rt: HostRuntime) {
-    let taken = ["eevdf", "solo"];
-    assert!(rt; command_of(rt.alloc(), taken.as_slice()) == Ok(SOLO));
+fn only_known_commands_are_taken(rt: HostRuntime) {
+    let solo = ["eevdf", "solo", "--history"];
+    assert!(rt; command_of(rt.alloc(), &solo[..2]) == Ok(SOLO));
+    assert!(rt; command_of(rt.alloc(), solo.as_slice()) == Ok(SOLO_WITH_HISTORY));
+    let replay = ["eevdf", "replay", "--history"];
+    assert!(rt; command_of(rt.alloc(), &replay[..2]) == Ok(REPLAY));
+    assert!(rt; command_of(rt.alloc(), replay.as_slice()) == Ok(REPLAY_WITH_HISTORY));
     let alone = ["eevdf"];
     assert!(rt; command_of(rt.alloc(), alone.as_slice()) == Err(WordFault::Words));
     let other = ["eevdf", "stop"];

@@ -1,20 +1,21 @@
 //! Workloads that are run to a report.
 
-use crate::table::{Row, check};
-use eevdf_bench::{Command, Kind};
+use crate::table::{Row, SOLO, SOLO_WITH_HISTORY, check};
 use std::test::Fail;
 
-const SOLO: Command = Command {
-    kind: Kind::Solo,
-    history: false,
-};
-
-const ROWS: [Row; 16] = [
+const ROWS: [Row; 17] = [
     Row {
         name: "two tasks take turns",
         command: SOLO,
         workload: b"version = 1\nprogram = [[]]\nscript = [\"0 pick\", \"0 tick 3000000\", \"0 pick\"]\n[[task]]\n[[task]]\n",
         printed: "cpu 0\npick: picked 0\ntick 3000000: charged 0 resched\npick: picked 1\nload 2048 floor 1500000\ntask 0 v 3000000 d 6000000 lag -1500000\ntask 1 v 0 d 3000000 lag 1500000 running\n",
+        status: 0,
+    },
+    Row {
+        name: "a history is the script that was done",
+        command: SOLO_WITH_HISTORY,
+        workload: b"version = 1\nprogram = [[]]\nscript = [\"0 pick\", \"0 tick 3000000\", \"0 pick\"]\n[[task]]\n[[task]]\n",
+        printed: "cpu 0\npick: picked 0\ntick 3000000: charged 0 resched\npick: picked 1\nload 2048 floor 1500000\ntask 0 v 3000000 d 6000000 lag -1500000\ntask 1 v 0 d 3000000 lag 1500000 running\nscript = [\n\"0 pick\",\n\"0 tick 3000000\",\n\"0 pick\",\n]\n",
         status: 0,
     },
     Row {
@@ -62,7 +63,7 @@ const ROWS: [Row; 16] = [
     Row {
         name: "keys without a name here are ignored",
         command: SOLO,
-        workload: b"version = 1\nprogram = [[]]\nscript = []\norder = 7\ncolour = \"red\"\n[[task]]\nshape = [1, 2]\n",
+        workload: b"version = 1\nprogram = [[]]\nscript = []\nlabel = 7\ncolour = \"red\"\n[[task]]\nshape = [1, 2]\n",
         printed: "cpu 0\nload 1024 floor 0\ntask 0 v 0 d 3000000 lag 0\n",
         status: 0,
     },

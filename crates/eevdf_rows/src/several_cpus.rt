@@ -1,13 +1,7 @@
 //! Workloads of several CPUs that are run to a report.
 
-use crate::table::{Row, check};
-use eevdf_bench::{Command, Kind};
+use crate::table::{Row, SOLO, check};
 use std::test::Fail;
-
-const SOLO: Command = Command {
-    kind: Kind::Solo,
-    history: false,
-};
 
 const ROWS: [Row; 6] = [
     Row {

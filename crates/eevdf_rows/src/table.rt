@@ -1,8 +1,28 @@
 //! One row of a table, and how it is run.
 
-use eevdf_bench::{Command, Watched, engine, fault_text, status_of};
+use eevdf_bench::{Command, Kind, Watched, engine, fault_text, status_of};
 use std::alloc::{AllocError, Global};
 use std::process::Abort;
+
+pub const SOLO: Command = Command {
+    kind: Kind::Solo,
+    history: false,
+};
+
+pub const SOLO_WITH_HISTORY: Command = Command {
+    kind: Kind::Solo,
+    history: true,
+};
+
+pub const REPLAY: Command = Command {
+    kind: Kind::Replay,
+    history: false,
+};
+
+pub const REPLAY_WITH_HISTORY: Command = Command {
+    kind: Kind::Replay,
+    history: true,
+};
 
 /// A workload, and what the program prints for it and ends with.
 #[derive(Clone, Copy)]
@@ -27,7 +47,7 @@ pub fn check(rt: &impl Abort, alloc: Global, row: &Row) -> Result<(), AllocError
 }
 
 /// What is printed for a workload, and the exit status.
-fn run(alloc: Global, workload: &[u8], command: Command) -> Result<(Vec<u8>, u8), AllocError> {
+pub fn run(alloc: Global, workload: &[u8], command: Command) -> Result<(Vec<u8>, u8), AllocError> {
     let mut reader = Watched::new(workload);
     let mut writer = Watched::new(Vec::new(alloc));
     match engine(alloc, &mut reader, &mut writer, command) {
