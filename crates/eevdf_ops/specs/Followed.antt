@@ -12,7 +12,8 @@ program_of s cpu = slice_index_or s.programs cpu []
 abbrev pub left_of : Setup → Outcome → ℕ → ℕ → List ℕ
 left_of s o sender home = slice_index_or o.left (sender * cpus_of s + home) []
 
--- each CPU's lines are its program's operations, in order and each once; and of the requests that a program posts
+-- each CPU's lines are its program's operations, in order and each once, where a post has no line and a drain the wakes
+-- that it found; and of the requests that a program posts
 -- to a home the first ones were drained there, in the order of posting and each once, and the others are left
 pub record FollowsPrograms (s : Setup) (o : Outcome) : Type 0 where
   pub operations : (p : ℕ) → FitsProgram p (lines_by p o.lines) (program_of s p)

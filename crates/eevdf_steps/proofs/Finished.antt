@@ -10,7 +10,7 @@ use Rattle.eevdf_steps.specs.declared.program_plan.Step.{Step}
 use Rattle.eevdf_steps.specs.Plan.{IsSound, Plan, callers}
 use Rattle.eevdf_steps.specs.Counters.{Counters, counted, step_next, unfinished}
 use Rattle.eevdf_steps.specs.Work.{Work}
-use Rattle.eevdf_steps.specs.Reduced.{IsFree, IsSerial}
+use Rattle.eevdf_steps.specs.Serial.{IsFree, IsSerial}
 use Rattle.eevdf_steps.proofs.Holders.{nobody_past}
 use Rattle.eevdf_steps.proofs.LawfulOrders.{done_by_all}
 use Rattle.eevdf_steps.proofs.OwnCommits.{length-machine_after}
@@ -35,4 +35,4 @@ pub finished_machine : (plan : Plan) (counters : Counters) (w : Work) (lines : L
     → IsSerial plan plan.start counters w lines → unfinished plan counters ≡ None → w.machine ≡ machine_told plan.homes plan.start lines
 finished_machine plan counters w lines sound each long serial done =
     same_machine w.machine (machine_told plan.homes plan.start lines) (long ∙ sym (length-machine_after plan.homes plan.start (deeds_of lines) ∙ sound.start))
-    (λ c. serial.reduced.free c (all_free plan counters c sound each done))
+    (λ c. serial.seen.free c (all_free plan counters c sound each done))

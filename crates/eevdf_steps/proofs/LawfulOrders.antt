@@ -29,7 +29,7 @@ not_refused plan counters p None false e = absurd (none-some NoCaller (sym e))
 pub has_step : (plan : Plan) (counters : Counters) (p : ℕ) → refusal plan counters p ≡ None → (s : Step) × (step_next plan counters p ≡ Some s)
 has_step plan counters p e = not_refused plan counters p (step_next plan counters p) (nat_lt p (callers plan)) e
 
-none_of : {A : Type 0} (r : Option A) → is_none r ≡ true → r ≡ None
+pub none_of : {A : Type 0} (r : Option A) → is_none r ≡ true → r ≡ None
 none_of None e = refl
 none_of (Some x) e = cc
 

@@ -11,7 +11,7 @@ use Rattle.eevdf_steps.specs.MicroSteps.{steps_by}
 use Rattle.eevdf_steps.specs.Counters.{Counters, count_of, counted, holds, step_next}
 use Rattle.eevdf_steps.specs.Work.{Work, answer, hand}
 use Rattle.eevdf_steps.specs.UnderWay.{KeepsAnswer, UnderWay, hand_seen, queue_seen, under_way}
-use Rattle.eevdf_steps.specs.Reduced.{IsFree, IsReduced, begun_by}
+use Rattle.eevdf_steps.specs.Serial.{IsFree, FollowsHistory, begun_by}
 use Rattle.eevdf_steps.proofs.Holders.{holds_other, number_cases}
 use Rattle.eevdf_steps.proofs.Walks.{Walk}
 use Rattle.eevdf_steps.proofs.Begun.{FitsAll, SeenAlike, Standing, seen_alike, standing}
@@ -39,7 +39,7 @@ pub record AreWalking (plan : Plan) (counters : Counters) : Type 0 where
   pub walks : (q : ℕ) (u : UnderWay) → begun_by plan counters q ≡ Some u → Walk plan counters q
   pub fits : (q : ℕ) (u : UnderWay) → begun_by plan counters q ≡ Some u → FitsAll plan u.deed
 
-not_held : (plan : Plan) (m : Machine) (counters : Counters) (w : Work) (c p q : ℕ) (b : Bool) → IsReduced plan m counters w → q ≢ p → holds plan counters c q ≡ true
+not_held : (plan : Plan) (m : Machine) (counters : Counters) (w : Work) (c p q : ℕ) (b : Bool) → FollowsHistory plan m counters w → q ≢ p → holds plan counters c q ≡ true
     → holds plan counters c p ≡ b → b ≡ false
 not_held plan m counters w c p q true r apart held e = absurd (apart (r.alone c q p held e))
 not_held plan m counters w c p q false r apart held e = refl
@@ -51,7 +51,7 @@ record AreAlike (plan : Plan) (counters : Counters) (q : ℕ) (m n : Machine) (o
   answer : (a : Option Answer) → KeepsAnswer plan.homes m o a → KeepsAnswer plan.homes n o a
 
 others_alike : (plan : Plan) (counters : Counters) (p q : ℕ) (m n : Machine) (w : Work) (o : Option UnderWay) → begun_by plan counters q ≡ o → q ≢ p
-    → IsReduced plan m counters w → AreWalking plan counters → length m ≡ callers plan → length n ≡ callers plan
+    → FollowsHistory plan m counters w → AreWalking plan counters → length m ≡ callers plan → length n ≡ callers plan
     → ((c : ℕ) → holds plan counters c p ≡ false → queue_at n c ≡ queue_at m c) → AreAlike plan counters q m n o
 others_alike plan counters p q m n w None e apart r walking long still_long past = record {
   queues = λ c held. sym (past c (not_held plan m counters w c p q (holds plan counters c p) r apart held refl));
@@ -69,7 +69,7 @@ others_alike plan counters p q m n w (Some u) e apart r walking long still_long 
       answer = λ a k. k ∙ ap (λ (b : Answer). Some b) alike.answer;
     }
 
-other_alike : (plan : Plan) (counters : Counters) (p q : ℕ) (m m' : Machine) (w w' : Work) → q ≢ p → IsReduced plan m counters w → AreWalking plan counters
+other_alike : (plan : Plan) (counters : Counters) (p q : ℕ) (m m' : Machine) (w w' : Work) → q ≢ p → FollowsHistory plan m counters w → AreWalking plan counters
     → IsStepOf plan counters p m m' w w' → AreAlike plan counters q m m' (begun_by plan counters q)
 other_alike plan counters p q m m' w w' apart r walking s =
     others_alike plan counters p q m m' w (begun_by plan counters q) refl apart r walking s.long s.still_long s.past
@@ -77,7 +77,7 @@ other_alike plan counters p q m m' w w' apart r walking s =
 begun_other : (plan : Plan) (counters : Counters) (p q : ℕ) → q ≢ p → begun_by plan (counted counters p) q ≡ begun_by plan counters q
 begun_other plan counters p q apart = ap (λ (o : Option Step). under_way q o) (next_other plan counters p q apart)
 
-held_then : (plan : Plan) (counters : Counters) (p : ℕ) (m m' : Machine) (w w' : Work) → IsReduced plan m counters w → AreWalking plan counters → IsStepOf plan counters p m m' w w'
+held_then : (plan : Plan) (counters : Counters) (p : ℕ) (m m' : Machine) (w w' : Work) → FollowsHistory plan m counters w → AreWalking plan counters → IsStepOf plan counters p m m' w w'
     → (c q : ℕ) → holds plan (counted counters p) c q ≡ true → queue_at w'.machine c ≡ queue_seen plan.homes m' (begun_by plan (counted counters p) q) c
 held_then plan counters p m m' w w' r walking s c q h =
     elim (number_cases q p) [
@@ -90,7 +90,7 @@ held_then plan counters p m m' w w' r walking s c q h =
           ∙ ap (λ (o : Option UnderWay). queue_seen plan.homes m' o c) (sym (begun_other plan counters p q apart))
     ]
 
-hands_then : (plan : Plan) (counters : Counters) (p : ℕ) (m m' : Machine) (w w' : Work) → IsReduced plan m counters w → AreWalking plan counters → IsStepOf plan counters p m m' w w'
+hands_then : (plan : Plan) (counters : Counters) (p : ℕ) (m m' : Machine) (w w' : Work) → FollowsHistory plan m counters w → AreWalking plan counters → IsStepOf plan counters p m m' w w'
     → (q : ℕ) → hand w' q ≡ hand_seen plan.homes m' (begun_by plan (counted counters p) q)
 hands_then plan counters p m m' w w' r walking s q =
     elim (number_cases q p) [
@@ -100,7 +100,7 @@ hands_then plan counters p m m' w w' r walking s q =
           ∙ ap (λ (o : Option UnderWay). hand_seen plan.homes m' o) (sym (begun_other plan counters p q apart))
     ]
 
-answers_then : (plan : Plan) (counters : Counters) (p : ℕ) (m m' : Machine) (w w' : Work) → IsReduced plan m counters w → AreWalking plan counters → IsStepOf plan counters p m m' w w'
+answers_then : (plan : Plan) (counters : Counters) (p : ℕ) (m m' : Machine) (w w' : Work) → FollowsHistory plan m counters w → AreWalking plan counters → IsStepOf plan counters p m m' w w'
     → (q : ℕ) → KeepsAnswer plan.homes m' (begun_by plan (counted counters p) q) (answer w' q)
 answers_then plan counters p m m' w w' r walking s q =
     elim (number_cases q p) [
@@ -112,7 +112,7 @@ answers_then plan counters p m m' w w' r walking s q =
     ]
 
 -- a queue that nobody holds any more
-free_by : (plan : Plan) (counters : Counters) (p : ℕ) (m m' : Machine) (w w' : Work) (c : ℕ) (b : Bool) → IsReduced plan m counters w → IsStepOf plan counters p m m' w w'
+free_by : (plan : Plan) (counters : Counters) (p : ℕ) (m m' : Machine) (w w' : Work) (c : ℕ) (b : Bool) → FollowsHistory plan m counters w → IsStepOf plan counters p m m' w w'
     → IsFree plan (counted counters p) c → holds plan counters c p ≡ b → queue_at w'.machine c ≡ queue_at m' c
 free_by plan counters p m m' w w' c true r s free e = s.released c e (free p)
 free_by plan counters p m m' w w' c false r s free e =
@@ -124,13 +124,13 @@ free_by plan counters p m m' w w' c false r s free e =
     s.stay c e ∙ r.free c before ∙ sym (s.past c e)
 
 -- nobody else holds what the caller holds
-alone_by : (plan : Plan) (counters : Counters) (p : ℕ) (m m' : Machine) (w w' : Work) (c q : ℕ) (b : Bool) → IsReduced plan m counters w → IsStepOf plan counters p m m' w w' → q ≢ p
+alone_by : (plan : Plan) (counters : Counters) (p : ℕ) (m m' : Machine) (w w' : Work) (c q : ℕ) (b : Bool) → FollowsHistory plan m counters w → IsStepOf plan counters p m m' w w' → q ≢ p
     → holds plan (counted counters p) c q ≡ true → holds plan (counted counters p) c p ≡ true → holds plan counters c p ≡ b → q ≡ p
 alone_by plan counters p m m' w w' c q true r s apart h k e = r.alone c q p (sym (holds_other plan counters c p q apart) ∙ h) e
 alone_by plan counters p m m' w w' c q false r s apart h k e =
     absurd (false≢true (sym (s.acquired c e k q) ∙ sym (holds_other plan counters c p q apart) ∙ h))
 
-alone_then : (plan : Plan) (counters : Counters) (p : ℕ) (m m' : Machine) (w w' : Work) → IsReduced plan m counters w → IsStepOf plan counters p m m' w w'
+alone_then : (plan : Plan) (counters : Counters) (p : ℕ) (m m' : Machine) (w w' : Work) → FollowsHistory plan m counters w → IsStepOf plan counters p m m' w w'
     → (c q r : ℕ) → holds plan (counted counters p) c q ≡ true → holds plan (counted counters p) c r ≡ true → q ≡ r
 alone_then plan counters p m m' w w' red s c q r h k =
     elim (number_cases q p) [
@@ -148,9 +148,9 @@ alone_then plan counters p m m' w w' red s c q r h k =
           ]
     ]
 
-pub reduced_then : (plan : Plan) (counters : Counters) (p : ℕ) (m m' : Machine) (w w' : Work) → IsReduced plan m counters w → AreWalking plan counters
-    → IsStepOf plan counters p m m' w w' → IsReduced plan m' (counted counters p) w'
-reduced_then plan counters p m m' w w' r walking s = record {
+pub followed_then : (plan : Plan) (counters : Counters) (p : ℕ) (m m' : Machine) (w w' : Work) → FollowsHistory plan m counters w → AreWalking plan counters
+    → IsStepOf plan counters p m m' w w' → FollowsHistory plan m' (counted counters p) w'
+followed_then plan counters p m m' w w' r walking s = record {
   alone = alone_then plan counters p m m' w w' r s;
   free = λ c free. free_by plan counters p m m' w w' c (holds plan counters c p) r s free refl;
   held = held_then plan counters p m m' w w' r walking s;

@@ -23,7 +23,7 @@ use Rattle.eevdf_ops.specs.Programs.{deed_of, deeds_of}
 use Rattle.eevdf_ops.specs.Histories.{AreHistory, machine_told}
 use Rattle.eevdf_steps.specs.Work.{Work, answer, woken}
 use Rattle.eevdf_steps.specs.UnderWay.{KeepsAnswer, UnderWay, begun, hand_seen, queue_seen}
-use Rattle.eevdf_steps.specs.Reduced.{begun_by}
+use Rattle.eevdf_steps.specs.Serial.{begun_by}
 use Rattle.eevdf_steps.proofs.Holders.{same_number}
 use Rattle.eevdf_steps.proofs.Lists.{true_eq}
 use Rattle.eevdf_steps.proofs.Begun.{holds_touched}
@@ -66,7 +66,7 @@ commit_step plan counters p m w o d at is =
     let after : begun_by plan (counted counters p) p ≡ None = fresh_begun p (step_next plan (counted counters p) p) at.fits.fresh in
     let same : SameLocks plan counters p = same_locks plan counters p o Commit at.counter at.next (λ c b. refl) in
     let done : (c : ℕ) → holds plan counters c p ≡ true → queue_at w.machine c ≡ queue_at (whole plan.homes d m).1 c
-    = λ c h. at.reduced.held c p h ∙ ap (λ (u : Option UnderWay). queue_seen plan.homes m u c) before in
+    = λ c h. at.seen.held c p h ∙ ap (λ (u : Option UnderWay). queue_seen plan.homes m u c) before in
     record {
       long = at.long;
       still_long = length-whole plan.homes d m ∙ at.long;
@@ -75,7 +75,7 @@ commit_step plan counters p m w o d at is =
       hands = λ q h. refl;
       answers = λ q h. refl;
       own = λ c h. done c (sym (same c) ∙ h) ∙ ap (λ (u : Option UnderWay). queue_seen plan.homes (whole plan.homes d m).1 u c) (sym after);
-      own_hand = at.reduced.hands p ∙ ap (λ (u : Option UnderWay). hand_seen plan.homes m u) before
+      own_hand = at.seen.hands p ∙ ap (λ (u : Option UnderWay). hand_seen plan.homes m u) before
           ∙ ap (λ (u : Option UnderWay). hand_seen plan.homes (whole plan.homes d m).1 u) (sym after);
       own_answer = subst (λ (u : Option UnderWay). KeepsAnswer plan.homes (whole plan.homes d m).1 u (answer w p)) (sym after) tt;
       released = λ c h k. absurd (still (holds plan counters c p) _ (same c) h k);
@@ -86,7 +86,7 @@ commit_step plan counters p m w o d at is =
 pub commit_answer : (plan : Plan) (counters : Counters) (p : ℕ) (m : Machine) (w : Work) (o : Op) (d : Deed) → AtStep plan counters p m w o Commit → deed_of p o ≡ Some d
     → answer w p ≡ Some (whole plan.homes d m).0
 commit_answer plan counters p m w o d at is =
-    subst (λ (u : Option UnderWay). KeepsAnswer plan.homes m u (answer w p)) (begun_now plan counters p o Commit at.next ∙ ap (begun true) is) (at.reduced.answers p)
+    subst (λ (u : Option UnderWay). KeepsAnswer plan.homes m u (answer w p)) (begun_now plan counters p o Commit at.next ∙ ap (begun true) is) (at.seen.answers p)
 
 -- a request is settled on the caller's own queue
 pub settle_step : (plan : Plan) (counters : Counters) (p q t : ℕ) (m : Machine) (w : Work) (o : Op) → AtStep plan counters p m w o (Settle q)
@@ -96,7 +96,7 @@ settle_step plan counters p q t m w o at covers =
     let after : begun_by plan (counted counters p) p ≡ None = fresh_begun p (step_next plan (counted counters p) p) at.fits.fresh in
     let same : SameLocks plan counters p = same_locks plan counters p o (Settle q) at.counter at.next (λ c b. refl) in
     let own : holds plan counters p p ≡ true = covers p ∙ same_number p in
-    let here : queue_at w.machine p ≡ queue_at m p = sees_history plan counters p m w at.reduced before p own in
+    let here : queue_at w.machine p ≡ queue_at m p = sees_history plan counters p m w at.seen before p own in
     let there : (c : ℕ) → holds plan counters c p ≡ true → queue_at (woken w p t).machine c ≡ queue_at (whole plan.homes (deed.Wake p t q) m).1 c
     = λ c h. subst (λ (k : ℕ). queue_at (set w.machine p (one_wake (queue_at w.machine p) t).1) k ≡ queue_at (set m p (one_wake (queue_at m p) t).1) k)
     (sym (true_eq c p (sym (covers c) ∙ h)))
@@ -111,7 +111,7 @@ settle_step plan counters p q t m w o at covers =
       hands = λ r h. refl;
       answers = λ r h. refl;
       own = λ c h. there c (sym (same c) ∙ h) ∙ ap (λ (u : Option UnderWay). queue_seen plan.homes (whole plan.homes (deed.Wake p t q) m).1 u c) (sym after);
-      own_hand = holds_nothing plan counters p m w at.reduced before ∙ ap (λ (u : Option UnderWay). hand_seen plan.homes (whole plan.homes (deed.Wake p t q) m).1 u) (sym after);
+      own_hand = holds_nothing plan counters p m w at.seen before ∙ ap (λ (u : Option UnderWay). hand_seen plan.homes (whole plan.homes (deed.Wake p t q) m).1 u) (sym after);
       own_answer = subst (λ (u : Option UnderWay). KeepsAnswer plan.homes (whole plan.homes (deed.Wake p t q) m).1 u (answer (woken w p t) p)) (sym after) tt;
       released = λ c h k. absurd (still (holds plan counters c p) _ (same c) h k);
       acquired = λ c h k. absurd (false≢true (sym h ∙ sym (same c) ∙ k));
@@ -122,4 +122,4 @@ pub settle_answer : (plan : Plan) (counters : Counters) (p q t : ℕ) (m : Machi
     → ((c : ℕ) → holds plan counters c p ≡ (c == p)) → (one_wake (queue_at w.machine p) t).0 ≡ (whole plan.homes (deed.Wake p t q) m).0
 settle_answer plan counters p q t m w o at covers =
     ap (λ (x : State). (one_wake x t).0)
-    (sees_history plan counters p m w at.reduced (begun_now plan counters p o (Settle q) at.next) p (covers p ∙ same_number p))
+    (sees_history plan counters p m w at.seen (begun_now plan counters p o (Settle q) at.next) p (covers p ∙ same_number p))

@@ -12,7 +12,7 @@ use Rattle.eevdf_steps.specs.Plan.{Plan, callers}
 use Rattle.eevdf_steps.specs.Counters.{Counters, counted, held_after, holds, step_next}
 use Rattle.eevdf_steps.specs.Work.{Work, answer, hand}
 use Rattle.eevdf_steps.specs.UnderWay.{KeepsAnswer, UnderWay, hand_seen, queue_seen, under_way, under_way_before}
-use Rattle.eevdf_steps.specs.Reduced.{IsFree, IsReduced, begun_by}
+use Rattle.eevdf_steps.specs.Serial.{IsFree, FollowsHistory, begun_by}
 use Rattle.eevdf_steps.proofs.Holders.{holds_own}
 use Rattle.eevdf_steps.proofs.Lists.{true_eq}
 use Rattle.eevdf_steps.proofs.Positions.{step_in}
@@ -21,7 +21,7 @@ use Rattle.eevdf_steps.proofs.OtherCallers.{IsStepOf}
 
 -- a caller before its next step, on the machine of the history
 pub record AtStep (plan : Plan) (counters : Counters) (p : ℕ) (m : Machine) (w : Work) (o : Op) (micro : Micro) : Type 0 where
-  pub reduced : IsReduced plan m counters w
+  pub seen : FollowsHistory plan m counters w
   pub walk : Walk plan counters p
   pub next : step_next plan counters p ≡ Some (step_in o micro)
   pub fits : FitsMicro plan p walk.held o micro (step_next plan (counted counters p) p)
@@ -53,11 +53,11 @@ pub begun_now : (plan : Plan) (counters : Counters) (p : ℕ) (o : Op) (micro : 
 begun_now plan counters p o micro e = ap (λ (n : Option Step). under_way p n) e
 
 -- before a step of which nothing is under way the caller sees the history
-pub sees_history : (plan : Plan) (counters : Counters) (p : ℕ) (m : Machine) (w : Work) → IsReduced plan m counters w → begun_by plan counters p ≡ None
+pub sees_history : (plan : Plan) (counters : Counters) (p : ℕ) (m : Machine) (w : Work) → FollowsHistory plan m counters w → begun_by plan counters p ≡ None
     → (c : ℕ) → holds plan counters c p ≡ true → queue_at w.machine c ≡ queue_at m c
 sees_history plan counters p m w r e c held = r.held c p held ∙ ap (λ (u : Option UnderWay). queue_seen plan.homes m u c) e
 
-pub holds_nothing : (plan : Plan) (counters : Counters) (p : ℕ) (m : Machine) (w : Work) → IsReduced plan m counters w → begun_by plan counters p ≡ None → hand w p ≡ None
+pub holds_nothing : (plan : Plan) (counters : Counters) (p : ℕ) (m : Machine) (w : Work) → FollowsHistory plan m counters w → begun_by plan counters p ≡ None → hand w p ≡ None
 holds_nothing plan counters p m w r e = r.hands p ∙ ap (λ (u : Option UnderWay). hand_seen plan.homes m u) e
 
 pub no_answer : (homes : List ℕ) (m : Machine) (u : Option UnderWay) (a : Option Answer) → u ≡ None → KeepsAnswer homes m u a
@@ -99,8 +99,8 @@ local_step plan counters p m w w' o micro u at same now stay own hands answers o
 pub quiet_step : (plan : Plan) (counters : Counters) (p : ℕ) (m : Machine) (w : Work) (o : Op) (micro : Micro) → AtStep plan counters p m w o micro → SameLocks plan counters p
     → begun_by plan counters p ≡ None → begun_by plan (counted counters p) p ≡ None → IsStepOf plan counters p m m w w
 quiet_step plan counters p m w o micro at same before after =
-    local_step plan counters p m w w o micro None at same after (λ c h. refl) (sees_history plan counters p m w at.reduced before) (λ q h. refl) (λ q h. refl)
-    (holds_nothing plan counters p m w at.reduced before) tt
+    local_step plan counters p m w w o micro None at same after (λ c h. refl) (sees_history plan counters p m w at.seen before) (λ q h. refl) (λ q h. refl)
+    (holds_nothing plan counters p m w at.seen before) tt
 
 always : (b : Bool) → cond b true true ≡ true
 always true = refl
@@ -127,10 +127,10 @@ acquire_step plan counters p c m w o at free =
       answers = λ q h. refl;
       own = λ k h.
           elim (other_lock c k (c == k) (holds plan counters k p) refl (sym (taken k) ∙ h)) [
-            | inl same ↦ subst (λ (i : ℕ). queue_at w.machine i ≡ queue_at m i) same (at.reduced.free c free)
-            | inr held ↦ sees_history plan counters p m w at.reduced before k held
+            | inl same ↦ subst (λ (i : ℕ). queue_at w.machine i ≡ queue_at m i) same (at.seen.free c free)
+            | inr held ↦ sees_history plan counters p m w at.seen before k held
           ] ∙ ap (λ (u : Option UnderWay). queue_seen plan.homes m u k) (sym after);
-      own_hand = holds_nothing plan counters p m w at.reduced before ∙ ap (λ (u : Option UnderWay). hand_seen plan.homes m u) (sym after);
+      own_hand = holds_nothing plan counters p m w at.seen before ∙ ap (λ (u : Option UnderWay). hand_seen plan.homes m u) (sym after);
       own_answer = no_answer plan.homes m (begun_by plan (counted counters p) p) (answer w p) after;
       released = λ k h i. absurd (false≢true (sym i ∙ taken k ∙ ap (λ (b : Bool). cond (c == k) true b) h ∙ always (c == k)));
       acquired = λ k h i.
@@ -158,10 +158,10 @@ release_step plan counters p c m w o at =
       past = λ k h. refl;
       hands = λ q h. refl;
       answers = λ q h. refl;
-      own = λ k h. sees_history plan counters p m w at.reduced before k (given_lock c k (c == k) (holds plan counters k p) refl (sym (given k) ∙ h))
+      own = λ k h. sees_history plan counters p m w at.seen before k (given_lock c k (c == k) (holds plan counters k p) refl (sym (given k) ∙ h))
           ∙ ap (λ (u : Option UnderWay). queue_seen plan.homes m u k) (sym after);
-      own_hand = holds_nothing plan counters p m w at.reduced before ∙ ap (λ (u : Option UnderWay). hand_seen plan.homes m u) (sym after);
+      own_hand = holds_nothing plan counters p m w at.seen before ∙ ap (λ (u : Option UnderWay). hand_seen plan.homes m u) (sym after);
       own_answer = no_answer plan.homes m (begun_by plan (counted counters p) p) (answer w p) after;
-      released = λ k h i. sees_history plan counters p m w at.reduced before k h;
+      released = λ k h i. sees_history plan counters p m w at.seen before k h;
       acquired = λ k h i. absurd (false≢true (sym h ∙ given_lock c k (c == k) (holds plan counters k p) refl (sym (given k) ∙ i)));
     }

@@ -27,7 +27,7 @@ use Rattle.eevdf_steps.specs.Plan.{Plan, callers, home}
 use Rattle.eevdf_steps.specs.Counters.{Counters, counted, holds}
 use Rattle.eevdf_steps.specs.Work.{Work, acted, answer, answered, attach_asleep, attach_pulled, detach_pulled, detach_running, detached, hand, put_down}
 use Rattle.eevdf_steps.specs.UnderWay.{KeepsAnswer, UnderWay, hand_seen, leaves, queue_seen}
-use Rattle.eevdf_steps.specs.Reduced.{begun_by}
+use Rattle.eevdf_steps.specs.Serial.{begun_by}
 use Rattle.eevdf_steps.proofs.Holders.{other_number, same_number}
 use Rattle.eevdf_steps.proofs.Lists.{true_eq}
 use Rattle.eevdf_steps.proofs.OtherCallers.{IsStepOf}
@@ -50,7 +50,7 @@ pub acted_step : (plan : Plan) (counters : Counters) (p : ℕ) (m : Machine) (w 
 acted_step plan counters p m w o d f at covers now there =
     let before : begun_by plan counters p ≡ None = begun_now plan counters p o Act at.next in
     let own : holds plan counters p p ≡ true = covers p ∙ same_number p in
-    let here : queue_at w.machine p ≡ queue_at m p = sees_history plan counters p m w at.reduced before p own in
+    let here : queue_at w.machine p ≡ queue_at m p = sees_history plan counters p m w at.seen before p own in
     local_step plan counters p m w (acted w p (f (queue_at w.machine p))) o Act (Some (record { deed = d; done = true })) at
     (same_locks plan counters p o Act at.counter at.next (λ c b. refl)) now
     (λ c h. other_queue w.machine p c (f (queue_at w.machine p)).1 (not_own plan counters p c own h))
@@ -61,7 +61,7 @@ acted_step plan counters p m w o d f at covers now there =
     ∙ ap (λ (n : Machine). queue_at n p) (sym there.1)))
     (λ q h. refl)
     (λ q h. get_or-set_other w.answers p q (Some (f (queue_at w.machine p)).0) None h)
-    (holds_nothing plan counters p m w at.reduced before)
+    (holds_nothing plan counters p m w at.seen before)
     (get_or-set_same w.answers p (Some (f (queue_at w.machine p)).0) None (omega (arith, at.caller, at.answers))
     ∙ ap (λ (q : State). Some (f q).0) here ∙ ap (λ (a : Answer). Some a) (sym there.0))
 
@@ -74,11 +74,11 @@ refused_step plan counters p m w o d a at now answers leaves_none =
     local_step plan counters p m w (answered w p a) o Detach (Some (record { deed = d; done = false })) at
     (same_locks plan counters p o Detach at.counter at.next (λ c b. refl)) now
     (λ c h. refl)
-    (λ c h. sees_history plan counters p m w at.reduced before c h ∙ sym (idle (c == giver d) (queue_at m c))
+    (λ c h. sees_history plan counters p m w at.seen before c h ∙ sym (idle (c == giver d) (queue_at m c))
     ∙ ap (λ (x : Option Contents). only_at (giver d) c (after_leaving x) (queue_at m c)) (sym leaves_none))
     (λ q h. refl)
     (λ q h. get_or-set_other w.answers p q (Some a) None h)
-    (holds_nothing plan counters p m w at.reduced before ∙ sym leaves_none)
+    (holds_nothing plan counters p m w at.seen before ∙ sym leaves_none)
     (get_or-set_same w.answers p (Some a) None (omega (arith, at.caller, at.answers)) ∙ ap (λ (x : Answer). Some x) (sym answers))
 
 -- a detach takes a task into the hand
@@ -93,7 +93,7 @@ grasped_step plan counters p m w o d x a at now own below answers leaves_it =
     (λ c h. other_queue w.machine (giver d) c (leave (queue_at w.machine (giver d)) x.task)
     (λ same. unheld (holds plan counters c p) true (ap (λ (k : ℕ). holds plan counters k p) same ∙ own) refl h))
     (λ c h. changed (λ q. leave q x.task) w.machine (giver d) c below
-    ∙ ap (λ (q : State). only_at (giver d) c (λ r. leave r x.task) q) (sees_history plan counters p m w at.reduced before c h)
+    ∙ ap (λ (q : State). only_at (giver d) c (λ r. leave r x.task) q) (sees_history plan counters p m w at.seen before c h)
     ∙ ap (λ (y : Option Contents). only_at (giver d) c (after_leaving y) (queue_at m c)) (sym leaves_it))
     (λ q h. get_or-set_other w.hands p q (Some x) None h)
     (λ q h. get_or-set_other w.answers p q (Some a) None h)
@@ -140,9 +140,9 @@ pub at_attach : (plan : Plan) (counters : Counters) (p : ℕ) (m : Machine) (w :
 at_attach plan counters p m w o d at before now = record {
   at = at;
   now = now;
-  hand_is = at.reduced.hands p ∙ ap (λ (u : Option UnderWay). hand_seen plan.homes m u) before;
-  answer_is = subst (λ (u : Option UnderWay). KeepsAnswer plan.homes m u (answer w p)) before (at.reduced.answers p);
-  queues_are = λ c h. at.reduced.held c p h ∙ ap (λ (u : Option UnderWay). queue_seen plan.homes m u c) before;
+  hand_is = at.seen.hands p ∙ ap (λ (u : Option UnderWay). hand_seen plan.homes m u) before;
+  answer_is = subst (λ (u : Option UnderWay). KeepsAnswer plan.homes m u (answer w p)) before (at.seen.answers p);
+  queues_are = λ c h. at.seen.held c p h ∙ ap (λ (u : Option UnderWay). queue_seen plan.homes m u c) before;
 }
 
 -- the hand is empty

@@ -30,7 +30,7 @@ use Rattle.eevdf_steps.specs.Playing.{IsPlaying, player_of}
 use Rattle.eevdf_steps.proofs.Lists.{both}
 use Rattle.eevdf_steps.proofs.SoundSteps.{is_caller, step_sound}
 use Rattle.eevdf_steps.proofs.WorkPlaces.{hand_nowhere}
-use Rattle.eevdf_steps.specs.Reduced.{IsSerial}
+use Rattle.eevdf_steps.specs.Serial.{IsSerial}
 use Rattle.eevdf_steps.proofs.SerialSteps.{SerialStep, serial_step}
 use Rattle.eevdf_steps.proofs.WorkSteps.{works_kept}
 use Rattle.eevdf_steps.proofs.Posting.{posts_step}

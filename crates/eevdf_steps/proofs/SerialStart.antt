@@ -8,7 +8,7 @@ use Rattle.eevdf_steps.specs.MicroSteps.{steps_by}
 use Rattle.eevdf_steps.specs.Counters.{held_by_steps, holds, step_next}
 use Rattle.eevdf_steps.specs.Orders.{counters_at_start}
 use Rattle.eevdf_steps.specs.UnderWay.{UnderWay, hand_seen}
-use Rattle.eevdf_steps.specs.Reduced.{IsSerial, begun_by}
+use Rattle.eevdf_steps.specs.Serial.{IsSerial, begun_by}
 use Rattle.eevdf_steps.proofs.Holders.{count_first, none_first}
 use Rattle.eevdf_steps.proofs.Walking.{fresh_at_start}
 use Rattle.eevdf_steps.proofs.OwnSteps.{fresh_begun, no_answer}
@@ -23,7 +23,7 @@ pub serial_start : (plan : Plan) (m : Machine) → IsSound plan → m ≡ plan.s
     → IsSerial plan plan.start (counters_at_start plan) (record { machine = m; hands = replicate (callers plan) None; answers = replicate (callers plan) None }) []
 serial_start plan m sound is = record {
   history = refl;
-  reduced = record {
+  seen = record {
     alone = λ c p q h k. absurd (false≢true (sym (holds_nothing plan c p) ∙ h));
     free = λ c h. ap (λ (n : Machine). queue_at n c) is;
     held = λ c p h. absurd (false≢true (sym (holds_nothing plan c p) ∙ h));

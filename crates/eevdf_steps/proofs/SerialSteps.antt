@@ -28,14 +28,14 @@ use Rattle.eevdf_steps.specs.MicroState.{appends, home_for, line_of, works}
 use Rattle.eevdf_steps.specs.Work.{Work, answer, hand, pull_decision, woken}
 use Rattle.eevdf_steps.specs.Working.{FitsHand, HasRoom}
 use Rattle.eevdf_steps.specs.UnderWay.{under_way}
-use Rattle.eevdf_steps.specs.Reduced.{IsFree, IsReduced, IsSerial}
+use Rattle.eevdf_steps.specs.Serial.{IsFree, FollowsHistory, IsSerial}
 use Rattle.eevdf_steps.proofs.Holders.{nobody_past, not_blocked, same_number}
 use Rattle.eevdf_steps.proofs.Lists.{true_lt}
 use Rattle.eevdf_steps.proofs.Positions.{step_in}
 use Rattle.eevdf_steps.proofs.SoundSteps.{home_below, is_caller}
 use Rattle.eevdf_steps.proofs.Walks.{Covers, Fits, Walk, touched}
 use Rattle.eevdf_steps.proofs.Walking.{walking}
-use Rattle.eevdf_steps.proofs.OtherCallers.{IsStepOf, reduced_then}
+use Rattle.eevdf_steps.proofs.OtherCallers.{IsStepOf, followed_then}
 use Rattle.eevdf_steps.proofs.OwnSteps.{AtStep, acquire_step, begun_now, fresh_begun, holds_nothing, quiet_step, release_step, same_locks, sees_history}
 use Rattle.eevdf_steps.proofs.OwnWork.{AtAttach, acted_step, at_attach, falls_asleep_step, joins_step, pull_leaves, room_then, sleep_leaves}
 use Rattle.eevdf_steps.proofs.OwnCommits.{commit_answer, commit_step, history_more, length-machine_after, machine_more, settle_answer, settle_step}
@@ -58,7 +58,7 @@ local_serial : (plan : Plan) (start : Machine) (counters : Counters) (p : ℕ) (
 local_serial plan start counters p w w' lines o micro s step =
     no_more plan start (counted counters p) w' lines (record {
       history = s.serial.history;
-      reduced = reduced_then plan counters p (machine_told plan.homes start lines) (machine_told plan.homes start lines) w w' s.serial.reduced
+      seen = followed_then plan counters p (machine_told plan.homes start lines) (machine_told plan.homes start lines) w w' s.serial.seen
           (are_walking plan counters s.sound s.each) step;
     })
 
@@ -68,8 +68,8 @@ line_serial : (plan : Plan) (start : Machine) (counters : Counters) (p : ℕ) (w
     → a ≡ (whole plan.homes d (machine_told plan.homes start lines)).0 → IsSerial plan start (counted counters p) w' (lines ++ record { deed = d; answer = a } ∷ [])
 line_serial plan start counters p w w' lines o micro d a s step e = record {
   history = history_more plan.homes start lines d a s.serial.history e;
-  reduced = subst (λ (m : Machine). IsReduced plan m (counted counters p) w') (sym (machine_more plan.homes start lines (record { deed = d; answer = a })))
-      (reduced_then plan counters p (machine_told plan.homes start lines) _ w w' s.serial.reduced (are_walking plan counters s.sound s.each) step);
+  seen = subst (λ (m : Machine). FollowsHistory plan m (counted counters p) w') (sym (machine_more plan.homes start lines (record { deed = d; answer = a })))
+      (followed_then plan counters p (machine_told plan.homes start lines) _ w w' s.serial.seen (are_walking plan counters s.sound s.each) step);
 }
 
 -- the locks that the caller holds are those of the queues that its operation touches
@@ -106,7 +106,7 @@ any_here a b e = ap (λ (x : Bool). x || b) e
 same_queue : (plan : Plan) (start : Machine) (counters : Counters) (p c : ℕ) (w : Work) (lines : List Line) (o : Op) → Serial plan start counters p w lines o Detach → holds plan counters c p ≡ true
     → queue_at w.machine c ≡ queue_at (machine_told plan.homes start lines) c
 same_queue plan start counters p c w lines o s h =
-    sees_history plan counters p (machine_told plan.homes start lines) w s.serial.reduced (begun_now plan counters p o Detach s.at.next) c h
+    sees_history plan counters p (machine_told plan.homes start lines) w s.serial.seen (begun_now plan counters p o Detach s.at.next) c h
 
 detach_serial : (plan : Plan) (start : Machine) (counters : Counters) (p h : ℕ) (w : Work) (lines : List Line) (o : Op) (f : Option ℕ) → Serial plan start counters p w lines o Detach
     → IsSerial plan start (counted counters p) (works h w p o Detach f) (lines ++ [])
@@ -289,7 +289,7 @@ room_in_hand plan start counters p w lines op.Drain s = tt
 
 hand_fits : (plan : Plan) (start : Machine) (counters : Counters) (p : ℕ) (w : Work) (lines : List Line) (o : Op) (micro : Micro) → Serial plan start counters p w lines o micro → FitsHand w p o micro
 hand_fits plan start counters p w lines o Detach s =
-    holds_nothing plan counters p (machine_told plan.homes start lines) w s.serial.reduced (begun_now plan counters p o Detach s.at.next)
+    holds_nothing plan counters p (machine_told plan.homes start lines) w s.serial.seen (begun_now plan counters p o Detach s.at.next)
 hand_fits plan start counters p w lines o Attach s = room_in_hand plan start counters p w lines o s
 hand_fits plan start counters p w lines o Act s = tt
 hand_fits plan start counters p w lines o Commit s = tt
@@ -302,7 +302,7 @@ hand_fits plan start counters p w lines o (Release c) s = tt
 -- a queue whose lock has no holder is that of the history
 pub free_queue : (plan : Plan) (start : Machine) (counters : Counters) (w : Work) (lines : List Line) (c : ℕ) → IsSerial plan start counters w lines → holder plan counters c ≡ None
     → queue_at w.machine c ≡ queue_at (machine_told plan.homes start lines) c
-free_queue plan start counters w lines c s e = s.reduced.free c (free_lock plan counters c e)
+free_queue plan start counters w lines c s e = s.seen.free c (free_lock plan counters c e)
 
 -- lists that have a member for each caller
 pub record HasAll (plan : Plan) (counters : Counters) (w : Work) : Type 0 where
@@ -328,7 +328,7 @@ serial_step plan start counters p w lines s f sound long all serial e free =
       each = all.each;
       serial = serial;
       at = record {
-        reduced = serial.reduced;
+        seen = serial.seen;
         walk = walk;
         next = e;
         fits = subst (λ (o : Option Step). MatchOption o (walk.held ≡ []) (λ t. Fits plan p walk.held t (step_next plan (counted counters p) p))) e walk.fits;

@@ -16,7 +16,7 @@ use Rattle.eevdf_steps.specs.Counters.{Counters, count_of, step_next}
 use Rattle.eevdf_ops.specs.Programs.{deed_of}
 use Rattle.eevdf_steps.specs.SoundSteps.{is_sound_micro}
 use Rattle.eevdf_steps.specs.UnderWay.{UnderWay, under_way}
-use Rattle.eevdf_steps.specs.Reduced.{begun_by}
+use Rattle.eevdf_steps.specs.Serial.{begun_by}
 use Rattle.eevdf_steps.proofs.Lists.{both, lt_true}
 use Rattle.eevdf_steps.proofs.Positions.{step_in}
 use Rattle.eevdf_steps.proofs.Setups.{and_true}

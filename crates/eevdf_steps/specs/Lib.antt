@@ -18,7 +18,7 @@ pub mod Recorded
 pub mod Working
 pub mod Room
 pub mod UnderWay
-pub mod Reduced
+pub mod Serial
 pub mod Players
 pub mod Playing
 pub mod Openings

@@ -7,7 +7,7 @@ use Rattle.eevdf_steps.specs.Callers.{Callers}
 use Rattle.eevdf_steps.specs.PostLists.{ArePosted, PostList, progress_in}
 use Rattle.eevdf_steps.specs.Recorded.{Recorded}
 use Rattle.eevdf_steps.specs.Room.{lines_to_come}
-use Rattle.eevdf_steps.specs.Reduced.{IsSerial}
+use Rattle.eevdf_steps.specs.Serial.{IsSerial}
 use Rattle.eevdf_steps.specs.Work.{Work}
 use Rattle.eevdf_steps.specs.Places.{places_of}
 use Rattle.eevdf_steps.specs.Players.{Player}

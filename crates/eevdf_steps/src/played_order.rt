@@ -26,8 +26,8 @@ use std::alloc::Global;
 ///
 /// Whatever the order, its outcome is that of one thread that does the deeds of the order's commits one after the other,
 /// each at once: the same answers, the same queues. The setup allows each of these deeds. The lines of each CPU are its
-/// program's operations, in order and each once, and each request that was posted was either drained once, in order, or
-/// is left.
+/// program's operations, in order and each once (a post has no line, a drain the wakes that it found), and each request
+/// that was posted was either drained once, in order, or is left.
 pub fn play(alloc: Global, setup: &Setup, order: &[usize]) -> Result<Outcome, PlayFault>
     ensures play { IsPlay setup.now order.now result }
     ensures whole { OnOk result (IsWhole (plan_of setup.now) (orders.counters_at_start (plan_of setup.now)) order.now) }

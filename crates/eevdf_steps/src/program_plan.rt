@@ -1,9 +1,7 @@
 //! What the callers are to do.
 
-ghost use Rattle.std.specs.Prelude.{◌≡◌, ◌+◌, ◌<◌, ◌≤◌, is_some, Some, true, length, slice_get, slice_index_or, map, None, IfOk, IfSome};
+ghost use Rattle.std.specs.Prelude.{◌≡◌, ◌+◌, ◌<◌, ◌≤◌, is_some, Some, true, length, slice_get, map, None, IfOk, IfSome};
 ghost use Rattle.std.specs.Option.{option_map};
-ghost use Rattle.eevdf_ops.specs.Faults as faults;
-ghost use Rattle.eevdf_ops.specs.Setup.{homes_of};
 ghost use Rattle.eevdf_steps.specs.Plan.{IsSound, callers, home, is_sound_op, plan_of, program};
 ghost use Rattle.eevdf_steps.specs.MicroSteps.{micros_of, steps_by};
 ghost use Rattle.eevdf_steps.specs.Positions.{counter_at, is_position};

@@ -1,4 +1,4 @@
-ghost use Rattle.std.specs.Prelude.{◌≡◌, ◌<◌, true, is_none, length, Some, None, drop, map, IfOk, OnOk};
+ghost use Rattle.std.specs.Prelude.{◌≡◌, ◌<◌, true, is_none, length, Some, None, IfOk, OnOk};
 ghost use Rattle.eevdf_ops.specs.Histories.{AreHistory, IsOneThread};
 ghost use Rattle.eevdf_ops.specs.Machine.{queue_at};
 ghost use Rattle.eevdf_ops.specs.Programs.{deeds_of};
@@ -8,7 +8,7 @@ ghost use Rattle.eevdf_steps.specs.Places.{stands_at};
 ghost use Rattle.eevdf_steps.specs.Players as player;
 ghost use Rattle.eevdf_steps.specs.Playing as playing;
 ghost use Rattle.eevdf_steps.specs.Plays as plays;
-ghost use Rattle.eevdf_steps.specs.Reduced.{IsSerial};
+ghost use Rattle.eevdf_steps.specs.Serial.{IsSerial};
 
 use crate::lists_of_steps::cpu_number;
 use crate::locked_callers::LockedCallers;

@@ -18,7 +18,7 @@ IsFree plan counters cpu = (caller : ℕ) → holds plan counters cpu caller ≡
 
 -- at most one caller holds each lock; a queue that nobody holds is that of the history; and each caller sees in the
 -- queues that it holds, in its hand and in its answer what its own part of the whole operation makes of the history
-pub record IsReduced (plan : Plan) (m : Machine) (counters : Counters) (w : Work) : Type 0 where
+pub record FollowsHistory (plan : Plan) (m : Machine) (counters : Counters) (w : Work) : Type 0 where
   pub alone : (cpu p q : ℕ) → holds plan counters cpu p ≡ true → holds plan counters cpu q ≡ true → p ≡ q
   pub free : (cpu : ℕ) → IsFree plan counters cpu → queue_at w.machine cpu ≡ queue_at m cpu
   pub held : (cpu p : ℕ) → holds plan counters cpu p ≡ true → queue_at w.machine cpu ≡ queue_seen plan.homes m (begun_by plan counters p) cpu
@@ -28,4 +28,4 @@ pub record IsReduced (plan : Plan) (m : Machine) (counters : Counters) (w : Work
 -- the lines are a history, and all that the callers see follows from the machine that it leaves
 pub record IsSerial (plan : Plan) (start : Machine) (counters : Counters) (w : Work) (lines : List Line) : Type 0 where
   pub history : AreHistory plan.homes start lines
-  pub reduced : IsReduced plan (machine_told plan.homes start lines) counters w
+  pub seen : FollowsHistory plan (machine_told plan.homes start lines) counters w
