@@ -18,7 +18,7 @@ use Rattle.eevdf_steps.specs.declared.play_fault.PlayFault.{PlayFault}
 use Rattle.eevdf_steps.specs.declared.play_fault.PlayFault.TheVariants.{TooLong, Memory, NoCaller, Done, Blocked, Short}
 use Rattle.eevdf_steps.specs.Plan.{Plan, plan_of}
 use Rattle.eevdf_steps.specs.Counters.{Counters, counted, refusal, unfinished}
-use Rattle.eevdf_steps.specs.Orders.{counters_at_start, fault_or, most_places, order_fault, play_fault}
+use Rattle.eevdf_steps.specs.Orders.{IsWhole, counters_at_start, fault_or, most_places, order_fault, play_fault}
 use Rattle.eevdf_steps.specs.MicroState.{micro}
 use Rattle.eevdf_steps.specs.Plays.{IsOutcome, IsPlay}
 use Rattle.eevdf_bench.specs.declared.bench_fault.BenchFault.{BenchFault}
@@ -102,11 +102,12 @@ replayed w history s order text o there same is t =
 
 -- the outcome is one thread's, and follows the programs
 pub replay_is : (w : Workload) (history : Bool) (s : Setup) (order text : List ℕ) (o : Outcome) → Some order ≡ w.order → s ≡ w.setup
-    → IsOneThread (homes_of s) (start s) (deeds_committed s order) o → list_all (allows s) (deeds_of o.lines) ≡ true → FollowsPrograms s o → text ≡ report_text o.lines (machine_of o.queues) o.left history → IsReplay w history text
-replay_is w history s order text o there same one allowed follows t = record {
+    → IsWhole (plan_of s) (counters_at_start (plan_of s)) order → IsOneThread (homes_of s) (start s) (deeds_committed s order) o → list_all (allows s) (deeds_of o.lines) ≡ true → FollowsPrograms s o → text ≡ report_text o.lines (machine_of o.queues) o.left history → IsReplay w history text
+replay_is w history s order text o there same whole one allowed follows t = record {
   order = order;
   outcome = o;
   listed = sym there;
+  whole = subst (λ (u : Setup). IsWhole (plan_of u) (counters_at_start (plan_of u)) order) same whole;
   one_thread = subst (λ (u : Setup). IsOneThread (homes_of u) (start u) (deeds_committed u order) o) same one;
   allowed = subst (λ (u : Setup). list_all (allows u) (deeds_of o.lines) ≡ true) same allowed;
   programs = subst (λ (u : Setup). FollowsPrograms u o) same follows;

@@ -1,15 +1,14 @@
 //! From the bytes of a workload to the bytes of its report.
 
-ghost use Rattle.std.specs.Prelude.{◌≡◌, ◌≢◌, true, false, IfOk, IfErr, IfSome, OnOk, OnErr, Err};
+ghost use Rattle.std.specs.Prelude.{◌≡◌, ◌≢◌, true, false, IfOk, IfErr, IfSome, OnOk, Err};
 ghost use Rattle.std.specs.Io.KnownBytes.{Keeps};
 ghost use Rattle.eevdf_bench.specs.Replays.{IsReplay, IsReplayOf, WritesReplay};
 ghost use Rattle.eevdf_bench.specs.Runs.{Answers, Begins, LoadsAs, Makes, PlaysAs, Writes, answer_of, report_of};
-ghost use Rattle.eevdf_bench.specs.Streams.{HasBegun, ReadsTo, ReadsWithin};
+ghost use Rattle.eevdf_bench.specs.Streams.{ReadsTo, ReadsWithin};
 
 use crate::bench_fault::BenchFault;
 use crate::byte_streams::{read_input, write_text};
 use crate::command_words::{Command, Kind};
-use crate::load_fault::LoadFault;
 use crate::loaded_workload::Workload;
 use crate::reading::read_workload;
 use crate::replay_run::replay_text;
@@ -18,7 +17,8 @@ use crate::watched::Watched;
 use std::alloc::Global;
 use std::io::{Read, Write};
 
-/// Reads a workload to its end, makes the whole report that the command asks for, and writes it.
+/// Reads a workload to its end, makes the whole report that the command asks for, and writes it. Neither end may have
+/// failed before. `Load` is the first fault of the workload or the part that it lacks, `Play` the fault of its order.
 ///
 /// A reader that goes on for more than 16777216 bytes is read to one byte more, and then refused; it is never read
 /// further. `Read` comes only where the reader failed, `Write` only where the writer did, and `Ok` where neither did.

@@ -1,6 +1,6 @@
 //! Reading the whole input, up to a limit, and writing the whole report.
 
-ghost use Rattle.std.specs.Prelude.{◌≡◌, ℕ, ◌+◌, ◌-◌, ◌≤◌, ◌<◌, ◌⊎◌, length, take, true, false, vec_len, IfOk, OnOk, IfErr, OnErr, IfSome, Err};
+ghost use Rattle.std.specs.Prelude.{◌≡◌, ◌+◌, ◌-◌, ◌≤◌, ◌<◌, ◌⊎◌, length, take, true, false, vec_len, IfOk, OnOk, IfErr, OnErr, IfSome, Err};
 ghost use Rattle.std.specs.Io.KnownBytes.{Appends, Keeps};
 ghost use Rattle.eevdf_bench.specs.Streams.{ReadsOn, ReadsTo, ReadsWithin, HasBegun};
 
@@ -12,7 +12,8 @@ use std::io::{Read, Write};
 /// One byte more than a workload may have: enough to see that there are too many.
 const READ_LIMIT: usize = 16777217;
 
-/// Reads to the end, or to one byte past the limit of a workload, and no further.
+/// The bytes of a reader that hasn't failed yet, read to its end, or to one byte past the limit of a workload and no further.
+/// `Read` where the reader fails, `Memory` where there is no room for the bytes.
 pub fn read_input<R: Read>(alloc: Global, reader: &mut Watched<R>) -> Result<Vec<u8>, BenchFault>
     requires { reader.old.failed ≡ false }
     ensures bytes { IfOk result (λ input. IfSome (R.remaining reader.old.end)
@@ -58,7 +59,8 @@ fn read_piece<R: Read>(reader: &mut Watched<R>, input: &mut Vec<u8>) -> Result<u
     }
 }
 
-/// Writes a whole text and flushes. After a failure a beginning of the text is written.
+/// Writes a whole text to a writer that hasn't failed yet, and flushes. `Write` where the writer fails: a beginning of the text
+/// is written then.
 pub fn write_text<W: Write>(writer: &mut Watched<W>, text: &[u8]) -> Result<(), BenchFault>
     requires { writer.old.failed ≡ false }
     ensures written { OnOk result (Appends (W.contents writer.old.end) (W.contents writer.new.end) text.now) }

@@ -1,6 +1,6 @@
 ghost use Rattle.std.specs.Prelude.{◌≡◌, ◌++◌, OnOk, IfOk, decimal};
 ghost use Rattle.eevdf_bench.specs.Text.{task_text};
-ghost use Rattle.eevdf_bench.specs.TextFault.{program_key, operation_key, place_key, key_text, setup_fault_text, load_fault_text, play_fault_text, bench_fault_text, fault_line, setup_status, load_status, play_status};
+ghost use Rattle.eevdf_bench.specs.TextFault.{program_key, operation_key, place_key, key_text, setup_fault_text, load_fault_text, play_fault_text, bench_fault_text, fault_line};
 ghost use Rattle.eevdf_bench.specs.TextFault as texts;
 
 use crate::bench_fault::BenchFault;

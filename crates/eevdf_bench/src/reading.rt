@@ -31,7 +31,7 @@ use toml::Table;
 const MOST_BYTES: usize = 16_777_216;
 
 /// The workload that the bytes of a TOML document describe, or the first fault that is found in them.
-/// `Memory` comes in place of either, and only where a growth was refused.
+/// `Memory` may come in place of either.
 #[tactic(auto, unfolding(crate::specs::Meaning::meaning))]
 pub fn read_workload(alloc: Global, bytes: &[u8]) -> Result<Workload, LoadFault>
     ensures { Reads (λ w. w) (meaning bytes.now) result }

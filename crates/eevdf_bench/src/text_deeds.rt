@@ -1,4 +1,4 @@
-ghost use Rattle.std.specs.Prelude.{◌≡◌, ◌++◌, OnOk, codes, decimal};
+ghost use Rattle.std.specs.Prelude.{◌≡◌, ◌++◌, OnOk, decimal};
 ghost use Rattle.eevdf_bench.specs.TextDeed.{deed_text, answer_text, resched_text, schedule_line, script_line};
 ghost use Rattle.eevdf_bench.specs.TextDeed as texts;
 

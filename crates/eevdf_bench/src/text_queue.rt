@@ -1,5 +1,4 @@
 ghost use Rattle.std.specs.Prelude.{◌≡◌, ◌++◌, ◌<◌, OnOk};
-ghost use Rattle.eevdf_queue.specs.State.{View};
 ghost use Rattle.eevdf_queue.specs.Kept.{IsKept};
 ghost use Rattle.eevdf_queue.specs.Candidate.{is_running};
 ghost use Rattle.eevdf_bench.specs.TextQueue.{queue_text, task_lines, asleep_lines, task_at, asleep_at};

@@ -17,6 +17,7 @@ use Rattle.eevdf_steps.specs.Orders.{counters_after, counters_at_start, fault_or
 use Rattle.eevdf_steps.specs.Requests.{Progress, progress_by}
 use Rattle.eevdf_steps.specs.MicroState.{MicroState, micro_by}
 use Rattle.eevdf_steps.specs.Players.{Player, player_start, player_step}
+use Rattle.eevdf_steps.proofs.LawfulOrders.{whole_is_played}
 use Rattle.eevdf_steps.proofs.Lists.{both, true_lt}
 use Rattle.eevdf_orders.specs.CallerSteps.{IsStepOf}
 
@@ -36,7 +37,7 @@ placed_first s a e = record {
 -- ---- a caller that may step
 
 -- it is a caller, and it has a step to do
-pub record Stepper (plan : Plan) (counters : Counters) (p : ℕ) : Type 0 where
+pub record HasStep (plan : Plan) (counters : Counters) (p : ℕ) : Type 0 where
   pub below : p < callers plan
   pub has_step : is_some (step_next plan counters p) ≡ true
 
@@ -45,7 +46,7 @@ mapped_some f None e = e
 mapped_some f (Some x) e = refl
 
 stepper : (plan : Plan) (counters : Counters) (p : ℕ) (b : Bool) (m : Option Micro) → nat_lt p (callers plan) ≡ b → next plan counters p ≡ m
-    → is_none (cond b (refused_next plan counters m) (Some NoCaller)) ≡ true → Stepper plan counters p
+    → is_none (cond b (refused_next plan counters m) (Some NoCaller)) ≡ true → HasStep plan counters p
 stepper plan counters p true (Some m) e f h = record {
   below = true_lt p (callers plan) e;
   has_step = mapped_some _ (step_next plan counters p) (ap (λ (o : Option Micro). is_some o) f);
@@ -53,8 +54,8 @@ stepper plan counters p true (Some m) e f h = record {
 stepper plan counters p true None e f h = absurd (false≢true h)
 stepper plan counters p false m e f h = absurd (false≢true h)
 
-pub stepper_of : (plan : Plan) (counters : Counters) (p : ℕ) → may_step plan counters p ≡ true → Stepper plan counters p
-stepper_of plan counters p h = stepper plan counters p (nat_lt p (callers plan)) (next plan counters p) refl refl h
+pub has_step_of : (plan : Plan) (counters : Counters) (p : ℕ) → may_step plan counters p ≡ true → HasStep plan counters p
+has_step_of plan counters p h = stepper plan counters p (nat_lt p (callers plan)) (next plan counters p) refl refl h
 
 progress_counted : (plan : Plan) (g : Progress) (p : ℕ) (o : _) → is_some o ≡ true → (progress_by plan g p o).counters ≡ counted g.counters p
 progress_counted plan g p None h = absurd (false≢true h)
@@ -67,7 +68,7 @@ micro_counted plan s p (Some x) h there = progress_counted plan s.progress p (st
 
 counted_by : (a : Player) (p : ℕ) → may_step a.plan a.state.progress.counters p ≡ true → (player_step a p).state.progress.counters ≡ counted a.state.progress.counters p
 counted_by a p may =
-    let st : Stepper a.plan a.state.progress.counters p = stepper_of a.plan a.state.progress.counters p may in
+    let st : HasStep a.plan a.state.progress.counters p = has_step_of a.plan a.state.progress.counters p may in
     micro_counted a.plan a.state p (step_next a.plan a.state.progress.counters p) st.has_step st.has_step
 
 -- ---- one place more
@@ -100,34 +101,15 @@ placed_more plan a b order p placed stepped = record {
 
 -- ---- the end
 
-no_fault : (at : ℕ) (r : Option StepFault) (later : Option PlayFault) → is_none r ≡ true → later ≡ None → fault_or at r later ≡ None
-no_fault at None later none e = e
-no_fault at (Some f) later none e = absurd (false≢true none)
-
-faultless : (plan : Plan) (counters : Counters) (at : ℕ) (order : List ℕ) → is_lawful plan counters order ≡ true → unfinished plan (counters_after counters order) ≡ None
-    → order_fault plan counters at order ≡ None
-faultless plan counters at [] lawful done = ap (λ (o : Option ℕ). option_map (λ (p : ℕ). Short p) o) done
-faultless plan counters at (p ∷ order) lawful done =
-    let parts : (may_step plan counters p ≡ true) × (is_lawful plan (counted counters p) order ≡ true)
-    = both (may_step plan counters p) (is_lawful plan (counted counters p) order) lawful in
-    no_fault at _ _ parts.0 (faultless plan (counted counters p) _ order parts.1 done)
-
-is_short : (m n : ℕ) → n ≤ m → nat_lt m n ≡ false
-is_short m n h = grind (arith, nat_tests)
-
-none_is : {A : Type 0} (o : Option A) → is_none o ≡ true → o ≡ None
-none_is None e = refl
-none_is (Some x) e = absurd (false≢true e)
-
 -- where nobody is ready any more, the order has no fault
 pub placed_whole : (plan : Plan) (a : Player) (order : List ℕ) → IsPlaced plan a order → length order ≤ 1000000
     → is_none (unfinished a.plan a.state.progress.counters) ≡ true → play_fault plan order ≡ None
 placed_whole plan a order placed short none =
-    let done : unfinished plan (counters_after (counters_at_start plan) order) ≡ None
-    = sym (ap (λ (pl : Plan). unfinished pl a.state.progress.counters) placed.plan_is ∙ ap (λ (cs : Counters). unfinished plan cs) placed.counters)
-    ∙ none_is (unfinished a.plan a.state.progress.counters) none in
-    ap (λ (b : Bool). cond b (Some TooLong) (order_fault plan (counters_at_start plan) 0 order)) (is_short 1000000 (length order) short)
-    ∙ faultless plan (counters_at_start plan) 0 order placed.lawful done
+    whole_is_played plan order short (record {
+      lawful = placed.lawful;
+      complete = sym (ap (λ (pl : Plan). is_none (unfinished pl a.state.progress.counters)) placed.plan_is ∙ ap (λ (cs : Counters). is_none (unfinished plan cs)) placed.counters)
+          ∙ none;
+    })
 
 -- ---- what the code has of it
 

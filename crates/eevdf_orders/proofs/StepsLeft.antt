@@ -12,15 +12,16 @@ use Rattle.eevdf_steps.specs.declared.step_fault.StepFault.{StepFault}
 use Rattle.eevdf_steps.specs.Plan.{Plan, callers}
 use Rattle.eevdf_steps.specs.MicroSteps.{steps_by}
 use Rattle.eevdf_steps.specs.Counters.{Counters, count_of, counted, is_under_way, may_step, refusal, step_next, unfinished}
-use Rattle.eevdf_steps.specs.Orders.{counters_after, counters_at_start, fault_or, is_lawful, order_fault, play_fault}
+use Rattle.eevdf_steps.specs.Orders.{IsWhole, counters_after, counters_at_start, is_lawful, order_fault, play_fault}
 use Rattle.eevdf_steps.specs.Room.{sum_from}
 use Rattle.eevdf_steps.specs.Players.{Player}
 use Rattle.eevdf_steps.proofs.Lists.{both}
 use Rattle.eevdf_steps.proofs.Holders.{number_cases}
+use Rattle.eevdf_steps.proofs.LawfulOrders.{faultless_whole, none_of}
 use Rattle.eevdf_steps.proofs.Ready.{Found, least_found}
 use Rattle.eevdf_steps.proofs.Rooms.{sum_less}
 use Rattle.eevdf_orders.proofs.GoingAround.{none_in}
-use Rattle.eevdf_orders.proofs.PlacedOrders.{IsPlaced, Stepper, stepper_of}
+use Rattle.eevdf_orders.proofs.PlacedOrders.{IsPlaced, HasStep, has_step_of}
 
 -- the steps that a caller has still to do
 abbrev steps_left : Plan → Counters → ℕ → ℕ
@@ -51,7 +52,7 @@ other_left plan counters p q apart =
 one_less : (plan : Plan) (counters : Counters) (p : ℕ) → length counters ≡ callers plan → may_step plan counters p ≡ true
     → all_left plan counters ≡ all_left plan (counted counters p) + 1
 one_less plan counters p each may =
-    let st : Stepper plan counters p = stepper_of plan counters p may in
+    let st : HasStep plan counters p = has_step_of plan counters p may in
     sum_less (steps_left plan counters) (steps_left plan (counted counters p)) p 0 (callers plan) 1 (omega arith) (omega (arith, st.below))
     (own_left plan counters p (omega (arith, st.below, each)) st.has_step) (other_left plan counters p)
 
@@ -113,40 +114,17 @@ some_left plan counters busy = go (unfinished plan counters) refl busy
 
 -- ---- orders without a fault
 
-record IsFaultless (plan : Plan) (counters : Counters) (order : List ℕ) : Type 0 where
-  lawful : is_lawful plan counters order ≡ true
-  done : unfinished plan (counters_after counters order) ≡ None
-
-nobody : (o : Option ℕ) → option_map (λ (p : ℕ). Short p) o ≡ None → o ≡ None
-nobody None e = refl
-nobody (Some p) e = cc
-
-faultless_by : (plan : Plan) (counters : Counters) (p : ℕ) (order : List ℕ) (at : ℕ) (r : Option StepFault) → refusal plan counters p ≡ r
-    → fault_or at r (order_fault plan (counted counters p) (at + 1) order) ≡ None
-    → (order_fault plan (counted counters p) (at + 1) order ≡ None → IsFaultless plan (counted counters p) order) → IsFaultless plan counters (p ∷ order)
-faultless_by plan counters p order at (Some f) e h later = cc
-faultless_by plan counters p order at None e h later =
-    let rest : IsFaultless plan (counted counters p) order = later h in
-    record {
-      lawful = ap (λ (r : Option StepFault). is_none r && is_lawful plan (counted counters p) order) e ∙ rest.lawful;
-      done = rest.done;
-    }
-
-faultless : (plan : Plan) (counters : Counters) (at : ℕ) (order : List ℕ) → order_fault plan counters at order ≡ None → IsFaultless plan counters order
-faultless plan counters at [] h = record { lawful = refl; done = nobody (unfinished plan counters) h }
-faultless plan counters at (p ∷ order) h =
-    faultless_by plan counters p order at (refusal plan counters p) refl h (faultless plan (counted counters p) (at + 1) order)
-
 each_at_start : (plan : Plan) → length (counters_at_start plan) ≡ callers plan
 each_at_start plan = length-replicate (callers plan) 0
 
 -- an order without a fault has as many places as there are steps to do
 faultless_length : (plan : Plan) (order : List ℕ) → order_fault plan (counters_at_start plan) 0 order ≡ None → all_left plan (counters_at_start plan) ≡ length order
 faultless_length plan order h =
-    let f : IsFaultless plan (counters_at_start plan) order = faultless plan (counters_at_start plan) 0 order h in
+    let whole : IsWhole plan (counters_at_start plan) order = faultless_whole plan (counters_at_start plan) 0 order h in
     let all : all_left plan (counters_at_start plan) ≡ all_left plan (counters_after (counters_at_start plan) order) + length order
-    = lawful_left plan (counters_at_start plan) order (each_at_start plan) f.lawful in
-    let none : all_left plan (counters_after (counters_at_start plan) order) ≡ 0 = none_left plan (counters_after (counters_at_start plan) order) f.done in
+    = lawful_left plan (counters_at_start plan) order (each_at_start plan) whole.lawful in
+    let none : all_left plan (counters_after (counters_at_start plan) order) ≡ 0 = none_left plan (counters_after (counters_at_start plan) order)
+    (none_of (unfinished plan (counters_after (counters_at_start plan) order)) whole.complete) in
     omega (arith, all, none)
 
 more_left : (plan : Plan) (a : Player) (order : List ℕ) → IsPlaced plan a order → is_some (unfinished a.plan a.state.progress.counters) ≡ true

@@ -1,5 +1,5 @@
 //! `eevdf_orders [--seed N]` reads a workload from standard input and prints it with an order of the callers'
-//! steps in front, lawful and complete, so that `eevdf replay` plays it: in turn, or drawn at random from a seed.
+//! steps in front, lawful and complete, for `eevdf replay`: in turn, or drawn at random from a seed.
 #![tactic(auto)]
 
 mod caller_choice;

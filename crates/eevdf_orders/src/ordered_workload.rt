@@ -2,7 +2,7 @@
 
 ghost use Rattle.std.specs.Prelude.{◌≡◌, ◌≢◌, false, true, IfOk, IfErr, IfSome, OnOk, Err};
 ghost use Rattle.std.specs.Io.KnownBytes.{Keeps};
-ghost use Rattle.eevdf_bench.specs.Streams.{ReadsTo, ReadsWithin};
+ghost use Rattle.eevdf_bench.specs.Streams.{ReadsWithin};
 ghost use Rattle.eevdf_orders.specs.OrderedWorkload as texts;
 
 use crate::caller_choice::Choice;
@@ -14,11 +14,12 @@ use eevdf_steps::PlayFault;
 use std::alloc::Global;
 use std::io::{Read, Write};
 
-/// Reads a workload to its end and writes it with an order of its callers' steps. A workload that has an order
-/// already is refused.
+/// Reads a workload from a reader that hasn't failed yet, and writes it with an order of its callers' steps. A workload that
+/// can't be read is refused with its fault, one that has an order already with `Ordered`, and one of which every order has
+/// a fault with `Play(TooLong)`.
 ///
-/// A reader that goes on for more than 16777216 bytes is read to one byte more, and then refused. Nothing is written
-/// before the whole order is made: after a fault of the writer a beginning was written, and after any other nothing.
+/// No more than 16777217 bytes are read. Nothing is written before the whole order is made: after a fault of the writer a
+/// beginning was written, and after any other nothing.
 pub fn print_ordered<R: Read, W: Write>(
     alloc: Global,
     reader: &mut Watched<R>,

@@ -12,4 +12,4 @@ returns-in-Ok-report-clause-report c =
 pub returns-in-Ok-report-clause-one_thread : goal.returns-in-Ok-report-clause-one_thread
 returns-in-Ok-report-clause-one_thread c =
     replay_is c.args.workload.now c.args.history c.setup.result.now c.in-Some.order.now c.in-Ok-report.text.items c.in-Ok.outcome c.in-Some.ensures c.setup.ensures
-    c.in-Ok.ensures.one_thread c.in-Ok.ensures.allowed c.in-Ok.ensures.programs c.in-Ok-report.ensures
+    c.in-Ok.ensures.whole c.in-Ok.ensures.one_thread c.in-Ok.ensures.allowed c.in-Ok.ensures.programs c.in-Ok-report.ensures
