@@ -11,3 +11,6 @@ pub mod QueueLines
 pub mod EngineAnswers
 pub mod LeftLists
 pub mod ReplayAnswers
+pub mod KeptResults
+pub mod WiderLimits
+pub mod VersionMeanings

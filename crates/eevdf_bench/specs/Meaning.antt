@@ -1,21 +1,24 @@
 -- What the bytes of a workload mean.
-use Rattle.std.specs.Prelude.{codes, ℕ, ◌+◌, ◌==◌, Bool, false, ℤ, pos, nat_lt, if◌then◌else◌, List, [], ◌∷◌, length, Option, Some, None, option_and_then, Result, Ok, Err}
-use Rattle.std.specs.Option.{ok_or}
+use Rattle.std.specs.Prelude.{codes, ℕ, ◌+◌, Bool, false, ℤ, pos, nat_lt, nat_le, if◌then◌else◌, List, [], ◌∷◌, length, Option, Some, None, option_and_then, Result, Ok, Err}
+use Rattle.std.specs.Option.{ok_or, option_or}
 use Rattle.std.specs.Str.{is_utf8}
 use Rattle.toml.specs.Data.{Data, table, Members, get_member, as_str, as_integer}
 use Rattle.toml.specs.Parse.{parse_document}
 use Rattle.eevdf_weight.specs.Limits.{checked_level, checked_slice}
-use Rattle.eevdf_ops.specs.Numbers.{checked_cpu}
 use Rattle.eevdf_ops.specs.Setup.{Setup, allows}
-use Rattle.eevdf_ops.specs.Faults.{setup_fault}
+use Rattle.eevdf_ops.specs.Faults.{setup_fault, unless}
 use Rattle.eevdf_ops.specs.declared.task_spec.TaskSpec.{TaskSpec}
 use Rattle.eevdf_ops.specs.declared.deeds.Op.{Op}
 use Rattle.eevdf_ops.specs.declared.deeds.Deed.{Deed}
 use Rattle.eevdf_ops.specs.declared.setup_fault.SetupFault.{SetupFault}
+use Rattle.eevdf_ops.specs.declared.setup_fault.SetupFault.TheVariants.{BadCpus}
+use Rattle.eevdf_bench.specs.declared.workload_version.Version.{Version}
+use Rattle.eevdf_bench.specs.declared.workload_version.Limits.{Limits}
 use Rattle.eevdf_bench.specs.declared.load_fault.Key.TheVariants as key
 use Rattle.eevdf_bench.specs.declared.load_fault.LoadFault.{LoadFault}
 use Rattle.eevdf_bench.specs.declared.load_fault.LoadFault.TheVariants as fault
 use Rattle.eevdf_bench.specs.MeaningSteps.{◌>>=◌, good_at, required, if_present, integer_or, boolean_or, natural, array_at, at_most, each}
+use Rattle.eevdf_bench.specs.Versions.{checked_version, cpu_within, limits_of}
 use Rattle.eevdf_bench.specs.Words.{words, operation, deed_in}
 
 -- a workload: what the machine is set up from, the callers in the order of their steps and the deeds that are done on
@@ -29,19 +32,12 @@ pub record Workload : Type 0 where
 abbrev pub most_bytes : ℕ
 most_bytes = 16777216
 
--- a script has at most so many deeds
-abbrev pub most_deeds : ℕ
-most_deeds = 160000
-
 -- ---- the version
 
-abbrev pub checked_version : ℕ → Option ℕ
-checked_version n = if n == 1 then Some n else None
-
-abbrev pub version_of : Data → Result ℕ LoadFault
+abbrev pub version_of : Data → Result Version LoadFault
 version_of d = good_at key.Version (option_and_then checked_version (option_and_then natural (as_integer d)))
 
-unfoldable pub version : Members → Result ℕ LoadFault
+unfoldable pub version : Members → Result Version LoadFault
 version document = required key.Version version_of (get_member (codes "version") document)
 
 -- ---- the tasks
@@ -58,15 +54,15 @@ default_slice = pos 3000000
 abbrev pub default_start : ℤ
 default_start = pos 0
 
-abbrev pub checked_home : ℤ → Option ℕ
-checked_home z = option_and_then checked_cpu (natural z)
+abbrev pub checked_home : Limits → ℤ → Option ℕ
+checked_home limits z = option_and_then (cpu_within limits) (natural z)
 
 abbrev pub checked_length : ℤ → Option ℕ
 checked_length z = option_and_then checked_slice (natural z)
 
 -- the keys of a task
-unfoldable pub home_of : ℕ → Members → Result ℕ LoadFault
-home_of place task = good_at (key.Home place) (option_and_then checked_home (integer_or default_home (get_member (codes "home") task)))
+unfoldable pub home_of : Limits → ℕ → Members → Result ℕ LoadFault
+home_of limits place task = good_at (key.Home place) (option_and_then (checked_home limits) (integer_or default_home (get_member (codes "home") task)))
 
 unfoldable pub nice_of : ℕ → Members → Result ℤ LoadFault
 nice_of place task = good_at (key.Nice place) (option_and_then checked_level (integer_or default_nice (get_member (codes "nice") task)))
@@ -81,38 +77,38 @@ unfoldable pub asleep_of : ℕ → Members → Result Bool LoadFault
 asleep_of place task = good_at (key.Asleep place) (boolean_or false (get_member (codes "asleep") task))
 
 -- a task, of which the number is its place
-unfoldable pub task_of : ℕ → Members → Result TaskSpec LoadFault
-task_of place task = do
-  home ← home_of place task
+unfoldable pub task_of : Limits → ℕ → Members → Result TaskSpec LoadFault
+task_of limits place task = do
+  home ← home_of limits place task
   nice ← nice_of place task
   slice ← slice_of place task
   start ← start_of place task
   asleep ← asleep_of place task
   Ok (record { home = home; nice = nice; slice = slice; start = start; asleep = asleep })
 
-unfoldable pub task_at : ℕ → Data → Result TaskSpec LoadFault
-task_at place (table task) = task_of place task
-task_at place _ = Err (fault.BadValue (key.Task place))
+unfoldable pub task_at : Limits → ℕ → Data → Result TaskSpec LoadFault
+task_at limits place (table task) = task_of limits place task
+task_at limits place _ = Err (fault.BadValue (key.Task place))
 
-abbrev pub tasks_of : Data → Result (List TaskSpec) LoadFault
-tasks_of d = array_at key.Tasks d >>= each task_at 0
+abbrev pub tasks_of : Limits → Data → Result (List TaskSpec) LoadFault
+tasks_of limits d = array_at key.Tasks d >>= each (task_at limits) 0
 
-unfoldable pub tasks : Members → Result (List TaskSpec) LoadFault
-tasks document = required key.Tasks tasks_of (get_member (codes "task") document)
+unfoldable pub tasks : Limits → Members → Result (List TaskSpec) LoadFault
+tasks limits document = required key.Tasks (tasks_of limits) (get_member (codes "task") document)
 
 -- ---- the programs
 
-unfoldable pub operation_at : ℕ → ℕ → Data → Result Op LoadFault
-operation_at cpu place d = good_at (key.Op cpu place) (option_and_then (λ text. operation (words text)) (as_str d))
+unfoldable pub operation_at : Limits → ℕ → ℕ → Data → Result Op LoadFault
+operation_at limits cpu place d = good_at (key.Op cpu place) (option_and_then (λ text. operation limits (words text)) (as_str d))
 
-unfoldable pub program_at : ℕ → Data → Result (List Op) LoadFault
-program_at cpu d = array_at (key.Program cpu) d >>= each (operation_at cpu) 0
+unfoldable pub program_at : Limits → ℕ → Data → Result (List Op) LoadFault
+program_at limits cpu d = array_at (key.Program cpu) d >>= each (operation_at limits cpu) 0
 
-abbrev pub programs_of : Data → Result (List (List Op)) LoadFault
-programs_of d = array_at key.Programs d >>= each program_at 0
+abbrev pub programs_of : Limits → Data → Result (List (List Op)) LoadFault
+programs_of limits d = array_at key.Programs d >>= each (program_at limits) 0
 
-unfoldable pub programs : Members → Result (List (List Op)) LoadFault
-programs document = required key.Programs programs_of (get_member (codes "program") document)
+unfoldable pub programs : Limits → Members → Result (List (List Op)) LoadFault
+programs limits document = required key.Programs (programs_of limits) (get_member (codes "program") document)
 
 -- ---- the order
 
@@ -127,14 +123,14 @@ order document = if_present order_of (get_member (codes "order") document)
 
 -- ---- the script
 
-unfoldable pub deed_at : ℕ → Data → Result Deed LoadFault
-deed_at place d = good_at (key.Script place) (option_and_then (λ text. deed_in (words text)) (as_str d))
+unfoldable pub deed_at : Limits → ℕ → Data → Result Deed LoadFault
+deed_at limits place d = good_at (key.Script place) (option_and_then (λ text. deed_in limits (words text)) (as_str d))
 
-abbrev pub script_of : Data → Result (List Deed) LoadFault
-script_of d = array_at key.Scripts d >>= at_most most_deeds key.Scripts >>= each deed_at 0
+abbrev pub script_of : Limits → Data → Result (List Deed) LoadFault
+script_of limits d = array_at key.Scripts d >>= at_most limits.deeds key.Scripts >>= each (deed_at limits) 0
 
-unfoldable pub script : Members → Result (Option (List Deed)) LoadFault
-script document = if_present script_of (get_member (codes "script") document)
+unfoldable pub script : Limits → Members → Result (Option (List Deed)) LoadFault
+script limits document = if_present (script_of limits) (get_member (codes "script") document)
 
 -- the first deed that the setup doesn't allow is a bad value
 abbrev pub allowed_from : Setup → ℕ → List Deed → Result (Unit {0}) LoadFault
@@ -147,24 +143,32 @@ allowed setup None = Ok tt
 
 -- ---- the whole
 
+-- the first fault: more CPUs than the limits have, or else the setup's own
+abbrev pub fault_within : Limits → List TaskSpec → List (List Op) → Option SetupFault
+fault_within limits tasks programs = option_or (unless (nat_le (length programs) limits.cpus) BadCpus) (setup_fault tasks programs)
+
 -- the setup, where it has no fault
 abbrev pub set_up : Option SetupFault → Setup → Result Setup LoadFault
 set_up (Some f) setup = Err (fault.Setup f)
 set_up None setup = Ok setup
 
-unfoldable pub setup_of : List TaskSpec → List (List Op) → Result Setup LoadFault
-setup_of tasks programs = set_up (setup_fault tasks programs) (record { tasks = tasks; programs = programs })
+unfoldable pub setup_of : Limits → List TaskSpec → List (List Op) → Result Setup LoadFault
+setup_of limits tasks programs = set_up (fault_within limits tasks programs) (record { tasks = tasks; programs = programs })
 
-unfoldable pub workload_of : Members → Result Workload LoadFault
-workload_of document = do
-  number ← version document
-  specs ← tasks document
-  operations ← programs document
+-- what a document describes within the limits of its version
+unfoldable pub workload_in : Limits → Members → Result Workload LoadFault
+workload_in limits document = do
+  specs ← tasks limits document
+  operations ← programs limits document
   callers ← order document
-  deeds ← script document
-  setup ← setup_of specs operations
+  deeds ← script limits document
+  setup ← setup_of limits specs operations
   nothing ← allowed setup deeds
   Ok (record { setup = setup; order = callers; script = deeds })
+
+-- what a document describes
+unfoldable pub workload_of : Members → Result Workload LoadFault
+workload_of document = version document >>= (λ v. workload_in (limits_of v) document)
 
 -- the bytes as a document
 unfoldable pub document_of : List ℕ → Result Members LoadFault

@@ -6,12 +6,13 @@ use Rattle.std.specs.Char.{is_ascii_digit}
 use Rattle.std.specs.Str.Parse.{digits_value}
 use Rattle.eevdf_weight.specs.Limits.{checked_tick}
 use Rattle.eevdf_queue.specs.Numbers.{checked_number}
-use Rattle.eevdf_ops.specs.Numbers.{checked_cpu}
 use Rattle.eevdf_ops.specs.declared.deeds.Op.{Op}
 use Rattle.eevdf_ops.specs.Programs.{deed_of}
 use Rattle.eevdf_ops.specs.declared.deeds.Op.TheVariants as op
 use Rattle.eevdf_ops.specs.declared.deeds.Deed.{Deed}
 use Rattle.eevdf_ops.specs.declared.deeds.Deed.TheVariants as deed
+use Rattle.eevdf_bench.specs.declared.workload_version.Limits.{Limits}
+use Rattle.eevdf_bench.specs.Versions.{cpu_within}
 
 -- what stands between the single spaces of a text
 abbrev pub words : List ℕ → List (List ℕ)
@@ -42,8 +43,8 @@ only_time ws = option_and_then checked_tick (only_number ws)
 abbrev pub only_task : List (List ℕ) → Option ℕ
 only_task ws = option_and_then checked_number (only_number ws)
 
-abbrev pub only_cpu : List (List ℕ) → Option ℕ
-only_cpu ws = option_and_then checked_cpu (only_number ws)
+abbrev pub only_cpu : Limits → List (List ℕ) → Option ℕ
+only_cpu limits ws = option_and_then (cpu_within limits) (only_number ws)
 
 -- an operation that nothing follows
 abbrev pub alone : Op → List (List ℕ) → Option Op
@@ -51,45 +52,45 @@ alone o [] = Some o
 alone o _ = None
 
 -- the operation that the first word names, with the other words as its arguments
-abbrev pub operation_of : List ℕ → List (List ℕ) → Option Op
-operation_of verb arguments =
+abbrev pub operation_of : Limits → List ℕ → List (List ℕ) → Option Op
+operation_of limits verb arguments =
     if bytes_eq verb (codes "tick") then option_map op.Tick (only_time arguments)
     else if bytes_eq verb (codes "pick") then alone op.Pick arguments
     else if bytes_eq verb (codes "yield") then alone op.Yield arguments
     else if bytes_eq verb (codes "sleep") then option_map op.Sleep (only_task arguments)
     else if bytes_eq verb (codes "post") then option_map op.Post (only_task arguments)
     else if bytes_eq verb (codes "drain") then alone op.Drain arguments
-    else if bytes_eq verb (codes "pull") then option_map op.Pull (only_cpu arguments)
+    else if bytes_eq verb (codes "pull") then option_map op.Pull (only_cpu limits arguments)
     else None
 
-unfoldable pub operation : List (List ℕ) → Option Op
-operation [] = None
-operation (verb ∷ arguments) = operation_of verb arguments
+unfoldable pub operation : Limits → List (List ℕ) → Option Op
+operation limits [] = None
+operation limits (verb ∷ arguments) = operation_of limits verb arguments
 
 -- the CPU and the task that a word numbers
-abbrev pub cpu_in : List ℕ → Option ℕ
-cpu_in word = option_and_then checked_cpu (number word)
+abbrev pub cpu_in : Limits → List ℕ → Option ℕ
+cpu_in limits word = option_and_then (cpu_within limits) (number word)
 
 abbrev pub task_in : List ℕ → Option ℕ
 task_in word = option_and_then checked_number (number word)
 
 -- the CPU that stands after `from`
-abbrev pub sender_of : List (List ℕ) → Option ℕ
-sender_of [] = None
-sender_of (word ∷ ws) = if bytes_eq word (codes "from") then only_cpu ws else None
+abbrev pub sender_of : Limits → List (List ℕ) → Option ℕ
+sender_of limits [] = None
+sender_of limits (word ∷ ws) = if bytes_eq word (codes "from") then only_cpu limits ws else None
 
 -- the wake of the task that the first word numbers, by the sender that follows it
-abbrev pub wake_of : ℕ → List (List ℕ) → Option Deed
-wake_of cpu [] = None
-wake_of cpu (word ∷ ws) = option_and_then (λ task. option_map (deed.Wake cpu task) (sender_of ws)) (task_in word)
+abbrev pub wake_of : Limits → ℕ → List (List ℕ) → Option Deed
+wake_of limits cpu [] = None
+wake_of limits cpu (word ∷ ws) = option_and_then (λ task. option_map (deed.Wake cpu task) (sender_of limits ws)) (task_in word)
 
 -- the deed on a CPU that the words after its number name
-abbrev pub deed_on : ℕ → List (List ℕ) → Option Deed
-deed_on cpu [] = None
-deed_on cpu (verb ∷ arguments) =
-    if bytes_eq verb (codes "wake") then wake_of cpu arguments
-    else option_and_then (deed_of cpu) (operation_of verb arguments)
+abbrev pub deed_on : Limits → ℕ → List (List ℕ) → Option Deed
+deed_on limits cpu [] = None
+deed_on limits cpu (verb ∷ arguments) =
+    if bytes_eq verb (codes "wake") then wake_of limits cpu arguments
+    else option_and_then (deed_of cpu) (operation_of limits verb arguments)
 
-unfoldable pub deed_in : List (List ℕ) → Option Deed
-deed_in [] = None
-deed_in (word ∷ ws) = option_and_then (λ cpu. deed_on cpu ws) (cpu_in word)
+unfoldable pub deed_in : Limits → List (List ℕ) → Option Deed
+deed_in limits [] = None
+deed_in limits (word ∷ ws) = option_and_then (λ cpu. deed_on limits cpu ws) (cpu_in limits word)

@@ -1,8 +1,10 @@
--- The texts that are read as operations and deeds.
-use Rattle.std.specs.Prelude.{codes, ℕ, List, ◌++◌, decimal}
+-- The texts that are read as operations and deeds, and which of them a version knows.
+use Rattle.std.specs.Prelude.{codes, ℕ, nat_lt, Bool, true, ◌&&◌, List, ◌++◌, decimal}
 use Rattle.eevdf_ops.specs.declared.deeds.Op.{Op}
 use Rattle.eevdf_ops.specs.declared.deeds.Op.TheVariants.{Tick, Pick, Yield, Sleep, Post, Drain, Pull}
 use Rattle.eevdf_ops.specs.declared.deeds.Deed.{Deed}
+use Rattle.eevdf_ops.specs.declared.deeds.Deed.TheVariants as deed
+use Rattle.eevdf_bench.specs.declared.workload_version.Limits.{Limits}
 use Rattle.eevdf_bench.specs.TextDeed.{cpu_of, deed_text}
 
 abbrev pub operation_text : Op → List ℕ
@@ -17,3 +19,26 @@ operation_text (Pull source) = codes "pull " ++ decimal source
 -- a deed with the CPU that does it
 abbrev pub numbered_deed_text : Deed → List ℕ
 numbered_deed_text d = decimal (cpu_of d) ++ codes " " ++ deed_text d
+
+-- whether an operation is within the limits of a version
+abbrev pub knows_operation : Limits → Op → Bool
+knows_operation limits (Tick ns) = true
+knows_operation limits Pick = true
+knows_operation limits Yield = true
+knows_operation limits (Sleep task) = true
+knows_operation limits (Post task) = true
+knows_operation limits Drain = true
+knows_operation limits (Pull source) = nat_lt source limits.cpus
+
+-- the same of what a deed does
+abbrev pub knows_act : Limits → Deed → Bool
+knows_act limits (deed.Tick cpu ns) = true
+knows_act limits (deed.Pick cpu) = true
+knows_act limits (deed.Yield cpu) = true
+knows_act limits (deed.Sleep cpu task) = true
+knows_act limits (deed.Wake cpu task sender) = nat_lt sender limits.cpus
+knows_act limits (deed.Pull cpu source) = nat_lt source limits.cpus
+
+-- and of a deed with the CPU that does it
+abbrev pub knows_deed : Limits → Deed → Bool
+knows_deed limits d = nat_lt (cpu_of d) limits.cpus && knows_act limits d

@@ -19,6 +19,7 @@ mod text_queue;
 mod text_report;
 mod text_tasks;
 mod watched;
+mod workload_version;
 
 pub use bench_engine::engine;
 pub use bench_fault::BenchFault;
@@ -32,3 +33,4 @@ pub use replay_run::replay_text;
 pub use solo_run::solo_text;
 pub use text_report::report;
 pub use watched::Watched;
+pub use workload_version::Version;

@@ -1,6 +1,6 @@
 //! The reader of a workload.
 ghost use Rattle.std.specs.Prelude.{◌≡◌, map, option_map};
-ghost use Rattle.eevdf_bench.specs.Meaning.{allowed, allowed_from, document_of, meaning, setup_of, workload_of};
+ghost use Rattle.eevdf_bench.specs.Meaning.{allowed, allowed_from, document_of, meaning, setup_of, workload_in, workload_of};
 ghost use Rattle.eevdf_bench.specs.MeaningSteps.{Reads};
 ghost use Rattle.toml.specs.View.{table_view};
 
@@ -23,6 +23,7 @@ use crate::reading::order_list::order;
 use crate::reading::program_lists::programs;
 use crate::reading::script_list::script;
 use crate::reading::task_table::tasks;
+use crate::workload_version::Limits;
 use eevdf_ops::{Deed, Op, Setup, SetupFault, TaskSpec};
 use std::alloc::Global;
 use toml::Table;
@@ -58,20 +59,36 @@ fn document_of(alloc: Global, bytes: &[u8]) -> Result<Table, LoadFault>
 fn workload_of(alloc: Global, document: &Table) -> Result<Workload, LoadFault>
     ensures { Reads (λ w. w) (workload_of (table_view document.now)) result }
 {
-    version(document)?;
-    let tasks = tasks(alloc, document)?;
-    let programs = programs(alloc, document)?;
+    let version = version(document)?;
+    workload_in(alloc, version.limits(), document)
+}
+
+// The workload that a document describes within the limits of its version.
+#[tactic(auto, unfolding(crate::specs::Meaning::workload_in))]
+fn workload_in(alloc: Global, limits: Limits, document: &Table) -> Result<Workload, LoadFault>
+    ensures { Reads (λ w. w) (workload_in limits (table_view document.now)) result }
+{
+    let tasks = tasks(alloc, limits, document)?;
+    let programs = programs(alloc, limits, document)?;
     let order = order(alloc, document)?;
-    let script = script(alloc, document)?;
-    let setup = setup_of(alloc, &tasks, &programs)?;
+    let script = script(alloc, limits, document)?;
+    let setup = setup_of(alloc, limits, &tasks, &programs)?;
     check_script(&setup, &script)?;
     Ok(Workload::new(setup, order, script))
 }
 
 #[tactic(auto, unfolding(crate::specs::Meaning::setup_of))]
-fn setup_of(alloc: Global, tasks: &[TaskSpec], programs: &[Vec<Op>]) -> Result<Setup, LoadFault>
-    ensures { Reads (λ s. s) (setup_of tasks.now (map (λ p. p.items) programs.now)) result }
+fn setup_of(
+    alloc: Global,
+    limits: Limits,
+    tasks: &[TaskSpec],
+    programs: &[Vec<Op>],
+) -> Result<Setup, LoadFault>
+    ensures { Reads (λ s. s) (setup_of limits tasks.now (map (λ p. p.items) programs.now)) result }
 {
+    if programs.len() as u64 > limits.cpus {
+        return Err(LoadFault::Setup(SetupFault::BadCpus));
+    }
     match Setup::make(alloc, tasks, programs) {
         Ok(setup) => Ok(setup),
         Err(SetupFault::Memory) => Err(LoadFault::Memory),
@@ -134,6 +151,28 @@ mod tests {
         };
         assert_eq!(rt; fault_of(alloc, deed), Some(bad_deed));
         Ok(())
+    }
+
+    #[test]
+    fn the_version_is_one_or_two(rt: HostRuntime) {
+        let alloc = rt.alloc();
+        let versions = [
+            "version = 1\nprogram = [[]]\n[[task]]\n",
+            "version = 2\nprogram = [[]]\n[[task]]\n",
+        ];
+        for text in versions {
+            assert!(rt; fault_of(alloc, text.as_bytes()).is_none(), "{text}");
+        }
+        let bad_version = LoadFault::BadValue { key: Key::Version };
+        let others = [
+            "version = 0\n",
+            "version = 3\n",
+            "version = -1\n",
+            "version = \"1\"\n",
+        ];
+        for text in others {
+            assert_eq!(rt; fault_of(alloc, text.as_bytes()), Some(bad_version));
+        }
     }
 
     #[test]

@@ -1,13 +1,23 @@
-//! What the words of a workload are, as laws.
-ghost use Rattle.std.specs.Prelude.{◌≡◌, ◌↔◌, Some};
+//! Laws of what is read: what the words of a workload are, and what its version decides.
+ghost use Rattle.std.specs.Prelude.{◌≡◌, ◌↔◌, true, Some};
+ghost use Rattle.eevdf_bench.specs.MeaningLaws.{VersionTwoKeepsMeaning};
+ghost use Rattle.eevdf_bench.specs.Versions.{limits_of};
 ghost use Rattle.eevdf_bench.specs.Words.{deed_in, operation, words};
-ghost use Rattle.eevdf_bench.specs.WordsPrinted.{numbered_deed_text, operation_text};
+ghost use Rattle.eevdf_bench.specs.WordsPrinted.{
+  knows_deed,
+  knows_operation,
+  numbered_deed_text,
+  operation_text,
+};
 
+use crate::workload_version::Version;
 use eevdf_ops::{Deed, Op};
 
-/// A text is read as an operation exactly where it is that operation as it is printed.
-pub fn operation_is_its_text(text: &str, op: Op)
-    ensures { (operation (words text.now) ≡ Some op) ↔ (text.now ≡ operation_text op) }
+/// A text is read in a version as an operation exactly where it is that operation as it is printed and the
+/// version knows the operation.
+pub fn operation_is_its_text(version: Version, text: &str, op: Op)
+    ensures { (operation (limits_of version) (words text.now) ≡ Some op)
+        ↔ ((text.now ≡ operation_text op) × (knows_operation (limits_of version) op ≡ true)) }
 {
     match op {
         Op::Tick(ns) => {
@@ -28,9 +38,11 @@ pub fn operation_is_its_text(text: &str, op: Op)
     }
 }
 
-/// A text is read as a deed exactly where it is the number of its CPU, a space and the deed as it is printed.
-pub fn deed_is_its_text(text: &str, deed: Deed)
-    ensures { (deed_in (words text.now) ≡ Some deed) ↔ (text.now ≡ numbered_deed_text deed) }
+/// A text is read in a version as a deed exactly where it is the number of its CPU, a space and the deed as it is
+/// printed, and the version knows the deed.
+pub fn deed_is_its_text(version: Version, text: &str, deed: Deed)
+    ensures { (deed_in (limits_of version) (words text.now) ≡ Some deed)
+        ↔ ((text.now ≡ numbered_deed_text deed) × (knows_deed (limits_of version) deed ≡ true)) }
 {
     match deed {
         Deed::Tick { cpu, ns } => {
@@ -58,3 +70,8 @@ pub fn deed_is_its_text(text: &str, deed: Deed)
         }
     }
 }
+
+/// A document of version 1 that describes a workload describes the same workload in version 2.
+pub fn version_two_keeps_meaning()
+    ensures { VersionTwoKeepsMeaning }
+{}

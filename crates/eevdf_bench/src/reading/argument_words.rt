@@ -3,15 +3,16 @@ ghost use Rattle.eevdf_bench.specs.Words.{cpu_in, fitting, only_cpu, only_number
 
 use crate::reading::number_text::number;
 use crate::reading::word_list::Words;
+use crate::workload_version::Limits;
 use eevdf_ops::CpuId;
 use eevdf_queue::TaskId;
 use eevdf_weight::Ns;
 
 /// The CPU that a word numbers.
-pub(crate) fn cpu(word: &str) -> Option<CpuId>
-    ensures { result ≡ cpu_in word.now }
+pub(crate) fn cpu(limits: Limits, word: &str) -> Option<CpuId>
+    ensures { result ≡ cpu_in limits word.now }
 {
-    CpuId::new(number(word)?)
+    limits.cpu(number(word)?)
 }
 
 /// The task that a word numbers.
@@ -22,10 +23,10 @@ pub(crate) fn task(word: &str) -> Option<TaskId>
 }
 
 /// The CPU that the only word numbers.
-pub(crate) fn only_cpu(words: Words) -> Option<CpuId>
-    ensures { result ≡ only_cpu words.entry }
+pub(crate) fn only_cpu(limits: Limits, words: Words) -> Option<CpuId>
+    ensures { result ≡ only_cpu limits words.entry }
 {
-    CpuId::new(only_number(words)?)
+    limits.cpu(only_number(words)?)
 }
 
 /// The task that the only word numbers.

@@ -5,32 +5,33 @@ ghost use Rattle.eevdf_bench.specs.Words.{deed_in, deed_on, operation_of, sender
 use crate::reading::argument_words::{cpu, only_cpu, task};
 use crate::reading::operation_text::operation_of;
 use crate::reading::word_list::Words;
+use crate::workload_version::Limits;
 use eevdf_ops::{CpuId, Deed, Op};
 
 /// The deed that a text is: the number of a CPU, and what it does.
 #[tactic(auto, unfolding(crate::specs::Words::deed_in))]
-pub(crate) fn deed(text: &str) -> Option<Deed>
-    ensures { result ≡ deed_in (words text.now) }
+pub(crate) fn deed(limits: Limits, text: &str) -> Option<Deed>
+    ensures { result ≡ deed_in limits (words text.now) }
 {
     let mut words = Words::new(text);
-    let cpu = cpu(words.next()?)?;
-    deed_on(cpu, words)
+    let cpu = cpu(limits, words.next()?)?;
+    deed_on(limits, cpu, words)
 }
 
-fn deed_on(cpu: CpuId, mut words: Words) -> Option<Deed>
-    ensures { result ≡ deed_on cpu words.entry }
+fn deed_on(limits: Limits, cpu: CpuId, mut words: Words) -> Option<Deed>
+    ensures { result ≡ deed_on limits cpu words.entry }
 {
     match words.next()? {
-        "wake" => wake(cpu, words),
-        verb => of_operation(cpu, verb, words),
+        "wake" => wake(limits, cpu, words),
+        verb => of_operation(limits, cpu, verb, words),
     }
 }
 
 // The deed that the operation with these words is.
-fn of_operation(cpu: CpuId, verb: &str, arguments: Words) -> Option<Deed>
-    ensures { result ≡ option_and_then (deed_of cpu) (operation_of verb.now arguments.entry) }
+fn of_operation(limits: Limits, cpu: CpuId, verb: &str, arguments: Words) -> Option<Deed>
+    ensures { result ≡ option_and_then (deed_of cpu) (operation_of limits verb.now arguments.entry) }
 {
-    deed_of(cpu, operation_of(verb, arguments)?)
+    deed_of(cpu, operation_of(limits, verb, arguments)?)
 }
 
 // The deed that an operation is. A request is posted and drained by steps that are no deeds.
@@ -47,20 +48,20 @@ fn deed_of(cpu: CpuId, op: Op) -> Option<Deed>
     }
 }
 
-fn wake(cpu: CpuId, mut arguments: Words) -> Option<Deed>
-    ensures { result ≡ wake_of cpu arguments.entry }
+fn wake(limits: Limits, cpu: CpuId, mut arguments: Words) -> Option<Deed>
+    ensures { result ≡ wake_of limits cpu arguments.entry }
 {
     let task = task(arguments.next()?)?;
-    let sender = sender(arguments)?;
+    let sender = sender(limits, arguments)?;
     Some(Deed::Wake { cpu, task, sender })
 }
 
 // The CPU that stands after `from`.
-fn sender(mut words: Words) -> Option<CpuId>
-    ensures { result ≡ sender_of words.entry }
+fn sender(limits: Limits, mut words: Words) -> Option<CpuId>
+    ensures { result ≡ sender_of limits words.entry }
 {
     match words.next()? {
-        "from" => only_cpu(words),
+        "from" => only_cpu(limits, words),
         _ => None,
     }
 }
@@ -68,7 +69,13 @@ fn sender(mut words: Words) -> Option<CpuId>
 #[cfg(test)]
 mod tests {
     use super::*;
+    use crate::workload_version::Version;
     use eevdf_queue::TaskId;
+
+    // The deed that a text is in version 1.
+    fn deed_in_one(text: &str) -> Option<Deed> {
+        deed(Version::One.limits(), text)
+    }
 
     #[test]
     fn deeds_are_read(rt: HostRuntime) {
@@ -80,11 +87,17 @@ mod tests {
             task,
             sender: last,
         };
-        assert_eq!(rt; deed("15 pick"), Some(Deed::Pick { cpu: last }));
-        assert_eq!(rt; deed("0 yield"), Some(Deed::Yield { cpu }));
-        assert_eq!(rt; deed("0 sleep 1023"), Some(Deed::Sleep { cpu, task }));
-        assert_eq!(rt; deed("0 wake 1023 from 15"), Some(wake));
-        assert_eq!(rt; deed("0 pull 15"), Some(Deed::Pull { cpu, source: last }));
+        assert_eq!(rt; deed_in_one("15 pick"), Some(Deed::Pick { cpu: last }));
+        assert_eq!(rt; deed_in_one("0 yield"), Some(Deed::Yield { cpu }));
+        assert_eq!(rt;
+            deed_in_one("0 sleep 1023"),
+            Some(Deed::Sleep { cpu, task })
+        );
+        assert_eq!(rt; deed_in_one("0 wake 1023 from 15"), Some(wake));
+        assert_eq!(rt;
+            deed_in_one("0 pull 15"),
+            Some(Deed::Pull { cpu, source: last })
+        );
     }
 
     #[test]
@@ -110,7 +123,7 @@ mod tests {
             "0 wake from 1",
         ];
         for text in texts {
-            assert!(rt; deed(text).is_none(), "{text}");
+            assert!(rt; deed_in_one(text).is_none(), "{text}");
         }
     }
 }

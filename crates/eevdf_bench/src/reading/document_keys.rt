@@ -5,12 +5,13 @@ ghost use Rattle.toml.specs.Data.{get_member};
 ghost use Rattle.toml.specs.View.{array_view, table_view, view};
 
 use crate::load_fault::{Key, LoadFault};
+use crate::workload_version::Version;
 use toml::value::Array;
 use toml::{Table, Value};
 
 /// The version of a workload.
 #[tactic(auto, unfolding(crate::specs::Meaning::version))]
-pub(crate) fn version(document: &Table) -> Result<u64, LoadFault>
+pub(crate) fn version(document: &Table) -> Result<Version, LoadFault>
     ensures { result ≡ version (table_view document.now) }
 {
     match member(document, "version") {
@@ -19,11 +20,12 @@ pub(crate) fn version(document: &Table) -> Result<u64, LoadFault>
     }
 }
 
-fn version_of(value: &Value) -> Result<u64, LoadFault>
+fn version_of(value: &Value) -> Result<Version, LoadFault>
     ensures { result ≡ version_of (view value.now) }
 {
     match value.as_integer() {
-        Some(1) => Ok(1),
+        Some(1) => Ok(Version::One),
+        Some(2) => Ok(Version::Two),
         _ => Err(LoadFault::BadValue { key: Key::Version }),
     }
 }

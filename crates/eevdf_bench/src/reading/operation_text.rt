@@ -3,21 +3,22 @@ ghost use Rattle.eevdf_bench.specs.Words.{alone, operation, operation_of, words}
 
 use crate::reading::argument_words::{only_cpu, only_task, only_time};
 use crate::reading::word_list::Words;
+use crate::workload_version::Limits;
 use eevdf_ops::Op;
 
 /// The operation that a text is.
 #[tactic(auto, unfolding(crate::specs::Words::operation))]
-pub(crate) fn operation(text: &str) -> Option<Op>
-    ensures { result ≡ operation (words text.now) }
+pub(crate) fn operation(limits: Limits, text: &str) -> Option<Op>
+    ensures { result ≡ operation limits (words text.now) }
 {
     let mut words = Words::new(text);
     let verb = words.next()?;
-    operation_of(verb, words)
+    operation_of(limits, verb, words)
 }
 
 /// The operation that a word names, with the words after it as its arguments.
-pub(crate) fn operation_of(verb: &str, arguments: Words) -> Option<Op>
-    ensures { result ≡ operation_of verb.now arguments.entry }
+pub(crate) fn operation_of(limits: Limits, verb: &str, arguments: Words) -> Option<Op>
+    ensures { result ≡ operation_of limits verb.now arguments.entry }
 {
     match verb {
         "tick" => Some(Op::Tick(only_time(arguments)?)),
@@ -26,7 +27,7 @@ pub(crate) fn operation_of(verb: &str, arguments: Words) -> Option<Op>
         "sleep" => Some(Op::Sleep(only_task(arguments)?)),
         "post" => Some(Op::Post(only_task(arguments)?)),
         "drain" => alone(Op::Drain, arguments),
-        "pull" => Some(Op::Pull(only_cpu(arguments)?)),
+        "pull" => Some(Op::Pull(only_cpu(limits, arguments)?)),
         _ => None,
     }
 }
@@ -44,19 +45,25 @@ fn alone(op: Op, mut arguments: Words) -> Option<Op>
 #[cfg(test)]
 mod tests {
     use super::*;
+    use crate::workload_version::Version;
     use eevdf_ops::CpuId;
     use eevdf_queue::TaskId;
+
+    // The operation that a text is in version 1.
+    fn operation_in_one(text: &str) -> Option<Op> {
+        operation(Version::One.limits(), text)
+    }
 
     #[test]
     fn operations_are_read(rt: HostRuntime) {
         let task = TaskId::new(1023).expect(&rt, "a task");
         let cpu = CpuId::new(15).expect(&rt, "a CPU");
-        assert_eq!(rt; operation("pick"), Some(Op::Pick));
-        assert_eq!(rt; operation("yield"), Some(Op::Yield));
-        assert_eq!(rt; operation("sleep 1023"), Some(Op::Sleep(task)));
-        assert_eq!(rt; operation("post 1023"), Some(Op::Post(task)));
-        assert_eq!(rt; operation("drain"), Some(Op::Drain));
-        assert_eq!(rt; operation("pull 15"), Some(Op::Pull(cpu)));
+        assert_eq!(rt; operation_in_one("pick"), Some(Op::Pick));
+        assert_eq!(rt; operation_in_one("yield"), Some(Op::Yield));
+        assert_eq!(rt; operation_in_one("sleep 1023"), Some(Op::Sleep(task)));
+        assert_eq!(rt; operation_in_one("post 1023"), Some(Op::Post(task)));
+        assert_eq!(rt; operation_in_one("drain"), Some(Op::Drain));
+        assert_eq!(rt; operation_in_one("pull 15"), Some(Op::Pull(cpu)));
     }
 
     #[test]
@@ -80,7 +87,7 @@ mod tests {
             "Pick",
         ];
         for text in texts {
-            assert!(rt; operation(text).is_none(), "{text}");
+            assert!(rt; operation_in_one(text).is_none(), "{text}");
         }
     }
 }

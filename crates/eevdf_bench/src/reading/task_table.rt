@@ -5,6 +5,7 @@ ghost use Rattle.toml.specs.View.{items_view, table_view, view};
 
 use crate::load_fault::{Key, LoadFault};
 use crate::reading::document_keys::{array_at, boolean_or, integer_or, member, natural};
+use crate::workload_version::Limits;
 use eevdf_ops::{CpuId, TaskSpec};
 use eevdf_weight::{Nice, Slice};
 use std::alloc::Global;
@@ -12,32 +13,36 @@ use toml::{Table, Value};
 
 /// The tasks, each numbered by its place.
 #[tactic(auto, unfolding(crate::specs::Meaning::tasks))]
-pub(crate) fn tasks(alloc: Global, document: &Table) -> Result<Vec<TaskSpec>, LoadFault>
-    ensures { Reads (λ ts. ts.items) (tasks (table_view document.now)) result }
+pub(crate) fn tasks(
+    alloc: Global,
+    limits: Limits,
+    document: &Table,
+) -> Result<Vec<TaskSpec>, LoadFault>
+    ensures { Reads (λ ts. ts.items) (tasks limits (table_view document.now)) result }
 {
     match member(document, "task") {
-        Some(value) => tasks_of(alloc, array_at(value, Key::Tasks)?),
+        Some(value) => tasks_of(alloc, limits, array_at(value, Key::Tasks)?),
         None => Err(LoadFault::Missing { key: Key::Tasks }),
     }
 }
 
-fn tasks_of(alloc: Global, members: &[Value]) -> Result<Vec<TaskSpec>, LoadFault>
-    ensures { Reads (λ ts. ts.items) (each task_at 0 (items_view members.now)) result }
+fn tasks_of(alloc: Global, limits: Limits, members: &[Value]) -> Result<Vec<TaskSpec>, LoadFault>
+    ensures { Reads (λ ts. ts.items) (each (task_at limits) 0 (items_view members.now)) result }
 {
     let mut tasks = Vec::new(alloc);
     for (place, member) in members.iter().enumerate() {
-        tasks.push(task_at(place, member)?)?;
+        tasks.push(task_at(limits, place, member)?)?;
     }
     Ok(tasks)
 }
 
 // The task that a member of `task` describes, at its place.
 #[tactic(auto, unfolding(crate::specs::Meaning::task_at))]
-fn task_at(place: usize, value: &Value) -> Result<TaskSpec, LoadFault>
-    ensures { result ≡ task_at place (view value.now) }
+fn task_at(limits: Limits, place: usize, value: &Value) -> Result<TaskSpec, LoadFault>
+    ensures { result ≡ task_at limits place (view value.now) }
 {
     match value.as_table() {
-        Some(task) => task_of(place, task),
+        Some(task) => task_of(limits, place, task),
         None => Err(LoadFault::BadValue {
             key: Key::Task(place),
         }),
@@ -45,11 +50,11 @@ fn task_at(place: usize, value: &Value) -> Result<TaskSpec, LoadFault>
 }
 
 #[tactic(auto, unfolding(crate::specs::Meaning::task_of))]
-fn task_of(place: usize, task: &Table) -> Result<TaskSpec, LoadFault>
-    ensures { result ≡ task_of place (table_view task.now) }
+fn task_of(limits: Limits, place: usize, task: &Table) -> Result<TaskSpec, LoadFault>
+    ensures { result ≡ task_of limits place (table_view task.now) }
 {
     Ok(TaskSpec {
-        home: home_of(place, task)?,
+        home: home_of(limits, place, task)?,
         nice: nice_of(place, task)?,
         slice: slice_of(place, task)?,
         start: start_of(place, task)?,
@@ -58,12 +63,12 @@ fn task_of(place: usize, task: &Table) -> Result<TaskSpec, LoadFault>
 }
 
 #[tactic(auto, unfolding(crate::specs::Meaning::home_of))]
-fn home_of(place: usize, task: &Table) -> Result<CpuId, LoadFault>
-    ensures { result ≡ home_of place (table_view task.now) }
+fn home_of(limits: Limits, place: usize, task: &Table) -> Result<CpuId, LoadFault>
+    ensures { result ≡ home_of limits place (table_view task.now) }
 {
     let home = integer_or(task, "home", 0);
     home.and_then(natural)
-        .and_then(CpuId::new)
+        .and_then(|number| limits.cpu(number))
         .ok_or(LoadFault::BadValue {
             key: Key::Home(place),
         })

@@ -1,25 +1,40 @@
 use Rattle.std.proofs.Common.{arith}
 use Rattle.eevdf_ops.specs.declared.deeds.Op.TheVariants.{Tick, Pick, Yield, Sleep, Post, Drain, Pull}
+use Rattle.eevdf_bench.specs.Versions.{limits_of}
 use Rattle.eevdf_bench.proofs.OperationsPrinted.{operation_is_text, operation-tick, operation-pick, operation-yield, operation-sleep, operation-post, operation-drain, operation-pull}
 use Rattle.eevdf_bench.proofs.reading_laws.operation_is_its_text.Goals as goal
 
 pub returns-in-Tick : goal.returns-in-Tick
-returns-in-Tick c = operation_is_text c.args.text.now c.args.op (Tick c.in-Tick.ns) c.in-Tick.is (operation-tick c.in-Tick.ns c.get-within.ensures.within)
+returns-in-Tick c =
+    let limits = limits_of c.args.version in
+    operation_is_text limits c.args.text.now c.args.op (Tick c.in-Tick.ns) c.in-Tick.is (operation-tick limits c.in-Tick.ns c.get-within.ensures.within)
 
 pub returns-in-Pick : goal.returns-in-Pick
-returns-in-Pick c = operation_is_text c.args.text.now c.args.op Pick c.in-Pick.is operation-pick
+returns-in-Pick c =
+    let limits = limits_of c.args.version in
+    operation_is_text limits c.args.text.now c.args.op Pick c.in-Pick.is (operation-pick limits)
 
 pub returns-in-Yield : goal.returns-in-Yield
-returns-in-Yield c = operation_is_text c.args.text.now c.args.op Yield c.in-Yield.is operation-yield
+returns-in-Yield c =
+    let limits = limits_of c.args.version in
+    operation_is_text limits c.args.text.now c.args.op Yield c.in-Yield.is (operation-yield limits)
 
 pub returns-in-Sleep : goal.returns-in-Sleep
-returns-in-Sleep c = operation_is_text c.args.text.now c.args.op (Sleep c.in-Sleep.task) c.in-Sleep.is (operation-sleep c.in-Sleep.task (omega arith))
+returns-in-Sleep c =
+    let limits = limits_of c.args.version in
+    operation_is_text limits c.args.text.now c.args.op (Sleep c.in-Sleep.task) c.in-Sleep.is (operation-sleep limits c.in-Sleep.task (omega arith))
 
 pub returns-in-Post : goal.returns-in-Post
-returns-in-Post c = operation_is_text c.args.text.now c.args.op (Post c.in-Post.task) c.in-Post.is (operation-post c.in-Post.task (omega arith))
+returns-in-Post c =
+    let limits = limits_of c.args.version in
+    operation_is_text limits c.args.text.now c.args.op (Post c.in-Post.task) c.in-Post.is (operation-post limits c.in-Post.task (omega arith))
 
 pub returns-in-Drain : goal.returns-in-Drain
-returns-in-Drain c = operation_is_text c.args.text.now c.args.op Drain c.in-Drain.is operation-drain
+returns-in-Drain c =
+    let limits = limits_of c.args.version in
+    operation_is_text limits c.args.text.now c.args.op Drain c.in-Drain.is (operation-drain limits)
 
 pub returns-in-Pull : goal.returns-in-Pull
-returns-in-Pull c = operation_is_text c.args.text.now c.args.op (Pull c.in-Pull.source) c.in-Pull.is (operation-pull c.in-Pull.source (omega arith))
+returns-in-Pull c =
+    let limits = limits_of c.args.version in
+    operation_is_text limits c.args.text.now c.args.op (Pull c.in-Pull.source) c.in-Pull.is (operation-pull limits c.in-Pull.source (omega arith))

@@ -7,4 +7,4 @@ use Rattle.eevdf_bench.proofs.reading.program_lists.operations.Given as goal
 
 abbrev pub invariant-loop-place : goal.invariant-loop-place
 invariant-loop-place l =
-    each (operation_at l.cpu) 0 (items_view l.members) ≡ behind l.program.items (each (operation_at l.cpu) l.place (items_view (drop l.place l.members)))
+    each (operation_at l.limits l.cpu) 0 (items_view l.members) ≡ behind l.program.items (each (operation_at l.limits l.cpu) l.place (items_view (drop l.place l.members)))

@@ -7,4 +7,4 @@ use Rattle.eevdf_bench.proofs.reading.program_lists.programs_of.Given as goal
 
 abbrev pub invariant-loop-cpu : goal.invariant-loop-cpu
 invariant-loop-cpu l =
-    each program_at 0 (items_view l.members) ≡ behind (map (λ p. p.items) l.programs.items) (each program_at l.cpu (items_view (drop l.cpu l.members)))
+    each (program_at l.limits) 0 (items_view l.members) ≡ behind (map (λ p. p.items) l.programs.items) (each (program_at l.limits) l.cpu (items_view (drop l.cpu l.members)))

@@ -7,4 +7,4 @@ use Rattle.eevdf_bench.proofs.reading.script_list.deeds.Given as goal
 
 abbrev pub invariant-loop-place : goal.invariant-loop-place
 invariant-loop-place l =
-    each deed_at 0 (items_view l.members) ≡ behind l.script.items (each deed_at l.place (items_view (drop l.place l.members)))
+    each (deed_at l.limits) 0 (items_view l.members) ≡ behind l.script.items (each (deed_at l.limits) l.place (items_view (drop l.place l.members)))

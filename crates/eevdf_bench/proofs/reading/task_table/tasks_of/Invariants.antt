@@ -7,4 +7,4 @@ use Rattle.eevdf_bench.proofs.reading.task_table.tasks_of.Given as goal
 
 abbrev pub invariant-loop-place : goal.invariant-loop-place
 invariant-loop-place l =
-    each task_at 0 (items_view l.members) ≡ behind l.tasks.items (each task_at l.place (items_view (drop l.place l.members)))
+    each (task_at l.limits) 0 (items_view l.members) ≡ behind l.tasks.items (each (task_at l.limits) l.place (items_view (drop l.place l.members)))
