@@ -27,3 +27,4 @@ mod TreeChange
 mod TreeTotals
 mod Waiting
 mod SmallSums
+mod Renicing

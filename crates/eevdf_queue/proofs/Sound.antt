@@ -13,7 +13,7 @@ use Rattle.eevdf_queue.specs.Sums.{Tasks}
 use Rattle.eevdf_queue.specs.Leaving.{stopped, leaving, IsNowhere}
 use Rattle.eevdf_queue.specs.Kept.{RunnerIsHere, AreApart, IsSound}
 
-abbrev Asleep : Type 0
+abbrev pub Asleep : Type 0
 Asleep = FinMap nat_cmp Sleeper
 
 pub sound_open : (m : Tasks) (n : Asleep) (b : ℤ) → m ≡ empty → n ≡ empty → is_in_range b ≡ true → IsSound (record { runnable = m; running = None; asleep = n; base = b })

@@ -13,6 +13,7 @@ pub mod Candidate
 pub mod Leaving
 pub mod Placing
 pub mod Wake
+pub mod Renice
 pub mod TreeTasks
 pub mod TreeLeast
 pub mod TreeShape

@@ -27,7 +27,10 @@ total_weight tasks = sum_weights (map.entries tasks)
 abbrev pub total_moment : Tasks → ℤ
 total_moment tasks = sum_moments (map.entries tasks)
 
--- the weighted mean of the virtual runtimes, rounded down; with no runnable task the time that stands
+-- the weighted mean of the virtual runtimes over tasks with these sums, rounded down; over none the time that stands
+abbrev pub time_over : ℕ → ℤ → ℤ → ℤ
+time_over weight moment base = if weight == 0 then base else floor_div moment weight
+
+-- the virtual time of a queue
 abbrev pub virtual_time : State → ℤ
-virtual_time q =
-    if total_weight q.runnable == 0 then q.base else floor_div (total_moment q.runnable) (total_weight q.runnable)
+virtual_time q = time_over (total_weight q.runnable) (total_moment q.runnable) q.base

@@ -32,3 +32,14 @@ pub enum WakeAnswer {
     /// The virtual runtime or deadline would have been out of range, and the task sleeps on.
     Range,
 }
+
+/// What a change of nice level answers.
+#[derive(Clone, Copy, PartialEq, Eq, Debug)]
+pub enum ReniceAnswer {
+    /// The task has the nice level.
+    Reniced,
+    /// The task isn't runnable here.
+    NotHere,
+    /// The virtual runtime or deadline would have been out of range, and the task keeps its nice level.
+    Range,
+}

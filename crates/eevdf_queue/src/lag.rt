@@ -1,11 +1,15 @@
-//! The lag that a runnable task keeps when it leaves.
+//! The lag that a runnable task keeps when it leaves, and what becomes of it under another nice level.
 
-ghost use Rattle.std.specs.Prelude.{◌≡◌, ◌≤◌, ◌^◌, ◌-ℤ◌, ◌≤ℤ◌, pos, unsigned_abs, true};
+ghost use Rattle.std.specs.Prelude.{◌≡◌, ◌≤◌, ◌^◌, ◌-ℤ◌, ◌*ℤ◌, ◌≤ℤ◌, pos, unsigned_abs, true};
+ghost use Rattle.eevdf_weight.specs.Charge.{lag_limit_of};
 ghost use Rattle.eevdf_weight.specs.Limits as limits;
+ghost use Rattle.eevdf_weight.specs.Placement.{floor_div};
+ghost use Rattle.eevdf_weight.specs.Weight.{weight_of};
 ghost use Rattle.eevdf_queue.specs.Lag as lags;
+ghost use Rattle.eevdf_queue.specs.Renice as renices;
 
 use crate::run_entry::Entry;
-use eevdf_weight::{lag_limit, weight};
+use eevdf_weight::{Nice, lag_limit, weight};
 
 /// The virtual time less the task's virtual runtime, cut to plus or minus the limit of the task.
 #[tactic(auto, using(crate::proofs::Bounds::cut_small))]
@@ -28,6 +32,41 @@ fn distance(time: i64, entry: &Entry) -> i64
     ensures { result ≡ time -ℤ entry.now.v }
 {
     time - entry.v
+}
+
+/// A lag that is kept, under another nice level: times the old weight over the new one, rounded down, and cut to
+/// plus or minus the limit of the new weight.
+#[tactic(auto, using(crate::proofs::Bounds::lag_small, crate::proofs::Bounds::cut_small))]
+pub fn rescaled_lag(lag: i64, entry: &Entry, nice: Nice) -> i64
+    requires { lags.is_lag lag entry.now.nice entry.now.slice ≡ true }
+    ensures value { result ≡ renices.rescaled_lag lag entry.now nice }
+    ensures limited { unsigned_abs result ≤ lag_limit_of entry.now.slice (weight_of nice) }
+{
+    prove!(entry.slice.get() <= 100_000_000);
+    let newer = weight(nice);
+    cut(
+        quotient(product(lag, weight(entry.nice)), newer),
+        lag_limit(entry.slice, newer),
+    )
+}
+
+/// A lag times a weight, in 64 bits: a lag is at most 2^38, and a weight less than 2^17.
+#[tactic(auto, using(crate::proofs::Bounds::weighted_small))]
+fn product(lag: i64, weight: u64) -> i64
+    requires kept { unsigned_abs lag ≤ 2 ^ 38 }
+    requires light { weight ≤ 88761 }
+    ensures { result ≡ lag *ℤ pos weight }
+{
+    lag * weight as i64
+}
+
+/// A number over a weight, rounded down.
+fn quotient(number: i64, weight: u64) -> i64
+    requires weighs { 1 ≤ weight }
+    requires light { weight ≤ 88761 }
+    ensures { result ≡ floor_div number weight }
+{
+    number.div_euclid(weight as i64)
 }
 
 fn cut(lag: i64, limit: i64) -> i64

@@ -11,6 +11,7 @@ mod deadline_table;
 mod lag;
 pub mod laws;
 mod placing;
+mod queue_levels;
 mod queue_moves;
 mod queue_turns;
 mod request;
@@ -32,7 +33,7 @@ mod tree_least;
 mod tree_node;
 mod tree_remove;
 
-pub use answers::{TickAnswer, WakeAnswer, YieldAnswer};
+pub use answers::{ReniceAnswer, TickAnswer, WakeAnswer, YieldAnswer};
 pub use run_entry::Entry;
 pub use run_queue::Queue;
 pub use task_number::TaskId;

@@ -13,7 +13,7 @@ use crate::run_entry::Entry;
 use crate::runnable_tasks::RunnableTasks;
 use crate::sleepers::Sleepers;
 use crate::task_number::TaskId;
-use crate::totals::mean;
+use crate::totals::time_over;
 use std::marker::Model;
 
 /// The run queue of one CPU.
@@ -94,12 +94,7 @@ impl Queue {
         ensures value { result ≡ virtual_time self.now.state }
         ensures in_range { limits.is_in_range result ≡ true }
     {
-        let totals = self.runnable.totals();
-        if totals.weight == 0 {
-            self.base
-        } else {
-            mean(&totals)
-        }
+        time_over(&self.runnable.totals(), self.base)
     }
 
     /// The task that another CPU may pull: of the runnable tasks that don't run the one of latest virtual

@@ -85,6 +85,17 @@ impl RunnableTasks {
         self.totals
     }
 
+    /// The sums over the tasks but one that is here.
+    pub fn totals_without(&self, task: TaskId, entry: &Entry) -> Totals
+        requires { map.get self.now task ≡ Some entry.now }
+        ensures weight { result.weight ≡ total_weight (map.remove self.now task) }
+        ensures moment { result.moment ≡ total_moment (map.remove self.now task) }
+        ensures few { result.weight ≤ 88761 * 1024 }
+        ensures small { unsigned_abs result.moment ≤ 2 ^ 60 * result.weight }
+    {
+        without_share(&self.totals, &share(entry))
+    }
+
     #[tactic(auto, using(crate::proofs::RunnableMaps::basics))]
     pub fn get(&self, task: TaskId) -> Option<Entry>
         ensures { result ≡ map.get self.now task }

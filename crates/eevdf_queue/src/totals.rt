@@ -1,6 +1,7 @@
 ghost use Rattle.std.specs.Prelude.{◌≡◌, ◌*◌, ◌≤◌, ◌^◌, unsigned_abs, true};
 ghost use Rattle.eevdf_weight.specs.Limits as limits;
 ghost use Rattle.eevdf_weight.specs.Placement.{floor_div};
+ghost use Rattle.eevdf_queue.specs.Sums.{time_over};
 
 use eevdf_weight::floor_quotient;
 
@@ -11,9 +12,24 @@ pub struct Totals {
     pub moment: i128,
 }
 
+/// The virtual time over tasks with these sums: their weighted mean, and over no task the time that stands.
+pub fn time_over(totals: &Totals, base: i64) -> i64
+    requires base { limits.is_in_range base ≡ true }
+    requires few { totals.now.weight ≤ 2 ^ 39 }
+    requires small { unsigned_abs totals.now.moment ≤ 2 ^ 60 * totals.now.weight }
+    ensures value { result ≡ time_over totals.now.weight totals.now.moment base }
+    ensures in_range { limits.is_in_range result ≡ true }
+{
+    if totals.weight == 0 {
+        base
+    } else {
+        mean(totals)
+    }
+}
+
 /// The weighted mean of the virtual runtimes, rounded down.
 #[tactic(auto, using(crate::proofs::Bounds::floor_small, crate::proofs::Bounds::within_range))]
-pub fn mean(totals: &Totals) -> i64
+fn mean(totals: &Totals) -> i64
     requires some { 1 ≤ totals.now.weight }
     requires few { totals.now.weight ≤ 2 ^ 39 }
     requires small { unsigned_abs totals.now.moment ≤ 2 ^ 60 * totals.now.weight }

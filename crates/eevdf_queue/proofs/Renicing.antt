@@ -1,0 +1,61 @@
+-- A task that joins again the queue that it has left.
+use Rattle.std.proofs.Common.{◌≡◌, ℕ, Bool, true, false, cond, Option, Some, None, refl, sym, ap, subst, ◌∙◌}
+use Rattle.std.specs.Prelude.{ℤ, ◌==◌, is_some}
+use Rattle.std.specs.Ordering.{nat_cmp, eq_by_cmp}
+use Rattle.std.specs.Cmp.{nat_cmp_total}
+use Rattle.std.specs.FinMap.{insert, remove, get, get-insert, get-remove, same_map, nat_cmp-IsAntisymmetric}
+use Rattle.eevdf_weight.specs.Limits.{is_in_range}
+use Rattle.eevdf_weight.specs.Weight.{weight_of}
+use Rattle.eevdf_weight.specs.Placement.{floor_div, placement_of}
+use Rattle.eevdf_queue.specs.declared.run_entry.Entry.{Entry}
+use Rattle.eevdf_queue.specs.State.{State, Sleeper}
+use Rattle.eevdf_queue.specs.Sums.{Tasks, time_over, total_weight, total_moment}
+use Rattle.eevdf_queue.specs.Moves.{entry_in_range, fresh_entry, with_runnable}
+use Rattle.eevdf_queue.specs.Leaving.{leave, without_entry}
+use Rattle.eevdf_queue.specs.Placing.{runtime_of, placed_entry}
+use Rattle.eevdf_queue.specs.Renice.{reniced, renice, renice_entry, renice_to}
+use Rattle.eevdf_queue.specs.Kept.{IsSound}
+use Rattle.eevdf_queue.proofs.Sound.{Asleep, sound_change}
+
+among_none : (b : Bool) (base mean : ℤ) (place : ℤ → ℤ) → cond b (cond b base mean) (place (cond b base mean)) ≡ cond b base (place (cond b base mean))
+among_none true base mean place = refl
+among_none false base mean place = refl
+
+-- where a task is placed beside the others, once it has left
+pub placed_again : (q : State) (task : ℕ) (e : Entry) (s : Sleeper) (total : ℕ) (moment time : ℤ) → get q.runnable task ≡ Some e
+    → total ≡ total_weight (remove q.runnable task) → moment ≡ total_moment (remove q.runnable task) → time ≡ time_over total moment e.v
+    → entry_in_range (fresh_entry (runtime_of time total s.lag s.nice) s.nice s.slice) ≡ placed_entry (leave q task) s
+placed_again q task e s total moment time here w m t =
+    let of_time : ℤ → ℕ → Option Entry = λ x y. entry_in_range (fresh_entry (runtime_of x y s.lag s.nice) s.nice s.slice) in
+    let rest : Tasks = remove q.runnable task in
+    ap (λ (x : ℤ). of_time x total) (t ∙ ap (λ (y : ℕ). time_over y moment e.v) w ∙ ap (λ (z : ℤ). time_over (total_weight rest) z e.v) m)
+    ∙ ap (λ (y : ℕ). of_time (time_over (total_weight rest) (total_moment rest) e.v) y) w
+    ∙ ap (λ (v : ℤ). entry_in_range (fresh_entry v s.nice s.slice))
+    (among_none (total_weight rest == 0) e.v (floor_div (total_moment rest) (total_weight rest)) (λ (x : ℤ). placement_of x (total_weight rest) s.lag (weight_of s.nice)))
+    ∙ ap (λ (o : Option Entry). placed_entry (without_entry q task o) s) (sym here)
+
+put_back : (b : Bool) (o : Option Entry) (e : Entry) → cond b (Some e) (cond b None o) ≡ cond b (Some e) o
+put_back true o e = refl
+put_back false o e = refl
+
+-- a task that is taken out and put in again
+joined_again : (m : Tasks) (k : ℕ) (e : Entry) → insert (remove m k) k e ≡ insert m k e
+joined_again m k e = same_map nat_cmp_total nat_cmp-IsAntisymmetric _ _ (λ u.
+    get-insert nat_cmp_total (remove m k) k e u ∙ ap (λ (o : Option Entry). cond (eq_by_cmp nat_cmp u k) (Some e) o) (get-remove nat_cmp_total m k u)
+    ∙ put_back (eq_by_cmp nat_cmp u k) (get m u) e ∙ sym (get-insert nat_cmp_total m k e u))
+
+-- the queue once the task has its new entry
+pub after_renice : (q : State) (task : ℕ) (nice : ℤ) (e f : Entry) (tasks : Tasks) → get q.runnable task ≡ Some e → placed_entry (leave q task) (reniced q e nice) ≡ Some f
+    → tasks ≡ insert q.runnable task f → record q { runnable = tasks; base = e.v } ≡ (renice q task nice).1
+after_renice q task nice e f tasks here placed is =
+    ap (λ (m : Tasks). record q { runnable = m; base = e.v }) (is ∙ sym (joined_again q.runnable task f))
+    ∙ ap (λ (r : State). (renice_to q (with_runnable r task (Some f))).1) (ap (without_entry q task) (sym here))
+    ∙ ap (λ (o : Option Entry). (renice_to q (with_runnable (leave q task) task o)).1) (sym placed)
+    ∙ ap (λ (o : Option Entry). (renice_entry q task nice o).1) (sym here)
+
+-- what the queue keeps
+pub sound_renice : (m m' : Tasks) (r : Option ℕ) (n : Asleep) (b b' : ℤ) (t : ℕ) (e f : Entry) → m' ≡ insert m t f → get m t ≡ Some e → is_in_range b' ≡ true
+    → IsSound (record { runnable = m; running = r; asleep = n; base = b }) → IsSound (record { runnable = m'; running = r; asleep = n; base = b' })
+sound_renice m m' r n b b' t e f is here based h =
+    let kept : IsSound (record { runnable = m'; running = r; asleep = n; base = b }) = sound_change m m' r n b t f is (ap is_some here) h in
+    record { runs = kept.runs; apart = kept.apart; based = based }
