@@ -4,7 +4,7 @@ use Rattle.std.specs.Prelude.{◌==◌, nat_lt}
 use Rattle.std.proofs.lemmas.Bool.{false≢true}
 use Rattle.std.proofs.lemmas.Bool.Decides.{nat_tests}
 use Rattle.eevdf_ops.specs.declared.deeds.Deed.{Deed}
-use Rattle.eevdf_ops.specs.declared.deeds.Deed.TheVariants.{Tick, Pick, Yield, Sleep, Wake, Pull}
+use Rattle.eevdf_ops.specs.declared.deeds.Deed.TheVariants.{Tick, Pick, Yield, Sleep, Wake, Pull, Renice}
 use Rattle.eevdf_ops.specs.Setup.{is_task, is_allowed}
 use Rattle.eevdf_ops.specs.Machine.{Machine}
 use Rattle.eevdf_ops.specs.Parts.{decider, giver, taker}
@@ -55,6 +55,8 @@ deed_names homes (Sleep cpu task) m ok cpus =
     record { of_decider = h; of_giver = h; of_taker = cpus task (below task (length homes) (right (nat_lt cpu (length m)) _ ok)) }
 deed_names homes (Wake cpu task sender) m ok cpus =
     let h : cpu < length m = below cpu (length m) (left _ _ (left _ _ ok)) in record { of_decider = h; of_giver = h; of_taker = h }
+deed_names homes (Renice cpu task nice) m ok cpus =
+    let h : cpu < length m = below cpu (length m) (left _ (is_task homes task) ok) in record { of_decider = h; of_giver = h; of_taker = h }
 deed_names homes (Pull cpu source) m ok cpus =
     let named : PullNames (length m) cpu source = pull_names (length m) homes cpu source ok in
     record { of_decider = named.puller; of_giver = named.from; of_taker = named.puller }

@@ -46,7 +46,8 @@ restored m k v here = same_map nat_cmp_total nat_cmp-IsAntisymmetric _ _ (λ u.
 same : (k : ℕ) → (k == k) ≡ true
 same k = grind (arith, nat_tests)
 
-gone : (m : Tasks) (k : ℕ) → get (remove m k) k ≡ None
+-- a task that was taken out is gone
+pub gone : (m : Tasks) (k : ℕ) → get (remove m k) k ≡ None
 gone m k = get-remove nat_cmp_total m k k ∙ ap (λ (b : Bool). cond b None (get m k)) (unsigned_tied k k ∙ same k)
 
 weight-remove : (m : Tasks) (k : ℕ) (v : Entry) → get m k ≡ Some v → weight_of v.nice + total_weight (remove m k) ≡ total_weight m

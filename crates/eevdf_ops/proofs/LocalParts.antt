@@ -9,12 +9,12 @@ use Rattle.eevdf_queue.specs.Moves.{sleeper_of, put_asleep}
 use Rattle.eevdf_queue.specs.Placing.{can_place}
 use Rattle.eevdf_queue.specs.Leaving.{carried_running, leave}
 use Rattle.eevdf_ops.specs.declared.deeds.Deed.{Deed}
-use Rattle.eevdf_ops.specs.declared.deeds.Deed.TheVariants.{Tick, Pick, Yield, Sleep, Wake, Pull}
+use Rattle.eevdf_ops.specs.declared.deeds.Deed.TheVariants.{Tick, Pick, Yield, Sleep, Wake, Pull, Renice}
 use Rattle.eevdf_ops.specs.declared.deeds.Answer.{Answer}
 use Rattle.eevdf_ops.specs.declared.deeds.Answer.TheVariants.{Nothing, Balanced, Range}
 use Rattle.eevdf_ops.specs.Setup.{home_of}
 use Rattle.eevdf_ops.specs.Machine.{Machine, queue_at}
-use Rattle.eevdf_ops.specs.OneQueue.{one_tick, one_pick, one_yield, one_wake}
+use Rattle.eevdf_ops.specs.OneQueue.{one_tick, one_pick, one_yield, one_wake, one_renice}
 use Rattle.eevdf_ops.specs.Parts.{decider, giver, taker, Moved, given, answer_of_sleep, answer_of_pull, local_answer, taken, after_leaving, after_falling_asleep, after_joining, only_at, local_after}
 use Rattle.eevdf_ops.specs.PartsLaws as laws
 use Rattle.eevdf_ops.specs.Whole.{whole}
@@ -96,6 +96,7 @@ whole-answer homes (Pick cpu) m = refl
 whole-answer homes (Yield cpu) m = refl
 whole-answer homes (Sleep cpu task) m = sleep_answer m cpu (home_of homes task) (carried_running (queue_at m cpu) task)
 whole-answer homes (Wake cpu task sender) m = refl
+whole-answer homes (Renice cpu task nice) m = refl
 whole-answer homes (Pull cpu source) m = pull_answer m cpu source (decided_at m cpu source)
 
 -- and each queue changes by itself
@@ -109,6 +110,8 @@ whole-after homes (Sleep cpu task) m k fits =
     sleep_after m cpu (home_of homes task) k (carried_running (queue_at m cpu) task) named.of_decider named.of_taker
 whole-after homes (Wake cpu task sender) m k fits =
     changed (λ q. (one_wake q task).1) m cpu k (deed_names homes (Wake cpu task sender) m fits.allowed fits.cpus).of_decider
+whole-after homes (Renice cpu task nice) m k fits =
+    changed (λ q. (one_renice q task nice).1) m cpu k (deed_names homes (Renice cpu task nice) m fits.allowed fits.cpus).of_decider
 whole-after homes (Pull cpu source) m k fits =
     let named : DeedNames homes (Pull cpu source) m = deed_names homes (Pull cpu source) m fits.allowed fits.cpus in
     pull_after m cpu source k (decided_at m cpu source) named.of_decider named.of_giver refl
@@ -132,6 +135,7 @@ stays homes (Pick cpu) m k d g t = other_queue m cpu k _ d
 stays homes (Yield cpu) m k d g t = other_queue m cpu k _ d
 stays homes (Sleep cpu task) m k d g t = sleep_stays m cpu (home_of homes task) k (carried_running (queue_at m cpu) task) d t
 stays homes (Wake cpu task sender) m k d g t = other_queue m cpu k _ d
+stays homes (Renice cpu task nice) m k d g t = other_queue m cpu k _ d
 stays homes (Pull cpu source) m k d g t = pull_stays m cpu source k (decided_at m cpu source) d g
 
 pub others_stay : laws.OthersStay

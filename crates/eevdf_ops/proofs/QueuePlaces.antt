@@ -1,7 +1,7 @@
 -- How a step on one queue changes where tasks stand.
-use Rattle.std.proofs.Common.{◌≡◌, ℕ, ◌+◌, ◌≤◌, Bool, true, false, cond, refl, ap, subst, arith}
-use Rattle.std.specs.Prelude.{◌==◌, is_some, Option, Some, None}
-use Rattle.std.specs.FinMap.{get, contains_key, insert}
+use Rattle.std.proofs.Common.{◌≡◌, ℕ, ◌+◌, ◌≤◌, Bool, true, false, cond, refl, sym, ap, subst, arith}
+use Rattle.std.specs.Prelude.{◌==◌, ℤ, is_some, Option, Some, None}
+use Rattle.std.specs.FinMap.{get, contains_key, insert, remove}
 use Rattle.std.proofs.lemmas.Bool.{false≢true}
 use Rattle.eevdf_weight.specs.Limits.{is_in_range}
 use Rattle.eevdf_queue.specs.declared.run_entry.Entry.{Entry}
@@ -13,9 +13,11 @@ use Rattle.eevdf_queue.specs.Tick.{tick, tick_running, tick_entry, tick_to, char
 use Rattle.eevdf_queue.specs.Pick.{after_pick, picked_by, pick_of}
 use Rattle.eevdf_queue.specs.Yield.{yield_now, yield_running, yield_entry, yield_to, yielded}
 use Rattle.eevdf_queue.specs.Wake.{wake, wake_sleeper, wake_to}
+use Rattle.eevdf_queue.specs.Renice.{reniced, renice, renice_entry, renice_to}
 use Rattle.eevdf_queue.specs.Placing.{placed_entry}
 use Rattle.eevdf_queue.specs.Leaving.{without_entry}
 use Rattle.eevdf_ops.specs.Places.{count, places_in}
+use Rattle.eevdf_ops.proofs.Loads.{gone}
 use Rattle.eevdf_ops.proofs.MapCounts.{count-insert, count-remove, contains-change, contains-removed}
 
 -- every task stands in as many places as before, and nobody new sleeps
@@ -101,6 +103,23 @@ wake_sleeper-same q t (Some s) h e =
 -- a wake moves a task that stands in one place from one to the other
 pub wake-same : (q : State) (t : ℕ) → places_in q t ≤ 1 → IsSame q (wake q t).1
 wake-same q t h = wake_sleeper-same q t (get q.asleep t) h refl
+
+renice_to-same : (q : State) (t : ℕ) (e : Entry) (o : Option Entry) → get q.runnable t ≡ Some e → IsSame q (renice_to q (with_runnable (without_entry q t (Some e)) t o)).1
+renice_to-same q t e None is = itself q
+renice_to-same q t e (Some f) is = record {
+  places = λ u. omega (arith, count-insert (remove q.runnable t) t u f (ap is_some (gone q.runnable t)), count-remove q.runnable t u (ap is_some is));
+  asleep = λ u a. a;
+}
+
+renice_entry-same : (q : State) (t : ℕ) (nice : ℤ) (o : Option Entry) → get q.runnable t ≡ o → IsSame q (renice_entry q t nice o).1
+renice_entry-same q t nice None is = itself q
+renice_entry-same q t nice (Some e) is =
+    subst (λ (o : Option Entry). IsSame q (renice_to q (with_runnable (without_entry q t o) t (placed_entry (without_entry q t o) (reniced q e nice)))).1) (sym is)
+    (renice_to-same q t e (placed_entry (without_entry q t (Some e)) (reniced q e nice)) is)
+
+-- a task that leaves and joins again
+pub renice-same : (q : State) (t : ℕ) (nice : ℤ) → IsSame q (renice q t nice).1
+renice-same q t nice = renice_entry-same q t nice (get q.runnable t) refl
 
 -- a runnable task leaves
 pub leave-without : (q : State) (t : ℕ) (e : Entry) → get q.runnable t ≡ Some e → IsWithout q t (without_entry q t (Some e))

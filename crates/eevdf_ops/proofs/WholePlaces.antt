@@ -13,7 +13,7 @@ use Rattle.eevdf_queue.specs.Leaving.{carried_running, leave}
 use Rattle.eevdf_queue.specs.Placing.{can_place, placed_entry}
 use Rattle.eevdf_ops.specs.declared.deeds.Answer.{Answer}
 use Rattle.eevdf_ops.specs.declared.deeds.Deed.{Deed}
-use Rattle.eevdf_ops.specs.declared.deeds.Deed.TheVariants.{Tick, Pick, Yield, Sleep, Wake, Pull}
+use Rattle.eevdf_ops.specs.declared.deeds.Deed.TheVariants.{Tick, Pick, Yield, Sleep, Wake, Pull, Renice}
 use Rattle.eevdf_ops.specs.Setup.{home_of, is_task, is_allowed}
 use Rattle.eevdf_ops.specs.Machine.{Machine, queue_at}
 use Rattle.eevdf_ops.specs.Places.{count, places_in, places, IsPlaced, AreCpus}
@@ -24,7 +24,7 @@ use Rattle.eevdf_ops.proofs.Carried.{Carries, running-carries, offer-carries, le
 use Rattle.eevdf_ops.proofs.Pulling.{IsTaken, decision-taken, with_task-put}
 use Rattle.eevdf_ops.proofs.DeedNames.{DeedNames, deed_names, PullNames, pull_names}
 use Rattle.eevdf_ops.proofs.MapCounts.{equal, contains-insert}
-use Rattle.eevdf_ops.proofs.QueuePlaces.{tick-same, pick-same, yield-same, wake-same, asleep-with, runnable-with}
+use Rattle.eevdf_ops.proofs.QueuePlaces.{tick-same, pick-same, yield-same, wake-same, renice-same, asleep-with, runnable-with}
 use Rattle.eevdf_ops.proofs.MachinePlaces.{other_queue, places-at, SleepsAtHome, same-placed, IsPlacedBut, without-placed, with-placed}
 
 -- a task of the queue at a CPU leaves
@@ -113,6 +113,7 @@ whole-placed homes (Sleep cpu task) m ok cpus placed =
 whole-placed homes (Wake cpu task sender) m ok cpus placed =
     let h : cpu < length m = (deed_names homes (Wake cpu task sender) m ok cpus).of_decider in
     same-placed homes m cpu _ h (wake-same (queue_at m cpu) task (few_places homes m cpu task h placed)) placed
+whole-placed homes (Renice cpu task nice) m ok cpus placed = same-placed homes m cpu _ (deed_names homes (Renice cpu task nice) m ok cpus).of_decider (renice-same (queue_at m cpu) task nice) placed
 whole-placed homes (Pull cpu source) m ok cpus placed =
     let named : PullNames (length m) cpu source = pull_names (length m) homes cpu source ok in
     pull-placed homes m cpu source named.puller named.from named.apart placed
@@ -132,4 +133,5 @@ length-whole homes (Pick cpu) m = length-set m cpu _
 length-whole homes (Yield cpu) m = length-set m cpu _
 length-whole homes (Sleep cpu task) m = length-sleep_carrying m cpu (home_of homes task) (carried_running (queue_at m cpu) task)
 length-whole homes (Wake cpu task sender) m = length-set m cpu _
+length-whole homes (Renice cpu task nice) m = length-set m cpu _
 length-whole homes (Pull cpu source) m = length-pull_decided m cpu source (decision (queue_at m cpu) (load_of (queue_at m source)) (offer (queue_at m source)))

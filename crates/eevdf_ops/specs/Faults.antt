@@ -29,6 +29,7 @@ tasks_fault cpus place (t ∷ ts) = option_or (task_fault cpus place t) (tasks_f
 abbrev pub operation_fault : ℕ → ℕ → ℕ → ℕ → Op → Option SetupFault
 operation_fault tasks cpus cpu place (op.Sleep task) = unless (nat_lt task tasks) (UnknownTask cpu place)
 operation_fault tasks cpus cpu place (op.Post task) = unless (nat_lt task tasks) (UnknownTask cpu place)
+operation_fault tasks cpus cpu place (op.Renice task nice) = unless (nat_lt task tasks) (UnknownTask cpu place)
 operation_fault tasks cpus cpu place (op.Pull source) = unless (is_source cpus cpu source) (BadPull cpu place)
 operation_fault tasks cpus cpu place (op.Tick ns) = None
 operation_fault tasks cpus cpu place op.Pick = None

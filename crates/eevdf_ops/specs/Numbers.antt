@@ -3,14 +3,14 @@ use Rattle.std.specs.Prelude.{ℕ, nat_lt, if◌then◌else◌, Option, Some, No
 
 -- CPUs are numbered below this
 abbrev pub cpu_limit : ℕ
-cpu_limit = 16
+cpu_limit = 64
 
 abbrev pub checked_cpu : ℕ → Option ℕ
-checked_cpu n = if nat_lt n 16 then Some n else None
+checked_cpu n = if nat_lt n 64 then Some n else None
 
 -- a setup has at most so many CPUs
 abbrev pub most_cpus : ℕ
-most_cpus = 16
+most_cpus = 64
 
 -- a setup has at most so many tasks
 abbrev pub most_tasks : ℕ

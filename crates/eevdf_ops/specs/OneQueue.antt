@@ -1,18 +1,21 @@
 -- Deeds on one queue, with their answers.
-use Rattle.std.specs.Prelude.{ℕ, Option, Some, None}
+use Rattle.std.specs.Prelude.{ℕ, ℤ, Option, Some, None}
 use Rattle.eevdf_queue.specs.declared.answers.TickAnswer.{TickAnswer}
 use Rattle.eevdf_queue.specs.declared.answers.TickAnswer.TheVariants as tick_answer
 use Rattle.eevdf_queue.specs.declared.answers.YieldAnswer.{YieldAnswer}
 use Rattle.eevdf_queue.specs.declared.answers.YieldAnswer.TheVariants as yield_answer
 use Rattle.eevdf_queue.specs.declared.answers.WakeAnswer.{WakeAnswer}
 use Rattle.eevdf_queue.specs.declared.answers.WakeAnswer.TheVariants as wake_answer
+use Rattle.eevdf_queue.specs.declared.answers.ReniceAnswer.{ReniceAnswer}
+use Rattle.eevdf_queue.specs.declared.answers.ReniceAnswer.TheVariants as renice_answer
 use Rattle.eevdf_queue.specs.State.{State}
 use Rattle.eevdf_queue.specs.Tick.{tick}
 use Rattle.eevdf_queue.specs.Pick.{pick_of, after_pick}
 use Rattle.eevdf_queue.specs.Yield.{yield_now}
 use Rattle.eevdf_queue.specs.Wake.{wake}
+use Rattle.eevdf_queue.specs.Renice.{renice}
 use Rattle.eevdf_ops.specs.declared.deeds.Answer.{Answer}
-use Rattle.eevdf_ops.specs.declared.deeds.Answer.TheVariants.{Charged, Picked, Idle, Yielded, Woken, Awake, Range}
+use Rattle.eevdf_ops.specs.declared.deeds.Answer.TheVariants.{Charged, Picked, Idle, Yielded, Woken, Awake, Range, Reniced, NotHere}
 
 abbrev pub answer_of_tick : TickAnswer → Answer
 answer_of_tick (tick_answer.Charged task resched) = Charged task resched
@@ -33,6 +36,11 @@ answer_of_wake wake_answer.Woken = Woken
 answer_of_wake wake_answer.Awake = Awake
 answer_of_wake wake_answer.Range = Range
 
+abbrev pub answer_of_renice : ReniceAnswer → Answer
+answer_of_renice renice_answer.Reniced = Reniced
+answer_of_renice renice_answer.NotHere = NotHere
+answer_of_renice renice_answer.Range = Range
+
 -- what a deed on one queue answers and leaves
 abbrev pub one_tick : State → ℕ → Answer × State
 one_tick q ns = (answer_of_tick (tick q ns).0, (tick q ns).1)
@@ -45,3 +53,6 @@ one_yield q = (answer_of_yield (yield_now q).0, (yield_now q).1)
 
 abbrev pub one_wake : State → ℕ → Answer × State
 one_wake q task = (answer_of_wake (wake q task).0, (wake q task).1)
+
+abbrev pub one_renice : State → ℕ → ℤ → Answer × State
+one_renice q task nice = (answer_of_renice (renice q task nice).0, (renice q task nice).1)

@@ -4,11 +4,11 @@ use Rattle.eevdf_queue.specs.State.{State, Contents}
 use Rattle.eevdf_queue.specs.Moves.{put_asleep}
 use Rattle.eevdf_queue.specs.Leaving.{carried_running, leave}
 use Rattle.eevdf_ops.specs.declared.deeds.Deed.{Deed}
-use Rattle.eevdf_ops.specs.declared.deeds.Deed.TheVariants.{Tick, Pick, Yield, Sleep, Wake, Pull}
+use Rattle.eevdf_ops.specs.declared.deeds.Deed.TheVariants.{Tick, Pick, Yield, Sleep, Wake, Pull, Renice}
 use Rattle.eevdf_ops.specs.declared.deeds.Answer.{Answer}
 use Rattle.eevdf_ops.specs.declared.deeds.Answer.TheVariants.{Pulled, NotRunning}
 use Rattle.eevdf_ops.specs.Setup.{home_of}
-use Rattle.eevdf_ops.specs.OneQueue.{one_tick, one_pick, one_yield, one_wake}
+use Rattle.eevdf_ops.specs.OneQueue.{one_tick, one_pick, one_yield, one_wake, one_renice}
 use Rattle.eevdf_ops.specs.WholeSleep.{slept}
 use Rattle.eevdf_ops.specs.WholePull.{offer, load_of, decision, with_task}
 
@@ -20,6 +20,7 @@ decider (Yield cpu) = cpu
 decider (Sleep cpu task) = cpu
 decider (Wake cpu task sender) = cpu
 decider (Pull cpu source) = cpu
+decider (Renice cpu task nice) = cpu
 
 -- the CPU whose queue a task may leave
 abbrev pub giver : Deed → ℕ
@@ -63,6 +64,7 @@ local_answer (Yield cpu) q moved = (one_yield q).0
 local_answer (Sleep cpu task) q moved = answer_of_sleep moved.contents
 local_answer (Wake cpu task sender) q moved = (one_wake q task).0
 local_answer (Pull cpu source) q moved = answer_of_pull (decision q moved.load moved.contents)
+local_answer (Renice cpu task nice) q moved = (one_renice q task nice).0
 
 -- the queue of a CPU agrees with what was answered and what moved
 pub record Agrees (deed : Deed) (c : ℕ) (q : State) (answer : Answer) (moved : Moved) : Type 0 where
@@ -97,6 +99,7 @@ local_after homes (Tick cpu ns) c q answer moved = only_at cpu c (λ r. (one_tic
 local_after homes (Pick cpu) c q answer moved = only_at cpu c (λ r. (one_pick r).1) q
 local_after homes (Yield cpu) c q answer moved = only_at cpu c (λ r. (one_yield r).1) q
 local_after homes (Wake cpu task sender) c q answer moved = only_at cpu c (λ r. (one_wake r task).1) q
+local_after homes (Renice cpu task nice) c q answer moved = only_at cpu c (λ r. (one_renice r task nice).1) q
 local_after homes (Sleep cpu task) c q answer moved =
     only_at (home_of homes task) c (after_falling_asleep moved.contents) (only_at cpu c (after_leaving moved.contents) q)
 local_after homes (Pull cpu source) c q answer moved =

@@ -17,6 +17,7 @@ deed_of cpu op.Pick = Some (deed.Pick cpu)
 deed_of cpu op.Yield = Some (deed.Yield cpu)
 deed_of cpu (op.Sleep task) = Some (deed.Sleep cpu task)
 deed_of cpu (op.Pull source) = Some (deed.Pull cpu source)
+deed_of cpu (op.Renice task nice) = Some (deed.Renice cpu task nice)
 deed_of cpu (op.Post task) = None
 deed_of cpu op.Drain = None
 
@@ -38,6 +39,7 @@ wake_from sender (deed.Pick cpu) = []
 wake_from sender (deed.Yield cpu) = []
 wake_from sender (deed.Sleep cpu task) = []
 wake_from sender (deed.Pull cpu source) = []
+wake_from sender (deed.Renice cpu task nice) = []
 
 -- the tasks of the wakes that a CPU asked for, in order
 abbrev pub wakes_in : ℕ → List Deed → List ℕ
@@ -54,6 +56,7 @@ post_of homes home op.Pick = []
 post_of homes home op.Yield = []
 post_of homes home (op.Sleep task) = []
 post_of homes home (op.Pull source) = []
+post_of homes home (op.Renice task nice) = []
 post_of homes home op.Drain = []
 
 abbrev pub posts_in : List ℕ → ℕ → List Op → List ℕ

@@ -3,7 +3,7 @@ use Rattle.std.specs.Prelude.{ℕ, nat_lt, ◌==◌, Bool, ◌&&◌, not, List, 
 use Rattle.eevdf_ops.specs.declared.task_spec.TaskSpec.{TaskSpec}
 use Rattle.eevdf_ops.specs.declared.deeds.Op.{Op}
 use Rattle.eevdf_ops.specs.declared.deeds.Deed.{Deed}
-use Rattle.eevdf_ops.specs.declared.deeds.Deed.TheVariants.{Tick, Pick, Yield, Sleep, Wake, Pull}
+use Rattle.eevdf_ops.specs.declared.deeds.Deed.TheVariants.{Tick, Pick, Yield, Sleep, Wake, Pull, Renice}
 
 -- the tasks by their numbers, and the program of each CPU
 pub record Setup : Type 0 where
@@ -41,6 +41,7 @@ is_allowed cpus homes (Yield cpu) = nat_lt cpu cpus
 is_allowed cpus homes (Sleep cpu task) = nat_lt cpu cpus && is_task homes task
 is_allowed cpus homes (Wake cpu task sender) = nat_lt cpu cpus && nat_lt sender cpus && is_at_home homes task cpu
 is_allowed cpus homes (Pull cpu source) = nat_lt cpu cpus && is_source cpus cpu source
+is_allowed cpus homes (Renice cpu task nice) = nat_lt cpu cpus && is_task homes task
 
 abbrev pub allows : Setup → Deed → Bool
 allows s deed = is_allowed (cpus_of s) (homes_of s) deed

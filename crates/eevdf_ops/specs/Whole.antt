@@ -2,12 +2,12 @@
 use Rattle.std.specs.Prelude.{ℕ, List, [], ◌∷◌, slice_set}
 use Rattle.eevdf_queue.specs.State.{State}
 use Rattle.eevdf_ops.specs.declared.deeds.Deed.{Deed}
-use Rattle.eevdf_ops.specs.declared.deeds.Deed.TheVariants.{Tick, Pick, Yield, Sleep, Wake, Pull}
+use Rattle.eevdf_ops.specs.declared.deeds.Deed.TheVariants.{Tick, Pick, Yield, Sleep, Wake, Pull, Renice}
 use Rattle.eevdf_ops.specs.declared.deeds.Answer.{Answer}
 use Rattle.eevdf_ops.specs.declared.deeds.Line.{Line}
 use Rattle.eevdf_ops.specs.Setup.{home_of}
 use Rattle.eevdf_ops.specs.Machine.{Machine, queue_at}
-use Rattle.eevdf_ops.specs.OneQueue.{one_tick, one_pick, one_yield, one_wake}
+use Rattle.eevdf_ops.specs.OneQueue.{one_tick, one_pick, one_yield, one_wake, one_renice}
 use Rattle.eevdf_ops.specs.WholeSleep.{sleep}
 use Rattle.eevdf_ops.specs.WholePull.{pull}
 
@@ -23,6 +23,7 @@ whole homes (Yield cpu) m = at_cpu m cpu (one_yield (queue_at m cpu))
 whole homes (Sleep cpu task) m = sleep m cpu (home_of homes task) task
 whole homes (Wake cpu task sender) m = at_cpu m cpu (one_wake (queue_at m cpu) task)
 whole homes (Pull cpu source) m = pull m cpu source
+whole homes (Renice cpu task nice) m = at_cpu m cpu (one_renice (queue_at m cpu) task nice)
 
 -- the answers of a list of deeds, done one after the other
 abbrev pub lines_of : List ℕ → Machine → List Deed → List Line

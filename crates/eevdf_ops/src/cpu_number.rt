@@ -3,7 +3,7 @@ ghost use Rattle.eevdf_ops.specs.Numbers.{checked_cpu};
 
 use std::marker::Model;
 
-/// The number of a CPU, from 0 to 15.
+/// The number of a CPU, from 0 to 63.
 #[derive(Clone, Copy, PartialEq, Eq, Debug)]
 pub struct CpuId {
     number: u8,
@@ -23,11 +23,11 @@ impl Model for CpuId {
 }
 
 impl CpuId {
-    /// The number as that of a CPU, or `None` exactly from 16 on.
+    /// The number as that of a CPU, or `None` exactly from 64 on.
     pub fn new(number: u64) -> Option<CpuId>
         ensures { result ≡ checked_cpu number }
     {
-        if number < 16 {
+        if number < 64 {
             Some(CpuId {
                 number: number as u8,
             })
@@ -36,10 +36,10 @@ impl CpuId {
         }
     }
 
-    /// The number, below 16.
+    /// The number, below 64.
     pub fn get(self) -> u64
         ensures number { result ≡ self }
-        ensures below { result < 16 }
+        ensures below { result < 64 }
     {
         u64::from(self.number)
     }

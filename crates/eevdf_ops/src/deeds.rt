@@ -1,6 +1,6 @@
 use crate::cpu_number::CpuId;
 use eevdf_queue::TaskId;
-use eevdf_weight::Ns;
+use eevdf_weight::{Nice, Ns};
 
 /// An operation of a CPU's program.
 #[derive(Clone, Copy, PartialEq, Eq, Debug)]
@@ -19,6 +19,29 @@ pub enum Op {
     Drain,
     /// A task is pulled from this CPU.
     Pull(CpuId),
+    /// This task, if it is runnable here, gets this nice level.
+    Renice(TaskId, Nice),
+}
+
+impl Op {
+    ghost use Rattle.std.specs.Prelude.{◌≡◌};
+    ghost use Rattle.eevdf_ops.specs.Programs.{deed_of};
+
+    /// The deed of the operation on a CPU. `None` of a post and of a drain, which are no deeds: what comes of them are
+    /// wakes.
+    pub fn on(self, cpu: CpuId) -> Option<Deed>
+        ensures { result ≡ deed_of cpu self }
+    {
+        match self {
+            Op::Tick(ns) => Some(Deed::Tick { cpu, ns }),
+            Op::Pick => Some(Deed::Pick { cpu }),
+            Op::Yield => Some(Deed::Yield { cpu }),
+            Op::Sleep(task) => Some(Deed::Sleep { cpu, task }),
+            Op::Pull(source) => Some(Deed::Pull { cpu, source }),
+            Op::Renice(task, nice) => Some(Deed::Renice { cpu, task, nice }),
+            Op::Post(_) | Op::Drain => None,
+        }
+    }
 }
 
 /// What is done on the machine at once.
@@ -53,10 +76,16 @@ pub enum Deed {
         cpu: CpuId,
         source: CpuId,
     },
+    /// The task, if it is runnable on the CPU, gets the nice level, and joins again with the lag that it keeps, rescaled.
+    Renice {
+        cpu: CpuId,
+        task: TaskId,
+        nice: Nice,
+    },
 }
 
-/// What a deed is answered. After `Idle`, `NotRunning`, `Awake`, `Balanced`, `Nothing` and `Range` the machine
-/// is as it was.
+/// What a deed is answered. After `Idle`, `NotRunning`, `Awake`, `Balanced`, `Nothing`, `Range` and `NotHere` the
+/// machine is as it was.
 #[derive(Clone, Copy, PartialEq, Eq, Debug)]
 pub enum Answer {
     /// A tick charged this task; `resched` says that it had used up its request and got a new deadline.
@@ -83,6 +112,10 @@ pub enum Answer {
     Nothing,
     /// A virtual runtime or deadline would have left the range.
     Range,
+    /// The task has the nice level.
+    Reniced,
+    /// The task that was to get a nice level isn't runnable on the CPU.
+    NotHere,
 }
 
 /// A deed with its answer.

@@ -66,7 +66,7 @@ impl Setup {
     pub fn cpus(&self) -> usize
         ensures cpus { result ≡ setup.cpus_of self.now }
         ensures some { 1 ≤ result }
-        ensures few { result ≤ 16 }
+        ensures few { result ≤ 64 }
         ensures sound { faults.setup_fault self.now.tasks self.now.programs ≡ None }
     {
         self.programs.len()
@@ -118,7 +118,9 @@ impl Setup {
     {
         match *deed {
             Deed::Tick { cpu, .. } | Deed::Pick { cpu } | Deed::Yield { cpu } => self.has_cpu(cpu),
-            Deed::Sleep { cpu, task } => self.has_cpu(cpu) && self.has_task(task),
+            Deed::Sleep { cpu, task } | Deed::Renice { cpu, task, .. } => {
+                self.has_cpu(cpu) && self.has_task(task)
+            }
             Deed::Wake { cpu, task, sender } => {
                 self.has_cpu(cpu) && self.has_cpu(sender) && self.is_at_home(task, cpu)
             }

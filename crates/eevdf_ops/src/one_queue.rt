@@ -7,8 +7,8 @@ ghost use Rattle.eevdf_ops.specs.OneQueue as whole;
 
 use crate::cpu_number::CpuId;
 use crate::deeds::Answer;
-use eevdf_queue::{Queue, TaskId, TickAnswer, WakeAnswer, YieldAnswer};
-use eevdf_weight::Ns;
+use eevdf_queue::{Queue, ReniceAnswer, TaskId, TickAnswer, WakeAnswer, YieldAnswer};
+use eevdf_weight::{Nice, Ns};
 
 /// Charges the CPU's running task.
 pub fn tick(queues: &mut [Queue], cpu: CpuId, ns: Ns) -> Answer
@@ -54,6 +54,17 @@ pub fn wake(queues: &mut [Queue], cpu: CpuId, task: TaskId) -> Answer
     answer_of_wake(queue.wake(task))
 }
 
+/// Gives a task that is runnable on the CPU another nice level.
+pub fn renice(queues: &mut [Queue], cpu: CpuId, task: TaskId, nice: Nice) -> Answer
+    requires { cpu < length queues.old }
+    ensures answer { result ≡ (whole.one_renice (queue_at (machine_of queues.old) cpu) task nice).0 }
+    ensures machine { machine_of queues.new ≡ slice_set (machine_of queues.old) cpu
+        (whole.one_renice (queue_at (machine_of queues.old) cpu) task nice).1 }
+{
+    let queue = &mut queues[cpu.get() as usize];
+    answer_of_renice(queue.renice(task, nice))
+}
+
 fn answer_of_tick(answer: TickAnswer) -> Answer
     ensures { result ≡ whole.answer_of_tick answer }
 {
@@ -90,5 +101,15 @@ fn answer_of_wake(answer: WakeAnswer) -> Answer
         WakeAnswer::Woken => Answer::Woken,
         WakeAnswer::Awake => Answer::Awake,
         WakeAnswer::Range => Answer::Range,
+    }
+}
+
+fn answer_of_renice(answer: ReniceAnswer) -> Answer
+    ensures { result ≡ whole.answer_of_renice answer }
+{
+    match answer {
+        ReniceAnswer::Reniced => Answer::Reniced,
+        ReniceAnswer::NotHere => Answer::NotHere,
+        ReniceAnswer::Range => Answer::Range,
     }
 }

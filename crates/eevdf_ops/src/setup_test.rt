@@ -13,7 +13,7 @@ use crate::task_spec::TaskSpec;
 use eevdf_weight::{charge, is_in_range, weight};
 
 /// A setup has at most so many CPUs.
-const MOST_CPUS: usize = 16;
+const MOST_CPUS: usize = 64;
 
 /// A setup has at most so many tasks.
 const MOST_TASKS: usize = 1024;
@@ -111,7 +111,7 @@ fn operation_fault(
 {
     match operation {
         Op::Tick(_) | Op::Pick | Op::Yield | Op::Drain => None,
-        Op::Sleep(task) | Op::Post(task) => unless(
+        Op::Sleep(task) | Op::Post(task) | Op::Renice(task, _) => unless(
             (task.get() as usize) < tasks,
             SetupFault::UnknownTask { cpu, at },
         ),

@@ -8,7 +8,7 @@ ghost use Rattle.eevdf_ops.specs.Whole as operation;
 
 use crate::cpu_number::CpuId;
 use crate::deeds::{Answer, Deed};
-use crate::one_queue::{pick, tick, wake, yield_now};
+use crate::one_queue::{pick, renice, tick, wake, yield_now};
 use crate::whole_pull::pull;
 use crate::whole_sleep::sleep;
 use eevdf_queue::Queue;
@@ -28,5 +28,6 @@ pub(crate) fn whole(homes: &[CpuId], deed: Deed, queues: &mut [Queue]) -> Answer
         Deed::Sleep { cpu, task } => sleep(queues, cpu, homes[task.get() as usize], task),
         Deed::Wake { cpu, task, .. } => wake(queues, cpu, task),
         Deed::Pull { cpu, source } => pull(queues, cpu, source),
+        Deed::Renice { cpu, task, nice } => renice(queues, cpu, task, nice),
     }
 }
