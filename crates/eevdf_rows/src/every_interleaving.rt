@@ -25,7 +25,7 @@ struct Case {
     orders: usize,
 }
 
-const CASES: [Case; 13] = [
+const CASES: [Case; 17] = [
     // The one step of caller 1 stands anywhere among the 7 of caller 0.
     Case {
         name: "a drain may come before or after another CPU's post",
@@ -103,6 +103,30 @@ const CASES: [Case; 13] = [
         name: "a post while its task may be in a hand",
         workload: b"version = 1\nprogram = [[\"pick\"], [\"pull 0\"], [\"post 2\"]]\n[[task]]\n[[task]]\n[[task]]\n",
         orders: 24,
+    },
+    // Each operation holds the lock of CPU 0 from its first step to its last: the pull comes before, between or after.
+    Case {
+        name: "the running task gets another level beside a pull",
+        workload: b"version = 2\nprogram = [[\"pick\", \"renice 0 5\"], [\"pull 0\"]]\n[[task]]\n[[task]]\n[[task]]\n",
+        orders: 3,
+    },
+    // 12! / (8! 4!)
+    Case {
+        name: "a waiting task gets another level beside another CPU's pick",
+        workload: b"version = 2\nprogram = [[\"pick\", \"renice 1 -5\"], [\"pick\"]]\n[[task]]\n[[task]]\n[[task]]\nhome = 1\n",
+        orders: 495,
+    },
+    // Each holds the lock of CPU 0 from its first step to its last.
+    Case {
+        name: "a task gets another level before or after it is pulled",
+        workload: b"version = 2\nprogram = [[\"renice 2 5\"], [\"pull 0\"]]\n[[task]]\n[[task]]\n[[task]]\n",
+        orders: 2,
+    },
+    // The pick comes before the pull, or after it and then anywhere among the 4 steps of the other: 1 + 8! / (4! 4!).
+    Case {
+        name: "a task gets another level where it was pulled to",
+        workload: b"version = 2\nprogram = [[\"pick\"], [\"pull 0\", \"renice 2 5\"]]\n[[task]]\n[[task]]\n[[task]]\n",
+        orders: 71,
     },
 ];
 

@@ -13,6 +13,10 @@ mod every_interleaving;
 #[cfg(test)]
 mod interleavings;
 #[cfg(test)]
+mod many_cpus;
+#[cfg(test)]
+mod nice_levels;
+#[cfg(test)]
 mod ready_callers;
 #[cfg(test)]
 mod refusals;
@@ -24,3 +28,5 @@ mod schedules;
 mod several_cpus;
 #[cfg(test)]
 mod table;
+#[cfg(test)]
+mod versions;

@@ -4,7 +4,7 @@ use crate::table::{REPLAY, REPLAY_WITH_HISTORY, Row, SOLO, check, run};
 use std::alloc::Global;
 use std::test::Fail;
 
-const ROWS: [Row; 16] = [
+pub const ROWS: [Row; 16] = [
     Row {
         name: "the first of two posts wakes the task",
         command: REPLAY,

@@ -3,7 +3,7 @@
 use crate::table::{Row, SOLO, SOLO_WITH_HISTORY, check};
 use std::test::Fail;
 
-const ROWS: [Row; 17] = [
+pub const ROWS: [Row; 17] = [
     Row {
         name: "two tasks take turns",
         command: SOLO,

@@ -3,7 +3,7 @@
 use crate::table::{Row, SOLO, check};
 use std::test::Fail;
 
-const ROWS: [Row; 6] = [
+pub const ROWS: [Row; 6] = [
     Row {
         name: "a pull levels two CPUs, and then has nothing to level",
         command: SOLO,
