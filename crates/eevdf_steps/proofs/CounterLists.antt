@@ -2,6 +2,7 @@
 use Rattle.std.proofs.Common.{◌≡◌, ℕ, zero, suc, ◌+◌, ◌<◌, ◌≤◌, true, List, [], ◌∷◌, length, get_or, set, replicate, sym, ap, subst, ◌∙◌, arith, refl}
 use Rattle.std.specs.Prelude.{slice_get, None}
 use Rattle.eevdf_ops.specs.declared.deeds.Op.{Op}
+use Rattle.eevdf_ops.specs.Numbers.{most_cpus}
 use Rattle.eevdf_steps.specs.declared.program_plan.Position.{Position}
 use Rattle.eevdf_steps.specs.Plan.{Plan, callers}
 use Rattle.eevdf_steps.specs.MicroSteps.{steps_of}
@@ -88,11 +89,11 @@ first_counters plan p (suc n) = ap (λ (cs : Counters). 0 ∷ cs) (first_counter
 pub counters_first : (plan : Plan) (n : ℕ) → counters_at plan 0 (replicate n (record { operation = 0; steps = 0 })) ≡ replicate n 0
 counters_first plan n = first_counters plan 0 n
 
-first_positions : (plan : Plan) (p n : ℕ) → callers plan ≤ 16 → are_positions plan p (replicate n (record { operation = 0; steps = 0 })) ≡ true
+first_positions : (plan : Plan) (p n : ℕ) → callers plan ≤ most_cpus → are_positions plan p (replicate n (record { operation = 0; steps = 0 })) ≡ true
 first_positions plan p zero few = refl
 first_positions plan p (suc n) few = and_true (is_position plan p (record { operation = 0; steps = 0 })) _ (begins_position plan p 0 few) (first_positions plan (p + 1) n few)
 
-pub positions_first : (plan : Plan) (n : ℕ) → callers plan ≤ 16 → are_positions plan 0 (replicate n (record { operation = 0; steps = 0 })) ≡ true
+pub positions_first : (plan : Plan) (n : ℕ) → callers plan ≤ most_cpus → are_positions plan 0 (replicate n (record { operation = 0; steps = 0 })) ≡ true
 positions_first plan n few = first_positions plan 0 n few
 
 pub length-counters_at : (plan : Plan) (p : ℕ) (ats : List Position) → length (counters_at plan p ats) ≡ length ats

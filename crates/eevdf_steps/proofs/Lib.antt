@@ -12,6 +12,7 @@ pub mod Posting
 pub mod Progressing
 pub mod Rooms
 pub mod PlayerSteps
+pub mod Reserving
 pub mod Beginning
 pub mod Leaving
 pub mod Decisions

@@ -19,7 +19,7 @@ use Rattle.eevdf_steps.specs.Callers.{Callers}
 use Rattle.eevdf_steps.specs.SoundSteps.{is_sound_micro}
 use Rattle.eevdf_steps.specs.Requests.{Progress}
 use Rattle.eevdf_steps.specs.PostLists.{PostList, has_room, list_at, place_of, posts_after, request_after}
-use Rattle.eevdf_steps.specs.Room.{lines_of, lines_to_come}
+use Rattle.eevdf_steps.specs.Room.{lines_to_come}
 use Rattle.eevdf_steps.specs.Work.{hand, pulls_from}
 use Rattle.eevdf_steps.specs.MicroState.{answers, appends, home_for, micro_by, works}
 use Rattle.eevdf_steps.specs.Journals.{noted}
@@ -33,9 +33,9 @@ use Rattle.eevdf_steps.proofs.WorkPlaces.{hand_nowhere}
 use Rattle.eevdf_steps.specs.Serial.{IsSerial}
 use Rattle.eevdf_steps.proofs.SerialSteps.{SerialStep, serial_step}
 use Rattle.eevdf_steps.proofs.WorkSteps.{works_kept}
-use Rattle.eevdf_steps.proofs.Posting.{posts_step}
+use Rattle.eevdf_steps.proofs.Posting.{place_below, posts_step}
 use Rattle.eevdf_steps.proofs.Progressing.{progress_then}
-use Rattle.eevdf_steps.proofs.Rooms.{few_lines, less_to_come}
+use Rattle.eevdf_steps.proofs.Rooms.{fewer_to_come}
 
 -- a player whose caller is to do a step
 pub record Stepping (w : Callers) (lists : List PostList) (found : List (Option ℕ)) (done : Recorded) (p : ℕ) (s : Step) : Type 0 where
@@ -91,13 +91,20 @@ pub pulls : (w : Callers) (lists : List PostList) (found : List (Option ℕ)) (d
     → pulls_from (length done.work.machine) s.op ≡ true
 pulls w lists found done p s st = pulls_by w.plan (length done.work.machine) s.op st.playing.work.queues st.sound_op
 
-pub room_for : (w : Callers) (lists : List PostList) (found : List (Option ℕ)) (done : Recorded) (p : ℕ) (s : Step) (f : Option ℕ) → Stepping w lists found done p s
+-- the step appends no more lines than it leaves fewer to come
+fewer : (w : Callers) (lists : List PostList) (found : List (Option ℕ)) (done : Recorded) (p : ℕ) (s : Step) (f : Option ℕ) → Stepping w lists found done p s → f ≡ get_or found p None
+    → lines_to_come w.plan (counted w.counters p) (posts_after (place_of w.plan p s.micro) s.micro lists) (set found p (request_after (place_of w.plan p s.micro) s.micro lists f))
+    + length (appends done.work p s.op s.micro f) ≤ lines_to_come w.plan w.counters lists found
+fewer w lists found done p s f st read =
+    fewer_to_come w.plan w.counters lists found done.work (place_of w.plan p s.micro) p s f (record {
+      listed = omega (arith, place_below w.plan p s.micro st.sound st.caller st.sound_micro, st.playing.posts.each);
+      caller = omega (arith, st.caller, st.playing.found);
+      read = read;
+    }) (omega (arith, st.caller, st.each)) st.caller st.step
+
+pub room_for : (w : Callers) (lists : List PostList) (found : List (Option ℕ)) (done : Recorded) (p : ℕ) (s : Step) (f : Option ℕ) → Stepping w lists found done p s → f ≡ get_or found p None
     → length done.journal.lines + length (appends done.work p s.op s.micro f) ≤ done.journal.room
-room_for w lists found done p s f st =
-    let few : length (appends done.work p s.op s.micro f) ≤ lines_of s.micro = few_lines done.work p s.op s.micro f in
-    let less : lines_to_come w.plan w.counters ≡ lines_to_come w.plan (counted w.counters p) + lines_of s.micro
-    = less_to_come w.plan w.counters p s (omega (arith, st.caller, st.each)) st.caller st.step in
-    omega (arith, st.playing.room)
+room_for w lists found done p s f st read = omega (arith, fewer w lists found done p s f st read, st.playing.room)
 
 pub posts_have_room : (w : Callers) (lists : List PostList) (found : List (Option ℕ)) (done : Recorded) (p : ℕ) (s : Step) → Stepping w lists found done p s
     → has_room (list_at lists (place_of w.plan p s.micro)) s.micro ≡ true
@@ -132,17 +139,17 @@ commits_then w lists found done done' p h s f a same st is read =
     ∙ ap (λ (b : Player). deeds_of b.state.lines ++ committed_by b.state.progress p (step_next b.plan b.state.progress.counters p)) same
 
 playing_then : (w : Callers) (lists : List PostList) (found : List (Option ℕ)) (done : Recorded) (p h : ℕ) (s : Step) (f r : Option ℕ) → Stepping w lists found done p s → h < callers w.plan
-    → h ≡ home_for w.plan p s.op → IsPlaying (record { plan = w.plan; counters = counted w.counters p }) (posts_after (place_of w.plan p s.micro) s.micro lists) (set found p r) (done_then done p s h f)
-playing_then w lists found done p h s f r st home at = record {
+    → h ≡ home_for w.plan p s.op → f ≡ get_or found p None → r ≡ request_after (place_of w.plan p s.micro) s.micro lists f
+    → IsPlaying (record { plan = w.plan; counters = counted w.counters p }) (posts_after (place_of w.plan p s.micro) s.micro lists) (set found p r) (done_then done p s h f)
+playing_then w lists found done p h s f r st home at read asked = record {
   posts = (posts_step w.plan w.counters lists p s st.sound st.playing.posts (omega (arith, st.caller, st.each)) st.caller st.step st.sound_micro).1;
   found = length-set found p r ∙ st.playing.found;
   work = works_kept w.plan done.work p h s.op s.micro f st.playing.work st.caller home (pulls_by w.plan (callers w.plan) s.op refl st.sound_op)
       (step_of w lists found done p s f st).hand;
-  room =
-      let few : length (appends done.work p s.op s.micro f) ≤ lines_of s.micro = few_lines done.work p s.op s.micro f in
-      let less : lines_to_come w.plan w.counters ≡ lines_to_come w.plan (counted w.counters p) + lines_of s.micro
-      = less_to_come w.plan w.counters p s (omega (arith, st.caller, st.each)) st.caller st.step in
-      omega (arith, st.playing.room, length-append done.journal.lines (appends done.work p s.op s.micro f));
+  room = subst
+      (λ (q : Option ℕ). length (done.journal.lines ++ appends done.work p s.op s.micro f)
+      + lines_to_come w.plan (counted w.counters p) (posts_after (place_of w.plan p s.micro) s.micro lists) (set found p q) ≤ done.journal.room) (sym asked)
+      (omega (arith, fewer w lists found done p s f st read, st.playing.room, length-append done.journal.lines (appends done.work p s.op s.micro f)));
   serial = subst (λ (k : ℕ). IsSerial w.plan w.plan.start (counted w.counters p) (works k done.work p s.op s.micro f) (done.journal.lines ++ appends done.work p s.op s.micro f)) (sym at)
       (step_of w lists found done p s f st).serial;
 }
@@ -156,15 +163,15 @@ pub record After (w w' : Callers) (lists lists' : List PostList) (found found' :
   pub done_is : done' ≡ done_then done p s h f
 
 pub playing_after : (w w' : Callers) (lists lists' : List PostList) (found found' : List (Option ℕ)) (done done' : Recorded) (p h : ℕ) (s : Step) (f r : Option ℕ)
-    → Stepping w lists found done p s → h < callers w.plan → h ≡ home_for w.plan p s.op → After w w' lists lists' found found' done done' p h s f r
-    → IsPlaying w' lists' found' done'
-playing_after w w' lists lists' found found' done done' p h s f r st home at t =
+    → Stepping w lists found done p s → h < callers w.plan → h ≡ home_for w.plan p s.op → f ≡ get_or found p None → r ≡ request_after (place_of w.plan p s.micro) s.micro lists f
+    → After w w' lists lists' found found' done done' p h s f r → IsPlaying w' lists' found' done'
+playing_after w w' lists lists' found found' done done' p h s f r st home at read asked t =
     subst (λ (pl : Plan). IsPlaying (record { plan = pl; counters = w'.counters }) lists' found' done') (sym t.plan)
     (subst (λ (cs : Counters). IsPlaying (record { plan = w.plan; counters = cs }) lists' found' done') (sym t.counters)
     (subst (λ (ls : List PostList). IsPlaying (record { plan = w.plan; counters = counted w.counters p }) ls found' done') (sym t.lists_are)
     (subst (λ (fs : List (Option ℕ)). IsPlaying (record { plan = w.plan; counters = counted w.counters p }) (posts_after (place_of w.plan p s.micro) s.micro lists) fs done') (sym t.found_are)
     (subst (λ (d : Recorded). IsPlaying (record { plan = w.plan; counters = counted w.counters p }) (posts_after (place_of w.plan p s.micro) s.micro lists) (set found p r) d) (sym t.done_is)
-    (playing_then w lists found done p h s f r st home at)))))
+    (playing_then w lists found done p h s f r st home at read asked)))))
 
 abbrev player_in : Plan → Counters → List PostList → List (Option ℕ) → Recorded → Player
 player_in plan counters lists found done = player_of (record { plan = plan; counters = counters }) lists found done

@@ -7,6 +7,7 @@ use Rattle.std.specs.Option.{option_map}
 use Rattle.std.specs.Prelude.{slice_get, ◌==◌, Option, Some, None}
 use Rattle.eevdf_ops.specs.declared.deeds.Op.{Op}
 use Rattle.eevdf_ops.specs.declared.deeds.Op.TheVariants as op
+use Rattle.eevdf_ops.specs.Numbers.{most_cpus}
 use Rattle.eevdf_steps.specs.declared.micro_steps.Micro.{Micro}
 use Rattle.eevdf_steps.specs.declared.micro_steps.Micro.TheVariants.{Release}
 use Rattle.eevdf_steps.specs.declared.program_plan.Step.{Step}
@@ -65,16 +66,16 @@ length-draining zero s = refl
 length-draining (suc n) s = omega (arith, length-draining n (s + 1))
 
 -- an operation has at least one step, and not many
-few_sleeping : (p h : ℕ) (b : Bool) → (0 < length (cond b (under_lock p moving) (under_locks p h moving))) × (length (cond b (under_lock p moving) (under_locks p h moving)) ≤ 34)
+few_sleeping : (p h : ℕ) (b : Bool) → (0 < length (cond b (under_lock p moving) (under_locks p h moving))) × (length (cond b (under_lock p moving) (under_locks p h moving)) ≤ 2 * most_cpus + 2)
 few_sleeping p h true = (omega arith, omega arith)
 few_sleeping p h false = (omega arith, omega arith)
 
-few_draining : (n p : ℕ) → n ≤ 16 → (0 < length (under_lock p (draining n 0))) × (length (under_lock p (draining n 0)) ≤ 34)
+few_draining : (n p : ℕ) → n ≤ most_cpus → (0 < length (under_lock p (draining n 0))) × (length (under_lock p (draining n 0)) ≤ 2 * most_cpus + 2)
 few_draining n p few =
     let long : length (draining n 0 ++ Release p ∷ []) ≡ 2 * n + 1 = omega (arith, length-append (draining n 0) (Release p ∷ []), length-draining n 0) in
     (omega arith, omega arith)
 
-pub few_micros : (plan : Plan) (p : ℕ) (o : Op) → callers plan ≤ 16 → (0 < length (micros_of plan p o)) × (length (micros_of plan p o) ≤ 34)
+pub few_micros : (plan : Plan) (p : ℕ) (o : Op) → callers plan ≤ most_cpus → (0 < length (micros_of plan p o)) × (length (micros_of plan p o) ≤ 2 * most_cpus + 2)
 few_micros plan p (op.Tick ns) few = (omega arith, omega arith)
 few_micros plan p op.Pick few = (omega arith, omega arith)
 few_micros plan p op.Yield few = (omega arith, omega arith)
@@ -87,11 +88,11 @@ pub stays_position : (plan : Plan) (p k j : ℕ) (o : Op) → slice_get (program
     → is_position plan p (record { operation = k; steps = j }) ≡ true
 stays_position plan p k j o here h = ap (is_within plan p j) here ∙ lt_true j (length (micros_of plan p o)) h
 
-begins_within : (plan : Plan) (p : ℕ) (o : Option Op) → callers plan ≤ 16 → is_within plan p 0 o ≡ true
+begins_within : (plan : Plan) (p : ℕ) (o : Option Op) → callers plan ≤ most_cpus → is_within plan p 0 o ≡ true
 begins_within plan p None few = refl
 begins_within plan p (Some o) few = lt_true 0 (length (micros_of plan p o)) (few_micros plan p o few).0
 
-pub begins_position : (plan : Plan) (p k : ℕ) → callers plan ≤ 16 → is_position plan p (record { operation = k; steps = 0 }) ≡ true
+pub begins_position : (plan : Plan) (p k : ℕ) → callers plan ≤ most_cpus → is_position plan p (record { operation = k; steps = 0 }) ≡ true
 begins_position plan p k few = begins_within plan p (slice_get (program plan p) k) few
 
 pub counter_of_next : (plan : Plan) (p k j : ℕ) (o : Op) → slice_get (program plan p) k ≡ Some o → j + 1 ≡ length (micros_of plan p o)

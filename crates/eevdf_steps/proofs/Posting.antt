@@ -53,6 +53,12 @@ quiet plan counters p q c s h e none =
 pair_below : (plan : Plan) (q c : ℕ) → q < callers plan → c < callers plan → pair plan q c < callers plan * callers plan
 pair_below plan q c h k = mul-add-lt q (callers plan) c (callers plan) h k
 
+-- the list of a step is one of those that there are
+pub place_below : (plan : Plan) (p : ℕ) (m : Micro) → IsSound plan → p < callers plan → is_sound_micro plan m ≡ true → place_of plan p m < callers plan * callers plan
+place_below plan p (Take q) sound h well = pair_below plan q p (true_lt q (callers plan) well) h
+place_below plan p (Post t) sound h well = pair_below plan p (home plan t) h (home_below plan t sound (true_lt t (length plan.homes) well))
+place_below plan p other sound h well = omega (arith, pair_below plan p p h h)
+
 -- a list is written, the others stay
 list_same : (lists : List PostList) (k : ℕ) (l : PostList) → k < length lists → list_at (set lists k l) k ≡ l
 list_same lists k l h = get_or-set_same lists k l no_posts h

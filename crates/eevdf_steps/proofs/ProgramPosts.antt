@@ -33,7 +33,7 @@ operation_posts plan p c (op.Pull s) = refl
 operation_posts plan p c (op.Post t) = append-nil (cond (home plan t == c) (t ∷ []) [])
 operation_posts plan p c op.Drain = drain_posts plan p c (callers plan) 0
 
-program_posts : (plan : Plan) (p c : ℕ) (ops : List Op) → posts_to plan c (steps_of plan p ops) ≡ posts_in plan.homes c ops
+pub program_posts : (plan : Plan) (p c : ℕ) (ops : List Op) → posts_to plan c (steps_of plan p ops) ≡ posts_in plan.homes c ops
 program_posts plan p c [] = refl
 program_posts plan p c (o ∷ ops) =
     posts_joined plan c (micros_in plan p o) (steps_of plan p ops)

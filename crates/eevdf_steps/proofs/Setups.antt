@@ -12,6 +12,7 @@ use Rattle.eevdf_ops.specs.Setup.{Setup, cpus_of, is_source}
 use Rattle.eevdf_queue.specs.State.{empty_state}
 use Rattle.eevdf_ops.proofs.Machines.{length-begin_at_homes}
 use Rattle.std.proofs.Math.ListN.{length-replicate}
+use Rattle.eevdf_ops.specs.Numbers.{most_cpus, most_tasks}
 use Rattle.eevdf_ops.specs.Faults.{is_count, operation_fault, operations_fault, program_fault, programs_fault, setup_fault, task_fault, tasks_fault, unless}
 use Rattle.eevdf_steps.specs.Plan.{IsSound, Plan, all_pull_elsewhere, callers, is_sound_op, is_sound_program, plan_of, pulls_elsewhere}
 use Rattle.eevdf_steps.proofs.Lists.{both, true_le}
@@ -89,8 +90,8 @@ programs_pull_elsewhere tasks cpus cpu (p ∷ ps) h =
 
 -- the four parts of a setup without faults
 record Parts (s : Setup) : Type 0 where
-  cpus : is_count (cpus_of s) 16 ≡ true
-  tasks : is_count (length s.tasks) 1024 ≡ true
+  cpus : is_count (cpus_of s) most_cpus ≡ true
+  tasks : is_count (length s.tasks) most_tasks ≡ true
   homes : tasks_fault (cpus_of s) 0 s.tasks ≡ None
   programs : programs_fault (length s.tasks) (cpus_of s) 0 s.programs ≡ None
 
@@ -103,7 +104,7 @@ parts_of s h =
 
 pub plan_sound : (s : Setup) → setup_fault s.tasks s.programs ≡ None → IsSound (plan_of s)
 plan_sound s h = record {
-  few = true_le (cpus_of s) 16 (both (nat_le 1 (cpus_of s)) (nat_le (cpus_of s) 16) (parts_of s h).cpus).1;
+  few = true_le (cpus_of s) most_cpus (both (nat_le 1 (cpus_of s)) (nat_le (cpus_of s) most_cpus) (parts_of s h).cpus).1;
   homes = at_cpus (cpus_of s) 0 s.tasks (parts_of s h).homes;
   programs = programs_are_sound (plan_of s) 0 s.programs
       (subst (λ (n : ℕ). programs_fault n (cpus_of s) 0 s.programs ≡ None) (sym (length-map s.tasks (λ (t : TaskSpec). t.home))) (parts_of s h).programs);

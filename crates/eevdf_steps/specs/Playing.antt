@@ -30,5 +30,5 @@ pub record IsPlaying (way : Callers) (lists : List PostList) (requests : List (O
   pub posts : ArePosted way.plan way.counters lists
   pub found : length requests ≡ callers way.plan
   pub work : IsWork way.plan done.work
-  pub room : length done.journal.lines + lines_to_come way.plan way.counters ≤ done.journal.room
+  pub room : length done.journal.lines + lines_to_come way.plan way.counters lists requests ≤ done.journal.room
   pub serial : IsSerial way.plan way.plan.start way.counters done.work done.journal.lines

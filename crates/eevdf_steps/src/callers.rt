@@ -1,13 +1,14 @@
 //! The callers on their way through their programs.
 
 ghost use Rattle.std.specs.Prelude.{◌≡◌, ◌<◌, ◌≤◌, true, is_some, length, replicate, IfOk, IfSome};
+ghost use Rattle.eevdf_ops.specs.Numbers.{most_cpus};
 ghost use Rattle.eevdf_steps.specs.Plan.{IsSound, callers, home, plan_of, program};
 ghost use Rattle.eevdf_steps.specs.SoundSteps.{is_sound_step};
 ghost use Rattle.eevdf_steps.specs.Counters.{counted, step_next};
 ghost use Rattle.eevdf_steps.specs.Orders.{counters_at_start};
 
 use crate::program_plan::{Plan, Position, Step};
-use eevdf_ops::{CpuId, Setup};
+use eevdf_ops::{CpuId, Op, Setup};
 use eevdf_queue::TaskId;
 use std::alloc::{AllocError, Global};
 use std::marker::Model;
@@ -56,9 +57,17 @@ impl Callers {
     /// The number of callers, one for each CPU.
     pub(crate) fn count(&self) -> usize
         ensures callers { result ≡ callers self.now.plan }
-        ensures few { result ≤ 16 }
+        ensures few { result ≤ most_cpus }
     {
         self.plan.callers()
+    }
+
+    /// A caller's program.
+    pub(crate) fn program(&self, caller: usize) -> &[Op]
+        requires { caller < callers self.now.plan }
+        ensures { result.now ≡ program self.now.plan caller }
+    {
+        self.plan.program(caller)
     }
 
     /// The number of operations of a caller's program.

@@ -1,6 +1,7 @@
 //! The micro-steps of operations by their places.
 
 ghost use Rattle.std.specs.Prelude.{◌≡◌, ◌*◌, ◌<◌, ◌≤◌, min, max, slice_get};
+ghost use Rattle.eevdf_ops.specs.Numbers.{cpu_limit, most_cpus};
 ghost use Rattle.eevdf_steps.specs.MicroSteps as steps;
 
 use crate::micro_steps::Micro;
@@ -76,7 +77,7 @@ fn greater(a: CpuId, b: CpuId) -> CpuId
 
 /// The micro-steps of a drain: the senders come in order, and each has two.
 pub(crate) fn drain_step(cpus: usize, cpu: CpuId, at: usize) -> Option<Micro>
-    requires { cpus ≤ 16 }
+    requires { cpus ≤ most_cpus }
     ensures { result ≡ slice_get (steps.under_lock cpu (steps.draining cpus 0)) at }
 {
     if at == 0 {
@@ -96,7 +97,7 @@ pub(crate) fn drain_step(cpus: usize, cpu: CpuId, at: usize) -> Option<Micro>
 
 /// The micro-steps of a drain that has come to the end of the senders.
 fn drained_step(cpus: usize, cpu: CpuId, at: usize) -> Option<Micro>
-    requires few { cpus ≤ 16 }
+    requires few { cpus ≤ most_cpus }
     requires past { 2 * cpus < at }
     ensures { result ≡ slice_get (steps.under_lock cpu (steps.draining cpus 0)) at }
 {
@@ -109,7 +110,7 @@ fn drained_step(cpus: usize, cpu: CpuId, at: usize) -> Option<Micro>
 
 /// The CPU of a number.
 pub(crate) fn cpu_number(number: usize) -> CpuId
-    requires { number < 16 }
+    requires { number < cpu_limit }
     ensures { result ≡ number }
 {
     match CpuId::new(number as u64) {

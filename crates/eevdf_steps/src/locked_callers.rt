@@ -1,11 +1,12 @@
 //! The callers on their way, and the locks that they hold.
 
 ghost use Rattle.std.specs.Prelude.{◌≡◌, ◌*◌, ◌<◌, ◌≤◌, true, length, Some, None, IfOk, IfSome};
+ghost use Rattle.eevdf_ops.specs.Numbers.{most_cpus};
 ghost use Rattle.eevdf_steps.specs.Callers as way;
 ghost use Rattle.eevdf_steps.specs.Counters as counters;
 ghost use Rattle.eevdf_steps.specs.Holders as locks;
 ghost use Rattle.eevdf_steps.specs.Orders.{counters_at_start};
-ghost use Rattle.eevdf_steps.specs.Plan.{IsSound, callers, is_sound_op, pair, plan_of, program};
+ghost use Rattle.eevdf_steps.specs.Plan.{IsSound, callers, home, is_sound_op, pair, plan_of, program};
 ghost use Rattle.eevdf_steps.specs.MicroState.{home_for};
 ghost use Rattle.eevdf_steps.specs.PostLists.{place_of};
 ghost use Rattle.eevdf_steps.specs.SoundSteps.{is_sound_micro, is_sound_step};
@@ -15,6 +16,7 @@ use crate::micro_steps::Micro;
 use crate::program_plan::Step;
 use crate::step_fault::StepFault;
 use eevdf_ops::{CpuId, Op, Setup};
+use eevdf_queue::TaskId;
 use std::alloc::{AllocError, Global};
 use std::marker::Model;
 
@@ -62,9 +64,17 @@ impl LockedCallers {
     /// The number of callers, one for each CPU.
     pub(crate) fn count(&self) -> usize
         ensures callers { result ≡ callers self.now.plan }
-        ensures few { result ≤ 16 }
+        ensures few { result ≤ most_cpus }
     {
         self.callers.count()
+    }
+
+    /// A caller's program.
+    pub(crate) fn program(&self, caller: usize) -> &[Op]
+        requires { caller < callers self.now.plan }
+        ensures { result.now ≡ program self.now.plan caller }
+    {
+        self.callers.program(caller)
     }
 
     /// The number of operations of a caller's program.
@@ -76,6 +86,15 @@ impl LockedCallers {
         self.callers.operations(caller)
     }
 
+    /// The CPU at which a task sleeps.
+    pub(crate) fn home(&self, task: TaskId) -> CpuId
+        requires { task < length self.now.plan.homes }
+        ensures home { result ≡ home self.now.plan task }
+        ensures below { result < callers self.now.plan }
+    {
+        self.callers.home(task)
+    }
+
     /// The home of the task that an operation names, and the caller's CPU where it names none.
     pub(crate) fn home_for(&self, cpu: CpuId, op: Op) -> CpuId
         requires caller { cpu < callers self.now.plan }
@@ -84,7 +103,7 @@ impl LockedCallers {
         ensures below { result < callers self.now.plan }
     {
         match op {
-            Op::Sleep(task) | Op::Post(task) => self.callers.home(task),
+            Op::Sleep(task) | Op::Post(task) => self.home(task),
             Op::Tick(_) | Op::Pick | Op::Yield | Op::Pull(_) | Op::Drain => cpu,
         }
     }
@@ -98,7 +117,7 @@ impl LockedCallers {
     {
         match micro {
             Micro::Take(sender) => self.pair(sender, cpu),
-            Micro::Post(task) => self.pair(cpu, self.callers.home(task)),
+            Micro::Post(task) => self.pair(cpu, self.home(task)),
             Micro::Settle(_)
             | Micro::Acquire(_)
             | Micro::Release(_)

@@ -1,15 +1,17 @@
 //! What a player reserves when it opens.
 
-ghost use Rattle.std.specs.Prelude.{◌≡◌, replicate, None, IfOk};
-ghost use Rattle.eevdf_steps.specs.Plan.{callers as number};
+ghost use Rattle.std.specs.Prelude.{◌≡◌, ◌<◌, true, length, slice_index, EachIndex, replicate, None, IfOk};
+ghost use Rattle.eevdf_ops.specs.Numbers.{most_operations};
+ghost use Rattle.eevdf_steps.specs.Plan.{callers as number, is_sound_op, program};
 ghost use Rattle.eevdf_steps.specs.Openings as openings;
 
 use crate::locked_callers::LockedCallers;
 use crate::post_list::PostList;
+use eevdf_ops::Op;
 use eevdf_queue::TaskId;
 use std::alloc::{AllocError, Global};
 
-/// For each pair of a sender and a home an empty list with room for what the sender's operations can post.
+/// For each pair of a sender and a home an empty list with room for what the sender's program posts to the home.
 pub(crate) fn empty_posts(
     alloc: Global,
     callers: &LockedCallers,
@@ -18,19 +20,52 @@ pub(crate) fn empty_posts(
 {
     let count = callers.count();
     let mut lists = Vec::with_capacity(alloc, count * count)?;
-    for place in 0..count * count {
-        lists.push(PostList::open(alloc, callers.operations(place / count))?)?;
+    for sender in 0..count {
+        let rooms = post_counts(alloc, callers, sender)?;
+        for room in &rooms {
+            lists.push(PostList::open(alloc, *room)?)?;
+        }
     }
     Ok(lists)
 }
 
-/// The lines that the programs can come to: each operation adds at most one for each CPU.
+/// For each home how many requests a caller's program posts to it.
+fn post_counts(
+    alloc: Global,
+    callers: &LockedCallers,
+    caller: usize,
+) -> Result<Vec<usize>, AllocError>
+    requires { caller < number callers.now.plan }
+    ensures { IfOk result (λ counts. openings.CountPosts callers.now.plan (program callers.now.plan caller) counts.items) }
+{
+    callers.keeps();
+    let mut counts = vec![in alloc; 0; callers.count()]?;
+    for op in callers.program(caller) {
+        count_post(callers, *op, &mut counts);
+    }
+    Ok(counts)
+}
+
+/// Counts the request that an operation posts, if it posts one.
+fn count_post(callers: &LockedCallers, op: Op, counts: &mut [usize])
+    requires sound { is_sound_op callers.now.plan op ≡ true }
+    requires each { length counts.old ≡ number callers.now.plan }
+    requires few { EachIndex counts.old (λ k. slice_index counts.old k < most_operations) }
+    ensures { counts.new ≡ openings.post_counted callers.now.plan op counts.old }
+{
+    if let Op::Post(task) = op {
+        counts[callers.home(task).get() as usize] += 1;
+    }
+}
+
+/// The most lines that the programs can come to: one for each operation. A post has none of its own, and each line of
+/// a drain is the wake of a post.
 pub(crate) fn lines(callers: &LockedCallers) -> usize
-    ensures { result ≡ openings.most_lines callers.now.plan 0 (number callers.now.plan) }
+    ensures { result ≡ openings.most_lines callers.now.plan }
 {
     let mut lines = 0;
     for caller in 0..callers.count() {
-        lines += callers.operations(caller) * callers.count();
+        lines += callers.operations(caller);
     }
     lines
 }

@@ -2,6 +2,7 @@
 
 ghost use Rattle.std.specs.Prelude.{◌≡◌, ◌+◌, ◌<◌, ◌≤◌, is_some, Some, true, length, slice_get, map, None, IfOk, IfSome};
 ghost use Rattle.std.specs.Option.{option_map};
+ghost use Rattle.eevdf_ops.specs.Numbers.{most_cpus};
 ghost use Rattle.eevdf_steps.specs.Plan.{IsSound, callers, home, is_sound_op, plan_of, program};
 ghost use Rattle.eevdf_steps.specs.MicroSteps.{micros_of, steps_by};
 ghost use Rattle.eevdf_steps.specs.Positions.{counter_at, is_position};
@@ -89,7 +90,7 @@ impl Plan {
     /// The number of callers, one for each CPU.
     pub(crate) fn callers(&self) -> usize
         ensures callers { result ≡ callers self.now }
-        ensures few { result ≤ 16 }
+        ensures few { result ≤ most_cpus }
     {
         self.setup.cpus()
     }
@@ -104,7 +105,8 @@ impl Plan {
         self.listed_operations(caller)
     }
 
-    fn listed(&self, caller: usize) -> &[Op]
+    /// A caller's program.
+    pub(crate) fn program(&self, caller: usize) -> &[Op]
         requires { caller < callers self.now }
         ensures { result.now ≡ program self.now caller }
     {
@@ -115,7 +117,7 @@ impl Plan {
         requires { caller < callers self.now }
         ensures { result ≡ length (program self.now caller) }
     {
-        self.listed(caller).len()
+        self.program(caller).len()
     }
 
     /// The CPU at which a task sleeps.
@@ -150,7 +152,7 @@ impl Plan {
         requires { caller < callers self.now }
         ensures { result ≡ slice_get (program self.now caller) at }
     {
-        self.listed(caller).get(at).copied()
+        self.program(caller).get(at).copied()
     }
 
     /// The micro-step of an operation at a place of its list.

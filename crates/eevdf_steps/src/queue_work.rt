@@ -5,6 +5,7 @@ ghost use Rattle.eevdf_queue.specs.Leaving.{carried_running};
 ghost use Rattle.eevdf_queue.specs.Moves.{sleeper_of};
 ghost use Rattle.eevdf_queue.specs.Placing.{can_place};
 ghost use Rattle.eevdf_ops.specs.Machine.{queue_at};
+ghost use Rattle.eevdf_ops.specs.Numbers.{most_cpus};
 ghost use Rattle.eevdf_ops.specs.Outcome.{machine_of};
 ghost use Rattle.eevdf_ops.specs.Places.{places_in};
 ghost use Rattle.eevdf_ops.specs.Places.{places as machine_places};
@@ -82,7 +83,7 @@ impl Work {
 
     /// The first place in which a task stands, where it stands in one.
     pub(crate) fn place_of(&self, task: TaskId) -> Option<Place>
-        requires { length self.now.machine ≤ 16 }
+        requires { length self.now.machine ≤ most_cpus }
         ensures { places.IsPlaceOf self.now task (places.places_of self.now task) result }
     {
         match self.queue_place(task) {
@@ -92,7 +93,7 @@ impl Work {
     }
 
     fn queue_place(&self, task: TaskId) -> Option<Place>
-        requires { length self.now.machine ≤ 16 }
+        requires { length self.now.machine ≤ most_cpus }
         ensures { places.IsPlaceOf self.now task (machine_places self.now.machine task) result }
     {
         for at in 0..self.queues.len() {

@@ -2,6 +2,7 @@
 
 ghost use Rattle.std.specs.Prelude.{◌≡◌, ◌+◌, ◌<◌, ◌≤◌, length, true, vec_len, IfOk};
 ghost use Rattle.eevdf_ops.specs.Machine.{queue_at};
+ghost use Rattle.eevdf_ops.specs.Numbers.{most_cpus};
 ghost use Rattle.eevdf_ops.specs.Outcome.{machine_of};
 ghost use Rattle.eevdf_steps.specs.MicroState as state;
 ghost use Rattle.eevdf_steps.specs.Places as places;
@@ -87,7 +88,7 @@ impl RecordedWork {
 
     /// The first place in which a task stands, where it stands in one.
     pub(crate) fn place_of(&self, task: TaskId) -> Option<Place>
-        requires { length self.now.work.machine ≤ 16 }
+        requires { length self.now.work.machine ≤ most_cpus }
         ensures { places.IsPlaceOf self.now.work task (places.places_of self.now.work task) result }
     {
         self.work.place_of(task)

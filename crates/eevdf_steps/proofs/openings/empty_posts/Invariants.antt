@@ -1,10 +1,18 @@
-use Rattle.std.proofs.Common.{◌≡◌, ℕ, ◌<◌, ◌/◌, [], length}
-use Rattle.eevdf_steps.specs.Plan.{callers, program}
+use Rattle.std.proofs.Common.{◌≡◌, ℕ, ◌+◌, ◌*◌, ◌<◌, length}
+use Rattle.eevdf_steps.specs.Plan.{callers}
 use Rattle.eevdf_steps.specs.PostLists.{list_at}
+use Rattle.eevdf_steps.specs.Openings.{empty_at}
 use Rattle.eevdf_steps.proofs.openings.empty_posts.Given as goal
 
-abbrev pub invariant-loop-place : goal.invariant-loop-place
-invariant-loop-place l = record {
-  each : length l.lists.items ≡ l.place;
-  empty : (k : ℕ) → k < l.place → list_at l.lists.items k ≡ record { posted = []; taken = 0; room = length (program l.callers.plan (k / callers l.callers.plan)) };
+abbrev pub invariant-loop-sender : goal.invariant-loop-sender
+invariant-loop-sender l = record {
+  each : length l.lists.items ≡ l.sender * callers l.callers.plan;
+  empty : (k : ℕ) → k < l.sender * callers l.callers.plan → list_at l.lists.items k ≡ empty_at l.callers.plan k;
+}
+
+abbrev pub invariant-loop-room : goal.invariant-loop-room
+invariant-loop-room l = record {
+  each : length l.lists.items ≡ l.sender * callers l.callers.plan + l.room-index;
+  empty : (k : ℕ) → k < l.sender * callers l.callers.plan + l.room-index
+      → list_at l.lists.items k ≡ empty_at l.callers.plan k;
 }

@@ -1,4 +1,5 @@
-use Rattle.std.proofs.Common.{◌+◌, ◌≤◌, length, ◌∙◌, sym, arith}
+use Rattle.std.proofs.Common.{◌+◌, ◌*◌, ◌≤◌, length, ◌∙◌, sym, arith}
+use Rattle.eevdf_ops.specs.Numbers.{most_cpus}
 use Rattle.eevdf_steps.specs.MicroSteps.{micros_of}
 use Rattle.eevdf_steps.proofs.Positions.{counter_of_next, few_micros, stays_position}
 use Rattle.eevdf_steps.proofs.Lists.{got_within, got_past}
@@ -6,12 +7,12 @@ use Rattle.eevdf_steps.proofs.program_plan.Plan.position_within.Goals as goal
 
 pub overflow_add-position : goal.overflow_add-position
 overflow_add-position c =
-    let few : length (micros_of c.args.self.now c.args.cpu c.args.op) ≤ 34 = (few_micros c.args.self.now c.args.cpu c.args.op c.keeps.ensures.few).1 in
+    let few : length (micros_of c.args.self.now c.args.cpu c.args.op) ≤ 2 * most_cpus + 2 = (few_micros c.args.self.now c.args.cpu c.args.op c.keeps.ensures.few).1 in
     omega arith
 
 pub overflow_add-result : goal.overflow_add-result
 overflow_add-result c =
-    let few : length (micros_of c.args.self.now c.args.cpu c.args.op) ≤ 34 = (few_micros c.args.self.now c.args.cpu c.args.op c.keeps.ensures.few).1 in
+    let few : length (micros_of c.args.self.now c.args.cpu c.args.op) ≤ 2 * most_cpus + 2 = (few_micros c.args.self.now c.args.cpu c.args.op c.keeps.ensures.few).1 in
     omega arith
 
 pub returns-in-Some-clause-position : goal.returns-in-Some-clause-position

@@ -6,12 +6,20 @@ use Rattle.std.proofs.lemmas.List.{get_or_default}
 use Rattle.eevdf_steps.specs.Counters.{counted}
 use Rattle.eevdf_steps.proofs.PlayerSteps.{After, Stepping, commits_then, is_working, playing_after, posts_have_room, pulls, room_for, state_after, step_of, stepping}
 use Rattle.eevdf_steps.proofs.step_player.Player.do_step.Goals as goal
-use Rattle.eevdf_steps.proofs.step_player.Player.do_step.Goals.{After-keeps, After-advance}
+use Rattle.eevdf_steps.proofs.step_player.Player.do_step.Goals.{After-keeps, After-index, After-advance}
 
 is_stepping : (c : After-keeps) → Stepping c.self.inside.callers c.self.inside.posts c.self.inside.found.items c.self.inside.done c.args.cpu c.args.step.now
 is_stepping c =
     stepping c.self.inside.callers c.self.inside.posts c.self.inside.found.items c.self.inside.done c.args.cpu c.args.step.now c.args.self.now
     c.self.view_is c.self.invariant c.keeps.ensures.sound c.keeps.ensures.each c.requires.next c.requires.free
+
+-- what the caller has found is read
+read_found : (c : After-index) → c.index.result.now ≡ get_or c.self.inside.found.items c.args.cpu None
+read_found c =
+    let caller : c.args.cpu < callers c.self.inside.callers.plan = (is_stepping (goal.at.After-index c).After-keeps).caller in
+    c.index.ensures ∙ get_or_default c.self.inside.found.items c.get-caller.result c.index.result.now None
+    (omega (arith, caller, c.self.invariant.found, c.get-caller.ensures.number))
+    ∙ ap (λ (k : ℕ). get_or c.self.inside.found.items k None) c.get-caller.ensures.number
 
 pub home_for-requires-clause-sound : goal.home_for-requires-clause-sound
 home_for-requires-clause-sound c = (is_stepping (goal.at.home_for-requires-clause-sound c).After-keeps).sound_op
@@ -37,7 +45,7 @@ do_step-requires-clause-hand c =
 pub do_step-requires-clause-room : goal.do_step-requires-clause-room
 do_step-requires-clause-room c =
     room_for c.self.inside.callers c.self.inside.posts c.self.inside.found.items c.self.inside.done c.args.cpu c.args.step.now c.index.result.now
-    (is_stepping (goal.at.do_step-requires-clause-room c).After-keeps)
+    (is_stepping (goal.at.do_step-requires-clause-room c).After-keeps) (read_found (goal.at.do_step-requires-clause-room c).After-index)
 
 pub pass-request-requires-clause-room : goal.pass-request-requires-clause-room
 pass-request-requires-clause-room c =
@@ -65,28 +73,23 @@ after c = record {
   done_is = c.do_step.ensures;
 }
 
--- what the caller has found is read
-read_found : (c : After-advance) → c.args.cpu < callers c.self.inside.callers.plan → c.index.result.now ≡ get_or c.self.inside.found.items c.args.cpu None
-read_found c caller =
-    c.index.ensures ∙ get_or_default c.self.inside.found.items c.get-caller.result c.index.result.now None
-    (omega (arith, caller, c.self.invariant.found, c.get-caller.ensures.number))
-    ∙ ap (λ (k : ℕ). get_or c.self.inside.found.items k None) c.get-caller.ensures.number
-
 pub invariant_of-self : goal.invariant_of-self
 invariant_of-self c =
     playing_after c.self.inside.callers c.advance.new.self c.self.inside.posts _ c.self.inside.found.items _ c.self.inside.done c.do_step.new.self
     c.args.cpu c.home_for.result c.args.step.now c.index.result.now c.pass-request.result
-    (is_stepping (goal.at.invariant_of-self c).After-keeps) c.home_for.ensures.below c.home_for.ensures.home (after c)
+    (is_stepping (goal.at.invariant_of-self c).After-keeps) c.home_for.ensures.below c.home_for.ensures.home
+    (read_found (goal.at.invariant_of-self c).After-index) (asked c) (after c)
 
 pub returns-clause-step : goal.returns-clause-step
 returns-clause-step c =
     state_after c.self.inside.callers c.advance.new.self c.self.inside.posts _ c.self.inside.found.items _ c.self.inside.done c.do_step.new.self
     c.args.cpu c.home_for.result c.args.step.now c.index.result.now c.pass-request.result c.args.self.now
     c.self.view_is (is_stepping (goal.at.returns-clause-step c).After-keeps) (after c) c.home_for.ensures.home
-    (read_found c (is_stepping (goal.at.returns-clause-step c).After-keeps).caller)
+    (read_found (goal.at.returns-clause-step c).After-index)
     (asked c)
 
 pub returns-clause-commits : goal.returns-clause-commits
 returns-clause-commits c =
     commits_then c.self.inside.callers c.self.inside.posts c.self.inside.found.items c.self.inside.done c.do_step.new.self c.args.cpu c.home_for.result c.args.step.now c.index.result.now
-    c.args.self.now c.self.view_is (is_stepping (goal.at.returns-clause-commits c).After-keeps) c.do_step.ensures (read_found c (is_stepping (goal.at.returns-clause-commits c).After-keeps).caller)
+    c.args.self.now c.self.view_is (is_stepping (goal.at.returns-clause-commits c).After-keeps) c.do_step.ensures
+    (read_found (goal.at.returns-clause-commits c).After-index)

@@ -1,0 +1,206 @@
+-- What is reserved for the requests and the lines.
+use Rattle.std.proofs.Common.{append-nil, ◌≡◌, ℕ, zero, suc, ◌+◌, ◌*◌, ◌%◌, ◌<◌, ◌≤◌, Bool, true, false, cond, List, [], ◌∷◌, ◌++◌, length, map, drop, take, get_or, set, replicate, inl, inr, sym, ap, subst, ◌∙◌, arith, refl}
+use Rattle.std.proofs.Math.ListN.{length-append, length-replicate, length-set}
+use Rattle.std.proofs.lemmas.Bool.{cases_lt}
+use Rattle.std.proofs.lemmas.Grind.{flat_map-append}
+use Rattle.std.proofs.lemmas.List.{get_or_append_left, get_or-replicate, get_or-set_other, get_or-set_same, get_or_push, length-take-le, take_more}
+use Rattle.std.proofs.lemmas.List.Folds.{sum_by-replicate}
+use Rattle.std.proofs.lemmas.List.Sums.{sum_by-cons}
+use Rattle.std.proofs.lemmas.Nat.{div-mul-add, mod-mul-add}
+use Rattle.std.specs.List.{sum_by}
+use Rattle.std.specs.Prelude.{◌==◌, is_some, slice_index, Option, None}
+use Rattle.eevdf_ops.specs.declared.deeds.Op.{Op}
+use Rattle.eevdf_ops.specs.declared.deeds.Op.TheVariants as op
+use Rattle.eevdf_ops.specs.Numbers.{most_operations}
+use Rattle.eevdf_ops.specs.Places.{count}
+use Rattle.eevdf_ops.specs.Programs.{post_of, posts_in}
+use Rattle.eevdf_steps.specs.declared.micro_steps.Micro.TheVariants.{Release}
+use Rattle.eevdf_steps.specs.declared.program_plan.Step.{Step}
+use Rattle.eevdf_steps.specs.Plan.{IsSound, Plan, callers, home, is_sound_op, program}
+use Rattle.eevdf_steps.specs.MicroSteps.{draining, moving, steps_by, steps_of, under_lock, under_locks}
+use Rattle.eevdf_steps.specs.Orders.{counters_at_start}
+use Rattle.eevdf_steps.specs.PostLists.{PostList, list_at, no_posts}
+use Rattle.eevdf_steps.specs.Room.{lines_in, lines_left, lines_to_come, steps_to_come, sum_from, unsettled, waiting, waiting_in}
+use Rattle.eevdf_steps.specs.Openings.{AreEmpty, CountPosts, empty_at, most_lines, post_counted, room_at}
+use Rattle.eevdf_steps.proofs.Holders.{count_first, number_cases, other_number, same_number}
+use Rattle.eevdf_steps.proofs.Lists.{all_at, true_lt}
+use Rattle.eevdf_steps.proofs.Plans.{program_ops_sound, program_short}
+use Rattle.eevdf_steps.proofs.Positions.{micros_in, step_in}
+use Rattle.eevdf_steps.proofs.SoundSteps.{home_below}
+
+-- operations post no more requests than they are
+few_posts : (homes : List ℕ) (c : ℕ) (o : Op) → length (post_of homes c o) ≤ 1
+few_posts homes c (op.Post t) = few (get_or homes t 0 == c)
+  where
+    few : (b : Bool) → length (cond b (t ∷ []) []) ≤ 1
+    few true = omega arith
+    few false = omega arith
+few_posts homes c (op.Tick ns) = omega arith
+few_posts homes c op.Pick = omega arith
+few_posts homes c op.Yield = omega arith
+few_posts homes c (op.Sleep t) = omega arith
+few_posts homes c (op.Pull s) = omega arith
+few_posts homes c op.Drain = omega arith
+
+posts_few : (homes : List ℕ) (c : ℕ) (ops : List Op) → length (posts_in homes c ops) ≤ length ops
+posts_few homes c [] = omega arith
+posts_few homes c (o ∷ ops) =
+    omega (arith, few_posts homes c o, posts_few homes c ops, length-append (post_of homes c o) (posts_in homes c ops))
+
+counts_few : (plan : Plan) (ops : List Op) (counts : List ℕ) (c : ℕ) → CountPosts plan ops counts → c < length counts → slice_index counts c ≤ length ops
+counts_few plan ops counts c a h =
+    subst (λ (n : ℕ). n ≤ length ops) (sym (a.count c (omega (arith, a.each)))) (posts_few plan.homes c ops)
+
+pub counts_none : (plan : Plan) → CountPosts plan [] (replicate (callers plan) 0)
+counts_none plan = record {
+  each = length-replicate (callers plan) 0;
+  count = λ c h. get_or-replicate (callers plan) c 0 0 h;
+}
+
+posts_pushed : (homes : List ℕ) (c : ℕ) (ops : List Op) (o : Op) → length (posts_in homes c (ops ++ o ∷ [])) ≡ length (posts_in homes c ops) + length (post_of homes c o)
+posts_pushed homes c ops o =
+    ap (λ (l : List ℕ). length l) (flat_map-append (post_of homes c) ops (o ∷ []))
+    ∙ length-append (posts_in homes c ops) (post_of homes c o ++ [])
+    ∙ ap (λ (l : List ℕ). length (posts_in homes c ops) + length l) (append-nil (post_of homes c o))
+
+-- an operation that posts nothing
+quiet_counted : (plan : Plan) (ops : List Op) (o : Op) (counts : List ℕ) → CountPosts plan ops counts → ((c : ℕ) → post_of plan.homes c o ≡ []) → CountPosts plan (ops ++ o ∷ []) counts
+quiet_counted plan ops o counts a none = record {
+  each = a.each;
+  count = λ c h.
+      let more : length (posts_in plan.homes c (ops ++ o ∷ [])) ≡ length (posts_in plan.homes c ops) + length (post_of plan.homes c o) = posts_pushed plan.homes c ops o in
+      omega (arith, a.count c h, ap (λ (l : List ℕ). length l) (none c));
+}
+
+post_counts_more : (plan : Plan) (ops : List Op) (t : ℕ) (counts : List ℕ) → home plan t < callers plan → CountPosts plan ops counts
+    → CountPosts plan (ops ++ op.Post t ∷ []) (post_counted plan (op.Post t) counts)
+post_counts_more plan ops t counts below a =
+    let h : ℕ = home plan t in
+    let more : ℕ = slice_index counts h + 1 in
+    record {
+      each = length-set counts h more ∙ a.each;
+      count = λ c i.
+          let pushed : length (posts_in plan.homes c (ops ++ op.Post t ∷ [])) ≡ length (posts_in plan.homes c ops) + length (post_of plan.homes c (op.Post t))
+          = posts_pushed plan.homes c ops (op.Post t) in
+          elim (number_cases c h) [
+            | inl here ↦
+                let one : length (post_of plan.homes c (op.Post t)) ≡ 1
+                = ap (λ (k : ℕ). length (post_of plan.homes k (op.Post t))) here ∙ ap (λ (b : Bool). length (cond b (t ∷ []) [])) (same_number h) in
+                let now : slice_index (set counts h more) c ≡ more
+                = ap (λ (k : ℕ). slice_index (set counts h more) k) here ∙ get_or-set_same counts h more 0 (omega (arith, a.each)) in
+                let before : slice_index counts h ≡ slice_index counts c = ap (λ (k : ℕ). slice_index counts k) (sym here) in
+                omega (arith, a.count c i)
+            | inr apart ↦
+                let none : length (post_of plan.homes c (op.Post t)) ≡ 0
+                = ap (λ (b : Bool). length (cond b (t ∷ []) [])) (other_number h c (λ same. apart (sym same))) in
+                let now : slice_index (set counts h more) c ≡ slice_index counts c = get_or-set_other counts h c more 0 apart in
+                omega (arith, a.count c i)
+          ];
+    }
+
+-- one operation more is counted
+counted_more : (plan : Plan) (ops : List Op) (o : Op) (counts : List ℕ) → IsSound plan → is_sound_op plan o ≡ true → CountPosts plan ops counts
+    → CountPosts plan (ops ++ o ∷ []) (post_counted plan o counts)
+counted_more plan ops (op.Post t) counts sound known a = post_counts_more plan ops t counts (home_below plan t sound (true_lt t (length plan.homes) known)) a
+counted_more plan ops (op.Tick ns) counts sound known a = quiet_counted plan ops (op.Tick ns) counts a (λ c. refl)
+counted_more plan ops op.Pick counts sound known a = quiet_counted plan ops op.Pick counts a (λ c. refl)
+counted_more plan ops op.Yield counts sound known a = quiet_counted plan ops op.Yield counts a (λ c. refl)
+counted_more plan ops (op.Sleep t) counts sound known a = quiet_counted plan ops (op.Sleep t) counts a (λ c. refl)
+counted_more plan ops (op.Pull s) counts sound known a = quiet_counted plan ops (op.Pull s) counts a (λ c. refl)
+counted_more plan ops op.Drain counts sound known a = quiet_counted plan ops op.Drain counts a (λ c. refl)
+
+-- the operation at a place of a program is counted after those before it
+pub counted_next : (plan : Plan) (p i : ℕ) (o : Op) (counts : List ℕ) → IsSound plan → i < length (program plan p) → o ≡ get_or (program plan p) i o
+    → CountPosts plan (take i (program plan p)) counts → CountPosts plan (take (i + 1) (program plan p)) (post_counted plan o counts)
+counted_next plan p i o counts sound h at a =
+    let known : is_sound_op plan o ≡ true
+    = subst (λ (x : Op). is_sound_op plan x ≡ true) (sym at) (all_at (is_sound_op plan) (program plan p) i o (program_ops_sound plan p sound) h) in
+    subst (λ (ops : List Op). CountPosts plan ops (post_counted plan o counts))
+    (ap (λ (x : Op). take i (program plan p) ++ x ∷ []) at ∙ sym (take_more (program plan p) i o h))
+    (counted_more plan (take i (program plan p)) o counts sound known a)
+
+-- fewer than a program may have
+pub counts_below : (plan : Plan) (p i c : ℕ) (counts : List ℕ) → IsSound plan → i < length (program plan p) → CountPosts plan (take i (program plan p)) counts → c < length counts
+    → slice_index counts c < most_operations
+counts_below plan p i c counts sound h a k =
+    omega (arith, counts_few plan (take i (program plan p)) counts c a k, length-take-le i (program plan p) (omega arith), program_short plan p sound)
+
+-- the room at the place of a pair
+pub room_of : (plan : Plan) (q c : ℕ) (counts : List ℕ) → c < callers plan → CountPosts plan (program plan q) counts → slice_index counts c ≡ room_at plan (q * callers plan + c)
+room_of plan q c counts h a =
+    a.count c h
+    ∙ ap (λ (k : ℕ). length (posts_in plan.homes k (program plan q))) (sym (mod-mul-add q (callers plan) c h))
+    ∙ ap (λ (k : ℕ). length (posts_in plan.homes ((q * callers plan + c) % callers plan) (program plan k))) (sym (div-mul-add q (callers plan) c h))
+
+-- one list more
+pub empty_next : (plan : Plan) (q c : ℕ) (lists : List PostList) (counts : List ℕ) (l : PostList) → c < callers plan → CountPosts plan (program plan q) counts
+    → l ≡ record { posted = []; taken = 0; room = slice_index counts c } → length lists ≡ q * callers plan + c → ((k : ℕ) → k < q * callers plan + c → list_at lists k ≡ empty_at plan k)
+    → (k : ℕ) → k < q * callers plan + (c + 1) → list_at (lists ++ l ∷ []) k ≡ empty_at plan k
+empty_next plan q c lists counts l h a is long before k below =
+    elim (cases_lt k (q * callers plan + c)) [
+      | inl low ↦ get_or_append_left lists (l ∷ []) no_posts k (omega arith) ∙ before k low
+      | inr high ↦
+          let here : k ≡ q * callers plan + c = omega arith in
+          get_or_push lists l no_posts k (omega arith) ∙ is
+          ∙ ap (λ (n : ℕ). record { posted = []; taken = 0; room = n }) (room_of plan q c counts h a ∙ ap (λ (n : ℕ). room_at plan n) (sym here))
+    ]
+
+lines_joined : (xs ys : List Step) → lines_in (xs ++ ys) ≡ lines_in xs + lines_in ys
+lines_joined [] ys = omega arith
+lines_joined (x ∷ xs) ys = omega (arith, lines_joined xs ys)
+
+draining_lines : (o : Op) (n s cpu : ℕ) → lines_in (map (step_in o) (draining n s ++ Release cpu ∷ [])) ≡ 0
+draining_lines o zero s cpu = refl
+draining_lines o (suc n) s cpu = omega (arith, draining_lines o n (s + 1) cpu)
+
+sleeping_lines : (o : Op) (p h : ℕ) (b : Bool) → lines_in (map (step_in o) (cond b (under_lock p moving) (under_locks p h moving))) ≤ 1
+sleeping_lines o p h true = omega arith
+sleeping_lines o p h false = omega arith
+
+-- an operation comes to at most one line
+operation_lines : (plan : Plan) (p : ℕ) (o : Op) → lines_in (micros_in plan p o) ≤ 1
+operation_lines plan p (op.Tick ns) = omega arith
+operation_lines plan p op.Pick = omega arith
+operation_lines plan p op.Yield = omega arith
+operation_lines plan p (op.Sleep t) = sleeping_lines (op.Sleep t) p (home plan t) (p == home plan t)
+operation_lines plan p (op.Pull d) = omega arith
+operation_lines plan p op.Drain = omega (arith, draining_lines op.Drain (callers plan) 0 p)
+operation_lines plan p (op.Post t) = omega arith
+
+program_lines : (plan : Plan) (p : ℕ) (ops : List Op) → lines_in (steps_of plan p ops) ≤ length ops
+program_lines plan p [] = omega arith
+program_lines plan p (o ∷ ops) =
+    omega (arith, operation_lines plan p o, program_lines plan p ops, lines_joined (micros_in plan p o) (steps_of plan p ops))
+
+first_lines : (plan : Plan) (p : ℕ) → lines_left plan (counters_at_start plan) p ≤ length (program plan p)
+first_lines plan p =
+    subst (λ (k : ℕ). lines_in (drop k (steps_by plan p)) ≤ length (program plan p)) (sym (count_first (callers plan) p)) (program_lines plan p (program plan p))
+
+sum_below : (f : ℕ → ℕ) (from : ℕ) (programs : List (List Op)) → ((k : ℕ) → f (from + k) ≤ length (get_or programs k []))
+    → sum_from f from (length programs) ≤ sum_by (λ (ops : List Op). length ops) programs
+sum_below f from [] h = omega arith
+sum_below f from (ops ∷ programs) h =
+    let here : f from ≤ length ops = subst (λ (k : ℕ). f k ≤ length ops) (let e : from + 0 ≡ from = omega arith in e) (h 0) in
+    let rest : sum_from f (from + 1) (length programs) ≤ sum_by (λ (os : List Op). length os) programs
+    = sum_below f (from + 1) programs (λ k. subst (λ (n : ℕ). f n ≤ length (get_or programs k [])) (let e : from + suc k ≡ from + 1 + k = omega arith in e) (h (suc k))) in
+    omega (arith, sum_by-cons (λ (os : List Op). length os) ops programs)
+
+steps_first : (plan : Plan) → steps_to_come plan (counters_at_start plan) ≤ most_lines plan
+steps_first plan =
+    sum_below (lines_left plan (counters_at_start plan)) 0 plan.programs
+    (λ k. subst (λ (n : ℕ). lines_left plan (counters_at_start plan) n ≤ length (get_or plan.programs k [])) (let e : k ≡ 0 + k = omega arith in e) (first_lines plan k))
+
+waiting_none : (lists : List PostList) → ((k : ℕ) → k < length lists → waiting_in (list_at lists k) ≡ 0) → waiting lists ≡ 0
+waiting_none [] h = refl
+waiting_none (l ∷ lists) h =
+    omega (arith, sum_by-cons waiting_in l lists, h 0 (omega arith), waiting_none lists (λ k below. h (suc k) (omega arith)))
+
+-- there is room for all that is to come
+pub room_first : (plan : Plan) (lists : List PostList) → AreEmpty plan lists
+    → lines_to_come plan (counters_at_start plan) lists (replicate (callers plan) None) ≤ most_lines plan
+room_first plan lists a =
+    let none : waiting lists ≡ 0
+    = waiting_none lists (λ k below. ap waiting_in (a.empty k (subst (λ (n : ℕ). k < n) a.each below))) in
+    let nothing : unsettled (replicate (callers plan) None) ≡ callers plan * 0
+    = sum_by-replicate (λ (f : Option ℕ). count (is_some f)) (callers plan) None in
+    omega (arith, steps_first plan)
