@@ -45,6 +45,7 @@ pub touched_is : (plan : Plan) (p : ℕ) (o : Op) (d : Deed) (c : ℕ) → deed_
 touched_is plan p (op.Tick ns) d c e = let is : deed.Tick p ns ≡ d = cc in thrice (c == p) ∙ ap (λ (x : Deed). touches plan.homes x c) is
 touched_is plan p op.Pick d c e = let is : deed.Pick p ≡ d = cc in thrice (c == p) ∙ ap (λ (x : Deed). touches plan.homes x c) is
 touched_is plan p op.Yield d c e = let is : deed.Yield p ≡ d = cc in thrice (c == p) ∙ ap (λ (x : Deed). touches plan.homes x c) is
+touched_is plan p (op.Renice task nice) d c e = let is : deed.Renice p task nice ≡ d = cc in thrice (c == p) ∙ ap (λ (x : Deed). touches plan.homes x c) is
 touched_is plan p (op.Sleep t) d c e =
     let is : deed.Sleep p t ≡ d = cc in first_again (c == p) (c == home plan t) ∙ ap (λ (x : Deed). touches plan.homes x c) is
 touched_is plan p (op.Pull s) d c e = let is : deed.Pull p s ≡ d = cc in first_last (c == p) (c == s) ∙ ap (λ (x : Deed). touches plan.homes x c) is

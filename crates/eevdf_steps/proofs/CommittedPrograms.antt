@@ -32,6 +32,7 @@ deed_decides : (x : ℕ) (o : Op) → IfSome (deed_of x o) (λ (d : Deed). decid
 deed_decides x (op.Tick ns) = refl
 deed_decides x op.Pick = refl
 deed_decides x op.Yield = refl
+deed_decides x (op.Renice task nice) = refl
 deed_decides x (op.Sleep t) = refl
 deed_decides x (op.Pull s) = refl
 deed_decides x (op.Post t) = tt

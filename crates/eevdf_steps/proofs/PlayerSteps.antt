@@ -84,6 +84,7 @@ pulls_by plan n (op.Sleep t) e h = refl
 pulls_by plan n (op.Tick ns) e h = refl
 pulls_by plan n op.Pick e h = refl
 pulls_by plan n op.Yield e h = refl
+pulls_by plan n (op.Renice task nice) e h = refl
 pulls_by plan n (op.Post t) e h = refl
 pulls_by plan n op.Drain e h = refl
 

@@ -79,6 +79,7 @@ pub few_micros : (plan : Plan) (p : ℕ) (o : Op) → callers plan ≤ most_cpus
 few_micros plan p (op.Tick ns) few = (omega arith, omega arith)
 few_micros plan p op.Pick few = (omega arith, omega arith)
 few_micros plan p op.Yield few = (omega arith, omega arith)
+few_micros plan p (op.Renice task nice) few = (omega arith, omega arith)
 few_micros plan p (op.Sleep task) few = few_sleeping p (home plan task) (p == home plan task)
 few_micros plan p (op.Pull source) few = (omega arith, omega arith)
 few_micros plan p op.Drain few = few_draining (callers plan) p few

@@ -28,6 +28,7 @@ operation_posts : (plan : Plan) (p c : ℕ) (o : Op) → posts_to plan c (micros
 operation_posts plan p c (op.Tick ns) = refl
 operation_posts plan p c op.Pick = refl
 operation_posts plan p c op.Yield = refl
+operation_posts plan p c (op.Renice task nice) = refl
 operation_posts plan p c (op.Sleep t) = sleep_posts plan p (min p (home plan t)) (max p (home plan t)) c t (p == home plan t)
 operation_posts plan p c (op.Pull s) = refl
 operation_posts plan p c (op.Post t) = append-nil (cond (home plan t == c) (t ∷ []) [])

@@ -77,6 +77,7 @@ wakes_from_less p from more (deed.Wake cpu task sender ∷ deeds) h wakes =
 wakes_from_less p from more (deed.Tick cpu ns ∷ deeds) h wakes = wakes
 wakes_from_less p from more (deed.Pick cpu ∷ deeds) h wakes = wakes
 wakes_from_less p from more (deed.Yield cpu ∷ deeds) h wakes = wakes
+wakes_from_less p from more (deed.Renice cpu task nice ∷ deeds) h wakes = wakes
 wakes_from_less p from more (deed.Sleep cpu task ∷ deeds) h wakes = wakes
 wakes_from_less p from more (deed.Pull cpu source ∷ deeds) h wakes = wakes
 
@@ -95,6 +96,7 @@ operation_fits : (plan : Plan) (p : ℕ) (o : Op) (deeds : List Deed) → FitsSt
 operation_fits plan p (op.Tick ns) deeds h = acts p (op.Tick ns) (deed.Tick p ns) deeds refl h
 operation_fits plan p op.Pick deeds h = acts p op.Pick (deed.Pick p) deeds refl h
 operation_fits plan p op.Yield deeds h = acts p op.Yield (deed.Yield p) deeds refl h
+operation_fits plan p (op.Renice task nice) deeds h = acts p (op.Renice task nice) (deed.Renice p task nice) deeds refl h
 operation_fits plan p (op.Sleep t) deeds h =
     sleeps p (min p (home plan t)) (max p (home plan t)) (op.Sleep t) (deed.Sleep p t) deeds (p == home plan t) refl h
 operation_fits plan p (op.Pull s) deeds h = moves_between p (min p s) (max p s) (op.Pull s) (deed.Pull p s) deeds refl h

@@ -146,6 +146,7 @@ commit_wakes : (q c : ℕ) (o : Op) → wakes_in q (option_to_list (deed_of c o)
 commit_wakes q c (op.Tick ns) = refl
 commit_wakes q c op.Pick = refl
 commit_wakes q c op.Yield = refl
+commit_wakes q c (op.Renice task nice) = refl
 commit_wakes q c (op.Sleep t) = refl
 commit_wakes q c (op.Pull s) = refl
 commit_wakes q c (op.Post t) = refl

@@ -38,6 +38,7 @@ few_posts homes c (op.Post t) = few (get_or homes t 0 == c)
 few_posts homes c (op.Tick ns) = omega arith
 few_posts homes c op.Pick = omega arith
 few_posts homes c op.Yield = omega arith
+few_posts homes c (op.Renice task nice) = omega arith
 few_posts homes c (op.Sleep t) = omega arith
 few_posts homes c (op.Pull s) = omega arith
 few_posts homes c op.Drain = omega arith
@@ -105,6 +106,7 @@ counted_more plan ops (op.Post t) counts sound known a = post_counts_more plan o
 counted_more plan ops (op.Tick ns) counts sound known a = quiet_counted plan ops (op.Tick ns) counts a (λ c. refl)
 counted_more plan ops op.Pick counts sound known a = quiet_counted plan ops op.Pick counts a (λ c. refl)
 counted_more plan ops op.Yield counts sound known a = quiet_counted plan ops op.Yield counts a (λ c. refl)
+counted_more plan ops (op.Renice task nice) counts sound known a = quiet_counted plan ops (op.Renice task nice) counts a (λ c. refl)
 counted_more plan ops (op.Sleep t) counts sound known a = quiet_counted plan ops (op.Sleep t) counts a (λ c. refl)
 counted_more plan ops (op.Pull s) counts sound known a = quiet_counted plan ops (op.Pull s) counts a (λ c. refl)
 counted_more plan ops op.Drain counts sound known a = quiet_counted plan ops op.Drain counts a (λ c. refl)
@@ -162,6 +164,7 @@ operation_lines : (plan : Plan) (p : ℕ) (o : Op) → lines_in (micros_in plan 
 operation_lines plan p (op.Tick ns) = omega arith
 operation_lines plan p op.Pick = omega arith
 operation_lines plan p op.Yield = omega arith
+operation_lines plan p (op.Renice task nice) = omega arith
 operation_lines plan p (op.Sleep t) = sleeping_lines (op.Sleep t) p (home plan t) (p == home plan t)
 operation_lines plan p (op.Pull d) = omega arith
 operation_lines plan p op.Drain = omega (arith, draining_lines op.Drain (callers plan) 0 p)

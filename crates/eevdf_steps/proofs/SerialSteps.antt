@@ -14,7 +14,7 @@ use Rattle.eevdf_ops.specs.declared.deeds.Deed.TheVariants as deed
 use Rattle.eevdf_ops.specs.declared.deeds.Answer.{Answer}
 use Rattle.eevdf_ops.specs.declared.deeds.Line.{Line}
 use Rattle.eevdf_ops.specs.Machine.{Machine, queue_at}
-use Rattle.eevdf_ops.specs.OneQueue.{one_tick, one_pick, one_yield}
+use Rattle.eevdf_ops.specs.OneQueue.{one_tick, one_pick, one_yield, one_renice}
 use Rattle.eevdf_ops.specs.Whole.{whole}
 use Rattle.eevdf_ops.specs.WholePull.{decision, load_of, offer}
 use Rattle.eevdf_steps.specs.declared.micro_steps.Micro.{Micro}
@@ -90,6 +90,10 @@ act_serial plan start counters p h w lines op.Yield f s =
     local_serial plan start counters p w _ lines op.Yield Act s
     (acted_step plan counters p (machine_told plan.homes start lines) w op.Yield (deed.Yield p) one_yield s.at
     (holds_covered plan counters p op.Yield s.at.walk s.at.fits.covers) (ap (λ (o : Option Step). under_way p o) s.at.fits.follows) (refl, refl))
+act_serial plan start counters p h w lines (op.Renice task nice) f s =
+    local_serial plan start counters p w _ lines (op.Renice task nice) Act s
+    (acted_step plan counters p (machine_told plan.homes start lines) w (op.Renice task nice) (deed.Renice p task nice) (λ q. one_renice q task nice) s.at
+    (holds_covered plan counters p (op.Renice task nice) s.at.walk s.at.fits.covers) (ap (λ (o : Option Step). under_way p o) s.at.fits.follows) (refl, refl))
 act_serial plan start counters p h w lines (op.Sleep t) f s = absurd (false≢true s.at.fits.acting)
 act_serial plan start counters p h w lines (op.Pull q) f s = absurd (false≢true s.at.fits.acting)
 act_serial plan start counters p h w lines (op.Post t) f s = absurd (false≢true s.at.fits.acting)
@@ -130,6 +134,7 @@ detach_serial plan start counters p h w lines (op.Pull q) f s =
 detach_serial plan start counters p h w lines (op.Tick ns) f s = absurd (false≢true s.at.fits.moving)
 detach_serial plan start counters p h w lines op.Pick f s = absurd (false≢true s.at.fits.moving)
 detach_serial plan start counters p h w lines op.Yield f s = absurd (false≢true s.at.fits.moving)
+detach_serial plan start counters p h w lines (op.Renice task nice) f s = absurd (false≢true s.at.fits.moving)
 detach_serial plan start counters p h w lines (op.Post t) f s = absurd (false≢true s.at.fits.moving)
 detach_serial plan start counters p h w lines op.Drain f s = absurd (false≢true s.at.fits.moving)
 
@@ -163,6 +168,7 @@ attach_serial plan start counters p w lines (op.Pull q) f s =
 attach_serial plan start counters p w lines (op.Tick ns) f s = absurd (false≢true s.at.fits.moving)
 attach_serial plan start counters p w lines op.Pick f s = absurd (false≢true s.at.fits.moving)
 attach_serial plan start counters p w lines op.Yield f s = absurd (false≢true s.at.fits.moving)
+attach_serial plan start counters p w lines (op.Renice task nice) f s = absurd (false≢true s.at.fits.moving)
 attach_serial plan start counters p w lines (op.Post t) f s = absurd (false≢true s.at.fits.moving)
 attach_serial plan start counters p w lines op.Drain f s = absurd (false≢true s.at.fits.moving)
 
@@ -182,6 +188,7 @@ commit_serial : (plan : Plan) (start : Machine) (counters : Counters) (p : ℕ) 
 commit_serial plan start counters p w lines (op.Tick ns) s = committed_serial plan start counters p w lines (op.Tick ns) (deed.Tick p ns) s refl
 commit_serial plan start counters p w lines op.Pick s = committed_serial plan start counters p w lines op.Pick (deed.Pick p) s refl
 commit_serial plan start counters p w lines op.Yield s = committed_serial plan start counters p w lines op.Yield (deed.Yield p) s refl
+commit_serial plan start counters p w lines (op.Renice task nice) s = committed_serial plan start counters p w lines (op.Renice task nice) (deed.Renice p task nice) s refl
 commit_serial plan start counters p w lines (op.Sleep t) s = committed_serial plan start counters p w lines (op.Sleep t) (deed.Sleep p t) s refl
 commit_serial plan start counters p w lines (op.Pull q) s = committed_serial plan start counters p w lines (op.Pull q) (deed.Pull p q) s refl
 commit_serial plan start counters p w lines (op.Post t) s = absurd (false≢true s.at.fits.acting_or_moving)
@@ -255,6 +262,7 @@ appended_commit : (plan : Plan) (start : Machine) (counters : Counters) (p : ℕ
 appended_commit plan start counters p w lines (op.Tick ns) s = appended_by plan start counters p w lines (op.Tick ns) (deed.Tick p ns) s refl
 appended_commit plan start counters p w lines op.Pick s = appended_by plan start counters p w lines op.Pick (deed.Pick p) s refl
 appended_commit plan start counters p w lines op.Yield s = appended_by plan start counters p w lines op.Yield (deed.Yield p) s refl
+appended_commit plan start counters p w lines (op.Renice task nice) s = appended_by plan start counters p w lines (op.Renice task nice) (deed.Renice p task nice) s refl
 appended_commit plan start counters p w lines (op.Sleep t) s = appended_by plan start counters p w lines (op.Sleep t) (deed.Sleep p t) s refl
 appended_commit plan start counters p w lines (op.Pull q) s = appended_by plan start counters p w lines (op.Pull q) (deed.Pull p q) s refl
 appended_commit plan start counters p w lines (op.Post t) s = absurd (false≢true s.at.fits.acting_or_moving)
@@ -284,6 +292,7 @@ room_in_hand plan start counters p w lines (op.Sleep t) s = tt
 room_in_hand plan start counters p w lines (op.Tick ns) s = tt
 room_in_hand plan start counters p w lines op.Pick s = tt
 room_in_hand plan start counters p w lines op.Yield s = tt
+room_in_hand plan start counters p w lines (op.Renice task nice) s = tt
 room_in_hand plan start counters p w lines (op.Post t) s = tt
 room_in_hand plan start counters p w lines op.Drain s = tt
 

@@ -38,6 +38,7 @@ at_cpus cpus place (t ∷ ts) h =
 op_is_sound : (plan : Plan) (cpu place : ℕ) (o : Op) → operation_fault (length plan.homes) (callers plan) cpu place o ≡ None → is_sound_op plan o ≡ true
 op_is_sound plan cpu place (op.Sleep task) h = passes _ _ h
 op_is_sound plan cpu place (op.Post task) h = passes _ _ h
+op_is_sound plan cpu place (op.Renice task nice) h = passes _ _ h
 op_is_sound plan cpu place (op.Pull source) h = (both (nat_lt source (callers plan)) (not (source == cpu)) (passes (is_source (callers plan) cpu source) _ h)).0
 op_is_sound plan cpu place (op.Tick ns) h = refl
 op_is_sound plan cpu place op.Pick h = refl
@@ -71,6 +72,7 @@ op_pulls_elsewhere tasks cpus cpu place (op.Post task) h = refl
 op_pulls_elsewhere tasks cpus cpu place (op.Tick ns) h = refl
 op_pulls_elsewhere tasks cpus cpu place op.Pick h = refl
 op_pulls_elsewhere tasks cpus cpu place op.Yield h = refl
+op_pulls_elsewhere tasks cpus cpu place (op.Renice task nice) h = refl
 op_pulls_elsewhere tasks cpus cpu place op.Drain h = refl
 
 ops_pull_elsewhere : (tasks cpus cpu place : ℕ) (os : List Op) → operations_fault tasks cpus cpu place os ≡ None → list_all (pulls_elsewhere cpu) os ≡ true

@@ -57,6 +57,9 @@ allowed_op plan p op.Pick d h s k e =
     let is : deed.Pick p ≡ d = cc in ap (λ (x : Deed). is_allowed (callers plan) plan.homes x) (sym is) ∙ lt_true p (callers plan) h
 allowed_op plan p op.Yield d h s k e =
     let is : deed.Yield p ≡ d = cc in ap (λ (x : Deed). is_allowed (callers plan) plan.homes x) (sym is) ∙ lt_true p (callers plan) h
+allowed_op plan p (op.Renice t nice) d h s k e =
+    let is : deed.Renice p t nice ≡ d = cc in
+    ap (λ (x : Deed). is_allowed (callers plan) plan.homes x) (sym is) ∙ and_true (nat_lt p (callers plan)) (nat_lt t (length plan.homes)) (lt_true p (callers plan) h) s
 allowed_op plan p (op.Sleep t) d h s k e =
     let is : deed.Sleep p t ≡ d = cc in
     ap (λ (x : Deed). is_allowed (callers plan) plan.homes x) (sym is) ∙ and_true (nat_lt p (callers plan)) (nat_lt t (length plan.homes)) (lt_true p (callers plan) h) s

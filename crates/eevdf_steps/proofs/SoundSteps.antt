@@ -56,6 +56,7 @@ micros_sound : (plan : Plan) (p : ℕ) (o : Op) → IsSound plan → p < callers
 micros_sound plan p (op.Tick ns) s h k = locked plan p (Act ∷ Commit ∷ []) h refl
 micros_sound plan p op.Pick s h k = locked plan p (Act ∷ Commit ∷ []) h refl
 micros_sound plan p op.Yield s h k = locked plan p (Act ∷ Commit ∷ []) h refl
+micros_sound plan p (op.Renice task nice) s h k = locked plan p (Act ∷ Commit ∷ []) h refl
 micros_sound plan p (op.Sleep task) s h k =
     sleeps plan p (home plan task) (p == home plan task) h (home_below plan task s (true_lt task (length plan.homes) k))
 micros_sound plan p (op.Pull source) s h k = both_locked plan p source h (true_lt source (callers plan) k)

@@ -179,6 +179,7 @@ op_walks : (plan : Plan) (p : ℕ) (o : Op) (rest : List Step) → IsSound plan 
 op_walks plan p (op.Tick ns) rest s h k e r = act_walks plan p (op.Tick ns) rest h refl refl (one_lock p) r
 op_walks plan p op.Pick rest s h k e r = act_walks plan p op.Pick rest h refl refl (one_lock p) r
 op_walks plan p op.Yield rest s h k e r = act_walks plan p op.Yield rest h refl refl (one_lock p) r
+op_walks plan p (op.Renice task nice) rest s h k e r = act_walks plan p (op.Renice task nice) rest h refl refl (one_lock p) r
 op_walks plan p (op.Sleep t) rest s h k e r = sleep_walks plan p t rest (p == home plan t) h (home_below plan t s (true_lt t (length plan.homes) k)) refl r
 op_walks plan p (op.Pull q) rest s h k e r = both_walk plan p q (op.Pull q) rest h (true_lt q (callers plan) k) (other_source q p e) refl refl (λ c. refl) r
 op_walks plan p op.Drain rest s h k e r = (
@@ -196,6 +197,7 @@ op_fresh : (plan : Plan) (p : ℕ) (o : Op) (rest : List Step) → is_fresh (sli
 op_fresh plan p (op.Tick ns) rest = refl
 op_fresh plan p op.Pick rest = refl
 op_fresh plan p op.Yield rest = refl
+op_fresh plan p (op.Renice task nice) rest = refl
 op_fresh plan p (op.Sleep t) rest = sleep_fresh plan p (home plan t) (op.Sleep t) rest (p == home plan t)
 op_fresh plan p (op.Pull q) rest = refl
 op_fresh plan p op.Drain rest = refl

@@ -41,6 +41,7 @@ abbrev pub is_acting : Op → Bool
 is_acting (op.Tick ns) = true
 is_acting op.Pick = true
 is_acting op.Yield = true
+is_acting (op.Renice task nice) = true
 is_acting (op.Sleep t) = false
 is_acting (op.Pull s) = false
 is_acting (op.Post t) = false
@@ -53,6 +54,7 @@ is_moving (op.Pull s) = true
 is_moving (op.Tick ns) = false
 is_moving op.Pick = false
 is_moving op.Yield = false
+is_moving (op.Renice task nice) = false
 is_moving (op.Post t) = false
 is_moving op.Drain = false
 
@@ -64,6 +66,7 @@ is_locking (op.Pull s) = true
 is_locking (op.Tick ns) = true
 is_locking op.Pick = true
 is_locking op.Yield = true
+is_locking (op.Renice task nice) = true
 is_locking op.Drain = true
 
 -- the CPUs whose queues an operation reads or writes
@@ -74,6 +77,7 @@ touched plan cpu (op.Post t) c = false
 touched plan cpu (op.Tick ns) c = c == cpu
 touched plan cpu op.Pick c = c == cpu
 touched plan cpu op.Yield c = c == cpu
+touched plan cpu (op.Renice task nice) c = c == cpu
 touched plan cpu op.Drain c = c == cpu
 
 -- a step before which nothing is under way on the queues

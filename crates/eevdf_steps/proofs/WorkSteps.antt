@@ -12,12 +12,12 @@ use Rattle.eevdf_ops.specs.declared.deeds.Answer.{Answer}
 use Rattle.eevdf_ops.specs.declared.deeds.Answer.TheVariants.{NotRunning, Pulled}
 use Rattle.eevdf_ops.specs.Machine.{queue_at}
 use Rattle.eevdf_ops.specs.Places.{count, places, places_in}
-use Rattle.eevdf_ops.specs.OneQueue.{one_tick, one_pick, one_yield, one_wake}
+use Rattle.eevdf_ops.specs.OneQueue.{one_tick, one_pick, one_yield, one_wake, one_renice}
 use Rattle.eevdf_ops.specs.Setup.{is_task}
 use Rattle.eevdf_ops.specs.WholePull.{load_of, offer, with_task}
 use Rattle.eevdf_ops.specs.WholeSleep.{slept}
 use Rattle.eevdf_ops.proofs.MachinePlaces.{places-set, places-at}
-use Rattle.eevdf_ops.proofs.QueuePlaces.{IsSame, IsWith, IsWithout, tick-same, pick-same, yield-same, wake-same, asleep-with, runnable-with}
+use Rattle.eevdf_ops.proofs.QueuePlaces.{IsSame, IsWith, IsWithout, tick-same, pick-same, yield-same, wake-same, renice-same, asleep-with, runnable-with}
 use Rattle.eevdf_ops.proofs.Carried.{running-carries, offer-carries, leaves-without}
 use Rattle.eevdf_ops.proofs.Pulling.{IsTaken, decision-taken, with_task-put}
 use Rattle.eevdf_steps.specs.declared.micro_steps.Micro.{Micro}
@@ -92,6 +92,9 @@ act_kept plan w p op.Pick works below =
 act_kept plan w p op.Yield works below =
     same_queue plan w p (one_yield (queue_at w.machine p)).1 (set w.answers p (Some (one_yield (queue_at w.machine p)).0)) works below (yield-same (queue_at w.machine p))
     (length-set w.answers p (Some (one_yield (queue_at w.machine p)).0))
+act_kept plan w p (op.Renice task nice) works below =
+    same_queue plan w p (one_renice (queue_at w.machine p) task nice).1 (set w.answers p (Some (one_renice (queue_at w.machine p) task nice).0)) works below
+    (renice-same (queue_at w.machine p) task nice) (length-set w.answers p (Some (one_renice (queue_at w.machine p) task nice).0))
 act_kept plan w p (op.Sleep task) works below = works
 act_kept plan w p (op.Pull source) works below = works
 act_kept plan w p (op.Post task) works below = works
@@ -121,6 +124,7 @@ detach_kept plan w p (op.Pull source) works below from empty =
 detach_kept plan w p (op.Tick ns) works below from empty = works
 detach_kept plan w p op.Pick works below from empty = works
 detach_kept plan w p op.Yield works below from empty = works
+detach_kept plan w p (op.Renice task nice) works below from empty = works
 detach_kept plan w p (op.Post task) works below from empty = works
 detach_kept plan w p op.Drain works below from empty = works
 
@@ -144,6 +148,7 @@ attach_kept plan w p c (op.Pull source) works below home room = joins_kept plan 
 attach_kept plan w p c (op.Tick ns) works below home room = works
 attach_kept plan w p c op.Pick works below home room = works
 attach_kept plan w p c op.Yield works below home room = works
+attach_kept plan w p c (op.Renice task nice) works below home room = works
 attach_kept plan w p c (op.Post task) works below home room = works
 attach_kept plan w p c op.Drain works below home room = works
 

@@ -49,6 +49,7 @@ settled_answer w caller (Some task) = Some (wake_answer w caller task)
 abbrev pub home_for : Plan → ℕ → Op → ℕ
 home_for plan caller (op.Sleep task) = home plan task
 home_for plan caller (op.Post task) = home plan task
+home_for plan caller (op.Renice task nice) = home plan task
 home_for plan caller (op.Tick ns) = caller
 home_for plan caller op.Pick = caller
 home_for plan caller op.Yield = caller

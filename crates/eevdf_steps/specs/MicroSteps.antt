@@ -36,6 +36,7 @@ abbrev pub micros_of : Plan → ℕ → Op → List Micro
 micros_of plan cpu (op.Tick ns) = under_lock cpu acting
 micros_of plan cpu op.Pick = under_lock cpu acting
 micros_of plan cpu op.Yield = under_lock cpu acting
+micros_of plan cpu (op.Renice task nice) = under_lock cpu acting
 micros_of plan cpu (op.Sleep task) = sleeping cpu (home plan task)
 micros_of plan cpu (op.Pull source) = under_locks cpu source moving
 micros_of plan cpu op.Drain = under_lock cpu (draining (callers plan) 0)

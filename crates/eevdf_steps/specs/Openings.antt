@@ -30,6 +30,7 @@ post_counted plan (op.Post task) counts = slice_set counts (home plan task) (sli
 post_counted plan (op.Tick ns) counts = counts
 post_counted plan op.Pick counts = counts
 post_counted plan op.Yield counts = counts
+post_counted plan (op.Renice task nice) counts = counts
 post_counted plan (op.Sleep task) counts = counts
 post_counted plan (op.Pull source) counts = counts
 post_counted plan op.Drain counts = counts

@@ -35,6 +35,7 @@ pair plan sender home = sender * callers plan + home
 abbrev pub is_sound_op : Plan → Op → Bool
 is_sound_op plan (op.Sleep task) = nat_lt task (length plan.homes)
 is_sound_op plan (op.Post task) = nat_lt task (length plan.homes)
+is_sound_op plan (op.Renice task nice) = nat_lt task (length plan.homes)
 is_sound_op plan (op.Pull source) = nat_lt source (callers plan)
 is_sound_op plan (op.Tick ns) = true
 is_sound_op plan op.Pick = true
@@ -52,6 +53,7 @@ pulls_elsewhere cpu (op.Post task) = true
 pulls_elsewhere cpu (op.Tick ns) = true
 pulls_elsewhere cpu op.Pick = true
 pulls_elsewhere cpu op.Yield = true
+pulls_elsewhere cpu (op.Renice task nice) = true
 pulls_elsewhere cpu op.Drain = true
 
 -- the same of the programs of the CPUs from one on

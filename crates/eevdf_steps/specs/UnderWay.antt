@@ -47,6 +47,7 @@ leaving (deed.Pull cpu source) answer moved = taken answer moved.contents
 leaving (deed.Tick cpu ns) answer moved = None
 leaving (deed.Pick cpu) answer moved = None
 leaving (deed.Yield cpu) answer moved = None
+leaving (deed.Renice cpu task nice) answer moved = None
 leaving (deed.Wake cpu task sender) answer moved = None
 
 -- the same on a machine

@@ -7,7 +7,7 @@ use Rattle.eevdf_ops.specs.declared.deeds.Op.TheVariants as op
 use Rattle.eevdf_ops.specs.declared.deeds.Answer.{Answer}
 use Rattle.eevdf_ops.specs.declared.deeds.Answer.TheVariants.{NotRunning, Pulled}
 use Rattle.eevdf_ops.specs.Machine.{Machine, queue_at}
-use Rattle.eevdf_ops.specs.OneQueue.{one_tick, one_pick, one_yield, one_wake}
+use Rattle.eevdf_ops.specs.OneQueue.{one_tick, one_pick, one_yield, one_wake, one_renice}
 use Rattle.eevdf_ops.specs.WholeSleep.{falls_asleep, slept, task_leaves}
 use Rattle.eevdf_ops.specs.WholePull.{decision, load_of, offer, task_joins}
 
@@ -38,6 +38,7 @@ abbrev pub act : Work → ℕ → Op → Work
 act w caller (op.Tick ns) = acted w caller (one_tick (queue_at w.machine caller) ns)
 act w caller op.Pick = acted w caller (one_pick (queue_at w.machine caller))
 act w caller op.Yield = acted w caller (one_yield (queue_at w.machine caller))
+act w caller (op.Renice task nice) = acted w caller (one_renice (queue_at w.machine caller) task nice)
 act w caller (op.Sleep task) = w
 act w caller (op.Pull source) = w
 act w caller (op.Post task) = w
@@ -76,6 +77,7 @@ detach w caller (op.Pull source) = detach_pulled w caller source (pull_decision 
 detach w caller (op.Tick ns) = w
 detach w caller op.Pick = w
 detach w caller op.Yield = w
+detach w caller (op.Renice task nice) = w
 detach w caller (op.Post task) = w
 detach w caller op.Drain = w
 
@@ -86,6 +88,7 @@ pulls_from queues (op.Sleep task) = true
 pulls_from queues (op.Tick ns) = true
 pulls_from queues op.Pick = true
 pulls_from queues op.Yield = true
+pulls_from queues (op.Renice task nice) = true
 pulls_from queues (op.Post task) = true
 pulls_from queues op.Drain = true
 
@@ -112,6 +115,7 @@ attach home w caller (op.Pull source) = attach_pulled w caller (hand w caller)
 attach home w caller (op.Tick ns) = w
 attach home w caller op.Pick = w
 attach home w caller op.Yield = w
+attach home w caller (op.Renice task nice) = w
 attach home w caller (op.Post task) = w
 attach home w caller op.Drain = w
 

@@ -27,6 +27,7 @@ HasRoom w caller (op.Sleep task) = Unit {0}
 HasRoom w caller (op.Tick ns) = Unit {0}
 HasRoom w caller op.Pick = Unit {0}
 HasRoom w caller op.Yield = Unit {0}
+HasRoom w caller (op.Renice task nice) = Unit {0}
 HasRoom w caller (op.Post task) = Unit {0}
 HasRoom w caller op.Drain = Unit {0}
 

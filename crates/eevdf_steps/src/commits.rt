@@ -1,7 +1,6 @@
 //! What the steps of the callers add to the history.
 
 ghost use Rattle.std.specs.Prelude.{◌≡◌, ◌+◌, ◌≤◌, length};
-ghost use Rattle.eevdf_ops.specs.Programs.{deed_of};
 ghost use Rattle.eevdf_steps.specs.Commits as commits;
 ghost use Rattle.eevdf_steps.specs.Journals as journals;
 ghost use Rattle.eevdf_steps.specs.MicroState.{line_of};
@@ -9,7 +8,7 @@ ghost use Rattle.eevdf_steps.specs.MicroState.{line_of};
 use crate::journal::Journal;
 use crate::micro_steps::Micro;
 use crate::program_plan::Turn;
-use eevdf_ops::{Answer, CpuId, Deed, Op};
+use eevdf_ops::{Answer, CpuId, Deed};
 use eevdf_queue::TaskId;
 
 /// Adds the deed that a step commits to the history with its answer, where there are both.
@@ -26,7 +25,7 @@ fn committed(turn: &Turn) -> Option<Deed>
     ensures { result ≡ commits.committed turn.now.found turn.now.cpu turn.now.op turn.now.micro }
 {
     match turn.micro {
-        Micro::Commit => deed_of(turn.cpu, turn.op),
+        Micro::Commit => turn.op.on(turn.cpu),
         Micro::Settle(sender) => wake_of(turn.cpu, sender, turn.found),
         Micro::Acquire(_)
         | Micro::Release(_)
@@ -35,19 +34,6 @@ fn committed(turn: &Turn) -> Option<Deed>
         | Micro::Attach
         | Micro::Take(_)
         | Micro::Post(_) => None,
-    }
-}
-
-fn deed_of(cpu: CpuId, op: Op) -> Option<Deed>
-    ensures { result ≡ deed_of cpu op }
-{
-    match op {
-        Op::Tick(ns) => Some(Deed::Tick { cpu, ns }),
-        Op::Pick => Some(Deed::Pick { cpu }),
-        Op::Yield => Some(Deed::Yield { cpu }),
-        Op::Sleep(task) => Some(Deed::Sleep { cpu, task }),
-        Op::Pull(source) => Some(Deed::Pull { cpu, source }),
-        Op::Post(_) | Op::Drain => None,
     }
 }
 

@@ -103,7 +103,7 @@ impl LockedCallers {
         ensures below { result < callers self.now.plan }
     {
         match op {
-            Op::Sleep(task) | Op::Post(task) => self.home(task),
+            Op::Sleep(task) | Op::Post(task) | Op::Renice(task, _) => self.home(task),
             Op::Tick(_) | Op::Pick | Op::Yield | Op::Pull(_) | Op::Drain => cpu,
         }
     }

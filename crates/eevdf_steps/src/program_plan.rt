@@ -161,7 +161,7 @@ impl Plan {
         ensures { result ≡ slice_get (micros_of self.now cpu op) at }
     {
         match op {
-            Op::Tick(_) | Op::Pick | Op::Yield => act_step(cpu, at),
+            Op::Tick(_) | Op::Pick | Op::Yield | Op::Renice(_, _) => act_step(cpu, at),
             Op::Sleep(task) => sleep_step(cpu, self.home(task), at),
             Op::Pull(source) => move_between_step(cpu, source, at),
             Op::Drain => drain_step(self.callers(), cpu, at),

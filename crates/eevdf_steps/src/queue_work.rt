@@ -14,7 +14,7 @@ ghost use Rattle.eevdf_steps.specs.Work as work;
 
 use crate::lists_of_steps::cpu_number;
 use crate::task_place::Place;
-use eevdf_ops::one_queue::{pick, tick, wake, yield_now};
+use eevdf_ops::one_queue::{pick, renice, tick, wake, yield_now};
 use eevdf_ops::whole_pull::{decide, join, take};
 use eevdf_ops::whole_sleep::{fall_asleep, slept, take_running};
 use eevdf_ops::{Answer, CpuId, Op};
@@ -147,6 +147,10 @@ impl Work {
                 let answer = yield_now(&mut self.queues, cpu);
                 self.keep(cpu, answer);
             }
+            Op::Renice(task, nice) => {
+                let answer = renice(&mut self.queues, cpu, task, nice);
+                self.keep(cpu, answer);
+            }
             Op::Sleep(_) | Op::Post(_) | Op::Drain | Op::Pull(_) => {}
         }
     }
@@ -172,7 +176,7 @@ impl Work {
         match op {
             Op::Sleep(task) => self.detach_running(cpu, task),
             Op::Pull(source) => self.detach_pulled(cpu, source),
-            Op::Tick(_) | Op::Pick | Op::Yield | Op::Post(_) | Op::Drain => {}
+            Op::Tick(_) | Op::Pick | Op::Yield | Op::Renice(_, _) | Op::Post(_) | Op::Drain => {}
         }
     }
 

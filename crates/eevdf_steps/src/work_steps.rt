@@ -47,7 +47,7 @@ fn attach(work: &mut Work, cpu: CpuId, op: Op, home: CpuId)
     match op {
         Op::Sleep(_) => work.attach_asleep(cpu, home),
         Op::Pull(_) => work.attach_pulled(cpu),
-        Op::Tick(_) | Op::Pick | Op::Yield | Op::Post(_) | Op::Drain => {}
+        Op::Tick(_) | Op::Pick | Op::Yield | Op::Renice(_, _) | Op::Post(_) | Op::Drain => {}
     }
 }
 
