@@ -1,16 +1,17 @@
 -- Printed deeds are read back, and nothing else is read as them.
 use Rattle.std.proofs.Common.{◌≡◌, ◌↔◌, ℕ, codes, ◌<◌, true, ltb, List, [], ◌∷◌, ◌++◌, Some, option_map, option_and_then, refl, ap, sym, subst, append_assoc, ◌∙◌, arith}
+use Rattle.std.specs.Prelude.{ℤ}
 use Rattle.std.specs.Fmt.{decimal}
 use Rattle.std.proofs.lemmas.Bool.{and_parts}
 use Rattle.std.proofs.lemmas.Option.{same_Some, none-some, option_and_then_some}
 use Rattle.std.specs.List.{join_with_byte}
-use Rattle.eevdf_weight.specs.Limits.{is_tick}
+use Rattle.eevdf_weight.specs.Limits.{is_nice_level, is_tick}
 use Rattle.eevdf_queue.specs.Numbers.{checked_number}
 use Rattle.eevdf_ops.specs.Numbers.{cpu_limit}
 use Rattle.eevdf_ops.specs.declared.deeds.Op.{Op}
 use Rattle.eevdf_ops.specs.declared.deeds.Op.TheVariants as op
 use Rattle.eevdf_ops.specs.declared.deeds.Deed.{Deed}
-use Rattle.eevdf_ops.specs.declared.deeds.Deed.TheVariants.{Tick, Pick, Yield, Sleep, Wake, Pull}
+use Rattle.eevdf_ops.specs.declared.deeds.Deed.TheVariants.{Tick, Pick, Yield, Sleep, Wake, Pull, Renice}
 use Rattle.eevdf_bench.specs.declared.workload_version.Limits.{Limits}
 use Rattle.eevdf_bench.specs.TextDeed.{cpu_of, deed_text}
 use Rattle.eevdf_bench.specs.Versions.{cpu_within}
@@ -18,7 +19,7 @@ use Rattle.eevdf_ops.specs.Programs.{deed_of}
 use Rattle.eevdf_bench.specs.Words.{words, operation_of, sender_of, wake_of, task_in, cpu_in, deed_on, deed_in}
 use Rattle.eevdf_bench.specs.WordsPrinted.{knows_act, knows_deed, knows_operation, numbered_deed_text, operation_text}
 use Rattle.eevdf_bench.proofs.ReadingPrinted.{number-decimal, words-decimal, words-after_decimal, joined_words}
-use Rattle.eevdf_bench.proofs.OperationsPrinted.{cpu_check, cpu_known, cpu_passes, small_tick, task_check, task_passes, checked_word, only_word, mapped_parts, named, text-operation_of}
+use Rattle.eevdf_bench.proofs.OperationsPrinted.{cpu_check, cpu_known, cpu_passes, small_tick, task_check, task_passes, checked_word, only_word, mapped_parts, named, renice_text, renice-read, text-operation_of}
 
 -- a printed wake, as its words follow each other
 wake_text : (cpu task sender : ℕ) → deed_text (Wake cpu task sender) ≡ codes "wake " ++ (decimal task ++ (32 ∷ (codes "from " ++ decimal sender)))
@@ -47,6 +48,7 @@ made_parts limits cpu (op.Sleep task) d h = made limits cpu (op.Sleep task) d (S
 made_parts limits cpu (op.Post task) d h = absurd (none-some d h)
 made_parts limits cpu op.Drain d h = absurd (none-some d h)
 made_parts limits cpu (op.Pull source) d h = made limits cpu (op.Pull source) d (Pull cpu source) h (record { on = refl; text = refl; known = refl })
+made_parts limits cpu (op.Renice task nice) d h = made limits cpu (op.Renice task nice) d (Renice cpu task nice) h (record { on = refl; text = refl; known = refl })
 
 -- the words of the sender of a wake
 abbrev IsSender : Limits → ℕ → List (List ℕ) → Type 0
@@ -132,6 +134,10 @@ deed-sleep limits cpu n h known = rw (words-decimal n (omega arith), number-deci
 
 pub deed-pull : (limits : Limits) (cpu n : ℕ) → n < cpu_limit → IsReadBackOn limits (Pull cpu n)
 deed-pull limits cpu n h known = rw (words-decimal n (omega arith), number-decimal n (omega arith), cpu_passes limits n h known)
+
+pub deed-renice : (limits : Limits) (cpu task : ℕ) (nice : ℤ) → task < 1024 → is_nice_level nice ≡ true → IsReadBackOn limits (Renice cpu task nice)
+deed-renice limits cpu task nice h level known =
+    ap (λ t. deed_on limits cpu (words t)) (renice_text task nice) ∙ ap (option_and_then (deed_of cpu)) (renice-read limits task nice h level known)
 
 sender-read : (limits : Limits) (n : ℕ) → n < cpu_limit → ltb n limits.cpus ≡ true → sender_of limits (words (codes "from " ++ decimal n)) ≡ Some n
 sender-read limits n h known = rw (words-decimal n (omega arith), number-decimal n (omega arith), cpu_passes limits n h known)

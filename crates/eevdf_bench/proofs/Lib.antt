@@ -4,6 +4,8 @@ pub mod KnownBytes
 pub mod ReadingDocuments
 pub mod ByNumber
 pub mod ReadingPrinted
+pub mod ReadingLevels
+pub mod LevelsPrinted
 pub mod OperationsPrinted
 pub mod DeedsPrinted
 pub mod InputLimit

@@ -1,22 +1,24 @@
 -- Printed operations are read back, and nothing else is read as them.
-use Rattle.std.proofs.Common.{◌≡◌, ◌↔◌, ℕ, codes, ◌<◌, ◌^◌, true, ltb, List, [], ◌∷◌, Option, Some, None, option_map, option_and_then, if◌then◌else◌, refl, ap, sym, subst, ◌∙◌, inl, inr, arith}
-use Rattle.std.specs.Fmt.{decimal}
+use Rattle.std.proofs.Common.{◌≡◌, ◌↔◌, ℕ, codes, ◌<◌, ◌^◌, true, ltb, List, [], ◌∷◌, ◌++◌, append_assoc, Option, Some, None, option_map, option_and_then, if◌then◌else◌, refl, ap, sym, subst, ◌∙◌, inl, inr, arith}
+use Rattle.std.specs.Prelude.{ℤ}
+use Rattle.std.specs.Fmt.{decimal, signed_decimal}
 use Rattle.std.proofs.lemmas.Bool.{cases_Bool}
 use Rattle.std.proofs.lemmas.Bool.Decides.{nat_tests}
 use Rattle.std.proofs.lemmas.Option.{same_Some, none-some, cond_some, option_and_then_some}
 use Rattle.std.specs.List.{join_with_byte}
 use Rattle.std.specs.Str.{bytes_eq}
 use Rattle.std.proofs.lemmas.Slice.Eq.{bytes_eq-Decides}
-use Rattle.eevdf_weight.specs.Limits.{checked_tick, is_tick}
+use Rattle.eevdf_weight.specs.Limits.{checked_tick, is_nice_level, is_tick}
 use Rattle.eevdf_queue.specs.Numbers.{checked_number}
 use Rattle.eevdf_ops.specs.Numbers.{cpu_limit}
 use Rattle.eevdf_ops.specs.declared.deeds.Op.{Op}
-use Rattle.eevdf_ops.specs.declared.deeds.Op.TheVariants.{Tick, Pick, Yield, Sleep, Post, Drain, Pull}
+use Rattle.eevdf_ops.specs.declared.deeds.Op.TheVariants.{Tick, Pick, Yield, Sleep, Post, Drain, Pull, Renice}
 use Rattle.eevdf_bench.specs.declared.workload_version.Limits.{Limits}
 use Rattle.eevdf_bench.specs.Versions.{cpu_within}
-use Rattle.eevdf_bench.specs.Words.{words, number, only_number, alone, operation, operation_of}
+use Rattle.eevdf_bench.specs.Words.{words, number, only_number, only_level, task_in, alone, renice_of, operation, operation_of}
 use Rattle.eevdf_bench.specs.WordsPrinted.{knows_operation, operation_text}
-use Rattle.eevdf_bench.proofs.ReadingPrinted.{number-decimal, decimal-number, words-decimal, joined_words}
+use Rattle.eevdf_bench.proofs.ReadingPrinted.{number-decimal, decimal-number, words-decimal, words-after_decimal, joined_words}
+use Rattle.eevdf_bench.proofs.LevelsPrinted.{level-printed, printed-level, words-printed}
 
 -- ---- the limits of numbers
 
@@ -94,6 +96,26 @@ text-alone limits verb o [] op printed known h =
     (sym printed ∙ ap operation_text same, ap (knows_operation limits) (sym same) ∙ known)
 text-alone limits verb o (w ∷ ws) op printed known h = absurd (none-some op h)
 
+-- a printed change of a level, as its words follow each other
+pub renice_text : (task : ℕ) (nice : ℤ) → operation_text (Renice task nice) ≡ codes "renice " ++ (decimal task ++ (32 ∷ signed_decimal nice))
+renice_text task nice = ap (λ (t : List ℕ). codes "renice " ++ t) (append_assoc (decimal task) (codes " ") (signed_decimal nice))
+
+text-renice : (limits : Limits) (ws : List (List ℕ)) (op : Op) → limits.renice ≡ true → renice_of ws ≡ Some op → IsPrinted limits op (codes "renice" ∷ ws)
+text-renice limits [] op known h = absurd (none-some op h)
+text-renice limits (word ∷ []) op known h = option_and_then_some (λ task. option_map (Renice task) (only_level [])) (task_in word) op h (λ task read made. absurd (none-some op made))
+text-renice limits (word ∷ last ∷ next ∷ ws) op known h =
+    option_and_then_some (λ task. option_map (Renice task) (only_level (last ∷ next ∷ ws))) (task_in word) op h (λ task read made. absurd (none-some op made))
+text-renice limits (word ∷ last ∷ []) op known h =
+    option_and_then_some (λ task. option_map (Renice task) (only_level (last ∷ []))) (task_in word) op h
+    (λ task read made.
+    let (nice, level, same) = mapped_parts (Renice task) (only_level (last ∷ [])) op made in
+    let printed : word ≡ decimal task = (checked_word checked_number word task task_check read).0 in
+    let behind : last ≡ signed_decimal nice = printed-level last nice level in (
+      ap (λ (w : List ℕ). codes "renice " ++ (w ++ (32 ∷ last))) printed ∙ ap (λ (w : List ℕ). codes "renice " ++ (decimal task ++ (32 ∷ w))) behind
+          ∙ sym (renice_text task nice) ∙ ap operation_text same,
+      ap (knows_operation limits) (sym same) ∙ known,
+    ))
+
 -- ---- operations that are read
 
 -- what is read after a word, which is that of the first case or of the others
@@ -114,7 +136,13 @@ text-operation_of limits verb ws op h =
     named (codes "post") verb ws _ _ op (IsPrinted limits op) h (text-numbered limits (codes "post") Post checked_number ws op task_check (λ n. refl) (λ n passes. refl)) (λ h.
     named (codes "drain") verb ws _ _ op (IsPrinted limits op) h (text-alone limits (codes "drain") Drain ws op refl refl) (λ h.
     named (codes "pull") verb ws _ _ op (IsPrinted limits op) h (text-numbered limits (codes "pull") Pull (cpu_within limits) ws op (cpu_check limits) (λ n. refl) (cpu_known limits)) (λ h.
-    absurd (none-some op h))))))))
+    named (codes "renice") verb ws _ _ op (IsPrinted limits op) h
+    (λ h.
+    elim (cases_Bool limits.renice) [
+      | inl known ↦ text-renice limits ws op known (rw known at h)
+      | inr unknown ↦ absurd (none-some op (rw unknown at h))
+    ]) (λ h.
+    absurd (none-some op h)))))))))
 
 text-words : (limits : Limits) (ws : List (List ℕ)) (op : Op) → operation limits ws ≡ Some op → IsPrinted limits op ws
 unfolding operation
@@ -159,6 +187,16 @@ operation-drain limits known = refl
 pub operation-pull : (limits : Limits) (n : ℕ) → n < cpu_limit → IsReadBack limits (Pull n)
 unfolding operation
 operation-pull limits n h known = rw (words-decimal n (omega arith), number-decimal n (omega arith), cpu_passes limits n h known)
+
+pub renice-read : (limits : Limits) (task : ℕ) (nice : ℤ) → task < 1024 → is_nice_level nice ≡ true → limits.renice ≡ true
+    → operation_of limits (codes "renice") (words (decimal task ++ (32 ∷ signed_decimal nice))) ≡ Some (Renice task nice)
+renice-read limits task nice h level known =
+    ap (operation_of limits (codes "renice")) (words-after_decimal task (signed_decimal nice) (omega arith))
+    ∙ rw (known, words-printed nice level, number-decimal task (omega arith), task_passes task h, level-printed nice level)
+
+pub operation-renice : (limits : Limits) (task : ℕ) (nice : ℤ) → task < 1024 → is_nice_level nice ≡ true → IsReadBack limits (Renice task nice)
+unfolding operation
+operation-renice limits task nice h level known = ap (λ t. operation limits (words t)) (renice_text task nice) ∙ renice-read limits task nice h level known
 
 -- a text is read as an operation that is read back where it is printed
 pub operation_is_text : (limits : Limits) (text : List ℕ) (op o : Op) → op ≡ o → IsReadBack limits o → (operation limits (words text) ≡ Some op) ↔ ((text ≡ operation_text op) × (knows_operation limits op ≡ true))

@@ -1,5 +1,5 @@
 -- A document of version 1 means the same in version 2.
-use Rattle.std.proofs.Common.{◌≡◌, Ok, sym, ◌∙◌, arith}
+use Rattle.std.proofs.Common.{◌≡◌, refl, Ok, sym, ◌∙◌, arith}
 use Rattle.toml.specs.Data.{Members}
 use Rattle.eevdf_bench.specs.declared.workload_version.Limits.{Limits}
 use Rattle.eevdf_bench.specs.declared.workload_version.Version.{Version}
@@ -10,7 +10,7 @@ use Rattle.eevdf_bench.specs.Versions.{limits_of}
 use Rattle.eevdf_bench.proofs.WiderLimits.{AreWider, workload_kept}
 
 version_two_is_wider : AreWider (limits_of One) (limits_of Two)
-version_two_is_wider = record { cpus = omega arith; deeds = omega arith }
+version_two_is_wider = record { cpus = omega arith; deeds = omega arith; renice = λ known. refl }
 
 -- within the same limits two documents that differ in the version alone describe the same
 same_within : (limits : Limits) (one two : Members) → law.DifferInVersion one two → meant.workload_in limits two ≡ meant.workload_in limits one

@@ -22,7 +22,7 @@ use Rattle.eevdf_bench.specs.declared.load_fault.Key.{Key}
 use Rattle.eevdf_bench.specs.declared.load_fault.Key.TheVariants as key
 use Rattle.eevdf_bench.specs.MeaningSteps.{array_at, at_most, count, natural, integer_or}
 use Rattle.eevdf_bench.specs.Versions.{cpu_within}
-use Rattle.eevdf_bench.specs.Words.{words, number, only_number, only_cpu, task_in, operation_of, operation, sender_of, wake_of, deed_on, deed_in}
+use Rattle.eevdf_bench.specs.Words.{words, number, only_number, only_cpu, renice_of, task_in, operation_of, operation, sender_of, wake_of, deed_on, deed_in}
 use Rattle.eevdf_bench.specs.Meaning as meant
 use Rattle.eevdf_bench.proofs.KeptResults.{KeepsSome, KeepsOk, kept_cond, kept_then, kept_after, kept_map, kept_good, kept_bind, kept_behind, kept_each, kept_required, kept_present}
 
@@ -30,6 +30,7 @@ use Rattle.eevdf_bench.proofs.KeptResults.{KeepsSome, KeepsOk, kept_cond, kept_t
 pub record AreWider (narrow wide : Limits) : Type 0 where
   pub cpus : narrow.cpus ≤ wide.cpus
   pub deeds : narrow.deeds ≤ wide.deeds
+  pub renice : narrow.renice ≡ true → wide.renice ≡ true
 
 below_too : (n a b : ℕ) → a ≤ b → ltb n a ≡ true → ltb n b ≡ true
 below_too n a b wider h = grind (arith, nat_tests)
@@ -54,6 +55,10 @@ set_up_kept false b f s too t h = cc
 later : (word verb : List ℕ) (x y z : Option Op) → KeepsSome Op y z → KeepsSome Op (cond (bytes_eq verb word) x y) (cond (bytes_eq verb word) x z)
 later word verb x y z = kept_cond Op (bytes_eq verb word) x x y z (λ o h. h)
 
+known_kept : (a b : Bool) (o : Option Op) → (a ≡ true → b ≡ true) → KeepsSome Op (cond a o None) (cond b o None)
+known_kept true b o too p h = rw (too refl) h
+known_kept false b o too p h = absurd (none-some p h)
+
 module _ (narrow wide : Limits) (wider : AreWider narrow wide) where
   -- ---- words
 
@@ -75,8 +80,10 @@ module _ (narrow wide : Limits) (wider : AreWider narrow wide) where
       (later (codes "sleep") verb _ _ _
       (later (codes "post") verb _ _ _
       (later (codes "drain") verb _ _ _
-      (kept_cond Op (bytes_eq verb (codes "pull")) (option_map op.Pull (only_cpu narrow ws)) (option_map op.Pull (only_cpu wide ws)) None None
-      (kept_map ℕ Op op.Pull _ _ (only_cpu_kept ws)) (λ o h. h)))))))
+      (kept_cond Op (bytes_eq verb (codes "pull")) (option_map op.Pull (only_cpu narrow ws)) (option_map op.Pull (only_cpu wide ws)) _ _
+      (kept_map ℕ Op op.Pull _ _ (only_cpu_kept ws))
+      (kept_cond Op (bytes_eq verb (codes "renice")) (cond narrow.renice (renice_of ws) None) (cond wide.renice (renice_of ws) None) None None
+      (known_kept narrow.renice wide.renice (renice_of ws) wider.renice) (λ o h. h))))))))
 
   operation_kept : (ws : List (List ℕ)) → KeepsSome Op (operation narrow ws) (operation wide ws)
   unfolding operation

@@ -2,9 +2,9 @@
 use Rattle.std.specs.Prelude.{ℕ, Bool, true, false, List, [], ◌++◌, codes, decimal}
 use Rattle.std.specs.Fmt.{signed_decimal}
 use Rattle.eevdf_ops.specs.declared.deeds.Deed.{Deed}
-use Rattle.eevdf_ops.specs.declared.deeds.Deed.TheVariants.{Tick, Pick, Yield, Sleep, Wake, Pull}
+use Rattle.eevdf_ops.specs.declared.deeds.Deed.TheVariants.{Tick, Pick, Yield, Sleep, Wake, Pull, Renice}
 use Rattle.eevdf_ops.specs.declared.deeds.Answer.{Answer}
-use Rattle.eevdf_ops.specs.declared.deeds.Answer.TheVariants.{Charged, Picked, Idle, Yielded, Slept, NotRunning, Woken, Awake, Pulled, Balanced, Nothing, Range}
+use Rattle.eevdf_ops.specs.declared.deeds.Answer.TheVariants.{Charged, Picked, Idle, Yielded, Slept, NotRunning, Woken, Awake, Pulled, Balanced, Nothing, Range, Reniced, NotHere}
 use Rattle.eevdf_ops.specs.declared.deeds.Line.{Line}
 use Rattle.eevdf_bench.specs.Text.{as_line}
 
@@ -15,6 +15,7 @@ cpu_of (Yield cpu) = cpu
 cpu_of (Sleep cpu task) = cpu
 cpu_of (Wake cpu task sender) = cpu
 cpu_of (Pull cpu source) = cpu
+cpu_of (Renice cpu task nice) = cpu
 
 abbrev pub deed_text : Deed → List ℕ
 deed_text (Tick cpu ns) = codes "tick " ++ decimal ns
@@ -23,6 +24,7 @@ deed_text (Yield cpu) = codes "yield"
 deed_text (Sleep cpu task) = codes "sleep " ++ decimal task
 deed_text (Wake cpu task sender) = codes "wake " ++ decimal task ++ codes " from " ++ decimal sender
 deed_text (Pull cpu source) = codes "pull " ++ decimal source
+deed_text (Renice cpu task nice) = codes "renice " ++ decimal task ++ codes " " ++ signed_decimal nice
 
 abbrev pub resched_text : Bool → List ℕ
 resched_text true = codes " resched"
@@ -41,6 +43,8 @@ answer_text (Pulled task) = codes "pulled " ++ decimal task
 answer_text Balanced = codes "balanced"
 answer_text Nothing = codes "nothing"
 answer_text Range = codes "range"
+answer_text Reniced = codes "reniced"
+answer_text NotHere = codes "not here"
 
 -- one line of a schedule
 abbrev pub schedule_line : Line → List ℕ

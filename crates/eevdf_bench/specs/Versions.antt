@@ -1,13 +1,13 @@
 -- What a workload of each version may hold.
-use Rattle.std.specs.Prelude.{ℕ, ◌==◌, nat_lt, if◌then◌else◌, Option, Some, None}
+use Rattle.std.specs.Prelude.{ℕ, ◌==◌, nat_lt, true, false, if◌then◌else◌, Option, Some, None}
 use Rattle.eevdf_ops.specs.Numbers.{checked_cpu}
 use Rattle.eevdf_bench.specs.declared.workload_version.Version.{Version}
 use Rattle.eevdf_bench.specs.declared.workload_version.Version.TheVariants.{One, Two}
 use Rattle.eevdf_bench.specs.declared.workload_version.Limits.{Limits}
 
 abbrev pub limits_of : Version → Limits
-limits_of One = record { cpus = 16; deeds = 160000 }
-limits_of Two = record { cpus = 64; deeds = 640000 }
+limits_of One = record { cpus = 16; deeds = 160000; renice = false }
+limits_of Two = record { cpus = 64; deeds = 640000; renice = true }
 
 -- the version of a number
 abbrev pub checked_version : ℕ → Option Version

@@ -1,10 +1,10 @@
 -- The words of a string, and the operation or the deed that they name.
-use Rattle.std.specs.Prelude.{codes, ℕ, ◌==◌, ◌^◌, nat_lt, Bool, false, if◌then◌else◌, List, [], ◌∷◌, length, Option, Some, None, option_map, option_and_then}
+use Rattle.std.specs.Prelude.{codes, ℕ, zero, suc, ◌==◌, ◌^◌, nat_lt, ℤ, pos, negsuc, Bool, false, if◌then◌else◌, List, [], ◌∷◌, length, Option, Some, None, option_map, option_and_then}
 use Rattle.std.specs.List.{slice_split, list_all}
 use Rattle.std.specs.Str.{bytes_eq}
 use Rattle.std.specs.Char.{is_ascii_digit}
 use Rattle.std.specs.Str.Parse.{digits_value}
-use Rattle.eevdf_weight.specs.Limits.{checked_tick}
+use Rattle.eevdf_weight.specs.Limits.{checked_level, checked_tick}
 use Rattle.eevdf_queue.specs.Numbers.{checked_number}
 use Rattle.eevdf_ops.specs.declared.deeds.Op.{Op}
 use Rattle.eevdf_ops.specs.Programs.{deed_of}
@@ -31,12 +31,30 @@ number word = if is_number word then Some (digits_value 10 word) else None
 abbrev pub fitting : ℕ → Option ℕ
 fitting n = if nat_lt n (2 ^ 64) then Some n else None
 
+-- the number so far below 0; 0 isn't below itself
+abbrev pub below_zero : ℕ → Option ℤ
+below_zero zero = None
+below_zero (suc n) = Some (negsuc n)
+
+-- the number that a word writes with its sign: none, or `-` before a number from 1 on
+abbrev pub signed_number : List ℕ → Option ℤ
+signed_number [] = None
+signed_number (c ∷ cs) = if c == 45 then option_and_then below_zero (number cs) else option_map pos (number (c ∷ cs))
+
+-- the nice level that a word writes
+abbrev pub level_in : List ℕ → Option ℤ
+level_in word = option_and_then checked_level (signed_number word)
+
+-- the only word
+abbrev pub only_word : List (List ℕ) → Option (List ℕ)
+only_word (word ∷ []) = Some word
+only_word _ = None
+
 -- the number that is the only word
 abbrev pub only_number : List (List ℕ) → Option ℕ
-only_number (word ∷ []) = number word
-only_number _ = None
+only_number ws = option_and_then number (only_word ws)
 
--- the time, the task and the CPU that the only word numbers
+-- the time, the task, the CPU and the level that the only word gives
 abbrev pub only_time : List (List ℕ) → Option ℕ
 only_time ws = option_and_then checked_tick (only_number ws)
 
@@ -46,10 +64,25 @@ only_task ws = option_and_then checked_number (only_number ws)
 abbrev pub only_cpu : Limits → List (List ℕ) → Option ℕ
 only_cpu limits ws = option_and_then (cpu_within limits) (only_number ws)
 
+abbrev pub only_level : List (List ℕ) → Option ℤ
+only_level ws = option_and_then level_in (only_word ws)
+
+-- the CPU and the task that a word numbers
+abbrev pub cpu_in : Limits → List ℕ → Option ℕ
+cpu_in limits word = option_and_then (cpu_within limits) (number word)
+
+abbrev pub task_in : List ℕ → Option ℕ
+task_in word = option_and_then checked_number (number word)
+
 -- an operation that nothing follows
 abbrev pub alone : Op → List (List ℕ) → Option Op
 alone o [] = Some o
 alone o _ = None
+
+-- the task that the first word numbers gets the level that follows it
+abbrev pub renice_of : List (List ℕ) → Option Op
+renice_of [] = None
+renice_of (word ∷ ws) = option_and_then (λ task. option_map (op.Renice task) (only_level ws)) (task_in word)
 
 -- the operation that the first word names, with the other words as its arguments
 abbrev pub operation_of : Limits → List ℕ → List (List ℕ) → Option Op
@@ -61,18 +94,12 @@ operation_of limits verb arguments =
     else if bytes_eq verb (codes "post") then option_map op.Post (only_task arguments)
     else if bytes_eq verb (codes "drain") then alone op.Drain arguments
     else if bytes_eq verb (codes "pull") then option_map op.Pull (only_cpu limits arguments)
+    else if bytes_eq verb (codes "renice") then (if limits.renice then renice_of arguments else None)
     else None
 
 unfoldable pub operation : Limits → List (List ℕ) → Option Op
 operation limits [] = None
 operation limits (verb ∷ arguments) = operation_of limits verb arguments
-
--- the CPU and the task that a word numbers
-abbrev pub cpu_in : Limits → List ℕ → Option ℕ
-cpu_in limits word = option_and_then (cpu_within limits) (number word)
-
-abbrev pub task_in : List ℕ → Option ℕ
-task_in word = option_and_then checked_number (number word)
 
 -- the CPU that stands after `from`
 abbrev pub sender_of : Limits → List (List ℕ) → Option ℕ

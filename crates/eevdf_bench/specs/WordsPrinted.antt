@@ -1,7 +1,8 @@
 -- The texts that are read as operations and deeds, and which of them a version knows.
 use Rattle.std.specs.Prelude.{codes, ℕ, nat_lt, Bool, true, ◌&&◌, List, ◌++◌, decimal}
+use Rattle.std.specs.Fmt.{signed_decimal}
 use Rattle.eevdf_ops.specs.declared.deeds.Op.{Op}
-use Rattle.eevdf_ops.specs.declared.deeds.Op.TheVariants.{Tick, Pick, Yield, Sleep, Post, Drain, Pull}
+use Rattle.eevdf_ops.specs.declared.deeds.Op.TheVariants.{Tick, Pick, Yield, Sleep, Post, Drain, Pull, Renice}
 use Rattle.eevdf_ops.specs.declared.deeds.Deed.{Deed}
 use Rattle.eevdf_ops.specs.declared.deeds.Deed.TheVariants as deed
 use Rattle.eevdf_bench.specs.declared.workload_version.Limits.{Limits}
@@ -15,6 +16,7 @@ operation_text (Sleep task) = codes "sleep " ++ decimal task
 operation_text (Post task) = codes "post " ++ decimal task
 operation_text Drain = codes "drain"
 operation_text (Pull source) = codes "pull " ++ decimal source
+operation_text (Renice task nice) = codes "renice " ++ decimal task ++ codes " " ++ signed_decimal nice
 
 -- a deed with the CPU that does it
 abbrev pub numbered_deed_text : Deed → List ℕ
@@ -29,6 +31,7 @@ knows_operation limits (Sleep task) = true
 knows_operation limits (Post task) = true
 knows_operation limits Drain = true
 knows_operation limits (Pull source) = nat_lt source limits.cpus
+knows_operation limits (Renice task nice) = limits.renice
 
 -- the same of what a deed does
 abbrev pub knows_act : Limits → Deed → Bool
@@ -38,6 +41,7 @@ knows_act limits (deed.Yield cpu) = true
 knows_act limits (deed.Sleep cpu task) = true
 knows_act limits (deed.Wake cpu task sender) = nat_lt sender limits.cpus
 knows_act limits (deed.Pull cpu source) = nat_lt source limits.cpus
+knows_act limits (deed.Renice cpu task nice) = limits.renice
 
 -- and of a deed with the CPU that does it
 abbrev pub knows_deed : Limits → Deed → Bool

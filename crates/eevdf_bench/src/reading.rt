@@ -7,6 +7,7 @@ ghost use Rattle.toml.specs.View.{table_view};
 mod argument_words;
 mod deed_text;
 mod document_keys;
+mod level_text;
 mod no_memory;
 mod number_text;
 mod operation_text;
@@ -173,6 +174,27 @@ mod tests {
         for text in others {
             assert_eq!(rt; fault_of(alloc, text.as_bytes()), Some(bad_version));
         }
+    }
+
+    #[test]
+    fn the_version_bounds_cpus(rt: HostRuntime) {
+        let alloc = rt.alloc();
+        let bad_cpus = LoadFault::Setup(SetupFault::BadCpus);
+        let bad_tasks = LoadFault::Setup(SetupFault::BadTasks);
+        let one =
+            "version = 1\nprogram = [[], [], [], [], [], [], [], [], [], [], [], [], [], [], [], [], []]\ntask = []\n";
+        assert_eq!(rt; fault_of(alloc, one.as_bytes()), Some(bad_cpus));
+        let two =
+            "version = 2\nprogram = [[], [], [], [], [], [], [], [], [], [], [], [], [], [], [], [], []]\ntask = []\n";
+        assert_eq!(rt; fault_of(alloc, two.as_bytes()), Some(bad_tasks));
+        let bad_home = LoadFault::BadValue { key: Key::Home(0) };
+        let past_one = "version = 1\nprogram = [[]]\n[[task]]\nhome = 16\n";
+        assert_eq!(rt; fault_of(alloc, past_one.as_bytes()), Some(bad_home));
+        let within_two = "version = 2\nprogram = [[]]\n[[task]]\nhome = 63\n";
+        let no_cpu = LoadFault::Setup(SetupFault::BadHome { task: 0 });
+        assert_eq!(rt; fault_of(alloc, within_two.as_bytes()), Some(no_cpu));
+        let past_two = "version = 2\nprogram = [[]]\n[[task]]\nhome = 64\n";
+        assert_eq!(rt; fault_of(alloc, past_two.as_bytes()), Some(bad_home));
     }
 
     #[test]

@@ -35,6 +35,10 @@ pub fn operation_is_its_text(version: Version, text: &str, op: Op)
         Op::Pull(source) => {
             let _below = source.get();
         }
+        Op::Renice(task, nice) => {
+            let _below = task.get();
+            let _level = nice.get();
+        }
     }
 }
 
@@ -67,6 +71,11 @@ pub fn deed_is_its_text(version: Version, text: &str, deed: Deed)
         Deed::Pull { cpu, source } => {
             let _below = cpu.get();
             let _pulled = source.get();
+        }
+        Deed::Renice { cpu, task, nice } => {
+            let _below = cpu.get();
+            let _known = task.get();
+            let _level = nice.get();
         }
     }
 }

@@ -17,6 +17,7 @@ pub(crate) fn cpu_of(deed: Deed) -> CpuId
         Deed::Sleep { cpu, .. } => cpu,
         Deed::Wake { cpu, .. } => cpu,
         Deed::Pull { cpu, .. } => cpu,
+        Deed::Renice { cpu, .. } => cpu,
     }
 }
 
@@ -33,6 +34,11 @@ pub(crate) fn push_deed(text: &mut Vec<u8>, deed: Deed) -> Result<(), AllocError
             push_with_number(text, b" from ", sender.get())
         }
         Deed::Pull { source, .. } => push_with_number(text, b"pull ", source.get()),
+        Deed::Renice { task, nice, .. } => {
+            push_with_number(text, b"renice ", task.get())?;
+            text.extend_from_slice(b" ")?;
+            push_signed(text, nice.get())
+        }
     }
 }
 
@@ -76,6 +82,8 @@ pub(crate) fn push_answer(text: &mut Vec<u8>, answer: Answer) -> Result<(), Allo
         Answer::Balanced => text.extend_from_slice(b"balanced"),
         Answer::Nothing => text.extend_from_slice(b"nothing"),
         Answer::Range => text.extend_from_slice(b"range"),
+        Answer::Reniced => text.extend_from_slice(b"reniced"),
+        Answer::NotHere => text.extend_from_slice(b"not here"),
     }
 }
 
@@ -104,7 +112,7 @@ pub(crate) fn push_script_line(text: &mut Vec<u8>, line: Line) -> Result<(), All
 mod tests {
     use super::*;
     use eevdf_queue::TaskId;
-    use eevdf_weight::Ns;
+    use eevdf_weight::{Nice, Ns};
     use std::alloc::Global;
     use std::process::Abort;
     use std::test::Fail;
@@ -144,6 +152,14 @@ mod tests {
             cpu: cpu(rt, 11),
             task: task(rt),
             sender: cpu(rt, 2),
+        }
+    }
+
+    fn renice(rt: &impl Abort) -> Deed {
+        Deed::Renice {
+            cpu: cpu(rt, 11),
+            task: task(rt),
+            nice: Nice::new(-20).expect(rt, "a level"),
         }
     }
 
@@ -239,6 +255,20 @@ mod tests {
                     answer: Answer::Nothing,
                 },
                 "pull 2: nothing\n\"11 pull 2\",\n",
+            ),
+            (
+                Line {
+                    deed: renice(&rt),
+                    answer: Answer::Reniced,
+                },
+                "renice 1023 -20: reniced\n\"11 renice 1023 -20\",\n",
+            ),
+            (
+                Line {
+                    deed: renice(&rt),
+                    answer: Answer::NotHere,
+                },
+                "renice 1023 -20: not here\n\"11 renice 1023 -20\",\n",
             ),
         ];
         for (line, want) in cases {

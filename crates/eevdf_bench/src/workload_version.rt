@@ -17,6 +17,8 @@ pub(crate) struct Limits {
     pub(crate) cpus: u64,
     /// A script has at most so many deeds.
     pub(crate) deeds: usize,
+    /// Whether the word `renice` is known.
+    pub(crate) renice: bool,
 }
 
 impl Version {
@@ -28,10 +30,12 @@ impl Version {
             Version::One => Limits {
                 cpus: 16,
                 deeds: 160_000,
+                renice: false,
             },
             Version::Two => Limits {
                 cpus: 64,
                 deeds: 640_000,
+                renice: true,
             },
         }
     }

@@ -1,12 +1,13 @@
-ghost use Rattle.std.specs.Prelude.{◌≡◌, option_and_then};
-ghost use Rattle.eevdf_bench.specs.Words.{cpu_in, fitting, only_cpu, only_number, only_task, only_time, task_in};
+ghost use Rattle.std.specs.Prelude.{◌≡◌, option_and_then, option_map};
+ghost use Rattle.eevdf_bench.specs.Words.{cpu_in, fitting, only_cpu, only_level, only_number, only_task, only_time, only_word, task_in};
 
+use crate::reading::level_text::level;
 use crate::reading::number_text::number;
 use crate::reading::word_list::Words;
 use crate::workload_version::Limits;
 use eevdf_ops::CpuId;
 use eevdf_queue::TaskId;
-use eevdf_weight::Ns;
+use eevdf_weight::{Nice, Ns};
 
 /// The CPU that a word numbers.
 pub(crate) fn cpu(limits: Limits, word: &str) -> Option<CpuId>
@@ -43,13 +44,27 @@ pub(crate) fn only_time(words: Words) -> Option<Ns>
     Ns::new(only_number(words)?)
 }
 
+/// The nice level that the only word writes.
+pub(crate) fn only_level(words: Words) -> Option<Nice>
+    ensures { result ≡ only_level words.entry }
+{
+    level(only_word(words)?)
+}
+
 // The number that is the only word.
-fn only_number(mut words: Words) -> Option<u64>
+fn only_number(words: Words) -> Option<u64>
     ensures { result ≡ option_and_then fitting (only_number words.entry) }
+{
+    number(only_word(words)?)
+}
+
+// The only word.
+fn only_word<'a>(mut words: Words<'a>) -> Option<&'a str>
+    ensures { option_map (λ word. word.now) result ≡ only_word words.entry }
 {
     let word = words.next()?;
     match words.next() {
-        None => number(word),
+        None => Some(word),
         Some(_) => None,
     }
 }

@@ -6,7 +6,7 @@ use crate::reading::argument_words::{cpu, only_cpu, task};
 use crate::reading::operation_text::operation_of;
 use crate::reading::word_list::Words;
 use crate::workload_version::Limits;
-use eevdf_ops::{CpuId, Deed, Op};
+use eevdf_ops::{CpuId, Deed};
 
 /// The deed that a text is: the number of a CPU, and what it does.
 #[tactic(auto, unfolding(crate::specs::Words::deed_in))]
@@ -31,21 +31,7 @@ fn deed_on(limits: Limits, cpu: CpuId, mut words: Words) -> Option<Deed>
 fn of_operation(limits: Limits, cpu: CpuId, verb: &str, arguments: Words) -> Option<Deed>
     ensures { result ≡ option_and_then (deed_of cpu) (operation_of limits verb.now arguments.entry) }
 {
-    deed_of(cpu, operation_of(limits, verb, arguments)?)
-}
-
-// The deed that an operation is. A request is posted and drained by steps that are no deeds.
-fn deed_of(cpu: CpuId, op: Op) -> Option<Deed>
-    ensures { result ≡ deed_of cpu op }
-{
-    match op {
-        Op::Tick(ns) => Some(Deed::Tick { cpu, ns }),
-        Op::Pick => Some(Deed::Pick { cpu }),
-        Op::Yield => Some(Deed::Yield { cpu }),
-        Op::Sleep(task) => Some(Deed::Sleep { cpu, task }),
-        Op::Pull(source) => Some(Deed::Pull { cpu, source }),
-        Op::Post(_) | Op::Drain => None,
-    }
+    operation_of(limits, verb, arguments)?.on(cpu)
 }
 
 fn wake(limits: Limits, cpu: CpuId, mut arguments: Words) -> Option<Deed>
@@ -71,10 +57,14 @@ mod tests {
     use super::*;
     use crate::workload_version::Version;
     use eevdf_queue::TaskId;
+    use eevdf_weight::Nice;
 
-    // The deed that a text is in version 1.
-    fn deed_in_one(text: &str) -> Option<Deed> {
-        deed(Version::One.limits(), text)
+    fn deed_in(version: Version, text: &str) -> Option<Deed> {
+        deed(version.limits(), text)
+    }
+
+    fn deed_in_both(text: &str) -> Option<Deed> {
+        deed_in(Version::One, text).filter(|deed| deed_in(Version::Two, text) == Some(*deed))
     }
 
     #[test]
@@ -87,17 +77,47 @@ mod tests {
             task,
             sender: last,
         };
-        assert_eq!(rt; deed_in_one("15 pick"), Some(Deed::Pick { cpu: last }));
-        assert_eq!(rt; deed_in_one("0 yield"), Some(Deed::Yield { cpu }));
-        assert_eq!(rt;
-            deed_in_one("0 sleep 1023"),
-            Some(Deed::Sleep { cpu, task })
-        );
-        assert_eq!(rt; deed_in_one("0 wake 1023 from 15"), Some(wake));
-        assert_eq!(rt;
-            deed_in_one("0 pull 15"),
-            Some(Deed::Pull { cpu, source: last })
-        );
+        let deeds = [
+            (Deed::Pick { cpu: last }, "15 pick"),
+            (Deed::Yield { cpu }, "0 yield"),
+            (Deed::Sleep { cpu, task }, "0 sleep 1023"),
+            (wake, "0 wake 1023 from 15"),
+            (Deed::Pull { cpu, source: last }, "0 pull 15"),
+        ];
+        for (deed, text) in deeds {
+            assert_eq!(rt; deed_in_both(text), Some(deed));
+        }
+    }
+
+    #[test]
+    fn version_two_knows_more_deeds(rt: HostRuntime) {
+        let cpu = CpuId::new(0).expect(&rt, "a CPU");
+        let last = CpuId::new(63).expect(&rt, "a CPU");
+        let task = TaskId::new(1023).expect(&rt, "a task");
+        let nice = Nice::new(-5).expect(&rt, "a level");
+        let wake = Deed::Wake {
+            cpu,
+            task,
+            sender: last,
+        };
+        let deeds = [
+            (Deed::Pick { cpu: last }, "63 pick"),
+            (wake, "0 wake 1023 from 63"),
+            (Deed::Pull { cpu, source: last }, "0 pull 63"),
+            (Deed::Renice { cpu, task, nice }, "0 renice 1023 -5"),
+        ];
+        for (deed, text) in deeds {
+            assert_eq!(rt; deed_in(Version::Two, text), Some(deed));
+            assert!(rt; deed_in(Version::One, text).is_none(), "{text}");
+        }
+    }
+
+    #[test]
+    fn version_one_knows_sixteen_cpus(rt: HostRuntime) {
+        for text in ["16 pick", "0 pull 16", "0 wake 1 from 16"] {
+            assert!(rt; deed_in(Version::One, text).is_none(), "{text}");
+            assert!(rt; deed_in(Version::Two, text).is_some(), "{text}");
+        }
     }
 
     #[test]
@@ -109,21 +129,25 @@ mod tests {
             "pick",
             " 0 pick",
             "00 pick",
-            "16 pick",
+            "64 pick",
             "0  pick",
             "0 post 1",
             "0 drain",
-            "0 pull 16",
+            "0 pull 64",
             "0 wake 1",
             "0 wake 1 from",
             "0 wake 1 by 1",
-            "0 wake 1 from 16",
+            "0 wake 1 from 64",
             "0 wake 1 from 1 ",
             "0 wake 1024 from 1",
             "0 wake from 1",
+            "0 renice 1",
+            "0 renice 1 -0",
+            "0 renice 1 20",
+            "renice 1 5",
         ];
         for text in texts {
-            assert!(rt; deed_in_one(text).is_none(), "{text}");
+            assert!(rt; deed_in(Version::Two, text).is_none(), "{text}");
         }
     }
 }

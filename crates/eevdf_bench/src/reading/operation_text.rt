@@ -1,7 +1,7 @@
 ghost use Rattle.std.specs.Prelude.{◌≡◌};
-ghost use Rattle.eevdf_bench.specs.Words.{alone, operation, operation_of, words};
+ghost use Rattle.eevdf_bench.specs.Words.{alone, operation, operation_of, renice_of, words};
 
-use crate::reading::argument_words::{only_cpu, only_task, only_time};
+use crate::reading::argument_words::{only_cpu, only_level, only_task, only_time, task};
 use crate::reading::word_list::Words;
 use crate::workload_version::Limits;
 use eevdf_ops::Op;
@@ -28,8 +28,18 @@ pub(crate) fn operation_of(limits: Limits, verb: &str, arguments: Words) -> Opti
         "post" => Some(Op::Post(only_task(arguments)?)),
         "drain" => alone(Op::Drain, arguments),
         "pull" => Some(Op::Pull(only_cpu(limits, arguments)?)),
+        "renice" if limits.renice => renice(arguments),
         _ => None,
     }
+}
+
+// The task that the first word numbers gets the level that follows it.
+fn renice(mut arguments: Words) -> Option<Op>
+    ensures { result ≡ renice_of arguments.entry }
+{
+    let task = task(arguments.next()?)?;
+    let nice = only_level(arguments)?;
+    Some(Op::Renice(task, nice))
 }
 
 // An operation that nothing follows.
@@ -48,22 +58,46 @@ mod tests {
     use crate::workload_version::Version;
     use eevdf_ops::CpuId;
     use eevdf_queue::TaskId;
+    use eevdf_weight::Nice;
 
-    // The operation that a text is in version 1.
-    fn operation_in_one(text: &str) -> Option<Op> {
-        operation(Version::One.limits(), text)
+    fn operation_in(version: Version, text: &str) -> Option<Op> {
+        operation(version.limits(), text)
     }
 
     #[test]
     fn operations_are_read(rt: HostRuntime) {
         let task = TaskId::new(1023).expect(&rt, "a task");
         let cpu = CpuId::new(15).expect(&rt, "a CPU");
-        assert_eq!(rt; operation_in_one("pick"), Some(Op::Pick));
-        assert_eq!(rt; operation_in_one("yield"), Some(Op::Yield));
-        assert_eq!(rt; operation_in_one("sleep 1023"), Some(Op::Sleep(task)));
-        assert_eq!(rt; operation_in_one("post 1023"), Some(Op::Post(task)));
-        assert_eq!(rt; operation_in_one("drain"), Some(Op::Drain));
-        assert_eq!(rt; operation_in_one("pull 15"), Some(Op::Pull(cpu)));
+        for version in [Version::One, Version::Two] {
+            assert_eq!(rt; operation_in(version, "pick"), Some(Op::Pick));
+            assert_eq!(rt; operation_in(version, "yield"), Some(Op::Yield));
+            assert_eq!(rt; operation_in(version, "sleep 1023"), Some(Op::Sleep(task)));
+            assert_eq!(rt; operation_in(version, "post 1023"), Some(Op::Post(task)));
+            assert_eq!(rt; operation_in(version, "drain"), Some(Op::Drain));
+            assert_eq!(rt; operation_in(version, "pull 15"), Some(Op::Pull(cpu)));
+        }
+    }
+
+    #[test]
+    fn version_two_knows_more_operations(rt: HostRuntime) {
+        let task = TaskId::new(1023).expect(&rt, "a task");
+        let cpu = CpuId::new(63).expect(&rt, "a CPU");
+        let levels = [
+            (-20, "renice 1023 -20"),
+            (-1, "renice 1023 -1"),
+            (0, "renice 1023 0"),
+            (19, "renice 1023 19"),
+        ];
+        for (level, text) in levels {
+            let nice = Nice::new(level).expect(&rt, "a level");
+            assert_eq!(rt;
+                operation_in(Version::Two, text),
+                Some(Op::Renice(task, nice))
+            );
+            assert!(rt; operation_in(Version::One, text).is_none(), "{text}");
+        }
+        assert_eq!(rt; operation_in(Version::Two, "pull 63"), Some(Op::Pull(cpu)));
+        assert!(rt; operation_in(Version::One, "pull 16").is_none());
     }
 
     #[test]
@@ -81,13 +115,43 @@ mod tests {
             "post -1",
             "post 1 2",
             "drain ",
-            "pull 16",
+            "pull 64",
             "pull  1",
             "wake 0 from 1",
             "Pick",
         ];
         for text in texts {
-            assert!(rt; operation_in_one(text).is_none(), "{text}");
+            assert!(rt; operation_in(Version::Two, text).is_none(), "{text}");
+        }
+    }
+
+    #[test]
+    fn other_levels_are_none(rt: HostRuntime) {
+        let texts = [
+            "renice",
+            "renice 0",
+            "renice 0 ",
+            "renice 0 -",
+            "renice 0 -0",
+            "renice 0 -01",
+            "renice 0 -21",
+            "renice 0 --1",
+            "renice 0 - 1",
+            "renice 0 01",
+            "renice 0 20",
+            "renice 0 +1",
+            "renice 0 18446744073709551616",
+            "renice 0 -9223372036854775808",
+            "renice 0 5 ",
+            "renice 0 5 5",
+            "renice 0  5",
+            "renice  0 5",
+            "renice 1024 5",
+            "renice -1 5",
+            "renice 0 0x5",
+        ];
+        for text in texts {
+            assert!(rt; operation_in(Version::Two, text).is_none(), "{text}");
         }
     }
 }

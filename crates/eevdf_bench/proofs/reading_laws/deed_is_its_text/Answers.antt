@@ -1,7 +1,7 @@
 use Rattle.std.proofs.Common.{arith}
-use Rattle.eevdf_ops.specs.declared.deeds.Deed.TheVariants.{Tick, Pick, Yield, Sleep, Wake, Pull}
+use Rattle.eevdf_ops.specs.declared.deeds.Deed.TheVariants.{Tick, Pick, Yield, Sleep, Wake, Pull, Renice}
 use Rattle.eevdf_bench.specs.Versions.{limits_of}
-use Rattle.eevdf_bench.proofs.DeedsPrinted.{deed_is_text, deed-tick, deed-pick, deed-yield, deed-sleep, deed-wake, deed-pull}
+use Rattle.eevdf_bench.proofs.DeedsPrinted.{deed_is_text, deed-tick, deed-pick, deed-yield, deed-sleep, deed-wake, deed-pull, deed-renice}
 use Rattle.eevdf_bench.proofs.reading_laws.deed_is_its_text.Goals as goal
 
 pub returns-in-Tick : goal.returns-in-Tick
@@ -33,3 +33,8 @@ pub returns-in-Pull : goal.returns-in-Pull
 returns-in-Pull c =
     let limits = limits_of c.args.version in
     deed_is_text limits c.args.text.now c.args.deed (Pull c.in-Pull.cpu c.in-Pull.source) c.in-Pull.is (omega arith) (deed-pull limits c.in-Pull.cpu c.in-Pull.source (omega arith))
+
+pub returns-in-Renice : goal.returns-in-Renice
+returns-in-Renice c =
+    let limits = limits_of c.args.version in
+    deed_is_text limits c.args.text.now c.args.deed (Renice c.in-Renice.cpu c.in-Renice.task c.in-Renice.nice) c.in-Renice.is (omega arith) (deed-renice limits c.in-Renice.cpu c.in-Renice.task c.in-Renice.nice (omega arith) c.get-level.ensures.within)

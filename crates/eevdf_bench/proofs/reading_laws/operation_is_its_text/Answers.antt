@@ -1,7 +1,7 @@
 use Rattle.std.proofs.Common.{arith}
-use Rattle.eevdf_ops.specs.declared.deeds.Op.TheVariants.{Tick, Pick, Yield, Sleep, Post, Drain, Pull}
+use Rattle.eevdf_ops.specs.declared.deeds.Op.TheVariants.{Tick, Pick, Yield, Sleep, Post, Drain, Pull, Renice}
 use Rattle.eevdf_bench.specs.Versions.{limits_of}
-use Rattle.eevdf_bench.proofs.OperationsPrinted.{operation_is_text, operation-tick, operation-pick, operation-yield, operation-sleep, operation-post, operation-drain, operation-pull}
+use Rattle.eevdf_bench.proofs.OperationsPrinted.{operation_is_text, operation-tick, operation-pick, operation-yield, operation-sleep, operation-post, operation-drain, operation-pull, operation-renice}
 use Rattle.eevdf_bench.proofs.reading_laws.operation_is_its_text.Goals as goal
 
 pub returns-in-Tick : goal.returns-in-Tick
@@ -38,3 +38,8 @@ pub returns-in-Pull : goal.returns-in-Pull
 returns-in-Pull c =
     let limits = limits_of c.args.version in
     operation_is_text limits c.args.text.now c.args.op (Pull c.in-Pull.source) c.in-Pull.is (operation-pull limits c.in-Pull.source (omega arith))
+
+pub returns-in-Renice : goal.returns-in-Renice
+returns-in-Renice c =
+    let limits = limits_of c.args.version in
+    operation_is_text limits c.args.text.now c.args.op (Renice c.in-Renice.task c.in-Renice.nice) c.in-Renice.is (operation-renice limits c.in-Renice.task c.in-Renice.nice (omega arith) c.get-level.ensures.within)
