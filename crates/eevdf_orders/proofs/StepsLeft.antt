@@ -4,14 +4,12 @@ use Rattle.std.proofs.Math.ListN.{length-set, length-replicate}
 use Rattle.std.proofs.lemmas.Bool.{false≢true}
 use Rattle.std.proofs.lemmas.List.{get_or-set_same, get_or-set_other}
 use Rattle.std.proofs.lemmas.Bool.Decides.{nat_tests}
-use Rattle.std.specs.Option.{option_map}
-use Rattle.std.specs.Prelude.{◌&&◌, nat_lt, is_none, is_some, slice_get, Option, Some, None}
+use Rattle.std.specs.Prelude.{nat_lt, is_some, slice_get, Option, Some, None}
 use Rattle.eevdf_steps.specs.declared.play_fault.PlayFault.{PlayFault}
-use Rattle.eevdf_steps.specs.declared.play_fault.PlayFault.TheVariants.{Short, TooLong}
-use Rattle.eevdf_steps.specs.declared.step_fault.StepFault.{StepFault}
+use Rattle.eevdf_steps.specs.declared.play_fault.PlayFault.TheVariants.{TooLong}
 use Rattle.eevdf_steps.specs.Plan.{Plan, callers}
 use Rattle.eevdf_steps.specs.MicroSteps.{steps_by}
-use Rattle.eevdf_steps.specs.Counters.{Counters, count_of, counted, is_under_way, may_step, refusal, step_next, unfinished}
+use Rattle.eevdf_steps.specs.Counters.{Counters, count_of, counted, is_under_way, may_step, step_next, unfinished}
 use Rattle.eevdf_steps.specs.Orders.{IsWhole, counters_after, counters_at_start, is_lawful, order_fault, play_fault}
 use Rattle.eevdf_steps.specs.Room.{sum_from}
 use Rattle.eevdf_steps.specs.Players.{Player}

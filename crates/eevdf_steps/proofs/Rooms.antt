@@ -47,7 +47,7 @@ sum_same f g p from (suc n) h same =
     omega arith
 
 -- a sum is less by as much as one of its parts is
-sum_less : (f g : ℕ → ℕ) (p from n d : ℕ) → from ≤ p → p < from + n → f p ≡ g p + d → ((q : ℕ) → q ≢ p → f q ≡ g q) → sum_from f from n ≡ sum_from g from n + d
+pub sum_less : (f g : ℕ → ℕ) (p from n d : ℕ) → from ≤ p → p < from + n → f p ≡ g p + d → ((q : ℕ) → q ≢ p → f q ≡ g q) → sum_from f from n ≡ sum_from g from n + d
 sum_less f g p from zero d low high less same = absurd (omega arith)
 sum_less f g p from (suc n) d low high less same =
     elim (number_cases p from) [

@@ -6,11 +6,12 @@ use std::alloc::Global;
 use std::process::Abort;
 use std::test::Fail;
 
-const WORKLOADS: [&[u8]; 4] = [
+const WORKLOADS: [&[u8]; 5] = [
     b"version = 1\nprogram = [[\"pull 1\", \"pull 1\"], [\"pull 2\", \"pull 2\"], [\"pull 0\", \"pull 0\"]]\n[[task]]\n[[task]]\n[[task]]\n",
     b"version = 1\nprogram = [[\"pick\", \"tick 5\", \"sleep 0\", \"drain\", \"post 2\"], [\"post 0\", \"drain\", \"yield\"], [\"drain\", \"sleep 1\"]]\n[[task]]\n[[task]]\nhome = 1\n[[task]]\nhome = 2\nasleep = true\n",
     b"version = 1\nprogram = [[], [\"pick\", \"pull 3\", \"drain\", \"pull 0\", \"pick\", \"yield\"], [\"post 0\"], [\"pull 1\"]]\n[[task]]\nasleep = true\n[[task]]\nhome = 3\n",
     b"version = 1\nprogram = [[]]\n[[task]]\n",
+    b"version = 2\nprogram = [[\"pick\", \"renice 0 5\", \"drain\"], [\"pull 0\", \"renice 1 -20\", \"post 2\"]]\n[[task]]\n[[task]]\n[[task]]\nasleep = true\n",
 ];
 
 /// The order of a workload, and whether it plays.
@@ -49,6 +50,26 @@ fn callers_that_wait_are_passed_over(rt: HostRuntime) -> Result<(), Fail> {
     let pulls = b"version = 1\nprogram = [[\"pull 1\"], [\"pull 0\"]]\n[[task]]\n";
     let order = order_played(&rt, alloc, pulls, None)?;
     assert!(rt; order.as_slice() == [0, 0, 0, 0, 0, 0, 0, 1, 1, 1, 1, 1, 1, 1].as_slice());
+    Ok(())
+}
+
+#[test]
+fn a_change_of_level_has_four_steps(rt: HostRuntime) -> Result<(), Fail> {
+    let workload = b"version = 2\nprogram = [[\"renice 0 -20\"], [\"pick\"]]\n[[task]]\n";
+    let order = order_played(&rt, rt.alloc(), workload, None)?;
+    assert!(rt; order.as_slice() == [0, 1, 0, 1, 0, 1, 0, 1].as_slice());
+    Ok(())
+}
+
+#[test]
+fn a_drain_of_sixty_four_cpus_has_130_steps(rt: HostRuntime) -> Result<(), Fail> {
+    let mut workload = Vec::from_slice(rt.alloc(), b"version = 2\nprogram = [")?;
+    for _cpu in 0..64 {
+        workload.extend_from_slice(b"[\"drain\"], ")?;
+    }
+    workload.extend_from_slice(b"]\n[[task]]\n")?;
+    let order = order_played(&rt, rt.alloc(), &workload, None)?;
+    assert!(rt; order.len() == 64 * 130);
     Ok(())
 }
 
