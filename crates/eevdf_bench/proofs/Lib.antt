@@ -16,3 +16,4 @@ pub mod ReplayAnswers
 pub mod KeptResults
 pub mod WiderLimits
 pub mod VersionMeanings
+pub mod ScheduleLines

@@ -9,6 +9,7 @@ pub mod Text
 pub mod TextDeed
 pub mod TextQueue
 pub mod TextReport
+pub mod TextSchedules
 pub mod TextFault
 pub mod Command
 pub mod WordsPrinted

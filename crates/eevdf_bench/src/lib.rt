@@ -17,6 +17,7 @@ mod text_lines;
 mod text_numbers;
 mod text_queue;
 mod text_report;
+mod text_schedules;
 mod text_tasks;
 mod watched;
 mod workload_version;

@@ -1,7 +1,7 @@
 ghost use Rattle.std.specs.Prelude.{◌≡◌, ◌++◌, OnOk};
-ghost use Rattle.eevdf_bench.specs.TextReport.{schedule_at, schedule_of, left_line, left_from, cpu_line, script_start, script_lines, script_text};
+ghost use Rattle.eevdf_bench.specs.TextReport.{left_line, left_from, cpu_line, script_start, script_lines, script_text};
 
-use crate::text_deeds::{cpu_of, push_schedule_line, push_script_line};
+use crate::text_deeds::push_script_line;
 use crate::text_numbers::push_number;
 use eevdf_ops::Line;
 use eevdf_queue::TaskId;
@@ -13,30 +13,6 @@ pub(crate) fn push_cpu_line(text: &mut Vec<u8>, cpu: usize) -> Result<(), AllocE
     text.extend_from_slice(b"cpu ")?;
     push_number(text, cpu as u64)?;
     text.extend_from_slice(b"\n")
-}
-
-fn push_schedule_at(text: &mut Vec<u8>, cpu: usize, line: Line) -> Result<(), AllocError>
-    ensures { OnOk result (text.new.items ≡ text.old.items ++ schedule_at cpu line) }
-{
-    if cpu_of(line.deed).get() == cpu as u64 {
-        push_schedule_line(text, line)
-    } else {
-        Ok(())
-    }
-}
-
-/// Writes the lines of a history whose deeds are of one CPU.
-pub(crate) fn push_schedule(
-    text: &mut Vec<u8>,
-    cpu: usize,
-    lines: &[Line],
-) -> Result<(), AllocError>
-    ensures { OnOk result (text.new.items ≡ text.old.items ++ schedule_of cpu lines.now) }
-{
-    for line in lines {
-        push_schedule_at(text, cpu, *line)?;
-    }
-    Ok(())
 }
 
 fn push_left_line(text: &mut Vec<u8>, sender: usize, task: TaskId) -> Result<(), AllocError>

@@ -64,21 +64,25 @@ fn push_asleep_at(text: &mut Vec<u8>, queue: &Queue, number: u64) -> Result<(), 
 fn push_if_runnable(text: &mut Vec<u8>, queue: &Queue, task: TaskId) -> Result<(), AllocError>
     ensures { OnOk result (text.new.items ≡ text.old.items ++ task_at queue.now.state task) }
 {
-    match (queue.entry(task), queue.lag_of(task)) {
-        (Some(entry), Some(lag)) => {
-            push_task_line(text, task, entry, lag, runs(queue.running(), task))
-        }
-        _ => Ok(()),
-    }
+    let Some(entry) = queue.entry(task) else {
+        return Ok(());
+    };
+    let Some(lag) = queue.lag_of(task) else {
+        return Ok(());
+    };
+    push_task_line(text, task, entry, lag, runs(queue.running(), task))
 }
 
 fn push_if_asleep(text: &mut Vec<u8>, queue: &Queue, task: TaskId) -> Result<(), AllocError>
     requires kept { IsKept queue.now.state }
     ensures { OnOk result (text.new.items ≡ text.old.items ++ asleep_at queue.now.state task) }
 {
-    match (queue.asleep(task), queue.lag_of(task)) {
-        (true, Some(lag)) => push_asleep_line(text, task, lag),
-        _ => Ok(()),
+    if !queue.asleep(task) {
+        return Ok(());
+    }
+    match queue.lag_of(task) {
+        Some(lag) => push_asleep_line(text, task, lag),
+        None => Ok(()),
     }
 }
 

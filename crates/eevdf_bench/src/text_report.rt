@@ -1,9 +1,10 @@
 ghost use Rattle.std.specs.Prelude.{◌≡◌, ◌++◌, ◌<◌, length, IfOk, OnOk};
 ghost use Rattle.eevdf_ops.specs.Outcome.{machine_of};
-ghost use Rattle.eevdf_bench.specs.TextReport.{cpu_text, cpus_text, left_of, history_text, report_text};
+ghost use Rattle.eevdf_bench.specs.TextReport.{cpu_text, cpus_text, left_of, history_text, report_text, schedule_of};
 
-use crate::text_lines::{push_cpu_line, push_left, push_schedule, push_script};
+use crate::text_lines::{push_cpu_line, push_left, push_script};
 use crate::text_queue::push_queue;
+use crate::text_schedules::Schedules;
 use eevdf_ops::{Line, Outcome};
 use std::alloc::{AllocError, Global};
 
@@ -14,7 +15,7 @@ pub fn report(alloc: Global, outcome: &Outcome, history: bool) -> Result<Vec<u8>
         text.items ≡ report_text outcome.now.lines (machine_of outcome.now.queues) outcome.now.left history) }
 {
     let mut text = Vec::new(alloc);
-    push_cpus(&mut text, outcome)?;
+    push_cpus(alloc, &mut text, outcome)?;
     push_history(&mut text, history, outcome.history())?;
     Ok(text)
 }
@@ -29,23 +30,30 @@ fn push_history(text: &mut Vec<u8>, history: bool, lines: &[Line]) -> Result<(),
     }
 }
 
-fn push_cpus(text: &mut Vec<u8>, outcome: &Outcome) -> Result<(), AllocError>
+fn push_cpus(alloc: Global, text: &mut Vec<u8>, outcome: &Outcome) -> Result<(), AllocError>
     ensures { OnOk result (text.new.items
         ≡ text.old.items ++ cpus_text outcome.now.lines (machine_of outcome.now.queues) outcome.now.left) }
 {
+    let schedules = Schedules::of(alloc, outcome.cpus(), outcome.history())?;
     for cpu in 0..outcome.cpus() {
-        push_cpu(text, outcome, cpu)?;
+        push_cpu(text, outcome, cpu, schedules.schedule(cpu))?;
     }
     Ok(())
 }
 
-fn push_cpu(text: &mut Vec<u8>, outcome: &Outcome, cpu: usize) -> Result<(), AllocError>
-    requires { cpu < length outcome.now.queues }
+fn push_cpu(
+    text: &mut Vec<u8>,
+    outcome: &Outcome,
+    cpu: usize,
+    schedule: &[u8],
+) -> Result<(), AllocError>
+    requires cpu { cpu < length outcome.now.queues }
+    requires schedule { schedule.now ≡ schedule_of cpu outcome.now.lines }
     ensures { OnOk result (text.new.items
         ≡ text.old.items ++ cpu_text outcome.now.lines (machine_of outcome.now.queues) outcome.now.left cpu) }
 {
     push_cpu_line(text, cpu)?;
-    push_schedule(text, cpu, outcome.history())?;
+    text.extend_from_slice(schedule)?;
     push_queue(text, outcome.queue(cpu))?;
     push_left_of(text, outcome, cpu)
 }
