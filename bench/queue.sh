@@ -10,7 +10,7 @@ few=2000
 many=6000
 sizes=(1 8 64 256 1024)
 mixes=("$@")
-[ $# -gt 0 ] || mixes=(pick tick-pick sleep-pick-wake yield-pick pull tick-sleep-pick-wake)
+[ $# -gt 0 ] || mixes=(pick tick-pick sleep-pick-wake yield-pick pull tick-sleep-pick-wake renice)
 
 is_current() {
   [ -x "$program" ] && [ -z "$(find crates.txt crates/eevdf_weight crates/eevdf_queue crates/queue_bench \

@@ -4,7 +4,7 @@ use Rattle.std.specs.Prelude.{is_some, ◌&&◌, ◌||◌}
 use Rattle.std.specs.Option.{option_map}
 use Rattle.std.specs.Ordering.{nat_cmp, eq_by_cmp}
 use Rattle.std.specs.Cmp.{nat_cmp_total}
-use Rattle.std.specs.FinMap.{insert, remove, get, contains_key, get-empty, get-insert, get-remove}
+use Rattle.std.specs.FinMap.{insert, get, get-empty, get-insert, get-remove}
 use Rattle.std.proofs.lemmas.Bool.Decides.{nat_tests}
 use Rattle.eevdf_queue.specs.declared.run_entry.Entry.{Entry}
 use Rattle.eevdf_queue.specs.State.{State, Sleeper, Contents, empty_state}

@@ -1,6 +1,6 @@
 //! The answers of a queue as words for a checksum.
 
-use eevdf_queue::{TaskId, TickAnswer, WakeAnswer, YieldAnswer};
+use eevdf_queue::{ReniceAnswer, TaskId, TickAnswer, WakeAnswer, YieldAnswer};
 
 pub fn of_task(task: Option<TaskId>) -> u64 {
     match task {
@@ -30,5 +30,13 @@ pub fn of_wake(answer: WakeAnswer) -> u64 {
         WakeAnswer::Woken => 0,
         WakeAnswer::Awake => 1,
         WakeAnswer::Range => 2,
+    }
+}
+
+pub fn of_renice(answer: ReniceAnswer) -> u64 {
+    match answer {
+        ReniceAnswer::Reniced => 0,
+        ReniceAnswer::NotHere => 1,
+        ReniceAnswer::Range => 2,
     }
 }

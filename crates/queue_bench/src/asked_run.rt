@@ -1,4 +1,4 @@
-ghost use Rattle.std.specs.Prelude.{◌≤◌};
+ghost use Rattle.std.specs.Prelude.{◌<◌, ◌≤◌};
 
 use crate::mix::Mix;
 use thiserror::Error;
@@ -11,6 +11,7 @@ pub struct AskedRun {
     pub tasks: u64,
     /// How often the mix is run.
     pub turns: u64,
+    pub ghost some: { 0 < tasks },
     pub ghost few: { tasks ≤ 1024 },
 }
 
@@ -21,7 +22,7 @@ pub enum WordFault {
     Unread,
     #[error("three words are wanted")]
     Count,
-    #[error("MIX is pick, tick-pick, sleep-pick-wake, yield-pick, pull or tick-sleep-pick-wake")]
+    #[error("MIX is pick, tick-pick, sleep-pick-wake, yield-pick, pull, tick-sleep-pick-wake or renice")]
     Mix,
     #[error("TASKS is a number from 1 to 1024")]
     Tasks,

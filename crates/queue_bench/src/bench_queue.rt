@@ -1,6 +1,6 @@
-ghost use Rattle.std.specs.Prelude.{◌≤◌};
+ghost use Rattle.std.specs.Prelude.{◌<◌, ◌≤◌};
 
-use crate::answer_words::{of_task, of_tick, of_wake, of_yield};
+use crate::answer_words::{of_renice, of_task, of_tick, of_wake, of_yield};
 use crate::checksum::Checksum;
 use crate::draws::Draws;
 use crate::sleep_ring::SleepRing;
@@ -49,6 +49,16 @@ impl BenchQueue {
     pub fn yield_now(&mut self) {
         let answer = self.queue.yield_now();
         self.checksum.add(of_yield(answer));
+    }
+
+    /// Gives a drawn one of so many tasks a drawn nice level.
+    pub fn renice(&mut self, tasks: u64)
+        requires some { 0 < tasks }
+        requires few { tasks ≤ 1024 }
+    {
+        let task = self.draws.task(tasks);
+        let answer = self.queue.renice(task, self.draws.nice());
+        self.checksum.add(of_renice(answer));
     }
 
     /// Lets the running task fall asleep, picks, and wakes the task that has slept longest.

@@ -1,3 +1,6 @@
+ghost use Rattle.std.specs.Prelude.{◌<◌, ◌≤◌};
+
+use eevdf_queue::TaskId;
 use eevdf_weight::{Nice, Ns, Slice};
 use rand_core::Rng;
 use rand_pcg::Pcg32;
@@ -13,6 +16,14 @@ impl Draws {
         Draws {
             words: Pcg32::new(42, 54),
         }
+    }
+
+    /// One of so many tasks.
+    pub fn task(&mut self, tasks: u64) -> TaskId
+        requires some { 0 < tasks }
+        requires few { tasks ≤ 1024 }
+    {
+        TaskId::new(u64::from(self.words.next_u32()) % tasks).unwrap()
     }
 
     /// A nice level.

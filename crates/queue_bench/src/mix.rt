@@ -7,6 +7,7 @@ pub enum Mix {
     YieldPick,
     Pull,
     TickSleepPickWake,
+    Renice,
 }
 
 impl Mix {
@@ -19,6 +20,7 @@ impl Mix {
             "yield-pick" => Some(Mix::YieldPick),
             "pull" => Some(Mix::Pull),
             "tick-sleep-pick-wake" => Some(Mix::TickSleepPickWake),
+            "renice" => Some(Mix::Renice),
             _ => None,
         }
     }

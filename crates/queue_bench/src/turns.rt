@@ -1,5 +1,6 @@
 //! The turns of a run. Each mix has a loop of its own, so that a turn is its calls and nothing else.
 
+ghost use Rattle.std.specs.Prelude.{◌<◌, ◌≤◌};
 ghost use Rattle.queue_bench.specs.Apart.{AreApart};
 
 use crate::asked_run::AskedRun;
@@ -20,6 +21,7 @@ pub fn checksum_of(alloc: Global, run: &AskedRun) -> Result<u64, AllocError> {
         Mix::SleepPickWake => sleeps(&mut bench, run.turns),
         Mix::YieldPick => yields(&mut bench, run.turns),
         Mix::TickSleepPickWake => ticks_and_sleeps(&mut bench, run.turns),
+        Mix::Renice => renices(&mut bench, run.tasks, run.turns),
         Mix::Pull => {}
     }
     Ok(bench.sum())
@@ -61,6 +63,15 @@ fn ticks_and_sleeps(bench: &mut BenchQueue, turns: u64) {
     for _ in 0..turns {
         bench.tick();
         bench.sleep_pick_wake();
+    }
+}
+
+fn renices(bench: &mut BenchQueue, tasks: u64, turns: u64)
+    requires some { 0 < tasks }
+    requires few { tasks ≤ 1024 }
+{
+    for _ in 0..turns {
+        bench.renice(tasks);
     }
 }
 
