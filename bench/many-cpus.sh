@@ -3,7 +3,8 @@
 # picks, drains, or posts to one home, whose order ends after three steps: all is opened that its 640000 operations can
 # need, in an address space of 1 GiB, and then the order is refused. Prints for each the answer, the greatest resident
 # memory and the processor time. Then solo.sh with 640000 deeds. The texts stay below the 16777216 bytes that a workload
-# may have. No proof speaks of any of it.
+# may have. No proof speaks of any of it. Ends with status 1 where an answer is another than that the order is short, or
+# more than 250 MiB were resident.
 set -eu
 cd "$(dirname "$0")/.."
 cpus=64
@@ -37,6 +38,7 @@ for operation in pick drain "post 0"; do
     /usr/bin/env time -q -f '%M %U %S' -o "$workload.time" "$program" replay <"$workload" || true)
   awk -v operation="$operation" -v answer="$answer" '{
     printf "%-6s %s, %d MiB resident at most, %.2f s\n", operation, answer, $1 / 1024, $2 + $3
+    exit answer != "fault: order short at 0" || $1 > 250 * 1024
   }' "$workload.time"
 done
 

@@ -13,7 +13,7 @@ pub mod QueueLines
 pub mod EngineAnswers
 pub mod LeftLists
 pub mod ReplayAnswers
+pub mod ScheduleLines
 pub mod KeptResults
 pub mod WiderLimits
 pub mod VersionMeanings
-pub mod ScheduleLines

@@ -60,7 +60,7 @@ fn product(lag: i64, weight: u64) -> i64
     lag * weight as i64
 }
 
-/// A number over a weight, rounded down.
+/// Such a product over a weight, rounded down, in 64 bits too: a division of wider numbers costs much more.
 fn quotient(number: i64, weight: u64) -> i64
     requires weighs { 1 ≤ weight }
     requires light { weight ≤ 88761 }

@@ -21,8 +21,8 @@ use eevdf_weight::Nice;
 impl Queue {
     /// Gives a runnable task another nice level. It joins again as if it had left, with the lag that it keeps times its
     /// old weight over its new one, and runs afterwards exactly where it ran before; the virtual runtime that it had is
-    /// the time that stands. `NotHere` exactly where the task isn't runnable here; `Range` where its virtual runtime or
-    /// deadline would be out of range. Nothing has changed where the answer isn't `Reniced`.
+    /// the time that stands. `NotHere` exactly where the task isn't runnable here; `Range` exactly where its new virtual
+    /// runtime or deadline would be out of range. Nothing has changed where the answer isn't `Reniced`.
     pub fn renice(&mut self, task: TaskId, nice: Nice) -> ReniceAnswer
         ensures answer { result ≡ (renices.renice self.old.state task nice).0 }
         ensures after { self.new.state ≡ (renices.renice self.old.state task nice).1 }
@@ -31,7 +31,7 @@ impl Queue {
         let Some(entry) = self.runnable.get(task) else {
             return ReniceAnswer::NotHere;
         };
-        self.is_in_range(task, &entry);
+        self.keeps_in_range(task, &entry);
         let Some(reniced) = self.reniced(task, &entry, nice) else {
             return ReniceAnswer::Range;
         };
@@ -66,7 +66,7 @@ impl Queue {
     }
 
     /// Learns that the virtual runtime of a task that is here is in range.
-    fn is_in_range(&self, task: TaskId, entry: &Entry)
+    fn keeps_in_range(&self, task: TaskId, entry: &Entry)
         requires { map.get self.now.state.runnable task ≡ Some entry.now }
         ensures { limits.is_in_range entry.now.v ≡ true }
     {

@@ -62,6 +62,7 @@ playing_first plan lists m sound is a long placed = record {
     answers = length-replicate (callers plan) None;
     once = λ u. omega (arith, placed.once u, none_held (callers plan) u);
   };
+  reserved = refl;
   room = omega (arith, room_first plan lists a);
   serial = serial_start plan m sound is;
 }

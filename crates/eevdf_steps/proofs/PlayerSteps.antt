@@ -147,6 +147,7 @@ playing_then w lists found done p h s f r st home at read asked = record {
   found = length-set found p r ∙ st.playing.found;
   work = works_kept w.plan done.work p h s.op s.micro f st.playing.work st.caller home (pulls_by w.plan (callers w.plan) s.op refl st.sound_op)
       (step_of w lists found done p s f st).hand;
+  reserved = st.playing.reserved;
   room = subst
       (λ (q : Option ℕ). length (done.journal.lines ++ appends done.work p s.op s.micro f)
       + lines_to_come w.plan (counted w.counters p) (posts_after (place_of w.plan p s.micro) s.micro lists) (set found p q) ≤ done.journal.room) (sym asked)

@@ -45,11 +45,11 @@ abbrev pub settled_answer : Work → ℕ → Option ℕ → Option Answer
 settled_answer w caller None = None
 settled_answer w caller (Some task) = Some (wake_answer w caller task)
 
--- the home of the task that an operation names; the caller's CPU where it names none
+-- the home to which an operation's task goes or its request is posted; the caller's CPU for any other operation
 abbrev pub home_for : Plan → ℕ → Op → ℕ
 home_for plan caller (op.Sleep task) = home plan task
 home_for plan caller (op.Post task) = home plan task
-home_for plan caller (op.Renice task nice) = home plan task
+home_for plan caller (op.Renice task nice) = caller
 home_for plan caller (op.Tick ns) = caller
 home_for plan caller op.Pick = caller
 home_for plan caller op.Yield = caller

@@ -6,6 +6,7 @@ use Rattle.eevdf_steps.specs.Plan.{Plan, callers}
 use Rattle.eevdf_steps.specs.Callers.{Callers}
 use Rattle.eevdf_steps.specs.PostLists.{ArePosted, PostList, progress_in}
 use Rattle.eevdf_steps.specs.Recorded.{Recorded}
+use Rattle.eevdf_steps.specs.Openings.{most_lines}
 use Rattle.eevdf_steps.specs.Room.{lines_to_come}
 use Rattle.eevdf_steps.specs.Serial.{IsSerial}
 use Rattle.eevdf_steps.specs.Work.{Work}
@@ -30,5 +31,6 @@ pub record IsPlaying (way : Callers) (lists : List PostList) (requests : List (O
   pub posts : ArePosted way.plan way.counters lists
   pub found : length requests ≡ callers way.plan
   pub work : IsWork way.plan done.work
+  pub reserved : done.journal.room ≡ most_lines way.plan
   pub room : length done.journal.lines + lines_to_come way.plan way.counters lists requests ≤ done.journal.room
   pub serial : IsSerial way.plan way.plan.start way.counters done.work done.journal.lines

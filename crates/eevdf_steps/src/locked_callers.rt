@@ -95,7 +95,7 @@ impl LockedCallers {
         self.callers.home(task)
     }
 
-    /// The home of the task that an operation names, and the caller's CPU where it names none.
+    /// The home to which an operation's task goes or its request is posted, and the caller's CPU for any other operation.
     pub(crate) fn home_for(&self, cpu: CpuId, op: Op) -> CpuId
         requires caller { cpu < callers self.now.plan }
         requires sound { is_sound_op self.now.plan op ≡ true }
@@ -103,8 +103,8 @@ impl LockedCallers {
         ensures below { result < callers self.now.plan }
     {
         match op {
-            Op::Sleep(task) | Op::Post(task) | Op::Renice(task, _) => self.home(task),
-            Op::Tick(_) | Op::Pick | Op::Yield | Op::Pull(_) | Op::Drain => cpu,
+            Op::Sleep(task) | Op::Post(task) => self.home(task),
+            Op::Tick(_) | Op::Pick | Op::Yield | Op::Pull(_) | Op::Renice(_, _) | Op::Drain => cpu,
         }
     }
 

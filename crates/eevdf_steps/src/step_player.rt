@@ -52,8 +52,7 @@ impl Model for Player {
 impl Player {
     /// The callers of a setup, none of whom has done a step. It takes all the memory that they will ever need: room for as
     /// many lines as the programs have operations, and for each pair of CPUs for the requests that the one's program posts
-    /// to the other. No more lines can come, since a post has none of its own, and each line of a drain is the wake of a
-    /// request that was posted.
+    /// to the other.
     pub fn open(alloc: Global, setup: &Setup) -> Result<Player, AllocError>
         ensures { IfOk result (λ a. a ≡ player.player_start setup.now) }
     {

@@ -2,7 +2,7 @@ use Rattle.std.proofs.Common.{◌∙◌, ap}
 use Rattle.std.specs.FinMap.{get}
 use Rattle.eevdf_queue.specs.State.{View}
 use Rattle.eevdf_queue.proofs.Bounds.{range_v}
-use Rattle.eevdf_queue.proofs.run_queue.Queue.is_in_range.Goals as goal
+use Rattle.eevdf_queue.proofs.run_queue.Queue.keeps_in_range.Goals as goal
 
 pub returns : goal.returns
 returns c =
