@@ -1,0 +1,105 @@
+"""Compares what the built programs print for a case with what the plain model says."""
+
+import re
+from dataclasses import dataclass
+
+from plain.bench import answer, order_refusal
+from plain.document import MARK
+from plain.limits import BYTES
+from plain.steps import Player, count_of_steps, play
+from plain.workload import read_workload
+from programs import outcome
+
+LINE = rb"(?:\d+, ){0,31}\d+,\n"
+ORDER = re.compile(rb"order = \[\n(" + rb"(?:(?:\d+, ){31}\d+,\n)*(?:" + LINE + rb")?)\]\n")
+
+
+@dataclass(frozen=True)
+class Difference:
+    what: str
+    said: object
+    expected: object
+
+
+def compared(what, said, expected):
+    return None if said == expected else Difference(what, said, expected)
+
+
+def check_bench(programs, words, data):
+    expected = outcome(*answer(words[0], "--history" in words, data))
+    return compared(f"eevdf {' '.join(words)}", programs.run("eevdf", words, data), expected)
+
+
+def order_in_front(data, text):
+    """The places of the order that stands in front of the workload in a text, or None where it isn't so."""
+    mark = MARK if data.startswith(MARK) else b""
+    rest = data[len(mark):]
+    if not text.startswith(mark) or not text.endswith(rest):
+        return None
+    found = ORDER.fullmatch(text[len(mark):len(text) - len(rest)])
+    if found is None:
+        return None
+    return [int(number) for number in re.findall(rb"\d+", found[1])]
+
+
+def order_in_turn(setup):
+    """The order in which the callers take turns, and who waits for a lock is passed over."""
+    player, order, caller = Player(setup), [], 0
+    for _ in range(count_of_steps(setup)):
+        while player.refusal(caller) is not None:
+            caller = (caller + 1) % setup.cpus()
+        player.step(caller)
+        order.append(caller)
+        caller = (caller + 1) % setup.cpus()
+    return order
+
+
+def check_order(words, data, said):
+    """The output of eevdf_orders: the workload with an order in front that the model plays to its end."""
+    order = order_in_front(data, said.out)
+    if said.status != 0 or said.errors or order is None:
+        return Difference("form of the output of eevdf_orders", said, None)
+    setup = read_workload(data).setup
+    _, fault = play(setup, order)
+    if fault is not None:
+        return Difference("order of eevdf_orders", order, fault)
+    return None if words else compared("order in turn", order, order_in_turn(setup))
+
+
+def check_ordered(programs, words, data):
+    said = programs.run("eevdf_orders", words, data)
+    refusal = order_refusal(data)
+    if refusal is not None:
+        return compared("eevdf_orders", said, outcome(b"", 1, refusal))
+    difference = check_order(words, data, said)
+    if difference is not None or len(said.out) > BYTES:
+        return difference
+    difference = compared("eevdf_orders once more", programs.run("eevdf_orders", words, data), said)
+    return difference or check_bench(programs, ("replay", "--history"), said.out)
+
+
+def check(programs, case):
+    """The first difference between the programs and the model, or None."""
+    if case.program == "eevdf":
+        return check_bench(programs, case.words, case.data)
+    return check_ordered(programs, case.words, case.data)
+
+
+BENCH_USAGE = outcome(b"usage: eevdf solo|replay|run [--history]\n", 2)
+ORDERS_USAGE = outcome(b"usage: eevdf_orders [--seed N]\n", 2)
+OTHER_WORDS = (
+    ("eevdf", ()), ("eevdf", ("stop",)), ("eevdf", ("solo", "replay")), ("eevdf", ("--history",)), ("eevdf", ("Solo",)),
+    ("eevdf", ("--history", "solo")), ("eevdf", ("solo", "--histories")), ("eevdf", ("--help",)), ("eevdf", ("solo", "--help")),
+    ("eevdf", ("help",)), ("eevdf", ("",)), ("eevdf", ("solo", b"\xff")), ("eevdf", ("replay", "file")),
+    ("eevdf_orders", ("7",)), ("eevdf_orders", ("--seed",)), ("eevdf_orders", ("--seed", "-1")), ("eevdf_orders", ("--seed", "")),
+    ("eevdf_orders", ("--seed", "18446744073709551616")), ("eevdf_orders", ("--seed", "1.0")), ("eevdf_orders", ("--help",)),
+    ("eevdf_orders", ("--seed", "x")), ("eevdf_orders", ("--seed", "++1")),
+)
+
+
+def check_words(programs, name, words):
+    """Words that a program doesn't know."""
+    said = programs.run(name, words, b"")
+    if name == "eevdf":
+        return compared("words of eevdf", said, BENCH_USAGE)
+    return compared("words of eevdf_orders", outcome(said.errors + said.out, said.status), ORDERS_USAGE)

@@ -1,0 +1,130 @@
+"""Draws workloads and compares the built programs with the plain model, for a number of seconds."""
+
+import argparse
+import itertools
+import multiprocessing
+import os
+import random
+import sys
+import tempfile
+import time
+from collections import Counter
+from pathlib import Path
+
+from checks import OTHER_WORDS, check, check_words
+from draw.cases import Case, draw
+from plain.limits import VERSIONS
+from programs import Printed, Programs
+
+
+def parse_words():
+    words = argparse.ArgumentParser(description=__doc__)
+    words.add_argument("--seconds", type=float, default=40, help="how long to go on drawing")
+    words.add_argument("--seed", default=str(int.from_bytes(os.urandom(4))), help="what everything is drawn from")
+    words.add_argument("--only", type=int, help="compares only the workload of this number")
+    words.add_argument("--top", default=Path(__file__).parent.parent, help="the checkout whose programs are compared")
+    words.add_argument("--jobs", type=int, default=min(4, os.cpu_count()), help="how many processes compare")
+    words.add_argument("--kind", help="compares only workloads of this kind")
+    words.add_argument("--versions", type=int, nargs="+", default=list(VERSIONS), help="versions that the programs know")
+    return words.parse_args()
+
+
+def bytes_of(value):
+    if isinstance(value, bytes):
+        return value
+    if isinstance(value, Printed):
+        return value.out + b"-- standard error --\n" * bool(value.errors) + value.errors + f"status {value.status}\n".encode()
+    return f"{value}\n".encode()
+
+
+class Comparison:
+    """Counts what was compared, and writes down what differs."""
+
+    def __init__(self, seed, folder):
+        self.seed = seed
+        self.folder = folder
+        self.alike = Counter()
+        self.failed = 0
+
+    def count(self, number, case, difference):
+        if difference is None:
+            self.alike[case.kind] += 1
+            return
+        self.failed += 1
+        self.write(number, case, difference)
+
+    def write(self, number, case, difference):
+        folder = self.folder / str(number)
+        folder.mkdir(parents=True)
+        words = " ".join(map(str, (case.program, *case.words)))
+        (folder / "case").write_text(f"seed {self.seed}, workload {number}, {case.kind}: {words}\n{difference.what}\n")
+        (folder / "workload.toml").write_bytes(case.data)
+        (folder / "program").write_bytes(bytes_of(difference.said))
+        (folder / "model").write_bytes(bytes_of(difference.expected))
+        print(f"FAILED: {difference.what}: {folder}", flush=True)
+
+    def add(self, other):
+        self.alike += other.alike
+        self.failed += other.failed
+
+    def print_counts(self):
+        counts = ", ".join(f"{count} {kind}" for kind, count in sorted(self.alike.items()))
+        print(f"compared alike: {counts}")
+        print(f"{self.alike.total()} passed, {self.failed} failed")
+
+
+def compare_words(comparison, programs):
+    for at, (name, words) in enumerate(OTHER_WORDS):
+        comparison.count(f"words-{at}", Case("words", name, words, b""), check_words(programs, name, words))
+
+
+def compare_one(comparison, programs, words, number):
+    case = draw(random.Random(f"{words.seed} {number}"), words.versions)
+    if words.kind in (None, case.kind):
+        comparison.count(number, case, check(programs, case))
+
+
+def compare_share(words, folder, end, share):
+    """Every so-manieth workload, until the time is over."""
+    comparison, programs = Comparison(words.seed, folder), Programs(words.top)
+    for number in itertools.count(share, words.jobs):
+        if time.monotonic() >= end:
+            return comparison
+        compare_one(comparison, programs, words, number)
+
+
+def compare_drawn(comparison, words):
+    end = time.monotonic() + words.seconds
+    with multiprocessing.Pool(words.jobs) as pool:
+        shares = [(words, comparison.folder, end, share) for share in range(words.jobs)]
+        for other in pool.starmap(compare_share, shares):
+            comparison.add(other)
+
+
+def keep_versions(versions):
+    for version in list(VERSIONS):
+        if version not in versions:
+            del VERSIONS[version]
+
+
+def new_folder():
+    """The folder for what differs; it is made only where something does."""
+    return Path(tempfile.gettempdir()) / f"drawn-{os.getpid()}-{time.time_ns()}"
+
+
+def main():
+    words = parse_words()
+    keep_versions(words.versions)
+    print(f"seed {words.seed}", flush=True)
+    comparison = Comparison(words.seed, new_folder())
+    if words.only is not None:
+        compare_one(comparison, Programs(words.top), words, words.only)
+    else:
+        compare_words(comparison, Programs(words.top))
+        compare_drawn(comparison, words)
+    comparison.print_counts()
+    return 1 if comparison.failed else 0
+
+
+if __name__ == "__main__":
+    sys.exit(main())

@@ -1,0 +1,122 @@
+"""Draws cases: the words of a command and the bytes that it reads."""
+
+from dataclasses import dataclass, replace
+
+from draw import documents, large, machines, orders
+from draw.damage import damaged, is_read_alike
+from draw.texts import text_of_document
+from plain.document import MARK
+
+
+@dataclass(frozen=True)
+class Case:
+    """`program` is eevdf, or eevdf_orders with eevdf behind it."""
+
+    kind: str
+    program: str
+    words: tuple
+    data: bytes
+
+
+def with_mark(dice, data):
+    return MARK + data if dice.random() < 0.03 else data
+
+
+def text_of(dice, document):
+    if dice.random() < 0.15:
+        documents.add_ignored(dice, document)
+    return with_mark(dice, text_of_document(dice, documents.shuffled(dice, document)))
+
+
+def command(dice, name):
+    return (name, "--history") if dice.random() < 0.4 else (name,)
+
+
+def any_command(dice):
+    return command(dice, dice.choice(("solo", "replay")))
+
+
+def solo(dice, version):
+    setup, script = machines.setup(dice, version)
+    order = orders.whole_order(dice, setup) if dice.random() < 0.1 else None
+    document = documents.document(dice, version, setup, order, script)
+    return Case("solo", "eevdf", command(dice, "solo"), text_of(dice, document))
+
+
+def replay_of(dice, version, kind, draw_order):
+    setup, script = machines.setup(dice, version)
+    document = documents.document(dice, version, setup, draw_order(dice, setup), script if dice.random() < 0.1 else None)
+    return Case(kind, "eevdf", command(dice, "replay"), text_of(dice, document))
+
+
+def replay(dice, version):
+    return replay_of(dice, version, "replay", orders.whole_order)
+
+
+def broken(dice, version):
+    return replay_of(dice, version, "broken order", orders.broken_order)
+
+
+def any_document(dice, version):
+    """A lawful document, with an order or a script or both or neither."""
+    setup, script = machines.setup(dice, version)
+    order = orders.whole_order(dice, setup) if dice.random() < 0.5 else None
+    return documents.document(dice, version, setup, order, script if dice.random() < 0.6 else None)
+
+
+def values(dice, version):
+    document = any_document(dice, version)
+    if dice.random() < 0.2:
+        document["version"] = 3 - version
+    documents.spoil(dice, document)
+    data = with_mark(dice, text_of_document(dice, documents.shuffled(dice, document)))
+    return Case("values", "eevdf", any_command(dice), data)
+
+
+def damaged_text(dice, document):
+    """Damaged bytes that both readers are known to read alike, or None."""
+    data = damaged(dice, text_of(dice, document))
+    return data if is_read_alike(data) else None
+
+
+def damage(dice, version):
+    data = None
+    while data is None:
+        data = damaged_text(dice, any_document(dice, version))
+    return Case("bytes", "eevdf", any_command(dice), data)
+
+
+SEEDS = ("0", "1", "+5", "4294967296", "9223372036854775808", "18446744073709551615")
+
+
+def seed_words(dice):
+    share = dice.random()
+    if share < 0.3:
+        return ()
+    return ("--seed", dice.choice(SEEDS) if share < 0.4 else str(dice.randrange(2**64)))
+
+
+def ordered(dice, version):
+    """A workload into which an order is put."""
+    setup, script = machines.setup(dice, version)
+    document = documents.document(dice, version, setup, None, script if dice.random() < 0.1 else None)
+    return Case("ordered", "eevdf_orders", seed_words(dice), text_of(dice, document))
+
+
+def refused(dice, version):
+    """A workload into which an order may not be put."""
+    case = dice.choice((solo, replay, values, damage))(dice, version)
+    return replace(case, kind="ordered or refused", program="eevdf_orders", words=seed_words(dice))
+
+
+def limits(dice, version):
+    program, words, data = large.draw(dice, version)
+    return Case("limits", program, words, data)
+
+
+KINDS = {solo: 26, replay: 18, broken: 10, values: 22, damage: 14, ordered: 12, refused: 5, limits: 0.6}
+
+
+def draw(dice, versions):
+    kind = dice.choices(list(KINDS), list(KINDS.values()))[0]
+    return kind(dice, dice.choice(versions))

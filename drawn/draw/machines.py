@@ -1,0 +1,145 @@
+"""Draws tasks, programs and scripts that the model takes."""
+
+from plain.limits import VERSIONS
+from plain.machine import Setup, Task, queues_at_start, whole
+from plain.numbers import BOUND, charge_of, weight_of
+
+SLICES = (100000, 100001, 3000000, 99999999, 100000000)
+LEVELS = (-20, -19, -5, 0, 0, 1, 5, 19)
+TICKS = (1, 2, 99999, 100000, 3000000, 3000001, 999999999, 1000000000)
+
+
+def level(dice):
+    return dice.choice(LEVELS) if dice.random() < 0.5 else dice.randint(-20, 19)
+
+
+def slice_length(dice):
+    share = dice.random()
+    if share < 0.4:
+        return 3000000
+    return dice.choice(SLICES) if share < 0.6 else int(100000 * 1000 ** dice.random())
+
+
+def tick_length(dice):
+    return dice.choice(TICKS) if dice.random() < 0.4 else int(10 ** (9 * dice.random()))
+
+
+def start_below(dice, nice, length):
+    """A start at or near the last one that the setup takes."""
+    last = BOUND - charge_of(length, weight_of(nice))
+    return last - dice.choice((0, 0, 1, 2, 1000, 10**8))
+
+
+def start(dice, nice, length, far):
+    if far and dice.random() < 0.6:
+        return start_below(dice, nice, length)
+    if far and dice.random() < 0.5:
+        return -BOUND + dice.choice((0, 0, 1, 10**8))
+    if dice.random() < 0.5:
+        return 0
+    return dice.choice((-1, 1)) * int(10 ** (8 * dice.random()))
+
+
+def task(dice, cpus, far):
+    nice, length = level(dice), slice_length(dice)
+    return Task(dice.randrange(cpus), nice, length, start(dice, nice, length, far), dice.random() < 0.2)
+
+
+def sizes(dice, version):
+    """How many CPUs and tasks: mostly few, now and then as many as there may be."""
+    share = dice.random()
+    if share < 0.75:
+        return dice.randint(1, 4), dice.randint(1, 9)
+    cpus = VERSIONS[version].cpus
+    if share < 0.97:
+        return dice.randint(1, cpus), dice.randint(1, 3 * cpus)
+    return dice.choice((1, cpus - 1, cpus)), dice.choice((1, 200))
+
+
+def tasks(dice, cpus, count):
+    far = dice.random() < 0.15
+    return [task(dice, cpus, far) for _ in range(count)]
+
+
+class Script:
+    """Draws deeds one after the other, by the state that those before them leave."""
+
+    def __init__(self, dice, version, setup):
+        self.dice, self.version, self.setup = dice, version, setup
+        self.queues = queues_at_start(setup)
+        self.deeds = []
+
+    def any_task(self):
+        return self.dice.randrange(len(self.setup.tasks))
+
+    def task_among(self, numbers):
+        """Mostly one of the tasks that are named, else any."""
+        numbers = sorted(numbers)
+        return self.dice.choice(numbers) if numbers and self.dice.random() < 0.9 else self.any_task()
+
+    def sleep(self, cpu):
+        running = self.queues[cpu].running
+        return cpu, ("sleep", self.task_among([] if running is None else [running]))
+
+    def renice(self, cpu):
+        return cpu, ("renice", self.task_among(self.queues[cpu].runnable), level(self.dice))
+
+    def wake(self, _cpu):
+        chosen = self.task_among(task for queue in self.queues for task in queue.asleep)
+        return self.setup.tasks[chosen].home, ("wake", chosen, self.dice.randrange(self.setup.cpus()))
+
+    def pull(self, cpu):
+        others = [other for other in range(self.setup.cpus()) if other != cpu]
+        if not others:
+            return cpu, ("pick",)
+        crowded = [other for other in others if len(self.queues[other].runnable) > 1]
+        source = self.dice.choice(crowded if crowded and self.dice.random() < 0.8 else others)
+        return cpu, ("pull", source)
+
+    def tick(self, cpu):
+        return cpu, ("tick", tick_length(self.dice))
+
+    def kind(self):
+        shares = {self.tick: 30, self.wake: 14, self.sleep: 12, self.pull: 12}
+        shares |= {"pick": 24, "yield": 8}
+        if self.version == 2:
+            shares[self.renice] = 14
+        return self.dice.choices(list(shares), list(shares.values()))[0]
+
+    def deed(self):
+        cpu, kind = self.dice.randrange(self.setup.cpus()), self.kind()
+        return (cpu, (kind,)) if isinstance(kind, str) else kind(cpu)
+
+    def draw(self, count):
+        for _ in range(count):
+            cpu, deed = self.deed()
+            whole(self.setup, self.queues, cpu, deed)
+            self.deeds.append((cpu, deed))
+        return self.deeds
+
+
+def length_of_script(dice):
+    return int(2 ** (8 * dice.random())) - 1
+
+
+def programs_of(dice, cpus, deeds):
+    """Programs that come to deeds like those of a script: a wake is a post of its sender and a drain at its home."""
+    programs = [[] for _ in range(cpus)]
+    for cpu, deed in deeds:
+        if deed[0] != "wake":
+            programs[cpu].append(deed)
+            continue
+        programs[deed[2]].append(("post", deed[1]))
+        if dice.random() < 0.7:
+            programs[cpu].append(("drain",))
+    return programs
+
+
+def setup(dice, version):
+    """A setup and a script that it allows."""
+    cpus, count = sizes(dice, version)
+    members = tasks(dice, cpus, count)
+    empty = Setup(members, [[] for _ in range(cpus)])
+    script = Script(dice, version, empty).draw(length_of_script(dice))
+    like = Script(dice, version, empty).draw(length_of_script(dice))
+    return Setup(members, programs_of(dice, cpus, like)), script

@@ -1,0 +1,121 @@
+"""Setups, deeds and whole operations: "The machine" of docs/model.md.
+
+An operation and a deed are tuples: ("tick", N), ("pick",), ("yield",), ("sleep", T), ("pull", S), ("renice", T, N),
+("post", T), ("drain",), and of deeds alone ("wake", T, Q). A deed stands beside the number of its CPU.
+"""
+
+from dataclasses import dataclass
+
+from plain.numbers import weight_of
+from plain.queue import Queue
+
+
+@dataclass(frozen=True)
+class Task:
+    home: int = 0
+    nice: int = 0
+    length: int = 3000000
+    start: int = 0
+    asleep: bool = False
+
+
+@dataclass(frozen=True)
+class Setup:
+    tasks: list
+    programs: list
+
+    def cpus(self):
+        return len(self.programs)
+
+
+def queues_at_start(setup):
+    queues = [Queue() for _ in setup.programs]
+    for number, task in enumerate(setup.tasks):
+        if task.asleep:
+            queues[task.home].put_asleep(number, task.nice, task.length, 0)
+        else:
+            queues[task.home].admit(number, task.nice, task.length, task.start)
+    return queues
+
+
+def is_allowed(setup, cpu, deed):
+    if cpu >= setup.cpus():
+        return False
+    name, operands = deed[0], deed[1:]
+    if name in ("sleep", "renice"):
+        return operands[0] < len(setup.tasks)
+    if name == "wake":
+        task, sender = operands
+        return task < len(setup.tasks) and sender < setup.cpus() and setup.tasks[task].home == cpu
+    if name == "pull":
+        return operands[0] < setup.cpus() and operands[0] != cpu
+    return True
+
+
+def pull_refusal(queues, cpu, source):
+    """Why a pull takes nobody, or None where it takes the candidate."""
+    task = queues[source].candidate()
+    if task is None:
+        return "nothing"
+    entry = queues[source].runnable[task]
+    if not queues[cpu].load() + weight_of(entry.nice) < queues[source].load():
+        return "balanced"
+    if not queues[cpu].can_place(entry.nice, entry.length, queues[source].lag_of(task)):
+        return "range"
+    return None
+
+
+def sleep(setup, queues, cpu, task):
+    if queues[cpu].running != task:
+        return "not running"
+    carried = queues[cpu].leave(task)
+    queues[setup.tasks[task].home].put_asleep(task, carried.nice, carried.length, carried.lag)
+    return f"slept {carried.lag}"
+
+
+def pull(queues, cpu, source):
+    refusal = pull_refusal(queues, cpu, source)
+    if refusal is not None:
+        return refusal
+    carried = queues[source].leave(queues[source].candidate())
+    queues[cpu].put(carried.task, carried.nice, carried.length, carried.lag)
+    return f"pulled {carried.task}"
+
+
+def own_deed(queue, deed):
+    """A deed on the queue of its own CPU alone."""
+    name, operands = deed[0], deed[1:]
+    if name == "tick":
+        return queue.tick(*operands)
+    if name == "pick":
+        return queue.pick()
+    if name == "yield":
+        return queue.yield_now()
+    if name == "renice":
+        return queue.renice(*operands)
+    task, _sender = operands
+    return queue.wake(task)
+
+
+def whole(setup, queues, cpu, deed):
+    """Does a deed at once, and gives its answer."""
+    if deed[0] == "sleep":
+        return sleep(setup, queues, cpu, deed[1])
+    if deed[0] == "pull":
+        return pull(queues, cpu, deed[1])
+    return own_deed(queues[cpu], deed)
+
+
+@dataclass(frozen=True)
+class Outcome:
+    """Lines (CPU, deed, answer), the queues, and the requests left, by sender and home."""
+
+    lines: list
+    queues: list
+    left: dict
+
+
+def one_thread(setup, script):
+    queues = queues_at_start(setup)
+    lines = [(cpu, deed, whole(setup, queues, cpu, deed)) for cpu, deed in script]
+    return Outcome(lines, queues, {})

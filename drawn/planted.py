@@ -1,0 +1,150 @@
+"""Plants wrong bodies into copies of the crates, one at a time, and looks whether the comparison finds each.
+
+A wrong body can't be built, since only proved crates are. `rt try` runs a program without its proofs, on files with the words
+and the output that are expected beside them: here drawn workloads, with the words and the output that the plain model has.
+"""
+
+import argparse
+import random
+import re
+import shutil
+import subprocess
+import sys
+import tempfile
+from pathlib import Path
+
+from draw.cases import draw
+from plain.bench import answer
+from plain.limits import VERSIONS
+
+TOP = Path(__file__).resolve().parent.parent
+
+WRONG_BODIES = (
+    "eevdf_queue/eligible-at-the-next-unit",
+    "eevdf_queue/equal-deadlines-out-of-order",
+    "eevdf_queue/lag-limited-above-only",
+    "eevdf_queue/tick-without-range",
+    "eevdf_queue/candidate-may-run",
+    "eevdf_queue/base-kept-on-leaving",
+    "eevdf_queue/reniced-task-stops-running",
+    "eevdf_ops/pull_tries_the_range_first",
+    "eevdf_ops/sleep_where_it_ran",
+    "eevdf_ops/start_wakes_everybody",
+)
+
+
+def parse_words():
+    words = argparse.ArgumentParser(description=__doc__)
+    words.add_argument("--seed", default="1", help="what the workloads are drawn from")
+    words.add_argument("--count", type=int, default=1000, help="how many workloads are drawn")
+    words.add_argument("bodies", nargs="*", default=WRONG_BODIES, help="the edits: CRATE/NAME of crates/CRATE/must-fail/NAME.edit")
+    return words.parse_args()
+
+
+# The workloads.
+
+def is_for_a_try(case):
+    return case.program == "eevdf" and case.kind != "limits" and len(case.data) < 20000
+
+
+def drawn_cases(seed, count):
+    number = 0
+    while count > 0:
+        case = draw(random.Random(f"{seed} {number}"), list(VERSIONS))
+        number += 1
+        if is_for_a_try(case):
+            count -= 1
+            yield case
+
+
+def write_cases(folder, seed, count):
+    for at, case in enumerate(drawn_cases(seed, count)):
+        file = folder / str(at)
+        file.write_bytes(case.data)
+        file.with_suffix(".args").write_text("".join(f"{word}\n" for word in case.words))
+        printed, _status = answer(case.words[0], "--history" in case.words, case.data)
+        file.with_suffix(".stdout").write_bytes(printed)
+
+
+# The wrong bodies.
+
+def edits_of(body):
+    """The edits (file, old text, new text) of a wrong body."""
+    crate, name = body.split("/")
+    lines = (TOP / "crates" / crate / "must-fail" / f"{name}.edit").read_text().splitlines()
+    edits, file, old = [], None, None
+    for key, text in (line.split(": ", 1) for line in lines if line):
+        if key == "file":
+            file = f"crates/{crate}/{text}"
+        elif key == "old":
+            old = text
+        else:
+            edits.append((file, old, text))
+    return edits
+
+
+def plant(copy, edits):
+    for file, old, new in edits:
+        text = (copy / file).read_text()
+        if text.count(old) != 1:
+            sys.exit(f"the old text of an edit doesn't stand once in {file}: {old}")
+        (copy / file).write_text(text.replace(old, new))
+
+
+def copy_crates(copy):
+    shutil.copytree(TOP / "crates", copy / "crates", ignore=shutil.ignore_patterns("out"))
+    for file in ("crates.txt", "HANDLES"):
+        shutil.copy(TOP / file, copy)
+
+
+# The tries.
+
+LAST = re.compile(r"^cases=(\d+) ended=(\d+) fault=(\d+) differs=(\d+) no-answer=(\d+) proved=no$", re.MULTILINE)
+
+
+def try_cases(copy, cases):
+    """How many cases of a copy's program end as expected, and how many don't, or None where the try itself failed."""
+    words = ["rt", "try", "--cases", str(cases)]
+    run = subprocess.run(words, cwd=copy / "crates" / "eevdf", capture_output=True, text=True, errors="replace")
+    found = LAST.search(run.stderr)
+    if found is None:
+        print(run.stderr[-2000:])
+        return None
+    count, ended = int(found[1]), int(found[2])
+    return ended, count - ended
+
+
+def try_body(body, cases):
+    with tempfile.TemporaryDirectory(prefix="planted-") as folder:
+        copy = Path(folder)
+        copy_crates(copy)
+        plant(copy, edits_of(body) if body else [])
+        return try_cases(copy, cases)
+
+
+def is_as_wanted(body, result):
+    """Whether all cases of the right bodies are as expected, or some case finds the wrong one."""
+    if result is None:
+        return False
+    _alike, different = result
+    return different > 0 if body else different == 0
+
+
+def report_body(body, result):
+    passed = is_as_wanted(body, result)
+    told = "the try failed" if result is None else f"{result[0]} workloads alike, {result[1]} different"
+    print(f"{'passed' if passed else 'FAILED'}: {body or 'no wrong body'}: {told}", flush=True)
+    return passed
+
+
+def main():
+    words = parse_words()
+    with tempfile.TemporaryDirectory(prefix="planted-cases-") as folder:
+        write_cases(Path(folder), words.seed, words.count)
+        results = [report_body(body, try_body(body, Path(folder))) for body in (None, *words.bodies)]
+    print(f"{results.count(True)} passed, {results.count(False)} failed")
+    return 0 if all(results) else 1
+
+
+if __name__ == "__main__":
+    sys.exit(main())

@@ -1,0 +1,12 @@
+#!/usr/bin/env bash
+# drawn/run.sh [SECONDS] [SEED]: compares the built programs with the plain model on drawn workloads, for so many
+# seconds (40). The last line is 'N passed, M failed'. TOP names another checkout whose programs are compared.
+set -u
+here=$(cd "$(dirname "$0")" && pwd)
+top=${TOP:-$here/..}
+
+# builds a program that isn't built yet; its words are none that it knows, so it does nothing else
+for name in eevdf eevdf_orders; do
+  [ -n "${TOP:-}" ] || "$top/launch" "$name" words of nobody >/dev/null
+done
+exec python3 -B "$here/compare.py" --top "$top" --seconds "${1:-40}" ${2:+--seed "$2"}
