@@ -88,12 +88,13 @@ def check(programs, case):
 BENCH_USAGE = outcome(b"usage: eevdf solo|replay|run [--history]\n", 2)
 ORDERS_USAGE = outcome(b"usage: eevdf_orders [--seed N]\n", 2)
 OTHER_WORDS = (
-    ("eevdf", ()), ("eevdf", ("stop",)), ("eevdf", ("solo", "replay")), ("eevdf", ("--history",)), ("eevdf", ("Solo",)),
-    ("eevdf", ("--history", "solo")), ("eevdf", ("solo", "--histories")), ("eevdf", ("--help",)), ("eevdf", ("solo", "--help")),
-    ("eevdf", ("help",)), ("eevdf", ("",)), ("eevdf", ("solo", b"\xff")), ("eevdf", ("replay", "file")),
-    ("eevdf_orders", ("7",)), ("eevdf_orders", ("--seed",)), ("eevdf_orders", ("--seed", "-1")), ("eevdf_orders", ("--seed", "")),
-    ("eevdf_orders", ("--seed", "18446744073709551616")), ("eevdf_orders", ("--seed", "1.0")), ("eevdf_orders", ("--help",)),
-    ("eevdf_orders", ("--seed", "x")), ("eevdf_orders", ("--seed", "++1")),
+    ("eevdf", ()), ("eevdf", ("stop",)), ("eevdf", ("Solo",)), ("eevdf", ("",)), ("eevdf", ("help",)),
+    ("eevdf", ("--help",)), ("eevdf", ("solo", "--help")), ("eevdf", ("--history",)), ("eevdf", ("--history", "solo")),
+    ("eevdf", ("solo", "replay")), ("eevdf", ("solo", "--histories")),
+    ("eevdf", ("solo", b"\xff")), ("eevdf", ("replay", "file")),
+    ("eevdf_orders", ("7",)), ("eevdf_orders", ("--help",)), ("eevdf_orders", ("--seed",)), ("eevdf_orders", ("--seed", "")),
+    ("eevdf_orders", ("--seed", "-1")), ("eevdf_orders", ("--seed", "1.0")), ("eevdf_orders", ("--seed", "x")),
+    ("eevdf_orders", ("--seed", "++1")), ("eevdf_orders", ("--seed", "18446744073709551616")),
 )
 
 

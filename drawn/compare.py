@@ -13,7 +13,6 @@ from pathlib import Path
 
 from checks import OTHER_WORDS, check, check_words
 from draw.cases import Case, draw
-from plain.limits import VERSIONS
 from programs import Printed, Programs
 
 
@@ -24,8 +23,6 @@ def parse_words():
     words.add_argument("--only", type=int, help="compares only the workload of this number")
     words.add_argument("--top", default=Path(__file__).parent.parent, help="the checkout whose programs are compared")
     words.add_argument("--jobs", type=int, default=min(4, os.cpu_count()), help="how many processes compare")
-    words.add_argument("--kind", help="compares only workloads of this kind")
-    words.add_argument("--versions", type=int, nargs="+", default=list(VERSIONS), help="versions that the programs know")
     return words.parse_args()
 
 
@@ -33,7 +30,8 @@ def bytes_of(value):
     if isinstance(value, bytes):
         return value
     if isinstance(value, Printed):
-        return value.out + b"-- standard error --\n" * bool(value.errors) + value.errors + f"status {value.status}\n".encode()
+        errors = b"standard error:\n" + value.errors if value.errors else b""
+        return value.out + errors + f"status {value.status}\n".encode()
     return f"{value}\n".encode()
 
 
@@ -79,13 +77,12 @@ def compare_words(comparison, programs):
 
 
 def compare_one(comparison, programs, words, number):
-    case = draw(random.Random(f"{words.seed} {number}"), words.versions)
-    if words.kind in (None, case.kind):
-        comparison.count(number, case, check(programs, case))
+    case = draw(random.Random(f"{words.seed} {number}"))
+    comparison.count(number, case, check(programs, case))
 
 
 def compare_share(words, folder, end, share):
-    """Every so-manieth workload, until the time is over."""
+    """Compares the workloads whose numbers are a share's, until the time is over."""
     comparison, programs = Comparison(words.seed, folder), Programs(words.top)
     for number in itertools.count(share, words.jobs):
         if time.monotonic() >= end:
@@ -101,12 +98,6 @@ def compare_drawn(comparison, words):
             comparison.add(other)
 
 
-def keep_versions(versions):
-    for version in list(VERSIONS):
-        if version not in versions:
-            del VERSIONS[version]
-
-
 def new_folder():
     """The folder for what differs; it is made only where something does."""
     return Path(tempfile.gettempdir()) / f"drawn-{os.getpid()}-{time.time_ns()}"
@@ -114,7 +105,6 @@ def new_folder():
 
 def main():
     words = parse_words()
-    keep_versions(words.versions)
     print(f"seed {words.seed}", flush=True)
     comparison = Comparison(words.seed, new_folder())
     if words.only is not None:

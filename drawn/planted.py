@@ -1,7 +1,7 @@
 """Plants wrong bodies into copies of the crates, one at a time, and looks whether the comparison finds each.
 
-A wrong body can't be built, since only proved crates are. `rt try` runs a program without its proofs, on files with the words
-and the output that are expected beside them: here drawn workloads, with the words and the output that the plain model has.
+A wrong body can't be built, since only proved crates are. `rt try` runs a program without its proofs, on files with words
+and an expected output beside them: here drawn workloads with the words of their command and the output of the plain model.
 """
 
 import argparse
@@ -11,17 +11,18 @@ import shutil
 import subprocess
 import sys
 import tempfile
+from concurrent.futures import ThreadPoolExecutor
+from functools import partial
 from pathlib import Path
 
 from draw.cases import draw
 from plain.bench import answer
-from plain.limits import VERSIONS
 
 TOP = Path(__file__).resolve().parent.parent
 
 WRONG_BODIES = (
     "eevdf_queue/eligible-at-the-next-unit",
-    "eevdf_queue/equal-deadlines-out-of-order",
+    "eevdf_queue/mean-towards-zero",
     "eevdf_queue/lag-limited-above-only",
     "eevdf_queue/tick-without-range",
     "eevdf_queue/candidate-may-run",
@@ -36,21 +37,23 @@ WRONG_BODIES = (
 def parse_words():
     words = argparse.ArgumentParser(description=__doc__)
     words.add_argument("--seed", default="1", help="what the workloads are drawn from")
-    words.add_argument("--count", type=int, default=1000, help="how many workloads are drawn")
-    words.add_argument("bodies", nargs="*", default=WRONG_BODIES, help="the edits: CRATE/NAME of crates/CRATE/must-fail/NAME.edit")
+    words.add_argument("--count", type=int, default=150, help="how many workloads are drawn")
+    words.add_argument("--jobs", type=int, default=2, help="how many bodies are tried at a time")
+    words.add_argument("bodies", nargs="*", default=WRONG_BODIES, help="CRATE/NAME of crates/CRATE/must-fail/NAME.edit")
     return words.parse_args()
 
 
 # The workloads.
 
 def is_for_a_try(case):
-    return case.program == "eevdf" and case.kind != "limits" and len(case.data) < 20000
+    """Scripts and orders of some length: each try takes a third of a second, however short the workload is."""
+    return case.kind in ("solo", "replay") and 800 < len(case.data) < 20000
 
 
 def drawn_cases(seed, count):
     number = 0
     while count > 0:
-        case = draw(random.Random(f"{seed} {number}"), list(VERSIONS))
+        case = draw(random.Random(f"{seed} {number}"))
         number += 1
         if is_for_a_try(case):
             count -= 1
@@ -103,18 +106,19 @@ LAST = re.compile(r"^cases=(\d+) ended=(\d+) fault=(\d+) differs=(\d+) no-answer
 
 
 def try_cases(copy, cases):
-    """How many cases of a copy's program end as expected, and how many don't, or None where the try itself failed."""
-    words = ["rt", "try", "--cases", str(cases)]
+    """How many workloads there are, how many end as expected, and how many otherwise; None where the try failed."""
+    # Steps are those of an interpreter, which can't run this program: the run that is compiled with checks answers.
+    words = ["rt", "try", "--steps", "1", "--cases", str(cases)]
     run = subprocess.run(words, cwd=copy / "crates" / "eevdf", capture_output=True, text=True, errors="replace")
     found = LAST.search(run.stderr)
     if found is None:
         print(run.stderr[-2000:])
         return None
-    count, ended = int(found[1]), int(found[2])
-    return ended, count - ended
+    count, alike, faults, different, _unanswered = map(int, found.groups())
+    return count, alike, faults + different
 
 
-def try_body(body, cases):
+def try_body(cases, body):
     with tempfile.TemporaryDirectory(prefix="planted-") as folder:
         copy = Path(folder)
         copy_crates(copy)
@@ -126,22 +130,23 @@ def is_as_wanted(body, result):
     """Whether all cases of the right bodies are as expected, or some case finds the wrong one."""
     if result is None:
         return False
-    _alike, different = result
-    return different > 0 if body else different == 0
+    count, alike, different = result
+    return different > 0 if body else alike == count
 
 
 def report_body(body, result):
     passed = is_as_wanted(body, result)
-    told = "the try failed" if result is None else f"{result[0]} workloads alike, {result[1]} different"
+    told = "the try failed" if result is None else f"of {result[0]} workloads {result[2]} different"
     print(f"{'passed' if passed else 'FAILED'}: {body or 'no wrong body'}: {told}", flush=True)
     return passed
 
 
 def main():
     words = parse_words()
-    with tempfile.TemporaryDirectory(prefix="planted-cases-") as folder:
+    bodies = (None, *words.bodies)
+    with tempfile.TemporaryDirectory(prefix="planted-cases-") as folder, ThreadPoolExecutor(words.jobs) as pool:
         write_cases(Path(folder), words.seed, words.count)
-        results = [report_body(body, try_body(body, Path(folder))) for body in (None, *words.bodies)]
+        results = list(map(report_body, bodies, pool.map(partial(try_body, Path(folder)), bodies)))
     print(f"{results.count(True)} passed, {results.count(False)} failed")
     return 0 if all(results) else 1
 

@@ -21,5 +21,8 @@ class Programs:
         self.paths = {name: Path(top) / "crates" / name / "out" / name for name in ("eevdf", "eevdf_orders")}
 
     def run(self, name, words, data):
-        run = subprocess.run([self.paths[name], *words], input=data, capture_output=True, timeout=300)
+        try:
+            run = subprocess.run([self.paths[name], *words], input=data, capture_output=True, timeout=60)
+        except subprocess.TimeoutExpired:
+            return Printed(b"", b"no end after 60 seconds", -1)
         return Printed(run.stdout, run.stderr, run.returncode)

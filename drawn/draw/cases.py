@@ -6,6 +6,7 @@ from draw import documents, large, machines, orders
 from draw.damage import damaged, is_read_alike
 from draw.texts import text_of_document
 from plain.document import MARK
+from plain.limits import VERSIONS
 
 
 @dataclass(frozen=True)
@@ -117,6 +118,6 @@ def limits(dice, version):
 KINDS = {solo: 26, replay: 18, broken: 10, values: 22, damage: 14, ordered: 12, refused: 5, limits: 0.6}
 
 
-def draw(dice, versions):
+def draw(dice):
     kind = dice.choices(list(KINDS), list(KINDS.values()))[0]
-    return kind(dice, dice.choice(versions))
+    return kind(dice, dice.choice(list(VERSIONS)))

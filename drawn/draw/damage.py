@@ -46,7 +46,8 @@ def move_line(dice, data):
     return on_lines(dice, data, lambda lines, at: lines.insert(dice.randrange(len(lines)), lines.pop(at)))
 
 
-WAYS = (cut, cut_in_front, change, change, change, insert, insert, drop, drop, double_line, double_line, drop_line, move_line)
+WAYS = (cut, cut_in_front, change, change, change, insert, insert, drop, drop,
+        double_line, double_line, drop_line, move_line)
 
 
 def damaged(dice, data):
@@ -60,7 +61,7 @@ DIFFERENT = re.compile(rb"""
     \\[ex]                         # two escapes of 1.1
     | [0-9]{2}:[0-9]{2}            # times, also without seconds
     | [0-9]{4}-[0-9]{2}-[0-9]{2}   # dates
-    | \{[^}]*[\r\n{]               # a second line in an inline table, or a table in it that may have one behind it
+    | \{[^}]*[\r\n{]               # a second line in an inline table, or one table in another
     | ,[ \t]*\}                    # a comma at the end of an inline table
     | [eE][+-]?[0-9_]{3}           # a real number that may be too large for 64 bits
 """, re.VERBOSE)

@@ -34,13 +34,15 @@ def document(dice, version, setup, order=None, script=None):
 
 # What can be wrong in it.
 
-ODD_NUMBERS = (-1, 0, 1, 2, 3, 15, 16, 17, 18, 19, 20, 21, -19, -20, -21, 63, 64, 65, 99999, 100000, 100000000, 100000001,
-               1023, 1024, BOUND, BOUND - 1, BOUND + 1, -BOUND, -BOUND - 1, 2**63 - 1, -(2**63), 2**63, 2**64)
+ODD_NUMBERS = (-1, 0, 1, 2, 3, 15, 16, 17, 18, 19, 20, 21, -19, -20, -21, 63, 64, 65, 1023, 1024, 99999, 100000,
+               100000000, 100000001, BOUND - 1, BOUND, BOUND + 1, -BOUND, -BOUND - 1, 2**63 - 1, -(2**63), 2**63, 2**64)
 DATES = (datetime.date(1979, 5, 27), datetime.time(7, 32, 0), datetime.datetime(1979, 5, 27, 7, 32, 0))
-ODD_VALUES = (True, False, 0.0, 1.0, -2.5, "", "0", "1", "pick", "0 pick", [], [0], ["pick"], [[]], {}, {"home": 0}, *DATES)
+ODD_VALUES = (True, False, 0.0, 1.0, -2.5, "", "0", "1", "pick", "0 pick", [], [0], ["pick"], [[]], {}, {"home": 0},
+              *DATES)
 ODD_WORDS = (
-    "", " ", "0", "pick ", " pick", "Pick", "pick\t", "pick\n", "picks", "pi", "pick 0", "yield", "drain", "0 drain", "stop",
-    "tick", "tick ", "tick 0", "tick 1", "tick 01", "tick +5", "tick -5", "tick  5", "tick 5 ", "tick 5 5", "tick 1000000000",
+    "", " ", "0", "pick ", " pick", "Pick", "pick\t", "pick\n", "picks", "pi", "pick 0", "yield", "drain", "0 drain",
+    "stop", "tick", "tick ", "tick 0", "tick 1", "tick 01", "tick +5", "tick -5", "tick  5", "tick 5 ", "tick 5 5",
+    "tick 1000000000",
     "tick 1000000001", "tick 4294967296", "tick 9223372036854775808", "tick 18446744073709551616", "tick 18446744073709551617",
     "tick 1" + "0" * 40, "tick \u0661", "tick \uff11", "tick 5\u00a0", "tick 0x5", "tick 5.0", "tick 1_0",
     "sleep", "sleep 0", "sleep 1023", "sleep 1024", "sleep 00", "post 0", "post 1023", "post 1024", "0 post 0",
@@ -139,8 +141,10 @@ def spoil(dice, document):
             dice.choice((spoil_value, spoil_value, spoil_by_absence, spoil_by_doubling))(dice, document)
 
 
-IGNORED_VALUES = (0, -5, 2**63 - 1, 1.5, float("inf"), True, "text", "", [], [1, [2, ["three"]]], {}, {"version": 3}, "\u00e9\u4e2d", *DATES)
-IGNORED_KEYS = ("note", "Version", "tasks", "programs", "orders", "scripts", "versio", "a key", "\u00fc", "", "note.more", "home")
+IGNORED_VALUES = (0, -5, 2**63 - 1, 1.5, float("inf"), True, "text", "\u00e9\u4e2d", "", [], [1, [2, ["three"]]],
+                  {}, {"version": 3}, *DATES)
+IGNORED_KEYS = ("note", "Version", "tasks", "programs", "orders", "scripts", "versio", "a key", "\u00fc", "", "note.more",
+                "home")
 
 
 def add_ignored(dice, document):

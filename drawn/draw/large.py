@@ -21,23 +21,23 @@ def programs_of(*lengths, operation="pick"):
     return "program = [" + ",".join("[" + f'"{operation}",' * length + "]" for length in lengths) + "]"
 
 
-def past(dice, limit):
+def limit_or_past(dice, limit):
     """A limit, or one more."""
     return limit + dice.randrange(2)
 
 
 def cpus(dice, version):
-    count = past(dice, dice.choice((0, 16, VERSIONS[version].cpus)))
+    count = limit_or_past(dice, dice.choice((0, 16, VERSIONS[version].cpus)))
     return "eevdf", ("solo",), workload(version, empty_programs(count) + "\n" + script(0))
 
 
 def tasks(dice, version):
-    count = past(dice, dice.choice((0, TASKS)))
+    count = limit_or_past(dice, dice.choice((0, TASKS)))
     return "eevdf", ("solo",), workload(version, "task = []\n" * (count == 0) + empty_programs(1) + "\n" + script(2), count)
 
 
 def operations(dice, version):
-    lengths = [past(dice, OPERATIONS) if dice.random() < 0.5 else dice.randrange(3) for _ in range(dice.randint(1, 3))]
+    lengths = [dice.choice((0, 1, limit_or_past(dice, OPERATIONS))) for _ in range(dice.randint(1, 3))]
     return "eevdf", ("replay",), workload(version, programs_of(*lengths) + "\norder = []")
 
 
@@ -55,26 +55,26 @@ def long_order(dice, version):
 
 
 def too_many_places(dice, version):
-    count = past(dice, PLACES)
+    count = limit_or_past(dice, PLACES)
     order = "order = [" + "9," + "0," * (count - 1) + "]"
     return "eevdf", ("replay",), workload(version, empty_programs(1) + "\n" + order)
 
 
 def deeds(dice, version):
-    count = past(dice, dice.choice((160000, VERSIONS[version].deeds)))
+    count = limit_or_past(dice, dice.choice((160000, VERSIONS[version].deeds)))
     return "eevdf", ("solo",), workload(version, empty_programs(1) + "\n" + script(count))
 
 
 def many_bytes(dice, version):
     """A text of the greatest length, or one byte more, with a comment for most of it."""
     text = workload(version, empty_programs(1) + "\n" + script(3))
-    return "eevdf", ("solo",), text + b"#" * (past(dice, BYTES) - len(text))
+    return "eevdf", ("solo",), text + b"#" * (limit_or_past(dice, BYTES) - len(text))
 
 
 def many_bytes_through_orders(dice, version):
     """A text that the workbench takes, and for whose length with an order nothing is promised, or one byte too many."""
     text = workload(version, programs_of(1))
-    return "eevdf_orders", (), text + b"#" * (past(dice, BYTES) - len(text))
+    return "eevdf_orders", (), text + b"#" * (limit_or_past(dice, BYTES) - len(text))
 
 
 SMALL = (cpus, tasks, operations)

@@ -46,10 +46,12 @@ def task(dice, cpus, far):
 
 
 def sizes(dice, version):
-    """How many CPUs and tasks: mostly few, now and then as many as there may be."""
+    """How many CPUs and tasks: mostly few, now and then many tasks on few CPUs, or as many CPUs as there may be."""
     share = dice.random()
-    if share < 0.75:
+    if share < 0.7:
         return dice.randint(1, 4), dice.randint(1, 9)
+    if share < 0.82:
+        return dice.randint(1, 2), dice.randint(10, 60)
     cpus = VERSIONS[version].cpus
     if share < 0.97:
         return dice.randint(1, cpus), dice.randint(1, 3 * cpus)

@@ -29,7 +29,8 @@ class Style:
     def comment(self):
         if not self.happens(self.comments):
             return ""
-        return self.dice.choice((" # ", "#", "\t#")) + self.dice.choice(("", "a note", "\"", "'[", "\u00e9", "]}", "version = 2"))
+        text = self.dice.choice(("", "a note", "\"", "'[", "\u00e9", "]}", "version = 2"))
+        return self.dice.choice((" # ", "#", "\t#")) + text
 
     # Keys and simple values.
 
@@ -46,14 +47,15 @@ class Style:
 
     def string(self, text, may_be_long=True):
         printable = all(ord(letter) >= 32 and ord(letter) != 127 for letter in text)
+        literal = printable and "'" not in text
         form = self.dice.randrange(4 if may_be_long else 2) if self.happens(self.odd_strings) else 0
-        if form == 1 and printable and "'" not in text:
+        if form == 1 and literal:
             return f"'{text}'"
-        if form == 2 and printable and "'" not in text:
-            return f"'''{self.dice.choice(('', chr(10)))}{text}'''"
+        if form == 2 and literal:
+            return "'''" + self.dice.choice(("", "\n")) + text + "'''"
         body = "".join(map(self.escaped, text))
-        if form == 3:
-            return f'"""{self.dice.choice(("", chr(10), chr(92) + chr(10) + " "))}{body}"""' if body[:1] != " " else f'"{body}"'
+        if form == 3 and not body.startswith(" "):
+            return '"""' + self.dice.choice(("", "\n", "\\\n ")) + body + '"""'
         return f'"{body}"'
 
     def number(self, number):
@@ -69,20 +71,19 @@ class Style:
 
     # Arrays and tables.
 
+    def line_end(self):
+        return self.comment() + "\n" + self.gap()
+
     def array(self, values, inside):
-        many = not inside and self.happens(self.many_lines)
-        between = (lambda: self.comment() + "\n" + self.gap()) if many else lambda: self.gap()
         parts = [self.gap() + self.value(value, inside) + self.gap() for value in values]
-        body = ",".join(part + ("" if not many else "") for part in parts) if not many else ""
-        if many:
-            body = "".join(between() + part + "," for part in parts) + between()
-        elif parts and self.happens(self.spaces):
-            body += ","
-        return f"[{body}]"
+        if not inside and self.happens(self.many_lines):
+            return "[" + "".join(self.line_end() + part + "," for part in parts) + self.line_end() + "]"
+        comma = "," if parts and self.happens(self.spaces) else ""
+        return "[" + ",".join(parts) + comma + "]"
 
     def inline_table(self, table):
-        pairs = [f"{self.gap()}{self.key(key)}{self.gap()} = {self.value(value, True)}{self.gap()}" for key, value in table.items()]
-        return "{" + ",".join(pairs) + "}"
+        pairs = [f"{self.key(key)}{self.gap()} = {self.value(value, True)}" for key, value in table.items()]
+        return "{" + ",".join(self.gap() + pair + self.gap() for pair in pairs) + "}"
 
     def value(self, value, inside=False):
         """`inside` an inline table no value takes a second line."""
@@ -117,7 +118,11 @@ class Style:
         return f"{gap}[[{gap}{self.key(key)}{gap}]]{self.comment()}\n"
 
     def tables_of_tasks(self, tables):
-        return "".join(self.blank() + self.header("task") + self.pairs(table) for table in tables)
+        return "".join(self.blank() + self.header("task") + self.pairs(table) + self.table_below() for table in tables)
+
+    def table_below(self):
+        """Now and then a table of the task that the workbench ignores."""
+        return self.dice.choice(("[task.note]\nhome = 99\n", "[[task.notes]]\n")) if self.dice.random() < 0.02 else ""
 
     def document(self, document):
         tables = document.get("task")
@@ -126,6 +131,8 @@ class Style:
         text = self.pairs({key: value for key, value in document.items() if key != "task" or not apart})
         if apart:
             text += self.tables_of_tasks(tables)
+        if self.dice.random() < 0.03:
+            text += "[note]\nversion = 3\n[note.task]\n"
         text = text.replace("\n", self.newline)
         return text if self.last_newline else text.rstrip("\r\n")
 
