@@ -1,0 +1,3 @@
+pub mod Totals
+pub mod Told
+pub mod Boards

@@ -1,0 +1,17 @@
+use Rattle.std.proofs.Common.{◌≡◌, ◌<◌, List, [], ◌∷◌, refl, arith, rules}
+use mathlib.Core.Option.{some, none}
+use Rattle.eevdf_fleet.specs.declared.board.claims.Terms.{Terms}
+use Rattle.eevdf_fleet.specs.declared.board.claims.View.{View}
+use Rattle.eevdf_fleet.specs.declared.board.claims.Claim.{Claim}
+use Rattle.eevdf_fleet.specs.Claims.{knowing}
+use Rattle.eevdf_fleet.specs.Board.{claims_of}
+use Rattle.eevdf_fleet.proofs.Boards.{appends_as}
+use Rattle.eevdf_fleet.proofs.board.Board.append.Goals as goal
+
+pub compare_exchange_with-requires : goal.compare_exchange_with-requires
+compare_exchange_with-requires c =
+    let t : Terms = c.args.self.now.table.shared.key in
+    let view : c.into_seat-seat.result.me.0 ≡ knowing t (claims_of c.args.token) = cc in
+    let bare : c.into_seat-seat.result.me.1 ≡ [] = cc in
+    let of : c.into_seat-seat.result.table_id ≡ c.args.self.now.table.shared.table_id = cc in
+    (of, omega arith, appends_as t _ _ c.into_seat-seat.result.me (claims_of c.args.token) c.args.said.now view bare c.requires.owed)

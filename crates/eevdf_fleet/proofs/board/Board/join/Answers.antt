@@ -1,0 +1,19 @@
+use Rattle.std.proofs.Common.{◌≡◌, ◌<◌, List, [], ◌∷◌, refl, arith, rules}
+use mathlib.Core.Option.{some, none}
+use Rattle.eevdf_fleet.specs.declared.board.claims.Terms.{Terms}
+use Rattle.eevdf_fleet.specs.declared.board.claims.View.{View}
+use Rattle.eevdf_fleet.specs.declared.board.claims.Claim.{Claim}
+use Rattle.eevdf_fleet.specs.Claims.{knowing}
+use Rattle.eevdf_fleet.specs.Board.{claims_of}
+use Rattle.eevdf_fleet.proofs.Boards.{joins_as}
+use Rattle.eevdf_fleet.proofs.board.Board.join.Goals as goal
+
+pub join_seat-requires : goal.join_seat-requires
+join_seat-requires c =
+    let t : Terms = c.args.self.now.table.shared.key in
+    let view : c.into_seat-seat.result.me.0 ≡ knowing t (claims_of c.args.token) = cc in
+    let other : c.into_seat.result.me.0 ≡ knowing t (claims_of c.args.other) = cc in
+    let bare : c.into_seat.result.me.1 ≡ [] = cc in
+    let of : c.into_seat-seat.result.table_id ≡ c.args.self.now.table.shared.table_id = cc in
+    let too : c.into_seat.result.table_id ≡ c.args.self.now.table.shared.table_id = cc in
+    (of, too, bare, omega arith, joins_as t _ _ c.into_seat-seat.result.me.0 c.into_seat.result.me.0 (claims_of c.args.token) (claims_of c.args.other) view other)

@@ -1,0 +1,16 @@
+use Rattle.std.proofs.Common.{◌≡◌, ◌<◌, List, [], ◌∷◌, refl, arith, rules}
+use mathlib.Core.Option.{some, none}
+use Rattle.eevdf_fleet.specs.declared.board.claims.Terms.{Terms}
+use Rattle.eevdf_fleet.specs.declared.board.claims.View.{View}
+use Rattle.eevdf_fleet.specs.declared.board.claims.Claim.{Claim}
+use Rattle.eevdf_fleet.specs.Claims.{knowing}
+use Rattle.eevdf_fleet.specs.Board.{claims_of}
+use Rattle.eevdf_fleet.proofs.Boards.{splits_as}
+use Rattle.eevdf_fleet.proofs.board.Board.split.Goals as goal
+
+pub split_seat-first-requires : goal.split_seat-first-requires
+split_seat-first-requires c =
+    let t : Terms = c.args.self.now.table.shared.key in
+    let view : c.into_seat-seat.result.me.0 ≡ knowing t (claims_of c.args.token) = cc in
+    let of : c.into_seat-seat.result.table_id ≡ c.args.self.now.table.shared.table_id = cc in
+    (of, omega arith, splits_as t _ c.into_seat-seat.result.me.0 (claims_of c.args.token) view)

@@ -1,0 +1,42 @@
+use eevdf_ops::{CpuId, Line, Setup};
+use eevdf_queue::Queue;
+use std::collections::LinkedList;
+use std::snapshot::Snapshot;
+
+/// On what terms a history is kept: the setup that it begins from, and how many lines it may have of each CPU.
+#[derive(Drop)]
+pub struct Terms {
+    pub setup: Snapshot<Setup>,
+    pub quota: usize,
+}
+
+/// What is known of the one history. No value of it is made.
+pub enum Claim {
+    /// The lines of a CPU are these.
+    Seat(u64, LinkedList<Line>),
+    /// The queue that the history leaves of a CPU is this one.
+    Queue(u64, Queue),
+    /// All its lines are these.
+    Journal(LinkedList<Line>),
+}
+
+/// What the holder of a token knows. No value of it is made.
+pub struct View {
+    pub terms: Option<Terms>,
+    pub claims: LinkedList<Claim>,
+}
+
+/// A CPU's queue as it is now.
+#[derive(Drop)]
+pub struct Change {
+    pub cpu: CpuId,
+    pub queue: Snapshot<Queue>,
+}
+
+/// What is told where a line is committed: the line, and the queues that it has changed.
+#[derive(Drop)]
+pub struct Said {
+    pub line: Line,
+    pub first: Change,
+    pub second: Change,
+}

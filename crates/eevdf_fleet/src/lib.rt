@@ -1,0 +1,8 @@
+//! A scheduler for several threads: each CPU's run queue stands in a lock of its own, and a journal, in a lock of its
+//! own too, has the lines of what was done, in the order in which it was committed.
+//!
+//! What holds across the locks goes by a board of claims: who holds a seat, a queue or the journal has a token, which
+//! takes no memory, and knows what the one history says of it.
+#![tactic(auto)]
+
+mod board;
