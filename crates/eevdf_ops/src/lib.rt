@@ -13,6 +13,7 @@ mod machine_start;
 pub mod one_queue;
 pub mod one_thread;
 mod outcome;
+pub mod queue_deeds;
 mod setup_fault;
 mod setup_test;
 mod solo_machine;

@@ -80,7 +80,7 @@ impl Setup {
     }
 
     /// The home of each task by its number, copied. Fails only for want of memory.
-    pub(crate) fn homes(&self, alloc: Global) -> Result<Vec<CpuId>, AllocError>
+    pub fn homes(&self, alloc: Global) -> Result<Vec<CpuId>, AllocError>
         ensures { IfOk result (λ homes. homes.items ≡ setup.homes_of self.now) }
     {
         self.tasks.iter().map(|task| task.home).collect(alloc)

@@ -7,7 +7,8 @@ ghost use Rattle.eevdf_ops.specs.OneQueue as whole;
 
 use crate::cpu_number::CpuId;
 use crate::deeds::Answer;
-use eevdf_queue::{Queue, ReniceAnswer, TaskId, TickAnswer, WakeAnswer, YieldAnswer};
+use crate::queue_deeds;
+use eevdf_queue::{Queue, TaskId};
 use eevdf_weight::{Nice, Ns};
 
 /// Charges the CPU's running task.
@@ -18,7 +19,7 @@ pub fn tick(queues: &mut [Queue], cpu: CpuId, ns: Ns) -> Answer
         (whole.one_tick (queue_at (machine_of queues.old) cpu) ns).1 }
 {
     let queue = &mut queues[cpu.get() as usize];
-    answer_of_tick(queue.tick(ns))
+    queue_deeds::tick(queue, ns)
 }
 
 /// Lets the CPU's eligible task of earliest deadline run.
@@ -29,7 +30,7 @@ pub fn pick(queues: &mut [Queue], cpu: CpuId) -> Answer
         (whole.one_pick (queue_at (machine_of queues.old) cpu)).1 }
 {
     let queue = &mut queues[cpu.get() as usize];
-    answer_of_pick(queue.pick())
+    queue_deeds::pick(queue)
 }
 
 /// Makes the deadline of the CPU's running task one request later.
@@ -40,7 +41,7 @@ pub fn yield_now(queues: &mut [Queue], cpu: CpuId) -> Answer
         (whole.one_yield (queue_at (machine_of queues.old) cpu)).1 }
 {
     let queue = &mut queues[cpu.get() as usize];
-    answer_of_yield(queue.yield_now())
+    queue_deeds::yield_now(queue)
 }
 
 /// Makes a task runnable that sleeps on the CPU.
@@ -51,7 +52,7 @@ pub fn wake(queues: &mut [Queue], cpu: CpuId, task: TaskId) -> Answer
         (whole.one_wake (queue_at (machine_of queues.old) cpu) task).1 }
 {
     let queue = &mut queues[cpu.get() as usize];
-    answer_of_wake(queue.wake(task))
+    queue_deeds::wake(queue, task)
 }
 
 /// Gives a task that is runnable on the CPU another nice level.
@@ -62,54 +63,5 @@ pub fn renice(queues: &mut [Queue], cpu: CpuId, task: TaskId, nice: Nice) -> Ans
         (whole.one_renice (queue_at (machine_of queues.old) cpu) task nice).1 }
 {
     let queue = &mut queues[cpu.get() as usize];
-    answer_of_renice(queue.renice(task, nice))
-}
-
-fn answer_of_tick(answer: TickAnswer) -> Answer
-    ensures { result ≡ whole.answer_of_tick answer }
-{
-    match answer {
-        TickAnswer::Charged { task, resched } => Answer::Charged { task, resched },
-        TickAnswer::Idle => Answer::Idle,
-        TickAnswer::Range => Answer::Range,
-    }
-}
-
-fn answer_of_pick(picked: Option<TaskId>) -> Answer
-    ensures { result ≡ whole.answer_of_pick picked }
-{
-    match picked {
-        Some(task) => Answer::Picked(task),
-        None => Answer::Idle,
-    }
-}
-
-fn answer_of_yield(answer: YieldAnswer) -> Answer
-    ensures { result ≡ whole.answer_of_yield answer }
-{
-    match answer {
-        YieldAnswer::Yielded => Answer::Yielded,
-        YieldAnswer::Idle => Answer::Idle,
-        YieldAnswer::Range => Answer::Range,
-    }
-}
-
-fn answer_of_wake(answer: WakeAnswer) -> Answer
-    ensures { result ≡ whole.answer_of_wake answer }
-{
-    match answer {
-        WakeAnswer::Woken => Answer::Woken,
-        WakeAnswer::Awake => Answer::Awake,
-        WakeAnswer::Range => Answer::Range,
-    }
-}
-
-fn answer_of_renice(answer: ReniceAnswer) -> Answer
-    ensures { result ≡ whole.answer_of_renice answer }
-{
-    match answer {
-        ReniceAnswer::Reniced => Answer::Reniced,
-        ReniceAnswer::NotHere => Answer::NotHere,
-        ReniceAnswer::Range => Answer::Range,
-    }
+    queue_deeds::renice(queue, task, nice)
 }

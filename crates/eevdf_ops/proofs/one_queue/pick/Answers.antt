@@ -6,5 +6,5 @@ use Rattle.eevdf_ops.proofs.one_queue.pick.Goals as goal
 pub returns-clause-machine : goal.returns-clause-machine
 returns-clause-machine c =
     let within : c.get.result < length c.args.queues.now = omega (arith, c.requires, c.get.ensures.number) in
-    machine_with c.args.queues.now c.args.cpu c.get.result c.pick.new.self _ c.get.ensures.number
+    machine_with c.args.queues.now c.args.cpu c.get.result c.pick.new.queue _ c.get.ensures.number
     (c.pick.ensures.after ∙ ap after_pick (sym (queue_read c.args.queues.now c.args.cpu c.get.result c.index-queues-get.result c.get.ensures.number within)))
