@@ -16,6 +16,7 @@ use Rattle.eevdf_ops.specs.Setup.{allows, cpus_of, is_allowed}
 use Rattle.eevdf_ops.specs.Machine.{Machine, queue_at}
 use Rattle.eevdf_ops.specs.Parts.{decider}
 use Rattle.eevdf_ops.specs.Parts as parts
+use Rattle.eevdf_ops.specs.PartsLaws as laws
 use Rattle.eevdf_ops.specs.Places.{AreCpus, IsPlaced}
 use Rattle.eevdf_ops.specs.Programs.{deeds_of, lines_by}
 use Rattle.eevdf_ops.specs.Whole.{whole}
@@ -92,13 +93,21 @@ room_by cpu quota lines l true e some had =
 room_by cpu quota lines l false e some had =
     omega (arith, length-append (lines_by cpu lines) (lines_by cpu (l ∷ [])), ap (λ (x : List Line). length x) (by_one cpu l false e))
 
+-- a line that is owed is of the machine so far
+fitting : (t : Terms) (lines : List Line) (cs : List Claim) (s : Said) → IsKept t lines → Owes t cs s → laws.Fits (homes t) s.line.deed (told t lines)
+fitting t lines cs s kept owed =
+    let many : length (told t lines) ≡ cpus_of t.setup.value = length-told t lines in
+    record {
+      allowed = ap (λ (n : ℕ). is_allowed n (homes t) s.line.deed) many ∙ owed.allowed;
+      cpus = subst (λ (n : ℕ). AreCpus n (homes t)) (sym many) kept.cpus;
+    }
+
 -- the history goes on by a line that is owed
 kept-more : (t : Terms) (lines : List Line) (cs : List Claim) (s : Said) → IsKept t lines → AllTell t lines cs → Owes t cs s → IsKept t (lines ++ s.line ∷ [])
 kept-more t lines cs s kept tell owed =
     let m : Machine = told t lines in
-    let many : length m ≡ cpus_of t.setup.value = length-told t lines in
-    let answer : (whole (homes t) s.line.deed m).0 ≡ s.line.answer = owed.answers m many (all_agree t lines cs tell) in
-    let allowed : is_allowed (length m) (homes t) s.line.deed ≡ true = ap (λ (n : ℕ). is_allowed n (homes t) s.line.deed) many ∙ owed.allowed in
+    let fits : laws.Fits (homes t) s.line.deed m = fitting t lines cs s kept owed in
+    let answer : (whole (homes t) s.line.deed m).0 ≡ s.line.answer = owed.answers m fits (all_agree t lines cs tell) in
     record {
       history = history-more t lines s.line kept.history answer;
       allowed = subst (λ (ds : List Deed). list_all (allows t.setup.value) ds ≡ true) (sym (deeds-more lines s.line)) (list_all-more (allows t.setup.value) (deeds_of lines) s.line.deed kept.allowed owed.allowed);
@@ -106,7 +115,7 @@ kept-more t lines cs s kept tell owed =
           (room_by cpu t.quota lines s.line (decider s.line.deed == cpu) refl (owed.room lines tell) (kept.room cpu));
       cpus = kept.cpus;
       placed = subst (λ (n : Machine). IsPlaced (homes t) n) (sym (told-more t lines s.line))
-          (whole-placed (homes t) s.line.deed m allowed (subst (λ (n : ℕ). AreCpus n (homes t)) (sym many) kept.cpus) kept.placed);
+          (whole-placed (homes t) s.line.deed m fits.allowed fits.cpus kept.placed);
     }
 
 -- one view changes, and the rule holds of each
@@ -133,7 +142,7 @@ appended t cs s views id owed at h =
       kept = kept-more t lines cs s h.kept tell owed;
       fits = fits-set t (lines ++ s.line ∷ []) views id w
           (λ j u apart e. ((h.fits j u e).0, all_stay t lines s.line u.claims (λ k touched. omega (arith, owed.claimed k touched, times-two k views id j v u apart at e, h.once k)) (h.fits j u e).1))
-          (refl, all_advance t lines s cs tell (owed.changes m (length-told t lines) (all_agree t lines cs tell)));
+          (refl, all_advance t lines s cs tell (owed.changes m (fitting t lines cs s h.kept owed) (all_agree t lines cs tell)));
       once = λ k. omega (arith, total-set k views id v w at, times-advanced k s cs, h.once k);
     }
 

@@ -1,3 +1,5 @@
 pub mod Totals
 pub mod Told
 pub mod Boards
+pub mod Rooms
+pub mod Commits

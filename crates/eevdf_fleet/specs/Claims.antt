@@ -10,6 +10,7 @@ use Rattle.eevdf_ops.specs.Machine.{Machine, queue_at}
 use Rattle.eevdf_ops.specs.Histories.{machine_told, AreHistory}
 use Rattle.eevdf_ops.specs.Parts.{decider}
 use Rattle.eevdf_ops.specs.Parts as parts
+use Rattle.eevdf_ops.specs.PartsLaws as laws
 use Rattle.eevdf_ops.specs.Places.{AreCpus, IsPlaced}
 use Rattle.eevdf_ops.specs.Programs.{deeds_of, lines_by}
 use Rattle.eevdf_ops.specs.Whole.{whole}
@@ -127,6 +128,12 @@ pub record Owes (t : Terms) (claims : List Claim) (s : Said) : Type 0 where
   pub claimed : (k : Key) → touches (homes t) k s.line.deed ≡ true → 1 ≤ times k claims
   pub allowed : allows t.setup.value s.line.deed ≡ true
   pub room : (lines : List Line) → AllTell t lines claims → length (lines_by (decider s.line.deed) lines) < t.quota
-  pub answers : (m : Machine) → length m ≡ cpus_of t.setup.value → AllAgree m claims → (whole (homes t) s.line.deed m).0 ≡ s.line.answer
-  pub changes : (m : Machine) → length m ≡ cpus_of t.setup.value → AllAgree m claims
-      → AllAgree (whole (homes t) s.line.deed m).1 (map (advanced s) claims)
+  pub answers : (m : Machine) → laws.Fits (homes t) s.line.deed m → AllAgree m claims → (whole (homes t) s.line.deed m).0 ≡ s.line.answer
+  pub changes : (m : Machine) → laws.Fits (homes t) s.line.deed m → AllAgree m claims → AllAgree (whole (homes t) s.line.deed m).1 (map (advanced s) claims)
+
+-- the same of the queues alone
+pub record OwesQueues (t : Terms) (claims : List Claim) (s : Said) : Type 0 where
+  pub claimed : (cpu : ℕ) → parts.touches (homes t) s.line.deed cpu ≡ true → 1 ≤ times (queue cpu) claims
+  pub allowed : allows t.setup.value s.line.deed ≡ true
+  pub answers : (m : Machine) → laws.Fits (homes t) s.line.deed m → AllAgree m claims → (whole (homes t) s.line.deed m).0 ≡ s.line.answer
+  pub changes : (m : Machine) → laws.Fits (homes t) s.line.deed m → AllAgree m claims → AllAgree (whole (homes t) s.line.deed m).1 (map (advanced s) claims)

@@ -6,3 +6,12 @@
 #![tactic(auto)]
 
 mod board;
+mod commit;
+mod journal;
+mod named_board;
+mod names;
+mod seat;
+mod slot;
+
+pub use names::Names;
+pub use seat::Seat;

@@ -1,0 +1,40 @@
+use Rattle.std.proofs.Common.{◌≡◌, ℕ, ◌<◌, ◌≤◌, ◌++◌, ◌*◌, List, [], ◌∷◌, length, append_assoc, refl, sym, ap, subst, ◌∙◌, arith, rules, vec_len}
+use Rattle.eevdf_ops.specs.Setup.{cpus_of}
+use Rattle.eevdf_fleet.specs.declared.board.claims.Claim.{Claim}
+use Rattle.eevdf_fleet.specs.declared.board.claims.Claim.TheVariants.{Seat, Journal}
+use Rattle.eevdf_fleet.specs.Claims.{Owes}
+use Rattle.eevdf_fleet.specs.Board.{Known, claims_of}
+use Rattle.eevdf_fleet.specs.Fleets.{setup_of}
+use Rattle.eevdf_fleet.specs.Fleets as fleets
+use Rattle.eevdf_fleet.proofs.Commits.{with_seat, owes-all, joined-claims}
+use Rattle.eevdf_fleet.proofs.Rooms.{journal-room}
+use Rattle.eevdf_fleet.proofs.commit.commit.Goals as goal
+use Rattle.eevdf_fleet.proofs.commit.commit.Goals.{After-check-token}
+
+-- the claims of the joined token
+joined : (g : _) (c : After-check-token g)
+    → claims_of c.join-token-2.result ≡ with_seat c.seat.inside.cpu c.seat.inside.log.items c.journal.inside.lines.items (claims_of c.args.queues)
+joined g c =
+    joined-claims (claims_of c.replace-own.result) (claims_of c.replace-all.result) (claims_of c.args.queues) (claims_of c.join-token.result) (claims_of c.join-token-2.result)
+    (Seat c.seat.inside.cpu c.seat.inside.log.items) (Journal c.journal.inside.lines.items)
+    (ap claims_of c.replace-own.ensures.value ∙ c.seat.invariant.1) (ap claims_of c.replace-all.ensures.value ∙ c.journal.invariant.1)
+    c.join-token.ensures.claims c.join-token-2.ensures.claims
+
+some : (g : _) (c : After-check-token g) → length c.seat.inside.log.items < g.N.Names.kit.terms.quota
+some g c =
+    let room : c.seat.inside.room ≡ c.args.seat.now.room = ap (λ (s : fleets.Seat). s.room) c.seat.view_is in
+    omega (arith, c.requires.room, c.seat.invariant.3, c.seat.inside.log.ok.0)
+
+pub append-token-requires-clause-owed : goal.append-token-requires-clause-owed
+append-token-requires-clause-owed g c =
+    let at : After-check-token g = (goal.at.append-token-requires-clause-owed g c).After-check-token in
+    let own : _ = c.requires.own ∙ ap (λ (s : fleets.Seat). s.cpu) (sym c.seat.view_is) in
+    subst (λ (cs : List Claim). Owes g.N.Names.kit.terms cs c.args.said.now) (sym (c.check-token.ensures.claims ∙ joined g at))
+    (owes-all g.N.Names.kit.terms c.seat.inside.cpu c.seat.inside.log.items c.journal.inside.lines.items (claims_of c.args.queues) c.args.said.now own (some g at) c.requires.owed)
+
+pub push_reserved-requires : goal.push_reserved-requires
+push_reserved-requires g c =
+    let at : After-check-token g = (goal.at.push_reserved-requires g c).After-check-token in
+    let known : Known g.N.Names.kit.terms (with_seat c.seat.inside.cpu c.seat.inside.log.items c.journal.inside.lines.items (claims_of c.args.queues)) =
+    subst (λ (cs : List Claim). Known g.N.Names.kit.terms cs) (joined g at) c.check-token.ensures.known in
+    omega (arith, journal-room g.N.Names.kit.terms c.seat.inside.cpu c.seat.inside.log.items c.journal.inside.lines.items (claims_of c.args.queues) known c.seat.invariant.2 (some g at), c.journal.invariant.2, c.journal.inside.lines.ok.0)

@@ -1,0 +1,48 @@
+//! How a line is committed: its seat, the journal and the queues that it changes know it from one moment on.
+
+ghost use Rattle.std.specs.Prelude.{◌≡◌, ◌<◌, ◌++◌, [], ◌∷◌, map};
+ghost use Rattle.eevdf_ops.specs.Parts.{decider};
+ghost use Rattle.eevdf_fleet.specs.Claims.{OwesQueues, advanced};
+ghost use Rattle.eevdf_fleet.specs.Board.{IsToken, claims_of};
+ghost use Rattle.eevdf_fleet.specs.Fleets.{logged};
+
+use crate::board::{Said, Token};
+use crate::journal::Journal;
+use crate::named_board::NamedBoard;
+use crate::names::Names;
+use crate::seat::Seat;
+use atomic_table::Badge;
+use std::mem;
+
+/// Commits a line of the seat's CPU. The token claims the queues that it changes.
+pub(crate) fn commit<N: Names>(
+    board: &NamedBoard<N>,
+    journal: &mut Journal<N>,
+    seat: &mut Seat<N>,
+    queues: Token,
+    said: &Said,
+) -> Token
+    requires token { IsToken N.kit.board N.kit.terms queues }
+    requires room { 0 < seat.old.room }
+    requires own { decider said.now.line.deed ≡ seat.old.cpu }
+    requires owed { OwesQueues N.kit.terms (claims_of queues) said.now }
+    ensures token { IsToken N.kit.board N.kit.terms result }
+    ensures claims { claims_of result ≡ map (advanced said.now) (claims_of queues) }
+    ensures journal { journal.new ≡ journal.old ++ said.now.line ∷ [] }
+    ensures seat { seat.new ≡ logged seat.old said.now.line }
+{
+    let all = mem::replace(&mut journal.token, Badge::blank());
+    let own = mem::replace(&mut seat.token, Badge::blank());
+    let token = board.join(queues, all);
+    let token = board.join(token, own);
+    let token = board.check(token);
+    let token = board.append(token, said);
+    let (own, token) = board.split(token);
+    let (all, token) = board.split(token);
+    seat.token = own;
+    journal.token = all;
+    journal.lines.push_reserved(said.line);
+    seat.log.push_reserved(said.line);
+    seat.room -= 1;
+    token
+}
