@@ -7,11 +7,14 @@
 
 mod board;
 mod commit;
+mod fleet;
 mod journal;
 mod named_board;
 mod names;
+mod queue_work;
 mod seat;
 mod slot;
 
+pub use fleet::{Fleet, SeatFull};
 pub use names::Names;
 pub use seat::Seat;

@@ -1,4 +1,6 @@
-ghost use Rattle.std.specs.Prelude.{◌≡◌};
+ghost use Rattle.std.specs.Prelude.{◌≡◌, ◌<◌};
+ghost use Rattle.eevdf_ops.specs.Setup.{cpus_of};
+ghost use Rattle.eevdf_fleet.specs.Fleets.{setup_of};
 
 use crate::board::Token;
 use crate::names::Names;
@@ -39,7 +41,8 @@ impl<N: Names> Model for Seat<N> {
 impl<N: Names> Seat<N> {
     /// Its CPU.
     pub fn cpu(&self) -> CpuId
-        ensures { result ≡ self.now.cpu }
+        ensures cpu { result ≡ self.now.cpu }
+        ensures below { result < cpus_of (setup_of N.kit) }
     {
         self.cpu
     }

@@ -1,0 +1,17 @@
+use Rattle.std.proofs.Common.{◌≡◌, ℕ, List, [], ◌∷◌, sym, ap, ◌∙◌}
+use Rattle.eevdf_fleet.specs.declared.board.claims.Claim.{Claim}
+use Rattle.eevdf_fleet.specs.declared.board.claims.Claim.TheVariants.{Queue}
+use Rattle.eevdf_fleet.specs.Board.{claims_of}
+use Rattle.eevdf_fleet.specs.Fleets.{Slot}
+use Rattle.eevdf_fleet.proofs.fleet.Fleet.own.Goals as goal
+
+pub commit_one-requires-clause-done : goal.commit_one-requires-clause-done
+commit_one-requires-clause-done g c =
+    let number : c.slot.inside.number ≡ c.args.seat.now.cpu =
+    ap (λ (s : Slot). s.number) (c.slot.view_is ∙ c.deref_mut-slot.ensures.value) ∙ c.hold-guard.ensures ∙ c.cpu-cpu.ensures.cpu in
+    record {
+      before = c.slot.inside.queue;
+      claimed = ap claims_of c.replace-token.ensures.value ∙ c.slot.invariant.1 ∙ ap (λ (n : ℕ). Queue n c.slot.inside.queue ∷ []) number;
+      answers = c.act-answer.ensures.answer;
+      leaves = c.act-answer.ensures.after;
+    }
