@@ -3,4 +3,4 @@ pub mod Told
 pub mod Boards
 pub mod Rooms
 pub mod Commits
-pub mod OneQueueOwed
+pub mod Pulled

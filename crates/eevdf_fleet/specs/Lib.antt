@@ -1,4 +1,4 @@
 pub mod Claims
 pub mod Board
 pub mod Fleets
-pub mod OneQueueDeeds
+pub mod TouchedQueues

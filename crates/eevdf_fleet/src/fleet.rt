@@ -5,7 +5,7 @@ ghost use Rattle.eevdf_ops.specs.Setup.{allows, cpus_of, homes_of, is_task};
 ghost use Rattle.eevdf_fleet.specs.declared.board.claims.Claim.TheVariants as claim;
 ghost use Rattle.eevdf_fleet.specs.Board.{IsToken, claims_of};
 ghost use Rattle.eevdf_fleet.specs.Fleets.{logged, setup_of};
-ghost use Rattle.eevdf_fleet.specs.OneQueueDeeds.{IsOfOneQueue, IsDoneFrom};
+ghost use Rattle.eevdf_fleet.specs.TouchedQueues.{IsOfOneQueue, IsDoneFrom};
 
 use crate::board::{Change, Said, Token};
 use crate::commit::commit;
@@ -97,7 +97,7 @@ impl<N: Names> Fleet<N> {
 
     /// Does a deed of the seat's CPU that touches its queue alone.
     fn own<R: Wait>(&self, rt: &R, seat: &mut Seat<N>, deed: Deed) -> Result<Answer, SeatFull>
-        requires one { IsOfOneQueue deed }
+        requires one { IsOfOneQueue (homes_of (setup_of N.kit)) deed }
         requires own { decider deed ≡ seat.old.cpu }
         requires allowed { allows (setup_of N.kit) deed ≡ true }
         ensures cases { MatchResult result
@@ -128,7 +128,7 @@ impl<N: Names> Fleet<N> {
         line: &Line,
     ) -> Token
         requires token { IsToken N.kit.board N.kit.terms token }
-        requires one { IsOfOneQueue line.now.deed }
+        requires one { IsOfOneQueue (homes_of (setup_of N.kit)) line.now.deed }
         requires own { decider line.now.deed ≡ seat.old.cpu }
         requires allowed { allows (setup_of N.kit) line.now.deed ≡ true }
         requires room { 0 < seat.old.room }
