@@ -4,3 +4,4 @@ pub mod Boards
 pub mod Rooms
 pub mod Commits
 pub mod Pulled
+pub mod Placed

@@ -1,18 +1,18 @@
-ghost use Rattle.std.specs.Prelude.{◌≡◌, ◌<◌, ◌↔◌, [], ◌∷◌, IsErr, MatchResult, true};
+ghost use Rattle.std.specs.Prelude.{◌≡◌, ◌≢◌, ◌<◌, ◌↔◌, [], ◌∷◌, IsErr, MatchResult, true};
 ghost use Rattle.std.specs.Sync.Mutex.{mutex_guard_value};
 ghost use Rattle.eevdf_ops.specs.Parts.{decider};
-ghost use Rattle.eevdf_ops.specs.Setup.{allows, cpus_of, homes_of, is_task};
+ghost use Rattle.eevdf_ops.specs.Setup.{allows, cpus_of, home_of, homes_of, is_task};
 ghost use Rattle.eevdf_fleet.specs.declared.board.claims.Claim.TheVariants as claim;
 ghost use Rattle.eevdf_fleet.specs.Board.{IsToken, claims_of};
 ghost use Rattle.eevdf_fleet.specs.Fleets.{logged, setup_of};
-ghost use Rattle.eevdf_fleet.specs.TouchedQueues.{IsOfOneQueue, IsDoneFrom};
+ghost use Rattle.eevdf_fleet.specs.TouchedQueues.{AreDoneFrom, IsDoneFrom, IsOfOneQueue, IsOfTwoQueues};
 
 use crate::board::{Change, Said, Token};
 use crate::commit::commit;
 use crate::journal::Journal;
 use crate::named_board::NamedBoard;
 use crate::names::Names;
-use crate::queue_work::act;
+use crate::queue_work::{act, act_across};
 use crate::seat::Seat;
 use crate::slot::Slot;
 use atomic_table::Badge;
@@ -39,6 +39,7 @@ pub struct Fleet<N: Names> {
 
 impl<N: Names> Model for Fleet<N> {
     ghost use Rattle.std.specs.Prelude.{◌≡◌, vec_len};
+    ghost use Rattle.eevdf_ops.specs.Places.{AreCpus};
     ghost use Rattle.eevdf_ops.specs.Setup.{cpus_of, homes_of};
     ghost use Rattle.eevdf_fleet.specs.Fleets.{setup_of};
 
@@ -46,7 +47,8 @@ impl<N: Names> Model for Fleet<N> {
 
     ghost view = { λ f. tt };
 
-    ghost invariant = { λ f. (f.homes.items ≡ homes_of (setup_of N.kit)) × (vec_len f.locks ≡ cpus_of (setup_of N.kit)) };
+    ghost invariant = { λ f. (f.homes.items ≡ homes_of (setup_of N.kit)) × (vec_len f.locks ≡ cpus_of (setup_of N.kit))
+        × AreCpus (cpus_of (setup_of N.kit)) (homes_of (setup_of N.kit)) };
 }
 
 impl<N: Names> Fleet<N> {
@@ -95,6 +97,55 @@ impl<N: Names> Fleet<N> {
         self.own(rt, seat, Deed::Renice { cpu, task, nice })
     }
 
+    /// Puts a task to sleep at its home, if it runs on the seat's CPU.
+    pub fn sleep<R: Wait>(
+        &self,
+        rt: &R,
+        seat: &mut Seat<N>,
+        task: TaskId,
+    ) -> Result<Answer, SeatFull>
+        requires { is_task (homes_of (setup_of N.kit)) task ≡ true }
+        ensures cases { MatchResult result
+            (λ a. seat.new ≡ logged seat.old (record { deed = Deed.Sleep seat.old.cpu task; answer = a }))
+            (λ _. seat.new ≡ seat.old) }
+        ensures full { IsErr result ↔ (seat.old.room < 1) }
+    {
+        let cpu = seat.cpu();
+        let home = self.home(task);
+        if home.get() == cpu.get() {
+            self.own(rt, seat, Deed::Sleep { cpu, task })
+        } else {
+            self.across(rt, seat, home, Deed::Sleep { cpu, task })
+        }
+    }
+
+    /// Brings the candidate of the source to the seat's CPU, where that levels their loads.
+    pub fn pull<R: Wait>(
+        &self,
+        rt: &R,
+        seat: &mut Seat<N>,
+        source: CpuId,
+    ) -> Result<Answer, SeatFull>
+        requires source { source < cpus_of (setup_of N.kit) }
+        requires apart { source ≢ seat.old.cpu }
+        ensures cases { MatchResult result
+            (λ a. seat.new ≡ logged seat.old (record { deed = Deed.Pull seat.old.cpu source; answer = a }))
+            (λ _. seat.new ≡ seat.old) }
+        ensures full { IsErr result ↔ (seat.old.room < 1) }
+    {
+        let cpu = seat.cpu();
+        self.across(rt, seat, source, Deed::Pull { cpu, source })
+    }
+
+    /// The home of a task.
+    fn home(&self, task: TaskId) -> CpuId
+        requires { is_task (homes_of (setup_of N.kit)) task ≡ true }
+        ensures home { result ≡ home_of (homes_of (setup_of N.kit)) task }
+        ensures below { result < cpus_of (setup_of N.kit) }
+    {
+        self.homes[task.get() as usize]
+    }
+
     /// Does a deed of the seat's CPU that touches its queue alone.
     fn own<R: Wait>(&self, rt: &R, seat: &mut Seat<N>, deed: Deed) -> Result<Answer, SeatFull>
         requires one { IsOfOneQueue (homes_of (setup_of N.kit)) deed }
@@ -115,6 +166,41 @@ impl<N: Names> Fleet<N> {
         let line = Line { deed, answer };
         let token = mem::replace(&mut slot.token, Badge::blank());
         slot.token = self.commit_one(rt, seat, token, &slot.queue, &line);
+        Ok(line.answer)
+    }
+
+    /// Does a deed of the seat's CPU that touches its queue and that of another CPU.
+    fn across<R: Wait>(
+        &self,
+        rt: &R,
+        seat: &mut Seat<N>,
+        other: CpuId,
+        deed: Deed,
+    ) -> Result<Answer, SeatFull>
+        requires two { IsOfTwoQueues (homes_of (setup_of N.kit)) other deed }
+        requires own { decider deed ≡ seat.old.cpu }
+        requires apart { other ≢ seat.old.cpu }
+        requires there { other < cpus_of (setup_of N.kit) }
+        requires allowed { allows (setup_of N.kit) deed ≡ true }
+        ensures cases { MatchResult result
+            (λ a. seat.new ≡ logged seat.old (record { deed = deed; answer = a }))
+            (λ _. seat.new ≡ seat.old) }
+        ensures full { IsErr result ↔ (seat.old.room < 1) }
+    {
+        if seat.room() == 0 {
+            return Err(SeatFull);
+        }
+        let (mut guard, mut other_guard) = self.hold_both(rt, seat.cpu(), other);
+        let slot = &mut *guard;
+        let away = &mut *other_guard;
+        let own = mem::replace(&mut slot.token, Badge::blank());
+        let others = mem::replace(&mut away.token, Badge::blank());
+        let token = self.board.check(self.board.join(others, own));
+        let answer = act_across(&mut slot.queue, &mut away.queue, &deed);
+        let line = Line { deed, answer };
+        let (own, others) = self.commit_two(rt, seat, token, &slot.queue, other, &away.queue, &line);
+        slot.token = own;
+        away.token = others;
         Ok(line.answer)
     }
 
@@ -140,6 +226,60 @@ impl<N: Names> Fleet<N> {
         let said = said(line, seat.cpu(), queue);
         let mut journal = self.journal.lock(rt);
         commit(&self.board, &mut journal, seat, token, &said)
+    }
+
+    /// Commits a line that has changed the queues of the seat's CPU and of another one, which the token claims as they
+    /// were.
+    fn commit_two<R: Wait>(
+        &self,
+        rt: &R,
+        seat: &mut Seat<N>,
+        token: Token,
+        queue: &Queue,
+        other: CpuId,
+        other_queue: &Queue,
+        line: &Line,
+    ) -> (Token, Token)
+        requires token { IsToken N.kit.board N.kit.terms token }
+        requires two { IsOfTwoQueues (homes_of (setup_of N.kit)) other line.now.deed }
+        requires own { decider line.now.deed ≡ seat.old.cpu }
+        requires apart { other ≢ seat.old.cpu }
+        requires allowed { allows (setup_of N.kit) line.now.deed ≡ true }
+        requires room { 0 < seat.old.room }
+        requires done { AreDoneFrom (claims_of token) seat.old.cpu queue.now other other_queue.now line.now }
+        ensures first { IsToken N.kit.board N.kit.terms result.0 }
+        ensures second { IsToken N.kit.board N.kit.terms result.1 }
+        ensures first_claim { claims_of result.0 ≡ claim.Queue seat.old.cpu queue.now ∷ [] }
+        ensures second_claim { claims_of result.1 ≡ claim.Queue other other_queue.now ∷ [] }
+        ensures seat { seat.new ≡ logged seat.old line.now }
+    {
+        let said = said_both(line, change(seat.cpu(), queue), change(other, other_queue));
+        let mut journal = self.journal.lock(rt);
+        let token = commit(&self.board, &mut journal, seat, token, &said);
+        self.board.split(token)
+    }
+
+    /// Takes the locks of the queues of two CPUs, the lower number first.
+    fn hold_both<R: Wait>(
+        &self,
+        rt: &R,
+        cpu: CpuId,
+        other: CpuId,
+    ) -> (MutexGuard<'_, Slot<N>>, MutexGuard<'_, Slot<N>>)
+        requires cpu { cpu < cpus_of (setup_of N.kit) }
+        requires other { other < cpus_of (setup_of N.kit) }
+        ensures cpu { (mutex_guard_value result.0).number ≡ cpu }
+        ensures other { (mutex_guard_value result.1).number ≡ other }
+    {
+        if cpu.get() < other.get() {
+            let guard = self.hold(rt, cpu);
+            let other_guard = self.hold(rt, other);
+            (guard, other_guard)
+        } else {
+            let other_guard = self.hold(rt, other);
+            let guard = self.hold(rt, cpu);
+            (guard, other_guard)
+        }
     }
 
     /// Takes the lock of a CPU's queue.
@@ -178,5 +318,16 @@ fn change(cpu: CpuId, queue: &Queue) -> Change
     Change {
         cpu,
         queue: Snapshot::of(queue),
+    }
+}
+
+/// A line, and the two queues that it has changed.
+fn said_both(line: &Line, first: Change, second: Change) -> Said
+    ensures { result ≡ record { line = line.now; first = first; second = second } }
+{
+    Said {
+        line: *line,
+        first,
+        second,
     }
 }
