@@ -1,6 +1,6 @@
 -- No task stands twice in the queues that a token claims.
 use Rattle.std.proofs.Common.{◌≡◌, ◌≢◌, ℕ, zero, suc, ◌+◌, ◌<◌, ◌≤◌, Bool, true, false, List, [], ◌∷◌, length, refl, sym, ap, subst, ◌∙◌, arith}
-use Rattle.eevdf_queue.specs.State.{State, View}
+use Rattle.eevdf_queue.specs.State.{State}
 use Rattle.eevdf_ops.specs.Machine.{Machine, queue_at}
 use Rattle.eevdf_ops.specs.Places.{count, places_in, places}
 use Rattle.eevdf_ops.specs.Setup.{cpus_of, is_task}
@@ -24,12 +24,12 @@ at-most : (b : Bool) → count b ≤ 1
 at-most true = omega arith
 at-most false = omega arith
 
-pub none-twice : (t : Terms) (a b : ℕ) (q r : View) → Known t (Queue a q ∷ Queue b r ∷ []) → a ≢ b → a < cpus_of t.setup.value → b < cpus_of t.setup.value → NoneTwice q.state r.state
+pub none-twice : (t : Terms) (a b : ℕ) (q r : State) → Known t (Queue a q ∷ Queue b r ∷ []) → a ≢ b → a < cpus_of t.setup.value → b < cpus_of t.setup.value → NoneTwice q r
 none-twice t a b q r known apart h g task =
     let m : Machine = told t known.lines in
     let many : length m ≡ cpus_of t.setup.value = length-told t known.lines in
     let one : places m task ≤ 1 = omega (arith, known.kept.placed.once task, at-most (is_task (homes t) task)) in
     let two : places_in (queue_at m a) task + places_in (queue_at m b) task ≤ places m task = places-two m a b task apart (omega arith) (omega arith) in
-    let first : places_in (queue_at m a) task ≡ places_in q.state task = ap (λ (s : State). places_in s task) known.tell.0 in
-    let second : places_in (queue_at m b) task ≡ places_in r.state task = ap (λ (s : State). places_in s task) known.tell.1.0 in
+    let first : places_in (queue_at m a) task ≡ places_in q task = ap (λ (s : State). places_in s task) known.tell.0 in
+    let second : places_in (queue_at m b) task ≡ places_in r task = ap (λ (s : State). places_in s task) known.tell.1.0 in
     omega arith

@@ -1,7 +1,7 @@
 -- What a token claims of the one history.
 use Rattle.std.specs.Prelude.{◌≡◌, ℕ, ◌+◌, ◌<◌, ◌≤◌, ◌==◌, Bool, true, false, List, [], ◌∷◌, ◌++◌, length, map, if◌then◌else◌, Option, Some, None}
 use Rattle.std.specs.List.{list_all}
-use Rattle.eevdf_queue.specs.State as states
+use Rattle.eevdf_queue.specs.State.{State}
 use Rattle.eevdf_ops.specs.declared.deeds.Deed.{Deed}
 use Rattle.eevdf_ops.specs.declared.deeds.Line.{Line}
 use Rattle.eevdf_ops.specs.Setup.{allows, cpus_of, homes_of}
@@ -77,7 +77,7 @@ touches homes journal deed = true
 -- a claim holds of a history
 abbrev pub Tells : Terms → List Line → Claim → Type 0
 Tells t lines (Seat cpu own) = lines_by cpu lines ≡ own
-Tells t lines (Queue cpu q) = queue_at (told t lines) cpu ≡ q.state
+Tells t lines (Queue cpu q) = queue_at (told t lines) cpu ≡ q
 Tells t lines (Journal all) = lines ≡ all
 
 abbrev pub AllTell : Terms → List Line → List Claim → Type 0
@@ -98,14 +98,14 @@ nothing = record { terms = None; claims = [] }
 -- the claims of each CPU in turn, from one on, and of the journal, before anything is done
 abbrev pub claims_from : ℕ → Machine → List Claim
 claims_from cpu [] = Journal [] ∷ []
-claims_from cpu (q ∷ m) = Seat cpu [] ∷ Queue cpu (record { state = q; turns = 0 }) ∷ claims_from (cpu + 1) m
+claims_from cpu (q ∷ m) = Seat cpu [] ∷ Queue cpu q ∷ claims_from (cpu + 1) m
 
 abbrev pub opening : Terms → List Claim
 opening t = claims_from 0 (start t)
 
 -- a claim after a line is committed that changes these queues
-abbrev pub changed : Change → ℕ → states.View → states.View
-changed c cpu q = if cpu == c.cpu then c.queue.value else q
+abbrev pub changed : Change → ℕ → State → State
+changed c cpu q = if cpu == c.cpu then c.queue.value.state else q
 
 abbrev pub advanced : Said → Claim → Claim
 advanced s (Seat cpu own) = Seat cpu (own ++ lines_by cpu (s.line ∷ []))
@@ -115,7 +115,7 @@ advanced s (Journal all) = Journal (all ++ s.line ∷ [])
 -- a machine has the queues that are claimed
 abbrev pub Agrees : Machine → Claim → Type 0
 Agrees m (Seat cpu own) = Unit {0}
-Agrees m (Queue cpu q) = queue_at m cpu ≡ q.state
+Agrees m (Queue cpu q) = queue_at m cpu ≡ q
 Agrees m (Journal all) = Unit {0}
 
 abbrev pub AllAgree : Machine → List Claim → Type 0

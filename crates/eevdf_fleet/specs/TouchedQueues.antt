@@ -1,6 +1,6 @@
 -- Deeds by the queues that they touch.
 use Rattle.std.specs.Prelude.{◌≡◌, ℕ, ◌+◌, ◌≤◌, List, [], ◌∷◌, Option}
-use Rattle.eevdf_queue.specs.State.{State, View, Contents}
+use Rattle.eevdf_queue.specs.State.{State, Contents}
 use Rattle.eevdf_queue.specs.Leaving.{carried_running}
 use Rattle.eevdf_ops.specs.declared.deeds.Deed.{Deed}
 use Rattle.eevdf_ops.specs.declared.deeds.Deed.TheVariants.{Tick, Pick, Yield, Sleep, Wake, Pull, Renice}
@@ -72,17 +72,17 @@ abbrev pub NoneTwice : State → State → Type 0
 NoneTwice q r = (task : ℕ) → places_in q task + places_in r task ≤ 1
 
 -- the deed of a line was done on the queue of a CPU, which is claimed as it was
-pub record IsDoneFrom (claims : List Claim) (cpu : ℕ) (after : View) (line : Line) : Type 0 where
-  pub before : View
+pub record IsDoneFrom (claims : List Claim) (cpu : ℕ) (after : State) (line : Line) : Type 0 where
+  pub before : State
   pub claimed : claims ≡ Queue cpu before ∷ []
-  pub answers : line.answer ≡ (one_done line.deed before.state).0
-  pub leaves : after.state ≡ (one_done line.deed before.state).1
+  pub answers : line.answer ≡ (one_done line.deed before).0
+  pub leaves : after ≡ (one_done line.deed before).1
 
 -- the same of the queues of two CPUs
-pub record AreDoneFrom (claims : List Claim) (cpu : ℕ) (after : View) (other : ℕ) (other_after : View) (line : Line) : Type 0 where
-  pub before : View
-  pub other_before : View
+pub record AreDoneFrom (claims : List Claim) (cpu : ℕ) (after : State) (other : ℕ) (other_after : State) (line : Line) : Type 0 where
+  pub before : State
+  pub other_before : State
   pub claimed : claims ≡ Queue cpu before ∷ Queue other other_before ∷ []
-  pub answers : line.answer ≡ (two_done line.deed before.state other_before.state).0
-  pub leaves : after.state ≡ (two_done line.deed before.state other_before.state).1.0
-  pub other_leaves : other_after.state ≡ (two_done line.deed before.state other_before.state).1.1
+  pub answers : line.answer ≡ (two_done line.deed before other_before).0
+  pub leaves : after ≡ (two_done line.deed before other_before).1.0
+  pub other_leaves : other_after ≡ (two_done line.deed before other_before).1.1

@@ -218,9 +218,9 @@ impl<N: Names> Fleet<N> {
         requires own { decider line.now.deed ≡ seat.old.cpu }
         requires allowed { allows (setup_of N.kit) line.now.deed ≡ true }
         requires room { 0 < seat.old.room }
-        requires done { IsDoneFrom (claims_of token) seat.old.cpu queue.now line.now }
+        requires done { IsDoneFrom (claims_of token) seat.old.cpu queue.now.state line.now }
         ensures token { IsToken N.kit.board N.kit.terms result }
-        ensures claims { claims_of result ≡ claim.Queue seat.old.cpu queue.now ∷ [] }
+        ensures claims { claims_of result ≡ claim.Queue seat.old.cpu queue.now.state ∷ [] }
         ensures seat { seat.new ≡ logged seat.old line.now }
     {
         let said = said(line, seat.cpu(), queue);
@@ -246,11 +246,11 @@ impl<N: Names> Fleet<N> {
         requires apart { other ≢ seat.old.cpu }
         requires allowed { allows (setup_of N.kit) line.now.deed ≡ true }
         requires room { 0 < seat.old.room }
-        requires done { AreDoneFrom (claims_of token) seat.old.cpu queue.now other other_queue.now line.now }
+        requires done { AreDoneFrom (claims_of token) seat.old.cpu queue.now.state other other_queue.now.state line.now }
         ensures first { IsToken N.kit.board N.kit.terms result.0 }
         ensures second { IsToken N.kit.board N.kit.terms result.1 }
-        ensures first_claim { claims_of result.0 ≡ claim.Queue seat.old.cpu queue.now ∷ [] }
-        ensures second_claim { claims_of result.1 ≡ claim.Queue other other_queue.now ∷ [] }
+        ensures first_claim { claims_of result.0 ≡ claim.Queue seat.old.cpu queue.now.state ∷ [] }
+        ensures second_claim { claims_of result.1 ≡ claim.Queue other other_queue.now.state ∷ [] }
         ensures seat { seat.new ≡ logged seat.old line.now }
     {
         let said = said_both(line, change(seat.cpu(), queue), change(other, other_queue));

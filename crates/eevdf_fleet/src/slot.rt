@@ -33,7 +33,7 @@ impl<N: Names> Model for Slot<N> {
     ghost use Rattle.eevdf_fleet.specs.Fleets.{setup_of};
 
     ghost invariant = { λ s. IsToken N.kit.board N.kit.terms s.token
-        × (claims_of s.token ≡ claim.Queue s.number s.queue ∷ [])
+        × (claims_of s.token ≡ claim.Queue s.number s.queue.state ∷ [])
         × (s.number < cpus_of (setup_of N.kit)) };
 }
 

@@ -1,6 +1,7 @@
 use eevdf_ops::{CpuId, Line, Setup};
 use eevdf_queue::Queue;
 use std::collections::LinkedList;
+use std::marker::Model;
 use std::snapshot::Snapshot;
 
 /// On what terms a history is kept: the setup that it begins from, and how many lines it may have of each CPU.
@@ -10,12 +11,28 @@ pub struct Terms {
     pub quota: usize,
 }
 
+/// A queue, of which contracts see the state alone. No value of it is made.
+pub struct QueueState {
+    queue: Queue,
+}
+
+impl Model for QueueState {
+    ghost use Rattle.eevdf_queue.specs.State.{State};
+    ghost use Rattle.eevdf_queue.specs.Codes.{state_code};
+
+    ghost Value = { State };
+
+    ghost coded = { state_code };
+
+    ghost view = { λ q. q.queue.state };
+}
+
 /// What is known of the one history. No value of it is made.
 pub enum Claim {
     /// The lines of a CPU are these.
     Seat(u64, LinkedList<Line>),
-    /// The queue that the history leaves of a CPU is this one.
-    Queue(u64, Queue),
+    /// The queue that the history leaves of a CPU is in this state.
+    Queue(u64, QueueState),
     /// All its lines are these.
     Journal(LinkedList<Line>),
 }

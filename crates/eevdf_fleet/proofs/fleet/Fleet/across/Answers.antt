@@ -15,13 +15,13 @@ other_number : (g : _) (c : After-check-token g) → c.away.inside.number ≡ c.
 other_number g c = ap (λ (s : Slot). s.number) (c.away.view_is ∙ c.deref_mut-away.ensures.value) ∙ c.hold_both-guard.ensures.other
 
 -- the claims of the joined token
-joined : (g : _) (c : After-check-token g) → claims_of c.join.result ≡ Queue c.args.seat.now.cpu c.slot.inside.queue ∷ Queue c.args.other c.away.inside.queue ∷ []
+joined : (g : _) (c : After-check-token g) → claims_of c.join.result ≡ Queue c.args.seat.now.cpu c.slot.inside.queue.state ∷ Queue c.args.other c.away.inside.queue.state ∷ []
 joined g c =
     c.join.ensures.claims
     ∙ ap (λ (l : List Claim). l ++ claims_of c.replace-others.result) (ap claims_of c.replace-own.ensures.value ∙ c.slot.invariant.1)
-    ∙ ap (λ (l : List Claim). Queue c.slot.inside.number c.slot.inside.queue ∷ l) (ap claims_of c.replace-others.ensures.value ∙ c.away.invariant.1)
-    ∙ ap (λ (n : ℕ). Queue n c.slot.inside.queue ∷ Queue c.away.inside.number c.away.inside.queue ∷ []) (own_number g c)
-    ∙ ap (λ (n : ℕ). Queue c.args.seat.now.cpu c.slot.inside.queue ∷ Queue n c.away.inside.queue ∷ []) (other_number g c)
+    ∙ ap (λ (l : List Claim). Queue c.slot.inside.number c.slot.inside.queue.state ∷ l) (ap claims_of c.replace-others.ensures.value ∙ c.away.invariant.1)
+    ∙ ap (λ (n : ℕ). Queue n c.slot.inside.queue.state ∷ Queue c.away.inside.number c.away.inside.queue.state ∷ []) (own_number g c)
+    ∙ ap (λ (n : ℕ). Queue c.args.seat.now.cpu c.slot.inside.queue.state ∷ Queue n c.away.inside.queue.state ∷ []) (other_number g c)
 
 pub act_across-answer-requires-clause-two : goal.act_across-answer-requires-clause-two
 act_across-answer-requires-clause-two g c = (homes_of (setup_of g.N.Names.kit), (c.args.other, c.requires.two))
@@ -29,17 +29,17 @@ act_across-answer-requires-clause-two g c = (homes_of (setup_of g.N.Names.kit), 
 pub act_across-answer-requires-clause-once : goal.act_across-answer-requires-clause-once
 act_across-answer-requires-clause-once g c =
     let at : After-check-token g = (goal.at.act_across-answer-requires-clause-once g c).After-check-token in
-    let known : Known g.N.Names.kit.terms (Queue c.args.seat.now.cpu c.slot.inside.queue ∷ Queue c.args.other c.away.inside.queue ∷ []) =
+    let known : Known g.N.Names.kit.terms (Queue c.args.seat.now.cpu c.slot.inside.queue.state ∷ Queue c.args.other c.away.inside.queue.state ∷ []) =
     subst (λ (cs : List Claim). Known g.N.Names.kit.terms cs) (joined g at) c.check-token.ensures.known in
-    none-twice g.N.Names.kit.terms c.args.seat.now.cpu c.args.other c.slot.inside.queue c.away.inside.queue known (λ e. c.requires.apart (sym e))
+    none-twice g.N.Names.kit.terms c.args.seat.now.cpu c.args.other c.slot.inside.queue.state c.away.inside.queue.state known (λ e. c.requires.apart (sym e))
     (subst (λ (n : ℕ). n < cpus_of (setup_of g.N.Names.kit)) c.cpu.ensures.cpu c.cpu.ensures.below) c.requires.there
 
 pub commit_two-own-requires-clause-done : goal.commit_two-own-requires-clause-done
 commit_two-own-requires-clause-done g c =
     let at : After-check-token g = (goal.at.commit_two-own-requires-clause-done g c).After-check-token in
     record {
-      before = c.slot.inside.queue;
-      other_before = c.away.inside.queue;
+      before = c.slot.inside.queue.state;
+      other_before = c.away.inside.queue.state;
       claimed = c.check-token.ensures.claims ∙ joined g at;
       answers = c.act_across-answer.ensures.answer;
       leaves = c.act_across-answer.ensures.queue;

@@ -10,8 +10,8 @@ commit_one-requires-clause-done g c =
     let number : c.slot.inside.number ≡ c.args.seat.now.cpu =
     ap (λ (s : Slot). s.number) (c.slot.view_is ∙ c.deref_mut-slot.ensures.value) ∙ c.hold-guard.ensures ∙ c.cpu-cpu.ensures.cpu in
     record {
-      before = c.slot.inside.queue;
-      claimed = ap claims_of c.replace-token.ensures.value ∙ c.slot.invariant.1 ∙ ap (λ (n : ℕ). Queue n c.slot.inside.queue ∷ []) number;
+      before = c.slot.inside.queue.state;
+      claimed = ap claims_of c.replace-token.ensures.value ∙ c.slot.invariant.1 ∙ ap (λ (n : ℕ). Queue n c.slot.inside.queue.state ∷ []) number;
       answers = c.act-answer.ensures.answer;
       leaves = c.act-answer.ensures.after;
     }
