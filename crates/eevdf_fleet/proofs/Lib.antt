@@ -5,3 +5,4 @@ pub mod Rooms
 pub mod Commits
 pub mod Pulled
 pub mod Placed
+pub mod Openings

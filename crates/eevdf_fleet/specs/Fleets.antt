@@ -1,5 +1,5 @@
 -- What contracts see of a fleet.
-use Rattle.std.specs.Prelude.{◌≡◌, ℕ, ◌-◌, List, [], ◌∷◌, ◌++◌}
+use Rattle.std.specs.Prelude.{◌≡◌, ℕ, zero, suc, ◌-◌, List, [], ◌∷◌, ◌++◌}
 use Rattle.atomic_table.specs.Seated.{TableId}
 use Rattle.eevdf_queue.specs.State as states
 use Rattle.eevdf_ops.specs.declared.deeds.Line.{Line}
@@ -23,6 +23,14 @@ pub record Seat : Type 0 where
 -- the seat with one line more
 abbrev pub logged : Seat → Line → Seat
 logged s line = record { cpu = s.cpu; log = s.log ++ line ∷ []; room = s.room - 1 }
+
+-- the seat of a CPU before anything is done, and the seats of so many CPUs, in order
+abbrev pub fresh : ℕ → ℕ → Seat
+fresh quota cpu = record { cpu = cpu; log = []; room = quota }
+
+abbrev pub fresh_seats : ℕ → ℕ → List Seat
+fresh_seats quota zero = []
+fresh_seats quota (suc n) = fresh_seats quota n ++ fresh quota n ∷ []
 
 -- what stands in a lock: the queue of the CPU of this number
 pub record Slot : Type 0 where

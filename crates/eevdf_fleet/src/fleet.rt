@@ -1,17 +1,19 @@
-ghost use Rattle.std.specs.Prelude.{◌≡◌, ◌≢◌, ◌<◌, ◌↔◌, [], ◌∷◌, IsErr, MatchResult, true};
+ghost use Rattle.std.specs.Prelude.{◌≡◌, ◌≢◌, ◌<◌, ◌↔◌, [], ◌∷◌, IfOk, IsErr, MatchResult, true};
 ghost use Rattle.std.specs.Sync.Mutex.{mutex_guard_value};
 ghost use Rattle.eevdf_ops.specs.Parts.{decider};
 ghost use Rattle.eevdf_ops.specs.Setup.{allows, cpus_of, home_of, homes_of, is_task};
 ghost use Rattle.eevdf_fleet.specs.declared.board.claims.Claim.TheVariants as claim;
 ghost use Rattle.eevdf_fleet.specs.Board.{IsToken, claims_of};
-ghost use Rattle.eevdf_fleet.specs.Fleets.{logged, setup_of};
+ghost use Rattle.eevdf_fleet.specs.Fleets.{fresh_seats, logged, setup_of};
 ghost use Rattle.eevdf_fleet.specs.TouchedQueues.{AreDoneFrom, IsDoneFrom, IsOfOneQueue, IsOfTwoQueues};
 
 use crate::board::{Change, Said, Token};
 use crate::commit::commit;
 use crate::journal::Journal;
+use crate::kit::Kit;
 use crate::named_board::NamedBoard;
 use crate::names::Names;
+use crate::opening::{Opened, open_all};
 use crate::queue_work::{act, act_across};
 use crate::seat::Seat;
 use crate::slot::Slot;
@@ -19,7 +21,8 @@ use atomic_table::Badge;
 use eevdf_ops::{Answer, CpuId, Deed, Line};
 use eevdf_queue::{Queue, TaskId};
 use eevdf_weight::{Nice, Ns};
-use std::marker::Model;
+use std::alloc::{AllocError, Global};
+use std::marker::{Model, PhantomData};
 use std::mem;
 use std::snapshot::Snapshot;
 use std::sync::{Mutex, MutexGuard, Wait};
@@ -35,6 +38,7 @@ pub struct Fleet<N: Names> {
     homes: Vec<CpuId>,
     locks: Vec<Mutex<Slot<N>>>,
     journal: Mutex<Journal<N>>,
+    queues: Vec<Queue>,
 }
 
 impl<N: Names> Model for Fleet<N> {
@@ -48,10 +52,47 @@ impl<N: Names> Model for Fleet<N> {
     ghost view = { λ f. tt };
 
     ghost invariant = { λ f. (f.homes.items ≡ homes_of (setup_of N.kit)) × (vec_len f.locks ≡ cpus_of (setup_of N.kit))
-        × AreCpus (cpus_of (setup_of N.kit)) (homes_of (setup_of N.kit)) };
+        × AreCpus (cpus_of (setup_of N.kit)) (homes_of (setup_of N.kit))
+        × (vec_len f.queues ≡ cpus_of (setup_of N.kit)) };
 }
 
 impl<N: Names> Fleet<N> {
+    /// A fleet as the kit has it, with the seats of its CPUs in order. It takes all the memory that they ever need.
+    pub fn open(alloc: Global, kit: Kit) -> Result<(Fleet<N>, Vec<Seat<N>>), AllocError>
+        requires { kit ≡ N.kit }
+        ensures { IfOk result (λ r. r.1.items ≡ fresh_seats N.kit.terms.quota (cpus_of (setup_of N.kit))) }
+    {
+        let Kit {
+            board,
+            token,
+            homes,
+            queues,
+            lines,
+            quota,
+        } = kit;
+        let board = NamedBoard::new(board);
+        let opened = open_all(alloc, &board, token, queues, quota)?;
+        let Opened {
+            seats,
+            locks,
+            token,
+            queues,
+        } = opened;
+        let journal = Journal {
+            lines,
+            token,
+            names: PhantomData,
+        };
+        let fleet = Fleet {
+            board,
+            homes,
+            locks,
+            journal: Mutex::new(journal),
+            queues,
+        };
+        Ok((fleet, seats))
+    }
+
     /// Charges the running task of the seat's CPU.
     pub fn tick<R: Wait>(&self, rt: &R, seat: &mut Seat<N>, ns: Ns) -> Result<Answer, SeatFull>
         ensures cases { MatchResult result

@@ -9,12 +9,15 @@ mod board;
 mod commit;
 mod fleet;
 mod journal;
+mod kit;
 mod named_board;
 mod names;
+mod opening;
 mod queue_work;
 mod seat;
 mod slot;
 
 pub use fleet::{Fleet, SeatFull};
+pub use kit::Kit;
 pub use names::Names;
 pub use seat::Seat;

@@ -1,0 +1,72 @@
+ghost use Rattle.std.specs.Prelude.{◌≡◌, ◌≤◌, IfOk};
+ghost use Rattle.eevdf_fleet.specs.Fleets.{setup_of};
+
+use crate::board::{Board, Terms, Token};
+use eevdf_ops::{CpuId, Line, Setup, Solo, laws};
+use eevdf_queue::Queue;
+use std::alloc::{AllocError, Global};
+use std::marker::Model;
+use std::snapshot::Snapshot;
+
+/// What a fleet is opened from: the queues as the setup has them at the start, and room for the lines of every CPU.
+#[derive(Drop)]
+pub struct Kit {
+    pub(crate) board: Board,
+    pub(crate) token: Token,
+    pub(crate) homes: Vec<CpuId>,
+    pub(crate) queues: Vec<Queue>,
+    pub(crate) lines: Vec<Line>,
+    pub(crate) quota: usize,
+}
+
+impl Model for Kit {
+    ghost use Rattle.eevdf_fleet.specs.Fleets.{Kit};
+
+    ghost Value = { Kit };
+
+    ghost view = { λ k. record { board = k.board.table.shared.table_id; terms = k.board.table.shared.key } };
+
+    ghost use Rattle.std.specs.Prelude.{◌≡◌, ◌*◌, ◌≤◌, [], length, vec_len, vec_capacity};
+    ghost use Rattle.eevdf_ops.specs.Outcome.{machine_of};
+    ghost use Rattle.eevdf_ops.specs.Places.{AreCpus};
+    ghost use Rattle.eevdf_ops.specs.Setup.{cpus_of, homes_of};
+    ghost use Rattle.eevdf_fleet.specs.Board.{IsToken, claims_of};
+    ghost use Rattle.eevdf_fleet.specs.Claims.{claims_from};
+
+    ghost invariant = { λ k. IsToken k.board.table.shared.table_id k.board.table.shared.key k.token
+        × (claims_of k.token ≡ claims_from 0 (machine_of k.queues.items))
+        × (k.homes.items ≡ homes_of k.board.table.shared.key.setup.value)
+        × (vec_len k.queues ≡ cpus_of k.board.table.shared.key.setup.value)
+        × (k.lines.items ≡ [])
+        × (cpus_of k.board.table.shared.key.setup.value * k.quota ≤ vec_capacity k.lines)
+        × (k.quota ≡ k.board.table.shared.key.quota)
+        × AreCpus (cpus_of k.board.table.shared.key.setup.value) (homes_of k.board.table.shared.key.setup.value)
+        × (cpus_of k.board.table.shared.key.setup.value ≤ 64) };
+}
+
+impl Kit {
+    /// A kit for a fleet that does as the setup says, in which each CPU may have so many lines.
+    pub fn make(alloc: Global, setup: &Setup, quota: usize) -> Result<Kit, AllocError>
+        requires { quota ≤ 1000000 }
+        ensures setup { IfOk result (λ k. setup_of k ≡ setup.now) }
+        ensures quota { IfOk result (λ k. k.terms.quota ≡ quota) }
+    {
+        laws::start_is_placed(setup);
+        let terms = Terms {
+            setup: Snapshot::of(setup),
+            quota,
+        };
+        let (board, token) = Board::open(alloc, &terms)?;
+        let homes = setup.homes(alloc)?;
+        let queues = Solo::open(alloc, setup)?.into_queues();
+        let lines = Vec::with_capacity(alloc, setup.cpus() * quota)?;
+        Ok(Kit {
+            board,
+            token,
+            homes,
+            queues,
+            lines,
+            quota,
+        })
+    }
+}

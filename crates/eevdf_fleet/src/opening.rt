@@ -1,0 +1,124 @@
+//! How a fleet is opened from its kit.
+
+ghost use Rattle.std.specs.Prelude.{◌≡◌, ◌<◌, ◌≤◌, [], ◌∷◌, drop, take, vec_len, IfOk};
+ghost use Rattle.eevdf_ops.specs.Outcome.{machine_of};
+ghost use Rattle.eevdf_ops.specs.Setup.{cpus_of};
+ghost use Rattle.eevdf_fleet.specs.declared.board.claims.Claim.TheVariants as claim;
+ghost use Rattle.eevdf_fleet.specs.Board.{IsToken, claims_of};
+ghost use Rattle.eevdf_fleet.specs.Claims.{claims_from};
+ghost use Rattle.eevdf_fleet.specs.Fleets.{fresh, fresh_seats, setup_of};
+
+use crate::board::Token;
+use crate::named_board::NamedBoard;
+use crate::names::Names;
+use crate::seat::Seat;
+use crate::slot::Slot;
+use eevdf_ops::CpuId;
+use eevdf_queue::Queue;
+use std::alloc::{AllocError, Global};
+use std::marker::PhantomData;
+use std::mem;
+use std::sync::Mutex;
+
+/// The seats and the locks of a fleet, the token of the journal, and room for as many queues.
+#[derive(Drop)]
+pub(crate) struct Opened<N: Names> {
+    pub(crate) seats: Vec<Seat<N>>,
+    pub(crate) locks: Vec<Mutex<Slot<N>>>,
+    pub(crate) token: Token,
+    pub(crate) queues: Vec<Queue>,
+}
+
+/// A CPU's part of a fleet, and the token of the others.
+#[derive(Drop)]
+struct Part<N: Names> {
+    seat: Seat<N>,
+    slot: Slot<N>,
+    others: Token,
+}
+
+/// Gives each CPU its seat and its lock.
+pub(crate) fn open_all<N: Names>(
+    alloc: Global,
+    board: &NamedBoard<N>,
+    mut token: Token,
+    mut queues: Vec<Queue>,
+    quota: usize,
+) -> Result<Opened<N>, AllocError>
+    requires token { IsToken N.kit.board N.kit.terms token }
+    requires claims { claims_of token ≡ claims_from 0 (machine_of queues.items) }
+    requires cpus { vec_len queues ≡ cpus_of (setup_of N.kit) }
+    requires few { cpus_of (setup_of N.kit) ≤ 64 }
+    requires quota { quota ≡ N.kit.terms.quota }
+    ensures seats { IfOk result (λ o. o.seats.items ≡ fresh_seats quota (cpus_of (setup_of N.kit))) }
+    ensures locks { IfOk result (λ o. vec_len o.locks ≡ cpus_of (setup_of N.kit)) }
+    ensures token { IfOk result (λ o. IsToken N.kit.board N.kit.terms o.token) }
+    ensures claims { IfOk result (λ o. claims_of o.token ≡ claim.Journal [] ∷ []) }
+    ensures queues { IfOk result (λ o. vec_len o.queues ≡ cpus_of (setup_of N.kit)) }
+{
+    let cpus = queues.len();
+    let mut seats = Vec::with_capacity(alloc, cpus)?;
+    let mut locks = Vec::with_capacity(alloc, cpus)?;
+    for number in 0..cpus {
+        let queue = mem::replace(&mut queues[number], Queue::open());
+        let part = open_one(alloc, board, token, cpu_number(number), queue, quota)?;
+        let Part { seat, slot, others } = part;
+        seats.push(seat)?;
+        locks.push(Mutex::new(slot))?;
+        token = others;
+    }
+    Ok(Opened {
+        seats,
+        locks,
+        token,
+        queues,
+    })
+}
+
+/// Gives a CPU its seat and its lock. The token claims what is its first.
+fn open_one<N: Names>(
+    alloc: Global,
+    board: &NamedBoard<N>,
+    token: Token,
+    cpu: CpuId,
+    queue: Queue,
+    quota: usize,
+) -> Result<Part<N>, AllocError>
+    requires token { IsToken N.kit.board N.kit.terms token }
+    requires seat { take 1 (claims_of token) ≡ claim.Seat cpu [] ∷ [] }
+    requires queue { take 1 (drop 1 (claims_of token)) ≡ claim.Queue cpu queue.state ∷ [] }
+    requires cpu { cpu < cpus_of (setup_of N.kit) }
+    requires quota { quota ≡ N.kit.terms.quota }
+    ensures seat { IfOk result (λ p. p.seat ≡ fresh quota cpu) }
+    ensures token { IfOk result (λ p. IsToken N.kit.board N.kit.terms p.others) }
+    ensures claims { IfOk result (λ p. claims_of p.others ≡ drop 1 (drop 1 (claims_of token))) }
+{
+    let (own, token) = board.split(token);
+    let (kept, others) = board.split(token);
+    let log = Vec::with_capacity(alloc, quota)?;
+    let seat = Seat {
+        cpu,
+        room: quota,
+        log,
+        token: own,
+        names: PhantomData,
+    };
+    let slot = Slot {
+        number: cpu,
+        queue,
+        token: kept,
+        names: PhantomData,
+    };
+    Ok(Part { seat, slot, others })
+}
+
+/// The CPU of this number.
+fn cpu_number(number: usize) -> CpuId
+    requires { number < 64 }
+    ensures { result ≡ number }
+{
+    match CpuId::new(number as u64) {
+        Some(cpu) => cpu,
+        None => unreachable!(),
+    }
+}
