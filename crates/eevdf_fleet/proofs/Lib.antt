@@ -1,8 +1,10 @@
 pub mod Totals
 pub mod Told
 pub mod Boards
+pub mod Sums
 pub mod Rooms
 pub mod Commits
 pub mod Pulled
 pub mod Placed
 pub mod Openings
+pub mod Closings

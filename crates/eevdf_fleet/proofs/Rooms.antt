@@ -15,6 +15,7 @@ use Rattle.eevdf_fleet.specs.declared.board.claims.Claim.{Claim}
 use Rattle.eevdf_fleet.specs.declared.board.claims.Claim.TheVariants.{Seat, Queue, Journal}
 use Rattle.eevdf_fleet.specs.Claims.{once, homes, IsKept, AllTell}
 use Rattle.eevdf_fleet.specs.Board.{Known}
+use Rattle.eevdf_fleet.proofs.Sums.{sum_below, sum-none, sum-once, sum-less}
 
 pub left : (a b : Bool) → (a && b) ≡ true → a ≡ true
 left true b e = refl
@@ -37,71 +38,25 @@ decider-below cpus hs (Wake cpu task sender) ok = below cpu cpus (left _ _ (left
 decider-below cpus hs (Pull cpu source) ok = below cpu cpus (left _ _ ok)
 decider-below cpus hs (Renice cpu task nice) ok = below cpu cpus (left _ (is_task hs task) ok)
 
--- a sum over the numbers below one
-sum_below : (ℕ → ℕ) → ℕ → ℕ
-sum_below f zero = 0
-sum_below f (suc n) = f n + sum_below f n
-
 count_of : List Line → ℕ → ℕ
 count_of lines cpu = length (lines_by cpu lines)
 
-below-zero : (n : ℕ) → sum_below (count_of []) n ≡ 0
-unfolding sum_below count_of
-below-zero zero = refl
-below-zero (suc n) = omega (arith, below-zero n)
-
-counted-one : (l : Line) (lines : List Line) (cpu : ℕ) (b : Bool) → (decider l.deed == cpu) ≡ b → count_of (l ∷ lines) cpu ≡ once b + count_of lines cpu
+counted-by : (l : Line) (lines : List Line) (cpu : ℕ) (b : Bool) → (decider l.deed == cpu) ≡ b → count_of (l ∷ lines) cpu ≡ once b + count_of lines cpu
 unfolding count_of
-counted-one l lines cpu true e = ap (λ (x : Bool). length (cond x (l ∷ lines_by cpu lines) (lines_by cpu lines))) e ∙ (omega arith)
-counted-one l lines cpu false e = ap (λ (x : Bool). length (cond x (l ∷ lines_by cpu lines) (lines_by cpu lines))) e ∙ (omega arith)
+counted-by l lines cpu true e = ap (λ (x : Bool). length (cond x (l ∷ lines_by cpu lines) (lines_by cpu lines))) e ∙ (omega arith)
+counted-by l lines cpu false e = ap (λ (x : Bool). length (cond x (l ∷ lines_by cpu lines) (lines_by cpu lines))) e ∙ (omega arith)
 
--- a line is counted for none below a number that isn't past its CPU, and once for those below any other
-sum-past : (l : Line) (lines : List Line) (n : ℕ) → n ≤ decider l.deed → sum_below (count_of (l ∷ lines)) n ≡ sum_below (count_of lines) n
-unfolding sum_below
-sum-past l lines zero h = refl
-sum-past l lines (suc n) h =
-    let apart : (decider l.deed == n) ≡ false = grind (arith, nat_tests) in
-    omega (arith, sum-past l lines n (omega arith), counted-one l lines n false apart)
+none-counted : (cpu : ℕ) → count_of [] cpu ≡ 0
+unfolding count_of
+none-counted cpu = refl
 
-sum-at : (l : Line) (lines : List Line) (n : ℕ) (b : Bool) → (decider l.deed == n) ≡ b → decider l.deed < suc n
-    → (decider l.deed < n → sum_below (count_of (l ∷ lines)) n ≡ suc (sum_below (count_of lines) n))
-    → count_of (l ∷ lines) n + sum_below (count_of (l ∷ lines)) n ≡ suc (count_of lines n + sum_below (count_of lines) n)
-sum-at l lines n true e h rest =
-    let same : decider l.deed ≡ n = grind (arith, nat_tests) in
-    omega (arith, sum-past l lines n (omega arith), counted-one l lines n true e)
-sum-at l lines n false e h rest =
-    let apart : decider l.deed < n = grind (arith, nat_tests) in
-    omega (arith, rest apart, counted-one l lines n false e)
-
-sum-more : (l : Line) (lines : List Line) (n : ℕ) → decider l.deed < n → sum_below (count_of (l ∷ lines)) n ≡ suc (sum_below (count_of lines) n)
-unfolding sum_below
-sum-more l lines zero h = absurd (omega arith)
-sum-more l lines (suc n) h = sum-at l lines n (decider l.deed == n) refl h (λ less. sum-more l lines n less)
-
+-- the lines of all CPUs are all lines
 all-counted : (cpus : ℕ) (hs : List ℕ) (lines : List Line) → list_all (is_allowed cpus hs) (deeds_of lines) ≡ true → sum_below (count_of lines) cpus ≡ length lines
-all-counted cpus hs [] ok = below-zero cpus
+all-counted cpus hs [] ok = sum-none (count_of []) cpus none-counted
 all-counted cpus hs (l ∷ lines) ok =
     let here : is_allowed cpus hs l.deed ≡ true = left _ _ ok in
     let rest : list_all (is_allowed cpus hs) (deeds_of lines) ≡ true = right (is_allowed cpus hs l.deed) _ ok in
-    omega (arith, sum-more l lines cpus (decider-below cpus hs l.deed here), all-counted cpus hs lines rest)
-
-sum-most : (f : ℕ → ℕ) (most n : ℕ) → ((k : ℕ) → f k ≤ most) → sum_below f n ≤ n * most
-unfolding sum_below
-sum-most f most zero h = omega arith
-sum-most f most (suc n) h = omega (arith, sum-most f most n h, h n)
-
-sum-less-at : (f : ℕ → ℕ) (most n cpu : ℕ) (b : Bool) → (cpu == n) ≡ b → ((k : ℕ) → f k ≤ most) → cpu < suc n → f cpu < most → (cpu < n → sum_below f n < n * most) → f n + sum_below f n < suc n * most
-sum-less-at f most n cpu true e h less some rest =
-    let same : cpu ≡ n = grind (arith, nat_tests) in
-    let here : f n < most = subst (λ (k : ℕ). f k < most) same some in
-    omega (arith, sum-most f most n h)
-sum-less-at f most n cpu false e h less some rest =
-    let before : cpu < n = grind (arith, nat_tests) in omega (arith, rest before, h n)
-
-sum-less : (f : ℕ → ℕ) (most n cpu : ℕ) → ((k : ℕ) → f k ≤ most) → cpu < n → f cpu < most → sum_below f n < n * most
-unfolding sum_below
-sum-less f most zero cpu h less some = absurd (omega arith)
-sum-less f most (suc n) cpu h less some = sum-less-at f most n cpu (cpu == n) refl h less some (λ before. sum-less f most n cpu h before some)
+    omega (arith, sum-once (count_of (l ∷ lines)) (count_of lines) (decider l.deed) cpus (λ k. counted-by l lines k (decider l.deed == k) refl) (decider-below cpus hs l.deed here), all-counted cpus hs lines rest)
 
 -- while a CPU has room, so has the journal
 pub journal-room : (t : Terms) (cpu : ℕ) (log all : List Line) (cs : List Claim) → Known t (Seat cpu log ∷ Journal all ∷ cs) → cpu < cpus_of t.setup.value → length log < t.quota

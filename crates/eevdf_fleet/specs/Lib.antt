@@ -2,3 +2,4 @@ pub mod Claims
 pub mod Board
 pub mod Fleets
 pub mod TouchedQueues
+pub mod Closing

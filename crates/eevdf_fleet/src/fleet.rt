@@ -1,6 +1,12 @@
-ghost use Rattle.std.specs.Prelude.{◌≡◌, ◌≢◌, ◌<◌, ◌↔◌, [], ◌∷◌, IfOk, IsErr, MatchResult, true};
+ghost use Rattle.std.specs.Prelude.{◌≡◌, ◌≢◌, ◌<◌, ◌↔◌, [], ◌∷◌, All, IfOk, IsErr, MatchResult, replicate, true, ◌*◌};
 ghost use Rattle.std.specs.Sync.Mutex.{mutex_guard_value};
+ghost use Rattle.std.specs.List.{list_all};
+ghost use Rattle.eevdf_ops.specs.Histories.{IsOneThread};
+ghost use Rattle.eevdf_ops.specs.Machine.{start};
+ghost use Rattle.eevdf_ops.specs.Outcome.{machine_of};
 ghost use Rattle.eevdf_ops.specs.Parts.{decider};
+ghost use Rattle.eevdf_ops.specs.Places.{IsPlaced};
+ghost use Rattle.eevdf_ops.specs.Programs.{deeds_of, lines_by};
 ghost use Rattle.eevdf_ops.specs.Setup.{allows, cpus_of, home_of, homes_of, is_task};
 ghost use Rattle.eevdf_fleet.specs.declared.board.claims.Claim.TheVariants as claim;
 ghost use Rattle.eevdf_fleet.specs.Board.{IsToken, claims_of};
@@ -8,6 +14,7 @@ ghost use Rattle.eevdf_fleet.specs.Fleets.{fresh_seats, logged, setup_of};
 ghost use Rattle.eevdf_fleet.specs.TouchedQueues.{AreDoneFrom, IsDoneFrom, IsOfOneQueue, IsOfTwoQueues};
 
 use crate::board::{Change, Said, Token};
+use crate::closing::{close_locks, close_seats};
 use crate::commit::commit;
 use crate::journal::Journal;
 use crate::kit::Kit;
@@ -18,7 +25,7 @@ use crate::queue_work::{act, act_across};
 use crate::seat::Seat;
 use crate::slot::Slot;
 use atomic_table::Badge;
-use eevdf_ops::{Answer, CpuId, Deed, Line};
+use eevdf_ops::{Answer, CpuId, Deed, Line, Outcome};
 use eevdf_queue::{Queue, TaskId};
 use eevdf_weight::{Nice, Ns};
 use std::alloc::{AllocError, Global};
@@ -39,10 +46,11 @@ pub struct Fleet<N: Names> {
     locks: Vec<Mutex<Slot<N>>>,
     journal: Mutex<Journal<N>>,
     queues: Vec<Queue>,
+    left: Vec<Vec<TaskId>>,
 }
 
 impl<N: Names> Model for Fleet<N> {
-    ghost use Rattle.std.specs.Prelude.{◌≡◌, vec_len};
+    ghost use Rattle.std.specs.Prelude.{◌≡◌, ◌*◌, [], map, replicate, vec_len};
     ghost use Rattle.eevdf_ops.specs.Places.{AreCpus};
     ghost use Rattle.eevdf_ops.specs.Setup.{cpus_of, homes_of};
     ghost use Rattle.eevdf_fleet.specs.Fleets.{setup_of};
@@ -53,7 +61,9 @@ impl<N: Names> Model for Fleet<N> {
 
     ghost invariant = { λ f. (f.homes.items ≡ homes_of (setup_of N.kit)) × (vec_len f.locks ≡ cpus_of (setup_of N.kit))
         × AreCpus (cpus_of (setup_of N.kit)) (homes_of (setup_of N.kit))
-        × (vec_len f.queues ≡ cpus_of (setup_of N.kit)) };
+        × (vec_len f.queues ≡ cpus_of (setup_of N.kit))
+        × (map (λ l. l.items) f.left.items ≡ replicate (cpus_of (setup_of N.kit) * cpus_of (setup_of N.kit)) [])
+        × (vec_len f.left ≡ cpus_of (setup_of N.kit) * cpus_of (setup_of N.kit)) };
 }
 
 impl<N: Names> Fleet<N> {
@@ -68,6 +78,7 @@ impl<N: Names> Fleet<N> {
             homes,
             queues,
             lines,
+            left,
             quota,
         } = kit;
         let board = NamedBoard::new(board);
@@ -89,6 +100,7 @@ impl<N: Names> Fleet<N> {
             locks,
             journal: Mutex::new(journal),
             queues,
+            left,
         };
         Ok((fleet, seats))
     }
@@ -185,6 +197,33 @@ impl<N: Names> Fleet<N> {
         ensures below { result < cpus_of (setup_of N.kit) }
     {
         self.homes[task.get() as usize]
+    }
+
+    /// Closes the fleet. Its history is that of one thread that does the deeds one after the other, each at once, and so
+    /// are its queues; each seat's lines are those of its CPU.
+    pub fn close(self, seats: Vec<Seat<N>>) -> Outcome
+        ensures one_thread { IsOneThread (homes_of (setup_of N.kit)) (start (setup_of N.kit)) (deeds_of result.lines) result }
+        ensures allowed { list_all (allows (setup_of N.kit)) (deeds_of result.lines) ≡ true }
+        ensures logs { All (λ s. lines_by s.cpu result.lines ≡ s.log) seats.items }
+        ensures places { IsPlaced (homes_of (setup_of N.kit)) (machine_of result.queues) }
+        ensures left { result.left ≡ replicate (cpus_of (setup_of N.kit) * cpus_of (setup_of N.kit)) [] }
+    {
+        let Fleet {
+            board,
+            homes: _,
+            locks,
+            journal,
+            queues,
+            left,
+        } = self;
+        let Journal {
+            lines,
+            token,
+            names: _,
+        } = journal.into_inner();
+        let token = close_seats(&board, token, seats, &lines);
+        let queues = close_locks(&board, token, locks, queues, &lines);
+        Outcome::of(lines, queues, left)
     }
 
     /// Does a deed of the seat's CPU that touches its queue alone.

@@ -1,9 +1,9 @@
-ghost use Rattle.std.specs.Prelude.{◌≡◌, ◌≤◌, IfOk};
+ghost use Rattle.std.specs.Prelude.{◌≡◌, ◌≤◌, [], IfOk, map, replicate, vec_len};
 ghost use Rattle.eevdf_fleet.specs.Fleets.{setup_of};
 
 use crate::board::{Board, Terms, Token};
 use eevdf_ops::{CpuId, Line, Setup, Solo, laws};
-use eevdf_queue::Queue;
+use eevdf_queue::{Queue, TaskId};
 use std::alloc::{AllocError, Global};
 use std::marker::Model;
 use std::snapshot::Snapshot;
@@ -16,6 +16,7 @@ pub struct Kit {
     pub(crate) homes: Vec<CpuId>,
     pub(crate) queues: Vec<Queue>,
     pub(crate) lines: Vec<Line>,
+    pub(crate) left: Vec<Vec<TaskId>>,
     pub(crate) quota: usize,
 }
 
@@ -26,7 +27,7 @@ impl Model for Kit {
 
     ghost view = { λ k. record { board = k.board.table.shared.table_id; terms = k.board.table.shared.key } };
 
-    ghost use Rattle.std.specs.Prelude.{◌≡◌, ◌*◌, ◌≤◌, [], length, vec_len, vec_capacity};
+    ghost use Rattle.std.specs.Prelude.{◌≡◌, ◌*◌, ◌≤◌, [], length, map, replicate, vec_len, vec_capacity};
     ghost use Rattle.eevdf_ops.specs.Outcome.{machine_of};
     ghost use Rattle.eevdf_ops.specs.Places.{AreCpus};
     ghost use Rattle.eevdf_ops.specs.Setup.{cpus_of, homes_of};
@@ -41,7 +42,10 @@ impl Model for Kit {
         × (cpus_of k.board.table.shared.key.setup.value * k.quota ≤ vec_capacity k.lines)
         × (k.quota ≡ k.board.table.shared.key.quota)
         × AreCpus (cpus_of k.board.table.shared.key.setup.value) (homes_of k.board.table.shared.key.setup.value)
-        × (cpus_of k.board.table.shared.key.setup.value ≤ 64) };
+        × (cpus_of k.board.table.shared.key.setup.value ≤ 64)
+        × (map (λ l. l.items) k.left.items
+            ≡ replicate (cpus_of k.board.table.shared.key.setup.value * cpus_of k.board.table.shared.key.setup.value) [])
+        × (vec_len k.left ≡ cpus_of k.board.table.shared.key.setup.value * cpus_of k.board.table.shared.key.setup.value) };
 }
 
 impl Kit {
@@ -60,13 +64,26 @@ impl Kit {
         let homes = setup.homes(alloc)?;
         let queues = Solo::open(alloc, setup)?.into_queues();
         let lines = Vec::with_capacity(alloc, setup.cpus() * quota)?;
+        let left = no_requests(alloc, setup.cpus() * setup.cpus())?;
         Ok(Kit {
             board,
             token,
             homes,
             queues,
             lines,
+            left,
             quota,
         })
     }
+}
+
+fn no_requests(alloc: Global, pairs: usize) -> Result<Vec<Vec<TaskId>>, AllocError>
+    ensures empty { IfOk result (λ left. map (λ l. l.items) left.items ≡ replicate pairs []) }
+    ensures len { IfOk result (λ left. vec_len left ≡ pairs) }
+{
+    let mut left = Vec::with_capacity(alloc, pairs)?;
+    for _pair in 0..pairs {
+        left.push(Vec::new(alloc))?;
+    }
+    Ok(left)
 }

@@ -6,6 +6,7 @@
 #![tactic(auto)]
 
 mod board;
+mod closing;
 mod commit;
 mod fleet;
 mod journal;

@@ -1,0 +1,93 @@
+//! How a fleet is closed: what its seats and its locks kept is brought together.
+
+ghost use Rattle.std.specs.Prelude.{◌≡◌, ◌≤◌, [], ◌∷◌, All, vec_len};
+ghost use Rattle.eevdf_ops.specs.Outcome.{machine_of};
+ghost use Rattle.eevdf_ops.specs.Programs.{lines_by};
+ghost use Rattle.eevdf_ops.specs.Setup.{cpus_of};
+ghost use Rattle.eevdf_fleet.specs.declared.board.claims.Claim.TheVariants as claim;
+ghost use Rattle.eevdf_fleet.specs.Board.{IsToken, claims_of};
+ghost use Rattle.eevdf_fleet.specs.Claims.{IsKept, told};
+ghost use Rattle.eevdf_fleet.specs.Fleets.{setup_of};
+
+use crate::board::Token;
+use crate::named_board::NamedBoard;
+use crate::names::Names;
+use crate::seat::Seat;
+use crate::slot::Slot;
+use eevdf_ops::Line;
+use eevdf_queue::Queue;
+use std::sync::Mutex;
+
+/// Takes in the seats. The lines of each are those of its CPU.
+pub(crate) fn close_seats<N: Names>(
+    board: &NamedBoard<N>,
+    mut token: Token,
+    seats: Vec<Seat<N>>,
+    lines: &Vec<Line>,
+) -> Token
+    requires token { IsToken N.kit.board N.kit.terms token }
+    requires claims { claims_of token ≡ claim.Journal lines.now.items ∷ [] }
+    ensures token { IsToken N.kit.board N.kit.terms result }
+    ensures claims { claims_of result ≡ claim.Journal lines.now.items ∷ [] }
+    ensures logs { All (λ s. lines_by s.cpu lines.now.items ≡ s.log) seats.items }
+{
+    for seat in seats {
+        token = close_seat(board, token, seat, lines);
+    }
+    token
+}
+
+/// Takes in a seat. Its lines are those of its CPU.
+fn close_seat<N: Names>(
+    board: &NamedBoard<N>,
+    token: Token,
+    seat: Seat<N>,
+    lines: &Vec<Line>,
+) -> Token
+    requires token { IsToken N.kit.board N.kit.terms token }
+    requires claims { claims_of token ≡ claim.Journal lines.now.items ∷ [] }
+    ensures token { IsToken N.kit.board N.kit.terms result }
+    ensures claims { claims_of result ≡ claim.Journal lines.now.items ∷ [] }
+    ensures log { lines_by seat.cpu lines.now.items ≡ seat.log }
+{
+    let Seat {
+        cpu: _,
+        room: _,
+        log: _,
+        token: own,
+        names: _,
+    } = seat;
+    let token = board.check(board.join(token, own));
+    let (_own, token) = board.split(token);
+    token
+}
+
+/// Takes the queues out of the locks, and puts each at its number. They are the machine that the lines leave.
+pub(crate) fn close_locks<N: Names>(
+    board: &NamedBoard<N>,
+    mut token: Token,
+    mut locks: Vec<Mutex<Slot<N>>>,
+    mut queues: Vec<Queue>,
+    lines: &Vec<Line>,
+) -> Vec<Queue>
+    requires token { IsToken N.kit.board N.kit.terms token }
+    requires claims { claims_of token ≡ claim.Journal lines.now.items ∷ [] }
+    requires locks { vec_len locks ≡ cpus_of (setup_of N.kit) }
+    requires queues { vec_len queues ≡ cpus_of (setup_of N.kit) }
+    ensures machine { machine_of result.items ≡ told N.kit.terms lines.now.items }
+    ensures kept { IsKept N.kit.terms lines.now.items }
+    ensures cpus { vec_len result ≡ cpus_of (setup_of N.kit) }
+{
+    while let Some(lock) = locks.pop() {
+        let Slot {
+            number,
+            queue,
+            token: own,
+            names: _,
+        } = lock.into_inner();
+        token = board.check(board.join(token, own));
+        queues[number.get() as usize] = queue;
+    }
+    board.check(token);
+    queues
+}
