@@ -8,6 +8,7 @@ use Rattle.std.proofs.lemmas.Bool.Decides.{nat_tests}
 use mathlib.Core.Option as option
 use lib.ListN.{get_elem?}
 use prog.Atomic.{either}
+use Rattle.std.specs.declared.snapshot.Snapshot.{Snapshot}
 use Rattle.atomic_table.specs.Table.{State, Me, Step, step, keeps, Allows, Splits, Joins}
 use Rattle.atomic_table.proofs.Lists.{at_set, at_snoc, set_again, set_else}
 use Rattle.eevdf_ops.specs.declared.deeds.Answer.{Answer}
@@ -146,14 +147,14 @@ appended t cs s views id owed at h =
       once = λ k. omega (arith, total-set k views id v w at, times-advanced k s cs, h.once k);
     }
 
-pub appends : (t : Terms) (slots id : ℕ) (cs : List Claim) (s : Said) (f : ℕ → ℕ) (step : Step Said) → step.said ≡ option.some s → Owes t cs s
+pub appends : (t : Terms) (slots id : ℕ) (cs : List Claim) (s : Snapshot Said) (f : ℕ → ℕ) (step : Step (Snapshot Said)) → step.said ≡ option.some s → Owes t cs s.value
     → Allows (Rule t) slots id (knowing t cs, []) 0 f (Appended step (knowing t cs, []))
 appends t slots id cs s f step said owed state h many at small = (
-  knowing t (map (advanced s) cs),
+  knowing t (map (advanced s.value) cs),
   keeps,
   tt,
-  appended t cs s state.views id owed at h,
-  ap (λ (o : option.Option Said). (advanced_if o (knowing t cs), [])) (sym said),
+  appended t cs s.value state.views id owed at h,
+  ap (λ (o : option.Option (Snapshot Said)). (advanced_if o (knowing t cs), [])) (sym said),
 )
 
 known : (t : Terms) (cs : List Claim) (views : List View) (id : ℕ) → get_elem? views id ≡ option.some (knowing t cs) → IsOneHistory t views → Known t cs
@@ -164,7 +165,7 @@ known t cs views id at h = record {
   once = λ k. omega (arith, times-at k views id (knowing t cs) at, h.once k);
 }
 
-pub checks : (t : Terms) (slots id : ℕ) (cs : List Claim) (step : Step Said) → Allows (Rule t) slots id (knowing t cs, []) 0 (λ n. n) (Checked step (knowing t cs, []))
+pub checks : (t : Terms) (slots id : ℕ) (cs : List Claim) (step : Step (Snapshot Said)) → Allows (Rule t) slots id (knowing t cs, []) 0 (λ n. n) (Checked step (knowing t cs, []))
 checks t slots id cs step state h many at small = (
   knowing t cs,
   keeps,
@@ -285,19 +286,19 @@ pub opens : (t : Terms) → IsKept t [] → IsOneHistory t (knowing t (opening t
 opens t kept = record { lines = []; kept = kept; fits = opened_views t; once = λ k. omega (arith, once-from (start t) k 0) }
 
 -- the same of a seat whose view is known
-mine : (me : Me Said View) (v : View) → me.0 ≡ v → me.1 ≡ [] → me ≡ (v, [])
+mine : (me : Me (Snapshot Said) View) (v : View) → me.0 ≡ v → me.1 ≡ [] → me ≡ (v, [])
 mine me v e f = λ i. (e i, f i)
 
-pub appends_as : (t : Terms) (slots id : ℕ) (me : Me Said View) (cs : List Claim) (s : Said) → me.0 ≡ knowing t cs → me.1 ≡ [] → Owes t cs s
+pub appends_as : (t : Terms) (slots id : ℕ) (me : Me (Snapshot Said) View) (cs : List Claim) (s : Snapshot Said) → me.0 ≡ knowing t cs → me.1 ≡ [] → Owes t cs s.value
     → Allows (Rule t) slots id me 0 (λ n. either (n == 0) 0 n) (Appended (step slots 0 0 0 (option.some s)) me)
 appends_as t slots id me cs s e g owed =
-    subst (λ (x : Me Said View). Allows (Rule t) slots id x 0 (λ n. either (n == 0) 0 n) (Appended (step slots 0 0 0 (option.some s)) x)) (sym (mine me (knowing t cs) e g))
+    subst (λ (x : Me (Snapshot Said) View). Allows (Rule t) slots id x 0 (λ n. either (n == 0) 0 n) (Appended (step slots 0 0 0 (option.some s)) x)) (sym (mine me (knowing t cs) e g))
     (appends t slots id cs s (λ n. either (n == 0) 0 n) (step slots 0 0 0 (option.some s)) refl owed)
 
-pub checks_as : (t : Terms) (slots id : ℕ) (me : Me Said View) (cs : List Claim) → me.0 ≡ knowing t cs → me.1 ≡ []
+pub checks_as : (t : Terms) (slots id : ℕ) (me : Me (Snapshot Said) View) (cs : List Claim) → me.0 ≡ knowing t cs → me.1 ≡ []
     → Allows (Rule t) slots id me 0 (λ n. n) (Checked (step slots 0 0 0 option.none) me)
 checks_as t slots id me cs e g =
-    subst (λ (x : Me Said View). Allows (Rule t) slots id x 0 (λ n. n) (Checked (step slots 0 0 0 option.none) x)) (sym (mine me (knowing t cs) e g))
+    subst (λ (x : Me (Snapshot Said) View). Allows (Rule t) slots id x 0 (λ n. n) (Checked (step slots 0 0 0 option.none) x)) (sym (mine me (knowing t cs) e g))
     (checks t slots id cs (step slots 0 0 0 option.none))
 
 pub splits_as : (t : Terms) (id : ℕ) (v : View) (cs : List Claim) → v ≡ knowing t cs → Splits (Rule t) id v (other_claims v) (first_claim v)

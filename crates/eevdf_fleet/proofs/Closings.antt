@@ -103,6 +103,6 @@ whole-machine t lines qs cs known closed many enough =
     at : (c : ℕ) → (c < cpus_of t.setup.value) ⊎ (cpus_of t.setup.value ≤ c) → queue_at (machine_of qs) c ≡ queue_at (told t lines) c
     at c side =
         elim side [
-          inl less ↦ stands t lines qs cs c closed (each-claimed t lines qs cs c closed known.once enough less)
-        | inr past ↦ get_or_past (machine_of qs) c empty_state (omega (arith, length-machine_of qs)) ∙ sym (get_or_past (told t lines) c empty_state (omega (arith, length-told t lines)))
+          | inl less ↦ stands t lines qs cs c closed (each-claimed t lines qs cs c closed known.once enough less)
+          | inr past ↦ get_or_past (machine_of qs) c empty_state (omega (arith, length-machine_of qs)) ∙ sym (get_or_past (told t lines) c empty_state (omega (arith, length-told t lines)))
         ]

@@ -3,6 +3,7 @@ use Rattle.std.specs.Prelude.{◌≡◌, ℕ, ◌≤◌, List, [], ◌∷◌, �
 use mathlib.Core.Option as option
 use lib.ListN.{get_elem?}
 use Rattle.atomic_table.specs.Table.{State, Me, Step}
+use Rattle.std.specs.declared.snapshot.Snapshot.{Snapshot}
 use Rattle.atomic_table.specs.Seated.{TableId}
 use Rattle.atomic_table.specs.declared.badge.Badge.{Badge}
 use Rattle.eevdf_ops.specs.declared.deeds.Line.{Line}
@@ -21,15 +22,15 @@ pub record IsOneHistory (t : Terms) (views : List View) : Type 0 where
   pub fits : (id : ℕ) (v : View) → get_elem? views id ≡ option.some v → Fits t lines v
   pub once : (k : Key) → total k views ≤ 1
 
-abbrev pub Rule : Terms → State Said View → Type 0
+abbrev pub Rule : Terms → State (Snapshot Said) View → Type 0
 Rule t s = IsOneHistory t s.views
 
 -- what a token's holder knows after a commit
-abbrev pub advanced_if : option.Option Said → View → View
+abbrev pub advanced_if : option.Option (Snapshot Said) → View → View
 advanced_if option.none v = v
-advanced_if (option.some s) v = record { terms = v.terms; claims = map (advanced s) v.claims }
+advanced_if (option.some s) v = record { terms = v.terms; claims = map (advanced s.value) v.claims }
 
-abbrev pub Appended : Step Said → Me Said View → ℕ → Me Said View → Type 0
+abbrev pub Appended : Step (Snapshot Said) → Me (Snapshot Said) View → ℕ → Me (Snapshot Said) View → Type 0
 Appended step before found after = after ≡ (advanced_if step.said before.0, before.1)
 
 -- claims hold of one history on these terms, and none of them stands twice
@@ -42,7 +43,7 @@ pub record Known (t : Terms) (claims : List Claim) : Type 0 where
 abbrev pub IfKnown : View → Type 0
 IfKnown v = IfSome v.terms (λ (t : Terms). Known t v.claims)
 
-abbrev pub Checked : Step Said → Me Said View → ℕ → Me Said View → Type 0
+abbrev pub Checked : Step (Snapshot Said) → Me (Snapshot Said) View → ℕ → Me (Snapshot Said) View → Type 0
 Checked step before found after = (after ≡ before) × IfKnown before.0
 
 -- a token cut in two: its first claim, and the others

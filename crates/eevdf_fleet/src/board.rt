@@ -11,11 +11,11 @@ ghost use Rattle.eevdf_fleet.specs.Board.{IsToken, Known, claims_of};
 mod claims;
 mod rule;
 
-pub(crate) use claims::{Change, Claim, Said, Terms, View};
-
 use atomic_table::{Badge, Table};
+pub(crate) use claims::{Change, Claim, Said, Terms, View};
 use rule::{Append, Both, Check, First, OneHistory};
 use std::alloc::{AllocError, Global};
+use std::snapshot::Snapshot;
 
 /// The right to some claims.
 pub(crate) type Token = Badge<View>;
@@ -23,7 +23,7 @@ pub(crate) type Token = Badge<View>;
 /// What the tokens of one history step on.
 #[derive(Drop)]
 pub(crate) struct Board {
-    table: Table<Said, View, Terms, OneHistory, Global>,
+    table: Table<Snapshot<Said>, View, Terms, OneHistory, Global>,
     ghost one_word: { table.shared.table_id.words ≡ 1 },
 }
 
@@ -76,7 +76,7 @@ impl Board {
         let mut seat = token.into_seat();
         self.table
             .shared
-            .compare_exchange_with::<Append>(&mut seat, 0, 0, 0, said);
+            .compare_exchange_with::<Append>(&mut seat, 0, 0, 0, &Snapshot::of(said));
         seat.into_badge()
     }
 

@@ -45,6 +45,12 @@ pub struct Fleet<N: Names> {
     homes: Vec<CpuId>,
     locks: Vec<Mutex<Slot<N>>>,
     journal: Mutex<Journal<N>>,
+    reserve: Reserve,
+}
+
+/// Room for what is given when a fleet is closed: the queues, and the requests that are left.
+#[derive(Drop)]
+struct Reserve {
     queues: Vec<Queue>,
     left: Vec<Vec<TaskId>>,
 }
@@ -61,9 +67,9 @@ impl<N: Names> Model for Fleet<N> {
 
     ghost invariant = { λ f. (f.homes.items ≡ homes_of (setup_of N.kit)) × (vec_len f.locks ≡ cpus_of (setup_of N.kit))
         × AreCpus (cpus_of (setup_of N.kit)) (homes_of (setup_of N.kit))
-        × (vec_len f.queues ≡ cpus_of (setup_of N.kit))
-        × (map (λ l. l.items) f.left.items ≡ replicate (cpus_of (setup_of N.kit) * cpus_of (setup_of N.kit)) [])
-        × (vec_len f.left ≡ cpus_of (setup_of N.kit) * cpus_of (setup_of N.kit)) };
+        × (vec_len f.reserve.queues ≡ cpus_of (setup_of N.kit))
+        × (map (λ l. l.items) f.reserve.left.items ≡ replicate (cpus_of (setup_of N.kit) * cpus_of (setup_of N.kit)) [])
+        × (vec_len f.reserve.left ≡ cpus_of (setup_of N.kit) * cpus_of (setup_of N.kit)) };
 }
 
 impl<N: Names> Fleet<N> {
@@ -99,8 +105,7 @@ impl<N: Names> Fleet<N> {
             homes,
             locks,
             journal: Mutex::new(journal),
-            queues,
-            left,
+            reserve: Reserve { queues, left },
         };
         Ok((fleet, seats))
     }
@@ -139,7 +144,13 @@ impl<N: Names> Fleet<N> {
     }
 
     /// Gives a task another nice level, if it is runnable on the seat's CPU.
-    pub fn renice<R: Wait>(&self, rt: &R, seat: &mut Seat<N>, task: TaskId, nice: Nice) -> Result<Answer, SeatFull>
+    pub fn renice<R: Wait>(
+        &self,
+        rt: &R,
+        seat: &mut Seat<N>,
+        task: TaskId,
+        nice: Nice,
+    ) -> Result<Answer, SeatFull>
         requires { is_task (homes_of (setup_of N.kit)) task ≡ true }
         ensures cases { MatchResult result
             (λ a. seat.new ≡ logged seat.old (record { deed = Deed.Renice seat.old.cpu task nice; answer = a }))
@@ -213,9 +224,9 @@ impl<N: Names> Fleet<N> {
             homes: _,
             locks,
             journal,
-            queues,
-            left,
+            reserve,
         } = self;
+        let Reserve { queues, left } = reserve;
         let Journal {
             lines,
             token,
@@ -278,7 +289,15 @@ impl<N: Names> Fleet<N> {
         let token = self.board.check(self.board.join(others, own));
         let answer = act_across(&mut slot.queue, &mut away.queue, &deed);
         let line = Line { deed, answer };
-        let (own, others) = self.commit_two(rt, seat, token, &slot.queue, other, &away.queue, &line);
+        let (own, others) = self.commit_two(
+            rt,
+            seat,
+            token,
+            &slot.queue,
+            other,
+            &away.queue,
+            &line,
+        );
         slot.token = own;
         away.token = others;
         Ok(line.answer)

@@ -44,7 +44,7 @@ impl Model for Kit {
         × AreCpus (cpus_of k.board.table.shared.key.setup.value) (homes_of k.board.table.shared.key.setup.value)
         × (cpus_of k.board.table.shared.key.setup.value ≤ 64)
         × (map (λ l. l.items) k.left.items
-            ≡ replicate (cpus_of k.board.table.shared.key.setup.value * cpus_of k.board.table.shared.key.setup.value) [])
+        ≡ replicate (cpus_of k.board.table.shared.key.setup.value * cpus_of k.board.table.shared.key.setup.value) [])
         × (vec_len k.left ≡ cpus_of k.board.table.shared.key.setup.value * cpus_of k.board.table.shared.key.setup.value) };
 }
 

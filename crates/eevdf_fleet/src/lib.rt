@@ -22,3 +22,6 @@ pub use fleet::{Fleet, SeatFull};
 pub use kit::Kit;
 pub use names::Names;
 pub use seat::Seat;
+
+#[cfg(test)]
+mod tests;

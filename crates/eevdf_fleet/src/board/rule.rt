@@ -3,11 +3,12 @@ ghost use Rattle.eevdf_fleet.specs.Claims.{knowing, nothing, opening};
 
 use crate::board::claims::{Said, Terms, View};
 use atomic_table::{Join, Play, Split, TableRule};
+use std::snapshot::Snapshot;
 
 /// All claims are of one history, and of nothing is there more than one claim.
 pub struct OneHistory;
 
-impl TableRule<Said, View, Terms> for OneHistory {
+impl TableRule<Snapshot<Said>, View, Terms> for OneHistory {
     ghost holds = { Rule };
 
     ghost first = { λ t. knowing t (opening t) };
@@ -16,14 +17,14 @@ impl TableRule<Said, View, Terms> for OneHistory {
 /// A line is committed.
 pub struct Append;
 
-impl Play<Said, View> for Append {
+impl Play<Snapshot<Said>, View> for Append {
     ghost then = { Appended };
 }
 
 /// The claims of a token are compared.
 pub struct Check;
 
-impl Play<Said, View> for Check {
+impl Play<Snapshot<Said>, View> for Check {
     ghost then = { Checked };
 }
 

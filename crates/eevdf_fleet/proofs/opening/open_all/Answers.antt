@@ -35,9 +35,9 @@ loop-number-preserved g c =
     let at : After-cpu_number g = (goal.at.loop-number-preserved g c).After-cpu_number in (
       search rules,
       other-claims c.loop-number.queues.items c.loop-number.number c.replace-queue.result c.replace-queue.new.dest (claims_of c.loop-number.token) (claims_of c.in_ok-part.part.others)
-      (within g at) (taken g at) c.loop-number.invariant.1 c.in_ok-part.ensures.claims,
+          (within g at) (taken g at) c.loop-number.invariant.1 c.in_ok-part.ensures.claims,
       fresh-more c.args.quota c.loop-number.number c.loop-number.seats.items c.push.new.self.items c.in_ok-part.part.seat c.loop-number.invariant.2
-      (c.in_ok-part.ensures.seat ∙ ap (λ (n : ℕ). fresh c.args.quota n) c.cpu_number.ensures) c.in_ok-push.ensures.items,
+          (c.in_ok-part.ensures.seat ∙ ap (λ (n : ℕ). fresh c.args.quota n) c.cpu_number.ensures) c.in_ok-push.ensures.items,
       omega (arith, c.in_ok-push-2.ensures.len, c.loop-number.invariant.3),
       c.loop-number.invariant.4,
       c.loop-number.invariant.5,

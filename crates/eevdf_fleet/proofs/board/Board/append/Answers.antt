@@ -1,9 +1,10 @@
-use Rattle.std.proofs.Common.{◌≡◌, ◌<◌, List, [], ◌∷◌, refl, arith, rules}
+use Rattle.std.proofs.Common.{◌≡◌, ◌<◌, List, [], ◌∷◌, refl, sym, subst, arith, rules}
 use mathlib.Core.Option.{some, none}
 use Rattle.eevdf_fleet.specs.declared.board.claims.Terms.{Terms}
 use Rattle.eevdf_fleet.specs.declared.board.claims.View.{View}
 use Rattle.eevdf_fleet.specs.declared.board.claims.Claim.{Claim}
-use Rattle.eevdf_fleet.specs.Claims.{knowing}
+use Rattle.eevdf_fleet.specs.declared.board.claims.Said.{Said}
+use Rattle.eevdf_fleet.specs.Claims.{knowing, Owes}
 use Rattle.eevdf_fleet.specs.Board.{claims_of}
 use Rattle.eevdf_fleet.proofs.Boards.{appends_as}
 use Rattle.eevdf_fleet.proofs.board.Board.append.Goals as goal
@@ -14,4 +15,4 @@ compare_exchange_with-requires c =
     let view : c.into_seat-seat.result.me.0 ≡ knowing t (claims_of c.args.token) = cc in
     let bare : c.into_seat-seat.result.me.1 ≡ [] = cc in
     let of : c.into_seat-seat.result.table_id ≡ c.args.self.now.table.shared.table_id = cc in
-    (of, omega arith, appends_as t _ _ c.into_seat-seat.result.me (claims_of c.args.token) c.args.said.now view bare c.requires.owed)
+    (of, omega arith, appends_as t _ _ c.into_seat-seat.result.me (claims_of c.args.token) c.of.result view bare (subst (λ (s : Said). Owes t (claims_of c.args.token) s) (sym c.of.ensures) c.requires.owed))
