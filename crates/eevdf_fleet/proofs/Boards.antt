@@ -1,6 +1,6 @@
 -- Each step keeps the rule of the board.
-use Rattle.std.proofs.Common.{◌≡◌, ◌≢◌, ℕ, zero, suc, ◌+◌, ◌<◌, ◌≤◌, ◌⊎◌, Bool, true, false, cond, List, [], ◌∷◌, ◌++◌, length, map, set, take, drop, append-nil, eq-eqb, refl, sym, ap, subst, ◌∙◌, ⊎_elim, arith}
-use Rattle.std.specs.Prelude.{◌==◌, Option, Some, None}
+use Rattle.std.proofs.Common.{◌≡◌, ◌≢◌, ℕ, zero, suc, ◌+◌, ◌<◌, ◌≤◌, Bool, true, false, cond, List, [], ◌∷◌, ◌++◌, length, map, set, take, drop, append-nil, eq-eqb, refl, sym, ap, subst, ◌∙◌, ⊎_elim, arith}
+use Rattle.std.specs.Prelude.{◌==◌}
 use Rattle.std.specs.List.{list_all}
 use Rattle.std.proofs.Math.ListN.{length-append}
 use Rattle.eevdf_ops.specs.declared.deeds.Deed.{Deed}
@@ -9,9 +9,8 @@ use mathlib.Core.Option as option
 use lib.ListN.{get_elem?}
 use prog.Atomic.{either}
 use Rattle.std.specs.declared.snapshot.Snapshot.{Snapshot}
-use Rattle.atomic_table.specs.Table.{State, Me, Step, step, keeps, Allows, Splits, Joins}
+use Rattle.atomic_table.specs.Table.{Me, Step, step, keeps, Allows, Splits, Joins}
 use Rattle.atomic_table.proofs.Lists.{at_set, at_snoc, set_again, set_else}
-use Rattle.eevdf_ops.specs.declared.deeds.Answer.{Answer}
 use Rattle.eevdf_ops.specs.declared.deeds.Line.{Line}
 use Rattle.eevdf_ops.specs.Setup.{allows, cpus_of, is_allowed}
 use Rattle.eevdf_ops.specs.Machine.{Machine, queue_at}
@@ -28,7 +27,7 @@ use Rattle.eevdf_fleet.specs.declared.board.claims.Claim.{Claim}
 use Rattle.eevdf_fleet.specs.declared.board.claims.Claim.TheVariants.{Seat, Queue, Journal}
 use Rattle.eevdf_fleet.specs.declared.board.claims.View.{View}
 use Rattle.eevdf_fleet.specs.declared.board.claims.Said.{Said}
-use Rattle.eevdf_fleet.specs.Claims.{Key, seat, queue, journal, once, here, times, total, touches, homes, told, IsKept, Tells, AllTell, Agrees, AllAgree, Owes, advanced, knowing, nothing, start, claims_from, opening}
+use Rattle.eevdf_fleet.specs.Claims.{Key, seat, queue, journal, once, here, times, touches, homes, told, IsKept, Tells, AllTell, Agrees, AllAgree, Owes, advanced, knowing, nothing, start, claims_from, opening}
 use Rattle.eevdf_fleet.specs.Board.{Fits, IsOneHistory, Rule, Appended, advanced_if, Known, Checked, first_claim, other_claims, joined}
 use Rattle.eevdf_fleet.proofs.Totals.{total-set, total-append, times-append, times-at, times-two, times-advanced}
 use Rattle.eevdf_fleet.proofs.Told.{length-told, told-more, lines_by-more, list_all-more, history-more, deeds-more}

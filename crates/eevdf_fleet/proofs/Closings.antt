@@ -1,9 +1,9 @@
 -- The queues that are gathered are those of the history.
-use Rattle.std.proofs.Common.{◌≡◌, ◌≢◌, ℕ, zero, suc, ◌+◌, ◌*◌, ◌<◌, ◌≤◌, ◌⊎◌, Bool, true, false, List, [], ◌∷◌, length, get_or, set, inl, inr, refl, sym, ap, subst, ◌∙◌, arith}
+use Rattle.std.proofs.Common.{◌≡◌, ◌≢◌, ℕ, zero, suc, ◌+◌, ◌<◌, ◌≤◌, ◌⊎◌, Bool, true, false, List, [], ◌∷◌, length, set, inl, inr, refl, sym, ap, subst, ◌∙◌, arith}
 use Rattle.std.specs.Prelude.{◌==◌}
 use Rattle.std.proofs.lemmas.List.{get_or_past, get_or-set_same, get_or-set_other}
 use Rattle.std.proofs.lemmas.Bool.Decides.{nat_tests}
-use Rattle.eevdf_queue.specs.State.{State, View, empty_state}
+use Rattle.eevdf_queue.specs.State.{View, empty_state}
 use Rattle.eevdf_ops.specs.declared.deeds.Line.{Line}
 use Rattle.eevdf_ops.specs.Machine.{Machine, queue_at}
 use Rattle.eevdf_ops.specs.Outcome.{machine_of}
@@ -13,7 +13,7 @@ use Rattle.eevdf_ops.proofs.PartsProofs.{same_machine}
 use Rattle.eevdf_fleet.specs.declared.board.claims.Terms.{Terms}
 use Rattle.eevdf_fleet.specs.declared.board.claims.Claim.{Claim}
 use Rattle.eevdf_fleet.specs.declared.board.claims.Claim.TheVariants.{Seat, Queue, Journal}
-use Rattle.eevdf_fleet.specs.Claims.{Key, seat, queue, journal, once, here, times, told, AllTell}
+use Rattle.eevdf_fleet.specs.Claims.{Key, queue, once, here, times, told, AllTell}
 use Rattle.eevdf_fleet.specs.Board.{Known}
 use Rattle.eevdf_fleet.specs.Closing.{AreClosed}
 use Rattle.eevdf_fleet.proofs.Sums.{sum_below, sum-none, sum-once, sum-less}

@@ -1,16 +1,14 @@
 -- What a commit owes, from what is owed of the queues.
-use Rattle.std.proofs.Common.{◌≡◌, ℕ, ◌+◌, ◌<◌, ◌≤◌, Bool, true, false, List, [], ◌∷◌, ◌++◌, length, map, eq-eqb, refl, sym, ap, subst, ◌∙◌, arith}
+use Rattle.std.proofs.Common.{◌≡◌, ℕ, ◌<◌, ◌≤◌, true, List, [], ◌∷◌, ◌++◌, length, sym, ap, ◌∙◌, arith}
 use Rattle.std.specs.Prelude.{◌==◌}
 use Rattle.eevdf_ops.specs.declared.deeds.Line.{Line}
-use Rattle.eevdf_ops.specs.Machine.{Machine}
 use Rattle.eevdf_ops.specs.Parts.{decider}
-use Rattle.eevdf_ops.specs.Parts as parts
 use Rattle.eevdf_ops.specs.Programs.{lines_by}
 use Rattle.eevdf_fleet.specs.declared.board.claims.Terms.{Terms}
 use Rattle.eevdf_fleet.specs.declared.board.claims.Claim.{Claim}
-use Rattle.eevdf_fleet.specs.declared.board.claims.Claim.TheVariants.{Seat, Queue, Journal}
+use Rattle.eevdf_fleet.specs.declared.board.claims.Claim.TheVariants.{Seat, Journal}
 use Rattle.eevdf_fleet.specs.declared.board.claims.Said.{Said}
-use Rattle.eevdf_fleet.specs.Claims.{Key, seat, queue, journal, once, here, times, touches, homes, AllTell, AllAgree, Owes, OwesQueues, advanced}
+use Rattle.eevdf_fleet.specs.Claims.{Key, seat, queue, journal, once, times, touches, homes, Owes, OwesQueues}
 
 -- the claims of the lines of a CPU, of the journal and of queues
 abbrev pub with_seat : ℕ → List Line → List Line → List Claim → List Claim

@@ -1,7 +1,6 @@
 -- The claims that a fleet is opened with, CPU by CPU.
-use Rattle.std.proofs.Common.{◌≡◌, ℕ, zero, suc, ◌+◌, ◌<◌, List, [], ◌∷◌, ◌++◌, length, get_or, drop, set, add-one, refl, sym, ap, ◌∙◌, arith}
-use Rattle.eevdf_queue.specs.State.{State, View}
-use Rattle.eevdf_ops.specs.Machine.{Machine}
+use Rattle.std.proofs.Common.{◌≡◌, ℕ, zero, suc, ◌+◌, ◌<◌, List, [], ◌∷◌, ◌++◌, length, get_or, drop, set, refl, sym, ap, ◌∙◌, arith}
+use Rattle.eevdf_queue.specs.State.{View}
 use Rattle.eevdf_ops.specs.Outcome.{machine_of}
 use Rattle.eevdf_fleet.specs.declared.board.claims.Claim.{Claim}
 use Rattle.eevdf_fleet.specs.declared.board.claims.Claim.TheVariants.{Seat, Queue}

@@ -1,12 +1,11 @@
 -- No task stands twice in the queues that a token claims.
-use Rattle.std.proofs.Common.{◌≡◌, ◌≢◌, ℕ, zero, suc, ◌+◌, ◌<◌, ◌≤◌, Bool, true, false, List, [], ◌∷◌, length, refl, sym, ap, subst, ◌∙◌, arith}
+use Rattle.std.proofs.Common.{◌≡◌, ◌≢◌, ℕ, zero, suc, ◌+◌, ◌<◌, ◌≤◌, Bool, true, false, [], ◌∷◌, length, refl, ap, arith}
 use Rattle.eevdf_queue.specs.State.{State}
 use Rattle.eevdf_ops.specs.Machine.{Machine, queue_at}
 use Rattle.eevdf_ops.specs.Places.{count, places_in, places}
 use Rattle.eevdf_ops.specs.Setup.{cpus_of, is_task}
 use Rattle.eevdf_ops.proofs.MachinePlaces.{places-at}
 use Rattle.eevdf_fleet.specs.declared.board.claims.Terms.{Terms}
-use Rattle.eevdf_fleet.specs.declared.board.claims.Claim.{Claim}
 use Rattle.eevdf_fleet.specs.declared.board.claims.Claim.TheVariants.{Queue}
 use Rattle.eevdf_fleet.specs.Claims.{homes, told}
 use Rattle.eevdf_fleet.specs.Board.{Known}

@@ -1,6 +1,6 @@
 -- A pull that takes a task.
 use Rattle.std.proofs.Common.{◌≡◌, ℕ, false, refl, sym, ap, ◌∙◌}
-use Rattle.std.specs.Prelude.{Option, Some, None, Result, Ok, Err}
+use Rattle.std.specs.Prelude.{Some, Result, Ok, Err}
 use Rattle.eevdf_queue.specs.State.{State, Contents}
 use Rattle.eevdf_queue.specs.Candidate.{is_running}
 use Rattle.eevdf_queue.specs.Leaving.{carried}

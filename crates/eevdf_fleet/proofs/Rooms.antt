@@ -1,5 +1,5 @@
 -- The journal has room for the lines of every CPU.
-use Rattle.std.proofs.Common.{◌≡◌, ℕ, zero, suc, ◌+◌, ◌*◌, ◌<◌, ◌≤◌, Bool, true, false, cond, ◌&&◌, List, [], ◌∷◌, ◌++◌, length, map, refl, sym, ap, subst, ◌∙◌, arith}
+use Rattle.std.proofs.Common.{◌≡◌, ℕ, ◌+◌, ◌*◌, ◌<◌, Bool, true, false, cond, ◌&&◌, List, [], ◌∷◌, length, refl, ap, ◌∙◌, arith}
 use Rattle.std.specs.Prelude.{◌==◌, nat_lt}
 use Rattle.std.specs.List.{list_all}
 use Rattle.std.proofs.lemmas.Bool.{false≢true}
@@ -7,13 +7,13 @@ use Rattle.std.proofs.lemmas.Bool.Decides.{nat_tests}
 use Rattle.eevdf_ops.specs.declared.deeds.Deed.{Deed}
 use Rattle.eevdf_ops.specs.declared.deeds.Deed.TheVariants.{Tick, Pick, Yield, Sleep, Wake, Pull, Renice}
 use Rattle.eevdf_ops.specs.declared.deeds.Line.{Line}
-use Rattle.eevdf_ops.specs.Setup.{is_allowed, is_task, allows, cpus_of, homes_of}
+use Rattle.eevdf_ops.specs.Setup.{is_allowed, is_task, cpus_of}
 use Rattle.eevdf_ops.specs.Parts.{decider}
 use Rattle.eevdf_ops.specs.Programs.{deeds_of, lines_by}
 use Rattle.eevdf_fleet.specs.declared.board.claims.Terms.{Terms}
 use Rattle.eevdf_fleet.specs.declared.board.claims.Claim.{Claim}
-use Rattle.eevdf_fleet.specs.declared.board.claims.Claim.TheVariants.{Seat, Queue, Journal}
-use Rattle.eevdf_fleet.specs.Claims.{once, homes, IsKept, AllTell}
+use Rattle.eevdf_fleet.specs.declared.board.claims.Claim.TheVariants.{Seat, Journal}
+use Rattle.eevdf_fleet.specs.Claims.{once, homes}
 use Rattle.eevdf_fleet.specs.Board.{Known}
 use Rattle.eevdf_fleet.proofs.Sums.{sum_below, sum-none, sum-once, sum-less}
 

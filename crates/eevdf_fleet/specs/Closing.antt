@@ -1,5 +1,5 @@
 -- What is known while a fleet is closed.
-use Rattle.std.specs.Prelude.{◌≡◌, ℕ, ◌<◌, List, [], ◌∷◌}
+use Rattle.std.specs.Prelude.{◌≡◌, ◌<◌, List, [], ◌∷◌}
 use Rattle.eevdf_queue.specs.State.{View}
 use Rattle.eevdf_ops.specs.declared.deeds.Line.{Line}
 use Rattle.eevdf_ops.specs.Machine.{queue_at}

@@ -1,9 +1,9 @@
 -- What contracts see of a fleet.
-use Rattle.std.specs.Prelude.{◌≡◌, ℕ, zero, suc, ◌-◌, List, [], ◌∷◌, ◌++◌}
+use Rattle.std.specs.Prelude.{ℕ, zero, suc, ◌-◌, List, [], ◌∷◌, ◌++◌}
 use Rattle.atomic_table.specs.Seated.{TableId}
 use Rattle.eevdf_queue.specs.State as states
 use Rattle.eevdf_ops.specs.declared.deeds.Line.{Line}
-use Rattle.eevdf_ops.specs.Setup.{Setup, cpus_of, homes_of}
+use Rattle.eevdf_ops.specs.Setup.{Setup}
 use Rattle.eevdf_fleet.specs.declared.board.claims.Terms.{Terms}
 
 -- what a fleet is opened from: the setup and each CPU's quota, and the table that its tokens are of

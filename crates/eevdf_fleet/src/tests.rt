@@ -31,9 +31,7 @@ fn setup(alloc: Global, cpus: usize, tasks: usize) -> Result<Setup, Fail> {
     for _cpu in 0..cpus {
         programs.push(Vec::new(alloc))?;
     }
-    Ok(Setup::make(alloc, &specs, &programs)
-        .ok()
-        .ok_or("setup")?)
+    Ok(Setup::make(alloc, &specs, &programs).ok().ok_or("setup")?)
 }
 
 fn fills_a_seat<N: Names, R: Wait + Abort>(rt: &R, alloc: Global, kit: Kit) -> Result<(), Fail>

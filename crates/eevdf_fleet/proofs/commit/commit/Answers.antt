@@ -1,5 +1,4 @@
-use Rattle.std.proofs.Common.{◌≡◌, ℕ, ◌<◌, ◌≤◌, ◌++◌, ◌*◌, List, [], ◌∷◌, length, append_assoc, refl, sym, ap, subst, ◌∙◌, arith, rules, vec_len}
-use Rattle.eevdf_ops.specs.Setup.{cpus_of}
+use Rattle.std.proofs.Common.{◌≡◌, ◌<◌, List, length, sym, ap, subst, ◌∙◌, arith}
 use Rattle.eevdf_fleet.specs.declared.board.claims.Claim.{Claim}
 use Rattle.eevdf_fleet.specs.declared.board.claims.Claim.TheVariants.{Seat, Journal}
 use Rattle.eevdf_fleet.specs.Claims.{Owes}

@@ -1,4 +1,3 @@
-use Rattle.std.proofs.Common.{◌≡◌, sym, ap, ◌∙◌}
 use Rattle.eevdf_fleet.proofs.Pulled.{Pulls, pulls}
 use Rattle.eevdf_fleet.proofs.queue_work.pull.Goals as goal
 use Rattle.eevdf_fleet.proofs.queue_work.pull.Goals.{In-Ok}

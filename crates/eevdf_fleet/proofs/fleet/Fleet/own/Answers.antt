@@ -1,5 +1,4 @@
-use Rattle.std.proofs.Common.{◌≡◌, ℕ, List, [], ◌∷◌, sym, ap, ◌∙◌}
-use Rattle.eevdf_fleet.specs.declared.board.claims.Claim.{Claim}
+use Rattle.std.proofs.Common.{◌≡◌, ℕ, [], ◌∷◌, ap, ◌∙◌}
 use Rattle.eevdf_fleet.specs.declared.board.claims.Claim.TheVariants.{Queue}
 use Rattle.eevdf_fleet.specs.Board.{claims_of}
 use Rattle.eevdf_fleet.specs.Fleets.{Slot}
