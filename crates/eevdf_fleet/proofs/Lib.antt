@@ -8,3 +8,9 @@ pub mod Pulled
 pub mod Placed
 pub mod Openings
 pub mod Closings
+pub mod RingPlaces
+pub mod RingEnds
+pub mod RingRests
+pub mod RingOpenings
+pub mod RingNaming
+pub mod RingWords

@@ -3,3 +3,7 @@ pub mod Board
 pub mod Fleets
 pub mod TouchedQueues
 pub mod Closing
+pub mod Rings
+pub mod RingEnds
+pub mod ReturnedEnds
+pub mod OpenedRings

@@ -15,6 +15,7 @@ mod named_board;
 mod names;
 mod opening;
 mod queue_work;
+mod rings;
 mod seat;
 mod slot;
 

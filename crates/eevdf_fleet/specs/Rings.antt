@@ -1,0 +1,99 @@
+-- The rings by which CPUs post requests to one another, as callers see them.
+use Rattle.std.specs.Prelude.{◌≡◌, ℕ, ◌+◌, ◌*◌, ◌<◌, List, [], ◌++◌, length, map, replicate, slice_get, slice_index_or, slice_set, Option}
+use Rattle.std.specs.List.{range_with_len}
+use Rattle.std.specs.declared.alloc.Global.{Global}
+use Rattle.rtrb.specs.declared.AnyItems.{AnyItems}
+use Rattle.rtrb.specs.declared.producer.Producer.{Producer}
+
+-- a ring is named by its end that pushes, as it was opened
+abbrev pub Ring : Type 0
+Ring = Producer ℕ Global AnyItems
+
+-- rings that were opened, by senders and homes, and how many requests each has room for
+pub record Rings : Type 0 where
+  pub capacity : ℕ
+  pub rings : List (List Ring)
+
+abbrev pub ring_at : Rings → ℕ → ℕ → Option Ring
+ring_at r sender home = slice_get (slice_index_or r.rings sender []) home
+
+-- the names are those of rings that were opened
+pub record AreNamed (capacity : ℕ) (ring : ℕ → ℕ → Option Ring) (r : Rings) : Type 0 where
+  pub capacity_is : capacity ≡ r.capacity
+  pub ring_is : (sender home : ℕ) → ring sender home ≡ ring_at r sender home
+
+-- what a CPU has posted, by homes
+pub record Posts : Type 0 where
+  pub sender : ℕ
+  pub posted : List (List ℕ)
+
+-- what a CPU has taken of the requests that were posted to it, by senders
+pub record Takes : Type 0 where
+  pub home : ℕ
+  pub taken : List (List ℕ)
+
+abbrev pub no_posts : ℕ → ℕ → Posts
+no_posts cpus sender = record { sender = sender; posted = replicate cpus [] }
+
+abbrev pub no_takes : ℕ → ℕ → Takes
+no_takes cpus home = record { home = home; taken = replicate cpus [] }
+
+-- those of each of so many CPUs, before anything is posted
+abbrev pub all_no_posts : ℕ → List Posts
+all_no_posts cpus = map (no_posts cpus) (range_with_len 0 cpus)
+
+abbrev pub all_no_takes : ℕ → List Takes
+all_no_takes cpus = map (no_takes cpus) (range_with_len 0 cpus)
+
+abbrev pub posted_to : Posts → ℕ → List ℕ
+posted_to p home = slice_index_or p.posted home []
+
+abbrev pub taken_from : Takes → ℕ → List ℕ
+taken_from t sender = slice_index_or t.taken sender []
+
+-- and with these requests more
+abbrev pub posted_more : Posts → ℕ → List ℕ → Posts
+posted_more p home tasks = record p { posted = slice_set p.posted home (posted_to p home ++ tasks) }
+
+abbrev pub taken_more : Takes → ℕ → List ℕ → Takes
+taken_more t sender tasks = record t { taken = slice_set t.taken sender (taken_from t sender ++ tasks) }
+
+-- the oldest request of a sender to a home that wasn't taken yet
+abbrev pub oldest : Posts → Takes → Option ℕ
+oldest p t = slice_get (posted_to p t.home) (length (taken_from t p.sender))
+
+-- these are what one CPU, of so many, has posted and taken
+pub record AreOf (cpus cpu : ℕ) (p : Posts) (t : Takes) : Type 0 where
+  pub within : cpu < cpus
+  pub sender_is : p.sender ≡ cpu
+  pub home_is : t.home ≡ cpu
+  pub to_all : length p.posted ≡ cpus
+  pub from_all : length t.taken ≡ cpus
+
+-- the ends of rings that were given back, in the order of their CPUs
+pub record Returned : Type 0 where
+  pub cpus : ℕ
+  pub posts : List Posts
+  pub takes : List Takes
+
+abbrev pub posts_at : Returned → ℕ → Posts
+posts_at r sender = slice_index_or r.posts sender (no_posts 0 sender)
+
+abbrev pub takes_at : Returned → ℕ → Takes
+takes_at r home = slice_index_or r.takes home (no_takes 0 home)
+
+-- the ends of all CPUs were given back
+pub record AllReturned (r : Returned) : Type 0 where
+  pub senders : length r.posts ≡ r.cpus
+  pub homes : length r.takes ≡ r.cpus
+  pub each : (cpu : ℕ) → cpu < r.cpus → AreOf r.cpus cpu (posts_at r cpu) (takes_at r cpu)
+
+-- what is left of the requests from a sender to a home, in lists of which there is one for each pair
+abbrev pub left_of : ℕ → List (List ℕ) → ℕ → ℕ → List ℕ
+left_of cpus left sender home = slice_index_or left (sender * cpus + home) []
+
+-- for each pair the requests that were posted are those that were taken, followed by those that are left
+pub record AreLeft (r : Returned) (left : List (List ℕ)) : Type 0 where
+  pub each : length left ≡ r.cpus * r.cpus
+  pub pairs : (sender home : ℕ) → sender < r.cpus → home < r.cpus
+      → posted_to (posts_at r sender) home ≡ taken_from (takes_at r home) sender ++ left_of r.cpus left sender home

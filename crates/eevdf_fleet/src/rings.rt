@@ -1,0 +1,20 @@
+//! The rings by which CPUs post requests to one another: one for each pair of a sender and a home, a CPU with itself
+//! too. The sender has the ends that push, one for each home, and the home those that pop, one for each sender.
+
+mod consumer_ends;
+mod named_ends;
+mod opened_rings;
+mod producer_ends;
+mod returned_ends;
+mod ring_ends;
+mod ring_names;
+
+pub(crate) use consumer_ends::Consumers;
+pub(crate) use opened_rings::Rings;
+pub(crate) use producer_ends::Producers;
+pub use producer_ends::RingFull;
+pub(crate) use returned_ends::ReturnedEnds;
+pub use ring_names::RingNames;
+
+#[cfg(test)]
+mod tests;

@@ -1,0 +1,100 @@
+use crate::rings::producer_ends::Producers;
+use crate::rings::ring_ends::{pop, pop_beside, pop_rest};
+use crate::rings::ring_names::RingNames;
+use eevdf_queue::TaskId;
+use rtrb::Consumer;
+use std::marker::{Model, PhantomData};
+
+/// The ends at which a home takes the requests that were posted to it, one for each sender.
+#[derive(Drop)]
+pub(crate) struct Consumers<N: RingNames> {
+    home: usize,
+    ends: Vec<Consumer<TaskId>>,
+    of: PhantomData<N>,
+}
+
+impl<N: RingNames> Model for Consumers<N> {
+    ghost use Rattle.eevdf_fleet.specs.RingEnds.{takes, AreConsumers};
+    ghost use Rattle.eevdf_fleet.specs.Rings as rings;
+
+    ghost Value = { rings.Takes };
+
+    ghost view = { λ c. takes c.home c.ends.items };
+
+    ghost invariant = { λ c. AreConsumers N.ring_capacity N.ring c.home c.ends.items };
+}
+
+impl<N: RingNames> Consumers<N> {
+    ghost use Rattle.std.specs.Prelude.{◌≡◌, ◌<◌, ◌≤◌, ◌++◌, [], ◌∷◌, length, vec_capacity, IfNone, IfSome};
+    ghost use Rattle.eevdf_fleet.specs.Rings as rings;
+    ghost use Rattle.eevdf_fleet.specs.RingEnds.{takes, AreConsumers};
+
+    /// The ends of a home's rings.
+    pub(super) fn new(home: usize, ends: Vec<Consumer<TaskId>>) -> Consumers<N>
+        requires { AreConsumers N.ring_capacity N.ring home ends.items }
+        ensures { result ≡ takes home ends.items }
+    {
+        Consumers {
+            home,
+            ends,
+            of: PhantomData,
+        }
+    }
+
+    /// Takes the oldest request of a sender that wasn't taken yet: of those that the home posted to itself if there
+    /// is one, of another sender's if one is seen. The producers are the home's own. It takes no memory.
+    pub(crate) fn take(&mut self, producers: &mut Producers<N>, sender: usize) -> Option<TaskId>
+        requires own { producers.old.sender ≡ self.old.home }
+        requires home { self.old.home < length producers.old.posted }
+        requires sender { sender < length self.old.taken }
+        ensures some { IfSome result (λ task. self.new ≡ rings.taken_more self.old sender (task ∷ [])) }
+        ensures none { IfNone result (self.new ≡ self.old) }
+        ensures own { sender ≡ self.old.home → result ≡ rings.oldest producers.old self.old }
+        ensures producers { producers.new ≡ producers.old }
+    {
+        if sender == self.home {
+            self.take_own(producers)
+        } else {
+            self.take_seen(sender)
+        }
+    }
+
+    /// Takes the oldest request of a sender that wasn't taken yet, if one is seen.
+    fn take_seen(&mut self, sender: usize) -> Option<TaskId>
+        requires { sender < length self.old.taken }
+        ensures some { IfSome result (λ task. self.new ≡ rings.taken_more self.old sender (task ∷ [])) }
+        ensures none { IfNone result (self.new ≡ self.old) }
+    {
+        pop(&mut self.ends[sender])
+    }
+
+    /// Takes the oldest request that the home posted to itself and that wasn't taken yet, if there is one.
+    fn take_own(&mut self, producers: &mut Producers<N>) -> Option<TaskId>
+        requires own { producers.old.sender ≡ self.old.home }
+        requires home { self.old.home < length producers.old.posted }
+        requires sender { self.old.home < length self.old.taken }
+        ensures some { IfSome result (λ task. self.new ≡ rings.taken_more self.old self.old.home (task ∷ [])) }
+        ensures none { IfNone result (self.new ≡ self.old) }
+        ensures oldest { result ≡ rings.oldest producers.old self.old }
+        ensures producers { producers.new ≡ producers.old }
+    {
+        let home = self.home;
+        pop_beside(&mut self.ends[home], &mut producers.ends[home])
+    }
+
+    /// Takes all requests of a sender that weren't taken yet, oldest first. It takes no memory.
+    pub(super) fn take_rest(&mut self, producers: &mut Producers<N>, left: &mut Vec<TaskId>)
+        requires home { self.old.home < length producers.old.posted }
+        requires sender { producers.old.sender < length self.old.taken }
+        requires empty { left.old.items ≡ [] }
+        requires room { N.ring_capacity ≤ vec_capacity left.old }
+        ensures taken { self.new ≡ rings.taken_more self.old producers.old.sender left.new.items }
+        ensures left { rings.posted_to producers.old self.old.home
+            ≡ rings.taken_from self.old producers.old.sender ++ left.new.items }
+        ensures producers { producers.new ≡ producers.old }
+    {
+        let home = self.home;
+        let sender = producers.sender;
+        pop_rest(&mut self.ends[sender], &mut producers.ends[home], left);
+    }
+}

@@ -1,0 +1,104 @@
+ghost use Rattle.std.specs.Prelude.{◌≡◌, [], length, replicate, IfOk};
+ghost use Rattle.eevdf_fleet.specs.Rings as rings;
+ghost use Rattle.eevdf_fleet.specs.OpenedRings.{AreRow};
+ghost use Rattle.eevdf_fleet.specs.RingEnds.{lists_of};
+
+use crate::rings::consumer_ends::Consumers;
+use crate::rings::named_ends::{consumers_by_home, producers_by_sender};
+use crate::rings::producer_ends::Producers;
+use crate::rings::ring_names::RingNames;
+use eevdf_queue::TaskId;
+use rtrb::{Consumer, Producer, RingBuffer};
+use std::alloc::{AllocError, Global};
+use std::marker::Model;
+
+/// A ring for each pair of a sender and a home, into which nothing was posted.
+#[derive(Drop)]
+pub(crate) struct Rings {
+    capacity: usize,
+    // by senders, then by homes
+    producers: Vec<Vec<Producer<TaskId>>>,
+    // by homes, then by senders
+    consumers: Vec<Vec<Consumer<TaskId>>>,
+}
+
+impl Model for Rings {
+    ghost use Rattle.std.specs.Prelude.{length};
+    ghost use Rattle.eevdf_fleet.specs.Rings as rings;
+    ghost use Rattle.eevdf_fleet.specs.OpenedRings.{AreOpened};
+    ghost use Rattle.eevdf_fleet.specs.RingEnds.{lists_of};
+
+    ghost Value = { rings.Rings };
+
+    ghost view = { λ r. record { capacity = r.capacity; rings = lists_of r.producers.items } };
+
+    ghost invariant = { λ r.
+        AreOpened r.capacity (length r.producers.items) (lists_of r.producers.items) (lists_of r.consumers.items) };
+}
+
+impl Rings {
+    /// Opens a ring of this capacity for each pair of so many CPUs.
+    pub(crate) fn open(alloc: Global, cpus: usize, capacity: usize) -> Result<Rings, AllocError>
+        ensures cpus { IfOk result (λ r. length r.rings ≡ cpus) }
+        ensures capacity { IfOk result (λ r. r.capacity ≡ capacity) }
+    {
+        let mut consumers = no_consumers(alloc, cpus)?;
+        let mut producers = Vec::with_capacity(alloc, cpus)?;
+        for _ in 0..cpus {
+            producers.push(open_row(alloc, capacity, &mut consumers)?)?;
+        }
+        Ok(Rings {
+            capacity,
+            producers,
+            consumers,
+        })
+    }
+
+    /// The ends of the rings, by the CPUs that keep them: each CPU's as a sender, and each CPU's as a home.
+    pub(crate) fn named<N: RingNames>(
+        self,
+        alloc: Global,
+    ) -> Result<(Vec<Producers<N>>, Vec<Consumers<N>>), AllocError>
+        requires { rings.AreNamed N.ring_capacity N.ring self }
+        ensures producers { IfOk result (λ ends. ends.0.items ≡ rings.all_no_posts (length self.rings)) }
+        ensures consumers { IfOk result (λ ends. ends.1.items ≡ rings.all_no_takes (length self.rings)) }
+    {
+        let Rings {
+            capacity: _,
+            producers,
+            consumers,
+        } = self;
+        let producers = producers_by_sender(alloc, producers)?;
+        let consumers = consumers_by_home(alloc, consumers)?;
+        Ok((producers, consumers))
+    }
+}
+
+/// For each CPU no ends yet.
+fn no_consumers(alloc: Global, cpus: usize) -> Result<Vec<Vec<Consumer<TaskId>>>, AllocError>
+    ensures { IfOk result (λ columns. lists_of columns.items ≡ replicate cpus []) }
+{
+    let mut columns = Vec::with_capacity(alloc, cpus)?;
+    for _ in 0..cpus {
+        columns.push(Vec::with_capacity(alloc, cpus)?)?;
+    }
+    Ok(columns)
+}
+
+/// Opens the rings of one sender to all homes. Each home gets its end, and the sender's ends are the answer.
+fn open_row(
+    alloc: Global,
+    capacity: usize,
+    columns: &mut Vec<Vec<Consumer<TaskId>>>,
+) -> Result<Vec<Producer<TaskId>>, AllocError>
+    ensures { IfOk result (λ row. AreRow capacity (length (lists_of columns.old.items)) row.items
+        (lists_of columns.old.items) (lists_of columns.new.items)) }
+{
+    let mut row = Vec::with_capacity(alloc, columns.len())?;
+    for home in 0..columns.len() {
+        let (producer, consumer) = RingBuffer::new(alloc, capacity)?;
+        row.push(producer)?;
+        columns[home].push(consumer)?;
+    }
+    Ok(row)
+}
