@@ -5,8 +5,10 @@ set -u
 here=$(cd "$(dirname "$0")" && pwd)
 top=${TOP:-$here/..}
 
-# builds a program that isn't built yet; its words are none that it knows, so it does nothing else
+# Builds what isn't built yet: launch does so before it runs a program, here with words that no program knows.
 for name in eevdf eevdf_orders; do
-  [ -n "${TOP:-}" ] || "$top/launch" "$name" words of nobody >/dev/null
+  [ -n "${TOP:-}" ] && break
+  "$top/launch" "$name" words of nobody </dev/null 2>&1 >/dev/null | grep -v '^usage: ' >&2
+  [ "${PIPESTATUS[0]}" -ne 3 ] || exit 3
 done
 exec python3 -B "$here/compare.py" --top "$top" --seconds "${1:-40}" ${2:+--seed "$2"}
