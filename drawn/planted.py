@@ -37,7 +37,7 @@ WRONG_BODIES = (
 def parse_words():
     words = argparse.ArgumentParser(description=__doc__)
     words.add_argument("--seed", default="1", help="what the workloads are drawn from")
-    words.add_argument("--count", type=int, default=150, help="how many workloads are drawn")
+    words.add_argument("--count", type=int, default=120, help="how many workloads are drawn")
     words.add_argument("--jobs", type=int, default=1, help="how many bodies are tried at a time")
     words.add_argument("bodies", nargs="*", default=WRONG_BODIES, help="CRATE/NAME of crates/CRATE/must-fail/NAME.edit")
     return words.parse_args()

@@ -1,6 +1,7 @@
 """From a setup, an order and a script to a document, a nest of dictionaries and lists, and what can be wrong in it."""
 
 import datetime
+from copy import deepcopy
 
 from plain.machine import Task
 from plain.numbers import BOUND
@@ -85,7 +86,7 @@ def place(dice, document):
 def odd_value(dice, value):
     share = dice.random()
     if share < 0.35 or isinstance(value, bool):
-        return dice.choice(ODD_VALUES)
+        return deepcopy(dice.choice(ODD_VALUES))
     if isinstance(value, str) or share < 0.45:
         return odd_words(dice, value)
     return dice.choice(ODD_NUMBERS)
@@ -129,7 +130,7 @@ def spoil_by_doubling(dice, document):
     arrays = [key for key in arrays if document[key]]
     if arrays:
         members = document[dice.choice(arrays)]
-        members.insert(dice.randrange(len(members) + 1), dice.choice(members))
+        members.insert(dice.randrange(len(members) + 1), deepcopy(dice.choice(members)))
 
 
 def spoil(dice, document):
@@ -154,7 +155,7 @@ def add_ignored(dice, document):
         key = dice.choice(IGNORED_KEYS)
         table = dice.choice(tables)
         if table is document or key != "home":
-            table[key] = dice.choice(IGNORED_VALUES)
+            table[key] = deepcopy(dice.choice(IGNORED_VALUES))
 
 
 def shuffled(dice, document):
