@@ -1,5 +1,5 @@
 #!/usr/bin/env bash
-# drawn/planted.sh [CRATE/NAME..]: plants wrong bodies, and looks whether the comparison finds each. It takes about ten
-# minutes. The last line is 'N passed, M failed'.
+# drawn/planted.sh [CRATE/NAME..]: plants wrong bodies, and looks whether the comparison finds each. It takes a quarter
+# of an hour. The last line is 'N passed, M failed'.
 set -u
 exec python3 -B "$(dirname "$0")/planted.py" "$@"
