@@ -14,3 +14,7 @@ pub mod RingRests
 pub mod RingOpenings
 pub mod RingNaming
 pub mod RingWords
+pub mod Takes
+pub mod SenderTurns
+pub mod SeatParts
+pub mod PostsTold

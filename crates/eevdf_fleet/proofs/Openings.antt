@@ -1,12 +1,16 @@
 -- The claims that a fleet is opened with, CPU by CPU.
-use Rattle.std.proofs.Common.{◌≡◌, ℕ, zero, suc, ◌+◌, ◌<◌, List, [], ◌∷◌, ◌++◌, length, get_or, drop, set, refl, sym, ap, ◌∙◌, arith}
+use Rattle.std.proofs.Common.{◌≡◌, ℕ, zero, suc, ◌+◌, ◌<◌, List, [], ◌∷◌, ◌++◌, length, map, get_or, drop, set, reverse, refl, sym, ap, subst, ◌∙◌, arith}
 use Rattle.eevdf_queue.specs.State.{View}
 use Rattle.eevdf_ops.specs.Outcome.{machine_of}
 use Rattle.eevdf_fleet.specs.declared.board.claims.Claim.{Claim}
 use Rattle.eevdf_fleet.specs.declared.board.claims.Claim.TheVariants.{Seat, Queue}
 use Rattle.eevdf_fleet.specs.Claims.{claims_from}
-use Rattle.eevdf_fleet.specs.Fleets as fleets
-use Rattle.eevdf_fleet.specs.Fleets.{fresh, fresh_seats}
+use Rattle.eevdf_fleet.specs.Fleets.{AreParts, SeatLog, fresh, fresh_log, fresh_logs, seat_of, takes_by}
+use Rattle.eevdf_fleet.specs.Rings.{Posts, Takes, no_posts, no_takes}
+use Rattle.eevdf_fleet.proofs.Takes.{no-takes}
+use Rattle.std.specs.List.{range_with_len}
+use Rattle.std.proofs.lemmas.List.{length-replicate, length_push, reverse-append, same_from_push}
+use Rattle.std.proofs.lemmas.List.FromFn.{length-map-range_with_len, map-range_with_len_more}
 
 drop-machine : (qs : List View) (n : ℕ) (q : View) → n < length qs → q ≡ get_or qs n q → drop n (machine_of qs) ≡ q.state ∷ drop (suc n) (machine_of qs)
 drop-machine [] n q h e = absurd (omega arith)
@@ -33,6 +37,37 @@ other-claims qs n q y claims others h e is rest =
     ∙ ap (claims_from (n + 1)) (sym (drop-machine-set qs n y))
     ∙ ap (λ (k : ℕ). claims_from (n + 1) (drop k (machine_of (set qs n y)))) (let s : suc n ≡ n + 1 = omega arith in s)
 
-pub fresh-more : (quota n : ℕ) (seats more : List fleets.Seat) (s : fleets.Seat) → seats ≡ fresh_seats quota n → s ≡ fresh quota n → more ≡ seats ++ s ∷ [] → more ≡ fresh_seats quota (n + 1)
-fresh-more quota n seats more s es e em =
-    em ∙ ap (λ (l : List fleets.Seat). l ++ s ∷ []) es ∙ ap (λ (x : fleets.Seat). fresh_seats quota n ++ x ∷ []) e ∙ ap (fresh_seats quota) (let s : suc n ≡ n + 1 = omega arith in s)
+pub fresh-more : (quota n : ℕ) (logs more : List SeatLog) (s : SeatLog) → logs ≡ fresh_logs quota n → s ≡ fresh_log quota n → more ≡ logs ++ s ∷ [] → more ≡ fresh_logs quota (n + 1)
+fresh-more quota n logs more s es e em =
+    em ∙ ap (λ (l : List SeatLog). l ++ s ∷ []) es ∙ ap (λ (x : SeatLog). fresh_logs quota n ++ x ∷ []) e
+    ∙ sym (map-range_with_len_more (fresh_log quota) 0 n n (omega arith))
+
+-- the last of a list by places, and the others
+pub popped : {X : Type 0} (f : ℕ → X) (n : ℕ) (xs ys : List X) (x : X) → xs ≡ map f (range_with_len 0 n) → xs ≡ ys ++ x ∷ []
+    → (n ≡ length ys + 1) × (ys ≡ map f (range_with_len 0 (length ys))) × (x ≡ f (length ys))
+popped f n xs ys x is parted =
+    let count : n ≡ length ys + 1 = omega (arith, ap length parted, ap length is, length-map-range_with_len f 0 n, length_push ys x) in
+    let both = same_from_push ys (map f (range_with_len 0 (length ys))) x (f (length ys))
+    (sym parted ∙ is ∙ ap (λ (k : ℕ). map f (range_with_len 0 k)) count ∙ map-range_with_len_more f 0 (length ys) (length ys) (omega arith)) in
+    (count, both.0, both.1)
+
+-- a list by places, last first, with the one before
+pub front-more : {X : Type 0} (f : ℕ → X) (k m n : ℕ) (xs xs' : List X) (x : X) → m ≡ k + 1 → reverse xs ≡ map f (range_with_len m n) → x ≡ f k → xs' ≡ xs ++ x ∷ []
+    → reverse xs' ≡ map f (range_with_len k (n + 1))
+front-more f k m n xs xs' x next is here more =
+    ap reverse more ∙ reverse-append xs (x ∷ []) ∙ ap (λ (l : List _). x ∷ l) (is ∙ ap (λ (j : ℕ). map f (range_with_len j n)) next) ∙ ap (λ (y : _). y ∷ map f (range_with_len (k + 1) n)) here
+    ∙ ap (λ (j : ℕ). map f (range_with_len k j)) (let s : suc n ≡ n + 1 = omega arith in s)
+
+-- the parts of a seat before anything is done
+pub fresh-parts : (quota cpus k : ℕ) (log : SeatLog) (p : Posts) (t : Takes) → log ≡ fresh_log quota k → p ≡ no_posts cpus k → t ≡ no_takes cpus k → k < cpus → AreParts cpus log p t
+fresh-parts quota cpus k log p t is_log is_posts is_takes within = record {
+  posts = record {
+    sender_is = ap (λ (x : Posts). x.sender) is_posts ∙ sym (ap (λ (x : SeatLog). x.cpu) is_log);
+    to_all = ap (λ (x : Posts). length x.posted) is_posts ∙ length-replicate cpus [];
+  };
+  takes = is_takes ∙ sym (no-takes cpus k) ∙ ap (λ (x : SeatLog). takes_by cpus x.cpu x.lines) (sym is_log);
+  within = subst (λ (n : ℕ). n < cpus) (ap (λ (x : SeatLog). x.cpu) (sym is_log)) within;
+}
+
+pub fresh-seat : (quota cpus k : ℕ) (log : SeatLog) (p : Posts) → log ≡ fresh_log quota k → p ≡ no_posts cpus k → seat_of log p ≡ fresh quota cpus k
+fresh-seat quota cpus k log p is_log is_posts = ap (λ (x : SeatLog). seat_of x p) is_log ∙ ap (λ (x : Posts). seat_of (fresh_log quota k) x) is_posts

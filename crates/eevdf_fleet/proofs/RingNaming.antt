@@ -7,7 +7,7 @@ use Rattle.std.specs.Prelude.{slice_get, Option, Some, None}
 use Rattle.std.specs.Option.{IsSomeAnd}
 use Rattle.std.specs.declared.alloc.Global.{Global}
 use Rattle.std.specs.declared.vec.Vec.{Vec}
-use Rattle.eevdf_fleet.specs.Rings.{Ring, AreNamed, no_posts, no_takes}
+use Rattle.eevdf_fleet.specs.Rings.{Ring, Rings, ring_at, no_posts, no_takes}
 use Rattle.eevdf_fleet.specs.RingEnds.{Pushing, Popping, PushesInto, PopsFrom, Each, lists_of, AreProducers, AreConsumers, posts, takes}
 use Rattle.eevdf_fleet.specs.OpenedRings.{IsFresh, Begins, AreOpened, ring_in, AreNewRows, AreNewColumns, list_at}
 use Rattle.rtrb.specs.Ring.{sent, received}
@@ -67,26 +67,32 @@ begins_empty capacity None end h = absurd h
 begins_empty capacity (Some r) end h = h.received_is
 
 -- the ends of rings that were opened, under the rings' names
-module _ (capacity : ℕ) (ring : ℕ → ℕ → Option Ring) (opened cpus : ℕ) (rows : List (List Pushing)) (columns : List (List Popping)) (names : AreNamed capacity ring (record { capacity = opened; rings = rows })) (h : AreOpened opened cpus rows columns) where
-  pushes_new : (sender home : ℕ) (end : Pushing) → IsFresh opened end → slice_get (list_at rows sender) home ≡ Some end → IsSomeAnd (ring sender home) (λ r. PushesInto capacity r end)
-  pushes_new sender home end fresh got =
-      subst (λ (o : Option Ring). IsSomeAnd o (λ r. PushesInto capacity r end)) (sym (names.ring_is sender home ∙ got))
-      (record { same = ((refl, refl, refl, refl), refl); room = omega (arith, names.capacity_is, fresh.free_is) })
+module _ (r : Rings) (opened : ℕ) (rows : List (List Pushing)) (columns : List (List Popping)) (named : record { capacity = opened; rings = rows } ≡ r) (h : AreOpened opened (length rows) rows columns) where
+  capacity_is : r.capacity ≡ opened
+  capacity_is = ap (λ (x : Rings). x.capacity) (sym named)
 
-  pub new-rows : length rows ≡ cpus → AreNewRows capacity ring rows
-  new-rows all sender within = (
+  ring_is : (sender home : ℕ) → ring_at r sender home ≡ ring_in rows sender home
+  ring_is sender home = ap (λ (x : Rings). ring_at x sender home) (sym named)
+
+  pushes_new : (sender home : ℕ) (end : Pushing) → IsFresh opened end → slice_get (list_at rows sender) home ≡ Some end → IsSomeAnd (ring_at r sender home) (λ x. PushesInto r.capacity x end)
+  pushes_new sender home end fresh got =
+      subst (λ (o : Option Ring). IsSomeAnd o (λ x. PushesInto r.capacity x end)) (sym (ring_is sender home ∙ got))
+      (record { same = ((refl, refl, refl, refl), refl); room = omega (arith, capacity_is, fresh.free_is) })
+
+  pub new-rows : AreNewRows r.capacity (ring_at r) rows
+  new-rows sender within = (
     record { each = λ home end got. pushes_new sender home end (h.fresh sender within home end got) got },
-    ap (λ (l : List (List ℕ)). posts_of sender l) (none_shown sent (list_at rows sender) (length rows) (h.to_all sender within ∙ sym all) (λ home end got. (h.fresh sender within home end got).sent_is)),
+    ap (λ (l : List (List ℕ)). posts_of sender l) (none_shown sent (list_at rows sender) (length rows) (h.to_all sender within) (λ home end got. (h.fresh sender within home end got).sent_is)),
   )
 
-  pops_new : (sender home : ℕ) (end : Popping) → IsSomeAnd (ring_in rows sender home) (λ r. Begins opened r end) → IsSomeAnd (ring sender home) (λ r. PopsFrom capacity r end)
+  pops_new : (sender home : ℕ) (end : Popping) → IsSomeAnd (ring_in rows sender home) (λ x. Begins opened x end) → IsSomeAnd (ring_at r sender home) (λ x. PopsFrom r.capacity x end)
   pops_new sender home end begins =
-      subst (λ (o : Option Ring). IsSomeAnd o (λ r. PopsFrom capacity r end)) (sym (names.ring_is sender home))
-      (subst (λ (n : ℕ). IsSomeAnd (ring_in rows sender home) (λ r. PopsFrom n r end)) (sym names.capacity_is) (begins_pops opened (ring_in rows sender home) end begins))
+      subst (λ (o : Option Ring). IsSomeAnd o (λ x. PopsFrom r.capacity x end)) (sym (ring_is sender home))
+      (subst (λ (n : ℕ). IsSomeAnd (ring_in rows sender home) (λ x. PopsFrom n x end)) (sym capacity_is) (begins_pops opened (ring_in rows sender home) end begins))
 
-  pub new-columns : length rows ≡ cpus → AreNewColumns capacity ring columns
-  new-columns all home within = (
+  pub new-columns : AreNewColumns r.capacity (ring_at r) columns
+  new-columns home within = (
     record { each = λ sender end got. pops_new sender home end (h.pairs home (omega (arith, h.homes)) sender end got) },
-    ap (λ (l : List (List ℕ)). takes_of home l) (none_shown received (list_at columns home) (length columns) (h.from_all home (omega (arith, h.homes)) ∙ all ∙ sym h.homes)
+    ap (λ (l : List (List ℕ)). takes_of home l) (none_shown received (list_at columns home) (length columns) (h.from_all home (omega (arith, h.homes)) ∙ sym h.homes)
         (λ sender end got. begins_empty opened (ring_in rows sender home) end (h.pairs home (omega (arith, h.homes)) sender end got))),
   )

@@ -1,9 +1,10 @@
+pub mod Rings
 pub mod Claims
 pub mod Board
 pub mod Fleets
+pub mod Drains
 pub mod TouchedQueues
 pub mod Closing
-pub mod Rings
 pub mod RingEnds
 pub mod ReturnedEnds
 pub mod OpenedRings

@@ -17,11 +17,6 @@ pub record Rings : Type 0 where
 abbrev pub ring_at : Rings → ℕ → ℕ → Option Ring
 ring_at r sender home = slice_get (slice_index_or r.rings sender []) home
 
--- the names are those of rings that were opened
-pub record AreNamed (capacity : ℕ) (ring : ℕ → ℕ → Option Ring) (r : Rings) : Type 0 where
-  pub capacity_is : capacity ≡ r.capacity
-  pub ring_is : (sender home : ℕ) → ring sender home ≡ ring_at r sender home
-
 -- what a CPU has posted, by homes
 pub record Posts : Type 0 where
   pub sender : ℕ
@@ -61,6 +56,11 @@ taken_more t sender tasks = record t { taken = slice_set t.taken sender (taken_f
 -- the oldest request of a sender to a home that wasn't taken yet
 abbrev pub oldest : Posts → Takes → Option ℕ
 oldest p t = slice_get (posted_to p t.home) (length (taken_from t p.sender))
+
+-- what one CPU, of so many, has posted
+pub record ArePostsOf (cpus cpu : ℕ) (p : Posts) : Type 0 where
+  pub sender_is : p.sender ≡ cpu
+  pub to_all : length p.posted ≡ cpus
 
 -- these are what one CPU, of so many, has posted and taken
 pub record AreOf (cpus cpu : ℕ) (p : Posts) (t : Takes) : Type 0 where

@@ -25,6 +25,11 @@ IsOfOneQueue homes (Renice cpu task nice) = Unit {0}
 IsOfOneQueue homes (Sleep cpu task) = home_of homes task ≡ cpu
 IsOfOneQueue homes (Pull cpu source) = ⊥
 
+-- a deed that isn't a wake
+abbrev pub IsNoWake : Deed → Type 0
+IsNoWake (Wake cpu task sender) = ⊥
+IsNoWake other = Unit {0}
+
 -- a queue that the running task leaves, where it falls asleep
 abbrev pub slept_here : Option Contents → State → State
 slept_here contents q = after_falling_asleep contents (after_leaving contents q)

@@ -1,62 +1,52 @@
-ghost use Rattle.std.specs.Prelude.{◌≡◌, ◌≢◌, ◌<◌, ◌↔◌, [], ◌∷◌, All, IfOk, IsErr, MatchResult, replicate, true, ◌*◌};
-ghost use Rattle.std.specs.Sync.Mutex.{mutex_guard_value};
+ghost use Rattle.std.specs.Prelude.{◌≡◌, ◌≢◌, ◌*◌, ◌<◌, ◌↔◌, All, IfOk, IsErr, MatchResult, length, true};
 ghost use Rattle.std.specs.List.{list_all};
 ghost use Rattle.eevdf_ops.specs.Histories.{IsOneThread};
 ghost use Rattle.eevdf_ops.specs.Machine.{start};
 ghost use Rattle.eevdf_ops.specs.Outcome.{machine_of};
-ghost use Rattle.eevdf_ops.specs.Parts.{decider};
 ghost use Rattle.eevdf_ops.specs.Places.{IsPlaced};
 ghost use Rattle.eevdf_ops.specs.Programs.{deeds_of, lines_by};
 ghost use Rattle.eevdf_ops.specs.Setup.{allows, cpus_of, home_of, homes_of, is_task};
-ghost use Rattle.eevdf_fleet.specs.declared.board.claims.Claim.TheVariants as claim;
-ghost use Rattle.eevdf_fleet.specs.Board.{IsToken, claims_of};
-ghost use Rattle.eevdf_fleet.specs.Fleets.{fresh_seats, logged, setup_of};
-ghost use Rattle.eevdf_fleet.specs.TouchedQueues.{AreDoneFrom, IsDoneFrom, IsOfOneQueue, IsOfTwoQueues};
+ghost use Rattle.eevdf_fleet.specs.Drains.{HasDrained};
+ghost use Rattle.eevdf_fleet.specs.Fleets.{AllPostsTold, AreSeats, fresh_seats, logged, setup_of};
 
-use crate::board::{Change, Said, Token};
 use crate::closing::{close_locks, close_seats};
-use crate::commit::commit;
+use crate::drains::Drained;
 use crate::journal::Journal;
 use crate::kit::Kit;
 use crate::named_board::NamedBoard;
 use crate::names::Names;
-use crate::opening::{Opened, open_all};
-use crate::queue_work::{act, act_across};
+use crate::opening::{Opened, open_all, open_seats};
+use crate::reserve::Reserve;
+use crate::rings::ReturnedEnds;
 use crate::seat::Seat;
 use crate::slot::Slot;
-use atomic_table::Badge;
-use eevdf_ops::{Answer, CpuId, Deed, Line, Outcome};
-use eevdf_queue::{Queue, TaskId};
+use eevdf_ops::{Answer, CpuId, Deed, Outcome};
+use eevdf_queue::TaskId;
 use eevdf_weight::{Nice, Ns};
 use std::alloc::{AllocError, Global};
 use std::marker::{Model, PhantomData};
-use std::mem;
-use std::snapshot::Snapshot;
-use std::sync::{Mutex, MutexGuard, Wait};
+use std::sync::{Mutex, Wait};
 
 /// The seat has less room than the operation may need. Nothing has changed.
 #[derive(Clone, Copy, PartialEq, Eq, Debug, Drop)]
 pub struct SeatFull;
 
+/// What a fleet is closed to: its lines in order, its queues, and the requests that were posted and not drained.
+pub type Closed = Outcome;
+
 /// A scheduler for several threads: each CPU's queue in a lock of its own, and the journal.
 #[derive(Drop)]
 pub struct Fleet<N: Names> {
-    board: NamedBoard<N>,
-    homes: Vec<CpuId>,
-    locks: Vec<Mutex<Slot<N>>>,
-    journal: Mutex<Journal<N>>,
-    reserve: Reserve,
-}
-
-/// Room for what is given when a fleet is closed: the queues, and the requests that are left.
-#[derive(Drop)]
-struct Reserve {
-    queues: Vec<Queue>,
-    left: Vec<Vec<TaskId>>,
+    pub(crate) board: NamedBoard<N>,
+    pub(crate) homes: Vec<CpuId>,
+    pub(crate) locks: Vec<Mutex<Slot<N>>>,
+    pub(crate) journal: Mutex<Journal<N>>,
+    // The ends of rings can't be shared by threads, not even room for them: hence the lock, which no operation takes.
+    reserve: Mutex<Reserve<N>>,
 }
 
 impl<N: Names> Model for Fleet<N> {
-    ghost use Rattle.std.specs.Prelude.{◌≡◌, ◌*◌, [], map, replicate, vec_len};
+    ghost use Rattle.std.specs.Prelude.{◌≡◌, ◌≤◌, vec_len};
     ghost use Rattle.eevdf_ops.specs.Places.{AreCpus};
     ghost use Rattle.eevdf_ops.specs.Setup.{cpus_of, homes_of};
     ghost use Rattle.eevdf_fleet.specs.Fleets.{setup_of};
@@ -66,10 +56,7 @@ impl<N: Names> Model for Fleet<N> {
     ghost view = { λ f. tt };
 
     ghost invariant = { λ f. (f.homes.items ≡ homes_of (setup_of N.kit)) × (vec_len f.locks ≡ cpus_of (setup_of N.kit))
-        × AreCpus (cpus_of (setup_of N.kit)) (homes_of (setup_of N.kit))
-        × (vec_len f.reserve.queues ≡ cpus_of (setup_of N.kit))
-        × (map (λ l. l.items) f.reserve.left.items ≡ replicate (cpus_of (setup_of N.kit) * cpus_of (setup_of N.kit)) [])
-        × (vec_len f.reserve.left ≡ cpus_of (setup_of N.kit) * cpus_of (setup_of N.kit)) };
+        × AreCpus (cpus_of (setup_of N.kit)) (homes_of (setup_of N.kit)) × (cpus_of (setup_of N.kit) ≤ 64) };
 }
 
 impl<N: Names> Fleet<N> {
@@ -83,18 +70,20 @@ impl<N: Names> Fleet<N> {
             token,
             homes,
             queues,
+            rings,
             lines,
-            left,
             quota,
         } = kit;
+        let ends = ReturnedEnds::open(alloc, queues.len(), rings.capacity())?;
         let board = NamedBoard::new(board);
         let opened = open_all(alloc, &board, token, queues, quota)?;
         let Opened {
-            seats,
+            logs,
             locks,
             token,
             queues,
         } = opened;
+        let seats = open_seats(alloc, logs, rings, &homes, quota)?;
         let journal = Journal {
             lines,
             token,
@@ -105,7 +94,7 @@ impl<N: Names> Fleet<N> {
             homes,
             locks,
             journal: Mutex::new(journal),
-            reserve: Reserve { queues, left },
+            reserve: Mutex::new(Reserve { queues, ends }),
         };
         Ok((fleet, seats))
     }
@@ -201,6 +190,21 @@ impl<N: Names> Fleet<N> {
         self.across(rt, seat, source, Deed::Pull { cpu, source })
     }
 
+    /// Decides the requests to wake tasks that were posted to the seat's CPU: at most one of each sender, senders in
+    /// ascending order, and of its own the oldest. It may need a line for each CPU.
+    pub fn drain<R: Wait>(&self, rt: &R, seat: &mut Seat<N>) -> Result<Drained, SeatFull>
+        ensures cases { MatchResult result
+            (λ drained. HasDrained seat.old seat.new drained)
+            (λ _. seat.new ≡ seat.old) }
+        ensures full { IsErr result ↔ (seat.old.room < cpus_of (setup_of N.kit)) }
+    {
+        if seat.room() < self.locks.len() {
+            return Err(SeatFull);
+        }
+        let mut guard = self.hold(rt, seat.cpu());
+        Ok(self.drain_all(rt, seat, &mut guard))
+    }
+
     /// The home of a task.
     fn home(&self, task: TaskId) -> CpuId
         requires { is_task (homes_of (setup_of N.kit)) task ≡ true }
@@ -211,13 +215,16 @@ impl<N: Names> Fleet<N> {
     }
 
     /// Closes the fleet. Its history is that of one thread that does the deeds one after the other, each at once, and so
-    /// are its queues; each seat's lines are those of its CPU.
-    pub fn close(self, seats: Vec<Seat<N>>) -> Outcome
+    /// are its queues; each seat's lines are those of its CPU; and what a seat has posted to a home is what the home
+    /// has woken for it, and then what is left.
+    pub fn close(self, seats: Vec<Seat<N>>) -> Closed
+        requires { AreSeats (cpus_of (setup_of N.kit)) seats.items }
         ensures one_thread { IsOneThread (homes_of (setup_of N.kit)) (start (setup_of N.kit)) (deeds_of result.lines) result }
         ensures allowed { list_all (allows (setup_of N.kit)) (deeds_of result.lines) ≡ true }
         ensures logs { All (λ s. lines_by s.cpu result.lines ≡ s.log) seats.items }
         ensures places { IsPlaced (homes_of (setup_of N.kit)) (machine_of result.queues) }
-        ensures left { result.left ≡ replicate (cpus_of (setup_of N.kit) * cpus_of (setup_of N.kit)) [] }
+        ensures posts { AllPostsTold (cpus_of (setup_of N.kit)) seats.items result.lines result.left }
+        ensures left { length result.left ≡ cpus_of (setup_of N.kit) * cpus_of (setup_of N.kit) }
     {
         let Fleet {
             board,
@@ -226,207 +233,14 @@ impl<N: Names> Fleet<N> {
             journal,
             reserve,
         } = self;
-        let Reserve { queues, left } = reserve;
+        let Reserve { queues, ends } = reserve.into_inner();
         let Journal {
             lines,
             token,
             names: _,
         } = journal.into_inner();
-        let token = close_seats(&board, token, seats, &lines);
+        let (token, ends) = close_seats(&board, token, ends, seats, &lines);
         let queues = close_locks(&board, token, locks, queues, &lines);
-        Outcome::of(lines, queues, left)
-    }
-
-    /// Does a deed of the seat's CPU that touches its queue alone.
-    fn own<R: Wait>(&self, rt: &R, seat: &mut Seat<N>, deed: Deed) -> Result<Answer, SeatFull>
-        requires one { IsOfOneQueue (homes_of (setup_of N.kit)) deed }
-        requires own { decider deed ≡ seat.old.cpu }
-        requires allowed { allows (setup_of N.kit) deed ≡ true }
-        ensures cases { MatchResult result
-            (λ a. seat.new ≡ logged seat.old (record { deed = deed; answer = a }))
-            (λ _. seat.new ≡ seat.old) }
-        ensures full { IsErr result ↔ (seat.old.room < 1) }
-    {
-        if seat.room() == 0 {
-            return Err(SeatFull);
-        }
-        let cpu = seat.cpu();
-        let mut guard = self.hold(rt, cpu);
-        let slot = &mut *guard;
-        let answer = act(&mut slot.queue, &deed);
-        let line = Line { deed, answer };
-        let token = mem::replace(&mut slot.token, Badge::blank());
-        slot.token = self.commit_one(rt, seat, token, &slot.queue, &line);
-        Ok(line.answer)
-    }
-
-    /// Does a deed of the seat's CPU that touches its queue and that of another CPU.
-    fn across<R: Wait>(
-        &self,
-        rt: &R,
-        seat: &mut Seat<N>,
-        other: CpuId,
-        deed: Deed,
-    ) -> Result<Answer, SeatFull>
-        requires two { IsOfTwoQueues (homes_of (setup_of N.kit)) other deed }
-        requires own { decider deed ≡ seat.old.cpu }
-        requires apart { other ≢ seat.old.cpu }
-        requires there { other < cpus_of (setup_of N.kit) }
-        requires allowed { allows (setup_of N.kit) deed ≡ true }
-        ensures cases { MatchResult result
-            (λ a. seat.new ≡ logged seat.old (record { deed = deed; answer = a }))
-            (λ _. seat.new ≡ seat.old) }
-        ensures full { IsErr result ↔ (seat.old.room < 1) }
-    {
-        if seat.room() == 0 {
-            return Err(SeatFull);
-        }
-        let (mut guard, mut other_guard) = self.hold_both(rt, seat.cpu(), other);
-        let slot = &mut *guard;
-        let away = &mut *other_guard;
-        let own = mem::replace(&mut slot.token, Badge::blank());
-        let others = mem::replace(&mut away.token, Badge::blank());
-        let token = self.board.check(self.board.join(others, own));
-        let answer = act_across(&mut slot.queue, &mut away.queue, &deed);
-        let line = Line { deed, answer };
-        let (own, others) = self.commit_two(
-            rt,
-            seat,
-            token,
-            &slot.queue,
-            other,
-            &away.queue,
-            &line,
-        );
-        slot.token = own;
-        away.token = others;
-        Ok(line.answer)
-    }
-
-    /// Commits a line that has changed the queue of the seat's CPU alone, which the token claims as it was.
-    fn commit_one<R: Wait>(
-        &self,
-        rt: &R,
-        seat: &mut Seat<N>,
-        token: Token,
-        queue: &Queue,
-        line: &Line,
-    ) -> Token
-        requires token { IsToken N.kit.board N.kit.terms token }
-        requires one { IsOfOneQueue (homes_of (setup_of N.kit)) line.now.deed }
-        requires own { decider line.now.deed ≡ seat.old.cpu }
-        requires allowed { allows (setup_of N.kit) line.now.deed ≡ true }
-        requires room { 0 < seat.old.room }
-        requires done { IsDoneFrom (claims_of token) seat.old.cpu queue.now.state line.now }
-        ensures token { IsToken N.kit.board N.kit.terms result }
-        ensures claims { claims_of result ≡ claim.Queue seat.old.cpu queue.now.state ∷ [] }
-        ensures seat { seat.new ≡ logged seat.old line.now }
-    {
-        let said = said(line, seat.cpu(), queue);
-        let mut journal = self.journal.lock(rt);
-        commit(&self.board, &mut journal, seat, token, &said)
-    }
-
-    /// Commits a line that has changed the queues of the seat's CPU and of another one, which the token claims as they
-    /// were.
-    fn commit_two<R: Wait>(
-        &self,
-        rt: &R,
-        seat: &mut Seat<N>,
-        token: Token,
-        queue: &Queue,
-        other: CpuId,
-        other_queue: &Queue,
-        line: &Line,
-    ) -> (Token, Token)
-        requires token { IsToken N.kit.board N.kit.terms token }
-        requires two { IsOfTwoQueues (homes_of (setup_of N.kit)) other line.now.deed }
-        requires own { decider line.now.deed ≡ seat.old.cpu }
-        requires apart { other ≢ seat.old.cpu }
-        requires allowed { allows (setup_of N.kit) line.now.deed ≡ true }
-        requires room { 0 < seat.old.room }
-        requires done { AreDoneFrom (claims_of token) seat.old.cpu queue.now.state other other_queue.now.state line.now }
-        ensures first { IsToken N.kit.board N.kit.terms result.0 }
-        ensures second { IsToken N.kit.board N.kit.terms result.1 }
-        ensures first_claim { claims_of result.0 ≡ claim.Queue seat.old.cpu queue.now.state ∷ [] }
-        ensures second_claim { claims_of result.1 ≡ claim.Queue other other_queue.now.state ∷ [] }
-        ensures seat { seat.new ≡ logged seat.old line.now }
-    {
-        let said = said_both(line, change(seat.cpu(), queue), change(other, other_queue));
-        let mut journal = self.journal.lock(rt);
-        let token = commit(&self.board, &mut journal, seat, token, &said);
-        self.board.split(token)
-    }
-
-    /// Takes the locks of the queues of two CPUs, the lower number first.
-    fn hold_both<R: Wait>(
-        &self,
-        rt: &R,
-        cpu: CpuId,
-        other: CpuId,
-    ) -> (MutexGuard<'_, Slot<N>>, MutexGuard<'_, Slot<N>>)
-        requires cpu { cpu < cpus_of (setup_of N.kit) }
-        requires other { other < cpus_of (setup_of N.kit) }
-        ensures cpu { (mutex_guard_value result.0).number ≡ cpu }
-        ensures other { (mutex_guard_value result.1).number ≡ other }
-    {
-        if cpu.get() < other.get() {
-            let guard = self.hold(rt, cpu);
-            let other_guard = self.hold(rt, other);
-            (guard, other_guard)
-        } else {
-            let other_guard = self.hold(rt, other);
-            let guard = self.hold(rt, cpu);
-            (guard, other_guard)
-        }
-    }
-
-    /// Takes the lock of a CPU's queue.
-    fn hold<R: Wait>(&self, rt: &R, cpu: CpuId) -> MutexGuard<'_, Slot<N>>
-        requires { cpu < cpus_of (setup_of N.kit) }
-        ensures { (mutex_guard_value result).number ≡ cpu }
-    {
-        let guard = self.locks[cpu.get() as usize].lock(rt);
-        // No type says which lock keeps which number. They stand in order from the opening on.
-        if guard.number().get() == cpu.get() {
-            return guard;
-        }
-        for _ in rt.forever() {}
-        unreachable!()
-    }
-}
-
-/// A line, and the queue that it has changed.
-fn said(line: &Line, cpu: CpuId, queue: &Queue) -> Said
-    ensures line { result.line ≡ line.now }
-    ensures cpu { result.second.cpu ≡ cpu }
-    ensures queue { result.second.queue.value ≡ queue.now }
-{
-    Said {
-        line: *line,
-        first: change(cpu, queue),
-        second: change(cpu, queue),
-    }
-}
-
-/// The queue of a CPU as it is now.
-fn change(cpu: CpuId, queue: &Queue) -> Change
-    ensures cpu { result.cpu ≡ cpu }
-    ensures queue { result.queue.value ≡ queue.now }
-{
-    Change {
-        cpu,
-        queue: Snapshot::of(queue),
-    }
-}
-
-/// A line, and the two queues that it has changed.
-fn said_both(line: &Line, first: Change, second: Change) -> Said
-    ensures { result ≡ record { line = line.now; first = first; second = second } }
-{
-    Said {
-        line: *line,
-        first,
-        second,
+        Outcome::of(lines, queues, ends.into_left())
     }
 }

@@ -8,20 +8,28 @@
 mod board;
 mod closing;
 mod commit;
+mod drains;
 mod fleet;
 mod journal;
 mod kit;
+mod line_commits;
+mod locked_deeds;
 mod named_board;
 mod names;
 mod opening;
+mod queue_locks;
 mod queue_work;
+mod reserve;
 mod rings;
 mod seat;
+mod seat_log;
 mod slot;
 
-pub use fleet::{Fleet, SeatFull};
+pub use drains::Drained;
+pub use fleet::{Closed, Fleet, SeatFull};
 pub use kit::Kit;
 pub use names::Names;
+pub use rings::RingFull;
 pub use seat::Seat;
 
 #[cfg(test)]

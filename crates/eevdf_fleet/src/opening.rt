@@ -1,17 +1,20 @@
 //! How a fleet is opened from its kit.
 
-ghost use Rattle.std.specs.Prelude.{◌≡◌, ◌<◌, ◌≤◌, [], ◌∷◌, drop, take, vec_len, IfOk};
+ghost use Rattle.std.specs.Prelude.{◌≡◌, ◌<◌, ◌≤◌, [], ◌∷◌, drop, take, vec_len, IfOk, length};
 ghost use Rattle.eevdf_ops.specs.Outcome.{machine_of};
-ghost use Rattle.eevdf_ops.specs.Setup.{cpus_of};
+ghost use Rattle.eevdf_ops.specs.Places.{AreCpus};
+ghost use Rattle.eevdf_ops.specs.Setup.{cpus_of, homes_of};
 ghost use Rattle.eevdf_fleet.specs.declared.board.claims.Claim.TheVariants as claim;
 ghost use Rattle.eevdf_fleet.specs.Board.{IsToken, claims_of};
 ghost use Rattle.eevdf_fleet.specs.Claims.{claims_from};
-ghost use Rattle.eevdf_fleet.specs.Fleets.{fresh, fresh_seats, setup_of};
+ghost use Rattle.eevdf_fleet.specs.Fleets.{fresh_log, fresh_logs, fresh_seats, setup_of};
 
 use crate::board::Token;
 use crate::named_board::NamedBoard;
 use crate::names::Names;
+use crate::rings::Rings;
 use crate::seat::Seat;
+use crate::seat_log::SeatLog;
 use crate::slot::Slot;
 use eevdf_ops::CpuId;
 use eevdf_queue::Queue;
@@ -20,10 +23,10 @@ use std::marker::PhantomData;
 use std::mem;
 use std::sync::Mutex;
 
-/// The seats and the locks of a fleet, the token of the journal, and room for as many queues.
+/// The logs of the seats and the locks of a fleet, the token of the journal, and room for as many queues.
 #[derive(Drop)]
 pub(crate) struct Opened<N: Names> {
-    pub(crate) seats: Vec<Seat<N>>,
+    pub(crate) logs: Vec<SeatLog<N>>,
     pub(crate) locks: Vec<Mutex<Slot<N>>>,
     pub(crate) token: Token,
     pub(crate) queues: Vec<Queue>,
@@ -32,12 +35,12 @@ pub(crate) struct Opened<N: Names> {
 /// A CPU's part of a fleet, and the token of the others.
 #[derive(Drop)]
 struct Part<N: Names> {
-    seat: Seat<N>,
+    log: SeatLog<N>,
     slot: Slot<N>,
     others: Token,
 }
 
-/// Gives each CPU its seat and its lock.
+/// Gives each CPU its log and its lock.
 pub(crate) fn open_all<N: Names>(
     alloc: Global,
     board: &NamedBoard<N>,
@@ -50,32 +53,32 @@ pub(crate) fn open_all<N: Names>(
     requires cpus { vec_len queues ≡ cpus_of (setup_of N.kit) }
     requires few { cpus_of (setup_of N.kit) ≤ 64 }
     requires quota { quota ≡ N.kit.terms.quota }
-    ensures seats { IfOk result (λ o. o.seats.items ≡ fresh_seats quota (cpus_of (setup_of N.kit))) }
+    ensures logs { IfOk result (λ o. o.logs.items ≡ fresh_logs quota (cpus_of (setup_of N.kit))) }
     ensures locks { IfOk result (λ o. vec_len o.locks ≡ cpus_of (setup_of N.kit)) }
     ensures token { IfOk result (λ o. IsToken N.kit.board N.kit.terms o.token) }
     ensures claims { IfOk result (λ o. claims_of o.token ≡ claim.Journal [] ∷ []) }
     ensures queues { IfOk result (λ o. vec_len o.queues ≡ cpus_of (setup_of N.kit)) }
 {
     let cpus = queues.len();
-    let mut seats = Vec::with_capacity(alloc, cpus)?;
+    let mut logs = Vec::with_capacity(alloc, cpus)?;
     let mut locks = Vec::with_capacity(alloc, cpus)?;
     for number in 0..cpus {
         let queue = mem::replace(&mut queues[number], Queue::open());
         let part = open_one(alloc, board, token, cpu_number(number), queue, quota)?;
-        let Part { seat, slot, others } = part;
-        seats.push(seat)?;
+        let Part { log, slot, others } = part;
+        logs.push(log)?;
         locks.push(Mutex::new(slot))?;
         token = others;
     }
     Ok(Opened {
-        seats,
+        logs,
         locks,
         token,
         queues,
     })
 }
 
-/// Gives a CPU its seat and its lock. The token claims what is its first.
+/// Gives a CPU its log and its lock. The token claims what is its first.
 fn open_one<N: Names>(
     alloc: Global,
     board: &NamedBoard<N>,
@@ -89,17 +92,17 @@ fn open_one<N: Names>(
     requires queue { take 1 (drop 1 (claims_of token)) ≡ claim.Queue cpu queue.state ∷ [] }
     requires cpu { cpu < cpus_of (setup_of N.kit) }
     requires quota { quota ≡ N.kit.terms.quota }
-    ensures seat { IfOk result (λ p. p.seat ≡ fresh quota cpu) }
+    ensures log { IfOk result (λ p. p.log ≡ fresh_log quota cpu) }
     ensures token { IfOk result (λ p. IsToken N.kit.board N.kit.terms p.others) }
     ensures claims { IfOk result (λ p. claims_of p.others ≡ drop 1 (drop 1 (claims_of token))) }
 {
     let (own, token) = board.split(token);
     let (kept, others) = board.split(token);
-    let log = Vec::with_capacity(alloc, quota)?;
-    let seat = Seat {
+    let lines = Vec::with_capacity(alloc, quota)?;
+    let log = SeatLog {
         cpu,
         room: quota,
-        log,
+        lines,
         token: own,
         names: PhantomData,
     };
@@ -109,11 +112,46 @@ fn open_one<N: Names>(
         token: kept,
         names: PhantomData,
     };
-    Ok(Part { seat, slot, others })
+    Ok(Part { log, slot, others })
+}
+
+/// Gives each log the ends of its CPU's rings.
+pub(crate) fn open_seats<N: Names>(
+    alloc: Global,
+    mut logs: Vec<SeatLog<N>>,
+    rings: Rings,
+    homes: &Vec<CpuId>,
+    quota: usize,
+) -> Result<Vec<Seat<N>>, AllocError>
+    requires logs { logs.items ≡ fresh_logs quota (cpus_of (setup_of N.kit)) }
+    requires rings { rings ≡ N.kit.rings }
+    requires cpus { length rings.rings ≡ cpus_of (setup_of N.kit) }
+    requires homes { homes.now.items ≡ homes_of (setup_of N.kit) }
+    requires homes_below { AreCpus (cpus_of (setup_of N.kit)) (homes_of (setup_of N.kit)) }
+    ensures { IfOk result (λ seats. seats.items ≡ fresh_seats quota (cpus_of (setup_of N.kit))) }
+{
+    let (mut producers, mut consumers) = rings.named::<N>(alloc)?;
+    let mut seats = Vec::with_capacity(alloc, logs.len())?;
+    for _ in 0..logs.len() {
+        match (logs.pop(), producers.pop(), consumers.pop()) {
+            (Some(log), Some(producers), Some(consumers)) => {
+                let homes = homes.clone()?;
+                seats.push(Seat {
+                    log,
+                    producers,
+                    consumers,
+                    homes,
+                })?;
+            }
+            _ => unreachable!(),
+        }
+    }
+    seats.reverse();
+    Ok(seats)
 }
 
 /// The CPU of this number.
-fn cpu_number(number: usize) -> CpuId
+pub(crate) fn cpu_number(number: usize) -> CpuId
     requires { number < 64 }
     ensures { result ≡ number }
 {

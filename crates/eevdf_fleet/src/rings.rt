@@ -7,14 +7,12 @@ mod opened_rings;
 mod producer_ends;
 mod returned_ends;
 mod ring_ends;
-mod ring_names;
 
 pub(crate) use consumer_ends::Consumers;
 pub(crate) use opened_rings::Rings;
 pub(crate) use producer_ends::Producers;
 pub use producer_ends::RingFull;
 pub(crate) use returned_ends::ReturnedEnds;
-pub use ring_names::RingNames;
 
 #[cfg(test)]
 mod tests;

@@ -1,41 +1,39 @@
-ghost use Rattle.std.specs.Prelude.{◌≡◌, ◌<◌};
-ghost use Rattle.eevdf_ops.specs.Setup.{cpus_of};
-ghost use Rattle.eevdf_fleet.specs.Fleets.{setup_of};
+ghost use Rattle.std.specs.Prelude.{◌≡◌, ◌<◌, length, OnOk, OnErr, IfErr, IsOk, true};
+ghost use Rattle.eevdf_ops.specs.Setup.{cpus_of, home_of, homes_of, is_task};
+ghost use Rattle.eevdf_fleet.specs.Fleets.{posted_to, setup_of, with_post};
 
-use crate::board::Token;
 use crate::names::Names;
+use crate::rings::{Consumers, Producers, RingFull};
+use crate::seat_log::SeatLog;
 use eevdf_ops::{CpuId, Line};
-use std::marker::{Model, PhantomData};
+use eevdf_queue::TaskId;
+use std::marker::Model;
 
-/// A CPU's part of a fleet: whoever has it does the CPU's operations. Contracts see its CPU, its lines in order, and how
-/// many more it may have.
+/// A CPU's part of a fleet: whoever has it does the CPU's operations. Contracts see its CPU, its lines in order, how
+/// many more it may have, and the tasks of the requests that it has posted to each home, in order.
 #[derive(Drop)]
 pub struct Seat<N: Names> {
-    pub(crate) cpu: CpuId,
-    pub(crate) room: usize,
-    pub(crate) log: Vec<Line>,
-    pub(crate) token: Token,
-    pub(crate) names: PhantomData<N>,
+    pub(crate) log: SeatLog<N>,
+    pub(crate) producers: Producers<N>,
+    pub(crate) consumers: Consumers<N>,
+    pub(crate) homes: Vec<CpuId>,
 }
 
 impl<N: Names> Model for Seat<N> {
-    ghost use Rattle.eevdf_fleet.specs.Fleets.{Seat};
+    ghost use Rattle.eevdf_fleet.specs.Fleets.{Seat, seat_of};
 
     ghost Value = { Seat };
 
-    ghost view = { λ s. record { cpu = s.cpu; log = s.log.items; room = s.room } };
+    ghost view = { λ s. seat_of s.log s.producers };
 
-    ghost use Rattle.std.specs.Prelude.{◌≡◌, ◌+◌, ◌≤◌, ◌<◌, [], ◌∷◌, vec_len, vec_capacity};
-    ghost use Rattle.eevdf_ops.specs.Setup.{cpus_of};
-    ghost use Rattle.eevdf_fleet.specs.declared.board.claims.Claim.TheVariants as claim;
-    ghost use Rattle.eevdf_fleet.specs.Board.{IsToken, claims_of};
-    ghost use Rattle.eevdf_fleet.specs.Fleets.{setup_of};
+    ghost use Rattle.std.specs.Prelude.{◌≡◌};
+    ghost use Rattle.eevdf_ops.specs.Places.{AreCpus};
+    ghost use Rattle.eevdf_ops.specs.Setup.{cpus_of, homes_of};
+    ghost use Rattle.eevdf_fleet.specs.Fleets.{AreParts, setup_of};
 
-    ghost invariant = { λ s. IsToken N.kit.board N.kit.terms s.token
-        × (claims_of s.token ≡ claim.Seat s.cpu s.log.items ∷ [])
-        × (s.cpu < cpus_of (setup_of N.kit))
-        × (vec_len s.log + s.room ≡ N.kit.terms.quota)
-        × (N.kit.terms.quota ≤ vec_capacity s.log) };
+    ghost invariant = { λ s. AreParts (cpus_of (setup_of N.kit)) s.log s.producers s.consumers
+        × (s.homes.items ≡ homes_of (setup_of N.kit))
+        × AreCpus (cpus_of (setup_of N.kit)) (homes_of (setup_of N.kit)) };
 }
 
 impl<N: Names> Seat<N> {
@@ -44,20 +42,34 @@ impl<N: Names> Seat<N> {
         ensures cpu { result ≡ self.now.cpu }
         ensures below { result < cpus_of (setup_of N.kit) }
     {
-        self.cpu
+        self.log.cpu()
     }
 
     /// How many more lines it may have.
     pub fn room(&self) -> usize
         ensures { result ≡ self.now.room }
     {
-        self.room
+        self.log.room()
     }
 
     /// The lines of its operations, in order.
     pub fn log(&self) -> &[Line]
         ensures { result.now ≡ self.now.log }
     {
-        &self.log
+        self.log.lines()
+    }
+
+    /// Posts a request to wake a task to the task's home, which decides it when it drains its rings. The request is
+    /// refused only where this CPU has already posted as many requests to that home as a ring has room for, whether or
+    /// not the home has taken any of them yet. A refused request is given back, and nothing has changed.
+    pub fn post(&mut self, task: TaskId) -> Result<(), RingFull>
+        requires { is_task (homes_of (setup_of N.kit)) task ≡ true }
+        ensures accepted { OnOk result (self.new ≡ with_post self.old (home_of (homes_of (setup_of N.kit)) task) task) }
+        ensures refused { OnErr result (self.new ≡ self.old) }
+        ensures given_back { IfErr result (λ full. full.task ≡ task) }
+        ensures room { length (posted_to self.old (home_of (homes_of (setup_of N.kit)) task)) < N.kit.rings.capacity → IsOk result }
+    {
+        let home = self.homes[task.get() as usize];
+        self.producers.post(home.get() as usize, task)
     }
 }

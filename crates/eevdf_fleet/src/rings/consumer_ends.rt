@@ -1,19 +1,19 @@
+use crate::names::Names;
 use crate::rings::producer_ends::Producers;
 use crate::rings::ring_ends::{pop, pop_beside, pop_rest};
-use crate::rings::ring_names::RingNames;
 use eevdf_queue::TaskId;
 use rtrb::Consumer;
 use std::marker::{Model, PhantomData};
 
 /// The ends at which a home takes the requests that were posted to it, one for each sender.
 #[derive(Drop)]
-pub(crate) struct Consumers<N: RingNames> {
+pub(crate) struct Consumers<N: Names> {
     home: usize,
     ends: Vec<Consumer<TaskId>>,
     of: PhantomData<N>,
 }
 
-impl<N: RingNames> Model for Consumers<N> {
+impl<N: Names> Model for Consumers<N> {
     ghost use Rattle.eevdf_fleet.specs.RingEnds.{takes, AreConsumers};
     ghost use Rattle.eevdf_fleet.specs.Rings as rings;
 
@@ -21,17 +21,17 @@ impl<N: RingNames> Model for Consumers<N> {
 
     ghost view = { λ c. takes c.home c.ends.items };
 
-    ghost invariant = { λ c. AreConsumers N.ring_capacity N.ring c.home c.ends.items };
+    ghost invariant = { λ c. AreConsumers N.kit.rings.capacity (rings.ring_at N.kit.rings) c.home c.ends.items };
 }
 
-impl<N: RingNames> Consumers<N> {
+impl<N: Names> Consumers<N> {
     ghost use Rattle.std.specs.Prelude.{◌≡◌, ◌<◌, ◌≤◌, ◌++◌, [], ◌∷◌, length, vec_capacity, IfNone, IfSome};
     ghost use Rattle.eevdf_fleet.specs.Rings as rings;
     ghost use Rattle.eevdf_fleet.specs.RingEnds.{takes, AreConsumers};
 
     /// The ends of a home's rings.
     pub(super) fn new(home: usize, ends: Vec<Consumer<TaskId>>) -> Consumers<N>
-        requires { AreConsumers N.ring_capacity N.ring home ends.items }
+        requires { AreConsumers N.kit.rings.capacity (rings.ring_at N.kit.rings) home ends.items }
         ensures { result ≡ takes home ends.items }
     {
         Consumers {
@@ -87,7 +87,7 @@ impl<N: RingNames> Consumers<N> {
         requires home { self.old.home < length producers.old.posted }
         requires sender { producers.old.sender < length self.old.taken }
         requires empty { left.old.items ≡ [] }
-        requires room { N.ring_capacity ≤ vec_capacity left.old }
+        requires room { N.kit.rings.capacity ≤ vec_capacity left.old }
         ensures taken { self.new ≡ rings.taken_more self.old producers.old.sender left.new.items }
         ensures left { rings.posted_to producers.old self.old.home
             ≡ rings.taken_from self.old producers.old.sender ++ left.new.items }

@@ -5,19 +5,19 @@ ghost use Rattle.eevdf_fleet.specs.Rings as rings;
 ghost use Rattle.eevdf_fleet.specs.OpenedRings.{AreNewRows, AreNewColumns};
 ghost use Rattle.eevdf_fleet.specs.RingEnds.{lists_of};
 
+use crate::names::Names;
 use crate::rings::consumer_ends::Consumers;
 use crate::rings::producer_ends::Producers;
-use crate::rings::ring_names::RingNames;
 use eevdf_queue::TaskId;
 use rtrb::{Consumer, Producer};
 use std::alloc::{AllocError, Global};
 
 /// Each sender's row of ends.
-pub(super) fn producers_by_sender<N: RingNames>(
+pub(super) fn producers_by_sender<N: Names>(
     alloc: Global,
     rows: Vec<Vec<Producer<TaskId>>>,
 ) -> Result<Vec<Producers<N>>, AllocError>
-    requires { AreNewRows N.ring_capacity N.ring (lists_of rows.items) }
+    requires { AreNewRows N.kit.rings.capacity (rings.ring_at N.kit.rings) (lists_of rows.items) }
     ensures { IfOk result (λ all. all.items ≡ rings.all_no_posts (length rows.items)) }
 {
     let mut all = Vec::with_capacity(alloc, rows.len())?;
@@ -28,11 +28,11 @@ pub(super) fn producers_by_sender<N: RingNames>(
 }
 
 /// Each home's column of ends.
-pub(super) fn consumers_by_home<N: RingNames>(
+pub(super) fn consumers_by_home<N: Names>(
     alloc: Global,
     columns: Vec<Vec<Consumer<TaskId>>>,
 ) -> Result<Vec<Consumers<N>>, AllocError>
-    requires { AreNewColumns N.ring_capacity N.ring (lists_of columns.items) }
+    requires { AreNewColumns N.kit.rings.capacity (rings.ring_at N.kit.rings) (lists_of columns.items) }
     ensures { IfOk result (λ all. all.items ≡ rings.all_no_takes (length columns.items)) }
 {
     let mut all = Vec::with_capacity(alloc, columns.len())?;

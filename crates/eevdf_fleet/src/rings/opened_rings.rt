@@ -3,10 +3,10 @@ ghost use Rattle.eevdf_fleet.specs.Rings as rings;
 ghost use Rattle.eevdf_fleet.specs.OpenedRings.{AreRow};
 ghost use Rattle.eevdf_fleet.specs.RingEnds.{lists_of};
 
+use crate::names::Names;
 use crate::rings::consumer_ends::Consumers;
 use crate::rings::named_ends::{consumers_by_home, producers_by_sender};
 use crate::rings::producer_ends::Producers;
-use crate::rings::ring_names::RingNames;
 use eevdf_queue::TaskId;
 use rtrb::{Consumer, Producer, RingBuffer};
 use std::alloc::{AllocError, Global};
@@ -54,12 +54,19 @@ impl Rings {
         })
     }
 
+    /// How many requests each ring has room for.
+    pub(crate) fn capacity(&self) -> usize
+        ensures { result ≡ self.now.capacity }
+    {
+        self.capacity
+    }
+
     /// The ends of the rings, by the CPUs that keep them: each CPU's as a sender, and each CPU's as a home.
-    pub(crate) fn named<N: RingNames>(
+    pub(crate) fn named<N: Names>(
         self,
         alloc: Global,
     ) -> Result<(Vec<Producers<N>>, Vec<Consumers<N>>), AllocError>
-        requires { rings.AreNamed N.ring_capacity N.ring self }
+        requires { self ≡ N.kit.rings }
         ensures producers { IfOk result (λ ends. ends.0.items ≡ rings.all_no_posts (length self.rings)) }
         ensures consumers { IfOk result (λ ends. ends.1.items ≡ rings.all_no_takes (length self.rings)) }
     {

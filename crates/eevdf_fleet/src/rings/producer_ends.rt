@@ -1,5 +1,5 @@
+use crate::names::Names;
 use crate::rings::ring_ends::push;
-use crate::rings::ring_names::RingNames;
 use eevdf_queue::TaskId;
 use rtrb::Producer;
 use std::marker::{Model, PhantomData};
@@ -12,13 +12,13 @@ pub struct RingFull {
 
 /// The ends at which a CPU posts requests, one for each home.
 #[derive(Drop)]
-pub(crate) struct Producers<N: RingNames> {
+pub(crate) struct Producers<N: Names> {
     pub(super) sender: usize,
     pub(super) ends: Vec<Producer<TaskId>>,
     of: PhantomData<N>,
 }
 
-impl<N: RingNames> Model for Producers<N> {
+impl<N: Names> Model for Producers<N> {
     ghost use Rattle.eevdf_fleet.specs.RingEnds.{posts, AreProducers};
     ghost use Rattle.eevdf_fleet.specs.Rings as rings;
 
@@ -26,17 +26,17 @@ impl<N: RingNames> Model for Producers<N> {
 
     ghost view = { λ p. posts p.sender p.ends.items };
 
-    ghost invariant = { λ p. AreProducers N.ring_capacity N.ring p.sender p.ends.items };
+    ghost invariant = { λ p. AreProducers N.kit.rings.capacity (rings.ring_at N.kit.rings) p.sender p.ends.items };
 }
 
-impl<N: RingNames> Producers<N> {
+impl<N: Names> Producers<N> {
     ghost use Rattle.std.specs.Prelude.{◌≡◌, ◌<◌, [], ◌∷◌, length, OnOk, OnErr, IfErr, IsOk};
     ghost use Rattle.eevdf_fleet.specs.Rings as rings;
     ghost use Rattle.eevdf_fleet.specs.RingEnds.{posts, AreProducers};
 
     /// The ends of a sender's rings.
     pub(super) fn new(sender: usize, ends: Vec<Producer<TaskId>>) -> Producers<N>
-        requires { AreProducers N.ring_capacity N.ring sender ends.items }
+        requires { AreProducers N.kit.rings.capacity (rings.ring_at N.kit.rings) sender ends.items }
         ensures { result ≡ posts sender ends.items }
     {
         Producers {
@@ -52,7 +52,7 @@ impl<N: RingNames> Producers<N> {
         ensures accepted { OnOk result (self.new ≡ rings.posted_more self.old home (task ∷ [])) }
         ensures refused { OnErr result (self.new ≡ self.old) }
         ensures given_back { IfErr result (λ full. full.task ≡ task) }
-        ensures room { length (rings.posted_to self.old home) < N.ring_capacity → IsOk result }
+        ensures room { length (rings.posted_to self.old home) < N.kit.rings.capacity → IsOk result }
     {
         push(&mut self.ends[home], task)
     }

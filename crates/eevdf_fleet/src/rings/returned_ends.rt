@@ -2,23 +2,23 @@ ghost use Rattle.std.specs.Prelude.{◌≡◌, ◌<◌, ◌≤◌, ◌++◌, [],
 ghost use Rattle.eevdf_fleet.specs.Rings as rings;
 ghost use Rattle.eevdf_fleet.specs.ReturnedEnds.{AreEmptyLists};
 
+use crate::names::Names;
 use crate::rings::consumer_ends::Consumers;
 use crate::rings::producer_ends::Producers;
-use crate::rings::ring_names::RingNames;
 use eevdf_queue::TaskId;
 use std::alloc::{AllocError, Global};
 use std::marker::Model;
 
 /// The ends of all rings as they are given back, one CPU's after the other's, with room for what is left in the rings.
 #[derive(Drop)]
-pub(crate) struct ReturnedEnds<N: RingNames> {
+pub(crate) struct ReturnedEnds<N: Names> {
     cpus: usize,
     producers: Vec<Producers<N>>,
     consumers: Vec<Consumers<N>>,
     left: Vec<Vec<TaskId>>,
 }
 
-impl<N: RingNames> Model for ReturnedEnds<N> {
+impl<N: Names> Model for ReturnedEnds<N> {
     ghost use Rattle.eevdf_fleet.specs.Rings as rings;
     ghost use Rattle.eevdf_fleet.specs.ReturnedEnds.{HasRoom};
 
@@ -26,10 +26,10 @@ impl<N: RingNames> Model for ReturnedEnds<N> {
 
     ghost view = { λ r. record { cpus = r.cpus; posts = r.producers.items; takes = r.consumers.items } };
 
-    ghost invariant = { λ r. HasRoom N.ring_capacity r.cpus r.producers r.consumers r.left.items };
+    ghost invariant = { λ r. HasRoom N.kit.rings.capacity r.cpus r.producers r.consumers r.left.items };
 }
 
-impl<N: RingNames> ReturnedEnds<N> {
+impl<N: Names> ReturnedEnds<N> {
     /// Nothing given back yet, with room for the ends of this many CPUs and for what is left in their rings.
     pub(crate) fn open(
         alloc: Global,
@@ -37,7 +37,7 @@ impl<N: RingNames> ReturnedEnds<N> {
         capacity: usize,
     ) -> Result<ReturnedEnds<N>, AllocError>
         requires cpus { cpus ≤ 64 }
-        requires capacity { capacity ≡ N.ring_capacity }
+        requires capacity { capacity ≡ N.kit.rings.capacity }
         ensures { IfOk result (λ r. r ≡ record { cpus = cpus; posts = []; takes = [] }) }
     {
         let left = empty_lists(alloc, cpus * cpus, capacity)?;

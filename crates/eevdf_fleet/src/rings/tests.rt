@@ -4,6 +4,7 @@ ghost use Rattle.std.specs.Prelude.{◌≡◌, ◌<◌, length, IfOk};
 ghost use Rattle.eevdf_fleet.specs.Rings as rings;
 
 use super::*;
+use crate::names::Names;
 use eevdf_queue::TaskId;
 use std::alloc::{AllocError, Global};
 use std::marker::Brand;
@@ -12,12 +13,12 @@ use std::test::Fail;
 
 /// What a CPU keeps of the rings.
 #[derive(Drop)]
-struct Ends<N: RingNames> {
+struct Ends<N: Names> {
     producers: Producers<N>,
     consumers: Consumers<N>,
 }
 
-impl<N: RingNames> Ends<N> {
+impl<N: Names> Ends<N> {
     fn post(&mut self, home: usize, task: TaskId) -> Result<(), RingFull>
         requires { home < length self.old.producers.posted }
         ensures sender { self.new.producers.sender ≡ self.old.producers.sender }
@@ -40,8 +41,8 @@ impl<N: RingNames> Ends<N> {
 }
 
 /// The ends of two CPUs.
-fn ends_of_two<N: RingNames>(alloc: Global, opened: Rings) -> Result<(Ends<N>, Ends<N>), AllocError>
-    requires names { rings.AreNamed N.ring_capacity N.ring opened }
+fn ends_of_two<N: Names>(alloc: Global, opened: Rings) -> Result<(Ends<N>, Ends<N>), AllocError>
+    requires names { opened ≡ N.kit.rings }
     requires cpus { length opened.rings ≡ 2 }
     ensures first { IfOk result (λ ends.
         (ends.0.producers ≡ rings.no_posts 2 0) × (ends.0.consumers ≡ rings.no_takes 2 0)) }
@@ -74,8 +75,8 @@ fn task(number: u64) -> Result<TaskId, Fail> {
 }
 
 /// One CPU posts three requests to another, which takes one of them; the other two are left, in order.
-fn one_of_three<N: RingNames>(rt: &impl Abort, alloc: Global, opened: Rings) -> Result<(), Fail>
-    requires names { rings.AreNamed N.ring_capacity N.ring opened }
+fn one_of_three<N: Names>(rt: &impl Abort, alloc: Global, opened: Rings) -> Result<(), Fail>
+    requires names { opened ≡ N.kit.rings }
     requires cpus { length opened.rings ≡ 2 }
     requires capacity { opened.capacity ≡ 3 }
 {
@@ -112,8 +113,8 @@ fn requests_are_taken_in_order(rt: HostRuntime) -> Result<(), Fail> {
 }
 
 /// A ring with room for one request, from a CPU to itself, is used again once it is empty; another ring is apart from it.
-fn one_at_a_time<N: RingNames>(rt: &impl Abort, alloc: Global, opened: Rings) -> Result<(), Fail>
-    requires names { rings.AreNamed N.ring_capacity N.ring opened }
+fn one_at_a_time<N: Names>(rt: &impl Abort, alloc: Global, opened: Rings) -> Result<(), Fail>
+    requires names { opened ≡ N.kit.rings }
     requires cpus { length opened.rings ≡ 2 }
 {
     let (mut first, _second) = ends_of_two::<N>(alloc, opened)?;
@@ -136,11 +137,8 @@ fn a_ring_is_used_again(rt: HostRuntime) -> Result<(), Fail> {
     one_at_a_time::<Brand>(&rt, rt.alloc(), opened)
 }
 
-fn senders_and_homes<N: RingNames>(
-    alloc: Global,
-    opened: Rings,
-) -> Result<(usize, usize), AllocError>
-    requires { rings.AreNamed N.ring_capacity N.ring opened }
+fn senders_and_homes<N: Names>(alloc: Global, opened: Rings) -> Result<(usize, usize), AllocError>
+    requires { opened ≡ N.kit.rings }
 {
     let (producers, consumers) = opened.named::<N>(alloc)?;
     Ok((producers.len(), consumers.len()))

@@ -1,9 +1,11 @@
-use Rattle.std.proofs.Common.{◌≡◌, [], ◌∷◌}
+use Rattle.std.proofs.Common.{◌≡◌, [], ◌∷◌, length}
 use Rattle.std.specs.Prelude.{All}
 use Rattle.eevdf_ops.specs.Programs.{lines_by}
+use Rattle.eevdf_ops.specs.Setup.{cpus_of}
 use Rattle.eevdf_fleet.specs.declared.board.claims.Claim.TheVariants.{Journal}
 use Rattle.eevdf_fleet.specs.Board.{IsToken, claims_of}
 use Rattle.eevdf_fleet.specs.Fleets as fleets
+use Rattle.eevdf_fleet.specs.Fleets.{returned, setup_of}
 use Rattle.eevdf_fleet.proofs.closing.close_seats.Given as goal
 
 abbrev pub invariant-loop-seat : goal.invariant-loop-seat
@@ -11,3 +13,5 @@ invariant-loop-seat g l =
     IsToken g.N.Names.kit.board g.N.Names.kit.terms l.token
     × (claims_of l.token ≡ Journal l.lines.items ∷ [])
     × All (λ (s : fleets.Seat). lines_by s.cpu l.lines.items ≡ s.log) l.yielded
+    × All (λ (s : fleets.Seat). length s.posted ≡ cpus_of (setup_of g.N.Names.kit)) l.yielded
+    × (l.ends ≡ returned (cpus_of (setup_of g.N.Names.kit)) l.yielded)

@@ -12,28 +12,28 @@ use Rattle.eevdf_fleet.proofs.commit.commit.Goals.{After-check-token}
 
 -- the claims of the joined token
 joined : (g : _) (c : After-check-token g)
-    → claims_of c.join-token-2.result ≡ with_seat c.seat.inside.cpu c.seat.inside.log.items c.journal.inside.lines.items (claims_of c.args.queues)
+    → claims_of c.join-token-2.result ≡ with_seat c.log.inside.cpu c.log.inside.lines.items c.journal.inside.lines.items (claims_of c.args.queues)
 joined g c =
     joined-claims (claims_of c.replace-own.result) (claims_of c.replace-all.result) (claims_of c.args.queues) (claims_of c.join-token.result) (claims_of c.join-token-2.result)
-    (Seat c.seat.inside.cpu c.seat.inside.log.items) (Journal c.journal.inside.lines.items)
-    (ap claims_of c.replace-own.ensures.value ∙ c.seat.invariant.1) (ap claims_of c.replace-all.ensures.value ∙ c.journal.invariant.1)
+    (Seat c.log.inside.cpu c.log.inside.lines.items) (Journal c.journal.inside.lines.items)
+    (ap claims_of c.replace-own.ensures.value ∙ c.log.invariant.1) (ap claims_of c.replace-all.ensures.value ∙ c.journal.invariant.1)
     c.join-token.ensures.claims c.join-token-2.ensures.claims
 
-some : (g : _) (c : After-check-token g) → length c.seat.inside.log.items < g.N.Names.kit.terms.quota
+some : (g : _) (c : After-check-token g) → length c.log.inside.lines.items < g.N.Names.kit.terms.quota
 some g c =
-    let room : c.seat.inside.room ≡ c.args.seat.now.room = ap (λ (s : fleets.Seat). s.room) c.seat.view_is in
-    omega (arith, c.requires.room, c.seat.invariant.3, c.seat.inside.log.ok.0)
+    let room : c.log.inside.room ≡ c.args.log.now.room = ap (λ (s : fleets.SeatLog). s.room) c.log.view_is in
+    omega (arith, c.requires.room, c.log.invariant.3, c.log.inside.lines.ok.0)
 
 pub append-token-requires-clause-owed : goal.append-token-requires-clause-owed
 append-token-requires-clause-owed g c =
     let at : After-check-token g = (goal.at.append-token-requires-clause-owed g c).After-check-token in
-    let own : _ = c.requires.own ∙ ap (λ (s : fleets.Seat). s.cpu) (sym c.seat.view_is) in
+    let own : _ = c.requires.own ∙ ap (λ (s : fleets.SeatLog). s.cpu) (sym c.log.view_is) in
     subst (λ (cs : List Claim). Owes g.N.Names.kit.terms cs c.args.said.now) (sym (c.check-token.ensures.claims ∙ joined g at))
-    (owes-all g.N.Names.kit.terms c.seat.inside.cpu c.seat.inside.log.items c.journal.inside.lines.items (claims_of c.args.queues) c.args.said.now own (some g at) c.requires.owed)
+    (owes-all g.N.Names.kit.terms c.log.inside.cpu c.log.inside.lines.items c.journal.inside.lines.items (claims_of c.args.queues) c.args.said.now own (some g at) c.requires.owed)
 
 pub push_reserved-requires : goal.push_reserved-requires
 push_reserved-requires g c =
     let at : After-check-token g = (goal.at.push_reserved-requires g c).After-check-token in
-    let known : Known g.N.Names.kit.terms (with_seat c.seat.inside.cpu c.seat.inside.log.items c.journal.inside.lines.items (claims_of c.args.queues)) =
+    let known : Known g.N.Names.kit.terms (with_seat c.log.inside.cpu c.log.inside.lines.items c.journal.inside.lines.items (claims_of c.args.queues)) =
     subst (λ (cs : List Claim). Known g.N.Names.kit.terms cs) (joined g at) c.check-token.ensures.known in
-    omega (arith, journal-room g.N.Names.kit.terms c.seat.inside.cpu c.seat.inside.log.items c.journal.inside.lines.items (claims_of c.args.queues) known c.seat.invariant.2 (some g at), c.journal.invariant.2, c.journal.inside.lines.ok.0)
+    omega (arith, journal-room g.N.Names.kit.terms c.log.inside.cpu c.log.inside.lines.items c.journal.inside.lines.items (claims_of c.args.queues) known c.log.invariant.2 (some g at), c.journal.invariant.2, c.journal.inside.lines.ok.0)

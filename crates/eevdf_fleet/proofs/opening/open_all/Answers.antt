@@ -5,7 +5,7 @@ use Rattle.eevdf_fleet.specs.declared.board.claims.Claim.{Claim}
 use Rattle.eevdf_fleet.specs.declared.board.claims.Claim.TheVariants.{Seat, Queue}
 use Rattle.eevdf_fleet.specs.Board.{claims_of}
 use Rattle.eevdf_fleet.specs.Claims.{claims_from}
-use Rattle.eevdf_fleet.specs.Fleets.{fresh}
+use Rattle.eevdf_fleet.specs.Fleets.{fresh_log}
 use Rattle.eevdf_fleet.proofs.Openings.{next-claims, other-claims, fresh-more}
 use Rattle.eevdf_fleet.proofs.opening.open_all.Goals as goal
 use Rattle.eevdf_fleet.proofs.opening.open_all.Goals.{After-cpu_number}
@@ -36,8 +36,8 @@ loop-number-preserved g c =
       search rules,
       other-claims c.loop-number.queues.items c.loop-number.number c.replace-queue.result c.replace-queue.new.dest (claims_of c.loop-number.token) (claims_of c.in_ok-part.part.others)
           (within g at) (taken g at) c.loop-number.invariant.1 c.in_ok-part.ensures.claims,
-      fresh-more c.args.quota c.loop-number.number c.loop-number.seats.items c.push.new.self.items c.in_ok-part.part.seat c.loop-number.invariant.2
-          (c.in_ok-part.ensures.seat ∙ ap (λ (n : ℕ). fresh c.args.quota n) c.cpu_number.ensures) c.in_ok-push.ensures.items,
+      fresh-more c.args.quota c.loop-number.number c.loop-number.logs.items c.push.new.self.items c.in_ok-part.part.log c.loop-number.invariant.2
+          (c.in_ok-part.ensures.log ∙ ap (λ (n : ℕ). fresh_log c.args.quota n) c.cpu_number.ensures) c.in_ok-push.ensures.items,
       omega (arith, c.in_ok-push-2.ensures.len, c.loop-number.invariant.3),
       c.loop-number.invariant.4,
       c.loop-number.invariant.5,

@@ -3,14 +3,14 @@ use Rattle.eevdf_ops.specs.Outcome.{machine_of}
 use Rattle.eevdf_ops.specs.Setup.{cpus_of}
 use Rattle.eevdf_fleet.specs.Board.{IsToken, claims_of}
 use Rattle.eevdf_fleet.specs.Claims.{claims_from}
-use Rattle.eevdf_fleet.specs.Fleets.{fresh_seats, setup_of}
+use Rattle.eevdf_fleet.specs.Fleets.{fresh_logs, setup_of}
 use Rattle.eevdf_fleet.proofs.opening.open_all.Given as goal
 
 abbrev pub invariant-loop-number : goal.invariant-loop-number
 invariant-loop-number g l =
     IsToken g.N.Names.kit.board g.N.Names.kit.terms l.token
     × (claims_of l.token ≡ claims_from l.number (drop l.number (machine_of l.queues.items)))
-    × (l.seats.items ≡ fresh_seats l.quota l.number)
+    × (l.logs.items ≡ fresh_logs l.quota l.number)
     × (vec_len l.locks ≡ l.number)
     × (vec_len l.queues ≡ cpus_of (setup_of g.N.Names.kit))
     × (l.cpus ≡ cpus_of (setup_of g.N.Names.kit))

@@ -1,47 +1,11 @@
-use Rattle.std.proofs.Common.{◌≡◌, ◌<◌, ◌++◌, ℕ, List, [], ◌∷◌, sym, ap, subst, ◌∙◌}
-use Rattle.eevdf_ops.specs.Setup.{cpus_of, homes_of}
-use Rattle.eevdf_fleet.specs.declared.board.claims.Claim.{Claim}
-use Rattle.eevdf_fleet.specs.declared.board.claims.Claim.TheVariants.{Queue}
-use Rattle.eevdf_fleet.specs.Board.{Known, claims_of}
-use Rattle.eevdf_fleet.specs.Fleets.{Slot, setup_of}
-use Rattle.eevdf_fleet.proofs.Placed.{none-twice}
+use Rattle.eevdf_ops.specs.Setup.{homes_of}
+use Rattle.eevdf_fleet.specs.Fleets.{setup_of}
+use Rattle.eevdf_fleet.proofs.SeatParts.{parts-written, two-no-wake}
 use Rattle.eevdf_fleet.proofs.fleet.Fleet.across.Goals as goal
-use Rattle.eevdf_fleet.proofs.fleet.Fleet.across.Goals.{After-check-token}
 
-own_number : (g : _) (c : After-check-token g) → c.slot.inside.number ≡ c.args.seat.now.cpu
-own_number g c = ap (λ (s : Slot). s.number) (c.slot.view_is ∙ c.deref_mut-slot.ensures.value) ∙ c.hold_both-guard.ensures.cpu ∙ c.cpu.ensures.cpu
-
-other_number : (g : _) (c : After-check-token g) → c.away.inside.number ≡ c.args.other
-other_number g c = ap (λ (s : Slot). s.number) (c.away.view_is ∙ c.deref_mut-away.ensures.value) ∙ c.hold_both-guard.ensures.other
-
--- the claims of the joined token
-joined : (g : _) (c : After-check-token g) → claims_of c.join.result ≡ Queue c.args.seat.now.cpu c.slot.inside.queue.state ∷ Queue c.args.other c.away.inside.queue.state ∷ []
-joined g c =
-    c.join.ensures.claims
-    ∙ ap (λ (l : List Claim). l ++ claims_of c.replace-others.result) (ap claims_of c.replace-own.ensures.value ∙ c.slot.invariant.1)
-    ∙ ap (λ (l : List Claim). Queue c.slot.inside.number c.slot.inside.queue.state ∷ l) (ap claims_of c.replace-others.ensures.value ∙ c.away.invariant.1)
-    ∙ ap (λ (n : ℕ). Queue n c.slot.inside.queue.state ∷ Queue c.away.inside.number c.away.inside.queue.state ∷ []) (own_number g c)
-    ∙ ap (λ (n : ℕ). Queue c.args.seat.now.cpu c.slot.inside.queue.state ∷ Queue n c.away.inside.queue.state ∷ []) (other_number g c)
-
-pub act_across-answer-requires-clause-two : goal.act_across-answer-requires-clause-two
-act_across-answer-requires-clause-two g c = (homes_of (setup_of g.N.Names.kit), (c.args.other, c.requires.two))
-
-pub act_across-answer-requires-clause-once : goal.act_across-answer-requires-clause-once
-act_across-answer-requires-clause-once g c =
-    let at : After-check-token g = (goal.at.act_across-answer-requires-clause-once g c).After-check-token in
-    let known : Known g.N.Names.kit.terms (Queue c.args.seat.now.cpu c.slot.inside.queue.state ∷ Queue c.args.other c.away.inside.queue.state ∷ []) =
-    subst (λ (cs : List Claim). Known g.N.Names.kit.terms cs) (joined g at) c.check-token.ensures.known in
-    none-twice g.N.Names.kit.terms c.args.seat.now.cpu c.args.other c.slot.inside.queue.state c.away.inside.queue.state known (λ e. c.requires.apart (sym e))
-    (subst (λ (n : ℕ). n < cpus_of (setup_of g.N.Names.kit)) c.cpu.ensures.cpu c.cpu.ensures.below) c.requires.there
-
-pub commit_two-own-requires-clause-done : goal.commit_two-own-requires-clause-done
-commit_two-own-requires-clause-done g c =
-    let at : After-check-token g = (goal.at.commit_two-own-requires-clause-done g c).After-check-token in
-    record {
-      before = c.slot.inside.queue.state;
-      other_before = c.away.inside.queue.state;
-      claimed = c.check-token.ensures.claims ∙ joined g at;
-      answers = c.act_across-answer.ensures.answer;
-      leaves = c.act_across-answer.ensures.queue;
-      other_leaves = c.act_across-answer.ensures.other;
-    }
+pub invariant_of-seat : goal.invariant_of-seat
+invariant_of-seat g c = (
+  parts-written _ _ _ _ _ _ c.seat.invariant.0 (two-no-wake (homes_of (setup_of g.N.Names.kit)) c.args.other c.args.deed c.requires.two) c.done_on_two.ensures.log,
+  c.seat.invariant.1,
+  c.seat.invariant.2,
+)

@@ -1,16 +1,5 @@
-use Rattle.std.proofs.Common.{◌≡◌, ℕ, [], ◌∷◌, ap, ◌∙◌}
-use Rattle.eevdf_fleet.specs.declared.board.claims.Claim.TheVariants.{Queue}
-use Rattle.eevdf_fleet.specs.Board.{claims_of}
-use Rattle.eevdf_fleet.specs.Fleets.{Slot}
+use Rattle.eevdf_fleet.proofs.SeatParts.{parts-written}
 use Rattle.eevdf_fleet.proofs.fleet.Fleet.own.Goals as goal
 
-pub commit_one-requires-clause-done : goal.commit_one-requires-clause-done
-commit_one-requires-clause-done g c =
-    let number : c.slot.inside.number ≡ c.args.seat.now.cpu =
-    ap (λ (s : Slot). s.number) (c.slot.view_is ∙ c.deref_mut-slot.ensures.value) ∙ c.hold-guard.ensures ∙ c.cpu-cpu.ensures.cpu in
-    record {
-      before = c.slot.inside.queue.state;
-      claimed = ap claims_of c.replace-token.ensures.value ∙ c.slot.invariant.1 ∙ ap (λ (n : ℕ). Queue n c.slot.inside.queue.state ∷ []) number;
-      answers = c.act-answer.ensures.answer;
-      leaves = c.act-answer.ensures.after;
-    }
+pub invariant_of-seat : goal.invariant_of-seat
+invariant_of-seat g c = (parts-written _ _ _ _ _ _ c.seat.invariant.0 c.requires.no_wake c.done_on_one.ensures.log, c.seat.invariant.1, c.seat.invariant.2)

@@ -1,11 +1,16 @@
+use Rattle.std.proofs.Common.{ℕ, ◌∙◌, sym, subst}
+use Rattle.eevdf_fleet.specs.RingEnds.{lists_of}
+use Rattle.eevdf_fleet.specs.OpenedRings.{AreOpened}
 use Rattle.eevdf_fleet.proofs.RingOpenings.{length-lists}
 use Rattle.eevdf_fleet.proofs.RingNaming.{new-rows, new-columns}
 use Rattle.eevdf_fleet.proofs.rings.opened_rings.Rings.named.Goals as goal
 
 pub producers_by_sender-requires : goal.producers_by_sender-requires
 producers_by_sender-requires g c =
-    new-rows _ _ _ _ _ _ (rw (← c.self.view_is) at c.requires) c.self.invariant (length-lists c.self.inside.producers.items)
+    new-rows g.N.Names.kit.rings c.self.inside.capacity (lists_of c.self.inside.producers.items) (lists_of c.self.inside.consumers.items) (c.self.view_is ∙ c.requires)
+    (subst (λ (n : ℕ). AreOpened c.self.inside.capacity n (lists_of c.self.inside.producers.items) (lists_of c.self.inside.consumers.items)) (sym (length-lists c.self.inside.producers.items)) c.self.invariant)
 
 pub consumers_by_home-requires : goal.consumers_by_home-requires
 consumers_by_home-requires g c =
-    new-columns _ _ _ _ _ _ (rw (← c.self.view_is) at c.requires) c.self.invariant (length-lists c.self.inside.producers.items)
+    new-columns g.N.Names.kit.rings c.self.inside.capacity (lists_of c.self.inside.producers.items) (lists_of c.self.inside.consumers.items) (c.self.view_is ∙ c.requires)
+    (subst (λ (n : ℕ). AreOpened c.self.inside.capacity n (lists_of c.self.inside.producers.items) (lists_of c.self.inside.consumers.items)) (sym (length-lists c.self.inside.producers.items)) c.self.invariant)

@@ -1,0 +1,15 @@
+use Rattle.std.proofs.Common.{◌≡◌, ◌≤◌, ap, subst, ◌∙◌}
+use Rattle.eevdf_ops.specs.Places.{AreCpus}
+use Rattle.eevdf_ops.specs.Setup.{cpus_of, homes_of}
+use Rattle.eevdf_fleet.specs.declared.board.claims.Terms.{Terms}
+use Rattle.eevdf_fleet.specs.Fleets.{Kit}
+use Rattle.eevdf_fleet.proofs.fleet.Fleet.open.Goals as goal
+
+pub invariant_of-fleet : goal.invariant_of-fleet
+invariant_of-fleet g c =
+    let terms : c.kit.inside.board.table.shared.key ≡ g.N.Names.kit.terms = ap (λ (k : Kit). k.terms) (c.kit.view_is ∙ c.requires) in (
+      c.kit.invariant.2 ∙ ap (λ (t : Terms). homes_of t.setup.value) terms,
+      c.in_ok-opened.ensures.locks,
+      subst (λ (t : Terms). AreCpus (cpus_of t.setup.value) (homes_of t.setup.value)) terms c.kit.invariant.7,
+      subst (λ (t : Terms). cpus_of t.setup.value ≤ 64) terms c.kit.invariant.8,
+    )

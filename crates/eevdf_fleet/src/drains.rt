@@ -1,0 +1,108 @@
+//! How the requests that were posted to a CPU are decided.
+
+ghost use Rattle.std.specs.Prelude.{◌≡◌, ◌≤◌, ◌<◌, IfNone, IfSome, None, true};
+ghost use Rattle.eevdf_ops.specs.Setup.{cpus_of, homes_of, is_at_home};
+ghost use Rattle.eevdf_fleet.specs.Drains.{HasDrained, HasTaken, counted, oldest_own};
+ghost use Rattle.eevdf_fleet.specs.Fleets.{setup_of};
+
+use crate::fleet::Fleet;
+use crate::names::Names;
+use crate::opening::cpu_number;
+use crate::seat::Seat;
+use crate::slot::Slot;
+use eevdf_ops::{Answer, CpuId, Deed};
+use eevdf_queue::TaskId;
+use std::sync::Wait;
+
+/// What a drain did: how many requests it took, and how many of these woke their task.
+#[derive(Clone, Copy, PartialEq, Eq, Debug, Drop)]
+pub struct Drained {
+    pub taken: usize,
+    pub woken: usize,
+}
+
+impl<N: Names> Fleet<N> {
+    /// Takes at most one request of each sender, senders in ascending order, and decides each.
+    pub(crate) fn drain_all<R: Wait>(
+        &self,
+        rt: &R,
+        seat: &mut Seat<N>,
+        slot: &mut Slot<N>,
+    ) -> Drained
+        requires number { slot.old.number ≡ seat.old.cpu }
+        requires cpu { seat.old.cpu < cpus_of (setup_of N.kit) }
+        requires room { cpus_of (setup_of N.kit) ≤ seat.old.room }
+        ensures { HasDrained seat.old seat.new result }
+    {
+        let mut drained = Drained { taken: 0, woken: 0 };
+        for sender in 0..self.locks.len() {
+            if let Some(answer) = self.drain_one(rt, seat, slot, cpu_number(sender)) {
+                drained = counted(drained, answer);
+            }
+        }
+        drained
+    }
+
+    /// Takes the oldest request of a sender, if there is one, and decides it.
+    fn drain_one<R: Wait>(
+        &self,
+        rt: &R,
+        seat: &mut Seat<N>,
+        slot: &mut Slot<N>,
+        sender: CpuId,
+    ) -> Option<Answer>
+        requires number { slot.old.number ≡ seat.old.cpu }
+        requires sender { sender < cpus_of (setup_of N.kit) }
+        requires room { 0 < seat.old.room }
+        ensures some { IfSome result (λ answer. HasTaken seat.old seat.new sender answer) }
+        ensures none { IfNone result (seat.new ≡ seat.old) }
+        ensures none_own { IfNone result (sender ≡ seat.old.cpu → oldest_own seat.old ≡ None) }
+        ensures number { slot.new.number ≡ slot.old.number }
+    {
+        let cpu = seat.cpu();
+        let task = seat
+            .consumers
+            .take(&mut seat.producers, sender.get() as usize)?;
+        self.wait_unless_at_home(rt, task, cpu);
+        let deed = Deed::Wake { cpu, task, sender };
+        Some(self.done_on_one(rt, &mut seat.log, slot, deed))
+    }
+
+    /// Goes on where a task has its home at a CPU, and else waits for good.
+    fn wait_unless_at_home<R: Wait>(&self, rt: &R, task: TaskId, cpu: CpuId)
+        ensures { is_at_home (homes_of (setup_of N.kit)) task cpu ≡ true }
+    {
+        // A seat posts a request to the task's home alone, but no type says so of what comes out of a ring.
+        if self.is_at_home(task, cpu) {
+            return;
+        }
+        for _ in rt.forever() {}
+        unreachable!()
+    }
+
+    /// Whether a task has its home at a CPU.
+    fn is_at_home(&self, task: TaskId, cpu: CpuId) -> bool
+        ensures { result ≡ is_at_home (homes_of (setup_of N.kit)) task cpu }
+    {
+        match self.homes.get(task.get() as usize) {
+            Some(home) => home.get() == cpu.get(),
+            None => false,
+        }
+    }
+}
+
+/// What a drain did, with one request more that was answered so.
+fn counted(drained: Drained, answer: Answer) -> Drained
+    requires taken { drained.taken < 64 }
+    requires woken { drained.woken < 64 }
+    ensures { result ≡ counted drained answer }
+{
+    let woken = match answer {
+        Answer::Woken => drained.woken + 1,
+        _ => drained.woken,
+    };
+    Drained {
+        taken: drained.taken + 1,
+        woken,
+    }
+}

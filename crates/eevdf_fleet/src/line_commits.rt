@@ -1,0 +1,111 @@
+//! How a line is committed, by the queues that it has changed.
+
+ghost use Rattle.std.specs.Prelude.{◌≡◌, ◌≢◌, ◌<◌, [], ◌∷◌, true};
+ghost use Rattle.eevdf_ops.specs.Parts.{decider};
+ghost use Rattle.eevdf_ops.specs.Setup.{allows, homes_of};
+ghost use Rattle.eevdf_fleet.specs.declared.board.claims.Claim.TheVariants as claim;
+ghost use Rattle.eevdf_fleet.specs.Board.{IsToken, claims_of};
+ghost use Rattle.eevdf_fleet.specs.Fleets.{setup_of, written};
+ghost use Rattle.eevdf_fleet.specs.TouchedQueues.{AreDoneFrom, IsDoneFrom, IsOfOneQueue, IsOfTwoQueues};
+
+use crate::board::{Change, Said, Token};
+use crate::commit::commit;
+use crate::fleet::Fleet;
+use crate::names::Names;
+use crate::seat_log::SeatLog;
+use eevdf_ops::{CpuId, Line};
+use eevdf_queue::Queue;
+use std::snapshot::Snapshot;
+use std::sync::Wait;
+
+impl<N: Names> Fleet<N> {
+    /// Commits a line that has changed the queue of the log's CPU alone, which the token claims as it was.
+    pub(crate) fn commit_one<R: Wait>(
+        &self,
+        rt: &R,
+        log: &mut SeatLog<N>,
+        token: Token,
+        queue: &Queue,
+        line: &Line,
+    ) -> Token
+        requires token { IsToken N.kit.board N.kit.terms token }
+        requires one { IsOfOneQueue (homes_of (setup_of N.kit)) line.now.deed }
+        requires own { decider line.now.deed ≡ log.old.cpu }
+        requires allowed { allows (setup_of N.kit) line.now.deed ≡ true }
+        requires room { 0 < log.old.room }
+        requires done { IsDoneFrom (claims_of token) log.old.cpu queue.now.state line.now }
+        ensures token { IsToken N.kit.board N.kit.terms result }
+        ensures claims { claims_of result ≡ claim.Queue log.old.cpu queue.now.state ∷ [] }
+        ensures log { log.new ≡ written log.old line.now }
+    {
+        let said = said(line, log.cpu(), queue);
+        let mut journal = self.journal.lock(rt);
+        commit(&self.board, &mut journal, log, token, &said)
+    }
+
+    /// Commits a line that has changed the queues of the log's CPU and of another one, which the token claims as they
+    /// were.
+    pub(crate) fn commit_two<R: Wait>(
+        &self,
+        rt: &R,
+        log: &mut SeatLog<N>,
+        token: Token,
+        queue: &Queue,
+        other: CpuId,
+        other_queue: &Queue,
+        line: &Line,
+    ) -> (Token, Token)
+        requires token { IsToken N.kit.board N.kit.terms token }
+        requires two { IsOfTwoQueues (homes_of (setup_of N.kit)) other line.now.deed }
+        requires own { decider line.now.deed ≡ log.old.cpu }
+        requires apart { other ≢ log.old.cpu }
+        requires allowed { allows (setup_of N.kit) line.now.deed ≡ true }
+        requires room { 0 < log.old.room }
+        requires done { AreDoneFrom (claims_of token) log.old.cpu queue.now.state other other_queue.now.state line.now }
+        ensures first { IsToken N.kit.board N.kit.terms result.0 }
+        ensures second { IsToken N.kit.board N.kit.terms result.1 }
+        ensures first_claim { claims_of result.0 ≡ claim.Queue log.old.cpu queue.now.state ∷ [] }
+        ensures second_claim { claims_of result.1 ≡ claim.Queue other other_queue.now.state ∷ [] }
+        ensures log { log.new ≡ written log.old line.now }
+    {
+        let said = said_both(line, change(log.cpu(), queue), change(other, other_queue));
+        let mut journal = self.journal.lock(rt);
+        let token = commit(&self.board, &mut journal, log, token, &said);
+        self.board.split(token)
+    }
+}
+
+/// A line, and the queue that it has changed.
+fn said(line: &Line, cpu: CpuId, queue: &Queue) -> Said
+    ensures line { result.line ≡ line.now }
+    ensures cpu { result.second.cpu ≡ cpu }
+    ensures queue { result.second.queue.value ≡ queue.now }
+{
+    Said {
+        line: *line,
+        first: change(cpu, queue),
+        second: change(cpu, queue),
+    }
+}
+
+/// The queue of a CPU as it is now.
+fn change(cpu: CpuId, queue: &Queue) -> Change
+    ensures cpu { result.cpu ≡ cpu }
+    ensures queue { result.queue.value ≡ queue.now }
+{
+    Change {
+        cpu,
+        queue: Snapshot::of(queue),
+    }
+}
+
+/// A line, and the two queues that it has changed.
+fn said_both(line: &Line, first: Change, second: Change) -> Said
+    ensures { result ≡ record { line = line.now; first = first; second = second } }
+{
+    Said {
+        line: *line,
+        first,
+        second,
+    }
+}

@@ -1,0 +1,128 @@
+//! How a deed is done on the queues whose locks are held, and its line committed before they are given back.
+
+ghost use Rattle.std.specs.Prelude.{◌≡◌, ◌≢◌, ◌<◌, ◌↔◌, IsErr, MatchResult, true};
+ghost use Rattle.eevdf_ops.specs.Parts.{decider};
+ghost use Rattle.eevdf_ops.specs.Setup.{allows, cpus_of, homes_of};
+ghost use Rattle.eevdf_fleet.specs.Fleets.{logged, setup_of, written};
+ghost use Rattle.eevdf_fleet.specs.TouchedQueues.{IsNoWake, IsOfOneQueue, IsOfTwoQueues};
+
+use crate::fleet::{Fleet, SeatFull};
+use crate::names::Names;
+use crate::queue_work::{act, act_across};
+use crate::seat::Seat;
+use crate::seat_log::SeatLog;
+use crate::slot::Slot;
+use atomic_table::Badge;
+use eevdf_ops::{Answer, CpuId, Deed, Line};
+use std::mem;
+use std::sync::Wait;
+
+impl<N: Names> Fleet<N> {
+    /// Does a deed of the seat's CPU that touches its queue alone, and isn't a wake.
+    pub(crate) fn own<R: Wait>(
+        &self,
+        rt: &R,
+        seat: &mut Seat<N>,
+        deed: Deed,
+    ) -> Result<Answer, SeatFull>
+        requires one { IsOfOneQueue (homes_of (setup_of N.kit)) deed }
+        requires no_wake { IsNoWake deed }
+        requires own { decider deed ≡ seat.old.cpu }
+        requires allowed { allows (setup_of N.kit) deed ≡ true }
+        ensures cases { MatchResult result
+            (λ a. seat.new ≡ logged seat.old (record { deed = deed; answer = a }))
+            (λ _. seat.new ≡ seat.old) }
+        ensures full { IsErr result ↔ (seat.old.room < 1) }
+    {
+        if seat.room() == 0 {
+            return Err(SeatFull);
+        }
+        let mut guard = self.hold(rt, seat.cpu());
+        Ok(self.done_on_one(rt, &mut seat.log, &mut guard, deed))
+    }
+
+    /// Does a deed of the seat's CPU that touches its queue and that of another CPU.
+    pub(crate) fn across<R: Wait>(
+        &self,
+        rt: &R,
+        seat: &mut Seat<N>,
+        other: CpuId,
+        deed: Deed,
+    ) -> Result<Answer, SeatFull>
+        requires two { IsOfTwoQueues (homes_of (setup_of N.kit)) other deed }
+        requires own { decider deed ≡ seat.old.cpu }
+        requires apart { other ≢ seat.old.cpu }
+        requires there { other < cpus_of (setup_of N.kit) }
+        requires allowed { allows (setup_of N.kit) deed ≡ true }
+        ensures cases { MatchResult result
+            (λ a. seat.new ≡ logged seat.old (record { deed = deed; answer = a }))
+            (λ _. seat.new ≡ seat.old) }
+        ensures full { IsErr result ↔ (seat.old.room < 1) }
+    {
+        if seat.room() == 0 {
+            return Err(SeatFull);
+        }
+        let (mut guard, mut other_guard) = self.hold_both(rt, seat.cpu(), other);
+        Ok(self.done_on_two(rt, &mut seat.log, &mut guard, &mut other_guard, deed))
+    }
+
+    /// Does a deed on the one queue that it touches, whose lock is held, and commits its line.
+    pub(crate) fn done_on_one<R: Wait>(
+        &self,
+        rt: &R,
+        log: &mut SeatLog<N>,
+        slot: &mut Slot<N>,
+        deed: Deed,
+    ) -> Answer
+        requires number { slot.old.number ≡ log.old.cpu }
+        requires one { IsOfOneQueue (homes_of (setup_of N.kit)) deed }
+        requires own { decider deed ≡ log.old.cpu }
+        requires allowed { allows (setup_of N.kit) deed ≡ true }
+        requires room { 0 < log.old.room }
+        ensures log { log.new ≡ written log.old (record { deed = deed; answer = result }) }
+        ensures number { slot.new.number ≡ slot.old.number }
+    {
+        let answer = act(&mut slot.queue, &deed);
+        let line = Line { deed, answer };
+        let token = mem::replace(&mut slot.token, Badge::blank());
+        slot.token = self.commit_one(rt, log, token, &slot.queue, &line);
+        line.answer
+    }
+
+    /// Does a deed on the two queues that it touches, whose locks are held, and commits its line. The first is that of
+    /// the log's CPU.
+    fn done_on_two<R: Wait>(
+        &self,
+        rt: &R,
+        log: &mut SeatLog<N>,
+        slot: &mut Slot<N>,
+        away: &mut Slot<N>,
+        deed: Deed,
+    ) -> Answer
+        requires number { slot.old.number ≡ log.old.cpu }
+        requires two { IsOfTwoQueues (homes_of (setup_of N.kit)) away.old.number deed }
+        requires own { decider deed ≡ log.old.cpu }
+        requires apart { away.old.number ≢ log.old.cpu }
+        requires allowed { allows (setup_of N.kit) deed ≡ true }
+        requires room { 0 < log.old.room }
+        ensures log { log.new ≡ written log.old (record { deed = deed; answer = result }) }
+    {
+        let own = mem::replace(&mut slot.token, Badge::blank());
+        let others = mem::replace(&mut away.token, Badge::blank());
+        let token = self.board.check(self.board.join(others, own));
+        let answer = act_across(&mut slot.queue, &mut away.queue, &deed);
+        let line = Line { deed, answer };
+        let (own, others) = self.commit_two(
+            rt,
+            log,
+            token,
+            &slot.queue,
+            away.number,
+            &away.queue,
+            &line,
+        );
+        slot.token = own;
+        away.token = others;
+        line.answer
+    }
+}
