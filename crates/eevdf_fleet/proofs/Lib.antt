@@ -18,3 +18,4 @@ pub mod Takes
 pub mod SenderTurns
 pub mod SeatParts
 pub mod PostsTold
+pub mod Crossing

@@ -1,6 +1,8 @@
 ghost use Rattle.std.specs.Prelude.{◌≡◌};
 ghost use Rattle.eevdf_fleet.specs.Fleets.{setup_of};
 
+mod two_threads;
+
 use super::{Fleet, Kit, Names, Seat, SeatFull};
 use eevdf_ops::{Answer, CpuId, Outcome, Setup, TaskSpec};
 use eevdf_queue::TaskId;
