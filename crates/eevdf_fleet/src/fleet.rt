@@ -1,4 +1,4 @@
-ghost use Rattle.std.specs.Prelude.{◌≡◌, ◌≢◌, ◌*◌, ◌<◌, ◌↔◌, All, IfOk, IsErr, MatchResult, length, true};
+ghost use Rattle.std.specs.Prelude.{◌≡◌, ◌≢◌, ◌*◌, ◌<◌, ◌↔◌, All, IfOk, IsErr, IsTrue, MatchResult, length, true};
 ghost use Rattle.std.specs.List.{list_all};
 ghost use Rattle.eevdf_ops.specs.Histories.{IsOneThread};
 ghost use Rattle.eevdf_ops.specs.Machine.{start};
@@ -212,6 +212,21 @@ impl<N: Names> Fleet<N> {
         ensures below { result < cpus_of (setup_of N.kit) }
     {
         self.homes[task.get() as usize]
+    }
+
+    /// Whether these are the seats of all CPUs, in order, as a fleet wants them when it is closed.
+    pub fn has_all_seats(&self, seats: &Vec<Seat<N>>) -> bool
+        ensures { IsTrue result ↔ AreSeats (cpus_of (setup_of N.kit)) seats.now.items }
+    {
+        if seats.len() != self.locks.len() {
+            return false;
+        }
+        for number in 0..seats.len() {
+            if seats[number].cpu().get() as usize != number {
+                return false;
+            }
+        }
+        true
     }
 
     /// Closes the fleet. Its history is that of one thread that does the deeds one after the other, each at once, and so

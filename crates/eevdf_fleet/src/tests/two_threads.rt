@@ -4,7 +4,8 @@ ghost use Rattle.std.specs.Prelude.{◌≡◌, IfOk};
 ghost use Rattle.eevdf_ops.specs.Programs.{deeds_of};
 ghost use Rattle.eevdf_fleet.specs.Fleets.{setup_of};
 
-use super::{Fleet, Kit, Names, Seat, cpu, pull, setup};
+use super::{Fleet, Names, Seat, cpu, pull, setup};
+use crate::Kit;
 use eevdf_ops::one_thread::solo;
 use eevdf_ops::{CpuId, Deed, Line, Outcome, Setup};
 use eevdf_queue::{Queue, TaskId};
@@ -85,6 +86,7 @@ fn two_operate<N: Names + Send + Sync, R: Threads + Wait + Abort + Sync>(
     );
     seats.push(zero)?;
     seats.push(one)?;
+    assert!(rt; fleet.has_all_seats(&seats));
     let outcome = fleet.close(seats);
     assert!(rt; outcome.history().len() == 200);
     let deeds = deeds(alloc, outcome.history())?;
@@ -100,6 +102,6 @@ fn two_operate<N: Names + Send + Sync, R: Threads + Wait + Abort + Sync>(
 #[test]
 fn two_threads_operate(rt: HostRuntime) -> Result<(), Fail> {
     let setup = setup(rt.alloc(), 2, 4)?;
-    let kit = Kit::make(rt.alloc(), &setup, 100)?;
+    let kit = Kit::make(rt.alloc(), &setup, 100, 1)?;
     two_operate::<Brand, _>(&rt, rt.alloc(), &setup, kit)
 }
