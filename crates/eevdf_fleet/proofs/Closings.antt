@@ -15,7 +15,7 @@ use Rattle.eevdf_fleet.specs.declared.board.claims.Claim.{Claim}
 use Rattle.eevdf_fleet.specs.declared.board.claims.Claim.TheVariants.{Seat, Queue, Journal}
 use Rattle.eevdf_fleet.specs.Claims.{Key, queue, once, here, times, told, AllTell}
 use Rattle.eevdf_fleet.specs.Board.{Known}
-use Rattle.eevdf_fleet.specs.Closing.{AreClosed}
+use Rattle.eevdf_fleet.proofs.QueuesClosed.{AreClosed}
 use Rattle.eevdf_fleet.proofs.Sums.{sum_below, sum-none, sum-once, sum-less}
 use Rattle.eevdf_fleet.proofs.Told.{length-told}
 

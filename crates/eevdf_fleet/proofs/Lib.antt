@@ -7,6 +7,7 @@ pub mod Commits
 pub mod Pulled
 pub mod Placed
 pub mod Openings
+pub mod QueuesClosed
 pub mod Closings
 pub mod RingPlaces
 pub mod RingEnds

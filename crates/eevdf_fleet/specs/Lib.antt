@@ -4,7 +4,6 @@ pub mod Board
 pub mod Fleets
 pub mod Drains
 pub mod TouchedQueues
-pub mod Closing
 pub mod RingEnds
 pub mod ReturnedEnds
 pub mod OpenedRings

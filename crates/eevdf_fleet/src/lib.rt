@@ -1,6 +1,11 @@
 //! A scheduler for several threads: each CPU's run queue stands in a lock of its own, and a journal, in a lock of its
 //! own too, has the lines of what was done, in the order in which it was committed.
 //!
+//! A fleet is opened from a kit, with a seat for each CPU. Whoever has a CPU's seat does its operations: they take the
+//! locks of the queues that they touch, in ascending order, work on these queues, and then commit their line under the
+//! journal's lock. A request to wake a task is posted to the task's home by a ring of the two CPUs, without a lock, and
+//! decided there by a drain. When the fleet is closed with all its seats, its lines are the history of one thread.
+//!
 //! What holds across the locks goes by a board of claims: who holds a seat, a queue or the journal has a token, which
 //! takes no memory, and knows what the one history says of it.
 #![tactic(auto)]

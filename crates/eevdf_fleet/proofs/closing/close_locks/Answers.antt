@@ -5,7 +5,7 @@ use Rattle.eevdf_fleet.specs.declared.board.claims.Claim.{Claim}
 use Rattle.eevdf_fleet.specs.declared.board.claims.Claim.TheVariants.{Queue}
 use Rattle.eevdf_fleet.specs.Board.{Known, claims_of}
 use Rattle.eevdf_fleet.specs.Claims.{IsKept}
-use Rattle.eevdf_fleet.specs.Closing.{AreClosed}
+use Rattle.eevdf_fleet.proofs.QueuesClosed.{AreClosed}
 use Rattle.eevdf_fleet.proofs.Closings.{closed-more, same-lines, whole-machine}
 use Rattle.eevdf_fleet.proofs.closing.close_locks.Goals as goal
 use Rattle.eevdf_fleet.proofs.closing.close_locks.Goals.{After-check-token}

@@ -1,4 +1,4 @@
--- What is known while a fleet is closed.
+-- What is known of the queues while a fleet is closed.
 use Rattle.std.specs.Prelude.{◌≡◌, ◌<◌, List, [], ◌∷◌}
 use Rattle.eevdf_queue.specs.State.{View}
 use Rattle.eevdf_ops.specs.declared.deeds.Line.{Line}
