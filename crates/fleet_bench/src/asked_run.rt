@@ -1,0 +1,115 @@
+ghost use Rattle.std.specs.Prelude.{◌*◌, ◌<◌, ◌≤◌, IfSome, ◌+◌};
+
+use crate::mix::Mix;
+use crate::way::Way;
+use eevdf_ops::CpuId;
+use thiserror::Error;
+
+/// What the program's words ask for.
+#[derive(Clone, Copy)]
+pub struct AskedRun {
+    pub way: Way,
+    pub threads: usize,
+    pub cpus_a_thread: usize,
+    /// How many tasks there are in all, from 1 to 1024.
+    pub tasks: usize,
+    pub mix: Mix,
+    /// How many operations each thread does.
+    pub operations: u64,
+    pub ghost threads_some: { 0 < threads },
+    pub ghost cpus_some: { 0 < cpus_a_thread },
+    pub ghost cpus_few: { threads * cpus_a_thread ≤ 64 },
+    pub ghost tasks_some: { 0 < tasks },
+    pub ghost tasks_few: { tasks ≤ 1024 },
+    pub ghost operations_few: { operations ≤ 400000 },
+}
+
+/// Why the words ask for no run.
+#[derive(Debug, Drop, Error)]
+pub enum WordFault {
+    #[error("the words can't be read")]
+    Unread,
+    #[error("six words are wanted")]
+    Count,
+    #[error("WAY is fleet, check or solo")]
+    Way,
+    #[error("THREADS and CPUS_A_THREAD are numbers whose product is from 1 to 64")]
+    Cpus,
+    #[error("TASKS is a number from 1 to 1024")]
+    Tasks,
+    #[error("MIX is own, wakes or pulls")]
+    Mix,
+    #[error("OPERATIONS is a number up to 400000")]
+    Operations,
+}
+
+impl AskedRun {
+    /// The run that the words ask for, of which the first is the program's name.
+    pub fn of(words: &[String]) -> Result<AskedRun, WordFault> {
+        if words.len() != 7 {
+            return Err(WordFault::Count);
+        }
+        let way = Way::of(words[1].as_str()).ok_or(WordFault::Way)?;
+        let threads = count_of(words[2].as_str(), 64).ok_or(WordFault::Cpus)?;
+        let cpus_a_thread = count_of(words[3].as_str(), 64).ok_or(WordFault::Cpus)?;
+        if threads * cpus_a_thread > 64 {
+            return Err(WordFault::Cpus);
+        }
+        let tasks = count_of(words[4].as_str(), 1024).ok_or(WordFault::Tasks)?;
+        let mix = Mix::of(words[5].as_str()).ok_or(WordFault::Mix)?;
+        let operations = operations_of(words[6].as_str()).ok_or(WordFault::Operations)?;
+        Ok(AskedRun {
+            way,
+            threads,
+            cpus_a_thread,
+            tasks,
+            mix,
+            operations,
+        })
+    }
+
+    /// The number of CPUs.
+    pub fn cpus(&self) -> usize
+        ensures some { 0 < result }
+        ensures few { result ≤ 64 }
+    {
+        self.threads * self.cpus_a_thread
+    }
+
+    /// The CPU of a thread at this place among those of the thread.
+    pub fn cpu(&self, thread: usize, at: usize) -> CpuId
+        requires thread { thread < self.now.threads }
+        requires at { at < self.now.cpus_a_thread }
+    {
+        CpuId::new((thread * self.cpus_a_thread + at) as u64).unwrap()
+    }
+}
+
+/// The number from 1 to `most` that a word gives.
+fn count_of(word: &str, most: usize) -> Option<usize>
+    ensures some { IfSome result (λ n. 0 < n) }
+    ensures few { IfSome result (λ n. n ≤ most) }
+{
+    let Ok(number) = word.parse::<usize>() else {
+        return None;
+    };
+    if 0 < number && number <= most {
+        Some(number)
+    } else {
+        None
+    }
+}
+
+/// The number of operations that a word gives.
+fn operations_of(word: &str) -> Option<u64>
+    ensures { IfSome result (λ n. n ≤ 400000) }
+{
+    let Ok(number) = word.parse::<u64>() else {
+        return None;
+    };
+    if number <= 400_000 {
+        Some(number)
+    } else {
+        None
+    }
+}

@@ -1,0 +1,83 @@
+ghost use Rattle.std.specs.Prelude.{◌<◌, ◌≤◌};
+
+use crate::asked_run::AskedRun;
+use crate::draws::Draws;
+use crate::mix::Mix;
+use eevdf_ops::{Answer, CpuId, Op};
+use eevdf_queue::TaskId;
+
+/// The operations of a thread, drawn one after the other. They hang on the thread's number and on the answers.
+#[derive(Drop)]
+pub struct DrawnOperations {
+    draws: Draws,
+    mix: Mix,
+    cpus: usize,
+    tasks: usize,
+    ghost cpus_few: { cpus ≤ 64 },
+    ghost tasks_some: { 0 < tasks },
+    ghost tasks_few: { tasks ≤ 1024 },
+}
+
+impl DrawnOperations {
+    /// Those of the thread of this number.
+    pub fn new(run: &AskedRun, thread: usize) -> DrawnOperations
+        requires { thread < 64 }
+    {
+        DrawnOperations {
+            draws: Draws::new(thread + 1),
+            mix: run.mix,
+            cpus: run.cpus(),
+            tasks: run.tasks,
+        }
+    }
+
+    /// The next operation, on a CPU with this running task.
+    pub fn next(&mut self, cpu: CpuId, running: Option<TaskId>) -> Op {
+        let kind = self.draws.below(16);
+        match self.mix {
+            Mix::Own => self.own(kind < 8),
+            Mix::Wakes => self.waking(kind, running),
+            Mix::Pulls => self.pulling(kind, cpu, running),
+        }
+    }
+
+    fn own(&mut self, ticks: bool) -> Op {
+        if ticks {
+            Op::Tick(self.draws.tick())
+        } else {
+            Op::Pick
+        }
+    }
+
+    /// There are more drains than posts, so that the requests don't pile up.
+    fn waking(&mut self, kind: u64, running: Option<TaskId>) -> Op {
+        match kind {
+            0..4 => Op::Drain,
+            4..7 => Op::Post(self.draws.task(self.tasks)),
+            7 => running.map_or(Op::Pick, |task| Op::Sleep(task)),
+            _ => self.own(kind < 12),
+        }
+    }
+
+    /// Without the new levels the loads would soon be level, and no pull would move a task.
+    fn pulling(&mut self, kind: u64, cpu: CpuId, running: Option<TaskId>) -> Op {
+        match (kind, running) {
+            (0..2, _) if 1 < self.cpus => Op::Pull(self.draws.other_cpu(self.cpus, cpu)),
+            (2, Some(task)) => Op::Renice(task, self.draws.nice()),
+            _ => self.own(kind < 9),
+        }
+    }
+}
+
+/// The task that runs on a CPU after an answer.
+pub fn running_after(running: Option<TaskId>, answer: Answer) -> Option<TaskId> {
+    match answer {
+        Answer::Picked(task) => Some(task),
+        Answer::Slept(_) => None,
+        _ => running,
+    }
+}
+
+/// The operation could not be done: it is no operation of the machine, or its CPU may have no more lines.
+#[derive(Clone, Copy, PartialEq, Eq, Debug)]
+pub struct Refused;

@@ -1,0 +1,84 @@
+//! A run by a fleet: each thread does the operations of its own CPUs.
+
+ghost use Rattle.std.specs.Prelude.{◌≡◌, ◌≤◌};
+ghost use Rattle.eevdf_fleet.specs.Fleets.{setup_of};
+
+use crate::agreement::agrees;
+use crate::asked_run::AskedRun;
+use crate::crew::{crews_of, done_by, seats_of};
+use crate::mix::Mix;
+use crate::run_fault::RunFault;
+use crate::run_report::Report;
+use crate::thread_work::work;
+use crate::way::Way;
+use eevdf_fleet::{Fleet, Kit, Names};
+use eevdf_ops::Setup;
+use std::alloc::Global;
+use std::marker::Brand;
+use std::sync::Wait;
+use std::thread;
+use std::thread::Threads;
+
+/// Does the operations of a run, and tells what came of it.
+pub fn fleet_report<R: Threads + Wait + Sync>(
+    rt: &R,
+    alloc: Global,
+    run: &AskedRun,
+    setup: &Setup,
+) -> Result<Report, RunFault> {
+    let kit = Kit::make(alloc, setup, quota(run), rings(run))?;
+    report_of::<Brand, R>(rt, alloc, run, setup, kit)
+}
+
+fn report_of<N: Names + Send + Sync, R: Threads + Wait + Sync>(
+    rt: &R,
+    alloc: Global,
+    run: &AskedRun,
+    setup: &Setup,
+    kit: Kit,
+) -> Result<Report, RunFault>
+    requires kit { kit ≡ N.kit }
+    requires setup { setup_of kit ≡ setup.now }
+{
+    let (fleet, seats) = Fleet::<N>::open(alloc, kit)?;
+    let crews = crews_of(alloc, run, seats)?;
+    let operations = run.operations;
+    let shared = &fleet;
+    let crews = thread::map_vec(
+        rt,
+        crews,
+        &move |crew| { work(rt, shared, setup, operations, crew) },
+    )?;
+    let done = done_by(crews.as_slice());
+    let seats = seats_of(alloc, crews)?;
+    if !fleet.has_all_seats(&seats) {
+        return Err(RunFault::Seats);
+    }
+    let outcome = fleet.close(seats);
+    let agrees = if run.way == Way::Check {
+        Some(agrees(alloc, setup, &outcome)?)
+    } else {
+        None
+    };
+    Ok(Report { done, agrees })
+}
+
+/// How many lines a CPU may have: one for each of its operations, and room for the wakes that others ask for.
+fn quota(run: &AskedRun) -> usize
+    ensures some { 1 ≤ result }
+    ensures few { result ≤ 1000000 }
+{
+    let own = (run.operations / run.cpus_a_thread as u64) as usize + 1;
+    match run.mix {
+        Mix::Own | Mix::Pulls => own,
+        Mix::Wakes => 2 * own + 128,
+    }
+}
+
+/// How many requests to a home a CPU may have posted that the home has not taken yet.
+fn rings(run: &AskedRun) -> usize
+    ensures some { 1 ≤ result }
+    ensures few { result ≤ 1000000 }
+{
+    quota(run).min(4096)
+}

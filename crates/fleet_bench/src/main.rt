@@ -1,0 +1,98 @@
+//! What the operations of a fleet cost: `fleet_bench WAY THREADS CPUS_A_THREAD TASKS MIX OPERATIONS` lets each of so
+//! many threads do so many drawn operations of a mix, each on its own CPUs, and prints how many were done.
+//! `bench/threads.sh` measures it.
+#![tactic(auto)]
+
+mod agreement;
+mod asked_run;
+mod crew;
+mod drawn_operations;
+mod drawn_setup;
+mod draws;
+mod fleet_run;
+mod mix;
+mod run_fault;
+mod run_report;
+mod solo_bench;
+mod solo_run;
+mod thread_work;
+mod way;
+
+use crate::asked_run::{AskedRun, WordFault};
+use crate::drawn_setup::drawn_setup;
+use crate::fleet_run::fleet_report;
+use crate::run_fault::RunFault;
+use crate::run_report::Report;
+use crate::solo_run::solo_count;
+use crate::way::Way;
+use std::alloc::Global;
+use std::env;
+use std::process::ExitCode;
+use std::rt::Env;
+use std::sync::Wait;
+use std::thread::Threads;
+
+fn main(rt: HostRuntime) -> ExitCode {
+    let alloc = rt.alloc();
+    ExitCode::from(match asked(&rt, alloc) {
+        Ok(run) => print(&rt, &outcome_of(&rt, alloc, &run)),
+        Err(fault) => refuse(&rt, &fault),
+    })
+}
+
+/// The run that the process's words ask for.
+fn asked(rt: &(impl Env + AllocGlobal), alloc: Global) -> Result<AskedRun, WordFault> {
+    let Ok(arguments) = env::args(rt) else {
+        return Err(WordFault::Unread);
+    };
+    let words: Result<Vec<String>, _> = arguments.collect(alloc);
+    match words {
+        Ok(words) => AskedRun::of(words.as_slice()),
+        Err(_) => Err(WordFault::Unread),
+    }
+}
+
+/// Does the operations that are asked for.
+fn outcome_of<R: Threads + Wait + Sync>(
+    rt: &R,
+    alloc: Global,
+    run: &AskedRun,
+) -> Result<Report, RunFault> {
+    let setup = drawn_setup(alloc, run.cpus(), run.tasks)?;
+    match run.way {
+        Way::Fleet | Way::Check => fleet_report(rt, alloc, run, &setup),
+        Way::Solo => Ok(Report {
+            done: solo_count(alloc, run, &setup)?,
+            agrees: None,
+        }),
+    }
+}
+
+/// Prints what came of the run, and gives the exit status.
+fn print(rt: &(impl Print + Eprint), report: &Result<Report, RunFault>) -> u8 {
+    let report = match report {
+        Ok(report) => report,
+        Err(fault) => {
+            let _ = eprintln!(rt; "fleet_bench: {fault}");
+            return 3;
+        }
+    };
+    let done = report.done;
+    let printed = match report.agrees {
+        None => println!(rt; "{done} operations"),
+        Some(true) => println!(rt; "{done} operations, agrees with one thread"),
+        Some(false) => println!(rt; "{done} operations, differs from one thread"),
+    };
+    match printed {
+        Ok(()) if report.agrees != Some(false) => 0,
+        _ => 3,
+    }
+}
+
+/// Says what is wrong with the words, and gives the exit status.
+fn refuse(rt: &impl Eprint, fault: &WordFault) -> u8 {
+    let _ = eprintln!(rt;
+        "fleet_bench: {fault}; usage: fleet_bench WAY THREADS CPUS_A_THREAD TASKS MIX OPERATIONS"
+    );
+    2
+}

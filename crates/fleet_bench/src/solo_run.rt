@@ -1,0 +1,69 @@
+//! The operations of all threads in one thread, without a fleet: one of each thread in turn.
+
+use crate::asked_run::AskedRun;
+use crate::drawn_operations::{DrawnOperations, Refused, running_after};
+use crate::solo_bench::SoloBench;
+use eevdf_ops::{CpuId, Setup};
+use eevdf_queue::TaskId;
+use std::alloc::{AllocError, Global};
+
+/// A CPU, and the task that runs on it.
+#[derive(Drop)]
+struct Place {
+    cpu: CpuId,
+    running: Option<TaskId>,
+}
+
+/// The operations of a thread, and its CPUs.
+#[derive(Drop)]
+struct Part {
+    drawn: DrawnOperations,
+    places: Vec<Place>,
+}
+
+/// Does the operations of a run, and gives how many were done.
+pub fn solo_count(alloc: Global, run: &AskedRun, setup: &Setup) -> Result<u64, AllocError> {
+    let mut bench = SoloBench::open(alloc, setup)?;
+    let mut parts = parts_of(alloc, run)?;
+    let mut done = 0u64;
+    for number in 0..run.operations {
+        for part in parts.iter_mut() {
+            if step(&mut bench, part, number).is_ok() {
+                done = done.saturating_add(1);
+            }
+        }
+    }
+    Ok(done)
+}
+
+fn parts_of(alloc: Global, run: &AskedRun) -> Result<Vec<Part>, AllocError> {
+    let mut parts = Vec::with_capacity(alloc, run.threads)?;
+    for thread in 0..run.threads {
+        let mut places = Vec::with_capacity(alloc, run.cpus_a_thread)?;
+        for at in 0..run.cpus_a_thread {
+            places.push(Place {
+                cpu: run.cpu(thread, at),
+                running: None,
+            })?;
+        }
+        parts.push(Part {
+            drawn: DrawnOperations::new(run, thread),
+            places,
+        })?;
+    }
+    Ok(parts)
+}
+
+/// Does the operation of this number of a thread, on its CPUs in turn.
+fn step(bench: &mut SoloBench<'_>, part: &mut Part, number: u64) -> Result<(), Refused> {
+    let places = part.places.len() as u64;
+    if places == 0 {
+        return Err(Refused);
+    }
+    let place = &mut part.places[(number % places) as usize];
+    let operation = part.drawn.next(place.cpu, place.running);
+    if let Some(answer) = bench.operate(place.cpu, operation)? {
+        place.running = running_after(place.running, answer);
+    }
+    Ok(())
+}

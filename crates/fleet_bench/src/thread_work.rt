@@ -1,0 +1,156 @@
+//! What each thread does: its operations, on its CPUs in turn.
+
+ghost use Rattle.std.specs.Prelude.{◌≡◌};
+ghost use Rattle.eevdf_fleet.specs.Fleets.{setup_of};
+
+use crate::crew::Crew;
+use crate::drawn_operations::{Refused, running_after};
+use eevdf_fleet::{Fleet, Names, Seat};
+use eevdf_ops::{Answer, CpuId, Op, Setup};
+use eevdf_queue::TaskId;
+use eevdf_weight::Nice;
+use std::sync::Wait;
+
+/// Does so many operations, and counts those that weren't refused.
+pub fn work<N: Names, R: Wait>(
+    rt: &R,
+    fleet: &Fleet<N>,
+    setup: &Setup,
+    operations: u64,
+    mut crew: Crew<N>,
+) -> Crew<N>
+    requires { setup_of N.kit ≡ setup.now }
+{
+    for number in 0..operations {
+        if step(rt, fleet, setup, &mut crew, number).is_ok() {
+            crew.done = crew.done.saturating_add(1);
+        }
+    }
+    crew
+}
+
+/// Does the operation of this number of a thread, on its CPUs in turn.
+fn step<N: Names, R: Wait>(
+    rt: &R,
+    fleet: &Fleet<N>,
+    setup: &Setup,
+    crew: &mut Crew<N>,
+    number: u64,
+) -> Result<(), Refused>
+    requires { setup_of N.kit ≡ setup.now }
+{
+    let places = crew.places.len() as u64;
+    if places == 0 {
+        return Err(Refused);
+    }
+    let place = &mut crew.places[(number % places) as usize];
+    let operation = crew.drawn.next(place.seat.cpu(), place.running);
+    if let Some(answer) = operate(rt, fleet, setup, &mut place.seat, operation)? {
+        place.running = running_after(place.running, answer);
+    }
+    Ok(())
+}
+
+/// Does an operation of the seat's CPU.
+fn operate<N: Names, R: Wait>(
+    rt: &R,
+    fleet: &Fleet<N>,
+    setup: &Setup,
+    seat: &mut Seat<N>,
+    operation: Op,
+) -> Result<Option<Answer>, Refused>
+    requires { setup_of N.kit ≡ setup.now }
+{
+    let answer = match operation {
+        Op::Tick(ns) => fleet.tick(rt, seat, ns),
+        Op::Pick => fleet.pick(rt, seat),
+        Op::Yield => fleet.yield_now(rt, seat),
+        Op::Renice(task, nice) => return renice(rt, fleet, setup, seat, task, nice),
+        Op::Sleep(task) => return sleep(rt, fleet, setup, seat, task),
+        Op::Pull(source) => return pull(rt, fleet, setup, seat, source),
+        Op::Post(task) => return post(setup, seat, task),
+        Op::Drain => return drain(rt, fleet, seat),
+    };
+    answer.map(|answer| Some(answer)).map_err(|_| Refused)
+}
+
+fn renice<N: Names, R: Wait>(
+    rt: &R,
+    fleet: &Fleet<N>,
+    setup: &Setup,
+    seat: &mut Seat<N>,
+    task: TaskId,
+    nice: Nice,
+) -> Result<Option<Answer>, Refused>
+    requires { setup_of N.kit ≡ setup.now }
+{
+    if task.get() as usize >= setup.tasks() {
+        return Err(Refused);
+    }
+    match fleet.renice(rt, seat, task, nice) {
+        Ok(answer) => Ok(Some(answer)),
+        Err(_) => Err(Refused),
+    }
+}
+
+fn sleep<N: Names, R: Wait>(
+    rt: &R,
+    fleet: &Fleet<N>,
+    setup: &Setup,
+    seat: &mut Seat<N>,
+    task: TaskId,
+) -> Result<Option<Answer>, Refused>
+    requires { setup_of N.kit ≡ setup.now }
+{
+    if task.get() as usize >= setup.tasks() {
+        return Err(Refused);
+    }
+    match fleet.sleep(rt, seat, task) {
+        Ok(answer) => Ok(Some(answer)),
+        Err(_) => Err(Refused),
+    }
+}
+
+fn pull<N: Names, R: Wait>(
+    rt: &R,
+    fleet: &Fleet<N>,
+    setup: &Setup,
+    seat: &mut Seat<N>,
+    source: CpuId,
+) -> Result<Option<Answer>, Refused>
+    requires { setup_of N.kit ≡ setup.now }
+{
+    if source.get() as usize >= setup.cpus() || source.get() == seat.cpu().get() {
+        return Err(Refused);
+    }
+    match fleet.pull(rt, seat, source) {
+        Ok(answer) => Ok(Some(answer)),
+        Err(_) => Err(Refused),
+    }
+}
+
+/// Asks for a wake. Where the ring has no room the request is lost, and the home has much to wake anyway.
+fn post<N: Names>(
+    setup: &Setup,
+    seat: &mut Seat<N>,
+    task: TaskId,
+) -> Result<Option<Answer>, Refused>
+    requires { setup_of N.kit ≡ setup.now }
+{
+    if task.get() as usize >= setup.tasks() {
+        return Err(Refused);
+    }
+    let _ = seat.post(task);
+    Ok(None)
+}
+
+fn drain<N: Names, R: Wait>(
+    rt: &R,
+    fleet: &Fleet<N>,
+    seat: &mut Seat<N>,
+) -> Result<Option<Answer>, Refused> {
+    match fleet.drain(rt, seat) {
+        Ok(_) => Ok(None),
+        Err(_) => Err(Refused),
+    }
+}
