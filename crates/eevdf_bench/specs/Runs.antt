@@ -78,7 +78,7 @@ answer_of c bytes = loaded (meaning bytes) (λ w. report_of c.kind w c.history)
 
 -- ---- how what is returned agrees with an answer
 
--- the fault that is returned for a fault: want of memory may come first where steps are done before the fault is met
+-- the fault that is returned for a fault: out of memory may come first where steps are done before the fault is met
 abbrev pub IsFault : BenchFault → BenchFault → Type 0
 IsFault (Play p) f = (f ≡ Play p) ⊎ ((p ≢ TooLong) × (f ≡ Memory))
 IsFault (Load e) f = f ≡ Load e
@@ -89,13 +89,13 @@ abbrev pub play_refusal : PlayFault → BenchFault
 play_refusal NoRoom = Memory
 play_refusal f = Play f
 
--- the text that is to be made, or its fault; where there is none, want of memory may be answered
+-- the text that is to be made, or its fault; where there is none, out of memory may be answered
 abbrev pub Makes : Answer → Result (Vec ℕ Global) BenchFault → Type 0
 Makes answer (Ok text) = answer ≡ Ok text.items
 Makes (Ok text) (Err f) = f ≡ Memory
 Makes (Err e) (Err f) = IsFault e f
 
--- a workload is refused for the answer's own fault, or for want of memory
+-- a workload is refused for the answer's own fault, or when out of memory
 abbrev pub LoadsAs : Answer → BenchFault → Type 0
 LoadsAs answer (Load e) = (e ≡ NoMemory) ⊎ (answer ≡ Err (Load e))
 LoadsAs answer _ = Unit {0}

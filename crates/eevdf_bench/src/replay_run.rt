@@ -13,7 +13,7 @@ use std::alloc::Global;
 
 /// The report of what the programs' steps come to in the workload's order, with the requests that are left. A
 /// workload without an order is refused before anything else is done (`Missing`), and then an order that can't be
-/// played to its end, with its fault; want of memory is the only other refusal.
+/// played to its end, with its fault; running out of memory is the only other refusal.
 pub fn replay_text(alloc: Global, workload: &Workload, history: bool) -> Result<Vec<u8>, BenchFault>
     ensures report { Makes (replay_report workload.now history) result }
     ensures one_thread { IfOk result (λ t. IsReplay workload.now history t.items) }

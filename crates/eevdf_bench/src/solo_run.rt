@@ -10,7 +10,7 @@ use eevdf_ops::one_thread::solo;
 use std::alloc::Global;
 
 /// The report of the workload's script, done deed by deed in one thread. A workload without a script is refused
-/// before anything else is done (`Missing`); want of memory is the only other refusal.
+/// before anything else is done (`Missing`); running out of memory is the only other refusal.
 pub fn solo_text(alloc: Global, workload: &Workload, history: bool) -> Result<Vec<u8>, BenchFault>
     ensures { Makes (solo_report workload.now history) result }
 {

@@ -59,7 +59,7 @@ setup_fault tasks programs =
     (option_or (unless (is_count (length tasks) most_tasks) BadTasks)
     (option_or (tasks_fault (length programs) 0 tasks) (programs_fault (length tasks) (length programs) 0 programs)))
 
--- the first fault is answered; where there is none, the setup or want of memory
+-- the first fault is answered; where there is none, the setup, or out of memory
 abbrev pub IsSetupOf : List TaskSpec → List (List Op) → Result Setup SetupFault → Type 0
 IsSetupOf tasks programs result =
     MatchResult result (λ s. (setup_fault tasks programs ≡ None) × (s ≡ record { tasks = tasks; programs = programs }))

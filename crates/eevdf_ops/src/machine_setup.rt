@@ -79,7 +79,7 @@ impl Setup {
         self.tasks.len()
     }
 
-    /// The home of each task by its number, copied. Fails only for want of memory.
+    /// The home of each task by its number, copied. Fails only when out of memory.
     pub fn homes(&self, alloc: Global) -> Result<Vec<CpuId>, AllocError>
         ensures { IfOk result (λ homes. homes.items ≡ setup.homes_of self.now) }
     {
