@@ -174,6 +174,6 @@ workload_of document = version document >>= (λ v. workload_in (limits_of v) doc
 unfoldable pub document_of : List ℕ → Result Members LoadFault
 document_of bytes = ok_or (if is_utf8 bytes then parse_document bytes else None) fault.NotToml
 
--- the workload that the bytes describe, or the first fault; want of memory is never one
+-- the workload that the bytes describe, or the first fault; out of memory is never one
 unfoldable pub meaning : List ℕ → Result Workload LoadFault
 meaning bytes = if nat_lt most_bytes (length bytes) then Err fault.TooLarge else document_of bytes >>= workload_of

@@ -34,7 +34,7 @@ pub record HasNoOrder (input : List ℕ) : Type 0 where
   pub read : meaning input ≡ Ok workload
   pub faulty : (order : List ℕ) → is_some (play_fault (plan_of workload.setup) order) ≡ true
 
--- why a workload gets no order: its own fault, no order without a fault, or want of memory; reading and writing
+-- why a workload gets no order: its own fault, no order without a fault, or out of memory; reading and writing
 -- have faults of their own
 abbrev pub RefusesFor : List ℕ → BenchFault → Type 0
 RefusesFor input (Load e) = (e ≡ NoMemory) ⊎ (meaning input ≡ Err e)

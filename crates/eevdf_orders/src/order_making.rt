@@ -27,7 +27,7 @@ pub enum OrderFault {
 }
 
 /// An order in which the callers of a setup can do all their steps: at each place a caller that may step, and at the
-/// end every caller is done. `TooLong` comes only where every order has a fault; want of memory may come in place of all.
+/// end every caller is done. `TooLong` comes only where every order has a fault; out of memory may come in place of all.
 pub fn order_of(alloc: Global, setup: &Setup, mut choice: Choice) -> Result<Vec<usize>, OrderFault>
     ensures faultless { IfOk result (λ order. play_fault (plan_of setup.now) order.items ≡ None) }
     ensures too_long { result ≡ Err OrderFault.TooLong → (order : List ℕ) → is_some (play_fault (plan_of setup.now) order) ≡ true }

@@ -34,8 +34,8 @@ impl Model for Parcel {
 }
 
 impl Parcel {
-    /// A parcel of a task that starts at the virtual runtime `v` with the lag 0. Fails only for want of
-    /// memory.
+    /// A parcel of a task that starts at the virtual runtime `v` with the lag 0. Fails only when
+    /// out of memory.
     pub fn make(
         alloc: Global,
         task: TaskId,
