@@ -5,10 +5,10 @@ ghost use Rattle.eevdf_fleet.specs.Fleets.{setup_of};
 
 use crate::agreement::agrees;
 use crate::asked_run::AskedRun;
-use crate::crew::{crews_of, done_by, seats_of};
 use crate::mix::Mix;
 use crate::run_fault::RunFault;
 use crate::run_report::Report;
+use crate::thread_seats::{done_by, seats_by_thread, seats_of};
 use crate::thread_work::work;
 use crate::way::Way;
 use eevdf_fleet::{Fleet, Kit, Names};
@@ -41,16 +41,16 @@ fn report_of<N: Names + Send + Sync, R: Threads + Wait + Sync>(
     requires setup { setup_of kit ≡ setup.now }
 {
     let (fleet, seats) = Fleet::<N>::open(alloc, kit)?;
-    let crews = crews_of(alloc, run, seats)?;
+    let threads = seats_by_thread(alloc, run, seats)?;
     let operations = run.operations;
     let shared = &fleet;
-    let crews = thread::map_vec(
+    let threads = thread::map_vec(
         rt,
-        crews,
-        &move |crew| { work(rt, shared, setup, operations, crew) },
+        threads,
+        &move |own| { work(rt, shared, setup, operations, own) },
     )?;
-    let done = done_by(crews.as_slice());
-    let seats = seats_of(alloc, crews)?;
+    let done = done_by(threads.as_slice());
+    let seats = seats_of(alloc, threads)?;
     if !fleet.has_all_seats(&seats) {
         return Err(RunFault::Seats);
     }

@@ -5,7 +5,6 @@
 
 mod agreement;
 mod asked_run;
-mod crew;
 mod drawn_operations;
 mod drawn_setup;
 mod draws;
@@ -15,6 +14,7 @@ mod run_fault;
 mod run_report;
 mod solo_bench;
 mod solo_run;
+mod thread_seats;
 mod thread_work;
 mod way;
 

@@ -3,8 +3,8 @@
 ghost use Rattle.std.specs.Prelude.{◌≡◌};
 ghost use Rattle.eevdf_fleet.specs.Fleets.{setup_of};
 
-use crate::crew::Crew;
 use crate::drawn_operations::{Refused, running_after};
+use crate::thread_seats::ThreadSeats;
 use eevdf_fleet::{Fleet, Names, Seat};
 use eevdf_ops::{Answer, CpuId, Op, Setup};
 use eevdf_queue::TaskId;
@@ -17,16 +17,16 @@ pub fn work<N: Names, R: Wait>(
     fleet: &Fleet<N>,
     setup: &Setup,
     operations: u64,
-    mut crew: Crew<N>,
-) -> Crew<N>
+    mut own: ThreadSeats<N>,
+) -> ThreadSeats<N>
     requires { setup_of N.kit ≡ setup.now }
 {
     for number in 0..operations {
-        if step(rt, fleet, setup, &mut crew, number).is_ok() {
-            crew.done = crew.done.saturating_add(1);
+        if step(rt, fleet, setup, &mut own, number).is_ok() {
+            own.done = own.done.saturating_add(1);
         }
     }
-    crew
+    own
 }
 
 /// Does the operation of this number of a thread, on its CPUs in turn.
@@ -34,19 +34,19 @@ fn step<N: Names, R: Wait>(
     rt: &R,
     fleet: &Fleet<N>,
     setup: &Setup,
-    crew: &mut Crew<N>,
+    own: &mut ThreadSeats<N>,
     number: u64,
 ) -> Result<(), Refused>
     requires { setup_of N.kit ≡ setup.now }
 {
-    let places = crew.places.len() as u64;
-    if places == 0 {
+    let count = own.seats.len() as u64;
+    if count == 0 {
         return Err(Refused);
     }
-    let place = &mut crew.places[(number % places) as usize];
-    let operation = crew.drawn.next(place.seat.cpu(), place.running);
-    if let Some(answer) = operate(rt, fleet, setup, &mut place.seat, operation)? {
-        place.running = running_after(place.running, answer);
+    let held = &mut own.seats[(number % count) as usize];
+    let operation = own.drawn.next(held.seat.cpu(), held.running);
+    if let Some(answer) = operate(rt, fleet, setup, &mut held.seat, operation)? {
+        held.running = running_after(held.running, answer);
     }
     Ok(())
 }

@@ -8,62 +8,65 @@ use std::alloc::{AllocError, Global};
 
 /// A seat, and the task that runs on its CPU.
 #[derive(Drop)]
-pub struct Place<N: Names> {
+pub struct HeldSeat<N: Names> {
     pub seat: Seat<N>,
     pub running: Option<TaskId>,
 }
 
 /// What a thread has: its operations, the seats of its CPUs, and how many operations it has done.
 #[derive(Drop)]
-pub struct Crew<N: Names> {
+pub struct ThreadSeats<N: Names> {
     pub drawn: DrawnOperations,
-    pub places: Vec<Place<N>>,
+    pub seats: Vec<HeldSeat<N>>,
     pub done: u64,
 }
 
 /// Hands the seats to the threads.
-pub fn crews_of<N: Names>(
+pub fn seats_by_thread<N: Names>(
     alloc: Global,
     run: &AskedRun,
     seats: Vec<Seat<N>>,
-) -> Result<Vec<Crew<N>>, AllocError> {
-    let mut seats = seats.into_iter();
-    let mut crews = Vec::with_capacity(alloc, run.threads)?;
+) -> Result<Vec<ThreadSeats<N>>, AllocError> {
+    let mut others = seats.into_iter();
+    let mut threads = Vec::with_capacity(alloc, run.threads)?;
     for thread in 0..run.threads {
-        let mut places = Vec::with_capacity(alloc, run.cpus_a_thread)?;
-        for _place in 0..run.cpus_a_thread {
-            if let Some(seat) = seats.next() {
-                places.push(Place {
+        let mut seats = Vec::with_capacity(alloc, run.cpus_a_thread)?;
+        for _seat in 0..run.cpus_a_thread {
+            if let Some(seat) = others.next() {
+                seats.push(HeldSeat {
                     seat,
                     running: None,
                 })?;
             }
         }
-        crews.push(Crew {
+        threads.push(ThreadSeats {
             drawn: DrawnOperations::new(run, thread),
-            places,
+            seats,
             done: 0,
         })?;
     }
-    Ok(crews)
+    Ok(threads)
 }
 
 /// Takes the seats back.
-pub fn seats_of<N: Names>(alloc: Global, crews: Vec<Crew<N>>) -> Result<Vec<Seat<N>>, AllocError> {
+pub fn seats_of<N: Names>(
+    alloc: Global,
+    threads: Vec<ThreadSeats<N>>,
+) -> Result<Vec<Seat<N>>, AllocError> {
     let mut seats = Vec::with_capacity(alloc, 64)?;
-    for crew in crews {
-        for place in crew.places {
-            seats.push(place.seat)?;
+    for own in threads {
+        for held in own.seats {
+            seats.push(held.seat)?;
         }
     }
     Ok(seats)
 }
 
 /// How many operations all threads have done.
-pub fn done_by<N: Names>(crews: &[Crew<N>]) -> u64 {
+pub fn done_by<N: Names>(threads: &[ThreadSeats<N>]) -> u64 {
     let mut done = 0u64;
-    for crew in crews {
-        done = done.saturating_add(crew.done);
+    for own in threads {
+        done = done.saturating_add(own.done);
     }
     done
 }
