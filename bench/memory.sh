@@ -1,0 +1,24 @@
+#!/usr/bin/env bash
+# memory.sh: counts by valgrind how often the program fleet_bench asks for memory when it opens a fleet of two CPUs with 1
+# to 8 tasks, does nothing and closes it. A task has one node, and no machine stands beside the queues; so each task more
+# may ask once more. Prints the counts, and ends with 1 where a task asks more often. No proof speaks of it.
+set -eu
+cd "$(dirname "$0")/.."
+program=$PWD/crates/fleet_bench/out/fleet_bench
+[ -x "$program" ] || (cd crates/fleet_bench && rt run -- fleet 1 1 1 own 1 >/dev/null 2>&1) ||
+  { echo "memory.sh: the build failed" >&2; exit 3; }
+
+# How often the program asks for memory with so many tasks.
+requests() {
+  valgrind "$program" fleet 1 2 "$1" own 0 2>&1 | awk '/total heap usage/ { gsub(",", "", $5); print $5 }'
+}
+
+status=0
+before=
+for tasks in 1 2 3 4 5 6 7 8; do
+  count=$(requests "$tasks")
+  echo "$tasks tasks: $count"
+  if [ -n "$before" ] && [ "$count" -gt $((before + 1)) ]; then status=1; fi
+  before=$count
+done
+exit "$status"
