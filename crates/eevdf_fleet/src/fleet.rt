@@ -27,7 +27,8 @@ use std::alloc::{AllocError, Global};
 use std::marker::{Model, PhantomData};
 use std::sync::{Mutex, Wait};
 
-/// The seat has less room than the operation may need. Nothing has changed.
+/// The seat has less room than the operation may need. It is decided before the first lock is taken, and nothing has
+/// changed.
 #[derive(Clone, Copy, PartialEq, Eq, Debug, Drop)]
 pub struct SeatFull;
 
@@ -60,7 +61,8 @@ impl<N: Names> Model for Fleet<N> {
 }
 
 impl<N: Names> Fleet<N> {
-    /// A fleet as the kit has it, with the seats of its CPUs in order. It takes all the memory that they ever need.
+    /// A fleet as the kit has it, with the seats of its CPUs in order, on which nothing was done yet. It takes all the
+    /// memory that they ever need.
     pub fn open(alloc: Global, kit: Kit) -> Result<(Fleet<N>, Vec<Seat<N>>), AllocError>
         requires { kit ≡ N.kit }
         ensures { IfOk result (λ r. r.1.items ≡ fresh_seats N.kit.terms.quota (cpus_of (setup_of N.kit))) }
@@ -99,7 +101,8 @@ impl<N: Names> Fleet<N> {
         Ok((fleet, seats))
     }
 
-    /// Charges the running task of the seat's CPU.
+    /// Charges the running task of the seat's CPU so many nanoseconds (`Deed::Tick`). Answers `Charged`, `Idle` or
+    /// `Range`.
     pub fn tick<R: Wait>(&self, rt: &R, seat: &mut Seat<N>, ns: Ns) -> Result<Answer, SeatFull>
         ensures cases { MatchResult result
             (λ a. seat.new ≡ logged seat.old (record { deed = Deed.Tick seat.old.cpu ns; answer = a }))
@@ -110,7 +113,8 @@ impl<N: Names> Fleet<N> {
         self.own(rt, seat, Deed::Tick { cpu, ns })
     }
 
-    /// Lets the eligible task of earliest deadline run on the seat's CPU.
+    /// Lets the eligible task of earliest virtual deadline run on the seat's CPU, of equal ones that of least number, as
+    /// EEVDF has it (Stoica and Abdel-Wahab 1995; `Deed::Pick`). Answers `Picked` or `Idle`.
     pub fn pick<R: Wait>(&self, rt: &R, seat: &mut Seat<N>) -> Result<Answer, SeatFull>
         ensures cases { MatchResult result
             (λ a. seat.new ≡ logged seat.old (record { deed = Deed.Pick seat.old.cpu; answer = a }))
@@ -121,7 +125,8 @@ impl<N: Names> Fleet<N> {
         self.own(rt, seat, Deed::Pick { cpu })
     }
 
-    /// Makes the deadline of the running task of the seat's CPU one request later.
+    /// Makes the virtual deadline of the running task of the seat's CPU one request later (`Deed::Yield`). Answers
+    /// `Yielded`, `Idle` or `Range`.
     pub fn yield_now<R: Wait>(&self, rt: &R, seat: &mut Seat<N>) -> Result<Answer, SeatFull>
         ensures cases { MatchResult result
             (λ a. seat.new ≡ logged seat.old (record { deed = Deed.Yield seat.old.cpu; answer = a }))
@@ -132,7 +137,8 @@ impl<N: Names> Fleet<N> {
         self.own(rt, seat, Deed::Yield { cpu })
     }
 
-    /// Gives a task another nice level, if it is runnable on the seat's CPU.
+    /// Gives a task another nice level, if it is runnable on the seat's CPU (`Deed::Renice`). Answers `Reniced`,
+    /// `NotHere` or `Range`.
     pub fn renice<R: Wait>(
         &self,
         rt: &R,
@@ -150,7 +156,8 @@ impl<N: Names> Fleet<N> {
         self.own(rt, seat, Deed::Renice { cpu, task, nice })
     }
 
-    /// Puts a task to sleep at its home, if it runs on the seat's CPU.
+    /// Puts a task to sleep at its home, if it runs on the seat's CPU (`Deed::Sleep`). Answers `Slept`, with the lag that
+    /// it keeps, or `NotRunning`.
     pub fn sleep<R: Wait>(
         &self,
         rt: &R,
@@ -172,7 +179,8 @@ impl<N: Names> Fleet<N> {
         }
     }
 
-    /// Brings the candidate of the source to the seat's CPU, where that levels their loads.
+    /// Brings the waiting task of latest virtual deadline from the source to the seat's CPU, where that levels their
+    /// loads (`Deed::Pull`; the rule is this project's own). Answers `Pulled`, `Nothing`, `Balanced` or `Range`.
     pub fn pull<R: Wait>(
         &self,
         rt: &R,
