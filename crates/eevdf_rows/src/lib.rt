@@ -27,6 +27,8 @@ mod schedules;
 #[cfg(test)]
 mod several_cpus;
 #[cfg(test)]
+mod stress;
+#[cfg(test)]
 mod table;
 #[cfg(test)]
 mod versions;

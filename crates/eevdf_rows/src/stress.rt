@@ -1,0 +1,91 @@
+//! Four threads do drawn operations on the CPUs of one fleet, and one thread does the deeds of its history again.
+
+ghost use Rattle.std.specs.Prelude.{◌≡◌, IfOk};
+ghost use Rattle.eevdf_ops.specs.Programs.{deeds_of};
+ghost use Rattle.eevdf_fleet.specs.Fleets.{setup_of};
+
+mod draws;
+mod machine;
+mod same_end;
+mod thread_seats;
+mod work;
+
+use eevdf_fleet::{Fleet, Kit, Names};
+use eevdf_ops::one_thread::solo;
+use eevdf_ops::{Deed, Line, Setup};
+use machine::drawn_setup;
+use same_end::{all_stand_once, end_alike};
+use std::alloc::{AllocError, Global};
+use std::marker::Brand;
+use std::process::Abort;
+use std::sync::Wait;
+use std::test::Fail;
+use std::thread;
+use std::thread::Threads;
+use thread_seats::{seats_by_thread, seats_of};
+use work::work;
+
+/// So many threads there are.
+const THREADS: usize = 4;
+
+/// So many CPUs each thread has.
+const SEATS: usize = 2;
+
+/// So many operations each thread does, on its CPUs in turn.
+const OPERATIONS: u64 = 2000;
+
+/// So many lines each CPU may have. A drain may want a line for each of the eight CPUs, and no other operation wants more
+/// than one, so no seat fills.
+const QUOTA: usize = 8000;
+
+/// So many requests of a CPU to another may wait. There are few, so that some posts are refused.
+const RINGS: usize = 4;
+
+fn deeds(alloc: Global, lines: &[Line]) -> Result<Vec<Deed>, AllocError>
+    ensures { IfOk result (λ v. v.items ≡ deeds_of lines.now) }
+{
+    lines.iter().map(|line| line.deed).collect(alloc)
+}
+
+/// What the threads do is what one thread does that goes by their history, and no task is lost or doubled.
+fn do_as_one<N: Names + Send + Sync, R: Threads + Wait + Abort + Sync>(
+    rt: &R,
+    alloc: Global,
+    seed: u64,
+    setup: &Setup,
+    kit: Kit,
+) -> Result<(), Fail>
+    requires kit { kit ≡ N.kit }
+    requires setup { setup_of kit ≡ setup.now }
+{
+    let (fleet, seats) = Fleet::<N>::open(alloc, kit)?;
+    let threads = seats_by_thread(alloc, seed, seats)?;
+    let shared = &fleet;
+    let threads = thread::map_vec(
+        rt,
+        threads,
+        &move |own| { work(rt, shared, setup, OPERATIONS, own) },
+    )?;
+    for own in threads.iter() {
+        assert!(rt; own.done == OPERATIONS, "seed {seed}");
+    }
+    let seats = seats_of(alloc, threads)?;
+    assert!(rt; fleet.has_all_seats(&seats), "seed {seed}");
+    let outcome = fleet.close(seats);
+    let deeds = deeds(alloc, outcome.history())?;
+    let alone = solo(alloc, setup, &deeds)?;
+    assert!(rt; alone.history() == outcome.history(), "seed {seed}");
+    assert!(rt; end_alike(&alone, &outcome), "seed {seed}");
+    assert!(rt; all_stand_once(&outcome), "seed {seed}");
+    Ok(())
+}
+
+#[test]
+fn four_threads_do_as_one(rt: HostRuntime) -> Result<(), Fail> {
+    for seed in 1..=10u64 {
+        let setup = drawn_setup(rt.alloc(), seed)?;
+        let kit = Kit::make(rt.alloc(), &setup, QUOTA, RINGS)?;
+        do_as_one::<Brand, _>(&rt, rt.alloc(), seed, &setup, kit)?;
+    }
+    Ok(())
+}
