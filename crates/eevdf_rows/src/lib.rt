@@ -1,5 +1,6 @@
 //! Tests that cross the crates: worked examples as tables of what is read and what is printed, each run by the
-//! workbench's engine over memory, every order of the steps of small workloads, and worked values of single calls.
+//! workbench's engine over memory, every order of the steps of small workloads, worked values of single calls, and
+//! drawn operations of a fleet by several threads.
 #![tactic(auto)]
 
 #[cfg(test)]

@@ -6,6 +6,7 @@ ghost use Rattle.eevdf_fleet.specs.Fleets.{setup_of};
 
 mod draws;
 mod machine;
+mod one_place;
 mod same_end;
 mod thread_seats;
 mod work;
@@ -14,7 +15,8 @@ use eevdf_fleet::{Fleet, Kit, Names};
 use eevdf_ops::one_thread::solo;
 use eevdf_ops::{Deed, Line, Setup};
 use machine::drawn_setup;
-use same_end::{all_stand_once, end_alike};
+use one_place::all_stand_once;
+use same_end::end_alike;
 use std::alloc::{AllocError, Global};
 use std::marker::Brand;
 use std::process::Abort;
@@ -38,7 +40,7 @@ const OPERATIONS: u64 = 2000;
 /// than one, so no seat fills.
 const QUOTA: usize = 8000;
 
-/// So many requests of a CPU to another may wait. There are few, so that some posts are refused.
+/// So many requests of a CPU to another may wait. They are few, so that posts can be refused.
 const RINGS: usize = 4;
 
 fn deeds(alloc: Global, lines: &[Line]) -> Result<Vec<Deed>, AllocError>

@@ -29,14 +29,16 @@ impl Draws {
         u64::from(self.words.next_u32()) % numbers
     }
 
-    /// An operation of a CPU with this running task. There are more drains than posts, so that requests get through.
+    /// An operation of a CPU with this running task. Posts are three times as many as sleeps of it, since most of them find
+    /// their task awake.
     pub fn operation(&mut self, cpu: CpuId, running: Option<TaskId>) -> Op {
         match self.below(20) {
             0..4 => Op::Pick,
             4..7 => Op::Tick(self.tick()),
             7 => Op::Yield,
-            8..10 => Op::Sleep(running.unwrap_or(self.task())),
-            10 => Op::Sleep(self.task()),
+            8 => Op::Sleep(running.unwrap_or(self.task())),
+            9 => Op::Sleep(self.task()),
+            10 => Op::Renice(running.unwrap_or(self.task()), self.nice()),
             11 => Op::Renice(self.task(), self.nice()),
             12..15 => Op::Post(self.task()),
             15..18 => Op::Drain,
