@@ -1,7 +1,8 @@
 #!/usr/bin/env bash
 # memory.sh: counts by valgrind how often the program fleet_bench asks for memory when it opens a fleet of two CPUs with 1
 # to 8 tasks, does nothing and closes it. A task has one node, and no machine stands beside the queues; so each task more
-# may ask once more. Prints the counts, and ends with 1 where a task asks more often. No proof speaks of it.
+# may ask once more. Prints the counts. Ends with 1 where a task asks more often, and with 3 where nothing can be counted. No
+# proof speaks of it.
 set -eu
 cd "$(dirname "$0")/.."
 program=$PWD/crates/fleet_bench/out/fleet_bench
@@ -17,6 +18,7 @@ status=0
 before=
 for tasks in 1 2 3 4 5 6 7 8; do
   count=$(requests "$tasks")
+  [[ "$count" =~ ^[0-9]+$ ]] || { echo "memory.sh: valgrind gave no count" >&2; exit 3; }
   echo "$tasks tasks: $count"
   if [ -n "$before" ] && [ "$count" -gt $((before + 1)) ]; then status=1; fi
   before=$count
