@@ -48,7 +48,8 @@ pub record AreSeats (cpus : ℕ) (seats : List Seat) : Type 0 where
   pub all : length seats ≡ cpus
   pub in_order : (cpu : ℕ) (s : Seat) → slice_get seats cpu ≡ Some s → s.cpu ≡ cpu
 
--- what a seat has posted to a home is what the home's lines say that it woke for that seat, and then what is left; of
+-- what a seat has posted to a home is the wakes that it asked for among the home's lines, whatever their answers, and then
+-- what is left; of
 -- `n` CPUs the list from sender `q` to home `c` stands at place `q * n + c`
 abbrev pub AllPostsTold : ℕ → List Seat → List Line → List (List ℕ) → Type 0
 AllPostsTold cpus seats lines left = (sender home : ℕ) (s : Seat) → slice_get seats sender ≡ Some s → home < cpus

@@ -17,7 +17,9 @@ use std::sync::Wait;
 /// What a drain did: how many requests it took, and how many of these woke their task.
 #[derive(Clone, Copy, PartialEq, Eq, Debug, Drop)]
 pub struct Drained {
+    /// How many requests were taken.
     pub taken: usize,
+    /// How many of these have the answer `Woken`.
     pub woken: usize,
 }
 
@@ -68,7 +70,7 @@ impl<N: Names> Fleet<N> {
         Some(self.done_on_one(rt, &mut seat.log, slot, deed))
     }
 
-    /// Goes on where a task has its home at a CPU, and else waits for good.
+    /// Returns where a task has its home at a CPU, and never returns where it hasn't.
     fn wait_unless_at_home<R: Wait>(&self, rt: &R, task: TaskId, cpu: CpuId)
         ensures { is_at_home (homes_of (setup_of N.kit)) task cpu ≡ true }
     {

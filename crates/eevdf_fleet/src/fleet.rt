@@ -27,8 +27,9 @@ use std::alloc::{AllocError, Global};
 use std::marker::{Model, PhantomData};
 use std::sync::{Mutex, Wait};
 
-/// The seat has less room than the operation may need. It is decided before the first lock is taken, and nothing has
-/// changed.
+/// The seat has room for fewer lines than the operation may need: one, or for a drain one for each CPU. It is decided
+/// before the first lock is taken, and nothing has changed. Room never grows, so the same call is refused until the fleet
+/// is closed.
 #[derive(Clone, Copy, PartialEq, Eq, Debug, Drop)]
 pub struct SeatFull;
 
@@ -61,8 +62,9 @@ impl<N: Names> Model for Fleet<N> {
 }
 
 impl<N: Names> Fleet<N> {
-    /// A fleet as the kit has it, with the seats of its CPUs in order, on which nothing was done yet. It takes all the
-    /// memory that they ever need.
+    /// Opens a fleet from the kit that `N` names, and gives a seat for each CPU, in order, without lines, with the quota as
+    /// room. It takes all the memory that they ever need. The answer is `AllocError` where memory is refused, and the kit
+    /// is then lost.
     pub fn open(alloc: Global, kit: Kit) -> Result<(Fleet<N>, Vec<Seat<N>>), AllocError>
         requires { kit ≡ N.kit }
         ensures { IfOk result (λ r. r.1.items ≡ fresh_seats N.kit.terms.quota (cpus_of (setup_of N.kit))) }
@@ -101,8 +103,9 @@ impl<N: Names> Fleet<N> {
         Ok((fleet, seats))
     }
 
-    /// Charges the running task of the seat's CPU so many nanoseconds (`Deed::Tick`). Answers `Charged`, `Idle` or
-    /// `Range`.
+    /// Charges `ns` nanoseconds to the task that runs on the seat's CPU (`Deed::Tick`). `Charged` says whether its request
+    /// was used up; `Idle`: nobody runs; `Range`: a virtual time would leave its range, and nothing changes. `SeatFull`
+    /// where the seat has no room.
     pub fn tick<R: Wait>(&self, rt: &R, seat: &mut Seat<N>, ns: Ns) -> Result<Answer, SeatFull>
         ensures cases { MatchResult result
             (λ a. seat.new ≡ logged seat.old (record { deed = Deed.Tick seat.old.cpu ns; answer = a }))
@@ -113,8 +116,9 @@ impl<N: Names> Fleet<N> {
         self.own(rt, seat, Deed::Tick { cpu, ns })
     }
 
-    /// Lets the eligible task of earliest virtual deadline run on the seat's CPU, of equal ones that of least number, as
-    /// EEVDF has it (Stoica and Abdel-Wahab 1995; `Deed::Pick`). Answers `Picked` or `Idle`.
+    /// Makes the eligible task of earliest virtual deadline run on the seat's CPU, among equal deadlines that of lowest
+    /// number (`Deed::Pick`; Stoica and Abdel-Wahab 1995). `Idle`: no task is runnable there. `SeatFull` where the seat has
+    /// no room.
     pub fn pick<R: Wait>(&self, rt: &R, seat: &mut Seat<N>) -> Result<Answer, SeatFull>
         ensures cases { MatchResult result
             (λ a. seat.new ≡ logged seat.old (record { deed = Deed.Pick seat.old.cpu; answer = a }))
@@ -125,8 +129,9 @@ impl<N: Names> Fleet<N> {
         self.own(rt, seat, Deed::Pick { cpu })
     }
 
-    /// Makes the virtual deadline of the running task of the seat's CPU one request later (`Deed::Yield`). Answers
-    /// `Yielded`, `Idle` or `Range`.
+    /// Adds the charge of one slice to the virtual deadline of the task that runs on the seat's CPU, which runs until the
+    /// next pick (`Deed::Yield`). `Idle`: nobody runs; `Range`: the deadline would leave its range, and nothing changes.
+    /// `SeatFull` where the seat has no room.
     pub fn yield_now<R: Wait>(&self, rt: &R, seat: &mut Seat<N>) -> Result<Answer, SeatFull>
         ensures cases { MatchResult result
             (λ a. seat.new ≡ logged seat.old (record { deed = Deed.Yield seat.old.cpu; answer = a }))
@@ -137,8 +142,8 @@ impl<N: Names> Fleet<N> {
         self.own(rt, seat, Deed::Yield { cpu })
     }
 
-    /// Gives a task another nice level, if it is runnable on the seat's CPU (`Deed::Renice`). Answers `Reniced`,
-    /// `NotHere` or `Range`.
+    /// Gives a task another nice level, if it is runnable on the seat's CPU (`Deed::Renice`). `NotHere`: it isn't runnable
+    /// there; `Range`: it couldn't be placed in range. Both change nothing. `SeatFull` where the seat has no room.
     pub fn renice<R: Wait>(
         &self,
         rt: &R,
@@ -156,8 +161,8 @@ impl<N: Names> Fleet<N> {
         self.own(rt, seat, Deed::Renice { cpu, task, nice })
     }
 
-    /// Puts a task to sleep at its home, if it runs on the seat's CPU (`Deed::Sleep`). Answers `Slept`, with the lag that
-    /// it keeps, or `NotRunning`.
+    /// Puts a task to sleep at its home, if it runs on the seat's CPU (`Deed::Sleep`). `Slept` has the lag that it keeps, in
+    /// virtual time; `NotRunning` changes nothing. `SeatFull` where the seat has no room.
     pub fn sleep<R: Wait>(
         &self,
         rt: &R,
@@ -179,8 +184,10 @@ impl<N: Names> Fleet<N> {
         }
     }
 
-    /// Brings the waiting task of latest virtual deadline from the source to the seat's CPU, where that levels their
-    /// loads (`Deed::Pull`; the rule is this project's own). Answers `Pulled`, `Nothing`, `Balanced` or `Range`.
+    /// Moves the waiting task of latest virtual deadline, of equal ones that of highest number, from the source to the seat's
+    /// CPU, where the load of the CPU with it is still below that of the source (`Deed::Pull`; the rule is this project's
+    /// own). `Nothing`: no task waits there; `Balanced`: the load wouldn't be below; `Range`: it couldn't be placed in
+    /// range. These change nothing. `SeatFull` where the seat has no room.
     pub fn pull<R: Wait>(
         &self,
         rt: &R,
@@ -198,8 +205,9 @@ impl<N: Names> Fleet<N> {
         self.across(rt, seat, source, Deed::Pull { cpu, source })
     }
 
-    /// Decides the requests to wake tasks that were posted to the seat's CPU: at most one of each sender, senders in
-    /// ascending order, and of its own the oldest. It may need a line for each CPU.
+    /// Takes at most one of the requests that each CPU posted to the seat's CPU, senders in ascending order, and decides
+    /// each by `Deed::Wake`. Of the seat's own requests it takes the oldest; it may miss requests of other seats. `SeatFull`
+    /// where the room is less than the number of CPUs, however many requests there are.
     pub fn drain<R: Wait>(&self, rt: &R, seat: &mut Seat<N>) -> Result<Drained, SeatFull>
         ensures cases { MatchResult result
             (λ drained. HasDrained seat.old seat.new drained)
@@ -222,7 +230,7 @@ impl<N: Names> Fleet<N> {
         self.homes[task.get() as usize]
     }
 
-    /// Whether these are the seats of all CPUs, in order, as a fleet wants them when it is closed.
+    /// Whether the list has the seats of all CPUs, in order: the condition of `close`.
     pub fn has_all_seats(&self, seats: &Vec<Seat<N>>) -> bool
         ensures { IsTrue result ↔ AreSeats (cpus_of (setup_of N.kit)) seats.now.items }
     {
@@ -237,9 +245,10 @@ impl<N: Names> Fleet<N> {
         true
     }
 
-    /// Closes the fleet. Its history is that of one thread that does the deeds one after the other, each at once, and so
-    /// are its queues; each seat's lines are those of its CPU; and what a seat has posted to a home is what the home
-    /// has woken for it, and then what is left.
+    /// Closes the fleet; it neither waits nor takes memory. The lines are the history of one thread that does the deeds one
+    /// after the other, each at once, and the queues have the states that it leaves. The lines of each CPU are its seat's
+    /// log. What a seat has posted to a home is what the home's drains took, in order and each once, whatever the answers
+    /// were, followed by what is left.
     pub fn close(self, seats: Vec<Seat<N>>) -> Closed
         requires { AreSeats (cpus_of (setup_of N.kit)) seats.items }
         ensures one_thread { IsOneThread (homes_of (setup_of N.kit)) (start (setup_of N.kit)) (deeds_of result.lines) result }

@@ -49,8 +49,10 @@ impl Model for Kit {
 }
 
 impl Kit {
-    /// A kit for a fleet that does as the setup says, in which each CPU may have so many lines, and so many of its
-    /// requests to another CPU, or to itself, may wait at a time.
+    /// A kit for a fleet with the CPUs and the tasks of the setup, whose programs aren't used. Each CPU may have `quota` lines
+    /// over all, and each ring has room for `rings` requests; both may be 0. Memory is taken for twice `quota` lines of each
+    /// CPU, and for `rings` requests twice for each pair of a sender and a home. The answer is `AllocError` where memory is
+    /// refused, and nothing else is refused.
     pub fn make(alloc: Global, setup: &Setup, quota: usize, rings: usize) -> Result<Kit, AllocError>
         requires quota { quota ≤ 1000000 }
         requires rings { rings ≤ 1000000 }

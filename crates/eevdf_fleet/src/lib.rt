@@ -6,8 +6,8 @@
 //! journal's lock. A request to wake a task is posted to the task's home by a ring of the two CPUs, without a lock, and
 //! decided there by a drain. When the fleet is closed with all its seats, its lines are the history of one thread.
 //!
-//! What holds across the locks goes by a board of claims: who holds a seat, a queue or the journal has a token, which
-//! takes no memory, and knows what the one history says of it.
+//! What holds across the locks is kept by a board of claims: who holds a seat, a queue or the journal has a token, which
+//! takes no memory and claims what the one history has of it.
 #![tactic(auto)]
 
 mod board;

@@ -2,8 +2,8 @@ ghost use Rattle.eevdf_fleet.specs.Fleets.{Kit, no_kit};
 
 use std::marker::Brand;
 
-/// Names a fleet: what it was opened from. It has no functions; a caller opens a fleet in a function that is generic
-/// over it, and calls that one with [`Brand`].
+/// Says in contracts which kit a fleet was opened from. It has no functions. A fleet is opened in a function that is generic
+/// over `N: Names`; its caller puts [`Brand`] for `N`, and gives the kit in its `Invariants.antt`.
 pub trait Names {
     ghost kit: { Kit };
 }

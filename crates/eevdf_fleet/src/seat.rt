@@ -1,4 +1,4 @@
-ghost use Rattle.std.specs.Prelude.{◌≡◌, ◌<◌, length, OnOk, OnErr, IfErr, IsOk, true};
+ghost use Rattle.std.specs.Prelude.{◌≡◌, ◌+◌, ◌<◌, length, OnOk, OnErr, IfErr, IsOk, true};
 ghost use Rattle.eevdf_ops.specs.Setup.{cpus_of, home_of, homes_of, is_task};
 ghost use Rattle.eevdf_fleet.specs.Fleets.{posted_to, setup_of, with_post};
 
@@ -37,7 +37,7 @@ impl<N: Names> Model for Seat<N> {
 }
 
 impl<N: Names> Seat<N> {
-    /// Its CPU.
+    /// The number of its CPU.
     pub fn cpu(&self) -> CpuId
         ensures cpu { result ≡ self.now.cpu }
         ensures below { result < cpus_of (setup_of N.kit) }
@@ -45,23 +45,24 @@ impl<N: Names> Seat<N> {
         self.log.cpu()
     }
 
-    /// How many more lines it may have.
+    /// How many more lines its log may have: the quota less the lines so far.
     pub fn room(&self) -> usize
-        ensures { result ≡ self.now.room }
+        ensures room { result ≡ self.now.room }
+        ensures quota { length self.now.log + result ≡ N.kit.terms.quota }
     {
         self.log.room()
     }
 
-    /// The lines of its operations, in order.
+    /// The lines that its operations have made, oldest first. A post has none.
     pub fn log(&self) -> &[Line]
         ensures { result.now ≡ self.now.log }
     {
         self.log.lines()
     }
 
-    /// Posts a request to wake a task to the task's home, which decides it when it drains its rings. The request is
-    /// refused only where this CPU has already posted as many requests to that home as a ring has room for, whether or
-    /// not the home has taken any of them yet. A refused request is given back, and nothing has changed.
+    /// Sends a request to wake a task to the task's home, whose drain decides it. It needs no room, adds no line, and neither
+    /// waits nor takes memory. `RingFull`, with the task, comes only where this seat has already posted as many requests to
+    /// that home, over all, as a ring has room for; then nothing has changed. Below that number it always succeeds.
     pub fn post(&mut self, task: TaskId) -> Result<(), RingFull>
         requires { is_task (homes_of (setup_of N.kit)) task ≡ true }
         ensures accepted { OnOk result (self.new ≡ with_post self.old (home_of (homes_of (setup_of N.kit)) task) task) }

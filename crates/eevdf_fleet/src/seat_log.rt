@@ -34,7 +34,7 @@ impl<N: Names> Model for SeatLog<N> {
 }
 
 impl<N: Names> SeatLog<N> {
-    ghost use Rattle.std.specs.Prelude.{◌≡◌, ◌<◌};
+    ghost use Rattle.std.specs.Prelude.{◌≡◌, ◌+◌, ◌<◌, length};
     ghost use Rattle.eevdf_ops.specs.Setup.{cpus_of};
     ghost use Rattle.eevdf_fleet.specs.Fleets.{setup_of};
 
@@ -46,7 +46,8 @@ impl<N: Names> SeatLog<N> {
     }
 
     pub(crate) fn room(&self) -> usize
-        ensures { result ≡ self.now.room }
+        ensures room { result ≡ self.now.room }
+        ensures quota { length self.now.lines + result ≡ N.kit.terms.quota }
     {
         self.room
     }

@@ -4,9 +4,11 @@ use eevdf_queue::TaskId;
 use rtrb::Producer;
 use std::marker::{Model, PhantomData};
 
-/// A request that was refused, since the ring to the task's home is full.
+/// The answer to a post that was refused. It comes only where the seat has posted at least as many requests to the task's
+/// home, over all, as a ring has room for.
 #[derive(Clone, Copy, PartialEq, Eq, Debug)]
 pub struct RingFull {
+    /// The task whose request comes back.
     pub task: TaskId,
 }
 

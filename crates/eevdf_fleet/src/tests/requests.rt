@@ -45,6 +45,34 @@ fn both_ask<N: Names, R: Wait + Abort>(
     Ok(())
 }
 
+/// A ring takes a request again, once its home has drained the one before.
+fn posts_again<N: Names, R: Wait + Abort>(
+    rt: &R,
+    alloc: Global,
+    setup: &Setup,
+    kit: Kit,
+) -> Result<(), Fail>
+    requires kit { kit ≡ N.kit }
+    requires setup { setup_of kit ≡ setup.now }
+{
+    let (fleet, mut seats) = Fleet::<N>::open(alloc, kit)?;
+    let mut second = seats.pop().ok_or("seat 1")?;
+    let mut first = seats.pop().ok_or("seat 0")?;
+    for number in 0..3u64 {
+        assert!(rt; post(&mut second, setup, task(number)?) == Some(Ok(())));
+        assert!(rt; fleet.drain(rt, &mut first) == Ok(Drained { taken: 1, woken: 1 }));
+    }
+    assert!(rt; first.log().len() == 3 && first.room() == 2);
+    Ok(())
+}
+
+#[test]
+fn a_drained_ring_takes_requests_again(rt: HostRuntime) -> Result<(), Fail> {
+    let setup = sleepers(rt.alloc(), 2, 3)?;
+    let kit = Kit::make(rt.alloc(), &setup, 5, 1)?;
+    posts_again::<Brand, _>(&rt, rt.alloc(), &setup, kit)
+}
+
 #[test]
 fn the_second_request_finds_the_task_awake(rt: HostRuntime) -> Result<(), Fail> {
     let setup = sleepers(rt.alloc(), 2, 1)?;
