@@ -1,4 +1,5 @@
 pub mod Charges
+pub mod SetupFaults
 pub mod Starting
 pub mod Machines
 pub mod MapCounts

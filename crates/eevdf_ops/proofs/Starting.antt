@@ -1,7 +1,6 @@
 -- What a setup without a fault gives for each task, and where a task isn't yet while the tasks begin.
-use Rattle.std.proofs.Common.{◌≡◌, ◌≢◌, ℕ, zero, suc, ◌+◌, ◌<◌, Bool, true, false, cond, List, [], ◌∷◌, length, get_or, set, refl, sym, subst, ap, ◌∙◌, arith}
-use Rattle.std.specs.Prelude.{Option, Some, None, nat_lt, ◌==◌, replicate}
-use Rattle.std.specs.Option.{option_or}
+use Rattle.std.proofs.Common.{◌≡◌, ◌≢◌, ℕ, zero, suc, ◌+◌, ◌<◌, Bool, true, false, cond, List, [], ◌∷◌, length, get_or, set, sym, subst, ap, ◌∙◌, arith}
+use Rattle.std.specs.Prelude.{Some, None, nat_lt, ◌==◌, replicate}
 use Rattle.std.specs.Ordering.{nat_cmp, eq_by_cmp}
 use Rattle.std.specs.FinMap as finite
 use Rattle.std.specs.Cmp.{nat_cmp_total, unsigned_tied}
@@ -9,21 +8,9 @@ use Rattle.std.proofs.lemmas.Bool.Decides.{nat_tests}
 use Rattle.eevdf_queue.specs.Leaving.{IsNowhere}
 use Rattle.eevdf_queue.specs.State.{State, Contents, empty_state}
 use Rattle.eevdf_ops.specs.declared.task_spec.TaskSpec.{TaskSpec}
-use Rattle.eevdf_ops.specs.declared.setup_fault.SetupFault.{SetupFault}
-use Rattle.eevdf_ops.specs.Faults.{unless, starts_in_range, task_fault, tasks_fault}
+use Rattle.eevdf_ops.specs.Faults.{starts_in_range, task_fault, tasks_fault}
 use Rattle.eevdf_ops.specs.Machine.{Machine, queue_at, joined, beginner, begin_at_homes}
-
-pub or_none_left : (f g : Option SetupFault) → option_or f g ≡ None → f ≡ None
-or_none_left None g e = refl
-or_none_left (Some f) g e = e
-
-pub or_none_right : (f g : Option SetupFault) → option_or f g ≡ None → g ≡ None
-or_none_right None g e = e
-or_none_right (Some f) g e = cc
-
-passes : (b : Bool) (f : SetupFault) → unless b f ≡ None → b ≡ true
-passes true f e = refl
-passes false f e = cc
+use Rattle.eevdf_ops.proofs.SetupFaults.{or_none_left, or_none_right, passes}
 
 -- what is known of a task that has no fault
 pub record BeginsWell (cpus : ℕ) (t : TaskSpec) : Type 0 where

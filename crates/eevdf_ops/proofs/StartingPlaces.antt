@@ -17,7 +17,8 @@ use Rattle.eevdf_ops.specs.Places.{count, places, IsPlaced, AreCpus}
 use Rattle.eevdf_ops.proofs.Machines.{length-begin_at_homes}
 use Rattle.eevdf_ops.proofs.MapCounts.{equal, count-insert, contains-insert}
 use Rattle.eevdf_ops.proofs.MachinePlaces.{places-set, each-set}
-use Rattle.eevdf_ops.proofs.Starting.{absent_before, absent_nowhere, absent_empty, begins_well, or_none_left, or_none_right}
+use Rattle.eevdf_ops.proofs.SetupFaults.{or_none_left, or_none_right}
+use Rattle.eevdf_ops.proofs.Starting.{absent_before, absent_nowhere, absent_empty, begins_well}
 use Rattle.eevdf_ops.proofs.QueuePlaces.{IsWith}
 
 abbrev homes : List TaskSpec → List ℕ
