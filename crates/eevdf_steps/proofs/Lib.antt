@@ -38,4 +38,5 @@ pub mod KeptPosts
 pub mod ProgramPosts
 pub mod FollowedPrograms
 pub mod Finished
+pub mod PlacedHistories
 pub mod PlayedOrders

@@ -2,9 +2,12 @@
 use Rattle.std.proofs.Common.{◌≡◌, ℕ, true, List, ◌∷◌, ◌++◌, append_assoc, sym, ap, subst, ◌∙◌, refl}
 use Rattle.eevdf_ops.specs.declared.deeds.Deed.{Deed}
 use Rattle.eevdf_ops.specs.Followed.{FollowsPrograms}
-use Rattle.eevdf_ops.specs.Outcome.{Outcome}
+use Rattle.eevdf_ops.specs.Histories.{IsOneThread}
+use Rattle.eevdf_ops.specs.Machine.{start}
+use Rattle.eevdf_ops.specs.Outcome.{Outcome, machine_of}
+use Rattle.eevdf_ops.specs.Places.{AreCpus, IsPlaced}
 use Rattle.eevdf_ops.specs.Programs.{deeds_of}
-use Rattle.eevdf_ops.specs.Setup.{Setup, allows}
+use Rattle.eevdf_ops.specs.Setup.{Setup, allows, cpus_of, homes_of}
 use Rattle.std.specs.List.{list_all}
 use Rattle.std.specs.Prelude.{Option, None}
 use Rattle.std.specs.Option.{option_map}
@@ -20,6 +23,7 @@ use Rattle.eevdf_steps.specs.Plays.{IsOutcome}
 use Rattle.eevdf_steps.proofs.LawfulOrders.{faultless_whole}
 use Rattle.eevdf_steps.proofs.AllowedCommits.{deeds_allowed}
 use Rattle.eevdf_steps.proofs.FollowedPrograms.{outcome_follows, step_progress}
+use Rattle.eevdf_steps.proofs.PlacedHistories.{outcome_placed}
 
 -- the deeds done by a player, and those that an order still commits
 abbrev pub deeds_with : Player → List ℕ → List Deed
@@ -64,3 +68,11 @@ play_follows setup order b o played done sound is =
     outcome_follows setup order o (subst IsSound (played_plan setup order b played) sound) (played_faultless setup order b played done)
     (played_deeds setup order b o played is)
     (subst (λ (a : Player). IsOutcome a o) played.state is)
+
+pub play_placed : (setup : Setup) (order : List ℕ) (b : Player) (o : Outcome) → HasPlayed (player_start setup) order b → IsSound b.plan → IsOutcome b o
+    → IsOneThread b.plan.homes b.plan.start (deeds_of b.state.lines) o → AreCpus (cpus_of setup) (homes_of setup) → IsPlaced (homes_of setup) (start setup)
+    → IsPlaced (homes_of setup) (machine_of o.queues)
+play_placed setup order b o played sound is one =
+    outcome_placed setup (deeds_of b.state.lines) o
+    (subst (λ (p : Plan). IsOneThread p.homes p.start (deeds_of b.state.lines) o) (played_plan setup order b played) one)
+    (play_allowed setup order b o played sound is)

@@ -5,6 +5,8 @@ ghost use Rattle.std.specs.Prelude.{◌≡◌, true, IfOk, OnOk};
 ghost use Rattle.eevdf_ops.specs.Followed.{FollowsPrograms};
 ghost use Rattle.eevdf_ops.specs.Histories.{IsOneThread};
 ghost use Rattle.eevdf_ops.specs.Machine.{start};
+ghost use Rattle.eevdf_ops.specs.Outcome.{machine_of};
+ghost use Rattle.eevdf_ops.specs.Places.{IsPlaced};
 ghost use Rattle.eevdf_ops.specs.Programs.{deeds_of};
 ghost use Rattle.eevdf_ops.specs.Setup.{allows, homes_of};
 ghost use Rattle.eevdf_steps.specs.Commits.{deeds_committed};
@@ -17,7 +19,7 @@ ghost use Rattle.eevdf_steps.specs.Plays.{IsPlay};
 use crate::play_fault::PlayFault;
 use crate::step_fault::StepFault;
 use crate::step_player::Player;
-use eevdf_ops::{Outcome, Setup};
+use eevdf_ops::{Outcome, Setup, laws};
 use std::alloc::Global;
 
 /// Lets the callers of a setup do their steps in an order, which is a list of callers. An order of more than
@@ -27,14 +29,16 @@ use std::alloc::Global;
 /// Whatever the order, its outcome is that of one thread that does the deeds of the order's commits one after the other,
 /// each at once: the same answers, the same queues. The setup allows each of these deeds. The lines of each CPU are its
 /// program's operations, in order and each once (a post has no line, a drain the wakes that it found), and each request
-/// that was posted was either drained once, in order, or is left.
+/// that was posted was either drained once, in order, or is left. Each task stands in one place.
 pub fn play(alloc: Global, setup: &Setup, order: &[usize]) -> Result<Outcome, PlayFault>
     ensures play { IsPlay setup.now order.now result }
     ensures whole { OnOk result (IsWhole (plan_of setup.now) (orders.counters_at_start (plan_of setup.now)) order.now) }
     ensures one_thread { IfOk result (λ o. IsOneThread (homes_of setup.now) (start setup.now) (deeds_committed setup.now order.now) o) }
     ensures allowed { IfOk result (λ o. list_all (allows setup.now) (deeds_of o.lines) ≡ true) }
     ensures programs { IfOk result (λ o. FollowsPrograms setup.now o) }
+    ensures places { IfOk result (λ o. IsPlaced (homes_of setup.now) (machine_of o.queues)) }
 {
+    laws::start_is_placed(setup);
     if order.len() > 1000000 {
         return Err(PlayFault::TooLong);
     }
