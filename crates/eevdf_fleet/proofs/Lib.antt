@@ -10,6 +10,7 @@ pub mod Openings
 pub mod QueuesClosed
 pub mod Closings
 pub mod RingPlaces
+pub mod ProgramSeats
 pub mod RingEnds
 pub mod RingRests
 pub mod RingOpenings
@@ -20,3 +21,6 @@ pub mod SenderTurns
 pub mod SeatParts
 pub mod PostsTold
 pub mod Crossing
+pub mod ProgramRooms
+pub mod ProgramOperations
+pub mod ProgramPlaces

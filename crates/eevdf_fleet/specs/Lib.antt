@@ -3,6 +3,7 @@ pub mod Claims
 pub mod Board
 pub mod Fleets
 pub mod Drains
+pub mod ProgramRuns
 pub mod TouchedQueues
 pub mod RingEnds
 pub mod ReturnedEnds

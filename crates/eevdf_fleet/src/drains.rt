@@ -1,11 +1,12 @@
 //! How the requests that were posted to a CPU are decided.
 
-ghost use Rattle.std.specs.Prelude.{◌≡◌, ◌≤◌, ◌<◌, IfNone, IfSome, None, true};
+ghost use Rattle.std.specs.Prelude.{◌≡◌, ◌≤◌, ◌<◌, ◌↔◌, IfNone, IfOk, IfSome, IsErr, MatchResult, None, true};
 ghost use Rattle.eevdf_ops.specs.Setup.{cpus_of, homes_of, is_at_home};
 ghost use Rattle.eevdf_fleet.specs.Drains.{HasDrained, HasTaken, counted, oldest_own};
 ghost use Rattle.eevdf_fleet.specs.Fleets.{setup_of};
 
-use crate::fleet::Fleet;
+use crate::fleet::{Fleet, SeatFull};
+use crate::gate::{Gate, OpenGate};
 use crate::names::Names;
 use crate::opening::cpu_number;
 use crate::seat::Seat;
@@ -24,17 +25,35 @@ pub struct Drained {
 }
 
 impl<N: Names> Fleet<N> {
-    /// Takes at most one request of each sender, senders in ascending order, and decides each.
-    pub(crate) fn drain_all<R: Wait>(
+    /// The drain of a seat's CPU. The gate is told that it is operation `n` of the CPU's program.
+    pub(crate) fn drain_requests<R: Wait, G: Gate>(
         &self,
         rt: &R,
+        gate: &G,
+        n: usize,
         seat: &mut Seat<N>,
-        slot: &mut Slot<N>,
-    ) -> Drained
+    ) -> Result<Drained, SeatFull>
+        ensures cases { MatchResult result
+            (λ drained. HasDrained seat.old seat.new drained)
+            (λ _. seat.new ≡ seat.old) }
+        ensures few { IfOk result (λ drained. drained.taken ≤ cpus_of (setup_of N.kit)) }
+        ensures full { IsErr result ↔ (seat.old.room < cpus_of (setup_of N.kit)) }
+    {
+        if seat.room() < self.locks.len() {
+            return Err(SeatFull);
+        }
+        let mut guard = self.hold(rt, seat.cpu());
+        gate.inside(seat.cpu(), n);
+        Ok(self.drain_all(rt, seat, &mut guard))
+    }
+
+    /// Takes at most one request of each sender, senders in ascending order, and decides each.
+    fn drain_all<R: Wait>(&self, rt: &R, seat: &mut Seat<N>, slot: &mut Slot<N>) -> Drained
         requires number { slot.old.number ≡ seat.old.cpu }
         requires cpu { seat.old.cpu < cpus_of (setup_of N.kit) }
         requires room { cpus_of (setup_of N.kit) ≤ seat.old.room }
-        ensures { HasDrained seat.old seat.new result }
+        ensures drained { HasDrained seat.old seat.new result }
+        ensures few { result.taken ≤ cpus_of (setup_of N.kit) }
     {
         let mut drained = Drained { taken: 0, woken: 0 };
         for sender in 0..self.locks.len() {
@@ -67,7 +86,7 @@ impl<N: Names> Fleet<N> {
             .take(&mut seat.producers, sender.get() as usize)?;
         self.wait_unless_at_home(rt, task, cpu);
         let deed = Deed::Wake { cpu, task, sender };
-        Some(self.done_on_one(rt, &mut seat.log, slot, deed))
+        Some(self.done_on_one(rt, &OpenGate, 0, &mut seat.log, slot, deed))
     }
 
     /// Returns where a task has its home at a CPU, and never returns where it hasn't.

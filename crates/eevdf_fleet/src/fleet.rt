@@ -1,16 +1,17 @@
-ghost use Rattle.std.specs.Prelude.{◌≡◌, ◌≢◌, ◌*◌, ◌<◌, ◌↔◌, All, IfOk, IsErr, IsTrue, MatchResult, length, true};
+ghost use Rattle.std.specs.Prelude.{◌≡◌, ◌≢◌, ◌*◌, ◌<◌, ◌≤◌, ◌↔◌, All, IfOk, IsErr, IsTrue, MatchResult, length, true};
 ghost use Rattle.std.specs.List.{list_all};
 ghost use Rattle.eevdf_ops.specs.Histories.{IsOneThread};
 ghost use Rattle.eevdf_ops.specs.Machine.{start};
 ghost use Rattle.eevdf_ops.specs.Outcome.{machine_of};
 ghost use Rattle.eevdf_ops.specs.Places.{IsPlaced};
 ghost use Rattle.eevdf_ops.specs.Programs.{deeds_of, lines_by};
-ghost use Rattle.eevdf_ops.specs.Setup.{allows, cpus_of, home_of, homes_of, is_task};
+ghost use Rattle.eevdf_ops.specs.Setup.{allows, cpus_of, homes_of, is_task};
 ghost use Rattle.eevdf_fleet.specs.Drains.{HasDrained};
 ghost use Rattle.eevdf_fleet.specs.Fleets.{AllPostsTold, AreSeats, fresh_seats, logged, setup_of};
 
 use crate::closing::{close_locks, close_seats};
 use crate::drains::Drained;
+use crate::gate::OpenGate;
 use crate::journal::Journal;
 use crate::kit::Kit;
 use crate::named_board::NamedBoard;
@@ -113,7 +114,7 @@ impl<N: Names> Fleet<N> {
         ensures full { IsErr result ↔ (seat.old.room < 1) }
     {
         let cpu = seat.cpu();
-        self.own(rt, seat, Deed::Tick { cpu, ns })
+        self.operate(rt, &OpenGate, 0, seat, Deed::Tick { cpu, ns })
     }
 
     /// Makes the eligible task of earliest virtual deadline run on the seat's CPU, among equal deadlines that of lowest
@@ -126,7 +127,7 @@ impl<N: Names> Fleet<N> {
         ensures full { IsErr result ↔ (seat.old.room < 1) }
     {
         let cpu = seat.cpu();
-        self.own(rt, seat, Deed::Pick { cpu })
+        self.operate(rt, &OpenGate, 0, seat, Deed::Pick { cpu })
     }
 
     /// Adds the charge of one slice to the virtual deadline of the task that runs on the seat's CPU, which runs until the
@@ -139,7 +140,7 @@ impl<N: Names> Fleet<N> {
         ensures full { IsErr result ↔ (seat.old.room < 1) }
     {
         let cpu = seat.cpu();
-        self.own(rt, seat, Deed::Yield { cpu })
+        self.operate(rt, &OpenGate, 0, seat, Deed::Yield { cpu })
     }
 
     /// Gives a task another nice level, if it is runnable on the seat's CPU (`Deed::Renice`). `NotHere`: it isn't runnable
@@ -158,7 +159,7 @@ impl<N: Names> Fleet<N> {
         ensures full { IsErr result ↔ (seat.old.room < 1) }
     {
         let cpu = seat.cpu();
-        self.own(rt, seat, Deed::Renice { cpu, task, nice })
+        self.operate(rt, &OpenGate, 0, seat, Deed::Renice { cpu, task, nice })
     }
 
     /// Puts a task to sleep at its home, if it runs on the seat's CPU (`Deed::Sleep`). `Slept` has the lag that it keeps, in
@@ -176,12 +177,7 @@ impl<N: Names> Fleet<N> {
         ensures full { IsErr result ↔ (seat.old.room < 1) }
     {
         let cpu = seat.cpu();
-        let home = self.home(task);
-        if home.get() == cpu.get() {
-            self.own(rt, seat, Deed::Sleep { cpu, task })
-        } else {
-            self.across(rt, seat, home, Deed::Sleep { cpu, task })
-        }
+        self.operate(rt, &OpenGate, 0, seat, Deed::Sleep { cpu, task })
     }
 
     /// Moves the waiting task of latest virtual deadline, of equal ones that of highest number, from the source to the seat's
@@ -202,7 +198,7 @@ impl<N: Names> Fleet<N> {
         ensures full { IsErr result ↔ (seat.old.room < 1) }
     {
         let cpu = seat.cpu();
-        self.across(rt, seat, source, Deed::Pull { cpu, source })
+        self.operate(rt, &OpenGate, 0, seat, Deed::Pull { cpu, source })
     }
 
     /// Takes at most one of the requests that each CPU posted to the seat's CPU, senders in ascending order, and decides
@@ -212,22 +208,10 @@ impl<N: Names> Fleet<N> {
         ensures cases { MatchResult result
             (λ drained. HasDrained seat.old seat.new drained)
             (λ _. seat.new ≡ seat.old) }
+        ensures few { IfOk result (λ drained. drained.taken ≤ cpus_of (setup_of N.kit)) }
         ensures full { IsErr result ↔ (seat.old.room < cpus_of (setup_of N.kit)) }
     {
-        if seat.room() < self.locks.len() {
-            return Err(SeatFull);
-        }
-        let mut guard = self.hold(rt, seat.cpu());
-        Ok(self.drain_all(rt, seat, &mut guard))
-    }
-
-    /// The home of a task.
-    fn home(&self, task: TaskId) -> CpuId
-        requires { is_task (homes_of (setup_of N.kit)) task ≡ true }
-        ensures home { result ≡ home_of (homes_of (setup_of N.kit)) task }
-        ensures below { result < cpus_of (setup_of N.kit) }
-    {
-        self.homes[task.get() as usize]
+        self.drain_requests(rt, &OpenGate, 0, seat)
     }
 
     /// Whether the list has the seats of all CPUs, in order: the condition of `close`.

@@ -15,6 +15,7 @@ mod closing;
 mod commit;
 mod drains;
 mod fleet;
+mod gate;
 mod journal;
 mod kit;
 mod line_commits;
@@ -22,19 +23,27 @@ mod locked_deeds;
 mod named_board;
 mod names;
 mod opening;
+mod operations;
+mod program_needs;
+mod program_threads;
 mod queue_locks;
 mod queue_work;
 mod reserve;
 mod rings;
+mod run_fault;
 mod seat;
 mod seat_log;
+mod seat_program;
 mod slot;
 
 pub use drains::Drained;
 pub use fleet::{Closed, Fleet, SeatFull};
+pub use gate::{Gate, OpenGate};
 pub use kit::Kit;
 pub use names::Names;
+pub use program_threads::run_all;
 pub use rings::RingFull;
+pub use run_fault::RunFault;
 pub use seat::Seat;
 
 #[cfg(test)]

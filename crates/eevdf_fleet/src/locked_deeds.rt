@@ -7,6 +7,7 @@ ghost use Rattle.eevdf_fleet.specs.Fleets.{logged, setup_of, written};
 ghost use Rattle.eevdf_fleet.specs.TouchedQueues.{IsNoWake, IsOfOneQueue, IsOfTwoQueues};
 
 use crate::fleet::{Fleet, SeatFull};
+use crate::gate::Gate;
 use crate::names::Names;
 use crate::queue_work::{act, act_across};
 use crate::seat::Seat;
@@ -19,9 +20,11 @@ use std::sync::Wait;
 
 impl<N: Names> Fleet<N> {
     /// Does a deed of the seat's CPU that touches its queue alone, and isn't a wake.
-    pub(crate) fn own<R: Wait>(
+    pub(crate) fn own<R: Wait, G: Gate>(
         &self,
         rt: &R,
+        gate: &G,
+        n: usize,
         seat: &mut Seat<N>,
         deed: Deed,
     ) -> Result<Answer, SeatFull>
@@ -38,13 +41,16 @@ impl<N: Names> Fleet<N> {
             return Err(SeatFull);
         }
         let mut guard = self.hold(rt, seat.cpu());
-        Ok(self.done_on_one(rt, &mut seat.log, &mut guard, deed))
+        gate.inside(seat.cpu(), n);
+        Ok(self.done_on_one(rt, gate, n, &mut seat.log, &mut guard, deed))
     }
 
     /// Does a deed of the seat's CPU that touches its queue and that of another CPU.
-    pub(crate) fn across<R: Wait>(
+    pub(crate) fn across<R: Wait, G: Gate>(
         &self,
         rt: &R,
+        gate: &G,
+        n: usize,
         seat: &mut Seat<N>,
         other: CpuId,
         deed: Deed,
@@ -63,13 +69,24 @@ impl<N: Names> Fleet<N> {
             return Err(SeatFull);
         }
         let (mut guard, mut other_guard) = self.hold_both(rt, seat.cpu(), other);
-        Ok(self.done_on_two(rt, &mut seat.log, &mut guard, &mut other_guard, deed))
+        gate.inside(seat.cpu(), n);
+        Ok(self.done_on_two(
+            rt,
+            gate,
+            n,
+            &mut seat.log,
+            &mut guard,
+            &mut other_guard,
+            deed,
+        ))
     }
 
     /// Does a deed on the one queue that it touches, whose lock is held, and commits its line.
-    pub(crate) fn done_on_one<R: Wait>(
+    pub(crate) fn done_on_one<R: Wait, G: Gate>(
         &self,
         rt: &R,
+        gate: &G,
+        n: usize,
         log: &mut SeatLog<N>,
         slot: &mut Slot<N>,
         deed: Deed,
@@ -83,6 +100,7 @@ impl<N: Names> Fleet<N> {
         ensures number { slot.new.number ≡ slot.old.number }
     {
         let answer = act(&mut slot.queue, &deed);
+        gate.acted(log.cpu(), n);
         let line = Line { deed, answer };
         let token = mem::replace(&mut slot.token, Badge::blank());
         slot.token = self.commit_one(rt, log, token, &slot.queue, &line);
@@ -91,9 +109,11 @@ impl<N: Names> Fleet<N> {
 
     /// Does a deed on the two queues that it touches, whose locks are held, and commits its line. The first is that of
     /// the log's CPU.
-    fn done_on_two<R: Wait>(
+    fn done_on_two<R: Wait, G: Gate>(
         &self,
         rt: &R,
+        gate: &G,
+        n: usize,
         log: &mut SeatLog<N>,
         slot: &mut Slot<N>,
         away: &mut Slot<N>,
@@ -111,6 +131,7 @@ impl<N: Names> Fleet<N> {
         let others = mem::replace(&mut away.token, Badge::blank());
         let token = self.board.check(self.board.join(others, own));
         let answer = act_across(&mut slot.queue, &mut away.queue, &deed);
+        gate.acted(log.cpu(), n);
         let line = Line { deed, answer };
         let (own, others) = self.commit_two(
             rt,

@@ -30,9 +30,13 @@ loop-sender-preserved g c =
       c.drain_one.ensures.number ∙ c.loop-sender.invariant.1,
     )
 
-pub returns : goal.returns
-returns g c =
+pub returns-clause-drained : goal.returns-clause-drained
+returns-clause-drained g c =
     let cpus = cpus_of (setup_of g.N.Names.kit) in
     let all : c.loop-sender.sender ≡ cpus = omega (arith, c.loop-sender-test.false, c.loop-sender.auto.sender-end, c.len-sender-end.ensures, c.self.invariant.1) in
     drained-all cpus c.args.seat.now c.loop-sender.seat c.loop-sender.drained c.requires.cpu
     (subst (λ (n : ℕ). DrainedBelow n c.args.seat.now c.loop-sender.seat c.loop-sender.drained) all c.loop-sender.invariant.0)
+
+pub returns-clause-few : goal.returns-clause-few
+returns-clause-few g c =
+    omega (arith, c.loop-sender.auto.sender-end, c.len-sender-end.ensures, c.self.invariant.1, c.loop-sender.invariant.0.taken, c.loop-sender.invariant.0.few)

@@ -1,0 +1,123 @@
+-- The seats of programs that run, each by a thread of its own, and what their fleet is closed to.
+use Rattle.std.proofs.Common.{◌≡◌, ◌≢◌, ℕ, zero, suc, ◌+◌, ◌*◌, ◌<◌, ◌≤◌, Bool, true, false, ◌&&◌, cond, List, [], ◌∷◌, ◌++◌, length, map, get_or, inl, inr, refl, sym, ap, subst, ◌∙◌, arith}
+use Rattle.std.proofs.Math.Nat.{mul-le-mul_right}
+use Rattle.std.proofs.lemmas.Bool.{cases_lt}
+use Rattle.std.proofs.lemmas.Bool.Decides.{nat_tests}
+use Rattle.std.proofs.lemmas.List.{get_or_append_left, get_or_past, get_or_push}
+use Rattle.std.proofs.lemmas.List.Elements.{All-get_or}
+use Rattle.std.proofs.lemmas.Option.{slice_get-get_or}
+use Rattle.std.specs.Prelude.{◌==◌, All, Some, nat_lt, slice_get}
+use Rattle.std.specs.List.{list_all, range_with_len}
+use Rattle.eevdf_ops.specs.declared.deeds.Deed.{Deed}
+use Rattle.eevdf_ops.specs.declared.deeds.Deed.TheVariants.{Tick, Pick, Yield, Sleep, Wake, Pull, Renice}
+use Rattle.eevdf_ops.specs.declared.deeds.Line.{Line}
+use Rattle.eevdf_ops.specs.declared.deeds.Op.{Op}
+use Rattle.eevdf_ops.specs.Followed.{FollowsPrograms, program_of}
+use Rattle.eevdf_ops.specs.Outcome.{Outcome}
+use Rattle.eevdf_ops.specs.Parts.{decider}
+use Rattle.eevdf_ops.specs.Programs.{FitsProgram, deeds_of, lines_by, posts_in, wake_from, wakes_from}
+use Rattle.eevdf_ops.specs.Setup.{Setup, allows, cpus_of, homes_of, is_allowed}
+use Rattle.eevdf_fleet.specs.Fleets.{AllPostsTold, Seat, fresh}
+use Rattle.eevdf_fleet.specs.ProgramRuns.{AreRun, HasRun}
+use Rattle.eevdf_fleet.proofs.Rooms.{below, decider-below, left, right}
+use Rattle.eevdf_fleet.proofs.Takes.{wake-other}
+
+-- the first of the seats that are left, and the others
+pub next-seat : {X : Type 0} (f : ℕ → X) (k m n : ℕ) (xs rest : List X) (x : X) → xs ≡ map f (range_with_len k m) → xs ≡ x ∷ rest → n + 1 ≡ m
+    → (x ≡ f k) × (rest ≡ map f (range_with_len (k + 1) n))
+next-seat f k m n xs rest x is parted one =
+    let all : m ≡ suc n = omega arith in
+    let same : x ∷ rest ≡ f k ∷ map f (range_with_len (k + 1) n) = sym parted ∙ is ∙ ap (λ (j : ℕ). map f (range_with_len k j)) all in
+    (cc, cc)
+
+-- what holds at each place of a list, with one more
+pub each-pushed : {X : Type 0} (P : ℕ → X → Type 0) (n : ℕ) (xs ys : List X) (x : X) → ys ≡ xs ++ x ∷ [] → n ≡ length xs
+    → ((k : ℕ) (d : X) → k < n → P k (get_or xs k d)) → P n x → (k : ℕ) (d : X) → k < n + 1 → P k (get_or ys k d)
+each-pushed P n xs ys x more count all here k d within =
+    subst (λ (zs : List _). P k (get_or zs k d)) (sym more)
+    (elim (cases_lt k n) [
+      | inl low ↦ subst (P k) (sym (get_or_append_left xs (x ∷ []) d k (omega (arith, low, count)))) (all k d low)
+      | inr high ↦
+          let last : k ≡ n = omega (arith, within, high) in
+          subst (P k) (sym (get_or_push xs x d k (omega (arith, last, count)))) (subst (λ (j : ℕ). P j x) (sym last) here)
+    ])
+
+-- a number of each element of a list that goes up by one, at the first and at the others
+pub first-number : {X : Type 0} (f : X → ℕ) (m n : ℕ) (xs rest : List X) (x : X) → xs ≡ x ∷ rest → 0 < m
+    → ((k : ℕ) (d : X) → k < m → f (get_or xs k d) ≡ n + k) → f x ≡ n
+first-number f m n xs rest x parted some all =
+    let first : f (get_or xs 0 x) ≡ n + 0 = all 0 x some in
+    ap (λ (ys : List _). f (get_or ys 0 x)) (sym parted) ∙ first ∙ (omega arith)
+
+pub other-numbers : {X : Type 0} (f : X → ℕ) (m n : ℕ) (xs rest : List X) (x : X) → xs ≡ x ∷ rest
+    → ((k : ℕ) (d : X) → k < m → f (get_or xs k d) ≡ n + k) → (k : ℕ) (d : X) → k + 1 < m → f (get_or rest k d) ≡ n + 1 + k
+other-numbers f m n xs rest x parted all k d within =
+    let next : f (get_or xs (suc k) d) ≡ n + suc k = all (suc k) d (omega arith) in
+    ap (λ (ys : List _). f (get_or ys (suc k) d)) (sym parted) ∙ next ∙ (omega arith)
+
+line_of_another : (b : Bool) (l : Line) (lines : List Line) → b ≡ false → cond b (l ∷ lines) lines ≡ lines
+line_of_another false l lines e = refl
+line_of_another true l lines e = cc
+
+-- a CPU that isn't there has no lines
+no_lines : (cpus : ℕ) (hs : List ℕ) (p : ℕ) (lines : List Line) → cpus ≤ p → list_all (is_allowed cpus hs) (deeds_of lines) ≡ true → lines_by p lines ≡ []
+no_lines cpus hs p [] past ok = refl
+no_lines cpus hs p (l ∷ lines) past ok =
+    let there : decider l.deed < cpus = decider-below cpus hs l.deed (left _ _ ok) in
+    let other : (decider l.deed == p) ≡ false = grind (arith, nat_tests) in
+    line_of_another (decider l.deed == p) l (lines_by p lines) other ∙ no_lines cpus hs p lines past (right (is_allowed cpus hs l.deed) _ ok)
+
+-- and has asked for no wake
+no_wake : (cpus : ℕ) (hs : List ℕ) (q : ℕ) (d : Deed) → cpus ≤ q → is_allowed cpus hs d ≡ true → wake_from q d ≡ []
+no_wake cpus hs q (Wake cpu task sender) past ok =
+    let there : sender < cpus = below sender cpus (right (nat_lt cpu cpus) _ (left _ _ ok)) in
+    wake-other cpu task q sender (λ same. absurd (omega (arith, same, there, past)))
+no_wake cpus hs q (Tick cpu ns) past ok = refl
+no_wake cpus hs q (Pick cpu) past ok = refl
+no_wake cpus hs q (Yield cpu) past ok = refl
+no_wake cpus hs q (Sleep cpu task) past ok = refl
+no_wake cpus hs q (Pull cpu source) past ok = refl
+no_wake cpus hs q (Renice cpu task nice) past ok = refl
+
+no_wakes : (cpus : ℕ) (hs : List ℕ) (q c : ℕ) (lines : List Line) → cpus ≤ q → list_all (is_allowed cpus hs) (deeds_of lines) ≡ true → wakes_from q (lines_by c lines) ≡ []
+no_wakes cpus hs q c [] past ok = refl
+no_wakes cpus hs q c (l ∷ lines) past ok =
+    with_line (decider l.deed == c) (no_wake cpus hs q l.deed past (left _ _ ok)) (no_wakes cpus hs q c lines past (right (is_allowed cpus hs l.deed) _ ok))
+  where
+    with_line : (b : Bool) → wake_from q l.deed ≡ [] → wakes_from q (lines_by c lines) ≡ [] → wakes_from q (cond b (l ∷ lines_by c lines) (lines_by c lines)) ≡ []
+    with_line false none rest = rest
+    with_line true none rest = ap (λ (ts : List ℕ). ts ++ wakes_from q (lines_by c lines)) none ∙ rest
+
+no_program : (s : Setup) (p : ℕ) → cpus_of s ≤ p → program_of s p ≡ []
+no_program s p past = get_or_past s.programs p [] past
+
+-- what the seats of programs that have run are closed to follows the programs
+pub runs-follow : (s : Setup) (seats : List Seat) (o : Outcome) → AreRun s seats → list_all (allows s) (deeds_of o.lines) ≡ true
+    → All (λ (seat : Seat). lines_by seat.cpu o.lines ≡ seat.log) seats → AllPostsTold (cpus_of s) seats o.lines o.left
+    → length o.left ≡ cpus_of s * cpus_of s → FollowsPrograms s o
+runs-follow s seats o run ok logs told each =
+    let n : ℕ = cpus_of s in
+    let at : ℕ → Seat = λ p. get_or seats p (fresh 0 0 0) in
+    let within : (p : ℕ) → p < n → p < length seats = λ p less. subst (λ (m : ℕ). p < m) (sym run.all) less in
+    let stands : (p : ℕ) → p < n → slice_get seats p ≡ Some (at p) = λ p less. slice_get-get_or seats p (fresh 0 0 0) (within p less) in
+    let has : (p : ℕ) → p < n → HasRun s p (program_of s p) (at p) = λ p less. run.each p (at p) (stands p less) in
+    let own : (p : ℕ) → p < n → lines_by p o.lines ≡ (at p).log
+    = λ p less. ap (λ (k : ℕ). lines_by k o.lines) (sym (has p less).own) ∙ All-get_or (λ (seat : Seat). lines_by seat.cpu o.lines ≡ seat.log) seats p (fresh 0 0 0) (within p less) logs in
+    record {
+      operations = λ p.
+          elim (cases_lt p n) [
+            | inl less ↦ subst (λ (lines : List Line). FitsProgram p lines (program_of s p)) (sym (own p less)) (has p less).operations
+            | inr past ↦
+                subst (λ (lines : List Line). FitsProgram p lines (program_of s p)) (sym (no_lines n (homes_of s) p o.lines past ok))
+                (subst (λ (ops : List Op). FitsProgram p [] ops) (sym (no_program s p past)) refl)
+          ];
+      requests = λ q c there.
+          elim (cases_lt q n) [
+            | inl less ↦ sym ((has q less).posts c there) ∙ told q c (at q) (stands q less) there
+            | inr past ↦
+                let beyond : n * n ≤ q * n = mul-le-mul_right n past in
+                ap (posts_in (homes_of s) c) (no_program s q past)
+                ∙ sym (ap (λ (ts : List ℕ). ts ++ get_or o.left (q * n + c) []) (no_wakes n (homes_of s) q c o.lines past ok)
+                ∙ get_or_past o.left (q * n + c) [] (omega (arith, each, beyond)))
+          ];
+    }

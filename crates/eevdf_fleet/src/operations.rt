@@ -1,0 +1,71 @@
+//! How an operation that is a deed of its CPU finds the locks that it needs.
+
+ghost use Rattle.std.specs.Prelude.{◌≡◌, ◌≢◌, ◌<◌, ◌↔◌, IfNone, IfSome, IsErr, MatchResult, true};
+ghost use Rattle.eevdf_ops.specs.Parts.{decider};
+ghost use Rattle.eevdf_ops.specs.Setup.{allows, cpus_of, home_of, homes_of, is_task};
+ghost use Rattle.eevdf_fleet.specs.Fleets.{logged, setup_of};
+ghost use Rattle.eevdf_fleet.specs.TouchedQueues.{IsNoWake, IsOfOneQueue, IsOfTwoQueues};
+
+use crate::fleet::{Fleet, SeatFull};
+use crate::gate::Gate;
+use crate::names::Names;
+use crate::seat::Seat;
+use eevdf_ops::{Answer, CpuId, Deed};
+use eevdf_queue::TaskId;
+use std::sync::Wait;
+
+impl<N: Names> Fleet<N> {
+    /// Does a deed of the seat's CPU that isn't a wake. The gate is told that it is operation `n` of the CPU's program; where
+    /// no program is run the gate is open, and `n` is 0.
+    pub(crate) fn operate<R: Wait, G: Gate>(
+        &self,
+        rt: &R,
+        gate: &G,
+        n: usize,
+        seat: &mut Seat<N>,
+        deed: Deed,
+    ) -> Result<Answer, SeatFull>
+        requires no_wake { IsNoWake deed }
+        requires own { decider deed ≡ seat.old.cpu }
+        requires allowed { allows (setup_of N.kit) deed ≡ true }
+        ensures cases { MatchResult result
+            (λ a. seat.new ≡ logged seat.old (record { deed = deed; answer = a }))
+            (λ _. seat.new ≡ seat.old) }
+        ensures full { IsErr result ↔ (seat.old.room < 1) }
+    {
+        match self.other_queue(&deed) {
+            Some(other) => self.across(rt, gate, n, seat, other, deed),
+            None => self.own(rt, gate, n, seat, deed),
+        }
+    }
+
+    /// The CPU whose queue a deed touches beside that of its own CPU, if there is one.
+    fn other_queue(&self, deed: &Deed) -> Option<CpuId>
+        requires { allows (setup_of N.kit) deed.now ≡ true }
+        ensures one { IfNone result (IsOfOneQueue (homes_of (setup_of N.kit)) deed.now) }
+        ensures two { IfSome result (λ other. IsOfTwoQueues (homes_of (setup_of N.kit)) other deed.now
+            × (other ≢ decider deed.now) × (other < cpus_of (setup_of N.kit))) }
+    {
+        match *deed {
+            Deed::Sleep { cpu, task } => {
+                let home = self.home(task);
+                if home.get() == cpu.get() {
+                    None
+                } else {
+                    Some(home)
+                }
+            }
+            Deed::Pull { source, .. } => Some(source),
+            _ => None,
+        }
+    }
+
+    /// The home of a task.
+    fn home(&self, task: TaskId) -> CpuId
+        requires { is_task (homes_of (setup_of N.kit)) task ≡ true }
+        ensures home { result ≡ home_of (homes_of (setup_of N.kit)) task }
+        ensures below { result < cpus_of (setup_of N.kit) }
+    {
+        self.homes[task.get() as usize]
+    }
+}

@@ -1,0 +1,64 @@
+//! What the programs of a setup can need of a fleet's seats and rings.
+
+ghost use Rattle.std.specs.Prelude.{◌≡◌, ◌≤◌, ◌*◌, length};
+ghost use Rattle.eevdf_fleet.specs.ProgramRuns.{program_posts, program_room, quota_for, rings_for};
+
+use crate::opening::cpu_number;
+use eevdf_ops::{Op, Setup};
+
+/// The room for lines that each seat needs so that no operation of any program is refused, at least 1.
+pub(crate) fn quota(setup: &Setup) -> usize
+    ensures quota { result ≡ quota_for setup.now }
+    ensures within { result ≤ 640000 }
+{
+    let mut quota = 1;
+    for cpu in 0..setup.cpus() {
+        quota = quota.max(room_of(setup.cpus(), setup.program(cpu_number(cpu))));
+    }
+    quota
+}
+
+/// The room that each ring needs so that no request of any program is refused, at least 1.
+pub(crate) fn rings(setup: &Setup) -> usize
+    ensures rings { result ≡ rings_for setup.now }
+    ensures within { result ≤ 10000 }
+{
+    let mut rings = 1;
+    for cpu in 0..setup.cpus() {
+        rings = rings.max(posts_of(setup.program(cpu_number(cpu))));
+    }
+    rings
+}
+
+/// The room for lines that the operations of a program ask for together: a drain may have a line for each CPU, a post has
+/// none.
+fn room_of(cpus: usize, program: &[Op]) -> usize
+    requires cpus { cpus ≤ 64 }
+    requires few { length program.now ≤ 10000 }
+    ensures room { result ≡ program_room cpus program.now }
+    ensures within { result ≤ 64 * length program.now }
+{
+    let mut room = 0;
+    for op in program {
+        room += match op {
+            Op::Post(_) => 0,
+            Op::Drain => cpus,
+            _ => 1,
+        };
+    }
+    room
+}
+
+/// How many requests a program posts.
+fn posts_of(program: &[Op]) -> usize
+    ensures posts { result ≡ program_posts program.now }
+    ensures within { result ≤ length program.now }
+{
+    let mut posts = 0;
+    for op in program {
+        if let Op::Post(_) = op {
+            posts += 1;
+        }
+    }
+    posts
+}
