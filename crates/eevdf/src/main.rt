@@ -1,5 +1,5 @@
-//! The workbench as a program: `eevdf solo` and `eevdf replay` read a workload from standard input and print each
-//! CPU's schedule, or one line that says why not.
+//! The workbench as a program: `eevdf solo`, `eevdf replay` and `eevdf run` read a workload from standard input and print
+//! each CPU's schedule, or one line that says why not.
 #![tactic(auto)]
 
 use eevdf_bench::{
@@ -9,6 +9,8 @@ use std::alloc::Global;
 use std::io::{ErrorKind, Write};
 use std::process::ExitCode;
 use std::rt::Env;
+use std::sync::Wait;
+use std::thread::Threads;
 use std::{env, io};
 
 /// What is printed where the words aren't known.
@@ -38,10 +40,10 @@ fn command(rt: &(impl Env + AllocGlobal), alloc: Global) -> Result<Command, Word
 }
 
 /// Runs the command on standard input and output, and gives the exit status.
-fn run(rt: &(impl Input + Print), alloc: Global, command: Command) -> u8 {
+fn run<R: Input + Print + Threads + Wait + Sync>(rt: &R, alloc: Global, command: Command) -> u8 {
     let mut reader = Watched::new(rt.reader());
     let mut writer = Watched::new(io::writer(rt));
-    match engine(alloc, &mut reader, &mut writer, command) {
+    match engine(rt, alloc, &mut reader, &mut writer, command) {
         Ok(()) => 0,
         Err(fault) => print_fault(rt, alloc, &fault),
     }

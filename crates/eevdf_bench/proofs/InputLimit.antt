@@ -1,14 +1,11 @@
 -- A workload that is cut one byte past its limit means what it meant.
 use Rattle.std.proofs.Common.{◌≡◌, ℕ, ◌+◌, ◌<◌, ◌≤◌, Bool, true, false, cond, List, length, take, refl, ap, ◌∙◌, arith}
-use Rattle.std.specs.Prelude.{nat_lt, if◌then◌else◌, Result, Err}
+use Rattle.std.specs.Prelude.{nat_lt, if◌then◌else◌, Err}
 use Rattle.std.proofs.lemmas.List.{take_all, length-take}
 use Rattle.std.proofs.lemmas.Bool.Decides.{nat_tests}
-use Rattle.eevdf_bench.specs.declared.load_fault.LoadFault.{LoadFault}
 use Rattle.eevdf_bench.specs.declared.load_fault.LoadFault.TheVariants as fault
-use Rattle.eevdf_bench.specs.Meaning.{Workload, meaning, document_of, workload_of}
+use Rattle.eevdf_bench.specs.Meaning.{meaning, document_of, workload_of}
 use Rattle.eevdf_bench.specs.MeaningSteps.{◌>>=◌}
-use Rattle.eevdf_bench.specs.declared.command_words.Command.{Command}
-use Rattle.eevdf_bench.specs.Runs.{answer_of, loaded, report_of}
 
 too_long : (m n : ℕ) → nat_lt m n ≡ true → m < n
 too_long m n h = grind (arith, nat_tests)
@@ -31,7 +28,3 @@ cut {A} m n e read bytes false one h =
 pub meaning_cut : (bytes : List ℕ) → meaning (take 16777217 bytes) ≡ meaning bytes
 unfolding meaning
 meaning_cut bytes = cut 16777216 16777217 (Err fault.TooLarge) (λ (bs : List ℕ). document_of bs >>= workload_of) bytes (nat_lt 16777216 (length bytes)) refl refl
-
-pub answer_cut : (c : Command) (bytes : List ℕ) → answer_of c (take 16777217 bytes) ≡ answer_of c bytes
-unfolding answer_of
-answer_cut c bytes = ap (λ (r : Result Workload LoadFault). loaded r (λ w. report_of c.kind w c.history)) (meaning_cut bytes)

@@ -12,7 +12,9 @@ pub mod InputLimit
 pub mod QueueLines
 pub mod EngineAnswers
 pub mod LeftLists
+pub mod OwnDeeds
 pub mod ReplayAnswers
+pub mod SoloAnswers
 pub mod ScheduleLines
 pub mod KeptResults
 pub mod WiderLimits

@@ -10,7 +10,10 @@ use Rattle.eevdf_ops.specs.Histories.{IsOneThread}
 use Rattle.eevdf_ops.specs.declared.deeds.Line.{Line}
 use Rattle.eevdf_ops.specs.Machine.{Machine, start}
 use Rattle.eevdf_steps.specs.Commits.{deeds_committed}
-use Rattle.eevdf_bench.specs.Replays.{IsReplay}
+use Rattle.eevdf_ops.specs.Places.{IsPlaced}
+use Rattle.eevdf_bench.specs.declared.command_words.Kind.TheVariants.{Replay}
+use Rattle.eevdf_bench.specs.Reports.{IsReport}
+use Rattle.eevdf_bench.proofs.OwnDeeds.{own_deeds}
 use Rattle.eevdf_ops.specs.Outcome.{Outcome, machine_of}
 use Rattle.eevdf_steps.specs.declared.step_fault.StepFault.{StepFault}
 use Rattle.eevdf_steps.specs.declared.step_fault.StepFault.TheVariants as step
@@ -100,16 +103,21 @@ replayed w history s order text o there same is t =
     ∙ ap (λ (u : Setup). order_report u (Some order) history) (sym same)
     ∙ played s order text history o is t
 
--- the outcome is one thread's, and follows the programs
-pub replay_is : (w : Workload) (history : Bool) (s : Setup) (order text : List ℕ) (o : Outcome) → Some order ≡ w.order → s ≡ w.setup
-    → IsWhole (plan_of s) (counters_at_start (plan_of s)) order → IsOneThread (homes_of s) (start s) (deeds_committed s order) o → list_all (allows s) (deeds_of o.lines) ≡ true → FollowsPrograms s o → text ≡ report_text o.lines (machine_of o.queues) o.left history → IsReplay w history text
-replay_is w history s order text o there same whole one allowed follows t = record {
-  order = order;
+-- and is that of one thread, of what the order commits
+pub played_report : (w : Workload) (history : Bool) (s : Setup) (order text : List ℕ) (o : Outcome) → Some order ≡ w.order → s ≡ w.setup
+    → IsWhole (plan_of s) (counters_at_start (plan_of s)) order → IsOneThread (homes_of s) (start s) (deeds_committed s order) o → list_all (allows s) (deeds_of o.lines) ≡ true
+    → FollowsPrograms s o → IsPlaced (homes_of s) (machine_of o.queues) → text ≡ report_text o.lines (machine_of o.queues) o.left history → IsReport Replay w history text
+played_report w history s order text o there same whole one allowed follows placed t = record {
   outcome = o;
-  listed = sym there;
-  whole = subst (λ (u : Setup). IsWhole (plan_of u) (counters_at_start (plan_of u)) order) same whole;
-  one_thread = subst (λ (u : Setup). IsOneThread (homes_of u) (start u) (deeds_committed u order) o) same one;
+  one_thread = subst (λ (u : Setup). IsOneThread (homes_of u) (start u) (deeds_of o.lines) o) same (own_deeds (homes_of s) (start s) (deeds_committed s order) o one);
   allowed = subst (λ (u : Setup). list_all (allows u) (deeds_of o.lines) ≡ true) same allowed;
-  programs = subst (λ (u : Setup). FollowsPrograms u o) same follows;
+  places = subst (λ (u : Setup). IsPlaced (homes_of u) (machine_of o.queues)) same placed;
+  does = record {
+    order = order;
+    listed = sym there;
+    whole = subst (λ (u : Setup). IsWhole (plan_of u) (counters_at_start (plan_of u)) order) same whole;
+    deeds = subst (λ (u : Setup). deeds_of o.lines ≡ deeds_committed u order) same one.deeds_are;
+    programs = subst (λ (u : Setup). FollowsPrograms u o) same follows;
+  };
   says = t;
 }

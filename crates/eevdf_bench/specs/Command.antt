@@ -10,7 +10,7 @@ use Rattle.clap.specs.declared.error.kind.ErrorKind.{ErrorKind}
 use Rattle.clap.specs.declared.error.kind.ErrorKind.TheVariants.{OutOfMemory}
 use Rattle.eevdf_bench.specs.declared.command_words.Command.{Command}
 use Rattle.eevdf_bench.specs.declared.command_words.Kind.{Kind}
-use Rattle.eevdf_bench.specs.declared.command_words.Kind.TheVariants.{Solo, Replay}
+use Rattle.eevdf_bench.specs.declared.command_words.Kind.TheVariants.{Solo, Replay, Run}
 use Rattle.eevdf_bench.specs.declared.command_words.WordFault.{WordFault}
 use Rattle.eevdf_bench.specs.declared.command_words.WordFault.TheVariants.{Words, Memory}
 
@@ -18,6 +18,7 @@ use Rattle.eevdf_bench.specs.declared.command_words.WordFault.TheVariants.{Words
 abbrev pub word_of : Kind → Text
 word_of Solo = codes "solo"
 word_of Replay = codes "replay"
+word_of Run = codes "run"
 
 -- the flag that each subcommand has
 abbrev pub history_rule : Rule
@@ -37,7 +38,8 @@ bare_program = on_top (λ s. record s {
 
 -- the program as `clap` knows it
 abbrev pub program : App
-program = with_subcommand (with_subcommand bare_program (subcommand (word_of Solo)).top) (subcommand (word_of Replay)).top
+program =
+    with_subcommand (with_subcommand (with_subcommand bare_program (subcommand (word_of Solo)).top) (subcommand (word_of Replay)).top) (subcommand (word_of Run)).top
 
 -- the parse of the words has no fault
 abbrev pub is_taken : List Text → Bool
@@ -67,7 +69,8 @@ IsAskedBy words c = (is_taken words ≡ true)
 -- the kind that a word names
 abbrev pub kind_named : Text → Option Kind
 kind_named word = if bytes_eq word (word_of Solo) then Some Solo
-    else if bytes_eq word (word_of Replay) then Some Replay else None
+    else if bytes_eq word (word_of Replay) then Some Replay
+    else if bytes_eq word (word_of Run) then Some Run else None
 
 -- what an error of `clap` comes to
 abbrev pub word_fault : ErrorKind → WordFault

@@ -13,5 +13,5 @@ pub mod TextSchedules
 pub mod TextFault
 pub mod Command
 pub mod WordsPrinted
+pub mod Reports
 pub mod Runs
-pub mod Replays

@@ -6,6 +6,8 @@ use Rattle.eevdf_ops.specs.declared.deeds.Deed.{Deed}
 use Rattle.eevdf_ops.specs.Setup.{Setup, cpus_of, homes_of}
 use Rattle.eevdf_ops.specs.Machine.{start}
 use Rattle.eevdf_ops.specs.Whole.{lines_of, machine_after}
+use Rattle.eevdf_fleet.specs.declared.run_fault.RunFault.{RunFault}
+use Rattle.eevdf_fleet.specs.declared.run_fault.RunFault.TheVariants.{Start, Memory as NoSpace}
 use Rattle.eevdf_steps.specs.declared.play_fault.PlayFault.{PlayFault}
 use Rattle.eevdf_steps.specs.declared.play_fault.PlayFault.TheVariants.{TooLong, Memory as NoRoom}
 use Rattle.eevdf_steps.specs.Plan.{plan_of}
@@ -14,13 +16,14 @@ use Rattle.eevdf_steps.specs.LeftLists.{left_lists}
 use Rattle.eevdf_steps.specs.MicroState.{MicroState, micro}
 use Rattle.eevdf_bench.specs.declared.command_words.Command.{Command}
 use Rattle.eevdf_bench.specs.declared.command_words.Kind.{Kind}
-use Rattle.eevdf_bench.specs.declared.command_words.Kind.TheVariants.{Solo, Replay}
+use Rattle.eevdf_bench.specs.declared.command_words.Kind.TheVariants.{Solo, Replay, Run}
 use Rattle.eevdf_bench.specs.declared.load_fault.Key.TheVariants.{Orders, Scripts}
 use Rattle.eevdf_bench.specs.declared.load_fault.LoadFault.{LoadFault}
 use Rattle.eevdf_bench.specs.declared.load_fault.LoadFault.TheVariants.{Missing, Memory as NoMemory}
 use Rattle.eevdf_bench.specs.declared.bench_fault.BenchFault.{BenchFault}
-use Rattle.eevdf_bench.specs.declared.bench_fault.BenchFault.TheVariants.{Load, Play, Read, Write, Memory}
+use Rattle.eevdf_bench.specs.declared.bench_fault.BenchFault.TheVariants.{Load, Play, Run as NotRun, Read, Write, Memory}
 use Rattle.eevdf_bench.specs.Meaning.{Workload, meaning}
+use Rattle.eevdf_bench.specs.Reports.{IsReport}
 use Rattle.eevdf_bench.specs.Streams.{HasBegun}
 use Rattle.eevdf_bench.specs.TextReport.{report_text}
 
@@ -64,17 +67,21 @@ replay_report w history = order_report w.setup w.order history
 
 -- ---- what a command answers
 
-abbrev pub report_of : Kind → Workload → Bool → Answer
-report_of Solo w history = solo_report w history
-report_of Replay w history = replay_report w history
+-- `solo` and `replay` have one answer; `run` may give the report of any history of the programs, and no other fault than that a thread wasn't started
+abbrev pub IsAnswer : Kind → Workload → Bool → Answer → Type 0
+IsAnswer Solo w history answer = solo_report w history ≡ answer
+IsAnswer Replay w history answer = replay_report w history ≡ answer
+IsAnswer Run w history (Ok text) = IsReport Run w history text
+IsAnswer Run w history (Err f) = f ≡ NotRun Start
 
-abbrev pub loaded : Result Workload LoadFault → (Workload → Answer) → Answer
-loaded (Ok w) answer = answer w
-loaded (Err f) answer = Err (Load f)
+-- a workload that is refused has its fault for the only answer
+abbrev pub IsAnswerTo : Result Workload LoadFault → Command → Answer → Type 0
+IsAnswerTo (Ok w) c answer = IsAnswer c.kind w c.history answer
+IsAnswerTo (Err f) c answer = Err (Load f) ≡ answer
 
 -- for the bytes of a workload
-unfoldable pub answer_of : Command → List ℕ → Answer
-answer_of c bytes = loaded (meaning bytes) (λ w. report_of c.kind w c.history)
+abbrev pub IsAnswerOf : Command → List ℕ → Answer → Type 0
+IsAnswerOf c bytes answer = IsAnswerTo (meaning bytes) c answer
 
 -- ---- how what is returned agrees with an answer
 
@@ -89,39 +96,43 @@ abbrev pub play_refusal : PlayFault → BenchFault
 play_refusal NoRoom = Memory
 play_refusal f = Play f
 
+-- and why programs weren't run
+abbrev pub run_refusal : RunFault → BenchFault
+run_refusal NoSpace = Memory
+run_refusal Start = NotRun Start
+
 -- the text that is to be made, or its fault; where there is none, out of memory may be answered
 abbrev pub Makes : Answer → Result (Vec ℕ Global) BenchFault → Type 0
 Makes answer (Ok text) = answer ≡ Ok text.items
 Makes (Ok text) (Err f) = f ≡ Memory
 Makes (Err e) (Err f) = IsFault e f
 
--- a workload is refused for the answer's own fault, or when out of memory
-abbrev pub LoadsAs : Answer → BenchFault → Type 0
-LoadsAs answer (Load e) = (e ≡ NoMemory) ⊎ (answer ≡ Err (Load e))
-LoadsAs answer _ = Unit {0}
-
--- an order is refused for the answer's own fault
-abbrev pub PlaysAs : Answer → BenchFault → Type 0
-PlaysAs answer (Play p) = answer ≡ Err (Play p)
-PlaysAs answer _ = Unit {0}
+-- a workload is refused for its own fault, or when out of memory, and an order and a run for theirs
+abbrev pub Refuses : (Answer → Type 0) → BenchFault → Type 0
+Refuses Allows (Load e) = (e ≡ NoMemory) ⊎ Allows (Err (Load e))
+Refuses Allows (Play p) = Allows (Err (Play p))
+Refuses Allows (NotRun r) = Allows (Err (NotRun r))
+Refuses Allows Read = Unit {0}
+Refuses Allows Write = Unit {0}
+Refuses Allows Memory = Unit {0}
 
 -- neither end has failed
 abbrev pub IsInside : BenchFault → Type 0
 IsInside f = (f ≢ Read) × (f ≢ Write)
 
--- the text of an answer, or why there is none
-abbrev pub Answers : Answer → Result (Vec ℕ Global) BenchFault → Type 0
-Answers answer (Ok text) = answer ≡ Ok text.items
-Answers answer (Err f) = LoadsAs answer f × PlaysAs answer f × IsInside f
+-- the text of an allowed answer, or why there is none
+abbrev pub Answers : (Answer → Type 0) → Result (Vec ℕ Global) BenchFault → Type 0
+Answers Allows (Ok text) = Allows (Ok text.items)
+Answers Allows (Err f) = Refuses Allows f × IsInside f
 
--- the text is what is answered, and it was written after what was there
-pub record Writes (answer : Answer) (held held' : Option (List ℕ)) : Type 0 where
+-- the text is an allowed answer, and it was written after what was there
+pub record Writes (Allows : Answer → Type 0) (held held' : Option (List ℕ)) : Type 0 where
   pub text : List ℕ
-  pub answered : answer ≡ Ok text
+  pub answered : Allows (Ok text)
   pub written : Appends held held' text
 
--- the text is what is answered, and a beginning of it was written after what was there
-pub record Begins (answer : Answer) (held held' : Option (List ℕ)) : Type 0 where
+-- the text is an allowed answer, and a beginning of it was written after what was there
+pub record Begins (Allows : Answer → Type 0) (held held' : Option (List ℕ)) : Type 0 where
   pub text : List ℕ
-  pub answered : answer ≡ Ok text
+  pub answered : Allows (Ok text)
   pub begun : HasBegun held held' text

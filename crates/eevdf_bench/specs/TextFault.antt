@@ -10,6 +10,8 @@ use Rattle.eevdf_bench.specs.declared.bench_fault.BenchFault.{BenchFault}
 use Rattle.eevdf_bench.specs.declared.bench_fault.BenchFault.TheVariants as bench
 use Rattle.eevdf_steps.specs.declared.play_fault.PlayFault.{PlayFault}
 use Rattle.eevdf_steps.specs.declared.play_fault.PlayFault.TheVariants as play
+use Rattle.eevdf_fleet.specs.declared.run_fault.RunFault.{RunFault}
+use Rattle.eevdf_fleet.specs.declared.run_fault.RunFault.TheVariants as run
 use Rattle.eevdf_bench.specs.Text.{as_line, task_text}
 
 abbrev pub program_key : ℕ → List ℕ
@@ -65,9 +67,14 @@ play_fault_text (play.Done at) = place_key at ++ codes ": done"
 play_fault_text (play.Blocked at cpu) = place_key at ++ codes ": blocked on " ++ decimal cpu
 play_fault_text (play.Short caller) = codes "order short at " ++ decimal caller
 
+abbrev pub run_fault_text : RunFault → List ℕ
+run_fault_text run.Memory = codes "memory"
+run_fault_text run.Start = codes "thread"
+
 abbrev pub bench_fault_text : BenchFault → List ℕ
 bench_fault_text (bench.Load fault) = load_fault_text fault
 bench_fault_text (bench.Play fault) = play_fault_text fault
+bench_fault_text (bench.Run fault) = run_fault_text fault
 bench_fault_text bench.Read = codes "reading"
 bench_fault_text bench.Write = codes "writing"
 bench_fault_text bench.Memory = codes "memory"
@@ -75,7 +82,7 @@ bench_fault_text bench.Memory = codes "memory"
 abbrev pub fault_line : BenchFault → List ℕ
 fault_line fault = as_line (codes "fault: " ++ bench_fault_text fault)
 
--- 1 where the workload or its order is refused, 3 where memory, reading or writing failed
+-- 1 where the workload or its order is refused, 3 where memory, a thread, reading or writing failed
 abbrev pub setup_status : SetupFault → ℕ
 setup_status setup.Memory = 3
 setup_status _ = 1

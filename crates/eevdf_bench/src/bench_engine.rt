@@ -2,29 +2,38 @@
 
 ghost use Rattle.std.specs.Prelude.{◌≡◌, ◌≢◌, true, false, IfOk, IfErr, IfSome, OnOk, Err};
 ghost use Rattle.std.specs.Io.KnownBytes.{Keeps};
-ghost use Rattle.eevdf_bench.specs.Replays.{IsReplay, IsReplayOf, WritesReplay};
-ghost use Rattle.eevdf_bench.specs.Runs.{Answers, Begins, LoadsAs, Makes, PlaysAs, Writes, answer_of, report_of};
+ghost use Rattle.eevdf_bench.specs.Reports.{IsReport, IsReportOf, WritesReport};
+ghost use Rattle.eevdf_bench.specs.Runs.{Answers, Begins, IsAnswer, IsAnswerOf, Refuses, Writes};
 ghost use Rattle.eevdf_bench.specs.Streams.{ReadsTo, ReadsWithin};
 
 use crate::bench_fault::BenchFault;
 use crate::byte_streams::{read_input, write_text};
 use crate::command_words::{Command, Kind};
+use crate::fleet_run::run_text;
 use crate::loaded_workload::Workload;
 use crate::reading::read_workload;
 use crate::replay_run::replay_text;
 use crate::solo_run::solo_text;
 use crate::watched::Watched;
+use eevdf_fleet::RunFault;
 use std::alloc::Global;
 use std::io::{Read, Write};
+use std::sync::Wait;
+use std::thread::Threads;
 
 /// Reads a workload to its end, makes the whole report that the command asks for, and writes it. Neither end may have
-/// failed before. `Load` is the first fault of the workload or the part that it lacks, `Play` the fault of its order.
+/// failed before. `Load` is the first fault of the workload or the part that it lacks, `Play` the fault of its order, and
+/// `Run` comes where a run of the programs was refused a thread.
+///
+/// The report of `solo` and that of `replay` are determined by the workload; the report of a run depends on the order in
+/// which its threads came, too. Each is that of one thread that does the deeds of its lines one after the other, each at once.
 ///
 /// A reader that goes on for more than 16777216 bytes is read to one byte more, and then refused; it is never read
 /// further. `Read` comes only where the reader failed, `Write` only where the writer did, and `Ok` where neither did.
 /// After a `Write` a beginning of the report was written, and after any other fault nothing. Only `Read` and `Memory`
 /// may come before the workload has been read to its end.
-pub fn engine<R: Read, W: Write>(
+pub fn engine<T: Threads + Wait + Sync, R: Read, W: Write>(
+    rt: &T,
     alloc: Global,
     reader: &mut Watched<R>,
     writer: &mut Watched<W>,
@@ -33,15 +42,14 @@ pub fn engine<R: Read, W: Write>(
     requires reader { reader.old.failed ≡ false }
     requires writer { writer.old.failed ≡ false }
     ensures report { OnOk result (IfSome (R.remaining reader.old.end) (λ input.
-        Writes (answer_of command input) (W.contents writer.old.end) (W.contents writer.new.end))) }
-    ensures load { IfErr result (λ f. IfSome (R.remaining reader.old.end) (λ input.
-        LoadsAs (answer_of command input) f)) }
-    ensures play { IfErr result (λ f. IfSome (R.remaining reader.old.end) (λ input.
-        PlaysAs (answer_of command input) f)) }
-    ensures one_thread { command.kind ≡ Kind.Replay → OnOk result (IfSome (R.remaining reader.old.end) (λ input.
-        WritesReplay input command.history (W.contents writer.old.end) (W.contents writer.new.end))) }
+        Writes (IsAnswerOf command input) (W.contents writer.old.end) (W.contents writer.new.end))) }
+    ensures one_thread { OnOk result (IfSome (R.remaining reader.old.end) (λ input.
+        WritesReport command input (W.contents writer.old.end) (W.contents writer.new.end))) }
+    ensures refused { IfErr result (λ f. IfSome (R.remaining reader.old.end) (λ input.
+        Refuses (IsAnswerOf command input) f)) }
+    ensures thread { result ≡ Err (BenchFault.Run RunFault.Start) → command.kind ≡ Kind.Run }
     ensures begun { result ≡ Err BenchFault.Write → IfSome (R.remaining reader.old.end) (λ input.
-        Begins (answer_of command input) (W.contents writer.old.end) (W.contents writer.new.end)) }
+        Begins (IsAnswerOf command input) (W.contents writer.old.end) (W.contents writer.new.end)) }
     ensures consumed { result ≢ Err BenchFault.Read → result ≢ Err BenchFault.Memory →
         ReadsTo 16777217 (R.remaining reader.old.end) (R.remaining reader.new.end) }
     ensures limit { ReadsWithin 16777217 (R.remaining reader.old.end) (R.remaining reader.new.end) }
@@ -52,7 +60,7 @@ pub fn engine<R: Read, W: Write>(
     ensures unwritten { IfErr result (λ f. f ≢ BenchFault.Write → Keeps (W.contents writer.old.end) (W.contents writer.new.end)) }
 {
     let input = read_input(alloc, reader)?;
-    let text = match answer(alloc, &input, command) {
+    let text = match answer(rt, alloc, &input, command) {
         Ok(text) => text,
         Err(fault) => return Err(fault),
     };
@@ -60,24 +68,37 @@ pub fn engine<R: Read, W: Write>(
 }
 
 /// The text of the report that a command makes of the bytes of a workload.
-fn answer(alloc: Global, input: &[u8], command: Command) -> Result<Vec<u8>, BenchFault>
-    ensures answer { Answers (answer_of command input.now) result }
-    ensures one_thread { command.kind ≡ Kind.Replay → IfOk result (λ t. IsReplayOf input.now command.history t.items) }
+fn answer<T: Threads + Wait + Sync>(
+    rt: &T,
+    alloc: Global,
+    input: &[u8],
+    command: Command,
+) -> Result<Vec<u8>, BenchFault>
+    ensures answer { Answers (IsAnswerOf command input.now) result }
+    ensures thread { result ≡ Err (BenchFault.Run RunFault.Start) → command.kind ≡ Kind.Run }
+    ensures one_thread { IfOk result (λ t. IsReportOf command input.now t.items) }
 {
     let workload = match read_workload(alloc, input) {
         Ok(workload) => workload,
         Err(fault) => return Err(BenchFault::Load(fault)),
     };
-    text_of(alloc, &workload, command)
+    text_of(rt, alloc, &workload, command)
 }
 
 /// The text of the report that a command makes of a workload.
-fn text_of(alloc: Global, workload: &Workload, command: Command) -> Result<Vec<u8>, BenchFault>
-    ensures report { Makes (report_of command.kind workload.now command.history) result }
-    ensures one_thread { command.kind ≡ Kind.Replay → IfOk result (λ t. IsReplay workload.now command.history t.items) }
+fn text_of<T: Threads + Wait + Sync>(
+    rt: &T,
+    alloc: Global,
+    workload: &Workload,
+    command: Command,
+) -> Result<Vec<u8>, BenchFault>
+    ensures answer { Answers (IsAnswer command.kind workload.now command.history) result }
+    ensures thread { result ≡ Err (BenchFault.Run RunFault.Start) → command.kind ≡ Kind.Run }
+    ensures one_thread { IfOk result (λ t. IsReport command.kind workload.now command.history t.items) }
 {
     match command.kind {
         Kind::Solo => solo_text(alloc, workload, command.history),
         Kind::Replay => replay_text(alloc, workload, command.history),
+        Kind::Run => run_text(rt, alloc, workload, command.history),
     }
 }

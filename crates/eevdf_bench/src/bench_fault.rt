@@ -1,4 +1,5 @@
 use crate::load_fault::LoadFault;
+use eevdf_fleet::RunFault;
 use eevdf_steps::PlayFault;
 use thiserror::Error;
 
@@ -11,6 +12,9 @@ pub enum BenchFault {
     /// The order can't be played.
     #[error("a bad order: {0:?}")]
     Play(PlayFault),
+    /// The programs couldn't be run by threads.
+    #[error("the programs can't be run: {0:?}")]
+    Run(RunFault),
     /// The reader failed.
     #[error("reading failed")]
     Read,

@@ -19,6 +19,8 @@ pub enum Kind {
     Solo,
     /// It plays the programs' steps in the order that the workload gives.
     Replay,
+    /// It runs the programs at the same time, each by a thread of its own.
+    Run,
 }
 
 /// What the program's words ask for.
@@ -93,7 +95,8 @@ fn program<'a>(alloc: Global) -> Result<clap::Command<'a>, AllocError>
         .disable_help_flag(true)
         .disable_help_subcommand(true)
         .subcommand(subcommand(alloc, "solo")?)?
-        .subcommand(subcommand(alloc, "replay")?)
+        .subcommand(subcommand(alloc, "replay")?)?
+        .subcommand(subcommand(alloc, "run")?)
 }
 
 // A subcommand with its flag.
@@ -130,6 +133,7 @@ fn kind_named(word: &str) -> Option<Kind>
     match word {
         "solo" => Some(Kind::Solo),
         "replay" => Some(Kind::Replay),
+        "run" => Some(Kind::Run),
         _ => None,
     }
 }

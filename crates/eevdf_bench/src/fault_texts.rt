@@ -6,6 +6,7 @@ ghost use Rattle.eevdf_bench.specs.TextFault as texts;
 use crate::bench_fault::BenchFault;
 use crate::load_fault::{Key, LoadFault};
 use crate::text_numbers::{push_number, push_task};
+use eevdf_fleet::RunFault;
 use eevdf_ops::SetupFault;
 use eevdf_steps::PlayFault;
 use std::alloc::{AllocError, Global};
@@ -21,8 +22,8 @@ pub fn fault_text(alloc: Global, fault: &BenchFault) -> Result<Vec<u8>, AllocErr
     Ok(text)
 }
 
-/// The program's status after a fault: 1 where the workload or its order is refused, 3 where memory, reading or writing
-/// failed.
+/// The program's status after a fault: 1 where the workload or its order is refused, 3 where memory, a thread, reading or
+/// writing failed.
 pub fn status_of(fault: &BenchFault) -> u8
     ensures { result ≡ texts.status_of fault.now }
 {
@@ -31,7 +32,7 @@ pub fn status_of(fault: &BenchFault) -> u8
         BenchFault::Load(LoadFault::Setup(SetupFault::Memory)) => 3,
         BenchFault::Play(PlayFault::Memory) => 3,
         BenchFault::Load(_) | BenchFault::Play(_) => 1,
-        BenchFault::Read | BenchFault::Write | BenchFault::Memory => 3,
+        BenchFault::Run(_) | BenchFault::Read | BenchFault::Write | BenchFault::Memory => 3,
     }
 }
 
@@ -41,6 +42,8 @@ fn push_bench_fault(text: &mut Vec<u8>, fault: BenchFault) -> Result<(), AllocEr
     match fault {
         BenchFault::Load(fault) => push_load_fault(text, fault),
         BenchFault::Play(fault) => push_play_fault(text, fault),
+        BenchFault::Run(RunFault::Memory) => text.extend_from_slice(b"memory"),
+        BenchFault::Run(RunFault::Start) => text.extend_from_slice(b"thread"),
         BenchFault::Read => text.extend_from_slice(b"reading"),
         BenchFault::Write => text.extend_from_slice(b"writing"),
         BenchFault::Memory => text.extend_from_slice(b"memory"),
@@ -322,6 +325,8 @@ mod tests {
                 "fault: order short at 2\n",
             ),
             (BenchFault::Play(PlayFault::Memory), 3, "fault: memory\n"),
+            (BenchFault::Run(RunFault::Memory), 3, "fault: memory\n"),
+            (BenchFault::Run(RunFault::Start), 3, "fault: thread\n"),
             (BenchFault::Read, 3, "fault: reading\n"),
             (BenchFault::Write, 3, "fault: writing\n"),
             (BenchFault::Memory, 3, "fault: memory\n"),

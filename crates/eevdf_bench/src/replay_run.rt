@@ -1,10 +1,11 @@
 //! Playing a workload's order.
 
 ghost use Rattle.std.specs.Prelude.{◌≡◌, IfOk};
-ghost use Rattle.eevdf_bench.specs.Replays.{IsReplay};
+ghost use Rattle.eevdf_bench.specs.Reports.{IsReport};
 ghost use Rattle.eevdf_bench.specs.Runs.{Makes, play_refusal, replay_report};
 
 use crate::bench_fault::BenchFault;
+use crate::command_words::Kind;
 use crate::load_fault::{Key, LoadFault};
 use crate::loaded_workload::Workload;
 use crate::text_report::report;
@@ -16,7 +17,7 @@ use std::alloc::Global;
 /// played to its end, with its fault; running out of memory is the only other refusal.
 pub fn replay_text(alloc: Global, workload: &Workload, history: bool) -> Result<Vec<u8>, BenchFault>
     ensures report { Makes (replay_report workload.now history) result }
-    ensures one_thread { IfOk result (λ t. IsReplay workload.now history t.items) }
+    ensures one_thread { IfOk result (λ t. IsReport Kind.Replay workload.now history t.items) }
 {
     let Some(order) = workload.order() else {
         return Err(BenchFault::Load(LoadFault::Missing { key: Key::Orders }));

@@ -1,8 +1,11 @@
 //! Running a workload's script in one thread.
 
+ghost use Rattle.std.specs.Prelude.{IfOk};
+ghost use Rattle.eevdf_bench.specs.Reports.{IsReport};
 ghost use Rattle.eevdf_bench.specs.Runs.{Makes, solo_report};
 
 use crate::bench_fault::BenchFault;
+use crate::command_words::Kind;
 use crate::load_fault::{Key, LoadFault};
 use crate::loaded_workload::Workload;
 use crate::text_report::report;
@@ -12,7 +15,8 @@ use std::alloc::Global;
 /// The report of the workload's script, done deed by deed in one thread. A workload without a script is refused
 /// before anything else is done (`Missing`); running out of memory is the only other refusal.
 pub fn solo_text(alloc: Global, workload: &Workload, history: bool) -> Result<Vec<u8>, BenchFault>
-    ensures { Makes (solo_report workload.now history) result }
+    ensures report { Makes (solo_report workload.now history) result }
+    ensures one_thread { IfOk result (λ t. IsReport Kind.Solo workload.now history t.items) }
 {
     let Some(deeds) = workload.script() else {
         return Err(BenchFault::Load(LoadFault::Missing { key: Key::Scripts }));

@@ -7,7 +7,7 @@ use Rattle.std.specs.Io.KnownBytes.{Appends}
 use Rattle.eevdf_bench.specs.declared.load_fault.LoadFault.{LoadFault}
 use Rattle.eevdf_bench.specs.declared.load_fault.LoadFault.TheVariants.{TooLarge}
 use Rattle.eevdf_bench.specs.declared.bench_fault.BenchFault.{BenchFault}
-use Rattle.eevdf_bench.specs.declared.bench_fault.BenchFault.TheVariants.{Load, Memory, Play, Read, Write}
+use Rattle.eevdf_bench.specs.declared.bench_fault.BenchFault.TheVariants.{Load, Memory, Play, Read, Run, Write}
 use Rattle.eevdf_bench.specs.Meaning.{Workload, document_of, meaning, workload_of}
 use Rattle.eevdf_bench.specs.MeaningSteps.{◌>>=◌}
 use Rattle.eevdf_bench.specs.Streams.{HasBegun}
@@ -51,6 +51,7 @@ refused_for : (all input : List ℕ) (f : BenchFault) → input ≡ take 1677721
 refused_for all input (Load e) cut (inl m) = inl m
 refused_for all input (Load e) cut (inr m) = inr (sym (meaning_cut all) ∙ sym (ap (λ (bytes : List ℕ). meaning bytes) cut) ∙ m)
 refused_for all input (Play f) cut h = (h.0, subst (λ (bytes : List ℕ). HasNoOrder bytes) (uncut all input h.1.workload cut h.1.read) h.1)
+refused_for all input (Run f) cut h = elim h [ ]
 refused_for all input Memory cut h = tt
 refused_for all input Read cut h = tt
 refused_for all input Write cut h = tt

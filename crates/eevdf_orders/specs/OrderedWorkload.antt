@@ -6,7 +6,7 @@ use Rattle.eevdf_steps.specs.Plan.{plan_of}
 use Rattle.eevdf_steps.specs.Orders.{play_fault}
 use Rattle.eevdf_bench.specs.declared.load_fault.LoadFault.TheVariants.{Memory as NoMemory}
 use Rattle.eevdf_bench.specs.declared.bench_fault.BenchFault.{BenchFault}
-use Rattle.eevdf_bench.specs.declared.bench_fault.BenchFault.TheVariants.{Load, Memory, Play, Read, Write}
+use Rattle.eevdf_bench.specs.declared.bench_fault.BenchFault.TheVariants.{Load, Memory, Play, Read, Run, Write}
 use Rattle.eevdf_bench.specs.Meaning.{Workload, meaning}
 use Rattle.eevdf_bench.specs.Streams.{HasBegun}
 use Rattle.eevdf_orders.specs.declared.print_fault.PrintFault.{PrintFault}
@@ -35,10 +35,11 @@ pub record HasNoOrder (input : List ℕ) : Type 0 where
   pub faulty : (order : List ℕ) → is_some (play_fault (plan_of workload.setup) order) ≡ true
 
 -- why a workload gets no order: its own fault, no order without a fault, or out of memory; reading and writing
--- have faults of their own
+-- have faults of their own, and nothing is run
 abbrev pub RefusesFor : List ℕ → BenchFault → Type 0
 RefusesFor input (Load e) = (e ≡ NoMemory) ⊎ (meaning input ≡ Err e)
 RefusesFor input (Play f) = (f ≡ TooLong) × HasNoOrder input
+RefusesFor input (Run f) = ⊥
 RefusesFor input Memory = Unit {0}
 RefusesFor input Read = Unit {0}
 RefusesFor input Write = Unit {0}

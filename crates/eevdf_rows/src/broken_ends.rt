@@ -5,7 +5,9 @@ use eevdf_bench::{BenchFault, Command, Watched, engine, fault_text, status_of};
 use std::alloc::Global;
 use std::io;
 use std::io::{ErrorKind, Read, Write};
+use std::sync::Wait;
 use std::test::Fail;
+use std::thread::Threads;
 
 /// What the engine is to do, and what it writes where neither end fails.
 struct Case {
@@ -90,19 +92,29 @@ impl Write for Sink {
 }
 
 /// What the engine answers for a reader that fails after so many reads, and what it wrote.
-fn read_from(alloc: Global, case: &Case, reads: usize) -> (Result<(), BenchFault>, Vec<u8>) {
+fn read_from<R: Threads + Wait + Sync>(
+    rt: &R,
+    alloc: Global,
+    case: &Case,
+    reads: usize,
+) -> (Result<(), BenchFault>, Vec<u8>) {
     let rest = case.workload;
     let mut reader = Watched::new(Pieces { rest, reads });
     let mut writer = Watched::new(Vec::new(alloc));
-    let result = engine(alloc, &mut reader, &mut writer, case.command);
+    let result = engine(rt, alloc, &mut reader, &mut writer, case.command);
     (result, writer.into_inner())
 }
 
 /// What the engine answers for a writer, and what became of the writer.
-fn write_to(alloc: Global, case: &Case, sink: Sink) -> (Result<(), BenchFault>, Sink) {
+fn write_to<R: Threads + Wait + Sync>(
+    rt: &R,
+    alloc: Global,
+    case: &Case,
+    sink: Sink,
+) -> (Result<(), BenchFault>, Sink) {
     let mut reader = Watched::new(case.workload);
     let mut writer = Watched::new(sink);
-    let result = engine(alloc, &mut reader, &mut writer, case.command);
+    let result = engine(rt, alloc, &mut reader, &mut writer, case.command);
     (result, writer.into_inner())
 }
 
@@ -112,7 +124,7 @@ fn each_read_can_fail(rt: HostRuntime) -> Result<(), Fail> {
         // The last read is the one that meets the end.
         let reads = case.workload.len().div_ceil(PIECE) + 1;
         for before in 0..reads {
-            let (result, written) = read_from(rt.alloc(), case, before);
+            let (result, written) = read_from(&rt, rt.alloc(), case, before);
             let fault = result.err().ok_or("a read failed")?;
             assert!(rt; fault == BenchFault::Read, "after {before} reads");
             assert!(rt; written.is_empty(), "after {before} reads");
@@ -120,7 +132,7 @@ fn each_read_can_fail(rt: HostRuntime) -> Result<(), Fail> {
             assert!(rt; line.as_slice() == b"fault: reading\n".as_slice());
             assert!(rt; status_of(&fault) == 3);
         }
-        let (result, written) = read_from(rt.alloc(), case, reads);
+        let (result, written) = read_from(&rt, rt.alloc(), case, reads);
         assert!(rt; result == Ok(()));
         assert!(rt; written.as_slice() == case.report);
     }
@@ -130,7 +142,7 @@ fn each_read_can_fail(rt: HostRuntime) -> Result<(), Fail> {
 #[test]
 fn a_writer_can_break_off(rt: HostRuntime) {
     for case in &CASES {
-        let (result, sink) = write_to(rt.alloc(), case, Sink::new(rt.alloc(), 1000, 10));
+        let (result, sink) = write_to(&rt, rt.alloc(), case, Sink::new(rt.alloc(), 1000, 10));
         assert!(rt; result == Err(BenchFault::Write));
         assert!(rt; sink.taken.as_slice() == b"cpu 0\npick".as_slice());
     }
@@ -139,7 +151,7 @@ fn a_writer_can_break_off(rt: HostRuntime) {
 #[test]
 fn a_writer_can_take_a_byte_a_call(rt: HostRuntime) {
     for case in &CASES {
-        let (result, sink) = write_to(rt.alloc(), case, Sink::new(rt.alloc(), 1, 1000));
+        let (result, sink) = write_to(&rt, rt.alloc(), case, Sink::new(rt.alloc(), 1, 1000));
         assert!(rt; result == Ok(()));
         assert!(rt; sink.taken.as_slice() == case.report);
         assert!(rt; sink.flushed_at == Some(case.report.len()));
@@ -149,7 +161,7 @@ fn a_writer_can_take_a_byte_a_call(rt: HostRuntime) {
 #[test]
 fn a_writer_can_take_nothing(rt: HostRuntime) {
     for case in &CASES {
-        let (result, sink) = write_to(rt.alloc(), case, Sink::new(rt.alloc(), 0, 1000));
+        let (result, sink) = write_to(&rt, rt.alloc(), case, Sink::new(rt.alloc(), 0, 1000));
         assert!(rt; result == Err(BenchFault::Write));
         assert!(rt; sink.taken.is_empty());
     }
@@ -162,7 +174,7 @@ fn a_flush_can_fail(rt: HostRuntime) {
             flushes: false,
             ..Sink::new(rt.alloc(), 1000, 1000)
         };
-        let (result, sink) = write_to(rt.alloc(), case, sink);
+        let (result, sink) = write_to(&rt, rt.alloc(), case, sink);
         assert!(rt; result == Err(BenchFault::Write));
         assert!(rt; sink.taken.as_slice() == case.report);
     }

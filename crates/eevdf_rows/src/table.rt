@@ -3,6 +3,8 @@
 use eevdf_bench::{Command, Kind, Watched, engine, fault_text, status_of};
 use std::alloc::{AllocError, Global};
 use std::process::Abort;
+use std::sync::Wait;
+use std::thread::Threads;
 
 pub const SOLO: Command = Command {
     kind: Kind::Solo,
@@ -24,6 +26,16 @@ pub const REPLAY_WITH_HISTORY: Command = Command {
     history: true,
 };
 
+pub const RUN: Command = Command {
+    kind: Kind::Run,
+    history: false,
+};
+
+pub const RUN_WITH_HISTORY: Command = Command {
+    kind: Kind::Run,
+    history: true,
+};
+
 /// A workload, and what the program prints for it and ends with.
 #[derive(Clone, Copy)]
 pub struct Row {
@@ -35,8 +47,12 @@ pub struct Row {
 }
 
 /// Runs the engine over memory, and compares what it comes to with the row.
-pub fn check(rt: &impl Abort, alloc: Global, row: &Row) -> Result<(), AllocError> {
-    let (printed, status) = run(alloc, row.workload, row.command)?;
+pub fn check<R: Threads + Wait + Abort + Sync>(
+    rt: &R,
+    alloc: Global,
+    row: &Row,
+) -> Result<(), AllocError> {
+    let (printed, status) = run(rt, alloc, row.workload, row.command)?;
     assert!(rt;
         printed.as_slice() == row.printed.as_bytes(),
         "printed: {}",
@@ -47,10 +63,15 @@ pub fn check(rt: &impl Abort, alloc: Global, row: &Row) -> Result<(), AllocError
 }
 
 /// What is printed for a workload, and the exit status.
-pub fn run(alloc: Global, workload: &[u8], command: Command) -> Result<(Vec<u8>, u8), AllocError> {
+pub fn run<R: Threads + Wait + Sync>(
+    rt: &R,
+    alloc: Global,
+    workload: &[u8],
+    command: Command,
+) -> Result<(Vec<u8>, u8), AllocError> {
     let mut reader = Watched::new(workload);
     let mut writer = Watched::new(Vec::new(alloc));
-    match engine(alloc, &mut reader, &mut writer, command) {
+    match engine(rt, alloc, &mut reader, &mut writer, command) {
         Ok(()) => Ok((writer.into_inner(), 0)),
         Err(fault) => Ok((fault_text(alloc, &fault)?, status_of(&fault))),
     }

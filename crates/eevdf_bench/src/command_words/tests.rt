@@ -24,7 +24,12 @@ fn solo_is_read(rt: HostRuntime) -> Result<(), Fail> {
 #[test]
 fn each_command_has_its_flag(rt: HostRuntime) {
     let alloc = rt.alloc();
-    for (name, kind) in [("solo", Kind::Solo), ("replay", Kind::Replay)] {
+    let commands = [
+        ("solo", Kind::Solo),
+        ("replay", Kind::Replay),
+        ("run", Kind::Run),
+    ];
+    for (name, kind) in commands {
         let plain = Command {
             kind,
             history: false,
@@ -59,7 +64,7 @@ fn other_words_are_refused(rt: HostRuntime) {
     assert!(rt; is_refused(alloc, &["eevdf", "stop"]));
     assert!(rt; is_refused(alloc, &["eevdf", "solo", "x"]));
     assert!(rt; is_refused(alloc, &["eevdf", "solo", "replay"]));
-    assert!(rt; is_refused(alloc, &["eevdf", "run"]));
+    assert!(rt; is_refused(alloc, &["eevdf", "run", "run"]));
 }
 
 #[test]

@@ -1,0 +1,55 @@
+-- What the text of a command says: a history of one thread that does what the workload asks for.
+use Rattle.std.specs.List.{list_all}
+use Rattle.std.specs.Prelude.{◌≡◌, ℕ, Bool, true, List, Option, Some, Ok}
+use Rattle.std.specs.Io.KnownBytes.{Appends}
+use Rattle.eevdf_ops.specs.Followed.{FollowsPrograms}
+use Rattle.eevdf_ops.specs.Histories.{IsOneThread}
+use Rattle.eevdf_ops.specs.Machine.{start}
+use Rattle.eevdf_ops.specs.Outcome.{Outcome, machine_of}
+use Rattle.eevdf_ops.specs.Places.{IsPlaced}
+use Rattle.eevdf_ops.specs.Programs.{deeds_of}
+use Rattle.eevdf_ops.specs.Setup.{allows, homes_of}
+use Rattle.eevdf_steps.specs.Plan.{plan_of}
+use Rattle.eevdf_steps.specs.Orders.{IsWhole, counters_at_start}
+use Rattle.eevdf_steps.specs.Commits.{deeds_committed}
+use Rattle.eevdf_bench.specs.declared.command_words.Command.{Command}
+use Rattle.eevdf_bench.specs.declared.command_words.Kind.{Kind}
+use Rattle.eevdf_bench.specs.declared.command_words.Kind.TheVariants.{Solo, Replay, Run}
+use Rattle.eevdf_bench.specs.Meaning.{Workload, meaning}
+use Rattle.eevdf_bench.specs.TextReport.{report_text}
+
+-- the workload's order is lawful and complete, the deeds of the lines are those that it commits, and they follow the programs
+pub record IsPlayed (w : Workload) (o : Outcome) : Type 0 where
+  pub order : List ℕ
+  pub listed : w.order ≡ Some order
+  pub whole : IsWhole (plan_of w.setup) (counters_at_start (plan_of w.setup)) order
+  pub deeds : deeds_of o.lines ≡ deeds_committed w.setup order
+  pub programs : FollowsPrograms w.setup o
+
+-- what the lines have to do with the workload: they do its script, or its order, or else its programs
+abbrev pub DoesWorkload : Kind → Workload → Outcome → Type 0
+DoesWorkload Solo w o = w.script ≡ Some (deeds_of o.lines)
+DoesWorkload Replay w o = IsPlayed w o
+DoesWorkload Run w o = FollowsPrograms w.setup o
+
+-- the text is the report of an outcome: that of one thread that does the deeds of its lines one after the other, each as a whole
+-- operation that the setup allows; after them each task stands in one place, and the lines do what the workload asks for
+pub record IsReport (kind : Kind) (w : Workload) (history : Bool) (text : List ℕ) : Type 0 where
+  pub outcome : Outcome
+  pub one_thread : IsOneThread (homes_of w.setup) (start w.setup) (deeds_of outcome.lines) outcome
+  pub allowed : list_all (allows w.setup) (deeds_of outcome.lines) ≡ true
+  pub places : IsPlaced (homes_of w.setup) (machine_of outcome.queues)
+  pub does : DoesWorkload kind w outcome
+  pub says : text ≡ report_text outcome.lines (machine_of outcome.queues) outcome.left history
+
+-- the same of the bytes of a workload
+pub record IsReportOf (c : Command) (input text : List ℕ) : Type 0 where
+  pub workload : Workload
+  pub means : meaning input ≡ Ok workload
+  pub report : IsReport c.kind workload c.history text
+
+-- and the text was written after what was there
+pub record WritesReport (c : Command) (input : List ℕ) (held held' : Option (List ℕ)) : Type 0 where
+  pub text : List ℕ
+  pub report : IsReportOf c input text
+  pub written : Appends held held' text

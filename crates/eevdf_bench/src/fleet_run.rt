@@ -1,0 +1,45 @@
+//! Running a workload's programs by threads.
+
+ghost use Rattle.std.specs.Prelude.{◌≡◌, ◌⊎◌, IfOk, IfErr};
+ghost use Rattle.eevdf_bench.specs.Reports.{IsReport};
+ghost use Rattle.eevdf_bench.specs.Runs.{run_refusal};
+
+use crate::bench_fault::BenchFault;
+use crate::command_words::Kind;
+use crate::loaded_workload::Workload;
+use crate::text_report::report;
+use eevdf_fleet::{OpenGate, RunFault, run_all};
+use std::alloc::Global;
+use std::sync::Wait;
+use std::thread::Threads;
+
+/// The report of what the workload's programs come to, each run by a thread of its own, with the requests that are left.
+/// The order and the script are not used. Which of the histories of the programs it is depends on the order in which the
+/// threads came. `Run(Start)` where a thread was refused; running out of memory is the only other refusal.
+pub fn run_text<R: Threads + Wait + Sync>(
+    rt: &R,
+    alloc: Global,
+    workload: &Workload,
+    history: bool,
+) -> Result<Vec<u8>, BenchFault>
+    ensures report { IfOk result (λ t. IsReport Kind.Run workload.now history t.items) }
+    ensures refused { IfErr result (λ f. (f ≡ BenchFault.Run RunFault.Start) ⊎ (f ≡ BenchFault.Memory)) }
+{
+    let outcome = match run_all(rt, alloc, workload.setup(), &OpenGate) {
+        Ok(outcome) => outcome,
+        Err(fault) => return Err(refusal(fault)),
+    };
+    match report(alloc, &outcome, history) {
+        Ok(text) => Ok(text),
+        Err(_) => Err(BenchFault::Memory),
+    }
+}
+
+fn refusal(fault: RunFault) -> BenchFault
+    ensures { result ≡ run_refusal fault }
+{
+    match fault {
+        RunFault::Memory => BenchFault::Memory,
+        RunFault::Start => BenchFault::Run(fault),
+    }
+}
