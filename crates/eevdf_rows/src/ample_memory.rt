@@ -1,6 +1,7 @@
 //! Calls that can want memory, each with ample memory.
 
-use eevdf_bench::{read_workload, replay_text, report, solo_text};
+use eevdf_bench::{read_workload, replay_text, report, run_text, solo_text};
+use eevdf_fleet::{OpenGate, run_all};
 use eevdf_ops::one_thread::solo;
 use eevdf_ops::{Answer, CpuId, Deed, Outcome, Setup, Solo, TaskSpec};
 use eevdf_queue::TaskId;
@@ -98,6 +99,30 @@ fn a_workload_is_read_and_replayed(rt: HostRuntime) -> Result<(), Fail> {
     let order = [0, 0, 0, 0];
     assert!(rt; workload.order() == Some(order.as_slice()));
     let text = replay_text(rt.alloc(), &workload, false)
+        .ok()
+        .ok_or("text")?;
+    let want = "cpu 0\npick: idle\nload 0 floor 0\nasleep 0 lag 0\n";
+    assert!(rt; text.as_slice() == want.as_bytes());
+    Ok(())
+}
+
+#[test]
+fn programs_are_run_by_threads(rt: HostRuntime) -> Result<(), Fail> {
+    let bytes = b"version = 1\nprogram = [[\"pick\"], []]\n[[task]]\n";
+    let workload = read_workload(rt.alloc(), bytes).ok().ok_or("workload")?;
+    let outcome = run_all(&rt, rt.alloc(), workload.setup(), &OpenGate)?;
+    assert!(rt; outcome.cpus() == 2);
+    let history = outcome.history();
+    assert!(rt; history.len() == 1);
+    assert!(rt; history[0].answer == Answer::Picked(TaskId::new(0).ok_or("task")?));
+    Ok(())
+}
+
+#[test]
+fn a_workload_is_read_and_run_by_threads(rt: HostRuntime) -> Result<(), Fail> {
+    let bytes = b"version = 1\nprogram = [[\"pick\"]]\n[[task]]\nasleep = true\n";
+    let workload = read_workload(rt.alloc(), bytes).ok().ok_or("workload")?;
+    let text = run_text(&rt, rt.alloc(), &workload, false)
         .ok()
         .ok_or("text")?;
     let want = "cpu 0\npick: idle\nload 0 floor 0\nasleep 0 lag 0\n";

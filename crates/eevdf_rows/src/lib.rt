@@ -1,6 +1,6 @@
 //! Tests that cross the crates: worked examples as tables of what is read and what is printed, each run by the
-//! workbench's engine over memory, every order of the steps of small workloads, worked values of single calls, and
-//! drawn operations of a fleet by several threads.
+//! workbench's engine over memory, every order of the steps of small workloads, worked values of single calls, drawn
+//! operations of a fleet by several threads, and programs that threads run.
 #![tactic(auto)]
 
 #[cfg(test)]
@@ -18,11 +18,19 @@ mod many_cpus;
 #[cfg(test)]
 mod nice_levels;
 #[cfg(test)]
+mod one_place;
+#[cfg(test)]
+mod one_thread_again;
+#[cfg(test)]
 mod ready_callers;
 #[cfg(test)]
 mod refusals;
 #[cfg(test)]
 mod replays;
+#[cfg(test)]
+mod runs;
+#[cfg(test)]
+mod same_end;
 #[cfg(test)]
 mod schedules;
 #[cfg(test)]
@@ -31,5 +39,7 @@ mod several_cpus;
 mod stress;
 #[cfg(test)]
 mod table;
+#[cfg(test)]
+mod threads;
 #[cfg(test)]
 mod versions;

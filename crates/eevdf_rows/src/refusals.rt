@@ -1,6 +1,8 @@
 //! Workloads and words that are refused.
 
-use crate::table::{REPLAY, REPLAY_WITH_HISTORY, Row, SOLO, SOLO_WITH_HISTORY, check};
+use crate::table::{
+    REPLAY, REPLAY_WITH_HISTORY, RUN, RUN_WITH_HISTORY, Row, SOLO, SOLO_WITH_HISTORY, check,
+};
 use eevdf_bench::{WordFault, command_of};
 use std::test::Fail;
 
@@ -163,6 +165,9 @@ fn only_known_commands_are_taken(rt: HostRuntime) {
     let replay = ["eevdf", "replay", "--history"];
     assert!(rt; command_of(rt.alloc(), &replay[..2]) == Ok(REPLAY));
     assert!(rt; command_of(rt.alloc(), replay.as_slice()) == Ok(REPLAY_WITH_HISTORY));
+    let run = ["eevdf", "run", "--history"];
+    assert!(rt; command_of(rt.alloc(), &run[..2]) == Ok(RUN));
+    assert!(rt; command_of(rt.alloc(), run.as_slice()) == Ok(RUN_WITH_HISTORY));
     let alone = ["eevdf"];
     assert!(rt; command_of(rt.alloc(), alone.as_slice()) == Err(WordFault::Words));
     let other = ["eevdf", "stop"];

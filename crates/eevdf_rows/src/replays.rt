@@ -156,7 +156,7 @@ fn every_beginning_of_an_order_is_short(rt: HostRuntime) -> Result<(), Fail> {
     ] {
         for len in 0..order.len() {
             let workload = ordered(rt.alloc(), &order[..len], rest)?;
-            let (printed, status) = run(rt.alloc(), workload.as_bytes(), REPLAY_WITH_HISTORY)?;
+            let (printed, status) = run(&rt, rt.alloc(), workload.as_bytes(), REPLAY_WITH_HISTORY)?;
             assert!(rt;
                 printed.as_slice() == b"fault: order short at 0\n".as_slice(),
                 "{len}"
@@ -174,7 +174,7 @@ fn a_long_order_is_refused_before_its_places(rt: HostRuntime) -> Result<(), Fail
         workload.push_str(",7")?;
     }
     workload.push_str("]\n[[task]]\n")?;
-    let (printed, status) = run(rt.alloc(), workload.as_bytes(), REPLAY)?;
+    let (printed, status) = run(&rt, rt.alloc(), workload.as_bytes(), REPLAY)?;
     assert!(rt; printed.as_slice() == b"fault: order longer than 1000000\n".as_slice());
     assert!(rt; status == 1);
     Ok(())

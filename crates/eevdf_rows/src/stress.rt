@@ -1,23 +1,18 @@
 //! Four threads do drawn operations on the CPUs of one fleet, and one thread does the deeds of its history again.
 
-ghost use Rattle.std.specs.Prelude.{◌≡◌, IfOk};
-ghost use Rattle.eevdf_ops.specs.Programs.{deeds_of};
+ghost use Rattle.std.specs.Prelude.{◌≡◌};
 ghost use Rattle.eevdf_fleet.specs.Fleets.{setup_of};
 
-mod draws;
+pub mod draws;
 mod machine;
-mod one_place;
-mod same_end;
 mod thread_seats;
 mod work;
 
+use crate::one_thread_again::check_as_one_thread;
 use eevdf_fleet::{Fleet, Kit, Names};
-use eevdf_ops::one_thread::solo;
-use eevdf_ops::{Deed, Line, Setup};
+use eevdf_ops::Setup;
 use machine::drawn_setup;
-use one_place::all_stand_once;
-use same_end::end_alike;
-use std::alloc::{AllocError, Global};
+use std::alloc::Global;
 use std::marker::Brand;
 use std::process::Abort;
 use std::sync::Wait;
@@ -42,12 +37,6 @@ const QUOTA: usize = 8000;
 
 /// So many requests of a CPU to another may wait. They are few, so that posts can be refused.
 const RINGS: usize = 4;
-
-fn deeds(alloc: Global, lines: &[Line]) -> Result<Vec<Deed>, AllocError>
-    ensures { IfOk result (λ v. v.items ≡ deeds_of lines.now) }
-{
-    lines.iter().map(|line| line.deed).collect(alloc)
-}
 
 /// What the threads do is what one thread does that goes by their history, and no task is lost or doubled.
 fn do_as_one<N: Names + Send + Sync, R: Threads + Wait + Abort + Sync>(
@@ -74,12 +63,7 @@ fn do_as_one<N: Names + Send + Sync, R: Threads + Wait + Abort + Sync>(
     let seats = seats_of(alloc, threads)?;
     assert!(rt; fleet.has_all_seats(&seats), "seed {seed}");
     let outcome = fleet.close(seats);
-    let deeds = deeds(alloc, outcome.history())?;
-    let alone = solo(alloc, setup, &deeds)?;
-    assert!(rt; alone.history() == outcome.history(), "seed {seed}");
-    assert!(rt; end_alike(&alone, &outcome), "seed {seed}");
-    assert!(rt; all_stand_once(&outcome), "seed {seed}");
-    Ok(())
+    check_as_one_thread(rt, alloc, seed, setup, &outcome)
 }
 
 #[test]

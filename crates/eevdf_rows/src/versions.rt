@@ -4,7 +4,9 @@ use crate::table::{Row, SOLO, check, run};
 use crate::{replays, schedules, several_cpus};
 use std::alloc::Global;
 use std::process::Abort;
+use std::sync::Wait;
 use std::test::Fail;
+use std::thread::Threads;
 
 const ROWS: [Row; 8] = [
     Row {
@@ -82,11 +84,15 @@ fn in_version_two(rt: &impl Abort, alloc: Global, row: &Row) -> Result<Vec<u8>, 
 }
 
 /// Each row that prints a report prints the same in version 2.
-fn check_in_version_two(rt: &impl Abort, alloc: Global, rows: &[Row]) -> Result<(), Fail> {
+fn check_in_version_two<R: Threads + Wait + Abort + Sync>(
+    rt: &R,
+    alloc: Global,
+    rows: &[Row],
+) -> Result<(), Fail> {
     for row in rows {
         if row.status == 0 {
             let workload = in_version_two(rt, alloc, row)?;
-            let (printed, status) = run(alloc, &workload, row.command)?;
+            let (printed, status) = run(rt, alloc, &workload, row.command)?;
             assert!(rt;
                 printed.as_slice() == row.printed.as_bytes(),
                 "printed: {}",
@@ -117,7 +123,7 @@ fn many_programs(alloc: Global, programs: usize) -> Result<Vec<u8>, Fail> {
 
 #[test]
 fn version_two_has_up_to_sixty_four_cpus(rt: HostRuntime) -> Result<(), Fail> {
-    let (printed, status) = run(rt.alloc(), &many_programs(rt.alloc(), 64)?, SOLO)?;
+    let (printed, status) = run(&rt, rt.alloc(), &many_programs(rt.alloc(), 64)?, SOLO)?;
     let mut report = String::new(rt.alloc());
     for cpu in 0..63 {
         report.push_str(format!(in rt.alloc(); "cpu {cpu}\nload 0 floor 0\n")?.as_str())?;
@@ -126,7 +132,7 @@ fn version_two_has_up_to_sixty_four_cpus(rt: HostRuntime) -> Result<(), Fail> {
     report.push_str("task 0 v 0 d 3000000 lag 0 running\n")?;
     assert!(rt; printed.as_slice() == report.as_bytes());
     assert!(rt; status == 0);
-    let (fault, refused) = run(rt.alloc(), &many_programs(rt.alloc(), 65)?, SOLO)?;
+    let (fault, refused) = run(&rt, rt.alloc(), &many_programs(rt.alloc(), 65)?, SOLO)?;
     assert!(rt; fault.as_slice() == b"fault: number of cpus\n".as_slice());
     assert!(rt; refused == 1);
     Ok(())

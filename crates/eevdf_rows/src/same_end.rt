@@ -1,23 +1,22 @@
 //! Whether two runs end alike.
 
-use super::machine::{CPUS, TASKS};
 use eevdf_ops::Outcome;
 use eevdf_queue::{Queue, TaskId};
 
-/// Whether two runs leave the same queues, as far as their functions tell.
-pub fn end_alike(one: &Outcome, other: &Outcome) -> bool {
-    if one.cpus() as u64 != CPUS || one.cpus() != other.cpus() {
+/// Whether two runs of so many tasks leave the same queues, as far as their functions tell.
+pub fn end_alike(one: &Outcome, other: &Outcome, tasks: u64) -> bool {
+    if one.cpus() != other.cpus() {
         return false;
     }
     for cpu in 0..one.cpus() {
-        if !are_alike(one.queue(cpu), other.queue(cpu)) {
+        if !are_alike(one.queue(cpu), other.queue(cpu), tasks) {
             return false;
         }
     }
     true
 }
 
-fn are_alike(one: &Queue, other: &Queue) -> bool {
+fn are_alike(one: &Queue, other: &Queue, tasks: u64) -> bool {
     if one.len() != other.len()
         || one.load() != other.load()
         || one.running() != other.running()
@@ -25,7 +24,7 @@ fn are_alike(one: &Queue, other: &Queue) -> bool {
     {
         return false;
     }
-    for number in 0..TASKS {
+    for number in 0..tasks {
         if !have_alike(one, other, number) {
             return false;
         }

@@ -1,12 +1,11 @@
 //! Whether a run has lost or doubled a task.
 
-use super::machine::TASKS;
 use eevdf_ops::Outcome;
 use eevdf_queue::TaskId;
 
-/// Whether each task stands in one place: it is runnable on one CPU, or asleep on one.
-pub fn all_stand_once(outcome: &Outcome) -> bool {
-    for number in 0..TASKS {
+/// Whether each of so many tasks stands in one place: it is runnable on one CPU, or asleep on one.
+pub fn all_stand_once(outcome: &Outcome, tasks: u64) -> bool {
+    for number in 0..tasks {
         if places_of(outcome, number) != 1 {
             return false;
         }

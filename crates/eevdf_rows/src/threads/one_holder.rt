@@ -1,0 +1,55 @@
+//! A lock that two CPUs want is held by one of them at a time.
+
+use eevdf_bench::read_workload;
+use eevdf_fleet::{Gate, run_all};
+use eevdf_ops::CpuId;
+use std::hint::spin_loop;
+use std::sync::atomic::{AtomicBool, AtomicU64, Ordering};
+use std::test::Fail;
+
+/// So many turns each operation stays inside.
+const TURNS: u64 = 10_000_000;
+
+/// Counts the operations that are inside, each of which stays there for long, and keeps whether there were two at once.
+#[derive(Drop)]
+struct CountingGate {
+    inside: AtomicU64,
+    were_two: AtomicBool,
+}
+
+impl CountingGate {
+    fn note(&self, others: u64) {
+        if others != 0 {
+            self.were_two.store(true, Ordering::SeqCst);
+        }
+    }
+}
+
+impl Gate for CountingGate {
+    fn inside(&self, _cpu: CpuId, _n: usize) {
+        self.note(self.inside.fetch_add(1, Ordering::SeqCst));
+        for _turn in 0..TURNS {
+            spin_loop();
+        }
+        self.inside.fetch_sub(1, Ordering::SeqCst);
+    }
+
+    fn acted(&self, _cpu: CpuId, _n: usize) {}
+
+    fn answered(&self, _cpu: CpuId, _n: usize) {}
+}
+
+#[test]
+fn a_pull_and_a_pick_of_one_queue_are_inside_one_after_the_other(
+    rt: HostRuntime,
+) -> Result<(), Fail> {
+    let text = b"version = 1\nprogram = [[\"pick\"], [\"pull 0\"]]\n[[task]]\n";
+    let workload = read_workload(rt.alloc(), text).ok().ok_or("workload")?;
+    let gate = CountingGate {
+        inside: AtomicU64::new(0),
+        were_two: AtomicBool::new(false),
+    };
+    let _outcome = run_all(&rt, rt.alloc(), workload.setup(), &gate)?;
+    assert!(rt; !gate.were_two.load(Ordering::SeqCst));
+    Ok(())
+}
