@@ -3,10 +3,15 @@
 import re
 from dataclasses import dataclass
 
-from plain.bench import answer, order_refusal
+from plain.bench import answer, fault_line, order_refusal
 from plain.document import MARK
-from plain.limits import BYTES
+from plain.fault import Fault
+from plain.limits import BYTES, VERSIONS
+from plain.machine import is_allowed
+from plain.report import report
+from plain.runs import run
 from plain.steps import Player, count_of_steps, play
+from plain.words import deed_of
 from plain.workload import read_workload
 from programs import outcome
 
@@ -25,7 +30,34 @@ def compared(what, said, expected):
     return None if said == expected else Difference(what, said, expected)
 
 
+def history_of(setup, text):
+    """The deeds of the history at the end of a report, or None where it has none that the setup allows."""
+    found = re.fullmatch(rb"(?:.*\n)?script = \[\n((?:\".*\",\n)*)\]\n", text, re.DOTALL)
+    if found is None:
+        return None
+    deeds = [deed_of(VERSIONS[2], line[1:-2]) for line in found[1].decode().splitlines()]
+    if not all(deed is not None and is_allowed(setup, *deed) for deed in deeds):
+        return None
+    return deeds
+
+
+def check_run(programs, data):
+    """A run by threads, whose history has to be one of the programs, and its report that of one thread."""
+    said = programs.run("eevdf", ("run", "--history"), data)
+    try:
+        setup = read_workload(data).setup
+    except Fault as fault:
+        return compared("eevdf run", said, outcome(fault_line(fault), 1))
+    history = history_of(setup, said.out)
+    expected = None if history is None else run(setup, history)
+    if expected is None:
+        return Difference("history of eevdf run", said, None)
+    return compared("eevdf run", said, outcome(report(expected, True), 0))
+
+
 def check_bench(programs, words, data):
+    if words[0] == "run":
+        return check_run(programs, data)
     expected = outcome(*answer(words[0], "--history" in words, data))
     return compared(f"eevdf {' '.join(words)}", programs.run("eevdf", words, data), expected)
 
@@ -91,7 +123,7 @@ OTHER_WORDS = (
     ("eevdf", ()), ("eevdf", ("stop",)), ("eevdf", ("Solo",)), ("eevdf", ("",)), ("eevdf", ("help",)),
     ("eevdf", ("--help",)), ("eevdf", ("solo", "--help")), ("eevdf", ("--history",)), ("eevdf", ("--history", "solo")),
     ("eevdf", ("solo", "replay")), ("eevdf", ("solo", "--histories")),
-    ("eevdf", ("solo", b"\xff")), ("eevdf", ("replay", "file")),
+    ("eevdf", ("solo", b"\xff")), ("eevdf", ("replay", "file")), ("eevdf", ("run", "1")),
     ("eevdf_orders", ("7",)), ("eevdf_orders", ("--help",)), ("eevdf_orders", ("--seed",)), ("eevdf_orders", ("--seed", "")),
     ("eevdf_orders", ("--seed", "-1")), ("eevdf_orders", ("--seed", "1.0")), ("eevdf_orders", ("--seed", "x")),
     ("eevdf_orders", ("--seed", "++1")), ("eevdf_orders", ("--seed", "18446744073709551616")),

@@ -33,8 +33,11 @@ def command(dice, name):
     return (name, "--history") if dice.random() < 0.4 else (name,)
 
 
+RUN = ("run", "--history")
+
+
 def any_command(dice):
-    return command(dice, dice.choice(("solo", "replay")))
+    return RUN if dice.random() < 0.2 else command(dice, dice.choice(("solo", "replay")))
 
 
 def solo(dice, version):
@@ -52,6 +55,13 @@ def replay_of(dice, version, kind, draw_order):
 
 def replay(dice, version):
     return replay_of(dice, version, "replay", orders.whole_order)
+
+
+def run(dice, version):
+    setup, script = machines.setup(dice, version)
+    order = orders.whole_order(dice, setup) if dice.random() < 0.1 else None
+    document = documents.document(dice, version, setup, order, script if dice.random() < 0.1 else None)
+    return Case("run", "eevdf", RUN, text_of(dice, document))
 
 
 def broken(dice, version):
@@ -115,7 +125,7 @@ def limits(dice, version):
     return Case("limits", program, words, data)
 
 
-KINDS = {solo: 26, replay: 18, broken: 10, values: 22, damage: 14, ordered: 12, refused: 5, limits: 0.6}
+KINDS = {solo: 26, replay: 18, run: 18, broken: 10, values: 22, damage: 14, ordered: 12, refused: 5, limits: 0.6}
 
 
 def draw(dice):
