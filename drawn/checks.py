@@ -4,19 +4,15 @@ import re
 from dataclasses import dataclass
 
 from plain.bench import answer, fault_line, order_refusal
-from plain.document import MARK
 from plain.fault import Fault
 from plain.limits import BYTES, VERSIONS
 from plain.machine import is_allowed
+from plain.made_order import made_order, ordered_text
 from plain.report import report
 from plain.runs import run
-from plain.steps import Player, count_of_steps, play
 from plain.words import deed_of
 from plain.workload import read_workload
 from programs import outcome
-
-LINE = rb"(?:\d+, ){0,31}\d+,\n"
-ORDER = re.compile(rb"order = \[\n(" + rb"(?:(?:\d+, ){31}\d+,\n)*(?:" + LINE + rb")?)\]\n")
 
 
 @dataclass(frozen=True)
@@ -62,40 +58,9 @@ def check_bench(programs, words, data):
     return compared(f"eevdf {' '.join(words)}", programs.run("eevdf", words, data), expected)
 
 
-def order_in_front(data, text):
-    """The places of the order that stands in front of the workload in a text, or None where it isn't so."""
-    mark = MARK if data.startswith(MARK) else b""
-    rest = data[len(mark):]
-    if not text.startswith(mark) or not text.endswith(rest):
-        return None
-    found = ORDER.fullmatch(text[len(mark):len(text) - len(rest)])
-    if found is None:
-        return None
-    return [int(number) for number in re.findall(rb"\d+", found[1])]
-
-
-def order_in_turn(setup):
-    """The order in which the callers take turns, and who waits for a lock is passed over."""
-    player, order, caller = Player(setup), [], 0
-    for _ in range(count_of_steps(setup)):
-        while player.refusal(caller) is not None:
-            caller = (caller + 1) % setup.cpus()
-        player.step(caller)
-        order.append(caller)
-        caller = (caller + 1) % setup.cpus()
-    return order
-
-
-def check_order(words, data, said):
-    """The output of eevdf_orders: the workload with an order in front that the model plays to its end."""
-    order = order_in_front(data, said.out)
-    if said.status != 0 or said.errors or order is None:
-        return Difference("form of the output of eevdf_orders", said, None)
-    setup = read_workload(data).setup
-    _, fault = play(setup, order)
-    if fault is not None:
-        return Difference("order of eevdf_orders", order, fault)
-    return None if words else compared("order in turn", order, order_in_turn(setup))
+def seed_of(words):
+    """The seed that the words give, or None; a `+` may stand before it."""
+    return int(words[1]) if words else None
 
 
 def check_ordered(programs, words, data):
@@ -103,11 +68,11 @@ def check_ordered(programs, words, data):
     refusal = order_refusal(data)
     if refusal is not None:
         return compared("eevdf_orders", said, outcome(b"", 1, refusal))
-    difference = check_order(words, data, said)
+    order = made_order(read_workload(data).setup, seed_of(words))
+    difference = compared("eevdf_orders", said, outcome(ordered_text(data, order), 0))
     if difference is not None or len(said.out) > BYTES:
         return difference
-    difference = compared("eevdf_orders once more", programs.run("eevdf_orders", words, data), said)
-    return difference or check_bench(programs, ("replay", "--history"), said.out)
+    return check_bench(programs, ("replay", "--history"), said.out)
 
 
 def check(programs, case):

@@ -34,18 +34,18 @@ uncut all input w cut h =
     let same : length input ≡ length (take 16777217 all) = ap (λ (bytes : List ℕ). length bytes) cut in
     cut ∙ take_all 16777217 all (omega (arith, few, same, length-take 16777217 all))
 
-ordered_whole : (all input text : List ℕ) → input ≡ take 16777217 all → IsOrdered input text → IsOrdered all text
-ordered_whole all input text cut o = subst (λ (bytes : List ℕ). IsOrdered bytes text) (uncut all input o.workload cut o.read) o
+ordered_whole : (seed : Option ℕ) (all input text : List ℕ) → input ≡ take 16777217 all → IsOrdered seed input text → IsOrdered seed all text
+ordered_whole seed all input text cut o = subst (λ (bytes : List ℕ). IsOrdered seed bytes text) (uncut all input o.workload cut o.read) o
 
-pub printed_whole : (left : Option (List ℕ)) (input text : List ℕ) (held held' : Option (List ℕ)) → IfSome left (λ all. input ≡ take 16777217 all) → IsOrdered input text
-    → Appends held held' text → IfSome left (λ all. Prints all held held')
-printed_whole None input text held held' cut o w = tt
-printed_whole (Some all) input text held held' cut o w = record { text = text; ordered = ordered_whole all input text cut o; written = w }
+pub printed_whole : (seed : Option ℕ) (left : Option (List ℕ)) (input text : List ℕ) (held held' : Option (List ℕ)) → IfSome left (λ all. input ≡ take 16777217 all) → IsOrdered seed input text
+    → Appends held held' text → IfSome left (λ all. Prints seed all held held')
+printed_whole seed None input text held held' cut o w = tt
+printed_whole seed (Some all) input text held held' cut o w = record { text = text; ordered = ordered_whole seed all input text cut o; written = w }
 
-pub begun_whole : (left : Option (List ℕ)) (input text : List ℕ) (held held' : Option (List ℕ)) → IfSome left (λ all. input ≡ take 16777217 all) → IsOrdered input text
-    → HasBegun held held' text → IfSome left (λ all. Begins all held held')
-begun_whole None input text held held' cut o w = tt
-begun_whole (Some all) input text held held' cut o w = record { text = text; ordered = ordered_whole all input text cut o; begun = w }
+pub begun_whole : (seed : Option ℕ) (left : Option (List ℕ)) (input text : List ℕ) (held held' : Option (List ℕ)) → IfSome left (λ all. input ≡ take 16777217 all) → IsOrdered seed input text
+    → HasBegun held held' text → IfSome left (λ all. Begins seed all held held')
+begun_whole seed None input text held held' cut o w = tt
+begun_whole seed (Some all) input text held held' cut o w = record { text = text; ordered = ordered_whole seed all input text cut o; begun = w }
 
 refused_for : (all input : List ℕ) (f : BenchFault) → input ≡ take 16777217 all → RefusesFor input f → RefusesFor all f
 refused_for all input (Load e) cut (inl m) = inl m
@@ -62,6 +62,6 @@ refused_whole (Some all) input (Bench f) cut h = refused_for all input f cut h
 refused_whole (Some all) input Ordered cut h = subst (λ (bytes : List ℕ). HasOrder bytes) (uncut all input h.workload cut h.read) h
 
 -- the same, of bytes and of a text under other names
-pub ordered_as : (bytes input made text : List ℕ) → bytes ≡ input → text ≡ made → IsOrdered bytes made → IsOrdered input text
-ordered_as bytes input made text b t o =
-    subst (λ (bs : List ℕ). IsOrdered bs text) b (subst (λ (ts : List ℕ). IsOrdered bytes ts) (sym t) o)
+pub ordered_as : (seed : Option ℕ) (bytes input made text : List ℕ) → bytes ≡ input → text ≡ made → IsOrdered seed bytes made → IsOrdered seed input text
+ordered_as seed bytes input made text b t o =
+    subst (λ (bs : List ℕ). IsOrdered seed bs text) b (subst (λ (ts : List ℕ). IsOrdered seed bytes ts) (sym t) o)

@@ -1,14 +1,15 @@
 -- The search for a caller that may step, around from one on.
-use Rattle.std.proofs.Common.{◌≡◌, ℕ, ◌+◌, ◌-◌, ◌<◌, ◌≤◌, Bool, true, false, ◌⊎◌, inl, inr, sym, ap, subst, ◌∙◌, arith, refl}
+use Rattle.std.proofs.Common.{◌≡◌, ℕ, zero, suc, ◌+◌, ◌-◌, ◌%◌, ◌<◌, ◌≤◌, Bool, true, false, cond, ◌⊎◌, inl, inr, sym, ap, subst, ◌∙◌, arith, refl}
 use Rattle.std.proofs.lemmas.Bool.{false≢true}
+use Rattle.std.proofs.Math.Nat.{add-mod_right, mod-eq_of_lt}
 use Rattle.std.specs.Prelude.{is_none, is_some, is_ok, Option, Some, None, Result, Ok, Err}
 use Rattle.eevdf_steps.specs.declared.step_fault.StepFault.{StepFault}
 use Rattle.eevdf_steps.specs.Plan.{callers}
 use Rattle.eevdf_steps.specs.Counters.{least, may_step, ready}
 use Rattle.eevdf_steps.specs.Players.{IsStep, Player}
-use Rattle.eevdf_steps.proofs.Holders.{least_past}
+use Rattle.eevdf_steps.proofs.Holders.{least_past, number_cases}
 use Rattle.eevdf_steps.proofs.Ready.{Found, least_found, least_there}
-use Rattle.eevdf_orders.specs.CallerSteps.{IsStepAmong, IsStepOf}
+use Rattle.eevdf_orders.specs.CallerSteps.{IsStepAmong, IsStepFrom, ahead}
 
 -- whether a caller may step
 abbrev may : Player → ℕ → Bool
@@ -32,12 +33,6 @@ least_beyond a b from caller end p within e =
 
 -- ---- the two sides
 
--- who was found among some callers did its step
-pub found_step : (a b : Player) (from n p : ℕ) → IsStepAmong a from n (Some p) b → from + n ≤ callers a.plan → IsStepOf a p b
-found_step a b from n p s within =
-    let found : Found (may_step a.plan a.state.progress.counters) from n p = least_found (may_step a.plan a.state.progress.counters) from n p (sym s.least) in
-    record { below = omega (arith, found.within); may = found.passes; done = s.done }
-
 split : (k n : ℕ) → (k < n) ⊎ (n ≤ k)
 split k n = grind arith
 
@@ -47,6 +42,81 @@ none_in f from n k none low high = go (f k) refl
     go : (b : Bool) → f k ≡ b → f k ≡ false
     go false e = e
     go true e = absurd (false≢true (sym (least_there f from n k e low high) ∙ ap (λ (o : Option ℕ). is_none o) none))
+
+least_above_by : (f : ℕ → Bool) (from n k : ℕ) (b : Bool) → cond b (Some from) (least f (from + 1) n) ≡ Some k → (least f (from + 1) n ≡ Some k → from + 1 ≤ k) → from ≤ k
+least_above_by f from n k true h later = let same : from ≡ k = cc in omega (arith, same)
+least_above_by f from n k false h later = let above : from + 1 ≤ k = later h in omega (arith, above)
+
+least_above : (f : ℕ → Bool) (from n k : ℕ) → least f from n ≡ Some k → from ≤ k
+least_above f from zero k h = cc
+least_above f from (suc n) k h = least_above_by f from n k (f from) h (least_above f (from + 1) n k)
+
+none_below_by : (f : ℕ → Bool) (from n k q : ℕ) (b : Bool) → f from ≡ b → cond b (Some from) (least f (from + 1) n) ≡ Some k → from ≤ q → q < k
+    → (least f (from + 1) n ≡ Some k → from + 1 ≤ q → f q ≡ false) → f q ≡ false
+none_below_by f from n k q true e h low high later = let same : from ≡ k = cc in absurd (omega (arith, same, low, high))
+none_below_by f from n k q false e h low high later =
+    elim (number_cases from q) [
+      | inl same ↦ sym (ap f same) ∙ e
+      | inr apart ↦ later h (omega (arith, low, apart))
+    ]
+
+-- none before the least passes
+none_below : (f : ℕ → Bool) (from n k q : ℕ) → least f from n ≡ Some k → from ≤ q → q < k → f q ≡ false
+none_below f from zero k q h low high = cc
+none_below f from (suc n) k q h low high =
+    none_below_by f from n k q (f from) refl h low high (λ later above. none_below f (from + 1) n k q later above high)
+
+-- ---- how far ahead
+
+ahead_above : (n first q : ℕ) → first ≤ q → q < n → ahead n first q ≡ q - first
+ahead_above n first q low high =
+    let turn : q + n - first ≡ q - first + n = omega (arith, low) in
+    ap (λ (k : ℕ). k % n) turn ∙ add-mod_right (q - first) n ∙ mod-eq_of_lt (omega (arith, high))
+
+ahead_below : (n first q : ℕ) → q < first → first < n → ahead n first q ≡ q + n - first
+ahead_below n first q low high = mod-eq_of_lt (omega (arith, low, high))
+
+nearest_above : (f : ℕ → Bool) (n first p q : ℕ) → least f first (n - first) ≡ Some p → p < n → q < n → first < n → ahead n first q < ahead n first p → f q ≡ false
+nearest_above f n first p q found p_below q_below within nearer =
+    let low : first ≤ p = least_above f first (n - first) p found in
+    let p_ahead : ahead n first p ≡ p - first = ahead_above n first p low p_below in
+    elim (split q first) [
+      | inl under ↦
+          let q_ahead : ahead n first q ≡ q + n - first = ahead_below n first q under within in
+          absurd (omega (arith, nearer, p_ahead, q_ahead, p_below, under))
+      | inr over ↦
+          let q_ahead : ahead n first q ≡ q - first = ahead_above n first q over q_below in
+          none_below f first (n - first) p q found over (omega (arith, nearer, p_ahead, q_ahead, over))
+    ]
+
+nearest_below : (f : ℕ → Bool) (n first p q : ℕ) → least f first (n - first) ≡ None → least f 0 first ≡ Some p → p < first → q < n → first < n
+    → ahead n first q < ahead n first p → f q ≡ false
+nearest_below f n first p q none found p_below q_below within nearer =
+    let p_ahead : ahead n first p ≡ p + n - first = ahead_below n first p p_below within in
+    elim (split q first) [
+      | inl under ↦
+          let q_ahead : ahead n first q ≡ q + n - first = ahead_below n first q under within in
+          none_below f 0 first p q found (omega arith) (omega (arith, nearer, p_ahead, q_ahead, under, within))
+      | inr over ↦ none_in f first (n - first) q none over (omega (arith, q_below, over))
+    ]
+
+-- ---- who is found
+
+least_of : (f : ℕ → Bool) (first count n : ℕ) (r : Option ℕ) → r ≡ least f first (count - first) → count ≡ n → least f first (n - first) ≡ r
+least_of f first count n r e all = sym (e ∙ ap (λ (k : ℕ). least f first (k - first)) all)
+
+-- who was found from the first on did its step
+pub found_above : (a b : Player) (first count p : ℕ) → IsStepAmong a first (count - first) (Some p) b → count ≡ callers a.plan → first < count → IsStepFrom a first p b
+found_above a b first count p s all within =
+    let n : ℕ = callers a.plan in
+    let least_is : least (may a) first (n - first) ≡ Some p = least_of (may a) first count n (Some p) s.least all in
+    let found : Found (may a) first (n - first) p = least_found (may a) first (n - first) p least_is in
+    let first_below : first < n = omega (arith, all, within) in
+    let below : p < n = omega (arith, found.within, first_below) in
+    record {
+      next = record { below = below; may = found.passes; nearest = λ q q_below nearer. nearest_above (may a) n first p q least_is below q_below first_below nearer };
+      done = s.done;
+    }
 
 -- a caller that is ready is found on one of the two sides
 found_around : (f : ℕ → Bool) (first count : ℕ) → first < count → least f first (count - first) ≡ None → least f 0 first ≡ None → is_some (least f 0 count) ≡ true → ⊥
@@ -70,8 +140,22 @@ nobody_around a b c first count above below all within some =
     found_around (may a) first count within (sym above.least) (sym (from_first a c first None same).least)
     (ap (λ (n : ℕ). is_some (least (may a) 0 n)) all ∙ some)
 
+-- where nobody was found from the first on, who was found below it did its step
 pub found_below : (a b c : Player) (first count p : ℕ) → IsStepAmong a first (count - first) None b → IsStepAmong b 0 (first - 0) (Some p) c → count ≡ callers a.plan → first < count
-    → IsStepOf a p c
+    → IsStepFrom a first p c
 found_below a b c first count p above below all within =
+    let n : ℕ = callers a.plan in
     let same : IsStepAmong a 0 (first - 0) (Some p) c = subst (λ (d : Player). IsStepAmong d 0 (first - 0) (Some p) c) above.done below in
-    found_step a c 0 first p (from_first a c first (Some p) same) (omega (arith, all, within))
+    let least_is : least (may a) 0 first ≡ Some p = sym (from_first a c first (Some p) same).least in
+    let none : least (may a) first (n - first) ≡ None = least_of (may a) first count n None above.least all in
+    let found : Found (may a) 0 first p = least_found (may a) 0 first p least_is in
+    let first_below : first < n = omega (arith, all, within) in
+    let under : p < first = omega (arith, found.within) in
+    record {
+      next = record {
+        below = omega (arith, under, first_below);
+        may = found.passes;
+        nearest = λ q q_below nearer. nearest_below (may a) n first p q none least_is under q_below first_below nearer;
+      };
+      done = same.done;
+    }

@@ -1,3 +1,4 @@
+pub mod ChosenPlaces
 pub mod CutWorkloads
 pub mod GoingAround
 pub mod PlacedOrders

@@ -15,7 +15,7 @@ use Rattle.eevdf_steps.specs.MicroState.{MicroState, micro_by}
 use Rattle.eevdf_steps.specs.Players.{Player, player_start, player_step}
 use Rattle.eevdf_steps.proofs.LawfulOrders.{whole_is_played}
 use Rattle.eevdf_steps.proofs.Lists.{both, true_lt}
-use Rattle.eevdf_orders.specs.CallerSteps.{IsStepOf}
+use Rattle.eevdf_orders.specs.CallerSteps.{IsStepFrom}
 
 -- a player that a lawful order has led to where it is
 pub record IsPlaced (plan : Plan) (a : Player) (order : List ℕ) : Type 0 where
@@ -86,13 +86,13 @@ may_there : (plan : Plan) (a : Player) (order : List ℕ) (p : ℕ) → IsPlaced
 may_there plan a order p placed may =
     sym (ap (λ (pl : Plan). may_step pl a.state.progress.counters p) placed.plan_is ∙ ap (λ (cs : Counters). may_step plan cs p) placed.counters) ∙ may
 
-pub placed_more : (plan : Plan) (a b : Player) (order : List ℕ) (p : ℕ) → IsPlaced plan a order → IsStepOf a p b → IsPlaced plan b (order ++ p ∷ [])
-placed_more plan a b order p placed stepped = record {
+pub placed_more : (plan : Plan) (a b : Player) (order : List ℕ) (first p : ℕ) → IsPlaced plan a order → IsStepFrom a first p b → IsPlaced plan b (order ++ p ∷ [])
+placed_more plan a b order first p placed stepped = record {
   plan_is = ap (λ (c : Player). c.plan) stepped.done ∙ placed.plan_is;
   counters =
-      ap (λ (c : Player). c.state.progress.counters) stepped.done ∙ counted_by a p stepped.may
+      ap (λ (c : Player). c.state.progress.counters) stepped.done ∙ counted_by a p stepped.next.may
       ∙ ap (λ (cs : Counters). counted cs p) placed.counters ∙ sym (after_more (counters_at_start plan) order p);
-  lawful = lawful_more plan (counters_at_start plan) order p placed.lawful (may_there plan a order p placed stepped.may);
+  lawful = lawful_more plan (counters_at_start plan) order p placed.lawful (may_there plan a order p placed stepped.next.may);
 }
 
 -- ---- the end

@@ -1,13 +1,22 @@
 -- Steps of callers that may step.
-use Rattle.std.specs.Prelude.{◌≡◌, ◌<◌, ℕ, true, Option, MatchOption}
-use Rattle.eevdf_steps.specs.Plan.{callers}
-use Rattle.eevdf_steps.specs.Counters.{least, may_step}
+use Rattle.std.specs.Prelude.{◌≡◌, ◌<◌, ℕ, ◌+◌, ◌-◌, ◌%◌, false, true, Option, MatchOption}
+use Rattle.eevdf_steps.specs.Plan.{Plan, callers}
+use Rattle.eevdf_steps.specs.Counters.{Counters, least, may_step}
 use Rattle.eevdf_steps.specs.Players.{Player, player_step}
 
--- a caller that may step does its next step
-pub record IsStepOf (a : Player) (caller : ℕ) (b : Player) : Type 0 where
-  pub below : caller < callers a.plan
-  pub may : may_step a.plan a.state.progress.counters caller ≡ true
+-- how far one of so many callers is ahead of another, going around
+abbrev pub ahead : ℕ → ℕ → ℕ → ℕ
+ahead n first caller = (caller + n - first) % n
+
+-- of the callers that may step the nearest, going around from one on
+pub record IsNext (plan : Plan) (counters : Counters) (first caller : ℕ) : Type 0 where
+  pub below : caller < callers plan
+  pub may : may_step plan counters caller ≡ true
+  pub nearest : (q : ℕ) → q < callers plan → ahead (callers plan) first q < ahead (callers plan) first caller → may_step plan counters q ≡ false
+
+-- the next caller, from one on, does its next step
+pub record IsStepFrom (a : Player) (first caller : ℕ) (b : Player) : Type 0 where
+  pub next : IsNext a.plan a.state.progress.counters first caller
   pub done : b ≡ player_step a caller
 
 -- of so many callers from one on the least that may step does its next step; nothing changes where none may

@@ -11,15 +11,18 @@ use Rattle.eevdf_bench.specs.Meaning.{Workload, meaning}
 use Rattle.eevdf_bench.specs.Streams.{HasBegun}
 use Rattle.eevdf_orders.specs.declared.print_fault.PrintFault.{PrintFault}
 use Rattle.eevdf_orders.specs.declared.print_fault.PrintFault.TheVariants.{Bench, Ordered}
+use Rattle.eevdf_orders.specs.CallerChoice.{choice_of}
+use Rattle.eevdf_orders.specs.ChosenOrders.{IsChosen}
 use Rattle.eevdf_orders.specs.OrderText.{ordered_text}
 
--- the text is that of a workload with an order that plays without a fault, where it had none
-pub record IsOrdered (input text : List ℕ) : Type 0 where
+-- the text is that of a workload with the order of a seed, which plays without a fault, where it had none
+pub record IsOrdered (seed : Option ℕ) (input text : List ℕ) : Type 0 where
   pub workload : Workload
   pub read : meaning input ≡ Ok workload
   pub fresh : workload.order ≡ None
   pub order : List ℕ
   pub faultless : play_fault (plan_of workload.setup) order ≡ None
+  pub chosen : IsChosen (plan_of workload.setup) (choice_of seed) order
   pub text_is : text ≡ ordered_text order input
 
 -- the workload has an order
@@ -50,13 +53,13 @@ RefusesAs input (Bench f) = RefusesFor input f
 RefusesAs input Ordered = HasOrder input
 
 -- the workload with its order was written after what was there
-pub record Prints (input : List ℕ) (held held' : Option (List ℕ)) : Type 0 where
+pub record Prints (seed : Option ℕ) (input : List ℕ) (held held' : Option (List ℕ)) : Type 0 where
   pub text : List ℕ
-  pub ordered : IsOrdered input text
+  pub ordered : IsOrdered seed input text
   pub written : Appends held held' text
 
 -- the same of a beginning
-pub record Begins (input : List ℕ) (held held' : Option (List ℕ)) : Type 0 where
+pub record Begins (seed : Option ℕ) (input : List ℕ) (held held' : Option (List ℕ)) : Type 0 where
   pub text : List ℕ
-  pub ordered : IsOrdered input text
+  pub ordered : IsOrdered seed input text
   pub begun : HasBegun held held' text

@@ -1,20 +1,26 @@
-ghost use Rattle.std.specs.Prelude.{◌<◌};
+//! How the callers of an order are chosen.
 
-use rand_core::{Rng, SeedableRng};
+ghost use Rattle.std.specs.Prelude.{◌≡◌, ◌<◌, ◌+◌, ◌%◌};
+ghost use Rattle.eevdf_orders.specs.CallerChoice as choices;
+
+use rand_core::SeedableRng;
+use rand_core::utils::NextWord;
 use rand_pcg::Pcg32;
 
-/// How the callers of an order are chosen.
+/// With which caller the search for the next one begins, at each place of an order.
 #[derive(Drop)]
 pub enum Choice {
-    /// Each after the one before it, around.
+    /// The one after the caller at the place before, around.
     InTurn,
-    /// At random, by the words of a generator.
+    /// One that is drawn at random: each place takes a word of the generator.
     Drawn(Pcg32),
 }
 
 impl Choice {
     /// At random from a seed, and in turn where there is none.
-    pub fn of_seed(seed: Option<u64>) -> Choice {
+    pub fn of_seed(seed: Option<u64>) -> Choice
+        ensures { result ≡ choices.choice_of seed }
+    {
         match seed {
             Some(seed) => Choice::Drawn(Pcg32::seed_from_u64(seed)),
             None => Choice::InTurn,
@@ -25,19 +31,13 @@ impl Choice {
     pub fn first(&mut self, callers: usize, last: usize) -> usize
         requires some { 0 < callers }
         requires last { last < callers }
-        ensures { result < callers }
+        ensures below { result < callers }
+        ensures first { result ≡ choices.first_of self.old callers last }
+        ensures next { self.new ≡ choices.next_of self.old }
     {
         match self {
-            Choice::InTurn => around(callers, last),
-            Choice::Drawn(words) => words.next_u32() as usize % callers,
+            Choice::InTurn => (last + 1) % callers,
+            Choice::Drawn(words) => words.next_word() as usize % callers,
         }
     }
-}
-
-/// The caller after one, of so many.
-pub fn around(callers: usize, caller: usize) -> usize
-    requires { caller < callers }
-    ensures { result < callers }
-{
-    if caller + 1 < callers { caller + 1 } else { 0 }
 }

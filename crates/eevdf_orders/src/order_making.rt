@@ -1,7 +1,8 @@
 //! Making an order by playing it.
 
 ghost use Rattle.std.specs.Prelude.{◌≡◌, ◌-◌, ◌<◌, ◌≤◌, true, is_some, ℕ, List, Err, None, IfOk};
-ghost use Rattle.eevdf_orders.specs.CallerSteps.{IsStepAmong, IsStepOf};
+ghost use Rattle.eevdf_orders.specs.CallerSteps.{IsStepAmong, IsStepFrom};
+ghost use Rattle.eevdf_orders.specs.ChosenOrders.{IsChosen};
 ghost use Rattle.eevdf_steps.specs.Counters.{ready};
 ghost use Rattle.eevdf_steps.specs.Orders.{play_fault};
 ghost use Rattle.eevdf_steps.specs.Plan.{callers, plan_of};
@@ -26,10 +27,12 @@ pub enum OrderFault {
     TooLong,
 }
 
-/// An order in which the callers of a setup can do all their steps: at each place a caller that may step, and at the
-/// end every caller is done. `TooLong` comes only where every order has a fault; out of memory may come in place of all.
+/// An order in which the callers of a setup can do all their steps: at each place the next caller that may step, going
+/// around from the one with whom the choice begins, and at the end every caller is done. `TooLong` comes only where every
+/// order has a fault; out of memory may come in place of all.
 pub fn order_of(alloc: Global, setup: &Setup, mut choice: Choice) -> Result<Vec<usize>, OrderFault>
     ensures faultless { IfOk result (λ order. play_fault (plan_of setup.now) order.items ≡ None) }
+    ensures chosen { IfOk result (λ order. IsChosen (plan_of setup.now) choice order.items) }
     ensures too_long { result ≡ Err OrderFault.TooLong → (order : List ℕ) → is_some (play_fault (plan_of setup.now) order) ≡ true }
 {
     let Ok(mut player) = Player::open(alloc, setup) else {
@@ -53,12 +56,12 @@ pub fn order_of(alloc: Global, setup: &Setup, mut choice: Choice) -> Result<Vec<
     }
 }
 
-/// Does the next step of a caller that may step: the search goes around from one on.
+/// Does the next step of the next caller that may step: the search goes around from one on.
 fn step_from(player: &mut Player, count: usize, first: usize) -> usize
     requires count { count ≡ callers player.old.plan }
     requires first { first < count }
     requires some { is_some (ready player.old.plan player.old.state.progress.counters) ≡ true }
-    ensures { IsStepOf player.old result player.new }
+    ensures { IsStepFrom player.old first result player.new }
 {
     if let Some(caller) = step_among(player, first, count) {
         return caller;

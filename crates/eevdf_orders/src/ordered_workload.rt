@@ -14,9 +14,9 @@ use eevdf_steps::PlayFault;
 use std::alloc::Global;
 use std::io::{Read, Write};
 
-/// Reads a workload from a reader that hasn't failed yet, and writes it with an order of its callers' steps. A workload that
-/// can't be read is refused with its fault, one that has an order already with `Ordered`, and one of which every order has
-/// a fault with `Play(TooLong)`.
+/// Reads a workload from a reader that hasn't failed yet, and writes it with the order of its callers' steps that the seed
+/// gives, or with the one in which they take turns where there is no seed. A workload that can't be read is refused with its
+/// fault, one that has an order already with `Ordered`, and one of which every order has a fault with `Play(TooLong)`.
 ///
 /// No more than 16777217 bytes are read. Nothing is written before the whole order is made: after a fault of the writer a
 /// beginning was written, and after any other nothing.
@@ -29,10 +29,10 @@ pub fn print_ordered<R: Read, W: Write>(
     requires reader { reader.old.failed ≡ false }
     requires writer { writer.old.failed ≡ false }
     ensures printed { OnOk result (IfSome (R.remaining reader.old.end) (λ input.
-        texts.Prints input (W.contents writer.old.end) (W.contents writer.new.end))) }
+        texts.Prints seed input (W.contents writer.old.end) (W.contents writer.new.end))) }
     ensures refused { IfErr result (λ f. IfSome (R.remaining reader.old.end) (λ input. texts.RefusesAs input f)) }
     ensures begun { result ≡ Err (PrintFault.Bench BenchFault.Write) → IfSome (R.remaining reader.old.end) (λ input.
-        texts.Begins input (W.contents writer.old.end) (W.contents writer.new.end)) }
+        texts.Begins seed input (W.contents writer.old.end) (W.contents writer.new.end)) }
     ensures limit { ReadsWithin 16777217 (R.remaining reader.old.end) (R.remaining reader.new.end) }
     ensures read_whole { OnOk result (reader.new.failed ≡ false) }
     ensures written_whole { OnOk result (writer.new.failed ≡ false) }
@@ -54,9 +54,9 @@ pub fn print_ordered<R: Read, W: Write>(
     }
 }
 
-/// The bytes of a workload with an order of its callers' steps.
+/// The bytes of a workload with the order of its callers' steps that the seed gives.
 fn ordered_text(alloc: Global, input: &[u8], seed: Option<u64>) -> Result<Vec<u8>, PrintFault>
-    ensures ordered { IfOk result (λ text. texts.IsOrdered input.now text.items) }
+    ensures ordered { IfOk result (λ text. texts.IsOrdered seed input.now text.items) }
     ensures refused { IfErr result (λ f. texts.RefusesAs input.now f) }
     ensures read { result ≢ Err (PrintFault.Bench BenchFault.Read) }
     ensures write { result ≢ Err (PrintFault.Bench BenchFault.Write) }

@@ -74,12 +74,12 @@ fn a_drain_of_sixty_four_cpus_has_130_steps(rt: HostRuntime) -> Result<(), Fail>
 }
 
 #[test]
-fn a_seed_draws_one_order(rt: HostRuntime) -> Result<(), Fail> {
+fn a_seed_draws_its_order(rt: HostRuntime) -> Result<(), Fail> {
     let alloc = rt.alloc();
-    let first = order_played(&rt, alloc, WORKLOADS[1], Some(1))?;
-    let again = order_played(&rt, alloc, WORKLOADS[1], Some(1))?;
-    let other = order_played(&rt, alloc, WORKLOADS[1], Some(2))?;
-    assert!(rt; first.as_slice() == again.as_slice());
-    assert!(rt; first.as_slice() != other.as_slice());
+    let picks = b"version = 1\nprogram = [[\"pick\"], [\"pick\"], [\"pick\"]]\n[[task]]\n";
+    let order = order_played(&rt, alloc, picks, Some(0))?;
+    assert!(rt; order.as_slice() == [1, 2, 2, 0, 0, 1, 0, 1, 2, 2, 1, 0].as_slice());
+    let order = order_played(&rt, alloc, picks, Some(7))?;
+    assert!(rt; order.as_slice() == [2, 2, 1, 0, 0, 0, 2, 1, 2, 0, 1, 1].as_slice());
     Ok(())
 }

@@ -1,8 +1,21 @@
-use Rattle.std.proofs.Common.{ℕ, List, arith, sym, subst, ◌≡◌, ◌++◌, ◌∷◌, []}
+use Rattle.std.proofs.Common.{ℕ, ◌-◌, List, length, arith, sym, ap, subst, ◌≡◌, ◌++◌, ◌∷◌, []}
 use Rattle.eevdf_steps.specs.Plan.{plan_of}
-use Rattle.eevdf_orders.proofs.PlacedOrders.{IsPlaced, below_count, nobody_unfinished, one_place_more, placed_more, placed_whole, pushed, somebody_unfinished}
+use Rattle.eevdf_orders.proofs.ChosenPlaces.{IsChoosing, choosing_first, choosing_more}
+use Rattle.eevdf_orders.proofs.PlacedOrders.{IsPlaced, below_count, nobody_unfinished, one_place_more, placed_first, placed_more, placed_whole, pushed, somebody_unfinished}
 use Rattle.eevdf_orders.proofs.StepsLeft.{all_faulty}
 use Rattle.eevdf_orders.proofs.order_making.order_of.Goals as goal
+
+pub loop-place-init : goal.loop-place-init
+loop-place-init c = record {
+  placed =
+      subst (λ (xs : List ℕ). IsPlaced (plan_of c.args.setup.now) c.in-Ok.player xs) (sym c.new-order.ensures.items)
+      (placed_first c.args.setup.now c.in-Ok.player c.in-Ok.ensures);
+  choosing =
+      subst (λ (xs : List ℕ). IsChoosing (plan_of c.args.setup.now) c.args.choice c.args.choice xs (c.cpus-count.result - 1)) (sym c.new-order.ensures.items)
+      (choosing_first (plan_of c.args.setup.now) c.args.choice c.cpus-count.result c.cpus-count.ensures.cpus);
+  places = ap (λ (xs : List ℕ). length xs) c.new-order.ensures.items;
+  last = omega (arith, c.cpus-count.ensures.some);
+}
 
 pub returns-then-is_none-clause-faultless : goal.returns-then-is_none-clause-faultless
 returns-then-is_none-clause-faultless c =
@@ -17,12 +30,17 @@ loop-place-preserved c =
     record {
       placed =
           subst (λ (xs : List ℕ). IsPlaced (plan_of c.args.setup.now) c.step_from-last.new.player xs) (sym items)
-          (placed_more (plan_of c.args.setup.now) c.loop-place.player c.step_from-last.new.player c.loop-place.order.items c.step_from-last.result
+          (placed_more (plan_of c.args.setup.now) c.loop-place.player c.step_from-last.new.player c.loop-place.order.items c.first.result c.step_from-last.result
           c.loop-place.invariant.placed c.step_from-last.ensures);
+      choosing =
+          subst (λ (xs : List ℕ). IsChoosing (plan_of c.args.setup.now) c.args.choice c.first.new.self xs c.step_from-last.result) (sym items)
+          (choosing_more (plan_of c.args.setup.now) c.args.choice c.loop-place.choice c.first.new.self c.loop-place.order.items c.loop-place.last c.cpus-count.result
+          c.first.result c.step_from-last.result c.loop-place.player c.step_from-last.new.player c.loop-place.invariant.choosing c.loop-place.invariant.placed
+          c.step_from-last.ensures c.first.ensures.first c.first.ensures.next c.cpus-count.ensures.cpus);
       places = one_place_more c.loop-place.order.items c.push.new.self.items c.step_from-last.result c.loop-place._place items c.loop-place.invariant.places;
       last =
           below_count (plan_of c.args.setup.now) c.loop-place.player c.loop-place.order.items c.step_from-last.result c.cpus-count.result
-          c.loop-place.invariant.placed c.step_from-last.ensures.below c.cpus-count.ensures.cpus;
+          c.loop-place.invariant.placed c.step_from-last.ensures.next.below c.cpus-count.ensures.cpus;
     }
 
 pub returns-in-None-clause-faultless : goal.returns-in-None-clause-faultless

@@ -1,10 +1,9 @@
-use Rattle.std.proofs.Common.{arith}
-use Rattle.eevdf_orders.proofs.GoingAround.{found_below, found_step, nobody_around}
+use Rattle.eevdf_orders.proofs.GoingAround.{found_above, found_below, nobody_around}
 use Rattle.eevdf_orders.proofs.order_making.step_from.Goals as goal
 
 pub returns-in-Some : goal.returns-in-Some
 returns-in-Some c =
-    found_step c.args.player.now c.step_among.new.player c.args.first _ c.in-Some.caller c.in-Some.ensures (omega (arith, c.requires.count, c.requires.first))
+    found_above c.args.player.now c.step_among.new.player c.args.first c.args.count c.in-Some.caller c.in-Some.ensures c.requires.count c.requires.first
 
 pub unreachable-requires : goal.unreachable-requires
 unreachable-requires c =

@@ -10,10 +10,10 @@ returns-in-Err-ordered_text-clause-refused g c =
 
 pub returns-in-Ok-write_text-clause-printed : goal.returns-in-Ok-write_text-clause-printed
 returns-in-Ok-write_text-clause-printed g c =
-    printed_whole _ c.in-Ok.input.items c.deref-2.result.now _ _ c.in-Ok.ensures.bytes
-    (ordered_as _ _ _ _ c.deref.ensures.value c.deref-2.ensures.value c.in-Ok-ordered_text.ensures.ordered) c.in-Ok-write_text.ensures.written
+    printed_whole c.args.seed _ c.in-Ok.input.items c.deref-2.result.now _ _ c.in-Ok.ensures.bytes
+    (ordered_as c.args.seed _ _ _ _ c.deref.ensures.value c.deref-2.ensures.value c.in-Ok-ordered_text.ensures.ordered) c.in-Ok-write_text.ensures.written
 
 pub returns-clause-begun : goal.returns-clause-begun
 returns-clause-begun g c e =
-    begun_whole _ c.in-Ok.input.items c.deref-2.result.now _ _ c.in-Ok.ensures.bytes
-    (ordered_as _ _ _ _ c.deref.ensures.value c.deref-2.ensures.value c.in-Ok-ordered_text.ensures.ordered) c.in-Err-write_text.ensures.begun
+    begun_whole c.args.seed _ c.in-Ok.input.items c.deref-2.result.now _ _ c.in-Ok.ensures.bytes
+    (ordered_as c.args.seed _ _ _ _ c.deref.ensures.value c.deref-2.ensures.value c.in-Ok-ordered_text.ensures.ordered) c.in-Err-write_text.ensures.begun
