@@ -29,9 +29,9 @@ use std::thread::Threads;
 /// which its threads came, too. Each is that of one thread that does the deeds of its lines one after the other, each at once.
 ///
 /// A reader that goes on for more than 16777216 bytes is read to one byte more, and then refused; it is never read
-/// further. `Read` comes only where the reader failed, `Write` only where the writer did, and `Ok` where neither did.
-/// After a `Write` a beginning of the report was written, and after any other fault nothing. Only `Read` and `Memory`
-/// may come before the workload has been read to its end.
+/// further. `Read` comes only where the reader failed, `Write` only where the writer did, and `Ok` where neither did and the
+/// report is flushed. An end that failed isn't called again. After a `Write` a beginning of the report was written, and after
+/// any other fault nothing. Only `Read` and `Memory` may come before the workload has been read to its end.
 pub fn engine<T: Threads + Wait + Sync, R: Read, W: Write>(
     rt: &T,
     alloc: Global,
@@ -55,6 +55,7 @@ pub fn engine<T: Threads + Wait + Sync, R: Read, W: Write>(
     ensures limit { ReadsWithin 16777217 (R.remaining reader.old.end) (R.remaining reader.new.end) }
     ensures read_whole { OnOk result (reader.new.failed ≡ false) }
     ensures written_whole { OnOk result (writer.new.failed ≡ false) }
+    ensures flushed { OnOk result (writer.new.flushed ≡ true) }
     ensures read { result ≡ Err BenchFault.Read → reader.new.failed ≡ true }
     ensures write { result ≡ Err BenchFault.Write → writer.new.failed ≡ true }
     ensures unwritten { IfErr result (λ f. f ≢ BenchFault.Write → Keeps (W.contents writer.old.end) (W.contents writer.new.end)) }

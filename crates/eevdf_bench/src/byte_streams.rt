@@ -66,6 +66,7 @@ pub fn write_text<W: Write>(writer: &mut Watched<W>, text: &[u8]) -> Result<(), 
     ensures written { OnOk result (Appends (W.contents writer.old.end) (W.contents writer.new.end) text.now) }
     ensures begun { OnErr result (HasBegun (W.contents writer.old.end) (W.contents writer.new.end) text.now) }
     ensures whole { OnOk result (writer.new.failed ≡ false) }
+    ensures flushed { OnOk result (writer.new.flushed ≡ true) }
     ensures failed { OnErr result (writer.new.failed ≡ true) }
     ensures kind { IfErr result (λ f. f ≡ BenchFault.Write) }
 {

@@ -1,4 +1,4 @@
-ghost use Rattle.std.specs.Prelude.{◌≡◌, ◌||◌, false, is_err};
+ghost use Rattle.std.specs.Prelude.{◌≡◌, false, is_ok, is_err};
 ghost use Rattle.std.specs.Io.{ReadsAtMost, WritesAtMost};
 ghost use Rattle.std.specs.Io.KnownBytes.{Keeps, ReadConsumes, WriteAppends};
 ghost use Rattle.eevdf_bench.specs.Watch.{takes_nothing};
@@ -8,11 +8,15 @@ use std::io::{Read, Write};
 use std::marker::Model;
 
 /// A reader or a writer that remembers whether one of its calls failed: answered an error, of any kind, or,
-/// of a writer, took nothing of a piece that wasn't empty.
+/// of a writer, took nothing of a piece that wasn't empty. A call is only allowed where none has failed, so one that failed
+/// is the last.
+///
+/// It also remembers whether a writer is flushed: whether its last write or flush was a flush that succeeded.
 #[derive(Drop)]
 pub struct Watched<E> {
     end: E,
     failed: bool,
+    flushed: bool,
 }
 
 impl<E> Model for Watched<E> {
@@ -22,23 +26,33 @@ impl<E> Model for Watched<E> {
 
     ghost coded = { watch_code E.code };
 
-    ghost view = { λ w. record { end = w.end; failed = w.failed } };
+    ghost view = { λ w. record { end = w.end; failed = w.failed; flushed = w.flushed } };
 }
 
 impl<E> Watched<E> {
-    /// Watches a reader or a writer, none of whose calls counts as failed yet.
+    /// Watches a reader or a writer, none of whose calls counts as failed yet. A writer doesn't count as flushed, since it may
+    /// have been written to before.
     pub fn new(end: E) -> Self
         ensures end { result.end ≡ end }
         ensures fresh { result.failed ≡ false }
+        ensures flushed { result.flushed ≡ false }
     {
-        Watched { end, failed: false }
+        Watched {
+            end,
+            failed: false,
+            flushed: false,
+        }
     }
 
     /// The reader or writer itself.
     pub fn into_inner(self) -> E
         ensures { result ≡ self.end }
     {
-        let Watched { end, failed: _ } = self;
+        let Watched {
+            end,
+            failed: _,
+            flushed: _,
+        } = self;
         end
     }
 
@@ -48,41 +62,56 @@ impl<E> Watched<E> {
     {
         self.failed
     }
+
+    /// Whether the last write or flush was a flush that succeeded.
+    pub fn flushed(&self) -> bool
+        ensures { result ≡ self.now.flushed }
+    {
+        self.flushed
+    }
 }
 
-impl<R: Read> Read for Watched<R> {
-    ghost remaining = { λ w. R.remaining w.end };
-
-    fn read(&mut self, buf: &mut [u8]) -> io::Result<usize>
+impl<R: Read> Watched<R> {
+    /// Reads a piece from a reader that hasn't failed yet.
+    pub fn read(&mut self, buf: &mut [u8]) -> io::Result<usize>
+        requires { self.old.failed ≡ false }
         ensures bound { ReadsAtMost result buf.new }
         ensures bytes { ReadConsumes (R.remaining self.old.end) (R.remaining self.new.end) result buf.new }
-        ensures failed { self.new.failed ≡ (self.old.failed || is_err result) }
+        ensures failed { self.new.failed ≡ is_err result }
+        ensures flushed { self.new.flushed ≡ self.old.flushed }
     {
         let result = self.end.read(buf);
-        self.failed = self.failed || result.is_err();
+        self.failed = result.is_err();
         result
     }
 }
 
-impl<W: Write> Write for Watched<W> {
-    ghost contents = { λ w. W.contents w.end };
-
-    fn write(&mut self, buf: &[u8]) -> io::Result<usize>
+impl<W: Write> Watched<W> {
+    /// Writes the front of a piece to a writer that hasn't failed yet. After that it doesn't count as flushed, even if it took
+    /// nothing.
+    pub fn write(&mut self, buf: &[u8]) -> io::Result<usize>
+        requires { self.old.failed ≡ false }
         ensures bound { WritesAtMost result buf.now }
         ensures bytes { WriteAppends (W.contents self.old.end) (W.contents self.new.end) result buf.now }
-        ensures failed { self.new.failed ≡ (self.old.failed || takes_nothing result buf.now) }
+        ensures failed { self.new.failed ≡ takes_nothing result buf.now }
+        ensures flushed { self.new.flushed ≡ false }
     {
         let result = self.end.write(buf);
-        self.failed = self.failed || is_failed_write(&result, buf);
+        self.failed = is_failed_write(&result, buf);
+        self.flushed = false;
         result
     }
 
-    fn flush(&mut self) -> io::Result<()>
+    /// Flushes a writer that hasn't failed yet. It counts as flushed exactly where that succeeds.
+    pub fn flush(&mut self) -> io::Result<()>
+        requires { self.old.failed ≡ false }
         ensures bytes { Keeps (W.contents self.old.end) (W.contents self.new.end) }
-        ensures failed { self.new.failed ≡ (self.old.failed || is_err result) }
+        ensures failed { self.new.failed ≡ is_err result }
+        ensures flushed { self.new.flushed ≡ is_ok result }
     {
         let result = self.end.flush();
-        self.failed = self.failed || result.is_err();
+        self.failed = result.is_err();
+        self.flushed = result.is_ok();
         result
     }
 }

@@ -36,6 +36,7 @@ pub fn print_ordered<R: Read, W: Write>(
     ensures limit { ReadsWithin 16777217 (R.remaining reader.old.end) (R.remaining reader.new.end) }
     ensures read_whole { OnOk result (reader.new.failed ≡ false) }
     ensures written_whole { OnOk result (writer.new.failed ≡ false) }
+    ensures flushed { OnOk result (writer.new.flushed ≡ true) }
     ensures read { result ≡ Err (PrintFault.Bench BenchFault.Read) → reader.new.failed ≡ true }
     ensures write { result ≡ Err (PrintFault.Bench BenchFault.Write) → writer.new.failed ≡ true }
     ensures unwritten { IfErr result (λ f. f ≢ PrintFault.Bench BenchFault.Write → Keeps (W.contents writer.old.end) (W.contents writer.new.end)) }
