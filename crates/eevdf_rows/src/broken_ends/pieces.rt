@@ -1,0 +1,48 @@
+//! How many bytes an end moves a call.
+
+ghost use Rattle.std.specs.Prelude.{◌≤◌};
+
+use crate::stress::draws::Draws;
+
+/// The row of draws of a reader or a writer.
+const ROW: u64 = 0;
+
+/// Each call moves as many bytes as a buffer has room for.
+pub const ALL: &[usize] = &[usize::MAX];
+
+/// Each call moves one byte.
+pub const SINGLE_BYTES: &[usize] = &[1];
+
+/// How many bytes a call moves at most.
+#[derive(Drop)]
+pub enum Pieces {
+    /// So many, call by call. The last number is that of all calls after it.
+    Listed(&'static [usize]),
+    /// 1 to 16, drawn from a seed.
+    Drawn(Draws),
+}
+
+impl Pieces {
+    /// The pieces of a seed.
+    pub fn drawn(seed: u64) -> Pieces {
+        Pieces::Drawn(Draws::new(seed, ROW))
+    }
+
+    /// How many of the bytes for which there is room the call of this number moves.
+    pub fn size(&mut self, call: usize, room: usize) -> usize
+        ensures { result ≤ room }
+    {
+        let most = match self {
+            Pieces::Listed(sizes) => size_of_call(sizes, call),
+            Pieces::Drawn(draws) => 1 + draws.below(16) as usize,
+        };
+        most.min(room)
+    }
+}
+
+fn size_of_call(sizes: &[usize], call: usize) -> usize {
+    match sizes.get(call) {
+        Some(size) => *size,
+        None => sizes.last().copied().unwrap_or(0),
+    }
+}
