@@ -1,6 +1,7 @@
 //! Tests that cross the crates: worked examples as tables of what is read and what is printed, each run by the
-//! workbench's engine over memory, every order of the steps of small workloads, worked values of single calls, drawn
-//! operations of a fleet by several threads, and programs that threads run.
+//! workbench's engine over memory, readers and writers that fail, workloads that are damaged, limits and what is past
+//! them, every order of the steps of small workloads, worked values of single calls, drawn operations of a fleet by
+//! several threads, and programs that threads run.
 #![tactic(auto)]
 
 #[cfg(test)]
@@ -10,9 +11,13 @@ mod broken_ends;
 #[cfg(test)]
 mod calls;
 #[cfg(test)]
+mod damaged_workloads;
+#[cfg(test)]
 mod every_interleaving;
 #[cfg(test)]
 mod interleavings;
+#[cfg(test)]
+mod limits;
 #[cfg(test)]
 mod many_cpus;
 #[cfg(test)]

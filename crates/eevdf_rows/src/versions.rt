@@ -76,7 +76,7 @@ fn versions_allow_what_they_know(rt: HostRuntime) -> Result<(), Fail> {
 }
 
 /// The workload of a row, said to be of version 2.
-fn in_version_two(rt: &impl Abort, alloc: Global, row: &Row) -> Result<Vec<u8>, Fail> {
+pub fn in_version_two(rt: &impl Abort, alloc: Global, row: &Row) -> Result<Vec<u8>, Fail> {
     assert!(rt; row.workload.starts_with(b"version = 1\n"), "{}", row.name);
     let mut workload = Vec::from_slice(alloc, b"version = 2\n")?;
     workload.extend_from_slice(&row.workload[12..])?;
