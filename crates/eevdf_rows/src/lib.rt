@@ -15,9 +15,13 @@ mod damaged_workloads;
 #[cfg(test)]
 mod every_interleaving;
 #[cfg(test)]
+mod fleet_limits;
+#[cfg(test)]
 mod interleavings;
 #[cfg(test)]
 mod limits;
+#[cfg(test)]
+mod long_orders;
 #[cfg(test)]
 mod many_cpus;
 #[cfg(test)]
