@@ -13,6 +13,9 @@ from plain.runs import run
 from plain.words import deed_of
 from plain.workload import read_workload
 from programs import outcome
+from put_back import with_script, without_requests
+
+REPORT = re.compile(rb"((?:.*\n)?)(script = \[\n((?:\".*\",\n)*)\]\n)", re.DOTALL)
 
 
 @dataclass(frozen=True)
@@ -28,10 +31,10 @@ def compared(what, said, expected):
 
 def history_of(setup, text):
     """The deeds of the history at the end of a report, or None where it has none that the setup allows."""
-    found = re.fullmatch(rb"(?:.*\n)?script = \[\n((?:\".*\",\n)*)\]\n", text, re.DOTALL)
+    found = REPORT.fullmatch(text)
     if found is None:
         return None
-    deeds = [deed_of(VERSIONS[2], line[1:-2]) for line in found[1].decode().splitlines()]
+    deeds = [deed_of(VERSIONS[2], line[1:-2]) for line in found[3].decode().splitlines()]
     if not all(deed is not None and is_allowed(setup, *deed) for deed in deeds):
         return None
     return deeds
@@ -48,7 +51,15 @@ def check_run(programs, data):
     expected = None if history is None else run(setup, history)
     if expected is None:
         return Difference("history of eevdf run", said, None)
-    return compared("eevdf run", said, outcome(report(expected, True), 0))
+    difference = compared("eevdf run", said, outcome(report(expected, True), 0))
+    return difference or check_put_back(programs, data, said.out)
+
+
+def check_put_back(programs, data, text):
+    """The history of a run in place of the workload's own script: one thread comes to the same, but for requests that are left."""
+    script = REPORT.fullmatch(text)[2]
+    said = programs.run("eevdf", ("solo", "--history"), with_script(data, script))
+    return compared("eevdf solo of the history of eevdf run", said, outcome(without_requests(text), 0))
 
 
 def check_bench(programs, words, data):
