@@ -1,0 +1,61 @@
+"""Runs a program within bounds on its time and its memory."""
+
+import os
+import resource
+import subprocess
+import tempfile
+import threading
+import time
+from dataclasses import dataclass
+
+from text import Answer
+
+MOST_SECONDS = 2
+MOST_MEMORY = 1 << 30
+
+# A program that goes on for so long is ended. A busy machine may need many times what the program takes.
+PATIENCE = 60
+
+
+@dataclass(frozen=True)
+class Run:
+    """An answer, the wall time and the processor time that it took, and the greatest resident memory in bytes."""
+
+    answer: Answer
+    wall: float
+    processor: float
+    memory: int
+
+    def seconds(self):
+        """The time of a program that computes and never waits: on a busy machine its wall time is longer than its processor
+        time, and with several threads its processor time is longer than its wall time."""
+        return min(self.wall, self.processor)
+
+    def is_within(self):
+        return self.seconds() <= MOST_SECONDS and self.memory <= MOST_MEMORY
+
+
+def limit_memory():
+    resource.setrlimit(resource.RLIMIT_AS, (MOST_MEMORY, MOST_MEMORY))
+
+
+def run_files(words, data, out, errors, limited):
+    """Runs a program on files to its end, or until the patience is over."""
+    begun = time.monotonic()
+    process = subprocess.Popen(words, stdin=data, stdout=out, stderr=errors, preexec_fn=limit_memory if limited else None)
+    alarm = threading.Timer(PATIENCE, process.kill)
+    alarm.start()
+    _, status, used = os.wait4(process.pid, 0)
+    alarm.cancel()
+    process.returncode = os.waitstatus_to_exitcode(status)
+    return process.returncode, time.monotonic() - begun, used
+
+
+def run(words, data, limited):
+    """Runs a program on the file of a text. Where it is limited, its address space is too, and more memory is refused."""
+    with tempfile.TemporaryFile() as out, tempfile.TemporaryFile() as errors:
+        data.seek(0)
+        status, wall, used = run_files(words, data, out, errors, limited)
+        out.seek(0)
+        errors.seek(0)
+        return Run(Answer(out.read(), status, errors.read()), wall, used.ru_utime + used.ru_stime, used.ru_maxrss * 1024)

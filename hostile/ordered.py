@@ -1,0 +1,35 @@
+"""What `eevdf_orders` is sent. Its faults go to standard error."""
+
+from text import MOST_BYTES, NOT_TOML, Answer, Text, fault, filled, given, numbered, padded
+from workloads import OPERATIONS, TASK, programs
+
+LONGEST = programs(b"pick", OPERATIONS, 25) + TASK
+SHORT = b"version = 1\nprogram = [[]]" + TASK
+
+
+def refused(answer):
+    return Answer(b"", answer.status, answer.printed)
+
+
+def put_in(text, order):
+    """A text with an order in front of it, in lines of 32 places each."""
+    lines = [order[at:at + 32] for at in range(0, len(order), 32)]
+    return b"order = [\n" + b"".join(b", ".join(b"%d" % caller for caller in line) + b",\n" for line in lines) + b"]\n" + text
+
+
+def sent(name, make, answer):
+    return Text(name, make, answer, (), "eevdf_orders")
+
+
+ORDERED = (
+    sent("newlines to be ordered", filled(b"\n"), refused(fault("missing version"))),
+    sent("brackets to be ordered", filled(b"["), refused(NOT_TOML)),
+    sent("a million keys to be ordered", numbered(b"k%d = 1\n", 1000000), refused(fault("missing version"))),
+    sent("arrays to be ordered", given(b"x = " + b"[" * 100000 + b"]" * 100000), refused(NOT_TOML)),
+    sent("bytes past the limit to be ordered", filled(b"\n", size=MOST_BYTES + 1),
+         refused(fault("workload longer than 16777216 bytes"))),
+    sent("the longest programs to be ordered", given(programs(b"pick", OPERATIONS, 64) + TASK),
+         refused(fault("order longer than 1000000"))),
+    sent("programs of the longest order", given(LONGEST), Answer(put_in(LONGEST, list(range(25)) * (4 * OPERATIONS)), 0)),
+    sent("a workload up to the limit to be ordered", padded(SHORT), Answer(put_in(padded(SHORT)(), []), 0)),
+)
