@@ -10,9 +10,10 @@ from beyond import BEYOND
 from bounds import MOST_MEMORY, MOST_SECONDS, run
 from documents import DOCUMENTS
 from ordered import ORDERED
+from words import WORDS
 from workloads import WORKLOADS
 
-TEXTS = (*DOCUMENTS, *WORKLOADS, *ORDERED)
+TEXTS = (*DOCUMENTS, *WORKLOADS, *ORDERED, *WORDS)
 
 
 def parse_words():

@@ -1,0 +1,12 @@
+"""Words of a command, more and longer ones than anybody types."""
+
+from text import Answer, Text, given
+
+USAGE = Answer(b"usage: eevdf solo|replay|run [--history]\n", 2)
+NOTHING = given(b"")
+
+WORDS = (
+    Text("fifty thousand words", NOTHING, USAGE, ("solo",) * 50000),
+    Text("a flag again and again", NOTHING, USAGE, ("solo", *["--history"] * 50000)),
+    Text("long words", NOTHING, USAGE, ("s" * 131000,) * 10),
+)
