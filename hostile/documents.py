@@ -1,6 +1,6 @@
 """Documents of a form that takes a reader of TOML long, or much memory, or that ends where it shouldn't."""
 
-from text import NO_VERSION, NOT_TOML, Text, filled, given, numbered
+from text import NO_MEMORY, NO_VERSION, NOT_TOML, Text, filled, given, numbered
 
 # Arrays and inline tables stand in one another to this depth, and a key has so many parts.
 DEPTH = 80
@@ -110,7 +110,17 @@ TABLES = (
     Text("strings of an array", filled(b'"a",', b"x = [", b"]\n"), NO_VERSION),
     Text("empty inline tables of an array", filled(b"{},", b"x = [", b"]\n"), NO_VERSION),
     Text("inline tables of an array", given(b"x = [" + b"{a=1}," * 500000 + b"]\n"), NO_VERSION),
+    Text("arrays of one number of an array", filled(b"[1],", b"x = [", b"]\n"), NO_VERSION),
     Text("commas of an array", filled(b",", b"x = [", b"]\n"), NOT_TOML),
 )
 
-DOCUMENTS = (*BLANK, *NESTED, *NUMBERS, *STRINGS, *KEYS, *TABLES)
+# These need more than 1 GiB, most of them many times that.
+LARGE = (
+    Text("headers of many parts, each of its own", numbered(b"[k%d" + b".a" * 79 + b"]\n", 95000), NO_MEMORY),
+    Text("dotted keys of many parts, each of its own", numbered(b"k%d" + b".a" * 79 + b" = 1\n", 95000), NO_MEMORY),
+    Text("inline tables of a key of many parts", filled(b"{" + b"a." * 79 + b"a=1},", b"x = [", b"]\n"), NO_MEMORY),
+    Text("deep inline tables of an array", filled(b"{a=" * 78 + b"1" + b"}" * 78 + b",", b"x = [", b"]\n"), NO_MEMORY),
+    Text("deep arrays of an array", filled(b"[" * 79 + b"]" * 79 + b",", b"x = [", b"]\n"), NO_MEMORY),
+)
+
+DOCUMENTS = (*BLANK, *NESTED, *NUMBERS, *STRINGS, *KEYS, *TABLES, *LARGE)

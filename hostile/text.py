@@ -35,6 +35,7 @@ def report(*lines):
 
 NOT_TOML = fault("not a TOML document")
 NO_VERSION = fault("missing version")
+NO_MEMORY = fault("memory", 3)
 
 
 def given(text):
