@@ -1,7 +1,7 @@
-//! Tests that cross the crates: worked examples as tables of what is read and what is printed, each run by the
-//! workbench's engine over memory, readers and writers that fail, workloads that are damaged, limits and what is past
-//! them, every order of the steps of small workloads, worked values of single calls, drawn operations of a fleet by
-//! several threads, and programs that threads run.
+//! Tests of the crates below: worked examples as tables of what is read and what is printed, each run by the workbench's
+//! engine over memory, the texts that it reads and prints, readers and writers that fail, workloads that are damaged, limits
+//! and what is past them, every order of the steps of small workloads, worked values of single calls, of a queue and of a
+//! fleet too, drawn operations of a fleet by several threads, and programs that threads run.
 #![tactic(auto)]
 
 #[cfg(test)]
@@ -14,6 +14,10 @@ mod calls;
 mod damaged_workloads;
 #[cfg(test)]
 mod every_interleaving;
+#[cfg(test)]
+mod fixtures;
+#[cfg(test)]
+mod fleet_calls;
 #[cfg(test)]
 mod fleet_limits;
 #[cfg(test)]
@@ -30,6 +34,10 @@ mod nice_levels;
 mod one_place;
 #[cfg(test)]
 mod one_thread_again;
+#[cfg(test)]
+mod queue_calls;
+#[cfg(test)]
+mod queue_trees;
 #[cfg(test)]
 mod ready_callers;
 #[cfg(test)]

@@ -19,6 +19,14 @@ fn deeds(alloc: Global, lines: &[Line]) -> Result<Vec<Deed>, AllocError>
     lines.iter().map(|line| line.deed).collect(alloc)
 }
 
+/// What one thread comes to that does the deeds of the outcome's lines one after the other.
+pub fn done_alone(alloc: Global, setup: &Setup, outcome: &Outcome) -> Result<Outcome, AllocError>
+    requires { list_all (allows setup.now) (deeds_of outcome.now.lines) ≡ true }
+{
+    let deeds = deeds(alloc, outcome.history())?;
+    solo(alloc, setup, &deeds)
+}
+
 /// One thread that does the deeds of the outcome's lines one after the other gets its answers and leaves its queues, and
 /// no task is lost or doubled.
 pub fn check_as_one_thread(
@@ -30,8 +38,7 @@ pub fn check_as_one_thread(
 ) -> Result<(), Fail>
     requires { list_all (allows setup.now) (deeds_of outcome.now.lines) ≡ true }
 {
-    let deeds = deeds(alloc, outcome.history())?;
-    let alone = solo(alloc, setup, &deeds)?;
+    let alone = done_alone(alloc, setup, outcome)?;
     let tasks = setup.tasks() as u64;
     assert!(rt; outcome.cpus() == setup.cpus(), "seed {seed}");
     assert!(rt; alone.history() == outcome.history(), "seed {seed}");

@@ -1,0 +1,58 @@
+//! CPUs, tasks and times for tests, by their numbers, and tasks on their way into a queue.
+
+use eevdf_ops::CpuId;
+use eevdf_queue::{Parcel, Queue, TaskId};
+use eevdf_weight::{Nice, Ns, Slice};
+use std::alloc::Global;
+use std::process::Abort;
+use std::test::Fail;
+
+pub fn cpu(number: u64) -> Result<CpuId, Fail> {
+    Ok(CpuId::new(number).ok_or("cpu")?)
+}
+
+pub fn task(number: u64) -> Result<TaskId, Fail> {
+    Ok(TaskId::new(number).ok_or("task")?)
+}
+
+pub fn nice(level: i64) -> Result<Nice, Fail> {
+    Ok(Nice::new(level).ok_or("nice")?)
+}
+
+pub fn slice(ns: u64) -> Result<Slice, Fail> {
+    Ok(Slice::new(ns).ok_or("slice")?)
+}
+
+pub fn ns(number: u64) -> Result<Ns, Fail> {
+    Ok(Ns::new(number).ok_or("ns")?)
+}
+
+/// A task of nice level 0 that starts at the virtual runtime `v`.
+pub fn parcel(alloc: Global, number: u64, slice_ns: u64, v: i64) -> Result<Parcel, Fail> {
+    Ok(Parcel::make(alloc, task(number)?, nice(0)?, slice(slice_ns)?, v)?)
+}
+
+/// Makes a task that isn't in the queue runnable there.
+pub fn admit(rt: &impl Abort, queue: &mut Queue, parcel: Parcel) {
+    let task = parcel.task();
+    assert!(rt; queue.entry(task).is_none());
+    assert!(rt; !queue.asleep(task));
+    assert!(rt; queue.admit(parcel).is_ok());
+}
+
+/// Makes a task that isn't in the queue, and can join, runnable with its lag.
+pub fn attach(rt: &impl Abort, queue: &mut Queue, parcel: Parcel) {
+    let task = parcel.task();
+    assert!(rt; queue.entry(task).is_none());
+    assert!(rt; !queue.asleep(task));
+    assert!(rt; queue.can_place(parcel.nice(), parcel.slice(), parcel.lag()));
+    queue.attach(parcel);
+}
+
+/// Puts a task that isn't in the queue to sleep there.
+pub fn put_asleep(rt: &impl Abort, queue: &mut Queue, parcel: Parcel) {
+    let task = parcel.task();
+    assert!(rt; queue.entry(task).is_none());
+    assert!(rt; !queue.asleep(task));
+    queue.put_asleep(parcel);
+}

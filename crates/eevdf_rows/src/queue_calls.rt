@@ -1,0 +1,99 @@
+//! Worked values of the calls of one queue.
+
+use crate::fixtures::{admit, attach, ns, parcel, put_asleep, task};
+use eevdf_queue::{Queue, TickAnswer, WakeAnswer, YieldAnswer};
+use eevdf_weight::{Nice, Slice};
+use std::alloc::Global;
+use std::process::Abort;
+use std::test::Fail;
+
+/// Where a task is to stand in a queue.
+#[derive(Clone, Copy)]
+struct Place {
+    v: i64,
+    d: i64,
+    lag: i64,
+}
+
+/// Asks that a task is runnable, and stands at this place.
+fn stands_at(rt: &impl Abort, queue: &Queue, number: u64, place: &Place) -> Result<(), Fail> {
+    let task = task(number)?;
+    let entry = queue.entry(task).ok_or("not runnable")?;
+    assert_eq!(rt; entry.v, place.v);
+    assert_eq!(rt; entry.d, place.d);
+    assert_eq!(rt; queue.lag_of(task), Some(place.lag));
+    Ok(())
+}
+
+#[test]
+fn a_sleeping_task_is_not_picked(rt: HostRuntime) -> Result<(), Fail> {
+    let mut queue = Queue::open();
+    let sleeper = parcel(rt.alloc(), 7, 3_000_000, 5)?;
+    assert_eq!(rt; sleeper.start(), 5);
+    assert_eq!(rt; sleeper.lag(), 0);
+    assert_eq!(rt; Some(sleeper.nice()), Nice::new(0));
+    assert_eq!(rt; Some(sleeper.slice()), Slice::new(3_000_000));
+    put_asleep(&rt, &mut queue, sleeper);
+    assert!(rt; queue.asleep(task(7)?));
+    assert_eq!(rt; queue.lag_of(task(7)?), Some(0));
+    assert_eq!(rt; queue.lag_of(task(8)?), None);
+    assert_eq!(rt; queue.pick(), None);
+    assert_eq!(rt; queue.floor_time(), 0);
+    Ok(())
+}
+
+/// Two tasks of equal weight, of which the first runs and has been charged for a million nanoseconds.
+fn first_of_two(rt: &impl Abort, alloc: Global) -> Result<Queue, Fail> {
+    let mut queue = Queue::open();
+    admit(rt, &mut queue, parcel(alloc, 0, 3_000_000, 0)?);
+    admit(rt, &mut queue, parcel(alloc, 1, 3_000_000, 0)?);
+    let first = task(0)?;
+    assert_eq!(rt; queue.pick(), Some(first));
+    let charged = TickAnswer::Charged {
+        task: first,
+        resched: false,
+    };
+    assert_eq!(rt; queue.tick(ns(1_000_000)?), charged);
+    Ok(queue)
+}
+
+#[test]
+fn a_waiting_task_leaves_and_joins_with_its_lag(rt: HostRuntime) -> Result<(), Fail> {
+    let mut queue = first_of_two(&rt, rt.alloc())?;
+    let waiting = queue.candidate().ok_or("nobody waits")?;
+    let pulled = queue.detach(waiting);
+    assert_eq!(rt; pulled.task().get(), 1);
+    assert_eq!(rt; pulled.lag(), 500_000);
+    assert_eq!(rt; queue.floor_time(), 1_000_000);
+    attach(&rt, &mut queue, pulled);
+    let joined = Place {
+        v: 0,
+        d: 3_000_000,
+        lag: 500_000,
+    };
+    stands_at(&rt, &queue, 1, &joined)?;
+    assert_eq!(rt; queue.yield_now(), YieldAnswer::Yielded);
+    let yielded = Place {
+        v: 1_000_000,
+        d: 6_000_000,
+        lag: -500_000,
+    };
+    stands_at(&rt, &queue, 0, &yielded)
+}
+
+#[test]
+fn a_running_task_sleeps_and_wakes_with_its_lag(rt: HostRuntime) -> Result<(), Fail> {
+    let mut queue = first_of_two(&rt, rt.alloc())?;
+    let sleeper = queue.detach_running(task(0)?).ok_or("not running")?;
+    assert_eq!(rt; queue.yield_now(), YieldAnswer::Idle);
+    put_asleep(&rt, &mut queue, sleeper);
+    assert_eq!(rt; queue.lag_of(task(0)?), Some(-500_000));
+    assert_eq!(rt; queue.wake(task(0)?), WakeAnswer::Woken);
+    assert_eq!(rt; queue.wake(task(0)?), WakeAnswer::Awake);
+    let woken = Place {
+        v: 1_000_000,
+        d: 4_000_000,
+        lag: -500_000,
+    };
+    stands_at(&rt, &queue, 0, &woken)
+}

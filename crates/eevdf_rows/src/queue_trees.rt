@@ -1,0 +1,169 @@
+//! Queues of many tasks, whose deadlines are the later the greater their numbers: whatever order the tasks come in, each is
+//! picked in its turn, by a descent of few turns.
+
+ghost use Rattle.std.specs.Prelude.{◌<◌};
+
+use crate::fixtures::{admit, ns, parcel, put_asleep, task};
+use eevdf_queue::{Parcel, Queue, TickAnswer, WakeAnswer};
+use std::alloc::Global;
+use std::process::Abort;
+use std::test::Fail;
+
+/// So many tasks there may be.
+const TASKS: u64 = 1024;
+
+/// The order in which the tasks come.
+#[derive(Clone, Copy, Debug)]
+enum Arrival {
+    Ascending,
+    Descending,
+    /// The least number, the greatest, the second least, and so on.
+    Alternating,
+}
+
+impl Arrival {
+    /// The number of the task that comes at a place.
+    fn number_at(self, place: u64) -> u64
+        requires { place < 1024 }
+    {
+        match self {
+            Arrival::Ascending => place,
+            Arrival::Descending => TASKS - 1 - place,
+            Arrival::Alternating => {
+                if place % 2 == 0 {
+                    place / 2
+                } else {
+                    TASKS - 1 - place / 2
+                }
+            }
+        }
+    }
+}
+
+/// The task of this number, which starts at 0. Its weight is 1024, so its deadline is its slice.
+fn numbered(alloc: Global, number: u64) -> Result<Parcel, Fail> {
+    let slice = 100_000 + 1000 * task(number)?.get();
+    parcel(alloc, number, slice, 0)
+}
+
+/// Asks that this task is picked after few turns, and takes it out.
+fn takes_next(rt: &impl Abort, queue: &mut Queue, number: u64) -> Result<(), Fail> {
+    let task = queue.pick().ok_or("empty")?;
+    assert_eq!(rt; task.get(), number);
+    assert!(rt; queue.pick_steps() <= 21);
+    let parcel = queue.detach_running(task).ok_or("not running")?;
+    assert!(rt; parcel.task() == task);
+    Ok(())
+}
+
+/// Asks that the picks of all tasks come in ascending number, when each picked task is taken out.
+fn empties_in_order(rt: &impl Abort, queue: &mut Queue) -> Result<(), Fail> {
+    assert_eq!(rt; queue.len() as u64, TASKS);
+    assert_eq!(rt; queue.candidate(), Some(task(1023)?));
+    assert_eq!(rt; queue.pick(), Some(task(0)?));
+    assert!(rt; queue.pick_steps() >= 6);
+    for number in 0..TASKS {
+        takes_next(rt, queue, number)?;
+    }
+    assert_eq!(rt; queue.pick(), None);
+    assert_eq!(rt; queue.pick_steps(), 0);
+    Ok(())
+}
+
+#[test]
+fn one_task_is_picked_in_one_turn(rt: HostRuntime) -> Result<(), Fail> {
+    let mut queue = Queue::open();
+    admit(&rt, &mut queue, numbered(rt.alloc(), 7)?);
+    assert_eq!(rt; queue.candidate(), Some(task(7)?));
+    assert_eq!(rt; queue.pick(), Some(task(7)?));
+    assert_eq!(rt; queue.pick_steps(), 1);
+    assert_eq!(rt; queue.candidate(), None);
+    Ok(())
+}
+
+#[test]
+fn tasks_are_picked_by_deadline_whatever_their_arrival(rt: HostRuntime) -> Result<(), Fail> {
+    for arrival in [
+        Arrival::Ascending,
+        Arrival::Descending,
+        Arrival::Alternating,
+    ] {
+        let mut queue = Queue::open();
+        for place in 0..TASKS {
+            admit(
+                &rt,
+                &mut queue,
+                numbered(rt.alloc(), arrival.number_at(place))?,
+            );
+        }
+        empties_in_order(&rt, &mut queue)?;
+    }
+    Ok(())
+}
+
+#[test]
+fn sleeping_tasks_wake_one_after_the_other(rt: HostRuntime) -> Result<(), Fail> {
+    let mut queue = Queue::open();
+    for number in 0..TASKS {
+        put_asleep(&rt, &mut queue, numbered(rt.alloc(), number)?);
+    }
+    for place in 0..TASKS {
+        let task = task(Arrival::Descending.number_at(place))?;
+        assert_eq!(rt; queue.lag_of(task), Some(0));
+        assert_eq!(rt; queue.wake(task), WakeAnswer::Woken);
+        assert!(rt; !queue.asleep(task));
+        assert_eq!(rt; queue.entry(task).map(|entry| entry.v), Some(0));
+        assert_eq!(rt; queue.wake(task), WakeAnswer::Awake);
+    }
+    empties_in_order(&rt, &mut queue)
+}
+
+/// Picks the next task, which is to be this one, and charges it.
+fn charges_next(
+    rt: &impl Abort,
+    queue: &mut Queue,
+    number: u64,
+    time: u64,
+    resched: bool,
+) -> Result<(), Fail> {
+    let task = task(number)?;
+    assert_eq!(rt; queue.pick(), Some(task));
+    assert_eq!(rt;
+        queue.tick(ns(time)?),
+        TickAnswer::Charged { task, resched }
+    );
+    Ok(())
+}
+
+/// The virtual runtime and the deadline of a runnable task.
+fn times(queue: &Queue, number: u64) -> Result<(i64, i64), Fail> {
+    let entry = queue.entry(task(number)?).ok_or("not runnable")?;
+    Ok((entry.v, entry.d))
+}
+
+/// A task that was charged is ahead of the mean, so the next one is picked. A tick of 1000 ns is below every slice and leaves
+/// the deadline; one of a million is past every slice, and the next deadline is a slice after the new virtual runtime.
+#[test]
+fn charged_tasks_take_turns(rt: HostRuntime) -> Result<(), Fail> {
+    let mut queue = Queue::open();
+    for number in (0..64u32).rev() {
+        admit(&rt, &mut queue, numbered(rt.alloc(), u64::from(number))?);
+    }
+    for number in 0..64u32 {
+        charges_next(&rt, &mut queue, u64::from(number), 1000, false)?;
+        let turns = i64::from(number) + 1;
+        assert_eq!(rt; queue.floor_time(), 1000 * turns / 64);
+        let deadline = 100_000 + 1000 * i64::from(number);
+        assert_eq!(rt; times(&queue, u64::from(number))?, (1000, deadline));
+    }
+    for number in 0..64u32 {
+        charges_next(&rt, &mut queue, u64::from(number), 1_000_000, true)?;
+        let turns = i64::from(number) + 1;
+        assert_eq!(rt; queue.floor_time(), 1000 + 1_000_000 * turns / 64);
+        let deadline = 1_001_000 + 100_000 + 1000 * i64::from(number);
+        assert_eq!(rt; times(&queue, u64::from(number))?, (1_001_000, deadline));
+    }
+    assert_eq!(rt; queue.candidate(), Some(task(62)?));
+    assert_eq!(rt; queue.pick(), Some(task(0)?));
+    Ok(())
+}
