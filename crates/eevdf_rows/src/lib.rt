@@ -7,13 +7,21 @@
 #[cfg(test)]
 mod ample_memory;
 #[cfg(test)]
+mod bad_values;
+#[cfg(test)]
 mod broken_ends;
 #[cfg(test)]
 mod calls;
 #[cfg(test)]
+mod command_words;
+#[cfg(test)]
 mod damaged_workloads;
 #[cfg(test)]
+mod deed_texts;
+#[cfg(test)]
 mod every_interleaving;
+#[cfg(test)]
+mod fault_lines;
 #[cfg(test)]
 mod fixtures;
 #[cfg(test)]
@@ -35,6 +43,8 @@ mod one_place;
 #[cfg(test)]
 mod one_thread_again;
 #[cfg(test)]
+mod operation_texts;
+#[cfg(test)]
 mod queue_calls;
 #[cfg(test)]
 mod queue_trees;
@@ -44,6 +54,8 @@ mod ready_callers;
 mod refusals;
 #[cfg(test)]
 mod replays;
+#[cfg(test)]
+mod report_texts;
 #[cfg(test)]
 mod runs;
 #[cfg(test)]
@@ -60,3 +72,5 @@ mod table;
 mod threads;
 #[cfg(test)]
 mod versions;
+#[cfg(test)]
+mod whole_machines;

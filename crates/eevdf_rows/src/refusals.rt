@@ -1,9 +1,6 @@
-//! Workloads and words that are refused.
+//! Workloads that are refused.
 
-use crate::table::{
-    REPLAY, REPLAY_WITH_HISTORY, RUN, RUN_WITH_HISTORY, Row, SOLO, SOLO_WITH_HISTORY, check,
-};
-use eevdf_bench::{WordFault, command_of};
+use crate::table::{Row, SOLO, check};
 use std::test::Fail;
 
 const ROWS: [Row; 20] = [
@@ -155,21 +152,4 @@ fn workloads_get_their_fault_lines(rt: HostRuntime) -> Result<(), Fail> {
         check(&rt, rt.alloc(), row)?;
     }
     Ok(())
-}
-
-#[test]
-fn only_known_commands_are_taken(rt: HostRuntime) {
-    let solo = ["eevdf", "solo", "--history"];
-    assert!(rt; command_of(rt.alloc(), &solo[..2]) == Ok(SOLO));
-    assert!(rt; command_of(rt.alloc(), solo.as_slice()) == Ok(SOLO_WITH_HISTORY));
-    let replay = ["eevdf", "replay", "--history"];
-    assert!(rt; command_of(rt.alloc(), &replay[..2]) == Ok(REPLAY));
-    assert!(rt; command_of(rt.alloc(), replay.as_slice()) == Ok(REPLAY_WITH_HISTORY));
-    let run = ["eevdf", "run", "--history"];
-    assert!(rt; command_of(rt.alloc(), &run[..2]) == Ok(RUN));
-    assert!(rt; command_of(rt.alloc(), run.as_slice()) == Ok(RUN_WITH_HISTORY));
-    let alone = ["eevdf"];
-    assert!(rt; command_of(rt.alloc(), alone.as_slice()) == Err(WordFault::Words));
-    let other = ["eevdf", "stop"];
-    assert!(rt; command_of(rt.alloc(), other.as_slice()) == Err(WordFault::Words));
 }

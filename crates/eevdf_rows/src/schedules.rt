@@ -3,7 +3,7 @@
 use crate::table::{Row, SOLO, SOLO_WITH_HISTORY, check};
 use std::test::Fail;
 
-pub const ROWS: [Row; 17] = [
+pub const ROWS: [Row; 18] = [
     Row {
         name: "two tasks take turns",
         command: SOLO,
@@ -114,6 +114,13 @@ pub const ROWS: [Row; 17] = [
         command: SOLO,
         workload: b"version = 1\nprogram = [[]]\nscript = [\"0 pick\", \"0 tick 99999\", \"0 sleep 0\", \"0 wake 0 from 0\"]\n[[task]]\nstart = 1152921504606746976\nslice = 100000\n",
         printed: "cpu 0\npick: picked 0\ntick 99999: charged 0\nsleep 0: slept 0\nwake 0 from 0: range\nload 0 floor 1152921504606846975\nasleep 0 lag 0\n",
+        status: 0,
+    },
+    Row {
+        name: "a sleeping task keeps its lag",
+        command: SOLO_WITH_HISTORY,
+        workload: b"version = 1\nprogram = [[]]\nscript = [\"0 pick\", \"0 tick 3000000\", \"0 sleep 0\"]\n[[task]]\n[[task]]\n",
+        printed: "cpu 0\npick: picked 0\ntick 3000000: charged 0 resched\nsleep 0: slept -1500000\nload 1024 floor 0\ntask 1 v 0 d 3000000 lag 0\nasleep 0 lag -1500000\nscript = [\n\"0 pick\",\n\"0 tick 3000000\",\n\"0 sleep 0\",\n]\n",
         status: 0,
     },
     Row {

@@ -8,7 +8,7 @@ use std::sync::Wait;
 use std::test::Fail;
 use std::thread::Threads;
 
-const ROWS: [Row; 8] = [
+const ROWS: [Row; 15] = [
     Row {
         name: "version 1 doesn't know the word renice in a script",
         command: SOLO,
@@ -63,6 +63,55 @@ const ROWS: [Row; 8] = [
         command: SOLO,
         workload: b"version = 3\nprogram = [[]]\nscript = []\n[[task]]\n",
         printed: "fault: bad value at version\n",
+        status: 1,
+    },
+    Row {
+        name: "nor version 0",
+        command: SOLO,
+        workload: b"version = 0\nprogram = [[]]\nscript = []\n[[task]]\n",
+        printed: "fault: bad value at version\n",
+        status: 1,
+    },
+    Row {
+        name: "nor one below it",
+        command: SOLO,
+        workload: b"version = -1\nprogram = [[]]\nscript = []\n[[task]]\n",
+        printed: "fault: bad value at version\n",
+        status: 1,
+    },
+    Row {
+        name: "a version that is a text",
+        command: SOLO,
+        workload: b"version = \"1\"\nprogram = [[]]\nscript = []\n[[task]]\n",
+        printed: "fault: bad value at version\n",
+        status: 1,
+    },
+    Row {
+        name: "seventeen CPUs in version 2, and no tasks",
+        command: SOLO,
+        workload: b"version = 2\nprogram = [[], [], [], [], [], [], [], [], [], [], [], [], [], [], [], [], []]\nscript = []\ntask = []\n",
+        printed: "fault: number of tasks\n",
+        status: 1,
+    },
+    Row {
+        name: "version 1 knows no CPU 16",
+        command: SOLO,
+        workload: b"version = 1\nprogram = [[]]\nscript = []\n[[task]]\nhome = 16\n",
+        printed: "fault: bad value at task 0 home\n",
+        status: 1,
+    },
+    Row {
+        name: "version 2 knows CPU 63, but the setup hasn't got it",
+        command: SOLO,
+        workload: b"version = 2\nprogram = [[]]\nscript = []\n[[task]]\nhome = 63\n",
+        printed: "fault: home of task 0\n",
+        status: 1,
+    },
+    Row {
+        name: "version 2 knows no CPU 64",
+        command: SOLO,
+        workload: b"version = 2\nprogram = [[]]\nscript = []\n[[task]]\nhome = 64\n",
+        printed: "fault: bad value at task 0 home\n",
         status: 1,
     },
 ];

@@ -1,0 +1,142 @@
+//! The line that is printed for each fault, and the exit status.
+
+use eevdf_bench::{BenchFault, Key, LoadFault, fault_text, status_of};
+use eevdf_fleet::RunFault;
+use eevdf_ops::{CpuId, SetupFault};
+use eevdf_steps::PlayFault;
+use std::alloc::Global;
+use std::process::Abort;
+use std::test::Fail;
+
+/// Compares the line and the status of a fault.
+fn check(
+    rt: &impl Abort,
+    alloc: Global,
+    fault: BenchFault,
+    line: &str,
+    status: u8,
+) -> Result<(), Fail> {
+    let text = fault_text(alloc, &fault)?;
+    assert!(rt; text.as_slice() == line.as_bytes(), "{line}");
+    assert!(rt; status_of(&fault) == status, "{line}");
+    Ok(())
+}
+
+const KEYS: [(Key, &str); 15] = [
+    (Key::Version, "version"),
+    (Key::Tasks, "task"),
+    (Key::Task(3), "task 3"),
+    (Key::Home(0), "task 0 home"),
+    (Key::Nice(7), "task 7 nice"),
+    (Key::Slice(10), "task 10 slice"),
+    (Key::Start(1023), "task 1023 start"),
+    (Key::Asleep(1), "task 1 asleep"),
+    (Key::Programs, "program"),
+    (Key::Program(63), "program 63"),
+    (Key::Op(0, 12), "program 0 at 12"),
+    (Key::Orders, "order"),
+    (Key::Order(999_999), "order at 999999"),
+    (Key::Scripts, "script"),
+    (Key::Script(3), "script at 3"),
+];
+
+#[test]
+fn each_key_has_its_text(rt: HostRuntime) -> Result<(), Fail> {
+    let alloc = rt.alloc();
+    for (key, text) in KEYS {
+        let bad = BenchFault::Load(LoadFault::BadValue { key });
+        let line = format!(in alloc; "fault: bad value at {text}\n")?;
+        check(&rt, alloc, bad, &line, 1)?;
+        let missing = BenchFault::Load(LoadFault::Missing { key });
+        let line = format!(in alloc; "fault: missing {text}\n")?;
+        check(&rt, alloc, missing, &line, 1)?;
+    }
+    Ok(())
+}
+
+const REFUSALS: [(LoadFault, &str); 9] = [
+    (
+        LoadFault::TooLarge,
+        "fault: workload longer than 16777216 bytes\n",
+    ),
+    (LoadFault::NotToml, "fault: not a TOML document\n"),
+    (
+        LoadFault::Setup(SetupFault::BadCpus),
+        "fault: number of cpus\n",
+    ),
+    (
+        LoadFault::Setup(SetupFault::BadTasks),
+        "fault: number of tasks\n",
+    ),
+    (
+        LoadFault::Setup(SetupFault::BadHome { task: 7 }),
+        "fault: home of task 7\n",
+    ),
+    (
+        LoadFault::Setup(SetupFault::BadStart { task: 0 }),
+        "fault: start of task 0\n",
+    ),
+    (
+        LoadFault::Setup(SetupFault::TooLong { cpu: 1 }),
+        "fault: program 1 too long\n",
+    ),
+    (
+        LoadFault::Setup(SetupFault::UnknownTask { cpu: 1, at: 20 }),
+        "fault: unknown task at program 1 at 20\n",
+    ),
+    (
+        LoadFault::Setup(SetupFault::BadPull { cpu: 15, at: 0 }),
+        "fault: bad pull at program 15 at 0\n",
+    ),
+];
+
+#[test]
+fn each_refusal_of_a_workload_has_its_line(rt: HostRuntime) -> Result<(), Fail> {
+    for (fault, line) in REFUSALS {
+        check(&rt, rt.alloc(), BenchFault::Load(fault), line, 1)?;
+    }
+    Ok(())
+}
+
+#[test]
+fn each_refusal_of_an_order_has_its_line(rt: HostRuntime) -> Result<(), Fail> {
+    let cpu = CpuId::new(15).ok_or("cpu")?;
+    for (fault, line) in [
+        (PlayFault::TooLong, "fault: order longer than 1000000\n"),
+        (
+            PlayFault::NoCaller { at: 1 },
+            "fault: order at 1: no caller\n",
+        ),
+        (PlayFault::Done { at: 4 }, "fault: order at 4: done\n"),
+        (
+            PlayFault::Blocked { at: 4, cpu },
+            "fault: order at 4: blocked on 15\n",
+        ),
+        (PlayFault::Short { caller: 2 }, "fault: order short at 2\n"),
+    ] {
+        check(&rt, rt.alloc(), BenchFault::Play(fault), line, 1)?;
+    }
+    Ok(())
+}
+
+const FAILURES: [(BenchFault, &str); 8] = [
+    (
+        BenchFault::Load(LoadFault::Setup(SetupFault::Memory)),
+        "fault: memory\n",
+    ),
+    (BenchFault::Load(LoadFault::Memory), "fault: memory\n"),
+    (BenchFault::Play(PlayFault::Memory), "fault: memory\n"),
+    (BenchFault::Run(RunFault::Memory), "fault: memory\n"),
+    (BenchFault::Run(RunFault::Start), "fault: thread\n"),
+    (BenchFault::Read, "fault: reading\n"),
+    (BenchFault::Write, "fault: writing\n"),
+    (BenchFault::Memory, "fault: memory\n"),
+];
+
+#[test]
+fn each_failure_of_the_machine_has_its_line(rt: HostRuntime) -> Result<(), Fail> {
+    for (fault, line) in FAILURES {
+        check(&rt, rt.alloc(), fault, line, 3)?;
+    }
+    Ok(())
+}
