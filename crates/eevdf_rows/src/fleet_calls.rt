@@ -1,105 +1,98 @@
-//! The calls of a fleet and of its seats, in one thread but for one test of two.
+//! The calls of a fleet and of its seats: tables of calls in one thread, each with what comes of it and the report of the
+//! outcome, and a test of two threads.
 
-ghost use Rattle.std.specs.Prelude.{◌≡◌};
-ghost use Rattle.eevdf_fleet.specs.Fleets.{setup_of};
-
+mod cases;
+mod limits;
 mod many_cpus;
-mod own_requests;
-mod requests;
-mod seats;
-mod sleeps;
+mod seat_call;
 mod two_threads;
 
-use crate::fixtures::{cpu, nice, slice, task};
-use eevdf_fleet::{Fleet, Names, RingFull, Seat};
-use eevdf_ops::{Answer, CpuId, Deed, Line, Setup, TaskSpec};
-use eevdf_queue::TaskId;
+ghost use Rattle.std.specs.Prelude.{◌≡◌, IfSome};
+ghost use Rattle.eevdf_fleet.specs.Fleets.{setup_of};
+
+use eevdf_bench::{read_workload, report};
+use eevdf_fleet::{Fleet, Kit, Names, Seat};
+use eevdf_ops::{Outcome, Setup};
+use seat_call::{Call, Done, call_on};
 use std::alloc::Global;
+use std::marker::Brand;
 use std::sync::Wait;
 use std::test::Fail;
 
-/// A task of this CPU that is runnable at 0.
-fn runnable(home: u64) -> Result<TaskSpec, Fail> {
-    Ok(TaskSpec {
-        home: cpu(home)?,
-        nice: nice(0)?,
-        slice: slice(3_000_000)?,
-        start: 0,
-        asleep: false,
-    })
+/// A fleet of the setup of a workload, the calls that are made one after the other, each on the seat of a CPU, and what the
+/// report of the outcome is, with its history.
+struct Case {
+    name: &'static str,
+    workload: &'static [u8],
+    quota: usize,
+    rings: usize,
+    calls: &'static [(usize, Call, Done)],
+    report: &'static str,
 }
 
-/// A task of this CPU that sleeps.
-fn sleeping(home: u64) -> Result<TaskSpec, Fail> {
-    Ok(TaskSpec {
-        asleep: true,
-        ..runnable(home)?
-    })
-}
-
-/// So many CPUs without programs, and so many tasks alike.
-fn setup(alloc: Global, cpus: usize, tasks: usize, task: TaskSpec) -> Result<Setup, Fail> {
-    let mut specs = Vec::new(alloc);
-    for _task in 0..tasks {
-        specs.push(task)?;
-    }
-    let mut programs = Vec::new(alloc);
-    for _cpu in 0..cpus {
-        programs.push(Vec::new(alloc))?;
-    }
-    Ok(Setup::make(alloc, &specs, &programs).ok().ok_or("setup")?)
-}
-
-/// The line of a wake on CPU 0.
-fn wake(number: u64, by: u64, answer: Answer) -> Result<Line, Fail> {
-    let deed = Deed::Wake {
-        cpu: cpu(0)?,
-        task: task(number)?,
-        sender: cpu(by)?,
-    };
-    Ok(Line { deed, answer })
-}
-
-/// Posts a request, if the setup has its task.
-fn post<N: Names>(seat: &mut Seat<N>, setup: &Setup, task: TaskId) -> Option<Result<(), RingFull>>
-    requires { setup_of N.kit ≡ setup.now }
-    ensures { seat.new.cpu ≡ seat.old.cpu }
-{
-    if (task.get() as usize) < setup.tasks() {
-        Some(seat.post(task))
-    } else {
-        None
-    }
-}
-
-fn pull<N: Names, R: Wait>(
+/// Makes the calls, up to the first of which something else comes than is told, and says whether there is none.
+fn make_calls<N: Names, R: Wait>(
     rt: &R,
     fleet: &Fleet<N>,
-    seat: &mut Seat<N>,
+    seats: &mut [Seat<N>],
     setup: &Setup,
-    source: CpuId,
-) -> Option<Answer>
+    calls: &[(usize, Call, Done)],
+) -> bool
     requires { setup_of N.kit ≡ setup.now }
 {
-    if (source.get() as usize) < setup.cpus() && source.get() != seat.cpu().get() {
-        fleet.pull(rt, seat, source).ok()
+    for (cpu, call, done) in calls {
+        let Some(seat) = seats.get_mut(*cpu) else {
+            return false;
+        };
+        if call_on(rt, fleet, seat, setup, *call) != Some(*done) {
+            return false;
+        }
+    }
+    true
+}
+
+/// What a fleet comes to by these calls, where each comes to what is told.
+fn outcome_of<N: Names, R: Wait>(
+    rt: &R,
+    alloc: Global,
+    setup: &Setup,
+    kit: Kit,
+    calls: &[(usize, Call, Done)],
+) -> Option<Outcome>
+    requires kit { kit ≡ N.kit }
+    requires setup { setup_of kit ≡ setup.now }
+{
+    let (fleet, mut seats) = Fleet::<N>::open(alloc, kit).ok()?;
+    if make_calls(rt, &fleet, &mut seats, setup, calls) && fleet.has_all_seats(&seats) {
+        Some(fleet.close(seats))
     } else {
         None
     }
 }
 
-fn sleep<N: Names, R: Wait>(
-    rt: &R,
-    fleet: &Fleet<N>,
-    seat: &mut Seat<N>,
-    setup: &Setup,
-    task: TaskId,
-) -> Option<Answer>
-    requires { setup_of N.kit ≡ setup.now }
+/// A kit, where the quota and the rings are such as a kit may have.
+fn kit_of(alloc: Global, setup: &Setup, quota: usize, rings: usize) -> Option<Kit>
+    ensures { IfSome result (λ kit. setup_of kit ≡ setup.now) }
 {
-    if (task.get() as usize) < setup.tasks() {
-        fleet.sleep(rt, seat, task).ok()
+    if quota <= 1_000_000 && rings <= 1_000_000 {
+        Kit::make(alloc, setup, quota, rings).ok()
     } else {
         None
+    }
+}
+
+/// Whether a case comes to what it tells.
+fn holds<R: Wait>(rt: &R, alloc: Global, case: &Case) -> Option<bool> {
+    let workload = read_workload(alloc, case.workload).ok()?;
+    let kit = kit_of(alloc, workload.setup(), case.quota, case.rings)?;
+    let outcome = outcome_of::<Brand, _>(rt, alloc, workload.setup(), kit, case.calls)?;
+    let text = report(alloc, &outcome, true).ok()?;
+    Some(text.as_slice() == case.report.as_bytes())
+}
+
+#[test]
+fn seats_do_what_the_cases_tell(rt: HostRuntime) {
+    for case in &cases::CASES {
+        assert!(rt; holds(&rt, rt.alloc(), case) == Some(true), "{}", case.name);
     }
 }

@@ -27,8 +27,6 @@ mod fixtures;
 #[cfg(test)]
 mod fleet_calls;
 #[cfg(test)]
-mod fleet_limits;
-#[cfg(test)]
 mod interleavings;
 #[cfg(test)]
 mod limits;

@@ -3,74 +3,73 @@
 ghost use Rattle.std.specs.Prelude.{◌≡◌};
 ghost use Rattle.eevdf_fleet.specs.Fleets.{setup_of};
 
-use super::{post, setup, sleeping, wake};
-use crate::fixtures::task;
-use eevdf_fleet::{Drained, Fleet, Kit, Names, SeatFull};
-use eevdf_ops::{Answer, Setup};
+use super::kit_of;
+use super::seat_call::{Call, Done, call_on};
+use eevdf_fleet::{Fleet, Kit, Names, Seat};
+use eevdf_ops::{CpuId, Setup, TaskSpec};
+use eevdf_weight::{Nice, Slice};
 use std::alloc::Global;
 use std::marker::Brand;
-use std::process::Abort;
 use std::sync::Wait;
-use std::test::Fail;
 
-/// What the last CPU's drain answers, of 64 without requests, where a seat has this much room.
-fn drain_of_the_last<N: Names, R: Wait + Abort>(
-    rt: &R,
-    alloc: Global,
-    kit: Kit,
-) -> Result<Result<Drained, SeatFull>, Fail>
-    requires { kit ≡ N.kit }
-{
-    let (fleet, mut seats) = Fleet::<N>::open(alloc, kit)?;
-    assert!(rt; seats.len() == 64 && fleet.has_all_seats(&seats));
-    let mut last = seats.pop().ok_or("seat 63")?;
-    Ok(fleet.drain(rt, &mut last))
+/// Sixty-four CPUs without programs, with a task of CPU 0 that sleeps.
+fn sixty_four_cpus(alloc: Global) -> Option<Setup> {
+    let sleeper = TaskSpec {
+        home: CpuId::new(0)?,
+        nice: Nice::new(0)?,
+        slice: Slice::new(3_000_000)?,
+        start: 0,
+        asleep: true,
+    };
+    let mut programs = Vec::new(alloc);
+    for _cpu in 0..64 {
+        programs.push(Vec::new(alloc)).ok()?;
+    }
+    Setup::make(alloc, &[sleeper], &programs).ok()
 }
 
-#[test]
-fn a_drain_wants_sixty_four_lines(rt: HostRuntime) -> Result<(), Fail> {
-    let setup = setup(rt.alloc(), 64, 1, sleeping(0)?)?;
-    let short = Kit::make(rt.alloc(), &setup, 63, 1)?;
-    let answer = drain_of_the_last::<Brand, _>(&rt, rt.alloc(), short)?;
-    assert!(rt; answer == Err(SeatFull));
-    let enough = Kit::make(rt.alloc(), &setup, 64, 1)?;
-    let answer = drain_of_the_last::<Brand, _>(&rt, rt.alloc(), enough)?;
-    assert!(rt; answer == Ok(Drained { taken: 0, woken: 0 }));
-    Ok(())
-}
-
-/// Each of 64 CPUs asks for the one task of CPU 0, whose drain takes a request of each.
-fn all_ask<N: Names, R: Wait + Abort>(
+/// Whether each seat can post a request for the task.
+fn all_post<N: Names, R: Wait>(
     rt: &R,
-    alloc: Global,
+    fleet: &Fleet<N>,
+    seats: &mut [Seat<N>],
     setup: &Setup,
-    kit: Kit,
-) -> Result<(), Fail>
+) -> bool
+    requires { setup_of N.kit ≡ setup.now }
+{
+    for seat in seats {
+        if call_on(rt, fleet, seat, setup, Call::Post(0)) != Some(Done::Posted) {
+            return false;
+        }
+    }
+    true
+}
+
+/// What a drain of CPU 0 comes to, once all have asked for its task.
+fn all_ask<N: Names, R: Wait>(rt: &R, alloc: Global, setup: &Setup, kit: Kit) -> Option<Done>
     requires kit { kit ≡ N.kit }
     requires setup { setup_of kit ≡ setup.now }
 {
-    let (fleet, mut seats) = Fleet::<N>::open(alloc, kit)?;
-    let sleeper = task(0)?;
-    for seat in seats.iter_mut() {
-        assert!(rt; post(seat, setup, sleeper) == Some(Ok(())));
+    let (fleet, mut seats) = Fleet::<N>::open(alloc, kit).ok()?;
+    if !all_post(rt, &fleet, &mut seats, setup) {
+        return None;
     }
-    assert!(rt; seats.len() == 64);
-    let drained = fleet.drain(rt, &mut seats[0]);
-    assert!(rt;
-        drained
-            == Ok(Drained {
-                taken: 64,
-                woken: 1
-            })
-    );
-    assert!(rt; seats[0].log().first() == Some(&wake(0, 0, Answer::Woken)?));
-    assert!(rt; seats[0].log().last() == Some(&wake(0, 63, Answer::Awake)?));
-    Ok(())
+    call_on(rt, &fleet, seats.first_mut()?, setup, Call::Drain)
+}
+
+/// The same with so much room for lines.
+fn drain_of_room<R: Wait>(rt: &R, alloc: Global, quota: usize) -> Option<Done> {
+    let setup = sixty_four_cpus(alloc)?;
+    let kit = kit_of(alloc, &setup, quota, 1)?;
+    all_ask::<Brand, _>(rt, alloc, &setup, kit)
 }
 
 #[test]
-fn a_drain_takes_a_request_of_each_of_sixty_four_seats(rt: HostRuntime) -> Result<(), Fail> {
-    let setup = setup(rt.alloc(), 64, 1, sleeping(0)?)?;
-    let kit = Kit::make(rt.alloc(), &setup, 64, 1)?;
-    all_ask::<Brand, _>(&rt, rt.alloc(), &setup, kit)
+fn a_drain_takes_a_request_of_each_of_sixty_four_seats(rt: HostRuntime) {
+    let all = Done::Drained {
+        taken: 64,
+        woken: 1,
+    };
+    assert!(rt; drain_of_room(&rt, rt.alloc(), 63) == Some(Done::SeatFull));
+    assert!(rt; drain_of_room(&rt, rt.alloc(), 64) == Some(all));
 }

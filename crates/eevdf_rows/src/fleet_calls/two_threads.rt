@@ -3,16 +3,15 @@
 ghost use Rattle.std.specs.Prelude.{◌≡◌};
 ghost use Rattle.eevdf_fleet.specs.Fleets.{setup_of};
 
-use super::{pull, runnable, setup};
-use crate::fixtures::{cpu, ns};
+use super::kit_of;
+use super::seat_call::{Call, call_on};
 use crate::one_thread_again::done_alone;
 use crate::same_end::end_alike;
+use eevdf_bench::read_workload;
 use eevdf_fleet::{Fleet, Kit, Names, Seat};
-use eevdf_ops::{CpuId, Setup};
-use eevdf_weight::Ns;
+use eevdf_ops::{Outcome, Setup};
 use std::alloc::Global;
 use std::marker::Brand;
-use std::process::Abort;
 use std::sync::Wait;
 use std::test::Fail;
 use std::thread::{Threads, join};
@@ -23,61 +22,69 @@ fn operate<N: Names, R: Wait>(
     fleet: &Fleet<N>,
     mut seat: Seat<N>,
     setup: &Setup,
-    other: CpuId,
-    ns: Ns,
+    other: u64,
 ) -> Seat<N>
     requires { setup_of N.kit ≡ setup.now }
 {
-    for call in 0..100usize {
-        let _answer = match call % 3 {
-            0 => fleet.pick(rt, &mut seat).ok(),
-            1 => fleet.tick(rt, &mut seat, ns).ok(),
-            _ => pull(rt, fleet, &mut seat, setup, other),
+    for number in 0..100usize {
+        let call = match number % 3 {
+            0 => Call::Pick,
+            1 => Call::Tick(1_000),
+            _ => Call::Pull(other),
         };
+        let _done = call_on(rt, fleet, &mut seat, setup, call);
     }
     seat
 }
 
-/// What two threads do is what one thread does that goes by their history.
-fn two_operate<N: Names + Send + Sync, R: Threads + Wait + Abort + Sync>(
+/// What a fleet comes to by two threads.
+fn two_operate<N: Names + Send + Sync, R: Threads + Wait + Sync>(
     rt: &R,
     alloc: Global,
     setup: &Setup,
     kit: Kit,
-) -> Result<(), Fail>
+) -> Option<Outcome>
     requires kit { kit ≡ N.kit }
     requires setup { setup_of kit ≡ setup.now }
 {
-    let (fleet, mut seats) = Fleet::<N>::open(alloc, kit)?;
-    let one = seats.pop().ok_or("seat 1")?;
-    let zero = seats.pop().ok_or("seat 0")?;
-    let ns = ns(1_000)?;
-    let first = cpu(0)?;
-    let second = cpu(1)?;
+    let (fleet, mut seats) = Fleet::<N>::open(alloc, kit).ok()?;
+    let one = seats.pop()?;
+    let zero = seats.pop()?;
     let shared = &fleet;
     let (zero, one) = join(
         rt,
         move || -> Seat<N>
             requires { setup_of N.kit ≡ setup.now }
-        { operate(rt, shared, zero, setup, second, ns) },
+        { operate(rt, shared, zero, setup, 1) },
         move || -> Seat<N>
             requires { setup_of N.kit ≡ setup.now }
-        { operate(rt, shared, one, setup, first, ns) },
+        { operate(rt, shared, one, setup, 0) },
     );
-    seats.push(zero)?;
-    seats.push(one)?;
-    assert!(rt; fleet.has_all_seats(&seats));
-    let outcome = fleet.close(seats);
+    seats.push(zero).ok()?;
+    seats.push(one).ok()?;
+    if fleet.has_all_seats(&seats) {
+        Some(fleet.close(seats))
+    } else {
+        None
+    }
+}
+
+/// Two CPUs with four tasks of CPU 0.
+const FOUR_TASKS: &[u8] =
+    b"version = 1\nprogram = [[], []]\n[[task]]\n[[task]]\n[[task]]\n[[task]]\n";
+
+/// What two threads do is what one thread does that goes by their history.
+#[test]
+fn two_threads_operate(rt: HostRuntime) -> Result<(), Fail> {
+    let workload = read_workload(rt.alloc(), FOUR_TASKS)
+        .ok()
+        .ok_or("workload")?;
+    let setup = workload.setup();
+    let kit = kit_of(rt.alloc(), setup, 100, 1).ok_or("kit")?;
+    let outcome = two_operate::<Brand, _>(&rt, rt.alloc(), setup, kit).ok_or("outcome")?;
     assert!(rt; outcome.history().len() == 200);
-    let alone = done_alone(alloc, setup, &outcome)?;
+    let alone = done_alone(rt.alloc(), setup, &outcome)?;
     assert!(rt; alone.history() == outcome.history());
     assert!(rt; end_alike(&alone, &outcome, 4));
     Ok(())
-}
-
-#[test]
-fn two_threads_operate(rt: HostRuntime) -> Result<(), Fail> {
-    let setup = setup(rt.alloc(), 2, 4, runnable(0)?)?;
-    let kit = Kit::make(rt.alloc(), &setup, 100, 1)?;
-    two_operate::<Brand, _>(&rt, rt.alloc(), &setup, kit)
 }

@@ -1,6 +1,4 @@
 use denote.Param.Send.{sendable}
-use Rattle.eevdf_weight.proofs.time_step.Ns.TheSendSync as ns
-use Rattle.eevdf_ops.proofs.cpu_number.CpuId.TheSendSync as cpu
 use Rattle.eevdf_ops.proofs.machine_setup.Setup.TheSendSync as setup
 use Rattle.eevdf_fleet.proofs.seat.Seat.TheSendSync as seat
 use Rattle.eevdf_fleet.proofs.Crossing.{fleet_sync}
@@ -8,4 +6,4 @@ use Rattle.eevdf_rows.proofs.fleet_calls.two_threads.two_operate.Goals as goal
 
 pub join-zero-requires-send-F : goal.join-zero-requires-send-F
 join-zero-requires-send-F g c κs within = let runs = c.type_bounds.sync-R in
-    search (fleet_sync, seat.the_send, setup.the_sync, cpu.the_send, ns.the_send, sendable) depth 20
+    search (fleet_sync, seat.the_send, setup.the_sync, sendable) depth 20
