@@ -13,7 +13,7 @@ use Rattle.eevdf_ops.specs.declared.deeds.Op.TheVariants as op
 use Rattle.eevdf_ops.specs.declared.deeds.Deed.{Deed}
 use Rattle.eevdf_ops.specs.declared.deeds.Deed.TheVariants.{Tick, Pick, Yield, Sleep, Wake, Pull, Renice}
 use Rattle.eevdf_bench.specs.declared.workload_version.Limits.{Limits}
-use Rattle.eevdf_bench.specs.TextDeed.{cpu_of, deed_text}
+use Rattle.eevdf_report.specs.TextDeed.{cpu_of, deed_text}
 use Rattle.eevdf_bench.specs.Versions.{cpu_within}
 use Rattle.eevdf_ops.specs.Programs.{deed_of}
 use Rattle.eevdf_bench.specs.Words.{words, operation_of, sender_of, wake_of, task_in, cpu_in, deed_on, deed_in}

@@ -28,7 +28,7 @@ use Rattle.eevdf_bench.specs.declared.bench_fault.BenchFault.{BenchFault}
 use Rattle.eevdf_bench.specs.declared.bench_fault.BenchFault.TheVariants as bench
 use Rattle.eevdf_bench.specs.Meaning.{Workload}
 use Rattle.eevdf_bench.specs.Runs.{IsFault, Makes, order_report, play_refusal, replay_report, state_report, unless}
-use Rattle.eevdf_bench.specs.TextReport.{report_text}
+use Rattle.eevdf_report.specs.TextReport.{report_text}
 use Rattle.eevdf_bench.proofs.LeftLists.{all_left}
 
 -- no place of an order, nor its end, is too long

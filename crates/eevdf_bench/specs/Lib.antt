@@ -5,11 +5,6 @@ pub mod Meaning
 pub mod MeaningLaws
 pub mod Watch
 pub mod Streams
-pub mod Text
-pub mod TextDeed
-pub mod TextQueue
-pub mod TextReport
-pub mod TextSchedules
 pub mod TextFault
 pub mod Command
 pub mod WordsPrinted

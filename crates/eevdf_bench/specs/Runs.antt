@@ -25,7 +25,7 @@ use Rattle.eevdf_bench.specs.declared.bench_fault.BenchFault.TheVariants.{Load, 
 use Rattle.eevdf_bench.specs.Meaning.{Workload, meaning}
 use Rattle.eevdf_bench.specs.Reports.{IsReport}
 use Rattle.eevdf_bench.specs.Streams.{HasBegun}
-use Rattle.eevdf_bench.specs.TextReport.{report_text}
+use Rattle.eevdf_report.specs.TextReport.{report_text}
 
 -- a text, or why there is none
 abbrev pub Answer : Type 0

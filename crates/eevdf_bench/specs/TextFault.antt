@@ -12,7 +12,7 @@ use Rattle.eevdf_steps.specs.declared.play_fault.PlayFault.{PlayFault}
 use Rattle.eevdf_steps.specs.declared.play_fault.PlayFault.TheVariants as play
 use Rattle.eevdf_fleet.specs.declared.run_fault.RunFault.{RunFault}
 use Rattle.eevdf_fleet.specs.declared.run_fault.RunFault.TheVariants as run
-use Rattle.eevdf_bench.specs.Text.{as_line, task_text}
+use Rattle.eevdf_report.specs.Text.{as_line, task_text}
 
 abbrev pub program_key : ℕ → List ℕ
 program_key cpu = codes "program " ++ decimal cpu

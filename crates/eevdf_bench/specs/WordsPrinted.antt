@@ -6,7 +6,7 @@ use Rattle.eevdf_ops.specs.declared.deeds.Op.TheVariants.{Tick, Pick, Yield, Sle
 use Rattle.eevdf_ops.specs.declared.deeds.Deed.{Deed}
 use Rattle.eevdf_ops.specs.declared.deeds.Deed.TheVariants as deed
 use Rattle.eevdf_bench.specs.declared.workload_version.Limits.{Limits}
-use Rattle.eevdf_bench.specs.TextDeed.{cpu_of, deed_text}
+use Rattle.eevdf_report.specs.TextDeed.{cpu_of, deed_text}
 
 abbrev pub operation_text : Op → List ℕ
 operation_text (Tick ns) = codes "tick " ++ decimal ns

@@ -137,6 +137,3 @@ fn kind_named(word: &str) -> Option<Kind>
         _ => None,
     }
 }
-
-#[cfg(test)]
-mod tests;

@@ -1,13 +1,13 @@
 ghost use Rattle.std.specs.Prelude.{◌≡◌, ◌++◌, OnOk, IfOk, decimal};
-ghost use Rattle.eevdf_bench.specs.Text.{task_text};
+ghost use Rattle.eevdf_report.specs.Text.{task_text};
 ghost use Rattle.eevdf_bench.specs.TextFault.{program_key, operation_key, place_key, key_text, setup_fault_text, load_fault_text, play_fault_text, bench_fault_text, fault_line};
 ghost use Rattle.eevdf_bench.specs.TextFault as texts;
 
 use crate::bench_fault::BenchFault;
 use crate::load_fault::{Key, LoadFault};
-use crate::text_numbers::{push_number, push_task};
 use eevdf_fleet::RunFault;
 use eevdf_ops::SetupFault;
+use eevdf_report::{push_number, push_task};
 use eevdf_steps::PlayFault;
 use std::alloc::{AllocError, Global};
 
@@ -191,151 +191,5 @@ fn push_key(text: &mut Vec<u8>, key: Key) -> Result<(), AllocError>
             text.extend_from_slice(b"script at ")?;
             push_number(text, place as u64)
         }
-    }
-}
-
-#[cfg(test)]
-mod tests {
-    use super::*;
-    use eevdf_ops::CpuId;
-    use std::test::Fail;
-
-    #[test]
-    fn each_fault_has_its_line_and_status(rt: HostRuntime) -> Result<(), Fail> {
-        let key = Key::Nice(0);
-        let bad = Key::Op(0, 12);
-        let last = CpuId::new(15).ok_or("cpu")?;
-        let cases = [
-            (
-                BenchFault::Load(LoadFault::TooLarge),
-                1,
-                "fault: workload longer than 16777216 bytes\n",
-            ),
-            (
-                BenchFault::Load(LoadFault::NotToml),
-                1,
-                "fault: not a TOML document\n",
-            ),
-            (
-                BenchFault::Load(LoadFault::Missing { key: Key::Version }),
-                1,
-                "fault: missing version\n",
-            ),
-            (
-                BenchFault::Load(LoadFault::Missing { key: Key::Scripts }),
-                1,
-                "fault: missing script\n",
-            ),
-            (
-                BenchFault::Load(LoadFault::BadValue { key }),
-                1,
-                "fault: bad value at task 0 nice\n",
-            ),
-            (
-                BenchFault::Load(LoadFault::BadValue { key: bad }),
-                1,
-                "fault: bad value at program 0 at 12\n",
-            ),
-            (
-                BenchFault::Load(LoadFault::BadValue {
-                    key: Key::Script(3),
-                }),
-                1,
-                "fault: bad value at script at 3\n",
-            ),
-            (
-                BenchFault::Load(LoadFault::Setup(SetupFault::BadCpus)),
-                1,
-                "fault: number of cpus\n",
-            ),
-            (
-                BenchFault::Load(LoadFault::Setup(SetupFault::BadTasks)),
-                1,
-                "fault: number of tasks\n",
-            ),
-            (
-                BenchFault::Load(LoadFault::Setup(SetupFault::BadHome { task: 7 })),
-                1,
-                "fault: home of task 7\n",
-            ),
-            (
-                BenchFault::Load(LoadFault::Setup(SetupFault::BadStart { task: 0 })),
-                1,
-                "fault: start of task 0\n",
-            ),
-            (
-                BenchFault::Load(LoadFault::Setup(SetupFault::TooLong { cpu: 1 })),
-                1,
-                "fault: program 1 too long\n",
-            ),
-            (
-                BenchFault::Load(LoadFault::Setup(SetupFault::UnknownTask { cpu: 1, at: 20 })),
-                1,
-                "fault: unknown task at program 1 at 20\n",
-            ),
-            (
-                BenchFault::Load(LoadFault::Setup(SetupFault::BadPull { cpu: 15, at: 0 })),
-                1,
-                "fault: bad pull at program 15 at 0\n",
-            ),
-            (
-                BenchFault::Load(LoadFault::Setup(SetupFault::Memory)),
-                3,
-                "fault: memory\n",
-            ),
-            (BenchFault::Load(LoadFault::Memory), 3, "fault: memory\n"),
-            (
-                BenchFault::Load(LoadFault::BadValue { key: Key::Orders }),
-                1,
-                "fault: bad value at order\n",
-            ),
-            (
-                BenchFault::Load(LoadFault::BadValue { key: Key::Order(1) }),
-                1,
-                "fault: bad value at order at 1\n",
-            ),
-            (
-                BenchFault::Load(LoadFault::Missing { key: Key::Orders }),
-                1,
-                "fault: missing order\n",
-            ),
-            (
-                BenchFault::Play(PlayFault::TooLong),
-                1,
-                "fault: order longer than 1000000\n",
-            ),
-            (
-                BenchFault::Play(PlayFault::NoCaller { at: 1 }),
-                1,
-                "fault: order at 1: no caller\n",
-            ),
-            (
-                BenchFault::Play(PlayFault::Done { at: 4 }),
-                1,
-                "fault: order at 4: done\n",
-            ),
-            (
-                BenchFault::Play(PlayFault::Blocked { at: 4, cpu: last }),
-                1,
-                "fault: order at 4: blocked on 15\n",
-            ),
-            (
-                BenchFault::Play(PlayFault::Short { caller: 2 }),
-                1,
-                "fault: order short at 2\n",
-            ),
-            (BenchFault::Play(PlayFault::Memory), 3, "fault: memory\n"),
-            (BenchFault::Run(RunFault::Memory), 3, "fault: memory\n"),
-            (BenchFault::Run(RunFault::Start), 3, "fault: thread\n"),
-            (BenchFault::Read, 3, "fault: reading\n"),
-            (BenchFault::Write, 3, "fault: writing\n"),
-            (BenchFault::Memory, 3, "fault: memory\n"),
-        ];
-        for (fault, status, line) in cases {
-            let text = fault_text(rt.alloc(), &fault)?;
-            assert!(rt; text.as_slice() == line.as_bytes(), "{line}");
-            assert_eq!(rt; status_of(&fault), status, "{line}");
-        }
-        Ok(())
     }
 }

@@ -8,7 +8,7 @@ use crate::bench_fault::BenchFault;
 use crate::command_words::Kind;
 use crate::load_fault::{Key, LoadFault};
 use crate::loaded_workload::Workload;
-use crate::text_report::report;
+use eevdf_report::report;
 use eevdf_steps::{PlayFault, play};
 use std::alloc::Global;
 

@@ -8,8 +8,8 @@ use crate::bench_fault::BenchFault;
 use crate::command_words::Kind;
 use crate::load_fault::{Key, LoadFault};
 use crate::loaded_workload::Workload;
-use crate::text_report::report;
 use eevdf_ops::one_thread::solo;
+use eevdf_report::report;
 use std::alloc::Global;
 
 /// The report of the workload's script, done deed by deed in one thread. A workload without a script is refused

@@ -1,6 +1,0 @@
-use Rattle.std.proofs.Common.{append_assoc, rules}
-use Rattle.std.proofs.lemmas.Result.{IfOk-equal}
-use Rattle.eevdf_bench.proofs.text_tasks.push_task_line.Goals as goal
-
-pub returns : goal.returns
-returns c = search (rules, IfOk-equal, append_assoc)

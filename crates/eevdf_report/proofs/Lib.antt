@@ -1,0 +1,3 @@
+mod ByNumber
+mod QueueLines
+mod ScheduleLines

@@ -1,0 +1,5 @@
+pub mod Text
+pub mod TextDeed
+pub mod TextQueue
+pub mod TextReport
+pub mod TextSchedules

@@ -1,0 +1,16 @@
+//! The texts of a run: the report of an outcome, and the numbers and names that other texts share with it.
+//!
+//! A report has each CPU's schedule, its queue and the requests that were left to it, and the history as a
+//! script where that is wanted. A text is pushed onto a vector of bytes, one kind of line by one function.
+#![tactic(auto)]
+
+mod text_deeds;
+mod text_lines;
+mod text_numbers;
+mod text_queue;
+mod text_report;
+mod text_schedules;
+mod text_tasks;
+
+pub use text_numbers::{push_number, push_task};
+pub use text_report::report;

@@ -1,0 +1,70 @@
+ghost use Rattle.std.specs.Prelude.{◌≡◌, ◌++◌, ◌<◌, length, IfOk, OnOk};
+ghost use Rattle.eevdf_ops.specs.Outcome.{machine_of};
+ghost use Rattle.eevdf_report.specs.TextReport.{cpu_text, cpus_text, left_of, history_text, report_text, schedule_of};
+
+use crate::text_lines::{push_cpu_line, push_left, push_script};
+use crate::text_queue::push_queue;
+use crate::text_schedules::Schedules;
+use eevdf_ops::{Line, Outcome};
+use std::alloc::{AllocError, Global};
+
+/// The report of an outcome: for each CPU its schedule, its queue and the requests that it didn't drain;
+/// with `history` also the whole history as a script.
+pub fn report(alloc: Global, outcome: &Outcome, history: bool) -> Result<Vec<u8>, AllocError>
+    ensures { IfOk result (λ text.
+        text.items ≡ report_text outcome.now.lines (machine_of outcome.now.queues) outcome.now.left history) }
+{
+    let mut text = Vec::new(alloc);
+    push_cpus(alloc, &mut text, outcome)?;
+    push_history(&mut text, history, outcome.history())?;
+    Ok(text)
+}
+
+fn push_history(text: &mut Vec<u8>, history: bool, lines: &[Line]) -> Result<(), AllocError>
+    ensures { OnOk result (text.new.items ≡ text.old.items ++ history_text history lines.now) }
+{
+    if history {
+        push_script(text, lines)
+    } else {
+        Ok(())
+    }
+}
+
+fn push_cpus(alloc: Global, text: &mut Vec<u8>, outcome: &Outcome) -> Result<(), AllocError>
+    ensures { OnOk result (text.new.items
+        ≡ text.old.items ++ cpus_text outcome.now.lines (machine_of outcome.now.queues) outcome.now.left) }
+{
+    let schedules = Schedules::of(alloc, outcome.cpus(), outcome.history())?;
+    for cpu in 0..outcome.cpus() {
+        push_cpu(text, outcome, cpu, schedules.schedule(cpu))?;
+    }
+    Ok(())
+}
+
+fn push_cpu(
+    text: &mut Vec<u8>,
+    outcome: &Outcome,
+    cpu: usize,
+    schedule: &[u8],
+) -> Result<(), AllocError>
+    requires cpu { cpu < length outcome.now.queues }
+    requires schedule { schedule.now ≡ schedule_of cpu outcome.now.lines }
+    ensures { OnOk result (text.new.items
+        ≡ text.old.items ++ cpu_text outcome.now.lines (machine_of outcome.now.queues) outcome.now.left cpu) }
+{
+    push_cpu_line(text, cpu)?;
+    text.extend_from_slice(schedule)?;
+    push_queue(text, outcome.queue(cpu))?;
+    push_left_of(text, outcome, cpu)
+}
+
+fn push_left_of(text: &mut Vec<u8>, outcome: &Outcome, home: usize) -> Result<(), AllocError>
+    requires { home < length outcome.now.queues }
+    ensures { OnOk result (text.new.items
+        ≡ text.old.items ++ left_of (length outcome.now.queues) outcome.now.left home) }
+{
+    for sender in 0..outcome.cpus() {
+        push_left(text, sender, outcome.left(sender, home))?;
+    }
+    Ok(())
+}
