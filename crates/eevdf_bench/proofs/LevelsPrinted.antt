@@ -10,10 +10,10 @@ use Rattle.std.proofs.lemmas.Fmt.{decimal_nonempty, digits_decimal}
 use Rattle.std.proofs.lemmas.Int.{ints}
 use Rattle.std.proofs.lemmas.Option.{none-some, cond_some}
 use Rattle.eevdf_weight.specs.Limits.{checked_level, is_nice_level}
-use Rattle.eevdf_bench.specs.Words.{words, number, below_zero, signed_number, level_in}
-use Rattle.eevdf_bench.proofs.ReadingWords.{digits}
+use Rattle.eevdf_workload.specs.Words.{words, number, below_zero, signed_number, level_in}
+use Rattle.eevdf_workload.proofs.ReadingWords.{digits}
 use Rattle.eevdf_bench.proofs.ReadingPrinted.{number-decimal, decimal-number, words-decimal}
-use Rattle.eevdf_bench.proofs.ReadingLevels.{is_sign}
+use Rattle.eevdf_workload.proofs.ReadingLevels.{is_sign}
 
 few_above : (n : ℕ) → is_nice_level (pos n) ≡ true → n < 2 ^ 64
 few_above n h = grind (arith, ints, nat_tests)

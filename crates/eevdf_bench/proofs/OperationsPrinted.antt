@@ -13,9 +13,9 @@ use Rattle.eevdf_queue.specs.Numbers.{checked_number}
 use Rattle.eevdf_ops.specs.Numbers.{cpu_limit}
 use Rattle.eevdf_ops.specs.declared.deeds.Op.{Op}
 use Rattle.eevdf_ops.specs.declared.deeds.Op.TheVariants.{Tick, Pick, Yield, Sleep, Post, Drain, Pull, Renice}
-use Rattle.eevdf_bench.specs.declared.workload_version.Limits.{Limits}
-use Rattle.eevdf_bench.specs.Versions.{cpu_within}
-use Rattle.eevdf_bench.specs.Words.{words, number, only_number, only_level, task_in, alone, renice_of, operation, operation_of}
+use Rattle.eevdf_workload.specs.declared.workload_version.Version.{Version}
+use Rattle.eevdf_workload.specs.Versions.{cpu_within, limits_of}
+use Rattle.eevdf_workload.specs.Words.{words, number, only_number, only_level, task_in, alone, renice_of, operation, operation_of}
 use Rattle.eevdf_bench.specs.WordsPrinted.{knows_operation, operation_text}
 use Rattle.eevdf_bench.proofs.ReadingPrinted.{number-decimal, decimal-number, words-decimal, words-after_decimal, joined_words}
 use Rattle.eevdf_bench.proofs.LevelsPrinted.{level-printed, printed-level, words-printed}
@@ -38,24 +38,24 @@ task_check n m h = let (passes, same) = cond_some (ltb n 1024) n m h in (same, g
 pub task_passes : (n : ℕ) → n < 1024 → checked_number n ≡ Some n
 task_passes n h = grind (arith, nat_tests)
 
--- a CPU that is within the limits
-pub cpu_parts : (limits : Limits) (n m : ℕ) → cpu_within limits n ≡ Some m → (n ≡ m) × (n < cpu_limit) × (ltb n limits.cpus ≡ true)
-cpu_parts limits n m h =
-    elim (cases_Bool (ltb n limits.cpus)) [
+-- a CPU that is within the limits of a version
+pub cpu_parts : (version : Version) (n m : ℕ) → cpu_within (limits_of version) n ≡ Some m → (n ≡ m) × (n < cpu_limit) × (ltb n (limits_of version).cpus ≡ true)
+cpu_parts version n m h =
+    elim (cases_Bool (ltb n (limits_of version).cpus)) [
       | inl below ↦
           let (passes, same) = cond_some (ltb n cpu_limit) n m (rw below at h) in
           (same, grind (arith, nat_tests), below)
       | inr above ↦ absurd (none-some m (rw above at h))
     ]
 
-pub cpu_check : (limits : Limits) → IsCheck (cpu_within limits)
-cpu_check limits n m h = let (same, below, known) = cpu_parts limits n m h in (same, omega arith)
+pub cpu_check : (version : Version) → IsCheck (cpu_within (limits_of version))
+cpu_check version n m h = let (same, below, known) = cpu_parts version n m h in (same, omega arith)
 
-pub cpu_known : (limits : Limits) (n : ℕ) → cpu_within limits n ≡ Some n → ltb n limits.cpus ≡ true
-cpu_known limits n h = let (same, below, known) = cpu_parts limits n n h in known
+pub cpu_known : (version : Version) (n : ℕ) → cpu_within (limits_of version) n ≡ Some n → ltb n (limits_of version).cpus ≡ true
+cpu_known version n h = let (same, below, known) = cpu_parts version n n h in known
 
-pub cpu_passes : (limits : Limits) (n : ℕ) → n < cpu_limit → ltb n limits.cpus ≡ true → cpu_within limits n ≡ Some n
-cpu_passes limits n h known = rw known (grind (arith, nat_tests))
+pub cpu_passes : (version : Version) (n : ℕ) → n < cpu_limit → ltb n (limits_of version).cpus ≡ true → cpu_within (limits_of version) n ≡ Some n
+cpu_passes version n h known = rw known (grind (arith, nat_tests))
 
 -- ---- arguments that are read
 
@@ -79,33 +79,33 @@ mapped_parts f None b h = absurd (none-some b h)
 mapped_parts f (Some a) b h = (a, refl, same_Some _ _ h)
 
 -- the words are those of an operation that a version knows
-abbrev pub IsPrinted : Limits → Op → List (List ℕ) → Type 0
-IsPrinted limits op ws = (join_with_byte 32 ws ≡ operation_text op) × (knows_operation limits op ≡ true)
+abbrev pub IsPrinted : Version → Op → List (List ℕ) → Type 0
+IsPrinted version op ws = (join_with_byte 32 ws ≡ operation_text op) × (knows_operation version op ≡ true)
 
-text-numbered : (limits : Limits) (verb : List ℕ) (make : ℕ → Op) (check : ℕ → Option ℕ) (ws : List (List ℕ)) (op : Op) → IsCheck check
-    → ((n : ℕ) → operation_text (make n) ≡ join_with_byte 32 (verb ∷ decimal n ∷ [])) → ((n : ℕ) → check n ≡ Some n → knows_operation limits (make n) ≡ true)
-    → option_map make (option_and_then check (only_number ws)) ≡ Some op → IsPrinted limits op (verb ∷ ws)
-text-numbered limits verb make check ws op is printed known h =
+text-numbered : (version : Version) (verb : List ℕ) (make : ℕ → Op) (check : ℕ → Option ℕ) (ws : List (List ℕ)) (op : Op) → IsCheck check
+    → ((n : ℕ) → operation_text (make n) ≡ join_with_byte 32 (verb ∷ decimal n ∷ [])) → ((n : ℕ) → check n ≡ Some n → knows_operation version (make n) ≡ true)
+    → option_map make (option_and_then check (only_number ws)) ≡ Some op → IsPrinted version op (verb ∷ ws)
+text-numbered version verb make check ws op is printed known h =
     let (n, read, made) = mapped_parts make (option_and_then check (only_number ws)) op h in
     let (words_are, passes) = only_word check ws n is read in
-    (ap (λ rest. join_with_byte 32 (verb ∷ rest)) words_are ∙ sym (printed n) ∙ ap operation_text made, ap (knows_operation limits) (sym made) ∙ known n passes)
+    (ap (λ rest. join_with_byte 32 (verb ∷ rest)) words_are ∙ sym (printed n) ∙ ap operation_text made, ap (knows_operation version) (sym made) ∙ known n passes)
 
-text-alone : (limits : Limits) (verb : List ℕ) (o : Op) (ws : List (List ℕ)) (op : Op) → operation_text o ≡ verb → knows_operation limits o ≡ true → alone o ws ≡ Some op → IsPrinted limits op (verb ∷ ws)
-text-alone limits verb o [] op printed known h =
+text-alone : (version : Version) (verb : List ℕ) (o : Op) (ws : List (List ℕ)) (op : Op) → operation_text o ≡ verb → knows_operation version o ≡ true → alone o ws ≡ Some op → IsPrinted version op (verb ∷ ws)
+text-alone version verb o [] op printed known h =
     let same : o ≡ op = same_Some _ _ h in
-    (sym printed ∙ ap operation_text same, ap (knows_operation limits) (sym same) ∙ known)
-text-alone limits verb o (w ∷ ws) op printed known h = absurd (none-some op h)
+    (sym printed ∙ ap operation_text same, ap (knows_operation version) (sym same) ∙ known)
+text-alone version verb o (w ∷ ws) op printed known h = absurd (none-some op h)
 
 -- a printed change of a level, as its words follow each other
 pub renice_text : (task : ℕ) (nice : ℤ) → operation_text (Renice task nice) ≡ codes "renice " ++ (decimal task ++ (32 ∷ signed_decimal nice))
 renice_text task nice = ap (λ (t : List ℕ). codes "renice " ++ t) (append_assoc (decimal task) (codes " ") (signed_decimal nice))
 
-text-renice : (limits : Limits) (ws : List (List ℕ)) (op : Op) → limits.renice ≡ true → renice_of ws ≡ Some op → IsPrinted limits op (codes "renice" ∷ ws)
-text-renice limits [] op known h = absurd (none-some op h)
-text-renice limits (word ∷ []) op known h = option_and_then_some (λ task. option_map (Renice task) (only_level [])) (task_in word) op h (λ task read made. absurd (none-some op made))
-text-renice limits (word ∷ last ∷ next ∷ ws) op known h =
+text-renice : (version : Version) (ws : List (List ℕ)) (op : Op) → (limits_of version).renice ≡ true → renice_of ws ≡ Some op → IsPrinted version op (codes "renice" ∷ ws)
+text-renice version [] op known h = absurd (none-some op h)
+text-renice version (word ∷ []) op known h = option_and_then_some (λ task. option_map (Renice task) (only_level [])) (task_in word) op h (λ task read made. absurd (none-some op made))
+text-renice version (word ∷ last ∷ next ∷ ws) op known h =
     option_and_then_some (λ task. option_map (Renice task) (only_level (last ∷ next ∷ ws))) (task_in word) op h (λ task read made. absurd (none-some op made))
-text-renice limits (word ∷ last ∷ []) op known h =
+text-renice version (word ∷ last ∷ []) op known h =
     option_and_then_some (λ task. option_map (Renice task) (only_level (last ∷ []))) (task_in word) op h
     (λ task read made.
     let (nice, level, same) = mapped_parts (Renice task) (only_level (last ∷ [])) op made in
@@ -113,7 +113,7 @@ text-renice limits (word ∷ last ∷ []) op known h =
     let behind : last ≡ signed_decimal nice = printed-level last nice level in (
       ap (λ (w : List ℕ). codes "renice " ++ (w ++ (32 ∷ last))) printed ∙ ap (λ (w : List ℕ). codes "renice " ++ (decimal task ++ (32 ∷ w))) behind
           ∙ sym (renice_text task nice) ∙ ap operation_text same,
-      ap (knows_operation limits) (sym same) ∙ known,
+      ap (knows_operation version) (sym same) ∙ known,
     ))
 
 -- ---- operations that are read
@@ -127,79 +127,79 @@ named word verb ws x y a P h first others =
       | inr other ↦ others (rw other at h)
     ]
 
-pub text-operation_of : (limits : Limits) (verb : List ℕ) (ws : List (List ℕ)) (op : Op) → operation_of limits verb ws ≡ Some op → IsPrinted limits op (verb ∷ ws)
-text-operation_of limits verb ws op h =
-    named (codes "tick") verb ws _ _ op (IsPrinted limits op) h (text-numbered limits (codes "tick") Tick checked_tick ws op tick_check (λ n. refl) (λ n passes. refl)) (λ h.
-    named (codes "pick") verb ws _ _ op (IsPrinted limits op) h (text-alone limits (codes "pick") Pick ws op refl refl) (λ h.
-    named (codes "yield") verb ws _ _ op (IsPrinted limits op) h (text-alone limits (codes "yield") Yield ws op refl refl) (λ h.
-    named (codes "sleep") verb ws _ _ op (IsPrinted limits op) h (text-numbered limits (codes "sleep") Sleep checked_number ws op task_check (λ n. refl) (λ n passes. refl)) (λ h.
-    named (codes "post") verb ws _ _ op (IsPrinted limits op) h (text-numbered limits (codes "post") Post checked_number ws op task_check (λ n. refl) (λ n passes. refl)) (λ h.
-    named (codes "drain") verb ws _ _ op (IsPrinted limits op) h (text-alone limits (codes "drain") Drain ws op refl refl) (λ h.
-    named (codes "pull") verb ws _ _ op (IsPrinted limits op) h (text-numbered limits (codes "pull") Pull (cpu_within limits) ws op (cpu_check limits) (λ n. refl) (cpu_known limits)) (λ h.
-    named (codes "renice") verb ws _ _ op (IsPrinted limits op) h
+pub text-operation_of : (version : Version) (verb : List ℕ) (ws : List (List ℕ)) (op : Op) → operation_of (limits_of version) verb ws ≡ Some op → IsPrinted version op (verb ∷ ws)
+text-operation_of version verb ws op h =
+    named (codes "tick") verb ws _ _ op (IsPrinted version op) h (text-numbered version (codes "tick") Tick checked_tick ws op tick_check (λ n. refl) (λ n passes. refl)) (λ h.
+    named (codes "pick") verb ws _ _ op (IsPrinted version op) h (text-alone version (codes "pick") Pick ws op refl refl) (λ h.
+    named (codes "yield") verb ws _ _ op (IsPrinted version op) h (text-alone version (codes "yield") Yield ws op refl refl) (λ h.
+    named (codes "sleep") verb ws _ _ op (IsPrinted version op) h (text-numbered version (codes "sleep") Sleep checked_number ws op task_check (λ n. refl) (λ n passes. refl)) (λ h.
+    named (codes "post") verb ws _ _ op (IsPrinted version op) h (text-numbered version (codes "post") Post checked_number ws op task_check (λ n. refl) (λ n passes. refl)) (λ h.
+    named (codes "drain") verb ws _ _ op (IsPrinted version op) h (text-alone version (codes "drain") Drain ws op refl refl) (λ h.
+    named (codes "pull") verb ws _ _ op (IsPrinted version op) h (text-numbered version (codes "pull") Pull (cpu_within (limits_of version)) ws op (cpu_check version) (λ n. refl) (cpu_known version)) (λ h.
+    named (codes "renice") verb ws _ _ op (IsPrinted version op) h
     (λ h.
-    elim (cases_Bool limits.renice) [
-      | inl known ↦ text-renice limits ws op known (rw known at h)
+    elim (cases_Bool (limits_of version).renice) [
+      | inl known ↦ text-renice version ws op known (rw known at h)
       | inr unknown ↦ absurd (none-some op (rw unknown at h))
     ]) (λ h.
     absurd (none-some op h)))))))))
 
-text-words : (limits : Limits) (ws : List (List ℕ)) (op : Op) → operation limits ws ≡ Some op → IsPrinted limits op ws
+text-words : (version : Version) (ws : List (List ℕ)) (op : Op) → operation (limits_of version) ws ≡ Some op → IsPrinted version op ws
 unfolding operation
-text-words limits [] op h = absurd (none-some op h)
-text-words limits (verb ∷ ws) op h = text-operation_of limits verb ws op h
+text-words version [] op h = absurd (none-some op h)
+text-words version (verb ∷ ws) op h = text-operation_of version verb ws op h
 
-text-operation : (limits : Limits) (text : List ℕ) (op : Op) → operation limits (words text) ≡ Some op → (text ≡ operation_text op) × (knows_operation limits op ≡ true)
-text-operation limits text op h =
-    let (printed, known) = text-words limits (words text) op h in
+text-operation : (version : Version) (text : List ℕ) (op : Op) → operation (limits_of version) (words text) ≡ Some op → (text ≡ operation_text op) × (knows_operation version op ≡ true)
+text-operation version text op h =
+    let (printed, known) = text-words version (words text) op h in
     (sym (joined_words text) ∙ printed, known)
 
 -- ---- operations that are printed
 
 -- an operation that a version knows is read back where it is printed
-abbrev pub IsReadBack : Limits → Op → Type 0
-IsReadBack limits op = knows_operation limits op ≡ true → operation limits (words (operation_text op)) ≡ Some op
+abbrev pub IsReadBack : Version → Op → Type 0
+IsReadBack version op = knows_operation version op ≡ true → operation (limits_of version) (words (operation_text op)) ≡ Some op
 
-pub operation-tick : (limits : Limits) (n : ℕ) → is_tick n ≡ true → IsReadBack limits (Tick n)
+pub operation-tick : (version : Version) (n : ℕ) → is_tick n ≡ true → IsReadBack version (Tick n)
 unfolding operation
-operation-tick limits n h known = rw (words-decimal n (small_tick n h), number-decimal n (small_tick n h), h)
+operation-tick version n h known = rw (words-decimal n (small_tick n h), number-decimal n (small_tick n h), h)
 
-pub operation-pick : (limits : Limits) → IsReadBack limits Pick
+pub operation-pick : (version : Version) → IsReadBack version Pick
 unfolding operation
-operation-pick limits known = refl
+operation-pick version known = refl
 
-pub operation-yield : (limits : Limits) → IsReadBack limits Yield
+pub operation-yield : (version : Version) → IsReadBack version Yield
 unfolding operation
-operation-yield limits known = refl
+operation-yield version known = refl
 
-pub operation-sleep : (limits : Limits) (n : ℕ) → n < 1024 → IsReadBack limits (Sleep n)
+pub operation-sleep : (version : Version) (n : ℕ) → n < 1024 → IsReadBack version (Sleep n)
 unfolding operation
-operation-sleep limits n h known = rw (words-decimal n (omega arith), number-decimal n (omega arith), task_passes n h)
+operation-sleep version n h known = rw (words-decimal n (omega arith), number-decimal n (omega arith), task_passes n h)
 
-pub operation-post : (limits : Limits) (n : ℕ) → n < 1024 → IsReadBack limits (Post n)
+pub operation-post : (version : Version) (n : ℕ) → n < 1024 → IsReadBack version (Post n)
 unfolding operation
-operation-post limits n h known = rw (words-decimal n (omega arith), number-decimal n (omega arith), task_passes n h)
+operation-post version n h known = rw (words-decimal n (omega arith), number-decimal n (omega arith), task_passes n h)
 
-pub operation-drain : (limits : Limits) → IsReadBack limits Drain
+pub operation-drain : (version : Version) → IsReadBack version Drain
 unfolding operation
-operation-drain limits known = refl
+operation-drain version known = refl
 
-pub operation-pull : (limits : Limits) (n : ℕ) → n < cpu_limit → IsReadBack limits (Pull n)
+pub operation-pull : (version : Version) (n : ℕ) → n < cpu_limit → IsReadBack version (Pull n)
 unfolding operation
-operation-pull limits n h known = rw (words-decimal n (omega arith), number-decimal n (omega arith), cpu_passes limits n h known)
+operation-pull version n h known = rw (words-decimal n (omega arith), number-decimal n (omega arith), cpu_passes version n h known)
 
-pub renice-read : (limits : Limits) (task : ℕ) (nice : ℤ) → task < 1024 → is_nice_level nice ≡ true → limits.renice ≡ true
-    → operation_of limits (codes "renice") (words (decimal task ++ (32 ∷ signed_decimal nice))) ≡ Some (Renice task nice)
-renice-read limits task nice h level known =
-    ap (operation_of limits (codes "renice")) (words-after_decimal task (signed_decimal nice) (omega arith))
+pub renice-read : (version : Version) (task : ℕ) (nice : ℤ) → task < 1024 → is_nice_level nice ≡ true → (limits_of version).renice ≡ true
+    → operation_of (limits_of version) (codes "renice") (words (decimal task ++ (32 ∷ signed_decimal nice))) ≡ Some (Renice task nice)
+renice-read version task nice h level known =
+    ap (operation_of (limits_of version) (codes "renice")) (words-after_decimal task (signed_decimal nice) (omega arith))
     ∙ rw (known, words-printed nice level, number-decimal task (omega arith), task_passes task h, level-printed nice level)
 
-pub operation-renice : (limits : Limits) (task : ℕ) (nice : ℤ) → task < 1024 → is_nice_level nice ≡ true → IsReadBack limits (Renice task nice)
+pub operation-renice : (version : Version) (task : ℕ) (nice : ℤ) → task < 1024 → is_nice_level nice ≡ true → IsReadBack version (Renice task nice)
 unfolding operation
-operation-renice limits task nice h level known = ap (λ t. operation limits (words t)) (renice_text task nice) ∙ renice-read limits task nice h level known
+operation-renice version task nice h level known = ap (λ t. operation (limits_of version) (words t)) (renice_text task nice) ∙ renice-read version task nice h level known
 
 -- a text is read as an operation that is read back where it is printed
-pub operation_is_text : (limits : Limits) (text : List ℕ) (op o : Op) → op ≡ o → IsReadBack limits o → (operation limits (words text) ≡ Some op) ↔ ((text ≡ operation_text op) × (knows_operation limits op ≡ true))
-operation_is_text limits text op o is read =
-    let back : IsReadBack limits op = subst (IsReadBack limits) (sym is) read in
-    (text-operation limits text op, λ e. ap (λ t. operation limits (words t)) e.0 ∙ back e.1)
+pub operation_is_text : (version : Version) (text : List ℕ) (op o : Op) → op ≡ o → IsReadBack version o → (operation (limits_of version) (words text) ≡ Some op) ↔ ((text ≡ operation_text op) × (knows_operation version op ≡ true))
+operation_is_text version text op o is read =
+    let back : IsReadBack version op = subst (IsReadBack version) (sym is) read in
+    (text-operation version text op, λ e. ap (λ t. operation (limits_of version) (words t)) e.0 ∙ back e.1)

@@ -9,8 +9,8 @@ use Rattle.std.specs.Char.{is_ascii_digit}
 use Rattle.std.specs.List.{list_all, join_with_byte}
 use Rattle.std.specs.Str.Parse.{digits_value}
 use Rattle.std.proofs.lemmas.List.Splits.{join_with_byte-slice_split}
-use Rattle.eevdf_bench.specs.Words.{words, is_number, number}
-use Rattle.eevdf_bench.proofs.ReadingWords.{digits, has_digits, is_number-no_zero}
+use Rattle.eevdf_workload.specs.Words.{words, is_number, number}
+use Rattle.eevdf_workload.proofs.ReadingWords.{digits, has_digits, is_number-no_zero}
 
 is_number-decimal : (n : ℕ) → n < 2 ^ 64 → is_number (decimal n) ≡ true
 is_number-decimal zero h = rw (decimal_digit 0 (omega arith))

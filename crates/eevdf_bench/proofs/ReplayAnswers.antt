@@ -26,7 +26,7 @@ use Rattle.eevdf_steps.specs.MicroState.{micro}
 use Rattle.eevdf_steps.specs.Plays.{IsOutcome, IsPlay}
 use Rattle.eevdf_bench.specs.declared.bench_fault.BenchFault.{BenchFault}
 use Rattle.eevdf_bench.specs.declared.bench_fault.BenchFault.TheVariants as bench
-use Rattle.eevdf_bench.specs.Meaning.{Workload}
+use Rattle.eevdf_workload.specs.Meaning.{Workload}
 use Rattle.eevdf_bench.specs.Runs.{IsFault, Makes, order_report, play_refusal, replay_report, state_report, unless}
 use Rattle.eevdf_report.specs.TextReport.{report_text}
 use Rattle.eevdf_bench.proofs.LeftLists.{all_left}

@@ -11,7 +11,7 @@ use Rattle.eevdf_ops.specs.Programs.{deeds_of}
 use Rattle.eevdf_ops.specs.Setup.{Setup, allows, homes_of}
 use Rattle.eevdf_ops.specs.Whole.{lines_of, machine_after, whole}
 use Rattle.eevdf_bench.specs.declared.command_words.Kind.TheVariants.{Solo}
-use Rattle.eevdf_bench.specs.Meaning.{Workload}
+use Rattle.eevdf_workload.specs.Meaning.{Workload}
 use Rattle.eevdf_bench.specs.Reports.{IsReport}
 use Rattle.eevdf_report.specs.TextReport.{report_text}
 use Rattle.eevdf_bench.proofs.OwnDeeds.{own_deeds}

@@ -1,8 +1,3 @@
-pub mod Versions
-pub mod Words
-pub mod MeaningSteps
-pub mod Meaning
-pub mod MeaningLaws
 pub mod Watch
 pub mod Streams
 pub mod TextFault

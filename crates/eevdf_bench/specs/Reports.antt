@@ -15,7 +15,7 @@ use Rattle.eevdf_steps.specs.Commits.{deeds_committed}
 use Rattle.eevdf_bench.specs.declared.command_words.Command.{Command}
 use Rattle.eevdf_bench.specs.declared.command_words.Kind.{Kind}
 use Rattle.eevdf_bench.specs.declared.command_words.Kind.TheVariants.{Solo, Replay, Run}
-use Rattle.eevdf_bench.specs.Meaning.{Workload, meaning}
+use Rattle.eevdf_workload.specs.Meaning.{Workload, meaning}
 use Rattle.eevdf_report.specs.TextReport.{report_text}
 
 -- the workload's order is lawful and complete, the deeds of the lines are those that it commits, and they follow the programs

@@ -17,12 +17,12 @@ use Rattle.eevdf_steps.specs.MicroState.{MicroState, micro}
 use Rattle.eevdf_bench.specs.declared.command_words.Command.{Command}
 use Rattle.eevdf_bench.specs.declared.command_words.Kind.{Kind}
 use Rattle.eevdf_bench.specs.declared.command_words.Kind.TheVariants.{Solo, Replay, Run}
-use Rattle.eevdf_bench.specs.declared.load_fault.Key.TheVariants.{Orders, Scripts}
-use Rattle.eevdf_bench.specs.declared.load_fault.LoadFault.{LoadFault}
-use Rattle.eevdf_bench.specs.declared.load_fault.LoadFault.TheVariants.{Missing, Memory as NoMemory}
+use Rattle.eevdf_workload.specs.declared.load_fault.Key.TheVariants.{Orders, Scripts}
+use Rattle.eevdf_workload.specs.declared.load_fault.LoadFault.{LoadFault}
+use Rattle.eevdf_workload.specs.declared.load_fault.LoadFault.TheVariants.{Missing, Memory as NoMemory}
 use Rattle.eevdf_bench.specs.declared.bench_fault.BenchFault.{BenchFault}
 use Rattle.eevdf_bench.specs.declared.bench_fault.BenchFault.TheVariants.{Load, Play, Run as NotRun, Read, Write, Memory}
-use Rattle.eevdf_bench.specs.Meaning.{Workload, meaning}
+use Rattle.eevdf_workload.specs.Meaning.{Workload, meaning}
 use Rattle.eevdf_bench.specs.Reports.{IsReport}
 use Rattle.eevdf_bench.specs.Streams.{HasBegun}
 use Rattle.eevdf_report.specs.TextReport.{report_text}

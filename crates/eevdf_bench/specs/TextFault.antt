@@ -2,10 +2,10 @@
 use Rattle.std.specs.Prelude.{ℕ, List, ◌++◌, codes, decimal}
 use Rattle.eevdf_ops.specs.declared.setup_fault.SetupFault.{SetupFault}
 use Rattle.eevdf_ops.specs.declared.setup_fault.SetupFault.TheVariants as setup
-use Rattle.eevdf_bench.specs.declared.load_fault.Key.{Key}
-use Rattle.eevdf_bench.specs.declared.load_fault.Key.TheVariants.{Version, Tasks, Task, Home, Nice, Slice, Start, Asleep, Programs, Program, Op, Orders, Order, Scripts, Script}
-use Rattle.eevdf_bench.specs.declared.load_fault.LoadFault.{LoadFault}
-use Rattle.eevdf_bench.specs.declared.load_fault.LoadFault.TheVariants as load
+use Rattle.eevdf_workload.specs.declared.load_fault.Key.{Key}
+use Rattle.eevdf_workload.specs.declared.load_fault.Key.TheVariants.{Version, Tasks, Task, Home, Nice, Slice, Start, Asleep, Programs, Program, Op, Orders, Order, Scripts, Script}
+use Rattle.eevdf_workload.specs.declared.load_fault.LoadFault.{LoadFault}
+use Rattle.eevdf_workload.specs.declared.load_fault.LoadFault.TheVariants as load
 use Rattle.eevdf_bench.specs.declared.bench_fault.BenchFault.{BenchFault}
 use Rattle.eevdf_bench.specs.declared.bench_fault.BenchFault.TheVariants as bench
 use Rattle.eevdf_steps.specs.declared.play_fault.PlayFault.{PlayFault}

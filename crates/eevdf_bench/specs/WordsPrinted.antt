@@ -5,7 +5,8 @@ use Rattle.eevdf_ops.specs.declared.deeds.Op.{Op}
 use Rattle.eevdf_ops.specs.declared.deeds.Op.TheVariants.{Tick, Pick, Yield, Sleep, Post, Drain, Pull, Renice}
 use Rattle.eevdf_ops.specs.declared.deeds.Deed.{Deed}
 use Rattle.eevdf_ops.specs.declared.deeds.Deed.TheVariants as deed
-use Rattle.eevdf_bench.specs.declared.workload_version.Limits.{Limits}
+use Rattle.eevdf_workload.specs.declared.workload_version.Version.{Version}
+use Rattle.eevdf_workload.specs.Versions.{limits_of}
 use Rattle.eevdf_report.specs.TextDeed.{cpu_of, deed_text}
 
 abbrev pub operation_text : Op → List ℕ
@@ -23,26 +24,26 @@ abbrev pub numbered_deed_text : Deed → List ℕ
 numbered_deed_text d = decimal (cpu_of d) ++ codes " " ++ deed_text d
 
 -- whether an operation is within the limits of a version
-abbrev pub knows_operation : Limits → Op → Bool
-knows_operation limits (Tick ns) = true
-knows_operation limits Pick = true
-knows_operation limits Yield = true
-knows_operation limits (Sleep task) = true
-knows_operation limits (Post task) = true
-knows_operation limits Drain = true
-knows_operation limits (Pull source) = nat_lt source limits.cpus
-knows_operation limits (Renice task nice) = limits.renice
+abbrev pub knows_operation : Version → Op → Bool
+knows_operation version (Tick ns) = true
+knows_operation version Pick = true
+knows_operation version Yield = true
+knows_operation version (Sleep task) = true
+knows_operation version (Post task) = true
+knows_operation version Drain = true
+knows_operation version (Pull source) = nat_lt source (limits_of version).cpus
+knows_operation version (Renice task nice) = (limits_of version).renice
 
 -- the same of what a deed does
-abbrev pub knows_act : Limits → Deed → Bool
-knows_act limits (deed.Tick cpu ns) = true
-knows_act limits (deed.Pick cpu) = true
-knows_act limits (deed.Yield cpu) = true
-knows_act limits (deed.Sleep cpu task) = true
-knows_act limits (deed.Wake cpu task sender) = nat_lt sender limits.cpus
-knows_act limits (deed.Pull cpu source) = nat_lt source limits.cpus
-knows_act limits (deed.Renice cpu task nice) = limits.renice
+abbrev pub knows_act : Version → Deed → Bool
+knows_act version (deed.Tick cpu ns) = true
+knows_act version (deed.Pick cpu) = true
+knows_act version (deed.Yield cpu) = true
+knows_act version (deed.Sleep cpu task) = true
+knows_act version (deed.Wake cpu task sender) = nat_lt sender (limits_of version).cpus
+knows_act version (deed.Pull cpu source) = nat_lt source (limits_of version).cpus
+knows_act version (deed.Renice cpu task nice) = (limits_of version).renice
 
 -- and of a deed with the CPU that does it
-abbrev pub knows_deed : Limits → Deed → Bool
-knows_deed limits d = nat_lt (cpu_of d) limits.cpus && knows_act limits d
+abbrev pub knows_deed : Version → Deed → Bool
+knows_deed version d = nat_lt (cpu_of d) (limits_of version).cpus && knows_act version d

@@ -1,6 +1,6 @@
-use crate::load_fault::LoadFault;
 use eevdf_fleet::RunFault;
 use eevdf_steps::PlayFault;
+use eevdf_workload::LoadFault;
 use thiserror::Error;
 
 /// Why a run of the workbench failed.

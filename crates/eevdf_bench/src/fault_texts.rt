@@ -4,11 +4,11 @@ ghost use Rattle.eevdf_bench.specs.TextFault.{program_key, operation_key, place_
 ghost use Rattle.eevdf_bench.specs.TextFault as texts;
 
 use crate::bench_fault::BenchFault;
-use crate::load_fault::{Key, LoadFault};
 use eevdf_fleet::RunFault;
 use eevdf_ops::SetupFault;
 use eevdf_report::{push_number, push_task};
 use eevdf_steps::PlayFault;
+use eevdf_workload::{Key, LoadFault};
 use std::alloc::{AllocError, Global};
 
 /// The line that is printed for a fault, with its end.

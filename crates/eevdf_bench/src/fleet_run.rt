@@ -6,9 +6,9 @@ ghost use Rattle.eevdf_bench.specs.Runs.{run_refusal};
 
 use crate::bench_fault::BenchFault;
 use crate::command_words::Kind;
-use crate::loaded_workload::Workload;
 use eevdf_fleet::{OpenGate, RunFault, run_all};
 use eevdf_report::report;
+use eevdf_workload::Workload;
 use std::alloc::Global;
 use std::sync::Wait;
 use std::thread::Threads;

@@ -1,8 +1,7 @@
 //! Laws of what is read: what the words of a workload are, and what its version decides.
 ghost use Rattle.std.specs.Prelude.{◌≡◌, ◌↔◌, true, Some};
-ghost use Rattle.eevdf_bench.specs.MeaningLaws.{VersionTwoKeepsMeaning};
-ghost use Rattle.eevdf_bench.specs.Versions.{limits_of};
-ghost use Rattle.eevdf_bench.specs.Words.{deed_in, operation, words};
+ghost use Rattle.eevdf_workload.specs.Versions.{limits_of};
+ghost use Rattle.eevdf_workload.specs.Words.{deed_in, operation, words};
 ghost use Rattle.eevdf_bench.specs.WordsPrinted.{
   knows_deed,
   knows_operation,
@@ -10,14 +9,15 @@ ghost use Rattle.eevdf_bench.specs.WordsPrinted.{
   operation_text,
 };
 
-use crate::workload_version::Version;
 use eevdf_ops::{Deed, Op};
+use eevdf_workload::Version;
+pub use eevdf_workload::laws::version_two_keeps_meaning;
 
 /// A text is read in a version as an operation exactly where it is that operation as it is printed and the
 /// version knows the operation.
 pub fn operation_is_its_text(version: Version, text: &str, op: Op)
     ensures { (operation (limits_of version) (words text.now) ≡ Some op)
-        ↔ ((text.now ≡ operation_text op) × (knows_operation (limits_of version) op ≡ true)) }
+        ↔ ((text.now ≡ operation_text op) × (knows_operation version op ≡ true)) }
 {
     match op {
         Op::Tick(ns) => {
@@ -46,7 +46,7 @@ pub fn operation_is_its_text(version: Version, text: &str, op: Op)
 /// printed, and the version knows the deed.
 pub fn deed_is_its_text(version: Version, text: &str, deed: Deed)
     ensures { (deed_in (limits_of version) (words text.now) ≡ Some deed)
-        ↔ ((text.now ≡ numbered_deed_text deed) × (knows_deed (limits_of version) deed ≡ true)) }
+        ↔ ((text.now ≡ numbered_deed_text deed) × (knows_deed version deed ≡ true)) }
 {
     match deed {
         Deed::Tick { cpu, ns } => {
@@ -79,8 +79,3 @@ pub fn deed_is_its_text(version: Version, text: &str, deed: Deed)
         }
     }
 }
-
-/// A document of version 1 that describes a workload describes the same workload in version 2.
-pub fn version_two_keeps_meaning()
-    ensures { VersionTwoKeepsMeaning }
-{}

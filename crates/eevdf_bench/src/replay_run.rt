@@ -6,10 +6,9 @@ ghost use Rattle.eevdf_bench.specs.Runs.{Makes, play_refusal, replay_report};
 
 use crate::bench_fault::BenchFault;
 use crate::command_words::Kind;
-use crate::load_fault::{Key, LoadFault};
-use crate::loaded_workload::Workload;
 use eevdf_report::report;
 use eevdf_steps::{PlayFault, play};
+use eevdf_workload::{Key, LoadFault, Workload};
 use std::alloc::Global;
 
 /// The report of what the programs' steps come to in the workload's order, with the requests that are left. A

@@ -6,10 +6,9 @@ ghost use Rattle.eevdf_bench.specs.Runs.{Makes, solo_report};
 
 use crate::bench_fault::BenchFault;
 use crate::command_words::Kind;
-use crate::load_fault::{Key, LoadFault};
-use crate::loaded_workload::Workload;
 use eevdf_ops::one_thread::solo;
 use eevdf_report::report;
+use eevdf_workload::{Key, LoadFault, Workload};
 use std::alloc::Global;
 
 /// The report of the workload's script, done deed by deed in one thread. A workload without a script is refused

@@ -4,10 +4,10 @@ use Rattle.std.specs.Io.KnownBytes.{Appends}
 use Rattle.eevdf_steps.specs.declared.play_fault.PlayFault.TheVariants.{TooLong}
 use Rattle.eevdf_steps.specs.Plan.{plan_of}
 use Rattle.eevdf_steps.specs.Orders.{play_fault}
-use Rattle.eevdf_bench.specs.declared.load_fault.LoadFault.TheVariants.{Memory as NoMemory}
+use Rattle.eevdf_workload.specs.declared.load_fault.LoadFault.TheVariants.{Memory as NoMemory}
 use Rattle.eevdf_bench.specs.declared.bench_fault.BenchFault.{BenchFault}
 use Rattle.eevdf_bench.specs.declared.bench_fault.BenchFault.TheVariants.{Load, Memory, Play, Read, Run, Write}
-use Rattle.eevdf_bench.specs.Meaning.{Workload, meaning}
+use Rattle.eevdf_workload.specs.Meaning.{Workload, meaning}
 use Rattle.eevdf_bench.specs.Streams.{HasBegun}
 use Rattle.eevdf_orders.specs.declared.print_fault.PrintFault.{PrintFault}
 use Rattle.eevdf_orders.specs.declared.print_fault.PrintFault.TheVariants.{Bench, Ordered}

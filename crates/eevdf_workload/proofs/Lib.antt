@@ -1,0 +1,8 @@
+pub mod ReadingWords
+mod ReadingLists
+mod ReadingDocuments
+pub mod ReadingLevels
+pub mod InputLimit
+mod KeptResults
+mod WiderLimits
+mod VersionMeanings

@@ -1,0 +1,5 @@
+pub mod Versions
+pub mod Words
+pub mod MeaningSteps
+pub mod Meaning
+pub mod MeaningLaws

@@ -1,0 +1,18 @@
+-- What a workload of each version may hold.
+use Rattle.std.specs.Prelude.{ℕ, ◌==◌, nat_lt, true, false, if◌then◌else◌, Option, Some, None}
+use Rattle.eevdf_ops.specs.Numbers.{checked_cpu}
+use Rattle.eevdf_workload.specs.declared.workload_version.Version.{Version}
+use Rattle.eevdf_workload.specs.declared.workload_version.Version.TheVariants.{One, Two}
+use Rattle.eevdf_workload.specs.declared.workload_version.Limits.{Limits}
+
+abbrev pub limits_of : Version → Limits
+limits_of One = record { cpus = 16; deeds = 160000; renice = false }
+limits_of Two = record { cpus = 64; deeds = 640000; renice = true }
+
+-- the version of a number
+abbrev pub checked_version : ℕ → Option Version
+checked_version n = if n == 1 then Some One else if n == 2 then Some Two else None
+
+-- the CPU of a number, where the number is within the limits
+abbrev pub cpu_within : Limits → ℕ → Option ℕ
+cpu_within limits n = if nat_lt n limits.cpus then checked_cpu n else None

@@ -1,0 +1,123 @@
+-- The words of a string, and the operation or the deed that they name.
+use Rattle.std.specs.Prelude.{codes, ℕ, zero, suc, ◌==◌, ◌^◌, nat_lt, ℤ, pos, negsuc, Bool, false, if◌then◌else◌, List, [], ◌∷◌, length, Option, Some, None, option_map, option_and_then}
+use Rattle.std.specs.List.{slice_split, list_all}
+use Rattle.std.specs.Str.{bytes_eq}
+use Rattle.std.specs.Char.{is_ascii_digit}
+use Rattle.std.specs.Str.Parse.{digits_value}
+use Rattle.eevdf_weight.specs.Limits.{checked_level, checked_tick}
+use Rattle.eevdf_queue.specs.Numbers.{checked_number}
+use Rattle.eevdf_ops.specs.declared.deeds.Op.{Op}
+use Rattle.eevdf_ops.specs.Programs.{deed_of}
+use Rattle.eevdf_ops.specs.declared.deeds.Op.TheVariants as op
+use Rattle.eevdf_ops.specs.declared.deeds.Deed.{Deed}
+use Rattle.eevdf_ops.specs.declared.deeds.Deed.TheVariants as deed
+use Rattle.eevdf_workload.specs.declared.workload_version.Limits.{Limits}
+use Rattle.eevdf_workload.specs.Versions.{cpu_within}
+
+-- what stands between the single spaces of a text
+abbrev pub words : List ℕ → List (List ℕ)
+words text = slice_split (λ b. b == 32) text
+
+-- `0`, or a digit from 1 to 9 followed by digits
+abbrev pub is_number : List ℕ → Bool
+is_number [] = false
+is_number (c ∷ cs) = if c == 48 then length cs == 0 else list_all is_ascii_digit (c ∷ cs)
+
+-- the number that a word writes
+unfoldable pub number : List ℕ → Option ℕ
+number word = if is_number word then Some (digits_value 10 word) else None
+
+-- a number that has at most 64 bits
+abbrev pub fitting : ℕ → Option ℕ
+fitting n = if nat_lt n (2 ^ 64) then Some n else None
+
+-- the number so far below 0; 0 isn't below itself
+abbrev pub below_zero : ℕ → Option ℤ
+below_zero zero = None
+below_zero (suc n) = Some (negsuc n)
+
+-- the number that a word writes with its sign: none, or `-` before a number from 1 on
+abbrev pub signed_number : List ℕ → Option ℤ
+signed_number [] = None
+signed_number (c ∷ cs) = if c == 45 then option_and_then below_zero (number cs) else option_map pos (number (c ∷ cs))
+
+-- the nice level that a word writes
+abbrev pub level_in : List ℕ → Option ℤ
+level_in word = option_and_then checked_level (signed_number word)
+
+-- the only word
+abbrev pub only_word : List (List ℕ) → Option (List ℕ)
+only_word (word ∷ []) = Some word
+only_word _ = None
+
+-- the number that is the only word
+abbrev pub only_number : List (List ℕ) → Option ℕ
+only_number ws = option_and_then number (only_word ws)
+
+-- the time, the task, the CPU and the level that the only word gives
+abbrev pub only_time : List (List ℕ) → Option ℕ
+only_time ws = option_and_then checked_tick (only_number ws)
+
+abbrev pub only_task : List (List ℕ) → Option ℕ
+only_task ws = option_and_then checked_number (only_number ws)
+
+abbrev pub only_cpu : Limits → List (List ℕ) → Option ℕ
+only_cpu limits ws = option_and_then (cpu_within limits) (only_number ws)
+
+abbrev pub only_level : List (List ℕ) → Option ℤ
+only_level ws = option_and_then level_in (only_word ws)
+
+-- the CPU and the task that a word numbers
+abbrev pub cpu_in : Limits → List ℕ → Option ℕ
+cpu_in limits word = option_and_then (cpu_within limits) (number word)
+
+abbrev pub task_in : List ℕ → Option ℕ
+task_in word = option_and_then checked_number (number word)
+
+-- an operation that nothing follows
+abbrev pub alone : Op → List (List ℕ) → Option Op
+alone o [] = Some o
+alone o _ = None
+
+-- the task that the first word numbers gets the level that follows it
+abbrev pub renice_of : List (List ℕ) → Option Op
+renice_of [] = None
+renice_of (word ∷ ws) = option_and_then (λ task. option_map (op.Renice task) (only_level ws)) (task_in word)
+
+-- the operation that the first word names, with the other words as its arguments
+abbrev pub operation_of : Limits → List ℕ → List (List ℕ) → Option Op
+operation_of limits verb arguments =
+    if bytes_eq verb (codes "tick") then option_map op.Tick (only_time arguments)
+    else if bytes_eq verb (codes "pick") then alone op.Pick arguments
+    else if bytes_eq verb (codes "yield") then alone op.Yield arguments
+    else if bytes_eq verb (codes "sleep") then option_map op.Sleep (only_task arguments)
+    else if bytes_eq verb (codes "post") then option_map op.Post (only_task arguments)
+    else if bytes_eq verb (codes "drain") then alone op.Drain arguments
+    else if bytes_eq verb (codes "pull") then option_map op.Pull (only_cpu limits arguments)
+    else if bytes_eq verb (codes "renice") then (if limits.renice then renice_of arguments else None)
+    else None
+
+unfoldable pub operation : Limits → List (List ℕ) → Option Op
+operation limits [] = None
+operation limits (verb ∷ arguments) = operation_of limits verb arguments
+
+-- the CPU that stands after `from`
+abbrev pub sender_of : Limits → List (List ℕ) → Option ℕ
+sender_of limits [] = None
+sender_of limits (word ∷ ws) = if bytes_eq word (codes "from") then only_cpu limits ws else None
+
+-- the wake of the task that the first word numbers, by the sender that follows it
+abbrev pub wake_of : Limits → ℕ → List (List ℕ) → Option Deed
+wake_of limits cpu [] = None
+wake_of limits cpu (word ∷ ws) = option_and_then (λ task. option_map (deed.Wake cpu task) (sender_of limits ws)) (task_in word)
+
+-- the deed on a CPU that the words after its number name
+abbrev pub deed_on : Limits → ℕ → List (List ℕ) → Option Deed
+deed_on limits cpu [] = None
+deed_on limits cpu (verb ∷ arguments) =
+    if bytes_eq verb (codes "wake") then wake_of limits cpu arguments
+    else option_and_then (deed_of cpu) (operation_of limits verb arguments)
+
+unfoldable pub deed_in : Limits → List (List ℕ) → Option Deed
+deed_in limits [] = None
+deed_in limits (word ∷ ws) = option_and_then (λ cpu. deed_on limits cpu ws) (cpu_in limits word)

@@ -1,0 +1,17 @@
+//! The workload: what a machine is set up from, the order in which its callers are to take their steps, and the
+//! deeds to be done on it, as they are read from the bytes of a TOML document.
+//!
+//! The meaning of the bytes is one definition: the workload that they describe, or the first fault in them. The
+//! version of the format decides how many CPUs and deeds there may be and which words are known.
+#![tactic(auto)]
+
+pub mod laws;
+mod load_fault;
+mod loaded_workload;
+mod reading;
+mod workload_version;
+
+pub use load_fault::{Key, LoadFault};
+pub use loaded_workload::Workload;
+pub use reading::read_workload;
+pub use workload_version::Version;

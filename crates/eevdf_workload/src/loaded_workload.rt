@@ -1,0 +1,73 @@
+ghost use Rattle.std.specs.Prelude.{◌≡◌, Ok, option_map};
+ghost use Rattle.eevdf_workload.specs.Meaning.{allowed};
+
+use eevdf_ops::{Deed, Setup};
+use std::marker::Model;
+
+/// A workload: the setup of a machine, the order in which its callers are to take their steps and the deeds to be
+/// done on it, if it lists them.
+#[derive(Drop)]
+pub struct Workload {
+    setup: Setup,
+    order: Option<Vec<usize>>,
+    script: Option<Vec<Deed>>,
+}
+
+impl Model for Workload {
+    ghost use Rattle.std.specs.Prelude.{◌≡◌, Ok, option_map};
+    ghost use Rattle.eevdf_workload.specs.Meaning as meant;
+
+    ghost Value = { meant.Workload };
+
+    ghost view = { λ w. record { setup = w.setup; order = option_map (λ ps. ps.items) w.order; script = option_map (λ ds. ds.items) w.script } };
+
+    ghost invariant = { λ w. meant.allowed w.setup (option_map (λ ds. ds.items) w.script) ≡ Ok tt };
+}
+
+impl Workload {
+    ghost use Rattle.std.specs.Prelude.{option_map};
+
+    /// A workload of this setup, this order and this script.
+    pub(crate) fn new(
+        setup: Setup,
+        order: Option<Vec<usize>>,
+        script: Option<Vec<Deed>>,
+    ) -> Workload
+        requires { allowed setup (option_map (λ ds. ds.items) script) ≡ Ok tt }
+        ensures { result ≡ record { setup = setup; order = option_map (λ ps. ps.items) order; script = option_map (λ ds. ds.items) script } }
+    {
+        Workload {
+            setup,
+            order,
+            script,
+        }
+    }
+
+    /// What the machine is set up from.
+    pub fn setup(&self) -> &Setup
+        ensures { result.now ≡ self.now.setup }
+    {
+        &self.setup
+    }
+
+    /// The callers in the order in which they are to take their steps, if the workload lists them.
+    pub fn order(&self) -> Option<&[usize]>
+        ensures { option_map (λ ps. ps.now) result ≡ self.now.order }
+    {
+        match &self.order {
+            Some(callers) => Some(callers.as_slice()),
+            None => None,
+        }
+    }
+
+    /// The deeds to be done on the machine, in order, if the workload lists any. The setup allows each.
+    pub fn script(&self) -> Option<&[Deed]>
+        ensures deeds { option_map (λ ds. ds.now) result ≡ self.now.script }
+        ensures allowed { allowed self.now.setup self.now.script ≡ Ok tt }
+    {
+        match &self.script {
+            Some(deeds) => Some(deeds.as_slice()),
+            None => None,
+        }
+    }
+}

@@ -1,0 +1,75 @@
+ghost use Rattle.std.specs.Prelude.{◌≡◌, Ok, Err, option_map, MatchResult};
+ghost use Rattle.eevdf_workload.specs.Meaning.{version, version_of};
+ghost use Rattle.eevdf_workload.specs.MeaningSteps.{array_at, boolean_or, integer_or, natural};
+ghost use Rattle.toml.specs.Data.{get_member};
+ghost use Rattle.toml.specs.View.{array_view, table_view, view};
+
+use crate::load_fault::{Key, LoadFault};
+use crate::workload_version::Version;
+use toml::value::Array;
+use toml::{Table, Value};
+
+/// The version of a workload.
+#[tactic(auto, unfolding(crate::specs::Meaning::version))]
+pub(crate) fn version(document: &Table) -> Result<Version, LoadFault>
+    ensures { result ≡ version (table_view document.now) }
+{
+    match member(document, "version") {
+        Some(value) => version_of(value),
+        None => Err(LoadFault::Missing { key: Key::Version }),
+    }
+}
+
+fn version_of(value: &Value) -> Result<Version, LoadFault>
+    ensures { result ≡ version_of (view value.now) }
+{
+    match value.as_integer() {
+        Some(1) => Ok(Version::One),
+        Some(2) => Ok(Version::Two),
+        _ => Err(LoadFault::BadValue { key: Key::Version }),
+    }
+}
+
+/// The value at a key of a table.
+pub(crate) fn member<'a>(table: &'a Table, name: &str) -> Option<&'a Value>
+    ensures { option_map (λ v. view v.now) result ≡ get_member name.now (table_view table.now) }
+{
+    table.get(name)
+}
+
+/// The integer at a key of a table, or the default where the key is absent.
+pub(crate) fn integer_or(table: &Table, name: &str, default: i64) -> Option<i64>
+    ensures { result ≡ integer_or default (get_member name.now (table_view table.now)) }
+{
+    match member(table, name) {
+        Some(value) => value.as_integer(),
+        None => Some(default),
+    }
+}
+
+/// The boolean at a key of a table, or the default where the key is absent.
+pub(crate) fn boolean_or(table: &Table, name: &str, default: bool) -> Option<bool>
+    ensures { result ≡ boolean_or default (get_member name.now (table_view table.now)) }
+{
+    match member(table, name) {
+        Some(value) => value.as_bool(),
+        None => Some(default),
+    }
+}
+
+/// The number, if it is none below 0.
+pub(crate) fn natural(number: i64) -> Option<u64>
+    ensures { result ≡ natural number }
+{
+    u64::try_from(number).ok()
+}
+
+/// The members of an array, or a bad value at the key where it is none.
+pub(crate) fn array_at(value: &Value, key: Key) -> Result<&Array, LoadFault>
+    ensures { MatchResult result (λ a. array_at key (view value.now) ≡ Ok (array_view a.now)) (λ e. array_at key (view value.now) ≡ Err e) }
+{
+    match value.as_array() {
+        Some(members) => Ok(members),
+        None => Err(LoadFault::BadValue { key }),
+    }
+}

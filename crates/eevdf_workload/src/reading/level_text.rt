@@ -1,0 +1,32 @@
+ghost use Rattle.std.specs.Prelude.{◌≡◌, pos, option_and_then};
+ghost use Rattle.eevdf_weight.specs.Limits.{checked_level};
+ghost use Rattle.eevdf_workload.specs.Words.{below_zero, level_in};
+
+use crate::reading::number_text::number;
+use eevdf_weight::Nice;
+
+/// The nice level that a word writes: a number, or `-` before a number from 1 on.
+pub(crate) fn level(word: &str) -> Option<Nice>
+    ensures { result ≡ level_in word.now }
+{
+    match word.strip_prefix('-') {
+        Some(digits) => level_below_zero(number(digits)?),
+        None => level_from_zero(number(word)?),
+    }
+}
+
+fn level_from_zero(distance: u64) -> Option<Nice>
+    ensures { result ≡ checked_level (pos distance) }
+{
+    Nice::new(i64::try_from(distance).ok()?)
+}
+
+// The level so far below 0, which isn't 0 itself.
+fn level_below_zero(distance: u64) -> Option<Nice>
+    ensures { result ≡ option_and_then checked_level (below_zero distance) }
+{
+    match i64::try_from(distance) {
+        Ok(distance) if distance > 0 => Nice::new(-distance),
+        _ => None,
+    }
+}

@@ -1,0 +1,33 @@
+ghost use Rattle.std.specs.Prelude.{◌≡◌, option_and_then};
+ghost use Rattle.std.specs.Char.{is_ascii_digit};
+ghost use Rattle.std.specs.List.{list_all};
+ghost use Rattle.eevdf_workload.specs.Words.{is_number, number, fitting};
+
+/// The number that a word writes: `0`, or a digit from 1 to 9 followed by digits. `None` also where it
+/// doesn't fit its type.
+pub(crate) fn number(word: &str) -> Option<u64>
+    ensures { result ≡ option_and_then fitting (number word.now) }
+{
+    if is_number(word.as_bytes()) {
+        word.parse().ok()
+    } else {
+        None
+    }
+}
+
+// A word that doesn't begin with `0` has digits alone.
+fn is_number(word: &[u8]) -> bool
+    ensures { result ≡ is_number word.now }
+{
+    match word {
+        [] => false,
+        [first] if *first == b'0' => true,
+        [first, ..] => *first != b'0' && has_digits_alone(word),
+    }
+}
+
+fn has_digits_alone(word: &[u8]) -> bool
+    ensures { result ≡ list_all is_ascii_digit word.now }
+{
+    word.iter().all(|byte| byte.is_ascii_digit())
+}
