@@ -1,7 +1,8 @@
-//! The texts of a run: the report of an outcome, and the numbers and names that other texts share with it.
+//! The report of an outcome: each CPU's schedule, its queue and the requests that were left to it, and the
+//! history as a script where that is wanted.
 //!
-//! A report has each CPU's schedule, its queue and the requests that were left to it, and the history as a
-//! script where that is wanted. A text is pushed onto a vector of bytes, one kind of line by one function.
+//! A text is pushed onto a vector of bytes, one kind of line by one function. Numbers and tasks are written by
+//! public functions, since the lines of faults have them too.
 #![tactic(auto)]
 
 mod text_deeds;
