@@ -45,6 +45,3 @@ pub use program_threads::run_all;
 pub use rings::RingFull;
 pub use run_fault::RunFault;
 pub use seat::Seat;
-
-#[cfg(test)]
-mod tests;

@@ -13,6 +13,3 @@ pub(crate) use opened_rings::Rings;
 pub(crate) use producer_ends::Producers;
 pub use producer_ends::RingFull;
 pub(crate) use returned_ends::ReturnedEnds;
-
-#[cfg(test)]
-mod tests;

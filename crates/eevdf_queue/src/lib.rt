@@ -38,8 +38,3 @@ pub use run_entry::Entry;
 pub use run_queue::Queue;
 pub use task_number::TaskId;
 pub use task_parcel::Parcel;
-
-#[cfg(test)]
-mod tests;
-#[cfg(test)]
-mod tree_tests;

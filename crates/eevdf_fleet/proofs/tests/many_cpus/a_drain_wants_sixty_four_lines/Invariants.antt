@@ -1,4 +1,0 @@
-use Rattle.eevdf_fleet.proofs.tests.many_cpus.a_drain_wants_sixty_four_lines.Given as goal
-
-abbrev pub ghosts-drain_of_the_last : goal.ghosts-drain_of_the_last
-ghosts-drain_of_the_last g a = record { kit = a.kit }

@@ -1,4 +1,0 @@
-use Rattle.eevdf_fleet.proofs.tests.requests.a_drain_takes_one_request_of_a_sender.Given as goal
-
-abbrev pub ghosts-drains_once : goal.ghosts-drains_once
-ghosts-drains_once g a = record { kit = a.kit }

@@ -1,4 +1,0 @@
-use Rattle.eevdf_fleet.proofs.tests.requests.the_second_request_finds_the_task_awake.Given as goal
-
-abbrev pub ghosts-both_ask : goal.ghosts-both_ask
-ghosts-both_ask g a = record { kit = a.kit }

@@ -1,4 +1,0 @@
-use Rattle.eevdf_fleet.proofs.tests.seats.a_seat_fills.Given as goal
-
-abbrev pub ghosts-fills_a_seat : goal.ghosts-fills_a_seat
-ghosts-fills_a_seat g a = record { kit = a.kit }

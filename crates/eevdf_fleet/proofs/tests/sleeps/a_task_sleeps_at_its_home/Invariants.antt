@@ -1,4 +1,0 @@
-use Rattle.eevdf_fleet.proofs.tests.sleeps.a_task_sleeps_at_its_home.Given as goal
-
-abbrev pub ghosts-pulls_and_sleeps : goal.ghosts-pulls_and_sleeps
-ghosts-pulls_and_sleeps g a = record { kit = a.kit }
