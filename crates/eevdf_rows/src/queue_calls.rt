@@ -25,15 +25,14 @@ fn stands_at(rt: &impl Abort, queue: &Queue, number: u64, place: &Place) -> Resu
     Ok(())
 }
 
-#[test]
-fn a_sleeping_task_is_not_picked(rt: HostRuntime) -> Result<(), Fail> {
-    let mut queue = Queue::open();
-    let sleeper = parcel(rt.alloc(), 7, 3_000_000, 5)?;
+/// Puts a task to sleep in an empty queue.
+fn sleeps(rt: &impl Abort, alloc: Global, queue: &mut Queue) -> Result<(), Fail> {
+    let sleeper = parcel(alloc, 7, 3_000_000, 5)?;
     assert_eq!(rt; sleeper.start(), 5);
     assert_eq!(rt; sleeper.lag(), 0);
     assert_eq!(rt; Some(sleeper.nice()), Nice::new(0));
     assert_eq!(rt; Some(sleeper.slice()), Slice::new(3_000_000));
-    put_asleep(&rt, &mut queue, sleeper);
+    put_asleep(rt, queue, sleeper);
     assert!(rt; queue.asleep(task(7)?));
     assert_eq!(rt; queue.lag_of(task(7)?), Some(0));
     assert_eq!(rt; queue.lag_of(task(8)?), None);
@@ -42,11 +41,17 @@ fn a_sleeping_task_is_not_picked(rt: HostRuntime) -> Result<(), Fail> {
     Ok(())
 }
 
-/// Two tasks of equal weight, of which the first runs and has been charged for a million nanoseconds.
-fn first_of_two(rt: &impl Abort, alloc: Global) -> Result<Queue, Fail> {
+#[test]
+fn a_sleeping_task_is_not_picked(rt: HostRuntime) -> Result<(), Fail> {
     let mut queue = Queue::open();
-    admit(rt, &mut queue, parcel(alloc, 0, 3_000_000, 0)?);
-    admit(rt, &mut queue, parcel(alloc, 1, 3_000_000, 0)?);
+    sleeps(&rt, rt.alloc(), &mut queue)
+}
+
+/// Makes an empty queue one of two tasks of equal weight, of which the first runs and has been charged for a million
+/// nanoseconds.
+fn charge_first_of_two(rt: &impl Abort, alloc: Global, queue: &mut Queue) -> Result<(), Fail> {
+    admit(rt, queue, parcel(alloc, 0, 3_000_000, 0)?);
+    admit(rt, queue, parcel(alloc, 1, 3_000_000, 0)?);
     let first = task(0)?;
     assert_eq!(rt; queue.pick(), Some(first));
     let charged = TickAnswer::Charged {
@@ -54,39 +59,45 @@ fn first_of_two(rt: &impl Abort, alloc: Global) -> Result<Queue, Fail> {
         resched: false,
     };
     assert_eq!(rt; queue.tick(ns(1_000_000)?), charged);
-    Ok(queue)
+    Ok(())
 }
 
-#[test]
-fn a_waiting_task_leaves_and_joins_with_its_lag(rt: HostRuntime) -> Result<(), Fail> {
-    let mut queue = first_of_two(&rt, rt.alloc())?;
+/// Takes the waiting one of two tasks out and puts it back, and then the running one yields.
+fn leaves_and_joins(rt: &impl Abort, alloc: Global, queue: &mut Queue) -> Result<(), Fail> {
+    charge_first_of_two(rt, alloc, queue)?;
     let waiting = queue.candidate().ok_or("nobody waits")?;
     let pulled = queue.detach(waiting);
     assert_eq!(rt; pulled.task().get(), 1);
     assert_eq!(rt; pulled.lag(), 500_000);
     assert_eq!(rt; queue.floor_time(), 1_000_000);
-    attach(&rt, &mut queue, pulled);
+    attach(rt, queue, pulled);
     let joined = Place {
         v: 0,
         d: 3_000_000,
         lag: 500_000,
     };
-    stands_at(&rt, &queue, 1, &joined)?;
+    stands_at(rt, queue, 1, &joined)?;
     assert_eq!(rt; queue.yield_now(), YieldAnswer::Yielded);
     let yielded = Place {
         v: 1_000_000,
         d: 6_000_000,
         lag: -500_000,
     };
-    stands_at(&rt, &queue, 0, &yielded)
+    stands_at(rt, queue, 0, &yielded)
 }
 
 #[test]
-fn a_running_task_sleeps_and_wakes_with_its_lag(rt: HostRuntime) -> Result<(), Fail> {
-    let mut queue = first_of_two(&rt, rt.alloc())?;
+fn a_waiting_task_leaves_and_joins_with_its_lag(rt: HostRuntime) -> Result<(), Fail> {
+    let mut queue = Queue::open();
+    leaves_and_joins(&rt, rt.alloc(), &mut queue)
+}
+
+/// Puts the running one of two tasks to sleep, and wakes it.
+fn sleeps_and_wakes(rt: &impl Abort, alloc: Global, queue: &mut Queue) -> Result<(), Fail> {
+    charge_first_of_two(rt, alloc, queue)?;
     let sleeper = queue.detach_running(task(0)?).ok_or("not running")?;
     assert_eq!(rt; queue.yield_now(), YieldAnswer::Idle);
-    put_asleep(&rt, &mut queue, sleeper);
+    put_asleep(rt, queue, sleeper);
     assert_eq!(rt; queue.lag_of(task(0)?), Some(-500_000));
     assert_eq!(rt; queue.wake(task(0)?), WakeAnswer::Woken);
     assert_eq!(rt; queue.wake(task(0)?), WakeAnswer::Awake);
@@ -95,5 +106,11 @@ fn a_running_task_sleeps_and_wakes_with_its_lag(rt: HostRuntime) -> Result<(), F
         d: 4_000_000,
         lag: -500_000,
     };
-    stands_at(&rt, &queue, 0, &woken)
+    stands_at(rt, queue, 0, &woken)
+}
+
+#[test]
+fn a_running_task_sleeps_and_wakes_with_its_lag(rt: HostRuntime) -> Result<(), Fail> {
+    let mut queue = Queue::open();
+    sleeps_and_wakes(&rt, rt.alloc(), &mut queue)
 }

@@ -70,15 +70,33 @@ fn empties_in_order(rt: &impl Abort, queue: &mut Queue) -> Result<(), Fail> {
     Ok(())
 }
 
-#[test]
-fn one_task_is_picked_in_one_turn(rt: HostRuntime) -> Result<(), Fail> {
-    let mut queue = Queue::open();
-    admit(&rt, &mut queue, numbered(rt.alloc(), 7)?);
+/// One task is picked in one turn.
+fn picks_one(rt: &impl Abort, alloc: Global, queue: &mut Queue) -> Result<(), Fail> {
+    admit(rt, queue, numbered(alloc, 7)?);
     assert_eq!(rt; queue.candidate(), Some(task(7)?));
     assert_eq!(rt; queue.pick(), Some(task(7)?));
     assert_eq!(rt; queue.pick_steps(), 1);
     assert_eq!(rt; queue.candidate(), None);
     Ok(())
+}
+
+#[test]
+fn one_task_is_picked_in_one_turn(rt: HostRuntime) -> Result<(), Fail> {
+    let mut queue = Queue::open();
+    picks_one(&rt, rt.alloc(), &mut queue)
+}
+
+/// Makes all tasks runnable in an empty queue, in the order in which they come, and takes them out by their deadlines.
+fn fills_and_empties(
+    rt: &impl Abort,
+    alloc: Global,
+    queue: &mut Queue,
+    arrival: Arrival,
+) -> Result<(), Fail> {
+    for place in 0..TASKS {
+        admit(rt, queue, numbered(alloc, arrival.number_at(place))?);
+    }
+    empties_in_order(rt, queue)
 }
 
 #[test]
@@ -89,23 +107,15 @@ fn tasks_are_picked_by_deadline_whatever_their_arrival(rt: HostRuntime) -> Resul
         Arrival::Alternating,
     ] {
         let mut queue = Queue::open();
-        for place in 0..TASKS {
-            admit(
-                &rt,
-                &mut queue,
-                numbered(rt.alloc(), arrival.number_at(place))?,
-            );
-        }
-        empties_in_order(&rt, &mut queue)?;
+        fills_and_empties(&rt, rt.alloc(), &mut queue, arrival)?;
     }
     Ok(())
 }
 
-#[test]
-fn sleeping_tasks_wake_one_after_the_other(rt: HostRuntime) -> Result<(), Fail> {
-    let mut queue = Queue::open();
+/// Puts all tasks to sleep in an empty queue, wakes them, the greatest number first, and takes them out by their deadlines.
+fn sleep_and_wake(rt: &impl Abort, alloc: Global, queue: &mut Queue) -> Result<(), Fail> {
     for number in 0..TASKS {
-        put_asleep(&rt, &mut queue, numbered(rt.alloc(), number)?);
+        put_asleep(rt, queue, numbered(alloc, number)?);
     }
     for place in 0..TASKS {
         let task = task(Arrival::Descending.number_at(place))?;
@@ -115,7 +125,13 @@ fn sleeping_tasks_wake_one_after_the_other(rt: HostRuntime) -> Result<(), Fail> 
         assert_eq!(rt; queue.entry(task).map(|entry| entry.v), Some(0));
         assert_eq!(rt; queue.wake(task), WakeAnswer::Awake);
     }
-    empties_in_order(&rt, &mut queue)
+    empties_in_order(rt, queue)
+}
+
+#[test]
+fn sleeping_tasks_wake_one_after_the_other(rt: HostRuntime) -> Result<(), Fail> {
+    let mut queue = Queue::open();
+    sleep_and_wake(&rt, rt.alloc(), &mut queue)
 }
 
 /// Picks the next task, which is to be this one, and charges it.
@@ -143,27 +159,31 @@ fn times(queue: &Queue, number: u64) -> Result<(i64, i64), Fail> {
 
 /// A task that was charged is ahead of the mean, so the next one is picked. A tick of 1000 ns is below every slice and leaves
 /// the deadline; one of a million is past every slice, and the next deadline is a slice after the new virtual runtime.
-#[test]
-fn charged_tasks_take_turns(rt: HostRuntime) -> Result<(), Fail> {
-    let mut queue = Queue::open();
+fn take_turns(rt: &impl Abort, alloc: Global, queue: &mut Queue) -> Result<(), Fail> {
     for number in (0..64u32).rev() {
-        admit(&rt, &mut queue, numbered(rt.alloc(), u64::from(number))?);
+        admit(rt, queue, numbered(alloc, u64::from(number))?);
     }
     for number in 0..64u32 {
-        charges_next(&rt, &mut queue, u64::from(number), 1000, false)?;
+        charges_next(rt, queue, u64::from(number), 1000, false)?;
         let turns = i64::from(number) + 1;
         assert_eq!(rt; queue.floor_time(), 1000 * turns / 64);
         let deadline = 100_000 + 1000 * i64::from(number);
-        assert_eq!(rt; times(&queue, u64::from(number))?, (1000, deadline));
+        assert_eq!(rt; times(queue, u64::from(number))?, (1000, deadline));
     }
     for number in 0..64u32 {
-        charges_next(&rt, &mut queue, u64::from(number), 1_000_000, true)?;
+        charges_next(rt, queue, u64::from(number), 1_000_000, true)?;
         let turns = i64::from(number) + 1;
         assert_eq!(rt; queue.floor_time(), 1000 + 1_000_000 * turns / 64);
         let deadline = 1_001_000 + 100_000 + 1000 * i64::from(number);
-        assert_eq!(rt; times(&queue, u64::from(number))?, (1_001_000, deadline));
+        assert_eq!(rt; times(queue, u64::from(number))?, (1_001_000, deadline));
     }
     assert_eq!(rt; queue.candidate(), Some(task(62)?));
     assert_eq!(rt; queue.pick(), Some(task(0)?));
     Ok(())
+}
+
+#[test]
+fn charged_tasks_take_turns(rt: HostRuntime) -> Result<(), Fail> {
+    let mut queue = Queue::open();
+    take_turns(&rt, rt.alloc(), &mut queue)
 }
