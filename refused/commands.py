@@ -3,7 +3,7 @@
 from dataclasses import dataclass
 
 from programs import Printed
-from sweep import sweep
+from sweep import say_faults, sweep
 
 # The programs, their words and the workloads that they are run on. Where a workload has a file of what is printed, or several
 # since its threads come in an order of their own, this is compared too.
@@ -167,7 +167,6 @@ def check(programs, pool, workloads, say):
         else:
             met.append(0)
         say(f"{met[0]:>8}{met[1]:>9}{met[2]:>7}{met[3]:>8}  {case}")
-        for fault in case.faults:
-            say(f"FAILED: {fault}")
+        say_faults(case.faults, say)
         passed.append(not case.faults)
     return passed

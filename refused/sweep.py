@@ -8,6 +8,9 @@ AT_ONCE = 32
 # More requests than any run makes.
 MOST = 20000
 
+# So many faults of a workload or a command are said.
+FAULTS_SAID = 5
+
 
 def sweep(pool, run, met, look):
     """Looks at the runs of which request 1, 2, .. is refused, up to the first that meets none, and gives how many met one.
@@ -20,6 +23,14 @@ def sweep(pool, run, met, look):
             if not met(number, result):
                 return number - 1
     raise RuntimeError(f"more than {MOST} requests")
+
+
+def say_faults(faults, say):
+    """Says the first faults, and how many there are more."""
+    for fault in faults[:FAULTS_SAID]:
+        say(f"FAILED: {fault}")
+    if len(faults) > FAULTS_SAID:
+        say(f"and {len(faults) - FAULTS_SAID} more")
 
 
 def open_pool(jobs):
