@@ -1,8 +1,8 @@
 #!/usr/bin/env bash
 # refused/run.sh: refuses each request for memory, each thread, each read and each write of the built programs in turn.
-# Prints how many each met; the last line is 'N passed, M failed'. Ends
-# with 1 where something failed, and with 3 where nothing can be refused, since there is no C compiler, or nothing can be
-# built. TOP names another checkout whose programs are looked at.
+# Prints how many each met; the last line is 'N passed, M failed'. Ends with 1 where something failed, and with 3 where
+# nothing can be refused, since there is no C compiler, or nothing can be built. TOP names another checkout whose programs
+# are looked at.
 set -u
 here=$(cd "$(dirname "$0")" && pwd)
 top=${TOP:-$here/..}
