@@ -15,6 +15,9 @@ from workloads import WORKLOADS
 
 TEXTS = (*DOCUMENTS, *WORKLOADS, *ORDERED, *WORDS)
 
+# How often a text is sent whose answer is right but late.
+TRIES = 3
+
 
 def parse_words():
     words = argparse.ArgumentParser(description=__doc__)
@@ -52,7 +55,12 @@ def failure(text, ran):
 
 def check(top, text, with_figures):
     # the stacks of the threads of a run take address space that they don't use
-    ran = run_text(top, text, "run" not in text.words)
+    limited = "run" not in text.words
+    ran = run_text(top, text, limited)
+    # what else a machine does can only make a program slower
+    for _ in range(TRIES - 1):
+        if ran.answer == text.answer and not ran.is_within():
+            ran = run_text(top, text, limited)
     wrong = failure(text, ran)
     if with_figures:
         print(f"{figures(ran)}  {text.name}", flush=True)
