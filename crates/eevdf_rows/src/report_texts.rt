@@ -163,17 +163,23 @@ fn report_of(alloc: Global, cases: &[Case]) -> Result<String, Fail> {
     Ok(text)
 }
 
-#[test]
-fn every_kind_of_line_is_printed(rt: HostRuntime) -> Result<(), Fail> {
-    let alloc = rt.alloc();
-    let cases = cases()?;
+/// The lines of the cases.
+fn lines_of(alloc: Global, cases: &[Case]) -> Result<Vec<Line>, Fail> {
     let mut lines = Vec::new(alloc);
-    for case in &cases {
+    for case in cases {
         lines.push(Line {
             deed: case.deed,
             answer: case.answer,
         })?;
     }
+    Ok(lines)
+}
+
+#[test]
+fn every_kind_of_line_is_printed(rt: HostRuntime) -> Result<(), Fail> {
+    let alloc = rt.alloc();
+    let cases = cases()?;
+    let lines = lines_of(alloc, &cases)?;
     let outcome = outcome(&rt, alloc, lines, 12)?;
     let text = report(alloc, &outcome, true)?;
     let want = report_of(alloc, &cases)?;
