@@ -8,19 +8,30 @@ use std::alloc::{AllocError, Global};
 use std::process::Abort;
 use std::test::Fail;
 
-/// A line of the CPU whose schedule is looked at, as its schedule has it.
-#[derive(Clone, Copy)]
-struct Case {
-    deed: Deed,
-    answer: Answer,
-    printed: &'static str,
-}
-
-/// The number of that CPU, which is the last one.
+/// The number of the CPU whose schedule is looked at, which is the last one.
 const CPU: u64 = 11;
 
-/// Each kind of deed of a CPU, with each of its own answers.
-fn cases() -> Result<[Case; 15], Fail> {
+/// Its schedule: each kind of deed with each of its own answers.
+const PRINTED: [&str; 15] = [
+    "tick 3000000: charged 1023",
+    "tick 3000000: charged 1023 resched",
+    "tick 3000000: idle",
+    "pick: picked 1023",
+    "yield: yielded",
+    "sleep 1023: slept -200000",
+    "sleep 1023: not running",
+    "wake 1023 from 2: woken",
+    "wake 1023 from 2: awake",
+    "pull 2: pulled 1023",
+    "pull 2: balanced",
+    "pull 2: nothing",
+    "pull 2: range",
+    "renice 1023 -20: reniced",
+    "renice 1023 -20: not here",
+];
+
+/// The lines of that schedule.
+fn lines_of_all_kinds() -> Result<[Line; 15], Fail> {
     let task = task(1023)?;
     let source = cpu(2)?;
     let cpu = cpu(CPU)?;
@@ -41,86 +52,71 @@ fn cases() -> Result<[Case; 15], Fail> {
         nice: nice(-20)?,
     };
     Ok([
-        Case {
+        Line {
             deed: tick,
             answer: Answer::Charged {
                 task,
                 resched: false,
             },
-            printed: "tick 3000000: charged 1023",
         },
-        Case {
+        Line {
             deed: tick,
             answer: Answer::Charged {
                 task,
                 resched: true,
             },
-            printed: "tick 3000000: charged 1023 resched",
         },
-        Case {
+        Line {
             deed: tick,
             answer: Answer::Idle,
-            printed: "tick 3000000: idle",
         },
-        Case {
+        Line {
             deed: Deed::Pick { cpu },
             answer: Answer::Picked(task),
-            printed: "pick: picked 1023",
         },
-        Case {
+        Line {
             deed: Deed::Yield { cpu },
             answer: Answer::Yielded,
-            printed: "yield: yielded",
         },
-        Case {
+        Line {
             deed: sleep,
             answer: Answer::Slept(-200_000),
-            printed: "sleep 1023: slept -200000",
         },
-        Case {
+        Line {
             deed: sleep,
             answer: Answer::NotRunning,
-            printed: "sleep 1023: not running",
         },
-        Case {
+        Line {
             deed: wake,
             answer: Answer::Woken,
-            printed: "wake 1023 from 2: woken",
         },
-        Case {
+        Line {
             deed: wake,
             answer: Answer::Awake,
-            printed: "wake 1023 from 2: awake",
         },
-        Case {
+        Line {
             deed: pull,
             answer: Answer::Pulled(task),
-            printed: "pull 2: pulled 1023",
         },
-        Case {
+        Line {
             deed: pull,
             answer: Answer::Balanced,
-            printed: "pull 2: balanced",
         },
-        Case {
+        Line {
             deed: pull,
             answer: Answer::Nothing,
-            printed: "pull 2: nothing",
         },
-        Case {
+        Line {
             deed: pull,
             answer: Answer::Range,
-            printed: "pull 2: range",
         },
-        Case {
+        Line {
             deed: renice,
             answer: Answer::Reniced,
-            printed: "renice 1023 -20: reniced",
         },
-        Case {
+        Line {
             deed: renice,
             answer: Answer::NotHere,
-            printed: "renice 1023 -20: not here",
         },
     ])
 }
@@ -144,45 +140,33 @@ fn outcome(
     Ok(Outcome::of(lines, queues, left))
 }
 
-/// The report of the cases, with their history.
-fn report_of(alloc: Global, cases: &[Case]) -> Result<String, Fail> {
+/// The report of that schedule, with its history.
+fn report_of_all_kinds(alloc: Global) -> Result<String, Fail> {
     let mut text = String::new(alloc);
     for cpu in 0..CPU {
         text.push_str(format!(in alloc; "cpu {cpu}\nload 0 floor 0\n")?.as_str())?;
     }
     text.push_str(format!(in alloc; "cpu {CPU}\n")?.as_str())?;
-    for case in cases {
-        text.push_str(format!(in alloc; "{}\n", case.printed)?.as_str())?;
+    for printed in PRINTED {
+        text.push_str(format!(in alloc; "{printed}\n")?.as_str())?;
     }
     text.push_str("load 0 floor 0\nscript = [\n")?;
-    for case in cases {
-        let (deed, _answer) = case.printed.split_once(": ").ok_or("printed")?;
+    for printed in PRINTED {
+        let (deed, _answer) = printed.split_once(": ").ok_or("printed")?;
         text.push_str(format!(in alloc; "\"{CPU} {deed}\",\n")?.as_str())?;
     }
     text.push_str("]\n")?;
     Ok(text)
 }
 
-/// The lines of the cases.
-fn lines_of(alloc: Global, cases: &[Case]) -> Result<Vec<Line>, Fail> {
-    let mut lines = Vec::new(alloc);
-    for case in cases {
-        lines.push(Line {
-            deed: case.deed,
-            answer: case.answer,
-        })?;
-    }
-    Ok(lines)
-}
-
 #[test]
 fn every_kind_of_line_is_printed(rt: HostRuntime) -> Result<(), Fail> {
     let alloc = rt.alloc();
-    let cases = cases()?;
-    let lines = lines_of(alloc, &cases)?;
+    let mut lines = Vec::new(alloc);
+    lines.extend_from_slice(&lines_of_all_kinds()?)?;
     let outcome = outcome(&rt, alloc, lines, 12)?;
     let text = report(alloc, &outcome, true)?;
-    let want = report_of(alloc, &cases)?;
+    let want = report_of_all_kinds(alloc)?;
     assert!(rt; text.as_slice() == want.as_bytes());
     Ok(())
 }
