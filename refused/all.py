@@ -1,10 +1,11 @@
-"""Looks at the built programs."""
+"""Looks at the library's calls and at the built programs."""
 
 import argparse
 import os
 import sys
 from pathlib import Path
 
+import calls
 import commands
 from programs import Programs
 from sweep import open_pool
@@ -23,7 +24,7 @@ def main():
     programs = Programs(asked.top, asked.work)
     workloads = Path(__file__).parent / "workloads"
     with open_pool(asked.jobs) as pool:
-        passed = commands.check(programs, pool, workloads, say)
+        passed = commands.check(programs, pool, workloads, say) + calls.check(programs, pool, workloads, say)
     say(f"{sum(passed)} passed, {len(passed) - sum(passed)} failed")
     sys.exit(0 if all(passed) else 1)
 

@@ -1,0 +1,75 @@
+//! Makes each of the library's calls that take memory on the workload from standard input, and then those that take none. A
+//! call that is refused memory is made once more on the same arguments. Printed is which call is made, whether it was
+//! refused, and what it answered, so that `refused/run.sh`, which refuses its requests in turn, can compare.
+//!
+//! What it does itself takes no memory, but for the lists that calls are given: what is refused is a call's own request.
+#![tactic(auto)]
+
+mod called;
+mod every_operation;
+mod fleet_calls;
+mod fleet_operations;
+mod player_calls;
+mod queue_calls;
+mod setup_calls;
+mod solo_calls;
+mod solo_deeds;
+mod stopped;
+mod text_calls;
+mod watched_player;
+
+use crate::called::{called, say};
+use crate::fleet_calls::{fleet_calls, run_calls};
+use crate::player_calls::{play_calls, player_calls};
+use crate::queue_calls::queue_calls;
+use crate::setup_calls::copied_setup;
+use crate::solo_calls::{script_calls, solo_calls};
+use crate::stopped::Stopped;
+use crate::text_calls::{engine_calls, text_calls};
+use eevdf_bench::{LoadFault, read_workload};
+use eevdf_ops::SetupFault;
+use std::alloc::Global;
+use std::io::Read;
+use std::process::ExitCode;
+use std::sync::Wait;
+use std::thread::Threads;
+
+/// The longest workload that is taken.
+const MOST_BYTES: usize = 4096;
+
+fn main(rt: HostRuntime) -> ExitCode {
+    let mut buffer = [0u8; MOST_BYTES];
+    let Ok(count) = rt.reader().read(&mut buffer) else {
+        return ExitCode::from(3);
+    };
+    ExitCode::from(match all_calls(&rt, rt.alloc(), &buffer[..count]) {
+        Ok(()) => 0,
+        Err(Stopped) => 3,
+    })
+}
+
+fn all_calls<R: Print + Threads + Wait + Sync>(
+    rt: &R,
+    alloc: Global,
+    bytes: &[u8],
+) -> Result<(), Stopped> {
+    let workload = called!(
+        rt,
+        "read_workload",
+        Err(LoadFault::Memory | LoadFault::Setup(SetupFault::Memory)),
+        read_workload(alloc, bytes)
+    )
+    .map_err(|_| Stopped)?;
+    text_calls(rt, alloc, &workload)?;
+    engine_calls(rt, alloc, bytes)?;
+    script_calls(rt, alloc, &workload)?;
+    play_calls(rt, alloc, &workload)?;
+    let setup = copied_setup(rt, alloc, workload.setup())?;
+    run_calls(rt, alloc, &setup)?;
+    queue_calls(rt, alloc)?;
+    solo_calls(rt, alloc, &setup)?;
+    player_calls(rt, alloc, &setup)?;
+    fleet_calls(rt, alloc, &setup)?;
+    say(rt, "== end");
+    Ok(())
+}

@@ -1,0 +1,40 @@
+//! Making a setup, of the tasks and the programs of another.
+
+use crate::called::called;
+use crate::stopped::Stopped;
+use eevdf_ops::{CpuId, Op, Setup, SetupFault, TaskSpec};
+use eevdf_queue::TaskId;
+use std::alloc::{AllocError, Global};
+
+/// The same setup, made anew.
+pub fn copied_setup(rt: &impl Print, alloc: Global, setup: &Setup) -> Result<Setup, Stopped> {
+    let tasks = called!(rt, "the tasks", Err(_), tasks_of(alloc, setup))?;
+    let programs = called!(rt, "the programs", Err(_), programs_of(alloc, setup))?;
+    called!(
+        rt,
+        "Setup::make",
+        Err(SetupFault::Memory),
+        Setup::make(alloc, &tasks, &programs)
+    )
+    .map_err(|_| Stopped)
+}
+
+fn tasks_of(alloc: Global, setup: &Setup) -> Result<Vec<TaskSpec>, AllocError> {
+    let mut tasks = Vec::new(alloc);
+    for number in 0..setup.tasks() {
+        if let Some(task) = TaskId::new(number as u64) {
+            tasks.push(*setup.spec(task))?;
+        }
+    }
+    Ok(tasks)
+}
+
+fn programs_of(alloc: Global, setup: &Setup) -> Result<Vec<Vec<Op>>, AllocError> {
+    let mut programs = Vec::new(alloc);
+    for number in 0..setup.cpus() {
+        if let Some(cpu) = CpuId::new(number as u64) {
+            programs.push(Vec::from_slice(alloc, setup.program(cpu))?)?;
+        }
+    }
+    Ok(programs)
+}
