@@ -1,7 +1,10 @@
 //! Two threads operate a fleet at the same time, each by a seat of its own.
 
-ghost use Rattle.std.specs.Prelude.{◌≡◌};
+ghost use Rattle.std.specs.Prelude.{◌≡◌, IfSome, true};
+ghost use Rattle.std.specs.List.{list_all};
 ghost use Rattle.eevdf_fleet.specs.Fleets.{setup_of};
+ghost use Rattle.eevdf_ops.specs.Programs.{deeds_of};
+ghost use Rattle.eevdf_ops.specs.Setup.{allows};
 
 use super::kit_of;
 use super::seat_call::{Call, call_on};
@@ -46,6 +49,7 @@ fn two_operate<N: Names + Send + Sync, R: Threads + Wait + Sync>(
 ) -> Option<Outcome>
     requires kit { kit ≡ N.kit }
     requires setup { setup_of kit ≡ setup.now }
+    ensures allowed { IfSome result (λ outcome. list_all (allows setup.now) (deeds_of outcome.lines) ≡ true) }
 {
     let (fleet, mut seats) = Fleet::<N>::open(alloc, kit).ok()?;
     let one = seats.pop()?;
