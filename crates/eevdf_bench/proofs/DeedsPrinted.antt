@@ -17,7 +17,7 @@ use Rattle.eevdf_report.specs.TextDeed.{cpu_of, deed_text}
 use Rattle.eevdf_workload.specs.Versions.{cpu_within, limits_of}
 use Rattle.eevdf_ops.specs.Programs.{deed_of}
 use Rattle.eevdf_workload.specs.Words.{words, operation_of, sender_of, wake_of, task_in, cpu_in, deed_on, deed_in}
-use Rattle.eevdf_bench.specs.WordsPrinted.{knows_act, knows_deed, knows_operation, numbered_deed_text, operation_text}
+use Rattle.eevdf_bench.specs.WordsPrinted.{knows_act, knows_deed, knows_operation, most_cpus, numbered_deed_text, operation_text}
 use Rattle.eevdf_bench.proofs.ReadingPrinted.{number-decimal, words-decimal, words-after_decimal, joined_words}
 use Rattle.eevdf_bench.proofs.OperationsPrinted.{cpu_check, cpu_known, cpu_passes, small_tick, task_check, task_passes, checked_word, only_word, mapped_parts, named, renice_text, renice-read, text-operation_of}
 
@@ -103,7 +103,7 @@ text-deed_in version (word ∷ verb ∷ ws) d h =
     let (of_cpu, printed, known) = text-deed_on version cpu verb ws d on in
     let (number_is, passes) = checked_word (cpu_within (limits_of version)) word cpu (cpu_check version) read in
     let number_text : word ≡ decimal (cpu_of d) = number_is ∙ ap decimal (sym of_cpu) in
-    let below : ltb (cpu_of d) (limits_of version).cpus ≡ true = ap (λ (n : ℕ). ltb n (limits_of version).cpus) of_cpu ∙ cpu_known version cpu passes in (
+    let below : ltb (cpu_of d) (most_cpus version) ≡ true = ap (λ (n : ℕ). ltb n (most_cpus version)) of_cpu ∙ cpu_known version cpu passes in (
       ap (λ (w : List ℕ). w ++ (32 ∷ join_with_byte 32 (verb ∷ ws))) number_text ∙ ap (λ (t : List ℕ). decimal (cpu_of d) ++ (32 ∷ t)) printed
           ∙ sym (append_assoc (decimal (cpu_of d)) (codes " ") (deed_text d)),
       rw below known,
@@ -139,7 +139,7 @@ pub deed-renice : (version : Version) (cpu task : ℕ) (nice : ℤ) → task < 1
 deed-renice version cpu task nice h level known =
     ap (λ t. deed_on (limits_of version) cpu (words t)) (renice_text task nice) ∙ ap (option_and_then (deed_of cpu)) (renice-read version task nice h level known)
 
-sender-read : (version : Version) (n : ℕ) → n < cpu_limit → ltb n (limits_of version).cpus ≡ true → sender_of (limits_of version) (words (codes "from " ++ decimal n)) ≡ Some n
+sender-read : (version : Version) (n : ℕ) → n < cpu_limit → ltb n (most_cpus version) ≡ true → sender_of (limits_of version) (words (codes "from " ++ decimal n)) ≡ Some n
 sender-read version n h known = rw (words-decimal n (omega arith), number-decimal n (omega arith), cpu_passes version n h known)
 
 pub deed-wake : (version : Version) (cpu n sender : ℕ) → n < 1024 → sender < cpu_limit → IsReadBackOn version (Wake cpu n sender)
@@ -151,7 +151,7 @@ deed-wake version cpu n sender h below known =
 deed-read : (version : Version) (d : Deed) → cpu_of d < cpu_limit → IsReadBackOn version d → knows_deed version d ≡ true → deed_in (limits_of version) (words (numbered_deed_text d)) ≡ Some d
 unfolding deed_in
 deed-read version d below read known =
-    let (on, act) = and_parts (ltb (cpu_of d) (limits_of version).cpus) (knows_act version d) known in
+    let (on, act) = and_parts (ltb (cpu_of d) (most_cpus version)) (knows_act version d) known in
     ap (λ t. deed_in (limits_of version) (words t)) (append_assoc (decimal (cpu_of d)) (codes " ") (deed_text d)) ∙ ap (deed_in (limits_of version)) (words-after_decimal (cpu_of d) (deed_text d) (omega arith))
     ∙ rw (number-decimal (cpu_of d) (omega arith), cpu_passes version (cpu_of d) below on, read act)
 

@@ -14,9 +14,10 @@ use Rattle.eevdf_ops.specs.Numbers.{cpu_limit}
 use Rattle.eevdf_ops.specs.declared.deeds.Op.{Op}
 use Rattle.eevdf_ops.specs.declared.deeds.Op.TheVariants.{Tick, Pick, Yield, Sleep, Post, Drain, Pull, Renice}
 use Rattle.eevdf_workload.specs.declared.workload_version.Version.{Version}
+use Rattle.eevdf_workload.specs.declared.workload_version.Version.TheVariants.{One, Two}
 use Rattle.eevdf_workload.specs.Versions.{cpu_within, limits_of}
 use Rattle.eevdf_workload.specs.Words.{words, number, only_number, only_level, task_in, alone, renice_of, operation, operation_of}
-use Rattle.eevdf_bench.specs.WordsPrinted.{knows_operation, operation_text}
+use Rattle.eevdf_bench.specs.WordsPrinted.{knows_operation, knows_renice, most_cpus, operation_text}
 use Rattle.eevdf_bench.proofs.ReadingPrinted.{number-decimal, decimal-number, words-decimal, words-after_decimal, joined_words}
 use Rattle.eevdf_bench.proofs.LevelsPrinted.{level-printed, printed-level, words-printed}
 
@@ -38,6 +39,15 @@ task_check n m h = let (passes, same) = cond_some (ltb n 1024) n m h in (same, g
 pub task_passes : (n : ℕ) → n < 1024 → checked_number n ≡ Some n
 task_passes n h = grind (arith, nat_tests)
 
+-- what the limits of a version are
+cpus_are : (version : Version) → (limits_of version).cpus ≡ most_cpus version
+cpus_are One = refl
+cpus_are Two = refl
+
+renice_is : (version : Version) → (limits_of version).renice ≡ knows_renice version
+renice_is One = refl
+renice_is Two = refl
+
 -- a CPU that is within the limits of a version
 pub cpu_parts : (version : Version) (n m : ℕ) → cpu_within (limits_of version) n ≡ Some m → (n ≡ m) × (n < cpu_limit) × (ltb n (limits_of version).cpus ≡ true)
 cpu_parts version n m h =
@@ -51,11 +61,15 @@ cpu_parts version n m h =
 pub cpu_check : (version : Version) → IsCheck (cpu_within (limits_of version))
 cpu_check version n m h = let (same, below, known) = cpu_parts version n m h in (same, omega arith)
 
-pub cpu_known : (version : Version) (n : ℕ) → cpu_within (limits_of version) n ≡ Some n → ltb n (limits_of version).cpus ≡ true
-cpu_known version n h = let (same, below, known) = cpu_parts version n n h in known
+pub cpu_known : (version : Version) (n : ℕ) → cpu_within (limits_of version) n ≡ Some n → ltb n (most_cpus version) ≡ true
+cpu_known version n h =
+    let (same, below, known) = cpu_parts version n n h in
+    subst (λ (cpus : ℕ). ltb n cpus ≡ true) (cpus_are version) known
 
-pub cpu_passes : (version : Version) (n : ℕ) → n < cpu_limit → ltb n (limits_of version).cpus ≡ true → cpu_within (limits_of version) n ≡ Some n
-cpu_passes version n h known = rw known (grind (arith, nat_tests))
+pub cpu_passes : (version : Version) (n : ℕ) → n < cpu_limit → ltb n (most_cpus version) ≡ true → cpu_within (limits_of version) n ≡ Some n
+cpu_passes version n h known =
+    let within : ltb n (limits_of version).cpus ≡ true = subst (λ (cpus : ℕ). ltb n cpus ≡ true) (sym (cpus_are version)) known in
+    rw within (grind (arith, nat_tests))
 
 -- ---- arguments that are read
 
@@ -100,7 +114,7 @@ text-alone version verb o (w ∷ ws) op printed known h = absurd (none-some op h
 pub renice_text : (task : ℕ) (nice : ℤ) → operation_text (Renice task nice) ≡ codes "renice " ++ (decimal task ++ (32 ∷ signed_decimal nice))
 renice_text task nice = ap (λ (t : List ℕ). codes "renice " ++ t) (append_assoc (decimal task) (codes " ") (signed_decimal nice))
 
-text-renice : (version : Version) (ws : List (List ℕ)) (op : Op) → (limits_of version).renice ≡ true → renice_of ws ≡ Some op → IsPrinted version op (codes "renice" ∷ ws)
+text-renice : (version : Version) (ws : List (List ℕ)) (op : Op) → knows_renice version ≡ true → renice_of ws ≡ Some op → IsPrinted version op (codes "renice" ∷ ws)
 text-renice version [] op known h = absurd (none-some op h)
 text-renice version (word ∷ []) op known h = option_and_then_some (λ task. option_map (Renice task) (only_level [])) (task_in word) op h (λ task read made. absurd (none-some op made))
 text-renice version (word ∷ last ∷ next ∷ ws) op known h =
@@ -139,7 +153,7 @@ text-operation_of version verb ws op h =
     named (codes "renice") verb ws _ _ op (IsPrinted version op) h
     (λ h.
     elim (cases_Bool (limits_of version).renice) [
-      | inl known ↦ text-renice version ws op known (rw known at h)
+      | inl known ↦ text-renice version ws op (sym (renice_is version) ∙ known) (rw known at h)
       | inr unknown ↦ absurd (none-some op (rw unknown at h))
     ]) (λ h.
     absurd (none-some op h)))))))))
@@ -188,11 +202,12 @@ pub operation-pull : (version : Version) (n : ℕ) → n < cpu_limit → IsReadB
 unfolding operation
 operation-pull version n h known = rw (words-decimal n (omega arith), number-decimal n (omega arith), cpu_passes version n h known)
 
-pub renice-read : (version : Version) (task : ℕ) (nice : ℤ) → task < 1024 → is_nice_level nice ≡ true → (limits_of version).renice ≡ true
+pub renice-read : (version : Version) (task : ℕ) (nice : ℤ) → task < 1024 → is_nice_level nice ≡ true → knows_renice version ≡ true
     → operation_of (limits_of version) (codes "renice") (words (decimal task ++ (32 ∷ signed_decimal nice))) ≡ Some (Renice task nice)
 renice-read version task nice h level known =
+    let knows : (limits_of version).renice ≡ true = renice_is version ∙ known in
     ap (operation_of (limits_of version) (codes "renice")) (words-after_decimal task (signed_decimal nice) (omega arith))
-    ∙ rw (known, words-printed nice level, number-decimal task (omega arith), task_passes task h, level-printed nice level)
+    ∙ rw (knows, words-printed nice level, number-decimal task (omega arith), task_passes task h, level-printed nice level)
 
 pub operation-renice : (version : Version) (task : ℕ) (nice : ℤ) → task < 1024 → is_nice_level nice ≡ true → IsReadBack version (Renice task nice)
 unfolding operation

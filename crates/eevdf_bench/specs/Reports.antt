@@ -6,6 +6,7 @@ use Rattle.eevdf_ops.specs.Followed.{FollowsPrograms}
 use Rattle.eevdf_ops.specs.Histories.{IsOneThread}
 use Rattle.eevdf_ops.specs.Machine.{start}
 use Rattle.eevdf_ops.specs.Outcome.{Outcome, machine_of}
+use Rattle.eevdf_ops.specs.OwnRequests.{TakesOwnRequests}
 use Rattle.eevdf_ops.specs.Places.{IsPlaced}
 use Rattle.eevdf_ops.specs.Programs.{deeds_of}
 use Rattle.eevdf_ops.specs.Setup.{allows, homes_of}
@@ -26,11 +27,17 @@ pub record IsPlayed (w : Workload) (o : Outcome) : Type 0 where
   pub deeds : deeds_of o.lines ≡ deeds_committed w.setup order
   pub programs : FollowsPrograms w.setup o
 
+-- the lines follow the programs, and each drain has taken the oldest request that its program had posted to its own CPU and that
+-- waited, if there was one
+pub record IsRun (w : Workload) (o : Outcome) : Type 0 where
+  pub programs : FollowsPrograms w.setup o
+  pub own : TakesOwnRequests w.setup o
+
 -- what the lines have to do with the workload: they do its script, or its order, or else its programs
 abbrev pub DoesWorkload : Kind → Workload → Outcome → Type 0
 DoesWorkload Solo w o = w.script ≡ Some (deeds_of o.lines)
 DoesWorkload Replay w o = IsPlayed w o
-DoesWorkload Run w o = FollowsPrograms w.setup o
+DoesWorkload Run w o = IsRun w o
 
 -- the text is the report of an outcome: that of one thread that does the deeds of its lines one after the other, each as a whole
 -- operation that the setup allows; after them each task stands in one place, and the lines do what the workload asks for

@@ -1,7 +1,6 @@
 //! From the bytes of a workload to the bytes of its report.
 
 ghost use Rattle.std.specs.Prelude.{◌≡◌, ◌≢◌, true, false, IfOk, IfErr, IfSome, OnOk, Err};
-ghost use Rattle.std.specs.Io.KnownBytes.{Keeps};
 ghost use Rattle.eevdf_bench.specs.Reports.{IsReport, IsReportOf, WritesReport};
 ghost use Rattle.eevdf_bench.specs.Runs.{Answers, Begins, IsAnswer, IsAnswerOf, Refuses, Writes};
 ghost use Rattle.eevdf_bench.specs.Streams.{ReadsTo, ReadsWithin};
@@ -28,9 +27,9 @@ use std::thread::Threads;
 /// which its threads came, too. Each is that of one thread that does the deeds of its lines one after the other, each at once.
 ///
 /// A reader that goes on for more than 16777216 bytes is read to one byte more, and then refused; it is never read
-/// further. `Read` comes only where the reader failed, `Write` only where the writer did, and `Ok` where neither did and the
-/// report is flushed. An end that failed isn't called again. After a `Write` a beginning of the report was written, and after
-/// any other fault nothing. Only `Read` and `Memory` may come before the workload has been read to its end.
+/// further. `Read` comes exactly where the reader failed, `Write` exactly where the writer did, and `Ok` where neither did and
+/// the report is flushed. An end that failed isn't called again. After a `Write` a beginning of the report was written; after
+/// any other fault the writer is as it was. Only `Read` and `Memory` may come before the workload has been read to its end.
 pub fn engine<T: Threads + Wait + Sync, R: Read, W: Write>(
     rt: &T,
     alloc: Global,
@@ -56,8 +55,9 @@ pub fn engine<T: Threads + Wait + Sync, R: Read, W: Write>(
     ensures written_whole { OnOk result (writer.new.failed ≡ false) }
     ensures flushed { OnOk result (writer.new.flushed ≡ true) }
     ensures read { result ≡ Err BenchFault.Read → reader.new.failed ≡ true }
+    ensures unfailed { IfErr result (λ f. f ≢ BenchFault.Read → reader.new.failed ≡ false) }
     ensures write { result ≡ Err BenchFault.Write → writer.new.failed ≡ true }
-    ensures unwritten { IfErr result (λ f. f ≢ BenchFault.Write → Keeps (W.contents writer.old.end) (W.contents writer.new.end)) }
+    ensures unwritten { IfErr result (λ f. f ≢ BenchFault.Write → writer.new ≡ writer.old) }
 {
     let input = read_input(alloc, reader)?;
     let text = match answer(rt, alloc, &input, command) {

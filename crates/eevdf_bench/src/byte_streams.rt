@@ -1,6 +1,6 @@
 //! Reading the whole input, up to a limit, and writing the whole report.
 
-ghost use Rattle.std.specs.Prelude.{◌≡◌, ◌+◌, ◌-◌, ◌≤◌, ◌<◌, ◌⊎◌, length, take, true, false, vec_len, IfOk, OnOk, IfErr, OnErr, IfSome, Err};
+ghost use Rattle.std.specs.Prelude.{◌≡◌, ◌≢◌, ◌+◌, ◌-◌, ◌≤◌, ◌<◌, ◌⊎◌, length, take, true, false, vec_len, IfOk, OnOk, IfErr, OnErr, IfSome, Err};
 ghost use Rattle.std.specs.Io.KnownBytes.{Appends, Keeps};
 ghost use Rattle.eevdf_bench.specs.Streams.{ReadsOn, ReadsTo, ReadsWithin, HasBegun};
 
@@ -13,7 +13,7 @@ use std::io::{Read, Write};
 const READ_LIMIT: usize = 16777217;
 
 /// The bytes of a reader that hasn't failed yet, read to its end, or to one byte past the limit of a workload and no further.
-/// `Read` where the reader fails, `Memory` where there is no room for the bytes.
+/// `Read` comes exactly where the reader fails, `Memory` where there is no room for the bytes.
 pub fn read_input<R: Read>(alloc: Global, reader: &mut Watched<R>) -> Result<Vec<u8>, BenchFault>
     requires { reader.old.failed ≡ false }
     ensures bytes { IfOk result (λ input. IfSome (R.remaining reader.old.end)
@@ -22,6 +22,7 @@ pub fn read_input<R: Read>(alloc: Global, reader: &mut Watched<R>) -> Result<Vec
     ensures limit { ReadsWithin 16777217 (R.remaining reader.old.end) (R.remaining reader.new.end) }
     ensures whole { OnOk result (reader.new.failed ≡ false) }
     ensures failed { result ≡ Err BenchFault.Read → reader.new.failed ≡ true }
+    ensures unfailed { IfErr result (λ f. f ≢ BenchFault.Read → reader.new.failed ≡ false) }
     ensures kinds { IfErr result (λ f. (f ≡ BenchFault.Read) ⊎ (f ≡ BenchFault.Memory)) }
 {
     let mut input = Vec::new(alloc);
@@ -45,6 +46,7 @@ fn read_piece<R: Read>(reader: &mut Watched<R>, input: &mut Vec<u8>) -> Result<u
     ensures grown { IfOk result (λ n. vec_len input.new ≡ vec_len input.old + n) }
     ensures whole { OnOk result (reader.new.failed ≡ false) }
     ensures failed { result ≡ Err BenchFault.Read → reader.new.failed ≡ true }
+    ensures unfailed { IfErr result (λ f. f ≢ BenchFault.Read → reader.new.failed ≡ false) }
     ensures kinds { IfErr result (λ f. (f ≡ BenchFault.Read) ⊎ (f ≡ BenchFault.Memory)) }
 {
     let mut buffer = [0u8; 8192];

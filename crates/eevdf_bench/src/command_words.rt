@@ -61,8 +61,7 @@ impl From<AllocError> for WordFault {
     }
 }
 
-/// Reads the program's words, of which the first is the program's name. Want of memory may come in place of any other
-/// answer.
+/// Reads the program's words, of which the first is the program's name. `Memory` may come in place of any other answer.
 pub fn command_of<S: AsStr>(alloc: Global, words: &[S]) -> Result<Command, WordFault>
     ensures ok { IfOk result (spec.IsAskedBy (map S.text words.now)) }
     ensures refused { result ≡ Err WordFault.Words → spec.is_taken (map S.text words.now) ≡ false }

@@ -22,5 +22,6 @@ pub mod SeatParts
 pub mod PostsTold
 pub mod Crossing
 pub mod ProgramRooms
+pub mod ProgramDrains
 pub mod ProgramOperations
 pub mod ProgramPlaces

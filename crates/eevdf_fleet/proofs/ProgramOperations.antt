@@ -9,11 +9,13 @@ use Rattle.eevdf_ops.specs.declared.deeds.Line.{Line}
 use Rattle.eevdf_ops.specs.declared.deeds.Op.{Op}
 use Rattle.eevdf_ops.specs.declared.deeds.Op.TheVariants as op
 use Rattle.eevdf_ops.specs.Faults.{operation_fault}
-use Rattle.eevdf_ops.specs.Programs.{FitsOperation, FitsOperations, deeds_of, post_of}
+use Rattle.eevdf_ops.specs.OwnRequests.{AllFitWaiting, own_after, own_taken, own_waiting}
+use Rattle.eevdf_ops.specs.Programs.{FitsOperation, FitsOperations, deeds_of, post_of, wakes_from}
 use Rattle.eevdf_ops.specs.Setup.{Setup, cpus_of, home_of, homes_of}
 use Rattle.eevdf_ops.proofs.SetupFaults.{passes}
 use Rattle.eevdf_fleet.specs.Fleets.{Seat, posted_to, with_post}
 use Rattle.eevdf_fleet.specs.ProgramRuns.{HasOperated, HasRun}
+use Rattle.eevdf_fleet.proofs.ProgramDrains.{fits-waiting-more, takes-own, waiting-more, waits-after}
 
 -- a task that is posted is one of the setup
 pub posts-a-task : (homes : List ℕ) (cpus cpu n task : ℕ) (o : Op) → operation_fault (length homes) cpus cpu n o ≡ None → o ≡ op.Post task → task < length homes
@@ -38,6 +40,7 @@ post-done s before after task all within e = record {
   cpu = ap (λ (x : Seat). x.cpu) e;
   log = ap (λ (x : Seat). x.log) e ∙ sym (append-nil before.log);
   fits = refl;
+  takes = tt;
   posts = λ home h. ap (λ (x : Seat). posted_to x home) e
       ∙ posted-next before.posted (home_of (homes_of s) task) home task (home_of (homes_of s) task == home) refl (omega arith);
   room = omega (arith, ap (λ (x : Seat). x.room) e);
@@ -60,13 +63,25 @@ fits-more cpu (p ∷ ops) o deeds front h last = record {
   fits_back = fits-more cpu ops o h.back front h.fits_back last;
 }
 
-pub run-more : (s : Setup) (cpu : ℕ) (ops : List Op) (o : Op) (before after : Seat) → HasRun s cpu ops before → HasOperated s o before after
+pub run-more : (s : Setup) (cpu : ℕ) (ops : List Op) (o : Op) (before after : Seat) → cpu < cpus_of s → HasRun s cpu ops before → HasOperated s o before after
     → HasRun s cpu (ops ++ o ∷ []) after
-run-more s cpu ops o before after run done = record {
-  own = done.cpu ∙ run.own;
-  operations = subst (λ (ds : List Deed). FitsOperations cpu ds (ops ++ o ∷ []))
-      (sym (ap (λ (lines : List Line). deeds_of lines) done.log ∙ map-append (λ (l : Line). l.deed) before.log done.lines))
-      (fits-more cpu ops o (deeds_of before.log) (deeds_of done.lines) run.operations (subst (λ (c : ℕ). FitsOperation c (deeds_of done.lines) o) run.own done.fits));
-  posts = λ home h. done.posts home h ∙ ap (λ (tasks : List ℕ). tasks ++ post_of (homes_of s) home o) (run.posts home h)
-      ∙ flat_map_more (post_of (homes_of s) home) [] ops o;
-}
+run-more s cpu ops o before after below run done =
+    let homes : List ℕ = homes_of s in
+    let waiting : List ℕ = own_waiting homes cpu [] ops in
+    let deeds : deeds_of before.log ++ deeds_of done.lines ≡ deeds_of after.log
+    = sym (ap (λ (lines : List Line). deeds_of lines) done.log ∙ map-append (λ (l : Line). l.deed) before.log done.lines) in
+    let fits : FitsOperation cpu (deeds_of done.lines) o = subst (λ (c : ℕ). FitsOperation c (deeds_of done.lines) o) run.own done.fits in
+    let taken : wakes_from cpu done.lines ≡ own_taken waiting o = takes-own cpu before waiting run.waits done.lines o run.own fits done.takes in
+    record {
+      own = done.cpu ∙ run.own;
+      operations = subst (λ (ds : List Deed). FitsOperations cpu ds (ops ++ o ∷ [])) deeds
+          (fits-more cpu ops o (deeds_of before.log) (deeds_of done.lines) run.operations fits);
+      takes = subst (λ (ds : List Deed). AllFitWaiting homes cpu [] ds (ops ++ o ∷ [])) deeds
+          (fits-waiting-more homes cpu [] ops o (deeds_of before.log) (deeds_of done.lines) run.takes (record { fits = fits; takes = taken }));
+      posts = λ home h. done.posts home h ∙ ap (λ (tasks : List ℕ). tasks ++ post_of homes home o) (run.posts home h)
+          ∙ flat_map_more (post_of homes home) [] ops o;
+      waits = done.posts cpu below
+          ∙ waits-after cpu before waiting run.waits done.lines homes o taken
+          ∙ ap (λ (lines : List Line). wakes_from cpu lines ++ own_after homes cpu waiting o) (sym done.log)
+          ∙ ap (λ (tasks : List ℕ). wakes_from cpu after.log ++ tasks) (sym (waiting-more homes cpu [] ops o));
+    }

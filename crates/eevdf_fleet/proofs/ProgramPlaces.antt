@@ -3,10 +3,11 @@ use Rattle.std.proofs.Common.{◌≡◌, ◌≢◌, ℕ, ◌+◌, ◌<◌, ◌�
 use Rattle.std.proofs.lemmas.List.{get_or-replicate, take_more}
 use Rattle.std.proofs.lemmas.List.Sums.{sum_by_more, sum_by_more_le}
 use Rattle.std.specs.Prelude.{None}
+use Rattle.eevdf_ops.specs.declared.deeds.Line.{Line}
 use Rattle.eevdf_ops.specs.declared.deeds.Op.{Op}
 use Rattle.eevdf_ops.specs.Faults.{operation_fault, setup_fault}
 use Rattle.eevdf_ops.specs.Followed.{program_of}
-use Rattle.eevdf_ops.specs.Programs.{deeds_of, post_of, posts_in}
+use Rattle.eevdf_ops.specs.Programs.{deeds_of, post_of, posts_in, wakes_from}
 use Rattle.eevdf_ops.specs.Setup.{Setup, cpus_of, homes_of}
 use Rattle.eevdf_ops.proofs.SetupFaults.{operation_sound}
 use Rattle.eevdf_fleet.specs.Fleets.{Seat, fresh, posted_to}
@@ -63,15 +64,18 @@ placed-ring s cpu n program o seat h run home below some =
       greatest-bounds program_posts s.programs cpu [] h.below,
     )
 
-pub run-first : (s : Setup) (cpu : ℕ) (seat : Seat) → cpu ≡ seat.cpu → seat ≡ fresh (quota_for s) (cpus_of s) seat.cpu → HasRun s cpu [] seat
-run-first s cpu seat own e = record {
+pub run-first : (s : Setup) (cpu : ℕ) (seat : Seat) → cpu < cpus_of s → cpu ≡ seat.cpu → seat ≡ fresh (quota_for s) (cpus_of s) seat.cpu → HasRun s cpu [] seat
+run-first s cpu seat below own e = record {
   own = sym own;
   operations = ap (λ (x : Seat). deeds_of x.log) e;
+  takes = ap (λ (x : Seat). deeds_of x.log) e;
   posts = λ home h. ap (λ (x : Seat). posted_to x home) e ∙ get_or-replicate (cpus_of s) home [] [] h;
+  waits = ap (λ (x : Seat). posted_to x cpu) e ∙ get_or-replicate (cpus_of s) cpu [] [] below
+      ∙ ap (λ (lines : List Line). wakes_from cpu lines ++ []) (sym (ap (λ (x : Seat). x.log) e));
 }
 
 pub run-next : (s : Setup) (cpu n : ℕ) (program : List Op) (o : Op) (before after : Seat) → StandsAt s cpu n program o
     → HasRun s cpu (take n program) before → HasOperated s o before after → HasRun s cpu (take (n + 1) program) after
 run-next s cpu n program o before after h run done =
     subst (λ (ops : List Op). HasRun s cpu ops after) (sym (take_more program n o h.within ∙ ap (λ (x : Op). take n program ++ x ∷ []) (sym h.found)))
-    (run-more s cpu (take n program) o before after run done)
+    (run-more s cpu (take n program) o before after h.below run done)

@@ -14,6 +14,7 @@ use Rattle.eevdf_ops.specs.declared.deeds.Line.{Line}
 use Rattle.eevdf_ops.specs.declared.deeds.Op.{Op}
 use Rattle.eevdf_ops.specs.Followed.{FollowsPrograms, program_of}
 use Rattle.eevdf_ops.specs.Outcome.{Outcome}
+use Rattle.eevdf_ops.specs.OwnRequests.{AllFitWaiting, TakesOwnRequests}
 use Rattle.eevdf_ops.specs.Parts.{decider}
 use Rattle.eevdf_ops.specs.Programs.{FitsProgram, deeds_of, lines_by, posts_in, wake_from, wakes_from}
 use Rattle.eevdf_ops.specs.Setup.{Setup, allows, cpus_of, homes_of, is_allowed}
@@ -91,6 +92,24 @@ no_wakes cpus hs q c (l ∷ lines) past ok =
 no_program : (s : Setup) (p : ℕ) → cpus_of s ≤ p → program_of s p ≡ []
 no_program s p past = get_or_past s.programs p [] past
 
+-- what holds of each seat's lines and of its program holds of the lines of each CPU
+each-program : (s : Setup) (seats : List Seat) (o : Outcome) (Holds : ℕ → List Line → List Op → Type 0) → AreRun s seats → list_all (allows s) (deeds_of o.lines) ≡ true
+    → All (λ (seat : Seat). lines_by seat.cpu o.lines ≡ seat.log) seats → ((p : ℕ) (seat : Seat) → HasRun s p (program_of s p) seat → Holds p seat.log (program_of s p))
+    → ((p : ℕ) → Holds p [] []) → (p : ℕ) → Holds p (lines_by p o.lines) (program_of s p)
+each-program s seats o Holds run ok logs here nowhere p =
+    elim (cases_lt p (cpus_of s)) [
+      | inl less ↦
+          let seat : Seat = get_or seats p (fresh 0 0 0) in
+          let within : p < length seats = subst (λ (m : ℕ). p < m) (sym run.all) less in
+          let has : HasRun s p (program_of s p) seat = run.each p seat (slice_get-get_or seats p (fresh 0 0 0) within) in
+          let own : lines_by p o.lines ≡ seat.log
+          = ap (λ (k : ℕ). lines_by k o.lines) (sym has.own) ∙ All-get_or (λ (x : Seat). lines_by x.cpu o.lines ≡ x.log) seats p (fresh 0 0 0) within logs in
+          subst (λ (lines : List Line). Holds p lines (program_of s p)) (sym own) (here p seat has)
+      | inr past ↦
+          subst (λ (lines : List Line). Holds p lines (program_of s p)) (sym (no_lines (cpus_of s) (homes_of s) p o.lines past ok))
+          (subst (Holds p []) (sym (no_program s p past)) (nowhere p))
+    ]
+
 -- what the seats of programs that have run are closed to follows the programs
 pub runs-follow : (s : Setup) (seats : List Seat) (o : Outcome) → AreRun s seats → list_all (allows s) (deeds_of o.lines) ≡ true
     → All (λ (seat : Seat). lines_by seat.cpu o.lines ≡ seat.log) seats → AllPostsTold (cpus_of s) seats o.lines o.left
@@ -98,22 +117,13 @@ pub runs-follow : (s : Setup) (seats : List Seat) (o : Outcome) → AreRun s sea
 runs-follow s seats o run ok logs told each =
     let n : ℕ = cpus_of s in
     let at : ℕ → Seat = λ p. get_or seats p (fresh 0 0 0) in
-    let within : (p : ℕ) → p < n → p < length seats = λ p less. subst (λ (m : ℕ). p < m) (sym run.all) less in
-    let stands : (p : ℕ) → p < n → slice_get seats p ≡ Some (at p) = λ p less. slice_get-get_or seats p (fresh 0 0 0) (within p less) in
-    let has : (p : ℕ) → p < n → HasRun s p (program_of s p) (at p) = λ p less. run.each p (at p) (stands p less) in
-    let own : (p : ℕ) → p < n → lines_by p o.lines ≡ (at p).log
-    = λ p less. ap (λ (k : ℕ). lines_by k o.lines) (sym (has p less).own) ∙ All-get_or (λ (seat : Seat). lines_by seat.cpu o.lines ≡ seat.log) seats p (fresh 0 0 0) (within p less) logs in
+    let stands : (p : ℕ) → p < n → slice_get seats p ≡ Some (at p)
+    = λ p less. slice_get-get_or seats p (fresh 0 0 0) (subst (λ (m : ℕ). p < m) (sym run.all) less) in
     record {
-      operations = λ p.
-          elim (cases_lt p n) [
-            | inl less ↦ subst (λ (lines : List Line). FitsProgram p lines (program_of s p)) (sym (own p less)) (has p less).operations
-            | inr past ↦
-                subst (λ (lines : List Line). FitsProgram p lines (program_of s p)) (sym (no_lines n (homes_of s) p o.lines past ok))
-                (subst (λ (ops : List Op). FitsProgram p [] ops) (sym (no_program s p past)) refl)
-          ];
+      operations = each-program s seats o FitsProgram run ok logs (λ p seat has. has.operations) (λ p. refl);
       requests = λ q c there.
           elim (cases_lt q n) [
-            | inl less ↦ sym ((has q less).posts c there) ∙ told q c (at q) (stands q less) there
+            | inl less ↦ sym ((run.each q (at q) (stands q less)).posts c there) ∙ told q c (at q) (stands q less) there
             | inr past ↦
                 let beyond : n * n ≤ q * n = mul-le-mul_right n past in
                 ap (posts_in (homes_of s) c) (no_program s q past)
@@ -121,3 +131,10 @@ runs-follow s seats o run ok logs told each =
                 ∙ get_or_past o.left (q * n + c) [] (omega (arith, each, beyond)))
           ];
     }
+
+-- and its drains take the requests that each program has posted to its own CPU
+pub runs-take-own : (s : Setup) (seats : List Seat) (o : Outcome) → AreRun s seats → list_all (allows s) (deeds_of o.lines) ≡ true
+    → All (λ (seat : Seat). lines_by seat.cpu o.lines ≡ seat.log) seats → TakesOwnRequests s o
+runs-take-own s seats o run ok logs = record {
+  each = each-program s seats o (λ p lines ops. AllFitWaiting (homes_of s) p [] (deeds_of lines) ops) run ok logs (λ p seat has. has.takes) (λ p. refl);
+}

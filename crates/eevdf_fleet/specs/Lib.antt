@@ -8,3 +8,4 @@ pub mod TouchedQueues
 pub mod RingEnds
 pub mod ReturnedEnds
 pub mod OpenedRings
+pub mod Texts

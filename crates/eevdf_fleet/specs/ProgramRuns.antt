@@ -1,12 +1,15 @@
 -- What a program asks of its CPU's seat, and what the seat has when the program has run.
 use Rattle.std.specs.Prelude.{◌≡◌, ◌≤◌, ◌<◌, ◌+◌, ℕ, List, [], ◌∷◌, ◌++◌, length, max, slice_get, Some}
 use Rattle.std.specs.List.{sum_by}
+use Rattle.std.specs.Option.{option_to_list}
 use Rattle.eevdf_ops.specs.declared.deeds.Op.{Op}
 use Rattle.eevdf_ops.specs.declared.deeds.Op.TheVariants.{Tick, Pick, Yield, Sleep, Post, Drain, Pull, Renice}
 use Rattle.eevdf_ops.specs.declared.deeds.Line.{Line}
 use Rattle.eevdf_ops.specs.Followed.{program_of}
-use Rattle.eevdf_ops.specs.Programs.{FitsOperation, FitsProgram, deeds_of, post_of, posts_in}
+use Rattle.eevdf_ops.specs.OwnRequests.{AllFitWaiting, own_waiting}
+use Rattle.eevdf_ops.specs.Programs.{FitsOperation, FitsProgram, deeds_of, post_of, posts_in, wakes_from}
 use Rattle.eevdf_ops.specs.Setup.{Setup, cpus_of, homes_of}
+use Rattle.eevdf_fleet.specs.Drains.{oldest_own}
 use Rattle.eevdf_fleet.specs.Fleets.{Seat, posted_to}
 
 -- the room for lines that an operation asks for, of so many CPUs
@@ -49,19 +52,28 @@ quota_for s = greatest (program_room (cpus_of s)) s.programs
 abbrev pub rings_for : Setup → ℕ
 rings_for s = greatest program_posts s.programs
 
+-- of the requests that a seat has posted to its own CPU, a drain has taken the oldest, if there was one
+abbrev pub TakesOldest : Seat → List Line → Op → Type 0
+TakesOldest before lines Drain = wakes_from before.cpu lines ≡ option_to_list (oldest_own before)
+TakesOldest before lines other = Unit {0}
+
 -- one operation was done on a seat
 pub record HasOperated (s : Setup) (op : Op) (before after : Seat) : Type 0 where
   pub lines : List Line
   pub cpu : after.cpu ≡ before.cpu
   pub log : after.log ≡ before.log ++ lines
   pub fits : FitsOperation before.cpu (deeds_of lines) op
+  pub takes : TakesOldest before lines op
   pub posts : (home : ℕ) → home < cpus_of s → posted_to after home ≡ posted_to before home ++ post_of (homes_of s) home op
   pub room : before.room ≤ after.room + room_for (cpus_of s) op
 
--- these operations were done on the seat of a CPU, and nothing else
+-- these operations were done on the seat of a CPU, and nothing else; what the seat has posted to its own CPU is what its drains
+-- have taken and then what waits
 pub record HasRun (s : Setup) (cpu : ℕ) (ops : List Op) (seat : Seat) : Type 0 where
   pub own : seat.cpu ≡ cpu
   pub operations : FitsProgram cpu seat.log ops
+  pub takes : AllFitWaiting (homes_of s) cpu [] (deeds_of seat.log) ops
+  pub waits : posted_to seat cpu ≡ wakes_from cpu seat.log ++ own_waiting (homes_of s) cpu [] ops
   pub posts : (home : ℕ) → home < cpus_of s → posted_to seat home ≡ posts_in (homes_of s) home ops
 
 -- on each CPU's seat its program was run

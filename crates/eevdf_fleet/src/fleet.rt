@@ -1,4 +1,4 @@
-ghost use Rattle.std.specs.Prelude.{◌≡◌, ◌≢◌, ◌*◌, ◌<◌, ◌≤◌, ◌↔◌, All, IfOk, IsErr, IsTrue, MatchResult, length, true};
+ghost use Rattle.std.specs.Prelude.{◌≡◌, ◌≢◌, ◌*◌, ◌<◌, ◌≤◌, ◌↔◌, nat_lt, All, IfOk, IsErr, IsTrue, MatchResult, length, true};
 ghost use Rattle.std.specs.List.{list_all};
 ghost use Rattle.eevdf_ops.specs.Histories.{IsOneThread};
 ghost use Rattle.eevdf_ops.specs.Machine.{start};
@@ -212,6 +212,20 @@ impl<N: Names> Fleet<N> {
         ensures full { IsErr result ↔ (seat.old.room < cpus_of (setup_of N.kit)) }
     {
         self.drain_requests(rt, &OpenGate, 0, seat)
+    }
+
+    /// Whether the setup has a task: the condition of `sleep`, `renice` and `Seat::post`.
+    pub fn has_task(&self, task: TaskId) -> bool
+        ensures { result ≡ is_task (homes_of (setup_of N.kit)) task }
+    {
+        task.index() < self.homes.len()
+    }
+
+    /// Whether the setup has a CPU. From one that it has, and that isn't the seat's, a seat may pull.
+    pub fn has_cpu(&self, cpu: CpuId) -> bool
+        ensures { result ≡ nat_lt cpu (cpus_of (setup_of N.kit)) }
+    {
+        cpu.index() < self.locks.len()
     }
 
     /// Whether the list has the seats of all CPUs, in order: the condition of `close`.

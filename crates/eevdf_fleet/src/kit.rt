@@ -49,6 +49,12 @@ impl Model for Kit {
 }
 
 impl Kit {
+    /// A CPU's seat may have at most so many lines over all.
+    pub const MOST_LINES: usize = 1_000_000;
+
+    /// A ring has room for at most so many requests.
+    pub const MOST_REQUESTS: usize = 1_000_000;
+
     /// A kit for a fleet with the CPUs and the tasks of the setup, whose programs aren't used. Each CPU may have `quota` lines
     /// over all, and each ring has room for `rings` requests; both may be 0. Memory is taken for twice `quota` lines of each
     /// CPU, and for `rings` requests twice for each pair of a sender and a home. The answer is `AllocError` where memory is

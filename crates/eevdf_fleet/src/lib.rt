@@ -35,6 +35,7 @@ mod seat;
 mod seat_log;
 mod seat_program;
 mod slot;
+mod texts;
 
 pub use drains::Drained;
 pub use fleet::{Closed, Fleet, SeatFull};

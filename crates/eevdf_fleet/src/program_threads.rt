@@ -6,6 +6,7 @@ ghost use Rattle.eevdf_ops.specs.Followed.{FollowsPrograms, program_of};
 ghost use Rattle.eevdf_ops.specs.Histories.{IsOneThread};
 ghost use Rattle.eevdf_ops.specs.Machine.{start};
 ghost use Rattle.eevdf_ops.specs.Outcome.{machine_of};
+ghost use Rattle.eevdf_ops.specs.OwnRequests.{TakesOwnRequests};
 ghost use Rattle.eevdf_ops.specs.Places.{IsPlaced};
 ghost use Rattle.eevdf_ops.specs.Programs.{deeds_of};
 ghost use Rattle.eevdf_ops.specs.Setup.{allows, cpus_of, homes_of};
@@ -32,7 +33,8 @@ use std::thread::{Promise, Scope, Threads};
 /// Whatever the order in which the threads came, the outcome is that of one thread that does the deeds of its lines one
 /// after the other, each at once: the same answers, the same queues. The lines of each CPU are its program's operations, in
 /// order and each once (a post has no line, a drain the wakes that it found), and each request that was posted was
-/// either drained once, in order, or is left.
+/// either drained once, in order, or is left. Each drain has taken the oldest request that its own program had posted to its
+/// own CPU before it and that wasn't taken yet, if there was one; of each other CPU it has taken one request or none.
 ///
 /// `Memory` where a request for memory was refused, and `Start` where a thread was; there is no outcome then, and the
 /// threads that had started have ended.
@@ -45,6 +47,7 @@ pub fn run_all<R: Threads + Wait + Sync, G: Gate + Sync>(
     ensures one_thread { IfOk result (λ o. IsOneThread (homes_of setup.now) (start setup.now) (deeds_of o.lines) o) }
     ensures allowed { IfOk result (λ o. list_all (allows setup.now) (deeds_of o.lines) ≡ true) }
     ensures programs { IfOk result (λ o. FollowsPrograms setup.now o) }
+    ensures own { IfOk result (λ o. TakesOwnRequests setup.now o) }
     ensures places { IfOk result (λ o. IsPlaced (homes_of setup.now) (machine_of o.queues)) }
     ensures left { IfOk result (λ o. length o.left ≡ cpus_of setup.now * cpus_of setup.now) }
 {
@@ -67,6 +70,7 @@ fn run_on_fleet<N: Names + Send + Sync, R: Threads + Wait + Sync, G: Gate + Sync
     ensures one_thread { IfOk result (λ o. IsOneThread (homes_of setup.now) (start setup.now) (deeds_of o.lines) o) }
     ensures allowed { IfOk result (λ o. list_all (allows setup.now) (deeds_of o.lines) ≡ true) }
     ensures programs { IfOk result (λ o. FollowsPrograms setup.now o) }
+    ensures own { IfOk result (λ o. TakesOwnRequests setup.now o) }
     ensures places { IfOk result (λ o. IsPlaced (homes_of setup.now) (machine_of o.queues)) }
     ensures left { IfOk result (λ o. length o.left ≡ cpus_of setup.now * cpus_of setup.now) }
 {

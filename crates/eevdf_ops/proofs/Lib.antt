@@ -16,3 +16,6 @@ pub mod PullLaws
 pub mod LocalParts
 pub mod PartsProofs
 pub mod PartsHistories
+pub mod MapValues
+pub mod QueueValues
+pub mod GivenTasks

@@ -16,3 +16,8 @@ pub mod PartsHistory
 pub mod Programs
 pub mod Histories
 pub mod Followed
+pub mod OwnRequests
+pub mod Given
+pub mod Texts
+pub mod FaultTexts
+pub mod TasksLeft

@@ -1,5 +1,6 @@
 //! Laws of the machine and its deeds, each the contract of a function that does nothing.
 
+ghost use Rattle.eevdf_ops.specs.Given.{TasksStayAsGiven};
 ghost use Rattle.eevdf_ops.specs.Laws.{DeedsKeepPlaces, PullLevels, PullLeavesSome};
 ghost use Rattle.eevdf_ops.specs.Machine as machine;
 ghost use Rattle.eevdf_ops.specs.Outcome.{machine_of};
@@ -37,6 +38,12 @@ pub fn start_is_placed(setup: &Setup)
 /// Each allowed deed keeps each task in one place, and a sleeping one at its home.
 pub fn deeds_keep_places()
     ensures { DeedsKeepPlaces }
+{}
+
+/// On each machine that deeds lead to from the start, a task, runnable or asleep, has the slice that the setup gives it, and
+/// its nice level too unless one of the deeds is to give it another.
+pub fn tasks_stay_as_given()
+    ensures { TasksStayAsGiven }
 {}
 
 /// A pull that takes a task lowers the absolute difference of the two CPUs' loads.

@@ -7,6 +7,7 @@
 
 mod cpu_number;
 mod deeds;
+mod from_answers;
 pub mod laws;
 mod machine_setup;
 mod machine_start;
@@ -15,17 +16,20 @@ pub mod one_thread;
 mod outcome;
 pub mod queue_deeds;
 mod setup_fault;
+mod setup_tasks;
 mod setup_test;
 mod solo_machine;
 mod task_spec;
+mod texts;
 mod whole_deeds;
 pub mod whole_pull;
 pub mod whole_sleep;
 
-pub use cpu_number::CpuId;
+pub use cpu_number::{BadCpuId, CpuId};
 pub use deeds::{Answer, Deed, Line, Op};
 pub use machine_setup::Setup;
 pub use outcome::Outcome;
 pub use setup_fault::SetupFault;
+pub use setup_tasks::SetupTasks;
 pub use solo_machine::Solo;
 pub use task_spec::TaskSpec;

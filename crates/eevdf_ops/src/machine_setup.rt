@@ -2,10 +2,13 @@ ghost use Rattle.std.specs.Prelude.{◌≡◌, ◌<◌, ◌≤◌, nat_lt, lengt
 ghost use Rattle.eevdf_ops.specs.Faults as faults;
 ghost use Rattle.eevdf_ops.specs.Faults.{IsSetupOf, tasks_fault};
 ghost use Rattle.eevdf_ops.specs.Setup as setup;
+ghost use Rattle.eevdf_ops.specs.TasksLeft.{tasks_left};
+ghost use Rattle.std.specs.List.{enumerate_from};
 
 use crate::cpu_number::CpuId;
 use crate::deeds::{Deed, Op};
 use crate::setup_fault::SetupFault;
+use crate::setup_tasks::SetupTasks;
 use crate::setup_test::setup_fault;
 use crate::task_spec::TaskSpec;
 use eevdf_queue::TaskId;
@@ -32,10 +35,12 @@ impl Model for Setup {
 }
 
 impl Setup {
+    /// A program has at most so many operations.
+    pub const MOST_OPERATIONS: usize = 10_000;
+
     /// A setup of these tasks and programs, copied. Where it has a fault, the first one is answered: in the
     /// number of programs, in that of tasks, then of each task in order its home and its start, then of each
-    /// program in order its length and each of its operations. Want of memory is answered only where there is
-    /// no fault.
+    /// program in order its length and each of its operations. `Memory` is answered only where there is no fault.
     pub fn make(
         alloc: Global,
         tasks: &[TaskSpec],
@@ -95,12 +100,19 @@ impl Setup {
         &self.tasks
     }
 
+    /// The tasks with their numbers, in ascending order.
+    pub fn each_task(&self) -> SetupTasks<'_>
+        ensures { tasks_left result ≡ enumerate_from 0 self.now.tasks }
+    {
+        SetupTasks::of(self.task_specs())
+    }
+
     /// A task of the setup as it was given.
     pub fn spec(&self, task: TaskId) -> &TaskSpec
         requires { task < length self.now.tasks }
         ensures { result.now ≡ slice_index_or self.now.tasks task result.now }
     {
-        &self.tasks[task.get() as usize]
+        &self.tasks[task.index()]
     }
 
     /// The program of a CPU of the setup.
@@ -108,7 +120,7 @@ impl Setup {
         requires { cpu < setup.cpus_of self.now }
         ensures { result.now ≡ slice_index_or self.now.programs cpu result.now }
     {
-        &self.programs[cpu.get() as usize]
+        &self.programs[cpu.index()]
     }
 
     /// Whether the setup has the CPU, the task, the sender and the source that a deed names, a wake is at the
@@ -130,16 +142,18 @@ impl Setup {
         }
     }
 
-    fn has_cpu(&self, cpu: CpuId) -> bool
+    /// Whether the setup has a CPU.
+    pub fn has_cpu(&self, cpu: CpuId) -> bool
         ensures { result ≡ nat_lt cpu (setup.cpus_of self.now) }
     {
-        (cpu.get() as usize) < self.cpus()
+        cpu.index() < self.cpus()
     }
 
-    fn has_task(&self, task: TaskId) -> bool
+    /// Whether the setup has a task.
+    pub fn has_task(&self, task: TaskId) -> bool
         ensures { result ≡ setup.is_task (setup.homes_of self.now) task }
     {
-        (task.get() as usize) < self.tasks()
+        task.index() < self.tasks()
     }
 
     fn is_at_home(&self, task: TaskId, cpu: CpuId) -> bool

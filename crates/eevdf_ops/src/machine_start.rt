@@ -42,7 +42,7 @@ fn empty_queues(alloc: Global, cpus: usize) -> Result<Vec<Queue>, AllocError>
 }
 
 /// The number of the task at a place of the list of tasks.
-fn task_number(place: usize) -> TaskId
+pub(crate) fn task_number(place: usize) -> TaskId
     requires { place < 1024 }
     ensures { result ≡ place }
 {
@@ -81,7 +81,8 @@ fn join(queue: &mut Queue, parcel: Parcel, asleep: bool)
         queue.put_asleep(parcel);
         return;
     }
-    if let Err(_) = queue.admit(parcel) {
-        unreachable!()
+    match queue.admit(parcel) {
+        Ok(()) => {}
+        Err(_parcel) => unreachable!(),
     }
 }

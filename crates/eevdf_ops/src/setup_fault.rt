@@ -1,3 +1,6 @@
+use std::error::Error;
+use std::fmt;
+
 /// Why a setup is refused. Places count from 0 in the lists that were given.
 #[derive(Clone, Copy, PartialEq, Eq, Debug)]
 pub enum SetupFault {
@@ -19,3 +22,28 @@ pub enum SetupFault {
     /// There was no memory.
     Memory,
 }
+
+/// What is wrong, and where, as `home of task 3`.
+impl fmt::Display for SetupFault {
+    ghost use Rattle.std.specs.Prelude.{Some};
+    ghost use Rattle.eevdf_ops.specs.FaultTexts.{setup_fault_text};
+
+    ghost output = { λ fault. Some (setup_fault_text fault) };
+
+    fn fmt<W: fmt::Write>(&self, f: &mut fmt::Formatter<W>) -> fmt::Result {
+        match self {
+            SetupFault::BadCpus => f.write_str("number of cpus"),
+            SetupFault::BadTasks => f.write_str("number of tasks"),
+            SetupFault::BadHome { task } => write!(f, "home of task {task}"),
+            SetupFault::BadStart { task } => write!(f, "start of task {task}"),
+            SetupFault::TooLong { cpu } => write!(f, "program {cpu} too long"),
+            SetupFault::UnknownTask { cpu, at } => {
+                write!(f, "unknown task at program {cpu} at {at}")
+            }
+            SetupFault::BadPull { cpu, at } => write!(f, "bad pull at program {cpu} at {at}"),
+            SetupFault::Memory => f.write_str("memory"),
+        }
+    }
+}
+
+impl Error for SetupFault {}

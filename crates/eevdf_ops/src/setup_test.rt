@@ -8,25 +8,18 @@ ghost use Rattle.eevdf_ops.specs.Setup.{is_source};
 
 use crate::cpu_number::CpuId;
 use crate::deeds::Op;
+use crate::machine_setup::Setup;
 use crate::setup_fault::SetupFault;
 use crate::task_spec::TaskSpec;
+use eevdf_queue::TaskId;
 use eevdf_weight::{charge, is_in_range, weight};
-
-/// A setup has at most so many CPUs.
-const MOST_CPUS: usize = 64;
-
-/// A setup has at most so many tasks.
-const MOST_TASKS: usize = 1024;
-
-/// A program has at most so many operations.
-const MOST_OPERATIONS: usize = 10000;
 
 /// The first fault: in the number of CPUs, in that of tasks, in each task, in each program.
 pub(crate) fn setup_fault(tasks: &[TaskSpec], programs: &[Vec<Op>]) -> Option<SetupFault>
     ensures { result ≡ faults.setup_fault tasks.now (map (λ p. p.items) programs.now) }
 {
-    unless(is_count(programs.len(), MOST_CPUS), SetupFault::BadCpus)
-        .or(unless(is_count(tasks.len(), MOST_TASKS), SetupFault::BadTasks))
+    unless(is_count(programs.len(), CpuId::COUNT), SetupFault::BadCpus)
+        .or(unless(is_count(tasks.len(), TaskId::COUNT), SetupFault::BadTasks))
         .or(tasks_fault(programs.len(), tasks))
         .or(programs_fault(tasks.len(), programs.len(), programs))
 }
@@ -46,7 +39,7 @@ fn tasks_fault(cpus: usize, tasks: &[TaskSpec]) -> Option<SetupFault>
 fn task_fault(cpus: usize, place: usize, task: TaskSpec) -> Option<SetupFault>
     ensures { result ≡ faults.task_fault cpus place task }
 {
-    let home = task.home.get() as usize;
+    let home = task.home.index();
     unless(home < cpus, SetupFault::BadHome { task: place }).or(unless(
         starts_in_range(task),
         SetupFault::BadStart { task: place },
@@ -82,7 +75,7 @@ fn program_fault(tasks: usize, cpus: usize, cpu: usize, program: &[Op]) -> Optio
     ensures { result ≡ faults.program_fault tasks cpus cpu program.now }
 {
     unless(
-        program.len() <= MOST_OPERATIONS,
+        program.len() <= Setup::MOST_OPERATIONS,
         SetupFault::TooLong { cpu },
     )
     .or(operations_fault(tasks, cpus, cpu, program))
@@ -112,7 +105,7 @@ fn operation_fault(
     match operation {
         Op::Tick(_) | Op::Pick | Op::Yield | Op::Drain => None,
         Op::Sleep(task) | Op::Post(task) | Op::Renice(task, _) => unless(
-            (task.get() as usize) < tasks,
+            task.index() < tasks,
             SetupFault::UnknownTask { cpu, at },
         ),
         Op::Pull(source) => unless(
@@ -126,7 +119,7 @@ fn operation_fault(
 fn is_source(cpus: usize, cpu: usize, source: CpuId) -> bool
     ensures { result ≡ is_source cpus cpu source }
 {
-    let source = source.get() as usize;
+    let source = source.index();
     source < cpus && source != cpu
 }
 

@@ -1,5 +1,5 @@
-ghost use Rattle.std.specs.Prelude.{◌≡◌, ◌<◌, length, true, IfOk, slice_index_or};
-ghost use Rattle.eevdf_ops.specs.Setup.{cpus_of, homes_of, is_allowed};
+ghost use Rattle.std.specs.Prelude.{◌≡◌, ◌<◌, ◌↔◌, nat_lt, length, true, false, IfOk, IfSome, IfNone, IsNone, OnSome, slice_index_or};
+ghost use Rattle.eevdf_ops.specs.Setup.{cpus_of, homes_of, is_allowed, is_at_home, is_task};
 ghost use Rattle.eevdf_ops.specs.Machine as machine;
 ghost use Rattle.eevdf_ops.specs.Outcome.{machine_of};
 ghost use Rattle.eevdf_ops.specs.Places.{IsPlaced};
@@ -10,7 +10,7 @@ use crate::deeds::{Answer, Deed};
 use crate::machine_setup::Setup;
 use crate::machine_start::queues_at_start;
 use crate::whole_deeds::whole;
-use eevdf_queue::Queue;
+use eevdf_queue::{Queue, TaskId};
 use std::alloc::{AllocError, Global};
 use std::marker::Model;
 
@@ -63,12 +63,67 @@ impl Solo {
         whole(&self.homes, deed, &mut self.queues)
     }
 
+    /// Does a deed as `apply` does, where the machine allows it. `None`, with nothing changed, exactly where it doesn't.
+    pub fn try_apply(&mut self, deed: Deed) -> Option<Answer>
+        ensures refused { IsNone result ↔ (is_allowed (length self.old.queues) self.old.homes deed ≡ false) }
+        ensures unchanged { IfNone result (self.new ≡ self.old) }
+        ensures answer { IfSome result (λ answer. answer ≡ (operation.whole self.old.homes deed (machine_of self.old.queues)).0) }
+        ensures machine { OnSome result (machine_of self.new.queues ≡ (operation.whole self.old.homes deed (machine_of self.old.queues)).1) }
+        ensures homes { self.new.homes ≡ self.old.homes }
+        ensures cpus { length self.new.queues ≡ length self.old.queues }
+    {
+        if self.allows(&deed) {
+            Some(self.apply(deed))
+        } else {
+            None
+        }
+    }
+
+    /// Whether the machine has the CPU, the task, the sender and the source that a deed names, a wake is at the task's
+    /// home, and a pull is from another CPU: the condition of `apply`.
+    pub fn allows(&self, deed: &Deed) -> bool
+        ensures { result ≡ is_allowed (length self.now.queues) self.now.homes deed.now }
+    {
+        match *deed {
+            Deed::Tick { cpu, .. } | Deed::Pick { cpu } | Deed::Yield { cpu } => self.has_cpu(cpu),
+            Deed::Sleep { cpu, task } | Deed::Renice { cpu, task, .. } => {
+                self.has_cpu(cpu) && self.has_task(task)
+            }
+            Deed::Wake { cpu, task, sender } => {
+                self.has_cpu(cpu) && self.has_cpu(sender) && self.is_at_home(task, cpu)
+            }
+            Deed::Pull { cpu, source } => {
+                self.has_cpu(cpu) && self.has_cpu(source) && source.get() != cpu.get()
+            }
+        }
+    }
+
+    /// Whether the machine has a CPU.
+    pub fn has_cpu(&self, cpu: CpuId) -> bool
+        ensures { result ≡ nat_lt cpu (length self.now.queues) }
+    {
+        cpu.index() < self.queues.len()
+    }
+
+    /// Whether the machine has a task.
+    pub fn has_task(&self, task: TaskId) -> bool
+        ensures { result ≡ is_task self.now.homes task }
+    {
+        task.index() < self.homes.len()
+    }
+
+    fn is_at_home(&self, task: TaskId, cpu: CpuId) -> bool
+        ensures { result ≡ is_at_home self.now.homes task cpu }
+    {
+        self.has_task(task) && self.homes[task.index()].get() == cpu.get()
+    }
+
     /// The queue of a CPU.
     pub fn queue(&self, cpu: CpuId) -> &Queue
         requires { cpu < length self.now.queues }
         ensures { result.now ≡ slice_index_or self.now.queues cpu result.now }
     {
-        &self.queues[cpu.get() as usize]
+        &self.queues[cpu.index()]
     }
 
     /// Learns where the tasks stand.

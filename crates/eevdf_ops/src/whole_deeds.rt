@@ -25,7 +25,7 @@ pub(crate) fn whole(homes: &[CpuId], deed: Deed, queues: &mut [Queue]) -> Answer
         Deed::Tick { cpu, ns } => tick(queues, cpu, ns),
         Deed::Pick { cpu } => pick(queues, cpu),
         Deed::Yield { cpu } => yield_now(queues, cpu),
-        Deed::Sleep { cpu, task } => sleep(queues, cpu, homes[task.get() as usize], task),
+        Deed::Sleep { cpu, task } => sleep(queues, cpu, homes[task.index()], task),
         Deed::Wake { cpu, task, .. } => wake(queues, cpu, task),
         Deed::Pull { cpu, source } => pull(queues, cpu, source),
         Deed::Renice { cpu, task, nice } => renice(queues, cpu, task, nice),

@@ -1,7 +1,6 @@
 //! From the bytes of a workload to the same bytes with an order.
 
 ghost use Rattle.std.specs.Prelude.{◌≡◌, ◌≢◌, false, true, IfOk, IfErr, IfSome, OnOk, Err};
-ghost use Rattle.std.specs.Io.KnownBytes.{Keeps};
 ghost use Rattle.eevdf_bench.specs.Streams.{ReadsWithin};
 ghost use Rattle.eevdf_orders.specs.OrderedWorkload as texts;
 
@@ -18,8 +17,9 @@ use std::io::{Read, Write};
 /// gives, or with the one in which they take turns where there is no seed. A workload that can't be read is refused with its
 /// fault, one that has an order already with `Ordered`, and one of which every order has a fault with `Play(TooLong)`.
 ///
-/// No more than 16777217 bytes are read. Nothing is written before the whole order is made: after a fault of the writer a
-/// beginning was written, and after any other nothing.
+/// No more than 16777217 bytes are read. The fault `Read` comes exactly where the reader failed, `Write` exactly where the
+/// writer did. The writer isn't called before the whole order is made: after `Write` a beginning was written, and after any
+/// other fault the writer is as it was.
 pub fn print_ordered<R: Read, W: Write>(
     alloc: Global,
     reader: &mut Watched<R>,
@@ -38,8 +38,9 @@ pub fn print_ordered<R: Read, W: Write>(
     ensures written_whole { OnOk result (writer.new.failed ≡ false) }
     ensures flushed { OnOk result (writer.new.flushed ≡ true) }
     ensures read { result ≡ Err (PrintFault.Bench BenchFault.Read) → reader.new.failed ≡ true }
+    ensures unfailed { IfErr result (λ f. f ≢ PrintFault.Bench BenchFault.Read → reader.new.failed ≡ false) }
     ensures write { result ≡ Err (PrintFault.Bench BenchFault.Write) → writer.new.failed ≡ true }
-    ensures unwritten { IfErr result (λ f. f ≢ PrintFault.Bench BenchFault.Write → Keeps (W.contents writer.old.end) (W.contents writer.new.end)) }
+    ensures unwritten { IfErr result (λ f. f ≢ PrintFault.Bench BenchFault.Write → writer.new ≡ writer.old) }
 {
     let input = match read_input(alloc, reader) {
         Ok(input) => input,

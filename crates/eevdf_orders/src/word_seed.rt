@@ -11,7 +11,7 @@ use std::alloc::{AllocError, Global};
 use std::convert::AsStr;
 
 /// Reads the program's words, of which the first is the program's name: nothing, or `--seed` with a whole number
-/// below 2^64. Want of memory may come in place of any other answer.
+/// below 2^64. `Memory` may come in place of any other answer.
 pub fn seed_of<S: AsStr>(alloc: Global, words: &[S]) -> Result<Option<u64>, WordFault>
     ensures ok { IfOk result (spec.IsSeedOf (map S.text words.now)) }
     ensures refused { result ≡ Err WordFault.Words → spec.AreRefused (map S.text words.now) }

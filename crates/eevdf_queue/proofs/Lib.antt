@@ -28,3 +28,5 @@ mod TreeTotals
 mod Waiting
 mod SmallSums
 mod Renicing
+mod Ascending
+mod Descending

@@ -144,3 +144,33 @@ pub nowhere_after : (m m' : Tasks) (r r' : Option ℕ) (n : Asleep) (b b' lag : 
 nowhere_after m m' r r' n b b' lag t e p is here left h =
     subst (λ (u : ℕ). IsNowhere (record { runnable = m'; running = r'; asleep = n; base = b' }) u) (sym (left_number t lag (get m t) p left))
     (record { not_runnable = ap (λ a. get a t) is ∙ gone m t; not_asleep = h.apart t (ap is_some here) })
+
+-- a sleeping task that is taken out
+still_apart : (b : Bool) (o : Option Sleeper) → o ≡ None → cond b None o ≡ None
+still_apart true o h = refl
+still_apart false o h = h
+
+pub sound_sleeper_leaves : (m : Tasks) (r : Option ℕ) (n n' : Asleep) (b : ℤ) (t : ℕ) → n' ≡ remove n t
+    → IsSound (record { runnable = m; running = r; asleep = n; base = b }) → IsSound (record { runnable = m; running = r; asleep = n'; base = b })
+sound_sleeper_leaves m r n n' b t out h = record {
+  runs = h.runs;
+  apart = λ u here. ap (λ a. get a u) out ∙ get-remove nat_cmp_total n t u ∙ still_apart (eq_by_cmp nat_cmp u t) (get n u) (h.apart u here);
+  based = h.based;
+}
+
+gone_asleep : (n : Asleep) (t : ℕ) → get (remove n t) t ≡ None
+gone_asleep n t =
+    let same : eq_by_cmp nat_cmp t t ≡ true = grind (arith, nat_tests) in
+    get-remove nat_cmp_total n t t ∙ ap (λ b. cond b None (get n t)) same
+
+-- a task that sleeps isn't runnable
+not_runnable_of : (m : Tasks) (n : Asleep) (t : ℕ) (o : Option Entry) → get m t ≡ o → AreApart m n → contains_key n t ≡ true → o ≡ None
+not_runnable_of m n t None is h here = refl
+not_runnable_of m n t (Some e) is h here = let none : get n t ≡ None = h t (ap is_some is) in cc
+
+pub nowhere_woken : (m : Tasks) (r : Option ℕ) (n n' : Asleep) (b : ℤ) (t u : ℕ) → n' ≡ remove n t → contains_key n t ≡ true → u ≡ t
+    → IsSound (record { runnable = m; running = r; asleep = n; base = b })
+    → IsNowhere (record { runnable = m; running = r; asleep = n'; base = b }) u
+nowhere_woken m r n n' b t u out here same h =
+    subst (λ (x : ℕ). IsNowhere (record { runnable = m; running = r; asleep = n'; base = b }) x) (sym same)
+    (record { not_runnable = not_runnable_of m n t (get m t) refl h.apart here; not_asleep = ap (λ a. get a t) out ∙ gone_asleep n t })

@@ -3,7 +3,8 @@ use Rattle.std.specs.Prelude.{◌≡◌, ℕ, ℤ, if◌then◌else◌, Option, 
 use Rattle.std.specs.Option.{option_map}
 use Rattle.std.specs.FinMap as map
 use Rattle.eevdf_queue.specs.declared.run_entry.Entry.{Entry}
-use Rattle.eevdf_queue.specs.State.{State, Contents}
+use Rattle.eevdf_queue.specs.State.{State, Sleeper, Contents}
+use Rattle.eevdf_queue.specs.Sums.{virtual_time}
 use Rattle.eevdf_queue.specs.Lag.{kept_lag}
 use Rattle.eevdf_queue.specs.Candidate.{is_running}
 
@@ -35,6 +36,25 @@ carried_running q task = if is_running q.running task then carried q task else N
 
 abbrev pub leave_running : State → ℕ → State
 leave_running q task = if is_running q.running task then leave q task else q
+
+-- what a sleeping task takes along: the lag that it kept, to start at the queue's virtual time
+abbrev pub leaving_asleep : State → ℕ → Sleeper → Contents
+leaving_asleep q task s = record { task = task; nice = s.nice; slice = s.slice; start = virtual_time q; lag = s.lag }
+
+abbrev pub carried_asleep : State → ℕ → Option Contents
+carried_asleep q task = option_map (leaving_asleep q task) (map.get q.asleep task)
+
+abbrev pub without_sleeper : State → ℕ → Option Sleeper → State
+without_sleeper q task None = q
+without_sleeper q task (Some s) = record q { asleep = map.remove q.asleep task }
+
+-- the queue without a sleeping task
+abbrev pub leave_asleep : State → ℕ → State
+leave_asleep q task = without_sleeper q task (map.get q.asleep task)
+
+-- the queue with whoever ran waiting
+abbrev pub nobody_runs : State → State
+nobody_runs q = record q { running = None }
 
 -- the task is neither runnable nor asleep here
 pub record IsNowhere (q : State) (task : ℕ) : Type 0 where

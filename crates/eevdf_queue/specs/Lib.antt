@@ -16,6 +16,7 @@ pub mod Wake
 pub mod Renice
 pub mod TreeTasks
 pub mod TreeLeast
+pub mod NodeDepths
 pub mod TreeShape
 pub mod TreeNodes
 pub mod TreeDepth
@@ -24,3 +25,6 @@ pub mod Kept
 pub mod Laws
 pub mod TreeStores
 pub mod Slots
+pub mod Trying
+pub mod Ascending
+pub mod Texts

@@ -1,15 +1,19 @@
 -- What holds of a node, and what it is seen as.
-use Rattle.std.specs.Prelude.{◌≡◌, suc, ◌≤◌, max, List, ◌∷◌, ◌++◌, length}
+use Rattle.std.specs.Prelude.{◌≡◌, ℕ, suc, ◌≤◌, max, List, ◌∷◌, ◌++◌, length}
 use Rattle.eevdf_queue.specs.declared.task.Task.{Task}
 use Rattle.eevdf_queue.specs.declared.tree_node.TreeNode.TheInside.{Inside}
-use Rattle.eevdf_queue.specs.TreeShape.{Tree, tasks_in, height_in, DifferByAtMost, IsFull}
+use Rattle.eevdf_queue.specs.NodeDepths.{deeper}
+use Rattle.eevdf_queue.specs.TreeShape.{Tree, tasks_in, height_in, depths_in, DifferByAtMost, IsFull}
 use Rattle.eevdf_queue.specs.TreeLeast.{least_of, AreLow}
 
 abbrev pub tasks_of : Inside → List Task
 tasks_of a = tasks_in a.left ++ a.task ∷ tasks_in a.right
 
+abbrev pub depths_of : Inside → List (ℕ × ℕ)
+depths_of a = deeper (depths_in a.left) ++ (a.task.number, 1) ∷ deeper (depths_in a.right)
+
 abbrev pub tree_of : Inside → Tree
-tree_of a = record { tasks = tasks_of a; height = a.height }
+tree_of a = record { tasks = tasks_of a; height = a.height; depths = depths_of a }
 
 -- the sides are of nearly one height, and what is kept of the subtree is right
 pub record IsNode (a : Inside) : Type 0 where

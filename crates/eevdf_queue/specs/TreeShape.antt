@@ -1,4 +1,4 @@
--- A tree of boxed nodes, seen as its tasks in order and its height.
+-- A tree of boxed nodes, seen as its tasks in order, its height and the depths of its nodes.
 use Rattle.std.specs.Prelude.{◌≡◌, ℕ, suc, ◌+◌, ◌/◌, ◌^◌, ◌≤◌, max, List, [], ◌∷◌, Option, Some, None, Box}
 use Rattle.eevdf_queue.specs.declared.task.Task.{Task}
 use Rattle.eevdf_queue.specs.TaskLists.{first_task}
@@ -6,6 +6,8 @@ use Rattle.eevdf_queue.specs.TaskLists.{first_task}
 pub record Tree : Type 0 where
   pub tasks : List Task
   pub height : ℕ
+  -- for each task in order its number, and how deep its node is: the root's depth is 1
+  pub depths : List (ℕ × ℕ)
 
 -- the tasks below a link, in order
 abbrev pub tasks_in : {Z : Type 0} → Option (Box Tree Z) → List Task
@@ -15,6 +17,10 @@ tasks_in (Some b) = b.value.tasks
 abbrev pub height_in : {Z : Type 0} → Option (Box Tree Z) → ℕ
 height_in None = 0
 height_in (Some b) = b.value.height
+
+abbrev pub depths_in : {Z : Type 0} → Option (Box Tree Z) → List (ℕ × ℕ)
+depths_in None = []
+depths_in (Some b) = b.value.depths
 
 -- neither height is more than this above the other
 abbrev pub DifferByAtMost : ℕ → ℕ → ℕ → Type 0

@@ -1,4 +1,5 @@
 use crate::task_number::TaskId;
+use std::fmt;
 
 /// What a tick answers.
 #[derive(Clone, Copy, PartialEq, Eq, Debug)]
@@ -42,4 +43,75 @@ pub enum ReniceAnswer {
     NotHere,
     /// The virtual runtime or deadline would have been out of range, and the task keeps its nice level.
     Range,
+}
+
+/// The words `charged`, with the task and `resched` where it is so, `idle` and `range`.
+impl fmt::Display for TickAnswer {
+    ghost use Rattle.std.specs.Prelude.{Some};
+    ghost use Rattle.eevdf_queue.specs.Texts.{tick_text};
+
+    ghost output = { λ answer. Some (tick_text answer) };
+
+    fn fmt<W: fmt::Write>(&self, f: &mut fmt::Formatter<W>) -> fmt::Result {
+        match self {
+            TickAnswer::Charged {
+                task,
+                resched: true,
+            } => write!(f, "charged {task} resched"),
+            TickAnswer::Charged {
+                task,
+                resched: false,
+            } => write!(f, "charged {task}"),
+            TickAnswer::Idle => f.write_str("idle"),
+            TickAnswer::Range => f.write_str("range"),
+        }
+    }
+}
+
+/// One of the words `yielded`, `idle` and `range`.
+impl fmt::Display for YieldAnswer {
+    ghost use Rattle.std.specs.Prelude.{Some};
+    ghost use Rattle.eevdf_queue.specs.Texts.{yield_text};
+
+    ghost output = { λ answer. Some (yield_text answer) };
+
+    fn fmt<W: fmt::Write>(&self, f: &mut fmt::Formatter<W>) -> fmt::Result {
+        match self {
+            YieldAnswer::Yielded => f.write_str("yielded"),
+            YieldAnswer::Idle => f.write_str("idle"),
+            YieldAnswer::Range => f.write_str("range"),
+        }
+    }
+}
+
+/// One of the words `woken`, `awake` and `range`.
+impl fmt::Display for WakeAnswer {
+    ghost use Rattle.std.specs.Prelude.{Some};
+    ghost use Rattle.eevdf_queue.specs.Texts.{wake_text};
+
+    ghost output = { λ answer. Some (wake_text answer) };
+
+    fn fmt<W: fmt::Write>(&self, f: &mut fmt::Formatter<W>) -> fmt::Result {
+        match self {
+            WakeAnswer::Woken => f.write_str("woken"),
+            WakeAnswer::Awake => f.write_str("awake"),
+            WakeAnswer::Range => f.write_str("range"),
+        }
+    }
+}
+
+/// One of the texts `reniced`, `not here` and `range`.
+impl fmt::Display for ReniceAnswer {
+    ghost use Rattle.std.specs.Prelude.{Some};
+    ghost use Rattle.eevdf_queue.specs.Texts.{renice_text};
+
+    ghost output = { λ answer. Some (renice_text answer) };
+
+    fn fmt<W: fmt::Write>(&self, f: &mut fmt::Formatter<W>) -> fmt::Result {
+        match self {
+            ReniceAnswer::Reniced => f.write_str("reniced"),
+            ReniceAnswer::NotHere => f.write_str("not here"),
+            ReniceAnswer::Range => f.write_str("range"),
+        }
+    }
 }

@@ -35,7 +35,7 @@ impl DeadlineTable {
         ensures deadline { result.deadline ≡ deadline_at self.now number }
     {
         Key {
-            deadline: self.by_number[number.get() as usize],
+            deadline: self.by_number[number.index()],
             number,
         }
     }
@@ -44,6 +44,6 @@ impl DeadlineTable {
     pub fn note(&mut self, task: &Task)
         ensures { (q : ℕ) → deadline_at self.new q ≡ (if q == task.now.number then task.now.entry.d else deadline_at self.old q) }
     {
-        self.by_number[task.number.get() as usize] = task.entry.d;
+        self.by_number[task.number.index()] = task.entry.d;
     }
 }

@@ -7,7 +7,7 @@ ghost use Rattle.eevdf_queue.specs.Candidate.{is_running};
 ghost use Rattle.eevdf_queue.specs.Lag.{is_lag};
 ghost use Rattle.eevdf_queue.specs.Placing as placing;
 ghost use Rattle.eevdf_queue.specs.Wake as wakes;
-ghost use Rattle.eevdf_queue.specs.Leaving.{carried, leave, carried_running, leave_running, IsNowhere};
+ghost use Rattle.eevdf_queue.specs.Leaving.{carried, leave, carried_running, leave_running, carried_asleep, leave_asleep, nobody_runs, IsNowhere};
 
 use crate::answers::WakeAnswer;
 use crate::lag::kept_lag;
@@ -53,6 +53,7 @@ impl Queue {
     /// that stands. `None` exactly where the task doesn't run here, and then nothing has changed.
     pub fn detach_running(&mut self, task: TaskId) -> Option<Parcel>
         ensures parcel { result ≡ carried_running self.old.state task }
+        ensures task { IfSome result (λ parcel. parcel.task ≡ task) }
         ensures none { IsNone result ↔ (is_running self.old.state.running task ≡ false) }
         ensures after { self.new.state ≡ leave_running self.old.state task }
         ensures nowhere { IfSome result (λ parcel. IsNowhere self.new.state parcel.task) }
@@ -71,6 +72,7 @@ impl Queue {
         requires here { map.contains_key self.old.state.runnable task ≡ true }
         requires waiting { is_running self.old.state.running task ≡ false }
         ensures parcel { carried self.old.state task ≡ Some result }
+        ensures task { result.task ≡ task }
         ensures after { self.new.state ≡ leave self.old.state task }
         ensures nowhere { IsNowhere self.new.state result.task }
         ensures turns { self.new.turns ≡ self.old.turns }
@@ -78,10 +80,37 @@ impl Queue {
         self.take(task)
     }
 
+    /// Takes out a sleeping task, with the lag that it kept, to start at the queue's virtual time. `None` exactly where the
+    /// task doesn't sleep here, and then nothing has changed.
+    pub fn detach_asleep(&mut self, task: TaskId) -> Option<Parcel>
+        ensures parcel { result ≡ carried_asleep self.old.state task }
+        ensures task { IfSome result (λ parcel. parcel.task ≡ task) }
+        ensures none { IsNone result ↔ (map.contains_key self.old.state.asleep task ≡ false) }
+        ensures after { self.new.state ≡ leave_asleep self.old.state task }
+        ensures nowhere { IfSome result (λ parcel. IsNowhere self.new.state parcel.task) }
+        ensures turns { self.new.turns ≡ self.old.turns }
+    {
+        if !self.asleep.contains(task) {
+            return None;
+        }
+        let start = self.floor_time();
+        Some(self.asleep.remove(task).starting_at(start))
+    }
+
+    /// Lets nobody run: the task that runs waits from now on, and is answered. `None` exactly where nobody runs.
+    pub fn stop_running(&mut self) -> Option<TaskId>
+        ensures stopped { result ≡ self.old.state.running }
+        ensures after { self.new.state ≡ nobody_runs self.old.state }
+        ensures turns { self.new.turns ≡ self.old.turns }
+    {
+        self.running.take()
+    }
+
     /// Takes out a runnable task, with the lag that it keeps. Its virtual runtime is the time that stands.
     fn take(&mut self, task: TaskId) -> Parcel
         requires { map.contains_key self.old.state.runnable task ≡ true }
         ensures parcel { carried self.old.state task ≡ Some result }
+        ensures task { result.task ≡ task }
         ensures after { self.new.state ≡ leave self.old.state task }
         ensures nowhere { IsNowhere self.new.state result.task }
         ensures turns { self.new.turns ≡ self.old.turns }

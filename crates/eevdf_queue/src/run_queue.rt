@@ -1,4 +1,5 @@
-ghost use Rattle.std.specs.Prelude.{◌≡◌, ◌≤◌, ◌↔◌, unsigned_abs, IfSome, IsNone, true, false};
+ghost use Rattle.std.specs.Prelude.{◌≡◌, ◌≤◌, ◌↔◌, ◌==◌, ◌||◌, unsigned_abs, IfSome, IsNone, true, false};
+ghost use Rattle.std.specs.Bool.{FalseIff};
 ghost use Rattle.std.specs.FinMap as map;
 ghost use Rattle.eevdf_weight.specs.Limits as limits;
 ghost use Rattle.eevdf_queue.specs.State.{empty_state};
@@ -7,6 +8,7 @@ ghost use Rattle.eevdf_queue.specs.Candidate as candidates;
 ghost use Rattle.eevdf_queue.specs.Lag as lags;
 ghost use Rattle.eevdf_queue.specs.Kept.{IsKept};
 ghost use Rattle.eevdf_queue.specs.Laws.{AreSumsSmall};
+ghost use Rattle.eevdf_queue.specs.Leaving.{IsNowhere};
 
 use crate::lag::kept_lag;
 use crate::run_entry::Entry;
@@ -67,6 +69,13 @@ impl Queue {
         self.runnable.len()
     }
 
+    /// Whether no task is runnable. Tasks may sleep here all the same.
+    pub fn is_empty(&self) -> bool
+        ensures { result ≡ (map.len self.now.state.runnable == 0) }
+    {
+        self.len() == 0
+    }
+
     /// The sum of the weights of the runnable tasks.
     pub fn load(&self) -> u64
         ensures { result ≡ total_weight self.now.state.runnable }
@@ -123,11 +132,26 @@ impl Queue {
         }
     }
 
+    /// The lag that a sleeping task keeps, and `None` of any other.
+    pub(crate) fn kept_asleep(&self, task: TaskId) -> Option<i64>
+        ensures { result ≡ lags.sleeping_lag (map.get self.now.state.asleep task) }
+    {
+        self.asleep.lag(task)
+    }
+
     /// Whether a task sleeps here.
     pub fn asleep(&self, task: TaskId) -> bool
         ensures { result ≡ map.contains_key self.now.state.asleep task }
     {
         self.asleep.contains(task)
+    }
+
+    /// Whether a task is here, runnable or asleep.
+    pub fn contains(&self, task: TaskId) -> bool
+        ensures value { result ≡ (map.contains_key self.now.state.runnable task || map.contains_key self.now.state.asleep task) }
+        ensures absent { FalseIff result (IsNowhere self.now.state task) }
+    {
+        self.entry(task).is_some() || self.asleep(task)
     }
 
     /// The turns of the descent to the task that the last pick answered: `k` such that `2 ^ (k / 2) <= n + 1` with

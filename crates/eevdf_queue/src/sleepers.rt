@@ -115,14 +115,14 @@ fn empty() -> [Option<Box<TreeNode>>; 1024]
 fn slot(slots: &[Option<Box<TreeNode>>; 1024], task: TaskId) -> &Option<Box<TreeNode>>
     ensures { result.now ≡ slot_at slots.now task }
 {
-    &slots[task.get() as usize]
+    &slots[task.index()]
 }
 
 /// Puts a node into the slot of a number.
 fn fill(slots: &mut [Option<Box<TreeNode>>; 1024], task: TaskId, node: Box<TreeNode>)
     ensures { IsWith task (Some node) slots.old slots.new }
 {
-    slots[task.get() as usize] = Some(node);
+    slots[task.index()] = Some(node);
 }
 
 /// Takes the node out of the slot of a number.
@@ -131,5 +131,5 @@ fn take(slots: &mut [Option<Box<TreeNode>>; 1024], task: TaskId) -> Box<TreeNode
     ensures node { slot_at slots.old task ≡ Some result }
     ensures rest { IsWith task None slots.old slots.new }
 {
-    slots[task.get() as usize].take().unwrap()
+    slots[task.index()].take().unwrap()
 }

@@ -15,7 +15,9 @@ use std::marker::Model;
 
 /// One task on its way into a queue, with the node that carries it there: its number, its nice level and
 /// slice, the virtual runtime that it starts at, and the lag that it has.
-#[derive(Drop)]
+///
+/// A parcel isn't `Drop`, so a program that lets one go isn't accepted: it puts the task into a queue, or ends
+/// it by [`Parcel::retire`].
 pub struct Parcel {
     node: Box<TreeNode>,
 }
@@ -98,6 +100,21 @@ impl Parcel {
         self.node.task().lag
     }
 
+    /// Ends the task, and frees its node.
+    pub fn retire(self) {
+        let Parcel { node: _ } = self;
+    }
+
+    /// The same task, to start at the virtual runtime `v`.
+    pub(crate) fn starting_at(mut self, v: i64) -> Parcel
+        ensures { result ≡ record self { start = v } }
+    {
+        let mut task = self.node.task();
+        task.entry.v = v;
+        self.node.replace(task);
+        self
+    }
+
     /// An entry at the start, whose request is still to come.
     pub(crate) fn entry(&self) -> Entry
         ensures start { result.v ≡ self.now.start }
@@ -122,7 +139,8 @@ impl Parcel {
         ensures below { self.task < 1024 }
     {
         prove!(self.task().get() < 1024);
-        self.node
+        let Parcel { node } = self;
+        node
     }
 
     /// A parcel of the task of a node, with its lag, which is within its limit.

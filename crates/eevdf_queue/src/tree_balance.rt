@@ -47,6 +47,29 @@ pub fn join(
     node
 }
 
+// What a turn keeps. A side that is two levels higher than the other would make descents longer than the number of tasks
+// asks for, so a node of the higher side comes to the top:
+//
+//            node                  top
+//           /    \                /   \
+//         top    right   to   outer   node
+//        /   \                        /  \
+//    outer   inner                inner  right
+//
+// From left to right the tasks are `outer`, `top`, `inner`, `node`, `right` before and after it, so every search still
+// finds what it found. `outer`, `inner` and `right` are moved whole, and what their nodes keep stays right; it is made
+// anew of the two nodes alone whose sides have changed. Afterwards `outer` is one level higher up and `right` one lower
+// down, which evens the two. `inner` stays at its level: where it is the higher part, this wouldn't help, and its own root
+// comes to the top instead.
+//
+//            node                    middle
+//           /    \                 /        \
+//         top    right   to      top        node
+//        /   \                  /   \      /    \
+//    outer   middle         outer before after  right
+//            /    \
+//        before  after
+
 /// Joins a node with two sides whose heights differ by at most two.
 pub fn balance(
     node: Box<TreeNode>,

@@ -7,7 +7,8 @@ ghost use Rattle.eevdf_queue.specs.TaskLists.{first_task, find_task};
 ghost use Rattle.eevdf_queue.specs.Pick.{is_eligible_at};
 ghost use Rattle.eevdf_queue.specs.TreeTasks as ordering;
 ghost use Rattle.eevdf_queue.specs.TreeTasks.{AreOrdered, IsAtDeadline, first_that};
-ghost use Rattle.eevdf_queue.specs.TreeShape.{tasks_in, height_in, DifferByAtMost, IsFull, IsAlone};
+ghost use Rattle.eevdf_queue.specs.NodeDepths.{is_at_depth};
+ghost use Rattle.eevdf_queue.specs.TreeShape.{tasks_in, height_in, depths_in, DifferByAtMost, IsFull, IsAlone};
 ghost use Rattle.eevdf_queue.specs.TreeLeast.{least_of, AreLow};
 
 mod node_parts;
@@ -53,7 +54,8 @@ impl Model for TreeNode {
     ghost size_decreases = { λ a h. depth-le-length a };
 }
 
-/// The number of a task that a descent has found, and the turns that it took.
+/// The number of a task that a descent has found, and the turns that it took: the depth of the task's node, where the
+/// root's is 1.
 #[derive(Clone, Copy)]
 pub struct Found {
     pub task: TaskId,
@@ -197,6 +199,15 @@ pub fn find(link: &Option<Box<TreeNode>>, key: &Key) -> Option<Task>
     None
 }
 
+// Why one descent finds the pick. The tasks stand in the order of their deadlines, equal ones by number, so the pick is
+// the first eligible one from the left. A task is eligible where `v * W <= S`, and `W` and `S` are the same for all tasks:
+// so some task of a subtree is eligible exactly where the one of least `v` is, which each node keeps for its subtree. At a
+// node there are three cases:
+// - Some task on its left is eligible: then the first one is there, and all that is not on the left is later.
+// - None is, but the node's own task is: then that is the first one.
+// - Neither: then it is on the right, since the descent is only ever at a node whose subtree has an eligible task.
+// Each turn goes one level down, and nothing is looked at twice.
+
 /// The first eligible task below a link, left before right, and the turns that lead to it.
 pub fn first_eligible(link: &Option<Box<TreeNode>>, totals: &Totals) -> Option<Found>
     requires few { totals.now.weight ≤ 2 ^ 40 }
@@ -205,6 +216,7 @@ pub fn first_eligible(link: &Option<Box<TreeNode>>, totals: &Totals) -> Option<F
         ≡ option_map (λ t. t.number) (first_that (is_eligible_at totals.now.weight totals.now.moment) (tasks_in link.now)) }
     ensures positive { IfSome result (λ f. 1 ≤ f.turns) }
     ensures few_turns { IfSome result (λ f. IsFull f.turns (length (tasks_in link.now))) }
+    ensures depth { IfSome result (λ f. is_at_depth f.task f.turns (depths_in link.now) ≡ true) }
 {
     match link {
         None => None,
@@ -227,6 +239,7 @@ fn first_under(root: &TreeNode, totals: &Totals) -> Found
     ensures task { option_map (λ t. t.number) (first_that (is_eligible_at totals.now.weight totals.now.moment) root.now.tasks) ≡ Some result.task }
     ensures positive { 1 ≤ result.turns }
     ensures turns { IsFull result.turns (length root.now.tasks) }
+    ensures depth { is_at_depth result.task result.turns root.now.depths ≡ true }
 {
     let _height = root.height();
     let mut at = root;

@@ -9,7 +9,7 @@ use eevdf_queue::{Queue, TaskId};
 use std::alloc::AllocError;
 
 /// The numbers of tasks are below this.
-const NUMBERS: u64 = 1024;
+const NUMBERS: u64 = TaskId::COUNT as u64;
 
 /// Writes the load, the virtual time and the tasks of a queue.
 pub(crate) fn push_queue(text: &mut Vec<u8>, queue: &Queue) -> Result<(), AllocError>

@@ -1,4 +1,4 @@
-//! Calls that can want memory, each with ample memory.
+//! Calls that can run out of memory, each with ample memory.
 
 use eevdf_bench::{read_workload, replay_text, report, run_text, solo_text};
 use eevdf_fleet::{OpenGate, run_all};

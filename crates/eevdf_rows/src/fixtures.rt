@@ -37,7 +37,14 @@ pub fn admit(rt: &impl Abort, queue: &mut Queue, parcel: Parcel) {
     let task = parcel.task();
     assert!(rt; queue.entry(task).is_none());
     assert!(rt; !queue.asleep(task));
-    assert!(rt; queue.admit(parcel).is_ok());
+    let admitted = match queue.admit(parcel) {
+        Ok(()) => true,
+        Err(refused) => {
+            refused.retire();
+            false
+        }
+    };
+    assert!(rt; admitted);
 }
 
 /// Makes a task that isn't in the queue, and can join, runnable with its lag.

@@ -53,6 +53,7 @@ fn takes_next(rt: &impl Abort, queue: &mut Queue, number: u64) -> Result<(), Fai
     assert!(rt; queue.pick_steps() <= 21);
     let parcel = queue.detach_running(task).ok_or("not running")?;
     assert!(rt; parcel.task() == task);
+    parcel.retire();
     Ok(())
 }
 
@@ -84,6 +85,23 @@ fn picks_one(rt: &impl Abort, alloc: Global, queue: &mut Queue) -> Result<(), Fa
 fn one_task_is_picked_in_one_turn(rt: HostRuntime) -> Result<(), Fail> {
     let mut queue = Queue::open();
     picks_one(&rt, rt.alloc(), &mut queue)
+}
+
+/// The pick of three tasks stands on the right of the root, since of the first two neither is eligible: a turn to the root, and
+/// one to the right.
+fn picks_to_the_right(rt: &impl Abort, alloc: Global, queue: &mut Queue) -> Result<(), Fail> {
+    admit(rt, queue, parcel(alloc, 0, 100_000, 10)?);
+    admit(rt, queue, parcel(alloc, 1, 200_000, 10)?);
+    admit(rt, queue, parcel(alloc, 2, 300_000, 0)?);
+    assert_eq!(rt; queue.pick(), Some(task(2)?));
+    assert_eq!(rt; queue.pick_steps(), 2);
+    Ok(())
+}
+
+#[test]
+fn a_turn_to_the_right_counts(rt: HostRuntime) -> Result<(), Fail> {
+    let mut queue = Queue::open();
+    picks_to_the_right(&rt, rt.alloc(), &mut queue)
 }
 
 /// Makes all tasks runnable in an empty queue, in the order in which they come, and takes them out by their deadlines.

@@ -40,3 +40,4 @@ pub mod FollowedPrograms
 pub mod Finished
 pub mod PlacedHistories
 pub mod PlayedOrders
+pub mod AsleepHomes

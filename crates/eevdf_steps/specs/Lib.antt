@@ -24,3 +24,4 @@ pub mod Playing
 pub mod Openings
 pub mod Plays
 pub mod PlayedSteps
+pub mod Texts

@@ -1,5 +1,6 @@
 -- A player: what the callers are to do, and what their steps have come to.
 use Rattle.std.specs.Prelude.{◌≡◌, ℕ, ◌++◌, true, List, Option, Result, MatchResult, Some, None}
+use Rattle.std.specs.FinMap as map
 use Rattle.eevdf_queue.specs.State.{State}
 use Rattle.eevdf_ops.specs.declared.deeds.Deed.{Deed}
 use Rattle.eevdf_ops.specs.Histories.{machine_told}
@@ -9,7 +10,7 @@ use Rattle.eevdf_ops.specs.Programs.{deeds_of}
 use Rattle.eevdf_ops.specs.Setup.{Setup, is_task}
 use Rattle.eevdf_steps.specs.declared.micro_steps.Micro.{Micro}
 use Rattle.eevdf_steps.specs.declared.step_fault.StepFault.{StepFault}
-use Rattle.eevdf_steps.specs.Plan.{Plan, plan_of}
+use Rattle.eevdf_steps.specs.Plan.{Plan, home, plan_of}
 use Rattle.eevdf_steps.specs.Counters as counters
 use Rattle.eevdf_steps.specs.Counters.{holds}
 use Rattle.eevdf_steps.specs.Commits.{committed_by}
@@ -71,6 +72,10 @@ player_start s = record { plan = plan_of s; state = micro_start s }
 -- each task of the setup stands in one place, and no other number stands anywhere
 abbrev pub EachInOnePlace : Player → Type 0
 EachInOnePlace a = (task : ℕ) → places_of a.state.work task ≡ count (is_task a.plan.homes task)
+
+-- a task sleeps at its home alone
+abbrev pub EachSleepsAtHome : Player → Type 0
+EachSleepsAtHome a = (cpu task : ℕ) → map.contains_key (queue_of a cpu).asleep task ≡ true → home a.plan task ≡ cpu
 
 -- no two callers hold one lock
 abbrev pub OneHolder : Player → Type 0

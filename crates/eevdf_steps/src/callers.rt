@@ -79,6 +79,13 @@ impl Callers {
         self.plan.operations(caller)
     }
 
+    /// The number of tasks.
+    pub(crate) fn tasks(&self) -> usize
+        ensures { result ≡ length self.now.plan.homes }
+    {
+        self.plan.tasks()
+    }
+
     /// The CPU at which a task sleeps.
     pub(crate) fn home(&self, task: TaskId) -> CpuId
         requires { task < length self.now.plan.homes }

@@ -1,9 +1,13 @@
 //! Laws of a player, each the contract of a function that does nothing.
 
+ghost use Rattle.std.specs.Prelude.{◌≡◌};
 ghost use Rattle.eevdf_steps.specs.Orders.{WholeIsPlayed};
-ghost use Rattle.eevdf_steps.specs.Players.{EachInOnePlace, OneHolder};
+ghost use Rattle.eevdf_steps.specs.Plan.{plan_of};
+ghost use Rattle.eevdf_steps.specs.Players.{EachInOnePlace, EachSleepsAtHome, OneHolder};
 
 use crate::step_player::Player;
+use eevdf_ops::Setup;
+use eevdf_ops::laws::start_is_placed;
 
 /// At every moment each task of the setup stands in one place: runnable on one CPU, asleep on one, or in one
 /// caller's hand. No other number stands anywhere.
@@ -11,6 +15,14 @@ pub fn every_task_in_one_place(player: &Player)
     ensures { EachInOnePlace player.now }
 {
     player.keeps();
+}
+
+/// At every moment a task that sleeps is at its home, in each player of a setup.
+pub fn every_task_sleeps_at_home(setup: &Setup, player: &Player)
+    ensures { player.now.plan ≡ plan_of setup.now → EachSleepsAtHome player.now }
+{
+    start_is_placed(setup);
+    Player::keeps(player);
 }
 
 /// At every moment at most one caller holds the lock of each CPU.

@@ -22,12 +22,14 @@ mod recorded_work;
 mod requests;
 mod step_fault;
 mod step_player;
+mod task_hand;
 mod task_place;
+mod texts;
 mod work_steps;
 
 pub use micro_steps::Micro;
 pub use play_fault::PlayFault;
-pub use played_order::play;
+pub use played_order::{MOST_PLACES, play};
 pub use step_fault::StepFault;
 pub use step_player::Player;
 pub use task_place::Place;

@@ -86,6 +86,13 @@ impl LockedCallers {
         self.callers.operations(caller)
     }
 
+    /// The number of tasks.
+    pub(crate) fn tasks(&self) -> usize
+        ensures { result ≡ length self.now.plan.homes }
+    {
+        self.callers.tasks()
+    }
+
     /// The CPU at which a task sleeps.
     pub(crate) fn home(&self, task: TaskId) -> CpuId
         requires { task < length self.now.plan.homes }

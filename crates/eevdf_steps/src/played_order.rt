@@ -22,9 +22,12 @@ use crate::step_player::Player;
 use eevdf_ops::{Outcome, Setup, laws};
 use std::alloc::Global;
 
+/// An order has at most so many places.
+pub const MOST_PLACES: usize = 1_000_000;
+
 /// Lets the callers of a setup do their steps in an order, which is a list of callers. An order of more than
 /// 1000000 places is refused first. Else its first faulty place is, and where no place is faulty, an order that
-/// ends before all callers are done. Want of memory may be answered in place of all but the first.
+/// ends before all callers are done. `Memory` may be answered in place of all but the first.
 ///
 /// Whatever the order, its outcome is that of one thread that does the deeds of the order's commits one after the other,
 /// each at once: the same answers, the same queues. The setup allows each of these deeds. The lines of each CPU are its
@@ -39,7 +42,7 @@ pub fn play(alloc: Global, setup: &Setup, order: &[usize]) -> Result<Outcome, Pl
     ensures places { IfOk result (λ o. IsPlaced (homes_of setup.now) (machine_of o.queues)) }
 {
     laws::start_is_placed(setup);
-    if order.len() > 1000000 {
+    if order.len() > MOST_PLACES {
         return Err(PlayFault::TooLong);
     }
     let Ok(mut player) = Player::open(alloc, setup) else {

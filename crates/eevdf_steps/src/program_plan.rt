@@ -120,6 +120,13 @@ impl Plan {
         self.program(caller).len()
     }
 
+    /// The number of tasks.
+    pub(crate) fn tasks(&self) -> usize
+        ensures { result ≡ length self.now.homes }
+    {
+        self.setup.tasks()
+    }
+
     /// The CPU at which a task sleeps.
     pub(crate) fn home(&self, task: TaskId) -> CpuId
         requires { task < length self.now.homes }

@@ -13,6 +13,7 @@ ghost use Rattle.eevdf_steps.specs.Places as places;
 ghost use Rattle.eevdf_steps.specs.Work as work;
 
 use crate::lists_of_steps::cpu_number;
+use crate::task_hand::Hand;
 use crate::task_place::Place;
 use eevdf_ops::one_queue::{pick, renice, tick, wake, yield_now};
 use eevdf_ops::whole_pull::{decide, join, take};
@@ -26,7 +27,7 @@ use std::marker::Model;
 #[derive(Drop)]
 pub(crate) struct Work {
     queues: Vec<Queue>,
-    hands: Vec<Option<Parcel>>,
+    hands: Vec<Hand>,
     answers: Vec<Option<Answer>>,
 }
 
@@ -113,7 +114,7 @@ impl Work {
         ensures { places.IsPlaceOf self.now task (places.hands_with self.now.hands task) result }
     {
         for caller in 0..self.hands.len() {
-            if holds_task(&self.hands[caller], task) {
+            if self.hands[caller].holds(task) {
                 return Some(Place::InHand(caller));
             }
         }
@@ -252,7 +253,7 @@ impl Work {
         requires hand { cpu < length self.old.hands }
         ensures { self.new ≡ work.grasped self.old cpu parcel answer }
     {
-        self.hands[cpu.get() as usize] = Some(parcel);
+        self.hands[cpu.get() as usize] = Hand::with(parcel);
         self.answers[cpu.get() as usize] = Some(answer);
     }
 
@@ -264,12 +265,12 @@ impl Work {
     }
 }
 
-fn empty_hands(alloc: Global, callers: usize) -> Result<Vec<Option<Parcel>>, AllocError>
+fn empty_hands(alloc: Global, callers: usize) -> Result<Vec<Hand>, AllocError>
     ensures { IfOk result (λ hands. hands.items ≡ replicate callers None) }
 {
     let mut hands = Vec::with_capacity(alloc, callers)?;
     for _caller in 0..callers {
-        hands.push(None)?;
+        hands.push(Hand::empty())?;
     }
     Ok(hands)
 }
@@ -284,15 +285,5 @@ fn take_pulled(queues: &mut [Queue], cpu: CpuId, source: CpuId) -> Result<Parcel
     match decide(&queues[cpu.get() as usize], &queues[source.get() as usize]) {
         Err(refusal) => Err(refusal),
         Ok(task) => Ok(take(queues, source, task)),
-    }
-}
-
-/// Whether a task is in a hand.
-fn holds_task(hand: &Option<Parcel>, task: TaskId) -> bool
-    ensures { result ≡ places.is_in_hand hand.now task }
-{
-    match hand {
-        None => false,
-        Some(parcel) => task.get() == parcel.task().get(),
     }
 }

@@ -1,4 +1,4 @@
-ghost use Rattle.std.specs.Prelude.{◌≡◌, ◌<◌, true, is_none, length, Some, None, IfOk, OnOk};
+ghost use Rattle.std.specs.Prelude.{◌≡◌, ◌<◌, nat_lt, true, is_none, length, Some, None, IfOk, OnOk};
 ghost use Rattle.eevdf_ops.specs.Histories.{AreHistory, IsOneThread};
 ghost use Rattle.eevdf_ops.specs.Machine.{queue_at};
 ghost use Rattle.eevdf_ops.specs.Programs.{deeds_of};
@@ -86,6 +86,20 @@ impl Player {
     {
         self.callers.keeps();
         self.callers.ready()
+    }
+
+    /// Whether the setup has a CPU: the condition of `holder` and `queue`.
+    pub fn has_cpu(&self, cpu: CpuId) -> bool
+        ensures { result ≡ nat_lt cpu (callers self.now.plan) }
+    {
+        cpu.index() < self.callers.count()
+    }
+
+    /// Whether the setup has a task: the condition of `place_of`.
+    pub fn has_task(&self, task: TaskId) -> bool
+        ensures { result ≡ nat_lt task (length self.now.plan.homes) }
+    {
+        task.index() < self.callers.tasks()
     }
 
     /// Who holds the lock of a CPU of the setup: one caller at most (`laws::one_holder`).

@@ -14,9 +14,9 @@ mod time_step;
 mod weight_table;
 
 pub use charging::{charge, lag_limit};
-pub use nice_level::Nice;
+pub use nice_level::{BadNice, Nice};
 pub use placement::{BOUND, is_in_range, placed};
 pub use quotient::floor_quotient;
-pub use time_slice::Slice;
-pub use time_step::Ns;
+pub use time_slice::{BadSlice, Slice};
+pub use time_step::{BadNs, Ns};
 pub use weight_table::weight;

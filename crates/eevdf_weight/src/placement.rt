@@ -14,6 +14,16 @@ pub fn is_in_range(time: i64) -> bool
     -BOUND <= time && time <= BOUND
 }
 
+// Where the formula comes from. A task is to have the same lag after it has joined as before: it is owed what it was owed.
+// Its lag is then the mean with the task less its own `v`, and that mean is `(total * v0 + w * v) / (total + w)`, since the
+// task counts in it by its weight. So
+//
+//     lag = (total * v0 + w * v) / (total + w) - v = (v0 - v) * total / (total + w)
+//
+// and `v = v0 - lag * (total + w) / total`. At `v0 - lag` the task would shift the mean towards itself and so lose the
+// part `w / (total + w)` of its lag, each time that it sleeps and wakes. Over no task there is no mean to keep to, and
+// nothing is divided: the caller places such a task at the time that stands.
+
 /// The virtual runtime at which a task of weight `w` and of this lag joins runnable tasks of the weight
 /// `total` at the virtual time `v0`: `v0 - floor(lag * (total + w) / total)`. `None` exactly where that is
 /// out of range.

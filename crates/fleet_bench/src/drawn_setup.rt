@@ -7,7 +7,7 @@ use crate::draws::Draws;
 use eevdf_ops::{CpuId, Setup, TaskSpec};
 use std::alloc::{AllocError, Global};
 
-/// A setup of so many CPUs and tasks. It fails only for want of memory.
+/// A setup of so many CPUs and tasks. It fails only when out of memory.
 pub fn drawn_setup(alloc: Global, cpus: usize, tasks: usize) -> Result<Setup, AllocError>
     requires some { 0 < cpus }
     requires few { cpus ≤ 64 }

@@ -16,9 +16,19 @@ pub fn fill(
     for number in 0..tasks {
         let task = TaskId::new(number).unwrap();
         let parcel = Parcel::make(alloc, task, draws.nice(), draws.slice(), draws.start())?;
-        if queue.entry(task).is_none() && !queue.asleep(task) {
-            let _ = queue.admit(parcel);
-        }
+        admit(queue, parcel);
     }
     Ok(())
+}
+
+/// Makes a task that isn't in the queue runnable there. Any other ends.
+fn admit(queue: &mut Queue, parcel: Parcel) {
+    let task = parcel.task();
+    if queue.entry(task).is_some() || queue.asleep(task) {
+        parcel.retire();
+        return;
+    }
+    if let Err(refused) = queue.admit(parcel) {
+        refused.retire();
+    }
 }

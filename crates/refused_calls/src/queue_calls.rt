@@ -9,7 +9,13 @@ use std::alloc::{AllocError, Global};
 /// Makes two parcels, and does every call of a queue with their tasks.
 pub fn queue_calls(rt: &impl Print, alloc: Global) -> Result<(), Stopped> {
     let first = called!(rt, "Parcel::make", Err(_), parcel(alloc, 0))?;
-    let second = called!(rt, "Parcel::make", Err(_), parcel(alloc, 1))?;
+    let second = match called!(rt, "Parcel::make", Err(_), parcel(alloc, 1)) {
+        Ok(second) => second,
+        Err(refused) => {
+            first.retire();
+            return Err(refused.into());
+        }
+    };
     say(rt, "-- opened");
     let mut queue = Queue::open();
     admit(&mut queue, first);
@@ -35,8 +41,12 @@ fn parcel(alloc: Global, number: u64) -> Result<Parcel, AllocError> {
 
 fn admit(queue: &mut Queue, parcel: Parcel) {
     let task = parcel.task();
-    if queue.entry(task).is_none() && !queue.asleep(task) {
-        let _ = queue.admit(parcel);
+    if queue.entry(task).is_some() || queue.asleep(task) {
+        parcel.retire();
+        return;
+    }
+    if let Err(refused) = queue.admit(parcel) {
+        refused.retire();
     }
 }
 
@@ -68,15 +78,15 @@ fn moves(queue: &mut Queue) {
     }
 }
 
-/// Puts a task that isn't here where it can stand.
+/// Puts a task that isn't here where it can stand. Any other ends.
 fn settle(queue: &mut Queue, parcel: Parcel) {
     let task = parcel.task();
-    if queue.entry(task).is_none() && !queue.asleep(task) {
-        if queue.can_place(parcel.nice(), parcel.slice(), parcel.lag()) {
-            queue.attach(parcel);
-        } else {
-            queue.put_asleep(parcel);
-        }
+    if queue.entry(task).is_some() || queue.asleep(task) {
+        parcel.retire();
+    } else if queue.can_place(parcel.nice(), parcel.slice(), parcel.lag()) {
+        queue.attach(parcel);
+    } else {
+        queue.put_asleep(parcel);
     }
 }
 

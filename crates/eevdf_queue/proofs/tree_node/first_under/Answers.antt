@@ -3,9 +3,10 @@ use Rattle.std.specs.Prelude.{is_some}
 use Rattle.std.specs.Option.{option_map}
 use Rattle.eevdf_queue.specs.declared.task.Task.{Task}
 use Rattle.eevdf_queue.specs.Pick.{is_eligible_at}
-use Rattle.eevdf_queue.specs.TreeShape.{tasks_in, height_in}
-use Rattle.eevdf_queue.specs.TreeNodes.{tasks_of}
+use Rattle.eevdf_queue.specs.TreeShape.{tasks_in, height_in, depths_in}
+use Rattle.eevdf_queue.specs.TreeNodes.{tasks_of, depths_of}
 use Rattle.eevdf_queue.specs.TreeTasks.{first_that}
+use Rattle.eevdf_queue.proofs.Descending.{lead_none, lead_left, lead_right, lead_here}
 use Rattle.eevdf_queue.proofs.TreeEligible.{some-node}
 use Rattle.eevdf_queue.proofs.TreeSorted.{full-lower}
 use Rattle.eevdf_queue.proofs.TreeSearch.{first_left_same, first_here, first_right}
@@ -27,7 +28,10 @@ down-preserved-then-is_least_eligible c =
             ∙ first_left_same (is_eligible_at c.args.totals.now.weight c.args.totals.now.moment) c.down.at.now.tasks (tasks_in c.at.inside.left) c.at.inside.task (tasks_in c.at.inside.right) e
             (ap (λ (z : List Task). is_some (first_that (is_eligible_at c.args.totals.now.weight c.args.totals.now.moment) z)) l ∙ s)
             ∙ ap (first_that (is_eligible_at c.args.totals.now.weight c.args.totals.now.moment)) l,
-        omega (arith, h, k, c.at.invariant.height, c.down.invariant.1.1),
+        (
+          omega (arith, h, k, c.at.invariant.height, c.down.invariant.1.1.0),
+          lead_left c.at.inside c.down.turns c.down.at.now.depths c.deref-left.result.now.depths c.args.root.now.depths (cc) (cc) c.down.invariant.1.1.1,
+        ),
       ),
     )
 
@@ -53,7 +57,11 @@ returns-then-is_task_eligible-clause-task c =
 pub returns-then-is_task_eligible-clause-turns : goal.returns-then-is_task_eligible-clause-turns
 returns-then-is_task_eligible-clause-turns c =
     let h : c.down.at.now.height ≡ c.at.inside.height = cc in
-    full-lower (c.down.turns + 1) c.args.root.now.height (length c.args.root.now.tasks) (omega (arith, h, c.at.invariant.height, c.down.invariant.1.1)) c.height-height.ensures.full
+    full-lower (c.down.turns + 1) c.args.root.now.height (length c.args.root.now.tasks) (omega (arith, h, c.at.invariant.height, c.down.invariant.1.1.0)) c.height-height.ensures.full
+
+pub returns-then-is_task_eligible-clause-depth : goal.returns-then-is_task_eligible-clause-depth
+returns-then-is_task_eligible-clause-depth c =
+    lead_here c.at.inside c.down.turns c.down.at.now.depths c.args.root.now.depths (cc) c.down.invariant.1.1.1
 
 pub unreachable-requires : goal.unreachable-requires
 unreachable-requires c =
@@ -70,5 +78,13 @@ down-preserved c =
     let r : tasks_in c.at.inside.right ≡ c.deref-at.result.now.tasks = cc in
     let k : height_in c.at.inside.right ≡ c.deref-at.result.now.height = cc in
     let f = first_right (is_eligible_at c.args.totals.now.weight c.args.totals.now.moment) c.down.at.now.tasks (tasks_in c.at.inside.left) c.at.inside.task (tasks_in c.at.inside.right) e (missed (goal.at.down-preserved c).After-is_task_eligible) (sym c.is_task_eligible.ensures ∙ c.if-is_task_eligible.false)
-    ∙ ap (first_that (is_eligible_at c.args.totals.now.weight c.args.totals.now.moment)) r in
-    (ap is_some (sym f) ∙ c.down.invariant.0, (c.down.invariant.1.0 ∙ f, omega (arith, h, k, c.at.invariant.height, c.down.invariant.1.1)))
+    ∙ ap (first_that (is_eligible_at c.args.totals.now.weight c.args.totals.now.moment)) r in (
+      ap is_some (sym f) ∙ c.down.invariant.0,
+      (
+        c.down.invariant.1.0 ∙ f,
+        (
+          omega (arith, h, k, c.at.invariant.height, c.down.invariant.1.1.0),
+          lead_right c.at.inside c.down.turns c.down.at.now.depths c.deref-at.result.now.depths c.args.root.now.depths (cc) (cc) c.down.invariant.1.1.1,
+        ),
+      ),
+    )

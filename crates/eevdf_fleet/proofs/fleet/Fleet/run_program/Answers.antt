@@ -27,7 +27,7 @@ stands g c = record {
 
 pub loop-n-init : goal.loop-n-init
 loop-n-init g c = record {
-  run = run-first c.args.setup.now c.cpu-cpu.result c.args.seat c.cpu-cpu.ensures.cpu c.requires.fresh;
+  run = run-first c.args.setup.now c.cpu-cpu.result c.args.seat (subst (λ (s : Setup). c.cpu-cpu.result < cpus_of s) c.requires.setup c.cpu-cpu.ensures.below) c.cpu-cpu.ensures.cpu c.requires.fresh;
   room = omega (arith, ap (λ (seat : Seat). seat.room) c.requires.fresh);
 }
 

@@ -1,0 +1,43 @@
+#!/usr/bin/env bash
+# lost-task.sh: tries bodies that let a task go, in a copy of the crates as `rt ci` has built them. The compiler has to refuse
+# each, since a `Parcel` isn't `Drop`. No file of must-fail/ can ask this, because what stands there has to compile. Prints how
+# many are refused. Ends with 1 where one isn't.
+set -u
+cd "$(dirname "$0")/.."
+copy=$(mktemp -d)
+trap 'rm -rf "$copy"' EXIT
+tar -cf - --exclude=incremental HANDLES crates/eevdf_{weight,queue,ops,steps} | tar -xf - -C "$copy"
+grep -E '^eevdf_(weight|queue|ops|steps):' crates.txt >"$copy/crates.txt"
+
+refused=0
+status=0
+
+# Replaces one text of a file of a crate by another, and asks that the compiler refuses the crate then.
+refuses() {
+  local file=$copy/crates/$1/src/$2 old=$3 new=$4 text said
+  text=$(<"$file")
+  if [[ "$text" != *"$old"* ]]; then
+    echo "FAILED: $1/src/$2 hasn't the text: $old"
+    status=1
+    return
+  fi
+  printf '%s\n' "${text/"$old"/"$new"}" >"$file"
+  said=$(cd "$copy/crates/$1" && rt check --only "$5" 2>&1)
+  printf '%s\n' "$text" >"$file"
+  if grep -q 'error\[linear-value-let-go\].*`Parcel` is not `Drop`' <<<"$said"; then
+    refused=$((refused + 1))
+  else
+    echo "FAILED: $1/src/$2 lets a task go: $new"
+    tail -n 3 <<<"$said"
+    status=1
+  fi
+}
+
+refuses eevdf_queue task_parcel.rt 'let Parcel { node: _ } = self;' 'let _parcel = self;' task_parcel
+refuses eevdf_queue queue_moves.rt 'None => Err(parcel),' 'None => Ok(()),' queue_moves
+refuses eevdf_ops whole_sleep.rt 'fall_asleep(queues, home, parcel);' 'let _parcel = parcel;' whole_sleep
+refuses eevdf_ops whole_pull.rt 'join(queues, cpu, parcel);' 'let _parcel = parcel;' whole_pull
+refuses eevdf_steps task_hand.rt 'parcel.retire();' 'let _parcel = parcel;' task_hand
+refuses eevdf_steps queue_work.rt 'Some(parcel) => join(&mut self.queues, cpu, parcel),' 'Some(_parcel) => {}' queue_work
+echo "$refused bodies that let a task go are refused"
+exit "$status"

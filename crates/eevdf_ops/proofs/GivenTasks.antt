@@ -1,0 +1,150 @@
+-- Each task of the machine stays as the setup gives it.
+use Rattle.std.proofs.Common.{◌≡◌, ℕ, zero, suc, ◌+◌, zero-add, Bool, true, false, ◌||◌, List, [], ◌∷◌, set, replicate, refl, sym, ap, subst, ◌∙◌, arith}
+use Rattle.std.specs.Prelude.{◌==◌, ℤ, slice_get, Option, Some, None, Result, Ok, Err}
+use Rattle.std.proofs.lemmas.Bool.{false≢true}
+use Rattle.std.proofs.lemmas.Bool.Decides.{nat_tests}
+use Rattle.eevdf_queue.specs.State.{State, Contents, empty_state}
+use Rattle.eevdf_queue.specs.Moves.{put_asleep}
+use Rattle.eevdf_queue.specs.Tick.{tick}
+use Rattle.eevdf_queue.specs.Pick.{after_pick}
+use Rattle.eevdf_queue.specs.Yield.{yield_now}
+use Rattle.eevdf_queue.specs.Wake.{wake}
+use Rattle.eevdf_queue.specs.Renice.{renice}
+use Rattle.eevdf_queue.specs.Leaving.{carried_running, leave}
+use Rattle.eevdf_ops.specs.declared.task_spec.TaskSpec.{TaskSpec}
+use Rattle.eevdf_ops.specs.declared.deeds.Answer.{Answer}
+use Rattle.eevdf_ops.specs.declared.deeds.Deed.{Deed}
+use Rattle.eevdf_ops.specs.declared.deeds.Deed.TheVariants.{Tick, Pick, Yield, Sleep, Wake, Pull, Renice}
+use Rattle.eevdf_ops.specs.Setup.{home_of, homes_of, cpus_of}
+use Rattle.eevdf_ops.specs.Machine.{Machine, queue_at, begin, beginner, begin_at_homes, start}
+use Rattle.eevdf_ops.specs.WholeSleep.{task_leaves, falls_asleep, sleep_carrying}
+use Rattle.eevdf_ops.specs.WholePull.{offer, load_of, decision, with_task, pull_decided}
+use Rattle.eevdf_ops.specs.Whole.{whole, machine_after}
+use Rattle.eevdf_ops.specs.Given.{renices, is_reniced, IsAsGiven, AreAsGiven, TasksStayAsGiven}
+use Rattle.eevdf_ops.proofs.MachinePlaces.{each-set}
+use Rattle.eevdf_ops.proofs.Pulling.{decision-taken}
+use Rattle.eevdf_ops.proofs.QueueValues.{
+  Each,
+  asleep-each,
+  empty-each,
+  tick-each,
+  pick-each,
+  yield-each,
+  wake-each,
+  leave-each,
+  renice-each,
+  running-given,
+  offer-given,
+  with_task-each,
+  joined-each,
+}
+
+itself : (t : ℕ) → (t == t) ≡ true
+itself t = grind (arith, nat_tests)
+
+or_left : (b c : Bool) → b ≡ true → (b || c) ≡ true
+or_left true c h = refl
+or_left false c h = absurd (false≢true h)
+
+or_right : (b c : Bool) → c ≡ true → (b || c) ≡ true
+or_right true c h = refl
+or_right false c h = h
+
+module _ (P : ℕ → ℤ → ℕ → Type 0) where
+  abbrev Everywhere : Machine → Type 0
+  Everywhere m = (k : ℕ) → Each P (queue_at m k)
+
+  -- a task that a deed is to give another nice level may have any
+  abbrev MayRenice : (ℕ → Bool) → Type 0
+  MayRenice test = (t : ℕ) (older nice : ℤ) (slice : ℕ) → test t ≡ true → P t older slice → P t nice slice
+
+  set-each : (m : Machine) (c : ℕ) (q : State) → Each P q → Everywhere m → Everywhere (set m c q)
+  set-each m c q each all = each-set (λ k r. Each P r) m c q each all
+
+  leaves-each : (m : Machine) (cpu t : ℕ) → Everywhere m → Everywhere (task_leaves m cpu t)
+  leaves-each m cpu t all = set-each m cpu (leave (queue_at m cpu) t) (leave-each P (queue_at m cpu) t (all cpu)) all
+
+  sleep_carrying-each : (m : Machine) (cpu home : ℕ) (o : Option Contents) → Everywhere m → ((p : Contents) → o ≡ Some p → P p.task p.nice p.slice)
+      → Everywhere (sleep_carrying m cpu home o).1
+  sleep_carrying-each m cpu home None all given = all
+  sleep_carrying-each m cpu home (Some p) all given =
+      let left : Everywhere (task_leaves m cpu p.task) = leaves-each m cpu p.task all in
+      let q : State = queue_at (task_leaves m cpu p.task) home in
+      set-each (task_leaves m cpu p.task) home (put_asleep q p) (asleep-each P q p (left home) (given p refl)) left
+
+  pull_decided-each : (m : Machine) (cpu source : ℕ) (d : Result Contents Answer) → Everywhere m → ((p : Contents) → d ≡ Ok p → P p.task p.nice p.slice)
+      → Everywhere (pull_decided m cpu source d).1
+  pull_decided-each m cpu source (Err refusal) all given = all
+  pull_decided-each m cpu source (Ok p) all given =
+      let left : Everywhere (task_leaves m source p.task) = leaves-each m source p.task all in
+      let q : State = queue_at (task_leaves m source p.task) cpu in
+      set-each (task_leaves m source p.task) cpu (with_task q p) (with_task-each P q p (left cpu) (given p refl)) left
+
+  whole-each : (homes : List ℕ) (deed : Deed) (m : Machine) → MayRenice (renices deed) → Everywhere m → Everywhere (whole homes deed m).1
+  whole-each homes (Tick cpu ns) m may all = set-each m cpu (tick (queue_at m cpu) ns).1 (tick-each P (queue_at m cpu) ns (all cpu)) all
+  whole-each homes (Pick cpu) m may all = set-each m cpu (after_pick (queue_at m cpu)) (pick-each P (queue_at m cpu) (all cpu)) all
+  whole-each homes (Yield cpu) m may all = set-each m cpu (yield_now (queue_at m cpu)).1 (yield-each P (queue_at m cpu) (all cpu)) all
+  whole-each homes (Sleep cpu task) m may all =
+      sleep_carrying-each m cpu (home_of homes task) (carried_running (queue_at m cpu) task) all (λ p e. running-given P (queue_at m cpu) task p (all cpu) e)
+  whole-each homes (Wake cpu task sender) m may all = set-each m cpu (wake (queue_at m cpu) task).1 (wake-each P (queue_at m cpu) task (all cpu)) all
+  whole-each homes (Renice cpu task nice) m may all =
+      set-each m cpu (renice (queue_at m cpu) task nice).1
+      (renice-each P (queue_at m cpu) task nice (λ older slice p. may task older nice slice (itself task) p) (all cpu)) all
+  whole-each homes (Pull cpu source) m may all =
+      pull_decided-each m cpu source (decision (queue_at m cpu) (load_of (queue_at m source)) (offer (queue_at m source))) all
+      (λ p e. offer-given P (queue_at m source) p (all source) (decision-taken (queue_at m cpu) (load_of (queue_at m source)) (offer (queue_at m source)) p e).offered_it)
+
+  after-each : (homes : List ℕ) (deeds : List Deed) (m : Machine) → MayRenice (is_reniced deeds) → Everywhere m → Everywhere (machine_after homes m deeds)
+  after-each homes [] m may all = all
+  after-each homes (d ∷ ds) m may all =
+      after-each homes ds (whole homes d m).1 (λ t older nice slice r p. may t older nice slice (or_right (renices d t) (is_reniced ds t) r) p)
+      (whole-each homes d m (λ t older nice slice r p. may t older nice slice (or_left (renices d t) (is_reniced ds t) r) p) all)
+
+  nobody-each : (n : ℕ) → Everywhere (replicate n empty_state)
+  nobody-each zero k = empty-each P
+  nobody-each (suc n) zero = empty-each P
+  nobody-each (suc n) (suc k) = nobody-each n k
+
+  -- the tasks that begin, numbered from a number on
+  abbrev BeginAs : ℕ → List TaskSpec → Type 0
+  BeginAs task ts = (i : ℕ) (t : TaskSpec) → slice_get ts i ≡ Some t → P (task + i) t.nice t.slice
+
+  later : (task : ℕ) (t : TaskSpec) (ts : List TaskSpec) → BeginAs task (t ∷ ts) → BeginAs (task + 1) ts
+  later task t ts given i u e = let next : task + suc i ≡ task + 1 + i = omega arith in subst (λ (k : ℕ). P k u.nice u.slice) next (given (suc i) u e)
+
+  first : (task : ℕ) (t : TaskSpec) (ts : List TaskSpec) → BeginAs task (t ∷ ts) → P task t.nice t.slice
+  first task t ts given = let same : task + 0 ≡ task = omega arith in subst (λ (k : ℕ). P k t.nice t.slice) same (given 0 t refl)
+
+  begun-each : (task : ℕ) (ts : List TaskSpec) (m : Machine) → BeginAs task ts → Everywhere m → Everywhere (begin_at_homes task ts m)
+  begun-each task [] m given all = all
+  begun-each task (t ∷ ts) m given all =
+      let rest : Everywhere (begin_at_homes (task + 1) ts m) = begun-each (task + 1) ts m (later task t ts given) all in
+      let q : State = queue_at (begin_at_homes (task + 1) ts m) t.home in
+      set-each (begin_at_homes (task + 1) ts m) t.home (begin task t q) (joined-each P t.asleep (beginner task t) q (rest t.home) (first task t ts given)) rest
+
+  reached-each : (homes : List ℕ) (n : ℕ) (ts : List TaskSpec) (deeds : List Deed) → BeginAs 0 ts → MayRenice (is_reniced deeds)
+      → Everywhere (machine_after homes (begin_at_homes 0 ts (replicate n empty_state)) deeds)
+  reached-each homes n ts deeds given may =
+      after-each homes deeds (begin_at_homes 0 ts (replicate n empty_state)) may (begun-each 0 ts (replicate n empty_state) given (nobody-each n))
+
+may_renice : (ts : List TaskSpec) (deeds : List Deed) (t : ℕ) (older nice : ℤ) (slice : ℕ) → is_reniced deeds t ≡ true → IsAsGiven ts deeds t older slice → IsAsGiven ts deeds t nice slice
+may_renice ts deeds t older nice slice r h = record {
+  spec = h.spec;
+  given = h.given;
+  same_slice = h.same_slice;
+  same_nice = λ e. absurd (false≢true (sym e ∙ r));
+}
+
+begins_as_given : (ts : List TaskSpec) (deeds : List Deed) (i : ℕ) (t : TaskSpec) → slice_get ts i ≡ Some t → IsAsGiven ts deeds (0 + i) t.nice t.slice
+begins_as_given ts deeds i t e = record {
+  spec = t;
+  given = ap (slice_get ts) (zero-add i) ∙ e;
+  same_slice = refl;
+  same_nice = λ h. refl;
+}
+
+pub tasks_stay_as_given : TasksStayAsGiven
+tasks_stay_as_given s deeds cpu =
+    let each : Each (IsAsGiven s.tasks deeds) (queue_at (machine_after (homes_of s) (start s) deeds) cpu) =
+    reached-each (IsAsGiven s.tasks deeds) (homes_of s) (cpus_of s) s.tasks deeds (begins_as_given s.tasks deeds) (may_renice s.tasks deeds) cpu in
+    record { runnable = each.runnable; asleep = each.asleep }

@@ -1,0 +1,57 @@
+-- The texts of deeds, operations and answers.
+use Rattle.std.specs.Prelude.{ℕ, List, ◌++◌, codes, decimal}
+use Rattle.std.specs.Fmt.{signed_decimal}
+use Rattle.eevdf_queue.specs.Texts.{charged_text}
+use Rattle.eevdf_ops.specs.declared.deeds.Op.{Op}
+use Rattle.eevdf_ops.specs.declared.deeds.Op.TheVariants as op
+use Rattle.eevdf_ops.specs.declared.deeds.Deed.{Deed}
+use Rattle.eevdf_ops.specs.declared.deeds.Deed.TheVariants.{Tick, Pick, Yield, Sleep, Wake, Pull, Renice}
+use Rattle.eevdf_ops.specs.declared.deeds.Answer.{Answer}
+use Rattle.eevdf_ops.specs.declared.deeds.Answer.TheVariants.{Charged, Picked, Idle, Yielded, Slept, NotRunning, Woken, Awake, Pulled, Balanced, Nothing, Range, Reniced, NotHere}
+use Rattle.eevdf_ops.specs.declared.deeds.Line.{Line}
+use Rattle.eevdf_ops.specs.Parts.{decider}
+
+-- an operation as a program lists it
+abbrev pub operation_text : Op → List ℕ
+operation_text (op.Tick ns) = codes "tick " ++ decimal ns
+operation_text op.Pick = codes "pick"
+operation_text op.Yield = codes "yield"
+operation_text (op.Sleep task) = codes "sleep " ++ decimal task
+operation_text (op.Post task) = codes "post " ++ decimal task
+operation_text op.Drain = codes "drain"
+operation_text (op.Pull source) = codes "pull " ++ decimal source
+operation_text (op.Renice task nice) = codes "renice " ++ decimal task ++ codes " " ++ signed_decimal nice
+
+-- a deed as a schedule lists it, without its CPU
+abbrev pub deed_text : Deed → List ℕ
+deed_text (Tick cpu ns) = codes "tick " ++ decimal ns
+deed_text (Pick cpu) = codes "pick"
+deed_text (Yield cpu) = codes "yield"
+deed_text (Sleep cpu task) = codes "sleep " ++ decimal task
+deed_text (Wake cpu task sender) = codes "wake " ++ decimal task ++ codes " from " ++ decimal sender
+deed_text (Pull cpu source) = codes "pull " ++ decimal source
+deed_text (Renice cpu task nice) = codes "renice " ++ decimal task ++ codes " " ++ signed_decimal nice
+
+-- a deed with the CPU that does it, as a script lists it
+abbrev pub numbered_deed_text : Deed → List ℕ
+numbered_deed_text d = decimal (decider d) ++ codes " " ++ deed_text d
+
+abbrev pub answer_text : Answer → List ℕ
+answer_text (Charged task resched) = charged_text task resched
+answer_text (Picked task) = codes "picked " ++ decimal task
+answer_text Idle = codes "idle"
+answer_text Yielded = codes "yielded"
+answer_text (Slept lag) = codes "slept " ++ signed_decimal lag
+answer_text NotRunning = codes "not running"
+answer_text Woken = codes "woken"
+answer_text Awake = codes "awake"
+answer_text (Pulled task) = codes "pulled " ++ decimal task
+answer_text Balanced = codes "balanced"
+answer_text Nothing = codes "nothing"
+answer_text Range = codes "range"
+answer_text Reniced = codes "reniced"
+answer_text NotHere = codes "not here"
+
+-- a deed with its CPU and its answer
+abbrev pub line_text : Line → List ℕ
+line_text l = numbered_deed_text l.deed ++ codes ": " ++ answer_text l.answer

@@ -1,0 +1,55 @@
+//! The answers of one queue as those of deeds.
+
+ghost use Rattle.std.specs.Prelude.{◌≡◌};
+ghost use Rattle.eevdf_ops.specs.OneQueue.{answer_of_renice, answer_of_tick, answer_of_wake, answer_of_yield};
+
+use crate::deeds::Answer;
+use eevdf_queue::{ReniceAnswer, TickAnswer, WakeAnswer, YieldAnswer};
+
+impl From<TickAnswer> for Answer {
+    ghost from_gives = { λ tick answer. answer ≡ answer_of_tick tick };
+
+    fn from(tick: TickAnswer) -> Answer {
+        match tick {
+            TickAnswer::Charged { task, resched } => Answer::Charged { task, resched },
+            TickAnswer::Idle => Answer::Idle,
+            TickAnswer::Range => Answer::Range,
+        }
+    }
+}
+
+impl From<YieldAnswer> for Answer {
+    ghost from_gives = { λ yielded answer. answer ≡ answer_of_yield yielded };
+
+    fn from(yielded: YieldAnswer) -> Answer {
+        match yielded {
+            YieldAnswer::Yielded => Answer::Yielded,
+            YieldAnswer::Idle => Answer::Idle,
+            YieldAnswer::Range => Answer::Range,
+        }
+    }
+}
+
+impl From<WakeAnswer> for Answer {
+    ghost from_gives = { λ woken answer. answer ≡ answer_of_wake woken };
+
+    fn from(woken: WakeAnswer) -> Answer {
+        match woken {
+            WakeAnswer::Woken => Answer::Woken,
+            WakeAnswer::Awake => Answer::Awake,
+            WakeAnswer::Range => Answer::Range,
+        }
+    }
+}
+
+impl From<ReniceAnswer> for Answer {
+    ghost from_gives = { λ reniced answer. answer ≡ answer_of_renice reniced };
+
+    fn from(reniced: ReniceAnswer) -> Answer {
+        match reniced {
+            ReniceAnswer::Reniced => Answer::Reniced,
+            ReniceAnswer::NotHere => Answer::NotHere,
+            ReniceAnswer::Range => Answer::Range,
+        }
+    }
+}

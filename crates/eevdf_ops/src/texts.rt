@@ -1,0 +1,82 @@
+//! How operations, deeds and answers print: as they stand in a program, in a script and in a report.
+
+ghost use Rattle.std.specs.Prelude.{Some};
+ghost use Rattle.eevdf_ops.specs.Texts.{answer_text, line_text, numbered_deed_text, operation_text};
+
+use crate::deeds::{Answer, Deed, Line, Op};
+use std::fmt;
+
+/// The operation as a program lists it, as `tick 1000`.
+impl fmt::Display for Op {
+    ghost output = { λ operation. Some (operation_text operation) };
+
+    fn fmt<W: fmt::Write>(&self, f: &mut fmt::Formatter<W>) -> fmt::Result {
+        match self {
+            Op::Tick(ns) => write!(f, "tick {ns}"),
+            Op::Pick => f.write_str("pick"),
+            Op::Yield => f.write_str("yield"),
+            Op::Sleep(task) => write!(f, "sleep {task}"),
+            Op::Post(task) => write!(f, "post {task}"),
+            Op::Drain => f.write_str("drain"),
+            Op::Pull(source) => write!(f, "pull {source}"),
+            Op::Renice(task, nice) => write!(f, "renice {task} {nice}"),
+        }
+    }
+}
+
+/// The number of the CPU, and the deed as a script lists it, as `0 tick 1000`.
+impl fmt::Display for Deed {
+    ghost output = { λ deed. Some (numbered_deed_text deed) };
+
+    fn fmt<W: fmt::Write>(&self, f: &mut fmt::Formatter<W>) -> fmt::Result {
+        match self {
+            Deed::Tick { cpu, ns } => write!(f, "{cpu} tick {ns}"),
+            Deed::Pick { cpu } => write!(f, "{cpu} pick"),
+            Deed::Yield { cpu } => write!(f, "{cpu} yield"),
+            Deed::Sleep { cpu, task } => write!(f, "{cpu} sleep {task}"),
+            Deed::Wake { cpu, task, sender } => write!(f, "{cpu} wake {task} from {sender}"),
+            Deed::Pull { cpu, source } => write!(f, "{cpu} pull {source}"),
+            Deed::Renice { cpu, task, nice } => write!(f, "{cpu} renice {task} {nice}"),
+        }
+    }
+}
+
+/// The answer as a report has it, as `charged 3 resched`.
+impl fmt::Display for Answer {
+    ghost output = { λ answer. Some (answer_text answer) };
+
+    fn fmt<W: fmt::Write>(&self, f: &mut fmt::Formatter<W>) -> fmt::Result {
+        match self {
+            Answer::Charged {
+                task,
+                resched: true,
+            } => write!(f, "charged {task} resched"),
+            Answer::Charged {
+                task,
+                resched: false,
+            } => write!(f, "charged {task}"),
+            Answer::Picked(task) => write!(f, "picked {task}"),
+            Answer::Idle => f.write_str("idle"),
+            Answer::Yielded => f.write_str("yielded"),
+            Answer::Slept(lag) => write!(f, "slept {lag}"),
+            Answer::NotRunning => f.write_str("not running"),
+            Answer::Woken => f.write_str("woken"),
+            Answer::Awake => f.write_str("awake"),
+            Answer::Pulled(task) => write!(f, "pulled {task}"),
+            Answer::Balanced => f.write_str("balanced"),
+            Answer::Nothing => f.write_str("nothing"),
+            Answer::Range => f.write_str("range"),
+            Answer::Reniced => f.write_str("reniced"),
+            Answer::NotHere => f.write_str("not here"),
+        }
+    }
+}
+
+/// The deed and its answer, as `0 pick: picked 3`.
+impl fmt::Display for Line {
+    ghost output = { λ line. Some (line_text line) };
+
+    fn fmt<W: fmt::Write>(&self, f: &mut fmt::Formatter<W>) -> fmt::Result {
+        write!(f, "{}: {}", self.deed, self.answer)
+    }
+}

@@ -1,0 +1,127 @@
+//! The tasks of a queue in ascending number.
+
+ghost use Rattle.std.specs.Prelude.{◌≡◌, ◌+◌, ◌∷◌, [], map, MatchOption};
+ghost use Rattle.std.specs.FinMap as finite;
+ghost use Rattle.std.specs.Iterator.{YieldsFirst, item_count};
+ghost use Rattle.eevdf_queue.specs.Ascending.{from_number, runnable_tasks, sleeping_tasks, with_lag};
+
+use crate::run_entry::Entry;
+use crate::run_queue::Queue;
+use crate::task_number::TaskId;
+use std::marker::Model;
+
+/// Goes over the runnable tasks of a queue, with their entries. Contracts see what is left.
+#[derive(Drop)]
+pub struct Runnable<'a> {
+    queue: &'a Queue,
+    next: u64,
+}
+
+impl<'a> Model for Runnable<'a> {
+    ghost use Rattle.std.specs.Prelude.{ℕ, List};
+    ghost use Rattle.eevdf_queue.specs.declared.run_entry.Entry.{Entry};
+    ghost use Rattle.eevdf_queue.specs.Ascending.{from_number, runnable_tasks};
+
+    ghost Value = { List (ℕ × Entry) };
+
+    ghost view = { λ s. from_number s.next (runnable_tasks s.queue.now.state) };
+}
+
+impl Iterator for Runnable<'_> {
+    type Item = (TaskId, Entry);
+
+    ghost next_gives = { YieldsFirst (λ s. s) };
+
+    ghost remaining = { item_count (λ s. s) };
+
+    fn next(&mut self) -> Option<(TaskId, Entry)> {
+        let (task, entry) = self.queue.runnable_from(self.next)?;
+        self.next = task.get() + 1;
+        Some((task, entry))
+    }
+}
+
+/// Goes over the sleeping tasks of a queue, with the lags that they keep. Contracts see what is left.
+#[derive(Drop)]
+pub struct Sleeping<'a> {
+    queue: &'a Queue,
+    next: u64,
+}
+
+impl<'a> Model for Sleeping<'a> {
+    ghost use Rattle.std.specs.Prelude.{ℕ, ℤ, List, map};
+    ghost use Rattle.std.specs.FinMap as finite;
+    ghost use Rattle.eevdf_queue.specs.Ascending.{from_number, with_lag};
+
+    ghost Value = { List (ℕ × ℤ) };
+
+    ghost view = { λ s. map with_lag (from_number s.next (finite.entries s.queue.now.state.asleep)) };
+}
+
+impl Iterator for Sleeping<'_> {
+    type Item = (TaskId, i64);
+
+    ghost next_gives = { YieldsFirst (λ s. s) };
+
+    ghost remaining = { item_count (λ s. s) };
+
+    fn next(&mut self) -> Option<(TaskId, i64)> {
+        let (task, lag) = self.queue.asleep_from(self.next)?;
+        self.next = task.get() + 1;
+        Some((task, lag))
+    }
+}
+
+impl Queue {
+    /// The runnable tasks with their entries, in ascending number.
+    pub fn runnable_tasks(&self) -> Runnable<'_>
+        ensures { result ≡ runnable_tasks self.now.state }
+    {
+        Runnable {
+            queue: self,
+            next: 0,
+        }
+    }
+
+    /// The sleeping tasks with the lags that they keep, in ascending number.
+    pub fn sleeping_tasks(&self) -> Sleeping<'_>
+        ensures { result ≡ sleeping_tasks self.now.state }
+    {
+        Sleeping {
+            queue: self,
+            next: 0,
+        }
+    }
+
+    /// The first runnable task from a number on, with its entry.
+    fn runnable_from(&self, first: u64) -> Option<(TaskId, Entry)>
+        ensures { MatchOption result (from_number first (runnable_tasks self.now.state) ≡ [])
+            (λ found. from_number first (runnable_tasks self.now.state)
+            ≡ found ∷ from_number (found.0 + 1) (runnable_tasks self.now.state)) }
+    {
+        self.keeps();
+        for number in first..1024 {
+            let task = TaskId::new(number)?;
+            if let Some(entry) = self.entry(task) {
+                return Some((task, entry));
+            }
+        }
+        None
+    }
+
+    /// The first sleeping task from a number on, with the lag that it keeps.
+    fn asleep_from(&self, first: u64) -> Option<(TaskId, i64)>
+        ensures { MatchOption result (from_number first (finite.entries self.now.state.asleep) ≡ [])
+            (λ found. map with_lag (from_number first (finite.entries self.now.state.asleep))
+            ≡ found ∷ map with_lag (from_number (found.0 + 1) (finite.entries self.now.state.asleep))) }
+    {
+        self.keeps();
+        for number in first..1024 {
+            let task = TaskId::new(number)?;
+            if let Some(lag) = self.kept_asleep(task) {
+                return Some((task, lag));
+            }
+        }
+        None
+    }
+}

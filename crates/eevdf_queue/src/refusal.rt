@@ -1,0 +1,49 @@
+ghost use Rattle.std.specs.Prelude.{◌≡◌};
+
+use crate::task_parcel::Parcel;
+use std::error::Error;
+use std::fmt;
+
+/// Why a queue doesn't take a task.
+#[derive(Clone, Copy, PartialEq, Eq, Debug)]
+pub enum Refusal {
+    /// The task is here already, runnable or asleep.
+    Present,
+    /// The virtual runtime or the deadline would be out of range.
+    Range,
+}
+
+/// A parcel that a queue didn't take, with the reason. The queue is as it was.
+pub struct Refused {
+    pub parcel: Parcel,
+    pub reason: Refusal,
+}
+
+impl Refusal {
+    /// What is answered with a parcel that isn't taken for this reason.
+    pub(crate) fn of(self, parcel: Parcel) -> Refused
+        ensures { result ≡ record { parcel = parcel; reason = self } }
+    {
+        Refused {
+            parcel,
+            reason: self,
+        }
+    }
+}
+
+/// One of the texts `present` and `range`.
+impl fmt::Display for Refusal {
+    ghost use Rattle.std.specs.Prelude.{Some};
+    ghost use Rattle.eevdf_queue.specs.Texts.{refusal_text};
+
+    ghost output = { λ refusal. Some (refusal_text refusal) };
+
+    fn fmt<W: fmt::Write>(&self, f: &mut fmt::Formatter<W>) -> fmt::Result {
+        match self {
+            Refusal::Present => f.write_str("present"),
+            Refusal::Range => f.write_str("range"),
+        }
+    }
+}
+
+impl Error for Refusal {}

@@ -1,0 +1,144 @@
+-- A task sleeps at its home alone, on the machines that deeds leave and while the callers work.
+use Rattle.std.proofs.Common.{◌≡◌, ℕ, Bool, true, false, cond, ◌||◌, List, [], ◌∷◌, set, refl, sym, ap, subst, ◌∙◌}
+use Rattle.std.specs.Prelude.{◌==◌, Option, Some, None, Result, Ok, Err}
+use Rattle.std.specs.Option.{unwrap_or}
+use Rattle.std.specs.FinMap.{contains_key}
+use Rattle.eevdf_queue.specs.declared.run_entry.Entry.{Entry}
+use Rattle.eevdf_queue.specs.State.{State, Contents, Sleeper}
+use Rattle.eevdf_queue.specs.Moves.{put_asleep, sleeper_of, with_runnable}
+use Rattle.eevdf_queue.specs.Leaving.{carried_running, leave, without_entry}
+use Rattle.eevdf_queue.specs.Placing.{placed_entry}
+use Rattle.eevdf_queue.specs.Wake.{wake, wake_sleeper, wake_to}
+use Rattle.eevdf_ops.specs.declared.deeds.Answer.{Answer}
+use Rattle.eevdf_ops.specs.declared.deeds.Deed.{Deed}
+use Rattle.eevdf_ops.specs.declared.deeds.Deed.TheVariants.{Tick, Pick, Yield, Sleep, Wake, Pull, Renice}
+use Rattle.eevdf_ops.specs.declared.deeds.Line.{Line}
+use Rattle.eevdf_ops.specs.Histories.{machine_told}
+use Rattle.eevdf_ops.specs.Machine.{Machine, queue_at}
+use Rattle.eevdf_ops.specs.Parts.{after_leaving, giver, only_at}
+use Rattle.eevdf_ops.specs.Programs.{deeds_of}
+use Rattle.eevdf_ops.specs.Setup.{home_of}
+use Rattle.eevdf_ops.specs.Whole.{machine_after, whole}
+use Rattle.eevdf_ops.specs.WholePull.{decision, load_of, offer, pull_decided, with_task}
+use Rattle.eevdf_ops.specs.WholeSleep.{sleep_carrying, task_leaves}
+use Rattle.eevdf_ops.proofs.Carried.{Carries, running-carries}
+use Rattle.eevdf_ops.proofs.MachinePlaces.{SleepsAtHome, each-set}
+use Rattle.eevdf_ops.proofs.MapCounts.{contains-insert, contains-removed, equal}
+use Rattle.eevdf_ops.proofs.QueuePlaces.{pick-same, renice-same, tick-same, yield-same}
+use Rattle.eevdf_steps.specs.Counters.{Counters, holder, holds}
+use Rattle.eevdf_steps.specs.Plan.{Plan, callers}
+use Rattle.eevdf_steps.specs.Serial.{FollowsHistory, IsSerial, begun_by}
+use Rattle.eevdf_steps.specs.UnderWay.{UnderWay, leaves, queue_seen}
+use Rattle.eevdf_steps.specs.Work.{Work}
+use Rattle.eevdf_steps.proofs.Ready.{least_found}
+use Rattle.eevdf_steps.proofs.SerialSteps.{free_queue}
+
+-- each sleeping task of a machine is at its home
+abbrev pub AllAtHome : List ℕ → Machine → Type 0
+AllAtHome homes m = (cpu : ℕ) → SleepsAtHome homes cpu (queue_at m cpu)
+
+-- nobody sleeps in a queue who didn't in another
+abbrev IsNoMore : State → State → Type 0
+IsNoMore q r = (task : ℕ) → contains_key r.asleep task ≡ true → contains_key q.asleep task ≡ true
+
+still : (homes : List ℕ) (cpu : ℕ) (q r : State) → IsNoMore q r → SleepsAtHome homes cpu q → SleepsAtHome homes cpu r
+still homes cpu q r less at_home task a = at_home task (less task a)
+
+wake_to_less : (q : State) (t : ℕ) (o : Option Entry) → IsNoMore q (wake_to q t o).1
+wake_to_less q t None task a = a
+wake_to_less q t (Some e) task a = contains-removed q.asleep t task a
+
+wake_sleeper_less : (q : State) (t : ℕ) (o : Option Sleeper) → IsNoMore q (wake_sleeper q t o).1
+wake_sleeper_less q t None task a = a
+wake_sleeper_less q t (Some s) task a = wake_to_less q t (placed_entry q s) task a
+
+leave_less : (q : State) (t : ℕ) (o : Option Entry) → IsNoMore q (without_entry q t o)
+leave_less q t None task a = a
+leave_less q t (Some e) task a = a
+
+joined_less : (q : State) (t : ℕ) (o : Option Entry) → IsNoMore q (unwrap_or (with_runnable q t o) q)
+joined_less q t None task a = a
+joined_less q t (Some e) task a = a
+
+fallen : (homes : List ℕ) (cpu task : ℕ) (b c : Bool) → (b ≡ true → home_of homes task ≡ cpu) → (c ≡ true → home_of homes task ≡ cpu) → (b || c) ≡ true → home_of homes task ≡ cpu
+fallen homes cpu task true c f g e = f refl
+fallen homes cpu task false c f g e = g e
+
+falls_at_home : (homes : List ℕ) (cpu : ℕ) (q : State) (p : Contents) → home_of homes p.task ≡ cpu → SleepsAtHome homes cpu q → SleepsAtHome homes cpu (put_asleep q p)
+falls_at_home homes cpu q p home at_home task a =
+    fallen homes cpu task (task == p.task) (contains_key q.asleep task)
+    (λ (same : (task == p.task) ≡ true). ap (home_of homes) (equal task p.task same) ∙ home) (at_home task)
+    (sym (contains-insert q.asleep p.task task (sleeper_of p)) ∙ a)
+
+module _ (homes : List ℕ) where
+  set_at_home : (m : Machine) (c : ℕ) (q : State) → SleepsAtHome homes c q → AllAtHome homes m → AllAtHome homes (set m c q)
+  set_at_home m c q here all = each-set (SleepsAtHome homes) m c q here all
+
+  less_at_home : (m : Machine) (c : ℕ) (r : State) → IsNoMore (queue_at m c) r → AllAtHome homes m → AllAtHome homes (set m c r)
+  less_at_home m c r less all = set_at_home m c r (still homes c (queue_at m c) r less (all c)) all
+
+  leaves_at_home : (m : Machine) (cpu t : ℕ) → AllAtHome homes m → AllAtHome homes (task_leaves m cpu t)
+  leaves_at_home m cpu t all = less_at_home m cpu (leave (queue_at m cpu) t) (leave_less (queue_at m cpu) t _) all
+
+  sleep_at_home : (m : Machine) (cpu task : ℕ) (o : Option Contents) → carried_running (queue_at m cpu) task ≡ o → AllAtHome homes m
+      → AllAtHome homes (sleep_carrying m cpu (home_of homes task) o).1
+  sleep_at_home m cpu task None e all = all
+  sleep_at_home m cpu task (Some p) e all =
+      let carries : Carries (queue_at m cpu) task p = running-carries (queue_at m cpu) task p e in
+      let left : AllAtHome homes (task_leaves m cpu p.task) = leaves_at_home m cpu p.task all in
+      let q : State = queue_at (task_leaves m cpu p.task) (home_of homes task) in
+      set_at_home (task_leaves m cpu p.task) (home_of homes task) (put_asleep q p)
+      (falls_at_home homes (home_of homes task) q p (ap (home_of homes) carries.of_task) (left (home_of homes task))) left
+
+  pull_at_home : (m : Machine) (cpu source : ℕ) (d : Result Contents Answer) → AllAtHome homes m → AllAtHome homes (pull_decided m cpu source d).1
+  pull_at_home m cpu source (Err refusal) all = all
+  pull_at_home m cpu source (Ok p) all =
+      let q : State = queue_at (task_leaves m source p.task) cpu in
+      less_at_home (task_leaves m source p.task) cpu (with_task q p) (joined_less q p.task (placed_entry q (sleeper_of p))) (leaves_at_home m source p.task all)
+
+  whole_at_home : (deed : Deed) (m : Machine) → AllAtHome homes m → AllAtHome homes (whole homes deed m).1
+  whole_at_home (Tick cpu ns) m all = less_at_home m cpu _ (tick-same (queue_at m cpu) ns).asleep all
+  whole_at_home (Pick cpu) m all = less_at_home m cpu _ (pick-same (queue_at m cpu)).asleep all
+  whole_at_home (Yield cpu) m all = less_at_home m cpu _ (yield-same (queue_at m cpu)).asleep all
+  whole_at_home (Sleep cpu task) m all = sleep_at_home m cpu task (carried_running (queue_at m cpu) task) refl all
+  whole_at_home (Wake cpu task sender) m all = less_at_home m cpu _ (wake_sleeper_less (queue_at m cpu) task _) all
+  whole_at_home (Renice cpu task nice) m all = less_at_home m cpu _ (renice-same (queue_at m cpu) task nice).asleep all
+  whole_at_home (Pull cpu source) m all = pull_at_home m cpu source (decision (queue_at m cpu) (load_of (queue_at m source)) (offer (queue_at m source))) all
+
+  after_at_home : (ds : List Deed) (m : Machine) → AllAtHome homes m → AllAtHome homes (machine_after homes m ds)
+  after_at_home [] m all = all
+  after_at_home (d ∷ ds) m all = after_at_home ds (whole homes d m).1 (whole_at_home d m all)
+
+  left_less : (q : State) (o : Option Contents) → IsNoMore q (after_leaving o q)
+  left_less q None task a = a
+  left_less q (Some p) task a = leave_less q p.task _ task a
+
+  part_less : (q : State) (o : Option Contents) (b : Bool) → IsNoMore q (cond b (after_leaving o q) q)
+  part_less q o true task a = left_less q o task a
+  part_less q o false task a = a
+
+  begun_at_home : (m : Machine) (u : UnderWay) (cpu : ℕ) (b : Bool) → AllAtHome homes m
+      → SleepsAtHome homes cpu (cond b (queue_at (whole homes u.deed m).1 cpu) (only_at (giver u.deed) cpu (after_leaving (leaves homes m u.deed)) (queue_at m cpu)))
+  begun_at_home m u cpu true all = whole_at_home u.deed m all cpu
+  begun_at_home m u cpu false all =
+      still homes cpu (queue_at m cpu) (only_at (giver u.deed) cpu (after_leaving (leaves homes m u.deed)) (queue_at m cpu))
+      (part_less (queue_at m cpu) (leaves homes m u.deed) (cpu == giver u.deed)) (all cpu)
+
+  seen_at_home : (m : Machine) (o : Option UnderWay) (cpu : ℕ) → AllAtHome homes m → SleepsAtHome homes cpu (queue_seen homes m o cpu)
+  seen_at_home m None cpu all = all cpu
+  seen_at_home m (Some u) cpu all = begun_at_home m u cpu u.done all
+
+-- a queue whose lock is held, and one whose lock is free
+at_home_by : (plan : Plan) (start : Machine) (counters : Counters) (w : Work) (lines : List Line) (cpu : ℕ) (o : Option ℕ) → holder plan counters cpu ≡ o
+    → IsSerial plan start counters w lines → AllAtHome plan.homes (machine_told plan.homes start lines) → SleepsAtHome plan.homes cpu (queue_at w.machine cpu)
+at_home_by plan start counters w lines cpu None e serial all =
+    subst (λ (q : State). SleepsAtHome plan.homes cpu q) (sym (free_queue plan start counters w lines cpu serial e)) (all cpu)
+at_home_by plan start counters w lines cpu (Some p) e serial all =
+    subst (λ (q : State). SleepsAtHome plan.homes cpu q)
+    (sym (serial.seen.held cpu p (least_found (holds plan counters cpu) 0 (callers plan) p e).passes))
+    (seen_at_home plan.homes (machine_told plan.homes start lines) (begun_by plan counters p) cpu all)
+
+pub callers_at_home : (plan : Plan) (start : Machine) (counters : Counters) (w : Work) (lines : List Line) → IsSerial plan start counters w lines → AllAtHome plan.homes start
+    → AllAtHome plan.homes w.machine
+callers_at_home plan start counters w lines serial all cpu =
+    at_home_by plan start counters w lines cpu (holder plan counters cpu) refl serial (after_at_home plan.homes (deeds_of lines) start all)

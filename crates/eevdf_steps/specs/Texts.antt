@@ -1,0 +1,29 @@
+-- The texts of micro-steps, places and faults.
+use Rattle.std.specs.Prelude.{ℕ, List, ◌++◌, codes, decimal}
+use Rattle.eevdf_steps.specs.declared.micro_steps.Micro.{Micro}
+use Rattle.eevdf_steps.specs.declared.micro_steps.Micro.TheVariants as micro
+use Rattle.eevdf_steps.specs.declared.task_place.Place.{Place}
+use Rattle.eevdf_steps.specs.declared.task_place.Place.TheVariants.{Runnable, Asleep, InHand}
+use Rattle.eevdf_steps.specs.declared.step_fault.StepFault.{StepFault}
+use Rattle.eevdf_steps.specs.declared.step_fault.StepFault.TheVariants as step
+
+abbrev pub micro_text : Micro → List ℕ
+micro_text (micro.Acquire cpu) = codes "acquire " ++ decimal cpu
+micro_text micro.Act = codes "act"
+micro_text micro.Detach = codes "detach"
+micro_text micro.Attach = codes "attach"
+micro_text micro.Commit = codes "commit"
+micro_text (micro.Take sender) = codes "take " ++ decimal sender
+micro_text (micro.Settle sender) = codes "settle " ++ decimal sender
+micro_text (micro.Release cpu) = codes "release " ++ decimal cpu
+micro_text (micro.Post task) = codes "post " ++ decimal task
+
+abbrev pub place_text : Place → List ℕ
+place_text (Runnable cpu) = codes "runnable on " ++ decimal cpu
+place_text (Asleep cpu) = codes "asleep on " ++ decimal cpu
+place_text (InHand caller) = codes "in hand of " ++ decimal caller
+
+abbrev pub step_fault_text : StepFault → List ℕ
+step_fault_text step.NoCaller = codes "no caller"
+step_fault_text step.Done = codes "done"
+step_fault_text (step.Blocked cpu holder) = codes "blocked on " ++ decimal cpu ++ codes " by " ++ decimal holder

@@ -1,0 +1,74 @@
+//! How micro-steps, places and faults print.
+
+ghost use Rattle.std.specs.Prelude.{Some};
+ghost use Rattle.eevdf_steps.specs.Texts.{micro_text, place_text, step_fault_text};
+
+use crate::micro_steps::Micro;
+use crate::play_fault::PlayFault;
+use crate::step_fault::StepFault;
+use crate::task_place::Place;
+use std::error::Error;
+use std::fmt;
+
+/// The name of the step, with the number that it has, as `acquire 3`.
+impl fmt::Display for Micro {
+    ghost output = { λ micro. Some (micro_text micro) };
+
+    fn fmt<W: fmt::Write>(&self, f: &mut fmt::Formatter<W>) -> fmt::Result {
+        match self {
+            Micro::Acquire(cpu) => write!(f, "acquire {cpu}"),
+            Micro::Act => f.write_str("act"),
+            Micro::Detach => f.write_str("detach"),
+            Micro::Attach => f.write_str("attach"),
+            Micro::Commit => f.write_str("commit"),
+            Micro::Take(sender) => write!(f, "take {sender}"),
+            Micro::Settle(sender) => write!(f, "settle {sender}"),
+            Micro::Release(cpu) => write!(f, "release {cpu}"),
+            Micro::Post(task) => write!(f, "post {task}"),
+        }
+    }
+}
+
+/// Where the task stands, as `runnable on 3`.
+impl fmt::Display for Place {
+    ghost output = { λ place. Some (place_text place) };
+
+    fn fmt<W: fmt::Write>(&self, f: &mut fmt::Formatter<W>) -> fmt::Result {
+        match self {
+            Place::Runnable(cpu) => write!(f, "runnable on {cpu}"),
+            Place::Asleep(cpu) => write!(f, "asleep on {cpu}"),
+            Place::InHand(caller) => write!(f, "in hand of {caller}"),
+        }
+    }
+}
+
+/// What refuses the step, as `blocked on 3 by 1`: the CPU of the lock, and the caller that holds it.
+impl fmt::Display for StepFault {
+    ghost output = { λ fault. Some (step_fault_text fault) };
+
+    fn fmt<W: fmt::Write>(&self, f: &mut fmt::Formatter<W>) -> fmt::Result {
+        match self {
+            StepFault::NoCaller => f.write_str("no caller"),
+            StepFault::Done => f.write_str("done"),
+            StepFault::Blocked { cpu, holder } => write!(f, "blocked on {cpu} by {holder}"),
+        }
+    }
+}
+
+impl Error for StepFault {}
+
+/// What is wrong with the order, and where, as `order at 7: done`.
+impl fmt::Display for PlayFault {
+    fn fmt<W: fmt::Write>(&self, f: &mut fmt::Formatter<W>) -> fmt::Result {
+        match self {
+            PlayFault::TooLong => f.write_str("order longer than 1000000"),
+            PlayFault::Memory => f.write_str("memory"),
+            PlayFault::NoCaller { at } => write!(f, "order at {at}: no caller"),
+            PlayFault::Done { at } => write!(f, "order at {at}: done"),
+            PlayFault::Blocked { at, cpu } => write!(f, "order at {at}: blocked on {cpu}"),
+            PlayFault::Short { caller } => write!(f, "order short at {caller}"),
+        }
+    }
+}
+
+impl Error for PlayFault {}
