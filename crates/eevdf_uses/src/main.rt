@@ -1,0 +1,79 @@
+//! Small programs that embed the library, as README prints them. Each is run, and what comes of it is printed.
+#![tactic(auto)]
+
+mod checked_input;
+mod one_queue;
+mod own_order;
+mod two_queues;
+
+use crate::checked_input::{Order, answers, two_cpus};
+use crate::one_queue::{add, one_queue};
+use crate::own_order::{last_first, pull_and_picks};
+use crate::two_queues::pull;
+use eevdf_queue::{Queue, TaskId};
+use std::io;
+use std::sync::{Mutex, Wait};
+
+fn main(rt: HostRuntime) -> io::Result<()> {
+    show_one_queue(&rt)?;
+    show_two_queues(&rt)?;
+    show_checked_input(&rt)?;
+    show_own_order(&rt)
+}
+
+fn show_one_queue(rt: &(impl Print + AllocGlobal)) -> io::Result<()> {
+    println!(rt; "one queue")?;
+    for task in one_queue(rt.alloc())?.iter() {
+        println!(rt; "{task} ran")?;
+    }
+    Ok(())
+}
+
+fn show_two_queues(rt: &(impl Print + AllocGlobal + Wait)) -> io::Result<()> {
+    println!(rt; "two queues")?;
+    let mut source = Queue::open();
+    for number in 0..3 {
+        add(rt.alloc(), &mut source, TaskId::new(number).unwrap())?;
+    }
+    let source = Mutex::new(source);
+    let puller = Mutex::new(Queue::open());
+    for _pull in 0..2 {
+        let moved = pull(rt, &puller, &source);
+        println!(rt; "{}", if moved { "a task moved" } else { "none moved" })?;
+    }
+    Ok(())
+}
+
+fn show_checked_input(rt: &(impl Print + AllocGlobal)) -> io::Result<()> {
+    println!(rt; "checked input")?;
+    let orders = [
+        Order::Run { cpu: 0 },
+        Order::Sleep { cpu: 0, task: 0 },
+        Order::Run { cpu: 7 },
+        Order::Sleep { cpu: 1, task: 9 },
+        Order::Run { cpu: 1 },
+    ];
+    let Ok(setup) = two_cpus(rt.alloc()) else {
+        return Ok(());
+    };
+    for answer in answers(rt.alloc(), &setup, &orders)?.iter() {
+        match answer {
+            Some(answer) => println!(rt; "{answer}")?,
+            None => println!(rt; "refused")?,
+        }
+    }
+    Ok(())
+}
+
+fn show_own_order(rt: &(impl Print + AllocGlobal)) -> io::Result<()> {
+    println!(rt; "own order")?;
+    let Ok(setup) = pull_and_picks(rt.alloc()) else {
+        return Ok(());
+    };
+    if let Some(outcome) = last_first(rt.alloc(), &setup, 100)? {
+        for line in outcome.history() {
+            println!(rt; "{line}")?;
+        }
+    }
+    Ok(())
+}
