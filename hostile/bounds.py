@@ -13,6 +13,9 @@ from text import Answer
 MOST_SECONDS = 2
 MOST_MEMORY = 1 << 30
 
+# The processor time that `name_numbers` takes on the machine for which the bound of time is meant.
+SECONDS_TO_NAME = 0.45
+
 # A program that goes on for so long is ended. A busy machine may need many times what the program takes.
 PATIENCE = 60
 
@@ -31,8 +34,20 @@ class Run:
         time, and with several threads its processor time is longer than its wall time."""
         return min(self.wall, self.processor)
 
-    def is_within(self):
-        return self.seconds() <= MOST_SECONDS and self.memory <= MOST_MEMORY
+    def is_within(self, slowness=1):
+        return self.seconds() <= MOST_SECONDS * slowness and self.memory <= MOST_MEMORY
+
+
+def name_numbers():
+    """A work of a known length that wants memory as the reading of a long text does."""
+    return {b"k%d" % number: number for number in range(1000000)}
+
+
+def slowness():
+    """How many times as long as the machine for which the bound is meant this one takes now, and at least 1."""
+    begun = time.process_time()
+    name_numbers()
+    return max(1.0, (time.process_time() - begun) / SECONDS_TO_NAME)
 
 
 def limit_memory():
