@@ -81,12 +81,18 @@ TASKS = (
     Text("a bad value behind a million tasks", given(EMPTY + b"task = [" + b"{}," * 1000000 + b"{nice=20}]\n"),
          fault("bad value at task 1000000 nice")),
     Text("tasks with long keys", many_tasks, tasks_at_rest()),
+    Text("a task more than there may be", given(EMPTY + b"[[task]]\n" * (MANY_TASKS + 1)), fault("number of tasks")),
 )
 
 PROGRAMS = (
     Text("programs", filled(b"[],", b"version = 1\nprogram = [", b"]" + TASK), fault("number of cpus")),
     Text("numbers in place of programs", filled(b"1,", b"version = 1\nprogram = [", b"]" + TASK), fault("bad value at program 0")),
     Text("operations", filled(b'"pick",', b"version = 1\nprogram = [[", b"]]" + TASK), fault("program 0 too long")),
+    Text("an operation more than there may be", given(programs(b"pick", OPERATIONS + 1, 1) + b"script = []" + TASK),
+         fault("program 0 too long")),
+    Text("an operation more in the second program", given(
+        b"version = 2\nscript = []\nprogram = [[], " + listed(b'"drain",', OPERATIONS + 1) + b"]" + TASK),
+         fault("program 1 too long")),
     Text("a long operation", filled(b" ", b'version = 1\nprogram = [["tick', b'5"]]' + TASK), fault("bad value at program 0 at 0")),
     Text("the longest programs, for solo", given(programs(b"pick", OPERATIONS, 64) + b"script = []" + TASK), at_rest(64)),
     Text("the longest programs, for replay", given(programs(b"pick", OPERATIONS, 64) + b"order = []" + TASK),
@@ -134,6 +140,9 @@ ORDERS = (
     Text("the longest order, which is done at once", given(b"version = 1\nprogram = [[]]\n" + order_of(PLACES) + TASK),
          fault("order at 0: done"), ("replay",)),
     Text("an order of one place more", given(b"version = 1\nprogram = [[]]\n" + order_of(PLACES + 1) + TASK),
+         fault("order longer than 1000000"), ("replay",)),
+    Text("an order of one place more, of no caller",
+         given(b"version = 1\nprogram = [[]]\norder = " + listed(b"7,", PLACES + 1) + TASK),
          fault("order longer than 1000000"), ("replay",)),
     Text("an order whose last place is none",
          given(b"version = 1\nprogram = [[]]\norder = [" + b"0," * (PLACES - 1) + b"-1]" + TASK),

@@ -1,6 +1,8 @@
 //! Which words the program takes for which command.
 
-use crate::table::{REPLAY, REPLAY_WITH_HISTORY, RUN, RUN_WITH_HISTORY, SOLO, SOLO_WITH_HISTORY};
+use crate::commands::{
+    REPLAY, REPLAY_WITH_HISTORY, RUN, RUN_WITH_HISTORY, SOLO, SOLO_WITH_HISTORY,
+};
 use eevdf_bench::{WordFault, command_of};
 use std::test::Fail;
 

@@ -1,13 +1,11 @@
-//! Tests of the crates below: worked examples as tables of what is read and what is printed, each run by the workbench's
-//! engine over memory, the texts that it reads and prints, readers and writers that fail, workloads that are damaged, limits
-//! and what is past them, every order of the steps of small workloads, worked values of single calls, of a queue and of a
-//! fleet too, drawn operations of a fleet by several threads, and programs that threads run.
+//! Tests of the crates below, by their calls: the texts that the workbench reads and prints, readers and writers that fail,
+//! limits and what is past them, every order of the steps of small workloads, worked values of single calls, of a queue and of
+//! a fleet too, drawn operations of a fleet by several threads, and programs that threads run. Workloads beside what the built
+//! program prints for them stand in `cases/`.
 #![tactic(auto)]
 
 #[cfg(test)]
 mod ample_memory;
-#[cfg(test)]
-mod bad_values;
 #[cfg(test)]
 mod broken_ends;
 #[cfg(test)]
@@ -15,7 +13,7 @@ mod calls;
 #[cfg(test)]
 mod command_words;
 #[cfg(test)]
-mod damaged_workloads;
+mod commands;
 #[cfg(test)]
 mod deed_texts;
 #[cfg(test)]
@@ -35,8 +33,6 @@ mod long_orders;
 #[cfg(test)]
 mod many_cpus;
 #[cfg(test)]
-mod nice_levels;
-#[cfg(test)]
 mod one_place;
 #[cfg(test)]
 mod one_thread_again;
@@ -49,26 +45,12 @@ mod queue_trees;
 #[cfg(test)]
 mod ready_callers;
 #[cfg(test)]
-mod refusals;
-#[cfg(test)]
-mod replays;
-#[cfg(test)]
 mod report_texts;
-#[cfg(test)]
-mod runs;
 #[cfg(test)]
 mod same_end;
 #[cfg(test)]
-mod schedules;
-#[cfg(test)]
-mod several_cpus;
-#[cfg(test)]
 mod stress;
 #[cfg(test)]
-mod table;
-#[cfg(test)]
 mod threads;
-#[cfg(test)]
-mod versions;
 #[cfg(test)]
 mod whole_machines;

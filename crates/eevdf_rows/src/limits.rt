@@ -1,10 +1,4 @@
-//! Workloads at the limits and past them: numbers, counts of members, and bytes.
+//! Deeds at the limits of their numbers and past them, and workloads of more bytes than there may be.
 
-mod counts;
-mod cpus;
 mod deeds;
 mod lengths;
-mod numbers;
-mod repeated_text;
-mod tasks;
-mod version_numbers;

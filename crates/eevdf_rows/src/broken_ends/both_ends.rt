@@ -8,7 +8,7 @@ use super::piece_reader::PieceReader;
 use super::piece_writer::PieceWriter;
 use super::pieces::Pieces;
 use super::workloads::ROWS;
-use crate::table::SOLO;
+use crate::commands::SOLO;
 use eevdf_bench::{BenchFault, Key, LoadFault};
 use std::alloc::Global;
 use std::io::ErrorKind;

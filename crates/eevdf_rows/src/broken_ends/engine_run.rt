@@ -2,7 +2,7 @@
 
 use super::piece_reader::PieceReader;
 use super::piece_writer::PieceWriter;
-use crate::table::Row;
+use super::workloads::Row;
 use eevdf_bench::{BenchFault, Command, Watched, engine, fault_text, status_of};
 use std::alloc::{AllocError, Global};
 use std::process::Abort;

@@ -1,6 +1,6 @@
 //! Deeds whose numbers are at their ends or past them, where the setup has as many CPUs as the version allows.
 
-use crate::table::{SOLO, run};
+use crate::commands::{SOLO, run};
 use eevdf_bench::Version;
 use std::alloc::{AllocError, Global};
 use std::process::Abort;

@@ -1,9 +1,7 @@
-//! Workloads of as many bytes as there may be, and of more.
+//! Workloads of more bytes than there may be.
 
-use crate::schedules;
-use crate::table::{SOLO, run};
+use crate::commands::SOLO;
 use eevdf_bench::{BenchFault, LoadFault, Watched, engine, read_workload};
-use std::alloc::{AllocError, Global};
 use std::io;
 use std::io::Read;
 use std::test::Fail;
@@ -11,43 +9,10 @@ use std::test::Fail;
 /// So many bytes a workload may have.
 const MOST: usize = 16_777_216;
 
-/// A text with newlines behind it, of so many bytes in all.
-fn padded(alloc: Global, text: &[u8], bytes: usize) -> Result<Vec<u8>, AllocError> {
-    let mut padded = Vec::from_slice(alloc, text)?;
-    padded.resize(bytes, b'\n')?;
-    Ok(padded)
-}
-
-#[test]
-fn a_report_is_made_of_the_longest_workload(rt: HostRuntime) -> Result<(), Fail> {
-    let alloc = rt.alloc();
-    let row = &schedules::ROWS[0];
-    let longest = padded(alloc, row.workload, MOST)?;
-    let (printed, status) = run(&rt, alloc, &longest, row.command)?;
-    assert!(rt; printed.as_slice() == row.printed.as_bytes());
-    assert!(rt; status == 0);
-    let longer = padded(alloc, row.workload, MOST + 1)?;
-    let (printed, status) = run(&rt, alloc, &longer, row.command)?;
-    assert!(rt; printed.as_slice() == b"fault: workload longer than 16777216 bytes\n".as_slice());
-    assert!(rt; status == 1);
-    Ok(())
-}
-
-#[test]
-fn newlines_alone_are_too_many_or_no_workload(rt: HostRuntime) -> Result<(), Fail> {
-    let alloc = rt.alloc();
-    let (printed, status) = run(&rt, alloc, &padded(alloc, b"", MOST)?, SOLO)?;
-    assert!(rt; printed.as_slice() == b"fault: missing version\n".as_slice());
-    assert!(rt; status == 1);
-    let (printed, status) = run(&rt, alloc, &padded(alloc, b"", MOST + 1)?, SOLO)?;
-    assert!(rt; printed.as_slice() == b"fault: workload longer than 16777216 bytes\n".as_slice());
-    assert!(rt; status == 1);
-    Ok(())
-}
-
 #[test]
 fn a_longer_workload_is_refused_by_the_call(rt: HostRuntime) -> Result<(), Fail> {
-    let longer = padded(rt.alloc(), b"", MOST + 1)?;
+    let mut longer = Vec::new(rt.alloc());
+    longer.resize(MOST + 1, b'\n')?;
     let fault = read_workload(rt.alloc(), &longer).err().ok_or("fault")?;
     assert!(rt; fault == LoadFault::TooLarge);
     Ok(())

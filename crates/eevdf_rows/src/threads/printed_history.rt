@@ -1,7 +1,7 @@
 //! The history that a run of the programs prints, put back into their workload as a script of one thread.
 
 use super::workload_text::WorkloadText;
-use crate::table::{RUN_WITH_HISTORY, SOLO, run};
+use crate::commands::{RUN_WITH_HISTORY, SOLO, run};
 use std::alloc::{AllocError, Global};
 use std::process::Abort;
 use std::str;

@@ -1,0 +1,119 @@
+#!/usr/bin/env python3
+"""check.py [WORD..]: sends workloads to the built program `eevdf`, and looks whether each prints what stands in the file beside it;
+with words only those whose path has one of them. The last line is 'N passed, M failed'."""
+
+import re
+import subprocess
+import sys
+from pathlib import Path
+
+CASES = Path(__file__).resolve().parent
+TOP = CASES.parent
+PROGRAM = TOP / "crates/eevdf/out/eevdf"
+
+# A program that runs for so many seconds is ended, and has failed.
+PATIENCE = 60
+
+# What is cut short and damaged, byte by byte.
+DAMAGED = (TOP / "examples/two-tasks.toml", CASES / "orders/the-first-of-two-posts-wakes-the-task.toml")
+# Bytes that are put in the place of each one: what ends a text, a line or a string, what begins a number or an array, and two
+# that aren't UTF-8 there.
+BYTES = (b"\0", b"\n", b'"', b"9", b"-", b"[", b"]", b"\\", b"\xc3", b"\xff")
+
+# Orders in which caller 0 comes last.
+ORDERED = (CASES / "orders/the-first-of-two-posts-wakes-the-task.toml",
+           CASES / "orders/a-pull-before-two-picks-with-its-history.toml")
+
+
+def words_of(workload):
+    """The words of the command, which stand in the workload's first line: '# eevdf solo'."""
+    return workload.partition(b"\n")[0].decode().split()[2:]
+
+
+def run(words, workload):
+    """What the program prints for a workload, and as its last line the status."""
+    ran = subprocess.run([PROGRAM, *words], input=workload, stdout=subprocess.PIPE, stderr=subprocess.STDOUT, timeout=PATIENCE)
+    return ran.stdout + b"status %d\n" % ran.returncode
+
+
+class Checks:
+    """Counts what is as it should be and what isn't."""
+
+    def __init__(self):
+        self.passed = self.failed = 0
+
+    def look(self, name, printed, is_right):
+        if is_right:
+            self.passed += 1
+        else:
+            self.failed += 1
+            print(f"FAILED: {name}: {printed.decode(errors='replace')}", flush=True)
+
+    def compare(self, name, words, workload, wanted):
+        printed = run(words, workload)
+        self.look(name, printed, printed == wanted)
+
+
+def is_of_both_versions(path, workload, wanted):
+    """Reports are alike in both versions, and so are the bounds of the numbers that numbers/ has."""
+    return b"\nversion = 1\n" in workload and (wanted.endswith(b"status 0\n") or path.parent.name == "numbers")
+
+
+def check_pair(checks, path):
+    workload, wanted = path.read_bytes(), path.with_suffix(".out").read_bytes()
+    checks.compare(path.relative_to(TOP), words_of(workload), workload, wanted)
+    if is_of_both_versions(path, workload, wanted):
+        second = workload.replace(b"\nversion = 1\n", b"\nversion = 2\n")
+        checks.compare(f"{path.relative_to(TOP)} in version 2", words_of(workload), second, wanted)
+
+
+def is_report_or_refusal(printed):
+    if printed.endswith(b"status 0\n"):
+        return printed.startswith(b"cpu 0\n")
+    return bool(re.fullmatch(rb"fault: [^\n]*\nstatus 1\n", printed))
+
+
+def check_damaged(checks, path):
+    """Each beginning of a workload, and each that differs from it in one byte, comes to a report or to a refusal."""
+    workload = path.read_bytes()
+    words = words_of(workload)
+    body = workload.index(b"version")
+    printed = {}
+    for place in range(body, len(workload)):
+        printed[f"cut at {place}"] = run(words, workload[:place])
+        for byte in BYTES:
+            printed[f"{byte} at {place}"] = run(words, workload[:place] + byte + workload[place + 1:])
+    wrong = [name for name, text in printed.items() if not is_report_or_refusal(text)]
+    name = f"{path.relative_to(TOP)}, damaged in {len(printed)} ways"
+    checks.look(name, ", ".join(wrong).encode(), not wrong)
+
+
+def check_beginnings(checks, path):
+    """Every beginning of an order is short at the caller that comes last."""
+    workload = path.read_bytes()
+    order = re.search(rb"order = \[(.*?)\]", workload)
+    places = order[1].split(b",")
+    for length in range(len(places)):
+        begun = workload[:order.start(1)] + b",".join(places[:length]) + workload[order.end(1):]
+        name = f"{path.relative_to(TOP)}, {length} places"
+        checks.compare(name, words_of(workload), begun, b"fault: order short at 0\nstatus 1\n")
+
+
+def main():
+    paths = sorted([*TOP.glob("examples/*.toml"), *CASES.glob("*/*.toml")])
+    words = sys.argv[1:]
+    checks = Checks()
+    for path in paths:
+        if not words or any(word in str(path.relative_to(TOP)) for word in words):
+            check_pair(checks, path)
+    if not words:
+        for path in DAMAGED:
+            check_damaged(checks, path)
+        for path in ORDERED:
+            check_beginnings(checks, path)
+    print(f"{checks.passed} passed, {checks.failed} failed")
+    return 0 if checks.failed == 0 else 1
+
+
+if __name__ == "__main__":
+    sys.exit(main())
