@@ -6,8 +6,7 @@
 set -eu
 cd "$(dirname "$0")/.."
 program=$PWD/crates/fleet_bench/out/fleet_bench
-[ -x "$program" ] || (cd crates/fleet_bench && rt run -- fleet 1 1 1 own 1 >/dev/null 2>&1) ||
-  { echo "memory.sh: the build failed" >&2; exit 3; }
+./launch fleet_bench fleet 1 1 1 own 1 >/dev/null
 
 # How often the program asks for memory with so many tasks.
 requests() {

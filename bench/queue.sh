@@ -12,16 +12,7 @@ sizes=(1 8 64 256 1024)
 mixes=("$@")
 [ $# -gt 0 ] || mixes=(pick tick-pick sleep-pick-wake yield-pick pull tick-sleep-pick-wake renice)
 
-is_current() {
-  [ -x "$program" ] && [ -z "$(find crates.txt crates/eevdf_weight crates/eevdf_queue crates/queue_bench \
-    -name out -prune -o -type f \( -name '*.rt' -o -name '*.antt' -o -name crates.txt \) -newer "$program" \
-    -print -quit)" ]
-}
-
-if ! is_current; then
-  (cd crates/queue_bench && rt run -- pick 1 1 >/dev/null 2>&1) || { echo "queue.sh: the build failed" >&2; exit 3; }
-  touch "$program"
-fi
+./launch queue_bench pick 1 1 >/dev/null
 
 profile=$(mktemp)
 trap 'rm -f "$profile"' EXIT

@@ -12,11 +12,7 @@ steps=1000000
 
 workload=$(mktemp)
 trap 'rm -f "$workload" "$workload.ordered" "$workload.time" "$workload.report" "$workload.refused"' EXIT
-awk -v tasks="$tasks" -v cpus="$cpus" -v steps="$steps" '
-function random(n) {
-  draw = (draw * 1103515245 + 12345) % 2147483648
-  return int(draw / 256) % n
-}
+awk -v tasks="$tasks" -v cpus="$cpus" -v steps="$steps" -f bench/mixed_tasks.awk -f /dev/stdin >"$workload" <<'EOF'
 # an operation of a CPU, and how many steps it has
 function operation(c,    kind, home, t) {
   kind = random(100)
@@ -42,12 +38,7 @@ function operation(c,    kind, home, t) {
   return "drain"
 }
 BEGIN {
-  draw = 12345
-  for (t = 0; t < tasks; t++) {
-    nice[t] = random(40) - 20
-    # heavy tasks run most, so these are the ones that are told to sleep
-    if (nice[t] < -15 || t < cpus) heavy[t % cpus, count[t % cpus]++] = t
-  }
+  draw_levels(tasks, cpus)
   print "version = 1"
   print "program = ["
   for (c = 0; c < cpus; c++) {
@@ -63,14 +54,9 @@ BEGIN {
     print "],"
   }
   print "]"
-  for (t = 0; t < tasks; t++) {
-    print "[[task]]"
-    print "home = " (t % cpus)
-    print "nice = " nice[t]
-    print "slice = " (100000 + random(9900000))
-    if (random(8) == 0) print "asleep = true"
-  }
-}' >"$workload"
+  print_tasks(tasks, cpus)
+}
+EOF
 
 ./eevdf_orders --seed "$seed" <"$workload" >"$workload.ordered"
 ./eevdf solo <examples/two-tasks.toml >/dev/null

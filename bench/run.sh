@@ -12,11 +12,7 @@ tasks=1024
 
 workload=$(mktemp)
 trap 'rm -f "$workload" "$workload".*' EXIT
-awk -v tasks="$tasks" -v cpus="$cpus" -v operations="$operations" '
-function random(n) {
-  draw = (draw * 1103515245 + 12345) % 2147483648
-  return int(draw / 256) % n
-}
+awk -v tasks="$tasks" -v cpus="$cpus" -v operations="$operations" -f bench/mixed_tasks.awk -f /dev/stdin >"$workload" <<'EOF'
 # an operation of a CPU
 function operation(c,    kind) {
   kind = random(100)
@@ -29,12 +25,7 @@ function operation(c,    kind) {
   return "drain"
 }
 BEGIN {
-  draw = 12345
-  for (t = 0; t < tasks; t++) {
-    nice[t] = random(40) - 20
-    # heavy tasks run most, so these are the ones that are told to sleep and to wake
-    if (nice[t] < -15 || t < cpus) heavy[t % cpus, count[t % cpus]++] = t
-  }
+  draw_levels(tasks, cpus)
   print "version = 2"
   print "program = ["
   for (c = 0; c < cpus; c++) {
@@ -43,14 +34,9 @@ BEGIN {
     print "],"
   }
   print "]"
-  for (t = 0; t < tasks; t++) {
-    print "[[task]]"
-    print "home = " (t % cpus)
-    print "nice = " nice[t]
-    print "slice = " (100000 + random(9900000))
-    if (random(8) == 0) print "asleep = true"
-  }
-}' >"$workload"
+  print_tasks(tasks, cpus)
+}
+EOF
 
 ./eevdf solo <examples/two-tasks.toml >/dev/null
 program=crates/eevdf/out/eevdf

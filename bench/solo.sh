@@ -12,23 +12,14 @@ cpus=${3:-16}
 
 workload=$(mktemp)
 trap 'rm -f "$workload" "$workload.time" "$workload.report" "$workload.refused"' EXIT
-awk -v tasks="$tasks" -v deeds="$deeds" -v cpus="$cpus" '
-function random(n) {
-  seed = (seed * 1103515245 + 12345) % 2147483648
-  return int(seed / 256) % n
-}
+awk -v tasks="$tasks" -v deeds="$deeds" -v cpus="$cpus" -f bench/mixed_tasks.awk -f /dev/stdin >"$workload" <<'EOF'
 # a task whose home is this CPU
 function at_home(c) {
   return c + cpus * random(int((tasks - 1 - c) / cpus) + 1)
 }
 BEGIN {
-  seed = 12345
+  draw_levels(tasks, cpus)
   version = (cpus > 16 || deeds > 160000) ? 2 : 1
-  for (t = 0; t < tasks; t++) {
-    nice[t] = random(40) - 20
-    # heavy tasks run most, so these are the ones that are told to sleep and to wake
-    if (nice[t] < -15 || t < cpus) heavy[t % cpus, count[t % cpus]++] = t
-  }
   print "version = " version
   printf "program = ["
   for (c = 0; c < cpus; c++) printf "%s[]", (c ? ", " : "")
@@ -47,14 +38,9 @@ BEGIN {
     print "\"" c " " deed "\","
   }
   print "]"
-  for (t = 0; t < tasks; t++) {
-    print "[[task]]"
-    print "home = " (t % cpus)
-    print "nice = " nice[t]
-    print "slice = " (100000 + random(9900000))
-    if (random(8) == 0) print "asleep = true"
-  }
-}' >"$workload"
+  print_tasks(tasks, cpus)
+}
+EOF
 
 ./eevdf solo <examples/two-tasks.toml >/dev/null
 program=crates/eevdf/out/eevdf

@@ -23,17 +23,7 @@ threads=(1 2 4)
 mixes=("$@")
 [ $# -gt 0 ] || mixes=(own wakes pulls)
 
-is_current() {
-  [ -x "$program" ] && [ -z "$(find crates.txt crates/eevdf_weight crates/eevdf_queue crates/eevdf_ops crates/eevdf_fleet \
-    crates/fleet_bench -name out -prune -o -type f \( -name '*.rt' -o -name '*.antt' -o -name crates.txt \) \
-    -newer "$program" -print -quit)" ]
-}
-
-if ! is_current; then
-  (cd crates/fleet_bench && rt run -- fleet 1 1 1 own 1 >/dev/null 2>&1) ||
-    { echo "threads.sh: the build failed" >&2; exit 3; }
-  touch "$program"
-fi
+./launch fleet_bench fleet 1 1 1 own 1 >/dev/null
 
 profile=$(mktemp)
 trap 'rm -f "$profile"' EXIT
