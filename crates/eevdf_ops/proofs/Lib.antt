@@ -2,6 +2,7 @@ pub mod Charges
 pub mod SetupFaults
 pub mod Starting
 pub mod Machines
+pub mod PickDescents
 pub mod MapCounts
 pub mod QueuePlaces
 pub mod MachinePlaces

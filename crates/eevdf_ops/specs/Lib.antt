@@ -8,6 +8,7 @@ pub mod WholePull
 pub mod PullOffer
 pub mod Whole
 pub mod Places
+pub mod PickTurns
 pub mod Outcome
 pub mod Laws
 pub mod Parts

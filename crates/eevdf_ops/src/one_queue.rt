@@ -4,6 +4,7 @@ ghost use Rattle.std.specs.Prelude.{◌≡◌, ◌<◌, length, slice_set};
 ghost use Rattle.eevdf_ops.specs.Machine.{queue_at};
 ghost use Rattle.eevdf_ops.specs.Outcome.{machine_of};
 ghost use Rattle.eevdf_ops.specs.OneQueue as whole;
+ghost use Rattle.eevdf_ops.specs.PickTurns.{ArePickTurns, turns_at};
 
 use crate::cpu_number::CpuId;
 use crate::deeds::Answer;
@@ -28,6 +29,7 @@ pub fn pick(queues: &mut [Queue], cpu: CpuId) -> Answer
     ensures answer { result ≡ (whole.one_pick (queue_at (machine_of queues.old) cpu)).0 }
     ensures machine { machine_of queues.new ≡ slice_set (machine_of queues.old) cpu
         (whole.one_pick (queue_at (machine_of queues.old) cpu)).1 }
+    ensures turns { ArePickTurns (queue_at (machine_of queues.old) cpu) (turns_at queues.new cpu) }
 {
     let queue = &mut queues[cpu.get() as usize];
     queue_deeds::pick(queue)

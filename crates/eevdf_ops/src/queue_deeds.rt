@@ -2,6 +2,7 @@
 
 ghost use Rattle.std.specs.Prelude.{◌≡◌};
 ghost use Rattle.eevdf_ops.specs.OneQueue as whole;
+ghost use Rattle.eevdf_ops.specs.PickTurns.{ArePickTurns};
 
 use crate::deeds::Answer;
 use eevdf_queue::{Queue, TaskId};
@@ -19,6 +20,7 @@ pub fn tick(queue: &mut Queue, ns: Ns) -> Answer
 pub fn pick(queue: &mut Queue) -> Answer
     ensures answer { result ≡ (whole.one_pick queue.old.state).0 }
     ensures after { queue.new.state ≡ (whole.one_pick queue.old.state).1 }
+    ensures turns { ArePickTurns queue.old.state queue.new.turns }
 {
     answer_of_pick(queue.pick())
 }

@@ -2,6 +2,7 @@ ghost use Rattle.std.specs.Prelude.{◌≡◌, ◌<◌, ◌↔◌, nat_lt, lengt
 ghost use Rattle.eevdf_ops.specs.Setup.{cpus_of, homes_of, is_allowed, is_at_home, is_task};
 ghost use Rattle.eevdf_ops.specs.Machine as machine;
 ghost use Rattle.eevdf_ops.specs.Outcome.{machine_of};
+ghost use Rattle.eevdf_ops.specs.PickTurns.{HasPickTurns};
 ghost use Rattle.eevdf_ops.specs.Places.{IsPlaced};
 ghost use Rattle.eevdf_ops.specs.Whole as operation;
 
@@ -52,11 +53,12 @@ impl Solo {
         Ok(Solo { homes, queues })
     }
 
-    /// Does a deed at once, and answers it. It takes no memory.
+    /// Does a deed at once, and answers it. It takes no memory. A pick takes no more turns than `Queue::pick` says.
     pub fn apply(&mut self, deed: Deed) -> Answer
         requires { is_allowed (length self.old.queues) self.old.homes deed ≡ true }
         ensures answer { result ≡ (operation.whole self.old.homes deed (machine_of self.old.queues)).0 }
         ensures machine { machine_of self.new.queues ≡ (operation.whole self.old.homes deed (machine_of self.old.queues)).1 }
+        ensures turns { HasPickTurns (machine_of self.old.queues) deed self.new.queues }
         ensures homes { self.new.homes ≡ self.old.homes }
         ensures cpus { length self.new.queues ≡ length self.old.queues }
     {
@@ -69,6 +71,7 @@ impl Solo {
         ensures unchanged { IfNone result (self.new ≡ self.old) }
         ensures answer { IfSome result (λ answer. answer ≡ (operation.whole self.old.homes deed (machine_of self.old.queues)).0) }
         ensures machine { OnSome result (machine_of self.new.queues ≡ (operation.whole self.old.homes deed (machine_of self.old.queues)).1) }
+        ensures turns { OnSome result (HasPickTurns (machine_of self.old.queues) deed self.new.queues) }
         ensures homes { self.new.homes ≡ self.old.homes }
         ensures cpus { length self.new.queues ≡ length self.old.queues }
     {

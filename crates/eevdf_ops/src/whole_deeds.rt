@@ -2,6 +2,7 @@
 
 ghost use Rattle.std.specs.Prelude.{◌≡◌, length, true};
 ghost use Rattle.eevdf_ops.specs.Outcome.{machine_of};
+ghost use Rattle.eevdf_ops.specs.PickTurns.{HasPickTurns};
 ghost use Rattle.eevdf_ops.specs.Places.{AreCpus, IsPlaced};
 ghost use Rattle.eevdf_ops.specs.Setup.{is_allowed};
 ghost use Rattle.eevdf_ops.specs.Whole as operation;
@@ -20,6 +21,7 @@ pub(crate) fn whole(homes: &[CpuId], deed: Deed, queues: &mut [Queue]) -> Answer
     requires placed { IsPlaced homes.now (machine_of queues.old) }
     ensures answer { result ≡ (operation.whole homes.now deed (machine_of queues.old)).0 }
     ensures machine { machine_of queues.new ≡ (operation.whole homes.now deed (machine_of queues.old)).1 }
+    ensures turns { HasPickTurns (machine_of queues.old) deed queues.new }
 {
     match deed {
         Deed::Tick { cpu, ns } => tick(queues, cpu, ns),
