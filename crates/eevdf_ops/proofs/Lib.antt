@@ -8,6 +8,7 @@ pub mod QueuePlaces
 pub mod MachinePlaces
 pub mod Carried
 pub mod Pulling
+pub mod AllowedDeeds
 pub mod DeedNames
 pub mod WholePlaces
 pub mod StartingPlaces

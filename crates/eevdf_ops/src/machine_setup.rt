@@ -125,20 +125,19 @@ impl Setup {
 
     /// Whether the setup has the CPU, the task, the sender and the source that a deed names, a wake is at the
     /// task's home, and a pull is from another CPU.
+    #[tactic(auto, using(crate::proofs::AllowedDeeds::allowed_by_parts))]
     pub fn allows(&self, deed: &Deed) -> bool
         ensures { result ≡ setup.allows self.now deed.now }
     {
+        deed.is_within(self.cpus(), self.tasks()) && self.wakes_at_home(deed)
+    }
+
+    fn wakes_at_home(&self, deed: &Deed) -> bool
+        ensures { result ≡ setup.wakes_at_home (setup.homes_of self.now) deed.now }
+    {
         match *deed {
-            Deed::Tick { cpu, .. } | Deed::Pick { cpu } | Deed::Yield { cpu } => self.has_cpu(cpu),
-            Deed::Sleep { cpu, task } | Deed::Renice { cpu, task, .. } => {
-                self.has_cpu(cpu) && self.has_task(task)
-            }
-            Deed::Wake { cpu, task, sender } => {
-                self.has_cpu(cpu) && self.has_cpu(sender) && self.is_at_home(task, cpu)
-            }
-            Deed::Pull { cpu, source } => {
-                self.has_cpu(cpu) && self.has_cpu(source) && source.get() != cpu.get()
-            }
+            Deed::Wake { cpu, task, .. } => self.is_at_home(task, cpu),
+            _ => true,
         }
     }
 

@@ -1,5 +1,5 @@
 ghost use Rattle.std.specs.Prelude.{◌≡◌, ◌<◌, ◌↔◌, nat_lt, length, true, false, IfOk, IfSome, IfNone, IsNone, OnSome, slice_index_or};
-ghost use Rattle.eevdf_ops.specs.Setup.{cpus_of, homes_of, is_allowed, is_at_home, is_task};
+ghost use Rattle.eevdf_ops.specs.Setup.{cpus_of, homes_of, is_allowed, is_at_home, is_task, wakes_at_home};
 ghost use Rattle.eevdf_ops.specs.Machine as machine;
 ghost use Rattle.eevdf_ops.specs.Outcome.{machine_of};
 ghost use Rattle.eevdf_ops.specs.PickTurns.{HasPickTurns};
@@ -84,20 +84,19 @@ impl Solo {
 
     /// Whether the machine has the CPU, the task, the sender and the source that a deed names, a wake is at the task's
     /// home, and a pull is from another CPU: the condition of `apply`.
+    #[tactic(auto, using(crate::proofs::AllowedDeeds::allowed_by_parts))]
     pub fn allows(&self, deed: &Deed) -> bool
         ensures { result ≡ is_allowed (length self.now.queues) self.now.homes deed.now }
     {
+        deed.is_within(self.queues.len(), self.homes.len()) && self.wakes_at_home(deed)
+    }
+
+    fn wakes_at_home(&self, deed: &Deed) -> bool
+        ensures { result ≡ wakes_at_home self.now.homes deed.now }
+    {
         match *deed {
-            Deed::Tick { cpu, .. } | Deed::Pick { cpu } | Deed::Yield { cpu } => self.has_cpu(cpu),
-            Deed::Sleep { cpu, task } | Deed::Renice { cpu, task, .. } => {
-                self.has_cpu(cpu) && self.has_task(task)
-            }
-            Deed::Wake { cpu, task, sender } => {
-                self.has_cpu(cpu) && self.has_cpu(sender) && self.is_at_home(task, cpu)
-            }
-            Deed::Pull { cpu, source } => {
-                self.has_cpu(cpu) && self.has_cpu(source) && source.get() != cpu.get()
-            }
+            Deed::Wake { cpu, task, .. } => self.is_at_home(task, cpu),
+            _ => true,
         }
     }
 
