@@ -1,3 +1,3 @@
 mod ByNumber
-mod QueueLines
+mod FoundEntries
 mod ScheduleLines

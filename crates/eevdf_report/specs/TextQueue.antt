@@ -1,5 +1,5 @@
 -- The texts of one queue's tasks.
-use Rattle.std.specs.Prelude.{ℕ, ℤ, Bool, true, false, List, [], ◌++◌, codes, decimal, Option, Some, None}
+use Rattle.std.specs.Prelude.{ℕ, ℤ, Bool, true, false, List, [], ◌++◌, codes, decimal}
 use Rattle.std.specs.Fmt.{signed_decimal}
 use Rattle.std.specs.List.{flat_map}
 use Rattle.std.specs.FinMap as finite
@@ -31,11 +31,6 @@ task_line task e lag runs = as_line (task_text task ++ times_text e.v e.d ++ lag
 abbrev pub asleep_line : ℕ → ℤ → List ℕ
 asleep_line task lag = as_line (codes "asleep " ++ decimal task ++ lag_text lag)
 
--- the text of a number's entry, where it has one
-abbrev pub text_at : {X : Type 0} → (ℕ × X → List ℕ) → ℕ → Option X → List ℕ
-text_at f number None = []
-text_at f number (Some x) = f (number, x)
-
 -- one runnable task, with the lag that it would keep
 abbrev pub runnable_line : State → ℕ × Entry → List ℕ
 runnable_line q a = task_line a.0 a.1 (kept_lag q a.1) (is_running q.running a.0)
@@ -55,11 +50,3 @@ asleep_lines q = flat_map sleeper_line (finite.entries q.asleep)
 -- the load, the virtual time and the tasks
 abbrev pub queue_text : State → List ℕ
 queue_text q = load_line (total_weight q.runnable) (virtual_time q) ++ task_lines q ++ asleep_lines q
-
--- the line of a number, where its task is runnable
-abbrev pub task_at : State → ℕ → List ℕ
-task_at q number = text_at (runnable_line q) number (finite.get q.runnable number)
-
--- the line of a number, where its task sleeps
-abbrev pub asleep_at : State → ℕ → List ℕ
-asleep_at q number = text_at sleeper_line number (finite.get q.asleep number)

@@ -1,14 +1,13 @@
-use Rattle.std.proofs.Common.{◌≡◌, List, ℕ, ◌++◌, ap, ◌∙◌, arith}
-use Rattle.eevdf_report.specs.TextQueue.{asleep_at}
-use Rattle.eevdf_report.proofs.ByNumber.{text_more}
-use Rattle.eevdf_report.proofs.QueueLines.{all_asleep}
+use Rattle.std.proofs.Common.{ℕ, ℤ, List, ◌++◌, ap, ◌∙◌}
+use Rattle.std.specs.List.{flat_map}
+use Rattle.std.specs.FinMap as finite
+use Rattle.std.proofs.lemmas.List.Folds.{flat_map-map}
+use Rattle.eevdf_queue.specs.Ascending.{with_lag}
+use Rattle.eevdf_report.specs.TextQueue.{asleep_line}
 use Rattle.eevdf_report.proofs.text_queue.push_asleep_lines.Goals as goal
 
-pub loop-number-preserved : goal.loop-number-preserved
-loop-number-preserved c =
-    text_more (asleep_at c.args.queue.now.state) c.loop-number.number c.args.text.now.items c.loop-number.text.items _ c.loop-number.invariant c.in_ok-push_asleep_at.ensures
-
-pub returns : goal.returns
-returns c =
-    let end : c.loop-number.number ≡ 1024 = omega arith in
-    c.loop-number.invariant ∙ ap (λ (t : List ℕ). c.args.text.now.items ++ t) (all_asleep c.args.queue.now.state c.loop-number.number end c.every_queue.ensures)
+pub loop-task-init : goal.loop-task-init
+loop-task-init c =
+    let line : ℕ × ℤ → List ℕ = λ a. asleep_line a.0 a.1 in
+    ap (λ (es : List (ℕ × ℤ)). c.args.text.now.items ++ flat_map line es) (c.into_iter-task-iterator.ensures.into_iter_gives ∙ c.sleeping_tasks-task-items.ensures)
+    ∙ ap (λ (t : List ℕ). c.args.text.now.items ++ t) (flat_map-map line with_lag (finite.entries c.args.queue.now.state.asleep))

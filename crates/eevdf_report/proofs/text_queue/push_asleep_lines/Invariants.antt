@@ -1,7 +1,7 @@
-use Rattle.std.proofs.Common.{◌≡◌, ◌++◌}
-use Rattle.std.specs.List.{flat_map, range_with_len}
-use Rattle.eevdf_report.specs.TextQueue.{asleep_at}
+use Rattle.std.proofs.Common.{◌≡◌, ℕ, ℤ, ◌++◌}
+use Rattle.std.specs.List.{flat_map}
+use Rattle.eevdf_report.specs.TextQueue.{asleep_line, asleep_lines}
 use Rattle.eevdf_report.proofs.text_queue.push_asleep_lines.Given as goal
 
-abbrev pub invariant-loop-number : goal.invariant-loop-number
-invariant-loop-number l = l.text.items ≡ l.initial.text.items ++ flat_map (asleep_at l.queue.state) (range_with_len 0 l.number)
+abbrev pub invariant-loop-task : goal.invariant-loop-task
+invariant-loop-task l = l.text.items ++ flat_map (λ (a : ℕ × ℤ). asleep_line a.0 a.1) l.task-iterator ≡ l.initial.text.items ++ asleep_lines l.queue.state

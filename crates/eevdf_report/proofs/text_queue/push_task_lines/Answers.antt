@@ -1,14 +1,16 @@
-use Rattle.std.proofs.Common.{◌≡◌, List, ℕ, ◌++◌, ap, ◌∙◌, arith}
-use Rattle.eevdf_report.specs.TextQueue.{task_at}
-use Rattle.eevdf_report.proofs.ByNumber.{text_more}
-use Rattle.eevdf_report.proofs.QueueLines.{all_tasks}
+use Rattle.std.proofs.Common.{◌≡◌, ℕ, List, ◌++◌, sym, ap, subst, ◌∙◌}
+use Rattle.std.specs.List.{flat_map}
+use Rattle.std.specs.FinMap as finite
+use Rattle.eevdf_queue.specs.declared.run_entry.Entry.{Entry}
+use Rattle.eevdf_report.specs.TextQueue.{runnable_line}
+use Rattle.eevdf_report.proofs.FoundEntries.{AreFound, entries_found}
 use Rattle.eevdf_report.proofs.text_queue.push_task_lines.Goals as goal
 
-pub loop-number-preserved : goal.loop-number-preserved
-loop-number-preserved c =
-    text_more (task_at c.args.queue.now.state) c.loop-number.number c.args.text.now.items c.loop-number.text.items _ c.loop-number.invariant c.in_ok-push_task_at.ensures
-
-pub returns : goal.returns
-returns c =
-    let end : c.loop-number.number ≡ 1024 = omega arith in
-    c.loop-number.invariant ∙ ap (λ (t : List ℕ). c.args.text.now.items ++ t) (all_tasks c.args.queue.now.state c.loop-number.number end c.every_queue.ensures)
+pub loop-task-init : goal.loop-task-init
+loop-task-init c =
+    let tasks : c.into_iter-task-iterator.result ≡ finite.entries c.args.queue.now.state.runnable =
+    c.into_iter-task-iterator.ensures.into_iter_gives ∙ c.runnable_tasks-task-items.ensures in
+    record {
+      found = subst (AreFound (finite.get c.args.queue.now.state.runnable)) (sym tasks) (entries_found c.args.queue.now.state.runnable);
+      text = ap (λ (es : List (ℕ × Entry)). c.args.text.now.items ++ flat_map (runnable_line c.args.queue.now.state) es) tasks;
+    }
