@@ -51,6 +51,17 @@ impl Nice {
     }
 }
 
+/// The level 0, of weight 1024.
+impl Default for Nice {
+    ghost use Rattle.std.specs.Prelude.{◌≡◌, pos};
+
+    ghost is_default = { λ nice. nice ≡ pos 0 };
+
+    fn default() -> Nice {
+        Nice { level: 0 }
+    }
+}
+
 impl From<Nice> for i64 {
     ghost from_gives = { λ nice level. level ≡ nice };
 

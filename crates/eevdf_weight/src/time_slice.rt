@@ -54,6 +54,17 @@ impl Slice {
     }
 }
 
+/// The slice of 3000000 nanoseconds, which a task has where a workload names none.
+impl Default for Slice {
+    ghost use Rattle.std.specs.Prelude.{◌≡◌};
+
+    ghost is_default = { λ slice. slice ≡ 3000000 };
+
+    fn default() -> Slice {
+        Slice { length: 3_000_000 }
+    }
+}
+
 impl From<Slice> for u64 {
     ghost from_gives = { λ slice ns. ns ≡ slice };
 
