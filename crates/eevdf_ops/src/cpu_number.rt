@@ -1,5 +1,5 @@
 ghost use Rattle.std.specs.Prelude.{◌≡◌, ◌<◌};
-ghost use Rattle.eevdf_ops.specs.Numbers.{checked_cpu};
+ghost use Rattle.eevdf_ops.specs.Numbers.{checked_cpu, cpu_limit};
 
 use std::error::Error;
 use std::fmt;
@@ -44,7 +44,7 @@ impl CpuId {
     /// The number, below 64.
     pub fn get(self) -> u64
         ensures number { result ≡ self }
-        ensures below { result < 64 }
+        ensures below { result < cpu_limit }
     {
         u64::from(self.number)
     }
@@ -52,7 +52,7 @@ impl CpuId {
     /// The number as a place in a list that has one for each CPU, below 64.
     pub fn index(self) -> usize
         ensures number { result ≡ self }
-        ensures below { result < 64 }
+        ensures below { result < cpu_limit }
     {
         usize::from(self.number)
     }

@@ -1,6 +1,7 @@
 ghost use Rattle.std.specs.Prelude.{◌≡◌, ◌<◌, ◌≤◌, nat_lt, length, map, slice_index_or, IfOk, None};
 ghost use Rattle.eevdf_ops.specs.Faults as faults;
 ghost use Rattle.eevdf_ops.specs.Faults.{IsSetupOf, tasks_fault};
+ghost use Rattle.eevdf_ops.specs.Numbers.{most_cpus, most_tasks};
 ghost use Rattle.eevdf_ops.specs.Setup as setup;
 ghost use Rattle.eevdf_ops.specs.TasksLeft.{tasks_left};
 ghost use Rattle.std.specs.List.{enumerate_from};
@@ -71,7 +72,7 @@ impl Setup {
     pub fn cpus(&self) -> usize
         ensures cpus { result ≡ setup.cpus_of self.now }
         ensures some { 1 ≤ result }
-        ensures few { result ≤ 64 }
+        ensures few { result ≤ most_cpus }
         ensures sound { faults.setup_fault self.now.tasks self.now.programs ≡ None }
     {
         self.programs.len()
@@ -94,7 +95,7 @@ impl Setup {
     /// The tasks by their numbers. None of them, and no program, has a fault.
     pub(crate) fn task_specs(&self) -> &[TaskSpec]
         ensures tasks { result.now ≡ self.now.tasks }
-        ensures few { length result.now ≤ 1024 }
+        ensures few { length result.now ≤ most_tasks }
         ensures well { tasks_fault (setup.cpus_of self.now) 0 result.now ≡ None }
     {
         &self.tasks

@@ -6,6 +6,7 @@ ghost use Rattle.eevdf_queue.specs.Leaving.{IsNowhere};
 ghost use Rattle.eevdf_queue.specs.Moves.{fresh_entry, is_entry_in_range};
 ghost use Rattle.eevdf_ops.specs.Faults.{starts_in_range, tasks_fault};
 ghost use Rattle.eevdf_ops.specs.Machine as machine;
+ghost use Rattle.eevdf_ops.specs.Numbers.{most_tasks};
 ghost use Rattle.eevdf_ops.specs.Outcome.{machine_of};
 
 use crate::task_spec::TaskSpec;
@@ -18,7 +19,7 @@ pub(crate) fn queues_at_start(
     cpus: usize,
     tasks: &[TaskSpec],
 ) -> Result<Vec<Queue>, AllocError>
-    requires few { length tasks.now ≤ 1024 }
+    requires few { length tasks.now ≤ most_tasks }
     requires well { tasks_fault cpus 0 tasks.now ≡ None }
     ensures start { IfOk result (λ queues.
         machine_of queues.items ≡ machine.begin_at_homes 0 tasks.now (replicate cpus empty_state)) }
@@ -43,7 +44,7 @@ fn empty_queues(alloc: Global, cpus: usize) -> Result<Vec<Queue>, AllocError>
 
 /// The number of the task at a place of the list of tasks.
 pub(crate) fn task_number(place: usize) -> TaskId
-    requires { place < 1024 }
+    requires { place < most_tasks }
     ensures { result ≡ place }
 {
     match TaskId::new(place as u64) {

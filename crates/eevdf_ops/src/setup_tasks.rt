@@ -1,4 +1,5 @@
 ghost use Rattle.std.specs.Prelude.{◌+◌, ◌≤◌, length};
+ghost use Rattle.eevdf_ops.specs.Numbers.{most_tasks};
 
 use crate::machine_start::task_number;
 use crate::task_spec::TaskSpec;
@@ -9,7 +10,7 @@ use eevdf_queue::TaskId;
 pub struct SetupTasks<'a> {
     next: usize,
     specs: &'a [TaskSpec],
-    ghost few: { next + length specs.now ≤ 1024 },
+    ghost few: { next + length specs.now ≤ most_tasks },
 }
 
 impl<'a> SetupTasks<'a> {
@@ -19,7 +20,7 @@ impl<'a> SetupTasks<'a> {
 
     /// The tasks of this list, numbered by their places.
     pub(crate) fn of(specs: &'a [TaskSpec]) -> SetupTasks<'a>
-        requires { length specs.now ≤ 1024 }
+        requires { length specs.now ≤ most_tasks }
         ensures { tasks_left result ≡ enumerate_from 0 specs.now }
     {
         SetupTasks { next: 0, specs }
