@@ -4,6 +4,8 @@ use Rattle.eevdf_steps.specs.declared.micro_steps.Micro.{Micro}
 use Rattle.eevdf_steps.specs.declared.micro_steps.Micro.TheVariants as micro
 use Rattle.eevdf_steps.specs.declared.task_place.Place.{Place}
 use Rattle.eevdf_steps.specs.declared.task_place.Place.TheVariants.{Runnable, Asleep, InHand}
+use Rattle.eevdf_steps.specs.declared.play_fault.PlayFault.{PlayFault}
+use Rattle.eevdf_steps.specs.declared.play_fault.PlayFault.TheVariants as play
 use Rattle.eevdf_steps.specs.declared.step_fault.StepFault.{StepFault}
 use Rattle.eevdf_steps.specs.declared.step_fault.StepFault.TheVariants as step
 
@@ -27,3 +29,11 @@ abbrev pub step_fault_text : StepFault → List ℕ
 step_fault_text step.NoCaller = codes "no caller"
 step_fault_text step.Done = codes "done"
 step_fault_text (step.Blocked cpu holder) = codes "blocked on " ++ decimal cpu ++ codes " by " ++ decimal holder
+
+abbrev pub play_fault_text : PlayFault → List ℕ
+play_fault_text play.TooLong = codes "order longer than 1000000"
+play_fault_text play.Memory = codes "memory"
+play_fault_text (play.NoCaller at) = codes "order at " ++ decimal at ++ codes ": no caller"
+play_fault_text (play.Done at) = codes "order at " ++ decimal at ++ codes ": done"
+play_fault_text (play.Blocked at cpu) = codes "order at " ++ (decimal at ++ (codes ": blocked on " ++ decimal cpu))
+play_fault_text (play.Short caller) = codes "order short at " ++ decimal caller

@@ -1,7 +1,7 @@
 //! How micro-steps, places and faults print.
 
 ghost use Rattle.std.specs.Prelude.{Some};
-ghost use Rattle.eevdf_steps.specs.Texts.{micro_text, place_text, step_fault_text};
+ghost use Rattle.eevdf_steps.specs.Texts.{micro_text, place_text, play_fault_text, step_fault_text};
 
 use crate::micro_steps::Micro;
 use crate::play_fault::PlayFault;
@@ -59,6 +59,8 @@ impl Error for StepFault {}
 
 /// What is wrong with the order, and where, as `order at 7: done`.
 impl fmt::Display for PlayFault {
+    ghost output = { λ fault. Some (play_fault_text fault) };
+
     fn fmt<W: fmt::Write>(&self, f: &mut fmt::Formatter<W>) -> fmt::Result {
         match self {
             PlayFault::TooLong => f.write_str("order longer than 1000000"),
