@@ -1,15 +1,13 @@
 //! The callers on their way through their programs.
 
-ghost use Rattle.std.specs.Prelude.{◌≡◌, ◌<◌, ◌≤◌, true, is_some, length, replicate, IfOk, IfSome};
-ghost use Rattle.eevdf_ops.specs.Numbers.{most_cpus};
-ghost use Rattle.eevdf_steps.specs.Plan.{IsSound, callers, home, plan_of, program};
+ghost use Rattle.std.specs.Prelude.{◌≡◌, true, is_some, length, replicate, IfOk, IfSome};
+ghost use Rattle.eevdf_steps.specs.Plan.{IsSound, callers, plan_of};
 ghost use Rattle.eevdf_steps.specs.SoundSteps.{is_sound_step};
 ghost use Rattle.eevdf_steps.specs.Counters.{counted, step_next};
 ghost use Rattle.eevdf_steps.specs.Orders.{counters_at_start};
 
 use crate::program_plan::{Plan, Position, Step};
-use eevdf_ops::{CpuId, Op, Setup};
-use eevdf_queue::TaskId;
+use eevdf_ops::Setup;
 use std::alloc::{AllocError, Global};
 use std::marker::Model;
 
@@ -54,45 +52,11 @@ impl Callers {
         let _ = &self.positions;
     }
 
-    /// The number of callers, one for each CPU.
-    pub(crate) fn count(&self) -> usize
-        ensures callers { result ≡ callers self.now.plan }
-        ensures few { result ≤ most_cpus }
+    /// What the callers are to do.
+    pub(crate) fn plan(&self) -> &Plan
+        ensures { result.now ≡ self.now.plan }
     {
-        self.plan.callers()
-    }
-
-    /// A caller's program.
-    pub(crate) fn program(&self, caller: usize) -> &[Op]
-        requires { caller < callers self.now.plan }
-        ensures { result.now ≡ program self.now.plan caller }
-    {
-        self.plan.program(caller)
-    }
-
-    /// The number of operations of a caller's program.
-    pub(crate) fn operations(&self, caller: usize) -> usize
-        requires { caller < callers self.now.plan }
-        ensures operations { result ≡ length (program self.now.plan caller) }
-        ensures few { result ≤ 10000 }
-    {
-        self.plan.operations(caller)
-    }
-
-    /// The number of tasks.
-    pub(crate) fn tasks(&self) -> usize
-        ensures { result ≡ length self.now.plan.homes }
-    {
-        self.plan.tasks()
-    }
-
-    /// The CPU at which a task sleeps.
-    pub(crate) fn home(&self, task: TaskId) -> CpuId
-        requires { task < length self.now.plan.homes }
-        ensures home { result ≡ home self.now.plan task }
-        ensures below { result < callers self.now.plan }
-    {
-        self.plan.home(task)
+        &self.plan
     }
 
     /// The step that a caller does next, with its operation.

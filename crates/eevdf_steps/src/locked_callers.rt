@@ -1,22 +1,18 @@
 //! The callers on their way, and the locks that they hold.
 
-ghost use Rattle.std.specs.Prelude.{◌≡◌, ◌*◌, ◌<◌, ◌≤◌, true, length, Some, None, IfOk, IfSome};
-ghost use Rattle.eevdf_ops.specs.Numbers.{most_cpus};
+ghost use Rattle.std.specs.Prelude.{◌≡◌, ◌<◌, true, length, Some, None, IfOk, IfSome};
 ghost use Rattle.eevdf_steps.specs.Callers as way;
 ghost use Rattle.eevdf_steps.specs.Counters as counters;
 ghost use Rattle.eevdf_steps.specs.Holders as locks;
 ghost use Rattle.eevdf_steps.specs.Orders.{counters_at_start};
-ghost use Rattle.eevdf_steps.specs.Plan.{IsSound, callers, home, is_sound_op, pair, plan_of, program};
-ghost use Rattle.eevdf_steps.specs.MicroState.{home_for};
-ghost use Rattle.eevdf_steps.specs.PostLists.{place_of};
+ghost use Rattle.eevdf_steps.specs.Plan.{IsSound, callers, plan_of};
 ghost use Rattle.eevdf_steps.specs.SoundSteps.{is_sound_micro, is_sound_step};
 
 use crate::callers::Callers;
 use crate::micro_steps::Micro;
-use crate::program_plan::Step;
+use crate::program_plan::{Plan, Step};
 use crate::step_fault::StepFault;
-use eevdf_ops::{CpuId, Op, Setup};
-use eevdf_queue::TaskId;
+use eevdf_ops::{CpuId, Setup};
 use std::alloc::{AllocError, Global};
 use std::marker::Model;
 
@@ -49,7 +45,7 @@ impl LockedCallers {
         ensures counters { IfOk result (λ c. c.counters ≡ counters_at_start (plan_of setup.now)) }
     {
         let callers = Callers::open(alloc, setup)?;
-        let holders = vec![in alloc; None; callers.count()]?;
+        let holders = vec![in alloc; None; callers.plan().callers()]?;
         Ok(LockedCallers { callers, holders })
     }
 
@@ -61,88 +57,11 @@ impl LockedCallers {
         self.callers.keeps();
     }
 
-    /// The number of callers, one for each CPU.
-    pub(crate) fn count(&self) -> usize
-        ensures callers { result ≡ callers self.now.plan }
-        ensures few { result ≤ most_cpus }
+    /// What the callers are to do.
+    pub(crate) fn plan(&self) -> &Plan
+        ensures { result.now ≡ self.now.plan }
     {
-        self.callers.count()
-    }
-
-    /// A caller's program.
-    pub(crate) fn program(&self, caller: usize) -> &[Op]
-        requires { caller < callers self.now.plan }
-        ensures { result.now ≡ program self.now.plan caller }
-    {
-        self.callers.program(caller)
-    }
-
-    /// The number of operations of a caller's program.
-    pub(crate) fn operations(&self, caller: usize) -> usize
-        requires { caller < callers self.now.plan }
-        ensures operations { result ≡ length (program self.now.plan caller) }
-        ensures few { result ≤ 10000 }
-    {
-        self.callers.operations(caller)
-    }
-
-    /// The number of tasks.
-    pub(crate) fn tasks(&self) -> usize
-        ensures { result ≡ length self.now.plan.homes }
-    {
-        self.callers.tasks()
-    }
-
-    /// The CPU at which a task sleeps.
-    pub(crate) fn home(&self, task: TaskId) -> CpuId
-        requires { task < length self.now.plan.homes }
-        ensures home { result ≡ home self.now.plan task }
-        ensures below { result < callers self.now.plan }
-    {
-        self.callers.home(task)
-    }
-
-    /// The home to which an operation's task goes or its request is posted, and the caller's CPU for any other operation.
-    pub(crate) fn home_for(&self, cpu: CpuId, op: Op) -> CpuId
-        requires caller { cpu < callers self.now.plan }
-        requires sound { is_sound_op self.now.plan op ≡ true }
-        ensures home { result ≡ home_for self.now.plan cpu op }
-        ensures below { result < callers self.now.plan }
-    {
-        match op {
-            Op::Sleep(task) | Op::Post(task) => self.home(task),
-            Op::Tick(_) | Op::Pick | Op::Yield | Op::Pull(_) | Op::Renice(_, _) | Op::Drain => cpu,
-        }
-    }
-
-    /// The place of the list of requests that a step reads or adds to.
-    pub(crate) fn place(&self, cpu: CpuId, micro: Micro) -> usize
-        requires caller { cpu < callers self.now.plan }
-        requires sound { is_sound_micro self.now.plan micro ≡ true }
-        ensures place { result ≡ place_of self.now.plan cpu micro }
-        ensures below { result < callers self.now.plan * callers self.now.plan }
-    {
-        match micro {
-            Micro::Take(sender) => self.pair(sender, cpu),
-            Micro::Post(task) => self.pair(cpu, self.home(task)),
-            Micro::Settle(_)
-            | Micro::Acquire(_)
-            | Micro::Release(_)
-            | Micro::Act
-            | Micro::Detach
-            | Micro::Attach
-            | Micro::Commit => 0,
-        }
-    }
-
-    /// The place of the list from a sender to a home.
-    fn pair(&self, sender: CpuId, home: CpuId) -> usize
-        requires sender { sender < callers self.now.plan }
-        requires home { home < callers self.now.plan }
-        ensures place { result ≡ pair self.now.plan sender home }
-        ensures below { result < callers self.now.plan * callers self.now.plan }
-    {
-        sender.get() as usize * self.count() + home.get() as usize
+        self.callers.plan()
     }
 
     /// Who holds the lock of a CPU.
@@ -165,7 +84,7 @@ impl LockedCallers {
     pub(crate) fn unfinished(&self) -> Option<usize>
         ensures { result ≡ counters.unfinished self.now.plan self.now.counters }
     {
-        for caller in 0..self.count() {
+        for caller in 0..self.plan().callers() {
             if self.next(caller).is_some() {
                 return Some(caller);
             }
@@ -177,7 +96,7 @@ impl LockedCallers {
     pub(crate) fn ready(&self) -> Option<usize>
         ensures { result ≡ counters.ready self.now.plan self.now.counters }
     {
-        for caller in 0..self.count() {
+        for caller in 0..self.plan().callers() {
             if self.refusal(caller).is_none() {
                 return Some(caller);
             }
@@ -189,7 +108,7 @@ impl LockedCallers {
     pub(crate) fn refusal(&self, caller: usize) -> Option<StepFault>
         ensures { result ≡ counters.refusal self.now.plan self.now.counters caller }
     {
-        if caller >= self.callers.count() {
+        if caller >= self.plan().callers() {
             return Some(StepFault::NoCaller);
         }
         match self.next(caller) {

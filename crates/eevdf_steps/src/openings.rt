@@ -5,23 +5,20 @@ ghost use Rattle.eevdf_ops.specs.Numbers.{most_operations};
 ghost use Rattle.eevdf_steps.specs.Plan.{callers as number, is_sound_op, program};
 ghost use Rattle.eevdf_steps.specs.Openings as openings;
 
-use crate::locked_callers::LockedCallers;
 use crate::post_list::PostList;
+use crate::program_plan::Plan;
 use eevdf_ops::Op;
 use eevdf_queue::TaskId;
 use std::alloc::{AllocError, Global};
 
 /// For each pair of a sender and a home an empty list with room for what the sender's program posts to the home.
-pub(crate) fn empty_posts(
-    alloc: Global,
-    callers: &LockedCallers,
-) -> Result<Vec<PostList>, AllocError>
-    ensures { IfOk result (λ lists. openings.AreEmpty callers.now.plan lists.items) }
+pub(crate) fn empty_posts(alloc: Global, plan: &Plan) -> Result<Vec<PostList>, AllocError>
+    ensures { IfOk result (λ lists. openings.AreEmpty plan.now lists.items) }
 {
-    let count = callers.count();
+    let count = plan.callers();
     let mut lists = Vec::with_capacity(alloc, count * count)?;
     for sender in 0..count {
-        let rooms = post_counts(alloc, callers, sender)?;
+        let rooms = post_counts(alloc, plan, sender)?;
         for room in &rooms {
             lists.push(PostList::open(alloc, *room)?)?;
         }
@@ -30,52 +27,45 @@ pub(crate) fn empty_posts(
 }
 
 /// For each home how many requests a caller's program posts to it.
-fn post_counts(
-    alloc: Global,
-    callers: &LockedCallers,
-    caller: usize,
-) -> Result<Vec<usize>, AllocError>
-    requires { caller < number callers.now.plan }
-    ensures { IfOk result (λ counts. openings.CountPosts callers.now.plan (program callers.now.plan caller) counts.items) }
+fn post_counts(alloc: Global, plan: &Plan, caller: usize) -> Result<Vec<usize>, AllocError>
+    requires { caller < number plan.now }
+    ensures { IfOk result (λ counts. openings.CountPosts plan.now (program plan.now caller) counts.items) }
 {
-    callers.keeps();
-    let mut counts = vec![in alloc; 0; callers.count()]?;
-    for op in callers.program(caller) {
-        count_post(callers, *op, &mut counts);
+    plan.keeps();
+    let mut counts = vec![in alloc; 0; plan.callers()]?;
+    for op in plan.program(caller) {
+        count_post(plan, *op, &mut counts);
     }
     Ok(counts)
 }
 
 /// Counts the request that an operation posts, if it posts one.
-fn count_post(callers: &LockedCallers, op: Op, counts: &mut [usize])
-    requires sound { is_sound_op callers.now.plan op ≡ true }
-    requires each { length counts.old ≡ number callers.now.plan }
+fn count_post(plan: &Plan, op: Op, counts: &mut [usize])
+    requires sound { is_sound_op plan.now op ≡ true }
+    requires each { length counts.old ≡ number plan.now }
     requires few { EachIndex counts.old (λ k. slice_index counts.old k < most_operations) }
-    ensures { counts.new ≡ openings.post_counted callers.now.plan op counts.old }
+    ensures { counts.new ≡ openings.post_counted plan.now op counts.old }
 {
     if let Op::Post(task) = op {
-        counts[callers.home(task).get() as usize] += 1;
+        counts[plan.home(task).get() as usize] += 1;
     }
 }
 
 /// The most lines that the programs can come to: one for each operation. A post has none of its own, and each line of
 /// a drain is the wake of a post.
-pub(crate) fn lines(callers: &LockedCallers) -> usize
-    ensures { result ≡ openings.most_lines callers.now.plan }
+pub(crate) fn lines(plan: &Plan) -> usize
+    ensures { result ≡ openings.most_lines plan.now }
 {
     let mut lines = 0;
-    for caller in 0..callers.count() {
-        lines += callers.operations(caller);
+    for caller in 0..plan.callers() {
+        lines += plan.operations(caller);
     }
     lines
 }
 
 /// For each caller that it has found no request.
-pub(crate) fn nothing_found(
-    alloc: Global,
-    callers: usize,
-) -> Result<Vec<Option<TaskId>>, AllocError>
-    ensures { IfOk result (λ found. found.items ≡ replicate callers None) }
+pub(crate) fn nothing_found(alloc: Global, plan: &Plan) -> Result<Vec<Option<TaskId>>, AllocError>
+    ensures { IfOk result (λ found. found.items ≡ replicate (number plan.now) None) }
 {
-    vec![in alloc; None; callers]
+    vec![in alloc; None; plan.callers()]
 }

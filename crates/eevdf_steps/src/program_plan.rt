@@ -1,11 +1,14 @@
 //! What the callers are to do.
 
-ghost use Rattle.std.specs.Prelude.{◌≡◌, ◌+◌, ◌<◌, ◌≤◌, is_some, Some, true, length, slice_get, map, None, IfOk, IfSome};
+ghost use Rattle.std.specs.Prelude.{◌≡◌, ◌+◌, ◌*◌, ◌<◌, ◌≤◌, is_some, Some, true, length, slice_get, map, None, IfOk, IfSome};
 ghost use Rattle.std.specs.Option.{option_map};
 ghost use Rattle.eevdf_ops.specs.Numbers.{most_cpus};
-ghost use Rattle.eevdf_steps.specs.Plan.{IsSound, callers, home, is_sound_op, plan_of, program};
+ghost use Rattle.eevdf_steps.specs.MicroState.{home_for};
 ghost use Rattle.eevdf_steps.specs.MicroSteps.{micros_of, steps_by};
+ghost use Rattle.eevdf_steps.specs.Plan.{IsSound, callers, home, is_sound_op, pair, plan_of, program};
 ghost use Rattle.eevdf_steps.specs.Positions.{counter_at, is_position};
+ghost use Rattle.eevdf_steps.specs.PostLists.{place_of};
+ghost use Rattle.eevdf_steps.specs.SoundSteps.{is_sound_micro};
 
 use crate::lists_of_steps::{act_step, cpu_number, drain_step, move_between_step, sleep_step};
 use crate::micro_steps::Micro;
@@ -142,6 +145,49 @@ impl Plan {
         ensures { result ≡ home self.now task }
     {
         self.setup.spec(task).home
+    }
+
+    /// The home to which an operation's task goes or its request is posted, and the caller's CPU for any other operation.
+    pub(crate) fn home_for(&self, cpu: CpuId, op: Op) -> CpuId
+        requires caller { cpu < callers self.now }
+        requires sound { is_sound_op self.now op ≡ true }
+        ensures home { result ≡ home_for self.now cpu op }
+        ensures below { result < callers self.now }
+    {
+        match op {
+            Op::Sleep(task) | Op::Post(task) => self.home(task),
+            Op::Tick(_) | Op::Pick | Op::Yield | Op::Pull(_) | Op::Renice(_, _) | Op::Drain => cpu,
+        }
+    }
+
+    /// The place of the list of requests that a step reads or adds to.
+    pub(crate) fn place(&self, cpu: CpuId, micro: Micro) -> usize
+        requires caller { cpu < callers self.now }
+        requires sound { is_sound_micro self.now micro ≡ true }
+        ensures place { result ≡ place_of self.now cpu micro }
+        ensures below { result < callers self.now * callers self.now }
+    {
+        match micro {
+            Micro::Take(sender) => self.pair(sender, cpu),
+            Micro::Post(task) => self.pair(cpu, self.home(task)),
+            Micro::Settle(_)
+            | Micro::Acquire(_)
+            | Micro::Release(_)
+            | Micro::Act
+            | Micro::Detach
+            | Micro::Attach
+            | Micro::Commit => 0,
+        }
+    }
+
+    /// The place of the list from a sender to a home.
+    fn pair(&self, sender: CpuId, home: CpuId) -> usize
+        requires sender { sender < callers self.now }
+        requires home { home < callers self.now }
+        ensures place { result ≡ pair self.now sender home }
+        ensures below { result < callers self.now * callers self.now }
+    {
+        sender.get() as usize * self.callers() + home.get() as usize
     }
 
     /// The operation at a place of a caller's program.

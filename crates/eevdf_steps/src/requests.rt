@@ -4,11 +4,10 @@ ghost use Rattle.std.specs.Prelude.{◌≡◌, ◌<◌, drop, length, map, true,
 ghost use Rattle.eevdf_steps.specs.Openings.{AreEmpty};
 ghost use Rattle.eevdf_steps.specs.PostLists as lists;
 
-use crate::locked_callers::LockedCallers;
 use crate::micro_steps::Micro;
 use crate::openings::empty_posts;
 use crate::post_list::PostList;
-use crate::program_plan::Turn;
+use crate::program_plan::{Plan, Turn};
 use eevdf_queue::TaskId;
 use std::alloc::{AllocError, Global};
 use std::marker::Model;
@@ -33,11 +32,11 @@ impl Model for Requests {
 }
 
 impl Requests {
-    /// Empty lists for the callers, with room for all that they post.
-    pub(crate) fn open(alloc: Global, callers: &LockedCallers) -> Result<Requests, AllocError>
-        ensures { IfOk result (λ r. AreEmpty callers.now.plan r) }
+    /// Empty lists for the callers of a plan, with room for all that they post.
+    pub(crate) fn open(alloc: Global, plan: &Plan) -> Result<Requests, AllocError>
+        ensures { IfOk result (λ r. AreEmpty plan.now r) }
     {
-        let posts = empty_posts(alloc, callers)?;
+        let posts = empty_posts(alloc, plan)?;
         let left = Vec::with_capacity(alloc, posts.len())?;
         Ok(Requests { posts, left })
     }

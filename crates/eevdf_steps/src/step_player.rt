@@ -58,11 +58,12 @@ impl Player {
     {
         let callers = LockedCallers::open(alloc, setup)?;
         callers.keeps();
-        let posts = Requests::open(alloc, &callers)?;
-        let found = nothing_found(alloc, callers.count())?;
+        let plan = callers.plan();
+        let posts = Requests::open(alloc, plan)?;
+        let found = nothing_found(alloc, plan)?;
         let solo = Solo::open(alloc, setup)?;
         every_task_in_one_place(&solo);
-        let done = RecordedWork::open(alloc, solo.into_queues(), lines(&callers))?;
+        let done = RecordedWork::open(alloc, solo.into_queues(), lines(plan))?;
         Ok(Player {
             callers,
             posts,
@@ -92,14 +93,14 @@ impl Player {
     pub fn has_cpu(&self, cpu: CpuId) -> bool
         ensures { result ≡ nat_lt cpu (callers self.now.plan) }
     {
-        cpu.index() < self.callers.count()
+        cpu.index() < self.callers.plan().callers()
     }
 
     /// Whether the setup has a task: the condition of `place_of`.
     pub fn has_task(&self, task: TaskId) -> bool
         ensures { result ≡ nat_lt task (length self.now.plan.homes) }
     {
-        task.index() < self.callers.tasks()
+        task.index() < self.callers.plan().tasks()
     }
 
     /// Who holds the lock of a CPU of the setup: one caller at most (`laws::one_holder`).
@@ -216,12 +217,13 @@ impl Player {
     {
         self.callers.keeps();
         let caller = cpu.get() as usize;
+        let plan = self.callers.plan();
         let turn = Turn {
             cpu,
             op: step.op,
             micro: step.micro,
-            home: self.callers.home_for(cpu, step.op),
-            place: self.callers.place(cpu, step.micro),
+            home: plan.home_for(cpu, step.op),
+            place: plan.place(cpu, step.micro),
             found: self.found[caller],
         };
         self.done.do_step(&turn);

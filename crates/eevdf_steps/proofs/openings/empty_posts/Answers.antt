@@ -9,7 +9,7 @@ use Rattle.eevdf_steps.proofs.openings.empty_posts.Goals as goal
 
 pub loop-room-preserved : goal.loop-room-preserved
 loop-room-preserved c =
-    let plan = c.args.callers.now.plan in
+    let plan = c.args.plan.now in
     let one : List PostList = c.in_ok-open.field-0 ∷ [] in
     let pushed : c.push.new.self.items ≡ c.loop-room.lists.items ++ one = c.in_ok-push.ensures.items in
     let rooms : c.deref-room-items.result.now ≡ c.in_ok-rooms.rooms.items = c.deref-room-items.ensures.value in

@@ -6,13 +6,13 @@ use Rattle.eevdf_steps.proofs.openings.empty_posts.Given as goal
 
 abbrev pub invariant-loop-sender : goal.invariant-loop-sender
 invariant-loop-sender l = record {
-  each : length l.lists.items ≡ l.sender * callers l.callers.plan;
-  empty : (k : ℕ) → k < l.sender * callers l.callers.plan → list_at l.lists.items k ≡ empty_at l.callers.plan k;
+  each : length l.lists.items ≡ l.sender * callers l.plan;
+  empty : (k : ℕ) → k < l.sender * callers l.plan → list_at l.lists.items k ≡ empty_at l.plan k;
 }
 
 abbrev pub invariant-loop-room : goal.invariant-loop-room
 invariant-loop-room l = record {
-  each : length l.lists.items ≡ l.sender * callers l.callers.plan + l.room-index;
-  empty : (k : ℕ) → k < l.sender * callers l.callers.plan + l.room-index
-      → list_at l.lists.items k ≡ empty_at l.callers.plan k;
+  each : length l.lists.items ≡ l.sender * callers l.plan + l.room-index;
+  empty : (k : ℕ) → k < l.sender * callers l.plan + l.room-index
+      → list_at l.lists.items k ≡ empty_at l.plan k;
 }

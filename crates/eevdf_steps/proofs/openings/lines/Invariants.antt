@@ -5,6 +5,6 @@ use Rattle.eevdf_steps.proofs.openings.lines.Given as goal
 
 abbrev pub invariant-loop-caller : goal.invariant-loop-caller
 invariant-loop-caller l = record {
-  sum : l.lines ≡ sum_by (λ (ops : List Op). length ops) (take l.caller l.callers.plan.programs);
+  sum : l.lines ≡ sum_by (λ (ops : List Op). length ops) (take l.caller l.plan.programs);
   few : l.lines ≤ 10000 * l.caller;
 }

@@ -4,4 +4,4 @@ use Rattle.eevdf_steps.specs.Openings.{CountPosts}
 use Rattle.eevdf_steps.proofs.openings.post_counts.Given as goal
 
 abbrev pub invariant-loop-op : goal.invariant-loop-op
-invariant-loop-op l = CountPosts l.callers.plan (take l.op-index (program l.callers.plan l.caller)) l.counts.items
+invariant-loop-op l = CountPosts l.plan (take l.op-index (program l.plan l.caller)) l.counts.items

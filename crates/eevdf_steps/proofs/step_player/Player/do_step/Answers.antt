@@ -1,12 +1,14 @@
-use Rattle.std.proofs.Common.{◌≡◌, ◌<◌, ℕ, get_or, set, ap, ◌∙◌, arith}
+use Rattle.std.proofs.Common.{◌≡◌, ◌<◌, ℕ, true, get_or, set, ap, subst, ◌∙◌, sym, arith}
 use Rattle.std.specs.Prelude.{None}
-use Rattle.eevdf_steps.specs.Plan.{callers}
+use Rattle.eevdf_steps.specs.MicroState.{home_for}
+use Rattle.eevdf_steps.specs.Plan.{Plan, callers, is_sound_op}
 use Rattle.eevdf_steps.specs.PostLists.{has_room, list_at, place_of, posts_after, request_after}
 use Rattle.std.proofs.lemmas.List.{get_or_default}
 use Rattle.eevdf_steps.specs.Counters.{counted}
+use Rattle.eevdf_steps.specs.SoundSteps.{is_sound_micro}
 use Rattle.eevdf_steps.proofs.PlayerSteps.{After, Stepping, commits_then, is_working, playing_after, posts_have_room, pulls, room_for, state_after, step_of, stepping}
 use Rattle.eevdf_steps.proofs.step_player.Player.do_step.Goals as goal
-use Rattle.eevdf_steps.proofs.step_player.Player.do_step.Goals.{After-keeps, After-index, After-advance}
+use Rattle.eevdf_steps.proofs.step_player.Player.do_step.Goals.{After-keeps, After-home_for, After-place, After-index, After-advance}
 
 is_stepping : (c : After-keeps) → Stepping c.self.inside.callers c.self.inside.posts c.self.inside.found.items c.self.inside.done c.args.cpu c.args.step.now
 is_stepping c =
@@ -22,15 +24,27 @@ read_found c =
     ∙ ap (λ (k : ℕ). get_or c.self.inside.found.items k None) c.get-caller.ensures.number
 
 pub home_for-requires-clause-sound : goal.home_for-requires-clause-sound
-home_for-requires-clause-sound c = (is_stepping (goal.at.home_for-requires-clause-sound c).After-keeps).sound_op
+home_for-requires-clause-sound c =
+    subst (λ (p : Plan). is_sound_op p c.args.step.now.op ≡ true) (sym c.plan-plan.ensures) (is_stepping (goal.at.home_for-requires-clause-sound c).After-keeps).sound_op
 
 pub place-requires-clause-sound : goal.place-requires-clause-sound
-place-requires-clause-sound c = (is_stepping (goal.at.place-requires-clause-sound c).After-keeps).sound_micro
+place-requires-clause-sound c =
+    subst (λ (p : Plan). is_sound_micro p c.args.step.now.micro ≡ true) (sym c.plan-plan.ensures) (is_stepping (goal.at.place-requires-clause-sound c).After-keeps).sound_micro
+
+-- what the plan says, said of the callers
+home_below : (c : After-home_for) → c.home_for.result < callers c.self.inside.callers.plan
+home_below c = subst (λ (p : Plan). c.home_for.result < callers p) c.plan-plan.ensures c.home_for.ensures.below
+
+home_is : (c : After-home_for) → c.home_for.result ≡ home_for c.self.inside.callers.plan c.args.cpu c.args.step.now.op
+home_is c = c.home_for.ensures.home ∙ ap (λ (p : Plan). home_for p c.args.cpu c.args.step.now.op) c.plan-plan.ensures
+
+place_is : (c : After-place) → c.place.result ≡ place_of c.self.inside.callers.plan c.args.cpu c.args.step.now.micro
+place_is c = c.place.ensures.place ∙ ap (λ (p : Plan). place_of p c.args.cpu c.args.step.now.micro) c.plan-plan.ensures
 
 pub do_step-requires-clause-work : goal.do_step-requires-clause-work
 do_step-requires-clause-work c =
     is_working c.self.inside.callers c.self.inside.posts c.self.inside.found.items c.self.inside.done c.args.cpu c.home_for.result c.args.step.now
-    (is_stepping (goal.at.do_step-requires-clause-work c).After-keeps) c.home_for.ensures.below
+    (is_stepping (goal.at.do_step-requires-clause-work c).After-keeps) (home_below (goal.at.do_step-requires-clause-work c).After-home_for)
 
 pub do_step-requires-clause-source : goal.do_step-requires-clause-source
 do_step-requires-clause-source c =
@@ -49,18 +63,18 @@ do_step-requires-clause-room c =
 
 pub pass-request-requires-clause-room : goal.pass-request-requires-clause-room
 pass-request-requires-clause-room c =
-    ap (λ (k : ℕ). has_room (list_at c.self.inside.posts k) c.args.step.now.micro) c.place.ensures.place
+    ap (λ (k : ℕ). has_room (list_at c.self.inside.posts k) c.args.step.now.micro) (place_is (goal.at.pass-request-requires-clause-room c).After-place)
     ∙ posts_have_room c.self.inside.callers c.self.inside.posts c.self.inside.found.items c.self.inside.done c.args.cpu c.args.step.now
     (is_stepping (goal.at.pass-request-requires-clause-room c).After-keeps)
 
 passed : (c : After-advance) → c.pass-request.new.self ≡ posts_after (place_of c.self.inside.callers.plan c.args.cpu c.args.step.now.micro) c.args.step.now.micro c.self.inside.posts
-passed c = c.pass-request.ensures.posts ∙ ap (λ (k : ℕ). posts_after k c.args.step.now.micro c.self.inside.posts) c.place.ensures.place
+passed c = c.pass-request.ensures.posts ∙ ap (λ (k : ℕ). posts_after k c.args.step.now.micro c.self.inside.posts) (place_is (goal.at.After-advance c).After-place)
 
 asked : (c : After-advance) → c.pass-request.result
     ≡ request_after (place_of c.self.inside.callers.plan c.args.cpu c.args.step.now.micro) c.args.step.now.micro c.self.inside.posts c.index.result.now
 asked c =
     c.pass-request.ensures.found
-    ∙ ap (λ (k : ℕ). request_after k c.args.step.now.micro c.self.inside.posts c.index.result.now) c.place.ensures.place
+    ∙ ap (λ (k : ℕ). request_after k c.args.step.now.micro c.self.inside.posts c.index.result.now) (place_is (goal.at.After-advance c).After-place)
 
 after : (c : After-advance) → After c.self.inside.callers c.advance.new.self c.self.inside.posts c.pass-request.new.self
     c.self.inside.found.items (set c.self.inside.found.items c.get-caller.result c.pass-request.result)
@@ -77,14 +91,14 @@ pub invariant_of-self : goal.invariant_of-self
 invariant_of-self c =
     playing_after c.self.inside.callers c.advance.new.self c.self.inside.posts _ c.self.inside.found.items _ c.self.inside.done c.do_step.new.self
     c.args.cpu c.home_for.result c.args.step.now c.index.result.now c.pass-request.result
-    (is_stepping (goal.at.invariant_of-self c).After-keeps) c.home_for.ensures.below c.home_for.ensures.home
+    (is_stepping (goal.at.invariant_of-self c).After-keeps) (home_below (goal.at.invariant_of-self c).After-home_for) (home_is (goal.at.invariant_of-self c).After-home_for)
     (read_found (goal.at.invariant_of-self c).After-index) (asked c) (after c)
 
 pub returns-clause-step : goal.returns-clause-step
 returns-clause-step c =
     state_after c.self.inside.callers c.advance.new.self c.self.inside.posts _ c.self.inside.found.items _ c.self.inside.done c.do_step.new.self
     c.args.cpu c.home_for.result c.args.step.now c.index.result.now c.pass-request.result c.args.self.now
-    c.self.view_is (is_stepping (goal.at.returns-clause-step c).After-keeps) (after c) c.home_for.ensures.home
+    c.self.view_is (is_stepping (goal.at.returns-clause-step c).After-keeps) (after c) (home_is (goal.at.returns-clause-step c).After-home_for)
     (read_found (goal.at.returns-clause-step c).After-index)
     (asked c)
 

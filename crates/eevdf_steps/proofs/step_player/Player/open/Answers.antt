@@ -5,7 +5,8 @@ use Rattle.eevdf_ops.specs.Outcome.{machine_of}
 use Rattle.eevdf_ops.specs.Places.{IsPlaced}
 use Rattle.eevdf_ops.proofs.Machines.{length-machine_of}
 use Rattle.std.specs.Prelude.{None}
-use Rattle.eevdf_steps.specs.Plan.{callers, plan_of}
+use Rattle.eevdf_steps.specs.Openings.{AreEmpty, most_lines}
+use Rattle.eevdf_steps.specs.Plan.{Plan, callers, plan_of}
 use Rattle.eevdf_steps.proofs.Beginning.{Opened, playing_open, player_open}
 use Rattle.eevdf_steps.proofs.step_player.Player.open.Goals as goal
 use Rattle.eevdf_steps.proofs.step_player.Player.open.Goals.{In_ok-done}
@@ -19,14 +20,14 @@ opened c =
       sound = c.keeps.ensures.sound;
       plan = c.in_ok-callers.ensures.plan;
       counters = c.in_ok-callers.ensures.counters;
-      empty = c.in_ok-posts.ensures;
-      nothing = c.in_ok-found.ensures ∙ ap (λ (k : ℕ). replicate k None) c.count.ensures.callers;
+      empty = subst (λ (p : Plan). AreEmpty p c.in_ok-posts.posts) c.plan-plan.ensures c.in_ok-posts.ensures;
+      nothing = c.in_ok-found.ensures ∙ ap (λ (p : Plan). replicate (callers p) None) c.plan-plan.ensures;
       machine = ap machine_of c.into_queues.ensures ∙ c.in_ok-solo.ensures.start;
       queues = omega (arith, long, same, c.in_ok-solo.ensures.cpus, c.into_queues.result.ok.0);
       each = omega (arith, length-machine_of c.into_queues.result.items, c.into_queues.result.ok.0);
       placed = subst (λ (m : Machine). IsPlaced (plan_of c.args.setup.now).homes m) (sym (ap machine_of c.into_queues.ensures))
           (subst (λ (hs : List ℕ). IsPlaced hs (machine_of c.in_ok-solo.solo.queues)) c.in_ok-solo.ensures.homes c.every_task_in_one_place.ensures);
-      lines = c.lines.ensures;
+      lines = c.lines.ensures ∙ ap most_lines c.plan-plan.ensures;
       is_done = c.in_ok-done.ensures;
     }
 
