@@ -1,5 +1,5 @@
 -- How far the callers have come, the locks that they hold, and who may do its next step.
-use Rattle.std.specs.Prelude.{ℕ, zero, suc, ◌+◌, ◌==◌, nat_lt, Bool, true, false, List, [], ◌∷◌, take, slice_get, slice_index_or, slice_set, if◌then◌else◌, is_some, is_none, Option, Some, None}
+use Rattle.std.specs.Prelude.{ℕ, zero, suc, ◌+◌, ◌==◌, nat_lt, Bool, true, false, List, [], ◌∷◌, take, slice_get, slice_index_or, slice_set, if◌then◌else◌, is_some, is_none, Option, Some, None, Result, MatchResult, ◌≡◌}
 use Rattle.std.specs.Option.{option_map}
 use Rattle.eevdf_steps.specs.declared.micro_steps.Micro.{Micro}
 use Rattle.eevdf_steps.specs.declared.micro_steps.Micro.TheVariants.{Acquire, Act, Detach, Attach, Commit, Take, Settle, Release, Post}
@@ -84,6 +84,11 @@ refused_next plan counters (Some m) = refused plan counters m
 abbrev pub refusal : Plan → Counters → ℕ → Option StepFault
 refusal plan counters caller =
     if nat_lt caller (callers plan) then refused_next plan counters (next plan counters caller) else Some NoCaller
+
+-- the next step of a caller, where nothing refuses it, or what does
+abbrev pub IsFreeStep : Plan → Counters → ℕ → Result Step StepFault → Type 0
+IsFreeStep plan counters caller result =
+    MatchResult result (λ s. (step_next plan counters caller ≡ Some s) × (refusal plan counters caller ≡ None)) (λ f. refusal plan counters caller ≡ Some f)
 
 -- whether a caller may do its next step: it is one, it isn't done, and no lock that it waits for is held
 abbrev pub may_step : Plan → Counters → ℕ → Bool

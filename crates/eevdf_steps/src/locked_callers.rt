@@ -97,23 +97,26 @@ impl LockedCallers {
         ensures { result ≡ counters.ready self.now.plan self.now.counters }
     {
         for caller in 0..self.plan().callers() {
-            if self.refusal(caller).is_none() {
+            if self.free_step(caller).is_ok() {
                 return Some(caller);
             }
         }
         None
     }
 
-    /// What refuses the next step of a caller.
-    pub(crate) fn refusal(&self, caller: usize) -> Option<StepFault>
-        ensures { result ≡ counters.refusal self.now.plan self.now.counters caller }
+    /// The step that a caller does next, where nothing refuses it.
+    pub(crate) fn free_step(&self, caller: usize) -> Result<Step, StepFault>
+        ensures { counters.IsFreeStep self.now.plan self.now.counters caller result }
     {
         if caller >= self.plan().callers() {
-            return Some(StepFault::NoCaller);
+            return Err(StepFault::NoCaller);
         }
-        match self.next(caller) {
-            None => Some(StepFault::Done),
-            Some(step) => self.refused(step.micro),
+        let Some(step) = self.next(caller) else {
+            return Err(StepFault::Done);
+        };
+        match self.refused(step.micro) {
+            Some(fault) => Err(fault),
+            None => Ok(step),
         }
     }
 

@@ -150,14 +150,14 @@ impl Player {
         ensures step { player.IsStep self.old caller result self.new }
         ensures commits { OnOk result (player.Appends self.old caller self.new) }
     {
-        if let Some(fault) = self.callers.refusal(caller) {
-            return Err(fault);
-        }
         self.callers.keeps();
-        if let Some(step) = self.callers.next(caller) {
-            self.do_step(cpu_number(caller), &step);
+        match self.callers.free_step(caller) {
+            Ok(step) => {
+                self.do_step(cpu_number(caller), &step);
+                Ok(())
+            }
+            Err(fault) => Err(fault),
         }
-        Ok(())
     }
 
     /// Learns what is kept of the queues and of what the callers hold.
