@@ -18,6 +18,7 @@ pub mod RingNaming
 pub mod RingWords
 pub mod Takes
 pub mod SenderTurns
+pub mod SeatLists
 pub mod SeatParts
 pub mod PostsTold
 pub mod Crossing

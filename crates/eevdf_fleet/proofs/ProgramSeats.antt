@@ -1,13 +1,13 @@
 -- The seats of programs that run, each by a thread of its own, and what their fleet is closed to.
-use Rattle.std.proofs.Common.{◌≡◌, ◌≢◌, ℕ, zero, suc, ◌+◌, ◌*◌, ◌<◌, ◌≤◌, Bool, true, false, ◌&&◌, cond, List, [], ◌∷◌, ◌++◌, length, map, get_or, inl, inr, refl, sym, ap, subst, ◌∙◌, arith}
+use Rattle.std.proofs.Common.{◌≡◌, ℕ, ◌+◌, ◌*◌, ◌<◌, ◌≤◌, Bool, true, false, cond, List, [], ◌∷◌, ◌++◌, length, get_or, inl, inr, refl, sym, ap, subst, ◌∙◌, arith}
 use Rattle.std.proofs.Math.Nat.{mul-le-mul_right}
 use Rattle.std.proofs.lemmas.Bool.{cases_lt}
 use Rattle.std.proofs.lemmas.Bool.Decides.{nat_tests}
-use Rattle.std.proofs.lemmas.List.{get_or_append_left, get_or_past, get_or_push}
+use Rattle.std.proofs.lemmas.List.{get_or_past}
 use Rattle.std.proofs.lemmas.List.Elements.{All-get_or}
 use Rattle.std.proofs.lemmas.Option.{slice_get-get_or}
 use Rattle.std.specs.Prelude.{◌==◌, All, Some, nat_lt, slice_get}
-use Rattle.std.specs.List.{list_all, range_with_len}
+use Rattle.std.specs.List.{list_all}
 use Rattle.eevdf_ops.specs.declared.deeds.Deed.{Deed}
 use Rattle.eevdf_ops.specs.declared.deeds.Deed.TheVariants.{Tick, Pick, Yield, Sleep, Wake, Pull, Renice}
 use Rattle.eevdf_ops.specs.declared.deeds.Line.{Line}
@@ -20,41 +20,16 @@ use Rattle.eevdf_ops.specs.Programs.{FitsProgram, deeds_of, lines_by, posts_in, 
 use Rattle.eevdf_ops.specs.Setup.{Setup, allows, cpus_of, homes_of, is_allowed}
 use Rattle.eevdf_fleet.specs.Fleets.{AllPostsTold, Seat, fresh}
 use Rattle.eevdf_fleet.specs.ProgramRuns.{AreRun, HasRun}
+use Rattle.eevdf_fleet.specs.SeatWorks.{AreDone}
 use Rattle.eevdf_fleet.proofs.Rooms.{below, decider-below, left, right}
 use Rattle.eevdf_fleet.proofs.Takes.{wake-other}
 
--- the first of the seats that are left, and the others
-pub next-seat : {X : Type 0} (f : ℕ → X) (k m n : ℕ) (xs rest : List X) (x : X) → xs ≡ map f (range_with_len k m) → xs ≡ x ∷ rest → n + 1 ≡ m
-    → (x ≡ f k) × (rest ≡ map f (range_with_len (k + 1) n))
-next-seat f k m n xs rest x is parted one =
-    let all : m ≡ suc n = omega arith in
-    let same : x ∷ rest ≡ f k ∷ map f (range_with_len (k + 1) n) = sym parted ∙ is ∙ ap (λ (j : ℕ). map f (range_with_len k j)) all in
-    (cc, cc)
-
--- what holds at each place of a list, with one more
-pub each-pushed : {X : Type 0} (P : ℕ → X → Type 0) (n : ℕ) (xs ys : List X) (x : X) → ys ≡ xs ++ x ∷ [] → n ≡ length xs
-    → ((k : ℕ) (d : X) → k < n → P k (get_or xs k d)) → P n x → (k : ℕ) (d : X) → k < n + 1 → P k (get_or ys k d)
-each-pushed P n xs ys x more count all here k d within =
-    subst (λ (zs : List _). P k (get_or zs k d)) (sym more)
-    (elim (cases_lt k n) [
-      | inl low ↦ subst (P k) (sym (get_or_append_left xs (x ∷ []) d k (omega (arith, low, count)))) (all k d low)
-      | inr high ↦
-          let last : k ≡ n = omega (arith, within, high) in
-          subst (P k) (sym (get_or_push xs x d k (omega (arith, last, count)))) (subst (λ (j : ℕ). P j x) (sym last) here)
-    ])
-
--- a number of each element of a list that goes up by one, at the first and at the others
-pub first-number : {X : Type 0} (f : X → ℕ) (m n : ℕ) (xs rest : List X) (x : X) → xs ≡ x ∷ rest → 0 < m
-    → ((k : ℕ) (d : X) → k < m → f (get_or xs k d) ≡ n + k) → f x ≡ n
-first-number f m n xs rest x parted some all =
-    let first : f (get_or xs 0 x) ≡ n + 0 = all 0 x some in
-    ap (λ (ys : List _). f (get_or ys 0 x)) (sym parted) ∙ first ∙ (omega arith)
-
-pub other-numbers : {X : Type 0} (f : X → ℕ) (m n : ℕ) (xs rest : List X) (x : X) → xs ≡ x ∷ rest
-    → ((k : ℕ) (d : X) → k < m → f (get_or xs k d) ≡ n + k) → (k : ℕ) (d : X) → k + 1 < m → f (get_or rest k d) ≡ n + 1 + k
-other-numbers f m n xs rest x parted all k d within =
-    let next : f (get_or xs (suc k) d) ≡ n + suc k = all (suc k) d (omega arith) in
-    ap (λ (ys : List _). f (get_or ys (suc k) d)) (sym parted) ∙ next ∙ (omega arith)
+-- where each thread's work is its CPU's program, the programs are run
+pub done-run : (s : Setup) (seats : List Seat) → AreDone (cpus_of s) (λ seat. HasRun s seat.cpu (program_of s seat.cpu) seat) seats → AreRun s seats
+done-run s seats done = record {
+  all = done.all;
+  each = λ cpu seat at. subst (λ (p : ℕ). HasRun s p (program_of s p) seat) (done.each cpu seat at).0 (done.each cpu seat at).1;
+}
 
 line_of_another : (b : Bool) (l : Line) (lines : List Line) → b ≡ false → cond b (l ∷ lines) lines ≡ lines
 line_of_another false l lines e = refl

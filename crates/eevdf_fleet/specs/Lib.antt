@@ -4,6 +4,7 @@ pub mod Board
 pub mod Fleets
 pub mod Drains
 pub mod ProgramRuns
+pub mod SeatWorks
 pub mod TouchedQueues
 pub mod RingEnds
 pub mod ReturnedEnds

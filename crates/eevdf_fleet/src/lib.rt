@@ -34,8 +34,12 @@ mod run_fault;
 mod seat;
 mod seat_log;
 mod seat_program;
+mod seat_threads;
+mod seat_turn;
+mod seat_work;
 mod slot;
 mod texts;
+mod turn_threads;
 
 pub use drains::Drained;
 pub use fleet::{Closed, Fleet, SeatFull};
@@ -46,3 +50,5 @@ pub use program_threads::run_all;
 pub use rings::RingFull;
 pub use run_fault::RunFault;
 pub use seat::Seat;
+pub use seat_turn::SeatTurn;
+pub use turn_threads::run_turns;

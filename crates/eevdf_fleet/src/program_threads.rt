@@ -10,8 +10,8 @@ ghost use Rattle.eevdf_ops.specs.OwnRequests.{TakesOwnRequests};
 ghost use Rattle.eevdf_ops.specs.Places.{IsPlaced};
 ghost use Rattle.eevdf_ops.specs.Programs.{deeds_of};
 ghost use Rattle.eevdf_ops.specs.Setup.{allows, cpus_of, homes_of};
-ghost use Rattle.eevdf_fleet.specs.Fleets.{fresh_seats, setup_of};
-ghost use Rattle.eevdf_fleet.specs.ProgramRuns.{AreRun, HasRun, quota_for, rings_for};
+ghost use Rattle.eevdf_fleet.specs.Fleets.{setup_of};
+ghost use Rattle.eevdf_fleet.specs.ProgramRuns.{HasRun, quota_for, rings_for};
 
 use crate::fleet::{Closed, Fleet};
 use crate::gate::Gate;
@@ -20,12 +20,13 @@ use crate::names::Names;
 use crate::program_needs::{quota, rings};
 use crate::run_fault::RunFault;
 use crate::seat::Seat;
-use eevdf_ops::{CpuId, Setup};
+use crate::seat_threads::run_seats;
+use crate::seat_work::SeatWork;
+use eevdf_ops::Setup;
 use std::alloc::Global;
-use std::marker::{Brand, PhantomData};
+use std::marker::Brand;
 use std::sync::Wait;
-use std::thread;
-use std::thread::{Promise, Scope, Threads};
+use std::thread::Threads;
 
 /// Runs the programs of the setup at the same time, each by a thread of its own on its CPU, and returns when all have ended.
 /// The threads call the gate at their operations.
@@ -75,77 +76,24 @@ fn run_on_fleet<N: Names + Send + Sync, R: Threads + Wait + Sync, G: Gate + Sync
     ensures left { IfOk result (λ o. length o.left ≡ cpus_of setup.now * cpus_of setup.now) }
 {
     let (fleet, seats) = Fleet::<N>::open(alloc, kit)?;
-    let seats = run_seats(rt, alloc, setup, gate, &fleet, seats)?;
+    let programs = Programs { setup, gate };
+    let seats = run_seats(rt, alloc, &fleet, seats, &programs)?;
     Ok(fleet.close(seats))
 }
 
-/// Runs the program of each seat, and gives the seats back, in order, when all threads have ended.
-fn run_seats<'a, N: Names + Send + Sync, R: Threads + Wait + Sync, G: Gate + Sync>(
-    rt: &'a R,
-    alloc: Global,
+/// The programs of a setup, each the work of its CPU's seat.
+#[derive(Drop)]
+struct Programs<'a, G> {
     setup: &'a Setup,
     gate: &'a G,
-    fleet: &'a Fleet<N>,
-    seats: Vec<Seat<N>>,
-) -> Result<Vec<Seat<N>>, RunFault>
-    requires setup { setup_of N.kit ≡ setup.now }
-    requires rings { N.kit.rings.capacity ≡ rings_for setup.now }
-    requires fresh { seats.items ≡ fresh_seats (quota_for setup.now) (cpus_of setup.now) }
-    ensures { IfOk result (λ done. AreRun setup.now done.items) }
-{
-    thread::scope(
-        thread::scope_env(),
-        rt,
-        |scope| -> Result<Vec<Seat<N>>, RunFault>
-            requires setup { setup_of N.kit ≡ setup.now }
-            requires rings { N.kit.rings.capacity ≡ rings_for setup.now }
-            requires fresh { seats.items ≡ fresh_seats (quota_for setup.now) (cpus_of setup.now) }
-            ensures { IfOk result (λ done. AreRun setup.entry.now done.items) }
-        { run_in_threads(scope, rt, alloc, setup, gate, fleet, seats) },
-    )
 }
 
-/// Runs the program of each seat in a thread of its own, and gives the seats back, in order.
-fn run_in_threads<'s, E, N: Names + Send + Sync, R: Threads + Wait + Sync, G: Gate + Sync>(
-    scope: &'s Scope<'s, E>,
-    rt: &'s R,
-    alloc: Global,
-    setup: &'s Setup,
-    gate: &'s G,
-    fleet: &'s Fleet<N>,
-    seats: Vec<Seat<N>>,
-) -> Result<Vec<Seat<N>>, RunFault>
-    requires setup { setup_of N.kit ≡ setup.now }
-    requires rings { N.kit.rings.capacity ≡ rings_for setup.now }
-    requires fresh { seats.items ≡ fresh_seats (quota_for setup.now) (cpus_of setup.now) }
-    ensures { IfOk result (λ done. AreRun setup.now done.items) }
-{
-    let mut threads = Vec::with_capacity(alloc, seats.len())?;
-    let mut done = Vec::with_capacity(alloc, seats.len())?;
-    for seat in seats {
-        let promise = ProgramRun {
-            cpu: seat.cpu(),
-            names: PhantomData,
-        };
-        let run = move || fleet.run_program(rt, gate, setup, seat);
-        let Ok(thread) = scope.spawn_with(promise, run) else {
-            return Err(RunFault::Start);
-        };
-        threads.push_reserved(thread);
+impl<'a, G: Gate> SeatWork for Programs<'a, G> {
+    ghost serves = { λ p kit. (setup_of kit ≡ p.setup.now) × (kit.terms.quota ≡ quota_for p.setup.now) × (kit.rings.capacity ≡ rings_for p.setup.now) };
+
+    ghost is_done = { λ kit seat. HasRun (setup_of kit) seat.cpu (program_of (setup_of kit) seat.cpu) seat };
+
+    fn work<N: Names, R: Wait>(&self, rt: &R, fleet: &Fleet<N>, seat: Seat<N>) -> Seat<N> {
+        fleet.run_program(rt, self.gate, self.setup, seat)
     }
-    for thread in threads {
-        done.push_reserved(thread.join(rt));
-    }
-    Ok(done)
-}
-
-/// Promises the seat of a CPU whose program has run.
-#[derive(Drop)]
-struct ProgramRun<N: Names> {
-    cpu: CpuId,
-    names: PhantomData<N>,
-}
-
-impl<N: Names> Promise<Seat<N>> for ProgramRun<N> {
-    ghost kept_by = { λ p seat. HasRun (setup_of N.kit) p.cpu (program_of (setup_of N.kit) p.cpu) seat };
 }

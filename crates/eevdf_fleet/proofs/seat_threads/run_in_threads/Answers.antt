@@ -1,23 +1,20 @@
 use denote.Param.Send.{param_send, sendable}
-use Rattle.eevdf_fleet.proofs.program_threads.run_in_threads.Lts as lts
-use Rattle.std.proofs.Common.{rules, ◌≡◌, ◌<◌, ◌+◌, ℕ, length, map, get_or, vec_items, vec_len, ap, subst, sym, ◌∙◌, arith}
+use Rattle.eevdf_fleet.proofs.seat_threads.run_in_threads.Lts as lts
+use Rattle.std.proofs.Common.{rules, ◌≡◌, ◌+◌, ℕ, length, map, get_or, vec_items, vec_len, ap, subst, sym, ◌∙◌, arith}
 use Rattle.std.proofs.lemmas.List.FromFn.{length-map-range_with_len}
 use Rattle.std.proofs.lemmas.Option.{get_or_from_slice_get, slice_get_within}
 use Rattle.std.specs.List.{range_with_len}
-use Rattle.std.specs.Vec.Iter.{into_iter_items, into_iter_len}
-use Rattle.eevdf_ops.specs.Followed.{program_of}
-use Rattle.eevdf_ops.specs.Setup.{Setup, cpus_of}
-use Rattle.eevdf_ops.proofs.machine_setup.Setup.TheSendSync as setup
-use Rattle.eevdf_fleet.specs.Fleets.{Seat, fresh}
-use Rattle.eevdf_fleet.specs.ProgramRuns.{HasRun, quota_for}
+use Rattle.std.specs.Vec.Iter.{into_iter_len}
+use Rattle.eevdf_ops.specs.Setup.{cpus_of}
+use Rattle.eevdf_fleet.specs.Fleets.{Seat, fresh, setup_of}
 use Rattle.eevdf_fleet.proofs.seat.Seat.TheSendSync as seat
 use Rattle.eevdf_fleet.proofs.Crossing.{fleet_sync}
-use Rattle.eevdf_fleet.proofs.ProgramSeats.{each-pushed, first-number, next-seat, other-numbers}
-use Rattle.eevdf_fleet.proofs.program_threads.run_in_threads.Goals as goal
+use Rattle.eevdf_fleet.proofs.SeatLists.{each-pushed, first-number, next-seat, other-numbers}
+use Rattle.eevdf_fleet.proofs.seat_threads.run_in_threads.Goals as goal
 
 pub loop-seat-init : goal.loop-seat-init
 loop-seat-init g c =
-    let n = cpus_of c.args.setup.now in let f = fresh (quota_for c.args.setup.now) n in
+    let k = g.N.Names.kit in let n = cpus_of (setup_of k) in let f = fresh k.terms.quota n in
     let count : vec_len c.args.seats ≡ n = omega (arith, c.args.seats.ok.0, ap length c.requires.fresh, length-map-range_with_len f 0 n) in
     let left : into_iter_len c.into_iter-seat-iterator.result ≡ n = search rules in
     let none : vec_len c.in_ok-threads.threads ≡ 0 = c.in_ok-threads.ensures.len in
@@ -32,22 +29,22 @@ loop-seat-init g c =
 -- the search doesn't find its first step by itself
 pub spawn_with-requires-send-F : goal.spawn_with-requires-send-F
 spawn_with-requires-send-F g c κs within =
-    let runs = c.type_bounds.sync-R in let gates = c.type_bounds.sync-G in
-    param_send 2 (lts.arg-11-2 g.row.E g.row.N g.row.R g.row.G g.E.laws g.N.laws g.R.laws g.G.laws g.N.Names g.N.Names-dict g.R.Threads g.R.Threads-dict g.R.Wait g.R.Wait-dict g.G.Gate g.G.Gate-dict κs)
-    (search (fleet_sync, seat.the_send, setup.the_sync, sendable) depth 20)
+    let runs = c.type_bounds.sync-R in let works = c.type_bounds.sync-W in
+    param_send 2 (lts.arg-11-2 g.row.E g.row.N g.row.R g.row.W g.E.laws g.N.laws g.R.laws g.W.laws g.N.Names g.N.Names-dict g.R.Threads g.R.Threads-dict g.R.Wait g.R.Wait-dict g.W.SeatWork g.W.SeatWork-dict κs)
+    (search (fleet_sync, seat.the_send, sendable) depth 20)
 
 pub spawn_with-requires-clause-runs : goal.spawn_with-requires-clause-runs
 spawn_with-requires-clause-runs g c κs within =
-    let n = cpus_of c.args.setup.now in let f = fresh (quota_for c.args.setup.now) n in
+    let k = g.N.Names.kit in let n = cpus_of (setup_of k) in let f = fresh k.terms.quota n in
     let next = next-seat f _ _ _ _ _ _ c.loop-seat.invariant.rest c.in-Some.ensures.steps.0 c.in-Some.ensures.steps.1 in
-    λ κs' x held κs'' lives. (c.requires.setup, (next.0 ∙ ap f (sym (ap (λ (s : Seat). s.cpu) next.0)), c.requires.rings))
+    λ κs' x held κs'' lives. (c.requires.serves, next.0 ∙ ap f (sym (ap (λ (s : Seat). s.cpu) next.0)))
 
 pub push_reserved-requires : goal.push_reserved-requires
 push_reserved-requires g c = omega (arith, c.loop-seat.invariant.count, c.loop-seat.invariant.room, c.in-Some.ensures.steps.1)
 
 pub loop-seat-preserved : goal.loop-seat-preserved
 loop-seat-preserved g c =
-    let n = cpus_of c.args.setup.now in let before = c.loop-seat.threads in let f = fresh (quota_for c.args.setup.now) n in
+    let k = g.N.Names.kit in let n = cpus_of (setup_of k) in let before = c.loop-seat.threads in let f = fresh k.terms.quota n in
     let next = next-seat f _ _ _ _ _ _ c.loop-seat.invariant.rest c.in-Some.ensures.steps.0 c.in-Some.ensures.steps.1 in
     let grown : vec_len c.push_reserved.new.self ≡ vec_len before + 1 = search rules in
     let number : c.in-Ok.thread.promise.cpu ≡ vec_len before = ap (λ p. p.cpu) c.in-Ok.ensures.ok ∙ c.cpu.ensures.cpu ∙ ap (λ (s : Seat). s.cpu) next.0 in
@@ -60,7 +57,7 @@ loop-seat-preserved g c =
 
 pub loop-thread-init : goal.loop-thread-init
 loop-thread-init g c =
-    let n = cpus_of c.args.setup.now in let f = fresh (quota_for c.args.setup.now) n in
+    let k = g.N.Names.kit in let n = cpus_of (setup_of k) in let f = fresh k.terms.quota n in
     let none : vec_len c.in_ok-done.done ≡ 0 = c.in_ok-done.ensures.len in
     let left : into_iter_len c.into_iter-thread-iterator.result ≡ vec_len c.loop-seat.threads = search rules in
     let ended : into_iter_len c.loop-seat.seat-iterator ≡ 0 = c.in-None.ensures.steps.0 in
@@ -68,34 +65,32 @@ loop-thread-init g c =
     record {
       count = omega (arith, left, none, ended, c.loop-seat.invariant.count);
       promised = λ k d below. ap (λ hs. (get_or hs k d).promise.cpu) c.into_iter-thread-iterator.ensures.into_iter_gives.0 ∙ c.loop-seat.invariant.promised k d (omega (arith, below, left)) ∙ (omega (arith, none));
-      run = λ k d below. absurd (omega (arith, below, none));
+      done = λ k d below. absurd (omega (arith, below, none));
       room = omega (arith, count, c.in_ok-done.ensures.capacity, c.len-2.ensures);
     }
 
 pub loop-thread-preserved : goal.loop-thread-preserved
 loop-thread-preserved g c =
-    let done = c.loop-thread.done in let s = c.args.setup.now in
+    let kit = g.N.Names.kit in let done = c.loop-thread.done in
+    let IsDone : ℕ → Seat → Type 0 = λ k seat. (seat.cpu ≡ k) × g.W.SeatWork.is_done kit seat in
     let grown : vec_len c.push_reserved-in-loop-thread.new.self ≡ vec_len done + 1 = search rules in
     let number : c.in-Some-thread.thread.promise.cpu ≡ vec_len done
     = first-number (λ h. h.promise.cpu) _ _ _ _ _ c.in-Some-thread.ensures.steps.0 (omega (arith, c.in-Some-thread.ensures.steps.1)) c.loop-thread.invariant.promised in
-    let here : HasRun s (vec_len done) (program_of s (vec_len done)) c.join.result
-    = subst (λ (k : ℕ). HasRun s k (program_of s k) c.join.result) number
-    (subst (λ (t : Setup). HasRun t c.in-Some-thread.thread.promise.cpu (program_of t c.in-Some-thread.thread.promise.cpu) c.join.result) c.requires.setup c.join.ensures) in
+    let here : IsDone (vec_len done) c.join.result = (c.join.ensures.0 ∙ number, c.join.ensures.1) in
     let others = other-numbers (λ h. h.promise.cpu) _ _ _ _ _ c.in-Some-thread.ensures.steps.0 c.loop-thread.invariant.promised in
     record {
       count = omega (arith, grown, c.loop-thread.invariant.count, c.in-Some-thread.ensures.steps.1);
       promised = λ k d below. others k d (omega (arith, below, c.in-Some-thread.ensures.steps.1)) ∙ (omega (arith, grown));
-      run = λ k d below. each-pushed (λ k seat. HasRun s k (program_of s k) seat) (vec_len done) (vec_items done) _ _ c.push_reserved-in-loop-thread.ensures.items done.ok.0 c.loop-thread.invariant.run here k d (omega (arith, below, grown));
+      done = λ k d below. each-pushed IsDone (vec_len done) (vec_items done) _ _ c.push_reserved-in-loop-thread.ensures.items done.ok.0 c.loop-thread.invariant.done here k d (omega (arith, below, grown));
       room = omega (arith, c.loop-thread.invariant.room, c.push_reserved-in-loop-thread.ensures.capacity);
     }
 
 pub returns : goal.returns
 returns g c =
-    let done = c.loop-thread.done in let s = c.args.setup.now in
+    let kit = g.N.Names.kit in let done = c.loop-thread.done in
     let ended : into_iter_len c.loop-thread.thread-iterator ≡ 0 = c.in-None-thread.ensures.steps.0 in
-    let all : length done.items ≡ cpus_of s = omega (arith, ended, done.ok.0, c.loop-thread.invariant.count) in
     record {
-      all = all;
-      each = λ cpu seat at. subst (λ (x : Seat). HasRun s cpu (program_of s cpu) x) (get_or_from_slice_get done.items cpu seat seat at)
-          (c.loop-thread.invariant.run cpu seat (omega (arith, slice_get_within done.items cpu seat at, done.ok.0)));
+      all = omega (arith, ended, done.ok.0, c.loop-thread.invariant.count);
+      each = λ cpu seat at. subst (λ (x : Seat). (x.cpu ≡ cpu) × g.W.SeatWork.is_done kit x) (get_or_from_slice_get done.items cpu seat seat at)
+          (c.loop-thread.invariant.done cpu seat (omega (arith, slice_get_within done.items cpu seat at, done.ok.0)));
     }

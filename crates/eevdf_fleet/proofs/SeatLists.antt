@@ -1,0 +1,44 @@
+-- Lists of what each CPU has, in order, from which the first is taken and to which one more is added, and the seats of all CPUs.
+use Rattle.std.proofs.Common.{◌≡◌, ℕ, suc, ◌+◌, ◌<◌, List, [], ◌∷◌, ◌++◌, length, map, get_or, inl, inr, sym, ap, subst, ◌∙◌, arith}
+use Rattle.std.proofs.lemmas.Bool.{cases_lt}
+use Rattle.std.proofs.lemmas.List.{get_or_append_left, get_or_push}
+use Rattle.std.specs.List.{range_with_len}
+use Rattle.eevdf_fleet.specs.Fleets.{AreSeats, Seat}
+use Rattle.eevdf_fleet.specs.SeatWorks.{AreDone}
+
+-- the first of the seats that are left, and the others
+pub next-seat : {X : Type 0} (f : ℕ → X) (k m n : ℕ) (xs rest : List X) (x : X) → xs ≡ map f (range_with_len k m) → xs ≡ x ∷ rest → n + 1 ≡ m
+    → (x ≡ f k) × (rest ≡ map f (range_with_len (k + 1) n))
+next-seat f k m n xs rest x is parted one =
+    let all : m ≡ suc n = omega arith in
+    let same : x ∷ rest ≡ f k ∷ map f (range_with_len (k + 1) n) = sym parted ∙ is ∙ ap (λ (j : ℕ). map f (range_with_len k j)) all in
+    (cc, cc)
+
+-- what holds at each place of a list, with one more
+pub each-pushed : {X : Type 0} (P : ℕ → X → Type 0) (n : ℕ) (xs ys : List X) (x : X) → ys ≡ xs ++ x ∷ [] → n ≡ length xs
+    → ((k : ℕ) (d : X) → k < n → P k (get_or xs k d)) → P n x → (k : ℕ) (d : X) → k < n + 1 → P k (get_or ys k d)
+each-pushed P n xs ys x more count all here k d within =
+    subst (λ (zs : List _). P k (get_or zs k d)) (sym more)
+    (elim (cases_lt k n) [
+      | inl low ↦ subst (P k) (sym (get_or_append_left xs (x ∷ []) d k (omega (arith, low, count)))) (all k d low)
+      | inr high ↦
+          let last : k ≡ n = omega (arith, within, high) in
+          subst (P k) (sym (get_or_push xs x d k (omega (arith, last, count)))) (subst (λ (j : ℕ). P j x) (sym last) here)
+    ])
+
+-- a number of each element of a list that goes up by one, at the first and at the others
+pub first-number : {X : Type 0} (f : X → ℕ) (m n : ℕ) (xs rest : List X) (x : X) → xs ≡ x ∷ rest → 0 < m
+    → ((k : ℕ) (d : X) → k < m → f (get_or xs k d) ≡ n + k) → f x ≡ n
+first-number f m n xs rest x parted some all =
+    let first : f (get_or xs 0 x) ≡ n + 0 = all 0 x some in
+    ap (λ (ys : List _). f (get_or ys 0 x)) (sym parted) ∙ first ∙ (omega arith)
+
+pub other-numbers : {X : Type 0} (f : X → ℕ) (m n : ℕ) (xs rest : List X) (x : X) → xs ≡ x ∷ rest
+    → ((k : ℕ) (d : X) → k < m → f (get_or xs k d) ≡ n + k) → (k : ℕ) (d : X) → k + 1 < m → f (get_or rest k d) ≡ n + 1 + k
+other-numbers f m n xs rest x parted all k d within =
+    let next : f (get_or xs (suc k) d) ≡ n + suc k = all (suc k) d (omega arith) in
+    ap (λ (ys : List _). f (get_or ys (suc k) d)) (sym parted) ∙ next ∙ (omega arith)
+
+-- seats with which a work was done are those of all CPUs, in order
+pub done-seats : (cpus : ℕ) (IsDone : Seat → Type 0) (seats : List Seat) → AreDone cpus IsDone seats → AreSeats cpus seats
+done-seats cpus IsDone seats done = record { all = done.all; in_order = λ cpu s at. (done.each cpu s at).0 }

@@ -1,0 +1,87 @@
+//! How a work of the caller's own is done with the seats of a fleet, each by a thread of its own.
+
+ghost use Rattle.std.specs.Prelude.{◌≡◌, ◌*◌, IfOk, length, true};
+ghost use Rattle.std.specs.List.{list_all};
+ghost use Rattle.eevdf_ops.specs.Histories.{IsOneThread};
+ghost use Rattle.eevdf_ops.specs.Machine.{start};
+ghost use Rattle.eevdf_ops.specs.Outcome.{machine_of};
+ghost use Rattle.eevdf_ops.specs.Places.{IsPlaced};
+ghost use Rattle.eevdf_ops.specs.Programs.{deeds_of};
+ghost use Rattle.eevdf_ops.specs.Setup.{allows, cpus_of, homes_of};
+ghost use Rattle.eevdf_fleet.specs.Fleets.{setup_of};
+
+use crate::fleet::{Closed, Fleet};
+use crate::kit::Kit;
+use crate::names::Names;
+use crate::run_fault::RunFault;
+use crate::seat::Seat;
+use crate::seat_threads::run_seats;
+use crate::seat_turn::SeatTurn;
+use crate::seat_work::SeatWork;
+use std::alloc::Global;
+use std::marker::Brand;
+use std::sync::Wait;
+use std::thread::Threads;
+
+/// Opens a fleet from the kit, does up to `turns` turns with each CPU's seat, each CPU's in a thread of its own, and closes the
+/// fleet when all threads have ended.
+///
+/// Whatever the turns do and in whatever order the threads come, the outcome is that of one thread that does the deeds of its
+/// lines one after the other, each at once: the same answers, the same queues.
+///
+/// `Memory` where a request for memory was refused, and `Start` where a thread was; there is no outcome then, and the threads
+/// that had started have ended.
+pub fn run_turns<R: Threads + Wait + Sync, T: SeatTurn + Sync>(
+    rt: &R,
+    alloc: Global,
+    kit: Kit,
+    turns: usize,
+    each: &T,
+) -> Result<Closed, RunFault>
+    ensures one_thread { IfOk result (λ o. IsOneThread (homes_of (setup_of kit)) (start (setup_of kit)) (deeds_of o.lines) o) }
+    ensures allowed { IfOk result (λ o. list_all (allows (setup_of kit)) (deeds_of o.lines) ≡ true) }
+    ensures places { IfOk result (λ o. IsPlaced (homes_of (setup_of kit)) (machine_of o.queues)) }
+    ensures left { IfOk result (λ o. length o.left ≡ cpus_of (setup_of kit) * cpus_of (setup_of kit)) }
+{
+    run_on_fleet::<Brand, _, _>(rt, alloc, kit, &Turns { turns, each })
+}
+
+/// Does the turns on the fleet of a kit.
+fn run_on_fleet<N: Names + Send + Sync, R: Threads + Wait + Sync, T: SeatTurn + Sync>(
+    rt: &R,
+    alloc: Global,
+    kit: Kit,
+    turns: &Turns<T>,
+) -> Result<Closed, RunFault>
+    requires kit { kit ≡ N.kit }
+    ensures one_thread { IfOk result (λ o. IsOneThread (homes_of (setup_of kit)) (start (setup_of kit)) (deeds_of o.lines) o) }
+    ensures allowed { IfOk result (λ o. list_all (allows (setup_of kit)) (deeds_of o.lines) ≡ true) }
+    ensures places { IfOk result (λ o. IsPlaced (homes_of (setup_of kit)) (machine_of o.queues)) }
+    ensures left { IfOk result (λ o. length o.left ≡ cpus_of (setup_of kit) * cpus_of (setup_of kit)) }
+{
+    let (fleet, seats) = Fleet::<N>::open(alloc, kit)?;
+    let seats = run_seats(rt, alloc, &fleet, seats, turns)?;
+    Ok(fleet.close(seats))
+}
+
+/// So many turns, each of this kind.
+#[derive(Drop)]
+struct Turns<'a, T> {
+    turns: usize,
+    each: &'a T,
+}
+
+impl<'a, T: SeatTurn> SeatWork for Turns<'a, T> {
+    ghost serves = { λ _ _. Unit {0} };
+
+    ghost is_done = { λ _ _. Unit {0} };
+
+    fn work<N: Names, R: Wait>(&self, rt: &R, fleet: &Fleet<N>, mut seat: Seat<N>) -> Seat<N> {
+        for turn in 0..self.turns {
+            if self.each.turn(rt, fleet, &mut seat, turn).is_break() {
+                break;
+            }
+        }
+        seat
+    }
+}
