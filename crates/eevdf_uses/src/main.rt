@@ -5,20 +5,25 @@ mod checked_input;
 mod one_queue;
 mod own_order;
 mod two_queues;
+mod two_threads;
 
 use crate::checked_input::{Order, answers, two_cpus};
 use crate::one_queue::{add, one_queue};
 use crate::own_order::{last_first, pull_and_picks};
 use crate::two_queues::pull;
+use crate::two_threads::sleep_and_wake;
+use eevdf_ops::Deed;
 use eevdf_queue::{Queue, TaskId};
 use std::io;
 use std::sync::{Mutex, Wait};
+use std::thread::Threads;
 
 fn main(rt: HostRuntime) -> io::Result<()> {
     show_one_queue(&rt)?;
     show_two_queues(&rt)?;
     show_checked_input(&rt)?;
-    show_own_order(&rt)
+    show_own_order(&rt)?;
+    show_two_threads(&rt)
 }
 
 fn show_one_queue(rt: &(impl Print + AllocGlobal)) -> io::Result<()> {
@@ -75,5 +80,32 @@ fn show_own_order(rt: &(impl Print + AllocGlobal)) -> io::Result<()> {
             println!(rt; "{line}")?;
         }
     }
+    Ok(())
+}
+
+/// Prints what is the same in whatever order the threads come: the lines of CPU 0, and how many requests there were.
+fn show_two_threads(rt: &(impl Print + AllocGlobal + Threads + Wait + Sync)) -> io::Result<()> {
+    println!(rt; "two threads")?;
+    let Ok(setup) = two_cpus(rt.alloc()) else {
+        return Ok(());
+    };
+    let sleeper = TaskId::new(1).unwrap();
+    let Ok(closed) = sleep_and_wake(rt, rt.alloc(), &setup, sleeper) else {
+        return Ok(());
+    };
+    let mut requests = 0usize;
+    for line in closed.history() {
+        match line.deed {
+            Deed::Pick { cpu } | Deed::Tick { cpu, .. } if cpu.get() == 0 => {
+                println!(rt; "{line}")?
+            }
+            Deed::Wake { .. } => requests = requests.saturating_add(1),
+            _ => (),
+        }
+    }
+    if closed.cpus() == 2 {
+        requests = requests.saturating_add(closed.left(0, 1).len());
+    }
+    println!(rt; "{requests} requests taken or left")?;
     Ok(())
 }
