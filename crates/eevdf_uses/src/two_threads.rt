@@ -9,8 +9,8 @@ use std::ops::ControlFlow;
 use std::sync::Wait;
 use std::thread::Threads;
 
-/// In each turn a CPU runs its next task for 2 ms. CPU 0 then asks to wake the sleeper; another CPU takes such requests, and puts the
-/// sleeper to sleep if it runs there.
+/// In each turn a CPU runs its next task for 2 ms. CPU 0 then asks to wake the sleeper; another CPU takes such requests, and puts
+/// the sleeper to sleep if it runs there.
 #[derive(Drop)]
 pub struct SleepAndWake {
     pub sleeper: TaskId,
