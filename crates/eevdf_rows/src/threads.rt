@@ -9,5 +9,6 @@ mod held_calls;
 mod holding_gate;
 mod many_programs;
 mod one_holder;
+mod own_turns;
 mod printed_history;
 mod workload_text;
