@@ -35,16 +35,13 @@ fn make_calls<N: Names, R: Wait>(
     rt: &R,
     fleet: &Fleet<N>,
     seats: &mut [Seat<N>],
-    setup: &Setup,
     calls: &[(usize, Call, Done)],
-) -> bool
-    requires { setup_of N.kit ≡ setup.now }
-{
+) -> bool {
     for (cpu, call, done) in calls {
         let Some(seat) = seats.get_mut(*cpu) else {
             return false;
         };
-        if call_on(rt, fleet, seat, setup, *call) != Some(*done) {
+        if call_on(rt, fleet, seat, *call) != Some(*done) {
             return false;
         }
     }
@@ -55,15 +52,13 @@ fn make_calls<N: Names, R: Wait>(
 fn outcome_of<N: Names, R: Wait>(
     rt: &R,
     alloc: Global,
-    setup: &Setup,
     kit: Kit,
     calls: &[(usize, Call, Done)],
 ) -> Option<Outcome>
-    requires kit { kit ≡ N.kit }
-    requires setup { setup_of kit ≡ setup.now }
+    requires { kit ≡ N.kit }
 {
     let (fleet, mut seats) = Fleet::<N>::open(alloc, kit).ok()?;
-    if make_calls(rt, &fleet, &mut seats, setup, calls) && fleet.has_all_seats(&seats) {
+    if make_calls(rt, &fleet, &mut seats, calls) && fleet.has_all_seats(&seats) {
         Some(fleet.close(seats))
     } else {
         None
@@ -85,7 +80,7 @@ fn kit_of(alloc: Global, setup: &Setup, quota: usize, rings: usize) -> Option<Ki
 fn holds<R: Wait>(rt: &R, alloc: Global, case: &Case) -> Option<bool> {
     let workload = read_workload(alloc, case.workload).ok()?;
     let kit = kit_of(alloc, workload.setup(), case.quota, case.rings)?;
-    let outcome = outcome_of::<Brand, _>(rt, alloc, workload.setup(), kit, case.calls)?;
+    let outcome = outcome_of::<Brand, _>(rt, alloc, kit, case.calls)?;
     let text = report(alloc, &outcome, true).ok()?;
     Some(text.as_slice() == case.report.as_bytes())
 }

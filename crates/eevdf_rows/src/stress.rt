@@ -55,7 +55,7 @@ fn do_as_one<N: Names + Send + Sync, R: Threads + Wait + Abort + Sync>(
     let threads = thread::map_vec(
         rt,
         threads,
-        &move |own| { work(rt, shared, setup, OPERATIONS, own) },
+        &move |own| { work(rt, shared, OPERATIONS, own) },
     )?;
     for own in threads.iter() {
         assert!(rt; own.done == OPERATIONS, "seed {seed}");

@@ -47,7 +47,7 @@ fn report_of<N: Names + Send + Sync, R: Threads + Wait + Sync>(
     let threads = thread::map_vec(
         rt,
         threads,
-        &move |own| { work(rt, shared, setup, operations, own) },
+        &move |own| { work(rt, shared, operations, own) },
     )?;
     let done = done_by(threads.as_slice());
     let seats = seats_of(alloc, threads)?;

@@ -1,13 +1,12 @@
 //! Seats of the least and the most room, and rings of the least and the most room.
 
 ghost use Rattle.std.specs.Prelude.{◌≡◌};
-ghost use Rattle.eevdf_fleet.specs.Fleets.{setup_of};
 
 use super::kit_of;
 use super::seat_call::{Call, Done, call_on};
 use eevdf_bench::read_workload;
 use eevdf_fleet::{Fleet, Kit, Names, Seat};
-use eevdf_ops::{Outcome, Setup};
+use eevdf_ops::Outcome;
 use std::alloc::Global;
 use std::marker::Brand;
 use std::sync::Wait;
@@ -54,33 +53,28 @@ fn come_so<N: Names, R: Wait>(
     rt: &R,
     fleet: &Fleet<N>,
     seat: &mut Seat<N>,
-    setup: &Setup,
     repeated: Repeated,
-) -> bool
-    requires { setup_of N.kit ≡ setup.now }
-{
+) -> bool {
     for _call in 0..repeated.times {
-        if call_on(rt, fleet, seat, setup, repeated.call) != Some(repeated.done) {
+        if call_on(rt, fleet, seat, repeated.call) != Some(repeated.done) {
             return false;
         }
     }
-    call_on(rt, fleet, seat, setup, repeated.call) == Some(repeated.refused)
+    call_on(rt, fleet, seat, repeated.call) == Some(repeated.refused)
 }
 
 /// What a fleet comes to by calls on CPU 1, where they come to what is told.
 fn outcome_of<N: Names, R: Wait>(
     rt: &R,
     alloc: Global,
-    setup: &Setup,
     kit: Kit,
     repeated: Repeated,
 ) -> Option<Outcome>
-    requires kit { kit ≡ N.kit }
-    requires setup { setup_of kit ≡ setup.now }
+    requires { kit ≡ N.kit }
 {
     let (fleet, mut seats) = Fleet::<N>::open(alloc, kit).ok()?;
     let seat = seats.get_mut(1)?;
-    if come_so(rt, &fleet, seat, setup, repeated) && fleet.has_all_seats(&seats) {
+    if come_so(rt, &fleet, seat, repeated) && fleet.has_all_seats(&seats) {
         Some(fleet.close(seats))
     } else {
         None
@@ -97,7 +91,7 @@ fn outcome_of_two<R: Wait>(
 ) -> Option<Outcome> {
     let workload = read_workload(alloc, TWO_CPUS).ok()?;
     let kit = kit_of(alloc, workload.setup(), quota, rings)?;
-    outcome_of::<Brand, _>(rt, alloc, workload.setup(), kit, repeated)
+    outcome_of::<Brand, _>(rt, alloc, kit, repeated)
 }
 
 /// How many requests CPU 1 has posted to CPU 0 that weren't drained.

@@ -1,7 +1,6 @@
 //! A fleet of 64 CPUs.
 
 ghost use Rattle.std.specs.Prelude.{◌≡◌};
-ghost use Rattle.eevdf_fleet.specs.Fleets.{setup_of};
 
 use super::kit_of;
 use super::seat_call::{Call, Done, call_on};
@@ -29,16 +28,9 @@ fn sixty_four_cpus(alloc: Global) -> Option<Setup> {
 }
 
 /// Whether each seat can post a request for the task.
-fn all_post<N: Names, R: Wait>(
-    rt: &R,
-    fleet: &Fleet<N>,
-    seats: &mut [Seat<N>],
-    setup: &Setup,
-) -> bool
-    requires { setup_of N.kit ≡ setup.now }
-{
+fn all_post<N: Names, R: Wait>(rt: &R, fleet: &Fleet<N>, seats: &mut [Seat<N>]) -> bool {
     for seat in seats {
-        if call_on(rt, fleet, seat, setup, Call::Post(0)) != Some(Done::Posted) {
+        if call_on(rt, fleet, seat, Call::Post(0)) != Some(Done::Posted) {
             return false;
         }
     }
@@ -46,22 +38,21 @@ fn all_post<N: Names, R: Wait>(
 }
 
 /// What a drain of CPU 0 comes to, once all have asked for its task.
-fn all_ask<N: Names, R: Wait>(rt: &R, alloc: Global, setup: &Setup, kit: Kit) -> Option<Done>
-    requires kit { kit ≡ N.kit }
-    requires setup { setup_of kit ≡ setup.now }
+fn all_ask<N: Names, R: Wait>(rt: &R, alloc: Global, kit: Kit) -> Option<Done>
+    requires { kit ≡ N.kit }
 {
     let (fleet, mut seats) = Fleet::<N>::open(alloc, kit).ok()?;
-    if !all_post(rt, &fleet, &mut seats, setup) {
+    if !all_post(rt, &fleet, &mut seats) {
         return None;
     }
-    call_on(rt, &fleet, seats.first_mut()?, setup, Call::Drain)
+    call_on(rt, &fleet, seats.first_mut()?, Call::Drain)
 }
 
 /// The same with so much room for lines.
 fn drain_of_room<R: Wait>(rt: &R, alloc: Global, quota: usize) -> Option<Done> {
     let setup = sixty_four_cpus(alloc)?;
     let kit = kit_of(alloc, &setup, quota, 1)?;
-    all_ask::<Brand, _>(rt, alloc, &setup, kit)
+    all_ask::<Brand, _>(rt, alloc, kit)
 }
 
 #[test]

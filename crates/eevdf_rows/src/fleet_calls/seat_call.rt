@@ -1,10 +1,11 @@
 //! A call of a seat as a value, and what comes of it.
 
-ghost use Rattle.std.specs.Prelude.{◌≡◌};
+ghost use Rattle.std.specs.Prelude.{◌≡◌, IfSome, true};
 ghost use Rattle.eevdf_fleet.specs.Fleets.{setup_of};
+ghost use Rattle.eevdf_ops.specs.Setup.{homes_of, is_task};
 
 use eevdf_fleet::{Drained, Fleet, Names, RingFull, Seat, SeatFull};
-use eevdf_ops::{Answer, CpuId, Setup};
+use eevdf_ops::{Answer, CpuId};
 use eevdf_queue::TaskId;
 use eevdf_weight::{Nice, Ns};
 use std::sync::Wait;
@@ -37,32 +38,44 @@ pub fn call_on<N: Names, R: Wait>(
     rt: &R,
     fleet: &Fleet<N>,
     seat: &mut Seat<N>,
-    setup: &Setup,
     call: Call,
-) -> Option<Done>
-    requires { setup_of N.kit ≡ setup.now }
-{
-    match call {
-        Call::Tick(ns) => Some(line(fleet.tick(rt, seat, Ns::new(ns)?))),
-        Call::Pick => Some(line(fleet.pick(rt, seat))),
-        Call::Yield => Some(line(fleet.yield_now(rt, seat))),
+) -> Option<Done> {
+    Some(match call {
+        Call::Tick(ns) => line(fleet.tick(rt, seat, Ns::new(ns)?)),
+        Call::Pick => line(fleet.pick(rt, seat)),
+        Call::Yield => line(fleet.yield_now(rt, seat)),
         Call::Renice(task, level) => {
-            renice(
-                rt,
-                fleet,
-                seat,
-                setup,
-                TaskId::new(task)?,
-                Nice::new(level)?,
-            )
+            let task = known_task(fleet, task)?;
+            line(fleet.renice(rt, seat, task, Nice::new(level)?))
         }
-        Call::Sleep(task) => sleep(rt, fleet, seat, setup, TaskId::new(task)?),
-        Call::Pull(source) => pull(rt, fleet, seat, setup, CpuId::new(source)?),
-        Call::Post(task) => post(seat, setup, TaskId::new(task)?),
-        Call::Drain => Some(match fleet.drain(rt, seat) {
+        Call::Sleep(task) => line(fleet.sleep(rt, seat, known_task(fleet, task)?)),
+        Call::Pull(source) => {
+            let source = CpuId::new(source)?;
+            if !fleet.has_cpu(source) || source == seat.cpu() {
+                return None;
+            }
+            line(fleet.pull(rt, seat, source))
+        }
+        Call::Post(task) => match seat.post(known_task(fleet, task)?) {
+            Ok(()) => Done::Posted,
+            Err(RingFull { task: _ }) => Done::RingFull,
+        },
+        Call::Drain => match fleet.drain(rt, seat) {
             Ok(Drained { taken, woken }) => Done::Drained { taken, woken },
             Err(SeatFull) => Done::SeatFull,
-        }),
+        },
+    })
+}
+
+/// A task of the setup by its number.
+fn known_task<N: Names>(fleet: &Fleet<N>, number: u64) -> Option<TaskId>
+    ensures { IfSome result (λ task. is_task (homes_of (setup_of N.kit)) task ≡ true) }
+{
+    let task = TaskId::new(number)?;
+    if fleet.has_task(task) {
+        Some(task)
+    } else {
+        None
     }
 }
 
@@ -70,67 +83,5 @@ fn line(answer: Result<Answer, SeatFull>) -> Done {
     match answer {
         Ok(_) => Done::Line,
         Err(SeatFull) => Done::SeatFull,
-    }
-}
-
-fn renice<N: Names, R: Wait>(
-    rt: &R,
-    fleet: &Fleet<N>,
-    seat: &mut Seat<N>,
-    setup: &Setup,
-    task: TaskId,
-    nice: Nice,
-) -> Option<Done>
-    requires { setup_of N.kit ≡ setup.now }
-{
-    if (task.get() as usize) < setup.tasks() {
-        Some(line(fleet.renice(rt, seat, task, nice)))
-    } else {
-        None
-    }
-}
-
-fn sleep<N: Names, R: Wait>(
-    rt: &R,
-    fleet: &Fleet<N>,
-    seat: &mut Seat<N>,
-    setup: &Setup,
-    task: TaskId,
-) -> Option<Done>
-    requires { setup_of N.kit ≡ setup.now }
-{
-    if (task.get() as usize) < setup.tasks() {
-        Some(line(fleet.sleep(rt, seat, task)))
-    } else {
-        None
-    }
-}
-
-fn pull<N: Names, R: Wait>(
-    rt: &R,
-    fleet: &Fleet<N>,
-    seat: &mut Seat<N>,
-    setup: &Setup,
-    source: CpuId,
-) -> Option<Done>
-    requires { setup_of N.kit ≡ setup.now }
-{
-    if (source.get() as usize) < setup.cpus() && source.get() != seat.cpu().get() {
-        Some(line(fleet.pull(rt, seat, source)))
-    } else {
-        None
-    }
-}
-
-fn post<N: Names>(seat: &mut Seat<N>, setup: &Setup, task: TaskId) -> Option<Done>
-    requires { setup_of N.kit ≡ setup.now }
-{
-    if (task.get() as usize) < setup.tasks() {
-        Some(match seat.post(task) {
-            Ok(()) => Done::Posted,
-            Err(RingFull { task: _ }) => Done::RingFull,
-        })
-    } else {
-        None
     }
 }

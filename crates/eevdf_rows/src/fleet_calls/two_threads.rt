@@ -20,22 +20,14 @@ use std::test::Fail;
 use std::thread::{Threads, join};
 
 /// A hundred calls on one seat: a pick, a tick and a pull in turn.
-fn operate<N: Names, R: Wait>(
-    rt: &R,
-    fleet: &Fleet<N>,
-    mut seat: Seat<N>,
-    setup: &Setup,
-    other: u64,
-) -> Seat<N>
-    requires { setup_of N.kit ≡ setup.now }
-{
+fn operate<N: Names, R: Wait>(rt: &R, fleet: &Fleet<N>, mut seat: Seat<N>, other: u64) -> Seat<N> {
     for number in 0..100usize {
         let call = match number % 3 {
             0 => Call::Pick,
             1 => Call::Tick(1_000),
             _ => Call::Pull(other),
         };
-        let _done = call_on(rt, fleet, &mut seat, setup, call);
+        let _done = call_on(rt, fleet, &mut seat, call);
     }
     seat
 }
@@ -57,12 +49,8 @@ fn two_operate<N: Names + Send + Sync, R: Threads + Wait + Sync>(
     let shared = &fleet;
     let (zero, one) = join(
         rt,
-        move || -> Seat<N>
-            requires { setup_of N.kit ≡ setup.now }
-        { operate(rt, shared, zero, setup, 1) },
-        move || -> Seat<N>
-            requires { setup_of N.kit ≡ setup.now }
-        { operate(rt, shared, one, setup, 0) },
+        move || operate(rt, shared, zero, 1),
+        move || operate(rt, shared, one, 0),
     );
     seats.push(zero).ok()?;
     seats.push(one).ok()?;
