@@ -1,5 +1,5 @@
 -- The command for which the program's words ask, by `clap`'s own definition of a parse.
-use Rattle.std.specs.Prelude.{◌≡◌, Bool, true, false, Option, Some, None, List, if◌then◌else◌, codes, option_map, option_and_then}
+use Rattle.std.specs.Prelude.{◌≡◌, Bool, true, false, Option, Some, None, List, if◌then◌else◌, ◌++◌, codes, option_map, option_and_then}
 use Rattle.std.specs.Str.{bytes_eq}
 use Rattle.std.specs.Option.{option_map_or}
 use Rattle.clap.specs.Words.{App, Row, Rule, Text, fault_of, first_of, new_app, new_rule, subcommand_of, with_rule, with_subcommand}
@@ -76,3 +76,11 @@ kind_named word = if bytes_eq word (word_of Solo) then Some Solo
 abbrev pub word_fault : ErrorKind → WordFault
 word_fault OutOfMemory = Memory
 word_fault _ = Words
+
+-- words that ask for a command
+abbrev pub command_text : Command → Text
+command_text c = if c.history then word_of c.kind ++ codes " --history" else word_of c.kind
+
+abbrev pub word_fault_text : WordFault → Text
+word_fault_text Words = codes "not a command line of this program"
+word_fault_text Memory = codes "memory"

@@ -1,27 +1,43 @@
+ghost use Rattle.std.specs.Prelude.{Some};
+ghost use Rattle.eevdf_bench.specs.TextFault.{bench_fault_text};
+
 use eevdf_fleet::RunFault;
 use eevdf_steps::PlayFault;
 use eevdf_workload::LoadFault;
-use thiserror::Error;
+use std::error::Error;
+use std::fmt;
 
 /// Why a run of the workbench failed.
-#[derive(Clone, Copy, PartialEq, Eq, Debug, Error)]
+#[derive(Clone, Copy, PartialEq, Eq, Debug)]
 pub enum BenchFault {
     /// The workload is refused, or lacks the part that the command needs.
-    #[error("{0}")]
     Load(LoadFault),
     /// The order can't be played.
-    #[error("a bad order: {0:?}")]
     Play(PlayFault),
     /// The programs couldn't be run by threads.
-    #[error("the programs can't be run: {0:?}")]
     Run(RunFault),
     /// The reader failed.
-    #[error("reading failed")]
     Read,
     /// The writer failed.
-    #[error("writing failed")]
     Write,
     /// There was no memory.
-    #[error("out of memory")]
     Memory,
 }
+
+/// What the program prints of the fault, as `order at 7: done`.
+impl fmt::Display for BenchFault {
+    ghost output = { λ fault. Some (bench_fault_text fault) };
+
+    fn fmt<W: fmt::Write>(&self, f: &mut fmt::Formatter<W>) -> fmt::Result {
+        match self {
+            BenchFault::Load(fault) => write!(f, "{fault}"),
+            BenchFault::Play(fault) => write!(f, "{fault}"),
+            BenchFault::Run(fault) => write!(f, "{fault}"),
+            BenchFault::Read => f.write_str("reading"),
+            BenchFault::Write => f.write_str("writing"),
+            BenchFault::Memory => f.write_str("memory"),
+        }
+    }
+}
+
+impl Error for BenchFault {}

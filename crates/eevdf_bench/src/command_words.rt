@@ -10,7 +10,7 @@ use clap::error::ErrorKind;
 use clap::{Arg, ArgAction, ArgMatches, Error};
 use std::alloc::{AllocError, Global};
 use std::convert::AsStr;
-use thiserror::Error;
+use std::fmt;
 
 /// What the program is asked to do with a workload.
 #[derive(Clone, Copy, PartialEq, Eq, Debug)]
@@ -23,6 +23,19 @@ pub enum Kind {
     Run,
 }
 
+/// The subcommand's word.
+impl fmt::Display for Kind {
+    ghost output = { λ kind. Some (spec.word_of kind) };
+
+    fn fmt<W: fmt::Write>(&self, f: &mut fmt::Formatter<W>) -> fmt::Result {
+        match self {
+            Kind::Solo => f.write_str("solo"),
+            Kind::Replay => f.write_str("replay"),
+            Kind::Run => f.write_str("run"),
+        }
+    }
+}
+
 /// What the program's words ask for.
 #[derive(Clone, Copy, PartialEq, Eq, Debug)]
 pub struct Command {
@@ -31,16 +44,41 @@ pub struct Command {
     pub history: bool,
 }
 
+/// Words that ask for this, as `solo --history`.
+impl fmt::Display for Command {
+    ghost output = { λ command. Some (spec.command_text command) };
+
+    fn fmt<W: fmt::Write>(&self, f: &mut fmt::Formatter<W>) -> fmt::Result {
+        if self.history {
+            write!(f, "{} --history", self.kind)
+        } else {
+            write!(f, "{}", self.kind)
+        }
+    }
+}
+
 /// Why the words gave no command.
-#[derive(Clone, Copy, PartialEq, Eq, Debug, Error)]
+#[derive(Clone, Copy, PartialEq, Eq, Debug)]
 pub enum WordFault {
     /// They are no command line of the program, as a call for help isn't.
-    #[error("the words are no command line of this program")]
     Words,
     /// There was no memory.
-    #[error("out of memory")]
     Memory,
 }
+
+/// What is wrong, in words.
+impl fmt::Display for WordFault {
+    ghost output = { λ fault. Some (spec.word_fault_text fault) };
+
+    fn fmt<W: fmt::Write>(&self, f: &mut fmt::Formatter<W>) -> fmt::Result {
+        match self {
+            WordFault::Words => f.write_str("not a command line of this program"),
+            WordFault::Memory => f.write_str("memory"),
+        }
+    }
+}
+
+impl std::error::Error for WordFault {}
 
 impl From<Error> for WordFault {
     ghost from_gives = { λ e f. f ≡ spec.word_fault (kind_of e) };

@@ -3,3 +3,4 @@ pub mod Words
 pub mod MeaningSteps
 pub mod Meaning
 pub mod MeaningLaws
+pub mod FaultTexts

@@ -1,5 +1,5 @@
 -- What a workload of each version may hold.
-use Rattle.std.specs.Prelude.{ℕ, ◌==◌, nat_lt, true, false, if◌then◌else◌, Option, Some, None}
+use Rattle.std.specs.Prelude.{ℕ, ◌==◌, nat_lt, true, false, if◌then◌else◌, List, codes, Option, Some, None}
 use Rattle.eevdf_ops.specs.Numbers.{checked_cpu}
 use Rattle.eevdf_workload.specs.declared.workload_version.Version.{Version}
 use Rattle.eevdf_workload.specs.declared.workload_version.Version.TheVariants.{One, Two}
@@ -16,3 +16,8 @@ checked_version n = if n == 1 then Some One else if n == 2 then Some Two else No
 -- the CPU of a number, where the number is within the limits
 abbrev pub cpu_within : Limits → ℕ → Option ℕ
 cpu_within limits n = if nat_lt n limits.cpus then checked_cpu n else None
+
+-- the number of a version in a workload
+abbrev pub version_text : Version → List ℕ
+version_text One = codes "1"
+version_text Two = codes "2"

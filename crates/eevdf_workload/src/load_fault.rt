@@ -1,5 +1,10 @@
+ghost use Rattle.std.specs.Prelude.{Some};
+ghost use Rattle.eevdf_workload.specs.FaultTexts.{key_text, load_fault_text};
+
+use crate::loaded_workload::Workload;
 use eevdf_ops::SetupFault;
-use thiserror::Error;
+use std::error::Error;
+use std::fmt;
 
 /// A place in a workload. Counts begin at 0.
 #[derive(Clone, Copy, PartialEq, Eq, Debug)]
@@ -32,25 +37,64 @@ pub enum Key {
     Script(usize),
 }
 
+/// The key's name in a workload, with the numbers that it has, as `task 3 home`.
+impl fmt::Display for Key {
+    ghost output = { λ key. Some (key_text key) };
+
+    fn fmt<W: fmt::Write>(&self, f: &mut fmt::Formatter<W>) -> fmt::Result {
+        match self {
+            Key::Version => f.write_str("version"),
+            Key::Tasks => f.write_str("task"),
+            Key::Task(task) => write!(f, "task {task}"),
+            Key::Home(task) => write!(f, "task {task} home"),
+            Key::Nice(task) => write!(f, "task {task} nice"),
+            Key::Slice(task) => write!(f, "task {task} slice"),
+            Key::Start(task) => write!(f, "task {task} start"),
+            Key::Asleep(task) => write!(f, "task {task} asleep"),
+            Key::Programs => f.write_str("program"),
+            Key::Program(cpu) => write!(f, "program {cpu}"),
+            Key::Op(cpu, place) => write!(f, "program {cpu} at {place}"),
+            Key::Orders => f.write_str("order"),
+            Key::Order(place) => write!(f, "order at {place}"),
+            Key::Scripts => f.write_str("script"),
+            Key::Script(place) => write!(f, "script at {place}"),
+        }
+    }
+}
+
 /// Why a workload is refused.
-#[derive(Clone, Copy, PartialEq, Eq, Debug, Error)]
+#[derive(Clone, Copy, PartialEq, Eq, Debug)]
 pub enum LoadFault {
     /// It has more than 16777216 bytes.
-    #[error("the workload is longer than 16777216 bytes")]
     TooLarge,
     /// It isn't UTF-8, or not a TOML document.
-    #[error("the workload is not a TOML document")]
     NotToml,
     /// A key that must be there isn't.
-    #[error("a key is missing: {key:?}")]
     Missing { key: Key },
     /// A value is of the wrong kind or out of its bounds.
-    #[error("a bad value at {key:?}")]
     BadValue { key: Key },
     /// The setup that it describes is refused.
-    #[error("a bad setup: {0:?}")]
     Setup(SetupFault),
     /// There was no memory.
-    #[error("out of memory")]
     Memory,
 }
+
+/// What is wrong, and where, as `bad value at task 3 home`.
+impl fmt::Display for LoadFault {
+    ghost output = { λ fault. Some (load_fault_text fault) };
+
+    fn fmt<W: fmt::Write>(&self, f: &mut fmt::Formatter<W>) -> fmt::Result {
+        match self {
+            LoadFault::TooLarge => {
+                write!(f, "workload longer than {} bytes", Workload::MOST_BYTES)
+            }
+            LoadFault::NotToml => f.write_str("not a TOML document"),
+            LoadFault::Missing { key } => write!(f, "missing {key}"),
+            LoadFault::BadValue { key } => write!(f, "bad value at {key}"),
+            LoadFault::Setup(fault) => write!(f, "{fault}"),
+            LoadFault::Memory => f.write_str("memory"),
+        }
+    }
+}
+
+impl Error for LoadFault {}

@@ -27,6 +27,15 @@ impl Model for Workload {
 impl Workload {
     ghost use Rattle.std.specs.Prelude.{option_map};
 
+    /// A workload has at most so many bytes, in either version.
+    pub const MOST_BYTES: usize = 16_777_216;
+
+    /// A script has at most so many deeds, in version 2.
+    pub const MOST_DEEDS: usize = 640_000;
+
+    /// A script has at most so many deeds, in version 1.
+    pub const MOST_DEEDS_IN_VERSION_ONE: usize = 160_000;
+
     /// A workload of this setup, this order and this script.
     pub(crate) fn new(
         setup: Setup,

@@ -29,16 +29,13 @@ use eevdf_ops::{Deed, Op, Setup, SetupFault, TaskSpec};
 use std::alloc::Global;
 use toml::Table;
 
-/// A workload has at most so many bytes.
-const MOST_BYTES: usize = 16_777_216;
-
 /// The workload that the bytes of a TOML document describe, or the first fault that is found in them.
 /// `Memory` may come in place of either.
 #[tactic(auto, unfolding(crate::specs::Meaning::meaning))]
 pub fn read_workload(alloc: Global, bytes: &[u8]) -> Result<Workload, LoadFault>
     ensures { Reads (λ w. w) (meaning bytes.now) result }
 {
-    if bytes.len() > MOST_BYTES {
+    if bytes.len() > Workload::MOST_BYTES {
         return Err(LoadFault::TooLarge);
     }
     let document = document_of(alloc, bytes)?;

@@ -1,13 +1,27 @@
-ghost use Rattle.std.specs.Prelude.{◌≡◌};
-ghost use Rattle.eevdf_workload.specs.Versions.{cpu_within, limits_of};
+ghost use Rattle.std.specs.Prelude.{◌≡◌, Some};
+ghost use Rattle.eevdf_workload.specs.Versions.{cpu_within, limits_of, version_text};
 
+use crate::loaded_workload::Workload;
 use eevdf_ops::CpuId;
+use std::fmt;
 
 /// The version of a workload's format.
 #[derive(Clone, Copy, PartialEq, Eq, Debug)]
 pub enum Version {
     One,
     Two,
+}
+
+/// The version's number, as a workload gives it.
+impl fmt::Display for Version {
+    ghost output = { λ version. Some (version_text version) };
+
+    fn fmt<W: fmt::Write>(&self, f: &mut fmt::Formatter<W>) -> fmt::Result {
+        match self {
+            Version::One => f.write_str("1"),
+            Version::Two => f.write_str("2"),
+        }
+    }
 }
 
 /// What a workload of a version may hold.
@@ -29,12 +43,12 @@ impl Version {
         match self {
             Version::One => Limits {
                 cpus: 16,
-                deeds: 160_000,
+                deeds: Workload::MOST_DEEDS_IN_VERSION_ONE,
                 renice: false,
             },
             Version::Two => Limits {
                 cpus: 64,
-                deeds: 640_000,
+                deeds: Workload::MOST_DEEDS,
                 renice: true,
             },
         }
