@@ -121,10 +121,10 @@ report_written c (Some all) input bytes text made held held' cut b t r w = recor
 }
 
 -- the same where a beginning was written
-pub begun : (c : Command) (left : Option (List ℕ)) (input text : List ℕ) (held held' : Option (List ℕ)) → IfSome left (λ all. input ≡ take 16777217 all) → IsAnswerOf c input (Ok text)
-    → HasBegun held held' text → IfSome left (λ all. Begins (IsAnswerOf c all) held held')
-begun c None input text held held' cut a w = tt
-begun c (Some all) input text held held' cut a w = record {
+pub begun : (c : Command) (left : Option (List ℕ)) (input text : List ℕ) (flush_failed : Bool) (held held' : Option (List ℕ)) → IfSome left (λ all. input ≡ take 16777217 all)
+    → IsAnswerOf c input (Ok text) → HasBegun flush_failed held held' text → IfSome left (λ all. Begins (IsAnswerOf c all) flush_failed held held')
+begun c None input text flush_failed held held' cut a w = tt
+begun c (Some all) input text flush_failed held held' cut a w = record {
   text = text;
   answered = of_the_whole c all input (λ Allows. Allows (Ok text)) cut a;
   begun = w;

@@ -131,8 +131,8 @@ pub record Writes (Allows : Answer → Type 0) (held held' : Option (List ℕ)) 
   pub answered : Allows (Ok text)
   pub written : Appends held held' text
 
--- the text is an allowed answer, and a beginning of it was written after what was there
-pub record Begins (Allows : Answer → Type 0) (held held' : Option (List ℕ)) : Type 0 where
+-- the text is an allowed answer, of which a call that failed left a beginning after what was there
+pub record Begins (Allows : Answer → Type 0) (flush_failed : Bool) (held held' : Option (List ℕ)) : Type 0 where
   pub text : List ℕ
   pub answered : Allows (Ok text)
-  pub begun : HasBegun held held' text
+  pub begun : HasBegun flush_failed held held' text

@@ -28,8 +28,8 @@ use std::thread::Threads;
 ///
 /// A reader that goes on for more than 16777216 bytes is read to one byte more, and then refused; it is never read
 /// further. `Read` comes exactly where the reader failed, `Write` exactly where the writer did, and `Ok` where neither did and
-/// the report is flushed. An end that failed isn't called again. After a `Write` a beginning of the report was written; after
-/// any other fault the writer is as it was. Only `Read` and `Memory` may come before the workload has been read to its end.
+/// the report is flushed. An end that failed isn't called again. After a `Write` a beginning of the report was written, the
+/// whole report where it was the flush that failed; after any other fault the writer is as it was. Only `Read` and `Memory` may come before the workload has been read to its end.
 pub fn engine<T: Threads + Wait + Sync, R: Read, W: Write>(
     rt: &T,
     alloc: Global,
@@ -47,7 +47,7 @@ pub fn engine<T: Threads + Wait + Sync, R: Read, W: Write>(
         Refuses (IsAnswerOf command input) f)) }
     ensures thread { result ≡ Err (BenchFault.Run RunFault.Start) → command.kind ≡ Kind.Run }
     ensures begun { result ≡ Err BenchFault.Write → IfSome (R.remaining reader.old.end) (λ input.
-        Begins (IsAnswerOf command input) (W.contents writer.old.end) (W.contents writer.new.end)) }
+        Begins (IsAnswerOf command input) writer.new.flush_failed (W.contents writer.old.end) (W.contents writer.new.end)) }
     ensures consumed { result ≢ Err BenchFault.Read → result ≢ Err BenchFault.Memory →
         ReadsTo 16777217 (R.remaining reader.old.end) (R.remaining reader.new.end) }
     ensures limit { ReadsWithin 16777217 (R.remaining reader.old.end) (R.remaining reader.new.end) }

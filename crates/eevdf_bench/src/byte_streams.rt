@@ -6,11 +6,12 @@ ghost use Rattle.eevdf_bench.specs.Streams.{ReadsOn, ReadsTo, ReadsWithin, HasBe
 
 use crate::bench_fault::BenchFault;
 use crate::watched::Watched;
+use eevdf_workload::Workload;
 use std::alloc::Global;
 use std::io::{Read, Write};
 
 /// One byte more than a workload may have: enough to see that there are too many.
-const READ_LIMIT: usize = 16777217;
+const READ_LIMIT: usize = Workload::MOST_BYTES + 1;
 
 /// The bytes of a reader that hasn't failed yet, read to its end, or to one byte past the limit of a workload and no further.
 /// `Read` comes exactly where the reader fails, `Memory` where there is no room for the bytes.
@@ -62,11 +63,12 @@ fn read_piece<R: Read>(reader: &mut Watched<R>, input: &mut Vec<u8>) -> Result<u
 }
 
 /// Writes a whole text to a writer that hasn't failed yet, and flushes. `Write` where the writer fails: a beginning of the text
-/// is written then.
+/// is written then, the whole text where it was the flush that failed, and less where it was a write.
 pub fn write_text<W: Write>(writer: &mut Watched<W>, text: &[u8]) -> Result<(), BenchFault>
     requires { writer.old.failed ≡ false }
     ensures written { OnOk result (Appends (W.contents writer.old.end) (W.contents writer.new.end) text.now) }
-    ensures begun { OnErr result (HasBegun (W.contents writer.old.end) (W.contents writer.new.end) text.now) }
+    ensures begun { OnErr result (HasBegun writer.new.flush_failed (W.contents writer.old.end) (W.contents writer.new.end)
+        text.now) }
     ensures whole { OnOk result (writer.new.failed ≡ false) }
     ensures flushed { OnOk result (writer.new.flushed ≡ true) }
     ensures failed { OnErr result (writer.new.failed ≡ true) }
@@ -92,6 +94,7 @@ fn write_piece<W: Write>(writer: &mut Watched<W>, text: &[u8]) -> Result<usize, 
     ensures within { IfOk result (λ n. n ≤ length text.now) }
     ensures whole { OnOk result (writer.new.failed ≡ false) }
     ensures kept { OnErr result (Keeps (W.contents writer.old.end) (W.contents writer.new.end)) }
+    ensures write { writer.new.flush_failed ≡ false }
     ensures failed { OnErr result (writer.new.failed ≡ true) }
     ensures kind { IfErr result (λ f. f ≡ BenchFault.Write) }
 {

@@ -9,13 +9,14 @@ use std::marker::Model;
 
 /// A reader or a writer that remembers whether one of its calls failed: answered an error, of any kind, or,
 /// of a writer, took nothing of a piece that wasn't empty. A call is only allowed where none has failed, so one that failed
-/// is the last.
+/// is the last. Of a writer it remembers whether that call was a flush.
 ///
 /// It also remembers whether a writer is flushed: whether its last write or flush was a flush that succeeded.
 #[derive(Drop)]
 pub struct Watched<E> {
     end: E,
     failed: bool,
+    flush_failed: bool,
     flushed: bool,
 }
 
@@ -26,7 +27,7 @@ impl<E> Model for Watched<E> {
 
     ghost coded = { watch_code E.code };
 
-    ghost view = { λ w. record { end = w.end; failed = w.failed; flushed = w.flushed } };
+    ghost view = { λ w. record { end = w.end; failed = w.failed; flush_failed = w.flush_failed; flushed = w.flushed } };
 }
 
 impl<E> Watched<E> {
@@ -35,11 +36,13 @@ impl<E> Watched<E> {
     pub fn new(end: E) -> Self
         ensures end { result.end ≡ end }
         ensures fresh { result.failed ≡ false }
+        ensures flush_failed { result.flush_failed ≡ false }
         ensures flushed { result.flushed ≡ false }
     {
         Watched {
             end,
             failed: false,
+            flush_failed: false,
             flushed: false,
         }
     }
@@ -51,6 +54,7 @@ impl<E> Watched<E> {
         let Watched {
             end,
             failed: _,
+            flush_failed: _,
             flushed: _,
         } = self;
         end
@@ -61,6 +65,13 @@ impl<E> Watched<E> {
         ensures { result ≡ self.now.failed }
     {
         self.failed
+    }
+
+    /// Whether the last write or flush was a flush that failed.
+    pub fn flush_failed(&self) -> bool
+        ensures { result ≡ self.now.flush_failed }
+    {
+        self.flush_failed
     }
 
     /// Whether the last write or flush was a flush that succeeded.
@@ -78,6 +89,7 @@ impl<R: Read> Watched<R> {
         ensures bound { ReadsAtMost result buf.new }
         ensures bytes { ReadConsumes (R.remaining self.old.end) (R.remaining self.new.end) result buf.new }
         ensures failed { self.new.failed ≡ is_err result }
+        ensures flush_failed { self.new.flush_failed ≡ self.old.flush_failed }
         ensures flushed { self.new.flushed ≡ self.old.flushed }
     {
         let result = self.end.read(buf);
@@ -94,10 +106,12 @@ impl<W: Write> Watched<W> {
         ensures bound { WritesAtMost result buf.now }
         ensures bytes { WriteAppends (W.contents self.old.end) (W.contents self.new.end) result buf.now }
         ensures failed { self.new.failed ≡ takes_nothing result buf.now }
+        ensures flush_failed { self.new.flush_failed ≡ false }
         ensures flushed { self.new.flushed ≡ false }
     {
         let result = self.end.write(buf);
         self.failed = is_failed_write(&result, buf);
+        self.flush_failed = false;
         self.flushed = false;
         result
     }
@@ -107,10 +121,12 @@ impl<W: Write> Watched<W> {
         requires { self.old.failed ≡ false }
         ensures bytes { Keeps (W.contents self.old.end) (W.contents self.new.end) }
         ensures failed { self.new.failed ≡ is_err result }
+        ensures flush_failed { self.new.flush_failed ≡ is_err result }
         ensures flushed { self.new.flushed ≡ is_ok result }
     {
         let result = self.end.flush();
         self.failed = result.is_err();
+        self.flush_failed = result.is_err();
         self.flushed = result.is_ok();
         result
     }

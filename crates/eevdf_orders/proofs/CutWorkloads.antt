@@ -42,10 +42,10 @@ pub printed_whole : (seed : Option ℕ) (left : Option (List ℕ)) (input text :
 printed_whole seed None input text held held' cut o w = tt
 printed_whole seed (Some all) input text held held' cut o w = record { text = text; ordered = ordered_whole seed all input text cut o; written = w }
 
-pub begun_whole : (seed : Option ℕ) (left : Option (List ℕ)) (input text : List ℕ) (held held' : Option (List ℕ)) → IfSome left (λ all. input ≡ take 16777217 all) → IsOrdered seed input text
-    → HasBegun held held' text → IfSome left (λ all. Begins seed all held held')
-begun_whole seed None input text held held' cut o w = tt
-begun_whole seed (Some all) input text held held' cut o w = record { text = text; ordered = ordered_whole seed all input text cut o; begun = w }
+pub begun_whole : (seed : Option ℕ) (left : Option (List ℕ)) (input text : List ℕ) (flush_failed : Bool) (held held' : Option (List ℕ)) → IfSome left (λ all. input ≡ take 16777217 all)
+    → IsOrdered seed input text → HasBegun flush_failed held held' text → IfSome left (λ all. Begins seed all flush_failed held held')
+begun_whole seed None input text flush_failed held held' cut o w = tt
+begun_whole seed (Some all) input text flush_failed held held' cut o w = record { text = text; ordered = ordered_whole seed all input text cut o; begun = w }
 
 refused_for : (all input : List ℕ) (f : BenchFault) → input ≡ take 16777217 all → RefusesFor input f → RefusesFor all f
 refused_for all input (Load e) cut (inl m) = inl m

@@ -1,5 +1,5 @@
 -- A workload that is printed with an order, or why none is.
-use Rattle.std.specs.Prelude.{◌≡◌, ◌⊎◌, ℕ, true, is_some, List, Option, None, Ok, Err}
+use Rattle.std.specs.Prelude.{◌≡◌, ◌⊎◌, ℕ, Bool, true, is_some, List, Option, None, Ok, Err}
 use Rattle.std.specs.Io.KnownBytes.{Appends}
 use Rattle.eevdf_steps.specs.declared.play_fault.PlayFault.TheVariants.{TooLong}
 use Rattle.eevdf_steps.specs.Plan.{plan_of}
@@ -58,8 +58,8 @@ pub record Prints (seed : Option ℕ) (input : List ℕ) (held held' : Option (L
   pub ordered : IsOrdered seed input text
   pub written : Appends held held' text
 
--- the same of a beginning
-pub record Begins (seed : Option ℕ) (input : List ℕ) (held held' : Option (List ℕ)) : Type 0 where
+-- the same of what a call that failed left of it
+pub record Begins (seed : Option ℕ) (input : List ℕ) (flush_failed : Bool) (held held' : Option (List ℕ)) : Type 0 where
   pub text : List ℕ
   pub ordered : IsOrdered seed input text
-  pub begun : HasBegun held held' text
+  pub begun : HasBegun flush_failed held held' text

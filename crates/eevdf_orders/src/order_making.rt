@@ -1,31 +1,42 @@
 //! Making an order by playing it.
 
-ghost use Rattle.std.specs.Prelude.{◌≡◌, ◌-◌, ◌<◌, ◌≤◌, true, is_some, ℕ, List, Err, None, IfOk};
+ghost use Rattle.std.specs.Prelude.{◌≡◌, ◌-◌, ◌<◌, ◌≤◌, true, is_some, ℕ, List, Err, None, Some, IfOk};
 ghost use Rattle.eevdf_orders.specs.CallerSteps.{IsStepAmong, IsStepFrom};
 ghost use Rattle.eevdf_orders.specs.ChosenOrders.{IsChosen};
+ghost use Rattle.eevdf_orders.specs.FaultLines.{order_fault_text};
 ghost use Rattle.eevdf_steps.specs.Counters.{ready};
 ghost use Rattle.eevdf_steps.specs.Orders.{play_fault};
 ghost use Rattle.eevdf_steps.specs.Plan.{callers, plan_of};
 
 use crate::caller_choice::Choice;
 use eevdf_ops::Setup;
-use eevdf_steps::Player;
+use eevdf_steps::{MOST_PLACES, Player};
 use std::alloc::Global;
-use thiserror::Error;
-
-/// An order has at most so many places.
-const MOST_PLACES: usize = 1_000_000;
+use std::error::Error;
+use std::fmt;
 
 /// Why no order was made.
-#[derive(Clone, Copy, PartialEq, Eq, Debug, Error)]
+#[derive(Clone, Copy, PartialEq, Eq, Debug)]
 pub enum OrderFault {
     /// There was no memory.
-    #[error("out of memory")]
     Memory,
     /// The callers have more than 1000000 steps to do.
-    #[error("order longer than 1000000")]
     TooLong,
 }
+
+/// What is wrong, as the workbench says it of an order.
+impl fmt::Display for OrderFault {
+    ghost output = { λ fault. Some (order_fault_text fault) };
+
+    fn fmt<W: fmt::Write>(&self, f: &mut fmt::Formatter<W>) -> fmt::Result {
+        match self {
+            OrderFault::Memory => f.write_str("memory"),
+            OrderFault::TooLong => f.write_str("order longer than 1000000"),
+        }
+    }
+}
+
+impl Error for OrderFault {}
 
 /// An order in which the callers of a setup can do all their steps: at each place the next caller that may step, going
 /// around from the one with whom the choice begins, and at the end every caller is done. `TooLong` comes only where every

@@ -18,8 +18,8 @@ use std::io::{Read, Write};
 /// fault, one that has an order already with `Ordered`, and one of which every order has a fault with `Play(TooLong)`.
 ///
 /// No more than 16777217 bytes are read. The fault `Read` comes exactly where the reader failed, `Write` exactly where the
-/// writer did. The writer isn't called before the whole order is made: after `Write` a beginning was written, and after any
-/// other fault the writer is as it was.
+/// writer did. The writer isn't called before the whole order is made: after `Write` a beginning was written, the whole where
+/// it was the flush that failed, and after any other fault the writer is as it was.
 pub fn print_ordered<R: Read, W: Write>(
     alloc: Global,
     reader: &mut Watched<R>,
@@ -32,7 +32,7 @@ pub fn print_ordered<R: Read, W: Write>(
         texts.Prints seed input (W.contents writer.old.end) (W.contents writer.new.end))) }
     ensures refused { IfErr result (λ f. IfSome (R.remaining reader.old.end) (λ input. texts.RefusesAs input f)) }
     ensures begun { result ≡ Err (PrintFault.Bench BenchFault.Write) → IfSome (R.remaining reader.old.end) (λ input.
-        texts.Begins seed input (W.contents writer.old.end) (W.contents writer.new.end)) }
+        texts.Begins seed input writer.new.flush_failed (W.contents writer.old.end) (W.contents writer.new.end)) }
     ensures limit { ReadsWithin 16777217 (R.remaining reader.old.end) (R.remaining reader.new.end) }
     ensures read_whole { OnOk result (reader.new.failed ≡ false) }
     ensures written_whole { OnOk result (writer.new.failed ≡ false) }

@@ -13,7 +13,7 @@ returns-clause-report g c =
 
 pub returns-clause-begun : goal.returns-clause-begun
 returns-clause-begun g c e =
-    begun c.args.command _ c.in_ok-input.input.items c.deref-2.result.now _ _ c.in_ok-input.ensures.bytes
+    begun c.args.command _ c.in_ok-input.input.items c.deref-2.result.now _ _ _ c.in_ok-input.ensures.bytes
     (answered_as c.args.command _ _ _ _ c.deref.ensures.value c.deref-2.ensures.value c.in-Ok.ensures.answer)
     (on_err _ _ _ c.write_text.ensures.begun e)
 

@@ -15,5 +15,5 @@ returns-in-Ok-write_text-clause-printed g c =
 
 pub returns-clause-begun : goal.returns-clause-begun
 returns-clause-begun g c e =
-    begun_whole c.args.seed _ c.in-Ok.input.items c.deref-2.result.now _ _ c.in-Ok.ensures.bytes
+    begun_whole c.args.seed _ c.in-Ok.input.items c.deref-2.result.now _ _ _ c.in-Ok.ensures.bytes
     (ordered_as c.args.seed _ _ _ _ c.deref.ensures.value c.deref-2.ensures.value c.in-Ok-ordered_text.ensures.ordered) c.in-Err-write_text.ensures.begun
