@@ -1,5 +1,5 @@
 -- The latest of the waiting tasks is the same, in whatever order they are asked.
-use Rattle.std.proofs.Common.{◌≡◌, ℕ, Bool, true, false, cond, List, Option, Some, None, refl, sym, ap, ◌∙◌, arith}
+use Rattle.std.proofs.Common.{◌≡◌, ℕ, Bool, true, false, cond, List, Option, Some, refl, sym, ap, ◌∙◌, arith}
 use Rattle.std.specs.Prelude.{not}
 use Rattle.std.specs.Option.{option_map}
 use Rattle.std.specs.Ordering.{nat_cmp}
@@ -10,7 +10,6 @@ use Rattle.eevdf_queue.specs.declared.task.Task.{Task}
 use Rattle.eevdf_queue.specs.Order.{is_before}
 use Rattle.eevdf_queue.specs.TaskLists.{entries_of, runnable_in, AreRunnable}
 use Rattle.eevdf_queue.specs.Candidate.{is_running, later, latest_waiting, candidate_of}
-use Rattle.eevdf_queue.specs.TreeTasks.{numbered_entry}
 use Rattle.eevdf_queue.proofs.Earliest.{told, either}
 use Rattle.eevdf_queue.proofs.Foremost as by
 use Rattle.eevdf_queue.proofs.MapFolds.{fold-from_entries}
@@ -37,13 +36,9 @@ latest-runnable_in r ts h =
     (by.taken-swap (λ a b. is_before b a) between (λ a b ne. either b a (λ e. ne (sym e))) (λ a. not (is_running r a.0)))
     (entries_of ts) (distinct_keyed (λ t. t.entry) ts (numbered_runnable ts h))
 
-number_of : (o : Option Task) → option_map (λ (a : ℕ × Entry). a.0) (option_map numbered_entry o) ≡ option_map (λ (t : Task). t.number) o
-number_of None = refl
-number_of (Some t) = refl
-
-pub candidate_is : (r : Option ℕ) (ts : List Task) (m : FinMap nat_cmp Entry) (o : Option Task) → AreRunnable ts → runnable_in ts ≡ m
-    → option_map numbered_entry o ≡ latest_waiting r (entries_of ts) → option_map (λ (t : Task). t.number) o ≡ candidate_of m r
+pub candidate_is : (r : Option ℕ) (ts : List Task) (m : FinMap nat_cmp Entry) (o : Option ℕ) → AreRunnable ts → runnable_in ts ≡ m
+    → o ≡ option_map (λ (a : ℕ × Entry). a.0) (latest_waiting r (entries_of ts)) → o ≡ candidate_of m r
 candidate_is r ts m o h v e =
-    sym (number_of o)
-    ∙ ap (option_map (λ (a : ℕ × Entry). a.0)) (e ∙ sym (latest-runnable_in r ts h))
+    e
+    ∙ ap (option_map (λ (a : ℕ × Entry). a.0)) (sym (latest-runnable_in r ts h))
     ∙ ap (λ (z : FinMap nat_cmp Entry). candidate_of z r) v

@@ -1,27 +1,50 @@
 -- The last task that isn't the running one.
-use Rattle.std.proofs.Common.{◌≡◌, ℕ, Bool, true, false, cond, List, [], ◌∷◌, ◌++◌, Option, Some, None, ap, ◌∙◌}
+use Rattle.std.proofs.Common.{◌≡◌, ℕ, Bool, true, false, cond, List, [], ◌∷◌, ◌++◌, Option, Some, None, refl, ap, ◌∙◌}
+use Rattle.std.specs.Option.{option_map}
 use Rattle.eevdf_queue.specs.declared.task.Task.{Task}
 use Rattle.eevdf_queue.specs.Candidate.{is_running}
-use Rattle.eevdf_queue.specs.TreeTasks.{last_waiting, last_or}
+use Rattle.eevdf_queue.specs.TreeTasks.{last_waiting, last_or, last_number}
 
-pub last-found : (r : Option ℕ) (xs ys : List Task) (t : Task) → last_waiting r ys ≡ Some t → last_waiting r (xs ++ ys) ≡ Some t
-last-found r [] ys t h = h
-last-found r (x ∷ xs) ys t h = ap (last_or x r) (last-found r xs ys t h)
+pub number-append : (b r : Option ℕ) (xs ys : List Task) → last_number b r (xs ++ ys) ≡ last_number (last_number b r xs) r ys
+number-append b r [] ys = refl
+number-append b r (x ∷ xs) ys = number-append (cond (is_running r x.number) b (Some x.number)) r xs ys
 
-pub last-missed : (r : Option ℕ) (xs ys : List Task) → last_waiting r ys ≡ None → last_waiting r (xs ++ ys) ≡ last_waiting r xs
-last-missed r [] ys h = h
-last-missed r (x ∷ xs) ys h = ap (last_or x r) (last-missed r xs ys h)
+-- past a task that runs, its left side counts
+pub past_running : (b r : Option ℕ) (ts xs : List Task) (u : Task) (ys : List Task) → ts ≡ xs ++ u ∷ ys → is_running r u.number ≡ true
+    → last_number b r ts ≡ last_number (last_number b r xs) r ys
+past_running b r ts xs u ys e p =
+    ap (last_number b r) e
+    ∙ number-append b r xs (u ∷ ys)
+    ∙ ap (λ z. last_number (cond z (last_number b r xs) (Some u.number)) r ys) p
 
-own_last : (r : Option ℕ) (b : Bool) (u : Task) → is_running r u.number ≡ b → last_or u r None ≡ cond b None (Some u)
-own_last r b u e = ap (λ b. cond b None (Some u)) e
+-- past one that waits, nothing before it does
+pub past_waiting : (b r : Option ℕ) (ts xs : List Task) (u : Task) (ys : List Task) → ts ≡ xs ++ u ∷ ys → is_running r u.number ≡ false
+    → last_number b r ts ≡ last_number (Some u.number) r ys
+past_waiting b r ts xs u ys e p =
+    ap (last_number b r) e
+    ∙ number-append b r xs (u ∷ ys)
+    ∙ ap (λ z. last_number (cond z (last_number b r xs) (Some u.number)) r ys) p
 
-pub last_right : (r : Option ℕ) (ts xs : List Task) (u : Task) (ys : List Task) (t : Task) → ts ≡ xs ++ u ∷ ys → last_waiting r ys ≡ Some t → last_waiting r ts ≡ Some t
-last_right r ts xs u ys t e h = ap (last_waiting r) e ∙ last-found r xs (u ∷ ys) t (ap (last_or u r) h)
+-- the task's own number, or else that of one before it
+abbrev number_or : Option ℕ → Option Task → Option ℕ
+number_or b None = b
+number_or b (Some t) = Some t.number
 
-pub last_here : (r : Option ℕ) (ts xs : List Task) (u : Task) (ys : List Task) → ts ≡ xs ++ u ∷ ys → last_waiting r ys ≡ None → is_running r u.number ≡ false
-    → last_waiting r ts ≡ Some u
-last_here r ts xs u ys e h p = ap (last_waiting r) e ∙ last-found r xs (u ∷ ys) u (ap (last_or u r) h ∙ own_last r false u p)
+own_none : (b : Option ℕ) (w : Bool) (t : Task) → cond w b (Some t.number) ≡ number_or b (cond w None (Some t))
+own_none b true t = refl
+own_none b false t = refl
 
-pub last_left : (r : Option ℕ) (ts xs : List Task) (u : Task) (ys : List Task) → ts ≡ xs ++ u ∷ ys → last_waiting r ys ≡ None → is_running r u.number ≡ true
-    → last_waiting r ts ≡ last_waiting r xs
-last_left r ts xs u ys e h p = ap (last_waiting r) e ∙ last-missed r xs (u ∷ ys) (ap (last_or u r) h ∙ own_last r true u p)
+own_or : (b r : Option ℕ) (t : Task) (o : Option Task) → number_or (cond (is_running r t.number) b (Some t.number)) o ≡ number_or b (last_or t r o)
+own_or b r t None = own_none b (is_running r t.number) t
+own_or b r t (Some u) = refl
+
+number-seen : (b r : Option ℕ) (ts : List Task) → last_number b r ts ≡ number_or b (last_waiting r ts)
+number-seen b r [] = refl
+number-seen b r (t ∷ ts) = number-seen (cond (is_running r t.number) b (Some t.number)) r ts ∙ own_or b r t (last_waiting r ts)
+
+number_none : (o : Option Task) → number_or None o ≡ option_map (λ (t : Task). t.number) o
+number_none None = refl
+number_none (Some t) = refl
+
+pub number_of_last : (r : Option ℕ) (ts : List Task) → last_number None r ts ≡ option_map (λ (t : Task). t.number) (last_waiting r ts)
+number_of_last r ts = number-seen None r ts ∙ number_none (last_waiting r ts)

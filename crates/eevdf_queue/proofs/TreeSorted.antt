@@ -10,8 +10,9 @@ use Rattle.eevdf_queue.specs.TaskLists.{find_task, entries_of}
 use Rattle.eevdf_queue.specs.Order.{earlier, earliest}
 use Rattle.eevdf_queue.specs.Candidate.{is_running, later, latest_waiting}
 use Rattle.eevdf_queue.specs.TreeShape.{IsFull}
-use Rattle.eevdf_queue.specs.TreeTasks.{precedes, PrecedesAll, AreOrdered, IsSorted, insert_task, without, first_that, last_waiting, last_or, numbered_entry}
+use Rattle.eevdf_queue.specs.TreeTasks.{precedes, PrecedesAll, AreOrdered, IsSorted, insert_task, without, first_that, last_waiting, last_or, last_number, numbered_entry}
 use Rattle.eevdf_queue.proofs.Earliest.{told}
+use Rattle.eevdf_queue.proofs.TreeLast.{number_of_last}
 use Rattle.eevdf_queue.proofs.TreeOrder.{precedes-trans}
 
 all_through : (t u : Task) (us : List Task) → precedes t u ≡ true → PrecedesAll u us → PrecedesAll t us
@@ -149,7 +150,10 @@ earliest_found passes ts vs e s =
     number_of (first_that passes ts)
     ∙ ap (option_map (λ (a : ℕ × Entry). a.0)) (sym (earliest-ordered passes ts s.ordered) ∙ ap (λ (z : List Task). earliest passes (entries_of z)) e)
 
-pub latest_found : (r : Option ℕ) (ts vs : List Task) (o : Option Task) → ts ≡ vs → IsSorted ts → o ≡ last_waiting r ts
-    → option_map numbered_entry o ≡ latest_waiting r (entries_of vs)
+pub latest_found : (r : Option ℕ) (ts vs : List Task) (o : Option ℕ) → ts ≡ vs → IsSorted ts → o ≡ last_number None r ts
+    → o ≡ option_map (λ (a : ℕ × Entry). a.0) (latest_waiting r (entries_of vs))
 latest_found r ts vs o e s h =
-    ap (option_map numbered_entry) h ∙ sym (latest-ordered r ts s.ordered) ∙ ap (λ (z : List Task). latest_waiting r (entries_of z)) e
+    h
+    ∙ number_of_last r ts
+    ∙ number_of (last_waiting r ts)
+    ∙ ap (option_map (λ (a : ℕ × Entry). a.0)) (sym (latest-ordered r ts s.ordered) ∙ ap (λ (z : List Task). latest_waiting r (entries_of z)) e)

@@ -181,10 +181,7 @@ impl RunnableTasks {
     pub fn candidate(&self, running: Option<TaskId>) -> Option<TaskId>
         ensures { result ≡ candidate_of self.now running }
     {
-        match self.tree.latest_waiting(running) {
-            None => None,
-            Some(task) => Some(task.number),
-        }
+        self.tree.latest_waiting(running)
     }
 
     /// Learns what every task here keeps.

@@ -5,7 +5,7 @@ ghost use Rattle.eevdf_queue.specs.Order.{earliest};
 ghost use Rattle.eevdf_queue.specs.Pick.{is_eligible_at};
 ghost use Rattle.eevdf_queue.specs.Candidate.{latest_waiting};
 ghost use Rattle.eevdf_queue.specs.TreeShape.{IsAlone, IsFull};
-ghost use Rattle.eevdf_queue.specs.TreeTasks.{IsAtDeadline, insert_task, without, numbered_entry};
+ghost use Rattle.eevdf_queue.specs.TreeTasks.{IsAtDeadline, insert_task, without};
 
 use crate::run_entry::Entry;
 use crate::task::Task;
@@ -112,10 +112,10 @@ impl TaskTree {
         first_eligible(&self.root, totals)
     }
 
-    /// The last by deadline and number of the tasks that don't run.
-    pub fn latest_waiting(&self, running: Option<TaskId>) -> Option<Task>
-        ensures { option_map numbered_entry result ≡ latest_waiting running (entries_of self.now) }
+    /// The number of the last by deadline and number of the tasks that don't run.
+    pub fn latest_waiting(&self, running: Option<TaskId>) -> Option<TaskId>
+        ensures { result ≡ option_map (λ a. a.0) (latest_waiting running (entries_of self.now)) }
     {
-        last_waiting(&self.root, &running)
+        last_waiting(&self.root, &running, None)
     }
 }

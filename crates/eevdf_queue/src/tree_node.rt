@@ -5,8 +5,7 @@ ghost use Rattle.std.specs.Prelude.{◌≡◌, suc, ◌+◌, ◌≤◌, ◌^◌,
 ghost use Rattle.std.specs.Option.{option_map};
 ghost use Rattle.eevdf_queue.specs.TaskLists.{first_task, find_task};
 ghost use Rattle.eevdf_queue.specs.Pick.{is_eligible_at};
-ghost use Rattle.eevdf_queue.specs.TreeTasks as ordering;
-ghost use Rattle.eevdf_queue.specs.TreeTasks.{AreOrdered, IsAtDeadline, first_that};
+ghost use Rattle.eevdf_queue.specs.TreeTasks.{AreOrdered, IsAtDeadline, first_that, last_number};
 ghost use Rattle.eevdf_queue.specs.NodeDepths.{is_at_depth};
 ghost use Rattle.eevdf_queue.specs.TreeShape.{tasks_in, height_in, depths_in, DifferByAtMost, IsFull, IsAlone};
 ghost use Rattle.eevdf_queue.specs.TreeLeast.{least_of, AreLow};
@@ -266,20 +265,24 @@ fn first_under(root: &TreeNode, totals: &Totals) -> Found
     }
 }
 
-/// The last task below a link that isn't the running one.
-pub fn last_waiting(link: &Option<Box<TreeNode>>, running: &Option<TaskId>) -> Option<Task>
-    ensures { result ≡ ordering.last_waiting running.now (tasks_in link.now) }
+/// The number of the last task below a link that isn't the running one, or else the number that was seen before.
+pub fn last_waiting(
+    link: &Option<Box<TreeNode>>,
+    running: &Option<TaskId>,
+    before: Option<TaskId>,
+) -> Option<TaskId>
+    ensures { result ≡ last_number before running.now (tasks_in link.now) }
 {
-    let Some(node) = link else { return None };
-    let node: &TreeNode = node;
-    match last_waiting(&node.right, running) {
-        Some(task) => Some(task),
-        None => {
-            if is_running(running, node.task.number) {
-                last_waiting(&node.left, running)
-            } else {
-                Some(node.task)
-            }
+    let mut at = link;
+    let mut last = before;
+    'down: while let Some(node) = at {
+        let node: &TreeNode = node;
+        if is_running(running, node.task.number) {
+            last = last_waiting(&node.left, running, last);
+        } else {
+            last = Some(node.task.number);
         }
+        at = &node.right;
     }
+    last
 }
