@@ -1,8 +1,8 @@
 -- A node of which one side is another, of the same height and least virtual runtime: what it keeps is still right.
-use Rattle.std.proofs.Common.{◌≡◌, suc, ◌≤◌, ◌∙◌, refl, sym, subst, ℕ, length, arith}
-use Rattle.std.specs.Prelude.{max}
+use Rattle.std.proofs.Common.{◌≡◌, suc, ◌≤◌, ◌∙◌, false, [], Option, Some, None, Box, refl, sym, subst, ℕ, length, arith}
+use Rattle.std.specs.Prelude.{max, is_some}
 use Rattle.eevdf_queue.specs.declared.tree_node.TreeNode.TheInside.{Inside}
-use Rattle.eevdf_queue.specs.TreeShape.{tasks_in, height_in, DifferByAtMost, IsFull}
+use Rattle.eevdf_queue.specs.TreeShape.{Tree, tasks_in, height_in, DifferByAtMost, IsFull}
 use Rattle.eevdf_queue.specs.TreeNodes.{tasks_of, IsNode}
 use Rattle.eevdf_queue.specs.TreeLeast.{least_of, AreLow}
 use Rattle.eevdf_queue.proofs.TreeLeasts.{least-same_left, least-same_right}
@@ -55,3 +55,8 @@ still_node b a n s low full bounded =
       least = s.kept ∙ n.least ∙ sym s.least;
       bounded = bounded;
     }
+
+-- no task stands below an empty link
+pub none_below : {Z : Type 0} (l : Option (Box Tree Z)) → is_some l ≡ false → tasks_in l ≡ []
+none_below None h = refl
+none_below (Some b) h = cc

@@ -1,5 +1,5 @@
 -- The order of tasks by key, and lists whose keys rise.
-use Rattle.std.proofs.Common.{◌≡◌, Bool, true, false, cond, List, [], ◌∷◌, ◌++◌, refl, sym, subst, ap, ◌∙◌, arith}
+use Rattle.std.proofs.Common.{◌≡◌, append_assoc, Bool, true, false, cond, List, [], ◌∷◌, ◌++◌, refl, sym, subst, ap, ◌∙◌, arith}
 use Rattle.std.proofs.lemmas.Int.{ints}
 use Rattle.eevdf_queue.specs.TaskLists.{first_task}
 use Rattle.eevdf_queue.specs.declared.task.Task.{Task}
@@ -81,19 +81,10 @@ pub inserted_right : (t : Task) (ts xs : List Task) (u : Task) (ys ws rs : List 
 inserted_right t ts xs u ys ws rs e p h i j =
     j ∙ ap (λ (z : List Task). xs ++ u ∷ z) i ∙ sym (insert-right t xs u ys p (subst AreOrdered e h)) ∙ ap (insert_task t) (sym e)
 
--- two sides that were taken from a node, and the node between them again
-pub rejoined : (rs xs ys vs ws us bs : List Task) (t : Task) → rs ≡ vs ++ first_task (us ++ t ∷ bs) ∷ ws → vs ≡ xs → ws ≡ ys → us ≡ []
-    → rs ≡ xs ++ t ∷ ys
-rejoined rs xs ys vs ws us bs t k e f n =
-    k
-    ∙ ap (λ (z : List Task). z ++ first_task (us ++ t ∷ bs) ∷ ws) e
-    ∙ ap (λ (z : List Task). xs ++ first_task (us ++ t ∷ bs) ∷ z) f
-    ∙ ap (λ (z : List Task). xs ++ first_task (z ++ t ∷ bs) ∷ ys) n
-
 -- the node alone
 pub left_alone : (x t : Task) (us bs : List Task) → x ≡ first_task (us ++ t ∷ bs) → us ≡ [] → x ≡ t
 left_alone x t us bs k n = k ∙ ap (λ (z : List Task). first_task (z ++ t ∷ bs)) n
 
--- the two sides without it
-pub both_sides : (rs xs ys vs ws : List Task) → rs ≡ vs ++ ws → vs ≡ xs → ws ≡ ys → rs ≡ xs ++ ys
-both_sides rs xs ys vs ws k e f = k ∙ ap (λ (z : List Task). z ++ ws) e ∙ ap (λ (z : List Task). xs ++ z) f
+-- the last of the left side between the two
+pub last_moved : (xs ws : List Task) (t : Task) (ys : List Task) → xs ≡ ws ++ t ∷ [] → ws ++ t ∷ ys ≡ xs ++ ys
+last_moved xs ws t ys e = sym (ap (λ (z : List Task). z ++ ys) e ∙ append_assoc ws (t ∷ []) ys)

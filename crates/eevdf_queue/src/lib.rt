@@ -33,7 +33,6 @@ mod tree_eligible;
 mod tree_key;
 mod tree_least;
 mod tree_node;
-mod tree_remove;
 mod tried_moves;
 
 pub use answers::{ReniceAnswer, TickAnswer, WakeAnswer, YieldAnswer};

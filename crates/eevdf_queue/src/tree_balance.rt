@@ -1,162 +1,129 @@
-//! Trees of nearly even sides: a node is joined with two sides, and turned where one is too high.
+//! Trees of nearly even sides: where one side of a task is too high, a task of it takes the task's place.
 
 ghost use Rattle.std.specs.Prelude.{◌≡◌, suc, ◌+◌, ◌≤◌, ◌^◌, max, ◌∷◌, ◌++◌, length};
-ghost use Rattle.eevdf_queue.specs.TaskLists.{first_task};
-ghost use Rattle.eevdf_queue.specs.TreeShape.{tasks_in, height_in, DifferByAtMost, IsAlone, IsHeightOfBalanced};
+ghost use Rattle.eevdf_queue.specs.TreeShape.{tasks_in, height_in, DifferByAtMost, IsHeightOfBalanced};
 
-use crate::tree_node::{TreeNode, height};
-
-/// A node taken from its sides.
-#[derive(Drop)]
-pub struct Apart {
-    pub node: Box<TreeNode>,
-    pub left: Option<Box<TreeNode>>,
-    pub right: Option<Box<TreeNode>>,
-}
-
-/// Takes the root of a tree from its sides.
-pub fn take_apart(mut node: Box<TreeNode>) -> Apart
-    ensures alone { IsAlone result.node.value }
-    ensures tasks { node.value.tasks ≡ tasks_in result.left ++ first_task result.node.value.tasks ∷ tasks_in result.right }
-    ensures height { node.value.height ≡ suc (max (height_in result.left) (height_in result.right)) }
-    ensures balanced { DifferByAtMost 1 (height_in result.left) (height_in result.right) }
-    ensures length { length node.value.tasks ≡ suc (length (tasks_in result.left) + length (tasks_in result.right)) }
-{
-    let sides = node.part();
-    Apart {
-        node,
-        left: sides.left,
-        right: sides.right,
-    }
-}
-
-/// Joins a node with two sides of nearly one height.
-pub fn join(
-    mut node: Box<TreeNode>,
-    left: Option<Box<TreeNode>>,
-    right: Option<Box<TreeNode>>,
-) -> Box<TreeNode>
-    requires alone { IsAlone node.value }
-    requires balanced { DifferByAtMost 1 (height_in left) (height_in right) }
-    requires few { length (tasks_in left) + length (tasks_in right) ≤ 2 ^ 20 }
-    ensures tasks { result.value.tasks ≡ tasks_in left ++ first_task node.value.tasks ∷ tasks_in right }
-    ensures height { result.value.height ≡ suc (max (height_in left) (height_in right)) }
-    ensures length { length result.value.tasks ≡ suc (length (tasks_in left) + length (tasks_in right)) }
-{
-    node.hold(left, right);
-    node
-}
+use crate::task::Task;
+use crate::tree_node::{Sides, TreeNode, height};
 
 // What a turn keeps. A side that is two levels higher than the other would make descents longer than the number of tasks
-// asks for, so a node of the higher side comes to the top:
+// asks for, so the task at the root of the higher side comes to the top. The node at the top stays, and the two exchange
+// their tasks: the node that leaves the higher side goes to the other, with the task that was at the top.
 //
-//            node                  top
+//            task                  top
 //           /    \                /   \
-//         top    right   to   outer   node
+//         top    right   to   outer   task
 //        /   \                        /  \
 //    outer   inner                inner  right
 //
-// From left to right the tasks are `outer`, `top`, `inner`, `node`, `right` before and after it, so every search still
-// finds what it found. `outer`, `inner` and `right` are moved whole, and what their nodes keep stays right; it is made
-// anew of the two nodes alone whose sides have changed. Afterwards `outer` is one level higher up and `right` one lower
-// down, which evens the two. `inner` stays at its level: where it is the higher part, this wouldn't help, and its own root
-// comes to the top instead.
+// From left to right the tasks are `outer`, `top`, `inner`, `task`, `right` before and after it, so every search still
+// finds what it found. `outer`, `inner` and `right` are moved whole, and what their nodes keep stays right. Afterwards
+// `outer` is one level higher up and `right` one lower down, which evens the two. `inner` stays at its level: where it is
+// the higher part, this wouldn't help, and its own root comes to the top instead.
 //
-//            node                    middle
+//            task                    middle
 //           /    \                 /        \
-//         top    right   to      top        node
+//         top    right   to      top        task
 //        /   \                  /   \      /    \
 //    outer   middle         outer before after  right
 //            /    \
 //        before  after
 
-/// Joins a node with two sides whose heights differ by at most two.
-pub fn balance(
-    node: Box<TreeNode>,
-    left: Option<Box<TreeNode>>,
-    right: Option<Box<TreeNode>>,
-) -> Box<TreeNode>
-    requires alone { IsAlone node.value }
-    requires near { DifferByAtMost 2 (height_in left) (height_in right) }
-    requires few { length (tasks_in left) + length (tasks_in right) ≤ 2 ^ 20 }
-    ensures tasks { result.value.tasks ≡ tasks_in left ++ first_task node.value.tasks ∷ tasks_in right }
-    ensures height { IsHeightOfBalanced (height_in left) (height_in right) result.value.height }
+/// Evens the two sides of a task, whose heights differ by at most two.
+pub fn even_out(
+    left: &mut Option<Box<TreeNode>>,
+    task: &mut Task,
+    right: &mut Option<Box<TreeNode>>,
+)
+    requires near { DifferByAtMost 2 (height_in left.old) (height_in right.old) }
+    requires few { length (tasks_in left.old) + length (tasks_in right.old) ≤ 2 ^ 20 }
+    ensures tasks { tasks_in left.new ++ task.new ∷ tasks_in right.new ≡ tasks_in left.old ++ task.old ∷ tasks_in right.old }
+    ensures balanced { DifferByAtMost 1 (height_in left.new) (height_in right.new) }
+    ensures height { IsHeightOfBalanced (height_in left.old) (height_in right.old) (suc (max (height_in left.new) (height_in right.new))) }
 {
-    let left_height = height(&left);
-    let right_height = height(&right);
+    let left_height = height(left);
+    let right_height = height(right);
     if left_height > right_height + 1 {
-        turn_right(node, left, right)
-    } else if right_height > left_height + 1 {
-        turn_left(node, left, right)
-    } else {
-        join(node, left, right)
+        turn_right(left, task, right);
+        return;
+    }
+    if right_height > left_height + 1 {
+        turn_left(left, task, right);
     }
 }
 
-/// Joins a node with two sides of which the left is two higher: the left side's root, or the root of its
-/// right side, comes to the top.
-fn turn_right(
-    node: Box<TreeNode>,
-    left: Option<Box<TreeNode>>,
-    right: Option<Box<TreeNode>>,
-) -> Box<TreeNode>
-    requires alone { IsAlone node.value }
-    requires higher { height_in left ≡ height_in right + 2 }
-    requires few { length (tasks_in left) + length (tasks_in right) ≤ 2 ^ 20 }
-    ensures tasks { result.value.tasks ≡ tasks_in left ++ first_task node.value.tasks ∷ tasks_in right }
-    ensures height { IsHeightOfBalanced (height_in left) (height_in right) result.value.height }
+/// Evens two sides of which the left is two higher: the task of its root, or of the root of its right side,
+/// comes between the two.
+#[inline(never)]
+fn turn_right(left: &mut Option<Box<TreeNode>>, task: &mut Task, right: &mut Option<Box<TreeNode>>)
+    requires higher { height_in left.old ≡ height_in right.old + 2 }
+    requires few { length (tasks_in left.old) + length (tasks_in right.old) ≤ 2 ^ 20 }
+    ensures tasks { tasks_in left.new ++ task.new ∷ tasks_in right.new ≡ tasks_in left.old ++ task.old ∷ tasks_in right.old }
+    ensures balanced { DifferByAtMost 1 (height_in left.new) (height_in right.new) }
+    ensures height { IsHeightOfBalanced (height_in left.old) (height_in right.old) (suc (max (height_in left.new) (height_in right.new))) }
 {
-    let Some(root) = left else { unreachable!() };
-    let Apart {
-        node: top,
+    let Some(mut top) = left.take() else {
+        unreachable!()
+    };
+    let Sides {
         left: outer,
         right: inner,
-    } = take_apart(root);
+    } = top.part();
     if height(&outer) >= height(&inner) {
-        let below = join(node, inner, right);
-        return join(top, outer, Some(below));
+        top.exchange(task);
+        top.hold(inner, right.take());
+        *left = outer;
+        *right = Some(top);
+        return;
     }
-    let Some(inner) = inner else { unreachable!() };
-    let Apart {
-        node: middle,
+    let Some(mut middle) = inner else {
+        unreachable!()
+    };
+    let Sides {
         left: before,
         right: after,
-    } = take_apart(inner);
-    let low = join(top, outer, before);
-    let high = join(node, after, right);
-    join(middle, Some(low), Some(high))
+    } = middle.part();
+    top.hold(outer, before);
+    middle.exchange(task);
+    middle.hold(after, right.take());
+    *left = Some(top);
+    *right = Some(middle);
 }
 
-/// Joins a node with two sides of which the right is two higher: the right side's root, or the root of its
-/// left side, comes to the top.
-fn turn_left(
-    node: Box<TreeNode>,
-    left: Option<Box<TreeNode>>,
-    right: Option<Box<TreeNode>>,
-) -> Box<TreeNode>
-    requires alone { IsAlone node.value }
-    requires higher { height_in right ≡ height_in left + 2 }
-    requires few { length (tasks_in left) + length (tasks_in right) ≤ 2 ^ 20 }
-    ensures tasks { result.value.tasks ≡ tasks_in left ++ first_task node.value.tasks ∷ tasks_in right }
-    ensures height { IsHeightOfBalanced (height_in left) (height_in right) result.value.height }
+/// Evens two sides of which the right is two higher: the task of its root, or of the root of its left side,
+/// comes between the two.
+#[inline(never)]
+fn turn_left(left: &mut Option<Box<TreeNode>>, task: &mut Task, right: &mut Option<Box<TreeNode>>)
+    requires higher { height_in right.old ≡ height_in left.old + 2 }
+    requires few { length (tasks_in left.old) + length (tasks_in right.old) ≤ 2 ^ 20 }
+    ensures tasks { tasks_in left.new ++ task.new ∷ tasks_in right.new ≡ tasks_in left.old ++ task.old ∷ tasks_in right.old }
+    ensures balanced { DifferByAtMost 1 (height_in left.new) (height_in right.new) }
+    ensures height { IsHeightOfBalanced (height_in left.old) (height_in right.old) (suc (max (height_in left.new) (height_in right.new))) }
 {
-    let Some(root) = right else { unreachable!() };
-    let Apart {
-        node: top,
+    let Some(mut top) = right.take() else {
+        unreachable!()
+    };
+    let Sides {
         left: inner,
         right: outer,
-    } = take_apart(root);
+    } = top.part();
     if height(&outer) >= height(&inner) {
-        let below = join(node, left, inner);
-        return join(top, Some(below), outer);
+        top.exchange(task);
+        top.hold(left.take(), inner);
+        *left = Some(top);
+        *right = outer;
+        return;
     }
-    let Some(inner) = inner else { unreachable!() };
-    let Apart {
-        node: middle,
+    let Some(mut middle) = inner else {
+        unreachable!()
+    };
+    let Sides {
         left: before,
         right: after,
-    } = take_apart(inner);
-    let low = join(node, left, before);
-    let high = join(top, after, outer);
-    join(middle, Some(low), Some(high))
+    } = middle.part();
+    top.hold(after, outer);
+    middle.exchange(task);
+    middle.hold(left.take(), before);
+    *left = Some(middle);
+    *right = Some(top);
 }

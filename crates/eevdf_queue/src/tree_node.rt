@@ -139,6 +139,17 @@ impl TreeNode {
         self.least = Least::of(&self.task);
     }
 
+    /// Exchanges the task of a node that is alone for another.
+    pub fn exchange(&mut self, task: &mut Task)
+        requires { IsAlone self.old }
+        ensures other { self.new.tasks ≡ task.old ∷ [] }
+        ensures own { task.new ≡ first_task self.old.tasks }
+    {
+        let own = self.task();
+        self.replace(*task);
+        *task = own;
+    }
+
     /// Gives two sides to a node that is alone.
     pub fn hold(&mut self, left: Option<Box<TreeNode>>, right: Option<Box<TreeNode>>)
         requires alone { IsAlone self.old }
@@ -146,6 +157,7 @@ impl TreeNode {
         requires few { length (tasks_in left) + length (tasks_in right) ≤ 2 ^ 20 }
         ensures tasks { self.new.tasks ≡ tasks_in left ++ first_task self.old.tasks ∷ tasks_in right }
         ensures height { self.new.height ≡ suc (max (height_in left) (height_in right)) }
+        ensures length { length self.new.tasks ≡ suc (length (tasks_in left) + length (tasks_in right)) }
     {
         self.height = height(&left).max(height(&right)) + 1;
         self.least = least_around(&left, &self.task, &right);
@@ -159,6 +171,7 @@ impl TreeNode {
         ensures tasks { self.old.tasks ≡ tasks_in result.left ++ first_task self.new.tasks ∷ tasks_in result.right }
         ensures height { self.old.height ≡ suc (max (height_in result.left) (height_in result.right)) }
         ensures balanced { DifferByAtMost 1 (height_in result.left) (height_in result.right) }
+        ensures length { length self.old.tasks ≡ suc (length (tasks_in result.left) + length (tasks_in result.right)) }
     {
         part_from(
             &mut self.height,

@@ -1,12 +1,13 @@
 //! What is done to a node between the parts of it: these see the sides, the task and what is kept of them
 //! apart, while what is kept isn't right yet.
 
-ghost use Rattle.std.specs.Prelude.{◌≡◌, suc, ◌+◌, ◌<◌, ◌≤◌, ◌⊎◌, ◌^◌, max, [], ◌∷◌, ◌++◌, length, true, false, None};
+ghost use Rattle.std.specs.Prelude.{◌≡◌, suc, ◌+◌, ◌≤◌, ◌^◌, max, [], ◌∷◌, ◌++◌, length, false, None};
 ghost use Rattle.eevdf_queue.specs.TreeLeast.{least_of, AreLow};
-ghost use Rattle.eevdf_queue.specs.TreeShape.{tasks_in, height_in, DifferByAtMost, IsFull};
+ghost use Rattle.eevdf_queue.specs.TreeShape.{tasks_in, height_in, DifferByAtMost, IsFull, IsHeightOfBalanced};
 
 use super::{Sides, TreeNode, height, least_around};
 use crate::task::Task;
+use crate::tree_balance::even_out;
 use crate::tree_least::Least;
 
 /// Takes the two sides from a node, and leaves it alone.
@@ -33,6 +34,63 @@ pub fn part_from(
         left: left.take(),
         right: right.take(),
     }
+}
+
+/// Makes what is kept of a node right again, and evens its sides where one is two higher. Answers whether the height or the
+/// least virtual runtime is another than before.
+#[inline(always)]
+pub fn mend(
+    node_height: &mut u32,
+    node_least: &mut Least,
+    left: &mut Option<Box<TreeNode>>,
+    task: &mut Task,
+    right: &mut Option<Box<TreeNode>>,
+) -> bool
+    requires near { DifferByAtMost 2 (height_in left.old) (height_in right.old) }
+    requires few { length (tasks_in left.old) + length (tasks_in right.old) ≤ 2 ^ 20 }
+    ensures tasks { tasks_in left.new ++ task.new ∷ tasks_in right.new ≡ tasks_in left.old ++ task.old ∷ tasks_in right.old }
+    ensures height { node_height.new ≡ suc (max (height_in left.new) (height_in right.new)) }
+    ensures balanced { DifferByAtMost 1 (height_in left.new) (height_in right.new) }
+    ensures low { node_height.new ≤ length (tasks_in left.new ++ task.new ∷ tasks_in right.new) }
+    ensures full { IsFull node_height.new (length (tasks_in left.new ++ task.new ∷ tasks_in right.new)) }
+    ensures least { node_least.new ≡ least_of (tasks_in left.new ++ task.new ∷ tasks_in right.new) }
+    ensures bounded { AreLow (tasks_in left.new ++ task.new ∷ tasks_in right.new) }
+    ensures mended { IsHeightOfBalanced (height_in left.old) (height_in right.old) node_height.new }
+    ensures same_height { result ≡ false → node_height.new ≡ node_height.old }
+    ensures same_least { result ≡ false → node_least.new ≡ node_least.old }
+{
+    let around = look_around(left, task, right);
+    if around.is_uneven() {
+        return mend_uneven(node_height, node_least, left, task, right);
+    }
+    around.renew(node_height, node_least)
+}
+
+/// The same where one side may be two higher. It is seldom called, and a function of its own, so that the way back over
+/// even nodes keeps nothing for it.
+#[inline(never)]
+fn mend_uneven(
+    node_height: &mut u32,
+    node_least: &mut Least,
+    left: &mut Option<Box<TreeNode>>,
+    task: &mut Task,
+    right: &mut Option<Box<TreeNode>>,
+) -> bool
+    requires near { DifferByAtMost 2 (height_in left.old) (height_in right.old) }
+    requires few { length (tasks_in left.old) + length (tasks_in right.old) ≤ 2 ^ 20 }
+    ensures tasks { tasks_in left.new ++ task.new ∷ tasks_in right.new ≡ tasks_in left.old ++ task.old ∷ tasks_in right.old }
+    ensures height { node_height.new ≡ suc (max (height_in left.new) (height_in right.new)) }
+    ensures balanced { DifferByAtMost 1 (height_in left.new) (height_in right.new) }
+    ensures low { node_height.new ≤ length (tasks_in left.new ++ task.new ∷ tasks_in right.new) }
+    ensures full { IsFull node_height.new (length (tasks_in left.new ++ task.new ∷ tasks_in right.new)) }
+    ensures least { node_least.new ≡ least_of (tasks_in left.new ++ task.new ∷ tasks_in right.new) }
+    ensures bounded { AreLow (tasks_in left.new ++ task.new ∷ tasks_in right.new) }
+    ensures mended { IsHeightOfBalanced (height_in left.old) (height_in right.old) node_height.new }
+    ensures same_height { result ≡ false → node_height.new ≡ node_height.old }
+    ensures same_least { result ≡ false → node_least.new ≡ node_least.old }
+{
+    even_out(left, task, right);
+    look_around(left, task, right).renew(node_height, node_least)
 }
 
 /// What stands on the two sides of a task: their heights, and the least virtual runtime with the task's own.
@@ -67,8 +125,7 @@ pub fn look_around(
 impl Around {
     /// Whether one side is more than one higher than the other.
     pub fn is_uneven(&self) -> bool
-        ensures even { result ≡ false → DifferByAtMost 1 self.now.left self.now.right }
-        ensures uneven { result ≡ true → (suc self.now.left < self.now.right) ⊎ (suc self.now.right < self.now.left) }
+        ensures { result ≡ false → DifferByAtMost 1 self.now.left self.now.right }
     {
         self.left.abs_diff(self.right) > 1
     }

@@ -1,20 +1,19 @@
 //! Tasks put in, taken out and changed where they stand: one path of the tree is walked down, and its heights
 //! and least virtual runtimes are corrected on the way back, as long as they change.
 
-ghost use Rattle.std.specs.Prelude.{◌≡◌, suc, ◌+◌, ◌<◌, ◌≤◌, ◌^◌, max, [], ◌∷◌, ◌++◌, length, is_some, true, false, Some};
+ghost use Rattle.std.specs.Prelude.{◌≡◌, suc, ◌+◌, ◌<◌, ◌≤◌, ◌^◌, [], ◌∷◌, ◌++◌, length, is_some, true, false, Some};
 ghost use Rattle.std.specs.Option.{option_map};
 ghost use Rattle.eevdf_queue.specs.TaskLists.{first_task, find_task, set_entry};
 ghost use Rattle.eevdf_queue.specs.TreeTasks.{AreOrdered, IsAtDeadline, insert_task, without};
 ghost use Rattle.eevdf_queue.specs.TreeLeast.{least_of};
-ghost use Rattle.eevdf_queue.specs.TreeShape.{tasks_in, height_in, DifferByAtMost, IsAlone, IsHeightOfBalanced};
+ghost use Rattle.eevdf_queue.specs.TreeShape.{tasks_in, height_in, IsAlone};
 
-use super::node_parts::{look_around, part_from};
-use super::{Sides, TreeNode};
+use super::TreeNode;
+use super::node_parts::{look_around, mend, part_from};
 use crate::run_entry::Entry;
 use crate::task::Task;
-use crate::tree_balance::balance;
 use crate::tree_key::{Key, precedes};
-use crate::tree_remove::merge;
+use std::mem;
 
 /// Puts a node that is alone below a link, where keys rise. Answers whether the height or the least virtual
 /// runtime may have changed: where they haven't, nothing above is to be corrected.
@@ -45,19 +44,13 @@ pub fn insert(link: &mut Option<Box<TreeNode>>, node: Box<TreeNode>) -> bool
         look_around(&root.left, &root.task, &root.right);
         return false;
     }
-    let around = look_around(&root.left, &root.task, &root.right);
-    if around.is_uneven() {
-        let sides = part_from(
-            &mut root.height,
-            &mut root.least,
-            &mut root.left,
-            &root.task,
-            &mut root.right,
-        );
-        rejoin(link, sides);
-        return true;
-    }
-    around.renew(&mut root.height, &mut root.least)
+    mend(
+        &mut root.height,
+        &mut root.least,
+        &mut root.left,
+        &mut root.task,
+        &mut root.right,
+    )
 }
 
 /// A node taken out of a tree, and whether the tree's height or least virtual runtime may have changed.
@@ -89,7 +82,7 @@ pub fn remove(link: &mut Option<Box<TreeNode>>, key: &Key) -> Taken
         remove(&mut root.left, key)
     } else if key.is_over(&root.task) {
         remove(&mut root.right, key)
-    } else {
+    } else if root.left.is_none() {
         let sides = part_from(
             &mut root.height,
             &mut root.least,
@@ -98,17 +91,48 @@ pub fn remove(link: &mut Option<Box<TreeNode>>, key: &Key) -> Taken
             &mut root.right,
         );
         return Taken {
-            node: replaced(link, sides),
+            node: replaced(link, sides.right),
             changed: true,
         };
+    } else {
+        Taken {
+            node: exchanged(&mut root.task, &mut root.left),
+            changed: true,
+        }
     };
     if !taken.changed {
         // for the proof alone, as at an insertion
         look_around(&root.left, &root.task, &root.right);
         return taken;
     }
-    let around = look_around(&root.left, &root.task, &root.right);
-    if around.is_uneven() {
+    let changed = mend(
+        &mut root.height,
+        &mut root.least,
+        &mut root.left,
+        &mut root.task,
+        &mut root.right,
+    );
+    Taken {
+        node: taken.node,
+        changed,
+    }
+}
+
+/// Takes the last task below a link out, in its node.
+fn remove_last(link: &mut Option<Box<TreeNode>>) -> Taken
+    requires some { is_some link.old ≡ true }
+    requires few { length (tasks_in link.old) ≤ 2 ^ 20 }
+    ensures alone { IsAlone result.node.value }
+    ensures tasks { tasks_in link.old ≡ tasks_in link.new ++ first_task result.node.value.tasks ∷ [] }
+    ensures length { length (tasks_in link.old) ≡ suc (length (tasks_in link.new)) }
+    ensures not_higher { height_in link.new ≤ height_in link.old }
+    ensures at_most_one_lower { height_in link.old ≤ suc (height_in link.new) }
+    ensures same_height { result.changed ≡ false → height_in link.new ≡ height_in link.old }
+    ensures same_least { result.changed ≡ false → least_of (tasks_in link.new) ≡ least_of (tasks_in link.old) }
+{
+    let Some(root) = link else { unreachable!() };
+    let root: &mut TreeNode = root;
+    if root.right.is_none() {
         let sides = part_from(
             &mut root.height,
             &mut root.least,
@@ -116,46 +140,58 @@ pub fn remove(link: &mut Option<Box<TreeNode>>, key: &Key) -> Taken
             &root.task,
             &mut root.right,
         );
-        rejoin(link, sides);
+        return Taken {
+            node: replaced(link, sides.left),
+            changed: true,
+        };
+    }
+    let taken = remove_last(&mut root.right);
+    if !taken.changed {
+        // for the proof alone, as at an insertion
+        look_around(&root.left, &root.task, &root.right);
         return taken;
     }
-    let changed = around.renew(&mut root.height, &mut root.least);
+    let changed = mend(
+        &mut root.height,
+        &mut root.least,
+        &mut root.left,
+        &mut root.task,
+        &mut root.right,
+    );
     Taken {
         node: taken.node,
         changed,
     }
 }
 
-/// Takes the lone node below a link out, and puts two sides of nearly one height in its place.
-fn replaced(link: &mut Option<Box<TreeNode>>, sides: Sides) -> Box<TreeNode>
-    requires alone { tasks_in link.old ≡ first_task (tasks_in link.old) ∷ [] }
-    requires balanced { DifferByAtMost 1 (height_in sides.left) (height_in sides.right) }
-    requires few { length (tasks_in sides.left) + length (tasks_in sides.right) ≤ 2 ^ 20 }
+/// Exchanges a task for the last on its left, whose node leaves with the task.
+fn exchanged(task: &mut Task, left: &mut Option<Box<TreeNode>>) -> Box<TreeNode>
+    requires some { is_some left.old ≡ true }
+    requires few { length (tasks_in left.old) ≤ 2 ^ 20 }
     ensures alone { IsAlone result.value }
-    ensures task { first_task result.value.tasks ≡ first_task (tasks_in link.old) }
-    ensures tasks { tasks_in link.new ≡ tasks_in sides.left ++ tasks_in sides.right }
-    ensures not_lower { max (height_in sides.left) (height_in sides.right) ≤ height_in link.new }
-    ensures at_most_one_higher { height_in link.new ≤ suc (max (height_in sides.left) (height_in sides.right)) }
+    ensures own { first_task result.value.tasks ≡ task.old }
+    ensures tasks { tasks_in left.old ≡ tasks_in left.new ++ task.new ∷ [] }
+    ensures length { length (tasks_in left.old) ≡ suc (length (tasks_in left.new)) }
+    ensures not_higher { height_in left.new ≤ height_in left.old }
+    ensures at_most_one_lower { height_in left.old ≤ suc (height_in left.new) }
 {
-    let Some(node) = link.take() else {
-        unreachable!()
-    };
-    *link = merge(sides.left, sides.right);
+    let mut node = remove_last(left).node;
+    node.exchange(task);
     node
 }
 
-/// Joins the lone node below a link with two sides whose heights differ by at most two.
-fn rejoin(link: &mut Option<Box<TreeNode>>, sides: Sides)
+/// Takes the lone node below a link out, and puts a side that it had in its place.
+fn replaced(link: &mut Option<Box<TreeNode>>, side: Option<Box<TreeNode>>) -> Box<TreeNode>
     requires alone { tasks_in link.old ≡ first_task (tasks_in link.old) ∷ [] }
-    requires near { DifferByAtMost 2 (height_in sides.left) (height_in sides.right) }
-    requires few { length (tasks_in sides.left) + length (tasks_in sides.right) ≤ 2 ^ 20 }
-    ensures tasks { tasks_in link.new ≡ tasks_in sides.left ++ first_task (tasks_in link.old) ∷ tasks_in sides.right }
-    ensures height { IsHeightOfBalanced (height_in sides.left) (height_in sides.right) (height_in link.new) }
+    ensures alone { IsAlone result.value }
+    ensures task { first_task result.value.tasks ≡ first_task (tasks_in link.old) }
+    ensures tasks { tasks_in link.new ≡ tasks_in side }
+    ensures height { height_in link.new ≡ height_in side }
 {
-    let Some(node) = link.take() else {
+    let Some(node) = mem::replace(link, side) else {
         unreachable!()
     };
-    *link = Some(balance(node, sides.left, sides.right));
+    node
 }
 
 /// Exchanges the entry of a key's task, which stands below a link, for another. The shape of the tree stays.

@@ -5,10 +5,10 @@ use Rattle.eevdf_queue.specs.TreeShape.{tasks_in}
 use Rattle.eevdf_queue.specs.TreeNodes.{tasks_of}
 use Rattle.eevdf_queue.specs.TreeLeast.{least_of}
 use Rattle.eevdf_queue.specs.TreeTasks.{precedes, insert_task}
-use Rattle.eevdf_queue.proofs.TreeOrder.{ordered_left, ordered_right, inserted_left, inserted_right, rejoined}
+use Rattle.eevdf_queue.proofs.TreeOrder.{ordered_left, ordered_right, inserted_left, inserted_right}
 use Rattle.eevdf_queue.proofs.TreeEdits.{IsSameAround, same_with_left, same_with_right, still_node}
 use Rattle.eevdf_queue.proofs.tree_node.tree_edit.+insert.Goals as goal
-use Rattle.eevdf_queue.proofs.tree_node.tree_edit.+insert.Goals.{After-look_around, After-look_around-around, then-precedes, else-precedes}
+use Rattle.eevdf_queue.proofs.tree_node.tree_edit.+insert.Goals.{After-look_around, then-precedes, else-precedes}
 
 pub insert-changed-requires : goal.insert-changed-requires
 insert-changed-requires t c =
@@ -57,9 +57,13 @@ unchanged t c =
           inserted_right (first_task c.args.node.value.tasks) _ _ _ _ _ _ e p c.requires.ordered w.insert-changed-else-precedes.ensures.tasks (ap tasks_of w.root-inside-is)
     ]
 
-changed : (t : ℕ) (c : After-look_around-around t) → tasks_of c.if-precedes.root-inside ≡ insert_task (first_task c.args.node.value.tasks) (tasks_in c.args.link.now)
-changed t c =
+pub returns-then-not-changed-clause-tasks : goal.returns-then-not-changed-clause-tasks
+returns-then-not-changed-clause-tasks t c = unchanged t (goal.at.returns-then-not-changed-clause-tasks t c).After-look_around
+
+pub returns-clause-tasks : goal.returns-clause-tasks
+returns-clause-tasks t c =
     let e : tasks_in c.args.link.now ≡ tasks_of c.root.inside = cc in
+    let i : tasks_of c.if-precedes.root-inside ≡ insert_task (first_task c.args.node.value.tasks) (tasks_in c.args.link.now) =
     elim c.if-precedes.branch [
       | then-precedes w ↦
           let p : precedes (first_task c.args.node.value.tasks) c.root.inside.task ≡ true = cc in
@@ -67,15 +71,5 @@ changed t c =
       | else-precedes w ↦
           let p : precedes (first_task c.args.node.value.tasks) c.root.inside.task ≡ false = cc in
           inserted_right (first_task c.args.node.value.tasks) _ _ _ _ _ _ e p c.requires.ordered w.insert-changed-else-precedes.ensures.tasks (ap tasks_of w.root-inside-is)
-    ]
-
-pub returns-then-not-changed-clause-tasks : goal.returns-then-not-changed-clause-tasks
-returns-then-not-changed-clause-tasks t c = unchanged t (goal.at.returns-then-not-changed-clause-tasks t c).After-look_around
-
-pub returns-then-is_uneven-clause-tasks : goal.returns-then-is_uneven-clause-tasks
-returns-then-is_uneven-clause-tasks t c =
-    rejoined (tasks_in c.rejoin.new.link) (tasks_in c.if-precedes.root-inside.left) (tasks_in c.if-precedes.root-inside.right) (tasks_in c.part_from-sides.result.left) (tasks_in c.part_from-sides.result.right) (tasks_in c.part_from-sides.new.left) (tasks_in c.part_from-sides.new.right) c.if-precedes.root-inside.task c.rejoin.ensures.tasks c.part_from-sides.ensures.left c.part_from-sides.ensures.right (ap tasks_in c.part_from-sides.ensures.no_left)
-    ∙ changed t (goal.at.returns-then-is_uneven-clause-tasks t c).After-look_around-around
-
-pub returns-clause-tasks : goal.returns-clause-tasks
-returns-clause-tasks t c = changed t (goal.at.returns-clause-tasks t c).After-look_around-around
+    ] in
+    c.mend.ensures.tasks ∙ i

@@ -1,17 +1,17 @@
-use Rattle.std.proofs.Common.{◌≡◌, ◌∙◌, ◌∷◌, ◌++◌, false, Some, ℕ, ap, sym, arith, List, length, length-append}
-use Rattle.std.specs.Prelude.{is_some}
+use Rattle.std.proofs.Common.{◌≡◌, ◌∙◌, [], ◌∷◌, ◌++◌, false, Some, ℕ, ap, sym, arith, List, length, length-append}
+use Rattle.std.specs.Prelude.{is_some, not}
 use Rattle.eevdf_queue.specs.declared.task.Task.{Task}
 use Rattle.eevdf_queue.specs.TaskLists.{first_task, find_task}
 use Rattle.eevdf_queue.specs.TreeShape.{tasks_in}
 use Rattle.eevdf_queue.specs.TreeNodes.{tasks_of}
 use Rattle.eevdf_queue.specs.TreeLeast.{least_of}
 use Rattle.eevdf_queue.specs.TreeTasks.{without}
-use Rattle.eevdf_queue.proofs.TreeOrder.{ordered_left, ordered_right, rejoined, left_alone, both_sides}
+use Rattle.eevdf_queue.proofs.TreeOrder.{ordered_left, ordered_right, left_alone, last_moved}
 use Rattle.eevdf_queue.proofs.TreeSearch.{find_left, find_right, find_own, placed_on, without_left, without_right, without_here}
 use Rattle.eevdf_queue.proofs.TreeLeasts.{unset}
-use Rattle.eevdf_queue.proofs.TreeEdits.{IsSameAround, same_with_left, same_with_right, still_node}
+use Rattle.eevdf_queue.proofs.TreeEdits.{IsSameAround, same_with_left, same_with_right, still_node, none_below}
 use Rattle.eevdf_queue.proofs.tree_node.tree_edit.+remove.Goals as goal
-use Rattle.eevdf_queue.proofs.tree_node.tree_edit.+remove.Goals.{After-look_around, After-struct_known-1, then-is_under, else-is_under+then-is_over}
+use Rattle.eevdf_queue.proofs.tree_node.tree_edit.+remove.Goals.{After-look_around, After-struct_known-1, then-is_under, else-is_under+then-is_over, else-is_under+else-is_over+else-is_none}
 
 pub remove-taken-requires : goal.remove-taken-requires
 remove-taken-requires t c =
@@ -37,16 +37,19 @@ remove-requires t c =
       ),
     )
 
-pub returns-else-is_over-clause-task : goal.returns-else-is_over-clause-task
-returns-else-is_over-clause-task t c =
+pub returns-then-is_none-clause-task : goal.returns-then-is_none-clause-task
+returns-then-is_none-clause-task t c =
     let e : tasks_in c.args.link.now ≡ tasks_of c.root.inside = cc in
     find_own c.args.key.now (tasks_in c.args.link.now) (tasks_in c.root.inside.left) c.root.inside.task (tasks_in c.root.inside.right) e c.requires.ordered c.requires.placed (sym c.is_under.ensures ∙ c.if-is_under.false) (sym c.is_over.ensures ∙ c.if-is_over.false)
     ∙ ap Some (sym (left_alone (first_task c.replaced.result.value.tasks) c.root.inside.task (tasks_in c.part_from-sides.new.left) (tasks_in c.part_from-sides.new.right) c.replaced.ensures.task (ap tasks_in c.part_from-sides.ensures.no_left)))
 
-pub returns-else-is_over-clause-rest : goal.returns-else-is_over-clause-rest
-returns-else-is_over-clause-rest t c =
+pub returns-then-is_none-clause-rest : goal.returns-then-is_none-clause-rest
+returns-then-is_none-clause-rest t c =
     let e : tasks_in c.args.link.now ≡ tasks_of c.root.inside = cc in
-    both_sides (tasks_in c.replaced.new.link) (tasks_in c.root.inside.left) (tasks_in c.root.inside.right) (tasks_in c.part_from-sides.result.left) (tasks_in c.part_from-sides.result.right) c.replaced.ensures.tasks c.part_from-sides.ensures.left c.part_from-sides.ensures.right
+    let n : tasks_in c.root.inside.left ≡ [] = none_below c.root.inside.left (c.is_none.ensures ∙ ap not c.if-is_none.true) in
+    c.replaced.ensures.tasks
+    ∙ c.part_from-sides.ensures.right
+    ∙ sym (ap (λ (z : List Task). z ++ tasks_in c.root.inside.right) n)
     ∙ sym (without_here c.args.key.now (tasks_in c.args.link.now) (tasks_in c.root.inside.left) c.root.inside.task (tasks_in c.root.inside.right) e c.requires.ordered c.requires.placed (sym c.is_under.ensures ∙ c.if-is_under.false) (sym c.is_over.ensures ∙ c.if-is_over.false))
 
 -- the side that the task was taken from has kept its height and least virtual runtime
@@ -60,6 +63,7 @@ same t c =
       | else-is_under+then-is_over w ↦
           let k = sym (ap (λ z. z.changed) w.taken-is) ∙ n in
           same_with_right c.root.inside c.if-is_under.root-inside w.remove.new.link w.root-inside-is (w.remove.ensures.same_height k) (w.remove.ensures.same_least k)
+      | else-is_under+else-is_over+else-is_none w ↦ absurd (let k = sym (ap (λ z. z.changed) w.taken-is) ∙ n in cc)
     ]
 
 pub invariant_of-root-then-not-taken : goal.invariant_of-root-then-not-taken
@@ -80,6 +84,8 @@ found t c =
           find_left c.args.key.now (tasks_in c.args.link.now) (tasks_in c.root.inside.left) c.root.inside.task (tasks_in c.root.inside.right) e c.requires.ordered c.requires.placed (sym c.is_under.ensures ∙ w.if-is_under.true) ∙ w.remove-taken.ensures.task ∙ ap (λ z. Some (first_task z.node.value.tasks)) (sym w.taken-is)
       | else-is_under+then-is_over w ↦
           find_right c.args.key.now (tasks_in c.args.link.now) (tasks_in c.root.inside.left) c.root.inside.task (tasks_in c.root.inside.right) e c.requires.ordered c.requires.placed (sym w.is_over.ensures ∙ w.if-is_over.true) ∙ w.remove.ensures.task ∙ ap (λ z. Some (first_task z.node.value.tasks)) (sym w.taken-is)
+      | else-is_under+else-is_over+else-is_none w ↦
+          find_own c.args.key.now (tasks_in c.args.link.now) (tasks_in c.root.inside.left) c.root.inside.task (tasks_in c.root.inside.right) e c.requires.ordered c.requires.placed (sym c.is_under.ensures ∙ w.if-is_under.false) (sym w.is_over.ensures ∙ w.if-is_over.false) ∙ ap Some (sym w.exchanged.ensures.own) ∙ ap (λ z. Some (first_task z.node.value.tasks)) (sym w.taken-is)
     ]
 
 -- the tasks of the node without it
@@ -91,6 +97,10 @@ left_over t c =
           ap tasks_of w.root-inside-is ∙ ap (λ z. z ++ c.root.inside.task ∷ tasks_in c.root.inside.right) w.remove-taken.ensures.rest ∙ sym (without_left c.args.key.now (tasks_in c.args.link.now) (tasks_in c.root.inside.left) c.root.inside.task (tasks_in c.root.inside.right) e c.requires.ordered c.requires.placed c.requires.here (sym c.is_under.ensures ∙ w.if-is_under.true))
       | else-is_under+then-is_over w ↦
           ap tasks_of w.root-inside-is ∙ ap (λ z. tasks_in c.root.inside.left ++ c.root.inside.task ∷ z) w.remove.ensures.rest ∙ sym (without_right c.args.key.now (tasks_in c.args.link.now) (tasks_in c.root.inside.left) c.root.inside.task (tasks_in c.root.inside.right) e c.requires.ordered c.requires.placed (sym w.is_over.ensures ∙ w.if-is_over.true))
+      | else-is_under+else-is_over+else-is_none w ↦
+          ap tasks_of w.root-inside-is
+          ∙ last_moved (tasks_in c.root.inside.left) (tasks_in w.exchanged.new.left) w.exchanged.new.task (tasks_in c.root.inside.right) w.exchanged.ensures.tasks
+          ∙ sym (without_here c.args.key.now (tasks_in c.args.link.now) (tasks_in c.root.inside.left) c.root.inside.task (tasks_in c.root.inside.right) e c.requires.ordered c.requires.placed (sym c.is_under.ensures ∙ w.if-is_under.false) (sym w.is_over.ensures ∙ w.if-is_over.false))
     ]
 
 pub returns-then-not-taken-clause-task : goal.returns-then-not-taken-clause-task
@@ -99,16 +109,8 @@ returns-then-not-taken-clause-task t c = found t (goal.at.returns-then-not-taken
 pub returns-then-not-taken-clause-rest : goal.returns-then-not-taken-clause-rest
 returns-then-not-taken-clause-rest t c = left_over t (goal.at.returns-then-not-taken-clause-rest t c).After-struct_known-1
 
-pub returns-then-is_uneven-clause-task : goal.returns-then-is_uneven-clause-task
-returns-then-is_uneven-clause-task t c = found t (goal.at.returns-then-is_uneven-clause-task t c).After-struct_known-1
-
-pub returns-then-is_uneven-clause-rest : goal.returns-then-is_uneven-clause-rest
-returns-then-is_uneven-clause-rest t c =
-    rejoined (tasks_in c.rejoin.new.link) (tasks_in c.if-is_under.root-inside.left) (tasks_in c.if-is_under.root-inside.right) (tasks_in c.part_from-sides-then-is_uneven.result.left) (tasks_in c.part_from-sides-then-is_uneven.result.right) (tasks_in c.part_from-sides-then-is_uneven.new.left) (tasks_in c.part_from-sides-then-is_uneven.new.right) c.if-is_under.root-inside.task c.rejoin.ensures.tasks c.part_from-sides-then-is_uneven.ensures.left c.part_from-sides-then-is_uneven.ensures.right (ap tasks_in c.part_from-sides-then-is_uneven.ensures.no_left)
-    ∙ left_over t (goal.at.returns-then-is_uneven-clause-rest t c).After-struct_known-1
-
 pub returns-clause-task : goal.returns-clause-task
 returns-clause-task t c = found t (goal.at.returns-clause-task t c).After-struct_known-1
 
 pub returns-clause-rest : goal.returns-clause-rest
-returns-clause-rest t c = left_over t (goal.at.returns-clause-rest t c).After-struct_known-1
+returns-clause-rest t c = c.mend-changed.ensures.tasks ∙ left_over t (goal.at.returns-clause-rest t c).After-struct_known-1
