@@ -1,11 +1,12 @@
 -- The least virtual runtime of some tasks from those of its parts.
-use Rattle.std.proofs.Common.{◌≡◌, Bool, true, false, refl, List, [], ◌∷◌, ◌++◌, sym, ap, ◌∙◌, arith}
+use Rattle.std.proofs.Common.{◌≡◌, Bool, true, false, cond, refl, List, [], ◌∷◌, ◌++◌, sym, ap, ◌∙◌, arith}
 use Rattle.std.specs.Prelude.{ℤ, pos, ◌≤ℤ◌, not}
 use Rattle.std.specs.Int.{int_min}
 use Rattle.std.proofs.lemmas.Int.{ints, clamps}
 use Rattle.eevdf_queue.specs.declared.task.Task.{Task}
 use Rattle.eevdf_queue.specs.declared.tree_least.Least.{Least}
 use Rattle.eevdf_queue.specs.TreeLeast.{least_runtime, least_of, lesser}
+use Rattle.eevdf_queue.specs.TreeTasks.{precedes, insert_task}
 
 least_below : (ts : List Task) → least_runtime ts ≤ℤ pos 0x7fff_ffff_ffff_ffff
 least_below [] = grind (arith, ints)
@@ -37,6 +38,31 @@ least-same_left xs zs t ys h =
 pub least-same_right : (xs : List Task) (t : Task) (ys zs : List Task) → least_of zs ≡ least_of ys → least_of (xs ++ t ∷ zs) ≡ least_of (xs ++ t ∷ ys)
 least-same_right xs t ys zs h =
     ap (λ (z : ℤ). record { runtime = z }) (least-around xs t zs ∙ ap (λ (l : Least). int_min (least_runtime xs) (int_min (least_runtime (t ∷ [])) l.runtime)) h ∙ sym (least-around xs t ys))
+
+-- a task more
+less_swapped : (a b c : ℤ) → int_min a (int_min b c) ≡ int_min b (int_min a c)
+less_swapped a b c = omega (arith, ints, clamps)
+
+least-insert : (t : Task) (ts : List Task) → least_runtime (insert_task t ts) ≡ int_min t.entry.v (least_runtime ts)
+least-insert t [] = refl
+least-insert t (u ∷ us) =
+    elim (precedes t u) as (λ b. least_runtime (cond b (t ∷ u ∷ us) (u ∷ insert_task t us)) ≡ int_min t.entry.v (least_runtime (u ∷ us))) [
+      | true ↦ refl
+      | false ↦ ap (int_min u.entry.v) (least-insert t us) ∙ less_swapped u.entry.v t.entry.v (least_runtime us)
+    ]
+
+least_both : (a b : ℤ) → a ≤ℤ pos 0x7fff_ffff_ffff_ffff → b ≤ℤ pos 0x7fff_ffff_ffff_ffff → int_min a (int_min b (pos 0x7fff_ffff_ffff_ffff)) ≡ int_min b a
+least_both a b h k = omega (arith, ints, clamps)
+
+-- the lesser of the least of some tasks and of one that is put in
+pub least-inserted : (s a b : Least) (ns : List Task) (t : Task) (ts rs : List Task) → s ≡ lesser a b → a ≡ least_of ts → b ≡ least_of ns → ns ≡ t ∷ []
+    → t.entry.v ≤ℤ pos 0x7fff_ffff_ffff_ffff → rs ≡ insert_task t ts → s ≡ least_of rs
+least-inserted s a b ns t ts rs es ea eb en h er =
+    es
+    ∙ ap (λ (z : Least). lesser z b) ea
+    ∙ ap (lesser (least_of ts)) (eb ∙ ap least_of en)
+    ∙ ap (λ (z : ℤ). record { runtime = z }) (least_both (least_runtime ts) t.entry.v (least_below ts) h ∙ sym (least-insert t ts))
+    ∙ ap least_of (sym er)
 
 -- a flag that isn't set
 pub unset : (b : Bool) → not b ≡ true → b ≡ false

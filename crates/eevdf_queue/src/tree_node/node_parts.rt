@@ -93,6 +93,56 @@ fn mend_uneven(
     look_around(left, task, right).renew(node_height, node_least)
 }
 
+/// Makes the height of a node right again, and evens its sides where one is two higher. Answers whether the height is another
+/// than before.
+#[inline(always)]
+pub fn raise(
+    node_height: &mut u32,
+    left: &mut Option<Box<TreeNode>>,
+    task: &mut Task,
+    right: &mut Option<Box<TreeNode>>,
+) -> bool
+    requires near { DifferByAtMost 2 (height_in left.old) (height_in right.old) }
+    requires few { length (tasks_in left.old) + length (tasks_in right.old) ≤ 2 ^ 20 }
+    ensures tasks { tasks_in left.new ++ task.new ∷ tasks_in right.new ≡ tasks_in left.old ++ task.old ∷ tasks_in right.old }
+    ensures height { node_height.new ≡ suc (max (height_in left.new) (height_in right.new)) }
+    ensures balanced { DifferByAtMost 1 (height_in left.new) (height_in right.new) }
+    ensures low { node_height.new ≤ length (tasks_in left.new ++ task.new ∷ tasks_in right.new) }
+    ensures full { IsFull node_height.new (length (tasks_in left.new ++ task.new ∷ tasks_in right.new)) }
+    ensures bounded { AreLow (tasks_in left.new ++ task.new ∷ tasks_in right.new) }
+    ensures mended { IsHeightOfBalanced (height_in left.old) (height_in right.old) node_height.new }
+    ensures same_height { result ≡ false → node_height.new ≡ node_height.old }
+{
+    let around = look_around(left, task, right);
+    if around.is_uneven() {
+        return raise_uneven(node_height, left, task, right);
+    }
+    around.renew_height(node_height)
+}
+
+/// The same where one side may be two higher, as `mend_uneven`.
+#[inline(never)]
+fn raise_uneven(
+    node_height: &mut u32,
+    left: &mut Option<Box<TreeNode>>,
+    task: &mut Task,
+    right: &mut Option<Box<TreeNode>>,
+) -> bool
+    requires near { DifferByAtMost 2 (height_in left.old) (height_in right.old) }
+    requires few { length (tasks_in left.old) + length (tasks_in right.old) ≤ 2 ^ 20 }
+    ensures tasks { tasks_in left.new ++ task.new ∷ tasks_in right.new ≡ tasks_in left.old ++ task.old ∷ tasks_in right.old }
+    ensures height { node_height.new ≡ suc (max (height_in left.new) (height_in right.new)) }
+    ensures balanced { DifferByAtMost 1 (height_in left.new) (height_in right.new) }
+    ensures low { node_height.new ≤ length (tasks_in left.new ++ task.new ∷ tasks_in right.new) }
+    ensures full { IsFull node_height.new (length (tasks_in left.new ++ task.new ∷ tasks_in right.new)) }
+    ensures bounded { AreLow (tasks_in left.new ++ task.new ∷ tasks_in right.new) }
+    ensures mended { IsHeightOfBalanced (height_in left.old) (height_in right.old) node_height.new }
+    ensures same_height { result ≡ false → node_height.new ≡ node_height.old }
+{
+    even_out(left, task, right);
+    look_around(left, task, right).renew_height(node_height)
+}
+
 /// What stands on the two sides of a task: their heights, and the least virtual runtime with the task's own.
 #[derive(Clone, Copy)]
 pub struct Around {
@@ -138,9 +188,19 @@ impl Around {
         ensures same_height { result ≡ false → node_height.new ≡ node_height.old }
         ensures same_least { result ≡ false → node_least.new ≡ node_least.old }
     {
+        let other_height = self.renew_height(node_height);
+        self.renew_least(node_least) || other_height
+    }
+
+    /// Makes the height of a node right again. Answers whether it has changed.
+    pub fn renew_height(&self, node_height: &mut u32) -> bool
+        requires { max self.now.left self.now.right ≤ 2 ^ 20 }
+        ensures height { node_height.new ≡ suc (max self.now.left self.now.right) }
+        ensures same_height { result ≡ false → node_height.new ≡ node_height.old }
+    {
         let older = *node_height;
         *node_height = self.left.max(self.right) + 1;
-        self.renew_least(node_least) || *node_height != older
+        *node_height != older
     }
 
     /// Makes the least virtual runtime of a node right again. Answers whether it has changed.

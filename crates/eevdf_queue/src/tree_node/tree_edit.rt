@@ -9,14 +9,14 @@ ghost use Rattle.eevdf_queue.specs.TreeLeast.{least_of};
 ghost use Rattle.eevdf_queue.specs.TreeShape.{tasks_in, height_in, IsAlone};
 
 use super::TreeNode;
-use super::node_parts::{look_around, mend, part_from};
+use super::node_parts::{look_around, mend, part_from, raise};
 use crate::run_entry::Entry;
 use crate::task::Task;
 use crate::tree_key::{Key, precedes};
 use std::mem;
 
-/// Puts a node that is alone below a link, where keys rise. Answers whether the height or the least virtual
-/// runtime may have changed: where they haven't, nothing above is to be corrected.
+/// Puts a node that is alone below a link, where keys rise. The least virtual runtimes are made right on the way down.
+/// Answers whether the height may have changed: where it hasn't, nothing above is to be corrected.
 pub fn insert(link: &mut Option<Box<TreeNode>>, node: Box<TreeNode>) -> bool
     requires alone { IsAlone node.value }
     requires ordered { AreOrdered (tasks_in link.old) }
@@ -26,7 +26,6 @@ pub fn insert(link: &mut Option<Box<TreeNode>>, node: Box<TreeNode>) -> bool
     ensures not_lower { height_in link.old ≤ height_in link.new }
     ensures at_most_one_higher { height_in link.new ≤ suc (height_in link.old) }
     ensures same_height { result ≡ false → height_in link.new ≡ height_in link.old }
-    ensures same_least { result ≡ false → least_of (tasks_in link.new) ≡ least_of (tasks_in link.old) }
 {
     let Some(root) = link else {
         let _height = node.height();
@@ -34,19 +33,19 @@ pub fn insert(link: &mut Option<Box<TreeNode>>, node: Box<TreeNode>) -> bool
         return true;
     };
     let root: &mut TreeNode = root;
-    let changed = if precedes(&node.task(), &root.task) {
+    root.least = root.least.or(&node.least());
+    let grown = if precedes(&node.task(), &root.task) {
         insert(&mut root.left, node)
     } else {
         insert(&mut root.right, node)
     };
-    if !changed {
+    if !grown {
         // for the proof alone: what is kept is right of the tasks as they are now
         look_around(&root.left, &root.task, &root.right);
         return false;
     }
-    mend(
+    raise(
         &mut root.height,
-        &mut root.least,
         &mut root.left,
         &mut root.task,
         &mut root.right,
