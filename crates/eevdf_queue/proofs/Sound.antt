@@ -8,9 +8,9 @@ use Rattle.std.specs.FinMap.{FinMap, empty, insert, remove, get, contains_key, g
 use Rattle.std.proofs.lemmas.Bool.Decides.{nat_tests}
 use Rattle.eevdf_weight.specs.Limits.{is_in_range}
 use Rattle.eevdf_queue.specs.declared.run_entry.Entry.{Entry}
-use Rattle.eevdf_queue.specs.State.{Sleeper, Contents}
+use Rattle.eevdf_queue.specs.State.{State, Sleeper, Contents}
 use Rattle.eevdf_queue.specs.Sums.{Tasks}
-use Rattle.eevdf_queue.specs.Leaving.{stopped, leaving, IsNowhere}
+use Rattle.eevdf_queue.specs.Leaving.{stopped, leaving_at, without_entry, IsNowhere}
 use Rattle.eevdf_queue.specs.Kept.{RunnerIsHere, AreApart, IsSound}
 
 abbrev pub Asleep : Type 0
@@ -126,11 +126,24 @@ sound_wake m m' r n n' b t e is out h = record {
   based = h.based;
 }
 
--- who has left carries the number that it had
-left_number : (t : ℕ) (lag : ℤ) (o : Option Entry) (p : Contents) → option_map (leaving t lag) o ≡ Some p → p.task ≡ t
-left_number t lag None p h = cc
-left_number t lag (Some e) p h =
-    let same : leaving t lag e ≡ p = grind arith in sym (ap (λ (c : Contents). c.task) same)
+-- who has left carries the number that it had, starts at its virtual runtime, and leaves that as the time that stands
+pub left_number : (time : ℤ) (t : ℕ) (o : Option Entry) (p : Contents) → option_map (leaving_at time t) o ≡ Some p → p.task ≡ t
+left_number time t None p h = cc
+left_number time t (Some e) p h =
+    let same : leaving_at time t e ≡ p = grind arith in sym (ap (λ (c : Contents). c.task) same)
+
+pub left_start : (P : ℤ → Type 0) (time : ℤ) (t : ℕ) (o : Option Entry) (p : Contents) → option_map (leaving_at time t) o ≡ Some p
+    → ((e : Entry) → o ≡ Some e → P e.v) → P p.start
+left_start P time t None p h k = cc
+left_start P time t (Some e) p h k =
+    let same : leaving_at time t e ≡ p = grind arith in subst P (ap (λ (c : Contents). c.start) same) (k e refl)
+
+pub left_state : (q : State) (time : ℤ) (t : ℕ) (o : Option Entry) (p : Contents) → option_map (leaving_at time t) o ≡ Some p
+    → record { runnable = remove q.runnable t; running = stopped q.running t; asleep = q.asleep; base = p.start } ≡ without_entry q t o
+left_state q time t None p h = cc
+left_state q time t (Some e) p h =
+    let same : leaving_at time t e ≡ p = grind arith in
+    ap (λ (c : Contents). record { runnable = remove q.runnable t; running = stopped q.running t; asleep = q.asleep; base = c.start }) (sym same)
 
 gone : (m : Tasks) (t : ℕ) → get (remove m t) t ≡ None
 gone m t =
@@ -138,12 +151,12 @@ gone m t =
     get-remove nat_cmp_total m t t ∙ ap (λ b. cond b None (get m t)) same
 
 -- and stands nowhere in the queue that it has left
-pub nowhere_after : (m m' : Tasks) (r r' : Option ℕ) (n : Asleep) (b b' lag : ℤ) (t : ℕ) (e : Entry) (p : Contents) → m' ≡ remove m t → get m t ≡ Some e
-    → option_map (leaving t lag) (get m t) ≡ Some p → IsSound (record { runnable = m; running = r; asleep = n; base = b })
+pub nowhere_after : (m m' : Tasks) (r r' : Option ℕ) (n : Asleep) (b b' time : ℤ) (t : ℕ) (p : Contents) → m' ≡ remove m t → is_some (get m t) ≡ true
+    → option_map (leaving_at time t) (get m t) ≡ Some p → IsSound (record { runnable = m; running = r; asleep = n; base = b })
     → IsNowhere (record { runnable = m'; running = r'; asleep = n; base = b' }) p.task
-nowhere_after m m' r r' n b b' lag t e p is here left h =
-    subst (λ (u : ℕ). IsNowhere (record { runnable = m'; running = r'; asleep = n; base = b' }) u) (sym (left_number t lag (get m t) p left))
-    (record { not_runnable = ap (λ a. get a t) is ∙ gone m t; not_asleep = h.apart t (ap is_some here) })
+nowhere_after m m' r r' n b b' time t p is here left h =
+    subst (λ (u : ℕ). IsNowhere (record { runnable = m'; running = r'; asleep = n; base = b' }) u) (sym (left_number time t (get m t) p left))
+    (record { not_runnable = ap (λ a. get a t) is ∙ gone m t; not_asleep = h.apart t here })
 
 -- a sleeping task that is taken out
 still_apart : (b : Bool) (o : Option Sleeper) → o ≡ None → cond b None o ≡ None

@@ -1,16 +1,20 @@
 -- How a task leaves a queue, and what it takes along.
-use Rattle.std.specs.Prelude.{◌≡◌, ℕ, ℤ, if◌then◌else◌, Option, Some, None}
+use Rattle.std.specs.Prelude.{◌≡◌, ℕ, ℤ, ◌-ℤ◌, if◌then◌else◌, Option, Some, None}
 use Rattle.std.specs.Option.{option_map}
 use Rattle.std.specs.FinMap as map
 use Rattle.eevdf_queue.specs.declared.run_entry.Entry.{Entry}
 use Rattle.eevdf_queue.specs.State.{State, Sleeper, Contents}
 use Rattle.eevdf_queue.specs.Sums.{virtual_time}
-use Rattle.eevdf_queue.specs.Lag.{kept_lag}
+use Rattle.eevdf_queue.specs.Lag.{kept_lag, cut, limit_of}
 use Rattle.eevdf_queue.specs.Candidate.{is_running}
 
 -- what a runnable task takes along when it leaves with a lag: its virtual runtime is its start
 abbrev pub leaving : ℕ → ℤ → Entry → Contents
 leaving task lag e = record { task = task; nice = e.nice; slice = e.slice; start = e.v; lag = lag }
+
+-- the same with the lag that it has at a virtual time, within its limit
+abbrev pub leaving_at : ℤ → ℕ → Entry → Contents
+leaving_at time task e = leaving task (cut (time -ℤ e.v) (limit_of e)) e
 
 -- what a runnable task takes along, and none of any other: it keeps the lag that it has while it is still here
 abbrev pub carried : State → ℕ → Option Contents

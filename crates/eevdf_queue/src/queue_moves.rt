@@ -10,7 +10,6 @@ ghost use Rattle.eevdf_queue.specs.Wake as wakes;
 ghost use Rattle.eevdf_queue.specs.Leaving.{carried, leave, carried_running, leave_running, carried_asleep, leave_asleep, nobody_runs, IsNowhere};
 
 use crate::answers::WakeAnswer;
-use crate::lag::kept_lag;
 use crate::placing::{Newcomer, placed_entry};
 use crate::request::started;
 use crate::run_entry::Entry;
@@ -116,11 +115,10 @@ impl Queue {
         ensures turns { self.new.turns ≡ self.old.turns }
     {
         self.runnable.keeps();
-        let entry = self.runnable.get(task).unwrap();
-        let lag = kept_lag(self.floor_time(), &entry);
-        let parcel = self.runnable.remove(task, lag);
+        let time = self.floor_time();
+        let parcel = self.runnable.remove(task, time);
         self.running = stopped(&self.running, task);
-        self.base = entry.v;
+        self.base = parcel.start();
         parcel
     }
 

@@ -1,6 +1,7 @@
 ghost use Rattle.std.specs.Prelude.{◌≡◌, ℕ, ◌==◌, ◌<◌, if◌then◌else◌, ◌*◌, ◌≤◌, ◌^◌, None, Some, true, unsigned_abs, length, IfSome, IsNone, ◌↔◌};
 ghost use Rattle.std.specs.Option.{option_map};
 ghost use Rattle.std.specs.FinMap as map;
+ghost use Rattle.eevdf_weight.specs.Limits as limits;
 ghost use Rattle.eevdf_queue.specs.Sums.{total_weight, total_moment};
 ghost use Rattle.eevdf_queue.specs.Order.{earliest};
 ghost use Rattle.eevdf_queue.specs.Pick.{IsPick, is_eligible_at, pick_of};
@@ -13,9 +14,10 @@ ghost use Rattle.eevdf_queue.specs.TaskLists.{first_task, find_task, contents_of
 ghost use Rattle.eevdf_queue.specs.Lag.{is_lag};
 ghost use Rattle.eevdf_queue.specs.TreeTasks.{insert_task};
 ghost use Rattle.eevdf_queue.specs.TreeStores.{deadline_at};
-ghost use Rattle.eevdf_queue.specs.Leaving.{leaving};
+ghost use Rattle.eevdf_queue.specs.Leaving.{leaving_at};
 
 use crate::deadline_table::DeadlineTable;
+use crate::lag::kept_lag;
 use crate::run_entry::Entry;
 use crate::task_number::TaskId;
 use crate::task_parcel::Parcel;
@@ -138,17 +140,19 @@ impl RunnableTasks {
         );
     }
 
-    /// Takes out a task that is here, in a parcel with the lag that it keeps.
-    pub fn remove(&mut self, task: TaskId, lag: i64) -> Parcel
+    /// Takes out a task that is here, in a parcel with the lag that it keeps at this virtual time.
+    pub fn remove(&mut self, task: TaskId, time: i64) -> Parcel
         requires here { map.contains_key self.old task ≡ true }
-        requires limited { IfSome (map.get self.old task) (λ e. is_lag lag e.nice e.slice ≡ true) }
+        requires time { limits.is_in_range time ≡ true }
         ensures rest { self.new ≡ map.remove self.old task }
-        ensures parcel { option_map (leaving task lag) (map.get self.old task) ≡ Some result }
+        ensures parcel { option_map (leaving_at time task) (map.get self.old task) ≡ Some result }
     {
+        self.keeps();
         let key = self.deadlines.key(task);
         let node = self.tree.remove(&key);
-        self.totals = without_share(&self.totals, &share(&node.task().entry));
-        leave(node, lag)
+        let entry = node.task().entry;
+        self.totals = without_share(&self.totals, &share(&entry));
+        leave(node, kept_lag(time, &entry))
     }
 
     /// The first task, by deadline and number, of those that are eligible at these sums, and the turns of the

@@ -1,15 +1,18 @@
-use Rattle.std.proofs.Common.{◌≡◌, ◌∙◌, ℕ, ◌≤◌, Option, Some, true, ap, sym, subst}
-use Rattle.std.specs.Prelude.{ℤ, is_some, IfSome}
+use Rattle.std.proofs.Common.{◌≡◌, ◌∙◌, ℕ, ◌≤◌, Option, Some, true, ap, sym, subst, rules}
+use Rattle.std.specs.Prelude.{ℤ, ◌-ℤ◌, is_some}
 use Rattle.std.specs.Option.{option_map}
 use Rattle.std.proofs.lemmas.Int.{to_z-of_z}
 use mir.Syntax.{w64}
+use mir.Val.{SFits}
 use Rattle.eevdf_queue.specs.declared.run_entry.Entry.{Entry}
 use Rattle.eevdf_queue.specs.State.{Contents}
-use Rattle.eevdf_queue.specs.Lag.{is_lag}
+use Rattle.eevdf_queue.specs.Lag.{cut, limit_of}
 use Rattle.eevdf_queue.specs.TaskLists.{first_task, find_task}
 use Rattle.eevdf_queue.specs.TreeTasks.{without}
 use Rattle.eevdf_queue.specs.TreeStores.{deadline_at}
-use Rattle.eevdf_queue.specs.Leaving.{leaving}
+use Rattle.eevdf_queue.specs.Leaving.{leaving, leaving_at}
+use Rattle.eevdf_weight.specs.Limits.{is_in_range}
+use Rattle.eevdf_queue.proofs.Bounds.{range_v}
 use Rattle.eevdf_queue.proofs.TreeSearch.{found_number}
 use Rattle.eevdf_queue.proofs.TreeMaps.{find_present, placed, taken_stored, taken_seen, found_entry}
 use Rattle.eevdf_queue.proofs.TreeTotals.{totals-without, totals_part, totals_near}
@@ -33,22 +36,23 @@ found c = ap (λ (q : ℕ). find_task q c.self.inside.tree) (sym c.key-key.ensur
 left_over : (c : After-remove-node) → c.remove-node.new.self ≡ without c.args.task c.self.inside.tree
 left_over c = c.remove-node.ensures.rest ∙ ap (λ (q : ℕ). without q c.self.inside.tree) c.key-key.ensures.number
 
-pub leave-requires-clause-limited : goal.leave-requires-clause-limited
-leave-requires-clause-limited c =
-    let f = found (goal.at.leave-requires-clause-limited c).After-remove-node in
+pub kept_lag-requires-clause-placed : goal.kept_lag-requires-clause-placed
+kept_lag-requires-clause-placed c =
+    let f = found (goal.at.kept_lag-requires-clause-placed c).After-remove-node in
     let g = found_entry c.self.inside.tree c.args.self.now c.args.task (first_task c.remove-node.result.value.tasks) c.self.view_is f in
-    let h : is_lag c.args.lag (first_task c.remove-node.result.value.tasks).entry.nice (first_task c.remove-node.result.value.tasks).entry.slice ≡ true = subst (λ (o : Option Entry). IfSome o (λ e. is_lag c.args.lag e.nice e.slice ≡ true)) g c.requires.limited in
-    ap (λ (z : ℤ). is_lag z (first_task c.remove-node.result.value.tasks).entry.nice (first_task c.remove-node.result.value.tasks).entry.slice) (to_z-of_z w64 c.args.lag c.ranges.lag) ∙ h
+    let x : (first_task c.remove-node.result.value.tasks).entry ≡ c.task-entry.result.entry = cc in
+    subst (λ (e : Entry). is_in_range e.v ≡ true) x
+    (range_v (first_task c.remove-node.result.value.tasks).entry (c.keeps.ensures c.args.task (first_task c.remove-node.result.value.tasks).entry g).1)
 
 pub invariant_of-self : goal.invariant_of-self
 invariant_of-self c =
     let f = found (goal.at.invariant_of-self c).After-remove-node in
     let e = left_over (goal.at.invariant_of-self c).After-remove-node in
-    let x : (first_task c.remove-node.result.value.tasks).entry ≡ c.task.result.entry = cc in
+    let x : (first_task c.remove-node.result.value.tasks).entry ≡ c.task-entry.result.entry = cc in
     record {
       store = taken_stored c.self.inside.deadlines c.args.task (first_task c.remove-node.result.value.tasks) c.self.inside.tree c.remove-node.new.self c.self.invariant.store f e;
       totals =
-          totals-without c.args.task (first_task c.remove-node.result.value.tasks) c.task.result.entry c.self.inside.tree c.remove-node.new.self c.self.inside.totals c.without_share-self-inside.result
+          totals-without c.args.task (first_task c.remove-node.result.value.tasks) c.task-entry.result.entry c.self.inside.tree c.remove-node.new.self c.self.inside.totals c.without_share-self-inside.result
           c.share.result.weight c.share.result.moment c.self.invariant.totals f x e c.share.ensures.weight c.share.ensures.moment
           c.without_share-self-inside.ensures.weight c.without_share-self-inside.ensures.moment;
     }
@@ -62,17 +66,24 @@ returns-clause-rest c =
 pub returns-clause-parcel : goal.returns-clause-parcel
 returns-clause-parcel c =
     let f = found (goal.at.returns-clause-parcel c).After-remove-node in
-    ap (option_map (leaving c.args.task c.args.lag)) (found_entry c.self.inside.tree c.args.self.now c.args.task (first_task c.remove-node.result.value.tasks) c.self.view_is f)
-    ∙ ap (λ (q : ℕ). Some (leaving q c.args.lag (first_task c.remove-node.result.value.tasks).entry)) (sym (found_number c.args.task c.self.inside.tree (first_task c.remove-node.result.value.tasks) f))
-    ∙ ap (λ (z : ℤ). Some (leaving (first_task c.remove-node.result.value.tasks).number z (first_task c.remove-node.result.value.tasks).entry)) (sym (to_z-of_z w64 c.args.lag c.ranges.lag))
+    let t = first_task c.remove-node.result.value.tasks in
+    let x : t.entry ≡ c.task-entry.result.entry = cc in
+    let lag : c.kept_lag.result ≡ cut (c.args.time -ℤ t.entry.v) (limit_of t.entry) =
+    c.kept_lag.ensures.value
+    ∙ ap (λ (z : ℤ). cut (z -ℤ c.task-entry.result.entry.v) (limit_of c.task-entry.result.entry)) (to_z-of_z w64 c.args.time c.ranges.time)
+    ∙ ap (λ (e : Entry). cut (c.args.time -ℤ e.v) (limit_of e)) (sym x) in
+    let fits : SFits w64 c.kept_lag.result = search rules in
+    ap (option_map (leaving_at c.args.time c.args.task)) (found_entry c.self.inside.tree c.args.self.now c.args.task t c.self.view_is f)
+    ∙ ap (λ (q : ℕ). Some (leaving_at c.args.time q t.entry)) (sym (found_number c.args.task c.self.inside.tree t f))
+    ∙ ap (λ (z : ℤ). Some (leaving t.number z t.entry)) (sym lag ∙ sym (to_z-of_z w64 c.kept_lag.result fits))
     ∙ ap (λ (p : Contents). Some p) (sym c.leave.ensures)
 
 pub without_share-self-inside-requires-clause-part : goal.without_share-self-inside-requires-clause-part
 without_share-self-inside-requires-clause-part c =
     let f = found (goal.at.without_share-self-inside-requires-clause-part c).After-remove-node in
-    let x : (first_task c.remove-node.result.value.tasks).entry ≡ c.task.result.entry = cc in
+    let x : (first_task c.remove-node.result.value.tasks).entry ≡ c.task-entry.result.entry = cc in
     subst (λ (z : ℕ). z ≤ c.self.inside.totals.weight) (sym c.share.ensures.weight)
-    (totals_part c.args.task (first_task c.remove-node.result.value.tasks) c.task.result.entry c.self.inside.totals c.self.inside.tree c.self.invariant.totals f x)
+    (totals_part c.args.task (first_task c.remove-node.result.value.tasks) c.task-entry.result.entry c.self.inside.totals c.self.inside.tree c.self.invariant.totals f x)
 
 pub without_share-self-inside-requires-clause-small : goal.without_share-self-inside-requires-clause-small
 without_share-self-inside-requires-clause-small c = totals_near c.self.inside.deadlines c.self.inside.totals c.self.inside.tree c.self.invariant
