@@ -1,4 +1,5 @@
 mod Bounds
+mod Roomy
 mod MapFolds
 mod ListMaps
 mod Foremost

@@ -1,5 +1,5 @@
 -- How a task with a lag joins a queue.
-use Rattle.std.specs.Prelude.{ℕ, ◌==◌, ℤ, Bool, is_some, if◌then◌else◌, Option}
+use Rattle.std.specs.Prelude.{ℕ, ◌==◌, ◌*◌, ◌^◌, ◌≤◌, ℤ, unsigned_abs, Bool, is_some, if◌then◌else◌, Option}
 use Rattle.eevdf_weight.specs.Weight.{weight_of}
 use Rattle.eevdf_weight.specs.Placement.{placement_of}
 use Rattle.eevdf_queue.specs.declared.run_entry.Entry.{Entry}
@@ -33,3 +33,8 @@ can_place q s = is_some (placed_entry q s)
 -- the queue with the task runnable; none where its entry would be out of range
 abbrev pub put : State → ℕ → Sleeper → Option State
 put q task s = with_runnable q task (placed_entry q s)
+
+-- tasks with these sums have a virtual time so far within its range that any task can join them
+pub record IsRoomy (weight : ℕ) (moment : ℤ) : Type 0 where
+  pub some : 1 ≤ weight
+  pub small : unsigned_abs moment ≤ 2 ^ 59 * weight

@@ -5,10 +5,11 @@ ghost use Rattle.eevdf_weight.specs.Limits as limits;
 ghost use Rattle.eevdf_weight.specs.Placement.{within_range};
 ghost use Rattle.eevdf_queue.specs.Lag.{is_lag};
 ghost use Rattle.eevdf_queue.specs.Moves.{entry_in_range, fresh_entry};
-ghost use Rattle.eevdf_queue.specs.Placing.{runtime_of};
+ghost use Rattle.eevdf_queue.specs.Placing.{runtime_of, IsRoomy};
 
 use crate::request::started;
 use crate::run_entry::Entry;
+use crate::totals::Totals;
 use eevdf_weight::{Nice, Slice, placed, weight};
 
 /// What a task brings along when it joins a queue.
@@ -36,6 +37,15 @@ pub fn placed_entry(time: i64, total: u64, newcomer: &Newcomer) -> Option<Entry>
             slice: newcomer.slice,
         }),
     }
+}
+
+/// Whether any task can join others with these sums: their virtual time is so far within its range that no stretched lag
+/// and no request leads out of it. This is cheaper than to place the task.
+pub fn is_roomy(totals: &Totals) -> bool
+    requires { totals.now.weight ≤ 2 ^ 40 }
+    ensures { result ≡ true → IsRoomy totals.now.weight totals.now.moment }
+{
+    1 <= totals.weight && totals.moment.unsigned_abs() <= u128::from(totals.weight) * (1 << 59)
 }
 
 /// The virtual runtime that it gets: among no tasks the time itself.

@@ -10,7 +10,7 @@ ghost use Rattle.eevdf_queue.specs.Wake as wakes;
 ghost use Rattle.eevdf_queue.specs.Leaving.{carried, leave, carried_running, leave_running, carried_asleep, leave_asleep, nobody_runs, IsNowhere};
 
 use crate::answers::WakeAnswer;
-use crate::placing::{Newcomer, placed_entry};
+use crate::placing::{Newcomer, is_roomy, placed_entry};
 use crate::request::started;
 use crate::run_entry::Entry;
 use crate::run_queue::Queue;
@@ -128,6 +128,10 @@ impl Queue {
         requires { is_lag lag nice slice ≡ true }
         ensures { result ≡ placing.can_place self.now.state (record { lag = lag; nice = nice; slice = slice }) }
     {
+        prove!(slice.get() <= 100_000_000);
+        if is_roomy(&self.runnable.totals()) {
+            return true;
+        }
         self.placed(&Newcomer { lag, nice, slice }).is_some()
     }
 
