@@ -1,4 +1,4 @@
-use Rattle.std.proofs.Common.{◌≡◌, ◌∙◌, ℕ, ◌≤◌, Option, Some, true, ap, sym, subst, rules}
+use Rattle.std.proofs.Common.{◌≡◌, ◌∙◌, ℕ, ◌≤◌, Some, true, ap, sym, subst, rules}
 use Rattle.std.specs.Prelude.{ℤ, ◌-ℤ◌, is_some}
 use Rattle.std.specs.Option.{option_map}
 use Rattle.std.proofs.lemmas.Int.{to_z-of_z}
