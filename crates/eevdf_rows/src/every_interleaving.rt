@@ -5,10 +5,10 @@ ghost use Rattle.std.specs.Prelude.{◌≡◌, true};
 ghost use Rattle.std.specs.List.{list_all};
 ghost use Rattle.eevdf_ops.specs.Setup.{allows};
 
+use crate::same_end::end_alike;
 use eevdf_bench::read_workload;
 use eevdf_ops::one_thread::solo;
-use eevdf_ops::{CpuId, Deed, Line, Outcome, Setup};
-use eevdf_queue::{Queue, TaskId};
+use eevdf_ops::{Deed, Line, Outcome, Setup};
 use eevdf_steps::{Player, play};
 use std::alloc::Global;
 use std::process::Abort;
@@ -212,24 +212,52 @@ fn check_order(
     name: &str,
 ) -> Result<(), Fail> {
     let mut player = Player::open(alloc, setup)?;
+    check_steps(rt, alloc, setup, &mut player, order, name)?;
+    let outcome = play(alloc, setup, order).ok().ok_or("outcome")?;
+    check_end(rt, alloc, setup, &outcome, name)
+}
+
+fn check_steps(
+    rt: &impl Abort,
+    alloc: Global,
+    setup: &Setup,
+    player: &mut Player,
+    order: &[usize],
+    name: &str,
+) -> Result<(), Fail> {
     for caller in order {
         let before = player.history().len();
         player.step(*caller).ok().ok_or("step")?;
         if player.history().len() > before {
-            let alone = one_thread(alloc, setup, player.history())?;
-            assert!(rt; player.history() == alone.history(), "{name}: a history");
+            check_history(rt, alloc, setup, player.history(), name)?;
         }
     }
-    let outcome = play(alloc, setup, order).ok().ok_or("outcome")?;
+    Ok(())
+}
+
+fn check_history(
+    rt: &impl Abort,
+    alloc: Global,
+    setup: &Setup,
+    history: &[Line],
+    name: &str,
+) -> Result<(), Fail> {
+    let alone = one_thread(alloc, setup, history)?;
+    assert!(rt; history == alone.history(), "{name}: a history");
+    Ok(())
+}
+
+fn check_end(
+    rt: &impl Abort,
+    alloc: Global,
+    setup: &Setup,
+    outcome: &Outcome,
+    name: &str,
+) -> Result<(), Fail> {
     let alone = one_thread(alloc, setup, outcome.history())?;
-    assert!(rt; outcome.history() == alone.history(), "{name}: the history");
-    assert!(rt; outcome.cpus() == alone.cpus(), "{name}: the CPUs");
-    for cpu in 0..outcome.cpus() {
-        assert!(rt;
-            same_queue(setup.tasks(), outcome.queue(cpu), alone.queue(cpu)),
-            "{name}: the queue of {cpu}"
-        );
-    }
+    let ends = outcome.history() == alone.history()
+        && end_alike(outcome, &alone, setup.tasks() as u64);
+    assert!(rt; ends, "{name}: the end");
     Ok(())
 }
 
@@ -249,27 +277,4 @@ fn allows_all(setup: &Setup, deeds: &[Deed]) -> bool
     ensures { result ≡ list_all (allows setup.now) deeds.now }
 {
     deeds.iter().all(|deed| setup.allows(deed))
-}
-
-/// Whether two queues tell the same of themselves and of so many tasks.
-fn same_queue(tasks: usize, one: &Queue, other: &Queue) -> bool {
-    for number in 0..tasks {
-        let same = match TaskId::new(number as u64) {
-            Some(task) => same_task(task, one, other),
-            None => false,
-        };
-        if !same {
-            return false;
-        }
-    }
-    one.len() == other.len()
-        && one.load() == other.load()
-        && one.running() == other.running()
-        && one.floor_time() == other.floor_time()
-}
-
-fn same_task(task: TaskId, one: &Queue, other: &Queue) -> bool {
-    one.entry(task) == other.entry(task)
-        && one.asleep(task) == other.asleep(task)
-        && one.lag_of(task) == other.lag_of(task)
 }
