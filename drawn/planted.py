@@ -19,6 +19,9 @@ from draw.cases import draw
 from plain.bench import answer
 
 TOP = Path(__file__).resolve().parent.parent
+sys.path.append(str(TOP / "wrong_bodies"))
+
+from edits import apply, read_edit  # noqa: E402
 
 WRONG_BODIES = (
     "eevdf_queue/eligible-at-the-next-unit",
@@ -69,38 +72,13 @@ def write_cases(folder, seed, count):
         file.with_suffix(".stdout").write_bytes(printed)
 
 
-# The wrong bodies.
-
-def edits_of(body):
-    """The edits (file, old text, new text) of a wrong body."""
-    crate, name = body.split("/")
-    lines = (TOP / "crates" / crate / "must-fail" / f"{name}.edit").read_text().splitlines()
-    edits, file, old = [], None, None
-    for key, text in (line.split(": ", 1) for line in lines if line):
-        if key == "file":
-            file = f"crates/{crate}/{text}"
-        elif key == "old":
-            old = text
-        else:
-            edits.append((file, old, text))
-    return edits
-
-
-def plant(copy, edits):
-    for file, old, new in edits:
-        text = (copy / file).read_text()
-        if text.count(old) != 1:
-            sys.exit(f"the old text of an edit doesn't stand once in {file}: {old}")
-        (copy / file).write_text(text.replace(old, new))
-
+# The tries.
 
 def copy_crates(copy):
     shutil.copytree(TOP / "crates", copy / "crates", ignore=shutil.ignore_patterns("out"))
     for file in ("crates.txt", "HANDLES"):
         shutil.copy(TOP / file, copy)
 
-
-# The tries.
 
 LAST = re.compile(r"^cases=(\d+) ended=(\d+) fault=(\d+) differs=(\d+) no-answer=(\d+) proved=no$", re.MULTILINE)
 
@@ -122,7 +100,9 @@ def try_body(cases, body):
     with tempfile.TemporaryDirectory(prefix="planted-") as folder:
         copy = Path(folder)
         copy_crates(copy)
-        plant(copy, edits_of(body) if body else [])
+        if body:
+            crate, name = body.split("/")
+            apply(read_edit(crate, name), copy / "crates" / crate)
         return try_cases(copy, cases)
 
 

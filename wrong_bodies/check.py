@@ -1,0 +1,272 @@
+#!/usr/bin/env python3
+"""wrong_bodies/check.py [CRATE | CRATE/NAME]..: tries the wrong bodies, of every crate or of those named.
+
+Each must be refused in the function that its line `refused:` names. Wrong bodies of different functions are planted together in
+one copy of the crate and tried by one check, since a function is proved from the contracts of those that it calls, and not from
+their bodies. One that such a check doesn't say enough of is tried once more by itself. The last line is 'N passed, M failed'."""
+
+import argparse
+import os
+import re
+import shutil
+import subprocess
+import sys
+import tempfile
+import threading
+from pathlib import Path
+
+from edits import TOP, BadEdit, apply, edits_of, is_in_its_function
+
+# The most wrong bodies that one check tries.
+MOST = 16
+# What a check reads of a crate, and what it takes of a crate below.
+SOURCES = ("src", "specs", "proofs")
+# What a check leaves, for the crates above and for the next check.
+RLIB, KEPT = "out/rlib", "out/incremental"
+# The memory that must be free, in bytes, for a check to be begun beside another.
+MEMORY = 5 << 30
+
+
+def read_crates():
+    """The crates of the repository, lowest first, each with those of them that it stands on."""
+    rows = [row.partition("#")[0].partition(":") for row in (TOP / "crates.txt").read_text().splitlines()]
+    named = {head.split()[0]: names.split() for head, colon, names in rows if colon}
+    below = {crate: [name for name in names if name in named] for crate, names in named.items()}
+    depth = lambda crate: 1 + max(map(depth, below[crate]), default=0)
+    return {crate: below[crate] for crate in sorted(below, key=depth)}
+
+
+CRATES = read_crates()
+
+
+def all_below(crate):
+    found = {}
+    for name in CRATES[crate]:
+        found |= dict.fromkeys((*all_below(name), name))
+    return list(found)
+
+
+# What a check says.
+
+FUNCTION = re.compile(r"^(?:so far: )?fn (\S+): (.*)$", re.MULTILINE)
+WAITS = re.compile(r"it (?:calls|waits for the proof of) .*")
+# An error of a proof file, but for one that says only that the file names what isn't there or isn't proved.
+PROOF_ERROR = re.compile(r"^(?:\./)?proofs/(\S+)/[^/]+\.antt:\d+:\d+: error: (.*)$", re.MULTILINE)
+NAMES_ALONE = re.compile(r"has no field|is not in scope|has no `|was not admitted")
+FIRST_ERROR = re.compile(r"^.*: error\b.*$", re.MULTILINE)
+
+
+def refused_functions(crate, said):
+    """The functions that a check refuses for what they do themselves, each with what it says of them."""
+    wrong_proofs = {}
+    for folder, error in PROOF_ERROR.findall(said):
+        if not NAMES_ALONE.search(error):
+            wrong_proofs.setdefault(folder.replace("/", "::"), error)
+    refused = {}
+    for name, told in FUNCTION.findall(said):
+        name = name.removeprefix(f"{crate}::")
+        own = [part for part in told.split("; ") if "did not prove" in part or "is not covered" in part]
+        if own:
+            refused[name] = own[0]
+        elif told.startswith(("not proved", "no proof")) and name in wrong_proofs:
+            refused[name] = wrong_proofs[name]
+    return refused
+
+
+# The tries.
+
+class Room:
+    """A folder with copies of a crate and of those below it. Two runs of rt that need one crate wait for one another, also where both
+    only read it; where each has its own copy they don't. What rt has written is linked, since it writes a file anew to change it."""
+
+    def __init__(self, crate):
+        self.crate = crate
+        out = TOP / "crates" / crate / "out"
+        out.mkdir(exist_ok=True)
+        self.held = tempfile.TemporaryDirectory(prefix="wrong-bodies-", dir=out)
+        self.top = Path(self.held.name)
+        self.folder = self.top / "crates" / crate
+        for name in all_below(crate):
+            self.copy(name, (*SOURCES, RLIB), os.link)
+        self.copy(crate, SOURCES, shutil.copy2)
+        self.copy(crate, [KEPT], os.link)
+        names = (*all_below(crate), crate)
+        lines = (TOP / "crates.txt").read_text().splitlines(keepends=True)
+        (self.top / "crates.txt").write_text("".join(line for line in lines if re.split(r"[\s:]", line)[0] in names))
+
+    def copy(self, name, parts, how):
+        for part in parts:
+            if (TOP / "crates" / name / part).is_dir():
+                shutil.copytree(TOP / "crates" / name / part, self.top / "crates" / name / part, copy_function=how)
+
+    def keep(self):
+        """Keeps what was proved in the crate's own folder."""
+        for part in (RLIB, KEPT):
+            if (self.folder / part).is_dir():
+                kept = TOP / "crates" / self.crate / part
+                shutil.rmtree(kept, ignore_errors=True)
+                (self.folder / part).rename(kept)
+
+    def run(self, *words):
+        run = subprocess.run(["rt", *words], cwd=self.folder, capture_output=True, text=True, errors="replace")
+        return run.returncode, run.stdout + run.stderr
+
+
+def prove(crate):
+    """Proves the crate as it stands and keeps what those above it and the tries need; says whether it is proved."""
+    room = Room(crate)
+    with room.held:
+        is_library = (room.folder / "src" / "lib.rt").is_file()
+        status, said = room.run("lib" if is_library else "check", "--jobs", "2")
+        room.keep()
+    if status:
+        print(f"{crate} isn't proved:\n{said[-2000:]}", flush=True)
+    return status == 0
+
+
+def try_together(crate, edits):
+    """What a check says of each function that it refuses with these edits in place, and the first error that it finds."""
+    room = Room(crate)
+    with room.held:
+        for edit in edits:
+            apply(edit, room.folder)
+        _, said = room.run("check", "--jobs", "1")
+    error = FIRST_ERROR.search(said)
+    return refused_functions(crate, said), error[0] if error else said[-300:]
+
+
+def try_group(crate, edits):
+    """Each of the edits with whether it is refused in its function, and what is said of it."""
+    refused, error = try_together(crate, edits)
+    told = [(edit, True, refused[edit.refused]) for edit in edits if edit.refused in refused]
+    for edit in edits:
+        if edit.refused in refused:
+            continue
+        if len(edits) > 1:
+            told += try_group(crate, [edit])
+        else:
+            told.append((edit, False, f"not refused in {edit.refused}, but: {error}"))
+    return told
+
+
+def groups_of(crate, edits):
+    """The edits in groups that are tried together: no two of one function, and by itself each that changes more than a body."""
+    groups, alone = [], []
+    for edit in edits:
+        if not is_in_its_function(edit, TOP / "crates" / crate):
+            alone.append([edit])
+            continue
+        for group in groups:
+            if len(group) < MOST and edit.refused not in (other.refused for other in group):
+                group.append(edit)
+                break
+        else:
+            groups.append([edit])
+    return groups + alone
+
+
+# The run.
+
+class Run:
+    """The crates that are yet to be proved, lowest first, and the groups of edits of those that are proved."""
+
+    def __init__(self, edits):
+        self.edits = edits
+        needed = {name for crate in edits for name in (crate, *all_below(crate))}
+        self.unproved = [crate for crate in CRATES if crate in needed]
+        self.proved = set()
+        self.groups = []
+        self.refused = 0
+        self.busy = 0
+        self.change = threading.Condition()
+
+    def next_task(self):
+        """A crate that can be proved now, or else a group that can be tried."""
+        if self.busy and free_memory() < MEMORY:
+            return None
+        for crate in self.unproved:
+            if self.proved.issuperset(CRATES[crate]):
+                self.unproved.remove(crate)
+                return lambda: self.prove(crate)
+        if self.groups:
+            crate, group = self.groups.pop(0)
+            return lambda: self.try_group(crate, group)
+        return None
+
+    def prove(self, crate):
+        is_proved = prove(crate)
+        with self.change:
+            if is_proved:
+                self.proved.add(crate)
+                self.groups += [(crate, group) for group in groups_of(crate, self.edits.get(crate, []))]
+
+    def try_group(self, crate, group):
+        try:
+            told = try_group(crate, group)
+        except BadEdit as why:
+            told = [(group[0], False, str(why))]
+        with self.change:
+            for edit, is_refused, text in told:
+                print(f"{'refused' if is_refused else 'FAILED'}: {edit}: {text[:240]}", flush=True)
+                self.refused += is_refused
+
+    def work(self):
+        """What each of the threads does, until nothing is left that it could begin or wait for."""
+        while True:
+            with self.change:
+                task = self.next_task()
+                while task is None:
+                    if not self.busy:
+                        return
+                    self.change.wait(2)
+                    task = self.next_task()
+                self.busy += 1
+            try:
+                task()
+            finally:
+                with self.change:
+                    self.busy -= 1
+                    self.change.notify_all()
+
+    def go(self, jobs):
+        threads = [threading.Thread(target=self.work) for _ in range(jobs)]
+        for thread in threads:
+            thread.start()
+        for thread in threads:
+            thread.join()
+
+
+def free_memory():
+    return 1024 * int(re.search(r"^MemAvailable:\s+(\d+)", Path("/proc/meminfo").read_text(), re.MULTILINE)[1])
+
+
+def parse_words():
+    words = argparse.ArgumentParser(description=__doc__, formatter_class=argparse.RawDescriptionHelpFormatter)
+    words.add_argument("--jobs", type=int, default=len(os.sched_getaffinity(0)), help="how many checks run at a time")
+    words.add_argument("named", nargs="*", help="a crate, or CRATE/NAME of crates/CRATE/must-fail/NAME.edit")
+    return words.parse_args()
+
+
+def edits_named(named):
+    """The edits by their crate: all where no name is given."""
+    crates = [crate for crate in CRATES if not named or crate in (name.partition("/")[0] for name in named)]
+    wanted = {crate: [it for it in edits_of(crate) if not named or crate in named or str(it) in named] for crate in crates}
+    return {crate: edits for crate, edits in wanted.items() if edits}
+
+
+def main():
+    words = parse_words()
+    try:
+        edits = edits_named(words.named)
+    except BadEdit as why:
+        print(f"{why}\n0 passed, 1 failed")
+        return 1
+    run = Run(edits)
+    run.go(words.jobs)
+    failed = sum(map(len, edits.values())) - run.refused
+    print(f"{run.refused} passed, {failed} failed")
+    return 1 if failed else 0
+
+
+if __name__ == "__main__":
+    sys.exit(main())

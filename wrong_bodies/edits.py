@@ -1,0 +1,96 @@
+"""The wrong bodies of the crates. Each is an edit, a file crates/CRATE/must-fail/NAME.edit in the kit's form: the lines `file:`,
+`old:` and `new:` say what is put in place of what, and a line `refused:` names the function that the prover must not accept then."""
+
+import re
+from dataclasses import dataclass
+from pathlib import Path
+
+TOP = Path(__file__).resolve().parent.parent
+
+# The line that a function begins with.
+FUNCTION = re.compile(r"^( *)(?:pub(?:\([a-z]+\))? )?(?:const )?fn (\w+)")
+
+
+@dataclass(frozen=True)
+class Change:
+    """A text of a file of the crate, and what is put in its place."""
+
+    file: str
+    old: str
+    new: str
+
+
+@dataclass(frozen=True)
+class Edit:
+    crate: str
+    name: str
+    refused: str
+    changes: tuple[Change, ...]
+
+    def __str__(self):
+        return f"{self.crate}/{self.name}"
+
+
+class BadEdit(Exception):
+    """An edit that isn't in the form, or that its crate has no place for."""
+
+
+def file_of(crate, name):
+    return TOP / "crates" / crate / "must-fail" / f"{name}.edit"
+
+
+def read_edit(crate, name):
+    refused, file, old, changes = None, None, None, []
+    for line in file_of(crate, name).read_text().splitlines():
+        key, _, text = line.partition(":")
+        text = text.removeprefix(" ")
+        if key == "refused":
+            refused = text
+        elif key == "file":
+            file = text
+        elif key == "old":
+            old = text
+        elif key == "new" and file and old:
+            changes.append(Change(file, old, text))
+    if not refused or not changes:
+        raise BadEdit(f"{crate}/{name}: a line `refused:`, `file:`, `old:` or `new:` is missing")
+    return Edit(crate, name, refused, tuple(changes))
+
+
+def edits_of(crate):
+    return [read_edit(crate, file.stem) for file in sorted(file_of(crate, "").parent.glob("*.edit"))]
+
+
+def function_at(text, place):
+    """The name of the function whose lines this place of a file's text stands in, if it is one's."""
+    margin, name = None, None
+    for line in text[:place].splitlines():
+        begun = FUNCTION.match(line)
+        if begun:
+            margin, name = begun.groups()
+        elif margin is not None and line == margin + "}":
+            margin, name = None, None
+    return name
+
+
+def changed(edit, folder):
+    """The texts that the edit leaves of the files of the crate's folder, and the functions that it changes them in."""
+    texts, functions = {}, set()
+    for change in edit.changes:
+        text = texts.get(change.file) or (folder / change.file).read_text()
+        if text.count(change.old) != 1:
+            raise BadEdit(f"{edit}: the old text stands in {change.file} {text.count(change.old)} times: {change.old}")
+        functions.add(function_at(text, text.index(change.old)))
+        texts[change.file] = text.replace(change.old, change.new)
+    return texts, functions
+
+
+def is_in_its_function(edit, folder):
+    """Whether each change is of the body of the function that is to be refused, so that it is no matter to the others."""
+    return changed(edit, folder)[1] == {edit.refused.rpartition("::")[2]}
+
+
+def apply(edit, folder):
+    """Puts the changed texts in place in the crate's folder."""
+    for file, text in changed(edit, folder)[0].items():
+        (folder / file).write_text(text)
