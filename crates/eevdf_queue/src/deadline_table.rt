@@ -11,7 +11,7 @@ use std::marker::Model;
 /// number without a runnable task it may say anything.
 #[derive(Drop)]
 pub struct DeadlineTable {
-    by_number: [i64; 1024],
+    by_number: [i64; TaskId::COUNT],
 }
 
 impl Model for DeadlineTable {
@@ -25,7 +25,7 @@ impl Model for DeadlineTable {
 impl DeadlineTable {
     pub fn new() -> DeadlineTable {
         DeadlineTable {
-            by_number: [0; 1024],
+            by_number: [0; TaskId::COUNT],
         }
     }
 

@@ -100,7 +100,7 @@ impl Queue {
             ≡ found ∷ from_number (found.0 + 1) (runnable_tasks self.now.state)) }
     {
         self.keeps();
-        for number in first..1024 {
+        for number in first..TaskId::COUNT as u64 {
             let task = TaskId::new(number)?;
             if let Some(entry) = self.entry(task) {
                 return Some((task, entry));
@@ -116,7 +116,7 @@ impl Queue {
             ≡ found ∷ map with_lag (from_number (found.0 + 1) (finite.entries self.now.state.asleep))) }
     {
         self.keeps();
-        for number in first..1024 {
+        for number in first..TaskId::COUNT as u64 {
             let task = TaskId::new(number)?;
             if let Some(lag) = self.kept_asleep(task) {
                 return Some((task, lag));

@@ -19,7 +19,7 @@ use std::marker::Model;
 /// the slot of its number, in the node that carries it. The slots are in the queue itself and take no memory.
 #[derive(Drop)]
 pub struct Sleepers {
-    slots: [Option<Box<TreeNode>>; 1024],
+    slots: [Option<Box<TreeNode>>; TaskId::COUNT],
 }
 
 impl Model for Sleepers {
@@ -105,28 +105,28 @@ impl Sleepers {
 }
 
 /// Slots without a node.
-fn empty() -> [Option<Box<TreeNode>>; 1024]
+fn empty() -> [Option<Box<TreeNode>>; TaskId::COUNT]
     ensures { (q : ℕ) → slot_at result q ≡ None }
 {
     array::from_fn(|_| None)
 }
 
 /// The slot of a number.
-fn slot(slots: &[Option<Box<TreeNode>>; 1024], task: TaskId) -> &Option<Box<TreeNode>>
+fn slot(slots: &[Option<Box<TreeNode>>; TaskId::COUNT], task: TaskId) -> &Option<Box<TreeNode>>
     ensures { result.now ≡ slot_at slots.now task }
 {
     &slots[task.index()]
 }
 
 /// Puts a node into the slot of a number.
-fn fill(slots: &mut [Option<Box<TreeNode>>; 1024], task: TaskId, node: Box<TreeNode>)
+fn fill(slots: &mut [Option<Box<TreeNode>>; TaskId::COUNT], task: TaskId, node: Box<TreeNode>)
     ensures { IsWith task (Some node) slots.old slots.new }
 {
     slots[task.index()] = Some(node);
 }
 
 /// Takes the node out of the slot of a number.
-fn take(slots: &mut [Option<Box<TreeNode>>; 1024], task: TaskId) -> Box<TreeNode>
+fn take(slots: &mut [Option<Box<TreeNode>>; TaskId::COUNT], task: TaskId) -> Box<TreeNode>
     requires { is_some (slot_at slots.old task) ≡ true }
     ensures node { slot_at slots.old task ≡ Some result }
     ensures rest { IsWith task None slots.old slots.new }
