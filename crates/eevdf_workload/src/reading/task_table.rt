@@ -88,7 +88,7 @@ fn nice_of(place: usize, task: &Table) -> Result<Nice, LoadFault>
 fn slice_of(place: usize, task: &Table) -> Result<Slice, LoadFault>
     ensures { result ≡ slice_of place (table_view task.now) }
 {
-    let slice = integer_or(task, "slice", 3_000_000);
+    let slice = integer_or(task, "slice", Slice::default().get() as i64);
     slice
         .and_then(natural)
         .and_then(Slice::new)
