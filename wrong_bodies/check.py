@@ -1,4 +1,4 @@
-#!/usr/bin/env python3
+#!/usr/bin/env -S python3 -B
 """wrong_bodies/check.py [CRATE | CRATE/NAME]..: tries the wrong bodies, of every crate or of those named.
 
 Each must be refused in the function that its line `refused:` names. Wrong bodies of different functions are planted together in
@@ -17,39 +17,21 @@ from pathlib import Path
 
 from edits import TOP, BadEdit, apply, edits_of, is_in_its_function
 
+sys.path.append(str(TOP))
+
+from crate_copies import KEPT, RLIB, SOURCES, all_below, copy_list, copy_parts, folder_of, free_memory, read_crates  # noqa: E402
+
 # The most wrong bodies that one check tries.
 MOST = 16
-# What a check reads of a crate, and what it takes of a crate below.
-SOURCES = ("src", "specs", "proofs")
-# What a check leaves, for the crates above and for the next check.
-RLIB, KEPT = "out/rlib", "out/incremental"
 # The memory that must be free, in bytes, for a check to be begun beside another.
 MEMORY = 5 << 30
 
-
-def read_crates():
-    """The crates of the repository, lowest first, each with those of them that it stands on."""
-    rows = [row.partition("#")[0].partition(":") for row in (TOP / "crates.txt").read_text().splitlines()]
-    named = {head.split()[0]: names.split() for head, colon, names in rows if colon}
-    below = {crate: [name for name in names if name in named] for crate, names in named.items()}
-    depth = lambda crate: 1 + max(map(depth, below[crate]), default=0)
-    return {crate: below[crate] for crate in sorted(below, key=depth)}
-
-
 CRATES = read_crates()
-
-
-def all_below(crate):
-    found = {}
-    for name in CRATES[crate]:
-        found |= dict.fromkeys((*all_below(name), name))
-    return list(found)
 
 
 # What a check says.
 
 FUNCTION = re.compile(r"^(?:so far: )?fn (\S+): (.*)$", re.MULTILINE)
-WAITS = re.compile(r"it (?:calls|waits for the proof of) .*")
 # An error of a proof file, but for one that says only that the file names what isn't there or isn't proved.
 PROOF_ERROR = re.compile(r"^(?:\./)?proofs/(\S+)/[^/]+\.antt:\d+:\d+: error: (.*)$", re.MULTILINE)
 NAMES_ALONE = re.compile(r"has no field|is not in scope|has no `|was not admitted")
@@ -76,34 +58,26 @@ def refused_functions(crate, said):
 # The tries.
 
 class Room:
-    """A folder with copies of a crate and of those below it. Two runs of rt that need one crate wait for one another, also where both
-    only read it; where each has its own copy they don't. What rt has written is linked, since it writes a file anew to change it."""
+    """A folder with copies of a crate, which may be changed, and of those below it."""
 
     def __init__(self, crate):
         self.crate = crate
-        out = TOP / "crates" / crate / "out"
-        out.mkdir(exist_ok=True)
-        self.held = tempfile.TemporaryDirectory(prefix="wrong-bodies-", dir=out)
+        (folder_of(crate) / "out").mkdir(exist_ok=True)
+        self.held = tempfile.TemporaryDirectory(prefix="wrong-bodies-", dir=folder_of(crate) / "out")
         self.top = Path(self.held.name)
         self.folder = self.top / "crates" / crate
-        for name in all_below(crate):
-            self.copy(name, (*SOURCES, RLIB), os.link)
-        self.copy(crate, SOURCES, shutil.copy2)
-        self.copy(crate, [KEPT], os.link)
-        names = (*all_below(crate), crate)
-        lines = (TOP / "crates.txt").read_text().splitlines(keepends=True)
-        (self.top / "crates.txt").write_text("".join(line for line in lines if re.split(r"[\s:]", line)[0] in names))
-
-    def copy(self, name, parts, how):
-        for part in parts:
-            if (TOP / "crates" / name / part).is_dir():
-                shutil.copytree(TOP / "crates" / name / part, self.top / "crates" / name / part, copy_function=how)
+        below = all_below(CRATES, crate)
+        for name in below:
+            copy_parts(name, (*SOURCES, RLIB), self.top)
+        copy_parts(crate, SOURCES, self.top, shutil.copy2)
+        copy_parts(crate, [KEPT], self.top)
+        copy_list((*below, crate), self.top)
 
     def keep(self):
         """Keeps what was proved in the crate's own folder."""
         for part in (RLIB, KEPT):
             if (self.folder / part).is_dir():
-                kept = TOP / "crates" / self.crate / part
+                kept = folder_of(self.crate) / part
                 shutil.rmtree(kept, ignore_errors=True)
                 (self.folder / part).rename(kept)
 
@@ -153,7 +127,7 @@ def groups_of(crate, edits):
     """The edits in groups that are tried together: no two of one function, and by itself each that changes more than a body."""
     groups, alone = [], []
     for edit in edits:
-        if not is_in_its_function(edit, TOP / "crates" / crate):
+        if not is_in_its_function(edit, folder_of(crate)):
             alone.append([edit])
             continue
         for group in groups:
@@ -172,7 +146,7 @@ class Run:
 
     def __init__(self, edits):
         self.edits = edits
-        needed = {name for crate in edits for name in (crate, *all_below(crate))}
+        needed = {name for crate in edits for name in (crate, *all_below(CRATES, crate))}
         self.unproved = [crate for crate in CRATES if crate in needed]
         self.proved = set()
         self.groups = []
@@ -234,10 +208,6 @@ class Run:
             thread.start()
         for thread in threads:
             thread.join()
-
-
-def free_memory():
-    return 1024 * int(re.search(r"^MemAvailable:\s+(\d+)", Path("/proc/meminfo").read_text(), re.MULTILINE)[1])
 
 
 def parse_words():
