@@ -1,9 +1,11 @@
 """The crates of the repository, and what a copy of some of them takes. Two runs of rt that need one crate wait for one another,
 also where both only read it; where each has its own copy they don't."""
 
+import fcntl
 import os
 import re
 import shutil
+import sys
 from pathlib import Path
 
 TOP = Path(__file__).resolve().parent
@@ -48,3 +50,12 @@ def free_memory():
     """The memory in bytes that a new process can have."""
     text = Path("/proc/meminfo").read_text()
     return 1024 * int(re.search(r"^MemAvailable:\s+(\d+)", text, re.MULTILINE)[1])
+
+
+def wait_for_other_runs(name, held):
+    """Takes the lock on the open crates.txt, without which nothing of out/ is replaced; it is given back when that is closed."""
+    try:
+        fcntl.flock(held, fcntl.LOCK_EX | fcntl.LOCK_NB)
+    except BlockingIOError:
+        print(f"{name}: waiting for another run in this folder", file=sys.stderr, flush=True)
+        fcntl.flock(held, fcntl.LOCK_EX)

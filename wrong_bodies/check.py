@@ -19,7 +19,18 @@ from edits import TOP, BadEdit, apply, edits_of, is_in_its_function
 
 sys.path.append(str(TOP))
 
-from crate_copies import KEPT, RLIB, SOURCES, all_below, copy_list, copy_parts, folder_of, free_memory, read_crates  # noqa: E402
+from crate_copies import (  # noqa: E402
+    KEPT,
+    RLIB,
+    SOURCES,
+    all_below,
+    copy_list,
+    copy_parts,
+    folder_of,
+    free_memory,
+    read_crates,
+    wait_for_other_runs,
+)
 
 # The most wrong bodies that one check tries.
 MOST = 16
@@ -232,7 +243,9 @@ def main():
         print(f"{why}\n0 passed, 1 failed")
         return 1
     run = Run(edits)
-    run.go(words.jobs)
+    with open(TOP / "crates.txt") as held:
+        wait_for_other_runs("wrong_bodies", held)
+        run.go(words.jobs)
     failed = sum(map(len, edits.values())) - run.refused
     print(f"{run.refused} passed, {failed} failed")
     return 1 if failed else 0
