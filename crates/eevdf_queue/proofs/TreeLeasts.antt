@@ -1,10 +1,12 @@
 -- The least virtual runtime of some tasks from those of its parts.
-use Rattle.std.proofs.Common.{◌≡◌, Bool, true, false, cond, refl, List, [], ◌∷◌, ◌++◌, sym, ap, ◌∙◌, arith}
-use Rattle.std.specs.Prelude.{ℤ, pos, ◌≤ℤ◌, not}
+use Rattle.std.proofs.Common.{◌≡◌, ℕ, Bool, true, false, cond, eqb, Option, Some, refl, List, [], ◌∷◌, ◌++◌, sym, ap, subst, ◌∙◌, arith}
+use Rattle.std.specs.Prelude.{ℤ, pos, ◌≤ℤ◌, ◌<ℤ◌, IfSome, not}
 use Rattle.std.specs.Int.{int_min}
 use Rattle.std.proofs.lemmas.Int.{ints, clamps}
+use Rattle.eevdf_queue.specs.declared.run_entry.Entry.{Entry}
 use Rattle.eevdf_queue.specs.declared.task.Task.{Task}
 use Rattle.eevdf_queue.specs.declared.tree_least.Least.{Least}
+use Rattle.eevdf_queue.specs.TaskLists.{find_task, set_entry}
 use Rattle.eevdf_queue.specs.TreeLeast.{least_runtime, least_of, lesser}
 use Rattle.eevdf_queue.specs.TreeTasks.{precedes, insert_task}
 
@@ -63,6 +65,34 @@ least-inserted s a b ns t ts rs es ea eb en h er =
     ∙ ap (lesser (least_of ts)) (eb ∙ ap least_of en)
     ∙ ap (λ (z : ℤ). record { runtime = z }) (least_both (least_runtime ts) t.entry.v (least_below ts) h ∙ sym (least-insert t ts))
     ∙ ap least_of (sym er)
+
+-- a task with another entry: neither its own virtual runtime nor the new one is below a floor
+abbrev IsFrom : ℤ → Option Task → Type 0
+IsFrom b o = IfSome o (λ t. b ≤ℤ t.entry.v)
+
+floor_step : (c : Bool) (b : ℤ) (e : Entry) (t : Task) (ts us : List Task) (o : Option Task) → IsFrom b (cond c (Some t) o) → b ≤ℤ e.v
+    → (IsFrom b o → int_min b (least_runtime us) ≡ int_min b (least_runtime ts))
+    → int_min b (least_runtime (cond c (record t { entry = e } ∷ ts) (t ∷ us))) ≡ int_min b (int_min t.entry.v (least_runtime ts))
+floor_step true b e t ts us o h k i = omega (arith, ints, clamps, h, k)
+floor_step false b e t ts us o h k i = let j = i h in omega (arith, ints, clamps, j)
+
+least_from : (q : ℕ) (b : ℤ) (e : Entry) (ts : List Task) → IsFrom b (find_task q ts) → b ≤ℤ e.v
+    → int_min b (least_runtime (set_entry q e ts)) ≡ int_min b (least_runtime ts)
+least_from q b e [] h k = refl
+least_from q b e (t ∷ ts) h k =
+    floor_step (eqb t.number q) b e t ts (set_entry q e ts) (find_task q ts) h k (λ j. least_from q b e ts j k)
+
+under_floor : (b x y : ℤ) → int_min b x ≡ int_min b y → y <ℤ b → x ≡ y
+under_floor b x y h l = omega (arith, ints, clamps)
+
+-- then a least one below the floor is another task's, and stays
+pub least-set : (q : ℕ) (b : ℤ) (e : Entry) (s : Least) (ts us : List Task) → s ≡ least_of ts → IsFrom b (find_task q ts) → b ≤ℤ e.v → s.runtime <ℤ b → us ≡ set_entry q e ts
+    → s ≡ least_of us
+least-set q b e s ts us is h k l i =
+    let low : least_runtime ts <ℤ b = subst (λ (z : Least). z.runtime <ℤ b) is l in
+    is
+    ∙ ap (λ (z : ℤ). record { runtime = z }) (sym (under_floor b (least_runtime (set_entry q e ts)) (least_runtime ts) (least_from q b e ts h k) low))
+    ∙ ap least_of (sym i)
 
 -- a flag that isn't set
 pub unset : (b : Bool) → not b ≡ true → b ≡ false

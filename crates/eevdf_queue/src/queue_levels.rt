@@ -35,7 +35,7 @@ impl Queue {
         let Some(reniced) = self.reniced(task, &entry, nice) else {
             return ReniceAnswer::Range;
         };
-        self.runnable.set(task, reniced);
+        self.runnable.set(task, &entry, reniced);
         self.base = entry.v;
         ReniceAnswer::Reniced
     }

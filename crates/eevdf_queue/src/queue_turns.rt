@@ -62,7 +62,7 @@ impl Queue {
         if !is_entry_in_range(&charged.entry) {
             return TickAnswer::Range;
         }
-        self.runnable.set(runner.task, charged.entry);
+        self.runnable.set(runner.task, &runner.entry, charged.entry);
         TickAnswer::Charged {
             task: runner.task,
             resched: charged.resched,
@@ -83,7 +83,7 @@ impl Queue {
         if !is_deadline_in_range(&yielded) {
             return YieldAnswer::Range;
         }
-        self.runnable.set(runner.task, yielded);
+        self.runnable.set(runner.task, &runner.entry, yielded);
         YieldAnswer::Yielded
     }
 

@@ -108,20 +108,19 @@ impl RunnableTasks {
         }
     }
 
-    /// Gives a task that is here another entry. Where the deadline stays, the task keeps its place.
-    pub fn set(&mut self, task: TaskId, entry: Entry)
-        requires here { map.contains_key self.old task ≡ true }
+    /// Gives a task that is here with an older entry another one. Where the deadline stays, the task keeps its place.
+    pub fn set(&mut self, task: TaskId, older: &Entry, entry: Entry)
+        requires here { map.get self.old task ≡ Some older.now }
         requires in_range { is_entry_in_range entry ≡ true }
         ensures { self.new ≡ map.insert self.old task entry }
     {
+        self.totals = exchanged(&self.totals, older, &entry);
         let key = self.deadlines.key(task);
         if key.is_at(&entry) {
-            let older = self.tree.change(&key, &entry);
-            self.totals = exchanged(&self.totals, &older, &entry);
+            self.tree.change(&key, older, &entry);
             return;
         }
         let node = self.tree.remove(&key);
-        self.totals = exchanged(&self.totals, &node.task().entry, &entry);
         put(&mut self.tree, &mut self.deadlines, node, entry);
     }
 

@@ -12,6 +12,7 @@ use crate::task::Task;
 use crate::task_number::TaskId;
 use crate::totals::Totals;
 use crate::tree_key::Key;
+use crate::tree_least::Least;
 use crate::tree_node::{
     Found, TreeNode, change, find, first_eligible, insert, last_waiting, remove,
 };
@@ -74,17 +75,14 @@ impl TaskTree {
         self.count += 1;
     }
 
-    /// Gives the task of a key, which is here, another entry of the same deadline, and gives its old one back.
-    pub fn change(&mut self, key: &Key, entry: &Entry) -> Entry
-        requires here { is_some (find_task key.now.number self.old) ≡ true }
+    /// Gives the task of a key, which is here with an older entry, another one of the same deadline.
+    pub fn change(&mut self, key: &Key, older: &Entry, entry: &Entry)
+        requires here { option_map (λ t. t.entry) (find_task key.now.number self.old) ≡ Some older.now }
         requires placed { IsAtDeadline key.now.deadline (find_task key.now.number self.old) }
         requires stays { key.now.deadline ≡ entry.now.d }
-        ensures older { option_map (λ t. t.entry) (find_task key.now.number self.old) ≡ Some result }
-        ensures tasks { self.new ≡ set_entry key.now.number entry.now self.old }
+        ensures { self.new ≡ set_entry key.now.number entry.now self.old }
     {
-        let mut older = *entry;
-        change(&mut self.root, key, &mut older);
-        older
+        change(&mut self.root, key, Least::of_entries(older, entry), entry);
     }
 
     /// Takes out the task of a key, which is here, in its node.

@@ -1,6 +1,7 @@
-ghost use Rattle.std.specs.Prelude.{◌≡◌, [], ◌∷◌, pos, ◌≤ℤ◌};
+ghost use Rattle.std.specs.Prelude.{◌≡◌, [], ◌∷◌, pos, ◌≤ℤ◌, ◌<ℤ◌, true};
 ghost use Rattle.eevdf_queue.specs.TreeLeast.{least_of, lesser, AreLow};
 
+use crate::run_entry::Entry;
 use crate::task::Task;
 
 /// The least virtual runtime of some tasks.
@@ -26,6 +27,23 @@ impl Least {
         Least {
             runtime: task.entry.v,
         }
+    }
+
+    /// The lesser virtual runtime of two entries.
+    pub fn of_entries(entry: &Entry, other: &Entry) -> Least
+        ensures one { result.runtime ≤ℤ entry.now.v }
+        ensures other { result.runtime ≤ℤ other.now.v }
+    {
+        Least {
+            runtime: entry.v.min(other.v),
+        }
+    }
+
+    /// Whether it is less than another.
+    pub fn is_below(&self, other: &Least) -> bool
+        ensures { result ≡ true → self.now.runtime <ℤ other.now.runtime }
+    {
+        self.runtime < other.runtime
     }
 
     /// Of the tasks of both.

@@ -1,8 +1,7 @@
 //! Tasks put in, taken out and changed where they stand: one path of the tree is walked down, and its heights
 //! and least virtual runtimes are corrected on the way back, as long as they change.
 
-ghost use Rattle.std.specs.Prelude.{◌≡◌, suc, ◌+◌, ◌<◌, ◌≤◌, ◌^◌, [], ◌∷◌, ◌++◌, length, is_some, true, false, Some};
-ghost use Rattle.std.specs.Option.{option_map};
+ghost use Rattle.std.specs.Prelude.{◌≡◌, suc, ◌+◌, ◌<◌, ◌≤◌, ◌^◌, [], ◌∷◌, ◌++◌, ◌≤ℤ◌, length, is_some, true, false, Some, IfSome};
 ghost use Rattle.eevdf_queue.specs.TaskLists.{first_task, find_task, set_entry};
 ghost use Rattle.eevdf_queue.specs.TreeTasks.{AreOrdered, IsAtDeadline, insert_task, without};
 ghost use Rattle.eevdf_queue.specs.TreeLeast.{least_of};
@@ -13,6 +12,7 @@ use super::node_parts::{look_around, mend, part_from, raise};
 use crate::run_entry::Entry;
 use crate::task::Task;
 use crate::tree_key::{Key, precedes};
+use crate::tree_least::Least;
 use std::mem;
 
 /// Puts a node that is alone below a link, where keys rise. The least virtual runtimes are made right on the way down.
@@ -193,36 +193,55 @@ fn replaced(link: &mut Option<Box<TreeNode>>, side: Option<Box<TreeNode>>) -> Bo
     node
 }
 
-/// Exchanges the entry of a key's task, which stands below a link, for another. The shape of the tree stays.
-/// Answers whether the least virtual runtime may have changed: where it hasn't, nothing above is to be
-/// corrected.
-pub fn change(link: &mut Option<Box<TreeNode>>, key: &Key, entry: &mut Entry) -> bool
+/// Gives a key's task, which stands below a link, another entry. The shape of the tree stays. Neither the task's own
+/// virtual runtime nor the new one is below the floor: so a least one below it is another task's and stays, and
+/// on the way down over such nodes nothing is left to be corrected.
+pub fn change(link: &mut Option<Box<TreeNode>>, key: &Key, floor: Least, entry: &Entry)
     requires ordered { AreOrdered (tasks_in link.old) }
     requires few { length (tasks_in link.old) ≤ 2 ^ 20 }
     requires here { is_some (find_task key.now.number (tasks_in link.old)) ≡ true }
     requires placed { IsAtDeadline key.now.deadline (find_task key.now.number (tasks_in link.old)) }
-    ensures older { option_map (λ t. t.entry) (find_task key.now.number (tasks_in link.old)) ≡ Some entry.new }
-    ensures tasks { tasks_in link.new ≡ set_entry key.now.number entry.old (tasks_in link.old) }
+    requires above { IfSome (find_task key.now.number (tasks_in link.old)) (λ t. floor.runtime ≤ℤ t.entry.v) }
+    requires new_above { floor.runtime ≤ℤ entry.now.v }
+    ensures tasks { tasks_in link.new ≡ set_entry key.now.number entry.now (tasks_in link.old) }
     ensures height { height_in link.new ≡ height_in link.old }
     ensures length { length (tasks_in link.new) ≡ length (tasks_in link.old) }
-    ensures same_least { result ≡ false → least_of (tasks_in link.new) ≡ least_of (tasks_in link.old) }
 {
     let Some(node) = link else { unreachable!() };
     let node: &mut TreeNode = node;
-    let changed = if key.is_under(&node.task) {
-        change(&mut node.left, key, entry)
-    } else if key.is_over(&node.task) {
-        change(&mut node.right, key, entry)
-    } else {
-        let older = node.task.entry;
-        node.task.entry = *entry;
-        *entry = older;
-        true
-    };
-    if !changed {
-        // for the proof alone, as at an insertion
-        look_around(&node.left, &node.task, &node.right);
-        return false;
+    if !node.least.is_below(&floor) {
+        change_least(link, key, entry);
+        return;
     }
-    look_around(&node.left, &node.task, &node.right).renew_least(&mut node.least)
+    if key.is_under(&node.task) {
+        change(&mut node.left, key, floor, entry);
+    } else if key.is_over(&node.task) {
+        change(&mut node.right, key, floor, entry);
+    } else {
+        node.task.entry = *entry;
+    }
+    // for the proof alone, as at an insertion
+    look_around(&node.left, &node.task, &node.right);
+}
+
+/// The same where the least virtual runtimes may become others, which are made right on the way back.
+fn change_least(link: &mut Option<Box<TreeNode>>, key: &Key, entry: &Entry)
+    requires ordered { AreOrdered (tasks_in link.old) }
+    requires few { length (tasks_in link.old) ≤ 2 ^ 20 }
+    requires here { is_some (find_task key.now.number (tasks_in link.old)) ≡ true }
+    requires placed { IsAtDeadline key.now.deadline (find_task key.now.number (tasks_in link.old)) }
+    ensures tasks { tasks_in link.new ≡ set_entry key.now.number entry.now (tasks_in link.old) }
+    ensures height { height_in link.new ≡ height_in link.old }
+    ensures length { length (tasks_in link.new) ≡ length (tasks_in link.old) }
+{
+    let Some(node) = link else { unreachable!() };
+    let node: &mut TreeNode = node;
+    if key.is_under(&node.task) {
+        change_least(&mut node.left, key, entry);
+    } else if key.is_over(&node.task) {
+        change_least(&mut node.right, key, entry);
+    } else {
+        node.task.entry = *entry;
+    }
+    node.least = look_around(&node.left, &node.task, &node.right).least;
 }

@@ -1,10 +1,15 @@
-use Rattle.std.proofs.Common.{◌≡◌, ◌∙◌, ℕ, Some, refl, ap, sym, subst, rules}
+use Rattle.std.proofs.Common.{◌≡◌, ◌∙◌, ℕ, List, Some, refl, ap, sym, subst, rules}
 use Rattle.std.specs.Prelude.{ℤ, is_some}
+use Rattle.std.specs.Option.{option_map}
+use Rattle.std.specs.Ordering.{nat_cmp}
+use Rattle.std.specs.FinMap.{FinMap, get}
+use Rattle.eevdf_queue.specs.declared.run_entry.Entry.{Entry}
 use Rattle.eevdf_queue.specs.declared.task.Task.{Task}
-use Rattle.eevdf_queue.specs.TaskLists.{first_task, find_task, set_entry}
+use Rattle.eevdf_queue.specs.TaskLists.{first_task, find_task, set_entry, runnable_in}
 use Rattle.eevdf_queue.specs.TreeTasks.{insert_task, without, IsAtDeadline}
 use Rattle.eevdf_queue.specs.TreeStores.{deadline_at}
-use Rattle.eevdf_queue.proofs.TreeMaps.{find_present, placed, taken_absent, taken_room, moved_stored, moved_seen}
+use Rattle.eevdf_queue.proofs.RunnableMaps.{get-runnable_in}
+use Rattle.eevdf_queue.proofs.TreeMaps.{find_present, placed, taken_absent, taken_room, moved_stored, moved_seen, found_entry}
 use Rattle.eevdf_queue.proofs.TreeChange.{stored-set, set_seen}
 use Rattle.eevdf_queue.proofs.TreeTotals.{totals-set, totals-moved, totals_part, totals_few, totals_small, entry_found}
 use Rattle.eevdf_queue.proofs.runnable_tasks.RunnableTasks.set.Goals as goal
@@ -13,7 +18,7 @@ use Rattle.eevdf_queue.proofs.runnable_tasks.RunnableTasks.set.Goals.{After-remo
 pub remove-node-requires-clause-here : goal.remove-node-requires-clause-here
 remove-node-requires-clause-here c =
     ap (λ (q : ℕ). is_some (find_task q c.self.inside.tree)) c.key-key.ensures.number
-    ∙ find_present c.self.inside.tree c.args.self.now c.args.task c.self.view_is c.requires.here
+    ∙ find_present c.self.inside.tree c.args.self.now c.args.task c.self.view_is (ap is_some c.requires.here)
 
 pub remove-node-requires-clause-placed : goal.remove-node-requires-clause-placed
 remove-node-requires-clause-placed c =
@@ -39,17 +44,24 @@ put-requires-clause-few c =
     let e = left_over (goal.at.put-requires-clause-few c).After-remove-node in
     taken_room c.self.inside.deadlines c.args.task (first_task c.remove-node.result.value.tasks) c.self.inside.tree c.remove-node.new.self c.self.invariant.store f e
 
+-- the older entry is the task's
+older : (c : After-remove-node) → (first_task c.remove-node.result.value.tasks).entry ≡ c.args.older.now
+older c =
+    let g = found_entry c.self.inside.tree c.args.self.now c.args.task (first_task c.remove-node.result.value.tasks) c.self.view_is (found c) in
+    let same : Some (first_task c.remove-node.result.value.tasks).entry ≡ Some c.args.older.now = sym g ∙ c.requires.here in
+    cc
+
 pub invariant_of-self-2 : goal.invariant_of-self-2
 invariant_of-self-2 c =
-    let f = found (goal.at.invariant_of-self-2 c).After-remove-node in
-    let e = left_over (goal.at.invariant_of-self-2 c).After-remove-node in
+    let a = (goal.at.invariant_of-self-2 c).After-remove-node in
+    let f = found a in
+    let e = left_over a in
     let u : Task = record (first_task c.remove-node.result.value.tasks) { entry = c.args.entry } in
-    let x : (first_task c.remove-node.result.value.tasks).entry ≡ c.task.result.entry = cc in
     record {
       store = moved_stored c.self.inside.deadlines c.args.task (first_task c.remove-node.result.value.tasks) c.self.inside.tree c.remove-node.new.self c.self.invariant.store f e c.put.new.deadlines u c.put.new.tree refl c.put.ensures.tree c.requires.in_range c.put.ensures.table;
       totals =
-          totals-moved c.args.task (first_task c.remove-node.result.value.tasks) c.task.result.entry c.args.entry c.self.inside.tree c.put.new.tree c.self.inside.totals c.exchanged-self-inside-2.result
-          c.self.invariant.totals f x c.exchanged-self-inside-2.ensures.weight c.exchanged-self-inside-2.ensures.moment
+          totals-moved c.args.task (first_task c.remove-node.result.value.tasks) c.args.older.now c.args.entry c.self.inside.tree c.put.new.tree c.self.inside.totals c.exchanged-self-inside.result
+          c.self.invariant.totals f (older a) c.exchanged-self-inside.ensures.weight c.exchanged-self-inside.ensures.moment
           (c.put.ensures.tree ∙ ap (insert_task u) e);
     }
 
@@ -60,13 +72,17 @@ returns c =
     let u : Task = record (first_task c.remove-node.result.value.tasks) { entry = c.args.entry } in
     moved_seen c.self.inside.deadlines c.args.task (first_task c.remove-node.result.value.tasks) c.self.inside.tree c.remove-node.new.self c.self.invariant.store f e c.args.self.now u c.put.new.tree c.self.view_is refl c.put.ensures.tree
 
-pub change-older-requires-clause-here : goal.change-older-requires-clause-here
-change-older-requires-clause-here c =
-    ap (λ (q : ℕ). is_some (find_task q c.self.inside.tree)) c.key-key.ensures.number
-    ∙ find_present c.self.inside.tree c.args.self.now c.args.task c.self.view_is c.requires.here
+-- the task in the list of the tree
+here : (q : ℕ) (e : Entry) (ts : List Task) (m : FinMap nat_cmp Entry) → runnable_in ts ≡ m → get m q ≡ Some e → option_map (λ (t : Task). t.entry) (find_task q ts) ≡ Some e
+here q e ts m v h = sym (get-runnable_in ts q) ∙ ap (λ (z : FinMap nat_cmp Entry). get z q) v ∙ h
 
-pub change-older-requires-clause-placed : goal.change-older-requires-clause-placed
-change-older-requires-clause-placed c =
+pub change-requires-clause-here : goal.change-requires-clause-here
+change-requires-clause-here c =
+    ap (λ (q : ℕ). option_map (λ (t : Task). t.entry) (find_task q c.self.inside.tree)) c.key-key.ensures.number
+    ∙ here c.args.task c.args.older.now c.self.inside.tree c.args.self.now c.self.view_is c.requires.here
+
+pub change-requires-clause-placed : goal.change-requires-clause-placed
+change-requires-clause-placed c =
     let d : c.key-key.result.deadline ≡ deadline_at c.self.inside.deadlines c.key-key.result.number = cc in
     placed c.self.inside.deadlines c.key-key.result c.self.inside.tree c.self.invariant.store.noted d
 
@@ -75,40 +91,30 @@ invariant_of-self c =
     let d : c.key-key.result.deadline ≡ deadline_at c.self.inside.deadlines c.key-key.result.number = cc in
     let a = placed c.self.inside.deadlines c.key-key.result c.self.inside.tree c.self.invariant.store.noted d in
     let same : c.key-key.result.deadline ≡ c.args.entry.d = search rules in
-    let g = entry_found (find_task c.key-key.result.number c.self.inside.tree) c.change-older.result c.change-older.ensures.older in
+    let i : c.change.new.self ≡ set_entry c.args.task c.args.entry c.self.inside.tree =
+    c.change.ensures ∙ ap (λ (q : ℕ). set_entry q c.args.entry c.self.inside.tree) c.key-key.ensures.number in
+    let g = entry_found (find_task c.args.task c.self.inside.tree) c.args.older.now (here c.args.task c.args.older.now c.self.inside.tree c.args.self.now c.self.view_is c.requires.here) in
     record {
       store =
-          stored-set c.self.inside.deadlines c.key-key.result.number c.args.entry c.self.inside.tree c.change-older.new.self c.self.invariant.store
-          (subst (λ (z : ℤ). IsAtDeadline z (find_task c.key-key.result.number c.self.inside.tree)) same a) c.requires.in_range c.change-older.ensures.tasks;
+          stored-set c.self.inside.deadlines c.key-key.result.number c.args.entry c.self.inside.tree c.change.new.self c.self.invariant.store
+          (subst (λ (z : ℤ). IsAtDeadline z (find_task c.key-key.result.number c.self.inside.tree)) same a) c.requires.in_range c.change.ensures;
       totals =
-          totals-set c.key-key.result.number g.0 c.change-older.result c.args.entry c.self.inside.tree c.change-older.new.self c.self.inside.totals c.exchanged-self-inside.result
-          c.self.invariant.totals g.1.0 g.1.1 c.exchanged-self-inside.ensures.weight c.exchanged-self-inside.ensures.moment c.change-older.ensures.tasks;
+          totals-set c.args.task g.0 c.args.older.now c.args.entry c.self.inside.tree c.change.new.self c.self.inside.totals c.exchanged-self-inside.result
+          c.self.invariant.totals g.1.0 g.1.1 c.exchanged-self-inside.ensures.weight c.exchanged-self-inside.ensures.moment i;
     }
 
 pub returns-then-is_at : goal.returns-then-is_at
 returns-then-is_at c =
-    set_seen c.args.task c.args.entry c.self.inside.tree c.change-older.new.self c.args.self.now c.self.view_is c.requires.here
-    (c.change-older.ensures.tasks ∙ ap (λ (q : ℕ). set_entry q c.args.entry c.self.inside.tree) c.key-key.ensures.number)
+    set_seen c.args.task c.args.entry c.self.inside.tree c.change.new.self c.args.self.now c.self.view_is (ap is_some c.requires.here)
+    (c.change.ensures ∙ ap (λ (q : ℕ). set_entry q c.args.entry c.self.inside.tree) c.key-key.ensures.number)
 
 pub exchanged-self-inside-requires-clause-part : goal.exchanged-self-inside-requires-clause-part
 exchanged-self-inside-requires-clause-part c =
-    let g = entry_found (find_task c.key-key.result.number c.self.inside.tree) c.change-older.result c.change-older.ensures.older in
-    totals_part c.key-key.result.number g.0 c.change-older.result c.self.inside.totals c.self.inside.tree c.self.invariant.totals g.1.0 g.1.1
+    let g = entry_found (find_task c.args.task c.self.inside.tree) c.args.older.now (here c.args.task c.args.older.now c.self.inside.tree c.args.self.now c.self.view_is c.requires.here) in
+    totals_part c.args.task g.0 c.args.older.now c.self.inside.totals c.self.inside.tree c.self.invariant.totals g.1.0 g.1.1
 
 pub exchanged-self-inside-requires-clause-few : goal.exchanged-self-inside-requires-clause-few
 exchanged-self-inside-requires-clause-few c = totals_few c.self.inside.deadlines c.self.inside.totals c.self.inside.tree c.self.invariant
 
 pub exchanged-self-inside-requires-clause-small : goal.exchanged-self-inside-requires-clause-small
 exchanged-self-inside-requires-clause-small c = totals_small c.self.inside.deadlines c.self.inside.totals c.self.inside.tree c.self.invariant
-
-pub exchanged-self-inside-requires-2-clause-part : goal.exchanged-self-inside-requires-2-clause-part
-exchanged-self-inside-requires-2-clause-part c =
-    let f = found (goal.at.exchanged-self-inside-requires-2-clause-part c).After-remove-node in
-    let x : (first_task c.remove-node.result.value.tasks).entry ≡ c.task.result.entry = cc in
-    totals_part c.args.task (first_task c.remove-node.result.value.tasks) c.task.result.entry c.self.inside.totals c.self.inside.tree c.self.invariant.totals f x
-
-pub exchanged-self-inside-requires-2-clause-few : goal.exchanged-self-inside-requires-2-clause-few
-exchanged-self-inside-requires-2-clause-few c = totals_few c.self.inside.deadlines c.self.inside.totals c.self.inside.tree c.self.invariant
-
-pub exchanged-self-inside-requires-2-clause-small : goal.exchanged-self-inside-requires-2-clause-small
-exchanged-self-inside-requires-2-clause-small c = totals_small c.self.inside.deadlines c.self.inside.totals c.self.inside.tree c.self.invariant
