@@ -1,4 +1,4 @@
-use Rattle.std.proofs.Common.{◌≡◌, true, ◌∙◌, sym, ap}
+use Rattle.std.proofs.Common.{◌≡◌, true, ap}
 use Rattle.std.specs.Prelude.{is_some}
 use Rattle.std.specs.FinMap.{contains_key}
 use Rattle.eevdf_queue.proofs.Sound.{sound_sleeper_leaves, nowhere_woken}

@@ -1,4 +1,4 @@
-use Rattle.std.proofs.Common.{◌≡◌, ℕ, ◌+◌, ◌<◌, sym, ap, ◌∙◌, arith}
+use Rattle.std.proofs.Common.{◌≡◌, ℕ, ◌<◌, sym, ap, ◌∙◌, arith}
 use Rattle.std.specs.FinMap.{get, entries}
 use Rattle.eevdf_queue.specs.Ascending.{from_number}
 use Rattle.eevdf_queue.proofs.Ascending.{numbered, none_here, one_here, at_end}
