@@ -26,6 +26,7 @@ mod TreeMaps
 mod TreeCandidates
 mod TreeChange
 mod TreeTotals
+mod PickedTasks
 mod Waiting
 mod SmallSums
 mod Renicing

@@ -40,7 +40,7 @@ pub placed_by : (d : ℤ) (o : Option Task) → ((t : Task) → o ≡ Some t →
 placed_by d None h = tt
 placed_by d (Some t) h = h t refl
 
-noted_deadline : (table : List ℤ) (q : ℕ) (ts : List Task) (t : Task) → AllTasks (IsNoted table) ts → find_task q ts ≡ Some t → t.entry.d ≡ deadline_at table q
+pub noted_deadline : (table : List ℤ) (q : ℕ) (ts : List Task) (t : Task) → AllTasks (IsNoted table) ts → find_task q ts ≡ Some t → t.entry.d ≡ deadline_at table q
 noted_deadline table q ts t a h =
     sym (all-found (IsNoted table) q ts t a h) ∙ ap (deadline_at table) (found_number q ts t h)
 

@@ -1,9 +1,11 @@
 -- What the stores over trees keep.
-use Rattle.std.specs.Prelude.{◌≡◌, ℕ, ℤ, pos, List, [], ◌∷◌, slice_index_or}
+use Rattle.std.specs.Prelude.{◌≡◌, ℕ, ℤ, pos, true, List, [], ◌∷◌, Some, slice_index_or}
+use Rattle.std.specs.Option.{option_map}
+use Rattle.eevdf_queue.specs.declared.picked_task.PickedTask.{PickedTask}
 use Rattle.eevdf_queue.specs.declared.task.Task.{Task}
 use Rattle.eevdf_queue.specs.declared.totals.Totals.{Totals}
 use Rattle.eevdf_queue.specs.Sums.{sum_weights, sum_moments}
-use Rattle.eevdf_queue.specs.TaskLists.{entries_of, AreRunnable}
+use Rattle.eevdf_queue.specs.TaskLists.{find_task, entries_of, AreRunnable}
 
 abbrev pub AllTasks : (Task → Type 0) → List Task → Type 0
 AllTasks P [] = Unit {0}
@@ -31,3 +33,20 @@ pub record AreTotals (s : Totals) (ts : List Task) : Type 0 where
 pub record IsSummedStore (table : List ℤ) (s : Totals) (ts : List Task) : Type 0 where
   pub store : IsRunnableStore table ts
   pub totals : AreTotals s ts
+
+-- an entry but for its deadline
+abbrev pub timeless : Task → ℤ × ℤ × ℕ
+timeless t = (t.entry.v, t.entry.nice, t.entry.slice)
+
+abbrev pub picked_timeless : PickedTask → ℤ × ℤ × ℕ
+picked_timeless p = (p.runtime, p.nice, p.slice)
+
+-- where the entry of the task that was picked last is known, it is the task's
+abbrev pub IsKnown : PickedTask → List Task → Type 0
+IsKnown p ts = p.known ≡ true → option_map timeless (find_task p.number ts) ≡ Some (picked_timeless p)
+
+-- all of it
+pub record IsRunnableTasks (table : List ℤ) (s : Totals) (p : PickedTask) (ts : List Task) : Type 0 where
+  pub store : IsRunnableStore table ts
+  pub totals : AreTotals s ts
+  pub picked : IsKnown p ts

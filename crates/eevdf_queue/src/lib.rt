@@ -10,6 +10,7 @@ mod answers;
 mod deadline_table;
 mod lag;
 pub mod laws;
+mod picked_task;
 mod placing;
 mod queue_levels;
 mod queue_moves;

@@ -22,9 +22,9 @@ use std::marker::Model;
 #[derive(Drop)]
 pub struct Queue {
     pub(crate) runnable: RunnableTasks,
-    pub(crate) running: Option<TaskId>,
     pub(crate) asleep: Sleepers,
     pub(crate) base: i64,
+    pub(crate) running: Option<TaskId>,
     pub(crate) turns: u32,
 }
 
@@ -55,9 +55,9 @@ impl Queue {
     {
         Queue {
             runnable: RunnableTasks::new(),
-            running: None,
             asleep: Sleepers::new(),
             base: 0,
+            running: None,
             turns: 0,
         }
     }

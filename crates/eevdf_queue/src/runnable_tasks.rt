@@ -18,6 +18,7 @@ ghost use Rattle.eevdf_queue.specs.Leaving.{leaving_at};
 
 use crate::deadline_table::DeadlineTable;
 use crate::lag::kept_lag;
+use crate::picked_task::PickedTask;
 use crate::run_entry::Entry;
 use crate::task_number::TaskId;
 use crate::task_parcel::Parcel;
@@ -30,9 +31,17 @@ use std::marker::Model;
 /// The runnable tasks of a queue, seen as the map from their numbers to their entries.
 #[derive(Drop)]
 pub struct RunnableTasks {
+    totals: Totals,
     tree: TaskTree,
     deadlines: DeadlineTable,
-    totals: Totals,
+    picked: PickedTask,
+}
+
+/// The number of the task that is picked, and the turns of the descent to it.
+#[derive(Clone, Copy)]
+pub struct Pick {
+    pub task: TaskId,
+    pub turns: u32,
 }
 
 impl Model for RunnableTasks {
@@ -47,11 +56,11 @@ impl Model for RunnableTasks {
     ghost coded = { map.code coded_ℕ entry_code };
 
     ghost use Rattle.eevdf_queue.specs.TaskLists.{runnable_in};
-    ghost use Rattle.eevdf_queue.specs.TreeStores.{IsSummedStore};
+    ghost use Rattle.eevdf_queue.specs.TreeStores.{IsRunnableTasks};
 
     ghost view = { λ a. runnable_in a.tree };
 
-    ghost invariant = { λ a. IsSummedStore a.deadlines a.totals a.tree };
+    ghost invariant = { λ a. IsRunnableTasks a.deadlines a.totals a.picked a.tree };
 }
 
 impl RunnableTasks {
@@ -60,12 +69,13 @@ impl RunnableTasks {
         ensures { result ≡ map.empty }
     {
         RunnableTasks {
-            tree: TaskTree::new(),
-            deadlines: DeadlineTable::new(),
             totals: Totals {
                 weight: 0,
                 moment: 0,
             },
+            tree: TaskTree::new(),
+            deadlines: DeadlineTable::new(),
+            picked: PickedTask::none(),
         }
     }
 
@@ -102,7 +112,11 @@ impl RunnableTasks {
     pub fn get(&self, task: TaskId) -> Option<Entry>
         ensures { result ≡ map.get self.now task }
     {
-        match self.tree.find(&self.deadlines.key(task)) {
+        let key = self.deadlines.key(task);
+        if self.picked.is(task) {
+            return Some(self.picked.entry(&key));
+        }
+        match self.tree.find(&key) {
             None => None,
             Some(found) => Some(found.entry),
         }
@@ -114,6 +128,7 @@ impl RunnableTasks {
         requires in_range { is_entry_in_range entry ≡ true }
         ensures { self.new ≡ map.insert self.old task entry }
     {
+        self.picked.known = false;
         self.totals = exchanged(&self.totals, older, &entry);
         let key = self.deadlines.key(task);
         if key.is_at(&entry) {
@@ -147,6 +162,7 @@ impl RunnableTasks {
         ensures parcel { option_map (leaving_at time task) (map.get self.old task) ≡ Some result }
     {
         self.keeps();
+        self.picked.known = false;
         let key = self.deadlines.key(task);
         let node = self.tree.remove(&key);
         let entry = node.task().entry;
@@ -157,9 +173,10 @@ impl RunnableTasks {
     /// The first task, by deadline and number, of those that are eligible at these sums, and the turns of the
     /// descent to it.
     #[tactic(auto, using(crate::proofs::RunnableMaps::firsts))]
-    fn first(&self, totals: &Totals) -> Option<Found>
+    fn first(&self, totals: &Totals) -> Option<Found<'_>>
         requires { totals.now.weight ≤ 2 ^ 40 }
-        ensures task { option_map (λ f. f.task) result
+        ensures here { IfSome result (λ f. map.get self.now f.task.now.number ≡ Some f.task.now.entry) }
+        ensures number { option_map (λ f. f.task.now.number) result
             ≡ option_map (λ a. a.0) (earliest (is_eligible_at totals.now.weight totals.now.moment) (map.entries self.now)) }
         ensures positive { IfSome result (λ f. 1 ≤ f.turns) }
         ensures turns { IfSome result (λ f. IsFull f.turns (map.len self.now)) }
@@ -169,15 +186,26 @@ impl RunnableTasks {
 
     /// The eligible task of earliest virtual deadline, and the turns of the descent to it. `None` exactly where
     /// there is no task.
-    pub fn pick(&self) -> Option<Found>
-        ensures number { option_map (λ f. f.task) result ≡ pick_of self.now }
-        ensures picked { IfSome result (λ f. IsPick self.now f.task) }
-        ensures none { IsNone result ↔ (self.now ≡ map.empty) }
-        ensures here { IfSome result (λ f. map.contains_key self.now f.task ≡ true) }
+    pub fn pick(&mut self) -> Option<Pick>
+        ensures number { option_map (λ f. f.task) result ≡ pick_of self.old }
+        ensures picked { IfSome result (λ f. IsPick self.old f.task) }
+        ensures none { IsNone result ↔ (self.old ≡ map.empty) }
+        ensures here { IfSome result (λ f. map.contains_key self.old f.task ≡ true) }
         ensures positive { IfSome result (λ f. 1 ≤ f.turns) }
-        ensures turns { IfSome result (λ f. IsFull f.turns (map.len self.now)) }
+        ensures turns { IfSome result (λ f. IsFull f.turns (map.len self.old)) }
+        ensures same { self.new ≡ self.old }
     {
-        self.first(&self.totals())
+        let totals = self.totals();
+        let Some(first) = self.first(&totals) else {
+            return None;
+        };
+        let pick = Pick {
+            task: first.task.number,
+            turns: first.turns,
+        };
+        let picked = PickedTask::of(first.task);
+        self.picked = picked;
+        Some(pick)
     }
 
     /// The last task by deadline and number of those that don't run.

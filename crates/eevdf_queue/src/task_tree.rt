@@ -5,7 +5,7 @@ ghost use Rattle.eevdf_queue.specs.Order.{earliest};
 ghost use Rattle.eevdf_queue.specs.Pick.{is_eligible_at};
 ghost use Rattle.eevdf_queue.specs.Candidate.{latest_waiting};
 ghost use Rattle.eevdf_queue.specs.TreeShape.{IsAlone, IsFull};
-ghost use Rattle.eevdf_queue.specs.TreeTasks.{IsAtDeadline, insert_task, without};
+ghost use Rattle.eevdf_queue.specs.TreeTasks.{IsAtDeadline, insert_task, without, first_that};
 
 use crate::run_entry::Entry;
 use crate::task::Task;
@@ -100,9 +100,10 @@ impl TaskTree {
 
     /// The first by deadline and number of the tasks that are eligible at these sums, and the turns of the
     /// descent to it.
-    pub fn earliest(&self, totals: &Totals) -> Option<Found>
+    pub fn earliest(&self, totals: &Totals) -> Option<Found<'_>>
         requires { totals.now.weight ≤ 2 ^ 40 }
-        ensures task { option_map (λ f. f.task) result
+        ensures task { option_map (λ f. f.task.now) result ≡ first_that (is_eligible_at totals.now.weight totals.now.moment) self.now }
+        ensures number { option_map (λ f. f.task.now.number) result
             ≡ option_map (λ a. a.0) (earliest (is_eligible_at totals.now.weight totals.now.moment) (entries_of self.now)) }
         ensures positive { IfSome result (λ f. 1 ≤ f.turns) }
         ensures turns { IfSome result (λ f. IsFull f.turns (length self.now)) }

@@ -53,11 +53,10 @@ impl Model for TreeNode {
     ghost size_decreases = { λ a h. depth-le-length a };
 }
 
-/// The number of a task that a descent has found, and the turns that it took: the depth of the task's node, where the
-/// root's is 1.
+/// A task that a descent has found, and the turns that it took: the depth of the task's node, where the root's is 1.
 #[derive(Clone, Copy)]
-pub struct Found {
-    pub task: TaskId,
+pub struct Found<'a> {
+    pub task: &'a Task,
     pub turns: u32,
 }
 
@@ -221,14 +220,13 @@ pub fn find(link: &Option<Box<TreeNode>>, key: &Key) -> Option<Task>
 // Each turn goes one level down, and nothing is looked at twice.
 
 /// The first eligible task below a link, left before right, and the turns that lead to it.
-pub fn first_eligible(link: &Option<Box<TreeNode>>, totals: &Totals) -> Option<Found>
+pub fn first_eligible<'a>(link: &'a Option<Box<TreeNode>>, totals: &Totals) -> Option<Found<'a>>
     requires few { totals.now.weight ≤ 2 ^ 40 }
     requires small { length (tasks_in link.now) ≤ 2 ^ 20 }
-    ensures task { option_map (λ f. f.task) result
-        ≡ option_map (λ t. t.number) (first_that (is_eligible_at totals.now.weight totals.now.moment) (tasks_in link.now)) }
+    ensures task { option_map (λ f. f.task.now) result ≡ first_that (is_eligible_at totals.now.weight totals.now.moment) (tasks_in link.now) }
     ensures positive { IfSome result (λ f. 1 ≤ f.turns) }
     ensures few_turns { IfSome result (λ f. IsFull f.turns (length (tasks_in link.now))) }
-    ensures depth { IfSome result (λ f. is_at_depth f.task f.turns (depths_in link.now) ≡ true) }
+    ensures depth { IfSome result (λ f. is_at_depth f.task.now.number f.turns (depths_in link.now) ≡ true) }
 {
     match link {
         None => None,
@@ -244,14 +242,14 @@ pub fn first_eligible(link: &Option<Box<TreeNode>>, totals: &Totals) -> Option<F
 }
 
 /// The first eligible task of a node that has one, left before right, and the turns that lead to it.
-fn first_under(root: &TreeNode, totals: &Totals) -> Found
+fn first_under<'a>(root: &'a TreeNode, totals: &Totals) -> Found<'a>
     requires few { totals.now.weight ≤ 2 ^ 40 }
     requires small { length root.now.tasks ≤ 2 ^ 20 }
     requires some { is_some (first_that (is_eligible_at totals.now.weight totals.now.moment) root.now.tasks) ≡ true }
-    ensures task { option_map (λ t. t.number) (first_that (is_eligible_at totals.now.weight totals.now.moment) root.now.tasks) ≡ Some result.task }
+    ensures task { first_that (is_eligible_at totals.now.weight totals.now.moment) root.now.tasks ≡ Some result.task.now }
     ensures positive { 1 ≤ result.turns }
     ensures turns { IsFull result.turns (length root.now.tasks) }
-    ensures depth { is_at_depth result.task result.turns root.now.depths ≡ true }
+    ensures depth { is_at_depth result.task.now.number result.turns root.now.depths ≡ true }
 {
     let _height = root.height();
     let mut at = root;
@@ -267,7 +265,7 @@ fn first_under(root: &TreeNode, totals: &Totals) -> Found
         }
         if is_task_eligible(totals, &at.task) {
             return Found {
-                task: at.task.number,
+                task: &at.task,
                 turns,
             };
         }

@@ -1,6 +1,5 @@
 use Rattle.std.proofs.Common.{◌≡◌, ◌∙◌, ap, sym, List}
 use Rattle.std.specs.Prelude.{is_some}
-use Rattle.std.specs.Option.{option_map}
 use Rattle.eevdf_queue.specs.declared.task.Task.{Task}
 use Rattle.eevdf_queue.specs.Pick.{is_eligible_at}
 use Rattle.eevdf_queue.specs.TreeShape.{tasks_in}
@@ -21,7 +20,6 @@ first_under-requires-clause-some c =
 pub returns-else-is_least_eligible-clause-task : goal.returns-else-is_least_eligible-clause-task
 returns-else-is_least_eligible-clause-task c =
     let e : tasks_in c.args.link.now ≡ tasks_of c.root.inside = cc in
-    sym (ap (option_map (λ (t : Task). t.number))
-    (ap (first_that (is_eligible_at c.args.totals.now.weight c.args.totals.now.moment)) e
+    sym (ap (first_that (is_eligible_at c.args.totals.now.weight c.args.totals.now.moment)) e
     ∙ none_from (first_that (is_eligible_at c.args.totals.now.weight c.args.totals.now.moment) (tasks_of c.root.inside))
-    (sym (some-node c.args.totals.now.weight c.args.totals.now.moment c.root.inside c.root.invariant) ∙ sym c.is_least_eligible.ensures ∙ c.if-is_least_eligible.false)))
+    (sym (some-node c.args.totals.now.weight c.args.totals.now.moment c.root.inside c.root.invariant) ∙ sym c.is_least_eligible.ensures ∙ c.if-is_least_eligible.false))

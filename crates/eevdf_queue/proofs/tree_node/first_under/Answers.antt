@@ -1,12 +1,11 @@
 use Rattle.std.proofs.Common.{◌≡◌, ◌∙◌, ◌+◌, true, false, [], ap, sym, arith, List, length}
 use Rattle.std.specs.Prelude.{is_some}
-use Rattle.std.specs.Option.{option_map}
 use Rattle.eevdf_queue.specs.declared.task.Task.{Task}
 use Rattle.eevdf_queue.specs.Pick.{is_eligible_at}
-use Rattle.eevdf_queue.specs.TreeShape.{tasks_in, height_in, depths_in}
-use Rattle.eevdf_queue.specs.TreeNodes.{tasks_of, depths_of}
+use Rattle.eevdf_queue.specs.TreeShape.{tasks_in, height_in}
+use Rattle.eevdf_queue.specs.TreeNodes.{tasks_of}
 use Rattle.eevdf_queue.specs.TreeTasks.{first_that}
-use Rattle.eevdf_queue.proofs.Descending.{lead_none, lead_left, lead_right, lead_here}
+use Rattle.eevdf_queue.proofs.Descending.{lead_left, lead_right, lead_here}
 use Rattle.eevdf_queue.proofs.TreeEligible.{some-node}
 use Rattle.eevdf_queue.proofs.TreeSorted.{full-lower}
 use Rattle.eevdf_queue.proofs.TreeSearch.{first_left_same, first_here, first_right}
@@ -51,8 +50,7 @@ missed c =
 pub returns-then-is_task_eligible-clause-task : goal.returns-then-is_task_eligible-clause-task
 returns-then-is_task_eligible-clause-task c =
     let e : c.down.at.now.tasks ≡ tasks_of c.at.inside = cc in
-    ap (option_map (λ (t : Task). t.number))
-    (c.down.invariant.1.0 ∙ first_here (is_eligible_at c.args.totals.now.weight c.args.totals.now.moment) c.down.at.now.tasks (tasks_in c.at.inside.left) c.at.inside.task (tasks_in c.at.inside.right) e (missed (goal.at.returns-then-is_task_eligible-clause-task c).After-is_task_eligible) (sym c.is_task_eligible.ensures ∙ c.if-is_task_eligible.true))
+    c.down.invariant.1.0 ∙ first_here (is_eligible_at c.args.totals.now.weight c.args.totals.now.moment) c.down.at.now.tasks (tasks_in c.at.inside.left) c.at.inside.task (tasks_in c.at.inside.right) e (missed (goal.at.returns-then-is_task_eligible-clause-task c).After-is_task_eligible) (sym c.is_task_eligible.ensures ∙ c.if-is_task_eligible.true)
 
 pub returns-then-is_task_eligible-clause-turns : goal.returns-then-is_task_eligible-clause-turns
 returns-then-is_task_eligible-clause-turns c =

@@ -4,6 +4,7 @@ use Rattle.eevdf_queue.specs.declared.task.Task.{Task}
 use Rattle.eevdf_queue.specs.State.{Contents}
 use Rattle.eevdf_queue.specs.TaskLists.{first_task}
 use Rattle.eevdf_queue.proofs.TreeMaps.{find_absent, added_stored, added_seen, added_room}
+use Rattle.eevdf_queue.proofs.PickedTasks.{sums_kept, still_known}
 use Rattle.eevdf_queue.proofs.TreeTotals.{totals-insert, totals_few, totals_near}
 use Rattle.eevdf_queue.proofs.runnable_tasks.RunnableTasks.add.Goals as goal
 
@@ -29,6 +30,9 @@ invariant_of-self c =
       totals =
           totals-insert t c.self.inside.tree c.put.new.tree c.self.inside.totals c.with_share-self-inside.result c.share.result.weight c.share.result.moment c.self.invariant.totals c.put.ensures.tree
           c.share.ensures.weight c.share.ensures.moment c.with_share-self-inside.ensures.weight c.with_share-self-inside.ensures.moment;
+      picked =
+          still_known c.self.inside.picked t c.self.inside.tree c.put.new.tree c.self.invariant.picked
+          (find_absent c.self.inside.tree c.args.self.now t.number c.self.view_is (ap (map.get c.args.self.now) k ∙ c.requires.absent)) c.put.ensures.tree;
     }
 
 pub returns : goal.returns
@@ -40,7 +44,7 @@ returns c =
     ∙ ap (λ (q : ℕ). map.insert c.args.self.now q c.args.entry) k
 
 pub with_share-self-inside-requires-clause-few : goal.with_share-self-inside-requires-clause-few
-with_share-self-inside-requires-clause-few c = omega (arith, totals_few c.self.inside.deadlines c.self.inside.totals c.self.inside.tree c.self.invariant)
+with_share-self-inside-requires-clause-few c = omega (arith, totals_few c.self.inside.deadlines c.self.inside.totals c.self.inside.tree (sums_kept _ _ _ _ c.self.invariant))
 
 pub with_share-self-inside-requires-clause-small : goal.with_share-self-inside-requires-clause-small
-with_share-self-inside-requires-clause-small c = totals_near c.self.inside.deadlines c.self.inside.totals c.self.inside.tree c.self.invariant
+with_share-self-inside-requires-clause-small c = totals_near c.self.inside.deadlines c.self.inside.totals c.self.inside.tree (sums_kept _ _ _ _ c.self.invariant)

@@ -2,9 +2,16 @@ use Rattle.std.proofs.Common.{◌∙◌, ℕ, ap, sym, subst}
 use Rattle.std.specs.Prelude.{IfSome}
 use Rattle.std.specs.FinMap as map
 use Rattle.eevdf_queue.specs.TreeShape.{IsFull}
+use Rattle.eevdf_queue.specs.Pick.{is_eligible_at}
+use Rattle.eevdf_queue.proofs.PickedTasks.{first_entry}
 use Rattle.eevdf_queue.proofs.RunnableMaps.{len-runnable_in}
 use Rattle.eevdf_queue.proofs.runnable_tasks.RunnableTasks.first.Goals as goal
 
 pub returns-clause-turns : goal.returns-clause-turns
 returns-clause-turns c =
     subst (λ (z : ℕ). IfSome c.earliest.result (λ f. IsFull f.turns z)) (sym (len-runnable_in c.self.inside.tree c.self.invariant.store.runnable) ∙ ap (λ m. map.len m) c.self.view_is) c.earliest.ensures.turns
+
+pub returns-clause-here : goal.returns-clause-here
+returns-clause-here c =
+    first_entry (λ f. f.task.now) (is_eligible_at c.args.totals.now.weight c.args.totals.now.moment) c.self.inside.tree c.args.self.now c.earliest.result c.self.invariant.store.runnable c.self.view_is
+    c.earliest.ensures.task

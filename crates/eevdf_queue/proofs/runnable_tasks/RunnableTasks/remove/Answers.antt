@@ -1,4 +1,4 @@
-use Rattle.std.proofs.Common.{◌≡◌, ◌∙◌, ℕ, ◌≤◌, Some, true, ap, sym, subst, rules}
+use Rattle.std.proofs.Common.{◌≡◌, ◌∙◌, ℕ, false, true, ◌≤◌, Some, ap, sym, subst, rules}
 use Rattle.std.specs.Prelude.{ℤ, ◌-ℤ◌, is_some}
 use Rattle.std.specs.Option.{option_map}
 use Rattle.std.proofs.lemmas.Int.{to_z-of_z}
@@ -15,6 +15,7 @@ use Rattle.eevdf_weight.specs.Limits.{is_in_range}
 use Rattle.eevdf_queue.proofs.Bounds.{range_v}
 use Rattle.eevdf_queue.proofs.TreeSearch.{found_number}
 use Rattle.eevdf_queue.proofs.TreeMaps.{find_present, placed, taken_stored, taken_seen, found_entry}
+use Rattle.eevdf_queue.proofs.PickedTasks.{sums_kept}
 use Rattle.eevdf_queue.proofs.TreeTotals.{totals-without, totals_part, totals_near}
 use Rattle.eevdf_queue.proofs.runnable_tasks.RunnableTasks.remove.Goals as goal
 use Rattle.eevdf_queue.proofs.runnable_tasks.RunnableTasks.remove.Goals.{After-remove-node}
@@ -55,6 +56,7 @@ invariant_of-self c =
           totals-without c.args.task (first_task c.remove-node.result.value.tasks) c.task-entry.result.entry c.self.inside.tree c.remove-node.new.self c.self.inside.totals c.without_share-self-inside.result
           c.share.result.weight c.share.result.moment c.self.invariant.totals f x e c.share.ensures.weight c.share.ensures.moment
           c.without_share-self-inside.ensures.weight c.without_share-self-inside.ensures.moment;
+      picked = λ k. absurd (let n : false ≡ true = k in cc);
     }
 
 pub returns-clause-rest : goal.returns-clause-rest
@@ -86,4 +88,4 @@ without_share-self-inside-requires-clause-part c =
     (totals_part c.args.task (first_task c.remove-node.result.value.tasks) c.task-entry.result.entry c.self.inside.totals c.self.inside.tree c.self.invariant.totals f x)
 
 pub without_share-self-inside-requires-clause-small : goal.without_share-self-inside-requires-clause-small
-without_share-self-inside-requires-clause-small c = totals_near c.self.inside.deadlines c.self.inside.totals c.self.inside.tree c.self.invariant
+without_share-self-inside-requires-clause-small c = totals_near c.self.inside.deadlines c.self.inside.totals c.self.inside.tree (sums_kept _ _ _ _ c.self.invariant)

@@ -1,4 +1,4 @@
-use Rattle.std.proofs.Common.{◌≡◌, ◌∙◌, ℕ, List, Some, refl, ap, sym, subst, rules}
+use Rattle.std.proofs.Common.{◌≡◌, ◌∙◌, ℕ, false, true, List, Some, refl, ap, sym, subst, rules}
 use Rattle.std.specs.Prelude.{ℤ, is_some}
 use Rattle.std.specs.Option.{option_map}
 use Rattle.std.specs.Ordering.{nat_cmp}
@@ -11,6 +11,7 @@ use Rattle.eevdf_queue.specs.TreeStores.{deadline_at}
 use Rattle.eevdf_queue.proofs.RunnableMaps.{get-runnable_in}
 use Rattle.eevdf_queue.proofs.TreeMaps.{find_present, placed, taken_absent, taken_room, moved_stored, moved_seen, found_entry}
 use Rattle.eevdf_queue.proofs.TreeChange.{stored-set, set_seen}
+use Rattle.eevdf_queue.proofs.PickedTasks.{sums_kept}
 use Rattle.eevdf_queue.proofs.TreeTotals.{totals-set, totals-moved, totals_part, totals_few, totals_small, entry_found}
 use Rattle.eevdf_queue.proofs.runnable_tasks.RunnableTasks.set.Goals as goal
 use Rattle.eevdf_queue.proofs.runnable_tasks.RunnableTasks.set.Goals.{After-remove-node}
@@ -63,6 +64,7 @@ invariant_of-self-2 c =
           totals-moved c.args.task (first_task c.remove-node.result.value.tasks) c.args.older.now c.args.entry c.self.inside.tree c.put.new.tree c.self.inside.totals c.exchanged-self-inside.result
           c.self.invariant.totals f (older a) c.exchanged-self-inside.ensures.weight c.exchanged-self-inside.ensures.moment
           (c.put.ensures.tree ∙ ap (insert_task u) e);
+      picked = λ k. absurd (let n : false ≡ true = k in cc);
     }
 
 pub returns : goal.returns
@@ -101,6 +103,7 @@ invariant_of-self c =
       totals =
           totals-set c.args.task g.0 c.args.older.now c.args.entry c.self.inside.tree c.change.new.self c.self.inside.totals c.exchanged-self-inside.result
           c.self.invariant.totals g.1.0 g.1.1 c.exchanged-self-inside.ensures.weight c.exchanged-self-inside.ensures.moment i;
+      picked = λ k. absurd (let n : false ≡ true = k in cc);
     }
 
 pub returns-then-is_at : goal.returns-then-is_at
@@ -114,7 +117,7 @@ exchanged-self-inside-requires-clause-part c =
     totals_part c.args.task g.0 c.args.older.now c.self.inside.totals c.self.inside.tree c.self.invariant.totals g.1.0 g.1.1
 
 pub exchanged-self-inside-requires-clause-few : goal.exchanged-self-inside-requires-clause-few
-exchanged-self-inside-requires-clause-few c = totals_few c.self.inside.deadlines c.self.inside.totals c.self.inside.tree c.self.invariant
+exchanged-self-inside-requires-clause-few c = totals_few c.self.inside.deadlines c.self.inside.totals c.self.inside.tree (sums_kept _ _ _ _ c.self.invariant)
 
 pub exchanged-self-inside-requires-clause-small : goal.exchanged-self-inside-requires-clause-small
-exchanged-self-inside-requires-clause-small c = totals_small c.self.inside.deadlines c.self.inside.totals c.self.inside.tree c.self.invariant
+exchanged-self-inside-requires-clause-small c = totals_small c.self.inside.deadlines c.self.inside.totals c.self.inside.tree (sums_kept _ _ _ _ c.self.invariant)

@@ -10,6 +10,7 @@ use Rattle.eevdf_queue.specs.TreeTasks.{without}
 use Rattle.eevdf_queue.specs.TreeStores.{IsSummedStore}
 use Rattle.eevdf_queue.proofs.RunnableMaps.{get-runnable_in, total_weight-runnable_in, total_moment-runnable_in}
 use Rattle.eevdf_queue.proofs.TreeMaps.{taken_stored, taken_seen}
+use Rattle.eevdf_queue.proofs.PickedTasks.{sums_kept}
 use Rattle.eevdf_queue.proofs.TreeTotals.{entry_found, totals-without, totals_part, totals_near, totals_few, totals_small}
 use Rattle.eevdf_queue.proofs.runnable_tasks.RunnableTasks.totals_without.Goals as goal
 use Rattle.eevdf_queue.proofs.runnable_tasks.RunnableTasks.totals_without.Goals.{After-share, After-without_share}
@@ -27,7 +28,7 @@ without_share-requires-clause-part c =
     (totals_part c.args.task t.0 c.args.entry.now c.self.inside.totals c.self.inside.tree c.self.invariant.totals t.1.0 t.1.1)
 
 pub without_share-requires-clause-small : goal.without_share-requires-clause-small
-without_share-requires-clause-small c = totals_near c.self.inside.deadlines c.self.inside.totals c.self.inside.tree c.self.invariant
+without_share-requires-clause-small c = totals_near c.self.inside.deadlines c.self.inside.totals c.self.inside.tree (sums_kept _ _ _ _ c.self.invariant)
 
 -- the sums are those of the store without it
 module _ (c : After-share) (r : Totals) (w : c.self.inside.totals.weight ≡ c.share.result.weight + r.weight) (m : c.self.inside.totals.moment ≡ c.share.result.moment +ℤ r.moment) where

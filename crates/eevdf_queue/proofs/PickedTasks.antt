@@ -1,0 +1,96 @@
+-- The entry of the task that was picked last: that it is the task's, and stays so when another task joins.
+use Rattle.std.proofs.Common.{◌≡◌, ℕ, Bool, true, false, cond, eqb, List, [], ◌∷◌, Option, Some, None, refl, sym, ap, ◌∙◌, arith}
+use Rattle.std.specs.Prelude.{ℤ, IfSome}
+use Rattle.std.specs.Option.{option_map}
+use Rattle.std.specs.Ordering.{nat_cmp}
+use Rattle.std.specs.FinMap.{FinMap, get}
+use Rattle.std.proofs.lemmas.Bool.Decides.{nat_tests}
+use Rattle.eevdf_queue.specs.declared.run_entry.Entry.{Entry}
+use Rattle.eevdf_queue.specs.declared.task.Task.{Task}
+use Rattle.eevdf_queue.specs.declared.totals.Totals.{Totals}
+use Rattle.eevdf_queue.specs.declared.picked_task.PickedTask.{PickedTask}
+use Rattle.eevdf_queue.specs.TaskLists.{find_task, runnable_in, AreRunnable}
+use Rattle.eevdf_queue.specs.TreeTasks.{insert_task, first_that, IsAtDeadline}
+use Rattle.eevdf_queue.specs.TreeStores.{deadline_at, timeless, picked_timeless, IsRunnableStore, IsSummedStore, IsKnown, IsRunnableTasks}
+use Rattle.eevdf_queue.proofs.RunnableMaps.{get-runnable_in}
+use Rattle.eevdf_queue.proofs.TreeLists.{find-insert_task}
+use Rattle.eevdf_queue.proofs.TreeMaps.{placed_by, noted_deadline}
+
+pub sums_kept : (table : List ℤ) (s : Totals) (p : PickedTask) (ts : List Task) → IsRunnableTasks table s p ts → IsSummedStore table s ts
+sums_kept table s p ts h = record { store = h.store; totals = h.totals }
+
+-- what is known, with the deadline
+entry_of : (d : ℤ) (p : PickedTask) (o : Option Task) → option_map timeless o ≡ Some (picked_timeless p) → IsAtDeadline d o
+    → option_map (λ (t : Task). t.entry) o ≡ Some (record { v = p.runtime; d = d; nice = p.nice; slice = p.slice })
+entry_of d p None h a = cc
+entry_of d p (Some t) h a =
+    let same : timeless t ≡ picked_timeless p = cc in
+    let v : t.entry.v ≡ p.runtime = ap (λ (z : ℤ × ℤ × ℕ). z.0) same in
+    let n : t.entry.nice ≡ p.nice = ap (λ (z : ℤ × ℤ × ℕ). z.1) same in
+    let s : t.entry.slice ≡ p.slice = ap (λ (z : ℤ × ℤ × ℕ). z.2) same in
+    ap (λ (z : ℤ). Some (record { v = z; d = t.entry.d; nice = t.entry.nice; slice = t.entry.slice })) v
+    ∙ ap (λ (z : ℤ). Some (record { v = p.runtime; d = z; nice = t.entry.nice; slice = t.entry.slice })) a
+    ∙ ap (λ (z : ℤ). Some (record { v = p.runtime; d = d; nice = z; slice = t.entry.slice })) n
+    ∙ ap (λ (z : ℕ). Some (record { v = p.runtime; d = d; nice = p.nice; slice = z })) s
+
+pub known_entry : (table : List ℤ) (p : PickedTask) (ts : List Task) (m : FinMap nat_cmp Entry) (q : ℕ) → IsRunnableStore table ts → runnable_in ts ≡ m → IsKnown p ts → p.known ≡ true → p.number ≡ q
+    → get m q ≡ Some (record { v = p.runtime; d = deadline_at table q; nice = p.nice; slice = p.slice })
+known_entry table p ts m q s v h k e =
+    ap (λ (z : FinMap nat_cmp Entry). get z q) (sym v)
+    ∙ get-runnable_in ts q
+    ∙ entry_of (deadline_at table q) p (find_task q ts)
+    (ap (λ (z : ℕ). option_map timeless (find_task z ts)) (sym e) ∙ h k)
+    (placed_by (deadline_at table q) (find_task q ts) (λ t f. noted_deadline table q ts t s.noted f))
+
+abbrev known_as : ℤ → ℤ → ℕ → Option (ℤ × ℤ × ℕ)
+known_as v n l = Some (v, n, l)
+
+-- of the entry of a task all of that is known
+pub known_of : (p : PickedTask) (ts : List Task) (m : FinMap nat_cmp Entry) (t : Task) → runnable_in ts ≡ m → get m t.number ≡ Some t.entry
+    → p.number ≡ t.number → p.runtime ≡ t.entry.v → p.nice ≡ t.entry.nice → p.slice ≡ t.entry.slice → IsKnown p ts
+known_of p ts m t view g number v n s = λ _. read (find_task p.number ts)
+    (sym (get-runnable_in ts p.number) ∙ ap (λ (z : FinMap nat_cmp Entry). get z p.number) view ∙ ap (get m) number ∙ g)
+  where
+    read : (o : Option Task) → option_map (λ (u : Task). u.entry) o ≡ Some t.entry → option_map timeless o ≡ Some (picked_timeless p)
+    read None h = cc
+    read (Some u) h =
+        let e : u.entry ≡ t.entry = cc in
+        ap (λ (x : Entry). known_as x.v x.nice x.slice) e
+        ∙ ap (λ (z : ℤ). known_as z t.entry.nice t.entry.slice) (sym v)
+        ∙ ap (λ (z : ℤ). known_as p.runtime z t.entry.slice) (sym n)
+        ∙ ap (λ (z : ℕ). known_as p.runtime p.nice z) (sym s)
+
+-- another task joins
+other_found : {X : Type 0} (read : Task → X) (x : X) (b : Bool) (t : Task) (o : Option Task) → (b ≡ true → o ≡ None) → option_map read o ≡ Some x → option_map read (cond b (Some t) o) ≡ Some x
+other_found read x false t o n h = h
+other_found read x true t o n h = absurd (let none : option_map read o ≡ None = ap (option_map read) (n refl) in let w : None ≡ Some x = sym none ∙ h in cc)
+
+pub still_known : (p : PickedTask) (t : Task) (ts us : List Task) → IsKnown p ts → find_task t.number ts ≡ None → us ≡ insert_task t ts → IsKnown p us
+still_known p t ts us h n e = λ k.
+    ap (λ (z : List Task). option_map timeless (find_task p.number z)) e
+    ∙ ap (option_map timeless) (find-insert_task p.number t ts n)
+    ∙ other_found timeless (picked_timeless p) (eqb t.number p.number) t (find_task p.number ts)
+    (λ b. let same : t.number ≡ p.number = grind (arith, nat_tests) in ap (λ (q : ℕ). find_task q ts) (sym same) ∙ n) (h k)
+
+-- the first task that passes stands under its number
+first_step : (b c : Bool) (u t : Task) (o p : Option Task) → (c ≡ true → p ≡ None) → (o ≡ Some t → p ≡ Some t) → (b ≡ true → u ≡ t → c ≡ true) → cond b (Some u) o ≡ Some t → cond c (Some u) p ≡ Some t
+first_step true true u t o p n k s h = h
+first_step true false u t o p n k s h = let same : u ≡ t = cc in absurd (let w = s refl same in cc)
+first_step false true u t o p n k s h = absurd (let a = n refl in let b = k h in let w : None ≡ Some t = sym a ∙ b in cc)
+first_step false false u t o p n k s h = k h
+
+pub first_found : (passes : Entry → Bool) (ts : List Task) (t : Task) → AreRunnable ts → first_that passes ts ≡ Some t → find_task t.number ts ≡ Some t
+first_found passes [] t r h = cc
+first_found passes (u ∷ us) t r h =
+    first_step (passes u.entry) (eqb u.number t.number) u t (first_that passes us) (find_task t.number us)
+    (λ b. let same : u.number ≡ t.number = grind (arith, nat_tests) in ap (λ (q : ℕ). find_task q us) (sym same) ∙ r.0)
+    (first_found passes us t r.3)
+    (λ _ e. let same : u.number ≡ t.number = ap (λ (z : Task). z.number) e in grind (arith, nat_tests)) h
+
+pub first_entry : {X : Type 0} (read : X → Task) (passes : Entry → Bool) (ts : List Task) (m : FinMap nat_cmp Entry) (o : Option X) → AreRunnable ts → runnable_in ts ≡ m
+    → option_map read o ≡ first_that passes ts → IfSome o (λ x. get m (read x).number ≡ Some (read x).entry)
+first_entry read passes ts m None r v h = tt
+first_entry read passes ts m (Some x) r v h =
+    ap (λ (z : FinMap nat_cmp Entry). get z (read x).number) (sym v)
+    ∙ get-runnable_in ts (read x).number
+    ∙ ap (option_map (λ (t : Task). t.entry)) (first_found passes ts (read x) r (sym h))

@@ -1,0 +1,69 @@
+ghost use Rattle.std.specs.Prelude.{◌≡◌, true, false};
+
+use crate::run_entry::Entry;
+use crate::task::Task;
+use crate::task_number::TaskId;
+use crate::tree_key::Key;
+use eevdf_weight::{Nice, Slice};
+
+/// What is known of the task that was picked last without a descent to it: its entry but for the deadline, which the
+/// table of deadlines has. It is known until the task gets another entry or some task leaves.
+#[derive(Clone, Copy)]
+pub struct PickedTask {
+    pub runtime: i64,
+    pub slice: Slice,
+    pub number: TaskId,
+    pub nice: Nice,
+    pub known: bool,
+}
+
+impl PickedTask {
+    /// Nothing is known.
+    pub fn none() -> PickedTask
+        ensures { result.known ≡ false }
+    {
+        PickedTask {
+            runtime: 0,
+            slice: Slice::MIN,
+            number: TaskId::new(0).unwrap(),
+            nice: Nice::MIN,
+            known: false,
+        }
+    }
+
+    /// What is known of a task.
+    pub fn of(task: &Task) -> PickedTask
+        ensures number { result.number ≡ task.now.number }
+        ensures runtime { result.runtime ≡ task.now.entry.v }
+        ensures nice { result.nice ≡ task.now.entry.nice }
+        ensures slice { result.slice ≡ task.now.entry.slice }
+    {
+        PickedTask {
+            runtime: task.entry.v,
+            slice: task.entry.slice,
+            number: task.number,
+            nice: task.entry.nice,
+            known: true,
+        }
+    }
+
+    /// Whether the entry of this task is known.
+    pub fn is(&self, task: TaskId) -> bool
+        ensures known { result ≡ true → self.now.known ≡ true }
+        ensures number { result ≡ true → self.now.number ≡ task }
+    {
+        self.known && self.number == task
+    }
+
+    /// The entry with the deadline of a key.
+    pub fn entry(&self, key: &Key) -> Entry
+        ensures { result ≡ record { v = self.now.runtime; d = key.now.deadline; nice = self.now.nice; slice = self.now.slice } }
+    {
+        Entry {
+            v: self.runtime,
+            d: key.deadline,
+            nice: self.nice,
+            slice: self.slice,
+        }
+    }
+}
