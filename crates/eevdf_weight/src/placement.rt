@@ -36,6 +36,69 @@ pub fn placed(v0: i64, total: u64, lag: i64, w: u64) -> Option<i64>
     requires light { w ≤ 88761 }
     ensures { result ≡ within_range (placement_of v0 total lag w) }
 {
+    if is_narrow(total, lag) {
+        return checked(narrow_earlier(v0, narrow_stretched(lag, total, w)));
+    }
+    placed_widely(v0, total, lag, w)
+}
+
+/// Whether the placement can be computed in 64 bits, which is cheaper. It can be for every lag that a task keeps, and for
+/// all that a queue has room for.
+fn is_narrow(total: u64, lag: i64) -> bool
+    ensures few { result ≡ true → total ≤ 2 ^ 27 }
+    ensures kept { result ≡ true → unsigned_abs lag ≤ 2 ^ 34 }
+{
+    total <= 1 << 27 && lag.unsigned_abs() <= 1 << 34
+}
+
+/// The virtual time, where it is in range.
+fn checked(time: i64) -> Option<i64>
+    ensures { result ≡ within_range time }
+{
+    if is_in_range(time) { Some(time) } else { None }
+}
+
+fn narrow_earlier(time: i64, by: i64) -> i64
+    requires start { limits.is_in_range time ≡ true }
+    requires small { unsigned_abs by ≤ 2 ^ 62 }
+    ensures { result ≡ time -ℤ by }
+{
+    time - by
+}
+
+/// The lag, stretched by the weight that it brings.
+#[tactic(auto, using(crate::proofs::Stretching::quotient_small))]
+fn narrow_stretched(lag: i64, total: u64, w: u64) -> i64
+    requires some { 1 ≤ total }
+    requires few { total ≤ 2 ^ 27 }
+    requires kept { unsigned_abs lag ≤ 2 ^ 34 }
+    requires light { w ≤ 88761 }
+    ensures value { result ≡ floor_div (lag *ℤ pos (total + w)) total }
+    ensures small { unsigned_abs result ≤ 2 ^ 62 }
+{
+    narrow_product(lag, total + w).div_euclid(total as i64)
+}
+
+#[tactic(auto, using(crate::proofs::Stretching::product_small))]
+fn narrow_product(lag: i64, weight: u64) -> i64
+    requires kept { unsigned_abs lag ≤ 2 ^ 34 }
+    requires light { weight ≤ 2 ^ 28 }
+    ensures value { result ≡ lag *ℤ pos weight }
+    ensures small { unsigned_abs result ≤ 2 ^ 62 }
+{
+    lag * weight as i64
+}
+
+/// The same in the wider type.
+#[inline(never)]
+fn placed_widely(v0: i64, total: u64, lag: i64, w: u64) -> Option<i64>
+    requires time { limits.is_in_range v0 ≡ true }
+    requires some { 1 ≤ total }
+    requires few { total ≤ 2 ^ 40 }
+    requires kept { unsigned_abs lag ≤ 2 ^ 38 }
+    requires light { w ≤ 88761 }
+    ensures { result ≡ within_range (placement_of v0 total lag w) }
+{
     in_range(earlier(v0, stretched(lag, total, w)))
 }
 
