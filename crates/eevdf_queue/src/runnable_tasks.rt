@@ -123,6 +123,7 @@ impl RunnableTasks {
     }
 
     /// Gives a task that is here with an older entry another one. Where the deadline stays, the task keeps its place.
+    #[inline(always)]
     pub fn set(&mut self, task: TaskId, older: &Entry, entry: Entry)
         requires here { map.get self.old task ≡ Some older.now }
         requires in_range { is_entry_in_range entry ≡ true }
@@ -239,10 +240,8 @@ fn put(tree: &mut TaskTree, deadlines: &mut DeadlineTable, mut node: Box<TreeNod
     ensures tree { tree.new ≡ insert_task (record (first_task node.value.tasks) { entry = entry }) tree.old }
     ensures table { (q : ℕ) → deadline_at deadlines.new q ≡ (if q == (first_task node.value.tasks).number then entry.d else deadline_at deadlines.old q) }
 {
-    let mut task = node.task();
-    task.entry = entry;
-    node.replace(task);
-    deadlines.note(&task);
+    node.replace_entry(&entry);
+    deadlines.note(&node.task());
     tree.insert(node);
 }
 

@@ -91,7 +91,7 @@ fn scaled(entry: &Entry, weight: u64) -> i128
     requires { weight ≤ 88761 }
     ensures { result ≡ entry.now.v *ℤ pos weight }
 {
-    i128::from(entry.v) * i128::from(weight)
+    i128::from(entry.v) * i128::from(weight as i64)
 }
 
 /// A virtual runtime is a number of 64 bits.

@@ -13,6 +13,7 @@ ghost use Rattle.eevdf_queue.specs.TreeLeast.{least_of, AreLow};
 mod node_parts;
 mod tree_edit;
 
+use crate::run_entry::Entry;
 use crate::running::is_running;
 use crate::task::Task;
 use crate::task_number::TaskId;
@@ -135,6 +136,15 @@ impl TreeNode {
         ensures { self.new.tasks ≡ task ∷ [] }
     {
         self.task = task;
+        self.least = Least::of(&self.task);
+    }
+
+    /// Gives another entry to the task of a node that is alone.
+    pub fn replace_entry(&mut self, entry: &Entry)
+        requires { IsAlone self.old }
+        ensures { self.new.tasks ≡ record (first_task self.old.tasks) { entry = entry.now } ∷ [] }
+    {
+        self.task.entry = *entry;
         self.least = Least::of(&self.task);
     }
 

@@ -163,7 +163,9 @@ fn remove_last(link: &mut Option<Box<TreeNode>>) -> Taken
     }
 }
 
-/// Exchanges a task for the last on its left, whose node leaves with the task.
+/// Exchanges a task for the last on its left, whose node leaves with the task. A function of its own, so that the way down to
+/// the task keeps no room for it.
+#[inline(never)]
 fn exchanged(task: &mut Task, left: &mut Option<Box<TreeNode>>) -> Box<TreeNode>
     requires some { is_some left.old ≡ true }
     requires few { length (tasks_in left.old) ≤ 2 ^ 20 }
