@@ -169,6 +169,7 @@ impl Queue {
     }
 
     /// The entry of a task that joins. `None` exactly where it would be out of range.
+    #[inline(always)]
     fn placed(&self, newcomer: &Newcomer) -> Option<Entry>
         requires { is_lag newcomer.now.lag newcomer.now.nice newcomer.now.slice ≡ true }
         ensures { result ≡ placing.placed_entry self.now.state (placing.sleeper_from newcomer.now) }
