@@ -1,39 +1,11 @@
--- A node of which one side is another, of the same height and least virtual runtime: what it keeps is still right.
-use Rattle.std.proofs.Common.{◌≡◌, suc, ◌≤◌, ◌∙◌, false, [], Option, Some, None, Box, refl, sym, subst, ℕ, length, arith}
+-- A node of which one side is another of the same height: what it keeps is right where its least virtual runtime is.
+use Rattle.std.proofs.Common.{◌≡◌, suc, ◌≤◌, false, [], Option, Some, None, Box, refl, sym, subst, ℕ, length, arith}
 use Rattle.std.specs.Prelude.{max, is_some}
 use Rattle.eevdf_queue.specs.declared.tree_node.TreeNode.TheInside.{Inside}
 use Rattle.eevdf_queue.specs.declared.tree_least.Least.{Least}
 use Rattle.eevdf_queue.specs.TreeShape.{Tree, tasks_in, height_in, DifferByAtMost, IsFull}
 use Rattle.eevdf_queue.specs.TreeNodes.{tasks_of, IsNode}
 use Rattle.eevdf_queue.specs.TreeLeast.{least_of, AreLow}
-use Rattle.eevdf_queue.proofs.TreeLeasts.{least-same_left, least-same_right}
-
-pub record IsSameAround (b a : Inside) : Type 0 where
-  pub height : a.height ≡ b.height
-  pub kept : a.least ≡ b.least
-  pub left : height_in a.left ≡ height_in b.left
-  pub right : height_in a.right ≡ height_in b.right
-  pub least : least_of (tasks_of a) ≡ least_of (tasks_of b)
-
-pub same_with_left : (b a : Inside) (l : _) → a ≡ record b { left = l } → height_in l ≡ height_in b.left → least_of (tasks_in l) ≡ least_of (tasks_in b.left) → IsSameAround b a
-same_with_left b a l is h m =
-    subst (IsSameAround b) (sym is) (record {
-      height = refl;
-      kept = refl;
-      left = h;
-      right = refl;
-      least = least-same_left (tasks_in b.left) (tasks_in l) b.task (tasks_in b.right) m;
-    })
-
-pub same_with_right : (b a : Inside) (r : _) → a ≡ record b { right = r } → height_in r ≡ height_in b.right → least_of (tasks_in r) ≡ least_of (tasks_in b.right) → IsSameAround b a
-same_with_right b a r is h m =
-    subst (IsSameAround b) (sym is) (record {
-      height = refl;
-      kept = refl;
-      left = refl;
-      right = h;
-      least = least-same_right (tasks_in b.left) b.task (tasks_in b.right) (tasks_in r) m;
-    })
 
 pub record IsSameHigh (b a : Inside) : Type 0 where
   pub height : a.height ≡ b.height
@@ -67,13 +39,6 @@ still_high b a n s least low full bounded =
       least = least;
       bounded = bounded;
     }
-
-pub still_node : (b a : Inside) → IsNode b → IsSameAround b a
-    → suc (max (height_in a.left) (height_in a.right)) ≤ length (tasks_of a)
-    → (DifferByAtMost 1 (height_in a.left) (height_in a.right) → IsFull (suc (max (height_in a.left) (height_in a.right))) (length (tasks_of a)))
-    → AreLow (tasks_of a) → IsNode a
-still_node b a n s low full bounded =
-    still_high b a n (record { height = s.height; left = s.left; right = s.right }) (s.kept ∙ n.least ∙ sym s.least) low full bounded
 
 -- no task stands below an empty link
 pub none_below : {Z : Type 0} (l : Option (Box Tree Z)) → is_some l ≡ false → tasks_in l ≡ []

@@ -1,6 +1,6 @@
 -- The least virtual runtime of some tasks from those of its parts.
 use Rattle.std.proofs.Common.{◌≡◌, ℕ, Bool, true, false, cond, eqb, Option, Some, refl, List, [], ◌∷◌, ◌++◌, sym, ap, subst, ◌∙◌, arith}
-use Rattle.std.specs.Prelude.{ℤ, pos, ◌≤ℤ◌, ◌<ℤ◌, IfSome, not}
+use Rattle.std.specs.Prelude.{ℤ, pos, ◌≤ℤ◌, ◌<ℤ◌, IfSome}
 use Rattle.std.specs.Int.{int_min}
 use Rattle.std.proofs.lemmas.Int.{ints, clamps}
 use Rattle.eevdf_queue.specs.declared.run_entry.Entry.{Entry}
@@ -93,8 +93,3 @@ least-set q b e s ts us is h k l i =
     is
     ∙ ap (λ (z : ℤ). record { runtime = z }) (sym (under_floor b (least_runtime (set_entry q e ts)) (least_runtime ts) (least_from q b e ts h k) low))
     ∙ ap least_of (sym i)
-
--- a flag that isn't set
-pub unset : (b : Bool) → not b ≡ true → b ≡ false
-unset true h = cc
-unset false h = refl

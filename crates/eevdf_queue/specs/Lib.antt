@@ -18,6 +18,7 @@ pub mod TreeTasks
 pub mod TreeLeast
 pub mod NodeDepths
 pub mod TreeShape
+pub mod TreeChanges
 pub mod TreeNodes
 pub mod TreeDepth
 pub mod TreeKeys

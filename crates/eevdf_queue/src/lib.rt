@@ -30,6 +30,7 @@ mod task_tree;
 mod totals;
 mod totals_edit;
 mod tree_balance;
+mod tree_change;
 mod tree_eligible;
 mod tree_key;
 mod tree_least;

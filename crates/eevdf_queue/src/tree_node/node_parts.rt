@@ -1,13 +1,15 @@
 //! What is done to a node between the parts of it: these see the sides, the task and what is kept of them
 //! apart, while what is kept isn't right yet.
 
-ghost use Rattle.std.specs.Prelude.{◌≡◌, suc, ◌+◌, ◌≤◌, ◌^◌, max, [], ◌∷◌, ◌++◌, length, false, None};
+ghost use Rattle.std.specs.Prelude.{◌≡◌, suc, ◌+◌, ◌≤◌, ◌^◌, max, [], ◌∷◌, ◌++◌, length, true, false, None};
+ghost use Rattle.eevdf_queue.specs.TreeChanges.{keeps_height, keeps_least};
 ghost use Rattle.eevdf_queue.specs.TreeLeast.{least_of, AreLow};
 ghost use Rattle.eevdf_queue.specs.TreeShape.{tasks_in, height_in, DifferByAtMost, IsFull, IsHeightOfBalanced};
 
 use super::{Sides, TreeNode, height, least_around};
 use crate::task::Task;
 use crate::tree_balance::even_out;
+use crate::tree_change::TreeChange;
 use crate::tree_least::Least;
 
 /// Takes the two sides from a node, and leaves it alone.
@@ -36,16 +38,55 @@ pub fn part_from(
     }
 }
 
-/// Makes what is kept of a node right again, and evens its sides where one is two higher. Answers whether the height or the
-/// least virtual runtime is another than before.
+/// Makes what is kept of a node right again, by what may have changed below it, and tells what may have changed of the node
+/// itself. Where it is the least virtual runtime alone, no height is looked at.
 #[inline(always)]
-pub fn mend(
+pub fn correct(
+    below: TreeChange,
     node_height: &mut u32,
     node_least: &mut Least,
     left: &mut Option<Box<TreeNode>>,
     task: &mut Task,
     right: &mut Option<Box<TreeNode>>,
-) -> bool
+) -> TreeChange
+    requires near { DifferByAtMost 2 (height_in left.old) (height_in right.old) }
+    requires few { length (tasks_in left.old) + length (tasks_in right.old) ≤ 2 ^ 20 }
+    requires kept_height { keeps_height below ≡ true → node_height.old ≡ suc (max (height_in left.old) (height_in right.old)) }
+    requires kept_balanced { keeps_height below ≡ true → DifferByAtMost 1 (height_in left.old) (height_in right.old) }
+    requires kept_least { keeps_least below ≡ true → node_least.old ≡ least_of (tasks_in left.old ++ task.old ∷ tasks_in right.old) }
+    ensures tasks { tasks_in left.new ++ task.new ∷ tasks_in right.new ≡ tasks_in left.old ++ task.old ∷ tasks_in right.old }
+    ensures height { node_height.new ≡ suc (max (height_in left.new) (height_in right.new)) }
+    ensures balanced { DifferByAtMost 1 (height_in left.new) (height_in right.new) }
+    ensures low { node_height.new ≤ length (tasks_in left.new ++ task.new ∷ tasks_in right.new) }
+    ensures full { IsFull node_height.new (length (tasks_in left.new ++ task.new ∷ tasks_in right.new)) }
+    ensures least { node_least.new ≡ least_of (tasks_in left.new ++ task.new ∷ tasks_in right.new) }
+    ensures bounded { AreLow (tasks_in left.new ++ task.new ∷ tasks_in right.new) }
+    ensures mended { IsHeightOfBalanced (height_in left.old) (height_in right.old) node_height.new }
+    ensures same_height { keeps_height result ≡ true → node_height.new ≡ node_height.old }
+    ensures same_least { keeps_least result ≡ true → node_least.new ≡ node_least.old }
+{
+    match below {
+        TreeChange::Nothing => {
+            // for the proof alone: what is kept is right of the tasks as they are now
+            look_around(left, task, right);
+            TreeChange::Nothing
+        }
+        TreeChange::LeastAlone => {
+            TreeChange::of_least(look_around(left, task, right).renew_least(node_least))
+        }
+        TreeChange::Height => mend(node_height, node_least, left, task, right),
+    }
+}
+
+/// Makes what is kept of a node right again, and evens its sides where one is two higher.
+#[inline(always)]
+fn mend(
+    node_height: &mut u32,
+    node_least: &mut Least,
+    left: &mut Option<Box<TreeNode>>,
+    task: &mut Task,
+    right: &mut Option<Box<TreeNode>>,
+) -> TreeChange
     requires near { DifferByAtMost 2 (height_in left.old) (height_in right.old) }
     requires few { length (tasks_in left.old) + length (tasks_in right.old) ≤ 2 ^ 20 }
     ensures tasks { tasks_in left.new ++ task.new ∷ tasks_in right.new ≡ tasks_in left.old ++ task.old ∷ tasks_in right.old }
@@ -56,8 +97,8 @@ pub fn mend(
     ensures least { node_least.new ≡ least_of (tasks_in left.new ++ task.new ∷ tasks_in right.new) }
     ensures bounded { AreLow (tasks_in left.new ++ task.new ∷ tasks_in right.new) }
     ensures mended { IsHeightOfBalanced (height_in left.old) (height_in right.old) node_height.new }
-    ensures same_height { result ≡ false → node_height.new ≡ node_height.old }
-    ensures same_least { result ≡ false → node_least.new ≡ node_least.old }
+    ensures same_height { keeps_height result ≡ true → node_height.new ≡ node_height.old }
+    ensures same_least { keeps_least result ≡ true → node_least.new ≡ node_least.old }
 {
     let around = look_around(left, task, right);
     if around.is_uneven() {
@@ -75,7 +116,7 @@ fn mend_uneven(
     left: &mut Option<Box<TreeNode>>,
     task: &mut Task,
     right: &mut Option<Box<TreeNode>>,
-) -> bool
+) -> TreeChange
     requires near { DifferByAtMost 2 (height_in left.old) (height_in right.old) }
     requires few { length (tasks_in left.old) + length (tasks_in right.old) ≤ 2 ^ 20 }
     ensures tasks { tasks_in left.new ++ task.new ∷ tasks_in right.new ≡ tasks_in left.old ++ task.old ∷ tasks_in right.old }
@@ -86,8 +127,8 @@ fn mend_uneven(
     ensures least { node_least.new ≡ least_of (tasks_in left.new ++ task.new ∷ tasks_in right.new) }
     ensures bounded { AreLow (tasks_in left.new ++ task.new ∷ tasks_in right.new) }
     ensures mended { IsHeightOfBalanced (height_in left.old) (height_in right.old) node_height.new }
-    ensures same_height { result ≡ false → node_height.new ≡ node_height.old }
-    ensures same_least { result ≡ false → node_least.new ≡ node_least.old }
+    ensures same_height { keeps_height result ≡ true → node_height.new ≡ node_height.old }
+    ensures same_least { keeps_least result ≡ true → node_least.new ≡ node_least.old }
 {
     even_out(left, task, right);
     look_around(left, task, right).renew(node_height, node_least)
@@ -180,16 +221,16 @@ impl Around {
         self.left.abs_diff(self.right) > 1
     }
 
-    /// Makes what is kept of a node right again. Answers whether any of it has changed.
-    pub fn renew(&self, node_height: &mut u32, node_least: &mut Least) -> bool
+    /// Makes what is kept of a node right again.
+    pub fn renew(&self, node_height: &mut u32, node_least: &mut Least) -> TreeChange
         requires { max self.now.left self.now.right ≤ 2 ^ 20 }
         ensures height { node_height.new ≡ suc (max self.now.left self.now.right) }
         ensures least { node_least.new ≡ self.now.least }
-        ensures same_height { result ≡ false → node_height.new ≡ node_height.old }
-        ensures same_least { result ≡ false → node_least.new ≡ node_least.old }
+        ensures same_height { keeps_height result ≡ true → node_height.new ≡ node_height.old }
+        ensures same_least { keeps_least result ≡ true → node_least.new ≡ node_least.old }
     {
         let other_height = self.renew_height(node_height);
-        self.renew_least(node_least) || other_height
+        TreeChange::of_both(other_height, self.renew_least(node_least))
     }
 
     /// Makes the height of a node right again. Answers whether it has changed.

@@ -4,13 +4,15 @@
 ghost use Rattle.std.specs.Prelude.{◌≡◌, suc, ◌+◌, ◌<◌, ◌≤◌, ◌^◌, [], ◌∷◌, ◌++◌, ◌≤ℤ◌, length, is_some, true, false, Some, IfSome};
 ghost use Rattle.eevdf_queue.specs.TaskLists.{first_task, find_task, set_entry};
 ghost use Rattle.eevdf_queue.specs.TreeTasks.{AreOrdered, IsAtDeadline, insert_task, without};
+ghost use Rattle.eevdf_queue.specs.TreeChanges.{keeps_height, keeps_least};
 ghost use Rattle.eevdf_queue.specs.TreeLeast.{least_of};
 ghost use Rattle.eevdf_queue.specs.TreeShape.{tasks_in, height_in, IsAlone};
 
 use super::TreeNode;
-use super::node_parts::{look_around, mend, part_from, raise};
+use super::node_parts::{correct, look_around, part_from, raise};
 use crate::run_entry::Entry;
 use crate::task::Task;
+use crate::tree_change::TreeChange;
 use crate::tree_key::{Key, precedes};
 use crate::tree_least::Least;
 use std::mem;
@@ -52,11 +54,11 @@ pub fn insert(link: &mut Option<Box<TreeNode>>, node: Box<TreeNode>) -> bool
     )
 }
 
-/// A node taken out of a tree, and whether the tree's height or least virtual runtime may have changed.
+/// A node taken out of a tree, and what may have changed of the tree.
 #[derive(Drop)]
 pub struct Taken {
     pub node: Box<TreeNode>,
-    pub changed: bool,
+    pub change: TreeChange,
 }
 
 /// Takes the task of a key, which stands below a link, out, in its node. Where neither the height nor the least
@@ -72,8 +74,8 @@ pub fn remove(link: &mut Option<Box<TreeNode>>, key: &Key) -> Taken
     ensures length { length (tasks_in link.old) ≡ suc (length (tasks_in link.new)) }
     ensures not_higher { height_in link.new ≤ height_in link.old }
     ensures at_most_one_lower { height_in link.old ≤ suc (height_in link.new) }
-    ensures same_height { result.changed ≡ false → height_in link.new ≡ height_in link.old }
-    ensures same_least { result.changed ≡ false → least_of (tasks_in link.new) ≡ least_of (tasks_in link.old) }
+    ensures same_height { keeps_height result.change ≡ true → height_in link.new ≡ height_in link.old }
+    ensures same_least { keeps_least result.change ≡ true → least_of (tasks_in link.new) ≡ least_of (tasks_in link.old) }
 {
     let Some(root) = link else { unreachable!() };
     let root: &mut TreeNode = root;
@@ -91,20 +93,13 @@ pub fn remove(link: &mut Option<Box<TreeNode>>, key: &Key) -> Taken
         );
         return Taken {
             node: replaced(link, sides.right),
-            changed: true,
+            change: TreeChange::Height,
         };
     } else {
-        Taken {
-            node: exchanged(&mut root.task, &mut root.left),
-            changed: true,
-        }
+        exchanged(&mut root.task, &mut root.left)
     };
-    if !taken.changed {
-        // for the proof alone, as at an insertion
-        look_around(&root.left, &root.task, &root.right);
-        return taken;
-    }
-    let changed = mend(
+    let change = correct(
+        taken.change,
         &mut root.height,
         &mut root.least,
         &mut root.left,
@@ -113,7 +108,7 @@ pub fn remove(link: &mut Option<Box<TreeNode>>, key: &Key) -> Taken
     );
     Taken {
         node: taken.node,
-        changed,
+        change,
     }
 }
 
@@ -126,8 +121,8 @@ fn remove_last(link: &mut Option<Box<TreeNode>>) -> Taken
     ensures length { length (tasks_in link.old) ≡ suc (length (tasks_in link.new)) }
     ensures not_higher { height_in link.new ≤ height_in link.old }
     ensures at_most_one_lower { height_in link.old ≤ suc (height_in link.new) }
-    ensures same_height { result.changed ≡ false → height_in link.new ≡ height_in link.old }
-    ensures same_least { result.changed ≡ false → least_of (tasks_in link.new) ≡ least_of (tasks_in link.old) }
+    ensures same_height { keeps_height result.change ≡ true → height_in link.new ≡ height_in link.old }
+    ensures same_least { keeps_least result.change ≡ true → least_of (tasks_in link.new) ≡ least_of (tasks_in link.old) }
 {
     let Some(root) = link else { unreachable!() };
     let root: &mut TreeNode = root;
@@ -141,16 +136,12 @@ fn remove_last(link: &mut Option<Box<TreeNode>>) -> Taken
         );
         return Taken {
             node: replaced(link, sides.left),
-            changed: true,
+            change: TreeChange::Height,
         };
     }
     let taken = remove_last(&mut root.right);
-    if !taken.changed {
-        // for the proof alone, as at an insertion
-        look_around(&root.left, &root.task, &root.right);
-        return taken;
-    }
-    let changed = mend(
+    let change = correct(
+        taken.change,
         &mut root.height,
         &mut root.least,
         &mut root.left,
@@ -159,26 +150,31 @@ fn remove_last(link: &mut Option<Box<TreeNode>>) -> Taken
     );
     Taken {
         node: taken.node,
-        changed,
+        change,
     }
 }
 
 /// Exchanges a task for the last on its left, whose node leaves with the task. A function of its own, so that the way down to
 /// the task keeps no room for it.
 #[inline(never)]
-fn exchanged(task: &mut Task, left: &mut Option<Box<TreeNode>>) -> Box<TreeNode>
+fn exchanged(task: &mut Task, left: &mut Option<Box<TreeNode>>) -> Taken
     requires some { is_some left.old ≡ true }
     requires few { length (tasks_in left.old) ≤ 2 ^ 20 }
-    ensures alone { IsAlone result.value }
-    ensures own { first_task result.value.tasks ≡ task.old }
+    ensures alone { IsAlone result.node.value }
+    ensures own { first_task result.node.value.tasks ≡ task.old }
     ensures tasks { tasks_in left.old ≡ tasks_in left.new ++ task.new ∷ [] }
     ensures length { length (tasks_in left.old) ≡ suc (length (tasks_in left.new)) }
     ensures not_higher { height_in left.new ≤ height_in left.old }
     ensures at_most_one_lower { height_in left.old ≤ suc (height_in left.new) }
+    ensures same_height { keeps_height result.change ≡ true → height_in left.new ≡ height_in left.old }
+    ensures other_least { keeps_least result.change ≡ false }
 {
-    let mut node = remove_last(left).node;
+    let Taken { mut node, change } = remove_last(left);
     node.exchange(task);
-    node
+    Taken {
+        node,
+        change: change.with_least(),
+    }
 }
 
 /// Takes the lone node below a link out, and puts a side that it had in its place.

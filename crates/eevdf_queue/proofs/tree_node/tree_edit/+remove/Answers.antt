@@ -1,17 +1,19 @@
-use Rattle.std.proofs.Common.{◌≡◌, ◌∙◌, [], ◌∷◌, ◌++◌, false, Some, ℕ, ap, sym, arith, List, length, length-append}
+use Rattle.std.proofs.Common.{◌≡◌, ◌∙◌, [], ◌∷◌, ◌++◌, true, false, Some, ap, sym, subst, arith, List, length, length-append}
 use Rattle.std.specs.Prelude.{is_some, not}
 use Rattle.eevdf_queue.specs.declared.task.Task.{Task}
+use Rattle.eevdf_queue.specs.declared.tree_node.TreeNode.TheInside.{Inside}
 use Rattle.eevdf_queue.specs.TaskLists.{first_task, find_task}
 use Rattle.eevdf_queue.specs.TreeShape.{tasks_in}
 use Rattle.eevdf_queue.specs.TreeNodes.{tasks_of}
+use Rattle.eevdf_queue.specs.TreeChanges.{keeps_least}
 use Rattle.eevdf_queue.specs.TreeLeast.{least_of}
 use Rattle.eevdf_queue.specs.TreeTasks.{without}
 use Rattle.eevdf_queue.proofs.TreeOrder.{ordered_left, ordered_right, left_alone, last_moved}
 use Rattle.eevdf_queue.proofs.TreeSearch.{find_left, find_right, find_own, placed_on, without_left, without_right, without_here}
-use Rattle.eevdf_queue.proofs.TreeLeasts.{unset}
-use Rattle.eevdf_queue.proofs.TreeEdits.{IsSameAround, same_with_left, same_with_right, still_node, none_below}
+use Rattle.eevdf_queue.proofs.TreeLeasts.{least-same_left, least-same_right}
+use Rattle.eevdf_queue.proofs.TreeEdits.{none_below}
 use Rattle.eevdf_queue.proofs.tree_node.tree_edit.+remove.Goals as goal
-use Rattle.eevdf_queue.proofs.tree_node.tree_edit.+remove.Goals.{After-look_around, After-struct_known-1, then-is_under, else-is_under+then-is_over, else-is_under+else-is_over+else-is_none}
+use Rattle.eevdf_queue.proofs.tree_node.tree_edit.+remove.Goals.{then-is_under, else-is_under+then-is_over, else-is_under+else-is_over+else-is_none}
 
 pub remove-taken-requires : goal.remove-taken-requires
 remove-taken-requires t c =
@@ -52,32 +54,24 @@ returns-then-is_none-clause-rest t c =
     ∙ sym (ap (λ (z : List Task). z ++ tasks_in c.root.inside.right) n)
     ∙ sym (without_here c.args.key.now (tasks_in c.args.link.now) (tasks_in c.root.inside.left) c.root.inside.task (tasks_in c.root.inside.right) e c.requires.ordered c.requires.placed (sym c.is_under.ensures ∙ c.if-is_under.false) (sym c.is_over.ensures ∙ c.if-is_over.false))
 
--- the side that the task was taken from has kept its height and least virtual runtime
-same : (t : ℕ) (c : After-look_around t) → IsSameAround c.root.inside c.if-is_under.root-inside
-same t c =
-    let n : c.if-is_under.taken.changed ≡ false = unset c.if-is_under.taken.changed c.if-not-taken.true in
+pub correct-change-requires-clause-kept_least : goal.correct-change-requires-clause-kept_least
+correct-change-requires-clause-kept_least t c = λ h.
     elim c.if-is_under.branch [
       | then-is_under w ↦
-          let k = sym (ap (λ z. z.changed) w.taken-is) ∙ n in
-          same_with_left c.root.inside c.if-is_under.root-inside w.remove-taken.new.link w.root-inside-is (w.remove-taken.ensures.same_height k) (w.remove-taken.ensures.same_least k)
+          let k = sym (ap (λ z. keeps_least z.change) w.taken-is) ∙ h in
+          subst (λ (a : Inside). a.least ≡ least_of (tasks_of a)) (sym w.root-inside-is)
+          (c.root.invariant.least ∙ sym (least-same_left (tasks_in c.root.inside.left) (tasks_in w.remove-taken.new.link) c.root.inside.task (tasks_in c.root.inside.right) (w.remove-taken.ensures.same_least k)))
       | else-is_under+then-is_over w ↦
-          let k = sym (ap (λ z. z.changed) w.taken-is) ∙ n in
-          same_with_right c.root.inside c.if-is_under.root-inside w.remove.new.link w.root-inside-is (w.remove.ensures.same_height k) (w.remove.ensures.same_least k)
-      | else-is_under+else-is_over+else-is_none w ↦ absurd (let k = sym (ap (λ z. z.changed) w.taken-is) ∙ n in cc)
+          let k = sym (ap (λ z. keeps_least z.change) w.taken-is) ∙ h in
+          subst (λ (a : Inside). a.least ≡ least_of (tasks_of a)) (sym w.root-inside-is)
+          (c.root.invariant.least ∙ sym (least-same_right (tasks_in c.root.inside.left) c.root.inside.task (tasks_in c.root.inside.right) (tasks_in w.remove.new.link) (w.remove.ensures.same_least k)))
+      | else-is_under+else-is_over+else-is_none w ↦
+          let k = sym (ap (λ z. keeps_least z.change) w.taken-is) ∙ h in
+          absurd (let n : false ≡ true = sym w.exchanged.ensures.other_least ∙ k in cc)
     ]
 
-pub invariant_of-root-then-not-taken : goal.invariant_of-root-then-not-taken
-invariant_of-root-then-not-taken t c =
-    still_node c.root.inside c.if-is_under.root-inside c.root.invariant (same t (goal.at.invariant_of-root-then-not-taken t c).After-look_around) c.look_around.ensures.low c.look_around.ensures.full c.look_around.ensures.bounded
-
-pub returns-then-not-taken-clause-same_least : goal.returns-then-not-taken-clause-same_least
-returns-then-not-taken-clause-same_least t c = λ _.
-    let e : tasks_in c.args.link.now ≡ tasks_of c.root.inside = cc in
-    (same t (goal.at.returns-then-not-taken-clause-same_least t c).After-look_around).least ∙ ap least_of (sym e)
-
--- the task that was found on its side
-found : (t : ℕ) (c : After-struct_known-1 t) → find_task c.args.key.now.number (tasks_in c.args.link.now) ≡ Some (first_task c.if-is_under.taken.node.value.tasks)
-found t c =
+pub returns-clause-task : goal.returns-clause-task
+returns-clause-task t c =
     let e : tasks_in c.args.link.now ≡ tasks_of c.root.inside = cc in
     elim c.if-is_under.branch [
       | then-is_under w ↦
@@ -88,10 +82,10 @@ found t c =
           find_own c.args.key.now (tasks_in c.args.link.now) (tasks_in c.root.inside.left) c.root.inside.task (tasks_in c.root.inside.right) e c.requires.ordered c.requires.placed (sym c.is_under.ensures ∙ w.if-is_under.false) (sym w.is_over.ensures ∙ w.if-is_over.false) ∙ ap Some (sym w.exchanged.ensures.own) ∙ ap (λ z. Some (first_task z.node.value.tasks)) (sym w.taken-is)
     ]
 
--- the tasks of the node without it
-left_over : (t : ℕ) (c : After-struct_known-1 t) → tasks_of c.if-is_under.root-inside ≡ without c.args.key.now.number (tasks_in c.args.link.now)
-left_over t c =
+pub returns-clause-rest : goal.returns-clause-rest
+returns-clause-rest t c =
     let e : tasks_in c.args.link.now ≡ tasks_of c.root.inside = cc in
+    let rest : tasks_of c.if-is_under.root-inside ≡ without c.args.key.now.number (tasks_in c.args.link.now) =
     elim c.if-is_under.branch [
       | then-is_under w ↦
           ap tasks_of w.root-inside-is ∙ ap (λ z. z ++ c.root.inside.task ∷ tasks_in c.root.inside.right) w.remove-taken.ensures.rest ∙ sym (without_left c.args.key.now (tasks_in c.args.link.now) (tasks_in c.root.inside.left) c.root.inside.task (tasks_in c.root.inside.right) e c.requires.ordered c.requires.placed c.requires.here (sym c.is_under.ensures ∙ w.if-is_under.true))
@@ -101,16 +95,5 @@ left_over t c =
           ap tasks_of w.root-inside-is
           ∙ last_moved (tasks_in c.root.inside.left) (tasks_in w.exchanged.new.left) w.exchanged.new.task (tasks_in c.root.inside.right) w.exchanged.ensures.tasks
           ∙ sym (without_here c.args.key.now (tasks_in c.args.link.now) (tasks_in c.root.inside.left) c.root.inside.task (tasks_in c.root.inside.right) e c.requires.ordered c.requires.placed (sym c.is_under.ensures ∙ w.if-is_under.false) (sym w.is_over.ensures ∙ w.if-is_over.false))
-    ]
-
-pub returns-then-not-taken-clause-task : goal.returns-then-not-taken-clause-task
-returns-then-not-taken-clause-task t c = found t (goal.at.returns-then-not-taken-clause-task t c).After-struct_known-1
-
-pub returns-then-not-taken-clause-rest : goal.returns-then-not-taken-clause-rest
-returns-then-not-taken-clause-rest t c = left_over t (goal.at.returns-then-not-taken-clause-rest t c).After-struct_known-1
-
-pub returns-clause-task : goal.returns-clause-task
-returns-clause-task t c = found t (goal.at.returns-clause-task t c).After-struct_known-1
-
-pub returns-clause-rest : goal.returns-clause-rest
-returns-clause-rest t c = c.mend-changed.ensures.tasks ∙ left_over t (goal.at.returns-clause-rest t c).After-struct_known-1
+    ] in
+    c.correct-change.ensures.tasks ∙ rest
