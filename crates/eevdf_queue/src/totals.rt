@@ -39,7 +39,7 @@ fn mean(totals: &Totals) -> i64
     quotient(totals) as i64
 }
 
-/// The weighted mean, rounded down, in the wider type.
+/// The weighted mean, rounded down, in the wider type. Where the moment fits 64 bits, as it mostly does, it is divided so.
 #[tactic(auto, using(crate::proofs::Bounds::floor_small))]
 fn quotient(totals: &Totals) -> i128
     requires some { 1 ≤ totals.now.weight }
@@ -48,5 +48,8 @@ fn quotient(totals: &Totals) -> i128
     ensures value { result ≡ floor_div totals.now.moment totals.now.weight }
     ensures small { unsigned_abs result ≤ 2 ^ 60 }
 {
-    floor_quotient(totals.moment, totals.weight)
+    match i64::try_from(totals.moment) {
+        Ok(moment) => i128::from(moment.div_euclid(totals.weight as i64)),
+        Err(_) => floor_quotient(totals.moment, totals.weight),
+    }
 }
