@@ -25,6 +25,7 @@ use crate::task_parcel::Parcel;
 use crate::task_tree::TaskTree;
 use crate::totals::Totals;
 use crate::totals_edit::{exchanged, share, with_share, without_share};
+use crate::tree_eligible::Threshold;
 use crate::tree_node::{Found, TreeNode};
 use std::marker::Model;
 
@@ -174,7 +175,7 @@ impl RunnableTasks {
     /// The first task, by deadline and number, of those that are eligible at these sums, and the turns of the
     /// descent to it.
     #[tactic(auto, using(crate::proofs::RunnableMaps::firsts))]
-    fn first(&self, totals: &Totals) -> Option<Found<'_>>
+    fn first(&self, totals: &Threshold) -> Option<Found<'_>>
         requires { totals.now.weight ≤ 2 ^ 40 }
         ensures here { IfSome result (λ f. map.get self.now f.task.now.number ≡ Some f.task.now.entry) }
         ensures number { option_map (λ f. f.task.now.number) result
@@ -197,7 +198,8 @@ impl RunnableTasks {
         ensures same { self.new ≡ self.old }
     {
         let totals = self.totals();
-        let Some(first) = self.first(&totals) else {
+        let threshold = Threshold::of(&totals);
+        let Some(first) = self.first(&threshold) else {
             return None;
         };
         let pick = Pick {

@@ -10,7 +10,7 @@ ghost use Rattle.eevdf_queue.specs.TreeTasks.{IsAtDeadline, insert_task, without
 use crate::run_entry::Entry;
 use crate::task::Task;
 use crate::task_number::TaskId;
-use crate::totals::Totals;
+use crate::tree_eligible::Threshold;
 use crate::tree_key::Key;
 use crate::tree_least::Least;
 use crate::tree_node::{
@@ -100,7 +100,7 @@ impl TaskTree {
 
     /// The first by deadline and number of the tasks that are eligible at these sums, and the turns of the
     /// descent to it.
-    pub fn earliest(&self, totals: &Totals) -> Option<Found<'_>>
+    pub fn earliest(&self, totals: &Threshold) -> Option<Found<'_>>
         requires { totals.now.weight ≤ 2 ^ 40 }
         ensures task { option_map (λ f. f.task.now) result ≡ first_that (is_eligible_at totals.now.weight totals.now.moment) self.now }
         ensures number { option_map (λ f. f.task.now.number) result

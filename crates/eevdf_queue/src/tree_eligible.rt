@@ -1,28 +1,53 @@
-ghost use Rattle.std.specs.Prelude.{◌≡◌, ◌*◌, ◌≤◌, ◌^◌, pos, ◌*ℤ◌, int_le};
+ghost use Rattle.std.specs.Prelude.{◌≡◌, ◌*◌, ◌≤◌, ◌^◌, pos, ◌+ℤ◌, ◌*ℤ◌, int_le, unsigned_abs};
 ghost use Rattle.eevdf_queue.specs.Pick.{is_eligible_at};
 
 use crate::task::Task;
 use crate::totals::Totals;
 use crate::tree_least::Least;
 
+/// The sums over tasks, and the number after their moment: whether a number is below that one takes less to find out than
+/// whether it is at most the moment.
+#[derive(Drop)]
+pub struct Threshold {
+    pub weight: u64,
+    pub moment: i128,
+    pub next: i128,
+    ghost is_next: { next ≡ moment +ℤ pos 1 },
+}
+
+impl Threshold {
+    /// Of these sums.
+    pub fn of(totals: &Totals) -> Threshold
+        requires small { unsigned_abs totals.now.moment ≤ 2 ^ 110 }
+        ensures weight { result.weight ≡ totals.now.weight }
+        ensures moment { result.moment ≡ totals.now.moment }
+    {
+        Threshold {
+            weight: totals.weight,
+            moment: totals.moment,
+            next: totals.moment + 1,
+        }
+    }
+}
+
 /// Whether a task is eligible among tasks with these sums.
-pub fn is_task_eligible(totals: &Totals, task: &Task) -> bool
+pub fn is_task_eligible(totals: &Threshold, task: &Task) -> bool
     requires { totals.now.weight ≤ 2 ^ 40 }
     ensures { result ≡ is_eligible_at totals.now.weight totals.now.moment task.now.entry }
 {
-    runtime_scaled(task, totals) <= totals.moment
+    runtime_scaled(task, totals) < totals.next
 }
 
 /// Whether the least virtual runtime is eligible among tasks with these sums.
-pub fn is_least_eligible(totals: &Totals, least: &Least) -> bool
+pub fn is_least_eligible(totals: &Threshold, least: &Least) -> bool
     requires { totals.now.weight ≤ 2 ^ 40 }
     ensures { result ≡ int_le (least.now.runtime *ℤ pos totals.now.weight) totals.now.moment }
 {
-    least_scaled(least, totals) <= totals.moment
+    least_scaled(least, totals) < totals.next
 }
 
 /// The virtual runtime of a task times the sum of the weights.
-fn runtime_scaled(task: &Task, totals: &Totals) -> i128
+fn runtime_scaled(task: &Task, totals: &Threshold) -> i128
     requires { totals.now.weight ≤ 2 ^ 40 }
     ensures { result ≡ task.now.entry.v *ℤ pos totals.now.weight }
 {
@@ -30,7 +55,7 @@ fn runtime_scaled(task: &Task, totals: &Totals) -> i128
 }
 
 /// The least virtual runtime times the sum of the weights.
-fn least_scaled(least: &Least, totals: &Totals) -> i128
+fn least_scaled(least: &Least, totals: &Threshold) -> i128
     requires { totals.now.weight ≤ 2 ^ 40 }
     ensures { result ≡ least.now.runtime *ℤ pos totals.now.weight }
 {

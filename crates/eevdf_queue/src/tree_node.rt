@@ -17,8 +17,7 @@ use crate::run_entry::Entry;
 use crate::running::is_running;
 use crate::task::Task;
 use crate::task_number::TaskId;
-use crate::totals::Totals;
-use crate::tree_eligible::{is_least_eligible, is_task_eligible};
+use crate::tree_eligible::{Threshold, is_least_eligible, is_task_eligible};
 use crate::tree_key::Key;
 use crate::tree_least::Least;
 use node_parts::part_from;
@@ -230,7 +229,7 @@ pub fn find(link: &Option<Box<TreeNode>>, key: &Key) -> Option<Task>
 // Each turn goes one level down, and nothing is looked at twice.
 
 /// The first eligible task below a link, left before right, and the turns that lead to it.
-pub fn first_eligible<'a>(link: &'a Option<Box<TreeNode>>, totals: &Totals) -> Option<Found<'a>>
+pub fn first_eligible<'a>(link: &'a Option<Box<TreeNode>>, totals: &Threshold) -> Option<Found<'a>>
     requires few { totals.now.weight ≤ 2 ^ 40 }
     requires small { length (tasks_in link.now) ≤ 2 ^ 20 }
     ensures task { option_map (λ f. f.task.now) result ≡ first_that (is_eligible_at totals.now.weight totals.now.moment) (tasks_in link.now) }
@@ -252,7 +251,7 @@ pub fn first_eligible<'a>(link: &'a Option<Box<TreeNode>>, totals: &Totals) -> O
 }
 
 /// The first eligible task of a node that has one, left before right, and the turns that lead to it.
-fn first_under<'a>(root: &'a TreeNode, totals: &Totals) -> Found<'a>
+fn first_under<'a>(root: &'a TreeNode, totals: &Threshold) -> Found<'a>
     requires few { totals.now.weight ≤ 2 ^ 40 }
     requires small { length root.now.tasks ≤ 2 ^ 20 }
     requires some { is_some (first_that (is_eligible_at totals.now.weight totals.now.moment) root.now.tasks) ≡ true }

@@ -1,4 +1,4 @@
-use Rattle.std.proofs.Common.{◌≡◌, ℕ, Option, subst}
+use Rattle.std.proofs.Common.{◌≡◌, ◌∙◌, ℕ, Option, subst}
 use Rattle.std.specs.Prelude.{IfSome, IsNone, ◌↔◌}
 use Rattle.std.specs.Option.{option_map}
 use Rattle.std.specs.FinMap as map
@@ -15,7 +15,7 @@ number_of f = f.task.now.number
 -- what is found first is the pick
 is_pick : (c : After-first) → option_map number_of c.first.result ≡ pick_of c.args.self.now
 is_pick c =
-    first_is_pick c.args.self.now (option_map number_of c.first.result) c.totals-totals.result.weight c.totals-totals.result.moment c.totals-totals.ensures.weight c.totals-totals.ensures.moment c.first.ensures.number
+    first_is_pick c.args.self.now (option_map number_of c.first.result) c.of-threshold.result.weight c.of-threshold.result.moment (c.of-threshold.ensures.weight ∙ c.totals-totals.ensures.weight) (c.of-threshold.ensures.moment ∙ c.totals-totals.ensures.moment) c.first.ensures.number
 
 pub returns-in_default-clause-none : goal.returns-in_default-clause-none
 returns-in_default-clause-none c =
