@@ -3,7 +3,6 @@
 
 mod cases;
 mod limits;
-mod many_cpus;
 mod seat_call;
 mod two_threads;
 
@@ -17,7 +16,6 @@ use seat_call::{Call, Done, call_on};
 use std::alloc::Global;
 use std::marker::Brand;
 use std::sync::Wait;
-use std::test::Fail;
 
 /// A fleet of the setup of a workload, the calls that are made one after the other, each on the seat of a CPU, and what the
 /// report of the outcome is, with its history.
@@ -76,11 +74,23 @@ fn kit_of(alloc: Global, setup: &Setup, quota: usize, rings: usize) -> Option<Ki
     }
 }
 
+/// The same of a fleet of the setup of a workload.
+fn outcome_of_calls<R: Wait>(
+    rt: &R,
+    alloc: Global,
+    workload: &[u8],
+    quota: usize,
+    rings: usize,
+    calls: &[(usize, Call, Done)],
+) -> Option<Outcome> {
+    let workload = read_workload(alloc, workload).ok()?;
+    let kit = kit_of(alloc, workload.setup(), quota, rings)?;
+    outcome_of::<Brand, _>(rt, alloc, kit, calls)
+}
+
 /// Whether a case comes to what it tells.
 fn holds<R: Wait>(rt: &R, alloc: Global, case: &Case) -> Option<bool> {
-    let workload = read_workload(alloc, case.workload).ok()?;
-    let kit = kit_of(alloc, workload.setup(), case.quota, case.rings)?;
-    let outcome = outcome_of::<Brand, _>(rt, alloc, kit, case.calls)?;
+    let outcome = outcome_of_calls(rt, alloc, case.workload, case.quota, case.rings, case.calls)?;
     let text = report(alloc, &outcome, true).ok()?;
     Some(text.as_slice() == case.report.as_bytes())
 }

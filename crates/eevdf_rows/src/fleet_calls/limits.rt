@@ -1,14 +1,9 @@
-//! Seats of the least and the most room, and rings of the least and the most room.
+//! Seats of the least and the most room, rings of the least and the most room, and as many seats as there may be.
 
-ghost use Rattle.std.specs.Prelude.{◌≡◌};
-
-use super::kit_of;
-use super::seat_call::{Call, Done, call_on};
-use eevdf_bench::read_workload;
-use eevdf_fleet::{Fleet, Kit, Names, Seat};
+use super::outcome_of_calls;
+use super::seat_call::{Call, Done};
 use eevdf_ops::Outcome;
-use std::alloc::Global;
-use std::marker::Brand;
+use std::alloc::{AllocError, Global};
 use std::sync::Wait;
 
 /// So many lines each CPU may have, and so many requests a ring may have room for.
@@ -17,81 +12,33 @@ const MOST: usize = 1_000_000;
 /// Two CPUs with one task of CPU 0.
 const TWO_CPUS: &[u8] = b"version = 1\nprogram = [[], []]\n[[task]]\n";
 
-/// A call that is made so many times, what comes of it each time, and what comes of it once more.
-#[derive(Clone, Copy)]
-struct Repeated {
+/// Sixty-four CPUs with a task of CPU 0 that sleeps.
+const SIXTY_FOUR_CPUS: &[u8] =
+    b"version = 2\nprogram = [[], [], [], [], [], [], [], [], [], [], [], [], [], [], [], [], [], [], [], [], [], [], [], [], [], [], [], [], [], [], [], [], [], [], [], [], [], [], [], [], [], [], [], [], [], [], [], [], [], [], [], [], [], [], [], [], [], [], [], [], [], [], [], []]\n[[task]]\nasleep = true\n";
+
+/// Calls on CPU 1: one that is made so many times, with what comes of it each time, and what comes of it once more.
+fn repeated(
+    alloc: Global,
     call: Call,
     times: usize,
     done: Done,
     refused: Done,
+) -> Result<Vec<(usize, Call, Done)>, AllocError> {
+    let mut calls = vec![in alloc; (1, call, done); times]?;
+    calls.push((1, call, refused))?;
+    Ok(calls)
 }
 
-impl Repeated {
-    /// As many picks as the quota allows.
-    fn picks(quota: usize) -> Repeated {
-        Repeated {
-            call: Call::Pick,
-            times: quota,
-            done: Done::Line,
-            refused: Done::SeatFull,
-        }
-    }
-
-    /// As many requests as a ring has room for.
-    fn posts(rings: usize) -> Repeated {
-        Repeated {
-            call: Call::Post(0),
-            times: rings,
-            done: Done::Posted,
-            refused: Done::RingFull,
-        }
-    }
+/// What a fleet of two CPUs with this quota comes to, where CPU 1 has room for so many picks and no more.
+fn outcome_of_picks<R: Wait>(rt: &R, alloc: Global, quota: usize) -> Option<Outcome> {
+    let calls = repeated(alloc, Call::Pick, quota, Done::Line, Done::SeatFull).ok()?;
+    outcome_of_calls(rt, alloc, TWO_CPUS, quota, 1, &calls)
 }
 
-/// Whether the calls on a seat come to what is told.
-fn come_so<N: Names, R: Wait>(
-    rt: &R,
-    fleet: &Fleet<N>,
-    seat: &mut Seat<N>,
-    repeated: Repeated,
-) -> bool {
-    for _call in 0..repeated.times {
-        if call_on(rt, fleet, seat, repeated.call) != Some(repeated.done) {
-            return false;
-        }
-    }
-    call_on(rt, fleet, seat, repeated.call) == Some(repeated.refused)
-}
-
-/// What a fleet comes to by calls on CPU 1, where they come to what is told.
-fn outcome_of<N: Names, R: Wait>(
-    rt: &R,
-    alloc: Global,
-    kit: Kit,
-    repeated: Repeated,
-) -> Option<Outcome>
-    requires { kit ≡ N.kit }
-{
-    let (fleet, mut seats) = Fleet::<N>::open(alloc, kit).ok()?;
-    let seat = seats.get_mut(1)?;
-    if come_so(rt, &fleet, seat, repeated) && fleet.has_all_seats(&seats) {
-        Some(fleet.close(seats))
-    } else {
-        None
-    }
-}
-
-/// The same of a fleet of two CPUs.
-fn outcome_of_two<R: Wait>(
-    rt: &R,
-    alloc: Global,
-    quota: usize,
-    rings: usize,
-    repeated: Repeated,
-) -> Option<Outcome> {
-    let workload = read_workload(alloc, TWO_CPUS).ok()?;
-    let kit = kit_of(alloc, workload.setup(), quota, rings)?;
-    outcome_of::<Brand, _>(rt, alloc, kit, repeated)
+/// What a fleet of two CPUs with these rings comes to, where CPU 1 can post so many requests and no more.
+fn outcome_of_posts<R: Wait>(rt: &R, alloc: Global, rings: usize) -> Option<Outcome> {
+    let calls = repeated(alloc, Call::Post(0), rings, Done::Posted, Done::RingFull).ok()?;
+    outcome_of_calls(rt, alloc, TWO_CPUS, 1, rings, &calls)
 }
 
 /// How many requests CPU 1 has posted to CPU 0 that weren't drained.
@@ -104,19 +51,40 @@ fn left(outcome: &Outcome) -> Option<usize> {
 }
 
 #[test]
-fn a_quota_may_be_a_million_lines(rt: HostRuntime) {
-    for quota in [0, 1, MOST] {
-        let outcome = outcome_of_two(&rt, rt.alloc(), quota, 1, Repeated::picks(quota));
+fn quotas_and_rings_may_be_a_million(rt: HostRuntime) {
+    for number in [0, 1, MOST] {
+        let outcome = outcome_of_picks(&rt, rt.alloc(), number);
         let lines = outcome.map(|outcome| outcome.history().len());
-        assert!(rt; lines == Some(quota), "{quota}");
+        assert!(rt; lines == Some(number), "{number} lines");
+        let outcome = outcome_of_posts(&rt, rt.alloc(), number);
+        let requests = outcome.and_then(|outcome| left(&outcome));
+        assert!(rt; requests == Some(number), "{number} requests");
     }
 }
 
+/// What sixty-four seats come to that all ask for one task, where its home has so much room for lines and this comes of its drain.
+fn outcome_of_drain<R: Wait>(
+    rt: &R,
+    alloc: Global,
+    quota: usize,
+    drained: Done,
+) -> Option<Outcome> {
+    let mut calls = Vec::new(alloc);
+    for cpu in 0..64 {
+        calls.push((cpu, Call::Post(0), Done::Posted)).ok()?;
+    }
+    calls.push((0, Call::Drain, drained)).ok()?;
+    outcome_of_calls(rt, alloc, SIXTY_FOUR_CPUS, quota, 1, &calls)
+}
+
 #[test]
-fn a_ring_may_have_room_for_a_million_requests(rt: HostRuntime) {
-    for rings in [0, 1, MOST] {
-        let outcome = outcome_of_two(&rt, rt.alloc(), 1, rings, Repeated::posts(rings));
-        let requests = outcome.and_then(|outcome| left(&outcome));
-        assert!(rt; requests == Some(rings), "{rings}");
+fn a_drain_takes_a_request_of_each_of_sixty_four_seats(rt: HostRuntime) {
+    let all = Done::Drained {
+        taken: 64,
+        woken: 1,
+    };
+    for (quota, drained) in [(63, Done::SeatFull), (64, all)] {
+        let outcome = outcome_of_drain(&rt, rt.alloc(), quota, drained);
+        assert!(rt; outcome.is_some(), "{quota}");
     }
 }
