@@ -3,22 +3,44 @@
 use crate::commands::{
     REPLAY, REPLAY_WITH_HISTORY, RUN, RUN_WITH_HISTORY, SOLO, SOLO_WITH_HISTORY,
 };
-use eevdf_bench::{WordFault, command_of};
+use eevdf_bench::{Command, WordFault, command_of};
 use std::test::Fail;
 
+const ROWS: [(&[&str], Result<Command, WordFault>); 22] = [
+    (&["eevdf", "solo"], Ok(SOLO)),
+    (&["eevdf", "solo", "--history"], Ok(SOLO_WITH_HISTORY)),
+    (&["eevdf", "replay"], Ok(REPLAY)),
+    (&["eevdf", "replay", "--history"], Ok(REPLAY_WITH_HISTORY)),
+    (&["eevdf", "run"], Ok(RUN)),
+    (&["eevdf", "run", "--history"], Ok(RUN_WITH_HISTORY)),
+    (&[], Err(WordFault::Words)),
+    (&["eevdf"], Err(WordFault::Words)),
+    (&["eevdf", "stop"], Err(WordFault::Words)),
+    (&["eevdf", "--history", "solo"], Err(WordFault::Words)),
+    (
+        &["eevdf", "solo", "--history", "--history"],
+        Err(WordFault::Words),
+    ),
+    (
+        &["eevdf", "replay", "--history=true"],
+        Err(WordFault::Words),
+    ),
+    (&["eevdf", "solo", "x"], Err(WordFault::Words)),
+    (&["eevdf", "solo", "replay"], Err(WordFault::Words)),
+    (&["eevdf", "run", "run"], Err(WordFault::Words)),
+    (&["eevdf", "run", "-h"], Err(WordFault::Words)),
+    (&["eevdf", "replay", "--help"], Err(WordFault::Words)),
+    (&["eevdf", "--help"], Err(WordFault::Words)),
+    (&["eevdf", "-h"], Err(WordFault::Words)),
+    (&["eevdf", "help"], Err(WordFault::Words)),
+    (&["eevdf", "--version"], Err(WordFault::Words)),
+    (&["eevdf", "-V"], Err(WordFault::Words)),
+];
+
 #[test]
-fn each_command_has_its_flag(rt: HostRuntime) {
-    for (name, plain, with_history) in [
-        ("solo", SOLO, SOLO_WITH_HISTORY),
-        ("replay", REPLAY, REPLAY_WITH_HISTORY),
-        ("run", RUN, RUN_WITH_HISTORY),
-    ] {
-        let words = ["eevdf", name, "--history"];
-        assert!(rt; command_of(rt.alloc(), &words[..2]) == Ok(plain), "{name}");
-        assert!(rt;
-            command_of(rt.alloc(), words.as_slice()) == Ok(with_history),
-            "{name}"
-        );
+fn words_are_taken_for_a_command_or_refused(rt: HostRuntime) {
+    for (place, (words, wanted)) in ROWS.iter().enumerate() {
+        assert!(rt; command_of(rt.alloc(), *words) == *wanted, "row {place}");
     }
 }
 
@@ -29,33 +51,4 @@ fn words_may_be_strings(rt: HostRuntime) -> Result<(), Fail> {
     words.push(String::from_str(rt.alloc(), "solo")?)?;
     assert!(rt; command_of(rt.alloc(), words.as_slice()) == Ok(SOLO));
     Ok(())
-}
-
-const REFUSED: [&[&str]; 16] = [
-    &[],
-    &["eevdf"],
-    &["eevdf", "stop"],
-    &["eevdf", "--history", "solo"],
-    &["eevdf", "solo", "--history", "--history"],
-    &["eevdf", "replay", "--history=true"],
-    &["eevdf", "solo", "x"],
-    &["eevdf", "solo", "replay"],
-    &["eevdf", "run", "run"],
-    &["eevdf", "run", "-h"],
-    &["eevdf", "replay", "--help"],
-    &["eevdf", "--help"],
-    &["eevdf", "-h"],
-    &["eevdf", "help"],
-    &["eevdf", "--version"],
-    &["eevdf", "-V"],
-];
-
-#[test]
-fn other_words_are_refused(rt: HostRuntime) {
-    for (place, words) in REFUSED.iter().enumerate() {
-        assert!(rt;
-            command_of(rt.alloc(), *words) == Err(WordFault::Words),
-            "row {place}"
-        );
-    }
 }

@@ -5,6 +5,7 @@ ghost use Rattle.std.specs.Prelude.{◌≡◌, true};
 ghost use Rattle.std.specs.List.{list_all};
 ghost use Rattle.eevdf_ops.specs.Setup.{allows};
 
+use crate::one_thread_again::deeds;
 use crate::same_end::end_alike;
 use eevdf_bench::read_workload;
 use eevdf_ops::one_thread::solo;
@@ -263,10 +264,7 @@ fn check_end(
 
 /// What one thread comes to that does the deeds of a history.
 fn one_thread(alloc: Global, setup: &Setup, history: &[Line]) -> Result<Outcome, Fail> {
-    let mut deeds = Vec::with_capacity(alloc, history.len())?;
-    for line in history {
-        deeds.push(line.deed)?;
-    }
+    let deeds = deeds(alloc, history)?;
     if !allows_all(setup, &deeds) {
         return Err("a deed that isn't allowed")?;
     }

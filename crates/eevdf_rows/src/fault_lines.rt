@@ -54,89 +54,99 @@ fn each_key_has_its_text(rt: HostRuntime) -> Result<(), Fail> {
     Ok(())
 }
 
-const REFUSALS: [(LoadFault, &str); 9] = [
+/// Of the faults that name no CPU, those of a workload and of an order, and then those of the machine.
+const FAULTS: [(BenchFault, &str, u8); 21] = [
     (
-        LoadFault::TooLarge,
+        BenchFault::Load(LoadFault::TooLarge),
         "fault: workload longer than 16777216 bytes\n",
+        1,
     ),
-    (LoadFault::NotToml, "fault: not a TOML document\n"),
     (
-        LoadFault::Setup(SetupFault::BadCpus),
+        BenchFault::Load(LoadFault::NotToml),
+        "fault: not a TOML document\n",
+        1,
+    ),
+    (
+        BenchFault::Load(LoadFault::Setup(SetupFault::BadCpus)),
         "fault: number of cpus\n",
+        1,
     ),
     (
-        LoadFault::Setup(SetupFault::BadTasks),
+        BenchFault::Load(LoadFault::Setup(SetupFault::BadTasks)),
         "fault: number of tasks\n",
+        1,
     ),
     (
-        LoadFault::Setup(SetupFault::BadHome { task: 7 }),
+        BenchFault::Load(LoadFault::Setup(SetupFault::BadHome { task: 7 })),
         "fault: home of task 7\n",
+        1,
     ),
     (
-        LoadFault::Setup(SetupFault::BadStart { task: 0 }),
+        BenchFault::Load(LoadFault::Setup(SetupFault::BadStart { task: 0 })),
         "fault: start of task 0\n",
+        1,
     ),
     (
-        LoadFault::Setup(SetupFault::TooLong { cpu: 1 }),
+        BenchFault::Load(LoadFault::Setup(SetupFault::TooLong { cpu: 1 })),
         "fault: program 1 too long\n",
+        1,
     ),
     (
-        LoadFault::Setup(SetupFault::UnknownTask { cpu: 1, at: 20 }),
+        BenchFault::Load(LoadFault::Setup(SetupFault::UnknownTask { cpu: 1, at: 20 })),
         "fault: unknown task at program 1 at 20\n",
+        1,
     ),
     (
-        LoadFault::Setup(SetupFault::BadPull { cpu: 15, at: 0 }),
+        BenchFault::Load(LoadFault::Setup(SetupFault::BadPull { cpu: 15, at: 0 })),
         "fault: bad pull at program 15 at 0\n",
+        1,
     ),
-];
-
-#[test]
-fn each_refusal_of_a_workload_has_its_line(rt: HostRuntime) -> Result<(), Fail> {
-    for (fault, line) in REFUSALS {
-        check(&rt, rt.alloc(), BenchFault::Load(fault), line, 1)?;
-    }
-    Ok(())
-}
-
-#[test]
-fn each_refusal_of_an_order_has_its_line(rt: HostRuntime) -> Result<(), Fail> {
-    let cpu = CpuId::new(15).ok_or("cpu")?;
-    for (fault, line) in [
-        (PlayFault::TooLong, "fault: order longer than 1000000\n"),
-        (
-            PlayFault::NoCaller { at: 1 },
-            "fault: order at 1: no caller\n",
-        ),
-        (PlayFault::Done { at: 4 }, "fault: order at 4: done\n"),
-        (
-            PlayFault::Blocked { at: 4, cpu },
-            "fault: order at 4: blocked on 15\n",
-        ),
-        (PlayFault::Short { caller: 2 }, "fault: order short at 2\n"),
-    ] {
-        check(&rt, rt.alloc(), BenchFault::Play(fault), line, 1)?;
-    }
-    Ok(())
-}
-
-const FAILURES: [(BenchFault, &str); 8] = [
+    (
+        BenchFault::Play(PlayFault::TooLong),
+        "fault: order longer than 1000000\n",
+        1,
+    ),
+    (
+        BenchFault::Play(PlayFault::NoCaller { at: 1 }),
+        "fault: order at 1: no caller\n",
+        1,
+    ),
+    (
+        BenchFault::Play(PlayFault::Done { at: 4 }),
+        "fault: order at 4: done\n",
+        1,
+    ),
+    (
+        BenchFault::Play(PlayFault::Short { caller: 2 }),
+        "fault: order short at 2\n",
+        1,
+    ),
     (
         BenchFault::Load(LoadFault::Setup(SetupFault::Memory)),
         "fault: memory\n",
+        3,
     ),
-    (BenchFault::Load(LoadFault::Memory), "fault: memory\n"),
-    (BenchFault::Play(PlayFault::Memory), "fault: memory\n"),
-    (BenchFault::Run(RunFault::Memory), "fault: memory\n"),
-    (BenchFault::Run(RunFault::Start), "fault: thread\n"),
-    (BenchFault::Read, "fault: reading\n"),
-    (BenchFault::Write, "fault: writing\n"),
-    (BenchFault::Memory, "fault: memory\n"),
+    (BenchFault::Load(LoadFault::Memory), "fault: memory\n", 3),
+    (BenchFault::Play(PlayFault::Memory), "fault: memory\n", 3),
+    (BenchFault::Run(RunFault::Memory), "fault: memory\n", 3),
+    (BenchFault::Run(RunFault::Start), "fault: thread\n", 3),
+    (BenchFault::Read, "fault: reading\n", 3),
+    (BenchFault::Write, "fault: writing\n", 3),
+    (BenchFault::Memory, "fault: memory\n", 3),
 ];
 
 #[test]
-fn each_failure_of_the_machine_has_its_line(rt: HostRuntime) -> Result<(), Fail> {
-    for (fault, line) in FAILURES {
-        check(&rt, rt.alloc(), fault, line, 3)?;
+fn each_fault_has_its_line_and_status(rt: HostRuntime) -> Result<(), Fail> {
+    for (fault, line, status) in FAULTS {
+        check(&rt, rt.alloc(), fault, line, status)?;
     }
-    Ok(())
+    let cpu = CpuId::new(15).ok_or("cpu")?;
+    let blocked = BenchFault::Play(PlayFault::Blocked { at: 4, cpu });
+    check(
+        &rt,
+        rt.alloc(),
+        blocked,
+        "fault: order at 4: blocked on 15\n",
+        1,
+    )
 }

@@ -13,7 +13,8 @@ use std::alloc::{AllocError, Global};
 use std::process::Abort;
 use std::test::Fail;
 
-fn deeds(alloc: Global, lines: &[Line]) -> Result<Vec<Deed>, AllocError>
+/// The deeds of a history.
+pub fn deeds(alloc: Global, lines: &[Line]) -> Result<Vec<Deed>, AllocError>
     ensures { IfOk result (λ v. v.items ≡ deeds_of lines.now) }
 {
     lines.iter().map(|line| line.deed).collect(alloc)

@@ -41,12 +41,6 @@ fn sleeps(rt: &impl Abort, alloc: Global, queue: &mut Queue) -> Result<(), Fail>
     Ok(())
 }
 
-#[test]
-fn a_sleeping_task_is_not_picked(rt: HostRuntime) -> Result<(), Fail> {
-    let mut queue = Queue::open();
-    sleeps(&rt, rt.alloc(), &mut queue)
-}
-
 /// Makes an empty queue one of two tasks of equal weight, of which the first runs and has been charged for a million
 /// nanoseconds.
 fn charge_first_of_two(rt: &impl Abort, alloc: Global, queue: &mut Queue) -> Result<(), Fail> {
@@ -86,12 +80,6 @@ fn leaves_and_joins(rt: &impl Abort, alloc: Global, queue: &mut Queue) -> Result
     stands_at(rt, queue, 0, &yielded)
 }
 
-#[test]
-fn a_waiting_task_leaves_and_joins_with_its_lag(rt: HostRuntime) -> Result<(), Fail> {
-    let mut queue = Queue::open();
-    leaves_and_joins(&rt, rt.alloc(), &mut queue)
-}
-
 /// Puts the running one of two tasks to sleep, and wakes it.
 fn sleeps_and_wakes(rt: &impl Abort, alloc: Global, queue: &mut Queue) -> Result<(), Fail> {
     charge_first_of_two(rt, alloc, queue)?;
@@ -109,8 +97,27 @@ fn sleeps_and_wakes(rt: &impl Abort, alloc: Global, queue: &mut Queue) -> Result
     stands_at(rt, queue, 0, &woken)
 }
 
+/// What is told of an empty queue.
+#[derive(Clone, Copy)]
+enum Story {
+    Sleeper,
+    LeaveAndJoin,
+    SleepAndWake,
+}
+
+fn tell(rt: &impl Abort, alloc: Global, queue: &mut Queue, story: Story) -> Result<(), Fail> {
+    match story {
+        Story::Sleeper => sleeps(rt, alloc, queue),
+        Story::LeaveAndJoin => leaves_and_joins(rt, alloc, queue),
+        Story::SleepAndWake => sleeps_and_wakes(rt, alloc, queue),
+    }
+}
+
 #[test]
-fn a_running_task_sleeps_and_wakes_with_its_lag(rt: HostRuntime) -> Result<(), Fail> {
-    let mut queue = Queue::open();
-    sleeps_and_wakes(&rt, rt.alloc(), &mut queue)
+fn a_queue_comes_to_what_is_worked_out(rt: HostRuntime) -> Result<(), Fail> {
+    for story in [Story::Sleeper, Story::LeaveAndJoin, Story::SleepAndWake] {
+        let mut queue = Queue::open();
+        tell(&rt, rt.alloc(), &mut queue, story)?;
+    }
+    Ok(())
 }

@@ -13,7 +13,7 @@ use std::test::Fail;
 const TASKS: u64 = 1024;
 
 /// The order in which the tasks come.
-#[derive(Clone, Copy, Debug)]
+#[derive(Clone, Copy)]
 enum Arrival {
     Ascending,
     Descending,
@@ -81,12 +81,6 @@ fn picks_one(rt: &impl Abort, alloc: Global, queue: &mut Queue) -> Result<(), Fa
     Ok(())
 }
 
-#[test]
-fn one_task_is_picked_in_one_turn(rt: HostRuntime) -> Result<(), Fail> {
-    let mut queue = Queue::open();
-    picks_one(&rt, rt.alloc(), &mut queue)
-}
-
 /// The pick of three tasks stands on the right of the root, since of the first two neither is eligible: a turn to the root, and
 /// one to the right.
 fn picks_to_the_right(rt: &impl Abort, alloc: Global, queue: &mut Queue) -> Result<(), Fail> {
@@ -96,12 +90,6 @@ fn picks_to_the_right(rt: &impl Abort, alloc: Global, queue: &mut Queue) -> Resu
     assert_eq!(rt; queue.pick(), Some(task(2)?));
     assert_eq!(rt; queue.pick_steps(), 2);
     Ok(())
-}
-
-#[test]
-fn a_turn_to_the_right_counts(rt: HostRuntime) -> Result<(), Fail> {
-    let mut queue = Queue::open();
-    picks_to_the_right(&rt, rt.alloc(), &mut queue)
 }
 
 /// Makes all tasks runnable in an empty queue, in the order in which they come, and takes them out by their deadlines.
@@ -115,19 +103,6 @@ fn fills_and_empties(
         admit(rt, queue, numbered(alloc, arrival.number_at(place))?);
     }
     empties_in_order(rt, queue)
-}
-
-#[test]
-fn tasks_are_picked_by_deadline_whatever_their_arrival(rt: HostRuntime) -> Result<(), Fail> {
-    for arrival in [
-        Arrival::Ascending,
-        Arrival::Descending,
-        Arrival::Alternating,
-    ] {
-        let mut queue = Queue::open();
-        fills_and_empties(&rt, rt.alloc(), &mut queue, arrival)?;
-    }
-    Ok(())
 }
 
 /// Puts all tasks to sleep in an empty queue, wakes them, the greatest number first, and takes them out by their deadlines.
@@ -144,12 +119,6 @@ fn sleep_and_wake(rt: &impl Abort, alloc: Global, queue: &mut Queue) -> Result<(
         assert_eq!(rt; queue.wake(task), WakeAnswer::Awake);
     }
     empties_in_order(rt, queue)
-}
-
-#[test]
-fn sleeping_tasks_wake_one_after_the_other(rt: HostRuntime) -> Result<(), Fail> {
-    let mut queue = Queue::open();
-    sleep_and_wake(&rt, rt.alloc(), &mut queue)
 }
 
 /// Picks the next task, which is to be this one, and charges it.
@@ -200,8 +169,41 @@ fn take_turns(rt: &impl Abort, alloc: Global, queue: &mut Queue) -> Result<(), F
     Ok(())
 }
 
+/// What is told of an empty queue.
+#[derive(Clone, Copy)]
+enum Story {
+    One,
+    ToTheRight,
+    Arrivals(Arrival),
+    Sleepers,
+    Turns,
+}
+
+const STORIES: [Story; 7] = [
+    Story::One,
+    Story::ToTheRight,
+    Story::Arrivals(Arrival::Ascending),
+    Story::Arrivals(Arrival::Descending),
+    Story::Arrivals(Arrival::Alternating),
+    Story::Sleepers,
+    Story::Turns,
+];
+
+fn tell(rt: &impl Abort, alloc: Global, queue: &mut Queue, story: Story) -> Result<(), Fail> {
+    match story {
+        Story::One => picks_one(rt, alloc, queue),
+        Story::ToTheRight => picks_to_the_right(rt, alloc, queue),
+        Story::Arrivals(arrival) => fills_and_empties(rt, alloc, queue, arrival),
+        Story::Sleepers => sleep_and_wake(rt, alloc, queue),
+        Story::Turns => take_turns(rt, alloc, queue),
+    }
+}
+
 #[test]
-fn charged_tasks_take_turns(rt: HostRuntime) -> Result<(), Fail> {
-    let mut queue = Queue::open();
-    take_turns(&rt, rt.alloc(), &mut queue)
+fn tasks_are_picked_in_their_turns(rt: HostRuntime) -> Result<(), Fail> {
+    for story in STORIES {
+        let mut queue = Queue::open();
+        tell(&rt, rt.alloc(), &mut queue, story)?;
+    }
+    Ok(())
 }

@@ -3,38 +3,75 @@
 use crate::fixtures::{cpu, nice, ns, task};
 use eevdf_bench::{read_workload, report};
 use eevdf_ops::{Answer, Deed, Line, Outcome, Solo};
-use eevdf_queue::Queue;
+use eevdf_queue::{Queue, TaskId};
 use std::alloc::{AllocError, Global};
 use std::process::Abort;
 use std::test::Fail;
 
-/// The number of the CPU whose schedule is looked at, which is the last one.
-const CPU: u64 = 11;
-
-/// Its schedule: each kind of deed with each of its own answers.
-const PRINTED: [&str; 15] = [
-    "tick 3000000: charged 1023",
-    "tick 3000000: charged 1023 resched",
-    "tick 3000000: idle",
-    "pick: picked 1023",
-    "yield: yielded",
-    "sleep 1023: slept -200000",
-    "sleep 1023: not running",
-    "wake 1023 from 2: woken",
-    "wake 1023 from 2: awake",
-    "pull 2: pulled 1023",
-    "pull 2: balanced",
-    "pull 2: nothing",
-    "pull 2: range",
-    "renice 1023 -20: reniced",
-    "renice 1023 -20: not here",
-];
+/// A schedule of CPU 11 with each kind of deed and each of its own answers, after those of eleven CPUs that did nothing.
+const REPORT_OF_ALL_KINDS: &str = "cpu 0
+load 0 floor 0
+cpu 1
+load 0 floor 0
+cpu 2
+load 0 floor 0
+cpu 3
+load 0 floor 0
+cpu 4
+load 0 floor 0
+cpu 5
+load 0 floor 0
+cpu 6
+load 0 floor 0
+cpu 7
+load 0 floor 0
+cpu 8
+load 0 floor 0
+cpu 9
+load 0 floor 0
+cpu 10
+load 0 floor 0
+cpu 11
+tick 3000000: charged 1023
+tick 3000000: charged 1023 resched
+tick 3000000: idle
+pick: picked 1023
+yield: yielded
+sleep 1023: slept -200000
+sleep 1023: not running
+wake 1023 from 2: woken
+wake 1023 from 2: awake
+pull 2: pulled 1023
+pull 2: balanced
+pull 2: nothing
+pull 2: range
+renice 1023 -20: reniced
+renice 1023 -20: not here
+load 0 floor 0
+script = [
+\"11 tick 3000000\",
+\"11 tick 3000000\",
+\"11 tick 3000000\",
+\"11 pick\",
+\"11 yield\",
+\"11 sleep 1023\",
+\"11 sleep 1023\",
+\"11 wake 1023 from 2\",
+\"11 wake 1023 from 2\",
+\"11 pull 2\",
+\"11 pull 2\",
+\"11 pull 2\",
+\"11 pull 2\",
+\"11 renice 1023 -20\",
+\"11 renice 1023 -20\",
+]
+";
 
 /// The lines of that schedule.
 fn lines_of_all_kinds() -> Result<[Line; 15], Fail> {
     let task = task(1023)?;
     let source = cpu(2)?;
-    let cpu = cpu(CPU)?;
+    let cpu = cpu(11)?;
     let tick = Deed::Tick {
         cpu,
         ns: ns(3_000_000)?,
@@ -121,67 +158,51 @@ fn lines_of_all_kinds() -> Result<[Line; 15], Fail> {
     ])
 }
 
-/// The outcome of these lines on so many CPUs, whose queues are empty and to which nothing is posted.
-fn outcome(
+/// The outcome of these parts.
+fn outcome_of(
     rt: &impl Abort,
-    alloc: Global,
     lines: Vec<Line>,
-    cpus: usize,
-) -> Result<Outcome, AllocError> {
-    let mut queues = Vec::new(alloc);
+    queues: Vec<Queue>,
+    left: Vec<Vec<TaskId>>,
+) -> Outcome {
+    assert!(rt; queues.len() < 100 && left.len() == queues.len() * queues.len());
+    Outcome::of(lines, queues, left)
+}
+
+/// The requests that are left of each pair of CPUs.
+fn requests_of(alloc: Global, pairs: &[&[TaskId]]) -> Result<Vec<Vec<TaskId>>, AllocError> {
     let mut left = Vec::new(alloc);
+    for pair in pairs {
+        left.push(Vec::from_slice(alloc, pair)?)?;
+    }
+    Ok(left)
+}
+
+fn empty_queues(alloc: Global, cpus: usize) -> Result<Vec<Queue>, AllocError> {
+    let mut queues = Vec::new(alloc);
     for _cpu in 0..cpus {
         queues.push(Queue::open())?;
-        for _sender in 0..cpus {
-            left.push(Vec::new(alloc))?;
-        }
     }
-    assert!(rt; queues.len() < 100 && left.len() == queues.len() * queues.len());
-    Ok(Outcome::of(lines, queues, left))
+    Ok(queues)
 }
 
-/// The report of that schedule, with its history.
-fn report_of_all_kinds(alloc: Global) -> Result<String, Fail> {
-    let mut text = String::new(alloc);
-    for cpu in 0..CPU {
-        text.push_str(format!(in alloc; "cpu {cpu}\nload 0 floor 0\n")?.as_str())?;
-    }
-    text.push_str(format!(in alloc; "cpu {CPU}\n")?.as_str())?;
-    for printed in PRINTED {
-        text.push_str(format!(in alloc; "{printed}\n")?.as_str())?;
-    }
-    text.push_str("load 0 floor 0\nscript = [\n")?;
-    for printed in PRINTED {
-        let (deed, _answer) = printed.split_once(": ").ok_or("printed")?;
-        text.push_str(format!(in alloc; "\"{CPU} {deed}\",\n")?.as_str())?;
-    }
-    text.push_str("]\n")?;
-    Ok(text)
-}
-
-#[test]
-fn every_kind_of_line_is_printed(rt: HostRuntime) -> Result<(), Fail> {
-    let alloc = rt.alloc();
-    let mut lines = Vec::new(alloc);
-    lines.extend_from_slice(&lines_of_all_kinds()?)?;
-    let outcome = outcome(&rt, alloc, lines, 12)?;
-    let text = report(alloc, &outcome, true)?;
-    let want = report_of_all_kinds(alloc)?;
-    assert!(rt; text.as_slice() == want.as_bytes());
-    Ok(())
+/// The outcome of lines of all kinds on twelve CPUs, whose queues are empty and to which nothing is posted.
+fn outcome_of_all_kinds(rt: &impl Abort, alloc: Global) -> Result<Outcome, Fail> {
+    let lines = Vec::from_slice(alloc, &lines_of_all_kinds()?)?;
+    let none: &[TaskId] = &[];
+    let left = requests_of(alloc, &vec![in alloc; none; 144]?)?;
+    let queues = empty_queues(alloc, 12)?;
+    Ok(outcome_of(rt, lines, queues, left))
 }
 
 const TWO_CPUS: &[u8] =
     b"version = 1\nprogram = [[], []]\n[[task]]\nstart = -1\n[[task]]\nhome = 1\nasleep = true\n[[task]]\nhome = 1\n";
 
-const REPORT: &str =
+const REPORT_OF_REQUESTS: &str =
     "cpu 0\npull 1: nothing\nload 1024 floor -1\ntask 0 v -1 d 2999999 lag 0\nleft 2 from 1\nleft 1 from 1\ncpu 1\npick: idle\nload 1024 floor 0\ntask 2 v 0 d 3000000 lag 0\nasleep 1 lag 0\nleft 0 from 0\nscript = [\n\"1 pick\",\n\"0 pull 1\",\n]\n";
 
-#[test]
-fn requests_are_left_on_two_cpus(rt: HostRuntime) -> Result<(), Fail> {
-    let alloc = rt.alloc();
-    let workload = read_workload(alloc, TWO_CPUS).ok().ok_or("workload")?;
-    let queues = Solo::open(alloc, workload.setup())?.into_queues();
+/// A pick and a pull.
+fn two_lines() -> Result<[Line; 2], Fail> {
     let pick = Line {
         deed: Deed::Pick { cpu: cpu(1)? },
         answer: Answer::Idle,
@@ -193,15 +214,39 @@ fn requests_are_left_on_two_cpus(rt: HostRuntime) -> Result<(), Fail> {
         },
         answer: Answer::Nothing,
     };
-    let lines = vec![in alloc; pick, pull]?;
-    let mut left = Vec::new(alloc);
-    left.push(Vec::new(alloc))?;
-    left.push(vec![in alloc; task(0)?]?)?;
-    left.push(vec![in alloc; task(2)?, task(1)?]?)?;
-    left.push(Vec::new(alloc))?;
-    assert!(rt; queues.len() < 100 && left.len() == queues.len() * queues.len());
-    let outcome = Outcome::of(lines, queues, left);
-    let text = report(alloc, &outcome, true)?;
-    assert!(rt; text.as_slice() == REPORT.as_bytes());
+    Ok([pick, pull])
+}
+
+/// The queues in which the tasks of a workload begin.
+fn beginning(alloc: Global, bytes: &[u8]) -> Result<Vec<Queue>, Fail> {
+    let workload = read_workload(alloc, bytes).ok().ok_or("workload")?;
+    Ok(Solo::open(alloc, workload.setup())?.into_queues())
+}
+
+/// The outcome of two lines on two CPUs, with a request that is left on the one and two on the other.
+fn outcome_with_requests(rt: &impl Abort, alloc: Global) -> Result<Outcome, Fail> {
+    let to_first = [task(2)?, task(1)?];
+    let to_second = [task(0)?];
+    let lines = Vec::from_slice(alloc, &two_lines()?)?;
+    let left = requests_of(alloc, &[&[], &to_second, &to_first, &[]])?;
+    let queues = beginning(alloc, TWO_CPUS)?;
+    Ok(outcome_of(rt, lines, queues, left))
+}
+
+/// Asks that this is the report of an outcome, with its history.
+fn is_reported(rt: &impl Abort, alloc: Global, outcome: &Outcome, text: &str) -> Result<(), Fail> {
+    assert!(rt; report(alloc, outcome, true)?.as_slice() == text.as_bytes());
     Ok(())
+}
+
+#[test]
+fn every_kind_of_line_is_printed(rt: HostRuntime) -> Result<(), Fail> {
+    let outcome = outcome_of_all_kinds(&rt, rt.alloc())?;
+    is_reported(&rt, rt.alloc(), &outcome, REPORT_OF_ALL_KINDS)
+}
+
+#[test]
+fn requests_are_left_on_two_cpus(rt: HostRuntime) -> Result<(), Fail> {
+    let outcome = outcome_with_requests(&rt, rt.alloc())?;
+    is_reported(&rt, rt.alloc(), &outcome, REPORT_OF_REQUESTS)
 }

@@ -1,5 +1,5 @@
 /// Which call of a gate it is.
-#[derive(Clone, Copy, PartialEq, Eq, Debug)]
+#[derive(Clone, Copy, PartialEq, Eq)]
 pub enum Moment {
     /// The operation holds its locks.
     Inside,
@@ -10,7 +10,7 @@ pub enum Moment {
 }
 
 /// A call of a gate: the CPU, and the place of the operation in its program.
-#[derive(Clone, Copy, PartialEq, Eq, Debug)]
+#[derive(Clone, Copy, PartialEq, Eq)]
 pub struct GateCall {
     pub moment: Moment,
     pub cpu: u64,

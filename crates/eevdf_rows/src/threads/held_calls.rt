@@ -1,67 +1,91 @@
-//! Operations of two CPUs that go on beside one another: each test holds operations until others have come to a place,
+//! Operations of two CPUs that go on beside one another: each case holds operations until others have come to a place,
 //! which they can't reach where a lock is held for too long.
 
-use super::gate_call::GateCall;
+use super::gate_call::{GateCall, Moment};
 use super::holding_gate::HoldingGate;
-use eevdf_bench::{Workload, read_workload, report};
+use eevdf_bench::{read_workload, report};
 use eevdf_fleet::run_all;
-use std::alloc::Global;
 use std::test::Fail;
 
 /// Two CPUs, each with a task of its own that it picks.
-const TWO_PICKS: &str =
-    "version = 1\nprogram = [[\"pick\"], [\"pick\"]]\n[[task]]\n[[task]]\nhome = 1\n";
+const TWO_PICKS: &[u8] =
+    b"version = 1\nprogram = [[\"pick\"], [\"pick\"]]\n[[task]]\n[[task]]\nhome = 1\n";
+
+const TWO_PICKED: &str =
+    "cpu 0\npick: picked 0\nload 1024 floor 0\ntask 0 v 0 d 3000000 lag 0 running\ncpu 1\npick: picked 1\nload 1024 floor 0\ntask 1 v 0 d 3000000 lag 0 running\n";
 
 /// The same, and the second CPU posts a wake to the first one.
-const A_POST_AFTER_A_PICK: &str =
-    "version = 1\nprogram = [[\"pick\"], [\"pick\", \"post 0\"]]\n[[task]]\n[[task]]\nhome = 1\n";
+const A_POST_AFTER_A_PICK: &[u8] =
+    b"version = 1\nprogram = [[\"pick\"], [\"pick\", \"post 0\"]]\n[[task]]\n[[task]]\nhome = 1\n";
 
-fn workload(alloc: Global, text: &str) -> Result<Workload, Fail> {
-    Ok(
-        read_workload(alloc, text.as_bytes())
+const PICKED_AND_POSTED: &str =
+    "cpu 0\npick: picked 0\nload 1024 floor 0\ntask 0 v 0 d 3000000 lag 0 running\nleft 0 from 1\ncpu 1\npick: picked 1\nload 1024 floor 0\ntask 1 v 0 d 3000000 lag 0 running\n";
+
+/// A workload, two pairs of calls of which the first is held until the second is made, and what is reported.
+struct Case {
+    name: &'static str,
+    workload: &'static [u8],
+    first: (GateCall, GateCall),
+    second: (GateCall, GateCall),
+    report: &'static str,
+}
+
+/// A pick at a moment, which is the first operation of its CPU.
+const INSIDE_0: GateCall = GateCall {
+    moment: Moment::Inside,
+    cpu: 0,
+    n: 0,
+};
+
+const INSIDE_1: GateCall = GateCall { cpu: 1, ..INSIDE_0 };
+
+const ACTED_0: GateCall = GateCall {
+    moment: Moment::Acted,
+    ..INSIDE_0
+};
+
+const ANSWERED_1: GateCall = GateCall {
+    moment: Moment::Answered,
+    ..INSIDE_1
+};
+
+const POSTED_1: GateCall = GateCall { n: 1, ..ANSWERED_1 };
+
+const CASES: [Case; 3] = [
+    Case {
+        name: "two operations hold their locks at once",
+        workload: TWO_PICKS,
+        first: (INSIDE_0, INSIDE_1),
+        second: (INSIDE_1, INSIDE_0),
+        report: TWO_PICKED,
+    },
+    Case {
+        name: "an operation is done while another has acted and not returned",
+        workload: TWO_PICKS,
+        first: (ACTED_0, ANSWERED_1),
+        second: (INSIDE_1, ACTED_0),
+        report: TWO_PICKED,
+    },
+    Case {
+        name: "a post goes to a CPU whose lock is held",
+        workload: A_POST_AFTER_A_PICK,
+        first: (INSIDE_0, POSTED_1),
+        second: (INSIDE_1, INSIDE_0),
+        report: PICKED_AND_POSTED,
+    },
+];
+
+#[test]
+fn operations_go_on_beside_one_another(rt: HostRuntime) -> Result<(), Fail> {
+    for case in &CASES {
+        let workload = read_workload(rt.alloc(), case.workload)
             .ok()
-            .ok_or("workload")?,
-    )
-}
-
-#[test]
-fn two_operations_hold_their_locks_at_once(rt: HostRuntime) -> Result<(), Fail> {
-    let workload = workload(rt.alloc(), TWO_PICKS)?;
-    let gate = HoldingGate::new(
-        (GateCall::inside(0, 0), GateCall::inside(1, 0)),
-        (GateCall::inside(1, 0), GateCall::inside(0, 0)),
-    );
-    let _outcome = run_all(&rt, rt.alloc(), workload.setup(), &gate)?;
-    assert!(rt; !gate.has_given_up());
-    Ok(())
-}
-
-#[test]
-fn an_operation_is_done_while_another_has_acted_and_not_returned(
-    rt: HostRuntime,
-) -> Result<(), Fail> {
-    let workload = workload(rt.alloc(), TWO_PICKS)?;
-    let gate = HoldingGate::new(
-        (GateCall::acted(0, 0), GateCall::answered(1, 0)),
-        (GateCall::inside(1, 0), GateCall::acted(0, 0)),
-    );
-    let _outcome = run_all(&rt, rt.alloc(), workload.setup(), &gate)?;
-    assert!(rt; !gate.has_given_up());
-    Ok(())
-}
-
-#[test]
-fn a_post_goes_to_a_cpu_whose_lock_is_held(rt: HostRuntime) -> Result<(), Fail> {
-    let workload = workload(rt.alloc(), A_POST_AFTER_A_PICK)?;
-    let gate = HoldingGate::new(
-        (GateCall::inside(0, 0), GateCall::answered(1, 1)),
-        (GateCall::inside(1, 0), GateCall::inside(0, 0)),
-    );
-    let outcome = run_all(&rt, rt.alloc(), workload.setup(), &gate)?;
-    assert!(rt; !gate.has_given_up());
-    let want =
-        "cpu 0\npick: picked 0\nload 1024 floor 0\ntask 0 v 0 d 3000000 lag 0 running\nleft 0 from 1\ncpu 1\npick: picked 1\nload 1024 floor 0\ntask 1 v 0 d 3000000 lag 0 running\n";
-    let text = report(rt.alloc(), &outcome, false)?;
-    assert!(rt; text.as_slice() == want.as_bytes());
+            .ok_or("workload")?;
+        let gate = HoldingGate::new(case.first, case.second);
+        let outcome = run_all(&rt, rt.alloc(), workload.setup(), &gate)?;
+        assert!(rt; !gate.has_given_up(), "{}", case.name);
+        let text = report(rt.alloc(), &outcome, false)?;
+        assert!(rt; text.as_slice() == case.report.as_bytes(), "{}", case.name);
+    }
     Ok(())
 }
