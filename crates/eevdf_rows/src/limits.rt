@@ -1,4 +1,3 @@
-//! Deeds at the limits of their numbers and past them, and workloads of more bytes than there may be.
+//! Deeds at the limits of their numbers and past them.
 
 mod deeds;
-mod lengths;

@@ -1,83 +1,118 @@
-//! A reader and a writer that both fail, or that both move few bytes a call.
+//! A reader and a writer that both fail, and ends that move drawn pieces.
 
-use super::calls::{Calls, Failing};
-use super::engine_run::{
-    check_failed_read, check_failed_write, check_report, check_unwritten, run_between,
-};
-use super::piece_reader::PieceReader;
-use super::piece_writer::PieceWriter;
+ghost use Rattle.std.specs.Prelude.{◌<◌};
+
+use super::calls::Failing;
+use super::engine_run::{Ends, FAILED_READ, REPORT, WHOLE, Wanted, check, failed_write};
 use super::pieces::Pieces;
-use super::workloads::ROWS;
+use super::reads::broken_reads;
+use super::workloads::{ROWS, Row};
+use super::writes::broken_writes;
 use crate::commands::SOLO;
 use eevdf_bench::{BenchFault, Key, LoadFault};
 use std::alloc::Global;
-use std::io::ErrorKind;
-use std::test::Fail;
+use std::process::Abort;
+use std::sync::Wait;
+use std::thread::Threads;
 
-/// A writer that takes nothing and can't be flushed.
-fn broken_writer(alloc: Global) -> PieceWriter {
-    PieceWriter {
-        flushes: Calls::new(Failing::From(0), ErrorKind::BrokenPipe),
-        ..PieceWriter::failing(alloc, Failing::From(0))
+/// The reader fails, and the writer takes nothing and can't be flushed.
+fn broken_ends(failing: Failing) -> Ends {
+    Ends {
+        read: broken_reads(failing),
+        write: broken_writes(Failing::From(0)),
+        flush: broken_writes(Failing::From(0)),
+        ..WHOLE
     }
 }
 
-#[test]
-fn a_failed_read_comes_before_a_broken_writer(rt: HostRuntime) -> Result<(), Fail> {
-    let alloc = rt.alloc();
-    for row in &ROWS {
-        for failing in [Failing::From(0), Failing::Once(0), Failing::Once(1)] {
-            let reader = PieceReader::failing(row.workload, failing);
-            let run = run_between(&rt, alloc, row.command, reader, broken_writer(alloc));
-            check_failed_read(&rt, alloc, &run, row.name)?;
-        }
+/// A failed read comes before a broken writer, and a failed write is not flushed.
+fn check_broken_writer<R: Threads + Wait + Abort + Sync>(rt: &R, alloc: Global, row: &Row<'_>) {
+    for failing in [Failing::From(0), Failing::Once(0), Failing::Once(1)] {
+        check(
+            rt,
+            alloc,
+            row,
+            "both ends fail",
+            &broken_ends(failing),
+            &FAILED_READ,
+        );
     }
-    Ok(())
-}
-
-#[test]
-fn a_refused_workload_comes_before_a_broken_writer(rt: HostRuntime) {
-    let alloc = rt.alloc();
-    let missing = LoadFault::Missing { key: Key::Version };
-    let run = run_between(
-        &rt,
+    let ends = broken_ends(Failing::Never);
+    check(
+        rt,
         alloc,
-        SOLO,
-        PieceReader::whole(b""),
-        broken_writer(alloc),
+        row,
+        "the writer fails",
+        &ends,
+        &failed_write(0, 1, 0),
     );
-    assert!(rt; run.result == Err(BenchFault::Load(missing)));
-    assert!(rt; !run.reader_failed && !run.writer_failed);
-    check_unwritten(&rt, &run, "no text");
 }
 
+/// No bytes, which are refused.
+const NO_TEXT: Row<'static> = Row {
+    name: "no text",
+    command: SOLO,
+    workload: b"",
+    printed: "",
+};
+
 #[test]
-fn a_failed_write_is_not_flushed(rt: HostRuntime) -> Result<(), Fail> {
+fn a_broken_writer_comes_last(rt: HostRuntime) {
     let alloc = rt.alloc();
     for row in &ROWS {
-        let reader = PieceReader::whole(row.workload);
-        let run = run_between(&rt, alloc, row.command, reader, broken_writer(alloc));
-        check_failed_write(&rt, alloc, &run, b"", row.name)?;
-        assert!(rt; run.writer.writes.count == 1 && run.writer.flushes.count == 0);
+        check_broken_writer(&rt, alloc, row);
     }
-    Ok(())
+    let missing = LoadFault::Missing { key: Key::Version };
+    let wanted = Wanted {
+        result: Err(BenchFault::Load(missing)),
+        ..FAILED_READ
+    };
+    let ends = broken_ends(Failing::Never);
+    check(&rt, alloc, &NO_TEXT, "the writer fails", &ends, &wanted);
+}
+
+/// The reader gives drawn pieces, the writer takes them, or both.
+fn check_drawn<R: Threads + Wait + Abort + Sync>(rt: &R, alloc: Global, row: &Row<'_>, seed: u64)
+    requires { seed < 100 }
+{
+    let given = Pieces::Drawn(seed);
+    check(
+        rt,
+        alloc,
+        row,
+        "drawn pieces are given",
+        &Ends { given, ..WHOLE },
+        &REPORT,
+    );
+    let taken = Pieces::Drawn(seed);
+    check(
+        rt,
+        alloc,
+        row,
+        "drawn pieces are taken",
+        &Ends { taken, ..WHOLE },
+        &REPORT,
+    );
+    let taken = Pieces::Drawn(seed + 20);
+    check(
+        rt,
+        alloc,
+        row,
+        "drawn pieces are moved",
+        &Ends {
+            given,
+            taken,
+            ..WHOLE
+        },
+        &REPORT,
+    );
 }
 
 #[test]
-fn both_ends_can_move_drawn_pieces(rt: HostRuntime) {
-    let alloc = rt.alloc();
+fn ends_can_move_drawn_pieces(rt: HostRuntime) {
     for seed in 1..=20 {
         for row in &ROWS {
-            let reader = PieceReader {
-                pieces: Pieces::drawn(seed),
-                ..PieceReader::whole(row.workload)
-            };
-            let writer = PieceWriter {
-                pieces: Pieces::drawn(seed + 20),
-                ..PieceWriter::whole(alloc)
-            };
-            let run = run_between(&rt, alloc, row.command, reader, writer);
-            check_report(&rt, &run, row);
+            check_drawn(&rt, rt.alloc(), row, seed);
         }
     }
 }

@@ -23,30 +23,33 @@ impl Failing {
     }
 }
 
-/// How many calls there were, which of them fail, and by which error.
+/// Which calls fail, and by which error.
+#[derive(Clone, Copy)]
+pub struct Failure {
+    pub failing: Failing,
+    pub kind: ErrorKind,
+}
+
+/// No call fails.
+pub const NO_FAILURE: Failure = Failure {
+    failing: Failing::Never,
+    kind: ErrorKind::BrokenPipe,
+};
+
+/// How many calls there were, and which of them fail.
 #[derive(Drop)]
 pub struct Calls {
     pub count: usize,
-    failing: Failing,
-    kind: ErrorKind,
+    pub failure: Failure,
 }
 
 impl Calls {
-    /// No call yet.
-    pub fn new(failing: Failing, kind: ErrorKind) -> Calls {
-        Calls {
-            count: 0,
-            failing,
-            kind,
-        }
-    }
-
     /// Counts a call, and gives its number, or the error by which it fails.
     pub fn begin(&mut self) -> io::Result<usize> {
         let call = self.count;
         self.count = call.saturating_add(1);
-        if self.failing.includes(call) {
-            return Err(io::Error::from(self.kind));
+        if self.failure.failing.includes(call) {
+            return Err(io::Error::from(self.failure.kind));
         }
         Ok(call)
     }

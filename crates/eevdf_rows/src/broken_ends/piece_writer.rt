@@ -1,34 +1,35 @@
-use super::calls::{Calls, Failing};
-use super::pieces::{ALL, Pieces};
+use super::calls::{Calls, Failure};
+use super::pieces::{PieceSizes, Pieces};
 use std::alloc::Global;
 use std::io;
-use std::io::{ErrorKind, Write};
+use std::io::Write;
 
 /// Takes bytes in pieces, and fails as a test tells it to.
 #[derive(Drop)]
 pub struct PieceWriter {
     pub taken: Vec<u8>,
-    pub pieces: Pieces,
     pub writes: Calls,
     pub flushes: Calls,
     /// How many bytes were taken before the last flush.
     pub flushed: usize,
+    sizes: PieceSizes,
 }
 
 impl PieceWriter {
-    /// Takes all bytes at once.
-    pub fn whole(alloc: Global) -> PieceWriter {
-        PieceWriter::failing(alloc, Failing::Never)
-    }
-
-    /// Takes all bytes at once, but for the writes that fail.
-    pub fn failing(alloc: Global, failing: Failing) -> PieceWriter {
+    /// Has taken nothing.
+    pub fn new(alloc: Global, pieces: Pieces, write: Failure, flush: Failure) -> PieceWriter {
         PieceWriter {
             taken: Vec::new(alloc),
-            pieces: Pieces::Listed(ALL),
-            writes: Calls::new(failing, ErrorKind::BrokenPipe),
-            flushes: Calls::new(Failing::Never, ErrorKind::BrokenPipe),
+            writes: Calls {
+                count: 0,
+                failure: write,
+            },
+            flushes: Calls {
+                count: 0,
+                failure: flush,
+            },
             flushed: 0,
+            sizes: PieceSizes::new(pieces),
         }
     }
 }
@@ -36,7 +37,7 @@ impl PieceWriter {
 impl Write for PieceWriter {
     fn write(&mut self, buf: &[u8]) -> io::Result<usize> {
         let call = self.writes.begin()?;
-        let size = self.pieces.size(call, buf.len());
+        let size = self.sizes.size(call, buf.len());
         self.taken.extend_from_slice(&buf[..size])?;
         Ok(size)
     }

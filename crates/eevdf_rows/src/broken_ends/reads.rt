@@ -1,108 +1,109 @@
 //! Reads that fail, and reads of few bytes.
 
-use super::calls::{Calls, Failing};
-use super::engine_run::{check_failed_read, check_report, run_between};
-use super::piece_reader::PieceReader;
-use super::piece_writer::PieceWriter;
+use super::calls::{Failing, Failure};
+use super::engine_run::{Ends, FAILED_READ, REPORT, WHOLE, Wanted, check};
 use super::pieces::{Pieces, SINGLE_BYTES};
 use super::workloads::{KINDS, ROWS, Row};
 use std::alloc::Global;
+use std::io::ErrorKind;
 use std::process::Abort;
 use std::sync::Wait;
-use std::test::Fail;
 use std::thread::Threads;
 
+/// So many bytes each read gives.
 const PIECE: usize = 16;
+
+/// Reads that fail by an error that ends a connection.
+pub fn broken_reads(failing: Failing) -> Failure {
+    Failure {
+        failing,
+        kind: ErrorKind::ConnectionReset,
+    }
+}
 
 /// Lets each of so many reads fail, for good or once, and then none. The last of them is the one that meets the end.
 fn check_each_read<R: Threads + Wait + Abort + Sync>(
     rt: &R,
     alloc: Global,
-    row: &Row,
-    sizes: &'static [usize],
+    row: &Row<'_>,
+    given: Pieces,
     reads: usize,
-) -> Result<(), Fail> {
+) {
     for call in 0..reads {
+        let wanted = Wanted {
+            reads: Some(call + 1),
+            ..FAILED_READ
+        };
         for failing in [Failing::From(call), Failing::Once(call)] {
-            let reader = PieceReader {
-                pieces: Pieces::Listed(sizes),
-                ..PieceReader::failing(row.workload, failing)
+            let ends = Ends {
+                given,
+                read: broken_reads(failing),
+                ..WHOLE
             };
-            let run = run_between(rt, alloc, row.command, reader, PieceWriter::whole(alloc));
-            check_failed_read(rt, alloc, &run, row.name)?;
-            assert!(rt; run.reader.reads.count == call + 1, "{}", row.name);
+            check(rt, alloc, row, "a read fails", &ends, &wanted);
         }
     }
-    let reader = PieceReader {
-        pieces: Pieces::Listed(sizes),
-        ..PieceReader::whole(row.workload)
+    let wanted = Wanted {
+        reads: Some(reads),
+        ..REPORT
     };
-    let run = run_between(rt, alloc, row.command, reader, PieceWriter::whole(alloc));
-    check_report(rt, &run, row);
-    assert!(rt; run.reader.reads.count == reads, "{}", row.name);
-    Ok(())
+    check(
+        rt,
+        alloc,
+        row,
+        "no read fails",
+        &Ends { given, ..WHOLE },
+        &wanted,
+    );
 }
 
-#[test]
-fn each_read_can_fail(rt: HostRuntime) -> Result<(), Fail> {
-    for row in &ROWS {
-        let reads = row.workload.len().div_ceil(PIECE) + 1;
-        check_each_read(&rt, rt.alloc(), row, &[PIECE], reads)?;
+/// The read behind the last byte fails, for good or once, or by any error.
+fn check_last_read<R: Threads + Wait + Abort + Sync>(rt: &R, alloc: Global, row: &Row<'_>) {
+    let wanted = Wanted {
+        rest: Some(0),
+        reads: Some(2),
+        ..FAILED_READ
+    };
+    for failing in [Failing::From(1), Failing::Once(1)] {
+        let read = broken_reads(failing);
+        check(
+            rt,
+            alloc,
+            row,
+            "the last read fails",
+            &Ends { read, ..WHOLE },
+            &wanted,
+        );
     }
-    Ok(())
-}
-
-#[test]
-fn each_read_of_a_single_byte_can_fail(rt: HostRuntime) -> Result<(), Fail> {
-    for row in &ROWS {
-        let reads = row.workload.len() + 1;
-        check_each_read(&rt, rt.alloc(), row, SINGLE_BYTES, reads)?;
+    for kind in KINDS {
+        let read = Failure {
+            failing: Failing::Once(1),
+            kind,
+        };
+        check(
+            rt,
+            alloc,
+            row,
+            "the last read fails once",
+            &Ends { read, ..WHOLE },
+            &wanted,
+        );
     }
-    Ok(())
 }
 
 #[test]
-fn a_read_behind_the_last_byte_can_fail(rt: HostRuntime) -> Result<(), Fail> {
+fn each_read_can_fail(rt: HostRuntime) {
     let alloc = rt.alloc();
     for row in &ROWS {
-        for failing in [Failing::From(1), Failing::Once(1)] {
-            let reader = PieceReader::failing(row.workload, failing);
-            let run = run_between(&rt, alloc, row.command, reader, PieceWriter::whole(alloc));
-            check_failed_read(&rt, alloc, &run, row.name)?;
-            assert!(rt; run.reader.rest.is_empty() && run.reader.reads.count == 2);
-        }
-    }
-    Ok(())
-}
-
-#[test]
-fn a_read_can_fail_by_any_error(rt: HostRuntime) -> Result<(), Fail> {
-    let alloc = rt.alloc();
-    for row in &ROWS {
-        for kind in KINDS {
-            let reader = PieceReader {
-                reads: Calls::new(Failing::Once(1), kind),
-                ..PieceReader::whole(row.workload)
-            };
-            let run = run_between(&rt, alloc, row.command, reader, PieceWriter::whole(alloc));
-            check_failed_read(&rt, alloc, &run, row.name)?;
-            assert!(rt; run.reader.reads.count == 2, "{}", row.name);
-        }
-    }
-    Ok(())
-}
-
-#[test]
-fn a_reader_can_give_drawn_pieces(rt: HostRuntime) {
-    let alloc = rt.alloc();
-    for seed in 1..=20 {
-        for row in &ROWS {
-            let reader = PieceReader {
-                pieces: Pieces::drawn(seed),
-                ..PieceReader::whole(row.workload)
-            };
-            let run = run_between(&rt, alloc, row.command, reader, PieceWriter::whole(alloc));
-            check_report(&rt, &run, row);
-        }
+        let length = row.workload.len();
+        check_each_read(
+            &rt,
+            alloc,
+            row,
+            Pieces::Listed(&[PIECE]),
+            length.div_ceil(PIECE) + 1,
+        );
+        check_each_read(&rt, alloc, row, SINGLE_BYTES, length + 1);
+        check_last_read(&rt, alloc, row);
     }
 }

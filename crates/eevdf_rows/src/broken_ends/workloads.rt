@@ -6,14 +6,14 @@ use std::io::ErrorKind;
 
 /// A workload, and what the program prints for it.
 #[derive(Clone, Copy)]
-pub struct Row {
+pub struct Row<'a> {
     pub name: &'static str,
     pub command: Command,
-    pub workload: &'static [u8],
+    pub workload: &'a [u8],
     pub printed: &'static str,
 }
 
-pub const ROWS: [Row; 3] = [
+pub const ROWS: [Row<'static>; 3] = [
     Row {
         name: "a script",
         command: SOLO,

@@ -1,191 +1,166 @@
 //! Writes and flushes that fail, and writes of few bytes.
 
-use super::calls::{Calls, Failing};
-use super::engine_run::{check_failed_write, check_report, run_between};
-use super::piece_reader::PieceReader;
-use super::piece_writer::PieceWriter;
+use super::calls::{Failing, Failure};
+use super::engine_run::{Ends, REPORT, WHOLE, Wanted, check, failed_write};
 use super::pieces::{Pieces, SINGLE_BYTES};
-use super::workloads::{KINDS, ROWS};
+use super::workloads::{KINDS, ROWS, Row};
+use std::alloc::Global;
 use std::io::ErrorKind;
-use std::test::Fail;
+use std::process::Abort;
+use std::sync::Wait;
+use std::thread::Threads;
 
+/// So many bytes each write takes.
 const PIECE: usize = 7;
 
-#[test]
-fn each_write_can_fail(rt: HostRuntime) -> Result<(), Fail> {
-    let alloc = rt.alloc();
-    for row in &ROWS {
-        let report = row.printed.as_bytes();
-        for call in 0..report.len().div_ceil(PIECE) {
-            for failing in [Failing::From(call), Failing::Once(call)] {
-                let writer = PieceWriter {
-                    pieces: Pieces::Listed(&[PIECE]),
-                    ..PieceWriter::failing(alloc, failing)
-                };
-                let reader = PieceReader::whole(row.workload);
-                let run = run_between(&rt, alloc, row.command, reader, writer);
-                let taken = call.saturating_mul(PIECE).min(report.len());
-                check_failed_write(&rt, alloc, &run, &report[..taken], row.name)?;
-                assert!(rt; run.writer.writes.count == call + 1, "{}", row.name);
-                assert!(rt; run.writer.flushes.count == 0, "{}", row.name);
-            }
-        }
+/// Writes or flushes that fail by an error that a closed pipe gives.
+pub fn broken_writes(failing: Failing) -> Failure {
+    Failure {
+        failing,
+        kind: ErrorKind::BrokenPipe,
     }
-    Ok(())
 }
 
-#[test]
-fn a_writer_can_take_ten_bytes_and_fail(rt: HostRuntime) -> Result<(), Fail> {
-    let alloc = rt.alloc();
-    for row in &ROWS {
-        for failing in [Failing::From(1), Failing::Once(1)] {
-            let writer = PieceWriter {
-                pieces: Pieces::Listed(&[10]),
-                ..PieceWriter::failing(alloc, failing)
+/// Lets each write of a report fail, for good or once.
+fn check_each_write<R: Threads + Wait + Abort + Sync>(rt: &R, alloc: Global, row: &Row<'_>) {
+    for call in 0..row.printed.len().div_ceil(PIECE) {
+        let wanted = failed_write(call.saturating_mul(PIECE), call + 1, 0);
+        for failing in [Failing::From(call), Failing::Once(call)] {
+            let ends = Ends {
+                taken: Pieces::Listed(&[PIECE]),
+                write: broken_writes(failing),
+                ..WHOLE
             };
-            let reader = PieceReader::whole(row.workload);
-            let run = run_between(&rt, alloc, row.command, reader, writer);
-            check_failed_write(&rt, alloc, &run, b"cpu 0\npick", row.name)?;
-            assert!(rt; run.writer.writes.count == 2 && run.writer.flushes.count == 0);
+            check(rt, alloc, row, "a write fails", &ends, &wanted);
         }
     }
-    Ok(())
 }
 
-/// A writer that takes nothing of some piece, the bytes that it took before, and how often it was called.
+/// The second write or the flush fails, for good or once.
+fn check_last_calls<R: Threads + Wait + Abort + Sync>(rt: &R, alloc: Global, row: &Row<'_>) {
+    for failing in [Failing::From(1), Failing::Once(1)] {
+        let ends = Ends {
+            taken: Pieces::Listed(&[10]),
+            write: broken_writes(failing),
+            ..WHOLE
+        };
+        check(
+            rt,
+            alloc,
+            row,
+            "ten bytes are taken",
+            &ends,
+            &failed_write(10, 2, 0),
+        );
+    }
+    for failing in [Failing::From(0), Failing::Once(0)] {
+        let ends = Ends {
+            flush: broken_writes(failing),
+            ..WHOLE
+        };
+        check(
+            rt,
+            alloc,
+            row,
+            "the flush fails",
+            &ends,
+            &failed_write(usize::MAX, 1, 1),
+        );
+    }
+}
+
+/// The first write or the flush fails by any error.
+fn check_each_kind<R: Threads + Wait + Abort + Sync>(rt: &R, alloc: Global, row: &Row<'_>) {
+    for kind in KINDS {
+        let failure = Failure {
+            failing: Failing::Once(0),
+            kind,
+        };
+        let ends = Ends {
+            write: failure,
+            ..WHOLE
+        };
+        check(
+            rt,
+            alloc,
+            row,
+            "the write fails once",
+            &ends,
+            &failed_write(0, 1, 0),
+        );
+        let ends = Ends {
+            flush: failure,
+            ..WHOLE
+        };
+        check(
+            rt,
+            alloc,
+            row,
+            "the flush fails once",
+            &ends,
+            &failed_write(usize::MAX, 1, 1),
+        );
+    }
+}
+
+/// A writer that takes nothing of some piece, how many bytes it took before, and how often it was called.
 struct Refusal {
-    sizes: &'static [usize],
-    taken: &'static [u8],
+    taken: Pieces,
+    written: usize,
     writes: usize,
 }
 
 const REFUSALS: [Refusal; 4] = [
     Refusal {
-        sizes: &[0],
-        taken: b"",
+        taken: Pieces::Listed(&[0]),
+        written: 0,
         writes: 1,
     },
     Refusal {
-        sizes: &[0, 1000],
-        taken: b"",
+        taken: Pieces::Listed(&[0, 1000]),
+        written: 0,
         writes: 1,
     },
     Refusal {
-        sizes: &[10, 0],
-        taken: b"cpu 0\npick",
+        taken: Pieces::Listed(&[10, 0]),
+        written: 10,
         writes: 2,
     },
     Refusal {
-        sizes: &[10, 0, 1000],
-        taken: b"cpu 0\npick",
+        taken: Pieces::Listed(&[10, 0, 1000]),
+        written: 10,
         writes: 2,
     },
 ];
 
-#[test]
-fn a_write_that_takes_nothing_is_the_last(rt: HostRuntime) -> Result<(), Fail> {
-    let alloc = rt.alloc();
-    for row in &ROWS {
-        for refusal in &REFUSALS {
-            let writer = PieceWriter {
-                pieces: Pieces::Listed(refusal.sizes),
-                ..PieceWriter::whole(alloc)
-            };
-            let reader = PieceReader::whole(row.workload);
-            let run = run_between(&rt, alloc, row.command, reader, writer);
-            check_failed_write(&rt, alloc, &run, refusal.taken, row.name)?;
-            assert!(rt; run.writer.writes.count == refusal.writes, "{}", row.name);
-            assert!(rt; run.writer.flushes.count == 0, "{}", row.name);
-        }
-    }
-    Ok(())
-}
-
-#[test]
-fn a_flush_can_fail(rt: HostRuntime) -> Result<(), Fail> {
-    let alloc = rt.alloc();
-    for row in &ROWS {
-        for failing in [Failing::From(0), Failing::Once(0)] {
-            let writer = PieceWriter {
-                flushes: Calls::new(failing, ErrorKind::BrokenPipe),
-                ..PieceWriter::whole(alloc)
-            };
-            let reader = PieceReader::whole(row.workload);
-            let run = run_between(&rt, alloc, row.command, reader, writer);
-            check_failed_write(&rt, alloc, &run, row.printed.as_bytes(), row.name)?;
-            assert!(rt; run.writer.writes.count == 1 && run.writer.flushes.count == 1);
-        }
-    }
-    Ok(())
-}
-
-#[test]
-fn a_write_or_a_flush_can_fail_by_any_error(rt: HostRuntime) -> Result<(), Fail> {
-    let alloc = rt.alloc();
-    for row in &ROWS {
-        for kind in KINDS {
-            let writer = PieceWriter {
-                writes: Calls::new(Failing::Once(0), kind),
-                ..PieceWriter::whole(alloc)
-            };
-            let reader = PieceReader::whole(row.workload);
-            let run = run_between(&rt, alloc, row.command, reader, writer);
-            check_failed_write(&rt, alloc, &run, b"", row.name)?;
-            assert!(rt; run.writer.writes.count == 1 && run.writer.flushes.count == 0);
-            let writer = PieceWriter {
-                flushes: Calls::new(Failing::Once(0), kind),
-                ..PieceWriter::whole(alloc)
-            };
-            let reader = PieceReader::whole(row.workload);
-            let run = run_between(&rt, alloc, row.command, reader, writer);
-            check_failed_write(&rt, alloc, &run, row.printed.as_bytes(), row.name)?;
-            assert!(rt; run.writer.writes.count == 1 && run.writer.flushes.count == 1);
-        }
-    }
-    Ok(())
-}
-
-#[test]
-fn a_writer_can_take_a_byte_a_call(rt: HostRuntime) {
-    let alloc = rt.alloc();
-    for row in &ROWS {
-        let writer = PieceWriter {
-            pieces: Pieces::Listed(SINGLE_BYTES),
-            ..PieceWriter::whole(alloc)
+/// A write that takes nothing is the last.
+fn check_refusals<R: Threads + Wait + Abort + Sync>(rt: &R, alloc: Global, row: &Row<'_>) {
+    for refusal in &REFUSALS {
+        let ends = Ends {
+            taken: refusal.taken,
+            ..WHOLE
         };
-        let run = run_between(
-            &rt,
-            alloc,
-            row.command,
-            PieceReader::whole(row.workload),
-            writer,
-        );
-        check_report(&rt, &run, row);
-        assert!(rt;
-            run.writer.writes.count == row.printed.len(),
-            "{}",
-            row.name
-        );
+        let wanted = failed_write(refusal.written, refusal.writes, 0);
+        check(rt, alloc, row, "nothing is taken", &ends, &wanted);
     }
 }
 
 #[test]
-fn a_writer_can_take_drawn_pieces(rt: HostRuntime) {
+fn each_write_and_each_flush_can_fail(rt: HostRuntime) {
     let alloc = rt.alloc();
-    for seed in 1..=20 {
-        for row in &ROWS {
-            let writer = PieceWriter {
-                pieces: Pieces::drawn(seed),
-                ..PieceWriter::whole(alloc)
-            };
-            let run = run_between(
-                &rt,
-                alloc,
-                row.command,
-                PieceReader::whole(row.workload),
-                writer,
-            );
-            check_report(&rt, &run, row);
-        }
+    for row in &ROWS {
+        check_each_write(&rt, alloc, row);
+        check_last_calls(&rt, alloc, row);
+        check_each_kind(&rt, alloc, row);
+        check_refusals(&rt, alloc, row);
+        let ends = Ends {
+            taken: SINGLE_BYTES,
+            ..WHOLE
+        };
+        let wanted = Wanted {
+            writes: Some(row.printed.len()),
+            ..REPORT
+        };
+        check(&rt, alloc, row, "a byte a call is taken", &ends, &wanted);
     }
 }

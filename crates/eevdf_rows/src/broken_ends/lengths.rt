@@ -1,0 +1,34 @@
+//! Workloads of more bytes than there may be.
+
+use super::engine_run::{FAILED_READ, WHOLE, Wanted, check};
+use super::workloads::Row;
+use crate::commands::SOLO;
+use eevdf_bench::{BenchFault, LoadFault, read_workload};
+use std::test::Fail;
+
+/// So many bytes a workload may have.
+const MOST: usize = 16_777_216;
+
+/// A longer workload is refused by the call; and a reader of more bytes is read to one byte more, and no further.
+#[test]
+fn a_longer_workload_is_refused(rt: HostRuntime) -> Result<(), Fail> {
+    let alloc = rt.alloc();
+    let mut newlines = Vec::new(alloc);
+    newlines.resize(MOST + 1, b'\n')?;
+    let fault = read_workload(alloc, &newlines).err().ok_or("fault")?;
+    assert!(rt; fault == LoadFault::TooLarge);
+    newlines.resize(MOST + 100_000, b'\n')?;
+    let row = Row {
+        name: "newlines",
+        command: SOLO,
+        workload: &newlines,
+        printed: "",
+    };
+    let wanted = Wanted {
+        result: Err(BenchFault::Load(LoadFault::TooLarge)),
+        rest: Some(99_999),
+        ..FAILED_READ
+    };
+    check(&rt, alloc, &row, "nothing fails", &WHOLE, &wanted);
+    Ok(())
+}
