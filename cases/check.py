@@ -7,6 +7,9 @@ import subprocess
 import sys
 from pathlib import Path
 
+sys.dont_write_bytecode = True
+import made
+
 CASES = Path(__file__).resolve().parent
 TOP = CASES.parent
 PROGRAM = TOP / "crates/eevdf/out/eevdf"
@@ -67,9 +70,17 @@ def check_pair(checks, path):
         checks.compare(f"{path.relative_to(TOP)} in version 2", words_of(workload), second, wanted)
 
 
+def refusal(fault):
+    return f"fault: {fault}\nstatus 1\n".encode()
+
+
+def is_report(printed):
+    return printed.startswith(b"cpu 0\n") and printed.endswith(b"status 0\n")
+
+
 def is_report_or_refusal(printed):
     if printed.endswith(b"status 0\n"):
-        return printed.startswith(b"cpu 0\n")
+        return is_report(printed)
     return bool(re.fullmatch(rb"fault: [^\n]*\nstatus 1\n", printed))
 
 
@@ -96,7 +107,69 @@ def check_beginnings(checks, path):
     for length in range(len(places)):
         begun = workload[:order.start(1)] + b",".join(places[:length]) + workload[order.end(1):]
         name = f"{path.relative_to(TOP)}, {length} places"
-        checks.compare(name, words_of(workload), begun, b"fault: order short at 0\nstatus 1\n")
+        checks.compare(name, words_of(workload), begun, refusal("order short at 0"))
+
+
+def check_deeds(checks):
+    """A script of a deed that the version has comes to a report, and one of another is refused for its first member."""
+    for versions, deeds in made.DEEDS.items():
+        for deed in deeds:
+            for version in made.CPUS:
+                printed = run(("solo",), made.whole_machine(version, script=f'script = ["{deed}"]\n'))
+                is_right = is_report(printed) if version in versions else printed == refusal("bad value at script at 0")
+                checks.look(f"the deed '{deed}' in version {version}", printed, is_right)
+
+
+def check_other_operations(checks):
+    for operation in made.NO_OPERATIONS:
+        for version in made.CPUS:
+            name = f"the operation '{operation}' in version {version}"
+            workload = made.whole_machine(version, program=f'["{operation}"]')
+            checks.compare(name, ("replay",), workload, refusal("bad value at program 0 at 0"))
+
+
+def check_longest_orders(checks):
+    """The longest order is played, and one place less is too few. A longer one is refused before its places are looked at."""
+    nobody = made.ORDERED_CPUS
+    too_long = refusal(f"order longer than {made.PLACES}")
+    rows = (
+        ("the longest order", made.LONGEST, made.report_of_longest().encode() + b"status 0\n"),
+        ("one place less", made.LONGEST[:-1], refusal(f"order short at {nobody - 1}")),
+        ("one place more", made.LONGEST + [0], too_long),
+        ("one place more, of nobody", [nobody] * (made.PLACES + 1), too_long),
+        ("the longest order, of nobody", [nobody] * made.PLACES, refusal("order at 0: no caller")),
+        ("one place less, of nobody", [nobody] * (made.PLACES - 1), refusal("order at 0: no caller")),
+    )
+    for name, order, wanted in rows:
+        checks.compare(name, ("replay",), made.picks_in_order(order), wanted)
+
+
+def check_run(checks, name, programs, tasks, cpus, count):
+    """Each task stands in one place of the report of a run; and one thread that does the history prints the same report, but for
+    the requests that are left."""
+    printed = run(("run", "--history"), (programs + tasks).encode())
+    report, script, deeds = printed.removesuffix(b"status 0\n").partition(b"script = [")
+    report = re.sub(rb"^left .*\n", b"", report, flags=re.MULTILINE)
+    placed = sorted(map(int, re.findall(rb"^(?:task|asleep) (\d+) ", report, re.MULTILINE)))
+    checks.look(f"{name}: CPUs and tasks", printed,
+                len(re.findall(rb"^cpu ", report, re.MULTILINE)) == cpus and placed == list(range(count)))
+    workload = programs.encode() + script + deeds + tasks.encode()
+    checks.compare(f"{name}: its history by one thread", ("solo",), workload, report + b"status 0\n")
+
+
+def check_runs(checks):
+    """Each drawn workload is run three times, since its threads may come in another order."""
+    for seed in range(1, 21):
+        for time in range(1, 4):
+            check_run(checks, f"the programs of seed {seed}, run {time}", *made.drawn_programs(seed))
+    check_run(checks, "the most programs", *made.most_programs())
+
+
+def check_made(checks):
+    check_deeds(checks)
+    check_other_operations(checks)
+    check_longest_orders(checks)
+    check_runs(checks)
 
 
 def main():
@@ -111,6 +184,7 @@ def main():
             check_damaged(checks, path)
         for path in ORDERED:
             check_beginnings(checks, path)
+        check_made(checks)
     print(f"{checks.passed} passed, {checks.failed} failed")
     return 0 if checks.failed == 0 else 1
 

@@ -91,38 +91,3 @@ fn version_two_knows_more_deeds(rt: HostRuntime) -> Result<(), Fail> {
     }
     Ok(())
 }
-
-const OTHERS: [&str; 22] = [
-    "",
-    "0",
-    "0 ",
-    "pick",
-    " 0 pick",
-    "00 pick",
-    "64 pick",
-    "0  pick",
-    "0 post 1",
-    "0 drain",
-    "0 pull 64",
-    "0 wake 1",
-    "0 wake 1 from",
-    "0 wake 1 by 1",
-    "0 wake 1 from 64",
-    "0 wake 1 from 1 ",
-    "0 wake 1024 from 1",
-    "0 wake from 1",
-    "0 renice 1",
-    "0 renice 1 -0",
-    "0 renice 1 20",
-    "renice 1 5",
-];
-
-#[test]
-fn other_texts_are_no_deeds(rt: HostRuntime) -> Result<(), Fail> {
-    for text in OTHERS {
-        for version in [Version::One, Version::Two] {
-            assert!(rt; deed(rt.alloc(), version, text)?.is_none(), "{text}");
-        }
-    }
-    Ok(())
-}

@@ -1,11 +1,9 @@
 //! Tests of the crates below, by their calls: the texts that the workbench reads and prints, readers and writers that fail,
-//! limits and what is past them, every order of the steps of small workloads, worked values of single calls, of a queue and of
-//! a fleet too, drawn operations of a fleet by several threads, and programs that threads run. Workloads beside what the built
-//! program prints for them stand in `cases/`.
+//! every order of the steps of small workloads, worked values of single calls, of a queue and of a fleet too, drawn operations
+//! of a fleet by several threads, and programs that threads run while a gate holds them. What the whole output of the built
+//! program shows is tested in `cases/`.
 #![tactic(auto)]
 
-#[cfg(test)]
-mod ample_memory;
 #[cfg(test)]
 mod broken_ends;
 #[cfg(test)]
@@ -24,14 +22,6 @@ mod fault_lines;
 mod fixtures;
 #[cfg(test)]
 mod fleet_calls;
-#[cfg(test)]
-mod interleavings;
-#[cfg(test)]
-mod limits;
-#[cfg(test)]
-mod long_orders;
-#[cfg(test)]
-mod many_cpus;
 #[cfg(test)]
 mod one_place;
 #[cfg(test)]

@@ -1,52 +1,92 @@
-//! Who may step next, while callers wait for each other's locks.
+//! Who may step next, and where a task stands, while callers wait for each other's locks.
 
-use crate::interleavings::PULL_UNDER_WAY;
-use eevdf_bench::{read_workload, report};
+use crate::fixtures::{cpu, task};
+use eevdf_bench::{Workload, read_workload, report};
 use eevdf_ops::CpuId;
-use eevdf_steps::{Player, StepFault};
+use eevdf_queue::TaskId;
+use eevdf_steps::{Place, Player, StepFault};
 use std::alloc::Global;
+use std::process::Abort;
 use std::test::Fail;
 
 /// Two callers each of whom pulls from the other's CPU.
 const CROSSED_PULLS: &[u8] = b"version = 1\nprogram = [[\"pull 1\"], [\"pull 0\"]]\n[[task]]\n";
 
-/// A player of the programs of a workload.
-fn player_of(alloc: Global, workload: &[u8]) -> Result<Player, Fail> {
-    let workload = read_workload(alloc, workload).ok().ok_or("workload")?;
-    Ok(Player::open(alloc, workload.setup())?)
+const CROSSED_REPORT: &str =
+    "cpu 0\npull 1: nothing\nload 1024 floor 0\ntask 0 v 0 d 3000000 lag 0\ncpu 1\npull 0: balanced\nload 0 floor 0\nscript = [\n\"0 pull 1\",\n\"1 pull 0\",\n]\n";
+
+/// A pull and two picks, with an order in which the pull goes first.
+const PULL_UNDER_WAY: &[u8] =
+    b"version = 1\norder = [1, 1, 1, 2, 1, 1, 1, 1, 2, 2, 2, 0, 0, 0, 0]\nprogram = [[\"pick\"], [\"pull 0\"], [\"pick\"]]\n[[task]]\n[[task]]\n[[task]]\n";
+
+const PULL_FIRST: [usize; 15] = [1, 1, 1, 2, 1, 1, 1, 1, 2, 2, 2, 0, 0, 0, 0];
+
+fn workload_of(alloc: Global, bytes: &[u8]) -> Result<Workload, Fail> {
+    Ok(read_workload(alloc, bytes).ok().ok_or("workload")?)
+}
+
+/// Does so many steps of a caller, which nothing is to refuse.
+fn step_on(rt: &impl Abort, player: &mut Player, caller: usize, steps: usize) {
+    for _step in 0..steps {
+        assert!(rt; player.step(caller) == Ok(()));
+    }
+}
+
+/// Both callers want the lesser lock first.
+fn crossed_pulls(rt: &impl Abort, player: &mut Player) -> Result<(), Fail> {
+    let cpu = cpu(0)?;
+    assert!(rt; player.ready() == Some(0));
+    step_on(rt, player, 0, 1);
+    assert!(rt; player.ready() == Some(0));
+    assert!(rt; player.step(1) == Err(StepFault::Blocked { cpu, holder: 0 }));
+    step_on(rt, player, 0, 6);
+    assert!(rt; player.ready() == Some(1));
+    step_on(rt, player, 1, 7);
+    assert!(rt; player.ready() == None);
+    Ok(())
 }
 
 #[test]
 fn crossed_pulls_take_the_lesser_lock_first(rt: HostRuntime) -> Result<(), Fail> {
-    let mut player = player_of(rt.alloc(), CROSSED_PULLS)?;
-    assert!(rt; player.ready() == Some(0));
-    assert!(rt; player.step(0) == Ok(()));
-    assert!(rt; player.ready() == Some(0));
-    let cpu = CpuId::new(0).ok_or("cpu")?;
-    assert!(rt; player.step(1) == Err(StepFault::Blocked { cpu, holder: 0 }));
-    for _step in 0..6 {
-        assert!(rt; player.step(0) == Ok(()));
-    }
-    assert!(rt; player.ready() == Some(1));
-    for _step in 0..7 {
-        assert!(rt; player.step(1) == Ok(()));
-    }
-    assert!(rt; player.ready() == None);
+    let workload = workload_of(rt.alloc(), CROSSED_PULLS)?;
+    let mut player = Player::open(rt.alloc(), workload.setup())?;
+    crossed_pulls(&rt, &mut player)?;
     let outcome = player.outcome().ok().ok_or("outcome")?;
     let text = report(rt.alloc(), &outcome, true)?;
-    let want =
-        "cpu 0\npull 1: nothing\nload 1024 floor 0\ntask 0 v 0 d 3000000 lag 0\ncpu 1\npull 0: balanced\nload 0 floor 0\nscript = [\n\"0 pull 1\",\n\"1 pull 0\",\n]\n";
-    assert!(rt; text.as_slice() == want.as_bytes());
+    assert!(rt; text.as_slice() == CROSSED_REPORT.as_bytes());
+    Ok(())
+}
+
+/// Where a task stands, who holds the lock of a CPU, and the load of its queue.
+fn seen(player: &Player, task: TaskId, cpu: CpuId) -> Option<(Place, Option<usize>, u64)> {
+    if player.has_task(task) && player.has_cpu(cpu) {
+        let load = player.queue(cpu).load();
+        Some((player.place_of(task), player.holder(cpu), load))
+    } else {
+        None
+    }
+}
+
+/// The caller that pulls has the task in its hand. It is ready before the one that waits for its lock.
+fn pull_under_way(rt: &impl Abort, player: &mut Player) -> Result<(), Fail> {
+    let task = task(2)?;
+    let cpu = cpu(0)?;
+    assert!(rt; player.ready() == Some(0));
+    assert!(rt; seen(player, task, cpu) == Some((Place::Runnable(cpu), None, 3072)));
+    step_on(rt, player, 1, 3);
+    assert!(rt; player.ready() == Some(1));
+    assert!(rt; seen(player, task, cpu) == Some((Place::InHand(1), Some(1), 2048)));
+    step_on(rt, player, 2, 1);
+    assert!(rt; player.step(0) == Err(StepFault::Blocked { cpu, holder: 1 }));
     Ok(())
 }
 
 #[test]
-fn the_holder_of_a_lock_is_ready_before_who_waits_for_it(rt: HostRuntime) -> Result<(), Fail> {
-    let mut player = player_of(rt.alloc(), PULL_UNDER_WAY)?;
-    assert!(rt; player.ready() == Some(0));
-    for _step in 0..3 {
-        assert!(rt; player.step(1) == Ok(()));
-    }
-    assert!(rt; player.ready() == Some(1));
-    Ok(())
+fn a_pulled_task_is_in_its_callers_hand(rt: HostRuntime) -> Result<(), Fail> {
+    let workload = workload_of(rt.alloc(), PULL_UNDER_WAY)?;
+    let setup = workload.setup();
+    assert!(rt; (setup.cpus(), setup.tasks()) == (3, 3));
+    assert!(rt; workload.order() == Some(PULL_FIRST.as_slice()));
+    let mut player = Player::open(rt.alloc(), setup)?;
+    pull_under_way(&rt, &mut player)
 }

@@ -1,0 +1,111 @@
+"""Workloads that are made and not stored, since they are many of one form, or long, or come to another report at each run."""
+
+from random import Random
+
+# So many CPUs a version allows, and so many tasks both.
+CPUS = {1: 16, 2: 64}
+TASKS = 1024
+
+# Deeds, by the versions that have them.
+DEEDS = {
+    (1, 2): ("0 tick 1", "0 tick 1000000000", "15 pick", "0 pull 15", "15 pull 0", "0 sleep 0", "0 wake 0 from 15"),
+    (2,): ("16 pick", "63 pick", "0 pull 63", "0 wake 0 from 16", "0 wake 0 from 63", "0 renice 0 0", "0 renice 0 -20",
+           "0 renice 0 19"),
+    (): ("", "0", "0 ", "pick", "0 tick", "0 tick 0", "0 tick 1000000001", "0 tick 18446744073709551615",
+         "0 tick 18446744073709551616", "0 tick +5", "0 tick -5", "0 tick  5", "0 pick ", " 0 pick", "00 pick", "0  pick",
+         "64 pick", "18446744073709551616 pick", "0 post 1", "0 drain", "0 pull 64", "0 wake 0 from 64", "0 wake 1024 from 0",
+         "0 wake 1", "0 wake 1 from", "0 wake 1 by 1", "0 wake 1 from 64", "0 wake 1 from 1 ", "0 wake 1024 from 1",
+         "0 wake from 1", "0 sleep 1024", "0 renice 0 -0", "0 renice 0 20", "0 renice 0 -21", "0 renice 1", "0 renice 1 -0",
+         "0 renice 1 20", "renice 1 5"),
+}
+
+# Texts that are operations in neither version.
+NO_OPERATIONS = (
+    "", "tick", "tick 0", "tick 1000000001", "tick 01", "tick 5 ", "yield 1", "sleep 1024", "sleep", "post -1", "post 1 2",
+    "drain ", "pull 64", "pull  1", "wake 0 from 1", "Pick", "renice", "renice 0", "renice 0 ", "renice 0 -", "renice 0 -0",
+    "renice 0 -01", "renice 0 -21", "renice 0 --1", "renice 0 - 1", "renice 0 01", "renice 0 20", "renice 0 +1",
+    "renice 0 18446744073709551616", "renice 0 -9223372036854775808", "renice 0 5 ", "renice 0 5 5", "renice 0  5",
+    "renice  0 5", "renice 1024 5", "renice -1 5", "renice 0 0x5",
+)
+
+
+def whole_machine(version, program="[]", script=""):
+    """As many CPUs and tasks as a version allows, so that what is refused isn't that a CPU or a task is missing."""
+    programs = ", ".join([program] + ["[]"] * (CPUS[version] - 1))
+    return f"version = {version}\nprogram = [{programs}]\n{script}task = [{'{}, ' * TASKS}]\n".encode()
+
+
+# The longest order: each CPU does as many picks as a program may have operations, in four steps each.
+PLACES = 1_000_000
+ORDERED_CPUS = 25
+PICKS = 10_000
+LONGEST = [caller for caller in range(ORDERED_CPUS) for _ in range(4 * PICKS)]
+
+
+def picks_in_order(order):
+    programs = ", ".join(["[" + '"pick", ' * PICKS + "]"] * ORDERED_CPUS)
+    return f"version = 2\nprogram = [{programs}]\norder = [{', '.join(map(str, order))}]\n[[task]]\n".encode()
+
+
+def report_of_longest():
+    """CPU 0 picks the one task each time, and the others pick nobody."""
+    first = "cpu 0\n" + "pick: picked 0\n" * PICKS + "load 1024 floor 0\ntask 0 v 0 d 3000000 lag 0 running\n"
+    others = (f"cpu {cpu}\n" + "pick: idle\n" * PICKS + "load 0 floor 0\n" for cpu in range(1, ORDERED_CPUS))
+    return first + "".join(others)
+
+
+# Programs that are run by threads: the text up to the tasks, that of the tasks, and how many CPUs and tasks there are.
+
+def programs_text(programs):
+    rows = ("[" + ", ".join(f'"{operation}"' for operation in program) + "],\n" for program in programs)
+    return "version = 2\nprogram = [\n" + "".join(rows) + "]\n"
+
+
+# So many tasks have their home on each CPU of a drawn workload.
+TASKS_OF_A_CPU = 3
+
+
+def drawn_operation(dice, cpu, cpus):
+    """A sleep or a change of level that names a task of the CPU itself succeeds more often."""
+    own = cpu * TASKS_OF_A_CPU + dice.randrange(TASKS_OF_A_CPU)
+    any_task = dice.randrange(cpus * TASKS_OF_A_CPU)
+    level = dice.randrange(-20, 20)
+    return dice.choice((
+        *["pick"] * 4, *[f"tick {dice.randrange(1, 0x40_0001)}"] * 3, "yield", *[f"sleep {own}"] * 2, f"sleep {any_task}",
+        f"renice {own} {level}", f"renice {any_task} {level}", *[f"post {any_task}"] * 2, *["drain"] * 3,
+        *[f"pull {dice.choice([other for other in range(cpus) if other != cpu])}"] * 2,
+    ))
+
+
+def drawn_task(dice, home):
+    """One task in four begins asleep."""
+    return (f"[[task]]\nhome = {home}\nnice = {dice.randrange(-20, 20)}\nslice = {dice.randrange(100_000, 8_488_608)}\n"
+            f"start = {dice.randrange(0x40_0000)}\nasleep = {'true' if dice.randrange(4) == 0 else 'false'}\n")
+
+
+def drawn_programs(seed):
+    """2 to 16 CPUs with three tasks each, and 100 to 200 operations of all kinds in each program."""
+    dice = Random(seed)
+    cpus = 2 + seed % 15
+    programs = [[drawn_operation(dice, cpu, cpus) for _ in range(dice.randrange(100, 201))] for cpu in range(cpus)]
+    tasks = [drawn_task(dice, home) for home in range(cpus) for _ in range(TASKS_OF_A_CPU)]
+    return programs_text(programs), "".join(tasks), cpus, len(tasks)
+
+
+# The most programs, of so many operations, with so many tasks. The first CPUs are homes, and the others have only what they pull.
+OPERATIONS = 1000
+POSTED_TASKS = 128
+HOMES = 16
+
+
+def operation_of_most(cpu, at):
+    """All kinds come in turn; posts and pulls reach all tasks and CPUs."""
+    near = (cpu + at // 8 * HOMES) % POSTED_TASKS
+    return ("pick", "tick 1000000", f"post {(cpu + at) % POSTED_TASKS}", f"pull {(cpu + 1 + at % 63) % CPUS[2]}",
+            f"renice {near} {at % 20}", "yield", f"sleep {near}", "drain")[at % 8]
+
+
+def most_programs():
+    programs = [[operation_of_most(cpu, at) for at in range(OPERATIONS)] for cpu in range(CPUS[2])]
+    tasks = "".join(f"[[task]]\nhome = {task % HOMES}\n" for task in range(POSTED_TASKS))
+    return programs_text(programs), tasks, CPUS[2], POSTED_TASKS

@@ -1,3 +1,0 @@
-//! Deeds at the limits of their numbers and past them.
-
-mod deeds;
