@@ -1,6 +1,7 @@
 #!/usr/bin/env python3
 """check.py [WORD..]: sends workloads to the built program `eevdf`, and looks whether each prints what stands in the file beside it;
-with words only those whose path has one of them. The last line is 'N passed, M failed'."""
+with words only those whose path has one of them. Without words it sends those of made.py too. The last line is
+'N passed, M failed'."""
 
 import re
 import subprocess
