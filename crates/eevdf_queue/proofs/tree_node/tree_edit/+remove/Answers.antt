@@ -2,7 +2,7 @@ use Rattle.std.proofs.Common.{◌≡◌, ◌∙◌, [], ◌∷◌, ◌++◌, tru
 use Rattle.std.specs.Prelude.{is_some, not}
 use Rattle.eevdf_queue.specs.declared.task.Task.{Task}
 use Rattle.eevdf_queue.specs.declared.tree_node.TreeNode.TheInside.{Inside}
-use Rattle.eevdf_queue.specs.TaskLists.{first_task, find_task}
+use Rattle.eevdf_queue.specs.TaskLists.{first_task}
 use Rattle.eevdf_queue.specs.TreeShape.{tasks_in}
 use Rattle.eevdf_queue.specs.TreeNodes.{tasks_of}
 use Rattle.eevdf_queue.specs.TreeChanges.{keeps_least}
