@@ -7,7 +7,7 @@ use Rattle.eevdf_queue.specs.declared.run_entry.Entry.{Entry}
 use Rattle.eevdf_queue.specs.declared.task.Task.{Task}
 use Rattle.eevdf_queue.specs.declared.tree_key.Key.{Key}
 use Rattle.eevdf_queue.specs.TaskLists.{find_task}
-use Rattle.eevdf_queue.specs.TreeKeys.{is_under, is_over}
+use Rattle.eevdf_queue.specs.TreeKeys.{is_of, is_under, is_over}
 use Rattle.eevdf_queue.specs.TreeTasks.{precedes, PrecedesAll, AreOrdered, without, first_that, IsAtDeadline}
 use Rattle.eevdf_queue.proofs.Earliest.{told}
 use Rattle.eevdf_queue.proofs.TreeOrder.{AllPrecede, left_precede, right_follow}
@@ -90,6 +90,16 @@ under_not_itself k u g p = grind (arith, ints, g.deadline, g.number, told k.dead
 
 pub over_not_itself : (k : Key) (u : Task) → HasKey k u → is_over k u ≡ true → ⊥
 over_not_itself k u g p = grind (arith, ints, g.deadline, g.number, told u.entry.d k.deadline u.number k.number)
+
+-- a key is under a task's, over it, or its own
+pub own_not_under : (k : Key) (u : Task) → is_of k u ≡ true → is_under k u ≡ false
+own_not_under k u h = grind (arith, ints, nat_tests)
+
+pub own_not_over : (k : Key) (u : Task) → is_of k u ≡ true → is_over k u ≡ false
+own_not_over k u h = grind (arith, ints, nat_tests)
+
+pub over_else : (k : Key) (u : Task) → is_of k u ≡ false → is_under k u ≡ false → is_over k u ≡ true
+over_else k u h p = grind (arith, ints, nat_tests)
 
 -- a key that is neither under nor over a task's is its own
 pub own_key : (k : Key) (u : Task) → is_under k u ≡ false → is_over k u ≡ false → HasKey k u

@@ -1,7 +1,11 @@
 -- Keys against tasks.
-use Rattle.std.specs.Prelude.{nat_lt, int_lt, Bool, ◌&&◌, ◌||◌, not}
+use Rattle.std.specs.Prelude.{nat_eq, nat_lt, int_lt, Bool, ◌&&◌, ◌||◌, not}
 use Rattle.eevdf_queue.specs.declared.task.Task.{Task}
 use Rattle.eevdf_queue.specs.declared.tree_key.Key.{Key}
+
+-- the key is a task's own
+abbrev pub is_of : Key → Task → Bool
+is_of k t = not (int_lt k.deadline t.entry.d) && (not (int_lt t.entry.d k.deadline) && nat_eq k.number t.number)
 
 -- the key comes before a task's
 abbrev pub is_under : Key → Task → Bool

@@ -14,12 +14,22 @@ pub struct Key {
 }
 
 impl Key {
+    /// Whether the key is a task's own.
+    pub fn is_of(&self, task: &Task) -> bool
+        ensures { result ≡ keys.is_of self.now task.now }
+    {
+        self.deadline == task.entry.d && self.number.get() == task.number.get()
+    }
+
     /// Whether the key comes before a task's.
     pub fn is_under(&self, task: &Task) -> bool
         ensures { result ≡ keys.is_under self.now task.now }
     {
-        self.deadline < task.entry.d
-            || self.deadline == task.entry.d && self.number.get() < task.number.get()
+        if self.deadline == task.entry.d {
+            self.number.get() < task.number.get()
+        } else {
+            self.deadline < task.entry.d
+        }
     }
 
     /// Whether the key comes after a task's.

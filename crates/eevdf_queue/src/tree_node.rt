@@ -208,13 +208,14 @@ pub fn find(link: &Option<Box<TreeNode>>, key: &Key) -> Option<Task>
     let mut at = link;
     'down: while let Some(node) = at {
         let node: &TreeNode = node;
-        if key.is_under(&node.task) {
-            at = &node.left;
-        } else if key.is_over(&node.task) {
-            at = &node.right;
-        } else {
+        if key.is_of(&node.task) {
             return Some(node.task);
         }
+        at = if key.is_under(&node.task) {
+            &node.left
+        } else {
+            &node.right
+        };
     }
     None
 }

@@ -79,24 +79,25 @@ pub fn remove(link: &mut Option<Box<TreeNode>>, key: &Key) -> Taken
 {
     let Some(root) = link else { unreachable!() };
     let root: &mut TreeNode = root;
-    let taken = if key.is_under(&root.task) {
-        remove(&mut root.left, key)
-    } else if key.is_over(&root.task) {
-        remove(&mut root.right, key)
-    } else if root.left.is_none() {
-        let sides = part_from(
-            &mut root.height,
-            &mut root.least,
-            &mut root.left,
-            &root.task,
-            &mut root.right,
-        );
-        return Taken {
-            node: replaced(link, sides.right),
-            change: TreeChange::Height,
-        };
-    } else {
+    let taken = if key.is_of(&root.task) {
+        if root.left.is_none() {
+            let sides = part_from(
+                &mut root.height,
+                &mut root.least,
+                &mut root.left,
+                &root.task,
+                &mut root.right,
+            );
+            return Taken {
+                node: replaced(link, sides.right),
+                change: TreeChange::Height,
+            };
+        }
         exchanged(&mut root.task, &mut root.left)
+    } else if key.is_under(&root.task) {
+        remove(&mut root.left, key)
+    } else {
+        remove(&mut root.right, key)
     };
     let change = correct(
         taken.change,

@@ -9,14 +9,14 @@ use Rattle.eevdf_queue.specs.TreeChanges.{keeps_least}
 use Rattle.eevdf_queue.specs.TreeLeast.{least_of}
 use Rattle.eevdf_queue.specs.TreeTasks.{without}
 use Rattle.eevdf_queue.proofs.TreeOrder.{ordered_left, ordered_right, left_alone, last_moved}
-use Rattle.eevdf_queue.proofs.TreeSearch.{find_left, find_right, find_own, placed_on, without_left, without_right, without_here}
+use Rattle.eevdf_queue.proofs.TreeSearch.{over_else, own_not_under, own_not_over, find_left, find_right, find_own, placed_on, without_left, without_right, without_here}
 use Rattle.eevdf_queue.proofs.TreeLeasts.{least-same_left, least-same_right}
 use Rattle.eevdf_queue.proofs.TreeEdits.{none_below}
 use Rattle.eevdf_queue.proofs.tree_node.tree_edit.+remove.Goals as goal
-use Rattle.eevdf_queue.proofs.tree_node.tree_edit.+remove.Goals.{then-is_under, else-is_under+then-is_over, else-is_under+else-is_over+else-is_none}
+use Rattle.eevdf_queue.proofs.tree_node.tree_edit.+remove.Goals.{then-is_of+else-is_none, else-is_of+then-is_under, else-is_of+else-is_under}
 
-pub remove-taken-requires : goal.remove-taken-requires
-remove-taken-requires t c =
+pub remove-requires : goal.remove-requires
+remove-requires t c =
     let e : tasks_in c.args.link.now ≡ tasks_of c.root.inside = cc in
     let n = ap (λ (z : List Task). length z) e in
     let f = find_left c.args.key.now (tasks_in c.args.link.now) (tasks_in c.root.inside.left) c.root.inside.task (tasks_in c.root.inside.right) e c.requires.ordered c.requires.placed (sym c.is_under.ensures ∙ c.if-is_under.true) in (
@@ -27,11 +27,11 @@ remove-taken-requires t c =
       ),
     )
 
-pub remove-requires : goal.remove-requires
-remove-requires t c =
+pub remove-requires-else-is_under : goal.remove-requires-else-is_under
+remove-requires-else-is_under t c =
     let e : tasks_in c.args.link.now ≡ tasks_of c.root.inside = cc in
     let n = ap (λ (z : List Task). length z) e in
-    let f = find_right c.args.key.now (tasks_in c.args.link.now) (tasks_in c.root.inside.left) c.root.inside.task (tasks_in c.root.inside.right) e c.requires.ordered c.requires.placed (sym c.is_over.ensures ∙ c.if-is_over.true) in (
+    let f = find_right c.args.key.now (tasks_in c.args.link.now) (tasks_in c.root.inside.left) c.root.inside.task (tasks_in c.root.inside.right) e c.requires.ordered c.requires.placed (over_else c.args.key.now c.root.inside.task (sym c.is_of.ensures ∙ c.if-is_of.false) (sym c.is_under.ensures ∙ c.if-is_under.false)) in (
       omega (arith, n, length-append {A = Task}),
       (
         ordered_right (tasks_in c.args.link.now) (tasks_in c.root.inside.left) c.root.inside.task (tasks_in c.root.inside.right) e c.requires.ordered,
@@ -42,7 +42,7 @@ remove-requires t c =
 pub returns-then-is_none-clause-task : goal.returns-then-is_none-clause-task
 returns-then-is_none-clause-task t c =
     let e : tasks_in c.args.link.now ≡ tasks_of c.root.inside = cc in
-    find_own c.args.key.now (tasks_in c.args.link.now) (tasks_in c.root.inside.left) c.root.inside.task (tasks_in c.root.inside.right) e c.requires.ordered c.requires.placed (sym c.is_under.ensures ∙ c.if-is_under.false) (sym c.is_over.ensures ∙ c.if-is_over.false)
+    find_own c.args.key.now (tasks_in c.args.link.now) (tasks_in c.root.inside.left) c.root.inside.task (tasks_in c.root.inside.right) e c.requires.ordered c.requires.placed (own_not_under c.args.key.now c.root.inside.task (sym c.is_of.ensures ∙ c.if-is_of.true)) (own_not_over c.args.key.now c.root.inside.task (sym c.is_of.ensures ∙ c.if-is_of.true))
     ∙ ap Some (sym (left_alone (first_task c.replaced.result.value.tasks) c.root.inside.task (tasks_in c.part_from-sides.new.left) (tasks_in c.part_from-sides.new.right) c.replaced.ensures.task (ap tasks_in c.part_from-sides.ensures.no_left)))
 
 pub returns-then-is_none-clause-rest : goal.returns-then-is_none-clause-rest
@@ -52,48 +52,48 @@ returns-then-is_none-clause-rest t c =
     c.replaced.ensures.tasks
     ∙ c.part_from-sides.ensures.right
     ∙ sym (ap (λ (z : List Task). z ++ tasks_in c.root.inside.right) n)
-    ∙ sym (without_here c.args.key.now (tasks_in c.args.link.now) (tasks_in c.root.inside.left) c.root.inside.task (tasks_in c.root.inside.right) e c.requires.ordered c.requires.placed (sym c.is_under.ensures ∙ c.if-is_under.false) (sym c.is_over.ensures ∙ c.if-is_over.false))
+    ∙ sym (without_here c.args.key.now (tasks_in c.args.link.now) (tasks_in c.root.inside.left) c.root.inside.task (tasks_in c.root.inside.right) e c.requires.ordered c.requires.placed (own_not_under c.args.key.now c.root.inside.task (sym c.is_of.ensures ∙ c.if-is_of.true)) (own_not_over c.args.key.now c.root.inside.task (sym c.is_of.ensures ∙ c.if-is_of.true)))
 
 pub correct-change-requires-clause-kept_least : goal.correct-change-requires-clause-kept_least
 correct-change-requires-clause-kept_least t c = λ h.
-    elim c.if-is_under.branch [
-      | then-is_under w ↦
+    elim c.if-is_of.branch [
+      | else-is_of+then-is_under w ↦
           let k = sym (ap (λ z. keeps_least z.change) w.taken-is) ∙ h in
           subst (λ (a : Inside). a.least ≡ least_of (tasks_of a)) (sym w.root-inside-is)
-          (c.root.invariant.least ∙ sym (least-same_left (tasks_in c.root.inside.left) (tasks_in w.remove-taken.new.link) c.root.inside.task (tasks_in c.root.inside.right) (w.remove-taken.ensures.same_least k)))
-      | else-is_under+then-is_over w ↦
+          (c.root.invariant.least ∙ sym (least-same_left (tasks_in c.root.inside.left) (tasks_in w.remove.new.link) c.root.inside.task (tasks_in c.root.inside.right) (w.remove.ensures.same_least k)))
+      | else-is_of+else-is_under w ↦
           let k = sym (ap (λ z. keeps_least z.change) w.taken-is) ∙ h in
           subst (λ (a : Inside). a.least ≡ least_of (tasks_of a)) (sym w.root-inside-is)
-          (c.root.invariant.least ∙ sym (least-same_right (tasks_in c.root.inside.left) c.root.inside.task (tasks_in c.root.inside.right) (tasks_in w.remove.new.link) (w.remove.ensures.same_least k)))
-      | else-is_under+else-is_over+else-is_none w ↦
+          (c.root.invariant.least ∙ sym (least-same_right (tasks_in c.root.inside.left) c.root.inside.task (tasks_in c.root.inside.right) (tasks_in w.remove-else-is_under.new.link) (w.remove-else-is_under.ensures.same_least k)))
+      | then-is_of+else-is_none w ↦
           let k = sym (ap (λ z. keeps_least z.change) w.taken-is) ∙ h in
-          absurd (let n : false ≡ true = sym w.exchanged.ensures.other_least ∙ k in cc)
+          absurd (let n : false ≡ true = sym w.exchanged-taken.ensures.other_least ∙ k in cc)
     ]
 
 pub returns-clause-task : goal.returns-clause-task
 returns-clause-task t c =
     let e : tasks_in c.args.link.now ≡ tasks_of c.root.inside = cc in
-    elim c.if-is_under.branch [
-      | then-is_under w ↦
-          find_left c.args.key.now (tasks_in c.args.link.now) (tasks_in c.root.inside.left) c.root.inside.task (tasks_in c.root.inside.right) e c.requires.ordered c.requires.placed (sym c.is_under.ensures ∙ w.if-is_under.true) ∙ w.remove-taken.ensures.task ∙ ap (λ z. Some (first_task z.node.value.tasks)) (sym w.taken-is)
-      | else-is_under+then-is_over w ↦
-          find_right c.args.key.now (tasks_in c.args.link.now) (tasks_in c.root.inside.left) c.root.inside.task (tasks_in c.root.inside.right) e c.requires.ordered c.requires.placed (sym w.is_over.ensures ∙ w.if-is_over.true) ∙ w.remove.ensures.task ∙ ap (λ z. Some (first_task z.node.value.tasks)) (sym w.taken-is)
-      | else-is_under+else-is_over+else-is_none w ↦
-          find_own c.args.key.now (tasks_in c.args.link.now) (tasks_in c.root.inside.left) c.root.inside.task (tasks_in c.root.inside.right) e c.requires.ordered c.requires.placed (sym c.is_under.ensures ∙ w.if-is_under.false) (sym w.is_over.ensures ∙ w.if-is_over.false) ∙ ap Some (sym w.exchanged.ensures.own) ∙ ap (λ z. Some (first_task z.node.value.tasks)) (sym w.taken-is)
+    elim c.if-is_of.branch [
+      | else-is_of+then-is_under w ↦
+          find_left c.args.key.now (tasks_in c.args.link.now) (tasks_in c.root.inside.left) c.root.inside.task (tasks_in c.root.inside.right) e c.requires.ordered c.requires.placed (sym w.is_under.ensures ∙ w.if-is_under.true) ∙ w.remove.ensures.task ∙ ap (λ z. Some (first_task z.node.value.tasks)) (sym w.taken-is)
+      | else-is_of+else-is_under w ↦
+          find_right c.args.key.now (tasks_in c.args.link.now) (tasks_in c.root.inside.left) c.root.inside.task (tasks_in c.root.inside.right) e c.requires.ordered c.requires.placed (over_else c.args.key.now c.root.inside.task (sym c.is_of.ensures ∙ w.if-is_of.false) (sym w.is_under.ensures ∙ w.if-is_under.false)) ∙ w.remove-else-is_under.ensures.task ∙ ap (λ z. Some (first_task z.node.value.tasks)) (sym w.taken-is)
+      | then-is_of+else-is_none w ↦
+          find_own c.args.key.now (tasks_in c.args.link.now) (tasks_in c.root.inside.left) c.root.inside.task (tasks_in c.root.inside.right) e c.requires.ordered c.requires.placed (own_not_under c.args.key.now c.root.inside.task (sym c.is_of.ensures ∙ w.if-is_of.true)) (own_not_over c.args.key.now c.root.inside.task (sym c.is_of.ensures ∙ w.if-is_of.true)) ∙ ap Some (sym w.exchanged-taken.ensures.own) ∙ ap (λ z. Some (first_task z.node.value.tasks)) (sym w.taken-is)
     ]
 
 pub returns-clause-rest : goal.returns-clause-rest
 returns-clause-rest t c =
     let e : tasks_in c.args.link.now ≡ tasks_of c.root.inside = cc in
-    let rest : tasks_of c.if-is_under.root-inside ≡ without c.args.key.now.number (tasks_in c.args.link.now) =
-    elim c.if-is_under.branch [
-      | then-is_under w ↦
-          ap tasks_of w.root-inside-is ∙ ap (λ z. z ++ c.root.inside.task ∷ tasks_in c.root.inside.right) w.remove-taken.ensures.rest ∙ sym (without_left c.args.key.now (tasks_in c.args.link.now) (tasks_in c.root.inside.left) c.root.inside.task (tasks_in c.root.inside.right) e c.requires.ordered c.requires.placed c.requires.here (sym c.is_under.ensures ∙ w.if-is_under.true))
-      | else-is_under+then-is_over w ↦
-          ap tasks_of w.root-inside-is ∙ ap (λ z. tasks_in c.root.inside.left ++ c.root.inside.task ∷ z) w.remove.ensures.rest ∙ sym (without_right c.args.key.now (tasks_in c.args.link.now) (tasks_in c.root.inside.left) c.root.inside.task (tasks_in c.root.inside.right) e c.requires.ordered c.requires.placed (sym w.is_over.ensures ∙ w.if-is_over.true))
-      | else-is_under+else-is_over+else-is_none w ↦
+    let rest : tasks_of c.if-is_of.root-inside ≡ without c.args.key.now.number (tasks_in c.args.link.now) =
+    elim c.if-is_of.branch [
+      | else-is_of+then-is_under w ↦
+          ap tasks_of w.root-inside-is ∙ ap (λ z. z ++ c.root.inside.task ∷ tasks_in c.root.inside.right) w.remove.ensures.rest ∙ sym (without_left c.args.key.now (tasks_in c.args.link.now) (tasks_in c.root.inside.left) c.root.inside.task (tasks_in c.root.inside.right) e c.requires.ordered c.requires.placed c.requires.here (sym w.is_under.ensures ∙ w.if-is_under.true))
+      | else-is_of+else-is_under w ↦
+          ap tasks_of w.root-inside-is ∙ ap (λ z. tasks_in c.root.inside.left ++ c.root.inside.task ∷ z) w.remove-else-is_under.ensures.rest ∙ sym (without_right c.args.key.now (tasks_in c.args.link.now) (tasks_in c.root.inside.left) c.root.inside.task (tasks_in c.root.inside.right) e c.requires.ordered c.requires.placed (over_else c.args.key.now c.root.inside.task (sym c.is_of.ensures ∙ w.if-is_of.false) (sym w.is_under.ensures ∙ w.if-is_under.false)))
+      | then-is_of+else-is_none w ↦
           ap tasks_of w.root-inside-is
-          ∙ last_moved (tasks_in c.root.inside.left) (tasks_in w.exchanged.new.left) w.exchanged.new.task (tasks_in c.root.inside.right) w.exchanged.ensures.tasks
-          ∙ sym (without_here c.args.key.now (tasks_in c.args.link.now) (tasks_in c.root.inside.left) c.root.inside.task (tasks_in c.root.inside.right) e c.requires.ordered c.requires.placed (sym c.is_under.ensures ∙ w.if-is_under.false) (sym w.is_over.ensures ∙ w.if-is_over.false))
+          ∙ last_moved (tasks_in c.root.inside.left) (tasks_in w.exchanged-taken.new.left) w.exchanged-taken.new.task (tasks_in c.root.inside.right) w.exchanged-taken.ensures.tasks
+          ∙ sym (without_here c.args.key.now (tasks_in c.args.link.now) (tasks_in c.root.inside.left) c.root.inside.task (tasks_in c.root.inside.right) e c.requires.ordered c.requires.placed (own_not_under c.args.key.now c.root.inside.task (sym c.is_of.ensures ∙ w.if-is_of.true)) (own_not_over c.args.key.now c.root.inside.task (sym c.is_of.ensures ∙ w.if-is_of.true)))
     ] in
     c.correct-change.ensures.tasks ∙ rest
