@@ -6,6 +6,7 @@ one copy of the crate and tried by one check, since a function is proved from th
 their bodies. One that such a check doesn't say enough of is tried once more by itself. The last line is 'N passed, M failed'."""
 
 import argparse
+import math
 import os
 import re
 import shutil
@@ -32,8 +33,8 @@ from crate_copies import (  # noqa: E402
     wait_for_other_runs,
 )
 
-# The most wrong bodies that one check tries.
-MOST = 16
+# How many wrong bodies one check tries at most; a few more where one function has many.
+MOST = 22
 # The memory that must be free, in bytes, for a check to be begun beside another.
 MEMORY = 5 << 30
 
@@ -124,29 +125,27 @@ def try_group(crate, edits):
     """Each of the edits with whether it is refused in its function, and what is said of it."""
     refused, error = try_together(crate, edits)
     told = [(edit, True, refused[edit.refused]) for edit in edits if edit.refused in refused]
-    for edit in edits:
-        if edit.refused in refused:
-            continue
-        if len(edits) > 1:
-            told += try_group(crate, [edit])
-        else:
-            told.append((edit, False, f"not refused in {edit.refused}, but: {error}"))
+    rest = [edit for edit in edits if edit.refused not in refused]
+    if len(edits) == 1:
+        return told or [(edit, False, f"not refused in {edit.refused}, but: {error}") for edit in rest]
+    # a check that refuses none of them has ended before it reached any
+    size = 1 if told else (len(rest) + 1) // 2
+    for start in range(0, len(rest), size):
+        told += try_group(crate, rest[start : start + size])
     return told
 
 
 def groups_of(crate, edits):
     """The edits in groups that are tried together: no two of one function, and by itself each that changes more than a body."""
-    groups, alone = [], []
-    for edit in edits:
-        if not is_in_its_function(edit, folder_of(crate)):
-            alone.append([edit])
-            continue
-        for group in groups:
-            if len(group) < MOST and edit.refused not in (other.refused for other in group):
-                group.append(edit)
-                break
-        else:
-            groups.append([edit])
+    together = [edit for edit in edits if is_in_its_function(edit, folder_of(crate))]
+    alone = [[edit] for edit in edits if edit not in together]
+    groups = [[] for _ in range(math.ceil(len(together) / MOST))]
+    for edit in together:
+        free = [group for group in groups if edit.refused not in (other.refused for other in group)]
+        if not free:
+            groups.append([])
+            free = groups[-1:]
+        min(free, key=len).append(edit)
     return groups + alone
 
 
