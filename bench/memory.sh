@@ -6,11 +6,11 @@
 set -eu
 cd "$(dirname "$0")/.."
 program=$PWD/crates/fleet_bench/out/fleet_bench
-./launch fleet_bench fleet 1 1 1 own 1 >/dev/null
+./launch fleet_bench fleet 1 1 1 own 1 1 >/dev/null
 
 # How often the program asks for memory with so many tasks.
 requests() {
-  valgrind "$program" fleet 1 2 "$1" own 0 2>&1 | awk '/total heap usage/ { gsub(",", "", $5); print $5 }'
+  valgrind "$program" fleet 1 2 "$1" own 0 42 2>&1 | awk '/total heap usage/ { gsub(",", "", $5); print $5 }'
 }
 
 status=0

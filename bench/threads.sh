@@ -23,14 +23,14 @@ threads=(1 2 4)
 mixes=("$@")
 [ $# -gt 0 ] || mixes=(own wakes pulls)
 
-./launch fleet_bench fleet 1 1 1 own 1 >/dev/null
+./launch fleet_bench fleet 1 1 1 own 1 1 >/dev/null
 
 profile=$(mktemp)
 trap 'rm -f "$profile"' EXIT
 
-# The words of a run: its way, threads, mix and operations a thread.
+# The words of a run of seed 42: its way, threads, mix and operations a thread.
 words() {
-  echo "$1 $2 $cpus_a_thread $(($2 * cpus_a_thread * tasks_a_cpu)) $3 $4"
+  echo "$1 $2 $cpus_a_thread $(($2 * cpus_a_thread * tasks_a_cpu)) $3 $4 42"
 }
 
 # The shortest wall time of several runs, in microseconds.

@@ -1,7 +1,7 @@
 //! Tests of the crates below, by their calls: the texts that the workbench reads and prints, readers and writers that fail,
-//! every order of the steps of small workloads, worked values of single calls, of a queue and of a fleet too, drawn operations
-//! of a fleet by several threads, and programs that threads run while a gate holds them. What the whole output of the built
-//! program shows is tested in `cases/`.
+//! every order of the steps of small workloads, worked values of single calls, of a queue and of a fleet too, and programs that
+//! threads run while a gate holds them. What the whole output of the built program shows is tested in `cases/`, and drawn
+//! operations of a fleet by several threads are compared with those of one by `fleet_bench`.
 #![tactic(auto)]
 
 #[cfg(test)]
@@ -23,8 +23,6 @@ mod fixtures;
 #[cfg(test)]
 mod fleet_calls;
 #[cfg(test)]
-mod one_place;
-#[cfg(test)]
 mod one_thread_again;
 #[cfg(test)]
 mod operation_texts;
@@ -38,8 +36,6 @@ mod ready_callers;
 mod report_texts;
 #[cfg(test)]
 mod same_end;
-#[cfg(test)]
-mod stress;
 #[cfg(test)]
 mod threads;
 #[cfg(test)]

@@ -16,6 +16,8 @@ pub struct AskedRun {
     pub mix: Mix,
     /// How many operations each thread does.
     pub operations: u64,
+    /// What the tasks and the operations are drawn from.
+    pub seed: u64,
     pub ghost threads_some: { 0 < threads },
     pub ghost cpus_some: { 0 < cpus_a_thread },
     pub ghost cpus_few: { threads * cpus_a_thread ≤ 64 },
@@ -29,7 +31,7 @@ pub struct AskedRun {
 pub enum WordFault {
     #[error("the words can't be read")]
     Unread,
-    #[error("six words are wanted")]
+    #[error("seven words are wanted")]
     Count,
     #[error("WAY is fleet, check or solo")]
     Way,
@@ -37,16 +39,18 @@ pub enum WordFault {
     Cpus,
     #[error("TASKS is a number from 1 to 1024")]
     Tasks,
-    #[error("MIX is own, wakes or pulls")]
+    #[error("MIX is own, wakes, pulls or all")]
     Mix,
     #[error("OPERATIONS is a number up to 400000")]
     Operations,
+    #[error("SEED is a number")]
+    Seed,
 }
 
 impl AskedRun {
     /// The run that the words ask for, of which the first is the program's name.
     pub fn of(words: &[String]) -> Result<AskedRun, WordFault> {
-        if words.len() != 7 {
+        if words.len() != 8 {
             return Err(WordFault::Count);
         }
         let way = Way::of(words[1].as_str()).ok_or(WordFault::Way)?;
@@ -58,6 +62,9 @@ impl AskedRun {
         let tasks = count_of(words[4].as_str(), 1024).ok_or(WordFault::Tasks)?;
         let mix = Mix::of(words[5].as_str()).ok_or(WordFault::Mix)?;
         let operations = operations_of(words[6].as_str()).ok_or(WordFault::Operations)?;
+        let Ok(seed) = words[7].as_str().parse::<u64>() else {
+            return Err(WordFault::Seed);
+        };
         Ok(AskedRun {
             way,
             threads,
@@ -65,6 +72,7 @@ impl AskedRun {
             tasks,
             mix,
             operations,
+            seed,
         })
     }
 

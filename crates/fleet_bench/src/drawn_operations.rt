@@ -1,8 +1,8 @@
-ghost use Rattle.std.specs.Prelude.{◌<◌, ◌≤◌};
+ghost use Rattle.std.specs.Prelude.{◌≢◌, ◌<◌, ◌≤◌};
 
 use crate::asked_run::AskedRun;
-use crate::draws::Draws;
 use crate::mix::Mix;
+use drawn_values::Draws;
 use eevdf_ops::{Answer, CpuId, Op};
 use eevdf_queue::TaskId;
 
@@ -24,7 +24,7 @@ impl DrawnOperations {
         requires { thread < 64 }
     {
         DrawnOperations {
-            draws: Draws::new(thread + 1),
+            draws: Draws::new(run.seed, thread as u64 + 1),
             mix: run.mix,
             cpus: run.cpus(),
             tasks: run.tasks,
@@ -38,6 +38,7 @@ impl DrawnOperations {
             Mix::Own => self.own(kind < 8),
             Mix::Wakes => self.waking(kind, running),
             Mix::Pulls => self.pulling(kind, cpu, running),
+            Mix::All => self.any(kind, cpu, running),
         }
     }
 
@@ -53,7 +54,7 @@ impl DrawnOperations {
     fn waking(&mut self, kind: u64, running: Option<TaskId>) -> Op {
         match kind {
             0..4 => Op::Drain,
-            4..7 => Op::Post(self.draws.task(self.tasks)),
+            4..7 => Op::Post(self.task()),
             7 => running.map_or(Op::Pick, |task| Op::Sleep(task)),
             _ => self.own(kind < 12),
         }
@@ -62,10 +63,44 @@ impl DrawnOperations {
     /// Without the new levels the loads would soon be level, and no pull would move a task.
     fn pulling(&mut self, kind: u64, cpu: CpuId, running: Option<TaskId>) -> Op {
         match (kind, running) {
-            (0..2, _) if 1 < self.cpus => Op::Pull(self.draws.other_cpu(self.cpus, cpu)),
+            (0..2, _) if 1 < self.cpus => Op::Pull(self.other_cpu(cpu)),
             (2, Some(task)) => Op::Renice(task, self.draws.nice()),
             _ => self.own(kind < 9),
         }
+    }
+
+    /// There are more posts than sleeps, since most of them find their task awake.
+    fn any(&mut self, kind: u64, cpu: CpuId, running: Option<TaskId>) -> Op {
+        match kind {
+            0 => Op::Yield,
+            1 => Op::Sleep(running.unwrap_or(self.task())),
+            2 => Op::Sleep(self.task()),
+            3 => Op::Renice(running.unwrap_or(self.task()), self.draws.nice()),
+            4 => Op::Renice(self.task(), self.draws.nice()),
+            5..8 => Op::Post(self.task()),
+            8..10 => Op::Drain,
+            10..12 if 1 < self.cpus => Op::Pull(self.other_cpu(cpu)),
+            _ => self.own(kind < 13),
+        }
+    }
+
+    /// One of the tasks.
+    fn task(&mut self) -> TaskId {
+        self.draws.task(self.tasks as u64)
+    }
+
+    /// One of the CPUs other than this one.
+    fn other_cpu(&mut self, cpu: CpuId) -> CpuId
+        requires { 1 < self.old.cpus }
+        ensures { result ≢ cpu }
+    {
+        let number = self.draws.below(self.cpus as u64 - 1);
+        let other = if number < cpu.get() {
+            number
+        } else {
+            number + 1
+        };
+        CpuId::new(other).unwrap()
     }
 }
 

@@ -6,6 +6,7 @@ ghost use Rattle.eevdf_fleet.specs.Fleets.{setup_of};
 use crate::agreement::agrees;
 use crate::asked_run::AskedRun;
 use crate::mix::Mix;
+use crate::one_place::all_stand_once;
 use crate::run_fault::RunFault;
 use crate::run_report::Report;
 use crate::thread_seats::{done_by, seats_by_thread, seats_of};
@@ -56,7 +57,7 @@ fn report_of<N: Names + Send + Sync, R: Threads + Wait + Sync>(
     }
     let outcome = fleet.close(seats);
     let agrees = if run.way == Way::Check {
-        Some(agrees(alloc, setup, &outcome)?)
+        Some(agrees(alloc, setup, &outcome)? && all_stand_once(&outcome, run.tasks as u64))
     } else {
         None
     };
@@ -72,6 +73,8 @@ fn quota(run: &AskedRun) -> usize
     match run.mix {
         Mix::Own | Mix::Pulls => own,
         Mix::Wakes => 2 * own + 128,
+        // a drain may take a line for each CPU
+        Mix::All => (own * run.cpus()).min(1_000_000),
     }
 }
 
@@ -80,5 +83,8 @@ fn rings(run: &AskedRun) -> usize
     ensures some { 1 ≤ result }
     ensures few { result ≤ 1000000 }
 {
-    quota(run).min(4096)
+    match run.mix {
+        Mix::All => 4,
+        _ => quota(run).min(4096),
+    }
 }

@@ -1,15 +1,15 @@
-//! What the operations of a fleet cost: `fleet_bench WAY THREADS CPUS_A_THREAD TASKS MIX OPERATIONS` lets each of so
-//! many threads do so many drawn operations of a mix, each on its own CPUs, and prints how many were done.
-//! `bench/threads.sh` measures it.
+//! What the operations of a fleet cost: `fleet_bench WAY THREADS CPUS_A_THREAD TASKS MIX OPERATIONS SEED` lets each of
+//! so many threads do so many operations of a mix, drawn from a seed, each on its own CPUs, and prints how many were done.
+//! `bench/threads.sh` measures it, and `bench/agreement.sh` compares such runs with those of one thread.
 #![tactic(auto)]
 
 mod agreement;
 mod asked_run;
 mod drawn_operations;
 mod drawn_setup;
-mod draws;
 mod fleet_run;
 mod mix;
+mod one_place;
 mod run_fault;
 mod run_report;
 mod solo_bench;
@@ -58,7 +58,7 @@ fn outcome_of<R: Threads + Wait + Sync>(
     alloc: Global,
     run: &AskedRun,
 ) -> Result<Report, RunFault> {
-    let setup = drawn_setup(alloc, run.cpus(), run.tasks)?;
+    let setup = drawn_setup(alloc, run)?;
     match run.way {
         Way::Fleet | Way::Check => fleet_report(rt, alloc, run, &setup),
         Way::Solo => Ok(Report {
@@ -92,7 +92,7 @@ fn print(rt: &(impl Print + Eprint), report: &Result<Report, RunFault>) -> u8 {
 /// Says what is wrong with the words, and gives the exit status.
 fn refuse(rt: &impl Eprint, fault: &WordFault) -> u8 {
     let _ = eprintln!(rt;
-        "fleet_bench: {fault}; usage: fleet_bench WAY THREADS CPUS_A_THREAD TASKS MIX OPERATIONS"
+        "fleet_bench: {fault}; usage: fleet_bench WAY THREADS CPUS_A_THREAD TASKS MIX OPERATIONS SEED"
     );
     2
 }

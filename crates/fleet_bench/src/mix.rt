@@ -7,6 +7,9 @@ pub enum Mix {
     Wakes,
     /// Ticks, picks, pulls from other CPUs, and new levels of the running task.
     Pulls,
+    /// All kinds of operations, also of tasks that don't run; a quarter of the tasks is asleep at first, and there is room for few
+    /// requests, so that some posts are refused.
+    All,
 }
 
 impl Mix {
@@ -16,6 +19,7 @@ impl Mix {
             "own" => Some(Mix::Own),
             "wakes" => Some(Mix::Wakes),
             "pulls" => Some(Mix::Pulls),
+            "all" => Some(Mix::All),
             _ => None,
         }
     }

@@ -2,9 +2,9 @@ ghost use Rattle.std.specs.Prelude.{◌<◌, ◌≤◌};
 
 use crate::answer_words::{of_renice, of_task, of_tick, of_wake, of_yield};
 use crate::checksum::Checksum;
-use crate::draws::Draws;
 use crate::sleep_ring::SleepRing;
-use crate::task_filling::fill;
+use crate::task_filling::{drawn, fill};
+use drawn_values::Draws;
 use eevdf_queue::{Queue, TaskId};
 use std::alloc::{AllocError, Global};
 
@@ -24,7 +24,7 @@ impl BenchQueue {
         let mut bench = BenchQueue {
             queue: Queue::open(),
             sleepers: SleepRing::new(tasks),
-            draws: Draws::new(),
+            draws: drawn(),
             checksum: Checksum::new(),
         };
         fill(alloc, &mut bench.queue, &mut bench.draws, tasks)?;

@@ -6,7 +6,6 @@ mod answer_words;
 mod asked_run;
 mod bench_queue;
 mod checksum;
-mod draws;
 mod mix;
 mod pull_queues;
 mod sleep_ring;

@@ -5,8 +5,7 @@ ghost use Rattle.queue_bench.specs.Apart.{AreApart};
 
 use crate::answer_words::of_task;
 use crate::checksum::Checksum;
-use crate::draws::Draws;
-use crate::task_filling::fill;
+use crate::task_filling::{drawn, fill};
 use eevdf_queue::{Parcel, Queue, TaskId};
 use std::alloc::{AllocError, Global};
 
@@ -26,7 +25,7 @@ impl PullQueues {
     {
         let mut first = Queue::open();
         let mut second = Queue::open();
-        fill(alloc, &mut first, &mut Draws::new(), tasks)?;
+        fill(alloc, &mut first, &mut drawn(), tasks)?;
         for _ in 0..tasks / 2 {
             let _ = pull(&mut first, &mut second);
         }

@@ -1,8 +1,13 @@
 ghost use Rattle.std.specs.Prelude.{◌≤◌};
 
-use crate::draws::Draws;
+use drawn_values::Draws;
 use eevdf_queue::{Parcel, Queue, TaskId};
 use std::alloc::{AllocError, Global};
+
+/// What the values of a run are drawn from.
+pub fn drawn() -> Draws {
+    Draws::new(42, 54)
+}
 
 /// Admits tasks of mixed nice levels and slices, numbered from 0.
 pub fn fill(

@@ -2,10 +2,7 @@
 
 ghost use Rattle.std.specs.Prelude.{◌≤◌};
 
-use crate::stress::draws::Draws;
-
-/// The row of draws of a reader or a writer.
-const ROW: u64 = 0;
+use drawn_values::Draws;
 
 /// Each call moves as many bytes as a buffer has room for.
 pub const ALL: Pieces = Pieces::Listed(&[usize::MAX]);
@@ -37,7 +34,7 @@ impl PieceSizes {
         };
         PieceSizes {
             pieces,
-            draws: Draws::new(seed, ROW),
+            draws: Draws::new(seed, 0),
         }
     }
 
