@@ -1,29 +1,22 @@
 -- Every order of a sound plan commits only deeds that are allowed.
 use Rattle.std.proofs.Common.{◌≡◌, ℕ, zero, suc, ◌<◌, Bool, true, false, ◌&&◌, cond, List, [], ◌∷◌, length, get_or, set, take, inl, inr, sym, subst, refl}
-use Rattle.std.proofs.lemmas.List.{get_or-set_other}
-use Rattle.std.proofs.lemmas.List.Elements.{All-take}
+use Rattle.std.proofs.lemmas.{List.get_or-set_other, List.Elements.All-take}
 use Rattle.std.proofs.lemmas.List.Sums.{AllPass-from_list_all, list_all-from_AllPass}
-use Rattle.std.specs.List.{list_all}
-use Rattle.std.specs.Option.{option_to_list}
+use Rattle.std.specs.{List.list_all, Option.option_to_list}
 use Rattle.std.specs.Prelude.{slice_get, nat_lt, ◌==◌, IfSome, Option, Some, None}
-use Rattle.eevdf_ops.specs.declared.deeds.Op.{Op}
-use Rattle.eevdf_ops.specs.declared.deeds.Deed.{Deed}
+use Rattle.eevdf_ops.specs.declared.deeds.{Op.Op, Deed.Deed}
 use Rattle.eevdf_ops.specs.Programs.{deed_of}
 use Rattle.eevdf_ops.specs.Setup.{Setup, allows, is_allowed, is_at_home}
-use Rattle.eevdf_steps.specs.declared.micro_steps.Micro.{Micro}
-use Rattle.eevdf_steps.specs.declared.micro_steps.Micro.TheVariants.{Acquire, Act, Detach, Attach, Commit, Take, Settle, Release, Post}
-use Rattle.eevdf_steps.specs.declared.program_plan.Step.{Step}
+use Rattle.eevdf_steps.specs.declared.{micro_steps.Micro.Micro, program_plan.Step.Step}
+use Rattle.eevdf_steps.specs.declared.micro_steps.Micro.TheVariants.{Commit, Take, Settle, Post}
 use Rattle.eevdf_steps.specs.Plan.{IsSound, Plan, callers, home, is_sound_op, plan_of, pulls_elsewhere}
-use Rattle.eevdf_steps.specs.MicroSteps.{steps_by}
-use Rattle.eevdf_steps.specs.Counters.{count_of, done_by, step_next}
+use Rattle.eevdf_steps.specs.{MicroSteps.steps_by, Counters.count_of, Counters.done_by, Counters.step_next}
 use Rattle.eevdf_steps.specs.Requests.{Progress, found_by, oldest, post_to, posted, posts_to, progress_at_start, progress_by, progress_step, requested, taken_of, takes}
 use Rattle.eevdf_steps.specs.Commits.{commits, committed, committed_by, deeds_committed, wake_of}
 use Rattle.eevdf_steps.specs.SoundSteps.{is_sound_micro, is_sound_step}
-use Rattle.eevdf_steps.proofs.Holders.{none_first, number_cases}
-use Rattle.eevdf_steps.proofs.Lists.{both, lt_true, true_lt}
-use Rattle.eevdf_steps.proofs.Setups.{and_true}
+use Rattle.eevdf_steps.proofs.{Holders.none_first, Holders.number_cases, Lists.both, Lists.lt_true, Lists.true_lt}
+use Rattle.eevdf_steps.proofs.{Setups.and_true, SoundDeeds.allowed_op, SoundDeeds.next_pulls_elsewhere}
 use Rattle.eevdf_steps.proofs.SoundSteps.{all_joined, all_steps_sound, is_caller, some_all, step_sound}
-use Rattle.eevdf_steps.proofs.SoundDeeds.{allowed_op, next_pulls_elsewhere}
 
 all_taken : {A : Type 0} (test : A → Bool) (xs : List A) (k : ℕ) → list_all test xs ≡ true → list_all test (take k xs) ≡ true
 all_taken test xs k all = list_all-from_AllPass test (take k xs) (All-take (λ x. test x ≡ true) k xs (AllPass-from_list_all test xs all))
@@ -48,14 +41,7 @@ post_is_for_home plan c (Post task) well = by_home (home plan task == c) refl
     by_home : (b : Bool) → (home plan task == c) ≡ b → list_all (λ (t : ℕ). is_at_home plan.homes t c) (cond b (task ∷ []) []) ≡ true
     by_home true e = and_true (is_at_home plan.homes task c) true (and_true (nat_lt task (length plan.homes)) (home plan task == c) well e) refl
     by_home false e = refl
-post_is_for_home plan c (Acquire cpu) well = refl
-post_is_for_home plan c (Release cpu) well = refl
-post_is_for_home plan c Act well = refl
-post_is_for_home plan c Detach well = refl
-post_is_for_home plan c Attach well = refl
-post_is_for_home plan c Commit well = refl
-post_is_for_home plan c (Take q) well = refl
-post_is_for_home plan c (Settle q) well = refl
+post_is_for_home plan c _ well = refl
 
 posts_are_for_home : (plan : Plan) (c : ℕ) (ss : List Step) → list_all (is_sound_step plan) ss ≡ true → list_all (λ (t : ℕ). is_at_home plan.homes t c) (posts_to plan c ss) ≡ true
 posts_are_for_home plan c [] all = refl
@@ -95,13 +81,7 @@ requested_own : (plan : Plan) (g : Progress) (x : ℕ) (m : Micro) → IsSound p
 requested_own plan g x (Take s) sound well own =
     takes_own plan g x s (oldest plan g s x) own (oldest_is_for_home plan g s x sound (true_lt s (callers plan) well))
 requested_own plan g x (Settle s) sound well own = found_next plan g.found x None own tt
-requested_own plan g x (Post task) sound well own = own
-requested_own plan g x (Acquire cpu) sound well own = own
-requested_own plan g x (Release cpu) sound well own = own
-requested_own plan g x Act sound well own = own
-requested_own plan g x Detach sound well own = own
-requested_own plan g x Attach sound well own = own
-requested_own plan g x Commit sound well own = own
+requested_own plan g x _ sound well own = own
 
 -- what is known of a step that a caller is to do
 record SoundStep (plan : Plan) (g : Progress) (x : ℕ) (s : Step) : Type 0 where
@@ -140,13 +120,7 @@ micro_allowed : (plan : Plan) (found : Option ℕ) (x : ℕ) (o : Op) (m : Micro
     → is_sound_micro plan m ≡ true → IsForHome plan x found → AllAllowed plan (option_to_list (committed found x o m))
 micro_allowed plan found x o Commit h sound pulls well own = op_allowed plan x o (deed_of x o) h sound pulls refl
 micro_allowed plan found x o (Settle s) h sound pulls well own = wake_allowed plan x s found h well own
-micro_allowed plan found x o (Take s) h sound pulls well own = refl
-micro_allowed plan found x o (Post task) h sound pulls well own = refl
-micro_allowed plan found x o (Acquire cpu) h sound pulls well own = refl
-micro_allowed plan found x o (Release cpu) h sound pulls well own = refl
-micro_allowed plan found x o Act h sound pulls well own = refl
-micro_allowed plan found x o Detach h sound pulls well own = refl
-micro_allowed plan found x o Attach h sound pulls well own = refl
+micro_allowed plan found x o _ h sound pulls well own = refl
 
 -- a step commits what is allowed, and leaves each caller with requests of its own
 step_allowed : (plan : Plan) (g : Progress) (x : ℕ) (r : Option Step) → IsSound plan → FindTheirOwn plan g → step_next plan g.counters x ≡ r

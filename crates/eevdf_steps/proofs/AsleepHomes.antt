@@ -1,37 +1,23 @@
 -- A task sleeps at its home alone, on the machines that deeds leave and while the callers work.
 use Rattle.std.proofs.Common.{◌≡◌, ℕ, Bool, true, false, cond, ◌||◌, List, [], ◌∷◌, set, refl, sym, ap, subst, ◌∙◌}
 use Rattle.std.specs.Prelude.{◌==◌, Option, Some, None, Result, Ok, Err}
-use Rattle.std.specs.Option.{unwrap_or}
-use Rattle.std.specs.FinMap.{contains_key}
+use Rattle.std.specs.{Option.unwrap_or, FinMap.contains_key}
 use Rattle.eevdf_queue.specs.declared.run_entry.Entry.{Entry}
-use Rattle.eevdf_queue.specs.State.{State, Contents, Sleeper}
-use Rattle.eevdf_queue.specs.Moves.{put_asleep, sleeper_of, with_runnable}
+use Rattle.eevdf_queue.specs.{State.State, State.Contents, State.Sleeper, Placing.placed_entry}
+use Rattle.eevdf_queue.specs.{Moves.put_asleep, Moves.sleeper_of, Moves.with_runnable, Wake.wake_sleeper, Wake.wake_to}
 use Rattle.eevdf_queue.specs.Leaving.{carried_running, leave, without_entry}
-use Rattle.eevdf_queue.specs.Placing.{placed_entry}
-use Rattle.eevdf_queue.specs.Wake.{wake, wake_sleeper, wake_to}
-use Rattle.eevdf_ops.specs.declared.deeds.Answer.{Answer}
-use Rattle.eevdf_ops.specs.declared.deeds.Deed.{Deed}
+use Rattle.eevdf_ops.specs.declared.deeds.{Answer.Answer, Deed.Deed, Line.Line}
 use Rattle.eevdf_ops.specs.declared.deeds.Deed.TheVariants.{Tick, Pick, Yield, Sleep, Wake, Pull, Renice}
-use Rattle.eevdf_ops.specs.declared.deeds.Line.{Line}
-use Rattle.eevdf_ops.specs.Histories.{machine_told}
-use Rattle.eevdf_ops.specs.Machine.{Machine, queue_at}
-use Rattle.eevdf_ops.specs.Parts.{after_leaving, giver, only_at}
-use Rattle.eevdf_ops.specs.Programs.{deeds_of}
-use Rattle.eevdf_ops.specs.Setup.{home_of}
-use Rattle.eevdf_ops.specs.Whole.{machine_after, whole}
+use Rattle.eevdf_ops.specs.{Histories.machine_told, Machine.Machine, Machine.queue_at, Programs.deeds_of, Setup.home_of}
+use Rattle.eevdf_ops.specs.{Parts.after_leaving, Parts.giver, Parts.only_at, Whole.machine_after, Whole.whole}
 use Rattle.eevdf_ops.specs.WholePull.{decision, load_of, offer, pull_decided, with_task}
 use Rattle.eevdf_ops.specs.WholeSleep.{sleep_carrying, task_leaves}
-use Rattle.eevdf_ops.proofs.Carried.{Carries, running-carries}
-use Rattle.eevdf_ops.proofs.MachinePlaces.{SleepsAtHome, each-set}
+use Rattle.eevdf_ops.proofs.{Carried.Carries, Carried.running-carries, MachinePlaces.SleepsAtHome, MachinePlaces.each-set}
 use Rattle.eevdf_ops.proofs.MapCounts.{contains-insert, contains-removed, equal}
 use Rattle.eevdf_ops.proofs.QueuePlaces.{pick-same, renice-same, tick-same, yield-same}
-use Rattle.eevdf_steps.specs.Counters.{Counters, holder, holds}
-use Rattle.eevdf_steps.specs.Plan.{Plan, callers}
-use Rattle.eevdf_steps.specs.Serial.{FollowsHistory, IsSerial, begun_by}
-use Rattle.eevdf_steps.specs.UnderWay.{UnderWay, leaves, queue_seen}
-use Rattle.eevdf_steps.specs.Work.{Work}
-use Rattle.eevdf_steps.proofs.Ready.{least_found}
-use Rattle.eevdf_steps.proofs.SerialSteps.{free_queue}
+use Rattle.eevdf_steps.specs.{Counters.Counters, Counters.holder, Counters.holds, Plan.Plan, Plan.callers, Work.Work}
+use Rattle.eevdf_steps.specs.{Serial.IsSerial, Serial.begun_by, UnderWay.UnderWay, UnderWay.leaves, UnderWay.queue_seen}
+use Rattle.eevdf_steps.proofs.{Ready.least_found, SerialSteps.free_queue}
 
 -- each sleeping task of a machine is at its home
 abbrev pub AllAtHome : List ℕ → Machine → Type 0

@@ -2,24 +2,18 @@
 use Rattle.std.proofs.Common.{◌≡◌, ℕ, Bool, true, false, cond, ◌||◌, List, [], length, ap, ◌∙◌, refl}
 use Rattle.std.specs.Prelude.{◌==◌, MatchOption, Option, Some, None}
 use Rattle.eevdf_queue.specs.State.{State, Contents}
-use Rattle.eevdf_ops.specs.declared.deeds.Op.{Op}
+use Rattle.eevdf_ops.specs.declared.deeds.{Op.Op, Deed.Deed, Answer.Answer}
 use Rattle.eevdf_ops.specs.declared.deeds.Op.TheVariants as op
-use Rattle.eevdf_ops.specs.declared.deeds.Deed.{Deed}
 use Rattle.eevdf_ops.specs.declared.deeds.Deed.TheVariants as deed
-use Rattle.eevdf_ops.specs.declared.deeds.Answer.{Answer}
-use Rattle.eevdf_ops.specs.Machine.{Machine, queue_at}
+use Rattle.eevdf_ops.specs.{Machine.Machine, Machine.queue_at, Whole.whole, Programs.deed_of}
 use Rattle.eevdf_ops.specs.Parts.{after_leaving, decider, given, giver, only_at, taker, touches}
 use Rattle.eevdf_ops.specs.PartsLaws as laws
-use Rattle.eevdf_ops.specs.Whole.{whole}
 use Rattle.eevdf_ops.proofs.PartsProofs.{touched_decide}
-use Rattle.eevdf_steps.specs.declared.micro_steps.Micro.{Micro}
-use Rattle.eevdf_steps.specs.declared.micro_steps.Micro.TheVariants.{Acquire, Act, Detach, Attach, Commit, Take, Settle, Release, Post}
-use Rattle.eevdf_steps.specs.declared.program_plan.Step.{Step}
-use Rattle.eevdf_steps.specs.Plan.{Plan, callers, home}
+use Rattle.eevdf_steps.specs.declared.{micro_steps.Micro.Micro, program_plan.Step.Step}
+use Rattle.eevdf_steps.specs.declared.micro_steps.Micro.TheVariants.{Attach, Commit, Post}
+use Rattle.eevdf_steps.specs.{Plan.Plan, Plan.callers, Plan.home, Serial.begun_by}
 use Rattle.eevdf_steps.specs.Counters.{Counters, counted, holds, step_next}
-use Rattle.eevdf_ops.specs.Programs.{deed_of}
 use Rattle.eevdf_steps.specs.UnderWay.{UnderWay, begun, hand_seen, leaves, leaving, queue_seen, under_way, under_way_before}
-use Rattle.eevdf_steps.specs.Serial.{begun_by}
 use Rattle.eevdf_steps.proofs.Holders.{same_number}
 use Rattle.eevdf_steps.proofs.Walks.{Covers, Fits, FitsMicro, Walk, touched}
 
@@ -84,13 +78,7 @@ standing_by plan counters p u w o Attach following f n e =
 standing_by plan counters p u w o Commit following f n e =
     let d : deed_of p o ≡ Some u.deed = begun_deed true (deed_of p o) u e in
     record { next = record { op = o; micro = Commit }; is_next = n; deed_is = d; holds_all = holds_touched plan counters p o u.deed w f.covers d }
-standing_by plan counters p u w o Act following f n e = cc
-standing_by plan counters p u w o Detach following f n e = cc
-standing_by plan counters p u w o (Take q) following f n e = cc
-standing_by plan counters p u w o (Settle q) following f n e = cc
-standing_by plan counters p u w o (Post t) following f n e = cc
-standing_by plan counters p u w o (Acquire c) following f n e = cc
-standing_by plan counters p u w o (Release c) following f n e = cc
+standing_by plan counters p u w o _ following f n e = cc
 
 standing_at : (plan : Plan) (counters : Counters) (p : ℕ) (u : UnderWay) (w : Walk plan counters p) (o : Option Step)
     → MatchOption o (w.held ≡ []) (λ s. Fits plan p w.held s (step_next plan (counted counters p) p)) → step_next plan counters p ≡ o → under_way p o ≡ Some u

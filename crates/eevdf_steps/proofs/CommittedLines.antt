@@ -3,10 +3,8 @@ use Rattle.std.specs.Prelude.{◌≡◌, ℕ, ◌<◌, ◌==◌, List, [], ◌++
 use Rattle.std.specs.Option.{option_to_list}
 use Rattle.eevdf_ops.specs.declared.deeds.Line.{Line}
 use Rattle.eevdf_ops.specs.Programs.{FitsProgram, lines_by, wakes_from}
-use Rattle.eevdf_steps.specs.declared.micro_steps.Micro.{Micro}
-use Rattle.eevdf_steps.specs.declared.micro_steps.Micro.TheVariants.{Acquire, Act, Detach, Attach, Commit, Take, Settle, Release, Post}
-use Rattle.eevdf_steps.specs.Plan.{Plan, callers, program}
-use Rattle.eevdf_steps.specs.Counters.{next}
+use Rattle.eevdf_steps.specs.declared.{micro_steps.Micro.Micro, micro_steps.Micro.TheVariants.Settle}
+use Rattle.eevdf_steps.specs.{Plan.Plan, Plan.callers, Plan.program, Counters.next}
 use Rattle.eevdf_steps.specs.Requests.{Progress, found_by, left, posted}
 
 -- the lines of each caller are its program's operations, in order and each once
@@ -16,14 +14,7 @@ FitsPrograms plan lines = (p : ℕ) → FitsProgram p (lines_by p lines) (progra
 -- the request of a sender that a step is to settle, from what was found
 abbrev pub to_settle : ℕ → Micro → Option ℕ → List ℕ
 to_settle sender (Settle q) found = if q == sender then option_to_list found else []
-to_settle sender (Take q) found = []
-to_settle sender (Post t) found = []
-to_settle sender (Acquire c) found = []
-to_settle sender (Release c) found = []
-to_settle sender Act found = []
-to_settle sender Detach found = []
-to_settle sender Attach found = []
-to_settle sender Commit found = []
+to_settle sender _ found = []
 
 abbrev pub to_settle_next : ℕ → Option Micro → Option ℕ → List ℕ
 to_settle_next sender None found = []

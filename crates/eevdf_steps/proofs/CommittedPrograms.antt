@@ -1,42 +1,30 @@
 -- The deeds that a complete order commits follow the callers' programs.
 use Rattle.std.proofs.Common.{◌≡◌, ◌≢◌, ℕ, suc, ◌+◌, ◌<◌, Bool, true, false, cond, List, [], ◌∷◌, ◌++◌, length, drop, inl, inr, sym, ap, subst, ◌∙◌, arith, refl}
 use Rattle.std.proofs.Math.ListN.{length-replicate}
-use Rattle.std.proofs.lemmas.List.{drop_all, get_or-set_same, get_or-set_other}
-use Rattle.std.proofs.lemmas.List.Elements.{filter-append}
+use Rattle.std.proofs.lemmas.{List.drop_all, List.get_or-set_same, List.get_or-set_other, List.Elements.filter-append}
 use Rattle.std.specs.Prelude.{◌==◌, IfSome, Option, Some, None}
 use Rattle.std.specs.Option.{option_to_list}
-use Rattle.eevdf_ops.specs.declared.deeds.Op.{Op}
+use Rattle.eevdf_ops.specs.declared.deeds.{Op.Op, Deed.Deed, Line.Line}
 use Rattle.eevdf_ops.specs.declared.deeds.Op.TheVariants as op
-use Rattle.eevdf_ops.specs.declared.deeds.Deed.{Deed}
-use Rattle.eevdf_ops.specs.declared.deeds.Line.{Line}
 use Rattle.eevdf_ops.specs.Parts.{decider}
 use Rattle.eevdf_ops.specs.Programs.{deed_of, deeds_by, deeds_of, lines_by}
-use Rattle.eevdf_steps.specs.declared.micro_steps.Micro.{Micro}
-use Rattle.eevdf_steps.specs.declared.micro_steps.Micro.TheVariants.{Acquire, Act, Detach, Attach, Commit, Take, Settle, Release, Post}
-use Rattle.eevdf_steps.specs.declared.program_plan.Step.{Step}
-use Rattle.eevdf_steps.specs.Plan.{Plan, callers, program}
-use Rattle.eevdf_steps.specs.MicroSteps.{steps_by}
+use Rattle.eevdf_steps.specs.declared.{micro_steps.Micro.Micro, program_plan.Step.Step}
+use Rattle.eevdf_steps.specs.declared.micro_steps.Micro.TheVariants.{Commit, Settle, Post}
+use Rattle.eevdf_steps.specs.{Plan.Plan, Plan.callers, Plan.program, MicroSteps.steps_by}
 use Rattle.eevdf_steps.specs.Counters.{Counters, count_of, counted, step_next, unfinished}
 use Rattle.eevdf_steps.specs.Orders.{counters_at_start, order_fault}
 use Rattle.eevdf_steps.specs.Requests.{Progress, found_by, progress_after, progress_at_start, progress_by, progress_step}
 use Rattle.eevdf_steps.specs.Commits.{commits, committed, committed_by, wake_of}
-use Rattle.eevdf_steps.proofs.CommittedLines.{FitsPrograms}
+use Rattle.eevdf_steps.proofs.{CommittedLines.FitsPrograms, Lists.drop_next, Lists.got_past, SoundSteps.is_caller}
 use Rattle.eevdf_steps.proofs.Holders.{count_first, number_cases, other_number, same_number}
 use Rattle.eevdf_steps.proofs.LawfulOrders.{done_by_all, faultless_whole, length-progress_step, whole_ends}
-use Rattle.eevdf_steps.proofs.Lists.{drop_next, got_past}
 use Rattle.eevdf_steps.proofs.ProgramSteps.{FitsSteps, operations_fit}
-use Rattle.eevdf_steps.proofs.SoundSteps.{is_caller}
 
 -- a step commits a deed of its caller alone
 deed_decides : (x : ℕ) (o : Op) → IfSome (deed_of x o) (λ (d : Deed). decider d ≡ x)
-deed_decides x (op.Tick ns) = refl
-deed_decides x op.Pick = refl
-deed_decides x op.Yield = refl
-deed_decides x (op.Renice task nice) = refl
-deed_decides x (op.Sleep t) = refl
-deed_decides x (op.Pull s) = refl
 deed_decides x (op.Post t) = tt
 deed_decides x op.Drain = tt
+deed_decides x _ = refl
 
 wake_decides : (x s : ℕ) (found : Option ℕ) → IfSome (wake_of x s found) (λ (d : Deed). decider d ≡ x)
 wake_decides x s None = tt
@@ -45,13 +33,7 @@ wake_decides x s (Some t) = refl
 committed_decides : (found : Option ℕ) (x : ℕ) (o : Op) (m : Micro) → IfSome (committed found x o m) (λ (d : Deed). decider d ≡ x)
 committed_decides found x o Commit = deed_decides x o
 committed_decides found x o (Settle s) = wake_decides x s found
-committed_decides found x o (Take s) = tt
-committed_decides found x o (Post t) = tt
-committed_decides found x o (Acquire c) = tt
-committed_decides found x o (Release c) = tt
-committed_decides found x o Act = tt
-committed_decides found x o Detach = tt
-committed_decides found x o Attach = tt
+committed_decides found x o _ = tt
 
 mine_or_none : (p x : ℕ) (r : Option Deed) → IfSome r (λ (d : Deed). decider d ≡ x) → deeds_by p (option_to_list r) ≡ cond (x == p) (option_to_list r) []
 mine_or_none p x None e = both_empty (x == p)

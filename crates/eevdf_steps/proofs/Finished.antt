@@ -3,19 +3,13 @@ use Rattle.std.proofs.Common.{◌≡◌, ℕ, List, [], length, sym, ap, subst, 
 use Rattle.std.proofs.lemmas.Bool.{cases_lt}
 use Rattle.std.specs.Prelude.{MatchOption, Option, None}
 use Rattle.eevdf_ops.specs.declared.deeds.Line.{Line}
-use Rattle.eevdf_ops.specs.Histories.{machine_told}
-use Rattle.eevdf_ops.specs.Programs.{deeds_of}
+use Rattle.eevdf_ops.specs.{Histories.machine_told, Programs.deeds_of}
 use Rattle.eevdf_ops.proofs.PartsProofs.{same_machine}
 use Rattle.eevdf_steps.specs.declared.program_plan.Step.{Step}
-use Rattle.eevdf_steps.specs.Plan.{IsSound, Plan, callers}
+use Rattle.eevdf_steps.specs.{Plan.IsSound, Plan.Plan, Plan.callers, Work.Work, Serial.IsFree, Serial.IsSerial}
 use Rattle.eevdf_steps.specs.Counters.{Counters, counted, step_next, unfinished}
-use Rattle.eevdf_steps.specs.Work.{Work}
-use Rattle.eevdf_steps.specs.Serial.{IsFree, IsSerial}
-use Rattle.eevdf_steps.proofs.Holders.{nobody_past}
-use Rattle.eevdf_steps.proofs.LawfulOrders.{done_by_all}
-use Rattle.eevdf_steps.proofs.OwnCommits.{length-machine_after}
-use Rattle.eevdf_steps.proofs.Walks.{Fits, Walk, is_in}
-use Rattle.eevdf_steps.proofs.Walking.{walking}
+use Rattle.eevdf_steps.proofs.{Holders.nobody_past, LawfulOrders.done_by_all, OwnCommits.length-machine_after}
+use Rattle.eevdf_steps.proofs.{Walks.Fits, Walks.Walk, Walks.is_in, Walking.walking}
 
 -- who is done holds no lock
 done_holds_none : (plan : Plan) (counters : Counters) (p : ℕ) (w : Walk plan counters p) → step_next plan counters p ≡ None → w.held ≡ []

@@ -1,27 +1,18 @@
 -- The outcome of an order without fault follows the programs.
 use Rattle.std.proofs.Common.{◌≡◌, ℕ, ◌*◌, ◌<◌, ◌≤◌, List, [], ◌∷◌, ◌++◌, length, take, drop, inl, inr, sym, ap, ◌∙◌, refl, arith}
-use Rattle.std.proofs.lemmas.Bool.{cases_lt}
-use Rattle.std.proofs.lemmas.List.{get_or_past}
-use Rattle.std.proofs.Math.Nat.{mul-le-mul_right}
-use Rattle.std.proofs.Math.Seq.{drop-nil, take-nil}
+use Rattle.std.proofs.lemmas.{Bool.cases_lt, List.get_or_past}
+use Rattle.std.proofs.Math.{Nat.mul-le-mul_right, Seq.drop-nil, Seq.take-nil}
 use Rattle.std.specs.Prelude.{Option, Some, None}
 use Rattle.eevdf_ops.specs.declared.deeds.Op.{Op}
-use Rattle.eevdf_ops.specs.Followed.{FollowsPrograms, left_of}
-use Rattle.eevdf_ops.specs.Outcome.{Outcome}
+use Rattle.eevdf_ops.specs.{Followed.FollowsPrograms, Followed.left_of, Outcome.Outcome, Setup.Setup}
 use Rattle.eevdf_ops.specs.Programs.{deeds_of, lines_by, wakes_from}
-use Rattle.eevdf_ops.specs.Setup.{Setup}
 use Rattle.eevdf_steps.specs.declared.program_plan.Step.{Step}
 use Rattle.eevdf_steps.specs.Plan.{IsSound, Plan, callers, pair, plan_of}
-use Rattle.eevdf_steps.specs.MicroSteps.{steps_of}
-use Rattle.eevdf_steps.specs.Counters.{Counters, count_of, step_next}
-use Rattle.eevdf_steps.specs.Orders.{counters_at_start, order_fault}
+use Rattle.eevdf_steps.specs.{MicroSteps.steps_of, Counters.Counters, Counters.count_of, Counters.step_next, Commits.commits}
+use Rattle.eevdf_steps.specs.{Orders.counters_at_start, Orders.order_fault, Plays.IsOutcome}
 use Rattle.eevdf_steps.specs.Requests.{Progress, left, posted, posts_to, progress_after, progress_at_start, progress_by, progress_step, taken_of}
-use Rattle.eevdf_steps.specs.Commits.{commits}
 use Rattle.eevdf_steps.specs.MicroState.{MicroState, micro, micro_after, micro_by, micro_start, micro_step}
-use Rattle.eevdf_steps.specs.Plays.{IsOutcome}
-use Rattle.eevdf_steps.proofs.CommittedPrograms.{programs_fit}
-use Rattle.eevdf_steps.proofs.CounterLists.{programs_past}
-use Rattle.eevdf_steps.proofs.KeptPosts.{posts_taken_or_left}
+use Rattle.eevdf_steps.proofs.{CommittedPrograms.programs_fit, Plans.programs_past, KeptPosts.posts_taken_or_left}
 use Rattle.eevdf_steps.proofs.LawfulOrders.{done_by_all, faultless_whole, whole_ends}
 use Rattle.eevdf_steps.proofs.ProgramPosts.{posted_when_done}
 

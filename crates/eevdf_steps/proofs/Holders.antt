@@ -1,25 +1,17 @@
 -- What becomes of the locks at a step.
 use Rattle.std.proofs.Common.{◌≡◌, ◌≢◌, ℕ, zero, suc, ◌+◌, ◌-◌, ◌<◌, ◌≤◌, Bool, true, false, cond, List, [], ◌∷◌, ◌++◌, length, take, drop, get_or, set, replicate, inl, inr, ◌⊎◌, sym, ap, subst, ◌∙◌, arith, refl}
-use Rattle.std.proofs.lemmas.Bool.{false≢true, cases_lt}
-use Rattle.std.proofs.lemmas.Bool.Decides.{nat_tests}
+use Rattle.std.proofs.lemmas.{Bool.false≢true, Bool.cases_lt, Bool.Decides.nat_tests}
 use Rattle.std.proofs.lemmas.List.{get_or-set_same, get_or-set_other, get_or_default}
-use Rattle.std.proofs.Math.ListN.{length-set, length-replicate}
-use Rattle.std.proofs.Math.Seq.{take-append_seam}
+use Rattle.std.proofs.Math.{ListN.length-set, ListN.length-replicate, Seq.take-append_seam}
 use Rattle.std.specs.Prelude.{slice_get, nat_lt, ◌==◌, Option, Some, None}
 use Rattle.eevdf_ops.specs.declared.deeds.Op.{Op}
-use Rattle.eevdf_steps.specs.declared.micro_steps.Micro.{Micro}
-use Rattle.eevdf_steps.specs.declared.micro_steps.Micro.TheVariants.{Acquire, Act, Detach, Attach, Commit, Take, Settle, Release, Post}
-use Rattle.eevdf_steps.specs.declared.program_plan.Step.{Step}
-use Rattle.eevdf_steps.specs.Plan.{Plan, callers, is_sound_op}
-use Rattle.eevdf_steps.specs.MicroSteps.{steps_by, steps_of}
+use Rattle.eevdf_steps.specs.declared.{micro_steps.Micro.Micro, program_plan.Step.Step}
+use Rattle.eevdf_steps.specs.declared.micro_steps.Micro.TheVariants.{Acquire, Release}
+use Rattle.eevdf_steps.specs.{Plan.Plan, Plan.callers, Plan.is_sound_op, MicroSteps.steps_by, MicroSteps.steps_of}
 use Rattle.eevdf_steps.specs.Counters.{Counters, blocked_by, count_of, counted, held_after, held_by_steps, holder, holds, least, refused, step_next}
-use Rattle.eevdf_steps.specs.Orders.{counters_at_start}
-use Rattle.eevdf_steps.specs.SoundSteps.{is_sound_micro, is_sound_step}
+use Rattle.eevdf_steps.specs.{Orders.counters_at_start, SoundSteps.is_sound_micro, SoundSteps.is_sound_step}
 use Rattle.eevdf_steps.specs.Holders.{AreHolders, given_up, holders_after, is_holder, names_lock}
-use Rattle.eevdf_steps.specs.Callers.{Callers}
-use Rattle.eevdf_steps.proofs.SoundSteps.{IsNext}
-use Rattle.eevdf_steps.proofs.Lists.{both, true_lt}
-use Rattle.eevdf_steps.proofs.CounterLists.{programs_past}
+use Rattle.eevdf_steps.proofs.{Lists.both, Lists.true_lt, Plans.programs_past}
 
 pub take_next : {A : Type 0} (xs : List A) (k : ℕ) (x : A) → slice_get xs k ≡ Some x → take (suc k) xs ≡ take k xs ++ x ∷ []
 take_next [] k x e = cc
@@ -207,13 +199,7 @@ holders_step plan counters holders p (Acquire c) a follows sound free =
     let below : c < callers plan = true_lt c (callers plan) sound in
     acquired plan counters holders p c a follows below (sym (holder_is plan counters holders c below a) ∙ not_blocked c (holder plan counters c) free)
 holders_step plan counters holders p (Release c) a follows sound free = released plan counters holders p c a follows (true_lt c (callers plan) sound)
-holders_step plan counters holders p Act a follows sound free = kept plan counters holders p Act a follows (λ cpu b. refl)
-holders_step plan counters holders p Detach a follows sound free = kept plan counters holders p Detach a follows (λ cpu b. refl)
-holders_step plan counters holders p Attach a follows sound free = kept plan counters holders p Attach a follows (λ cpu b. refl)
-holders_step plan counters holders p Commit a follows sound free = kept plan counters holders p Commit a follows (λ cpu b. refl)
-holders_step plan counters holders p (Take q) a follows sound free = kept plan counters holders p (Take q) a follows (λ cpu b. refl)
-holders_step plan counters holders p (Settle q) a follows sound free = kept plan counters holders p (Settle q) a follows (λ cpu b. refl)
-holders_step plan counters holders p (Post t) a follows sound free = kept plan counters holders p (Post t) a follows (λ cpu b. refl)
+holders_step plan counters holders p m a follows sound free = kept plan counters holders p m a follows (λ cpu b. refl)
 
 pub holders_next : (plan : Plan) (counters : Counters) (holders : List (Option ℕ)) (p : ℕ) (s : Step) → AreHolders plan counters holders → p < length counters
     → step_next plan counters p ≡ Some s → is_sound_step plan s ≡ true → refused plan counters s.micro ≡ None
@@ -240,12 +226,11 @@ holders_first plan = record {
       ∙ ap (λ (o : Option ℕ). is_holder o q) (sym (none_first (callers plan) cpu));
 }
 
--- the same, where the plan, the counters and the list are known by equations
-pub same_holders : (plan plan' : Plan) (counters counters' : Counters) (holders holders' : List (Option ℕ)) → plan' ≡ plan → counters' ≡ counters → holders' ≡ holders
-    → AreHolders plan counters holders → AreHolders plan' counters' holders'
-same_holders plan plan' counters counters' holders holders' e f g a =
-    subst (λ (p : Plan). AreHolders p counters' holders') (sym e)
-    (subst (λ (cs : Counters). AreHolders plan cs holders') (sym f) (subst (λ (hs : List (Option ℕ)). AreHolders plan counters hs) (sym g) a))
+-- the same, where the counters and the list are known by equations
+pub same_holders : (plan : Plan) (counters counters' : Counters) (holders holders' : List (Option ℕ)) → counters' ≡ counters → holders' ≡ holders
+    → AreHolders plan counters holders → AreHolders plan counters' holders'
+same_holders plan counters counters' holders holders' f g a =
+    subst (λ (cs : Counters). AreHolders plan cs holders') (sym f) (subst (λ (hs : List (Option ℕ)). AreHolders plan counters hs) (sym g) a)
 
 -- what a write through a slice leaves
 pub written_back : {A : Type 0} (n : ℕ) (xs ys : List A) → length xs ≡ n → take n (xs ++ drop (length xs) ys) ≡ xs
@@ -254,36 +239,18 @@ written_back n xs ys e = ap (λ (k : ℕ). take k (xs ++ drop (length xs) ys)) (
 pub sound_lock : (plan : Plan) (n : ℕ) (m : Micro) → n ≡ callers plan → is_sound_micro plan m ≡ true → names_lock n m ≡ true
 sound_lock plan n (Acquire c) e h = ap (λ (k : ℕ). nat_lt c k) e ∙ h
 sound_lock plan n (Release c) e h = ap (λ (k : ℕ). nat_lt c k) e ∙ h
-sound_lock plan n Act e h = refl
-sound_lock plan n Detach e h = refl
-sound_lock plan n Attach e h = refl
-sound_lock plan n Commit e h = refl
-sound_lock plan n (Take q) e h = refl
-sound_lock plan n (Settle q) e h = refl
-sound_lock plan n (Post t) e h = refl
+sound_lock plan n _ e h = refl
 
 pub length-holders_after : (p : ℕ) (m : Micro) (holders : List (Option ℕ)) → length (holders_after p m holders) ≡ length holders
 length-holders_after p (Acquire c) holders = length-set holders c (Some p)
 length-holders_after p (Release c) holders = length-set holders c (given_up (get_or holders c None) p)
-length-holders_after p Act holders = refl
-length-holders_after p Detach holders = refl
-length-holders_after p Attach holders = refl
-length-holders_after p Commit holders = refl
-length-holders_after p (Take q) holders = refl
-length-holders_after p (Settle q) holders = refl
-length-holders_after p (Post t) holders = refl
+length-holders_after p _ holders = refl
 
 -- the holder that was read
 pub read_holder : (plan : Plan) (counters : Counters) (holders : List (Option ℕ)) (cpu k : ℕ) (h : Option ℕ) → k ≡ cpu → cpu < callers plan → AreHolders plan counters holders
     → h ≡ get_or holders k h → h ≡ holder plan counters cpu
 read_holder plan counters holders cpu k h at below a e =
     e ∙ get_or_default holders k h None (omega (arith, a.each)) ∙ ap (λ (i : ℕ). get_or holders i None) at ∙ sym (holder_is plan counters holders cpu below a)
-
-pub holders_then : (w : Callers) (holders : List (Option ℕ)) (p : ℕ) (m : Micro) → AreHolders w.plan w.counters holders → p < length w.counters → IsNext w p m
-    → refused w.plan w.counters m ≡ None → AreHolders w.plan (counted w.counters p) (holders_after p m holders)
-holders_then w holders p m a h n free =
-    subst (λ (k : Micro). AreHolders w.plan (counted w.counters p) (holders_after p k holders)) n.micro
-    (holders_next w.plan w.counters holders p n.step a h n.is_step n.sound (ap (λ (k : Micro). refused w.plan w.counters k) n.micro ∙ free))
 
 -- a number that doesn't pass is passed over
 pub least_past : (f : ℕ → Bool) (from n : ℕ) → from < n → f from ≡ false → least f from (n - from) ≡ least f (from + 1) (n - (from + 1))

@@ -1,23 +1,17 @@
 -- Where a lawful order leads, and where a complete one ends.
 use Rattle.std.proofs.Common.{◌≡◌, ℕ, ◌+◌, ◌<◌, ◌≤◌, Bool, true, false, ◌&&◌, cond, List, [], ◌∷◌, length, inl, inr, sym, ap, subst, ◌∙◌, arith, refl}
 use Rattle.std.proofs.Math.ListN.{length-set}
-use Rattle.std.proofs.lemmas.Bool.{cases_lt, false≢true}
-use Rattle.std.proofs.lemmas.Bool.Decides.{nat_tests}
-use Rattle.std.proofs.lemmas.Option.{none-some}
+use Rattle.std.proofs.lemmas.{Bool.cases_lt, Bool.false≢true, Bool.Decides.nat_tests, Option.none-some}
 use Rattle.std.specs.Prelude.{nat_lt, is_none, is_some, Option, Some, None}
 use Rattle.std.specs.Option.{option_map}
-use Rattle.eevdf_steps.specs.declared.program_plan.Step.{Step}
-use Rattle.eevdf_steps.specs.declared.step_fault.StepFault.{StepFault}
+use Rattle.eevdf_steps.specs.declared.{program_plan.Step.Step, step_fault.StepFault.StepFault, play_fault.PlayFault.PlayFault}
 use Rattle.eevdf_steps.specs.declared.step_fault.StepFault.TheVariants.{NoCaller, Done}
-use Rattle.eevdf_steps.specs.declared.play_fault.PlayFault.{PlayFault}
 use Rattle.eevdf_steps.specs.declared.play_fault.PlayFault.TheVariants.{Short, TooLong}
 use Rattle.eevdf_steps.specs.Plan.{Plan, callers}
 use Rattle.eevdf_steps.specs.Counters.{Counters, count_of, counted, is_under_way, may_step, refusal, refused_next, step_next, unfinished}
 use Rattle.eevdf_steps.specs.Orders.{IsWhole, WholeIsPlayed, counters_after, counters_at_start, fault_at, fault_or, is_lawful, most_places, order_fault, play_fault}
 use Rattle.eevdf_steps.specs.Requests.{Progress, progress_after, progress_by, progress_step}
-use Rattle.eevdf_steps.proofs.CounterLists.{no_step}
-use Rattle.eevdf_steps.proofs.Lists.{both}
-use Rattle.eevdf_steps.proofs.Ready.{least_there}
+use Rattle.eevdf_steps.proofs.{Plans.no_step, Lists.both, Ready.least_there}
 
 -- where a step isn't refused there is one
 not_refused : (plan : Plan) (counters : Counters) (p : ℕ) (r : Option Step) (b : Bool)

@@ -2,12 +2,8 @@
 use Rattle.std.proofs.Common.{◌≡◌, ℕ, zero, suc, ◌*◌, ◌<◌, List, [], ◌∷◌, length, map, drop, get_or, sym, ap, subst, ◌∙◌, refl}
 use Rattle.std.proofs.lemmas.List.{length-map}
 use Rattle.std.specs.Prelude.{Option}
-use Rattle.eevdf_steps.specs.Plan.{callers, pair}
-use Rattle.eevdf_steps.specs.Requests.{left, posted}
-use Rattle.eevdf_steps.specs.PostLists.{PostList, list_at, progress_in}
-use Rattle.eevdf_steps.specs.Callers.{Callers}
-use Rattle.eevdf_steps.specs.Recorded.{Recorded}
-use Rattle.eevdf_steps.specs.Players.{Player}
+use Rattle.eevdf_steps.specs.{Plan.callers, Plan.pair, Requests.left, Requests.posted, Callers.Callers, Recorded.Recorded}
+use Rattle.eevdf_steps.specs.{PostLists.PostList, PostLists.list_at, PostLists.progress_in, Players.Player}
 use Rattle.eevdf_steps.specs.Playing.{IsPlaying, player_of}
 use Rattle.eevdf_steps.proofs.Progressing.{get_taken}
 

@@ -1,19 +1,15 @@
 -- A step of one caller leaves all others as they are, and what they see.
 use Rattle.std.proofs.Common.{◌≡◌, ◌≢◌, ℕ, ◌+◌, Bool, true, false, length, sym, ap, subst, ◌∙◌, inl, inr, refl}
-use Rattle.std.proofs.lemmas.Bool.{false≢true}
-use Rattle.std.proofs.lemmas.List.{get_or-set_other}
+use Rattle.std.proofs.lemmas.{Bool.false≢true, List.get_or-set_other}
 use Rattle.std.specs.Prelude.{slice_get, Option, Some, None}
 use Rattle.eevdf_ops.specs.declared.deeds.Answer.{Answer}
 use Rattle.eevdf_ops.specs.Machine.{Machine, queue_at}
 use Rattle.eevdf_steps.specs.declared.program_plan.Step.{Step}
-use Rattle.eevdf_steps.specs.Plan.{Plan, callers}
-use Rattle.eevdf_steps.specs.MicroSteps.{steps_by}
+use Rattle.eevdf_steps.specs.{Plan.Plan, Plan.callers, MicroSteps.steps_by, Work.Work, Work.answer, Work.hand}
 use Rattle.eevdf_steps.specs.Counters.{Counters, count_of, counted, holds, step_next}
-use Rattle.eevdf_steps.specs.Work.{Work, answer, hand}
 use Rattle.eevdf_steps.specs.UnderWay.{KeepsAnswer, UnderWay, hand_seen, queue_seen, under_way}
 use Rattle.eevdf_steps.specs.Serial.{IsFree, FollowsHistory, begun_by}
-use Rattle.eevdf_steps.proofs.Holders.{holds_other, number_cases}
-use Rattle.eevdf_steps.proofs.Walks.{Walk}
+use Rattle.eevdf_steps.proofs.{Holders.holds_other, Holders.number_cases, Walks.Walk}
 use Rattle.eevdf_steps.proofs.Begun.{FitsAll, SeenAlike, Standing, seen_alike, standing}
 
 pub next_other : (plan : Plan) (counters : Counters) (p q : ℕ) → q ≢ p → step_next plan (counted counters p) q ≡ step_next plan counters q

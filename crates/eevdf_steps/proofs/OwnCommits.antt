@@ -1,33 +1,19 @@
 -- What a commit makes of the history, and of what the caller sees.
 use Rattle.std.proofs.Common.{◌≡◌, ℕ, true, List, [], ◌∷◌, ◌++◌, length, set, sym, ap, subst, ◌∙◌, refl, arith}
-use Rattle.std.proofs.lemmas.Bool.{false≢true}
-use Rattle.std.proofs.lemmas.List.{get_or-set_same, map-append}
+use Rattle.std.proofs.lemmas.{Bool.false≢true, List.get_or-set_same, List.map-append}
 use Rattle.std.proofs.Math.ListN.{length-set}
 use Rattle.std.specs.Prelude.{◌==◌, Option, Some, None}
 use Rattle.eevdf_queue.specs.State.{State, empty_state}
-use Rattle.eevdf_ops.specs.declared.deeds.Op.{Op}
-use Rattle.eevdf_ops.specs.declared.deeds.Deed.{Deed}
+use Rattle.eevdf_ops.specs.declared.deeds.{Op.Op, Deed.Deed, Answer.Answer, Line.Line}
 use Rattle.eevdf_ops.specs.declared.deeds.Deed.TheVariants as deed
-use Rattle.eevdf_ops.specs.declared.deeds.Answer.{Answer}
-use Rattle.eevdf_ops.specs.declared.deeds.Line.{Line}
-use Rattle.eevdf_ops.specs.Machine.{Machine, queue_at}
-use Rattle.eevdf_ops.specs.OneQueue.{one_wake}
-use Rattle.eevdf_ops.specs.Whole.{lines_of, machine_after, whole}
-use Rattle.eevdf_ops.proofs.LocalParts.{others_stay}
-use Rattle.eevdf_ops.proofs.MachinePlaces.{other_queue}
-use Rattle.eevdf_ops.proofs.WholePlaces.{length-whole}
+use Rattle.eevdf_ops.specs.{Machine.Machine, Machine.queue_at, OneQueue.one_wake, Programs.deed_of, Programs.deeds_of}
+use Rattle.eevdf_ops.specs.{Whole.lines_of, Whole.machine_after, Whole.whole, Histories.AreHistory, Histories.machine_told}
+use Rattle.eevdf_ops.proofs.{LocalParts.others_stay, MachinePlaces.other_queue, WholePlaces.length-whole}
 use Rattle.eevdf_steps.specs.declared.micro_steps.Micro.TheVariants.{Commit, Settle}
-use Rattle.eevdf_steps.specs.Plan.{Plan}
+use Rattle.eevdf_steps.specs.{Plan.Plan, Work.Work, Work.answer, Work.woken, Serial.begun_by}
 use Rattle.eevdf_steps.specs.Counters.{Counters, counted, holds, step_next}
-use Rattle.eevdf_ops.specs.Programs.{deed_of, deeds_of}
-use Rattle.eevdf_ops.specs.Histories.{AreHistory, machine_told}
-use Rattle.eevdf_steps.specs.Work.{Work, answer, woken}
 use Rattle.eevdf_steps.specs.UnderWay.{KeepsAnswer, UnderWay, begun, hand_seen, queue_seen}
-use Rattle.eevdf_steps.specs.Serial.{begun_by}
-use Rattle.eevdf_steps.proofs.Holders.{same_number}
-use Rattle.eevdf_steps.proofs.Lists.{true_eq}
-use Rattle.eevdf_steps.proofs.Begun.{holds_touched}
-use Rattle.eevdf_steps.proofs.OtherCallers.{IsStepOf}
+use Rattle.eevdf_steps.proofs.{Holders.same_number, Lists.true_eq, Begun.holds_touched, OtherCallers.IsStepOf}
 use Rattle.eevdf_steps.proofs.OwnSteps.{AtStep, SameLocks, begun_now, fresh_begun, holds_nothing, same_locks, sees_history, still}
 use Rattle.eevdf_steps.proofs.OwnWork.{not_own}
 

@@ -2,22 +2,16 @@
 use Rattle.std.proofs.Common.{◌≡◌, ◌≢◌, ◌⊎◌, inl, inr, ℕ, ◌<◌, Bool, true, false, cond, List, length, sym, ap, subst, ◌∙◌, refl}
 use Rattle.std.proofs.lemmas.Bool.{false≢true}
 use Rattle.std.specs.Prelude.{◌==◌, Option, Some, None}
-use Rattle.eevdf_ops.specs.declared.deeds.Op.{Op}
-use Rattle.eevdf_ops.specs.declared.deeds.Answer.{Answer}
+use Rattle.eevdf_ops.specs.declared.deeds.{Op.Op, Answer.Answer}
 use Rattle.eevdf_ops.specs.Machine.{Machine, queue_at}
-use Rattle.eevdf_steps.specs.declared.micro_steps.Micro.{Micro}
-use Rattle.eevdf_steps.specs.declared.micro_steps.Micro.TheVariants.{Acquire, Act, Detach, Attach, Commit, Take, Settle, Release, Post}
-use Rattle.eevdf_steps.specs.declared.program_plan.Step.{Step}
-use Rattle.eevdf_steps.specs.Plan.{Plan, callers}
+use Rattle.eevdf_steps.specs.declared.{micro_steps.Micro.Micro, program_plan.Step.Step}
+use Rattle.eevdf_steps.specs.declared.micro_steps.Micro.TheVariants.{Acquire, Attach, Commit, Release}
+use Rattle.eevdf_steps.specs.{Plan.Plan, Plan.callers, Work.Work, Work.answer, Work.hand}
 use Rattle.eevdf_steps.specs.Counters.{Counters, counted, held_after, holds, step_next}
-use Rattle.eevdf_steps.specs.Work.{Work, answer, hand}
 use Rattle.eevdf_steps.specs.UnderWay.{KeepsAnswer, UnderWay, hand_seen, queue_seen, under_way, under_way_before}
 use Rattle.eevdf_steps.specs.Serial.{IsFree, FollowsHistory, begun_by}
-use Rattle.eevdf_steps.proofs.Holders.{holds_own}
-use Rattle.eevdf_steps.proofs.Lists.{true_eq}
-use Rattle.eevdf_steps.proofs.Positions.{step_in}
+use Rattle.eevdf_steps.proofs.{Holders.holds_own, Lists.true_eq, Positions.step_in, OtherCallers.IsStepOf}
 use Rattle.eevdf_steps.proofs.Walks.{FitsMicro, Walk, is_fresh, is_fresh_micro}
-use Rattle.eevdf_steps.proofs.OtherCallers.{IsStepOf}
 
 -- a caller before its next step, on the machine of the history
 pub record AtStep (plan : Plan) (counters : Counters) (p : ℕ) (m : Machine) (w : Work) (o : Op) (micro : Micro) : Type 0 where
@@ -36,13 +30,7 @@ pub record AtStep (plan : Plan) (counters : Counters) (p : ℕ) (m : Machine) (w
 fresh_micro : (p : ℕ) (o : Op) (micro : Micro) → is_fresh_micro micro ≡ true → under_way_before p o micro ≡ None
 fresh_micro p o Attach e = absurd (false≢true e)
 fresh_micro p o Commit e = absurd (false≢true e)
-fresh_micro p o Act e = refl
-fresh_micro p o Detach e = refl
-fresh_micro p o (Take q) e = refl
-fresh_micro p o (Settle q) e = refl
-fresh_micro p o (Post t) e = refl
-fresh_micro p o (Acquire c) e = refl
-fresh_micro p o (Release c) e = refl
+fresh_micro p o _ e = refl
 
 pub fresh_begun : (p : ℕ) (o : Option Step) → is_fresh o ≡ true → under_way p o ≡ None
 fresh_begun p None e = refl

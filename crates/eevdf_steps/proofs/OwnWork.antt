@@ -1,36 +1,25 @@
 -- What the caller's work on the queues comes to, seen from the machine of the history.
 use Rattle.std.proofs.Common.{◌≡◌, ◌≢◌, ℕ, ◌<◌, Bool, true, false, cond, List, length, set, sym, ap, subst, ◌∙◌, refl, arith}
-use Rattle.std.proofs.lemmas.Bool.{false≢true}
-use Rattle.std.proofs.lemmas.List.{get_or-set_same, get_or-set_other}
+use Rattle.std.proofs.lemmas.{Bool.false≢true, List.get_or-set_same, List.get_or-set_other}
 use Rattle.std.specs.Prelude.{◌==◌, IfSome, Option, Some, None, Result, Ok, Err}
-use Rattle.eevdf_queue.specs.State.{State, Contents, empty_state}
-use Rattle.eevdf_queue.specs.Moves.{put_asleep, sleeper_of}
-use Rattle.eevdf_queue.specs.Leaving.{carried_running, leave}
-use Rattle.eevdf_queue.specs.Placing.{can_place}
-use Rattle.eevdf_ops.specs.declared.deeds.Op.{Op}
+use Rattle.eevdf_queue.specs.{State.State, State.Contents, State.empty_state, Moves.put_asleep, Moves.sleeper_of}
+use Rattle.eevdf_queue.specs.{Leaving.carried_running, Leaving.leave, Placing.can_place}
+use Rattle.eevdf_ops.specs.declared.deeds.{Op.Op, Deed.Deed, Answer.Answer}
 use Rattle.eevdf_ops.specs.declared.deeds.Op.TheVariants as op
-use Rattle.eevdf_ops.specs.declared.deeds.Deed.{Deed}
 use Rattle.eevdf_ops.specs.declared.deeds.Deed.TheVariants as deed
-use Rattle.eevdf_ops.specs.declared.deeds.Answer.{Answer}
 use Rattle.eevdf_ops.specs.declared.deeds.Answer.TheVariants.{NotRunning, Pulled}
-use Rattle.eevdf_ops.specs.Machine.{Machine, queue_at}
+use Rattle.eevdf_ops.specs.{Machine.Machine, Machine.queue_at, Whole.whole, WholeSleep.sleep_carrying, WholeSleep.slept}
 use Rattle.eevdf_ops.specs.Parts.{after_leaving, after_falling_asleep, after_joining, giver, only_at, taken}
 use Rattle.eevdf_ops.specs.PartsLaws as laws
-use Rattle.eevdf_ops.specs.Whole.{whole}
-use Rattle.eevdf_ops.specs.WholeSleep.{sleep_carrying, slept}
 use Rattle.eevdf_ops.specs.WholePull.{load_of, offer, pull_decided, with_task}
 use Rattle.eevdf_ops.proofs.LocalParts.{changed, idle, untaken, whole-after}
-use Rattle.eevdf_ops.proofs.MachinePlaces.{other_queue}
-use Rattle.eevdf_ops.proofs.Pulling.{decided_at, decision-taken}
+use Rattle.eevdf_ops.proofs.{MachinePlaces.other_queue, Pulling.decided_at, Pulling.decision-taken}
 use Rattle.eevdf_steps.specs.declared.micro_steps.Micro.TheVariants.{Act, Detach, Attach}
-use Rattle.eevdf_steps.specs.Plan.{Plan, callers, home}
-use Rattle.eevdf_steps.specs.Counters.{Counters, counted, holds}
+use Rattle.eevdf_steps.specs.{Plan.Plan, Plan.callers, Plan.home, Counters.Counters, Counters.counted, Counters.holds}
 use Rattle.eevdf_steps.specs.Work.{Work, acted, answer, answered, attach_asleep, attach_pulled, detach_pulled, detach_running, detached, hand, put_down}
 use Rattle.eevdf_steps.specs.UnderWay.{KeepsAnswer, UnderWay, hand_seen, leaves, queue_seen}
 use Rattle.eevdf_steps.specs.Serial.{begun_by}
-use Rattle.eevdf_steps.proofs.Holders.{other_number, same_number}
-use Rattle.eevdf_steps.proofs.Lists.{true_eq}
-use Rattle.eevdf_steps.proofs.OtherCallers.{IsStepOf}
+use Rattle.eevdf_steps.proofs.{Holders.other_number, Holders.same_number, Lists.true_eq, OtherCallers.IsStepOf}
 use Rattle.eevdf_steps.proofs.OwnSteps.{AtStep, begun_now, holds_nothing, local_step, same_locks, sees_history}
 
 -- the deed is done on the caller's own queue alone

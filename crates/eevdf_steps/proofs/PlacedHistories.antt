@@ -4,15 +4,10 @@ use Rattle.std.specs.List.{list_all}
 use Rattle.std.proofs.Math.ListN.{length-replicate}
 use Rattle.eevdf_queue.specs.State.{empty_state}
 use Rattle.eevdf_ops.specs.declared.deeds.Deed.{Deed}
-use Rattle.eevdf_ops.specs.Histories.{IsOneThread}
-use Rattle.eevdf_ops.specs.Machine.{Machine, start}
-use Rattle.eevdf_ops.specs.Outcome.{Outcome, machine_of}
-use Rattle.eevdf_ops.specs.Places.{AreCpus, IsPlaced}
-use Rattle.eevdf_ops.specs.Programs.{deeds_of}
+use Rattle.eevdf_ops.specs.{Histories.IsOneThread, Machine.Machine, Machine.start, Outcome.Outcome, Outcome.machine_of}
+use Rattle.eevdf_ops.specs.{Places.AreCpus, Places.IsPlaced, Programs.deeds_of, Whole.machine_after, Whole.whole}
 use Rattle.eevdf_ops.specs.Setup.{Setup, allows, cpus_of, homes_of, is_allowed}
-use Rattle.eevdf_ops.specs.Whole.{machine_after, whole}
-use Rattle.eevdf_ops.proofs.Machines.{length-begin_at_homes}
-use Rattle.eevdf_ops.proofs.WholePlaces.{length-whole, whole-placed}
+use Rattle.eevdf_ops.proofs.{Machines.length-begin_at_homes, WholePlaces.length-whole, WholePlaces.whole-placed}
 use Rattle.eevdf_steps.proofs.Lists.{both}
 
 placed_after : (cpus : ℕ) (homes : List ℕ) (m : Machine) (ds : List Deed) → length m ≡ cpus → list_all (is_allowed cpus homes) ds ≡ true → AreCpus cpus homes → IsPlaced homes m

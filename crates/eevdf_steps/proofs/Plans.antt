@@ -4,7 +4,9 @@ use Rattle.std.proofs.lemmas.Option.{slice_get_within}
 use Rattle.std.specs.List.{list_all}
 use Rattle.std.specs.Prelude.{slice_get, nat_le, IfSome, Option, Some, None}
 use Rattle.eevdf_ops.specs.declared.deeds.Op.{Op}
-use Rattle.eevdf_steps.specs.Plan.{IsSound, Plan, is_sound_op, is_sound_program, program}
+use Rattle.eevdf_steps.specs.Plan.{IsSound, Plan, callers, is_sound_op, is_sound_program, program}
+use Rattle.eevdf_steps.specs.Counters.{Counters, count_of, step_next}
+use Rattle.eevdf_steps.specs.MicroSteps.{steps_of}
 use Rattle.eevdf_steps.proofs.Lists.{both, true_le}
 
 program_sound : (plan : Plan) (programs : List (List Op)) (p : ℕ) → list_all (is_sound_program plan) programs ≡ true → is_sound_program plan (get_or programs p []) ≡ true
@@ -44,3 +46,12 @@ program_ops_sound plan p s = (parts plan p s).1
 
 pub program_short : (plan : Plan) (p : ℕ) → IsSound plan → length (program plan p) ≤ 10000
 program_short plan p s = true_le (length (program plan p)) 10000 (parts plan p s).0
+
+-- where there is no such caller there is no step
+pub programs_past : (ps : List (List Op)) (k : ℕ) → length ps ≤ k → get_or ps k [] ≡ []
+programs_past [] k h = refl
+programs_past (p ∷ ps) zero h = absurd (omega arith)
+programs_past (p ∷ ps) (suc k) h = programs_past ps k (omega arith)
+
+pub no_step : (plan : Plan) (counters : Counters) (k : ℕ) → callers plan ≤ k → step_next plan counters k ≡ None
+no_step plan counters k h = subst (λ (os : List Op). slice_get (steps_of plan k os) (count_of counters k) ≡ None) (sym (programs_past plan.programs k h)) refl

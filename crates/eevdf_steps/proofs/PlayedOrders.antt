@@ -1,29 +1,18 @@
 -- The deeds of an order that is played step by step.
 use Rattle.std.proofs.Common.{◌≡◌, ℕ, true, List, ◌∷◌, ◌++◌, append_assoc, sym, ap, subst, ◌∙◌, refl}
 use Rattle.eevdf_ops.specs.declared.deeds.Deed.{Deed}
-use Rattle.eevdf_ops.specs.Followed.{FollowsPrograms}
-use Rattle.eevdf_ops.specs.Histories.{IsOneThread}
-use Rattle.eevdf_ops.specs.Machine.{start}
-use Rattle.eevdf_ops.specs.Outcome.{Outcome, machine_of}
-use Rattle.eevdf_ops.specs.Places.{AreCpus, IsPlaced}
-use Rattle.eevdf_ops.specs.Programs.{deeds_of}
+use Rattle.eevdf_ops.specs.{Followed.FollowsPrograms, Histories.IsOneThread, Machine.start, Places.AreCpus, Places.IsPlaced}
+use Rattle.eevdf_ops.specs.{Outcome.Outcome, Outcome.machine_of, Programs.deeds_of}
 use Rattle.eevdf_ops.specs.Setup.{Setup, allows, cpus_of, homes_of}
-use Rattle.std.specs.List.{list_all}
-use Rattle.std.specs.Prelude.{Option, None}
-use Rattle.std.specs.Option.{option_map}
+use Rattle.std.specs.{List.list_all, Prelude.Option, Prelude.None, Option.option_map}
 use Rattle.eevdf_steps.specs.declared.play_fault.PlayFault.TheVariants.{Short}
-use Rattle.eevdf_steps.specs.Plan.{IsSound, Plan, plan_of}
-use Rattle.eevdf_steps.specs.Counters.{step_next, unfinished}
-use Rattle.eevdf_steps.specs.Orders.{IsWhole, counters_at_start, order_fault}
+use Rattle.eevdf_steps.specs.{Plan.IsSound, Plan.Plan, Plan.plan_of, Counters.step_next, Counters.unfinished, Plays.IsOutcome}
+use Rattle.eevdf_steps.specs.{Orders.IsWhole, Orders.counters_at_start, Orders.order_fault, PlayedSteps.HasPlayed}
 use Rattle.eevdf_steps.specs.Requests.{Progress, progress_step}
 use Rattle.eevdf_steps.specs.Commits.{commits, committed_by, deeds_committed}
 use Rattle.eevdf_steps.specs.Players.{Appends, Player, player_start, player_step}
-use Rattle.eevdf_steps.specs.PlayedSteps.{HasPlayed}
-use Rattle.eevdf_steps.specs.Plays.{IsOutcome}
-use Rattle.eevdf_steps.proofs.LawfulOrders.{faultless_whole}
-use Rattle.eevdf_steps.proofs.AllowedCommits.{deeds_allowed}
+use Rattle.eevdf_steps.proofs.{LawfulOrders.faultless_whole, AllowedCommits.deeds_allowed, PlacedHistories.outcome_placed}
 use Rattle.eevdf_steps.proofs.FollowedPrograms.{outcome_follows, step_progress}
-use Rattle.eevdf_steps.proofs.PlacedHistories.{outcome_placed}
 
 -- the deeds done by a player, and those that an order still commits
 abbrev pub deeds_with : Player → List ℕ → List Deed

@@ -2,40 +2,24 @@
 use Rattle.std.proofs.Common.{◌≡◌, ℕ, ◌+◌, ◌<◌, ◌≤◌, true, List, ◌++◌, length, get_or, set, sym, ap, subst, ◌∙◌, arith, refl}
 use Rattle.std.proofs.Math.ListN.{length-set, length-append}
 use Rattle.std.specs.Prelude.{nat_lt, Option, Some, None}
-use Rattle.eevdf_ops.specs.declared.deeds.Op.{Op}
+use Rattle.eevdf_ops.specs.declared.deeds.{Op.Op, Deed.Deed, Line.Line}
 use Rattle.eevdf_ops.specs.declared.deeds.Op.TheVariants as op
-use Rattle.eevdf_steps.specs.declared.micro_steps.Micro.{Micro}
-use Rattle.eevdf_steps.specs.declared.micro_steps.Micro.TheVariants.{Acquire, Act, Detach, Attach, Commit, Take, Settle, Release, Post}
-use Rattle.eevdf_steps.specs.declared.program_plan.Step.{Step}
+use Rattle.eevdf_steps.specs.declared.{micro_steps.Micro.Micro, program_plan.Step.Step}
+use Rattle.eevdf_steps.specs.declared.micro_steps.Micro.TheVariants.{Take, Post}
 use Rattle.eevdf_steps.specs.Plan.{IsSound, Plan, callers, is_sound_op}
 use Rattle.eevdf_steps.specs.Counters.{Counters, counted, refused, step_next}
-use Rattle.eevdf_ops.specs.declared.deeds.Deed.{Deed}
-use Rattle.eevdf_ops.specs.declared.deeds.Line.{Line}
 use Rattle.eevdf_ops.specs.Programs.{deeds_of}
 use Rattle.std.proofs.lemmas.List.{map-append}
 use Rattle.std.specs.Option.{option_to_list}
-use Rattle.eevdf_steps.specs.Commits.{committed, committed_by}
-use Rattle.eevdf_steps.specs.Callers.{Callers}
-use Rattle.eevdf_steps.specs.SoundSteps.{is_sound_micro}
-use Rattle.eevdf_steps.specs.Requests.{Progress}
+use Rattle.eevdf_steps.specs.{Commits.committed, Commits.committed_by, Callers.Callers, SoundSteps.is_sound_micro}
+use Rattle.eevdf_steps.specs.{Requests.Progress, Room.lines_to_come, Work.hand, Work.pulls_from, Journals.noted}
 use Rattle.eevdf_steps.specs.PostLists.{PostList, has_room, list_at, place_of, posts_after, request_after}
-use Rattle.eevdf_steps.specs.Room.{lines_to_come}
-use Rattle.eevdf_steps.specs.Work.{hand, pulls_from}
 use Rattle.eevdf_steps.specs.MicroState.{answers, appends, home_for, micro_by, works}
-use Rattle.eevdf_steps.specs.Journals.{noted}
-use Rattle.eevdf_steps.specs.Recorded.{Recorded}
-use Rattle.eevdf_steps.specs.Working.{IsWorking}
-use Rattle.eevdf_steps.specs.Players.{Player, player_step}
+use Rattle.eevdf_steps.specs.{Recorded.Recorded, Working.IsWorking, Players.Player, Players.player_step, Serial.IsSerial}
 use Rattle.eevdf_steps.specs.Playing.{IsPlaying, player_of}
-use Rattle.eevdf_steps.proofs.Lists.{both}
-use Rattle.eevdf_steps.proofs.SoundSteps.{is_caller, step_sound}
-use Rattle.eevdf_steps.proofs.WorkPlaces.{hand_nowhere}
-use Rattle.eevdf_steps.specs.Serial.{IsSerial}
-use Rattle.eevdf_steps.proofs.SerialSteps.{SerialStep, serial_step}
-use Rattle.eevdf_steps.proofs.WorkSteps.{works_kept}
-use Rattle.eevdf_steps.proofs.Posting.{place_below, posts_step}
-use Rattle.eevdf_steps.proofs.Progressing.{progress_then}
-use Rattle.eevdf_steps.proofs.Rooms.{fewer_to_come}
+use Rattle.eevdf_steps.proofs.{Lists.both, SoundSteps.is_caller, SoundSteps.step_sound, WorkPlaces.hand_nowhere}
+use Rattle.eevdf_steps.proofs.{SerialSteps.SerialStep, SerialSteps.serial_step, WorkSteps.works_kept, Rooms.fewer_to_come}
+use Rattle.eevdf_steps.proofs.{Posting.place_below, Posting.posts_step, Progressing.progress_then}
 
 -- a player whose caller is to do a step
 pub record Stepping (w : Callers) (lists : List PostList) (found : List (Option ℕ)) (done : Recorded) (p : ℕ) (s : Step) : Type 0 where
@@ -80,13 +64,7 @@ is_working w lists found done p h s st home = record {
 
 pulls_by : (plan : Plan) (n : ℕ) (o : Op) → n ≡ callers plan → is_sound_op plan o ≡ true → pulls_from n o ≡ true
 pulls_by plan n (op.Pull source) e h = ap (λ (k : ℕ). nat_lt source k) e ∙ h
-pulls_by plan n (op.Sleep t) e h = refl
-pulls_by plan n (op.Tick ns) e h = refl
-pulls_by plan n op.Pick e h = refl
-pulls_by plan n op.Yield e h = refl
-pulls_by plan n (op.Renice task nice) e h = refl
-pulls_by plan n (op.Post t) e h = refl
-pulls_by plan n op.Drain e h = refl
+pulls_by plan n _ e h = refl
 
 pub pulls : (w : Callers) (lists : List PostList) (found : List (Option ℕ)) (done : Recorded) (p : ℕ) (s : Step) → Stepping w lists found done p s
     → pulls_from (length done.work.machine) s.op ≡ true
@@ -113,7 +91,7 @@ posts_have_room w lists found done p s st =
     (posts_step w.plan w.counters lists p s st.sound st.playing.posts (omega (arith, st.caller, st.each)) st.caller st.step st.sound_micro).0
 
 -- what is done by a step, with the home of its task and the request that was found
-abbrev done_then : Recorded → ℕ → Step → ℕ → Option ℕ → Recorded
+abbrev pub done_then : Recorded → ℕ → Step → ℕ → Option ℕ → Recorded
 done_then done p s h f = record {
   work = works h done.work p s.op s.micro f;
   journal = noted done.journal (committed f p s.op s.micro) (answers done.work p s.micro f);
@@ -206,10 +184,4 @@ state_after w w' lists lists' found found' done done' p h s f r a same st t at r
 pub length-posts_after : (k : ℕ) (m : Micro) (lists : List PostList) → length (posts_after k m lists) ≡ length lists
 length-posts_after k (Take q) lists = length-set lists k _
 length-posts_after k (Post t) lists = length-set lists k _
-length-posts_after k (Settle q) lists = refl
-length-posts_after k (Acquire l) lists = refl
-length-posts_after k (Release l) lists = refl
-length-posts_after k Act lists = refl
-length-posts_after k Detach lists = refl
-length-posts_after k Attach lists = refl
-length-posts_after k Commit lists = refl
+length-posts_after k _ lists = refl

@@ -1,21 +1,18 @@
 -- Positions in a program, and the counters that they come to.
 use Rattle.std.proofs.Common.{◌≡◌, ℕ, zero, suc, ◌+◌, ◌*◌, ◌<◌, ◌≤◌, Bool, true, false, cond, List, [], ◌∷◌, ◌++◌, length, map, take, sym, ap, subst, ◌∙◌, arith, refl}
 use Rattle.std.proofs.Math.ListN.{length-append}
-use Rattle.std.proofs.lemmas.List.{length-map}
-use Rattle.std.proofs.lemmas.Option.{slice_get-map}
+use Rattle.std.proofs.lemmas.{List.length-map, Option.none-some, Option.slice_get-map}
 use Rattle.std.specs.Option.{option_map}
 use Rattle.std.specs.Prelude.{slice_get, ◌==◌, Option, Some, None}
 use Rattle.eevdf_ops.specs.declared.deeds.Op.{Op}
 use Rattle.eevdf_ops.specs.declared.deeds.Op.TheVariants as op
 use Rattle.eevdf_ops.specs.Numbers.{most_cpus}
-use Rattle.eevdf_steps.specs.declared.micro_steps.Micro.{Micro}
-use Rattle.eevdf_steps.specs.declared.micro_steps.Micro.TheVariants.{Release}
-use Rattle.eevdf_steps.specs.declared.program_plan.Step.{Step}
+use Rattle.eevdf_steps.specs.declared.{micro_steps.Micro.Micro, micro_steps.Micro.TheVariants.Release, program_plan.Step.Step}
 use Rattle.eevdf_steps.specs.declared.program_plan.Position.{Position}
 use Rattle.eevdf_steps.specs.Plan.{Plan, callers, home, program}
-use Rattle.eevdf_steps.specs.MicroSteps.{draining, micros_of, moving, steps_by, steps_of, under_lock, under_locks}
-use Rattle.eevdf_steps.specs.Positions.{counter_at, is_position, is_within}
-use Rattle.eevdf_steps.proofs.Lists.{get_left, get_right, lt_true, true_lt, true_eq}
+use Rattle.eevdf_steps.specs.MicroSteps.{draining, micros_of, moving, steps_of, under_lock, under_locks}
+use Rattle.eevdf_steps.specs.Positions.{IsPosition, is_within}
+use Rattle.eevdf_steps.proofs.Lists.{get_left, get_right, got_past, got_within, lt_true, true_lt, true_eq}
 
 abbrev pub step_in : Op → Micro → Step
 step_in o m = record { op = o; micro = m }
@@ -76,28 +73,12 @@ few_draining n p few =
     (omega arith, omega arith)
 
 pub few_micros : (plan : Plan) (p : ℕ) (o : Op) → callers plan ≤ most_cpus → (0 < length (micros_of plan p o)) × (length (micros_of plan p o) ≤ 2 * most_cpus + 2)
-few_micros plan p (op.Tick ns) few = (omega arith, omega arith)
-few_micros plan p op.Pick few = (omega arith, omega arith)
-few_micros plan p op.Yield few = (omega arith, omega arith)
-few_micros plan p (op.Renice task nice) few = (omega arith, omega arith)
 few_micros plan p (op.Sleep task) few = few_sleeping p (home plan task) (p == home plan task)
-few_micros plan p (op.Pull source) few = (omega arith, omega arith)
 few_micros plan p op.Drain few = few_draining (callers plan) p few
-few_micros plan p (op.Post task) few = (omega arith, omega arith)
-
-pub stays_position : (plan : Plan) (p k j : ℕ) (o : Op) → slice_get (program plan p) k ≡ Some o → j < length (micros_of plan p o)
-    → is_position plan p (record { operation = k; steps = j }) ≡ true
-stays_position plan p k j o here h = ap (is_within plan p j) here ∙ lt_true j (length (micros_of plan p o)) h
-
-begins_within : (plan : Plan) (p : ℕ) (o : Option Op) → callers plan ≤ most_cpus → is_within plan p 0 o ≡ true
-begins_within plan p None few = refl
-begins_within plan p (Some o) few = lt_true 0 (length (micros_of plan p o)) (few_micros plan p o few).0
-
-pub begins_position : (plan : Plan) (p k : ℕ) → callers plan ≤ most_cpus → is_position plan p (record { operation = k; steps = 0 }) ≡ true
-begins_position plan p k few = begins_within plan p (slice_get (program plan p) k) few
+few_micros plan p _ few = (omega arith, omega arith)
 
 pub counter_of_next : (plan : Plan) (p k j : ℕ) (o : Op) → slice_get (program plan p) k ≡ Some o → j + 1 ≡ length (micros_of plan p o)
-    → counter_at plan p (record { operation = k + 1; steps = 0 }) ≡ counter_at plan p (record { operation = k; steps = j }) + 1
+    → length (steps_of plan p (take (k + 1) (program plan p))) ≡ length (steps_of plan p (take k (program plan p))) + j + 1
 counter_of_next plan p k j o here last =
     let e : k + 1 ≡ suc k = omega arith in
     let at : length (steps_of plan p (take (k + 1) (program plan p))) ≡ length (steps_of plan p (take k (program plan p))) + length (micros_of plan p o)
@@ -114,17 +95,50 @@ within_none : (plan : Plan) (p j : ℕ) (q : Option Op) → q ≡ None → is_wi
 within_none plan p j None e h = true_eq j 0 h
 within_none plan p j (Some x) e h = cc
 
--- the step at a position of an operation, and past the last one
-pub step_within : (plan : Plan) (p : ℕ) (at : Position) (o : Op) → is_position plan p at ≡ true → slice_get (program plan p) at.operation ≡ Some o
-    → slice_get (steps_by plan p) (counter_at plan p at) ≡ option_map (step_in o) (slice_get (micros_of plan p o) at.steps)
-step_within plan p at o h here =
-    located plan p (program plan p) at.operation at.steps o here (within_some plan p at.steps (slice_get (program plan p) at.operation) o here h)
+-- a position before a step of an operation, and one past the last operation
+pub position_in : (plan : Plan) (p k j : ℕ) (o : Op) (next : Option Step) → slice_get (program plan p) k ≡ Some o → j < length (micros_of plan p o)
+    → next ≡ option_map (step_in o) (slice_get (micros_of plan p o) j) → IsPosition plan p (record { operation = k; steps = j; next = next })
+position_in plan p k j o next here h e = record {
+  within = ap (is_within plan p j) here ∙ lt_true j (length (micros_of plan p o)) h;
+  next = e ∙ sym (located plan p (program plan p) k j o here h);
+}
 
-pub position_has : (plan : Plan) (p : ℕ) (at : Position) (o : Op) → is_position plan p at ≡ true → slice_get (program plan p) at.operation ≡ Some o
-    → at.steps < length (micros_of plan p o)
-position_has plan p at o h here = within_some plan p at.steps (slice_get (program plan p) at.operation) o here h
+pub position_past : (plan : Plan) (p k : ℕ) → slice_get (program plan p) k ≡ None → IsPosition plan p (record { operation = k; steps = 0; next = None })
+position_past plan p k past = record { within = ap (is_within plan p 0) past; next = sym (located_past plan p (program plan p) k 0 past refl) }
 
-pub step_past : (plan : Plan) (p : ℕ) (at : Position) → is_position plan p at ≡ true → slice_get (program plan p) at.operation ≡ None
-    → slice_get (steps_by plan p) (counter_at plan p at) ≡ None
-step_past plan p at h here =
-    located_past plan p (program plan p) at.operation at.steps here (within_none plan p at.steps (slice_get (program plan p) at.operation) here h)
+-- a position with a step stands in the step's operation
+pub record StandsIn (plan : Plan) (p : ℕ) (at : Position) (s : Step) : Type 0 where
+  pub here : slice_get (program plan p) at.operation ≡ Some s.op
+  pub within : at.steps < length (micros_of plan p s.op)
+
+op_of : (o : Op) (r : Option Micro) (s : Step) → option_map (step_in o) r ≡ Some s → o ≡ s.op
+op_of o None s e = cc
+op_of o (Some m) s e = let same : step_in o m ≡ s = cc in ap (λ (t : Step). t.op) same
+
+stands_by : (plan : Plan) (p : ℕ) (at : Position) (s : Step) (q : Option Op) → slice_get (program plan p) at.operation ≡ q → IsPosition plan p at → at.next ≡ Some s
+    → StandsIn plan p at s
+stands_by plan p at s None past is e =
+    absurd (none-some s (sym (located_past plan p (program plan p) at.operation at.steps past
+    (within_none plan p at.steps (slice_get (program plan p) at.operation) past is.within)) ∙ sym is.next ∙ e))
+stands_by plan p at s (Some o) here is e =
+    let h : at.steps < length (micros_of plan p o) = within_some plan p at.steps (slice_get (program plan p) at.operation) o here is.within in
+    let same : o ≡ s.op = op_of o (slice_get (micros_of plan p o) at.steps) s (sym (located plan p (program plan p) at.operation at.steps o here h) ∙ sym is.next ∙ e) in
+    record { here = here ∙ ap (λ (x : Op). Some x) same; within = subst (λ (x : Op). at.steps < length (micros_of plan p x)) same h }
+
+pub stands : (plan : Plan) (p : ℕ) (at : Position) (s : Step) → IsPosition plan p at → at.next ≡ Some s → StandsIn plan p at s
+stands plan p at s is e = stands_by plan p at s (slice_get (program plan p) at.operation) refl is e
+
+-- the operation's next step is there, or was its last
+pub step_within : (ms : List Micro) (o : Op) (j : ℕ) (s : Step) → option_map (step_in o) (slice_get ms j) ≡ Some s → j < length ms
+step_within ms o j s e = some_within ms o j s (slice_get ms j) refl e
+  where
+    some_within : (ms : List Micro) (o : Op) (j : ℕ) (s : Step) (r : Option Micro) → slice_get ms j ≡ r → option_map (step_in o) r ≡ Some s → j < length ms
+    some_within ms o j s None at e = cc
+    some_within ms o j s (Some m) at e = got_within ms j m at
+
+pub step_past : (ms : List Micro) (o : Op) (j : ℕ) → option_map (step_in o) (slice_get ms j) ≡ None → length ms ≤ j
+step_past ms o j e = got_past ms j (none_mapped (slice_get ms j) e)
+  where
+    none_mapped : (r : Option Micro) → option_map (step_in o) r ≡ None → r ≡ None
+    none_mapped None e = refl
+    none_mapped (Some m) e = cc

@@ -1,20 +1,16 @@
 -- The lists of requests stay those that the steps have posted.
 use Rattle.std.proofs.Common.{append_assoc, ◌≡◌, ◌≢◌, ℕ, zero, suc, ◌+◌, ◌*◌, ◌<◌, ◌≤◌, Bool, true, false, cond, List, [], ◌∷◌, ◌++◌, length, take, set, inl, inr, sym, ap, subst, ◌∙◌, arith, refl}
 use Rattle.std.proofs.Math.ListN.{length-set, length-append}
-use Rattle.std.proofs.lemmas.List.{get_or-set_same, get_or-set_other}
-use Rattle.std.proofs.lemmas.Nat.{mul-add-lt, same_from_place}
+use Rattle.std.proofs.lemmas.{List.get_or-set_same, List.get_or-set_other, Nat.mul-add-lt, Nat.same_from_place}
 use Rattle.std.specs.Prelude.{Some}
-use Rattle.eevdf_steps.specs.declared.micro_steps.Micro.{Micro}
-use Rattle.eevdf_steps.specs.declared.micro_steps.Micro.TheVariants.{Acquire, Act, Detach, Attach, Commit, Take, Settle, Release, Post}
-use Rattle.eevdf_steps.specs.declared.program_plan.Step.{Step}
+use Rattle.eevdf_steps.specs.declared.{micro_steps.Micro.Micro, program_plan.Step.Step}
+use Rattle.eevdf_steps.specs.declared.micro_steps.Micro.TheVariants.{Take, Post}
 use Rattle.eevdf_steps.specs.Plan.{IsSound, Plan, callers, home, pair}
-use Rattle.eevdf_steps.specs.MicroSteps.{steps_by}
+use Rattle.eevdf_steps.specs.{MicroSteps.steps_by, Requests.post_to, Requests.posted, Requests.posts_to}
 use Rattle.eevdf_steps.specs.Counters.{Counters, count_of, counted, done_by, step_next}
-use Rattle.eevdf_steps.specs.Requests.{post_to, posted, posts_to}
 use Rattle.eevdf_steps.specs.PostLists.{ArePosted, PostList, has_room, list_at, no_posts, place_of, posted_more, posts_after, taken_more}
 use Rattle.eevdf_steps.specs.SoundSteps.{is_sound_micro}
-use Rattle.eevdf_steps.proofs.SoundSteps.{home_below}
-use Rattle.eevdf_steps.proofs.Lists.{lt_true, true_lt}
+use Rattle.eevdf_steps.proofs.{SoundSteps.home_below, Lists.lt_true, Lists.true_lt}
 use Rattle.eevdf_steps.proofs.Holders.{number_cases, other_number, same_number, take_next}
 
 pub posts_joined : (plan : Plan) (c : ℕ) (xs ys : List Step) → posts_to plan c (xs ++ ys) ≡ posts_to plan c xs ++ posts_to plan c ys
@@ -196,13 +192,7 @@ posts_by plan counters lists p s (Take q) sound a h below e is well =
           (retaken plan counters lists k (taken_more (list_at lists k)) a within (more_taken (list_at lists k) _) (more_taken_room (list_at lists k) _))
           h e (λ c. ap (λ (m : Micro). post_to plan c m) is),
     )
-posts_by plan counters lists p s (Settle q) sound a h below e is well = (refl, still_posted plan counters lists p s a h e (λ c. ap (λ (m : Micro). post_to plan c m) is))
-posts_by plan counters lists p s (Acquire l) sound a h below e is well = (refl, still_posted plan counters lists p s a h e (λ c. ap (λ (m : Micro). post_to plan c m) is))
-posts_by plan counters lists p s (Release l) sound a h below e is well = (refl, still_posted plan counters lists p s a h e (λ c. ap (λ (m : Micro). post_to plan c m) is))
-posts_by plan counters lists p s Act sound a h below e is well = (refl, still_posted plan counters lists p s a h e (λ c. ap (λ (m : Micro). post_to plan c m) is))
-posts_by plan counters lists p s Detach sound a h below e is well = (refl, still_posted plan counters lists p s a h e (λ c. ap (λ (m : Micro). post_to plan c m) is))
-posts_by plan counters lists p s Attach sound a h below e is well = (refl, still_posted plan counters lists p s a h e (λ c. ap (λ (m : Micro). post_to plan c m) is))
-posts_by plan counters lists p s Commit sound a h below e is well = (refl, still_posted plan counters lists p s a h e (λ c. ap (λ (m : Micro). post_to plan c m) is))
+posts_by plan counters lists p s _ sound a h below e is well = (refl, still_posted plan counters lists p s a h e (λ c. ap (λ (m : Micro). post_to plan c m) is))
 
 pub posts_step : (plan : Plan) (counters : Counters) (lists : List PostList) (p : ℕ) (s : Step) → IsSound plan → ArePosted plan counters lists → p < length counters → p < callers plan
     → step_next plan counters p ≡ Some s → is_sound_micro plan s.micro ≡ true

@@ -5,15 +5,11 @@ use Rattle.std.specs.Prelude.{◌==◌, None}
 use Rattle.eevdf_ops.specs.declared.deeds.Op.{Op}
 use Rattle.eevdf_ops.specs.declared.deeds.Op.TheVariants as op
 use Rattle.eevdf_ops.specs.Programs.{post_of, posts_in}
-use Rattle.eevdf_steps.specs.declared.micro_steps.Micro.TheVariants.{Release}
-use Rattle.eevdf_steps.specs.declared.program_plan.Step.{Step}
+use Rattle.eevdf_steps.specs.declared.{micro_steps.Micro.TheVariants.Release, program_plan.Step.Step}
 use Rattle.eevdf_steps.specs.Plan.{Plan, callers, home, program}
 use Rattle.eevdf_steps.specs.MicroSteps.{draining, moving, steps_by, steps_of, under_lock}
-use Rattle.eevdf_steps.specs.Counters.{Counters, count_of, step_next}
-use Rattle.eevdf_steps.specs.Requests.{posted, posts_to}
-use Rattle.eevdf_steps.proofs.Lists.{got_past}
-use Rattle.eevdf_steps.proofs.Positions.{micros_in, step_in}
-use Rattle.eevdf_steps.proofs.Posting.{posts_joined}
+use Rattle.eevdf_steps.specs.{Counters.Counters, Counters.count_of, Counters.step_next, Requests.posted, Requests.posts_to}
+use Rattle.eevdf_steps.proofs.{Lists.got_past, Positions.micros_in, Positions.step_in, Posting.posts_joined}
 
 sleep_posts : (plan : Plan) (p a b c t : ℕ) (here : Bool)
     → posts_to plan c (map (step_in (op.Sleep t)) (cond here (under_lock p moving) (under_lock a (under_lock b moving)))) ≡ []
@@ -25,14 +21,10 @@ drain_posts plan p c zero s = refl
 drain_posts plan p c (suc n) s = drain_posts plan p c n (s + 1)
 
 operation_posts : (plan : Plan) (p c : ℕ) (o : Op) → posts_to plan c (micros_in plan p o) ≡ post_of plan.homes c o
-operation_posts plan p c (op.Tick ns) = refl
-operation_posts plan p c op.Pick = refl
-operation_posts plan p c op.Yield = refl
-operation_posts plan p c (op.Renice task nice) = refl
 operation_posts plan p c (op.Sleep t) = sleep_posts plan p (min p (home plan t)) (max p (home plan t)) c t (p == home plan t)
-operation_posts plan p c (op.Pull s) = refl
 operation_posts plan p c (op.Post t) = append-nil (cond (home plan t == c) (t ∷ []) [])
 operation_posts plan p c op.Drain = drain_posts plan p c (callers plan) 0
+operation_posts plan p c _ = refl
 
 pub program_posts : (plan : Plan) (p c : ℕ) (ops : List Op) → posts_to plan c (steps_of plan p ops) ≡ posts_in plan.homes c ops
 program_posts plan p c [] = refl

@@ -1,18 +1,13 @@
 -- The deeds that the steps of a program commit, whatever requests they find, are those of its operations.
 use Rattle.std.proofs.Common.{append_assoc, ◌≡◌, ◌≤◌, ℕ, zero, suc, ◌+◌, ◌==◌, Bool, true, false, cond, List, [], ◌∷◌, ◌++◌, map, min, max, sym, ap, subst, ◌∙◌, arith, refl}
-use Rattle.std.specs.Prelude.{Option, Some, None}
-use Rattle.std.specs.Option.{option_to_list}
-use Rattle.eevdf_ops.specs.declared.deeds.Op.{Op}
+use Rattle.std.specs.{Prelude.Option, Prelude.Some, Prelude.None, Option.option_to_list}
+use Rattle.eevdf_ops.specs.declared.deeds.{Op.Op, Deed.Deed}
 use Rattle.eevdf_ops.specs.declared.deeds.Op.TheVariants as op
-use Rattle.eevdf_ops.specs.declared.deeds.Deed.{Deed}
 use Rattle.eevdf_ops.specs.declared.deeds.Deed.TheVariants as deed
 use Rattle.eevdf_ops.specs.Programs.{AreWakes, FitsOperation, FitsOperations, InTwo, deed_of}
-use Rattle.eevdf_steps.specs.declared.micro_steps.Micro.{Micro}
-use Rattle.eevdf_steps.specs.declared.micro_steps.Micro.TheVariants.{Release}
-use Rattle.eevdf_steps.specs.declared.program_plan.Step.{Step}
-use Rattle.eevdf_steps.specs.Plan.{Plan, callers, home}
+use Rattle.eevdf_steps.specs.declared.{micro_steps.Micro.Micro, micro_steps.Micro.TheVariants.Release, program_plan.Step.Step}
+use Rattle.eevdf_steps.specs.{Plan.Plan, Plan.callers, Plan.home, Commits.committed, Commits.wake_of}
 use Rattle.eevdf_steps.specs.MicroSteps.{acting, draining, micros_of, moving, steps_of, under_lock}
-use Rattle.eevdf_steps.specs.Commits.{committed, wake_of}
 use Rattle.eevdf_steps.proofs.Positions.{step_in}
 
 -- the deed that a step commits, and then others

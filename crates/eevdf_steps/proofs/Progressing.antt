@@ -2,11 +2,9 @@
 use Rattle.std.proofs.Common.{◌≡◌, ℕ, zero, suc, ◌+◌, ◌<◌, true, cond, List, [], ◌∷◌, map, get_or, set, sym, ap, ◌∙◌, refl}
 use Rattle.std.proofs.lemmas.List.{set-get_or}
 use Rattle.std.specs.Prelude.{slice_get, is_some, Option, Some, None}
-use Rattle.eevdf_steps.specs.declared.micro_steps.Micro.{Micro}
-use Rattle.eevdf_steps.specs.declared.micro_steps.Micro.TheVariants.{Acquire, Act, Detach, Attach, Commit, Take, Settle, Release, Post}
-use Rattle.eevdf_steps.specs.declared.program_plan.Step.{Step}
-use Rattle.eevdf_steps.specs.Plan.{Plan, callers, pair}
-use Rattle.eevdf_steps.specs.Counters.{Counters, counted, step_next}
+use Rattle.eevdf_steps.specs.declared.{micro_steps.Micro.Micro, program_plan.Step.Step}
+use Rattle.eevdf_steps.specs.declared.micro_steps.Micro.TheVariants.{Take, Settle, Post}
+use Rattle.eevdf_steps.specs.{Plan.Plan, Plan.callers, Plan.pair, Counters.Counters, Counters.counted, Counters.step_next}
 use Rattle.eevdf_steps.specs.Requests.{Progress, oldest, posted, progress_by, progress_step, requested, takes}
 use Rattle.eevdf_steps.specs.PostLists.{ArePosted, PostList, list_at, oldest_in, place_of, posted_more, posts_after, progress_in, request_after}
 use Rattle.eevdf_steps.specs.SoundSteps.{is_sound_micro}
@@ -70,12 +68,7 @@ by_micro plan counters lists found p (Settle q) a below well = refl
 by_micro plan counters lists found p (Post t) a below well =
     same_progress (counted counters p) _ _ _ _
     (same_taken lists (place_of plan p (Post t)) (posted_more (list_at lists (place_of plan p (Post t))) t) refl) (set-get_or found p None)
-by_micro plan counters lists found p (Acquire l) a below well = unchanged plan counters lists found p
-by_micro plan counters lists found p (Release l) a below well = unchanged plan counters lists found p
-by_micro plan counters lists found p Act a below well = unchanged plan counters lists found p
-by_micro plan counters lists found p Detach a below well = unchanged plan counters lists found p
-by_micro plan counters lists found p Attach a below well = unchanged plan counters lists found p
-by_micro plan counters lists found p Commit a below well = unchanged plan counters lists found p
+by_micro plan counters lists found p _ a below well = unchanged plan counters lists found p
 
 pub progress_then : (plan : Plan) (counters : Counters) (lists : List PostList) (found : List (Option ℕ)) (p : ℕ) (s : Step) → ArePosted plan counters lists → p < callers plan
     → step_next plan counters p ≡ Some s → is_sound_micro plan s.micro ≡ true

@@ -5,16 +5,13 @@ use Rattle.std.proofs.lemmas.Bool.{false≢true}
 use Rattle.std.specs.Option.{option_map}
 use Rattle.std.specs.Prelude.{◌==◌, is_none, is_some, nat_lt, length, MatchOption, Option, Some, None}
 use Rattle.eevdf_ops.specs.declared.deeds.Op.{Op}
-use Rattle.eevdf_steps.specs.declared.micro_steps.Micro.{Micro}
-use Rattle.eevdf_steps.specs.declared.micro_steps.Micro.TheVariants.{Acquire, Act, Detach, Attach, Commit, Take, Settle, Release, Post}
+use Rattle.eevdf_steps.specs.declared.{micro_steps.Micro.Micro, micro_steps.Micro.TheVariants.Acquire, program_plan.Step.Step}
 use Rattle.eevdf_steps.specs.declared.step_fault.StepFault.TheVariants.{NoCaller}
-use Rattle.eevdf_steps.specs.declared.program_plan.Step.{Step}
 use Rattle.eevdf_steps.specs.Plan.{IsSound, Plan, callers}
 use Rattle.eevdf_steps.specs.Counters.{Counters, blocked_by, counted, holder, holds, is_under_way, least, may_step, next, ready, refused, refused_next, step_next, unfinished}
 use Rattle.eevdf_steps.proofs.Lists.{both, lt_true, true_eq, true_lt}
 use Rattle.eevdf_steps.proofs.Walks.{Acquiring, Fits, FitsMicro, Walk, is_above, is_in}
-use Rattle.eevdf_steps.proofs.Holders.{number_cases}
-use Rattle.eevdf_steps.proofs.Walking.{walking}
+use Rattle.eevdf_steps.proofs.{Holders.number_cases, Walking.walking}
 
 -- a number that passes, of those from one on
 pub record Found (f : ℕ → Bool) (from n k : ℕ) : Type 0 where
@@ -79,14 +76,7 @@ acquires_or_waits plan counters p c (Some q) below e held =
 -- a caller that isn't done may step, or waits for a lock
 steps_or_waits : (plan : Plan) (counters : Counters) (p : ℕ) (m : Micro) → p < callers plan → next plan counters p ≡ Some m → Free plan counters ⊎ Waiting plan counters m
 steps_or_waits plan counters p (Acquire c) below e = acquires_or_waits plan counters p c (holder plan counters c) below e refl
-steps_or_waits plan counters p (Release c) below e = inl (free_if plan counters p (Release c) below e refl)
-steps_or_waits plan counters p Act below e = inl (free_if plan counters p Act below e refl)
-steps_or_waits plan counters p Detach below e = inl (free_if plan counters p Detach below e refl)
-steps_or_waits plan counters p Attach below e = inl (free_if plan counters p Attach below e refl)
-steps_or_waits plan counters p Commit below e = inl (free_if plan counters p Commit below e refl)
-steps_or_waits plan counters p (Take q) below e = inl (free_if plan counters p (Take q) below e refl)
-steps_or_waits plan counters p (Settle q) below e = inl (free_if plan counters p (Settle q) below e refl)
-steps_or_waits plan counters p (Post t) below e = inl (free_if plan counters p (Post t) below e refl)
+steps_or_waits plan counters p m below e = inl (free_if plan counters p m below e refl)
 
 in_by : (c d h : ℕ) (held : List ℕ) (b : Bool) → (h == d) ≡ b → cond b true (is_in d held) ≡ true → h < c → (is_in d held ≡ true → d < c) → d < c
 in_by c d h held true e there below later = omega (arith, true_eq h d e, below)

@@ -1,32 +1,24 @@
 -- What each step makes of the requests from one caller to another.
 use Rattle.std.proofs.Common.{append-nil, ◌≡◌, ◌≢◌, ℕ, suc, ◌+◌, ◌*◌, ◌<◌, ◌≤◌, Bool, true, false, cond, List, [], ◌∷◌, ◌++◌, length, drop, inl, inr, ◌⊎◌, sym, ap, subst, ◌∙◌, arith, refl}
 use Rattle.std.proofs.Math.ListN.{length-append, length-set}
-use Rattle.std.proofs.lemmas.List.{drop-append-le, get_or-set_other, get_or-set_same}
+use Rattle.std.proofs.lemmas.{List.drop-append-le, List.get_or-set_other, List.get_or-set_same, Bool.false≢true}
 use Rattle.std.proofs.lemmas.Nat.{mul-add-lt, same_from_place}
-use Rattle.std.proofs.lemmas.Bool.{false≢true}
 use Rattle.std.specs.Prelude.{slice_get, ◌==◌, MatchOption, Option, Some, None}
 use Rattle.std.specs.Option.{option_map, option_to_list}
-use Rattle.eevdf_ops.specs.declared.deeds.Op.{Op}
+use Rattle.eevdf_ops.specs.declared.deeds.{Op.Op, Deed.Deed}
 use Rattle.eevdf_ops.specs.declared.deeds.Op.TheVariants as op
-use Rattle.eevdf_ops.specs.declared.deeds.Deed.{Deed}
 use Rattle.eevdf_ops.specs.Programs.{deed_of, deeds_by, wakes_in}
-use Rattle.eevdf_steps.specs.declared.micro_steps.Micro.{Micro}
-use Rattle.eevdf_steps.specs.declared.micro_steps.Micro.TheVariants.{Acquire, Act, Detach, Attach, Commit, Take, Settle, Release, Post}
-use Rattle.eevdf_steps.specs.declared.program_plan.Step.{Step}
+use Rattle.eevdf_steps.specs.declared.{micro_steps.Micro.Micro, program_plan.Step.Step}
+use Rattle.eevdf_steps.specs.declared.micro_steps.Micro.TheVariants.{Commit, Take, Settle}
 use Rattle.eevdf_steps.specs.Plan.{IsSound, Plan, callers, pair}
-use Rattle.eevdf_steps.specs.MicroSteps.{steps_by}
+use Rattle.eevdf_steps.specs.{MicroSteps.steps_by, Commits.committed, Commits.committed_by, Commits.wake_of}
 use Rattle.eevdf_steps.specs.Counters.{Counters, count_of, counted, next, step_next}
 use Rattle.eevdf_steps.specs.Requests.{Progress, found_by, left, oldest, posted, progress_by, requested, taken_of, takes}
-use Rattle.eevdf_steps.specs.Commits.{committed, committed_by, wake_of}
 use Rattle.eevdf_steps.proofs.CommittedLines.{to_settle, to_settle_next, unsettled}
 use Rattle.eevdf_steps.proofs.CommittedPrograms.{count_other, other_deeds, own_deeds}
-use Rattle.eevdf_steps.proofs.Holders.{number_cases, other_number, same_number}
-use Rattle.eevdf_steps.proofs.Lists.{drop_next, got_within}
-use Rattle.eevdf_steps.proofs.Positions.{step_in}
-use Rattle.eevdf_steps.proofs.Posting.{quiet}
+use Rattle.eevdf_steps.proofs.{Holders.number_cases, Holders.other_number, Holders.same_number, Positions.step_in}
+use Rattle.eevdf_steps.proofs.{Lists.drop_next, Lists.got_within, Posting.quiet, SoundSteps.is_caller, Walking.walking}
 use Rattle.eevdf_steps.proofs.Requesting.{HasGrown, IsAsLong, IsElsewhere, as_long, elsewhere, posts_grow}
-use Rattle.eevdf_steps.proofs.SoundSteps.{is_caller}
-use Rattle.eevdf_steps.proofs.Walking.{walking}
 use Rattle.eevdf_steps.proofs.Walks.{Fits, Taking, Walk}
 
 -- who has found something settles it next
@@ -144,13 +136,7 @@ idles plan g q c o m s quietly none =
 
 commit_wakes : (q c : ℕ) (o : Op) → wakes_in q (option_to_list (deed_of c o)) ≡ []
 commit_wakes q c (op.Tick ns) = refl
-commit_wakes q c op.Pick = refl
-commit_wakes q c op.Yield = refl
-commit_wakes q c (op.Renice task nice) = refl
-commit_wakes q c (op.Sleep t) = refl
-commit_wakes q c (op.Pull s) = refl
-commit_wakes q c (op.Post t) = refl
-commit_wakes q c op.Drain = refl
+commit_wakes q c _ = refl
 
 -- the home settles what it found
 settle_wakes : (q c s : ℕ) (found : Option ℕ) → wakes_in q (option_to_list (wake_of c s found)) ≡ to_settle q (Settle s) found
@@ -283,12 +269,7 @@ own_moves : (plan : Plan) (g : Progress) (q c : ℕ) (o : Op) (m : Micro) → Is
 own_moves plan g q c o (Take s) sound t = grasp_moves plan g q c s o (oldest plan g s c) (grasps plan g q c s o sound t) refl
 own_moves plan g q c o (Settle s) sound t = settles plan g q c s o t
 own_moves plan g q c o Commit sound t = idles plan g q c o Commit t refl (commit_wakes q c o)
-own_moves plan g q c o (Post task) sound t = idles plan g q c o (Post task) t refl refl
-own_moves plan g q c o (Acquire cpu) sound t = idles plan g q c o (Acquire cpu) t refl refl
-own_moves plan g q c o (Release cpu) sound t = idles plan g q c o (Release cpu) t refl refl
-own_moves plan g q c o Act sound t = idles plan g q c o Act t refl refl
-own_moves plan g q c o Detach sound t = idles plan g q c o Detach t refl refl
-own_moves plan g q c o Attach sound t = idles plan g q c o Attach t refl refl
+own_moves plan g q c o m sound t = idles plan g q c o m t refl refl
 
 pub step_moves : (plan : Plan) (g : Progress) (x q c : ℕ) (r : Option Step) → IsSound plan → c < callers plan → IsOrderly plan g q c → step_next plan g.counters x ≡ r
     → Moves plan g (progress_by plan g x r) q c (wakes_in q (deeds_by c (committed_by g x r)))

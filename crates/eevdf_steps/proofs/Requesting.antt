@@ -1,17 +1,13 @@
 -- What a step of a caller changes of the requests, and what it leaves.
 use Rattle.std.proofs.Common.{◌≡◌, ◌≢◌, ℕ, ◌+◌, ◌<◌, List, [], ◌++◌, length, inl, inr, sym, subst, ◌∙◌, append-nil, refl}
 use Rattle.std.proofs.Math.ListN.{length-set}
-use Rattle.std.proofs.lemmas.List.{get_or-set_other}
-use Rattle.std.proofs.lemmas.Nat.{same_from_place}
+use Rattle.std.proofs.lemmas.{List.get_or-set_other, Nat.same_from_place}
 use Rattle.std.specs.Prelude.{Option, Some, None}
-use Rattle.eevdf_steps.specs.declared.micro_steps.Micro.{Micro}
+use Rattle.eevdf_steps.specs.declared.{micro_steps.Micro.Micro, program_plan.Step.Step}
 use Rattle.eevdf_steps.specs.declared.micro_steps.Micro.TheVariants.{Take, Settle}
-use Rattle.eevdf_steps.specs.declared.program_plan.Step.{Step}
-use Rattle.eevdf_steps.specs.Plan.{Plan, callers, pair}
-use Rattle.eevdf_steps.specs.Counters.{Counters, counted, step_next}
+use Rattle.eevdf_steps.specs.{Plan.Plan, Plan.callers, Plan.pair, Counters.Counters, Counters.counted, Counters.step_next}
 use Rattle.eevdf_steps.specs.Requests.{Progress, found_by, oldest, post_to, posted, requested, taken_of, takes}
-use Rattle.eevdf_steps.proofs.Holders.{number_cases}
-use Rattle.eevdf_steps.proofs.Posting.{posted_other, posted_own}
+use Rattle.eevdf_steps.proofs.{Holders.number_cases, Posting.posted_other, Posting.posted_own}
 
 -- as many pairs and callers as before
 pub record IsAsLong (g h : Progress) : Type 0 where

@@ -1,32 +1,23 @@
 -- What is reserved for the requests and the lines.
 use Rattle.std.proofs.Common.{append-nil, ◌≡◌, ℕ, zero, suc, ◌+◌, ◌*◌, ◌%◌, ◌<◌, ◌≤◌, Bool, true, false, cond, List, [], ◌∷◌, ◌++◌, length, map, drop, take, get_or, set, replicate, inl, inr, sym, ap, subst, ◌∙◌, arith, refl}
 use Rattle.std.proofs.Math.ListN.{length-append, length-replicate, length-set}
-use Rattle.std.proofs.lemmas.Bool.{cases_lt}
-use Rattle.std.proofs.lemmas.Grind.{flat_map-append}
+use Rattle.std.proofs.lemmas.{Bool.cases_lt, Grind.flat_map-append, List.Folds.sum_by-replicate, List.Sums.sum_by-cons}
 use Rattle.std.proofs.lemmas.List.{get_or_append_left, get_or-replicate, get_or-set_other, get_or-set_same, get_or_push, length-take-le, take_more}
-use Rattle.std.proofs.lemmas.List.Folds.{sum_by-replicate}
-use Rattle.std.proofs.lemmas.List.Sums.{sum_by-cons}
 use Rattle.std.proofs.lemmas.Nat.{div-mul-add, mod-mul-add}
 use Rattle.std.specs.List.{sum_by}
 use Rattle.std.specs.Prelude.{◌==◌, is_some, slice_index, Option, None}
 use Rattle.eevdf_ops.specs.declared.deeds.Op.{Op}
 use Rattle.eevdf_ops.specs.declared.deeds.Op.TheVariants as op
-use Rattle.eevdf_ops.specs.Numbers.{most_operations}
-use Rattle.eevdf_ops.specs.Places.{count}
-use Rattle.eevdf_ops.specs.Programs.{post_of, posts_in}
-use Rattle.eevdf_steps.specs.declared.micro_steps.Micro.TheVariants.{Release}
-use Rattle.eevdf_steps.specs.declared.program_plan.Step.{Step}
+use Rattle.eevdf_ops.specs.{Numbers.most_operations, Places.count, Programs.post_of, Programs.posts_in}
+use Rattle.eevdf_steps.specs.declared.{micro_steps.Micro.TheVariants.Release, program_plan.Step.Step}
 use Rattle.eevdf_steps.specs.Plan.{IsSound, Plan, callers, home, is_sound_op, program}
 use Rattle.eevdf_steps.specs.MicroSteps.{draining, moving, steps_by, steps_of, under_lock, under_locks}
-use Rattle.eevdf_steps.specs.Orders.{counters_at_start}
-use Rattle.eevdf_steps.specs.PostLists.{PostList, list_at, no_posts}
+use Rattle.eevdf_steps.specs.{Orders.counters_at_start, PostLists.PostList, PostLists.list_at, PostLists.no_posts}
 use Rattle.eevdf_steps.specs.Room.{lines_in, lines_left, lines_to_come, steps_to_come, sum_from, unsettled, waiting, waiting_in}
 use Rattle.eevdf_steps.specs.Openings.{AreEmpty, CountPosts, empty_at, most_lines, post_counted, room_at}
 use Rattle.eevdf_steps.proofs.Holders.{count_first, number_cases, other_number, same_number}
-use Rattle.eevdf_steps.proofs.Lists.{all_at, true_lt}
-use Rattle.eevdf_steps.proofs.Plans.{program_ops_sound, program_short}
-use Rattle.eevdf_steps.proofs.Positions.{micros_in, step_in}
-use Rattle.eevdf_steps.proofs.SoundSteps.{home_below}
+use Rattle.eevdf_steps.proofs.{Lists.all_at, Lists.true_lt, Plans.program_ops_sound, Plans.program_short}
+use Rattle.eevdf_steps.proofs.{Positions.micros_in, Positions.step_in, SoundSteps.home_below}
 
 -- operations post no more requests than they are
 few_posts : (homes : List ℕ) (c : ℕ) (o : Op) → length (post_of homes c o) ≤ 1
@@ -35,13 +26,7 @@ few_posts homes c (op.Post t) = few (get_or homes t 0 == c)
     few : (b : Bool) → length (cond b (t ∷ []) []) ≤ 1
     few true = omega arith
     few false = omega arith
-few_posts homes c (op.Tick ns) = omega arith
-few_posts homes c op.Pick = omega arith
-few_posts homes c op.Yield = omega arith
-few_posts homes c (op.Renice task nice) = omega arith
-few_posts homes c (op.Sleep t) = omega arith
-few_posts homes c (op.Pull s) = omega arith
-few_posts homes c op.Drain = omega arith
+few_posts homes c _ = omega arith
 
 posts_few : (homes : List ℕ) (c : ℕ) (ops : List Op) → length (posts_in homes c ops) ≤ length ops
 posts_few homes c [] = omega arith
@@ -103,13 +88,7 @@ post_counts_more plan ops t counts below a =
 counted_more : (plan : Plan) (ops : List Op) (o : Op) (counts : List ℕ) → IsSound plan → is_sound_op plan o ≡ true → CountPosts plan ops counts
     → CountPosts plan (ops ++ o ∷ []) (post_counted plan o counts)
 counted_more plan ops (op.Post t) counts sound known a = post_counts_more plan ops t counts (home_below plan t sound (true_lt t (length plan.homes) known)) a
-counted_more plan ops (op.Tick ns) counts sound known a = quiet_counted plan ops (op.Tick ns) counts a (λ c. refl)
-counted_more plan ops op.Pick counts sound known a = quiet_counted plan ops op.Pick counts a (λ c. refl)
-counted_more plan ops op.Yield counts sound known a = quiet_counted plan ops op.Yield counts a (λ c. refl)
-counted_more plan ops (op.Renice task nice) counts sound known a = quiet_counted plan ops (op.Renice task nice) counts a (λ c. refl)
-counted_more plan ops (op.Sleep t) counts sound known a = quiet_counted plan ops (op.Sleep t) counts a (λ c. refl)
-counted_more plan ops (op.Pull s) counts sound known a = quiet_counted plan ops (op.Pull s) counts a (λ c. refl)
-counted_more plan ops op.Drain counts sound known a = quiet_counted plan ops op.Drain counts a (λ c. refl)
+counted_more plan ops o counts sound known a = quiet_counted plan ops o counts a (λ c. refl)
 
 -- the operation at a place of a program is counted after those before it
 pub counted_next : (plan : Plan) (p i : ℕ) (o : Op) (counts : List ℕ) → IsSound plan → i < length (program plan p) → o ≡ get_or (program plan p) i o
@@ -161,14 +140,9 @@ sleeping_lines o p h false = omega arith
 
 -- an operation comes to at most one line
 operation_lines : (plan : Plan) (p : ℕ) (o : Op) → lines_in (micros_in plan p o) ≤ 1
-operation_lines plan p (op.Tick ns) = omega arith
-operation_lines plan p op.Pick = omega arith
-operation_lines plan p op.Yield = omega arith
-operation_lines plan p (op.Renice task nice) = omega arith
 operation_lines plan p (op.Sleep t) = sleeping_lines (op.Sleep t) p (home plan t) (p == home plan t)
-operation_lines plan p (op.Pull d) = omega arith
 operation_lines plan p op.Drain = omega (arith, draining_lines op.Drain (callers plan) 0 p)
-operation_lines plan p (op.Post t) = omega arith
+operation_lines plan p _ = omega arith
 
 program_lines : (plan : Plan) (p : ℕ) (ops : List Op) → lines_in (steps_of plan p ops) ≤ length ops
 program_lines plan p [] = omega arith

@@ -1,24 +1,16 @@
 -- The history has room for all the lines that come.
 use Rattle.std.proofs.Common.{◌≡◌, ◌≢◌, ℕ, zero, suc, ◌+◌, ◌<◌, ◌≤◌, cond, List, [], ◌∷◌, length, drop, get_or, set, inl, inr, sym, ap, subst, ◌∙◌, arith, refl}
 use Rattle.std.proofs.Math.ListN.{length-append}
-use Rattle.std.proofs.lemmas.List.{get_or-set_same, get_or-set_other}
-use Rattle.std.proofs.lemmas.List.Sums.{sum_by-set}
+use Rattle.std.proofs.lemmas.{List.get_or-set_same, List.get_or-set_other, List.Sums.sum_by-set}
 use Rattle.std.specs.Prelude.{slice_get, is_some, Option, Some, None}
-use Rattle.eevdf_ops.specs.declared.deeds.Op.{Op}
-use Rattle.eevdf_ops.specs.declared.deeds.Deed.{Deed}
-use Rattle.eevdf_ops.specs.declared.deeds.Answer.{Answer}
+use Rattle.eevdf_ops.specs.declared.deeds.{Op.Op, Deed.Deed, Answer.Answer}
 use Rattle.eevdf_ops.specs.Places.{count}
-use Rattle.eevdf_steps.specs.declared.micro_steps.Micro.{Micro}
-use Rattle.eevdf_steps.specs.declared.micro_steps.Micro.TheVariants.{Acquire, Act, Detach, Attach, Commit, Take, Settle, Release, Post}
-use Rattle.eevdf_steps.specs.declared.program_plan.Step.{Step}
-use Rattle.eevdf_steps.specs.Plan.{Plan, callers}
-use Rattle.eevdf_steps.specs.MicroSteps.{steps_by}
+use Rattle.eevdf_steps.specs.declared.{micro_steps.Micro.Micro, program_plan.Step.Step}
+use Rattle.eevdf_steps.specs.declared.micro_steps.Micro.TheVariants.{Commit, Take, Settle, Post}
+use Rattle.eevdf_steps.specs.{Plan.Plan, Plan.callers, MicroSteps.steps_by, Work.Work, MicroState.appends, MicroState.line_of}
 use Rattle.eevdf_steps.specs.Counters.{Counters, count_of, counted, step_next}
 use Rattle.eevdf_steps.specs.PostLists.{PostList, list_at, no_posts, oldest_in, posted_more, posts_after, request_after, taken_more}
-use Rattle.eevdf_steps.specs.Work.{Work}
-use Rattle.eevdf_steps.specs.MicroState.{appends, line_of}
-use Rattle.eevdf_steps.proofs.Holders.{number_cases}
-use Rattle.eevdf_steps.proofs.Lists.{got_within}
+use Rattle.eevdf_steps.proofs.{Holders.number_cases, Lists.got_within}
 use Rattle.eevdf_steps.specs.Room.{lines_in, lines_left, lines_of, lines_to_come, steps_to_come, sum_from, unsettled, waiting, waiting_in}
 
 rest_of : (ss : List Step) (k : ℕ) (s : Step) → slice_get ss k ≡ Some s → lines_in (drop k ss) ≡ lines_of s.micro + lines_in (drop (suc k) ss)
@@ -153,11 +145,7 @@ leaves_fewer w lists found place p o Commit f h = commit_leaves w lists found pl
 leaves_fewer w lists found place p o (Post t) f h = post_leaves w lists found place p t o f h
 leaves_fewer w lists found place p o (Take q) f h = take_leaves w lists found place p q o f h
 leaves_fewer w lists found place p o (Settle q) f h = settle_leaves w lists found place p q o f h
-leaves_fewer w lists found place p o Act f h = other_leaves lists found place p f 0 h
-leaves_fewer w lists found place p o Detach f h = other_leaves lists found place p f 0 h
-leaves_fewer w lists found place p o Attach f h = other_leaves lists found place p f 0 h
-leaves_fewer w lists found place p o (Acquire c) f h = other_leaves lists found place p f 0 h
-leaves_fewer w lists found place p o (Release c) f h = other_leaves lists found place p f 0 h
+leaves_fewer w lists found place p o _ f h = other_leaves lists found place p f 0 h
 
 -- a step appends no more lines than it leaves fewer to come
 pub fewer_to_come : (plan : Plan) (counters : Counters) (lists : List PostList) (found : List (Option ℕ)) (w : Work) (place p : ℕ) (s : Step) (f : Option ℕ)

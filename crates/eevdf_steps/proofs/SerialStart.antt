@@ -3,14 +3,10 @@ use Rattle.std.proofs.Common.{◌≡◌, ℕ, false, [], replicate, take, sym, a
 use Rattle.std.proofs.lemmas.Bool.{false≢true}
 use Rattle.std.specs.Prelude.{Option, None}
 use Rattle.eevdf_ops.specs.Machine.{Machine, queue_at}
-use Rattle.eevdf_steps.specs.Plan.{IsSound, Plan, callers}
-use Rattle.eevdf_steps.specs.MicroSteps.{steps_by}
-use Rattle.eevdf_steps.specs.Counters.{held_by_steps, holds, step_next}
-use Rattle.eevdf_steps.specs.Orders.{counters_at_start}
+use Rattle.eevdf_steps.specs.{Plan.IsSound, Plan.Plan, Plan.callers, MicroSteps.steps_by, Orders.counters_at_start}
+use Rattle.eevdf_steps.specs.{Counters.held_by_steps, Counters.holds, Counters.step_next, Serial.IsSerial, Serial.begun_by}
 use Rattle.eevdf_steps.specs.UnderWay.{UnderWay, hand_seen}
-use Rattle.eevdf_steps.specs.Serial.{IsSerial, begun_by}
-use Rattle.eevdf_steps.proofs.Holders.{count_first, none_first}
-use Rattle.eevdf_steps.proofs.Walking.{fresh_at_start}
+use Rattle.eevdf_steps.proofs.{Holders.count_first, Holders.none_first, Walking.fresh_at_start}
 use Rattle.eevdf_steps.proofs.OwnSteps.{fresh_begun, no_answer}
 
 holds_nothing : (plan : Plan) (c p : ℕ) → holds plan (counters_at_start plan) c p ≡ false

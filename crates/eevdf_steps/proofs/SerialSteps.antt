@@ -1,40 +1,26 @@
 -- Each micro-step keeps what the callers see a part of the history's whole operations.
 use Rattle.std.proofs.Common.{◌≡◌, ℕ, zero, suc, ◌+◌, ◌<◌, Bool, true, false, cond, not, ◌||◌, List, [], ◌∷◌, ◌++◌, length, sym, ap, subst, ◌∙◌, inl, inr, refl, arith}
-use Rattle.std.proofs.lemmas.Bool.{false≢true, cases_lt}
-use Rattle.std.proofs.lemmas.List.{append-nil}
+use Rattle.std.proofs.lemmas.{Bool.false≢true, Bool.cases_lt, List.append-nil}
 use Rattle.std.specs.Prelude.{◌==◌, MatchOption, Option, Some, None}
 use Rattle.std.specs.Option.{option_to_list}
-use Rattle.eevdf_steps.specs.Commits.{committed}
-use Rattle.eevdf_queue.specs.State.{State}
-use Rattle.eevdf_queue.specs.Leaving.{carried_running}
-use Rattle.eevdf_ops.specs.declared.deeds.Op.{Op}
+use Rattle.eevdf_steps.specs.{Commits.committed, Working.FitsHand, Working.HasRoom, UnderWay.under_way}
+use Rattle.eevdf_queue.specs.{State.State, Leaving.carried_running}
+use Rattle.eevdf_ops.specs.declared.deeds.{Op.Op, Deed.Deed, Answer.Answer, Line.Line}
 use Rattle.eevdf_ops.specs.declared.deeds.Op.TheVariants as op
-use Rattle.eevdf_ops.specs.declared.deeds.Deed.{Deed}
 use Rattle.eevdf_ops.specs.declared.deeds.Deed.TheVariants as deed
-use Rattle.eevdf_ops.specs.declared.deeds.Answer.{Answer}
-use Rattle.eevdf_ops.specs.declared.deeds.Line.{Line}
-use Rattle.eevdf_ops.specs.Machine.{Machine, queue_at}
+use Rattle.eevdf_ops.specs.{Machine.Machine, Machine.queue_at, Whole.whole, Programs.deed_of, Programs.deeds_of}
 use Rattle.eevdf_ops.specs.OneQueue.{one_tick, one_pick, one_yield, one_renice}
-use Rattle.eevdf_ops.specs.Whole.{whole}
-use Rattle.eevdf_ops.specs.WholePull.{decision, load_of, offer}
-use Rattle.eevdf_steps.specs.declared.micro_steps.Micro.{Micro}
+use Rattle.eevdf_ops.specs.{WholePull.decision, WholePull.load_of, WholePull.offer, Histories.machine_told}
+use Rattle.eevdf_steps.specs.declared.{micro_steps.Micro.Micro, program_plan.Step.Step}
 use Rattle.eevdf_steps.specs.declared.micro_steps.Micro.TheVariants.{Acquire, Act, Detach, Attach, Commit, Take, Settle, Release, Post}
-use Rattle.eevdf_steps.specs.declared.program_plan.Step.{Step}
 use Rattle.eevdf_steps.specs.Plan.{IsSound, Plan, callers, home}
 use Rattle.eevdf_steps.specs.Counters.{Counters, counted, holder, holds, least, refused, step_next}
-use Rattle.eevdf_ops.specs.Programs.{deed_of, deeds_of}
-use Rattle.eevdf_ops.specs.Histories.{machine_told}
 use Rattle.eevdf_steps.specs.MicroState.{appends, home_for, line_of, works}
 use Rattle.eevdf_steps.specs.Work.{Work, answer, hand, pull_decision, woken}
-use Rattle.eevdf_steps.specs.Working.{FitsHand, HasRoom}
-use Rattle.eevdf_steps.specs.UnderWay.{under_way}
 use Rattle.eevdf_steps.specs.Serial.{IsFree, FollowsHistory, IsSerial}
-use Rattle.eevdf_steps.proofs.Holders.{nobody_past, not_blocked, same_number}
-use Rattle.eevdf_steps.proofs.Lists.{true_lt}
-use Rattle.eevdf_steps.proofs.Positions.{step_in}
-use Rattle.eevdf_steps.proofs.SoundSteps.{home_below, is_caller}
+use Rattle.eevdf_steps.proofs.{Holders.nobody_past, Holders.not_blocked, Holders.same_number, Lists.true_lt, Walking.walking}
+use Rattle.eevdf_steps.proofs.{Positions.step_in, SoundSteps.home_below, SoundSteps.is_caller}
 use Rattle.eevdf_steps.proofs.Walks.{Covers, Fits, Walk, touched}
-use Rattle.eevdf_steps.proofs.Walking.{walking}
 use Rattle.eevdf_steps.proofs.OtherCallers.{IsStepOf, followed_then}
 use Rattle.eevdf_steps.proofs.OwnSteps.{AtStep, acquire_step, begun_now, fresh_begun, holds_nothing, quiet_step, release_step, same_locks, sees_history}
 use Rattle.eevdf_steps.proofs.OwnWork.{AtAttach, acted_step, at_attach, falls_asleep_step, joins_step, pull_leaves, room_then, sleep_leaves}
@@ -94,10 +80,7 @@ act_serial plan start counters p h w lines (op.Renice task nice) f s =
     local_serial plan start counters p w _ lines (op.Renice task nice) Act s
     (acted_step plan counters p (machine_told plan.homes start lines) w (op.Renice task nice) (deed.Renice p task nice) (λ q. one_renice q task nice) s.at
     (holds_covered plan counters p (op.Renice task nice) s.at.walk s.at.fits.covers) (ap (λ (o : Option Step). under_way p o) s.at.fits.follows) (refl, refl))
-act_serial plan start counters p h w lines (op.Sleep t) f s = absurd (false≢true s.at.fits.acting)
-act_serial plan start counters p h w lines (op.Pull q) f s = absurd (false≢true s.at.fits.acting)
-act_serial plan start counters p h w lines (op.Post t) f s = absurd (false≢true s.at.fits.acting)
-act_serial plan start counters p h w lines op.Drain f s = absurd (false≢true s.at.fits.acting)
+act_serial plan start counters p h w lines _ f s = absurd (false≢true s.at.fits.acting)
 
 any_last : (a b : Bool) → b ≡ true → (a || b) ≡ true
 any_last true b e = refl
@@ -131,12 +114,7 @@ detach_serial plan start counters p h w lines (op.Pull q) f s =
     (true_lt q (callers plan) (next_sound_op plan counters p (step_in (op.Pull q) Detach) s.sound s.at.next))
     (ap (λ (x : State). decision x (load_of (queue_at m q)) (offer (queue_at m q))) (sym (same_queue plan start counters p p w lines (op.Pull q) s own))
     ∙ ap (λ (x : State). decision (queue_at w.machine p) (load_of x) (offer x)) (sym (same_queue plan start counters p q w lines (op.Pull q) s source))))
-detach_serial plan start counters p h w lines (op.Tick ns) f s = absurd (false≢true s.at.fits.moving)
-detach_serial plan start counters p h w lines op.Pick f s = absurd (false≢true s.at.fits.moving)
-detach_serial plan start counters p h w lines op.Yield f s = absurd (false≢true s.at.fits.moving)
-detach_serial plan start counters p h w lines (op.Renice task nice) f s = absurd (false≢true s.at.fits.moving)
-detach_serial plan start counters p h w lines (op.Post t) f s = absurd (false≢true s.at.fits.moving)
-detach_serial plan start counters p h w lines op.Drain f s = absurd (false≢true s.at.fits.moving)
+detach_serial plan start counters p h w lines _ f s = absurd (false≢true s.at.fits.moving)
 
 at_pull : (plan : Plan) (start : Machine) (counters : Counters) (p q : ℕ) (w : Work) (lines : List Line) → Serial plan start counters p w lines (op.Pull q) Attach
     → AtAttach plan counters p (machine_told plan.homes start lines) w (op.Pull q) (deed.Pull p q)
@@ -165,12 +143,7 @@ attach_serial plan start counters p w lines (op.Pull q) f s =
     local_serial plan start counters p w _ lines (op.Pull q) Attach s
     (joins_step plan counters p q m w (at_pull plan start counters p q w lines s)
     (deed_fits plan counters p (step_in (op.Pull q) Attach) (deed.Pull p q) s.sound s.at.next refl m s.at.long) (holds_own_queue plan start counters p q w lines s))
-attach_serial plan start counters p w lines (op.Tick ns) f s = absurd (false≢true s.at.fits.moving)
-attach_serial plan start counters p w lines op.Pick f s = absurd (false≢true s.at.fits.moving)
-attach_serial plan start counters p w lines op.Yield f s = absurd (false≢true s.at.fits.moving)
-attach_serial plan start counters p w lines (op.Renice task nice) f s = absurd (false≢true s.at.fits.moving)
-attach_serial plan start counters p w lines (op.Post t) f s = absurd (false≢true s.at.fits.moving)
-attach_serial plan start counters p w lines op.Drain f s = absurd (false≢true s.at.fits.moving)
+attach_serial plan start counters p w lines _ f s = absurd (false≢true s.at.fits.moving)
 
 line_is : (o : Option Deed) (kept : Option Answer) (d : Deed) (a : Answer) → o ≡ Some d → kept ≡ Some a → line_of o kept ≡ record { deed = d; answer = a } ∷ []
 line_is o kept d a e k = ap (λ (x : Option Deed). line_of x kept) e ∙ ap (λ (y : Option Answer). line_of (Some d) y) k
@@ -273,13 +246,7 @@ appended : (plan : Plan) (start : Machine) (counters : Counters) (p : ℕ) (w : 
 appended plan start counters p w lines o Commit f s = appended_commit plan start counters p w lines o s
 appended plan start counters p w lines o (Settle q) None s = refl
 appended plan start counters p w lines o (Settle q) (Some t) s = refl
-appended plan start counters p w lines o Act f s = refl
-appended plan start counters p w lines o Detach f s = refl
-appended plan start counters p w lines o Attach f s = refl
-appended plan start counters p w lines o (Take q) f s = refl
-appended plan start counters p w lines o (Post t) f s = refl
-appended plan start counters p w lines o (Acquire c) f s = refl
-appended plan start counters p w lines o (Release c) f s = refl
+appended plan start counters p w lines o _ f s = refl
 
 -- what is in the hand can be put down
 room_in_hand : (plan : Plan) (start : Machine) (counters : Counters) (p : ℕ) (w : Work) (lines : List Line) (o : Op) → Serial plan start counters p w lines o Attach → HasRoom w p o
@@ -288,25 +255,13 @@ room_in_hand plan start counters p w lines (op.Pull q) s =
     let a : AtAttach plan counters p (machine_told plan.homes start lines) w (op.Pull q) (deed.Pull p q) = at_pull plan start counters p q w lines s in
     room_then plan counters p q (machine_told plan.homes start lines) w (hand w p) a (holds_own_queue plan start counters p q w lines s)
     (λ same. false≢true (sym (ap not (ap (λ (k : ℕ). k == p) same ∙ same_number p)) ∙ apart)) (sym a.hand_is)
-room_in_hand plan start counters p w lines (op.Sleep t) s = tt
-room_in_hand plan start counters p w lines (op.Tick ns) s = tt
-room_in_hand plan start counters p w lines op.Pick s = tt
-room_in_hand plan start counters p w lines op.Yield s = tt
-room_in_hand plan start counters p w lines (op.Renice task nice) s = tt
-room_in_hand plan start counters p w lines (op.Post t) s = tt
-room_in_hand plan start counters p w lines op.Drain s = tt
+room_in_hand plan start counters p w lines _ s = tt
 
 hand_fits : (plan : Plan) (start : Machine) (counters : Counters) (p : ℕ) (w : Work) (lines : List Line) (o : Op) (micro : Micro) → Serial plan start counters p w lines o micro → FitsHand w p o micro
 hand_fits plan start counters p w lines o Detach s =
     holds_nothing plan counters p (machine_told plan.homes start lines) w s.serial.seen (begun_now plan counters p o Detach s.at.next)
 hand_fits plan start counters p w lines o Attach s = room_in_hand plan start counters p w lines o s
-hand_fits plan start counters p w lines o Act s = tt
-hand_fits plan start counters p w lines o Commit s = tt
-hand_fits plan start counters p w lines o (Take q) s = tt
-hand_fits plan start counters p w lines o (Settle q) s = tt
-hand_fits plan start counters p w lines o (Post t) s = tt
-hand_fits plan start counters p w lines o (Acquire c) s = tt
-hand_fits plan start counters p w lines o (Release c) s = tt
+hand_fits plan start counters p w lines o _ s = tt
 
 -- a queue whose lock has no holder is that of the history
 pub free_queue : (plan : Plan) (start : Machine) (counters : Counters) (w : Work) (lines : List Line) (c : ℕ) → IsSerial plan start counters w lines → holder plan counters c ≡ None

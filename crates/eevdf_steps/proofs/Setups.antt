@@ -6,12 +6,11 @@ use Rattle.std.specs.Prelude.{nat_lt, nat_le, ◌==◌, None}
 use Rattle.eevdf_ops.specs.declared.task_spec.TaskSpec.{TaskSpec}
 use Rattle.eevdf_ops.specs.declared.deeds.Op.{Op}
 use Rattle.eevdf_ops.specs.declared.deeds.Op.TheVariants as op
-use Rattle.eevdf_ops.specs.Setup.{Setup, cpus_of, is_source}
+use Rattle.eevdf_ops.specs.{Setup.Setup, Setup.cpus_of, Setup.is_source, Numbers.most_cpus, Numbers.most_operations}
 use Rattle.eevdf_queue.specs.State.{empty_state}
 use Rattle.eevdf_ops.proofs.Machines.{length-begin_at_homes}
 use Rattle.eevdf_ops.proofs.SetupFaults.{or_none_left, or_none_right, parts_of, passes}
 use Rattle.std.proofs.Math.ListN.{length-replicate}
-use Rattle.eevdf_ops.specs.Numbers.{most_cpus, most_operations}
 use Rattle.eevdf_ops.specs.Faults.{operation_fault, operations_fault, program_fault, programs_fault, setup_fault, task_fault, tasks_fault, unless}
 use Rattle.eevdf_steps.specs.Plan.{IsSound, Plan, all_pull_elsewhere, callers, is_sound_op, is_sound_program, plan_of, pulls_elsewhere}
 use Rattle.eevdf_steps.proofs.Lists.{both, true_le}
@@ -31,10 +30,7 @@ op_is_sound plan cpu place (op.Sleep task) h = passes _ _ h
 op_is_sound plan cpu place (op.Post task) h = passes _ _ h
 op_is_sound plan cpu place (op.Renice task nice) h = passes _ _ h
 op_is_sound plan cpu place (op.Pull source) h = (both (nat_lt source (callers plan)) (not (source == cpu)) (passes (is_source (callers plan) cpu source) _ h)).0
-op_is_sound plan cpu place (op.Tick ns) h = refl
-op_is_sound plan cpu place op.Pick h = refl
-op_is_sound plan cpu place op.Yield h = refl
-op_is_sound plan cpu place op.Drain h = refl
+op_is_sound plan cpu place _ h = refl
 
 ops_are_sound : (plan : Plan) (cpu place : ℕ) (os : List Op) → operations_fault (length plan.homes) (callers plan) cpu place os ≡ None → list_all (is_sound_op plan) os ≡ true
 ops_are_sound plan cpu place [] h = refl
@@ -55,13 +51,7 @@ programs_are_sound plan cpu (p ∷ ps) h =
 
 op_pulls_elsewhere : (tasks cpus cpu place : ℕ) (o : Op) → operation_fault tasks cpus cpu place o ≡ None → pulls_elsewhere cpu o ≡ true
 op_pulls_elsewhere tasks cpus cpu place (op.Pull source) h = (both (nat_lt source cpus) (not (source == cpu)) (passes (is_source cpus cpu source) _ h)).1
-op_pulls_elsewhere tasks cpus cpu place (op.Sleep task) h = refl
-op_pulls_elsewhere tasks cpus cpu place (op.Post task) h = refl
-op_pulls_elsewhere tasks cpus cpu place (op.Tick ns) h = refl
-op_pulls_elsewhere tasks cpus cpu place op.Pick h = refl
-op_pulls_elsewhere tasks cpus cpu place op.Yield h = refl
-op_pulls_elsewhere tasks cpus cpu place (op.Renice task nice) h = refl
-op_pulls_elsewhere tasks cpus cpu place op.Drain h = refl
+op_pulls_elsewhere tasks cpus cpu place _ h = refl
 
 ops_pull_elsewhere : (tasks cpus cpu place : ℕ) (os : List Op) → operations_fault tasks cpus cpu place os ≡ None → list_all (pulls_elsewhere cpu) os ≡ true
 ops_pull_elsewhere tasks cpus cpu place [] h = refl

@@ -1,25 +1,18 @@
 -- Every step of a sound plan is sound.
-use Rattle.std.proofs.Common.{◌≡◌, ℕ, zero, suc, ◌+◌, ◌<◌, ◌≤◌, Bool, true, false, cond, List, [], ◌∷◌, ◌++◌, length, map, min, max, inl, inr, sym, ap, subst, ◌∙◌, arith, refl}
-use Rattle.std.proofs.lemmas.Bool.{cases_lt}
-use Rattle.std.proofs.lemmas.Option.{none-some, same_Some}
-use Rattle.std.specs.Option.{option_map}
-use Rattle.std.specs.List.{list_all}
+use Rattle.std.proofs.Common.{◌≡◌, ℕ, zero, suc, ◌+◌, ◌<◌, ◌≤◌, Bool, true, false, cond, List, [], ◌∷◌, ◌++◌, length, map, min, max, inl, inr, sym, subst, ◌∙◌, arith, refl}
+use Rattle.std.proofs.lemmas.{Bool.cases_lt, Option.none-some}
+use Rattle.std.specs.{List.list_all}
 use Rattle.std.specs.Prelude.{slice_get, nat_lt, ◌==◌, IfSome, Option, Some, None}
 use Rattle.eevdf_ops.specs.declared.deeds.Op.{Op}
 use Rattle.eevdf_ops.specs.declared.deeds.Op.TheVariants as op
-use Rattle.eevdf_steps.specs.declared.micro_steps.Micro.{Micro}
+use Rattle.eevdf_steps.specs.declared.{micro_steps.Micro.Micro, program_plan.Step.Step}
 use Rattle.eevdf_steps.specs.declared.micro_steps.Micro.TheVariants.{Act, Commit, Release}
-use Rattle.eevdf_steps.specs.declared.program_plan.Step.{Step}
 use Rattle.eevdf_steps.specs.Plan.{IsSound, Plan, callers, home, is_sound_op, program}
 use Rattle.eevdf_steps.specs.MicroSteps.{draining, micros_of, moving, steps_by, steps_of, under_lock, under_locks}
-use Rattle.eevdf_steps.specs.Counters.{Counters, count_of, next, step_next}
-use Rattle.eevdf_steps.specs.Callers.{Callers}
-use Rattle.eevdf_steps.specs.SoundSteps.{is_sound_micro, is_sound_step}
+use Rattle.eevdf_steps.specs.Counters.{Counters, count_of, step_next}
+use Rattle.eevdf_steps.specs.{SoundSteps.is_sound_micro, SoundSteps.is_sound_step}
 use Rattle.eevdf_steps.proofs.Lists.{all_at, both, lt_true, true_lt}
-use Rattle.eevdf_steps.proofs.Plans.{program_ops_sound}
-use Rattle.eevdf_steps.proofs.Positions.{step_in}
-use Rattle.eevdf_steps.proofs.Setups.{and_true}
-use Rattle.eevdf_steps.proofs.CounterLists.{no_step}
+use Rattle.eevdf_steps.proofs.{Plans.program_ops_sound, Positions.step_in, Setups.and_true, Plans.no_step}
 
 pub all_joined : {A : Type 0} (test : A → Bool) (xs ys : List A) → list_all test xs ≡ true → list_all test ys ≡ true → list_all test (xs ++ ys) ≡ true
 all_joined test [] ys h k = k
@@ -53,15 +46,12 @@ pub home_below : (plan : Plan) (task : ℕ) → IsSound plan → task < length p
 home_below plan task s h = true_lt (home plan task) (callers plan) (all_at (λ (k : ℕ). nat_lt k (callers plan)) plan.homes task 0 s.homes h)
 
 micros_sound : (plan : Plan) (p : ℕ) (o : Op) → IsSound plan → p < callers plan → is_sound_op plan o ≡ true → list_all (is_sound_micro plan) (micros_of plan p o) ≡ true
-micros_sound plan p (op.Tick ns) s h k = locked plan p (Act ∷ Commit ∷ []) h refl
-micros_sound plan p op.Pick s h k = locked plan p (Act ∷ Commit ∷ []) h refl
-micros_sound plan p op.Yield s h k = locked plan p (Act ∷ Commit ∷ []) h refl
-micros_sound plan p (op.Renice task nice) s h k = locked plan p (Act ∷ Commit ∷ []) h refl
 micros_sound plan p (op.Sleep task) s h k =
     sleeps plan p (home plan task) (p == home plan task) h (home_below plan task s (true_lt task (length plan.homes) k))
 micros_sound plan p (op.Pull source) s h k = both_locked plan p source h (true_lt source (callers plan) k)
 micros_sound plan p op.Drain s h k = locked plan p (draining (callers plan) 0) h (drains plan (callers plan) 0 (omega arith))
 micros_sound plan p (op.Post task) s h k = and_true (nat_lt task (length plan.homes)) true k refl
+micros_sound plan p _ s h k = locked plan p (Act ∷ Commit ∷ []) h refl
 
 in_op : (plan : Plan) (o : Op) (ms : List Micro) → is_sound_op plan o ≡ true → list_all (is_sound_micro plan) ms ≡ true → list_all (is_sound_step plan) (map (step_in o) ms) ≡ true
 in_op plan o [] h all = refl
@@ -88,6 +78,9 @@ all_steps_sound plan p sound h = steps_sound plan p (program plan p) sound h (pr
 pub step_sound : (plan : Plan) (counters : Counters) (p : ℕ) (s : Step) → IsSound plan → p < callers plan → step_next plan counters p ≡ Some s → is_sound_step plan s ≡ true
 step_sound plan counters p s sound h e = some_all (is_sound_step plan) (steps_by plan p) (count_of counters p) s (all_steps_sound plan p sound h) e
 
+pub micro_sound : (plan : Plan) (s : Step) → is_sound_step plan s ≡ true → is_sound_micro plan s.micro ≡ true
+micro_sound plan s well = (both (is_sound_op plan s.op) (is_sound_micro plan s.micro) well).1
+
 pub some_step_sound : (plan : Plan) (counters : Counters) (p : ℕ) (r : Option Step) → IsSound plan → p < callers plan → r ≡ step_next plan counters p
     → IfSome r (λ (s : Step). is_sound_step plan s ≡ true)
 some_step_sound plan counters p None sound h e = tt
@@ -97,34 +90,3 @@ some_step_sound plan counters p (Some s) sound h e = step_sound plan counters p 
 pub is_caller : (plan : Plan) (counters : Counters) (p : ℕ) (s : Step) → step_next plan counters p ≡ Some s → p < callers plan
 is_caller plan counters p s e =
     elim (cases_lt p (callers plan)) [ inl below ↦ below | inr past ↦ absurd (none-some s (sym (no_step plan counters p past) ∙ e)) ]
-
--- what is known of a step that a caller is to do
-pub record IsNext (w : Callers) (p : ℕ) (m : Micro) : Type 0 where
-  pub step : Step
-  pub is_step : step_next w.plan w.counters p ≡ Some step
-  pub micro : step.micro ≡ m
-  pub caller : p < callers w.plan
-  pub sound : is_sound_step w.plan step ≡ true
-  pub sound_op : is_sound_op w.plan step.op ≡ true
-  pub sound_micro : is_sound_micro w.plan m ≡ true
-
-next_by : (w : Callers) (p : ℕ) (m : Micro) (r : Option Step) → IsSound w.plan → step_next w.plan w.counters p ≡ r → option_map (λ (s : Step). s.micro) r ≡ Some m → IsNext w p m
-next_by w p m None sound at e = cc
-next_by w p m (Some s) sound at e =
-    let caller : p < callers w.plan = is_caller w.plan w.counters p s at in
-    let same : s.micro ≡ m = same_Some s.micro m e in
-    let well : is_sound_step w.plan s ≡ true = step_sound w.plan w.counters p s sound caller at in
-    let parts : (is_sound_op w.plan s.op ≡ true) × (is_sound_micro w.plan s.micro ≡ true) = both (is_sound_op w.plan s.op) (is_sound_micro w.plan s.micro) well in
-    record {
-      step = s;
-      is_step = at;
-      micro = same;
-      caller = caller;
-      sound = well;
-      sound_op = parts.0;
-      sound_micro = subst (λ (k : Micro). is_sound_micro w.plan k ≡ true) same parts.1;
-    }
-
-pub is_next : (w v : Callers) (p : ℕ) (m : Micro) → w ≡ v → IsSound w.plan → next v.plan v.counters p ≡ Some m → IsNext w p m
-is_next w v p m same sound e =
-    next_by w p m (step_next w.plan w.counters p) sound refl (ap (λ (u : Callers). next u.plan u.counters p) same ∙ e)

@@ -1,26 +1,20 @@
 -- Each caller walks through its program with its locks as its steps need them.
 use Rattle.std.proofs.Common.{◌≡◌, ◌≢◌, ℕ, zero, suc, ◌+◌, ◌<◌, ◌≤◌, Bool, true, false, cond, not, ◌||◌, List, [], ◌∷◌, ◌++◌, length, map, take, drop, get_or, min, max, inl, inr, sym, ap, subst, ◌∙◌, arith, refl}
-use Rattle.std.proofs.lemmas.Bool.{false≢true, cases_lt}
-use Rattle.std.proofs.lemmas.Bool.Decides.{nat_tests}
+use Rattle.std.proofs.lemmas.{Bool.false≢true, Bool.cases_lt, Bool.Decides.nat_tests}
 use Rattle.std.proofs.lemmas.List.{get_or-replicate, get_or-set_same}
 use Rattle.std.specs.List.{list_all}
 use Rattle.std.specs.Prelude.{slice_get, nat_lt, ◌==◌, MatchOption, Option}
 use Rattle.eevdf_ops.specs.declared.deeds.Op.{Op}
 use Rattle.eevdf_ops.specs.declared.deeds.Op.TheVariants as op
-use Rattle.eevdf_steps.specs.declared.micro_steps.Micro.{Micro}
-use Rattle.eevdf_steps.specs.declared.micro_steps.Micro.TheVariants.{Acquire, Act, Detach, Attach, Commit, Take, Settle, Release, Post}
-use Rattle.eevdf_steps.specs.declared.program_plan.Step.{Step}
+use Rattle.eevdf_steps.specs.declared.{micro_steps.Micro.Micro, program_plan.Step.Step}
+use Rattle.eevdf_steps.specs.declared.micro_steps.Micro.TheVariants.{Acquire, Release, Post}
 use Rattle.eevdf_steps.specs.Plan.{IsSound, Plan, all_pull_elsewhere, callers, home, is_sound_op, program, pulls_elsewhere}
 use Rattle.eevdf_steps.specs.MicroSteps.{acting, draining, micros_of, moving, steps_by, steps_of, under_lock, under_locks}
 use Rattle.eevdf_steps.specs.Counters.{Counters, count_of, counted, held_after, held_by_steps, step_next}
 use Rattle.eevdf_steps.specs.Orders.{counters_at_start}
-use Rattle.eevdf_steps.proofs.Lists.{both, lt_true, true_lt}
-use Rattle.eevdf_steps.proofs.Setups.{and_true}
-use Rattle.eevdf_steps.proofs.CounterLists.{no_step}
-use Rattle.eevdf_steps.proofs.Plans.{program_ops_sound}
-use Rattle.eevdf_steps.proofs.SoundSteps.{home_below}
+use Rattle.eevdf_steps.proofs.{Lists.both, Lists.lt_true, Lists.true_lt, Setups.and_true, Plans.no_step}
+use Rattle.eevdf_steps.proofs.{Plans.program_ops_sound, SoundSteps.home_below, Positions.step_in}
 use Rattle.eevdf_steps.proofs.Holders.{number_cases, other_number, same_number}
-use Rattle.eevdf_steps.proofs.Positions.{step_in}
 use Rattle.eevdf_steps.proofs.Walks.{Covers, Fits, FitsMicro, Walk, is_above, is_acting, is_falling, is_fresh, is_in, is_locking, is_moving, stack_after, touched}
 
 -- from these locks on each step of a list fits the locks that are held then, and in the end none is held
@@ -176,10 +170,6 @@ other_source q p h same = false≢true (ap not (sym (same_number p) ∙ ap (λ (
 
 op_walks : (plan : Plan) (p : ℕ) (o : Op) (rest : List Step) → IsSound plan → p < callers plan → is_sound_op plan o ≡ true → pulls_elsewhere p o ≡ true → Rest plan p rest
     → Walks plan p [] (map (step_in o) (micros_of plan p o) ++ rest)
-op_walks plan p (op.Tick ns) rest s h k e r = act_walks plan p (op.Tick ns) rest h refl refl (one_lock p) r
-op_walks plan p op.Pick rest s h k e r = act_walks plan p op.Pick rest h refl refl (one_lock p) r
-op_walks plan p op.Yield rest s h k e r = act_walks plan p op.Yield rest h refl refl (one_lock p) r
-op_walks plan p (op.Renice task nice) rest s h k e r = act_walks plan p (op.Renice task nice) rest h refl refl (one_lock p) r
 op_walks plan p (op.Sleep t) rest s h k e r = sleep_walks plan p t rest (p == home plan t) h (home_below plan t s (true_lt t (length plan.homes) k)) refl r
 op_walks plan p (op.Pull q) rest s h k e r = both_walk plan p q (op.Pull q) rest h (true_lt q (callers plan) k) (other_source q p e) refl refl (λ c. refl) r
 op_walks plan p op.Drain rest s h k e r = (
@@ -187,6 +177,7 @@ op_walks plan p op.Drain rest s h k e r = (
   drains_walk plan p (callers plan) 0 rest (omega arith) r,
 )
 op_walks plan p (op.Post t) rest s h k e r = (record { holds_none = refl; fresh = r.fresh }, r.walks)
+op_walks plan p o rest s h k e r = act_walks plan p o rest h refl refl (one_lock p) r
 
 sleep_fresh : (plan : Plan) (p h : ℕ) (o : Op) (rest : List Step) (x : Bool)
     → is_fresh (slice_get (map (step_in o) (cond x (under_lock p moving) (under_locks p h moving)) ++ rest) 0) ≡ true
@@ -194,14 +185,8 @@ sleep_fresh plan p h o rest true = refl
 sleep_fresh plan p h o rest false = refl
 
 op_fresh : (plan : Plan) (p : ℕ) (o : Op) (rest : List Step) → is_fresh (slice_get (map (step_in o) (micros_of plan p o) ++ rest) 0) ≡ true
-op_fresh plan p (op.Tick ns) rest = refl
-op_fresh plan p op.Pick rest = refl
-op_fresh plan p op.Yield rest = refl
-op_fresh plan p (op.Renice task nice) rest = refl
 op_fresh plan p (op.Sleep t) rest = sleep_fresh plan p (home plan t) (op.Sleep t) rest (p == home plan t)
-op_fresh plan p (op.Pull q) rest = refl
-op_fresh plan p op.Drain rest = refl
-op_fresh plan p (op.Post t) rest = refl
+op_fresh plan p _ rest = refl
 
 steps_fresh : (plan : Plan) (p : ℕ) (os : List Op) → is_fresh (slice_get (steps_of plan p os) 0) ≡ true
 steps_fresh plan p [] = refl
@@ -252,14 +237,7 @@ gives_up c d (e ∷ held) last falls =
 held_then : (plan : Plan) (p : ℕ) (held : List ℕ) (o : Op) (m : Micro) (following : Option Step) → FitsMicro plan p held o m following → is_falling held ≡ true
     → (c : ℕ) → held_after c (is_in c held) m ≡ is_in c (stack_after held m)
 held_then plan p held o (Release d) following fits falls c = gives_up c d held fits.last falls
-held_then plan p held o (Acquire d) following fits falls c = refl
-held_then plan p held o Act following fits falls c = refl
-held_then plan p held o Detach following fits falls c = refl
-held_then plan p held o Attach following fits falls c = refl
-held_then plan p held o Commit following fits falls c = refl
-held_then plan p held o (Take q) following fits falls c = refl
-held_then plan p held o (Settle q) following fits falls c = refl
-held_then plan p held o (Post t) following fits falls c = refl
+held_then plan p held o _ following fits falls c = refl
 
 falling_rest : (held : List ℕ) → is_falling held ≡ true → is_falling (drop 1 held) ≡ true
 falling_rest [] h = refl
@@ -269,13 +247,7 @@ falling_then : (plan : Plan) (p : ℕ) (held : List ℕ) (o : Op) (m : Micro) (f
     → is_falling (stack_after held m) ≡ true
 falling_then plan p held o (Acquire d) following fits falls = and_true (is_above d held) (is_falling held) fits.above falls
 falling_then plan p held o (Release d) following fits falls = falling_rest held falls
-falling_then plan p held o Act following fits falls = falls
-falling_then plan p held o Detach following fits falls = falls
-falling_then plan p held o Attach following fits falls = falls
-falling_then plan p held o Commit following fits falls = falls
-falling_then plan p held o (Take q) following fits falls = falls
-falling_then plan p held o (Settle q) following fits falls = falls
-falling_then plan p held o (Post t) following fits falls = falls
+falling_then plan p held o _ following fits falls = falls
 
 -- where a caller stands that has done so many steps of a list from these locks on
 record Standing (plan : Plan) (p : ℕ) (first : List ℕ) (ss : List Step) (k : ℕ) : Type 0 where

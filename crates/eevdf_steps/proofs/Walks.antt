@@ -3,9 +3,8 @@ use Rattle.std.proofs.Common.{◌≡◌, ℕ, ◌<◌, Bool, true, false, ◌&&�
 use Rattle.std.specs.Prelude.{nat_lt, ◌==◌, if◌then◌else◌, MatchOption, Option, Some, None}
 use Rattle.eevdf_ops.specs.declared.deeds.Op.{Op}
 use Rattle.eevdf_ops.specs.declared.deeds.Op.TheVariants as op
-use Rattle.eevdf_steps.specs.declared.micro_steps.Micro.{Micro}
+use Rattle.eevdf_steps.specs.declared.{micro_steps.Micro.Micro, program_plan.Step.Step}
 use Rattle.eevdf_steps.specs.declared.micro_steps.Micro.TheVariants.{Acquire, Act, Detach, Attach, Commit, Take, Settle, Release, Post}
-use Rattle.eevdf_steps.specs.declared.program_plan.Step.{Step}
 use Rattle.eevdf_steps.specs.Plan.{Plan, callers, home}
 use Rattle.eevdf_steps.specs.Counters.{Counters, counted, holds, step_next}
 use Rattle.eevdf_steps.proofs.Positions.{step_in}
@@ -14,13 +13,7 @@ use Rattle.eevdf_steps.proofs.Positions.{step_in}
 abbrev pub stack_after : List ℕ → Micro → List ℕ
 stack_after held (Acquire c) = c ∷ held
 stack_after held (Release c) = drop 1 held
-stack_after held Act = held
-stack_after held Detach = held
-stack_after held Attach = held
-stack_after held Commit = held
-stack_after held (Take q) = held
-stack_after held (Settle q) = held
-stack_after held (Post t) = held
+stack_after held _ = held
 
 abbrev pub is_in : ℕ → List ℕ → Bool
 is_in c [] = false
@@ -38,59 +31,35 @@ is_falling (h ∷ held) = is_above h held && is_falling held
 
 -- a deed on the caller's own queue alone
 abbrev pub is_acting : Op → Bool
-is_acting (op.Tick ns) = true
-is_acting op.Pick = true
-is_acting op.Yield = true
-is_acting (op.Renice task nice) = true
 is_acting (op.Sleep t) = false
 is_acting (op.Pull s) = false
 is_acting (op.Post t) = false
 is_acting op.Drain = false
+is_acting _ = true
 
 -- a deed that moves a task
 abbrev pub is_moving : Op → Bool
 is_moving (op.Sleep t) = true
 is_moving (op.Pull s) = true
-is_moving (op.Tick ns) = false
-is_moving op.Pick = false
-is_moving op.Yield = false
-is_moving (op.Renice task nice) = false
-is_moving (op.Post t) = false
-is_moving op.Drain = false
+is_moving _ = false
 
 -- an operation that acquires locks
 abbrev pub is_locking : Op → Bool
 is_locking (op.Post t) = false
-is_locking (op.Sleep t) = true
-is_locking (op.Pull s) = true
-is_locking (op.Tick ns) = true
-is_locking op.Pick = true
-is_locking op.Yield = true
-is_locking (op.Renice task nice) = true
-is_locking op.Drain = true
+is_locking _ = true
 
 -- the CPUs whose queues an operation reads or writes
 abbrev pub touched : Plan → ℕ → Op → ℕ → Bool
 touched plan cpu (op.Sleep t) c = (c == cpu) || (c == home plan t)
 touched plan cpu (op.Pull s) c = (c == cpu) || (c == s)
 touched plan cpu (op.Post t) c = false
-touched plan cpu (op.Tick ns) c = c == cpu
-touched plan cpu op.Pick c = c == cpu
-touched plan cpu op.Yield c = c == cpu
-touched plan cpu (op.Renice task nice) c = c == cpu
-touched plan cpu op.Drain c = c == cpu
+touched plan cpu _ c = c == cpu
 
 -- a step before which nothing is under way on the queues
 abbrev pub is_fresh_micro : Micro → Bool
 is_fresh_micro Attach = false
 is_fresh_micro Commit = false
-is_fresh_micro Act = true
-is_fresh_micro Detach = true
-is_fresh_micro (Acquire c) = true
-is_fresh_micro (Release c) = true
-is_fresh_micro (Take q) = true
-is_fresh_micro (Settle q) = true
-is_fresh_micro (Post t) = true
+is_fresh_micro _ = true
 
 -- the same where a caller may be done
 abbrev pub is_fresh : Option Step → Bool

@@ -3,13 +3,9 @@ use Rattle.std.proofs.Common.{◌≡◌, ℕ, zero, suc, ◌+◌, ◌<◌, ◌�
 use Rattle.std.proofs.lemmas.Bool.Decides.{nat_tests}
 use Rattle.std.specs.Prelude.{◌==◌, IfSome, Option, Some, None}
 use Rattle.eevdf_queue.specs.State.{Contents}
-use Rattle.eevdf_ops.specs.Machine.{queue_at}
-use Rattle.eevdf_ops.specs.Places.{count, places, places_in}
-use Rattle.eevdf_ops.specs.Setup.{is_task}
+use Rattle.eevdf_ops.specs.{Machine.queue_at, Places.count, Places.places, Places.places_in, Setup.is_task}
 use Rattle.eevdf_ops.proofs.MachinePlaces.{places-at}
-use Rattle.eevdf_steps.specs.Plan.{Plan, callers}
-use Rattle.eevdf_steps.specs.Playing.{IsWork}
-use Rattle.eevdf_steps.specs.Places.{hands_with, is_in_hand}
+use Rattle.eevdf_steps.specs.{Plan.Plan, Plan.callers, Playing.IsWork, Places.hands_with, Places.is_in_hand}
 use Rattle.eevdf_steps.specs.Work.{Work, hand}
 
 own_hand : (p : Contents) → count (is_in_hand (Some p) p.task) ≡ 1

@@ -2,34 +2,23 @@
 use Rattle.std.proofs.Common.{◌≡◌, ℕ, zero, suc, ◌+◌, ◌<◌, ◌≤◌, true, List, [], ◌∷◌, length, get_or, set, ap, ◌∙◌, arith, refl}
 use Rattle.std.proofs.Math.ListN.{length-set}
 use Rattle.std.specs.Prelude.{◌==◌, IfSome, Option, Some, None, Result, Ok, Err}
-use Rattle.eevdf_queue.specs.State.{State, Contents}
-use Rattle.eevdf_queue.specs.Moves.{put_asleep, sleeper_of}
-use Rattle.eevdf_queue.specs.Leaving.{carried_running, leave}
-use Rattle.eevdf_queue.specs.Placing.{can_place, placed_entry}
-use Rattle.eevdf_ops.specs.declared.deeds.Op.{Op}
+use Rattle.eevdf_queue.specs.{State.State, State.Contents, Moves.put_asleep, Moves.sleeper_of}
+use Rattle.eevdf_queue.specs.{Leaving.carried_running, Leaving.leave, Placing.can_place, Placing.placed_entry}
+use Rattle.eevdf_ops.specs.declared.deeds.{Op.Op, Answer.Answer, Answer.TheVariants.NotRunning, Answer.TheVariants.Pulled}
 use Rattle.eevdf_ops.specs.declared.deeds.Op.TheVariants as op
-use Rattle.eevdf_ops.specs.declared.deeds.Answer.{Answer}
-use Rattle.eevdf_ops.specs.declared.deeds.Answer.TheVariants.{NotRunning, Pulled}
-use Rattle.eevdf_ops.specs.Machine.{queue_at}
-use Rattle.eevdf_ops.specs.Places.{count, places, places_in}
+use Rattle.eevdf_ops.specs.{Machine.queue_at, Places.count, Places.places, Places.places_in, Setup.is_task, WholeSleep.slept}
 use Rattle.eevdf_ops.specs.OneQueue.{one_tick, one_pick, one_yield, one_wake, one_renice}
-use Rattle.eevdf_ops.specs.Setup.{is_task}
 use Rattle.eevdf_ops.specs.WholePull.{load_of, offer, with_task}
-use Rattle.eevdf_ops.specs.WholeSleep.{slept}
 use Rattle.eevdf_ops.proofs.MachinePlaces.{places-set, places-at}
 use Rattle.eevdf_ops.proofs.QueuePlaces.{IsSame, IsWith, IsWithout, tick-same, pick-same, yield-same, wake-same, renice-same, asleep-with, runnable-with}
 use Rattle.eevdf_ops.proofs.Carried.{running-carries, offer-carries, leaves-without}
 use Rattle.eevdf_ops.proofs.Pulling.{IsTaken, decision-taken, with_task-put}
 use Rattle.eevdf_steps.specs.declared.micro_steps.Micro.{Micro}
-use Rattle.eevdf_steps.specs.declared.micro_steps.Micro.TheVariants.{Acquire, Act, Detach, Attach, Commit, Take, Settle, Release, Post}
-use Rattle.eevdf_steps.specs.Plan.{Plan, callers}
-use Rattle.eevdf_steps.specs.Playing.{IsWork}
-use Rattle.eevdf_steps.specs.Places.{hands_with, is_in_hand, places_of}
+use Rattle.eevdf_steps.specs.declared.micro_steps.Micro.TheVariants.{Act, Detach, Attach, Settle}
+use Rattle.eevdf_steps.specs.{Plan.Plan, Plan.callers, Playing.IsWork, Places.hands_with, Places.is_in_hand, Places.places_of}
 use Rattle.eevdf_steps.specs.Work.{Work, act, answered, attach, attach_asleep, attach_pulled, detach, detach_pulled, detach_running, hand, pull_decision, pulls_from}
-use Rattle.eevdf_steps.specs.Working.{FitsHand, HasRoom}
-use Rattle.eevdf_steps.specs.MicroState.{settled, works}
-use Rattle.eevdf_steps.proofs.Lists.{true_lt}
-use Rattle.eevdf_steps.proofs.WorkPlaces.{held_nowhere, count-le}
+use Rattle.eevdf_steps.specs.{Working.FitsHand, Working.HasRoom, MicroState.settled, MicroState.works}
+use Rattle.eevdf_steps.proofs.{Lists.true_lt, WorkPlaces.held_nowhere, WorkPlaces.count-le}
 
 hands-set : (hands : List (Option Contents)) (k u : ℕ) (h : Option Contents) → k < length hands
     → hands_with (set hands k h) u + count (is_in_hand (get_or hands k None) u) ≡ hands_with hands u + count (is_in_hand h u)
@@ -95,10 +84,7 @@ act_kept plan w p op.Yield works below =
 act_kept plan w p (op.Renice task nice) works below =
     same_queue plan w p (one_renice (queue_at w.machine p) task nice).1 (set w.answers p (Some (one_renice (queue_at w.machine p) task nice).0)) works below
     (renice-same (queue_at w.machine p) task nice) (length-set w.answers p (Some (one_renice (queue_at w.machine p) task nice).0))
-act_kept plan w p (op.Sleep task) works below = works
-act_kept plan w p (op.Pull source) works below = works
-act_kept plan w p (op.Post task) works below = works
-act_kept plan w p op.Drain works below = works
+act_kept plan w p _ works below = works
 
 running_kept : (plan : Plan) (w : Work) (p task : ℕ) (r : Option Contents) → IsWork plan w → p < callers plan → hand w p ≡ None
     → carried_running (queue_at w.machine p) task ≡ r → IsWork plan (detach_running w p r)
@@ -121,12 +107,7 @@ detach_kept plan w p (op.Sleep task) works below from empty =
     running_kept plan w p task (carried_running (queue_at w.machine p) task) works below empty refl
 detach_kept plan w p (op.Pull source) works below from empty =
     pulled_kept plan w p source (pull_decision w.machine p source) works below (true_lt source (callers plan) from) empty refl
-detach_kept plan w p (op.Tick ns) works below from empty = works
-detach_kept plan w p op.Pick works below from empty = works
-detach_kept plan w p op.Yield works below from empty = works
-detach_kept plan w p (op.Renice task nice) works below from empty = works
-detach_kept plan w p (op.Post task) works below from empty = works
-detach_kept plan w p op.Drain works below from empty = works
+detach_kept plan w p _ works below from empty = works
 
 asleep_kept : (plan : Plan) (w : Work) (p c : ℕ) (h : Option Contents) → IsWork plan w → p < callers plan → c < callers plan → hand w p ≡ h → IsWork plan (attach_asleep w p c h)
 asleep_kept plan w p c None works below home e = works
@@ -145,12 +126,7 @@ joins_kept plan w p (Some t) works below e room =
 attach_kept : (plan : Plan) (w : Work) (p c : ℕ) (o : Op) → IsWork plan w → p < callers plan → c < callers plan → HasRoom w p o → IsWork plan (attach c w p o)
 attach_kept plan w p c (op.Sleep task) works below home room = asleep_kept plan w p c (hand w p) works below home refl
 attach_kept plan w p c (op.Pull source) works below home room = joins_kept plan w p (hand w p) works below refl room
-attach_kept plan w p c (op.Tick ns) works below home room = works
-attach_kept plan w p c op.Pick works below home room = works
-attach_kept plan w p c op.Yield works below home room = works
-attach_kept plan w p c (op.Renice task nice) works below home room = works
-attach_kept plan w p c (op.Post task) works below home room = works
-attach_kept plan w p c op.Drain works below home room = works
+attach_kept plan w p c _ works below home room = works
 
 settled_kept : (plan : Plan) (w : Work) (p : ℕ) (f : Option ℕ) → IsWork plan w → p < callers plan → IsWork plan (settled w p f)
 settled_kept plan w p None works below = works
@@ -165,9 +141,5 @@ pub works_kept : (plan : Plan) (w : Work) (p c : ℕ) (o : Op) (m : Micro) (f : 
 works_kept plan w p c o Act f works below home from hand = act_kept plan w p o works below
 works_kept plan w p c o Detach f works below home from hand = detach_kept plan w p o works below from hand
 works_kept plan w p c o Attach f works below home from hand = attach_kept plan w p c o works below home hand
-works_kept plan w p c o Commit f works below home from hand = works
 works_kept plan w p c o (Settle q) f works below home from hand = settled_kept plan w p f works below
-works_kept plan w p c o (Take q) f works below home from hand = works
-works_kept plan w p c o (Post t) f works below home from hand = works
-works_kept plan w p c o (Acquire l) f works below home from hand = works
-works_kept plan w p c o (Release l) f works below home from hand = works
+works_kept plan w p c o _ f works below home from hand = works

@@ -1,9 +1,10 @@
--- The callers on their way: what they are to do, and how far each has come.
-use Rattle.std.specs.Prelude.{◌≡◌, true, List, length}
+-- The callers on their way: what they are to do, how far each has come, and the locks that they hold.
+use Rattle.std.specs.Prelude.{◌≡◌, ℕ, ◌<◌, List, length, slice_index_or, Option}
 use Rattle.eevdf_steps.specs.declared.program_plan.Position.{Position}
 use Rattle.eevdf_steps.specs.Plan.{Plan, callers}
 use Rattle.eevdf_steps.specs.Counters.{Counters}
-use Rattle.eevdf_steps.specs.Positions.{are_positions, counters_at}
+use Rattle.eevdf_steps.specs.Holders.{AreHolders}
+use Rattle.eevdf_steps.specs.Positions.{ArePositions, counter_at, counters_at}
 
 pub record Callers : Type 0 where
   pub plan : Plan
@@ -12,7 +13,14 @@ pub record Callers : Type 0 where
 abbrev pub callers_at : Plan → List Position → Callers
 callers_at plan positions = record { plan = plan; counters = counters_at plan 0 positions }
 
--- each caller has a position in its program
-pub record AreCallers (plan : Plan) (positions : List Position) : Type 0 where
+-- each caller has a position in its program, and each lock its holder
+pub record AreCallers (plan : Plan) (positions : List Position) (holders : List (Option ℕ)) : Type 0 where
   pub each : length positions ≡ callers plan
-  pub within : are_positions plan 0 positions ≡ true
+  pub within : ArePositions plan positions
+  pub locks : AreHolders plan (counters_at plan 0 positions) holders
+
+-- so many callers stand at the beginning of their programs
+pub record BeginAll (plan : Plan) (many : ℕ) (positions : List Position) : Type 0 where
+  pub each : length positions ≡ many
+  pub within : ArePositions plan positions
+  pub nothing_done : (caller : ℕ) (d : Position) → caller < length positions → counter_at plan caller (slice_index_or positions caller d) ≡ 0

@@ -1,16 +1,12 @@
 -- The deeds that an order commits.
 use Rattle.std.specs.Prelude.{ℕ, List, [], ◌∷◌, ◌++◌, Option, Some, None}
 use Rattle.std.specs.Option.{option_to_list}
-use Rattle.eevdf_ops.specs.declared.deeds.Op.{Op}
-use Rattle.eevdf_ops.specs.declared.deeds.Deed.{Deed}
+use Rattle.eevdf_ops.specs.declared.deeds.{Op.Op, Deed.Deed}
 use Rattle.eevdf_ops.specs.declared.deeds.Deed.TheVariants as deed
-use Rattle.eevdf_ops.specs.Programs.{deed_of}
-use Rattle.eevdf_ops.specs.Setup.{Setup}
-use Rattle.eevdf_steps.specs.declared.micro_steps.Micro.{Micro}
-use Rattle.eevdf_steps.specs.declared.micro_steps.Micro.TheVariants.{Acquire, Act, Detach, Attach, Commit, Take, Settle, Release, Post}
-use Rattle.eevdf_steps.specs.declared.program_plan.Step.{Step}
-use Rattle.eevdf_steps.specs.Plan.{Plan, plan_of}
-use Rattle.eevdf_steps.specs.Counters.{step_next}
+use Rattle.eevdf_ops.specs.{Programs.deed_of, Setup.Setup}
+use Rattle.eevdf_steps.specs.declared.{micro_steps.Micro.Micro, program_plan.Step.Step}
+use Rattle.eevdf_steps.specs.declared.micro_steps.Micro.TheVariants.{Commit, Settle}
+use Rattle.eevdf_steps.specs.{Plan.Plan, Plan.plan_of, Counters.step_next}
 use Rattle.eevdf_steps.specs.Requests.{Progress, found_by, progress_at_start, progress_step}
 
 -- the wake of a request that was found
@@ -22,13 +18,7 @@ wake_of cpu sender (Some task) = Some (deed.Wake cpu task sender)
 abbrev pub committed : Option ℕ → ℕ → Op → Micro → Option Deed
 committed found caller o Commit = deed_of caller o
 committed found caller o (Settle sender) = wake_of caller sender found
-committed found caller o (Take sender) = None
-committed found caller o (Post task) = None
-committed found caller o (Acquire c) = None
-committed found caller o (Release c) = None
-committed found caller o Act = None
-committed found caller o Detach = None
-committed found caller o Attach = None
+committed found caller o _ = None
 
 abbrev pub committed_by : Progress → ℕ → Option Step → List Deed
 committed_by g caller None = []

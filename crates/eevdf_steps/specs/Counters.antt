@@ -1,13 +1,10 @@
 -- How far the callers have come, the locks that they hold, and who may do its next step.
 use Rattle.std.specs.Prelude.{ℕ, zero, suc, ◌+◌, ◌==◌, nat_lt, Bool, true, false, List, [], ◌∷◌, take, slice_get, slice_index_or, slice_set, if◌then◌else◌, is_some, is_none, Option, Some, None, Result, MatchResult, ◌≡◌}
 use Rattle.std.specs.Option.{option_map}
-use Rattle.eevdf_steps.specs.declared.micro_steps.Micro.{Micro}
-use Rattle.eevdf_steps.specs.declared.micro_steps.Micro.TheVariants.{Acquire, Act, Detach, Attach, Commit, Take, Settle, Release, Post}
-use Rattle.eevdf_steps.specs.declared.step_fault.StepFault.{StepFault}
+use Rattle.eevdf_steps.specs.declared.{micro_steps.Micro.Micro, step_fault.StepFault.StepFault, program_plan.Step.Step}
+use Rattle.eevdf_steps.specs.declared.micro_steps.Micro.TheVariants.{Acquire, Release}
 use Rattle.eevdf_steps.specs.declared.step_fault.StepFault.TheVariants.{NoCaller, Done, Blocked}
-use Rattle.eevdf_steps.specs.declared.program_plan.Step.{Step}
-use Rattle.eevdf_steps.specs.Plan.{Plan, callers}
-use Rattle.eevdf_steps.specs.MicroSteps.{steps_by}
+use Rattle.eevdf_steps.specs.{Plan.Plan, Plan.callers, MicroSteps.steps_by}
 
 -- how many of its steps each caller has done
 abbrev pub Counters : Type 0
@@ -35,13 +32,7 @@ next plan counters caller = option_map (λ (s : Step). s.micro) (step_next plan 
 abbrev pub held_after : ℕ → Bool → Micro → Bool
 held_after cpu held (Acquire c) = if c == cpu then true else held
 held_after cpu held (Release c) = if c == cpu then false else held
-held_after cpu held Act = held
-held_after cpu held Detach = held
-held_after cpu held Attach = held
-held_after cpu held Commit = held
-held_after cpu held (Take q) = held
-held_after cpu held (Settle q) = held
-held_after cpu held (Post t) = held
+held_after cpu held _ = held
 
 abbrev pub held_by_steps : ℕ → Bool → List Step → Bool
 held_by_steps cpu held [] = held
@@ -67,14 +58,7 @@ blocked_by cpu (Some caller) = Some (Blocked cpu caller)
 -- what refuses a step: the acquiring of a held lock alone
 abbrev pub refused : Plan → Counters → Micro → Option StepFault
 refused plan counters (Acquire cpu) = blocked_by cpu (holder plan counters cpu)
-refused plan counters (Release cpu) = None
-refused plan counters Act = None
-refused plan counters Detach = None
-refused plan counters Attach = None
-refused plan counters Commit = None
-refused plan counters (Take q) = None
-refused plan counters (Settle q) = None
-refused plan counters (Post t) = None
+refused plan counters _ = None
 
 abbrev pub refused_next : Plan → Counters → Option Micro → Option StepFault
 refused_next plan counters None = Some Done

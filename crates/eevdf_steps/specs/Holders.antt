@@ -1,9 +1,8 @@
 -- Who holds each lock, written down.
 use Rattle.std.specs.Prelude.{◌≡◌, ℕ, ◌<◌, ◌==◌, Bool, true, false, nat_lt, List, length, slice_index_or, slice_set, if◌then◌else◌, Option, Some, None}
 use Rattle.eevdf_steps.specs.declared.micro_steps.Micro.{Micro}
-use Rattle.eevdf_steps.specs.declared.micro_steps.Micro.TheVariants.{Acquire, Act, Detach, Attach, Commit, Take, Settle, Release, Post}
-use Rattle.eevdf_steps.specs.Plan.{Plan, callers}
-use Rattle.eevdf_steps.specs.Counters.{Counters, holds}
+use Rattle.eevdf_steps.specs.declared.micro_steps.Micro.TheVariants.{Acquire, Release}
+use Rattle.eevdf_steps.specs.{Plan.Plan, Plan.callers, Counters.Counters, Counters.holds}
 
 abbrev pub is_holder : Option ℕ → ℕ → Bool
 is_holder None caller = false
@@ -17,25 +16,13 @@ given_up holder caller = if is_holder holder caller then None else holder
 abbrev pub names_lock : ℕ → Micro → Bool
 names_lock locks (Acquire cpu) = nat_lt cpu locks
 names_lock locks (Release cpu) = nat_lt cpu locks
-names_lock locks Act = true
-names_lock locks Detach = true
-names_lock locks Attach = true
-names_lock locks Commit = true
-names_lock locks (Take sender) = true
-names_lock locks (Settle sender) = true
-names_lock locks (Post task) = true
+names_lock locks _ = true
 
 -- the holders after a step of a caller
 abbrev pub holders_after : ℕ → Micro → List (Option ℕ) → List (Option ℕ)
 holders_after caller (Acquire cpu) holders = slice_set holders cpu (Some caller)
 holders_after caller (Release cpu) holders = slice_set holders cpu (given_up (slice_index_or holders cpu None) caller)
-holders_after caller Act holders = holders
-holders_after caller Detach holders = holders
-holders_after caller Attach holders = holders
-holders_after caller Commit holders = holders
-holders_after caller (Take sender) holders = holders
-holders_after caller (Settle sender) holders = holders
-holders_after caller (Post task) holders = holders
+holders_after caller _ holders = holders
 
 -- the holder of each CPU's lock, and nobody else, holds it
 pub record AreHolders (plan : Plan) (counters : Counters) (holders : List (Option ℕ)) : Type 0 where

@@ -1,8 +1,6 @@
 -- The history, as it is kept.
 use Rattle.std.specs.Prelude.{ℕ, List, [], ◌∷◌, ◌++◌, Option}
-use Rattle.eevdf_ops.specs.declared.deeds.Deed.{Deed}
-use Rattle.eevdf_ops.specs.declared.deeds.Answer.{Answer}
-use Rattle.eevdf_ops.specs.declared.deeds.Line.{Line}
+use Rattle.eevdf_ops.specs.declared.deeds.{Deed.Deed, Answer.Answer, Line.Line}
 use Rattle.eevdf_steps.specs.MicroState.{line_of}
 
 -- the lines, and for how many there is room

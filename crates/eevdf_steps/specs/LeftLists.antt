@@ -1,8 +1,7 @@
 -- The requests that the callers leave, as a list of one list for each pair.
 use Rattle.std.specs.Prelude.{ℕ, ◌*◌, ◌/◌, ◌%◌, List, map}
 use Rattle.std.specs.List.{range_with_len}
-use Rattle.eevdf_steps.specs.Plan.{Plan, callers}
-use Rattle.eevdf_steps.specs.Requests.{Progress, left}
+use Rattle.eevdf_steps.specs.{Plan.Plan, Plan.callers, Requests.Progress, Requests.left}
 
 -- what is left of the pair of a sender and a home, at the place `sender * callers + home`
 abbrev pub left_at : Plan → Progress → ℕ → List ℕ

@@ -1,19 +1,13 @@
 -- What the callers' steps make of the machine.
 use Rattle.std.specs.Prelude.{ℕ, List, [], ◌∷◌, ◌++◌, replicate, Option, Some, None}
-use Rattle.eevdf_ops.specs.declared.deeds.Op.{Op}
+use Rattle.eevdf_ops.specs.declared.deeds.{Op.Op, Deed.Deed, Answer.Answer, Line.Line}
 use Rattle.eevdf_ops.specs.declared.deeds.Op.TheVariants as op
-use Rattle.eevdf_ops.specs.declared.deeds.Deed.{Deed}
-use Rattle.eevdf_ops.specs.declared.deeds.Answer.{Answer}
-use Rattle.eevdf_ops.specs.declared.deeds.Line.{Line}
-use Rattle.eevdf_ops.specs.Setup.{Setup}
-use Rattle.eevdf_ops.specs.Machine.{start}
-use Rattle.eevdf_steps.specs.declared.micro_steps.Micro.{Micro}
-use Rattle.eevdf_steps.specs.declared.micro_steps.Micro.TheVariants.{Acquire, Act, Detach, Attach, Commit, Take, Settle, Release, Post}
-use Rattle.eevdf_steps.specs.declared.program_plan.Step.{Step}
+use Rattle.eevdf_ops.specs.{Setup.Setup, Machine.start}
+use Rattle.eevdf_steps.specs.declared.{micro_steps.Micro.Micro, program_plan.Step.Step}
+use Rattle.eevdf_steps.specs.declared.micro_steps.Micro.TheVariants.{Act, Detach, Attach, Commit, Settle, Post}
 use Rattle.eevdf_steps.specs.Plan.{Plan, callers, home, plan_of}
-use Rattle.eevdf_steps.specs.Counters.{step_next}
+use Rattle.eevdf_steps.specs.{Counters.step_next, Commits.committed}
 use Rattle.eevdf_steps.specs.Requests.{Progress, found_by, progress_at_start, progress_step}
-use Rattle.eevdf_steps.specs.Commits.{committed}
 use Rattle.eevdf_steps.specs.Work.{Work, act, answer, attach, detach, wake_answer, woken}
 
 -- the queues with what the callers hold, how far the callers have come, and the deeds that were done with
@@ -49,12 +43,7 @@ settled_answer w caller (Some task) = Some (wake_answer w caller task)
 abbrev pub home_for : Plan → ℕ → Op → ℕ
 home_for plan caller (op.Sleep task) = home plan task
 home_for plan caller (op.Post task) = home plan task
-home_for plan caller (op.Renice task nice) = caller
-home_for plan caller (op.Tick ns) = caller
-home_for plan caller op.Pick = caller
-home_for plan caller op.Yield = caller
-home_for plan caller (op.Pull source) = caller
-home_for plan caller op.Drain = caller
+home_for plan caller _ = caller
 
 -- what a micro-step of a caller does to the queues, given the home of the operation's task and the request
 -- that the caller found
@@ -63,23 +52,13 @@ works home w caller o Act found = act w caller o
 works home w caller o Detach found = detach w caller o
 works home w caller o Attach found = attach home w caller o
 works home w caller o (Settle sender) found = settled w caller found
-works home w caller o Commit found = w
-works home w caller o (Take sender) found = w
-works home w caller o (Post task) found = w
-works home w caller o (Acquire cpu) found = w
-works home w caller o (Release cpu) found = w
+works home w caller o _ found = w
 
 -- the answer that it commits, where it commits one
 abbrev pub answers : Work → ℕ → Micro → Option ℕ → Option Answer
 answers w caller Commit found = answer w caller
 answers w caller (Settle sender) found = settled_answer w caller found
-answers w caller Act found = None
-answers w caller Detach found = None
-answers w caller Attach found = None
-answers w caller (Take sender) found = None
-answers w caller (Post task) found = None
-answers w caller (Acquire cpu) found = None
-answers w caller (Release cpu) found = None
+answers w caller _ found = None
 
 -- the line that it appends, where it appends one
 abbrev pub appends : Work → ℕ → Op → Micro → Option ℕ → List Line

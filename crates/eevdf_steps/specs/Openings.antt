@@ -27,13 +27,7 @@ pub record CountPosts (plan : Plan) (ops : List Op) (counts : List ℕ) : Type 0
 -- the counts when an operation is counted too
 abbrev pub post_counted : Plan → Op → List ℕ → List ℕ
 post_counted plan (op.Post task) counts = slice_set counts (home plan task) (slice_index counts (home plan task) + 1)
-post_counted plan (op.Tick ns) counts = counts
-post_counted plan op.Pick counts = counts
-post_counted plan op.Yield counts = counts
-post_counted plan (op.Renice task nice) counts = counts
-post_counted plan (op.Sleep task) counts = counts
-post_counted plan (op.Pull source) counts = counts
-post_counted plan op.Drain counts = counts
+post_counted plan _ counts = counts
 
 -- the history gets no more lines than the programs have operations
 abbrev pub most_lines : Plan → ℕ

@@ -2,8 +2,7 @@
 use Rattle.std.specs.Prelude.{◌≡◌, ℕ, ◌+◌, ◌==◌, Bool, true, false, List, [], ◌∷◌, Option, Some, None, MatchOption}
 use Rattle.std.specs.FinMap as map
 use Rattle.eevdf_queue.specs.State.{Contents}
-use Rattle.eevdf_ops.specs.Machine.{queue_at}
-use Rattle.eevdf_ops.specs.Places.{count, places}
+use Rattle.eevdf_ops.specs.{Machine.queue_at, Places.count, Places.places}
 use Rattle.eevdf_steps.specs.declared.task_place.Place.{Place}
 use Rattle.eevdf_steps.specs.declared.task_place.Place.TheVariants.{Runnable, Asleep, InHand}
 use Rattle.eevdf_steps.specs.Work.{Work, hand}

@@ -3,8 +3,7 @@ use Rattle.std.specs.Prelude.{◌≡◌, ℕ, ◌*◌, ◌+◌, ◌≤◌, ◌==
 use Rattle.std.specs.List.{list_all}
 use Rattle.eevdf_ops.specs.declared.deeds.Op.{Op}
 use Rattle.eevdf_ops.specs.declared.deeds.Op.TheVariants as op
-use Rattle.eevdf_ops.specs.Numbers.{most_cpus, most_operations}
-use Rattle.eevdf_ops.specs.Setup.{Setup, homes_of}
+use Rattle.eevdf_ops.specs.{Numbers.most_cpus, Numbers.most_operations, Setup.Setup, Setup.homes_of}
 use Rattle.eevdf_ops.specs.Machine.{Machine, start}
 
 -- the home of each task, the program of each caller, who stands on the CPU of the same number, and the machine on
@@ -37,10 +36,7 @@ is_sound_op plan (op.Sleep task) = nat_lt task (length plan.homes)
 is_sound_op plan (op.Post task) = nat_lt task (length plan.homes)
 is_sound_op plan (op.Renice task nice) = nat_lt task (length plan.homes)
 is_sound_op plan (op.Pull source) = nat_lt source (callers plan)
-is_sound_op plan (op.Tick ns) = true
-is_sound_op plan op.Pick = true
-is_sound_op plan op.Yield = true
-is_sound_op plan op.Drain = true
+is_sound_op plan _ = true
 
 abbrev pub is_sound_program : Plan → List Op → Bool
 is_sound_program plan ops = nat_le (length ops) most_operations && list_all (is_sound_op plan) ops
@@ -48,13 +44,7 @@ is_sound_program plan ops = nat_le (length ops) most_operations && list_all (is_
 -- an operation of a CPU pulls from no queue but another's
 abbrev pub pulls_elsewhere : ℕ → Op → Bool
 pulls_elsewhere cpu (op.Pull source) = not (source == cpu)
-pulls_elsewhere cpu (op.Sleep task) = true
-pulls_elsewhere cpu (op.Post task) = true
-pulls_elsewhere cpu (op.Tick ns) = true
-pulls_elsewhere cpu op.Pick = true
-pulls_elsewhere cpu op.Yield = true
-pulls_elsewhere cpu (op.Renice task nice) = true
-pulls_elsewhere cpu op.Drain = true
+pulls_elsewhere cpu _ = true
 
 -- the same of the programs of the CPUs from one on
 abbrev pub all_pull_elsewhere : ℕ → List (List Op) → Bool

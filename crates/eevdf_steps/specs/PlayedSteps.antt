@@ -2,13 +2,9 @@
 use Rattle.std.specs.Prelude.{◌≡◌, ℕ, ◌++◌, List, Option, Some, MatchOption}
 use Rattle.std.specs.Option.{option_map}
 use Rattle.eevdf_ops.specs.Programs.{deeds_of}
-use Rattle.eevdf_steps.specs.declared.play_fault.PlayFault.{PlayFault}
-use Rattle.eevdf_steps.specs.declared.play_fault.PlayFault.TheVariants.{Short}
-use Rattle.eevdf_steps.specs.Counters.{unfinished}
-use Rattle.eevdf_steps.specs.Orders.{order_fault}
+use Rattle.eevdf_steps.specs.declared.{play_fault.PlayFault.PlayFault, play_fault.PlayFault.TheVariants.Short}
+use Rattle.eevdf_steps.specs.{Counters.unfinished, Orders.order_fault, MicroState.micro_after, Players.Player}
 use Rattle.eevdf_steps.specs.Commits as deeds
-use Rattle.eevdf_steps.specs.MicroState.{micro_after}
-use Rattle.eevdf_steps.specs.Players.{Player}
 
 -- an order was played to its end, none of its places being faulty
 pub record HasPlayed (a : Player) (order : List ℕ) (b : Player) : Type 0 where

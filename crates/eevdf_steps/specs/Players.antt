@@ -3,18 +3,11 @@ use Rattle.std.specs.Prelude.{◌≡◌, ℕ, ◌++◌, true, List, Option, Resu
 use Rattle.std.specs.FinMap as map
 use Rattle.eevdf_queue.specs.State.{State}
 use Rattle.eevdf_ops.specs.declared.deeds.Deed.{Deed}
-use Rattle.eevdf_ops.specs.Histories.{machine_told}
-use Rattle.eevdf_ops.specs.Machine.{Machine, queue_at}
-use Rattle.eevdf_ops.specs.Places.{count}
-use Rattle.eevdf_ops.specs.Programs.{deeds_of}
+use Rattle.eevdf_ops.specs.{Histories.machine_told, Machine.Machine, Machine.queue_at, Places.count, Programs.deeds_of}
 use Rattle.eevdf_ops.specs.Setup.{Setup, is_task}
-use Rattle.eevdf_steps.specs.declared.micro_steps.Micro.{Micro}
-use Rattle.eevdf_steps.specs.declared.step_fault.StepFault.{StepFault}
-use Rattle.eevdf_steps.specs.Plan.{Plan, home, plan_of}
+use Rattle.eevdf_steps.specs.declared.{micro_steps.Micro.Micro, step_fault.StepFault.StepFault}
+use Rattle.eevdf_steps.specs.{Plan.Plan, Plan.home, Plan.plan_of, Counters.holds, Commits.committed_by, Places.places_of}
 use Rattle.eevdf_steps.specs.Counters as counters
-use Rattle.eevdf_steps.specs.Counters.{holds}
-use Rattle.eevdf_steps.specs.Commits.{committed_by}
-use Rattle.eevdf_steps.specs.Places.{places_of}
 use Rattle.eevdf_steps.specs.MicroState.{MicroState, micro_start, micro_step}
 
 -- what the callers are to do, and the state that their steps have come to

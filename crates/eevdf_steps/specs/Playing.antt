@@ -1,17 +1,9 @@
 -- What a player keeps, from its parts.
 use Rattle.std.specs.Prelude.{◌≡◌, ℕ, ◌+◌, ◌≤◌, List, length, Option}
-use Rattle.eevdf_ops.specs.Places.{count}
-use Rattle.eevdf_ops.specs.Setup.{is_task}
-use Rattle.eevdf_steps.specs.Plan.{Plan, callers}
-use Rattle.eevdf_steps.specs.Callers.{Callers}
-use Rattle.eevdf_steps.specs.PostLists.{ArePosted, PostList, progress_in}
-use Rattle.eevdf_steps.specs.Recorded.{Recorded}
-use Rattle.eevdf_steps.specs.Openings.{most_lines}
-use Rattle.eevdf_steps.specs.Room.{lines_to_come}
-use Rattle.eevdf_steps.specs.Serial.{IsSerial}
-use Rattle.eevdf_steps.specs.Work.{Work}
-use Rattle.eevdf_steps.specs.Places.{places_of}
-use Rattle.eevdf_steps.specs.Players.{Player}
+use Rattle.eevdf_ops.specs.{Places.count, Setup.is_task}
+use Rattle.eevdf_steps.specs.{Plan.Plan, Plan.callers, Callers.Callers, Recorded.Recorded, Openings.most_lines, Work.Work}
+use Rattle.eevdf_steps.specs.{PostLists.ArePosted, PostLists.PostList, PostLists.progress_in, Room.lines_to_come}
+use Rattle.eevdf_steps.specs.{Serial.IsSerial, Places.places_of, Players.Player}
 
 -- the player that parts of it show
 abbrev pub player_of : Callers → List PostList → List (Option ℕ) → Recorded → Player

@@ -1,14 +1,9 @@
 -- What a whole order comes to.
 use Rattle.std.specs.Prelude.{◌≡◌, ◌⊎◌, ℕ, ◌*◌, ◌<◌, nat_lt, is_some, true, false, List, [], length, slice_index_or, Some, None, Result, MatchResult}
-use Rattle.eevdf_ops.specs.Outcome.{Outcome, machine_of}
-use Rattle.eevdf_ops.specs.Setup.{Setup}
-use Rattle.eevdf_steps.specs.declared.play_fault.PlayFault.{PlayFault}
-use Rattle.eevdf_steps.specs.declared.play_fault.PlayFault.TheVariants.{Memory}
-use Rattle.eevdf_steps.specs.Plan.{callers, pair, plan_of}
-use Rattle.eevdf_steps.specs.Orders.{most_places, play_fault}
-use Rattle.eevdf_steps.specs.Requests.{left}
-use Rattle.eevdf_steps.specs.MicroState.{micro}
-use Rattle.eevdf_steps.specs.Players.{Player, unfinished}
+use Rattle.eevdf_ops.specs.{Outcome.Outcome, Outcome.machine_of, Setup.Setup}
+use Rattle.eevdf_steps.specs.declared.{play_fault.PlayFault.PlayFault, play_fault.PlayFault.TheVariants.Memory}
+use Rattle.eevdf_steps.specs.{Plan.callers, Plan.pair, Plan.plan_of, Orders.most_places, Orders.play_fault, Requests.left}
+use Rattle.eevdf_steps.specs.{MicroState.micro, Players.Player, Players.unfinished}
 
 -- the lines and the queues of a player, and the requests that were posted and not taken
 pub record IsOutcome (a : Player) (o : Outcome) : Type 0 where

@@ -1,11 +1,9 @@
 -- The requests from one CPU to another, as they are kept.
 use Rattle.std.specs.Prelude.{◌≡◌, ℕ, ◌+◌, ◌*◌, ◌<◌, ◌≤◌, nat_lt, Bool, true, List, [], ◌∷◌, ◌++◌, map, length, is_some, slice_get, slice_index_or, slice_set, if◌then◌else◌, Option, None}
 use Rattle.eevdf_steps.specs.declared.micro_steps.Micro.{Micro}
-use Rattle.eevdf_steps.specs.declared.micro_steps.Micro.TheVariants.{Acquire, Act, Detach, Attach, Commit, Take, Settle, Release, Post}
+use Rattle.eevdf_steps.specs.declared.micro_steps.Micro.TheVariants.{Take, Settle, Post}
 use Rattle.eevdf_steps.specs.Plan.{Plan, callers, home, pair}
-use Rattle.eevdf_steps.specs.MicroSteps.{steps_by}
-use Rattle.eevdf_steps.specs.Counters.{Counters}
-use Rattle.eevdf_steps.specs.Requests.{Progress, posted, posts_to}
+use Rattle.eevdf_steps.specs.{MicroSteps.steps_by, Counters.Counters, Requests.Progress, Requests.posted, Requests.posts_to}
 
 -- the requests that were posted, how many of them were taken, and for how many there is room
 pub record PostList : Type 0 where
@@ -33,49 +31,24 @@ list_at lists place = slice_index_or lists place no_posts
 abbrev pub place_of : Plan → ℕ → Micro → ℕ
 place_of plan caller (Take sender) = pair plan sender caller
 place_of plan caller (Post task) = pair plan caller (home plan task)
-place_of plan caller (Settle sender) = 0
-place_of plan caller (Acquire c) = 0
-place_of plan caller (Release c) = 0
-place_of plan caller Act = 0
-place_of plan caller Detach = 0
-place_of plan caller Attach = 0
-place_of plan caller Commit = 0
+place_of plan caller _ = 0
 
 -- a request that a step posts has room in a list
 abbrev pub has_room : PostList → Micro → Bool
 has_room l (Post task) = nat_lt (length l.posted) l.room
-has_room l (Take sender) = true
-has_room l (Settle sender) = true
-has_room l (Acquire c) = true
-has_room l (Release c) = true
-has_room l Act = true
-has_room l Detach = true
-has_room l Attach = true
-has_room l Commit = true
+has_room l _ = true
 
 -- the lists after a step that reads or adds to one of them
 abbrev pub posts_after : ℕ → Micro → List PostList → List PostList
 posts_after place (Take sender) lists = slice_set lists place (taken_more (list_at lists place))
 posts_after place (Post task) lists = slice_set lists place (posted_more (list_at lists place) task)
-posts_after place (Settle sender) lists = lists
-posts_after place (Acquire c) lists = lists
-posts_after place (Release c) lists = lists
-posts_after place Act lists = lists
-posts_after place Detach lists = lists
-posts_after place Attach lists = lists
-posts_after place Commit lists = lists
+posts_after place _ lists = lists
 
 -- what the caller has found after a step, from what it had found before
 abbrev pub request_after : ℕ → Micro → List PostList → Option ℕ → Option ℕ
 request_after place (Take sender) lists found = oldest_in (list_at lists place)
 request_after place (Settle sender) lists found = None
-request_after place (Post task) lists found = found
-request_after place (Acquire c) lists found = found
-request_after place (Release c) lists found = found
-request_after place Act lists found = found
-request_after place Detach lists found = found
-request_after place Attach lists found = found
-request_after place Commit lists found = found
+request_after place _ lists found = found
 
 abbrev pub progress_in : Counters → List PostList → List (Option ℕ) → Progress
 progress_in counters lists found = record { counters = counters; taken = map (λ (l : PostList). l.taken) lists; found = found }

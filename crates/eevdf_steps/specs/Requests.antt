@@ -1,8 +1,7 @@
 -- Wakes that are posted from one CPU to another, and those that were taken there.
 use Rattle.std.specs.Prelude.{ℕ, ◌+◌, ◌*◌, ◌==◌, List, [], ◌∷◌, ◌++◌, drop, replicate, slice_get, slice_index_or, slice_set, if◌then◌else◌, Option, Some, None}
-use Rattle.eevdf_steps.specs.declared.micro_steps.Micro.{Micro}
-use Rattle.eevdf_steps.specs.declared.micro_steps.Micro.TheVariants.{Acquire, Act, Detach, Attach, Commit, Take, Settle, Release, Post}
-use Rattle.eevdf_steps.specs.declared.program_plan.Step.{Step}
+use Rattle.eevdf_steps.specs.declared.{micro_steps.Micro.Micro, program_plan.Step.Step}
+use Rattle.eevdf_steps.specs.declared.micro_steps.Micro.TheVariants.{Take, Settle, Post}
 use Rattle.eevdf_steps.specs.Plan.{Plan, callers, home, pair}
 use Rattle.eevdf_steps.specs.Counters.{Counters, counted, done_by, step_next}
 use Rattle.eevdf_steps.specs.Orders.{counters_at_start}
@@ -10,14 +9,7 @@ use Rattle.eevdf_steps.specs.Orders.{counters_at_start}
 -- the request that a step posts to a home
 abbrev pub post_to : Plan → ℕ → Micro → List ℕ
 post_to plan cpu (Post task) = if home plan task == cpu then task ∷ [] else []
-post_to plan cpu (Acquire c) = []
-post_to plan cpu (Release c) = []
-post_to plan cpu Act = []
-post_to plan cpu Detach = []
-post_to plan cpu Attach = []
-post_to plan cpu Commit = []
-post_to plan cpu (Take q) = []
-post_to plan cpu (Settle q) = []
+post_to plan cpu _ = []
 
 -- the requests that steps post to a home, in order
 abbrev pub posts_to : Plan → ℕ → List Step → List ℕ
@@ -68,13 +60,7 @@ takes plan g caller sender (Some task) = record g {
 abbrev pub requested : Plan → Progress → ℕ → Micro → Progress
 requested plan g caller (Take sender) = takes plan g caller sender (oldest plan g sender caller)
 requested plan g caller (Settle sender) = record g { found = slice_set g.found caller None }
-requested plan g caller (Post task) = g
-requested plan g caller (Acquire c) = g
-requested plan g caller (Release c) = g
-requested plan g caller Act = g
-requested plan g caller Detach = g
-requested plan g caller Attach = g
-requested plan g caller Commit = g
+requested plan g caller _ = g
 
 abbrev pub progress_by : Plan → Progress → ℕ → Option Step → Progress
 progress_by plan g caller None = g

@@ -2,25 +2,16 @@
 use Rattle.std.specs.Prelude.{ℕ, zero, suc, ◌+◌, ◌-◌, List, [], ◌∷◌, length, drop, is_some, Option}
 use Rattle.std.specs.List.{sum_by}
 use Rattle.eevdf_ops.specs.Places.{count}
-use Rattle.eevdf_steps.specs.declared.micro_steps.Micro.{Micro}
-use Rattle.eevdf_steps.specs.declared.micro_steps.Micro.TheVariants.{Acquire, Act, Detach, Attach, Commit, Take, Settle, Release, Post}
-use Rattle.eevdf_steps.specs.declared.program_plan.Step.{Step}
-use Rattle.eevdf_steps.specs.Plan.{Plan, callers}
-use Rattle.eevdf_steps.specs.MicroSteps.{steps_by}
-use Rattle.eevdf_steps.specs.Counters.{Counters, count_of}
+use Rattle.eevdf_steps.specs.declared.{micro_steps.Micro.Micro, program_plan.Step.Step}
+use Rattle.eevdf_steps.specs.declared.micro_steps.Micro.TheVariants.{Commit, Post}
+use Rattle.eevdf_steps.specs.{Plan.Plan, Plan.callers, MicroSteps.steps_by, Counters.Counters, Counters.count_of}
 use Rattle.eevdf_steps.specs.PostLists.{PostList}
 
 -- the lines that can come of a step that is still to be done: of a commit its own, of a post that of the wake
 abbrev pub lines_of : Micro → ℕ
 lines_of Commit = 1
 lines_of (Post task) = 1
-lines_of (Take sender) = 0
-lines_of (Settle sender) = 0
-lines_of (Acquire c) = 0
-lines_of (Release c) = 0
-lines_of Act = 0
-lines_of Detach = 0
-lines_of Attach = 0
+lines_of _ = 0
 
 abbrev pub lines_in : List Step → ℕ
 lines_in [] = 0

@@ -1,10 +1,8 @@
 -- How the queues, the hands and the answers of all callers follow from the machine of the history.
 use Rattle.std.specs.Prelude.{◌≡◌, ℕ, true, false, List, Option}
 use Rattle.eevdf_ops.specs.declared.deeds.Line.{Line}
-use Rattle.eevdf_ops.specs.Machine.{Machine, queue_at}
-use Rattle.eevdf_steps.specs.Plan.{Plan}
-use Rattle.eevdf_steps.specs.Counters.{Counters, holds, step_next}
-use Rattle.eevdf_ops.specs.Histories.{AreHistory, machine_told}
+use Rattle.eevdf_ops.specs.{Machine.Machine, Machine.queue_at, Histories.AreHistory, Histories.machine_told}
+use Rattle.eevdf_steps.specs.{Plan.Plan, Counters.Counters, Counters.holds, Counters.step_next}
 use Rattle.eevdf_steps.specs.Work.{Work, answer, hand}
 use Rattle.eevdf_steps.specs.UnderWay.{KeepsAnswer, UnderWay, hand_seen, queue_seen, under_way}
 

@@ -2,17 +2,12 @@
 -- of the history.
 use Rattle.std.specs.Prelude.{◌≡◌, ℕ, Bool, true, false, List, if◌then◌else◌, Option, Some, None, MatchOption}
 use Rattle.eevdf_queue.specs.State.{State, Contents}
-use Rattle.eevdf_ops.specs.declared.deeds.Op.{Op}
-use Rattle.eevdf_ops.specs.declared.deeds.Deed.{Deed}
+use Rattle.eevdf_ops.specs.declared.deeds.{Op.Op, Deed.Deed, Answer.Answer}
 use Rattle.eevdf_ops.specs.declared.deeds.Deed.TheVariants as deed
-use Rattle.eevdf_ops.specs.declared.deeds.Answer.{Answer}
-use Rattle.eevdf_ops.specs.Machine.{Machine, queue_at}
+use Rattle.eevdf_ops.specs.{Machine.Machine, Machine.queue_at, Whole.whole, Programs.deed_of}
 use Rattle.eevdf_ops.specs.Parts.{Moved, after_leaving, given, giver, only_at, taken}
-use Rattle.eevdf_ops.specs.Whole.{whole}
-use Rattle.eevdf_steps.specs.declared.micro_steps.Micro.{Micro}
-use Rattle.eevdf_steps.specs.declared.micro_steps.Micro.TheVariants.{Acquire, Act, Detach, Attach, Commit, Take, Settle, Release, Post}
-use Rattle.eevdf_steps.specs.declared.program_plan.Step.{Step}
-use Rattle.eevdf_ops.specs.Programs.{deed_of}
+use Rattle.eevdf_steps.specs.declared.{micro_steps.Micro.Micro, program_plan.Step.Step}
+use Rattle.eevdf_steps.specs.declared.micro_steps.Micro.TheVariants.{Attach, Commit}
 
 -- a deed that is begun: all of it is done, or a task has left its queue and is still to be put down
 pub record UnderWay : Type 0 where
@@ -27,13 +22,7 @@ begun done (Some d) = Some (record { deed = d; done = done })
 abbrev pub under_way_before : ℕ → Op → Micro → Option UnderWay
 under_way_before caller o Attach = begun false (deed_of caller o)
 under_way_before caller o Commit = begun true (deed_of caller o)
-under_way_before caller o Act = None
-under_way_before caller o Detach = None
-under_way_before caller o (Take sender) = None
-under_way_before caller o (Settle sender) = None
-under_way_before caller o (Post task) = None
-under_way_before caller o (Acquire cpu) = None
-under_way_before caller o (Release cpu) = None
+under_way_before caller o _ = None
 
 -- what a caller has under way, by its next step
 abbrev pub under_way : ℕ → Option Step → Option UnderWay
@@ -44,11 +33,7 @@ under_way caller (Some s) = under_way_before caller s.op s.micro
 abbrev pub leaving : Deed → Answer → Moved → Option Contents
 leaving (deed.Sleep cpu task) answer moved = moved.contents
 leaving (deed.Pull cpu source) answer moved = taken answer moved.contents
-leaving (deed.Tick cpu ns) answer moved = None
-leaving (deed.Pick cpu) answer moved = None
-leaving (deed.Yield cpu) answer moved = None
-leaving (deed.Renice cpu task nice) answer moved = None
-leaving (deed.Wake cpu task sender) answer moved = None
+leaving _ answer moved = None
 
 -- the same on a machine
 abbrev pub leaves : List ℕ → Machine → Deed → Option Contents

@@ -1,11 +1,8 @@
 -- The work that the callers do on the queues.
 use Rattle.std.specs.Prelude.{ℕ, nat_lt, Bool, true, List, slice_index_or, slice_set, Option, Some, None, Result, Ok, Err}
-use Rattle.eevdf_queue.specs.State.{State, Contents}
-use Rattle.eevdf_queue.specs.Leaving.{carried_running}
-use Rattle.eevdf_ops.specs.declared.deeds.Op.{Op}
+use Rattle.eevdf_queue.specs.{State.State, State.Contents, Leaving.carried_running}
+use Rattle.eevdf_ops.specs.declared.deeds.{Op.Op, Answer.Answer, Answer.TheVariants.NotRunning, Answer.TheVariants.Pulled}
 use Rattle.eevdf_ops.specs.declared.deeds.Op.TheVariants as op
-use Rattle.eevdf_ops.specs.declared.deeds.Answer.{Answer}
-use Rattle.eevdf_ops.specs.declared.deeds.Answer.TheVariants.{NotRunning, Pulled}
 use Rattle.eevdf_ops.specs.Machine.{Machine, queue_at}
 use Rattle.eevdf_ops.specs.OneQueue.{one_tick, one_pick, one_yield, one_wake, one_renice}
 use Rattle.eevdf_ops.specs.WholeSleep.{falls_asleep, slept, task_leaves}
@@ -39,10 +36,7 @@ act w caller (op.Tick ns) = acted w caller (one_tick (queue_at w.machine caller)
 act w caller op.Pick = acted w caller (one_pick (queue_at w.machine caller))
 act w caller op.Yield = acted w caller (one_yield (queue_at w.machine caller))
 act w caller (op.Renice task nice) = acted w caller (one_renice (queue_at w.machine caller) task nice)
-act w caller (op.Sleep task) = w
-act w caller (op.Pull source) = w
-act w caller (op.Post task) = w
-act w caller op.Drain = w
+act w caller _ = w
 
 -- a caller takes a task into its hand, and keeps an answer
 abbrev pub grasped : Work → ℕ → Contents → Answer → Work
@@ -74,23 +68,12 @@ taken_from m source (Ok p) = task_leaves m source p.task
 abbrev pub detach : Work → ℕ → Op → Work
 detach w caller (op.Sleep task) = detach_running w caller (carried_running (queue_at w.machine caller) task)
 detach w caller (op.Pull source) = detach_pulled w caller source (pull_decision w.machine caller source)
-detach w caller (op.Tick ns) = w
-detach w caller op.Pick = w
-detach w caller op.Yield = w
-detach w caller (op.Renice task nice) = w
-detach w caller (op.Post task) = w
-detach w caller op.Drain = w
+detach w caller _ = w
 
 -- a pull is from one of so many queues
 abbrev pub pulls_from : ℕ → Op → Bool
 pulls_from queues (op.Pull source) = nat_lt source queues
-pulls_from queues (op.Sleep task) = true
-pulls_from queues (op.Tick ns) = true
-pulls_from queues op.Pick = true
-pulls_from queues op.Yield = true
-pulls_from queues (op.Renice task nice) = true
-pulls_from queues (op.Post task) = true
-pulls_from queues op.Drain = true
+pulls_from queues _ = true
 
 -- a caller's hand is emptied
 abbrev pub emptied : Work → ℕ → Work
@@ -112,12 +95,7 @@ attach_pulled w caller (Some p) = put_down w caller (task_joins w.machine caller
 abbrev pub attach : ℕ → Work → ℕ → Op → Work
 attach home w caller (op.Sleep task) = attach_asleep w caller home (hand w caller)
 attach home w caller (op.Pull source) = attach_pulled w caller (hand w caller)
-attach home w caller (op.Tick ns) = w
-attach home w caller op.Pick = w
-attach home w caller op.Yield = w
-attach home w caller (op.Renice task nice) = w
-attach home w caller (op.Post task) = w
-attach home w caller op.Drain = w
+attach home w caller _ = w
 
 -- a task is woken on the caller's own queue, with this answer
 abbrev pub woken : Work → ℕ → ℕ → Work

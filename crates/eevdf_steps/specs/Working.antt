@@ -1,14 +1,11 @@
 -- What a caller's work on the queues rests on.
 use Rattle.std.specs.Prelude.{◌≡◌, ℕ, ◌<◌, true, length, IfSome, None}
-use Rattle.eevdf_queue.specs.State.{Contents}
-use Rattle.eevdf_queue.specs.Moves.{sleeper_of}
-use Rattle.eevdf_queue.specs.Placing.{can_place}
+use Rattle.eevdf_queue.specs.{State.Contents, Moves.sleeper_of, Placing.can_place}
 use Rattle.eevdf_ops.specs.declared.deeds.Op.{Op}
 use Rattle.eevdf_ops.specs.declared.deeds.Op.TheVariants as op
 use Rattle.eevdf_steps.specs.declared.micro_steps.Micro.{Micro}
-use Rattle.eevdf_steps.specs.declared.micro_steps.Micro.TheVariants.{Acquire, Act, Detach, Attach, Commit, Take, Settle, Release, Post}
-use Rattle.eevdf_ops.specs.Machine.{queue_at}
-use Rattle.eevdf_ops.specs.Places.{places_in}
+use Rattle.eevdf_steps.specs.declared.micro_steps.Micro.TheVariants.{Detach, Attach}
+use Rattle.eevdf_ops.specs.{Machine.queue_at, Places.places_in}
 use Rattle.eevdf_steps.specs.Work.{Work, hand}
 
 -- a caller has a queue, a hand and an answer; the task in its hand stands neither in its queue nor at its home
@@ -23,22 +20,10 @@ pub record IsWorking (w : Work) (caller at : ℕ) : Type 0 where
 -- the caller's queue has room for the task in its hand, where that is to be placed there
 abbrev pub HasRoom : Work → ℕ → Op → Type 0
 HasRoom w caller (op.Pull source) = IfSome (hand w caller) (λ (p : Contents). can_place (queue_at w.machine caller) (sleeper_of p) ≡ true)
-HasRoom w caller (op.Sleep task) = Unit {0}
-HasRoom w caller (op.Tick ns) = Unit {0}
-HasRoom w caller op.Pick = Unit {0}
-HasRoom w caller op.Yield = Unit {0}
-HasRoom w caller (op.Renice task nice) = Unit {0}
-HasRoom w caller (op.Post task) = Unit {0}
-HasRoom w caller op.Drain = Unit {0}
+HasRoom w caller _ = Unit {0}
 
 -- the hand is empty before a detach, and what is in it can be put down at an attach
 abbrev pub FitsHand : Work → ℕ → Op → Micro → Type 0
 FitsHand w caller o Detach = hand w caller ≡ None
 FitsHand w caller o Attach = HasRoom w caller o
-FitsHand w caller o Act = Unit {0}
-FitsHand w caller o Commit = Unit {0}
-FitsHand w caller o (Take sender) = Unit {0}
-FitsHand w caller o (Settle sender) = Unit {0}
-FitsHand w caller o (Post task) = Unit {0}
-FitsHand w caller o (Acquire cpu) = Unit {0}
-FitsHand w caller o (Release cpu) = Unit {0}
+FitsHand w caller o _ = Unit {0}

@@ -5,9 +5,10 @@ ghost use Rattle.eevdf_ops.specs.Numbers.{most_operations};
 ghost use Rattle.eevdf_steps.specs.Plan.{callers as number, is_sound_op, program};
 ghost use Rattle.eevdf_steps.specs.Openings as openings;
 
+use crate::lists_of_steps::cpu_number;
 use crate::post_list::PostList;
 use crate::program_plan::Plan;
-use eevdf_ops::Op;
+use eevdf_ops::{CpuId, Op};
 use eevdf_queue::TaskId;
 use std::alloc::{AllocError, Global};
 
@@ -18,7 +19,7 @@ pub(crate) fn empty_posts(alloc: Global, plan: &Plan) -> Result<Vec<PostList>, A
     let count = plan.callers();
     let mut lists = Vec::with_capacity(alloc, count * count)?;
     for sender in 0..count {
-        let rooms = post_counts(alloc, plan, sender)?;
+        let rooms = post_counts(alloc, plan, cpu_number(sender))?;
         for room in &rooms {
             lists.push(PostList::open(alloc, *room)?)?;
         }
@@ -27,7 +28,7 @@ pub(crate) fn empty_posts(alloc: Global, plan: &Plan) -> Result<Vec<PostList>, A
 }
 
 /// For each home how many requests a caller's program posts to it.
-fn post_counts(alloc: Global, plan: &Plan, caller: usize) -> Result<Vec<usize>, AllocError>
+fn post_counts(alloc: Global, plan: &Plan, caller: CpuId) -> Result<Vec<usize>, AllocError>
     requires { caller < number plan.now }
     ensures { IfOk result (λ counts. openings.CountPosts plan.now (program plan.now caller) counts.items) }
 {
@@ -47,7 +48,7 @@ fn count_post(plan: &Plan, op: Op, counts: &mut [usize])
     ensures { counts.new ≡ openings.post_counted plan.now op counts.old }
 {
     if let Op::Post(task) = op {
-        counts[plan.home(task).get() as usize] += 1;
+        counts[plan.home(task).index()] += 1;
     }
 }
 
@@ -58,7 +59,7 @@ pub(crate) fn lines(plan: &Plan) -> usize
 {
     let mut lines = 0;
     for caller in 0..plan.callers() {
-        lines += plan.operations(caller);
+        lines += plan.program(cpu_number(caller)).len();
     }
     lines
 }

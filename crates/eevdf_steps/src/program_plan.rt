@@ -1,12 +1,13 @@
 //! What the callers are to do.
 
-ghost use Rattle.std.specs.Prelude.{◌≡◌, ◌+◌, ◌*◌, ◌<◌, ◌≤◌, is_some, Some, true, length, slice_get, map, None, IfOk, IfSome};
+ghost use Rattle.std.specs.Prelude.{◌≡◌, ◌+◌, ◌*◌, ◌<◌, ◌≤◌, Some, true, length, slice_get, take, IfOk, IfSome};
 ghost use Rattle.std.specs.Option.{option_map};
 ghost use Rattle.eevdf_ops.specs.Numbers.{most_cpus};
+ghost use Rattle.eevdf_steps.specs.Callers.{BeginAll};
 ghost use Rattle.eevdf_steps.specs.MicroState.{home_for};
-ghost use Rattle.eevdf_steps.specs.MicroSteps.{micros_of, steps_by};
+ghost use Rattle.eevdf_steps.specs.MicroSteps.{micros_of, steps_of};
 ghost use Rattle.eevdf_steps.specs.Plan.{IsSound, callers, home, is_sound_op, pair, plan_of, program};
-ghost use Rattle.eevdf_steps.specs.Positions.{counter_at, is_position};
+ghost use Rattle.eevdf_steps.specs.Positions.{IsPosition, counter_at};
 ghost use Rattle.eevdf_steps.specs.PostLists.{place_of};
 ghost use Rattle.eevdf_steps.specs.SoundSteps.{is_sound_micro};
 
@@ -46,11 +47,12 @@ pub(crate) fn micro_of(step: Option<Step>) -> Option<Micro>
     }
 }
 
-/// Where a caller stands in its program: at an operation, of which so many steps are done.
+/// Where a caller stands in its program: at an operation, of which so many steps are done, with the step that it does next.
 #[derive(Clone, Copy, Debug)]
 pub(crate) struct Position {
     pub(crate) operation: usize,
     pub(crate) steps: usize,
+    pub(crate) next: Option<Step>,
 }
 
 /// What the callers of a setup are to do, with the setup itself.
@@ -98,29 +100,13 @@ impl Plan {
         self.setup.cpus()
     }
 
-    /// The number of operations of a caller's program.
-    pub(crate) fn operations(&self, caller: usize) -> usize
-        requires { caller < callers self.now }
-        ensures operations { result ≡ length (program self.now caller) }
-        ensures few { result ≤ 10000 }
+    /// A caller's program, of at most 10000 operations.
+    pub(crate) fn program(&self, cpu: CpuId) -> &[Op]
+        requires { cpu < callers self.now }
+        ensures program { result.now ≡ program self.now cpu }
+        ensures few { length result.now ≤ 10000 }
     {
-        self.keeps();
-        self.listed_operations(caller)
-    }
-
-    /// A caller's program.
-    pub(crate) fn program(&self, caller: usize) -> &[Op]
-        requires { caller < callers self.now }
-        ensures { result.now ≡ program self.now caller }
-    {
-        self.setup.program(cpu_number(caller))
-    }
-
-    fn listed_operations(&self, caller: usize) -> usize
-        requires { caller < callers self.now }
-        ensures { result ≡ length (program self.now caller) }
-    {
-        self.program(caller).len()
+        self.setup.program(cpu)
     }
 
     /// The number of tasks.
@@ -136,14 +122,6 @@ impl Plan {
         ensures home { result ≡ home self.now task }
         ensures below { result < callers self.now }
     {
-        self.keeps();
-        self.listed_home(task)
-    }
-
-    fn listed_home(&self, task: TaskId) -> CpuId
-        requires { task < length self.now.homes }
-        ensures { result ≡ home self.now task }
-    {
         self.setup.spec(task).home
     }
 
@@ -156,7 +134,7 @@ impl Plan {
     {
         match op {
             Op::Sleep(task) | Op::Post(task) => self.home(task),
-            Op::Tick(_) | Op::Pick | Op::Yield | Op::Pull(_) | Op::Renice(_, _) | Op::Drain => cpu,
+            _ => cpu,
         }
     }
 
@@ -170,13 +148,7 @@ impl Plan {
         match micro {
             Micro::Take(sender) => self.pair(sender, cpu),
             Micro::Post(task) => self.pair(cpu, self.home(task)),
-            Micro::Settle(_)
-            | Micro::Acquire(_)
-            | Micro::Release(_)
-            | Micro::Act
-            | Micro::Detach
-            | Micro::Attach
-            | Micro::Commit => 0,
+            _ => 0,
         }
     }
 
@@ -187,29 +159,21 @@ impl Plan {
         ensures place { result ≡ pair self.now sender home }
         ensures below { result < callers self.now * callers self.now }
     {
-        sender.get() as usize * self.callers() + home.get() as usize
+        sender.index() * self.callers() + home.index()
     }
 
     /// The operation at a place of a caller's program.
-    pub(crate) fn operation(&self, caller: usize, at: usize) -> Option<Op>
-        requires { caller < callers self.now }
-        ensures op { result ≡ slice_get (program self.now caller) at }
+    fn operation(&self, cpu: CpuId, at: usize) -> Option<Op>
+        requires { cpu < callers self.now }
+        ensures op { result ≡ slice_get (program self.now cpu) at }
         ensures sound { IfSome result (λ o. is_sound_op self.now o ≡ true) }
-        ensures within { IfSome result (λ _. at < 10000) }
     {
         self.keeps();
-        self.listed_operation(caller, at)
-    }
-
-    fn listed_operation(&self, caller: usize, at: usize) -> Option<Op>
-        requires { caller < callers self.now }
-        ensures { result ≡ slice_get (program self.now caller) at }
-    {
-        self.program(caller).get(at).copied()
+        self.program(cpu).get(at).copied()
     }
 
     /// The micro-step of an operation at a place of its list.
-    pub(crate) fn micro_at(&self, cpu: CpuId, op: Op, at: usize) -> Option<Micro>
+    fn micro_at(&self, cpu: CpuId, op: Op, at: usize) -> Option<Micro>
         requires { is_sound_op self.now op ≡ true }
         ensures { result ≡ slice_get (micros_of self.now cpu op) at }
     {
@@ -228,16 +192,37 @@ impl Plan {
         }
     }
 
-    /// The step of a caller at a position, with its operation.
-    pub(crate) fn step_at(&self, caller: usize, position: Position) -> Option<Step>
-        requires caller { caller < callers self.now }
-        requires position { is_position self.now caller position ≡ true }
-        ensures { result ≡ slice_get (steps_by self.now caller) (counter_at self.now caller position) }
+    /// The positions of the callers, none of whom has done a step.
+    pub(crate) fn first_positions(&self, alloc: Global) -> Result<Vec<Position>, AllocError>
+        ensures { IfOk result (λ ps. BeginAll self.now (callers self.now) ps.items) }
+    {
+        // the checker looks for the types that a position holds among those of the locals
+        let _held: (Option<Op>, Option<Micro>, Option<Step>) = (None, None, None);
+        let mut positions = Vec::with_capacity(alloc, self.callers())?;
+        for caller in 0..self.callers() {
+            positions.push(self.begin(cpu_number(caller), 0))?;
+        }
+        Ok(positions)
+    }
+
+    /// The position of a caller that begins with an operation.
+    fn begin(&self, cpu: CpuId, operation: usize) -> Position
+        requires { cpu < callers self.now }
+        ensures position { IsPosition self.now cpu result }
+        ensures counter { counter_at self.now cpu result ≡ length (steps_of self.now cpu (take operation (program self.now cpu))) }
     {
         self.keeps();
-        match self.operation(caller, position.operation) {
-            None => None,
-            Some(op) => self.step_of(cpu_number(caller), op, position.steps),
+        match self.operation(cpu, operation) {
+            None => Position {
+                operation,
+                steps: 0,
+                next: None,
+            },
+            Some(op) => Position {
+                operation,
+                steps: 0,
+                next: self.step_of(cpu, op, 0),
+            },
         }
     }
 
@@ -248,38 +233,21 @@ impl Plan {
         self.micro_at(cpu, op, at).map(|micro| Step { op, micro })
     }
 
-    /// The position of a caller that has done one step more.
-    pub(crate) fn position_after(&self, caller: usize, position: Position) -> Position
-        requires caller { caller < callers self.now }
-        requires position { is_position self.now caller position ≡ true }
-        requires step { is_some (slice_get (steps_by self.now caller) (counter_at self.now caller position)) ≡ true }
-        ensures position { is_position self.now caller result ≡ true }
-        ensures counter { counter_at self.now caller result ≡ counter_at self.now caller position + 1 }
+    /// The position of a caller that has done its next step.
+    pub(crate) fn position_after(&self, cpu: CpuId, at: Position, step: Step) -> Position
+        requires caller { cpu < callers self.now }
+        requires position { IsPosition self.now cpu at }
+        requires step { at.next ≡ Some step }
+        ensures position { IsPosition self.now cpu result }
+        ensures counter { counter_at self.now cpu result ≡ counter_at self.now cpu at + 1 }
     {
         self.keeps();
-        match self.operation(caller, position.operation) {
-            None => unreachable!(),
-            Some(op) => self.position_within(cpu_number(caller), op, position),
-        }
-    }
-
-    fn position_within(&self, cpu: CpuId, op: Op, position: Position) -> Position
-        requires sound { is_sound_op self.now op ≡ true }
-        requires op { slice_get (program self.now cpu) position.operation ≡ Some op }
-        requires short { position.operation < 10000 }
-        requires within { position.steps < length (micros_of self.now cpu op) }
-        ensures position { is_position self.now cpu result ≡ true }
-        ensures counter { counter_at self.now cpu result ≡ counter_at self.now cpu position + 1 }
-    {
-        self.keeps();
-        match self.micro_at(cpu, op, position.steps + 1) {
-            Some(_) => Position {
-                operation: position.operation,
-                steps: position.steps + 1,
-            },
-            None => Position {
-                operation: position.operation + 1,
-                steps: 0,
+        match self.step_of(cpu, step.op, at.steps + 1) {
+            None => self.begin(cpu, at.operation + 1),
+            Some(following) => Position {
+                operation: at.operation,
+                steps: at.steps + 1,
+                next: Some(following),
             },
         }
     }

@@ -152,7 +152,7 @@ impl Work {
                 let answer = renice(&mut self.queues, cpu, task, nice);
                 self.keep(cpu, answer);
             }
-            Op::Sleep(_) | Op::Post(_) | Op::Drain | Op::Pull(_) => {}
+            _ => {}
         }
     }
 
@@ -177,7 +177,7 @@ impl Work {
         match op {
             Op::Sleep(task) => self.detach_running(cpu, task),
             Op::Pull(source) => self.detach_pulled(cpu, source),
-            Op::Tick(_) | Op::Pick | Op::Yield | Op::Renice(_, _) | Op::Post(_) | Op::Drain => {}
+            _ => {}
         }
     }
 

@@ -41,14 +41,23 @@ impl Requests {
         Ok(Requests { posts, left })
     }
 
-    /// Does a step on its list. The answer is what the caller has found then.
+    /// Does a step on its list: a post is added to it, a take finds its oldest request, and what was found is settled. The
+    /// answer is what the caller has found then.
     pub(crate) fn pass(&mut self, turn: &Turn) -> Option<TaskId>
         requires place { turn.now.place < length self.old }
         requires room { lists.has_room (lists.list_at self.old turn.now.place) turn.now.micro ≡ true }
         ensures posts { self.new ≡ lists.posts_after turn.now.place turn.now.micro self.old }
         ensures found { result ≡ lists.request_after turn.now.place turn.now.micro self.old turn.now.found }
     {
-        pass_request(&mut self.posts, turn)
+        match turn.micro {
+            Micro::Take(_) => self.posts[turn.place].take(),
+            Micro::Settle(_) => None,
+            Micro::Post(task) => {
+                self.posts[turn.place].post(task);
+                turn.found
+            }
+            _ => turn.found,
+        }
     }
 
     /// What is left of each list. It takes no memory.
@@ -62,29 +71,5 @@ impl Requests {
             }
         }
         left
-    }
-}
-
-/// Does a step on its list: a post is added to it, a take finds its oldest request, and what was
-/// found is settled. The answer is what the caller has found then.
-fn pass_request(posts: &mut [PostList], turn: &Turn) -> Option<TaskId>
-    requires place { turn.now.place < length posts.old }
-    requires room { lists.has_room (lists.list_at posts.old turn.now.place) turn.now.micro ≡ true }
-    ensures posts { posts.new ≡ lists.posts_after turn.now.place turn.now.micro posts.old }
-    ensures found { result ≡ lists.request_after turn.now.place turn.now.micro posts.old turn.now.found }
-{
-    match turn.micro {
-        Micro::Take(_) => posts[turn.place].take(),
-        Micro::Settle(_) => None,
-        Micro::Post(task) => {
-            posts[turn.place].post(task);
-            turn.found
-        }
-        Micro::Acquire(_)
-        | Micro::Release(_)
-        | Micro::Act
-        | Micro::Detach
-        | Micro::Attach
-        | Micro::Commit => turn.found,
     }
 }

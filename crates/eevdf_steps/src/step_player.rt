@@ -10,15 +10,17 @@ ghost use Rattle.eevdf_steps.specs.Playing as playing;
 ghost use Rattle.eevdf_steps.specs.Plays as plays;
 ghost use Rattle.eevdf_steps.specs.Serial.{IsSerial};
 
-use crate::lists_of_steps::cpu_number;
-use crate::locked_callers::LockedCallers;
+use crate::callers::Callers;
+use crate::commits::commit;
+use crate::journal::Journal;
 use crate::micro_steps::Micro;
 use crate::openings::{lines, nothing_found};
 use crate::program_plan::{Step, Turn, micro_of};
-use crate::recorded_work::{Parts, RecordedWork};
+use crate::queue_work::Work;
 use crate::requests::Requests;
 use crate::step_fault::StepFault;
 use crate::task_place::Place;
+use crate::work_steps::do_work;
 use eevdf_ops::laws::every_task_in_one_place;
 use eevdf_ops::{CpuId, Line, Outcome, Setup, Solo};
 use eevdf_queue::{Queue, TaskId};
@@ -28,15 +30,17 @@ use std::marker::Model;
 /// The callers of a setup, each of whom does its program step by step as it is told.
 #[derive(Drop)]
 pub struct Player {
-    callers: LockedCallers,
+    callers: Callers,
     posts: Requests,
     found: Vec<Option<TaskId>>,
-    done: RecordedWork,
+    work: Work,
+    journal: Journal,
 }
 
 impl Model for Player {
     ghost use Rattle.eevdf_steps.specs.Players as player;
     ghost use Rattle.eevdf_steps.specs.Playing as playing;
+    ghost use Rattle.eevdf_steps.specs.Recorded.{recorded};
     ghost use Rattle.std.specs.Coded.{codes};
     ghost use Rattle.eevdf_queue.specs.Codes.{state_code};
 
@@ -44,9 +48,9 @@ impl Model for Player {
 
     ghost coded = { Prim.hlevel (codes, state_code) };
 
-    ghost view = { λ a. playing.player_of a.callers a.posts a.found.items a.done };
+    ghost view = { λ a. playing.player_of a.callers a.posts a.found.items (recorded a.work a.journal) };
 
-    ghost invariant = { λ a. playing.IsPlaying a.callers a.posts a.found.items a.done };
+    ghost invariant = { λ a. playing.IsPlaying a.callers a.posts a.found.items (recorded a.work a.journal) };
 }
 
 impl Player {
@@ -56,19 +60,21 @@ impl Player {
     pub fn open(alloc: Global, setup: &Setup) -> Result<Player, AllocError>
         ensures { IfOk result (λ a. a ≡ player.player_start setup.now) }
     {
-        let callers = LockedCallers::open(alloc, setup)?;
+        let callers = Callers::open(alloc, setup)?;
         callers.keeps();
         let plan = callers.plan();
         let posts = Requests::open(alloc, plan)?;
         let found = nothing_found(alloc, plan)?;
         let solo = Solo::open(alloc, setup)?;
         every_task_in_one_place(&solo);
-        let done = RecordedWork::open(alloc, solo.into_queues(), lines(plan))?;
+        let work = Work::open(alloc, solo.into_queues())?;
+        let journal = Journal::open(alloc, lines(plan))?;
         Ok(Player {
             callers,
             posts,
             found,
-            done,
+            work,
+            journal,
         })
     }
 
@@ -76,7 +82,10 @@ impl Player {
     pub fn next(&self, caller: usize) -> Option<Micro>
         ensures { result ≡ player.next self.now caller }
     {
-        micro_of(self.callers.next(caller))
+        match self.callers.cpu(caller) {
+            None => None,
+            Some(cpu) => micro_of(self.callers.next(cpu)),
+        }
     }
 
     /// The least caller whose next step nothing refuses: `None` exactly where all callers are done. Until then there
@@ -108,7 +117,7 @@ impl Player {
         requires { cpu < callers self.now.plan }
         ensures { result ≡ player.holder self.now cpu }
     {
-        self.callers.holder(cpu)
+        self.callers.holder(cpu).map(CpuId::index)
     }
 
     /// Where a task of the setup stands: the one place, since no task stands in two (`laws::every_task_in_one_place`).
@@ -117,7 +126,7 @@ impl Player {
         ensures { stands_at self.now.state.work task result ≡ true }
     {
         self.callers.keeps();
-        match self.done.place_of(task) {
+        match self.work.place_of(task) {
             Some(place) => place,
             None => unreachable!(),
         }
@@ -132,7 +141,7 @@ impl Player {
             → result.now.state ≡ queue_at (player.machine_of_history self.now) cpu }
     {
         self.keeps();
-        self.done.queue(cpu)
+        self.work.queue(cpu)
     }
 
     /// The deeds that were committed with their answers, in the order of the commits. Each answer is that of the deed done
@@ -142,7 +151,7 @@ impl Player {
         ensures answers { AreHistory self.now.plan.homes self.now.plan.start result.now }
     {
         self.keeps();
-        self.done.lines()
+        self.journal.lines()
     }
 
     /// Does the next step of a caller, where nothing refuses it. A refusal changes nothing. It takes no memory.
@@ -150,10 +159,12 @@ impl Player {
         ensures step { player.IsStep self.old caller result self.new }
         ensures commits { OnOk result (player.Appends self.old caller self.new) }
     {
-        self.callers.keeps();
-        match self.callers.free_step(caller) {
+        let Some(cpu) = self.callers.cpu(caller) else {
+            return Err(StepFault::NoCaller);
+        };
+        match self.callers.free_step(cpu) {
             Ok(step) => {
-                self.do_step(cpu_number(caller), &step);
+                self.do_step(cpu, step);
                 Ok(())
             }
             Err(fault) => Err(fault),
@@ -168,7 +179,7 @@ impl Player {
         ensures each { length self.now.state.progress.counters ≡ callers self.now.plan }
     {
         self.callers.keeps();
-        let _ = &self.done;
+        let _ = &self.work;
     }
 
     /// The least caller that isn't done.
@@ -203,20 +214,19 @@ impl Player {
             callers: _,
             posts,
             found: _,
-            done,
+            work,
+            journal,
         } = self;
-        let Parts { lines, queues } = done.into_parts();
-        Outcome::of(lines, queues, posts.into_left())
+        Outcome::of(journal.into_lines(), work.into_queues(), posts.into_left())
     }
 
-    fn do_step(&mut self, cpu: CpuId, step: &Step)
-        requires next { counters.step_next self.old.plan self.old.state.progress.counters cpu ≡ Some step.now }
-        requires free { counters.refused self.old.plan self.old.state.progress.counters step.now.micro ≡ None }
+    fn do_step(&mut self, cpu: CpuId, step: Step)
+        requires next { counters.step_next self.old.plan self.old.state.progress.counters cpu ≡ Some step }
+        requires free { counters.refused self.old.plan self.old.state.progress.counters step.micro ≡ None }
         ensures step { self.new ≡ player.player_step self.old cpu }
         ensures commits { player.Appends self.old cpu self.new }
     {
         self.callers.keeps();
-        let caller = cpu.get() as usize;
         let plan = self.callers.plan();
         let turn = Turn {
             cpu,
@@ -224,11 +234,12 @@ impl Player {
             micro: step.micro,
             home: plan.home_for(cpu, step.op),
             place: plan.place(cpu, step.micro),
-            found: self.found[caller],
+            found: self.found[cpu.index()],
         };
-        self.done.do_step(&turn);
+        let answer = do_work(&mut self.work, &turn);
+        commit(&mut self.journal, &turn, answer);
         let request = self.posts.pass(&turn);
-        self.found[caller] = request;
-        self.callers.advance(caller, step.micro);
+        self.found[cpu.index()] = request;
+        self.callers.advance(cpu, step);
     }
 }

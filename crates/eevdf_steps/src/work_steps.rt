@@ -35,7 +35,7 @@ pub(crate) fn do_work(work: &mut Work, turn: &Turn) -> Option<Answer>
         }
         Micro::Commit => work.answer(cpu),
         Micro::Settle(_) => settle(work, cpu, turn.found),
-        Micro::Acquire(_) | Micro::Release(_) | Micro::Take(_) | Micro::Post(_) => None,
+        _ => None,
     }
 }
 
@@ -47,7 +47,7 @@ fn attach(work: &mut Work, cpu: CpuId, op: Op, home: CpuId)
     match op {
         Op::Sleep(_) => work.attach_asleep(cpu, home),
         Op::Pull(_) => work.attach_pulled(cpu),
-        Op::Tick(_) | Op::Pick | Op::Yield | Op::Renice(_, _) | Op::Post(_) | Op::Drain => {}
+        _ => {}
     }
 }
 

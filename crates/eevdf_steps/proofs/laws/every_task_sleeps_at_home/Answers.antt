@@ -1,5 +1,5 @@
-use Rattle.std.proofs.Common.{◌≡◌, sym, subst}
-use Rattle.eevdf_steps.specs.Plan.{Plan, plan_of}
+use Rattle.std.proofs.Common.{sym, subst}
+use Rattle.eevdf_steps.specs.Plan.{Plan}
 use Rattle.eevdf_steps.proofs.AsleepHomes.{AllAtHome, callers_at_home}
 use Rattle.eevdf_steps.proofs.laws.every_task_sleeps_at_home.Goals as goal
 

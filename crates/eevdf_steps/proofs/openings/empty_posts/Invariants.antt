@@ -1,7 +1,5 @@
 use Rattle.std.proofs.Common.{◌≡◌, ℕ, ◌+◌, ◌*◌, ◌<◌, length}
-use Rattle.eevdf_steps.specs.Plan.{callers}
-use Rattle.eevdf_steps.specs.PostLists.{list_at}
-use Rattle.eevdf_steps.specs.Openings.{empty_at}
+use Rattle.eevdf_steps.specs.{Plan.callers, PostLists.list_at, Openings.empty_at}
 use Rattle.eevdf_steps.proofs.openings.empty_posts.Given as goal
 
 abbrev pub invariant-loop-sender : goal.invariant-loop-sender

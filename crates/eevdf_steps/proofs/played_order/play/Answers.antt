@@ -1,6 +1,5 @@
 use Rattle.std.proofs.Common.{subst, sym}
-use Rattle.eevdf_steps.specs.Players.{Player}
-use Rattle.eevdf_steps.specs.PlayedSteps.{HasPlayed}
+use Rattle.eevdf_steps.specs.{Players.Player, PlayedSteps.HasPlayed}
 use Rattle.eevdf_steps.proofs.PlayedOrders.{play_allowed, play_follows, play_placed, play_whole}
 use Rattle.eevdf_steps.proofs.played_order.play.Goals as goal
 

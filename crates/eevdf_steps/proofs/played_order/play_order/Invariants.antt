@@ -1,6 +1,5 @@
 use Rattle.std.proofs.Common.{◌≡◌, drop}
-use Rattle.eevdf_steps.specs.Orders.{order_fault}
-use Rattle.eevdf_steps.specs.MicroState.{micro_after}
+use Rattle.eevdf_steps.specs.{Orders.order_fault, MicroState.micro_after}
 use Rattle.eevdf_steps.proofs.PlayedOrders.{deeds_with}
 use Rattle.eevdf_steps.proofs.played_order.play_order.Given as goal
 

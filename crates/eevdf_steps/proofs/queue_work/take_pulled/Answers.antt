@@ -1,11 +1,9 @@
 use Rattle.std.proofs.Common.{◌≡◌, sym, ◌∙◌, arith}
-use Rattle.eevdf_ops.specs.Outcome.{machine_of}
-use Rattle.eevdf_ops.specs.PullOffer.{task_of}
+use Rattle.eevdf_ops.specs.{Outcome.machine_of, PullOffer.task_of}
 use Rattle.eevdf_ops.proofs.Machines.{queue_state}
 use Rattle.eevdf_ops.proofs.Pulling.{decided_at, decided_of, takes, takes-waiting}
-use Rattle.eevdf_steps.proofs.Decisions.{refusal_decided}
+use Rattle.eevdf_steps.proofs.{Decisions.refusal_decided, queue_work.take_pulled.Goals.After-decide}
 use Rattle.eevdf_steps.proofs.queue_work.take_pulled.Goals as goal
-use Rattle.eevdf_steps.proofs.queue_work.take_pulled.Goals.{After-decide}
 
 decided : (c : After-decide) → task_of (decided_at (machine_of c.args.queues.now) c.args.cpu c.args.source) ≡ c.decide.result
 decided c =

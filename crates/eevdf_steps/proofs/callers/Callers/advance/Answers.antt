@@ -1,29 +1,69 @@
-use Rattle.std.proofs.Common.{ℕ, ap, ◌∙◌, sym, arith}
+use Rattle.std.proofs.Common.{◌≡◌, ℕ, ◌+◌, ◌<◌, List, length, set, true, ap, subst, ◌∙◌, sym, arith}
 use Rattle.std.proofs.Math.ListN.{length-set}
-use Rattle.std.specs.Prelude.{slice_get, is_some}
-use Rattle.eevdf_steps.specs.Callers.{Callers}
-use Rattle.eevdf_steps.specs.Counters.{counted, step_next}
-use Rattle.eevdf_steps.specs.MicroSteps.{steps_by}
-use Rattle.eevdf_steps.proofs.CounterLists.{counter_of, counters_with, position_of, positions_with}
+use Rattle.std.specs.Prelude.{Option, Some}
+use Rattle.eevdf_steps.specs.{Callers.Callers, Counters.counted, Counters.refused, Counters.step_next, Plan.callers}
+use Rattle.eevdf_steps.specs.{Holders.holders_after, Positions.IsPosition, Positions.counter_at, Positions.counters_at, SoundSteps.is_sound_step}
+use Rattle.eevdf_steps.proofs.{SoundSteps.is_caller, SoundSteps.micro_sound, SoundSteps.step_sound}
+use Rattle.eevdf_steps.proofs.CounterLists.{counters_with, length-counters_at, positions_with, step_kept}
+use Rattle.eevdf_steps.proofs.Holders.{holders_next, same_holders, sound_lock, written_back, length-holders_after}
 use Rattle.eevdf_steps.proofs.callers.Callers.advance.Goals as goal
+use Rattle.eevdf_steps.proofs.callers.Callers.advance.Goals.{After-keeps, After-index-at, After-index_mut}
 
-pub position_after-requires-clause-position : goal.position_after-requires-clause-position
-position_after-requires-clause-position c =
-    position_of c.self.inside.plan c.self.inside.positions.items c.args.caller c.index.result.now (omega arith) c.index.ensures c.self.invariant.within
+step_is : (c : After-keeps) → step_next c.self.inside.plan (counters_at c.self.inside.plan 0 c.self.inside.positions.items) c.args.cpu ≡ Some c.args.step
+step_is c = ap (λ (w : Callers). step_next w.plan w.counters c.args.cpu) c.self.view_is ∙ c.requires.step
+
+caller : (c : After-keeps) → c.args.cpu < callers c.self.inside.plan
+caller c = is_caller c.self.inside.plan (counters_at c.self.inside.plan 0 c.self.inside.positions.items) c.args.cpu c.args.step (step_is c)
+
+sound : (c : After-keeps) → is_sound_step c.self.inside.plan c.args.step ≡ true
+sound c =
+    step_sound c.self.inside.plan (counters_at c.self.inside.plan 0 c.self.inside.positions.items) c.args.cpu c.args.step c.keeps.ensures (caller c) (step_is c)
+
+pub note_locks-requires : goal.note_locks-requires
+note_locks-requires c =
+    sound_lock c.self.inside.plan (length c.deref_mut.result.now) c.args.step.micro
+    (ap (λ (hs : List (Option ℕ)). length hs) c.deref_mut.ensures.value ∙ c.self.invariant.locks.each)
+    (micro_sound c.self.inside.plan c.args.step (sound (goal.at.note_locks-requires c).After-keeps))
+
+kept : (c : After-index-at) → c.index-at.result.now.next ≡ Some c.args.step
+kept c =
+    step_kept c.self.inside.plan c.self.inside.positions.items c.index.result c.args.cpu c.index-at.result.now c.index.ensures.number
+    (omega (arith, caller (goal.at.After-index-at c).After-keeps, c.index.ensures.number, c.self.invariant.each)) c.index-at.ensures c.self.invariant.within
+    ∙ step_is (goal.at.After-index-at c).After-keeps
 
 pub position_after-requires-clause-step : goal.position_after-requires-clause-step
-position_after-requires-clause-step c =
-    ap (λ (n : ℕ). is_some (slice_get (steps_by c.self.inside.plan c.args.caller) n))
-    (sym (counter_of c.self.inside.plan c.self.inside.positions.items c.args.caller c.index.result.now (omega arith) c.index.ensures))
-    ∙ ap (λ (w : Callers). is_some (step_next w.plan w.counters c.args.caller)) c.self.view_is ∙ c.requires
+position_after-requires-clause-step c = kept (goal.at.position_after-requires-clause-step c).After-index-at
+
+within : (c : After-index_mut) → c.index-2.result < length c.self.inside.positions.items
+within c = omega (arith, caller (goal.at.After-index_mut c).After-keeps, c.index-2.ensures.number, c.self.invariant.each)
+
+counts : (c : After-index_mut) → counters_at c.self.inside.plan 0 (set c.self.inside.positions.items c.index-2.result c.position_after.result)
+    ≡ counted (counters_at c.self.inside.plan 0 c.self.inside.positions.items) c.args.cpu
+counts c =
+    ap (λ (k : ℕ). counters_at c.self.inside.plan 0 (set c.self.inside.positions.items k c.position_after.result)) (c.index-2.ensures.number ∙ sym c.index.ensures.number)
+    ∙ counters_with c.self.inside.plan c.self.inside.positions.items c.index.result c.index-at.result.now c.position_after.result
+    (omega (arith, within c, c.index.ensures.number, c.index-2.ensures.number)) c.index-at.ensures
+    (subst (λ (k : ℕ). counter_at c.self.inside.plan k c.position_after.result ≡ counter_at c.self.inside.plan k c.index-at.result.now + 1)
+    (sym c.index.ensures.number) c.position_after.ensures.counter)
+    ∙ ap (counted (counters_at c.self.inside.plan 0 c.self.inside.positions.items)) c.index.ensures.number
 
 pub invariant_of-self : goal.invariant_of-self
-invariant_of-self c = record {
-  each = length-set c.self.inside.positions.items c.args.caller c.position_after.result ∙ c.self.invariant.each;
-  within = positions_with c.self.inside.plan c.self.inside.positions.items c.args.caller c.position_after.result c.position_after.ensures.position c.self.invariant.within;
-}
+invariant_of-self c =
+    let noted : c.note_locks.new.holders ≡ holders_after c.args.cpu c.args.step.micro c.self.inside.holders.items
+    = c.note_locks.ensures ∙ ap (λ (hs : List (Option ℕ)). holders_after c.args.cpu c.args.step.micro hs) c.deref_mut.ensures.value in
+    let long : length c.note_locks.new.holders ≡ length c.self.inside.holders.items
+    = ap (λ (hs : List (Option ℕ)). length hs) noted ∙ length-holders_after c.args.cpu c.args.step.micro c.self.inside.holders.items in
+    record {
+      each = length-set c.self.inside.positions.items c.index-2.result c.position_after.result ∙ c.self.invariant.each;
+      within = positions_with c.self.inside.plan c.self.inside.positions.items c.index-2.result c.position_after.result (within (goal.at.invariant_of-self c).After-index_mut)
+          (subst (λ (k : ℕ). IsPosition c.self.inside.plan k c.position_after.result) (sym c.index-2.ensures.number) c.position_after.ensures.position) c.self.invariant.within;
+      locks = same_holders c.self.inside.plan _ _ _ _ (counts (goal.at.invariant_of-self c).After-index_mut)
+          (written_back c.self.inside.holders.len c.note_locks.new.holders c.self.inside.holders.items (omega (arith, c.deref_mut.ensures.len, long)) ∙ noted)
+          (holders_next c.self.inside.plan (counters_at c.self.inside.plan 0 c.self.inside.positions.items) c.self.inside.holders.items c.args.cpu c.args.step c.self.invariant.locks
+          (omega (arith, caller (goal.at.invariant_of-self c).After-keeps, length-counters_at c.self.inside.plan 0 c.self.inside.positions.items, c.self.invariant.each))
+          (step_is (goal.at.invariant_of-self c).After-keeps) (sound (goal.at.invariant_of-self c).After-keeps)
+          (ap (λ (w : Callers). refused w.plan w.counters c.args.step.micro) c.self.view_is ∙ c.requires.free));
+    }
 
 pub returns-clause-counters : goal.returns-clause-counters
-returns-clause-counters c =
-    counters_with c.self.inside.plan c.self.inside.positions.items c.args.caller c.index.result.now c.position_after.result (omega arith) c.index.ensures c.position_after.ensures.counter
-    ∙ ap (λ (w : Callers). counted w.counters c.args.caller) c.self.view_is
+returns-clause-counters c = counts (goal.at.returns-clause-counters c).After-index_mut ∙ ap (λ (w : Callers). counted w.counters c.args.cpu) c.self.view_is

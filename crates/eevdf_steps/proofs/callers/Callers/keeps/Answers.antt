@@ -1,6 +1,5 @@
 use Rattle.std.proofs.Common.{length, ap, ◌∙◌, sym}
-use Rattle.eevdf_steps.specs.Callers.{Callers}
-use Rattle.eevdf_steps.specs.Plan.{callers}
+use Rattle.eevdf_steps.specs.{Callers.Callers, Plan.callers}
 use Rattle.eevdf_steps.proofs.CounterLists.{length-counters_at}
 use Rattle.eevdf_steps.proofs.callers.Callers.keeps.Goals as goal
 

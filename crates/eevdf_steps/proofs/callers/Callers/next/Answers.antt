@@ -1,30 +1,23 @@
-use Rattle.std.proofs.Common.{◌≡◌, ℕ, ap, subst, true, ◌∙◌, sym, arith}
-use Rattle.std.specs.Prelude.{slice_get, IfSome}
-use Rattle.eevdf_steps.specs.Callers.{Callers}
-use Rattle.eevdf_steps.specs.Counters.{step_next}
-use Rattle.eevdf_steps.specs.MicroSteps.{steps_by}
-use Rattle.eevdf_steps.specs.Positions.{counters_at}
-use Rattle.eevdf_steps.specs.SoundSteps.{is_sound_step}
-use Rattle.eevdf_steps.proofs.SoundSteps.{some_step_sound}
-use Rattle.eevdf_steps.proofs.CounterLists.{counter_of, position_of}
+use Rattle.std.proofs.Common.{◌≡◌, ◌<◌, ap, subst, true, ◌∙◌, sym, arith}
+use Rattle.std.specs.Prelude.{IfSome}
+use Rattle.eevdf_steps.specs.{Callers.Callers, Counters.step_next, Plan.callers, Positions.counters_at, SoundSteps.is_sound_step}
+use Rattle.eevdf_steps.proofs.{CounterLists.step_kept, SoundSteps.some_step_sound}
 use Rattle.eevdf_steps.proofs.callers.Callers.next.Goals as goal
-use Rattle.eevdf_steps.proofs.callers.Callers.next.Goals.{After-step_at}
+use Rattle.eevdf_steps.proofs.callers.Callers.next.Goals.{After-index-2}
 
-pub step_at-requires-clause-position : goal.step_at-requires-clause-position
-step_at-requires-clause-position c =
-    position_of c.self.inside.plan c.self.inside.positions.items c.args.caller c.index.result.now (omega arith) c.index.ensures c.self.invariant.within
+is_caller : (c : After-index-2) → c.args.cpu < callers c.self.inside.plan
+is_caller c = subst (λ (w : Callers). c.args.cpu < callers w.plan) (sym c.self.view_is) c.requires
 
-is_step : (c : After-step_at) → c.step_at.result ≡ step_next c.self.inside.plan (counters_at c.self.inside.plan 0 c.self.inside.positions.items) c.args.caller
+is_step : (c : After-index-2) → c.index-2.result.now.next ≡ step_next c.self.inside.plan (counters_at c.self.inside.plan 0 c.self.inside.positions.items) c.args.cpu
 is_step c =
-    c.step_at.ensures
-    ∙ ap (λ (n : ℕ). slice_get (steps_by c.self.inside.plan c.args.caller) n)
-    (sym (counter_of c.self.inside.plan c.self.inside.positions.items c.args.caller c.index.result.now (omega arith) c.index.ensures))
+    step_kept c.self.inside.plan c.self.inside.positions.items c.index.result c.args.cpu c.index-2.result.now c.index.ensures.number
+    (omega (arith, is_caller c, c.index.ensures.number, c.self.invariant.each)) c.index-2.ensures c.self.invariant.within
 
 pub returns-clause-step : goal.returns-clause-step
-returns-clause-step c = is_step c ∙ ap (λ (w : Callers). step_next w.plan w.counters c.args.caller) c.self.view_is
+returns-clause-step c = is_step (goal.at.returns-clause-step c).After-index-2 ∙ ap (λ (w : Callers). step_next w.plan w.counters c.args.cpu) c.self.view_is
 
 pub returns-clause-sound : goal.returns-clause-sound
 returns-clause-sound c =
-    subst (λ (w : Callers). IfSome c.step_at.result (λ s. is_sound_step w.plan s ≡ true)) c.self.view_is
-    (some_step_sound c.self.inside.plan (counters_at c.self.inside.plan 0 c.self.inside.positions.items) c.args.caller c.step_at.result c.keeps.ensures
-    (omega (arith, c.self.invariant.each)) (is_step c))
+    subst (λ (w : Callers). IfSome c.index-2.result.now.next (λ s. is_sound_step w.plan s ≡ true)) c.self.view_is
+    (some_step_sound c.self.inside.plan (counters_at c.self.inside.plan 0 c.self.inside.positions.items) c.args.cpu c.index-2.result.now.next c.keeps.ensures
+    (is_caller (goal.at.returns-clause-sound c).After-index-2) (is_step (goal.at.returns-clause-sound c).After-index-2))

@@ -1,17 +1,15 @@
 use Rattle.std.proofs.Common.{◌≡◌, ℕ, List, length, replicate, ap, subst, ◌∙◌, sym, arith}
 use Rattle.eevdf_queue.specs.State.{View}
-use Rattle.eevdf_ops.specs.Machine.{Machine}
-use Rattle.eevdf_ops.specs.Outcome.{machine_of}
-use Rattle.eevdf_ops.specs.Places.{IsPlaced}
+use Rattle.eevdf_ops.specs.{Machine.Machine, Outcome.machine_of, Places.IsPlaced}
 use Rattle.eevdf_ops.proofs.Machines.{length-machine_of}
 use Rattle.std.specs.Prelude.{None}
-use Rattle.eevdf_steps.specs.Openings.{AreEmpty, most_lines}
-use Rattle.eevdf_steps.specs.Plan.{Plan, callers, plan_of}
+use Rattle.eevdf_steps.specs.{Openings.AreEmpty, Openings.most_lines, Plan.Plan, Plan.callers, Plan.plan_of}
+use Rattle.eevdf_steps.specs.{Journals.Journal, Recorded.done_at_start, Recorded.recorded, Work.Work}
 use Rattle.eevdf_steps.proofs.Beginning.{Opened, playing_open, player_open}
 use Rattle.eevdf_steps.proofs.step_player.Player.open.Goals as goal
-use Rattle.eevdf_steps.proofs.step_player.Player.open.Goals.{In_ok-done}
+use Rattle.eevdf_steps.proofs.step_player.Player.open.Goals.{In_ok-journal}
 
-opened : (c : In_ok-done) → Opened c.args.setup.now c.in_ok-callers.callers c.in_ok-posts.posts c.in_ok-found.found.items c.in_ok-done.done
+opened : (c : In_ok-journal) → Opened c.args.setup.now c.in_ok-callers.callers c.in_ok-posts.posts c.in_ok-found.found.items (recorded c.in_ok-work.work c.in_ok-journal.journal)
     (machine_of c.into_queues.result.items) c.into_queues.result.len c.lines.result
 opened c =
     let long : length c.into_queues.result.items ≡ length c.in_ok-solo.solo.queues = ap (λ (qs : List View). length qs) c.into_queues.ensures in
@@ -28,15 +26,16 @@ opened c =
       placed = subst (λ (m : Machine). IsPlaced (plan_of c.args.setup.now).homes m) (sym (ap machine_of c.into_queues.ensures))
           (subst (λ (hs : List ℕ). IsPlaced hs (machine_of c.in_ok-solo.solo.queues)) c.in_ok-solo.ensures.homes c.every_task_in_one_place.ensures);
       lines = c.lines.ensures ∙ ap most_lines c.plan-plan.ensures;
-      is_done = c.in_ok-done.ensures;
+      is_done = ap (λ (w : Work). recorded w c.in_ok-journal.journal) c.in_ok-work.ensures
+          ∙ ap (λ (j : Journal). recorded (done_at_start (machine_of c.into_queues.result.items) c.into_queues.result.len c.lines.result).work j) c.in_ok-journal.ensures;
     }
 
 pub invariant_of-result : goal.invariant_of-result
 invariant_of-result c =
-    playing_open c.args.setup.now c.in_ok-callers.callers c.in_ok-posts.posts c.in_ok-found.found.items c.in_ok-done.done
-    (machine_of c.into_queues.result.items) c.into_queues.result.len c.lines.result (opened (goal.at.invariant_of-result c).In_ok-done)
+    playing_open c.args.setup.now c.in_ok-callers.callers c.in_ok-posts.posts c.in_ok-found.found.items (recorded c.in_ok-work.work c.in_ok-journal.journal)
+    (machine_of c.into_queues.result.items) c.into_queues.result.len c.lines.result (opened (goal.at.invariant_of-result c).In_ok-journal)
 
 pub returns : goal.returns
 returns c =
-    player_open c.args.setup.now c.in_ok-callers.callers c.in_ok-posts.posts c.in_ok-found.found.items c.in_ok-done.done
+    player_open c.args.setup.now c.in_ok-callers.callers c.in_ok-posts.posts c.in_ok-found.found.items (recorded c.in_ok-work.work c.in_ok-journal.journal)
     (machine_of c.into_queues.result.items) c.into_queues.result.len c.lines.result (opened c)

@@ -1,7 +1,6 @@
 use Rattle.std.proofs.Common.{ℕ, ap, ◌∙◌}
 use Rattle.std.specs.Prelude.{Option, is_none}
-use Rattle.eevdf_steps.specs.Counters.{unfinished}
-use Rattle.eevdf_steps.specs.Players.{Player}
+use Rattle.eevdf_steps.specs.{Counters.unfinished, Players.Player}
 use Rattle.eevdf_steps.proofs.Ready.{none_ready}
 use Rattle.eevdf_steps.proofs.step_player.Player.ready.Goals as goal
 

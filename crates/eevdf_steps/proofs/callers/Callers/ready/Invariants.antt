@@ -1,7 +1,6 @@
 use Rattle.std.proofs.Common.{◌≡◌, ◌-◌}
-use Rattle.eevdf_steps.specs.Plan.{callers}
-use Rattle.eevdf_steps.specs.Counters.{may_step, least, ready}
-use Rattle.eevdf_steps.proofs.locked_callers.LockedCallers.ready.Given as goal
+use Rattle.eevdf_steps.specs.{Plan.callers, Counters.may_step, Counters.least, Counters.ready}
+use Rattle.eevdf_steps.proofs.callers.Callers.ready.Given as goal
 
 abbrev pub invariant-loop-caller : goal.invariant-loop-caller
 invariant-loop-caller l =

@@ -1,7 +1,6 @@
 use Rattle.std.proofs.Common.{◌≡◌, ◌-◌}
-use Rattle.eevdf_steps.specs.Plan.{callers}
-use Rattle.eevdf_steps.specs.Counters.{is_under_way, least, unfinished}
-use Rattle.eevdf_steps.proofs.locked_callers.LockedCallers.unfinished.Given as goal
+use Rattle.eevdf_steps.specs.{Plan.callers, Counters.is_under_way, Counters.least, Counters.unfinished}
+use Rattle.eevdf_steps.proofs.callers.Callers.unfinished.Given as goal
 
 abbrev pub invariant-loop-caller : goal.invariant-loop-caller
 invariant-loop-caller l =
