@@ -1,21 +1,15 @@
 -- Printed deeds are read back, and nothing else is read as them.
 use Rattle.std.proofs.Common.{◌≡◌, ◌↔◌, ℕ, codes, ◌<◌, true, ltb, List, [], ◌∷◌, ◌++◌, Some, option_map, option_and_then, refl, ap, sym, subst, append_assoc, ◌∙◌, arith}
-use Rattle.std.specs.Prelude.{ℤ}
-use Rattle.std.specs.Fmt.{decimal}
+use Rattle.std.specs.{Prelude.ℤ, Fmt.decimal, List.join_with_byte}
 use Rattle.std.proofs.lemmas.Bool.{and_parts}
 use Rattle.std.proofs.lemmas.Option.{same_Some, none-some, option_and_then_some}
-use Rattle.std.specs.List.{join_with_byte}
 use Rattle.eevdf_weight.specs.Limits.{is_nice_level, is_tick}
 use Rattle.eevdf_queue.specs.Numbers.{checked_number}
-use Rattle.eevdf_ops.specs.Numbers.{cpu_limit}
-use Rattle.eevdf_ops.specs.declared.deeds.Op.{Op}
+use Rattle.eevdf_ops.specs.{Numbers.cpu_limit, declared.deeds.Op.Op, declared.deeds.Deed.Deed, Programs.deed_of}
 use Rattle.eevdf_ops.specs.declared.deeds.Op.TheVariants as op
-use Rattle.eevdf_ops.specs.declared.deeds.Deed.{Deed}
 use Rattle.eevdf_ops.specs.declared.deeds.Deed.TheVariants.{Tick, Pick, Yield, Sleep, Wake, Pull, Renice}
-use Rattle.eevdf_workload.specs.declared.workload_version.Version.{Version}
+use Rattle.eevdf_workload.specs.{declared.workload_version.Version.Version, Versions.cpu_within, Versions.limits_of}
 use Rattle.eevdf_report.specs.TextDeed.{cpu_of, deed_text}
-use Rattle.eevdf_workload.specs.Versions.{cpu_within, limits_of}
-use Rattle.eevdf_ops.specs.Programs.{deed_of}
 use Rattle.eevdf_workload.specs.Words.{words, operation_of, sender_of, wake_of, task_in, cpu_in, deed_on, deed_in}
 use Rattle.eevdf_bench.specs.WordsPrinted.{knows_act, knows_deed, knows_operation, most_cpus, numbered_deed_text, operation_text}
 use Rattle.eevdf_bench.proofs.ReadingPrinted.{number-decimal, words-decimal, words-after_decimal, joined_words}

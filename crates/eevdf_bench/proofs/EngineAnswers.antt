@@ -1,25 +1,18 @@
 -- From the meaning of a workload to what the engine answers.
 use Rattle.std.proofs.Common.{◌≡◌, ◌⊎◌, ℕ, Bool, ◌+◌, true, false, ◌&&◌, List, [], ◌∷◌, take, refl, sym, ap, subst, ◌∙◌, inl, inr}
 use Rattle.std.specs.Prelude.{Option, Some, None, IfSome, IfErr, IfOk, Result, Ok, Err, OnOk, OnErr, Vec, if◌then◌else◌}
-use Rattle.std.specs.declared.alloc.Global.{Global}
-use Rattle.std.specs.List.{list_all}
-use Rattle.std.specs.Io.KnownBytes.{Appends}
-use Rattle.eevdf_ops.specs.Setup.{Setup, allows}
-use Rattle.eevdf_ops.specs.declared.deeds.Deed.{Deed}
-use Rattle.eevdf_workload.specs.declared.load_fault.LoadFault.{LoadFault}
+use Rattle.std.specs.{declared.alloc.Global.Global, List.list_all, Io.KnownBytes.Appends}
+use Rattle.eevdf_ops.specs.{Setup.Setup, Setup.allows, declared.deeds.Deed.Deed}
+use Rattle.eevdf_workload.specs.{declared.load_fault.LoadFault.LoadFault, MeaningSteps.Reads}
 use Rattle.eevdf_workload.specs.declared.load_fault.LoadFault.TheVariants as fault
 use Rattle.eevdf_workload.specs.declared.load_fault.Key.TheVariants as key
-use Rattle.eevdf_fleet.specs.declared.run_fault.RunFault.{RunFault}
-use Rattle.eevdf_fleet.specs.declared.run_fault.RunFault.TheVariants.{Start}
-use Rattle.eevdf_bench.specs.declared.bench_fault.BenchFault.{BenchFault}
+use Rattle.eevdf_fleet.specs.{declared.run_fault.RunFault.RunFault, declared.run_fault.RunFault.TheVariants.Start}
+use Rattle.eevdf_bench.specs.{declared.bench_fault.BenchFault.BenchFault, declared.command_words.Command.Command}
+use Rattle.eevdf_bench.specs.{declared.command_words.Kind.TheVariants.Run, Streams.HasBegun}
 use Rattle.eevdf_bench.specs.declared.bench_fault.BenchFault.TheVariants as bench
 use Rattle.eevdf_workload.specs.Meaning.{Workload, meaning, allowed, allowed_from}
-use Rattle.eevdf_workload.specs.MeaningSteps.{Reads}
 use Rattle.eevdf_steps.specs.declared.play_fault.PlayFault.{PlayFault}
-use Rattle.eevdf_bench.specs.declared.command_words.Command.{Command}
-use Rattle.eevdf_bench.specs.declared.command_words.Kind.TheVariants.{Run}
 use Rattle.eevdf_bench.specs.Runs.{Answer, Answers, Begins, IsAnswer, IsAnswerOf, IsAnswerTo, IsInside, Makes, Refuses, Writes}
-use Rattle.eevdf_bench.specs.Streams.{HasBegun}
 use Rattle.eevdf_bench.specs.Reports.{IsReport, IsReportOf, WritesReport}
 use Rattle.eevdf_workload.proofs.InputLimit.{meaning_cut}
 

@@ -1,16 +1,11 @@
 -- What an outcome leaves is the list of the lists of all pairs.
 use Rattle.std.proofs.Common.{◌≡◌, ℕ, zero, suc, ◌+◌, ◌*◌, ◌/◌, ◌%◌, ◌<◌, List, [], length, get_or, map, sym, ap, subst, ◌∙◌, arith}
 use Rattle.std.specs.List.{range_with_len}
-use Rattle.std.proofs.Math.Nat.{div-lt_iff_lt-mul, mod-lt}
-use Rattle.std.proofs.lemmas.Nat.{div-add-mod'}
-use Rattle.std.proofs.lemmas.List.{get_or_default, same_lists}
-use Rattle.std.proofs.lemmas.List.FromFn.{get_or-map-range_with_len, length-map-range_with_len}
+use Rattle.std.proofs.{Math.Nat.div-lt_iff_lt-mul, Math.Nat.mod-lt, lemmas.Nat.div-add-mod', lemmas.List.get_or_default}
+use Rattle.std.proofs.{lemmas.List.same_lists, lemmas.List.FromFn.get_or-map-range_with_len}
+use Rattle.std.proofs.lemmas.List.FromFn.{length-map-range_with_len}
 use Rattle.eevdf_ops.specs.Outcome.{Outcome}
-use Rattle.eevdf_steps.specs.Plan.{callers}
-use Rattle.eevdf_steps.specs.Requests.{left}
-use Rattle.eevdf_steps.specs.LeftLists.{left_lists}
-use Rattle.eevdf_steps.specs.Players.{Player}
-use Rattle.eevdf_steps.specs.Plays.{IsOutcome}
+use Rattle.eevdf_steps.specs.{Plan.callers, Requests.left, LeftLists.left_lists, Players.Player, Plays.IsOutcome}
 
 some_number : (n k : ℕ) → k < n * n → zero < n
 some_number zero k h = omega arith

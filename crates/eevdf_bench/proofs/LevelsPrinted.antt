@@ -1,19 +1,13 @@
 -- Printed nice levels are read back, and nothing else is read as them.
 use Rattle.std.proofs.Common.{◌≡◌, ℕ, zero, suc, ◌<◌, ◌^◌, true, false, eqb, List, [], ◌∷◌, length, Option, Some, None, option_map, option_and_then, refl, ap, ◌∙◌, inl, inr, arith}
 use Rattle.std.specs.Prelude.{ℤ, pos, negsuc}
-use Rattle.std.specs.Char.{is_ascii_digit}
-use Rattle.std.specs.Fmt.{decimal, signed_decimal}
-use Rattle.std.specs.List.{list_all}
-use Rattle.std.proofs.lemmas.Bool.{and_parts, cases_Bool}
-use Rattle.std.proofs.lemmas.Bool.Decides.{nat_tests}
-use Rattle.std.proofs.lemmas.Fmt.{decimal_nonempty, digits_decimal}
-use Rattle.std.proofs.lemmas.Int.{ints}
-use Rattle.std.proofs.lemmas.Option.{none-some, cond_some}
+use Rattle.std.specs.{Char.is_ascii_digit, Fmt.decimal, Fmt.signed_decimal, List.list_all}
+use Rattle.std.proofs.{lemmas.Bool.and_parts, lemmas.Bool.cases_Bool, lemmas.Bool.Decides.nat_tests, lemmas.Fmt.decimal_nonempty}
+use Rattle.std.proofs.{lemmas.Fmt.digits_decimal, lemmas.Int.ints, lemmas.Option.none-some, lemmas.Option.cond_some}
 use Rattle.eevdf_weight.specs.Limits.{checked_level, is_nice_level}
 use Rattle.eevdf_workload.specs.Words.{words, number, below_zero, signed_number, level_in}
-use Rattle.eevdf_workload.proofs.ReadingWords.{digits}
+use Rattle.eevdf_workload.proofs.{ReadingWords.digits, ReadingLevels.is_sign}
 use Rattle.eevdf_bench.proofs.ReadingPrinted.{number-decimal, decimal-number, words-decimal}
-use Rattle.eevdf_workload.proofs.ReadingLevels.{is_sign}
 
 few_above : (n : ℕ) → is_nice_level (pos n) ≡ true → n < 2 ^ 64
 few_above n h = grind (arith, ints, nat_tests)

@@ -1,21 +1,14 @@
 -- Printed operations are read back, and nothing else is read as them.
 use Rattle.std.proofs.Common.{◌≡◌, ◌↔◌, ℕ, codes, ◌<◌, ◌^◌, true, ltb, List, [], ◌∷◌, ◌++◌, append_assoc, Option, Some, None, option_map, option_and_then, if◌then◌else◌, refl, ap, sym, subst, ◌∙◌, inl, inr, arith}
-use Rattle.std.specs.Prelude.{ℤ}
-use Rattle.std.specs.Fmt.{decimal, signed_decimal}
-use Rattle.std.proofs.lemmas.Bool.{cases_Bool}
-use Rattle.std.proofs.lemmas.Bool.Decides.{nat_tests}
+use Rattle.std.specs.{Prelude.ℤ, Fmt.decimal, Fmt.signed_decimal, List.join_with_byte, Str.bytes_eq}
+use Rattle.std.proofs.{lemmas.Bool.cases_Bool, lemmas.Bool.Decides.nat_tests, lemmas.Slice.Eq.bytes_eq-Decides}
 use Rattle.std.proofs.lemmas.Option.{same_Some, none-some, cond_some, option_and_then_some}
-use Rattle.std.specs.List.{join_with_byte}
-use Rattle.std.specs.Str.{bytes_eq}
-use Rattle.std.proofs.lemmas.Slice.Eq.{bytes_eq-Decides}
 use Rattle.eevdf_weight.specs.Limits.{checked_tick, is_nice_level, is_tick}
 use Rattle.eevdf_queue.specs.Numbers.{checked_number}
-use Rattle.eevdf_ops.specs.Numbers.{cpu_limit}
-use Rattle.eevdf_ops.specs.declared.deeds.Op.{Op}
+use Rattle.eevdf_ops.specs.{Numbers.cpu_limit, declared.deeds.Op.Op}
 use Rattle.eevdf_ops.specs.declared.deeds.Op.TheVariants.{Tick, Pick, Yield, Sleep, Post, Drain, Pull, Renice}
-use Rattle.eevdf_workload.specs.declared.workload_version.Version.{Version}
-use Rattle.eevdf_workload.specs.declared.workload_version.Version.TheVariants.{One, Two}
-use Rattle.eevdf_workload.specs.Versions.{cpu_within, limits_of}
+use Rattle.eevdf_workload.specs.{declared.workload_version.Version.Version, declared.workload_version.Version.TheVariants.One}
+use Rattle.eevdf_workload.specs.{declared.workload_version.Version.TheVariants.Two, Versions.cpu_within, Versions.limits_of}
 use Rattle.eevdf_workload.specs.Words.{words, number, only_number, only_level, task_in, alone, renice_of, operation, operation_of}
 use Rattle.eevdf_bench.specs.WordsPrinted.{knows_operation, knows_renice, most_cpus, operation_text}
 use Rattle.eevdf_bench.proofs.ReadingPrinted.{number-decimal, decimal-number, words-decimal, words-after_decimal, joined_words}

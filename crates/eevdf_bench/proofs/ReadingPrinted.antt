@@ -1,14 +1,10 @@
 -- Printed numbers are read back, and nothing else is read as them.
 use Rattle.std.proofs.Common.{◌≡◌, ℕ, zero, suc, ◌<◌, ◌^◌, true, false, eqb, List, [], ◌∷◌, ◌++◌, length, get_or, Some, refl, ap, sym, ◌∙◌, inl, inr, arith}
-use Rattle.std.specs.Fmt.{decimal}
+use Rattle.std.specs.{Fmt.decimal, Char.is_ascii_digit, List.list_all, List.join_with_byte, Str.Parse.digits_value}
 use Rattle.std.proofs.lemmas.Bool.{and_parts, cases_Bool, false≢true}
-use Rattle.std.proofs.lemmas.Bool.Decides.{nat_tests}
-use Rattle.std.proofs.lemmas.Fmt.{decimal_digit, decimal_nonempty, first_decimal, digits_decimal, digits_value-decimal, decimal-digits_value}
-use Rattle.std.proofs.lemmas.Option.{same_Some, none-some}
-use Rattle.std.specs.Char.{is_ascii_digit}
-use Rattle.std.specs.List.{list_all, join_with_byte}
-use Rattle.std.specs.Str.Parse.{digits_value}
+use Rattle.std.proofs.{lemmas.Bool.Decides.nat_tests, lemmas.Option.same_Some, lemmas.Option.none-some}
 use Rattle.std.proofs.lemmas.List.Splits.{join_with_byte-slice_split}
+use Rattle.std.proofs.lemmas.Fmt.{decimal_digit, decimal_nonempty, first_decimal, digits_decimal, digits_value-decimal, decimal-digits_value}
 use Rattle.eevdf_workload.specs.Words.{words, is_number, number}
 use Rattle.eevdf_workload.proofs.ReadingWords.{digits, has_digits, is_number-no_zero}
 

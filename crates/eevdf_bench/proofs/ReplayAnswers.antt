@@ -1,35 +1,24 @@
 -- From what an order comes to, to what is answered.
 use Rattle.std.proofs.Common.{◌≡◌, ◌≢◌, ◌⊎◌, ℕ, ◌+◌, Bool, true, false, List, [], ◌∷◌, length, refl, sym, ap, subst, ◌∙◌, inl, inr}
 use Rattle.std.specs.Prelude.{nat_lt, if◌then◌else◌, Option, Some, None, Ok, Err}
-use Rattle.std.specs.Option.{option_map}
+use Rattle.std.specs.{Option.option_map, List.list_all}
 use Rattle.eevdf_ops.specs.Setup.{Setup, allows, homes_of}
-use Rattle.std.specs.List.{list_all}
-use Rattle.eevdf_ops.specs.Programs.{deeds_of}
-use Rattle.eevdf_ops.specs.Followed.{FollowsPrograms}
-use Rattle.eevdf_ops.specs.Histories.{IsOneThread}
-use Rattle.eevdf_ops.specs.declared.deeds.Line.{Line}
-use Rattle.eevdf_ops.specs.Machine.{Machine, start}
-use Rattle.eevdf_steps.specs.Commits.{deeds_committed}
-use Rattle.eevdf_ops.specs.Places.{IsPlaced}
-use Rattle.eevdf_bench.specs.declared.command_words.Kind.TheVariants.{Replay}
-use Rattle.eevdf_bench.specs.Reports.{IsReport}
-use Rattle.eevdf_bench.proofs.OwnDeeds.{own_deeds}
-use Rattle.eevdf_ops.specs.Outcome.{Outcome, machine_of}
-use Rattle.eevdf_steps.specs.declared.step_fault.StepFault.{StepFault}
+use Rattle.eevdf_ops.specs.{Programs.deeds_of, Followed.FollowsPrograms, Histories.IsOneThread, declared.deeds.Line.Line}
+use Rattle.eevdf_ops.specs.{Machine.Machine, Machine.start, Places.IsPlaced, Outcome.Outcome, Outcome.machine_of}
+use Rattle.eevdf_steps.specs.{Commits.deeds_committed, declared.step_fault.StepFault.StepFault}
+use Rattle.eevdf_steps.specs.{declared.play_fault.PlayFault.PlayFault, Plan.Plan, Plan.plan_of, MicroState.micro, Plays.IsOutcome}
+use Rattle.eevdf_steps.specs.Plays.{IsPlay}
+use Rattle.eevdf_bench.specs.{declared.command_words.Kind.TheVariants.Replay, Reports.IsReport}
+use Rattle.eevdf_bench.specs.declared.bench_fault.BenchFault.{BenchFault}
+use Rattle.eevdf_bench.proofs.{OwnDeeds.own_deeds, LeftLists.all_left}
 use Rattle.eevdf_steps.specs.declared.step_fault.StepFault.TheVariants as step
-use Rattle.eevdf_steps.specs.declared.play_fault.PlayFault.{PlayFault}
 use Rattle.eevdf_steps.specs.declared.play_fault.PlayFault.TheVariants.{TooLong, Memory, NoCaller, Done, Blocked, Short}
-use Rattle.eevdf_steps.specs.Plan.{Plan, plan_of}
 use Rattle.eevdf_steps.specs.Counters.{Counters, counted, refusal, unfinished}
 use Rattle.eevdf_steps.specs.Orders.{IsWhole, counters_at_start, fault_or, most_places, order_fault, play_fault}
-use Rattle.eevdf_steps.specs.MicroState.{micro}
-use Rattle.eevdf_steps.specs.Plays.{IsOutcome, IsPlay}
-use Rattle.eevdf_bench.specs.declared.bench_fault.BenchFault.{BenchFault}
 use Rattle.eevdf_bench.specs.declared.bench_fault.BenchFault.TheVariants as bench
 use Rattle.eevdf_workload.specs.Meaning.{Workload}
 use Rattle.eevdf_bench.specs.Runs.{IsFault, Makes, order_report, play_refusal, replay_report, state_report, unless}
 use Rattle.eevdf_report.specs.TextReport.{report_text}
-use Rattle.eevdf_bench.proofs.LeftLists.{all_left}
 
 -- no place of an order, nor its end, is too long
 end_in_time : (u : Option ℕ) → option_map (λ (p : ℕ). Short p) u ≢ Some TooLong

@@ -1,18 +1,12 @@
 -- From what a script comes to, to what is answered.
 use Rattle.std.proofs.Common.{◌≡◌, ℕ, Bool, true, List, [], ◌∷◌, refl, sym, ap, subst, ◌∙◌}
-use Rattle.std.specs.Prelude.{Some}
-use Rattle.std.specs.List.{list_all}
-use Rattle.eevdf_ops.specs.declared.deeds.Deed.{Deed}
-use Rattle.eevdf_ops.specs.Histories.{IsOneThread}
-use Rattle.eevdf_ops.specs.Machine.{Machine, start}
-use Rattle.eevdf_ops.specs.Outcome.{Outcome, machine_of}
-use Rattle.eevdf_ops.specs.Places.{IsPlaced}
-use Rattle.eevdf_ops.specs.Programs.{deeds_of}
+use Rattle.std.specs.{Prelude.Some, List.list_all}
+use Rattle.eevdf_ops.specs.{declared.deeds.Deed.Deed, Histories.IsOneThread, Machine.Machine, Machine.start, Outcome.Outcome}
+use Rattle.eevdf_ops.specs.{Outcome.machine_of, Places.IsPlaced, Programs.deeds_of}
 use Rattle.eevdf_ops.specs.Setup.{Setup, allows, homes_of}
 use Rattle.eevdf_ops.specs.Whole.{lines_of, machine_after, whole}
-use Rattle.eevdf_bench.specs.declared.command_words.Kind.TheVariants.{Solo}
+use Rattle.eevdf_bench.specs.{declared.command_words.Kind.TheVariants.Solo, Reports.IsReport}
 use Rattle.eevdf_workload.specs.Meaning.{Workload}
-use Rattle.eevdf_bench.specs.Reports.{IsReport}
 use Rattle.eevdf_report.specs.TextReport.{report_text}
 use Rattle.eevdf_bench.proofs.OwnDeeds.{own_deeds}
 

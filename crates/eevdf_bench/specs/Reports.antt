@@ -1,20 +1,10 @@
 -- What the text of a command says: a history of one thread that does what the workload asks for.
-use Rattle.std.specs.List.{list_all}
+use Rattle.std.specs.{List.list_all, Io.KnownBytes.Appends}
 use Rattle.std.specs.Prelude.{◌≡◌, ℕ, Bool, true, List, Option, Some, Ok}
-use Rattle.std.specs.Io.KnownBytes.{Appends}
-use Rattle.eevdf_ops.specs.Followed.{FollowsPrograms}
-use Rattle.eevdf_ops.specs.Histories.{IsOneThread}
-use Rattle.eevdf_ops.specs.Machine.{start}
-use Rattle.eevdf_ops.specs.Outcome.{Outcome, machine_of}
-use Rattle.eevdf_ops.specs.OwnRequests.{TakesOwnRequests}
-use Rattle.eevdf_ops.specs.Places.{IsPlaced}
-use Rattle.eevdf_ops.specs.Programs.{deeds_of}
-use Rattle.eevdf_ops.specs.Setup.{allows, homes_of}
-use Rattle.eevdf_steps.specs.Plan.{plan_of}
-use Rattle.eevdf_steps.specs.Orders.{IsWhole, counters_at_start}
-use Rattle.eevdf_steps.specs.Commits.{deeds_committed}
-use Rattle.eevdf_bench.specs.declared.command_words.Command.{Command}
-use Rattle.eevdf_bench.specs.declared.command_words.Kind.{Kind}
+use Rattle.eevdf_ops.specs.{Followed.FollowsPrograms, Histories.IsOneThread, Machine.start, Outcome.Outcome, Outcome.machine_of}
+use Rattle.eevdf_ops.specs.{OwnRequests.TakesOwnRequests, Places.IsPlaced, Programs.deeds_of, Setup.allows, Setup.homes_of}
+use Rattle.eevdf_steps.specs.{Plan.plan_of, Orders.IsWhole, Orders.counters_at_start, Commits.deeds_committed}
+use Rattle.eevdf_bench.specs.{declared.command_words.Command.Command, declared.command_words.Kind.Kind}
 use Rattle.eevdf_bench.specs.declared.command_words.Kind.TheVariants.{Solo, Replay, Run}
 use Rattle.eevdf_workload.specs.Meaning.{Workload, meaning}
 use Rattle.eevdf_report.specs.TextReport.{report_text}

@@ -1,30 +1,20 @@
 -- What the workbench answers.
 use Rattle.std.specs.Prelude.{◌≡◌, ◌≢◌, ◌⊎◌, ◌*◌, ℕ, Bool, List, [], Option, Some, None, Result, Ok, Err, Vec, replicate}
-use Rattle.std.specs.declared.alloc.Global.{Global}
-use Rattle.std.specs.Io.KnownBytes.{Appends}
-use Rattle.eevdf_ops.specs.declared.deeds.Deed.{Deed}
+use Rattle.std.specs.{declared.alloc.Global.Global, Io.KnownBytes.Appends}
+use Rattle.eevdf_ops.specs.{declared.deeds.Deed.Deed, Machine.start, Whole.lines_of, Whole.machine_after}
 use Rattle.eevdf_ops.specs.Setup.{Setup, cpus_of, homes_of}
-use Rattle.eevdf_ops.specs.Machine.{start}
-use Rattle.eevdf_ops.specs.Whole.{lines_of, machine_after}
 use Rattle.eevdf_fleet.specs.declared.run_fault.RunFault.{RunFault}
 use Rattle.eevdf_fleet.specs.declared.run_fault.RunFault.TheVariants.{Start, Memory as NoSpace}
-use Rattle.eevdf_steps.specs.declared.play_fault.PlayFault.{PlayFault}
+use Rattle.eevdf_steps.specs.{declared.play_fault.PlayFault.PlayFault, Plan.plan_of, Orders.play_fault, LeftLists.left_lists}
+use Rattle.eevdf_steps.specs.{MicroState.MicroState, MicroState.micro}
 use Rattle.eevdf_steps.specs.declared.play_fault.PlayFault.TheVariants.{TooLong, Memory as NoRoom}
-use Rattle.eevdf_steps.specs.Plan.{plan_of}
-use Rattle.eevdf_steps.specs.Orders.{play_fault}
-use Rattle.eevdf_steps.specs.LeftLists.{left_lists}
-use Rattle.eevdf_steps.specs.MicroState.{MicroState, micro}
-use Rattle.eevdf_bench.specs.declared.command_words.Command.{Command}
-use Rattle.eevdf_bench.specs.declared.command_words.Kind.{Kind}
+use Rattle.eevdf_bench.specs.{declared.command_words.Command.Command, declared.command_words.Kind.Kind}
+use Rattle.eevdf_bench.specs.{declared.bench_fault.BenchFault.BenchFault, Reports.IsReport, Streams.HasBegun}
 use Rattle.eevdf_bench.specs.declared.command_words.Kind.TheVariants.{Solo, Replay, Run}
-use Rattle.eevdf_workload.specs.declared.load_fault.Key.TheVariants.{Orders, Scripts}
-use Rattle.eevdf_workload.specs.declared.load_fault.LoadFault.{LoadFault}
+use Rattle.eevdf_workload.specs.{declared.load_fault.Key.TheVariants.Orders, declared.load_fault.Key.TheVariants.Scripts}
+use Rattle.eevdf_workload.specs.{declared.load_fault.LoadFault.LoadFault, Meaning.Workload, Meaning.meaning}
 use Rattle.eevdf_workload.specs.declared.load_fault.LoadFault.TheVariants.{Missing, Memory as NoMemory}
-use Rattle.eevdf_bench.specs.declared.bench_fault.BenchFault.{BenchFault}
 use Rattle.eevdf_bench.specs.declared.bench_fault.BenchFault.TheVariants.{Load, Play, Run as NotRun, Read, Write, Memory}
-use Rattle.eevdf_workload.specs.Meaning.{Workload, meaning}
-use Rattle.eevdf_bench.specs.Reports.{IsReport}
-use Rattle.eevdf_bench.specs.Streams.{HasBegun}
 use Rattle.eevdf_report.specs.TextReport.{report_text}
 
 -- a text, or why there is none

@@ -1,9 +1,8 @@
 -- The texts that are read as operations and deeds, and which of them a version knows.
 use Rattle.std.specs.Prelude.{codes, ℕ, nat_lt, Bool, true, false, ◌&&◌, List, ◌++◌, decimal}
 use Rattle.std.specs.Fmt.{signed_decimal}
-use Rattle.eevdf_ops.specs.declared.deeds.Op.{Op}
+use Rattle.eevdf_ops.specs.{declared.deeds.Op.Op, declared.deeds.Deed.Deed}
 use Rattle.eevdf_ops.specs.declared.deeds.Op.TheVariants.{Tick, Pick, Yield, Sleep, Post, Drain, Pull, Renice}
-use Rattle.eevdf_ops.specs.declared.deeds.Deed.{Deed}
 use Rattle.eevdf_ops.specs.declared.deeds.Deed.TheVariants as deed
 use Rattle.eevdf_workload.specs.declared.workload_version.Version.{Version}
 use Rattle.eevdf_workload.specs.declared.workload_version.Version.TheVariants.{One, Two}

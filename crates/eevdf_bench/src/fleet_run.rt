@@ -1,8 +1,7 @@
 //! Running a workload's programs by threads.
 
 ghost use Rattle.std.specs.Prelude.{◌≡◌, ◌⊎◌, IfOk, IfErr};
-ghost use Rattle.eevdf_bench.specs.Reports.{IsReport};
-ghost use Rattle.eevdf_bench.specs.Runs.{run_refusal};
+ghost use Rattle.eevdf_bench.specs.{Reports.IsReport, Runs.run_refusal};
 
 use crate::bench_fault::BenchFault;
 use crate::command_words::Kind;

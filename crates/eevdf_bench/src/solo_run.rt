@@ -1,8 +1,7 @@
 //! Running a workload's script in one thread.
 
 ghost use Rattle.std.specs.Prelude.{IfOk};
-ghost use Rattle.eevdf_bench.specs.Reports.{IsReport};
-ghost use Rattle.eevdf_bench.specs.Runs.{Makes, solo_report};
+ghost use Rattle.eevdf_bench.specs.{Reports.IsReport, Runs.Makes, Runs.solo_report};
 
 use crate::bench_fault::BenchFault;
 use crate::command_words::Kind;

@@ -1,32 +1,21 @@
 -- Each step keeps the rule of the board.
 use Rattle.std.proofs.Common.{◌≡◌, ◌≢◌, ℕ, zero, suc, ◌+◌, ◌<◌, ◌≤◌, Bool, true, false, cond, List, [], ◌∷◌, ◌++◌, length, map, set, take, drop, append-nil, eq-eqb, refl, sym, ap, subst, ◌∙◌, ⊎_elim, arith}
-use Rattle.std.specs.Prelude.{◌==◌}
-use Rattle.std.specs.List.{list_all}
-use Rattle.std.proofs.Math.ListN.{length-append}
-use Rattle.eevdf_ops.specs.declared.deeds.Deed.{Deed}
-use Rattle.std.proofs.lemmas.Bool.Decides.{nat_tests}
+use Rattle.std.specs.{Prelude.◌==◌, List.list_all, declared.snapshot.Snapshot.Snapshot}
+use Rattle.std.proofs.{Math.ListN.length-append, lemmas.Bool.Decides.nat_tests}
+use Rattle.eevdf_ops.specs.{declared.deeds.Deed.Deed, declared.deeds.Line.Line, Machine.Machine, Machine.queue_at, Parts.decider}
+use Rattle.eevdf_ops.specs.{Places.AreCpus, Places.IsPlaced, Programs.deeds_of, Programs.lines_by, Whole.whole}
 use mathlib.Core.Option as option
 use lib.ListN.{get_elem?}
 use prog.Atomic.{either}
-use Rattle.std.specs.declared.snapshot.Snapshot.{Snapshot}
 use Rattle.atomic_table.specs.Table.{Me, Step, step, keeps, Allows, Splits, Joins}
 use Rattle.atomic_table.proofs.Lists.{at_set, at_snoc, set_again, set_else}
-use Rattle.eevdf_ops.specs.declared.deeds.Line.{Line}
 use Rattle.eevdf_ops.specs.Setup.{allows, cpus_of, is_allowed}
-use Rattle.eevdf_ops.specs.Machine.{Machine, queue_at}
-use Rattle.eevdf_ops.specs.Parts.{decider}
 use Rattle.eevdf_ops.specs.Parts as parts
 use Rattle.eevdf_ops.specs.PartsLaws as laws
-use Rattle.eevdf_ops.specs.Places.{AreCpus, IsPlaced}
-use Rattle.eevdf_ops.specs.Programs.{deeds_of, lines_by}
-use Rattle.eevdf_ops.specs.Whole.{whole}
-use Rattle.eevdf_ops.proofs.LocalParts.{others_stay}
-use Rattle.eevdf_ops.proofs.WholePlaces.{whole-placed}
-use Rattle.eevdf_fleet.specs.declared.board.claims.Terms.{Terms}
-use Rattle.eevdf_fleet.specs.declared.board.claims.Claim.{Claim}
-use Rattle.eevdf_fleet.specs.declared.board.claims.Claim.TheVariants.{Seat, Queue, Journal}
-use Rattle.eevdf_fleet.specs.declared.board.claims.View.{View}
+use Rattle.eevdf_ops.proofs.{LocalParts.others_stay, WholePlaces.whole-placed}
+use Rattle.eevdf_fleet.specs.{declared.board.claims.Terms.Terms, declared.board.claims.Claim.Claim, declared.board.claims.View.View}
 use Rattle.eevdf_fleet.specs.declared.board.claims.Said.{Said}
+use Rattle.eevdf_fleet.specs.declared.board.claims.Claim.TheVariants.{Seat, Queue, Journal}
 use Rattle.eevdf_fleet.specs.Claims.{Key, seat, queue, journal, once, here, times, touches, homes, told, IsKept, Tells, AllTell, Agrees, AllAgree, Owes, advanced, knowing, nothing, start, claims_from, opening}
 use Rattle.eevdf_fleet.specs.Board.{Fits, IsOneHistory, Rule, Appended, advanced_if, Known, Checked, first_claim, other_claims, joined}
 use Rattle.eevdf_fleet.proofs.Totals.{total-set, total-append, times-append, times-at, times-two, times-advanced}

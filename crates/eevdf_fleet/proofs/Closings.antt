@@ -4,20 +4,13 @@ use Rattle.std.specs.Prelude.{◌==◌}
 use Rattle.std.proofs.lemmas.List.{get_or_past, get_or-set_same, get_or-set_other}
 use Rattle.std.proofs.lemmas.Bool.Decides.{nat_tests}
 use Rattle.eevdf_queue.specs.State.{View, empty_state}
-use Rattle.eevdf_ops.specs.declared.deeds.Line.{Line}
-use Rattle.eevdf_ops.specs.Machine.{Machine, queue_at}
-use Rattle.eevdf_ops.specs.Outcome.{machine_of}
-use Rattle.eevdf_ops.specs.Setup.{cpus_of}
-use Rattle.eevdf_ops.proofs.Machines.{length-machine_of, machine_with}
-use Rattle.eevdf_ops.proofs.PartsProofs.{same_machine}
-use Rattle.eevdf_fleet.specs.declared.board.claims.Terms.{Terms}
-use Rattle.eevdf_fleet.specs.declared.board.claims.Claim.{Claim}
+use Rattle.eevdf_ops.specs.{declared.deeds.Line.Line, Machine.Machine, Machine.queue_at, Outcome.machine_of, Setup.cpus_of}
+use Rattle.eevdf_ops.proofs.{Machines.length-machine_of, Machines.machine_with, PartsProofs.same_machine}
+use Rattle.eevdf_fleet.specs.{declared.board.claims.Terms.Terms, declared.board.claims.Claim.Claim, Board.Known}
 use Rattle.eevdf_fleet.specs.declared.board.claims.Claim.TheVariants.{Seat, Queue, Journal}
 use Rattle.eevdf_fleet.specs.Claims.{Key, queue, once, here, times, told, AllTell}
-use Rattle.eevdf_fleet.specs.Board.{Known}
-use Rattle.eevdf_fleet.proofs.QueuesClosed.{AreClosed}
+use Rattle.eevdf_fleet.proofs.{QueuesClosed.AreClosed, Told.length-told}
 use Rattle.eevdf_fleet.proofs.Sums.{sum_below, sum-none, sum-once, sum-less}
-use Rattle.eevdf_fleet.proofs.Told.{length-told}
 
 -- the history that the claims hold of is the journal's
 pub same-lines : (t : Terms) (lines all : List Line) (qs : List View) (cs : List Claim) → AreClosed t lines qs cs → AllTell t all cs → all ≡ lines

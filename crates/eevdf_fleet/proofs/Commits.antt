@@ -1,12 +1,9 @@
 -- What a commit owes, from what is owed of the queues.
 use Rattle.std.proofs.Common.{◌≡◌, ℕ, ◌<◌, ◌≤◌, true, List, [], ◌∷◌, ◌++◌, length, sym, ap, ◌∙◌, arith}
 use Rattle.std.specs.Prelude.{◌==◌}
-use Rattle.eevdf_ops.specs.declared.deeds.Line.{Line}
-use Rattle.eevdf_ops.specs.Parts.{decider}
-use Rattle.eevdf_ops.specs.Programs.{lines_by}
-use Rattle.eevdf_fleet.specs.declared.board.claims.Terms.{Terms}
-use Rattle.eevdf_fleet.specs.declared.board.claims.Claim.{Claim}
-use Rattle.eevdf_fleet.specs.declared.board.claims.Claim.TheVariants.{Seat, Journal}
+use Rattle.eevdf_ops.specs.{declared.deeds.Line.Line, Parts.decider, Programs.lines_by}
+use Rattle.eevdf_fleet.specs.{declared.board.claims.Terms.Terms, declared.board.claims.Claim.Claim}
+use Rattle.eevdf_fleet.specs.{declared.board.claims.Claim.TheVariants.Seat, declared.board.claims.Claim.TheVariants.Journal}
 use Rattle.eevdf_fleet.specs.declared.board.claims.Said.{Said}
 use Rattle.eevdf_fleet.specs.Claims.{Key, seat, queue, journal, once, times, touches, homes, Owes, OwesQueues}
 

@@ -2,9 +2,8 @@
 use Rattle.std.proofs.Common.{◌≡◌, ℕ, zero, suc, ◌+◌, ◌<◌, List, [], ◌∷◌, ◌++◌, length, map, get_or, drop, set, reverse, refl, sym, ap, subst, ◌∙◌, arith}
 use Rattle.eevdf_queue.specs.State.{View}
 use Rattle.eevdf_ops.specs.Outcome.{machine_of}
-use Rattle.eevdf_fleet.specs.declared.board.claims.Claim.{Claim}
-use Rattle.eevdf_fleet.specs.declared.board.claims.Claim.TheVariants.{Seat, Queue}
-use Rattle.eevdf_fleet.specs.Claims.{claims_from}
+use Rattle.eevdf_fleet.specs.{declared.board.claims.Claim.Claim, declared.board.claims.Claim.TheVariants.Seat}
+use Rattle.eevdf_fleet.specs.{declared.board.claims.Claim.TheVariants.Queue, Claims.claims_from}
 use Rattle.eevdf_fleet.specs.Fleets.{AreParts, SeatLog, fresh, fresh_log, fresh_logs, seat_of, takes_by}
 use Rattle.eevdf_fleet.specs.Rings.{Posts, Takes, no_posts, no_takes}
 use Rattle.eevdf_fleet.proofs.Takes.{no-takes}

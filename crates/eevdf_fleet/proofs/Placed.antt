@@ -1,15 +1,11 @@
 -- No task stands twice in the queues that a token claims.
 use Rattle.std.proofs.Common.{◌≡◌, ◌≢◌, ℕ, zero, suc, ◌+◌, ◌<◌, ◌≤◌, Bool, true, false, [], ◌∷◌, length, refl, ap, arith}
 use Rattle.eevdf_queue.specs.State.{State}
-use Rattle.eevdf_ops.specs.Machine.{Machine, queue_at}
+use Rattle.eevdf_ops.specs.{Machine.Machine, Machine.queue_at, Setup.cpus_of, Setup.is_task}
 use Rattle.eevdf_ops.specs.Places.{count, places_in, places}
-use Rattle.eevdf_ops.specs.Setup.{cpus_of, is_task}
 use Rattle.eevdf_ops.proofs.MachinePlaces.{places-at}
-use Rattle.eevdf_fleet.specs.declared.board.claims.Terms.{Terms}
-use Rattle.eevdf_fleet.specs.declared.board.claims.Claim.TheVariants.{Queue}
-use Rattle.eevdf_fleet.specs.Claims.{homes, told}
-use Rattle.eevdf_fleet.specs.Board.{Known}
-use Rattle.eevdf_fleet.specs.TouchedQueues.{NoneTwice}
+use Rattle.eevdf_fleet.specs.{declared.board.claims.Terms.Terms, declared.board.claims.Claim.TheVariants.Queue, Claims.homes}
+use Rattle.eevdf_fleet.specs.{Claims.told, Board.Known, TouchedQueues.NoneTwice}
 use Rattle.eevdf_fleet.proofs.Told.{length-told}
 
 places-two : (m : Machine) (a b task : ℕ) → a ≢ b → a < length m → b < length m → places_in (queue_at m a) task + places_in (queue_at m b) task ≤ places m task

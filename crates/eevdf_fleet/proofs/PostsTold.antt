@@ -1,16 +1,13 @@
 -- What a closed fleet tells of the requests.
 use Rattle.std.proofs.Common.{◌≡◌, ℕ, ◌<◌, List, [], ◌∷◌, ◌++◌, length, sym, ap, subst, ◌∙◌, arith}
 use Rattle.std.specs.Prelude.{All, slice_get, Some}
-use Rattle.std.proofs.lemmas.List.{map-append}
-use Rattle.std.proofs.lemmas.List.FromFn.{length-map-range_with_len}
-use Rattle.std.proofs.lemmas.Option.{slice_get_within, get_or_from_slice_get}
-use Rattle.eevdf_ops.specs.declared.deeds.Line.{Line}
-use Rattle.eevdf_ops.specs.Programs.{lines_by, wakes_from}
+use Rattle.std.proofs.{lemmas.List.map-append, lemmas.List.FromFn.length-map-range_with_len, lemmas.Option.slice_get_within}
+use Rattle.std.proofs.lemmas.Option.{get_or_from_slice_get}
+use Rattle.eevdf_ops.specs.{declared.deeds.Line.Line, Programs.lines_by, Programs.wakes_from}
 use Rattle.eevdf_fleet.specs.Rings.{Posts, Takes, Returned, AllReturned, AreLeft, left_of, posted_to, taken_from}
 use Rattle.eevdf_fleet.specs.Fleets.{AllPostsTold, AreSeats, Seat, given_back, posts_by, returned, taken_by}
-use Rattle.eevdf_fleet.proofs.RingPlaces.{got_some}
+use Rattle.eevdf_fleet.proofs.{RingPlaces.got_some, Takes.taken-of}
 use Rattle.eevdf_fleet.proofs.RingWords.{all-returned, posts-returned, takes-returned}
-use Rattle.eevdf_fleet.proofs.Takes.{taken-of}
 
 all_at : {X : Type 0} (P : X → Type 0) (xs : List X) (k : ℕ) (x : X) → All P xs → slice_get xs k ≡ Some x → P x
 all_at P xs k x h got = subst P (get_or_from_slice_get xs k x x got) (h k x (slice_get_within xs k x got))

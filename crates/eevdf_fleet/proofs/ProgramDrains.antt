@@ -1,15 +1,11 @@
 -- What the operations of a program take of the requests that it posts to its own CPU, one operation after the other.
 use Rattle.std.proofs.Common.{append-nil, append_assoc, ◌≡◌, ℕ, List, [], ◌∷◌, ◌++◌, length, take, sym, ap, subst, ◌∙◌, refl}
-use Rattle.std.specs.Prelude.{slice_get}
-use Rattle.std.specs.Option.{option_to_list}
-use Rattle.eevdf_ops.specs.declared.deeds.Deed.{Deed}
-use Rattle.eevdf_ops.specs.declared.deeds.Line.{Line}
-use Rattle.eevdf_ops.specs.declared.deeds.Op.{Op}
+use Rattle.std.specs.{Prelude.slice_get, Option.option_to_list}
+use Rattle.eevdf_ops.specs.{declared.deeds.Deed.Deed, declared.deeds.Line.Line, declared.deeds.Op.Op}
 use Rattle.eevdf_ops.specs.declared.deeds.Op.TheVariants as op
 use Rattle.eevdf_ops.specs.OwnRequests.{AllFitWaiting, FitsWaiting, own_after, own_taken, own_waiting}
 use Rattle.eevdf_ops.specs.Programs.{FitsOperation, deeds_of, post_of, wakes_from, wakes_in}
-use Rattle.eevdf_fleet.specs.Fleets.{Seat, posted_to}
-use Rattle.eevdf_fleet.specs.ProgramRuns.{TakesOldest}
+use Rattle.eevdf_fleet.specs.{Fleets.Seat, Fleets.posted_to, ProgramRuns.TakesOldest}
 use Rattle.eevdf_fleet.proofs.Takes.{wakes-append}
 
 -- one operation after others

@@ -1,14 +1,10 @@
 -- The operations of a program, one after the other, and what each does to its seat.
 use Rattle.std.proofs.Common.{append-nil, append_assoc, ◌≡◌, ◌≢◌, ℕ, ◌<◌, Bool, true, false, cond, List, [], ◌∷◌, ◌++◌, length, get_or, set, sym, ap, subst, ◌∙◌, arith, refl}
-use Rattle.std.proofs.lemmas.Bool.{ltb-true}
-use Rattle.std.proofs.lemmas.Bool.Decides.{nat_tests}
+use Rattle.std.proofs.{lemmas.Bool.ltb-true, lemmas.Bool.Decides.nat_tests}
 use Rattle.std.proofs.lemmas.List.{flat_map_more, get_or-set_other, get_or-set_same, map-append}
 use Rattle.std.specs.Prelude.{◌==◌, nat_lt, None}
-use Rattle.eevdf_ops.specs.declared.deeds.Deed.{Deed}
-use Rattle.eevdf_ops.specs.declared.deeds.Line.{Line}
-use Rattle.eevdf_ops.specs.declared.deeds.Op.{Op}
+use Rattle.eevdf_ops.specs.{declared.deeds.Deed.Deed, declared.deeds.Line.Line, declared.deeds.Op.Op, Faults.operation_fault}
 use Rattle.eevdf_ops.specs.declared.deeds.Op.TheVariants as op
-use Rattle.eevdf_ops.specs.Faults.{operation_fault}
 use Rattle.eevdf_ops.specs.OwnRequests.{AllFitWaiting, own_after, own_taken, own_waiting}
 use Rattle.eevdf_ops.specs.Programs.{FitsOperation, FitsOperations, deeds_of, post_of, wakes_from}
 use Rattle.eevdf_ops.specs.Setup.{Setup, cpus_of, home_of, homes_of}

@@ -3,9 +3,7 @@ use Rattle.std.proofs.Common.{◌≡◌, ◌≢◌, ℕ, ◌+◌, ◌<◌, ◌�
 use Rattle.std.proofs.lemmas.List.{get_or-replicate, take_more}
 use Rattle.std.proofs.lemmas.List.Sums.{sum_by_more, sum_by_more_le}
 use Rattle.std.specs.Prelude.{None}
-use Rattle.eevdf_ops.specs.declared.deeds.Line.{Line}
-use Rattle.eevdf_ops.specs.declared.deeds.Op.{Op}
-use Rattle.eevdf_ops.specs.Faults.{operation_fault, setup_fault}
+use Rattle.eevdf_ops.specs.{declared.deeds.Line.Line, declared.deeds.Op.Op, Faults.operation_fault, Faults.setup_fault}
 use Rattle.eevdf_ops.specs.Followed.{program_of}
 use Rattle.eevdf_ops.specs.Programs.{deeds_of, post_of, posts_in, wakes_from}
 use Rattle.eevdf_ops.specs.Setup.{Setup, cpus_of, homes_of}

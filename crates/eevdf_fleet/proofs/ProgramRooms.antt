@@ -1,17 +1,11 @@
 -- What is asked for by the programs of a setup, and by the first operations of a program.
 use Rattle.std.proofs.Common.{◌≡◌, ◌≢◌, ℕ, zero, suc, ◌+◌, ◌<◌, ◌≤◌, Bool, true, false, cond, List, [], ◌∷◌, ◌++◌, length, take, get_or, max, sym, ap, subst, ◌∙◌, arith, refl}
-use Rattle.std.proofs.Math.ListN.{length-append}
-use Rattle.std.proofs.lemmas.List.{get_or_read, take_more}
-use Rattle.std.proofs.lemmas.List.Sums.{sum_by-cons}
+use Rattle.std.proofs.{Math.ListN.length-append, lemmas.List.get_or_read, lemmas.List.take_more, lemmas.List.Sums.sum_by-cons}
 use Rattle.std.proofs.lemmas.Bool.Decides.{nat_tests}
-use Rattle.std.specs.Ordering.{nat_cmp, ord_max}
-use Rattle.std.specs.Prelude.{◌==◌, None}
-use Rattle.eevdf_ops.specs.declared.deeds.Op.{Op}
+use Rattle.std.specs.{Ordering.nat_cmp, Ordering.ord_max, Prelude.◌==◌, Prelude.None}
+use Rattle.eevdf_ops.specs.{declared.deeds.Op.Op, Faults.setup_fault, Followed.program_of, Numbers.most_operations}
+use Rattle.eevdf_ops.specs.{Programs.post_of, Programs.posts_in}
 use Rattle.eevdf_ops.specs.declared.deeds.Op.TheVariants as op
-use Rattle.eevdf_ops.specs.Faults.{setup_fault}
-use Rattle.eevdf_ops.specs.Followed.{program_of}
-use Rattle.eevdf_ops.specs.Numbers.{most_operations}
-use Rattle.eevdf_ops.specs.Programs.{post_of, posts_in}
 use Rattle.eevdf_ops.specs.Setup.{Setup, cpus_of, home_of}
 use Rattle.eevdf_ops.proofs.SetupFaults.{program_short}
 use Rattle.eevdf_fleet.specs.ProgramRuns.{greatest, posts_of, program_posts}

@@ -1,26 +1,17 @@
 -- The seats of programs that run, each by a thread of its own, and what their fleet is closed to.
 use Rattle.std.proofs.Common.{◌≡◌, ℕ, ◌+◌, ◌*◌, ◌<◌, ◌≤◌, Bool, true, false, cond, List, [], ◌∷◌, ◌++◌, length, get_or, inl, inr, refl, sym, ap, subst, ◌∙◌, arith}
-use Rattle.std.proofs.Math.Nat.{mul-le-mul_right}
-use Rattle.std.proofs.lemmas.Bool.{cases_lt}
-use Rattle.std.proofs.lemmas.Bool.Decides.{nat_tests}
-use Rattle.std.proofs.lemmas.List.{get_or_past}
-use Rattle.std.proofs.lemmas.List.Elements.{All-get_or}
-use Rattle.std.proofs.lemmas.Option.{slice_get-get_or}
+use Rattle.std.proofs.{Math.Nat.mul-le-mul_right, lemmas.Bool.cases_lt, lemmas.Bool.Decides.nat_tests, lemmas.List.get_or_past}
+use Rattle.std.proofs.{lemmas.List.Elements.All-get_or, lemmas.Option.slice_get-get_or}
 use Rattle.std.specs.Prelude.{◌==◌, All, Some, nat_lt, slice_get}
 use Rattle.std.specs.List.{list_all}
-use Rattle.eevdf_ops.specs.declared.deeds.Deed.{Deed}
-use Rattle.eevdf_ops.specs.declared.deeds.Deed.TheVariants.{Tick, Pick, Yield, Sleep, Wake, Pull, Renice}
-use Rattle.eevdf_ops.specs.declared.deeds.Line.{Line}
-use Rattle.eevdf_ops.specs.declared.deeds.Op.{Op}
-use Rattle.eevdf_ops.specs.Followed.{FollowsPrograms, program_of}
-use Rattle.eevdf_ops.specs.Outcome.{Outcome}
-use Rattle.eevdf_ops.specs.OwnRequests.{AllFitWaiting, TakesOwnRequests}
+use Rattle.eevdf_ops.specs.{declared.deeds.Deed.Deed, declared.deeds.Line.Line, declared.deeds.Op.Op, Followed.FollowsPrograms}
+use Rattle.eevdf_ops.specs.{Followed.program_of, Outcome.Outcome, OwnRequests.AllFitWaiting, OwnRequests.TakesOwnRequests}
 use Rattle.eevdf_ops.specs.Parts.{decider}
+use Rattle.eevdf_ops.specs.declared.deeds.Deed.TheVariants.{Tick, Pick, Yield, Sleep, Wake, Pull, Renice}
 use Rattle.eevdf_ops.specs.Programs.{FitsProgram, deeds_of, lines_by, posts_in, wake_from, wakes_from}
 use Rattle.eevdf_ops.specs.Setup.{Setup, allows, cpus_of, homes_of, is_allowed}
 use Rattle.eevdf_fleet.specs.Fleets.{AllPostsTold, Seat, fresh}
-use Rattle.eevdf_fleet.specs.ProgramRuns.{AreRun, HasRun}
-use Rattle.eevdf_fleet.specs.SeatWorks.{AreDone}
+use Rattle.eevdf_fleet.specs.{ProgramRuns.AreRun, ProgramRuns.HasRun, SeatWorks.AreDone}
 use Rattle.eevdf_fleet.proofs.Rooms.{below, decider-below, left, right}
 use Rattle.eevdf_fleet.proofs.Takes.{wake-other}
 

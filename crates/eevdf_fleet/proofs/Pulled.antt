@@ -1,14 +1,10 @@
 -- A pull that takes a task.
 use Rattle.std.proofs.Common.{◌≡◌, ℕ, false, refl, sym, ap, ◌∙◌}
 use Rattle.std.specs.Prelude.{Some, Result, Ok, Err}
-use Rattle.eevdf_queue.specs.State.{State, Contents}
-use Rattle.eevdf_queue.specs.Candidate.{is_running}
-use Rattle.eevdf_queue.specs.Leaving.{carried}
-use Rattle.eevdf_ops.specs.declared.deeds.Answer.{Answer}
-use Rattle.eevdf_ops.specs.PullOffer.{task_of}
+use Rattle.eevdf_queue.specs.{State.State, State.Contents, Candidate.is_running, Leaving.carried}
+use Rattle.eevdf_ops.specs.{declared.deeds.Answer.Answer, PullOffer.task_of}
 use Rattle.eevdf_ops.specs.WholePull.{offer, load_of, decision}
-use Rattle.eevdf_ops.proofs.Carried.{offer-waits, offer-carried}
-use Rattle.eevdf_ops.proofs.Pulling.{IsTaken, decision-taken}
+use Rattle.eevdf_ops.proofs.{Carried.offer-waits, Carried.offer-carried, Pulling.IsTaken, Pulling.decision-taken}
 
 -- the task that is pulled, with what it carries
 pub record Pulls (q s : State) (task : ℕ) : Type 0 where

@@ -1,14 +1,9 @@
 -- What is known of the queues while a fleet is closed.
 use Rattle.std.specs.Prelude.{◌≡◌, ◌<◌, List, [], ◌∷◌}
 use Rattle.eevdf_queue.specs.State.{View}
-use Rattle.eevdf_ops.specs.declared.deeds.Line.{Line}
-use Rattle.eevdf_ops.specs.Machine.{queue_at}
-use Rattle.eevdf_ops.specs.Outcome.{machine_of}
-use Rattle.eevdf_ops.specs.Setup.{cpus_of}
-use Rattle.eevdf_fleet.specs.declared.board.claims.Terms.{Terms}
-use Rattle.eevdf_fleet.specs.declared.board.claims.Claim.{Claim}
+use Rattle.eevdf_ops.specs.{declared.deeds.Line.Line, Machine.queue_at, Outcome.machine_of, Setup.cpus_of}
+use Rattle.eevdf_fleet.specs.{declared.board.claims.Terms.Terms, declared.board.claims.Claim.Claim, Claims.told}
 use Rattle.eevdf_fleet.specs.declared.board.claims.Claim.TheVariants.{Seat, Queue, Journal}
-use Rattle.eevdf_fleet.specs.Claims.{told}
 
 -- the claims are of queues, and last of the journal with these lines; each of these queues stands at its number
 abbrev pub AreClosed : Terms → List Line → List View → List Claim → Type 0

@@ -1,8 +1,7 @@
 -- The ends of the rings, where one of them moves on.
 use Rattle.std.proofs.Common.{◌≡◌, ℕ, ◌+◌, ◌<◌, ◌≤◌, List, [], ◌++◌, length, map, get_or, set, sym, ap, ◌∙◌, arith}
-use Rattle.std.proofs.Math.Seq.{map-set_same}
+use Rattle.std.proofs.{Math.Seq.map-set_same, lemmas.Option.slice_get_read}
 use Rattle.std.proofs.lemmas.List.{length-map, map-set, get_or-map}
-use Rattle.std.proofs.lemmas.Option.{slice_get_read}
 use Rattle.std.specs.Prelude.{Option, Some, None}
 use Rattle.std.specs.Option.{IsSomeAnd}
 use Rattle.rtrb.specs.Ring.{sent, known_free, received, consumer_capacity, IsPair, SameConsumer, SameProducer, ProducerLooked}

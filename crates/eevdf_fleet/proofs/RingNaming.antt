@@ -2,17 +2,13 @@
 use Rattle.std.proofs.Common.{◌≡◌, ℕ, suc, ◌<◌, List, [], ◌∷◌, ◌++◌, length, map, get_or, replicate, refl, sym, ap, subst, ◌∙◌, arith}
 use Rattle.std.proofs.lemmas.List.{length-append, get_or-map}
 use Rattle.std.proofs.lemmas.List.FromFn.{length-map-range_with_len, map-range_with_len_more}
-use Rattle.std.specs.List.{range_with_len}
+use Rattle.std.specs.{List.range_with_len, Option.IsSomeAnd, declared.alloc.Global.Global, declared.vec.Vec.Vec}
 use Rattle.std.specs.Prelude.{slice_get, Option, Some, None}
-use Rattle.std.specs.Option.{IsSomeAnd}
-use Rattle.std.specs.declared.alloc.Global.{Global}
-use Rattle.std.specs.declared.vec.Vec.{Vec}
 use Rattle.eevdf_fleet.specs.Rings.{Ring, Rings, ring_at, no_posts, no_takes}
 use Rattle.eevdf_fleet.specs.RingEnds.{Pushing, Popping, PushesInto, PopsFrom, Each, lists_of, AreProducers, AreConsumers, posts, takes}
 use Rattle.eevdf_fleet.specs.OpenedRings.{IsFresh, Begins, AreOpened, ring_in, AreNewRows, AreNewColumns, list_at}
 use Rattle.rtrb.specs.Ring.{sent, received}
-use Rattle.eevdf_fleet.proofs.RingEnds.{posts_of, takes_of}
-use Rattle.eevdf_fleet.proofs.RingOpenings.{length-lists}
+use Rattle.eevdf_fleet.proofs.{RingEnds.posts_of, RingEnds.takes_of, RingOpenings.length-lists}
 
 list_read : {A : Type 0} (lists : List (Vec A Global)) (k : ℕ) (list : Vec A Global) → k < length lists → list ≡ get_or lists k list → list_at (lists_of lists) k ≡ list.items
 list_read {A} lists k list within at =

@@ -1,12 +1,9 @@
 -- How the rings are opened, one row after the other.
 use Rattle.std.proofs.Common.{◌≡◌, ℕ, zero, suc, ◌+◌, ◌<◌, ⊎_elim, List, [], ◌∷◌, ◌++◌, length, get_or, set, replicate, refl, sym, ap, subst, ◌∙◌, arith, get_or-set_same, get_or-set_other}
-use Rattle.std.proofs.lemmas.Bool.{cases_lt}
+use Rattle.std.proofs.{lemmas.Bool.cases_lt, lemmas.Option.none-some}
 use Rattle.std.proofs.lemmas.List.{length-append, map-append, map-set, get_or-map, length-map, length-set, length-replicate, get_or_append_left, get_or_push, get_or-replicate}
-use Rattle.std.proofs.lemmas.Option.{none-some}
 use Rattle.std.specs.Prelude.{slice_get, Option, Some}
-use Rattle.std.specs.Option.{IsSomeAnd}
-use Rattle.std.specs.declared.alloc.Global.{Global}
-use Rattle.std.specs.declared.vec.Vec.{Vec}
+use Rattle.std.specs.{Option.IsSomeAnd, declared.alloc.Global.Global, declared.vec.Vec.Vec}
 use Rattle.eevdf_fleet.specs.RingEnds.{Pushing, Popping, Each, lists_of}
 use Rattle.eevdf_fleet.proofs.RingPlaces.{each-push, got_some}
 use Rattle.eevdf_fleet.specs.OpenedRings.{IsFresh, Begins, AreOpened, Adds, AreRow, list_at, ring_in}

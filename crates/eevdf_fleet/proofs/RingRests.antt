@@ -1,11 +1,9 @@
 -- How the rings are emptied, one pair after the other.
 use Rattle.std.proofs.Common.{◌≡◌, ◌≢◌, ℕ, zero, suc, ◌+◌, ◌*◌, ◌/◌, ◌%◌, ◌<◌, ◌≤◌, ◌⊎◌, inl, inr, ⊎_elim, List, [], ◌∷◌, ◌++◌, length, get_or, set, refl, sym, ap, subst, ◌∙◌, arith, get_or-set_same, get_or-set_other}
 use Rattle.std.proofs.lemmas.List.{get_or_default, length-set, length-map, map-set, set-get_or}
-use Rattle.std.proofs.lemmas.Bool.{cases_eq}
-use Rattle.std.proofs.lemmas.Option.{slice_get_read}
+use Rattle.std.proofs.{lemmas.Bool.cases_eq, lemmas.Option.slice_get_read}
 use Rattle.std.proofs.lemmas.Nat.{div-add-mod', div_below, div-mul-add, mod-mul-add, mul-add-lt}
-use Rattle.std.specs.declared.alloc.Global.{Global}
-use Rattle.std.specs.declared.vec.Vec.{Vec}
+use Rattle.std.specs.{declared.alloc.Global.Global, declared.vec.Vec.Vec}
 use Rattle.eevdf_fleet.specs.Rings.{Posts, Takes, Returned, AllReturned, AreLeft, posts_at, takes_at, posted_to, taken_from, taken_more, no_posts, no_takes}
 use Rattle.eevdf_fleet.specs.ReturnedEnds.{EmptiedBelow, IsEmptyList, posted_at, taken_at}
 use Rattle.eevdf_fleet.specs.RingEnds.{lists_of}

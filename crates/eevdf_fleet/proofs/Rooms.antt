@@ -1,20 +1,13 @@
 -- The journal has room for the lines of every CPU.
 use Rattle.std.proofs.Common.{◌≡◌, ℕ, ◌+◌, ◌*◌, ◌<◌, Bool, true, false, cond, ◌&&◌, List, [], ◌∷◌, length, refl, ap, ◌∙◌, arith}
-use Rattle.std.specs.Prelude.{◌==◌, nat_lt}
-use Rattle.std.specs.List.{list_all}
-use Rattle.std.proofs.lemmas.Bool.{false≢true}
-use Rattle.std.proofs.lemmas.Bool.Decides.{nat_tests}
-use Rattle.eevdf_ops.specs.declared.deeds.Deed.{Deed}
+use Rattle.std.specs.{Prelude.◌==◌, Prelude.nat_lt, List.list_all}
+use Rattle.std.proofs.{lemmas.Bool.false≢true, lemmas.Bool.Decides.nat_tests}
+use Rattle.eevdf_ops.specs.{declared.deeds.Deed.Deed, declared.deeds.Line.Line, Parts.decider, Programs.deeds_of, Programs.lines_by}
 use Rattle.eevdf_ops.specs.declared.deeds.Deed.TheVariants.{Tick, Pick, Yield, Sleep, Wake, Pull, Renice}
-use Rattle.eevdf_ops.specs.declared.deeds.Line.{Line}
 use Rattle.eevdf_ops.specs.Setup.{is_allowed, is_task, cpus_of}
-use Rattle.eevdf_ops.specs.Parts.{decider}
-use Rattle.eevdf_ops.specs.Programs.{deeds_of, lines_by}
-use Rattle.eevdf_fleet.specs.declared.board.claims.Terms.{Terms}
-use Rattle.eevdf_fleet.specs.declared.board.claims.Claim.{Claim}
-use Rattle.eevdf_fleet.specs.declared.board.claims.Claim.TheVariants.{Seat, Journal}
-use Rattle.eevdf_fleet.specs.Claims.{once, homes}
-use Rattle.eevdf_fleet.specs.Board.{Known}
+use Rattle.eevdf_fleet.specs.{declared.board.claims.Terms.Terms, declared.board.claims.Claim.Claim}
+use Rattle.eevdf_fleet.specs.{declared.board.claims.Claim.TheVariants.Seat, declared.board.claims.Claim.TheVariants.Journal}
+use Rattle.eevdf_fleet.specs.{Claims.once, Claims.homes, Board.Known}
 use Rattle.eevdf_fleet.proofs.Sums.{sum_below, sum-none, sum-once, sum-less}
 
 pub left : (a b : Bool) → (a && b) ≡ true → a ≡ true

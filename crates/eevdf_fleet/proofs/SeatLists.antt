@@ -1,10 +1,8 @@
 -- Lists of what each CPU has, in order, from which the first is taken and to which one more is added, and the seats of all CPUs.
 use Rattle.std.proofs.Common.{◌≡◌, ℕ, suc, ◌+◌, ◌<◌, List, [], ◌∷◌, ◌++◌, length, map, get_or, inl, inr, sym, ap, subst, ◌∙◌, arith}
-use Rattle.std.proofs.lemmas.Bool.{cases_lt}
-use Rattle.std.proofs.lemmas.List.{get_or_append_left, get_or_push}
+use Rattle.std.proofs.{lemmas.Bool.cases_lt, lemmas.List.get_or_append_left, lemmas.List.get_or_push}
 use Rattle.std.specs.List.{range_with_len}
-use Rattle.eevdf_fleet.specs.Fleets.{AreSeats, Seat}
-use Rattle.eevdf_fleet.specs.SeatWorks.{AreDone}
+use Rattle.eevdf_fleet.specs.{Fleets.AreSeats, Fleets.Seat, SeatWorks.AreDone}
 
 -- the first of the seats that are left, and the others
 pub next-seat : {X : Type 0} (f : ℕ → X) (k m n : ℕ) (xs rest : List X) (x : X) → xs ≡ map f (range_with_len k m) → xs ≡ x ∷ rest → n + 1 ≡ m

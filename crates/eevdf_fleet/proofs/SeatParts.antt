@@ -2,14 +2,11 @@
 use Rattle.std.proofs.Common.{◌≡◌, ℕ, ◌<◌, List, [], ◌∷◌, length, sym, ap, subst, ◌∙◌}
 use Rattle.std.specs.Prelude.{IfNone, slice_get, Option, Some, None}
 use Rattle.std.proofs.lemmas.List.FromFn.{length-map-range_with_len}
-use Rattle.eevdf_ops.specs.declared.deeds.Answer.{Answer}
-use Rattle.eevdf_ops.specs.declared.deeds.Deed.{Deed}
+use Rattle.eevdf_ops.specs.{declared.deeds.Answer.Answer, declared.deeds.Deed.Deed, declared.deeds.Line.Line}
 use Rattle.eevdf_ops.specs.declared.deeds.Deed.TheVariants.{Tick, Pick, Yield, Sleep, Wake, Pull, Renice}
-use Rattle.eevdf_ops.specs.declared.deeds.Line.{Line}
 use Rattle.eevdf_fleet.specs.Rings.{Posts, Takes, oldest, posted_to, taken_from, taken_more}
-use Rattle.eevdf_fleet.specs.Drains.{HasTaken, oldest_own}
+use Rattle.eevdf_fleet.specs.{Drains.HasTaken, Drains.oldest_own, TouchedQueues.IsNoWake, TouchedQueues.IsOfTwoQueues}
 use Rattle.eevdf_fleet.specs.Fleets.{AreParts, Seat, SeatLog, logged, seat_of, takes_by, written}
-use Rattle.eevdf_fleet.specs.TouchedQueues.{IsNoWake, IsOfTwoQueues}
 use Rattle.eevdf_fleet.proofs.Takes.{same-takes, more-takes, taken-of}
 
 pub two-no-wake : (homes : List ℕ) (other : ℕ) (d : Deed) → IsOfTwoQueues homes other d → IsNoWake d

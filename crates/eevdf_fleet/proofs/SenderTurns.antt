@@ -1,14 +1,11 @@
 -- What a drain has done, sender by sender.
 use Rattle.std.proofs.Common.{◌≡◌, ℕ, suc, ◌+◌, ◌-◌, ◌<◌, ◌≤◌, Bool, true, false, ⊎_elim, List, [], ◌∷◌, ◌++◌, length, refl, sym, ap, subst, ◌∙◌, arith}
 use Rattle.std.specs.Prelude.{if◌then◌else◌, slice_get, None}
-use Rattle.std.specs.List.{filter}
-use Rattle.std.specs.Option.{option_to_list}
+use Rattle.std.specs.{List.filter, Option.option_to_list}
 use Rattle.std.proofs.lemmas.Bool.{cases_eq}
 use Rattle.std.proofs.lemmas.List.{length_push, append-nil, append_assoc, map-append}
-use Rattle.eevdf_ops.specs.declared.deeds.Answer.{Answer}
-use Rattle.eevdf_ops.specs.declared.deeds.Deed.{Deed}
+use Rattle.eevdf_ops.specs.{declared.deeds.Answer.Answer, declared.deeds.Deed.Deed, declared.deeds.Line.Line}
 use Rattle.eevdf_ops.specs.declared.deeds.Deed.TheVariants.{Tick, Pick, Yield, Sleep, Wake, Pull, Renice}
-use Rattle.eevdf_ops.specs.declared.deeds.Line.{Line}
 use Rattle.eevdf_ops.specs.Programs.{AreWakes, deeds_of, wakes_from}
 use Rattle.eevdf_fleet.specs.declared.drains.Drained.{Drained}
 use Rattle.eevdf_fleet.specs.Fleets.{Seat, logged, posted_to}

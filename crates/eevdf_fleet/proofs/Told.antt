@@ -1,24 +1,15 @@
 -- A history with one line more.
 use Rattle.std.proofs.Common.{◌≡◌, ℕ, Bool, true, ◌&&◌, List, [], ◌∷◌, ◌++◌, length, refl, sym, ap, ◌∙◌}
-use Rattle.std.specs.Prelude.{◌==◌}
-use Rattle.std.specs.List.{list_all}
-use Rattle.std.proofs.Math.ListN.{length-replicate}
-use Rattle.std.proofs.lemmas.List.{map-append}
-use Rattle.std.proofs.lemmas.List.Elements.{filter-append}
+use Rattle.std.specs.{Prelude.◌==◌, List.list_all}
+use Rattle.std.proofs.{Math.ListN.length-replicate, lemmas.List.map-append, lemmas.List.Elements.filter-append}
 use Rattle.std.proofs.lemmas.List.Folds.{list_all-append}
 use Rattle.eevdf_queue.specs.State.{empty_state}
-use Rattle.eevdf_ops.specs.declared.deeds.Deed.{Deed}
-use Rattle.eevdf_ops.specs.declared.deeds.Answer.{Answer}
-use Rattle.eevdf_ops.specs.declared.deeds.Line.{Line}
-use Rattle.eevdf_ops.specs.Setup.{Setup, cpus_of}
+use Rattle.eevdf_ops.specs.{declared.deeds.Deed.Deed, declared.deeds.Answer.Answer, declared.deeds.Line.Line, Setup.Setup}
+use Rattle.eevdf_ops.specs.{Setup.cpus_of, Machine.Machine, Machine.queue_at, Histories.AreHistory, Parts.decider}
+use Rattle.eevdf_ops.specs.{Programs.deeds_of, Programs.lines_by}
 use Rattle.eevdf_ops.specs.Machine as machine
-use Rattle.eevdf_ops.specs.Machine.{Machine, queue_at}
-use Rattle.eevdf_ops.specs.Histories.{AreHistory}
-use Rattle.eevdf_ops.specs.Parts.{decider}
-use Rattle.eevdf_ops.specs.Programs.{deeds_of, lines_by}
 use Rattle.eevdf_ops.specs.Whole.{whole, lines_of, machine_after}
-use Rattle.eevdf_ops.proofs.Machines.{length-begin_at_homes}
-use Rattle.eevdf_ops.proofs.WholePlaces.{length-whole}
+use Rattle.eevdf_ops.proofs.{Machines.length-begin_at_homes, WholePlaces.length-whole}
 use Rattle.eevdf_fleet.specs.declared.board.claims.Terms.{Terms}
 use Rattle.eevdf_fleet.specs.Claims.{homes, start, told}
 

@@ -3,10 +3,8 @@ use Rattle.std.proofs.Common.{◌≡◌, ◌≢◌, ℕ, zero, suc, ◌+◌, ◌
 use mathlib.Core.Option.{some, some-injective, some-ne-none}
 use lib.ListN.{get_elem?}
 use Rattle.atomic_table.proofs.Lists.{set_else}
-use Rattle.eevdf_fleet.specs.declared.board.claims.Claim.{Claim}
+use Rattle.eevdf_fleet.specs.{declared.board.claims.Claim.Claim, declared.board.claims.View.View, declared.board.claims.Said.Said}
 use Rattle.eevdf_fleet.specs.declared.board.claims.Claim.TheVariants.{Seat, Queue, Journal}
-use Rattle.eevdf_fleet.specs.declared.board.claims.View.{View}
-use Rattle.eevdf_fleet.specs.declared.board.claims.Said.{Said}
 use Rattle.eevdf_fleet.specs.Claims.{Key, seat, queue, journal, here, times, total, nothing, advanced}
 
 pub total-set : (k : Key) (views : List View) (id : ℕ) (v w : View) → get_elem? views id ≡ some v

@@ -2,24 +2,16 @@
 use Rattle.std.specs.Prelude.{◌≡◌, ℕ, ◌+◌, ◌<◌, ◌≤◌, ◌==◌, Bool, true, List, [], ◌∷◌, ◌++◌, length, map, if◌then◌else◌, Option, Some, None}
 use Rattle.std.specs.List.{list_all}
 use Rattle.eevdf_queue.specs.State.{State}
-use Rattle.eevdf_ops.specs.declared.deeds.Deed.{Deed}
-use Rattle.eevdf_ops.specs.declared.deeds.Line.{Line}
+use Rattle.eevdf_ops.specs.{declared.deeds.Deed.Deed, declared.deeds.Line.Line, Machine.Machine, Machine.queue_at}
+use Rattle.eevdf_ops.specs.{Histories.machine_told, Histories.AreHistory, Parts.decider, Places.AreCpus, Places.IsPlaced}
+use Rattle.eevdf_ops.specs.{Programs.deeds_of, Programs.lines_by, Whole.whole}
 use Rattle.eevdf_ops.specs.Setup.{allows, cpus_of, homes_of}
 use Rattle.eevdf_ops.specs.Machine as machine
-use Rattle.eevdf_ops.specs.Machine.{Machine, queue_at}
-use Rattle.eevdf_ops.specs.Histories.{machine_told, AreHistory}
-use Rattle.eevdf_ops.specs.Parts.{decider}
 use Rattle.eevdf_ops.specs.Parts as parts
 use Rattle.eevdf_ops.specs.PartsLaws as laws
-use Rattle.eevdf_ops.specs.Places.{AreCpus, IsPlaced}
-use Rattle.eevdf_ops.specs.Programs.{deeds_of, lines_by}
-use Rattle.eevdf_ops.specs.Whole.{whole}
-use Rattle.eevdf_fleet.specs.declared.board.claims.Terms.{Terms}
-use Rattle.eevdf_fleet.specs.declared.board.claims.Claim.{Claim}
+use Rattle.eevdf_fleet.specs.{declared.board.claims.Terms.Terms, declared.board.claims.Claim.Claim, declared.board.claims.View.View}
+use Rattle.eevdf_fleet.specs.{declared.board.claims.Change.Change, declared.board.claims.Said.Said}
 use Rattle.eevdf_fleet.specs.declared.board.claims.Claim.TheVariants.{Seat, Queue, Journal}
-use Rattle.eevdf_fleet.specs.declared.board.claims.View.{View}
-use Rattle.eevdf_fleet.specs.declared.board.claims.Change.{Change}
-use Rattle.eevdf_fleet.specs.declared.board.claims.Said.{Said}
 
 -- the homes of the tasks, the machine at the start, and the machine that lines leave
 abbrev pub homes : Terms → List ℕ

@@ -1,11 +1,8 @@
 -- What a drain does to a seat.
 use Rattle.std.specs.Prelude.{◌≡◌, ℕ, ◌+◌, ◌-◌, Bool, true, false, List, ◌++◌, length, slice_get, if◌then◌else◌, Option, Some}
-use Rattle.std.specs.List.{filter}
-use Rattle.std.specs.Option.{option_to_list}
-use Rattle.eevdf_ops.specs.declared.deeds.Answer.{Answer}
-use Rattle.eevdf_ops.specs.declared.deeds.Answer.TheVariants.{Woken}
-use Rattle.eevdf_ops.specs.declared.deeds.Deed.TheVariants.{Wake}
-use Rattle.eevdf_ops.specs.declared.deeds.Line.{Line}
+use Rattle.std.specs.{List.filter, Option.option_to_list}
+use Rattle.eevdf_ops.specs.{declared.deeds.Answer.Answer, declared.deeds.Answer.TheVariants.Woken}
+use Rattle.eevdf_ops.specs.{declared.deeds.Deed.TheVariants.Wake, declared.deeds.Line.Line}
 use Rattle.eevdf_ops.specs.Programs.{AreWakes, deeds_of, wakes_from}
 use Rattle.eevdf_fleet.specs.declared.drains.Drained.{Drained}
 use Rattle.eevdf_fleet.specs.Fleets.{Seat, logged, posted_to}

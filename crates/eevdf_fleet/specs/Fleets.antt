@@ -3,9 +3,7 @@ use Rattle.std.specs.Prelude.{◌≡◌, ℕ, ◌-◌, ◌<◌, List, [], ◌∷
 use Rattle.std.specs.List.{range_with_len}
 use Rattle.atomic_table.specs.Seated.{TableId}
 use Rattle.eevdf_queue.specs.State as states
-use Rattle.eevdf_ops.specs.declared.deeds.Line.{Line}
-use Rattle.eevdf_ops.specs.Programs.{lines_by, wakes_from}
-use Rattle.eevdf_ops.specs.Setup.{Setup}
+use Rattle.eevdf_ops.specs.{declared.deeds.Line.Line, Programs.lines_by, Programs.wakes_from, Setup.Setup}
 use Rattle.eevdf_fleet.specs.declared.board.claims.Terms.{Terms}
 use Rattle.eevdf_fleet.specs.Rings.{Rings, Posts, Takes, Returned, ArePostsOf, left_of}
 

@@ -1,16 +1,12 @@
 -- What a program asks of its CPU's seat, and what the seat has when the program has run.
 use Rattle.std.specs.Prelude.{◌≡◌, ◌≤◌, ◌<◌, ◌+◌, ℕ, List, [], ◌∷◌, ◌++◌, length, max, slice_get, Some}
-use Rattle.std.specs.List.{sum_by}
-use Rattle.std.specs.Option.{option_to_list}
-use Rattle.eevdf_ops.specs.declared.deeds.Op.{Op}
+use Rattle.std.specs.{List.sum_by, Option.option_to_list}
+use Rattle.eevdf_ops.specs.{declared.deeds.Op.Op, declared.deeds.Line.Line, Followed.program_of, OwnRequests.AllFitWaiting}
+use Rattle.eevdf_ops.specs.OwnRequests.{own_waiting}
 use Rattle.eevdf_ops.specs.declared.deeds.Op.TheVariants.{Tick, Pick, Yield, Sleep, Post, Drain, Pull, Renice}
-use Rattle.eevdf_ops.specs.declared.deeds.Line.{Line}
-use Rattle.eevdf_ops.specs.Followed.{program_of}
-use Rattle.eevdf_ops.specs.OwnRequests.{AllFitWaiting, own_waiting}
 use Rattle.eevdf_ops.specs.Programs.{FitsOperation, FitsProgram, deeds_of, post_of, posts_in, wakes_from}
 use Rattle.eevdf_ops.specs.Setup.{Setup, cpus_of, homes_of}
-use Rattle.eevdf_fleet.specs.Drains.{oldest_own}
-use Rattle.eevdf_fleet.specs.Fleets.{Seat, posted_to}
+use Rattle.eevdf_fleet.specs.{Drains.oldest_own, Fleets.Seat, Fleets.posted_to}
 
 -- the room for lines that an operation asks for, of so many CPUs
 abbrev pub room_for : ℕ → Op → ℕ

@@ -1,7 +1,6 @@
 -- Room for the ends that are given back, and for what is left in the rings.
 use Rattle.std.specs.Prelude.{◌≡◌, ℕ, ◌*◌, ◌/◌, ◌%◌, ◌≤◌, ◌<◌, List, [], ◌++◌, length, slice_get, slice_index_or, Some, vec_capacity}
-use Rattle.std.specs.declared.alloc.Global.{Global}
-use Rattle.std.specs.declared.vec.Vec.{Vec}
+use Rattle.std.specs.{declared.alloc.Global.Global, declared.vec.Vec.Vec}
 use Rattle.eevdf_fleet.specs.RingEnds.{lists_of}
 use Rattle.eevdf_fleet.specs.Rings.{Posts, Takes, Returned, AllReturned, posts_at, takes_at, posted_to, taken_from}
 

@@ -1,10 +1,7 @@
 -- The ends of the rings, and what is seen of them.
 use Rattle.std.specs.Prelude.{◌≡◌, ℕ, ◌+◌, ◌≤◌, List, length, map, slice_get, Option, Some}
-use Rattle.std.specs.Option.{IsSomeAnd}
-use Rattle.std.specs.declared.alloc.Global.{Global}
-use Rattle.std.specs.declared.vec.Vec.{Vec}
-use Rattle.rtrb.specs.declared.AnyItems.{AnyItems}
-use Rattle.rtrb.specs.declared.consumer.Consumer.{Consumer}
+use Rattle.std.specs.{Option.IsSomeAnd, declared.alloc.Global.Global, declared.vec.Vec.Vec}
+use Rattle.rtrb.specs.{declared.AnyItems.AnyItems, declared.consumer.Consumer.Consumer}
 use Rattle.rtrb.specs.Ring.{sent, known_free, received, consumer_capacity, IsPair, SameProducer}
 use Rattle.eevdf_fleet.specs.Rings.{Ring, Posts, Takes}
 

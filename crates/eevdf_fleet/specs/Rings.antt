@@ -1,9 +1,7 @@
 -- The rings by which CPUs post requests to one another, as callers see them.
 use Rattle.std.specs.Prelude.{◌≡◌, ℕ, ◌+◌, ◌*◌, ◌<◌, List, [], ◌++◌, length, map, replicate, slice_get, slice_index_or, slice_set, Option}
-use Rattle.std.specs.List.{range_with_len}
-use Rattle.std.specs.declared.alloc.Global.{Global}
-use Rattle.rtrb.specs.declared.AnyItems.{AnyItems}
-use Rattle.rtrb.specs.declared.producer.Producer.{Producer}
+use Rattle.std.specs.{List.range_with_len, declared.alloc.Global.Global}
+use Rattle.rtrb.specs.{declared.AnyItems.AnyItems, declared.producer.Producer.Producer}
 
 -- a ring is named by its end that pushes, as it was opened
 abbrev pub Ring : Type 0

@@ -1,9 +1,8 @@
 -- The texts of what a fleet answers.
 use Rattle.std.specs.Prelude.{ℕ, List, ◌++◌, codes, decimal}
-use Rattle.eevdf_fleet.specs.declared.drains.Drained.{Drained}
-use Rattle.eevdf_fleet.specs.declared.rings.producer_ends.RingFull.{RingFull}
-use Rattle.eevdf_fleet.specs.declared.run_fault.RunFault.{RunFault}
-use Rattle.eevdf_fleet.specs.declared.run_fault.RunFault.TheVariants.{Memory, Start}
+use Rattle.eevdf_fleet.specs.{declared.drains.Drained.Drained, declared.rings.producer_ends.RingFull.RingFull}
+use Rattle.eevdf_fleet.specs.{declared.run_fault.RunFault.RunFault, declared.run_fault.RunFault.TheVariants.Memory}
+use Rattle.eevdf_fleet.specs.declared.run_fault.RunFault.TheVariants.{Start}
 
 abbrev pub seat_full_text : List ℕ
 seat_full_text = codes "seat full"

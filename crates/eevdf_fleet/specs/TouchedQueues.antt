@@ -1,19 +1,13 @@
 -- Deeds by the queues that they touch.
 use Rattle.std.specs.Prelude.{◌≡◌, ℕ, ◌+◌, ◌≤◌, List, [], ◌∷◌, Option}
-use Rattle.eevdf_queue.specs.State.{State, Contents}
-use Rattle.eevdf_queue.specs.Leaving.{carried_running}
-use Rattle.eevdf_ops.specs.declared.deeds.Deed.{Deed}
+use Rattle.eevdf_queue.specs.{State.State, State.Contents, Leaving.carried_running}
+use Rattle.eevdf_ops.specs.{declared.deeds.Deed.Deed, declared.deeds.Answer.Answer, declared.deeds.Answer.TheVariants.Nothing}
+use Rattle.eevdf_ops.specs.{declared.deeds.Line.Line, Places.places_in, Setup.home_of}
 use Rattle.eevdf_ops.specs.declared.deeds.Deed.TheVariants.{Tick, Pick, Yield, Sleep, Wake, Pull, Renice}
-use Rattle.eevdf_ops.specs.declared.deeds.Answer.{Answer}
-use Rattle.eevdf_ops.specs.declared.deeds.Answer.TheVariants.{Nothing}
-use Rattle.eevdf_ops.specs.declared.deeds.Line.{Line}
 use Rattle.eevdf_ops.specs.OneQueue.{one_tick, one_pick, one_yield, one_wake, one_renice}
 use Rattle.eevdf_ops.specs.Parts.{answer_of_sleep, answer_of_pull, taken, after_leaving, after_falling_asleep, after_joining}
-use Rattle.eevdf_ops.specs.Places.{places_in}
-use Rattle.eevdf_ops.specs.Setup.{home_of}
 use Rattle.eevdf_ops.specs.WholePull.{offer, load_of, decision}
-use Rattle.eevdf_fleet.specs.declared.board.claims.Claim.{Claim}
-use Rattle.eevdf_fleet.specs.declared.board.claims.Claim.TheVariants.{Queue}
+use Rattle.eevdf_fleet.specs.{declared.board.claims.Claim.Claim, declared.board.claims.Claim.TheVariants.Queue}
 
 -- a deed that touches the queue of its CPU alone
 abbrev pub IsOfOneQueue : List ℕ → Deed → Type 0

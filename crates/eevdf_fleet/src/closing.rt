@@ -1,12 +1,9 @@
 //! How a fleet is closed: what its seats and its locks kept is brought together.
 
 ghost use Rattle.std.specs.Prelude.{◌≡◌, ◌≤◌, ◌<◌, [], ◌∷◌, All, length, vec_len};
-ghost use Rattle.eevdf_ops.specs.Outcome.{machine_of};
-ghost use Rattle.eevdf_ops.specs.Programs.{lines_by};
-ghost use Rattle.eevdf_ops.specs.Setup.{cpus_of};
+ghost use Rattle.eevdf_ops.specs.{Outcome.machine_of, Programs.lines_by, Setup.cpus_of};
 ghost use Rattle.eevdf_fleet.specs.declared.board.claims.Claim.TheVariants as claim;
-ghost use Rattle.eevdf_fleet.specs.Board.{IsToken, claims_of};
-ghost use Rattle.eevdf_fleet.specs.Claims.{IsKept, told};
+ghost use Rattle.eevdf_fleet.specs.{Board.IsToken, Board.claims_of, Claims.IsKept, Claims.told};
 ghost use Rattle.eevdf_fleet.specs.Fleets.{AreSeats, given_back, returned, setup_of};
 
 use crate::board::Token;

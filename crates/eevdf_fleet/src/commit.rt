@@ -2,9 +2,7 @@
 
 ghost use Rattle.std.specs.Prelude.{◌≡◌, ◌<◌, ◌++◌, [], ◌∷◌, map};
 ghost use Rattle.eevdf_ops.specs.Parts.{decider};
-ghost use Rattle.eevdf_fleet.specs.Claims.{OwesQueues, advanced};
-ghost use Rattle.eevdf_fleet.specs.Board.{IsToken, claims_of};
-ghost use Rattle.eevdf_fleet.specs.Fleets.{written};
+ghost use Rattle.eevdf_fleet.specs.{Claims.OwesQueues, Claims.advanced, Board.IsToken, Board.claims_of, Fleets.written};
 
 use crate::board::{Said, Token};
 use crate::journal::Journal;

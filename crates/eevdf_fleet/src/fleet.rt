@@ -1,10 +1,7 @@
 ghost use Rattle.std.specs.Prelude.{◌≡◌, ◌≢◌, ◌*◌, ◌<◌, ◌≤◌, ◌↔◌, nat_lt, All, IfOk, IsErr, IsTrue, MatchResult, length, true};
 ghost use Rattle.std.specs.List.{list_all};
-ghost use Rattle.eevdf_ops.specs.Histories.{IsOneThread};
-ghost use Rattle.eevdf_ops.specs.Machine.{start};
-ghost use Rattle.eevdf_ops.specs.Outcome.{machine_of};
-ghost use Rattle.eevdf_ops.specs.Places.{IsPlaced};
-ghost use Rattle.eevdf_ops.specs.Programs.{deeds_of, lines_by};
+ghost use Rattle.eevdf_ops.specs.{Histories.IsOneThread, Machine.start, Outcome.machine_of, Places.IsPlaced, Programs.deeds_of};
+ghost use Rattle.eevdf_ops.specs.Programs.{lines_by};
 ghost use Rattle.eevdf_ops.specs.Setup.{allows, cpus_of, homes_of, is_task};
 ghost use Rattle.eevdf_fleet.specs.Drains.{HasDrained};
 ghost use Rattle.eevdf_fleet.specs.Fleets.{AllPostsTold, AreSeats, fresh_seats, logged, setup_of};
@@ -50,8 +47,7 @@ pub struct Fleet<N: Names> {
 
 impl<N: Names> Model for Fleet<N> {
     ghost use Rattle.std.specs.Prelude.{◌≡◌, ◌≤◌, vec_len};
-    ghost use Rattle.eevdf_ops.specs.Places.{AreCpus};
-    ghost use Rattle.eevdf_ops.specs.Setup.{cpus_of, homes_of};
+    ghost use Rattle.eevdf_ops.specs.{Places.AreCpus, Setup.cpus_of, Setup.homes_of};
     ghost use Rattle.eevdf_fleet.specs.Fleets.{setup_of};
 
     ghost Value = { Unit {0} };

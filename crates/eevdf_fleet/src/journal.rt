@@ -22,8 +22,7 @@ impl<N: Names> Model for Journal<N> {
     ghost use Rattle.std.specs.Prelude.{◌≡◌, ◌*◌, ◌≤◌, [], ◌∷◌, vec_capacity};
     ghost use Rattle.eevdf_ops.specs.Setup.{cpus_of};
     ghost use Rattle.eevdf_fleet.specs.declared.board.claims.Claim.TheVariants as claim;
-    ghost use Rattle.eevdf_fleet.specs.Board.{IsToken, claims_of};
-    ghost use Rattle.eevdf_fleet.specs.Fleets.{setup_of};
+    ghost use Rattle.eevdf_fleet.specs.{Board.IsToken, Board.claims_of, Fleets.setup_of};
 
     ghost invariant = { λ j. IsToken N.kit.board N.kit.terms j.token
         × (claims_of j.token ≡ claim.Journal j.lines.items ∷ [])

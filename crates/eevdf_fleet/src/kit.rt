@@ -30,11 +30,8 @@ impl Model for Kit {
     ghost view = { λ k. record { board = k.board.table.shared.table_id; terms = k.board.table.shared.key; rings = k.rings } };
 
     ghost use Rattle.std.specs.Prelude.{◌≡◌, ◌*◌, ◌≤◌, [], length, vec_len, vec_capacity};
-    ghost use Rattle.eevdf_ops.specs.Outcome.{machine_of};
-    ghost use Rattle.eevdf_ops.specs.Places.{AreCpus};
-    ghost use Rattle.eevdf_ops.specs.Setup.{cpus_of, homes_of};
-    ghost use Rattle.eevdf_fleet.specs.Board.{IsToken, claims_of};
-    ghost use Rattle.eevdf_fleet.specs.Claims.{claims_from};
+    ghost use Rattle.eevdf_ops.specs.{Outcome.machine_of, Places.AreCpus, Setup.cpus_of, Setup.homes_of};
+    ghost use Rattle.eevdf_fleet.specs.{Board.IsToken, Board.claims_of, Claims.claims_from};
 
     ghost invariant = { λ k. IsToken k.board.table.shared.table_id k.board.table.shared.key k.token
         × (claims_of k.token ≡ claims_from 0 (machine_of k.queues.items))

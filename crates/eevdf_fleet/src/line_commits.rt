@@ -1,11 +1,9 @@
 //! How a line is committed, by the queues that it has changed.
 
 ghost use Rattle.std.specs.Prelude.{◌≡◌, ◌≢◌, ◌<◌, [], ◌∷◌, true};
-ghost use Rattle.eevdf_ops.specs.Parts.{decider};
-ghost use Rattle.eevdf_ops.specs.Setup.{allows, homes_of};
+ghost use Rattle.eevdf_ops.specs.{Parts.decider, Setup.allows, Setup.homes_of};
 ghost use Rattle.eevdf_fleet.specs.declared.board.claims.Claim.TheVariants as claim;
-ghost use Rattle.eevdf_fleet.specs.Board.{IsToken, claims_of};
-ghost use Rattle.eevdf_fleet.specs.Fleets.{setup_of, written};
+ghost use Rattle.eevdf_fleet.specs.{Board.IsToken, Board.claims_of, Fleets.setup_of, Fleets.written};
 ghost use Rattle.eevdf_fleet.specs.TouchedQueues.{AreDoneFrom, IsDoneFrom, IsOfOneQueue, IsOfTwoQueues};
 
 use crate::board::{Change, Said, Token};

@@ -1,12 +1,9 @@
 //! How a fleet is opened from its kit.
 
 ghost use Rattle.std.specs.Prelude.{◌≡◌, ◌<◌, ◌≤◌, [], ◌∷◌, drop, take, vec_len, IfOk, length};
-ghost use Rattle.eevdf_ops.specs.Outcome.{machine_of};
-ghost use Rattle.eevdf_ops.specs.Places.{AreCpus};
-ghost use Rattle.eevdf_ops.specs.Setup.{cpus_of, homes_of};
+ghost use Rattle.eevdf_ops.specs.{Outcome.machine_of, Places.AreCpus, Setup.cpus_of, Setup.homes_of};
 ghost use Rattle.eevdf_fleet.specs.declared.board.claims.Claim.TheVariants as claim;
-ghost use Rattle.eevdf_fleet.specs.Board.{IsToken, claims_of};
-ghost use Rattle.eevdf_fleet.specs.Claims.{claims_from};
+ghost use Rattle.eevdf_fleet.specs.{Board.IsToken, Board.claims_of, Claims.claims_from};
 ghost use Rattle.eevdf_fleet.specs.Fleets.{fresh_log, fresh_logs, fresh_seats, setup_of};
 
 use crate::board::Token;

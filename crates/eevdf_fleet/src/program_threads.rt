@@ -2,13 +2,8 @@
 
 ghost use Rattle.std.specs.Prelude.{◌≡◌, ◌*◌, IfOk, length, true};
 ghost use Rattle.std.specs.List.{list_all};
-ghost use Rattle.eevdf_ops.specs.Followed.{FollowsPrograms, program_of};
-ghost use Rattle.eevdf_ops.specs.Histories.{IsOneThread};
-ghost use Rattle.eevdf_ops.specs.Machine.{start};
-ghost use Rattle.eevdf_ops.specs.Outcome.{machine_of};
-ghost use Rattle.eevdf_ops.specs.OwnRequests.{TakesOwnRequests};
-ghost use Rattle.eevdf_ops.specs.Places.{IsPlaced};
-ghost use Rattle.eevdf_ops.specs.Programs.{deeds_of};
+ghost use Rattle.eevdf_ops.specs.{Followed.FollowsPrograms, Followed.program_of, Histories.IsOneThread, Machine.start};
+ghost use Rattle.eevdf_ops.specs.{Outcome.machine_of, OwnRequests.TakesOwnRequests, Places.IsPlaced, Programs.deeds_of};
 ghost use Rattle.eevdf_ops.specs.Setup.{allows, cpus_of, homes_of};
 ghost use Rattle.eevdf_fleet.specs.Fleets.{setup_of};
 ghost use Rattle.eevdf_fleet.specs.ProgramRuns.{HasRun, quota_for, rings_for};

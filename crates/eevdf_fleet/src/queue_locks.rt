@@ -1,7 +1,6 @@
 //! How the locks of queues are taken.
 
-ghost use Rattle.std.specs.Prelude.{◌≡◌, ◌<◌};
-ghost use Rattle.std.specs.Sync.Mutex.{mutex_guard_value};
+ghost use Rattle.std.specs.{Prelude.◌≡◌, Prelude.◌<◌, Sync.Mutex.mutex_guard_value};
 ghost use Rattle.eevdf_ops.specs.Setup.{cpus_of};
 ghost use Rattle.eevdf_fleet.specs.Fleets.{setup_of};
 

@@ -27,8 +27,7 @@ impl<N: Names> Model for Seat<N> {
     ghost view = { λ s. seat_of s.log s.producers };
 
     ghost use Rattle.std.specs.Prelude.{◌≡◌};
-    ghost use Rattle.eevdf_ops.specs.Places.{AreCpus};
-    ghost use Rattle.eevdf_ops.specs.Setup.{cpus_of, homes_of};
+    ghost use Rattle.eevdf_ops.specs.{Places.AreCpus, Setup.cpus_of, Setup.homes_of};
     ghost use Rattle.eevdf_fleet.specs.Fleets.{AreParts, setup_of};
 
     ghost invariant = { λ s. AreParts (cpus_of (setup_of N.kit)) s.log s.producers s.consumers

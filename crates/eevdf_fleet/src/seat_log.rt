@@ -23,8 +23,7 @@ impl<N: Names> Model for SeatLog<N> {
     ghost use Rattle.std.specs.Prelude.{◌≡◌, ◌+◌, ◌≤◌, ◌<◌, [], ◌∷◌, vec_len, vec_capacity};
     ghost use Rattle.eevdf_ops.specs.Setup.{cpus_of};
     ghost use Rattle.eevdf_fleet.specs.declared.board.claims.Claim.TheVariants as claim;
-    ghost use Rattle.eevdf_fleet.specs.Board.{IsToken, claims_of};
-    ghost use Rattle.eevdf_fleet.specs.Fleets.{setup_of};
+    ghost use Rattle.eevdf_fleet.specs.{Board.IsToken, Board.claims_of, Fleets.setup_of};
 
     ghost invariant = { λ s. IsToken N.kit.board N.kit.terms s.token
         × (claims_of s.token ≡ claim.Seat s.cpu s.lines.items ∷ [])

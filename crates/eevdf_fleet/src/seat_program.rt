@@ -1,10 +1,7 @@
 //! How the program of a CPU is run by its seat.
 
 ghost use Rattle.std.specs.Prelude.{◌≡◌, ◌≢◌, ◌≤◌, ◌<◌, ℕ, [], length, None};
-ghost use Rattle.eevdf_ops.specs.Faults.{operation_fault};
-ghost use Rattle.eevdf_ops.specs.Followed.{program_of};
-ghost use Rattle.eevdf_ops.specs.Programs.{post_of};
-ghost use Rattle.eevdf_ops.specs.Setup.{cpus_of, homes_of};
+ghost use Rattle.eevdf_ops.specs.{Faults.operation_fault, Followed.program_of, Programs.post_of, Setup.cpus_of, Setup.homes_of};
 ghost use Rattle.eevdf_fleet.specs.Fleets.{fresh, posted_to, setup_of};
 ghost use Rattle.eevdf_fleet.specs.ProgramRuns.{HasOperated, HasRun, quota_for, rings_for, room_for};
 

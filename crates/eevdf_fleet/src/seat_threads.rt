@@ -2,8 +2,7 @@
 
 ghost use Rattle.std.specs.Prelude.{◌≡◌, IfOk};
 ghost use Rattle.eevdf_ops.specs.Setup.{cpus_of};
-ghost use Rattle.eevdf_fleet.specs.Fleets.{fresh_seats, setup_of};
-ghost use Rattle.eevdf_fleet.specs.SeatWorks.{AreDone};
+ghost use Rattle.eevdf_fleet.specs.{Fleets.fresh_seats, Fleets.setup_of, SeatWorks.AreDone};
 
 use crate::fleet::Fleet;
 use crate::names::Names;

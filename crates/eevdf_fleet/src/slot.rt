@@ -29,8 +29,7 @@ impl<N: Names> Model for Slot<N> {
     ghost use Rattle.std.specs.Prelude.{◌≡◌, ◌<◌, [], ◌∷◌};
     ghost use Rattle.eevdf_ops.specs.Setup.{cpus_of};
     ghost use Rattle.eevdf_fleet.specs.declared.board.claims.Claim.TheVariants as claim;
-    ghost use Rattle.eevdf_fleet.specs.Board.{IsToken, claims_of};
-    ghost use Rattle.eevdf_fleet.specs.Fleets.{setup_of};
+    ghost use Rattle.eevdf_fleet.specs.{Board.IsToken, Board.claims_of, Fleets.setup_of};
 
     ghost invariant = { λ s. IsToken N.kit.board N.kit.terms s.token
         × (claims_of s.token ≡ claim.Queue s.number s.queue.state ∷ [])

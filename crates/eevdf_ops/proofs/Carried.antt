@@ -1,22 +1,14 @@
 -- What a task carries that leaves a queue.
 use Rattle.std.proofs.Common.{◌≡◌, ℕ, ◌<◌, ◌≤◌, Bool, true, false, cond, List, [], ◌∷◌, length, set, refl, sym, ap, subst, ◌∙◌, arith}
 use Rattle.std.specs.Prelude.{◌==◌, Option, Some, None}
-use Rattle.std.specs.Option.{option_map, option_and_then}
-use Rattle.std.specs.FinMap.{get, entries}
-use Rattle.std.proofs.lemmas.Bool.Decides.{nat_tests}
-use Rattle.std.proofs.Math.ListN.{length-set}
-use Rattle.eevdf_queue.specs.declared.run_entry.Entry.{Entry}
-use Rattle.eevdf_queue.specs.State.{State, Contents}
-use Rattle.eevdf_queue.specs.Lag.{kept_lag}
-use Rattle.eevdf_queue.specs.Order.{is_before}
+use Rattle.std.specs.{Option.option_map, Option.option_and_then, FinMap.get, FinMap.entries}
+use Rattle.std.proofs.{lemmas.Bool.Decides.nat_tests, Math.ListN.length-set}
+use Rattle.eevdf_queue.specs.{declared.run_entry.Entry.Entry, State.State, State.Contents, Lag.kept_lag, Order.is_before}
 use Rattle.eevdf_queue.specs.Leaving.{leaving, carried, carried_running, leave, leave_running, without_entry}
 use Rattle.eevdf_queue.specs.Candidate.{is_running, candidate_of, latest_waiting, later}
-use Rattle.eevdf_ops.specs.Machine.{Machine, queue_at}
+use Rattle.eevdf_ops.specs.{Machine.Machine, Machine.queue_at, WholeSleep.task_leaves, WholePull.offer}
 use Rattle.eevdf_ops.specs.Places.{count, places_in, places}
-use Rattle.eevdf_ops.specs.WholeSleep.{task_leaves}
-use Rattle.eevdf_ops.specs.WholePull.{offer}
-use Rattle.eevdf_ops.proofs.QueuePlaces.{IsWithout, leave-without}
-use Rattle.eevdf_ops.proofs.MachinePlaces.{places-set, places-at}
+use Rattle.eevdf_ops.proofs.{QueuePlaces.IsWithout, QueuePlaces.leave-without, MachinePlaces.places-set, MachinePlaces.places-at}
 
 -- what a task carries that is runnable in a queue
 pub record Carries (q : State) (task : ℕ) (p : Contents) : Type 0 where

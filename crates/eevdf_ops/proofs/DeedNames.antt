@@ -1,14 +1,10 @@
 -- What is known of the CPUs that an allowed deed names.
 use Rattle.std.proofs.Common.{◌≡◌, ◌≢◌, ℕ, ◌<◌, Bool, true, false, not, ◌&&◌, List, length, refl, arith}
 use Rattle.std.specs.Prelude.{◌==◌, nat_lt}
-use Rattle.std.proofs.lemmas.Bool.{false≢true}
-use Rattle.std.proofs.lemmas.Bool.Decides.{nat_tests}
-use Rattle.eevdf_ops.specs.declared.deeds.Deed.{Deed}
+use Rattle.std.proofs.{lemmas.Bool.false≢true, lemmas.Bool.Decides.nat_tests}
+use Rattle.eevdf_ops.specs.{declared.deeds.Deed.Deed, Setup.is_task, Setup.is_allowed, Machine.Machine, Places.AreCpus}
 use Rattle.eevdf_ops.specs.declared.deeds.Deed.TheVariants.{Tick, Pick, Yield, Sleep, Wake, Pull, Renice}
-use Rattle.eevdf_ops.specs.Setup.{is_task, is_allowed}
-use Rattle.eevdf_ops.specs.Machine.{Machine}
 use Rattle.eevdf_ops.specs.Parts.{decider, giver, taker}
-use Rattle.eevdf_ops.specs.Places.{AreCpus}
 
 left : (a b : Bool) → (a && b) ≡ true → a ≡ true
 left true b e = refl

@@ -1,28 +1,19 @@
 -- Each task of the machine stays as the setup gives it.
 use Rattle.std.proofs.Common.{◌≡◌, ℕ, zero, suc, ◌+◌, zero-add, Bool, true, false, ◌||◌, List, [], ◌∷◌, set, replicate, refl, sym, ap, subst, ◌∙◌, arith}
 use Rattle.std.specs.Prelude.{◌==◌, ℤ, slice_get, Option, Some, None, Result, Ok, Err}
-use Rattle.std.proofs.lemmas.Bool.{false≢true}
-use Rattle.std.proofs.lemmas.Bool.Decides.{nat_tests}
+use Rattle.std.proofs.{lemmas.Bool.false≢true, lemmas.Bool.Decides.nat_tests}
 use Rattle.eevdf_queue.specs.State.{State, Contents, empty_state}
-use Rattle.eevdf_queue.specs.Moves.{put_asleep}
-use Rattle.eevdf_queue.specs.Tick.{tick}
-use Rattle.eevdf_queue.specs.Pick.{after_pick}
-use Rattle.eevdf_queue.specs.Yield.{yield_now}
-use Rattle.eevdf_queue.specs.Wake.{wake}
-use Rattle.eevdf_queue.specs.Renice.{renice}
-use Rattle.eevdf_queue.specs.Leaving.{carried_running, leave}
-use Rattle.eevdf_ops.specs.declared.task_spec.TaskSpec.{TaskSpec}
-use Rattle.eevdf_ops.specs.declared.deeds.Answer.{Answer}
-use Rattle.eevdf_ops.specs.declared.deeds.Deed.{Deed}
+use Rattle.eevdf_queue.specs.{Moves.put_asleep, Tick.tick, Pick.after_pick, Yield.yield_now, Wake.wake, Renice.renice}
+use Rattle.eevdf_queue.specs.{Leaving.carried_running, Leaving.leave}
+use Rattle.eevdf_ops.specs.{declared.task_spec.TaskSpec.TaskSpec, declared.deeds.Answer.Answer, declared.deeds.Deed.Deed}
+use Rattle.eevdf_ops.specs.{Whole.whole, Whole.machine_after}
 use Rattle.eevdf_ops.specs.declared.deeds.Deed.TheVariants.{Tick, Pick, Yield, Sleep, Wake, Pull, Renice}
 use Rattle.eevdf_ops.specs.Setup.{home_of, homes_of, cpus_of}
 use Rattle.eevdf_ops.specs.Machine.{Machine, queue_at, begin, beginner, begin_at_homes, start}
 use Rattle.eevdf_ops.specs.WholeSleep.{task_leaves, falls_asleep, sleep_carrying}
 use Rattle.eevdf_ops.specs.WholePull.{offer, load_of, decision, with_task, pull_decided}
-use Rattle.eevdf_ops.specs.Whole.{whole, machine_after}
 use Rattle.eevdf_ops.specs.Given.{renices, is_reniced, IsAsGiven, AreAsGiven, TasksStayAsGiven}
-use Rattle.eevdf_ops.proofs.MachinePlaces.{each-set}
-use Rattle.eevdf_ops.proofs.Pulling.{decision-taken}
+use Rattle.eevdf_ops.proofs.{MachinePlaces.each-set, Pulling.decision-taken}
 use Rattle.eevdf_ops.proofs.QueueValues.{
   Each,
   asleep-each,

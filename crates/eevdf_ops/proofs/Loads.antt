@@ -1,20 +1,16 @@
 -- How a load changes when a task leaves or joins.
 use Rattle.std.proofs.Common.{◌≡◌, ℕ, ◌+◌, Bool, true, false, cond, List, [], ◌∷◌, length, refl, sym, ap, subst, ◌∙◌, arith}
 use Rattle.std.specs.Prelude.{◌==◌, is_some, Option, Some, None}
-use Rattle.std.specs.Option.{unwrap_or}
-use Rattle.std.specs.declared.cmp.Ordering.{Ordering}
+use Rattle.std.specs.{Option.unwrap_or, declared.cmp.Ordering.Ordering, Cmp.nat_cmp_total, Cmp.unsigned_tied}
+use Rattle.std.specs.FinMap.Entries.{by_order}
 use Rattle.std.specs.declared.cmp.Ordering.TheVariants.{Less, Equal, Greater}
 use Rattle.std.specs.Ordering.{nat_cmp, is_eq, eq_by_cmp}
-use Rattle.std.specs.Cmp.{nat_cmp_total, unsigned_tied}
 use Rattle.std.specs.FinMap.{empty, insert, remove, get, entries, find, put, len-entries, len-empty, get-entries, get-insert, get-remove, entries-insert, same_map, nat_cmp-IsAntisymmetric}
-use Rattle.std.specs.FinMap.Entries.{by_order}
 use Rattle.std.proofs.lemmas.Bool.Decides.{nat_tests}
 use Rattle.eevdf_weight.specs.Weight.{weight_of}
-use Rattle.eevdf_queue.specs.declared.run_entry.Entry.{Entry}
-use Rattle.eevdf_queue.specs.State.{State, Contents}
+use Rattle.eevdf_queue.specs.{declared.run_entry.Entry.Entry, State.State, State.Contents, Leaving.leave, Leaving.without_entry}
 use Rattle.eevdf_queue.specs.Sums.{Tasks, sum_weights, total_weight}
 use Rattle.eevdf_queue.specs.Moves.{fresh_entry, is_entry_in_range, sleeper_of, with_runnable}
-use Rattle.eevdf_queue.specs.Leaving.{leave, without_entry}
 use Rattle.eevdf_queue.specs.Placing as placing
 use Rattle.eevdf_ops.specs.WholePull.{load_of, with_task}
 use Rattle.eevdf_ops.proofs.MapCounts.{equal}

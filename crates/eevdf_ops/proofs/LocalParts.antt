@@ -1,29 +1,19 @@
 -- Each deed as changes of single queues.
 use Rattle.std.proofs.Common.{◌≡◌, ◌≢◌, ℕ, ◌<◌, Bool, true, false, cond, ◌||◌, List, length, set, refl, sym, ap, ◌∙◌, arith}
 use Rattle.std.specs.Prelude.{◌==◌, Option, Some, None, Result, Ok, Err}
-use Rattle.std.proofs.Math.ListN.{length-set}
-use Rattle.std.proofs.lemmas.List.{get_or-set_same}
-use Rattle.std.proofs.lemmas.Bool.Decides.{nat_tests}
+use Rattle.std.proofs.{Math.ListN.length-set, lemmas.List.get_or-set_same, lemmas.Bool.Decides.nat_tests}
 use Rattle.eevdf_queue.specs.State.{State, Contents, empty_state}
-use Rattle.eevdf_queue.specs.Moves.{sleeper_of, put_asleep}
-use Rattle.eevdf_queue.specs.Placing.{can_place}
-use Rattle.eevdf_queue.specs.Leaving.{carried_running, leave}
-use Rattle.eevdf_ops.specs.declared.deeds.Deed.{Deed}
+use Rattle.eevdf_queue.specs.{Moves.sleeper_of, Moves.put_asleep, Placing.can_place, Leaving.carried_running, Leaving.leave}
+use Rattle.eevdf_ops.specs.{declared.deeds.Deed.Deed, declared.deeds.Answer.Answer, Setup.home_of, Machine.Machine}
+use Rattle.eevdf_ops.specs.{Machine.queue_at, Whole.whole, WholeSleep.sleep_carrying, WholeSleep.task_leaves}
 use Rattle.eevdf_ops.specs.declared.deeds.Deed.TheVariants.{Tick, Pick, Yield, Sleep, Wake, Pull, Renice}
-use Rattle.eevdf_ops.specs.declared.deeds.Answer.{Answer}
 use Rattle.eevdf_ops.specs.declared.deeds.Answer.TheVariants.{Nothing, Balanced, Range}
-use Rattle.eevdf_ops.specs.Setup.{home_of}
-use Rattle.eevdf_ops.specs.Machine.{Machine, queue_at}
 use Rattle.eevdf_ops.specs.OneQueue.{one_tick, one_pick, one_yield, one_wake, one_renice}
 use Rattle.eevdf_ops.specs.Parts.{decider, giver, taker, Moved, given, answer_of_sleep, answer_of_pull, local_answer, taken, after_leaving, after_falling_asleep, after_joining, only_at, local_after}
 use Rattle.eevdf_ops.specs.PartsLaws as laws
-use Rattle.eevdf_ops.specs.Whole.{whole}
-use Rattle.eevdf_ops.specs.WholeSleep.{sleep_carrying, task_leaves}
 use Rattle.eevdf_ops.specs.WholePull.{offer, load_of, is_lighter, decision, with_task, pull_decided}
-use Rattle.eevdf_ops.proofs.MapCounts.{equal}
-use Rattle.eevdf_ops.proofs.MachinePlaces.{other_queue}
-use Rattle.eevdf_ops.proofs.Pulling.{decision-taken, decided_at}
-use Rattle.eevdf_ops.proofs.DeedNames.{DeedNames, deed_names}
+use Rattle.eevdf_ops.proofs.{MapCounts.equal, MachinePlaces.other_queue, Pulling.decision-taken, Pulling.decided_at}
+use Rattle.eevdf_ops.proofs.{DeedNames.DeedNames, DeedNames.deed_names}
 
 unequal : (k c : ℕ) → (k == c) ≡ false → k ≢ c
 unequal k c e = grind (arith, nat_tests)

@@ -1,11 +1,9 @@
 -- How a step on a queue of a machine changes where tasks stand.
 use Rattle.std.proofs.Common.{◌≡◌, ◌≢◌, ℕ, zero, suc, ◌+◌, ◌<◌, ◌≤◌, true, List, [], ◌∷◌, length, set, arith}
-use Rattle.std.specs.Prelude.{◌==◌}
-use Rattle.std.specs.FinMap.{contains_key}
+use Rattle.std.specs.{Prelude.◌==◌, FinMap.contains_key}
 use Rattle.std.proofs.lemmas.List.{get_or-set_other}
 use Rattle.eevdf_queue.specs.State.{State, empty_state}
-use Rattle.eevdf_ops.specs.Setup.{home_of, is_task}
-use Rattle.eevdf_ops.specs.Machine.{Machine, queue_at}
+use Rattle.eevdf_ops.specs.{Setup.home_of, Setup.is_task, Machine.Machine, Machine.queue_at}
 use Rattle.eevdf_ops.specs.Places.{count, places_in, places, IsPlaced}
 use Rattle.eevdf_ops.proofs.QueuePlaces.{IsSame, IsWithout, IsWith}
 

@@ -1,16 +1,12 @@
 -- A list of queues and the machine that it is.
 use Rattle.std.proofs.Common.{Bool, true, false, ◌&&◌, ◌++◌, drop, drop-cons, add-one, append_assoc, ◌≡◌, ℕ, zero, suc, ◌+◌, ◌<◌, List, [], ◌∷◌, length, get_or, set, replicate, refl, sym, ap, ◌∙◌, arith}
-use Rattle.std.proofs.Math.ListN.{length-set, length-replicate}
-use Rattle.std.proofs.lemmas.Bool.{false≢true}
+use Rattle.std.proofs.{Math.ListN.length-set, Math.ListN.length-replicate, lemmas.Bool.false≢true}
 use Rattle.std.specs.List.{list_all}
-use Rattle.eevdf_ops.specs.declared.deeds.Deed.{Deed}
-use Rattle.eevdf_ops.specs.declared.deeds.Answer.{Answer}
-use Rattle.eevdf_ops.specs.declared.deeds.Line.{Line}
+use Rattle.eevdf_ops.specs.{declared.deeds.Deed.Deed, declared.deeds.Answer.Answer, declared.deeds.Line.Line}
+use Rattle.eevdf_ops.specs.{declared.task_spec.TaskSpec.TaskSpec, Outcome.machine_of}
 use Rattle.eevdf_ops.specs.Whole.{whole, lines_of, machine_after}
 use Rattle.eevdf_queue.specs.State.{State, View, Contents, empty_state}
-use Rattle.eevdf_ops.specs.declared.task_spec.TaskSpec.{TaskSpec}
 use Rattle.eevdf_ops.specs.Machine.{Machine, queue_at, begin, beginner, joined, begin_at_homes}
-use Rattle.eevdf_ops.specs.Outcome.{machine_of}
 
 get_machine : (queues : List View) (k : ℕ) (d : View) → k < length queues → get_or (machine_of queues) k empty_state ≡ (get_or queues k d).state
 get_machine [] k d h = absurd (omega arith)

@@ -1,8 +1,7 @@
 -- What holds of each value of a map, after a write.
 use Rattle.std.proofs.Common.{◌≡◌, ℕ, Bool, true, false, cond, sym, subst, ◌∙◌}
 use Rattle.std.specs.Prelude.{◌==◌, Option, Some, None}
-use Rattle.std.specs.Ordering.{nat_cmp, eq_by_cmp}
-use Rattle.std.specs.Cmp.{nat_cmp_total, unsigned_tied}
+use Rattle.std.specs.{Ordering.nat_cmp, Ordering.eq_by_cmp, Cmp.nat_cmp_total, Cmp.unsigned_tied}
 use Rattle.std.specs.FinMap.{FinMap, get, insert, remove, get-insert, get-remove}
 use Rattle.eevdf_ops.proofs.MapCounts.{equal}
 

@@ -3,18 +3,12 @@ use Rattle.std.proofs.Common.{◌≡◌, ℕ, Bool, true, false, ◌&&◌, List,
 use Rattle.std.specs.List.{list_all}
 use Rattle.std.proofs.lemmas.Bool.{false≢true}
 use Rattle.eevdf_queue.specs.State.{State}
-use Rattle.eevdf_ops.specs.declared.deeds.Deed.{Deed}
-use Rattle.eevdf_ops.specs.declared.deeds.Answer.{Answer}
-use Rattle.eevdf_ops.specs.declared.deeds.Line.{Line}
-use Rattle.eevdf_ops.specs.Setup.{is_allowed}
-use Rattle.eevdf_ops.specs.Machine.{Machine}
+use Rattle.eevdf_ops.specs.{declared.deeds.Deed.Deed, declared.deeds.Answer.Answer, declared.deeds.Line.Line, Setup.is_allowed}
+use Rattle.eevdf_ops.specs.{Machine.Machine, Places.AreCpus, Whole.whole, Whole.lines_of}
 use Rattle.eevdf_ops.specs.PartsHistory as history
 use Rattle.eevdf_ops.specs.PartsHistory.{Step, deeds_in, replayed, AgreesAlong, IsHistory}
 use Rattle.eevdf_ops.specs.PartsLaws as laws
-use Rattle.eevdf_ops.specs.Places.{AreCpus}
-use Rattle.eevdf_ops.specs.Whole.{whole, lines_of}
-use Rattle.eevdf_ops.proofs.PartsProofs.{parts_make_the_whole}
-use Rattle.eevdf_ops.proofs.WholePlaces.{length-whole}
+use Rattle.eevdf_ops.proofs.{PartsProofs.parts_make_the_whole, WholePlaces.length-whole}
 
 both : (a b : Bool) → (a && b) ≡ true → (a ≡ true) × (b ≡ true)
 both true b e = (refl, e)

@@ -1,20 +1,13 @@
 -- The laws of the deeds by parts.
 use Rattle.std.proofs.Common.{◌≡◌, ℕ, zero, suc, Bool, true, false, ◌||◌, List, [], ◌∷◌, length, refl, sym, ap, subst, ◌∙◌, arith}
 use Rattle.std.specs.Prelude.{◌==◌, ◌&&◌}
-use Rattle.std.proofs.lemmas.List.{get_or-set_same}
-use Rattle.std.proofs.lemmas.Bool.Decides.{nat_tests}
+use Rattle.std.proofs.{lemmas.List.get_or-set_same, lemmas.Bool.Decides.nat_tests}
 use Rattle.eevdf_queue.specs.State.{State, empty_state}
-use Rattle.eevdf_ops.specs.declared.deeds.Deed.{Deed}
-use Rattle.eevdf_ops.specs.declared.deeds.Answer.{Answer}
-use Rattle.eevdf_ops.specs.Setup.{is_allowed}
-use Rattle.eevdf_ops.specs.Machine.{Machine, queue_at}
-use Rattle.eevdf_ops.specs.OneQueue.{one_wake}
-use Rattle.eevdf_ops.specs.Places.{AreCpus}
+use Rattle.eevdf_ops.specs.{declared.deeds.Deed.Deed, declared.deeds.Answer.Answer, Setup.is_allowed, Machine.Machine}
+use Rattle.eevdf_ops.specs.{Machine.queue_at, OneQueue.one_wake, Places.AreCpus, Whole.whole}
 use Rattle.eevdf_ops.specs.Parts.{decider, giver, taker, touches, Moved, given, Agrees, local_answer, local_after}
 use Rattle.eevdf_ops.specs.PartsLaws as laws
-use Rattle.eevdf_ops.specs.Whole.{whole}
-use Rattle.eevdf_ops.proofs.MachinePlaces.{other_queue}
-use Rattle.eevdf_ops.proofs.WholePlaces.{length-whole}
+use Rattle.eevdf_ops.proofs.{MachinePlaces.other_queue, WholePlaces.length-whole}
 use Rattle.eevdf_ops.proofs.LocalParts.{moved_by, whole-answer, whole-after, others_stay}
 
 same : (c : ℕ) → (c == c) ≡ true

@@ -2,8 +2,7 @@
 use Rattle.std.proofs.Common.{◌≡◌, ℕ, zero, suc, ◌+◌, ◌/◌, ◌^◌, ◌<◌, ◌≤◌, List, [], ◌∷◌, Option, Some, None, length, get_or, set, refl, sym, ap, subst, ◌∙◌, arith}
 use Rattle.std.specs.Prelude.{IsNone, IfSome, MatchOption}
 use Rattle.std.specs.FinMap as finite
-use Rattle.eevdf_queue.specs.State.{State, View}
-use Rattle.eevdf_queue.specs.Pick.{pick_of}
+use Rattle.eevdf_queue.specs.{State.State, State.View, Pick.pick_of}
 use Rattle.eevdf_ops.specs.PickTurns.{ArePickTurns, turns_of}
 
 descent : (o : Option ℕ) (n turns : ℕ) → (IsNone o → turns ≡ 0) → IfSome o (λ _. 1 ≤ turns) → IfSome o (λ _. 2 ^ (turns / 2) ≤ n + 1)

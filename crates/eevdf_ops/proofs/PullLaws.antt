@@ -3,27 +3,19 @@ use Rattle.std.proofs.Common.{◌≡◌, ◌≢◌, ℕ, ◌+◌, ◌<◌, ◌�
 use Rattle.std.specs.Prelude.{nat_lt, is_some, Option, Some, None, Result, Ok, Err}
 use Rattle.std.specs.Int.{abs_diff}
 use Rattle.std.specs.FinMap as finite
-use Rattle.std.proofs.Math.ListN.{length-set}
-use Rattle.std.proofs.lemmas.List.{get_or-set_same}
-use Rattle.std.proofs.lemmas.Bool.Decides.{nat_tests}
+use Rattle.std.proofs.{Math.ListN.length-set, lemmas.List.get_or-set_same, lemmas.Bool.Decides.nat_tests}
 use Rattle.eevdf_weight.specs.Weight.{weight_of}
 use Rattle.eevdf_weight.proofs.Weighing.{weight_of-least}
 use Rattle.eevdf_queue.specs.State.{State, Contents, empty_state}
-use Rattle.eevdf_queue.specs.Moves.{sleeper_of}
-use Rattle.eevdf_queue.specs.Placing.{can_place}
-use Rattle.eevdf_queue.specs.Leaving.{leave}
-use Rattle.eevdf_ops.specs.declared.deeds.Answer.{Answer}
+use Rattle.eevdf_queue.specs.{Moves.sleeper_of, Placing.can_place, Leaving.leave}
+use Rattle.eevdf_ops.specs.{declared.deeds.Answer.Answer, Machine.Machine, Machine.queue_at, WholeSleep.task_leaves}
 use Rattle.eevdf_ops.specs.declared.deeds.Answer.TheVariants.{Pulled, Balanced, Range}
-use Rattle.eevdf_ops.specs.Machine.{Machine, queue_at}
 use Rattle.eevdf_ops.specs.Places.{count, places_in, IsPlaced}
-use Rattle.eevdf_ops.specs.WholeSleep.{task_leaves}
 use Rattle.eevdf_ops.specs.WholePull.{offer, load_of, is_lighter, decision, with_task, task_joins, pull, pull_decided}
 use Rattle.eevdf_ops.specs.Laws as laws
-use Rattle.eevdf_ops.proofs.MachinePlaces.{other_queue}
-use Rattle.eevdf_ops.proofs.Carried.{Carries, offer-carries}
+use Rattle.eevdf_ops.proofs.{MachinePlaces.other_queue, Carried.Carries, Carried.offer-carries, WholePlaces.stands_nowhere}
+use Rattle.eevdf_ops.proofs.{WholePlaces.leaves-placed, DeedNames.PullNames, DeedNames.pull_names}
 use Rattle.eevdf_ops.proofs.Pulling.{IsTaken, decision-taken, decided_at}
-use Rattle.eevdf_ops.proofs.WholePlaces.{stands_nowhere, leaves-placed}
-use Rattle.eevdf_ops.proofs.DeedNames.{PullNames, pull_names}
 use Rattle.eevdf_ops.proofs.Loads.{load-leave, load-with, load-empty}
 
 -- no refusal is an answer that a task was pulled

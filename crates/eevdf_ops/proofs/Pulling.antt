@@ -2,19 +2,13 @@
 use Rattle.std.proofs.Common.{◌≡◌, ◌≢◌, ℕ, ◌<◌, ◌≤◌, length, arith, Bool, true, false, cond, refl, sym, ap, subst, ◌∙◌}
 use Rattle.std.specs.Prelude.{is_some, Option, Some, None, Result, Ok, Err}
 use Rattle.std.specs.Option.{unwrap_or}
-use Rattle.eevdf_queue.specs.declared.run_entry.Entry.{Entry}
-use Rattle.eevdf_queue.specs.State.{State, Contents}
-use Rattle.eevdf_queue.specs.Moves.{sleeper_of, with_runnable}
+use Rattle.eevdf_queue.specs.{declared.run_entry.Entry.Entry, State.State, State.Contents, Moves.sleeper_of, Moves.with_runnable}
+use Rattle.eevdf_queue.specs.{Candidate.is_running, Leaving.carried, Leaving.leave}
 use Rattle.eevdf_queue.specs.Placing.{can_place, put, placed_entry}
-use Rattle.eevdf_queue.specs.Candidate.{is_running}
-use Rattle.eevdf_queue.specs.Leaving.{carried, leave}
-use Rattle.eevdf_ops.specs.declared.deeds.Answer.{Answer}
-use Rattle.eevdf_ops.specs.declared.deeds.Answer.TheVariants.{Balanced, Range}
-use Rattle.eevdf_ops.specs.Machine.{Machine, queue_at}
-use Rattle.eevdf_ops.specs.PullOffer.{task_of}
+use Rattle.eevdf_ops.specs.{declared.deeds.Answer.Answer, declared.deeds.Answer.TheVariants.Balanced}
+use Rattle.eevdf_ops.specs.{declared.deeds.Answer.TheVariants.Range, Machine.Machine, Machine.queue_at, PullOffer.task_of}
+use Rattle.eevdf_ops.specs.{Places.places, Places.places_in, WholeSleep.task_leaves}
 use Rattle.eevdf_ops.specs.WholePull.{offer, is_lighter, load_of, decision, with_task, task_joins, pull, pull_decided}
-use Rattle.eevdf_ops.specs.Places.{places, places_in}
-use Rattle.eevdf_ops.specs.WholeSleep.{task_leaves}
 use Rattle.std.proofs.Math.ListN.{length-set}
 use Rattle.eevdf_ops.proofs.MachinePlaces.{other_queue}
 use Rattle.eevdf_ops.proofs.Carried.{Carries, carried-carries, offer-carried, offer-waits, left-nowhere}

@@ -4,7 +4,7 @@ use Rattle.std.specs.Prelude.{◌==◌, ℤ, is_some, Option, Some, None}
 use Rattle.std.specs.FinMap.{get, contains_key, insert, remove}
 use Rattle.std.proofs.lemmas.Bool.{false≢true}
 use Rattle.eevdf_weight.specs.Limits.{is_in_range}
-use Rattle.eevdf_queue.specs.declared.run_entry.Entry.{Entry}
+use Rattle.eevdf_queue.specs.{declared.run_entry.Entry.Entry, Placing.placed_entry, Leaving.without_entry}
 use Rattle.eevdf_queue.specs.declared.answers.TickAnswer.TheVariants as tick_answer
 use Rattle.eevdf_queue.specs.declared.answers.YieldAnswer.TheVariants as yield_answer
 use Rattle.eevdf_queue.specs.State.{State, Sleeper, Contents}
@@ -14,8 +14,6 @@ use Rattle.eevdf_queue.specs.Pick.{after_pick, picked_by, pick_of}
 use Rattle.eevdf_queue.specs.Yield.{yield_now, yield_running, yield_entry, yield_to, yielded}
 use Rattle.eevdf_queue.specs.Wake.{wake, wake_sleeper, wake_to}
 use Rattle.eevdf_queue.specs.Renice.{reniced, renice, renice_entry, renice_to}
-use Rattle.eevdf_queue.specs.Placing.{placed_entry}
-use Rattle.eevdf_queue.specs.Leaving.{without_entry}
 use Rattle.eevdf_ops.specs.Places.{count, places_in}
 use Rattle.eevdf_ops.proofs.Loads.{gone}
 use Rattle.eevdf_ops.proofs.MapCounts.{count-insert, count-remove, contains-change, contains-removed}

@@ -5,11 +5,10 @@ use Rattle.std.specs.Option.{option_map, option_and_then, unwrap_or}
 use Rattle.std.specs.Ordering.{nat_cmp}
 use Rattle.std.specs.FinMap.{get, insert, get-empty}
 use Rattle.eevdf_weight.specs.Limits.{is_in_range}
-use Rattle.eevdf_queue.specs.declared.run_entry.Entry.{Entry}
+use Rattle.eevdf_queue.specs.{declared.run_entry.Entry.Entry, Lag.kept_lag, Candidate.is_running, Candidate.candidate_of}
 use Rattle.eevdf_queue.specs.declared.answers.TickAnswer.TheVariants as tick_answer
 use Rattle.eevdf_queue.specs.declared.answers.YieldAnswer.TheVariants as yield_answer
 use Rattle.eevdf_queue.specs.State.{State, Sleeper, Contents, empty_state}
-use Rattle.eevdf_queue.specs.Lag.{kept_lag}
 use Rattle.eevdf_queue.specs.Moves.{fresh_entry, is_entry_in_range, put_asleep, sleeper_of, with_runnable}
 use Rattle.eevdf_queue.specs.Tick.{aged, tick, tick_running, tick_entry, tick_to, charged, is_used_up}
 use Rattle.eevdf_queue.specs.Pick.{after_pick, picked_by, pick_of}
@@ -17,10 +16,8 @@ use Rattle.eevdf_queue.specs.Yield.{yield_now, yield_running, yield_entry, yield
 use Rattle.eevdf_queue.specs.Wake.{wake, wake_sleeper, wake_to}
 use Rattle.eevdf_queue.specs.Renice.{reniced, renice, renice_entry, renice_to}
 use Rattle.eevdf_queue.specs.Placing.{placement, placed_entry, put}
-use Rattle.eevdf_queue.specs.Candidate.{is_running, candidate_of}
 use Rattle.eevdf_queue.specs.Leaving.{leaving, carried, carried_running, leave, without_entry}
-use Rattle.eevdf_ops.specs.Machine.{joined}
-use Rattle.eevdf_ops.specs.WholePull.{offer, with_task}
+use Rattle.eevdf_ops.specs.{Machine.joined, WholePull.offer, WholePull.with_task}
 use Rattle.eevdf_ops.proofs.MapValues.{each-insert, each-remove}
 
 -- something holds of each task, runnable and asleep, with its nice level and slice

@@ -1,14 +1,11 @@
 -- What a setup without a fault gives for its parts.
 use Rattle.std.proofs.Common.{◌≡◌, ℕ, zero, suc, ◌+◌, ◌<◌, ◌≤◌, Bool, true, false, List, [], ◌∷◌, length, get_or, sym, subst, arith, refl}
-use Rattle.std.proofs.lemmas.Bool.{leb-true}
-use Rattle.std.proofs.lemmas.List.{length-map}
+use Rattle.std.proofs.{lemmas.Bool.leb-true, lemmas.List.length-map}
 use Rattle.std.specs.Prelude.{Option, Some, None, nat_le}
 use Rattle.std.specs.Option.{option_or}
-use Rattle.eevdf_ops.specs.declared.task_spec.TaskSpec.{TaskSpec}
-use Rattle.eevdf_ops.specs.declared.deeds.Op.{Op}
-use Rattle.eevdf_ops.specs.declared.setup_fault.SetupFault.{SetupFault}
-use Rattle.eevdf_ops.specs.Faults.{is_count, operation_fault, operations_fault, program_fault, programs_fault, setup_fault, tasks_fault, unless}
+use Rattle.eevdf_ops.specs.{declared.task_spec.TaskSpec.TaskSpec, declared.deeds.Op.Op, declared.setup_fault.SetupFault.SetupFault}
 use Rattle.eevdf_ops.specs.Followed.{program_of}
+use Rattle.eevdf_ops.specs.Faults.{is_count, operation_fault, operations_fault, program_fault, programs_fault, setup_fault, tasks_fault, unless}
 use Rattle.eevdf_ops.specs.Numbers.{most_cpus, most_operations, most_tasks}
 use Rattle.eevdf_ops.specs.Setup.{Setup, cpus_of, homes_of}
 

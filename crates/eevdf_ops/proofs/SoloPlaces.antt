@@ -3,17 +3,11 @@ use Rattle.std.proofs.Common.{◌≡◌, ℕ, ◌++◌, true, List, length, map,
 use Rattle.std.specs.Prelude.{None}
 use Rattle.std.proofs.Math.Seq.{take-append_seam}
 use Rattle.eevdf_queue.specs.State.{View, empty_state}
-use Rattle.eevdf_ops.specs.declared.task_spec.TaskSpec.{TaskSpec}
-use Rattle.eevdf_ops.specs.declared.deeds.Deed.{Deed}
-use Rattle.eevdf_ops.specs.Faults.{tasks_fault}
-use Rattle.eevdf_ops.specs.Setup.{is_allowed}
-use Rattle.eevdf_ops.specs.Machine.{Machine, begin_at_homes}
-use Rattle.eevdf_ops.specs.Outcome.{machine_of}
-use Rattle.eevdf_ops.specs.Places.{AreCpus, IsPlaced}
+use Rattle.eevdf_ops.specs.{declared.task_spec.TaskSpec.TaskSpec, declared.deeds.Deed.Deed, Faults.tasks_fault, Setup.is_allowed}
+use Rattle.eevdf_ops.specs.{Machine.Machine, Machine.begin_at_homes, Outcome.machine_of, Places.AreCpus, Places.IsPlaced}
 use Rattle.eevdf_ops.specs.Whole.{whole}
-use Rattle.eevdf_ops.proofs.Machines.{length-machine_of, start_has}
-use Rattle.eevdf_ops.proofs.WholePlaces.{whole-placed, length-whole}
-use Rattle.eevdf_ops.proofs.StartingPlaces.{start-placed, homes-cpus}
+use Rattle.eevdf_ops.proofs.{Machines.length-machine_of, Machines.start_has, WholePlaces.whole-placed, WholePlaces.length-whole}
+use Rattle.eevdf_ops.proofs.{StartingPlaces.start-placed, StartingPlaces.homes-cpus}
 
 abbrev pub AreKept : List ℕ → List View → Type 0
 AreKept homes queues = AreCpus (length queues) homes × IsPlaced homes (machine_of queues)

@@ -1,9 +1,8 @@
 -- What a setup without a fault gives for each task, and where a task isn't yet while the tasks begin.
 use Rattle.std.proofs.Common.{◌≡◌, ◌≢◌, ℕ, zero, suc, ◌+◌, ◌<◌, Bool, true, false, cond, List, [], ◌∷◌, length, get_or, set, sym, subst, ap, ◌∙◌, arith}
 use Rattle.std.specs.Prelude.{Some, None, nat_lt, ◌==◌, replicate}
-use Rattle.std.specs.Ordering.{nat_cmp, eq_by_cmp}
+use Rattle.std.specs.{Ordering.nat_cmp, Ordering.eq_by_cmp, Cmp.nat_cmp_total, Cmp.unsigned_tied}
 use Rattle.std.specs.FinMap as finite
-use Rattle.std.specs.Cmp.{nat_cmp_total, unsigned_tied}
 use Rattle.std.proofs.lemmas.Bool.Decides.{nat_tests}
 use Rattle.eevdf_queue.specs.Leaving.{IsNowhere}
 use Rattle.eevdf_queue.specs.State.{State, Contents, empty_state}

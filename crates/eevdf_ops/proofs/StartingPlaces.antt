@@ -2,24 +2,16 @@
 use Rattle.std.proofs.Common.{◌≡◌, ℕ, zero, suc, ◌+◌, ◌-◌, ◌<◌, ◌≤◌, Bool, true, false, ◌&&◌, ◌||◌, List, [], ◌∷◌, length, map, replicate, refl, sym, ap, ◌∙◌, arith}
 use Rattle.std.specs.Prelude.{nat_lt, nat_le, ◌==◌, is_some, None}
 use Rattle.std.specs.FinMap.{contains_key}
-use Rattle.std.proofs.Math.ListN.{length-replicate}
-use Rattle.std.proofs.lemmas.List.{length-map}
-use Rattle.std.proofs.lemmas.Bool.{false≢true}
-use Rattle.std.proofs.lemmas.Bool.Decides.{nat_tests}
-use Rattle.eevdf_queue.specs.Leaving.{IsNowhere}
-use Rattle.eevdf_queue.specs.Moves.{fresh_entry, sleeper_of}
+use Rattle.std.proofs.{Math.ListN.length-replicate, lemmas.List.length-map, lemmas.Bool.false≢true, lemmas.Bool.Decides.nat_tests}
+use Rattle.eevdf_queue.specs.{Leaving.IsNowhere, Moves.fresh_entry, Moves.sleeper_of}
 use Rattle.eevdf_queue.specs.State.{State, Contents, empty_state}
-use Rattle.eevdf_ops.specs.declared.task_spec.TaskSpec.{TaskSpec}
-use Rattle.eevdf_ops.specs.Faults.{tasks_fault, task_fault}
-use Rattle.eevdf_ops.specs.Setup.{home_of}
+use Rattle.eevdf_ops.specs.{declared.task_spec.TaskSpec.TaskSpec, Faults.tasks_fault, Faults.task_fault, Setup.home_of}
 use Rattle.eevdf_ops.specs.Machine.{Machine, queue_at, joined, beginner, begin, begin_at_homes}
 use Rattle.eevdf_ops.specs.Places.{count, places, IsPlaced, AreCpus}
-use Rattle.eevdf_ops.proofs.Machines.{length-begin_at_homes}
+use Rattle.eevdf_ops.proofs.{Machines.length-begin_at_homes, MachinePlaces.places-set, MachinePlaces.each-set}
+use Rattle.eevdf_ops.proofs.{SetupFaults.or_none_left, SetupFaults.or_none_right, QueuePlaces.IsWith}
 use Rattle.eevdf_ops.proofs.MapCounts.{equal, count-insert, contains-insert}
-use Rattle.eevdf_ops.proofs.MachinePlaces.{places-set, each-set}
-use Rattle.eevdf_ops.proofs.SetupFaults.{or_none_left, or_none_right}
 use Rattle.eevdf_ops.proofs.Starting.{absent_before, absent_nowhere, absent_empty, begins_well}
-use Rattle.eevdf_ops.proofs.QueuePlaces.{IsWith}
 
 abbrev homes : List TaskSpec → List ℕ
 homes ts = map (λ (t : TaskSpec). t.home) ts

@@ -1,25 +1,17 @@
 -- Deeds that are allowed keep each task in one place, and a sleeping one at its home.
 use Rattle.std.proofs.Common.{◌≡◌, ◌≢◌, ℕ, ◌+◌, ◌<◌, ◌≤◌, Bool, true, false, ◌||◌, List, length, refl, sym, ap, ◌∙◌, arith}
 use Rattle.std.specs.Prelude.{◌==◌, Option, Some, None, Result, Ok, Err}
-use Rattle.std.specs.Option.{unwrap_or}
-use Rattle.std.specs.FinMap.{contains_key}
-use Rattle.std.proofs.Math.ListN.{length-set}
-use Rattle.std.proofs.lemmas.Bool.{false≢true}
-use Rattle.std.proofs.lemmas.Bool.Decides.{nat_tests}
-use Rattle.eevdf_queue.specs.declared.run_entry.Entry.{Entry}
-use Rattle.eevdf_queue.specs.State.{State, Contents}
+use Rattle.std.specs.{Option.unwrap_or, FinMap.contains_key}
+use Rattle.std.proofs.{Math.ListN.length-set, lemmas.Bool.false≢true, lemmas.Bool.Decides.nat_tests}
+use Rattle.eevdf_queue.specs.{declared.run_entry.Entry.Entry, State.State, State.Contents, Leaving.carried_running, Leaving.leave}
+use Rattle.eevdf_queue.specs.{Placing.can_place, Placing.placed_entry}
 use Rattle.eevdf_queue.specs.Moves.{put_asleep, sleeper_of, with_runnable}
-use Rattle.eevdf_queue.specs.Leaving.{carried_running, leave}
-use Rattle.eevdf_queue.specs.Placing.{can_place, placed_entry}
-use Rattle.eevdf_ops.specs.declared.deeds.Answer.{Answer}
-use Rattle.eevdf_ops.specs.declared.deeds.Deed.{Deed}
+use Rattle.eevdf_ops.specs.{declared.deeds.Answer.Answer, declared.deeds.Deed.Deed, Machine.Machine, Machine.queue_at, Whole.whole}
 use Rattle.eevdf_ops.specs.declared.deeds.Deed.TheVariants.{Tick, Pick, Yield, Sleep, Wake, Pull, Renice}
 use Rattle.eevdf_ops.specs.Setup.{home_of, is_task, is_allowed}
-use Rattle.eevdf_ops.specs.Machine.{Machine, queue_at}
 use Rattle.eevdf_ops.specs.Places.{count, places_in, places, IsPlaced, AreCpus}
 use Rattle.eevdf_ops.specs.WholeSleep.{task_leaves, falls_asleep, sleep, sleep_carrying}
 use Rattle.eevdf_ops.specs.WholePull.{offer, load_of, decision, with_task, task_joins, pull, pull_decided}
-use Rattle.eevdf_ops.specs.Whole.{whole}
 use Rattle.eevdf_ops.proofs.Carried.{Carries, running-carries, offer-carries, leaves-without}
 use Rattle.eevdf_ops.proofs.Pulling.{IsTaken, decision-taken, with_task-put}
 use Rattle.eevdf_ops.proofs.DeedNames.{DeedNames, deed_names, PullNames, pull_names}

@@ -2,13 +2,11 @@
 use Rattle.std.specs.Prelude.{◌≡◌, ◌⊎◌, ℕ, ◌+◌, nat_lt, nat_le, Bool, ◌&&◌, List, [], ◌∷◌, length, if◌then◌else◌, Option, Some, None, Result, MatchResult}
 use Rattle.std.specs.Option.{option_or}
 use Rattle.eevdf_queue.specs.Moves.{fresh_entry, is_entry_in_range}
-use Rattle.eevdf_ops.specs.declared.task_spec.TaskSpec.{TaskSpec}
-use Rattle.eevdf_ops.specs.declared.deeds.Op.{Op}
+use Rattle.eevdf_ops.specs.{declared.task_spec.TaskSpec.TaskSpec, declared.deeds.Op.Op, declared.setup_fault.SetupFault.SetupFault}
+use Rattle.eevdf_ops.specs.{Setup.Setup, Setup.is_source}
 use Rattle.eevdf_ops.specs.declared.deeds.Op.TheVariants as op
-use Rattle.eevdf_ops.specs.declared.setup_fault.SetupFault.{SetupFault}
 use Rattle.eevdf_ops.specs.declared.setup_fault.SetupFault.TheVariants.{BadCpus, BadTasks, BadHome, BadStart, TooLong, UnknownTask, BadPull, Memory}
 use Rattle.eevdf_ops.specs.Numbers.{most_cpus, most_tasks, most_operations}
-use Rattle.eevdf_ops.specs.Setup.{Setup, is_source}
 
 -- a fault, unless the test passes
 abbrev pub unless : Bool → SetupFault → Option SetupFault

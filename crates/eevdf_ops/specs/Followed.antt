@@ -1,8 +1,7 @@
 -- What an outcome has to do with the programs of its setup.
 use Rattle.std.specs.Prelude.{◌≡◌, ℕ, ◌*◌, ◌+◌, ◌<◌, List, [], ◌++◌, slice_index_or}
-use Rattle.eevdf_ops.specs.declared.deeds.Op.{Op}
+use Rattle.eevdf_ops.specs.{declared.deeds.Op.Op, Outcome.Outcome}
 use Rattle.eevdf_ops.specs.Setup.{Setup, cpus_of, homes_of}
-use Rattle.eevdf_ops.specs.Outcome.{Outcome}
 use Rattle.eevdf_ops.specs.Programs.{FitsProgram, lines_by, posts_in, wakes_from}
 
 abbrev pub program_of : Setup → ℕ → List Op

@@ -1,14 +1,10 @@
 -- What the setup gives its tasks, and that it still stands on the machine.
 use Rattle.std.specs.Prelude.{◌≡◌, ℕ, ◌==◌, ℤ, Bool, false, ◌||◌, List, [], ◌∷◌, slice_get, Some}
 use Rattle.std.specs.FinMap as map
-use Rattle.eevdf_queue.specs.declared.run_entry.Entry.{Entry}
-use Rattle.eevdf_queue.specs.State.{State, Sleeper}
-use Rattle.eevdf_ops.specs.declared.task_spec.TaskSpec.{TaskSpec}
-use Rattle.eevdf_ops.specs.declared.deeds.Deed.{Deed}
+use Rattle.eevdf_queue.specs.{declared.run_entry.Entry.Entry, State.State, State.Sleeper}
+use Rattle.eevdf_ops.specs.{declared.task_spec.TaskSpec.TaskSpec, declared.deeds.Deed.Deed, Setup.Setup, Setup.homes_of}
+use Rattle.eevdf_ops.specs.{Machine.queue_at, Machine.start, Whole.machine_after}
 use Rattle.eevdf_ops.specs.declared.deeds.Deed.TheVariants.{Tick, Pick, Yield, Sleep, Wake, Pull, Renice}
-use Rattle.eevdf_ops.specs.Setup.{Setup, homes_of}
-use Rattle.eevdf_ops.specs.Machine.{queue_at, start}
-use Rattle.eevdf_ops.specs.Whole.{machine_after}
 
 -- whether a deed is to give a task another nice level
 abbrev pub renices : Deed → ℕ → Bool

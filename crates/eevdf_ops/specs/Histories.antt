@@ -1,11 +1,7 @@
 -- The history that lines tell, and an outcome that is one.
 use Rattle.std.specs.Prelude.{◌≡◌, ℕ, List}
-use Rattle.eevdf_ops.specs.declared.deeds.Deed.{Deed}
-use Rattle.eevdf_ops.specs.declared.deeds.Line.{Line}
-use Rattle.eevdf_ops.specs.Machine.{Machine}
-use Rattle.eevdf_ops.specs.Outcome.{Outcome, machine_of}
-use Rattle.eevdf_ops.specs.Programs.{deeds_of}
-use Rattle.eevdf_ops.specs.Whole.{lines_of, machine_after}
+use Rattle.eevdf_ops.specs.{declared.deeds.Deed.Deed, declared.deeds.Line.Line, Machine.Machine, Outcome.Outcome}
+use Rattle.eevdf_ops.specs.{Outcome.machine_of, Programs.deeds_of, Whole.lines_of, Whole.machine_after}
 
 -- the machine that the deeds of lines leave, done as whole operations one after the other
 abbrev pub machine_told : List ℕ → Machine → List Line → Machine

@@ -2,14 +2,9 @@
 use Rattle.std.specs.Prelude.{◌≡◌, ℕ, ◌<◌, true, List, length}
 use Rattle.std.specs.Int.{abs_diff}
 use Rattle.std.specs.FinMap as map
-use Rattle.eevdf_ops.specs.declared.deeds.Deed.{Deed}
-use Rattle.eevdf_ops.specs.declared.deeds.Deed.TheVariants.{Pull}
-use Rattle.eevdf_ops.specs.declared.deeds.Answer.TheVariants.{Pulled}
-use Rattle.eevdf_ops.specs.Setup.{is_allowed}
-use Rattle.eevdf_ops.specs.Machine.{Machine, queue_at}
-use Rattle.eevdf_ops.specs.Places.{AreCpus, IsPlaced}
-use Rattle.eevdf_ops.specs.Whole.{whole}
-use Rattle.eevdf_ops.specs.WholePull.{load_of}
+use Rattle.eevdf_ops.specs.{declared.deeds.Deed.Deed, declared.deeds.Deed.TheVariants.Pull}
+use Rattle.eevdf_ops.specs.{declared.deeds.Answer.TheVariants.Pulled, Setup.is_allowed, Machine.Machine, Machine.queue_at}
+use Rattle.eevdf_ops.specs.{Places.AreCpus, Places.IsPlaced, Whole.whole, WholePull.load_of}
 
 -- an allowed deed keeps each task in one place
 abbrev pub DeedsKeepPlaces : Type 0

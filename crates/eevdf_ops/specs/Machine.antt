@@ -3,8 +3,7 @@ use Rattle.std.specs.Prelude.{ℕ, Bool, ◌+◌, pos, List, [], ◌∷◌, if�
 use Rattle.std.specs.FinMap as finite
 use Rattle.eevdf_queue.specs.State.{State, Contents, empty_state}
 use Rattle.eevdf_queue.specs.Moves.{fresh_entry, put_asleep}
-use Rattle.eevdf_ops.specs.declared.task_spec.TaskSpec.{TaskSpec}
-use Rattle.eevdf_ops.specs.Setup.{Setup, cpus_of}
+use Rattle.eevdf_ops.specs.{declared.task_spec.TaskSpec.TaskSpec, Setup.Setup, Setup.cpus_of}
 
 -- the states of the CPUs' queues, by CPU
 abbrev pub Machine : Type 0

@@ -1,19 +1,12 @@
 -- Deeds on one queue, with their answers.
 use Rattle.std.specs.Prelude.{ℕ, ℤ, Option, Some, None}
-use Rattle.eevdf_queue.specs.declared.answers.TickAnswer.{TickAnswer}
+use Rattle.eevdf_queue.specs.{declared.answers.TickAnswer.TickAnswer, declared.answers.YieldAnswer.YieldAnswer}
+use Rattle.eevdf_queue.specs.{declared.answers.WakeAnswer.WakeAnswer, declared.answers.ReniceAnswer.ReniceAnswer, State.State}
+use Rattle.eevdf_queue.specs.{Tick.tick, Pick.pick_of, Pick.after_pick, Yield.yield_now, Wake.wake, Renice.renice}
 use Rattle.eevdf_queue.specs.declared.answers.TickAnswer.TheVariants as tick_answer
-use Rattle.eevdf_queue.specs.declared.answers.YieldAnswer.{YieldAnswer}
 use Rattle.eevdf_queue.specs.declared.answers.YieldAnswer.TheVariants as yield_answer
-use Rattle.eevdf_queue.specs.declared.answers.WakeAnswer.{WakeAnswer}
 use Rattle.eevdf_queue.specs.declared.answers.WakeAnswer.TheVariants as wake_answer
-use Rattle.eevdf_queue.specs.declared.answers.ReniceAnswer.{ReniceAnswer}
 use Rattle.eevdf_queue.specs.declared.answers.ReniceAnswer.TheVariants as renice_answer
-use Rattle.eevdf_queue.specs.State.{State}
-use Rattle.eevdf_queue.specs.Tick.{tick}
-use Rattle.eevdf_queue.specs.Pick.{pick_of, after_pick}
-use Rattle.eevdf_queue.specs.Yield.{yield_now}
-use Rattle.eevdf_queue.specs.Wake.{wake}
-use Rattle.eevdf_queue.specs.Renice.{renice}
 use Rattle.eevdf_ops.specs.declared.deeds.Answer.{Answer}
 use Rattle.eevdf_ops.specs.declared.deeds.Answer.TheVariants.{Charged, Picked, Idle, Yielded, Woken, Awake, Range, Reniced, NotHere}
 

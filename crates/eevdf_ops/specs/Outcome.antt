@@ -1,8 +1,7 @@
 -- What a run comes to.
 use Rattle.std.specs.Prelude.{ℕ, List, map}
 use Rattle.eevdf_queue.specs.State.{View}
-use Rattle.eevdf_ops.specs.declared.deeds.Line.{Line}
-use Rattle.eevdf_ops.specs.Machine.{Machine}
+use Rattle.eevdf_ops.specs.{declared.deeds.Line.Line, Machine.Machine}
 
 -- the machine that a list of queues is
 abbrev pub machine_of : List View → Machine

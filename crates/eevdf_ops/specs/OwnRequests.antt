@@ -1,12 +1,9 @@
 -- How the drains of a CPU take the requests that its program posts to its own CPU.
 use Rattle.std.specs.Prelude.{◌≡◌, ℕ, List, [], ◌∷◌, ◌++◌, take, drop}
-use Rattle.eevdf_ops.specs.declared.deeds.Deed.{Deed}
-use Rattle.eevdf_ops.specs.declared.deeds.Op.{Op}
+use Rattle.eevdf_ops.specs.{declared.deeds.Deed.Deed, declared.deeds.Op.Op, Followed.program_of, Outcome.Outcome, Setup.Setup}
+use Rattle.eevdf_ops.specs.Setup.{homes_of}
 use Rattle.eevdf_ops.specs.declared.deeds.Op.TheVariants as op
-use Rattle.eevdf_ops.specs.Followed.{program_of}
-use Rattle.eevdf_ops.specs.Outcome.{Outcome}
 use Rattle.eevdf_ops.specs.Programs.{FitsOperation, InTwo, deeds_of, lines_by, post_of, wakes_in}
-use Rattle.eevdf_ops.specs.Setup.{Setup, homes_of}
 
 -- what an operation takes of the CPU's own requests that wait, the oldest first: a drain one, if there is one
 abbrev pub own_taken : List ℕ → Op → List ℕ

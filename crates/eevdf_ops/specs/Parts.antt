@@ -1,15 +1,10 @@
 -- A deed by parts, each of one queue's state alone.
 use Rattle.std.specs.Prelude.{◌≡◌, ℕ, ◌==◌, Bool, ◌||◌, List, if◌then◌else◌, Option, Some, None, Result, Ok, Err}
-use Rattle.eevdf_queue.specs.State.{State, Contents}
-use Rattle.eevdf_queue.specs.Moves.{put_asleep}
-use Rattle.eevdf_queue.specs.Leaving.{carried_running, leave}
-use Rattle.eevdf_ops.specs.declared.deeds.Deed.{Deed}
+use Rattle.eevdf_queue.specs.{State.State, State.Contents, Moves.put_asleep, Leaving.carried_running, Leaving.leave}
+use Rattle.eevdf_ops.specs.{declared.deeds.Deed.Deed, declared.deeds.Answer.Answer, declared.deeds.Answer.TheVariants.Pulled}
+use Rattle.eevdf_ops.specs.{declared.deeds.Answer.TheVariants.NotRunning, Setup.home_of, WholeSleep.slept}
 use Rattle.eevdf_ops.specs.declared.deeds.Deed.TheVariants.{Tick, Pick, Yield, Sleep, Wake, Pull, Renice}
-use Rattle.eevdf_ops.specs.declared.deeds.Answer.{Answer}
-use Rattle.eevdf_ops.specs.declared.deeds.Answer.TheVariants.{Pulled, NotRunning}
-use Rattle.eevdf_ops.specs.Setup.{home_of}
 use Rattle.eevdf_ops.specs.OneQueue.{one_tick, one_pick, one_yield, one_wake, one_renice}
-use Rattle.eevdf_ops.specs.WholeSleep.{slept}
 use Rattle.eevdf_ops.specs.WholePull.{offer, load_of, decision, with_task}
 
 -- the CPU whose queue decides what is answered

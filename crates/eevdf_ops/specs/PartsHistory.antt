@@ -2,13 +2,9 @@
 use Rattle.std.specs.Prelude.{◌≡◌, ℕ, true, List, [], ◌∷◌, length, map}
 use Rattle.std.specs.List.{list_all}
 use Rattle.eevdf_queue.specs.State.{State}
-use Rattle.eevdf_ops.specs.declared.deeds.Deed.{Deed}
-use Rattle.eevdf_ops.specs.declared.deeds.Line.{Line}
-use Rattle.eevdf_ops.specs.Setup.{is_allowed}
-use Rattle.eevdf_ops.specs.Machine.{Machine, queue_at}
+use Rattle.eevdf_ops.specs.{declared.deeds.Deed.Deed, declared.deeds.Line.Line, Setup.is_allowed, Machine.Machine, Machine.queue_at}
+use Rattle.eevdf_ops.specs.{Places.AreCpus, Whole.lines_of, Whole.machine_after}
 use Rattle.eevdf_ops.specs.Parts.{Moved, Agrees, local_after}
-use Rattle.eevdf_ops.specs.Places.{AreCpus}
-use Rattle.eevdf_ops.specs.Whole.{lines_of, machine_after}
 
 -- a deed with its answer, and what moved between queues
 pub record Step : Type 0 where

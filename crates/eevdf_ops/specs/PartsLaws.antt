@@ -1,13 +1,8 @@
 -- Laws of the deeds by parts.
 use Rattle.std.specs.Prelude.{◌≡◌, ℕ, ◌<◌, true, false, ◌&&◌, List, length}
-use Rattle.eevdf_ops.specs.declared.deeds.Deed.{Deed}
-use Rattle.eevdf_ops.specs.declared.deeds.Deed.TheVariants.{Wake}
-use Rattle.eevdf_ops.specs.declared.deeds.Answer.{Answer}
-use Rattle.eevdf_ops.specs.Setup.{is_allowed}
-use Rattle.eevdf_ops.specs.Machine.{Machine, queue_at}
-use Rattle.eevdf_ops.specs.Places.{AreCpus}
+use Rattle.eevdf_ops.specs.{declared.deeds.Deed.Deed, declared.deeds.Deed.TheVariants.Wake, declared.deeds.Answer.Answer}
+use Rattle.eevdf_ops.specs.{Setup.is_allowed, Machine.Machine, Machine.queue_at, Places.AreCpus, Whole.whole}
 use Rattle.eevdf_ops.specs.Parts.{giver, touches, Moved, given, Agrees, local_after}
-use Rattle.eevdf_ops.specs.Whole.{whole}
 
 -- a deed leaves each queue as it is that it doesn't touch
 abbrev pub OthersStay : Type 0

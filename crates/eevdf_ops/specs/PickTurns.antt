@@ -1,11 +1,9 @@
 -- How many turns the descent of a pick takes.
 use Rattle.std.specs.Prelude.{◌≡◌, ℕ, ◌+◌, ◌/◌, ◌^◌, ◌≤◌, ⊤, List, map, slice_index_or, MatchOption}
 use Rattle.std.specs.FinMap as finite
-use Rattle.eevdf_queue.specs.State.{State, View}
-use Rattle.eevdf_queue.specs.Pick.{pick_of}
-use Rattle.eevdf_ops.specs.declared.deeds.Deed.{Deed}
+use Rattle.eevdf_queue.specs.{State.State, State.View, Pick.pick_of}
+use Rattle.eevdf_ops.specs.{declared.deeds.Deed.Deed, Machine.Machine, Machine.queue_at}
 use Rattle.eevdf_ops.specs.declared.deeds.Deed.TheVariants.{Tick, Pick, Yield, Sleep, Wake, Pull, Renice}
-use Rattle.eevdf_ops.specs.Machine.{Machine, queue_at}
 
 -- none where nobody is runnable, else at least one, and with n runnable tasks k such that 2 ^ (k / 2) is at most n + 1
 abbrev pub ArePickTurns : State → ℕ → Type 0

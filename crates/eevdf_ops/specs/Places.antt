@@ -2,8 +2,7 @@
 use Rattle.std.specs.Prelude.{◌≡◌, ℕ, ◌+◌, ◌<◌, Bool, true, List, [], ◌∷◌, length, if◌then◌else◌}
 use Rattle.std.specs.FinMap as map
 use Rattle.eevdf_queue.specs.State.{State}
-use Rattle.eevdf_ops.specs.Setup.{home_of, is_task}
-use Rattle.eevdf_ops.specs.Machine.{Machine, queue_at}
+use Rattle.eevdf_ops.specs.{Setup.home_of, Setup.is_task, Machine.Machine, Machine.queue_at}
 
 abbrev pub count : Bool → ℕ
 count holds = if holds then 1 else 0

@@ -1,14 +1,9 @@
 -- How the lines of a history follow the programs of the CPUs.
 use Rattle.std.specs.Prelude.{◌≡◌, ℕ, ◌+◌, ◌≤◌, ◌==◌, List, [], ◌∷◌, ◌++◌, map, if◌then◌else◌, Option, Some, None}
-use Rattle.std.specs.List.{filter, flat_map}
-use Rattle.std.specs.Option.{option_to_list}
-use Rattle.eevdf_ops.specs.declared.deeds.Op.{Op}
+use Rattle.std.specs.{List.filter, List.flat_map, Option.option_to_list}
+use Rattle.eevdf_ops.specs.{declared.deeds.Op.Op, declared.deeds.Deed.Deed, declared.deeds.Line.Line, Setup.home_of, Parts.decider}
 use Rattle.eevdf_ops.specs.declared.deeds.Op.TheVariants as op
-use Rattle.eevdf_ops.specs.declared.deeds.Deed.{Deed}
 use Rattle.eevdf_ops.specs.declared.deeds.Deed.TheVariants as deed
-use Rattle.eevdf_ops.specs.declared.deeds.Line.{Line}
-use Rattle.eevdf_ops.specs.Setup.{home_of}
-use Rattle.eevdf_ops.specs.Parts.{decider}
 
 -- the deed of an operation on a CPU; a post and a drain have none of their own
 abbrev pub deed_of : ℕ → Op → Option Deed

@@ -2,14 +2,11 @@
 use Rattle.std.specs.Prelude.{ℕ, List, ◌++◌, codes, decimal}
 use Rattle.std.specs.Fmt.{signed_decimal}
 use Rattle.eevdf_queue.specs.Texts.{charged_text}
-use Rattle.eevdf_ops.specs.declared.deeds.Op.{Op}
-use Rattle.eevdf_ops.specs.declared.deeds.Op.TheVariants as op
-use Rattle.eevdf_ops.specs.declared.deeds.Deed.{Deed}
-use Rattle.eevdf_ops.specs.declared.deeds.Deed.TheVariants.{Tick, Pick, Yield, Sleep, Wake, Pull, Renice}
-use Rattle.eevdf_ops.specs.declared.deeds.Answer.{Answer}
-use Rattle.eevdf_ops.specs.declared.deeds.Answer.TheVariants.{Charged, Picked, Idle, Yielded, Slept, NotRunning, Woken, Awake, Pulled, Balanced, Nothing, Range, Reniced, NotHere}
-use Rattle.eevdf_ops.specs.declared.deeds.Line.{Line}
+use Rattle.eevdf_ops.specs.{declared.deeds.Op.Op, declared.deeds.Deed.Deed, declared.deeds.Answer.Answer, declared.deeds.Line.Line}
 use Rattle.eevdf_ops.specs.Parts.{decider}
+use Rattle.eevdf_ops.specs.declared.deeds.Op.TheVariants as op
+use Rattle.eevdf_ops.specs.declared.deeds.Deed.TheVariants.{Tick, Pick, Yield, Sleep, Wake, Pull, Renice}
+use Rattle.eevdf_ops.specs.declared.deeds.Answer.TheVariants.{Charged, Picked, Idle, Yielded, Slept, NotRunning, Woken, Awake, Pulled, Balanced, Nothing, Range, Reniced, NotHere}
 
 -- an operation as a program lists it
 abbrev pub operation_text : Op → List ℕ

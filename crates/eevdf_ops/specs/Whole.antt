@@ -1,15 +1,10 @@
 -- Whole operations: a deed done at once, and the history of a list of deeds.
 use Rattle.std.specs.Prelude.{ℕ, List, [], ◌∷◌, slice_set}
 use Rattle.eevdf_queue.specs.State.{State}
-use Rattle.eevdf_ops.specs.declared.deeds.Deed.{Deed}
+use Rattle.eevdf_ops.specs.{declared.deeds.Deed.Deed, declared.deeds.Answer.Answer, declared.deeds.Line.Line, Setup.home_of}
+use Rattle.eevdf_ops.specs.{Machine.Machine, Machine.queue_at, WholeSleep.sleep, WholePull.pull}
 use Rattle.eevdf_ops.specs.declared.deeds.Deed.TheVariants.{Tick, Pick, Yield, Sleep, Wake, Pull, Renice}
-use Rattle.eevdf_ops.specs.declared.deeds.Answer.{Answer}
-use Rattle.eevdf_ops.specs.declared.deeds.Line.{Line}
-use Rattle.eevdf_ops.specs.Setup.{home_of}
-use Rattle.eevdf_ops.specs.Machine.{Machine, queue_at}
 use Rattle.eevdf_ops.specs.OneQueue.{one_tick, one_pick, one_yield, one_wake, one_renice}
-use Rattle.eevdf_ops.specs.WholeSleep.{sleep}
-use Rattle.eevdf_ops.specs.WholePull.{pull}
 
 -- a deed on one queue of the machine, whose other queues stay
 abbrev pub at_cpu : Machine → ℕ → Answer × State → Answer × Machine

@@ -2,16 +2,10 @@
 use Rattle.std.specs.Prelude.{ℕ, ◌+◌, nat_lt, Bool, if◌then◌else◌, Option, Some, None, Result, Ok, Err, slice_set}
 use Rattle.std.specs.Option.{option_and_then, unwrap_or}
 use Rattle.eevdf_weight.specs.Weight.{weight_of}
-use Rattle.eevdf_queue.specs.State.{State, Contents}
-use Rattle.eevdf_queue.specs.Sums.{total_weight}
-use Rattle.eevdf_queue.specs.Moves.{sleeper_of}
-use Rattle.eevdf_queue.specs.Candidate.{candidate_of}
-use Rattle.eevdf_queue.specs.Leaving.{carried}
-use Rattle.eevdf_queue.specs.Placing.{can_place, put}
-use Rattle.eevdf_ops.specs.declared.deeds.Answer.{Answer}
+use Rattle.eevdf_queue.specs.{State.State, State.Contents, Sums.total_weight, Moves.sleeper_of, Candidate.candidate_of}
+use Rattle.eevdf_queue.specs.{Leaving.carried, Placing.can_place, Placing.put}
+use Rattle.eevdf_ops.specs.{declared.deeds.Answer.Answer, Machine.Machine, Machine.queue_at, WholeSleep.task_leaves}
 use Rattle.eevdf_ops.specs.declared.deeds.Answer.TheVariants.{Pulled, Balanced, Nothing, Range}
-use Rattle.eevdf_ops.specs.Machine.{Machine, queue_at}
-use Rattle.eevdf_ops.specs.WholeSleep.{task_leaves}
 
 -- what a pull reads of its source, beside the load: the candidate, with what it would carry
 abbrev pub offer : State → Option Contents

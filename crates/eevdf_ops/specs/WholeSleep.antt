@@ -1,11 +1,8 @@
 -- A sleep: the running task leaves its CPU and falls asleep at its home.
 use Rattle.std.specs.Prelude.{ℕ, Option, Some, None, slice_set}
-use Rattle.eevdf_queue.specs.State.{Contents}
-use Rattle.eevdf_queue.specs.Moves.{put_asleep}
-use Rattle.eevdf_queue.specs.Leaving.{carried_running, leave}
-use Rattle.eevdf_ops.specs.declared.deeds.Answer.{Answer}
-use Rattle.eevdf_ops.specs.declared.deeds.Answer.TheVariants.{Slept, NotRunning}
-use Rattle.eevdf_ops.specs.Machine.{Machine, queue_at}
+use Rattle.eevdf_queue.specs.{State.Contents, Moves.put_asleep, Leaving.carried_running, Leaving.leave}
+use Rattle.eevdf_ops.specs.{declared.deeds.Answer.Answer, declared.deeds.Answer.TheVariants.Slept}
+use Rattle.eevdf_ops.specs.{declared.deeds.Answer.TheVariants.NotRunning, Machine.Machine, Machine.queue_at}
 
 -- the machine without a runnable task of a CPU
 abbrev pub task_leaves : Machine → ℕ → ℕ → Machine

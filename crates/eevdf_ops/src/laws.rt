@@ -1,10 +1,8 @@
 //! Laws of the machine and its deeds, each the contract of a function that does nothing.
 
-ghost use Rattle.eevdf_ops.specs.Given.{TasksStayAsGiven};
+ghost use Rattle.eevdf_ops.specs.{Given.TasksStayAsGiven, Outcome.machine_of, PartsHistory.HistoryByParts};
 ghost use Rattle.eevdf_ops.specs.Laws.{DeedsKeepPlaces, PullLevels, PullLeavesSome};
 ghost use Rattle.eevdf_ops.specs.Machine as machine;
-ghost use Rattle.eevdf_ops.specs.Outcome.{machine_of};
-ghost use Rattle.eevdf_ops.specs.PartsHistory.{HistoryByParts};
 ghost use Rattle.eevdf_ops.specs.PartsLaws.{
   ApartDeedsCommute,
   OthersStay,
@@ -13,8 +11,7 @@ ghost use Rattle.eevdf_ops.specs.PartsLaws.{
   TouchedDecide,
   WakeIsLocal,
 };
-ghost use Rattle.eevdf_ops.specs.Places.{AreCpus, IsPlaced};
-ghost use Rattle.eevdf_ops.specs.Setup.{cpus_of, homes_of};
+ghost use Rattle.eevdf_ops.specs.{Places.AreCpus, Places.IsPlaced, Setup.cpus_of, Setup.homes_of};
 
 use crate::machine_setup::Setup;
 use crate::solo_machine::Solo;

@@ -1,9 +1,8 @@
 ghost use Rattle.std.specs.Prelude.{◌≡◌, ◌<◌, ◌≤◌, nat_lt, length, map, slice_index_or, IfOk, None};
 ghost use Rattle.eevdf_ops.specs.Faults as faults;
-ghost use Rattle.eevdf_ops.specs.Faults.{IsSetupOf, tasks_fault};
-ghost use Rattle.eevdf_ops.specs.Numbers.{most_cpus, most_tasks};
-ghost use Rattle.eevdf_ops.specs.Setup as setup;
+ghost use Rattle.eevdf_ops.specs.{Faults.IsSetupOf, Faults.tasks_fault, Numbers.most_cpus, Numbers.most_tasks};
 ghost use Rattle.eevdf_ops.specs.TasksLeft.{tasks_left};
+ghost use Rattle.eevdf_ops.specs.Setup as setup;
 ghost use Rattle.std.specs.List.{enumerate_from};
 
 use crate::cpu_number::CpuId;

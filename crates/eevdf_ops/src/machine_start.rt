@@ -1,13 +1,9 @@
 //! The machine at the start: each task at its home.
 
 ghost use Rattle.std.specs.Prelude.{◌≡◌, ◌≤◌, ◌<◌, None, true, length, replicate, slice_set, IfOk, OnOk};
-ghost use Rattle.eevdf_queue.specs.State.{empty_state};
-ghost use Rattle.eevdf_queue.specs.Leaving.{IsNowhere};
-ghost use Rattle.eevdf_queue.specs.Moves.{fresh_entry, is_entry_in_range};
-ghost use Rattle.eevdf_ops.specs.Faults.{starts_in_range, tasks_fault};
+ghost use Rattle.eevdf_queue.specs.{State.empty_state, Leaving.IsNowhere, Moves.fresh_entry, Moves.is_entry_in_range};
+ghost use Rattle.eevdf_ops.specs.{Faults.starts_in_range, Faults.tasks_fault, Numbers.most_tasks, Outcome.machine_of};
 ghost use Rattle.eevdf_ops.specs.Machine as machine;
-ghost use Rattle.eevdf_ops.specs.Numbers.{most_tasks};
-ghost use Rattle.eevdf_ops.specs.Outcome.{machine_of};
 
 use crate::task_spec::TaskSpec;
 use eevdf_queue::{Parcel, Queue, TaskId};

@@ -1,10 +1,8 @@
 //! Deeds on one queue of a machine, done at once.
 
 ghost use Rattle.std.specs.Prelude.{◌≡◌, ◌<◌, length, slice_set};
-ghost use Rattle.eevdf_ops.specs.Machine.{queue_at};
-ghost use Rattle.eevdf_ops.specs.Outcome.{machine_of};
+ghost use Rattle.eevdf_ops.specs.{Machine.queue_at, Outcome.machine_of, PickTurns.ArePickTurns, PickTurns.turns_at};
 ghost use Rattle.eevdf_ops.specs.OneQueue as whole;
-ghost use Rattle.eevdf_ops.specs.PickTurns.{ArePickTurns, turns_at};
 
 use crate::cpu_number::CpuId;
 use crate::deeds::Answer;

@@ -4,9 +4,7 @@ ghost use Rattle.std.specs.Prelude.{◌≡◌, ◌*◌, [], length, map, true, r
 ghost use Rattle.std.specs.List.{list_all};
 ghost use Rattle.eevdf_ops.specs.Setup.{allows, cpus_of, homes_of, is_allowed};
 ghost use Rattle.eevdf_ops.specs.Machine as machine;
-ghost use Rattle.eevdf_ops.specs.Outcome.{machine_of};
-ghost use Rattle.eevdf_ops.specs.Places.{IsPlaced};
-ghost use Rattle.eevdf_ops.specs.Whole.{lines_of, machine_after};
+ghost use Rattle.eevdf_ops.specs.{Outcome.machine_of, Places.IsPlaced, Whole.lines_of, Whole.machine_after};
 
 use crate::deeds::{Deed, Line};
 use crate::machine_setup::Setup;

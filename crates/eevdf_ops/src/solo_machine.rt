@@ -1,9 +1,7 @@
 ghost use Rattle.std.specs.Prelude.{◌≡◌, ◌<◌, ◌↔◌, nat_lt, length, true, false, IfOk, IfSome, IfNone, IsNone, OnSome, slice_index_or};
 ghost use Rattle.eevdf_ops.specs.Setup.{cpus_of, homes_of, is_allowed, is_at_home, is_task, wakes_at_home};
 ghost use Rattle.eevdf_ops.specs.Machine as machine;
-ghost use Rattle.eevdf_ops.specs.Outcome.{machine_of};
-ghost use Rattle.eevdf_ops.specs.PickTurns.{HasPickTurns};
-ghost use Rattle.eevdf_ops.specs.Places.{IsPlaced};
+ghost use Rattle.eevdf_ops.specs.{Outcome.machine_of, PickTurns.HasPickTurns, Places.IsPlaced};
 ghost use Rattle.eevdf_ops.specs.Whole as operation;
 
 use crate::cpu_number::CpuId;
@@ -34,8 +32,7 @@ impl Model for Solo {
     ghost view = { λ s. record { homes = s.homes.items; queues = s.queues.items } };
 
     ghost use Rattle.std.specs.Prelude.{length};
-    ghost use Rattle.eevdf_ops.specs.Outcome.{machine_of};
-    ghost use Rattle.eevdf_ops.specs.Places.{AreCpus, IsPlaced};
+    ghost use Rattle.eevdf_ops.specs.{Outcome.machine_of, Places.AreCpus, Places.IsPlaced};
 
     ghost invariant = { λ s. AreCpus (length s.queues.items) s.homes.items
         × IsPlaced s.homes.items (machine_of s.queues.items) };

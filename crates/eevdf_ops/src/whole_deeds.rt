@@ -1,10 +1,7 @@
 //! Any deed on the queues of a machine, done at once.
 
 ghost use Rattle.std.specs.Prelude.{◌≡◌, length, true};
-ghost use Rattle.eevdf_ops.specs.Outcome.{machine_of};
-ghost use Rattle.eevdf_ops.specs.PickTurns.{HasPickTurns};
-ghost use Rattle.eevdf_ops.specs.Places.{AreCpus, IsPlaced};
-ghost use Rattle.eevdf_ops.specs.Setup.{is_allowed};
+ghost use Rattle.eevdf_ops.specs.{Outcome.machine_of, PickTurns.HasPickTurns, Places.AreCpus, Places.IsPlaced, Setup.is_allowed};
 ghost use Rattle.eevdf_ops.specs.Whole as operation;
 
 use crate::cpu_number::CpuId;

@@ -4,16 +4,10 @@ ghost use Rattle.std.specs.Prelude.{◌≡◌, ◌≢◌, ◌<◌, ◌≤◌, le
 ghost use Rattle.eevdf_weight.specs.Weight.{weight_of};
 ghost use Rattle.std.specs.Option.{option_map};
 ghost use Rattle.std.specs.FinMap as map;
-ghost use Rattle.eevdf_queue.specs.Candidate.{is_running};
-ghost use Rattle.eevdf_queue.specs.Lag.{is_lag};
+ghost use Rattle.eevdf_queue.specs.{Candidate.is_running, Lag.is_lag, Moves.sleeper_of, Placing.can_place};
 ghost use Rattle.eevdf_queue.specs.Leaving as leaving;
-ghost use Rattle.eevdf_queue.specs.Moves.{sleeper_of};
-ghost use Rattle.eevdf_queue.specs.Placing.{can_place};
-ghost use Rattle.eevdf_ops.specs.Machine.{queue_at};
-ghost use Rattle.eevdf_ops.specs.Outcome.{machine_of};
-ghost use Rattle.eevdf_ops.specs.Places.{places, places_in};
-ghost use Rattle.eevdf_ops.specs.PullOffer.{task_of, offer_of};
-ghost use Rattle.eevdf_ops.specs.WholeSleep.{task_leaves};
+ghost use Rattle.eevdf_ops.specs.{Machine.queue_at, Outcome.machine_of, Places.places, Places.places_in, PullOffer.task_of};
+ghost use Rattle.eevdf_ops.specs.{PullOffer.offer_of, WholeSleep.task_leaves};
 ghost use Rattle.eevdf_ops.specs.WholePull as whole;
 
 use crate::cpu_number::CpuId;

@@ -2,9 +2,7 @@
 
 ghost use Rattle.std.specs.Prelude.{◌≡◌, ◌<◌, ◌≤◌, length, slice_set};
 ghost use Rattle.eevdf_queue.specs.Leaving.{carried_running, leave_running};
-ghost use Rattle.eevdf_ops.specs.Machine.{queue_at};
-ghost use Rattle.eevdf_ops.specs.Outcome.{machine_of};
-ghost use Rattle.eevdf_ops.specs.Places.{places, places_in};
+ghost use Rattle.eevdf_ops.specs.{Machine.queue_at, Outcome.machine_of, Places.places, Places.places_in};
 ghost use Rattle.eevdf_ops.specs.WholeSleep as whole;
 
 use crate::cpu_number::CpuId;

@@ -1,19 +1,15 @@
 -- Orders that are made place by place, each by the caller that a choice comes to.
 use Rattle.std.proofs.Common.{◌≡◌, ℕ, zero, suc, ◌+◌, ◌-◌, ◌<◌, ◌≤◌, ◌⊎◌, inl, inr, List, [], ◌∷◌, ◌++◌, length, sym, ap, subst, ◌∙◌, arith, refl, add-one}
-use Rattle.std.proofs.Math.ListN.{get_or-append, length-append}
-use Rattle.std.proofs.Math.Seq.{get_or-append_seam, take-append_seam}
+use Rattle.std.proofs.{Math.ListN.get_or-append, Math.ListN.length-append, Math.Seq.get_or-append_seam, Math.Seq.take-append_seam}
 use Rattle.std.proofs.lemmas.List.{take-append-le}
 use Rattle.rand_pcg.specs.Lcg.{Lcg, next_state, state_after}
 use Rattle.rand_pcg.specs.Pcg.{multiplier_64}
 use Rattle.rand_pcg.proofs.LcgLemmas.{advance_zero}
-use Rattle.eevdf_steps.specs.Plan.{Plan, callers}
-use Rattle.eevdf_steps.specs.Counters.{Counters}
-use Rattle.eevdf_steps.specs.Orders.{counters_after, counters_at_start}
+use Rattle.eevdf_steps.specs.{Plan.Plan, Plan.callers, Counters.Counters, Orders.counters_after, Orders.counters_at_start}
 use Rattle.eevdf_steps.specs.Players.{Player}
-use Rattle.eevdf_orders.specs.declared.caller_choice.Choice.{Choice}
-use Rattle.eevdf_orders.specs.declared.caller_choice.Choice.TheVariants.{InTurn, Drawn}
-use Rattle.eevdf_orders.specs.CallerChoice.{first_of, next_of}
-use Rattle.eevdf_orders.specs.CallerSteps.{IsNext, IsStepFrom}
+use Rattle.eevdf_orders.specs.{declared.caller_choice.Choice.Choice, declared.caller_choice.Choice.TheVariants.InTurn}
+use Rattle.eevdf_orders.specs.{declared.caller_choice.Choice.TheVariants.Drawn, CallerChoice.first_of, CallerChoice.next_of}
+use Rattle.eevdf_orders.specs.{CallerSteps.IsNext, CallerSteps.IsStepFrom}
 use Rattle.eevdf_orders.specs.ChosenOrders.{IsChosen, IsChosenAt, begins_with, choice_after, last_before}
 use Rattle.eevdf_orders.proofs.PlacedOrders.{IsPlaced}
 

@@ -1,16 +1,13 @@
 -- A workload that is cut one byte past its limit gets what the whole gets.
 use Rattle.std.proofs.Common.{◌≡◌, ℕ, ◌≤◌, Bool, true, false, cond, List, length, take, refl, sym, ap, subst, ◌∙◌, inl, inr, arith}
-use Rattle.std.proofs.lemmas.List.{length-take, take_all}
-use Rattle.std.proofs.lemmas.Bool.Decides.{nat_tests}
+use Rattle.std.proofs.{lemmas.List.length-take, lemmas.List.take_all, lemmas.Bool.Decides.nat_tests}
 use Rattle.std.specs.Prelude.{nat_lt, Option, Some, None, IfSome, Result, Ok, Err}
 use Rattle.std.specs.Io.KnownBytes.{Appends}
-use Rattle.eevdf_workload.specs.declared.load_fault.LoadFault.{LoadFault}
-use Rattle.eevdf_workload.specs.declared.load_fault.LoadFault.TheVariants.{TooLarge}
-use Rattle.eevdf_bench.specs.declared.bench_fault.BenchFault.{BenchFault}
+use Rattle.eevdf_workload.specs.{declared.load_fault.LoadFault.LoadFault, declared.load_fault.LoadFault.TheVariants.TooLarge}
+use Rattle.eevdf_workload.specs.MeaningSteps.{◌>>=◌}
+use Rattle.eevdf_bench.specs.{declared.bench_fault.BenchFault.BenchFault, Streams.HasBegun}
 use Rattle.eevdf_bench.specs.declared.bench_fault.BenchFault.TheVariants.{Load, Memory, Play, Read, Run, Write}
 use Rattle.eevdf_workload.specs.Meaning.{Workload, document_of, meaning, workload_of}
-use Rattle.eevdf_workload.specs.MeaningSteps.{◌>>=◌}
-use Rattle.eevdf_bench.specs.Streams.{HasBegun}
 use Rattle.eevdf_workload.proofs.InputLimit.{meaning_cut}
 use Rattle.eevdf_orders.specs.declared.print_fault.PrintFault.{PrintFault}
 use Rattle.eevdf_orders.specs.declared.print_fault.PrintFault.TheVariants.{Bench, Ordered}

@@ -1,12 +1,9 @@
 -- The search for a caller that may step, around from one on.
 use Rattle.std.proofs.Common.{◌≡◌, ℕ, zero, suc, ◌+◌, ◌-◌, ◌%◌, ◌<◌, ◌≤◌, Bool, true, false, cond, ◌⊎◌, inl, inr, sym, ap, subst, ◌∙◌, arith, refl}
-use Rattle.std.proofs.lemmas.Bool.{false≢true}
-use Rattle.std.proofs.Math.Nat.{add-mod_right, mod-eq_of_lt}
+use Rattle.std.proofs.{lemmas.Bool.false≢true, Math.Nat.add-mod_right, Math.Nat.mod-eq_of_lt}
 use Rattle.std.specs.Prelude.{is_none, is_some, is_ok, Option, Some, None, Result, Ok, Err}
-use Rattle.eevdf_steps.specs.declared.step_fault.StepFault.{StepFault}
-use Rattle.eevdf_steps.specs.Plan.{callers}
+use Rattle.eevdf_steps.specs.{declared.step_fault.StepFault.StepFault, Plan.callers, Players.IsStep, Players.Player}
 use Rattle.eevdf_steps.specs.Counters.{least, may_step, ready}
-use Rattle.eevdf_steps.specs.Players.{IsStep, Player}
 use Rattle.eevdf_steps.proofs.Holders.{least_past, number_cases}
 use Rattle.eevdf_steps.proofs.Ready.{Found, least_found, least_there}
 use Rattle.eevdf_orders.specs.CallerSteps.{IsStepAmong, IsStepFrom, ahead}

@@ -1,20 +1,16 @@
 -- Orders that are made place by place, each by a caller that may step.
 use Rattle.std.proofs.Common.{◌≡◌, ℕ, ◌+◌, ◌<◌, ◌≤◌, Bool, true, false, cond, ◌&&◌, List, [], ◌∷◌, ◌++◌, length, sym, ap, ◌∙◌, ◌+◌, arith, refl}
-use Rattle.std.proofs.Math.ListN.{length-append}
-use Rattle.std.proofs.lemmas.Bool.{false≢true}
+use Rattle.std.proofs.{Math.ListN.length-append, lemmas.Bool.false≢true}
 use Rattle.std.specs.Option.{option_map}
 use Rattle.std.specs.Prelude.{not, nat_lt, is_none, is_some, is_ok, is_err, if◌then◌else◌, Option, Some, None, Result, Ok, Err}
 use Rattle.eevdf_ops.specs.Setup.{Setup}
-use Rattle.eevdf_steps.specs.declared.micro_steps.Micro.{Micro}
-use Rattle.eevdf_steps.specs.declared.step_fault.StepFault.TheVariants.{NoCaller}
+use Rattle.eevdf_steps.specs.{declared.micro_steps.Micro.Micro, declared.step_fault.StepFault.TheVariants.NoCaller}
+use Rattle.eevdf_steps.specs.{Requests.Progress, Requests.progress_by, MicroState.MicroState, MicroState.micro_by}
 use Rattle.eevdf_steps.specs.Plan.{Plan, callers, plan_of}
 use Rattle.eevdf_steps.specs.Counters.{Counters, counted, may_step, next, refused_next, step_next, unfinished}
 use Rattle.eevdf_steps.specs.Orders.{counters_after, counters_at_start, is_lawful, play_fault}
-use Rattle.eevdf_steps.specs.Requests.{Progress, progress_by}
-use Rattle.eevdf_steps.specs.MicroState.{MicroState, micro_by}
 use Rattle.eevdf_steps.specs.Players.{Player, player_start, player_step}
-use Rattle.eevdf_steps.proofs.LawfulOrders.{whole_is_played}
-use Rattle.eevdf_steps.proofs.Lists.{both, true_lt}
+use Rattle.eevdf_steps.proofs.{LawfulOrders.whole_is_played, Lists.both, Lists.true_lt}
 use Rattle.eevdf_orders.specs.CallerSteps.{IsStepFrom}
 
 -- a player that a lawful order has led to where it is

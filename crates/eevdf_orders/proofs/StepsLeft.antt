@@ -1,23 +1,14 @@
 -- How many steps the callers have still to do: each place of a lawful order is one of them.
 use Rattle.std.proofs.Common.{◌≡◌, ◌≢◌, ℕ, zero, suc, ◌+◌, ◌-◌, ◌<◌, ◌≤◌, Bool, true, false, cond, List, [], ◌∷◌, length, inl, inr, sym, ap, ◌∙◌, arith, refl}
-use Rattle.std.proofs.Math.ListN.{length-set, length-replicate}
-use Rattle.std.proofs.lemmas.Bool.{false≢true}
-use Rattle.std.proofs.lemmas.List.{get_or-set_same, get_or-set_other}
-use Rattle.std.proofs.lemmas.Bool.Decides.{nat_tests}
+use Rattle.std.proofs.{Math.ListN.length-set, Math.ListN.length-replicate, lemmas.Bool.false≢true, lemmas.List.get_or-set_same}
+use Rattle.std.proofs.{lemmas.List.get_or-set_other, lemmas.Bool.Decides.nat_tests}
 use Rattle.std.specs.Prelude.{nat_lt, is_some, slice_get, Option, Some, None}
-use Rattle.eevdf_steps.specs.declared.play_fault.PlayFault.{PlayFault}
-use Rattle.eevdf_steps.specs.declared.play_fault.PlayFault.TheVariants.{TooLong}
-use Rattle.eevdf_steps.specs.Plan.{Plan, callers}
-use Rattle.eevdf_steps.specs.MicroSteps.{steps_by}
+use Rattle.eevdf_steps.specs.{declared.play_fault.PlayFault.PlayFault, declared.play_fault.PlayFault.TheVariants.TooLong, Plan.Plan}
+use Rattle.eevdf_steps.specs.{Plan.callers, MicroSteps.steps_by, Room.sum_from, Players.Player}
 use Rattle.eevdf_steps.specs.Counters.{Counters, count_of, counted, is_under_way, may_step, step_next, unfinished}
 use Rattle.eevdf_steps.specs.Orders.{IsWhole, counters_after, counters_at_start, is_lawful, order_fault, play_fault}
-use Rattle.eevdf_steps.specs.Room.{sum_from}
-use Rattle.eevdf_steps.specs.Players.{Player}
-use Rattle.eevdf_steps.proofs.Lists.{both}
-use Rattle.eevdf_steps.proofs.Holders.{number_cases}
-use Rattle.eevdf_steps.proofs.LawfulOrders.{faultless_whole, none_of}
-use Rattle.eevdf_steps.proofs.Ready.{Found, least_found}
-use Rattle.eevdf_steps.proofs.Rooms.{sum_less}
+use Rattle.eevdf_steps.proofs.{Lists.both, Holders.number_cases, LawfulOrders.faultless_whole, LawfulOrders.none_of, Ready.Found}
+use Rattle.eevdf_steps.proofs.{Ready.least_found, Rooms.sum_less}
 use Rattle.eevdf_orders.proofs.GoingAround.{none_in}
 use Rattle.eevdf_orders.proofs.PlacedOrders.{IsPlaced, HasStep, has_step_of}
 

@@ -1,8 +1,7 @@
 -- With whom the search for the next caller begins: in turn, or drawn by the words of a generator.
 use Rattle.std.specs.Prelude.{ℕ, ◌+◌, ◌%◌, Option, Some, None}
 use Rattle.rand_core.specs.Pcg32Seed.{pcg32_seed}
-use Rattle.rand_pcg.specs.Lcg.{Lcg}
-use Rattle.rand_pcg.specs.Pcg.{pcg32, pcg32_of_seed}
+use Rattle.rand_pcg.specs.{Lcg.Lcg, Pcg.pcg32, Pcg.pcg32_of_seed}
 use Rattle.eevdf_orders.specs.declared.caller_choice.Choice.{Choice}
 use Rattle.eevdf_orders.specs.declared.caller_choice.Choice.TheVariants.{InTurn, Drawn}
 

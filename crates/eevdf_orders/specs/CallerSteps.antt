@@ -1,8 +1,7 @@
 -- Steps of callers that may step.
 use Rattle.std.specs.Prelude.{◌≡◌, ◌<◌, ℕ, ◌+◌, ◌-◌, ◌%◌, false, true, Option, MatchOption}
-use Rattle.eevdf_steps.specs.Plan.{Plan, callers}
+use Rattle.eevdf_steps.specs.{Plan.Plan, Plan.callers, Players.Player, Players.player_step}
 use Rattle.eevdf_steps.specs.Counters.{Counters, least, may_step}
-use Rattle.eevdf_steps.specs.Players.{Player, player_step}
 
 -- how far one of so many callers is ahead of another, going around
 abbrev pub ahead : ℕ → ℕ → ℕ → ℕ

@@ -1,13 +1,9 @@
 -- Orders in which each caller is the one that a choice comes to.
 use Rattle.std.specs.Prelude.{ℕ, zero, suc, ◌-◌, ◌<◌, List, length, take, slice_index}
-use Rattle.rand_pcg.specs.Lcg.{advance}
-use Rattle.rand_pcg.specs.Pcg.{multiplier_64}
-use Rattle.eevdf_steps.specs.Plan.{Plan, callers}
-use Rattle.eevdf_steps.specs.Orders.{counters_after, counters_at_start}
-use Rattle.eevdf_orders.specs.declared.caller_choice.Choice.{Choice}
-use Rattle.eevdf_orders.specs.declared.caller_choice.Choice.TheVariants.{InTurn, Drawn}
-use Rattle.eevdf_orders.specs.CallerChoice.{first_of}
-use Rattle.eevdf_orders.specs.CallerSteps.{IsNext}
+use Rattle.rand_pcg.specs.{Lcg.advance, Pcg.multiplier_64}
+use Rattle.eevdf_steps.specs.{Plan.Plan, Plan.callers, Orders.counters_after, Orders.counters_at_start}
+use Rattle.eevdf_orders.specs.{declared.caller_choice.Choice.Choice, declared.caller_choice.Choice.TheVariants.InTurn}
+use Rattle.eevdf_orders.specs.{declared.caller_choice.Choice.TheVariants.Drawn, CallerChoice.first_of, CallerSteps.IsNext}
 
 -- the choice after so many places, each of which takes one word of a generator
 abbrev pub choice_after : ℕ → Choice → Choice

@@ -1,18 +1,13 @@
 -- A workload that is printed with an order, or why none is.
 use Rattle.std.specs.Prelude.{◌≡◌, ◌⊎◌, ℕ, Bool, true, is_some, List, Option, None, Ok, Err}
 use Rattle.std.specs.Io.KnownBytes.{Appends}
-use Rattle.eevdf_steps.specs.declared.play_fault.PlayFault.TheVariants.{TooLong}
-use Rattle.eevdf_steps.specs.Plan.{plan_of}
-use Rattle.eevdf_steps.specs.Orders.{play_fault}
+use Rattle.eevdf_steps.specs.{declared.play_fault.PlayFault.TheVariants.TooLong, Plan.plan_of, Orders.play_fault}
 use Rattle.eevdf_workload.specs.declared.load_fault.LoadFault.TheVariants.{Memory as NoMemory}
-use Rattle.eevdf_bench.specs.declared.bench_fault.BenchFault.{BenchFault}
+use Rattle.eevdf_bench.specs.{declared.bench_fault.BenchFault.BenchFault, Streams.HasBegun}
 use Rattle.eevdf_bench.specs.declared.bench_fault.BenchFault.TheVariants.{Load, Memory, Play, Read, Run, Write}
 use Rattle.eevdf_workload.specs.Meaning.{Workload, meaning}
-use Rattle.eevdf_bench.specs.Streams.{HasBegun}
-use Rattle.eevdf_orders.specs.declared.print_fault.PrintFault.{PrintFault}
-use Rattle.eevdf_orders.specs.declared.print_fault.PrintFault.TheVariants.{Bench, Ordered}
-use Rattle.eevdf_orders.specs.CallerChoice.{choice_of}
-use Rattle.eevdf_orders.specs.ChosenOrders.{IsChosen}
+use Rattle.eevdf_orders.specs.{declared.print_fault.PrintFault.PrintFault, declared.print_fault.PrintFault.TheVariants.Bench}
+use Rattle.eevdf_orders.specs.{declared.print_fault.PrintFault.TheVariants.Ordered, CallerChoice.choice_of, ChosenOrders.IsChosen}
 use Rattle.eevdf_orders.specs.OrderText.{ordered_text}
 
 -- the text is that of a workload with the order of a seed, which plays without a fault, where it had none

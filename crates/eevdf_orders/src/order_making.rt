@@ -1,12 +1,9 @@
 //! Making an order by playing it.
 
 ghost use Rattle.std.specs.Prelude.{◌≡◌, ◌-◌, ◌<◌, ◌≤◌, true, is_some, ℕ, List, Err, None, Some, IfOk};
-ghost use Rattle.eevdf_orders.specs.CallerSteps.{IsStepAmong, IsStepFrom};
-ghost use Rattle.eevdf_orders.specs.ChosenOrders.{IsChosen};
+ghost use Rattle.eevdf_orders.specs.{CallerSteps.IsStepAmong, CallerSteps.IsStepFrom, ChosenOrders.IsChosen};
 ghost use Rattle.eevdf_orders.specs.FaultLines.{order_fault_text};
-ghost use Rattle.eevdf_steps.specs.Counters.{ready};
-ghost use Rattle.eevdf_steps.specs.Orders.{play_fault};
-ghost use Rattle.eevdf_steps.specs.Plan.{callers, plan_of};
+ghost use Rattle.eevdf_steps.specs.{Counters.ready, Orders.play_fault, Plan.callers, Plan.plan_of};
 
 use crate::caller_choice::Choice;
 use eevdf_ops::Setup;

@@ -5,13 +5,9 @@ use Rattle.std.specs.Ordering.{nat_cmp, eq_by_cmp, is_lt}
 use lib.Dec.{T}
 use Rattle.std.specs.FinMap as finite
 use Rattle.std.specs.FinMap.Entries.{find, is_sorted, below_all}
-use Rattle.std.proofs.lemmas.Bool.{cases_lt, cases_order}
-use Rattle.std.proofs.lemmas.Bool.Decides.{nat_tests}
+use Rattle.std.proofs.{lemmas.Bool.cases_lt, lemmas.Bool.cases_order, lemmas.Bool.Decides.nat_tests}
 use Rattle.std.specs.Prelude.{ℤ, map, nat_lt}
-use Rattle.eevdf_queue.specs.State.{Sleeper}
-use Rattle.eevdf_queue.specs.Numbers.{checked_number}
-use Rattle.eevdf_queue.specs.Lag.{sleeping_lag}
-use Rattle.eevdf_queue.specs.Ascending.{from_number, with_lag}
+use Rattle.eevdf_queue.specs.{State.Sleeper, Numbers.checked_number, Lag.sleeping_lag, Ascending.from_number, Ascending.with_lag}
 
 first : (a b : Bool) → T (a && b) → T a
 first true b h = tt

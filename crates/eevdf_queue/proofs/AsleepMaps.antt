@@ -1,14 +1,9 @@
 -- What is asked of the map of sleeping tasks, answered from their slots.
 use Rattle.std.proofs.Common.{◌≡◌, ℕ, zero, suc, ◌+◌, ◌<◌, Bool, true, false, cond, eqb, List, [], ◌∷◌, length, get_or, Option, Some, None, refl, sym, subst, ap, ◌∙◌, arith}
-use Rattle.std.specs.Prelude.{is_some, Box}
-use Rattle.std.specs.Ordering.{nat_cmp, eq_by_cmp}
-use Rattle.std.specs.Cmp.{nat_cmp_total}
+use Rattle.std.specs.{Prelude.is_some, Prelude.Box, Ordering.nat_cmp, Ordering.eq_by_cmp, Cmp.nat_cmp_total}
 use Rattle.std.specs.FinMap.{FinMap, find, empty, insert, remove, get, nat_cmp-IsAntisymmetric, get-from_entries, get-insert, get-remove, get-empty, same_map}
 use Rattle.std.proofs.lemmas.Bool.Decides.{nat_tests}
-use Rattle.eevdf_queue.specs.State.{Sleeper}
-use Rattle.eevdf_queue.specs.Lag.{is_lag}
-use Rattle.eevdf_queue.specs.Kept.{AreLimited}
-use Rattle.eevdf_queue.specs.TreeShape.{Tree}
+use Rattle.eevdf_queue.specs.{State.Sleeper, Lag.is_lag, Kept.AreLimited, TreeShape.Tree}
 use Rattle.eevdf_queue.specs.Slots.{sleeper_of_node, sleeper_in_slot, sleepers_from, asleep_in, slot_at, IsSlot, AreSlots, IsWith}
 
 abbrev Slot : Type 0 → Type 0

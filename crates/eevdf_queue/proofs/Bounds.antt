@@ -4,17 +4,10 @@ use Rattle.std.specs.Prelude.{ℤ, pos, negsuc, ◌+ℤ◌, ◌*ℤ◌, unsigned
 use Rattle.std.proofs.Math.Nat.{mul-le-mul_left, mul-le-mul_right, div-le_self, div-lt_iff_lt-mul, div-le_of_le-mul}
 use Rattle.std.proofs.lemmas.Int.{ints, clamps, unsigned_abs-mul}
 use Rattle.std.proofs.lemmas.Bool.Decides.{nat_tests}
-use Rattle.eevdf_weight.specs.Limits.{is_in_range}
-use Rattle.eevdf_weight.specs.Weight.{weight_of}
-use Rattle.eevdf_weight.specs.Charge.{charge_of}
-use Rattle.eevdf_weight.specs.Placement.{floor_div}
+use Rattle.eevdf_weight.specs.{Limits.is_in_range, Weight.weight_of, Charge.charge_of, Placement.floor_div}
 use Rattle.eevdf_weight.proofs.Weighing.{weight_of-greatest}
-use Rattle.eevdf_queue.specs.declared.run_entry.Entry.{Entry}
-use Rattle.eevdf_queue.specs.declared.task.Task.{Task}
-use Rattle.eevdf_queue.specs.Sums.{sum_weights, sum_moments}
-use Rattle.eevdf_queue.specs.Lag.{cut, is_lag}
-use Rattle.eevdf_queue.specs.Moves.{is_entry_in_range}
-use Rattle.eevdf_queue.specs.TaskLists.{entries_of, AreRunnable}
+use Rattle.eevdf_queue.specs.{declared.run_entry.Entry.Entry, declared.task.Task.Task, Sums.sum_weights, Sums.sum_moments, Lag.cut}
+use Rattle.eevdf_queue.specs.{Lag.is_lag, Moves.is_entry_in_range, TaskLists.entries_of, TaskLists.AreRunnable}
 
 pub within : (v : ℤ) → is_in_range v ≡ true → unsigned_abs v ≤ 2 ^ 60
 within v h = grind (arith, nat_tests)

@@ -1,10 +1,8 @@
 -- How deep a node is, as seen from a node and from another above it.
 use Rattle.std.proofs.Common.{◌≡◌, ℕ, suc, ◌+◌, zero-add, Bool, true, false, eqb, ◌&&◌, ◌||◌, List, [], ◌∷◌, ◌++◌, refl, sym, ap, ◌∙◌, arith}
 use Rattle.std.proofs.lemmas.Bool.Decides.{nat_tests}
-use Rattle.eevdf_queue.specs.declared.tree_node.TreeNode.TheInside.{Inside}
-use Rattle.eevdf_queue.specs.NodeDepths.{deeper, is_at_depth}
-use Rattle.eevdf_queue.specs.TreeShape.{depths_in}
-use Rattle.eevdf_queue.specs.TreeNodes.{depths_of}
+use Rattle.eevdf_queue.specs.{declared.tree_node.TreeNode.TheInside.Inside, NodeDepths.deeper, NodeDepths.is_at_depth}
+use Rattle.eevdf_queue.specs.{TreeShape.depths_in, TreeNodes.depths_of}
 
 or_kept : (b c d : Bool) → (c ≡ true → d ≡ true) → (b || c) ≡ true → (b || d) ≡ true
 or_kept true c d k h = refl

@@ -1,10 +1,8 @@
 -- The order of tasks, told from both sides, and the earliest by it.
 use Rattle.std.proofs.Common.{◌≡◌, ◌≢◌, ℕ, ◌<◌, ◌≤◌, Bool, true, false, ◌&&◌, ◌||◌, Option, arith}
 use Rattle.std.specs.Prelude.{ℤ, int_lt, ◌<ℤ◌, ◌⊎◌, nat_lt, not}
-use Rattle.std.proofs.lemmas.Int.{ints}
-use Rattle.std.proofs.lemmas.Bool.Decides.{nat_tests}
-use Rattle.eevdf_queue.specs.declared.run_entry.Entry.{Entry}
-use Rattle.eevdf_queue.specs.Order.{is_before}
+use Rattle.std.proofs.{lemmas.Int.ints, lemmas.Bool.Decides.nat_tests}
+use Rattle.eevdf_queue.specs.{declared.run_entry.Entry.Entry, Order.is_before}
 use Rattle.eevdf_queue.proofs.Foremost as by
 
 abbrev test : ℤ → ℕ → ℤ → ℕ → Bool

@@ -1,11 +1,8 @@
 -- The maps that a list of tasks stands for.
 use Rattle.std.proofs.Common.{◌≡◌, ℕ, suc, ◌<◌, ◌≤◌, Bool, true, false, cond, eqb, ◌||◌, List, [], ◌∷◌, length, map, Option, Some, None, refl, ap, ◌∙◌, arith}
-use Rattle.std.specs.Option.{option_map}
+use Rattle.std.specs.{Option.option_map, Ordering.nat_cmp, Ordering.eq_by_cmp, FinMap.find}
 use Rattle.std.specs.List.{IsDistinct, AllByRecursion, list_any}
-use Rattle.std.specs.Ordering.{nat_cmp, eq_by_cmp}
-use Rattle.std.specs.FinMap.{find}
-use Rattle.std.proofs.lemmas.Bool.Decides.{nat_tests}
-use Rattle.std.proofs.lemmas.Map.Steps.{length-le_from_distinct_below}
+use Rattle.std.proofs.{lemmas.Bool.Decides.nat_tests, lemmas.Map.Steps.length-le_from_distinct_below}
 use Rattle.eevdf_queue.specs.declared.task.Task.{Task}
 use Rattle.eevdf_queue.specs.TaskLists.{find_task, keyed, AreRunnable}
 use Rattle.eevdf_queue.proofs.MapFolds.{AreDistinct}

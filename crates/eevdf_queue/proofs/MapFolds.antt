@@ -1,11 +1,9 @@
 -- A recursion over the entries of a finite map: an entry may be taken first, whatever its place.
 use Rattle.std.proofs.Common.{◌≡◌, ◌≢◌, ℕ, ◌<◌, cond, List, [], ◌∷◌, length, Some, None, refl, sym, ap, ◌∙◌, arith}
-use Rattle.std.specs.declared.cmp.Ordering.{Ordering}
-use Rattle.std.specs.declared.cmp.Ordering.TheVariants.{Less, Equal, Greater}
-use Rattle.std.specs.Ordering.{nat_cmp, is_eq}
-use Rattle.std.specs.Cmp.{nat_cmp_total, ranked}
-use Rattle.std.specs.FinMap.{FinMap, empty, insert, get, entries, find, put, from_entries, len-entries, len-empty, get-entries, get-from_entries, entries-insert}
+use Rattle.std.specs.{declared.cmp.Ordering.Ordering, Ordering.nat_cmp, Ordering.is_eq, Cmp.nat_cmp_total, Cmp.ranked}
 use Rattle.std.specs.FinMap.Entries.{by_order}
+use Rattle.std.specs.declared.cmp.Ordering.TheVariants.{Less, Equal, Greater}
+use Rattle.std.specs.FinMap.{FinMap, empty, insert, get, entries, find, put, from_entries, len-entries, len-empty, get-entries, get-from_entries, entries-insert}
 
 pub no_entries : {X : Type 0} (es : List (ℕ × X)) → length es ≡ 0 → es ≡ []
 no_entries [] h = refl

@@ -3,14 +3,11 @@ use Rattle.std.proofs.Common.{◌≡◌, ℕ, Option, Some, None, refl, sym, ap,
 use Rattle.std.specs.Prelude.{ℤ, ◌↔◌, IfSome, IsNone, true}
 use Rattle.std.specs.Option.{option_map}
 use Rattle.std.specs.FinMap.{empty, contains_key, entries}
-use Rattle.eevdf_queue.specs.declared.run_entry.Entry.{Entry}
+use Rattle.eevdf_queue.specs.{declared.run_entry.Entry.Entry, Laws.PickIsFirst, Laws.PickOfNobody, Order.earliest}
 use Rattle.eevdf_queue.specs.Sums.{Tasks, total_weight, total_moment}
-use Rattle.eevdf_queue.specs.Laws.{PickIsFirst, PickOfNobody}
-use Rattle.eevdf_queue.specs.Order.{earliest}
 use Rattle.eevdf_queue.specs.Pick.{IsPick, is_eligible, is_eligible_at, pick_of}
-use Rattle.eevdf_queue.proofs.MapFolds.{entries-empty}
+use Rattle.eevdf_queue.proofs.{MapFolds.entries-empty, Mean.nobody}
 use Rattle.eevdf_queue.proofs.Picking.{IsEarliest, earliest_is, distinct_entries, pick_is, found_here}
-use Rattle.eevdf_queue.proofs.Mean.{nobody}
 
 pub picked : (tasks : Tasks) (r : Option ℕ) → r ≡ pick_of tasks → IfSome r (IsPick tasks)
 picked tasks None e = tt

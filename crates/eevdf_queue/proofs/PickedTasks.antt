@@ -1,20 +1,14 @@
 -- The entry of the task that was picked last: that it is the task's, and stays so when another task joins.
 use Rattle.std.proofs.Common.{◌≡◌, ℕ, Bool, true, false, cond, eqb, List, [], ◌∷◌, Option, Some, None, refl, sym, ap, ◌∙◌, arith}
-use Rattle.std.specs.Prelude.{ℤ, IfSome}
-use Rattle.std.specs.Option.{option_map}
-use Rattle.std.specs.Ordering.{nat_cmp}
-use Rattle.std.specs.FinMap.{FinMap, get}
+use Rattle.std.specs.{Prelude.ℤ, Prelude.IfSome, Option.option_map, Ordering.nat_cmp, FinMap.FinMap, FinMap.get}
 use Rattle.std.proofs.lemmas.Bool.Decides.{nat_tests}
-use Rattle.eevdf_queue.specs.declared.run_entry.Entry.{Entry}
-use Rattle.eevdf_queue.specs.declared.task.Task.{Task}
-use Rattle.eevdf_queue.specs.declared.totals.Totals.{Totals}
+use Rattle.eevdf_queue.specs.{declared.run_entry.Entry.Entry, declared.task.Task.Task, declared.totals.Totals.Totals}
 use Rattle.eevdf_queue.specs.declared.picked_task.PickedTask.{PickedTask}
 use Rattle.eevdf_queue.specs.TaskLists.{find_task, runnable_in, AreRunnable}
 use Rattle.eevdf_queue.specs.TreeTasks.{insert_task, first_that, IsAtDeadline}
 use Rattle.eevdf_queue.specs.TreeStores.{deadline_at, timeless, picked_timeless, IsRunnableStore, IsSummedStore, IsKnown, IsRunnableTasks}
-use Rattle.eevdf_queue.proofs.RunnableMaps.{get-runnable_in}
-use Rattle.eevdf_queue.proofs.TreeLists.{find-insert_task}
-use Rattle.eevdf_queue.proofs.TreeMaps.{placed_by, noted_deadline}
+use Rattle.eevdf_queue.proofs.{RunnableMaps.get-runnable_in, TreeLists.find-insert_task, TreeMaps.placed_by}
+use Rattle.eevdf_queue.proofs.TreeMaps.{noted_deadline}
 
 pub sums_kept : (table : List ℤ) (s : Totals) (p : PickedTask) (ts : List Task) → IsRunnableTasks table s p ts → IsSummedStore table s ts
 sums_kept table s p ts h = record { store = h.store; totals = h.totals }

@@ -1,21 +1,15 @@
 -- What is picked: the earliest of those that pass.
 use Rattle.std.proofs.Common.{◌≡◌, ℕ, ◌<◌, ◌≤◌, Bool, true, false, cond, ◌&&◌, List, [], ◌∷◌, Option, Some, None, T, refl, sym, ap, subst, ◌∙◌, arith}
 use Rattle.std.specs.Prelude.{ℤ, ◌<ℤ◌, ◌⊎◌, is_some}
-use Rattle.std.specs.Option.{option_map}
-use Rattle.std.specs.declared.cmp.Ordering.{Ordering}
+use Rattle.std.specs.{Option.option_map, declared.cmp.Ordering.Ordering, FinMap.Entries.below_all}
 use Rattle.std.specs.declared.cmp.Ordering.TheVariants.{Less, Equal, Greater}
 use Rattle.std.specs.Ordering.{nat_cmp, is_eq, is_lt, eq_by_cmp}
 use Rattle.std.specs.FinMap.{FinMap, get, contains_key, entries, entries_sorted, find, is_sorted, get-entries}
-use Rattle.std.specs.FinMap.Entries.{below_all}
-use Rattle.std.proofs.lemmas.Int.{ints}
-use Rattle.std.proofs.lemmas.Bool.Decides.{nat_tests}
-use Rattle.eevdf_queue.specs.declared.run_entry.Entry.{Entry}
-use Rattle.eevdf_queue.specs.Sums.{Tasks}
+use Rattle.std.proofs.{lemmas.Int.ints, lemmas.Bool.Decides.nat_tests}
+use Rattle.eevdf_queue.specs.{declared.run_entry.Entry.Entry, Sums.Tasks}
 use Rattle.eevdf_queue.specs.Order.{is_before, earlier, earliest}
 use Rattle.eevdf_queue.specs.Pick.{IsPick, is_eligible, pick_of}
-use Rattle.eevdf_queue.proofs.ListMaps.{same_number}
-use Rattle.eevdf_queue.proofs.MapFolds.{AreDistinct}
-use Rattle.eevdf_queue.proofs.Earliest.{told}
+use Rattle.eevdf_queue.proofs.{ListMaps.same_number, MapFolds.AreDistinct, Earliest.told}
 
 -- entries in order are distinct
 less_apart : (o : Ordering) → T (is_lt o) → is_eq o ≡ false

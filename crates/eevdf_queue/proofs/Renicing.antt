@@ -1,20 +1,14 @@
 -- A task that joins again the queue that it has left.
 use Rattle.std.proofs.Common.{◌≡◌, ℕ, Bool, true, false, cond, Option, Some, None, refl, sym, ap, ◌∙◌}
 use Rattle.std.specs.Prelude.{ℤ, ◌==◌, is_some}
-use Rattle.std.specs.Ordering.{nat_cmp, eq_by_cmp}
-use Rattle.std.specs.Cmp.{nat_cmp_total}
+use Rattle.std.specs.{Ordering.nat_cmp, Ordering.eq_by_cmp, Cmp.nat_cmp_total}
 use Rattle.std.specs.FinMap.{insert, remove, get, get-insert, get-remove, same_map, nat_cmp-IsAntisymmetric}
-use Rattle.eevdf_weight.specs.Limits.{is_in_range}
-use Rattle.eevdf_weight.specs.Weight.{weight_of}
-use Rattle.eevdf_weight.specs.Placement.{floor_div, placement_of}
-use Rattle.eevdf_queue.specs.declared.run_entry.Entry.{Entry}
-use Rattle.eevdf_queue.specs.State.{State, Sleeper}
+use Rattle.eevdf_weight.specs.{Limits.is_in_range, Weight.weight_of, Placement.floor_div, Placement.placement_of}
+use Rattle.eevdf_queue.specs.{declared.run_entry.Entry.Entry, State.State, State.Sleeper, Leaving.leave, Leaving.without_entry}
+use Rattle.eevdf_queue.specs.{Placing.runtime_of, Placing.placed_entry, Kept.IsSound}
 use Rattle.eevdf_queue.specs.Sums.{Tasks, time_over, total_weight, total_moment}
 use Rattle.eevdf_queue.specs.Moves.{entry_in_range, fresh_entry, with_runnable}
-use Rattle.eevdf_queue.specs.Leaving.{leave, without_entry}
-use Rattle.eevdf_queue.specs.Placing.{runtime_of, placed_entry}
 use Rattle.eevdf_queue.specs.Renice.{reniced, renice, renice_entry, renice_to}
-use Rattle.eevdf_queue.specs.Kept.{IsSound}
 use Rattle.eevdf_queue.proofs.Sound.{Asleep, sound_change}
 
 among_none : (b : Bool) (base mean : ℤ) (place : ℤ → ℤ) → cond b (cond b base mean) (place (cond b base mean)) ≡ cond b base (place (cond b base mean))

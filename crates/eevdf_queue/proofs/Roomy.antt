@@ -2,17 +2,11 @@
 use Rattle.std.proofs.Common.{◌≡◌, ℕ, ◌+◌, ◌*◌, ◌^◌, ◌≤◌, true, false, cond, Some, None, ap, sym, subst, ◌∙◌, arith}
 use Rattle.std.specs.Prelude.{ℤ, pos, negsuc, ◌+ℤ◌, ◌-ℤ◌, ◌*ℤ◌, unsigned_abs, is_some, ◌&&◌, ◌==◌}
 use Rattle.std.proofs.Math.Nat.{mul-le-mul_right, div-lt_iff_lt-mul, div-le_of_le-mul}
-use Rattle.std.proofs.lemmas.Int.{ints, unsigned_abs-mul}
-use Rattle.std.proofs.lemmas.Bool.Decides.{nat_tests}
-use Rattle.eevdf_weight.specs.Limits.{is_in_range}
-use Rattle.eevdf_weight.specs.Placement.{floor_div, placement_of}
-use Rattle.eevdf_weight.specs.Weight.{weight_of}
+use Rattle.std.proofs.{lemmas.Int.ints, lemmas.Int.unsigned_abs-mul, lemmas.Bool.Decides.nat_tests}
+use Rattle.eevdf_weight.specs.{Limits.is_in_range, Placement.floor_div, Placement.placement_of, Weight.weight_of}
 use Rattle.eevdf_weight.proofs.Weighing.{weight_of-greatest}
-use Rattle.eevdf_queue.specs.declared.run_entry.Entry.{Entry}
-use Rattle.eevdf_queue.specs.declared.totals.Totals.{Totals}
-use Rattle.eevdf_queue.specs.State.{State, Sleeper}
-use Rattle.eevdf_queue.specs.Sums.{total_weight, total_moment}
-use Rattle.eevdf_queue.specs.Lag.{is_lag}
+use Rattle.eevdf_queue.specs.{declared.run_entry.Entry.Entry, declared.totals.Totals.Totals, State.State, State.Sleeper}
+use Rattle.eevdf_queue.specs.{Sums.total_weight, Sums.total_moment, Lag.is_lag}
 use Rattle.eevdf_queue.specs.Moves.{request_of, fresh_entry, entry_in_range}
 use Rattle.eevdf_queue.specs.Placing.{placement, can_place, IsRoomy}
 use Rattle.eevdf_queue.proofs.Bounds.{charge_of_small, lag_small, within_range}

@@ -1,24 +1,17 @@
 -- What is asked of the map of runnable tasks, answered from a list of them.
 use Rattle.std.proofs.Common.{◌≡◌, ◌≢◌, ℕ, suc, ◌+◌, ◌*◌, ◌<◌, ◌≤◌, Bool, true, false, cond, eqb, List, [], ◌∷◌, length, Option, Some, None, refl, sym, ap, subst, ◌∙◌, arith}
 use Rattle.std.specs.Prelude.{pos, ◌+ℤ◌, ◌*ℤ◌, is_some}
-use Rattle.std.specs.Option.{option_map}
-use Rattle.std.specs.Ordering.{nat_cmp, eq_by_cmp}
-use Rattle.std.specs.Cmp.{nat_cmp_total}
+use Rattle.std.specs.{Option.option_map, Ordering.nat_cmp, Ordering.eq_by_cmp, Cmp.nat_cmp_total}
 use Rattle.std.specs.FinMap.{empty, insert, get, len, entries, nat_cmp-IsAntisymmetric, len-entries, get-from_entries, get-insert, same_map}
-use Rattle.std.proofs.lemmas.Int.{ints}
-use Rattle.std.proofs.lemmas.Bool.Decides.{nat_tests}
+use Rattle.std.proofs.{lemmas.Int.ints, lemmas.Bool.Decides.nat_tests}
 use Rattle.eevdf_weight.specs.Weight.{weight_of}
-use Rattle.eevdf_queue.specs.declared.run_entry.Entry.{Entry}
-use Rattle.eevdf_queue.specs.declared.task.Task.{Task}
-use Rattle.eevdf_queue.specs.Sums.{sum_weights, sum_moments, total_weight, total_moment}
-use Rattle.eevdf_queue.specs.Order.{earliest}
-use Rattle.eevdf_queue.specs.Moves.{is_entry_in_range}
+use Rattle.eevdf_queue.specs.{declared.run_entry.Entry.Entry, declared.task.Task.Task, Order.earliest, Moves.is_entry_in_range}
 use Rattle.eevdf_queue.specs.Kept.{AreInRange}
+use Rattle.eevdf_queue.specs.Sums.{sum_weights, sum_moments, total_weight, total_moment}
 use Rattle.eevdf_queue.specs.TaskLists.{find_task, set_entry, keyed, entries_of, runnable_in, AreRunnable}
-use Rattle.eevdf_queue.proofs.Bounds.{sum_weights_small, sum_moments_small}
-use Rattle.eevdf_queue.proofs.MapFolds.{fold-from_entries}
+use Rattle.eevdf_queue.proofs.{Bounds.sum_weights_small, Bounds.sum_moments_small, MapFolds.fold-from_entries, Earliest.taken}
+use Rattle.eevdf_queue.proofs.Earliest.{taken-swap}
 use Rattle.eevdf_queue.proofs.ListMaps.{find-keyed, numbered_runnable, distinct_keyed, few}
-use Rattle.eevdf_queue.proofs.Earliest.{taken, taken-swap}
 
 pub runnable_in-none : runnable_in [] ≡ empty
 unfolding runnable_in

@@ -3,12 +3,9 @@ use Rattle.std.proofs.Common.{◌≡◌, ℕ, ◌≤◌, true, Option, Some, Non
 use Rattle.std.specs.Prelude.{ℤ, IfSome, unsigned_abs}
 use Rattle.std.specs.FinMap.{get}
 use Rattle.std.proofs.lemmas.Bool.Decides.{nat_tests}
-use Rattle.eevdf_weight.specs.Weight.{weight_of}
-use Rattle.eevdf_weight.specs.Charge.{lag_limit_of}
-use Rattle.eevdf_queue.specs.declared.run_entry.Entry.{Entry}
-use Rattle.eevdf_queue.specs.State.{State, Sleeper}
+use Rattle.eevdf_weight.specs.{Weight.weight_of, Charge.lag_limit_of}
+use Rattle.eevdf_queue.specs.{declared.run_entry.Entry.Entry, State.State, State.Sleeper, Kept.AreLimited}
 use Rattle.eevdf_queue.specs.Lag.{is_lag, sleeping_lag, limit_by, limit_at}
-use Rattle.eevdf_queue.specs.Kept.{AreLimited}
 
 within : (s : Sleeper) → is_lag s.lag s.nice s.slice ≡ true → unsigned_abs s.lag ≤ lag_limit_of s.slice (weight_of s.nice)
 within s h = grind (arith, nat_tests)

@@ -2,8 +2,7 @@
 use Rattle.std.proofs.Common.{◌≡◌, ℕ, ◌*◌, ◌^◌, ◌<◌, ◌≤◌, arith}
 use Rattle.std.specs.Prelude.{ℤ, pos, ◌*ℤ◌, unsigned_abs}
 use Rattle.eevdf_queue.specs.Sums.{Tasks, total_weight, total_moment}
-use Rattle.eevdf_queue.specs.Kept.{AreInRange}
-use Rattle.eevdf_queue.specs.Laws.{AreSumsSmall}
+use Rattle.eevdf_queue.specs.{Kept.AreInRange, Laws.AreSumsSmall}
 use Rattle.eevdf_queue.proofs.Bounds.{range_v, scaled_small}
 
 below : (n w : ℕ) → w ≤ 88761 * 1024 → n ≤ 2 ^ 60 * w → n < 2 ^ 88

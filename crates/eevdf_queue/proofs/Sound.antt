@@ -1,15 +1,11 @@
 -- What a queue keeps through its calls.
 use Rattle.std.proofs.Common.{◌≡◌, ℕ, Bool, true, false, cond, eqb, Option, Some, None, refl, sym, ap, subst, ◌∙◌, arith}
-use Rattle.std.specs.Prelude.{ℤ, is_some}
-use Rattle.std.specs.Option.{option_map}
-use Rattle.std.specs.Ordering.{nat_cmp, eq_by_cmp}
-use Rattle.std.specs.Cmp.{nat_cmp_total}
+use Rattle.std.specs.{Prelude.ℤ, Prelude.is_some, Option.option_map, Ordering.nat_cmp, Ordering.eq_by_cmp, Cmp.nat_cmp_total}
 use Rattle.std.specs.FinMap.{FinMap, empty, insert, remove, get, contains_key, get-empty, get-insert, get-remove}
 use Rattle.std.proofs.lemmas.Bool.Decides.{nat_tests}
 use Rattle.eevdf_weight.specs.Limits.{is_in_range}
-use Rattle.eevdf_queue.specs.declared.run_entry.Entry.{Entry}
+use Rattle.eevdf_queue.specs.{declared.run_entry.Entry.Entry, Sums.Tasks}
 use Rattle.eevdf_queue.specs.State.{State, Sleeper, Contents}
-use Rattle.eevdf_queue.specs.Sums.{Tasks}
 use Rattle.eevdf_queue.specs.Leaving.{stopped, leaving_at, without_entry, IsNowhere}
 use Rattle.eevdf_queue.specs.Kept.{RunnerIsHere, AreApart, IsSound}
 

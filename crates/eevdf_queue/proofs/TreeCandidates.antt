@@ -1,19 +1,13 @@
 -- The latest of the waiting tasks is the same, in whatever order they are asked.
 use Rattle.std.proofs.Common.{◌≡◌, ℕ, Bool, true, false, cond, List, Option, Some, refl, sym, ap, ◌∙◌, arith}
-use Rattle.std.specs.Prelude.{not}
-use Rattle.std.specs.Option.{option_map}
-use Rattle.std.specs.Ordering.{nat_cmp}
-use Rattle.std.specs.FinMap.{FinMap, entries}
+use Rattle.std.specs.{Prelude.not, Option.option_map, Ordering.nat_cmp, FinMap.FinMap, FinMap.entries}
 use Rattle.std.proofs.lemmas.Int.{ints}
-use Rattle.eevdf_queue.specs.declared.run_entry.Entry.{Entry}
-use Rattle.eevdf_queue.specs.declared.task.Task.{Task}
-use Rattle.eevdf_queue.specs.Order.{is_before}
+use Rattle.eevdf_queue.specs.{declared.run_entry.Entry.Entry, declared.task.Task.Task, Order.is_before}
 use Rattle.eevdf_queue.specs.TaskLists.{entries_of, runnable_in, AreRunnable}
 use Rattle.eevdf_queue.specs.Candidate.{is_running, later, latest_waiting, candidate_of}
-use Rattle.eevdf_queue.proofs.Earliest.{told, either}
+use Rattle.eevdf_queue.proofs.{Earliest.told, Earliest.either, MapFolds.fold-from_entries, ListMaps.numbered_runnable}
+use Rattle.eevdf_queue.proofs.ListMaps.{distinct_keyed}
 use Rattle.eevdf_queue.proofs.Foremost as by
-use Rattle.eevdf_queue.proofs.MapFolds.{fold-from_entries}
-use Rattle.eevdf_queue.proofs.ListMaps.{numbered_runnable, distinct_keyed}
 
 -- what comes no earlier than one after another comes after that one
 between : (a b c : ℕ × Entry) → is_before b c ≡ true → is_before a c ≡ false → is_before b a ≡ true

@@ -1,11 +1,9 @@
 -- A node of which one side is another of the same height: what it keeps is right where its least virtual runtime is.
 use Rattle.std.proofs.Common.{◌≡◌, suc, ◌≤◌, false, [], Option, Some, None, Box, refl, sym, subst, ℕ, length, arith}
 use Rattle.std.specs.Prelude.{max, is_some}
-use Rattle.eevdf_queue.specs.declared.tree_node.TreeNode.TheInside.{Inside}
-use Rattle.eevdf_queue.specs.declared.tree_least.Least.{Least}
+use Rattle.eevdf_queue.specs.{declared.tree_node.TreeNode.TheInside.Inside, declared.tree_least.Least.Least, TreeNodes.tasks_of}
+use Rattle.eevdf_queue.specs.{TreeNodes.IsNode, TreeLeast.least_of, TreeLeast.AreLow}
 use Rattle.eevdf_queue.specs.TreeShape.{Tree, tasks_in, height_in, DifferByAtMost, IsFull}
-use Rattle.eevdf_queue.specs.TreeNodes.{tasks_of, IsNode}
-use Rattle.eevdf_queue.specs.TreeLeast.{least_of, AreLow}
 
 pub record IsSameHigh (b a : Inside) : Type 0 where
   pub height : a.height ≡ b.height

@@ -2,16 +2,10 @@
 use Rattle.std.proofs.Common.{◌≡◌, ℕ, ◌≤◌, Bool, true, false, cond, ◌||◌, List, [], ◌∷◌, ◌++◌, Option, Some, None, refl, sym, ap, ◌∙◌, arith}
 use Rattle.std.specs.Prelude.{ℤ, pos, negsuc, ◌*ℤ◌, ◌≤ℤ◌, int_le, int_lt, is_some}
 use Rattle.std.specs.Int.{int_min}
-use Rattle.std.proofs.Math.Nat.{mul-le-mul_right}
-use Rattle.std.proofs.lemmas.Int.{ints, clamps}
-use Rattle.eevdf_queue.specs.declared.task.Task.{Task}
-use Rattle.eevdf_queue.specs.Pick.{is_eligible_at}
-use Rattle.eevdf_queue.specs.TreeLeast.{least_runtime, AreLow}
-use Rattle.eevdf_queue.specs.TreeTasks.{first_that}
-use Rattle.eevdf_queue.specs.TreeShape.{tasks_in}
-use Rattle.eevdf_queue.specs.TreeNodes.{tasks_of, IsNode}
-use Rattle.eevdf_queue.specs.declared.tree_least.Least.{Least}
-use Rattle.eevdf_queue.specs.declared.tree_node.TreeNode.TheInside.{Inside}
+use Rattle.std.proofs.{Math.Nat.mul-le-mul_right, lemmas.Int.ints, lemmas.Int.clamps}
+use Rattle.eevdf_queue.specs.{declared.task.Task.Task, Pick.is_eligible_at, TreeLeast.least_runtime, TreeLeast.AreLow}
+use Rattle.eevdf_queue.specs.{TreeTasks.first_that, TreeShape.tasks_in, TreeNodes.tasks_of, TreeNodes.IsNode}
+use Rattle.eevdf_queue.specs.{declared.tree_least.Least.Least, declared.tree_node.TreeNode.TheInside.Inside}
 
 scaled_up : (a b : ℤ) (n : ℕ) → a ≤ℤ b → (a *ℤ pos n) ≤ℤ (b *ℤ pos n)
 scaled_up (pos a) (pos b) n h = let k : a ≤ b = omega (arith, ints) in omega (arith, ints, mul-le-mul_right n k)

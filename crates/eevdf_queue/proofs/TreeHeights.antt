@@ -1,10 +1,8 @@
 -- How high a tree of few tasks can be.
 use Rattle.std.proofs.Common.{◌≡◌, ℕ, zero, suc, ◌+◌, ◌/◌, ◌^◌, ◌≤◌, refl, sym, subst, List, ◌∷◌, ◌++◌, length, length-append, arith}
-use Rattle.eevdf_queue.specs.declared.task.Task.{Task}
+use Rattle.eevdf_queue.specs.{declared.task.Task.Task, TreeShape.DifferByAtMost, TreeShape.IsFull}
 use Rattle.std.specs.Prelude.{max}
-use Rattle.std.proofs.Math.Nat.{pow-suc}
-use Rattle.std.proofs.Math.Pow.{pow_mono}
-use Rattle.eevdf_queue.specs.TreeShape.{DifferByAtMost, IsFull}
+use Rattle.std.proofs.{Math.Nat.pow-suc, Math.Pow.pow_mono}
 
 doubled : (j m n p q : ℕ) → j ≤ m → j ≤ n → 2 ^ m ≤ suc p → 2 ^ n ≤ suc q → 2 ^ suc j ≤ suc (p + suc q)
 doubled j m n p q a b h k = omega (arith, pow-suc 2 j, pow_mono a, pow_mono b)

@@ -1,8 +1,7 @@
 -- The last task that isn't the running one.
 use Rattle.std.proofs.Common.{◌≡◌, ℕ, Bool, true, false, cond, List, [], ◌∷◌, ◌++◌, Option, Some, None, refl, ap, ◌∙◌}
 use Rattle.std.specs.Option.{option_map}
-use Rattle.eevdf_queue.specs.declared.task.Task.{Task}
-use Rattle.eevdf_queue.specs.Candidate.{is_running}
+use Rattle.eevdf_queue.specs.{declared.task.Task.Task, Candidate.is_running}
 use Rattle.eevdf_queue.specs.TreeTasks.{last_waiting, last_or, last_number}
 
 pub number-append : (b r : Option ℕ) (xs ys : List Task) → last_number b r (xs ++ ys) ≡ last_number (last_number b r xs) r ys

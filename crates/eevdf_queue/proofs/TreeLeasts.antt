@@ -3,12 +3,9 @@ use Rattle.std.proofs.Common.{◌≡◌, ℕ, Bool, true, false, cond, eqb, Opti
 use Rattle.std.specs.Prelude.{ℤ, pos, ◌≤ℤ◌, ◌<ℤ◌, IfSome}
 use Rattle.std.specs.Int.{int_min}
 use Rattle.std.proofs.lemmas.Int.{ints, clamps}
-use Rattle.eevdf_queue.specs.declared.run_entry.Entry.{Entry}
-use Rattle.eevdf_queue.specs.declared.task.Task.{Task}
-use Rattle.eevdf_queue.specs.declared.tree_least.Least.{Least}
-use Rattle.eevdf_queue.specs.TaskLists.{find_task, set_entry}
+use Rattle.eevdf_queue.specs.{declared.run_entry.Entry.Entry, declared.task.Task.Task, declared.tree_least.Least.Least}
+use Rattle.eevdf_queue.specs.{TaskLists.find_task, TaskLists.set_entry, TreeTasks.precedes, TreeTasks.insert_task}
 use Rattle.eevdf_queue.specs.TreeLeast.{least_runtime, least_of, lesser}
-use Rattle.eevdf_queue.specs.TreeTasks.{precedes, insert_task}
 
 least_below : (ts : List Task) → least_runtime ts ≤ℤ pos 0x7fff_ffff_ffff_ffff
 least_below [] = grind (arith, ints)

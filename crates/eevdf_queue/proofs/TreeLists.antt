@@ -1,10 +1,8 @@
 -- What an insertion into a list of tasks and a removal from it keep.
 use Rattle.std.proofs.Common.{◌≡◌, ℕ, ◌<◌, Bool, true, false, cond, eqb, List, [], ◌∷◌, length, Option, Some, None, refl, subst, ap, ◌∙◌, arith}
 use Rattle.std.proofs.lemmas.Bool.Decides.{nat_tests}
-use Rattle.eevdf_queue.specs.declared.task.Task.{Task}
-use Rattle.eevdf_queue.specs.TaskLists.{find_task}
+use Rattle.eevdf_queue.specs.{declared.task.Task.Task, TaskLists.find_task, TreeStores.AllTasks}
 use Rattle.eevdf_queue.specs.TreeTasks.{precedes, insert_task, without}
-use Rattle.eevdf_queue.specs.TreeStores.{AllTasks}
 use Rattle.eevdf_queue.proofs.ListMaps.{AreNumbered, few}
 
 pub all-insert : (P : Task → Type 0) (t : Task) (ts : List Task) → P t → AllTasks P ts → AllTasks P (insert_task t ts)

@@ -1,19 +1,15 @@
 -- What is asked of the maps of runnable and of sleeping tasks, answered from rising lists of them.
 use Rattle.std.proofs.Common.{◌≡◌, ℕ, ◌<◌, Bool, true, false, cond, eqb, List, [], ◌∷◌, length, Option, Some, None, refl, sym, subst, ap, ◌∙◌}
-use Rattle.std.specs.Prelude.{ℤ, is_some}
-use Rattle.std.specs.Ordering.{nat_cmp}
+use Rattle.std.specs.{Prelude.ℤ, Prelude.is_some, Ordering.nat_cmp}
 use Rattle.std.specs.FinMap.{FinMap, insert, remove, get}
-use Rattle.eevdf_queue.specs.declared.run_entry.Entry.{Entry}
-use Rattle.eevdf_queue.specs.declared.task.Task.{Task}
-use Rattle.eevdf_queue.specs.declared.tree_key.Key.{Key}
+use Rattle.eevdf_queue.specs.{declared.run_entry.Entry.Entry, declared.task.Task.Task, declared.tree_key.Key.Key}
 use Rattle.eevdf_queue.specs.Moves.{is_entry_in_range}
 use Rattle.eevdf_queue.specs.TaskLists.{find_task, runnable_in, AreRunnable}
 use Rattle.eevdf_queue.specs.TreeTasks.{insert_task, without, IsAtDeadline}
 use Rattle.eevdf_queue.specs.TreeStores.{AllTasks, deadline_at, IsNoted, IsRunnableStore}
-use Rattle.eevdf_queue.proofs.ListMaps.{AreNumbered, numbered_runnable}
-use Rattle.eevdf_queue.proofs.RunnableMaps.{get-runnable_in}
-use Rattle.eevdf_queue.proofs.TreeLists.{all-insert, all-without, all-found, numbered-insert, numbered-without, room}
+use Rattle.eevdf_queue.proofs.{ListMaps.AreNumbered, ListMaps.numbered_runnable, RunnableMaps.get-runnable_in}
 use Rattle.eevdf_queue.proofs.TreeSearch.{found_number}
+use Rattle.eevdf_queue.proofs.TreeLists.{all-insert, all-without, all-found, numbered-insert, numbered-without, room}
 use Rattle.eevdf_queue.proofs.TreeSeen.{itself, missed-own, seen-insert, seen-without, seen-moved, seen_absent, seen_present, seen_found}
 
 abbrev pub InRange : Task → Type 0

@@ -1,8 +1,7 @@
 -- The order of tasks by key, and lists whose keys rise.
 use Rattle.std.proofs.Common.{◌≡◌, append_assoc, Bool, true, false, cond, List, [], ◌∷◌, ◌++◌, refl, sym, subst, ap, ◌∙◌, arith}
 use Rattle.std.proofs.lemmas.Int.{ints}
-use Rattle.eevdf_queue.specs.TaskLists.{first_task}
-use Rattle.eevdf_queue.specs.declared.task.Task.{Task}
+use Rattle.eevdf_queue.specs.{TaskLists.first_task, declared.task.Task.Task}
 use Rattle.eevdf_queue.specs.TreeTasks.{precedes, PrecedesAll, AreOrdered, insert_task}
 use Rattle.eevdf_queue.proofs.Earliest.{told}
 

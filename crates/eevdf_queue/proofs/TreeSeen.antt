@@ -1,16 +1,10 @@
 -- The map that a list of tasks is seen as, after an insertion into the list and a removal from it.
 use Rattle.std.proofs.Common.{◌≡◌, ℕ, Bool, true, false, cond, eqb, List, Option, Some, None, refl, sym, ap, ◌∙◌, arith}
-use Rattle.std.specs.Prelude.{is_some}
-use Rattle.std.specs.Option.{option_map}
-use Rattle.std.specs.Ordering.{nat_cmp, eq_by_cmp}
-use Rattle.std.specs.Cmp.{nat_cmp_total}
+use Rattle.std.specs.{Prelude.is_some, Option.option_map, Ordering.nat_cmp, Ordering.eq_by_cmp, Cmp.nat_cmp_total}
 use Rattle.std.specs.FinMap.{FinMap, insert, remove, get, nat_cmp-IsAntisymmetric, get-insert, get-remove, same_map}
 use Rattle.std.proofs.lemmas.Bool.Decides.{nat_tests}
-use Rattle.eevdf_queue.specs.declared.task.Task.{Task}
-use Rattle.eevdf_queue.specs.TaskLists.{find_task}
-use Rattle.eevdf_queue.specs.TreeTasks.{insert_task, without}
-use Rattle.eevdf_queue.proofs.ListMaps.{AreNumbered, same_number}
-use Rattle.eevdf_queue.proofs.TreeLists.{find-insert_task, find-without}
+use Rattle.eevdf_queue.specs.{declared.task.Task.Task, TaskLists.find_task, TreeTasks.insert_task, TreeTasks.without}
+use Rattle.eevdf_queue.proofs.{ListMaps.AreNumbered, ListMaps.same_number, TreeLists.find-insert_task, TreeLists.find-without}
 
 turned : (m n : ℕ) → eqb m n ≡ eq_by_cmp nat_cmp n m
 turned m n = sym (same_number n m)

@@ -1,19 +1,12 @@
 -- Lists whose keys rise: they stay so, and their first and last are the earliest and the latest.
 use Rattle.std.proofs.Common.{◌≡◌, ℕ, suc, ◌/◌, ◌<◌, ◌≤◌, Bool, true, false, cond, eqb, List, [], ◌∷◌, length, Option, Some, None, refl, sym, subst, ap, ◌∙◌, arith}
 use Rattle.std.specs.Option.{option_map}
-use Rattle.std.proofs.Math.Pow.{pow_mono}
-use Rattle.std.proofs.lemmas.Int.{ints}
-use Rattle.std.proofs.lemmas.Bool.Decides.{nat_tests}
-use Rattle.eevdf_queue.specs.declared.run_entry.Entry.{Entry}
-use Rattle.eevdf_queue.specs.declared.task.Task.{Task}
-use Rattle.eevdf_queue.specs.TaskLists.{find_task, entries_of}
-use Rattle.eevdf_queue.specs.Order.{earlier, earliest}
+use Rattle.std.proofs.{Math.Pow.pow_mono, lemmas.Int.ints, lemmas.Bool.Decides.nat_tests}
+use Rattle.eevdf_queue.specs.{declared.run_entry.Entry.Entry, declared.task.Task.Task, TaskLists.find_task, TaskLists.entries_of}
+use Rattle.eevdf_queue.specs.{Order.earlier, Order.earliest, TreeShape.IsFull}
 use Rattle.eevdf_queue.specs.Candidate.{is_running, later, latest_waiting}
-use Rattle.eevdf_queue.specs.TreeShape.{IsFull}
 use Rattle.eevdf_queue.specs.TreeTasks.{precedes, PrecedesAll, AreOrdered, IsSorted, insert_task, without, first_that, last_waiting, last_or, last_number, numbered_entry}
-use Rattle.eevdf_queue.proofs.Earliest.{told}
-use Rattle.eevdf_queue.proofs.TreeLast.{number_of_last}
-use Rattle.eevdf_queue.proofs.TreeOrder.{precedes-trans}
+use Rattle.eevdf_queue.proofs.{Earliest.told, TreeLast.number_of_last, TreeOrder.precedes-trans}
 
 all_through : (t u : Task) (us : List Task) → precedes t u ≡ true → PrecedesAll u us → PrecedesAll t us
 all_through t u [] p h = tt

@@ -4,15 +4,11 @@ use Rattle.std.specs.Prelude.{ℤ, pos, ◌+ℤ◌, ◌*ℤ◌, unsigned_abs}
 use Rattle.std.specs.Option.{option_map}
 use Rattle.std.proofs.lemmas.Int.{ints}
 use Rattle.eevdf_weight.specs.Weight.{weight_of}
-use Rattle.eevdf_queue.specs.declared.run_entry.Entry.{Entry}
-use Rattle.eevdf_queue.specs.declared.task.Task.{Task}
-use Rattle.eevdf_queue.specs.declared.totals.Totals.{Totals}
-use Rattle.eevdf_queue.specs.Sums.{sum_weights, sum_moments}
+use Rattle.eevdf_queue.specs.{declared.run_entry.Entry.Entry, declared.task.Task.Task, declared.totals.Totals.Totals}
+use Rattle.eevdf_queue.specs.{Sums.sum_weights, Sums.sum_moments, TreeStores.AreTotals, TreeStores.IsSummedStore}
 use Rattle.eevdf_queue.specs.TaskLists.{find_task, set_entry, entries_of}
 use Rattle.eevdf_queue.specs.TreeTasks.{precedes, insert_task, without}
-use Rattle.eevdf_queue.specs.TreeStores.{AreTotals, IsSummedStore}
-use Rattle.eevdf_queue.proofs.RunnableMaps.{light}
-use Rattle.eevdf_queue.proofs.Bounds.{sum_moments_small}
+use Rattle.eevdf_queue.proofs.{RunnableMaps.light, Bounds.sum_moments_small}
 
 -- of any sum
 module _ {A : Type 0} (F : List Task → A) (op : Task → A → A) (more : (t : Task) (ts : List Task) → F (t ∷ ts) ≡ op t (F ts))

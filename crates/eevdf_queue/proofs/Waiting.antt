@@ -1,15 +1,11 @@
 -- What the candidate is: the latest of the tasks that don't run.
 use Rattle.std.proofs.Common.{◌≡◌, ℕ, Bool, true, false, cond, List, [], ◌∷◌, Option, Some, None, refl, sym, ap, subst, ◌∙◌}
 use Rattle.std.specs.Prelude.{◌↔◌, IfSome, IsNone, is_some}
-use Rattle.std.specs.Option.{option_map}
-use Rattle.std.specs.Ordering.{nat_cmp, eq_by_cmp}
+use Rattle.std.specs.{Option.option_map, Ordering.nat_cmp, Ordering.eq_by_cmp}
 use Rattle.std.specs.FinMap.{contains_key, entries, find, get-entries}
-use Rattle.eevdf_queue.specs.declared.run_entry.Entry.{Entry}
-use Rattle.eevdf_queue.specs.Sums.{Tasks}
-use Rattle.eevdf_queue.specs.Order.{is_before}
+use Rattle.eevdf_queue.specs.{declared.run_entry.Entry.Entry, Sums.Tasks, Order.is_before}
 use Rattle.eevdf_queue.specs.Candidate.{is_running, later, latest_waiting, candidate_of, IsCandidate, NoneWaits}
-use Rattle.eevdf_queue.proofs.MapFolds.{AreDistinct}
-use Rattle.eevdf_queue.proofs.Earliest.{told}
+use Rattle.eevdf_queue.proofs.{MapFolds.AreDistinct, Earliest.told}
 use Rattle.eevdf_queue.proofs.Picking.{distinct_entries, itself, found_by, behind, never_before, one_way, no_later, later_by}
 
 -- the last of a list: it stands there and waits, and comes before none that waits

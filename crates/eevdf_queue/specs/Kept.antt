@@ -2,11 +2,8 @@
 use Rattle.std.specs.Prelude.{◌≡◌, ℕ, ◌<◌, true, Option, Some, None}
 use Rattle.std.specs.Ordering.{nat_cmp}
 use Rattle.std.specs.FinMap as map
-use Rattle.eevdf_queue.specs.declared.run_entry.Entry.{Entry}
-use Rattle.eevdf_queue.specs.State.{State, Sleeper}
-use Rattle.eevdf_queue.specs.Sums.{Tasks, virtual_time}
-use Rattle.eevdf_queue.specs.Moves.{is_entry_in_range}
-use Rattle.eevdf_queue.specs.Lag.{is_lag}
+use Rattle.eevdf_queue.specs.{declared.run_entry.Entry.Entry, State.State, State.Sleeper, Sums.Tasks, Sums.virtual_time}
+use Rattle.eevdf_queue.specs.{Moves.is_entry_in_range, Lag.is_lag}
 use Rattle.eevdf_weight.specs.Limits.{is_in_range}
 
 -- numbers are below the limit, virtual runtimes and deadlines in range

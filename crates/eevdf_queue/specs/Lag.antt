@@ -2,11 +2,8 @@
 use Rattle.std.specs.Prelude.{ℕ, Bool, nat_le, unsigned_abs, ℤ, pos, neg_ℤ, ◌-ℤ◌, Option, Some, None}
 use Rattle.std.specs.Int.{int_min, int_max}
 use Rattle.std.specs.FinMap as map
-use Rattle.eevdf_weight.specs.Weight.{weight_of}
-use Rattle.eevdf_weight.specs.Charge.{lag_limit_of}
-use Rattle.eevdf_queue.specs.declared.run_entry.Entry.{Entry}
-use Rattle.eevdf_queue.specs.State.{State, Sleeper}
-use Rattle.eevdf_queue.specs.Sums.{virtual_time}
+use Rattle.eevdf_weight.specs.{Weight.weight_of, Charge.lag_limit_of}
+use Rattle.eevdf_queue.specs.{declared.run_entry.Entry.Entry, State.State, State.Sleeper, Sums.virtual_time}
 
 -- a number cut to plus or minus a limit
 abbrev pub cut : ℤ → ℕ → ℤ

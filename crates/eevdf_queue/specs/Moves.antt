@@ -1,9 +1,7 @@
 -- How a task comes into a queue.
 use Rattle.std.specs.Prelude.{ℕ, ℤ, pos, ◌+ℤ◌, Bool, ◌&&◌, if◌then◌else◌, Option, Some, None}
 use Rattle.std.specs.FinMap as map
-use Rattle.eevdf_weight.specs.Limits.{is_in_range}
-use Rattle.eevdf_weight.specs.Weight.{weight_of}
-use Rattle.eevdf_weight.specs.Charge.{charge_of}
+use Rattle.eevdf_weight.specs.{Limits.is_in_range, Weight.weight_of, Charge.charge_of}
 use Rattle.eevdf_queue.specs.declared.run_entry.Entry.{Entry}
 use Rattle.eevdf_queue.specs.State.{State, Sleeper, Contents}
 

@@ -1,16 +1,10 @@
 -- A change of a task's nice level: the task leaves, and joins again at once with the lag that it keeps.
 use Rattle.std.specs.Prelude.{ℕ, ℤ, pos, ◌*ℤ◌, Option, Some, None}
 use Rattle.std.specs.FinMap as map
-use Rattle.eevdf_weight.specs.Weight.{weight_of}
-use Rattle.eevdf_weight.specs.Charge.{lag_limit_of}
-use Rattle.eevdf_weight.specs.Placement.{floor_div}
-use Rattle.eevdf_queue.specs.declared.run_entry.Entry.{Entry}
-use Rattle.eevdf_queue.specs.declared.answers.ReniceAnswer.{ReniceAnswer}
+use Rattle.eevdf_weight.specs.{Weight.weight_of, Charge.lag_limit_of, Placement.floor_div}
+use Rattle.eevdf_queue.specs.{declared.run_entry.Entry.Entry, declared.answers.ReniceAnswer.ReniceAnswer, State.State}
+use Rattle.eevdf_queue.specs.{State.Sleeper, Lag.cut, Lag.kept_lag, Leaving.leave, Placing.put}
 use Rattle.eevdf_queue.specs.declared.answers.ReniceAnswer.TheVariants.{Reniced, NotHere, Range}
-use Rattle.eevdf_queue.specs.State.{State, Sleeper}
-use Rattle.eevdf_queue.specs.Lag.{cut, kept_lag}
-use Rattle.eevdf_queue.specs.Leaving.{leave}
-use Rattle.eevdf_queue.specs.Placing.{put}
 
 -- a lag under another nice level: the same service in the virtual time of the new weight, rounded down, and cut
 -- to the limit that the task then has

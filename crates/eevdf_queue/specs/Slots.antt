@@ -2,10 +2,8 @@
 use Rattle.std.specs.Prelude.{◌≡◌, ℕ, suc, ◌<◌, ◌==◌, if◌then◌else◌, List, [], ◌∷◌, Option, Some, None, Box, slice_index_or}
 use Rattle.std.specs.Ordering.{nat_cmp}
 use Rattle.std.specs.FinMap as map
-use Rattle.eevdf_queue.specs.declared.task.Task.{Task}
-use Rattle.eevdf_queue.specs.State.{Sleeper}
+use Rattle.eevdf_queue.specs.{declared.task.Task.Task, State.Sleeper, TreeShape.Tree}
 use Rattle.eevdf_queue.specs.TaskLists.{first_task, sleeper_in, IsLone}
-use Rattle.eevdf_queue.specs.TreeShape.{Tree}
 
 -- what is kept of the task of a lone node
 abbrev pub sleeper_of_node : Tree → Sleeper

@@ -2,10 +2,8 @@
 use Rattle.std.specs.Prelude.{ℕ, ◌+◌, ◌==◌, ℤ, pos, ◌+ℤ◌, ◌*ℤ◌, List, [], ◌∷◌, if◌then◌else◌}
 use Rattle.std.specs.Ordering.{nat_cmp}
 use Rattle.std.specs.FinMap as map
-use Rattle.eevdf_weight.specs.Weight.{weight_of}
-use Rattle.eevdf_weight.specs.Placement.{floor_div}
-use Rattle.eevdf_queue.specs.declared.run_entry.Entry.{Entry}
-use Rattle.eevdf_queue.specs.State.{State}
+use Rattle.eevdf_weight.specs.{Weight.weight_of, Placement.floor_div}
+use Rattle.eevdf_queue.specs.{declared.run_entry.Entry.Entry, State.State}
 
 -- runnable tasks by number
 abbrev pub Tasks : Type 0

@@ -2,11 +2,8 @@
 use Rattle.std.specs.Prelude.{◌≡◌, ℕ, ◌<◌, ◌==◌, true, pos, List, [], ◌∷◌, if◌then◌else◌, Option, Some, None}
 use Rattle.std.specs.Ordering.{nat_cmp}
 use Rattle.std.specs.FinMap as map
-use Rattle.eevdf_queue.specs.declared.run_entry.Entry.{Entry}
-use Rattle.eevdf_queue.specs.declared.task.Task.{Task}
-use Rattle.eevdf_queue.specs.State.{Sleeper, Contents}
-use Rattle.eevdf_queue.specs.Moves.{is_entry_in_range}
-use Rattle.eevdf_queue.specs.Lag.{is_lag}
+use Rattle.eevdf_queue.specs.{declared.run_entry.Entry.Entry, declared.task.Task.Task, State.Sleeper, State.Contents}
+use Rattle.eevdf_queue.specs.{Moves.is_entry_in_range, Lag.is_lag}
 
 -- the first task; in an empty list, which no node has, the task 0 with zeros
 abbrev pub first_task : List Task → Task

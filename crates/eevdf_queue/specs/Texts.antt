@@ -1,16 +1,13 @@
 -- The texts of entries and answers.
 use Rattle.std.specs.Prelude.{ℕ, Bool, true, false, List, [], ◌++◌, codes, decimal}
 use Rattle.std.specs.Fmt.{signed_decimal}
-use Rattle.eevdf_queue.specs.declared.run_entry.Entry.{Entry}
-use Rattle.eevdf_queue.specs.declared.answers.TickAnswer.{TickAnswer}
+use Rattle.eevdf_queue.specs.{declared.run_entry.Entry.Entry, declared.answers.TickAnswer.TickAnswer}
+use Rattle.eevdf_queue.specs.{declared.answers.YieldAnswer.YieldAnswer, declared.answers.WakeAnswer.WakeAnswer}
+use Rattle.eevdf_queue.specs.{declared.answers.ReniceAnswer.ReniceAnswer, declared.refusal.Refusal.Refusal}
 use Rattle.eevdf_queue.specs.declared.answers.TickAnswer.TheVariants as tick
-use Rattle.eevdf_queue.specs.declared.answers.YieldAnswer.{YieldAnswer}
 use Rattle.eevdf_queue.specs.declared.answers.YieldAnswer.TheVariants as yield
-use Rattle.eevdf_queue.specs.declared.answers.WakeAnswer.{WakeAnswer}
 use Rattle.eevdf_queue.specs.declared.answers.WakeAnswer.TheVariants as wake
-use Rattle.eevdf_queue.specs.declared.answers.ReniceAnswer.{ReniceAnswer}
 use Rattle.eevdf_queue.specs.declared.answers.ReniceAnswer.TheVariants as renice
-use Rattle.eevdf_queue.specs.declared.refusal.Refusal.{Refusal}
 use Rattle.eevdf_queue.specs.declared.refusal.Refusal.TheVariants as refusal
 
 -- a runnable task's virtual runtime and deadline, nice level and slice

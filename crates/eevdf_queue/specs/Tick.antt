@@ -1,13 +1,10 @@
 -- A tick: the running task is charged, and renewed where it has used up its request.
 use Rattle.std.specs.Prelude.{ℕ, ℤ, pos, ◌+ℤ◌, Bool, int_le, if◌then◌else◌, Option, Some, None}
 use Rattle.std.specs.FinMap as map
-use Rattle.eevdf_weight.specs.Weight.{weight_of}
-use Rattle.eevdf_weight.specs.Charge.{charge_of}
-use Rattle.eevdf_queue.specs.declared.run_entry.Entry.{Entry}
-use Rattle.eevdf_queue.specs.declared.answers.TickAnswer.{TickAnswer}
+use Rattle.eevdf_weight.specs.{Weight.weight_of, Charge.charge_of}
+use Rattle.eevdf_queue.specs.{declared.run_entry.Entry.Entry, declared.answers.TickAnswer.TickAnswer, State.State}
+use Rattle.eevdf_queue.specs.{Moves.fresh_entry, Moves.is_entry_in_range}
 use Rattle.eevdf_queue.specs.declared.answers.TickAnswer.TheVariants.{Charged, Idle, Range}
-use Rattle.eevdf_queue.specs.State.{State}
-use Rattle.eevdf_queue.specs.Moves.{fresh_entry, is_entry_in_range}
 
 -- the virtual runtime after so many nanoseconds
 abbrev pub aged : Entry → ℕ → ℤ

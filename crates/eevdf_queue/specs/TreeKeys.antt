@@ -1,7 +1,6 @@
 -- Keys against tasks.
 use Rattle.std.specs.Prelude.{nat_eq, nat_lt, int_lt, Bool, ◌&&◌, ◌||◌, not}
-use Rattle.eevdf_queue.specs.declared.task.Task.{Task}
-use Rattle.eevdf_queue.specs.declared.tree_key.Key.{Key}
+use Rattle.eevdf_queue.specs.{declared.task.Task.Task, declared.tree_key.Key.Key}
 
 -- the key is a task's own
 abbrev pub is_of : Key → Task → Bool

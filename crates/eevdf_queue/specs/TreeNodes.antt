@@ -1,10 +1,8 @@
 -- What holds of a node, and what it is seen as.
 use Rattle.std.specs.Prelude.{◌≡◌, ℕ, suc, ◌≤◌, max, List, ◌∷◌, ◌++◌, length}
-use Rattle.eevdf_queue.specs.declared.task.Task.{Task}
-use Rattle.eevdf_queue.specs.declared.tree_node.TreeNode.TheInside.{Inside}
-use Rattle.eevdf_queue.specs.NodeDepths.{deeper}
+use Rattle.eevdf_queue.specs.{declared.task.Task.Task, declared.tree_node.TreeNode.TheInside.Inside, NodeDepths.deeper}
+use Rattle.eevdf_queue.specs.{TreeLeast.least_of, TreeLeast.AreLow}
 use Rattle.eevdf_queue.specs.TreeShape.{Tree, tasks_in, height_in, depths_in, DifferByAtMost, IsFull}
-use Rattle.eevdf_queue.specs.TreeLeast.{least_of, AreLow}
 
 abbrev pub tasks_of : Inside → List Task
 tasks_of a = tasks_in a.left ++ a.task ∷ tasks_in a.right

@@ -1,7 +1,6 @@
 -- A tree of boxed nodes, seen as its tasks in order, its height and the depths of its nodes.
 use Rattle.std.specs.Prelude.{◌≡◌, ℕ, suc, ◌+◌, ◌/◌, ◌^◌, ◌≤◌, max, List, [], ◌∷◌, Option, Some, None, Box}
-use Rattle.eevdf_queue.specs.declared.task.Task.{Task}
-use Rattle.eevdf_queue.specs.TaskLists.{first_task}
+use Rattle.eevdf_queue.specs.{declared.task.Task.Task, TaskLists.first_task}
 
 pub record Tree : Type 0 where
   pub tasks : List Task

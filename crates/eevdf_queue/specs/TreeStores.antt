@@ -1,10 +1,8 @@
 -- What the stores over trees keep.
 use Rattle.std.specs.Prelude.{◌≡◌, ℕ, ℤ, pos, true, List, [], ◌∷◌, Some, slice_index_or}
 use Rattle.std.specs.Option.{option_map}
-use Rattle.eevdf_queue.specs.declared.picked_task.PickedTask.{PickedTask}
-use Rattle.eevdf_queue.specs.declared.task.Task.{Task}
-use Rattle.eevdf_queue.specs.declared.totals.Totals.{Totals}
-use Rattle.eevdf_queue.specs.Sums.{sum_weights, sum_moments}
+use Rattle.eevdf_queue.specs.{declared.picked_task.PickedTask.PickedTask, declared.task.Task.Task, declared.totals.Totals.Totals}
+use Rattle.eevdf_queue.specs.{Sums.sum_weights, Sums.sum_moments}
 use Rattle.eevdf_queue.specs.TaskLists.{find_task, entries_of, AreRunnable}
 
 abbrev pub AllTasks : (Task → Type 0) → List Task → Type 0

@@ -1,9 +1,8 @@
 -- What comes of a task that is to join a queue, where nothing was tested before.
 use Rattle.std.specs.Prelude.{ℕ, ◌||◌, Bool, if◌then◌else◌, Option, Some, None, Result, Ok, Err}
 use Rattle.std.specs.FinMap as map
-use Rattle.eevdf_queue.specs.declared.refusal.Refusal.{Refusal}
-use Rattle.eevdf_queue.specs.declared.refusal.Refusal.TheVariants.{Present, Range}
-use Rattle.eevdf_queue.specs.State.{State}
+use Rattle.eevdf_queue.specs.{declared.refusal.Refusal.Refusal, declared.refusal.Refusal.TheVariants.Present}
+use Rattle.eevdf_queue.specs.{declared.refusal.Refusal.TheVariants.Range, State.State}
 
 -- the task is here, runnable or asleep
 abbrev pub is_here : State → ℕ → Bool

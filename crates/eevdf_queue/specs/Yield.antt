@@ -2,11 +2,9 @@
 use Rattle.std.specs.Prelude.{ℕ, pos, ◌+ℤ◌, if◌then◌else◌, Option, Some, None}
 use Rattle.std.specs.FinMap as map
 use Rattle.eevdf_weight.specs.Limits.{is_in_range}
-use Rattle.eevdf_queue.specs.declared.run_entry.Entry.{Entry}
-use Rattle.eevdf_queue.specs.declared.answers.YieldAnswer.{YieldAnswer}
-use Rattle.eevdf_queue.specs.declared.answers.YieldAnswer.TheVariants.{Yielded, Idle, Range}
-use Rattle.eevdf_queue.specs.State.{State}
+use Rattle.eevdf_queue.specs.{declared.run_entry.Entry.Entry, declared.answers.YieldAnswer.YieldAnswer, State.State}
 use Rattle.eevdf_queue.specs.Moves.{request_of}
+use Rattle.eevdf_queue.specs.declared.answers.YieldAnswer.TheVariants.{Yielded, Idle, Range}
 
 -- the entry with a deadline one request later
 abbrev pub yielded : Entry → Entry

@@ -1,10 +1,8 @@
 //! The lag that a runnable task keeps when it leaves, and what becomes of it under another nice level.
 
 ghost use Rattle.std.specs.Prelude.{◌≡◌, ◌≤◌, ◌^◌, ◌-ℤ◌, ◌*ℤ◌, ◌≤ℤ◌, pos, unsigned_abs, true};
-ghost use Rattle.eevdf_weight.specs.Charge.{lag_limit_of};
+ghost use Rattle.eevdf_weight.specs.{Charge.lag_limit_of, Placement.floor_div, Weight.weight_of};
 ghost use Rattle.eevdf_weight.specs.Limits as limits;
-ghost use Rattle.eevdf_weight.specs.Placement.{floor_div};
-ghost use Rattle.eevdf_weight.specs.Weight.{weight_of};
 ghost use Rattle.eevdf_queue.specs.Lag as lags;
 ghost use Rattle.eevdf_queue.specs.Renice as renices;
 

@@ -3,9 +3,7 @@
 ghost use Rattle.std.specs.Prelude.{◌≡◌, ◌==◌, ◌≤◌, ◌^◌, if◌then◌else◌, true};
 ghost use Rattle.eevdf_weight.specs.Limits as limits;
 ghost use Rattle.eevdf_weight.specs.Placement.{within_range};
-ghost use Rattle.eevdf_queue.specs.Lag.{is_lag};
-ghost use Rattle.eevdf_queue.specs.Moves.{entry_in_range, fresh_entry};
-ghost use Rattle.eevdf_queue.specs.Placing.{runtime_of, IsRoomy};
+ghost use Rattle.eevdf_queue.specs.{Lag.is_lag, Moves.entry_in_range, Moves.fresh_entry, Placing.runtime_of, Placing.IsRoomy};
 
 use crate::request::started;
 use crate::run_entry::Entry;

@@ -3,8 +3,7 @@
 ghost use Rattle.std.specs.Prelude.{◌≡◌, ◌*◌, ◌≤◌, ◌^◌, unsigned_abs, Some, true};
 ghost use Rattle.std.specs.FinMap as map;
 ghost use Rattle.eevdf_weight.specs.Limits as limits;
-ghost use Rattle.eevdf_queue.specs.Lag.{is_lag};
-ghost use Rattle.eevdf_queue.specs.Leaving.{leave};
+ghost use Rattle.eevdf_queue.specs.{Lag.is_lag, Leaving.leave};
 ghost use Rattle.eevdf_queue.specs.Placing as placing;
 ghost use Rattle.eevdf_queue.specs.Renice as renices;
 ghost use Rattle.eevdf_queue.specs.Sums as sums;

@@ -3,8 +3,7 @@
 ghost use Rattle.std.specs.Prelude.{◌≡◌, ◌↔◌, Some, None, IfSome, IsNone, MatchResult, true, false};
 ghost use Rattle.std.specs.FinMap as map;
 ghost use Rattle.eevdf_queue.specs.Moves as moves;
-ghost use Rattle.eevdf_queue.specs.Candidate.{is_running};
-ghost use Rattle.eevdf_queue.specs.Lag.{is_lag};
+ghost use Rattle.eevdf_queue.specs.{Candidate.is_running, Lag.is_lag};
 ghost use Rattle.eevdf_queue.specs.Placing as placing;
 ghost use Rattle.eevdf_queue.specs.Wake as wakes;
 ghost use Rattle.eevdf_queue.specs.Leaving.{carried, leave, carried_running, leave_running, carried_asleep, leave_asleep, nobody_runs, IsNowhere};

@@ -19,8 +19,7 @@ pub struct Runnable<'a> {
 
 impl<'a> Model for Runnable<'a> {
     ghost use Rattle.std.specs.Prelude.{ℕ, List};
-    ghost use Rattle.eevdf_queue.specs.declared.run_entry.Entry.{Entry};
-    ghost use Rattle.eevdf_queue.specs.Ascending.{from_number, runnable_tasks};
+    ghost use Rattle.eevdf_queue.specs.{declared.run_entry.Entry.Entry, Ascending.from_number, Ascending.runnable_tasks};
 
     ghost Value = { List (ℕ × Entry) };
 

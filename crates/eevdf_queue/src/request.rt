@@ -2,8 +2,7 @@
 
 ghost use Rattle.std.specs.Prelude.{◌≡◌, ◌≤◌, ◌^◌, pos, unsigned_abs, true};
 ghost use Rattle.eevdf_weight.specs.Limits as limits;
-ghost use Rattle.eevdf_weight.specs.Charge.{charge_of};
-ghost use Rattle.eevdf_weight.specs.Weight.{weight_of};
+ghost use Rattle.eevdf_weight.specs.{Charge.charge_of, Weight.weight_of};
 ghost use Rattle.eevdf_queue.specs.Moves.{entry_in_range, fresh_entry};
 ghost use Rattle.eevdf_queue.specs.Moves as moves;
 ghost use Rattle.eevdf_queue.specs.Tick as ticks;

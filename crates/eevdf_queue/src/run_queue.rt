@@ -2,13 +2,10 @@ ghost use Rattle.std.specs.Prelude.{◌≡◌, ◌≤◌, ◌↔◌, ◌==◌, �
 ghost use Rattle.std.specs.Bool.{FalseIff};
 ghost use Rattle.std.specs.FinMap as map;
 ghost use Rattle.eevdf_weight.specs.Limits as limits;
-ghost use Rattle.eevdf_queue.specs.State.{empty_state};
-ghost use Rattle.eevdf_queue.specs.Sums.{total_weight, virtual_time};
+ghost use Rattle.eevdf_queue.specs.{State.empty_state, Sums.total_weight, Sums.virtual_time, Kept.IsKept, Laws.AreSumsSmall};
+ghost use Rattle.eevdf_queue.specs.Leaving.{IsNowhere};
 ghost use Rattle.eevdf_queue.specs.Candidate as candidates;
 ghost use Rattle.eevdf_queue.specs.Lag as lags;
-ghost use Rattle.eevdf_queue.specs.Kept.{IsKept};
-ghost use Rattle.eevdf_queue.specs.Laws.{AreSumsSmall};
-ghost use Rattle.eevdf_queue.specs.Leaving.{IsNowhere};
 
 use crate::lag::kept_lag;
 use crate::run_entry::Entry;
@@ -30,8 +27,7 @@ pub struct Queue {
 
 impl Model for Queue {
     ghost use Rattle.std.specs.Ordering.{nat_cmp};
-    ghost use Rattle.eevdf_queue.specs.State.{View};
-    ghost use Rattle.eevdf_queue.specs.Codes.{view_code};
+    ghost use Rattle.eevdf_queue.specs.{State.View, Codes.view_code};
 
     ghost Value = { View };
 

@@ -2,19 +2,12 @@ ghost use Rattle.std.specs.Prelude.{◌≡◌, ℕ, ◌==◌, ◌<◌, if◌then
 ghost use Rattle.std.specs.Option.{option_map};
 ghost use Rattle.std.specs.FinMap as map;
 ghost use Rattle.eevdf_weight.specs.Limits as limits;
-ghost use Rattle.eevdf_queue.specs.Sums.{total_weight, total_moment};
-ghost use Rattle.eevdf_queue.specs.Order.{earliest};
-ghost use Rattle.eevdf_queue.specs.Pick.{IsPick, is_eligible_at, pick_of};
-ghost use Rattle.eevdf_queue.specs.Candidate.{candidate_of};
-ghost use Rattle.eevdf_queue.specs.Moves.{is_entry_in_range};
-ghost use Rattle.eevdf_queue.specs.Kept.{AreInRange};
-ghost use Rattle.eevdf_queue.specs.Laws.{AreSumsSmall};
-ghost use Rattle.eevdf_queue.specs.TreeShape.{IsAlone, IsFull};
-ghost use Rattle.eevdf_queue.specs.TaskLists.{first_task, find_task, contents_of};
-ghost use Rattle.eevdf_queue.specs.Lag.{is_lag};
-ghost use Rattle.eevdf_queue.specs.TreeTasks.{insert_task};
-ghost use Rattle.eevdf_queue.specs.TreeStores.{deadline_at};
+ghost use Rattle.eevdf_queue.specs.{Sums.total_weight, Sums.total_moment, Order.earliest, Candidate.candidate_of};
+ghost use Rattle.eevdf_queue.specs.{Moves.is_entry_in_range, Kept.AreInRange, Laws.AreSumsSmall, TreeShape.IsAlone};
+ghost use Rattle.eevdf_queue.specs.{TreeShape.IsFull, Lag.is_lag, TreeTasks.insert_task, TreeStores.deadline_at};
 ghost use Rattle.eevdf_queue.specs.Leaving.{leaving_at};
+ghost use Rattle.eevdf_queue.specs.Pick.{IsPick, is_eligible_at, pick_of};
+ghost use Rattle.eevdf_queue.specs.TaskLists.{first_task, find_task, contents_of};
 
 use crate::deadline_table::DeadlineTable;
 use crate::lag::kept_lag;
@@ -46,18 +39,15 @@ pub struct Pick {
 }
 
 impl Model for RunnableTasks {
-    ghost use Rattle.std.specs.Ordering.{nat_cmp};
-    ghost use Rattle.std.specs.Coded.{coded_ℕ};
+    ghost use Rattle.std.specs.{Ordering.nat_cmp, Coded.coded_ℕ};
     ghost use Rattle.std.specs.FinMap as map;
-    ghost use Rattle.eevdf_queue.specs.declared.run_entry.Entry.{Entry};
-    ghost use Rattle.eevdf_queue.specs.Codes.{entry_code};
+    ghost use Rattle.eevdf_queue.specs.{declared.run_entry.Entry.Entry, Codes.entry_code};
 
     ghost Value = { map.FinMap nat_cmp Entry };
 
     ghost coded = { map.code coded_ℕ entry_code };
 
-    ghost use Rattle.eevdf_queue.specs.TaskLists.{runnable_in};
-    ghost use Rattle.eevdf_queue.specs.TreeStores.{IsRunnableTasks};
+    ghost use Rattle.eevdf_queue.specs.{TaskLists.runnable_in, TreeStores.IsRunnableTasks};
 
     ghost view = { λ a. runnable_in a.tree };
 

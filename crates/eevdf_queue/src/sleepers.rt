@@ -1,11 +1,8 @@
 ghost use Rattle.std.specs.Prelude.{◌≡◌, ℕ, Some, None, is_some, true};
 ghost use Rattle.std.specs.Option.{option_map};
 ghost use Rattle.std.specs.FinMap as map;
-ghost use Rattle.eevdf_queue.specs.Lag.{sleeping_lag};
-ghost use Rattle.eevdf_queue.specs.Placing.{sleeper_from};
-ghost use Rattle.eevdf_queue.specs.Moves.{sleeper_of};
-ghost use Rattle.eevdf_queue.specs.Kept.{AreLimited};
-ghost use Rattle.eevdf_queue.specs.Slots.{slot_at, IsWith};
+ghost use Rattle.eevdf_queue.specs.{Lag.sleeping_lag, Placing.sleeper_from, Moves.sleeper_of, Kept.AreLimited, Slots.slot_at};
+ghost use Rattle.eevdf_queue.specs.Slots.{IsWith};
 
 use crate::placing::Newcomer;
 use crate::task::newcomer;
@@ -23,11 +20,9 @@ pub struct Sleepers {
 }
 
 impl Model for Sleepers {
-    ghost use Rattle.std.specs.Ordering.{nat_cmp};
-    ghost use Rattle.std.specs.Coded.{coded_ℕ};
+    ghost use Rattle.std.specs.{Ordering.nat_cmp, Coded.coded_ℕ};
     ghost use Rattle.std.specs.FinMap as map;
-    ghost use Rattle.eevdf_queue.specs.State.{Sleeper};
-    ghost use Rattle.eevdf_queue.specs.Codes.{sleeper_code};
+    ghost use Rattle.eevdf_queue.specs.{State.Sleeper, Codes.sleeper_code};
 
     ghost Value = { map.FinMap nat_cmp Sleeper };
 

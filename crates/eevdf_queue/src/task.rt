@@ -1,6 +1,5 @@
 ghost use Rattle.std.specs.Prelude.{◌≡◌};
-ghost use Rattle.eevdf_queue.specs.TaskLists.{sleeper_in};
-ghost use Rattle.eevdf_queue.specs.Placing.{sleeper_from};
+ghost use Rattle.eevdf_queue.specs.{TaskLists.sleeper_in, Placing.sleeper_from};
 
 use crate::placing::Newcomer;
 use crate::run_entry::Entry;

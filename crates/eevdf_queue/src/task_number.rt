@@ -85,8 +85,7 @@ impl TryFrom<u64> for TaskId {
 
 /// The number in decimal.
 impl fmt::Display for TaskId {
-    ghost use Rattle.std.specs.Prelude.{Some, decimal};
-    ghost use Rattle.std.specs.Fmt.{styled_decimal};
+    ghost use Rattle.std.specs.{Prelude.Some, Prelude.decimal, Fmt.styled_decimal};
 
     ghost output = { λ task. Some (decimal task) };
 

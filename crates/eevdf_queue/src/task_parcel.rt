@@ -1,7 +1,5 @@
 ghost use Rattle.std.specs.Prelude.{◌≡◌, ◌<◌, IfOk, pos, true};
-ghost use Rattle.eevdf_queue.specs.Lag.{is_lag};
-ghost use Rattle.eevdf_queue.specs.Moves.{sleeper_of};
-ghost use Rattle.eevdf_queue.specs.Placing.{sleeper_from};
+ghost use Rattle.eevdf_queue.specs.{Lag.is_lag, Moves.sleeper_of, Placing.sleeper_from};
 ghost use Rattle.eevdf_queue.specs.TaskLists.{first_task, contents_of, IsLone};
 
 use crate::placing::Newcomer;

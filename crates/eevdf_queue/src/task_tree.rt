@@ -1,10 +1,8 @@
 ghost use Rattle.std.specs.Prelude.{◌≡◌, suc, ◌<◌, ◌≤◌, ◌/◌, ◌^◌, [], length, is_some, true, None, Some, IfSome};
 ghost use Rattle.std.specs.Option.{option_map};
 ghost use Rattle.eevdf_queue.specs.TaskLists.{first_task, find_task, set_entry, entries_of};
-ghost use Rattle.eevdf_queue.specs.Order.{earliest};
-ghost use Rattle.eevdf_queue.specs.Pick.{is_eligible_at};
-ghost use Rattle.eevdf_queue.specs.Candidate.{latest_waiting};
-ghost use Rattle.eevdf_queue.specs.TreeShape.{IsAlone, IsFull};
+ghost use Rattle.eevdf_queue.specs.{Order.earliest, Pick.is_eligible_at, Candidate.latest_waiting, TreeShape.IsAlone};
+ghost use Rattle.eevdf_queue.specs.TreeShape.{IsFull};
 ghost use Rattle.eevdf_queue.specs.TreeTasks.{IsAtDeadline, insert_task, without, first_that};
 
 use crate::run_entry::Entry;
@@ -31,8 +29,7 @@ impl Model for TaskTree {
 
     ghost Value = { List Task };
 
-    ghost use Rattle.eevdf_queue.specs.TreeShape.{tasks_in};
-    ghost use Rattle.eevdf_queue.specs.TreeTasks.{IsCounted};
+    ghost use Rattle.eevdf_queue.specs.{TreeShape.tasks_in, TreeTasks.IsCounted};
 
     ghost view = { λ a. tasks_in a.root };
 

@@ -3,12 +3,10 @@
 
 ghost use Rattle.std.specs.Prelude.{◌≡◌, suc, ◌+◌, ◌≤◌, ◌^◌, max, [], ◌∷◌, ◌++◌, length, is_some, true, Some, IfSome};
 ghost use Rattle.std.specs.Option.{option_map};
-ghost use Rattle.eevdf_queue.specs.TaskLists.{first_task, find_task};
-ghost use Rattle.eevdf_queue.specs.Pick.{is_eligible_at};
+ghost use Rattle.eevdf_queue.specs.{TaskLists.first_task, TaskLists.find_task, Pick.is_eligible_at, NodeDepths.is_at_depth};
+ghost use Rattle.eevdf_queue.specs.{TreeLeast.least_of, TreeLeast.AreLow};
 ghost use Rattle.eevdf_queue.specs.TreeTasks.{AreOrdered, IsAtDeadline, first_that, last_number};
-ghost use Rattle.eevdf_queue.specs.NodeDepths.{is_at_depth};
 ghost use Rattle.eevdf_queue.specs.TreeShape.{tasks_in, height_in, depths_in, DifferByAtMost, IsFull, IsAlone};
-ghost use Rattle.eevdf_queue.specs.TreeLeast.{least_of, AreLow};
 
 mod node_parts;
 mod tree_edit;

@@ -2,8 +2,7 @@
 
 ghost use Rattle.std.specs.Prelude.{◌≡◌, Ok, Err, MatchResult};
 ghost use Rattle.eevdf_queue.specs.Moves as moves;
-ghost use Rattle.eevdf_queue.specs.Placing.{put};
-ghost use Rattle.eevdf_queue.specs.Trying.{tried};
+ghost use Rattle.eevdf_queue.specs.{Placing.put, Trying.tried};
 
 use crate::refusal::{Refusal, Refused};
 use crate::run_queue::Queue;

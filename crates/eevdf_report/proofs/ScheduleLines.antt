@@ -2,11 +2,9 @@
 use Rattle.std.proofs.Common.{◌≡◌, ◌≢◌, ℕ, ◌+◌, ◌<◌, ◌≤◌, List, [], ◌∷◌, ◌++◌, length, get_or, set, take, map, refl, sym, ap, ◌∙◌, ⊎_elim, arith}
 use Rattle.std.proofs.lemmas.List.{append-nil, flat_map_more, get_or-map, get_or-set_same, get_or-set_other, length-map, map-set, take_more}
 use Rattle.std.proofs.lemmas.List.FromFn.{fill_by_all, get_or-map-range_with_len, length-map-range_with_len}
-use Rattle.std.proofs.lemmas.Bool.{cases_order}
-use Rattle.std.proofs.lemmas.Bool.Decides.{nat_tests}
+use Rattle.std.proofs.{lemmas.Bool.cases_order, lemmas.Bool.Decides.nat_tests}
 use Rattle.eevdf_ops.specs.declared.deeds.Line.{Line}
-use Rattle.eevdf_report.specs.TextDeed.{cpu_of, schedule_line}
-use Rattle.eevdf_report.specs.TextReport.{schedule_at, schedule_of}
+use Rattle.eevdf_report.specs.{TextDeed.cpu_of, TextDeed.schedule_line, TextReport.schedule_at, TextReport.schedule_of}
 use Rattle.eevdf_report.specs.TextSchedules.{schedules_of}
 
 -- the schedule of one CPU

@@ -1,8 +1,7 @@
 -- The texts of deeds and answers.
 use Rattle.std.specs.Prelude.{ℕ, List, ◌++◌, codes, decimal}
-use Rattle.eevdf_ops.specs.declared.deeds.Deed.{Deed}
+use Rattle.eevdf_ops.specs.{declared.deeds.Deed.Deed, declared.deeds.Line.Line}
 use Rattle.eevdf_ops.specs.declared.deeds.Deed.TheVariants.{Tick, Pick, Yield, Sleep, Wake, Pull, Renice}
-use Rattle.eevdf_ops.specs.declared.deeds.Line.{Line}
 pub use Rattle.eevdf_queue.specs.Texts.{resched_text}
 pub use Rattle.eevdf_ops.specs.Texts.{deed_text, answer_text}
 use Rattle.eevdf_report.specs.Text.{as_line}

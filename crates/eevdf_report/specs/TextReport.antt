@@ -1,11 +1,9 @@
 -- The report: each CPU's schedule, queue and waiting requests, and the history as a script.
 use Rattle.std.specs.Prelude.{ℕ, ◌+◌, ◌*◌, ◌==◌, Bool, true, false, List, [], ◌++◌, length, codes, decimal, if◌then◌else◌, slice_index_or}
 use Rattle.std.specs.List.{flat_map, range_with_len}
-use Rattle.eevdf_ops.specs.declared.deeds.Line.{Line}
-use Rattle.eevdf_ops.specs.Machine.{Machine, queue_at}
-use Rattle.eevdf_report.specs.Text.{as_line}
+use Rattle.eevdf_ops.specs.{declared.deeds.Line.Line, Machine.Machine, Machine.queue_at}
+use Rattle.eevdf_report.specs.{Text.as_line, TextQueue.queue_text}
 use Rattle.eevdf_report.specs.TextDeed.{cpu_of, schedule_line, script_line}
-use Rattle.eevdf_report.specs.TextQueue.{queue_text}
 
 -- a line of the history, where its deed is of this CPU
 abbrev pub schedule_at : ℕ → Line → List ℕ

@@ -1,8 +1,7 @@
 //! The texts of the CPUs' schedules, written in one pass over the history.
 
 ghost use Rattle.std.specs.Prelude.{◌≡◌, ℕ, ◌<◌, ◌++◌, [], length, IfOk, OnOk, slice_index_or};
-ghost use Rattle.eevdf_report.specs.TextReport.{schedule_at};
-ghost use Rattle.eevdf_report.specs.TextSchedules.{schedules_of};
+ghost use Rattle.eevdf_report.specs.{TextReport.schedule_at, TextSchedules.schedules_of};
 
 use crate::text_deeds::{cpu_of, push_schedule_line};
 use eevdf_ops::Line;

@@ -2,16 +2,15 @@
 use Rattle.std.proofs.Common.{◌≡◌, ℕ, Bool, true, false, cond, ◌||◌, List, [], ◌∷◌, set, refl, sym, ap, subst, ◌∙◌}
 use Rattle.std.specs.Prelude.{◌==◌, Option, Some, None, Result, Ok, Err}
 use Rattle.std.specs.{Option.unwrap_or, FinMap.contains_key}
-use Rattle.eevdf_queue.specs.declared.run_entry.Entry.{Entry}
-use Rattle.eevdf_queue.specs.{State.State, State.Contents, State.Sleeper, Placing.placed_entry}
+use Rattle.eevdf_queue.specs.{declared.run_entry.Entry.Entry, State.State, State.Contents, State.Sleeper, Placing.placed_entry}
 use Rattle.eevdf_queue.specs.{Moves.put_asleep, Moves.sleeper_of, Moves.with_runnable, Wake.wake_sleeper, Wake.wake_to}
 use Rattle.eevdf_queue.specs.Leaving.{carried_running, leave, without_entry}
 use Rattle.eevdf_ops.specs.declared.deeds.{Answer.Answer, Deed.Deed, Line.Line}
 use Rattle.eevdf_ops.specs.declared.deeds.Deed.TheVariants.{Tick, Pick, Yield, Sleep, Wake, Pull, Renice}
 use Rattle.eevdf_ops.specs.{Histories.machine_told, Machine.Machine, Machine.queue_at, Programs.deeds_of, Setup.home_of}
 use Rattle.eevdf_ops.specs.{Parts.after_leaving, Parts.giver, Parts.only_at, Whole.machine_after, Whole.whole}
-use Rattle.eevdf_ops.specs.WholePull.{decision, load_of, offer, pull_decided, with_task}
 use Rattle.eevdf_ops.specs.WholeSleep.{sleep_carrying, task_leaves}
+use Rattle.eevdf_ops.specs.WholePull.{decision, load_of, offer, pull_decided, with_task}
 use Rattle.eevdf_ops.proofs.{Carried.Carries, Carried.running-carries, MachinePlaces.SleepsAtHome, MachinePlaces.each-set}
 use Rattle.eevdf_ops.proofs.MapCounts.{contains-insert, contains-removed, equal}
 use Rattle.eevdf_ops.proofs.QueuePlaces.{pick-same, renice-same, tick-same, yield-same}

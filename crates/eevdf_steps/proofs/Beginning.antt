@@ -4,14 +4,13 @@ use Rattle.std.proofs.Math.ListN.{length-replicate}
 use Rattle.std.proofs.lemmas.Nat.{div-mul-add, mod-mul-add, mul-add-lt}
 use Rattle.std.specs.Prelude.{Option, None}
 use Rattle.eevdf_ops.specs.{Machine.Machine, Machine.start, Places.IsPlaced, Programs.posts_in, Setup.Setup, Setup.homes_of}
-use Rattle.eevdf_steps.proofs.{SerialStart.serial_start, Holders.count_first, ProgramPosts.program_posts}
+use Rattle.eevdf_steps.proofs.{SerialStart.serial_start, Holders.count_first, ProgramPosts.program_posts, Reserving.room_first}
 use Rattle.eevdf_steps.specs.Plan.{IsSound, Plan, callers, pair, plan_of, program}
 use Rattle.eevdf_steps.specs.{MicroSteps.steps_by, Counters.Counters, Orders.counters_at_start, Callers.Callers}
 use Rattle.eevdf_steps.specs.{Requests.Progress, Requests.posts_to, Requests.progress_at_start, Places.hands_with}
-use Rattle.eevdf_steps.specs.PostLists.{ArePosted, PostList, list_at, progress_in}
 use Rattle.eevdf_steps.specs.{Openings.AreEmpty, Openings.most_lines, MicroState.micro_start, Players.player_start}
 use Rattle.eevdf_steps.specs.{Recorded.Recorded, Recorded.done_at_start, Playing.IsPlaying, Playing.player_of}
-use Rattle.eevdf_steps.proofs.Reserving.{room_first}
+use Rattle.eevdf_steps.specs.PostLists.{ArePosted, PostList, list_at, progress_in}
 
 pub posts_first : (plan : Plan) (lists : List PostList) → AreEmpty plan lists → ArePosted plan (counters_at_start plan) lists
 posts_first plan lists a = record {

@@ -8,17 +8,16 @@ use Rattle.eevdf_ops.specs.declared.deeds.{Op.Op, Deed.Deed, Line.Line}
 use Rattle.eevdf_ops.specs.declared.deeds.Op.TheVariants as op
 use Rattle.eevdf_ops.specs.Parts.{decider}
 use Rattle.eevdf_ops.specs.Programs.{deed_of, deeds_by, deeds_of, lines_by}
-use Rattle.eevdf_steps.specs.declared.{micro_steps.Micro.Micro, program_plan.Step.Step}
+use Rattle.eevdf_steps.specs.{declared.micro_steps.Micro.Micro, declared.program_plan.Step.Step, Plan.Plan, Plan.callers}
+use Rattle.eevdf_steps.specs.{Plan.program, MicroSteps.steps_by, Orders.counters_at_start, Orders.order_fault}
 use Rattle.eevdf_steps.specs.declared.micro_steps.Micro.TheVariants.{Commit, Settle, Post}
-use Rattle.eevdf_steps.specs.{Plan.Plan, Plan.callers, Plan.program, MicroSteps.steps_by}
 use Rattle.eevdf_steps.specs.Counters.{Counters, count_of, counted, step_next, unfinished}
-use Rattle.eevdf_steps.specs.Orders.{counters_at_start, order_fault}
 use Rattle.eevdf_steps.specs.Requests.{Progress, found_by, progress_after, progress_at_start, progress_by, progress_step}
 use Rattle.eevdf_steps.specs.Commits.{commits, committed, committed_by, wake_of}
 use Rattle.eevdf_steps.proofs.{CommittedLines.FitsPrograms, Lists.drop_next, Lists.got_past, SoundSteps.is_caller}
+use Rattle.eevdf_steps.proofs.ProgramSteps.{FitsSteps, operations_fit}
 use Rattle.eevdf_steps.proofs.Holders.{count_first, number_cases, other_number, same_number}
 use Rattle.eevdf_steps.proofs.LawfulOrders.{done_by_all, faultless_whole, length-progress_step, whole_ends}
-use Rattle.eevdf_steps.proofs.ProgramSteps.{FitsSteps, operations_fit}
 
 -- a step commits a deed of its caller alone
 deed_decides : (x : ℕ) (o : Op) → IfSome (deed_of x o) (λ (d : Deed). decider d ≡ x)

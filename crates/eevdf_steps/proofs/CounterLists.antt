@@ -1,15 +1,11 @@
 -- Positions of several callers, and their counters.
 use Rattle.std.proofs.Common.{◌≡◌, ℕ, zero, suc, ◌+◌, ◌<◌, List, [], ◌∷◌, ◌++◌, length, get_or, set, replicate, inl, inr, sym, ap, subst, ◌∙◌, arith, refl}
-use Rattle.std.proofs.Math.ListN.{length-append, length-set}
-use Rattle.std.proofs.lemmas.Bool.{cases_lt}
+use Rattle.std.proofs.{Math.ListN.length-append, Math.ListN.length-set, lemmas.Bool.cases_lt}
 use Rattle.std.proofs.lemmas.List.{get_or_append_left, get_or_push, get_or-set_other, get_or-set_same}
-use Rattle.eevdf_steps.specs.declared.program_plan.Position.{Position}
-use Rattle.eevdf_steps.specs.Plan.{Plan}
+use Rattle.eevdf_steps.specs.{declared.program_plan.Position.Position, Plan.Plan, MicroSteps.steps_by, Callers.BeginAll}
 use Rattle.eevdf_steps.specs.Counters.{Counters, count_of, counted, step_next}
-use Rattle.eevdf_steps.specs.MicroSteps.{steps_by}
 use Rattle.std.specs.Prelude.{slice_get}
 use Rattle.eevdf_steps.specs.Positions.{ArePositions, IsPosition, counter_at, counters_at}
-use Rattle.eevdf_steps.specs.Callers.{BeginAll}
 use Rattle.eevdf_steps.proofs.Holders.{number_cases}
 
 get_counter : (plan : Plan) (p : ℕ) (ats : List Position) (k : ℕ) (d : Position) → k < length ats

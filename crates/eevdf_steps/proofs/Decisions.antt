@@ -2,8 +2,7 @@
 use Rattle.std.proofs.Common.{◌≡◌, ap}
 use Rattle.std.specs.Prelude.{Result, Ok, Err}
 use Rattle.eevdf_queue.specs.State.{Contents}
-use Rattle.eevdf_ops.specs.declared.deeds.Answer.{Answer}
-use Rattle.eevdf_ops.specs.PullOffer.{task_of}
+use Rattle.eevdf_ops.specs.{declared.deeds.Answer.Answer, PullOffer.task_of}
 
 pub refusal_decided : (decided : Result Contents Answer) (refusal : Answer) → task_of decided ≡ Err refusal → decided ≡ Err refusal
 refusal_decided (Ok p) refusal e = cc

@@ -3,18 +3,16 @@ use Rattle.std.proofs.Common.{◌≡◌, ℕ, ◌*◌, ◌<◌, ◌≤◌, List,
 use Rattle.std.proofs.lemmas.{Bool.cases_lt, List.get_or_past}
 use Rattle.std.proofs.Math.{Nat.mul-le-mul_right, Seq.drop-nil, Seq.take-nil}
 use Rattle.std.specs.Prelude.{Option, Some, None}
-use Rattle.eevdf_ops.specs.declared.deeds.Op.{Op}
-use Rattle.eevdf_ops.specs.{Followed.FollowsPrograms, Followed.left_of, Outcome.Outcome, Setup.Setup}
+use Rattle.eevdf_ops.specs.{declared.deeds.Op.Op, Followed.FollowsPrograms, Followed.left_of, Outcome.Outcome, Setup.Setup}
 use Rattle.eevdf_ops.specs.Programs.{deeds_of, lines_by, wakes_from}
-use Rattle.eevdf_steps.specs.declared.program_plan.Step.{Step}
+use Rattle.eevdf_steps.specs.{declared.program_plan.Step.Step, MicroSteps.steps_of, Counters.Counters, Counters.count_of}
+use Rattle.eevdf_steps.specs.{Counters.step_next, Commits.commits, Orders.counters_at_start, Orders.order_fault, Plays.IsOutcome}
 use Rattle.eevdf_steps.specs.Plan.{IsSound, Plan, callers, pair, plan_of}
-use Rattle.eevdf_steps.specs.{MicroSteps.steps_of, Counters.Counters, Counters.count_of, Counters.step_next, Commits.commits}
-use Rattle.eevdf_steps.specs.{Orders.counters_at_start, Orders.order_fault, Plays.IsOutcome}
 use Rattle.eevdf_steps.specs.Requests.{Progress, left, posted, posts_to, progress_after, progress_at_start, progress_by, progress_step, taken_of}
 use Rattle.eevdf_steps.specs.MicroState.{MicroState, micro, micro_after, micro_by, micro_start, micro_step}
 use Rattle.eevdf_steps.proofs.{CommittedPrograms.programs_fit, Plans.programs_past, KeptPosts.posts_taken_or_left}
-use Rattle.eevdf_steps.proofs.LawfulOrders.{done_by_all, faultless_whole, whole_ends}
 use Rattle.eevdf_steps.proofs.ProgramPosts.{posted_when_done}
+use Rattle.eevdf_steps.proofs.LawfulOrders.{done_by_all, faultless_whole, whole_ends}
 
 -- the queues have no part in the progress
 pub step_progress : (plan : Plan) (s : MicroState) (p : ℕ) (r : Option Step) → step_next plan s.progress.counters p ≡ r

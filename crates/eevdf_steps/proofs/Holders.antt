@@ -8,8 +8,8 @@ use Rattle.eevdf_ops.specs.declared.deeds.Op.{Op}
 use Rattle.eevdf_steps.specs.declared.{micro_steps.Micro.Micro, program_plan.Step.Step}
 use Rattle.eevdf_steps.specs.declared.micro_steps.Micro.TheVariants.{Acquire, Release}
 use Rattle.eevdf_steps.specs.{Plan.Plan, Plan.callers, Plan.is_sound_op, MicroSteps.steps_by, MicroSteps.steps_of}
-use Rattle.eevdf_steps.specs.Counters.{Counters, blocked_by, count_of, counted, held_after, held_by_steps, holder, holds, least, refused, step_next}
 use Rattle.eevdf_steps.specs.{Orders.counters_at_start, SoundSteps.is_sound_micro, SoundSteps.is_sound_step}
+use Rattle.eevdf_steps.specs.Counters.{Counters, blocked_by, count_of, counted, held_after, held_by_steps, holder, holds, least, refused, step_next}
 use Rattle.eevdf_steps.specs.Holders.{AreHolders, given_up, holders_after, is_holder, names_lock}
 use Rattle.eevdf_steps.proofs.{Lists.both, Lists.true_lt, Plans.programs_past}
 

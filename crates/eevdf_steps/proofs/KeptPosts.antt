@@ -1,14 +1,12 @@
 -- Each request that is posted is taken once, in the order of posting, and settled before its home takes another.
 use Rattle.std.proofs.Common.{append_assoc, append-nil, ◌≡◌, ℕ, ◌*◌, ◌<◌, ◌≤◌, List, [], ◌∷◌, ◌++◌, length, drop, take, inl, sym, ap, subst, ◌∙◌, arith, refl}
-use Rattle.std.proofs.Math.ListN.{length-replicate}
-use Rattle.std.proofs.lemmas.{Grind.flat_map-append, List.get_or-replicate}
+use Rattle.std.proofs.{Math.ListN.length-replicate, lemmas.Grind.flat_map-append, lemmas.List.get_or-replicate}
 use Rattle.std.specs.{Prelude.Option, Prelude.None, Option.option_map}
 use Rattle.eevdf_ops.specs.declared.deeds.{Deed.Deed, Line.Line}
 use Rattle.eevdf_ops.specs.Programs.{deeds_by, deeds_of, lines_by, wake_from, wakes_from, wakes_in}
-use Rattle.eevdf_steps.specs.declared.program_plan.Step.{Step}
+use Rattle.eevdf_steps.specs.{declared.program_plan.Step.Step, MicroSteps.steps_by, Counters.next, Counters.step_next}
+use Rattle.eevdf_steps.specs.{Commits.commits, Commits.committed_by, Orders.counters_at_start, Orders.order_fault}
 use Rattle.eevdf_steps.specs.Plan.{IsSound, Plan, callers, pair}
-use Rattle.eevdf_steps.specs.{MicroSteps.steps_by, Counters.next, Counters.step_next, Commits.commits, Commits.committed_by}
-use Rattle.eevdf_steps.specs.Orders.{counters_at_start, order_fault}
 use Rattle.eevdf_steps.specs.Requests.{Progress, found_by, left, posted, posts_to, progress_after, progress_at_start, progress_step, taken_of}
 use Rattle.eevdf_steps.proofs.CommittedLines.{PostsAreKept, PostsAreTakenOrLeft, to_settle_next, unsettled}
 use Rattle.eevdf_steps.proofs.{CommittedPrograms.deeds_joined, CommittedPrograms.deeds_of_lines, Holders.count_first}

@@ -2,8 +2,7 @@
 use Rattle.std.proofs.Common.{◌≡◌, ◌≢◌, ℕ, ◌+◌, Bool, true, false, length, sym, ap, subst, ◌∙◌, inl, inr, refl}
 use Rattle.std.proofs.lemmas.{Bool.false≢true, List.get_or-set_other}
 use Rattle.std.specs.Prelude.{slice_get, Option, Some, None}
-use Rattle.eevdf_ops.specs.declared.deeds.Answer.{Answer}
-use Rattle.eevdf_ops.specs.Machine.{Machine, queue_at}
+use Rattle.eevdf_ops.specs.{declared.deeds.Answer.Answer, Machine.Machine, Machine.queue_at}
 use Rattle.eevdf_steps.specs.declared.program_plan.Step.{Step}
 use Rattle.eevdf_steps.specs.{Plan.Plan, Plan.callers, MicroSteps.steps_by, Work.Work, Work.answer, Work.hand}
 use Rattle.eevdf_steps.specs.Counters.{Counters, count_of, counted, holds, step_next}

@@ -13,9 +13,8 @@ use Rattle.eevdf_steps.specs.declared.micro_steps.Micro.TheVariants.{Commit, Set
 use Rattle.eevdf_steps.specs.{Plan.Plan, Work.Work, Work.answer, Work.woken, Serial.begun_by}
 use Rattle.eevdf_steps.specs.Counters.{Counters, counted, holds, step_next}
 use Rattle.eevdf_steps.specs.UnderWay.{KeepsAnswer, UnderWay, begun, hand_seen, queue_seen}
-use Rattle.eevdf_steps.proofs.{Holders.same_number, Lists.true_eq, Begun.holds_touched, OtherCallers.IsStepOf}
+use Rattle.eevdf_steps.proofs.{Holders.same_number, Lists.true_eq, Begun.holds_touched, OtherCallers.IsStepOf, OwnWork.not_own}
 use Rattle.eevdf_steps.proofs.OwnSteps.{AtStep, SameLocks, begun_now, fresh_begun, holds_nothing, same_locks, sees_history, still}
-use Rattle.eevdf_steps.proofs.OwnWork.{not_own}
 
 lines_of-more : (homes : List ℕ) (m : Machine) (ds : List Deed) (d : Deed)
     → lines_of homes m (ds ++ d ∷ []) ≡ lines_of homes m ds ++ record { deed = d; answer = (whole homes d (machine_after homes m ds)).0 } ∷ []

@@ -2,11 +2,10 @@
 use Rattle.std.proofs.Common.{◌≡◌, ◌≢◌, ◌⊎◌, inl, inr, ℕ, ◌<◌, Bool, true, false, cond, List, length, sym, ap, subst, ◌∙◌, refl}
 use Rattle.std.proofs.lemmas.Bool.{false≢true}
 use Rattle.std.specs.Prelude.{◌==◌, Option, Some, None}
-use Rattle.eevdf_ops.specs.declared.deeds.{Op.Op, Answer.Answer}
-use Rattle.eevdf_ops.specs.Machine.{Machine, queue_at}
+use Rattle.eevdf_ops.specs.{declared.deeds.Op.Op, declared.deeds.Answer.Answer, Machine.Machine, Machine.queue_at}
 use Rattle.eevdf_steps.specs.declared.{micro_steps.Micro.Micro, program_plan.Step.Step}
-use Rattle.eevdf_steps.specs.declared.micro_steps.Micro.TheVariants.{Acquire, Attach, Commit, Release}
 use Rattle.eevdf_steps.specs.{Plan.Plan, Plan.callers, Work.Work, Work.answer, Work.hand}
+use Rattle.eevdf_steps.specs.declared.micro_steps.Micro.TheVariants.{Acquire, Attach, Commit, Release}
 use Rattle.eevdf_steps.specs.Counters.{Counters, counted, held_after, holds, step_next}
 use Rattle.eevdf_steps.specs.UnderWay.{KeepsAnswer, UnderWay, hand_seen, queue_seen, under_way, under_way_before}
 use Rattle.eevdf_steps.specs.Serial.{IsFree, FollowsHistory, begun_by}

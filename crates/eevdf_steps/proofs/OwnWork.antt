@@ -16,9 +16,9 @@ use Rattle.eevdf_ops.proofs.LocalParts.{changed, idle, untaken, whole-after}
 use Rattle.eevdf_ops.proofs.{MachinePlaces.other_queue, Pulling.decided_at, Pulling.decision-taken}
 use Rattle.eevdf_steps.specs.declared.micro_steps.Micro.TheVariants.{Act, Detach, Attach}
 use Rattle.eevdf_steps.specs.{Plan.Plan, Plan.callers, Plan.home, Counters.Counters, Counters.counted, Counters.holds}
+use Rattle.eevdf_steps.specs.Serial.{begun_by}
 use Rattle.eevdf_steps.specs.Work.{Work, acted, answer, answered, attach_asleep, attach_pulled, detach_pulled, detach_running, detached, hand, put_down}
 use Rattle.eevdf_steps.specs.UnderWay.{KeepsAnswer, UnderWay, hand_seen, leaves, queue_seen}
-use Rattle.eevdf_steps.specs.Serial.{begun_by}
 use Rattle.eevdf_steps.proofs.{Holders.other_number, Holders.same_number, Lists.true_eq, OtherCallers.IsStepOf}
 use Rattle.eevdf_steps.proofs.OwnSteps.{AtStep, begun_now, holds_nothing, local_step, same_locks, sees_history}
 

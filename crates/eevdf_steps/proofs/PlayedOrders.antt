@@ -1,14 +1,12 @@
 -- The deeds of an order that is played step by step.
 use Rattle.std.proofs.Common.{◌≡◌, ℕ, true, List, ◌∷◌, ◌++◌, append_assoc, sym, ap, subst, ◌∙◌, refl}
-use Rattle.eevdf_ops.specs.declared.deeds.Deed.{Deed}
-use Rattle.eevdf_ops.specs.{Followed.FollowsPrograms, Histories.IsOneThread, Machine.start, Places.AreCpus, Places.IsPlaced}
-use Rattle.eevdf_ops.specs.{Outcome.Outcome, Outcome.machine_of, Programs.deeds_of}
+use Rattle.eevdf_ops.specs.{declared.deeds.Deed.Deed, Followed.FollowsPrograms, Histories.IsOneThread, Machine.start}
+use Rattle.eevdf_ops.specs.{Places.AreCpus, Places.IsPlaced, Outcome.Outcome, Outcome.machine_of, Programs.deeds_of}
 use Rattle.eevdf_ops.specs.Setup.{Setup, allows, cpus_of, homes_of}
 use Rattle.std.specs.{List.list_all, Prelude.Option, Prelude.None, Option.option_map}
-use Rattle.eevdf_steps.specs.declared.play_fault.PlayFault.TheVariants.{Short}
-use Rattle.eevdf_steps.specs.{Plan.IsSound, Plan.Plan, Plan.plan_of, Counters.step_next, Counters.unfinished, Plays.IsOutcome}
-use Rattle.eevdf_steps.specs.{Orders.IsWhole, Orders.counters_at_start, Orders.order_fault, PlayedSteps.HasPlayed}
-use Rattle.eevdf_steps.specs.Requests.{Progress, progress_step}
+use Rattle.eevdf_steps.specs.{declared.play_fault.PlayFault.TheVariants.Short, Plan.IsSound, Plan.Plan, Plan.plan_of}
+use Rattle.eevdf_steps.specs.{Counters.step_next, Counters.unfinished, Plays.IsOutcome, Orders.IsWhole, Orders.counters_at_start}
+use Rattle.eevdf_steps.specs.{Orders.order_fault, PlayedSteps.HasPlayed, Requests.Progress, Requests.progress_step}
 use Rattle.eevdf_steps.specs.Commits.{commits, committed_by, deeds_committed}
 use Rattle.eevdf_steps.specs.Players.{Appends, Player, player_start, player_step}
 use Rattle.eevdf_steps.proofs.{LawfulOrders.faultless_whole, AllowedCommits.deeds_allowed, PlacedHistories.outcome_placed}

@@ -1,22 +1,21 @@
 -- A player one step later.
 use Rattle.std.proofs.Common.{◌≡◌, ℕ, ◌+◌, ◌<◌, ◌≤◌, true, List, ◌++◌, length, get_or, set, sym, ap, subst, ◌∙◌, arith, refl}
-use Rattle.std.proofs.Math.ListN.{length-set, length-append}
+use Rattle.std.proofs.{Math.ListN.length-set, Math.ListN.length-append, lemmas.List.map-append}
 use Rattle.std.specs.Prelude.{nat_lt, Option, Some, None}
 use Rattle.eevdf_ops.specs.declared.deeds.{Op.Op, Deed.Deed, Line.Line}
 use Rattle.eevdf_ops.specs.declared.deeds.Op.TheVariants as op
 use Rattle.eevdf_steps.specs.declared.{micro_steps.Micro.Micro, program_plan.Step.Step}
 use Rattle.eevdf_steps.specs.declared.micro_steps.Micro.TheVariants.{Take, Post}
+use Rattle.eevdf_steps.specs.{Commits.committed, Commits.committed_by, Callers.Callers, SoundSteps.is_sound_micro}
+use Rattle.eevdf_steps.specs.{Requests.Progress, Room.lines_to_come, Work.hand, Work.pulls_from, Journals.noted}
+use Rattle.eevdf_steps.specs.{Recorded.Recorded, Working.IsWorking, Players.Player, Players.player_step, Serial.IsSerial}
+use Rattle.eevdf_steps.specs.Playing.{IsPlaying, player_of}
 use Rattle.eevdf_steps.specs.Plan.{IsSound, Plan, callers, is_sound_op}
 use Rattle.eevdf_steps.specs.Counters.{Counters, counted, refused, step_next}
 use Rattle.eevdf_ops.specs.Programs.{deeds_of}
-use Rattle.std.proofs.lemmas.List.{map-append}
 use Rattle.std.specs.Option.{option_to_list}
-use Rattle.eevdf_steps.specs.{Commits.committed, Commits.committed_by, Callers.Callers, SoundSteps.is_sound_micro}
-use Rattle.eevdf_steps.specs.{Requests.Progress, Room.lines_to_come, Work.hand, Work.pulls_from, Journals.noted}
 use Rattle.eevdf_steps.specs.PostLists.{PostList, has_room, list_at, place_of, posts_after, request_after}
 use Rattle.eevdf_steps.specs.MicroState.{answers, appends, home_for, micro_by, works}
-use Rattle.eevdf_steps.specs.{Recorded.Recorded, Working.IsWorking, Players.Player, Players.player_step, Serial.IsSerial}
-use Rattle.eevdf_steps.specs.Playing.{IsPlaying, player_of}
 use Rattle.eevdf_steps.proofs.{Lists.both, SoundSteps.is_caller, SoundSteps.step_sound, WorkPlaces.hand_nowhere}
 use Rattle.eevdf_steps.proofs.{SerialSteps.SerialStep, SerialSteps.serial_step, WorkSteps.works_kept, Rooms.fewer_to_come}
 use Rattle.eevdf_steps.proofs.{Posting.place_below, Posting.posts_step, Progressing.progress_then}

@@ -3,13 +3,12 @@ use Rattle.std.proofs.Common.{append_assoc, ◌≡◌, ◌≢◌, ℕ, zero, suc
 use Rattle.std.proofs.Math.ListN.{length-set, length-append}
 use Rattle.std.proofs.lemmas.{List.get_or-set_same, List.get_or-set_other, Nat.mul-add-lt, Nat.same_from_place}
 use Rattle.std.specs.Prelude.{Some}
-use Rattle.eevdf_steps.specs.declared.{micro_steps.Micro.Micro, program_plan.Step.Step}
-use Rattle.eevdf_steps.specs.declared.micro_steps.Micro.TheVariants.{Take, Post}
+use Rattle.eevdf_steps.specs.{declared.micro_steps.Micro.Micro, declared.program_plan.Step.Step}
+use Rattle.eevdf_steps.specs.{declared.micro_steps.Micro.TheVariants.Take, declared.micro_steps.Micro.TheVariants.Post}
+use Rattle.eevdf_steps.specs.{MicroSteps.steps_by, Requests.post_to, Requests.posted, Requests.posts_to, SoundSteps.is_sound_micro}
 use Rattle.eevdf_steps.specs.Plan.{IsSound, Plan, callers, home, pair}
-use Rattle.eevdf_steps.specs.{MicroSteps.steps_by, Requests.post_to, Requests.posted, Requests.posts_to}
 use Rattle.eevdf_steps.specs.Counters.{Counters, count_of, counted, done_by, step_next}
 use Rattle.eevdf_steps.specs.PostLists.{ArePosted, PostList, has_room, list_at, no_posts, place_of, posted_more, posts_after, taken_more}
-use Rattle.eevdf_steps.specs.SoundSteps.{is_sound_micro}
 use Rattle.eevdf_steps.proofs.{SoundSteps.home_below, Lists.lt_true, Lists.true_lt}
 use Rattle.eevdf_steps.proofs.Holders.{number_cases, other_number, same_number, take_next}
 

@@ -2,13 +2,12 @@
 use Rattle.std.proofs.Common.{append-nil, ◌≡◌, ℕ, zero, suc, ◌+◌, Bool, true, false, cond, List, [], ◌∷◌, ◌++◌, map, min, max, ap, ◌∙◌, refl}
 use Rattle.std.proofs.lemmas.List.{take_all}
 use Rattle.std.specs.Prelude.{◌==◌, None}
-use Rattle.eevdf_ops.specs.declared.deeds.Op.{Op}
+use Rattle.eevdf_ops.specs.{declared.deeds.Op.Op, Programs.post_of, Programs.posts_in}
 use Rattle.eevdf_ops.specs.declared.deeds.Op.TheVariants as op
-use Rattle.eevdf_ops.specs.Programs.{post_of, posts_in}
 use Rattle.eevdf_steps.specs.declared.{micro_steps.Micro.TheVariants.Release, program_plan.Step.Step}
+use Rattle.eevdf_steps.specs.{Counters.Counters, Counters.count_of, Counters.step_next, Requests.posted, Requests.posts_to}
 use Rattle.eevdf_steps.specs.Plan.{Plan, callers, home, program}
 use Rattle.eevdf_steps.specs.MicroSteps.{draining, moving, steps_by, steps_of, under_lock}
-use Rattle.eevdf_steps.specs.{Counters.Counters, Counters.count_of, Counters.step_next, Requests.posted, Requests.posts_to}
 use Rattle.eevdf_steps.proofs.{Lists.got_past, Positions.micros_in, Positions.step_in, Posting.posts_joined}
 
 sleep_posts : (plan : Plan) (p a b c t : ℕ) (here : Bool)

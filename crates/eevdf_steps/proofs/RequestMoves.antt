@@ -1,17 +1,16 @@
 -- What each step makes of the requests from one caller to another.
 use Rattle.std.proofs.Common.{append-nil, ◌≡◌, ◌≢◌, ℕ, suc, ◌+◌, ◌*◌, ◌<◌, ◌≤◌, Bool, true, false, cond, List, [], ◌∷◌, ◌++◌, length, drop, inl, inr, ◌⊎◌, sym, ap, subst, ◌∙◌, arith, refl}
-use Rattle.std.proofs.Math.ListN.{length-append, length-set}
+use Rattle.std.proofs.{Math.ListN.length-append, Math.ListN.length-set, lemmas.Nat.mul-add-lt, lemmas.Nat.same_from_place}
 use Rattle.std.proofs.lemmas.{List.drop-append-le, List.get_or-set_other, List.get_or-set_same, Bool.false≢true}
-use Rattle.std.proofs.lemmas.Nat.{mul-add-lt, same_from_place}
 use Rattle.std.specs.Prelude.{slice_get, ◌==◌, MatchOption, Option, Some, None}
 use Rattle.std.specs.Option.{option_map, option_to_list}
 use Rattle.eevdf_ops.specs.declared.deeds.{Op.Op, Deed.Deed}
 use Rattle.eevdf_ops.specs.declared.deeds.Op.TheVariants as op
 use Rattle.eevdf_ops.specs.Programs.{deed_of, deeds_by, wakes_in}
 use Rattle.eevdf_steps.specs.declared.{micro_steps.Micro.Micro, program_plan.Step.Step}
+use Rattle.eevdf_steps.specs.{MicroSteps.steps_by, Commits.committed, Commits.committed_by, Commits.wake_of}
 use Rattle.eevdf_steps.specs.declared.micro_steps.Micro.TheVariants.{Commit, Take, Settle}
 use Rattle.eevdf_steps.specs.Plan.{IsSound, Plan, callers, pair}
-use Rattle.eevdf_steps.specs.{MicroSteps.steps_by, Commits.committed, Commits.committed_by, Commits.wake_of}
 use Rattle.eevdf_steps.specs.Counters.{Counters, count_of, counted, next, step_next}
 use Rattle.eevdf_steps.specs.Requests.{Progress, found_by, left, oldest, posted, progress_by, requested, taken_of, takes}
 use Rattle.eevdf_steps.proofs.CommittedLines.{to_settle, to_settle_next, unsettled}

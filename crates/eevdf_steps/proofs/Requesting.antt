@@ -1,7 +1,6 @@
 -- What a step of a caller changes of the requests, and what it leaves.
 use Rattle.std.proofs.Common.{◌≡◌, ◌≢◌, ℕ, ◌+◌, ◌<◌, List, [], ◌++◌, length, inl, inr, sym, subst, ◌∙◌, append-nil, refl}
-use Rattle.std.proofs.Math.ListN.{length-set}
-use Rattle.std.proofs.lemmas.{List.get_or-set_other, Nat.same_from_place}
+use Rattle.std.proofs.{Math.ListN.length-set, lemmas.List.get_or-set_other, lemmas.Nat.same_from_place}
 use Rattle.std.specs.Prelude.{Option, Some, None}
 use Rattle.eevdf_steps.specs.declared.{micro_steps.Micro.Micro, program_plan.Step.Step}
 use Rattle.eevdf_steps.specs.declared.micro_steps.Micro.TheVariants.{Take, Settle}

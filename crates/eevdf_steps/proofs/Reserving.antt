@@ -6,13 +6,12 @@ use Rattle.std.proofs.lemmas.List.{get_or_append_left, get_or-replicate, get_or-
 use Rattle.std.proofs.lemmas.Nat.{div-mul-add, mod-mul-add}
 use Rattle.std.specs.List.{sum_by}
 use Rattle.std.specs.Prelude.{◌==◌, is_some, slice_index, Option, None}
-use Rattle.eevdf_ops.specs.declared.deeds.Op.{Op}
+use Rattle.eevdf_ops.specs.{declared.deeds.Op.Op, Numbers.most_operations, Places.count, Programs.post_of, Programs.posts_in}
 use Rattle.eevdf_ops.specs.declared.deeds.Op.TheVariants as op
-use Rattle.eevdf_ops.specs.{Numbers.most_operations, Places.count, Programs.post_of, Programs.posts_in}
 use Rattle.eevdf_steps.specs.declared.{micro_steps.Micro.TheVariants.Release, program_plan.Step.Step}
+use Rattle.eevdf_steps.specs.{Orders.counters_at_start, PostLists.PostList, PostLists.list_at, PostLists.no_posts}
 use Rattle.eevdf_steps.specs.Plan.{IsSound, Plan, callers, home, is_sound_op, program}
 use Rattle.eevdf_steps.specs.MicroSteps.{draining, moving, steps_by, steps_of, under_lock, under_locks}
-use Rattle.eevdf_steps.specs.{Orders.counters_at_start, PostLists.PostList, PostLists.list_at, PostLists.no_posts}
 use Rattle.eevdf_steps.specs.Room.{lines_in, lines_left, lines_to_come, steps_to_come, sum_from, unsettled, waiting, waiting_in}
 use Rattle.eevdf_steps.specs.Openings.{AreEmpty, CountPosts, empty_at, most_lines, post_counted, room_at}
 use Rattle.eevdf_steps.proofs.Holders.{count_first, number_cases, other_number, same_number}

@@ -4,14 +4,14 @@ use Rattle.std.proofs.lemmas.{Bool.false≢true, Bool.cases_lt, List.append-nil}
 use Rattle.std.specs.Prelude.{◌==◌, MatchOption, Option, Some, None}
 use Rattle.std.specs.Option.{option_to_list}
 use Rattle.eevdf_steps.specs.{Commits.committed, Working.FitsHand, Working.HasRoom, UnderWay.under_way}
+use Rattle.eevdf_steps.specs.declared.{micro_steps.Micro.Micro, program_plan.Step.Step}
 use Rattle.eevdf_queue.specs.{State.State, Leaving.carried_running}
 use Rattle.eevdf_ops.specs.declared.deeds.{Op.Op, Deed.Deed, Answer.Answer, Line.Line}
 use Rattle.eevdf_ops.specs.declared.deeds.Op.TheVariants as op
 use Rattle.eevdf_ops.specs.declared.deeds.Deed.TheVariants as deed
 use Rattle.eevdf_ops.specs.{Machine.Machine, Machine.queue_at, Whole.whole, Programs.deed_of, Programs.deeds_of}
-use Rattle.eevdf_ops.specs.OneQueue.{one_tick, one_pick, one_yield, one_renice}
 use Rattle.eevdf_ops.specs.{WholePull.decision, WholePull.load_of, WholePull.offer, Histories.machine_told}
-use Rattle.eevdf_steps.specs.declared.{micro_steps.Micro.Micro, program_plan.Step.Step}
+use Rattle.eevdf_ops.specs.OneQueue.{one_tick, one_pick, one_yield, one_renice}
 use Rattle.eevdf_steps.specs.declared.micro_steps.Micro.TheVariants.{Acquire, Act, Detach, Attach, Commit, Take, Settle, Release, Post}
 use Rattle.eevdf_steps.specs.Plan.{IsSound, Plan, callers, home}
 use Rattle.eevdf_steps.specs.Counters.{Counters, counted, holder, holds, least, refused, step_next}
@@ -20,8 +20,8 @@ use Rattle.eevdf_steps.specs.Work.{Work, answer, hand, pull_decision, woken}
 use Rattle.eevdf_steps.specs.Serial.{IsFree, FollowsHistory, IsSerial}
 use Rattle.eevdf_steps.proofs.{Holders.nobody_past, Holders.not_blocked, Holders.same_number, Lists.true_lt, Walking.walking}
 use Rattle.eevdf_steps.proofs.{Positions.step_in, SoundSteps.home_below, SoundSteps.is_caller}
-use Rattle.eevdf_steps.proofs.Walks.{Covers, Fits, Walk, touched}
 use Rattle.eevdf_steps.proofs.OtherCallers.{IsStepOf, followed_then}
+use Rattle.eevdf_steps.proofs.Walks.{Covers, Fits, Walk, touched}
 use Rattle.eevdf_steps.proofs.OwnSteps.{AtStep, acquire_step, begun_now, fresh_begun, holds_nothing, quiet_step, release_step, same_locks, sees_history}
 use Rattle.eevdf_steps.proofs.OwnWork.{AtAttach, acted_step, at_attach, falls_asleep_step, joins_step, pull_leaves, room_then, sleep_leaves}
 use Rattle.eevdf_steps.proofs.OwnCommits.{commit_answer, commit_step, history_more, length-machine_after, machine_more, settle_answer, settle_step}

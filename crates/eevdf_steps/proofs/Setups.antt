@@ -1,16 +1,14 @@
 -- The plan of a setup is sound.
 use Rattle.std.proofs.Common.{◌≡◌, ℕ, ◌+◌, Bool, true, false, ◌&&◌, not, List, [], ◌∷◌, length, map, replicate, sym, subst, ◌∙◌, refl}
-use Rattle.std.proofs.lemmas.List.{length-map}
+use Rattle.std.proofs.{lemmas.List.length-map, Math.ListN.length-replicate}
 use Rattle.std.specs.List.{list_all}
 use Rattle.std.specs.Prelude.{nat_lt, nat_le, ◌==◌, None}
-use Rattle.eevdf_ops.specs.declared.task_spec.TaskSpec.{TaskSpec}
-use Rattle.eevdf_ops.specs.declared.deeds.Op.{Op}
+use Rattle.eevdf_ops.specs.{declared.task_spec.TaskSpec.TaskSpec, declared.deeds.Op.Op, Setup.Setup, Setup.cpus_of, Setup.is_source}
+use Rattle.eevdf_ops.specs.{Numbers.most_cpus, Numbers.most_operations}
 use Rattle.eevdf_ops.specs.declared.deeds.Op.TheVariants as op
-use Rattle.eevdf_ops.specs.{Setup.Setup, Setup.cpus_of, Setup.is_source, Numbers.most_cpus, Numbers.most_operations}
 use Rattle.eevdf_queue.specs.State.{empty_state}
 use Rattle.eevdf_ops.proofs.Machines.{length-begin_at_homes}
 use Rattle.eevdf_ops.proofs.SetupFaults.{or_none_left, or_none_right, parts_of, passes}
-use Rattle.std.proofs.Math.ListN.{length-replicate}
 use Rattle.eevdf_ops.specs.Faults.{operation_fault, operations_fault, program_fault, programs_fault, setup_fault, task_fault, tasks_fault, unless}
 use Rattle.eevdf_steps.specs.Plan.{IsSound, Plan, all_pull_elsewhere, callers, is_sound_op, is_sound_program, plan_of, pulls_elsewhere}
 use Rattle.eevdf_steps.proofs.Lists.{both, true_le}

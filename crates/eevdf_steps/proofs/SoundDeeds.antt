@@ -2,19 +2,16 @@
 use Rattle.std.proofs.Common.{◌≡◌, ℕ, ◌+◌, ◌<◌, Bool, true, ◌&&◌, not, List, [], ◌∷◌, length, map, sym, ap, subst, ◌∙◌, refl, arith}
 use Rattle.std.specs.List.{list_all}
 use Rattle.std.specs.Prelude.{◌==◌, nat_lt, Option, Some, None}
-use Rattle.eevdf_ops.specs.declared.deeds.{Op.Op, Deed.Deed}
+use Rattle.eevdf_ops.specs.{declared.deeds.Op.Op, declared.deeds.Deed.Deed, Places.AreCpus, Setup.is_allowed, Programs.deed_of}
 use Rattle.eevdf_ops.specs.declared.deeds.Op.TheVariants as op
 use Rattle.eevdf_ops.specs.declared.deeds.Deed.TheVariants as deed
-use Rattle.eevdf_ops.specs.{Places.AreCpus, Setup.is_allowed, Programs.deed_of}
-use Rattle.eevdf_steps.specs.declared.{micro_steps.Micro.Micro, program_plan.Step.Step}
+use Rattle.eevdf_steps.specs.{declared.micro_steps.Micro.Micro, declared.program_plan.Step.Step, MicroSteps.micros_of}
+use Rattle.eevdf_steps.specs.{MicroSteps.steps_by, MicroSteps.steps_of, SoundSteps.is_sound_micro, Counters.Counters}
+use Rattle.eevdf_steps.specs.{Counters.count_of, Counters.step_next, UnderWay.UnderWay, UnderWay.under_way, Serial.begun_by}
 use Rattle.eevdf_steps.specs.Plan.{IsSound, Plan, callers, is_sound_op, program, pulls_elsewhere}
-use Rattle.eevdf_steps.specs.{MicroSteps.micros_of, MicroSteps.steps_by, MicroSteps.steps_of, SoundSteps.is_sound_micro}
-use Rattle.eevdf_steps.specs.{Counters.Counters, Counters.count_of, Counters.step_next, UnderWay.UnderWay, UnderWay.under_way}
-use Rattle.eevdf_steps.specs.Serial.{begun_by}
-use Rattle.eevdf_steps.proofs.{Lists.both, Lists.lt_true, Positions.step_in, Setups.and_true, Walks.Walk}
+use Rattle.eevdf_steps.proofs.{Lists.both, Lists.lt_true, Positions.step_in, Setups.and_true, Walks.Walk, Walking.program_pulls}
+use Rattle.eevdf_steps.proofs.{Walking.walking, Begun.FitsAll, Begun.Standing, Begun.standing, OtherCallers.AreWalking}
 use Rattle.eevdf_steps.proofs.SoundSteps.{all_joined, home_below, is_caller, some_all, step_sound}
-use Rattle.eevdf_steps.proofs.{Walking.program_pulls, Walking.walking, Begun.FitsAll, Begun.Standing, Begun.standing}
-use Rattle.eevdf_steps.proofs.OtherCallers.{AreWalking}
 
 abbrev step_pulls_elsewhere : ℕ → Step → Bool
 step_pulls_elsewhere p s = pulls_elsewhere p s.op

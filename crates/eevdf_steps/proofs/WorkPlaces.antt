@@ -5,8 +5,7 @@ use Rattle.std.specs.Prelude.{◌==◌, IfSome, Option, Some, None}
 use Rattle.eevdf_queue.specs.State.{Contents}
 use Rattle.eevdf_ops.specs.{Machine.queue_at, Places.count, Places.places, Places.places_in, Setup.is_task}
 use Rattle.eevdf_ops.proofs.MachinePlaces.{places-at}
-use Rattle.eevdf_steps.specs.{Plan.Plan, Plan.callers, Playing.IsWork, Places.hands_with, Places.is_in_hand}
-use Rattle.eevdf_steps.specs.Work.{Work, hand}
+use Rattle.eevdf_steps.specs.{Plan.Plan, Plan.callers, Playing.IsWork, Places.hands_with, Places.is_in_hand, Work.Work, Work.hand}
 
 own_hand : (p : Contents) → count (is_in_hand (Some p) p.task) ≡ 1
 own_hand p = ap count (let same : (p.task == p.task) ≡ true = grind (arith, nat_tests) in same)

@@ -3,8 +3,8 @@ use Rattle.std.specs.Prelude.{ℕ, zero, suc, ◌+◌, ◌==◌, nat_lt, Bool, t
 use Rattle.std.specs.Option.{option_map}
 use Rattle.eevdf_steps.specs.declared.{micro_steps.Micro.Micro, step_fault.StepFault.StepFault, program_plan.Step.Step}
 use Rattle.eevdf_steps.specs.declared.micro_steps.Micro.TheVariants.{Acquire, Release}
-use Rattle.eevdf_steps.specs.declared.step_fault.StepFault.TheVariants.{NoCaller, Done, Blocked}
 use Rattle.eevdf_steps.specs.{Plan.Plan, Plan.callers, MicroSteps.steps_by}
+use Rattle.eevdf_steps.specs.declared.step_fault.StepFault.TheVariants.{NoCaller, Done, Blocked}
 
 -- how many of its steps each caller has done
 abbrev pub Counters : Type 0

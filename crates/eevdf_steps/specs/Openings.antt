@@ -1,9 +1,8 @@
 -- What a player reserves when it opens.
 use Rattle.std.specs.Prelude.{◌≡◌, ℕ, ◌+◌, ◌*◌, ◌/◌, ◌%◌, ◌<◌, List, [], length, slice_index, slice_set}
 use Rattle.std.specs.List.{sum_by}
-use Rattle.eevdf_ops.specs.declared.deeds.Op.{Op}
+use Rattle.eevdf_ops.specs.{declared.deeds.Op.Op, Programs.posts_in}
 use Rattle.eevdf_ops.specs.declared.deeds.Op.TheVariants as op
-use Rattle.eevdf_ops.specs.Programs.{posts_in}
 use Rattle.eevdf_steps.specs.Plan.{Plan, callers, home, program}
 use Rattle.eevdf_steps.specs.PostLists.{PostList, list_at}
 

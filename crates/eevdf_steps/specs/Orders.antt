@@ -2,9 +2,9 @@
 use Rattle.std.specs.Prelude.{◌≡◌, ◌≤◌, ℕ, ◌+◌, nat_lt, Bool, true, ◌&&◌, List, [], ◌∷◌, length, replicate, if◌then◌else◌, is_none, Option, Some, None}
 use Rattle.std.specs.Option.{option_map}
 use Rattle.eevdf_steps.specs.declared.{step_fault.StepFault.StepFault, play_fault.PlayFault.PlayFault}
+use Rattle.eevdf_steps.specs.Plan.{Plan, callers}
 use Rattle.eevdf_steps.specs.declared.step_fault.StepFault.TheVariants as step
 use Rattle.eevdf_steps.specs.declared.play_fault.PlayFault.TheVariants.{TooLong, NoCaller, Done, Blocked, Short}
-use Rattle.eevdf_steps.specs.Plan.{Plan, callers}
 use Rattle.eevdf_steps.specs.Counters.{Counters, counted, may_step, refusal, unfinished}
 
 -- nobody has done a step

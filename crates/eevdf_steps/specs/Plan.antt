@@ -1,10 +1,9 @@
 -- What the callers are to do.
 use Rattle.std.specs.Prelude.{◌≡◌, ℕ, ◌*◌, ◌+◌, ◌≤◌, ◌==◌, nat_lt, nat_le, Bool, ◌&&◌, not, true, List, [], ◌∷◌, length, slice_index_or}
 use Rattle.std.specs.List.{list_all}
-use Rattle.eevdf_ops.specs.declared.deeds.Op.{Op}
+use Rattle.eevdf_ops.specs.{declared.deeds.Op.Op, Numbers.most_cpus, Numbers.most_operations, Setup.Setup, Setup.homes_of}
+use Rattle.eevdf_ops.specs.{Machine.Machine, Machine.start}
 use Rattle.eevdf_ops.specs.declared.deeds.Op.TheVariants as op
-use Rattle.eevdf_ops.specs.{Numbers.most_cpus, Numbers.most_operations, Setup.Setup, Setup.homes_of}
-use Rattle.eevdf_ops.specs.Machine.{Machine, start}
 
 -- the home of each task, the program of each caller, who stands on the CPU of the same number, and the machine on
 -- which they start

@@ -1,8 +1,7 @@
 -- The work on the queues with its history.
 use Rattle.std.specs.Prelude.{ℕ, [], replicate, None}
 use Rattle.eevdf_ops.specs.Machine.{Machine}
-use Rattle.eevdf_steps.specs.Journals.{Journal}
-use Rattle.eevdf_steps.specs.Work.{Work}
+use Rattle.eevdf_steps.specs.{Journals.Journal, Work.Work}
 
 pub record Recorded : Type 0 where
   pub work : Work

@@ -3,9 +3,8 @@
 ghost use Rattle.std.specs.Prelude.{◌≡◌, ◌+◌, ◌<◌, ◌≤◌, true, length, replicate, Some, None, IfOk, IfSome, MatchOption};
 ghost use Rattle.eevdf_steps.specs.Counters as counters;
 ghost use Rattle.eevdf_steps.specs.Holders as locks;
-ghost use Rattle.eevdf_steps.specs.Orders.{counters_at_start};
+ghost use Rattle.eevdf_steps.specs.{Orders.counters_at_start, SoundSteps.is_sound_micro, SoundSteps.is_sound_step};
 ghost use Rattle.eevdf_steps.specs.Plan.{IsSound, callers, plan_of};
-ghost use Rattle.eevdf_steps.specs.SoundSteps.{is_sound_micro, is_sound_step};
 
 use crate::lists_of_steps::cpu_number;
 use crate::micro_steps::Micro;

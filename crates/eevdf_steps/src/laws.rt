@@ -1,8 +1,7 @@
 //! Laws of a player, each the contract of a function that does nothing.
 
 ghost use Rattle.std.specs.Prelude.{◌≡◌};
-ghost use Rattle.eevdf_steps.specs.Orders.{WholeIsPlayed};
-ghost use Rattle.eevdf_steps.specs.Plan.{plan_of};
+ghost use Rattle.eevdf_steps.specs.{Orders.WholeIsPlayed, Plan.plan_of};
 ghost use Rattle.eevdf_steps.specs.Players.{EachInOnePlace, EachSleepsAtHome, OneHolder};
 
 use crate::step_player::Player;

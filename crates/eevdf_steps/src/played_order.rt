@@ -2,19 +2,10 @@
 
 ghost use Rattle.std.specs.List.{list_all};
 ghost use Rattle.std.specs.Prelude.{◌≡◌, true, IfOk, OnOk};
-ghost use Rattle.eevdf_ops.specs.Followed.{FollowsPrograms};
-ghost use Rattle.eevdf_ops.specs.Histories.{IsOneThread};
-ghost use Rattle.eevdf_ops.specs.Machine.{start};
-ghost use Rattle.eevdf_ops.specs.Outcome.{machine_of};
-ghost use Rattle.eevdf_ops.specs.Places.{IsPlaced};
-ghost use Rattle.eevdf_ops.specs.Programs.{deeds_of};
-ghost use Rattle.eevdf_ops.specs.Setup.{allows, homes_of};
-ghost use Rattle.eevdf_steps.specs.Commits.{deeds_committed};
+ghost use Rattle.eevdf_ops.specs.{Followed.FollowsPrograms, Histories.IsOneThread, Machine.start, Outcome.machine_of};
+ghost use Rattle.eevdf_ops.specs.{Places.IsPlaced, Programs.deeds_of, Setup.allows, Setup.homes_of};
+ghost use Rattle.eevdf_steps.specs.{Commits.deeds_committed, Orders.IsWhole, Plan.plan_of, PlayedSteps.IsPlayed, Plays.IsPlay};
 ghost use Rattle.eevdf_steps.specs.Orders as orders;
-ghost use Rattle.eevdf_steps.specs.Orders.{IsWhole};
-ghost use Rattle.eevdf_steps.specs.Plan.{plan_of};
-ghost use Rattle.eevdf_steps.specs.PlayedSteps.{IsPlayed};
-ghost use Rattle.eevdf_steps.specs.Plays.{IsPlay};
 
 use crate::play_fault::PlayFault;
 use crate::step_fault::StepFault;

@@ -3,13 +3,9 @@
 ghost use Rattle.std.specs.Prelude.{◌≡◌, ◌+◌, ◌*◌, ◌<◌, ◌≤◌, Some, true, length, slice_get, take, IfOk, IfSome};
 ghost use Rattle.std.specs.Option.{option_map};
 ghost use Rattle.eevdf_ops.specs.Numbers.{most_cpus};
-ghost use Rattle.eevdf_steps.specs.Callers.{BeginAll};
-ghost use Rattle.eevdf_steps.specs.MicroState.{home_for};
-ghost use Rattle.eevdf_steps.specs.MicroSteps.{micros_of, steps_of};
+ghost use Rattle.eevdf_steps.specs.{Callers.BeginAll, MicroState.home_for, MicroSteps.micros_of, MicroSteps.steps_of};
+ghost use Rattle.eevdf_steps.specs.{Positions.IsPosition, Positions.counter_at, PostLists.place_of, SoundSteps.is_sound_micro};
 ghost use Rattle.eevdf_steps.specs.Plan.{IsSound, callers, home, is_sound_op, pair, plan_of, program};
-ghost use Rattle.eevdf_steps.specs.Positions.{IsPosition, counter_at};
-ghost use Rattle.eevdf_steps.specs.PostLists.{place_of};
-ghost use Rattle.eevdf_steps.specs.SoundSteps.{is_sound_micro};
 
 use crate::lists_of_steps::{act_step, cpu_number, drain_step, move_between_step, sleep_step};
 use crate::micro_steps::Micro;

@@ -1,13 +1,8 @@
 //! The work that the callers do on the queues.
 
 ghost use Rattle.std.specs.Prelude.{◌≡◌, ◌<◌, ◌≤◌, length, replicate, vec_len, true, None, IfOk, IfSome};
-ghost use Rattle.eevdf_queue.specs.Leaving.{carried_running};
-ghost use Rattle.eevdf_queue.specs.Moves.{sleeper_of};
-ghost use Rattle.eevdf_queue.specs.Placing.{can_place};
-ghost use Rattle.eevdf_ops.specs.Machine.{queue_at};
-ghost use Rattle.eevdf_ops.specs.Numbers.{most_cpus};
-ghost use Rattle.eevdf_ops.specs.Outcome.{machine_of};
-ghost use Rattle.eevdf_ops.specs.Places.{places_in};
+ghost use Rattle.eevdf_queue.specs.{Leaving.carried_running, Moves.sleeper_of, Placing.can_place};
+ghost use Rattle.eevdf_ops.specs.{Machine.queue_at, Numbers.most_cpus, Outcome.machine_of, Places.places_in};
 ghost use Rattle.eevdf_ops.specs.Places.{places as machine_places};
 ghost use Rattle.eevdf_steps.specs.Places as places;
 ghost use Rattle.eevdf_steps.specs.Work as work;

@@ -1,14 +1,10 @@
 ghost use Rattle.std.specs.Prelude.{◌≡◌, ◌<◌, nat_lt, true, is_none, length, Some, None, IfOk, OnOk};
-ghost use Rattle.eevdf_ops.specs.Histories.{AreHistory, IsOneThread};
-ghost use Rattle.eevdf_ops.specs.Machine.{queue_at};
-ghost use Rattle.eevdf_ops.specs.Programs.{deeds_of};
+ghost use Rattle.eevdf_ops.specs.{Histories.AreHistory, Histories.IsOneThread, Machine.queue_at, Programs.deeds_of};
 ghost use Rattle.eevdf_steps.specs.Counters as counters;
-ghost use Rattle.eevdf_steps.specs.Plan.{IsSound, callers};
-ghost use Rattle.eevdf_steps.specs.Places.{stands_at};
+ghost use Rattle.eevdf_steps.specs.{Plan.IsSound, Plan.callers, Places.stands_at, Serial.IsSerial};
 ghost use Rattle.eevdf_steps.specs.Players as player;
 ghost use Rattle.eevdf_steps.specs.Playing as playing;
 ghost use Rattle.eevdf_steps.specs.Plays as plays;
-ghost use Rattle.eevdf_steps.specs.Serial.{IsSerial};
 
 use crate::callers::Callers;
 use crate::commits::commit;

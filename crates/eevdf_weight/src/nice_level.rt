@@ -89,8 +89,7 @@ impl TryFrom<i64> for Nice {
 
 /// The level as a decimal number.
 impl fmt::Display for Nice {
-    ghost use Rattle.std.specs.Prelude.{Some};
-    ghost use Rattle.std.specs.Fmt.{signed_decimal, styled_signed_decimal};
+    ghost use Rattle.std.specs.{Prelude.Some, Fmt.signed_decimal, Fmt.styled_signed_decimal};
 
     ghost output = { λ nice. Some (signed_decimal nice) };
 

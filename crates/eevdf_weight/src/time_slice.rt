@@ -92,8 +92,7 @@ impl TryFrom<u64> for Slice {
 
 /// The slice in nanoseconds, as a decimal number.
 impl fmt::Display for Slice {
-    ghost use Rattle.std.specs.Prelude.{Some, decimal};
-    ghost use Rattle.std.specs.Fmt.{styled_decimal};
+    ghost use Rattle.std.specs.{Prelude.Some, Prelude.decimal, Fmt.styled_decimal};
 
     ghost output = { λ slice. Some (decimal slice) };
 

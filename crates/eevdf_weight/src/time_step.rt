@@ -80,8 +80,7 @@ impl TryFrom<u64> for Ns {
 
 /// The time in nanoseconds, as a decimal number.
 impl fmt::Display for Ns {
-    ghost use Rattle.std.specs.Prelude.{Some, decimal};
-    ghost use Rattle.std.specs.Fmt.{styled_decimal};
+    ghost use Rattle.std.specs.{Prelude.Some, Prelude.decimal, Fmt.styled_decimal};
 
     ghost output = { λ time. Some (decimal time) };
 

@@ -1,8 +1,7 @@
 -- A workload that is cut one byte past its limit means what it meant.
 use Rattle.std.proofs.Common.{◌≡◌, ℕ, ◌+◌, ◌<◌, ◌≤◌, Bool, true, false, cond, List, length, take, refl, ap, ◌∙◌, arith}
 use Rattle.std.specs.Prelude.{nat_lt, if◌then◌else◌, Err}
-use Rattle.std.proofs.lemmas.List.{take_all, length-take}
-use Rattle.std.proofs.lemmas.Bool.Decides.{nat_tests}
+use Rattle.std.proofs.{lemmas.List.take_all, lemmas.List.length-take, lemmas.Bool.Decides.nat_tests}
 use Rattle.eevdf_workload.specs.declared.load_fault.LoadFault.TheVariants as fault
 use Rattle.eevdf_workload.specs.Meaning.{meaning, document_of, workload_of}
 use Rattle.eevdf_workload.specs.MeaningSteps.{◌>>=◌}

@@ -2,8 +2,7 @@
 use Rattle.std.proofs.Common.{◌≡◌, ℕ, ◌+◌, Bool, true, false, cond, List, ◌∷◌, Option, Some, None, Result, Ok, Err, option_map, option_and_then, refl, ap, ◌∙◌}
 use Rattle.std.proofs.lemmas.Option.{none-some, option_and_then_some}
 use Rattle.toml.specs.Data.{Data, Items, no_items, item}
-use Rattle.eevdf_workload.specs.declared.load_fault.Key.{Key}
-use Rattle.eevdf_workload.specs.declared.load_fault.LoadFault.{LoadFault}
+use Rattle.eevdf_workload.specs.{declared.load_fault.Key.Key, declared.load_fault.LoadFault.LoadFault}
 use Rattle.eevdf_workload.specs.MeaningSteps.{◌>>=◌, good_at, required, if_present, each}
 
 -- what is found in the first is found in the second

@@ -1,12 +1,9 @@
 -- Bytes as a document.
 use Rattle.std.proofs.Common.{◌≡◌, ℕ, List, Some, None, Ok, Err, inl, inr}
-use Rattle.std.proofs.lemmas.Bool.{cases_Bool}
-use Rattle.std.proofs.lemmas.Str.{is_utf8-from_IsUtf8, IsUtf8-from_is_utf8}
+use Rattle.std.proofs.{lemmas.Bool.cases_Bool, lemmas.Str.is_utf8-from_IsUtf8, lemmas.Str.IsUtf8-from_is_utf8}
 use Rattle.std.specs.Str.{IsUtf8, is_utf8}
-use Rattle.toml.specs.Data.{Members}
-use Rattle.toml.specs.Parse.{parse_document}
-use Rattle.eevdf_workload.specs.declared.load_fault.LoadFault.TheVariants.{NotToml}
-use Rattle.eevdf_workload.specs.Meaning.{document_of}
+use Rattle.toml.specs.{Data.Members, Parse.parse_document}
+use Rattle.eevdf_workload.specs.{declared.load_fault.LoadFault.TheVariants.NotToml, Meaning.document_of}
 
 pub document_of-read : (bytes : List ℕ) (document : Members) → IsUtf8 bytes → parse_document bytes ≡ Some document → document_of bytes ≡ Ok document
 unfolding document_of

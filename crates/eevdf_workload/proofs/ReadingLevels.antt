@@ -1,9 +1,7 @@
 -- A nice level that is written without a sign.
 use Rattle.std.proofs.Common.{◌≡◌, ◌≢◌, ℕ, ◌^◌, true, eqb, ltb, List, [], ◌∷◌, Option, Some, None, option_map, option_and_then, refl, ap, ◌∙◌, inl, inr, arith}
 use Rattle.std.specs.Prelude.{pos}
-use Rattle.std.proofs.lemmas.Bool.{cases_Bool}
-use Rattle.std.proofs.lemmas.Bool.Decides.{nat_tests}
-use Rattle.std.proofs.lemmas.Int.{ints}
+use Rattle.std.proofs.{lemmas.Bool.cases_Bool, lemmas.Bool.Decides.nat_tests, lemmas.Int.ints}
 use Rattle.eevdf_weight.specs.Limits.{checked_level}
 use Rattle.eevdf_workload.specs.Words.{number, fitting, signed_number, level_in}
 

@@ -1,9 +1,7 @@
 -- The members of an array, read one after another.
 use Rattle.std.proofs.Common.{◌≡◌, List, [], ◌∷◌, ◌++◌, length, Result, Ok, refl, arith}
-use Rattle.toml.specs.View.{items_view}
-use Rattle.toml.specs.declared.value.Value.{Value}
-use Rattle.eevdf_workload.specs.declared.load_fault.LoadFault.{LoadFault}
-use Rattle.eevdf_workload.specs.MeaningSteps.{◌>>=◌, count}
+use Rattle.toml.specs.{View.items_view, declared.value.Value.Value}
+use Rattle.eevdf_workload.specs.{declared.load_fault.LoadFault.LoadFault, MeaningSteps.◌>>=◌, MeaningSteps.count}
 
 -- what was found, and behind it what the rest is read as
 abbrev pub behind : {A : Type 0} → List A → Result (List A) LoadFault → Result (List A) LoadFault

@@ -1,13 +1,10 @@
 -- Words and numbers, as the reader finds them.
 use Rattle.std.proofs.Common.{◌≡◌, ◌≢◌, ℕ, ◌<◌, ◌≤◌, ◌^◌, true, false, eqb, List, [], ◌∷◌, length, get_or, Option, Result, Ok, Err, option_and_then, refl, ◌∙◌, inl, inr, arith, rules}
-use Rattle.std.proofs.lemmas.Bool.{false≢true, cases_Bool}
-use Rattle.std.proofs.lemmas.Bool.Decides.{nat_tests}
+use Rattle.std.proofs.{lemmas.Bool.false≢true, lemmas.Bool.cases_Bool, lemmas.Bool.Decides.nat_tests}
 use Rattle.std.proofs.lemmas.List.Splits.{slice_split_first}
 use Rattle.std.proofs.lemmas.Str.Parse.{IsNumeralModel, numerals_by_value, parse_digits}
-use Rattle.std.specs.Char.{is_ascii_digit}
+use Rattle.std.specs.{Char.is_ascii_digit, Result.OkIff, Result.result_ok, Str.Parse.ParsesUnsigned, Str.Parse.digits_value}
 use Rattle.std.specs.List.{list_all, position_or_len, before_first, after_first}
-use Rattle.std.specs.Result.{OkIff, result_ok}
-use Rattle.std.specs.Str.Parse.{ParsesUnsigned, digits_value}
 use Rattle.eevdf_workload.specs.Words.{words, is_number, number, fitting}
 
 pub is_number-no_zero : (word : List ℕ) → 1 ≤ length word → get_or word 0 0 ≢ 48 → is_number word ≡ list_all is_ascii_digit word

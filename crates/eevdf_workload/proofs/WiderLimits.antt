@@ -1,27 +1,16 @@
 -- What is read within limits is read the same within wider ones.
 use Rattle.std.proofs.Common.{◌≡◌, ℕ, ◌≤◌, codes, Bool, true, false, cond, ltb, List, [], ◌∷◌, length, Option, None, option_map, option_and_then, refl, inl, inr, arith}
-use Rattle.std.proofs.lemmas.Bool.{cases_Bool}
-use Rattle.std.proofs.lemmas.Bool.Decides.{nat_tests}
-use Rattle.std.proofs.lemmas.Option.{none-some}
-use Rattle.std.specs.Prelude.{ℤ, nat_le}
-use Rattle.std.specs.Option.{option_or}
-use Rattle.std.specs.Str.{bytes_eq}
+use Rattle.std.proofs.{lemmas.Bool.cases_Bool, lemmas.Bool.Decides.nat_tests, lemmas.Option.none-some}
+use Rattle.std.specs.{Prelude.ℤ, Prelude.nat_le, Option.option_or, Str.bytes_eq}
 use Rattle.toml.specs.Data.{Data, table, Members, Items, get_member, as_str}
-use Rattle.eevdf_ops.specs.Faults.{setup_fault, unless}
-use Rattle.eevdf_ops.specs.Programs.{deed_of}
-use Rattle.eevdf_ops.specs.Setup.{Setup}
-use Rattle.eevdf_ops.specs.declared.deeds.Op.{Op}
+use Rattle.eevdf_ops.specs.{Faults.setup_fault, Faults.unless, Programs.deed_of, Setup.Setup, declared.deeds.Op.Op}
+use Rattle.eevdf_ops.specs.{declared.deeds.Deed.Deed, declared.task_spec.TaskSpec.TaskSpec}
+use Rattle.eevdf_ops.specs.{declared.setup_fault.SetupFault.SetupFault, declared.setup_fault.SetupFault.TheVariants.BadCpus}
 use Rattle.eevdf_ops.specs.declared.deeds.Op.TheVariants as op
-use Rattle.eevdf_ops.specs.declared.deeds.Deed.{Deed}
 use Rattle.eevdf_ops.specs.declared.deeds.Deed.TheVariants as deed
-use Rattle.eevdf_ops.specs.declared.task_spec.TaskSpec.{TaskSpec}
-use Rattle.eevdf_ops.specs.declared.setup_fault.SetupFault.{SetupFault}
-use Rattle.eevdf_ops.specs.declared.setup_fault.SetupFault.TheVariants.{BadCpus}
-use Rattle.eevdf_workload.specs.declared.workload_version.Limits.{Limits}
-use Rattle.eevdf_workload.specs.declared.load_fault.Key.{Key}
+use Rattle.eevdf_workload.specs.{declared.workload_version.Limits.Limits, declared.load_fault.Key.Key, Versions.cpu_within}
 use Rattle.eevdf_workload.specs.declared.load_fault.Key.TheVariants as key
 use Rattle.eevdf_workload.specs.MeaningSteps.{array_at, at_most, count, natural, integer_or}
-use Rattle.eevdf_workload.specs.Versions.{cpu_within}
 use Rattle.eevdf_workload.specs.Words.{words, number, only_number, only_cpu, renice_of, task_in, operation_of, operation, sender_of, wake_of, deed_on, deed_in}
 use Rattle.eevdf_workload.specs.Meaning as meant
 use Rattle.eevdf_workload.proofs.KeptResults.{KeepsSome, KeepsOk, kept_cond, kept_then, kept_after, kept_map, kept_good, kept_bind, kept_behind, kept_each, kept_required, kept_present}

@@ -1,10 +1,8 @@
 -- The texts of the faults of a workload and of the places in it.
 use Rattle.std.specs.Prelude.{ℕ, List, ◌++◌, codes, decimal}
 use Rattle.eevdf_ops.specs.FaultTexts.{setup_fault_text}
-use Rattle.eevdf_workload.specs.Meaning.{most_bytes}
-use Rattle.eevdf_workload.specs.declared.load_fault.Key.{Key}
+use Rattle.eevdf_workload.specs.{Meaning.most_bytes, declared.load_fault.Key.Key, declared.load_fault.LoadFault.LoadFault}
 use Rattle.eevdf_workload.specs.declared.load_fault.Key.TheVariants as key
-use Rattle.eevdf_workload.specs.declared.load_fault.LoadFault.{LoadFault}
 use Rattle.eevdf_workload.specs.declared.load_fault.LoadFault.TheVariants as load
 
 abbrev pub key_text : Key → List ℕ

@@ -1,21 +1,15 @@
 -- What the bytes of a workload mean.
 use Rattle.std.specs.Prelude.{codes, ℕ, ◌+◌, Bool, false, ℤ, pos, nat_lt, nat_le, if◌then◌else◌, List, [], ◌∷◌, length, Option, Some, None, option_and_then, Result, Ok, Err}
-use Rattle.std.specs.Option.{ok_or, option_or}
-use Rattle.std.specs.Str.{is_utf8}
+use Rattle.std.specs.{Option.ok_or, Option.option_or, Str.is_utf8}
 use Rattle.toml.specs.Data.{Data, table, Members, get_member, as_str, as_integer}
 use Rattle.toml.specs.Parse.{parse_document}
 use Rattle.eevdf_weight.specs.Limits.{checked_level, checked_slice}
-use Rattle.eevdf_ops.specs.Setup.{Setup, allows}
-use Rattle.eevdf_ops.specs.Faults.{setup_fault, unless}
-use Rattle.eevdf_ops.specs.declared.task_spec.TaskSpec.{TaskSpec}
-use Rattle.eevdf_ops.specs.declared.deeds.Op.{Op}
-use Rattle.eevdf_ops.specs.declared.deeds.Deed.{Deed}
-use Rattle.eevdf_ops.specs.declared.setup_fault.SetupFault.{SetupFault}
+use Rattle.eevdf_ops.specs.{Setup.Setup, Setup.allows, Faults.setup_fault, Faults.unless, declared.task_spec.TaskSpec.TaskSpec}
+use Rattle.eevdf_ops.specs.{declared.deeds.Op.Op, declared.deeds.Deed.Deed, declared.setup_fault.SetupFault.SetupFault}
 use Rattle.eevdf_ops.specs.declared.setup_fault.SetupFault.TheVariants.{BadCpus}
-use Rattle.eevdf_workload.specs.declared.workload_version.Version.{Version}
-use Rattle.eevdf_workload.specs.declared.workload_version.Limits.{Limits}
-use Rattle.eevdf_workload.specs.declared.load_fault.Key.TheVariants as key
+use Rattle.eevdf_workload.specs.{declared.workload_version.Version.Version, declared.workload_version.Limits.Limits}
 use Rattle.eevdf_workload.specs.declared.load_fault.LoadFault.{LoadFault}
+use Rattle.eevdf_workload.specs.declared.load_fault.Key.TheVariants as key
 use Rattle.eevdf_workload.specs.declared.load_fault.LoadFault.TheVariants as fault
 use Rattle.eevdf_workload.specs.MeaningSteps.{◌>>=◌, good_at, required, if_present, integer_or, boolean_or, natural, array_at, at_most, each}
 use Rattle.eevdf_workload.specs.Versions.{checked_version, cpu_within, limits_of}

@@ -1,8 +1,7 @@
 -- Steps of reading, of which the first that finds a fault decides, and what a reader gives for them.
 use Rattle.std.specs.Prelude.{◌≡◌, ◌⊎◌, ℕ, ◌+◌, nat_lt, ℤ, pos, negsuc, Bool, if◌then◌else◌, List, [], ◌∷◌, Option, Some, None, Result, Ok, Err}
 use Rattle.toml.specs.Data.{Data, array, Items, no_items, item, as_integer, as_bool}
-use Rattle.eevdf_workload.specs.declared.load_fault.Key.{Key}
-use Rattle.eevdf_workload.specs.declared.load_fault.LoadFault.{LoadFault}
+use Rattle.eevdf_workload.specs.{declared.load_fault.Key.Key, declared.load_fault.LoadFault.LoadFault}
 use Rattle.eevdf_workload.specs.declared.load_fault.LoadFault.TheVariants as fault
 
 -- one step after another

@@ -1,18 +1,12 @@
 -- The words of a string, and the operation or the deed that they name.
 use Rattle.std.specs.Prelude.{codes, ℕ, zero, suc, ◌==◌, ◌^◌, nat_lt, ℤ, pos, negsuc, Bool, false, if◌then◌else◌, List, [], ◌∷◌, length, Option, Some, None, option_map, option_and_then}
-use Rattle.std.specs.List.{slice_split, list_all}
-use Rattle.std.specs.Str.{bytes_eq}
-use Rattle.std.specs.Char.{is_ascii_digit}
-use Rattle.std.specs.Str.Parse.{digits_value}
+use Rattle.std.specs.{List.slice_split, List.list_all, Str.bytes_eq, Char.is_ascii_digit, Str.Parse.digits_value}
 use Rattle.eevdf_weight.specs.Limits.{checked_level, checked_tick}
 use Rattle.eevdf_queue.specs.Numbers.{checked_number}
-use Rattle.eevdf_ops.specs.declared.deeds.Op.{Op}
-use Rattle.eevdf_ops.specs.Programs.{deed_of}
+use Rattle.eevdf_ops.specs.{declared.deeds.Op.Op, Programs.deed_of, declared.deeds.Deed.Deed}
 use Rattle.eevdf_ops.specs.declared.deeds.Op.TheVariants as op
-use Rattle.eevdf_ops.specs.declared.deeds.Deed.{Deed}
 use Rattle.eevdf_ops.specs.declared.deeds.Deed.TheVariants as deed
-use Rattle.eevdf_workload.specs.declared.workload_version.Limits.{Limits}
-use Rattle.eevdf_workload.specs.Versions.{cpu_within}
+use Rattle.eevdf_workload.specs.{declared.workload_version.Limits.Limits, Versions.cpu_within}
 
 -- what stands between the single spaces of a text
 abbrev pub words : List ℕ → List (List ℕ)

@@ -17,8 +17,7 @@ pub struct QueueState {
 }
 
 impl Model for QueueState {
-    ghost use Rattle.eevdf_queue.specs.State.{State};
-    ghost use Rattle.eevdf_queue.specs.Codes.{state_code};
+    ghost use Rattle.eevdf_queue.specs.{State.State, Codes.state_code};
 
     ghost Value = { State };
 

@@ -2,8 +2,7 @@
 
 ghost use Rattle.std.specs.Prelude.{◌≡◌, length, IfOk};
 ghost use Rattle.eevdf_fleet.specs.Rings as rings;
-ghost use Rattle.eevdf_fleet.specs.OpenedRings.{AreNewRows, AreNewColumns};
-ghost use Rattle.eevdf_fleet.specs.RingEnds.{lists_of};
+ghost use Rattle.eevdf_fleet.specs.{OpenedRings.AreNewRows, OpenedRings.AreNewColumns, RingEnds.lists_of};
 
 use crate::names::Names;
 use crate::rings::consumer_ends::Consumers;

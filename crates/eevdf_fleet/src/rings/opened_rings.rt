@@ -1,7 +1,6 @@
 ghost use Rattle.std.specs.Prelude.{◌≡◌, [], length, replicate, IfOk};
 ghost use Rattle.eevdf_fleet.specs.Rings as rings;
-ghost use Rattle.eevdf_fleet.specs.OpenedRings.{AreRow};
-ghost use Rattle.eevdf_fleet.specs.RingEnds.{lists_of};
+ghost use Rattle.eevdf_fleet.specs.{OpenedRings.AreRow, RingEnds.lists_of};
 
 use crate::names::Names;
 use crate::rings::consumer_ends::Consumers;
@@ -25,8 +24,7 @@ pub(crate) struct Rings {
 impl Model for Rings {
     ghost use Rattle.std.specs.Prelude.{length};
     ghost use Rattle.eevdf_fleet.specs.Rings as rings;
-    ghost use Rattle.eevdf_fleet.specs.OpenedRings.{AreOpened};
-    ghost use Rattle.eevdf_fleet.specs.RingEnds.{lists_of};
+    ghost use Rattle.eevdf_fleet.specs.{OpenedRings.AreOpened, RingEnds.lists_of};
 
     ghost Value = { rings.Rings };
 

@@ -2,8 +2,7 @@
 //! apart, while what is kept isn't right yet.
 
 ghost use Rattle.std.specs.Prelude.{◌≡◌, suc, ◌+◌, ◌≤◌, ◌^◌, max, [], ◌∷◌, ◌++◌, length, true, false, None};
-ghost use Rattle.eevdf_queue.specs.TreeChanges.{keeps_height, keeps_least};
-ghost use Rattle.eevdf_queue.specs.TreeLeast.{least_of, AreLow};
+ghost use Rattle.eevdf_queue.specs.{TreeChanges.keeps_height, TreeChanges.keeps_least, TreeLeast.least_of, TreeLeast.AreLow};
 ghost use Rattle.eevdf_queue.specs.TreeShape.{tasks_in, height_in, DifferByAtMost, IsFull, IsHeightOfBalanced};
 
 use super::{Sides, TreeNode, height, least_around};

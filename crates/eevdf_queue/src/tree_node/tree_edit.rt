@@ -4,8 +4,7 @@
 ghost use Rattle.std.specs.Prelude.{◌≡◌, suc, ◌+◌, ◌<◌, ◌≤◌, ◌^◌, [], ◌∷◌, ◌++◌, ◌≤ℤ◌, length, is_some, true, false, Some, IfSome};
 ghost use Rattle.eevdf_queue.specs.TaskLists.{first_task, find_task, set_entry};
 ghost use Rattle.eevdf_queue.specs.TreeTasks.{AreOrdered, IsAtDeadline, insert_task, without};
-ghost use Rattle.eevdf_queue.specs.TreeChanges.{keeps_height, keeps_least};
-ghost use Rattle.eevdf_queue.specs.TreeLeast.{least_of};
+ghost use Rattle.eevdf_queue.specs.{TreeChanges.keeps_height, TreeChanges.keeps_least, TreeLeast.least_of};
 ghost use Rattle.eevdf_queue.specs.TreeShape.{tasks_in, height_in, IsAlone};
 
 use super::TreeNode;

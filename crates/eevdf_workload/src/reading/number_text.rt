@@ -1,6 +1,4 @@
-ghost use Rattle.std.specs.Prelude.{◌≡◌, option_and_then};
-ghost use Rattle.std.specs.Char.{is_ascii_digit};
-ghost use Rattle.std.specs.List.{list_all};
+ghost use Rattle.std.specs.{Prelude.◌≡◌, Prelude.option_and_then, Char.is_ascii_digit, List.list_all};
 ghost use Rattle.eevdf_workload.specs.Words.{is_number, number, fitting};
 
 /// The number that a word writes: `0`, or a digit from 1 to 9 followed by digits. `None` also where it

@@ -1,9 +1,8 @@
 use Rattle.std.proofs.Common.{◌≡◌, ◌∙◌, Bool, false, ◌||◌, ap₂, codes, rules}
 use Rattle.std.proofs.lemmas.Result.{IfOk-weaker}
-use Rattle.clap.specs.Built.{AddsSubcommand}
-use Rattle.clap.specs.Words.{App, app_of, with_subcommand}
-use Rattle.clap.specs.declared.builder.command.Command.{Command}
+use Rattle.clap.specs.{Built.AddsSubcommand, declared.builder.command.Command.Command}
 use Rattle.clap.specs.declared.builder.command.Command.TheViews.{out-Command}
+use Rattle.clap.specs.Words.{App, app_of, with_subcommand}
 use Rattle.eevdf_bench.specs.Command.{bare_program, program, subcommand}
 use Rattle.eevdf_bench.proofs.command_words.program.Goals as goal
 use Rattle.eevdf_bench.proofs.command_words.program.Goals.{After-subcommand-6}

@@ -1,8 +1,7 @@
 use Rattle.std.proofs.Common.{◌≡◌, true, subst, sym}
 use Rattle.std.specs.List.{list_all}
 use Rattle.eevdf_ops.specs.Setup.{Setup, allows}
-use Rattle.eevdf_bench.proofs.EngineAnswers.{script_allowed}
-use Rattle.eevdf_bench.proofs.SoloAnswers.{script_report}
+use Rattle.eevdf_bench.proofs.{EngineAnswers.script_allowed, SoloAnswers.script_report}
 use Rattle.eevdf_bench.proofs.solo_run.solo_text.Goals as goal
 
 pub solo-requires : goal.solo-requires

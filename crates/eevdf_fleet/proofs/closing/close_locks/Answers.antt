@@ -1,10 +1,7 @@
 use Rattle.std.proofs.Common.{◌≡◌, ◌<◌, ◌++◌, ℕ, List, ◌∷◌, length, set, sym, ap, subst, ◌∙◌, arith}
 use Rattle.eevdf_ops.specs.declared.deeds.Line.{Line}
-use Rattle.eevdf_fleet.specs.declared.board.claims.Terms.{Terms}
-use Rattle.eevdf_fleet.specs.declared.board.claims.Claim.{Claim}
-use Rattle.eevdf_fleet.specs.declared.board.claims.Claim.TheVariants.{Queue}
-use Rattle.eevdf_fleet.specs.Board.{Known, claims_of}
-use Rattle.eevdf_fleet.specs.Claims.{IsKept}
+use Rattle.eevdf_fleet.specs.{declared.board.claims.Terms.Terms, declared.board.claims.Claim.Claim}
+use Rattle.eevdf_fleet.specs.{declared.board.claims.Claim.TheVariants.Queue, Board.Known, Board.claims_of, Claims.IsKept}
 use Rattle.eevdf_fleet.proofs.QueuesClosed.{AreClosed}
 use Rattle.eevdf_fleet.proofs.Closings.{closed-more, same-lines, whole-machine}
 use Rattle.eevdf_fleet.proofs.closing.close_locks.Goals as goal

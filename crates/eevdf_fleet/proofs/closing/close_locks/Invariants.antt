@@ -1,8 +1,7 @@
 use Rattle.std.proofs.Common.{◌≡◌, ◌+◌, length, vec_len}
 use Rattle.eevdf_ops.specs.Setup.{cpus_of}
-use Rattle.eevdf_fleet.specs.Board.{IsToken, claims_of}
+use Rattle.eevdf_fleet.specs.{Board.IsToken, Board.claims_of, Fleets.setup_of}
 use Rattle.eevdf_fleet.proofs.QueuesClosed.{AreClosed}
-use Rattle.eevdf_fleet.specs.Fleets.{setup_of}
 use Rattle.eevdf_fleet.proofs.closing.close_locks.Given as goal
 
 abbrev pub invariant-loop-lock : goal.invariant-loop-lock

@@ -1,7 +1,5 @@
-use Rattle.std.proofs.Common.{◌≡◌, length}
-use Rattle.std.proofs.lemmas.List.Elements.{All-push}
-use Rattle.eevdf_ops.specs.Programs.{lines_by}
-use Rattle.eevdf_ops.specs.Setup.{cpus_of}
+use Rattle.std.proofs.{Common.◌≡◌, Common.length, lemmas.List.Elements.All-push}
+use Rattle.eevdf_ops.specs.{Programs.lines_by, Setup.cpus_of}
 use Rattle.eevdf_fleet.specs.Fleets.{Seat, setup_of}
 use Rattle.eevdf_fleet.proofs.PostsTold.{returned-more}
 use Rattle.eevdf_fleet.proofs.closing.close_seats.Goals as goal

@@ -1,11 +1,9 @@
 use Rattle.std.proofs.Common.{◌≡◌, [], ◌∷◌, length}
 use Rattle.std.specs.Prelude.{All}
-use Rattle.eevdf_ops.specs.Programs.{lines_by}
-use Rattle.eevdf_ops.specs.Setup.{cpus_of}
-use Rattle.eevdf_fleet.specs.declared.board.claims.Claim.TheVariants.{Journal}
-use Rattle.eevdf_fleet.specs.Board.{IsToken, claims_of}
+use Rattle.eevdf_ops.specs.{Programs.lines_by, Setup.cpus_of}
+use Rattle.eevdf_fleet.specs.{declared.board.claims.Claim.TheVariants.Journal, Board.IsToken, Board.claims_of, Fleets.returned}
+use Rattle.eevdf_fleet.specs.Fleets.{setup_of}
 use Rattle.eevdf_fleet.specs.Fleets as fleets
-use Rattle.eevdf_fleet.specs.Fleets.{returned, setup_of}
 use Rattle.eevdf_fleet.proofs.closing.close_seats.Given as goal
 
 abbrev pub invariant-loop-seat : goal.invariant-loop-seat

@@ -1,8 +1,6 @@
 use Rattle.std.proofs.Common.{◌≡◌, ◌<◌, List, length, sym, ap, subst, ◌∙◌, arith}
-use Rattle.eevdf_fleet.specs.declared.board.claims.Claim.{Claim}
-use Rattle.eevdf_fleet.specs.declared.board.claims.Claim.TheVariants.{Seat, Journal}
-use Rattle.eevdf_fleet.specs.Claims.{Owes}
-use Rattle.eevdf_fleet.specs.Board.{Known, claims_of}
+use Rattle.eevdf_fleet.specs.{declared.board.claims.Claim.Claim, declared.board.claims.Claim.TheVariants.Seat}
+use Rattle.eevdf_fleet.specs.{declared.board.claims.Claim.TheVariants.Journal, Claims.Owes, Board.Known, Board.claims_of}
 use Rattle.eevdf_fleet.specs.Fleets.{setup_of}
 use Rattle.eevdf_fleet.specs.Fleets as fleets
 use Rattle.eevdf_fleet.proofs.Commits.{with_seat, owes-all, joined-claims}

@@ -1,11 +1,8 @@
 use Rattle.std.proofs.Common.{◌≡◌, ◌<◌, ◌+◌, ℕ, List, [], ◌∷◌, length, take, drop, get_or, sym, ap, ◌∙◌, arith, rules}
 use Rattle.eevdf_queue.specs.State.{View}
 use Rattle.eevdf_ops.specs.Outcome.{machine_of}
-use Rattle.eevdf_fleet.specs.declared.board.claims.Claim.{Claim}
-use Rattle.eevdf_fleet.specs.declared.board.claims.Claim.TheVariants.{Seat, Queue}
-use Rattle.eevdf_fleet.specs.Board.{claims_of}
-use Rattle.eevdf_fleet.specs.Claims.{claims_from}
-use Rattle.eevdf_fleet.specs.Fleets.{fresh_log}
+use Rattle.eevdf_fleet.specs.{declared.board.claims.Claim.Claim, declared.board.claims.Claim.TheVariants.Seat}
+use Rattle.eevdf_fleet.specs.{declared.board.claims.Claim.TheVariants.Queue, Board.claims_of, Claims.claims_from, Fleets.fresh_log}
 use Rattle.eevdf_fleet.proofs.Openings.{next-claims, other-claims, fresh-more}
 use Rattle.eevdf_fleet.proofs.opening.open_all.Goals as goal
 use Rattle.eevdf_fleet.proofs.opening.open_all.Goals.{After-cpu_number}

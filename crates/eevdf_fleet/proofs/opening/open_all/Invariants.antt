@@ -1,9 +1,6 @@
 use Rattle.std.proofs.Common.{◌≡◌, drop, vec_len}
-use Rattle.eevdf_ops.specs.Outcome.{machine_of}
-use Rattle.eevdf_ops.specs.Setup.{cpus_of}
-use Rattle.eevdf_fleet.specs.Board.{IsToken, claims_of}
-use Rattle.eevdf_fleet.specs.Claims.{claims_from}
-use Rattle.eevdf_fleet.specs.Fleets.{fresh_logs, setup_of}
+use Rattle.eevdf_ops.specs.{Outcome.machine_of, Setup.cpus_of}
+use Rattle.eevdf_fleet.specs.{Board.IsToken, Board.claims_of, Claims.claims_from, Fleets.fresh_logs, Fleets.setup_of}
 use Rattle.eevdf_fleet.proofs.opening.open_all.Given as goal
 
 abbrev pub invariant-loop-number : goal.invariant-loop-number

@@ -1,8 +1,6 @@
 use Rattle.std.proofs.Common.{◌≡◌, ◌<◌, ℕ, length, map, reverse, vec_len, sym, ap, ◌∙◌, arith}
 use Rattle.std.specs.List.{range_with_len}
-use Rattle.std.proofs.lemmas.List.{map-id}
-use Rattle.std.proofs.lemmas.List.FromFn.{length-map-range_with_len}
-use Rattle.std.proofs.lemmas.Option.{MatchOption-at_none}
+use Rattle.std.proofs.{lemmas.List.map-id, lemmas.List.FromFn.length-map-range_with_len, lemmas.Option.MatchOption-at_none}
 use Rattle.std.proofs.lemmas.Slice.Zip.{AllZip-map}
 use Rattle.eevdf_ops.specs.Setup.{cpus_of}
 use Rattle.eevdf_fleet.specs.Fleets.{fresh, fresh_log, setup_of}

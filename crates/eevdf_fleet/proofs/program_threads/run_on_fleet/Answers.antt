@@ -1,7 +1,5 @@
 use Rattle.std.proofs.Common.{◌≡◌, ap, subst, sym, ◌∙◌}
-use Rattle.eevdf_ops.specs.Followed.{FollowsPrograms}
-use Rattle.eevdf_ops.specs.OwnRequests.{TakesOwnRequests}
-use Rattle.eevdf_ops.specs.Setup.{Setup}
+use Rattle.eevdf_ops.specs.{Followed.FollowsPrograms, OwnRequests.TakesOwnRequests, Setup.Setup}
 use Rattle.eevdf_fleet.specs.Fleets.{setup_of}
 use Rattle.eevdf_fleet.proofs.ProgramSeats.{done-run, runs-follow, runs-take-own}
 use Rattle.eevdf_fleet.proofs.SeatLists.{done-seats}

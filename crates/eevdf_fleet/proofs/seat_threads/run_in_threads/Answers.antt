@@ -3,8 +3,7 @@ use Rattle.eevdf_fleet.proofs.seat_threads.run_in_threads.Lts as lts
 use Rattle.std.proofs.Common.{rules, ◌≡◌, ◌+◌, ℕ, length, map, get_or, vec_items, vec_len, ap, subst, sym, ◌∙◌, arith}
 use Rattle.std.proofs.lemmas.List.FromFn.{length-map-range_with_len}
 use Rattle.std.proofs.lemmas.Option.{get_or_from_slice_get, slice_get_within}
-use Rattle.std.specs.List.{range_with_len}
-use Rattle.std.specs.Vec.Iter.{into_iter_len}
+use Rattle.std.specs.{List.range_with_len, Vec.Iter.into_iter_len}
 use Rattle.eevdf_ops.specs.Setup.{cpus_of}
 use Rattle.eevdf_fleet.specs.Fleets.{Seat, fresh, setup_of}
 use Rattle.eevdf_fleet.proofs.seat.Seat.TheSendSync as seat

@@ -1,7 +1,6 @@
 use Rattle.std.proofs.Common.{◌≡◌, ◌+◌, ◌<◌, ◌≤◌, ℕ, map, get_or}
 use Rattle.std.specs.Prelude.{vec_items, vec_len, vec_capacity}
-use Rattle.std.specs.List.{range_with_len}
-use Rattle.std.specs.Vec.Iter.{into_iter_items, into_iter_len}
+use Rattle.std.specs.{List.range_with_len, Vec.Iter.into_iter_items, Vec.Iter.into_iter_len}
 use Rattle.eevdf_ops.specs.Setup.{cpus_of}
 use Rattle.eevdf_fleet.specs.Fleets.{Seat, fresh, setup_of}
 use Rattle.eevdf_fleet.proofs.seat_threads.run_in_threads.Given as goal

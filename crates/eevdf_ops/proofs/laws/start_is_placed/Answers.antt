@@ -1,8 +1,6 @@
 use Rattle.std.proofs.Common.{◌≡◌, List, subst}
 use Rattle.std.specs.Prelude.{None}
-use Rattle.eevdf_ops.specs.declared.task_spec.TaskSpec.{TaskSpec}
-use Rattle.eevdf_ops.specs.Faults.{tasks_fault}
-use Rattle.eevdf_ops.specs.Setup.{cpus_of}
+use Rattle.eevdf_ops.specs.{declared.task_spec.TaskSpec.TaskSpec, Faults.tasks_fault, Setup.cpus_of}
 use Rattle.eevdf_ops.proofs.StartingPlaces.{start-placed, homes-cpus}
 use Rattle.eevdf_ops.proofs.laws.start_is_placed.Goals as goal
 use Rattle.eevdf_ops.proofs.laws.start_is_placed.Goals.{After-task_specs-tasks}

@@ -1,9 +1,7 @@
 use Rattle.std.proofs.Common.{◌≡◌, ◌<◌, ◌-◌, ℕ, List, length, drop, replicate, true, sym, ap, subst, ◌∙◌, arith}
-use Rattle.std.proofs.Math.ListN.{length-replicate}
-use Rattle.std.proofs.lemmas.Bool.Decides.{nat_tests}
+use Rattle.std.proofs.{Math.ListN.length-replicate, lemmas.Bool.Decides.nat_tests}
 use Rattle.std.specs.Prelude.{nat_lt}
-use Rattle.eevdf_queue.specs.Leaving.{IsNowhere}
-use Rattle.eevdf_queue.specs.State.{View, empty_state}
+use Rattle.eevdf_queue.specs.{Leaving.IsNowhere, State.View, State.empty_state}
 use Rattle.eevdf_ops.specs.Machine.{Machine, queue_at, begin_at_homes}
 use Rattle.eevdf_ops.specs.Outcome.{machine_of}
 use Rattle.eevdf_ops.proofs.Machines.{length-machine_of, length-begin_at_homes}

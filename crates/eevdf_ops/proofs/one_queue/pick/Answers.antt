@@ -1,7 +1,6 @@
 use Rattle.std.proofs.Common.{◌≡◌, ◌<◌, length, sym, ap, ◌∙◌, arith}
 use Rattle.eevdf_queue.specs.Pick.{after_pick}
-use Rattle.eevdf_ops.proofs.Machines.{queue_read, machine_with}
-use Rattle.eevdf_ops.proofs.PickDescents.{turns_written}
+use Rattle.eevdf_ops.proofs.{Machines.queue_read, Machines.machine_with, PickDescents.turns_written}
 use Rattle.eevdf_ops.proofs.one_queue.pick.Goals as goal
 
 pub returns-clause-machine : goal.returns-clause-machine

@@ -1,6 +1,5 @@
 use Rattle.std.proofs.Common.{◌<◌, length, sym, ap, ◌∙◌, arith}
-use Rattle.eevdf_queue.specs.State.{State}
-use Rattle.eevdf_queue.specs.Tick.{tick}
+use Rattle.eevdf_queue.specs.{State.State, Tick.tick}
 use Rattle.eevdf_ops.proofs.Machines.{queue_read, machine_with}
 use Rattle.eevdf_ops.proofs.one_queue.tick.Goals as goal
 

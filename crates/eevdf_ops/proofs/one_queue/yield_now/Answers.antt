@@ -1,6 +1,5 @@
 use Rattle.std.proofs.Common.{◌<◌, length, sym, ap, ◌∙◌, arith}
-use Rattle.eevdf_queue.specs.State.{State}
-use Rattle.eevdf_queue.specs.Yield.{yield_now}
+use Rattle.eevdf_queue.specs.{State.State, Yield.yield_now}
 use Rattle.eevdf_ops.proofs.Machines.{queue_read, machine_with}
 use Rattle.eevdf_ops.proofs.one_queue.yield_now.Goals as goal
 

@@ -1,8 +1,7 @@
 use Rattle.std.proofs.Common.{◌+◌, ℕ, List, length, drop, ap, ◌∙◌}
 use Rattle.std.specs.List.{list_all}
 use Rattle.eevdf_ops.proofs.Machines.{lines_step, machine_step, allowed_step}
-use Rattle.eevdf_ops.specs.Setup.{is_allowed}
-use Rattle.eevdf_ops.specs.Outcome.{machine_of}
+use Rattle.eevdf_ops.specs.{Setup.is_allowed, Outcome.machine_of}
 use Rattle.eevdf_ops.proofs.one_thread.apply_all.Goals as goal
 
 pub loop-deed-preserved : goal.loop-deed-preserved

@@ -1,8 +1,6 @@
 use Rattle.std.proofs.Common.{◌≡◌, ◌++◌, true, length, drop}
 use Rattle.std.specs.List.{list_all}
-use Rattle.eevdf_ops.specs.Setup.{is_allowed}
-use Rattle.eevdf_ops.specs.Outcome.{machine_of}
-use Rattle.eevdf_ops.specs.Whole.{lines_of, machine_after}
+use Rattle.eevdf_ops.specs.{Setup.is_allowed, Outcome.machine_of, Whole.lines_of, Whole.machine_after}
 use Rattle.eevdf_ops.proofs.one_thread.apply_all.Given as goal
 
 abbrev pub invariant-loop-deed : goal.invariant-loop-deed

@@ -1,6 +1,4 @@
-use Rattle.std.proofs.Common.{arith}
-use Rattle.std.proofs.lemmas.Int.{ints}
-use Rattle.std.proofs.lemmas.Bool.Decides.{nat_tests}
+use Rattle.std.proofs.{Common.arith, lemmas.Int.ints, lemmas.Bool.Decides.nat_tests}
 use Rattle.eevdf_weight.specs.Weight.{weight_of}
 use Rattle.eevdf_ops.proofs.Charges.{charge_of-le}
 use Rattle.eevdf_ops.proofs.setup_test.first_deadline.Goals as goal

@@ -1,13 +1,8 @@
 use Rattle.std.proofs.Common.{◌≡◌, ◌<◌, length, ap, ◌∙◌, arith}
 use Rattle.std.specs.Prelude.{Some}
-use Rattle.eevdf_queue.specs.State.{State}
-use Rattle.eevdf_queue.specs.Moves.{sleeper_of}
-use Rattle.eevdf_queue.specs.Placing.{put}
-use Rattle.eevdf_ops.specs.Machine.{queue_at}
-use Rattle.eevdf_ops.specs.Outcome.{machine_of}
-use Rattle.eevdf_ops.specs.WholePull.{with_task}
-use Rattle.eevdf_ops.proofs.Machines.{queue_read, machine_with}
-use Rattle.eevdf_ops.proofs.Pulling.{with_task-put}
+use Rattle.eevdf_queue.specs.{State.State, Moves.sleeper_of, Placing.put}
+use Rattle.eevdf_ops.specs.{Machine.queue_at, Outcome.machine_of, WholePull.with_task}
+use Rattle.eevdf_ops.proofs.{Machines.queue_read, Machines.machine_with, Pulling.with_task-put}
 use Rattle.eevdf_ops.proofs.whole_pull.join.Goals as goal
 
 pub returns : goal.returns

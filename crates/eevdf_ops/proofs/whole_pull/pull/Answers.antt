@@ -1,9 +1,5 @@
 use Rattle.std.proofs.Common.{◌≡◌, sym, ap, ◌∙◌, arith}
-use Rattle.eevdf_ops.specs.declared.deeds.Answer.{Answer}
-use Rattle.eevdf_ops.specs.Machine.{Machine}
-use Rattle.eevdf_ops.specs.Outcome.{machine_of}
-use Rattle.eevdf_ops.specs.PullOffer.{task_of}
-use Rattle.eevdf_ops.specs.WholePull.{pull}
+use Rattle.eevdf_ops.specs.{declared.deeds.Answer.Answer, Machine.Machine, Outcome.machine_of, PullOffer.task_of, WholePull.pull}
 use Rattle.eevdf_ops.proofs.Machines.{queue_state, length-machine_of}
 use Rattle.eevdf_ops.proofs.Pulling.{decided_at, decided_of, refused, Takes, takes, takes-waiting, taken-nowhere, pulled-machine}
 use Rattle.eevdf_ops.proofs.whole_pull.pull.Goals as goal

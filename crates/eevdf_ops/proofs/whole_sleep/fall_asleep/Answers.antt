@@ -1,6 +1,5 @@
 use Rattle.std.proofs.Common.{◌<◌, length, sym, ap, ◌∙◌, arith}
-use Rattle.eevdf_queue.specs.State.{State}
-use Rattle.eevdf_queue.specs.Moves.{put_asleep}
+use Rattle.eevdf_queue.specs.{State.State, Moves.put_asleep}
 use Rattle.eevdf_ops.proofs.Machines.{queue_read, machine_with}
 use Rattle.eevdf_ops.proofs.whole_sleep.fall_asleep.Goals as goal
 

@@ -1,7 +1,6 @@
 use Rattle.std.proofs.Common.{sym, ◌∙◌, arith}
 use Rattle.eevdf_ops.specs.Outcome.{machine_of}
-use Rattle.eevdf_ops.proofs.Machines.{length-machine_of}
-use Rattle.eevdf_ops.proofs.Carried.{slept-nowhere}
+use Rattle.eevdf_ops.proofs.{Machines.length-machine_of, Carried.slept-nowhere}
 use Rattle.eevdf_ops.proofs.whole_sleep.sleep.Goals as goal
 
 pub fall_asleep-requires-clause-nowhere : goal.fall_asleep-requires-clause-nowhere

@@ -3,10 +3,8 @@ use Rattle.std.specs.Prelude.{ℤ}
 use Rattle.std.proofs.lemmas.Int.{to_z-of_z}
 use mir.Syntax.{w64}
 use mir.Val.{SFits}
-use Rattle.eevdf_weight.specs.Limits.{is_in_range}
-use Rattle.eevdf_weight.specs.Placement.{within_range}
-use Rattle.eevdf_queue.specs.Moves.{entry_in_range, fresh_entry}
-use Rattle.eevdf_queue.specs.Placing.{runtime_of}
+use Rattle.eevdf_weight.specs.{Limits.is_in_range, Placement.within_range}
+use Rattle.eevdf_queue.specs.{Moves.entry_in_range, Moves.fresh_entry, Placing.runtime_of}
 use Rattle.eevdf_queue.proofs.placing.placed_entry.Goals as goal
 
 within_by : (b : Bool) (z v : ℤ) → cond b (Some z) None ≡ Some v → z ≡ v

@@ -1,8 +1,5 @@
 use Rattle.std.proofs.Common.{◌≡◌, ◌∙◌, Option, ℕ, sym, ap, arith, List, length, length-append}
-use Rattle.eevdf_queue.specs.declared.task.Task.{Task}
-use Rattle.eevdf_queue.specs.TreeShape.{tasks_in}
-use Rattle.eevdf_queue.specs.TreeNodes.{tasks_of}
-use Rattle.eevdf_queue.specs.TreeTasks.{last_number}
+use Rattle.eevdf_queue.specs.{declared.task.Task.Task, TreeShape.tasks_in, TreeNodes.tasks_of, TreeTasks.last_number}
 use Rattle.eevdf_queue.proofs.TreeLast.{past_running, past_waiting}
 use Rattle.eevdf_queue.proofs.tree_node.+last_waiting.Goals as goal
 use Rattle.eevdf_queue.proofs.tree_node.+last_waiting.Goals.{then-is_running, else-is_running}

@@ -1,6 +1,5 @@
 use Rattle.std.proofs.Common.{◌≡◌, ◌≤◌, length}
-use Rattle.eevdf_queue.specs.TreeShape.{tasks_in}
-use Rattle.eevdf_queue.specs.TreeTasks.{last_number}
+use Rattle.eevdf_queue.specs.{TreeShape.tasks_in, TreeTasks.last_number}
 use Rattle.eevdf_queue.proofs.tree_node.+last_waiting.Given as goal
 
 abbrev pub decreases-last_waiting : goal.decreases-last_waiting

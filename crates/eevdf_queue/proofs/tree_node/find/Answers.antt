@@ -1,6 +1,5 @@
 use Rattle.std.proofs.Common.{◌≡◌, ◌∙◌, sym}
-use Rattle.eevdf_queue.specs.TreeShape.{tasks_in}
-use Rattle.eevdf_queue.specs.TreeNodes.{tasks_of}
+use Rattle.eevdf_queue.specs.{TreeShape.tasks_in, TreeNodes.tasks_of}
 use Rattle.eevdf_queue.proofs.TreeOrder.{ordered_left, ordered_right}
 use Rattle.eevdf_queue.proofs.TreeSearch.{own_not_under, own_not_over, over_else, find_left, find_right, find_own, placed_on}
 use Rattle.eevdf_queue.proofs.tree_node.find.Goals as goal

@@ -1,7 +1,5 @@
 use Rattle.std.proofs.Common.{◌≡◌, length}
-use Rattle.eevdf_queue.specs.TaskLists.{find_task}
-use Rattle.eevdf_queue.specs.TreeShape.{tasks_in}
-use Rattle.eevdf_queue.specs.TreeTasks.{AreOrdered, IsAtDeadline}
+use Rattle.eevdf_queue.specs.{TaskLists.find_task, TreeShape.tasks_in, TreeTasks.AreOrdered, TreeTasks.IsAtDeadline}
 use Rattle.eevdf_queue.proofs.tree_node.find.Given as goal
 
 abbrev pub invariant-down : goal.invariant-down

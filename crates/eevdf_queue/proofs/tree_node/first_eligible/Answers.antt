@@ -1,12 +1,8 @@
 use Rattle.std.proofs.Common.{◌≡◌, ◌∙◌, ap, sym, List}
 use Rattle.std.specs.Prelude.{is_some}
-use Rattle.eevdf_queue.specs.declared.task.Task.{Task}
-use Rattle.eevdf_queue.specs.Pick.{is_eligible_at}
-use Rattle.eevdf_queue.specs.TreeShape.{tasks_in}
-use Rattle.eevdf_queue.specs.TreeNodes.{tasks_of}
+use Rattle.eevdf_queue.specs.{declared.task.Task.Task, Pick.is_eligible_at, TreeShape.tasks_in, TreeNodes.tasks_of}
 use Rattle.eevdf_queue.specs.TreeTasks.{first_that}
-use Rattle.eevdf_queue.proofs.TreeEligible.{some-node}
-use Rattle.eevdf_queue.proofs.TreeSearch.{none_from}
+use Rattle.eevdf_queue.proofs.{TreeEligible.some-node, TreeSearch.none_from}
 use Rattle.eevdf_queue.proofs.tree_node.first_eligible.Goals as goal
 
 pub first_under-requires-clause-some : goal.first_under-requires-clause-some

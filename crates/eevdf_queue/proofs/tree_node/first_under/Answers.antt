@@ -1,13 +1,9 @@
 use Rattle.std.proofs.Common.{◌≡◌, ◌∙◌, ◌+◌, true, false, [], ap, sym, arith, List, length}
 use Rattle.std.specs.Prelude.{is_some}
-use Rattle.eevdf_queue.specs.declared.task.Task.{Task}
-use Rattle.eevdf_queue.specs.Pick.{is_eligible_at}
-use Rattle.eevdf_queue.specs.TreeShape.{tasks_in, height_in}
-use Rattle.eevdf_queue.specs.TreeNodes.{tasks_of}
-use Rattle.eevdf_queue.specs.TreeTasks.{first_that}
+use Rattle.eevdf_queue.specs.{declared.task.Task.Task, Pick.is_eligible_at, TreeShape.tasks_in, TreeShape.height_in}
+use Rattle.eevdf_queue.specs.{TreeNodes.tasks_of, TreeTasks.first_that}
 use Rattle.eevdf_queue.proofs.Descending.{lead_left, lead_right, lead_here}
-use Rattle.eevdf_queue.proofs.TreeEligible.{some-node}
-use Rattle.eevdf_queue.proofs.TreeSorted.{full-lower}
+use Rattle.eevdf_queue.proofs.{TreeEligible.some-node, TreeSorted.full-lower}
 use Rattle.eevdf_queue.proofs.TreeSearch.{first_left_same, first_here, first_right}
 use Rattle.eevdf_queue.proofs.tree_node.first_under.Goals as goal
 use Rattle.eevdf_queue.proofs.tree_node.first_under.Goals.{After-is_task_eligible, in-Some+else-is_least_eligible, in_default}

@@ -1,7 +1,6 @@
 use Rattle.std.proofs.Common.{◌≡◌, ◌+◌, ◌≤◌, true, length}
 use Rattle.std.specs.Prelude.{is_some}
-use Rattle.eevdf_queue.specs.Pick.{is_eligible_at}
-use Rattle.eevdf_queue.specs.TreeTasks.{first_that}
+use Rattle.eevdf_queue.specs.{Pick.is_eligible_at, TreeTasks.first_that}
 use Rattle.eevdf_queue.proofs.Descending.{LeadTo}
 use Rattle.eevdf_queue.proofs.tree_node.first_under.Given as goal
 

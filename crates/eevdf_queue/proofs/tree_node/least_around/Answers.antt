@@ -1,6 +1,5 @@
 use Rattle.eevdf_queue.specs.TreeShape.{tasks_in}
-use Rattle.eevdf_queue.proofs.TreeEligible.{low-around}
-use Rattle.eevdf_queue.proofs.TreeLeasts.{least-node}
+use Rattle.eevdf_queue.proofs.{TreeEligible.low-around, TreeLeasts.least-node}
 use Rattle.eevdf_queue.proofs.tree_node.least_around.Goals as goal
 
 pub returns-clause-value : goal.returns-clause-value

@@ -1,8 +1,7 @@
 use Rattle.std.proofs.Common.{List, ℕ, [], length, get_or, ap, ◌∙◌, arith}
 use Rattle.eevdf_ops.specs.Outcome.{machine_of}
 use Rattle.eevdf_report.specs.TextReport.{cpu_text, schedule_of}
-use Rattle.eevdf_report.proofs.ByNumber.{text_more}
-use Rattle.eevdf_report.proofs.ScheduleLines.{length-schedules_of, schedule-at}
+use Rattle.eevdf_report.proofs.{ByNumber.text_more, ScheduleLines.length-schedules_of, ScheduleLines.schedule-at}
 use Rattle.eevdf_report.proofs.text_report.push_cpus.Goals as goal
 
 pub schedule-requires : goal.schedule-requires

@@ -1,5 +1,4 @@
-use Rattle.std.proofs.Common.{append_assoc, rules}
-use Rattle.std.proofs.lemmas.Result.{IfOk-equal}
+use Rattle.std.proofs.{Common.append_assoc, Common.rules, lemmas.Result.IfOk-equal}
 use Rattle.eevdf_report.proofs.text_tasks.push_task_line.Goals as goal
 
 pub returns : goal.returns

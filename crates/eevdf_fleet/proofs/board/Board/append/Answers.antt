@@ -1,7 +1,5 @@
 use Rattle.std.proofs.Common.{◌≡◌, [], sym, subst, arith}
-use Rattle.eevdf_fleet.specs.declared.board.claims.Terms.{Terms}
-use Rattle.eevdf_fleet.specs.declared.board.claims.Said.{Said}
-use Rattle.eevdf_fleet.specs.Claims.{knowing, Owes}
+use Rattle.eevdf_fleet.specs.{declared.board.claims.Terms.Terms, declared.board.claims.Said.Said, Claims.knowing, Claims.Owes}
 use Rattle.eevdf_fleet.specs.Board.{claims_of}
 use Rattle.eevdf_fleet.proofs.Boards.{appends_as}
 use Rattle.eevdf_fleet.proofs.board.Board.append.Goals as goal

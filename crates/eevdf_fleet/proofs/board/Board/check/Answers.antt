@@ -1,7 +1,5 @@
 use Rattle.std.proofs.Common.{◌≡◌, [], arith}
-use Rattle.eevdf_fleet.specs.declared.board.claims.Terms.{Terms}
-use Rattle.eevdf_fleet.specs.Claims.{knowing}
-use Rattle.eevdf_fleet.specs.Board.{claims_of}
+use Rattle.eevdf_fleet.specs.{declared.board.claims.Terms.Terms, Claims.knowing, Board.claims_of}
 use Rattle.eevdf_fleet.proofs.Boards.{checks_as}
 use Rattle.eevdf_fleet.proofs.board.Board.check.Goals as goal
 

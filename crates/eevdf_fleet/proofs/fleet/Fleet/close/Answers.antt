@@ -1,8 +1,6 @@
 use Rattle.std.proofs.Common.{List, map, sym, subst}
-use Rattle.eevdf_ops.specs.declared.deeds.Line.{Line}
-use Rattle.eevdf_ops.specs.Setup.{cpus_of}
-use Rattle.eevdf_fleet.specs.Rings.{Returned, AreLeft}
-use Rattle.eevdf_fleet.specs.Fleets.{AllPostsTold, setup_of}
+use Rattle.eevdf_ops.specs.{declared.deeds.Line.Line, Setup.cpus_of}
+use Rattle.eevdf_fleet.specs.{Rings.Returned, Rings.AreLeft, Fleets.AllPostsTold, Fleets.setup_of}
 use Rattle.eevdf_fleet.proofs.PostsTold.{all-told, seats-returned}
 use Rattle.eevdf_fleet.proofs.fleet.Fleet.close.Goals as goal
 

@@ -1,7 +1,5 @@
 use Rattle.std.proofs.Common.{◌≡◌, ℕ, [], ◌∷◌, ap, ◌∙◌}
-use Rattle.eevdf_fleet.specs.declared.board.claims.Claim.TheVariants.{Queue}
-use Rattle.eevdf_fleet.specs.Board.{claims_of}
-use Rattle.eevdf_fleet.specs.Fleets.{Slot}
+use Rattle.eevdf_fleet.specs.{declared.board.claims.Claim.TheVariants.Queue, Board.claims_of, Fleets.Slot}
 use Rattle.eevdf_fleet.proofs.fleet.Fleet.done_on_one.Goals as goal
 
 pub commit_one-requires-clause-done : goal.commit_one-requires-clause-done

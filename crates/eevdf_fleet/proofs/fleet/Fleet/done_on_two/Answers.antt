@@ -1,9 +1,7 @@
 use Rattle.std.proofs.Common.{◌≡◌, ◌<◌, ◌++◌, ℕ, List, [], ◌∷◌, sym, ap, subst, ◌∙◌}
 use Rattle.eevdf_ops.specs.Setup.{cpus_of, homes_of}
-use Rattle.eevdf_fleet.specs.declared.board.claims.Claim.{Claim}
-use Rattle.eevdf_fleet.specs.declared.board.claims.Claim.TheVariants.{Queue}
-use Rattle.eevdf_fleet.specs.Board.{Known, claims_of}
-use Rattle.eevdf_fleet.specs.Fleets.{Slot, setup_of}
+use Rattle.eevdf_fleet.specs.{declared.board.claims.Claim.Claim, declared.board.claims.Claim.TheVariants.Queue, Board.Known}
+use Rattle.eevdf_fleet.specs.{Board.claims_of, Fleets.Slot, Fleets.setup_of}
 use Rattle.eevdf_fleet.proofs.Placed.{none-twice}
 use Rattle.eevdf_fleet.proofs.fleet.Fleet.done_on_two.Goals as goal
 use Rattle.eevdf_fleet.proofs.fleet.Fleet.done_on_two.Goals.{After-check-token}

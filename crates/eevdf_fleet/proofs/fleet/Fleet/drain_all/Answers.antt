@@ -1,8 +1,6 @@
 use Rattle.std.proofs.Common.{◌≡◌, ℕ, ◌+◌, sym, subst, ◌∙◌, arith}
 use Rattle.eevdf_ops.specs.Setup.{cpus_of}
-use Rattle.eevdf_fleet.specs.declared.drains.Drained.{Drained}
-use Rattle.eevdf_fleet.specs.Drains.{HasTaken}
-use Rattle.eevdf_fleet.specs.Fleets.{setup_of}
+use Rattle.eevdf_fleet.specs.{declared.drains.Drained.Drained, Drains.HasTaken, Fleets.setup_of}
 use Rattle.eevdf_fleet.proofs.SenderTurns.{DrainedBelow, drained-all, none-taken, one-taken, woken-few}
 use Rattle.eevdf_fleet.proofs.fleet.Fleet.drain_all.Goals as goal
 use Rattle.eevdf_fleet.proofs.fleet.Fleet.drain_all.Goals.{in-Some, in_default}

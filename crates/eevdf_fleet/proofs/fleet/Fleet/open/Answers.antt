@@ -1,8 +1,6 @@
 use Rattle.std.proofs.Common.{◌≡◌, ◌≤◌, ap, subst, ◌∙◌}
-use Rattle.eevdf_ops.specs.Places.{AreCpus}
-use Rattle.eevdf_ops.specs.Setup.{cpus_of, homes_of}
-use Rattle.eevdf_fleet.specs.declared.board.claims.Terms.{Terms}
-use Rattle.eevdf_fleet.specs.Fleets.{Kit}
+use Rattle.eevdf_ops.specs.{Places.AreCpus, Setup.cpus_of, Setup.homes_of}
+use Rattle.eevdf_fleet.specs.{declared.board.claims.Terms.Terms, Fleets.Kit}
 use Rattle.eevdf_fleet.proofs.fleet.Fleet.open.Goals as goal
 
 pub invariant_of-fleet : goal.invariant_of-fleet

@@ -1,11 +1,8 @@
 use Rattle.std.proofs.Common.{◌≡◌, ◌≢◌, ◌<◌, ℕ, List, [], length, sym, ap, subst, ◌∙◌, arith, refl}
 use Rattle.std.proofs.lemmas.List.{take_all}
 use Rattle.std.specs.Prelude.{None}
-use Rattle.eevdf_ops.specs.declared.deeds.Op.{Op}
-use Rattle.eevdf_ops.specs.Faults.{operation_fault}
-use Rattle.eevdf_ops.specs.Followed.{program_of}
+use Rattle.eevdf_ops.specs.{declared.deeds.Op.Op, Faults.operation_fault, Followed.program_of, Programs.post_of}
 use Rattle.eevdf_ops.specs.Setup.{Setup, cpus_of, homes_of}
-use Rattle.eevdf_ops.specs.Programs.{post_of}
 use Rattle.eevdf_fleet.specs.Fleets.{Seat, posted_to}
 use Rattle.eevdf_fleet.specs.ProgramRuns.{HasOperated, HasRun, room_for}
 use Rattle.eevdf_fleet.proofs.ProgramPlaces.{StandsAt, placed-ring, placed-room, placed-sound, room-next, run-first, run-next}

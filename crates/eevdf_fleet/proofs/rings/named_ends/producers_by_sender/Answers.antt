@@ -1,6 +1,5 @@
 use Rattle.std.proofs.Common.{◌≡◌, length, ◌∙◌}
-use Rattle.std.proofs.lemmas.Iterator.Adapters.{YieldsList-from_vec}
-use Rattle.std.proofs.lemmas.Iterator.Consumers.{YieldsList-turn}
+use Rattle.std.proofs.{lemmas.Iterator.Adapters.YieldsList-from_vec, lemmas.Iterator.Consumers.YieldsList-turn}
 use Rattle.eevdf_fleet.specs.Rings.{no_posts}
 use Rattle.eevdf_fleet.proofs.RingNaming.{row-read, next-place, by-place-more}
 use Rattle.eevdf_fleet.proofs.rings.named_ends.producers_by_sender.Goals as goal

@@ -1,5 +1,4 @@
-use Rattle.eevdf_fleet.specs.OpenedRings.{AreRow}
-use Rattle.eevdf_fleet.specs.RingEnds.{lists_of}
+use Rattle.eevdf_fleet.specs.{OpenedRings.AreRow, RingEnds.lists_of}
 use Rattle.eevdf_fleet.proofs.rings.opened_rings.open_row.Given as goal
 
 abbrev pub invariant-loop-home : goal.invariant-loop-home

@@ -1,9 +1,8 @@
 use Rattle.std.proofs.Common.{◌≡◌, ℕ, ◌+◌, ◌<◌, ◌∷◌, refl, sym, ap, ◌∙◌, arith, rules}
-use Rattle.std.specs.Prelude.{ℤ, map}
+use Rattle.std.specs.{Prelude.ℤ, Prelude.map, FinMap.get, FinMap.entries}
 use Rattle.std.proofs.lemmas.Int.{to_z-of_z}
 use mir.Syntax.{w64}
 use mir.Val.{SFits}
-use Rattle.std.specs.FinMap.{get, entries}
 use Rattle.eevdf_queue.specs.Ascending.{from_number, with_lag}
 use Rattle.eevdf_queue.proofs.Ascending.{numbered, none_asleep, one_asleep, none_here, at_end}
 use Rattle.eevdf_queue.proofs.run_queue.Queue.asleep_from.Goals as goal

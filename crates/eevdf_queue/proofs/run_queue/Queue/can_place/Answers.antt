@@ -1,7 +1,6 @@
 use Rattle.std.proofs.Common.{◌≤◌, ◌∙◌, ap, sym, arith}
 use Rattle.std.proofs.lemmas.Bool.Decides.{nat_tests}
-use Rattle.eevdf_queue.specs.State.{View}
-use Rattle.eevdf_queue.specs.Sums.{total_weight, total_moment}
+use Rattle.eevdf_queue.specs.{State.View, Sums.total_weight, Sums.total_moment}
 use Rattle.eevdf_queue.proofs.Roomy.{roomy}
 use Rattle.eevdf_queue.proofs.run_queue.Queue.can_place.Goals as goal
 

@@ -1,7 +1,6 @@
 use Rattle.eevdf_queue.proofs.run_queue.Queue.candidate.Goals as goal
 use Rattle.std.proofs.Common.{◌∙◌, ap}
-use Rattle.eevdf_queue.specs.State.{View}
-use Rattle.eevdf_queue.specs.Candidate.{candidate_of}
+use Rattle.eevdf_queue.specs.{State.View, Candidate.candidate_of}
 use Rattle.eevdf_queue.proofs.Waiting.{candidate_last, candidate_waits, candidate_none}
 
 pub returns-clause-last : goal.returns-clause-last

@@ -1,6 +1,5 @@
 use Rattle.std.proofs.Common.{◌≡◌, true, ap}
-use Rattle.std.specs.Prelude.{is_some}
-use Rattle.std.specs.FinMap.{contains_key}
+use Rattle.std.specs.{Prelude.is_some, FinMap.contains_key}
 use Rattle.eevdf_queue.proofs.Sound.{sound_sleeper_leaves, nowhere_woken}
 use Rattle.eevdf_queue.proofs.run_queue.Queue.detach_asleep.Goals as goal
 

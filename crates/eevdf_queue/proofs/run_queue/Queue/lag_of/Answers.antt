@@ -1,9 +1,7 @@
 use Rattle.std.proofs.Common.{◌≤◌, sym, subst}
 use Rattle.std.specs.Prelude.{IfSome, unsigned_abs}
-use Rattle.eevdf_queue.specs.State.{State, View}
-use Rattle.eevdf_queue.specs.Lag.{limit_at}
-use Rattle.eevdf_queue.proofs.Bounds.{range_v}
-use Rattle.eevdf_queue.proofs.SleepingLag.{sleeping_limited}
+use Rattle.eevdf_queue.specs.{State.State, State.View, Lag.limit_at}
+use Rattle.eevdf_queue.proofs.{Bounds.range_v, SleepingLag.sleeping_limited}
 use Rattle.eevdf_queue.proofs.run_queue.Queue.lag_of.Goals as goal
 
 pub kept_lag-requires-clause-placed : goal.kept_lag-requires-clause-placed

@@ -4,9 +4,7 @@ use Rattle.std.proofs.lemmas.Int.{to_z-of_z}
 use mir.Syntax.{w64}
 use mir.Val.{SFits}
 use Rattle.eevdf_weight.specs.Limits.{is_in_range}
-use Rattle.eevdf_queue.specs.State.{State, View}
-use Rattle.eevdf_queue.specs.Leaving.{leave}
-use Rattle.eevdf_queue.specs.Placing.{placed_entry}
+use Rattle.eevdf_queue.specs.{State.State, State.View, Leaving.leave, Placing.placed_entry}
 use Rattle.eevdf_queue.specs.Renice as renices
 use Rattle.eevdf_queue.proofs.Renicing.{after_renice, sound_renice}
 use Rattle.eevdf_queue.proofs.run_queue.Queue.renice.Goals as goal

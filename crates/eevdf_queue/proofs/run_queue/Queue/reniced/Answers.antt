@@ -1,12 +1,10 @@
 use Rattle.std.proofs.Common.{◌∙◌, ap, rules}
-use Rattle.std.specs.Prelude.{ℤ}
+use Rattle.std.specs.{Prelude.ℤ, FinMap.get}
 use Rattle.std.proofs.lemmas.Int.{to_z-of_z}
 use mir.Syntax.{w64}
 use mir.Val.{SFits}
-use Rattle.std.specs.FinMap.{get}
 use Rattle.eevdf_queue.specs.State.{State, Sleeper, View}
-use Rattle.eevdf_queue.specs.Moves.{entry_in_range, fresh_entry}
-use Rattle.eevdf_queue.specs.Leaving.{leave}
+use Rattle.eevdf_queue.specs.{Moves.entry_in_range, Moves.fresh_entry, Leaving.leave}
 use Rattle.eevdf_queue.specs.Placing.{placed_entry, runtime_of, sleeper_from}
 use Rattle.eevdf_queue.proofs.Renicing.{placed_again}
 use Rattle.eevdf_queue.proofs.run_queue.Queue.reniced.Goals as goal

@@ -1,6 +1,5 @@
 use Rattle.std.proofs.Common.{◌≡◌, true, ◌∙◌, ap, rules}
-use Rattle.std.specs.Prelude.{ℤ}
-use Rattle.std.specs.FinMap.{get, contains_key}
+use Rattle.std.specs.{Prelude.ℤ, FinMap.get, FinMap.contains_key}
 use Rattle.std.proofs.lemmas.Int.{to_z-of_z}
 use mir.Syntax.{w64}
 use mir.Val.{SFits}

@@ -1,9 +1,7 @@
 use Rattle.std.proofs.Common.{◌∙◌, ap}
-use Rattle.std.specs.Prelude.{is_some}
-use Rattle.std.specs.FinMap.{contains_key}
+use Rattle.std.specs.{Prelude.is_some, FinMap.contains_key}
 use Rattle.eevdf_queue.specs.State.{View}
-use Rattle.eevdf_queue.proofs.Bounds.{range_v}
-use Rattle.eevdf_queue.proofs.Sound.{sound_change}
+use Rattle.eevdf_queue.proofs.{Bounds.range_v, Sound.sound_change}
 use Rattle.eevdf_queue.proofs.run_queue.Queue.tick.Goals as goal
 
 pub charged-charged-requires : goal.charged-charged-requires

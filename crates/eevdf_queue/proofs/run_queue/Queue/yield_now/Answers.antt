@@ -1,12 +1,8 @@
 use Rattle.std.proofs.Common.{◌≡◌, true, ap, ◌∙◌}
-use Rattle.std.specs.Prelude.{is_some}
-use Rattle.std.specs.FinMap.{contains_key}
-use Rattle.eevdf_queue.specs.State.{View}
+use Rattle.std.specs.{Prelude.is_some, FinMap.contains_key}
+use Rattle.eevdf_queue.specs.{State.View, Moves.is_entry_in_range, Yield.yielded}
 use Rattle.eevdf_weight.specs.Limits.{is_in_range}
-use Rattle.eevdf_queue.specs.Moves.{is_entry_in_range}
-use Rattle.eevdf_queue.specs.Yield.{yielded}
-use Rattle.eevdf_queue.proofs.Bounds.{range_d, range_with}
-use Rattle.eevdf_queue.proofs.Sound.{sound_change}
+use Rattle.eevdf_queue.proofs.{Bounds.range_d, Bounds.range_with, Sound.sound_change}
 use Rattle.eevdf_queue.proofs.run_queue.Queue.yield_now.Goals as goal
 
 pub yielded-yielded-requires : goal.yielded-yielded-requires

@@ -1,8 +1,6 @@
 use Rattle.std.proofs.Common.{◌≡◌, ◌∙◌, ℕ, ◌<◌, ap, sym, subst, arith}
 use Rattle.std.specs.FinMap as map
-use Rattle.eevdf_queue.specs.declared.task.Task.{Task}
-use Rattle.eevdf_queue.specs.State.{Contents}
-use Rattle.eevdf_queue.specs.TaskLists.{first_task}
+use Rattle.eevdf_queue.specs.{declared.task.Task.Task, State.Contents, TaskLists.first_task}
 use Rattle.eevdf_queue.proofs.TreeMaps.{find_absent, added_stored, added_seen, added_room}
 use Rattle.eevdf_queue.proofs.PickedTasks.{sums_kept, still_known}
 use Rattle.eevdf_queue.proofs.TreeTotals.{totals-insert, totals_few, totals_near}

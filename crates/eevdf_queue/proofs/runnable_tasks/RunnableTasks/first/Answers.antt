@@ -1,10 +1,8 @@
 use Rattle.std.proofs.Common.{◌∙◌, ℕ, ap, sym, subst}
 use Rattle.std.specs.Prelude.{IfSome}
 use Rattle.std.specs.FinMap as map
-use Rattle.eevdf_queue.specs.TreeShape.{IsFull}
-use Rattle.eevdf_queue.specs.Pick.{is_eligible_at}
-use Rattle.eevdf_queue.proofs.PickedTasks.{first_entry}
-use Rattle.eevdf_queue.proofs.RunnableMaps.{len-runnable_in}
+use Rattle.eevdf_queue.specs.{TreeShape.IsFull, Pick.is_eligible_at}
+use Rattle.eevdf_queue.proofs.{PickedTasks.first_entry, RunnableMaps.len-runnable_in}
 use Rattle.eevdf_queue.proofs.runnable_tasks.RunnableTasks.first.Goals as goal
 
 pub returns-clause-turns : goal.returns-clause-turns

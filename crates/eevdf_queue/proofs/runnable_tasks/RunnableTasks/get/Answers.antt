@@ -1,9 +1,7 @@
 use Rattle.std.proofs.Common.{◌≡◌, ◌∙◌, Some, ap, sym}
 use Rattle.std.specs.Prelude.{ℤ}
-use Rattle.eevdf_queue.specs.declared.run_entry.Entry.{Entry}
-use Rattle.eevdf_queue.specs.TreeStores.{deadline_at}
-use Rattle.eevdf_queue.proofs.TreeMaps.{placed}
-use Rattle.eevdf_queue.proofs.PickedTasks.{known_entry}
+use Rattle.eevdf_queue.specs.{declared.run_entry.Entry.Entry, TreeStores.deadline_at}
+use Rattle.eevdf_queue.proofs.{TreeMaps.placed, PickedTasks.known_entry}
 use Rattle.eevdf_queue.proofs.runnable_tasks.RunnableTasks.get.Goals as goal
 
 pub find-requires : goal.find-requires

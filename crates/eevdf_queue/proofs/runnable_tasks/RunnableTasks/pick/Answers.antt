@@ -2,8 +2,7 @@ use Rattle.std.proofs.Common.{◌≡◌, ◌∙◌, ℕ, Option, subst}
 use Rattle.std.specs.Prelude.{IfSome, IsNone, ◌↔◌}
 use Rattle.std.specs.Option.{option_map}
 use Rattle.std.specs.FinMap as map
-use Rattle.eevdf_queue.specs.declared.tree_node.Found.{Found}
-use Rattle.eevdf_queue.specs.Pick.{IsPick, pick_of}
+use Rattle.eevdf_queue.specs.{declared.tree_node.Found.Found, Pick.IsPick, Pick.pick_of}
 use Rattle.eevdf_queue.proofs.Picked.{picked, none_picked, first_is_pick}
 use Rattle.eevdf_queue.proofs.PickedTasks.{known_of}
 use Rattle.eevdf_queue.proofs.runnable_tasks.RunnableTasks.pick.Goals as goal

@@ -4,18 +4,11 @@ use Rattle.std.specs.Option.{option_map}
 use Rattle.std.proofs.lemmas.Int.{to_z-of_z}
 use mir.Syntax.{w64}
 use mir.Val.{SFits}
-use Rattle.eevdf_queue.specs.declared.run_entry.Entry.{Entry}
-use Rattle.eevdf_queue.specs.State.{Contents}
-use Rattle.eevdf_queue.specs.Lag.{cut, limit_of}
-use Rattle.eevdf_queue.specs.TaskLists.{first_task, find_task}
-use Rattle.eevdf_queue.specs.TreeTasks.{without}
-use Rattle.eevdf_queue.specs.TreeStores.{deadline_at}
-use Rattle.eevdf_queue.specs.Leaving.{leaving, leaving_at}
+use Rattle.eevdf_queue.specs.{declared.run_entry.Entry.Entry, State.Contents, Lag.cut, Lag.limit_of, TaskLists.first_task}
+use Rattle.eevdf_queue.specs.{TaskLists.find_task, TreeTasks.without, TreeStores.deadline_at, Leaving.leaving, Leaving.leaving_at}
 use Rattle.eevdf_weight.specs.Limits.{is_in_range}
-use Rattle.eevdf_queue.proofs.Bounds.{range_v}
-use Rattle.eevdf_queue.proofs.TreeSearch.{found_number}
+use Rattle.eevdf_queue.proofs.{Bounds.range_v, TreeSearch.found_number, PickedTasks.sums_kept}
 use Rattle.eevdf_queue.proofs.TreeMaps.{find_present, placed, taken_stored, taken_seen, found_entry}
-use Rattle.eevdf_queue.proofs.PickedTasks.{sums_kept}
 use Rattle.eevdf_queue.proofs.TreeTotals.{totals-without, totals_part, totals_near}
 use Rattle.eevdf_queue.proofs.runnable_tasks.RunnableTasks.remove.Goals as goal
 use Rattle.eevdf_queue.proofs.runnable_tasks.RunnableTasks.remove.Goals.{After-remove-node}

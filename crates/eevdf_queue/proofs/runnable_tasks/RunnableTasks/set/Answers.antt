@@ -1,17 +1,10 @@
 use Rattle.std.proofs.Common.{◌≡◌, ◌∙◌, ℕ, false, true, List, Some, refl, ap, sym, subst, rules}
-use Rattle.std.specs.Prelude.{ℤ, is_some}
-use Rattle.std.specs.Option.{option_map}
-use Rattle.std.specs.Ordering.{nat_cmp}
-use Rattle.std.specs.FinMap.{FinMap, get}
-use Rattle.eevdf_queue.specs.declared.run_entry.Entry.{Entry}
-use Rattle.eevdf_queue.specs.declared.task.Task.{Task}
+use Rattle.std.specs.{Prelude.ℤ, Prelude.is_some, Option.option_map, Ordering.nat_cmp, FinMap.FinMap, FinMap.get}
+use Rattle.eevdf_queue.specs.{declared.run_entry.Entry.Entry, declared.task.Task.Task, TreeStores.deadline_at}
 use Rattle.eevdf_queue.specs.TaskLists.{first_task, find_task, set_entry, runnable_in}
 use Rattle.eevdf_queue.specs.TreeTasks.{insert_task, without, IsAtDeadline}
-use Rattle.eevdf_queue.specs.TreeStores.{deadline_at}
-use Rattle.eevdf_queue.proofs.RunnableMaps.{get-runnable_in}
+use Rattle.eevdf_queue.proofs.{RunnableMaps.get-runnable_in, TreeChange.stored-set, TreeChange.set_seen, PickedTasks.sums_kept}
 use Rattle.eevdf_queue.proofs.TreeMaps.{find_present, placed, taken_absent, taken_room, moved_stored, moved_seen, found_entry}
-use Rattle.eevdf_queue.proofs.TreeChange.{stored-set, set_seen}
-use Rattle.eevdf_queue.proofs.PickedTasks.{sums_kept}
 use Rattle.eevdf_queue.proofs.TreeTotals.{totals-set, totals-moved, totals_part, totals_few, totals_small, entry_found}
 use Rattle.eevdf_queue.proofs.runnable_tasks.RunnableTasks.set.Goals as goal
 use Rattle.eevdf_queue.proofs.runnable_tasks.RunnableTasks.set.Goals.{After-remove-node}

@@ -1,16 +1,11 @@
 use Rattle.std.proofs.Common.{◌≡◌, ◌∙◌, ℕ, ◌+◌, ◌≤◌, Some, refl, ap, sym, subst}
-use Rattle.std.specs.Prelude.{◌+ℤ◌}
+use Rattle.std.specs.{Prelude.◌+ℤ◌, FinMap.get}
 use Rattle.std.specs.FinMap as map
-use Rattle.std.specs.FinMap.{get}
-use Rattle.eevdf_queue.specs.declared.task.Task.{Task}
-use Rattle.eevdf_queue.specs.declared.totals.Totals.{Totals}
+use Rattle.eevdf_queue.specs.{declared.task.Task.Task, declared.totals.Totals.Totals, TaskLists.find_task, TaskLists.runnable_in}
+use Rattle.eevdf_queue.specs.{TreeTasks.without, TreeStores.IsSummedStore}
 use Rattle.eevdf_queue.specs.Sums.{Tasks, total_weight, total_moment}
-use Rattle.eevdf_queue.specs.TaskLists.{find_task, runnable_in}
-use Rattle.eevdf_queue.specs.TreeTasks.{without}
-use Rattle.eevdf_queue.specs.TreeStores.{IsSummedStore}
 use Rattle.eevdf_queue.proofs.RunnableMaps.{get-runnable_in, total_weight-runnable_in, total_moment-runnable_in}
-use Rattle.eevdf_queue.proofs.TreeMaps.{taken_stored, taken_seen}
-use Rattle.eevdf_queue.proofs.PickedTasks.{sums_kept}
+use Rattle.eevdf_queue.proofs.{TreeMaps.taken_stored, TreeMaps.taken_seen, PickedTasks.sums_kept}
 use Rattle.eevdf_queue.proofs.TreeTotals.{entry_found, totals-without, totals_part, totals_near, totals_few, totals_small}
 use Rattle.eevdf_queue.proofs.runnable_tasks.RunnableTasks.totals_without.Goals as goal
 use Rattle.eevdf_queue.proofs.runnable_tasks.RunnableTasks.totals_without.Goals.{After-share, After-without_share}

@@ -1,7 +1,6 @@
 use Rattle.std.proofs.Common.{◌∙◌, ℕ, ap}
 use Rattle.std.specs.FinMap as map
-use Rattle.eevdf_queue.specs.State.{Contents}
-use Rattle.eevdf_queue.specs.Moves.{sleeper_of}
+use Rattle.eevdf_queue.specs.{State.Contents, Moves.sleeper_of}
 use Rattle.eevdf_queue.proofs.AsleepMaps.{filled}
 use Rattle.eevdf_queue.proofs.sleepers.Sleepers.add.Goals as goal
 

@@ -1,7 +1,5 @@
 use Rattle.std.proofs.Common.{◌∙◌, Some, ap, sym}
-use Rattle.eevdf_queue.specs.State.{Contents}
-use Rattle.eevdf_queue.specs.Moves.{sleeper_of}
-use Rattle.eevdf_queue.specs.Slots.{sleeper_in_slot}
+use Rattle.eevdf_queue.specs.{State.Contents, Moves.sleeper_of, Slots.sleeper_in_slot}
 use Rattle.eevdf_queue.proofs.AsleepMaps.{contains_is, sleeper_is, emptied}
 use Rattle.eevdf_queue.proofs.sleepers.Sleepers.remove.Goals as goal
 

@@ -1,8 +1,6 @@
 use Rattle.std.proofs.Common.{◌≡◌, List, length, sym, subst, arith}
 use Rattle.std.specs.Prelude.{ℤ}
-use Rattle.eevdf_queue.specs.declared.task.Task.{Task}
-use Rattle.eevdf_queue.specs.TaskLists.{find_task, set_entry}
-use Rattle.eevdf_queue.specs.TreeShape.{tasks_in}
+use Rattle.eevdf_queue.specs.{declared.task.Task.Task, TaskLists.find_task, TaskLists.set_entry, TreeShape.tasks_in}
 use Rattle.eevdf_queue.specs.TreeTasks.{IsAtDeadline}
 use Rattle.eevdf_queue.proofs.TreeChange.{sorted-set}
 use Rattle.eevdf_queue.proofs.task_tree.TaskTree.change.Goals as goal

@@ -1,9 +1,6 @@
 use Rattle.std.proofs.Common.{◌≡◌, ◌∙◌, Option, Some, None, ap}
 use Rattle.std.specs.Option.{option_map}
-use Rattle.eevdf_queue.specs.declared.task.Task.{Task}
-use Rattle.eevdf_queue.specs.Pick.{is_eligible_at}
-use Rattle.eevdf_queue.specs.TreeShape.{tasks_in}
-use Rattle.eevdf_queue.specs.TreeTasks.{first_that}
+use Rattle.eevdf_queue.specs.{declared.task.Task.Task, Pick.is_eligible_at, TreeShape.tasks_in, TreeTasks.first_that}
 use Rattle.eevdf_queue.proofs.TreeSorted.{earliest_found}
 use Rattle.eevdf_queue.proofs.task_tree.TaskTree.earliest.Goals as goal
 

@@ -1,7 +1,5 @@
 use Rattle.std.proofs.Common.{◌≡◌, ◌∙◌, ap, suc, List, length, arith}
-use Rattle.eevdf_queue.specs.declared.task.Task.{Task}
-use Rattle.eevdf_queue.specs.TaskLists.{first_task, find_task}
-use Rattle.eevdf_queue.specs.TreeShape.{tasks_in}
+use Rattle.eevdf_queue.specs.{declared.task.Task.Task, TaskLists.first_task, TaskLists.find_task, TreeShape.tasks_in}
 use Rattle.eevdf_queue.specs.TreeTasks.{insert_task}
 use Rattle.eevdf_queue.proofs.TreeSorted.{sorted-insert}
 use Rattle.eevdf_queue.proofs.task_tree.TaskTree.insert.Goals as goal

@@ -1,6 +1,5 @@
 use Rattle.std.proofs.Common.{◌≡◌, suc, length, arith}
-use Rattle.eevdf_queue.specs.TreeShape.{tasks_in}
-use Rattle.eevdf_queue.specs.TreeTasks.{without}
+use Rattle.eevdf_queue.specs.{TreeShape.tasks_in, TreeTasks.without}
 use Rattle.eevdf_queue.proofs.TreeSorted.{sorted-without}
 use Rattle.eevdf_queue.proofs.task_tree.TaskTree.remove.Goals as goal
 

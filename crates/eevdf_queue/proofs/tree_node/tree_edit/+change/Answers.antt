@@ -1,15 +1,11 @@
 use Rattle.std.proofs.Common.{◌≡◌, ◌∙◌, ◌∷◌, ◌++◌, ℕ, Option, ap, sym, subst, refl, arith, List, length, length-append}
 use Rattle.std.specs.Prelude.{◌≤ℤ◌, is_some, IfSome}
-use Rattle.eevdf_queue.specs.declared.task.Task.{Task}
-use Rattle.eevdf_queue.specs.TaskLists.{set_entry}
-use Rattle.eevdf_queue.specs.TreeShape.{tasks_in}
-use Rattle.eevdf_queue.specs.TreeNodes.{tasks_of}
+use Rattle.eevdf_queue.specs.{declared.task.Task.Task, TaskLists.set_entry, TreeShape.tasks_in, TreeNodes.tasks_of}
 use Rattle.eevdf_queue.specs.TreeLeast.{least_of}
-use Rattle.eevdf_queue.proofs.TreeLeasts.{least-set}
-use Rattle.eevdf_queue.proofs.TreeOrder.{ordered_left, ordered_right}
+use Rattle.eevdf_queue.proofs.{TreeLeasts.least-set, TreeOrder.ordered_left, TreeOrder.ordered_right, TreeEdits.IsSameHigh}
+use Rattle.eevdf_queue.proofs.TreeEdits.{still_high}
 use Rattle.eevdf_queue.proofs.TreeSearch.{find_left, find_right, placed_on}
 use Rattle.eevdf_queue.proofs.TreeChange.{set_left, set_right, set_here}
-use Rattle.eevdf_queue.proofs.TreeEdits.{IsSameHigh, still_high}
 use Rattle.eevdf_queue.proofs.tree_node.tree_edit.+change.Goals as goal
 use Rattle.eevdf_queue.proofs.tree_node.tree_edit.+change.Goals.{After-look_around, then-is_under, else-is_under+then-is_over, else-is_under+else-is_over}
 

@@ -1,8 +1,6 @@
 use Rattle.std.proofs.Common.{◌≡◌, ◌∙◌, ◌∷◌, ◌++◌, ap, sym, arith, List, length, length-append}
 use Rattle.std.specs.Prelude.{is_some}
-use Rattle.eevdf_queue.specs.declared.task.Task.{Task}
-use Rattle.eevdf_queue.specs.TreeShape.{tasks_in}
-use Rattle.eevdf_queue.specs.TreeNodes.{tasks_of}
+use Rattle.eevdf_queue.specs.{declared.task.Task.Task, TreeShape.tasks_in, TreeNodes.tasks_of}
 use Rattle.eevdf_queue.proofs.TreeOrder.{ordered_left, ordered_right}
 use Rattle.eevdf_queue.proofs.TreeSearch.{find_left, find_right, placed_on}
 use Rattle.eevdf_queue.proofs.TreeChange.{set_left, set_right, set_here}

@@ -1,10 +1,6 @@
 use Rattle.std.proofs.Common.{◌≡◌, ◌∙◌, true, false, ℕ, ap, sym, subst, arith, List, length, length-append}
-use Rattle.eevdf_queue.specs.declared.task.Task.{Task}
-use Rattle.eevdf_queue.specs.TaskLists.{first_task}
-use Rattle.eevdf_queue.specs.TreeShape.{tasks_in}
-use Rattle.eevdf_queue.specs.TreeNodes.{tasks_of}
-use Rattle.eevdf_queue.specs.TreeLeast.{least_of, AreLow}
-use Rattle.eevdf_queue.specs.TreeTasks.{precedes, insert_task}
+use Rattle.eevdf_queue.specs.{declared.task.Task.Task, TaskLists.first_task, TreeShape.tasks_in, TreeNodes.tasks_of}
+use Rattle.eevdf_queue.specs.{TreeLeast.least_of, TreeLeast.AreLow, TreeTasks.precedes, TreeTasks.insert_task}
 use Rattle.eevdf_queue.proofs.TreeOrder.{ordered_left, ordered_right, inserted_left, inserted_right}
 use Rattle.eevdf_queue.proofs.TreeLeasts.{least-inserted}
 use Rattle.eevdf_queue.proofs.TreeEdits.{IsSameHigh, high_with_left, high_with_right, still_high}

@@ -1,6 +1,5 @@
 use Rattle.std.proofs.Common.{arith, [], sym}
-use Rattle.std.proofs.lemmas.List.{map-append}
-use Rattle.std.proofs.lemmas.List.FromFn.{map-range_with_len_more}
+use Rattle.std.proofs.{lemmas.List.map-append, lemmas.List.FromFn.map-range_with_len_more}
 use Rattle.eevdf_report.specs.TextReport.{schedule_of}
 use Rattle.eevdf_report.proofs.text_schedules.Schedules.empty.Goals as goal
 

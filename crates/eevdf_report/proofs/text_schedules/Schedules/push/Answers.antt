@@ -1,6 +1,5 @@
 use Rattle.std.proofs.Common.{◌≡◌, ◌<◌, ◌≤◌, ℕ, Vec, Global, length, ⊎_elim, ◌∙◌, arith, refl}
-use Rattle.std.proofs.lemmas.Bool.{cases_lt, false≢true}
-use Rattle.std.proofs.lemmas.List.{length-map}
+use Rattle.std.proofs.{lemmas.Bool.cases_lt, lemmas.Bool.false≢true, lemmas.List.length-map}
 use Rattle.eevdf_report.specs.TextDeed.{cpu_of}
 use Rattle.eevdf_report.proofs.ScheduleLines.{added, not_added}
 use Rattle.eevdf_report.proofs.text_schedules.Schedules.push.Goals as goal

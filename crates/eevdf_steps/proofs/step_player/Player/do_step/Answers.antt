@@ -1,12 +1,11 @@
 use Rattle.std.proofs.Common.{◌≡◌, ◌+◌, ◌<◌, ◌≤◌, length, ℕ, true, get_or, set, ap, subst, ◌∙◌, sym, arith}
 use Rattle.std.specs.Prelude.{Option, None}
 use Rattle.eevdf_ops.specs.declared.deeds.Answer.{Answer}
-use Rattle.eevdf_steps.specs.{Commits.committed, Journals.Journal, Journals.noted, Recorded.recorded, Work.Work}
+use Rattle.eevdf_steps.specs.{Commits.committed, Journals.Journal, Journals.noted, Recorded.recorded, Work.Work, Plan.Plan}
+use Rattle.eevdf_steps.specs.{Plan.callers, Plan.is_sound_op, Counters.counted, SoundSteps.is_sound_micro}
 use Rattle.eevdf_steps.specs.MicroState.{home_for, line_of, works}
-use Rattle.eevdf_steps.specs.{Plan.Plan, Plan.callers, Plan.is_sound_op, Counters.counted}
 use Rattle.eevdf_steps.specs.PostLists.{has_room, list_at, place_of, posts_after, request_after}
 use Rattle.std.proofs.lemmas.List.{get_or_default}
-use Rattle.eevdf_steps.specs.SoundSteps.{is_sound_micro}
 use Rattle.eevdf_steps.proofs.PlayerSteps.{After, Stepping, commits_then, done_then, is_working, playing_after, posts_have_room, pulls, room_for, state_after, step_of, stepping}
 use Rattle.eevdf_steps.proofs.step_player.Player.do_step.Goals as goal
 use Rattle.eevdf_steps.proofs.step_player.Player.do_step.Goals.{After-commit, After-keeps, After-home_for, After-place, After-index-2, After-advance}

@@ -3,9 +3,8 @@ use Rattle.std.proofs.lemmas.List.{length-map}
 use Rattle.eevdf_queue.specs.State.{View}
 use Rattle.eevdf_ops.specs.{Machine.Machine, Programs.deeds_of, Outcome.machine_of}
 use Rattle.eevdf_ops.proofs.Machines.{length-machine_of}
-use Rattle.eevdf_steps.specs.{Plan.callers, Plan.pair, Players.Player, Playing.player_of}
+use Rattle.eevdf_steps.specs.{Plan.callers, Plan.pair, Players.Player, Playing.player_of, Recorded.recorded}
 use Rattle.eevdf_steps.proofs.{Finished.finished_machine, Leaving.left_each, Leaving.left_over}
-use Rattle.eevdf_steps.specs.Recorded.{recorded}
 use Rattle.eevdf_steps.proofs.step_player.Player.into_outcome.Goals as goal
 
 pub of-requires : goal.of-requires

@@ -1,7 +1,6 @@
 use Rattle.std.proofs.Common.{◌≡◌, drop}
 use Rattle.toml.specs.View.{items_view}
-use Rattle.eevdf_workload.specs.MeaningSteps.{each}
-use Rattle.eevdf_workload.specs.Meaning.{caller_at}
+use Rattle.eevdf_workload.specs.{MeaningSteps.each, Meaning.caller_at}
 use Rattle.eevdf_workload.proofs.ReadingLists.{behind}
 use Rattle.eevdf_workload.proofs.reading.order_list.callers.Given as goal
 

@@ -1,7 +1,6 @@
 use Rattle.std.proofs.Common.{◌≡◌, drop, map}
 use Rattle.toml.specs.View.{items_view}
-use Rattle.eevdf_workload.specs.MeaningSteps.{each}
-use Rattle.eevdf_workload.specs.Meaning.{program_at}
+use Rattle.eevdf_workload.specs.{MeaningSteps.each, Meaning.program_at}
 use Rattle.eevdf_workload.proofs.ReadingLists.{behind}
 use Rattle.eevdf_workload.proofs.reading.program_lists.programs_of.Given as goal
 

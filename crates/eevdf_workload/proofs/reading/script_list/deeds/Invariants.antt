@@ -1,7 +1,6 @@
 use Rattle.std.proofs.Common.{◌≡◌, drop}
 use Rattle.toml.specs.View.{items_view}
-use Rattle.eevdf_workload.specs.MeaningSteps.{each}
-use Rattle.eevdf_workload.specs.Meaning.{deed_at}
+use Rattle.eevdf_workload.specs.{MeaningSteps.each, Meaning.deed_at}
 use Rattle.eevdf_workload.proofs.ReadingLists.{behind}
 use Rattle.eevdf_workload.proofs.reading.script_list.deeds.Given as goal
 

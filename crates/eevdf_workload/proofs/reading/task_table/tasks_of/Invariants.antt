@@ -1,7 +1,6 @@
 use Rattle.std.proofs.Common.{◌≡◌, drop}
 use Rattle.toml.specs.View.{items_view}
-use Rattle.eevdf_workload.specs.MeaningSteps.{each}
-use Rattle.eevdf_workload.specs.Meaning.{task_at}
+use Rattle.eevdf_workload.specs.{MeaningSteps.each, Meaning.task_at}
 use Rattle.eevdf_workload.proofs.ReadingLists.{behind}
 use Rattle.eevdf_workload.proofs.reading.task_table.tasks_of.Given as goal
 

@@ -1,8 +1,6 @@
 use Rattle.std.proofs.Common.{ℕ, ◌∙◌, sym, subst}
-use Rattle.eevdf_fleet.specs.RingEnds.{lists_of}
-use Rattle.eevdf_fleet.specs.OpenedRings.{AreOpened}
-use Rattle.eevdf_fleet.proofs.RingOpenings.{length-lists}
-use Rattle.eevdf_fleet.proofs.RingNaming.{new-rows, new-columns}
+use Rattle.eevdf_fleet.specs.{RingEnds.lists_of, OpenedRings.AreOpened}
+use Rattle.eevdf_fleet.proofs.{RingOpenings.length-lists, RingNaming.new-rows, RingNaming.new-columns}
 use Rattle.eevdf_fleet.proofs.rings.opened_rings.Rings.named.Goals as goal
 
 pub producers_by_sender-requires : goal.producers_by_sender-requires

@@ -1,6 +1,5 @@
 use Rattle.std.proofs.Common.{◌≡◌, vec_len}
-use Rattle.eevdf_fleet.specs.OpenedRings.{AreOpened}
-use Rattle.eevdf_fleet.specs.RingEnds.{lists_of}
+use Rattle.eevdf_fleet.specs.{OpenedRings.AreOpened, RingEnds.lists_of}
 use Rattle.eevdf_fleet.proofs.rings.opened_rings.Rings.open.Given as goal
 
 abbrev pub invariant-loop : goal.invariant-loop

@@ -1,5 +1,4 @@
-use Rattle.std.proofs.Common.{arith}
-use Rattle.std.proofs.lemmas.Result.{on_ok_weaker, on_err_weaker}
+use Rattle.std.proofs.{Common.arith, lemmas.Result.on_ok_weaker, lemmas.Result.on_err_weaker}
 use Rattle.eevdf_fleet.proofs.RingEnds.{producers-set, free-at, posts-same, posts-more}
 use Rattle.eevdf_fleet.proofs.rings.producer_ends.Producers.post.Goals as goal
 
