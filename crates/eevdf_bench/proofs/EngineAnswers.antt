@@ -1,12 +1,11 @@
 -- From the meaning of a workload to what the engine answers.
 use Rattle.std.proofs.Common.{◌≡◌, ◌⊎◌, ℕ, Bool, ◌+◌, true, false, ◌&&◌, List, [], ◌∷◌, take, refl, sym, ap, subst, ◌∙◌, inl, inr}
-use Rattle.std.specs.Prelude.{Option, Some, None, IfSome, IfErr, IfOk, Result, Ok, Err, OnOk, OnErr, Vec, if◌then◌else◌}
+use Rattle.std.specs.Prelude.{Option, Some, None, IfSome, IfOk, Result, Ok, Err, OnOk, OnErr, Vec, if◌then◌else◌}
 use Rattle.std.specs.{declared.alloc.Global.Global, List.list_all, Io.KnownBytes.Appends}
 use Rattle.eevdf_ops.specs.{Setup.Setup, Setup.allows, declared.deeds.Deed.Deed}
 use Rattle.eevdf_workload.specs.{declared.load_fault.LoadFault.LoadFault, MeaningSteps.Reads}
 use Rattle.eevdf_workload.specs.declared.load_fault.LoadFault.TheVariants as fault
 use Rattle.eevdf_workload.specs.declared.load_fault.Key.TheVariants as key
-use Rattle.eevdf_fleet.specs.{declared.run_fault.RunFault.RunFault, declared.run_fault.RunFault.TheVariants.Start}
 use Rattle.eevdf_bench.specs.{declared.bench_fault.BenchFault.BenchFault, declared.command_words.Command.Command}
 use Rattle.eevdf_bench.specs.{declared.command_words.Kind.TheVariants.Run, Streams.HasBegun}
 use Rattle.eevdf_bench.specs.declared.bench_fault.BenchFault.TheVariants as bench
@@ -38,9 +37,6 @@ load_inside l = ((λ e. cc), (λ e. cc))
 play_inside : (p : PlayFault) → IsInside (bench.Play p)
 play_inside p = ((λ e. cc), (λ e. cc))
 
-run_inside : (r : RunFault) → IsInside (bench.Run r)
-run_inside r = ((λ e. cc), (λ e. cc))
-
 memory_inside : IsInside bench.Memory
 memory_inside = ((λ e. cc), (λ e. cc))
 
@@ -63,13 +59,6 @@ made (Err (bench.Run r)) (Err f) h = elim h [ ]
 made (Err bench.Read) (Err f) h = elim h [ ]
 made (Err bench.Write) (Err f) h = elim h [ ]
 made (Err bench.Memory) (Err f) h = elim h [ ]
-
--- what comes of a run
-pub run_made : (w : Workload) (history : Bool) (r : Result (Vec ℕ Global) BenchFault) → IfOk r (λ t. IsReport Run w history t.items)
-    → IfErr r (λ f. (f ≡ bench.Run Start) ⊎ (f ≡ bench.Memory)) → Answers (IsAnswer Run w history) r
-run_made w history (Ok text) is other = is
-run_made w history (Err f) is (inl e) = as_fault (IsAnswer Run w history) f (bench.Run Start) e (refl, run_inside Start)
-run_made w history (Err f) is (inr e) = as_fault (IsAnswer Run w history) f bench.Memory e (tt, memory_inside)
 
 -- a workload that is read is answered as the command asks
 pub answered : (c : Command) (bytes : List ℕ) (w : Workload) (r : Result (Vec ℕ Global) BenchFault) → meaning bytes ≡ Ok w → Answers (IsAnswer c.kind w c.history) r → Answers (IsAnswerOf c bytes) r

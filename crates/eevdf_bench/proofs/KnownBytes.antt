@@ -1,7 +1,7 @@
 -- One write or read after another, where the bytes are known.
 use Rattle.std.proofs.Common.{◌≡◌, ℕ, ◌+◌, ◌-◌, ◌≤◌, List, [], ◌++◌, length, take, drop, sym, ap, ◌∙◌, subst, append_assoc, append-nil, arith}
 use Rattle.std.specs.Prelude.{Option, Some, None, IfSome}
-use Rattle.std.specs.Io.KnownBytes.{Appends, Consumes, IsAtEnd, Keeps}
+use Rattle.std.specs.Io.KnownBytes.{Appends, Consumes, IsAtEnd}
 use Rattle.eevdf_bench.specs.Streams.{ReadsOn, ReadsTo, ReadsWithin}
 use Rattle.std.proofs.Math.Seq.{take-add, take-append_seam}
 use Rattle.std.proofs.lemmas.List.{take_all, length-drop, length-append}
@@ -65,19 +65,6 @@ reads_to_end a b c input input' n limit p r e h =
 -- as far as a limit
 pub reads_to_front : (a b : Option (List ℕ)) (input : List ℕ) (limit : ℕ) → Consumes a b input → length input ≡ limit → ReadsTo limit a b
 reads_to_front a b input limit p h = reads_to a b input limit p (read_front a b input limit p h)
-
-pub within_limit : (a b : Option (List ℕ)) (input : List ℕ) (limit : ℕ) → Consumes a b input → length input ≤ limit → ReadsWithin limit a b
-within_limit a b input limit p h = record {
-  piece = input;
-  within = h;
-  consumes = p;
-}
-
--- nothing was read
-pub within_kept : (a b : Option (List ℕ)) (limit : ℕ) → Keeps a b → ReadsWithin limit a b
-within_kept None b limit k = within_limit None b [] limit tt (omega (arith))
-within_kept (Some u) None limit k = absurd k
-within_kept (Some u) (Some v) limit k = within_limit (Some u) (Some v) [] limit (sym k) (omega (arith))
 
 -- one reading within what the one before left of the limit
 pub within_both : (a b c : Option (List ℕ)) (input : List ℕ) (room limit : ℕ) → Consumes a b input → ReadsWithin room b c → length input + room ≤ limit → ReadsWithin limit a c

@@ -241,10 +241,6 @@ none-from (q ∷ m) cpu from less =
     let apart : once (from == cpu) ≡ 0 = grind (arith, nat_tests) in
     (omega (arith, rest.0), omega (arith, rest.1))
 
-below-one : (b : Bool) → once b ≤ 1
-below-one true = omega arith
-below-one false = omega arith
-
 seat-once : (m : Machine) (cpu from : ℕ) (b : Bool) → (from == cpu) ≡ b → times (seat cpu) (claims_from (from + 1) m) ≤ 1
     → once b + times (seat cpu) (claims_from (from + 1) m) ≤ 1
 seat-once m cpu from true e rest =

@@ -1,5 +1,5 @@
 -- How the rings are opened, one row after the other.
-use Rattle.std.proofs.Common.{◌≡◌, ℕ, zero, suc, ◌+◌, ◌<◌, ⊎_elim, List, [], ◌∷◌, ◌++◌, length, get_or, set, replicate, refl, sym, ap, subst, ◌∙◌, arith, get_or-set_same, get_or-set_other}
+use Rattle.std.proofs.Common.{◌≡◌, ℕ, ◌+◌, ◌<◌, ⊎_elim, List, [], ◌∷◌, ◌++◌, length, get_or, set, replicate, sym, ap, subst, ◌∙◌, arith, get_or-set_same, get_or-set_other}
 use Rattle.std.proofs.{lemmas.Bool.cases_lt, lemmas.Option.none-some}
 use Rattle.std.proofs.lemmas.List.{length-append, map-append, map-set, get_or-map, length-map, length-set, length-replicate, get_or_append_left, get_or_push, get_or-replicate}
 use Rattle.std.specs.Prelude.{slice_get, Option, Some}
@@ -10,11 +10,6 @@ use Rattle.eevdf_fleet.specs.OpenedRings.{IsFresh, Begins, AreOpened, Adds, AreR
 
 pub length-lists : {A : Type 0} (lists : List (Vec A Global)) → length (lists_of lists) ≡ length lists
 length-lists {A} lists = length-map lists (λ (l : Vec A Global). l.items)
-
-got_left : {A : Type 0} (xs ys : List A) (k : ℕ) → k < length xs → slice_get (xs ++ ys) k ≡ slice_get xs k
-got_left [] ys k within = absurd (omega arith)
-got_left (x ∷ xs) ys zero within = refl
-got_left (x ∷ xs) ys (suc k) within = got_left xs ys k (omega arith)
 
 -- the ends of one ring more in a row
 pub row-more : {capacity home : ℕ} {row : List Pushing} {before columns : List (List Popping)} (ring : Pushing) (column : List Popping) → AreRow capacity home row before columns

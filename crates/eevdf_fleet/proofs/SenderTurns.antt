@@ -62,18 +62,6 @@ pub record DrainedBelow (sender : ℕ) (before now : Seat) (drained : Drained) :
   pub own : before.cpu < sender → wakes_from before.cpu lines ≡ option_to_list (oldest_own before)
   pub not_yet : sender ≤ before.cpu → wakes_from before.cpu lines ≡ []
 
-pub drained-none : (s : Seat) → DrainedBelow 0 s s (record { taken = 0; woken = 0 })
-drained-none s = record {
-  lines = [];
-  seat = ap (λ (l : List Line). record s { log = l }) (sym (append-nil s.log)) ∙ ap (λ (n : ℕ). record s { log = s.log ++ []; room = n }) (let e : s.room ≡ s.room - 0 = omega arith in e);
-  wakes = omega arith;
-  taken = refl;
-  woken = refl;
-  few = omega arith;
-  own = λ h. absurd (omega arith);
-  not_yet = λ h. refl;
-}
-
 pub drained-all : (cpus : ℕ) (before after : Seat) (drained : Drained) → before.cpu < cpus → DrainedBelow cpus before after drained → HasDrained before after drained
 drained-all cpus before after drained within h = record {
   lines = h.lines;

@@ -10,7 +10,6 @@ use Rattle.eevdf_ops.specs.{declared.deeds.Answer.TheVariants.Range, Machine.Mac
 use Rattle.eevdf_ops.specs.{Places.places, Places.places_in, WholeSleep.task_leaves}
 use Rattle.eevdf_ops.specs.WholePull.{offer, is_lighter, load_of, decision, with_task, task_joins, pull, pull_decided}
 use Rattle.std.proofs.Math.ListN.{length-set}
-use Rattle.eevdf_ops.proofs.MachinePlaces.{other_queue}
 use Rattle.eevdf_ops.proofs.Carried.{Carries, carried-carries, offer-carried, offer-waits, left-nowhere}
 
 -- what a pull decides, where it takes a task
@@ -82,14 +81,6 @@ takes-contents m cpu source task p t e =
     let carries : carried (queue_at m source) task ≡ Some t.contents =
     ap (carried (queue_at m source)) (sym t.of_task) ∙ offer-carried (queue_at m source) t.contents (takes-offer m cpu source task t) in
     cc
-
--- the CPU has room for it, also once it has left the source
-pub takes-room : (m left : Machine) (cpu source task : ℕ) (p : Contents) → cpu ≢ source → Takes m cpu source task → carried (queue_at m source) task ≡ Some p → left ≡ task_leaves m source task
-    → can_place (queue_at left cpu) (sleeper_of p) ≡ true
-takes-room m left cpu source task p apart t e is =
-    let there : queue_at left cpu ≡ queue_at m cpu = ap (λ (n : Machine). queue_at n cpu) is ∙ other_queue m source cpu (leave (queue_at m source) task) apart in
-    ap (λ (q : State). can_place q (sleeper_of p)) there ∙ ap (λ (r : Contents). can_place (queue_at m cpu) (sleeper_of r)) (sym (takes-contents m cpu source task p t e))
-    ∙ (decision-taken (queue_at m cpu) (load_of (queue_at m source)) (offer (queue_at m source)) t.contents t.decides).room
 
 pub taken-nowhere : (m left : Machine) (cpu source task : ℕ) (p : Contents) → cpu < length m → source < length m → places m p.task ≤ 1 → carried (queue_at m source) task ≡ Some p → left ≡ task_leaves m source task
     → places_in (queue_at left cpu) p.task ≡ 0

@@ -86,9 +86,6 @@ join-at_home task t ts true q rest = λ u a.
     begun_by task u t ts (u == task) (contains_key q.asleep u) (equal u task) (rest u) (sym (contains-insert q.asleep task u (sleeper_of (beginner task t))) ∙ a)
 join-at_home task t ts false q rest = λ u a. further task u t.home t ts (rest u a)
 
-nobody_asleep : (u : ℕ) → contains_key empty_state.asleep u ≡ true → ⊥
-nobody_asleep u a = false≢true (ap is_some (sym (absent_nowhere u).not_asleep) ∙ a)
-
 empty_at_home : (n task cpu : ℕ) → BegunAtHome task [] cpu (queue_at (replicate n empty_state) cpu)
 empty_at_home n task cpu u a = absurd (false≢true (ap is_some (sym (absent_empty n cpu u).not_asleep) ∙ a))
 

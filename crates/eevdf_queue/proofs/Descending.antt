@@ -1,5 +1,5 @@
 -- How deep a node is, as seen from a node and from another above it.
-use Rattle.std.proofs.Common.{◌≡◌, ℕ, suc, ◌+◌, zero-add, Bool, true, false, eqb, ◌&&◌, ◌||◌, List, [], ◌∷◌, ◌++◌, refl, sym, ap, ◌∙◌, arith}
+use Rattle.std.proofs.Common.{◌≡◌, ℕ, suc, ◌+◌, Bool, true, false, eqb, ◌&&◌, ◌||◌, List, [], ◌∷◌, ◌++◌, refl, sym, ap, ◌∙◌, arith}
 use Rattle.std.proofs.lemmas.Bool.Decides.{nat_tests}
 use Rattle.eevdf_queue.specs.{declared.tree_node.TreeNode.TheInside.Inside, NodeDepths.deeper, NodeDepths.is_at_depth}
 use Rattle.eevdf_queue.specs.{TreeShape.depths_in, TreeNodes.depths_of}
@@ -53,9 +53,6 @@ deep_right a t k h =
 -- so many turns lead from the root of a tree to a node below it
 abbrev pub LeadTo : ℕ → List (ℕ × ℕ) → List (ℕ × ℕ) → Type 0
 LeadTo turns below whole = (task depth : ℕ) → is_at_depth task depth below ≡ true → is_at_depth task (turns + depth) whole ≡ true
-
-pub lead_none : (whole : List (ℕ × ℕ)) → LeadTo 0 whole whole
-lead_none whole task depth h = ap (λ (n : ℕ). is_at_depth task n whole) (zero-add depth) ∙ h
 
 further_on : (turns depth : ℕ) → turns + 1 + depth ≡ turns + suc depth
 further_on turns depth = omega arith

@@ -1,13 +1,13 @@
 -- What the number that is picked says of the tasks.
 use Rattle.std.proofs.Common.{◌≡◌, ℕ, Option, Some, None, refl, sym, ap, ◌∙◌}
-use Rattle.std.specs.Prelude.{ℤ, ◌↔◌, IfSome, IsNone, true}
+use Rattle.std.specs.Prelude.{ℤ, ◌↔◌, IfSome, IsNone}
 use Rattle.std.specs.Option.{option_map}
-use Rattle.std.specs.FinMap.{empty, contains_key, entries}
+use Rattle.std.specs.FinMap.{empty, entries}
 use Rattle.eevdf_queue.specs.{declared.run_entry.Entry.Entry, Laws.PickIsFirst, Laws.PickOfNobody, Order.earliest}
 use Rattle.eevdf_queue.specs.Sums.{Tasks, total_weight, total_moment}
 use Rattle.eevdf_queue.specs.Pick.{IsPick, is_eligible, is_eligible_at, pick_of}
 use Rattle.eevdf_queue.proofs.{MapFolds.entries-empty, Mean.nobody}
-use Rattle.eevdf_queue.proofs.Picking.{IsEarliest, earliest_is, distinct_entries, pick_is, found_here}
+use Rattle.eevdf_queue.proofs.Picking.{IsEarliest, earliest_is, distinct_entries, pick_is}
 
 pub picked : (tasks : Tasks) (r : Option ℕ) → r ≡ pick_of tasks → IfSome r (IsPick tasks)
 picked tasks None e = tt
@@ -28,10 +28,6 @@ pub none_picked : (tasks : Tasks) (r : Option ℕ) → r ≡ pick_of tasks → I
 none_picked tasks None e = (λ _. none_then_empty tasks (sym e), λ _. refl)
 none_picked tasks (Some t) e =
     (λ h. cc, λ is. let k : Some t ≡ None = e ∙ ap pick_of is ∙ empty_then_none in cc)
-
-pub picked_here : (tasks : Tasks) (r : Option ℕ) → r ≡ pick_of tasks → IfSome r (λ t. contains_key tasks t ≡ true)
-picked_here tasks None e = tt
-picked_here tasks (Some t) e = found_here (is_eligible tasks) tasks t e
 
 -- the first of those that are eligible at the sums over the tasks is the pick
 pub first_is_pick : (tasks : Tasks) (r : Option ℕ) (weight : ℕ) (moment : ℤ) → weight ≡ total_weight tasks → moment ≡ total_moment tasks

@@ -1,10 +1,10 @@
 -- What is picked: the earliest of those that pass.
 use Rattle.std.proofs.Common.{◌≡◌, ℕ, ◌<◌, ◌≤◌, Bool, true, false, cond, ◌&&◌, List, [], ◌∷◌, Option, Some, None, T, refl, sym, ap, subst, ◌∙◌, arith}
-use Rattle.std.specs.Prelude.{ℤ, ◌<ℤ◌, ◌⊎◌, is_some}
+use Rattle.std.specs.Prelude.{ℤ, ◌<ℤ◌, ◌⊎◌}
 use Rattle.std.specs.{Option.option_map, declared.cmp.Ordering.Ordering, FinMap.Entries.below_all}
 use Rattle.std.specs.declared.cmp.Ordering.TheVariants.{Less, Equal, Greater}
 use Rattle.std.specs.Ordering.{nat_cmp, is_eq, is_lt, eq_by_cmp}
-use Rattle.std.specs.FinMap.{FinMap, get, contains_key, entries, entries_sorted, find, is_sorted, get-entries}
+use Rattle.std.specs.FinMap.{FinMap, entries, entries_sorted, find, is_sorted, get-entries}
 use Rattle.std.proofs.{lemmas.Int.ints, lemmas.Bool.Decides.nat_tests}
 use Rattle.eevdf_queue.specs.{declared.run_entry.Entry.Entry, Sums.Tasks}
 use Rattle.eevdf_queue.specs.Order.{is_before, earlier, earliest}
@@ -136,14 +136,6 @@ pub earliest_is : (passes : Entry → Bool) (es : List (ℕ × Entry)) → AreDi
 unfolding NonePasses
 earliest_is passes [] h = λ u f found. cc
 earliest_is passes (e ∷ es) h = by_test passes e es (passes e.1) refl h.0 (earliest_is passes es h.1)
-
-here_by : (passes : Entry → Bool) (m : Tasks) (t : ℕ) (o : Option (ℕ × Entry)) → IsEarliest passes (entries m) o → Some t ≡ option_map (λ (a : ℕ × Entry). a.0) o → contains_key m t ≡ true
-here_by passes m t None h e = cc
-here_by passes m t (Some a) h e =
-    let same : t ≡ a.0 = cc in ap is_some (ap (get m) same ∙ get-entries m a.0 ∙ h.here)
-
-pub found_here : (passes : Entry → Bool) (m : Tasks) (t : ℕ) → Some t ≡ option_map (λ (a : ℕ × Entry). a.0) (earliest passes (entries m)) → contains_key m t ≡ true
-found_here passes m t e = here_by passes m t (earliest passes (entries m)) (earliest_is passes (entries m) (distinct_entries m)) e
 
 -- where none passes, the head fails and none behind it passes
 pub none_behind : (passes : Entry → Bool) (e : ℕ × Entry) (es : List (ℕ × Entry)) → find nat_cmp e.0 es ≡ None → NonePasses passes (e ∷ es)

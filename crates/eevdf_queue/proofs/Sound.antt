@@ -5,8 +5,8 @@ use Rattle.std.specs.FinMap.{FinMap, empty, insert, remove, get, contains_key, g
 use Rattle.std.proofs.lemmas.Bool.Decides.{nat_tests}
 use Rattle.eevdf_weight.specs.Limits.{is_in_range}
 use Rattle.eevdf_queue.specs.{declared.run_entry.Entry.Entry, Sums.Tasks}
-use Rattle.eevdf_queue.specs.State.{State, Sleeper, Contents}
-use Rattle.eevdf_queue.specs.Leaving.{stopped, leaving_at, without_entry, IsNowhere}
+use Rattle.eevdf_queue.specs.State.{Sleeper, Contents}
+use Rattle.eevdf_queue.specs.Leaving.{stopped, leaving_at, IsNowhere}
 use Rattle.eevdf_queue.specs.Kept.{RunnerIsHere, AreApart, IsSound}
 
 abbrev pub Asleep : Type 0
@@ -51,10 +51,6 @@ sound_admit m m' r n b t e is none h = record {
 pub sound_change : (m m' : Tasks) (r : Option ℕ) (n : Asleep) (b : ℤ) (t : ℕ) (e : Entry) → m' ≡ insert m t e → contains_key m t ≡ true
     → IsSound (record { runnable = m; running = r; asleep = n; base = b }) → IsSound (record { runnable = m'; running = r; asleep = n; base = b })
 sound_change m m' r n b t e is here h = sound_admit m m' r n b t e is (h.apart t here) h
-
-pub sound_run : (m : Tasks) (r : Option ℕ) (n : Asleep) (b : ℤ) (t : ℕ) → contains_key m t ≡ true
-    → IsSound (record { runnable = m; running = r; asleep = n; base = b }) → IsSound (record { runnable = m; running = Some t; asleep = n; base = b })
-sound_run m r n b t here h = record { runs = here; apart = h.apart; based = h.based }
 
 other_sleeper : (m : Tasks) (n : Asleep) (t u : ℕ) (s : Sleeper) (b : Bool) → eq_by_cmp nat_cmp u t ≡ b → get m t ≡ None → contains_key m u ≡ true → get n u ≡ None
     → cond b (Some s) (get n u) ≡ None
@@ -133,13 +129,6 @@ pub left_start : (P : ℤ → Type 0) (time : ℤ) (t : ℕ) (o : Option Entry) 
 left_start P time t None p h k = cc
 left_start P time t (Some e) p h k =
     let same : leaving_at time t e ≡ p = grind arith in subst P (ap (λ (c : Contents). c.start) same) (k e refl)
-
-pub left_state : (q : State) (time : ℤ) (t : ℕ) (o : Option Entry) (p : Contents) → option_map (leaving_at time t) o ≡ Some p
-    → record { runnable = remove q.runnable t; running = stopped q.running t; asleep = q.asleep; base = p.start } ≡ without_entry q t o
-left_state q time t None p h = cc
-left_state q time t (Some e) p h =
-    let same : leaving_at time t e ≡ p = grind arith in
-    ap (λ (c : Contents). record { runnable = remove q.runnable t; running = stopped q.running t; asleep = q.asleep; base = c.start }) (sym same)
 
 gone : (m : Tasks) (t : ℕ) → get (remove m t) t ≡ None
 gone m t =

@@ -65,14 +65,6 @@ follow_all : (t : Task) (e : Entry) (us : List Task) → t.entry.d ≡ e.d → P
 follow_all t e [] h a = tt
 follow_all t e (u ∷ us) h a = (same_after u t e h ∙ a.0, follow_all t e us h a.1)
 
-at_own : (d : ℤ) (b : Bool) (t : Task) (o : Option Task) → IsAtDeadline d (cond b (Some t) o) → b ≡ true → t.entry.d ≡ d
-at_own d true t o a h = a
-at_own d false t o a h = cc
-
-at_rest : (d : ℤ) (b : Bool) (t : Task) (o : Option Task) → IsAtDeadline d (cond b (Some t) o) → b ≡ false → IsAtDeadline d o
-at_rest d true t o a h = cc
-at_rest d false t o a h = a
-
 all_by : (q : ℕ) (e : Entry) (x t : Task) (us : List Task) (b : Bool) → eqb t.number q ≡ b → IsAtDeadline e.d (cond b (Some t) (find_task q us)) → PrecedesAll x (t ∷ us)
     → (IsAtDeadline e.d (find_task q us) → PrecedesAll x (set_entry q e us)) → PrecedesAll x (cond b (record t { entry = e } ∷ us) (t ∷ set_entry q e us))
 all_by q e x t us true i a h k = (same_before x t e a ∙ h.0, h.1)

@@ -26,10 +26,6 @@ pub all_right : (t : Task) (xs ys : List Task) → PrecedesAll t (xs ++ ys) → 
 all_right t [] ys h = h
 all_right t (x ∷ xs) ys h = all_right t xs ys h.1
 
-pub all_both : (t : Task) (xs ys : List Task) → PrecedesAll t xs → PrecedesAll t ys → PrecedesAll t (xs ++ ys)
-all_both t [] ys h k = k
-all_both t (x ∷ xs) ys h k = (h.0, all_both t xs ys h.1 k)
-
 pub left_ordered : (xs : List Task) (u : Task) (ys : List Task) → AreOrdered (xs ++ u ∷ ys) → AreOrdered xs
 left_ordered [] u ys h = tt
 left_ordered (x ∷ xs) u ys h = (all_left x xs (u ∷ ys) h.0, left_ordered xs u ys h.1)

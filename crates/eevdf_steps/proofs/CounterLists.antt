@@ -69,14 +69,6 @@ pushed P ats a before new c d below =
           subst (P c) (sym (get_or_push ats a d c (omega arith))) (subst (λ (i : ℕ). P i a) (sym last) new)
     ]
 
-pub begin_more : (plan : Plan) (n : ℕ) (ats : List Position) (a : Position) → IsPosition plan n a → counter_at plan n a ≡ 0 → BeginAll plan n ats
-    → BeginAll plan (n + 1) (ats ++ a ∷ [])
-begin_more plan n ats a new first b = record {
-  each = omega (arith, length-append ats (a ∷ []), b.each);
-  within = pushed (λ (c : ℕ) (d : Position). IsPosition plan c d) ats a b.within (subst (λ (i : ℕ). IsPosition plan i a) (sym b.each) new);
-  nothing_done = pushed (λ (c : ℕ) (d : Position). counter_at plan c d ≡ 0) ats a b.nothing_done (subst (λ (i : ℕ). counter_at plan i a ≡ 0) (sym b.each) first);
-}
-
 first_counters : (plan : Plan) (p : ℕ) (ats : List Position) → ((k : ℕ) (d : Position) → k < length ats → counter_at plan (p + k) (get_or ats k d) ≡ 0)
     → counters_at plan p ats ≡ replicate (length ats) 0
 first_counters plan p [] none = refl

@@ -9,7 +9,7 @@ use Rattle.eevdf_steps.specs.declared.step_fault.StepFault.TheVariants.{NoCaller
 use Rattle.eevdf_steps.specs.declared.play_fault.PlayFault.TheVariants.{Short, TooLong}
 use Rattle.eevdf_steps.specs.Plan.{Plan, callers}
 use Rattle.eevdf_steps.specs.Counters.{Counters, count_of, counted, is_under_way, may_step, refusal, refused_next, step_next, unfinished}
-use Rattle.eevdf_steps.specs.Orders.{IsWhole, WholeIsPlayed, counters_after, counters_at_start, fault_at, fault_or, is_lawful, most_places, order_fault, play_fault}
+use Rattle.eevdf_steps.specs.Orders.{IsWhole, WholeIsPlayed, counters_after, counters_at_start, fault_at, fault_or, is_lawful, most_places, order_fault}
 use Rattle.eevdf_steps.specs.Requests.{Progress, progress_after, progress_by, progress_step}
 use Rattle.eevdf_steps.proofs.{Plans.no_step, Lists.both, Ready.least_there}
 
@@ -72,15 +72,6 @@ whole_faultless plan counters at (p ∷ order) w =
     = both (may_step plan counters p) (is_lawful plan (counted counters p) order) w.lawful in
     ap (λ (f : Option StepFault). fault_or at f (order_fault plan (counted counters p) (at + 1) order)) (none_of (refusal plan counters p) parts.0)
     ∙ whole_faultless plan (counted counters p) (at + 1) order (record { lawful = parts.1; complete = w.complete })
-
--- an order that may be played has no fault
-not_too_long : (long : Bool) (r : Option PlayFault) → cond long (Some TooLong) r ≡ None → r ≡ None
-not_too_long true r e = absurd (none-some TooLong (sym e))
-not_too_long false r e = e
-
-pub playable_faultless : (plan : Plan) (order : List ℕ) → play_fault plan order ≡ None → order_fault plan (counters_at_start plan) 0 order ≡ None
-playable_faultless plan order e =
-    not_too_long (nat_lt most_places (length order)) (order_fault plan (counters_at_start plan) 0 order) e
 
 -- after a whole order everybody is done
 pub whole_ends : (plan : Plan) (g : Progress) (order : List ℕ) → IsWhole plan g.counters order → unfinished plan (progress_after plan g order).counters ≡ None

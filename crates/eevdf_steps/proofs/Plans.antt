@@ -2,7 +2,7 @@
 use Rattle.std.proofs.Common.{◌≡◌, ℕ, zero, suc, ◌<◌, ◌≤◌, true, List, [], ◌∷◌, length, get_or, sym, subst, arith, refl}
 use Rattle.std.proofs.lemmas.Option.{slice_get_within}
 use Rattle.std.specs.List.{list_all}
-use Rattle.std.specs.Prelude.{slice_get, nat_le, IfSome, Option, Some, None}
+use Rattle.std.specs.Prelude.{slice_get, nat_le, Some, None}
 use Rattle.eevdf_ops.specs.declared.deeds.Op.{Op}
 use Rattle.eevdf_steps.specs.Plan.{IsSound, Plan, callers, is_sound_op, is_sound_program, program}
 use Rattle.eevdf_steps.specs.Counters.{Counters, count_of, step_next}
@@ -31,15 +31,6 @@ op_within plan p k o s here =
     let within : k < length (program plan p) = slice_get_within (program plan p) k o here in
     let short : length (program plan p) ≤ 10000 = true_le (length (program plan p)) 10000 (parts plan p s).0 in
     omega arith
-
--- the same of an operation that may be missing
-pub some_op_sound : (plan : Plan) (p k : ℕ) (r : Option Op) → IsSound plan → r ≡ slice_get (program plan p) k → IfSome r (λ (o : Op). is_sound_op plan o ≡ true)
-some_op_sound plan p k None s e = tt
-some_op_sound plan p k (Some o) s e = op_sound plan p k o s (sym e)
-
-pub some_op_within : (plan : Plan) (p k : ℕ) (r : Option Op) → IsSound plan → r ≡ slice_get (program plan p) k → IfSome r (λ (o : Op). k < 10000)
-some_op_within plan p k None s e = tt
-some_op_within plan p k (Some o) s e = op_within plan p k o s (sym e)
 
 pub program_ops_sound : (plan : Plan) (p : ℕ) → IsSound plan → list_all (is_sound_op plan) (program plan p) ≡ true
 program_ops_sound plan p s = (parts plan p s).1

@@ -1,28 +1,20 @@
 -- The deeds of an order that is played step by step.
-use Rattle.std.proofs.Common.{◌≡◌, ℕ, true, List, ◌∷◌, ◌++◌, append_assoc, sym, ap, subst, ◌∙◌, refl}
+use Rattle.std.proofs.Common.{◌≡◌, ℕ, true, List, ◌∷◌, ◌++◌, sym, ap, subst, ◌∙◌}
 use Rattle.eevdf_ops.specs.{declared.deeds.Deed.Deed, Followed.FollowsPrograms, Histories.IsOneThread, Machine.start}
 use Rattle.eevdf_ops.specs.{Places.AreCpus, Places.IsPlaced, Outcome.Outcome, Outcome.machine_of, Programs.deeds_of}
 use Rattle.eevdf_ops.specs.Setup.{Setup, allows, cpus_of, homes_of}
 use Rattle.std.specs.{List.list_all, Prelude.Option, Prelude.None, Option.option_map}
 use Rattle.eevdf_steps.specs.{declared.play_fault.PlayFault.TheVariants.Short, Plan.IsSound, Plan.Plan, Plan.plan_of}
-use Rattle.eevdf_steps.specs.{Counters.step_next, Counters.unfinished, Plays.IsOutcome, Orders.IsWhole, Orders.counters_at_start}
-use Rattle.eevdf_steps.specs.{Orders.order_fault, PlayedSteps.HasPlayed, Requests.Progress, Requests.progress_step}
-use Rattle.eevdf_steps.specs.Commits.{commits, committed_by, deeds_committed}
-use Rattle.eevdf_steps.specs.Players.{Appends, Player, player_start, player_step}
+use Rattle.eevdf_steps.specs.{Counters.unfinished, Plays.IsOutcome, Orders.IsWhole, Orders.counters_at_start}
+use Rattle.eevdf_steps.specs.{Orders.order_fault, PlayedSteps.HasPlayed}
+use Rattle.eevdf_steps.specs.Commits.{commits, deeds_committed}
+use Rattle.eevdf_steps.specs.Players.{Player, player_start}
 use Rattle.eevdf_steps.proofs.{LawfulOrders.faultless_whole, AllowedCommits.deeds_allowed, PlacedHistories.outcome_placed}
-use Rattle.eevdf_steps.proofs.FollowedPrograms.{outcome_follows, step_progress}
+use Rattle.eevdf_steps.proofs.FollowedPrograms.{outcome_follows}
 
 -- the deeds done by a player, and those that an order still commits
 abbrev pub deeds_with : Player → List ℕ → List Deed
 deeds_with a order = deeds_of a.state.lines ++ commits a.plan a.state.progress order
-
-pub commits_step : (a b : Player) (p : ℕ) (rest : List ℕ) → b ≡ player_step a p → Appends a p b → deeds_with b rest ≡ deeds_with a (p ∷ rest)
-commits_step a b p rest e k =
-    ap (λ (ds : List Deed). ds ++ commits b.plan b.state.progress rest) k
-    ∙ ap (λ (c : Player). (deeds_of a.state.lines ++ committed_by a.state.progress p (step_next a.plan a.state.progress.counters p)) ++ commits c.plan c.state.progress rest) e
-    ∙ ap (λ (g : Progress). (deeds_of a.state.lines ++ committed_by a.state.progress p (step_next a.plan a.state.progress.counters p)) ++ commits a.plan g rest)
-    (step_progress a.plan a.state p (step_next a.plan a.state.progress.counters p) refl)
-    ∙ append_assoc (deeds_of a.state.lines) (committed_by a.state.progress p (step_next a.plan a.state.progress.counters p)) (commits a.plan (progress_step a.plan a.state.progress p) rest)
 
 -- an order that is played from the start to its end
 played_plan : (setup : Setup) (order : List ℕ) (b : Player) → HasPlayed (player_start setup) order b → b.plan ≡ plan_of setup

@@ -4,8 +4,7 @@ use Rattle.std.proofs.{Math.ListN.length-set, Math.ListN.length-append, lemmas.L
 use Rattle.std.specs.Prelude.{nat_lt, Option, Some, None}
 use Rattle.eevdf_ops.specs.declared.deeds.{Op.Op, Deed.Deed, Line.Line}
 use Rattle.eevdf_ops.specs.declared.deeds.Op.TheVariants as op
-use Rattle.eevdf_steps.specs.declared.{micro_steps.Micro.Micro, program_plan.Step.Step}
-use Rattle.eevdf_steps.specs.declared.micro_steps.Micro.TheVariants.{Take, Post}
+use Rattle.eevdf_steps.specs.declared.program_plan.Step.{Step}
 use Rattle.eevdf_steps.specs.{Commits.committed, Commits.committed_by, Callers.Callers, SoundSteps.is_sound_micro}
 use Rattle.eevdf_steps.specs.{Requests.Progress, Room.lines_to_come, Work.hand, Work.pulls_from, Journals.noted}
 use Rattle.eevdf_steps.specs.{Recorded.Recorded, Working.IsWorking, Players.Player, Players.player_step, Serial.IsSerial}
@@ -179,8 +178,3 @@ state_after w w' lists lists' found found' done done' p h s f r a same st t at r
     }) (progress_then w.plan w.counters lists found p s st.playing.posts st.caller st.step st.sound_micro)
     ∙ ap (λ (o : Option Step). record { plan = w.plan; state = micro_by w.plan (player_of w lists found done).state p o }) (sym st.step)
     ∙ ap (λ (b : Player). player_step b p) same
-
-pub length-posts_after : (k : ℕ) (m : Micro) (lists : List PostList) → length (posts_after k m lists) ≡ length lists
-length-posts_after k (Take q) lists = length-set lists k _
-length-posts_after k (Post t) lists = length-set lists k _
-length-posts_after k _ lists = refl

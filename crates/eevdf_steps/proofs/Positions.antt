@@ -101,9 +101,6 @@ position_in plan p k j o next here h e = record {
   next = e ∙ sym (located plan p (program plan p) k j o here h);
 }
 
-pub position_past : (plan : Plan) (p k : ℕ) → slice_get (program plan p) k ≡ None → IsPosition plan p (record { operation = k; steps = 0; next = None })
-position_past plan p k past = record { within = ap (is_within plan p 0) past; next = sym (located_past plan p (program plan p) k 0 past refl) }
-
 -- a position with a step stands in the step's operation
 pub record StandsIn (plan : Plan) (p : ℕ) (at : Position) (s : Step) : Type 0 where
   pub here : slice_get (program plan p) at.operation ≡ Some s.op

@@ -1,8 +1,8 @@
 -- What is reserved for the requests and the lines.
 use Rattle.std.proofs.Common.{append-nil, ◌≡◌, ℕ, zero, suc, ◌+◌, ◌*◌, ◌%◌, ◌<◌, ◌≤◌, Bool, true, false, cond, List, [], ◌∷◌, ◌++◌, length, map, drop, take, get_or, set, replicate, inl, inr, sym, ap, subst, ◌∙◌, arith, refl}
-use Rattle.std.proofs.Math.ListN.{length-append, length-replicate, length-set}
+use Rattle.std.proofs.Math.ListN.{length-append, length-set}
 use Rattle.std.proofs.lemmas.{Bool.cases_lt, Grind.flat_map-append, List.Folds.sum_by-replicate, List.Sums.sum_by-cons}
-use Rattle.std.proofs.lemmas.List.{get_or_append_left, get_or-replicate, get_or-set_other, get_or-set_same, get_or_push, length-take-le, take_more}
+use Rattle.std.proofs.lemmas.List.{get_or_append_left, get_or-set_other, get_or-set_same, get_or_push, length-take-le, take_more}
 use Rattle.std.proofs.lemmas.Nat.{div-mul-add, mod-mul-add}
 use Rattle.std.specs.List.{sum_by}
 use Rattle.std.specs.Prelude.{◌==◌, is_some, slice_index, Option, None}
@@ -35,12 +35,6 @@ posts_few homes c (o ∷ ops) =
 counts_few : (plan : Plan) (ops : List Op) (counts : List ℕ) (c : ℕ) → CountPosts plan ops counts → c < length counts → slice_index counts c ≤ length ops
 counts_few plan ops counts c a h =
     subst (λ (n : ℕ). n ≤ length ops) (sym (a.count c (omega (arith, a.each)))) (posts_few plan.homes c ops)
-
-pub counts_none : (plan : Plan) → CountPosts plan [] (replicate (callers plan) 0)
-counts_none plan = record {
-  each = length-replicate (callers plan) 0;
-  count = λ c h. get_or-replicate (callers plan) c 0 0 h;
-}
 
 posts_pushed : (homes : List ℕ) (c : ℕ) (ops : List Op) (o : Op) → length (posts_in homes c (ops ++ o ∷ [])) ≡ length (posts_in homes c ops) + length (post_of homes c o)
 posts_pushed homes c ops o =

@@ -1,10 +1,9 @@
 -- Bounds on weights, for the crates above too.
 use Rattle.std.proofs.Common.{◌≡◌, ℕ, zero, suc, ◌≤◌, ◌<◌, Bool, true, false, ◌&&◌, leb, List, [], ◌∷◌, length, get_or, refl, ap, ◌∙◌, arith}
-use Rattle.std.specs.Prelude.{ℤ, pos, negsuc}
+use Rattle.std.specs.Prelude.{ℤ}
 use Rattle.std.specs.List.{list_all}
 use Rattle.std.proofs.{lemmas.List.get_or_default, lemmas.Bool.Decides.nat_tests}
 use Rattle.eevdf_weight.specs.Weight.{weights, place_of, weight_of}
-use Rattle.eevdf_weight.specs.Limits.{is_nice_level}
 
 abbrev is_weight : ℕ → Bool
 is_weight w = leb 15 w && leb w 88761
@@ -37,10 +36,6 @@ weight_of-least z = least (weight_of z) (is_weight_of z)
 
 pub weight_of-greatest : (z : ℤ) → weight_of z ≤ 88761
 weight_of-greatest z = greatest (weight_of z) (is_weight_of z)
-
-pub place_of-below : (z : ℤ) → is_nice_level z ≡ true → place_of z < 40
-place_of-below (pos n) h = grind (arith, nat_tests)
-place_of-below (negsuc n) h = omega arith
 
 few : (z : ℤ) (k : ℕ) → k ≡ place_of z → k < 40 → place_of z < length weights
 unfolding weights

@@ -1,5 +1,5 @@
 -- Words and numbers, as the reader finds them.
-use Rattle.std.proofs.Common.{◌≡◌, ◌≢◌, ℕ, ◌<◌, ◌≤◌, ◌^◌, true, false, eqb, List, [], ◌∷◌, length, get_or, Option, Result, Ok, Err, option_and_then, refl, ◌∙◌, inl, inr, arith, rules}
+use Rattle.std.proofs.Common.{◌≡◌, ◌≢◌, ℕ, ◌<◌, ◌≤◌, ◌^◌, true, eqb, List, [], ◌∷◌, length, get_or, Option, Result, Ok, Err, option_and_then, refl, ◌∙◌, inl, inr, arith, rules}
 use Rattle.std.proofs.{lemmas.Bool.false≢true, lemmas.Bool.cases_Bool, lemmas.Bool.Decides.nat_tests}
 use Rattle.std.proofs.lemmas.List.Splits.{slice_split_first}
 use Rattle.std.proofs.lemmas.Str.Parse.{IsNumeralModel, numerals_by_value, parse_digits}
@@ -10,10 +10,6 @@ use Rattle.eevdf_workload.specs.Words.{words, is_number, number, fitting}
 pub is_number-no_zero : (word : List ℕ) → 1 ≤ length word → get_or word 0 0 ≢ 48 → is_number word ≡ list_all is_ascii_digit word
 is_number-no_zero [] h n = absurd (omega arith)
 is_number-no_zero (c ∷ cs) h n = grind (arith, nat_tests)
-
-pub is_number-zero : (word : List ℕ) → 2 ≤ length word → get_or word 0 0 ≡ 48 → is_number word ≡ false
-is_number-zero [] h n = absurd (omega arith)
-is_number-zero (c ∷ cs) h n = grind (arith, nat_tests)
 
 pub digits : IsNumeralModel (λ ds. list_all is_ascii_digit ds ≡ true) (digits_value 10)
 digits = numerals_by_value _ (search rules)

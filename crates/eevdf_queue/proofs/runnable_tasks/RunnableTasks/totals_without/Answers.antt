@@ -8,7 +8,7 @@ use Rattle.eevdf_queue.proofs.RunnableMaps.{get-runnable_in, total_weight-runnab
 use Rattle.eevdf_queue.proofs.{TreeMaps.taken_stored, TreeMaps.taken_seen, PickedTasks.sums_kept}
 use Rattle.eevdf_queue.proofs.TreeTotals.{entry_found, totals-without, totals_part, totals_near, totals_few, totals_small}
 use Rattle.eevdf_queue.proofs.runnable_tasks.RunnableTasks.totals_without.Goals as goal
-use Rattle.eevdf_queue.proofs.runnable_tasks.RunnableTasks.totals_without.Goals.{After-share, After-without_share}
+use Rattle.eevdf_queue.proofs.runnable_tasks.RunnableTasks.totals_without.Goals.{After-share}
 
 -- the task that is left out
 left_out : (c : After-share) → (t : Task) × ((find_task c.args.task c.self.inside.tree ≡ Some t) × (t.entry ≡ c.args.entry.now))

@@ -1,6 +1,6 @@
-use Rattle.std.proofs.Common.{◌≡◌, ◌+◌, ◌*◌, ◌<◌, ◌≤◌, length, take, ◌∙◌, sym, arith}
+use Rattle.std.proofs.Common.{◌≡◌, ◌+◌, ◌*◌, ◌<◌, ◌≤◌, length, ◌∙◌, sym, arith}
 use Rattle.eevdf_ops.specs.Numbers.{most_cpus}
-use Rattle.eevdf_steps.specs.{Plan.program, MicroSteps.micros_of, MicroSteps.steps_of}
+use Rattle.eevdf_steps.specs.MicroSteps.{micros_of}
 use Rattle.eevdf_steps.proofs.Plans.{op_sound, op_within}
 use Rattle.eevdf_steps.proofs.Positions.{StandsIn, counter_of_next, few_micros, position_in, stands, step_past, step_within}
 use Rattle.eevdf_steps.proofs.program_plan.Plan.position_after.Goals as goal

@@ -2,7 +2,7 @@ use Rattle.std.proofs.Common.{◌≡◌, ◌+◌, ◌<◌, ◌≤◌, length, �
 use Rattle.std.specs.Prelude.{Option, None}
 use Rattle.eevdf_ops.specs.declared.deeds.Answer.{Answer}
 use Rattle.eevdf_steps.specs.{Commits.committed, Journals.Journal, Journals.noted, Recorded.recorded, Work.Work, Plan.Plan}
-use Rattle.eevdf_steps.specs.{Plan.callers, Plan.is_sound_op, Counters.counted, SoundSteps.is_sound_micro}
+use Rattle.eevdf_steps.specs.{Plan.callers, Plan.is_sound_op, SoundSteps.is_sound_micro}
 use Rattle.eevdf_steps.specs.MicroState.{home_for, line_of, works}
 use Rattle.eevdf_steps.specs.PostLists.{has_room, list_at, place_of, posts_after, request_after}
 use Rattle.std.proofs.lemmas.List.{get_or_default}
