@@ -33,11 +33,11 @@ refuses() {
   fi
 }
 
-refuses eevdf_queue task_parcel.rt 'let Parcel { node: _ } = self;' 'let _parcel = self;' task_parcel
+refuses eevdf_queue parcel.rt 'let Parcel { node: _ } = self;' 'let _parcel = self;' parcel
 refuses eevdf_queue queue_moves.rt 'None => Err(parcel),' 'None => Ok(()),' queue_moves
 refuses eevdf_ops whole_sleep.rt 'fall_asleep(queues, home, parcel);' 'let _parcel = parcel;' whole_sleep
 refuses eevdf_ops whole_pull.rt 'join(queues, cpu, parcel);' 'let _parcel = parcel;' whole_pull
-refuses eevdf_steps task_hand.rt 'parcel.retire();' 'let _parcel = parcel;' task_hand
-refuses eevdf_steps queue_work.rt 'Some(parcel) => join(&mut self.queues, cpu, parcel),' 'Some(_parcel) => {}' queue_work
+refuses eevdf_steps hand.rt 'parcel.retire();' 'let _parcel = parcel;' hand
+refuses eevdf_steps work.rt 'Some(parcel) => join(&mut self.queues, cpu, parcel),' 'Some(_parcel) => {}' work
 echo "$refused bodies that let a task go are refused"
 exit "$status"

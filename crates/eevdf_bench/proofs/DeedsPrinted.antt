@@ -8,7 +8,7 @@ use Rattle.eevdf_queue.specs.Numbers.{checked_number}
 use Rattle.eevdf_ops.specs.{Numbers.cpu_limit, declared.deeds.Op.Op, declared.deeds.Deed.Deed, Programs.deed_of}
 use Rattle.eevdf_ops.specs.declared.deeds.Op.TheVariants as op
 use Rattle.eevdf_ops.specs.declared.deeds.Deed.TheVariants.{Tick, Pick, Yield, Sleep, Wake, Pull, Renice}
-use Rattle.eevdf_workload.specs.{declared.workload_version.Version.Version, Versions.cpu_within, Versions.limits_of}
+use Rattle.eevdf_workload.specs.{declared.version.Version.Version, Versions.cpu_within, Versions.limits_of}
 use Rattle.eevdf_report.specs.TextDeed.{cpu_of, deed_text}
 use Rattle.eevdf_workload.specs.Words.{words, operation_of, sender_of, wake_of, task_in, cpu_in, deed_on, deed_in}
 use Rattle.eevdf_bench.specs.WordsPrinted.{knows_act, knows_deed, knows_operation, most_cpus, numbered_deed_text, operation_text}

@@ -7,8 +7,8 @@ use Rattle.eevdf_weight.specs.Limits.{checked_tick, is_nice_level, is_tick}
 use Rattle.eevdf_queue.specs.Numbers.{checked_number}
 use Rattle.eevdf_ops.specs.{Numbers.cpu_limit, declared.deeds.Op.Op}
 use Rattle.eevdf_ops.specs.declared.deeds.Op.TheVariants.{Tick, Pick, Yield, Sleep, Post, Drain, Pull, Renice}
-use Rattle.eevdf_workload.specs.{declared.workload_version.Version.Version, declared.workload_version.Version.TheVariants.One}
-use Rattle.eevdf_workload.specs.{declared.workload_version.Version.TheVariants.Two, Versions.cpu_within, Versions.limits_of}
+use Rattle.eevdf_workload.specs.{declared.version.Version.Version, declared.version.Version.TheVariants.One}
+use Rattle.eevdf_workload.specs.{declared.version.Version.TheVariants.Two, Versions.cpu_within, Versions.limits_of}
 use Rattle.eevdf_workload.specs.Words.{words, number, only_number, only_level, task_in, alone, renice_of, operation, operation_of}
 use Rattle.eevdf_bench.specs.WordsPrinted.{knows_operation, knows_renice, most_cpus, operation_text}
 use Rattle.eevdf_bench.proofs.ReadingPrinted.{number-decimal, decimal-number, words-decimal, words-after_decimal, joined_words}

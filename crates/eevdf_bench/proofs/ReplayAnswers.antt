@@ -8,7 +8,7 @@ use Rattle.eevdf_ops.specs.{Machine.Machine, Machine.start, Places.IsPlaced, Out
 use Rattle.eevdf_steps.specs.{Commits.deeds_committed, declared.step_fault.StepFault.StepFault}
 use Rattle.eevdf_steps.specs.{declared.play_fault.PlayFault.PlayFault, Plan.Plan, Plan.plan_of, MicroState.micro, Plays.IsOutcome}
 use Rattle.eevdf_steps.specs.Plays.{IsPlay}
-use Rattle.eevdf_bench.specs.{declared.command_words.Kind.TheVariants.Replay, Reports.IsReport}
+use Rattle.eevdf_bench.specs.{declared.command.Kind.TheVariants.Replay, Reports.IsReport}
 use Rattle.eevdf_bench.specs.declared.bench_fault.BenchFault.{BenchFault}
 use Rattle.eevdf_bench.proofs.{OwnDeeds.own_deeds, LeftLists.all_left}
 use Rattle.eevdf_steps.specs.declared.step_fault.StepFault.TheVariants as step

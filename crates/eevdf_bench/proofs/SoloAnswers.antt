@@ -5,7 +5,7 @@ use Rattle.eevdf_ops.specs.{declared.deeds.Deed.Deed, Histories.IsOneThread, Mac
 use Rattle.eevdf_ops.specs.{Outcome.machine_of, Places.IsPlaced, Programs.deeds_of}
 use Rattle.eevdf_ops.specs.Setup.{Setup, allows, homes_of}
 use Rattle.eevdf_ops.specs.Whole.{lines_of, machine_after, whole}
-use Rattle.eevdf_bench.specs.{declared.command_words.Kind.TheVariants.Solo, Reports.IsReport}
+use Rattle.eevdf_bench.specs.{declared.command.Kind.TheVariants.Solo, Reports.IsReport}
 use Rattle.eevdf_workload.specs.Meaning.{Workload}
 use Rattle.eevdf_report.specs.TextReport.{report_text}
 use Rattle.eevdf_bench.proofs.OwnDeeds.{own_deeds}

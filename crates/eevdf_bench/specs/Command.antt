@@ -4,10 +4,10 @@ use Rattle.std.specs.{Str.bytes_eq, Option.option_map_or}
 use Rattle.clap.specs.Words.{App, Row, Rule, Text, fault_of, first_of, new_app, new_rule, subcommand_of, with_rule, with_subcommand}
 use Rattle.clap.specs.{Walk.is_empty, Simple.on_top, declared.builder.action.ArgAction.TheVariants.SetTrue}
 use Rattle.clap.specs.{declared.error.kind.ErrorKind.ErrorKind, declared.error.kind.ErrorKind.TheVariants.OutOfMemory}
-use Rattle.eevdf_bench.specs.{declared.command_words.Command.Command, declared.command_words.Kind.Kind}
-use Rattle.eevdf_bench.specs.{declared.command_words.WordFault.WordFault, declared.command_words.WordFault.TheVariants.Words}
-use Rattle.eevdf_bench.specs.declared.command_words.WordFault.TheVariants.{Memory}
-use Rattle.eevdf_bench.specs.declared.command_words.Kind.TheVariants.{Solo, Replay, Run}
+use Rattle.eevdf_bench.specs.{declared.command.Command.Command, declared.command.Kind.Kind}
+use Rattle.eevdf_bench.specs.{declared.command.WordFault.WordFault, declared.command.WordFault.TheVariants.Words}
+use Rattle.eevdf_bench.specs.declared.command.WordFault.TheVariants.{Memory}
+use Rattle.eevdf_bench.specs.declared.command.Kind.TheVariants.{Solo, Replay, Run}
 
 -- the word that names a kind
 abbrev pub word_of : Kind → Text

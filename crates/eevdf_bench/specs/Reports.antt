@@ -4,8 +4,8 @@ use Rattle.std.specs.Prelude.{◌≡◌, ℕ, Bool, true, List, Option, Some, Ok
 use Rattle.eevdf_ops.specs.{Followed.FollowsPrograms, Histories.IsOneThread, Machine.start, Outcome.Outcome, Outcome.machine_of}
 use Rattle.eevdf_ops.specs.{OwnRequests.TakesOwnRequests, Places.IsPlaced, Programs.deeds_of, Setup.allows, Setup.homes_of}
 use Rattle.eevdf_steps.specs.{Plan.plan_of, Orders.IsWhole, Orders.counters_at_start, Commits.deeds_committed}
-use Rattle.eevdf_bench.specs.{declared.command_words.Command.Command, declared.command_words.Kind.Kind}
-use Rattle.eevdf_bench.specs.declared.command_words.Kind.TheVariants.{Solo, Replay, Run}
+use Rattle.eevdf_bench.specs.{declared.command.Command.Command, declared.command.Kind.Kind}
+use Rattle.eevdf_bench.specs.declared.command.Kind.TheVariants.{Solo, Replay, Run}
 use Rattle.eevdf_workload.specs.Meaning.{Workload, meaning}
 use Rattle.eevdf_report.specs.TextReport.{report_text}
 

@@ -8,9 +8,9 @@ use Rattle.eevdf_fleet.specs.declared.run_fault.RunFault.TheVariants.{Start, Mem
 use Rattle.eevdf_steps.specs.{declared.play_fault.PlayFault.PlayFault, Plan.plan_of, Orders.play_fault, LeftLists.left_lists}
 use Rattle.eevdf_steps.specs.{MicroState.MicroState, MicroState.micro}
 use Rattle.eevdf_steps.specs.declared.play_fault.PlayFault.TheVariants.{TooLong, Memory as NoRoom}
-use Rattle.eevdf_bench.specs.{declared.command_words.Command.Command, declared.command_words.Kind.Kind}
+use Rattle.eevdf_bench.specs.{declared.command.Command.Command, declared.command.Kind.Kind}
 use Rattle.eevdf_bench.specs.{declared.bench_fault.BenchFault.BenchFault, Reports.IsReport, Streams.HasBegun}
-use Rattle.eevdf_bench.specs.declared.command_words.Kind.TheVariants.{Solo, Replay, Run}
+use Rattle.eevdf_bench.specs.declared.command.Kind.TheVariants.{Solo, Replay, Run}
 use Rattle.eevdf_workload.specs.{declared.load_fault.Key.TheVariants.Orders, declared.load_fault.Key.TheVariants.Scripts}
 use Rattle.eevdf_workload.specs.{declared.load_fault.LoadFault.LoadFault, Meaning.Workload, Meaning.meaning}
 use Rattle.eevdf_workload.specs.declared.load_fault.LoadFault.TheVariants.{Missing, Memory as NoMemory}

@@ -4,8 +4,8 @@ use Rattle.std.specs.Fmt.{signed_decimal}
 use Rattle.eevdf_ops.specs.{declared.deeds.Op.Op, declared.deeds.Deed.Deed}
 use Rattle.eevdf_ops.specs.declared.deeds.Op.TheVariants.{Tick, Pick, Yield, Sleep, Post, Drain, Pull, Renice}
 use Rattle.eevdf_ops.specs.declared.deeds.Deed.TheVariants as deed
-use Rattle.eevdf_workload.specs.declared.workload_version.Version.{Version}
-use Rattle.eevdf_workload.specs.declared.workload_version.Version.TheVariants.{One, Two}
+use Rattle.eevdf_workload.specs.declared.version.Version.{Version}
+use Rattle.eevdf_workload.specs.declared.version.Version.TheVariants.{One, Two}
 use Rattle.eevdf_report.specs.TextDeed.{cpu_of, deed_text}
 
 abbrev pub operation_text : Op → List ℕ

@@ -7,7 +7,7 @@ ghost use Rattle.eevdf_bench.specs.Streams.{ReadsTo, ReadsWithin};
 
 use crate::bench_fault::BenchFault;
 use crate::byte_streams::{read_input, write_text};
-use crate::command_words::{Command, Kind};
+use crate::command::{Command, Kind};
 use crate::fleet_run::run_text;
 use crate::replay_run::replay_text;
 use crate::solo_run::solo_text;

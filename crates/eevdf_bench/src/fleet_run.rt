@@ -4,7 +4,7 @@ ghost use Rattle.std.specs.Prelude.{◌≡◌, ◌⊎◌, IfOk, IfErr};
 ghost use Rattle.eevdf_bench.specs.{Reports.IsReport, Runs.run_refusal};
 
 use crate::bench_fault::BenchFault;
-use crate::command_words::Kind;
+use crate::command::Kind;
 use eevdf_fleet::{OpenGate, RunFault, run_all};
 use eevdf_report::report;
 use eevdf_workload::Workload;

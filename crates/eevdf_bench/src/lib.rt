@@ -7,7 +7,7 @@
 mod bench_engine;
 mod bench_fault;
 mod byte_streams;
-mod command_words;
+mod command;
 mod fault_texts;
 mod fleet_run;
 pub mod reading_laws;
@@ -18,7 +18,7 @@ mod watched;
 pub use bench_engine::engine;
 pub use bench_fault::BenchFault;
 pub use byte_streams::{read_input, write_text};
-pub use command_words::{Command, Kind, WordFault, command_of};
+pub use command::{Command, Kind, WordFault, command_of};
 pub use eevdf_report::report;
 pub use eevdf_workload::{Key, LoadFault, Version, Workload, read_workload};
 pub use fault_texts::{fault_text, status_of};

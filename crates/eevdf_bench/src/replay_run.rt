@@ -5,7 +5,7 @@ ghost use Rattle.eevdf_bench.specs.Reports.{IsReport};
 ghost use Rattle.eevdf_bench.specs.Runs.{Makes, play_refusal, replay_report};
 
 use crate::bench_fault::BenchFault;
-use crate::command_words::Kind;
+use crate::command::Kind;
 use eevdf_report::report;
 use eevdf_steps::{PlayFault, play};
 use eevdf_workload::{Key, LoadFault, Workload};

@@ -4,7 +4,7 @@ ghost use Rattle.std.specs.Prelude.{IfOk};
 ghost use Rattle.eevdf_bench.specs.{Reports.IsReport, Runs.Makes, Runs.solo_report};
 
 use crate::bench_fault::BenchFault;
-use crate::command_words::Kind;
+use crate::command::Kind;
 use eevdf_ops::one_thread::solo;
 use eevdf_report::report;
 use eevdf_workload::{Key, LoadFault, Workload};

@@ -8,8 +8,8 @@ use Rattle.std.proofs.marker.PhantomData.TheSendSync as phantom
 use Rattle.atomic_table.proofs.badge.Badge.TheSendSync as badge
 use Rattle.atomic_table.proofs.owned.Table.TheSendSync as table
 use Rattle.eevdf_queue.proofs.tree_node.TreeNode.TheLaws.TheKnot as knot
-use Rattle.eevdf_queue.specs.contracts.run_queue.Queue as Queue
-use Rattle.eevdf_ops.proofs.cpu_number.CpuId.TheSendSync as cpu
+use Rattle.eevdf_queue.specs.contracts.queue.Queue as Queue
+use Rattle.eevdf_ops.proofs.cpu_id.CpuId.TheSendSync as cpu
 use Rattle.eevdf_ops.proofs.deeds.Line.TheSendSync as line
 use Rattle.eevdf_fleet.proofs.rings.returned_ends.ReturnedEnds.TheSendSync as ends
 use Rattle.eevdf_fleet.specs.declared.names.Names.{Ghosts}

@@ -3,7 +3,7 @@ use Rattle.std.proofs.Common.{◌≡◌, ℕ, ◌<◌, ◌≤◌, Bool, true, fa
 use Rattle.std.specs.Prelude.{◌==◌, Option, Some, None}
 use Rattle.std.specs.{Option.option_map, Option.option_and_then, FinMap.get, FinMap.entries}
 use Rattle.std.proofs.{lemmas.Bool.Decides.nat_tests, Math.ListN.length-set}
-use Rattle.eevdf_queue.specs.{declared.run_entry.Entry.Entry, State.State, State.Contents, Lag.kept_lag, Order.is_before}
+use Rattle.eevdf_queue.specs.{declared.entry.Entry.Entry, State.State, State.Contents, Lag.kept_lag, Order.is_before}
 use Rattle.eevdf_queue.specs.Leaving.{leaving, carried, carried_running, leave, leave_running, without_entry}
 use Rattle.eevdf_queue.specs.Candidate.{is_running, candidate_of, latest_waiting, later}
 use Rattle.eevdf_ops.specs.{Machine.Machine, Machine.queue_at, WholeSleep.task_leaves, WholePull.offer}

@@ -8,7 +8,7 @@ use Rattle.std.specs.Ordering.{nat_cmp, is_eq, eq_by_cmp}
 use Rattle.std.specs.FinMap.{empty, insert, remove, get, entries, find, put, len-entries, len-empty, get-entries, get-insert, get-remove, entries-insert, same_map, nat_cmp-IsAntisymmetric}
 use Rattle.std.proofs.lemmas.Bool.Decides.{nat_tests}
 use Rattle.eevdf_weight.specs.Weight.{weight_of}
-use Rattle.eevdf_queue.specs.{declared.run_entry.Entry.Entry, State.State, State.Contents, Leaving.leave, Leaving.without_entry}
+use Rattle.eevdf_queue.specs.{declared.entry.Entry.Entry, State.State, State.Contents, Leaving.leave, Leaving.without_entry}
 use Rattle.eevdf_queue.specs.Sums.{Tasks, sum_weights, total_weight}
 use Rattle.eevdf_queue.specs.Moves.{fresh_entry, is_entry_in_range, sleeper_of, with_runnable}
 use Rattle.eevdf_queue.specs.Placing as placing

@@ -2,7 +2,7 @@
 use Rattle.std.proofs.Common.{◌≡◌, ◌≢◌, ℕ, ◌<◌, ◌≤◌, length, arith, Bool, true, false, cond, refl, sym, ap, subst, ◌∙◌}
 use Rattle.std.specs.Prelude.{is_some, Option, Some, None, Result, Ok, Err}
 use Rattle.std.specs.Option.{unwrap_or}
-use Rattle.eevdf_queue.specs.{declared.run_entry.Entry.Entry, State.State, State.Contents, Moves.sleeper_of, Moves.with_runnable}
+use Rattle.eevdf_queue.specs.{declared.entry.Entry.Entry, State.State, State.Contents, Moves.sleeper_of, Moves.with_runnable}
 use Rattle.eevdf_queue.specs.{Candidate.is_running, Leaving.carried, Leaving.leave}
 use Rattle.eevdf_queue.specs.Placing.{can_place, put, placed_entry}
 use Rattle.eevdf_ops.specs.{declared.deeds.Answer.Answer, declared.deeds.Answer.TheVariants.Balanced}

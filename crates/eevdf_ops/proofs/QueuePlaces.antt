@@ -4,7 +4,7 @@ use Rattle.std.specs.Prelude.{◌==◌, ℤ, is_some, Option, Some, None}
 use Rattle.std.specs.FinMap.{get, contains_key, insert, remove}
 use Rattle.std.proofs.lemmas.Bool.{false≢true}
 use Rattle.eevdf_weight.specs.Limits.{is_in_range}
-use Rattle.eevdf_queue.specs.{declared.run_entry.Entry.Entry, Placing.placed_entry, Leaving.without_entry}
+use Rattle.eevdf_queue.specs.{declared.entry.Entry.Entry, Placing.placed_entry, Leaving.without_entry}
 use Rattle.eevdf_queue.specs.declared.answers.TickAnswer.TheVariants as tick_answer
 use Rattle.eevdf_queue.specs.declared.answers.YieldAnswer.TheVariants as yield_answer
 use Rattle.eevdf_queue.specs.State.{State, Sleeper, Contents}

@@ -5,7 +5,7 @@ use Rattle.std.specs.Option.{option_map, option_and_then, unwrap_or}
 use Rattle.std.specs.Ordering.{nat_cmp}
 use Rattle.std.specs.FinMap.{get, insert, get-empty}
 use Rattle.eevdf_weight.specs.Limits.{is_in_range}
-use Rattle.eevdf_queue.specs.{declared.run_entry.Entry.Entry, Lag.kept_lag, Candidate.is_running, Candidate.candidate_of}
+use Rattle.eevdf_queue.specs.{declared.entry.Entry.Entry, Lag.kept_lag, Candidate.is_running, Candidate.candidate_of}
 use Rattle.eevdf_queue.specs.declared.answers.TickAnswer.TheVariants as tick_answer
 use Rattle.eevdf_queue.specs.declared.answers.YieldAnswer.TheVariants as yield_answer
 use Rattle.eevdf_queue.specs.State.{State, Sleeper, Contents, empty_state}

@@ -1,4 +1,4 @@
-use crate::cpu_number::CpuId;
+use crate::cpu_id::CpuId;
 use eevdf_queue::TaskId;
 use eevdf_weight::{Nice, Ns};
 

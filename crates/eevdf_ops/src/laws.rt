@@ -13,8 +13,8 @@ ghost use Rattle.eevdf_ops.specs.PartsLaws.{
 };
 ghost use Rattle.eevdf_ops.specs.{Places.AreCpus, Places.IsPlaced, Setup.cpus_of, Setup.homes_of};
 
-use crate::machine_setup::Setup;
-use crate::solo_machine::Solo;
+use crate::setup::Setup;
+use crate::solo::Solo;
 
 /// At every moment each task of the setup stands in one place, runnable or asleep on one CPU, and a sleeping
 /// task at its home. No other number stands anywhere.

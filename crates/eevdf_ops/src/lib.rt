@@ -5,31 +5,31 @@
 //! of deeds is the list of deeds with their answers, and the machine that they leave.
 #![tactic(auto)]
 
-mod cpu_number;
+mod cpu_id;
 mod deeds;
 mod from_answers;
 pub mod laws;
-mod machine_setup;
 mod machine_start;
 pub mod one_queue;
 pub mod one_thread;
 mod outcome;
 pub mod queue_deeds;
+mod setup;
+mod setup_check;
 mod setup_fault;
 mod setup_tasks;
-mod setup_test;
-mod solo_machine;
+mod solo;
 mod task_spec;
 mod texts;
 mod whole_deeds;
 pub mod whole_pull;
 pub mod whole_sleep;
 
-pub use cpu_number::{BadCpuId, CpuId};
+pub use cpu_id::{BadCpuId, CpuId};
 pub use deeds::{Answer, Deed, Line, Op};
-pub use machine_setup::Setup;
 pub use outcome::Outcome;
+pub use setup::Setup;
 pub use setup_fault::SetupFault;
 pub use setup_tasks::SetupTasks;
-pub use solo_machine::Solo;
+pub use solo::Solo;
 pub use task_spec::TaskSpec;

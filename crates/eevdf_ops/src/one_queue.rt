@@ -4,7 +4,7 @@ ghost use Rattle.std.specs.Prelude.{◌≡◌, ◌<◌, length, slice_set};
 ghost use Rattle.eevdf_ops.specs.{Machine.queue_at, Outcome.machine_of, PickTurns.ArePickTurns, PickTurns.turns_at};
 ghost use Rattle.eevdf_ops.specs.OneQueue as whole;
 
-use crate::cpu_number::CpuId;
+use crate::cpu_id::CpuId;
 use crate::deeds::Answer;
 use crate::queue_deeds;
 use eevdf_queue::{Queue, TaskId};

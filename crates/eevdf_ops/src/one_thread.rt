@@ -7,9 +7,9 @@ ghost use Rattle.eevdf_ops.specs.Machine as machine;
 ghost use Rattle.eevdf_ops.specs.{Outcome.machine_of, Places.IsPlaced, Whole.lines_of, Whole.machine_after};
 
 use crate::deeds::{Deed, Line};
-use crate::machine_setup::Setup;
 use crate::outcome::Outcome;
-use crate::solo_machine::Solo;
+use crate::setup::Setup;
+use crate::solo::Solo;
 use eevdf_queue::TaskId;
 use std::alloc::{AllocError, Global};
 

@@ -1,4 +1,4 @@
-use crate::cpu_number::CpuId;
+use crate::cpu_id::CpuId;
 use eevdf_weight::{Nice, Slice};
 
 /// A task of a setup. Its number is its place in the list of tasks.

@@ -4,7 +4,7 @@ ghost use Rattle.std.specs.Prelude.{◌≡◌, length, true};
 ghost use Rattle.eevdf_ops.specs.{Outcome.machine_of, PickTurns.HasPickTurns, Places.AreCpus, Places.IsPlaced, Setup.is_allowed};
 ghost use Rattle.eevdf_ops.specs.Whole as operation;
 
-use crate::cpu_number::CpuId;
+use crate::cpu_id::CpuId;
 use crate::deeds::{Answer, Deed};
 use crate::one_queue::{pick, renice, tick, wake, yield_now};
 use crate::whole_pull::pull;

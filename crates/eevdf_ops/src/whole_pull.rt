@@ -10,7 +10,7 @@ ghost use Rattle.eevdf_ops.specs.{Machine.queue_at, Outcome.machine_of, Places.p
 ghost use Rattle.eevdf_ops.specs.{PullOffer.offer_of, WholeSleep.task_leaves};
 ghost use Rattle.eevdf_ops.specs.WholePull as whole;
 
-use crate::cpu_number::CpuId;
+use crate::cpu_id::CpuId;
 use crate::deeds::Answer;
 use eevdf_queue::{Parcel, Queue, TaskId};
 use eevdf_weight::{Nice, Slice, weight};

@@ -5,7 +5,7 @@ ghost use Rattle.eevdf_queue.specs.Leaving.{carried_running, leave_running};
 ghost use Rattle.eevdf_ops.specs.{Machine.queue_at, Outcome.machine_of, Places.places, Places.places_in};
 ghost use Rattle.eevdf_ops.specs.WholeSleep as whole;
 
-use crate::cpu_number::CpuId;
+use crate::cpu_id::CpuId;
 use crate::deeds::Answer;
 use eevdf_queue::{Parcel, Queue, TaskId};
 

@@ -4,7 +4,7 @@ use Rattle.std.proofs.{Math.ListN.length-append, lemmas.Bool.false≢true}
 use Rattle.std.specs.Option.{option_map}
 use Rattle.std.specs.Prelude.{not, nat_lt, is_none, is_some, is_ok, is_err, if◌then◌else◌, Option, Some, None, Result, Ok, Err}
 use Rattle.eevdf_ops.specs.Setup.{Setup}
-use Rattle.eevdf_steps.specs.{declared.micro_steps.Micro.Micro, declared.step_fault.StepFault.TheVariants.NoCaller}
+use Rattle.eevdf_steps.specs.{declared.micro.Micro.Micro, declared.step_fault.StepFault.TheVariants.NoCaller}
 use Rattle.eevdf_steps.specs.{Requests.Progress, Requests.progress_by, MicroState.MicroState, MicroState.micro_by}
 use Rattle.eevdf_steps.specs.Plan.{Plan, callers, plan_of}
 use Rattle.eevdf_steps.specs.Counters.{Counters, counted, may_step, next, refused_next, step_next, unfinished}

@@ -4,7 +4,7 @@ use Rattle.std.specs.Prelude.{Option, Result, Ok, Err, IfOk}
 use Rattle.clap.specs.Words.{Text, first_of, first_value, found_of, rows_of}
 use Rattle.clap.specs.declared.parser.matches.ArgMatches.{ArgMatches}
 use Rattle.clap.proofs.WalkLemmas.{first_value-rows}
-use Rattle.eevdf_bench.specs.declared.command_words.WordFault.{WordFault}
+use Rattle.eevdf_bench.specs.declared.command.WordFault.{WordFault}
 use Rattle.eevdf_orders.specs.SeedWords.{AreRefused, IsNoNumber, IsSeedOf, ReadsAs, is_taken, value_in}
 
 -- what the words' matches say

@@ -6,7 +6,7 @@ use Rattle.std.proofs.lemmas.Int.{ints, clamps, unsigned_abs-mul}
 use Rattle.std.proofs.lemmas.Bool.Decides.{nat_tests}
 use Rattle.eevdf_weight.specs.{Limits.is_in_range, Weight.weight_of, Charge.charge_of, Placement.floor_div}
 use Rattle.eevdf_weight.proofs.Weighing.{weight_of-greatest}
-use Rattle.eevdf_queue.specs.{declared.run_entry.Entry.Entry, declared.task.Task.Task, Sums.sum_weights, Sums.sum_moments, Lag.cut}
+use Rattle.eevdf_queue.specs.{declared.entry.Entry.Entry, declared.task.Task.Task, Sums.sum_weights, Sums.sum_moments, Lag.cut}
 use Rattle.eevdf_queue.specs.{Lag.is_lag, Moves.is_entry_in_range, TaskLists.entries_of, TaskLists.AreRunnable}
 
 pub within : (v : ℤ) → is_in_range v ≡ true → unsigned_abs v ≤ 2 ^ 60

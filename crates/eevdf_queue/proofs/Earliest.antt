@@ -2,7 +2,7 @@
 use Rattle.std.proofs.Common.{◌≡◌, ◌≢◌, ℕ, ◌<◌, ◌≤◌, Bool, true, false, ◌&&◌, ◌||◌, Option, arith}
 use Rattle.std.specs.Prelude.{ℤ, int_lt, ◌<ℤ◌, ◌⊎◌, nat_lt, not}
 use Rattle.std.proofs.{lemmas.Int.ints, lemmas.Bool.Decides.nat_tests}
-use Rattle.eevdf_queue.specs.{declared.run_entry.Entry.Entry, Order.is_before}
+use Rattle.eevdf_queue.specs.{declared.entry.Entry.Entry, Order.is_before}
 use Rattle.eevdf_queue.proofs.Foremost as by
 
 abbrev test : ℤ → ℕ → ℤ → ℕ → Bool

@@ -1,7 +1,7 @@
 -- The foremost of some tasks by a comparison is the same, in whatever order they are asked.
 use Rattle.std.proofs.Common.{◌≡◌, ◌≢◌, ℕ, Bool, true, false, cond, Option, Some, None, refl, sym, ap, ◌∙◌}
 use Rattle.std.specs.Prelude.{not}
-use Rattle.eevdf_queue.specs.declared.run_entry.Entry.{Entry}
+use Rattle.eevdf_queue.specs.declared.entry.Entry.{Entry}
 
 abbrev pub foremost : (ℕ × Entry → ℕ × Entry → Bool) → ℕ × Entry → Option (ℕ × Entry) → ℕ × Entry
 foremost before a None = a

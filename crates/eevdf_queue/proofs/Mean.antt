@@ -5,7 +5,7 @@ use Rattle.std.specs.FinMap.{empty, entries, len-entries, empty_of_len, get-entr
 use Rattle.std.proofs.lemmas.Int.{ints}
 use Rattle.eevdf_weight.specs.Weight.{weight_of}
 use Rattle.eevdf_weight.proofs.Weighing.{weight_of-least}
-use Rattle.eevdf_queue.specs.{declared.run_entry.Entry.Entry, Order.earliest}
+use Rattle.eevdf_queue.specs.{declared.entry.Entry.Entry, Order.earliest}
 use Rattle.eevdf_queue.specs.Sums.{Tasks, sum_weights, sum_moments, total_weight, total_moment}
 use Rattle.eevdf_queue.specs.Pick.{Eligible, is_eligible_at, is_eligible}
 use Rattle.eevdf_queue.specs.Laws.{sum_lags, LagsBalance, SomeTaskIsEligible}

@@ -3,7 +3,7 @@ use Rattle.std.proofs.Common.{◌≡◌, ℕ, Option, Some, None, refl, sym, ap,
 use Rattle.std.specs.Prelude.{ℤ, ◌↔◌, IfSome, IsNone}
 use Rattle.std.specs.Option.{option_map}
 use Rattle.std.specs.FinMap.{empty, entries}
-use Rattle.eevdf_queue.specs.{declared.run_entry.Entry.Entry, Laws.PickIsFirst, Laws.PickOfNobody, Order.earliest}
+use Rattle.eevdf_queue.specs.{declared.entry.Entry.Entry, Laws.PickIsFirst, Laws.PickOfNobody, Order.earliest}
 use Rattle.eevdf_queue.specs.Sums.{Tasks, total_weight, total_moment}
 use Rattle.eevdf_queue.specs.Pick.{IsPick, is_eligible, is_eligible_at, pick_of}
 use Rattle.eevdf_queue.proofs.{MapFolds.entries-empty, Mean.nobody}

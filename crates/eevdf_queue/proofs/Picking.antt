@@ -6,7 +6,7 @@ use Rattle.std.specs.declared.cmp.Ordering.TheVariants.{Less, Equal, Greater}
 use Rattle.std.specs.Ordering.{nat_cmp, is_eq, is_lt, eq_by_cmp}
 use Rattle.std.specs.FinMap.{FinMap, entries, entries_sorted, find, is_sorted, get-entries}
 use Rattle.std.proofs.{lemmas.Int.ints, lemmas.Bool.Decides.nat_tests}
-use Rattle.eevdf_queue.specs.{declared.run_entry.Entry.Entry, Sums.Tasks}
+use Rattle.eevdf_queue.specs.{declared.entry.Entry.Entry, Sums.Tasks}
 use Rattle.eevdf_queue.specs.Order.{is_before, earlier, earliest}
 use Rattle.eevdf_queue.specs.Pick.{IsPick, is_eligible, pick_of}
 use Rattle.eevdf_queue.proofs.{ListMaps.same_number, MapFolds.AreDistinct, Earliest.told}

@@ -5,7 +5,7 @@ use Rattle.std.specs.{Option.option_map, Ordering.nat_cmp, Ordering.eq_by_cmp, C
 use Rattle.std.specs.FinMap.{empty, insert, get, len, entries, nat_cmp-IsAntisymmetric, len-entries, get-from_entries, get-insert, same_map}
 use Rattle.std.proofs.{lemmas.Int.ints, lemmas.Bool.Decides.nat_tests}
 use Rattle.eevdf_weight.specs.Weight.{weight_of}
-use Rattle.eevdf_queue.specs.{declared.run_entry.Entry.Entry, declared.task.Task.Task, Order.earliest, Moves.is_entry_in_range}
+use Rattle.eevdf_queue.specs.{declared.entry.Entry.Entry, declared.task.Task.Task, Order.earliest, Moves.is_entry_in_range}
 use Rattle.eevdf_queue.specs.Kept.{AreInRange}
 use Rattle.eevdf_queue.specs.Sums.{sum_weights, sum_moments, total_weight, total_moment}
 use Rattle.eevdf_queue.specs.TaskLists.{find_task, set_entry, keyed, entries_of, runnable_in, AreRunnable}

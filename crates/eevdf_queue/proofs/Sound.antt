@@ -4,7 +4,7 @@ use Rattle.std.specs.{Prelude.ℤ, Prelude.is_some, Option.option_map, Ordering.
 use Rattle.std.specs.FinMap.{FinMap, empty, insert, remove, get, contains_key, get-empty, get-insert, get-remove}
 use Rattle.std.proofs.lemmas.Bool.Decides.{nat_tests}
 use Rattle.eevdf_weight.specs.Limits.{is_in_range}
-use Rattle.eevdf_queue.specs.{declared.run_entry.Entry.Entry, Sums.Tasks}
+use Rattle.eevdf_queue.specs.{declared.entry.Entry.Entry, Sums.Tasks}
 use Rattle.eevdf_queue.specs.State.{Sleeper, Contents}
 use Rattle.eevdf_queue.specs.Leaving.{stopped, leaving_at, IsNowhere}
 use Rattle.eevdf_queue.specs.Kept.{RunnerIsHere, AreApart, IsSound}

@@ -2,7 +2,7 @@
 use Rattle.std.proofs.Common.{◌≡◌, ℕ, Bool, true, false, cond, List, Option, Some, refl, sym, ap, ◌∙◌, arith}
 use Rattle.std.specs.{Prelude.not, Option.option_map, Ordering.nat_cmp, FinMap.FinMap, FinMap.entries}
 use Rattle.std.proofs.lemmas.Int.{ints}
-use Rattle.eevdf_queue.specs.{declared.run_entry.Entry.Entry, declared.task.Task.Task, Order.is_before}
+use Rattle.eevdf_queue.specs.{declared.entry.Entry.Entry, declared.task.Task.Task, Order.is_before}
 use Rattle.eevdf_queue.specs.TaskLists.{entries_of, runnable_in, AreRunnable}
 use Rattle.eevdf_queue.specs.Candidate.{is_running, later, latest_waiting, candidate_of}
 use Rattle.eevdf_queue.proofs.{Earliest.told, Earliest.either, MapFolds.fold-from_entries, ListMaps.numbered_runnable}

@@ -2,7 +2,7 @@
 use Rattle.std.proofs.Common.{◌≡◌, ℕ, ◌<◌, Bool, true, false, cond, eqb, List, [], ◌∷◌, length, Option, Some, None, refl, sym, subst, ap, ◌∙◌}
 use Rattle.std.specs.{Prelude.ℤ, Prelude.is_some, Ordering.nat_cmp}
 use Rattle.std.specs.FinMap.{FinMap, insert, remove, get}
-use Rattle.eevdf_queue.specs.{declared.run_entry.Entry.Entry, declared.task.Task.Task, declared.tree_key.Key.Key}
+use Rattle.eevdf_queue.specs.{declared.entry.Entry.Entry, declared.task.Task.Task, declared.tree_key.Key.Key}
 use Rattle.eevdf_queue.specs.Moves.{is_entry_in_range}
 use Rattle.eevdf_queue.specs.TaskLists.{find_task, runnable_in, AreRunnable}
 use Rattle.eevdf_queue.specs.TreeTasks.{insert_task, without, IsAtDeadline}

@@ -3,7 +3,7 @@ use Rattle.std.proofs.Common.{◌≡◌, ℕ, Bool, true, false, cond, List, [],
 use Rattle.std.specs.Prelude.{◌↔◌, IfSome, IsNone, is_some}
 use Rattle.std.specs.{Option.option_map, Ordering.nat_cmp, Ordering.eq_by_cmp}
 use Rattle.std.specs.FinMap.{contains_key, entries, find, get-entries}
-use Rattle.eevdf_queue.specs.{declared.run_entry.Entry.Entry, Sums.Tasks, Order.is_before}
+use Rattle.eevdf_queue.specs.{declared.entry.Entry.Entry, Sums.Tasks, Order.is_before}
 use Rattle.eevdf_queue.specs.Candidate.{is_running, later, latest_waiting, candidate_of, IsCandidate, NoneWaits}
 use Rattle.eevdf_queue.proofs.{MapFolds.AreDistinct, Earliest.told}
 use Rattle.eevdf_queue.proofs.Picking.{distinct_entries, itself, found_by, behind, never_before, one_way, no_later, later_by}

@@ -2,7 +2,7 @@
 use Rattle.std.specs.Prelude.{◌≡◌, ℕ, ◌==◌, Bool, false, List, [], ◌∷◌, if◌then◌else◌, Option, Some, None}
 use Rattle.std.specs.Option.{option_map}
 use Rattle.std.specs.FinMap as map
-use Rattle.eevdf_queue.specs.{declared.run_entry.Entry.Entry, Sums.Tasks, Order.is_before, Pick.IsNoLater}
+use Rattle.eevdf_queue.specs.{declared.entry.Entry.Entry, Sums.Tasks, Order.is_before, Pick.IsNoLater}
 
 abbrev pub is_running : Option ℕ → ℕ → Bool
 is_running None task = false

@@ -2,7 +2,7 @@
 use Rattle.std.specs.Prelude.{ℕ, ℤ, pos, ◌+ℤ◌, Bool, ◌&&◌, if◌then◌else◌, Option, Some, None}
 use Rattle.std.specs.FinMap as map
 use Rattle.eevdf_weight.specs.{Limits.is_in_range, Weight.weight_of, Charge.charge_of}
-use Rattle.eevdf_queue.specs.declared.run_entry.Entry.{Entry}
+use Rattle.eevdf_queue.specs.declared.entry.Entry.{Entry}
 use Rattle.eevdf_queue.specs.State.{State, Sleeper, Contents}
 
 -- what one request of a task is charged

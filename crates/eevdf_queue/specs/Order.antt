@@ -1,6 +1,6 @@
 -- The order in which tasks are picked.
 use Rattle.std.specs.Prelude.{ℕ, nat_lt, Bool, ◌&&◌, ◌||◌, int_lt, not, List, [], ◌∷◌, if◌then◌else◌, Option, Some, None}
-use Rattle.eevdf_queue.specs.declared.run_entry.Entry.{Entry}
+use Rattle.eevdf_queue.specs.declared.entry.Entry.{Entry}
 
 -- earlier deadline first, then lower number
 abbrev pub is_before : ℕ × Entry → ℕ × Entry → Bool

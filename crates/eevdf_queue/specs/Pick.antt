@@ -2,7 +2,7 @@
 use Rattle.std.specs.Prelude.{◌≡◌, ℕ, ◌≤◌, ◌⊎◌, Bool, true, ℤ, pos, ◌*ℤ◌, ◌<ℤ◌, int_le, Option, Some, None}
 use Rattle.std.specs.Option.{option_map}
 use Rattle.std.specs.FinMap as map
-use Rattle.eevdf_queue.specs.{declared.run_entry.Entry.Entry, State.State, Order.earliest}
+use Rattle.eevdf_queue.specs.{declared.entry.Entry.Entry, State.State, Order.earliest}
 use Rattle.eevdf_queue.specs.Sums.{Tasks, total_weight, total_moment}
 
 -- the lag isn't negative: the virtual runtime isn't past the weighted mean, compared without rounding

@@ -3,7 +3,7 @@ use Rattle.std.specs.Prelude.{ℕ, ◌+◌, ◌==◌, ℤ, pos, ◌+ℤ◌, ◌*
 use Rattle.std.specs.Ordering.{nat_cmp}
 use Rattle.std.specs.FinMap as map
 use Rattle.eevdf_weight.specs.{Weight.weight_of, Placement.floor_div}
-use Rattle.eevdf_queue.specs.{declared.run_entry.Entry.Entry, State.State}
+use Rattle.eevdf_queue.specs.{declared.entry.Entry.Entry, State.State}
 
 -- runnable tasks by number
 abbrev pub Tasks : Type 0

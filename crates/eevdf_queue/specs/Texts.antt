@@ -1,7 +1,7 @@
 -- The texts of entries and answers.
 use Rattle.std.specs.Prelude.{ℕ, Bool, true, false, List, [], ◌++◌, codes, decimal}
 use Rattle.std.specs.Fmt.{signed_decimal}
-use Rattle.eevdf_queue.specs.{declared.run_entry.Entry.Entry, declared.answers.TickAnswer.TickAnswer}
+use Rattle.eevdf_queue.specs.{declared.entry.Entry.Entry, declared.answers.TickAnswer.TickAnswer}
 use Rattle.eevdf_queue.specs.{declared.answers.YieldAnswer.YieldAnswer, declared.answers.WakeAnswer.WakeAnswer}
 use Rattle.eevdf_queue.specs.{declared.answers.ReniceAnswer.ReniceAnswer, declared.refusal.Refusal.Refusal}
 use Rattle.eevdf_queue.specs.declared.answers.TickAnswer.TheVariants as tick

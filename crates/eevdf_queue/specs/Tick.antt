@@ -2,7 +2,7 @@
 use Rattle.std.specs.Prelude.{ℕ, ℤ, pos, ◌+ℤ◌, Bool, int_le, if◌then◌else◌, Option, Some, None}
 use Rattle.std.specs.FinMap as map
 use Rattle.eevdf_weight.specs.{Weight.weight_of, Charge.charge_of}
-use Rattle.eevdf_queue.specs.{declared.run_entry.Entry.Entry, declared.answers.TickAnswer.TickAnswer, State.State}
+use Rattle.eevdf_queue.specs.{declared.entry.Entry.Entry, declared.answers.TickAnswer.TickAnswer, State.State}
 use Rattle.eevdf_queue.specs.{Moves.fresh_entry, Moves.is_entry_in_range}
 use Rattle.eevdf_queue.specs.declared.answers.TickAnswer.TheVariants.{Charged, Idle, Range}
 

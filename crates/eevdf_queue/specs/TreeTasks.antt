@@ -1,6 +1,6 @@
 -- Lists of tasks by key: the deadline first, then the number.
 use Rattle.std.specs.Prelude.{◌≡◌, ℕ, ◌==◌, ◌≤◌, ℤ, Bool, true, List, [], ◌∷◌, length, if◌then◌else◌, Option, Some, None}
-use Rattle.eevdf_queue.specs.{declared.run_entry.Entry.Entry, declared.task.Task.Task, Order.is_before, Candidate.is_running}
+use Rattle.eevdf_queue.specs.{declared.entry.Entry.Entry, declared.task.Task.Task, Order.is_before, Candidate.is_running}
 
 -- the earlier key
 abbrev pub precedes : Task → Task → Bool

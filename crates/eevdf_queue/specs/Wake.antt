@@ -1,7 +1,7 @@
 -- A wake: a task that sleeps here becomes runnable with the lag that it kept.
 use Rattle.std.specs.Prelude.{ℕ, Option, Some, None}
 use Rattle.std.specs.FinMap as map
-use Rattle.eevdf_queue.specs.{declared.run_entry.Entry.Entry, declared.answers.WakeAnswer.WakeAnswer, State.State, State.Sleeper}
+use Rattle.eevdf_queue.specs.{declared.entry.Entry.Entry, declared.answers.WakeAnswer.WakeAnswer, State.State, State.Sleeper}
 use Rattle.eevdf_queue.specs.Placing.{placed_entry}
 use Rattle.eevdf_queue.specs.declared.answers.WakeAnswer.TheVariants.{Woken, Awake, Range}
 

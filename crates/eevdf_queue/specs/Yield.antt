@@ -2,7 +2,7 @@
 use Rattle.std.specs.Prelude.{ℕ, pos, ◌+ℤ◌, if◌then◌else◌, Option, Some, None}
 use Rattle.std.specs.FinMap as map
 use Rattle.eevdf_weight.specs.Limits.{is_in_range}
-use Rattle.eevdf_queue.specs.{declared.run_entry.Entry.Entry, declared.answers.YieldAnswer.YieldAnswer, State.State}
+use Rattle.eevdf_queue.specs.{declared.entry.Entry.Entry, declared.answers.YieldAnswer.YieldAnswer, State.State}
 use Rattle.eevdf_queue.specs.Moves.{request_of}
 use Rattle.eevdf_queue.specs.declared.answers.YieldAnswer.TheVariants.{Yielded, Idle, Range}
 

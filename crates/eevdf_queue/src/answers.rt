@@ -1,4 +1,4 @@
-use crate::task_number::TaskId;
+use crate::task_id::TaskId;
 use std::fmt;
 
 /// What a tick answers.

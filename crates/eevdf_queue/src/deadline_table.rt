@@ -2,7 +2,7 @@ ghost use Rattle.std.specs.Prelude.{◌≡◌, ℕ, ◌==◌, ◌<◌, if◌then
 ghost use Rattle.eevdf_queue.specs.TreeStores.{deadline_at};
 
 use crate::task::Task;
-use crate::task_number::TaskId;
+use crate::task_id::TaskId;
 use crate::tree_key::Key;
 use std::marker::Model;
 

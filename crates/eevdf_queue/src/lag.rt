@@ -6,7 +6,7 @@ ghost use Rattle.eevdf_weight.specs.Limits as limits;
 ghost use Rattle.eevdf_queue.specs.Lag as lags;
 ghost use Rattle.eevdf_queue.specs.Renice as renices;
 
-use crate::run_entry::Entry;
+use crate::entry::Entry;
 use eevdf_weight::{Nice, lag_limit, weight};
 
 /// The virtual time less the task's virtual runtime, cut to plus or minus the limit of the task.

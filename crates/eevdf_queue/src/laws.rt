@@ -3,7 +3,7 @@
 ghost use Rattle.eevdf_queue.specs.Laws.{AreSumsSmall, LagsBalance, PickIsFirst, PickOfNobody, SomeTaskIsEligible};
 ghost use Rattle.eevdf_queue.specs.Kept.{IsKept};
 
-use crate::run_queue::Queue;
+use crate::queue::Queue;
 
 /// The weighted lags of the runnable tasks add up to 0: the sum of `w * (S - v * W)` over them, where `W` is
 /// the sum of their weights and `S` the sum of `w * v`.

@@ -1,8 +1,8 @@
 ghost use Rattle.std.specs.Prelude.{◌≡◌, true, false};
 
-use crate::run_entry::Entry;
+use crate::entry::Entry;
 use crate::task::Task;
-use crate::task_number::TaskId;
+use crate::task_id::TaskId;
 use crate::tree_key::Key;
 use eevdf_weight::{Nice, Slice};
 

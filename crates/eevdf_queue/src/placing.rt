@@ -5,8 +5,8 @@ ghost use Rattle.eevdf_weight.specs.Limits as limits;
 ghost use Rattle.eevdf_weight.specs.Placement.{within_range};
 ghost use Rattle.eevdf_queue.specs.{Lag.is_lag, Moves.entry_in_range, Moves.fresh_entry, Placing.runtime_of, Placing.IsRoomy};
 
+use crate::entry::Entry;
 use crate::request::started;
-use crate::run_entry::Entry;
 use crate::totals::Totals;
 use eevdf_weight::{Nice, Slice, placed, weight};
 

@@ -9,11 +9,11 @@ ghost use Rattle.eevdf_queue.specs.Renice as renices;
 ghost use Rattle.eevdf_queue.specs.Sums as sums;
 
 use crate::answers::ReniceAnswer;
+use crate::entry::Entry;
 use crate::lag::{kept_lag, rescaled_lag};
 use crate::placing::{Newcomer, placed_entry};
-use crate::run_entry::Entry;
-use crate::run_queue::Queue;
-use crate::task_number::TaskId;
+use crate::queue::Queue;
+use crate::task_id::TaskId;
 use crate::totals::{Totals, time_over};
 use eevdf_weight::Nice;
 

@@ -9,13 +9,13 @@ ghost use Rattle.eevdf_queue.specs.Wake as wakes;
 ghost use Rattle.eevdf_queue.specs.Leaving.{carried, leave, carried_running, leave_running, carried_asleep, leave_asleep, nobody_runs, IsNowhere};
 
 use crate::answers::WakeAnswer;
+use crate::entry::Entry;
+use crate::parcel::Parcel;
 use crate::placing::{Newcomer, is_roomy, placed_entry};
+use crate::queue::Queue;
 use crate::request::started;
-use crate::run_entry::Entry;
-use crate::run_queue::Queue;
 use crate::running::{is_running, stopped};
-use crate::task_number::TaskId;
-use crate::task_parcel::Parcel;
+use crate::task_id::TaskId;
 use eevdf_weight::{Nice, Slice};
 
 impl Queue {

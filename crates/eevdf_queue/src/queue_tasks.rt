@@ -5,9 +5,9 @@ ghost use Rattle.std.specs.FinMap as finite;
 ghost use Rattle.std.specs.Iterator.{YieldsFirst, item_count};
 ghost use Rattle.eevdf_queue.specs.Ascending.{from_number, runnable_tasks, sleeping_tasks, with_lag};
 
-use crate::run_entry::Entry;
-use crate::run_queue::Queue;
-use crate::task_number::TaskId;
+use crate::entry::Entry;
+use crate::queue::Queue;
+use crate::task_id::TaskId;
 use std::marker::Model;
 
 /// Goes over the runnable tasks of a queue, with their entries. Contracts see what is left.
@@ -19,7 +19,7 @@ pub struct Runnable<'a> {
 
 impl<'a> Model for Runnable<'a> {
     ghost use Rattle.std.specs.Prelude.{ℕ, List};
-    ghost use Rattle.eevdf_queue.specs.{declared.run_entry.Entry.Entry, Ascending.from_number, Ascending.runnable_tasks};
+    ghost use Rattle.eevdf_queue.specs.{declared.entry.Entry.Entry, Ascending.from_number, Ascending.runnable_tasks};
 
     ghost Value = { List (ℕ × Entry) };
 

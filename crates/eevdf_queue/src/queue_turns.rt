@@ -9,10 +9,10 @@ ghost use Rattle.eevdf_queue.specs.Tick as ticks;
 ghost use Rattle.eevdf_queue.specs.Yield as yields;
 
 use crate::answers::{TickAnswer, YieldAnswer};
+use crate::entry::Entry;
+use crate::queue::Queue;
 use crate::request::{charged, is_deadline_in_range, is_entry_in_range, yielded};
-use crate::run_entry::Entry;
-use crate::run_queue::Queue;
-use crate::task_number::TaskId;
+use crate::task_id::TaskId;
 use eevdf_weight::Ns;
 
 /// The task that runs, with its entry.

@@ -1,6 +1,6 @@
 ghost use Rattle.std.specs.Prelude.{◌≡◌};
 
-use crate::task_parcel::Parcel;
+use crate::parcel::Parcel;
 use std::error::Error;
 use std::fmt;
 

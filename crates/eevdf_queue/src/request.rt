@@ -8,7 +8,7 @@ ghost use Rattle.eevdf_queue.specs.Moves as moves;
 ghost use Rattle.eevdf_queue.specs.Tick as ticks;
 ghost use Rattle.eevdf_queue.specs.Yield as yields;
 
-use crate::run_entry::Entry;
+use crate::entry::Entry;
 use eevdf_weight::{Ns, charge, is_in_range, weight};
 
 /// An entry after a tick, and whether it has got a fresh request.

@@ -10,11 +10,11 @@ ghost use Rattle.eevdf_queue.specs.Pick.{IsPick, is_eligible_at, pick_of};
 ghost use Rattle.eevdf_queue.specs.TaskLists.{first_task, find_task, contents_of};
 
 use crate::deadline_table::DeadlineTable;
+use crate::entry::Entry;
 use crate::lag::kept_lag;
+use crate::parcel::Parcel;
 use crate::picked_task::PickedTask;
-use crate::run_entry::Entry;
-use crate::task_number::TaskId;
-use crate::task_parcel::Parcel;
+use crate::task_id::TaskId;
 use crate::task_tree::TaskTree;
 use crate::totals::Totals;
 use crate::totals_edit::{exchanged, share, with_share, without_share};
@@ -41,7 +41,7 @@ pub struct Pick {
 impl Model for RunnableTasks {
     ghost use Rattle.std.specs.{Ordering.nat_cmp, Coded.coded_ℕ};
     ghost use Rattle.std.specs.FinMap as map;
-    ghost use Rattle.eevdf_queue.specs.{declared.run_entry.Entry.Entry, Codes.entry_code};
+    ghost use Rattle.eevdf_queue.specs.{declared.entry.Entry.Entry, Codes.entry_code};
 
     ghost Value = { map.FinMap nat_cmp Entry };
 

@@ -4,7 +4,7 @@ ghost use Rattle.std.specs.Prelude.{◌≡◌};
 ghost use Rattle.eevdf_queue.specs.Candidate as candidate;
 ghost use Rattle.eevdf_queue.specs.Leaving as leaving;
 
-use crate::task_number::TaskId;
+use crate::task_id::TaskId;
 
 /// Whether this number is the running task's.
 pub fn is_running(running: &Option<TaskId>, number: TaskId) -> bool

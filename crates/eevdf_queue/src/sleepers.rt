@@ -4,10 +4,10 @@ ghost use Rattle.std.specs.FinMap as map;
 ghost use Rattle.eevdf_queue.specs.{Lag.sleeping_lag, Placing.sleeper_from, Moves.sleeper_of, Kept.AreLimited, Slots.slot_at};
 ghost use Rattle.eevdf_queue.specs.Slots.{IsWith};
 
+use crate::parcel::Parcel;
 use crate::placing::Newcomer;
 use crate::task::newcomer;
-use crate::task_number::TaskId;
-use crate::task_parcel::Parcel;
+use crate::task_id::TaskId;
 use crate::tree_node::TreeNode;
 use std::array;
 use std::marker::Model;

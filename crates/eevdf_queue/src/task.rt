@@ -1,9 +1,9 @@
 ghost use Rattle.std.specs.Prelude.{◌≡◌};
 ghost use Rattle.eevdf_queue.specs.{TaskLists.sleeper_in, Placing.sleeper_from};
 
+use crate::entry::Entry;
 use crate::placing::Newcomer;
-use crate::run_entry::Entry;
-use crate::task_number::TaskId;
+use crate::task_id::TaskId;
 
 /// What a node carries of its task: `entry` while it is runnable, `lag` while it sleeps. In a parcel the
 /// start is the entry's virtual runtime.

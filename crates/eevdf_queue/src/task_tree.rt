@@ -5,9 +5,9 @@ ghost use Rattle.eevdf_queue.specs.{Order.earliest, Pick.is_eligible_at, Candida
 ghost use Rattle.eevdf_queue.specs.TreeShape.{IsFull};
 ghost use Rattle.eevdf_queue.specs.TreeTasks.{IsAtDeadline, insert_task, without, first_that};
 
-use crate::run_entry::Entry;
+use crate::entry::Entry;
 use crate::task::Task;
-use crate::task_number::TaskId;
+use crate::task_id::TaskId;
 use crate::tree_eligible::Threshold;
 use crate::tree_key::Key;
 use crate::tree_least::Least;

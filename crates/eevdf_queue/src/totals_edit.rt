@@ -3,7 +3,7 @@
 ghost use Rattle.std.specs.Prelude.{◌≡◌, ◌+◌, ◌*◌, ◌≤◌, ◌^◌, pos, ◌+ℤ◌, ◌*ℤ◌, unsigned_abs};
 ghost use Rattle.eevdf_weight.specs.Weight.{weight_of};
 
-use crate::run_entry::Entry;
+use crate::entry::Entry;
 use crate::totals::Totals;
 use eevdf_weight::weight;
 

@@ -2,9 +2,9 @@ ghost use Rattle.std.specs.Prelude.{◌≡◌, ◌↔◌, IsTrue};
 ghost use Rattle.eevdf_queue.specs.TreeKeys as keys;
 ghost use Rattle.eevdf_queue.specs.TreeTasks as ordering;
 
-use crate::run_entry::Entry;
+use crate::entry::Entry;
 use crate::task::Task;
-use crate::task_number::TaskId;
+use crate::task_id::TaskId;
 
 /// What places a task in a tree: the deadline, then the number.
 #[derive(Clone, Copy)]

@@ -1,7 +1,7 @@
 ghost use Rattle.std.specs.Prelude.{◌≡◌, [], ◌∷◌, pos, ◌≤ℤ◌, ◌<ℤ◌, true};
 ghost use Rattle.eevdf_queue.specs.TreeLeast.{least_of, lesser, AreLow};
 
-use crate::run_entry::Entry;
+use crate::entry::Entry;
 use crate::task::Task;
 
 /// The least virtual runtime of some tasks.

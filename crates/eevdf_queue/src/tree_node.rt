@@ -11,10 +11,10 @@ ghost use Rattle.eevdf_queue.specs.TreeShape.{tasks_in, height_in, depths_in, Di
 mod node_parts;
 mod tree_edit;
 
-use crate::run_entry::Entry;
+use crate::entry::Entry;
 use crate::running::is_running;
 use crate::task::Task;
-use crate::task_number::TaskId;
+use crate::task_id::TaskId;
 use crate::tree_eligible::{Threshold, is_least_eligible, is_task_eligible};
 use crate::tree_key::Key;
 use crate::tree_least::Least;

@@ -4,9 +4,9 @@ ghost use Rattle.std.specs.Prelude.{◌≡◌, Ok, Err, MatchResult};
 ghost use Rattle.eevdf_queue.specs.Moves as moves;
 ghost use Rattle.eevdf_queue.specs.{Placing.put, Trying.tried};
 
+use crate::parcel::Parcel;
+use crate::queue::Queue;
 use crate::refusal::{Refusal, Refused};
-use crate::run_queue::Queue;
-use crate::task_parcel::Parcel;
 
 impl Queue {
     /// Makes a task runnable at the start of its parcel, with a fresh request, as `admit` does. Where the task is here

@@ -5,12 +5,12 @@
 //! public functions, since the lines of faults have them too.
 #![tactic(auto)]
 
+mod schedules;
 mod text_deeds;
 mod text_lines;
 mod text_numbers;
 mod text_queue;
 mod text_report;
-mod text_schedules;
 mod text_tasks;
 
 pub use text_numbers::{push_number, push_task};

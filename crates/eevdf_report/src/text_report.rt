@@ -2,9 +2,9 @@ ghost use Rattle.std.specs.Prelude.{◌≡◌, ◌++◌, ◌<◌, length, IfOk, 
 ghost use Rattle.eevdf_ops.specs.Outcome.{machine_of};
 ghost use Rattle.eevdf_report.specs.TextReport.{cpu_text, cpus_text, left_of, history_text, report_text, schedule_of};
 
+use crate::schedules::Schedules;
 use crate::text_lines::{push_cpu_line, push_left, push_script};
 use crate::text_queue::push_queue;
-use crate::text_schedules::Schedules;
 use eevdf_ops::{Line, Outcome};
 use std::alloc::{AllocError, Global};
 

@@ -2,7 +2,7 @@
 use Rattle.std.proofs.Common.{◌≡◌, ℕ, Bool, true, false, cond, ◌||◌, List, [], ◌∷◌, set, refl, sym, ap, subst, ◌∙◌}
 use Rattle.std.specs.Prelude.{◌==◌, Option, Some, None, Result, Ok, Err}
 use Rattle.std.specs.{Option.unwrap_or, FinMap.contains_key}
-use Rattle.eevdf_queue.specs.{declared.run_entry.Entry.Entry, State.State, State.Contents, State.Sleeper, Placing.placed_entry}
+use Rattle.eevdf_queue.specs.{declared.entry.Entry.Entry, State.State, State.Contents, State.Sleeper, Placing.placed_entry}
 use Rattle.eevdf_queue.specs.{Moves.put_asleep, Moves.sleeper_of, Moves.with_runnable, Wake.wake_sleeper, Wake.wake_to}
 use Rattle.eevdf_queue.specs.Leaving.{carried_running, leave, without_entry}
 use Rattle.eevdf_ops.specs.declared.deeds.{Answer.Answer, Deed.Deed, Line.Line}

@@ -9,9 +9,9 @@ use Rattle.eevdf_ops.specs.{Machine.Machine, Machine.queue_at, Whole.whole, Prog
 use Rattle.eevdf_ops.specs.Parts.{after_leaving, decider, given, giver, only_at, taker, touches}
 use Rattle.eevdf_ops.specs.PartsLaws as laws
 use Rattle.eevdf_ops.proofs.PartsProofs.{touched_decide}
-use Rattle.eevdf_steps.specs.declared.{micro_steps.Micro.Micro, program_plan.Step.Step}
+use Rattle.eevdf_steps.specs.declared.{micro.Micro.Micro, plan.Step.Step}
 use Rattle.eevdf_steps.specs.{Plan.Plan, Plan.callers, Plan.home, Serial.begun_by}
-use Rattle.eevdf_steps.specs.declared.micro_steps.Micro.TheVariants.{Attach, Commit, Post}
+use Rattle.eevdf_steps.specs.declared.micro.Micro.TheVariants.{Attach, Commit, Post}
 use Rattle.eevdf_steps.specs.Counters.{Counters, counted, holds, step_next}
 use Rattle.eevdf_steps.specs.UnderWay.{UnderWay, begun, hand_seen, leaves, leaving, queue_seen, under_way, under_way_before}
 use Rattle.eevdf_steps.proofs.Holders.{same_number}

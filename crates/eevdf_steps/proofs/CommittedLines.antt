@@ -3,7 +3,7 @@ use Rattle.std.specs.Prelude.{◌≡◌, ℕ, ◌<◌, ◌==◌, List, [], ◌++
 use Rattle.std.specs.Option.{option_to_list}
 use Rattle.eevdf_ops.specs.declared.deeds.Line.{Line}
 use Rattle.eevdf_ops.specs.Programs.{FitsProgram, lines_by, wakes_from}
-use Rattle.eevdf_steps.specs.declared.{micro_steps.Micro.Micro, micro_steps.Micro.TheVariants.Settle}
+use Rattle.eevdf_steps.specs.declared.{micro.Micro.Micro, micro.Micro.TheVariants.Settle}
 use Rattle.eevdf_steps.specs.{Plan.Plan, Plan.callers, Plan.program, Counters.next}
 use Rattle.eevdf_steps.specs.Requests.{Progress, found_by, left, posted}
 

@@ -8,9 +8,9 @@ use Rattle.eevdf_ops.specs.declared.deeds.{Op.Op, Deed.Deed, Line.Line}
 use Rattle.eevdf_ops.specs.declared.deeds.Op.TheVariants as op
 use Rattle.eevdf_ops.specs.Parts.{decider}
 use Rattle.eevdf_ops.specs.Programs.{deed_of, deeds_by, deeds_of, lines_by}
-use Rattle.eevdf_steps.specs.{declared.micro_steps.Micro.Micro, declared.program_plan.Step.Step, Plan.Plan, Plan.callers}
+use Rattle.eevdf_steps.specs.{declared.micro.Micro.Micro, declared.plan.Step.Step, Plan.Plan, Plan.callers}
 use Rattle.eevdf_steps.specs.{Plan.program, MicroSteps.steps_by, Orders.counters_at_start, Orders.order_fault}
-use Rattle.eevdf_steps.specs.declared.micro_steps.Micro.TheVariants.{Commit, Settle, Post}
+use Rattle.eevdf_steps.specs.declared.micro.Micro.TheVariants.{Commit, Settle, Post}
 use Rattle.eevdf_steps.specs.Counters.{Counters, count_of, counted, step_next, unfinished}
 use Rattle.eevdf_steps.specs.Requests.{Progress, found_by, progress_after, progress_at_start, progress_by, progress_step}
 use Rattle.eevdf_steps.specs.Commits.{commits, committed, committed_by, wake_of}

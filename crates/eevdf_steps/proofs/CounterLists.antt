@@ -2,7 +2,7 @@
 use Rattle.std.proofs.Common.{◌≡◌, ℕ, zero, suc, ◌+◌, ◌<◌, List, [], ◌∷◌, ◌++◌, length, get_or, set, replicate, inl, inr, sym, ap, subst, ◌∙◌, arith, refl}
 use Rattle.std.proofs.{Math.ListN.length-append, Math.ListN.length-set, lemmas.Bool.cases_lt}
 use Rattle.std.proofs.lemmas.List.{get_or_append_left, get_or_push, get_or-set_other, get_or-set_same}
-use Rattle.eevdf_steps.specs.{declared.program_plan.Position.Position, Plan.Plan, MicroSteps.steps_by, Callers.BeginAll}
+use Rattle.eevdf_steps.specs.{declared.plan.Position.Position, Plan.Plan, MicroSteps.steps_by, Callers.BeginAll}
 use Rattle.eevdf_steps.specs.Counters.{Counters, count_of, counted, step_next}
 use Rattle.std.specs.Prelude.{slice_get}
 use Rattle.eevdf_steps.specs.Positions.{ArePositions, IsPosition, counter_at, counters_at}

@@ -1,8 +1,8 @@
 -- The micro-steps of a drain by their places.
 use Rattle.std.proofs.Common.{◌≡◌, ℕ, zero, suc, ◌+◌, ◌*◌, ◌<◌, List, [], ◌∷◌, ◌++◌, ap, ◌∙◌, arith}
 use Rattle.std.specs.Prelude.{slice_get, Some, None}
-use Rattle.eevdf_steps.specs.{declared.micro_steps.Micro.Micro, MicroSteps.draining, MicroSteps.under_lock}
-use Rattle.eevdf_steps.specs.declared.micro_steps.Micro.TheVariants.{Take, Settle, Release}
+use Rattle.eevdf_steps.specs.{declared.micro.Micro.Micro, MicroSteps.draining, MicroSteps.under_lock}
+use Rattle.eevdf_steps.specs.declared.micro.Micro.TheVariants.{Take, Settle, Release}
 
 -- a place that is given by an equation
 at_place : (xs : List Micro) (k l : ℕ) → k ≡ l → slice_get xs k ≡ slice_get xs l

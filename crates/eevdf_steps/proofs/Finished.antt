@@ -4,7 +4,7 @@ use Rattle.std.proofs.lemmas.Bool.{cases_lt}
 use Rattle.std.specs.Prelude.{MatchOption, Option, None}
 use Rattle.eevdf_ops.specs.{declared.deeds.Line.Line, Histories.machine_told, Programs.deeds_of}
 use Rattle.eevdf_ops.proofs.PartsProofs.{same_machine}
-use Rattle.eevdf_steps.specs.declared.program_plan.Step.{Step}
+use Rattle.eevdf_steps.specs.declared.plan.Step.{Step}
 use Rattle.eevdf_steps.specs.{Plan.IsSound, Plan.Plan, Plan.callers, Work.Work, Serial.IsFree, Serial.IsSerial}
 use Rattle.eevdf_steps.specs.Counters.{Counters, counted, step_next, unfinished}
 use Rattle.eevdf_steps.proofs.{Holders.nobody_past, LawfulOrders.done_by_all, OwnCommits.length-machine_after}

@@ -5,7 +5,7 @@ use Rattle.std.proofs.Math.{Nat.mul-le-mul_right, Seq.drop-nil, Seq.take-nil}
 use Rattle.std.specs.Prelude.{Option, Some, None}
 use Rattle.eevdf_ops.specs.{declared.deeds.Op.Op, Followed.FollowsPrograms, Followed.left_of, Outcome.Outcome, Setup.Setup}
 use Rattle.eevdf_ops.specs.Programs.{deeds_of, lines_by, wakes_from}
-use Rattle.eevdf_steps.specs.{declared.program_plan.Step.Step, MicroSteps.steps_of, Counters.Counters, Counters.count_of}
+use Rattle.eevdf_steps.specs.{declared.plan.Step.Step, MicroSteps.steps_of, Counters.Counters, Counters.count_of}
 use Rattle.eevdf_steps.specs.{Counters.step_next, Commits.commits, Orders.counters_at_start, Orders.order_fault, Plays.IsOutcome}
 use Rattle.eevdf_steps.specs.Plan.{IsSound, Plan, callers, pair, plan_of}
 use Rattle.eevdf_steps.specs.Requests.{Progress, left, posted, posts_to, progress_after, progress_at_start, progress_by, progress_step, taken_of}

@@ -5,8 +5,8 @@ use Rattle.std.proofs.lemmas.List.{get_or-set_same, get_or-set_other, get_or_def
 use Rattle.std.proofs.Math.{ListN.length-set, ListN.length-replicate, Seq.take-append_seam}
 use Rattle.std.specs.Prelude.{slice_get, nat_lt, ◌==◌, Option, Some, None}
 use Rattle.eevdf_ops.specs.declared.deeds.Op.{Op}
-use Rattle.eevdf_steps.specs.declared.{micro_steps.Micro.Micro, program_plan.Step.Step}
-use Rattle.eevdf_steps.specs.declared.micro_steps.Micro.TheVariants.{Acquire, Release}
+use Rattle.eevdf_steps.specs.declared.{micro.Micro.Micro, plan.Step.Step}
+use Rattle.eevdf_steps.specs.declared.micro.Micro.TheVariants.{Acquire, Release}
 use Rattle.eevdf_steps.specs.{Plan.Plan, Plan.callers, Plan.is_sound_op, MicroSteps.steps_by, MicroSteps.steps_of}
 use Rattle.eevdf_steps.specs.{Orders.counters_at_start, SoundSteps.is_sound_micro, SoundSteps.is_sound_step}
 use Rattle.eevdf_steps.specs.Counters.{Counters, blocked_by, count_of, counted, held_after, held_by_steps, holder, holds, least, refused, step_next}

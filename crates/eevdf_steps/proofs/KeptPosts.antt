@@ -4,7 +4,7 @@ use Rattle.std.proofs.{Math.ListN.length-replicate, lemmas.Grind.flat_map-append
 use Rattle.std.specs.{Prelude.Option, Prelude.None, Option.option_map}
 use Rattle.eevdf_ops.specs.declared.deeds.{Deed.Deed, Line.Line}
 use Rattle.eevdf_ops.specs.Programs.{deeds_by, deeds_of, lines_by, wake_from, wakes_from, wakes_in}
-use Rattle.eevdf_steps.specs.{declared.program_plan.Step.Step, MicroSteps.steps_by, Counters.next, Counters.step_next}
+use Rattle.eevdf_steps.specs.{declared.plan.Step.Step, MicroSteps.steps_by, Counters.next, Counters.step_next}
 use Rattle.eevdf_steps.specs.{Commits.commits, Commits.committed_by, Orders.counters_at_start, Orders.order_fault}
 use Rattle.eevdf_steps.specs.Plan.{IsSound, Plan, callers, pair}
 use Rattle.eevdf_steps.specs.Requests.{Progress, found_by, left, posted, posts_to, progress_after, progress_at_start, progress_step, taken_of}

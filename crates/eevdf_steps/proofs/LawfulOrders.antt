@@ -4,7 +4,7 @@ use Rattle.std.proofs.Math.ListN.{length-set}
 use Rattle.std.proofs.lemmas.{Bool.cases_lt, Bool.false≢true, Bool.Decides.nat_tests, Option.none-some}
 use Rattle.std.specs.Prelude.{nat_lt, is_none, is_some, Option, Some, None}
 use Rattle.std.specs.Option.{option_map}
-use Rattle.eevdf_steps.specs.declared.{program_plan.Step.Step, step_fault.StepFault.StepFault, play_fault.PlayFault.PlayFault}
+use Rattle.eevdf_steps.specs.declared.{plan.Step.Step, step_fault.StepFault.StepFault, play_fault.PlayFault.PlayFault}
 use Rattle.eevdf_steps.specs.declared.step_fault.StepFault.TheVariants.{NoCaller, Done}
 use Rattle.eevdf_steps.specs.declared.play_fault.PlayFault.TheVariants.{Short, TooLong}
 use Rattle.eevdf_steps.specs.Plan.{Plan, callers}

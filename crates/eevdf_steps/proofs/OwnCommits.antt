@@ -9,7 +9,7 @@ use Rattle.eevdf_ops.specs.declared.deeds.Deed.TheVariants as deed
 use Rattle.eevdf_ops.specs.{Machine.Machine, Machine.queue_at, OneQueue.one_wake, Programs.deed_of, Programs.deeds_of}
 use Rattle.eevdf_ops.specs.{Whole.lines_of, Whole.machine_after, Whole.whole, Histories.AreHistory, Histories.machine_told}
 use Rattle.eevdf_ops.proofs.{LocalParts.others_stay, MachinePlaces.other_queue, WholePlaces.length-whole}
-use Rattle.eevdf_steps.specs.declared.micro_steps.Micro.TheVariants.{Commit, Settle}
+use Rattle.eevdf_steps.specs.declared.micro.Micro.TheVariants.{Commit, Settle}
 use Rattle.eevdf_steps.specs.{Plan.Plan, Work.Work, Work.answer, Work.woken, Serial.begun_by}
 use Rattle.eevdf_steps.specs.Counters.{Counters, counted, holds, step_next}
 use Rattle.eevdf_steps.specs.UnderWay.{KeepsAnswer, UnderWay, begun, hand_seen, queue_seen}

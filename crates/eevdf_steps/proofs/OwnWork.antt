@@ -14,7 +14,7 @@ use Rattle.eevdf_ops.specs.PartsLaws as laws
 use Rattle.eevdf_ops.specs.WholePull.{load_of, offer, pull_decided, with_task}
 use Rattle.eevdf_ops.proofs.LocalParts.{changed, idle, untaken, whole-after}
 use Rattle.eevdf_ops.proofs.{MachinePlaces.other_queue, Pulling.decided_at, Pulling.decision-taken}
-use Rattle.eevdf_steps.specs.declared.micro_steps.Micro.TheVariants.{Act, Detach, Attach}
+use Rattle.eevdf_steps.specs.declared.micro.Micro.TheVariants.{Act, Detach, Attach}
 use Rattle.eevdf_steps.specs.{Plan.Plan, Plan.callers, Plan.home, Counters.Counters, Counters.counted, Counters.holds}
 use Rattle.eevdf_steps.specs.Serial.{begun_by}
 use Rattle.eevdf_steps.specs.Work.{Work, acted, answer, answered, attach_asleep, attach_pulled, detach_pulled, detach_running, detached, hand, put_down}

@@ -4,7 +4,7 @@ use Rattle.std.proofs.{Math.ListN.length-set, Math.ListN.length-append, lemmas.L
 use Rattle.std.specs.Prelude.{nat_lt, Option, Some, None}
 use Rattle.eevdf_ops.specs.declared.deeds.{Op.Op, Deed.Deed, Line.Line}
 use Rattle.eevdf_ops.specs.declared.deeds.Op.TheVariants as op
-use Rattle.eevdf_steps.specs.declared.program_plan.Step.{Step}
+use Rattle.eevdf_steps.specs.declared.plan.Step.{Step}
 use Rattle.eevdf_steps.specs.{Commits.committed, Commits.committed_by, Callers.Callers, SoundSteps.is_sound_micro}
 use Rattle.eevdf_steps.specs.{Requests.Progress, Room.lines_to_come, Work.hand, Work.pulls_from, Journals.noted}
 use Rattle.eevdf_steps.specs.{Recorded.Recorded, Working.IsWorking, Players.Player, Players.player_step, Serial.IsSerial}

@@ -6,8 +6,8 @@ use Rattle.std.specs.Option.{option_map}
 use Rattle.std.specs.Prelude.{slice_get, ◌==◌, Option, Some, None}
 use Rattle.eevdf_ops.specs.{declared.deeds.Op.Op, Numbers.most_cpus}
 use Rattle.eevdf_ops.specs.declared.deeds.Op.TheVariants as op
-use Rattle.eevdf_steps.specs.declared.{micro_steps.Micro.Micro, micro_steps.Micro.TheVariants.Release, program_plan.Step.Step}
-use Rattle.eevdf_steps.specs.{declared.program_plan.Position.Position, Positions.IsPosition, Positions.is_within}
+use Rattle.eevdf_steps.specs.declared.{micro.Micro.Micro, micro.Micro.TheVariants.Release, plan.Step.Step}
+use Rattle.eevdf_steps.specs.{declared.plan.Position.Position, Positions.IsPosition, Positions.is_within}
 use Rattle.eevdf_steps.specs.Plan.{Plan, callers, home, program}
 use Rattle.eevdf_steps.specs.MicroSteps.{draining, micros_of, moving, steps_of, under_lock, under_locks}
 use Rattle.eevdf_steps.proofs.Lists.{get_left, get_right, got_past, got_within, lt_true, true_lt, true_eq}

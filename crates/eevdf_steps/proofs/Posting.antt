@@ -3,8 +3,8 @@ use Rattle.std.proofs.Common.{append_assoc, ◌≡◌, ◌≢◌, ℕ, zero, suc
 use Rattle.std.proofs.Math.ListN.{length-set, length-append}
 use Rattle.std.proofs.lemmas.{List.get_or-set_same, List.get_or-set_other, Nat.mul-add-lt, Nat.same_from_place}
 use Rattle.std.specs.Prelude.{Some}
-use Rattle.eevdf_steps.specs.{declared.micro_steps.Micro.Micro, declared.program_plan.Step.Step}
-use Rattle.eevdf_steps.specs.{declared.micro_steps.Micro.TheVariants.Take, declared.micro_steps.Micro.TheVariants.Post}
+use Rattle.eevdf_steps.specs.{declared.micro.Micro.Micro, declared.plan.Step.Step}
+use Rattle.eevdf_steps.specs.{declared.micro.Micro.TheVariants.Take, declared.micro.Micro.TheVariants.Post}
 use Rattle.eevdf_steps.specs.{MicroSteps.steps_by, Requests.post_to, Requests.posted, Requests.posts_to, SoundSteps.is_sound_micro}
 use Rattle.eevdf_steps.specs.Plan.{IsSound, Plan, callers, home, pair}
 use Rattle.eevdf_steps.specs.Counters.{Counters, count_of, counted, done_by, step_next}

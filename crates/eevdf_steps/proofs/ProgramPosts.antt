@@ -4,7 +4,7 @@ use Rattle.std.proofs.lemmas.List.{take_all}
 use Rattle.std.specs.Prelude.{◌==◌, None}
 use Rattle.eevdf_ops.specs.{declared.deeds.Op.Op, Programs.post_of, Programs.posts_in}
 use Rattle.eevdf_ops.specs.declared.deeds.Op.TheVariants as op
-use Rattle.eevdf_steps.specs.declared.{micro_steps.Micro.TheVariants.Release, program_plan.Step.Step}
+use Rattle.eevdf_steps.specs.declared.{micro.Micro.TheVariants.Release, plan.Step.Step}
 use Rattle.eevdf_steps.specs.{Counters.Counters, Counters.count_of, Counters.step_next, Requests.posted, Requests.posts_to}
 use Rattle.eevdf_steps.specs.Plan.{Plan, callers, home, program}
 use Rattle.eevdf_steps.specs.MicroSteps.{draining, moving, steps_by, steps_of, under_lock}

@@ -5,7 +5,7 @@ use Rattle.eevdf_ops.specs.declared.deeds.{Op.Op, Deed.Deed}
 use Rattle.eevdf_ops.specs.declared.deeds.Op.TheVariants as op
 use Rattle.eevdf_ops.specs.declared.deeds.Deed.TheVariants as deed
 use Rattle.eevdf_ops.specs.Programs.{AreWakes, FitsOperation, FitsOperations, InTwo, deed_of}
-use Rattle.eevdf_steps.specs.declared.{micro_steps.Micro.Micro, micro_steps.Micro.TheVariants.Release, program_plan.Step.Step}
+use Rattle.eevdf_steps.specs.declared.{micro.Micro.Micro, micro.Micro.TheVariants.Release, plan.Step.Step}
 use Rattle.eevdf_steps.specs.{Plan.Plan, Plan.callers, Plan.home, Commits.committed, Commits.wake_of}
 use Rattle.eevdf_steps.specs.MicroSteps.{acting, draining, micros_of, moving, steps_of, under_lock}
 use Rattle.eevdf_steps.proofs.Positions.{step_in}

@@ -2,9 +2,9 @@
 use Rattle.std.proofs.Common.{◌≡◌, ℕ, zero, suc, ◌+◌, ◌<◌, true, cond, List, [], ◌∷◌, map, get_or, set, sym, ap, ◌∙◌, refl}
 use Rattle.std.proofs.lemmas.List.{set-get_or}
 use Rattle.std.specs.Prelude.{slice_get, is_some, Option, Some, None}
-use Rattle.eevdf_steps.specs.{declared.micro_steps.Micro.Micro, declared.program_plan.Step.Step, Plan.Plan, Plan.callers, Plan.pair}
+use Rattle.eevdf_steps.specs.{declared.micro.Micro.Micro, declared.plan.Step.Step, Plan.Plan, Plan.callers, Plan.pair}
 use Rattle.eevdf_steps.specs.{Counters.Counters, Counters.counted, Counters.step_next, SoundSteps.is_sound_micro}
-use Rattle.eevdf_steps.specs.declared.micro_steps.Micro.TheVariants.{Take, Settle, Post}
+use Rattle.eevdf_steps.specs.declared.micro.Micro.TheVariants.{Take, Settle, Post}
 use Rattle.eevdf_steps.specs.Requests.{Progress, oldest, posted, progress_by, progress_step, requested, takes}
 use Rattle.eevdf_steps.specs.PostLists.{ArePosted, PostList, list_at, oldest_in, place_of, posted_more, posts_after, progress_in, request_after}
 use Rattle.eevdf_steps.proofs.Lists.{true_lt}

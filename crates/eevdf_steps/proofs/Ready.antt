@@ -5,7 +5,7 @@ use Rattle.std.proofs.lemmas.Bool.{false≢true}
 use Rattle.std.specs.Option.{option_map}
 use Rattle.std.specs.Prelude.{◌==◌, is_none, is_some, nat_lt, length, MatchOption, Option, Some, None}
 use Rattle.eevdf_ops.specs.declared.deeds.Op.{Op}
-use Rattle.eevdf_steps.specs.declared.{micro_steps.Micro.Micro, micro_steps.Micro.TheVariants.Acquire, program_plan.Step.Step}
+use Rattle.eevdf_steps.specs.declared.{micro.Micro.Micro, micro.Micro.TheVariants.Acquire, plan.Step.Step}
 use Rattle.eevdf_steps.specs.declared.step_fault.StepFault.TheVariants.{NoCaller}
 use Rattle.eevdf_steps.specs.Plan.{IsSound, Plan, callers}
 use Rattle.eevdf_steps.specs.Counters.{Counters, blocked_by, counted, holder, holds, is_under_way, least, may_step, next, ready, refused, refused_next, step_next, unfinished}

@@ -7,9 +7,9 @@ use Rattle.std.specs.Option.{option_map, option_to_list}
 use Rattle.eevdf_ops.specs.declared.deeds.{Op.Op, Deed.Deed}
 use Rattle.eevdf_ops.specs.declared.deeds.Op.TheVariants as op
 use Rattle.eevdf_ops.specs.Programs.{deed_of, deeds_by, wakes_in}
-use Rattle.eevdf_steps.specs.declared.{micro_steps.Micro.Micro, program_plan.Step.Step}
+use Rattle.eevdf_steps.specs.declared.{micro.Micro.Micro, plan.Step.Step}
 use Rattle.eevdf_steps.specs.{MicroSteps.steps_by, Commits.committed, Commits.committed_by, Commits.wake_of}
-use Rattle.eevdf_steps.specs.declared.micro_steps.Micro.TheVariants.{Commit, Take, Settle}
+use Rattle.eevdf_steps.specs.declared.micro.Micro.TheVariants.{Commit, Take, Settle}
 use Rattle.eevdf_steps.specs.Plan.{IsSound, Plan, callers, pair}
 use Rattle.eevdf_steps.specs.Counters.{Counters, count_of, counted, next, step_next}
 use Rattle.eevdf_steps.specs.Requests.{Progress, found_by, left, oldest, posted, progress_by, requested, taken_of, takes}

@@ -2,8 +2,8 @@
 use Rattle.std.proofs.Common.{◌≡◌, ◌≢◌, ℕ, ◌+◌, ◌<◌, List, [], ◌++◌, length, inl, inr, sym, subst, ◌∙◌, append-nil, refl}
 use Rattle.std.proofs.{Math.ListN.length-set, lemmas.List.get_or-set_other, lemmas.Nat.same_from_place}
 use Rattle.std.specs.Prelude.{Option, Some, None}
-use Rattle.eevdf_steps.specs.declared.{micro_steps.Micro.Micro, program_plan.Step.Step}
-use Rattle.eevdf_steps.specs.declared.micro_steps.Micro.TheVariants.{Take, Settle}
+use Rattle.eevdf_steps.specs.declared.{micro.Micro.Micro, plan.Step.Step}
+use Rattle.eevdf_steps.specs.declared.micro.Micro.TheVariants.{Take, Settle}
 use Rattle.eevdf_steps.specs.{Plan.Plan, Plan.callers, Plan.pair, Counters.Counters, Counters.counted, Counters.step_next}
 use Rattle.eevdf_steps.specs.Requests.{Progress, found_by, oldest, post_to, posted, requested, taken_of, takes}
 use Rattle.eevdf_steps.proofs.{Holders.number_cases, Posting.posted_other, Posting.posted_own}

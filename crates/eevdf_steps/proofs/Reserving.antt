@@ -8,7 +8,7 @@ use Rattle.std.specs.List.{sum_by}
 use Rattle.std.specs.Prelude.{◌==◌, is_some, slice_index, Option, None}
 use Rattle.eevdf_ops.specs.{declared.deeds.Op.Op, Numbers.most_operations, Places.count, Programs.post_of, Programs.posts_in}
 use Rattle.eevdf_ops.specs.declared.deeds.Op.TheVariants as op
-use Rattle.eevdf_steps.specs.declared.{micro_steps.Micro.TheVariants.Release, program_plan.Step.Step}
+use Rattle.eevdf_steps.specs.declared.{micro.Micro.TheVariants.Release, plan.Step.Step}
 use Rattle.eevdf_steps.specs.{Orders.counters_at_start, PostLists.PostList, PostLists.list_at, PostLists.no_posts}
 use Rattle.eevdf_steps.specs.Plan.{IsSound, Plan, callers, home, is_sound_op, program}
 use Rattle.eevdf_steps.specs.MicroSteps.{draining, moving, steps_by, steps_of, under_lock, under_locks}

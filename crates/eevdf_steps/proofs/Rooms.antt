@@ -5,9 +5,9 @@ use Rattle.std.proofs.lemmas.{List.get_or-set_same, List.get_or-set_other, List.
 use Rattle.std.specs.Prelude.{slice_get, is_some, Option, Some, None}
 use Rattle.eevdf_ops.specs.declared.deeds.{Op.Op, Deed.Deed, Answer.Answer}
 use Rattle.eevdf_ops.specs.Places.{count}
-use Rattle.eevdf_steps.specs.declared.{micro_steps.Micro.Micro, program_plan.Step.Step}
+use Rattle.eevdf_steps.specs.declared.{micro.Micro.Micro, plan.Step.Step}
 use Rattle.eevdf_steps.specs.{Plan.Plan, Plan.callers, MicroSteps.steps_by, Work.Work, MicroState.appends, MicroState.line_of}
-use Rattle.eevdf_steps.specs.declared.micro_steps.Micro.TheVariants.{Commit, Take, Settle, Post}
+use Rattle.eevdf_steps.specs.declared.micro.Micro.TheVariants.{Commit, Take, Settle, Post}
 use Rattle.eevdf_steps.specs.Counters.{Counters, count_of, counted, step_next}
 use Rattle.eevdf_steps.specs.PostLists.{PostList, list_at, no_posts, oldest_in, posted_more, posts_after, request_after, taken_more}
 use Rattle.eevdf_steps.proofs.{Holders.number_cases, Lists.got_within}

@@ -4,7 +4,7 @@ use Rattle.std.proofs.lemmas.{Bool.false≢true, Bool.cases_lt, List.append-nil}
 use Rattle.std.specs.Prelude.{◌==◌, MatchOption, Option, Some, None}
 use Rattle.std.specs.Option.{option_to_list}
 use Rattle.eevdf_steps.specs.{Commits.committed, Working.FitsHand, Working.HasRoom, UnderWay.under_way}
-use Rattle.eevdf_steps.specs.declared.{micro_steps.Micro.Micro, program_plan.Step.Step}
+use Rattle.eevdf_steps.specs.declared.{micro.Micro.Micro, plan.Step.Step}
 use Rattle.eevdf_queue.specs.{State.State, Leaving.carried_running}
 use Rattle.eevdf_ops.specs.declared.deeds.{Op.Op, Deed.Deed, Answer.Answer, Line.Line}
 use Rattle.eevdf_ops.specs.declared.deeds.Op.TheVariants as op
@@ -12,7 +12,7 @@ use Rattle.eevdf_ops.specs.declared.deeds.Deed.TheVariants as deed
 use Rattle.eevdf_ops.specs.{Machine.Machine, Machine.queue_at, Whole.whole, Programs.deed_of, Programs.deeds_of}
 use Rattle.eevdf_ops.specs.{WholePull.decision, WholePull.load_of, WholePull.offer, Histories.machine_told}
 use Rattle.eevdf_ops.specs.OneQueue.{one_tick, one_pick, one_yield, one_renice}
-use Rattle.eevdf_steps.specs.declared.micro_steps.Micro.TheVariants.{Acquire, Act, Detach, Attach, Commit, Take, Settle, Release, Post}
+use Rattle.eevdf_steps.specs.declared.micro.Micro.TheVariants.{Acquire, Act, Detach, Attach, Commit, Take, Settle, Release, Post}
 use Rattle.eevdf_steps.specs.Plan.{IsSound, Plan, callers, home}
 use Rattle.eevdf_steps.specs.Counters.{Counters, counted, holder, holds, least, refused, step_next}
 use Rattle.eevdf_steps.specs.MicroState.{appends, home_for, line_of, works}

@@ -5,7 +5,7 @@ use Rattle.std.specs.Prelude.{◌==◌, nat_lt, Option, Some, None}
 use Rattle.eevdf_ops.specs.{declared.deeds.Op.Op, declared.deeds.Deed.Deed, Places.AreCpus, Setup.is_allowed, Programs.deed_of}
 use Rattle.eevdf_ops.specs.declared.deeds.Op.TheVariants as op
 use Rattle.eevdf_ops.specs.declared.deeds.Deed.TheVariants as deed
-use Rattle.eevdf_steps.specs.{declared.micro_steps.Micro.Micro, declared.program_plan.Step.Step, MicroSteps.micros_of}
+use Rattle.eevdf_steps.specs.{declared.micro.Micro.Micro, declared.plan.Step.Step, MicroSteps.micros_of}
 use Rattle.eevdf_steps.specs.{MicroSteps.steps_by, MicroSteps.steps_of, SoundSteps.is_sound_micro, Counters.Counters}
 use Rattle.eevdf_steps.specs.{Counters.count_of, Counters.step_next, UnderWay.UnderWay, UnderWay.under_way, Serial.begun_by}
 use Rattle.eevdf_steps.specs.Plan.{IsSound, Plan, callers, is_sound_op, program, pulls_elsewhere}

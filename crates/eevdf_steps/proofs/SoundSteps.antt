@@ -5,9 +5,9 @@ use Rattle.std.specs.{List.list_all}
 use Rattle.std.specs.Prelude.{slice_get, nat_lt, ◌==◌, IfSome, Option, Some, None}
 use Rattle.eevdf_ops.specs.declared.deeds.Op.{Op}
 use Rattle.eevdf_ops.specs.declared.deeds.Op.TheVariants as op
-use Rattle.eevdf_steps.specs.declared.{micro_steps.Micro.Micro, program_plan.Step.Step}
+use Rattle.eevdf_steps.specs.declared.{micro.Micro.Micro, plan.Step.Step}
 use Rattle.eevdf_steps.specs.{SoundSteps.is_sound_micro, SoundSteps.is_sound_step}
-use Rattle.eevdf_steps.specs.declared.micro_steps.Micro.TheVariants.{Act, Commit, Release}
+use Rattle.eevdf_steps.specs.declared.micro.Micro.TheVariants.{Act, Commit, Release}
 use Rattle.eevdf_steps.specs.Plan.{IsSound, Plan, callers, home, is_sound_op, program}
 use Rattle.eevdf_steps.specs.MicroSteps.{draining, micros_of, moving, steps_by, steps_of, under_lock, under_locks}
 use Rattle.eevdf_steps.specs.Counters.{Counters, count_of, step_next}

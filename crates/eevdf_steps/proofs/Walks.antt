@@ -3,8 +3,8 @@ use Rattle.std.proofs.Common.{◌≡◌, ℕ, ◌<◌, Bool, true, false, ◌&&�
 use Rattle.std.specs.Prelude.{nat_lt, ◌==◌, if◌then◌else◌, MatchOption, Option, Some, None}
 use Rattle.eevdf_ops.specs.declared.deeds.Op.{Op}
 use Rattle.eevdf_ops.specs.declared.deeds.Op.TheVariants as op
-use Rattle.eevdf_steps.specs.declared.{micro_steps.Micro.Micro, program_plan.Step.Step}
-use Rattle.eevdf_steps.specs.declared.micro_steps.Micro.TheVariants.{Acquire, Act, Detach, Attach, Commit, Take, Settle, Release, Post}
+use Rattle.eevdf_steps.specs.declared.{micro.Micro.Micro, plan.Step.Step}
+use Rattle.eevdf_steps.specs.declared.micro.Micro.TheVariants.{Acquire, Act, Detach, Attach, Commit, Take, Settle, Release, Post}
 use Rattle.eevdf_steps.specs.Plan.{Plan, callers, home}
 use Rattle.eevdf_steps.specs.Counters.{Counters, counted, holds, step_next}
 use Rattle.eevdf_steps.proofs.Positions.{step_in}

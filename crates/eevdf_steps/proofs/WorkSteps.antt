@@ -13,10 +13,10 @@ use Rattle.eevdf_ops.proofs.MachinePlaces.{places-set, places-at}
 use Rattle.eevdf_ops.proofs.QueuePlaces.{IsSame, IsWith, IsWithout, tick-same, pick-same, yield-same, wake-same, renice-same, asleep-with, runnable-with}
 use Rattle.eevdf_ops.proofs.Carried.{running-carries, offer-carries, leaves-without}
 use Rattle.eevdf_ops.proofs.Pulling.{IsTaken, decision-taken, with_task-put}
-use Rattle.eevdf_steps.specs.declared.micro_steps.Micro.{Micro}
+use Rattle.eevdf_steps.specs.declared.micro.Micro.{Micro}
 use Rattle.eevdf_steps.specs.{Plan.Plan, Plan.callers, Playing.IsWork, Places.hands_with, Places.is_in_hand, Places.places_of}
 use Rattle.eevdf_steps.specs.{Working.FitsHand, Working.HasRoom, MicroState.settled, MicroState.works}
-use Rattle.eevdf_steps.specs.declared.micro_steps.Micro.TheVariants.{Act, Detach, Attach, Settle}
+use Rattle.eevdf_steps.specs.declared.micro.Micro.TheVariants.{Act, Detach, Attach, Settle}
 use Rattle.eevdf_steps.specs.Work.{Work, act, answered, attach, attach_asleep, attach_pulled, detach, detach_pulled, detach_running, hand, pull_decision, pulls_from}
 use Rattle.eevdf_steps.proofs.{Lists.true_lt, WorkPlaces.held_nowhere, WorkPlaces.count-le}
 

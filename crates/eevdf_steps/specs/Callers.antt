@@ -1,6 +1,6 @@
 -- The callers on their way: what they are to do, how far each has come, and the locks that they hold.
 use Rattle.std.specs.Prelude.{◌≡◌, ℕ, ◌<◌, List, length, slice_index_or, Option}
-use Rattle.eevdf_steps.specs.{declared.program_plan.Position.Position, Plan.Plan, Plan.callers, Counters.Counters}
+use Rattle.eevdf_steps.specs.{declared.plan.Position.Position, Plan.Plan, Plan.callers, Counters.Counters}
 use Rattle.eevdf_steps.specs.Holders.{AreHolders}
 use Rattle.eevdf_steps.specs.Positions.{ArePositions, counter_at, counters_at}
 

@@ -3,8 +3,8 @@ use Rattle.std.specs.Prelude.{ℕ, List, [], ◌∷◌, ◌++◌, Option, Some, 
 use Rattle.std.specs.Option.{option_to_list}
 use Rattle.eevdf_ops.specs.{declared.deeds.Op.Op, declared.deeds.Deed.Deed, Programs.deed_of, Setup.Setup}
 use Rattle.eevdf_ops.specs.declared.deeds.Deed.TheVariants as deed
-use Rattle.eevdf_steps.specs.declared.{micro_steps.Micro.Micro, program_plan.Step.Step}
-use Rattle.eevdf_steps.specs.declared.micro_steps.Micro.TheVariants.{Commit, Settle}
+use Rattle.eevdf_steps.specs.declared.{micro.Micro.Micro, plan.Step.Step}
+use Rattle.eevdf_steps.specs.declared.micro.Micro.TheVariants.{Commit, Settle}
 use Rattle.eevdf_steps.specs.{Plan.Plan, Plan.plan_of, Counters.step_next}
 use Rattle.eevdf_steps.specs.Requests.{Progress, found_by, progress_at_start, progress_step}
 

@@ -1,8 +1,8 @@
 -- How far the callers have come, the locks that they hold, and who may do its next step.
 use Rattle.std.specs.Prelude.{ℕ, zero, suc, ◌+◌, ◌==◌, nat_lt, Bool, true, false, List, [], ◌∷◌, take, slice_get, slice_index_or, slice_set, if◌then◌else◌, is_some, is_none, Option, Some, None, Result, MatchResult, ◌≡◌}
 use Rattle.std.specs.Option.{option_map}
-use Rattle.eevdf_steps.specs.declared.{micro_steps.Micro.Micro, step_fault.StepFault.StepFault, program_plan.Step.Step}
-use Rattle.eevdf_steps.specs.declared.micro_steps.Micro.TheVariants.{Acquire, Release}
+use Rattle.eevdf_steps.specs.declared.{micro.Micro.Micro, step_fault.StepFault.StepFault, plan.Step.Step}
+use Rattle.eevdf_steps.specs.declared.micro.Micro.TheVariants.{Acquire, Release}
 use Rattle.eevdf_steps.specs.{Plan.Plan, Plan.callers, MicroSteps.steps_by}
 use Rattle.eevdf_steps.specs.declared.step_fault.StepFault.TheVariants.{NoCaller, Done, Blocked}
 

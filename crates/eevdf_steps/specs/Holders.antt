@@ -1,7 +1,7 @@
 -- Who holds each lock, written down.
 use Rattle.std.specs.Prelude.{◌≡◌, ℕ, ◌<◌, ◌==◌, Bool, true, false, nat_lt, List, length, slice_index_or, slice_set, if◌then◌else◌, Option, Some, None}
-use Rattle.eevdf_steps.specs.declared.micro_steps.Micro.{Micro}
-use Rattle.eevdf_steps.specs.declared.micro_steps.Micro.TheVariants.{Acquire, Release}
+use Rattle.eevdf_steps.specs.declared.micro.Micro.{Micro}
+use Rattle.eevdf_steps.specs.declared.micro.Micro.TheVariants.{Acquire, Release}
 use Rattle.eevdf_steps.specs.{Plan.Plan, Plan.callers, Counters.Counters, Counters.holds}
 
 abbrev pub is_holder : Option ℕ → ℕ → Bool

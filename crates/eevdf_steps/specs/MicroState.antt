@@ -3,9 +3,9 @@ use Rattle.std.specs.Prelude.{ℕ, List, [], ◌∷◌, ◌++◌, replicate, Opt
 use Rattle.eevdf_ops.specs.declared.deeds.{Op.Op, Deed.Deed, Answer.Answer, Line.Line}
 use Rattle.eevdf_ops.specs.declared.deeds.Op.TheVariants as op
 use Rattle.eevdf_ops.specs.{Setup.Setup, Machine.start}
-use Rattle.eevdf_steps.specs.declared.{micro_steps.Micro.Micro, program_plan.Step.Step}
+use Rattle.eevdf_steps.specs.declared.{micro.Micro.Micro, plan.Step.Step}
 use Rattle.eevdf_steps.specs.{Counters.step_next, Commits.committed}
-use Rattle.eevdf_steps.specs.declared.micro_steps.Micro.TheVariants.{Act, Detach, Attach, Commit, Settle, Post}
+use Rattle.eevdf_steps.specs.declared.micro.Micro.TheVariants.{Act, Detach, Attach, Commit, Settle, Post}
 use Rattle.eevdf_steps.specs.Plan.{Plan, callers, home, plan_of}
 use Rattle.eevdf_steps.specs.Requests.{Progress, found_by, progress_at_start, progress_step}
 use Rattle.eevdf_steps.specs.Work.{Work, act, answer, attach, detach, wake_answer, woken}

@@ -3,8 +3,8 @@ use Rattle.std.specs.Prelude.{◌≡◌, ℕ, ◌+◌, ◌==◌, Bool, true, fal
 use Rattle.std.specs.FinMap as map
 use Rattle.eevdf_queue.specs.State.{Contents}
 use Rattle.eevdf_ops.specs.{Machine.queue_at, Places.count, Places.places}
-use Rattle.eevdf_steps.specs.{declared.task_place.Place.Place, Work.Work, Work.hand}
-use Rattle.eevdf_steps.specs.declared.task_place.Place.TheVariants.{Runnable, Asleep, InHand}
+use Rattle.eevdf_steps.specs.{declared.place.Place.Place, Work.Work, Work.hand}
+use Rattle.eevdf_steps.specs.declared.place.Place.TheVariants.{Runnable, Asleep, InHand}
 
 abbrev pub is_in_hand : Option Contents → ℕ → Bool
 is_in_hand None task = false

@@ -4,7 +4,7 @@ use Rattle.std.specs.FinMap as map
 use Rattle.eevdf_queue.specs.State.{State}
 use Rattle.eevdf_ops.specs.{declared.deeds.Deed.Deed, Histories.machine_told, Machine.Machine, Machine.queue_at, Places.count}
 use Rattle.eevdf_ops.specs.{Programs.deeds_of, Setup.Setup, Setup.is_task}
-use Rattle.eevdf_steps.specs.declared.{micro_steps.Micro.Micro, step_fault.StepFault.StepFault}
+use Rattle.eevdf_steps.specs.declared.{micro.Micro.Micro, step_fault.StepFault.StepFault}
 use Rattle.eevdf_steps.specs.{Plan.Plan, Plan.home, Plan.plan_of, Counters.holds, Commits.committed_by, Places.places_of}
 use Rattle.eevdf_steps.specs.Counters as counters
 use Rattle.eevdf_steps.specs.MicroState.{MicroState, micro_start, micro_step}

@@ -1,7 +1,7 @@
 -- Where a caller stands in its program, and the counter that this comes to.
 use Rattle.std.specs.Prelude.{◌≡◌, ℕ, ◌+◌, ◌<◌, ◌==◌, nat_lt, Bool, true, List, [], ◌∷◌, length, take, slice_get, slice_index_or, Option, Some, None}
 use Rattle.eevdf_ops.specs.declared.deeds.Op.{Op}
-use Rattle.eevdf_steps.specs.{declared.program_plan.Position.Position, Plan.Plan, Plan.program, Counters.Counters}
+use Rattle.eevdf_steps.specs.{declared.plan.Position.Position, Plan.Plan, Plan.program, Counters.Counters}
 use Rattle.eevdf_steps.specs.MicroSteps.{micros_of, steps_by, steps_of}
 
 -- fewer steps of the operation are done than it has; where the program is done, none

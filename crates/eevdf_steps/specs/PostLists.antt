@@ -1,8 +1,8 @@
 -- The requests from one CPU to another, as they are kept.
 use Rattle.std.specs.Prelude.{◌≡◌, ℕ, ◌+◌, ◌*◌, ◌<◌, ◌≤◌, nat_lt, Bool, true, List, [], ◌∷◌, ◌++◌, map, length, is_some, slice_get, slice_index_or, slice_set, if◌then◌else◌, Option, None}
-use Rattle.eevdf_steps.specs.declared.micro_steps.Micro.{Micro}
+use Rattle.eevdf_steps.specs.declared.micro.Micro.{Micro}
 use Rattle.eevdf_steps.specs.{MicroSteps.steps_by, Counters.Counters, Requests.Progress, Requests.posted, Requests.posts_to}
-use Rattle.eevdf_steps.specs.declared.micro_steps.Micro.TheVariants.{Take, Settle, Post}
+use Rattle.eevdf_steps.specs.declared.micro.Micro.TheVariants.{Take, Settle, Post}
 use Rattle.eevdf_steps.specs.Plan.{Plan, callers, home, pair}
 
 -- the requests that were posted, how many of them were taken, and for how many there is room

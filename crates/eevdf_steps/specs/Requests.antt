@@ -1,7 +1,7 @@
 -- Wakes that are posted from one CPU to another, and those that were taken there.
 use Rattle.std.specs.Prelude.{ℕ, ◌+◌, ◌*◌, ◌==◌, List, [], ◌∷◌, ◌++◌, drop, replicate, slice_get, slice_index_or, slice_set, if◌then◌else◌, Option, Some, None}
-use Rattle.eevdf_steps.specs.{declared.micro_steps.Micro.Micro, declared.program_plan.Step.Step, Orders.counters_at_start}
-use Rattle.eevdf_steps.specs.declared.micro_steps.Micro.TheVariants.{Take, Settle, Post}
+use Rattle.eevdf_steps.specs.{declared.micro.Micro.Micro, declared.plan.Step.Step, Orders.counters_at_start}
+use Rattle.eevdf_steps.specs.declared.micro.Micro.TheVariants.{Take, Settle, Post}
 use Rattle.eevdf_steps.specs.Plan.{Plan, callers, home, pair}
 use Rattle.eevdf_steps.specs.Counters.{Counters, counted, done_by, step_next}
 

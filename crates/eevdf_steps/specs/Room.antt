@@ -2,8 +2,8 @@
 use Rattle.std.specs.Prelude.{ℕ, zero, suc, ◌+◌, ◌-◌, List, [], ◌∷◌, length, drop, is_some, Option}
 use Rattle.std.specs.List.{sum_by}
 use Rattle.eevdf_ops.specs.Places.{count}
-use Rattle.eevdf_steps.specs.{declared.micro_steps.Micro.Micro, declared.program_plan.Step.Step}
-use Rattle.eevdf_steps.specs.{declared.micro_steps.Micro.TheVariants.Commit, declared.micro_steps.Micro.TheVariants.Post, Plan.Plan}
+use Rattle.eevdf_steps.specs.{declared.micro.Micro.Micro, declared.plan.Step.Step}
+use Rattle.eevdf_steps.specs.{declared.micro.Micro.TheVariants.Commit, declared.micro.Micro.TheVariants.Post, Plan.Plan}
 use Rattle.eevdf_steps.specs.{Plan.callers, MicroSteps.steps_by, Counters.Counters, Counters.count_of, PostLists.PostList}
 
 -- the lines that can come of a step that is still to be done: of a commit its own, of a post that of the wake

@@ -1,7 +1,7 @@
 -- Steps that name only CPUs and tasks that there are.
 use Rattle.std.specs.Prelude.{nat_lt, Bool, true, ◌&&◌, length}
-use Rattle.eevdf_steps.specs.declared.{micro_steps.Micro.Micro, program_plan.Step.Step}
-use Rattle.eevdf_steps.specs.declared.micro_steps.Micro.TheVariants.{Acquire, Take, Settle, Release, Post}
+use Rattle.eevdf_steps.specs.declared.{micro.Micro.Micro, plan.Step.Step}
+use Rattle.eevdf_steps.specs.declared.micro.Micro.TheVariants.{Acquire, Take, Settle, Release, Post}
 use Rattle.eevdf_steps.specs.Plan.{Plan, callers, is_sound_op}
 
 abbrev pub is_sound_micro : Plan → Micro → Bool

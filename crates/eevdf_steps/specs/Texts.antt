@@ -1,8 +1,8 @@
 -- The texts of micro-steps, places and faults.
 use Rattle.std.specs.Prelude.{ℕ, List, ◌++◌, codes, decimal}
-use Rattle.eevdf_steps.specs.declared.{micro_steps.Micro.Micro, task_place.Place.Place, play_fault.PlayFault.PlayFault}
-use Rattle.eevdf_steps.specs.declared.micro_steps.Micro.TheVariants as micro
-use Rattle.eevdf_steps.specs.declared.task_place.Place.TheVariants.{Runnable, Asleep, InHand}
+use Rattle.eevdf_steps.specs.declared.{micro.Micro.Micro, place.Place.Place, play_fault.PlayFault.PlayFault}
+use Rattle.eevdf_steps.specs.declared.micro.Micro.TheVariants as micro
+use Rattle.eevdf_steps.specs.declared.place.Place.TheVariants.{Runnable, Asleep, InHand}
 use Rattle.eevdf_steps.specs.declared.play_fault.PlayFault.TheVariants as play
 use Rattle.eevdf_steps.specs.declared.step_fault.StepFault.{StepFault}
 use Rattle.eevdf_steps.specs.declared.step_fault.StepFault.TheVariants as step

@@ -3,8 +3,8 @@ use Rattle.std.specs.Prelude.{◌≡◌, ℕ, ◌<◌, true, length, IfSome, Non
 use Rattle.eevdf_queue.specs.{State.Contents, Moves.sleeper_of, Placing.can_place}
 use Rattle.eevdf_ops.specs.{declared.deeds.Op.Op, Machine.queue_at, Places.places_in}
 use Rattle.eevdf_ops.specs.declared.deeds.Op.TheVariants as op
-use Rattle.eevdf_steps.specs.{declared.micro_steps.Micro.Micro, declared.micro_steps.Micro.TheVariants.Detach}
-use Rattle.eevdf_steps.specs.{declared.micro_steps.Micro.TheVariants.Attach, Work.Work, Work.hand}
+use Rattle.eevdf_steps.specs.{declared.micro.Micro.Micro, declared.micro.Micro.TheVariants.Detach}
+use Rattle.eevdf_steps.specs.{declared.micro.Micro.TheVariants.Attach, Work.Work, Work.hand}
 
 -- a caller has a queue, a hand and an answer; the task in its hand stands neither in its queue nor at its home
 pub record IsWorking (w : Work) (caller at : ℕ) : Type 0 where

@@ -7,8 +7,8 @@ ghost use Rattle.eevdf_steps.specs.{Orders.counters_at_start, SoundSteps.is_soun
 ghost use Rattle.eevdf_steps.specs.Plan.{IsSound, callers, plan_of};
 
 use crate::lists_of_steps::cpu_number;
-use crate::micro_steps::Micro;
-use crate::program_plan::{Plan, Position, Step};
+use crate::micro::Micro;
+use crate::plan::{Plan, Position, Step};
 use crate::step_fault::StepFault;
 use eevdf_ops::{CpuId, Setup};
 use std::alloc::{AllocError, Global};

@@ -6,8 +6,8 @@ ghost use Rattle.eevdf_steps.specs.Journals as journals;
 ghost use Rattle.eevdf_steps.specs.MicroState.{line_of};
 
 use crate::journal::Journal;
-use crate::micro_steps::Micro;
-use crate::program_plan::Turn;
+use crate::micro::Micro;
+use crate::plan::Turn;
 use eevdf_ops::{Answer, Deed};
 
 /// Adds the deed that a step commits to the history with its answer, where there are both.

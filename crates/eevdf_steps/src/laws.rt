@@ -4,7 +4,7 @@ ghost use Rattle.std.specs.Prelude.{◌≡◌};
 ghost use Rattle.eevdf_steps.specs.{Orders.WholeIsPlayed, Plan.plan_of};
 ghost use Rattle.eevdf_steps.specs.Players.{EachInOnePlace, EachSleepsAtHome, OneHolder};
 
-use crate::step_player::Player;
+use crate::player::Player;
 use eevdf_ops::Setup;
 use eevdf_ops::laws::start_is_placed;
 

@@ -7,27 +7,27 @@
 
 mod callers;
 mod commits;
+mod hand;
 mod journal;
 pub mod laws;
 mod lists_of_steps;
-mod micro_steps;
+mod micro;
 mod openings;
+mod place;
+mod plan;
 mod play_fault;
 mod played_order;
+mod player;
 mod post_list;
-mod program_plan;
-mod queue_work;
 mod requests;
 mod step_fault;
-mod step_player;
-mod task_hand;
-mod task_place;
 mod texts;
+mod work;
 mod work_steps;
 
-pub use micro_steps::Micro;
+pub use micro::Micro;
+pub use place::Place;
 pub use play_fault::PlayFault;
 pub use played_order::{MOST_PLACES, play};
+pub use player::Player;
 pub use step_fault::StepFault;
-pub use step_player::Player;
-pub use task_place::Place;

@@ -4,7 +4,7 @@ ghost use Rattle.std.specs.Prelude.{◌≡◌, ◌*◌, ◌<◌, ◌≤◌, min,
 ghost use Rattle.eevdf_ops.specs.Numbers.{cpu_limit, most_cpus};
 ghost use Rattle.eevdf_steps.specs.MicroSteps as steps;
 
-use crate::micro_steps::Micro;
+use crate::micro::Micro;
 use eevdf_ops::CpuId;
 
 /// The micro-steps of a deed on the caller's own queue.

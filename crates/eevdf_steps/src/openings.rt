@@ -6,8 +6,8 @@ ghost use Rattle.eevdf_steps.specs.Plan.{callers as number, is_sound_op, program
 ghost use Rattle.eevdf_steps.specs.Openings as openings;
 
 use crate::lists_of_steps::cpu_number;
+use crate::plan::Plan;
 use crate::post_list::PostList;
-use crate::program_plan::Plan;
 use eevdf_ops::{CpuId, Op};
 use eevdf_queue::TaskId;
 use std::alloc::{AllocError, Global};

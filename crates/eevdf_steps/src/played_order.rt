@@ -8,8 +8,8 @@ ghost use Rattle.eevdf_steps.specs.{Commits.deeds_committed, Orders.IsWhole, Pla
 ghost use Rattle.eevdf_steps.specs.Orders as orders;
 
 use crate::play_fault::PlayFault;
+use crate::player::Player;
 use crate::step_fault::StepFault;
-use crate::step_player::Player;
 use eevdf_ops::{Outcome, Setup, laws};
 use std::alloc::Global;
 

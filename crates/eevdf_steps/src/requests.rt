@@ -4,10 +4,10 @@ ghost use Rattle.std.specs.Prelude.{◌≡◌, ◌<◌, drop, length, map, true,
 ghost use Rattle.eevdf_steps.specs.Openings.{AreEmpty};
 ghost use Rattle.eevdf_steps.specs.PostLists as lists;
 
-use crate::micro_steps::Micro;
+use crate::micro::Micro;
 use crate::openings::empty_posts;
+use crate::plan::{Plan, Turn};
 use crate::post_list::PostList;
-use crate::program_plan::{Plan, Turn};
 use eevdf_queue::TaskId;
 use std::alloc::{AllocError, Global};
 use std::marker::Model;

@@ -3,10 +3,10 @@
 ghost use Rattle.std.specs.Prelude.{Some};
 ghost use Rattle.eevdf_steps.specs.Texts.{micro_text, place_text, play_fault_text, step_fault_text};
 
-use crate::micro_steps::Micro;
+use crate::micro::Micro;
+use crate::place::Place;
 use crate::play_fault::PlayFault;
 use crate::step_fault::StepFault;
-use crate::task_place::Place;
 use std::error::Error;
 use std::fmt;
 

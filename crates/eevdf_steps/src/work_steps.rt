@@ -5,9 +5,9 @@ ghost use Rattle.eevdf_steps.specs.MicroState as state;
 ghost use Rattle.eevdf_steps.specs.Working.{FitsHand, HasRoom, IsWorking};
 ghost use Rattle.eevdf_steps.specs.Work as steps;
 
-use crate::micro_steps::Micro;
-use crate::program_plan::Turn;
-use crate::queue_work::Work;
+use crate::micro::Micro;
+use crate::plan::Turn;
+use crate::work::Work;
 use eevdf_ops::{Answer, CpuId, Op};
 use eevdf_queue::TaskId;
 

@@ -1,7 +1,7 @@
 ghost use Rattle.std.specs.Prelude.{◌≡◌, ◌≤◌, pos};
 ghost use Rattle.eevdf_weight.specs.Charge.{charge_of, lag_limit_of};
 
-use crate::time_slice::Slice;
+use crate::slice::Slice;
 
 /// The virtual time that a weight ages in `ns` nanoseconds: `ns * 1024 / w`, rounded down.
 #[tactic(auto, unfolding(crate::specs::Charge::charge_of))]

@@ -6,17 +6,17 @@
 #![tactic(auto)]
 
 mod charging;
-mod nice_level;
+mod nice;
+mod ns;
 mod placement;
 mod quotient;
-mod time_slice;
-mod time_step;
+mod slice;
 mod weight_table;
 
 pub use charging::{charge, lag_limit};
-pub use nice_level::{BadNice, Nice};
+pub use nice::{BadNice, Nice};
+pub use ns::{BadNs, Ns};
 pub use placement::{BOUND, is_in_range, placed};
 pub use quotient::floor_quotient;
-pub use time_slice::{BadSlice, Slice};
-pub use time_step::{BadNs, Ns};
+pub use slice::{BadSlice, Slice};
 pub use weight_table::weight;

@@ -1,7 +1,7 @@
 ghost use Rattle.std.specs.Prelude.{◌≡◌, ◌≤◌, ◌<◌};
 ghost use Rattle.eevdf_weight.specs.Weight.{place_of, weight_of};
 
-use crate::nice_level::Nice;
+use crate::nice::Nice;
 
 /// The weights of the nice levels from -20 on, five to a line.
 const WEIGHTS: [u64; 40] = [

@@ -1,9 +1,9 @@
 -- A document of version 1 means the same in version 2.
 use Rattle.std.proofs.Common.{◌≡◌, refl, Ok, sym, ◌∙◌, arith}
 use Rattle.toml.specs.Data.{Members}
-use Rattle.eevdf_workload.specs.{declared.workload_version.Limits.Limits, declared.workload_version.Version.Version}
-use Rattle.eevdf_workload.specs.declared.workload_version.Version.TheVariants.{One}
-use Rattle.eevdf_workload.specs.{declared.workload_version.Version.TheVariants.Two, Versions.limits_of}
+use Rattle.eevdf_workload.specs.{declared.version.Limits.Limits, declared.version.Version.Version}
+use Rattle.eevdf_workload.specs.declared.version.Version.TheVariants.{One}
+use Rattle.eevdf_workload.specs.{declared.version.Version.TheVariants.Two, Versions.limits_of}
 use Rattle.eevdf_workload.specs.Meaning as meant
 use Rattle.eevdf_workload.specs.MeaningLaws as law
 use Rattle.eevdf_workload.proofs.WiderLimits.{AreWider, workload_kept}

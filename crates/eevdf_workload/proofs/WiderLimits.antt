@@ -8,7 +8,7 @@ use Rattle.eevdf_ops.specs.{declared.deeds.Deed.Deed, declared.task_spec.TaskSpe
 use Rattle.eevdf_ops.specs.{declared.setup_fault.SetupFault.SetupFault, declared.setup_fault.SetupFault.TheVariants.BadCpus}
 use Rattle.eevdf_ops.specs.declared.deeds.Op.TheVariants as op
 use Rattle.eevdf_ops.specs.declared.deeds.Deed.TheVariants as deed
-use Rattle.eevdf_workload.specs.{declared.workload_version.Limits.Limits, declared.load_fault.Key.Key, Versions.cpu_within}
+use Rattle.eevdf_workload.specs.{declared.version.Limits.Limits, declared.load_fault.Key.Key, Versions.cpu_within}
 use Rattle.eevdf_workload.specs.declared.load_fault.Key.TheVariants as key
 use Rattle.eevdf_workload.specs.MeaningSteps.{array_at, at_most, count, natural, integer_or}
 use Rattle.eevdf_workload.specs.Words.{words, number, only_number, only_cpu, renice_of, task_in, operation_of, operation, sender_of, wake_of, deed_on, deed_in}

@@ -7,7 +7,7 @@ use Rattle.eevdf_weight.specs.Limits.{checked_level, checked_slice}
 use Rattle.eevdf_ops.specs.{Setup.Setup, Setup.allows, Faults.setup_fault, Faults.unless, declared.task_spec.TaskSpec.TaskSpec}
 use Rattle.eevdf_ops.specs.{declared.deeds.Op.Op, declared.deeds.Deed.Deed, declared.setup_fault.SetupFault.SetupFault}
 use Rattle.eevdf_ops.specs.declared.setup_fault.SetupFault.TheVariants.{BadCpus}
-use Rattle.eevdf_workload.specs.{declared.workload_version.Version.Version, declared.workload_version.Limits.Limits}
+use Rattle.eevdf_workload.specs.{declared.version.Version.Version, declared.version.Limits.Limits}
 use Rattle.eevdf_workload.specs.declared.load_fault.LoadFault.{LoadFault}
 use Rattle.eevdf_workload.specs.declared.load_fault.Key.TheVariants as key
 use Rattle.eevdf_workload.specs.declared.load_fault.LoadFault.TheVariants as fault

@@ -1,7 +1,7 @@
 -- What becomes of the meaning of a document where its version alone is changed.
 use Rattle.std.specs.Prelude.{◌≡◌, codes, Ok}
 use Rattle.toml.specs.Data.{Members, get_member}
-use Rattle.eevdf_workload.specs.declared.workload_version.Version.TheVariants.{One, Two}
+use Rattle.eevdf_workload.specs.declared.version.Version.TheVariants.{One, Two}
 use Rattle.eevdf_workload.specs.Meaning.{Workload, version, workload_of}
 
 -- a document of version 1 and one of version 2, which have the same value at each other key of a workload

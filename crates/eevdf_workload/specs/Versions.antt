@@ -1,8 +1,8 @@
 -- What a workload of each version may hold.
 use Rattle.std.specs.Prelude.{ℕ, ◌==◌, nat_lt, true, false, if◌then◌else◌, List, codes, Option, Some, None}
 use Rattle.eevdf_ops.specs.Numbers.{checked_cpu}
-use Rattle.eevdf_workload.specs.{declared.workload_version.Version.Version, declared.workload_version.Version.TheVariants.One}
-use Rattle.eevdf_workload.specs.{declared.workload_version.Version.TheVariants.Two, declared.workload_version.Limits.Limits}
+use Rattle.eevdf_workload.specs.{declared.version.Version.Version, declared.version.Version.TheVariants.One}
+use Rattle.eevdf_workload.specs.{declared.version.Version.TheVariants.Two, declared.version.Limits.Limits}
 
 abbrev pub limits_of : Version → Limits
 limits_of One = record { cpus = 16; deeds = 160000; renice = false }

@@ -6,7 +6,7 @@ use Rattle.eevdf_queue.specs.Numbers.{checked_number}
 use Rattle.eevdf_ops.specs.{declared.deeds.Op.Op, Programs.deed_of, declared.deeds.Deed.Deed}
 use Rattle.eevdf_ops.specs.declared.deeds.Op.TheVariants as op
 use Rattle.eevdf_ops.specs.declared.deeds.Deed.TheVariants as deed
-use Rattle.eevdf_workload.specs.{declared.workload_version.Limits.Limits, Versions.cpu_within}
+use Rattle.eevdf_workload.specs.{declared.version.Limits.Limits, Versions.cpu_within}
 
 -- what stands between the single spaces of a text
 abbrev pub words : List ℕ → List (List ℕ)

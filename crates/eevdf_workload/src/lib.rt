@@ -7,11 +7,11 @@
 
 pub mod laws;
 mod load_fault;
-mod loaded_workload;
 mod reading;
-mod workload_version;
+mod version;
+mod workload;
 
 pub use load_fault::{Key, LoadFault};
-pub use loaded_workload::Workload;
 pub use reading::read_workload;
-pub use workload_version::Version;
+pub use version::Version;
+pub use workload::Workload;

@@ -1,7 +1,7 @@
 ghost use Rattle.std.specs.Prelude.{Some};
 ghost use Rattle.eevdf_workload.specs.FaultTexts.{key_text, load_fault_text};
 
-use crate::loaded_workload::Workload;
+use crate::workload::Workload;
 use eevdf_ops::SetupFault;
 use std::error::Error;
 use std::fmt;

@@ -18,13 +18,13 @@ mod task_table;
 mod word_list;
 
 use crate::load_fault::{Key, LoadFault};
-use crate::loaded_workload::Workload;
 use crate::reading::document_keys::version;
 use crate::reading::order_list::order;
 use crate::reading::program_lists::programs;
 use crate::reading::script_list::script;
 use crate::reading::task_table::tasks;
-use crate::workload_version::Limits;
+use crate::version::Limits;
+use crate::workload::Workload;
 use eevdf_ops::{Deed, Op, Setup, SetupFault, TaskSpec};
 use std::alloc::Global;
 use toml::Table;

@@ -9,7 +9,7 @@ ghost use Rattle.eevdf_queue.specs.TreeShape.{tasks_in, height_in, IsAlone};
 
 use super::TreeNode;
 use super::node_parts::{correct, look_around, part_from, raise};
-use crate::run_entry::Entry;
+use crate::entry::Entry;
 use crate::task::Task;
 use crate::tree_change::TreeChange;
 use crate::tree_key::{Key, precedes};

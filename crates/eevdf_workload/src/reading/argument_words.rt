@@ -4,7 +4,7 @@ ghost use Rattle.eevdf_workload.specs.Words.{cpu_in, fitting, only_cpu, only_lev
 use crate::reading::level_text::level;
 use crate::reading::number_text::number;
 use crate::reading::word_list::Words;
-use crate::workload_version::Limits;
+use crate::version::Limits;
 use eevdf_ops::CpuId;
 use eevdf_queue::TaskId;
 use eevdf_weight::{Nice, Ns};

@@ -5,7 +5,7 @@ ghost use Rattle.eevdf_workload.specs.Words.{deed_in, deed_on, operation_of, sen
 use crate::reading::argument_words::{cpu, only_cpu, task};
 use crate::reading::operation_text::operation_of;
 use crate::reading::word_list::Words;
-use crate::workload_version::Limits;
+use crate::version::Limits;
 use eevdf_ops::{CpuId, Deed};
 
 /// The deed that a text is: the number of a CPU, and what it does.

@@ -5,7 +5,7 @@ ghost use Rattle.toml.specs.Data.{get_member};
 ghost use Rattle.toml.specs.View.{array_view, table_view, view};
 
 use crate::load_fault::{Key, LoadFault};
-use crate::workload_version::Version;
+use crate::version::Version;
 use toml::value::Array;
 use toml::{Table, Value};
 

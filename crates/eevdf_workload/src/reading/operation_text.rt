@@ -3,7 +3,7 @@ ghost use Rattle.eevdf_workload.specs.Words.{alone, operation, operation_of, ren
 
 use crate::reading::argument_words::{only_cpu, only_level, only_task, only_time, task};
 use crate::reading::word_list::Words;
-use crate::workload_version::Limits;
+use crate::version::Limits;
 use eevdf_ops::Op;
 
 /// The operation that a text is.

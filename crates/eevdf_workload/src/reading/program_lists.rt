@@ -6,7 +6,7 @@ ghost use Rattle.toml.specs.View.{items_view, table_view, view};
 use crate::load_fault::{Key, LoadFault};
 use crate::reading::document_keys::{array_at, member};
 use crate::reading::operation_text::operation;
-use crate::workload_version::Limits;
+use crate::version::Limits;
 use eevdf_ops::Op;
 use std::alloc::Global;
 use toml::{Table, Value};

@@ -5,7 +5,7 @@ ghost use Rattle.toml.specs.View.{items_view, table_view, view};
 
 use crate::load_fault::{Key, LoadFault};
 use crate::reading::document_keys::{array_at, boolean_or, integer_or, member, natural};
-use crate::workload_version::Limits;
+use crate::version::Limits;
 use eevdf_ops::{CpuId, TaskSpec};
 use eevdf_weight::{Nice, Slice};
 use std::alloc::Global;

@@ -1,7 +1,7 @@
 use Rattle.std.proofs.Common.{◌≡◌, ℕ, List, ◌++◌, sym, ap, subst, ◌∙◌}
 use Rattle.std.specs.List.{flat_map}
 use Rattle.std.specs.FinMap as finite
-use Rattle.eevdf_queue.specs.declared.run_entry.Entry.{Entry}
+use Rattle.eevdf_queue.specs.declared.entry.Entry.{Entry}
 use Rattle.eevdf_report.specs.TextQueue.{runnable_line}
 use Rattle.eevdf_report.proofs.FoundEntries.{AreFound, entries_found}
 use Rattle.eevdf_report.proofs.text_queue.push_task_lines.Goals as goal

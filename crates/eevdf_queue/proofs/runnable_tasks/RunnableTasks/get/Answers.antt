@@ -1,6 +1,6 @@
 use Rattle.std.proofs.Common.{◌≡◌, ◌∙◌, Some, ap, sym}
 use Rattle.std.specs.Prelude.{ℤ}
-use Rattle.eevdf_queue.specs.{declared.run_entry.Entry.Entry, TreeStores.deadline_at}
+use Rattle.eevdf_queue.specs.{declared.entry.Entry.Entry, TreeStores.deadline_at}
 use Rattle.eevdf_queue.proofs.{TreeMaps.placed, PickedTasks.known_entry}
 use Rattle.eevdf_queue.proofs.runnable_tasks.RunnableTasks.get.Goals as goal
 

@@ -4,7 +4,7 @@ use Rattle.std.specs.Option.{option_map}
 use Rattle.std.proofs.lemmas.Int.{to_z-of_z}
 use mir.Syntax.{w64}
 use mir.Val.{SFits}
-use Rattle.eevdf_queue.specs.{declared.run_entry.Entry.Entry, State.Contents, Lag.cut, Lag.limit_of, TaskLists.first_task}
+use Rattle.eevdf_queue.specs.{declared.entry.Entry.Entry, State.Contents, Lag.cut, Lag.limit_of, TaskLists.first_task}
 use Rattle.eevdf_queue.specs.{TaskLists.find_task, TreeTasks.without, TreeStores.deadline_at, Leaving.leaving, Leaving.leaving_at}
 use Rattle.eevdf_weight.specs.Limits.{is_in_range}
 use Rattle.eevdf_queue.proofs.{Bounds.range_v, TreeSearch.found_number, PickedTasks.sums_kept}

@@ -1,6 +1,6 @@
 use Rattle.std.proofs.Common.{◌≡◌, ◌∙◌, ℕ, false, true, List, Some, refl, ap, sym, subst, rules}
 use Rattle.std.specs.{Prelude.ℤ, Prelude.is_some, Option.option_map, Ordering.nat_cmp, FinMap.FinMap, FinMap.get}
-use Rattle.eevdf_queue.specs.{declared.run_entry.Entry.Entry, declared.task.Task.Task, TreeStores.deadline_at}
+use Rattle.eevdf_queue.specs.{declared.entry.Entry.Entry, declared.task.Task.Task, TreeStores.deadline_at}
 use Rattle.eevdf_queue.specs.TaskLists.{first_task, find_task, set_entry, runnable_in}
 use Rattle.eevdf_queue.specs.TreeTasks.{insert_task, without, IsAtDeadline}
 use Rattle.eevdf_queue.proofs.{RunnableMaps.get-runnable_in, TreeChange.stored-set, TreeChange.set_seen, PickedTasks.sums_kept}

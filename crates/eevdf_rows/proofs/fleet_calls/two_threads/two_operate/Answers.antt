@@ -1,5 +1,5 @@
 use denote.Param.Send.{sendable}
-use Rattle.eevdf_ops.proofs.machine_setup.Setup.TheSendSync as setup
+use Rattle.eevdf_ops.proofs.setup.Setup.TheSendSync as setup
 use Rattle.eevdf_fleet.proofs.seat.Seat.TheSendSync as seat
 use Rattle.eevdf_fleet.proofs.Crossing.{fleet_sync}
 use Rattle.eevdf_rows.proofs.fleet_calls.two_threads.two_operate.Goals as goal

@@ -1,6 +1,6 @@
 use Rattle.std.proofs.Common.{◌≡◌, ℕ, ap, ◌∙◌, sym, arith}
 use Rattle.std.specs.Prelude.{Option, is_none, Result, Ok, Err, is_ok}
-use Rattle.eevdf_steps.specs.declared.{program_plan.Step.Step, step_fault.StepFault.StepFault}
+use Rattle.eevdf_steps.specs.declared.{plan.Step.Step, step_fault.StepFault.StepFault}
 use Rattle.eevdf_steps.specs.{Plan.Plan, Plan.callers, Counters.Counters, Counters.IsFreeStep, Counters.may_step}
 use Rattle.eevdf_steps.proofs.Holders.{least_past}
 use Rattle.eevdf_steps.proofs.callers.Callers.ready.Goals as goal

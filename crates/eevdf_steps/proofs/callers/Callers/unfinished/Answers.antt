@@ -1,6 +1,6 @@
 use Rattle.std.proofs.Common.{ap, ◌∙◌, sym, arith}
 use Rattle.std.specs.Prelude.{Option, is_some}
-use Rattle.eevdf_steps.specs.{declared.program_plan.Step.Step, Counters.is_under_way, Plan.callers}
+use Rattle.eevdf_steps.specs.{declared.plan.Step.Step, Counters.is_under_way, Plan.callers}
 use Rattle.eevdf_steps.proofs.Holders.{least_past}
 use Rattle.eevdf_steps.proofs.callers.Callers.unfinished.Goals as goal
 

@@ -1,0 +1,16 @@
+use Rattle.std.proofs.Common.{◌≤◌, sym, subst}
+use Rattle.std.specs.Prelude.{IfSome, unsigned_abs}
+use Rattle.eevdf_queue.specs.{State.State, State.View, Lag.limit_at}
+use Rattle.eevdf_queue.proofs.{Bounds.range_v, SleepingLag.sleeping_limited}
+use Rattle.eevdf_queue.proofs.queue.Queue.lag_of.Goals as goal
+
+pub kept_lag-requires-clause-placed : goal.kept_lag-requires-clause-placed
+kept_lag-requires-clause-placed c =
+    range_v c.in-Some.entry (c.keeps.ensures c.args.task c.in-Some.entry (sym c.in-Some.ensures)).1
+
+pub returns-in-None-clause-limited : goal.returns-in-None-clause-limited
+returns-in-None-clause-limited c =
+    let inside = c.self.inside in
+    let q : State = record { runnable = inside.runnable; running = inside.running; asleep = inside.asleep; base = inside.base } in
+    subst (λ (w : View). IfSome c.lag.result (λ lag. unsigned_abs lag ≤ limit_at w.state c.args.task)) c.self.view_is
+    (sleeping_limited q c.args.task c.lag.result (sym c.in-None.ensures) c.keeps-2.ensures c.lag.ensures)

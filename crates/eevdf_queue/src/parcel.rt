@@ -1,0 +1,151 @@
+ghost use Rattle.std.specs.Prelude.{◌≡◌, ◌<◌, IfOk, pos, true};
+ghost use Rattle.eevdf_queue.specs.{Lag.is_lag, Moves.sleeper_of, Placing.sleeper_from};
+ghost use Rattle.eevdf_queue.specs.TaskLists.{first_task, contents_of, IsLone};
+
+use crate::entry::Entry;
+use crate::placing::Newcomer;
+use crate::task::{Task, newcomer};
+use crate::task_id::TaskId;
+use crate::tree_node::TreeNode;
+use eevdf_weight::{Nice, Slice};
+use std::alloc::{AllocError, Global};
+use std::marker::Model;
+
+/// One task on its way into a queue, with the node that carries it there: its number, its nice level and
+/// slice, the virtual runtime that it starts at, and the lag that it has.
+///
+/// A parcel isn't `Drop`, so a program that lets one go isn't accepted: it puts the task into a queue, or ends
+/// it by [`Parcel::retire`].
+pub struct Parcel {
+    node: Box<TreeNode>,
+}
+
+impl Model for Parcel {
+    ghost use Rattle.std.specs.Prelude.{◌≡◌, ◌∷◌, []};
+    ghost use Rattle.eevdf_queue.specs.State.{Contents};
+
+    ghost Value = { Contents };
+
+    ghost use Rattle.eevdf_queue.specs.TaskLists.{first_task, contents_of, IsLone};
+
+    ghost view = { λ a. contents_of (first_task a.node.value.tasks) };
+
+    ghost invariant = { λ a. IsLone a.node.value.tasks };
+}
+
+impl Parcel {
+    /// A parcel of a task that starts at the virtual runtime `v` with the lag 0. Fails only when
+    /// out of memory.
+    pub fn make(
+        alloc: Global,
+        task: TaskId,
+        nice: Nice,
+        slice: Slice,
+        v: i64,
+    ) -> Result<Parcel, AllocError>
+        ensures { IfOk result (λ p. p ≡ record { task = task; nice = nice; slice = slice; start = v; lag = pos 0 }) }
+    {
+        let entry = Entry {
+            v,
+            d: v,
+            nice,
+            slice,
+        };
+        let node = Box::new(
+            alloc,
+            TreeNode::new(Task {
+                number: task,
+                entry,
+                lag: 0,
+            }),
+        )?;
+        Ok(Parcel { node })
+    }
+
+    /// The number of the task.
+    pub fn task(&self) -> TaskId
+        ensures { result ≡ self.now.task }
+    {
+        self.node.task().number
+    }
+
+    /// The nice level of the task.
+    pub fn nice(&self) -> Nice
+        ensures { result ≡ self.now.nice }
+    {
+        self.node.task().entry.nice
+    }
+
+    /// The slice of the task.
+    pub fn slice(&self) -> Slice
+        ensures { result ≡ self.now.slice }
+    {
+        self.node.task().entry.slice
+    }
+
+    /// The virtual runtime that the task starts at.
+    pub fn start(&self) -> i64
+        ensures { result ≡ self.now.start }
+    {
+        self.node.task().entry.v
+    }
+
+    /// The lag of the task, within the limit of its slice and weight.
+    pub fn lag(&self) -> i64
+        ensures value { result ≡ self.now.lag }
+        ensures limited { is_lag self.now.lag self.now.nice self.now.slice ≡ true }
+    {
+        self.node.task().lag
+    }
+
+    /// Ends the task, and frees its node.
+    pub fn retire(self) {
+        let Parcel { node: _ } = self;
+    }
+
+    /// The same task, to start at the virtual runtime `v`.
+    pub(crate) fn starting_at(mut self, v: i64) -> Parcel
+        ensures { result ≡ record self { start = v } }
+    {
+        let mut task = self.node.task();
+        task.entry.v = v;
+        self.node.replace(task);
+        self
+    }
+
+    /// An entry at the start, whose request is still to come.
+    pub(crate) fn entry(&self) -> Entry
+        ensures start { result.v ≡ self.now.start }
+        ensures nice { result.nice ≡ self.now.nice }
+        ensures slice { result.slice ≡ self.now.slice }
+    {
+        self.node.task().entry
+    }
+
+    /// What the task brings along.
+    pub(crate) fn newcomer(&self) -> Newcomer
+        ensures value { sleeper_from result ≡ sleeper_of self.now }
+        ensures limited { is_lag result.lag result.nice result.slice ≡ true }
+    {
+        newcomer(&self.node.task())
+    }
+
+    /// The node, alone.
+    pub(crate) fn into_node(self) -> Box<TreeNode>
+        ensures lone { IsLone result.value.tasks }
+        ensures contents { contents_of (first_task result.value.tasks) ≡ self }
+        ensures below { self.task < 1024 }
+    {
+        prove!(self.task().get() < 1024);
+        let Parcel { node } = self;
+        node
+    }
+
+    /// A parcel of the task of a node, with its lag, which is within its limit.
+    pub(crate) fn of(node: Box<TreeNode>) -> Parcel
+        requires { IsLone node.value.tasks }
+        ensures { result ≡ contents_of (first_task node.value.tasks) }
+    {
+        Parcel { node }
+    }
+}

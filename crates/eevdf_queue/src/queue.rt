@@ -1,0 +1,176 @@
+ghost use Rattle.std.specs.Prelude.{◌≡◌, ◌≤◌, ◌↔◌, ◌==◌, ◌||◌, unsigned_abs, IfSome, IsNone, true, false};
+ghost use Rattle.std.specs.Bool.{FalseIff};
+ghost use Rattle.std.specs.FinMap as map;
+ghost use Rattle.eevdf_weight.specs.Limits as limits;
+ghost use Rattle.eevdf_queue.specs.{State.empty_state, Sums.total_weight, Sums.virtual_time, Kept.IsKept, Laws.AreSumsSmall};
+ghost use Rattle.eevdf_queue.specs.Leaving.{IsNowhere};
+ghost use Rattle.eevdf_queue.specs.Candidate as candidates;
+ghost use Rattle.eevdf_queue.specs.Lag as lags;
+
+use crate::entry::Entry;
+use crate::lag::kept_lag;
+use crate::runnable_tasks::RunnableTasks;
+use crate::sleepers::Sleepers;
+use crate::task_id::TaskId;
+use crate::totals::time_over;
+use std::marker::Model;
+
+/// The run queue of one CPU.
+#[derive(Drop)]
+pub struct Queue {
+    pub(crate) runnable: RunnableTasks,
+    pub(crate) asleep: Sleepers,
+    pub(crate) base: i64,
+    pub(crate) running: Option<TaskId>,
+    pub(crate) turns: u32,
+}
+
+impl Model for Queue {
+    ghost use Rattle.std.specs.Ordering.{nat_cmp};
+    ghost use Rattle.eevdf_queue.specs.{State.View, Codes.view_code};
+
+    ghost Value = { View };
+
+    ghost coded = { view_code };
+
+    ghost use Rattle.eevdf_queue.specs.Kept.{IsSound};
+
+    ghost view = { λ a. record {
+      state = record { runnable = a.runnable; running = a.running; asleep = a.asleep; base = a.base };
+      turns = a.turns;
+    } };
+
+    ghost invariant = { λ a. IsSound
+        (record { runnable = a.runnable; running = a.running; asleep = a.asleep; base = a.base }) };
+}
+
+impl Queue {
+    /// A queue without tasks, at the virtual time 0. Takes no memory.
+    pub fn open() -> Queue
+        ensures { result ≡ record { state = empty_state; turns = 0 } }
+    {
+        Queue {
+            runnable: RunnableTasks::new(),
+            asleep: Sleepers::new(),
+            base: 0,
+            running: None,
+            turns: 0,
+        }
+    }
+
+    /// The number of runnable tasks.
+    pub fn len(&self) -> usize
+        ensures { result ≡ map.len self.now.state.runnable }
+    {
+        self.runnable.len()
+    }
+
+    /// Whether no task is runnable. Tasks may sleep here all the same.
+    pub fn is_empty(&self) -> bool
+        ensures { result ≡ (map.len self.now.state.runnable == 0) }
+    {
+        self.len() == 0
+    }
+
+    /// The sum of the weights of the runnable tasks.
+    pub fn load(&self) -> u64
+        ensures { result ≡ total_weight self.now.state.runnable }
+    {
+        self.runnable.totals().weight
+    }
+
+    /// The task that runs.
+    pub fn running(&self) -> Option<TaskId>
+        ensures { result ≡ self.now.state.running }
+    {
+        self.running
+    }
+
+    /// The entry of a task that is runnable here, and `None` of any other.
+    pub fn entry(&self, task: TaskId) -> Option<Entry>
+        ensures { result ≡ map.get self.now.state.runnable task }
+    {
+        self.runnable.get(task)
+    }
+
+    /// The virtual time: the weighted mean of the virtual runtimes, rounded down. Where nothing is runnable,
+    /// the time that stands.
+    pub fn floor_time(&self) -> i64
+        ensures value { result ≡ virtual_time self.now.state }
+        ensures in_range { limits.is_in_range result ≡ true }
+    {
+        time_over(&self.runnable.totals(), self.base)
+    }
+
+    /// The task that another CPU may pull: of the runnable tasks that don't run the one of latest virtual
+    /// deadline, the greater number where deadlines are equal. `None` exactly where no task waits.
+    pub fn candidate(&self) -> Option<TaskId>
+        ensures value { result ≡ candidates.candidate_of self.now.state.runnable self.now.state.running }
+        ensures last { IfSome result (candidates.IsCandidate self.now.state.runnable self.now.state.running) }
+        ensures waiting { IfSome result (λ t. (map.contains_key self.now.state.runnable t ≡ true)
+            × (candidates.is_running self.now.state.running t ≡ false)) }
+        ensures none { IsNone result ↔ candidates.NoneWaits self.now.state.runnable self.now.state.running }
+    {
+        self.runnable.candidate(self.running)
+    }
+
+    /// The lag that a runnable task would keep if it left now, the kept lag of a sleeping one, and `None` of
+    /// any other.
+    pub fn lag_of(&self, task: TaskId) -> Option<i64>
+        ensures value { result ≡ lags.lag_of self.now.state task }
+        ensures limited { IfSome result (λ lag. unsigned_abs lag ≤ lags.limit_at self.now.state task) }
+    {
+        self.runnable.keeps();
+        self.asleep.keeps();
+        match self.runnable.get(task) {
+            Some(entry) => Some(kept_lag(self.floor_time(), &entry)),
+            None => self.asleep.lag(task),
+        }
+    }
+
+    /// The lag that a sleeping task keeps, and `None` of any other.
+    pub(crate) fn kept_asleep(&self, task: TaskId) -> Option<i64>
+        ensures { result ≡ lags.sleeping_lag (map.get self.now.state.asleep task) }
+    {
+        self.asleep.lag(task)
+    }
+
+    /// Whether a task sleeps here.
+    pub fn asleep(&self, task: TaskId) -> bool
+        ensures { result ≡ map.contains_key self.now.state.asleep task }
+    {
+        self.asleep.contains(task)
+    }
+
+    /// Whether a task is here, runnable or asleep.
+    pub fn contains(&self, task: TaskId) -> bool
+        ensures value { result ≡ (map.contains_key self.now.state.runnable task || map.contains_key self.now.state.asleep task) }
+        ensures absent { FalseIff result (IsNowhere self.now.state task) }
+    {
+        self.entry(task).is_some() || self.asleep(task)
+    }
+
+    /// The turns of the descent to the task that the last pick answered: `k` such that `2 ^ (k / 2) <= n + 1` with
+    /// `n` tasks runnable at that pick. 0 where it answered none, and before the first pick.
+    pub fn pick_steps(&self) -> u32
+        ensures { result ≡ self.now.turns }
+    {
+        self.turns
+    }
+
+    /// Learns what every queue keeps.
+    pub(crate) fn keeps(&self)
+        ensures { IsKept self.now.state }
+    {
+        self.runnable.keeps();
+        self.asleep.keeps();
+        let _time = self.floor_time();
+    }
+
+    /// Learns how large the sums can be.
+    pub(crate) fn sums_are_small(&self)
+        ensures { AreSumsSmall self.now.state.runnable }
+    {
+        self.runnable.sums_are_small();
+    }
+}

@@ -1,0 +1,6 @@
+use Rattle.std.proofs.Common.{◌≡◌, [], map}
+use Rattle.eevdf_report.specs.TextSchedules.{schedules_of}
+use Rattle.eevdf_report.proofs.schedules.Schedules.empty.Given as goal
+
+abbrev pub invariant-loop : goal.invariant-loop
+invariant-loop l = map (λ t. t.items) l.texts.items ≡ schedules_of l.counter []

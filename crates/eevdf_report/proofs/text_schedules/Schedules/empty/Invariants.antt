@@ -1,6 +1,0 @@
-use Rattle.std.proofs.Common.{◌≡◌, [], map}
-use Rattle.eevdf_report.specs.TextSchedules.{schedules_of}
-use Rattle.eevdf_report.proofs.text_schedules.Schedules.empty.Given as goal
-
-abbrev pub invariant-loop : goal.invariant-loop
-invariant-loop l = map (λ t. t.items) l.texts.items ≡ schedules_of l.counter []

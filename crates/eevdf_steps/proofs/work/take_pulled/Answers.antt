@@ -1,0 +1,23 @@
+use Rattle.std.proofs.Common.{◌≡◌, sym, ◌∙◌, arith}
+use Rattle.eevdf_ops.specs.{Outcome.machine_of, PullOffer.task_of}
+use Rattle.eevdf_ops.proofs.Machines.{queue_state}
+use Rattle.eevdf_ops.proofs.Pulling.{decided_at, decided_of, takes, takes-waiting}
+use Rattle.eevdf_steps.proofs.{Decisions.refusal_decided, work.take_pulled.Goals.After-decide}
+use Rattle.eevdf_steps.proofs.work.take_pulled.Goals as goal
+
+decided : (c : After-decide) → task_of (decided_at (machine_of c.args.queues.now) c.args.cpu c.args.source) ≡ c.decide.result
+decided c =
+    decided_of (machine_of c.args.queues.now) c.args.cpu c.args.source c.index-queues-get.result.state c.index-queues-get-2.result.state c.decide.result
+    (queue_state c.args.queues.now c.args.cpu c.get.result c.index-queues-get.result c.index-queues-get.is c.get.ensures.number (omega (arith, c.requires.cpu, c.get.ensures.number)))
+    (queue_state c.args.queues.now c.args.source c.get-2.result c.index-queues-get-2.result c.index-queues-get-2.is c.get-2.ensures.number (omega (arith, c.requires.source, c.get-2.ensures.number)))
+    c.decide.ensures
+
+pub take-requires-clause-waiting : goal.take-requires-clause-waiting
+take-requires-clause-waiting c =
+    takes-waiting (machine_of c.args.queues.now) c.args.cpu c.args.source c.in-Ok.task
+    (takes (machine_of c.args.queues.now) c.args.cpu c.args.source c.in-Ok.task (decided (goal.at.take-requires-clause-waiting c).After-decide ∙ c.in-Ok.is))
+
+pub returns-in-Err-clause-decision : goal.returns-in-Err-clause-decision
+returns-in-Err-clause-decision c =
+    sym (refusal_decided (decided_at (machine_of c.args.queues.now) c.args.cpu c.args.source) c.in-Err.refusal
+    (decided (goal.at.returns-in-Err-clause-decision c).After-decide ∙ c.in-Err.is))

@@ -1,0 +1,284 @@
+//! The work that the callers do on the queues.
+
+ghost use Rattle.std.specs.Prelude.{◌≡◌, ◌<◌, ◌≤◌, length, replicate, vec_len, true, None, IfOk, IfSome};
+ghost use Rattle.eevdf_queue.specs.{Leaving.carried_running, Moves.sleeper_of, Placing.can_place};
+ghost use Rattle.eevdf_ops.specs.{Machine.queue_at, Numbers.most_cpus, Outcome.machine_of, Places.places_in};
+ghost use Rattle.eevdf_ops.specs.Places.{places as machine_places};
+ghost use Rattle.eevdf_steps.specs.Places as places;
+ghost use Rattle.eevdf_steps.specs.Work as work;
+
+use crate::hand::Hand;
+use crate::lists_of_steps::cpu_number;
+use crate::place::Place;
+use eevdf_ops::one_queue::{pick, renice, tick, wake, yield_now};
+use eevdf_ops::whole_pull::{decide, join, take};
+use eevdf_ops::whole_sleep::{fall_asleep, slept, take_running};
+use eevdf_ops::{Answer, CpuId, Op};
+use eevdf_queue::{Parcel, Queue, TaskId};
+use std::alloc::{AllocError, Global};
+use std::marker::Model;
+
+/// The queues, the task in each caller's hand, and the answer that each caller keeps.
+#[derive(Drop)]
+pub(crate) struct Work {
+    queues: Vec<Queue>,
+    hands: Vec<Hand>,
+    answers: Vec<Option<Answer>>,
+}
+
+impl Model for Work {
+    ghost use Rattle.eevdf_ops.specs.Outcome.{machine_of};
+    ghost use Rattle.eevdf_steps.specs.Work as work;
+    ghost use Rattle.std.specs.Coded.{codes};
+    ghost use Rattle.eevdf_queue.specs.Codes.{state_code};
+
+    ghost Value = { work.Work };
+
+    ghost coded = { Prim.hlevel (codes, state_code) };
+
+    ghost view = { λ w. record { machine = machine_of w.queues.items; hands = w.hands.items; answers = w.answers.items } };
+}
+
+impl Work {
+    /// The work on these queues, with empty hands.
+    pub(crate) fn open(alloc: Global, queues: Vec<Queue>) -> Result<Work, AllocError>
+        ensures { IfOk result (λ w. w ≡ record {
+          machine = machine_of queues.items;
+          hands = replicate (vec_len queues) None;
+          answers = replicate (vec_len queues) None;
+        }) }
+    {
+        let hands = empty_hands(alloc, queues.len())?;
+        let answers = vec![in alloc; None; queues.len()]?;
+        Ok(Work {
+            queues,
+            hands,
+            answers,
+        })
+    }
+
+    /// The queues alone, by CPU.
+    pub(crate) fn into_queues(self) -> Vec<Queue>
+        ensures { machine_of result.items ≡ self.machine }
+    {
+        let Work {
+            queues,
+            hands: _,
+            answers: _,
+        } = self;
+        queues
+    }
+
+    /// The queue of a CPU.
+    pub(crate) fn queue(&self, cpu: CpuId) -> &Queue
+        requires { cpu < length self.now.machine }
+        ensures { result.now.state ≡ queue_at self.now.machine cpu }
+    {
+        &self.queues[cpu.get() as usize]
+    }
+
+    /// The first place in which a task stands, where it stands in one.
+    pub(crate) fn place_of(&self, task: TaskId) -> Option<Place>
+        requires { length self.now.machine ≤ most_cpus }
+        ensures { places.IsPlaceOf self.now task (places.places_of self.now task) result }
+    {
+        match self.queue_place(task) {
+            Some(place) => Some(place),
+            None => self.hand_place(task),
+        }
+    }
+
+    fn queue_place(&self, task: TaskId) -> Option<Place>
+        requires { length self.now.machine ≤ most_cpus }
+        ensures { places.IsPlaceOf self.now task (machine_places self.now.machine task) result }
+    {
+        for at in 0..self.queues.len() {
+            let cpu = cpu_number(at);
+            let queue = self.queue(cpu);
+            if queue.entry(task).is_some() {
+                return Some(Place::Runnable(cpu));
+            }
+            if queue.asleep(task) {
+                return Some(Place::Asleep(cpu));
+            }
+        }
+        None
+    }
+
+    fn hand_place(&self, task: TaskId) -> Option<Place>
+        ensures { places.IsPlaceOf self.now task (places.hands_with self.now.hands task) result }
+    {
+        for caller in 0..self.hands.len() {
+            if self.hands[caller].holds(task) {
+                return Some(Place::InHand(caller));
+            }
+        }
+        None
+    }
+
+    /// The answer that a caller keeps.
+    pub(crate) fn answer(&self, cpu: CpuId) -> Option<Answer>
+        requires { cpu < length self.now.answers }
+        ensures { result ≡ work.answer self.now cpu }
+    {
+        self.answers[cpu.get() as usize]
+    }
+
+    /// Does the deed of an operation on the caller's own queue.
+    pub(crate) fn act(&mut self, cpu: CpuId, op: Op)
+        requires queue { cpu < length self.old.machine }
+        requires answer { cpu < length self.old.answers }
+        ensures { self.new ≡ work.act self.old cpu op }
+    {
+        match op {
+            Op::Tick(ns) => {
+                let answer = tick(&mut self.queues, cpu, ns);
+                self.keep(cpu, answer);
+            }
+            Op::Pick => {
+                let answer = pick(&mut self.queues, cpu);
+                self.keep(cpu, answer);
+            }
+            Op::Yield => {
+                let answer = yield_now(&mut self.queues, cpu);
+                self.keep(cpu, answer);
+            }
+            Op::Renice(task, nice) => {
+                let answer = renice(&mut self.queues, cpu, task, nice);
+                self.keep(cpu, answer);
+            }
+            _ => {}
+        }
+    }
+
+    /// Wakes a task on the caller's own queue.
+    pub(crate) fn wake(&mut self, cpu: CpuId, task: TaskId) -> Answer
+        requires { cpu < length self.old.machine }
+        ensures answer { result ≡ work.wake_answer self.old cpu task }
+        ensures after { self.new ≡ work.woken self.old cpu task }
+    {
+        wake(&mut self.queues, cpu, task)
+    }
+
+    /// Takes the task of an operation into the caller's hand, which is empty, unless the operation is refused.
+    pub(crate) fn detach(&mut self, cpu: CpuId, op: Op)
+        requires queue { cpu < length self.old.machine }
+        requires answer { cpu < length self.old.answers }
+        requires hand { cpu < length self.old.hands }
+        requires empty { work.hand self.old cpu ≡ None }
+        requires source { work.pulls_from (length self.old.machine) op ≡ true }
+        ensures { self.new ≡ work.detach self.old cpu op }
+    {
+        match op {
+            Op::Sleep(task) => self.detach_running(cpu, task),
+            Op::Pull(source) => self.detach_pulled(cpu, source),
+            _ => {}
+        }
+    }
+
+    fn detach_running(&mut self, cpu: CpuId, task: TaskId)
+        requires queue { cpu < length self.old.machine }
+        requires answer { cpu < length self.old.answers }
+        requires hand { cpu < length self.old.hands }
+        ensures { self.new ≡ work.detach_running self.old cpu (carried_running (queue_at self.old.machine cpu) task) }
+    {
+        match take_running(&mut self.queues, cpu, task) {
+            None => self.keep(cpu, Answer::NotRunning),
+            Some(parcel) => {
+                let answer = slept(&parcel);
+                self.grasp(cpu, parcel, answer);
+            }
+        }
+    }
+
+    fn detach_pulled(&mut self, cpu: CpuId, source: CpuId)
+        requires queue { cpu < length self.old.machine }
+        requires answer { cpu < length self.old.answers }
+        requires hand { cpu < length self.old.hands }
+        requires source { source < length self.old.machine }
+        ensures { self.new ≡ work.detach_pulled self.old cpu source (work.pull_decision self.old.machine cpu source) }
+    {
+        match take_pulled(&mut self.queues, cpu, source) {
+            Err(refusal) => self.keep(cpu, refusal),
+            Ok(parcel) => {
+                let task = parcel.task();
+                self.grasp(cpu, parcel, Answer::Pulled(task));
+            }
+        }
+    }
+
+    /// Puts the task in the caller's hand to sleep at its home.
+    pub(crate) fn attach_asleep(&mut self, cpu: CpuId, home: CpuId)
+        requires queue { home < length self.old.machine }
+        requires hand { cpu < length self.old.hands }
+        requires nowhere { IfSome (work.hand self.old cpu) (λ p. places_in (queue_at self.old.machine home) p.task ≡ 0) }
+        ensures { self.new ≡ work.attach_asleep self.old cpu home (work.hand self.old cpu) }
+    {
+        match self.let_go(cpu) {
+            None => {}
+            Some(parcel) => fall_asleep(&mut self.queues, home, parcel),
+        }
+    }
+
+    /// Places the task in the caller's hand in its own queue.
+    pub(crate) fn attach_pulled(&mut self, cpu: CpuId)
+        requires queue { cpu < length self.old.machine }
+        requires hand { cpu < length self.old.hands }
+        requires nowhere { IfSome (work.hand self.old cpu) (λ p. places_in (queue_at self.old.machine cpu) p.task ≡ 0) }
+        requires room { IfSome (work.hand self.old cpu) (λ p. can_place (queue_at self.old.machine cpu) (sleeper_of p) ≡ true) }
+        ensures { self.new ≡ work.attach_pulled self.old cpu (work.hand self.old cpu) }
+    {
+        match self.let_go(cpu) {
+            None => {}
+            Some(parcel) => join(&mut self.queues, cpu, parcel),
+        }
+    }
+
+    /// Takes the task out of the caller's hand.
+    fn let_go(&mut self, cpu: CpuId) -> Option<Parcel>
+        requires { cpu < length self.old.hands }
+        ensures parcel { result ≡ work.hand self.old cpu }
+        ensures after { self.new ≡ work.emptied self.old cpu }
+    {
+        self.hands[cpu.get() as usize].take()
+    }
+
+    fn grasp(&mut self, cpu: CpuId, parcel: Parcel, answer: Answer)
+        requires answer { cpu < length self.old.answers }
+        requires hand { cpu < length self.old.hands }
+        ensures { self.new ≡ work.grasped self.old cpu parcel answer }
+    {
+        self.hands[cpu.get() as usize] = Hand::with(parcel);
+        self.answers[cpu.get() as usize] = Some(answer);
+    }
+
+    fn keep(&mut self, cpu: CpuId, answer: Answer)
+        requires { cpu < length self.old.answers }
+        ensures { self.new ≡ work.answered self.old cpu answer }
+    {
+        self.answers[cpu.get() as usize] = Some(answer);
+    }
+}
+
+fn empty_hands(alloc: Global, callers: usize) -> Result<Vec<Hand>, AllocError>
+    ensures { IfOk result (λ hands. hands.items ≡ replicate callers None) }
+{
+    let mut hands = Vec::with_capacity(alloc, callers)?;
+    for _caller in 0..callers {
+        hands.push(Hand::empty())?;
+    }
+    Ok(hands)
+}
+
+/// Takes out of the source what the CPU decides to pull.
+fn take_pulled(queues: &mut [Queue], cpu: CpuId, source: CpuId) -> Result<Parcel, Answer>
+    requires cpu { cpu < length queues.old }
+    requires source { source < length queues.old }
+    ensures decision { result ≡ work.pull_decision (machine_of queues.old) cpu source }
+    ensures machine { machine_of queues.new ≡ work.taken_from (machine_of queues.old) source result }
+{
+    match decide(&queues[cpu.get() as usize], &queues[source.get() as usize]) {
+        Err(refusal) => Err(refusal),
+        Ok(task) => Ok(take(queues, source, task)),
+    }
+}

@@ -1,0 +1,69 @@
+ghost use Rattle.std.specs.Prelude.{◌≡◌, Some};
+ghost use Rattle.eevdf_workload.specs.Versions.{cpu_within, limits_of, version_text};
+
+use crate::workload::Workload;
+use eevdf_ops::CpuId;
+use std::fmt;
+
+/// The version of a workload's format.
+#[derive(Clone, Copy, PartialEq, Eq, Debug)]
+pub enum Version {
+    One,
+    Two,
+}
+
+/// The version's number, as a workload gives it.
+impl fmt::Display for Version {
+    ghost output = { λ version. Some (version_text version) };
+
+    fn fmt<W: fmt::Write>(&self, f: &mut fmt::Formatter<W>) -> fmt::Result {
+        match self {
+            Version::One => f.write_str("1"),
+            Version::Two => f.write_str("2"),
+        }
+    }
+}
+
+/// What a workload of a version may hold.
+#[derive(Clone, Copy)]
+pub(crate) struct Limits {
+    /// There are at most so many programs, and the numbers of CPUs are below this.
+    pub(crate) cpus: u64,
+    /// A script has at most so many deeds.
+    pub(crate) deeds: usize,
+    /// Whether the word `renice` is known.
+    pub(crate) renice: bool,
+}
+
+impl Version {
+    /// What a workload of this version may hold.
+    pub(crate) fn limits(self) -> Limits
+        ensures { result ≡ limits_of self }
+    {
+        match self {
+            Version::One => Limits {
+                cpus: 16,
+                deeds: Workload::MOST_DEEDS_IN_VERSION_ONE,
+                renice: false,
+            },
+            Version::Two => Limits {
+                cpus: 64,
+                deeds: Workload::MOST_DEEDS,
+                renice: true,
+            },
+        }
+    }
+}
+
+impl Limits {
+    /// The CPU of this number, or `None` where the number isn't within the limits.
+    pub(crate) fn cpu(self, number: u64) -> Option<CpuId>
+        ensures { result ≡ cpu_within self number }
+    {
+        if number < self.cpus {
+            CpuId::new(number)
+        } else {
+            None
+        }
+    }
+}
