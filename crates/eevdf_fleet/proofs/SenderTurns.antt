@@ -12,41 +12,40 @@ use Rattle.eevdf_fleet.specs.Fleets.{Seat, logged, posted_to}
 use Rattle.eevdf_fleet.specs.Drains.{HasDrained, HasTaken, counted, is_woken, logged_all, oldest_own}
 use Rattle.eevdf_fleet.proofs.Takes.{wakes-append, wakes-one, wake-own, wake-other, wakes-unless}
 
+-- a wake on a CPU, asked for by a CPU from one on
+abbrev pub IsWakeFrom : ℕ → ℕ → Deed → Type 0
+IsWakeFrom cpu from (Wake on task sender) = (on ≡ cpu) × (from ≤ sender)
+IsWakeFrom cpu from other = ⊥
+
+abbrev pub sender_of : Deed → ℕ
+sender_of (Wake on task sender) = sender
+sender_of other = 0
+
 -- wakes on a CPU, asked for by CPUs that strictly ascend from one on, up to another
 abbrev pub WakesTo : ℕ → ℕ → ℕ → List Deed → Type 0
 WakesTo cpu from to [] = from ≤ to
-WakesTo cpu from to (Wake on task sender ∷ deeds) = (on ≡ cpu) × (from ≤ sender) × WakesTo cpu (sender + 1) to deeds
-WakesTo cpu from to (other ∷ deeds) = ⊥
+WakesTo cpu from to (deed ∷ deeds) = IsWakeFrom cpu from deed × WakesTo cpu (sender_of deed + 1) to deeds
+
+first-wake : (cpu from : ℕ) (deed : Deed) (deeds : List Deed) → IsWakeFrom cpu from deed → AreWakes cpu (sender_of deed + 1) deeds → AreWakes cpu from (deed ∷ deeds)
+first-wake cpu from (Wake on task sender) deeds h more = (h.0, h.1, more)
+first-wake cpu from (Tick on ns) deeds h more = absurd h
+first-wake cpu from (Pick on) deeds h more = absurd h
+first-wake cpu from (Yield on) deeds h more = absurd h
+first-wake cpu from (Sleep on task) deeds h more = absurd h
+first-wake cpu from (Pull on source) deeds h more = absurd h
+first-wake cpu from (Renice on task nice) deeds h more = absurd h
 
 are-wakes : (cpu from to : ℕ) (deeds : List Deed) → WakesTo cpu from to deeds → AreWakes cpu from deeds
 are-wakes cpu from to [] h = tt
-are-wakes cpu from to (Wake on task sender ∷ deeds) h = (h.0, h.1, are-wakes cpu (sender + 1) to deeds h.2)
-are-wakes cpu from to (Tick on ns ∷ deeds) h = absurd h
-are-wakes cpu from to (Pick on ∷ deeds) h = absurd h
-are-wakes cpu from to (Yield on ∷ deeds) h = absurd h
-are-wakes cpu from to (Sleep on task ∷ deeds) h = absurd h
-are-wakes cpu from to (Pull on source ∷ deeds) h = absurd h
-are-wakes cpu from to (Renice on task nice ∷ deeds) h = absurd h
+are-wakes cpu from to (deed ∷ deeds) h = first-wake cpu from deed deeds h.0 (are-wakes cpu (sender_of deed + 1) to deeds h.1)
 
 none-more : (cpu from to : ℕ) (deeds : List Deed) → WakesTo cpu from to deeds → WakesTo cpu from (to + 1) deeds
 none-more cpu from to [] h = omega arith
-none-more cpu from to (Wake on task sender ∷ deeds) h = (h.0, h.1, none-more cpu (sender + 1) to deeds h.2)
-none-more cpu from to (Tick on ns ∷ deeds) h = absurd h
-none-more cpu from to (Pick on ∷ deeds) h = absurd h
-none-more cpu from to (Yield on ∷ deeds) h = absurd h
-none-more cpu from to (Sleep on task ∷ deeds) h = absurd h
-none-more cpu from to (Pull on source ∷ deeds) h = absurd h
-none-more cpu from to (Renice on task nice ∷ deeds) h = absurd h
+none-more cpu from to (deed ∷ deeds) h = (h.0, none-more cpu (sender_of deed + 1) to deeds h.1)
 
 one-more : (cpu from to task : ℕ) (deeds : List Deed) → WakesTo cpu from to deeds → WakesTo cpu from (to + 1) (deeds ++ Wake cpu task to ∷ [])
-one-more cpu from to task [] h = (refl, h, omega arith)
-one-more cpu from to task (Wake on other sender ∷ deeds) h = (h.0, h.1, one-more cpu (sender + 1) to task deeds h.2)
-one-more cpu from to task (Tick on ns ∷ deeds) h = absurd h
-one-more cpu from to task (Pick on ∷ deeds) h = absurd h
-one-more cpu from to task (Yield on ∷ deeds) h = absurd h
-one-more cpu from to task (Sleep on other ∷ deeds) h = absurd h
-one-more cpu from to task (Pull on source ∷ deeds) h = absurd h
-one-more cpu from to task (Renice on other nice ∷ deeds) h = absurd h
+one-more cpu from to task [] h = ((refl, h), omega arith)
+one-more cpu from to task (deed ∷ deeds) h = (h.0, one-more cpu (sender_of deed + 1) to task deeds h.1)
 
 abbrev pub woken_in : List Line → ℕ
 woken_in lines = length (filter (λ (l : Line). is_woken l.answer) lines)

@@ -1,9 +1,9 @@
 -- What contracts see of a fleet.
-use Rattle.std.specs.Prelude.{◌≡◌, ℕ, ◌-◌, ◌<◌, List, [], ◌∷◌, ◌++◌, length, map, replicate, slice_get, slice_index_or, slice_set, Some}
+use Rattle.std.specs.Prelude.{◌≡◌, ℕ, ◌-◌, ◌<◌, List, [], ◌∷◌, ◌++◌, length, map, replicate, slice_get, slice_index_or, slice_set, Some, Result, MatchResult}
 use Rattle.std.specs.List.{range_with_len}
 use Rattle.atomic_table.specs.Seated.{TableId}
 use Rattle.eevdf_queue.specs.State as states
-use Rattle.eevdf_ops.specs.{declared.deeds.Line.Line, Programs.lines_by, Programs.wakes_from, Setup.Setup}
+use Rattle.eevdf_ops.specs.{declared.deeds.Answer.Answer, declared.deeds.Deed.Deed, declared.deeds.Line.Line, Programs.lines_by, Programs.wakes_from, Setup.Setup}
 use Rattle.eevdf_fleet.specs.declared.board.claims.Terms.{Terms}
 use Rattle.eevdf_fleet.specs.Rings.{Rings, Posts, Takes, Returned, ArePostsOf, left_of}
 
@@ -30,6 +30,10 @@ posted_to s home = slice_index_or s.posted home []
 -- the seat with one line more, and with one request more
 abbrev pub logged : Seat → Line → Seat
 logged s line = record s { log = s.log ++ line ∷ []; room = s.room - 1 }
+
+-- the seat has the line of a deed with what it was answered; a refusal changes nothing
+abbrev pub IsLogged : {E : Type 0} → Deed → Seat → Seat → Result Answer E → Type 0
+IsLogged deed before after r = MatchResult r (λ a. after ≡ logged before (record { deed = deed; answer = a })) (λ _. after ≡ before)
 
 abbrev pub with_post : Seat → ℕ → ℕ → Seat
 with_post s home task = record s { posted = slice_set s.posted home (posted_to s home ++ task ∷ []) }

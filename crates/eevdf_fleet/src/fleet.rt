@@ -4,7 +4,7 @@ ghost use Rattle.eevdf_ops.specs.{Histories.IsOneThread, Machine.start, Outcome.
 ghost use Rattle.eevdf_ops.specs.Programs.{lines_by};
 ghost use Rattle.eevdf_ops.specs.Setup.{allows, cpus_of, homes_of, is_task};
 ghost use Rattle.eevdf_fleet.specs.Drains.{HasDrained};
-ghost use Rattle.eevdf_fleet.specs.Fleets.{AllPostsTold, AreSeats, fresh_seats, logged, setup_of};
+ghost use Rattle.eevdf_fleet.specs.Fleets.{AllPostsTold, AreSeats, IsLogged, fresh_seats, setup_of};
 
 use crate::closing::{close_locks, close_seats};
 use crate::drains::Drained;
@@ -104,9 +104,7 @@ impl<N: Names> Fleet<N> {
     /// was used up; `Idle`: nobody runs; `Range`: a virtual time would leave its range, and nothing changes. `SeatFull`
     /// where the seat has no room.
     pub fn tick<R: Wait>(&self, rt: &R, seat: &mut Seat<N>, ns: Ns) -> Result<Answer, SeatFull>
-        ensures cases { MatchResult result
-            (λ a. seat.new ≡ logged seat.old (record { deed = Deed.Tick seat.old.cpu ns; answer = a }))
-            (λ _. seat.new ≡ seat.old) }
+        ensures cases { IsLogged (Deed.Tick seat.old.cpu ns) seat.old seat.new result }
         ensures full { IsErr result ↔ (seat.old.room < 1) }
     {
         let cpu = seat.cpu();
@@ -117,9 +115,7 @@ impl<N: Names> Fleet<N> {
     /// number (`Deed::Pick`; Stoica and Abdel-Wahab 1995). `Idle`: no task is runnable there. `SeatFull` where the seat has
     /// no room.
     pub fn pick<R: Wait>(&self, rt: &R, seat: &mut Seat<N>) -> Result<Answer, SeatFull>
-        ensures cases { MatchResult result
-            (λ a. seat.new ≡ logged seat.old (record { deed = Deed.Pick seat.old.cpu; answer = a }))
-            (λ _. seat.new ≡ seat.old) }
+        ensures cases { IsLogged (Deed.Pick seat.old.cpu) seat.old seat.new result }
         ensures full { IsErr result ↔ (seat.old.room < 1) }
     {
         let cpu = seat.cpu();
@@ -130,9 +126,7 @@ impl<N: Names> Fleet<N> {
     /// next pick (`Deed::Yield`). `Idle`: nobody runs; `Range`: the deadline would leave its range, and nothing changes.
     /// `SeatFull` where the seat has no room.
     pub fn yield_now<R: Wait>(&self, rt: &R, seat: &mut Seat<N>) -> Result<Answer, SeatFull>
-        ensures cases { MatchResult result
-            (λ a. seat.new ≡ logged seat.old (record { deed = Deed.Yield seat.old.cpu; answer = a }))
-            (λ _. seat.new ≡ seat.old) }
+        ensures cases { IsLogged (Deed.Yield seat.old.cpu) seat.old seat.new result }
         ensures full { IsErr result ↔ (seat.old.room < 1) }
     {
         let cpu = seat.cpu();
@@ -149,9 +143,7 @@ impl<N: Names> Fleet<N> {
         nice: Nice,
     ) -> Result<Answer, SeatFull>
         requires { is_task (homes_of (setup_of N.kit)) task ≡ true }
-        ensures cases { MatchResult result
-            (λ a. seat.new ≡ logged seat.old (record { deed = Deed.Renice seat.old.cpu task nice; answer = a }))
-            (λ _. seat.new ≡ seat.old) }
+        ensures cases { IsLogged (Deed.Renice seat.old.cpu task nice) seat.old seat.new result }
         ensures full { IsErr result ↔ (seat.old.room < 1) }
     {
         let cpu = seat.cpu();
@@ -167,9 +159,7 @@ impl<N: Names> Fleet<N> {
         task: TaskId,
     ) -> Result<Answer, SeatFull>
         requires { is_task (homes_of (setup_of N.kit)) task ≡ true }
-        ensures cases { MatchResult result
-            (λ a. seat.new ≡ logged seat.old (record { deed = Deed.Sleep seat.old.cpu task; answer = a }))
-            (λ _. seat.new ≡ seat.old) }
+        ensures cases { IsLogged (Deed.Sleep seat.old.cpu task) seat.old seat.new result }
         ensures full { IsErr result ↔ (seat.old.room < 1) }
     {
         let cpu = seat.cpu();
@@ -188,9 +178,7 @@ impl<N: Names> Fleet<N> {
     ) -> Result<Answer, SeatFull>
         requires source { source < cpus_of (setup_of N.kit) }
         requires apart { source ≢ seat.old.cpu }
-        ensures cases { MatchResult result
-            (λ a. seat.new ≡ logged seat.old (record { deed = Deed.Pull seat.old.cpu source; answer = a }))
-            (λ _. seat.new ≡ seat.old) }
+        ensures cases { IsLogged (Deed.Pull seat.old.cpu source) seat.old seat.new result }
         ensures full { IsErr result ↔ (seat.old.room < 1) }
     {
         let cpu = seat.cpu();

@@ -1,12 +1,12 @@
 //! How a deed is done on the queues whose locks are held, and its line committed before they are given back.
 
-ghost use Rattle.std.specs.Prelude.{◌≡◌, ◌≢◌, ◌<◌, ◌↔◌, IsErr, MatchResult, true};
+ghost use Rattle.std.specs.Prelude.{◌≡◌, ◌≢◌, ◌<◌, true};
 ghost use Rattle.eevdf_ops.specs.Parts.{decider};
 ghost use Rattle.eevdf_ops.specs.Setup.{allows, cpus_of, homes_of};
 ghost use Rattle.eevdf_fleet.specs.Fleets.{logged, setup_of, written};
 ghost use Rattle.eevdf_fleet.specs.TouchedQueues.{IsNoWake, IsOfOneQueue, IsOfTwoQueues};
 
-use crate::fleet::{Fleet, SeatFull};
+use crate::fleet::Fleet;
 use crate::gate::Gate;
 use crate::names::Names;
 use crate::queue_work::{act, act_across};
@@ -27,22 +27,17 @@ impl<N: Names> Fleet<N> {
         n: usize,
         seat: &mut Seat<N>,
         deed: Deed,
-    ) -> Result<Answer, SeatFull>
+    ) -> Answer
         requires one { IsOfOneQueue (homes_of (setup_of N.kit)) deed }
         requires no_wake { IsNoWake deed }
         requires own { decider deed ≡ seat.old.cpu }
         requires allowed { allows (setup_of N.kit) deed ≡ true }
-        ensures cases { MatchResult result
-            (λ a. seat.new ≡ logged seat.old (record { deed = deed; answer = a }))
-            (λ _. seat.new ≡ seat.old) }
-        ensures full { IsErr result ↔ (seat.old.room < 1) }
+        requires room { 0 < seat.old.room }
+        ensures { seat.new ≡ logged seat.old (record { deed = deed; answer = result }) }
     {
-        if seat.room() == 0 {
-            return Err(SeatFull);
-        }
         let mut guard = self.hold(rt, seat.cpu());
         gate.inside(seat.cpu(), n);
-        Ok(self.done_on_one(rt, gate, n, &mut seat.log, &mut guard, deed))
+        self.done_on_one(rt, gate, n, &mut seat.log, &mut guard, deed)
     }
 
     /// Does a deed of the seat's CPU that touches its queue and that of another CPU.
@@ -54,23 +49,18 @@ impl<N: Names> Fleet<N> {
         seat: &mut Seat<N>,
         other: CpuId,
         deed: Deed,
-    ) -> Result<Answer, SeatFull>
+    ) -> Answer
         requires two { IsOfTwoQueues (homes_of (setup_of N.kit)) other deed }
         requires own { decider deed ≡ seat.old.cpu }
         requires apart { other ≢ seat.old.cpu }
         requires there { other < cpus_of (setup_of N.kit) }
         requires allowed { allows (setup_of N.kit) deed ≡ true }
-        ensures cases { MatchResult result
-            (λ a. seat.new ≡ logged seat.old (record { deed = deed; answer = a }))
-            (λ _. seat.new ≡ seat.old) }
-        ensures full { IsErr result ↔ (seat.old.room < 1) }
+        requires room { 0 < seat.old.room }
+        ensures { seat.new ≡ logged seat.old (record { deed = deed; answer = result }) }
     {
-        if seat.room() == 0 {
-            return Err(SeatFull);
-        }
         let (mut guard, mut other_guard) = self.hold_both(rt, seat.cpu(), other);
         gate.inside(seat.cpu(), n);
-        Ok(self.done_on_two(
+        self.done_on_two(
             rt,
             gate,
             n,
@@ -78,7 +68,7 @@ impl<N: Names> Fleet<N> {
             &mut guard,
             &mut other_guard,
             deed,
-        ))
+        )
     }
 
     /// Does a deed on the one queue that it touches, whose lock is held, and commits its line.

@@ -1,9 +1,9 @@
 //! How an operation that is a deed of its CPU finds the locks that it needs.
 
-ghost use Rattle.std.specs.Prelude.{◌≡◌, ◌≢◌, ◌<◌, ◌↔◌, IfNone, IfSome, IsErr, MatchResult, true};
+ghost use Rattle.std.specs.Prelude.{◌≡◌, ◌≢◌, ◌<◌, ◌↔◌, IfNone, IfSome, IsErr, true};
 ghost use Rattle.eevdf_ops.specs.Parts.{decider};
 ghost use Rattle.eevdf_ops.specs.Setup.{allows, cpus_of, home_of, homes_of, is_task};
-ghost use Rattle.eevdf_fleet.specs.Fleets.{logged, setup_of};
+ghost use Rattle.eevdf_fleet.specs.Fleets.{IsLogged, setup_of};
 ghost use Rattle.eevdf_fleet.specs.TouchedQueues.{IsNoWake, IsOfOneQueue, IsOfTwoQueues};
 
 use crate::fleet::{Fleet, SeatFull};
@@ -28,15 +28,16 @@ impl<N: Names> Fleet<N> {
         requires no_wake { IsNoWake deed }
         requires own { decider deed ≡ seat.old.cpu }
         requires allowed { allows (setup_of N.kit) deed ≡ true }
-        ensures cases { MatchResult result
-            (λ a. seat.new ≡ logged seat.old (record { deed = deed; answer = a }))
-            (λ _. seat.new ≡ seat.old) }
+        ensures cases { IsLogged deed seat.old seat.new result }
         ensures full { IsErr result ↔ (seat.old.room < 1) }
     {
-        match self.other_queue(&deed) {
+        if seat.room() == 0 {
+            return Err(SeatFull);
+        }
+        Ok(match self.other_queue(&deed) {
             Some(other) => self.across(rt, gate, n, seat, other, deed),
             None => self.own(rt, gate, n, seat, deed),
-        }
+        })
     }
 
     /// The CPU whose queue a deed touches beside that of its own CPU, if there is one.
