@@ -10,9 +10,9 @@ use Rattle.eevdf_ops.specs.{Whole.whole, Whole.machine_after}
 use Rattle.eevdf_ops.specs.declared.deeds.Deed.TheVariants.{Tick, Pick, Yield, Sleep, Wake, Pull, Renice}
 use Rattle.eevdf_ops.specs.Setup.{home_of, homes_of, cpus_of}
 use Rattle.eevdf_ops.specs.Machine.{Machine, queue_at, begin, beginner, begin_at_homes, start}
-use Rattle.eevdf_ops.specs.WholeSleep.{task_leaves, falls_asleep, sleep_carrying}
+use Rattle.eevdf_ops.specs.WholeSleep.{task_leaves, sleep_carrying}
 use Rattle.eevdf_ops.specs.WholePull.{offer, load_of, decision, with_task, pull_decided}
-use Rattle.eevdf_ops.specs.Given.{renices, is_reniced, IsAsGiven, AreAsGiven, TasksStayAsGiven}
+use Rattle.eevdf_ops.specs.Given.{renices, is_reniced, IsAsGiven, TasksStayAsGiven}
 use Rattle.eevdf_ops.proofs.{MachinePlaces.each-set, Pulling.decision-taken}
 use Rattle.eevdf_ops.proofs.QueueValues.{
   Each,

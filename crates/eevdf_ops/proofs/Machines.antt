@@ -30,6 +30,12 @@ set_machine (x ∷ queues) (suc k) q = ap (λ (m : Machine). x.state ∷ m) (set
 pub machine_with : (queues : List View) (cpu k : ℕ) (q : View) (s : State) → k ≡ cpu → q.state ≡ s → machine_of (set queues k q) ≡ set (machine_of queues) cpu s
 machine_with queues cpu k q s at e = set_machine queues k q ∙ ap (λ (i : ℕ). set (machine_of queues) i q.state) at ∙ ap (λ (t : State). set (machine_of queues) cpu t) e
 
+-- a queue is read, and what comes of it is written back
+pub queue_written : (queues : List View) (cpu k : ℕ) (read written : View) (f : State → State) → k ≡ cpu → cpu < length queues
+    → written.state ≡ f (get_or queues k read).state → machine_of (set queues k written) ≡ set (machine_of queues) cpu (f (queue_at (machine_of queues) cpu))
+queue_written queues cpu k read written f at within e =
+    machine_with queues cpu k written (f (queue_at (machine_of queues) cpu)) at (e ∙ ap f (sym (queue_read queues cpu k read at (omega (arith, at, within)))))
+
 pub length-machine_of : (queues : List View) → length (machine_of queues) ≡ length queues
 length-machine_of [] = refl
 length-machine_of (x ∷ queues) = ap suc (length-machine_of queues)

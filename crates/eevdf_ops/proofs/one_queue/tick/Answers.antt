@@ -1,11 +1,8 @@
-use Rattle.std.proofs.Common.{◌<◌, length, sym, ap, ◌∙◌, arith}
 use Rattle.eevdf_queue.specs.{State.State, Tick.tick}
-use Rattle.eevdf_ops.proofs.Machines.{queue_read, machine_with}
+use Rattle.eevdf_ops.proofs.Machines.{queue_written}
 use Rattle.eevdf_ops.proofs.one_queue.tick.Goals as goal
 
 pub returns-clause-machine : goal.returns-clause-machine
 returns-clause-machine c =
-    let within : c.get.result < length c.args.queues.now = omega (arith, c.requires, c.get.ensures.number) in
-    machine_with c.args.queues.now c.args.cpu c.get.result c.tick.new.queue _ c.get.ensures.number
-    (c.tick.ensures.after ∙ ap (λ (q : State). (tick q c.args.ns).1)
-    (sym (queue_read c.args.queues.now c.args.cpu c.get.result c.index-queues-get.result c.get.ensures.number within)))
+    queue_written c.args.queues.now c.args.cpu c.get.result c.index-queues-get.result c.tick.new.queue (λ (q : State). (tick q c.args.ns).1) c.get.ensures.number c.requires
+    c.tick.ensures.after

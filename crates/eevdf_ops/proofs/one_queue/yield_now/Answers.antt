@@ -1,11 +1,8 @@
-use Rattle.std.proofs.Common.{◌<◌, length, sym, ap, ◌∙◌, arith}
 use Rattle.eevdf_queue.specs.{State.State, Yield.yield_now}
-use Rattle.eevdf_ops.proofs.Machines.{queue_read, machine_with}
+use Rattle.eevdf_ops.proofs.Machines.{queue_written}
 use Rattle.eevdf_ops.proofs.one_queue.yield_now.Goals as goal
 
 pub returns-clause-machine : goal.returns-clause-machine
 returns-clause-machine c =
-    let within : c.get.result < length c.args.queues.now = omega (arith, c.requires, c.get.ensures.number) in
-    machine_with c.args.queues.now c.args.cpu c.get.result c.yield_now.new.queue _ c.get.ensures.number
-    (c.yield_now.ensures.after ∙ ap (λ (q : State). (yield_now q).1)
-    (sym (queue_read c.args.queues.now c.args.cpu c.get.result c.index-queues-get.result c.get.ensures.number within)))
+    queue_written c.args.queues.now c.args.cpu c.get.result c.index-queues-get.result c.yield_now.new.queue (λ (q : State). (yield_now q).1) c.get.ensures.number c.requires
+    c.yield_now.ensures.after
