@@ -14,27 +14,28 @@ list_read : {A : Type 0} (lists : List (Vec A Global)) (k : ℕ) (list : Vec A G
 list_read {A} lists k list within at =
     get_or-map (λ (l : Vec A Global). l.items) lists k list [] within ∙ ap (λ (l : Vec A Global). l.items) (sym at)
 
+-- the ends of one CPU, of which something holds in the list of all
+list-named : {E S : Type 0} (Are : ℕ → List E → Type 0) (view : ℕ → List E → S) (none : ℕ → ℕ → S) (lists : List (Vec E Global)) (k : ℕ) (list : Vec E Global)
+    → ((j : ℕ) → j < length (lists_of lists) → Are j (list_at (lists_of lists) j) × (view j (list_at (lists_of lists) j) ≡ none (length (lists_of lists)) j))
+    → (k < length lists) × (list ≡ get_or lists k list) → Are k list.items × (view k list.items ≡ none (length lists) k)
+list-named {E} {S} Are view none lists k list h read =
+    let at = h k (omega (arith, length-lists lists, read.0)) in
+    let is = list_read lists k list read.0 read.1 in (
+      subst (λ (es : List E). Are k es) is at.0,
+      ap (λ (es : List E). view k es) (sym is) ∙ at.1 ∙ ap (λ (n : ℕ). none n k) (length-lists lists),
+    )
+
 -- a row that was read
 pub row-read : {capacity : ℕ} {ring : ℕ → ℕ → Option Ring} (rows : List (Vec Pushing Global)) (sender : ℕ) (row : Vec Pushing Global) → AreNewRows capacity ring (lists_of rows)
     → (sender < length rows) × (row ≡ get_or rows sender row)
     → AreProducers capacity ring sender row.items × (posts sender row.items ≡ no_posts (length rows) sender)
-row-read {capacity} {ring} rows sender row h read =
-    let at = h sender (omega (arith, length-lists rows, read.0)) in
-    let is = list_read rows sender row read.0 read.1 in (
-      subst (λ (es : List Pushing). AreProducers capacity ring sender es) is at.0,
-      ap (λ (es : List Pushing). posts sender es) (sym is) ∙ at.1 ∙ ap (λ (n : ℕ). no_posts n sender) (length-lists rows),
-    )
+row-read {capacity} {ring} rows sender row h read = list-named (AreProducers capacity ring) posts no_posts rows sender row h read
 
 -- a column that was read
 pub column-read : {capacity : ℕ} {ring : ℕ → ℕ → Option Ring} (columns : List (Vec Popping Global)) (home : ℕ) (column : Vec Popping Global) → AreNewColumns capacity ring (lists_of columns)
     → (home < length columns) × (column ≡ get_or columns home column)
     → AreConsumers capacity ring home column.items × (takes home column.items ≡ no_takes (length columns) home)
-column-read {capacity} {ring} columns home column h read =
-    let at = h home (omega (arith, length-lists columns, read.0)) in
-    let is = list_read columns home column read.0 read.1 in (
-      subst (λ (es : List Popping). AreConsumers capacity ring home es) is at.0,
-      ap (λ (es : List Popping). takes home es) (sym is) ∙ at.1 ∙ ap (λ (n : ℕ). no_takes n home) (length-lists columns),
-    )
+column-read {capacity} {ring} columns home column h read = list-named (AreConsumers capacity ring) takes no_takes columns home column h read
 
 -- one more element of a list by places
 pub next-place : {A : Type 0} (f : ℕ → A) (xs : List A) (n : ℕ) → xs ≡ map f (range_with_len 0 n) → length xs ≡ n

@@ -1,5 +1,5 @@
 -- What was posted to each home and taken from each sender, after more was.
-use Rattle.std.proofs.Common.{◌≡◌, ◌≢◌, ℕ, ◌<◌, List, [], ◌++◌, length, map, sym, ap, subst, ◌∙◌, arith}
+use Rattle.std.proofs.Common.{◌≡◌, ℕ, List, length, map, sym, ap, subst, ◌∙◌, arith}
 use Rattle.std.proofs.lemmas.List.{length-map, get_or-map}
 use Rattle.std.proofs.lemmas.Option.{slice_get_within, get_or_from_slice_get}
 use Rattle.std.specs.Prelude.{slice_get, Some}
