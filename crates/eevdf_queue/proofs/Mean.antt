@@ -69,7 +69,7 @@ nobody tasks h =
 someone : (tasks : Tasks) (o : Option (ℕ × Entry)) → IsEarliest (is_eligible tasks) (entries tasks) o → (tasks ≡ empty → ⊥) → (t : ℕ) × ((e : Entry) × Eligible tasks t e)
 someone tasks None h filled = absurd (filled (nobody tasks h))
 someone tasks (Some a) h filled =
-    (a.0, (a.1, record { here = get-entries tasks a.0 ∙ h.here; owed = h.owed }))
+    (a.0, (a.1, record { here = get-entries tasks a.0 ∙ h.here; owed = h.passed }))
 
 pub some_task_is_eligible : SomeTaskIsEligible
 some_task_is_eligible tasks filled =

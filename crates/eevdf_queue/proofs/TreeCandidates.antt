@@ -1,18 +1,12 @@
 -- The latest of the waiting tasks is the same, in whatever order they are asked.
-use Rattle.std.proofs.Common.{◌≡◌, ℕ, Bool, true, false, cond, List, Option, Some, refl, sym, ap, ◌∙◌, arith}
+use Rattle.std.proofs.Common.{◌≡◌, ℕ, Bool, true, false, cond, List, ◌∷◌, Option, Some, refl, sym, ap, ◌∙◌}
 use Rattle.std.specs.{Prelude.not, Option.option_map, Ordering.nat_cmp, FinMap.FinMap, FinMap.entries}
-use Rattle.std.proofs.lemmas.Int.{ints}
 use Rattle.eevdf_queue.specs.{declared.entry.Entry.Entry, declared.task.Task.Task, Order.is_before}
 use Rattle.eevdf_queue.specs.TaskLists.{entries_of, runnable_in, AreRunnable}
 use Rattle.eevdf_queue.specs.Candidate.{is_running, later, latest_waiting, candidate_of}
-use Rattle.eevdf_queue.proofs.{Earliest.told, Earliest.either, MapFolds.fold-from_entries, ListMaps.numbered_runnable}
+use Rattle.eevdf_queue.proofs.{Earliest.later_first, MapFolds.fold-from_entries, ListMaps.numbered_runnable}
 use Rattle.eevdf_queue.proofs.ListMaps.{distinct_keyed}
 use Rattle.eevdf_queue.proofs.Foremost as by
-
--- what comes no earlier than one after another comes after that one
-between : (a b c : ℕ × Entry) → is_before b c ≡ true → is_before a c ≡ false → is_before b a ≡ true
-between a b c p q =
-    grind (arith, ints, told b.1.d c.1.d b.0 c.0, told a.1.d c.1.d a.0 c.0, told b.1.d a.1.d b.0 a.0)
 
 -- one more task that may wait
 abbrev joined : Option ℕ → ℕ × Entry → Option (ℕ × Entry) → Option (ℕ × Entry)
@@ -22,12 +16,15 @@ joined_by : (b : Bool) (x y : Option (ℕ × Entry)) → cond b x y ≡ cond (no
 joined_by true x y = refl
 joined_by false x y = refl
 
+pub latest-joined : (r : Option ℕ) (e : ℕ × Entry) (es : List (ℕ × Entry)) → latest_waiting r (e ∷ es) ≡ joined r e (latest_waiting r es)
+latest-joined r e es = joined_by (is_running r e.0) (latest_waiting r es) (Some (later e (latest_waiting r es)))
+
 pub latest-runnable_in : (r : Option ℕ) (ts : List Task) → AreRunnable ts → latest_waiting r (entries (runnable_in ts)) ≡ latest_waiting r (entries_of ts)
 unfolding runnable_in
 latest-runnable_in r ts h =
     fold-from_entries (latest_waiting r) (joined r)
-    (λ e es. joined_by (is_running r e.0) (latest_waiting r es) (Some (later e (latest_waiting r es))))
-    (by.taken-swap (λ a b. is_before b a) between (λ a b ne. either b a (λ e. ne (sym e))) (λ a. not (is_running r a.0)))
+    (latest-joined r)
+    (by.taken-swap (λ a b. is_before b a) later_first (λ a. not (is_running r a.0)))
     (entries_of ts) (distinct_keyed (λ t. t.entry) ts (numbered_runnable ts h))
 
 pub candidate_is : (r : Option ℕ) (ts : List Task) (m : FinMap nat_cmp Entry) (o : Option ℕ) → AreRunnable ts → runnable_in ts ≡ m
