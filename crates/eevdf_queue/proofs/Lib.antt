@@ -6,7 +6,6 @@ mod Foremost
 mod Earliest
 mod RunnableMaps
 mod TreeLeasts
-mod TreeEdits
 mod TreeHeights
 mod TreeOrder
 mod TreeSearch

@@ -1,7 +1,8 @@
 -- The order of tasks by key, and lists whose keys rise.
-use Rattle.std.proofs.Common.{◌≡◌, append_assoc, Bool, true, false, cond, List, [], ◌∷◌, ◌++◌, refl, sym, subst, ap, ◌∙◌, arith}
+use Rattle.std.proofs.Common.{◌≡◌, append_assoc, Bool, true, false, cond, List, [], ◌∷◌, ◌++◌, Option, Some, None, Box, refl, sym, subst, ap, ◌∙◌, arith}
+use Rattle.std.specs.Prelude.{is_some}
 use Rattle.std.proofs.lemmas.Int.{ints}
-use Rattle.eevdf_queue.specs.{TaskLists.first_task, declared.task.Task.Task}
+use Rattle.eevdf_queue.specs.{TaskLists.first_task, TreeShape.Tree, TreeShape.tasks_in, declared.task.Task.Task}
 use Rattle.eevdf_queue.specs.TreeTasks.{precedes, PrecedesAll, AreOrdered, insert_task}
 use Rattle.eevdf_queue.proofs.Earliest.{told}
 
@@ -75,6 +76,11 @@ pub inserted_right : (t : Task) (ts xs : List Task) (u : Task) (ys ws rs : List 
     → ws ≡ insert_task t ys → rs ≡ xs ++ u ∷ ws → rs ≡ insert_task t ts
 inserted_right t ts xs u ys ws rs e p h i j =
     j ∙ ap (λ (z : List Task). xs ++ u ∷ z) i ∙ sym (insert-right t xs u ys p (subst AreOrdered e h)) ∙ ap (insert_task t) (sym e)
+
+-- no task stands below an empty link
+pub none_below : {Z : Type 0} (l : Option (Box Tree Z)) → is_some l ≡ false → tasks_in l ≡ []
+none_below None h = refl
+none_below (Some b) h = cc
 
 -- the node alone
 pub left_alone : (x t : Task) (us bs : List Task) → x ≡ first_task (us ++ t ∷ bs) → us ≡ [] → x ≡ t

@@ -3,6 +3,7 @@
 
 ghost use Rattle.std.specs.Prelude.{◌≡◌, suc, ◌+◌, ◌≤◌, ◌^◌, max, [], ◌∷◌, ◌++◌, length, true, false, None};
 ghost use Rattle.eevdf_queue.specs.{TreeChanges.keeps_height, TreeChanges.keeps_least, TreeLeast.least_of, TreeLeast.AreLow};
+ghost use Rattle.eevdf_queue.specs.TreeNodes.{IsNode};
 ghost use Rattle.eevdf_queue.specs.TreeShape.{tasks_in, height_in, DifferByAtMost, IsFull, IsHeightOfBalanced};
 
 use super::{Sides, TreeNode, height, least_around};
@@ -54,89 +55,24 @@ pub fn correct(
     requires kept_balanced { keeps_height below ≡ true → DifferByAtMost 1 (height_in left.old) (height_in right.old) }
     requires kept_least { keeps_least below ≡ true → node_least.old ≡ least_of (tasks_in left.old ++ task.old ∷ tasks_in right.old) }
     ensures tasks { tasks_in left.new ++ task.new ∷ tasks_in right.new ≡ tasks_in left.old ++ task.old ∷ tasks_in right.old }
-    ensures height { node_height.new ≡ suc (max (height_in left.new) (height_in right.new)) }
-    ensures balanced { DifferByAtMost 1 (height_in left.new) (height_in right.new) }
-    ensures low { node_height.new ≤ length (tasks_in left.new ++ task.new ∷ tasks_in right.new) }
-    ensures full { IsFull node_height.new (length (tasks_in left.new ++ task.new ∷ tasks_in right.new)) }
-    ensures least { node_least.new ≡ least_of (tasks_in left.new ++ task.new ∷ tasks_in right.new) }
-    ensures bounded { AreLow (tasks_in left.new ++ task.new ∷ tasks_in right.new) }
+    ensures node { IsNode (record { task = task.new; height = node_height.new; least = node_least.new; left = left.new; right = right.new }) }
     ensures mended { IsHeightOfBalanced (height_in left.old) (height_in right.old) node_height.new }
     ensures same_height { keeps_height result ≡ true → node_height.new ≡ node_height.old }
     ensures same_least { keeps_least result ≡ true → node_least.new ≡ node_least.old }
 {
-    match below {
-        TreeChange::Nothing => {
-            // for the proof alone: what is kept is right of the tasks as they are now
-            look_around(left, task, right);
-            TreeChange::Nothing
-        }
-        TreeChange::LeastAlone => {
-            TreeChange::of_least(look_around(left, task, right).renew_least(node_least))
-        }
-        TreeChange::Height => mend(node_height, node_least, left, task, right),
-    }
-}
-
-/// Makes what is kept of a node right again, and evens its sides where one is two higher.
-#[inline(always)]
-fn mend(
-    node_height: &mut u32,
-    node_least: &mut Least,
-    left: &mut Option<Box<TreeNode>>,
-    task: &mut Task,
-    right: &mut Option<Box<TreeNode>>,
-) -> TreeChange
-    requires near { DifferByAtMost 2 (height_in left.old) (height_in right.old) }
-    requires few { length (tasks_in left.old) + length (tasks_in right.old) ≤ 2 ^ 20 }
-    ensures tasks { tasks_in left.new ++ task.new ∷ tasks_in right.new ≡ tasks_in left.old ++ task.old ∷ tasks_in right.old }
-    ensures height { node_height.new ≡ suc (max (height_in left.new) (height_in right.new)) }
-    ensures balanced { DifferByAtMost 1 (height_in left.new) (height_in right.new) }
-    ensures low { node_height.new ≤ length (tasks_in left.new ++ task.new ∷ tasks_in right.new) }
-    ensures full { IsFull node_height.new (length (tasks_in left.new ++ task.new ∷ tasks_in right.new)) }
-    ensures least { node_least.new ≡ least_of (tasks_in left.new ++ task.new ∷ tasks_in right.new) }
-    ensures bounded { AreLow (tasks_in left.new ++ task.new ∷ tasks_in right.new) }
-    ensures mended { IsHeightOfBalanced (height_in left.old) (height_in right.old) node_height.new }
-    ensures same_height { keeps_height result ≡ true → node_height.new ≡ node_height.old }
-    ensures same_least { keeps_least result ≡ true → node_least.new ≡ node_least.old }
-{
+    let other_height = raise(below.is_of_height(), node_height, left, task, right);
     let around = look_around(left, task, right);
-    if around.is_uneven() {
-        return mend_uneven(node_height, node_least, left, task, right);
+    match below {
+        TreeChange::Nothing => TreeChange::Nothing,
+        _ => TreeChange::of_both(other_height, around.renew_least(node_least)),
     }
-    around.renew(node_height, node_least)
 }
 
-/// The same where one side may be two higher. It is seldom called, and a function of its own, so that the way back over
-/// even nodes keeps nothing for it.
-#[inline(never)]
-fn mend_uneven(
-    node_height: &mut u32,
-    node_least: &mut Least,
-    left: &mut Option<Box<TreeNode>>,
-    task: &mut Task,
-    right: &mut Option<Box<TreeNode>>,
-) -> TreeChange
-    requires near { DifferByAtMost 2 (height_in left.old) (height_in right.old) }
-    requires few { length (tasks_in left.old) + length (tasks_in right.old) ≤ 2 ^ 20 }
-    ensures tasks { tasks_in left.new ++ task.new ∷ tasks_in right.new ≡ tasks_in left.old ++ task.old ∷ tasks_in right.old }
-    ensures height { node_height.new ≡ suc (max (height_in left.new) (height_in right.new)) }
-    ensures balanced { DifferByAtMost 1 (height_in left.new) (height_in right.new) }
-    ensures low { node_height.new ≤ length (tasks_in left.new ++ task.new ∷ tasks_in right.new) }
-    ensures full { IsFull node_height.new (length (tasks_in left.new ++ task.new ∷ tasks_in right.new)) }
-    ensures least { node_least.new ≡ least_of (tasks_in left.new ++ task.new ∷ tasks_in right.new) }
-    ensures bounded { AreLow (tasks_in left.new ++ task.new ∷ tasks_in right.new) }
-    ensures mended { IsHeightOfBalanced (height_in left.old) (height_in right.old) node_height.new }
-    ensures same_height { keeps_height result ≡ true → node_height.new ≡ node_height.old }
-    ensures same_least { keeps_least result ≡ true → node_least.new ≡ node_least.old }
-{
-    even_out(left, task, right);
-    look_around(left, task, right).renew(node_height, node_least)
-}
-
-/// Makes the height of a node right again, and evens its sides where one is two higher. Answers whether the height is another
-/// than before.
+/// Makes the height of a node right again where it may be another, and evens its sides where one is two higher. Answers whether
+/// the height is another than before.
 #[inline(always)]
 pub fn raise(
+    may_differ: bool,
     node_height: &mut u32,
     left: &mut Option<Box<TreeNode>>,
     task: &mut Task,
@@ -144,23 +80,26 @@ pub fn raise(
 ) -> bool
     requires near { DifferByAtMost 2 (height_in left.old) (height_in right.old) }
     requires few { length (tasks_in left.old) + length (tasks_in right.old) ≤ 2 ^ 20 }
+    requires kept_height { may_differ ≡ false → node_height.old ≡ suc (max (height_in left.old) (height_in right.old)) }
+    requires kept_balanced { may_differ ≡ false → DifferByAtMost 1 (height_in left.old) (height_in right.old) }
     ensures tasks { tasks_in left.new ++ task.new ∷ tasks_in right.new ≡ tasks_in left.old ++ task.old ∷ tasks_in right.old }
-    ensures height { node_height.new ≡ suc (max (height_in left.new) (height_in right.new)) }
-    ensures balanced { DifferByAtMost 1 (height_in left.new) (height_in right.new) }
-    ensures low { node_height.new ≤ length (tasks_in left.new ++ task.new ∷ tasks_in right.new) }
-    ensures full { IsFull node_height.new (length (tasks_in left.new ++ task.new ∷ tasks_in right.new)) }
-    ensures bounded { AreLow (tasks_in left.new ++ task.new ∷ tasks_in right.new) }
+    ensures node { (least : _) → least ≡ least_of (tasks_in left.new ++ task.new ∷ tasks_in right.new)
+        → IsNode (record { task = task.new; height = node_height.new; least = least; left = left.new; right = right.new }) }
     ensures mended { IsHeightOfBalanced (height_in left.old) (height_in right.old) node_height.new }
     ensures same_height { result ≡ false → node_height.new ≡ node_height.old }
 {
     let around = look_around(left, task, right);
+    if !may_differ {
+        return false;
+    }
     if around.is_uneven() {
         return raise_uneven(node_height, left, task, right);
     }
     around.renew_height(node_height)
 }
 
-/// The same where one side may be two higher, as `mend_uneven`.
+/// The same where one side may be two higher. It is seldom called, and a function of its own, so that the way back over
+/// even nodes keeps nothing for it.
 #[inline(never)]
 fn raise_uneven(
     node_height: &mut u32,
@@ -171,11 +110,8 @@ fn raise_uneven(
     requires near { DifferByAtMost 2 (height_in left.old) (height_in right.old) }
     requires few { length (tasks_in left.old) + length (tasks_in right.old) ≤ 2 ^ 20 }
     ensures tasks { tasks_in left.new ++ task.new ∷ tasks_in right.new ≡ tasks_in left.old ++ task.old ∷ tasks_in right.old }
-    ensures height { node_height.new ≡ suc (max (height_in left.new) (height_in right.new)) }
-    ensures balanced { DifferByAtMost 1 (height_in left.new) (height_in right.new) }
-    ensures low { node_height.new ≤ length (tasks_in left.new ++ task.new ∷ tasks_in right.new) }
-    ensures full { IsFull node_height.new (length (tasks_in left.new ++ task.new ∷ tasks_in right.new)) }
-    ensures bounded { AreLow (tasks_in left.new ++ task.new ∷ tasks_in right.new) }
+    ensures node { (least : _) → least ≡ least_of (tasks_in left.new ++ task.new ∷ tasks_in right.new)
+        → IsNode (record { task = task.new; height = node_height.new; least = least; left = left.new; right = right.new }) }
     ensures mended { IsHeightOfBalanced (height_in left.old) (height_in right.old) node_height.new }
     ensures same_height { result ≡ false → node_height.new ≡ node_height.old }
 {
@@ -218,18 +154,6 @@ impl Around {
         ensures { result ≡ false → DifferByAtMost 1 self.now.left self.now.right }
     {
         self.left.abs_diff(self.right) > 1
-    }
-
-    /// Makes what is kept of a node right again.
-    pub fn renew(&self, node_height: &mut u32, node_least: &mut Least) -> TreeChange
-        requires { max self.now.left self.now.right ≤ 2 ^ 20 }
-        ensures height { node_height.new ≡ suc (max self.now.left self.now.right) }
-        ensures least { node_least.new ≡ self.now.least }
-        ensures same_height { keeps_height result ≡ true → node_height.new ≡ node_height.old }
-        ensures same_least { keeps_least result ≡ true → node_least.new ≡ node_least.old }
-    {
-        let other_height = self.renew_height(node_height);
-        TreeChange::of_both(other_height, self.renew_least(node_least))
     }
 
     /// Makes the height of a node right again. Answers whether it has changed.

@@ -40,12 +40,8 @@ pub fn insert(link: &mut Option<Box<TreeNode>>, node: Box<TreeNode>) -> bool
     } else {
         insert(&mut root.right, node)
     };
-    if !grown {
-        // for the proof alone: what is kept is right of the tasks as they are now
-        look_around(&root.left, &root.task, &root.right);
-        return false;
-    }
     raise(
+        grown,
         &mut root.height,
         &mut root.left,
         &mut root.task,
@@ -218,8 +214,14 @@ pub fn change(link: &mut Option<Box<TreeNode>>, key: &Key, floor: Least, entry: 
     } else {
         node.task.entry = *entry;
     }
-    // for the proof alone, as at an insertion
-    look_around(&node.left, &node.task, &node.right);
+    // for the proof alone: the shape stays
+    raise(
+        false,
+        &mut node.height,
+        &mut node.left,
+        &mut node.task,
+        &mut node.right,
+    );
 }
 
 /// The same where the least virtual runtimes may become others, which are made right on the way back.

@@ -1,13 +1,12 @@
-use Rattle.std.proofs.Common.{◌≡◌, ◌∙◌, ◌∷◌, ◌++◌, ℕ, Option, ap, sym, subst, refl, arith, List, length, length-append}
+use Rattle.std.proofs.Common.{◌≡◌, ◌∙◌, ◌∷◌, ◌++◌, ℕ, Option, ap, sym, subst, arith, List, length, length-append}
 use Rattle.std.specs.Prelude.{◌≤ℤ◌, is_some, IfSome}
 use Rattle.eevdf_queue.specs.{declared.task.Task.Task, TaskLists.set_entry, TreeShape.tasks_in, TreeNodes.tasks_of}
 use Rattle.eevdf_queue.specs.TreeLeast.{least_of}
-use Rattle.eevdf_queue.proofs.{TreeLeasts.least-set, TreeOrder.ordered_left, TreeOrder.ordered_right, TreeEdits.IsSameHigh}
-use Rattle.eevdf_queue.proofs.TreeEdits.{still_high}
+use Rattle.eevdf_queue.proofs.{TreeLeasts.least-set, TreeOrder.ordered_left, TreeOrder.ordered_right}
 use Rattle.eevdf_queue.proofs.TreeSearch.{find_left, find_right, placed_on}
 use Rattle.eevdf_queue.proofs.TreeChange.{set_left, set_right, set_here}
 use Rattle.eevdf_queue.proofs.tree_node.tree_edit.+change.Goals as goal
-use Rattle.eevdf_queue.proofs.tree_node.tree_edit.+change.Goals.{After-look_around, then-is_under, else-is_under+then-is_over, else-is_under+else-is_over}
+use Rattle.eevdf_queue.proofs.tree_node.tree_edit.+change.Goals.{After-raise, then-is_under, else-is_under+then-is_over, else-is_under+else-is_over}
 
 pub change-requires : goal.change-requires
 change-requires t c =
@@ -52,7 +51,7 @@ change-requires-then-is_over t c =
     )
 
 -- the tasks of the node with the entry exchanged
-changed : (t : ℕ) (c : After-look_around t) → tasks_of c.if-is_under.node-inside ≡ set_entry c.args.key.now.number c.args.entry.now (tasks_in c.args.link.now)
+changed : (t : ℕ) (c : After-raise t) → tasks_of c.if-is_under.node-inside ≡ set_entry c.args.key.now.number c.args.entry.now (tasks_in c.args.link.now)
 changed t c =
     let e : tasks_in c.args.link.now ≡ tasks_of c.node.inside = cc in
     elim c.if-is_under.branch [
@@ -66,22 +65,16 @@ changed t c =
 
 pub invariant_of-node : goal.invariant_of-node
 invariant_of-node t c =
-    let a = (goal.at.invariant_of-node t c).After-look_around in
+    let a = (goal.at.invariant_of-node t c).After-raise in
     let e : tasks_in c.args.link.now ≡ tasks_of c.node.inside = cc in
-    let h : IsSameHigh c.node.inside c.if-is_under.node-inside =
-    elim c.if-is_under.branch [
-      | then-is_under w ↦ subst (IsSameHigh c.node.inside) (sym w.node-inside-is) (record { height = refl; left = w.change.ensures.height; right = refl })
-      | else-is_under+then-is_over w ↦ subst (IsSameHigh c.node.inside) (sym w.node-inside-is) (record { height = refl; left = refl; right = w.change-then-is_over.ensures.height })
-      | else-is_under+else-is_over w ↦ subst (IsSameHigh c.node.inside) (sym w.node-inside-is) (record { height = refl; left = refl; right = refl })
-    ] in
     let k : c.if-is_under.node-inside.least ≡ c.node.inside.least = elim c.if-is_under.branch [
       | then-is_under w ↦ ap (λ z. z.least) w.node-inside-is
       | else-is_under+then-is_over w ↦ ap (λ z. z.least) w.node-inside-is
       | else-is_under+else-is_over w ↦ ap (λ z. z.least) w.node-inside-is
     ] in
-    let least = least-set c.args.key.now.number c.args.floor.runtime c.args.entry.now c.node.inside.least (tasks_in c.args.link.now) (tasks_of c.if-is_under.node-inside)
+    let least : c.node.inside.least ≡ least_of (tasks_of c.if-is_under.node-inside) = least-set c.args.key.now.number c.args.floor.runtime c.args.entry.now c.node.inside.least (tasks_in c.args.link.now) (tasks_of c.if-is_under.node-inside)
     (c.node.invariant.least ∙ ap least_of (sym e)) c.requires.above c.requires.new_above (c.is_below.ensures c.if-not-is_below.false) (changed t a) in
-    still_high c.node.inside c.if-is_under.node-inside c.node.invariant h (k ∙ least) c.look_around.ensures.low c.look_around.ensures.full c.look_around.ensures.bounded
+    c.raise.ensures.node c.if-is_under.node-inside.least (k ∙ least ∙ ap least_of (sym c.raise.ensures.tasks))
 
 pub returns-clause-tasks : goal.returns-clause-tasks
-returns-clause-tasks t c = changed t (goal.at.returns-clause-tasks t c).After-look_around
+returns-clause-tasks t c = c.raise.ensures.tasks ∙ changed t (goal.at.returns-clause-tasks t c).After-raise

@@ -3,9 +3,9 @@ use Rattle.std.specs.Prelude.{is_some, not}
 use Rattle.eevdf_queue.specs.{declared.task.Task.Task, declared.tree_node.TreeNode.TheInside.Inside, TaskLists.first_task}
 use Rattle.eevdf_queue.specs.{TreeShape.tasks_in, TreeNodes.tasks_of, TreeChanges.keeps_least, TreeLeast.least_of}
 use Rattle.eevdf_queue.specs.TreeTasks.{without}
-use Rattle.eevdf_queue.proofs.TreeOrder.{ordered_left, ordered_right, left_alone, last_moved}
+use Rattle.eevdf_queue.proofs.TreeOrder.{ordered_left, ordered_right, none_below, left_alone, last_moved}
 use Rattle.eevdf_queue.proofs.TreeSearch.{over_else, own_not_under, own_not_over, find_left, find_right, find_own, placed_on, without_left, without_right, without_here}
-use Rattle.eevdf_queue.proofs.{TreeLeasts.least-same_left, TreeLeasts.least-same_right, TreeEdits.none_below}
+use Rattle.eevdf_queue.proofs.TreeLeasts.{least-same_left, least-same_right}
 use Rattle.eevdf_queue.proofs.tree_node.tree_edit.+remove.Goals as goal
 use Rattle.eevdf_queue.proofs.tree_node.tree_edit.+remove.Goals.{then-is_of+else-is_none, else-is_of+then-is_under, else-is_of+else-is_under}
 
