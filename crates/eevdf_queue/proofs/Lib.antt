@@ -9,6 +9,7 @@ mod TreeLeasts
 mod TreeHeights
 mod TreeOrder
 mod TreeSearch
+mod TreeSides
 mod TreeEligible
 mod TreeLast
 mod TreeSorted

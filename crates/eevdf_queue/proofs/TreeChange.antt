@@ -8,51 +8,6 @@ use Rattle.eevdf_queue.specs.TaskLists.{find_task, set_entry, runnable_in, AreRu
 use Rattle.eevdf_queue.specs.TreeTasks.{precedes, PrecedesAll, AreOrdered, IsSorted, IsAtDeadline}
 use Rattle.eevdf_queue.specs.TreeStores.{AllTasks, IsNoted, IsRunnableStore}
 use Rattle.eevdf_queue.proofs.RunnableMaps.{runnable_after, runnable_in-set_entry}
-use Rattle.eevdf_queue.proofs.TreeSearch.{IsPlaced, find_left, missed-left, missed-left_over, own_key, some_of, own_deadline, over_apart, over_not_itself, same_number}
-
-set_step : (b : Bool) (e : Entry) (x t : Task) (xs ys ws zs : List Task) (o : Option Task) → (o ≡ Some t → ws ≡ zs ++ ys) → cond b (Some x) o ≡ Some t
-    → cond b (record x { entry = e } ∷ xs ++ ys) (x ∷ ws) ≡ cond b (record x { entry = e } ∷ xs) (x ∷ zs) ++ ys
-set_step true e x t xs ys ws zs o k h = refl
-set_step false e x t xs ys ws zs o k h = ap (λ (z : List Task). x ∷ z) (k h)
-
-set-found : (q : ℕ) (e : Entry) (xs ys : List Task) (t : Task) → find_task q xs ≡ Some t → set_entry q e (xs ++ ys) ≡ set_entry q e xs ++ ys
-set-found q e [] ys t h = cc
-set-found q e (x ∷ xs) ys t h =
-    set_step (eqb x.number q) e x t xs ys (set_entry q e (xs ++ ys)) (set_entry q e xs) (find_task q xs) (set-found q e xs ys t) h
-
-set_past : (b : Bool) (x : Task) (us ws zs : List Task) (o : Option Task) → (o ≡ None → ws ≡ zs) → cond b (Some x) o ≡ None → cond b us (x ∷ ws) ≡ x ∷ zs
-set_past true x us ws zs o k h = cc
-set_past false x us ws zs o k h = ap (λ (z : List Task). x ∷ z) (k h)
-
-set-missed : (q : ℕ) (e : Entry) (xs ys : List Task) → find_task q xs ≡ None → set_entry q e (xs ++ ys) ≡ xs ++ set_entry q e ys
-set-missed q e [] ys h = refl
-set-missed q e (x ∷ xs) ys h =
-    set_past (eqb x.number q) x (record x { entry = e } ∷ xs ++ ys) (set_entry q e (xs ++ ys)) (xs ++ set_entry q e ys) (find_task q xs) (set-missed q e xs ys) h
-
-pub set_left : (e : Entry) (k : Key) (ts xs : List Task) (u : Task) (ys : List Task) → ts ≡ xs ++ u ∷ ys → AreOrdered ts → IsPlaced k ts → is_some (find_task k.number ts) ≡ true
-    → is_under k u ≡ true → set_entry k.number e ts ≡ set_entry k.number e xs ++ u ∷ ys
-set_left e k ts xs u ys i o a s p =
-    let f = some_of (find_task k.number xs) (ap is_some (sym (find_left k ts xs u ys i o a p)) ∙ s) in
-    ap (set_entry k.number e) i ∙ set-found k.number e xs (u ∷ ys) f.0 f.1
-
-pub set_right : (e : Entry) (k : Key) (ts xs : List Task) (u : Task) (ys : List Task) → ts ≡ xs ++ u ∷ ys → AreOrdered ts → IsPlaced k ts
-    → is_over k u ≡ true → set_entry k.number e ts ≡ xs ++ u ∷ set_entry k.number e ys
-set_right e k ts xs u ys i o a p =
-    let o' = subst AreOrdered i o in
-    let a' = subst (IsPlaced k) i a in
-    let n = missed-left_over k xs u ys o' a' p in
-    let other = over_apart (eqb u.number k.number) k u refl (λ h. over_not_itself k u h p) (own_deadline k xs u ys a' n) in
-    ap (set_entry k.number e) i
-    ∙ set-missed k.number e xs (u ∷ ys) n
-    ∙ ap (λ b. xs ++ cond b (record u { entry = e } ∷ ys) (u ∷ set_entry k.number e ys)) other
-
-pub set_here : (e : Entry) (k : Key) (ts xs : List Task) (u : Task) (ys : List Task) → ts ≡ xs ++ u ∷ ys → AreOrdered ts → IsPlaced k ts
-    → is_under k u ≡ false → is_over k u ≡ false → set_entry k.number e ts ≡ xs ++ record u { entry = e } ∷ ys
-set_here e k ts xs u ys i o a p q =
-    let g = own_key k u p q in
-    ap (set_entry k.number e) i
-    ∙ set-missed k.number e xs (u ∷ ys) (missed-left k xs u ys (subst AreOrdered i o) (subst (IsPlaced k) i a) g)
-    ∙ ap (λ b. xs ++ cond b (record u { entry = e } ∷ ys) (u ∷ set_entry k.number e ys)) (same_number u.number k.number g.number)
 
 -- with the same deadline each task keeps its place
 same_before : (x t : Task) (e : Entry) → t.entry.d ≡ e.d → precedes x (record t { entry = e }) ≡ precedes x t

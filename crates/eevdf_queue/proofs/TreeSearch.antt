@@ -5,7 +5,7 @@ use Rattle.std.proofs.{lemmas.Int.ints, lemmas.Bool.Decides.nat_tests}
 use Rattle.eevdf_queue.specs.{declared.entry.Entry.Entry, declared.task.Task.Task, declared.tree_key.Key.Key}
 use Rattle.eevdf_queue.specs.TaskLists.{find_task}
 use Rattle.eevdf_queue.specs.TreeKeys.{is_of, is_under, is_over}
-use Rattle.eevdf_queue.specs.TreeTasks.{precedes, PrecedesAll, AreOrdered, without, first_that, IsAtDeadline}
+use Rattle.eevdf_queue.specs.TreeTasks.{precedes, PrecedesAll, AreOrdered, first_that, IsAtDeadline}
 use Rattle.eevdf_queue.proofs.Earliest.{told}
 use Rattle.eevdf_queue.proofs.TreeOrder.{AllPrecede, left_precede, right_follow}
 
@@ -104,6 +104,9 @@ own_key k u p q = record {
   deadline = grind (arith, ints, told k.deadline u.entry.d k.number u.number, told u.entry.d k.deadline u.number k.number);
   number = grind (arith, ints, told k.deadline u.entry.d k.number u.number, told u.entry.d k.deadline u.number k.number);
 }
+
+pub of_key : (k : Key) (u : Task) → is_of k u ≡ true → HasKey k u
+of_key k u h = own_key k u (own_not_under k u h) (own_not_over k u h)
 
 has_key : (k : Key) (ts : List Task) (t : Task) → IsAtDeadline k.deadline (find_task k.number ts) → find_task k.number ts ≡ Some t → HasKey k t
 has_key k ts t a h = record {
@@ -219,32 +222,6 @@ pub first_right : (passes : Entry → Bool) (ts xs : List Task) (u : Task) (ys :
 first_right passes ts xs u ys e h p =
     ap (first_that passes) e ∙ first-missed passes xs (u ∷ ys) (none_from _ h) ∙ first_after (passes u.entry) u (first_that passes ys) p
 
--- the tasks without one that stands on one side
-without_step : (b : Bool) (x t : Task) (xs ys : List Task) (ws zs : List Task) (o : Option Task) → (o ≡ Some t → ws ≡ zs ++ ys) → cond b (Some x) o ≡ Some t
-    → cond b (xs ++ ys) (x ∷ ws) ≡ cond b xs (x ∷ zs) ++ ys
-without_step true x t xs ys ws zs o k h = refl
-without_step false x t xs ys ws zs o k h = ap (λ (z : List Task). x ∷ z) (k h)
-
-pub without-found : (q : ℕ) (xs ys : List Task) (t : Task) → find_task q xs ≡ Some t → without q (xs ++ ys) ≡ without q xs ++ ys
-without-found q [] ys t h = cc
-without-found q (x ∷ xs) ys t h =
-    without_step (eqb x.number q) x t xs ys (without q (xs ++ ys)) (without q xs) (find_task q xs) (without-found q xs ys t) h
-
-without_past : (b : Bool) (x : Task) (us ws zs : List Task) (o : Option Task) → (o ≡ None → ws ≡ zs) → cond b (Some x) o ≡ None → cond b us (x ∷ ws) ≡ x ∷ zs
-without_past true x us ws zs o k h = cc
-without_past false x us ws zs o k h = ap (λ (z : List Task). x ∷ z) (k h)
-
-pub without-missed : (q : ℕ) (xs ys : List Task) → find_task q xs ≡ None → without q (xs ++ ys) ≡ xs ++ without q ys
-without-missed q [] ys h = refl
-without-missed q (x ∷ xs) ys h =
-    without_past (eqb x.number q) x (xs ++ ys) (without q (xs ++ ys)) (xs ++ without q ys) (find_task q xs) (without-missed q xs ys) h
-
-pub without_left : (k : Key) (ts xs : List Task) (u : Task) (ys : List Task) → ts ≡ xs ++ u ∷ ys → AreOrdered ts → IsPlaced k ts → is_some (find_task k.number ts) ≡ true
-    → is_under k u ≡ true → without k.number ts ≡ without k.number xs ++ u ∷ ys
-without_left k ts xs u ys e o a s p =
-    let f = some_of (find_task k.number xs) (ap is_some (sym (find_left k ts xs u ys e o a p)) ∙ s) in
-    ap (without k.number) e ∙ without-found k.number xs (u ∷ ys) f.0 f.1
-
 pub over_apart : (b : Bool) (k : Key) (u : Task) → eqb u.number k.number ≡ b → (HasKey k u → ⊥) → (eqb u.number k.number ≡ true → u.entry.d ≡ k.deadline) → b ≡ false
 over_apart false k u e h d = refl
 over_apart true k u e h d = absurd (h (record { deadline = d e; number = grind (arith, nat_tests) }))
@@ -252,25 +229,3 @@ over_apart true k u e h d = absurd (h (record { deadline = d e; number = grind (
 pub own_deadline : (k : Key) (xs : List Task) (u : Task) (ys : List Task) → IsPlaced k (xs ++ u ∷ ys) → find_task k.number xs ≡ None → eqb u.number k.number ≡ true → u.entry.d ≡ k.deadline
 own_deadline k xs u ys a n e =
     (has_key k (xs ++ u ∷ ys) u a (find-missed k.number xs (u ∷ ys) n ∙ ap (λ b. cond b (Some u) (find_task k.number ys)) e)).deadline
-
-pub without_right : (k : Key) (ts xs : List Task) (u : Task) (ys : List Task) → ts ≡ xs ++ u ∷ ys → AreOrdered ts → IsPlaced k ts
-    → is_over k u ≡ true → without k.number ts ≡ xs ++ u ∷ without k.number ys
-without_right k ts xs u ys e o a p =
-    let o' = subst AreOrdered e o in
-    let a' = subst (IsPlaced k) e a in
-    let n = missed-left_over k xs u ys o' a' p in
-    let other = over_apart (eqb u.number k.number) k u refl (λ h. over_not_itself k u h p) (own_deadline k xs u ys a' n) in
-    ap (without k.number) e
-    ∙ without-missed k.number xs (u ∷ ys) n
-    ∙ ap (λ b. xs ++ cond b ys (u ∷ without k.number ys)) other
-
-pub same_number : (m n : ℕ) → m ≡ n → eqb m n ≡ true
-same_number m n h = grind (arith, nat_tests)
-
-pub without_here : (k : Key) (ts xs : List Task) (u : Task) (ys : List Task) → ts ≡ xs ++ u ∷ ys → AreOrdered ts → IsPlaced k ts
-    → is_under k u ≡ false → is_over k u ≡ false → without k.number ts ≡ xs ++ ys
-without_here k ts xs u ys e o a p q =
-    let g = own_key k u p q in
-    ap (without k.number) e
-    ∙ without-missed k.number xs (u ∷ ys) (missed-left k xs u ys (subst AreOrdered e o) (subst (IsPlaced k) e a) g)
-    ∙ ap (λ b. xs ++ cond b ys (u ∷ without k.number ys)) (same_number u.number k.number g.number)

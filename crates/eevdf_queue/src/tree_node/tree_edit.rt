@@ -3,9 +3,9 @@
 
 ghost use Rattle.std.specs.Prelude.{◌≡◌, suc, ◌+◌, ◌<◌, ◌≤◌, ◌^◌, [], ◌∷◌, ◌++◌, ◌≤ℤ◌, length, is_some, true, false, Some, IfSome};
 ghost use Rattle.eevdf_queue.specs.TaskLists.{first_task, find_task, set_entry};
-ghost use Rattle.eevdf_queue.specs.TreeTasks.{AreOrdered, IsAtDeadline, insert_task, without};
+ghost use Rattle.eevdf_queue.specs.TreeTasks.{AreOrdered, insert_task, without};
 ghost use Rattle.eevdf_queue.specs.{TreeChanges.keeps_height, TreeChanges.keeps_least, TreeLeast.least_of};
-ghost use Rattle.eevdf_queue.specs.TreeShape.{tasks_in, height_in, IsAlone};
+ghost use Rattle.eevdf_queue.specs.{TreeKeys.Holds, TreeShape.tasks_in, TreeShape.height_in, TreeShape.IsAlone};
 
 use super::TreeNode;
 use super::node_parts::{correct, look_around, part_from, raise};
@@ -59,10 +59,7 @@ pub struct Taken {
 /// Takes the task of a key, which stands below a link, out, in its node. Where neither the height nor the least
 /// virtual runtime has changed, nothing above is to be corrected.
 pub fn remove(link: &mut Option<Box<TreeNode>>, key: &Key) -> Taken
-    requires ordered { AreOrdered (tasks_in link.old) }
-    requires few { length (tasks_in link.old) ≤ 2 ^ 20 }
-    requires here { is_some (find_task key.now.number (tasks_in link.old)) ≡ true }
-    requires placed { IsAtDeadline key.now.deadline (find_task key.now.number (tasks_in link.old)) }
+    requires { Holds key.now (tasks_in link.old) }
     ensures alone { IsAlone result.node.value }
     ensures task { find_task key.now.number (tasks_in link.old) ≡ Some (first_task result.node.value.tasks) }
     ensures rest { tasks_in link.new ≡ without key.now.number (tasks_in link.old) }
@@ -191,10 +188,7 @@ fn replaced(link: &mut Option<Box<TreeNode>>, side: Option<Box<TreeNode>>) -> Bo
 /// virtual runtime nor the new one is below the floor: so a least one below it is another task's and stays, and
 /// on the way down over such nodes nothing is left to be corrected.
 pub fn change(link: &mut Option<Box<TreeNode>>, key: &Key, floor: Least, entry: &Entry)
-    requires ordered { AreOrdered (tasks_in link.old) }
-    requires few { length (tasks_in link.old) ≤ 2 ^ 20 }
-    requires here { is_some (find_task key.now.number (tasks_in link.old)) ≡ true }
-    requires placed { IsAtDeadline key.now.deadline (find_task key.now.number (tasks_in link.old)) }
+    requires held { Holds key.now (tasks_in link.old) }
     requires above { IfSome (find_task key.now.number (tasks_in link.old)) (λ t. floor.runtime ≤ℤ t.entry.v) }
     requires new_above { floor.runtime ≤ℤ entry.now.v }
     ensures tasks { tasks_in link.new ≡ set_entry key.now.number entry.now (tasks_in link.old) }
@@ -226,10 +220,7 @@ pub fn change(link: &mut Option<Box<TreeNode>>, key: &Key, floor: Least, entry: 
 
 /// The same where the least virtual runtimes may become others, which are made right on the way back.
 fn change_least(link: &mut Option<Box<TreeNode>>, key: &Key, entry: &Entry)
-    requires ordered { AreOrdered (tasks_in link.old) }
-    requires few { length (tasks_in link.old) ≤ 2 ^ 20 }
-    requires here { is_some (find_task key.now.number (tasks_in link.old)) ≡ true }
-    requires placed { IsAtDeadline key.now.deadline (find_task key.now.number (tasks_in link.old)) }
+    requires { Holds key.now (tasks_in link.old) }
     ensures tasks { tasks_in link.new ≡ set_entry key.now.number entry.now (tasks_in link.old) }
     ensures height { height_in link.new ≡ height_in link.old }
     ensures length { length (tasks_in link.new) ≡ length (tasks_in link.old) }

@@ -1,66 +1,35 @@
-use Rattle.std.proofs.Common.{◌≡◌, ◌∙◌, ◌∷◌, ◌++◌, ℕ, Option, ap, sym, subst, arith, List, length, length-append}
-use Rattle.std.specs.Prelude.{◌≤ℤ◌, is_some, IfSome}
+use Rattle.std.proofs.Common.{◌≡◌, ◌∙◌, ◌∷◌, ◌++◌, ℕ, Option, ap, sym, subst, arith}
+use Rattle.std.specs.Prelude.{◌≤ℤ◌, IfSome}
 use Rattle.eevdf_queue.specs.{declared.task.Task.Task, TaskLists.set_entry, TreeShape.tasks_in, TreeNodes.tasks_of}
 use Rattle.eevdf_queue.specs.TreeLeast.{least_of}
-use Rattle.eevdf_queue.proofs.{TreeLeasts.least-set, TreeOrder.ordered_left, TreeOrder.ordered_right}
-use Rattle.eevdf_queue.proofs.TreeSearch.{find_left, find_right, placed_on}
-use Rattle.eevdf_queue.proofs.TreeChange.{set_left, set_right, set_here}
+use Rattle.eevdf_queue.proofs.{TreeLeasts.least-set, TreeSearch.own_key, TreeSides.below_left, TreeSides.below_right, TreeSides.entry_set}
 use Rattle.eevdf_queue.proofs.tree_node.tree_edit.+change.Goals as goal
 use Rattle.eevdf_queue.proofs.tree_node.tree_edit.+change.Goals.{After-raise, then-is_under, else-is_under+then-is_over, else-is_under+else-is_over}
 
 pub change-requires : goal.change-requires
 change-requires t c =
     let e : tasks_in c.args.link.now ≡ tasks_of c.node.inside = cc in
-    let n = ap (λ (z : List Task). length z) e in
-    let f = find_left c.args.key.now (tasks_in c.args.link.now) (tasks_in c.node.inside.left) c.node.inside.task (tasks_in c.node.inside.right) e c.requires.ordered c.requires.placed (sym c.is_under.ensures ∙ c.if-is_under.true) in (
-      omega (arith, n, length-append {A = Task}),
-      (
-        ordered_left (tasks_in c.args.link.now) (tasks_in c.node.inside.left) c.node.inside.task (tasks_in c.node.inside.right) e c.requires.ordered,
-        (
-          omega (arith, n, c.requires.few, length-append {A = Task}),
-          (
-            ap is_some (sym f) ∙ c.requires.here,
-            (
-              placed_on c.args.key.now (tasks_in c.args.link.now) (tasks_in c.node.inside.left) f c.requires.placed,
-              (subst (λ (o : Option Task). IfSome o (λ u. c.args.floor.runtime ≤ℤ u.entry.v)) f c.requires.above, c.requires.new_above),
-            ),
-          ),
-        ),
-      ),
-    )
+    let b = below_left c.args.key.now c.node.inside _ e c.requires.held (sym c.is_under.ensures ∙ c.if-is_under.true) in
+    (omega (arith, b.fewer), (b.holds, (subst (λ (o : Option Task). IfSome o (λ u. c.args.floor.runtime ≤ℤ u.entry.v)) b.found c.requires.above, c.requires.new_above)))
 
 pub change-requires-then-is_over : goal.change-requires-then-is_over
 change-requires-then-is_over t c =
     let e : tasks_in c.args.link.now ≡ tasks_of c.node.inside = cc in
-    let n = ap (λ (z : List Task). length z) e in
-    let f = find_right c.args.key.now (tasks_in c.args.link.now) (tasks_in c.node.inside.left) c.node.inside.task (tasks_in c.node.inside.right) e c.requires.ordered c.requires.placed (sym c.is_over.ensures ∙ c.if-is_over.true) in (
-      omega (arith, n, length-append {A = Task}),
-      (
-        ordered_right (tasks_in c.args.link.now) (tasks_in c.node.inside.left) c.node.inside.task (tasks_in c.node.inside.right) e c.requires.ordered,
-        (
-          omega (arith, n, c.requires.few, length-append {A = Task}),
-          (
-            ap is_some (sym f) ∙ c.requires.here,
-            (
-              placed_on c.args.key.now (tasks_in c.args.link.now) (tasks_in c.node.inside.right) f c.requires.placed,
-              (subst (λ (o : Option Task). IfSome o (λ u. c.args.floor.runtime ≤ℤ u.entry.v)) f c.requires.above, c.requires.new_above),
-            ),
-          ),
-        ),
-      ),
-    )
+    let b = below_right c.args.key.now c.node.inside _ e c.requires.held (sym c.is_over.ensures ∙ c.if-is_over.true) in
+    (omega (arith, b.fewer), (b.holds, (subst (λ (o : Option Task). IfSome o (λ u. c.args.floor.runtime ≤ℤ u.entry.v)) b.found c.requires.above, c.requires.new_above)))
 
 -- the tasks of the node with the entry exchanged
 changed : (t : ℕ) (c : After-raise t) → tasks_of c.if-is_under.node-inside ≡ set_entry c.args.key.now.number c.args.entry.now (tasks_in c.args.link.now)
 changed t c =
     let e : tasks_in c.args.link.now ≡ tasks_of c.node.inside = cc in
+    let s = entry_set c.args.entry.now c.args.key.now c.node.inside _ e c.requires.held in
     elim c.if-is_under.branch [
       | then-is_under w ↦
-          ap tasks_of w.node-inside-is ∙ ap (λ z. z ++ c.node.inside.task ∷ tasks_in c.node.inside.right) w.change.ensures.tasks ∙ sym (set_left c.args.entry.now c.args.key.now (tasks_in c.args.link.now) (tasks_in c.node.inside.left) c.node.inside.task (tasks_in c.node.inside.right) e c.requires.ordered c.requires.placed c.requires.here (sym c.is_under.ensures ∙ w.if-is_under.true))
+          ap tasks_of w.node-inside-is ∙ ap (λ z. z ++ c.node.inside.task ∷ tasks_in c.node.inside.right) w.change.ensures.tasks ∙ sym (s.left (sym c.is_under.ensures ∙ w.if-is_under.true))
       | else-is_under+then-is_over w ↦
-          ap tasks_of w.node-inside-is ∙ ap (λ z. tasks_in c.node.inside.left ++ c.node.inside.task ∷ z) w.change-then-is_over.ensures.tasks ∙ sym (set_right c.args.entry.now c.args.key.now (tasks_in c.args.link.now) (tasks_in c.node.inside.left) c.node.inside.task (tasks_in c.node.inside.right) e c.requires.ordered c.requires.placed (sym w.is_over.ensures ∙ w.if-is_over.true))
+          ap tasks_of w.node-inside-is ∙ ap (λ z. tasks_in c.node.inside.left ++ c.node.inside.task ∷ z) w.change-then-is_over.ensures.tasks ∙ sym (s.right (sym w.is_over.ensures ∙ w.if-is_over.true))
       | else-is_under+else-is_over w ↦
-          ap tasks_of w.node-inside-is ∙ sym (set_here c.args.entry.now c.args.key.now (tasks_in c.args.link.now) (tasks_in c.node.inside.left) c.node.inside.task (tasks_in c.node.inside.right) e c.requires.ordered c.requires.placed (sym c.is_under.ensures ∙ w.if-is_under.false) (sym w.is_over.ensures ∙ w.if-is_over.false))
+          ap tasks_of w.node-inside-is ∙ sym (s.here (own_key c.args.key.now c.node.inside.task (sym c.is_under.ensures ∙ w.if-is_under.false) (sym w.is_over.ensures ∙ w.if-is_over.false)))
     ]
 
 pub invariant_of-node : goal.invariant_of-node

@@ -1,42 +1,30 @@
-use Rattle.std.proofs.Common.{◌≡◌, ◌∙◌, [], ◌∷◌, ◌++◌, true, false, Some, ap, sym, subst, arith, List, length, length-append}
-use Rattle.std.specs.Prelude.{is_some, not}
+use Rattle.std.proofs.Common.{◌≡◌, ◌∙◌, [], ◌∷◌, ◌++◌, true, false, Some, ap, sym, subst, arith, List}
+use Rattle.std.specs.Prelude.{not}
 use Rattle.eevdf_queue.specs.{declared.task.Task.Task, declared.tree_node.TreeNode.TheInside.Inside, TaskLists.first_task}
 use Rattle.eevdf_queue.specs.{TreeShape.tasks_in, TreeNodes.tasks_of, TreeChanges.keeps_least, TreeLeast.least_of}
 use Rattle.eevdf_queue.specs.TreeTasks.{without}
-use Rattle.eevdf_queue.proofs.TreeOrder.{ordered_left, ordered_right, none_below, left_alone, last_moved}
-use Rattle.eevdf_queue.proofs.TreeSearch.{over_else, own_not_under, own_not_over, find_left, find_right, find_own, placed_on, without_left, without_right, without_here}
-use Rattle.eevdf_queue.proofs.TreeLeasts.{least-same_left, least-same_right}
+use Rattle.eevdf_queue.proofs.TreeOrder.{none_below, left_alone, last_moved}
+use Rattle.eevdf_queue.proofs.{TreeSearch.over_else, TreeSearch.of_key, TreeLeasts.least-same_left, TreeLeasts.least-same_right}
+use Rattle.eevdf_queue.proofs.TreeSides.{below_left, below_right, found_here, taken_out}
 use Rattle.eevdf_queue.proofs.tree_node.tree_edit.+remove.Goals as goal
 use Rattle.eevdf_queue.proofs.tree_node.tree_edit.+remove.Goals.{then-is_of+else-is_none, else-is_of+then-is_under, else-is_of+else-is_under}
 
 pub remove-requires : goal.remove-requires
 remove-requires t c =
     let e : tasks_in c.args.link.now ≡ tasks_of c.root.inside = cc in
-    let n = ap (λ (z : List Task). length z) e in
-    let f = find_left c.args.key.now (tasks_in c.args.link.now) (tasks_in c.root.inside.left) c.root.inside.task (tasks_in c.root.inside.right) e c.requires.ordered c.requires.placed (sym c.is_under.ensures ∙ c.if-is_under.true) in (
-      omega (arith, n, length-append {A = Task}),
-      (
-        ordered_left (tasks_in c.args.link.now) (tasks_in c.root.inside.left) c.root.inside.task (tasks_in c.root.inside.right) e c.requires.ordered,
-        (omega (arith, n, c.requires.few, length-append {A = Task}), (ap is_some (sym f) ∙ c.requires.here, placed_on c.args.key.now (tasks_in c.args.link.now) (tasks_in c.root.inside.left) f c.requires.placed)),
-      ),
-    )
+    let b = below_left c.args.key.now c.root.inside _ e c.requires (sym c.is_under.ensures ∙ c.if-is_under.true) in
+    (omega (arith, b.fewer), b.holds)
 
 pub remove-requires-else-is_under : goal.remove-requires-else-is_under
 remove-requires-else-is_under t c =
     let e : tasks_in c.args.link.now ≡ tasks_of c.root.inside = cc in
-    let n = ap (λ (z : List Task). length z) e in
-    let f = find_right c.args.key.now (tasks_in c.args.link.now) (tasks_in c.root.inside.left) c.root.inside.task (tasks_in c.root.inside.right) e c.requires.ordered c.requires.placed (over_else c.args.key.now c.root.inside.task (sym c.is_of.ensures ∙ c.if-is_of.false) (sym c.is_under.ensures ∙ c.if-is_under.false)) in (
-      omega (arith, n, length-append {A = Task}),
-      (
-        ordered_right (tasks_in c.args.link.now) (tasks_in c.root.inside.left) c.root.inside.task (tasks_in c.root.inside.right) e c.requires.ordered,
-        (omega (arith, n, c.requires.few, length-append {A = Task}), (ap is_some (sym f) ∙ c.requires.here, placed_on c.args.key.now (tasks_in c.args.link.now) (tasks_in c.root.inside.right) f c.requires.placed)),
-      ),
-    )
+    let b = below_right c.args.key.now c.root.inside _ e c.requires (over_else c.args.key.now c.root.inside.task (sym c.is_of.ensures ∙ c.if-is_of.false) (sym c.is_under.ensures ∙ c.if-is_under.false)) in
+    (omega (arith, b.fewer), b.holds)
 
 pub returns-then-is_none-clause-task : goal.returns-then-is_none-clause-task
 returns-then-is_none-clause-task t c =
     let e : tasks_in c.args.link.now ≡ tasks_of c.root.inside = cc in
-    find_own c.args.key.now (tasks_in c.args.link.now) (tasks_in c.root.inside.left) c.root.inside.task (tasks_in c.root.inside.right) e c.requires.ordered c.requires.placed (own_not_under c.args.key.now c.root.inside.task (sym c.is_of.ensures ∙ c.if-is_of.true)) (own_not_over c.args.key.now c.root.inside.task (sym c.is_of.ensures ∙ c.if-is_of.true))
+    found_here c.args.key.now c.root.inside _ e c.requires (of_key c.args.key.now c.root.inside.task (sym c.is_of.ensures ∙ c.if-is_of.true))
     ∙ ap Some (sym (left_alone (first_task c.replaced.result.value.tasks) c.root.inside.task (tasks_in c.part_from-sides.new.left) (tasks_in c.part_from-sides.new.right) c.replaced.ensures.task (ap tasks_in c.part_from-sides.ensures.no_left)))
 
 pub returns-then-is_none-clause-rest : goal.returns-then-is_none-clause-rest
@@ -46,7 +34,7 @@ returns-then-is_none-clause-rest t c =
     c.replaced.ensures.tasks
     ∙ c.part_from-sides.ensures.right
     ∙ sym (ap (λ (z : List Task). z ++ tasks_in c.root.inside.right) n)
-    ∙ sym (without_here c.args.key.now (tasks_in c.args.link.now) (tasks_in c.root.inside.left) c.root.inside.task (tasks_in c.root.inside.right) e c.requires.ordered c.requires.placed (own_not_under c.args.key.now c.root.inside.task (sym c.is_of.ensures ∙ c.if-is_of.true)) (own_not_over c.args.key.now c.root.inside.task (sym c.is_of.ensures ∙ c.if-is_of.true)))
+    ∙ sym ((taken_out c.args.key.now c.root.inside _ e c.requires).here (of_key c.args.key.now c.root.inside.task (sym c.is_of.ensures ∙ c.if-is_of.true)))
 
 pub correct-change-requires-clause-kept_least : goal.correct-change-requires-clause-kept_least
 correct-change-requires-clause-kept_least t c = λ h.
@@ -69,25 +57,30 @@ returns-clause-task t c =
     let e : tasks_in c.args.link.now ≡ tasks_of c.root.inside = cc in
     elim c.if-is_of.branch [
       | else-is_of+then-is_under w ↦
-          find_left c.args.key.now (tasks_in c.args.link.now) (tasks_in c.root.inside.left) c.root.inside.task (tasks_in c.root.inside.right) e c.requires.ordered c.requires.placed (sym w.is_under.ensures ∙ w.if-is_under.true) ∙ w.remove.ensures.task ∙ ap (λ z. Some (first_task z.node.value.tasks)) (sym w.taken-is)
+          (below_left c.args.key.now c.root.inside _ e c.requires (sym w.is_under.ensures ∙ w.if-is_under.true)).found
+          ∙ w.remove.ensures.task ∙ ap (λ z. Some (first_task z.node.value.tasks)) (sym w.taken-is)
       | else-is_of+else-is_under w ↦
-          find_right c.args.key.now (tasks_in c.args.link.now) (tasks_in c.root.inside.left) c.root.inside.task (tasks_in c.root.inside.right) e c.requires.ordered c.requires.placed (over_else c.args.key.now c.root.inside.task (sym c.is_of.ensures ∙ w.if-is_of.false) (sym w.is_under.ensures ∙ w.if-is_under.false)) ∙ w.remove-else-is_under.ensures.task ∙ ap (λ z. Some (first_task z.node.value.tasks)) (sym w.taken-is)
+          (below_right c.args.key.now c.root.inside _ e c.requires (over_else c.args.key.now c.root.inside.task (sym c.is_of.ensures ∙ w.if-is_of.false) (sym w.is_under.ensures ∙ w.if-is_under.false))).found
+          ∙ w.remove-else-is_under.ensures.task ∙ ap (λ z. Some (first_task z.node.value.tasks)) (sym w.taken-is)
       | then-is_of+else-is_none w ↦
-          find_own c.args.key.now (tasks_in c.args.link.now) (tasks_in c.root.inside.left) c.root.inside.task (tasks_in c.root.inside.right) e c.requires.ordered c.requires.placed (own_not_under c.args.key.now c.root.inside.task (sym c.is_of.ensures ∙ w.if-is_of.true)) (own_not_over c.args.key.now c.root.inside.task (sym c.is_of.ensures ∙ w.if-is_of.true)) ∙ ap Some (sym w.exchanged-taken.ensures.own) ∙ ap (λ z. Some (first_task z.node.value.tasks)) (sym w.taken-is)
+          found_here c.args.key.now c.root.inside _ e c.requires (of_key c.args.key.now c.root.inside.task (sym c.is_of.ensures ∙ w.if-is_of.true))
+          ∙ ap Some (sym w.exchanged-taken.ensures.own) ∙ ap (λ z. Some (first_task z.node.value.tasks)) (sym w.taken-is)
     ]
 
 pub returns-clause-rest : goal.returns-clause-rest
 returns-clause-rest t c =
     let e : tasks_in c.args.link.now ≡ tasks_of c.root.inside = cc in
+    let s = taken_out c.args.key.now c.root.inside _ e c.requires in
     let rest : tasks_of c.if-is_of.root-inside ≡ without c.args.key.now.number (tasks_in c.args.link.now) =
     elim c.if-is_of.branch [
       | else-is_of+then-is_under w ↦
-          ap tasks_of w.root-inside-is ∙ ap (λ z. z ++ c.root.inside.task ∷ tasks_in c.root.inside.right) w.remove.ensures.rest ∙ sym (without_left c.args.key.now (tasks_in c.args.link.now) (tasks_in c.root.inside.left) c.root.inside.task (tasks_in c.root.inside.right) e c.requires.ordered c.requires.placed c.requires.here (sym w.is_under.ensures ∙ w.if-is_under.true))
+          ap tasks_of w.root-inside-is ∙ ap (λ z. z ++ c.root.inside.task ∷ tasks_in c.root.inside.right) w.remove.ensures.rest ∙ sym (s.left (sym w.is_under.ensures ∙ w.if-is_under.true))
       | else-is_of+else-is_under w ↦
-          ap tasks_of w.root-inside-is ∙ ap (λ z. tasks_in c.root.inside.left ++ c.root.inside.task ∷ z) w.remove-else-is_under.ensures.rest ∙ sym (without_right c.args.key.now (tasks_in c.args.link.now) (tasks_in c.root.inside.left) c.root.inside.task (tasks_in c.root.inside.right) e c.requires.ordered c.requires.placed (over_else c.args.key.now c.root.inside.task (sym c.is_of.ensures ∙ w.if-is_of.false) (sym w.is_under.ensures ∙ w.if-is_under.false)))
+          ap tasks_of w.root-inside-is ∙ ap (λ z. tasks_in c.root.inside.left ++ c.root.inside.task ∷ z) w.remove-else-is_under.ensures.rest
+          ∙ sym (s.right (over_else c.args.key.now c.root.inside.task (sym c.is_of.ensures ∙ w.if-is_of.false) (sym w.is_under.ensures ∙ w.if-is_under.false)))
       | then-is_of+else-is_none w ↦
           ap tasks_of w.root-inside-is
           ∙ last_moved (tasks_in c.root.inside.left) (tasks_in w.exchanged-taken.new.left) w.exchanged-taken.new.task (tasks_in c.root.inside.right) w.exchanged-taken.ensures.tasks
-          ∙ sym (without_here c.args.key.now (tasks_in c.args.link.now) (tasks_in c.root.inside.left) c.root.inside.task (tasks_in c.root.inside.right) e c.requires.ordered c.requires.placed (own_not_under c.args.key.now c.root.inside.task (sym c.is_of.ensures ∙ w.if-is_of.true)) (own_not_over c.args.key.now c.root.inside.task (sym c.is_of.ensures ∙ w.if-is_of.true)))
+          ∙ sym (s.here (of_key c.args.key.now c.root.inside.task (sym c.is_of.ensures ∙ w.if-is_of.true)))
     ] in
     c.correct-change.ensures.tasks ∙ rest
