@@ -2,6 +2,7 @@ mod Bounds
 mod Roomy
 mod MapFolds
 mod ListMaps
+mod AllTasks
 mod Foremost
 mod Earliest
 mod RunnableMaps

@@ -1,12 +1,13 @@
 -- A list of tasks of which one gets another entry.
 use Rattle.std.proofs.Common.{◌≡◌, ℕ, Bool, true, false, cond, eqb, List, [], ◌∷◌, ◌++◌, length, Option, Some, None, refl, sym, subst, ap, ◌∙◌, arith}
-use Rattle.std.specs.{Prelude.ℤ, Prelude.is_some, Ordering.nat_cmp}
+use Rattle.std.specs.{Prelude.ℤ, Prelude.is_some, Ordering.nat_cmp, List.AllByRecursion}
 use Rattle.std.specs.FinMap.{FinMap, insert, get}
 use Rattle.eevdf_queue.specs.{declared.entry.Entry.Entry, declared.task.Task.Task, declared.tree_key.Key.Key, Order.is_before}
 use Rattle.eevdf_queue.specs.{Moves.is_entry_in_range, TreeKeys.is_under, TreeKeys.is_over}
 use Rattle.eevdf_queue.specs.TaskLists.{find_task, set_entry, runnable_in, AreRunnable}
 use Rattle.eevdf_queue.specs.TreeTasks.{precedes, PrecedesAll, AreOrdered, IsSorted, IsAtDeadline}
-use Rattle.eevdf_queue.specs.TreeStores.{AllTasks, IsNoted, IsRunnableStore}
+use Rattle.eevdf_queue.specs.TreeStores.{IsNoted, IsRunnableStore}
+use Rattle.eevdf_queue.proofs.AllTasks.{all-each, all-set}
 use Rattle.eevdf_queue.proofs.RunnableMaps.{runnable_after, runnable_in-set_entry}
 
 -- with the same deadline each task keeps its place
@@ -16,23 +17,10 @@ same_before x t e h = ap (λ (z : ℤ). is_before (x.number, x.entry) (t.number,
 same_after : (x t : Task) (e : Entry) → t.entry.d ≡ e.d → precedes (record t { entry = e }) x ≡ precedes t x
 same_after x t e h = ap (λ (z : ℤ). is_before (t.number, record t.entry { d = z }) (x.number, x.entry)) (sym h)
 
-follow_all : (t : Task) (e : Entry) (us : List Task) → t.entry.d ≡ e.d → PrecedesAll t us → PrecedesAll (record t { entry = e }) us
-follow_all t e [] h a = tt
-follow_all t e (u ∷ us) h a = (same_after u t e h ∙ a.0, follow_all t e us h a.1)
-
-all_by : (q : ℕ) (e : Entry) (x t : Task) (us : List Task) (b : Bool) → eqb t.number q ≡ b → IsAtDeadline e.d (cond b (Some t) (find_task q us)) → PrecedesAll x (t ∷ us)
-    → (IsAtDeadline e.d (find_task q us) → PrecedesAll x (set_entry q e us)) → PrecedesAll x (cond b (record t { entry = e } ∷ us) (t ∷ set_entry q e us))
-all_by q e x t us true i a h k = (same_before x t e a ∙ h.0, h.1)
-all_by q e x t us false i a h k = (h.0, k a)
-
-all-set : (q : ℕ) (e : Entry) (x : Task) (ts : List Task) → IsAtDeadline e.d (find_task q ts) → PrecedesAll x ts → PrecedesAll x (set_entry q e ts)
-all-set q e x [] a h = tt
-all-set q e x (t ∷ us) a h = all_by q e x t us (eqb t.number q) refl a h (λ a'. all-set q e x us a' h.1)
-
 ordered_by : (q : ℕ) (e : Entry) (t : Task) (us : List Task) (b : Bool) → IsAtDeadline e.d (cond b (Some t) (find_task q us)) → AreOrdered (t ∷ us)
     → (IsAtDeadline e.d (find_task q us) → AreOrdered (set_entry q e us)) → AreOrdered (cond b (record t { entry = e } ∷ us) (t ∷ set_entry q e us))
-ordered_by q e t us true a h k = (follow_all t e us a h.0, h.1)
-ordered_by q e t us false a h k = (all-set q e t us a h.0, k a)
+ordered_by q e t us true a h k = (all-each (λ u. precedes t u ≡ true) (λ u. precedes (record t { entry = e }) u ≡ true) (λ u p. same_after u t e a ∙ p) us h.0, h.1)
+ordered_by q e t us false a h k = (all-set (λ u. precedes t u ≡ true) q e us (λ u d p. same_before t u e d ∙ p) a h.0, k a)
 
 ordered-set : (q : ℕ) (e : Entry) (ts : List Task) → IsAtDeadline e.d (find_task q ts) → AreOrdered ts → AreOrdered (set_entry q e ts)
 ordered-set q e [] a h = tt
@@ -44,21 +32,11 @@ sorted-set q e ts rs s a i l = record {
   few = let f = s.few in omega arith;
 }
 
--- and the table of deadlines stays right
-noted_by : (table : List ℤ) (q : ℕ) (e : Entry) (t : Task) (us : List Task) (b : Bool) → IsAtDeadline e.d (cond b (Some t) (find_task q us)) → AllTasks (IsNoted table) (t ∷ us)
-    → (IsAtDeadline e.d (find_task q us) → AllTasks (IsNoted table) (set_entry q e us)) → AllTasks (IsNoted table) (cond b (record t { entry = e } ∷ us) (t ∷ set_entry q e us))
-noted_by table q e t us true a h k = (h.0 ∙ a, h.1)
-noted_by table q e t us false a h k = (h.0, k a)
-
-noted-set : (table : List ℤ) (q : ℕ) (e : Entry) (ts : List Task) → IsAtDeadline e.d (find_task q ts) → AllTasks (IsNoted table) ts → AllTasks (IsNoted table) (set_entry q e ts)
-noted-set table q e [] a h = tt
-noted-set table q e (t ∷ us) a h = noted_by table q e t us (eqb t.number q) a h (λ a'. noted-set table q e us a' h.1)
-
 pub stored-set : (table : List ℤ) (q : ℕ) (e : Entry) (ts rs : List Task) → IsRunnableStore table ts → IsAtDeadline e.d (find_task q ts) → is_entry_in_range e ≡ true
     → rs ≡ set_entry q e ts → IsRunnableStore table rs
 stored-set table q e ts rs s a r i = record {
   runnable = subst AreRunnable (sym i) (runnable_after q e ts r s.runnable);
-  noted = subst (AllTasks (IsNoted table)) (sym i) (noted-set table q e ts a s.noted);
+  noted = subst (AllByRecursion (IsNoted table)) (sym i) (all-set (IsNoted table) q e ts (λ t d p. p ∙ d) a s.noted);
 }
 
 pub set_seen : (q : ℕ) (e : Entry) (ts rs : List Task) (m : FinMap nat_cmp Entry) → runnable_in ts ≡ m → is_some (get m q) ≡ true → rs ≡ set_entry q e ts

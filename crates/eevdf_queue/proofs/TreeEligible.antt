@@ -5,6 +5,7 @@ use Rattle.std.specs.Int.{int_min}
 use Rattle.std.proofs.{Math.Nat.mul-le-mul_right, lemmas.Int.ints, lemmas.Int.clamps}
 use Rattle.eevdf_queue.specs.{declared.task.Task.Task, Pick.is_eligible_at, TreeLeast.least_runtime, TreeLeast.AreLow}
 use Rattle.eevdf_queue.specs.{TreeTasks.first_that, TreeShape.tasks_in, TreeNodes.tasks_of, TreeNodes.IsNode}
+use Rattle.eevdf_queue.proofs.AllTasks.{all-append}
 use Rattle.eevdf_queue.specs.{declared.tree_least.Least.Least, declared.tree_node.TreeNode.TheInside.Inside}
 
 scaled_up : (a b : ℤ) (n : ℕ) → a ≤ℤ b → (a *ℤ pos n) ≤ℤ (b *ℤ pos n)
@@ -60,8 +61,7 @@ some-least w s [] (x ∷ xs) t ys e h = cc
 some-least w s (u ∷ us) xs t ys e h = some-least_by w s u us h
 
 pub low-around : (xs : List Task) (t : Task) (ys : List Task) → AreLow xs → AreLow (t ∷ []) → AreLow ys → AreLow (xs ++ t ∷ ys)
-low-around [] t ys h k l = (k.0, l)
-low-around (x ∷ xs) t ys h k l = (h.0, low-around xs t ys h.1 k l)
+low-around xs t ys h k l = all-append _ xs (t ∷ ys) h (k.0, l)
 
 -- a node has an eligible task exactly where its least virtual runtime is eligible
 pub some-node : (w : ℕ) (s : ℤ) (a : Inside) → IsNode a → int_le (a.least.runtime *ℤ pos w) s ≡ is_some (first_that (is_eligible_at w s) (tasks_of a))

@@ -1,33 +1,9 @@
 -- What an insertion into a list of tasks and a removal from it keep.
 use Rattle.std.proofs.Common.{◌≡◌, ℕ, ◌<◌, Bool, true, false, cond, eqb, List, [], ◌∷◌, length, Option, Some, None, refl, subst, ap, ◌∙◌, arith}
 use Rattle.std.proofs.lemmas.Bool.Decides.{nat_tests}
-use Rattle.eevdf_queue.specs.{declared.task.Task.Task, TaskLists.find_task, TreeStores.AllTasks}
+use Rattle.eevdf_queue.specs.{declared.task.Task.Task, TaskLists.find_task}
 use Rattle.eevdf_queue.specs.TreeTasks.{precedes, insert_task, without}
 use Rattle.eevdf_queue.proofs.ListMaps.{AreNumbered, few}
-
-pub all-insert : (P : Task → Type 0) (t : Task) (ts : List Task) → P t → AllTasks P ts → AllTasks P (insert_task t ts)
-all-insert P t [] p h = (p, tt)
-all-insert P t (u ∷ us) p h =
-    elim (precedes t u) as (λ b. AllTasks P (cond b (t ∷ u ∷ us) (u ∷ insert_task t us))) [
-      | true ↦ (p, h)
-      | false ↦ (h.0, all-insert P t us p h.1)
-    ]
-
-pub all-without : (P : Task → Type 0) (q : ℕ) (ts : List Task) → AllTasks P ts → AllTasks P (without q ts)
-all-without P q [] h = tt
-all-without P q (u ∷ us) h =
-    elim (eqb u.number q) as (λ b. AllTasks P (cond b us (u ∷ without q us))) [
-      | true ↦ h.1
-      | false ↦ (h.0, all-without P q us h.1)
-    ]
-
-all_by : (P : Task → Type 0) (b : Bool) (u t : Task) (o : Option Task) → P u → (o ≡ Some t → P t) → cond b (Some u) o ≡ Some t → P t
-all_by P true u t o p k h = let same : u ≡ t = cc in subst P same p
-all_by P false u t o p k h = k h
-
-pub all-found : (P : Task → Type 0) (q : ℕ) (ts : List Task) (t : Task) → AllTasks P ts → find_task q ts ≡ Some t → P t
-all-found P q [] t a h = cc
-all-found P q (u ∷ us) t a h = all_by P (eqb u.number q) u t (find_task q us) a.0 (all-found P q us t a.1) h
 
 apart : (b : Bool) (x : Task) (o : Option Task) → cond b (Some x) o ≡ None → (b ≡ false) × (o ≡ None)
 apart true x o h = cc

@@ -1,25 +1,25 @@
 -- What is asked of the maps of runnable and of sleeping tasks, answered from rising lists of them.
 use Rattle.std.proofs.Common.{◌≡◌, ℕ, ◌<◌, Bool, true, false, cond, eqb, List, [], ◌∷◌, length, Option, Some, None, refl, sym, subst, ap, ◌∙◌}
-use Rattle.std.specs.{Prelude.ℤ, Prelude.is_some, Ordering.nat_cmp}
+use Rattle.std.specs.{Prelude.ℤ, Prelude.is_some, Ordering.nat_cmp, List.AllByRecursion}
 use Rattle.std.specs.FinMap.{FinMap, insert, remove, get}
 use Rattle.eevdf_queue.specs.{declared.entry.Entry.Entry, declared.task.Task.Task, declared.tree_key.Key.Key}
 use Rattle.eevdf_queue.specs.Moves.{is_entry_in_range}
-use Rattle.eevdf_queue.specs.TaskLists.{find_task, runnable_in, AreRunnable}
+use Rattle.eevdf_queue.specs.TaskLists.{has_number, find_task, runnable_in, AreRunnable}
 use Rattle.eevdf_queue.specs.TreeTasks.{insert_task, without, IsAtDeadline}
-use Rattle.eevdf_queue.specs.TreeStores.{AllTasks, deadline_at, IsNoted, IsRunnableStore}
+use Rattle.eevdf_queue.specs.TreeStores.{deadline_at, IsNoted, IsRunnableStore}
 use Rattle.eevdf_queue.proofs.{ListMaps.AreNumbered, ListMaps.numbered_runnable, RunnableMaps.get-runnable_in}
-use Rattle.eevdf_queue.proofs.TreeSearch.{found_number}
-use Rattle.eevdf_queue.proofs.TreeLists.{all-insert, all-without, all-found, numbered-insert, numbered-without, room}
+use Rattle.eevdf_queue.proofs.{TreeSearch.found_number, AllTasks.all-insert, AllTasks.all-without, AllTasks.all-found}
+use Rattle.eevdf_queue.proofs.TreeLists.{numbered-insert, numbered-without, room}
 use Rattle.eevdf_queue.proofs.TreeSeen.{itself, missed-own, seen-insert, seen-without, seen-moved, seen_absent, seen_present, seen_found}
 
 abbrev pub InRange : Task → Type 0
 InRange t = is_entry_in_range t.entry ≡ true
 
-pub all_in_range : (ts : List Task) → AreRunnable ts → AllTasks InRange ts
+pub all_in_range : (ts : List Task) → AreRunnable ts → AllByRecursion InRange ts
 all_in_range [] h = tt
 all_in_range (t ∷ ts) h = (h.2, all_in_range ts h.3)
 
-pub runnable_from : (ts : List Task) → AreNumbered ts → AllTasks InRange ts → AreRunnable ts
+pub runnable_from : (ts : List Task) → AreNumbered ts → AllByRecursion InRange ts → AreRunnable ts
 runnable_from [] h r = tt
 runnable_from (t ∷ ts) h r = (h.0, h.1, r.0, runnable_from ts h.2 r.1)
 
@@ -36,11 +36,11 @@ pub placed_by : (d : ℤ) (o : Option Task) → ((t : Task) → o ≡ Some t →
 placed_by d None h = tt
 placed_by d (Some t) h = h t refl
 
-pub noted_deadline : (table : List ℤ) (q : ℕ) (ts : List Task) (t : Task) → AllTasks (IsNoted table) ts → find_task q ts ≡ Some t → t.entry.d ≡ deadline_at table q
+pub noted_deadline : (table : List ℤ) (q : ℕ) (ts : List Task) (t : Task) → AllByRecursion (IsNoted table) ts → find_task q ts ≡ Some t → t.entry.d ≡ deadline_at table q
 noted_deadline table q ts t a h =
-    sym (all-found (IsNoted table) q ts t a h) ∙ ap (deadline_at table) (found_number q ts t h)
+    sym (all-found (IsNoted table) (has_number q) ts t a h) ∙ ap (deadline_at table) (found_number q ts t h)
 
-pub placed : (table : List ℤ) (k : Key) (ts : List Task) → AllTasks (IsNoted table) ts → k.deadline ≡ deadline_at table k.number → IsAtDeadline k.deadline (find_task k.number ts)
+pub placed : (table : List ℤ) (k : Key) (ts : List Task) → AllByRecursion (IsNoted table) ts → k.deadline ≡ deadline_at table k.number → IsAtDeadline k.deadline (find_task k.number ts)
 placed table k ts a e =
     placed_by k.deadline (find_task k.number ts) (λ t h. noted_deadline table k.number ts t a h ∙ sym e)
 
@@ -63,7 +63,7 @@ apart : (b : Bool) (x : Task) (o : Option Task) → cond b (Some x) o ≡ None �
 apart true x o h = cc
 apart false x o h = (refl, h)
 
-pub noted-others : (t : Task) (table table' : List ℤ) (ts : List Task) → IsTableWith t table table' → find_task t.number ts ≡ None → AllTasks (IsNoted table) ts → AllTasks (IsNoted table') ts
+pub noted-others : (t : Task) (table table' : List ℤ) (ts : List Task) → IsTableWith t table table' → find_task t.number ts ≡ None → AllByRecursion (IsNoted table) ts → AllByRecursion (IsNoted table') ts
 noted-others t table table' [] w n a = tt
 noted-others t table table' (u ∷ us) w n a =
     let s = apart (eqb u.number t.number) u (find_task t.number us) n in
@@ -74,16 +74,16 @@ pub stored-insert : (table table' : List ℤ) (t : Task) (ts rs : List Task) →
     → IsTableWith t table table' → rs ≡ insert_task t ts → IsRunnableStore table' rs
 stored-insert table table' t ts rs s n l r w e = record {
   runnable = subst AreRunnable (sym e) (runnable-insert t ts n l r s.runnable);
-  noted = subst (AllTasks (IsNoted table')) (sym e) (all-insert (IsNoted table') t ts (noted-own t table table' w) (noted-others t table table' ts w n s.noted));
+  noted = subst (AllByRecursion (IsNoted table')) (sym e) (all-insert (IsNoted table') t ts (noted-own t table table' w) (noted-others t table table' ts w n s.noted));
 }
 
 pub stored-without : (table : List ℤ) (q : ℕ) (ts rs : List Task) → IsRunnableStore table ts → rs ≡ without q ts → IsRunnableStore table rs
 stored-without table q ts rs s e = record {
   runnable = subst AreRunnable (sym e) (runnable-without q ts s.runnable);
-  noted = subst (AllTasks (IsNoted table)) (sym e) (all-without (IsNoted table) q ts s.noted);
+  noted = subst (AllByRecursion (IsNoted table)) (sym e) (all-without (IsNoted table) q ts s.noted);
 }
 
-pub are_below : (ts : List Task) → AreNumbered ts → AllTasks (λ t. t.number < 1024) ts
+pub are_below : (ts : List Task) → AreNumbered ts → AllByRecursion (λ t. t.number < 1024) ts
 are_below [] h = tt
 are_below (t ∷ ts) h = (h.1, are_below ts h.2)
 
@@ -119,7 +119,7 @@ module _ (table : List ℤ) (q : ℕ) (t : Task) (ts rs : List Task) (s : IsRunn
   taken_absent = ap (λ (z : ℕ). find_task z rs) (found_number q ts t f) ∙ taken_missed
 
   pub taken_below : t.number < 1024
-  taken_below = all-found (λ t. t.number < 1024) q ts t (are_below ts (numbered_runnable ts s.runnable)) f
+  taken_below = all-found (λ t. t.number < 1024) (has_number q) ts t (are_below ts (numbered_runnable ts s.runnable)) f
 
   pub taken_stored : IsRunnableStore table rs
   taken_stored = stored-without table q ts rs s e

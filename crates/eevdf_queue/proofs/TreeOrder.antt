@@ -1,10 +1,10 @@
 -- The order of tasks by key, and lists whose keys rise.
 use Rattle.std.proofs.Common.{◌≡◌, append_assoc, Bool, true, false, cond, List, [], ◌∷◌, ◌++◌, Option, Some, None, Box, refl, sym, subst, ap, ◌∙◌, arith}
-use Rattle.std.specs.Prelude.{is_some}
+use Rattle.std.specs.{Prelude.is_some, List.AllByRecursion}
 use Rattle.std.proofs.lemmas.Int.{ints}
 use Rattle.eevdf_queue.specs.{TaskLists.first_task, TreeShape.Tree, TreeShape.tasks_in, declared.task.Task.Task}
 use Rattle.eevdf_queue.specs.TreeTasks.{precedes, PrecedesAll, AreOrdered, insert_task}
-use Rattle.eevdf_queue.proofs.Earliest.{told}
+use Rattle.eevdf_queue.proofs.{AllTasks.all-left, AllTasks.all-right, Earliest.told}
 
 pub precedes-trans : (a b c : Task) → precedes a b ≡ true → precedes b c ≡ true → precedes a c ≡ true
 precedes-trans a b c p q =
@@ -16,20 +16,11 @@ not_earlier t x u p q =
 
 -- each of some tasks precedes one
 abbrev pub AllPrecede : List Task → Task → Type 0
-AllPrecede [] u = Unit {0}
-AllPrecede (x ∷ xs) u = (precedes x u ≡ true) × AllPrecede xs u
-
-pub all_left : (t : Task) (xs ys : List Task) → PrecedesAll t (xs ++ ys) → PrecedesAll t xs
-all_left t [] ys h = tt
-all_left t (x ∷ xs) ys h = (h.0, all_left t xs ys h.1)
-
-pub all_right : (t : Task) (xs ys : List Task) → PrecedesAll t (xs ++ ys) → PrecedesAll t ys
-all_right t [] ys h = h
-all_right t (x ∷ xs) ys h = all_right t xs ys h.1
+AllPrecede xs u = AllByRecursion (λ x. precedes x u ≡ true) xs
 
 pub left_ordered : (xs : List Task) (u : Task) (ys : List Task) → AreOrdered (xs ++ u ∷ ys) → AreOrdered xs
 left_ordered [] u ys h = tt
-left_ordered (x ∷ xs) u ys h = (all_left x xs (u ∷ ys) h.0, left_ordered xs u ys h.1)
+left_ordered (x ∷ xs) u ys h = (all-left (λ z. precedes x z ≡ true) xs (u ∷ ys) h.0, left_ordered xs u ys h.1)
 
 pub right_ordered : (xs : List Task) (u : Task) (ys : List Task) → AreOrdered (xs ++ u ∷ ys) → AreOrdered ys
 right_ordered [] u ys h = h.1
@@ -37,7 +28,7 @@ right_ordered (x ∷ xs) u ys h = right_ordered xs u ys h.1
 
 pub left_precede : (xs : List Task) (u : Task) (ys : List Task) → AreOrdered (xs ++ u ∷ ys) → AllPrecede xs u
 left_precede [] u ys h = tt
-left_precede (x ∷ xs) u ys h = ((all_right x xs (u ∷ ys) h.0).0, left_precede xs u ys h.1)
+left_precede (x ∷ xs) u ys h = ((all-right (λ z. precedes x z ≡ true) xs (u ∷ ys) h.0).0, left_precede xs u ys h.1)
 
 pub right_follow : (xs : List Task) (u : Task) (ys : List Task) → AreOrdered (xs ++ u ∷ ys) → PrecedesAll u ys
 right_follow [] u ys h = h.0
@@ -57,7 +48,7 @@ pub insert-right : (t : Task) (xs : List Task) (u : Task) (ys : List Task) → p
     → insert_task t (xs ++ u ∷ ys) ≡ xs ++ u ∷ insert_task t ys
 insert-right t [] u ys h o = ap (λ b. cond b (t ∷ u ∷ ys) (u ∷ insert_task t ys)) h
 insert-right t (x ∷ xs) u ys h o =
-    ap (λ b. cond b (t ∷ x ∷ xs ++ u ∷ ys) (x ∷ insert_task t (xs ++ u ∷ ys))) (not_earlier t x u (all_right x xs (u ∷ ys) o.0).0 h)
+    ap (λ b. cond b (t ∷ x ∷ xs ++ u ∷ ys) (x ∷ insert_task t (xs ++ u ∷ ys))) (not_earlier t x u (all-right (λ z. precedes x z ≡ true) xs (u ∷ ys) o.0).0 h)
     ∙ ap (λ (z : List Task). x ∷ z) (insert-right t xs u ys h o.1)
 
 pub ordered_left : (ts xs : List Task) (u : Task) (ys : List Task) → ts ≡ xs ++ u ∷ ys → AreOrdered ts → AreOrdered xs

@@ -6,19 +6,8 @@ use Rattle.eevdf_queue.specs.{declared.entry.Entry.Entry, declared.task.Task.Tas
 use Rattle.eevdf_queue.specs.{Order.earlier, Order.earliest, TreeShape.IsFull}
 use Rattle.eevdf_queue.specs.Candidate.{is_running, later, latest_waiting}
 use Rattle.eevdf_queue.specs.TreeTasks.{precedes, PrecedesAll, AreOrdered, IsSorted, insert_task, without, first_that, last_waiting, last_or, last_number, numbered_entry}
+use Rattle.eevdf_queue.proofs.AllTasks.{all-each, all-insert, all-without, all-found}
 use Rattle.eevdf_queue.proofs.{Earliest.told, TreeLast.number_of_last, TreeOrder.precedes-trans}
-
-all_through : (t u : Task) (us : List Task) → precedes t u ≡ true → PrecedesAll u us → PrecedesAll t us
-all_through t u [] p h = tt
-all_through t u (x ∷ xs) p h = (precedes-trans t u x p h.0, all_through t u xs p h.1)
-
-all_insert : (u t : Task) (us : List Task) → precedes u t ≡ true → PrecedesAll u us → PrecedesAll u (insert_task t us)
-all_insert u t [] p h = (p, tt)
-all_insert u t (x ∷ xs) p h =
-    elim (precedes t x) as (λ b. PrecedesAll u (cond b (t ∷ x ∷ xs) (x ∷ insert_task t xs))) [
-      | true ↦ (p, h)
-      | false ↦ (h.0, all_insert u t xs p h.1)
-    ]
 
 other_way : (t u : Task) → precedes t u ≡ false → eqb u.number t.number ≡ false → precedes u t ≡ true
 other_way t u p n =
@@ -30,8 +19,8 @@ apart false x o h = (refl, h)
 
 ordered_by : (t u : Task) (us : List Task) (b : Bool) → precedes t u ≡ b → AreOrdered (u ∷ us) → eqb u.number t.number ≡ false → AreOrdered (insert_task t us)
     → AreOrdered (cond b (t ∷ u ∷ us) (u ∷ insert_task t us))
-ordered_by t u us true p o n i = ((p, all_through t u us p o.0), o)
-ordered_by t u us false p o n i = (all_insert u t us (other_way t u p n) o.0, i)
+ordered_by t u us true p o n i = ((p, all-each (λ x. precedes u x ≡ true) (λ x. precedes t x ≡ true) (λ x. precedes-trans t u x p) us o.0), o)
+ordered_by t u us false p o n i = (all-insert (λ x. precedes u x ≡ true) t us (other_way t u p n) o.0, i)
 
 pub ordered-insert : (t : Task) (ts : List Task) → AreOrdered ts → find_task t.number ts ≡ None → AreOrdered (insert_task t ts)
 ordered-insert t [] o n = (tt, tt)
@@ -39,20 +28,12 @@ ordered-insert t (u ∷ us) o n =
     let a = apart (eqb u.number t.number) u (find_task t.number us) n in
     ordered_by t u us (precedes t u) refl o a.0 (ordered-insert t us o.1 a.1)
 
-all_without : (q : ℕ) (u : Task) (ts : List Task) → PrecedesAll u ts → PrecedesAll u (without q ts)
-all_without q u [] h = tt
-all_without q u (x ∷ xs) h =
-    elim (eqb x.number q) as (λ b. PrecedesAll u (cond b xs (x ∷ without q xs))) [
-      | true ↦ h.1
-      | false ↦ (h.0, all_without q u xs h.1)
-    ]
-
 pub ordered-without : (q : ℕ) (ts : List Task) → AreOrdered ts → AreOrdered (without q ts)
 ordered-without q [] o = tt
 ordered-without q (x ∷ xs) o =
     elim (eqb x.number q) as (λ b. AreOrdered (cond b xs (x ∷ without q xs))) [
       | true ↦ o.1
-      | false ↦ (all_without q x xs o.0, ordered-without q xs o.1)
+      | false ↦ (all-without (λ y. precedes x y ≡ true) q xs o.0, ordered-without q xs o.1)
     ]
 
 -- the tree's own list after an insertion or a removal
@@ -67,14 +48,6 @@ sorted-without q ts rs s e k = record {
   ordered = subst AreOrdered (sym e) (ordered-without q ts s.ordered);
   few = let f = s.few in omega arith;
 }
-
-follows_by : (b : Bool) (t x u : Task) (o : Option Task) → precedes t x ≡ true → (o ≡ Some u → precedes t u ≡ true) → cond b (Some x) o ≡ Some u → precedes t u ≡ true
-follows_by true t x u o p k h = let same : x ≡ u = cc in subst (λ (z : Task). precedes t z ≡ true) same p
-follows_by false t x u o p k h = k h
-
-first_follows : (passes : Entry → Bool) (t : Task) (ts : List Task) (u : Task) → PrecedesAll t ts → first_that passes ts ≡ Some u → precedes t u ≡ true
-first_follows passes t [] u a h = cc
-first_follows passes t (x ∷ xs) u a h = follows_by (passes x.entry) t x u (first_that passes xs) a.0 (first_follows passes t xs u a.1) h
 
 not_back : (t u : Task) → precedes t u ≡ true → precedes u t ≡ false
 not_back t u p = grind (arith, ints, told t.entry.d u.entry.d t.number u.number, told u.entry.d t.entry.d u.number t.number)
@@ -93,7 +66,7 @@ pub earliest-ordered : (passes : Entry → Bool) (ts : List Task) → AreOrdered
 earliest-ordered passes [] o = refl
 earliest-ordered passes (t ∷ ts) o =
     earliest_step (passes t.entry) t (earliest passes (entries_of ts)) (first_that passes ts) (earliest-ordered passes ts o.1)
-    (earlier_first t (first_that passes ts) (λ u. first_follows passes t ts u o.0))
+    (earlier_first t (first_that passes ts) (λ u. all-found (λ x. precedes t x ≡ true) (λ x. passes x.entry) ts u o.0))
 
 last_by : (b : Bool) (t x u : Task) → precedes t x ≡ true → cond b None (Some x) ≡ Some u → precedes t u ≡ true
 last_by true t x u p h = cc

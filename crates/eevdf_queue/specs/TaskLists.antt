@@ -1,5 +1,5 @@
 -- Tasks in a list, and the maps that such a list stands for.
-use Rattle.std.specs.Prelude.{◌≡◌, ℕ, ◌<◌, ◌==◌, true, pos, List, [], ◌∷◌, if◌then◌else◌, Option, Some, None}
+use Rattle.std.specs.Prelude.{◌≡◌, ℕ, ◌<◌, ◌==◌, Bool, true, pos, List, [], ◌∷◌, if◌then◌else◌, Option, Some, None}
 use Rattle.std.specs.Ordering.{nat_cmp}
 use Rattle.std.specs.FinMap as map
 use Rattle.eevdf_queue.specs.{declared.entry.Entry.Entry, declared.task.Task.Task, State.Sleeper, State.Contents}
@@ -11,10 +11,17 @@ first_task [] =
     record { number = 0; entry = record { v = pos 0; d = pos 0; nice = pos 0; slice = 0 }; lag = pos 0 }
 first_task (t ∷ ts) = t
 
+-- the first that passes a test
+abbrev pub first_with : (Task → Bool) → List Task → Option Task
+first_with test [] = None
+first_with test (t ∷ ts) = if test t then Some t else first_with test ts
+
+abbrev pub has_number : ℕ → Task → Bool
+has_number q t = t.number == q
+
 -- the first task of a number
 abbrev pub find_task : ℕ → List Task → Option Task
-find_task q [] = None
-find_task q (t ∷ ts) = if t.number == q then Some t else find_task q ts
+find_task q = first_with (has_number q)
 
 -- the tasks with another entry at the first of a number
 abbrev pub set_entry : ℕ → Entry → List Task → List Task

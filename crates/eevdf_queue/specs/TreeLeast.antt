@@ -1,6 +1,6 @@
 -- The least virtual runtime of some tasks.
 use Rattle.std.specs.Prelude.{ℤ, pos, ◌≤ℤ◌, List, [], ◌∷◌}
-use Rattle.std.specs.Int.{int_min}
+use Rattle.std.specs.{Int.int_min, List.AllByRecursion}
 use Rattle.eevdf_queue.specs.{declared.task.Task.Task, declared.tree_least.Least.Least}
 
 -- the least virtual runtime; of no task the greatest number of 64 bits
@@ -17,5 +17,4 @@ lesser a b = record { runtime = int_min a.runtime b.runtime }
 
 -- no virtual runtime is above the greatest number of 64 bits
 abbrev pub AreLow : List Task → Type 0
-AreLow [] = Unit {0}
-AreLow (t ∷ ts) = (t.entry.v ≤ℤ pos 0x7fff_ffff_ffff_ffff) × AreLow ts
+AreLow = AllByRecursion (λ t. t.entry.v ≤ℤ pos 0x7fff_ffff_ffff_ffff)

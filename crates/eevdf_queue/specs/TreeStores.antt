@@ -1,13 +1,9 @@
 -- What the stores over trees keep.
-use Rattle.std.specs.Prelude.{◌≡◌, ℕ, ℤ, pos, true, List, [], ◌∷◌, Some, slice_index_or}
-use Rattle.std.specs.Option.{option_map}
+use Rattle.std.specs.Prelude.{◌≡◌, ℕ, ℤ, pos, true, List, Some, slice_index_or}
+use Rattle.std.specs.{Option.option_map, List.AllByRecursion}
 use Rattle.eevdf_queue.specs.{declared.picked_task.PickedTask.PickedTask, declared.task.Task.Task, declared.totals.Totals.Totals}
 use Rattle.eevdf_queue.specs.{Sums.sum_weights, Sums.sum_moments}
 use Rattle.eevdf_queue.specs.TaskLists.{find_task, entries_of, AreRunnable}
-
-abbrev pub AllTasks : (Task → Type 0) → List Task → Type 0
-AllTasks P [] = Unit {0}
-AllTasks P (t ∷ ts) = P t × AllTasks P ts
 
 -- what a table of deadlines says of a number
 abbrev pub deadline_at : List ℤ → ℕ → ℤ
@@ -20,7 +16,7 @@ IsNoted table t = deadline_at table t.number ≡ t.entry.d
 -- the tasks are runnable ones, and the table says where they stand
 pub record IsRunnableStore (table : List ℤ) (ts : List Task) : Type 0 where
   pub runnable : AreRunnable ts
-  pub noted : AllTasks (IsNoted table) ts
+  pub noted : AllByRecursion (IsNoted table) ts
 
 -- the sums are those over the tasks
 pub record AreTotals (s : Totals) (ts : List Task) : Type 0 where

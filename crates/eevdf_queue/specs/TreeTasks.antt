@@ -1,6 +1,7 @@
 -- Lists of tasks by key: the deadline first, then the number.
 use Rattle.std.specs.Prelude.{◌≡◌, ℕ, ◌==◌, ◌≤◌, ℤ, Bool, true, List, [], ◌∷◌, length, if◌then◌else◌, Option, Some, None}
-use Rattle.eevdf_queue.specs.{declared.entry.Entry.Entry, declared.task.Task.Task, Order.is_before, Candidate.is_running}
+use Rattle.std.specs.List.{AllByRecursion}
+use Rattle.eevdf_queue.specs.{declared.entry.Entry.Entry, declared.task.Task.Task, Order.is_before, Candidate.is_running, TaskLists.first_with}
 
 -- the earlier key
 abbrev pub precedes : Task → Task → Bool
@@ -8,8 +9,7 @@ precedes t u = is_before (t.number, t.entry) (u.number, u.entry)
 
 -- a task precedes others
 abbrev pub PrecedesAll : Task → List Task → Type 0
-PrecedesAll t [] = Unit {0}
-PrecedesAll t (u ∷ us) = (precedes t u ≡ true) × PrecedesAll t us
+PrecedesAll t = AllByRecursion (λ u. precedes t u ≡ true)
 
 -- the keys rise
 abbrev pub AreOrdered : List Task → Type 0
@@ -26,10 +26,9 @@ abbrev pub without : ℕ → List Task → List Task
 without q [] = []
 without q (t ∷ ts) = if t.number == q then ts else t ∷ without q ts
 
--- the first that passes a test
+-- the first whose entry passes a test
 abbrev pub first_that : (Entry → Bool) → List Task → Option Task
-first_that passes [] = None
-first_that passes (t ∷ ts) = if passes t.entry then Some t else first_that passes ts
+first_that passes = first_with (λ t. passes t.entry)
 
 -- the last that isn't the running one, if none of the tasks behind one is it
 abbrev pub last_or : Task → Option ℕ → Option Task → Option Task
