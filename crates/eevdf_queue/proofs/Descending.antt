@@ -4,51 +4,32 @@ use Rattle.std.proofs.lemmas.Bool.Decides.{nat_tests}
 use Rattle.eevdf_queue.specs.{declared.tree_node.TreeNode.TheInside.Inside, NodeDepths.deeper, NodeDepths.is_at_depth}
 use Rattle.eevdf_queue.specs.{TreeShape.depths_in, TreeNodes.depths_of}
 
-or_kept : (b c d : Bool) → (c ≡ true → d ≡ true) → (b || c) ≡ true → (b || d) ≡ true
-or_kept true c d k h = refl
-or_kept false c d k h = k h
-
-or_late : (b c : Bool) → c ≡ true → (b || c) ≡ true
-or_late true c h = refl
-or_late false c h = h
-
-or_first : (b c : Bool) → b ≡ true → (b || c) ≡ true
-or_first true c h = refl
-or_first false c h = cc
-
 before : (t k : ℕ) (xs ys : List (ℕ × ℕ)) → is_at_depth t k xs ≡ true → is_at_depth t k (xs ++ ys) ≡ true
 before t k [] ys h = cc
-before t k (x ∷ xs) ys h =
-    or_kept (eqb x.0 t && eqb x.1 k) (is_at_depth t k xs) (is_at_depth t k (xs ++ ys)) (before t k xs ys) h
+before t k (x ∷ xs) ys h = grind (arith, nat_tests, before t k xs ys)
 
 behind : (t k : ℕ) (xs ys : List (ℕ × ℕ)) → is_at_depth t k ys ≡ true → is_at_depth t k (xs ++ ys) ≡ true
 behind t k [] ys h = h
-behind t k (x ∷ xs) ys h = or_late (eqb x.0 t && eqb x.1 k) (is_at_depth t k (xs ++ ys)) (behind t k xs ys h)
-
-same_further : (m k : ℕ) → eqb m k ≡ eqb (suc m) (suc k)
-same_further m k = grind (arith, nat_tests)
+behind t k (x ∷ xs) ys h = grind (arith, nat_tests, behind t k xs ys)
 
 further : (t k : ℕ) (xs : List (ℕ × ℕ)) → is_at_depth t k xs ≡ true → is_at_depth t (suc k) (deeper xs) ≡ true
 further t k [] h = cc
-further t k (x ∷ xs) h =
-    or_kept (eqb x.0 t && eqb (suc x.1) (suc k)) (is_at_depth t k xs) (is_at_depth t (suc k) (deeper xs)) (further t k xs)
-    (ap (λ b. (eqb x.0 t && b) || is_at_depth t k xs) (sym (same_further x.1 k)) ∙ h)
+further t k (x ∷ xs) h = grind (arith, nat_tests, further t k xs)
 
-own : (t : ℕ) → (eqb t t && eqb 1 1) ≡ true
-own t = grind (arith, nat_tests)
+here : (t k : ℕ) (xs : List (ℕ × ℕ)) → is_at_depth t k ((t, k) ∷ xs) ≡ true
+here t k xs = grind (arith, nat_tests)
 
 pub deep_left : (a : Inside) (t k : ℕ) → is_at_depth t k (depths_in a.left) ≡ true → is_at_depth t (suc k) (depths_of a) ≡ true
 deep_left a t k h = before t (suc k) (deeper (depths_in a.left)) ((a.task.number, 1) ∷ deeper (depths_in a.right)) (further t k (depths_in a.left) h)
 
 pub deep_here : (a : Inside) → is_at_depth a.task.number 1 (depths_of a) ≡ true
 deep_here a =
-    behind a.task.number 1 (deeper (depths_in a.left)) ((a.task.number, 1) ∷ deeper (depths_in a.right))
-    (or_first (eqb a.task.number a.task.number && eqb 1 1) (is_at_depth a.task.number 1 (deeper (depths_in a.right))) (own a.task.number))
+    behind a.task.number 1 (deeper (depths_in a.left)) ((a.task.number, 1) ∷ deeper (depths_in a.right)) (here a.task.number 1 (deeper (depths_in a.right)))
 
 pub deep_right : (a : Inside) (t k : ℕ) → is_at_depth t k (depths_in a.right) ≡ true → is_at_depth t (suc k) (depths_of a) ≡ true
 deep_right a t k h =
     behind t (suc k) (deeper (depths_in a.left)) ((a.task.number, 1) ∷ deeper (depths_in a.right))
-    (or_late (eqb a.task.number t && eqb 1 (suc k)) (is_at_depth t (suc k) (deeper (depths_in a.right))) (further t k (depths_in a.right) h))
+    (behind t (suc k) ((a.task.number, 1) ∷ []) (deeper (depths_in a.right)) (further t k (depths_in a.right) h))
 
 -- so many turns lead from the root of a tree to a node below it
 abbrev pub LeadTo : ℕ → List (ℕ × ℕ) → List (ℕ × ℕ) → Type 0

@@ -7,11 +7,13 @@ use crate::queue::Queue;
 
 /// The weighted lags of the runnable tasks add up to 0: the sum of `w * (S - v * W)` over them, where `W` is
 /// the sum of their weights and `S` the sum of `w * v`.
+#[tactic(auto, using(crate::proofs::Mean::lags_balance))]
 pub fn lags_balance()
     ensures { LagsBalance }
 {}
 
 /// Where some task is runnable, some task is eligible.
+#[tactic(auto, using(crate::proofs::Mean::some_task_is_eligible))]
 pub fn some_task_is_eligible()
     ensures { SomeTaskIsEligible }
 {}
@@ -25,11 +27,13 @@ pub fn every_queue(queue: &Queue)
 }
 
 /// A task that is picked is eligible, and no eligible task comes before it.
+#[tactic(auto, using(crate::proofs::Picked::pick_is_first))]
 pub fn pick_is_first()
     ensures { PickIsFirst }
 {}
 
 /// No task is picked exactly where none is runnable.
+#[tactic(auto, using(crate::proofs::Picked::pick_of_nobody))]
 pub fn pick_of_nobody()
     ensures { PickOfNobody }
 {}
