@@ -104,6 +104,7 @@ impl Queue {
 
     /// The task that another CPU may pull: of the runnable tasks that don't run the one of latest virtual
     /// deadline, the greater number where deadlines are equal. `None` exactly where no task waits.
+    #[tactic(auto, using(crate::proofs::Waiting::candidate_last, crate::proofs::Waiting::candidate_waits))]
     pub fn candidate(&self) -> Option<TaskId>
         ensures value { result ≡ candidates.candidate_of self.now.state.runnable self.now.state.running }
         ensures last { IfSome result (candidates.IsCandidate self.now.state.runnable self.now.state.running) }

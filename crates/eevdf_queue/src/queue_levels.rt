@@ -65,6 +65,7 @@ impl Queue {
     }
 
     /// Learns that the virtual runtime of a task that is here is in range.
+    #[tactic(auto, using(crate::proofs::Bounds::range_v))]
     fn keeps_in_range(&self, task: TaskId, entry: &Entry)
         requires { map.get self.now.state.runnable task ≡ Some entry.now }
         ensures { limits.is_in_range entry.now.v ≡ true }

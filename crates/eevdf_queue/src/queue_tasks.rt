@@ -73,6 +73,7 @@ impl Iterator for Sleeping<'_> {
 
 impl Queue {
     /// The runnable tasks with their entries, in ascending number.
+    #[tactic(auto, using(crate::proofs::Ascending::from_start))]
     pub fn runnable_tasks(&self) -> Runnable<'_>
         ensures { result ≡ runnable_tasks self.now.state }
     {
@@ -83,6 +84,7 @@ impl Queue {
     }
 
     /// The sleeping tasks with the lags that they keep, in ascending number.
+    #[tactic(auto, using(crate::proofs::Ascending::from_start))]
     pub fn sleeping_tasks(&self) -> Sleeping<'_>
         ensures { result ≡ sleeping_tasks self.now.state }
     {

@@ -72,6 +72,7 @@ impl Sleepers {
     }
 
     /// Adds a task that isn't here, with the lag of its parcel.
+    #[tactic(auto, using(crate::proofs::AsleepMaps::filled))]
     pub fn add(&mut self, parcel: Parcel)
         requires { map.get self.old parcel.task ≡ None }
         ensures { self.new ≡ map.insert self.old parcel.task (sleeper_of parcel) }
