@@ -5,6 +5,11 @@ use Rattle.eevdf_queue.specs.{declared.entry.Entry.Entry, declared.task.Task.Tas
 use Rattle.eevdf_queue.specs.TaskLists.{first_with, find_task, set_entry}
 use Rattle.eevdf_queue.specs.TreeTasks.{precedes, insert_task, without, IsAtDeadline}
 
+-- a task that isn't found is neither the first nor behind it
+pub apart : (b : Bool) (x : Task) (o : Option Task) → cond b (Some x) o ≡ None → (b ≡ false) × (o ≡ None)
+apart true x o h = cc
+apart false x o h = (refl, h)
+
 pub all-each : (P Q : Task → Type 0) → ((t : Task) → P t → Q t) → (ts : List Task) → AllByRecursion P ts → AllByRecursion Q ts
 all-each P Q f [] h = tt
 all-each P Q f (t ∷ ts) h = (f t h.0, all-each P Q f ts h.1)

@@ -2,16 +2,16 @@
 use Rattle.std.proofs.Common.{◌≡◌, ◌≢◌, ℕ, suc, ◌+◌, ◌*◌, ◌<◌, ◌≤◌, Bool, true, false, cond, eqb, List, [], ◌∷◌, length, Option, Some, None, refl, sym, ap, subst, ◌∙◌, arith}
 use Rattle.std.specs.Prelude.{pos, ◌+ℤ◌, ◌*ℤ◌, is_some}
 use Rattle.std.specs.{Option.option_map, Ordering.nat_cmp, Ordering.eq_by_cmp, Cmp.nat_cmp_total}
-use Rattle.std.specs.FinMap.{empty, insert, get, len, entries, nat_cmp-IsAntisymmetric, len-entries, get-from_entries, get-insert, same_map}
+use Rattle.std.specs.FinMap.{FinMap, empty, insert, get, len, entries, nat_cmp-IsAntisymmetric, len-entries, get-from_entries, get-insert, same_map}
 use Rattle.std.proofs.{lemmas.Int.ints, lemmas.Bool.Decides.nat_tests}
 use Rattle.eevdf_weight.specs.Weight.{weight_of}
 use Rattle.eevdf_queue.specs.{declared.entry.Entry.Entry, declared.task.Task.Task, Order.earliest, Moves.is_entry_in_range}
 use Rattle.eevdf_queue.specs.Kept.{AreInRange}
 use Rattle.eevdf_queue.specs.Sums.{sum_weights, sum_moments, total_weight, total_moment}
-use Rattle.eevdf_queue.specs.TaskLists.{find_task, set_entry, keyed, entries_of, runnable_in, AreRunnable}
+use Rattle.eevdf_queue.specs.TaskLists.{find_task, set_entry, entries_of, runnable_in, AreRunnable}
 use Rattle.eevdf_queue.proofs.{Bounds.sum_weights_small, Bounds.sum_moments_small, MapFolds.fold-from_entries, Earliest.taken}
 use Rattle.eevdf_queue.proofs.Earliest.{taken-swap}
-use Rattle.eevdf_queue.proofs.ListMaps.{find-keyed, numbered_runnable, distinct_keyed, few}
+use Rattle.eevdf_queue.proofs.ListMaps.{same_number, find-entries_of, numbered_runnable, distinct_entries_of, few}
 
 pub runnable_in-none : runnable_in [] ≡ empty
 unfolding runnable_in
@@ -23,7 +23,11 @@ runnable_in-push t ts = refl
 
 pub get-runnable_in : (ts : List Task) (q : ℕ) → get (runnable_in ts) q ≡ option_map (λ t. t.entry) (find_task q ts)
 unfolding runnable_in
-get-runnable_in ts q = get-from_entries nat_cmp_total (entries_of ts) q ∙ find-keyed (λ t. t.entry) ts q
+get-runnable_in ts q = get-from_entries nat_cmp_total (entries_of ts) q ∙ find-entries_of ts q
+
+-- a list is seen as the map in which the same is found
+pub seen_as : (ts : List Task) (m : FinMap nat_cmp Entry) → ((x : ℕ) → option_map (λ t. t.entry) (find_task x ts) ≡ get m x) → runnable_in ts ≡ m
+seen_as ts m h = same_map nat_cmp_total nat_cmp-IsAntisymmetric _ _ (λ x. get-runnable_in ts x ∙ h x)
 
 folded : {A : Type 0} (F : List (ℕ × Entry) → A) (op : ℕ × Entry → A → A)
     (first : (e : ℕ × Entry) (es : List (ℕ × Entry)) → F (e ∷ es) ≡ op e (F es))
@@ -31,7 +35,7 @@ folded : {A : Type 0} (F : List (ℕ × Entry) → A) (op : ℕ × Entry → A �
     (ts : List Task) → AreRunnable ts → F (entries (runnable_in ts)) ≡ F (entries_of ts)
 unfolding runnable_in
 folded F op first swap ts h =
-    fold-from_entries F op first swap (entries_of ts) (distinct_keyed (λ t. t.entry) ts (numbered_runnable ts h))
+    fold-from_entries F op first swap (entries_of ts) (distinct_entries_of ts (numbered_runnable ts h))
 
 pub total_weight-runnable_in : (ts : List Task) → AreRunnable ts → total_weight (runnable_in ts) ≡ sum_weights (entries_of ts)
 total_weight-runnable_in ts h =
@@ -45,15 +49,15 @@ pub earliest-runnable_in : (passes : Entry → Bool) (ts : List Task) → AreRun
 earliest-runnable_in passes ts h =
     folded (earliest passes) (taken passes) (λ e es. refl) (taken-swap passes) ts h
 
-length-keyed : {X : Type 0} (read : Task → X) (ts : List Task) → length (keyed read ts) ≡ length ts
-length-keyed read [] = refl
-length-keyed read (t ∷ ts) = ap suc (length-keyed read ts)
+length-entries_of : (ts : List Task) → length (entries_of ts) ≡ length ts
+length-entries_of [] = refl
+length-entries_of (t ∷ ts) = ap suc (length-entries_of ts)
 
 pub len-runnable_in : (ts : List Task) → AreRunnable ts → len (runnable_in ts) ≡ length ts
 len-runnable_in ts h =
     len-entries (runnable_in ts)
     ∙ folded length (λ e n. suc n) (λ e es. refl) (λ a b x ne. refl) ts h
-    ∙ length-keyed (λ t. t.entry) ts
+    ∙ length-entries_of ts
 
 pub few_runnable : (ts : List Task) → AreRunnable ts → length ts ≤ 1024
 few_runnable ts h = few ts (numbered_runnable ts h)
@@ -80,20 +84,17 @@ runnable_after q e (t ∷ ts) r h =
       | false ↦ (absent_after t.number q e ts h.0, h.1, h.2, runnable_after q e ts r h.3)
     ]
 
-present : (o : Option Task) → is_some (option_map (λ (t : Task). t.entry) o) ≡ true → is_some o ≡ true
+pub present : (o : Option Task) → is_some (option_map (λ (t : Task). t.entry) o) ≡ true → is_some o ≡ true
 present None h = h
 present (Some t) h = refl
 
 pub runnable_in-set_entry : (q : ℕ) (e : Entry) (ts : List Task) → is_some (get (runnable_in ts) q) ≡ true → runnable_in (set_entry q e ts) ≡ insert (runnable_in ts) q e
 runnable_in-set_entry q e ts h =
     let here : is_some (find_task q ts) ≡ true = present (find_task q ts) (ap is_some (sym (get-runnable_in ts q)) ∙ h) in
-    same_map nat_cmp_total nat_cmp-IsAntisymmetric _ _ (λ x.
-    get-runnable_in (set_entry q e ts) x
-    ∙ find-set_entry x q e ts here
-    ∙ ap (cond (eq_by_cmp nat_cmp x q) (Some e)) (sym (get-runnable_in ts x))
-    ∙ sym (get-insert nat_cmp_total (runnable_in ts) q e x))
+    seen_as (set_entry q e ts) _ (λ x.
+    find-set_entry x q e ts here ∙ ap (cond (eq_by_cmp nat_cmp x q) (Some e)) (sym (get-runnable_in ts x)) ∙ sym (get-insert nat_cmp_total (runnable_in ts) q e x))
 
-absent : (o : Option Task) → option_map (λ (t : Task). t.entry) o ≡ None → o ≡ None
+pub absent : (o : Option Task) → option_map (λ (t : Task). t.entry) o ≡ None → o ≡ None
 absent None h = refl
 absent (Some t) h = cc
 

@@ -5,7 +5,7 @@ use Rattle.eevdf_queue.specs.{declared.entry.Entry.Entry, declared.task.Task.Tas
 use Rattle.eevdf_queue.specs.TaskLists.{entries_of, runnable_in, AreRunnable}
 use Rattle.eevdf_queue.specs.Candidate.{is_running, later, latest_waiting, candidate_of}
 use Rattle.eevdf_queue.proofs.{Earliest.later_first, MapFolds.fold-from_entries, ListMaps.numbered_runnable}
-use Rattle.eevdf_queue.proofs.ListMaps.{distinct_keyed}
+use Rattle.eevdf_queue.proofs.ListMaps.{distinct_entries_of}
 use Rattle.eevdf_queue.proofs.Foremost as by
 
 -- one more task that may wait
@@ -25,7 +25,7 @@ latest-runnable_in r ts h =
     fold-from_entries (latest_waiting r) (joined r)
     (latest-joined r)
     (by.taken-swap (λ a b. is_before b a) later_first (λ a. not (is_running r a.0)))
-    (entries_of ts) (distinct_keyed (λ t. t.entry) ts (numbered_runnable ts h))
+    (entries_of ts) (distinct_entries_of ts (numbered_runnable ts h))
 
 pub candidate_is : (r : Option ℕ) (ts : List Task) (m : FinMap nat_cmp Entry) (o : Option ℕ) → AreRunnable ts → runnable_in ts ≡ m
     → o ≡ option_map (λ (a : ℕ × Entry). a.0) (latest_waiting r (entries_of ts)) → o ≡ candidate_of m r

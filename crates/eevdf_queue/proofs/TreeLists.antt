@@ -3,11 +3,7 @@ use Rattle.std.proofs.Common.{◌≡◌, ℕ, ◌<◌, Bool, true, false, cond, 
 use Rattle.std.proofs.lemmas.Bool.Decides.{nat_tests}
 use Rattle.eevdf_queue.specs.{declared.task.Task.Task, TaskLists.find_task}
 use Rattle.eevdf_queue.specs.TreeTasks.{precedes, insert_task, without}
-use Rattle.eevdf_queue.proofs.ListMaps.{AreNumbered, few}
-
-apart : (b : Bool) (x : Task) (o : Option Task) → cond b (Some x) o ≡ None → (b ≡ false) × (o ≡ None)
-apart true x o h = cc
-apart false x o h = (refl, h)
+use Rattle.eevdf_queue.proofs.{AllTasks.apart, ListMaps.AreNumbered, ListMaps.few}
 
 swapped : (b c : Bool) (t u : Task) (o : Option Task) → (b ≡ true → c ≡ false) → cond b (Some u) (cond c (Some t) o) ≡ cond c (Some t) (cond b (Some u) o)
 swapped true true t u o h = let k : true ≡ false = h refl in cc

@@ -1,16 +1,16 @@
 -- What is asked of the maps of runnable and of sleeping tasks, answered from rising lists of them.
 use Rattle.std.proofs.Common.{◌≡◌, ℕ, ◌<◌, Bool, true, false, cond, eqb, List, [], ◌∷◌, length, Option, Some, None, refl, sym, subst, ap, ◌∙◌}
-use Rattle.std.specs.{Prelude.ℤ, Prelude.is_some, Ordering.nat_cmp, List.AllByRecursion}
+use Rattle.std.specs.{Prelude.ℤ, Prelude.is_some, Option.option_map, Ordering.nat_cmp, List.AllByRecursion}
 use Rattle.std.specs.FinMap.{FinMap, insert, remove, get}
 use Rattle.eevdf_queue.specs.{declared.entry.Entry.Entry, declared.task.Task.Task, declared.tree_key.Key.Key}
 use Rattle.eevdf_queue.specs.Moves.{is_entry_in_range}
 use Rattle.eevdf_queue.specs.TaskLists.{has_number, find_task, runnable_in, AreRunnable}
 use Rattle.eevdf_queue.specs.TreeTasks.{insert_task, without, IsAtDeadline}
 use Rattle.eevdf_queue.specs.TreeStores.{deadline_at, IsNoted, IsRunnableStore}
-use Rattle.eevdf_queue.proofs.{ListMaps.AreNumbered, ListMaps.numbered_runnable, RunnableMaps.get-runnable_in}
-use Rattle.eevdf_queue.proofs.{TreeSearch.found_number, AllTasks.all-insert, AllTasks.all-without, AllTasks.all-found}
+use Rattle.eevdf_queue.proofs.{ListMaps.AreNumbered, ListMaps.numbered_runnable, RunnableMaps.get-runnable_in, RunnableMaps.absent, RunnableMaps.present}
+use Rattle.eevdf_queue.proofs.{TreeSearch.found_number, AllTasks.all-insert, AllTasks.all-without, AllTasks.all-found, AllTasks.apart}
 use Rattle.eevdf_queue.proofs.TreeLists.{numbered-insert, numbered-without, room}
-use Rattle.eevdf_queue.proofs.TreeSeen.{itself, missed-own, seen-insert, seen-without, seen-moved, seen_absent, seen_present, seen_found}
+use Rattle.eevdf_queue.proofs.TreeSeen.{itself, missed-own, seen-insert, seen-without, seen-moved}
 
 abbrev pub InRange : Task → Type 0
 InRange t = is_entry_in_range t.entry ≡ true
@@ -59,10 +59,6 @@ passed false x y h = refl
 pub noted-own : (t : Task) (table table' : List ℤ) → IsTableWith t table table' → IsNoted table' t
 noted-own t table table' w = w t.number ∙ chosen (eqb t.number t.number) t.entry.d (deadline_at table t.number) (itself t.number)
 
-apart : (b : Bool) (x : Task) (o : Option Task) → cond b (Some x) o ≡ None → (b ≡ false) × (o ≡ None)
-apart true x o h = cc
-apart false x o h = (refl, h)
-
 pub noted-others : (t : Task) (table table' : List ℤ) (ts : List Task) → IsTableWith t table table' → find_task t.number ts ≡ None → AllByRecursion (IsNoted table) ts → AllByRecursion (IsNoted table') ts
 noted-others t table table' [] w n a = tt
 noted-others t table table' (u ∷ us) w n a =
@@ -88,11 +84,18 @@ are_below [] h = tt
 are_below (t ∷ ts) h = (h.1, are_below ts h.2)
 
 -- what a store is seen as: a map, given by a list
-pub find_absent : (ts : List Task) (m : FinMap nat_cmp Entry) (q : ℕ) → runnable_in ts ≡ m → get m q ≡ None → find_task q ts ≡ None
-find_absent = seen_absent (λ t. t.entry) runnable_in get-runnable_in
+module _ (ts : List Task) (m : FinMap nat_cmp Entry) (q : ℕ) (v : runnable_in ts ≡ m) where
+  seen_at : get m q ≡ option_map (λ t. t.entry) (find_task q ts)
+  seen_at = ap (λ (z : FinMap nat_cmp Entry). get z q) (sym v) ∙ get-runnable_in ts q
 
-pub find_present : (ts : List Task) (m : FinMap nat_cmp Entry) (q : ℕ) → runnable_in ts ≡ m → is_some (get m q) ≡ true → is_some (find_task q ts) ≡ true
-find_present = seen_present (λ t. t.entry) runnable_in get-runnable_in
+  pub find_absent : get m q ≡ None → find_task q ts ≡ None
+  find_absent h = absent (find_task q ts) (sym seen_at ∙ h)
+
+  pub find_present : is_some (get m q) ≡ true → is_some (find_task q ts) ≡ true
+  find_present h = present (find_task q ts) (ap is_some (sym seen_at) ∙ h)
+
+pub found_entry : (ts : List Task) (m : FinMap nat_cmp Entry) (q : ℕ) (t : Task) → runnable_in ts ≡ m → find_task q ts ≡ Some t → get m q ≡ Some t.entry
+found_entry ts m q t v f = seen_at ts m q v ∙ ap (option_map (λ u. u.entry)) f
 
 -- a task put in
 module _ (table table' : List ℤ) (t : Task) (ts us : List Task) (m : FinMap nat_cmp Entry) (s : IsRunnableStore table ts) (v : runnable_in ts ≡ m)
@@ -103,7 +106,7 @@ module _ (table table' : List ℤ) (t : Task) (ts us : List Task) (m : FinMap na
   pub added_seen : runnable_in us ≡ insert m t.number t.entry
   added_seen =
       ap runnable_in e
-      ∙ seen-insert (λ t. t.entry) runnable_in get-runnable_in t ts (find_absent ts m t.number v n)
+      ∙ seen-insert t ts (find_absent ts m t.number v n)
       ∙ ap (λ (z : FinMap nat_cmp Entry). insert z t.number t.entry) v
 
 pub added_room : (table : List ℤ) (ts : List Task) (m : FinMap nat_cmp Entry) (t : Task) → IsRunnableStore table ts → runnable_in ts ≡ m → get m t.number ≡ None → t.number < 1024
@@ -128,7 +131,7 @@ module _ (table : List ℤ) (q : ℕ) (t : Task) (ts rs : List Task) (s : IsRunn
   taken_room = room t rs taken_absent taken_below (numbered_runnable rs taken_stored.runnable)
 
   pub taken_seen : (m : FinMap nat_cmp Entry) → runnable_in ts ≡ m → runnable_in rs ≡ remove m q
-  taken_seen m v = ap runnable_in e ∙ seen-without (λ t. t.entry) runnable_in get-runnable_in q ts (numbered_runnable ts s.runnable) ∙ ap (λ (z : FinMap nat_cmp Entry). remove z q) v
+  taken_seen m v = ap runnable_in e ∙ seen-without q ts (numbered_runnable ts s.runnable) ∙ ap (λ (z : FinMap nat_cmp Entry). remove z q) v
 
   -- and put in again
   pub moved_stored : (table' : List ℤ) (u : Task) (us : List Task) → u.number ≡ t.number → us ≡ insert_task u rs → InRange u → IsTableWith u table table' → IsRunnableStore table' us
@@ -139,9 +142,6 @@ module _ (table : List ℤ) (q : ℕ) (t : Task) (ts rs : List Task) (s : IsRunn
   moved_seen m u us v k i =
       let p : u.number ≡ q = k ∙ found_number q ts t f in
       ap runnable_in (i ∙ ap (insert_task u) (e ∙ ap (λ (z : ℕ). without z ts) (sym p)))
-      ∙ seen-moved (λ t. t.entry) runnable_in get-runnable_in u ts (numbered_runnable ts s.runnable)
+      ∙ seen-moved u ts (numbered_runnable ts s.runnable)
       ∙ ap (λ (z : ℕ). insert (runnable_in ts) z u.entry) p
       ∙ ap (λ (z : FinMap nat_cmp Entry). insert z q u.entry) v
-
-pub found_entry : (ts : List Task) (m : FinMap nat_cmp Entry) (q : ℕ) (t : Task) → runnable_in ts ≡ m → find_task q ts ≡ Some t → get m q ≡ Some t.entry
-found_entry = seen_found (λ t. t.entry) runnable_in get-runnable_in

@@ -6,16 +6,12 @@ use Rattle.eevdf_queue.specs.{declared.entry.Entry.Entry, declared.task.Task.Tas
 use Rattle.eevdf_queue.specs.{Order.earlier, Order.earliest, TreeShape.IsFull}
 use Rattle.eevdf_queue.specs.Candidate.{is_running, later, latest_waiting}
 use Rattle.eevdf_queue.specs.TreeTasks.{precedes, PrecedesAll, AreOrdered, IsSorted, insert_task, without, first_that, last_waiting, last_or, last_number, numbered_entry}
-use Rattle.eevdf_queue.proofs.AllTasks.{all-each, all-insert, all-without, all-found}
+use Rattle.eevdf_queue.proofs.AllTasks.{apart, all-each, all-insert, all-without, all-found}
 use Rattle.eevdf_queue.proofs.{Earliest.told, TreeLast.number_of_last, TreeOrder.precedes-trans}
 
 other_way : (t u : Task) → precedes t u ≡ false → eqb u.number t.number ≡ false → precedes u t ≡ true
 other_way t u p n =
     grind (arith, ints, nat_tests, told t.entry.d u.entry.d t.number u.number, told u.entry.d t.entry.d u.number t.number)
-
-apart : (b : Bool) (x : Task) (o : Option Task) → cond b (Some x) o ≡ None → (b ≡ false) × (o ≡ None)
-apart true x o h = cc
-apart false x o h = (refl, h)
 
 ordered_by : (t u : Task) (us : List Task) (b : Bool) → precedes t u ≡ b → AreOrdered (u ∷ us) → eqb u.number t.number ≡ false → AreOrdered (insert_task t us)
     → AreOrdered (cond b (t ∷ u ∷ us) (u ∷ insert_task t us))

@@ -28,14 +28,10 @@ abbrev pub set_entry : ℕ → Entry → List Task → List Task
 set_entry q e [] = []
 set_entry q e (t ∷ ts) = if t.number == q then record t { entry = e } ∷ ts else t ∷ set_entry q e ts
 
--- what a function reads of the tasks, by number
-abbrev pub keyed : {X : Type 0} → (Task → X) → List Task → List (ℕ × X)
-keyed read [] = []
-keyed read (t ∷ ts) = (t.number, read t) ∷ keyed read ts
-
 -- the entries by number
 abbrev pub entries_of : List Task → List (ℕ × Entry)
-entries_of ts = keyed (λ t. t.entry) ts
+entries_of [] = []
+entries_of (t ∷ ts) = (t.number, t.entry) ∷ entries_of ts
 
 -- the map from their numbers to their entries
 unfoldable pub runnable_in : List Task → map.FinMap nat_cmp Entry
