@@ -2,6 +2,7 @@ mod Bounds
 mod Roomy
 mod MapFolds
 mod ListMaps
+mod SortedEntries
 mod AllTasks
 mod Foremost
 mod Earliest

@@ -11,7 +11,8 @@ use Rattle.eevdf_queue.specs.Pick.{Eligible, is_eligible_at, is_eligible}
 use Rattle.eevdf_queue.specs.Laws.{sum_lags, LagsBalance, SomeTaskIsEligible}
 use Rattle.eevdf_queue.proofs.Scaled.{sum_scaled, difference_scaled, scaled_twice, scaled_sum, scaled_le}
 use Rattle.eevdf_queue.proofs.MapFolds.{AreDistinct}
-use Rattle.eevdf_queue.proofs.Picking.{NonePasses, IsEarliest, earliest_is, distinct_entries, none_behind}
+use Rattle.eevdf_queue.proofs.SortedEntries.{distinct_entries}
+use Rattle.eevdf_queue.proofs.Picking.{NonePasses, IsEarliest, earliest_is, none_behind}
 
 -- one more task on both sides
 one_lag : (S v M L : ℤ) (W w n : ℕ) → L ≡ (S *ℤ pos n) -ℤ (M *ℤ pos W)

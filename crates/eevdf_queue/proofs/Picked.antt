@@ -7,7 +7,7 @@ use Rattle.eevdf_queue.specs.{declared.entry.Entry.Entry, Laws.PickIsFirst, Laws
 use Rattle.eevdf_queue.specs.Sums.{Tasks, total_weight, total_moment}
 use Rattle.eevdf_queue.specs.Pick.{IsPick, is_eligible, is_eligible_at, pick_of}
 use Rattle.eevdf_queue.proofs.{MapFolds.entries-empty, Mean.nobody}
-use Rattle.eevdf_queue.proofs.Picking.{IsEarliest, earliest_is, distinct_entries, pick_is}
+use Rattle.eevdf_queue.proofs.{SortedEntries.distinct_entries, Picking.IsEarliest, Picking.earliest_is, Picking.pick_is}
 
 pub picked : (tasks : Tasks) (r : Option ℕ) → r ≡ pick_of tasks → IfSome r (IsPick tasks)
 picked tasks None e = tt

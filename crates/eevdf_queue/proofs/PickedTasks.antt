@@ -55,31 +55,18 @@ known_of p ts m t view g number v n s = λ _. read (find_task p.number ts)
         ∙ ap (λ (z : ℕ). known_as p.runtime p.nice z) (sym s)
 
 -- another task joins
-other_found : {X : Type 0} (read : Task → X) (x : X) (b : Bool) (t : Task) (o : Option Task) → (b ≡ true → o ≡ None) → option_map read o ≡ Some x → option_map read (cond b (Some t) o) ≡ Some x
-other_found read x false t o n h = h
-other_found read x true t o n h = absurd (let none : option_map read o ≡ None = ap (option_map read) (n refl) in let w : None ≡ Some x = sym none ∙ h in cc)
+other_found : (x : ℕ) (t : Task) (ts : List Task) (known : ℤ × ℤ × ℕ) → find_task t.number ts ≡ None → option_map timeless (find_task x ts) ≡ Some known
+    → option_map timeless (find_task x (insert_task t ts)) ≡ Some known
+other_found x t ts known n h = grind (arith, nat_tests, find-insert_task x t ts n)
 
 pub still_known : (p : PickedTask) (t : Task) (ts us : List Task) → IsKnown p ts → find_task t.number ts ≡ None → us ≡ insert_task t ts → IsKnown p us
 still_known p t ts us h n e = λ k.
-    ap (λ (z : List Task). option_map timeless (find_task p.number z)) e
-    ∙ ap (option_map timeless) (find-insert_task p.number t ts n)
-    ∙ other_found timeless (picked_timeless p) (eqb t.number p.number) t (find_task p.number ts)
-    (λ b. let same : t.number ≡ p.number = grind (arith, nat_tests) in ap (λ (q : ℕ). find_task q ts) (sym same) ∙ n) (h k)
+    ap (λ (z : List Task). option_map timeless (find_task p.number z)) e ∙ other_found p.number t ts (picked_timeless p) n (h k)
 
 -- the first task that passes stands under its number
-first_step : (b c : Bool) (u t : Task) (o p : Option Task) → (c ≡ true → p ≡ None) → (o ≡ Some t → p ≡ Some t) → (b ≡ true → u ≡ t → c ≡ true) → cond b (Some u) o ≡ Some t → cond c (Some u) p ≡ Some t
-first_step true true u t o p n k s h = h
-first_step true false u t o p n k s h = let same : u ≡ t = cc in absurd (let w = s refl same in cc)
-first_step false true u t o p n k s h = absurd (let a = n refl in let b = k h in let w : None ≡ Some t = sym a ∙ b in cc)
-first_step false false u t o p n k s h = k h
-
 pub first_found : (passes : Entry → Bool) (ts : List Task) (t : Task) → AreRunnable ts → first_that passes ts ≡ Some t → find_task t.number ts ≡ Some t
 first_found passes [] t r h = cc
-first_found passes (u ∷ us) t r h =
-    first_step (passes u.entry) (eqb u.number t.number) u t (first_that passes us) (find_task t.number us)
-    (λ b. let same : u.number ≡ t.number = grind (arith, nat_tests) in ap (λ (q : ℕ). find_task q us) (sym same) ∙ r.0)
-    (first_found passes us t r.3)
-    (λ _ e. let same : u.number ≡ t.number = ap (λ (z : Task). z.number) e in grind (arith, nat_tests)) h
+first_found passes (u ∷ us) t r h = grind (arith, nat_tests, r.0, first_found passes us t r.3)
 
 pub first_entry : {X : Type 0} (read : X → Task) (passes : Entry → Bool) (ts : List Task) (m : FinMap nat_cmp Entry) (o : Option X) → AreRunnable ts → runnable_in ts ≡ m
     → option_map read o ≡ first_that passes ts → IfSome o (λ x. get m (read x).number ≡ Some (read x).entry)

@@ -8,31 +8,8 @@ use Rattle.std.specs.FinMap.{FinMap, entries, entries_sorted, find, is_sorted, g
 use Rattle.std.proofs.lemmas.Int.{ints}
 use Rattle.eevdf_queue.specs.{declared.entry.Entry.Entry, Sums.Tasks, Order.is_before, Order.earliest}
 use Rattle.eevdf_queue.specs.Pick.{IsPick, is_eligible, pick_of}
-use Rattle.eevdf_queue.proofs.{MapFolds.AreDistinct, Earliest.told, Earliest.earlier_first}
+use Rattle.eevdf_queue.proofs.{SortedEntries.distinct_entries, MapFolds.AreDistinct, Earliest.told, Earliest.earlier_first}
 use Rattle.eevdf_queue.proofs.Foremost.{IsForemost, is_foremost, head, behind}
-
--- entries in order are distinct
-less_apart : (o : Ordering) → T (is_lt o) → is_eq o ≡ false
-less_apart Less h = refl
-less_apart Equal h = absurd h
-less_apart Greater h = absurd h
-
-both : (a b : Bool) → T (a && b) → T a × T b
-both true b h = (tt, h)
-both false b h = absurd h
-
-above_absent : {X : Type 0} (k : ℕ) (es : List (ℕ × X)) → T (below_all nat_cmp k es) → find nat_cmp k es ≡ None
-above_absent k [] h = refl
-above_absent k (e ∷ es) h =
-    ap (λ b. cond b (Some e.1) (find nat_cmp k es)) (less_apart (nat_cmp k e.0) (both _ _ h).0)
-    ∙ above_absent k es (both _ _ h).1
-
-sorted_distinct : {X : Type 0} (es : List (ℕ × X)) → T (is_sorted nat_cmp es) → AreDistinct es
-sorted_distinct [] h = tt
-sorted_distinct (e ∷ es) h = (above_absent e.0 es (both _ _ h).0, sorted_distinct es (both _ _ h).1)
-
-pub distinct_entries : {X : Type 0} (m : FinMap nat_cmp X) → AreDistinct (entries m)
-distinct_entries m = sorted_distinct (entries m) (entries_sorted m)
 
 -- none of a list passes
 abbrev pub NonePasses : (Entry → Bool) → List (ℕ × Entry) → Type 0

@@ -104,17 +104,11 @@ runnable_with t ts h n r k = (absent (find_task t.number ts) (sym (get-runnable_
 abbrev InRange : ℕ → Entry → Type 0
 InRange q e = (q < 1024) × (is_entry_in_range e ≡ true)
 
-found : (q : ℕ) (e : Entry) (t : Task) (b : Bool) (o : Option Task) → eqb t.number q ≡ b → t.number < 1024 → is_entry_in_range t.entry ≡ true
-    → (option_map (λ (u : Task). u.entry) o ≡ Some e → InRange q e) → option_map (λ (u : Task). u.entry) (cond b (Some t) o) ≡ Some e → InRange q e
-found q e t true o k n r rest h =
-    let same : t.number ≡ q = grind (arith, nat_tests) in
-    let is : t.entry ≡ e = cc in
-    (subst (λ (x : ℕ). x < 1024) same n, subst (λ (x : Entry). is_entry_in_range x ≡ true) is r)
-found q e t false o k n r rest h = rest h
-
 in_range_list : (ts : List Task) → AreRunnable ts → (q : ℕ) (e : Entry) → option_map (λ (u : Task). u.entry) (find_task q ts) ≡ Some e → InRange q e
 in_range_list [] h q e k = cc
-in_range_list (t ∷ ts) h q e k = found q e t (eqb t.number q) (find_task q ts) refl h.1 h.2 (in_range_list ts h.3 q e) k
+in_range_list (t ∷ ts) h q e k =
+    let rest = in_range_list ts h.3 q e in
+    (grind (arith, nat_tests, h.1, λ (i : _). (rest i).0), grind (arith, nat_tests, h.2, λ (i : _). (rest i).1))
 
 pub in_range_in : (ts : List Task) → AreRunnable ts → AreInRange (runnable_in ts)
 in_range_in ts h = λ q e k. in_range_list ts h q e (sym (get-runnable_in ts q) ∙ k)

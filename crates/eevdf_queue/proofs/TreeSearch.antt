@@ -10,29 +10,17 @@ use Rattle.eevdf_queue.proofs.{AllTasks.all-found, Earliest.told}
 use Rattle.eevdf_queue.proofs.TreeOrder.{left_precede, right_follow}
 
 module _ (test : Task → Bool) where
-  found_step : (b : Bool) (x t : Task) (o p : Option Task) → (o ≡ Some t → p ≡ Some t) → cond b (Some x) o ≡ Some t → cond b (Some x) p ≡ Some t
-  found_step true x t o p k h = h
-  found_step false x t o p k h = k h
-
   pub first-found : (xs ys : List Task) (t : Task) → first_with test xs ≡ Some t → first_with test (xs ++ ys) ≡ Some t
   first-found [] ys t h = cc
-  first-found (x ∷ xs) ys t h = found_step (test x) x t (first_with test xs) (first_with test (xs ++ ys)) (first-found xs ys t) h
-
-  missed_step : (b : Bool) (x : Task) (o p r : Option Task) → (o ≡ None → p ≡ r) → cond b (Some x) o ≡ None → cond b (Some x) p ≡ r
-  missed_step true x o p r k h = cc
-  missed_step false x o p r k h = k h
+  first-found (x ∷ xs) ys t h = grind (arith, first-found xs ys t)
 
   pub first-missed : (xs ys : List Task) → first_with test xs ≡ None → first_with test (xs ++ ys) ≡ first_with test ys
   first-missed [] ys h = refl
-  first-missed (x ∷ xs) ys h = missed_step (test x) x (first_with test xs) (first_with test (xs ++ ys)) (first_with test ys) (first-missed xs ys) h
-
-  passed_by : (b : Bool) (x t : Task) (o : Option Task) → test x ≡ b → (o ≡ Some t → test t ≡ true) → cond b (Some x) o ≡ Some t → test t ≡ true
-  passed_by true x t o e k h = let same : x ≡ t = cc in ap test (sym same) ∙ e
-  passed_by false x t o e k h = k h
+  first-missed (x ∷ xs) ys h = grind (arith, first-missed xs ys)
 
   first_passed : (xs : List Task) (t : Task) → first_with test xs ≡ Some t → test t ≡ true
   first_passed [] t h = cc
-  first_passed (x ∷ xs) t h = passed_by (test x) x t (first_with test xs) refl (first_passed xs t) h
+  first_passed (x ∷ xs) t h = grind (arith, first_passed xs t)
 
 pub found_number : (q : ℕ) (xs : List Task) (t : Task) → find_task q xs ≡ Some t → t.number ≡ q
 found_number q xs t h = eqb-true t.number q (first_passed (has_number q) xs t h)
@@ -130,12 +118,8 @@ module _ (k : Key) (xs : List Task) (u : Task) (ys : List Task) (o : AreOrdered 
   pub missed-left_over : is_over k u ≡ true → find_task k.number xs ≡ None
   missed-left_over p = over_left (find_task k.number xs) refl p
 
-  here_number : (b : Bool) → eqb u.number k.number ≡ b → u.number ≡ k.number → cond b (Some u) (find_task k.number ys) ≡ Some u
-  here_number true e n = refl
-  here_number false e n = absurd (grind (arith, nat_tests))
-
   pub find-here : HasKey k u → find_task k.number (xs ++ u ∷ ys) ≡ Some u
-  find-here g = first-missed (has_number k.number) xs (u ∷ ys) (missed-left g) ∙ here_number (eqb u.number k.number) refl g.number
+  find-here g = first-missed (has_number k.number) xs (u ∷ ys) (missed-left g) ∙ (let own : find_task k.number (u ∷ ys) ≡ Some u = grind (arith, nat_tests, g.number) in own)
 
 -- the same of a list that is known to be so parted
 abbrev pub IsPlaced : Key → List Task → Type 0

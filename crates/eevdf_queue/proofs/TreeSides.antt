@@ -52,24 +52,13 @@ same_number m n h = grind (arith, nat_tests)
 module _ (k : Key) (edit : List Task → List Task) (at : Task → List Task → List Task) (none : edit [] ≡ [])
     (more : (t : Task) (ts : List Task) → edit (t ∷ ts) ≡ cond (eqb t.number k.number) (at t ts) (t ∷ edit ts))
     (before : (t : Task) (xs ys : List Task) → at t (xs ++ ys) ≡ at t xs ++ ys) where
-  found_step : (b : Bool) (x t : Task) (xs ys : List Task) → (find_task k.number xs ≡ Some t → edit (xs ++ ys) ≡ edit xs ++ ys) → cond b (Some x) (find_task k.number xs) ≡ Some t
-      → cond b (at x (xs ++ ys)) (x ∷ edit (xs ++ ys)) ≡ cond b (at x xs) (x ∷ edit xs) ++ ys
-  found_step true x t xs ys i h = before x xs ys
-  found_step false x t xs ys i h = ap (λ (z : List Task). x ∷ z) (i h)
-
   edit-found : (xs ys : List Task) (t : Task) → find_task k.number xs ≡ Some t → edit (xs ++ ys) ≡ edit xs ++ ys
   edit-found [] ys t h = cc
-  edit-found (x ∷ xs) ys t h =
-      more x (xs ++ ys) ∙ found_step (eqb x.number k.number) x t xs ys (edit-found xs ys t) h ∙ ap (λ (z : List Task). z ++ ys) (sym (more x xs))
-
-  missed_step : (b : Bool) (x : Task) (us xs ys : List Task) → (find_task k.number xs ≡ None → edit (xs ++ ys) ≡ xs ++ edit ys) → cond b (Some x) (find_task k.number xs) ≡ None
-      → cond b us (x ∷ edit (xs ++ ys)) ≡ x ∷ xs ++ edit ys
-  missed_step true x us xs ys i h = cc
-  missed_step false x us xs ys i h = ap (λ (z : List Task). x ∷ z) (i h)
+  edit-found (x ∷ xs) ys t h = grind (arith, more x (xs ++ ys), more x xs, before x xs ys, edit-found xs ys t)
 
   edit-missed : (xs ys : List Task) → find_task k.number xs ≡ None → edit (xs ++ ys) ≡ xs ++ edit ys
   edit-missed [] ys h = refl
-  edit-missed (x ∷ xs) ys h = more x (xs ++ ys) ∙ missed_step (eqb x.number k.number) x (at x (xs ++ ys)) xs ys (edit-missed xs ys) h
+  edit-missed (x ∷ xs) ys h = grind (arith, more x (xs ++ ys), edit-missed xs ys)
 
   past : (xs : List Task) (u : Task) (ys : List Task) (b : Bool) → find_task k.number xs ≡ None → eqb u.number k.number ≡ b
       → edit (xs ++ u ∷ ys) ≡ xs ++ cond b (at u ys) (u ∷ edit ys)

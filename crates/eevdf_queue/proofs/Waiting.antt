@@ -6,7 +6,7 @@ use Rattle.std.specs.FinMap.{contains_key, entries, get-entries}
 use Rattle.eevdf_queue.specs.{declared.entry.Entry.Entry, Sums.Tasks, Order.is_before}
 use Rattle.eevdf_queue.specs.Candidate.{is_running, latest_waiting, candidate_of, IsCandidate, NoneWaits}
 use Rattle.eevdf_queue.proofs.{Earliest.told, Earliest.later_first, TreeCandidates.latest-joined}
-use Rattle.eevdf_queue.proofs.{Foremost.IsForemost, Foremost.is_foremost, Picking.distinct_entries, Picking.later_by}
+use Rattle.eevdf_queue.proofs.{Foremost.IsForemost, Foremost.is_foremost, SortedEntries.distinct_entries, Picking.later_by}
 
 -- the last that waits, by the two cases
 abbrev IsLast : Option ℕ → List (ℕ × Entry) → Option (ℕ × Entry) → Type 0
