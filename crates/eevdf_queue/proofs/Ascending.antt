@@ -42,7 +42,7 @@ module _ {X : Type 0} where
   -- no entry is left where each stands below
   none_left : (n : ℕ) (es : List (ℕ × X)) → ((k : ℕ) → n ≤ k → find nat_cmp k es ≡ None) → from_number n es ≡ []
   none_left n [] h = refl
-  none_left n (e ∷ es) h = 
+  none_left n (e ∷ es) h =
       grind (arith, nat_tests, same_number e.0 e.0, h e.0, none_left n es (λ k b. other k e es (h k b)))
 
   none_from : (n : ℕ) (m : finite.FinMap nat_cmp X) → ((t : ℕ) (x : X) → finite.get m t ≡ Some x → t < n) → (k : ℕ) → n ≤ k → finite.get m k ≡ None

@@ -61,10 +61,12 @@ pub fn correct(
     ensures same_least { keeps_least result ≡ true → node_least.new ≡ node_least.old }
 {
     let other_height = raise(below.is_of_height(), node_height, left, task, right);
-    let around = look_around(left, task, right);
     match below {
         TreeChange::Nothing => TreeChange::Nothing,
-        _ => TreeChange::of_both(other_height, around.renew_least(node_least)),
+        _ => TreeChange::of_both(
+            other_height,
+            look_around(left, task, right).renew_least(node_least),
+        ),
     }
 }
 
@@ -88,10 +90,12 @@ pub fn raise(
     ensures mended { IsHeightOfBalanced (height_in left.old) (height_in right.old) node_height.new }
     ensures same_height { result ≡ false → node_height.new ≡ node_height.old }
 {
-    let around = look_around(left, task, right);
     if !may_differ {
+        // for the proof alone: what is kept is right of the tasks as they are now
+        look_around(left, task, right);
         return false;
     }
+    let around = look_around(left, task, right);
     if around.is_uneven() {
         return raise_uneven(node_height, left, task, right);
     }
