@@ -3,6 +3,7 @@ use Rattle.std.proofs.Common.{◌≡◌, ℕ, Bool, true, false, cond, eqb, Opti
 use Rattle.std.specs.{Prelude.ℤ, Prelude.is_some, Option.option_map, Ordering.nat_cmp, Ordering.eq_by_cmp, Cmp.nat_cmp_total}
 use Rattle.std.specs.FinMap.{FinMap, empty, insert, remove, get, contains_key, get-empty, get-insert, get-remove}
 use Rattle.std.proofs.lemmas.Bool.Decides.{nat_tests}
+use Rattle.eevdf_queue.proofs.ListMaps.{same_number}
 use Rattle.eevdf_weight.specs.Limits.{is_in_range}
 use Rattle.eevdf_queue.specs.{declared.entry.Entry.Entry, Sums.Tasks}
 use Rattle.eevdf_queue.specs.State.{Sleeper, Contents}
@@ -19,32 +20,20 @@ sound_open m n b e f h = record {
   based = h;
 }
 
-stays : (b : Bool) (e : Entry) (o : Option Entry) → is_some o ≡ true → is_some (cond b (Some e) o) ≡ true
-stays true e o h = refl
-stays false e o h = h
-
 runs_on : (m m' : Tasks) (t : ℕ) (e : Entry) (r : Option ℕ) → m' ≡ insert m t e → RunnerIsHere m r → RunnerIsHere m' r
 runs_on m m' t e None is h = tt
-runs_on m m' t e (Some u) is h =
-    ap is_some (ap (λ a. get a u) is ∙ get-insert nat_cmp_total m t e u) ∙ stays (eq_by_cmp nat_cmp u t) e (get m u) h
+runs_on m m' t e (Some u) is h = let at = ap (λ a. get a u) is ∙ get-insert nat_cmp_total m t e u in grind (arith, nat_tests, at)
 
 -- a number that is among the tasks afterwards is the new one or was there
-kept_or_new : (m : Tasks) (n : Asleep) (t u : ℕ) (e : Entry) (b : Bool) → eq_by_cmp nat_cmp u t ≡ b → get n t ≡ None → (contains_key m u ≡ true → get n u ≡ None)
-    → is_some (cond b (Some e) (get m u)) ≡ true → get n u ≡ None
-kept_or_new m n t u e true k none before h =
-    let same : u ≡ t = grind (arith, nat_tests) in ap (get n) same ∙ none
-kept_or_new m n t u e false k none before h = before h
-
-apart_on : (m m' : Tasks) (n : Asleep) (t : ℕ) (e : Entry) → m' ≡ insert m t e → get n t ≡ None → AreApart m n → AreApart m' n
-apart_on m m' n t e is none h = λ u here.
-    kept_or_new m n t u e (eq_by_cmp nat_cmp u t) refl none (h u)
-    (sym (ap is_some (ap (λ a. get a u) is ∙ get-insert nat_cmp_total m t e u)) ∙ here)
+kept_or_new : (m m' : Tasks) (n : Asleep) (t u : ℕ) (e : Entry) → get m' u ≡ get (insert m t e) u → get n t ≡ None → (contains_key m u ≡ true → get n u ≡ None)
+    → contains_key m' u ≡ true → get n u ≡ None
+kept_or_new m m' n t u e is none before h = grind (arith, nat_tests, same_number u t, get-insert nat_cmp_total m t e u)
 
 pub sound_admit : (m m' : Tasks) (r : Option ℕ) (n : Asleep) (b : ℤ) (t : ℕ) (e : Entry) → m' ≡ insert m t e → get n t ≡ None
     → IsSound (record { runnable = m; running = r; asleep = n; base = b }) → IsSound (record { runnable = m'; running = r; asleep = n; base = b })
 sound_admit m m' r n b t e is none h = record {
   runs = runs_on m m' t e r is h.runs;
-  apart = apart_on m m' n t e is none h.apart;
+  apart = λ u. kept_or_new m m' n t u e (ap (λ a. get a u) is) none (h.apart u);
   based = h.based;
 }
 
@@ -52,33 +41,28 @@ pub sound_change : (m m' : Tasks) (r : Option ℕ) (n : Asleep) (b : ℤ) (t : �
     → IsSound (record { runnable = m; running = r; asleep = n; base = b }) → IsSound (record { runnable = m'; running = r; asleep = n; base = b })
 sound_change m m' r n b t e is here h = sound_admit m m' r n b t e is (h.apart t here) h
 
-other_sleeper : (m : Tasks) (n : Asleep) (t u : ℕ) (s : Sleeper) (b : Bool) → eq_by_cmp nat_cmp u t ≡ b → get m t ≡ None → contains_key m u ≡ true → get n u ≡ None
-    → cond b (Some s) (get n u) ≡ None
-other_sleeper m n t u s true k none here old =
-    let same : u ≡ t = grind (arith, nat_tests) in
-    let gone : get m u ≡ None = ap (get m) same ∙ none in cc
-other_sleeper m n t u s false k none here old = old
+other_sleeper : (m : Tasks) (n n' : Asleep) (t u : ℕ) (s : Sleeper) → get n' u ≡ get (insert n t s) u → get m t ≡ None → contains_key m u ≡ true → get n u ≡ None
+    → get n' u ≡ None
+other_sleeper m n n' t u s is none here old = grind (arith, nat_tests, same_number u t, get-insert nat_cmp_total n t s u)
 
 pub sound_sleep : (m : Tasks) (r : Option ℕ) (n n' : Asleep) (b : ℤ) (t : ℕ) (s : Sleeper) → n' ≡ insert n t s → get m t ≡ None
     → IsSound (record { runnable = m; running = r; asleep = n; base = b }) → IsSound (record { runnable = m; running = r; asleep = n'; base = b })
 sound_sleep m r n n' b t s is none h = record {
   runs = h.runs;
-  apart = λ u here. ap (λ a. get a u) is ∙ get-insert nat_cmp_total n t s u ∙ other_sleeper m n t u s (eq_by_cmp nat_cmp u t) refl none here (h.apart u here);
+  apart = λ u here. other_sleeper m n n' t u s (ap (λ a. get a u) is) none here (h.apart u here);
   based = h.based;
 }
 
 -- a number that is still among the tasks was there
-was_there : (b : Bool) (o : Option Entry) → is_some (cond b None o) ≡ true → is_some o ≡ true
-was_there true o h = cc
-was_there false o h = h
+was_there : (m : Tasks) (t u : ℕ) → contains_key (remove m t) u ≡ true → contains_key m u ≡ true
+was_there m t u h = grind (arith, nat_tests, get-remove nat_cmp_total m t u)
 
-other_number : (t u : ℕ) → eqb t u ≡ false → eq_by_cmp nat_cmp u t ≡ false
-other_number t u h = grind (arith, nat_tests)
+still_there : (m : Tasks) (t u : ℕ) → eqb t u ≡ false → contains_key m u ≡ true → contains_key (remove m t) u ≡ true
+still_there m t u k h = grind (arith, nat_tests, same_number u t, get-remove nat_cmp_total m t u)
 
 runs_without : (m : Tasks) (t u : ℕ) (b : Bool) → eqb t u ≡ b → contains_key m u ≡ true → RunnerIsHere (remove m t) (cond b None (Some u))
 runs_without m t u true k h = tt
-runs_without m t u false k h =
-    ap is_some (get-remove nat_cmp_total m t u ∙ ap (λ b. cond b None (get m u)) (other_number t u k)) ∙ h
+runs_without m t u false k h = still_there m t u k h
 
 runs_after : (m : Tasks) (t : ℕ) (r : Option ℕ) → RunnerIsHere m r → RunnerIsHere (remove m t) (stopped r t)
 runs_after m t None h = tt
@@ -88,7 +72,7 @@ left : (m : Tasks) (r : Option ℕ) (n : Asleep) (b b' : ℤ) (t : ℕ) → is_i
     → IsSound (record { runnable = m; running = r; asleep = n; base = b }) → IsSound (record { runnable = remove m t; running = stopped r t; asleep = n; base = b' })
 left m r n b b' t h k = record {
   runs = runs_after m t r k.runs;
-  apart = λ u here. k.apart u (was_there (eq_by_cmp nat_cmp u t) (get m u) (sym (ap is_some (get-remove nat_cmp_total m t u)) ∙ here));
+  apart = λ u here. k.apart u (was_there m t u here);
   based = h;
 }
 
@@ -100,21 +84,14 @@ sound_leave m m' r r' n b b' t is out h k =
     (left m r n b b' t h k))
 
 -- a woken task is among the tasks, and no longer among the sleepers
-none_without : (b : Bool) (o : Option Sleeper) → (b ≡ false → o ≡ None) → cond b None o ≡ None
-none_without true o h = refl
-none_without false o h = h refl
-
-apart_woken : (m : Tasks) (n : Asleep) (t u : ℕ) (e : Entry) → AreApart m n → contains_key (insert m t e) u ≡ true → get (remove n t) u ≡ None
-apart_woken m n t u e h here =
-    get-remove nat_cmp_total n t u
-    ∙ none_without (eq_by_cmp nat_cmp u t) (get n u) (λ other.
-    h u (ap (λ b. is_some (cond b (Some e) (get m u))) (sym other) ∙ sym (ap is_some (get-insert nat_cmp_total m t e u)) ∙ here))
+apart_woken : (m : Tasks) (n : Asleep) (t u : ℕ) (e : Entry) → (contains_key m u ≡ true → get n u ≡ None) → contains_key (insert m t e) u ≡ true → get (remove n t) u ≡ None
+apart_woken m n t u e h here = grind (arith, nat_tests, get-insert nat_cmp_total m t e u, get-remove nat_cmp_total n t u)
 
 pub sound_wake : (m m' : Tasks) (r : Option ℕ) (n n' : Asleep) (b : ℤ) (t : ℕ) (e : Entry) → m' ≡ insert m t e → n' ≡ remove n t
     → IsSound (record { runnable = m; running = r; asleep = n; base = b }) → IsSound (record { runnable = m'; running = r; asleep = n'; base = b })
 sound_wake m m' r n n' b t e is out h = record {
   runs = runs_on m m' t e r is h.runs;
-  apart = λ u here. ap (λ a. get a u) out ∙ apart_woken m n t u e h.apart (sym (ap (λ a. contains_key a u) is) ∙ here);
+  apart = λ u here. ap (λ a. get a u) out ∙ apart_woken m n t u e (h.apart u) (sym (ap (λ a. contains_key a u) is) ∙ here);
   based = h.based;
 }
 
