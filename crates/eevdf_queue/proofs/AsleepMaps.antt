@@ -3,31 +3,29 @@ use Rattle.std.proofs.Common.{◌≡◌, ℕ, zero, suc, ◌+◌, ◌<◌, Bool,
 use Rattle.std.specs.{Prelude.is_some, Prelude.Box, Ordering.nat_cmp, Ordering.eq_by_cmp, Cmp.nat_cmp_total}
 use Rattle.std.specs.FinMap.{FinMap, find, empty, insert, remove, get, nat_cmp-IsAntisymmetric, get-from_entries, get-insert, get-remove, get-empty, same_map}
 use Rattle.std.proofs.lemmas.Bool.Decides.{nat_tests}
+use Rattle.eevdf_queue.proofs.ListMaps.{same_number}
 use Rattle.eevdf_queue.specs.{State.Sleeper, Lag.is_lag, Kept.AreLimited, TreeShape.Tree}
 use Rattle.eevdf_queue.specs.Slots.{sleeper_of_node, sleeper_in_slot, sleepers_from, asleep_in, slot_at, IsSlot, AreSlots, IsWith}
 
 abbrev Slot : Type 0 → Type 0
 Slot Z = Option (Box Tree Z)
 
+other : (x y : ℕ) → eqb x y ≡ eqb y x
+other x y = grind (arith, nat_tests)
+
 module _ {Z : Type 0} where
   -- no slot from a number on is of a lower number
   find-below : (ss : List (Slot Z)) (n q : ℕ) → q < n → find nat_cmp q (sleepers_from n ss) ≡ None
   find-below [] n q h = refl
   find-below (None ∷ ss) n q h = find-below ss (suc n) q (omega arith)
-  find-below (Some b ∷ ss) n q h =
-      ap (λ c. cond c (Some (sleeper_of_node b.value)) (find nat_cmp q (sleepers_from (suc n) ss))) (let e : eq_by_cmp nat_cmp q n ≡ false = grind (arith, nat_tests) in e)
-      ∙ find-below ss (suc n) q (omega arith)
+  find-below (Some b ∷ ss) n q h = grind (arith, nat_tests, same_number q n, find-below ss (suc n) q)
 
   find-slots : (ss : List (Slot Z)) (n k : ℕ) → find nat_cmp (n + k) (sleepers_from n ss) ≡ sleeper_in_slot (get_or ss k None)
   find-slots [] n k = refl
   find-slots (None ∷ ss) n zero = find-below ss (suc n) (n + 0) (omega arith)
-  find-slots (None ∷ ss) n (suc k) = ap (λ (x : ℕ). find nat_cmp x (sleepers_from (suc n) ss)) (let e : n + suc k ≡ suc n + k = omega arith in e) ∙ find-slots ss (suc n) k
-  find-slots (Some b ∷ ss) n zero =
-      ap (λ c. cond c (Some (sleeper_of_node b.value)) (find nat_cmp (n + 0) (sleepers_from (suc n) ss))) (let e : eq_by_cmp nat_cmp (n + 0) n ≡ true = grind (arith, nat_tests) in e)
-  find-slots (Some b ∷ ss) n (suc k) =
-      ap (λ c. cond c (Some (sleeper_of_node b.value)) (find nat_cmp (n + suc k) (sleepers_from (suc n) ss))) (let e : eq_by_cmp nat_cmp (n + suc k) n ≡ false = grind (arith, nat_tests) in e)
-      ∙ ap (λ (x : ℕ). find nat_cmp x (sleepers_from (suc n) ss)) (let e : n + suc k ≡ suc n + k = omega arith in e)
-      ∙ find-slots ss (suc n) k
+  find-slots (None ∷ ss) n (suc k) = grind (arith, nat_tests, find-slots ss (suc n) k)
+  find-slots (Some b ∷ ss) n zero = grind (arith, nat_tests, same_number (n + 0) n)
+  find-slots (Some b ∷ ss) n (suc k) = grind (arith, nat_tests, same_number (n + suc k) n, find-slots ss (suc n) k)
 
   pub get-asleep_in : (ss : List (Slot Z)) (q : ℕ) → get (asleep_in ss) q ≡ sleeper_in_slot (slot_at ss q)
   unfolding asleep_in
@@ -59,19 +57,8 @@ module _ {Z : Type 0} where
     pub sleeper_is : (q : ℕ) → get m q ≡ sleeper_in_slot (slot_at ss q)
     sleeper_is q = ap (λ (z : FinMap nat_cmp Sleeper). get z q) (sym v) ∙ get-asleep_in ss q
 
-    slot_is : (q : ℕ) (o : Slot Z) (b : Bool) → sleeper_in_slot (cond b o (slot_at ss q)) ≡ cond b (sleeper_in_slot o) (get m q)
-    slot_is q o true = refl
-    slot_is q o false = sym (sleeper_is q)
-
-    turned : (x q : ℕ) → eqb x q ≡ eq_by_cmp nat_cmp x q
-    turned x q = grind (arith, nat_tests)
-
     get-changed : (rs : List (Slot Z)) (q x : ℕ) (o : Slot Z) → IsWith q o ss rs → get (asleep_in rs) x ≡ cond (eq_by_cmp nat_cmp x q) (sleeper_in_slot o) (get m x)
-    get-changed rs q x o w =
-        get-asleep_in rs x
-        ∙ ap sleeper_in_slot (w x)
-        ∙ slot_is x o (eqb x q)
-        ∙ ap (λ b. cond b (sleeper_in_slot o) (get m x)) (turned x q)
+    get-changed rs q x o w = grind (arith, nat_tests, get-asleep_in rs x, w x, sleeper_is x, same_number x q, other x q)
 
     pub filled : (rs : List (Slot Z)) (q : ℕ) (b : Box Tree Z) → IsWith q (Some b) ss rs → asleep_in rs ≡ insert m q (sleeper_of_node b.value)
     filled rs q b w =

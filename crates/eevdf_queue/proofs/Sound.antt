@@ -107,10 +107,8 @@ left_start P time t None p h k = cc
 left_start P time t (Some e) p h k =
     let same : leaving_at time t e ≡ p = grind arith in subst P (ap (λ (c : Contents). c.start) same) (k e refl)
 
-gone : (m : Tasks) (t : ℕ) → get (remove m t) t ≡ None
-gone m t =
-    let same : eq_by_cmp nat_cmp t t ≡ true = grind (arith, nat_tests) in
-    get-remove nat_cmp_total m t t ∙ ap (λ b. cond b None (get m t)) same
+gone : {X : Type 0} (m : FinMap nat_cmp X) (t : ℕ) → get (remove m t) t ≡ None
+gone m t = grind (arith, nat_tests, same_number t t, get-remove nat_cmp_total m t t)
 
 -- and stands nowhere in the queue that it has left
 pub nowhere_after : (m m' : Tasks) (r r' : Option ℕ) (n : Asleep) (b b' time : ℤ) (t : ℕ) (p : Contents) → m' ≡ remove m t → is_some (get m t) ≡ true
@@ -121,31 +119,24 @@ nowhere_after m m' r r' n b b' time t p is here left h =
     (record { not_runnable = ap (λ a. get a t) is ∙ gone m t; not_asleep = h.apart t here })
 
 -- a sleeping task that is taken out
-still_apart : (b : Bool) (o : Option Sleeper) → o ≡ None → cond b None o ≡ None
-still_apart true o h = refl
-still_apart false o h = h
+still_apart : (n : Asleep) (t u : ℕ) → get n u ≡ None → get (remove n t) u ≡ None
+still_apart n t u h = grind (arith, nat_tests, get-remove nat_cmp_total n t u)
 
 pub sound_sleeper_leaves : (m : Tasks) (r : Option ℕ) (n n' : Asleep) (b : ℤ) (t : ℕ) → n' ≡ remove n t
     → IsSound (record { runnable = m; running = r; asleep = n; base = b }) → IsSound (record { runnable = m; running = r; asleep = n'; base = b })
 sound_sleeper_leaves m r n n' b t out h = record {
   runs = h.runs;
-  apart = λ u here. ap (λ a. get a u) out ∙ get-remove nat_cmp_total n t u ∙ still_apart (eq_by_cmp nat_cmp u t) (get n u) (h.apart u here);
+  apart = λ u here. ap (λ a. get a u) out ∙ still_apart n t u (h.apart u here);
   based = h.based;
 }
 
-gone_asleep : (n : Asleep) (t : ℕ) → get (remove n t) t ≡ None
-gone_asleep n t =
-    let same : eq_by_cmp nat_cmp t t ≡ true = grind (arith, nat_tests) in
-    get-remove nat_cmp_total n t t ∙ ap (λ b. cond b None (get n t)) same
-
 -- a task that sleeps isn't runnable
-not_runnable_of : (m : Tasks) (n : Asleep) (t : ℕ) (o : Option Entry) → get m t ≡ o → AreApart m n → contains_key n t ≡ true → o ≡ None
-not_runnable_of m n t None is h here = refl
-not_runnable_of m n t (Some e) is h here = let none : get n t ≡ None = h t (ap is_some is) in cc
+not_runnable_of : (m : Tasks) (n : Asleep) (t : ℕ) → (contains_key m t ≡ true → get n t ≡ None) → contains_key n t ≡ true → get m t ≡ None
+not_runnable_of m n t h here = grind (arith, nat_tests)
 
 pub nowhere_woken : (m : Tasks) (r : Option ℕ) (n n' : Asleep) (b : ℤ) (t u : ℕ) → n' ≡ remove n t → contains_key n t ≡ true → u ≡ t
     → IsSound (record { runnable = m; running = r; asleep = n; base = b })
     → IsNowhere (record { runnable = m; running = r; asleep = n'; base = b }) u
 nowhere_woken m r n n' b t u out here same h =
     subst (λ (x : ℕ). IsNowhere (record { runnable = m; running = r; asleep = n'; base = b }) x) (sym same)
-    (record { not_runnable = not_runnable_of m n t (get m t) refl h.apart here; not_asleep = ap (λ a. get a t) out ∙ gone_asleep n t })
+    (record { not_runnable = not_runnable_of m n t (h.apart t) here; not_asleep = ap (λ a. get a t) out ∙ gone n t })
