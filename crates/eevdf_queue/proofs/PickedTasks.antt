@@ -19,13 +19,8 @@ entry_of : (d : ℤ) (p : PickedTask) (o : Option Task) → option_map timeless 
 entry_of d p None h a = cc
 entry_of d p (Some t) h a =
     let same : timeless t ≡ picked_timeless p = cc in
-    let v : t.entry.v ≡ p.runtime = ap (λ (z : ℤ × ℤ × ℕ). z.0) same in
-    let n : t.entry.nice ≡ p.nice = ap (λ (z : ℤ × ℤ × ℕ). z.1) same in
-    let s : t.entry.slice ≡ p.slice = ap (λ (z : ℤ × ℤ × ℕ). z.2) same in
-    ap (λ (z : ℤ). Some (record { v = z; d = t.entry.d; nice = t.entry.nice; slice = t.entry.slice })) v
-    ∙ ap (λ (z : ℤ). Some (record { v = p.runtime; d = z; nice = t.entry.nice; slice = t.entry.slice })) a
-    ∙ ap (λ (z : ℤ). Some (record { v = p.runtime; d = d; nice = z; slice = t.entry.slice })) n
-    ∙ ap (λ (z : ℕ). Some (record { v = p.runtime; d = d; nice = p.nice; slice = z })) s
+    ap (λ (z : ℤ × ℤ × ℕ). Some (record { v = z.0; d = t.entry.d; nice = z.1; slice = z.2 })) same
+    ∙ ap (λ (z : ℤ). Some (record { v = p.runtime; d = z; nice = p.nice; slice = p.slice })) a
 
 pub known_entry : (table : List ℤ) (p : PickedTask) (ts : List Task) (m : FinMap nat_cmp Entry) (q : ℕ) → IsRunnableStore table ts → runnable_in ts ≡ m → IsKnown p ts → p.known ≡ true → p.number ≡ q
     → get m q ≡ Some (record { v = p.runtime; d = deadline_at table q; nice = p.nice; slice = p.slice })
@@ -35,9 +30,6 @@ known_entry table p ts m q s v h k e =
     ∙ entry_of (deadline_at table q) p (find_task q ts)
     (ap (λ (z : ℕ). option_map timeless (find_task z ts)) (sym e) ∙ h k)
     (placed_by (deadline_at table q) (find_task q ts) (λ t f. noted_deadline table q ts t s.noted f))
-
-abbrev known_as : ℤ → ℤ → ℕ → Option (ℤ × ℤ × ℕ)
-known_as v n l = Some (v, n, l)
 
 -- of the entry of a task all of that is known
 pub known_of : (p : PickedTask) (ts : List Task) (m : FinMap nat_cmp Entry) (t : Task) → runnable_in ts ≡ m → get m t.number ≡ Some t.entry
@@ -49,10 +41,7 @@ known_of p ts m t view g number v n s = λ _. read (find_task p.number ts)
     read None h = cc
     read (Some u) h =
         let e : u.entry ≡ t.entry = cc in
-        ap (λ (x : Entry). known_as x.v x.nice x.slice) e
-        ∙ ap (λ (z : ℤ). known_as z t.entry.nice t.entry.slice) (sym v)
-        ∙ ap (λ (z : ℤ). known_as p.runtime z t.entry.slice) (sym n)
-        ∙ ap (λ (z : ℕ). known_as p.runtime p.nice z) (sym s)
+        cc
 
 -- another task joins
 other_found : (x : ℕ) (t : Task) (ts : List Task) (known : ℤ × ℤ × ℕ) → find_task t.number ts ≡ None → option_map timeless (find_task x ts) ≡ Some known

@@ -13,32 +13,18 @@ use Rattle.eevdf_queue.proofs.{RunnableMaps.light, Bounds.sum_moments_small}
 -- of any sum
 module _ {A : Type 0} (F : List Task → A) (op : Task → A → A) (more : (t : Task) (ts : List Task) → F (t ∷ ts) ≡ op t (F ts))
     (swap : (a b : Task) (x : A) → op a (op b x) ≡ op b (op a x)) where
-  sum-insert_by : (b : Bool) (t u : Task) (us : List Task) → F (insert_task t us) ≡ op t (F us) → F (cond b (t ∷ u ∷ us) (u ∷ insert_task t us)) ≡ op t (F (u ∷ us))
-  sum-insert_by true t u us h = more t (u ∷ us)
-  sum-insert_by false t u us h = more u (insert_task t us) ∙ ap (op u) h ∙ swap u t (F us) ∙ ap (op t) (sym (more u us))
-
   pub sum-insert : (t : Task) (ts : List Task) → F (insert_task t ts) ≡ op t (F ts)
   sum-insert t [] = more t []
-  sum-insert t (u ∷ us) = sum-insert_by (precedes t u) t u us (sum-insert t us)
-
-  sum-without_by : (b : Bool) (q : ℕ) (t u : Task) (us : List Task) → (find_task q us ≡ Some t → F us ≡ op t (F (without q us)))
-      → cond b (Some u) (find_task q us) ≡ Some t → F (u ∷ us) ≡ op t (F (cond b us (u ∷ without q us)))
-  sum-without_by true q t u us k h = let same : u ≡ t = cc in more u us ∙ ap (λ (z : Task). op z (F us)) same
-  sum-without_by false q t u us k h = more u us ∙ ap (op u) (k h) ∙ swap u t (F (without q us)) ∙ ap (op t) (sym (more u (without q us)))
+  sum-insert t (u ∷ us) = grind (arith, more t (u ∷ us), more u us, more u (insert_task t us), sum-insert t us, swap t u (F us))
 
   pub sum-without : (q : ℕ) (t : Task) (ts : List Task) → find_task q ts ≡ Some t → F ts ≡ op t (F (without q ts))
   sum-without q t [] h = cc
-  sum-without q t (u ∷ us) h = sum-without_by (eqb u.number q) q t u us (sum-without q t us) h
-
-  sum-set_by : (b : Bool) (q : ℕ) (e : Entry) (t u : Task) (us : List Task) → (find_task q us ≡ Some t → F (set_entry q e us) ≡ op (record t { entry = e }) (F (without q us)))
-      → cond b (Some u) (find_task q us) ≡ Some t → F (cond b (record u { entry = e } ∷ us) (u ∷ set_entry q e us)) ≡ op (record t { entry = e }) (F (cond b us (u ∷ without q us)))
-  sum-set_by true q e t u us k h = let same : u ≡ t = cc in more (record u { entry = e }) us ∙ ap (λ (z : Task). op (record z { entry = e }) (F us)) same
-  sum-set_by false q e t u us k h =
-      more u (set_entry q e us) ∙ ap (op u) (k h) ∙ swap u (record t { entry = e }) (F (without q us)) ∙ ap (op (record t { entry = e })) (sym (more u (without q us)))
+  sum-without q t (u ∷ us) h = grind (arith, more u us, more u (without q us), sum-without q t us, swap t u (F (without q us)))
 
   pub sum-set : (q : ℕ) (e : Entry) (t : Task) (ts : List Task) → find_task q ts ≡ Some t → F (set_entry q e ts) ≡ op (record t { entry = e }) (F (without q ts))
   sum-set q e t [] h = cc
-  sum-set q e t (u ∷ us) h = sum-set_by (eqb u.number q) q e t u us (sum-set q e t us) h
+  sum-set q e t (u ∷ us) h =
+      grind (arith, more (record u { entry = e }) us, more u (set_entry q e us), more u (without q us), sum-set q e t us, swap (record t { entry = e }) u (F (without q us)))
 
 abbrev weights : List Task → ℕ
 weights ts = sum_weights (entries_of ts)
