@@ -52,51 +52,36 @@ earlier_first : (t : Task) (o : Option Task) → ((u : Task) → o ≡ Some u �
 earlier_first t None h = refl
 earlier_first t (Some u) h = ap (λ b. cond b (numbered_entry u) (numbered_entry t)) (not_back t u (h u refl))
 
-earliest_step : (b : Bool) (t : Task) (x : Option (ℕ × Entry)) (o : Option Task) → x ≡ option_map numbered_entry o
-    → earlier (numbered_entry t) (option_map numbered_entry o) ≡ numbered_entry t
-    → cond b (Some (earlier (numbered_entry t) x)) x ≡ option_map numbered_entry (cond b (Some t) o)
-earliest_step true t x o e h = ap (λ (z : Option (ℕ × Entry)). Some (earlier (numbered_entry t) z)) e ∙ ap (λ (z : ℕ × Entry). Some z) h
-earliest_step false t x o e h = e
+earliest_step : (b : Bool) (t : Task) (o : Option Task) → earlier (numbered_entry t) (option_map numbered_entry o) ≡ numbered_entry t
+    → cond b (Some (earlier (numbered_entry t) (option_map numbered_entry o))) (option_map numbered_entry o) ≡ option_map numbered_entry (cond b (Some t) o)
+earliest_step true t o h = ap (λ (z : ℕ × Entry). Some z) h
+earliest_step false t o h = refl
 
 pub earliest-ordered : (passes : Entry → Bool) (ts : List Task) → AreOrdered ts → earliest passes (entries_of ts) ≡ option_map numbered_entry (first_that passes ts)
 earliest-ordered passes [] o = refl
 earliest-ordered passes (t ∷ ts) o =
-    earliest_step (passes t.entry) t (earliest passes (entries_of ts)) (first_that passes ts) (earliest-ordered passes ts o.1)
+    ap (λ (z : Option (ℕ × Entry)). cond (passes t.entry) (Some (earlier (numbered_entry t) z)) z) (earliest-ordered passes ts o.1)
+    ∙ earliest_step (passes t.entry) t (first_that passes ts)
     (earlier_first t (first_that passes ts) (λ u. all-found (λ x. precedes t x ≡ true) (λ x. passes x.entry) ts u o.0))
-
-last_by : (b : Bool) (t x u : Task) → precedes t x ≡ true → cond b None (Some x) ≡ Some u → precedes t u ≡ true
-last_by true t x u p h = cc
-last_by false t x u p h = let same : x ≡ u = cc in subst (λ (z : Task). precedes t z ≡ true) same p
-
-last_follows_by : (r : Option ℕ) (t x u : Task) (o : Option Task) → precedes t x ≡ true → (o ≡ Some u → precedes t u ≡ true) → last_or x r o ≡ Some u → precedes t u ≡ true
-last_follows_by r t x u (Some w) p k h = k h
-last_follows_by r t x u None p k h = last_by (is_running r x.number) t x u p h
 
 last_follows : (r : Option ℕ) (t : Task) (ts : List Task) (u : Task) → PrecedesAll t ts → last_waiting r ts ≡ Some u → precedes t u ≡ true
 last_follows r t [] u a h = cc
-last_follows r t (x ∷ xs) u a h = last_follows_by r t x u (last_waiting r xs) a.0 (last_follows r t xs u a.1) h
-
-latest_by : (b : Bool) (t : Task) → cond b None (Some (numbered_entry t)) ≡ option_map numbered_entry (cond b None (Some t))
-latest_by true t = refl
-latest_by false t = refl
-
-latest_step : (r : Option ℕ) (t : Task) (x : Option (ℕ × Entry)) (o : Option Task) → x ≡ option_map numbered_entry o → ((u : Task) → o ≡ Some u → precedes t u ≡ true)
-    → cond (is_running r t.number) x (Some (later (numbered_entry t) x)) ≡ option_map numbered_entry (last_or t r o)
-latest_step r t x None e h =
-    ap (λ (z : Option (ℕ × Entry)). cond (is_running r t.number) z (Some (later (numbered_entry t) z))) e ∙ latest_by (is_running r t.number) t
-latest_step r t x (Some u) e h =
-    ap (λ (z : Option (ℕ × Entry)). cond (is_running r t.number) z (Some (later (numbered_entry t) z))) e
-    ∙ ap (λ b. cond (is_running r t.number) (Some (numbered_entry u)) (Some (cond b (numbered_entry u) (numbered_entry t)))) (h u refl)
-    ∙ both_ways (is_running r t.number) (numbered_entry u)
+last_follows r t (x ∷ xs) u a h = by (last_waiting r xs) (last_follows r t xs u a.1) h
   where
-    both_ways : (b : Bool) (e : ℕ × Entry) → cond b (Some e) (Some e) ≡ Some e
-    both_ways true e = refl
-    both_ways false e = refl
+    by : (o : Option Task) → (o ≡ Some u → precedes t u ≡ true) → last_or x r o ≡ Some u → precedes t u ≡ true
+    by (Some w) k h = k h
+    by None k h = grind (arith, nat_tests, a.0)
+
+latest_step : (r : Option ℕ) (t : Task) (o : Option Task) → ((u : Task) → o ≡ Some u → precedes t u ≡ true)
+    → cond (is_running r t.number) (option_map numbered_entry o) (Some (later (numbered_entry t) (option_map numbered_entry o))) ≡ option_map numbered_entry (last_or t r o)
+latest_step r t None h = let at : Bool = is_running r t.number in grind (arith, nat_tests)
+latest_step r t (Some u) h = let p = h u refl in grind (arith, nat_tests, p)
 
 pub latest-ordered : (r : Option ℕ) (ts : List Task) → AreOrdered ts → latest_waiting r (entries_of ts) ≡ option_map numbered_entry (last_waiting r ts)
 latest-ordered r [] o = refl
 latest-ordered r (t ∷ ts) o =
-    latest_step r t (latest_waiting r (entries_of ts)) (last_waiting r ts) (latest-ordered r ts o.1) (λ u. last_follows r t ts u o.0)
+    ap (λ (z : Option (ℕ × Entry)). cond (is_running r t.number) z (Some (later (numbered_entry t) z))) (latest-ordered r ts o.1)
+    ∙ latest_step r t (last_waiting r ts) (λ u. last_follows r t ts u o.0)
 
 pub full-lower : (k h n : ℕ) → k ≤ h → IsFull h n → IsFull k n
 full-lower k h n l f = let e : k / 2 ≤ h / 2 = omega arith in omega (arith, pow_mono e)
