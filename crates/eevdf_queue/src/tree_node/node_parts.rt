@@ -60,13 +60,23 @@ pub fn correct(
     ensures same_height { keeps_height result ≡ true → node_height.new ≡ node_height.old }
     ensures same_least { keeps_least result ≡ true → node_least.new ≡ node_least.old }
 {
-    let other_height = raise(below.is_of_height(), node_height, left, task, right);
     match below {
-        TreeChange::Nothing => TreeChange::Nothing,
-        _ => TreeChange::of_both(
-            other_height,
-            look_around(left, task, right).renew_least(node_least),
-        ),
+        TreeChange::Nothing => {
+            // for the proof alone: what is kept is right of the tasks as they are now
+            look_around(left, task, right);
+            TreeChange::Nothing
+        }
+        TreeChange::LeastAlone => {
+            TreeChange::of_least(look_around(left, task, right).renew_least(node_least))
+        }
+        TreeChange::Height => {
+            let around = look_around(left, task, right);
+            if around.is_uneven() {
+                return mend_uneven(node_height, node_least, left, task, right);
+            }
+            let other_height = around.renew_height(node_height);
+            TreeChange::of_both(other_height, around.renew_least(node_least))
+        }
     }
 }
 
@@ -76,6 +86,7 @@ pub fn correct(
 pub fn raise(
     may_differ: bool,
     node_height: &mut u32,
+    node_least: &mut Least,
     left: &mut Option<Box<TreeNode>>,
     task: &mut Task,
     right: &mut Option<Box<TreeNode>>,
@@ -85,42 +96,45 @@ pub fn raise(
     requires kept_height { may_differ ≡ false → node_height.old ≡ suc (max (height_in left.old) (height_in right.old)) }
     requires kept_balanced { may_differ ≡ false → DifferByAtMost 1 (height_in left.old) (height_in right.old) }
     ensures tasks { tasks_in left.new ++ task.new ∷ tasks_in right.new ≡ tasks_in left.old ++ task.old ∷ tasks_in right.old }
-    ensures node { (least : _) → least ≡ least_of (tasks_in left.new ++ task.new ∷ tasks_in right.new)
-        → IsNode (record { task = task.new; height = node_height.new; least = least; left = left.new; right = right.new }) }
+    ensures node { node_least.old ≡ least_of (tasks_in left.old ++ task.old ∷ tasks_in right.old)
+        → IsNode (record { task = task.new; height = node_height.new; least = node_least.new; left = left.new; right = right.new }) }
     ensures mended { IsHeightOfBalanced (height_in left.old) (height_in right.old) node_height.new }
     ensures same_height { result ≡ false → node_height.new ≡ node_height.old }
 {
     if !may_differ {
-        // for the proof alone: what is kept is right of the tasks as they are now
+        // for the proof alone, as above
         look_around(left, task, right);
         return false;
     }
     let around = look_around(left, task, right);
     if around.is_uneven() {
-        return raise_uneven(node_height, left, task, right);
+        return mend_uneven(node_height, node_least, left, task, right).is_of_height();
     }
     around.renew_height(node_height)
 }
 
-/// The same where one side may be two higher. It is seldom called, and a function of its own, so that the way back over
-/// even nodes keeps nothing for it.
+/// Makes what is kept of a node right again where one side may be two higher. It is seldom called, and a function of its own, so
+/// that the way back over even nodes keeps nothing for it.
 #[inline(never)]
-fn raise_uneven(
+fn mend_uneven(
     node_height: &mut u32,
+    node_least: &mut Least,
     left: &mut Option<Box<TreeNode>>,
     task: &mut Task,
     right: &mut Option<Box<TreeNode>>,
-) -> bool
+) -> TreeChange
     requires near { DifferByAtMost 2 (height_in left.old) (height_in right.old) }
     requires few { length (tasks_in left.old) + length (tasks_in right.old) ≤ 2 ^ 20 }
     ensures tasks { tasks_in left.new ++ task.new ∷ tasks_in right.new ≡ tasks_in left.old ++ task.old ∷ tasks_in right.old }
-    ensures node { (least : _) → least ≡ least_of (tasks_in left.new ++ task.new ∷ tasks_in right.new)
-        → IsNode (record { task = task.new; height = node_height.new; least = least; left = left.new; right = right.new }) }
+    ensures node { IsNode (record { task = task.new; height = node_height.new; least = node_least.new; left = left.new; right = right.new }) }
     ensures mended { IsHeightOfBalanced (height_in left.old) (height_in right.old) node_height.new }
-    ensures same_height { result ≡ false → node_height.new ≡ node_height.old }
+    ensures same_height { keeps_height result ≡ true → node_height.new ≡ node_height.old }
+    ensures same_least { keeps_least result ≡ true → node_least.new ≡ node_least.old }
 {
     even_out(left, task, right);
-    look_around(left, task, right).renew_height(node_height)
+    let around = look_around(left, task, right);
+    let other_height = around.renew_height(node_height);
+    TreeChange::of_both(other_height, around.renew_least(node_least))
 }
 
 /// What stands on the two sides of a task: their heights, and the least virtual runtime with the task's own.

@@ -34,7 +34,6 @@ changed t c =
 
 pub invariant_of-node : goal.invariant_of-node
 invariant_of-node t c =
-    let a = (goal.at.invariant_of-node t c).After-raise in
     let e : tasks_in c.args.link.now ≡ tasks_of c.node.inside = cc in
     let k : c.if-is_under.node-inside.least ≡ c.node.inside.least = elim c.if-is_under.branch [
       | then-is_under w ↦ ap (λ z. z.least) w.node-inside-is
@@ -42,8 +41,8 @@ invariant_of-node t c =
       | else-is_under+else-is_over w ↦ ap (λ z. z.least) w.node-inside-is
     ] in
     let least : c.node.inside.least ≡ least_of (tasks_of c.if-is_under.node-inside) = least-set c.args.key.now.number c.args.floor.runtime c.args.entry.now c.node.inside.least (tasks_in c.args.link.now) (tasks_of c.if-is_under.node-inside)
-    (c.node.invariant.least ∙ ap least_of (sym e)) c.requires.above c.requires.new_above (c.is_below.ensures c.if-not-is_below.false) (changed t a) in
-    c.raise.ensures.node c.if-is_under.node-inside.least (k ∙ least ∙ ap least_of (sym c.raise.ensures.tasks))
+    (c.node.invariant.least ∙ ap least_of (sym e)) c.requires.above c.requires.new_above (c.is_below.ensures c.if-not-is_below.false) (changed t (goal.at.invariant_of-node t c).After-raise) in
+    c.raise.ensures.node (k ∙ least)
 
 pub returns-clause-tasks : goal.returns-clause-tasks
 returns-clause-tasks t c = c.raise.ensures.tasks ∙ changed t (goal.at.returns-clause-tasks t c).After-raise
