@@ -44,11 +44,7 @@ less_swapped a b c = omega (arith, ints, clamps)
 
 least-insert : (t : Task) (ts : List Task) → least_runtime (insert_task t ts) ≡ int_min t.entry.v (least_runtime ts)
 least-insert t [] = refl
-least-insert t (u ∷ us) =
-    elim (precedes t u) as (λ b. least_runtime (cond b (t ∷ u ∷ us) (u ∷ insert_task t us)) ≡ int_min t.entry.v (least_runtime (u ∷ us))) [
-      | true ↦ refl
-      | false ↦ ap (int_min u.entry.v) (least-insert t us) ∙ less_swapped u.entry.v t.entry.v (least_runtime us)
-    ]
+least-insert t (u ∷ us) = grind (arith, least-insert t us, less_swapped u.entry.v t.entry.v (least_runtime us))
 
 least_both : (a b : ℤ) → a ≤ℤ pos 0x7fff_ffff_ffff_ffff → b ≤ℤ pos 0x7fff_ffff_ffff_ffff → int_min a (int_min b (pos 0x7fff_ffff_ffff_ffff)) ≡ int_min b a
 least_both a b h k = omega (arith, ints, clamps)
@@ -67,17 +63,15 @@ least-inserted s a b ns t ts rs es ea eb en h er =
 abbrev IsFrom : ℤ → Option Task → Type 0
 IsFrom b o = IfSome o (λ t. b ≤ℤ t.entry.v)
 
-floor_step : (c : Bool) (b : ℤ) (e : Entry) (t : Task) (ts us : List Task) (o : Option Task) → IsFrom b (cond c (Some t) o) → b ≤ℤ e.v
-    → (IsFrom b o → int_min b (least_runtime us) ≡ int_min b (least_runtime ts))
-    → int_min b (least_runtime (cond c (record t { entry = e } ∷ ts) (t ∷ us))) ≡ int_min b (int_min t.entry.v (least_runtime ts))
-floor_step true b e t ts us o h k i = omega (arith, ints, clamps, h, k)
-floor_step false b e t ts us o h k i = let j = i h in omega (arith, ints, clamps, j)
-
 least_from : (q : ℕ) (b : ℤ) (e : Entry) (ts : List Task) → IsFrom b (find_task q ts) → b ≤ℤ e.v
     → int_min b (least_runtime (set_entry q e ts)) ≡ int_min b (least_runtime ts)
 least_from q b e [] h k = refl
 least_from q b e (t ∷ ts) h k =
-    floor_step (eqb t.number q) b e t ts (set_entry q e ts) (find_task q ts) h k (λ j. least_from q b e ts j k)
+    elim (eqb t.number q) as (λ c. IsFrom b (cond c (Some t) (find_task q ts))
+        → int_min b (least_runtime (cond c (record t { entry = e } ∷ ts) (t ∷ set_entry q e ts))) ≡ int_min b (int_min t.entry.v (least_runtime ts))) [
+      | true ↦ λ above. omega (arith, ints, clamps, above, k)
+      | false ↦ λ above. let i = least_from q b e ts above k in omega (arith, ints, clamps, i)
+    ] h
 
 under_floor : (b x y : ℤ) → int_min b x ≡ int_min b y → y <ℤ b → x ≡ y
 under_floor b x y h l = omega (arith, ints, clamps)
