@@ -52,15 +52,12 @@ unfolding charge_of
 charge_of_small ns w h = let k : ns * 1024 / w ≤ ns * 1024 = div-le_self (ns * 1024) w in omega arith
 
 -- a quotient rounded down is no larger than what bounds the fraction
-quotient_below : (a w : ℕ) → 1 ≤ w → a < 2 ^ 60 * w → a / w < 2 ^ 60
-quotient_below a w h k = (div-lt_iff_lt-mul h).1 k
-
-quotient_small : (a w : ℕ) → 1 ≤ w → a ≤ 2 ^ 60 * w → a / w ≤ 2 ^ 60
-quotient_small a w h k = div-le_of_le-mul w (omega arith)
+pub floor_within : (b : ℕ) (z : ℤ) (w : ℕ) → 1 ≤ w → unsigned_abs z ≤ b * w → unsigned_abs (floor_div z w) ≤ b
+floor_within b (pos a) w h k = div-le_of_le-mul w (omega arith)
+floor_within b (negsuc a) w h k = (div-lt_iff_lt-mul h).1 k
 
 pub floor_small : (z : ℤ) (w : ℕ) → 1 ≤ w → unsigned_abs z ≤ 2 ^ 60 * w → unsigned_abs (floor_div z w) ≤ 2 ^ 60
-floor_small (pos a) w h k = quotient_small a w h k
-floor_small (negsuc a) w h k = let q = quotient_below a w h (omega arith) in omega arith
+floor_small = floor_within (2 ^ 60)
 
 pub within_range : (z : ℤ) → unsigned_abs z ≤ 2 ^ 60 → is_in_range z ≡ true
 within_range z h = grind (arith, nat_tests)

@@ -9,12 +9,7 @@ use Rattle.eevdf_queue.specs.{declared.entry.Entry.Entry, declared.totals.Totals
 use Rattle.eevdf_queue.specs.{Sums.total_weight, Sums.total_moment, Lag.is_lag}
 use Rattle.eevdf_queue.specs.Moves.{request_of, fresh_entry, entry_in_range}
 use Rattle.eevdf_queue.specs.Placing.{placement, can_place, IsRoomy}
-use Rattle.eevdf_queue.proofs.Bounds.{charge_of_small, lag_small, within_range}
-
--- a quotient rounded down is no larger than what bounds the fraction
-floor_within : (b : ℕ) (z : ℤ) (w : ℕ) → 1 ≤ w → unsigned_abs z ≤ b * w → unsigned_abs (floor_div z w) ≤ b
-floor_within b (pos a) w h k = div-le_of_le-mul w (omega arith)
-floor_within b (negsuc a) w h k = (div-lt_iff_lt-mul h).1 k
+use Rattle.eevdf_queue.proofs.Bounds.{floor_within, charge_of_small, lag_small, within_range}
 
 stretched_small : (lag : ℤ) (total w : ℕ) → 1 ≤ total → w ≤ 88761 → unsigned_abs lag ≤ 2 ^ 38 → unsigned_abs (lag *ℤ pos (total + w)) ≤ 2 ^ 55 * total
 stretched_small lag total w some light h = omega (arith, unsigned_abs-mul lag (pos (total + w)), mul-le-mul_right (total + w) h)
