@@ -1,8 +1,9 @@
 -- A task that joins again the queue that it has left.
-use Rattle.std.proofs.Common.{◌≡◌, ℕ, Bool, true, false, cond, Option, Some, None, refl, sym, ap, ◌∙◌}
+use Rattle.std.proofs.Common.{◌≡◌, ℕ, Bool, true, false, cond, Option, Some, None, refl, sym, ap, ◌∙◌, arith}
 use Rattle.std.specs.Prelude.{ℤ, ◌==◌, is_some}
 use Rattle.std.specs.{Ordering.nat_cmp, Ordering.eq_by_cmp, Cmp.nat_cmp_total}
 use Rattle.std.specs.FinMap.{insert, remove, get, get-insert, get-remove, same_map, nat_cmp-IsAntisymmetric}
+use Rattle.std.proofs.lemmas.Bool.Decides.{nat_tests}
 use Rattle.eevdf_weight.specs.{Limits.is_in_range, Weight.weight_of, Placement.floor_div, Placement.placement_of}
 use Rattle.eevdf_queue.specs.{declared.entry.Entry.Entry, State.State, State.Sleeper, Leaving.leave, Leaving.without_entry}
 use Rattle.eevdf_queue.specs.{Placing.runtime_of, Placing.placed_entry, Kept.IsSound}
@@ -28,15 +29,12 @@ placed_again q task e s total moment time here w m t =
     (among_none (total_weight rest == 0) e.v (floor_div (total_moment rest) (total_weight rest)) (λ (x : ℤ). placement_of x (total_weight rest) s.lag (weight_of s.nice)))
     ∙ ap (λ (o : Option Entry). placed_entry (without_entry q task o) s) (sym here)
 
-put_back : (b : Bool) (o : Option Entry) (e : Entry) → cond b (Some e) (cond b None o) ≡ cond b (Some e) o
-put_back true o e = refl
-put_back false o e = refl
+put_back : (m : Tasks) (k u : ℕ) (e : Entry) → get (insert (remove m k) k e) u ≡ get (insert m k e) u
+put_back m k u e = grind (arith, nat_tests, get-insert nat_cmp_total (remove m k) k e u, get-remove nat_cmp_total m k u, get-insert nat_cmp_total m k e u)
 
 -- a task that is taken out and put in again
 joined_again : (m : Tasks) (k : ℕ) (e : Entry) → insert (remove m k) k e ≡ insert m k e
-joined_again m k e = same_map nat_cmp_total nat_cmp-IsAntisymmetric _ _ (λ u.
-    get-insert nat_cmp_total (remove m k) k e u ∙ ap (λ (o : Option Entry). cond (eq_by_cmp nat_cmp u k) (Some e) o) (get-remove nat_cmp_total m k u)
-    ∙ put_back (eq_by_cmp nat_cmp u k) (get m u) e ∙ sym (get-insert nat_cmp_total m k e u))
+joined_again m k e = same_map nat_cmp_total nat_cmp-IsAntisymmetric _ _ (λ u. put_back m k u e)
 
 -- the queue once the task has its new entry
 pub after_renice : (q : State) (task : ℕ) (nice : ℤ) (e f : Entry) (tasks : Tasks) → get q.runnable task ≡ Some e → placed_entry (leave q task) (reniced q e nice) ≡ Some f

@@ -1,6 +1,7 @@
 -- What is asked of the maps of runnable and of sleeping tasks, answered from rising lists of them.
-use Rattle.std.proofs.Common.{◌≡◌, ℕ, ◌<◌, Bool, true, false, cond, eqb, List, [], ◌∷◌, length, Option, Some, None, refl, sym, subst, ap, ◌∙◌}
+use Rattle.std.proofs.Common.{◌≡◌, ℕ, ◌<◌, Bool, true, false, cond, eqb, List, [], ◌∷◌, length, Option, Some, None, refl, sym, subst, ap, ◌∙◌, arith}
 use Rattle.std.specs.{Prelude.ℤ, Prelude.is_some, Option.option_map, Ordering.nat_cmp, List.AllByRecursion}
+use Rattle.std.proofs.lemmas.Bool.Decides.{nat_tests}
 use Rattle.std.specs.FinMap.{FinMap, insert, remove, get}
 use Rattle.eevdf_queue.specs.{declared.entry.Entry.Entry, declared.task.Task.Task, declared.tree_key.Key.Key}
 use Rattle.eevdf_queue.specs.Moves.{is_entry_in_range}
@@ -48,22 +49,16 @@ placed table k ts a e =
 abbrev pub IsTableWith : Task → List ℤ → List ℤ → Type 0
 IsTableWith t table table' = (q : ℕ) → deadline_at table' q ≡ cond (eqb q t.number) t.entry.d (deadline_at table q)
 
-chosen : (b : Bool) (x y : ℤ) → b ≡ true → cond b x y ≡ x
-chosen true x y h = refl
-chosen false x y h = cc
-
-passed : (b : Bool) (x y : ℤ) → b ≡ false → cond b x y ≡ y
-passed true x y h = cc
-passed false x y h = refl
-
 pub noted-own : (t : Task) (table table' : List ℤ) → IsTableWith t table table' → IsNoted table' t
-noted-own t table table' w = w t.number ∙ chosen (eqb t.number t.number) t.entry.d (deadline_at table t.number) (itself t.number)
+noted-own t table table' w = grind (arith, nat_tests, w t.number)
+
+other_noted : (t u : Task) (table table' : List ℤ) → IsTableWith t table table' → eqb u.number t.number ≡ false → IsNoted table u → IsNoted table' u
+other_noted t u table table' w o a = grind (arith, nat_tests, w u.number)
 
 pub noted-others : (t : Task) (table table' : List ℤ) (ts : List Task) → IsTableWith t table table' → find_task t.number ts ≡ None → AllByRecursion (IsNoted table) ts → AllByRecursion (IsNoted table') ts
 noted-others t table table' [] w n a = tt
 noted-others t table table' (u ∷ us) w n a =
-    let s = apart (eqb u.number t.number) u (find_task t.number us) n in
-    (w u.number ∙ passed (eqb u.number t.number) t.entry.d (deadline_at table u.number) s.0 ∙ a.0, noted-others t table table' us w s.1 a.1)
+    let s = apart (eqb u.number t.number) u (find_task t.number us) n in (other_noted t u table table' w s.0 a.0, noted-others t table table' us w s.1 a.1)
 
 -- the store after a deed
 pub stored-insert : (table table' : List ℤ) (t : Task) (ts rs : List Task) → IsRunnableStore table ts → find_task t.number ts ≡ None → t.number < 1024 → InRange t

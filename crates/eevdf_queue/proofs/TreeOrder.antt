@@ -34,22 +34,15 @@ pub right_follow : (xs : List Task) (u : Task) (ys : List Task) → AreOrdered (
 right_follow [] u ys h = h.0
 right_follow (x ∷ xs) u ys h = right_follow xs u ys h.1
 
-insert_first : (t x : Task) (ws xs ys zs : List Task) → ws ≡ xs ++ ys → zs ≡ insert_task t xs ++ ys → (b : Bool)
-    → cond b (t ∷ x ∷ ws) (x ∷ zs) ≡ cond b (t ∷ x ∷ xs) (x ∷ insert_task t xs) ++ ys
-insert_first t x ws xs ys zs e h true = ap (λ (z : List Task). t ∷ x ∷ z) e
-insert_first t x ws xs ys zs e h false = ap (λ (z : List Task). x ∷ z) h
-
 pub insert-left : (t : Task) (xs : List Task) (u : Task) (ys : List Task) → precedes t u ≡ true → insert_task t (xs ++ u ∷ ys) ≡ insert_task t xs ++ u ∷ ys
 insert-left t [] u ys h = ap (λ b. cond b (t ∷ u ∷ ys) (u ∷ insert_task t ys)) h
-insert-left t (x ∷ xs) u ys h =
-    insert_first t x (xs ++ u ∷ ys) xs (u ∷ ys) (insert_task t (xs ++ u ∷ ys)) refl (insert-left t xs u ys h) (precedes t x)
+insert-left t (x ∷ xs) u ys h = grind (arith, insert-left t xs u ys h)
 
 pub insert-right : (t : Task) (xs : List Task) (u : Task) (ys : List Task) → precedes t u ≡ false → AreOrdered (xs ++ u ∷ ys)
     → insert_task t (xs ++ u ∷ ys) ≡ xs ++ u ∷ insert_task t ys
 insert-right t [] u ys h o = ap (λ b. cond b (t ∷ u ∷ ys) (u ∷ insert_task t ys)) h
 insert-right t (x ∷ xs) u ys h o =
-    ap (λ b. cond b (t ∷ x ∷ xs ++ u ∷ ys) (x ∷ insert_task t (xs ++ u ∷ ys))) (not_earlier t x u (all-right (λ z. precedes x z ≡ true) xs (u ∷ ys) o.0).0 h)
-    ∙ ap (λ (z : List Task). x ∷ z) (insert-right t xs u ys h o.1)
+    grind (arith, not_earlier t x u (all-right (λ z. precedes x z ≡ true) xs (u ∷ ys) o.0).0 h, insert-right t xs u ys h o.1)
 
 pub ordered_left : (ts xs : List Task) (u : Task) (ys : List Task) → ts ≡ xs ++ u ∷ ys → AreOrdered ts → AreOrdered xs
 ordered_left ts xs u ys e h = left_ordered xs u ys (subst AreOrdered e h)

@@ -146,14 +146,6 @@ some_of None h = cc
 some_of (Some t) h = (t, refl)
 
 -- the first that passes, left before right
-first_middle : (b : Bool) (u : Task) (o : Option Task) → b ≡ true → cond b (Some u) o ≡ Some u
-first_middle true u o h = refl
-first_middle false u o h = cc
-
-first_after : (b : Bool) (u : Task) (o : Option Task) → b ≡ false → cond b (Some u) o ≡ o
-first_after true u o h = cc
-first_after false u o h = refl
-
 pub none_from : (o : Option Task) → is_some o ≡ false → o ≡ None
 none_from None h = refl
 none_from (Some t) h = cc
@@ -169,13 +161,11 @@ first_left_same passes ts xs u ys e s =
 
 pub first_here : (passes : Entry → Bool) (ts xs : List Task) (u : Task) (ys : List Task) → ts ≡ xs ++ u ∷ ys → is_some (first_that passes xs) ≡ false
     → passes u.entry ≡ true → first_that passes ts ≡ Some u
-first_here passes ts xs u ys e h p =
-    ap (first_that passes) e ∙ first-missed (λ t. passes t.entry) xs (u ∷ ys) (none_from _ h) ∙ first_middle (passes u.entry) u (first_that passes ys) p
+first_here passes ts xs u ys e h p = grind (arith, e, p, first-missed (λ t. passes t.entry) xs (u ∷ ys) (none_from (first_that passes xs) h))
 
 pub first_right : (passes : Entry → Bool) (ts xs : List Task) (u : Task) (ys : List Task) → ts ≡ xs ++ u ∷ ys → is_some (first_that passes xs) ≡ false
     → passes u.entry ≡ false → first_that passes ts ≡ first_that passes ys
-first_right passes ts xs u ys e h p =
-    ap (first_that passes) e ∙ first-missed (λ t. passes t.entry) xs (u ∷ ys) (none_from _ h) ∙ first_after (passes u.entry) u (first_that passes ys) p
+first_right passes ts xs u ys e h p = grind (arith, e, p, first-missed (λ t. passes t.entry) xs (u ∷ ys) (none_from (first_that passes xs) h))
 
 pub over_apart : (b : Bool) (k : Key) (u : Task) → eqb u.number k.number ≡ b → (HasKey k u → ⊥) → (eqb u.number k.number ≡ true → u.entry.d ≡ k.deadline) → b ≡ false
 over_apart false k u e h d = refl
