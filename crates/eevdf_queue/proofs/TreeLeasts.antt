@@ -68,7 +68,7 @@ least_from : (q : ℕ) (b : ℤ) (e : Entry) (ts : List Task) → IsFrom b (find
 least_from q b e [] h k = refl
 least_from q b e (t ∷ ts) h k =
     elim (eqb t.number q) as (λ c. IsFrom b (cond c (Some t) (find_task q ts))
-        → int_min b (least_runtime (cond c (record t { entry = e } ∷ ts) (t ∷ set_entry q e ts))) ≡ int_min b (int_min t.entry.v (least_runtime ts))) [
+    → int_min b (least_runtime (cond c (record t { entry = e } ∷ ts) (t ∷ set_entry q e ts))) ≡ int_min b (int_min t.entry.v (least_runtime ts))) [
       | true ↦ λ above. omega (arith, ints, clamps, above, k)
       | false ↦ λ above. let i = least_from q b e ts above k in omega (arith, ints, clamps, i)
     ] h

@@ -10,13 +10,6 @@ pub enum TreeChange {
 }
 
 impl TreeChange {
-    /// Whether the height may be another.
-    pub fn is_of_height(self) -> bool
-        ensures { result ≡ false → keeps_height self ≡ true }
-    {
-        matches!(self, TreeChange::Height)
-    }
-
     /// Of a tree whose least virtual runtime alone may be another than before.
     pub fn of_least(other_least: bool) -> TreeChange
         ensures height { keeps_height result ≡ true }

@@ -86,7 +86,6 @@ pub fn correct(
 pub fn raise(
     may_differ: bool,
     node_height: &mut u32,
-    node_least: &mut Least,
     left: &mut Option<Box<TreeNode>>,
     task: &mut Task,
     right: &mut Option<Box<TreeNode>>,
@@ -96,8 +95,8 @@ pub fn raise(
     requires kept_height { may_differ ≡ false → node_height.old ≡ suc (max (height_in left.old) (height_in right.old)) }
     requires kept_balanced { may_differ ≡ false → DifferByAtMost 1 (height_in left.old) (height_in right.old) }
     ensures tasks { tasks_in left.new ++ task.new ∷ tasks_in right.new ≡ tasks_in left.old ++ task.old ∷ tasks_in right.old }
-    ensures node { node_least.old ≡ least_of (tasks_in left.old ++ task.old ∷ tasks_in right.old)
-        → IsNode (record { task = task.new; height = node_height.new; least = node_least.new; left = left.new; right = right.new }) }
+    ensures node { (least : _) → least ≡ least_of (tasks_in left.new ++ task.new ∷ tasks_in right.new)
+        → IsNode (record { task = task.new; height = node_height.new; least = least; left = left.new; right = right.new }) }
     ensures mended { IsHeightOfBalanced (height_in left.old) (height_in right.old) node_height.new }
     ensures same_height { result ≡ false → node_height.new ≡ node_height.old }
 {
@@ -108,7 +107,8 @@ pub fn raise(
     }
     let around = look_around(left, task, right);
     if around.is_uneven() {
-        return mend_uneven(node_height, node_least, left, task, right).is_of_height();
+        even_out(left, task, right);
+        return look_around(left, task, right).renew_height(node_height);
     }
     around.renew_height(node_height)
 }

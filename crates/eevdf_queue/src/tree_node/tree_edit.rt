@@ -43,7 +43,6 @@ pub fn insert(link: &mut Option<Box<TreeNode>>, node: Box<TreeNode>) -> bool
     raise(
         grown,
         &mut root.height,
-        &mut root.least,
         &mut root.left,
         &mut root.task,
         &mut root.right,
@@ -213,7 +212,6 @@ pub fn change(link: &mut Option<Box<TreeNode>>, key: &Key, floor: Least, entry: 
     raise(
         false,
         &mut node.height,
-        &mut node.least,
         &mut node.left,
         &mut node.task,
         &mut node.right,

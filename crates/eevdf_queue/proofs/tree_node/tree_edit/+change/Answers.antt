@@ -42,7 +42,7 @@ invariant_of-node t c =
     ] in
     let least : c.node.inside.least ≡ least_of (tasks_of c.if-is_under.node-inside) = least-set c.args.key.now.number c.args.floor.runtime c.args.entry.now c.node.inside.least (tasks_in c.args.link.now) (tasks_of c.if-is_under.node-inside)
     (c.node.invariant.least ∙ ap least_of (sym e)) c.requires.above c.requires.new_above (c.is_below.ensures c.if-not-is_below.false) (changed t (goal.at.invariant_of-node t c).After-raise) in
-    c.raise.ensures.node (k ∙ least)
+    c.raise.ensures.node c.if-is_under.node-inside.least (k ∙ least ∙ ap least_of (sym c.raise.ensures.tasks))
 
 pub returns-clause-tasks : goal.returns-clause-tasks
 returns-clause-tasks t c = c.raise.ensures.tasks ∙ changed t (goal.at.returns-clause-tasks t c).After-raise

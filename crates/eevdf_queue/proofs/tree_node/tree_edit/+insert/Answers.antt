@@ -45,7 +45,7 @@ least t c =
     (subst AreLow (d ∙ c.requires.alone) c.least.ensures.bounded).0 (inserted t c)
 
 pub invariant_of-root : goal.invariant_of-root
-invariant_of-root t c = c.raise.ensures.node (least t (goal.at.invariant_of-root t c).After-raise)
+invariant_of-root t c = c.raise.ensures.node c.if-precedes.root-inside.least (least t (goal.at.invariant_of-root t c).After-raise ∙ ap least_of (sym c.raise.ensures.tasks))
 
 pub returns-clause-tasks : goal.returns-clause-tasks
 returns-clause-tasks t c = c.raise.ensures.tasks ∙ inserted t (goal.at.returns-clause-tasks t c).After-raise
