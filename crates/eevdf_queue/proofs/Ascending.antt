@@ -1,12 +1,11 @@
 -- To look the numbers up in turn is to go over a map's entries.
-use Rattle.std.proofs.Common.{◌≡◌, ℕ, ◌+◌, ◌⊎◌, ◌<◌, ◌≤◌, Bool, true, false, cond, ltb, List, [], ◌∷◌, Option, Some, None, refl, sym, ap, ◌∙◌, ⊎_elim, arith}
-use Rattle.std.specs.Prelude.{◌&&◌}
-use Rattle.std.specs.Ordering.{nat_cmp, eq_by_cmp, is_lt}
+use Rattle.std.proofs.Common.{◌≡◌, ℕ, ◌+◌, ◌<◌, ◌≤◌, List, [], ◌∷◌, Option, Some, None, refl, sym, ap, ◌∙◌, arith}
+use Rattle.std.specs.Ordering.{nat_cmp}
 use lib.Dec.{T}
 use Rattle.std.specs.FinMap as finite
 use Rattle.std.specs.FinMap.Entries.{find, is_sorted, below_all}
-use Rattle.std.proofs.{lemmas.Bool.cases_lt, lemmas.Bool.cases_order, lemmas.Bool.Decides.nat_tests}
-use Rattle.std.specs.Prelude.{ℤ, map, nat_lt}
+use Rattle.std.proofs.{lemmas.Bool.Decides.nat_tests}
+use Rattle.std.specs.Prelude.{ℤ, map}
 use Rattle.eevdf_queue.proofs.{ListMaps.same_number, SortedEntries.first_above, SortedEntries.sorted_parts, SortedEntries.none_found}
 use Rattle.eevdf_queue.specs.{State.Sleeper, Numbers.checked_number, Lag.sleeping_lag, Ascending.from_number, Ascending.with_lag}
 

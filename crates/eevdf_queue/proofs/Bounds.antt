@@ -1,5 +1,5 @@
 -- How large the sums over tasks can be.
-use Rattle.std.proofs.Common.{◌≡◌, ℕ, suc, List, [], ◌∷◌, length, ◌+◌, ◌*◌, ◌/◌, ◌^◌, ◌<◌, ◌≤◌, true, arith}
+use Rattle.std.proofs.Common.{◌≡◌, ℕ, suc, List, [], ◌∷◌, length, ◌+◌, ◌*◌, ◌/◌, ◌^◌, ◌≤◌, true, arith}
 use Rattle.std.specs.Prelude.{ℤ, pos, negsuc, ◌+ℤ◌, ◌*ℤ◌, unsigned_abs}
 use Rattle.std.proofs.Math.Nat.{mul-le-mul_left, mul-le-mul_right, div-le_self, div-lt_iff_lt-mul, div-le_of_le-mul}
 use Rattle.std.proofs.lemmas.Int.{ints, clamps, unsigned_abs-mul}

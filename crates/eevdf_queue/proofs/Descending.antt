@@ -1,5 +1,5 @@
 -- How deep a node is, as seen from a node and from another above it.
-use Rattle.std.proofs.Common.{◌≡◌, ℕ, suc, ◌+◌, Bool, true, false, eqb, ◌&&◌, ◌||◌, List, [], ◌∷◌, ◌++◌, refl, sym, ap, ◌∙◌, arith}
+use Rattle.std.proofs.Common.{◌≡◌, ℕ, suc, ◌+◌, true, List, [], ◌∷◌, ◌++◌, ap, ◌∙◌, arith}
 use Rattle.std.proofs.lemmas.Bool.Decides.{nat_tests}
 use Rattle.eevdf_queue.specs.{declared.tree_node.TreeNode.TheInside.Inside, NodeDepths.deeper, NodeDepths.is_at_depth}
 use Rattle.eevdf_queue.specs.{TreeShape.depths_in, TreeNodes.depths_of}

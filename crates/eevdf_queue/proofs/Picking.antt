@@ -1,10 +1,9 @@
 -- What is picked: the earliest of those that pass.
-use Rattle.std.proofs.Common.{◌≡◌, ℕ, ◌<◌, ◌≤◌, Bool, true, false, cond, ◌&&◌, List, [], ◌∷◌, Option, Some, None, T, refl, sym, ap, subst, ◌∙◌, arith}
+use Rattle.std.proofs.Common.{◌≡◌, ℕ, ◌<◌, ◌≤◌, Bool, true, false, List, ◌∷◌, Option, Some, None, refl, sym, subst, ◌∙◌, arith}
 use Rattle.std.specs.Prelude.{ℤ, ◌<ℤ◌, ◌⊎◌}
-use Rattle.std.specs.{Option.option_map, declared.cmp.Ordering.Ordering, FinMap.Entries.below_all}
-use Rattle.std.specs.declared.cmp.Ordering.TheVariants.{Less, Equal, Greater}
-use Rattle.std.specs.Ordering.{nat_cmp, is_eq, is_lt}
-use Rattle.std.specs.FinMap.{FinMap, entries, entries_sorted, find, is_sorted, get-entries}
+use Rattle.std.specs.{Option.option_map}
+use Rattle.std.specs.Ordering.{nat_cmp}
+use Rattle.std.specs.FinMap.{entries, find, get-entries}
 use Rattle.std.proofs.lemmas.Int.{ints}
 use Rattle.eevdf_queue.specs.{declared.entry.Entry.Entry, Sums.Tasks, Order.is_before, Order.earliest}
 use Rattle.eevdf_queue.specs.Pick.{IsPick, is_eligible, pick_of}

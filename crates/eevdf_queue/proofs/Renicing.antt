@@ -1,7 +1,7 @@
 -- A task that joins again the queue that it has left.
-use Rattle.std.proofs.Common.{◌≡◌, ℕ, Bool, true, false, cond, Option, Some, None, refl, sym, ap, ◌∙◌, arith}
+use Rattle.std.proofs.Common.{◌≡◌, ℕ, Bool, true, false, cond, Option, Some, refl, sym, ap, ◌∙◌, arith}
 use Rattle.std.specs.Prelude.{ℤ, ◌==◌, is_some}
-use Rattle.std.specs.{Ordering.nat_cmp, Ordering.eq_by_cmp, Cmp.nat_cmp_total}
+use Rattle.std.specs.{Cmp.nat_cmp_total}
 use Rattle.std.specs.FinMap.{insert, remove, get, get-insert, get-remove, same_map, nat_cmp-IsAntisymmetric}
 use Rattle.std.proofs.lemmas.Bool.Decides.{nat_tests}
 use Rattle.eevdf_weight.specs.{Limits.is_in_range, Weight.weight_of, Placement.floor_div, Placement.placement_of}

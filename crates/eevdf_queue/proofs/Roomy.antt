@@ -1,7 +1,7 @@
 -- Beside tasks whose virtual time is far within its range any task can be placed.
 use Rattle.std.proofs.Common.{◌≡◌, ℕ, ◌+◌, ◌*◌, ◌^◌, ◌≤◌, true, false, cond, Some, None, ap, sym, subst, ◌∙◌, arith}
-use Rattle.std.specs.Prelude.{ℤ, pos, negsuc, ◌+ℤ◌, ◌-ℤ◌, ◌*ℤ◌, unsigned_abs, is_some, ◌&&◌, ◌==◌}
-use Rattle.std.proofs.Math.Nat.{mul-le-mul_right, div-lt_iff_lt-mul, div-le_of_le-mul}
+use Rattle.std.specs.Prelude.{ℤ, pos, ◌+ℤ◌, ◌-ℤ◌, ◌*ℤ◌, unsigned_abs, is_some, ◌&&◌, ◌==◌}
+use Rattle.std.proofs.Math.Nat.{mul-le-mul_right}
 use Rattle.std.proofs.{lemmas.Int.ints, lemmas.Int.unsigned_abs-mul, lemmas.Bool.Decides.nat_tests}
 use Rattle.eevdf_weight.specs.{Limits.is_in_range, Placement.floor_div, Placement.placement_of, Weight.weight_of}
 use Rattle.eevdf_weight.proofs.Weighing.{weight_of-greatest}

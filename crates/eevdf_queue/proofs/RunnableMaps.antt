@@ -1,5 +1,5 @@
 -- What is asked of the map of runnable tasks, answered from a list of them.
-use Rattle.std.proofs.Common.{◌≡◌, ◌≢◌, ℕ, suc, ◌+◌, ◌*◌, ◌<◌, ◌≤◌, Bool, true, false, cond, eqb, List, [], ◌∷◌, length, Option, Some, None, refl, sym, ap, subst, ◌∙◌, arith}
+use Rattle.std.proofs.Common.{◌≡◌, ◌≢◌, ℕ, suc, ◌+◌, ◌*◌, ◌<◌, ◌≤◌, Bool, true, false, cond, eqb, List, [], ◌∷◌, length, Option, Some, None, refl, sym, ap, ◌∙◌, arith}
 use Rattle.std.specs.Prelude.{pos, ◌+ℤ◌, ◌*ℤ◌, is_some}
 use Rattle.std.specs.{Option.option_map, Ordering.nat_cmp, Ordering.eq_by_cmp, Cmp.nat_cmp_total}
 use Rattle.std.specs.FinMap.{FinMap, empty, insert, get, len, entries, nat_cmp-IsAntisymmetric, len-entries, get-from_entries, get-insert, same_map}
@@ -11,7 +11,7 @@ use Rattle.eevdf_queue.specs.Sums.{sum_weights, sum_moments, total_weight, total
 use Rattle.eevdf_queue.specs.TaskLists.{find_task, set_entry, entries_of, runnable_in, AreRunnable}
 use Rattle.eevdf_queue.proofs.{Bounds.sum_weights_small, Bounds.sum_moments_small, MapFolds.fold-from_entries, Earliest.taken}
 use Rattle.eevdf_queue.proofs.Earliest.{taken-swap}
-use Rattle.eevdf_queue.proofs.ListMaps.{same_number, find-entries_of, numbered_runnable, distinct_entries_of, few}
+use Rattle.eevdf_queue.proofs.ListMaps.{find-entries_of, numbered_runnable, distinct_entries_of, few}
 
 pub runnable_in-none : runnable_in [] ≡ empty
 unfolding runnable_in

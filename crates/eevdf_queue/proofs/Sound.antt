@@ -1,6 +1,6 @@
 -- What a queue keeps through its calls.
 use Rattle.std.proofs.Common.{◌≡◌, ℕ, Bool, true, false, cond, eqb, Option, Some, None, refl, sym, ap, subst, ◌∙◌, arith}
-use Rattle.std.specs.{Prelude.ℤ, Prelude.is_some, Option.option_map, Ordering.nat_cmp, Ordering.eq_by_cmp, Cmp.nat_cmp_total}
+use Rattle.std.specs.{Prelude.ℤ, Prelude.is_some, Option.option_map, Ordering.nat_cmp, Cmp.nat_cmp_total}
 use Rattle.std.specs.FinMap.{FinMap, empty, insert, remove, get, contains_key, get-empty, get-insert, get-remove}
 use Rattle.std.proofs.lemmas.Bool.Decides.{nat_tests}
 use Rattle.eevdf_queue.proofs.ListMaps.{same_number}
@@ -8,7 +8,7 @@ use Rattle.eevdf_weight.specs.Limits.{is_in_range}
 use Rattle.eevdf_queue.specs.{declared.entry.Entry.Entry, Sums.Tasks}
 use Rattle.eevdf_queue.specs.State.{Sleeper, Contents}
 use Rattle.eevdf_queue.specs.Leaving.{stopped, leaving_at, IsNowhere}
-use Rattle.eevdf_queue.specs.Kept.{RunnerIsHere, AreApart, IsSound}
+use Rattle.eevdf_queue.specs.Kept.{RunnerIsHere, IsSound}
 
 abbrev pub Asleep : Type 0
 Asleep = FinMap nat_cmp Sleeper

@@ -1,11 +1,11 @@
 -- A list of tasks of which one gets another entry.
-use Rattle.std.proofs.Common.{◌≡◌, ℕ, Bool, true, false, cond, eqb, List, [], ◌∷◌, ◌++◌, length, Option, Some, None, refl, sym, subst, ap, ◌∙◌, arith}
+use Rattle.std.proofs.Common.{◌≡◌, ℕ, Bool, true, false, cond, eqb, List, [], ◌∷◌, length, Some, sym, subst, ap, ◌∙◌, arith}
 use Rattle.std.specs.{Prelude.ℤ, Prelude.is_some, Ordering.nat_cmp, List.AllByRecursion}
 use Rattle.std.specs.FinMap.{FinMap, insert, get}
-use Rattle.eevdf_queue.specs.{declared.entry.Entry.Entry, declared.task.Task.Task, declared.tree_key.Key.Key, Order.is_before}
-use Rattle.eevdf_queue.specs.{Moves.is_entry_in_range, TreeKeys.is_under, TreeKeys.is_over}
+use Rattle.eevdf_queue.specs.{declared.entry.Entry.Entry, declared.task.Task.Task, Order.is_before}
+use Rattle.eevdf_queue.specs.{Moves.is_entry_in_range}
 use Rattle.eevdf_queue.specs.TaskLists.{find_task, set_entry, runnable_in, AreRunnable}
-use Rattle.eevdf_queue.specs.TreeTasks.{precedes, PrecedesAll, AreOrdered, IsSorted, IsAtDeadline}
+use Rattle.eevdf_queue.specs.TreeTasks.{precedes, AreOrdered, IsSorted, IsAtDeadline}
 use Rattle.eevdf_queue.specs.TreeStores.{IsNoted, IsRunnableStore}
 use Rattle.eevdf_queue.proofs.AllTasks.{all-each, all-set}
 use Rattle.eevdf_queue.proofs.RunnableMaps.{runnable_after, runnable_in-set_entry}

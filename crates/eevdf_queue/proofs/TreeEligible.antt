@@ -1,8 +1,8 @@
 -- Some task is eligible exactly where the least virtual runtime is.
-use Rattle.std.proofs.Common.{◌≡◌, ℕ, ◌≤◌, Bool, true, false, cond, ◌||◌, List, [], ◌∷◌, ◌++◌, Option, Some, None, refl, sym, ap, ◌∙◌, arith}
-use Rattle.std.specs.Prelude.{ℤ, pos, negsuc, ◌*ℤ◌, ◌≤ℤ◌, int_le, int_lt, is_some}
+use Rattle.std.proofs.Common.{◌≡◌, ℕ, Bool, true, false, cond, ◌||◌, List, [], ◌∷◌, ◌++◌, refl, sym, ap, ◌∙◌, arith}
+use Rattle.std.specs.Prelude.{ℤ, pos, ◌*ℤ◌, ◌≤ℤ◌, int_le, int_lt, is_some}
 use Rattle.std.specs.Int.{int_min}
-use Rattle.std.proofs.{Math.Nat.mul-le-mul_right, lemmas.Int.ints, lemmas.Int.clamps}
+use Rattle.std.proofs.{lemmas.Int.ints, lemmas.Int.clamps}
 use Rattle.eevdf_queue.specs.{declared.task.Task.Task, Pick.is_eligible_at, TreeLeast.least_runtime, TreeLeast.AreLow}
 use Rattle.eevdf_queue.specs.{TreeTasks.first_that, TreeShape.tasks_in, TreeNodes.tasks_of, TreeNodes.IsNode}
 use Rattle.eevdf_queue.proofs.{AllTasks.all-append, Scaled.scaled_le}

@@ -1,10 +1,10 @@
 -- The least virtual runtime of some tasks from those of its parts.
-use Rattle.std.proofs.Common.{◌≡◌, ℕ, Bool, true, false, cond, eqb, Option, Some, refl, List, [], ◌∷◌, ◌++◌, sym, ap, subst, ◌∙◌, arith}
+use Rattle.std.proofs.Common.{◌≡◌, ℕ, true, false, cond, eqb, Option, Some, refl, List, [], ◌∷◌, ◌++◌, sym, ap, subst, ◌∙◌, arith}
 use Rattle.std.specs.Prelude.{ℤ, pos, ◌≤ℤ◌, ◌<ℤ◌, IfSome}
 use Rattle.std.specs.Int.{int_min}
 use Rattle.std.proofs.lemmas.Int.{ints, clamps}
 use Rattle.eevdf_queue.specs.{declared.entry.Entry.Entry, declared.task.Task.Task, declared.tree_least.Least.Least}
-use Rattle.eevdf_queue.specs.{TaskLists.find_task, TaskLists.set_entry, TreeTasks.precedes, TreeTasks.insert_task}
+use Rattle.eevdf_queue.specs.{TaskLists.find_task, TaskLists.set_entry, TreeTasks.insert_task}
 use Rattle.eevdf_queue.specs.TreeLeast.{least_runtime, least_of, lesser}
 
 least_below : (ts : List Task) → least_runtime ts ≤ℤ pos 0x7fff_ffff_ffff_ffff

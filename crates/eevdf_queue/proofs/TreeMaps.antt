@@ -1,5 +1,5 @@
 -- What is asked of the maps of runnable and of sleeping tasks, answered from rising lists of them.
-use Rattle.std.proofs.Common.{◌≡◌, ℕ, ◌<◌, Bool, true, false, cond, eqb, List, [], ◌∷◌, length, Option, Some, None, refl, sym, subst, ap, ◌∙◌, arith}
+use Rattle.std.proofs.Common.{◌≡◌, ℕ, ◌<◌, true, false, cond, eqb, List, [], ◌∷◌, length, Option, Some, None, refl, sym, subst, ap, ◌∙◌, arith}
 use Rattle.std.specs.{Prelude.ℤ, Prelude.is_some, Option.option_map, Ordering.nat_cmp, List.AllByRecursion}
 use Rattle.std.proofs.lemmas.Bool.Decides.{nat_tests}
 use Rattle.std.specs.FinMap.{FinMap, insert, remove, get}
@@ -11,7 +11,7 @@ use Rattle.eevdf_queue.specs.TreeStores.{deadline_at, IsNoted, IsRunnableStore}
 use Rattle.eevdf_queue.proofs.{ListMaps.AreNumbered, ListMaps.numbered_runnable, RunnableMaps.get-runnable_in, RunnableMaps.absent, RunnableMaps.present}
 use Rattle.eevdf_queue.proofs.{TreeSearch.found_number, AllTasks.all-insert, AllTasks.all-without, AllTasks.all-found, AllTasks.apart}
 use Rattle.eevdf_queue.proofs.TreeLists.{numbered-insert, numbered-without, room}
-use Rattle.eevdf_queue.proofs.TreeSeen.{itself, missed-own, seen-insert, seen-without, seen-moved}
+use Rattle.eevdf_queue.proofs.TreeSeen.{missed-own, seen-insert, seen-without, seen-moved}
 
 abbrev pub InRange : Task → Type 0
 InRange t = is_entry_in_range t.entry ≡ true

@@ -1,5 +1,5 @@
 -- The order of tasks by key, and lists whose keys rise.
-use Rattle.std.proofs.Common.{◌≡◌, append_assoc, Bool, true, false, cond, List, [], ◌∷◌, ◌++◌, Option, Some, None, Box, refl, sym, subst, ap, ◌∙◌, arith}
+use Rattle.std.proofs.Common.{◌≡◌, append_assoc, true, false, cond, List, [], ◌∷◌, ◌++◌, Option, Some, None, Box, refl, sym, subst, ap, ◌∙◌, arith}
 use Rattle.std.specs.{Prelude.is_some, List.AllByRecursion}
 use Rattle.std.proofs.lemmas.Int.{ints}
 use Rattle.eevdf_queue.specs.{TaskLists.first_task, TreeShape.Tree, TreeShape.tasks_in, declared.task.Task.Task}

@@ -5,7 +5,7 @@ use Rattle.std.proofs.{lemmas.Int.ints, lemmas.Bool.eqb-true, lemmas.Bool.Decide
 use Rattle.eevdf_queue.specs.{declared.entry.Entry.Entry, declared.task.Task.Task, declared.tree_key.Key.Key}
 use Rattle.eevdf_queue.specs.TaskLists.{first_with, has_number, find_task}
 use Rattle.eevdf_queue.specs.TreeKeys.{is_of, is_under, is_over}
-use Rattle.eevdf_queue.specs.TreeTasks.{precedes, PrecedesAll, AreOrdered, first_that, IsAtDeadline}
+use Rattle.eevdf_queue.specs.TreeTasks.{precedes, AreOrdered, first_that, IsAtDeadline}
 use Rattle.eevdf_queue.proofs.{AllTasks.all-found, Earliest.told}
 use Rattle.eevdf_queue.proofs.TreeOrder.{left_precede, right_follow}
 

@@ -1,6 +1,6 @@
 -- The map that a list of tasks is seen as, after an insertion into the list and a removal from it.
-use Rattle.std.proofs.Common.{◌≡◌, ℕ, Bool, true, false, cond, eqb, List, Option, Some, None, refl, sym, ap, ◌∙◌, arith}
-use Rattle.std.specs.{Option.option_map, Ordering.nat_cmp, Cmp.nat_cmp_total}
+use Rattle.std.proofs.Common.{◌≡◌, ℕ, true, cond, eqb, List, None, ap, ◌∙◌, arith}
+use Rattle.std.specs.{Option.option_map, Cmp.nat_cmp_total}
 use Rattle.std.specs.FinMap.{insert, remove, get, get-insert, get-remove}
 use Rattle.std.proofs.lemmas.Bool.Decides.{nat_tests}
 use Rattle.eevdf_queue.specs.declared.task.Task.{Task}

@@ -1,5 +1,5 @@
 -- The sums over a list of tasks after an insertion, a removal and a change.
-use Rattle.std.proofs.Common.{◌≡◌, ℕ, ◌+◌, ◌*◌, ◌^◌, ◌≤◌, Bool, true, false, cond, eqb, List, [], ◌∷◌, Option, Some, None, refl, sym, ap, ◌∙◌, arith}
+use Rattle.std.proofs.Common.{◌≡◌, ℕ, ◌+◌, ◌*◌, ◌^◌, ◌≤◌, List, [], ◌∷◌, Option, Some, None, refl, sym, ap, ◌∙◌, arith}
 use Rattle.std.specs.Prelude.{ℤ, pos, ◌+ℤ◌, ◌*ℤ◌, unsigned_abs}
 use Rattle.std.specs.Option.{option_map}
 use Rattle.std.proofs.lemmas.Int.{ints}
@@ -7,7 +7,7 @@ use Rattle.eevdf_weight.specs.Weight.{weight_of}
 use Rattle.eevdf_queue.specs.{declared.entry.Entry.Entry, declared.task.Task.Task, declared.totals.Totals.Totals}
 use Rattle.eevdf_queue.specs.{Sums.sum_weights, Sums.sum_moments, TreeStores.AreTotals, TreeStores.IsSummedStore}
 use Rattle.eevdf_queue.specs.TaskLists.{find_task, set_entry, entries_of}
-use Rattle.eevdf_queue.specs.TreeTasks.{precedes, insert_task, without}
+use Rattle.eevdf_queue.specs.TreeTasks.{insert_task, without}
 use Rattle.eevdf_queue.proofs.{RunnableMaps.light, Bounds.sum_moments_small}
 
 -- of any sum
