@@ -55,7 +55,8 @@ pub fn correct(
     requires kept_balanced { keeps_height below ≡ true → DifferByAtMost 1 (height_in left.old) (height_in right.old) }
     requires kept_least { keeps_least below ≡ true → node_least.old ≡ least_of (tasks_in left.old ++ task.old ∷ tasks_in right.old) }
     ensures tasks { tasks_in left.new ++ task.new ∷ tasks_in right.new ≡ tasks_in left.old ++ task.old ∷ tasks_in right.old }
-    ensures node { IsNode (record { task = task.new; height = node_height.new; least = node_least.new; left = left.new; right = right.new }) }
+    ensures node { IsNode
+        (record { task = task.new; height = node_height.new; least = node_least.new; left = left.new; right = right.new }) }
     ensures mended { IsHeightOfBalanced (height_in left.old) (height_in right.old) node_height.new }
     ensures same_height { keeps_height result ≡ true → node_height.new ≡ node_height.old }
     ensures same_least { keeps_least result ≡ true → node_least.new ≡ node_least.old }
@@ -107,8 +108,7 @@ pub fn raise(
     }
     let around = look_around(left, task, right);
     if around.is_uneven() {
-        even_out(left, task, right);
-        return look_around(left, task, right).renew_height(node_height);
+        return raise_uneven(node_height, left, task, right);
     }
     around.renew_height(node_height)
 }
@@ -126,7 +126,8 @@ fn mend_uneven(
     requires near { DifferByAtMost 2 (height_in left.old) (height_in right.old) }
     requires few { length (tasks_in left.old) + length (tasks_in right.old) ≤ 2 ^ 20 }
     ensures tasks { tasks_in left.new ++ task.new ∷ tasks_in right.new ≡ tasks_in left.old ++ task.old ∷ tasks_in right.old }
-    ensures node { IsNode (record { task = task.new; height = node_height.new; least = node_least.new; left = left.new; right = right.new }) }
+    ensures node { IsNode
+        (record { task = task.new; height = node_height.new; least = node_least.new; left = left.new; right = right.new }) }
     ensures mended { IsHeightOfBalanced (height_in left.old) (height_in right.old) node_height.new }
     ensures same_height { keeps_height result ≡ true → node_height.new ≡ node_height.old }
     ensures same_least { keeps_least result ≡ true → node_least.new ≡ node_least.old }
@@ -135,6 +136,26 @@ fn mend_uneven(
     let around = look_around(left, task, right);
     let other_height = around.renew_height(node_height);
     TreeChange::of_both(other_height, around.renew_least(node_least))
+}
+
+/// Makes the height of a node right again where one side may be two higher, as `mend_uneven`.
+#[inline(never)]
+fn raise_uneven(
+    node_height: &mut u32,
+    left: &mut Option<Box<TreeNode>>,
+    task: &mut Task,
+    right: &mut Option<Box<TreeNode>>,
+) -> bool
+    requires near { DifferByAtMost 2 (height_in left.old) (height_in right.old) }
+    requires few { length (tasks_in left.old) + length (tasks_in right.old) ≤ 2 ^ 20 }
+    ensures tasks { tasks_in left.new ++ task.new ∷ tasks_in right.new ≡ tasks_in left.old ++ task.old ∷ tasks_in right.old }
+    ensures node { (least : _) → least ≡ least_of (tasks_in left.new ++ task.new ∷ tasks_in right.new)
+        → IsNode (record { task = task.new; height = node_height.new; least = least; left = left.new; right = right.new }) }
+    ensures mended { IsHeightOfBalanced (height_in left.old) (height_in right.old) node_height.new }
+    ensures same_height { result ≡ false → node_height.new ≡ node_height.old }
+{
+    even_out(left, task, right);
+    look_around(left, task, right).renew_height(node_height)
 }
 
 /// What stands on the two sides of a task: their heights, and the least virtual runtime with the task's own.
