@@ -92,34 +92,41 @@ module _ (k : Key) (xs : List Task) (u : Task) (ys : List Task) (o : AreOrdered 
   pub find-under : is_under k u ≡ true → find_task k.number (xs ++ u ∷ ys) ≡ find_task k.number xs
   find-under p = under_by (find_task k.number xs) refl p
 
-  over_left : (r : Option Task) → find_task k.number xs ≡ r → is_over k u ≡ true → r ≡ None
-  over_left None e p = refl
-  over_left (Some t) e p =
-      absurd (not_before_over k t u (has_key k (xs ++ u ∷ ys) t a (first-found (has_number k.number) xs (u ∷ ys) t e)) p (all-found (λ z. precedes z u ≡ true) (has_number k.number) xs t (left_precede xs u ys o) e))
+  -- none on the left has the key, where one that had it couldn't stand there
+  missed : ((t : Task) → HasKey k t → precedes t u ≡ true → ⊥) → find_task k.number xs ≡ None
+  missed never =
+      by (find_task k.number xs) refl
+    where
+      by : (r : Option Task) → find_task k.number xs ≡ r → r ≡ None
+      by None e = refl
+      by (Some t) e =
+          absurd (never t (has_key k (xs ++ u ∷ ys) t a (first-found (has_number k.number) xs (u ∷ ys) t e))
+          (all-found (λ z. precedes z u ≡ true) (has_number k.number) xs t (left_precede xs u ys o) e))
 
-  not_middle : (b : Bool) → eqb u.number k.number ≡ b → find_task k.number xs ≡ None → is_over k u ≡ true → cond b (Some u) (find_task k.number ys) ≡ find_task k.number ys
-  not_middle false e n p = refl
-  not_middle true e n p =
-      absurd (over_not_itself k u (has_key k (xs ++ u ∷ ys) u a (first-missed (has_number k.number) xs (u ∷ ys) n ∙ ap (λ b. cond b (Some u) (find_task k.number ys)) e)) p)
+  pub missed-left : HasKey k u → find_task k.number xs ≡ None
+  missed-left g = missed (λ t h. not_itself k t u h g)
+
+  pub missed-left_over : is_over k u ≡ true → find_task k.number xs ≡ None
+  missed-left_over p = missed (λ t h. not_before_over k t u h p)
+
+  pub not_here : is_over k u ≡ true → eqb u.number k.number ≡ false
+  not_here p =
+      by (eqb u.number k.number) refl
+    where
+      by : (b : Bool) → eqb u.number k.number ≡ b → b ≡ false
+      by false e = refl
+      by true e =
+          let found = first-missed (has_number k.number) xs (u ∷ ys) (missed-left_over p) ∙ ap (λ b. cond b (Some u) (find_task k.number ys)) e in
+          absurd (over_not_itself k u (has_key k (xs ++ u ∷ ys) u a found) p)
 
   pub find-over : is_over k u ≡ true → find_task k.number (xs ++ u ∷ ys) ≡ find_task k.number ys
   find-over p =
-      let n = over_left (find_task k.number xs) refl p in
-      first-missed (has_number k.number) xs (u ∷ ys) n ∙ not_middle (eqb u.number k.number) refl n p
-
-  here_left : (r : Option Task) → find_task k.number xs ≡ r → HasKey k u → r ≡ None
-  here_left None e g = refl
-  here_left (Some t) e g =
-      absurd (not_itself k t u (has_key k (xs ++ u ∷ ys) t a (first-found (has_number k.number) xs (u ∷ ys) t e)) g (all-found (λ z. precedes z u ≡ true) (has_number k.number) xs t (left_precede xs u ys o) e))
-
-  pub missed-left : HasKey k u → find_task k.number xs ≡ None
-  missed-left g = here_left (find_task k.number xs) refl g
-
-  pub missed-left_over : is_over k u ≡ true → find_task k.number xs ≡ None
-  missed-left_over p = over_left (find_task k.number xs) refl p
+      first-missed (has_number k.number) xs (u ∷ ys) (missed-left_over p) ∙ ap (λ b. cond b (Some u) (find_task k.number ys)) (not_here p)
 
   pub find-here : HasKey k u → find_task k.number (xs ++ u ∷ ys) ≡ Some u
-  find-here g = first-missed (has_number k.number) xs (u ∷ ys) (missed-left g) ∙ (let own : find_task k.number (u ∷ ys) ≡ Some u = grind (arith, nat_tests, g.number) in own)
+  find-here g =
+      let own : find_task k.number (u ∷ ys) ≡ Some u = grind (arith, nat_tests, g.number) in
+      first-missed (has_number k.number) xs (u ∷ ys) (missed-left g) ∙ own
 
 -- the same of a list that is known to be so parted
 abbrev pub IsPlaced : Key → List Task → Type 0
@@ -145,11 +152,11 @@ pub some_of : (o : Option Task) → is_some o ≡ true → (t : Task) × (o ≡ 
 some_of None h = cc
 some_of (Some t) h = (t, refl)
 
--- the first that passes, left before right
 pub none_from : (o : Option Task) → is_some o ≡ false → o ≡ None
 none_from None h = refl
 none_from (Some t) h = cc
 
+-- the first that passes, left before right
 pub first_left : (passes : Entry → Bool) (ts xs : List Task) (u : Task) (ys : List Task) (t : Task) → ts ≡ xs ++ u ∷ ys → first_that passes xs ≡ Some t
     → first_that passes ts ≡ Some t
 first_left passes ts xs u ys t e h = ap (first_that passes) e ∙ first-found (λ t. passes t.entry) xs (u ∷ ys) t h
@@ -166,11 +173,3 @@ first_here passes ts xs u ys e h p = grind (arith, e, p, first-missed (λ t. pas
 pub first_right : (passes : Entry → Bool) (ts xs : List Task) (u : Task) (ys : List Task) → ts ≡ xs ++ u ∷ ys → is_some (first_that passes xs) ≡ false
     → passes u.entry ≡ false → first_that passes ts ≡ first_that passes ys
 first_right passes ts xs u ys e h p = grind (arith, e, p, first-missed (λ t. passes t.entry) xs (u ∷ ys) (none_from (first_that passes xs) h))
-
-pub over_apart : (b : Bool) (k : Key) (u : Task) → eqb u.number k.number ≡ b → (HasKey k u → ⊥) → (eqb u.number k.number ≡ true → u.entry.d ≡ k.deadline) → b ≡ false
-over_apart false k u e h d = refl
-over_apart true k u e h d = absurd (h (record { deadline = d e; number = grind (arith, nat_tests) }))
-
-pub own_deadline : (k : Key) (xs : List Task) (u : Task) (ys : List Task) → IsPlaced k (xs ++ u ∷ ys) → find_task k.number xs ≡ None → eqb u.number k.number ≡ true → u.entry.d ≡ k.deadline
-own_deadline k xs u ys a n e =
-    (has_key k (xs ++ u ∷ ys) u a (first-missed (has_number k.number) xs (u ∷ ys) n ∙ ap (λ b. cond b (Some u) (find_task k.number ys)) e)).deadline

@@ -8,7 +8,7 @@ use Rattle.eevdf_queue.specs.TaskLists.{find_task, set_entry}
 use Rattle.eevdf_queue.specs.TreeKeys.{is_under, is_over, Holds}
 use Rattle.eevdf_queue.specs.TreeTasks.{AreOrdered, without, IsAtDeadline}
 use Rattle.eevdf_queue.proofs.TreeOrder.{ordered_left, ordered_right}
-use Rattle.eevdf_queue.proofs.TreeSearch.{HasKey, IsPlaced, find_left, find_right, find-here, missed-left, missed-left_over, over_apart, over_not_itself, own_deadline, some_of}
+use Rattle.eevdf_queue.proofs.TreeSearch.{HasKey, IsPlaced, find_left, find_right, find-here, missed-left, missed-left_over, not_here, some_of}
 
 -- the key's task stands on a side of a node
 pub record IsBelow (k : Key) (ts xs : List Task) : Type 0 where
@@ -74,8 +74,7 @@ module _ (k : Key) (edit : List Task → List Task) (at : Task → List Task →
             ap edit e ∙ edit-found (tasks_in a.left) (a.task ∷ tasks_in a.right) f.0 f.1;
         right = λ p.
             let n = missed-left_over k (tasks_in a.left) a.task (tasks_in a.right) o d p in
-            ap edit e ∙ past (tasks_in a.left) a.task (tasks_in a.right) false n
-            (over_apart (eqb a.task.number k.number) k a.task refl (λ g. over_not_itself k a.task g p) (own_deadline k (tasks_in a.left) a.task (tasks_in a.right) d n));
+            ap edit e ∙ past (tasks_in a.left) a.task (tasks_in a.right) false n (not_here k (tasks_in a.left) a.task (tasks_in a.right) o d p);
         here = λ g.
             ap edit e ∙ past (tasks_in a.left) a.task (tasks_in a.right) true (missed-left k (tasks_in a.left) a.task (tasks_in a.right) o d g)
             (same_number a.task.number k.number g.number);
