@@ -42,9 +42,9 @@ module _ (k : Key) (a : Inside) (ts : List Task) (e : ts ≡ tasks_of a) (h : Ho
 
 -- a list in which something is done at the key's task, of a node: it is done on that side, or at the task
 pub record IsEdited (k : Key) (a : Inside) (edit : List Task → List Task) (at : Task → List Task → List Task) (ts : List Task) : Type 0 where
-  pub left : is_under k a.task ≡ true → edit ts ≡ edit (tasks_in a.left) ++ a.task ∷ tasks_in a.right
-  pub right : is_over k a.task ≡ true → edit ts ≡ tasks_in a.left ++ a.task ∷ edit (tasks_in a.right)
-  pub here : HasKey k a.task → edit ts ≡ tasks_in a.left ++ at a.task (tasks_in a.right)
+  pub left : is_under k a.task ≡ true → (xs : List Task) → xs ≡ edit (tasks_in a.left) → xs ++ a.task ∷ tasks_in a.right ≡ edit ts
+  pub right : is_over k a.task ≡ true → (ys : List Task) → ys ≡ edit (tasks_in a.right) → tasks_in a.left ++ a.task ∷ ys ≡ edit ts
+  pub here : HasKey k a.task → tasks_in a.left ++ at a.task (tasks_in a.right) ≡ edit ts
 
 same_number : (m n : ℕ) → m ≡ n → eqb m n ≡ true
 same_number m n h = grind (arith, nat_tests)
@@ -69,15 +69,17 @@ module _ (k : Key) (edit : List Task → List Task) (at : Task → List Task →
       let o = subst AreOrdered e h.ordered in
       let d = subst (IsPlaced k) e h.placed in
       record {
-        left = λ p.
+        left = λ p xs i.
             let f = some_of (find_task k.number (tasks_in a.left)) (below_left k a ts e h p).holds.here in
-            ap edit e ∙ edit-found (tasks_in a.left) (a.task ∷ tasks_in a.right) f.0 f.1;
-        right = λ p.
+            ap (λ (z : List Task). z ++ a.task ∷ tasks_in a.right) i
+            ∙ sym (ap edit e ∙ edit-found (tasks_in a.left) (a.task ∷ tasks_in a.right) f.0 f.1);
+        right = λ p ys i.
             let n = missed-left_over k (tasks_in a.left) a.task (tasks_in a.right) o d p in
-            ap edit e ∙ past (tasks_in a.left) a.task (tasks_in a.right) false n (not_here k (tasks_in a.left) a.task (tasks_in a.right) o d p);
+            ap (λ (z : List Task). tasks_in a.left ++ a.task ∷ z) i
+            ∙ sym (ap edit e ∙ past (tasks_in a.left) a.task (tasks_in a.right) false n (not_here k (tasks_in a.left) a.task (tasks_in a.right) o d p));
         here = λ g.
-            ap edit e ∙ past (tasks_in a.left) a.task (tasks_in a.right) true (missed-left k (tasks_in a.left) a.task (tasks_in a.right) o d g)
-            (same_number a.task.number k.number g.number);
+            let n = missed-left k (tasks_in a.left) a.task (tasks_in a.right) o d g in
+            sym (ap edit e ∙ past (tasks_in a.left) a.task (tasks_in a.right) true n (same_number a.task.number k.number g.number));
       }
 
 -- the task taken out

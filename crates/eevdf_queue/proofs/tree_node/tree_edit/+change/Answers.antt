@@ -25,11 +25,11 @@ changed t c =
     let s = entry_set c.args.entry.now c.args.key.now c.node.inside _ e c.requires.held in
     elim c.if-is_under.branch [
       | then-is_under w ↦
-          ap tasks_of w.node-inside-is ∙ ap (λ z. z ++ c.node.inside.task ∷ tasks_in c.node.inside.right) w.change.ensures.tasks ∙ sym (s.left (sym c.is_under.ensures ∙ w.if-is_under.true))
+          ap tasks_of w.node-inside-is ∙ s.left (sym c.is_under.ensures ∙ w.if-is_under.true) _ w.change.ensures.tasks
       | else-is_under+then-is_over w ↦
-          ap tasks_of w.node-inside-is ∙ ap (λ z. tasks_in c.node.inside.left ++ c.node.inside.task ∷ z) w.change-then-is_over.ensures.tasks ∙ sym (s.right (sym w.is_over.ensures ∙ w.if-is_over.true))
+          ap tasks_of w.node-inside-is ∙ s.right (sym w.is_over.ensures ∙ w.if-is_over.true) _ w.change-then-is_over.ensures.tasks
       | else-is_under+else-is_over w ↦
-          ap tasks_of w.node-inside-is ∙ sym (s.here (own_key c.args.key.now c.node.inside.task (sym c.is_under.ensures ∙ w.if-is_under.false) (sym w.is_over.ensures ∙ w.if-is_over.false)))
+          ap tasks_of w.node-inside-is ∙ s.here (own_key c.args.key.now c.node.inside.task (sym c.is_under.ensures ∙ w.if-is_under.false) (sym w.is_over.ensures ∙ w.if-is_over.false))
     ]
 
 pub invariant_of-node : goal.invariant_of-node

@@ -34,7 +34,7 @@ returns-then-is_none-clause-rest t c =
     c.replaced.ensures.tasks
     ∙ c.part_from-sides.ensures.right
     ∙ sym (ap (λ (z : List Task). z ++ tasks_in c.root.inside.right) n)
-    ∙ sym ((taken_out c.args.key.now c.root.inside _ e c.requires).here (of_key c.args.key.now c.root.inside.task (sym c.is_of.ensures ∙ c.if-is_of.true)))
+    ∙ (taken_out c.args.key.now c.root.inside _ e c.requires).here (of_key c.args.key.now c.root.inside.task (sym c.is_of.ensures ∙ c.if-is_of.true))
 
 pub correct-change-requires-clause-kept_least : goal.correct-change-requires-clause-kept_least
 correct-change-requires-clause-kept_least t c = λ h.
@@ -74,13 +74,12 @@ returns-clause-rest t c =
     let rest : tasks_of c.if-is_of.root-inside ≡ without c.args.key.now.number (tasks_in c.args.link.now) =
     elim c.if-is_of.branch [
       | else-is_of+then-is_under w ↦
-          ap tasks_of w.root-inside-is ∙ ap (λ z. z ++ c.root.inside.task ∷ tasks_in c.root.inside.right) w.remove.ensures.rest ∙ sym (s.left (sym w.is_under.ensures ∙ w.if-is_under.true))
+          ap tasks_of w.root-inside-is ∙ s.left (sym w.is_under.ensures ∙ w.if-is_under.true) _ w.remove.ensures.rest
       | else-is_of+else-is_under w ↦
-          ap tasks_of w.root-inside-is ∙ ap (λ z. tasks_in c.root.inside.left ++ c.root.inside.task ∷ z) w.remove-else-is_under.ensures.rest
-          ∙ sym (s.right (over_else c.args.key.now c.root.inside.task (sym c.is_of.ensures ∙ w.if-is_of.false) (sym w.is_under.ensures ∙ w.if-is_under.false)))
+          ap tasks_of w.root-inside-is ∙ s.right (over_else c.args.key.now c.root.inside.task (sym c.is_of.ensures ∙ w.if-is_of.false) (sym w.is_under.ensures ∙ w.if-is_under.false)) _ w.remove-else-is_under.ensures.rest
       | then-is_of+else-is_none w ↦
           ap tasks_of w.root-inside-is
           ∙ last_moved (tasks_in c.root.inside.left) (tasks_in w.exchanged-taken.new.left) w.exchanged-taken.new.task (tasks_in c.root.inside.right) w.exchanged-taken.ensures.tasks
-          ∙ sym (s.here (of_key c.args.key.now c.root.inside.task (sym c.is_of.ensures ∙ w.if-is_of.true)))
+          ∙ s.here (of_key c.args.key.now c.root.inside.task (sym c.is_of.ensures ∙ w.if-is_of.true))
     ] in
     c.correct-change.ensures.tasks ∙ rest
