@@ -1,4 +1,4 @@
-use Rattle.std.proofs.Common.{◌≡◌, ◌∙◌, ◌∷◌, ◌++◌, ℕ, Option, ap, sym, subst, arith}
+use Rattle.std.proofs.Common.{◌≡◌, ◌∙◌, ℕ, Option, ap, sym, subst, arith}
 use Rattle.std.specs.Prelude.{◌≤ℤ◌, IfSome}
 use Rattle.eevdf_queue.specs.{declared.task.Task.Task, TaskLists.set_entry, TreeShape.tasks_in, TreeNodes.tasks_of}
 use Rattle.eevdf_queue.specs.TreeLeast.{least_of}

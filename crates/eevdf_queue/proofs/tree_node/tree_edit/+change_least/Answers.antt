@@ -1,4 +1,4 @@
-use Rattle.std.proofs.Common.{◌≡◌, ◌∙◌, ◌∷◌, ◌++◌, ap, sym, arith}
+use Rattle.std.proofs.Common.{◌≡◌, ◌∙◌, ap, sym, arith}
 use Rattle.eevdf_queue.specs.{TreeShape.tasks_in, TreeNodes.tasks_of}
 use Rattle.eevdf_queue.proofs.{TreeSearch.own_key, TreeSides.below_left, TreeSides.below_right, TreeSides.entry_set}
 use Rattle.eevdf_queue.proofs.tree_node.tree_edit.+change_least.Goals as goal

@@ -1,4 +1,4 @@
-use Rattle.std.proofs.Common.{◌≡◌, ◌∙◌, [], ◌∷◌, ◌++◌, true, false, Some, ap, sym, subst, arith, List}
+use Rattle.std.proofs.Common.{◌≡◌, ◌∙◌, [], ◌++◌, true, false, Some, ap, sym, subst, arith, List}
 use Rattle.std.specs.Prelude.{not}
 use Rattle.eevdf_queue.specs.{declared.task.Task.Task, declared.tree_node.TreeNode.TheInside.Inside, TaskLists.first_task}
 use Rattle.eevdf_queue.specs.{TreeShape.tasks_in, TreeNodes.tasks_of, TreeChanges.keeps_least, TreeLeast.least_of}
