@@ -1,6 +1,7 @@
 -- The last task that isn't the running one.
-use Rattle.std.proofs.Common.{◌≡◌, ℕ, Bool, true, false, cond, List, [], ◌∷◌, ◌++◌, Option, Some, None, refl, ap, ◌∙◌}
+use Rattle.std.proofs.Common.{◌≡◌, ℕ, true, false, cond, List, [], ◌∷◌, ◌++◌, Option, Some, None, refl, ap, ◌∙◌, arith}
 use Rattle.std.specs.Option.{option_map}
+use Rattle.std.proofs.lemmas.Bool.Decides.{nat_tests}
 use Rattle.eevdf_queue.specs.{declared.task.Task.Task, Candidate.is_running}
 use Rattle.eevdf_queue.specs.TreeTasks.{last_waiting, last_or, last_number}
 
@@ -29,12 +30,8 @@ abbrev number_or : Option ℕ → Option Task → Option ℕ
 number_or b None = b
 number_or b (Some t) = Some t.number
 
-own_none : (b : Option ℕ) (w : Bool) (t : Task) → cond w b (Some t.number) ≡ number_or b (cond w None (Some t))
-own_none b true t = refl
-own_none b false t = refl
-
 own_or : (b r : Option ℕ) (t : Task) (o : Option Task) → number_or (cond (is_running r t.number) b (Some t.number)) o ≡ number_or b (last_or t r o)
-own_or b r t None = own_none b (is_running r t.number) t
+own_or b r t None = grind (arith, nat_tests)
 own_or b r t (Some u) = refl
 
 number-seen : (b r : Option ℕ) (ts : List Task) → last_number b r ts ≡ number_or b (last_waiting r ts)

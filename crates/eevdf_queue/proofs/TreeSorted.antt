@@ -52,17 +52,11 @@ earlier_first : (t : Task) (o : Option Task) → ((u : Task) → o ≡ Some u �
 earlier_first t None h = refl
 earlier_first t (Some u) h = ap (λ b. cond b (numbered_entry u) (numbered_entry t)) (not_back t u (h u refl))
 
-earliest_step : (b : Bool) (t : Task) (o : Option Task) → earlier (numbered_entry t) (option_map numbered_entry o) ≡ numbered_entry t
-    → cond b (Some (earlier (numbered_entry t) (option_map numbered_entry o))) (option_map numbered_entry o) ≡ option_map numbered_entry (cond b (Some t) o)
-earliest_step true t o h = ap (λ (z : ℕ × Entry). Some z) h
-earliest_step false t o h = refl
-
 pub earliest-ordered : (passes : Entry → Bool) (ts : List Task) → AreOrdered ts → earliest passes (entries_of ts) ≡ option_map numbered_entry (first_that passes ts)
 earliest-ordered passes [] o = refl
 earliest-ordered passes (t ∷ ts) o =
-    ap (λ (z : Option (ℕ × Entry)). cond (passes t.entry) (Some (earlier (numbered_entry t) z)) z) (earliest-ordered passes ts o.1)
-    ∙ earliest_step (passes t.entry) t (first_that passes ts)
-    (earlier_first t (first_that passes ts) (λ u. all-found (λ x. precedes t x ≡ true) (λ x. passes x.entry) ts u o.0))
+    let first = earlier_first t (first_that passes ts) (λ u. all-found (λ x. precedes t x ≡ true) (λ x. passes x.entry) ts u o.0) in
+    grind (arith, earliest-ordered passes ts o.1, first)
 
 last_follows : (r : Option ℕ) (t : Task) (ts : List Task) (u : Task) → PrecedesAll t ts → last_waiting r ts ≡ Some u → precedes t u ≡ true
 last_follows r t [] u a h = cc
