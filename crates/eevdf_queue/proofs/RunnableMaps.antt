@@ -120,5 +120,3 @@ pub ruleset lengths = (few_runnable, len-runnable_in)
 pub ruleset sums = (few_runnable, light, total_weight-runnable_in, total_moment-runnable_in, sum_moments_small, in_range_in)
 
 pub ruleset firsts = (earliest-runnable_in)
-
-pub ruleset changed = (runnable_after, runnable_in-set_entry)
