@@ -14,6 +14,7 @@ mod TreeSearch
 mod TreeSides
 mod TreeEligible
 mod TreeLast
+mod LastOfAll
 mod TreeSorted
 mod AsleepMaps
 mod Sound

@@ -6,13 +6,14 @@ ghost use Rattle.eevdf_queue.specs.TreeShape.{IsFull};
 ghost use Rattle.eevdf_queue.specs.TreeTasks.{IsAtDeadline, insert_task, without, first_that};
 
 use crate::entry::Entry;
+use crate::running::is_running;
 use crate::task::Task;
 use crate::task_id::TaskId;
 use crate::tree_eligible::Threshold;
 use crate::tree_key::Key;
 use crate::tree_least::Least;
 use crate::tree_node::{
-    Found, TreeNode, change, find, first_eligible, insert, last_waiting, remove,
+    Found, TreeNode, change, find, first_eligible, insert, last_task, last_waiting, remove,
 };
 use std::marker::Model;
 
@@ -112,6 +113,13 @@ impl TaskTree {
     pub fn latest_waiting(&self, running: Option<TaskId>) -> Option<TaskId>
         ensures { result ≡ option_map (λ a. a.0) (latest_waiting running (entries_of self.now)) }
     {
-        last_waiting(&self.root, &running, None)
+        let Some(last) = last_task(&self.root) else {
+            return None;
+        };
+        if is_running(&running, last) {
+            last_waiting(&self.root, &running, None)
+        } else {
+            Some(last)
+        }
     }
 }

@@ -1,7 +1,7 @@
 //! The boxed node of a balanced tree of tasks. It carries one task, alone in a parcel or between the two sides
 //! of a subtree, and keeps the height and the least virtual runtime of that subtree.
 
-ghost use Rattle.std.specs.Prelude.{◌≡◌, suc, ◌+◌, ◌≤◌, ◌^◌, max, [], ◌∷◌, ◌++◌, length, is_some, true, Some, IfSome};
+ghost use Rattle.std.specs.Prelude.{◌≡◌, suc, ◌+◌, ◌≤◌, ◌^◌, max, [], ◌∷◌, ◌++◌, length, is_some, true, None, Some, IfSome};
 ghost use Rattle.std.specs.Option.{option_map};
 ghost use Rattle.eevdf_queue.specs.{TaskLists.first_task, TaskLists.find_task, Pick.is_eligible_at, NodeDepths.is_at_depth};
 ghost use Rattle.eevdf_queue.specs.{TreeLeast.least_of, TreeLeast.AreLow};
@@ -282,6 +282,20 @@ fn first_under<'a>(root: &'a TreeNode, totals: &Threshold) -> Found<'a>
         };
         at = right;
     }
+}
+
+/// The number of the last task below a link.
+pub fn last_task(link: &Option<Box<TreeNode>>) -> Option<TaskId>
+    ensures { result ≡ last_number None None (tasks_in link.now) }
+{
+    let mut at = link;
+    let mut last = None;
+    'down: while let Some(node) = at {
+        let node: &TreeNode = node;
+        last = Some(node.task.number);
+        at = &node.right;
+    }
+    last
 }
 
 /// The number of the last task below a link that isn't the running one, or else the number that was seen before.
