@@ -21,6 +21,7 @@ mod Sound
 mod Picking
 mod Scaled
 mod Mean
+mod SomeEligible
 mod Picked
 mod SleepingLag
 mod TreeLists

@@ -162,11 +162,13 @@ impl RunnableTasks {
         leave(node, kept_lag(time, &entry))
     }
 
-    /// The first task, by deadline and number, of those that are eligible at these sums, and the turns of the
-    /// descent to it.
+    /// The first task, by deadline and number, of those that are eligible at the sums over the tasks, and the turns of
+    /// the descent to it.
     #[tactic(auto, using(crate::proofs::RunnableMaps::firsts))]
     fn first(&self, totals: &Threshold) -> Option<Found<'_>>
-        requires { totals.now.weight ≤ 2 ^ 40 }
+        requires few { totals.now.weight ≤ 2 ^ 40 }
+        requires weight { totals.now.weight ≡ total_weight self.now }
+        requires moment { totals.now.moment ≡ total_moment self.now }
         ensures here { IfSome result (λ f. map.get self.now f.task.now.number ≡ Some f.task.now.entry) }
         ensures number { option_map (λ f. f.task.now.number) result
             ≡ option_map (λ a. a.0) (earliest (is_eligible_at totals.now.weight totals.now.moment) (map.entries self.now)) }

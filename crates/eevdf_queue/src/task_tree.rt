@@ -97,9 +97,10 @@ impl TaskTree {
     }
 
     /// The first by deadline and number of the tasks that are eligible at these sums, and the turns of the
-    /// descent to it.
+    /// descent to it. Where there is a task, some task is eligible.
     pub fn earliest(&self, totals: &Threshold) -> Option<Found<'_>>
-        requires { totals.now.weight ≤ 2 ^ 40 }
+        requires few { totals.now.weight ≤ 2 ^ 40 }
+        requires some { first_that (is_eligible_at totals.now.weight totals.now.moment) self.now ≡ None → self.now ≡ [] }
         ensures task { option_map (λ f. f.task.now) result ≡ first_that (is_eligible_at totals.now.weight totals.now.moment) self.now }
         ensures number { option_map (λ f. f.task.now.number) result
             ≡ option_map (λ a. a.0) (earliest (is_eligible_at totals.now.weight totals.now.moment) (entries_of self.now)) }

