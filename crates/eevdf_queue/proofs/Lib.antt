@@ -29,6 +29,8 @@ mod TreeSeen
 mod TreeMaps
 mod TreeCandidates
 mod TreeChange
+mod TreeAge
+mod Ageing
 mod TreeTotals
 mod PickedTasks
 mod Waiting

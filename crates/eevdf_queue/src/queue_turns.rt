@@ -62,10 +62,18 @@ impl Queue {
         if !is_entry_in_range(&charged.entry) {
             return TickAnswer::Range;
         }
-        self.runnable.set(runner.task, &runner.entry, charged.entry);
+        if charged.resched {
+            self.runnable.set(runner.task, &runner.entry, charged.entry);
+            return TickAnswer::Charged {
+                task: runner.task,
+                resched: true,
+            };
+        }
+        self.runnable
+            .age(runner.task, &runner.entry, &charged.entry);
         TickAnswer::Charged {
             task: runner.task,
-            resched: charged.resched,
+            resched: false,
         }
     }
 

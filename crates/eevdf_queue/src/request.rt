@@ -1,6 +1,6 @@
 //! What a request of a task costs, and how a task is charged.
 
-ghost use Rattle.std.specs.Prelude.{◌≡◌, ◌≤◌, ◌^◌, pos, unsigned_abs, true};
+ghost use Rattle.std.specs.Prelude.{◌≡◌, ◌≤◌, ◌^◌, ◌-ℤ◌, pos, unsigned_abs, true};
 ghost use Rattle.eevdf_weight.specs.Limits as limits;
 ghost use Rattle.eevdf_weight.specs.{Charge.charge_of, Weight.weight_of};
 ghost use Rattle.eevdf_queue.specs.Moves.{entry_in_range, fresh_entry};
@@ -74,6 +74,7 @@ fn aged(entry: &Entry, ns: Ns) -> Entry
     requires { limits.is_in_range entry.now.v ≡ true }
     ensures value { result ≡ record entry.now { v = ticks.aged entry.now ns } }
     ensures small { unsigned_abs result.v ≤ 2 ^ 61 }
+    ensures near { unsigned_abs (result.v -ℤ entry.now.v) ≤ 2 ^ 40 }
 {
     Entry {
         v: entry.v + cost(entry, ns.get()),
@@ -86,6 +87,7 @@ pub fn charged(entry: &Entry, ns: Ns) -> ChargedEntry
     requires { limits.is_in_range entry.now.v ≡ true }
     ensures entry { result.entry ≡ ticks.charged entry.now ns }
     ensures resched { result.resched ≡ ticks.is_used_up entry.now ns }
+    ensures near { unsigned_abs (result.entry.v -ℤ entry.now.v) ≤ 2 ^ 40 }
 {
     let older = aged(entry, ns);
     if older.v >= entry.d {

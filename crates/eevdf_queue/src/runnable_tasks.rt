@@ -1,4 +1,4 @@
-ghost use Rattle.std.specs.Prelude.{◌≡◌, ℕ, ◌==◌, ◌<◌, if◌then◌else◌, ◌*◌, ◌≤◌, ◌^◌, None, Some, true, unsigned_abs, length, IfSome, IsNone, ◌↔◌};
+ghost use Rattle.std.specs.Prelude.{◌≡◌, ℕ, ◌==◌, ◌<◌, if◌then◌else◌, ◌*◌, ◌≤◌, ◌^◌, ◌-ℤ◌, ◌≤ℤ◌, None, Some, true, unsigned_abs, length, IfSome, IsNone, ◌↔◌};
 ghost use Rattle.std.specs.Option.{option_map};
 ghost use Rattle.std.specs.FinMap as map;
 ghost use Rattle.eevdf_weight.specs.Limits as limits;
@@ -17,8 +17,9 @@ use crate::picked_task::PickedTask;
 use crate::task_id::TaskId;
 use crate::task_tree::TaskTree;
 use crate::totals::Totals;
-use crate::totals_edit::{exchanged, share, with_share, without_share};
+use crate::totals_edit::{aged, exchanged, share, with_share, without_share};
 use crate::tree_eligible::Threshold;
+use crate::tree_key::Key;
 use crate::tree_node::{Found, TreeNode};
 use std::marker::Model;
 
@@ -129,6 +130,22 @@ impl RunnableTasks {
         }
         let node = self.tree.remove(&key);
         put(&mut self.tree, &mut self.deadlines, node, entry);
+    }
+
+    /// Gives a task that is here with an older entry one of a later virtual runtime. The task keeps its place.
+    #[inline(always)]
+    pub fn age(&mut self, task: TaskId, older: &Entry, newer: &Entry)
+        requires here { map.get self.old task ≡ Some older.now }
+        requires in_range { is_entry_in_range newer.now ≡ true }
+        requires same { record older.now { v = newer.now.v } ≡ newer.now }
+        requires later { older.now.v ≤ℤ newer.now.v }
+        requires near { unsigned_abs (newer.now.v -ℤ older.now.v) ≤ 2 ^ 40 }
+        ensures { self.new ≡ map.insert self.old task newer.now }
+    {
+        self.picked.known = false;
+        self.totals = aged(&self.totals, older, newer);
+        let key = Key::of(task, older);
+        self.tree.age(&key, older, newer);
     }
 
     /// Adds a task that isn't here, in the node of its parcel.

@@ -1,4 +1,4 @@
-ghost use Rattle.std.specs.Prelude.{◌≡◌, suc, ◌<◌, ◌≤◌, ◌/◌, ◌^◌, [], length, is_some, true, None, Some, IfSome};
+ghost use Rattle.std.specs.Prelude.{◌≡◌, suc, ◌<◌, ◌≤◌, ◌/◌, ◌^◌, ◌≤ℤ◌, [], length, is_some, true, None, Some, IfSome};
 ghost use Rattle.std.specs.Option.{option_map};
 ghost use Rattle.eevdf_queue.specs.TaskLists.{first_task, find_task, set_entry, entries_of};
 ghost use Rattle.eevdf_queue.specs.{Order.earliest, Pick.is_eligible_at, Candidate.latest_waiting, TreeShape.IsAlone};
@@ -13,7 +13,8 @@ use crate::tree_eligible::Threshold;
 use crate::tree_key::Key;
 use crate::tree_least::Least;
 use crate::tree_node::{
-    Found, TreeNode, change, find, first_eligible, insert, last_task, last_waiting, remove,
+    Found, Runtimes, TreeNode, age, change, find, first_eligible, insert, last_task, last_waiting,
+    remove,
 };
 use std::marker::Model;
 
@@ -81,6 +82,20 @@ impl TaskTree {
         ensures { self.new ≡ set_entry key.now.number entry.now self.old }
     {
         change(&mut self.root, key, Least::of_entries(older, entry), entry);
+    }
+
+    /// Gives the task of a key, which is here with an older entry, one of another virtual runtime, which isn't less than
+    /// before.
+    #[inline(always)]
+    pub fn age(&mut self, key: &Key, older: &Entry, newer: &Entry)
+        requires here { option_map (λ t. t.entry) (find_task key.now.number self.old) ≡ Some older.now }
+        requires placed { IsAtDeadline key.now.deadline (find_task key.now.number self.old) }
+        requires same { record older.now { v = newer.now.v } ≡ newer.now }
+        requires later { older.now.v ≤ℤ newer.now.v }
+        ensures { self.new ≡ set_entry key.now.number newer.now self.old }
+    {
+        let runtimes = Runtimes::of(older, newer);
+        age(&mut self.root, *key, runtimes);
     }
 
     /// Takes out the task of a key, which is here, in its node.

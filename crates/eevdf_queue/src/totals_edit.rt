@@ -1,6 +1,6 @@
 //! The sums over tasks, corrected by what one of them adds.
 
-ghost use Rattle.std.specs.Prelude.{◌≡◌, ◌+◌, ◌*◌, ◌≤◌, ◌^◌, pos, ◌+ℤ◌, ◌*ℤ◌, unsigned_abs};
+ghost use Rattle.std.specs.Prelude.{◌≡◌, ◌+◌, ◌*◌, ◌≤◌, ◌^◌, pos, ◌+ℤ◌, ◌-ℤ◌, ◌*ℤ◌, unsigned_abs};
 ghost use Rattle.eevdf_weight.specs.Weight.{weight_of};
 
 use crate::entry::Entry;
@@ -63,6 +63,57 @@ pub fn exchanged(totals: &Totals, older: &Entry, newer: &Entry) -> Totals
         ≡ (newer.now.v *ℤ pos (weight_of newer.now.nice)) +ℤ totals.now.moment }
 {
     with_share(&without_share(totals, &share(older)), &share(newer))
+}
+
+/// The sums where one of the tasks gets a later virtual runtime.
+pub fn aged(totals: &Totals, older: &Entry, newer: &Entry) -> Totals
+    requires small { unsigned_abs totals.now.moment ≤ 2 ^ 110 }
+    requires near { unsigned_abs (newer.now.v -ℤ older.now.v) ≤ 2 ^ 40 }
+    ensures weight { result.weight ≡ totals.now.weight }
+    ensures moment { (older.now.v *ℤ pos (weight_of older.now.nice)) +ℤ result.moment
+        ≡ (newer.now.v *ℤ pos (weight_of older.now.nice)) +ℤ totals.now.moment }
+{
+    Totals {
+        weight: totals.weight,
+        moment: aged_moment(totals, older, newer),
+    }
+}
+
+/// The sum of weight times virtual runtime after that.
+fn aged_moment(totals: &Totals, older: &Entry, newer: &Entry) -> i128
+    requires small { unsigned_abs totals.now.moment ≤ 2 ^ 110 }
+    requires near { unsigned_abs (newer.now.v -ℤ older.now.v) ≤ 2 ^ 40 }
+    ensures { (older.now.v *ℤ pos (weight_of older.now.nice)) +ℤ result
+        ≡ (newer.now.v *ℤ pos (weight_of older.now.nice)) +ℤ totals.now.moment }
+{
+    grown(totals, growth(distance(older, newer), weight(older.nice)))
+}
+
+/// The sum with so much more.
+fn grown(totals: &Totals, growth: i64) -> i128
+    requires small { unsigned_abs totals.now.moment ≤ 2 ^ 110 }
+    ensures { result ≡ growth +ℤ totals.now.moment }
+{
+    totals.moment + i128::from(growth)
+}
+
+/// How far a task has aged.
+fn distance(older: &Entry, newer: &Entry) -> i64
+    requires { unsigned_abs (newer.now.v -ℤ older.now.v) ≤ 2 ^ 40 }
+    ensures { result ≡ newer.now.v -ℤ older.now.v }
+{
+    newer.v - older.v
+}
+
+/// That times a weight, in 64 bits.
+#[tactic(auto, using(crate::proofs::Ageing::growth_small))]
+fn growth(distance: i64, weight: u64) -> i64
+    requires near { unsigned_abs distance ≤ 2 ^ 40 }
+    requires light { weight ≤ 88761 }
+    ensures value { result ≡ distance *ℤ pos weight }
+    ensures small { unsigned_abs result ≤ 2 ^ 57 }
+{
+    distance * weight as i64
 }
 
 /// The sum of two moments.

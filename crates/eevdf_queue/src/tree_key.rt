@@ -14,6 +14,16 @@ pub struct Key {
 }
 
 impl Key {
+    /// The key of a task with this number and entry.
+    pub fn of(number: TaskId, entry: &Entry) -> Key
+        ensures { result ≡ record { deadline = entry.now.d; number = number } }
+    {
+        Key {
+            deadline: entry.d,
+            number,
+        }
+    }
+
     /// Whether the key is a task's own.
     pub fn is_of(&self, task: &Task) -> bool
         ensures { result ≡ keys.is_of self.now task.now }

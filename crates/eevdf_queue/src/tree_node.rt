@@ -9,6 +9,7 @@ ghost use Rattle.eevdf_queue.specs.TreeTasks.{AreOrdered, IsAtDeadline, first_th
 ghost use Rattle.eevdf_queue.specs.TreeShape.{tasks_in, height_in, depths_in, DifferByAtMost, IsFull, IsAlone};
 
 mod node_parts;
+mod tree_age;
 mod tree_edit;
 
 use crate::entry::Entry;
@@ -20,6 +21,7 @@ use crate::tree_key::Key;
 use crate::tree_least::Least;
 use node_parts::part_from;
 use std::marker::Model;
+pub use tree_age::{Runtimes, age};
 pub use tree_edit::{change, insert, remove};
 
 /// A task, and the nodes on either side of it.

@@ -10,3 +10,7 @@ charged-charged-requires c = range_v c.in-Some.runner.entry c.in-Some.ensures.in
 pub invariant_of-self : goal.invariant_of-self
 invariant_of-self c =
     sound_change _ _ _ _ _ _ _ c.set.ensures (ap (λ (v : View). contains_key v.state.runnable c.in-Some.runner.task) c.self.view_is ∙ ap is_some c.in-Some.ensures.entry) c.self.invariant
+
+pub invariant_of-self-2 : goal.invariant_of-self-2
+invariant_of-self-2 c =
+    sound_change _ _ _ _ _ _ _ c.age.ensures (ap (λ (v : View). contains_key v.state.runnable c.in-Some.runner.task) c.self.view_is ∙ ap is_some c.in-Some.ensures.entry) c.self.invariant
