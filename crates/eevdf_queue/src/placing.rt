@@ -38,12 +38,13 @@ pub fn placed_entry(time: i64, total: u64, newcomer: &Newcomer) -> Option<Entry>
 }
 
 /// Whether any task can join others with these sums: their virtual time is so far within its range that no stretched lag
-/// and no request leads out of it. This is cheaper than to place the task.
+/// and no request leads out of it. It is so over a weight of 16 where the moment fits 64 bits, which is cheaper to find out
+/// than to place the task; of other sums nothing is said.
 pub fn is_roomy(totals: &Totals) -> bool
     requires { totals.now.weight ≤ 2 ^ 40 }
     ensures { result ≡ true → IsRoomy totals.now.weight totals.now.moment }
 {
-    1 <= totals.weight && totals.moment.unsigned_abs() <= u128::from(totals.weight) * (1 << 59)
+    16 <= totals.weight && i64::try_from(totals.moment).is_ok()
 }
 
 /// The virtual runtime that it gets: among no tasks the time itself.
