@@ -14,7 +14,7 @@ use crate::parcel::Parcel;
 use crate::placing::{Newcomer, is_roomy, placed_entry};
 use crate::queue::Queue;
 use crate::request::started;
-use crate::running::{is_running, stopped};
+use crate::running::{is_running, stop};
 use crate::task_id::TaskId;
 use eevdf_weight::{Nice, Slice};
 
@@ -117,7 +117,7 @@ impl Queue {
         self.runnable.keeps();
         let time = self.floor_time();
         let parcel = self.runnable.remove(task, time);
-        self.running = stopped(&self.running, task);
+        stop(&mut self.running, task);
         self.base = parcel.start();
         parcel
     }

@@ -16,13 +16,11 @@ pub fn is_running(running: &Option<TaskId>, number: TaskId) -> bool
     }
 }
 
-/// Whoever runs, unless it is this task.
-pub fn stopped(running: &Option<TaskId>, number: TaskId) -> Option<TaskId>
-    ensures { result ≡ leaving.stopped running.now number }
+/// Lets nobody run where this task runs.
+pub fn stop(running: &mut Option<TaskId>, number: TaskId)
+    ensures { running.new ≡ leaving.stopped running.old number }
 {
     if is_running(running, number) {
-        None
-    } else {
-        *running
+        *running = None;
     }
 }
