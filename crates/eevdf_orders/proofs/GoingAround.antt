@@ -1,10 +1,11 @@
 -- The search for a caller that may step, around from one on.
 use Rattle.std.proofs.Common.{◌≡◌, ℕ, zero, suc, ◌+◌, ◌-◌, ◌%◌, ◌<◌, ◌≤◌, Bool, true, false, cond, ◌⊎◌, inl, inr, sym, ap, subst, ◌∙◌, arith, refl}
-use Rattle.std.proofs.{lemmas.Bool.false≢true, Math.Nat.add-mod_right, Math.Nat.mod-eq_of_lt}
+use Rattle.std.proofs.lemmas.Bool.{false≢true, cases_eq}
+use Rattle.std.proofs.Math.Nat.{add-mod_right, mod-eq_of_lt}
 use Rattle.std.specs.Prelude.{is_none, is_some, is_ok, Option, Some, None, Result, Ok, Err}
 use Rattle.eevdf_steps.specs.{declared.step_fault.StepFault.StepFault, Plan.callers, Players.IsStep, Players.Player}
 use Rattle.eevdf_steps.specs.Counters.{least, may_step, ready}
-use Rattle.eevdf_steps.proofs.Holders.{least_past, number_cases}
+use Rattle.eevdf_steps.proofs.Holders.{least_past}
 use Rattle.eevdf_steps.proofs.Ready.{Found, least_found, least_there}
 use Rattle.eevdf_orders.specs.CallerSteps.{IsStepAmong, IsStepFrom, ahead}
 
@@ -52,7 +53,7 @@ none_below_by : (f : ℕ → Bool) (from n k q : ℕ) (b : Bool) → f from ≡ 
     → (least f (from + 1) n ≡ Some k → from + 1 ≤ q → f q ≡ false) → f q ≡ false
 none_below_by f from n k q true e h low high later = let same : from ≡ k = cc in absurd (omega (arith, same, low, high))
 none_below_by f from n k q false e h low high later =
-    elim (number_cases from q) [
+    elim (cases_eq from q) [
       | inl same ↦ sym (ap f same) ∙ e
       | inr apart ↦ later h (omega (arith, low, apart))
     ]

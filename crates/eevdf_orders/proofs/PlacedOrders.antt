@@ -1,16 +1,17 @@
 -- Orders that are made place by place, each by a caller that may step.
-use Rattle.std.proofs.Common.{◌≡◌, ℕ, ◌+◌, ◌<◌, ◌≤◌, Bool, true, false, cond, ◌&&◌, List, [], ◌∷◌, ◌++◌, length, sym, ap, ◌∙◌, ◌+◌, arith, refl}
-use Rattle.std.proofs.{Math.ListN.length-append, lemmas.Bool.false≢true}
+use Rattle.std.proofs.Common.{◌≡◌, ℕ, ◌+◌, ◌<◌, ◌≤◌, Bool, true, false, cond, ◌&&◌, List, [], ◌∷◌, ◌++◌, length, sym, ap, ◌∙◌, arith, refl}
+use Rattle.std.proofs.Math.ListN.{length-append}
+use Rattle.std.proofs.lemmas.Bool.{false≢true, and_parts, ltb-true}
 use Rattle.std.specs.Option.{option_map}
 use Rattle.std.specs.Prelude.{not, nat_lt, is_none, is_some, is_ok, is_err, if◌then◌else◌, Option, Some, None, Result, Ok, Err}
 use Rattle.eevdf_ops.specs.Setup.{Setup}
-use Rattle.eevdf_steps.specs.{declared.micro.Micro.Micro, declared.step_fault.StepFault.TheVariants.NoCaller}
-use Rattle.eevdf_steps.specs.{Requests.Progress, Requests.progress_by, MicroState.MicroState, MicroState.micro_by}
+use Rattle.eevdf_steps.specs.{declared.micro.Micro.Micro, declared.step_fault.StepFault.TheVariants.NoCaller, Requests.Progress}
+use Rattle.eevdf_steps.specs.{Requests.progress_by, MicroState.MicroState, MicroState.micro_by}
 use Rattle.eevdf_steps.specs.Plan.{Plan, callers, plan_of}
 use Rattle.eevdf_steps.specs.Counters.{Counters, counted, may_step, next, refused_next, step_next, unfinished}
 use Rattle.eevdf_steps.specs.Orders.{counters_after, counters_at_start, is_lawful, play_fault}
 use Rattle.eevdf_steps.specs.Players.{Player, player_start, player_step}
-use Rattle.eevdf_steps.proofs.{LawfulOrders.whole_is_played, Lists.both, Lists.true_lt}
+use Rattle.eevdf_steps.proofs.LawfulOrders.{whole_is_played}
 use Rattle.eevdf_orders.specs.CallerSteps.{IsStepFrom}
 
 -- a player that a lawful order has led to where it is
@@ -40,7 +41,7 @@ mapped_some f (Some x) e = refl
 stepper : (plan : Plan) (counters : Counters) (p : ℕ) (b : Bool) (m : Option Micro) → nat_lt p (callers plan) ≡ b → next plan counters p ≡ m
     → is_none (cond b (refused_next plan counters m) (Some NoCaller)) ≡ true → HasStep plan counters p
 stepper plan counters p true (Some m) e f h = record {
-  below = true_lt p (callers plan) e;
+  below = ltb-true p (callers plan) e;
   has_step = mapped_some _ (step_next plan counters p) (ap (λ (o : Option Micro). is_some o) f);
 }
 stepper plan counters p true None e f h = absurd (false≢true h)
@@ -74,7 +75,7 @@ lawful_more : (plan : Plan) (counters : Counters) (order : List ℕ) (p : ℕ) �
 lawful_more plan counters [] p h may = ap (λ (b : Bool). b && true) may
 lawful_more plan counters (q ∷ order) p h may =
     let parts : (may_step plan counters q ≡ true) × (is_lawful plan (counted counters q) order ≡ true)
-    = both (may_step plan counters q) (is_lawful plan (counted counters q) order) h in
+    = and_parts (may_step plan counters q) (is_lawful plan (counted counters q) order) h in
     ap (λ (b : Bool). b && is_lawful plan (counted counters q) (order ++ p ∷ [])) parts.0 ∙ lawful_more plan (counted counters q) order p parts.1 may
 
 may_there : (plan : Plan) (a : Player) (order : List ℕ) (p : ℕ) → IsPlaced plan a order → may_step a.plan a.state.progress.counters p ≡ true

@@ -1,14 +1,14 @@
 -- How many steps the callers have still to do: each place of a lawful order is one of them.
 use Rattle.std.proofs.Common.{◌≡◌, ◌≢◌, ℕ, zero, suc, ◌+◌, ◌-◌, ◌<◌, ◌≤◌, Bool, true, false, cond, List, [], ◌∷◌, length, inl, inr, sym, ap, ◌∙◌, arith, refl}
-use Rattle.std.proofs.{Math.ListN.length-set, Math.ListN.length-replicate, lemmas.Bool.false≢true, lemmas.List.get_or-set_same}
-use Rattle.std.proofs.{lemmas.List.get_or-set_other, lemmas.Bool.Decides.nat_tests}
+use Rattle.std.proofs.Math.ListN.{length-set, length-replicate}
+use Rattle.std.proofs.lemmas.Bool.{false≢true, and_parts, cases_eq}
+use Rattle.std.proofs.lemmas.{List.get_or-set_same, List.get_or-set_other, Bool.Decides.nat_tests}
 use Rattle.std.specs.Prelude.{nat_lt, is_some, slice_get, Option, Some, None}
 use Rattle.eevdf_steps.specs.{declared.play_fault.PlayFault.PlayFault, declared.play_fault.PlayFault.TheVariants.TooLong, Plan.Plan}
 use Rattle.eevdf_steps.specs.{Plan.callers, MicroSteps.steps_by, Room.sum_from, Players.Player}
 use Rattle.eevdf_steps.specs.Counters.{Counters, count_of, counted, is_under_way, may_step, step_next, unfinished}
 use Rattle.eevdf_steps.specs.Orders.{IsWhole, counters_after, counters_at_start, is_lawful, order_fault, play_fault}
-use Rattle.eevdf_steps.proofs.{Lists.both, Holders.number_cases, LawfulOrders.faultless_whole, LawfulOrders.none_of, Ready.Found}
-use Rattle.eevdf_steps.proofs.{Ready.least_found, Rooms.sum_less}
+use Rattle.eevdf_steps.proofs.{LawfulOrders.faultless_whole, LawfulOrders.none_of, Ready.Found, Ready.least_found, Rooms.sum_less}
 use Rattle.eevdf_orders.proofs.GoingAround.{none_in}
 use Rattle.eevdf_orders.proofs.PlacedOrders.{IsPlaced, HasStep, has_step_of}
 
@@ -50,7 +50,7 @@ lawful_left : (plan : Plan) (counters : Counters) (order : List ℕ) → length 
 lawful_left plan counters [] each lawful = omega arith
 lawful_left plan counters (p ∷ order) each lawful =
     let parts : (may_step plan counters p ≡ true) × (is_lawful plan (counted counters p) order ≡ true)
-    = both (may_step plan counters p) (is_lawful plan (counted counters p) order) lawful in
+    = and_parts (may_step plan counters p) (is_lawful plan (counted counters p) order) lawful in
     let same : length (counted counters p) ≡ callers plan = length-set counters p (count_of counters p + 1) ∙ each in
     let rest : all_left plan (counted counters p) ≡ all_left plan (counters_after (counted counters p) order) + length order
     = lawful_left plan (counted counters p) order same parts.1 in
@@ -77,7 +77,7 @@ sum_none f from (suc n) none =
 sum_some : (f : ℕ → ℕ) (from n k : ℕ) → from ≤ k → k < from + n → f k ≤ sum_from f from n
 sum_some f from zero k low high = absurd (omega arith)
 sum_some f from (suc n) k low high =
-    elim (number_cases from k) [
+    elim (cases_eq from k) [
       | inl same ↦ let e : f from ≡ f k = ap f same in omega (arith, e)
       | inr apart ↦ let rest : f k ≤ sum_from f (from + 1) n = sum_some f (from + 1) n k (omega arith) (omega arith) in omega (arith, rest)
     ]

@@ -1,21 +1,21 @@
 -- Every order of a sound plan commits only deeds that are allowed.
 use Rattle.std.proofs.Common.{◌≡◌, ℕ, zero, suc, ◌<◌, Bool, true, false, ◌&&◌, cond, List, [], ◌∷◌, length, get_or, set, take, inl, inr, sym, subst, refl}
-use Rattle.std.proofs.lemmas.{List.get_or-set_other, List.Elements.All-take}
-use Rattle.std.proofs.lemmas.List.Sums.{AllPass-from_list_all, list_all-from_AllPass}
+use Rattle.std.proofs.lemmas.{List.get_or-set_other, List.Elements.All-take, List.Sums.AllPass-from_list_all}
+use Rattle.std.proofs.lemmas.List.Sums.{list_all-from_AllPass}
 use Rattle.std.specs.{List.list_all, Option.option_to_list}
 use Rattle.std.specs.Prelude.{slice_get, nat_lt, ◌==◌, IfSome, Option, Some, None}
 use Rattle.eevdf_ops.specs.{declared.deeds.Op.Op, declared.deeds.Deed.Deed, Programs.deed_of}
 use Rattle.eevdf_ops.specs.Setup.{Setup, allows, is_allowed, is_at_home}
-use Rattle.eevdf_steps.specs.declared.{micro.Micro.Micro, plan.Step.Step}
-use Rattle.eevdf_steps.specs.{MicroSteps.steps_by, Counters.count_of, Counters.done_by, Counters.step_next}
-use Rattle.eevdf_steps.specs.SoundSteps.{is_sound_micro, is_sound_step}
+use Rattle.eevdf_steps.specs.{declared.micro.Micro.Micro, declared.plan.Step.Step, MicroSteps.steps_by, SoundSteps.is_sound_micro}
+use Rattle.eevdf_steps.specs.SoundSteps.{is_sound_step}
+use Rattle.eevdf_steps.specs.Counters.{count_of, done_by, step_next}
 use Rattle.eevdf_steps.specs.declared.micro.Micro.TheVariants.{Commit, Take, Settle, Post}
 use Rattle.eevdf_steps.specs.Plan.{IsSound, Plan, callers, home, is_sound_op, plan_of, pulls_elsewhere}
 use Rattle.eevdf_steps.specs.Requests.{Progress, found_by, oldest, post_to, posted, posts_to, progress_at_start, progress_by, progress_step, requested, taken_of, takes}
 use Rattle.eevdf_steps.specs.Commits.{commits, committed, committed_by, deeds_committed, wake_of}
-use Rattle.eevdf_steps.proofs.{Holders.none_first, Holders.number_cases, Lists.both, Lists.lt_true, Lists.true_lt}
-use Rattle.eevdf_steps.proofs.{Setups.and_true, SoundDeeds.allowed_op, SoundDeeds.next_pulls_elsewhere}
+use Rattle.eevdf_steps.proofs.{Holders.none_first, SoundDeeds.allowed_op, SoundDeeds.next_pulls_elsewhere}
 use Rattle.eevdf_steps.proofs.SoundSteps.{all_joined, all_steps_sound, is_caller, some_all, step_sound}
+use Rattle.std.proofs.lemmas.Bool.{and_parts, lt-ltb, ltb-true, and_from, cases_eq}
 
 all_taken : {A : Type 0} (test : A → Bool) (xs : List A) (k : ℕ) → list_all test xs ≡ true → list_all test (take k xs) ≡ true
 all_taken test xs k all = list_all-from_AllPass test (take k xs) (All-take (λ x. test x ≡ true) k xs (AllPass-from_list_all test xs all))
@@ -38,16 +38,16 @@ post_is_for_home : (plan : Plan) (c : ℕ) (m : Micro) → is_sound_micro plan m
 post_is_for_home plan c (Post task) well = by_home (home plan task == c) refl
   where
     by_home : (b : Bool) → (home plan task == c) ≡ b → list_all (λ (t : ℕ). is_at_home plan.homes t c) (cond b (task ∷ []) []) ≡ true
-    by_home true e = and_true (is_at_home plan.homes task c) true (and_true (nat_lt task (length plan.homes)) (home plan task == c) well e) refl
+    by_home true e = and_from (is_at_home plan.homes task c) true (and_from (nat_lt task (length plan.homes)) (home plan task == c) well e) refl
     by_home false e = refl
 post_is_for_home plan c _ well = refl
 
 posts_are_for_home : (plan : Plan) (c : ℕ) (ss : List Step) → list_all (is_sound_step plan) ss ≡ true → list_all (λ (t : ℕ). is_at_home plan.homes t c) (posts_to plan c ss) ≡ true
 posts_are_for_home plan c [] all = refl
 posts_are_for_home plan c (s ∷ ss) all =
-    let parts : (is_sound_step plan s ≡ true) × (list_all (is_sound_step plan) ss ≡ true) = both (is_sound_step plan s) (list_all (is_sound_step plan) ss) all in
+    let parts = and_parts (is_sound_step plan s) (list_all (is_sound_step plan) ss) all in
     all_joined (λ (t : ℕ). is_at_home plan.homes t c) (post_to plan c s.micro) (posts_to plan c ss)
-    (post_is_for_home plan c s.micro (both (is_sound_op plan s.op) (is_sound_micro plan s.micro) parts.0).1) (posts_are_for_home plan c ss parts.1)
+    (post_is_for_home plan c s.micro (and_parts (is_sound_op plan s.op) (is_sound_micro plan s.micro) parts.0).1) (posts_are_for_home plan c ss parts.1)
 
 oldest_is_for_home : (plan : Plan) (g : Progress) (q c : ℕ) → IsSound plan → q < callers plan → IsForHome plan c (oldest plan g q c)
 oldest_is_for_home plan g q c sound h =
@@ -66,7 +66,7 @@ found_first plan c = subst (λ (r : Option ℕ). IsForHome plan c r) (sym (none_
 found_next : (plan : Plan) (found : List (Option ℕ)) (x : ℕ) (r : Option ℕ) → ((c : ℕ) → IsForHome plan c (get_or found c None)) → IsForHome plan x r
     → (c : ℕ) → IsForHome plan c (get_or (set found x r) c None)
 found_next plan found x r own new c =
-    elim (number_cases c x) [
+    elim (cases_eq c x) [
       | inl same ↦ subst (λ (k : ℕ). IsForHome plan k (get_or (set found x r) k None)) (sym same)
           (set_passes (λ (o : Option ℕ). IsForHome plan x o) found x r None new (own x))
       | inr apart ↦ subst (λ (o : Option ℕ). IsForHome plan c o) (sym (get_or-set_other found x c r None apart)) (own c)
@@ -78,7 +78,7 @@ takes_own plan g x s (Some task) own new = found_next plan g.found x (Some task)
 
 requested_own : (plan : Plan) (g : Progress) (x : ℕ) (m : Micro) → IsSound plan → is_sound_micro plan m ≡ true → FindTheirOwn plan g → FindTheirOwn plan (requested plan g x m)
 requested_own plan g x (Take s) sound well own =
-    takes_own plan g x s (oldest plan g s x) own (oldest_is_for_home plan g s x sound (true_lt s (callers plan) well))
+    takes_own plan g x s (oldest plan g s x) own (oldest_is_for_home plan g s x sound (ltb-true s (callers plan) well))
 requested_own plan g x (Settle s) sound well own = found_next plan g.found x None own tt
 requested_own plan g x _ sound well own = own
 
@@ -92,15 +92,14 @@ record SoundStep (plan : Plan) (g : Progress) (x : ℕ) (s : Step) : Type 0 wher
 sound_step : (plan : Plan) (g : Progress) (x : ℕ) (s : Step) → IsSound plan → step_next plan g.counters x ≡ Some s → SoundStep plan g x s
 sound_step plan g x s sound e =
     let caller : x < callers plan = is_caller plan g.counters x s e in
-    let parts : (is_sound_op plan s.op ≡ true) × (is_sound_micro plan s.micro ≡ true)
-    = both (is_sound_op plan s.op) (is_sound_micro plan s.micro) (step_sound plan g.counters x s sound caller e) in
+    let parts = and_parts (is_sound_op plan s.op) (is_sound_micro plan s.micro) (step_sound plan g.counters x s sound caller e) in
     record { caller = caller; op = parts.0; micro = parts.1; pulls = next_pulls_elsewhere plan g.counters x s sound e }
 
 abbrev AllAllowed : Plan → List Deed → Type 0
 AllAllowed plan deeds = list_all (is_allowed (callers plan) plan.homes) deeds ≡ true
 
 one_allowed : (plan : Plan) (d : Deed) → is_allowed (callers plan) plan.homes d ≡ true → AllAllowed plan (d ∷ [])
-one_allowed plan d e = and_true (is_allowed (callers plan) plan.homes d) true e refl
+one_allowed plan d e = and_from (is_allowed (callers plan) plan.homes d) true e refl
 
 op_allowed : (plan : Plan) (x : ℕ) (o : Op) (r : Option Deed) → x < callers plan → is_sound_op plan o ≡ true → pulls_elsewhere x o ≡ true → deed_of x o ≡ r
     → AllAllowed plan (option_to_list r)
@@ -111,9 +110,9 @@ wake_allowed : (plan : Plan) (x s : ℕ) (found : Option ℕ) → x < callers pl
     → AllAllowed plan (option_to_list (wake_of x s found))
 wake_allowed plan x s None h well own = refl
 wake_allowed plan x s (Some task) h well own =
-    and_true ((nat_lt x (callers plan) && nat_lt s (callers plan)) && is_at_home plan.homes task x) true
-    (and_true (nat_lt x (callers plan) && nat_lt s (callers plan)) (is_at_home plan.homes task x)
-    (and_true (nat_lt x (callers plan)) (nat_lt s (callers plan)) (lt_true x (callers plan) h) well) own) refl
+    and_from ((nat_lt x (callers plan) && nat_lt s (callers plan)) && is_at_home plan.homes task x) true
+    (and_from (nat_lt x (callers plan) && nat_lt s (callers plan)) (is_at_home plan.homes task x)
+    (and_from (nat_lt x (callers plan)) (nat_lt s (callers plan)) (lt-ltb x (callers plan) h) well) own) refl
 
 micro_allowed : (plan : Plan) (found : Option ℕ) (x : ℕ) (o : Op) (m : Micro) → x < callers plan → is_sound_op plan o ≡ true → pulls_elsewhere x o ≡ true
     → is_sound_micro plan m ≡ true → IsForHome plan x found → AllAllowed plan (option_to_list (committed found x o m))

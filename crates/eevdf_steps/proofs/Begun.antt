@@ -2,20 +2,20 @@
 use Rattle.std.proofs.Common.{◌≡◌, ℕ, Bool, true, false, cond, ◌||◌, List, [], length, ap, ◌∙◌, refl}
 use Rattle.std.specs.Prelude.{◌==◌, MatchOption, Option, Some, None}
 use Rattle.eevdf_queue.specs.State.{State, Contents}
-use Rattle.eevdf_ops.specs.declared.deeds.{Op.Op, Deed.Deed, Answer.Answer}
+use Rattle.eevdf_ops.specs.{declared.deeds.Op.Op, declared.deeds.Deed.Deed, declared.deeds.Answer.Answer, Machine.Machine}
+use Rattle.eevdf_ops.specs.{Machine.queue_at, Whole.whole, Programs.deed_of}
 use Rattle.eevdf_ops.specs.declared.deeds.Op.TheVariants as op
 use Rattle.eevdf_ops.specs.declared.deeds.Deed.TheVariants as deed
-use Rattle.eevdf_ops.specs.{Machine.Machine, Machine.queue_at, Whole.whole, Programs.deed_of}
 use Rattle.eevdf_ops.specs.Parts.{after_leaving, decider, given, giver, only_at, taker, touches}
 use Rattle.eevdf_ops.specs.PartsLaws as laws
 use Rattle.eevdf_ops.proofs.PartsProofs.{touched_decide}
-use Rattle.eevdf_steps.specs.declared.{micro.Micro.Micro, plan.Step.Step}
-use Rattle.eevdf_steps.specs.{Plan.Plan, Plan.callers, Plan.home, Serial.begun_by}
+use Rattle.eevdf_steps.specs.{declared.micro.Micro.Micro, declared.plan.Step.Step, Serial.begun_by}
+use Rattle.eevdf_steps.specs.Plan.{Plan, callers, home}
 use Rattle.eevdf_steps.specs.declared.micro.Micro.TheVariants.{Attach, Commit, Post}
 use Rattle.eevdf_steps.specs.Counters.{Counters, counted, holds, step_next}
 use Rattle.eevdf_steps.specs.UnderWay.{UnderWay, begun, hand_seen, leaves, leaving, queue_seen, under_way, under_way_before}
-use Rattle.eevdf_steps.proofs.Holders.{same_number}
 use Rattle.eevdf_steps.proofs.Walks.{Covers, Fits, FitsMicro, Walk, touched}
+use Rattle.std.proofs.lemmas.Bool.{eq-eqb}
 
 thrice : (a : Bool) → a ≡ (a || (a || a))
 thrice true = refl
@@ -99,7 +99,7 @@ leaves_alike : (homes : List ℕ) (d : Deed) (m n : Machine) → laws.IsAlike ho
 leaves_alike homes d m n alike agree =
     ap (λ (a : Answer). leaving d a (given d (queue_at m (giver d)))) alike.answers
     ∙ ap (λ (q : State). leaving d (whole homes d n).0 (given d q))
-    (agree (giver d) (any_second (giver d == decider d) (giver d == giver d) (giver d == taker homes d) (same_number (giver d))))
+    (agree (giver d) (any_second (giver d == decider d) (giver d == giver d) (giver d == taker homes d) (eq-eqb (giver d) (giver d) refl)))
 
 either : {A : Type 0} (b : Bool) (x y z w : A) → x ≡ z → y ≡ w → cond b x y ≡ cond b z w
 either true x y z w e f = e

@@ -1,23 +1,24 @@
 -- The deeds that a complete order commits follow the callers' programs.
 use Rattle.std.proofs.Common.{◌≡◌, ◌≢◌, ℕ, suc, ◌+◌, ◌<◌, Bool, true, false, cond, List, [], ◌∷◌, ◌++◌, length, drop, inl, inr, sym, ap, subst, ◌∙◌, arith, refl}
 use Rattle.std.proofs.Math.ListN.{length-replicate}
-use Rattle.std.proofs.lemmas.{List.drop_all, List.get_or-set_same, List.get_or-set_other, List.Elements.filter-append}
+use Rattle.std.proofs.lemmas.List.{drop_all, get_or-set_same, get_or-set_other}
+use Rattle.std.proofs.lemmas.List.Elements.{filter-append}
 use Rattle.std.specs.Prelude.{◌==◌, IfSome, Option, Some, None}
 use Rattle.std.specs.Option.{option_to_list}
-use Rattle.eevdf_ops.specs.declared.deeds.{Op.Op, Deed.Deed, Line.Line}
+use Rattle.eevdf_ops.specs.{declared.deeds.Op.Op, declared.deeds.Deed.Deed, declared.deeds.Line.Line, Parts.decider}
 use Rattle.eevdf_ops.specs.declared.deeds.Op.TheVariants as op
-use Rattle.eevdf_ops.specs.Parts.{decider}
 use Rattle.eevdf_ops.specs.Programs.{deed_of, deeds_by, deeds_of, lines_by}
-use Rattle.eevdf_steps.specs.{declared.micro.Micro.Micro, declared.plan.Step.Step, Plan.Plan, Plan.callers}
-use Rattle.eevdf_steps.specs.{Plan.program, MicroSteps.steps_by, Orders.counters_at_start, Orders.order_fault}
+use Rattle.eevdf_steps.specs.{declared.micro.Micro.Micro, declared.plan.Step.Step, MicroSteps.steps_by, Orders.counters_at_start}
+use Rattle.eevdf_steps.specs.Orders.{order_fault}
+use Rattle.eevdf_steps.specs.Plan.{Plan, callers, program}
 use Rattle.eevdf_steps.specs.declared.micro.Micro.TheVariants.{Commit, Settle, Post}
 use Rattle.eevdf_steps.specs.Counters.{Counters, count_of, counted, step_next, unfinished}
 use Rattle.eevdf_steps.specs.Requests.{Progress, found_by, progress_after, progress_at_start, progress_by, progress_step}
 use Rattle.eevdf_steps.specs.Commits.{commits, committed, committed_by, wake_of}
 use Rattle.eevdf_steps.proofs.{CommittedLines.FitsPrograms, Lists.drop_next, Lists.got_past, SoundSteps.is_caller}
-use Rattle.eevdf_steps.proofs.ProgramSteps.{FitsSteps, operations_fit}
-use Rattle.eevdf_steps.proofs.Holders.{count_first, number_cases, other_number, same_number}
+use Rattle.eevdf_steps.proofs.{ProgramSteps.FitsSteps, ProgramSteps.operations_fit, Holders.count_first}
 use Rattle.eevdf_steps.proofs.LawfulOrders.{done_by_all, faultless_whole, length-progress_step, whole_ends}
+use Rattle.std.proofs.lemmas.Bool.{cases_eq, ne_eqb, eq-eqb}
 
 -- a step commits a deed of its caller alone
 deed_decides : (x : ℕ) (o : Op) → IfSome (deed_of x o) (λ (d : Deed). decider d ≡ x)
@@ -45,12 +46,12 @@ mine_or_none p x (Some d) e = ap (λ (y : ℕ). cond (y == p) (d ∷ []) []) e
 pub own_deeds : (found : Option ℕ) (x : ℕ) (o : Op) (m : Micro) → deeds_by x (option_to_list (committed found x o m)) ≡ option_to_list (committed found x o m)
 own_deeds found x o m =
     mine_or_none x x (committed found x o m) (committed_decides found x o m)
-    ∙ ap (λ (b : Bool). cond b (option_to_list (committed found x o m)) []) (same_number x)
+    ∙ ap (λ (b : Bool). cond b (option_to_list (committed found x o m)) []) (eq-eqb x x refl)
 
 pub other_deeds : (found : Option ℕ) (p x : ℕ) (o : Op) (m : Micro) → x ≢ p → deeds_by p (option_to_list (committed found x o m)) ≡ []
 other_deeds found p x o m apart =
     mine_or_none p x (committed found x o m) (committed_decides found x o m)
-    ∙ ap (λ (b : Bool). cond b (option_to_list (committed found x o m)) []) (other_number x p apart)
+    ∙ ap (λ (b : Bool). cond b (option_to_list (committed found x o m)) []) (ne_eqb x p apart)
 
 pub deeds_joined : (p : ℕ) (a b : List Deed) → deeds_by p (a ++ b) ≡ deeds_by p a ++ deeds_by p b
 deeds_joined p a b = filter-append (λ (d : Deed). decider d == p) a b
@@ -89,7 +90,7 @@ any_step : (plan : Plan) (g : Progress) (x p : ℕ) (r : Option Step) (rest : Li
     → Left plan (progress_by plan g x r).counters p (deeds_by p rest) → Left plan g.counters p (deeds_by p (committed_by g x r ++ rest))
 any_step plan g x p None rest each e later = later
 any_step plan g x p (Some s) rest each e later =
-    elim (number_cases p x) [
+    elim (cases_eq p x) [
       | inl same ↦ subst (λ (y : ℕ). Left plan (counted g.counters x) y (deeds_by y rest) → Left plan g.counters y (deeds_by y (committed_by g x (Some s) ++ rest)))
           (sym same) (own_step plan g x s rest (subst (λ (n : ℕ). x < n) (sym each) (is_caller plan g.counters x s e)) e) later
       | inr apart ↦ other_step plan g x p s rest apart later

@@ -1,12 +1,12 @@
 -- Positions of several callers, and their counters.
 use Rattle.std.proofs.Common.{◌≡◌, ℕ, zero, suc, ◌+◌, ◌<◌, List, [], ◌∷◌, ◌++◌, length, get_or, set, replicate, inl, inr, sym, ap, subst, ◌∙◌, arith, refl}
-use Rattle.std.proofs.{Math.ListN.length-append, Math.ListN.length-set, lemmas.Bool.cases_lt}
+use Rattle.std.proofs.Math.ListN.{length-append, length-set}
+use Rattle.std.proofs.lemmas.Bool.{cases_lt, cases_eq}
 use Rattle.std.proofs.lemmas.List.{get_or_append_left, get_or_push, get_or-set_other, get_or-set_same}
 use Rattle.eevdf_steps.specs.{declared.plan.Position.Position, Plan.Plan, MicroSteps.steps_by, Callers.BeginAll}
 use Rattle.eevdf_steps.specs.Counters.{Counters, count_of, counted, step_next}
 use Rattle.std.specs.Prelude.{slice_get}
 use Rattle.eevdf_steps.specs.Positions.{ArePositions, IsPosition, counter_at, counters_at}
-use Rattle.eevdf_steps.proofs.Holders.{number_cases}
 
 get_counter : (plan : Plan) (p : ℕ) (ats : List Position) (k : ℕ) (d : Position) → k < length ats
     → get_or (counters_at plan p ats) k 0 ≡ counter_at plan (p + k) (get_or ats k d)
@@ -46,7 +46,7 @@ step_kept plan ats k cpu a same h e all =
 
 pub positions_with : (plan : Plan) (ats : List Position) (k : ℕ) (a : Position) → k < length ats → IsPosition plan k a → ArePositions plan ats → ArePositions plan (set ats k a)
 positions_with plan ats k a h new all c d below =
-    elim (number_cases c k) [
+    elim (cases_eq c k) [
       | inl same ↦ subst (λ (i : ℕ). IsPosition plan i (get_or (set ats k a) i d)) (sym same)
           (subst (λ (b : Position). IsPosition plan k b) (sym (get_or-set_same ats k a d h)) new)
       | inr apart ↦ subst (λ (b : Position). IsPosition plan c b) (sym (get_or-set_other ats k c a d apart)) (all c d (omega (arith, length-set ats k a)))

@@ -1,17 +1,17 @@
 -- What becomes of the locks at a step.
-use Rattle.std.proofs.Common.{◌≡◌, ◌≢◌, ℕ, zero, suc, ◌+◌, ◌-◌, ◌<◌, ◌≤◌, Bool, true, false, cond, List, [], ◌∷◌, ◌++◌, length, take, drop, get_or, set, replicate, inl, inr, ◌⊎◌, sym, ap, subst, ◌∙◌, arith, refl}
-use Rattle.std.proofs.lemmas.{Bool.false≢true, Bool.cases_lt, Bool.Decides.nat_tests}
+use Rattle.std.proofs.Common.{◌≡◌, ◌≢◌, ℕ, zero, suc, ◌+◌, ◌-◌, ◌<◌, ◌≤◌, Bool, true, false, cond, List, [], ◌∷◌, ◌++◌, length, take, drop, get_or, set, replicate, inl, inr, sym, ap, subst, ◌∙◌, arith, refl}
+use Rattle.std.proofs.lemmas.Bool.{false≢true, cases_lt, and_parts, ltb-true, cases_eq, ne_eqb, eq-eqb, eqb-true, eqb-false}
 use Rattle.std.proofs.lemmas.List.{get_or-set_same, get_or-set_other, get_or_default}
-use Rattle.std.proofs.Math.{ListN.length-set, ListN.length-replicate, Seq.take-append_seam}
+use Rattle.std.proofs.{Math.ListN.length-set, Math.ListN.length-replicate, Math.Seq.take-append_seam}
 use Rattle.std.specs.Prelude.{slice_get, nat_lt, ◌==◌, Option, Some, None}
 use Rattle.eevdf_ops.specs.declared.deeds.Op.{Op}
-use Rattle.eevdf_steps.specs.declared.{micro.Micro.Micro, plan.Step.Step}
-use Rattle.eevdf_steps.specs.declared.micro.Micro.TheVariants.{Acquire, Release}
-use Rattle.eevdf_steps.specs.{Plan.Plan, Plan.callers, Plan.is_sound_op, MicroSteps.steps_by, MicroSteps.steps_of}
+use Rattle.eevdf_steps.specs.{declared.micro.Micro.Micro, declared.plan.Step.Step, declared.micro.Micro.TheVariants.Acquire}
+use Rattle.eevdf_steps.specs.{declared.micro.Micro.TheVariants.Release, MicroSteps.steps_by, MicroSteps.steps_of}
 use Rattle.eevdf_steps.specs.{Orders.counters_at_start, SoundSteps.is_sound_micro, SoundSteps.is_sound_step}
+use Rattle.eevdf_steps.specs.Plan.{Plan, callers, is_sound_op}
 use Rattle.eevdf_steps.specs.Counters.{Counters, blocked_by, count_of, counted, held_after, held_by_steps, holder, holds, least, refused, step_next}
 use Rattle.eevdf_steps.specs.Holders.{AreHolders, given_up, holders_after, is_holder, names_lock}
-use Rattle.eevdf_steps.proofs.{Lists.both, Lists.true_lt, Plans.programs_past}
+use Rattle.eevdf_steps.proofs.Plans.{programs_past}
 
 pub take_next : {A : Type 0} (xs : List A) (k : ℕ) (x : A) → slice_get xs k ≡ Some x → take (suc k) xs ≡ take k xs ++ x ∷ []
 take_next [] k x e = cc
@@ -46,13 +46,9 @@ least_none : (from n : ℕ) → least (is_holder None) from n ≡ None
 least_none from zero = refl
 least_none from (suc n) = least_none (from + 1) n
 
-eq_test : (a b : ℕ) (x : Bool) → (a == b) ≡ x → cond x (a ≡ b) (a ≢ b)
-eq_test a b true e = grind (arith, nat_tests)
-eq_test a b false e = λ same. false≢true (sym e ∙ grind (arith, nat_tests))
-
 least_step : (q from : ℕ) (rest : Option ℕ) (b : Bool) → (q == from) ≡ b → (q ≢ from → rest ≡ Some q) → cond b (Some from) rest ≡ Some q
-least_step q from rest true e later = ap (λ (k : ℕ). Some k) (sym (eq_test q from true e))
-least_step q from rest false e later = later (eq_test q from false e)
+least_step q from rest true e later = ap (λ (k : ℕ). Some k) (sym (eqb-true q from e))
+least_step q from rest false e later = later (eqb-false q from e)
 
 least_some : (q from n : ℕ) → from ≤ q → q < from + n → least (is_holder (Some q)) from n ≡ Some q
 least_some q from zero low high = absurd (omega arith)
@@ -68,19 +64,13 @@ pub nobody_past : (plan : Plan) (counters : Counters) (cpu p : ℕ) → callers 
 nobody_past plan counters cpu p h =
     subst (λ (os : List Op). held_by_steps cpu false (take (count_of counters p) (steps_of plan p os)) ≡ false) (sym (programs_past plan.programs p h)) (taken_none cpu (count_of counters p))
 
-pub same_number : (q : ℕ) → (q == q) ≡ true
-same_number q = grind (arith, nat_tests)
-
-pub other_number : (a b : ℕ) → a ≢ b → (a == b) ≡ false
-other_number a b h = grind (arith, nat_tests)
-
 holder_below : (plan : Plan) (counters : Counters) (holders : List (Option ℕ)) (cpu : ℕ) (h : Option ℕ) → cpu < callers plan → AreHolders plan counters holders
     → get_or holders cpu None ≡ h → least (is_holder h) 0 (callers plan) ≡ h
 holder_below plan counters holders cpu None k a e = least_none 0 (callers plan)
 holder_below plan counters holders cpu (Some q) k a e =
     elim (cases_lt q (callers plan)) [
       | inl below ↦ least_some q 0 (callers plan) (omega arith) (omega arith)
-      | inr past ↦ absurd (false≢true (sym (nobody_past plan counters cpu q past) ∙ a.held cpu q k ∙ ap (λ (o : Option ℕ). is_holder o q) e ∙ same_number q))
+      | inr past ↦ absurd (false≢true (sym (nobody_past plan counters cpu q past) ∙ a.held cpu q k ∙ ap (λ (o : Option ℕ). is_holder o q) e ∙ eq-eqb q q refl))
     ]
 
 -- the holder that is written down is the holder
@@ -89,13 +79,6 @@ pub holder_is : (plan : Plan) (counters : Counters) (holders : List (Option ℕ)
 holder_is plan counters holders cpu k a =
     least_same (holds plan counters cpu) (is_holder (get_or holders cpu None)) 0 (callers plan) (λ p. a.held cpu p k)
     ∙ holder_below plan counters holders cpu (get_or holders cpu None) k a refl
-
-same_or_not : (a b : ℕ) (x : Bool) → (a == b) ≡ x → (a ≡ b) ⊎ (a ≢ b)
-same_or_not a b true e = inl (eq_test a b true e)
-same_or_not a b false e = inr (eq_test a b false e)
-
-pub number_cases : (a b : ℕ) → (a ≡ b) ⊎ (a ≢ b)
-number_cases a b = same_or_not a b (a == b) refl
 
 -- what a step of a caller does to its own hold of a lock
 abbrev Follows : Plan → Counters → ℕ → Micro → Type 0
@@ -114,13 +97,13 @@ elsewhere plan counters holders p c cpu q h apart here same =
 own_or_other : (plan : Plan) (counters : Counters) (p cpu q : ℕ) (m : Micro) → Follows plan counters p m → held_after cpu (holds plan counters cpu p) m ≡ holds plan counters cpu p
     → holds plan (counted counters p) cpu q ≡ holds plan counters cpu q
 own_or_other plan counters p cpu q m follows still =
-    elim (number_cases q p) [
+    elim (cases_eq q p) [
       | inl same ↦ subst (λ (r : ℕ). holds plan (counted counters p) cpu r ≡ holds plan counters cpu r) (sym same) (follows cpu ∙ still)
       | inr apart ↦ holds_other plan counters cpu p q apart
     ]
 
 other_lock : (c cpu : ℕ) (a held : Bool) → cpu ≢ c → cond (c == cpu) a held ≡ held
-other_lock c cpu a held apart = ap (λ (b : Bool). cond b a held) (other_number c cpu (λ same. apart (sym same)))
+other_lock c cpu a held apart = ap (λ (b : Bool). cond b a held) (ne_eqb c cpu (λ same. apart (sym same)))
 
 at_lock : (plan : Plan) (counters : Counters) (holders : List (Option ℕ)) (p c q : ℕ) (h : Option ℕ) → c < length holders
     → holds plan (counted counters p) c q ≡ is_holder h q → Matches plan (counted counters p) (set holders c h) c q
@@ -129,10 +112,10 @@ at_lock plan counters holders p c q h within e = e ∙ ap (λ (o : Option ℕ). 
 acquires_at : (plan : Plan) (counters : Counters) (p c q : ℕ) → Follows plan counters p (Acquire c) → holds plan counters c q ≡ false
     → holds plan (counted counters p) c q ≡ is_holder (Some p) q
 acquires_at plan counters p c q follows free =
-    elim (number_cases q p) [
+    elim (cases_eq q p) [
       | inl same ↦ subst (λ (r : ℕ). holds plan (counted counters p) c r ≡ (p == r)) (sym same)
-          (follows c ∙ ap (λ (b : Bool). cond b true (holds plan counters c p)) (same_number c) ∙ sym (same_number p))
-      | inr apart ↦ holds_other plan counters c p q apart ∙ free ∙ sym (other_number p q (λ same. apart (sym same)))
+          (follows c ∙ ap (λ (b : Bool). cond b true (holds plan counters c p)) (eq-eqb c c refl) ∙ sym (eq-eqb p p refl))
+      | inr apart ↦ holds_other plan counters c p q apart ∙ free ∙ sym (ne_eqb p q (λ same. apart (sym same)))
     ]
 
 pub acquired : (plan : Plan) (counters : Counters) (holders : List (Option ℕ)) (p c : ℕ) → AreHolders plan counters holders → Follows plan counters p (Acquire c)
@@ -140,7 +123,7 @@ pub acquired : (plan : Plan) (counters : Counters) (holders : List (Option ℕ))
 acquired plan counters holders p c a follows below free = record {
   each = length-set holders c (Some p) ∙ a.each;
   held = λ cpu q k.
-      elim (number_cases cpu c) [
+      elim (cases_eq cpu c) [
         | inl same ↦ subst (λ (r : ℕ). Matches plan (counted counters p) (set holders c (Some p)) r q) (sym same)
             (at_lock plan counters holders p c q (Some p) (omega (arith, a.each))
             (acquires_at plan counters p c q follows (a.held c q below ∙ ap (λ (o : Option ℕ). is_holder o q) free)))
@@ -152,7 +135,7 @@ acquired plan counters holders p c a follows below free = record {
 gives_up : (h : Option ℕ) (p q : ℕ) (b : Bool) → is_holder h p ≡ b → q ≢ p → is_holder h q ≡ is_holder (cond b None h) q
 gives_up h p q false e apart = refl
 gives_up None p q true e apart = refl
-gives_up (Some r) p q true e apart = let same : r ≡ p = eq_test r p true e in other_number r q (λ k. apart (sym k ∙ same))
+gives_up (Some r) p q true e apart = let same : r ≡ p = eqb-true r p e in ne_eqb r q (λ k. apart (sym k ∙ same))
 
 gave_up : (h : Option ℕ) (p : ℕ) (b : Bool) → is_holder h p ≡ b → false ≡ is_holder (cond b None h) p
 gave_up h p true e = refl
@@ -161,9 +144,9 @@ gave_up h p false e = sym e
 releases_at : (plan : Plan) (counters : Counters) (p c q : ℕ) (h : Option ℕ) → Follows plan counters p (Release c) → holds plan counters c q ≡ is_holder h q
     → holds plan (counted counters p) c q ≡ is_holder (given_up h p) q
 releases_at plan counters p c q h follows here =
-    elim (number_cases q p) [
+    elim (cases_eq q p) [
       | inl same ↦ subst (λ (r : ℕ). holds plan (counted counters p) c r ≡ is_holder (given_up h p) r) (sym same)
-          (follows c ∙ ap (λ (b : Bool). cond b false (holds plan counters c p)) (same_number c) ∙ gave_up h p (is_holder h p) refl)
+          (follows c ∙ ap (λ (b : Bool). cond b false (holds plan counters c p)) (eq-eqb c c refl) ∙ gave_up h p (is_holder h p) refl)
       | inr apart ↦ holds_other plan counters c p q apart ∙ here ∙ gives_up h p q (is_holder h p) refl apart
     ]
 
@@ -172,7 +155,7 @@ pub released : (plan : Plan) (counters : Counters) (holders : List (Option ℕ))
 released plan counters holders p c a follows below = record {
   each = length-set holders c (given_up (get_or holders c None) p) ∙ a.each;
   held = λ cpu q k.
-      elim (number_cases cpu c) [
+      elim (cases_eq cpu c) [
         | inl same ↦ subst (λ (r : ℕ). Matches plan (counted counters p) (set holders c (given_up (get_or holders c None) p)) r q) (sym same)
             (at_lock plan counters holders p c q (given_up (get_or holders c None) p) (omega (arith, a.each))
             (releases_at plan counters p c q (get_or holders c None) follows (a.held c q below)))
@@ -196,16 +179,16 @@ not_blocked cpu (Some q) e = cc
 holders_step : (plan : Plan) (counters : Counters) (holders : List (Option ℕ)) (p : ℕ) (m : Micro) → AreHolders plan counters holders → Follows plan counters p m
     → is_sound_micro plan m ≡ true → refused plan counters m ≡ None → AreHolders plan (counted counters p) (holders_after p m holders)
 holders_step plan counters holders p (Acquire c) a follows sound free =
-    let below : c < callers plan = true_lt c (callers plan) sound in
+    let below : c < callers plan = ltb-true c (callers plan) sound in
     acquired plan counters holders p c a follows below (sym (holder_is plan counters holders c below a) ∙ not_blocked c (holder plan counters c) free)
-holders_step plan counters holders p (Release c) a follows sound free = released plan counters holders p c a follows (true_lt c (callers plan) sound)
+holders_step plan counters holders p (Release c) a follows sound free = released plan counters holders p c a follows (ltb-true c (callers plan) sound)
 holders_step plan counters holders p m a follows sound free = kept plan counters holders p m a follows (λ cpu b. refl)
 
 pub holders_next : (plan : Plan) (counters : Counters) (holders : List (Option ℕ)) (p : ℕ) (s : Step) → AreHolders plan counters holders → p < length counters
     → step_next plan counters p ≡ Some s → is_sound_step plan s ≡ true → refused plan counters s.micro ≡ None
     → AreHolders plan (counted counters p) (holders_after p s.micro holders)
 holders_next plan counters holders p s a h e sound free =
-    holders_step plan counters holders p s.micro a (λ cpu. holds_own plan counters cpu p s h e) (both (is_sound_op plan s.op) (is_sound_micro plan s.micro) sound).1 free
+    holders_step plan counters holders p s.micro a (λ cpu. holds_own plan counters cpu p s h e) (and_parts (is_sound_op plan s.op) (is_sound_micro plan s.micro) sound).1 free
 
 -- at the start nobody holds a lock
 pub count_first : (n p : ℕ) → ◌≡◌ {A = ℕ} (get_or (replicate n 0) p 0) 0

@@ -1,17 +1,18 @@
 -- Where a lawful order leads, and where a complete one ends.
 use Rattle.std.proofs.Common.{◌≡◌, ℕ, ◌+◌, ◌<◌, ◌≤◌, Bool, true, false, ◌&&◌, cond, List, [], ◌∷◌, length, inl, inr, sym, ap, subst, ◌∙◌, arith, refl}
 use Rattle.std.proofs.Math.ListN.{length-set}
-use Rattle.std.proofs.lemmas.{Bool.cases_lt, Bool.false≢true, Bool.Decides.nat_tests, Option.none-some}
+use Rattle.std.proofs.lemmas.Bool.{cases_lt, false≢true, and_parts}
+use Rattle.std.proofs.lemmas.{Bool.Decides.nat_tests, Option.none-some}
 use Rattle.std.specs.Prelude.{nat_lt, is_none, is_some, Option, Some, None}
 use Rattle.std.specs.Option.{option_map}
-use Rattle.eevdf_steps.specs.declared.{plan.Step.Step, step_fault.StepFault.StepFault, play_fault.PlayFault.PlayFault}
-use Rattle.eevdf_steps.specs.declared.step_fault.StepFault.TheVariants.{NoCaller, Done}
-use Rattle.eevdf_steps.specs.declared.play_fault.PlayFault.TheVariants.{Short, TooLong}
-use Rattle.eevdf_steps.specs.Plan.{Plan, callers}
+use Rattle.eevdf_steps.specs.{declared.plan.Step.Step, declared.step_fault.StepFault.StepFault}
+use Rattle.eevdf_steps.specs.{declared.play_fault.PlayFault.PlayFault, declared.step_fault.StepFault.TheVariants.NoCaller}
+use Rattle.eevdf_steps.specs.{declared.step_fault.StepFault.TheVariants.Done, declared.play_fault.PlayFault.TheVariants.Short}
+use Rattle.eevdf_steps.specs.{declared.play_fault.PlayFault.TheVariants.TooLong, Plan.Plan, Plan.callers}
 use Rattle.eevdf_steps.specs.Counters.{Counters, count_of, counted, is_under_way, may_step, refusal, refused_next, step_next, unfinished}
 use Rattle.eevdf_steps.specs.Orders.{IsWhole, WholeIsPlayed, counters_after, counters_at_start, fault_at, fault_or, is_lawful, most_places, order_fault}
 use Rattle.eevdf_steps.specs.Requests.{Progress, progress_after, progress_by, progress_step}
-use Rattle.eevdf_steps.proofs.{Plans.no_step, Lists.both, Ready.least_there}
+use Rattle.eevdf_steps.proofs.{Plans.no_step, Ready.least_there}
 
 -- where a step isn't refused there is one
 not_refused : (plan : Plan) (counters : Counters) (p : ℕ) (r : Option Step) (b : Bool)
@@ -35,8 +36,7 @@ pub counters_lawful : (plan : Plan) (g : Progress) (order : List ℕ) → is_law
     → (progress_after plan g order).counters ≡ counters_after g.counters order
 counters_lawful plan g [] lawful = refl
 counters_lawful plan g (p ∷ order) lawful =
-    let parts : (may_step plan g.counters p ≡ true) × (is_lawful plan (counted g.counters p) order ≡ true)
-    = both (may_step plan g.counters p) (is_lawful plan (counted g.counters p) order) lawful in
+    let parts = and_parts (may_step plan g.counters p) (is_lawful plan (counted g.counters p) order) lawful in
     let here : (progress_step plan g p).counters ≡ counted g.counters p = counters_step plan g p (none_of (refusal plan g.counters p) parts.0) in
     counters_lawful plan (progress_step plan g p) order (subst (λ (cs : Counters). is_lawful plan cs order ≡ true) (sym here) parts.1)
     ∙ ap (λ (cs : Counters). counters_after cs order) here
@@ -68,8 +68,7 @@ no_short (Some p) e = cc
 pub whole_faultless : (plan : Plan) (counters : Counters) (at : ℕ) (order : List ℕ) → IsWhole plan counters order → order_fault plan counters at order ≡ None
 whole_faultless plan counters at [] w = no_short (unfinished plan counters) w.complete
 whole_faultless plan counters at (p ∷ order) w =
-    let parts : (may_step plan counters p ≡ true) × (is_lawful plan (counted counters p) order ≡ true)
-    = both (may_step plan counters p) (is_lawful plan (counted counters p) order) w.lawful in
+    let parts = and_parts (may_step plan counters p) (is_lawful plan (counted counters p) order) w.lawful in
     ap (λ (f : Option StepFault). fault_or at f (order_fault plan (counted counters p) (at + 1) order)) (none_of (refusal plan counters p) parts.0)
     ∙ whole_faultless plan (counted counters p) (at + 1) order (record { lawful = parts.1; complete = w.complete })
 

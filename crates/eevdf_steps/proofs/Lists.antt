@@ -1,8 +1,8 @@
 -- Elements of lists by their places.
-use Rattle.std.proofs.Common.{◌≡◌, ℕ, zero, suc, ◌+◌, ◌<◌, ◌≤◌, Bool, true, false, ◌&&◌, List, [], ◌∷◌, ◌++◌, length, drop, get_or, ap, ◌∙◌, arith, refl}
-use Rattle.std.proofs.lemmas.{Bool.false≢true, Option.slice_get_within, Bool.Decides.nat_tests}
+use Rattle.std.proofs.Common.{◌≡◌, ℕ, zero, suc, ◌+◌, ◌<◌, ◌≤◌, Bool, true, List, [], ◌∷◌, ◌++◌, length, drop, get_or, ap, ◌∙◌, arith, refl}
+use Rattle.std.proofs.lemmas.Bool.{and_parts}
 use Rattle.std.specs.List.{list_all}
-use Rattle.std.specs.Prelude.{slice_get, nat_lt, nat_le, ◌==◌, Some, None}
+use Rattle.std.specs.Prelude.{slice_get, Some, None}
 
 pub get_left : {A : Type 0} (xs ys : List A) (k : ℕ) → k < length xs → slice_get (xs ++ ys) k ≡ slice_get xs k
 get_left [] ys k h = absurd (omega arith)
@@ -14,29 +14,10 @@ get_right [] ys k = ap (λ (i : ℕ). slice_get ys i) (let e : 0 + k ≡ k = ome
 get_right (x ∷ xs) ys k =
     ap (λ (i : ℕ). slice_get (x ∷ xs ++ ys) i) (let e : suc (length xs) + k ≡ suc (length xs + k) = omega arith in e) ∙ get_right xs ys k
 
-pub both : (a b : Bool) → (a && b) ≡ true → (a ≡ true) × (b ≡ true)
-both true b h = (refl, h)
-both false b h = absurd (false≢true h)
-
 pub all_at : {A : Type 0} (test : A → Bool) (xs : List A) (k : ℕ) (d : A) → list_all test xs ≡ true → k < length xs → test (get_or xs k d) ≡ true
 all_at test [] k d all h = absurd (omega arith)
-all_at test (x ∷ xs) zero d all h = (both (test x) (list_all test xs) all).0
-all_at test (x ∷ xs) (suc k) d all h = all_at test xs k d (both (test x) (list_all test xs) all).1 (omega arith)
-
-pub lt_true : (a b : ℕ) → a < b → nat_lt a b ≡ true
-lt_true a b h = grind (arith, nat_tests)
-
-pub true_lt : (a b : ℕ) → nat_lt a b ≡ true → a < b
-true_lt a b h = grind (arith, nat_tests)
-
-pub true_eq : (a b : ℕ) → (a == b) ≡ true → a ≡ b
-true_eq a b h = grind (arith, nat_tests)
-
-pub true_le : (a b : ℕ) → nat_le a b ≡ true → a ≤ b
-true_le a b h = grind (arith, nat_tests)
-
-pub got_within : {A : Type 0} (xs : List A) (k : ℕ) (x : A) → slice_get xs k ≡ Some x → k < length xs
-got_within xs k x h = slice_get_within xs k x h
+all_at test (x ∷ xs) zero d all h = (and_parts (test x) (list_all test xs) all).0
+all_at test (x ∷ xs) (suc k) d all h = all_at test xs k d (and_parts (test x) (list_all test xs) all).1 (omega arith)
 
 pub got_past : {A : Type 0} (xs : List A) (k : ℕ) → slice_get xs k ≡ None → length xs ≤ k
 got_past [] k h = omega arith

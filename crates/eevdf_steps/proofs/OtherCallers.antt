@@ -1,14 +1,14 @@
 -- A step of one caller leaves all others as they are, and what they see.
 use Rattle.std.proofs.Common.{◌≡◌, ◌≢◌, ℕ, ◌+◌, Bool, true, false, length, sym, ap, subst, ◌∙◌, inl, inr, refl}
-use Rattle.std.proofs.lemmas.{Bool.false≢true, List.get_or-set_other}
+use Rattle.std.proofs.lemmas.{Bool.false≢true, Bool.cases_eq, List.get_or-set_other}
 use Rattle.std.specs.Prelude.{slice_get, Option, Some, None}
 use Rattle.eevdf_ops.specs.{declared.deeds.Answer.Answer, Machine.Machine, Machine.queue_at}
-use Rattle.eevdf_steps.specs.declared.plan.Step.{Step}
-use Rattle.eevdf_steps.specs.{Plan.Plan, Plan.callers, MicroSteps.steps_by, Work.Work, Work.answer, Work.hand}
+use Rattle.eevdf_steps.specs.{declared.plan.Step.Step, Plan.Plan, Plan.callers, MicroSteps.steps_by}
+use Rattle.eevdf_steps.specs.Work.{Work, answer, hand}
 use Rattle.eevdf_steps.specs.Counters.{Counters, count_of, counted, holds, step_next}
 use Rattle.eevdf_steps.specs.UnderWay.{KeepsAnswer, UnderWay, hand_seen, queue_seen, under_way}
 use Rattle.eevdf_steps.specs.Serial.{IsFree, FollowsHistory, begun_by}
-use Rattle.eevdf_steps.proofs.{Holders.holds_other, Holders.number_cases, Walks.Walk}
+use Rattle.eevdf_steps.proofs.{Holders.holds_other, Walks.Walk}
 use Rattle.eevdf_steps.proofs.Begun.{FitsAll, SeenAlike, Standing, seen_alike, standing}
 
 pub next_other : (plan : Plan) (counters : Counters) (p q : ℕ) → q ≢ p → step_next plan (counted counters p) q ≡ step_next plan counters q
@@ -75,7 +75,7 @@ begun_other plan counters p q apart = ap (λ (o : Option Step). under_way q o) (
 held_then : (plan : Plan) (counters : Counters) (p : ℕ) (m m' : Machine) (w w' : Work) → FollowsHistory plan m counters w → AreWalking plan counters → IsStepOf plan counters p m m' w w'
     → (c q : ℕ) → holds plan (counted counters p) c q ≡ true → queue_at w'.machine c ≡ queue_seen plan.homes m' (begun_by plan (counted counters p) q) c
 held_then plan counters p m m' w w' r walking s c q h =
-    elim (number_cases q p) [
+    elim (cases_eq q p) [
       | inl same ↦ subst (λ (k : ℕ). queue_at w'.machine c ≡ queue_seen plan.homes m' (begun_by plan (counted counters p) k) c) (sym same)
           (s.own c (ap (λ (k : ℕ). holds plan (counted counters p) c k) (sym same) ∙ h))
       | inr apart ↦
@@ -88,7 +88,7 @@ held_then plan counters p m m' w w' r walking s c q h =
 hands_then : (plan : Plan) (counters : Counters) (p : ℕ) (m m' : Machine) (w w' : Work) → FollowsHistory plan m counters w → AreWalking plan counters → IsStepOf plan counters p m m' w w'
     → (q : ℕ) → hand w' q ≡ hand_seen plan.homes m' (begun_by plan (counted counters p) q)
 hands_then plan counters p m m' w w' r walking s q =
-    elim (number_cases q p) [
+    elim (cases_eq q p) [
       | inl same ↦ subst (λ (k : ℕ). hand w' k ≡ hand_seen plan.homes m' (begun_by plan (counted counters p) k)) (sym same) s.own_hand
       | inr apart ↦
           s.hands q apart ∙ r.hands q ∙ (other_alike plan counters p q m m' w w' apart r walking s).hand
@@ -98,7 +98,7 @@ hands_then plan counters p m m' w w' r walking s q =
 answers_then : (plan : Plan) (counters : Counters) (p : ℕ) (m m' : Machine) (w w' : Work) → FollowsHistory plan m counters w → AreWalking plan counters → IsStepOf plan counters p m m' w w'
     → (q : ℕ) → KeepsAnswer plan.homes m' (begun_by plan (counted counters p) q) (answer w' q)
 answers_then plan counters p m m' w w' r walking s q =
-    elim (number_cases q p) [
+    elim (cases_eq q p) [
       | inl same ↦ subst (λ (k : ℕ). KeepsAnswer plan.homes m' (begun_by plan (counted counters p) k) (answer w' k)) (sym same) s.own_answer
       | inr apart ↦
           subst (λ (o : Option UnderWay). KeepsAnswer plan.homes m' o (answer w' q)) (sym (begun_other plan counters p q apart))
@@ -112,7 +112,7 @@ free_by : (plan : Plan) (counters : Counters) (p : ℕ) (m m' : Machine) (w w' :
 free_by plan counters p m m' w w' c true r s free e = s.released c e (free p)
 free_by plan counters p m m' w w' c false r s free e =
     let before : IsFree plan counters c = λ q.
-    elim (number_cases q p) [
+    elim (cases_eq q p) [
       | inl same ↦ ap (λ (k : ℕ). holds plan counters c k) same ∙ e
       | inr apart ↦ sym (holds_other plan counters c p q apart) ∙ free q
     ] in
@@ -128,15 +128,15 @@ alone_by plan counters p m m' w w' c q false r s apart h k e =
 alone_then : (plan : Plan) (counters : Counters) (p : ℕ) (m m' : Machine) (w w' : Work) → FollowsHistory plan m counters w → IsStepOf plan counters p m m' w w'
     → (c q r : ℕ) → holds plan (counted counters p) c q ≡ true → holds plan (counted counters p) c r ≡ true → q ≡ r
 alone_then plan counters p m m' w w' red s c q r h k =
-    elim (number_cases q p) [
+    elim (cases_eq q p) [
       | inl same ↦
-          elim (number_cases r p) [
+          elim (cases_eq r p) [
             | inl also ↦ same ∙ sym also
             | inr apart ↦ same ∙ sym (alone_by plan counters p m m' w w' c r (holds plan counters c p) red s apart k
                 (ap (λ (i : ℕ). holds plan (counted counters p) c i) (sym same) ∙ h) refl)
           ]
       | inr apart ↦
-          elim (number_cases r p) [
+          elim (cases_eq r p) [
             | inl also ↦ alone_by plan counters p m m' w w' c q (holds plan counters c p) red s apart h
                 (ap (λ (i : ℕ). holds plan (counted counters p) c i) (sym also) ∙ k) refl ∙ sym also
             | inr apart' ↦ red.alone c q r (sym (holds_other plan counters c p q apart) ∙ h) (sym (holds_other plan counters c p r apart') ∙ k)

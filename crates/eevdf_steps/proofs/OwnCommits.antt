@@ -1,19 +1,22 @@
 -- What a commit makes of the history, and of what the caller sees.
 use Rattle.std.proofs.Common.{◌≡◌, ℕ, true, List, [], ◌∷◌, ◌++◌, length, set, sym, ap, subst, ◌∙◌, refl, arith}
-use Rattle.std.proofs.lemmas.{Bool.false≢true, List.get_or-set_same, List.map-append}
+use Rattle.std.proofs.lemmas.Bool.{false≢true, eqb-true, eq-eqb}
+use Rattle.std.proofs.lemmas.List.{get_or-set_same, map-append}
 use Rattle.std.proofs.Math.ListN.{length-set}
 use Rattle.std.specs.Prelude.{◌==◌, Option, Some, None}
 use Rattle.eevdf_queue.specs.State.{State, empty_state}
-use Rattle.eevdf_ops.specs.declared.deeds.{Op.Op, Deed.Deed, Answer.Answer, Line.Line}
-use Rattle.eevdf_ops.specs.declared.deeds.Deed.TheVariants as deed
+use Rattle.eevdf_ops.specs.{declared.deeds.Op.Op, declared.deeds.Deed.Deed, declared.deeds.Answer.Answer, declared.deeds.Line.Line}
 use Rattle.eevdf_ops.specs.{Machine.Machine, Machine.queue_at, OneQueue.one_wake, Programs.deed_of, Programs.deeds_of}
-use Rattle.eevdf_ops.specs.{Whole.lines_of, Whole.machine_after, Whole.whole, Histories.AreHistory, Histories.machine_told}
+use Rattle.eevdf_ops.specs.Histories.{AreHistory, machine_told}
+use Rattle.eevdf_ops.specs.declared.deeds.Deed.TheVariants as deed
+use Rattle.eevdf_ops.specs.Whole.{lines_of, machine_after, whole}
 use Rattle.eevdf_ops.proofs.{LocalParts.others_stay, MachinePlaces.other_queue, WholePlaces.length-whole}
-use Rattle.eevdf_steps.specs.declared.micro.Micro.TheVariants.{Commit, Settle}
-use Rattle.eevdf_steps.specs.{Plan.Plan, Work.Work, Work.answer, Work.woken, Serial.begun_by}
+use Rattle.eevdf_steps.specs.{declared.micro.Micro.TheVariants.Commit, declared.micro.Micro.TheVariants.Settle, Plan.Plan}
+use Rattle.eevdf_steps.specs.Serial.{begun_by}
+use Rattle.eevdf_steps.specs.Work.{Work, answer, woken}
 use Rattle.eevdf_steps.specs.Counters.{Counters, counted, holds, step_next}
 use Rattle.eevdf_steps.specs.UnderWay.{KeepsAnswer, UnderWay, begun, hand_seen, queue_seen}
-use Rattle.eevdf_steps.proofs.{Holders.same_number, Lists.true_eq, Begun.holds_touched, OtherCallers.IsStepOf, OwnWork.not_own}
+use Rattle.eevdf_steps.proofs.{Begun.holds_touched, OtherCallers.IsStepOf, OwnWork.not_own}
 use Rattle.eevdf_steps.proofs.OwnSteps.{AtStep, SameLocks, begun_now, fresh_begun, holds_nothing, same_locks, sees_history, still}
 
 lines_of-more : (homes : List ℕ) (m : Machine) (ds : List Deed) (d : Deed)
@@ -80,11 +83,11 @@ settle_step plan counters p q t m w o at covers =
     let before : begun_by plan counters p ≡ None = begun_now plan counters p o (Settle q) at.next in
     let after : begun_by plan (counted counters p) p ≡ None = fresh_begun p (step_next plan (counted counters p) p) at.fits.fresh in
     let same : SameLocks plan counters p = same_locks plan counters p o (Settle q) at.counter at.next (λ c b. refl) in
-    let own : holds plan counters p p ≡ true = covers p ∙ same_number p in
+    let own : holds plan counters p p ≡ true = covers p ∙ eq-eqb p p refl in
     let here : queue_at w.machine p ≡ queue_at m p = sees_history plan counters p m w at.seen before p own in
     let there : (c : ℕ) → holds plan counters c p ≡ true → queue_at (woken w p t).machine c ≡ queue_at (whole plan.homes (deed.Wake p t q) m).1 c
     = λ c h. subst (λ (k : ℕ). queue_at (set w.machine p (one_wake (queue_at w.machine p) t).1) k ≡ queue_at (set m p (one_wake (queue_at m p) t).1) k)
-    (sym (true_eq c p (sym (covers c) ∙ h)))
+    (sym (eqb-true c p (sym (covers c) ∙ h)))
     (get_or-set_same w.machine p (one_wake (queue_at w.machine p) t).1 empty_state (omega (arith, at.caller, at.queues))
     ∙ ap (λ (x : State). (one_wake x t).1) here
     ∙ sym (get_or-set_same m p (one_wake (queue_at m p) t).1 empty_state (omega (arith, at.caller, at.long)))) in
@@ -107,4 +110,4 @@ pub settle_answer : (plan : Plan) (counters : Counters) (p q t : ℕ) (m : Machi
     → ((c : ℕ) → holds plan counters c p ≡ (c == p)) → (one_wake (queue_at w.machine p) t).0 ≡ (whole plan.homes (deed.Wake p t q) m).0
 settle_answer plan counters p q t m w o at covers =
     ap (λ (x : State). (one_wake x t).0)
-    (sees_history plan counters p m w at.seen (begun_now plan counters p o (Settle q) at.next) p (covers p ∙ same_number p))
+    (sees_history plan counters p m w at.seen (begun_now plan counters p o (Settle q) at.next) p (covers p ∙ eq-eqb p p refl))

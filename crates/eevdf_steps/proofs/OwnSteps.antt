@@ -1,15 +1,15 @@
 -- What a step of a caller makes of the queues that it holds, of its hand and of its answer.
 use Rattle.std.proofs.Common.{◌≡◌, ◌≢◌, ◌⊎◌, inl, inr, ℕ, ◌<◌, Bool, true, false, cond, List, length, sym, ap, subst, ◌∙◌, refl}
-use Rattle.std.proofs.lemmas.Bool.{false≢true}
+use Rattle.std.proofs.lemmas.Bool.{false≢true, eqb-true}
 use Rattle.std.specs.Prelude.{◌==◌, Option, Some, None}
 use Rattle.eevdf_ops.specs.{declared.deeds.Op.Op, declared.deeds.Answer.Answer, Machine.Machine, Machine.queue_at}
-use Rattle.eevdf_steps.specs.declared.{micro.Micro.Micro, plan.Step.Step}
-use Rattle.eevdf_steps.specs.{Plan.Plan, Plan.callers, Work.Work, Work.answer, Work.hand}
+use Rattle.eevdf_steps.specs.{declared.micro.Micro.Micro, declared.plan.Step.Step, Plan.Plan, Plan.callers}
+use Rattle.eevdf_steps.specs.Work.{Work, answer, hand}
 use Rattle.eevdf_steps.specs.declared.micro.Micro.TheVariants.{Acquire, Attach, Commit, Release}
 use Rattle.eevdf_steps.specs.Counters.{Counters, counted, held_after, holds, step_next}
 use Rattle.eevdf_steps.specs.UnderWay.{KeepsAnswer, UnderWay, hand_seen, queue_seen, under_way, under_way_before}
 use Rattle.eevdf_steps.specs.Serial.{IsFree, FollowsHistory, begun_by}
-use Rattle.eevdf_steps.proofs.{Holders.holds_own, Lists.true_eq, Positions.step_in, OtherCallers.IsStepOf}
+use Rattle.eevdf_steps.proofs.{Holders.holds_own, Positions.step_in, OtherCallers.IsStepOf}
 use Rattle.eevdf_steps.proofs.Walks.{FitsMicro, Walk, is_fresh, is_fresh_micro}
 
 -- a caller before its next step, on the machine of the history
@@ -94,7 +94,7 @@ always true = refl
 always false = refl
 
 other_lock : (c k : ℕ) (x b : Bool) → (c == k) ≡ x → cond x true b ≡ true → (c ≡ k) ⊎ (b ≡ true)
-other_lock c k true b e h = inl (true_eq c k e)
+other_lock c k true b e h = inl (eqb-true c k e)
 other_lock c k false b e h = inr h
 
 -- a lock is acquired that nobody holds

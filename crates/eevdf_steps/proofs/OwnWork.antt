@@ -1,25 +1,27 @@
 -- What the caller's work on the queues comes to, seen from the machine of the history.
 use Rattle.std.proofs.Common.{◌≡◌, ◌≢◌, ℕ, ◌<◌, Bool, true, false, cond, List, length, set, sym, ap, subst, ◌∙◌, refl, arith}
-use Rattle.std.proofs.lemmas.{Bool.false≢true, List.get_or-set_same, List.get_or-set_other}
+use Rattle.std.proofs.lemmas.Bool.{false≢true, eqb-true, ne_eqb, eq-eqb}
+use Rattle.std.proofs.lemmas.List.{get_or-set_same, get_or-set_other}
 use Rattle.std.specs.Prelude.{◌==◌, IfSome, Option, Some, None, Result, Ok, Err}
-use Rattle.eevdf_queue.specs.{State.State, State.Contents, State.empty_state, Moves.put_asleep, Moves.sleeper_of}
-use Rattle.eevdf_queue.specs.{Leaving.carried_running, Leaving.leave, Placing.can_place}
-use Rattle.eevdf_ops.specs.declared.deeds.{Op.Op, Deed.Deed, Answer.Answer}
+use Rattle.eevdf_queue.specs.State.{State, Contents, empty_state}
+use Rattle.eevdf_queue.specs.{Moves.put_asleep, Moves.sleeper_of, Leaving.carried_running, Leaving.leave, Placing.can_place}
+use Rattle.eevdf_ops.specs.{declared.deeds.Op.Op, declared.deeds.Deed.Deed, declared.deeds.Answer.Answer}
+use Rattle.eevdf_ops.specs.{declared.deeds.Answer.TheVariants.NotRunning, declared.deeds.Answer.TheVariants.Pulled, Machine.Machine}
+use Rattle.eevdf_ops.specs.{Machine.queue_at, Whole.whole, WholeSleep.sleep_carrying, WholeSleep.slept}
 use Rattle.eevdf_ops.specs.declared.deeds.Op.TheVariants as op
 use Rattle.eevdf_ops.specs.declared.deeds.Deed.TheVariants as deed
-use Rattle.eevdf_ops.specs.declared.deeds.Answer.TheVariants.{NotRunning, Pulled}
-use Rattle.eevdf_ops.specs.{Machine.Machine, Machine.queue_at, Whole.whole, WholeSleep.sleep_carrying, WholeSleep.slept}
 use Rattle.eevdf_ops.specs.Parts.{after_leaving, after_falling_asleep, after_joining, giver, only_at, taken}
 use Rattle.eevdf_ops.specs.PartsLaws as laws
 use Rattle.eevdf_ops.specs.WholePull.{load_of, offer, pull_decided, with_task}
 use Rattle.eevdf_ops.proofs.LocalParts.{changed, idle, untaken, whole-after}
 use Rattle.eevdf_ops.proofs.{MachinePlaces.other_queue, Pulling.decided_at, Pulling.decision-taken}
 use Rattle.eevdf_steps.specs.declared.micro.Micro.TheVariants.{Act, Detach, Attach}
-use Rattle.eevdf_steps.specs.{Plan.Plan, Plan.callers, Plan.home, Counters.Counters, Counters.counted, Counters.holds}
+use Rattle.eevdf_steps.specs.Plan.{Plan, callers, home}
+use Rattle.eevdf_steps.specs.Counters.{Counters, counted, holds}
 use Rattle.eevdf_steps.specs.Serial.{begun_by}
 use Rattle.eevdf_steps.specs.Work.{Work, acted, answer, answered, attach_asleep, attach_pulled, detach_pulled, detach_running, detached, hand, put_down}
 use Rattle.eevdf_steps.specs.UnderWay.{KeepsAnswer, UnderWay, hand_seen, leaves, queue_seen}
-use Rattle.eevdf_steps.proofs.{Holders.other_number, Holders.same_number, Lists.true_eq, OtherCallers.IsStepOf}
+use Rattle.eevdf_steps.proofs.OtherCallers.{IsStepOf}
 use Rattle.eevdf_steps.proofs.OwnSteps.{AtStep, begun_now, holds_nothing, local_step, same_locks, sees_history}
 
 -- the deed is done on the caller's own queue alone
@@ -38,12 +40,12 @@ pub acted_step : (plan : Plan) (counters : Counters) (p : ℕ) (m : Machine) (w 
     → ActsThere plan.homes m p d f → IsStepOf plan counters p m m w (acted w p (f (queue_at w.machine p)))
 acted_step plan counters p m w o d f at covers now there =
     let before : begun_by plan counters p ≡ None = begun_now plan counters p o Act at.next in
-    let own : holds plan counters p p ≡ true = covers p ∙ same_number p in
+    let own : holds plan counters p p ≡ true = covers p ∙ eq-eqb p p refl in
     let here : queue_at w.machine p ≡ queue_at m p = sees_history plan counters p m w at.seen before p own in
     local_step plan counters p m w (acted w p (f (queue_at w.machine p))) o Act (Some (record { deed = d; done = true })) at
     (same_locks plan counters p o Act at.counter at.next (λ c b. refl)) now
     (λ c h. other_queue w.machine p c (f (queue_at w.machine p)).1 (not_own plan counters p c own h))
-    (λ c h. subst (λ (k : ℕ). queue_at (set w.machine p (f (queue_at w.machine p)).1) k ≡ queue_at (whole plan.homes d m).1 k) (sym (true_eq c p (sym (covers c) ∙ h)))
+    (λ c h. subst (λ (k : ℕ). queue_at (set w.machine p (f (queue_at w.machine p)).1) k ≡ queue_at (whole plan.homes d m).1 k) (sym (eqb-true c p (sym (covers c) ∙ h)))
     (get_or-set_same w.machine p (f (queue_at w.machine p)).1 empty_state (omega (arith, at.caller, at.queues))
     ∙ ap (λ (q : State). (f q).1) here
     ∙ sym (get_or-set_same m p (f (queue_at m p)).1 empty_state (omega (arith, at.caller, at.long)))
@@ -202,7 +204,7 @@ pub room_then : (plan : Plan) (counters : Counters) (p s : ℕ) (m : Machine) (w
 room_then plan counters p s m w None a own apart e = tt
 room_then plan counters p s m w (Some x) a own apart e =
     let here : queue_at w.machine p ≡ queue_at m p =
-    a.queues_are p own ∙ ap (λ (b : Bool). cond b (after_leaving (leaves plan.homes m (deed.Pull p s)) (queue_at m p)) (queue_at m p)) (other_number p s (λ k. apart (sym k))) in
+    a.queues_are p own ∙ ap (λ (b : Bool). cond b (after_leaving (leaves plan.homes m (deed.Pull p s)) (queue_at m p)) (queue_at m p)) (ne_eqb p s (λ k. apart (sym k))) in
     ap (λ (q : State). can_place q (sleeper_of x)) here ∙ room_by m p s x (decided_at m p s) refl e
 
 joins_by : (plan : Plan) (counters : Counters) (p s : ℕ) (m : Machine) (w : Work) (h : Option Contents)

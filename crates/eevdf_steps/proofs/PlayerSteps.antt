@@ -1,23 +1,22 @@
 -- A player one step later.
 use Rattle.std.proofs.Common.{◌≡◌, ℕ, ◌+◌, ◌<◌, ◌≤◌, true, List, ◌++◌, length, get_or, set, sym, ap, subst, ◌∙◌, arith, refl}
-use Rattle.std.proofs.{Math.ListN.length-set, Math.ListN.length-append, lemmas.List.map-append}
+use Rattle.std.proofs.Math.ListN.{length-set, length-append}
+use Rattle.std.proofs.lemmas.{List.map-append, Bool.and_parts}
 use Rattle.std.specs.Prelude.{nat_lt, Option, Some, None}
-use Rattle.eevdf_ops.specs.declared.deeds.{Op.Op, Deed.Deed, Line.Line}
+use Rattle.eevdf_ops.specs.{declared.deeds.Op.Op, declared.deeds.Deed.Deed, declared.deeds.Line.Line, Programs.deeds_of}
 use Rattle.eevdf_ops.specs.declared.deeds.Op.TheVariants as op
-use Rattle.eevdf_steps.specs.declared.plan.Step.{Step}
-use Rattle.eevdf_steps.specs.{Commits.committed, Commits.committed_by, Callers.Callers, SoundSteps.is_sound_micro}
-use Rattle.eevdf_steps.specs.{Requests.Progress, Room.lines_to_come, Work.hand, Work.pulls_from, Journals.noted}
-use Rattle.eevdf_steps.specs.{Recorded.Recorded, Working.IsWorking, Players.Player, Players.player_step, Serial.IsSerial}
-use Rattle.eevdf_steps.specs.Playing.{IsPlaying, player_of}
+use Rattle.eevdf_steps.specs.{declared.plan.Step.Step, Commits.committed, Commits.committed_by, Callers.Callers}
+use Rattle.eevdf_steps.specs.{SoundSteps.is_sound_micro, Requests.Progress, Room.lines_to_come, Work.hand, Work.pulls_from}
+use Rattle.eevdf_steps.specs.{Journals.noted, Recorded.Recorded, Working.IsWorking, Players.Player, Players.player_step}
+use Rattle.eevdf_steps.specs.{Serial.IsSerial, Playing.IsPlaying, Playing.player_of}
 use Rattle.eevdf_steps.specs.Plan.{IsSound, Plan, callers, is_sound_op}
 use Rattle.eevdf_steps.specs.Counters.{Counters, counted, refused, step_next}
-use Rattle.eevdf_ops.specs.Programs.{deeds_of}
 use Rattle.std.specs.Option.{option_to_list}
 use Rattle.eevdf_steps.specs.PostLists.{PostList, has_room, list_at, place_of, posts_after, request_after}
 use Rattle.eevdf_steps.specs.MicroState.{answers, appends, home_for, micro_by, works}
-use Rattle.eevdf_steps.proofs.{Lists.both, SoundSteps.is_caller, SoundSteps.step_sound, WorkPlaces.hand_nowhere}
-use Rattle.eevdf_steps.proofs.{SerialSteps.SerialStep, SerialSteps.serial_step, WorkSteps.works_kept, Rooms.fewer_to_come}
-use Rattle.eevdf_steps.proofs.{Posting.place_below, Posting.posts_step, Progressing.progress_then}
+use Rattle.eevdf_steps.proofs.{SoundSteps.is_caller, SoundSteps.step_sound, WorkPlaces.hand_nowhere, SerialSteps.SerialStep}
+use Rattle.eevdf_steps.proofs.{SerialSteps.serial_step, WorkSteps.works_kept, Rooms.fewer_to_come, Posting.place_below}
+use Rattle.eevdf_steps.proofs.{Posting.posts_step, Progressing.progress_then}
 
 -- a player whose caller is to do a step
 pub record Stepping (w : Callers) (lists : List PostList) (found : List (Option ℕ)) (done : Recorded) (p : ℕ) (s : Step) : Type 0 where
@@ -36,8 +35,7 @@ pub stepping : (w : Callers) (lists : List PostList) (found : List (Option ℕ))
 stepping w lists found done p s a same playing sound each e free =
     let step : step_next w.plan w.counters p ≡ Some s = ap (λ (b : Player). step_next b.plan b.state.progress.counters p) same ∙ e in
     let caller : p < callers w.plan = is_caller w.plan w.counters p s step in
-    let parts : (is_sound_op w.plan s.op ≡ true) × (is_sound_micro w.plan s.micro ≡ true)
-    = both (is_sound_op w.plan s.op) (is_sound_micro w.plan s.micro) (step_sound w.plan w.counters p s sound caller step) in
+    let parts = and_parts (is_sound_op w.plan s.op) (is_sound_micro w.plan s.micro) (step_sound w.plan w.counters p s sound caller step) in
     record {
       playing = playing;
       sound = sound;

@@ -1,16 +1,18 @@
 -- Positions in a program, and the counters that they come to.
 use Rattle.std.proofs.Common.{◌≡◌, ℕ, zero, suc, ◌+◌, ◌*◌, ◌<◌, ◌≤◌, Bool, true, false, cond, List, [], ◌∷◌, ◌++◌, length, map, take, sym, ap, subst, ◌∙◌, arith, refl}
 use Rattle.std.proofs.Math.ListN.{length-append}
-use Rattle.std.proofs.lemmas.{List.length-map, Option.none-some, Option.slice_get-map}
+use Rattle.std.proofs.lemmas.List.{length-map}
+use Rattle.std.proofs.lemmas.Option.{none-some, slice_get-map, slice_get_within}
 use Rattle.std.specs.Option.{option_map}
 use Rattle.std.specs.Prelude.{slice_get, ◌==◌, Option, Some, None}
 use Rattle.eevdf_ops.specs.{declared.deeds.Op.Op, Numbers.most_cpus}
 use Rattle.eevdf_ops.specs.declared.deeds.Op.TheVariants as op
-use Rattle.eevdf_steps.specs.declared.{micro.Micro.Micro, micro.Micro.TheVariants.Release, plan.Step.Step}
+use Rattle.eevdf_steps.specs.{declared.micro.Micro.Micro, declared.micro.Micro.TheVariants.Release, declared.plan.Step.Step}
 use Rattle.eevdf_steps.specs.{declared.plan.Position.Position, Positions.IsPosition, Positions.is_within}
 use Rattle.eevdf_steps.specs.Plan.{Plan, callers, home, program}
 use Rattle.eevdf_steps.specs.MicroSteps.{draining, micros_of, moving, steps_of, under_lock, under_locks}
-use Rattle.eevdf_steps.proofs.Lists.{get_left, get_right, got_past, got_within, lt_true, true_lt, true_eq}
+use Rattle.eevdf_steps.proofs.Lists.{get_left, get_right, got_past}
+use Rattle.std.proofs.lemmas.Bool.{lt-ltb, ltb-true, eqb-true}
 
 abbrev pub step_in : Op → Micro → Step
 step_in o m = record { op = o; micro = m }
@@ -87,17 +89,17 @@ within_some : (plan : Plan) (p j : ℕ) (q : Option Op) (o : Op) → q ≡ Some 
 within_some plan p j None o e h = cc
 within_some plan p j (Some x) o e h =
     let same : x ≡ o = cc in
-    subst (λ (y : Op). j < length (micros_of plan p y)) same (true_lt j (length (micros_of plan p x)) h)
+    subst (λ (y : Op). j < length (micros_of plan p y)) same (ltb-true j (length (micros_of plan p x)) h)
 
 within_none : (plan : Plan) (p j : ℕ) (q : Option Op) → q ≡ None → is_within plan p j q ≡ true → j ≡ 0
-within_none plan p j None e h = true_eq j 0 h
+within_none plan p j None e h = eqb-true j 0 h
 within_none plan p j (Some x) e h = cc
 
 -- a position before a step of an operation, and one past the last operation
 pub position_in : (plan : Plan) (p k j : ℕ) (o : Op) (next : Option Step) → slice_get (program plan p) k ≡ Some o → j < length (micros_of plan p o)
     → next ≡ option_map (step_in o) (slice_get (micros_of plan p o) j) → IsPosition plan p (record { operation = k; steps = j; next = next })
 position_in plan p k j o next here h e = record {
-  within = ap (is_within plan p j) here ∙ lt_true j (length (micros_of plan p o)) h;
+  within = ap (is_within plan p j) here ∙ lt-ltb j (length (micros_of plan p o)) h;
   next = e ∙ sym (located plan p (program plan p) k j o here h);
 }
 
@@ -129,7 +131,7 @@ step_within ms o j s e = some_within ms o j s (slice_get ms j) refl e
   where
     some_within : (ms : List Micro) (o : Op) (j : ℕ) (s : Step) (r : Option Micro) → slice_get ms j ≡ r → option_map (step_in o) r ≡ Some s → j < length ms
     some_within ms o j s None at e = cc
-    some_within ms o j s (Some m) at e = got_within ms j m at
+    some_within ms o j s (Some m) at e = slice_get_within ms j m at
 
 pub step_past : (ms : List Micro) (o : Op) (j : ℕ) → option_map (step_in o) (slice_get ms j) ≡ None → length ms ≤ j
 step_past ms o j e = got_past ms j (none_mapped (slice_get ms j) e)

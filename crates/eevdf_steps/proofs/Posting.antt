@@ -3,14 +3,14 @@ use Rattle.std.proofs.Common.{append_assoc, ◌≡◌, ◌≢◌, ℕ, zero, suc
 use Rattle.std.proofs.Math.ListN.{length-set, length-append}
 use Rattle.std.proofs.lemmas.{List.get_or-set_same, List.get_or-set_other, Nat.mul-add-lt, Nat.same_from_place}
 use Rattle.std.specs.Prelude.{Some}
-use Rattle.eevdf_steps.specs.{declared.micro.Micro.Micro, declared.plan.Step.Step}
-use Rattle.eevdf_steps.specs.{declared.micro.Micro.TheVariants.Take, declared.micro.Micro.TheVariants.Post}
-use Rattle.eevdf_steps.specs.{MicroSteps.steps_by, Requests.post_to, Requests.posted, Requests.posts_to, SoundSteps.is_sound_micro}
+use Rattle.eevdf_steps.specs.{declared.micro.Micro.Micro, declared.plan.Step.Step, declared.micro.Micro.TheVariants.Take}
+use Rattle.eevdf_steps.specs.{declared.micro.Micro.TheVariants.Post, MicroSteps.steps_by, SoundSteps.is_sound_micro}
+use Rattle.eevdf_steps.specs.Requests.{post_to, posted, posts_to}
 use Rattle.eevdf_steps.specs.Plan.{IsSound, Plan, callers, home, pair}
 use Rattle.eevdf_steps.specs.Counters.{Counters, count_of, counted, done_by, step_next}
 use Rattle.eevdf_steps.specs.PostLists.{ArePosted, PostList, has_room, list_at, no_posts, place_of, posted_more, posts_after, taken_more}
-use Rattle.eevdf_steps.proofs.{SoundSteps.home_below, Lists.lt_true, Lists.true_lt}
-use Rattle.eevdf_steps.proofs.Holders.{number_cases, other_number, same_number, take_next}
+use Rattle.eevdf_steps.proofs.{SoundSteps.home_below, Holders.take_next}
+use Rattle.std.proofs.lemmas.Bool.{lt-ltb, ltb-true, cases_eq, ne_eqb, eq-eqb}
 
 pub posts_joined : (plan : Plan) (c : ℕ) (xs ys : List Step) → posts_to plan c (xs ++ ys) ≡ posts_to plan c xs ++ posts_to plan c ys
 posts_joined plan c [] ys = refl
@@ -39,7 +39,7 @@ posted_other plan counters p q c apart =
 pub quiet : (plan : Plan) (counters : Counters) (p q c : ℕ) (s : Step) → p < length counters → step_next plan counters p ≡ Some s → post_to plan c s.micro ≡ []
     → posted plan (counted counters p) q c ≡ posted plan counters q c
 quiet plan counters p q c s h e none =
-    elim (number_cases q p) [
+    elim (cases_eq q p) [
       | inl same ↦ subst (λ (r : ℕ). posted plan (counted counters p) r c ≡ posted plan counters r c) (sym same)
           (posted_own plan counters p c s h e ∙ ap (λ (l : List ℕ). posted plan counters p c ++ l) none ∙ append_nothing (posted plan counters p c))
       | inr apart ↦ posted_other plan counters p q c apart
@@ -50,8 +50,8 @@ pair_below plan q c h k = mul-add-lt q (callers plan) c (callers plan) h k
 
 -- the list of a step is one of those that there are
 pub place_below : (plan : Plan) (p : ℕ) (m : Micro) → IsSound plan → p < callers plan → is_sound_micro plan m ≡ true → place_of plan p m < callers plan * callers plan
-place_below plan p (Take q) sound h well = pair_below plan q p (true_lt q (callers plan) well) h
-place_below plan p (Post t) sound h well = pair_below plan p (home plan t) h (home_below plan t sound (true_lt t (length plan.homes) well))
+place_below plan p (Take q) sound h well = pair_below plan q p (ltb-true q (callers plan) well) h
+place_below plan p (Post t) sound h well = pair_below plan p (home plan t) h (home_below plan t sound (ltb-true t (length plan.homes) well))
 place_below plan p other sound h well = omega (arith, pair_below plan p p h h)
 
 -- a list is written, the others stay
@@ -76,13 +76,13 @@ retaken : (plan : Plan) (counters : Counters) (lists : List PostList) (k : ℕ) 
 retaken plan counters lists k l a h same room = record {
   each = length-set lists k l ∙ a.each;
   posted = λ q c i j.
-      elim (number_cases (pair plan q c) k) [
+      elim (cases_eq (pair plan q c) k) [
         | inl here ↦ ap (λ (m : PostList). m.posted) (ap (λ (x : ℕ). list_at (set lists k l) x) here ∙ list_same lists k l h) ∙ same
             ∙ ap (λ (x : ℕ). (list_at lists x).posted) (sym here) ∙ a.posted q c i j
         | inr apart ↦ ap (λ (m : PostList). m.posted) (list_other lists k (pair plan q c) l apart) ∙ a.posted q c i j
       ];
   room = λ q c i j.
-      elim (number_cases (pair plan q c) k) [
+      elim (cases_eq (pair plan q c) k) [
         | inl here ↦ subst (λ (n : ℕ). length (posts_to plan c (steps_by plan q)) ≤ n)
             (sym (ap (λ (m : PostList). m.room) (ap (λ (x : ℕ). list_at (set lists k l) x) here ∙ list_same lists k l h) ∙ room
             ∙ ap (λ (x : ℕ). (list_at lists x).room) (sym here))) (a.room q c i j)
@@ -100,10 +100,10 @@ more_taken_room l true = refl
 more_taken_room l false = refl
 
 post_here : (plan : Plan) (t : ℕ) → post_to plan (home plan t) (Post t) ≡ t ∷ []
-post_here plan t = ap (λ (b : Bool). cond b (t ∷ []) []) (same_number (home plan t))
+post_here plan t = ap (λ (b : Bool). cond b (t ∷ []) []) (eq-eqb (home plan t) (home plan t) refl)
 
 post_elsewhere : (plan : Plan) (t c : ℕ) → c ≢ home plan t → post_to plan c (Post t) ≡ []
-post_elsewhere plan t c apart = ap (λ (b : Bool). cond b (t ∷ []) []) (other_number (home plan t) c (λ e. apart (sym e)))
+post_elsewhere plan t c apart = ap (λ (b : Bool). cond b (t ∷ []) []) (ne_eqb (home plan t) c (λ e. apart (sym e)))
 
 -- what is posted is a part of what all steps post
 posts_within : (plan : Plan) (c k : ℕ) (ss : List Step) → length (posts_to plan c (take k ss)) ≤ length (posts_to plan c ss)
@@ -142,7 +142,7 @@ posts_kept plan counters lists p t a ps =
     record {
       each = length-set lists k l ∙ a.each;
       posted = λ q c i j.
-          elim (number_cases (pair plan q c) k) [
+          elim (cases_eq (pair plan q c) k) [
             | inl here ↦
                 let both_same : (q ≡ p) × (c ≡ home plan t) = same_from_place q c p (home plan t) (callers plan) j ps.at_home here in
                 subst (λ (x : ℕ). (list_at (set lists k l) (pair plan x c)).posted ≡ posted plan (counted counters p) x c) (sym both_same.0)
@@ -153,7 +153,7 @@ posts_kept plan counters lists p t a ps =
             | inr apart ↦ ap (λ (m : PostList). m.posted) (list_other lists k (pair plan q c) l apart) ∙ a.posted q c i j ∙ sym (unposted q c i j apart)
           ];
       room = λ q c i j.
-          elim (number_cases (pair plan q c) k) [
+          elim (cases_eq (pair plan q c) k) [
             | inl here ↦ subst (λ (n : ℕ). length (posts_to plan c (steps_by plan q)) ≤ n)
                 (sym (ap (λ (m : PostList). m.room) (ap (λ (x : ℕ). list_at (set lists k l) x) here ∙ list_same lists k l below)
                 ∙ ap (λ (x : ℕ). (list_at lists x).room) (sym here))) (a.room q c i j)
@@ -163,7 +163,7 @@ posts_kept plan counters lists p t a ps =
     } where
       unposted : (q c : ℕ) → q < callers plan → c < callers plan → pair plan q c ≢ pair plan p (home plan t) → posted plan (counted counters p) q c ≡ posted plan counters q c
       unposted q c i j apart =
-          elim (number_cases q p) [
+          elim (cases_eq q p) [
             | inl same ↦ subst (λ (x : ℕ). posted plan (counted counters p) x c ≡ posted plan counters x c) (sym same)
                 (ps.adds c ∙ ap (λ (ys : List ℕ). posted plan counters p c ++ ys)
                 (post_elsewhere plan t c (λ at. apart (ap (λ (x : ℕ). pair plan x c) same ∙ ap (λ (y : ℕ). pair plan p y) at)))
@@ -179,13 +179,13 @@ posts_by plan counters lists p s (Post t) sound a h below e is well =
     let ps : Posts plan counters p t = record {
       counted_it = h;
       caller = below;
-      at_home = home_below plan t sound (true_lt t (length plan.homes) well);
+      at_home = home_below plan t sound (ltb-true t (length plan.homes) well);
       adds = λ c. posted_own plan counters p c s h e ∙ ap (λ (m : Micro). posted plan counters p c ++ post_to plan c m) is;
     } in
-    (lt_true _ _ (posts_room plan counters lists p t a ps), posts_kept plan counters lists p t a ps)
+    (lt-ltb _ _ (posts_room plan counters lists p t a ps), posts_kept plan counters lists p t a ps)
 posts_by plan counters lists p s (Take q) sound a h below e is well =
     let k : ℕ = pair plan q p in
-    let within : k < length lists = subst (λ (n : ℕ). k < n) (sym a.each) (pair_below plan q p (true_lt q (callers plan) well) below) in (
+    let within : k < length lists = subst (λ (n : ℕ). k < n) (sym a.each) (pair_below plan q p (ltb-true q (callers plan) well) below) in (
       refl,
       still_posted plan counters (set lists k (taken_more (list_at lists k))) p s
           (retaken plan counters lists k (taken_more (list_at lists k)) a within (more_taken (list_at lists k) _) (more_taken_room (list_at lists k) _))

@@ -1,13 +1,13 @@
 -- The progress that the lists of requests show after a step.
 use Rattle.std.proofs.Common.{◌≡◌, ℕ, zero, suc, ◌+◌, ◌<◌, true, cond, List, [], ◌∷◌, map, get_or, set, sym, ap, ◌∙◌, refl}
-use Rattle.std.proofs.lemmas.List.{set-get_or}
+use Rattle.std.proofs.lemmas.{List.set-get_or, Bool.ltb-true}
 use Rattle.std.specs.Prelude.{slice_get, is_some, Option, Some, None}
-use Rattle.eevdf_steps.specs.{declared.micro.Micro.Micro, declared.plan.Step.Step, Plan.Plan, Plan.callers, Plan.pair}
-use Rattle.eevdf_steps.specs.{Counters.Counters, Counters.counted, Counters.step_next, SoundSteps.is_sound_micro}
+use Rattle.eevdf_steps.specs.{declared.micro.Micro.Micro, declared.plan.Step.Step, SoundSteps.is_sound_micro}
+use Rattle.eevdf_steps.specs.Plan.{Plan, callers, pair}
+use Rattle.eevdf_steps.specs.Counters.{Counters, counted, step_next}
 use Rattle.eevdf_steps.specs.declared.micro.Micro.TheVariants.{Take, Settle, Post}
 use Rattle.eevdf_steps.specs.Requests.{Progress, oldest, posted, progress_by, progress_step, requested, takes}
 use Rattle.eevdf_steps.specs.PostLists.{ArePosted, PostList, list_at, oldest_in, place_of, posted_more, posts_after, progress_in, request_after}
-use Rattle.eevdf_steps.proofs.Lists.{true_lt}
 
 abbrev taken_in : List PostList → List ℕ
 taken_in lists = map (λ (l : PostList). l.taken) lists
@@ -62,7 +62,7 @@ by_micro : (plan : Plan) (counters : Counters) (lists : List PostList) (found : 
 by_micro plan counters lists found p (Take q) a below well =
     takes_by plan counters lists found p q (list_at lists (pair plan q p)) (oldest_in (list_at lists (pair plan q p))) refl
     ∙ ap (λ (r : Option ℕ). record (takes plan (progress_in counters lists found) p q r) { counters = counted counters p })
-    (oldest_is plan counters lists found q p a (true_lt q (callers plan) well) below)
+    (oldest_is plan counters lists found q p a (ltb-true q (callers plan) well) below)
 by_micro plan counters lists found p (Settle q) a below well = refl
 by_micro plan counters lists found p (Post t) a below well =
     same_progress (counted counters p) _ _ _ _

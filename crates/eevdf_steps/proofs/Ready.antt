@@ -1,17 +1,16 @@
 -- While a caller isn't done, some caller may do its next step: since locks are acquired in ascending order, who waits for a
 -- lock waits for a holder that waits, if at all, for a higher one.
 use Rattle.std.proofs.Common.{◌≡◌, ℕ, zero, suc, ◌+◌, ◌<◌, ◌≤◌, Bool, true, false, cond, List, [], ◌∷◌, inl, inr, ◌⊎◌, sym, ap, subst, ◌∙◌, arith, refl}
-use Rattle.std.proofs.lemmas.Bool.{false≢true}
+use Rattle.std.proofs.lemmas.Bool.{false≢true, and_parts, lt-ltb, ltb-true, eqb-true, cases_eq}
 use Rattle.std.specs.Option.{option_map}
 use Rattle.std.specs.Prelude.{◌==◌, is_none, is_some, nat_lt, length, MatchOption, Option, Some, None}
 use Rattle.eevdf_ops.specs.declared.deeds.Op.{Op}
-use Rattle.eevdf_steps.specs.declared.{micro.Micro.Micro, micro.Micro.TheVariants.Acquire, plan.Step.Step}
+use Rattle.eevdf_steps.specs.{declared.micro.Micro.Micro, declared.micro.Micro.TheVariants.Acquire, declared.plan.Step.Step}
 use Rattle.eevdf_steps.specs.declared.step_fault.StepFault.TheVariants.{NoCaller}
 use Rattle.eevdf_steps.specs.Plan.{IsSound, Plan, callers}
 use Rattle.eevdf_steps.specs.Counters.{Counters, blocked_by, counted, holder, holds, is_under_way, least, may_step, next, ready, refused, refused_next, step_next, unfinished}
-use Rattle.eevdf_steps.proofs.Lists.{both, lt_true, true_eq, true_lt}
 use Rattle.eevdf_steps.proofs.Walks.{Acquiring, Fits, FitsMicro, Walk, is_above, is_in}
-use Rattle.eevdf_steps.proofs.{Holders.number_cases, Walking.walking}
+use Rattle.eevdf_steps.proofs.Walking.{walking}
 
 -- a number that passes, of those from one on
 pub record Found (f : ℕ → Bool) (from n k : ℕ) : Type 0 where
@@ -32,7 +31,7 @@ some_passes : (f : ℕ → Bool) (from n k : ℕ) (b : Bool) → f from ≡ b �
     → is_none (cond b (Some from) (least f (from + 1) n)) ≡ false
 some_passes f from n k true e passes later low = refl
 some_passes f from n k false e passes later low =
-    later (elim (number_cases from k) [
+    later (elim (cases_eq from k) [
       | inl same ↦ absurd (false≢true (sym e ∙ ap f same ∙ passes))
       | inr apart ↦ omega (arith, low, apart)
     ])
@@ -60,7 +59,7 @@ record Waiting (plan : Plan) (counters : Counters) (m : Micro) : Type 0 where
 may_if : (plan : Plan) (counters : Counters) (p : ℕ) (m : Micro) → p < callers plan → next plan counters p ≡ Some m → refused plan counters m ≡ None
     → may_step plan counters p ≡ true
 may_if plan counters p m below e free =
-    ap (λ (b : Bool). is_none (cond b (refused_next plan counters (next plan counters p)) (Some NoCaller))) (lt_true p (callers plan) below)
+    ap (λ (b : Bool). is_none (cond b (refused_next plan counters (next plan counters p)) (Some NoCaller))) (lt-ltb p (callers plan) below)
     ∙ ap (λ (r : Option Micro). is_none (refused_next plan counters r)) e ∙ ap (λ r. is_none r) free
 
 free_if : (plan : Plan) (counters : Counters) (p : ℕ) (m : Micro) → p < callers plan → next plan counters p ≡ Some m → refused plan counters m ≡ None → Free plan counters
@@ -79,15 +78,15 @@ steps_or_waits plan counters p (Acquire c) below e = acquires_or_waits plan coun
 steps_or_waits plan counters p m below e = inl (free_if plan counters p m below e refl)
 
 in_by : (c d h : ℕ) (held : List ℕ) (b : Bool) → (h == d) ≡ b → cond b true (is_in d held) ≡ true → h < c → (is_in d held ≡ true → d < c) → d < c
-in_by c d h held true e there below later = omega (arith, true_eq h d e, below)
+in_by c d h held true e there below later = omega (arith, eqb-true h d e, below)
 in_by c d h held false e there below later = later there
 
 -- what is in a list is below what is above the list
 below_above : (c d : ℕ) (held : List ℕ) → is_above c held ≡ true → is_in d held ≡ true → d < c
 below_above c d [] above there = absurd (false≢true there)
 below_above c d (h ∷ held) above there =
-    let parts : (nat_lt h c ≡ true) × (is_above c held ≡ true) = both (nat_lt h c) (is_above c held) above in
-    in_by c d h held (h == d) refl there (true_lt h c parts.0) (below_above c d held parts.1)
+    let parts = and_parts (nat_lt h c) (is_above c held) above in
+    in_by c d h held (h == d) refl there (ltb-true h c parts.0) (below_above c d held parts.1)
 
 fits_acquire : (plan : Plan) (p : ℕ) (held : List ℕ) (o : Op) (m : Micro) (following : Option Step) (c : ℕ) → FitsMicro plan p held o m following → m ≡ Acquire c
     → Acquiring plan held o c following

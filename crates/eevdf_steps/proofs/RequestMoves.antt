@@ -1,22 +1,23 @@
 -- What each step makes of the requests from one caller to another.
 use Rattle.std.proofs.Common.{append-nil, ◌≡◌, ◌≢◌, ℕ, suc, ◌+◌, ◌*◌, ◌<◌, ◌≤◌, Bool, true, false, cond, List, [], ◌∷◌, ◌++◌, length, drop, inl, inr, ◌⊎◌, sym, ap, subst, ◌∙◌, arith, refl}
-use Rattle.std.proofs.{Math.ListN.length-append, Math.ListN.length-set, lemmas.Nat.mul-add-lt, lemmas.Nat.same_from_place}
-use Rattle.std.proofs.lemmas.{List.drop-append-le, List.get_or-set_other, List.get_or-set_same, Bool.false≢true}
+use Rattle.std.proofs.Math.ListN.{length-append, length-set}
+use Rattle.std.proofs.lemmas.{Nat.mul-add-lt, Nat.same_from_place, Option.slice_get_within}
+use Rattle.std.proofs.lemmas.List.{drop-append-le, get_or-set_other, get_or-set_same}
+use Rattle.std.proofs.lemmas.Bool.{false≢true, cases_eq, ne_eqb, eq-eqb}
 use Rattle.std.specs.Prelude.{slice_get, ◌==◌, MatchOption, Option, Some, None}
 use Rattle.std.specs.Option.{option_map, option_to_list}
-use Rattle.eevdf_ops.specs.declared.deeds.{Op.Op, Deed.Deed}
+use Rattle.eevdf_ops.specs.{declared.deeds.Op.Op, declared.deeds.Deed.Deed}
 use Rattle.eevdf_ops.specs.declared.deeds.Op.TheVariants as op
 use Rattle.eevdf_ops.specs.Programs.{deed_of, deeds_by, wakes_in}
-use Rattle.eevdf_steps.specs.declared.{micro.Micro.Micro, plan.Step.Step}
-use Rattle.eevdf_steps.specs.{MicroSteps.steps_by, Commits.committed, Commits.committed_by, Commits.wake_of}
+use Rattle.eevdf_steps.specs.{declared.micro.Micro.Micro, declared.plan.Step.Step, MicroSteps.steps_by}
+use Rattle.eevdf_steps.specs.Commits.{committed, committed_by, wake_of}
 use Rattle.eevdf_steps.specs.declared.micro.Micro.TheVariants.{Commit, Take, Settle}
 use Rattle.eevdf_steps.specs.Plan.{IsSound, Plan, callers, pair}
 use Rattle.eevdf_steps.specs.Counters.{Counters, count_of, counted, next, step_next}
 use Rattle.eevdf_steps.specs.Requests.{Progress, found_by, left, oldest, posted, progress_by, requested, taken_of, takes}
 use Rattle.eevdf_steps.proofs.CommittedLines.{to_settle, to_settle_next, unsettled}
 use Rattle.eevdf_steps.proofs.CommittedPrograms.{count_other, other_deeds, own_deeds}
-use Rattle.eevdf_steps.proofs.{Holders.number_cases, Holders.other_number, Holders.same_number, Positions.step_in}
-use Rattle.eevdf_steps.proofs.{Lists.drop_next, Lists.got_within, Posting.quiet, SoundSteps.is_caller, Walking.walking}
+use Rattle.eevdf_steps.proofs.{Positions.step_in, Lists.drop_next, Posting.quiet, SoundSteps.is_caller, Walking.walking}
 use Rattle.eevdf_steps.proofs.Requesting.{HasGrown, IsAsLong, IsElsewhere, as_long, elsewhere, posts_grow}
 use Rattle.eevdf_steps.proofs.Walks.{Fits, Taking, Walk}
 
@@ -214,7 +215,7 @@ takes_elsewhere plan g q c s task o t apart =
       taken = get_or-set_other g.taken (pair plan s c) (pair plan q c) (taken_of plan g s c + 1) 0
           (λ same. apart (sym (same_from_place q c s c (callers plan) t.goes.caller t.goes.caller same).0));
       waiting = ap (λ (n : Option Micro). to_settle_next q n (found_by h c)) t.follows
-          ∙ ap (λ (b : Bool). cond b (option_to_list (found_by h c)) []) (other_number s q apart) ∙ sym (taking_waits plan g q c s o t.goes);
+          ∙ ap (λ (b : Bool). cond b (option_to_list (found_by h c)) []) (ne_eqb s q apart) ∙ sym (taking_waits plan g q c s o t.goes);
       settles = inr (s, t.follows);
     }) refl
 
@@ -234,10 +235,10 @@ takes_oldest plan g q c task o t e =
     let found : found_by h c ≡ Some task = get_or-set_same g.found c (Some task) None (subst (λ (n : ℕ). c < n) (sym ord.finds) t.goes.caller) in
     let waits : unsettled plan h q c ≡ task ∷ []
     = ap (λ (n : Option Micro). to_settle_next q n (found_by h c)) t.follows
-    ∙ ap (λ (f : Option ℕ). to_settle q (Settle q) f) found ∙ ap (λ (b : Bool). cond b (task ∷ []) []) (same_number q) in
+    ∙ ap (λ (f : Option ℕ). to_settle q (Settle q) f) found ∙ ap (λ (b : Bool). cond b (task ∷ []) []) (eq-eqb q q refl) in
     let rest : left plan h q c ≡ drop (suc (taken_of plan g q c)) (posted plan g.counters q c)
     = ap (λ (k : ℕ). drop k (posted plan h.counters q c)) more ∙ ap (λ (l : List ℕ). drop (suc (taken_of plan g q c)) l) same in
-    let below : taken_of plan g q c < length (posted plan g.counters q c) = got_within (posted plan g.counters q c) (taken_of plan g q c) task e in
+    let below : taken_of plan g q c < length (posted plan g.counters q c) = slice_get_within (posted plan g.counters q c) (taken_of plan g q c) task e in
     record {
       orderly = record {
         each = length-set g.counters c (count_of g.counters c + 1) ∙ ord.each;
@@ -256,7 +257,7 @@ grasp_moves : (plan : Plan) (g : Progress) (q c s : ℕ) (o : Op) (r : Option �
     → Moves plan g (record (takes plan g c s r) { counters = counted g.counters c }) q c []
 grasp_moves plan g q c s o None t e = takes_none plan g q c s o t.goes
 grasp_moves plan g q c s o (Some task) t e =
-    elim (number_cases s q) [
+    elim (cases_eq s q) [
       | inl same ↦ subst
           (λ (y : ℕ). Grasps plan g q c y o → oldest plan g y c ≡ Some task → Moves plan g (record (takes plan g c y (Some task)) { counters = counted g.counters c }) q c [])
           (sym same) (takes_oldest plan g q c task o) t e
@@ -278,7 +279,7 @@ step_moves plan g x q c None sound caller ord e = record {
   flows = ap (λ (l : List ℕ). unsettled plan g q c ++ l) (append-nil (left plan g q c));
 }
 step_moves plan g x q c (Some s) sound caller ord e =
-    elim (number_cases c x) [
+    elim (cases_eq c x) [
       | inl same ↦ subst
           (λ (y : ℕ). step_next plan g.counters y ≡ Some s → Moves plan g (progress_by plan g y (Some s)) q c (wakes_in q (deeds_by c (committed_by g y (Some s)))))
           same (λ here. own_moves plan g q c s.op s.micro sound (record { caller = caller; step = here; orderly = ord })) e

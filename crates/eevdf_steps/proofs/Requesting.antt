@@ -1,12 +1,14 @@
 -- What a step of a caller changes of the requests, and what it leaves.
 use Rattle.std.proofs.Common.{◌≡◌, ◌≢◌, ℕ, ◌+◌, ◌<◌, List, [], ◌++◌, length, inl, inr, sym, subst, ◌∙◌, append-nil, refl}
-use Rattle.std.proofs.{Math.ListN.length-set, lemmas.List.get_or-set_other, lemmas.Nat.same_from_place}
+use Rattle.std.proofs.Math.ListN.{length-set}
+use Rattle.std.proofs.lemmas.{List.get_or-set_other, Nat.same_from_place, Bool.cases_eq}
 use Rattle.std.specs.Prelude.{Option, Some, None}
-use Rattle.eevdf_steps.specs.declared.{micro.Micro.Micro, plan.Step.Step}
-use Rattle.eevdf_steps.specs.declared.micro.Micro.TheVariants.{Take, Settle}
-use Rattle.eevdf_steps.specs.{Plan.Plan, Plan.callers, Plan.pair, Counters.Counters, Counters.counted, Counters.step_next}
+use Rattle.eevdf_steps.specs.{declared.micro.Micro.Micro, declared.plan.Step.Step, declared.micro.Micro.TheVariants.Take}
+use Rattle.eevdf_steps.specs.declared.micro.Micro.TheVariants.{Settle}
+use Rattle.eevdf_steps.specs.Plan.{Plan, callers, pair}
+use Rattle.eevdf_steps.specs.Counters.{Counters, counted, step_next}
 use Rattle.eevdf_steps.specs.Requests.{Progress, found_by, oldest, post_to, posted, requested, taken_of, takes}
-use Rattle.eevdf_steps.proofs.{Holders.number_cases, Posting.posted_other, Posting.posted_own}
+use Rattle.eevdf_steps.proofs.Posting.{posted_other, posted_own}
 
 -- as many pairs and callers as before
 pub record IsAsLong (g h : Progress) : Type 0 where
@@ -50,7 +52,7 @@ pub record HasGrown (before after : List ℕ) : Type 0 where
 pub posts_grow : (plan : Plan) (counters : Counters) (x q c : ℕ) (s : Step) → x < length counters → step_next plan counters x ≡ Some s
     → HasGrown (posted plan counters q c) (posted plan (counted counters x) q c)
 posts_grow plan counters x q c s h e =
-    elim (number_cases q x) [
+    elim (cases_eq q x) [
       | inl same ↦ record {
         extra = post_to plan c s.micro;
         grown = subst (λ (y : ℕ). posted plan (counted counters x) y c ≡ posted plan counters y c ++ post_to plan c s.micro) (sym same) (posted_own plan counters x c s h e);

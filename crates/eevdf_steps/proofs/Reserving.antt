@@ -1,22 +1,22 @@
 -- What is reserved for the requests and the lines.
 use Rattle.std.proofs.Common.{append-nil, ◌≡◌, ℕ, zero, suc, ◌+◌, ◌*◌, ◌%◌, ◌<◌, ◌≤◌, Bool, true, false, cond, List, [], ◌∷◌, ◌++◌, length, map, drop, take, get_or, set, replicate, inl, inr, sym, ap, subst, ◌∙◌, arith, refl}
 use Rattle.std.proofs.Math.ListN.{length-append, length-set}
-use Rattle.std.proofs.lemmas.{Bool.cases_lt, Grind.flat_map-append, List.Folds.sum_by-replicate, List.Sums.sum_by-cons}
+use Rattle.std.proofs.lemmas.Bool.{cases_lt, ltb-true, cases_eq, ne_eqb, eq-eqb}
+use Rattle.std.proofs.lemmas.{Grind.flat_map-append, List.Folds.sum_by-replicate, List.Sums.sum_by-cons, Nat.div-mul-add}
+use Rattle.std.proofs.lemmas.Nat.{mod-mul-add}
 use Rattle.std.proofs.lemmas.List.{get_or_append_left, get_or-set_other, get_or-set_same, get_or_push, length-take-le, take_more}
-use Rattle.std.proofs.lemmas.Nat.{div-mul-add, mod-mul-add}
 use Rattle.std.specs.List.{sum_by}
 use Rattle.std.specs.Prelude.{◌==◌, is_some, slice_index, Option, None}
 use Rattle.eevdf_ops.specs.{declared.deeds.Op.Op, Numbers.most_operations, Places.count, Programs.post_of, Programs.posts_in}
 use Rattle.eevdf_ops.specs.declared.deeds.Op.TheVariants as op
-use Rattle.eevdf_steps.specs.declared.{micro.Micro.TheVariants.Release, plan.Step.Step}
-use Rattle.eevdf_steps.specs.{Orders.counters_at_start, PostLists.PostList, PostLists.list_at, PostLists.no_posts}
+use Rattle.eevdf_steps.specs.{declared.micro.Micro.TheVariants.Release, declared.plan.Step.Step, Orders.counters_at_start}
+use Rattle.eevdf_steps.specs.PostLists.{PostList, list_at, no_posts}
 use Rattle.eevdf_steps.specs.Plan.{IsSound, Plan, callers, home, is_sound_op, program}
 use Rattle.eevdf_steps.specs.MicroSteps.{draining, moving, steps_by, steps_of, under_lock, under_locks}
 use Rattle.eevdf_steps.specs.Room.{lines_in, lines_left, lines_to_come, steps_to_come, sum_from, unsettled, waiting, waiting_in}
 use Rattle.eevdf_steps.specs.Openings.{AreEmpty, CountPosts, empty_at, most_lines, post_counted, room_at}
-use Rattle.eevdf_steps.proofs.Holders.{count_first, number_cases, other_number, same_number}
-use Rattle.eevdf_steps.proofs.{Lists.all_at, Lists.true_lt, Plans.program_ops_sound, Plans.program_short}
-use Rattle.eevdf_steps.proofs.{Positions.micros_in, Positions.step_in, SoundSteps.home_below}
+use Rattle.eevdf_steps.proofs.{Holders.count_first, Lists.all_at, Plans.program_ops_sound, Plans.program_short, Positions.micros_in}
+use Rattle.eevdf_steps.proofs.{Positions.step_in, SoundSteps.home_below}
 
 -- operations post no more requests than they are
 few_posts : (homes : List ℕ) (c : ℕ) (o : Op) → length (post_of homes c o) ≤ 1
@@ -61,17 +61,17 @@ post_counts_more plan ops t counts below a =
       count = λ c i.
           let pushed : length (posts_in plan.homes c (ops ++ op.Post t ∷ [])) ≡ length (posts_in plan.homes c ops) + length (post_of plan.homes c (op.Post t))
           = posts_pushed plan.homes c ops (op.Post t) in
-          elim (number_cases c h) [
+          elim (cases_eq c h) [
             | inl here ↦
                 let one : length (post_of plan.homes c (op.Post t)) ≡ 1
-                = ap (λ (k : ℕ). length (post_of plan.homes k (op.Post t))) here ∙ ap (λ (b : Bool). length (cond b (t ∷ []) [])) (same_number h) in
+                = ap (λ (k : ℕ). length (post_of plan.homes k (op.Post t))) here ∙ ap (λ (b : Bool). length (cond b (t ∷ []) [])) (eq-eqb h h refl) in
                 let now : slice_index (set counts h more) c ≡ more
                 = ap (λ (k : ℕ). slice_index (set counts h more) k) here ∙ get_or-set_same counts h more 0 (omega (arith, a.each)) in
                 let before : slice_index counts h ≡ slice_index counts c = ap (λ (k : ℕ). slice_index counts k) (sym here) in
                 omega (arith, a.count c i)
             | inr apart ↦
                 let none : length (post_of plan.homes c (op.Post t)) ≡ 0
-                = ap (λ (b : Bool). length (cond b (t ∷ []) [])) (other_number h c (λ same. apart (sym same))) in
+                = ap (λ (b : Bool). length (cond b (t ∷ []) [])) (ne_eqb h c (λ same. apart (sym same))) in
                 let now : slice_index (set counts h more) c ≡ slice_index counts c = get_or-set_other counts h c more 0 apart in
                 omega (arith, a.count c i)
           ];
@@ -80,7 +80,7 @@ post_counts_more plan ops t counts below a =
 -- one operation more is counted
 counted_more : (plan : Plan) (ops : List Op) (o : Op) (counts : List ℕ) → IsSound plan → is_sound_op plan o ≡ true → CountPosts plan ops counts
     → CountPosts plan (ops ++ o ∷ []) (post_counted plan o counts)
-counted_more plan ops (op.Post t) counts sound known a = post_counts_more plan ops t counts (home_below plan t sound (true_lt t (length plan.homes) known)) a
+counted_more plan ops (op.Post t) counts sound known a = post_counts_more plan ops t counts (home_below plan t sound (ltb-true t (length plan.homes) known)) a
 counted_more plan ops o counts sound known a = quiet_counted plan ops o counts a (λ c. refl)
 
 -- the operation at a place of a program is counted after those before it

@@ -1,16 +1,15 @@
 -- The history has room for all the lines that come.
 use Rattle.std.proofs.Common.{◌≡◌, ◌≢◌, ℕ, zero, suc, ◌+◌, ◌<◌, ◌≤◌, cond, List, [], ◌∷◌, length, drop, get_or, set, inl, inr, sym, ap, subst, ◌∙◌, arith, refl}
 use Rattle.std.proofs.Math.ListN.{length-append}
-use Rattle.std.proofs.lemmas.{List.get_or-set_same, List.get_or-set_other, List.Sums.sum_by-set}
+use Rattle.std.proofs.lemmas.{List.get_or-set_same, List.get_or-set_other, List.Sums.sum_by-set, Option.slice_get_within}
+use Rattle.std.proofs.lemmas.Bool.{cases_eq}
 use Rattle.std.specs.Prelude.{slice_get, is_some, Option, Some, None}
-use Rattle.eevdf_ops.specs.declared.deeds.{Op.Op, Deed.Deed, Answer.Answer}
-use Rattle.eevdf_ops.specs.Places.{count}
-use Rattle.eevdf_steps.specs.declared.{micro.Micro.Micro, plan.Step.Step}
-use Rattle.eevdf_steps.specs.{Plan.Plan, Plan.callers, MicroSteps.steps_by, Work.Work, MicroState.appends, MicroState.line_of}
+use Rattle.eevdf_ops.specs.{declared.deeds.Op.Op, declared.deeds.Deed.Deed, declared.deeds.Answer.Answer, Places.count}
+use Rattle.eevdf_steps.specs.{declared.micro.Micro.Micro, declared.plan.Step.Step, Plan.Plan, Plan.callers, MicroSteps.steps_by}
+use Rattle.eevdf_steps.specs.{Work.Work, MicroState.appends, MicroState.line_of}
 use Rattle.eevdf_steps.specs.declared.micro.Micro.TheVariants.{Commit, Take, Settle, Post}
 use Rattle.eevdf_steps.specs.Counters.{Counters, count_of, counted, step_next}
 use Rattle.eevdf_steps.specs.PostLists.{PostList, list_at, no_posts, oldest_in, posted_more, posts_after, request_after, taken_more}
-use Rattle.eevdf_steps.proofs.{Holders.number_cases, Lists.got_within}
 use Rattle.eevdf_steps.specs.Room.{lines_in, lines_left, lines_of, lines_to_come, steps_to_come, sum_from, unsettled, waiting, waiting_in}
 
 rest_of : (ss : List Step) (k : ℕ) (s : Step) → slice_get ss k ≡ Some s → lines_in (drop k ss) ≡ lines_of s.micro + lines_in (drop (suc k) ss)
@@ -42,7 +41,7 @@ sum_same f g p from (suc n) h same =
 pub sum_less : (f g : ℕ → ℕ) (p from n d : ℕ) → from ≤ p → p < from + n → f p ≡ g p + d → ((q : ℕ) → q ≢ p → f q ≡ g q) → sum_from f from n ≡ sum_from g from n + d
 sum_less f g p from zero d low high less same = absurd (omega arith)
 sum_less f g p from (suc n) d low high less same =
-    elim (number_cases p from) [
+    elim (cases_eq p from) [
       | inl here ↦
           let own : f from ≡ g from + d = subst (λ (k : ℕ). f k ≡ g k + d) here less in
           let rest : sum_from f (from + 1) n ≡ sum_from g (from + 1) n = sum_same f g p (from + 1) n (omega arith) same in
@@ -74,7 +73,7 @@ unsettled_set found p f r h read =
 taken_less : (l : PostList) (r : Option ℕ) → oldest_in l ≡ r → waiting_in (cond (is_some r) (record l { taken = l.taken + 1 }) l) + count (is_some r) ≡ waiting_in l
 taken_less l None e = omega arith
 taken_less l (Some t) e =
-    let within : l.taken < length l.posted = got_within l.posted l.taken t e in
+    let within : l.taken < length l.posted = slice_get_within l.posted l.taken t e in
     omega arith
 
 -- what a step does on: its list and its caller are there, and this is what the caller has found

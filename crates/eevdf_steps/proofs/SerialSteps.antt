@@ -1,16 +1,18 @@
 -- Each micro-step keeps what the callers see a part of the history's whole operations.
 use Rattle.std.proofs.Common.{◌≡◌, ℕ, zero, suc, ◌+◌, ◌<◌, Bool, true, false, cond, not, ◌||◌, List, [], ◌∷◌, ◌++◌, length, sym, ap, subst, ◌∙◌, inl, inr, refl, arith}
-use Rattle.std.proofs.lemmas.{Bool.false≢true, Bool.cases_lt, List.append-nil}
+use Rattle.std.proofs.lemmas.Bool.{false≢true, cases_lt, ltb-true, eq-eqb}
+use Rattle.std.proofs.lemmas.List.{append-nil}
 use Rattle.std.specs.Prelude.{◌==◌, MatchOption, Option, Some, None}
 use Rattle.std.specs.Option.{option_to_list}
-use Rattle.eevdf_steps.specs.{Commits.committed, Working.FitsHand, Working.HasRoom, UnderWay.under_way}
-use Rattle.eevdf_steps.specs.declared.{micro.Micro.Micro, plan.Step.Step}
+use Rattle.eevdf_steps.specs.{Commits.committed, Working.FitsHand, Working.HasRoom, UnderWay.under_way, declared.micro.Micro.Micro}
+use Rattle.eevdf_steps.specs.declared.plan.Step.{Step}
 use Rattle.eevdf_queue.specs.{State.State, Leaving.carried_running}
-use Rattle.eevdf_ops.specs.declared.deeds.{Op.Op, Deed.Deed, Answer.Answer, Line.Line}
+use Rattle.eevdf_ops.specs.{declared.deeds.Op.Op, declared.deeds.Deed.Deed, declared.deeds.Answer.Answer, declared.deeds.Line.Line}
+use Rattle.eevdf_ops.specs.{Machine.Machine, Machine.queue_at, Whole.whole, Programs.deed_of, Programs.deeds_of}
+use Rattle.eevdf_ops.specs.Histories.{machine_told}
 use Rattle.eevdf_ops.specs.declared.deeds.Op.TheVariants as op
 use Rattle.eevdf_ops.specs.declared.deeds.Deed.TheVariants as deed
-use Rattle.eevdf_ops.specs.{Machine.Machine, Machine.queue_at, Whole.whole, Programs.deed_of, Programs.deeds_of}
-use Rattle.eevdf_ops.specs.{WholePull.decision, WholePull.load_of, WholePull.offer, Histories.machine_told}
+use Rattle.eevdf_ops.specs.WholePull.{decision, load_of, offer}
 use Rattle.eevdf_ops.specs.OneQueue.{one_tick, one_pick, one_yield, one_renice}
 use Rattle.eevdf_steps.specs.declared.micro.Micro.TheVariants.{Acquire, Act, Detach, Attach, Commit, Take, Settle, Release, Post}
 use Rattle.eevdf_steps.specs.Plan.{IsSound, Plan, callers, home}
@@ -18,9 +20,8 @@ use Rattle.eevdf_steps.specs.Counters.{Counters, counted, holder, holds, least, 
 use Rattle.eevdf_steps.specs.MicroState.{appends, home_for, line_of, works}
 use Rattle.eevdf_steps.specs.Work.{Work, answer, hand, pull_decision, woken}
 use Rattle.eevdf_steps.specs.Serial.{IsFree, FollowsHistory, IsSerial}
-use Rattle.eevdf_steps.proofs.{Holders.nobody_past, Holders.not_blocked, Holders.same_number, Lists.true_lt, Walking.walking}
-use Rattle.eevdf_steps.proofs.{Positions.step_in, SoundSteps.home_below, SoundSteps.is_caller}
-use Rattle.eevdf_steps.proofs.OtherCallers.{IsStepOf, followed_then}
+use Rattle.eevdf_steps.proofs.{Holders.nobody_past, Holders.not_blocked, Walking.walking, Positions.step_in, SoundSteps.home_below}
+use Rattle.eevdf_steps.proofs.{SoundSteps.is_caller, OtherCallers.IsStepOf, OtherCallers.followed_then}
 use Rattle.eevdf_steps.proofs.Walks.{Covers, Fits, Walk, touched}
 use Rattle.eevdf_steps.proofs.OwnSteps.{AtStep, acquire_step, begun_now, fresh_begun, holds_nothing, quiet_step, release_step, same_locks, sees_history}
 use Rattle.eevdf_steps.proofs.OwnWork.{AtAttach, acted_step, at_attach, falls_asleep_step, joins_step, pull_leaves, room_then, sleep_leaves}
@@ -99,7 +100,7 @@ detach_serial : (plan : Plan) (start : Machine) (counters : Counters) (p h : ℕ
     → IsSerial plan start (counted counters p) (works h w p o Detach f) (lines ++ [])
 detach_serial plan start counters p h w lines (op.Sleep t) f s =
     let own : holds plan counters p p ≡ true
-    = holds_covered plan counters p (op.Sleep t) s.at.walk s.at.fits.covers p ∙ any_here (p == p) (p == home plan t) (same_number p) in
+    = holds_covered plan counters p (op.Sleep t) s.at.walk s.at.fits.covers p ∙ any_here (p == p) (p == home plan t) (eq-eqb p p refl) in
     local_serial plan start counters p w _ lines (op.Sleep t) Detach s
     (sleep_leaves plan counters p t (machine_told plan.homes start lines) w (carried_running (queue_at w.machine p) t) s.at
     (ap (λ (o : Option Step). under_way p o) s.at.fits.follows) own
@@ -107,11 +108,11 @@ detach_serial plan start counters p h w lines (op.Sleep t) f s =
 detach_serial plan start counters p h w lines (op.Pull q) f s =
     let m : Machine = machine_told plan.homes start lines in
     let covered : (c : ℕ) → holds plan counters c p ≡ touched plan p (op.Pull q) c = holds_covered plan counters p (op.Pull q) s.at.walk s.at.fits.covers in
-    let own : holds plan counters p p ≡ true = covered p ∙ any_here (p == p) (p == q) (same_number p) in
-    let source : holds plan counters q p ≡ true = covered q ∙ any_last (q == p) (q == q) (same_number q) in
+    let own : holds plan counters p p ≡ true = covered p ∙ any_here (p == p) (p == q) (eq-eqb p p refl) in
+    let source : holds plan counters q p ≡ true = covered q ∙ any_last (q == p) (q == q) (eq-eqb q q refl) in
     local_serial plan start counters p w _ lines (op.Pull q) Detach s
     (pull_leaves plan counters p q m w (pull_decision w.machine p q) s.at (ap (λ (o : Option Step). under_way p o) s.at.fits.follows) source
-    (true_lt q (callers plan) (next_sound_op plan counters p (step_in (op.Pull q) Detach) s.sound s.at.next))
+    (ltb-true q (callers plan) (next_sound_op plan counters p (step_in (op.Pull q) Detach) s.sound s.at.next))
     (ap (λ (x : State). decision x (load_of (queue_at m q)) (offer (queue_at m q))) (sym (same_queue plan start counters p p w lines (op.Pull q) s own))
     ∙ ap (λ (x : State). decision (queue_at w.machine p) (load_of x) (offer x)) (sym (same_queue plan start counters p q w lines (op.Pull q) s source))))
 detach_serial plan start counters p h w lines _ f s = absurd (false≢true s.at.fits.moving)
@@ -125,19 +126,19 @@ at_pull plan start counters p q w lines s =
 holds_own_queue : (plan : Plan) (start : Machine) (counters : Counters) (p q : ℕ) (w : Work) (lines : List Line) → Serial plan start counters p w lines (op.Pull q) Attach
     → holds plan counters p p ≡ true
 holds_own_queue plan start counters p q w lines s =
-    holds_covered plan counters p (op.Pull q) s.at.walk s.at.fits.covers p ∙ any_here (p == p) (p == q) (same_number p)
+    holds_covered plan counters p (op.Pull q) s.at.walk s.at.fits.covers p ∙ any_here (p == p) (p == q) (eq-eqb p p refl)
 
 attach_serial : (plan : Plan) (start : Machine) (counters : Counters) (p : ℕ) (w : Work) (lines : List Line) (o : Op) (f : Option ℕ) → Serial plan start counters p w lines o Attach
     → IsSerial plan start (counted counters p) (works (home_for plan p o) w p o Attach f) (lines ++ [])
 attach_serial plan start counters p w lines (op.Sleep t) f s =
     let m : Machine = machine_told plan.homes start lines in
     let covered : (c : ℕ) → holds plan counters c p ≡ touched plan p (op.Sleep t) c = holds_covered plan counters p (op.Sleep t) s.at.walk s.at.fits.covers in
-    let task : t < length plan.homes = true_lt t (length plan.homes) (next_sound_op plan counters p (step_in (op.Sleep t) Attach) s.sound s.at.next) in
+    let task : t < length plan.homes = ltb-true t (length plan.homes) (next_sound_op plan counters p (step_in (op.Sleep t) Attach) s.sound s.at.next) in
     let a : AtAttach plan counters p m w (op.Sleep t) (deed.Sleep p t)
     = at_attach plan counters p m w (op.Sleep t) (deed.Sleep p t) s.at (begun_now plan counters p (op.Sleep t) Attach s.at.next) (ap (λ (o : Option Step). under_way p o) s.at.fits.follows) in
     local_serial plan start counters p w _ lines (op.Sleep t) Attach s
     (falls_asleep_step plan counters p t m w a (deed_fits plan counters p (step_in (op.Sleep t) Attach) (deed.Sleep p t) s.sound s.at.next refl m s.at.long)
-    (covered (home plan t) ∙ any_last (home plan t == p) (home plan t == home plan t) (same_number (home plan t))) (home_below plan t s.sound task))
+    (covered (home plan t) ∙ any_last (home plan t == p) (home plan t == home plan t) (eq-eqb (home plan t) (home plan t) refl)) (home_below plan t s.sound task))
 attach_serial plan start counters p w lines (op.Pull q) f s =
     let m : Machine = machine_told plan.homes start lines in
     local_serial plan start counters p w _ lines (op.Pull q) Attach s
@@ -254,7 +255,7 @@ room_in_hand plan start counters p w lines (op.Pull q) s =
     let apart : not (q == p) ≡ true = next_pulls_elsewhere plan counters p (step_in (op.Pull q) Attach) s.sound s.at.next in
     let a : AtAttach plan counters p (machine_told plan.homes start lines) w (op.Pull q) (deed.Pull p q) = at_pull plan start counters p q w lines s in
     room_then plan counters p q (machine_told plan.homes start lines) w (hand w p) a (holds_own_queue plan start counters p q w lines s)
-    (λ same. false≢true (sym (ap not (ap (λ (k : ℕ). k == p) same ∙ same_number p)) ∙ apart)) (sym a.hand_is)
+    (λ same. false≢true (sym (ap not (ap (λ (k : ℕ). k == p) same ∙ eq-eqb p p refl)) ∙ apart)) (sym a.hand_is)
 room_in_hand plan start counters p w lines _ s = tt
 
 hand_fits : (plan : Plan) (start : Machine) (counters : Counters) (p : ℕ) (w : Work) (lines : List Line) (o : Op) (micro : Micro) → Serial plan start counters p w lines o micro → FitsHand w p o micro

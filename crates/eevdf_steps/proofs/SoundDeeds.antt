@@ -5,25 +5,27 @@ use Rattle.std.specs.Prelude.{◌==◌, nat_lt, Option, Some, None}
 use Rattle.eevdf_ops.specs.{declared.deeds.Op.Op, declared.deeds.Deed.Deed, Places.AreCpus, Setup.is_allowed, Programs.deed_of}
 use Rattle.eevdf_ops.specs.declared.deeds.Op.TheVariants as op
 use Rattle.eevdf_ops.specs.declared.deeds.Deed.TheVariants as deed
-use Rattle.eevdf_steps.specs.{declared.micro.Micro.Micro, declared.plan.Step.Step, MicroSteps.micros_of}
-use Rattle.eevdf_steps.specs.{MicroSteps.steps_by, MicroSteps.steps_of, SoundSteps.is_sound_micro, Counters.Counters}
-use Rattle.eevdf_steps.specs.{Counters.count_of, Counters.step_next, UnderWay.UnderWay, UnderWay.under_way, Serial.begun_by}
+use Rattle.eevdf_steps.specs.{declared.micro.Micro.Micro, declared.plan.Step.Step, SoundSteps.is_sound_micro, UnderWay.UnderWay}
+use Rattle.eevdf_steps.specs.{UnderWay.under_way, Serial.begun_by}
+use Rattle.eevdf_steps.specs.MicroSteps.{micros_of, steps_by, steps_of}
+use Rattle.eevdf_steps.specs.Counters.{Counters, count_of, step_next}
 use Rattle.eevdf_steps.specs.Plan.{IsSound, Plan, callers, is_sound_op, program, pulls_elsewhere}
-use Rattle.eevdf_steps.proofs.{Lists.both, Lists.lt_true, Positions.step_in, Setups.and_true, Walks.Walk, Walking.program_pulls}
-use Rattle.eevdf_steps.proofs.{Walking.walking, Begun.FitsAll, Begun.Standing, Begun.standing, OtherCallers.AreWalking}
+use Rattle.eevdf_steps.proofs.{Positions.step_in, Walks.Walk, Walking.program_pulls, Walking.walking, OtherCallers.AreWalking}
+use Rattle.eevdf_steps.proofs.Begun.{FitsAll, Standing, standing}
 use Rattle.eevdf_steps.proofs.SoundSteps.{all_joined, home_below, is_caller, some_all, step_sound}
+use Rattle.std.proofs.lemmas.Bool.{and_parts, lt-ltb, and_from}
 
 abbrev step_pulls_elsewhere : ℕ → Step → Bool
 step_pulls_elsewhere p s = pulls_elsewhere p s.op
 
 of_op : (p : ℕ) (o : Op) (ms : List Micro) → pulls_elsewhere p o ≡ true → list_all (step_pulls_elsewhere p) (map (step_in o) ms) ≡ true
 of_op p o [] h = refl
-of_op p o (m ∷ ms) h = and_true (pulls_elsewhere p o) _ h (of_op p o ms h)
+of_op p o (m ∷ ms) h = and_from (pulls_elsewhere p o) _ h (of_op p o ms h)
 
 of_ops : (plan : Plan) (p : ℕ) (os : List Op) → list_all (pulls_elsewhere p) os ≡ true → list_all (step_pulls_elsewhere p) (steps_of plan p os) ≡ true
 of_ops plan p [] h = refl
 of_ops plan p (o ∷ os) h =
-    let parts : (pulls_elsewhere p o ≡ true) × (list_all (pulls_elsewhere p) os ≡ true) = both (pulls_elsewhere p o) (list_all (pulls_elsewhere p) os) h in
+    let parts = and_parts (pulls_elsewhere p o) (list_all (pulls_elsewhere p) os) h in
     all_joined (step_pulls_elsewhere p) (map (step_in o) (micros_of plan p o)) (steps_of plan p os) (of_op p o (micros_of plan p o) parts.0) (of_ops plan p os parts.1)
 
 -- the operation of a step pulls from no queue but another's
@@ -34,26 +36,26 @@ next_pulls_elsewhere plan counters p s sound e =
 
 pub next_sound_op : (plan : Plan) (counters : Counters) (p : ℕ) (s : Step) → IsSound plan → step_next plan counters p ≡ Some s → is_sound_op plan s.op ≡ true
 next_sound_op plan counters p s sound e =
-    (both (is_sound_op plan s.op) (is_sound_micro plan s.micro) (step_sound plan counters p s sound (is_caller plan counters p s e) e)).0
+    (and_parts (is_sound_op plan s.op) (is_sound_micro plan s.micro) (step_sound plan counters p s sound (is_caller plan counters p s e) e)).0
 
 pub allowed_op : (plan : Plan) (p : ℕ) (o : Op) (d : Deed) → p < callers plan → is_sound_op plan o ≡ true → pulls_elsewhere p o ≡ true → deed_of p o ≡ Some d
     → is_allowed (callers plan) plan.homes d ≡ true
 allowed_op plan p (op.Tick ns) d h s k e =
-    let is : deed.Tick p ns ≡ d = cc in ap (λ (x : Deed). is_allowed (callers plan) plan.homes x) (sym is) ∙ lt_true p (callers plan) h
+    let is : deed.Tick p ns ≡ d = cc in ap (λ (x : Deed). is_allowed (callers plan) plan.homes x) (sym is) ∙ lt-ltb p (callers plan) h
 allowed_op plan p op.Pick d h s k e =
-    let is : deed.Pick p ≡ d = cc in ap (λ (x : Deed). is_allowed (callers plan) plan.homes x) (sym is) ∙ lt_true p (callers plan) h
+    let is : deed.Pick p ≡ d = cc in ap (λ (x : Deed). is_allowed (callers plan) plan.homes x) (sym is) ∙ lt-ltb p (callers plan) h
 allowed_op plan p op.Yield d h s k e =
-    let is : deed.Yield p ≡ d = cc in ap (λ (x : Deed). is_allowed (callers plan) plan.homes x) (sym is) ∙ lt_true p (callers plan) h
+    let is : deed.Yield p ≡ d = cc in ap (λ (x : Deed). is_allowed (callers plan) plan.homes x) (sym is) ∙ lt-ltb p (callers plan) h
 allowed_op plan p (op.Renice t nice) d h s k e =
     let is : deed.Renice p t nice ≡ d = cc in
-    ap (λ (x : Deed). is_allowed (callers plan) plan.homes x) (sym is) ∙ and_true (nat_lt p (callers plan)) (nat_lt t (length plan.homes)) (lt_true p (callers plan) h) s
+    ap (λ (x : Deed). is_allowed (callers plan) plan.homes x) (sym is) ∙ and_from (nat_lt p (callers plan)) (nat_lt t (length plan.homes)) (lt-ltb p (callers plan) h) s
 allowed_op plan p (op.Sleep t) d h s k e =
     let is : deed.Sleep p t ≡ d = cc in
-    ap (λ (x : Deed). is_allowed (callers plan) plan.homes x) (sym is) ∙ and_true (nat_lt p (callers plan)) (nat_lt t (length plan.homes)) (lt_true p (callers plan) h) s
+    ap (λ (x : Deed). is_allowed (callers plan) plan.homes x) (sym is) ∙ and_from (nat_lt p (callers plan)) (nat_lt t (length plan.homes)) (lt-ltb p (callers plan) h) s
 allowed_op plan p (op.Pull q) d h s k e =
     let is : deed.Pull p q ≡ d = cc in
     ap (λ (x : Deed). is_allowed (callers plan) plan.homes x) (sym is)
-    ∙ and_true (nat_lt p (callers plan)) (nat_lt q (callers plan) && not (q == p)) (lt_true p (callers plan) h) (and_true (nat_lt q (callers plan)) (not (q == p)) s k)
+    ∙ and_from (nat_lt p (callers plan)) (nat_lt q (callers plan) && not (q == p)) (lt-ltb p (callers plan) h) (and_from (nat_lt q (callers plan)) (not (q == p)) s k)
 allowed_op plan p (op.Post t) d h s k e = cc
 allowed_op plan p op.Drain d h s k e = cc
 

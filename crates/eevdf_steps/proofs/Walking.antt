@@ -1,7 +1,7 @@
 -- Each caller walks through its program with its locks as its steps need them.
 use Rattle.std.proofs.Common.{◌≡◌, ◌≢◌, ℕ, zero, suc, ◌+◌, ◌<◌, ◌≤◌, Bool, true, false, cond, not, ◌||◌, List, [], ◌∷◌, ◌++◌, length, map, take, drop, get_or, min, max, inl, inr, sym, ap, subst, ◌∙◌, arith, refl}
-use Rattle.std.proofs.lemmas.{Bool.false≢true, Bool.cases_lt, Bool.Decides.nat_tests}
-use Rattle.std.proofs.lemmas.List.{get_or-replicate, get_or-set_same}
+use Rattle.std.proofs.lemmas.Bool.{false≢true, cases_lt, and_parts, lt-ltb, ltb-true, and_from, cases_eq, ne_eqb, eq-eqb}
+use Rattle.std.proofs.lemmas.{Bool.Decides.nat_tests, List.get_or-replicate, List.get_or-set_same}
 use Rattle.std.specs.List.{list_all}
 use Rattle.std.specs.Prelude.{slice_get, nat_lt, ◌==◌, MatchOption, Option}
 use Rattle.eevdf_ops.specs.declared.deeds.Op.{Op}
@@ -11,9 +11,7 @@ use Rattle.eevdf_steps.specs.declared.micro.Micro.TheVariants.{Acquire, Release,
 use Rattle.eevdf_steps.specs.Plan.{IsSound, Plan, all_pull_elsewhere, callers, home, is_sound_op, program, pulls_elsewhere}
 use Rattle.eevdf_steps.specs.MicroSteps.{acting, draining, micros_of, moving, steps_by, steps_of, under_lock, under_locks}
 use Rattle.eevdf_steps.specs.Counters.{Counters, count_of, counted, held_after, held_by_steps, step_next}
-use Rattle.eevdf_steps.proofs.{Lists.both, Lists.lt_true, Lists.true_lt, Setups.and_true, Plans.no_step}
-use Rattle.eevdf_steps.proofs.{Plans.program_ops_sound, SoundSteps.home_below, Positions.step_in}
-use Rattle.eevdf_steps.proofs.Holders.{number_cases, other_number, same_number}
+use Rattle.eevdf_steps.proofs.{Plans.no_step, Plans.program_ops_sound, SoundSteps.home_below, Positions.step_in}
 use Rattle.eevdf_steps.proofs.Walks.{Covers, Fits, FitsMicro, Walk, is_above, is_acting, is_falling, is_fresh, is_in, is_locking, is_moving, stack_after, touched}
 
 -- from these locks on each step of a list fits the locks that are held then, and in the end none is held
@@ -22,9 +20,9 @@ Walks plan p held [] = held ≡ []
 Walks plan p held (s ∷ ss) = Fits plan p held s (slice_get ss 0) × Walks plan p (stack_after held s.micro) ss
 
 swapped : (a b : ℕ) → (a == b) ≡ (b == a)
-swapped a b = elim (number_cases a b) [
+swapped a b = elim (cases_eq a b) [
   | inl same ↦ ap (λ (k : ℕ). k == b) same ∙ ap (λ (k : ℕ). b == k) (sym same)
-  | inr apart ↦ other_number a b apart ∙ sym (other_number b a (λ same. apart (sym same)))
+  | inr apart ↦ ne_eqb a b apart ∙ sym (ne_eqb b a (λ same. apart (sym same)))
 ]
 
 tested : (b : Bool) → cond b true false ≡ b
@@ -90,7 +88,7 @@ between_walks : (plan : Plan) (p : ℕ) (o : Op) (a b : ℕ) (rest : List Step) 
 between_walks plan p o a b rest h k moves locks covers r = (
   record { above = refl; below = omega arith; locking = locks; fresh = refl },
   (
-    record { above = and_true (nat_lt a b) true (lt_true a b h) refl; below = k; locking = locks; fresh = refl },
+    record { above = and_from (nat_lt a b) true (lt-ltb a b h) refl; below = k; locking = locks; fresh = refl },
     (
       record { moving = moves; covers = covers; follows = refl },
       (
@@ -148,7 +146,7 @@ drains_walk plan p (suc n) q rest h r = (
 )
 
 not_same : (a b : ℕ) (x : Bool) → (a == b) ≡ x → x ≡ false → a ≢ b
-not_same a b x e f same = false≢true (sym f ∙ sym e ∙ ap (λ (k : ℕ). k == b) same ∙ same_number b)
+not_same a b x e f same = false≢true (sym f ∙ sym e ∙ ap (λ (k : ℕ). k == b) same ∙ eq-eqb b b refl)
 
 same_home : (a b : ℕ) → (a == b) ≡ true → a ≡ b
 same_home a b h = grind (arith, nat_tests)
@@ -165,12 +163,12 @@ sleep_walks plan p t rest true h k e r = move_walks plan p (op.Sleep t) rest h r
 sleep_walks plan p t rest false h k e r = both_walk plan p (home plan t) (op.Sleep t) rest h k (not_same p (home plan t) false e refl) refl refl (λ c. refl) r
 
 other_source : (q p : ℕ) → not (q == p) ≡ true → p ≢ q
-other_source q p h same = false≢true (ap not (sym (same_number p) ∙ ap (λ (k : ℕ). k == p) same) ∙ h)
+other_source q p h same = false≢true (ap not (sym (eq-eqb p p refl) ∙ ap (λ (k : ℕ). k == p) same) ∙ h)
 
 op_walks : (plan : Plan) (p : ℕ) (o : Op) (rest : List Step) → IsSound plan → p < callers plan → is_sound_op plan o ≡ true → pulls_elsewhere p o ≡ true → Rest plan p rest
     → Walks plan p [] (map (step_in o) (micros_of plan p o) ++ rest)
-op_walks plan p (op.Sleep t) rest s h k e r = sleep_walks plan p t rest (p == home plan t) h (home_below plan t s (true_lt t (length plan.homes) k)) refl r
-op_walks plan p (op.Pull q) rest s h k e r = both_walk plan p q (op.Pull q) rest h (true_lt q (callers plan) k) (other_source q p e) refl refl (λ c. refl) r
+op_walks plan p (op.Sleep t) rest s h k e r = sleep_walks plan p t rest (p == home plan t) h (home_below plan t s (ltb-true t (length plan.homes) k)) refl r
+op_walks plan p (op.Pull q) rest s h k e r = both_walk plan p q (op.Pull q) rest h (ltb-true q (callers plan) k) (other_source q p e) refl refl (λ c. refl) r
 op_walks plan p op.Drain rest s h k e r = (
   record { above = refl; below = h; locking = refl; fresh = drained_fresh plan p (callers plan) 0 rest },
   drains_walk plan p (callers plan) 0 rest (omega arith) r,
@@ -195,18 +193,18 @@ ops_walk : (plan : Plan) (p : ℕ) (os : List Op) → IsSound plan → p < calle
     → Walks plan p [] (steps_of plan p os)
 ops_walk plan p [] s h all elsewhere = refl
 ops_walk plan p (o ∷ os) s h all elsewhere =
-    let sounds : (is_sound_op plan o ≡ true) × (list_all (is_sound_op plan) os ≡ true) = both (is_sound_op plan o) (list_all (is_sound_op plan) os) all in
-    let pulls : (pulls_elsewhere p o ≡ true) × (list_all (pulls_elsewhere p) os ≡ true) = both (pulls_elsewhere p o) (list_all (pulls_elsewhere p) os) elsewhere in
+    let sounds = and_parts (is_sound_op plan o) (list_all (is_sound_op plan) os) all in
+    let pulls = and_parts (pulls_elsewhere p o) (list_all (pulls_elsewhere p) os) elsewhere in
     op_walks plan p o (steps_of plan p os) s h sounds.0 pulls.0
     (record { fresh = steps_fresh plan p os; walks = ops_walk plan p os s h sounds.1 pulls.1 })
 
 pub program_pulls : (cpu p : ℕ) (programs : List (List Op)) → all_pull_elsewhere cpu programs ≡ true → list_all (pulls_elsewhere (cpu + p)) (get_or programs p []) ≡ true
 program_pulls cpu p [] all = refl
 program_pulls cpu zero (os ∷ programs) all =
-    subst (λ (k : ℕ). list_all (pulls_elsewhere k) os ≡ true) (let e : cpu ≡ cpu + 0 = omega arith in e) (both (list_all (pulls_elsewhere cpu) os) (all_pull_elsewhere (cpu + 1) programs) all).0
+    subst (λ (k : ℕ). list_all (pulls_elsewhere k) os ≡ true) (let e : cpu ≡ cpu + 0 = omega arith in e) (and_parts (list_all (pulls_elsewhere cpu) os) (all_pull_elsewhere (cpu + 1) programs) all).0
 program_pulls cpu (suc p) (os ∷ programs) all =
     subst (λ (k : ℕ). list_all (pulls_elsewhere k) (get_or programs p []) ≡ true) (let e : cpu + 1 + p ≡ cpu + suc p = omega arith in e)
-    (program_pulls (cpu + 1) p programs (both (list_all (pulls_elsewhere cpu) os) (all_pull_elsewhere (cpu + 1) programs) all).1)
+    (program_pulls (cpu + 1) p programs (and_parts (list_all (pulls_elsewhere cpu) os) (all_pull_elsewhere (cpu + 1) programs) all).1)
 
 program_walks : (plan : Plan) (p : ℕ) → IsSound plan → p < callers plan → Walks plan p [] (steps_by plan p)
 program_walks plan p s h =
@@ -217,9 +215,9 @@ program_walks plan p s h =
 pub above_apart : (c : ℕ) (held : List ℕ) → is_above c held ≡ true → is_in c held ≡ false
 above_apart c [] h = refl
 above_apart c (d ∷ held) h =
-    let parts : (nat_lt d c ≡ true) × (is_above c held ≡ true) = both (nat_lt d c) (is_above c held) h in
-    let below : d < c = true_lt d c parts.0 in
-    ap (λ (b : Bool). cond b true (is_in c held)) (other_number d c (λ same. absurd (omega (arith, same)))) ∙ above_apart c held parts.1
+    let parts = and_parts (nat_lt d c) (is_above c held) h in
+    let below : d < c = ltb-true d c parts.0 in
+    ap (λ (b : Bool). cond b true (is_in c held)) (ne_eqb d c (λ same. absurd (omega (arith, same)))) ∙ above_apart c held parts.1
 
 released : (c d : ℕ) (held : List ℕ) (b : Bool) → (d == c) ≡ b → is_in d held ≡ false → cond b false (cond b true (is_in c held)) ≡ is_in c held
 released c d held true e apart = sym (ap (λ (k : ℕ). is_in k held) (sym (same_home d c e)) ∙ apart)
@@ -230,7 +228,7 @@ gives_up c d [] last falls = cc
 gives_up c d (e ∷ held) last falls =
     let same : e ≡ d = cc in
     ap (λ (k : ℕ). cond (d == c) false (cond (k == c) true (is_in c held))) same
-    ∙ released c d held (d == c) refl (ap (λ (k : ℕ). is_in k held) (sym same) ∙ above_apart e held (both (is_above e held) (is_falling held) falls).0)
+    ∙ released c d held (d == c) refl (ap (λ (k : ℕ). is_in k held) (sym same) ∙ above_apart e held (and_parts (is_above e held) (is_falling held) falls).0)
 
 -- the locks that are held after a step are those of the list
 held_then : (plan : Plan) (p : ℕ) (held : List ℕ) (o : Op) (m : Micro) (following : Option Step) → FitsMicro plan p held o m following → is_falling held ≡ true
@@ -240,11 +238,11 @@ held_then plan p held o _ following fits falls c = refl
 
 falling_rest : (held : List ℕ) → is_falling held ≡ true → is_falling (drop 1 held) ≡ true
 falling_rest [] h = refl
-falling_rest (d ∷ held) h = (both (is_above d held) (is_falling held) h).1
+falling_rest (d ∷ held) h = (and_parts (is_above d held) (is_falling held) h).1
 
 falling_then : (plan : Plan) (p : ℕ) (held : List ℕ) (o : Op) (m : Micro) (following : Option Step) → FitsMicro plan p held o m following → is_falling held ≡ true
     → is_falling (stack_after held m) ≡ true
-falling_then plan p held o (Acquire d) following fits falls = and_true (is_above d held) (is_falling held) fits.above falls
+falling_then plan p held o (Acquire d) following fits falls = and_from (is_above d held) (is_falling held) fits.above falls
 falling_then plan p held o (Release d) following fits falls = falling_rest held falls
 falling_then plan p held o _ following fits falls = falls
 

@@ -2,23 +2,25 @@
 use Rattle.std.proofs.Common.{◌≡◌, ℕ, zero, suc, ◌+◌, ◌<◌, ◌≤◌, true, List, [], ◌∷◌, length, get_or, set, ap, ◌∙◌, arith, refl}
 use Rattle.std.proofs.Math.ListN.{length-set}
 use Rattle.std.specs.Prelude.{◌==◌, IfSome, Option, Some, None, Result, Ok, Err}
-use Rattle.eevdf_queue.specs.{State.State, State.Contents, Moves.put_asleep, Moves.sleeper_of}
-use Rattle.eevdf_queue.specs.{Leaving.carried_running, Leaving.leave, Placing.can_place, Placing.placed_entry}
-use Rattle.eevdf_ops.specs.declared.deeds.{Op.Op, Answer.Answer, Answer.TheVariants.NotRunning, Answer.TheVariants.Pulled}
+use Rattle.eevdf_queue.specs.{State.State, State.Contents, Moves.put_asleep, Moves.sleeper_of, Leaving.carried_running}
+use Rattle.eevdf_queue.specs.{Leaving.leave, Placing.can_place, Placing.placed_entry}
+use Rattle.eevdf_ops.specs.{declared.deeds.Op.Op, declared.deeds.Answer.Answer, declared.deeds.Answer.TheVariants.NotRunning}
+use Rattle.eevdf_ops.specs.{declared.deeds.Answer.TheVariants.Pulled, Machine.queue_at, Setup.is_task, WholeSleep.slept}
 use Rattle.eevdf_ops.specs.declared.deeds.Op.TheVariants as op
-use Rattle.eevdf_ops.specs.{Machine.queue_at, Places.count, Places.places, Places.places_in, Setup.is_task, WholeSleep.slept}
+use Rattle.eevdf_ops.specs.Places.{count, places, places_in}
 use Rattle.eevdf_ops.specs.OneQueue.{one_tick, one_pick, one_yield, one_wake, one_renice}
 use Rattle.eevdf_ops.specs.WholePull.{load_of, offer, with_task}
 use Rattle.eevdf_ops.proofs.MachinePlaces.{places-set, places-at}
 use Rattle.eevdf_ops.proofs.QueuePlaces.{IsSame, IsWith, IsWithout, tick-same, pick-same, yield-same, wake-same, renice-same, asleep-with, runnable-with}
 use Rattle.eevdf_ops.proofs.Carried.{running-carries, offer-carries, leaves-without}
 use Rattle.eevdf_ops.proofs.Pulling.{IsTaken, decision-taken, with_task-put}
-use Rattle.eevdf_steps.specs.declared.micro.Micro.{Micro}
-use Rattle.eevdf_steps.specs.{Plan.Plan, Plan.callers, Playing.IsWork, Places.hands_with, Places.is_in_hand, Places.places_of}
-use Rattle.eevdf_steps.specs.{Working.FitsHand, Working.HasRoom, MicroState.settled, MicroState.works}
+use Rattle.eevdf_steps.specs.{declared.micro.Micro.Micro, Plan.Plan, Plan.callers, Playing.IsWork, Working.FitsHand}
+use Rattle.eevdf_steps.specs.{Working.HasRoom, MicroState.settled, MicroState.works}
+use Rattle.eevdf_steps.specs.Places.{hands_with, is_in_hand, places_of}
 use Rattle.eevdf_steps.specs.declared.micro.Micro.TheVariants.{Act, Detach, Attach, Settle}
 use Rattle.eevdf_steps.specs.Work.{Work, act, answered, attach, attach_asleep, attach_pulled, detach, detach_pulled, detach_running, hand, pull_decision, pulls_from}
-use Rattle.eevdf_steps.proofs.{Lists.true_lt, WorkPlaces.held_nowhere, WorkPlaces.count-le}
+use Rattle.eevdf_steps.proofs.WorkPlaces.{held_nowhere, count-le}
+use Rattle.std.proofs.lemmas.Bool.{ltb-true}
 
 hands-set : (hands : List (Option Contents)) (k u : ℕ) (h : Option Contents) → k < length hands
     → hands_with (set hands k h) u + count (is_in_hand (get_or hands k None) u) ≡ hands_with hands u + count (is_in_hand h u)
@@ -106,7 +108,7 @@ detach_kept : (plan : Plan) (w : Work) (p : ℕ) (o : Op) → IsWork plan w → 
 detach_kept plan w p (op.Sleep task) works below from empty =
     running_kept plan w p task (carried_running (queue_at w.machine p) task) works below empty refl
 detach_kept plan w p (op.Pull source) works below from empty =
-    pulled_kept plan w p source (pull_decision w.machine p source) works below (true_lt source (callers plan) from) empty refl
+    pulled_kept plan w p source (pull_decision w.machine p source) works below (ltb-true source (callers plan) from) empty refl
 detach_kept plan w p _ works below from empty = works
 
 asleep_kept : (plan : Plan) (w : Work) (p c : ℕ) (h : Option Contents) → IsWork plan w → p < callers plan → c < callers plan → hand w p ≡ h → IsWork plan (attach_asleep w p c h)
