@@ -5,11 +5,12 @@ use Rattle.std.proofs.lemmas.Nat.{div-mul-add, mod-mul-add, mul-add-lt}
 use Rattle.std.specs.Prelude.{Option, None}
 use Rattle.eevdf_ops.specs.{Machine.Machine, Machine.start, Places.IsPlaced, Programs.posts_in, Setup.Setup, Setup.homes_of}
 use Rattle.eevdf_steps.proofs.{SerialStart.serial_start, Holders.count_first, ProgramPosts.program_posts, Reserving.room_first}
+use Rattle.eevdf_steps.proofs.PlayerParts.{same_callers, with_parts}
 use Rattle.eevdf_steps.specs.Plan.{IsSound, Plan, callers, pair, plan_of, program}
-use Rattle.eevdf_steps.specs.{MicroSteps.steps_by, Counters.Counters, Orders.counters_at_start, Callers.Callers}
-use Rattle.eevdf_steps.specs.{Requests.Progress, Requests.posts_to, Requests.progress_at_start, Places.hands_with}
-use Rattle.eevdf_steps.specs.{Openings.AreEmpty, Openings.most_lines, MicroState.micro_start, Players.player_start}
-use Rattle.eevdf_steps.specs.{Recorded.Recorded, Recorded.done_at_start, Playing.IsPlaying, Playing.player_of}
+use Rattle.eevdf_steps.specs.{MicroSteps.steps_by, Orders.counters_at_start, Callers.Callers, Places.hands_with, Openings.AreEmpty}
+use Rattle.eevdf_steps.specs.{Openings.most_lines, MicroState.micro_start, Players.player_start, Recorded.Recorded}
+use Rattle.eevdf_steps.specs.{Recorded.done_at_start, Playing.IsPlaying, Playing.player_of}
+use Rattle.eevdf_steps.specs.Requests.{Progress, posts_to, progress_at_start}
 use Rattle.eevdf_steps.specs.PostLists.{ArePosted, PostList, list_at, progress_in}
 
 pub posts_first : (plan : Plan) (lists : List PostList) → AreEmpty plan lists → ArePosted plan (counters_at_start plan) lists
@@ -74,43 +75,29 @@ pub record Opened (s : Setup) (w : Callers) (lists : List PostList) (found : Lis
   pub lines : room ≡ most_lines w.plan
   pub is_done : done ≡ done_at_start m n room
 
-same_callers : (w : Callers) (plan : Plan) (counters : Counters) → w.plan ≡ plan → w.counters ≡ counters → w ≡ record { plan = plan; counters = counters }
-same_callers w plan counters e f =
-    ap (λ (p : Plan). record { plan = p; counters = w.counters }) e ∙ ap (λ (cs : Counters). record { plan = plan; counters = cs }) f
-
 -- the parts as they are at the start
+abbrev first_callers : Setup → Callers
+first_callers s = record { plan = plan_of s; counters = counters_at_start (plan_of s) }
+
 abbrev first_done : Setup → Machine → Recorded
 first_done s m = done_at_start m (callers (plan_of s)) (most_lines (plan_of s))
 
-callers_open : (s : Setup) (w : Callers) (lists : List PostList) (found : List (Option ℕ)) (done : Recorded) (m : Machine) (n room : ℕ) → Opened s w lists found done m n room
-    → w ≡ record { plan = plan_of s; counters = counters_at_start (plan_of s) }
-callers_open s w lists found done m n room o = same_callers w (plan_of s) (counters_at_start (plan_of s)) o.plan o.counters
+module _ {s : Setup} {w : Callers} {lists : List PostList} {found : List (Option ℕ)} {done : Recorded} {m : Machine} {n room : ℕ} (o : Opened s w lists found done m n room) where
+  opens : (P : Callers → List PostList → List (Option ℕ) → Recorded → Type 0)
+      → P (first_callers s) lists (replicate (callers (plan_of s)) None) (first_done s m) → P w lists found done
+  opens P there =
+      with_parts P (same_callers w (plan_of s) (counters_at_start (plan_of s)) o.plan o.counters) refl (o.nothing ∙ ap (λ (p : Plan). replicate (callers p) None) o.plan)
+      (o.is_done ∙ ap (λ (k : ℕ). done_at_start m k room) (o.queues ∙ ap callers o.plan)
+      ∙ ap (λ (k : ℕ). done_at_start m (callers (plan_of s)) k) (o.lines ∙ ap most_lines o.plan)) there
 
-found_open : (s : Setup) (w : Callers) (lists : List PostList) (found : List (Option ℕ)) (done : Recorded) (m : Machine) (n room : ℕ) → Opened s w lists found done m n room
-    → found ≡ replicate (callers (plan_of s)) None
-found_open s w lists found done m n room o = o.nothing ∙ ap (λ (p : Plan). replicate (callers p) None) o.plan
+  pub playing_open : IsPlaying w lists found done
+  playing_open =
+      opens IsPlaying (playing_first (plan_of s) lists m (subst IsSound o.plan o.sound) o.machine (subst (λ (p : Plan). AreEmpty p lists) o.plan o.empty)
+      (o.each ∙ o.queues ∙ ap callers o.plan) o.placed)
 
-done_open : (s : Setup) (w : Callers) (lists : List PostList) (found : List (Option ℕ)) (done : Recorded) (m : Machine) (n room : ℕ) → Opened s w lists found done m n room
-    → done ≡ first_done s m
-done_open s w lists found done m n room o =
-    o.is_done
-    ∙ ap (λ (k : ℕ). done_at_start m k room) (o.queues ∙ ap callers o.plan)
-    ∙ ap (λ (k : ℕ). done_at_start m (callers (plan_of s)) k) (o.lines ∙ ap most_lines o.plan)
-
-pub playing_open : (s : Setup) (w : Callers) (lists : List PostList) (found : List (Option ℕ)) (done : Recorded) (m : Machine) (n room : ℕ) → Opened s w lists found done m n room
-    → IsPlaying w lists found done
-playing_open s w lists found done m n room o =
-    subst (λ (v : Callers). IsPlaying v lists found done) (sym (callers_open s w lists found done m n room o))
-    (subst (λ (fs : List (Option ℕ)). IsPlaying (record { plan = plan_of s; counters = counters_at_start (plan_of s) }) lists fs done) (sym (found_open s w lists found done m n room o))
-    (subst (λ (d : Recorded). IsPlaying (record { plan = plan_of s; counters = counters_at_start (plan_of s) }) lists (replicate (callers (plan_of s)) None) d) (sym (done_open s w lists found done m n room o))
-    (playing_first (plan_of s) lists m (subst IsSound o.plan o.sound) o.machine (subst (λ (p : Plan). AreEmpty p lists) o.plan o.empty) (o.each ∙ o.queues ∙ ap callers o.plan) o.placed)))
-
-pub player_open : (s : Setup) (w : Callers) (lists : List PostList) (found : List (Option ℕ)) (done : Recorded) (m : Machine) (n room : ℕ) → Opened s w lists found done m n room
-    → player_of w lists found done ≡ player_start s
-player_open s w lists found done m n room o =
-    ap (λ (v : Callers). player_of v lists found done) (callers_open s w lists found done m n room o)
-    ∙ ap (λ (fs : List (Option ℕ)). player_of (record { plan = plan_of s; counters = counters_at_start (plan_of s) }) lists fs done) (found_open s w lists found done m n room o)
-    ∙ ap (λ (d : Recorded). player_of (record { plan = plan_of s; counters = counters_at_start (plan_of s) }) lists (replicate (callers (plan_of s)) None) d) (done_open s w lists found done m n room o)
-    ∙ ap (λ (x : Machine). player_of (record { plan = plan_of s; counters = counters_at_start (plan_of s) }) lists (replicate (callers (plan_of s)) None) (first_done s x)) o.machine
-    ∙ ap (λ (g : Progress). record { plan = plan_of s; state = record (micro_start s) { progress = g } })
-    (progress_first (plan_of s) lists (subst (λ (p : Plan). AreEmpty p lists) o.plan o.empty))
+  pub player_open : player_of w lists found done ≡ player_start s
+  player_open =
+      opens (λ v ls fs d. player_of v ls fs d ≡ player_start s)
+      (ap (λ (x : Machine). player_of (first_callers s) lists (replicate (callers (plan_of s)) None) (first_done s x)) o.machine
+      ∙ ap (λ (g : Progress). record { plan = plan_of s; state = record (micro_start s) { progress = g } })
+      (progress_first (plan_of s) lists (subst (λ (p : Plan). AreEmpty p lists) o.plan o.empty)))

@@ -11,6 +11,7 @@ pub mod WorkSteps
 pub mod Posting
 pub mod Progressing
 pub mod Rooms
+pub mod PlayerParts
 pub mod PlayerSteps
 pub mod Reserving
 pub mod Beginning

@@ -1,6 +1,6 @@
 -- What a step of a caller makes of the queues that it holds, of its hand and of its answer.
-use Rattle.std.proofs.Common.{◌≡◌, ◌≢◌, ◌⊎◌, inl, inr, ℕ, ◌<◌, Bool, true, false, cond, List, length, sym, ap, subst, ◌∙◌, refl}
-use Rattle.std.proofs.lemmas.Bool.{false≢true, eqb-true}
+use Rattle.std.proofs.Common.{◌≡◌, ◌≢◌, inl, inr, ℕ, ◌<◌, Bool, true, false, cond, List, length, sym, ap, subst, ◌∙◌, refl}
+use Rattle.std.proofs.lemmas.Bool.{false≢true, cases_Bool, cases_eq, ne_eqb}
 use Rattle.std.specs.Prelude.{◌==◌, Option, Some, None}
 use Rattle.eevdf_ops.specs.{declared.deeds.Op.Op, declared.deeds.Answer.Answer, Machine.Machine, Machine.queue_at}
 use Rattle.eevdf_steps.specs.{declared.micro.Micro.Micro, declared.plan.Step.Step, Plan.Plan, Plan.callers}
@@ -35,120 +35,99 @@ pub fresh_begun : (p : ℕ) (o : Option Step) → is_fresh o ≡ true → under_
 fresh_begun p None e = refl
 fresh_begun p (Some s) e = fresh_micro p s.op s.micro e
 
--- what is under way before the step itself
-pub begun_now : (plan : Plan) (counters : Counters) (p : ℕ) (o : Op) (micro : Micro) → step_next plan counters p ≡ Some (step_in o micro) → begun_by plan counters p ≡ under_way_before p o micro
-begun_now plan counters p o micro e = ap (λ (n : Option Step). under_way p n) e
-
--- before a step of which nothing is under way the caller sees the history
-pub sees_history : (plan : Plan) (counters : Counters) (p : ℕ) (m : Machine) (w : Work) → FollowsHistory plan m counters w → begun_by plan counters p ≡ None
-    → (c : ℕ) → holds plan counters c p ≡ true → queue_at w.machine c ≡ queue_at m c
-sees_history plan counters p m w r e c held = r.held c p held ∙ ap (λ (u : Option UnderWay). queue_seen plan.homes m u c) e
-
-pub holds_nothing : (plan : Plan) (counters : Counters) (p : ℕ) (m : Machine) (w : Work) → FollowsHistory plan m counters w → begun_by plan counters p ≡ None → hand w p ≡ None
-holds_nothing plan counters p m w r e = r.hands p ∙ ap (λ (u : Option UnderWay). hand_seen plan.homes m u) e
-
 pub no_answer : (homes : List ℕ) (m : Machine) (u : Option UnderWay) (a : Option Answer) → u ≡ None → KeepsAnswer homes m u a
 no_answer homes m u a e = subst (λ (v : Option UnderWay). KeepsAnswer homes m v a) (sym e) tt
 
-pub still : (b x : Bool) → x ≡ b → b ≡ true → x ≡ false → ⊥
-still b x e t f = false≢true (sym f ∙ e ∙ t)
+-- a lock that a caller doesn't hold isn't one that it holds
+pub other_held : (plan : Plan) (counters : Counters) (p k c : ℕ) → holds plan counters k p ≡ true → holds plan counters c p ≡ false → c ≢ k
+other_held plan counters p k c own h same = false≢true (sym h ∙ ap (λ (i : ℕ). holds plan counters i p) same ∙ own)
 
--- the locks are as they were
-abbrev pub SameLocks : Plan → Counters → ℕ → Type 0
-SameLocks plan counters p = (c : ℕ) → holds plan (counted counters p) c p ≡ holds plan counters c p
+-- a step that leaves the locks as they are
+abbrev pub KeepsLocks : Micro → Type 0
+KeepsLocks micro = (c : ℕ) (b : Bool) → held_after c b micro ≡ b
 
-pub same_locks : (plan : Plan) (counters : Counters) (p : ℕ) (o : Op) (micro : Micro) → p < length counters → step_next plan counters p ≡ Some (step_in o micro)
-    → ((c : ℕ) (b : Bool) → held_after c b micro ≡ b) → SameLocks plan counters p
-same_locks plan counters p o micro h e keep c = holds_own plan counters c p (step_in o micro) h e ∙ keep c (holds plan counters c p)
+given_up : (b : Bool) → cond b false false ≡ false
+given_up true = refl
+given_up false = refl
 
--- a step that leaves the locks as they are, and the history too
-pub local_step : (plan : Plan) (counters : Counters) (p : ℕ) (m : Machine) (w w' : Work) (o : Op) (micro : Micro) (u : Option UnderWay)
-    → AtStep plan counters p m w o micro → SameLocks plan counters p → begun_by plan (counted counters p) p ≡ u
-    → ((c : ℕ) → holds plan counters c p ≡ false → queue_at w'.machine c ≡ queue_at w.machine c)
-    → ((c : ℕ) → holds plan counters c p ≡ true → queue_at w'.machine c ≡ queue_seen plan.homes m u c)
-    → ((q : ℕ) → q ≢ p → hand w' q ≡ hand w q) → ((q : ℕ) → q ≢ p → answer w' q ≡ answer w q)
-    → hand w' p ≡ hand_seen plan.homes m u → KeepsAnswer plan.homes m u (answer w' p) → IsStepOf plan counters p m m w w'
-local_step plan counters p m w w' o micro u at same now stay own hands answers own_hand own_answer = record {
-  long = at.long;
-  still_long = at.long;
-  stay = stay;
-  past = λ c h. refl;
-  hands = hands;
-  answers = answers;
-  own = λ c h. own c (sym (same c) ∙ h) ∙ ap (λ (v : Option UnderWay). queue_seen plan.homes m v c) (sym now);
-  own_hand = own_hand ∙ ap (λ (v : Option UnderWay). hand_seen plan.homes m v) (sym now);
-  own_answer = subst (λ (v : Option UnderWay). KeepsAnswer plan.homes m v (answer w' p)) (sym now) own_answer;
-  released = λ c h k. absurd (still (holds plan counters c p) _ (same c) h k);
-  acquired = λ c h k. absurd (false≢true (sym h ∙ sym (same c) ∙ k));
-}
+module _ {plan : Plan} {counters : Counters} {p : ℕ} {m : Machine} {w : Work} {o : Op} {micro : Micro} (at : AtStep plan counters p m w o micro) where
+  -- what is under way before the step itself
+  pub begun_now : begun_by plan counters p ≡ under_way_before p o micro
+  begun_now = ap (λ (n : Option Step). under_way p n) at.next
 
--- nothing is done on the queues, and nothing is under way before or after
-pub quiet_step : (plan : Plan) (counters : Counters) (p : ℕ) (m : Machine) (w : Work) (o : Op) (micro : Micro) → AtStep plan counters p m w o micro → SameLocks plan counters p
-    → begun_by plan counters p ≡ None → begun_by plan (counted counters p) p ≡ None → IsStepOf plan counters p m m w w
-quiet_step plan counters p m w o micro at same before after =
-    local_step plan counters p m w w o micro None at same after (λ c h. refl) (sees_history plan counters p m w at.seen before) (λ q h. refl) (λ q h. refl)
-    (holds_nothing plan counters p m w at.seen before) tt
+  fresh_now : is_fresh_micro micro ≡ true → begun_by plan counters p ≡ None
+  fresh_now fresh = begun_now ∙ fresh_micro p o micro fresh
 
-always : (b : Bool) → cond b true true ≡ true
-always true = refl
-always false = refl
+  -- before a step of which nothing is under way the caller sees the history
+  pub sees_history : is_fresh_micro micro ≡ true → (c : ℕ) → holds plan counters c p ≡ true → queue_at w.machine c ≡ queue_at m c
+  sees_history fresh c held = at.seen.held c p held ∙ ap (λ (u : Option UnderWay). queue_seen plan.homes m u c) (fresh_now fresh)
 
-other_lock : (c k : ℕ) (x b : Bool) → (c == k) ≡ x → cond x true b ≡ true → (c ≡ k) ⊎ (b ≡ true)
-other_lock c k true b e h = inl (eqb-true c k e)
-other_lock c k false b e h = inr h
+  pub hand_empty : is_fresh_micro micro ≡ true → hand w p ≡ None
+  hand_empty fresh = at.seen.hands p ∙ ap (λ (u : Option UnderWay). hand_seen plan.homes m u) (fresh_now fresh)
 
--- a lock is acquired that nobody holds
-pub acquire_step : (plan : Plan) (counters : Counters) (p c : ℕ) (m : Machine) (w : Work) (o : Op) → AtStep plan counters p m w o (Acquire c) → IsFree plan counters c
-    → IsStepOf plan counters p m m w w
-acquire_step plan counters p c m w o at free =
-    let before : begun_by plan counters p ≡ None = begun_now plan counters p o (Acquire c) at.next in
-    let after : begun_by plan (counted counters p) p ≡ None = fresh_begun p (step_next plan (counted counters p) p) at.fits.fresh in
-    let taken : (k : ℕ) → holds plan (counted counters p) k p ≡ cond (c == k) true (holds plan counters k p)
-    = λ k. holds_own plan counters k p (step_in o (Acquire c)) at.counter at.next in
-    record {
-      long = at.long;
-      still_long = at.long;
-      stay = λ k h. refl;
-      past = λ k h. refl;
-      hands = λ q h. refl;
-      answers = λ q h. refl;
-      own = λ k h.
-          elim (other_lock c k (c == k) (holds plan counters k p) refl (sym (taken k) ∙ h)) [
-            | inl same ↦ subst (λ (i : ℕ). queue_at w.machine i ≡ queue_at m i) same (at.seen.free c free)
-            | inr held ↦ sees_history plan counters p m w at.seen before k held
-          ] ∙ ap (λ (u : Option UnderWay). queue_seen plan.homes m u k) (sym after);
-      own_hand = holds_nothing plan counters p m w at.seen before ∙ ap (λ (u : Option UnderWay). hand_seen plan.homes m u) (sym after);
-      own_answer = no_answer plan.homes m (begun_by plan (counted counters p) p) (answer w p) after;
-      released = λ k h i. absurd (false≢true (sym i ∙ taken k ∙ ap (λ (b : Bool). cond (c == k) true b) h ∙ always (c == k)));
-      acquired = λ k h i.
-          elim (other_lock c k (c == k) (holds plan counters k p) refl (sym (taken k) ∙ i)) [
-            | inl same ↦ subst (IsFree plan counters) same free
-            | inr held ↦ absurd (false≢true (sym h ∙ held))
-          ];
-    }
+  held_next : (c : ℕ) → holds plan (counted counters p) c p ≡ held_after c (holds plan counters c p) micro
+  held_next c = holds_own plan counters c p (step_in o micro) at.counter at.next
 
-given_lock : (c k : ℕ) (x b : Bool) → (c == k) ≡ x → cond x false b ≡ true → b ≡ true
-given_lock c k true b e h = absurd (false≢true h)
-given_lock c k false b e h = h
+  same_locks : KeepsLocks micro → (c : ℕ) → holds plan (counted counters p) c p ≡ holds plan counters c p
+  same_locks keep c = held_next c ∙ keep c (holds plan counters c p)
 
--- a lock is given up
-pub release_step : (plan : Plan) (counters : Counters) (p c : ℕ) (m : Machine) (w : Work) (o : Op) → AtStep plan counters p m w o (Release c) → IsStepOf plan counters p m m w w
-release_step plan counters p c m w o at =
-    let before : begun_by plan counters p ≡ None = begun_now plan counters p o (Release c) at.next in
-    let after : begun_by plan (counted counters p) p ≡ None = fresh_begun p (step_next plan (counted counters p) p) at.fits.fresh in
-    let given : (k : ℕ) → holds plan (counted counters p) k p ≡ cond (c == k) false (holds plan counters k p)
-    = λ k. holds_own plan counters k p (step_in o (Release c)) at.counter at.next in
-    record {
-      long = at.long;
-      still_long = at.long;
-      stay = λ k h. refl;
-      past = λ k h. refl;
-      hands = λ q h. refl;
-      answers = λ q h. refl;
-      own = λ k h. sees_history plan counters p m w at.seen before k (given_lock c k (c == k) (holds plan counters k p) refl (sym (given k) ∙ h))
-          ∙ ap (λ (u : Option UnderWay). queue_seen plan.homes m u k) (sym after);
-      own_hand = holds_nothing plan counters p m w at.seen before ∙ ap (λ (u : Option UnderWay). hand_seen plan.homes m u) (sym after);
-      own_answer = no_answer plan.homes m (begun_by plan (counted counters p) p) (answer w p) after;
-      released = λ k h i. sees_history plan counters p m w at.seen before k h;
-      acquired = λ k h i. absurd (false≢true (sym h ∙ given_lock c k (c == k) (holds plan counters k p) refl (sym (given k) ∙ i)));
-    }
+  -- a step that leaves the locks as they are
+  pub local_step : (m' : Machine) (w' : Work) (u : Option UnderWay) → KeepsLocks micro → begun_by plan (counted counters p) p ≡ u → length m' ≡ callers plan
+      → ((c : ℕ) → holds plan counters c p ≡ false → queue_at m' c ≡ queue_at m c)
+      → ((c : ℕ) → holds plan counters c p ≡ false → queue_at w'.machine c ≡ queue_at w.machine c)
+      → ((c : ℕ) → holds plan counters c p ≡ true → queue_at w'.machine c ≡ queue_seen plan.homes m' u c)
+      → ((q : ℕ) → q ≢ p → hand w' q ≡ hand w q) → ((q : ℕ) → q ≢ p → answer w' q ≡ answer w q)
+      → hand w' p ≡ hand_seen plan.homes m' u → KeepsAnswer plan.homes m' u (answer w' p) → IsStepOf plan counters p m m' w w'
+  local_step m' w' u keep now long past stay own hands answers own_hand own_answer = record {
+    long = at.long;
+    still_long = long;
+    stay = stay;
+    past = past;
+    hands = hands;
+    answers = answers;
+    own = λ c h. own c (sym (same_locks keep c) ∙ h) ∙ ap (λ (v : Option UnderWay). queue_seen plan.homes m' v c) (sym now);
+    own_hand = own_hand ∙ ap (λ (v : Option UnderWay). hand_seen plan.homes m' v) (sym now);
+    own_answer = subst (λ (v : Option UnderWay). KeepsAnswer plan.homes m' v (answer w' p)) (sym now) own_answer;
+    released = λ c h k. absurd (false≢true (sym k ∙ same_locks keep c ∙ h));
+    acquired = λ c h k. absurd (false≢true (sym h ∙ sym (same_locks keep c) ∙ k));
+  }
+
+  -- nothing is done on the queues, and nothing is under way before or after
+  fresh_step : is_fresh_micro micro ≡ true → begun_by plan (counted counters p) p ≡ None
+      → ((c : ℕ) → holds plan counters c p ≡ false → held_after c false micro ≡ true → IsFree plan counters c) → IsStepOf plan counters p m m w w
+  fresh_step fresh after free =
+      let acquired : (c : ℕ) → holds plan counters c p ≡ false → holds plan (counted counters p) c p ≡ true → IsFree plan counters c
+      = λ c h k. free c h (sym (held_next c ∙ ap (λ (b : Bool). held_after c b micro) h) ∙ k) in
+      record {
+        long = at.long;
+        still_long = at.long;
+        stay = λ c h. refl;
+        past = λ c h. refl;
+        hands = λ q h. refl;
+        answers = λ q h. refl;
+        own = λ c h. elim (cases_Bool (holds plan counters c p)) [
+          | inl held ↦ sees_history fresh c held
+          | inr other ↦ at.seen.free c (acquired c other h)
+        ] ∙ ap (λ (u : Option UnderWay). queue_seen plan.homes m u c) (sym after);
+        own_hand = hand_empty fresh ∙ ap (λ (u : Option UnderWay). hand_seen plan.homes m u) (sym after);
+        own_answer = no_answer plan.homes m (begun_by plan (counted counters p) p) (answer w p) after;
+        released = λ c h k. sees_history fresh c h;
+        acquired = acquired;
+      }
+
+  pub quiet_step : is_fresh_micro micro ≡ true → KeepsLocks micro → begun_by plan (counted counters p) p ≡ None → IsStepOf plan counters p m m w w
+  quiet_step fresh keep after = fresh_step fresh after (λ c h k. absurd (false≢true (sym (keep c false) ∙ k)))
+
+module _ {plan : Plan} {counters : Counters} {p c : ℕ} {m : Machine} {w : Work} {o : Op} where
+  -- a lock is acquired that nobody holds
+  pub acquire_step : AtStep plan counters p m w o (Acquire c) → IsFree plan counters c → IsStepOf plan counters p m m w w
+  acquire_step at free = fresh_step at refl (fresh_begun p (step_next plan (counted counters p) p) at.fits.fresh) (λ k h i.
+      elim (cases_eq c k) [
+        | inl same ↦ subst (IsFree plan counters) same free
+        | inr apart ↦ absurd (false≢true (ap (λ (b : Bool). cond b true false) (sym (ne_eqb c k apart)) ∙ i))
+      ])
+
+  -- a lock is given up
+  pub release_step : AtStep plan counters p m w o (Release c) → IsStepOf plan counters p m m w w
+  release_step at = fresh_step at refl (fresh_begun p (step_next plan (counted counters p) p) at.fits.fresh)
+      (λ k h i. absurd (false≢true (sym (given_up (c == k)) ∙ i)))

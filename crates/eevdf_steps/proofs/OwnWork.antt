@@ -1,13 +1,13 @@
 -- What the caller's work on the queues comes to, seen from the machine of the history.
 use Rattle.std.proofs.Common.{◌≡◌, ◌≢◌, ℕ, ◌<◌, Bool, true, false, cond, List, length, set, sym, ap, subst, ◌∙◌, refl, arith}
-use Rattle.std.proofs.lemmas.Bool.{false≢true, eqb-true, ne_eqb, eq-eqb}
+use Rattle.std.proofs.lemmas.Bool.{eqb-true, ne_eqb, eq-eqb}
 use Rattle.std.proofs.lemmas.List.{get_or-set_same, get_or-set_other}
 use Rattle.std.specs.Prelude.{◌==◌, IfSome, Option, Some, None, Result, Ok, Err}
 use Rattle.eevdf_queue.specs.State.{State, Contents, empty_state}
 use Rattle.eevdf_queue.specs.{Moves.put_asleep, Moves.sleeper_of, Leaving.carried_running, Leaving.leave, Placing.can_place}
 use Rattle.eevdf_ops.specs.{declared.deeds.Op.Op, declared.deeds.Deed.Deed, declared.deeds.Answer.Answer}
 use Rattle.eevdf_ops.specs.{declared.deeds.Answer.TheVariants.NotRunning, declared.deeds.Answer.TheVariants.Pulled, Machine.Machine}
-use Rattle.eevdf_ops.specs.{Machine.queue_at, Whole.whole, WholeSleep.sleep_carrying, WholeSleep.slept}
+use Rattle.eevdf_ops.specs.{Machine.queue_at, Whole.whole, WholeSleep.sleep_carrying, WholeSleep.slept, Programs.deed_of}
 use Rattle.eevdf_ops.specs.declared.deeds.Op.TheVariants as op
 use Rattle.eevdf_ops.specs.declared.deeds.Deed.TheVariants as deed
 use Rattle.eevdf_ops.specs.Parts.{after_leaving, after_falling_asleep, after_joining, giver, only_at, taken}
@@ -18,104 +18,86 @@ use Rattle.eevdf_ops.proofs.{MachinePlaces.other_queue, Pulling.decided_at, Pull
 use Rattle.eevdf_steps.specs.declared.micro.Micro.TheVariants.{Act, Detach, Attach}
 use Rattle.eevdf_steps.specs.Plan.{Plan, callers, home}
 use Rattle.eevdf_steps.specs.Counters.{Counters, counted, holds}
-use Rattle.eevdf_steps.specs.Serial.{begun_by}
+use Rattle.eevdf_steps.specs.{Serial.begun_by, declared.plan.Step.Step}
 use Rattle.eevdf_steps.specs.Work.{Work, acted, answer, answered, attach_asleep, attach_pulled, detach_pulled, detach_running, detached, hand, put_down}
-use Rattle.eevdf_steps.specs.UnderWay.{KeepsAnswer, UnderWay, hand_seen, leaves, queue_seen}
+use Rattle.eevdf_steps.specs.UnderWay.{KeepsAnswer, UnderWay, hand_seen, leaves, queue_seen, begun, under_way}
 use Rattle.eevdf_steps.proofs.OtherCallers.{IsStepOf}
-use Rattle.eevdf_steps.proofs.OwnSteps.{AtStep, begun_now, holds_nothing, local_step, same_locks, sees_history}
+use Rattle.eevdf_steps.proofs.OwnSteps.{AtStep, begun_now, local_step, sees_history, hand_empty, other_held}
 
 -- the deed is done on the caller's own queue alone
 abbrev pub ActsThere : List ℕ → Machine → ℕ → Deed → (State → Answer × State) → Type 0
 ActsThere homes m p d f = ((whole homes d m).0 ≡ (f (queue_at m p)).0) × ((whole homes d m).1 ≡ set m p (f (queue_at m p)).1)
 
-unheld : (b x : Bool) → b ≡ x → x ≡ true → b ≡ false → ⊥
-unheld b x e t f = false≢true (sym f ∙ e ∙ t)
+module _ {plan : Plan} {counters : Counters} {p : ℕ} {m : Machine} {w : Work} where
+  pub acted_step : {o : Op} (d : Deed) (f : State → Answer × State) → AtStep plan counters p m w o Act → ((c : ℕ) → holds plan counters c p ≡ (c == p))
+      → begun_by plan (counted counters p) p ≡ Some (record { deed = d; done = true }) → ActsThere plan.homes m p d f
+      → IsStepOf plan counters p m m w (acted w p (f (queue_at w.machine p)))
+  acted_step d f at covers now there =
+      let own : holds plan counters p p ≡ true = covers p ∙ eq-eqb p p refl in
+      let here : queue_at w.machine p ≡ queue_at m p = sees_history at refl p own in
+      local_step at m (acted w p (f (queue_at w.machine p))) (Some (record { deed = d; done = true })) (λ c b. refl) now at.long (λ c h. refl)
+      (λ c h. other_queue w.machine p c (f (queue_at w.machine p)).1 (other_held plan counters p p c own h))
+      (λ c h. subst (λ (k : ℕ). queue_at (set w.machine p (f (queue_at w.machine p)).1) k ≡ queue_at (whole plan.homes d m).1 k) (sym (eqb-true c p (sym (covers c) ∙ h)))
+      (get_or-set_same w.machine p (f (queue_at w.machine p)).1 empty_state (omega (arith, at.caller, at.queues))
+      ∙ ap (λ (q : State). (f q).1) here
+      ∙ sym (get_or-set_same m p (f (queue_at m p)).1 empty_state (omega (arith, at.caller, at.long)))
+      ∙ ap (λ (n : Machine). queue_at n p) (sym there.1)))
+      (λ q h. refl)
+      (λ q h. get_or-set_other w.answers p q (Some (f (queue_at w.machine p)).0) None h)
+      (hand_empty at refl)
+      (get_or-set_same w.answers p (Some (f (queue_at w.machine p)).0) None (omega (arith, at.caller, at.answers))
+      ∙ ap (λ (q : State). Some (f q).0) here ∙ ap (λ (a : Answer). Some a) (sym there.0))
 
--- a lock that the caller doesn't hold isn't that of its own queue
-pub not_own : (plan : Plan) (counters : Counters) (p c : ℕ) → holds plan counters p p ≡ true → holds plan counters c p ≡ false → c ≢ p
-not_own plan counters p c own h same = false≢true (sym h ∙ ap (λ (k : ℕ). holds plan counters k p) same ∙ own)
+  -- a detach that refuses keeps an answer alone
+  refused_step : {o : Op} (d : Deed) (a : Answer) → AtStep plan counters p m w o Detach → begun_by plan (counted counters p) p ≡ Some (record { deed = d; done = false })
+      → (whole plan.homes d m).0 ≡ a → leaves plan.homes m d ≡ None → IsStepOf plan counters p m m w (answered w p a)
+  refused_step d a at now answers leaves_none =
+      local_step at m (answered w p a) (Some (record { deed = d; done = false })) (λ c b. refl) now at.long (λ c h. refl) (λ c h. refl)
+      (λ c h. sees_history at refl c h ∙ sym (idle (c == giver d) (queue_at m c))
+      ∙ ap (λ (x : Option Contents). only_at (giver d) c (after_leaving x) (queue_at m c)) (sym leaves_none))
+      (λ q h. refl)
+      (λ q h. get_or-set_other w.answers p q (Some a) None h)
+      (hand_empty at refl ∙ sym leaves_none)
+      (get_or-set_same w.answers p (Some a) None (omega (arith, at.caller, at.answers)) ∙ ap (λ (x : Answer). Some x) (sym answers))
 
-pub acted_step : (plan : Plan) (counters : Counters) (p : ℕ) (m : Machine) (w : Work) (o : Op) (d : Deed) (f : State → Answer × State)
-    → AtStep plan counters p m w o Act → ((c : ℕ) → holds plan counters c p ≡ (c == p)) → begun_by plan (counted counters p) p ≡ Some (record { deed = d; done = true })
-    → ActsThere plan.homes m p d f → IsStepOf plan counters p m m w (acted w p (f (queue_at w.machine p)))
-acted_step plan counters p m w o d f at covers now there =
-    let before : begun_by plan counters p ≡ None = begun_now plan counters p o Act at.next in
-    let own : holds plan counters p p ≡ true = covers p ∙ eq-eqb p p refl in
-    let here : queue_at w.machine p ≡ queue_at m p = sees_history plan counters p m w at.seen before p own in
-    local_step plan counters p m w (acted w p (f (queue_at w.machine p))) o Act (Some (record { deed = d; done = true })) at
-    (same_locks plan counters p o Act at.counter at.next (λ c b. refl)) now
-    (λ c h. other_queue w.machine p c (f (queue_at w.machine p)).1 (not_own plan counters p c own h))
-    (λ c h. subst (λ (k : ℕ). queue_at (set w.machine p (f (queue_at w.machine p)).1) k ≡ queue_at (whole plan.homes d m).1 k) (sym (eqb-true c p (sym (covers c) ∙ h)))
-    (get_or-set_same w.machine p (f (queue_at w.machine p)).1 empty_state (omega (arith, at.caller, at.queues))
-    ∙ ap (λ (q : State). (f q).1) here
-    ∙ sym (get_or-set_same m p (f (queue_at m p)).1 empty_state (omega (arith, at.caller, at.long)))
-    ∙ ap (λ (n : Machine). queue_at n p) (sym there.1)))
-    (λ q h. refl)
-    (λ q h. get_or-set_other w.answers p q (Some (f (queue_at w.machine p)).0) None h)
-    (holds_nothing plan counters p m w at.seen before)
-    (get_or-set_same w.answers p (Some (f (queue_at w.machine p)).0) None (omega (arith, at.caller, at.answers))
-    ∙ ap (λ (q : State). Some (f q).0) here ∙ ap (λ (a : Answer). Some a) (sym there.0))
+  -- a detach takes a task into the hand
+  grasped_step : {o : Op} (d : Deed) (x : Contents) (a : Answer) → AtStep plan counters p m w o Detach
+      → begun_by plan (counted counters p) p ≡ Some (record { deed = d; done = false }) → holds plan counters (giver d) p ≡ true → giver d < length w.machine
+      → (whole plan.homes d m).0 ≡ a → leaves plan.homes m d ≡ Some x → IsStepOf plan counters p m m w (detached w p (giver d) x a)
+  grasped_step d x a at now own below answers leaves_it =
+      local_step at m (detached w p (giver d) x a) (Some (record { deed = d; done = false })) (λ c b. refl) now at.long (λ c h. refl)
+      (λ c h. other_queue w.machine (giver d) c (leave (queue_at w.machine (giver d)) x.task) (other_held plan counters p (giver d) c own h))
+      (λ c h. changed (λ q. leave q x.task) w.machine (giver d) c below
+      ∙ ap (λ (q : State). only_at (giver d) c (λ r. leave r x.task) q) (sees_history at refl c h)
+      ∙ ap (λ (y : Option Contents). only_at (giver d) c (after_leaving y) (queue_at m c)) (sym leaves_it))
+      (λ q h. get_or-set_other w.hands p q (Some x) None h)
+      (λ q h. get_or-set_other w.answers p q (Some a) None h)
+      (get_or-set_same w.hands p (Some x) None (omega (arith, at.caller, at.hands)) ∙ sym leaves_it)
+      (get_or-set_same w.answers p (Some a) None (omega (arith, at.caller, at.answers)) ∙ ap (λ (y : Answer). Some y) (sym answers))
 
--- a detach that refuses keeps an answer alone
-refused_step : (plan : Plan) (counters : Counters) (p : ℕ) (m : Machine) (w : Work) (o : Op) (d : Deed) (a : Answer)
-    → AtStep plan counters p m w o Detach → begun_by plan (counted counters p) p ≡ Some (record { deed = d; done = false })
-    → (whole plan.homes d m).0 ≡ a → leaves plan.homes m d ≡ None → IsStepOf plan counters p m m w (answered w p a)
-refused_step plan counters p m w o d a at now answers leaves_none =
-    let before : begun_by plan counters p ≡ None = begun_now plan counters p o Detach at.next in
-    local_step plan counters p m w (answered w p a) o Detach (Some (record { deed = d; done = false })) at
-    (same_locks plan counters p o Detach at.counter at.next (λ c b. refl)) now
-    (λ c h. refl)
-    (λ c h. sees_history plan counters p m w at.seen before c h ∙ sym (idle (c == giver d) (queue_at m c))
-    ∙ ap (λ (x : Option Contents). only_at (giver d) c (after_leaving x) (queue_at m c)) (sym leaves_none))
-    (λ q h. refl)
-    (λ q h. get_or-set_other w.answers p q (Some a) None h)
-    (holds_nothing plan counters p m w at.seen before ∙ sym leaves_none)
-    (get_or-set_same w.answers p (Some a) None (omega (arith, at.caller, at.answers)) ∙ ap (λ (x : Answer). Some x) (sym answers))
+  -- the running task that is to sleep
+  pub sleep_leaves : (t : ℕ) (r : Option Contents) → AtStep plan counters p m w (op.Sleep t) Detach
+      → begun_by plan (counted counters p) p ≡ Some (record { deed = deed.Sleep p t; done = false }) → holds plan counters p p ≡ true
+      → carried_running (queue_at m p) t ≡ r → IsStepOf plan counters p m m w (detach_running w p r)
+  sleep_leaves t None at now own e =
+      refused_step (deed.Sleep p t) NotRunning at now (ap (λ (r : Option Contents). (sleep_carrying m p (home plan t) r).0) e) e
+  sleep_leaves t (Some x) at now own e =
+      grasped_step (deed.Sleep p t) x (slept x) at now own (omega (arith, at.caller, at.queues)) (ap (λ (r : Option Contents). (sleep_carrying m p (home plan t) r).0) e) e
 
--- a detach takes a task into the hand
-grasped_step : (plan : Plan) (counters : Counters) (p : ℕ) (m : Machine) (w : Work) (o : Op) (d : Deed) (x : Contents) (a : Answer)
-    → AtStep plan counters p m w o Detach → begun_by plan (counted counters p) p ≡ Some (record { deed = d; done = false })
-    → holds plan counters (giver d) p ≡ true → giver d < length w.machine
-    → (whole plan.homes d m).0 ≡ a → leaves plan.homes m d ≡ Some x → IsStepOf plan counters p m m w (detached w p (giver d) x a)
-grasped_step plan counters p m w o d x a at now own below answers leaves_it =
-    let before : begun_by plan counters p ≡ None = begun_now plan counters p o Detach at.next in
-    local_step plan counters p m w (detached w p (giver d) x a) o Detach (Some (record { deed = d; done = false })) at
-    (same_locks plan counters p o Detach at.counter at.next (λ c b. refl)) now
-    (λ c h. other_queue w.machine (giver d) c (leave (queue_at w.machine (giver d)) x.task)
-    (λ same. unheld (holds plan counters c p) true (ap (λ (k : ℕ). holds plan counters k p) same ∙ own) refl h))
-    (λ c h. changed (λ q. leave q x.task) w.machine (giver d) c below
-    ∙ ap (λ (q : State). only_at (giver d) c (λ r. leave r x.task) q) (sees_history plan counters p m w at.seen before c h)
-    ∙ ap (λ (y : Option Contents). only_at (giver d) c (after_leaving y) (queue_at m c)) (sym leaves_it))
-    (λ q h. get_or-set_other w.hands p q (Some x) None h)
-    (λ q h. get_or-set_other w.answers p q (Some a) None h)
-    (get_or-set_same w.hands p (Some x) None (omega (arith, at.caller, at.hands)) ∙ sym leaves_it)
-    (get_or-set_same w.answers p (Some a) None (omega (arith, at.caller, at.answers)) ∙ ap (λ (y : Answer). Some y) (sym answers))
-
--- the running task that is to sleep
-pub sleep_leaves : (plan : Plan) (counters : Counters) (p t : ℕ) (m : Machine) (w : Work) (r : Option Contents)
-    → AtStep plan counters p m w (op.Sleep t) Detach → begun_by plan (counted counters p) p ≡ Some (record { deed = deed.Sleep p t; done = false })
-    → holds plan counters p p ≡ true → carried_running (queue_at m p) t ≡ r → IsStepOf plan counters p m m w (detach_running w p r)
-sleep_leaves plan counters p t m w None at now own e =
-    refused_step plan counters p m w (op.Sleep t) (deed.Sleep p t) NotRunning at now
-    (ap (λ (r : Option Contents). (sleep_carrying m p (home plan t) r).0) e) e
-sleep_leaves plan counters p t m w (Some x) at now own e =
-    grasped_step plan counters p m w (op.Sleep t) (deed.Sleep p t) x (slept x) at now own (omega (arith, at.caller, at.queues))
-    (ap (λ (r : Option Contents). (sleep_carrying m p (home plan t) r).0) e) e
-
--- the task that is pulled
-pub pull_leaves : (plan : Plan) (counters : Counters) (p s : ℕ) (m : Machine) (w : Work) (r : Result Contents Answer)
-    → AtStep plan counters p m w (op.Pull s) Detach → begun_by plan (counted counters p) p ≡ Some (record { deed = deed.Pull p s; done = false })
-    → holds plan counters s p ≡ true → s < callers plan → decided_at m p s ≡ r → IsStepOf plan counters p m m w (detach_pulled w p s r)
-pull_leaves plan counters p s m w (Err why) at now own below e =
-    let answers : (whole plan.homes (deed.Pull p s) m).0 ≡ why = ap (λ (r : Result Contents Answer). (pull_decided m p s r).0) e in
-    refused_step plan counters p m w (op.Pull s) (deed.Pull p s) why at now answers
-    (ap (λ (a : Answer). taken a (offer (queue_at m s))) answers
-    ∙ untaken (queue_at m p) (load_of (queue_at m s)) (offer (queue_at m s)) (offer (queue_at m s)) why e)
-pull_leaves plan counters p s m w (Ok x) at now own below e =
-    let answers : (whole plan.homes (deed.Pull p s) m).0 ≡ Pulled x.task = ap (λ (r : Result Contents Answer). (pull_decided m p s r).0) e in
-    grasped_step plan counters p m w (op.Pull s) (deed.Pull p s) x (Pulled x.task) at now own (omega (arith, below, at.queues)) answers
-    (ap (λ (a : Answer). taken a (offer (queue_at m s))) answers
-    ∙ (decision-taken (queue_at m p) (load_of (queue_at m s)) (offer (queue_at m s)) x e).offered_it)
+  -- the task that is pulled
+  pub pull_leaves : (s : ℕ) (r : Result Contents Answer) → AtStep plan counters p m w (op.Pull s) Detach
+      → begun_by plan (counted counters p) p ≡ Some (record { deed = deed.Pull p s; done = false }) → holds plan counters s p ≡ true → s < callers plan
+      → decided_at m p s ≡ r → IsStepOf plan counters p m m w (detach_pulled w p s r)
+  pull_leaves s (Err why) at now own below e =
+      let answers : (whole plan.homes (deed.Pull p s) m).0 ≡ why = ap (λ (r : Result Contents Answer). (pull_decided m p s r).0) e in
+      refused_step (deed.Pull p s) why at now answers
+      (ap (λ (a : Answer). taken a (offer (queue_at m s))) answers
+      ∙ untaken (queue_at m p) (load_of (queue_at m s)) (offer (queue_at m s)) (offer (queue_at m s)) why e)
+  pull_leaves s (Ok x) at now own below e =
+      let answers : (whole plan.homes (deed.Pull p s) m).0 ≡ Pulled x.task = ap (λ (r : Result Contents Answer). (pull_decided m p s r).0) e in
+      grasped_step (deed.Pull p s) x (Pulled x.task) at now own (omega (arith, below, at.queues)) answers
+      (ap (λ (a : Answer). taken a (offer (queue_at m s))) answers
+      ∙ (decision-taken (queue_at m p) (load_of (queue_at m s)) (offer (queue_at m s)) x e).offered_it)
 
 -- what is under way before an attach is seen in the queues and in the hand
 pub record AtAttach (plan : Plan) (counters : Counters) (p : ℕ) (m : Machine) (w : Work) (o : Op) (d : Deed) : Type 0 where
@@ -124,67 +106,6 @@ pub record AtAttach (plan : Plan) (counters : Counters) (p : ℕ) (m : Machine) 
   pub hand_is : hand w p ≡ leaves plan.homes m d
   pub answer_is : answer w p ≡ Some (whole plan.homes d m).0
   pub queues_are : (c : ℕ) → holds plan counters c p ≡ true → queue_at w.machine c ≡ only_at (giver d) c (after_leaving (leaves plan.homes m d)) (queue_at m c)
-
-pub at_attach : (plan : Plan) (counters : Counters) (p : ℕ) (m : Machine) (w : Work) (o : Op) (d : Deed) → AtStep plan counters p m w o Attach
-    → begun_by plan counters p ≡ Some (record { deed = d; done = false }) → begun_by plan (counted counters p) p ≡ Some (record { deed = d; done = true })
-    → AtAttach plan counters p m w o d
-at_attach plan counters p m w o d at before now = record {
-  at = at;
-  now = now;
-  hand_is = at.seen.hands p ∙ ap (λ (u : Option UnderWay). hand_seen plan.homes m u) before;
-  answer_is = subst (λ (u : Option UnderWay). KeepsAnswer plan.homes m u (answer w p)) before (at.seen.answers p);
-  queues_are = λ c h. at.seen.held c p h ∙ ap (λ (u : Option UnderWay). queue_seen plan.homes m u c) before;
-}
-
--- the hand is empty
-empty_step : (plan : Plan) (counters : Counters) (p : ℕ) (m : Machine) (w : Work) (o : Op) (d : Deed)
-    → AtAttach plan counters p m w o d → leaves plan.homes m d ≡ None
-    → ((c : ℕ) → holds plan counters c p ≡ true → queue_at (whole plan.homes d m).1 c ≡ queue_at w.machine c)
-    → IsStepOf plan counters p m m w w
-empty_step plan counters p m w o d a none same =
-    local_step plan counters p m w w o Attach (Some (record { deed = d; done = true })) a.at
-    (same_locks plan counters p o Attach a.at.counter a.at.next (λ c b. refl)) a.now
-    (λ c h. refl) (λ c h. sym (same c h)) (λ q h. refl) (λ q h. refl) (a.hand_is ∙ none) a.answer_is
-
--- the task in hand is put down in a queue that the caller holds
-put_down_step : (plan : Plan) (counters : Counters) (p k : ℕ) (m : Machine) (w : Work) (o : Op) (d : Deed) (f : State → State)
-    → AtAttach plan counters p m w o d → holds plan counters k p ≡ true → k < length w.machine
-    → ((c : ℕ) → holds plan counters c p ≡ true → queue_at (whole plan.homes d m).1 c ≡ only_at k c f (queue_at w.machine c))
-    → IsStepOf plan counters p m m w (put_down w p (set w.machine k (f (queue_at w.machine k))))
-put_down_step plan counters p k m w o d f a own below same =
-    local_step plan counters p m w (put_down w p (set w.machine k (f (queue_at w.machine k)))) o Attach (Some (record { deed = d; done = true })) a.at
-    (same_locks plan counters p o Attach a.at.counter a.at.next (λ c b. refl)) a.now
-    (λ c h. other_queue w.machine k c (f (queue_at w.machine k)) (λ e. unheld (holds plan counters c p) true (ap (λ (i : ℕ). holds plan counters i p) e ∙ own) refl h))
-    (λ c h. changed f w.machine k c below ∙ sym (same c h))
-    (λ q h. get_or-set_other w.hands p q None None h) (λ q h. refl)
-    (get_or-set_same w.hands p None None (omega (arith, a.at.caller, a.at.hands))) a.answer_is
-
--- the whole deed at a queue that the caller holds: the task that left is put down
-abbrev pub PutsDown : Plan → Counters → ℕ → Machine → Work → Deed → ℕ → (Option Contents → State → State) → Type 0
-PutsDown plan counters p m w d k put =
-    (c : ℕ) → holds plan counters c p ≡ true → queue_at (whole plan.homes d m).1 c ≡ only_at k c (put (leaves plan.homes m d)) (queue_at w.machine c)
-
-asleep_by : (plan : Plan) (counters : Counters) (p t : ℕ) (m : Machine) (w : Work) (h : Option Contents)
-    → AtAttach plan counters p m w (op.Sleep t) (deed.Sleep p t) → holds plan counters (home plan t) p ≡ true → home plan t < callers plan
-    → PutsDown plan counters p m w (deed.Sleep p t) (home plan t) after_falling_asleep → leaves plan.homes m (deed.Sleep p t) ≡ h
-    → IsStepOf plan counters p m m w (attach_asleep w p (home plan t) h)
-asleep_by plan counters p t m w None a own below puts e =
-    empty_step plan counters p m w (op.Sleep t) (deed.Sleep p t) a e
-    (λ c held. puts c held ∙ ap (λ (x : Option Contents). only_at (home plan t) c (after_falling_asleep x) (queue_at w.machine c)) e
-    ∙ idle (c == home plan t) (queue_at w.machine c))
-asleep_by plan counters p t m w (Some x) a own below puts e =
-    put_down_step plan counters p (home plan t) m w (op.Sleep t) (deed.Sleep p t) (λ q. put_asleep q x) a own (omega (arith, below, a.at.queues))
-    (λ c held. puts c held ∙ ap (λ (y : Option Contents). only_at (home plan t) c (after_falling_asleep y) (queue_at w.machine c)) e)
-
--- the task in hand falls asleep at its home
-pub falls_asleep_step : (plan : Plan) (counters : Counters) (p t : ℕ) (m : Machine) (w : Work)
-    → AtAttach plan counters p m w (op.Sleep t) (deed.Sleep p t) → laws.Fits plan.homes (deed.Sleep p t) m → holds plan counters (home plan t) p ≡ true → home plan t < callers plan
-    → IsStepOf plan counters p m m w (attach_asleep w p (home plan t) (hand w p))
-falls_asleep_step plan counters p t m w a fits own below =
-    asleep_by plan counters p t m w (hand w p) a own below
-    (λ c held. whole-after plan.homes (deed.Sleep p t) m c fits
-    ∙ ap (λ (q : State). only_at (home plan t) c (after_falling_asleep (leaves plan.homes m (deed.Sleep p t))) q) (sym (a.queues_are c held)))
-    (sym a.hand_is)
 
 -- a task that a pull takes has room at the CPU that pulls
 room_by : (m : Machine) (p s : ℕ) (x : Contents) (r : Result Contents Answer) → decided_at m p s ≡ r → taken (pull_decided m p s r).0 (offer (queue_at m s)) ≡ Some x
@@ -197,32 +118,83 @@ room_by m p s x (Ok y) e t =
     let is : y ≡ x = cc in
     ap (λ (z : Contents). can_place (queue_at m p) (sleeper_of z)) (sym is) ∙ (decision-taken (queue_at m p) (load_of (queue_at m s)) (offer (queue_at m s)) y e).room
 
--- and at the attach too
-pub room_then : (plan : Plan) (counters : Counters) (p s : ℕ) (m : Machine) (w : Work) (h : Option Contents)
-    → AtAttach plan counters p m w (op.Pull s) (deed.Pull p s) → holds plan counters p p ≡ true → s ≢ p → leaves plan.homes m (deed.Pull p s) ≡ h
-    → IfSome h (λ (x : Contents). can_place (queue_at w.machine p) (sleeper_of x) ≡ true)
-room_then plan counters p s m w None a own apart e = tt
-room_then plan counters p s m w (Some x) a own apart e =
-    let here : queue_at w.machine p ≡ queue_at m p =
-    a.queues_are p own ∙ ap (λ (b : Bool). cond b (after_leaving (leaves plan.homes m (deed.Pull p s)) (queue_at m p)) (queue_at m p)) (ne_eqb p s (λ k. apart (sym k))) in
-    ap (λ (q : State). can_place q (sleeper_of x)) here ∙ room_by m p s x (decided_at m p s) refl e
+-- the whole deed at a queue that the caller holds: the task that left is put down
+abbrev pub PutsDown : Plan → Counters → ℕ → Machine → Work → Deed → ℕ → (Option Contents → State → State) → Type 0
+PutsDown plan counters p m w d k put =
+    (c : ℕ) → holds plan counters c p ≡ true → queue_at (whole plan.homes d m).1 c ≡ only_at k c (put (leaves plan.homes m d)) (queue_at w.machine c)
 
-joins_by : (plan : Plan) (counters : Counters) (p s : ℕ) (m : Machine) (w : Work) (h : Option Contents)
-    → AtAttach plan counters p m w (op.Pull s) (deed.Pull p s) → holds plan counters p p ≡ true
-    → PutsDown plan counters p m w (deed.Pull p s) p after_joining → leaves plan.homes m (deed.Pull p s) ≡ h → IsStepOf plan counters p m m w (attach_pulled w p h)
-joins_by plan counters p s m w None a own puts e =
-    empty_step plan counters p m w (op.Pull s) (deed.Pull p s) a e
-    (λ c held. puts c held ∙ ap (λ (x : Option Contents). only_at p c (after_joining x) (queue_at w.machine c)) e ∙ idle (c == p) (queue_at w.machine c))
-joins_by plan counters p s m w (Some x) a own puts e =
-    put_down_step plan counters p p m w (op.Pull s) (deed.Pull p s) (λ q. with_task q x) a own (omega (arith, a.at.caller, a.at.queues))
-    (λ c held. puts c held ∙ ap (λ (y : Option Contents). only_at p c (after_joining y) (queue_at w.machine c)) e)
+module _ {plan : Plan} {counters : Counters} {p : ℕ} {m : Machine} {w : Work} where
+  pub at_attach : {o : Op} (d : Deed) → AtStep plan counters p m w o Attach → deed_of p o ≡ Some d → AtAttach plan counters p m w o d
+  at_attach d at is =
+      let before : begun_by plan counters p ≡ Some (record { deed = d; done = false }) = begun_now at ∙ ap (begun false) is in
+      record {
+        at = at;
+        now = ap (λ (s : Option Step). under_way p s) at.fits.follows ∙ ap (begun true) is;
+        hand_is = at.seen.hands p ∙ ap (λ (u : Option UnderWay). hand_seen plan.homes m u) before;
+        answer_is = subst (λ (u : Option UnderWay). KeepsAnswer plan.homes m u (answer w p)) before (at.seen.answers p);
+        queues_are = λ c h. at.seen.held c p h ∙ ap (λ (u : Option UnderWay). queue_seen plan.homes m u c) before;
+      }
 
--- the task in hand joins the caller's queue
-pub joins_step : (plan : Plan) (counters : Counters) (p s : ℕ) (m : Machine) (w : Work)
-    → AtAttach plan counters p m w (op.Pull s) (deed.Pull p s) → laws.Fits plan.homes (deed.Pull p s) m → holds plan counters p p ≡ true
-    → IsStepOf plan counters p m m w (attach_pulled w p (hand w p))
-joins_step plan counters p s m w a fits own =
-    joins_by plan counters p s m w (hand w p) a own
-    (λ c held. whole-after plan.homes (deed.Pull p s) m c fits
-    ∙ ap (λ (q : State). only_at p c (after_joining (leaves plan.homes m (deed.Pull p s))) q) (sym (a.queues_are c held)))
-    (sym a.hand_is)
+  -- the hand is empty
+  empty_step : {o : Op} (d : Deed) → AtAttach plan counters p m w o d → leaves plan.homes m d ≡ None
+      → ((c : ℕ) → holds plan counters c p ≡ true → queue_at (whole plan.homes d m).1 c ≡ queue_at w.machine c) → IsStepOf plan counters p m m w w
+  empty_step d a none same =
+      local_step a.at m w (Some (record { deed = d; done = true })) (λ c b. refl) a.now a.at.long (λ c h. refl) (λ c h. refl) (λ c h. sym (same c h))
+      (λ q h. refl) (λ q h. refl) (a.hand_is ∙ none) a.answer_is
+
+  -- the task in hand is put down in a queue that the caller holds
+  put_down_step : {o : Op} (k : ℕ) (d : Deed) (f : State → State) → AtAttach plan counters p m w o d → holds plan counters k p ≡ true → k < length w.machine
+      → ((c : ℕ) → holds plan counters c p ≡ true → queue_at (whole plan.homes d m).1 c ≡ only_at k c f (queue_at w.machine c))
+      → IsStepOf plan counters p m m w (put_down w p (set w.machine k (f (queue_at w.machine k))))
+  put_down_step k d f a own below same =
+      local_step a.at m (put_down w p (set w.machine k (f (queue_at w.machine k)))) (Some (record { deed = d; done = true })) (λ c b. refl) a.now a.at.long
+      (λ c h. refl) (λ c h. other_queue w.machine k c (f (queue_at w.machine k)) (other_held plan counters p k c own h))
+      (λ c h. changed f w.machine k c below ∙ sym (same c h)) (λ q h. get_or-set_other w.hands p q None None h) (λ q h. refl)
+      (get_or-set_same w.hands p None None (omega (arith, a.at.caller, a.at.hands))) a.answer_is
+
+  asleep_by : (t : ℕ) (h : Option Contents) → AtAttach plan counters p m w (op.Sleep t) (deed.Sleep p t) → holds plan counters (home plan t) p ≡ true
+      → home plan t < callers plan → PutsDown plan counters p m w (deed.Sleep p t) (home plan t) after_falling_asleep → leaves plan.homes m (deed.Sleep p t) ≡ h
+      → IsStepOf plan counters p m m w (attach_asleep w p (home plan t) h)
+  asleep_by t None a own below puts e =
+      empty_step (deed.Sleep p t) a e
+      (λ c held. puts c held ∙ ap (λ (x : Option Contents). only_at (home plan t) c (after_falling_asleep x) (queue_at w.machine c)) e
+      ∙ idle (c == home plan t) (queue_at w.machine c))
+  asleep_by t (Some x) a own below puts e =
+      put_down_step (home plan t) (deed.Sleep p t) (λ q. put_asleep q x) a own (omega (arith, below, a.at.queues))
+      (λ c held. puts c held ∙ ap (λ (y : Option Contents). only_at (home plan t) c (after_falling_asleep y) (queue_at w.machine c)) e)
+
+  -- the task in hand falls asleep at its home
+  pub falls_asleep_step : (t : ℕ) → AtAttach plan counters p m w (op.Sleep t) (deed.Sleep p t) → laws.Fits plan.homes (deed.Sleep p t) m
+      → holds plan counters (home plan t) p ≡ true → home plan t < callers plan → IsStepOf plan counters p m m w (attach_asleep w p (home plan t) (hand w p))
+  falls_asleep_step t a fits own below =
+      asleep_by t (hand w p) a own below
+      (λ c held. whole-after plan.homes (deed.Sleep p t) m c fits
+      ∙ ap (λ (q : State). only_at (home plan t) c (after_falling_asleep (leaves plan.homes m (deed.Sleep p t))) q) (sym (a.queues_are c held)))
+      (sym a.hand_is)
+
+  joins_by : (s : ℕ) (h : Option Contents) → AtAttach plan counters p m w (op.Pull s) (deed.Pull p s) → holds plan counters p p ≡ true
+      → PutsDown plan counters p m w (deed.Pull p s) p after_joining → leaves plan.homes m (deed.Pull p s) ≡ h → IsStepOf plan counters p m m w (attach_pulled w p h)
+  joins_by s None a own puts e =
+      empty_step (deed.Pull p s) a e
+      (λ c held. puts c held ∙ ap (λ (x : Option Contents). only_at p c (after_joining x) (queue_at w.machine c)) e ∙ idle (c == p) (queue_at w.machine c))
+  joins_by s (Some x) a own puts e =
+      put_down_step p (deed.Pull p s) (λ q. with_task q x) a own (omega (arith, a.at.caller, a.at.queues))
+      (λ c held. puts c held ∙ ap (λ (y : Option Contents). only_at p c (after_joining y) (queue_at w.machine c)) e)
+
+  -- the task in hand joins the caller's queue
+  pub joins_step : (s : ℕ) → AtAttach plan counters p m w (op.Pull s) (deed.Pull p s) → laws.Fits plan.homes (deed.Pull p s) m → holds plan counters p p ≡ true
+      → IsStepOf plan counters p m m w (attach_pulled w p (hand w p))
+  joins_step s a fits own =
+      joins_by s (hand w p) a own
+      (λ c held. whole-after plan.homes (deed.Pull p s) m c fits
+      ∙ ap (λ (q : State). only_at p c (after_joining (leaves plan.homes m (deed.Pull p s))) q) (sym (a.queues_are c held)))
+      (sym a.hand_is)
+
+  -- and at the attach too
+  pub room_then : (s : ℕ) (h : Option Contents) → AtAttach plan counters p m w (op.Pull s) (deed.Pull p s) → holds plan counters p p ≡ true → s ≢ p
+      → leaves plan.homes m (deed.Pull p s) ≡ h → IfSome h (λ (x : Contents). can_place (queue_at w.machine p) (sleeper_of x) ≡ true)
+  room_then s None a own apart e = tt
+  room_then s (Some x) a own apart e =
+      let here : queue_at w.machine p ≡ queue_at m p =
+      a.queues_are p own ∙ ap (λ (b : Bool). cond b (after_leaving (leaves plan.homes m (deed.Pull p s)) (queue_at m p)) (queue_at m p)) (ne_eqb p s (λ k. apart (sym k))) in
+      ap (λ (q : State). can_place q (sleeper_of x)) here ∙ room_by m p s x (decided_at m p s) refl e

@@ -31,11 +31,7 @@ opened c =
     }
 
 pub invariant_of-result : goal.invariant_of-result
-invariant_of-result c =
-    playing_open c.args.setup.now c.in_ok-callers.callers c.in_ok-posts.posts c.in_ok-found.found.items (recorded c.in_ok-work.work c.in_ok-journal.journal)
-    (machine_of c.into_queues.result.items) c.into_queues.result.len c.lines.result (opened (goal.at.invariant_of-result c).In_ok-journal)
+invariant_of-result c = playing_open (opened (goal.at.invariant_of-result c).In_ok-journal)
 
 pub returns : goal.returns
-returns c =
-    player_open c.args.setup.now c.in_ok-callers.callers c.in_ok-posts.posts c.in_ok-found.found.items (recorded c.in_ok-work.work c.in_ok-journal.journal)
-    (machine_of c.into_queues.result.items) c.into_queues.result.len c.lines.result (opened c)
+returns c = player_open (opened c)
