@@ -1,50 +1,24 @@
 -- What a caller has under way stands in queues that it holds, and depends on them alone.
-use Rattle.std.proofs.Common.{◌≡◌, ℕ, Bool, true, false, cond, ◌||◌, List, [], length, ap, ◌∙◌, refl}
-use Rattle.std.specs.Prelude.{◌==◌, MatchOption, Option, Some, None}
+use Rattle.std.proofs.Common.{◌≡◌, ℕ, Bool, true, false, cond, List, [], length, ap, ◌∙◌, refl, arith}
+use Rattle.std.specs.Prelude.{MatchOption, Option, Some, None}
 use Rattle.eevdf_queue.specs.State.{State, Contents}
 use Rattle.eevdf_ops.specs.{declared.deeds.Op.Op, declared.deeds.Deed.Deed, declared.deeds.Answer.Answer, Machine.Machine}
 use Rattle.eevdf_ops.specs.{Machine.queue_at, Whole.whole, Programs.deed_of}
 use Rattle.eevdf_ops.specs.declared.deeds.Op.TheVariants as op
 use Rattle.eevdf_ops.specs.declared.deeds.Deed.TheVariants as deed
-use Rattle.eevdf_ops.specs.Parts.{after_leaving, decider, given, giver, only_at, taker, touches}
+use Rattle.eevdf_ops.specs.Parts.{after_leaving, given, giver, only_at, touches}
 use Rattle.eevdf_ops.specs.PartsLaws as laws
 use Rattle.eevdf_ops.proofs.PartsProofs.{touched_decide}
-use Rattle.eevdf_steps.specs.{declared.micro.Micro.Micro, declared.plan.Step.Step, Serial.begun_by}
-use Rattle.eevdf_steps.specs.Plan.{Plan, callers, home}
-use Rattle.eevdf_steps.specs.declared.micro.Micro.TheVariants.{Attach, Commit, Post}
+use Rattle.eevdf_steps.specs.{declared.micro.Micro.Micro, declared.plan.Step.Step, Serial.begun_by, Plan.Plan, Plan.callers}
+use Rattle.eevdf_steps.specs.declared.micro.Micro.TheVariants.{Attach, Commit}
 use Rattle.eevdf_steps.specs.Counters.{Counters, counted, holds, step_next}
 use Rattle.eevdf_steps.specs.UnderWay.{UnderWay, begun, hand_seen, leaves, leaving, queue_seen, under_way, under_way_before}
 use Rattle.eevdf_steps.proofs.Walks.{Covers, Fits, FitsMicro, Walk, touched}
-use Rattle.std.proofs.lemmas.Bool.{eq-eqb}
-
-thrice : (a : Bool) → a ≡ (a || (a || a))
-thrice true = refl
-thrice false = refl
-
-first_again : (a b : Bool) → (a || b) ≡ (a || (a || b))
-first_again true b = refl
-first_again false b = refl
-
-first_last : (a b : Bool) → (a || b) ≡ (a || (b || a))
-first_last true b = refl
-first_last false true = refl
-first_last false false = refl
-
-pub any_second : (a b c : Bool) → b ≡ true → (a || (b || c)) ≡ true
-any_second true b c e = refl
-any_second false b c e = ap (λ (x : Bool). x || c) e
+use Rattle.std.proofs.lemmas.Bool.Decides.{nat_tests}
 
 -- the queues that an operation touches are those that its deed touches
 pub touched_is : (plan : Plan) (p : ℕ) (o : Op) (d : Deed) (c : ℕ) → deed_of p o ≡ Some d → touched plan p o c ≡ touches plan.homes d c
-touched_is plan p (op.Tick ns) d c e = let is : deed.Tick p ns ≡ d = cc in thrice (c == p) ∙ ap (λ (x : Deed). touches plan.homes x c) is
-touched_is plan p op.Pick d c e = let is : deed.Pick p ≡ d = cc in thrice (c == p) ∙ ap (λ (x : Deed). touches plan.homes x c) is
-touched_is plan p op.Yield d c e = let is : deed.Yield p ≡ d = cc in thrice (c == p) ∙ ap (λ (x : Deed). touches plan.homes x c) is
-touched_is plan p (op.Renice task nice) d c e = let is : deed.Renice p task nice ≡ d = cc in thrice (c == p) ∙ ap (λ (x : Deed). touches plan.homes x c) is
-touched_is plan p (op.Sleep t) d c e =
-    let is : deed.Sleep p t ≡ d = cc in first_again (c == p) (c == home plan t) ∙ ap (λ (x : Deed). touches plan.homes x c) is
-touched_is plan p (op.Pull s) d c e = let is : deed.Pull p s ≡ d = cc in first_last (c == p) (c == s) ∙ ap (λ (x : Deed). touches plan.homes x c) is
-touched_is plan p (op.Post t) d c e = cc
-touched_is plan p op.Drain d c e = cc
+touched_is plan p o d c e = grind arith
 
 -- a caller that holds the locks of the queues that a deed touches, and of no others
 abbrev pub HoldsTouched : Plan → Counters → ℕ → Deed → Type 0
@@ -99,7 +73,7 @@ leaves_alike : (homes : List ℕ) (d : Deed) (m n : Machine) → laws.IsAlike ho
 leaves_alike homes d m n alike agree =
     ap (λ (a : Answer). leaving d a (given d (queue_at m (giver d)))) alike.answers
     ∙ ap (λ (q : State). leaving d (whole homes d n).0 (given d q))
-    (agree (giver d) (any_second (giver d == decider d) (giver d == giver d) (giver d == taker homes d) (eq-eqb (giver d) (giver d) refl)))
+    (agree (giver d) (grind (arith, nat_tests)))
 
 either : {A : Type 0} (b : Bool) (x y z w : A) → x ≡ z → y ≡ w → cond b x y ≡ cond b z w
 either true x y z w e f = e

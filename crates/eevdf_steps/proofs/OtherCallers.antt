@@ -1,6 +1,7 @@
 -- A step of one caller leaves all others as they are, and what they see.
 use Rattle.std.proofs.Common.{◌≡◌, ◌≢◌, ℕ, ◌+◌, Bool, true, false, length, sym, ap, subst, ◌∙◌, inl, inr, refl}
-use Rattle.std.proofs.lemmas.{Bool.false≢true, Bool.cases_eq, List.get_or-set_other}
+use Rattle.std.proofs.lemmas.Bool.{false≢true, cases_eq, false_from_ne_true}
+use Rattle.std.proofs.lemmas.List.{get_or-set_other}
 use Rattle.std.specs.Prelude.{slice_get, Option, Some, None}
 use Rattle.eevdf_ops.specs.{declared.deeds.Answer.Answer, Machine.Machine, Machine.queue_at}
 use Rattle.eevdf_steps.specs.{declared.plan.Step.Step, Plan.Plan, Plan.callers, MicroSteps.steps_by}
@@ -34,121 +35,97 @@ pub record AreWalking (plan : Plan) (counters : Counters) : Type 0 where
   pub walks : (q : ℕ) (u : UnderWay) → begun_by plan counters q ≡ Some u → Walk plan counters q
   pub fits : (q : ℕ) (u : UnderWay) → begun_by plan counters q ≡ Some u → FitsAll plan u.deed
 
-not_held : (plan : Plan) (m : Machine) (counters : Counters) (w : Work) (c p q : ℕ) (b : Bool) → FollowsHistory plan m counters w → q ≢ p → holds plan counters c q ≡ true
-    → holds plan counters c p ≡ b → b ≡ false
-not_held plan m counters w c p q true r apart held e = absurd (apart (r.alone c q p held e))
-not_held plan m counters w c p q false r apart held e = refl
-
 -- what a caller sees, on two machines
 record AreAlike (plan : Plan) (counters : Counters) (q : ℕ) (m n : Machine) (o : Option UnderWay) : Type 0 where
   queues : (c : ℕ) → holds plan counters c q ≡ true → queue_seen plan.homes m o c ≡ queue_seen plan.homes n o c
   hand : hand_seen plan.homes m o ≡ hand_seen plan.homes n o
   answer : (a : Option Answer) → KeepsAnswer plan.homes m o a → KeepsAnswer plan.homes n o a
 
-others_alike : (plan : Plan) (counters : Counters) (p q : ℕ) (m n : Machine) (w : Work) (o : Option UnderWay) → begun_by plan counters q ≡ o → q ≢ p
-    → FollowsHistory plan m counters w → AreWalking plan counters → length m ≡ callers plan → length n ≡ callers plan
-    → ((c : ℕ) → holds plan counters c p ≡ false → queue_at n c ≡ queue_at m c) → AreAlike plan counters q m n o
-others_alike plan counters p q m n w None e apart r walking long still_long past = record {
-  queues = λ c held. sym (past c (not_held plan m counters w c p q (holds plan counters c p) r apart held refl));
-  hand = refl;
-  answer = λ a k. k;
-}
-others_alike plan counters p q m n w (Some u) e apart r walking long still_long past =
-    let st : Standing plan counters q u = standing plan counters q u (walking.walks q u e) e in
-    let fits : FitsAll plan u.deed = walking.fits q u e in
-    let alike : SeenAlike plan.homes u m n = seen_alike plan.homes u m n (fits m long) (fits n still_long)
-    (λ c t. sym (past c (not_held plan m counters w c p q (holds plan counters c p) r apart (st.holds_all c ∙ t) refl))) in
-    record {
-      queues = λ c held. alike.queues c (sym (st.holds_all c) ∙ held);
-      hand = alike.hand;
-      answer = λ a k. k ∙ ap (λ (b : Answer). Some b) alike.answer;
-    }
-
-other_alike : (plan : Plan) (counters : Counters) (p q : ℕ) (m m' : Machine) (w w' : Work) → q ≢ p → FollowsHistory plan m counters w → AreWalking plan counters
-    → IsStepOf plan counters p m m' w w' → AreAlike plan counters q m m' (begun_by plan counters q)
-other_alike plan counters p q m m' w w' apart r walking s =
-    others_alike plan counters p q m m' w (begun_by plan counters q) refl apart r walking s.long s.still_long s.past
-
 begun_other : (plan : Plan) (counters : Counters) (p q : ℕ) → q ≢ p → begun_by plan (counted counters p) q ≡ begun_by plan counters q
 begun_other plan counters p q apart = ap (λ (o : Option Step). under_way q o) (next_other plan counters p q apart)
 
-held_then : (plan : Plan) (counters : Counters) (p : ℕ) (m m' : Machine) (w w' : Work) → FollowsHistory plan m counters w → AreWalking plan counters → IsStepOf plan counters p m m' w w'
-    → (c q : ℕ) → holds plan (counted counters p) c q ≡ true → queue_at w'.machine c ≡ queue_seen plan.homes m' (begun_by plan (counted counters p) q) c
-held_then plan counters p m m' w w' r walking s c q h =
-    elim (cases_eq q p) [
-      | inl same ↦ subst (λ (k : ℕ). queue_at w'.machine c ≡ queue_seen plan.homes m' (begun_by plan (counted counters p) k) c) (sym same)
-          (s.own c (ap (λ (k : ℕ). holds plan (counted counters p) c k) (sym same) ∙ h))
-      | inr apart ↦
-          let held : holds plan counters c q ≡ true = sym (holds_other plan counters c p q apart) ∙ h in
-          s.stay c (not_held plan m counters w c p q (holds plan counters c p) r apart held refl) ∙ r.held c q held
-          ∙ (other_alike plan counters p q m m' w w' apart r walking s).queues c held
-          ∙ ap (λ (o : Option UnderWay). queue_seen plan.homes m' o c) (sym (begun_other plan counters p q apart))
-    ]
+module _ {plan : Plan} {counters : Counters} {p : ℕ} {m m' : Machine} {w w' : Work} (r : FollowsHistory plan m counters w) (s : IsStepOf plan counters p m m' w w') where
+  not_held : (c q : ℕ) → q ≢ p → holds plan counters c q ≡ true → holds plan counters c p ≡ false
+  not_held c q apart held = false_from_ne_true (holds plan counters c p) (λ own. apart (r.alone c q p held own))
 
-hands_then : (plan : Plan) (counters : Counters) (p : ℕ) (m m' : Machine) (w w' : Work) → FollowsHistory plan m counters w → AreWalking plan counters → IsStepOf plan counters p m m' w w'
-    → (q : ℕ) → hand w' q ≡ hand_seen plan.homes m' (begun_by plan (counted counters p) q)
-hands_then plan counters p m m' w w' r walking s q =
-    elim (cases_eq q p) [
-      | inl same ↦ subst (λ (k : ℕ). hand w' k ≡ hand_seen plan.homes m' (begun_by plan (counted counters p) k)) (sym same) s.own_hand
-      | inr apart ↦
-          s.hands q apart ∙ r.hands q ∙ (other_alike plan counters p q m m' w w' apart r walking s).hand
-          ∙ ap (λ (o : Option UnderWay). hand_seen plan.homes m' o) (sym (begun_other plan counters p q apart))
-    ]
+  others_alike : AreWalking plan counters → (q : ℕ) (o : Option UnderWay) → begun_by plan counters q ≡ o → q ≢ p → AreAlike plan counters q m m' o
+  others_alike walking q None e apart = record { queues = λ c held. sym (s.past c (not_held c q apart held)); hand = refl; answer = λ a k. k }
+  others_alike walking q (Some u) e apart =
+      let st : Standing plan counters q u = standing plan counters q u (walking.walks q u e) e in
+      let fits : FitsAll plan u.deed = walking.fits q u e in
+      let alike : SeenAlike plan.homes u m m' = seen_alike plan.homes u m m' (fits m s.long) (fits m' s.still_long)
+      (λ c t. sym (s.past c (not_held c q apart (st.holds_all c ∙ t)))) in
+      record {
+        queues = λ c held. alike.queues c (sym (st.holds_all c) ∙ held);
+        hand = alike.hand;
+        answer = λ a k. k ∙ ap (λ (b : Answer). Some b) alike.answer;
+      }
 
-answers_then : (plan : Plan) (counters : Counters) (p : ℕ) (m m' : Machine) (w w' : Work) → FollowsHistory plan m counters w → AreWalking plan counters → IsStepOf plan counters p m m' w w'
-    → (q : ℕ) → KeepsAnswer plan.homes m' (begun_by plan (counted counters p) q) (answer w' q)
-answers_then plan counters p m m' w w' r walking s q =
-    elim (cases_eq q p) [
-      | inl same ↦ subst (λ (k : ℕ). KeepsAnswer plan.homes m' (begun_by plan (counted counters p) k) (answer w' k)) (sym same) s.own_answer
-      | inr apart ↦
-          subst (λ (o : Option UnderWay). KeepsAnswer plan.homes m' o (answer w' q)) (sym (begun_other plan counters p q apart))
-          (subst (λ (a : Option Answer). KeepsAnswer plan.homes m' (begun_by plan counters q) a) (sym (s.answers q apart))
-          ((other_alike plan counters p q m m' w w' apart r walking s).answer (answer w q) (r.answers q)))
-    ]
+  held_then : AreWalking plan counters → (c q : ℕ) → holds plan (counted counters p) c q ≡ true
+      → queue_at w'.machine c ≡ queue_seen plan.homes m' (begun_by plan (counted counters p) q) c
+  held_then walking c q h =
+      elim (cases_eq q p) [
+        | inl same ↦ subst (λ (k : ℕ). queue_at w'.machine c ≡ queue_seen plan.homes m' (begun_by plan (counted counters p) k) c) (sym same)
+            (s.own c (ap (λ (k : ℕ). holds plan (counted counters p) c k) (sym same) ∙ h))
+        | inr apart ↦
+            let held : holds plan counters c q ≡ true = sym (holds_other plan counters c p q apart) ∙ h in
+            s.stay c (not_held c q apart held) ∙ r.held c q held ∙ (others_alike walking q (begun_by plan counters q) refl apart).queues c held
+            ∙ ap (λ (o : Option UnderWay). queue_seen plan.homes m' o c) (sym (begun_other plan counters p q apart))
+      ]
 
--- a queue that nobody holds any more
-free_by : (plan : Plan) (counters : Counters) (p : ℕ) (m m' : Machine) (w w' : Work) (c : ℕ) (b : Bool) → FollowsHistory plan m counters w → IsStepOf plan counters p m m' w w'
-    → IsFree plan (counted counters p) c → holds plan counters c p ≡ b → queue_at w'.machine c ≡ queue_at m' c
-free_by plan counters p m m' w w' c true r s free e = s.released c e (free p)
-free_by plan counters p m m' w w' c false r s free e =
-    let before : IsFree plan counters c = λ q.
-    elim (cases_eq q p) [
-      | inl same ↦ ap (λ (k : ℕ). holds plan counters c k) same ∙ e
-      | inr apart ↦ sym (holds_other plan counters c p q apart) ∙ free q
-    ] in
-    s.stay c e ∙ r.free c before ∙ sym (s.past c e)
+  hands_then : AreWalking plan counters → (q : ℕ) → hand w' q ≡ hand_seen plan.homes m' (begun_by plan (counted counters p) q)
+  hands_then walking q =
+      elim (cases_eq q p) [
+        | inl same ↦ subst (λ (k : ℕ). hand w' k ≡ hand_seen plan.homes m' (begun_by plan (counted counters p) k)) (sym same) s.own_hand
+        | inr apart ↦ s.hands q apart ∙ r.hands q ∙ (others_alike walking q (begun_by plan counters q) refl apart).hand
+            ∙ ap (λ (o : Option UnderWay). hand_seen plan.homes m' o) (sym (begun_other plan counters p q apart))
+      ]
 
--- nobody else holds what the caller holds
-alone_by : (plan : Plan) (counters : Counters) (p : ℕ) (m m' : Machine) (w w' : Work) (c q : ℕ) (b : Bool) → FollowsHistory plan m counters w → IsStepOf plan counters p m m' w w' → q ≢ p
-    → holds plan (counted counters p) c q ≡ true → holds plan (counted counters p) c p ≡ true → holds plan counters c p ≡ b → q ≡ p
-alone_by plan counters p m m' w w' c q true r s apart h k e = r.alone c q p (sym (holds_other plan counters c p q apart) ∙ h) e
-alone_by plan counters p m m' w w' c q false r s apart h k e =
-    absurd (false≢true (sym (s.acquired c e k q) ∙ sym (holds_other plan counters c p q apart) ∙ h))
+  answers_then : AreWalking plan counters → (q : ℕ) → KeepsAnswer plan.homes m' (begun_by plan (counted counters p) q) (answer w' q)
+  answers_then walking q =
+      elim (cases_eq q p) [
+        | inl same ↦ subst (λ (k : ℕ). KeepsAnswer plan.homes m' (begun_by plan (counted counters p) k) (answer w' k)) (sym same) s.own_answer
+        | inr apart ↦
+            subst (λ (o : Option UnderWay). KeepsAnswer plan.homes m' o (answer w' q)) (sym (begun_other plan counters p q apart))
+            (subst (λ (a : Option Answer). KeepsAnswer plan.homes m' (begun_by plan counters q) a) (sym (s.answers q apart))
+            ((others_alike walking q (begun_by plan counters q) refl apart).answer (answer w q) (r.answers q)))
+      ]
 
-alone_then : (plan : Plan) (counters : Counters) (p : ℕ) (m m' : Machine) (w w' : Work) → FollowsHistory plan m counters w → IsStepOf plan counters p m m' w w'
-    → (c q r : ℕ) → holds plan (counted counters p) c q ≡ true → holds plan (counted counters p) c r ≡ true → q ≡ r
-alone_then plan counters p m m' w w' red s c q r h k =
-    elim (cases_eq q p) [
-      | inl same ↦
-          elim (cases_eq r p) [
-            | inl also ↦ same ∙ sym also
-            | inr apart ↦ same ∙ sym (alone_by plan counters p m m' w w' c r (holds plan counters c p) red s apart k
-                (ap (λ (i : ℕ). holds plan (counted counters p) c i) (sym same) ∙ h) refl)
-          ]
-      | inr apart ↦
-          elim (cases_eq r p) [
-            | inl also ↦ alone_by plan counters p m m' w w' c q (holds plan counters c p) red s apart h
-                (ap (λ (i : ℕ). holds plan (counted counters p) c i) (sym also) ∙ k) refl ∙ sym also
-            | inr apart' ↦ red.alone c q r (sym (holds_other plan counters c p q apart) ∙ h) (sym (holds_other plan counters c p r apart') ∙ k)
-          ]
-    ]
+  -- a queue that nobody holds any more
+  free_by : (c : ℕ) (b : Bool) → IsFree plan (counted counters p) c → holds plan counters c p ≡ b → queue_at w'.machine c ≡ queue_at m' c
+  free_by c true free e = s.released c e (free p)
+  free_by c false free e =
+      let before : IsFree plan counters c = λ q.
+      elim (cases_eq q p) [
+        | inl same ↦ ap (λ (k : ℕ). holds plan counters c k) same ∙ e
+        | inr apart ↦ sym (holds_other plan counters c p q apart) ∙ free q
+      ] in
+      s.stay c e ∙ r.free c before ∙ sym (s.past c e)
 
-pub followed_then : (plan : Plan) (counters : Counters) (p : ℕ) (m m' : Machine) (w w' : Work) → FollowsHistory plan m counters w → AreWalking plan counters
-    → IsStepOf plan counters p m m' w w' → FollowsHistory plan m' (counted counters p) w'
-followed_then plan counters p m m' w w' r walking s = record {
-  alone = alone_then plan counters p m m' w w' r s;
-  free = λ c free. free_by plan counters p m m' w w' c (holds plan counters c p) r s free refl;
-  held = held_then plan counters p m m' w w' r walking s;
-  hands = hands_then plan counters p m m' w w' r walking s;
-  answers = answers_then plan counters p m m' w w' r walking s;
-}
+  -- nobody else holds what the caller holds
+  alone_by : (c q : ℕ) (b : Bool) → holds plan (counted counters p) c q ≡ true → holds plan (counted counters p) c p ≡ true → holds plan counters c p ≡ b → q ≢ p → q ≡ p
+  alone_by c q true h k e apart = r.alone c q p (sym (holds_other plan counters c p q apart) ∙ h) e
+  alone_by c q false h k e apart = absurd (false≢true (sym (s.acquired c e k q) ∙ sym (holds_other plan counters c p q apart) ∙ h))
+
+  alone_with : (c q : ℕ) → holds plan (counted counters p) c q ≡ true → holds plan (counted counters p) c p ≡ true → q ≡ p
+  alone_with c q h k = elim (cases_eq q p) [ inl same ↦ same | inr apart ↦ alone_by c q (holds plan counters c p) h k refl apart ]
+
+  alone_then : (c q o : ℕ) → holds plan (counted counters p) c q ≡ true → holds plan (counted counters p) c o ≡ true → q ≡ o
+  alone_then c q o h k =
+      elim (cases_eq q p) [
+        | inl same ↦ same ∙ sym (alone_with c o k (ap (λ (i : ℕ). holds plan (counted counters p) c i) (sym same) ∙ h))
+        | inr apart ↦
+            elim (cases_eq o p) [
+              | inl same ↦ alone_with c q h (ap (λ (i : ℕ). holds plan (counted counters p) c i) (sym same) ∙ k) ∙ sym same
+              | inr other ↦ r.alone c q o (sym (holds_other plan counters c p q apart) ∙ h) (sym (holds_other plan counters c p o other) ∙ k)
+            ]
+      ]
+
+  pub followed_then : AreWalking plan counters → FollowsHistory plan m' (counted counters p) w'
+  followed_then walking = record {
+    alone = alone_then;
+    free = λ c free. free_by c (holds plan counters c p) free refl;
+    held = held_then walking;
+    hands = hands_then walking;
+    answers = answers_then walking;
+  }

@@ -72,7 +72,7 @@ module _ (plan : Plan) (start : Machine) (counters : Counters) (p : ℕ) (w : Wo
   local_serial w' s step =
       subst (λ (ls : List Line). IsSerial plan start (counted counters p) w' ls) (sym (append-nil lines)) (record {
         history = s.serial.history;
-        seen = followed_then plan counters p told told w w' s.serial.seen (are_walking plan counters s.sound s.each) step;
+        seen = followed_then s.serial.seen step (are_walking plan counters s.sound s.each);
       })
 
   -- a line is added
@@ -81,7 +81,7 @@ module _ (plan : Plan) (start : Machine) (counters : Counters) (p : ℕ) (w : Wo
   line_serial w' d a s step e = record {
     history = history_more plan.homes start lines d a s.serial.history e;
     seen = subst (λ (m : Machine). FollowsHistory plan m (counted counters p) w') (sym (machine_more plan.homes start lines (record { deed = d; answer = a })))
-        (followed_then plan counters p told _ w w' s.serial.seen (are_walking plan counters s.sound s.each) step);
+        (followed_then s.serial.seen step (are_walking plan counters s.sound s.each));
   }
 
   -- the locks that the caller holds are those of the queues that its operation touches

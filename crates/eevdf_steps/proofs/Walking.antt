@@ -1,6 +1,6 @@
 -- Each caller walks through its program with its locks as its steps need them.
 use Rattle.std.proofs.Common.{◌≡◌, ◌≢◌, ℕ, zero, suc, ◌+◌, ◌<◌, ◌≤◌, Bool, true, false, cond, not, ◌||◌, List, [], ◌∷◌, ◌++◌, length, map, take, drop, get_or, min, max, inl, inr, sym, ap, subst, ◌∙◌, arith, refl}
-use Rattle.std.proofs.lemmas.Bool.{false≢true, cases_lt, and_parts, lt-ltb, ltb-true, and_from, cases_eq, ne_eqb, eq-eqb}
+use Rattle.std.proofs.lemmas.Bool.{cases_lt, and_parts, lt-ltb, ltb-true, and_from, eqb-false}
 use Rattle.std.proofs.lemmas.{Bool.Decides.nat_tests, List.get_or-replicate, List.get_or-set_same}
 use Rattle.std.specs.List.{list_all}
 use Rattle.std.specs.Prelude.{slice_get, nat_lt, ◌==◌, MatchOption, Option}
@@ -19,34 +19,11 @@ abbrev Walks : Plan → ℕ → List ℕ → List Step → Type 0
 Walks plan p held [] = held ≡ []
 Walks plan p held (s ∷ ss) = Fits plan p held s (slice_get ss 0) × Walks plan p (stack_after held s.micro) ss
 
-swapped : (a b : ℕ) → (a == b) ≡ (b == a)
-swapped a b = elim (cases_eq a b) [
-  | inl same ↦ ap (λ (k : ℕ). k == b) same ∙ ap (λ (k : ℕ). b == k) (sym same)
-  | inr apart ↦ ne_eqb a b apart ∙ sym (ne_eqb b a (λ same. apart (sym same)))
-]
-
-tested : (b : Bool) → cond b true false ≡ b
-tested true = refl
-tested false = refl
-
-first_tested : (a b : Bool) → cond a true (cond b true false) ≡ (a || b)
-first_tested true b = refl
-first_tested false b = tested b
-
-last_tested : (a b : Bool) → cond b true (cond a true false) ≡ (a || b)
-last_tested true true = refl
-last_tested true false = refl
-last_tested false true = refl
-last_tested false false = refl
-
 one_lock : (p c : ℕ) → is_in c (p ∷ []) ≡ (c == p)
-one_lock p c = tested (p == c) ∙ swapped p c
+one_lock p c = grind (arith, nat_tests)
 
-lower_first : (p q c : ℕ) → is_in c (q ∷ p ∷ []) ≡ ((c == p) || (c == q))
-lower_first p q c = last_tested (p == c) (q == c) ∙ ap (λ (b : Bool). b || (q == c)) (swapped p c) ∙ ap (λ (b : Bool). (c == p) || b) (swapped q c)
-
-upper_first : (p q c : ℕ) → is_in c (p ∷ q ∷ []) ≡ ((c == p) || (c == q))
-upper_first p q c = first_tested (p == c) (q == c) ∙ ap (λ (b : Bool). b || (q == c)) (swapped p c) ∙ ap (λ (b : Bool). (c == p) || b) (swapped q c)
+two_locks : (p q c : ℕ) → is_in c (max p q ∷ min p q ∷ []) ≡ ((c == p) || (c == q))
+two_locks p q c = grind (arith, nat_tests)
 
 -- where the rest of a program begins
 record Rest (plan : Plan) (p : ℕ) (rest : List Step) : Type 0 where
@@ -102,31 +79,11 @@ between_walks plan p o a b rest h k moves locks covers r = (
   ),
 )
 
-lesser : (a b : ℕ) → a < b → min a b ≡ a
-lesser a b h = grind arith
-
-greater : (a b : ℕ) → a < b → max a b ≡ b
-greater a b h = grind arith
-
-lesser_last : (a b : ℕ) → b < a → min a b ≡ b
-lesser_last a b h = grind arith
-
-greater_last : (a b : ℕ) → b < a → max a b ≡ a
-greater_last a b h = grind arith
-
 -- the caller's own CPU and another, in whichever order their locks come
 both_walk : (plan : Plan) (p q : ℕ) (o : Op) (rest : List Step) → p < callers plan → q < callers plan → p ≢ q → is_moving o ≡ true → is_locking o ≡ true
     → ((c : ℕ) → touched plan p o c ≡ ((c == p) || (c == q))) → Rest plan p rest → Walks plan p [] (map (step_in o) (under_locks p q moving) ++ rest)
 both_walk plan p q o rest h k apart moves locks touches r =
-    elim (cases_lt p q) [
-      | inl below ↦ subst (λ (a : ℕ). Walks plan p [] (map (step_in o) (under_lock a (under_lock (max p q) moving)) ++ rest)) (sym (lesser p q below))
-          (subst (λ (b : ℕ). Walks plan p [] (map (step_in o) (under_lock p (under_lock b moving)) ++ rest)) (sym (greater p q below))
-          (between_walks plan p o p q rest below k moves locks (λ c. lower_first p q c ∙ sym (touches c)) r))
-      | inr past ↦ let above : q < p = grind arith in
-          subst (λ (a : ℕ). Walks plan p [] (map (step_in o) (under_lock a (under_lock (max p q) moving)) ++ rest)) (sym (lesser_last p q above))
-          (subst (λ (b : ℕ). Walks plan p [] (map (step_in o) (under_lock q (under_lock b moving)) ++ rest)) (sym (greater_last p q above))
-          (between_walks plan p o q p rest above h moves locks (λ c. upper_first p q c ∙ sym (touches c)) r))
-    ]
+    between_walks plan p o (min p q) (max p q) rest (grind (arith, apart)) (grind arith) moves locks (λ c. two_locks p q c ∙ sym (touches c)) r
 
 abbrev drained : Plan → ℕ → ℕ → ℕ → List Step → List Step
 drained plan p n q rest = map (step_in op.Drain) (draining n q ++ Release p ∷ []) ++ rest
@@ -145,25 +102,16 @@ drains_walk plan p (suc n) q rest h r = (
   ),
 )
 
-not_same : (a b : ℕ) (x : Bool) → (a == b) ≡ x → x ≡ false → a ≢ b
-not_same a b x e f same = false≢true (sym f ∙ sym e ∙ ap (λ (k : ℕ). k == b) same ∙ eq-eqb b b refl)
-
-same_home : (a b : ℕ) → (a == b) ≡ true → a ≡ b
-same_home a b h = grind (arith, nat_tests)
-
-at_home_twice : (p h c : ℕ) → p ≡ h → is_in c (p ∷ []) ≡ ((c == p) || (c == h))
-at_home_twice p h c same = one_lock p c ∙ sym (twice (c == p)) ∙ ap (λ (k : ℕ). (c == p) || (c == k)) same where
-  twice : (b : Bool) → (b || b) ≡ b
-  twice true = refl
-  twice false = refl
+own_home : (p h c : ℕ) → (p == h) ≡ true → is_in c (p ∷ []) ≡ ((c == p) || (c == h))
+own_home p h c same = grind (arith, nat_tests)
 
 sleep_walks : (plan : Plan) (p t : ℕ) (rest : List Step) (x : Bool) → p < callers plan → home plan t < callers plan → (p == home plan t) ≡ x → Rest plan p rest
     → Walks plan p [] (map (step_in (op.Sleep t)) (cond x (under_lock p moving) (under_locks p (home plan t) moving)) ++ rest)
-sleep_walks plan p t rest true h k e r = move_walks plan p (op.Sleep t) rest h refl refl (λ c. at_home_twice p (home plan t) c (same_home p (home plan t) e)) r
-sleep_walks plan p t rest false h k e r = both_walk plan p (home plan t) (op.Sleep t) rest h k (not_same p (home plan t) false e refl) refl refl (λ c. refl) r
+sleep_walks plan p t rest true h k e r = move_walks plan p (op.Sleep t) rest h refl refl (λ c. own_home p (home plan t) c e) r
+sleep_walks plan p t rest false h k e r = both_walk plan p (home plan t) (op.Sleep t) rest h k (eqb-false p (home plan t) e) refl refl (λ c. refl) r
 
 other_source : (q p : ℕ) → not (q == p) ≡ true → p ≢ q
-other_source q p h same = false≢true (ap not (sym (eq-eqb p p refl) ∙ ap (λ (k : ℕ). k == p) same) ∙ h)
+other_source q p h same = grind (arith, nat_tests)
 
 op_walks : (plan : Plan) (p : ℕ) (o : Op) (rest : List Step) → IsSound plan → p < callers plan → is_sound_op plan o ≡ true → pulls_elsewhere p o ≡ true → Rest plan p rest
     → Walks plan p [] (map (step_in o) (micros_of plan p o) ++ rest)
@@ -214,21 +162,11 @@ program_walks plan p s h =
 -- a number that is above all of a list isn't in it
 pub above_apart : (c : ℕ) (held : List ℕ) → is_above c held ≡ true → is_in c held ≡ false
 above_apart c [] h = refl
-above_apart c (d ∷ held) h =
-    let parts = and_parts (nat_lt d c) (is_above c held) h in
-    let below : d < c = ltb-true d c parts.0 in
-    ap (λ (b : Bool). cond b true (is_in c held)) (ne_eqb d c (λ same. absurd (omega (arith, same)))) ∙ above_apart c held parts.1
-
-released : (c d : ℕ) (held : List ℕ) (b : Bool) → (d == c) ≡ b → is_in d held ≡ false → cond b false (cond b true (is_in c held)) ≡ is_in c held
-released c d held true e apart = sym (ap (λ (k : ℕ). is_in k held) (sym (same_home d c e)) ∙ apart)
-released c d held false e apart = refl
+above_apart c (d ∷ held) h = grind (arith, nat_tests, above_apart c held)
 
 gives_up : (c d : ℕ) (held : List ℕ) → take 1 held ≡ d ∷ [] → is_falling held ≡ true → held_after c (is_in c held) (Release d) ≡ is_in c (drop 1 held)
 gives_up c d [] last falls = cc
-gives_up c d (e ∷ held) last falls =
-    let same : e ≡ d = cc in
-    ap (λ (k : ℕ). cond (d == c) false (cond (k == c) true (is_in c held))) same
-    ∙ released c d held (d == c) refl (ap (λ (k : ℕ). is_in k held) (sym same) ∙ above_apart e held (and_parts (is_above e held) (is_falling held) falls).0)
+gives_up c d (e ∷ held) last falls = grind (arith, nat_tests, above_apart e held)
 
 -- the locks that are held after a step are those of the list
 held_then : (plan : Plan) (p : ℕ) (held : List ℕ) (o : Op) (m : Micro) (following : Option Step) → FitsMicro plan p held o m following → is_falling held ≡ true
