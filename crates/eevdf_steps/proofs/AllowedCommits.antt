@@ -1,29 +1,28 @@
 -- Every order of a sound plan commits only deeds that are allowed.
-use Rattle.std.proofs.Common.{◌≡◌, ℕ, zero, suc, ◌<◌, Bool, true, false, ◌&&◌, cond, List, [], ◌∷◌, length, get_or, set, take, inl, inr, sym, subst, refl}
+use Rattle.std.proofs.Common.{◌≡◌, ℕ, zero, suc, ◌<◌, Bool, true, List, [], ◌∷◌, get_or, set, take, inl, inr, sym, subst, refl, arith}
 use Rattle.std.proofs.lemmas.{List.get_or-set_other, List.Elements.All-take, List.Sums.AllPass-from_list_all}
-use Rattle.std.proofs.lemmas.List.Sums.{list_all-from_AllPass}
+use Rattle.std.proofs.lemmas.{List.Sums.list_all-from_AllPass, Bool.Decides.nat_tests, Grind.common_steps}
 use Rattle.std.specs.{List.list_all, Option.option_to_list}
-use Rattle.std.specs.Prelude.{slice_get, nat_lt, ◌==◌, IfSome, Option, Some, None}
-use Rattle.eevdf_ops.specs.{declared.deeds.Op.Op, declared.deeds.Deed.Deed, Programs.deed_of}
+use Rattle.std.specs.Prelude.{slice_get, IfSome, Option, Some, None}
+use Rattle.eevdf_ops.specs.{declared.deeds.Op.Op, declared.deeds.Deed.Deed}
 use Rattle.eevdf_ops.specs.Setup.{Setup, allows, is_allowed, is_at_home}
 use Rattle.eevdf_steps.specs.{declared.micro.Micro.Micro, declared.plan.Step.Step, MicroSteps.steps_by, SoundSteps.is_sound_micro}
-use Rattle.eevdf_steps.specs.SoundSteps.{is_sound_step}
+use Rattle.eevdf_steps.specs.{SoundSteps.is_sound_step, declared.micro.Micro.TheVariants.Take}
+use Rattle.eevdf_steps.specs.declared.micro.Micro.TheVariants.{Settle}
 use Rattle.eevdf_steps.specs.Counters.{count_of, done_by, step_next}
-use Rattle.eevdf_steps.specs.declared.micro.Micro.TheVariants.{Commit, Take, Settle, Post}
-use Rattle.eevdf_steps.specs.Plan.{IsSound, Plan, callers, home, is_sound_op, plan_of, pulls_elsewhere}
+use Rattle.eevdf_steps.specs.Plan.{IsSound, Plan, callers, is_sound_op, plan_of, pulls_elsewhere}
 use Rattle.eevdf_steps.specs.Requests.{Progress, found_by, oldest, post_to, posted, posts_to, progress_at_start, progress_by, progress_step, requested, taken_of, takes}
-use Rattle.eevdf_steps.specs.Commits.{commits, committed, committed_by, deeds_committed, wake_of}
-use Rattle.eevdf_steps.proofs.{Holders.none_first, SoundDeeds.allowed_op, SoundDeeds.next_pulls_elsewhere}
+use Rattle.eevdf_steps.specs.Commits.{commits, committed, committed_by, deeds_committed}
+use Rattle.eevdf_steps.proofs.{Holders.none_first, SoundDeeds.next_pulls_elsewhere}
 use Rattle.eevdf_steps.proofs.SoundSteps.{all_joined, all_steps_sound, is_caller, some_all, step_sound}
-use Rattle.std.proofs.lemmas.Bool.{and_parts, lt-ltb, ltb-true, and_from, cases_eq}
+use Rattle.std.proofs.lemmas.Bool.{and_parts, ltb-true, cases_eq}
 
 all_taken : {A : Type 0} (test : A → Bool) (xs : List A) (k : ℕ) → list_all test xs ≡ true → list_all test (take k xs) ≡ true
 all_taken test xs k all = list_all-from_AllPass test (take k xs) (All-take (λ x. test x ≡ true) k xs (AllPass-from_list_all test xs all))
 
 -- an element of a list all of whose elements pass, where there is one
 some_passes : {A : Type 0} (test : A → Bool) (xs : List A) (k : ℕ) (r : Option A) → list_all test xs ≡ true → slice_get xs k ≡ r → IfSome r (λ (x : A). test x ≡ true)
-some_passes test xs k None all e = tt
-some_passes test xs k (Some x) all e = some_all test xs k x all e
+some_passes test xs k r all e = grind (arith, nat_tests, some_all)
 
 set_passes : {A : Type 0} (P : A → Type 0) (xs : List A) (k : ℕ) (x d : A) → P x → P (get_or xs k d) → P (get_or (set xs k x) k d)
 set_passes P [] k x d new old = old
@@ -35,12 +34,7 @@ abbrev IsForHome : Plan → ℕ → Option ℕ → Type 0
 IsForHome plan c r = IfSome r (λ (task : ℕ). is_at_home plan.homes task c ≡ true)
 
 post_is_for_home : (plan : Plan) (c : ℕ) (m : Micro) → is_sound_micro plan m ≡ true → list_all (λ (t : ℕ). is_at_home plan.homes t c) (post_to plan c m) ≡ true
-post_is_for_home plan c (Post task) well = by_home (home plan task == c) refl
-  where
-    by_home : (b : Bool) → (home plan task == c) ≡ b → list_all (λ (t : ℕ). is_at_home plan.homes t c) (cond b (task ∷ []) []) ≡ true
-    by_home true e = and_from (is_at_home plan.homes task c) true (and_from (nat_lt task (length plan.homes)) (home plan task == c) well e) refl
-    by_home false e = refl
-post_is_for_home plan c _ well = refl
+post_is_for_home plan c m well = grind arith
 
 posts_are_for_home : (plan : Plan) (c : ℕ) (ss : List Step) → list_all (is_sound_step plan) ss ≡ true → list_all (λ (t : ℕ). is_at_home plan.homes t c) (posts_to plan c ss) ≡ true
 posts_are_for_home plan c [] all = refl
@@ -73,8 +67,7 @@ found_next plan found x r own new c =
     ]
 
 takes_own : (plan : Plan) (g : Progress) (x s : ℕ) (r : Option ℕ) → FindTheirOwn plan g → IsForHome plan x r → FindTheirOwn plan (takes plan g x s r)
-takes_own plan g x s None own new = found_next plan g.found x None own new
-takes_own plan g x s (Some task) own new = found_next plan g.found x (Some task) own new
+takes_own plan g x s r own new = grind (arith, common_steps)
 
 requested_own : (plan : Plan) (g : Progress) (x : ℕ) (m : Micro) → IsSound plan → is_sound_micro plan m ≡ true → FindTheirOwn plan g → FindTheirOwn plan (requested plan g x m)
 requested_own plan g x (Take s) sound well own =
@@ -98,27 +91,9 @@ sound_step plan g x s sound e =
 abbrev AllAllowed : Plan → List Deed → Type 0
 AllAllowed plan deeds = list_all (is_allowed (callers plan) plan.homes) deeds ≡ true
 
-one_allowed : (plan : Plan) (d : Deed) → is_allowed (callers plan) plan.homes d ≡ true → AllAllowed plan (d ∷ [])
-one_allowed plan d e = and_from (is_allowed (callers plan) plan.homes d) true e refl
-
-op_allowed : (plan : Plan) (x : ℕ) (o : Op) (r : Option Deed) → x < callers plan → is_sound_op plan o ≡ true → pulls_elsewhere x o ≡ true → deed_of x o ≡ r
-    → AllAllowed plan (option_to_list r)
-op_allowed plan x o None h well pulls e = refl
-op_allowed plan x o (Some d) h well pulls e = one_allowed plan d (allowed_op plan x o d h well pulls e)
-
-wake_allowed : (plan : Plan) (x s : ℕ) (found : Option ℕ) → x < callers plan → nat_lt s (callers plan) ≡ true → IsForHome plan x found
-    → AllAllowed plan (option_to_list (wake_of x s found))
-wake_allowed plan x s None h well own = refl
-wake_allowed plan x s (Some task) h well own =
-    and_from ((nat_lt x (callers plan) && nat_lt s (callers plan)) && is_at_home plan.homes task x) true
-    (and_from (nat_lt x (callers plan) && nat_lt s (callers plan)) (is_at_home plan.homes task x)
-    (and_from (nat_lt x (callers plan)) (nat_lt s (callers plan)) (lt-ltb x (callers plan) h) well) own) refl
-
 micro_allowed : (plan : Plan) (found : Option ℕ) (x : ℕ) (o : Op) (m : Micro) → x < callers plan → is_sound_op plan o ≡ true → pulls_elsewhere x o ≡ true
     → is_sound_micro plan m ≡ true → IsForHome plan x found → AllAllowed plan (option_to_list (committed found x o m))
-micro_allowed plan found x o Commit h sound pulls well own = op_allowed plan x o (deed_of x o) h sound pulls refl
-micro_allowed plan found x o (Settle s) h sound pulls well own = wake_allowed plan x s found h well own
-micro_allowed plan found x o _ h sound pulls well own = refl
+micro_allowed plan found x o m h sound pulls well own = grind arith
 
 -- a step commits what is allowed, and leaves each caller with requests of its own
 step_allowed : (plan : Plan) (g : Progress) (x : ℕ) (r : Option Step) → IsSound plan → FindTheirOwn plan g → step_next plan g.counters x ≡ r

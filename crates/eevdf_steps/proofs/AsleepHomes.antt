@@ -1,22 +1,25 @@
 -- A task sleeps at its home alone, on the machines that deeds leave and while the callers work.
-use Rattle.std.proofs.Common.{◌≡◌, ℕ, Bool, true, false, cond, ◌||◌, List, [], ◌∷◌, set, refl, sym, ap, subst, ◌∙◌}
+use Rattle.std.proofs.Common.{◌≡◌, ℕ, Bool, true, false, cond, ◌||◌, List, [], ◌∷◌, set, refl, sym, ap, subst, ◌∙◌, arith}
 use Rattle.std.specs.Prelude.{◌==◌, Option, Some, None, Result, Ok, Err}
 use Rattle.std.specs.{Option.unwrap_or, FinMap.contains_key}
-use Rattle.eevdf_queue.specs.{declared.entry.Entry.Entry, State.State, State.Contents, State.Sleeper, Placing.placed_entry}
-use Rattle.eevdf_queue.specs.{Moves.put_asleep, Moves.sleeper_of, Moves.with_runnable, Wake.wake_sleeper, Wake.wake_to}
+use Rattle.eevdf_queue.specs.{declared.entry.Entry.Entry, Placing.placed_entry, Wake.wake_sleeper, Wake.wake_to}
+use Rattle.eevdf_queue.specs.State.{State, Contents, Sleeper}
+use Rattle.eevdf_queue.specs.Moves.{put_asleep, sleeper_of, with_runnable}
 use Rattle.eevdf_queue.specs.Leaving.{carried_running, leave, without_entry}
-use Rattle.eevdf_ops.specs.declared.deeds.{Answer.Answer, Deed.Deed, Line.Line}
-use Rattle.eevdf_ops.specs.declared.deeds.Deed.TheVariants.{Tick, Pick, Yield, Sleep, Wake, Pull, Renice}
+use Rattle.eevdf_ops.specs.{declared.deeds.Answer.Answer, declared.deeds.Deed.Deed, declared.deeds.Line.Line}
 use Rattle.eevdf_ops.specs.{Histories.machine_told, Machine.Machine, Machine.queue_at, Programs.deeds_of, Setup.home_of}
-use Rattle.eevdf_ops.specs.{Parts.after_leaving, Parts.giver, Parts.only_at, Whole.machine_after, Whole.whole}
-use Rattle.eevdf_ops.specs.WholeSleep.{sleep_carrying, task_leaves}
+use Rattle.eevdf_ops.specs.{Whole.machine_after, Whole.whole, WholeSleep.sleep_carrying, WholeSleep.task_leaves}
+use Rattle.eevdf_ops.specs.declared.deeds.Deed.TheVariants.{Tick, Pick, Yield, Sleep, Wake, Pull, Renice}
+use Rattle.eevdf_ops.specs.Parts.{after_leaving, giver, only_at}
 use Rattle.eevdf_ops.specs.WholePull.{decision, load_of, offer, pull_decided, with_task}
 use Rattle.eevdf_ops.proofs.{Carried.Carries, Carried.running-carries, MachinePlaces.SleepsAtHome, MachinePlaces.each-set}
 use Rattle.eevdf_ops.proofs.MapCounts.{contains-insert, contains-removed, equal}
 use Rattle.eevdf_ops.proofs.QueuePlaces.{pick-same, renice-same, tick-same, yield-same}
-use Rattle.eevdf_steps.specs.{Counters.Counters, Counters.holder, Counters.holds, Plan.Plan, Plan.callers, Work.Work}
-use Rattle.eevdf_steps.specs.{Serial.IsSerial, Serial.begun_by, UnderWay.UnderWay, UnderWay.leaves, UnderWay.queue_seen}
+use Rattle.eevdf_steps.specs.Counters.{Counters, holder, holds}
+use Rattle.eevdf_steps.specs.{Plan.Plan, Plan.callers, Work.Work, Serial.IsSerial, Serial.begun_by}
+use Rattle.eevdf_steps.specs.UnderWay.{UnderWay, leaves, queue_seen}
 use Rattle.eevdf_steps.proofs.{Ready.least_found, SerialSteps.free_queue}
+use Rattle.std.proofs.lemmas.Bool.Decides.{nat_tests}
 
 -- each sleeping task of a machine is at its home
 abbrev pub AllAtHome : List ℕ → Machine → Type 0
@@ -30,24 +33,19 @@ still : (homes : List ℕ) (cpu : ℕ) (q r : State) → IsNoMore q r → Sleeps
 still homes cpu q r less at_home task a = at_home task (less task a)
 
 wake_to_less : (q : State) (t : ℕ) (o : Option Entry) → IsNoMore q (wake_to q t o).1
-wake_to_less q t None task a = a
-wake_to_less q t (Some e) task a = contains-removed q.asleep t task a
+wake_to_less q t o = grind (arith, nat_tests, contains-removed)
 
 wake_sleeper_less : (q : State) (t : ℕ) (o : Option Sleeper) → IsNoMore q (wake_sleeper q t o).1
-wake_sleeper_less q t None task a = a
-wake_sleeper_less q t (Some s) task a = wake_to_less q t (placed_entry q s) task a
+wake_sleeper_less q t o = grind (arith, nat_tests, wake_to_less)
 
 leave_less : (q : State) (t : ℕ) (o : Option Entry) → IsNoMore q (without_entry q t o)
-leave_less q t None task a = a
-leave_less q t (Some e) task a = a
+leave_less q t o = grind arith
 
 joined_less : (q : State) (t : ℕ) (o : Option Entry) → IsNoMore q (unwrap_or (with_runnable q t o) q)
-joined_less q t None task a = a
-joined_less q t (Some e) task a = a
+joined_less q t o = grind arith
 
 fallen : (homes : List ℕ) (cpu task : ℕ) (b c : Bool) → (b ≡ true → home_of homes task ≡ cpu) → (c ≡ true → home_of homes task ≡ cpu) → (b || c) ≡ true → home_of homes task ≡ cpu
-fallen homes cpu task true c f g e = f refl
-fallen homes cpu task false c f g e = g e
+fallen homes cpu task b c f g e = grind arith
 
 falls_at_home : (homes : List ℕ) (cpu : ℕ) (q : State) (p : Contents) → home_of homes p.task ≡ cpu → SleepsAtHome homes cpu q → SleepsAtHome homes cpu (put_asleep q p)
 falls_at_home homes cpu q p home at_home task a =

@@ -1,6 +1,6 @@
 -- What a caller has under way stands in queues that it holds, and depends on them alone.
-use Rattle.std.proofs.Common.{◌≡◌, ℕ, Bool, true, false, cond, List, [], length, ap, ◌∙◌, refl, arith}
-use Rattle.std.specs.Prelude.{MatchOption, Option, Some, None}
+use Rattle.std.proofs.Common.{◌≡◌, ℕ, Bool, true, cond, List, [], length, ap, ◌∙◌, refl, arith}
+use Rattle.std.specs.Prelude.{MatchOption, Option, Some}
 use Rattle.eevdf_queue.specs.State.{State, Contents}
 use Rattle.eevdf_ops.specs.{declared.deeds.Op.Op, declared.deeds.Deed.Deed, declared.deeds.Answer.Answer, Machine.Machine}
 use Rattle.eevdf_ops.specs.{Machine.queue_at, Whole.whole, Programs.deed_of}
@@ -9,11 +9,10 @@ use Rattle.eevdf_ops.specs.declared.deeds.Deed.TheVariants as deed
 use Rattle.eevdf_ops.specs.Parts.{after_leaving, given, giver, only_at, touches}
 use Rattle.eevdf_ops.specs.PartsLaws as laws
 use Rattle.eevdf_ops.proofs.PartsProofs.{touched_decide}
-use Rattle.eevdf_steps.specs.{declared.micro.Micro.Micro, declared.plan.Step.Step, Serial.begun_by, Plan.Plan, Plan.callers}
-use Rattle.eevdf_steps.specs.declared.micro.Micro.TheVariants.{Attach, Commit}
+use Rattle.eevdf_steps.specs.{declared.plan.Step.Step, Serial.begun_by, Plan.Plan, Plan.callers}
 use Rattle.eevdf_steps.specs.Counters.{Counters, counted, holds, step_next}
-use Rattle.eevdf_steps.specs.UnderWay.{UnderWay, begun, hand_seen, leaves, leaving, queue_seen, under_way, under_way_before}
-use Rattle.eevdf_steps.proofs.Walks.{Covers, Fits, FitsMicro, Walk, touched}
+use Rattle.eevdf_steps.specs.UnderWay.{UnderWay, hand_seen, leaves, leaving, queue_seen, under_way}
+use Rattle.eevdf_steps.proofs.Walks.{Covers, Fits, Walk, touched}
 use Rattle.std.proofs.lemmas.Bool.Decides.{nat_tests}
 
 -- the queues that an operation touches are those that its deed touches
@@ -32,10 +31,6 @@ pub holds_touched : (plan : Plan) (counters : Counters) (p : ℕ) (o : Op) (d : 
     → HoldsTouched plan counters p d
 holds_touched plan counters p o d w covers e = λ c. w.holds_them c ∙ covers c ∙ touched_is plan p o d c e
 
-begun_deed : (done : Bool) (o : Option Deed) (u : UnderWay) → begun done o ≡ Some u → o ≡ Some u.deed
-begun_deed done None u e = cc
-begun_deed done (Some d) u e = let is : record { deed = d; done = done } ≡ u = cc in ap (λ (v : UnderWay). Some v.deed) is
-
 -- what stands before a step of which something is under way
 pub record Standing (plan : Plan) (counters : Counters) (p : ℕ) (u : UnderWay) : Type 0 where
   pub next : Step
@@ -43,22 +38,10 @@ pub record Standing (plan : Plan) (counters : Counters) (p : ℕ) (u : UnderWay)
   pub deed_is : deed_of p next.op ≡ Some u.deed
   pub holds_all : HoldsTouched plan counters p u.deed
 
-standing_by : (plan : Plan) (counters : Counters) (p : ℕ) (u : UnderWay) (w : Walk plan counters p) (o : Op) (m : Micro) (following : Option Step)
-    → FitsMicro plan p w.held o m following → step_next plan counters p ≡ Some (record { op = o; micro = m }) → under_way_before p o m ≡ Some u
-    → Standing plan counters p u
-standing_by plan counters p u w o Attach following f n e =
-    let d : deed_of p o ≡ Some u.deed = begun_deed false (deed_of p o) u e in
-    record { next = record { op = o; micro = Attach }; is_next = n; deed_is = d; holds_all = holds_touched plan counters p o u.deed w f.covers d }
-standing_by plan counters p u w o Commit following f n e =
-    let d : deed_of p o ≡ Some u.deed = begun_deed true (deed_of p o) u e in
-    record { next = record { op = o; micro = Commit }; is_next = n; deed_is = d; holds_all = holds_touched plan counters p o u.deed w f.covers d }
-standing_by plan counters p u w o _ following f n e = cc
-
 standing_at : (plan : Plan) (counters : Counters) (p : ℕ) (u : UnderWay) (w : Walk plan counters p) (o : Option Step)
     → MatchOption o (w.held ≡ []) (λ s. Fits plan p w.held s (step_next plan (counted counters p) p)) → step_next plan counters p ≡ o → under_way p o ≡ Some u
     → Standing plan counters p u
-standing_at plan counters p u w None f n e = cc
-standing_at plan counters p u w (Some s) f n e = standing_by plan counters p u w s.op s.micro (step_next plan (counted counters p) p) f n e
+standing_at plan counters p u w o f n e = grind arith
 
 pub standing : (plan : Plan) (counters : Counters) (p : ℕ) (u : UnderWay) → Walk plan counters p → begun_by plan counters p ≡ Some u → Standing plan counters p u
 standing plan counters p u w e = standing_at plan counters p u w (step_next plan counters p) w.fits refl e
@@ -76,8 +59,7 @@ leaves_alike homes d m n alike agree =
     (agree (giver d) (grind (arith, nat_tests)))
 
 either : {A : Type 0} (b : Bool) (x y z w : A) → x ≡ z → y ≡ w → cond b x y ≡ cond b z w
-either true x y z w e f = e
-either false x y z w e f = f
+either b x y z w e f = grind arith
 
 pub seen_alike : (homes : List ℕ) (u : UnderWay) (m n : Machine) → laws.Fits homes u.deed m → laws.Fits homes u.deed n → laws.AgreeWhereTouched homes u.deed m n
     → SeenAlike homes u m n

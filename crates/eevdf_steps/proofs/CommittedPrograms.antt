@@ -7,41 +7,23 @@ use Rattle.std.specs.Prelude.{◌==◌, IfSome, Option, Some, None}
 use Rattle.std.specs.Option.{option_to_list}
 use Rattle.eevdf_ops.specs.{declared.deeds.Op.Op, declared.deeds.Deed.Deed, declared.deeds.Line.Line, Parts.decider}
 use Rattle.eevdf_ops.specs.declared.deeds.Op.TheVariants as op
-use Rattle.eevdf_ops.specs.Programs.{deed_of, deeds_by, deeds_of, lines_by}
+use Rattle.eevdf_ops.specs.Programs.{deeds_by, deeds_of, lines_by}
 use Rattle.eevdf_steps.specs.{declared.micro.Micro.Micro, declared.plan.Step.Step, MicroSteps.steps_by, Orders.counters_at_start}
 use Rattle.eevdf_steps.specs.Orders.{order_fault}
 use Rattle.eevdf_steps.specs.Plan.{Plan, callers, program}
-use Rattle.eevdf_steps.specs.declared.micro.Micro.TheVariants.{Commit, Settle, Post}
 use Rattle.eevdf_steps.specs.Counters.{Counters, count_of, counted, step_next, unfinished}
 use Rattle.eevdf_steps.specs.Requests.{Progress, found_by, progress_after, progress_at_start, progress_by, progress_step}
-use Rattle.eevdf_steps.specs.Commits.{commits, committed, committed_by, wake_of}
+use Rattle.eevdf_steps.specs.Commits.{commits, committed, committed_by}
 use Rattle.eevdf_steps.proofs.{CommittedLines.FitsPrograms, Lists.drop_next, Lists.got_past, SoundSteps.is_caller}
 use Rattle.eevdf_steps.proofs.{ProgramSteps.FitsSteps, ProgramSteps.operations_fit, Holders.count_first}
 use Rattle.eevdf_steps.proofs.LawfulOrders.{done_by_all, faultless_whole, length-progress_step, whole_ends}
 use Rattle.std.proofs.lemmas.Bool.{cases_eq, ne_eqb, eq-eqb}
 
--- a step commits a deed of its caller alone
-deed_decides : (x : ℕ) (o : Op) → IfSome (deed_of x o) (λ (d : Deed). decider d ≡ x)
-deed_decides x (op.Post t) = tt
-deed_decides x op.Drain = tt
-deed_decides x _ = refl
-
-wake_decides : (x s : ℕ) (found : Option ℕ) → IfSome (wake_of x s found) (λ (d : Deed). decider d ≡ x)
-wake_decides x s None = tt
-wake_decides x s (Some t) = refl
-
 committed_decides : (found : Option ℕ) (x : ℕ) (o : Op) (m : Micro) → IfSome (committed found x o m) (λ (d : Deed). decider d ≡ x)
-committed_decides found x o Commit = deed_decides x o
-committed_decides found x o (Settle s) = wake_decides x s found
-committed_decides found x o _ = tt
+committed_decides found x o m = grind arith
 
 mine_or_none : (p x : ℕ) (r : Option Deed) → IfSome r (λ (d : Deed). decider d ≡ x) → deeds_by p (option_to_list r) ≡ cond (x == p) (option_to_list r) []
-mine_or_none p x None e = both_empty (x == p)
-  where
-    both_empty : (b : Bool) → ◌≡◌ {A = List Deed} [] (cond b [] [])
-    both_empty true = refl
-    both_empty false = refl
-mine_or_none p x (Some d) e = ap (λ (y : ℕ). cond (y == p) (d ∷ []) []) e
+mine_or_none p x r e = grind arith
 
 pub own_deeds : (found : Option ℕ) (x : ℕ) (o : Op) (m : Micro) → deeds_by x (option_to_list (committed found x o m)) ≡ option_to_list (committed found x o m)
 own_deeds found x o m =

@@ -1,14 +1,15 @@
 -- The outcome of an order without fault follows the programs.
 use Rattle.std.proofs.Common.{◌≡◌, ℕ, ◌*◌, ◌<◌, ◌≤◌, List, [], ◌∷◌, ◌++◌, length, take, drop, inl, inr, sym, ap, ◌∙◌, refl, arith}
 use Rattle.std.proofs.lemmas.{Bool.cases_lt, List.get_or_past}
-use Rattle.std.proofs.Math.{Nat.mul-le-mul_right, Seq.drop-nil, Seq.take-nil}
-use Rattle.std.specs.Prelude.{Option, Some, None}
+use Rattle.std.proofs.{Math.Nat.mul-le-mul_right, Math.Seq.drop-nil, Math.Seq.take-nil}
+use Rattle.std.specs.Prelude.{Option, None}
 use Rattle.eevdf_ops.specs.{declared.deeds.Op.Op, Followed.FollowsPrograms, Followed.left_of, Outcome.Outcome, Setup.Setup}
 use Rattle.eevdf_ops.specs.Programs.{deeds_of, lines_by, wakes_from}
-use Rattle.eevdf_steps.specs.{declared.plan.Step.Step, MicroSteps.steps_of, Counters.Counters, Counters.count_of}
-use Rattle.eevdf_steps.specs.{Counters.step_next, Commits.commits, Orders.counters_at_start, Orders.order_fault, Plays.IsOutcome}
+use Rattle.eevdf_steps.specs.{declared.plan.Step.Step, MicroSteps.steps_of, Commits.commits, Orders.counters_at_start}
+use Rattle.eevdf_steps.specs.{Orders.order_fault, Plays.IsOutcome}
+use Rattle.eevdf_steps.specs.Counters.{Counters, count_of, step_next}
 use Rattle.eevdf_steps.specs.Plan.{IsSound, Plan, callers, pair, plan_of}
-use Rattle.eevdf_steps.specs.Requests.{Progress, left, posted, posts_to, progress_after, progress_at_start, progress_by, progress_step, taken_of}
+use Rattle.eevdf_steps.specs.Requests.{Progress, left, posted, posts_to, progress_after, progress_at_start, progress_step, taken_of}
 use Rattle.eevdf_steps.specs.MicroState.{MicroState, micro, micro_after, micro_by, micro_start, micro_step}
 use Rattle.eevdf_steps.proofs.{CommittedPrograms.programs_fit, Plans.programs_past, KeptPosts.posts_taken_or_left}
 use Rattle.eevdf_steps.proofs.ProgramPosts.{posted_when_done}
@@ -17,8 +18,7 @@ use Rattle.eevdf_steps.proofs.LawfulOrders.{done_by_all, faultless_whole, whole_
 -- the queues have no part in the progress
 pub step_progress : (plan : Plan) (s : MicroState) (p : ℕ) (r : Option Step) → step_next plan s.progress.counters p ≡ r
     → (micro_by plan s p r).progress ≡ progress_step plan s.progress p
-step_progress plan s p None e = ap (λ (r : Option Step). progress_by plan s.progress p r) (sym e)
-step_progress plan s p (Some step) e = refl
+step_progress plan s p r e = grind arith
 
 pub micro_progress : (plan : Plan) (s : MicroState) (order : List ℕ) → (micro_after plan s order).progress ≡ progress_after plan s.progress order
 micro_progress plan s [] = refl

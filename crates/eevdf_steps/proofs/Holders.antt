@@ -1,9 +1,9 @@
 -- What becomes of the locks at a step.
 use Rattle.std.proofs.Common.{◌≡◌, ◌≢◌, ℕ, zero, suc, ◌+◌, ◌-◌, ◌<◌, ◌≤◌, Bool, true, false, cond, List, [], ◌∷◌, ◌++◌, length, take, drop, get_or, set, replicate, inl, inr, sym, ap, subst, ◌∙◌, arith, refl}
-use Rattle.std.proofs.lemmas.Bool.{false≢true, cases_lt, and_parts, ltb-true, cases_eq, ne_eqb, eq-eqb, eqb-true, eqb-false}
+use Rattle.std.proofs.lemmas.Bool.{false≢true, cases_lt, and_parts, ltb-true, cases_eq, eq-eqb}
 use Rattle.std.proofs.lemmas.List.{get_or-set_same, get_or-set_other, get_or_default}
-use Rattle.std.proofs.{Math.ListN.length-set, Math.ListN.length-replicate, Math.Seq.take-append_seam}
-use Rattle.std.specs.Prelude.{slice_get, nat_lt, ◌==◌, Option, Some, None}
+use Rattle.std.proofs.Math.Seq.{take-append_seam}
+use Rattle.std.specs.Prelude.{slice_get, ◌==◌, Option, Some, None}
 use Rattle.eevdf_ops.specs.declared.deeds.Op.{Op}
 use Rattle.eevdf_steps.specs.{declared.micro.Micro.Micro, declared.plan.Step.Step, declared.micro.Micro.TheVariants.Acquire}
 use Rattle.eevdf_steps.specs.{declared.micro.Micro.TheVariants.Release, MicroSteps.steps_by, MicroSteps.steps_of}
@@ -12,6 +12,7 @@ use Rattle.eevdf_steps.specs.Plan.{Plan, callers, is_sound_op}
 use Rattle.eevdf_steps.specs.Counters.{Counters, blocked_by, count_of, counted, held_after, held_by_steps, holder, holds, least, refused, step_next}
 use Rattle.eevdf_steps.specs.Holders.{AreHolders, given_up, holders_after, is_holder, names_lock}
 use Rattle.eevdf_steps.proofs.Plans.{programs_past}
+use Rattle.std.proofs.lemmas.Grind.{common_steps}
 
 pub take_next : {A : Type 0} (xs : List A) (k : ℕ) (x : A) → slice_get xs k ≡ Some x → take (suc k) xs ≡ take k xs ++ x ∷ []
 take_next [] k x e = cc
@@ -47,8 +48,7 @@ least_none from zero = refl
 least_none from (suc n) = least_none (from + 1) n
 
 least_step : (q from : ℕ) (rest : Option ℕ) (b : Bool) → (q == from) ≡ b → (q ≢ from → rest ≡ Some q) → cond b (Some from) rest ≡ Some q
-least_step q from rest true e later = ap (λ (k : ℕ). Some k) (sym (eqb-true q from e))
-least_step q from rest false e later = later (eqb-false q from e)
+least_step q from rest b e later = grind arith
 
 least_some : (q from n : ℕ) → from ≤ q → q < from + n → least (is_holder (Some q)) from n ≡ Some q
 least_some q from zero low high = absurd (omega arith)
@@ -57,8 +57,7 @@ least_some q from (suc n) low high =
     (λ apart. least_some q (from + 1) n (omega arith) (omega arith))
 
 taken_none : (cpu k : ℕ) → held_by_steps cpu false (take k []) ≡ false
-taken_none cpu zero = refl
-taken_none cpu (suc k) = refl
+taken_none cpu k = grind arith
 
 pub nobody_past : (plan : Plan) (counters : Counters) (cpu p : ℕ) → callers plan ≤ p → holds plan counters cpu p ≡ false
 nobody_past plan counters cpu p h =
@@ -94,52 +93,15 @@ elsewhere : (plan : Plan) (counters : Counters) (holders : List (Option ℕ)) (p
 elsewhere plan counters holders p c cpu q h apart here same =
     same ∙ here ∙ ap (λ (o : Option ℕ). is_holder o q) (sym (get_or-set_other holders c cpu h None apart))
 
-own_or_other : (plan : Plan) (counters : Counters) (p cpu q : ℕ) (m : Micro) → Follows plan counters p m → held_after cpu (holds plan counters cpu p) m ≡ holds plan counters cpu p
-    → holds plan (counted counters p) cpu q ≡ holds plan counters cpu q
-own_or_other plan counters p cpu q m follows still =
-    elim (cases_eq q p) [
-      | inl same ↦ subst (λ (r : ℕ). holds plan (counted counters p) cpu r ≡ holds plan counters cpu r) (sym same) (follows cpu ∙ still)
-      | inr apart ↦ holds_other plan counters cpu p q apart
-    ]
-
-other_lock : (c cpu : ℕ) (a held : Bool) → cpu ≢ c → cond (c == cpu) a held ≡ held
-other_lock c cpu a held apart = ap (λ (b : Bool). cond b a held) (ne_eqb c cpu (λ same. apart (sym same)))
-
-at_lock : (plan : Plan) (counters : Counters) (holders : List (Option ℕ)) (p c q : ℕ) (h : Option ℕ) → c < length holders
-    → holds plan (counted counters p) c q ≡ is_holder h q → Matches plan (counted counters p) (set holders c h) c q
-at_lock plan counters holders p c q h within e = e ∙ ap (λ (o : Option ℕ). is_holder o q) (sym (get_or-set_same holders c h None within))
-
-acquires_at : (plan : Plan) (counters : Counters) (p c q : ℕ) → Follows plan counters p (Acquire c) → holds plan counters c q ≡ false
-    → holds plan (counted counters p) c q ≡ is_holder (Some p) q
-acquires_at plan counters p c q follows free =
-    elim (cases_eq q p) [
-      | inl same ↦ subst (λ (r : ℕ). holds plan (counted counters p) c r ≡ (p == r)) (sym same)
-          (follows c ∙ ap (λ (b : Bool). cond b true (holds plan counters c p)) (eq-eqb c c refl) ∙ sym (eq-eqb p p refl))
-      | inr apart ↦ holds_other plan counters c p q apart ∙ free ∙ sym (ne_eqb p q (λ same. apart (sym same)))
-    ]
-
 pub acquired : (plan : Plan) (counters : Counters) (holders : List (Option ℕ)) (p c : ℕ) → AreHolders plan counters holders → Follows plan counters p (Acquire c)
     → c < callers plan → get_or holders c None ≡ None → AreHolders plan (counted counters p) (set holders c (Some p))
-acquired plan counters holders p c a follows below free = record {
-  each = length-set holders c (Some p) ∙ a.each;
-  held = λ cpu q k.
-      elim (cases_eq cpu c) [
-        | inl same ↦ subst (λ (r : ℕ). Matches plan (counted counters p) (set holders c (Some p)) r q) (sym same)
-            (at_lock plan counters holders p c q (Some p) (omega (arith, a.each))
-            (acquires_at plan counters p c q follows (a.held c q below ∙ ap (λ (o : Option ℕ). is_holder o q) free)))
-        | inr apart ↦ elsewhere plan counters holders p c cpu q (Some p) apart (a.held cpu q k)
-            (own_or_other plan counters p cpu q (Acquire c) follows (other_lock c cpu true (holds plan counters cpu p) apart))
-      ];
-}
+acquired plan counters holders p c a follows below free = grind (arith, common_steps)
 
 gives_up : (h : Option ℕ) (p q : ℕ) (b : Bool) → is_holder h p ≡ b → q ≢ p → is_holder h q ≡ is_holder (cond b None h) q
-gives_up h p q false e apart = refl
-gives_up None p q true e apart = refl
-gives_up (Some r) p q true e apart = let same : r ≡ p = eqb-true r p e in ne_eqb r q (λ k. apart (sym k ∙ same))
+gives_up h p q b e apart = grind arith
 
 gave_up : (h : Option ℕ) (p : ℕ) (b : Bool) → is_holder h p ≡ b → false ≡ is_holder (cond b None h) p
-gave_up h p true e = refl
-gave_up h p false e = sym e
+gave_up h p b e = grind arith
 
 releases_at : (plan : Plan) (counters : Counters) (p c q : ℕ) (h : Option ℕ) → Follows plan counters p (Release c) → holds plan counters c q ≡ is_holder h q
     → holds plan (counted counters p) c q ≡ is_holder (given_up h p) q
@@ -152,28 +114,14 @@ releases_at plan counters p c q h follows here =
 
 pub released : (plan : Plan) (counters : Counters) (holders : List (Option ℕ)) (p c : ℕ) → AreHolders plan counters holders → Follows plan counters p (Release c)
     → c < callers plan → AreHolders plan (counted counters p) (set holders c (given_up (get_or holders c None) p))
-released plan counters holders p c a follows below = record {
-  each = length-set holders c (given_up (get_or holders c None) p) ∙ a.each;
-  held = λ cpu q k.
-      elim (cases_eq cpu c) [
-        | inl same ↦ subst (λ (r : ℕ). Matches plan (counted counters p) (set holders c (given_up (get_or holders c None) p)) r q) (sym same)
-            (at_lock plan counters holders p c q (given_up (get_or holders c None) p) (omega (arith, a.each))
-            (releases_at plan counters p c q (get_or holders c None) follows (a.held c q below)))
-        | inr apart ↦ elsewhere plan counters holders p c cpu q (given_up (get_or holders c None) p) apart (a.held cpu q k)
-            (own_or_other plan counters p cpu q (Release c) follows (other_lock c cpu false (holds plan counters cpu p) apart))
-      ];
-}
+released plan counters holders p c a follows below = grind (arith, common_steps)
 
 kept : (plan : Plan) (counters : Counters) (holders : List (Option ℕ)) (p : ℕ) (m : Micro) → AreHolders plan counters holders → Follows plan counters p m
     → ((cpu : ℕ) (b : Bool) → held_after cpu b m ≡ b) → AreHolders plan (counted counters p) holders
-kept plan counters holders p m a follows still = record {
-  each = a.each;
-  held = λ cpu q k. own_or_other plan counters p cpu q m follows (still cpu (holds plan counters cpu p)) ∙ a.held cpu q k;
-}
+kept plan counters holders p m a follows still = grind (arith, common_steps)
 
 pub not_blocked : (cpu : ℕ) (o : Option ℕ) → blocked_by cpu o ≡ None → o ≡ None
-not_blocked cpu None e = refl
-not_blocked cpu (Some q) e = cc
+not_blocked cpu o e = grind arith
 
 -- the holders after a step that nothing refuses
 holders_step : (plan : Plan) (counters : Counters) (holders : List (Option ℕ)) (p : ℕ) (m : Micro) → AreHolders plan counters holders → Follows plan counters p m
@@ -202,12 +150,7 @@ none_first (suc n) zero = refl
 none_first (suc n) (suc c) = none_first n c
 
 pub holders_first : (plan : Plan) → AreHolders plan (counters_at_start plan) (replicate (callers plan) None)
-holders_first plan = record {
-  each = length-replicate (callers plan) None;
-  held = λ cpu q k.
-      ap (λ (n : ℕ). held_by_steps cpu false (take n (steps_by plan q))) (count_first (callers plan) q)
-      ∙ ap (λ (o : Option ℕ). is_holder o q) (sym (none_first (callers plan) cpu));
-}
+holders_first plan = grind (arith, common_steps)
 
 -- the same, where the counters and the list are known by equations
 pub same_holders : (plan : Plan) (counters counters' : Counters) (holders holders' : List (Option ℕ)) → counters' ≡ counters → holders' ≡ holders
@@ -220,14 +163,10 @@ pub written_back : {A : Type 0} (n : ℕ) (xs ys : List A) → length xs ≡ n �
 written_back n xs ys e = ap (λ (k : ℕ). take k (xs ++ drop (length xs) ys)) (sym e) ∙ take-append_seam xs (drop (length xs) ys)
 
 pub sound_lock : (plan : Plan) (n : ℕ) (m : Micro) → n ≡ callers plan → is_sound_micro plan m ≡ true → names_lock n m ≡ true
-sound_lock plan n (Acquire c) e h = ap (λ (k : ℕ). nat_lt c k) e ∙ h
-sound_lock plan n (Release c) e h = ap (λ (k : ℕ). nat_lt c k) e ∙ h
-sound_lock plan n _ e h = refl
+sound_lock plan n m e h = grind arith
 
 pub length-holders_after : (p : ℕ) (m : Micro) (holders : List (Option ℕ)) → length (holders_after p m holders) ≡ length holders
-length-holders_after p (Acquire c) holders = length-set holders c (Some p)
-length-holders_after p (Release c) holders = length-set holders c (given_up (get_or holders c None) p)
-length-holders_after p _ holders = refl
+length-holders_after p m holders = grind (arith, common_steps)
 
 -- the holder that was read
 pub read_holder : (plan : Plan) (counters : Counters) (holders : List (Option ℕ)) (cpu k : ℕ) (h : Option ℕ) → k ≡ cpu → cpu < callers plan → AreHolders plan counters holders

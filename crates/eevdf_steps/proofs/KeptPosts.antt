@@ -1,11 +1,11 @@
 -- Each request that is posted is taken once, in the order of posting, and settled before its home takes another.
-use Rattle.std.proofs.Common.{append_assoc, append-nil, ◌≡◌, ℕ, ◌*◌, ◌<◌, ◌≤◌, List, [], ◌∷◌, ◌++◌, length, drop, take, inl, sym, ap, subst, ◌∙◌, arith, refl}
-use Rattle.std.proofs.{Math.ListN.length-replicate, lemmas.Grind.flat_map-append, lemmas.List.get_or-replicate}
+use Rattle.std.proofs.Common.{append_assoc, append-nil, ◌≡◌, ℕ, ◌*◌, ◌<◌, List, [], ◌∷◌, ◌++◌, drop, take, sym, ap, subst, ◌∙◌, arith, refl}
+use Rattle.std.proofs.lemmas.{Grind.flat_map-append, Grind.common_steps, List.get_or-replicate}
 use Rattle.std.specs.{Prelude.Option, Prelude.None, Option.option_map}
-use Rattle.eevdf_ops.specs.declared.deeds.{Deed.Deed, Line.Line}
+use Rattle.eevdf_ops.specs.{declared.deeds.Deed.Deed, declared.deeds.Line.Line}
 use Rattle.eevdf_ops.specs.Programs.{deeds_by, deeds_of, lines_by, wake_from, wakes_from, wakes_in}
-use Rattle.eevdf_steps.specs.{declared.plan.Step.Step, MicroSteps.steps_by, Counters.next, Counters.step_next}
-use Rattle.eevdf_steps.specs.{Commits.commits, Commits.committed_by, Orders.counters_at_start, Orders.order_fault}
+use Rattle.eevdf_steps.specs.{declared.plan.Step.Step, MicroSteps.steps_by, Counters.next, Counters.step_next, Commits.commits}
+use Rattle.eevdf_steps.specs.{Commits.committed_by, Orders.counters_at_start, Orders.order_fault}
 use Rattle.eevdf_steps.specs.Plan.{IsSound, Plan, callers, pair}
 use Rattle.eevdf_steps.specs.Requests.{Progress, found_by, left, posted, posts_to, progress_after, progress_at_start, progress_step, taken_of}
 use Rattle.eevdf_steps.proofs.CommittedLines.{PostsAreKept, PostsAreTakenOrLeft, to_settle_next, unsettled}
@@ -52,13 +52,7 @@ none_taken : (plan : Plan) (q c : ℕ) → taken_of plan (progress_at_start plan
 none_taken plan q c = count_first (callers plan * callers plan) (pair plan q c)
 
 orderly_first : (plan : Plan) (q c : ℕ) → c < callers plan → IsOrderly plan (progress_at_start plan) q c
-orderly_first plan q c caller = record {
-  each = length-replicate (callers plan) 0;
-  finds = length-replicate (callers plan) None;
-  takes = length-replicate (callers plan * callers plan) 0;
-  within = subst (λ (k : ℕ). k ≤ length (posted plan (counters_at_start plan) q c)) (sym (none_taken plan q c)) (omega arith);
-  settles = inl (none_found plan c caller);
-}
+orderly_first plan q c caller = grind (arith, common_steps)
 
 parted_first : (plan : Plan) (q c : ℕ) → c < callers plan → IsParted plan (progress_at_start plan) q c []
 parted_first plan q c caller =

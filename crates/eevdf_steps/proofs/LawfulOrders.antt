@@ -1,32 +1,28 @@
 -- Where a lawful order leads, and where a complete one ends.
 use Rattle.std.proofs.Common.{◌≡◌, ℕ, ◌+◌, ◌<◌, ◌≤◌, Bool, true, false, ◌&&◌, cond, List, [], ◌∷◌, length, inl, inr, sym, ap, subst, ◌∙◌, arith, refl}
-use Rattle.std.proofs.Math.ListN.{length-set}
 use Rattle.std.proofs.lemmas.Bool.{cases_lt, false≢true, and_parts}
-use Rattle.std.proofs.lemmas.{Bool.Decides.nat_tests, Option.none-some}
+use Rattle.std.proofs.lemmas.{Bool.Decides.nat_tests, Grind.common_steps}
 use Rattle.std.specs.Prelude.{nat_lt, is_none, is_some, Option, Some, None}
 use Rattle.std.specs.Option.{option_map}
 use Rattle.eevdf_steps.specs.{declared.plan.Step.Step, declared.step_fault.StepFault.StepFault}
 use Rattle.eevdf_steps.specs.{declared.play_fault.PlayFault.PlayFault, declared.step_fault.StepFault.TheVariants.NoCaller}
-use Rattle.eevdf_steps.specs.{declared.step_fault.StepFault.TheVariants.Done, declared.play_fault.PlayFault.TheVariants.Short}
-use Rattle.eevdf_steps.specs.{declared.play_fault.PlayFault.TheVariants.TooLong, Plan.Plan, Plan.callers}
-use Rattle.eevdf_steps.specs.Counters.{Counters, count_of, counted, is_under_way, may_step, refusal, refused_next, step_next, unfinished}
-use Rattle.eevdf_steps.specs.Orders.{IsWhole, WholeIsPlayed, counters_after, counters_at_start, fault_at, fault_or, is_lawful, most_places, order_fault}
+use Rattle.eevdf_steps.specs.declared.play_fault.PlayFault.TheVariants.{Short, TooLong}
+use Rattle.eevdf_steps.specs.Plan.{Plan, callers}
+use Rattle.eevdf_steps.specs.Counters.{Counters, counted, is_under_way, may_step, refusal, refused_next, step_next, unfinished}
+use Rattle.eevdf_steps.specs.Orders.{IsWhole, WholeIsPlayed, counters_after, counters_at_start, fault_or, is_lawful, most_places, order_fault}
 use Rattle.eevdf_steps.specs.Requests.{Progress, progress_after, progress_by, progress_step}
 use Rattle.eevdf_steps.proofs.{Plans.no_step, Ready.least_there}
 
 -- where a step isn't refused there is one
 not_refused : (plan : Plan) (counters : Counters) (p : ℕ) (r : Option Step) (b : Bool)
     → cond b (refused_next plan counters (option_map (λ (s : Step). s.micro) r)) (Some NoCaller) ≡ None → (s : Step) × (r ≡ Some s)
-not_refused plan counters p (Some s) b e = (s, refl)
-not_refused plan counters p None true e = absurd (none-some Done (sym e))
-not_refused plan counters p None false e = absurd (none-some NoCaller (sym e))
+not_refused plan counters p r b e = grind arith
 
 pub has_step : (plan : Plan) (counters : Counters) (p : ℕ) → refusal plan counters p ≡ None → (s : Step) × (step_next plan counters p ≡ Some s)
 has_step plan counters p e = not_refused plan counters p (step_next plan counters p) (nat_lt p (callers plan)) e
 
 pub none_of : {A : Type 0} (r : Option A) → is_none r ≡ true → r ≡ None
-none_of None e = refl
-none_of (Some x) e = cc
+none_of r e = grind arith
 
 -- the counters do not depend on what is taken and found
 pub counters_step : (plan : Plan) (g : Progress) (p : ℕ) → refusal plan g.counters p ≡ None → (progress_step plan g p).counters ≡ counted g.counters p
@@ -42,12 +38,10 @@ counters_lawful plan g (p ∷ order) lawful =
     ∙ ap (λ (cs : Counters). counters_after cs order) here
 
 not_faulty : (at : ℕ) (first : Option StepFault) (later : Option PlayFault) → fault_or at first later ≡ None → (first ≡ None) × (later ≡ None)
-not_faulty at None later e = (refl, e)
-not_faulty at (Some f) later e = absurd (none-some (fault_at at f) (sym e))
+not_faulty at first later e = grind arith
 
 not_short : (r : Option ℕ) → option_map (λ (p : ℕ). Short p) r ≡ None → is_none r ≡ true
-not_short None e = refl
-not_short (Some p) e = absurd (none-some (Short p) (sym e))
+not_short r e = grind arith
 
 pub faultless_whole : (plan : Plan) (counters : Counters) (at : ℕ) (order : List ℕ) → order_fault plan counters at order ≡ None → IsWhole plan counters order
 faultless_whole plan counters at [] e = record { lawful = refl; complete = not_short (unfinished plan counters) e }
@@ -62,8 +56,7 @@ faultless_whole plan counters at (p ∷ order) e =
 
 -- and the other way round
 no_short : (r : Option ℕ) → is_none r ≡ true → option_map (λ (p : ℕ). Short p) r ≡ None
-no_short None e = refl
-no_short (Some p) e = cc
+no_short r e = grind arith
 
 pub whole_faultless : (plan : Plan) (counters : Counters) (at : ℕ) (order : List ℕ) → IsWhole plan counters order → order_fault plan counters at order ≡ None
 whole_faultless plan counters at [] w = no_short (unfinished plan counters) w.complete
@@ -94,11 +87,7 @@ done_by_all plan counters p e =
 
 -- each step counts one caller on
 pub length-progress_step : (plan : Plan) (g : Progress) (p : ℕ) → length (progress_step plan g p).counters ≡ length g.counters
-length-progress_step plan g p = counted_once plan g p (step_next plan g.counters p)
-  where
-    counted_once : (plan : Plan) (g : Progress) (p : ℕ) (r : Option Step) → length (progress_by plan g p r).counters ≡ length g.counters
-    counted_once plan g p None = refl
-    counted_once plan g p (Some s) = length-set g.counters p (count_of g.counters p + 1)
+length-progress_step plan g p = grind (arith, common_steps)
 
 fits_in : (n most : ℕ) → n ≤ most → nat_lt most n ≡ false
 fits_in n most h = grind (arith, nat_tests)

@@ -1,14 +1,13 @@
 -- The deeds of an order that is played step by step.
-use Rattle.std.proofs.Common.{◌≡◌, ℕ, true, List, ◌∷◌, ◌++◌, sym, ap, subst, ◌∙◌}
+use Rattle.std.proofs.Common.{◌≡◌, ℕ, true, List, ◌++◌, sym, ap, subst, ◌∙◌}
 use Rattle.eevdf_ops.specs.{declared.deeds.Deed.Deed, Followed.FollowsPrograms, Histories.IsOneThread, Machine.start}
 use Rattle.eevdf_ops.specs.{Places.AreCpus, Places.IsPlaced, Outcome.Outcome, Outcome.machine_of, Programs.deeds_of}
 use Rattle.eevdf_ops.specs.Setup.{Setup, allows, cpus_of, homes_of}
 use Rattle.std.specs.{List.list_all, Prelude.Option, Prelude.None, Option.option_map}
-use Rattle.eevdf_steps.specs.{declared.play_fault.PlayFault.TheVariants.Short, Plan.IsSound, Plan.Plan, Plan.plan_of}
-use Rattle.eevdf_steps.specs.{Counters.unfinished, Plays.IsOutcome, Orders.IsWhole, Orders.counters_at_start}
-use Rattle.eevdf_steps.specs.{Orders.order_fault, PlayedSteps.HasPlayed}
-use Rattle.eevdf_steps.specs.Commits.{commits, deeds_committed}
-use Rattle.eevdf_steps.specs.Players.{Player, player_start}
+use Rattle.eevdf_steps.specs.{declared.play_fault.PlayFault.TheVariants.Short, Counters.unfinished, Plays.IsOutcome}
+use Rattle.eevdf_steps.specs.{PlayedSteps.HasPlayed, Commits.commits, Commits.deeds_committed, Players.Player, Players.player_start}
+use Rattle.eevdf_steps.specs.Plan.{IsSound, Plan, plan_of}
+use Rattle.eevdf_steps.specs.Orders.{IsWhole, counters_at_start, order_fault}
 use Rattle.eevdf_steps.proofs.{LawfulOrders.faultless_whole, AllowedCommits.deeds_allowed, PlacedHistories.outcome_placed}
 use Rattle.eevdf_steps.proofs.FollowedPrograms.{outcome_follows}
 

@@ -1,18 +1,17 @@
 -- Positions in a program, and the counters that they come to.
-use Rattle.std.proofs.Common.{◌≡◌, ℕ, zero, suc, ◌+◌, ◌*◌, ◌<◌, ◌≤◌, Bool, true, false, cond, List, [], ◌∷◌, ◌++◌, length, map, take, sym, ap, subst, ◌∙◌, arith, refl}
+use Rattle.std.proofs.Common.{◌≡◌, ℕ, zero, suc, ◌+◌, ◌*◌, ◌<◌, ◌≤◌, Bool, true, cond, List, [], ◌∷◌, ◌++◌, length, map, take, sym, ap, subst, ◌∙◌, arith, refl}
 use Rattle.std.proofs.Math.ListN.{length-append}
-use Rattle.std.proofs.lemmas.List.{length-map}
+use Rattle.std.proofs.lemmas.{List.length-map, Bool.Decides.nat_tests, Bool.lt-ltb, Bool.ltb-true}
 use Rattle.std.proofs.lemmas.Option.{none-some, slice_get-map, slice_get_within}
 use Rattle.std.specs.Option.{option_map}
-use Rattle.std.specs.Prelude.{slice_get, ◌==◌, Option, Some, None}
+use Rattle.std.specs.Prelude.{slice_get, Option, Some, None}
 use Rattle.eevdf_ops.specs.{declared.deeds.Op.Op, Numbers.most_cpus}
 use Rattle.eevdf_ops.specs.declared.deeds.Op.TheVariants as op
 use Rattle.eevdf_steps.specs.{declared.micro.Micro.Micro, declared.micro.Micro.TheVariants.Release, declared.plan.Step.Step}
 use Rattle.eevdf_steps.specs.{declared.plan.Position.Position, Positions.IsPosition, Positions.is_within}
-use Rattle.eevdf_steps.specs.Plan.{Plan, callers, home, program}
+use Rattle.eevdf_steps.specs.Plan.{Plan, callers, program}
 use Rattle.eevdf_steps.specs.MicroSteps.{draining, micros_of, moving, steps_of, under_lock, under_locks}
 use Rattle.eevdf_steps.proofs.Lists.{get_left, get_right, got_past}
-use Rattle.std.proofs.lemmas.Bool.{lt-ltb, ltb-true, eqb-true}
 
 abbrev pub step_in : Op → Micro → Step
 step_in o m = record { op = o; micro = m }
@@ -64,8 +63,7 @@ length-draining (suc n) s = omega (arith, length-draining n (s + 1))
 
 -- an operation has at least one step, and not many
 few_sleeping : (p h : ℕ) (b : Bool) → (0 < length (cond b (under_lock p moving) (under_locks p h moving))) × (length (cond b (under_lock p moving) (under_locks p h moving)) ≤ 2 * most_cpus + 2)
-few_sleeping p h true = (omega arith, omega arith)
-few_sleeping p h false = (omega arith, omega arith)
+few_sleeping p h b = grind arith
 
 few_draining : (n p : ℕ) → n ≤ most_cpus → (0 < length (under_lock p (draining n 0))) × (length (under_lock p (draining n 0)) ≤ 2 * most_cpus + 2)
 few_draining n p few =
@@ -73,9 +71,7 @@ few_draining n p few =
     (omega arith, omega arith)
 
 pub few_micros : (plan : Plan) (p : ℕ) (o : Op) → callers plan ≤ most_cpus → (0 < length (micros_of plan p o)) × (length (micros_of plan p o) ≤ 2 * most_cpus + 2)
-few_micros plan p (op.Sleep task) few = few_sleeping p (home plan task) (p == home plan task)
-few_micros plan p op.Drain few = few_draining (callers plan) p few
-few_micros plan p _ few = (omega arith, omega arith)
+few_micros plan p o few = grind (arith, nat_tests, few_sleeping, few_draining)
 
 pub counter_of_next : (plan : Plan) (p k j : ℕ) (o : Op) → slice_get (program plan p) k ≡ Some o → j + 1 ≡ length (micros_of plan p o)
     → length (steps_of plan p (take (k + 1) (program plan p))) ≡ length (steps_of plan p (take k (program plan p))) + j + 1
@@ -92,16 +88,12 @@ within_some plan p j (Some x) o e h =
     subst (λ (y : Op). j < length (micros_of plan p y)) same (ltb-true j (length (micros_of plan p x)) h)
 
 within_none : (plan : Plan) (p j : ℕ) (q : Option Op) → q ≡ None → is_within plan p j q ≡ true → j ≡ 0
-within_none plan p j None e h = eqb-true j 0 h
-within_none plan p j (Some x) e h = cc
+within_none plan p j q e h = grind arith
 
 -- a position before a step of an operation, and one past the last operation
 pub position_in : (plan : Plan) (p k j : ℕ) (o : Op) (next : Option Step) → slice_get (program plan p) k ≡ Some o → j < length (micros_of plan p o)
     → next ≡ option_map (step_in o) (slice_get (micros_of plan p o) j) → IsPosition plan p (record { operation = k; steps = j; next = next })
-position_in plan p k j o next here h e = record {
-  within = ap (is_within plan p j) here ∙ lt-ltb j (length (micros_of plan p o)) h;
-  next = e ∙ sym (located plan p (program plan p) k j o here h);
-}
+position_in plan p k j o next here h e = grind (arith, nat_tests, lt-ltb, located)
 
 -- a position with a step stands in the step's operation
 pub record StandsIn (plan : Plan) (p : ℕ) (at : Position) (s : Step) : Type 0 where
@@ -109,8 +101,7 @@ pub record StandsIn (plan : Plan) (p : ℕ) (at : Position) (s : Step) : Type 0 
   pub within : at.steps < length (micros_of plan p s.op)
 
 op_of : (o : Op) (r : Option Micro) (s : Step) → option_map (step_in o) r ≡ Some s → o ≡ s.op
-op_of o None s e = cc
-op_of o (Some m) s e = let same : step_in o m ≡ s = cc in ap (λ (t : Step). t.op) same
+op_of o r s e = grind arith
 
 stands_by : (plan : Plan) (p : ℕ) (at : Position) (s : Step) (q : Option Op) → slice_get (program plan p) at.operation ≡ q → IsPosition plan p at → at.next ≡ Some s
     → StandsIn plan p at s
@@ -134,8 +125,4 @@ step_within ms o j s e = some_within ms o j s (slice_get ms j) refl e
     some_within ms o j s (Some m) at e = slice_get_within ms j m at
 
 pub step_past : (ms : List Micro) (o : Op) (j : ℕ) → option_map (step_in o) (slice_get ms j) ≡ None → length ms ≤ j
-step_past ms o j e = got_past ms j (none_mapped (slice_get ms j) e)
-  where
-    none_mapped : (r : Option Micro) → option_map (step_in o) r ≡ None → r ≡ None
-    none_mapped None e = refl
-    none_mapped (Some m) e = cc
+step_past ms o j e = grind (arith, nat_tests, got_past)

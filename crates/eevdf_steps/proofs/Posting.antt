@@ -1,7 +1,8 @@
 -- The lists of requests stay those that the steps have posted.
-use Rattle.std.proofs.Common.{append_assoc, ◌≡◌, ◌≢◌, ℕ, zero, suc, ◌+◌, ◌*◌, ◌<◌, ◌≤◌, Bool, true, false, cond, List, [], ◌∷◌, ◌++◌, length, take, set, inl, inr, sym, ap, subst, ◌∙◌, arith, refl}
+use Rattle.std.proofs.Common.{append_assoc, ◌≡◌, ◌≢◌, ℕ, zero, suc, ◌+◌, ◌*◌, ◌<◌, ◌≤◌, Bool, true, cond, List, [], ◌∷◌, ◌++◌, length, take, set, inl, inr, sym, ap, subst, ◌∙◌, arith, refl}
 use Rattle.std.proofs.Math.ListN.{length-set, length-append}
 use Rattle.std.proofs.lemmas.{List.get_or-set_same, List.get_or-set_other, Nat.mul-add-lt, Nat.same_from_place}
+use Rattle.std.proofs.lemmas.{Bool.Decides.nat_tests, Grind.common_steps}
 use Rattle.std.specs.Prelude.{Some}
 use Rattle.eevdf_steps.specs.{declared.micro.Micro.Micro, declared.plan.Step.Step, declared.micro.Micro.TheVariants.Take}
 use Rattle.eevdf_steps.specs.{declared.micro.Micro.TheVariants.Post, MicroSteps.steps_by, SoundSteps.is_sound_micro}
@@ -50,9 +51,7 @@ pair_below plan q c h k = mul-add-lt q (callers plan) c (callers plan) h k
 
 -- the list of a step is one of those that there are
 pub place_below : (plan : Plan) (p : ℕ) (m : Micro) → IsSound plan → p < callers plan → is_sound_micro plan m ≡ true → place_of plan p m < callers plan * callers plan
-place_below plan p (Take q) sound h well = pair_below plan q p (ltb-true q (callers plan) well) h
-place_below plan p (Post t) sound h well = pair_below plan p (home plan t) h (home_below plan t sound (ltb-true t (length plan.homes) well))
-place_below plan p other sound h well = omega (arith, pair_below plan p p h h)
+place_below plan p m sound h well = grind (arith, nat_tests, pair_below, ltb-true, home_below)
 
 -- a list is written, the others stay
 list_same : (lists : List PostList) (k : ℕ) (l : PostList) → k < length lists → list_at (set lists k l) k ≡ l
@@ -73,31 +72,13 @@ still_posted plan counters lists p s a h e none = record {
 -- a list in which only the number of taken requests changes
 retaken : (plan : Plan) (counters : Counters) (lists : List PostList) (k : ℕ) (l : PostList) → ArePosted plan counters lists → k < length lists
     → l.posted ≡ (list_at lists k).posted → l.room ≡ (list_at lists k).room → ArePosted plan counters (set lists k l)
-retaken plan counters lists k l a h same room = record {
-  each = length-set lists k l ∙ a.each;
-  posted = λ q c i j.
-      elim (cases_eq (pair plan q c) k) [
-        | inl here ↦ ap (λ (m : PostList). m.posted) (ap (λ (x : ℕ). list_at (set lists k l) x) here ∙ list_same lists k l h) ∙ same
-            ∙ ap (λ (x : ℕ). (list_at lists x).posted) (sym here) ∙ a.posted q c i j
-        | inr apart ↦ ap (λ (m : PostList). m.posted) (list_other lists k (pair plan q c) l apart) ∙ a.posted q c i j
-      ];
-  room = λ q c i j.
-      elim (cases_eq (pair plan q c) k) [
-        | inl here ↦ subst (λ (n : ℕ). length (posts_to plan c (steps_by plan q)) ≤ n)
-            (sym (ap (λ (m : PostList). m.room) (ap (λ (x : ℕ). list_at (set lists k l) x) here ∙ list_same lists k l h) ∙ room
-            ∙ ap (λ (x : ℕ). (list_at lists x).room) (sym here))) (a.room q c i j)
-        | inr apart ↦ subst (λ (n : ℕ). length (posts_to plan c (steps_by plan q)) ≤ n)
-            (sym (ap (λ (m : PostList). m.room) (list_other lists k (pair plan q c) l apart))) (a.room q c i j)
-      ];
-}
+retaken plan counters lists k l a h same room = grind (arith, common_steps)
 
 more_taken : (l : PostList) (b : Bool) → (cond b (record l { taken = l.taken + 1 }) l).posted ≡ l.posted
-more_taken l true = refl
-more_taken l false = refl
+more_taken l b = grind arith
 
 more_taken_room : (l : PostList) (b : Bool) → (cond b (record l { taken = l.taken + 1 }) l).room ≡ l.room
-more_taken_room l true = refl
-more_taken_room l false = refl
+more_taken_room l b = grind arith
 
 post_here : (plan : Plan) (t : ℕ) → post_to plan (home plan t) (Post t) ≡ t ∷ []
 post_here plan t = ap (λ (b : Bool). cond b (t ∷ []) []) (eq-eqb (home plan t) (home plan t) refl)

@@ -1,29 +1,25 @@
 -- What a caller has posted when it is done is what its program posts.
-use Rattle.std.proofs.Common.{append-nil, ◌≡◌, ℕ, zero, suc, ◌+◌, Bool, true, false, cond, List, [], ◌∷◌, ◌++◌, map, min, max, ap, ◌∙◌, refl}
-use Rattle.std.proofs.lemmas.List.{take_all}
-use Rattle.std.specs.Prelude.{◌==◌, None}
+use Rattle.std.proofs.Common.{◌≡◌, ℕ, zero, suc, ◌+◌, Bool, cond, List, [], ◌∷◌, ◌++◌, map, ap, ◌∙◌, refl, arith}
+use Rattle.std.proofs.lemmas.{List.take_all, Bool.Decides.nat_tests}
+use Rattle.std.specs.Prelude.{None}
 use Rattle.eevdf_ops.specs.{declared.deeds.Op.Op, Programs.post_of, Programs.posts_in}
 use Rattle.eevdf_ops.specs.declared.deeds.Op.TheVariants as op
-use Rattle.eevdf_steps.specs.declared.{micro.Micro.TheVariants.Release, plan.Step.Step}
-use Rattle.eevdf_steps.specs.{Counters.Counters, Counters.count_of, Counters.step_next, Requests.posted, Requests.posts_to}
-use Rattle.eevdf_steps.specs.Plan.{Plan, callers, home, program}
+use Rattle.eevdf_steps.specs.{declared.micro.Micro.TheVariants.Release, declared.plan.Step.Step, Requests.posted, Requests.posts_to}
+use Rattle.eevdf_steps.specs.Plan.{Plan, program}
+use Rattle.eevdf_steps.specs.Counters.{Counters, count_of, step_next}
 use Rattle.eevdf_steps.specs.MicroSteps.{draining, moving, steps_by, steps_of, under_lock}
 use Rattle.eevdf_steps.proofs.{Lists.got_past, Positions.micros_in, Positions.step_in, Posting.posts_joined}
 
 sleep_posts : (plan : Plan) (p a b c t : ℕ) (here : Bool)
     → posts_to plan c (map (step_in (op.Sleep t)) (cond here (under_lock p moving) (under_lock a (under_lock b moving)))) ≡ []
-sleep_posts plan p a b c t true = refl
-sleep_posts plan p a b c t false = refl
+sleep_posts plan p a b c t here = grind arith
 
 drain_posts : (plan : Plan) (p c n s : ℕ) → posts_to plan c (map (step_in op.Drain) (draining n s ++ Release p ∷ [])) ≡ []
 drain_posts plan p c zero s = refl
 drain_posts plan p c (suc n) s = drain_posts plan p c n (s + 1)
 
 operation_posts : (plan : Plan) (p c : ℕ) (o : Op) → posts_to plan c (micros_in plan p o) ≡ post_of plan.homes c o
-operation_posts plan p c (op.Sleep t) = sleep_posts plan p (min p (home plan t)) (max p (home plan t)) c t (p == home plan t)
-operation_posts plan p c (op.Post t) = append-nil (cond (home plan t == c) (t ∷ []) [])
-operation_posts plan p c op.Drain = drain_posts plan p c (callers plan) 0
-operation_posts plan p c _ = refl
+operation_posts plan p c o = grind (arith, nat_tests, sleep_posts, drain_posts)
 
 pub program_posts : (plan : Plan) (p c : ℕ) (ops : List Op) → posts_to plan c (steps_of plan p ops) ≡ posts_in plan.homes c ops
 program_posts plan p c [] = refl

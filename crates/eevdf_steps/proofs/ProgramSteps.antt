@@ -1,14 +1,16 @@
 -- The deeds that the steps of a program commit, whatever requests they find, are those of its operations.
-use Rattle.std.proofs.Common.{append_assoc, ◌≡◌, ◌≤◌, ℕ, zero, suc, ◌+◌, ◌==◌, Bool, true, false, cond, List, [], ◌∷◌, ◌++◌, map, min, max, sym, ap, subst, ◌∙◌, arith, refl}
-use Rattle.std.specs.{Prelude.Option, Prelude.Some, Prelude.None, Option.option_to_list}
-use Rattle.eevdf_ops.specs.declared.deeds.{Op.Op, Deed.Deed}
+use Rattle.std.proofs.Common.{append_assoc, ◌≡◌, ◌≤◌, ℕ, zero, suc, ◌+◌, ◌==◌, Bool, cond, List, [], ◌∷◌, ◌++◌, map, min, max, sym, ap, subst, ◌∙◌, arith, refl}
+use Rattle.std.specs.{Prelude.Option, Prelude.Some, Option.option_to_list}
+use Rattle.eevdf_ops.specs.{declared.deeds.Op.Op, declared.deeds.Deed.Deed}
 use Rattle.eevdf_ops.specs.declared.deeds.Op.TheVariants as op
 use Rattle.eevdf_ops.specs.declared.deeds.Deed.TheVariants as deed
 use Rattle.eevdf_ops.specs.Programs.{AreWakes, FitsOperation, FitsOperations, InTwo, deed_of}
-use Rattle.eevdf_steps.specs.declared.{micro.Micro.Micro, micro.Micro.TheVariants.Release, plan.Step.Step}
-use Rattle.eevdf_steps.specs.{Plan.Plan, Plan.callers, Plan.home, Commits.committed, Commits.wake_of}
+use Rattle.eevdf_steps.specs.{declared.micro.Micro.Micro, declared.micro.Micro.TheVariants.Release, declared.plan.Step.Step}
+use Rattle.eevdf_steps.specs.Commits.{committed, wake_of}
+use Rattle.eevdf_steps.specs.Plan.{Plan, callers, home}
 use Rattle.eevdf_steps.specs.MicroSteps.{acting, draining, micros_of, moving, steps_of, under_lock}
 use Rattle.eevdf_steps.proofs.Positions.{step_in}
+use Rattle.std.proofs.lemmas.Bool.Decides.{nat_tests}
 
 -- the deed that a step commits, and then others
 pub record FitsStep (p : ℕ) (deeds : List Deed) (s : Step) (Rest : List Deed → Type 0) : Type 0 where
@@ -61,8 +63,7 @@ moves_between p a b o d deeds e h =
 
 sleeps : (p a b : ℕ) (o : Op) (d : Deed) (deeds : List Deed) (here : Bool) → deed_of p o ≡ Some d
     → FitsSteps p deeds (steps_in o (cond here (under_lock p moving) (under_lock a (under_lock b moving)))) → deeds ≡ d ∷ []
-sleeps p a b o d deeds true e h = moves p p o d deeds e h
-sleeps p a b o d deeds false e h = moves_between p a b o d deeds e h
+sleeps p a b o d deeds here e h = grind arith
 
 -- wakes of senders from a number on are such from a lesser one on
 wakes_from_less : (p from more : ℕ) (deeds : List Deed) → from ≤ more → AreWakes p more deeds → AreWakes p from deeds
@@ -78,8 +79,7 @@ wakes_from_less p from more (deed.Pull cpu source ∷ deeds) h wakes = wakes
 
 -- a request of a sender is settled, and then those of the senders after it are
 settles : (p s : ℕ) (found : Option ℕ) (rest : List Deed) → AreWakes p (s + 1) rest → AreWakes p s (option_to_list (wake_of p s found) ++ rest)
-settles p s None rest wakes = wakes_from_less p s (s + 1) rest (omega arith) wakes
-settles p s (Some t) rest wakes = (refl, (let least : s ≤ s = omega arith in least), wakes)
+settles p s found rest wakes = grind (arith, nat_tests, wakes_from_less)
 
 drains : (p c n s : ℕ) (deeds : List Deed) → FitsSteps p deeds (steps_in op.Drain (draining n s ++ Release c ∷ [])) → AreWakes p s deeds
 drains p c zero s deeds h = subst (λ (ds : List Deed). AreWakes p s ds) (sym (h.joined ∙ h.fits)) tt

@@ -1,7 +1,7 @@
 -- While a caller isn't done, some caller may do its next step: since locks are acquired in ascending order, who waits for a
 -- lock waits for a holder that waits, if at all, for a higher one.
 use Rattle.std.proofs.Common.{◌≡◌, ℕ, zero, suc, ◌+◌, ◌<◌, ◌≤◌, Bool, true, false, cond, List, [], ◌∷◌, inl, inr, ◌⊎◌, sym, ap, subst, ◌∙◌, arith, refl}
-use Rattle.std.proofs.lemmas.Bool.{false≢true, and_parts, lt-ltb, ltb-true, eqb-true, cases_eq}
+use Rattle.std.proofs.lemmas.Bool.{false≢true, and_parts, lt-ltb, ltb-true, cases_eq}
 use Rattle.std.specs.Option.{option_map}
 use Rattle.std.specs.Prelude.{◌==◌, is_none, is_some, nat_lt, length, MatchOption, Option, Some, None}
 use Rattle.eevdf_ops.specs.declared.deeds.Op.{Op}
@@ -78,8 +78,7 @@ steps_or_waits plan counters p (Acquire c) below e = acquires_or_waits plan coun
 steps_or_waits plan counters p m below e = inl (free_if plan counters p m below e refl)
 
 in_by : (c d h : ℕ) (held : List ℕ) (b : Bool) → (h == d) ≡ b → cond b true (is_in d held) ≡ true → h < c → (is_in d held ≡ true → d < c) → d < c
-in_by c d h held true e there below later = omega (arith, eqb-true h d e, below)
-in_by c d h held false e there below later = later there
+in_by c d h held b e there below later = grind arith
 
 -- what is in a list is below what is above the list
 below_above : (c d : ℕ) (held : List ℕ) → is_above c held ≡ true → is_in d held ≡ true → d < c

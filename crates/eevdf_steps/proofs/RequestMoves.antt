@@ -4,7 +4,7 @@ use Rattle.std.proofs.Math.ListN.{length-append, length-set}
 use Rattle.std.proofs.lemmas.{Nat.mul-add-lt, Nat.same_from_place, Option.slice_get_within}
 use Rattle.std.proofs.lemmas.List.{drop-append-le, get_or-set_other, get_or-set_same}
 use Rattle.std.proofs.lemmas.Bool.{false≢true, cases_eq, ne_eqb, eq-eqb}
-use Rattle.std.specs.Prelude.{slice_get, ◌==◌, MatchOption, Option, Some, None}
+use Rattle.std.specs.Prelude.{slice_get, MatchOption, Option, Some, None}
 use Rattle.std.specs.Option.{option_map, option_to_list}
 use Rattle.eevdf_ops.specs.{declared.deeds.Op.Op, declared.deeds.Deed.Deed}
 use Rattle.eevdf_ops.specs.declared.deeds.Op.TheVariants as op
@@ -38,14 +38,8 @@ pub record Moves (plan : Plan) (g h : Progress) (q c : ℕ) (wakes : List ℕ) :
   pub posts : HasGrown (posted plan g.counters q c) (posted plan h.counters q c)
   pub flows : unsettled plan g q c ++ (left plan g q c ++ posts.extra) ≡ wakes ++ (unsettled plan h q c ++ left plan h q c)
 
-both_empty : (b : Bool) → ◌≡◌ {A = List ℕ} (cond b [] []) []
-both_empty true = refl
-both_empty false = refl
-
 pub nothing_found : (q : ℕ) (m : Option Micro) → to_settle_next q m None ≡ []
-nothing_found q None = refl
-nothing_found q (Some (Settle s)) = both_empty (s == q)
-nothing_found q (Some other) = refl
+nothing_found q m = grind arith
 
 -- a step that takes and settles nothing of this pair's
 record Stays (plan : Plan) (g h : Progress) (q c : ℕ) : Type 0 where
@@ -135,13 +129,11 @@ idles plan g q c o m s quietly none =
     }) (ap (λ (ds : List Deed). wakes_in q ds) (own_deeds (found_by g c) c o m) ∙ none)
 
 commit_wakes : (q c : ℕ) (o : Op) → wakes_in q (option_to_list (deed_of c o)) ≡ []
-commit_wakes q c (op.Tick ns) = refl
-commit_wakes q c _ = refl
+commit_wakes q c o = grind arith
 
 -- the home settles what it found
 settle_wakes : (q c s : ℕ) (found : Option ℕ) → wakes_in q (option_to_list (wake_of c s found)) ≡ to_settle q (Settle s) found
-settle_wakes q c s None = sym (both_empty (s == q))
-settle_wakes q c s (Some t) = append-nil (cond (s == q) (t ∷ []) [])
+settle_wakes q c s found = grind arith
 
 settles : (plan : Plan) (g : Progress) (q c s : ℕ) (o : Op) → Goes plan g q c o (Settle s)
     → Moves plan g (record (requested plan g c (Settle s)) { counters = counted g.counters c }) q c

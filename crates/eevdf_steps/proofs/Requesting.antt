@@ -1,13 +1,11 @@
 -- What a step of a caller changes of the requests, and what it leaves.
-use Rattle.std.proofs.Common.{◌≡◌, ◌≢◌, ℕ, ◌+◌, ◌<◌, List, [], ◌++◌, length, inl, inr, sym, subst, ◌∙◌, append-nil, refl}
-use Rattle.std.proofs.Math.ListN.{length-set}
-use Rattle.std.proofs.lemmas.{List.get_or-set_other, Nat.same_from_place, Bool.cases_eq}
+use Rattle.std.proofs.Common.{◌≡◌, ◌≢◌, ℕ, ◌+◌, ◌<◌, List, [], ◌++◌, length, inl, inr, sym, subst, ◌∙◌, append-nil, refl, arith}
+use Rattle.std.proofs.lemmas.{List.get_or-set_other, Nat.same_from_place, Bool.cases_eq, Bool.Decides.nat_tests, Grind.common_steps}
 use Rattle.std.specs.Prelude.{Option, Some, None}
-use Rattle.eevdf_steps.specs.{declared.micro.Micro.Micro, declared.plan.Step.Step, declared.micro.Micro.TheVariants.Take}
-use Rattle.eevdf_steps.specs.declared.micro.Micro.TheVariants.{Settle}
+use Rattle.eevdf_steps.specs.{declared.micro.Micro.Micro, declared.plan.Step.Step}
 use Rattle.eevdf_steps.specs.Plan.{Plan, callers, pair}
 use Rattle.eevdf_steps.specs.Counters.{Counters, counted, step_next}
-use Rattle.eevdf_steps.specs.Requests.{Progress, found_by, oldest, post_to, posted, requested, taken_of, takes}
+use Rattle.eevdf_steps.specs.Requests.{Progress, found_by, post_to, posted, requested, taken_of, takes}
 use Rattle.eevdf_steps.proofs.Posting.{posted_other, posted_own}
 
 -- as many pairs and callers as before
@@ -15,14 +13,8 @@ pub record IsAsLong (g h : Progress) : Type 0 where
   pub taken : length h.taken ≡ length g.taken
   pub found : length h.found ≡ length g.found
 
-takes_long : (plan : Plan) (g : Progress) (x s : ℕ) (r : Option ℕ) → IsAsLong g (takes plan g x s r)
-takes_long plan g x s None = record { taken = refl; found = length-set g.found x None }
-takes_long plan g x s (Some t) = record { taken = length-set g.taken (pair plan s x) (taken_of plan g s x + 1); found = length-set g.found x (Some t) }
-
 pub as_long : (plan : Plan) (g : Progress) (x : ℕ) (m : Micro) → IsAsLong g (requested plan g x m)
-as_long plan g x (Take s) = takes_long plan g x s (oldest plan g s x)
-as_long plan g x (Settle s) = record { taken = refl; found = length-set g.found x None }
-as_long plan g x other = record { taken = refl; found = refl }
+as_long plan g x m = grind (arith, common_steps)
 
 -- what another caller has taken and found stays
 pub record IsElsewhere (plan : Plan) (g h : Progress) (q c : ℕ) : Type 0 where
@@ -40,9 +32,7 @@ takes_elsewhere plan g x s q c (Some t) i j apart = record {
 
 pub elsewhere : (plan : Plan) (g : Progress) (x q c : ℕ) (m : Micro) → x < callers plan → c < callers plan → c ≢ x
     → IsElsewhere plan g (requested plan g x m) q c
-elsewhere plan g x q c (Take s) i j apart = takes_elsewhere plan g x s q c (oldest plan g s x) i j apart
-elsewhere plan g x q c (Settle s) i j apart = record { taken = refl; found = get_or-set_other g.found x c None None apart }
-elsewhere plan g x q c other i j apart = record { taken = refl; found = refl }
+elsewhere plan g x q c m i j apart = grind (arith, nat_tests, takes_elsewhere, get_or-set_other)
 
 -- a list that has grown at its end
 pub record HasGrown (before after : List ℕ) : Type 0 where

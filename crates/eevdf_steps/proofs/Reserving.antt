@@ -1,31 +1,25 @@
 -- What is reserved for the requests and the lines.
-use Rattle.std.proofs.Common.{append-nil, ◌≡◌, ℕ, zero, suc, ◌+◌, ◌*◌, ◌%◌, ◌<◌, ◌≤◌, Bool, true, false, cond, List, [], ◌∷◌, ◌++◌, length, map, drop, take, get_or, set, replicate, inl, inr, sym, ap, subst, ◌∙◌, arith, refl}
-use Rattle.std.proofs.Math.ListN.{length-append, length-set}
-use Rattle.std.proofs.lemmas.Bool.{cases_lt, ltb-true, cases_eq, ne_eqb, eq-eqb}
-use Rattle.std.proofs.lemmas.{Grind.flat_map-append, List.Folds.sum_by-replicate, List.Sums.sum_by-cons, Nat.div-mul-add}
-use Rattle.std.proofs.lemmas.Nat.{mod-mul-add}
-use Rattle.std.proofs.lemmas.List.{get_or_append_left, get_or-set_other, get_or-set_same, get_or_push, length-take-le, take_more}
+use Rattle.std.proofs.Common.{◌≡◌, ℕ, zero, suc, ◌+◌, ◌*◌, ◌%◌, ◌<◌, ◌≤◌, Bool, true, cond, List, [], ◌∷◌, ◌++◌, length, map, drop, take, get_or, replicate, inl, inr, sym, ap, subst, ◌∙◌, arith, refl}
+use Rattle.std.proofs.Math.ListN.{length-append}
+use Rattle.std.proofs.lemmas.{Bool.cases_lt, Grind.common_steps, List.Folds.sum_by-replicate, List.Sums.sum_by-cons}
+use Rattle.std.proofs.lemmas.{Nat.div-mul-add, Nat.mod-mul-add, Bool.Decides.nat_tests}
+use Rattle.std.proofs.lemmas.List.{get_or_append_left, get_or_push, length-take-le, take_more}
 use Rattle.std.specs.List.{sum_by}
-use Rattle.std.specs.Prelude.{◌==◌, is_some, slice_index, Option, None}
+use Rattle.std.specs.Prelude.{is_some, slice_index, Option, None}
 use Rattle.eevdf_ops.specs.{declared.deeds.Op.Op, Numbers.most_operations, Places.count, Programs.post_of, Programs.posts_in}
 use Rattle.eevdf_ops.specs.declared.deeds.Op.TheVariants as op
 use Rattle.eevdf_steps.specs.{declared.micro.Micro.TheVariants.Release, declared.plan.Step.Step, Orders.counters_at_start}
 use Rattle.eevdf_steps.specs.PostLists.{PostList, list_at, no_posts}
-use Rattle.eevdf_steps.specs.Plan.{IsSound, Plan, callers, home, is_sound_op, program}
+use Rattle.eevdf_steps.specs.Plan.{IsSound, Plan, callers, is_sound_op, program}
 use Rattle.eevdf_steps.specs.MicroSteps.{draining, moving, steps_by, steps_of, under_lock, under_locks}
 use Rattle.eevdf_steps.specs.Room.{lines_in, lines_left, lines_to_come, steps_to_come, sum_from, unsettled, waiting, waiting_in}
 use Rattle.eevdf_steps.specs.Openings.{AreEmpty, CountPosts, empty_at, most_lines, post_counted, room_at}
 use Rattle.eevdf_steps.proofs.{Holders.count_first, Lists.all_at, Plans.program_ops_sound, Plans.program_short, Positions.micros_in}
-use Rattle.eevdf_steps.proofs.{Positions.step_in, SoundSteps.home_below}
+use Rattle.eevdf_steps.proofs.Positions.{step_in}
 
 -- operations post no more requests than they are
 few_posts : (homes : List ℕ) (c : ℕ) (o : Op) → length (post_of homes c o) ≤ 1
-few_posts homes c (op.Post t) = few (get_or homes t 0 == c)
-  where
-    few : (b : Bool) → length (cond b (t ∷ []) []) ≤ 1
-    few true = omega arith
-    few false = omega arith
-few_posts homes c _ = omega arith
+few_posts homes c o = grind arith
 
 posts_few : (homes : List ℕ) (c : ℕ) (ops : List Op) → length (posts_in homes c ops) ≤ length ops
 posts_few homes c [] = omega arith
@@ -36,52 +30,10 @@ counts_few : (plan : Plan) (ops : List Op) (counts : List ℕ) (c : ℕ) → Cou
 counts_few plan ops counts c a h =
     subst (λ (n : ℕ). n ≤ length ops) (sym (a.count c (omega (arith, a.each)))) (posts_few plan.homes c ops)
 
-posts_pushed : (homes : List ℕ) (c : ℕ) (ops : List Op) (o : Op) → length (posts_in homes c (ops ++ o ∷ [])) ≡ length (posts_in homes c ops) + length (post_of homes c o)
-posts_pushed homes c ops o =
-    ap (λ (l : List ℕ). length l) (flat_map-append (post_of homes c) ops (o ∷ []))
-    ∙ length-append (posts_in homes c ops) (post_of homes c o ++ [])
-    ∙ ap (λ (l : List ℕ). length (posts_in homes c ops) + length l) (append-nil (post_of homes c o))
-
--- an operation that posts nothing
-quiet_counted : (plan : Plan) (ops : List Op) (o : Op) (counts : List ℕ) → CountPosts plan ops counts → ((c : ℕ) → post_of plan.homes c o ≡ []) → CountPosts plan (ops ++ o ∷ []) counts
-quiet_counted plan ops o counts a none = record {
-  each = a.each;
-  count = λ c h.
-      let more : length (posts_in plan.homes c (ops ++ o ∷ [])) ≡ length (posts_in plan.homes c ops) + length (post_of plan.homes c o) = posts_pushed plan.homes c ops o in
-      omega (arith, a.count c h, ap (λ (l : List ℕ). length l) (none c));
-}
-
-post_counts_more : (plan : Plan) (ops : List Op) (t : ℕ) (counts : List ℕ) → home plan t < callers plan → CountPosts plan ops counts
-    → CountPosts plan (ops ++ op.Post t ∷ []) (post_counted plan (op.Post t) counts)
-post_counts_more plan ops t counts below a =
-    let h : ℕ = home plan t in
-    let more : ℕ = slice_index counts h + 1 in
-    record {
-      each = length-set counts h more ∙ a.each;
-      count = λ c i.
-          let pushed : length (posts_in plan.homes c (ops ++ op.Post t ∷ [])) ≡ length (posts_in plan.homes c ops) + length (post_of plan.homes c (op.Post t))
-          = posts_pushed plan.homes c ops (op.Post t) in
-          elim (cases_eq c h) [
-            | inl here ↦
-                let one : length (post_of plan.homes c (op.Post t)) ≡ 1
-                = ap (λ (k : ℕ). length (post_of plan.homes k (op.Post t))) here ∙ ap (λ (b : Bool). length (cond b (t ∷ []) [])) (eq-eqb h h refl) in
-                let now : slice_index (set counts h more) c ≡ more
-                = ap (λ (k : ℕ). slice_index (set counts h more) k) here ∙ get_or-set_same counts h more 0 (omega (arith, a.each)) in
-                let before : slice_index counts h ≡ slice_index counts c = ap (λ (k : ℕ). slice_index counts k) (sym here) in
-                omega (arith, a.count c i)
-            | inr apart ↦
-                let none : length (post_of plan.homes c (op.Post t)) ≡ 0
-                = ap (λ (b : Bool). length (cond b (t ∷ []) [])) (ne_eqb h c (λ same. apart (sym same))) in
-                let now : slice_index (set counts h more) c ≡ slice_index counts c = get_or-set_other counts h c more 0 apart in
-                omega (arith, a.count c i)
-          ];
-    }
-
 -- one operation more is counted
 counted_more : (plan : Plan) (ops : List Op) (o : Op) (counts : List ℕ) → IsSound plan → is_sound_op plan o ≡ true → CountPosts plan ops counts
     → CountPosts plan (ops ++ o ∷ []) (post_counted plan o counts)
-counted_more plan ops (op.Post t) counts sound known a = post_counts_more plan ops t counts (home_below plan t sound (ltb-true t (length plan.homes) known)) a
-counted_more plan ops o counts sound known a = quiet_counted plan ops o counts a (λ c. refl)
+counted_more plan ops o counts sound known a = grind (arith, common_steps)
 
 -- the operation at a place of a program is counted after those before it
 pub counted_next : (plan : Plan) (p i : ℕ) (o : Op) (counts : List ℕ) → IsSound plan → i < length (program plan p) → o ≡ get_or (program plan p) i o
@@ -128,14 +80,11 @@ draining_lines o zero s cpu = refl
 draining_lines o (suc n) s cpu = omega (arith, draining_lines o n (s + 1) cpu)
 
 sleeping_lines : (o : Op) (p h : ℕ) (b : Bool) → lines_in (map (step_in o) (cond b (under_lock p moving) (under_locks p h moving))) ≤ 1
-sleeping_lines o p h true = omega arith
-sleeping_lines o p h false = omega arith
+sleeping_lines o p h b = grind arith
 
 -- an operation comes to at most one line
 operation_lines : (plan : Plan) (p : ℕ) (o : Op) → lines_in (micros_in plan p o) ≤ 1
-operation_lines plan p (op.Sleep t) = sleeping_lines (op.Sleep t) p (home plan t) (p == home plan t)
-operation_lines plan p op.Drain = omega (arith, draining_lines op.Drain (callers plan) 0 p)
-operation_lines plan p _ = omega arith
+operation_lines plan p o = grind (arith, nat_tests, sleeping_lines, draining_lines)
 
 program_lines : (plan : Plan) (p : ℕ) (ops : List Op) → lines_in (steps_of plan p ops) ≤ length ops
 program_lines plan p [] = omega arith

@@ -95,9 +95,7 @@ other_leaves lists found place p f n h =
     omega arith
 
 one_line : (d : Option Deed) (a : Option Answer) → length (line_of d a) ≤ 1
-one_line None a = omega arith
-one_line (Some d) None = omega arith
-one_line (Some d) (Some a) = omega arith
+one_line d a = grind arith
 
 commit_leaves : (w : Work) (lists : List PostList) (found : List (Option ℕ)) (place p : ℕ) (o : Op) (f : Option ℕ) → Passing lists found place p f
     → LeavesFewer w lists found place p o Commit f
@@ -128,8 +126,7 @@ take_leaves w lists found place p q o f h =
 
 -- the request that was found has its line
 settled_line : (w : Work) (p q : ℕ) (o : Op) (f : Option ℕ) → length (appends w p o (Settle q) f) ≡ count (is_some f)
-settled_line w p q o None = refl
-settled_line w p q o (Some t) = refl
+settled_line w p q o f = grind arith
 
 settle_leaves : (w : Work) (lists : List PostList) (found : List (Option ℕ)) (place p q : ℕ) (o : Op) (f : Option ℕ) → Passing lists found place p f
     → LeavesFewer w lists found place p o (Settle q) f

@@ -1,11 +1,11 @@
 -- The plan of a setup is sound.
-use Rattle.std.proofs.Common.{◌≡◌, ℕ, ◌+◌, true, not, List, [], ◌∷◌, length, map, replicate, sym, subst, ◌∙◌, refl}
+use Rattle.std.proofs.Common.{◌≡◌, ℕ, ◌+◌, true, List, [], ◌∷◌, length, map, replicate, sym, subst, ◌∙◌, refl, arith}
 use Rattle.std.proofs.lemmas.List.{length-map}
 use Rattle.std.proofs.Math.ListN.{length-replicate}
 use Rattle.std.specs.List.{list_all}
-use Rattle.std.specs.Prelude.{nat_lt, nat_le, ◌==◌, None}
+use Rattle.std.specs.Prelude.{nat_lt, nat_le, None}
 use Rattle.eevdf_ops.specs.{declared.task_spec.TaskSpec.TaskSpec, declared.deeds.Op.Op, Numbers.most_cpus, Numbers.most_operations}
-use Rattle.eevdf_ops.specs.Setup.{Setup, cpus_of, is_source}
+use Rattle.eevdf_ops.specs.Setup.{Setup, cpus_of}
 use Rattle.eevdf_ops.specs.declared.deeds.Op.TheVariants as op
 use Rattle.eevdf_queue.specs.State.{empty_state}
 use Rattle.eevdf_ops.proofs.Machines.{length-begin_at_homes}
@@ -21,11 +21,7 @@ at_cpus cpus place (t ∷ ts) h =
     and_from (nat_lt t.home cpus) _ (passes (nat_lt t.home cpus) _ (or_none_left _ _ here)) (at_cpus cpus (place + 1) ts (or_none_right (task_fault cpus place t) _ h))
 
 op_is_sound : (plan : Plan) (cpu place : ℕ) (o : Op) → operation_fault (length plan.homes) (callers plan) cpu place o ≡ None → is_sound_op plan o ≡ true
-op_is_sound plan cpu place (op.Sleep task) h = passes _ _ h
-op_is_sound plan cpu place (op.Post task) h = passes _ _ h
-op_is_sound plan cpu place (op.Renice task nice) h = passes _ _ h
-op_is_sound plan cpu place (op.Pull source) h = (and_parts (nat_lt source (callers plan)) (not (source == cpu)) (passes (is_source (callers plan) cpu source) _ h)).0
-op_is_sound plan cpu place _ h = refl
+op_is_sound plan cpu place o h = grind arith
 
 ops_are_sound : (plan : Plan) (cpu place : ℕ) (os : List Op) → operations_fault (length plan.homes) (callers plan) cpu place os ≡ None → list_all (is_sound_op plan) os ≡ true
 ops_are_sound plan cpu place [] h = refl
@@ -45,8 +41,7 @@ programs_are_sound plan cpu (p ∷ ps) h =
     (programs_are_sound plan (cpu + 1) ps (or_none_right (program_fault (length plan.homes) (callers plan) cpu p) _ h))
 
 op_pulls_elsewhere : (tasks cpus cpu place : ℕ) (o : Op) → operation_fault tasks cpus cpu place o ≡ None → pulls_elsewhere cpu o ≡ true
-op_pulls_elsewhere tasks cpus cpu place (op.Pull source) h = (and_parts (nat_lt source cpus) (not (source == cpu)) (passes (is_source cpus cpu source) _ h)).1
-op_pulls_elsewhere tasks cpus cpu place _ h = refl
+op_pulls_elsewhere tasks cpus cpu place o h = grind arith
 
 ops_pull_elsewhere : (tasks cpus cpu place : ℕ) (os : List Op) → operations_fault tasks cpus cpu place os ≡ None → list_all (pulls_elsewhere cpu) os ≡ true
 ops_pull_elsewhere tasks cpus cpu place [] h = refl

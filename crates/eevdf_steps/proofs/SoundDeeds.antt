@@ -1,7 +1,7 @@
 -- The deeds of a sound plan name CPUs and tasks of the machine.
 use Rattle.std.proofs.Common.{◌≡◌, ℕ, ◌+◌, ◌<◌, Bool, true, ◌&&◌, not, List, [], ◌∷◌, length, map, sym, ap, subst, ◌∙◌, refl, arith}
 use Rattle.std.specs.List.{list_all}
-use Rattle.std.specs.Prelude.{◌==◌, nat_lt, Option, Some, None}
+use Rattle.std.specs.Prelude.{◌==◌, nat_lt, Option, Some}
 use Rattle.eevdf_ops.specs.{declared.deeds.Op.Op, declared.deeds.Deed.Deed, Places.AreCpus, Setup.is_allowed, Programs.deed_of}
 use Rattle.eevdf_ops.specs.declared.deeds.Op.TheVariants as op
 use Rattle.eevdf_ops.specs.declared.deeds.Deed.TheVariants as deed
@@ -14,6 +14,7 @@ use Rattle.eevdf_steps.proofs.{Positions.step_in, Walks.Walk, Walking.program_pu
 use Rattle.eevdf_steps.proofs.Begun.{FitsAll, Standing, standing}
 use Rattle.eevdf_steps.proofs.SoundSteps.{all_joined, home_below, is_caller, some_all, step_sound}
 use Rattle.std.proofs.lemmas.Bool.{and_parts, lt-ltb, and_from}
+use Rattle.std.proofs.lemmas.Bool.Decides.{nat_tests}
 
 abbrev step_pulls_elsewhere : ℕ → Step → Bool
 step_pulls_elsewhere p s = pulls_elsewhere p s.op
@@ -68,8 +69,7 @@ deed_fits plan counters p s d sound e is = λ m long. record {
 
 begun_walks : (plan : Plan) (counters : Counters) (q : ℕ) (u : UnderWay) (o : Option Step) → IsSound plan → length counters ≡ callers plan
     → under_way q o ≡ Some u → step_next plan counters q ≡ o → Walk plan counters q
-begun_walks plan counters q u None sound each b e = cc
-begun_walks plan counters q u (Some s) sound each b e = walking plan counters q sound each (is_caller plan counters q s e)
+begun_walks plan counters q u o sound each b e = grind (arith, nat_tests, walking, is_caller)
 
 pub are_walking : (plan : Plan) (counters : Counters) → IsSound plan → length counters ≡ callers plan → AreWalking plan counters
 are_walking plan counters sound each =

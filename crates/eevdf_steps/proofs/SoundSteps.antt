@@ -1,9 +1,9 @@
 -- Every step of a sound plan is sound.
-use Rattle.std.proofs.Common.{◌≡◌, ℕ, zero, suc, ◌+◌, ◌<◌, ◌≤◌, Bool, true, false, cond, List, [], ◌∷◌, ◌++◌, length, map, min, max, inl, inr, sym, subst, ◌∙◌, arith, refl}
+use Rattle.std.proofs.Common.{◌≡◌, ℕ, zero, suc, ◌+◌, ◌<◌, ◌≤◌, Bool, true, cond, List, [], ◌∷◌, ◌++◌, length, map, min, max, inl, inr, sym, subst, ◌∙◌, arith, refl}
 use Rattle.std.proofs.lemmas.Bool.{cases_lt, and_parts, lt-ltb, ltb-true, and_from}
-use Rattle.std.proofs.lemmas.Option.{none-some}
+use Rattle.std.proofs.lemmas.{Option.none-some, Bool.Decides.nat_tests}
 use Rattle.std.specs.List.{list_all}
-use Rattle.std.specs.Prelude.{slice_get, nat_lt, ◌==◌, IfSome, Option, Some, None}
+use Rattle.std.specs.Prelude.{slice_get, nat_lt, ◌==◌, IfSome, Option, Some}
 use Rattle.eevdf_ops.specs.declared.deeds.Op.{Op}
 use Rattle.eevdf_ops.specs.declared.deeds.Op.TheVariants as op
 use Rattle.eevdf_steps.specs.{declared.micro.Micro.Micro, declared.plan.Step.Step, SoundSteps.is_sound_micro}
@@ -39,8 +39,7 @@ drains plan (suc n) s h =
     and_from (nat_lt s (callers plan)) _ here (and_from (nat_lt s (callers plan)) _ here (drains plan n (s + 1) (omega arith)))
 
 sleeps : (plan : Plan) (p h : ℕ) (b : Bool) → p < callers plan → h < callers plan → list_all (is_sound_micro plan) (cond b (under_lock p moving) (under_locks p h moving)) ≡ true
-sleeps plan p h true k l = locked plan p moving k refl
-sleeps plan p h false k l = both_locked plan p h k l
+sleeps plan p h b k l = grind arith
 
 pub home_below : (plan : Plan) (task : ℕ) → IsSound plan → task < length plan.homes → home plan task < callers plan
 home_below plan task s h = ltb-true (home plan task) (callers plan) (all_at (λ (k : ℕ). nat_lt k (callers plan)) plan.homes task 0 s.homes h)
@@ -83,8 +82,7 @@ micro_sound plan s well = (and_parts (is_sound_op plan s.op) (is_sound_micro pla
 
 pub some_step_sound : (plan : Plan) (counters : Counters) (p : ℕ) (r : Option Step) → IsSound plan → p < callers plan → r ≡ step_next plan counters p
     → IfSome r (λ (s : Step). is_sound_step plan s ≡ true)
-some_step_sound plan counters p None sound h e = tt
-some_step_sound plan counters p (Some s) sound h e = step_sound plan counters p s sound h (sym e)
+some_step_sound plan counters p r sound h e = grind (arith, nat_tests, step_sound)
 
 -- who has a step is a caller
 pub is_caller : (plan : Plan) (counters : Counters) (p : ℕ) (s : Step) → step_next plan counters p ≡ Some s → p < callers plan

@@ -1,13 +1,13 @@
 -- Each caller walks through its program with its locks as its steps need them.
 use Rattle.std.proofs.Common.{◌≡◌, ◌≢◌, ℕ, zero, suc, ◌+◌, ◌<◌, ◌≤◌, Bool, true, false, cond, not, ◌||◌, List, [], ◌∷◌, ◌++◌, length, map, take, drop, get_or, min, max, inl, inr, sym, ap, subst, ◌∙◌, arith, refl}
-use Rattle.std.proofs.lemmas.Bool.{cases_lt, and_parts, lt-ltb, ltb-true, and_from, eqb-false}
+use Rattle.std.proofs.lemmas.Bool.{cases_lt, and_parts, ltb-true}
 use Rattle.std.proofs.lemmas.{Bool.Decides.nat_tests, List.get_or-replicate, List.get_or-set_same}
 use Rattle.std.specs.List.{list_all}
-use Rattle.std.specs.Prelude.{slice_get, nat_lt, ◌==◌, MatchOption, Option}
+use Rattle.std.specs.Prelude.{slice_get, ◌==◌, MatchOption, Option}
 use Rattle.eevdf_ops.specs.declared.deeds.Op.{Op}
 use Rattle.eevdf_ops.specs.declared.deeds.Op.TheVariants as op
 use Rattle.eevdf_steps.specs.{declared.micro.Micro.Micro, declared.plan.Step.Step, Orders.counters_at_start}
-use Rattle.eevdf_steps.specs.declared.micro.Micro.TheVariants.{Acquire, Release, Post}
+use Rattle.eevdf_steps.specs.declared.micro.Micro.TheVariants.{Release, Post}
 use Rattle.eevdf_steps.specs.Plan.{IsSound, Plan, all_pull_elsewhere, callers, home, is_sound_op, program, pulls_elsewhere}
 use Rattle.eevdf_steps.specs.MicroSteps.{acting, draining, micros_of, moving, steps_by, steps_of, under_lock, under_locks}
 use Rattle.eevdf_steps.specs.Counters.{Counters, count_of, counted, held_after, held_by_steps, step_next}
@@ -32,52 +32,14 @@ record Rest (plan : Plan) (p : ℕ) (rest : List Step) : Type 0 where
 
 act_walks : (plan : Plan) (p : ℕ) (o : Op) (rest : List Step) → p < callers plan → is_acting o ≡ true → is_locking o ≡ true → Covers plan p o (p ∷ [])
     → Rest plan p rest → Walks plan p [] (map (step_in o) (under_lock p acting) ++ rest)
-act_walks plan p o rest h acts locks covers r = (
-  record { above = refl; below = h; locking = locks; fresh = refl },
-  (
-    record { acting = acts; covers = covers; follows = refl },
-    (record { acting_or_moving = ap (λ (b : Bool). b || is_moving o) acts; covers = covers; fresh = refl }, (record { last = refl; fresh = r.fresh }, r.walks)),
-  ),
-)
+act_walks plan p o rest h acts locks covers r = grind arith
 
 either : (a b : Bool) → b ≡ true → (a || b) ≡ true
-either true b h = refl
-either false b h = h
-
-move_walks : (plan : Plan) (p : ℕ) (o : Op) (rest : List Step) → p < callers plan → is_moving o ≡ true → is_locking o ≡ true → Covers plan p o (p ∷ [])
-    → Rest plan p rest → Walks plan p [] (map (step_in o) (under_lock p moving) ++ rest)
-move_walks plan p o rest h moves locks covers r = (
-  record { above = refl; below = h; locking = locks; fresh = refl },
-  (
-    record { moving = moves; covers = covers; follows = refl },
-    (
-      record { moving = moves; covers = covers; follows = refl },
-      (
-        record { acting_or_moving = either (is_acting o) (is_moving o) moves; covers = covers; fresh = refl },
-        (record { last = refl; fresh = r.fresh }, r.walks),
-      ),
-    ),
-  ),
-)
+either a b h = grind arith
 
 between_walks : (plan : Plan) (p : ℕ) (o : Op) (a b : ℕ) (rest : List Step) → a < b → b < callers plan → is_moving o ≡ true → is_locking o ≡ true
     → Covers plan p o (b ∷ a ∷ []) → Rest plan p rest → Walks plan p [] (map (step_in o) (under_lock a (under_lock b moving)) ++ rest)
-between_walks plan p o a b rest h k moves locks covers r = (
-  record { above = refl; below = omega arith; locking = locks; fresh = refl },
-  (
-    record { above = and_from (nat_lt a b) true (lt-ltb a b h) refl; below = k; locking = locks; fresh = refl },
-    (
-      record { moving = moves; covers = covers; follows = refl },
-      (
-        record { moving = moves; covers = covers; follows = refl },
-        (
-          record { acting_or_moving = either (is_acting o) (is_moving o) moves; covers = covers; fresh = refl },
-          (record { last = refl; fresh = refl }, (record { last = refl; fresh = r.fresh }, r.walks)),
-        ),
-      ),
-    ),
-  ),
-)
+between_walks plan p o a b rest h k moves locks covers r = grind arith
 
 -- the caller's own CPU and another, in whichever order their locks come
 both_walk : (plan : Plan) (p q : ℕ) (o : Op) (rest : List Step) → p < callers plan → q < callers plan → p ≢ q → is_moving o ≡ true → is_locking o ≡ true
@@ -89,8 +51,7 @@ abbrev drained : Plan → ℕ → ℕ → ℕ → List Step → List Step
 drained plan p n q rest = map (step_in op.Drain) (draining n q ++ Release p ∷ []) ++ rest
 
 drained_fresh : (plan : Plan) (p n q : ℕ) (rest : List Step) → is_fresh (slice_get (drained plan p n q rest) 0) ≡ true
-drained_fresh plan p zero q rest = refl
-drained_fresh plan p (suc n) q rest = refl
+drained_fresh plan p n q rest = grind arith
 
 drains_walk : (plan : Plan) (p n q : ℕ) (rest : List Step) → q + n ≤ callers plan → Rest plan p rest → Walks plan p (p ∷ []) (drained plan p n q rest)
 drains_walk plan p zero q rest h r = (record { last = refl; fresh = r.fresh }, r.walks)
@@ -102,13 +63,9 @@ drains_walk plan p (suc n) q rest h r = (
   ),
 )
 
-own_home : (p h c : ℕ) → (p == h) ≡ true → is_in c (p ∷ []) ≡ ((c == p) || (c == h))
-own_home p h c same = grind (arith, nat_tests)
-
 sleep_walks : (plan : Plan) (p t : ℕ) (rest : List Step) (x : Bool) → p < callers plan → home plan t < callers plan → (p == home plan t) ≡ x → Rest plan p rest
     → Walks plan p [] (map (step_in (op.Sleep t)) (cond x (under_lock p moving) (under_locks p (home plan t) moving)) ++ rest)
-sleep_walks plan p t rest true h k e r = move_walks plan p (op.Sleep t) rest h refl refl (λ c. own_home p (home plan t) c e) r
-sleep_walks plan p t rest false h k e r = both_walk plan p (home plan t) (op.Sleep t) rest h k (eqb-false p (home plan t) e) refl refl (λ c. refl) r
+sleep_walks plan p t rest x h k e r = grind arith
 
 other_source : (q p : ℕ) → not (q == p) ≡ true → p ≢ q
 other_source q p h same = grind (arith, nat_tests)
@@ -124,14 +81,8 @@ op_walks plan p op.Drain rest s h k e r = (
 op_walks plan p (op.Post t) rest s h k e r = (record { holds_none = refl; fresh = r.fresh }, r.walks)
 op_walks plan p o rest s h k e r = act_walks plan p o rest h refl refl (one_lock p) r
 
-sleep_fresh : (plan : Plan) (p h : ℕ) (o : Op) (rest : List Step) (x : Bool)
-    → is_fresh (slice_get (map (step_in o) (cond x (under_lock p moving) (under_locks p h moving)) ++ rest) 0) ≡ true
-sleep_fresh plan p h o rest true = refl
-sleep_fresh plan p h o rest false = refl
-
 op_fresh : (plan : Plan) (p : ℕ) (o : Op) (rest : List Step) → is_fresh (slice_get (map (step_in o) (micros_of plan p o) ++ rest) 0) ≡ true
-op_fresh plan p (op.Sleep t) rest = sleep_fresh plan p (home plan t) (op.Sleep t) rest (p == home plan t)
-op_fresh plan p _ rest = refl
+op_fresh plan p o rest = grind arith
 
 steps_fresh : (plan : Plan) (p : ℕ) (os : List Op) → is_fresh (slice_get (steps_of plan p os) 0) ≡ true
 steps_fresh plan p [] = refl
@@ -171,18 +122,11 @@ gives_up c d (e ∷ held) last falls = grind (arith, nat_tests, above_apart e he
 -- the locks that are held after a step are those of the list
 held_then : (plan : Plan) (p : ℕ) (held : List ℕ) (o : Op) (m : Micro) (following : Option Step) → FitsMicro plan p held o m following → is_falling held ≡ true
     → (c : ℕ) → held_after c (is_in c held) m ≡ is_in c (stack_after held m)
-held_then plan p held o (Release d) following fits falls c = gives_up c d held fits.last falls
-held_then plan p held o _ following fits falls c = refl
-
-falling_rest : (held : List ℕ) → is_falling held ≡ true → is_falling (drop 1 held) ≡ true
-falling_rest [] h = refl
-falling_rest (d ∷ held) h = (and_parts (is_above d held) (is_falling held) h).1
+held_then plan p held o m following fits falls c = grind (arith, nat_tests, gives_up)
 
 falling_then : (plan : Plan) (p : ℕ) (held : List ℕ) (o : Op) (m : Micro) (following : Option Step) → FitsMicro plan p held o m following → is_falling held ≡ true
     → is_falling (stack_after held m) ≡ true
-falling_then plan p held o (Acquire d) following fits falls = and_from (is_above d held) (is_falling held) fits.above falls
-falling_then plan p held o (Release d) following fits falls = falling_rest held falls
-falling_then plan p held o _ following fits falls = falls
+falling_then plan p held o m following fits falls = grind arith
 
 -- where a caller stands that has done so many steps of a list from these locks on
 record Standing (plan : Plan) (p : ℕ) (first : List ℕ) (ss : List Step) (k : ℕ) : Type 0 where

@@ -1,9 +1,10 @@
 -- Each task stands in one place while the callers work.
-use Rattle.std.proofs.Common.{◌≡◌, ℕ, zero, suc, ◌+◌, ◌<◌, ◌≤◌, Bool, true, false, List, [], ◌∷◌, get_or, ap, ◌∙◌, arith}
+use Rattle.std.proofs.Common.{◌≡◌, ℕ, zero, suc, ◌+◌, ◌<◌, ◌≤◌, Bool, true, List, [], ◌∷◌, get_or, ap, ◌∙◌, arith}
 use Rattle.std.proofs.lemmas.Bool.Decides.{nat_tests}
 use Rattle.std.specs.Prelude.{◌==◌, IfSome, Option, Some, None}
 use Rattle.eevdf_queue.specs.State.{Contents}
-use Rattle.eevdf_ops.specs.{Machine.queue_at, Places.count, Places.places, Places.places_in, Setup.is_task}
+use Rattle.eevdf_ops.specs.{Machine.queue_at, Setup.is_task}
+use Rattle.eevdf_ops.specs.Places.{count, places, places_in}
 use Rattle.eevdf_ops.proofs.MachinePlaces.{places-at}
 use Rattle.eevdf_steps.specs.{Plan.Plan, Plan.callers, Playing.IsWork, Places.hands_with, Places.is_in_hand, Work.Work, Work.hand}
 
@@ -18,8 +19,7 @@ in_one (h ∷ hands) zero p e =
 in_one (h ∷ hands) (suc k) p e = let rest : 1 ≤ hands_with hands p.task = in_one hands k p e in omega arith
 
 pub count-le : (b : Bool) → count b ≤ 1
-count-le true = omega arith
-count-le false = omega arith
+count-le b = grind arith
 
 -- a task in a hand stands in no queue
 pub held_nowhere : (plan : Plan) (w : Work) (k c : ℕ) (p : Contents) → IsWork plan w → c < callers plan → hand w k ≡ Some p → places_in (queue_at w.machine c) p.task ≡ 0
@@ -32,5 +32,4 @@ held_nowhere plan w k c p works below e =
 
 pub hand_nowhere : (plan : Plan) (w : Work) (k c : ℕ) (h : Option Contents) → IsWork plan w → c < callers plan → hand w k ≡ h
     → IfSome h (λ (p : Contents). places_in (queue_at w.machine c) p.task ≡ 0)
-hand_nowhere plan w k c None works below e = tt
-hand_nowhere plan w k c (Some p) works below e = held_nowhere plan w k c p works below e
+hand_nowhere plan w k c h works below e = grind (arith, nat_tests, held_nowhere)
