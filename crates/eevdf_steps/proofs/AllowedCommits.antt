@@ -1,7 +1,7 @@
 -- Every order of a sound plan commits only deeds that are allowed.
-use Rattle.std.proofs.Common.{◌≡◌, ℕ, zero, suc, ◌<◌, Bool, true, List, [], ◌∷◌, get_or, set, take, inl, inr, sym, subst, refl, arith}
-use Rattle.std.proofs.lemmas.{List.get_or-set_other, List.Elements.All-take, List.Sums.AllPass-from_list_all}
-use Rattle.std.proofs.lemmas.{List.Sums.list_all-from_AllPass, Bool.Decides.nat_tests, Grind.common_steps}
+use Rattle.std.proofs.Common.{◌≡◌, ℕ, ◌<◌, Bool, true, List, [], ◌∷◌, get_or, set, take, sym, subst, refl, arith}
+use Rattle.std.proofs.lemmas.{List.Elements.All-take, List.Sums.AllPass-from_list_all, List.Sums.list_all-from_AllPass}
+use Rattle.std.proofs.lemmas.{Bool.Decides.nat_tests, Grind.common_steps, Bool.and_parts, Bool.ltb-true}
 use Rattle.std.specs.{List.list_all, Option.option_to_list}
 use Rattle.std.specs.Prelude.{slice_get, IfSome, Option, Some, None}
 use Rattle.eevdf_ops.specs.{declared.deeds.Op.Op, declared.deeds.Deed.Deed}
@@ -11,11 +11,10 @@ use Rattle.eevdf_steps.specs.{SoundSteps.is_sound_step, declared.micro.Micro.The
 use Rattle.eevdf_steps.specs.declared.micro.Micro.TheVariants.{Settle}
 use Rattle.eevdf_steps.specs.Counters.{count_of, done_by, step_next}
 use Rattle.eevdf_steps.specs.Plan.{IsSound, Plan, callers, is_sound_op, plan_of, pulls_elsewhere}
-use Rattle.eevdf_steps.specs.Requests.{Progress, found_by, oldest, post_to, posted, posts_to, progress_at_start, progress_by, progress_step, requested, taken_of, takes}
+use Rattle.eevdf_steps.specs.Requests.{Progress, found_by, oldest, posted, posts_to, progress_at_start, progress_by, progress_step, requested, taken_of, takes}
 use Rattle.eevdf_steps.specs.Commits.{commits, committed, committed_by, deeds_committed}
 use Rattle.eevdf_steps.proofs.{Holders.none_first, SoundDeeds.next_pulls_elsewhere}
 use Rattle.eevdf_steps.proofs.SoundSteps.{all_joined, all_steps_sound, is_caller, some_all, step_sound}
-use Rattle.std.proofs.lemmas.Bool.{and_parts, ltb-true, cases_eq}
 
 all_taken : {A : Type 0} (test : A → Bool) (xs : List A) (k : ℕ) → list_all test xs ≡ true → list_all test (take k xs) ≡ true
 all_taken test xs k all = list_all-from_AllPass test (take k xs) (All-take (λ x. test x ≡ true) k xs (AllPass-from_list_all test xs all))
@@ -24,24 +23,13 @@ all_taken test xs k all = list_all-from_AllPass test (take k xs) (All-take (λ x
 some_passes : {A : Type 0} (test : A → Bool) (xs : List A) (k : ℕ) (r : Option A) → list_all test xs ≡ true → slice_get xs k ≡ r → IfSome r (λ (x : A). test x ≡ true)
 some_passes test xs k r all e = grind (arith, nat_tests, some_all)
 
-set_passes : {A : Type 0} (P : A → Type 0) (xs : List A) (k : ℕ) (x d : A) → P x → P (get_or xs k d) → P (get_or (set xs k x) k d)
-set_passes P [] k x d new old = old
-set_passes P (y ∷ xs) zero x d new old = new
-set_passes P (y ∷ xs) (suc k) x d new old = set_passes P xs k x d new old
-
 -- a request to a home is for a task of that home
 abbrev IsForHome : Plan → ℕ → Option ℕ → Type 0
 IsForHome plan c r = IfSome r (λ (task : ℕ). is_at_home plan.homes task c ≡ true)
 
-post_is_for_home : (plan : Plan) (c : ℕ) (m : Micro) → is_sound_micro plan m ≡ true → list_all (λ (t : ℕ). is_at_home plan.homes t c) (post_to plan c m) ≡ true
-post_is_for_home plan c m well = grind arith
-
 posts_are_for_home : (plan : Plan) (c : ℕ) (ss : List Step) → list_all (is_sound_step plan) ss ≡ true → list_all (λ (t : ℕ). is_at_home plan.homes t c) (posts_to plan c ss) ≡ true
 posts_are_for_home plan c [] all = refl
-posts_are_for_home plan c (s ∷ ss) all =
-    let parts = and_parts (is_sound_step plan s) (list_all (is_sound_step plan) ss) all in
-    all_joined (λ (t : ℕ). is_at_home plan.homes t c) (post_to plan c s.micro) (posts_to plan c ss)
-    (post_is_for_home plan c s.micro (and_parts (is_sound_op plan s.op) (is_sound_micro plan s.micro) parts.0).1) (posts_are_for_home plan c ss parts.1)
+posts_are_for_home plan c (s ∷ ss) all = grind (arith, posts_are_for_home plan c ss)
 
 oldest_is_for_home : (plan : Plan) (g : Progress) (q c : ℕ) → IsSound plan → q < callers plan → IsForHome plan c (oldest plan g q c)
 oldest_is_for_home plan g q c sound h =
@@ -59,19 +47,13 @@ found_first plan c = subst (λ (r : Option ℕ). IsForHome plan c r) (sym (none_
 -- a caller finds something, or nothing
 found_next : (plan : Plan) (found : List (Option ℕ)) (x : ℕ) (r : Option ℕ) → ((c : ℕ) → IsForHome plan c (get_or found c None)) → IsForHome plan x r
     → (c : ℕ) → IsForHome plan c (get_or (set found x r) c None)
-found_next plan found x r own new c =
-    elim (cases_eq c x) [
-      | inl same ↦ subst (λ (k : ℕ). IsForHome plan k (get_or (set found x r) k None)) (sym same)
-          (set_passes (λ (o : Option ℕ). IsForHome plan x o) found x r None new (own x))
-      | inr apart ↦ subst (λ (o : Option ℕ). IsForHome plan c o) (sym (get_or-set_other found x c r None apart)) (own c)
-    ]
+found_next plan found x r own new c = grind (arith, common_steps)
 
 takes_own : (plan : Plan) (g : Progress) (x s : ℕ) (r : Option ℕ) → FindTheirOwn plan g → IsForHome plan x r → FindTheirOwn plan (takes plan g x s r)
 takes_own plan g x s r own new = grind (arith, common_steps)
 
 requested_own : (plan : Plan) (g : Progress) (x : ℕ) (m : Micro) → IsSound plan → is_sound_micro plan m ≡ true → FindTheirOwn plan g → FindTheirOwn plan (requested plan g x m)
-requested_own plan g x (Take s) sound well own =
-    takes_own plan g x s (oldest plan g s x) own (oldest_is_for_home plan g s x sound (ltb-true s (callers plan) well))
+requested_own plan g x (Take s) sound well own = grind (arith, nat_tests, takes_own, oldest_is_for_home, ltb-true)
 requested_own plan g x (Settle s) sound well own = found_next plan g.found x None own tt
 requested_own plan g x _ sound well own = own
 
@@ -105,11 +87,7 @@ step_allowed plan g x (Some s) sound own e =
 
 allowed_from : (plan : Plan) (g : Progress) (order : List ℕ) → IsSound plan → FindTheirOwn plan g → AllAllowed plan (commits plan g order)
 allowed_from plan g [] sound own = refl
-allowed_from plan g (x ∷ order) sound own =
-    let now : AllAllowed plan (committed_by g x (step_next plan g.counters x)) × FindTheirOwn plan (progress_step plan g x)
-    = step_allowed plan g x (step_next plan g.counters x) sound own refl in
-    all_joined (is_allowed (callers plan) plan.homes) (committed_by g x (step_next plan g.counters x)) (commits plan (progress_step plan g x) order)
-    now.0 (allowed_from plan (progress_step plan g x) order sound now.1)
+allowed_from plan g (x ∷ order) sound own = grind (arith, nat_tests, allowed_from plan (progress_step plan g x) order, step_allowed, all_joined)
 
 pub commits_allowed : (plan : Plan) (order : List ℕ) → IsSound plan → list_all (is_allowed (callers plan) plan.homes) (commits plan (progress_at_start plan) order) ≡ true
 commits_allowed plan order sound = allowed_from plan (progress_at_start plan) order sound (found_first plan)

@@ -1,22 +1,20 @@
 -- A task sleeps at its home alone, on the machines that deeds leave and while the callers work.
-use Rattle.std.proofs.Common.{◌≡◌, ℕ, Bool, true, false, cond, ◌||◌, List, [], ◌∷◌, set, refl, sym, ap, subst, ◌∙◌, arith}
-use Rattle.std.specs.Prelude.{◌==◌, Option, Some, None, Result, Ok, Err}
+use Rattle.std.proofs.Common.{◌≡◌, ℕ, Bool, true, false, cond, ◌||◌, List, [], ◌∷◌, set, refl, ap, arith}
+use Rattle.std.specs.Prelude.{Option, Some, None, Result, Ok, Err}
 use Rattle.std.specs.{Option.unwrap_or, FinMap.contains_key}
-use Rattle.eevdf_queue.specs.{declared.entry.Entry.Entry, Placing.placed_entry, Wake.wake_sleeper, Wake.wake_to}
+use Rattle.eevdf_queue.specs.{declared.entry.Entry.Entry, Wake.wake_sleeper, Wake.wake_to, Moves.put_asleep, Moves.with_runnable}
 use Rattle.eevdf_queue.specs.State.{State, Contents, Sleeper}
-use Rattle.eevdf_queue.specs.Moves.{put_asleep, sleeper_of, with_runnable}
 use Rattle.eevdf_queue.specs.Leaving.{carried_running, leave, without_entry}
 use Rattle.eevdf_ops.specs.{declared.deeds.Answer.Answer, declared.deeds.Deed.Deed, declared.deeds.Line.Line}
 use Rattle.eevdf_ops.specs.{Histories.machine_told, Machine.Machine, Machine.queue_at, Programs.deeds_of, Setup.home_of}
 use Rattle.eevdf_ops.specs.{Whole.machine_after, Whole.whole, WholeSleep.sleep_carrying, WholeSleep.task_leaves}
 use Rattle.eevdf_ops.specs.declared.deeds.Deed.TheVariants.{Tick, Pick, Yield, Sleep, Wake, Pull, Renice}
 use Rattle.eevdf_ops.specs.Parts.{after_leaving, giver, only_at}
-use Rattle.eevdf_ops.specs.WholePull.{decision, load_of, offer, pull_decided, with_task}
+use Rattle.eevdf_ops.specs.WholePull.{decision, load_of, offer, pull_decided}
 use Rattle.eevdf_ops.proofs.{Carried.Carries, Carried.running-carries, MachinePlaces.SleepsAtHome, MachinePlaces.each-set}
 use Rattle.eevdf_ops.proofs.MapCounts.{contains-insert, contains-removed, equal}
 use Rattle.eevdf_ops.proofs.QueuePlaces.{pick-same, renice-same, tick-same, yield-same}
-use Rattle.eevdf_steps.specs.Counters.{Counters, holder, holds}
-use Rattle.eevdf_steps.specs.{Plan.Plan, Plan.callers, Work.Work, Serial.IsSerial, Serial.begun_by}
+use Rattle.eevdf_steps.specs.{Counters.Counters, Counters.holder, Plan.Plan, Work.Work, Serial.IsSerial}
 use Rattle.eevdf_steps.specs.UnderWay.{UnderWay, leaves, queue_seen}
 use Rattle.eevdf_steps.proofs.{Ready.least_found, SerialSteps.free_queue}
 use Rattle.std.proofs.lemmas.Bool.Decides.{nat_tests}
@@ -48,10 +46,7 @@ fallen : (homes : List ℕ) (cpu task : ℕ) (b c : Bool) → (b ≡ true → ho
 fallen homes cpu task b c f g e = grind arith
 
 falls_at_home : (homes : List ℕ) (cpu : ℕ) (q : State) (p : Contents) → home_of homes p.task ≡ cpu → SleepsAtHome homes cpu q → SleepsAtHome homes cpu (put_asleep q p)
-falls_at_home homes cpu q p home at_home task a =
-    fallen homes cpu task (task == p.task) (contains_key q.asleep task)
-    (λ (same : (task == p.task) ≡ true). ap (home_of homes) (equal task p.task same) ∙ home) (at_home task)
-    (sym (contains-insert q.asleep p.task task (sleeper_of p)) ∙ a)
+falls_at_home homes cpu q p home at_home task a = grind (arith, nat_tests, fallen, equal, contains-insert)
 
 module _ (homes : List ℕ) where
   set_at_home : (m : Machine) (c : ℕ) (q : State) → SleepsAtHome homes c q → AllAtHome homes m → AllAtHome homes (set m c q)
@@ -75,9 +70,7 @@ module _ (homes : List ℕ) where
 
   pull_at_home : (m : Machine) (cpu source : ℕ) (d : Result Contents Answer) → AllAtHome homes m → AllAtHome homes (pull_decided m cpu source d).1
   pull_at_home m cpu source (Err refusal) all = all
-  pull_at_home m cpu source (Ok p) all =
-      let q : State = queue_at (task_leaves m source p.task) cpu in
-      less_at_home (task_leaves m source p.task) cpu (with_task q p) (joined_less q p.task (placed_entry q (sleeper_of p))) (leaves_at_home m source p.task all)
+  pull_at_home m cpu source (Ok p) all = grind (arith, nat_tests, less_at_home, joined_less, leaves_at_home)
 
   whole_at_home : (deed : Deed) (m : Machine) → AllAtHome homes m → AllAtHome homes (whole homes deed m).1
   whole_at_home (Tick cpu ns) m all = less_at_home m cpu _ (tick-same (queue_at m cpu) ns).asleep all
@@ -92,20 +85,10 @@ module _ (homes : List ℕ) where
   after_at_home [] m all = all
   after_at_home (d ∷ ds) m all = after_at_home ds (whole homes d m).1 (whole_at_home d m all)
 
-  left_less : (q : State) (o : Option Contents) → IsNoMore q (after_leaving o q)
-  left_less q None task a = a
-  left_less q (Some p) task a = leave_less q p.task _ task a
-
-  part_less : (q : State) (o : Option Contents) (b : Bool) → IsNoMore q (cond b (after_leaving o q) q)
-  part_less q o true task a = left_less q o task a
-  part_less q o false task a = a
-
   begun_at_home : (m : Machine) (u : UnderWay) (cpu : ℕ) (b : Bool) → AllAtHome homes m
       → SleepsAtHome homes cpu (cond b (queue_at (whole homes u.deed m).1 cpu) (only_at (giver u.deed) cpu (after_leaving (leaves homes m u.deed)) (queue_at m cpu)))
   begun_at_home m u cpu true all = whole_at_home u.deed m all cpu
-  begun_at_home m u cpu false all =
-      still homes cpu (queue_at m cpu) (only_at (giver u.deed) cpu (after_leaving (leaves homes m u.deed)) (queue_at m cpu))
-      (part_less (queue_at m cpu) (leaves homes m u.deed) (cpu == giver u.deed)) (all cpu)
+  begun_at_home m u cpu false all = grind arith
 
   seen_at_home : (m : Machine) (o : Option UnderWay) (cpu : ℕ) → AllAtHome homes m → SleepsAtHome homes cpu (queue_seen homes m o cpu)
   seen_at_home m None cpu all = all cpu
@@ -114,12 +97,8 @@ module _ (homes : List ℕ) where
 -- a queue whose lock is held, and one whose lock is free
 at_home_by : (plan : Plan) (start : Machine) (counters : Counters) (w : Work) (lines : List Line) (cpu : ℕ) (o : Option ℕ) → holder plan counters cpu ≡ o
     → IsSerial plan start counters w lines → AllAtHome plan.homes (machine_told plan.homes start lines) → SleepsAtHome plan.homes cpu (queue_at w.machine cpu)
-at_home_by plan start counters w lines cpu None e serial all =
-    subst (λ (q : State). SleepsAtHome plan.homes cpu q) (sym (free_queue plan start counters w lines cpu serial e)) (all cpu)
-at_home_by plan start counters w lines cpu (Some p) e serial all =
-    subst (λ (q : State). SleepsAtHome plan.homes cpu q)
-    (sym (serial.seen.held cpu p (least_found (holds plan counters cpu) 0 (callers plan) p e).passes))
-    (seen_at_home plan.homes (machine_told plan.homes start lines) (begun_by plan counters p) cpu all)
+at_home_by plan start counters w lines cpu None e serial all = grind (arith, nat_tests, free_queue)
+at_home_by plan start counters w lines cpu (Some p) e serial all = grind (arith, nat_tests, least_found, seen_at_home)
 
 pub callers_at_home : (plan : Plan) (start : Machine) (counters : Counters) (w : Work) (lines : List Line) → IsSerial plan start counters w lines → AllAtHome plan.homes start
     → AllAtHome plan.homes w.machine

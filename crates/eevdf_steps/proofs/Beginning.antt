@@ -5,13 +5,13 @@ use Rattle.std.proofs.lemmas.Nat.{div-mul-add, mod-mul-add, mul-add-lt}
 use Rattle.std.specs.Prelude.{Option, None}
 use Rattle.eevdf_ops.specs.{Machine.Machine, Machine.start, Places.IsPlaced, Programs.posts_in, Setup.Setup, Setup.homes_of}
 use Rattle.eevdf_steps.proofs.{SerialStart.serial_start, Holders.count_first, ProgramPosts.program_posts, Reserving.room_first}
-use Rattle.eevdf_steps.proofs.PlayerParts.{same_callers, with_parts}
 use Rattle.eevdf_steps.specs.Plan.{IsSound, Plan, callers, pair, plan_of, program}
 use Rattle.eevdf_steps.specs.{MicroSteps.steps_by, Orders.counters_at_start, Callers.Callers, Places.hands_with, Openings.AreEmpty}
 use Rattle.eevdf_steps.specs.{Openings.most_lines, MicroState.micro_start, Players.player_start, Recorded.Recorded}
 use Rattle.eevdf_steps.specs.{Recorded.done_at_start, Playing.IsPlaying, Playing.player_of}
 use Rattle.eevdf_steps.specs.Requests.{Progress, posts_to, progress_at_start}
 use Rattle.eevdf_steps.specs.PostLists.{ArePosted, PostList, list_at, progress_in}
+use Rattle.std.proofs.lemmas.Bool.Decides.{nat_tests}
 
 pub posts_first : (plan : Plan) (lists : List PostList) → AreEmpty plan lists → ArePosted plan (counters_at_start plan) lists
 posts_first plan lists a = record {
@@ -85,15 +85,10 @@ first_done s m = done_at_start m (callers (plan_of s)) (most_lines (plan_of s))
 module _ {s : Setup} {w : Callers} {lists : List PostList} {found : List (Option ℕ)} {done : Recorded} {m : Machine} {n room : ℕ} (o : Opened s w lists found done m n room) where
   opens : (P : Callers → List PostList → List (Option ℕ) → Recorded → Type 0)
       → P (first_callers s) lists (replicate (callers (plan_of s)) None) (first_done s m) → P w lists found done
-  opens P there =
-      with_parts P (same_callers w (plan_of s) (counters_at_start (plan_of s)) o.plan o.counters) refl (o.nothing ∙ ap (λ (p : Plan). replicate (callers p) None) o.plan)
-      (o.is_done ∙ ap (λ (k : ℕ). done_at_start m k room) (o.queues ∙ ap callers o.plan)
-      ∙ ap (λ (k : ℕ). done_at_start m (callers (plan_of s)) k) (o.lines ∙ ap most_lines o.plan)) there
+  opens P there = grind arith
 
   pub playing_open : IsPlaying w lists found done
-  playing_open =
-      opens IsPlaying (playing_first (plan_of s) lists m (subst IsSound o.plan o.sound) o.machine (subst (λ (p : Plan). AreEmpty p lists) o.plan o.empty)
-      (o.each ∙ o.queues ∙ ap callers o.plan) o.placed)
+  playing_open = grind (arith, nat_tests, opens, playing_first)
 
   pub player_open : player_of w lists found done ≡ player_start s
   player_open =

@@ -2,16 +2,16 @@
 use Rattle.std.proofs.Common.{◌≡◌, ℕ, Bool, true, cond, List, [], length, ap, ◌∙◌, refl, arith}
 use Rattle.std.specs.Prelude.{MatchOption, Option, Some}
 use Rattle.eevdf_queue.specs.State.{State, Contents}
-use Rattle.eevdf_ops.specs.{declared.deeds.Op.Op, declared.deeds.Deed.Deed, declared.deeds.Answer.Answer, Machine.Machine}
-use Rattle.eevdf_ops.specs.{Machine.queue_at, Whole.whole, Programs.deed_of}
+use Rattle.eevdf_ops.specs.{declared.deeds.Op.Op, declared.deeds.Deed.Deed, Machine.Machine, Machine.queue_at, Whole.whole}
+use Rattle.eevdf_ops.specs.Programs.{deed_of}
 use Rattle.eevdf_ops.specs.declared.deeds.Op.TheVariants as op
 use Rattle.eevdf_ops.specs.declared.deeds.Deed.TheVariants as deed
-use Rattle.eevdf_ops.specs.Parts.{after_leaving, given, giver, only_at, touches}
+use Rattle.eevdf_ops.specs.Parts.{after_leaving, giver, only_at, touches}
 use Rattle.eevdf_ops.specs.PartsLaws as laws
 use Rattle.eevdf_ops.proofs.PartsProofs.{touched_decide}
 use Rattle.eevdf_steps.specs.{declared.plan.Step.Step, Serial.begun_by, Plan.Plan, Plan.callers}
 use Rattle.eevdf_steps.specs.Counters.{Counters, counted, holds, step_next}
-use Rattle.eevdf_steps.specs.UnderWay.{UnderWay, hand_seen, leaves, leaving, queue_seen, under_way}
+use Rattle.eevdf_steps.specs.UnderWay.{UnderWay, hand_seen, leaves, queue_seen, under_way}
 use Rattle.eevdf_steps.proofs.Walks.{Covers, Fits, Walk, touched}
 use Rattle.std.proofs.lemmas.Bool.Decides.{nat_tests}
 
@@ -53,10 +53,7 @@ pub record SeenAlike (homes : List ℕ) (u : UnderWay) (m n : Machine) : Type 0 
   pub answer : (whole homes u.deed m).0 ≡ (whole homes u.deed n).0
 
 leaves_alike : (homes : List ℕ) (d : Deed) (m n : Machine) → laws.IsAlike homes d m n → laws.AgreeWhereTouched homes d m n → leaves homes m d ≡ leaves homes n d
-leaves_alike homes d m n alike agree =
-    ap (λ (a : Answer). leaving d a (given d (queue_at m (giver d)))) alike.answers
-    ∙ ap (λ (q : State). leaving d (whole homes d n).0 (given d q))
-    (agree (giver d) (grind (arith, nat_tests)))
+leaves_alike homes d m n alike agree = grind (arith, nat_tests)
 
 either : {A : Type 0} (b : Bool) (x y z w : A) → x ≡ z → y ≡ w → cond b x y ≡ cond b z w
 either b x y z w e f = grind arith

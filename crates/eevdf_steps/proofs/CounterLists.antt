@@ -1,28 +1,21 @@
 -- Positions of several callers, and their counters.
-use Rattle.std.proofs.Common.{◌≡◌, ℕ, zero, suc, ◌+◌, ◌<◌, List, [], ◌∷◌, ◌++◌, length, get_or, set, replicate, inl, inr, sym, ap, subst, ◌∙◌, arith, refl}
-use Rattle.std.proofs.Math.ListN.{length-append, length-set}
-use Rattle.std.proofs.lemmas.Bool.{cases_lt, cases_eq}
-use Rattle.std.proofs.lemmas.List.{get_or_append_left, get_or_push, get_or-set_other, get_or-set_same}
-use Rattle.eevdf_steps.specs.{declared.plan.Position.Position, Plan.Plan, MicroSteps.steps_by, Callers.BeginAll}
+use Rattle.std.proofs.Common.{◌≡◌, ℕ, zero, suc, ◌+◌, ◌<◌, List, [], ◌∷◌, ◌++◌, length, get_or, set, replicate, sym, ap, subst, ◌∙◌, arith, refl}
+use Rattle.std.proofs.lemmas.{Bool.Decides.nat_tests, Grind.common_steps}
+use Rattle.eevdf_steps.specs.{declared.plan.Position.Position, Plan.Plan, Callers.BeginAll}
 use Rattle.eevdf_steps.specs.Counters.{Counters, count_of, counted, step_next}
-use Rattle.std.specs.Prelude.{slice_get}
 use Rattle.eevdf_steps.specs.Positions.{ArePositions, IsPosition, counter_at, counters_at}
 
 get_counter : (plan : Plan) (p : ℕ) (ats : List Position) (k : ℕ) (d : Position) → k < length ats
     → get_or (counters_at plan p ats) k 0 ≡ counter_at plan (p + k) (get_or ats k d)
 get_counter plan p [] k d h = absurd (omega arith)
 get_counter plan p (a ∷ ats) zero d h = ap (λ (q : ℕ). counter_at plan q a) (let e : p ≡ p + 0 = omega arith in e)
-get_counter plan p (a ∷ ats) (suc k) d h =
-    get_counter plan (p + 1) ats k d (omega arith)
-    ∙ ap (λ (q : ℕ). counter_at plan q (get_or ats k d)) (let e : p + 1 + k ≡ p + suc k = omega arith in e)
+get_counter plan p (a ∷ ats) (suc k) d h = grind (arith, get_counter plan (p + 1) ats k d)
 
 set_counter : (plan : Plan) (p : ℕ) (ats : List Position) (k : ℕ) (a : Position)
     → counters_at plan p (set ats k a) ≡ set (counters_at plan p ats) k (counter_at plan (p + k) a)
 set_counter plan p [] k a = refl
 set_counter plan p (b ∷ ats) zero a = ap (λ (q : ℕ). counter_at plan q a ∷ counters_at plan (p + 1) ats) (let e : p ≡ p + 0 = omega arith in e)
-set_counter plan p (b ∷ ats) (suc k) a =
-    ap (λ (cs : Counters). counter_at plan p b ∷ cs) (set_counter plan (p + 1) ats k a
-    ∙ ap (λ (q : ℕ). set (counters_at plan (p + 1) ats) k (counter_at plan q a)) (let e : p + 1 + k ≡ p + suc k = omega arith in e))
+set_counter plan p (b ∷ ats) (suc k) a = grind (arith, set_counter plan (p + 1) ats k a)
 
 from_zero : (k : ℕ) → 0 + k ≡ k
 from_zero k = omega arith
@@ -39,35 +32,19 @@ position_of plan ats k a h e all = subst (λ (b : Position). IsPosition plan k b
 -- the step that is kept is the next one
 pub step_kept : (plan : Plan) (ats : List Position) (k cpu : ℕ) (a : Position) → k ≡ cpu → k < length ats → a ≡ get_or ats k a → ArePositions plan ats
     → a.next ≡ step_next plan (counters_at plan 0 ats) cpu
-step_kept plan ats k cpu a same h e all =
-    (position_of plan ats k a h e all).next
-    ∙ ap (λ (n : ℕ). slice_get (steps_by plan k) n) (sym (counter_of plan ats k a h e))
-    ∙ ap (λ (i : ℕ). step_next plan (counters_at plan 0 ats) i) same
+step_kept plan ats k cpu a same h e all = grind (arith, nat_tests, position_of, counter_of)
 
 pub positions_with : (plan : Plan) (ats : List Position) (k : ℕ) (a : Position) → k < length ats → IsPosition plan k a → ArePositions plan ats → ArePositions plan (set ats k a)
-positions_with plan ats k a h new all c d below =
-    elim (cases_eq c k) [
-      | inl same ↦ subst (λ (i : ℕ). IsPosition plan i (get_or (set ats k a) i d)) (sym same)
-          (subst (λ (b : Position). IsPosition plan k b) (sym (get_or-set_same ats k a d h)) new)
-      | inr apart ↦ subst (λ (b : Position). IsPosition plan c b) (sym (get_or-set_other ats k c a d apart)) (all c d (omega (arith, length-set ats k a)))
-    ]
+positions_with plan ats k a h new all c d below = grind (arith, common_steps)
 
 pub counters_with : (plan : Plan) (ats : List Position) (k : ℕ) (a b : Position) → k < length ats → a ≡ get_or ats k a → counter_at plan k b ≡ counter_at plan k a + 1
     → counters_at plan 0 (set ats k b) ≡ counted (counters_at plan 0 ats) k
-counters_with plan ats k a b h e more =
-    set_counter plan 0 ats k b ∙ ap (λ (n : ℕ). set (counters_at plan 0 ats) k n)
-    (ap (λ (q : ℕ). counter_at plan q b) (from_zero k) ∙ more ∙ ap (λ (n : ℕ). n + 1) (sym (counter_of plan ats k a h e)))
+counters_with plan ats k a b h e more = grind (arith, nat_tests, set_counter, from_zero, counter_of)
 
 -- at the start
 pushed : (P : ℕ → Position → Type 0) (ats : List Position) (a : Position) → ((c : ℕ) (d : Position) → c < length ats → P c (get_or ats c d)) → P (length ats) a
     → (c : ℕ) (d : Position) → c < length (ats ++ a ∷ []) → P c (get_or (ats ++ a ∷ []) c d)
-pushed P ats a before new c d below =
-    elim (cases_lt c (length ats)) [
-      | inl low ↦ subst (P c) (sym (get_or_append_left ats (a ∷ []) d c (omega arith))) (before c d low)
-      | inr high ↦
-          let last : c ≡ length ats = omega (arith, length-append ats (a ∷ [])) in
-          subst (P c) (sym (get_or_push ats a d c (omega arith))) (subst (λ (i : ℕ). P i a) (sym last) new)
-    ]
+pushed P ats a before new c d below = grind (arith, common_steps)
 
 first_counters : (plan : Plan) (p : ℕ) (ats : List Position) → ((k : ℕ) (d : Position) → k < length ats → counter_at plan (p + k) (get_or ats k d) ≡ 0)
     → counters_at plan p ats ≡ replicate (length ats) 0
@@ -78,9 +55,7 @@ first_counters plan p (a ∷ ats) none =
     ap (λ (q : ℕ). counter_at plan q (get_or ats k d)) (let e : p + 1 + k ≡ p + suc k = omega arith in e) ∙ none (suc k) d (omega arith)))
 
 pub counters_first : (plan : Plan) (n : ℕ) (ats : List Position) → BeginAll plan n ats → counters_at plan 0 ats ≡ replicate n 0
-counters_first plan n ats b =
-    first_counters plan 0 ats (λ k d h. ap (λ (q : ℕ). counter_at plan q (get_or ats k d)) (from_zero k) ∙ b.nothing_done k d h)
-    ∙ ap (λ (i : ℕ). replicate i 0) b.each
+counters_first plan n ats b = grind (arith, nat_tests, first_counters, from_zero)
 
 pub length-counters_at : (plan : Plan) (p : ℕ) (ats : List Position) → length (counters_at plan p ats) ≡ length ats
 length-counters_at plan p [] = refl

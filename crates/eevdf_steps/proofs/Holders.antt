@@ -1,18 +1,14 @@
 -- What becomes of the locks at a step.
-use Rattle.std.proofs.Common.{◌≡◌, ◌≢◌, ℕ, zero, suc, ◌+◌, ◌-◌, ◌<◌, ◌≤◌, Bool, true, false, cond, List, [], ◌∷◌, ◌++◌, length, take, drop, get_or, set, replicate, inl, inr, sym, ap, subst, ◌∙◌, arith, refl}
-use Rattle.std.proofs.lemmas.Bool.{false≢true, cases_lt, and_parts, ltb-true, cases_eq, eq-eqb}
-use Rattle.std.proofs.lemmas.List.{get_or-set_same, get_or-set_other, get_or_default}
+use Rattle.std.proofs.Common.{◌≡◌, ◌≢◌, ℕ, zero, suc, ◌+◌, ◌-◌, ◌<◌, ◌≤◌, Bool, true, false, cond, List, [], ◌∷◌, ◌++◌, length, take, drop, get_or, set, replicate, inl, inr, sym, ap, ◌∙◌, arith, refl}
+use Rattle.std.proofs.lemmas.Bool.{false≢true, cases_lt, and_parts, ltb-true, eq-eqb}
+use Rattle.std.proofs.lemmas.{List.get_or-set_same, List.get_or_default, Grind.common_steps, Bool.Decides.nat_tests}
 use Rattle.std.proofs.Math.Seq.{take-append_seam}
-use Rattle.std.specs.Prelude.{slice_get, ◌==◌, Option, Some, None}
-use Rattle.eevdf_ops.specs.declared.deeds.Op.{Op}
+use Rattle.std.specs.Prelude.{slice_get, Option, Some, None}
 use Rattle.eevdf_steps.specs.{declared.micro.Micro.Micro, declared.plan.Step.Step, declared.micro.Micro.TheVariants.Acquire}
-use Rattle.eevdf_steps.specs.{declared.micro.Micro.TheVariants.Release, MicroSteps.steps_by, MicroSteps.steps_of}
-use Rattle.eevdf_steps.specs.{Orders.counters_at_start, SoundSteps.is_sound_micro, SoundSteps.is_sound_step}
-use Rattle.eevdf_steps.specs.Plan.{Plan, callers, is_sound_op}
+use Rattle.eevdf_steps.specs.{declared.micro.Micro.TheVariants.Release, MicroSteps.steps_by, Orders.counters_at_start}
+use Rattle.eevdf_steps.specs.{SoundSteps.is_sound_micro, SoundSteps.is_sound_step, Plan.Plan, Plan.callers}
 use Rattle.eevdf_steps.specs.Counters.{Counters, blocked_by, count_of, counted, held_after, held_by_steps, holder, holds, least, refused, step_next}
 use Rattle.eevdf_steps.specs.Holders.{AreHolders, given_up, holders_after, is_holder, names_lock}
-use Rattle.eevdf_steps.proofs.Plans.{programs_past}
-use Rattle.std.proofs.lemmas.Grind.{common_steps}
 
 pub take_next : {A : Type 0} (xs : List A) (k : ℕ) (x : A) → slice_get xs k ≡ Some x → take (suc k) xs ≡ take k xs ++ x ∷ []
 take_next [] k x e = cc
@@ -34,34 +30,25 @@ holds_own plan counters cpu p s h e =
 
 -- any other caller
 pub holds_other : (plan : Plan) (counters : Counters) (cpu p q : ℕ) → q ≢ p → holds plan (counted counters p) cpu q ≡ holds plan counters cpu q
-holds_other plan counters cpu p q apart =
-    ap (λ (k : ℕ). held_by_steps cpu false (take k (steps_by plan q))) (get_or-set_other counters p q (count_of counters p + 1) 0 apart)
+holds_other plan counters cpu p q apart = grind (arith, common_steps)
 
 least_same : (f g : ℕ → Bool) (from n : ℕ) → ((p : ℕ) → f p ≡ g p) → least f from n ≡ least g from n
 least_same f g from zero same = refl
-least_same f g from (suc n) same =
-    ap (λ (b : Bool). cond b (Some from) (least f (from + 1) n)) (same from)
-    ∙ ap (λ (o : Option ℕ). cond (g from) (Some from) o) (least_same f g (from + 1) n same)
+least_same f g from (suc n) same = grind (arith, least_same f g (from + 1) n)
 
 least_none : (from n : ℕ) → least (is_holder None) from n ≡ None
 least_none from zero = refl
 least_none from (suc n) = least_none (from + 1) n
 
-least_step : (q from : ℕ) (rest : Option ℕ) (b : Bool) → (q == from) ≡ b → (q ≢ from → rest ≡ Some q) → cond b (Some from) rest ≡ Some q
-least_step q from rest b e later = grind arith
-
 least_some : (q from n : ℕ) → from ≤ q → q < from + n → least (is_holder (Some q)) from n ≡ Some q
 least_some q from zero low high = absurd (omega arith)
-least_some q from (suc n) low high =
-    least_step q from (least (is_holder (Some q)) (from + 1) n) (q == from) refl
-    (λ apart. least_some q (from + 1) n (omega arith) (omega arith))
+least_some q from (suc n) low high = grind (arith, least_some q (from + 1) n)
 
 taken_none : (cpu k : ℕ) → held_by_steps cpu false (take k []) ≡ false
 taken_none cpu k = grind arith
 
 pub nobody_past : (plan : Plan) (counters : Counters) (cpu p : ℕ) → callers plan ≤ p → holds plan counters cpu p ≡ false
-nobody_past plan counters cpu p h =
-    subst (λ (os : List Op). held_by_steps cpu false (take (count_of counters p) (steps_of plan p os)) ≡ false) (sym (programs_past plan.programs p h)) (taken_none cpu (count_of counters p))
+nobody_past plan counters cpu p h = grind (arith, common_steps)
 
 holder_below : (plan : Plan) (counters : Counters) (holders : List (Option ℕ)) (cpu : ℕ) (h : Option ℕ) → cpu < callers plan → AreHolders plan counters holders
     → get_or holders cpu None ≡ h → least (is_holder h) 0 (callers plan) ≡ h
@@ -90,8 +77,7 @@ Matches plan counters holders cpu q = holds plan counters cpu q ≡ is_holder (g
 elsewhere : (plan : Plan) (counters : Counters) (holders : List (Option ℕ)) (p c cpu q : ℕ) (h : Option ℕ)
     → cpu ≢ c → Matches plan counters holders cpu q → holds plan (counted counters p) cpu q ≡ holds plan counters cpu q
     → Matches plan (counted counters p) (set holders c h) cpu q
-elsewhere plan counters holders p c cpu q h apart here same =
-    same ∙ here ∙ ap (λ (o : Option ℕ). is_holder o q) (sym (get_or-set_other holders c cpu h None apart))
+elsewhere plan counters holders p c cpu q h apart here same = grind (arith, common_steps)
 
 pub acquired : (plan : Plan) (counters : Counters) (holders : List (Option ℕ)) (p c : ℕ) → AreHolders plan counters holders → Follows plan counters p (Acquire c)
     → c < callers plan → get_or holders c None ≡ None → AreHolders plan (counted counters p) (set holders c (Some p))
@@ -100,17 +86,9 @@ acquired plan counters holders p c a follows below free = grind (arith, common_s
 gives_up : (h : Option ℕ) (p q : ℕ) (b : Bool) → is_holder h p ≡ b → q ≢ p → is_holder h q ≡ is_holder (cond b None h) q
 gives_up h p q b e apart = grind arith
 
-gave_up : (h : Option ℕ) (p : ℕ) (b : Bool) → is_holder h p ≡ b → false ≡ is_holder (cond b None h) p
-gave_up h p b e = grind arith
-
 releases_at : (plan : Plan) (counters : Counters) (p c q : ℕ) (h : Option ℕ) → Follows plan counters p (Release c) → holds plan counters c q ≡ is_holder h q
     → holds plan (counted counters p) c q ≡ is_holder (given_up h p) q
-releases_at plan counters p c q h follows here =
-    elim (cases_eq q p) [
-      | inl same ↦ subst (λ (r : ℕ). holds plan (counted counters p) c r ≡ is_holder (given_up h p) r) (sym same)
-          (follows c ∙ ap (λ (b : Bool). cond b false (holds plan counters c p)) (eq-eqb c c refl) ∙ gave_up h p (is_holder h p) refl)
-      | inr apart ↦ holds_other plan counters c p q apart ∙ here ∙ gives_up h p q (is_holder h p) refl apart
-    ]
+releases_at plan counters p c q h follows here = grind (arith, common_steps)
 
 pub released : (plan : Plan) (counters : Counters) (holders : List (Option ℕ)) (p c : ℕ) → AreHolders plan counters holders → Follows plan counters p (Release c)
     → c < callers plan → AreHolders plan (counted counters p) (set holders c (given_up (get_or holders c None) p))
@@ -126,17 +104,14 @@ not_blocked cpu o e = grind arith
 -- the holders after a step that nothing refuses
 holders_step : (plan : Plan) (counters : Counters) (holders : List (Option ℕ)) (p : ℕ) (m : Micro) → AreHolders plan counters holders → Follows plan counters p m
     → is_sound_micro plan m ≡ true → refused plan counters m ≡ None → AreHolders plan (counted counters p) (holders_after p m holders)
-holders_step plan counters holders p (Acquire c) a follows sound free =
-    let below : c < callers plan = ltb-true c (callers plan) sound in
-    acquired plan counters holders p c a follows below (sym (holder_is plan counters holders c below a) ∙ not_blocked c (holder plan counters c) free)
+holders_step plan counters holders p (Acquire c) a follows sound free = grind (arith, common_steps, ltb-true, acquired, holder_is, not_blocked)
 holders_step plan counters holders p (Release c) a follows sound free = released plan counters holders p c a follows (ltb-true c (callers plan) sound)
 holders_step plan counters holders p m a follows sound free = kept plan counters holders p m a follows (λ cpu b. refl)
 
 pub holders_next : (plan : Plan) (counters : Counters) (holders : List (Option ℕ)) (p : ℕ) (s : Step) → AreHolders plan counters holders → p < length counters
     → step_next plan counters p ≡ Some s → is_sound_step plan s ≡ true → refused plan counters s.micro ≡ None
     → AreHolders plan (counted counters p) (holders_after p s.micro holders)
-holders_next plan counters holders p s a h e sound free =
-    holders_step plan counters holders p s.micro a (λ cpu. holds_own plan counters cpu p s h e) (and_parts (is_sound_op plan s.op) (is_sound_micro plan s.micro) sound).1 free
+holders_next plan counters holders p s a h e sound free = grind (arith, common_steps, holders_step, holds_own, and_parts)
 
 -- at the start nobody holds a lock
 pub count_first : (n p : ℕ) → ◌≡◌ {A = ℕ} (get_or (replicate n 0) p 0) 0
@@ -155,8 +130,7 @@ holders_first plan = grind (arith, common_steps)
 -- the same, where the counters and the list are known by equations
 pub same_holders : (plan : Plan) (counters counters' : Counters) (holders holders' : List (Option ℕ)) → counters' ≡ counters → holders' ≡ holders
     → AreHolders plan counters holders → AreHolders plan counters' holders'
-same_holders plan counters counters' holders holders' f g a =
-    subst (λ (cs : Counters). AreHolders plan cs holders') (sym f) (subst (λ (hs : List (Option ℕ)). AreHolders plan counters hs) (sym g) a)
+same_holders plan counters counters' holders holders' f g a = grind arith
 
 -- what a write through a slice leaves
 pub written_back : {A : Type 0} (n : ℕ) (xs ys : List A) → length xs ≡ n → take n (xs ++ drop (length xs) ys) ≡ xs
@@ -171,11 +145,8 @@ length-holders_after p m holders = grind (arith, common_steps)
 -- the holder that was read
 pub read_holder : (plan : Plan) (counters : Counters) (holders : List (Option ℕ)) (cpu k : ℕ) (h : Option ℕ) → k ≡ cpu → cpu < callers plan → AreHolders plan counters holders
     → h ≡ get_or holders k h → h ≡ holder plan counters cpu
-read_holder plan counters holders cpu k h at below a e =
-    e ∙ get_or_default holders k h None (omega (arith, a.each)) ∙ ap (λ (i : ℕ). get_or holders i None) at ∙ sym (holder_is plan counters holders cpu below a)
+read_holder plan counters holders cpu k h at below a e = grind (arith, nat_tests, get_or_default, holder_is)
 
 -- a number that doesn't pass is passed over
 pub least_past : (f : ℕ → Bool) (from n : ℕ) → from < n → f from ≡ false → least f from (n - from) ≡ least f (from + 1) (n - (from + 1))
-least_past f from n below fails =
-    ap (λ (k : ℕ). least f from k) (let e : n - from ≡ suc (n - (from + 1)) = omega arith in e)
-    ∙ ap (λ (b : Bool). cond b (Some from) (least f (from + 1) (n - (from + 1)))) fails
+least_past f from n below fails = grind arith

@@ -1,16 +1,13 @@
 -- Where a lawful order leads, and where a complete one ends.
-use Rattle.std.proofs.Common.{◌≡◌, ℕ, ◌+◌, ◌<◌, ◌≤◌, Bool, true, false, ◌&&◌, cond, List, [], ◌∷◌, length, inl, inr, sym, ap, subst, ◌∙◌, arith, refl}
-use Rattle.std.proofs.lemmas.Bool.{cases_lt, false≢true, and_parts}
-use Rattle.std.proofs.lemmas.{Bool.Decides.nat_tests, Grind.common_steps}
+use Rattle.std.proofs.Common.{◌≡◌, ℕ, ◌+◌, ◌<◌, ◌≤◌, Bool, true, false, cond, List, [], ◌∷◌, length, sym, ap, ◌∙◌, arith, refl}
+use Rattle.std.proofs.lemmas.{Bool.cases_lt, Bool.false≢true, Bool.Decides.nat_tests, Grind.common_steps}
 use Rattle.std.specs.Prelude.{nat_lt, is_none, is_some, Option, Some, None}
 use Rattle.std.specs.Option.{option_map}
-use Rattle.eevdf_steps.specs.{declared.plan.Step.Step, declared.step_fault.StepFault.StepFault}
-use Rattle.eevdf_steps.specs.{declared.play_fault.PlayFault.PlayFault, declared.step_fault.StepFault.TheVariants.NoCaller}
-use Rattle.eevdf_steps.specs.declared.play_fault.PlayFault.TheVariants.{Short, TooLong}
-use Rattle.eevdf_steps.specs.Plan.{Plan, callers}
-use Rattle.eevdf_steps.specs.Counters.{Counters, counted, is_under_way, may_step, refusal, refused_next, step_next, unfinished}
-use Rattle.eevdf_steps.specs.Orders.{IsWhole, WholeIsPlayed, counters_after, counters_at_start, fault_or, is_lawful, most_places, order_fault}
-use Rattle.eevdf_steps.specs.Requests.{Progress, progress_after, progress_by, progress_step}
+use Rattle.eevdf_steps.specs.{declared.plan.Step.Step, declared.step_fault.StepFault.TheVariants.NoCaller}
+use Rattle.eevdf_steps.specs.{declared.play_fault.PlayFault.TheVariants.Short, Plan.Plan, Plan.callers}
+use Rattle.eevdf_steps.specs.Counters.{Counters, counted, is_under_way, refusal, refused_next, step_next, unfinished}
+use Rattle.eevdf_steps.specs.Orders.{IsWhole, WholeIsPlayed, counters_after, is_lawful, order_fault}
+use Rattle.eevdf_steps.specs.Requests.{Progress, progress_after, progress_step}
 use Rattle.eevdf_steps.proofs.{Plans.no_step, Ready.least_there}
 
 -- where a step isn't refused there is one
@@ -24,35 +21,17 @@ has_step plan counters p e = not_refused plan counters p (step_next plan counter
 pub none_of : {A : Type 0} (r : Option A) → is_none r ≡ true → r ≡ None
 none_of r e = grind arith
 
--- the counters do not depend on what is taken and found
-pub counters_step : (plan : Plan) (g : Progress) (p : ℕ) → refusal plan g.counters p ≡ None → (progress_step plan g p).counters ≡ counted g.counters p
-counters_step plan g p e = ap (λ (r : Option Step). (progress_by plan g p r).counters) (has_step plan g.counters p e).1
-
 pub counters_lawful : (plan : Plan) (g : Progress) (order : List ℕ) → is_lawful plan g.counters order ≡ true
     → (progress_after plan g order).counters ≡ counters_after g.counters order
 counters_lawful plan g [] lawful = refl
-counters_lawful plan g (p ∷ order) lawful =
-    let parts = and_parts (may_step plan g.counters p) (is_lawful plan (counted g.counters p) order) lawful in
-    let here : (progress_step plan g p).counters ≡ counted g.counters p = counters_step plan g p (none_of (refusal plan g.counters p) parts.0) in
-    counters_lawful plan (progress_step plan g p) order (subst (λ (cs : Counters). is_lawful plan cs order ≡ true) (sym here) parts.1)
-    ∙ ap (λ (cs : Counters). counters_after cs order) here
-
-not_faulty : (at : ℕ) (first : Option StepFault) (later : Option PlayFault) → fault_or at first later ≡ None → (first ≡ None) × (later ≡ None)
-not_faulty at first later e = grind arith
+counters_lawful plan g (p ∷ order) lawful = grind (arith, counters_lawful plan (progress_step plan g p) order)
 
 not_short : (r : Option ℕ) → option_map (λ (p : ℕ). Short p) r ≡ None → is_none r ≡ true
 not_short r e = grind arith
 
 pub faultless_whole : (plan : Plan) (counters : Counters) (at : ℕ) (order : List ℕ) → order_fault plan counters at order ≡ None → IsWhole plan counters order
 faultless_whole plan counters at [] e = record { lawful = refl; complete = not_short (unfinished plan counters) e }
-faultless_whole plan counters at (p ∷ order) e =
-    let parts : (refusal plan counters p ≡ None) × (order_fault plan (counted counters p) (at + 1) order ≡ None)
-    = not_faulty at (refusal plan counters p) (order_fault plan (counted counters p) (at + 1) order) e in
-    let rest : IsWhole plan (counted counters p) order = faultless_whole plan (counted counters p) (at + 1) order parts.1 in
-    record {
-      lawful = ap (λ (r : Option StepFault). is_none r && is_lawful plan (counted counters p) order) parts.0 ∙ rest.lawful;
-      complete = rest.complete;
-    }
+faultless_whole plan counters at (p ∷ order) e = grind (arith, faultless_whole plan (counted counters p) (at + 1) order)
 
 -- and the other way round
 no_short : (r : Option ℕ) → is_none r ≡ true → option_map (λ (p : ℕ). Short p) r ≡ None
@@ -60,16 +39,11 @@ no_short r e = grind arith
 
 pub whole_faultless : (plan : Plan) (counters : Counters) (at : ℕ) (order : List ℕ) → IsWhole plan counters order → order_fault plan counters at order ≡ None
 whole_faultless plan counters at [] w = no_short (unfinished plan counters) w.complete
-whole_faultless plan counters at (p ∷ order) w =
-    let parts = and_parts (may_step plan counters p) (is_lawful plan (counted counters p) order) w.lawful in
-    ap (λ (f : Option StepFault). fault_or at f (order_fault plan (counted counters p) (at + 1) order)) (none_of (refusal plan counters p) parts.0)
-    ∙ whole_faultless plan (counted counters p) (at + 1) order (record { lawful = parts.1; complete = w.complete })
+whole_faultless plan counters at (p ∷ order) w = grind (arith, whole_faultless plan (counted counters p) (at + 1) order)
 
 -- after a whole order everybody is done
 pub whole_ends : (plan : Plan) (g : Progress) (order : List ℕ) → IsWhole plan g.counters order → unfinished plan (progress_after plan g order).counters ≡ None
-whole_ends plan g order w =
-    ap (λ (cs : Counters). unfinished plan cs) (counters_lawful plan g order w.lawful)
-    ∙ none_of (unfinished plan (counters_after g.counters order)) w.complete
+whole_ends plan g order w = grind (arith, nat_tests, counters_lawful, none_of)
 
 not_under_way : (plan : Plan) (counters : Counters) (p : ℕ) (r : Option Step) → step_next plan counters p ≡ r → unfinished plan counters ≡ None
     → p < callers plan → r ≡ None
@@ -79,11 +53,7 @@ not_under_way plan counters p (Some s) e none below =
     ∙ ap (λ (r : Option ℕ). is_none r) none))
 
 pub done_by_all : (plan : Plan) (counters : Counters) (p : ℕ) → unfinished plan counters ≡ None → step_next plan counters p ≡ None
-done_by_all plan counters p e =
-    elim (cases_lt p (callers plan)) [
-      | inl below ↦ not_under_way plan counters p (step_next plan counters p) refl e below
-      | inr past ↦ no_step plan counters p past
-    ]
+done_by_all plan counters p e = grind (arith, nat_tests, cases_lt, not_under_way, no_step)
 
 -- each step counts one caller on
 pub length-progress_step : (plan : Plan) (g : Progress) (p : ℕ) → length (progress_step plan g p).counters ≡ length g.counters
@@ -93,6 +63,4 @@ fits_in : (n most : ℕ) → n ≤ most → nat_lt most n ≡ false
 fits_in n most h = grind (arith, nat_tests)
 
 pub whole_is_played : WholeIsPlayed
-whole_is_played plan order short whole =
-    ap (λ (b : Bool). cond b (Some TooLong) (order_fault plan (counters_at_start plan) 0 order)) (fits_in (length order) most_places short)
-    ∙ whole_faultless plan (counters_at_start plan) 0 order whole
+whole_is_played plan order short whole = grind (arith, nat_tests, fits_in, whole_faultless)

@@ -1,12 +1,12 @@
 -- What a commit makes of the history, and of what the caller sees.
 use Rattle.std.proofs.Common.{◌≡◌, ℕ, true, List, [], ◌∷◌, ◌++◌, length, set, sym, ap, subst, ◌∙◌, refl, arith}
-use Rattle.std.proofs.lemmas.{Bool.eqb-true, Bool.eq-eqb, List.get_or-set_same, List.map-append}
+use Rattle.std.proofs.lemmas.{Bool.eqb-true, Bool.eq-eqb, List.get_or-set_same, List.map-append, Bool.Decides.nat_tests}
 use Rattle.std.proofs.Math.ListN.{length-set}
 use Rattle.std.specs.Prelude.{◌==◌, Option, Some, None}
 use Rattle.eevdf_queue.specs.State.{State, empty_state}
 use Rattle.eevdf_ops.specs.{declared.deeds.Op.Op, declared.deeds.Deed.Deed, declared.deeds.Answer.Answer, declared.deeds.Line.Line}
-use Rattle.eevdf_ops.specs.{Machine.Machine, Machine.queue_at, OneQueue.one_wake, Programs.deed_of, Programs.deeds_of}
-use Rattle.eevdf_ops.specs.Histories.{AreHistory, machine_told}
+use Rattle.eevdf_ops.specs.{Machine.Machine, Machine.queue_at, OneQueue.one_wake, Programs.deed_of, Histories.AreHistory}
+use Rattle.eevdf_ops.specs.Histories.{machine_told}
 use Rattle.eevdf_ops.specs.declared.deeds.Deed.TheVariants as deed
 use Rattle.eevdf_ops.specs.Whole.{lines_of, machine_after, whole}
 use Rattle.eevdf_ops.proofs.{LocalParts.others_stay, MachinePlaces.other_queue, WholePlaces.length-whole}
@@ -34,16 +34,11 @@ length-machine_after homes m (d ∷ ds) = length-machine_after homes (whole home
 -- a line is added, whose answer is that of the whole deed
 pub machine_more : (homes : List ℕ) (start : Machine) (lines : List Line) (l : Line)
     → machine_told homes start (lines ++ l ∷ []) ≡ (whole homes l.deed (machine_told homes start lines)).1
-machine_more homes start lines l =
-    ap (λ (ds : List Deed). machine_after homes start ds) (map-append (λ (k : Line). k.deed) lines (l ∷ [])) ∙ machine_after-more homes start (deeds_of lines) l.deed
+machine_more homes start lines l = grind (arith, nat_tests, map-append, machine_after-more)
 
 pub history_more : (homes : List ℕ) (start : Machine) (lines : List Line) (d : Deed) (a : Answer) → AreHistory homes start lines
     → a ≡ (whole homes d (machine_told homes start lines)).0 → AreHistory homes start (lines ++ record { deed = d; answer = a } ∷ [])
-history_more homes start lines d a is e =
-    ap (λ (ls : List Line). ls ++ record { deed = d; answer = a } ∷ []) is
-    ∙ ap (λ (x : Answer). lines_of homes start (deeds_of lines) ++ record { deed = d; answer = x } ∷ []) e
-    ∙ sym (lines_of-more homes start (deeds_of lines) d)
-    ∙ ap (λ (ds : List Deed). lines_of homes start ds) (sym (map-append (λ (k : Line). k.deed) lines (record { deed = d; answer = a } ∷ [])))
+history_more homes start lines d a is e = grind (arith, nat_tests, lines_of-more, map-append)
 
 module _ {plan : Plan} {counters : Counters} {p : ℕ} {m : Machine} {w : Work} {o : Op} (d : Deed) (at : AtStep plan counters p m w o Commit) (is : deed_of p o ≡ Some d) where
   done_now : begun_by plan counters p ≡ Some (record { deed = d; done = true })

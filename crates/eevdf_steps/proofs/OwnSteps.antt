@@ -1,5 +1,5 @@
 -- What a step of a caller makes of the queues that it holds, of its hand and of its answer.
-use Rattle.std.proofs.Common.{◌≡◌, ◌≢◌, inl, inr, ℕ, ◌<◌, Bool, true, false, cond, List, length, sym, ap, subst, ◌∙◌, refl}
+use Rattle.std.proofs.Common.{◌≡◌, ◌≢◌, inl, inr, ℕ, ◌<◌, Bool, true, false, cond, List, length, sym, ap, subst, ◌∙◌, refl, arith}
 use Rattle.std.proofs.lemmas.Bool.{false≢true, cases_Bool, cases_eq, ne_eqb}
 use Rattle.std.specs.Prelude.{◌==◌, Option, Some, None}
 use Rattle.eevdf_ops.specs.{declared.deeds.Op.Op, declared.deeds.Answer.Answer, Machine.Machine, Machine.queue_at}
@@ -11,6 +11,7 @@ use Rattle.eevdf_steps.specs.UnderWay.{KeepsAnswer, UnderWay, hand_seen, queue_s
 use Rattle.eevdf_steps.specs.Serial.{IsFree, FollowsHistory, begun_by}
 use Rattle.eevdf_steps.proofs.{Holders.holds_own, Positions.step_in, OtherCallers.IsStepOf}
 use Rattle.eevdf_steps.proofs.Walks.{FitsMicro, Walk, is_fresh, is_fresh_micro}
+use Rattle.std.proofs.lemmas.Bool.Decides.{nat_tests}
 
 -- a caller before its next step, on the machine of the history
 pub record AtStep (plan : Plan) (counters : Counters) (p : ℕ) (m : Machine) (w : Work) (o : Op) (micro : Micro) : Type 0 where
@@ -78,19 +79,7 @@ module _ {plan : Plan} {counters : Counters} {p : ℕ} {m : Machine} {w : Work} 
       → ((c : ℕ) → holds plan counters c p ≡ true → queue_at w'.machine c ≡ queue_seen plan.homes m' u c)
       → ((q : ℕ) → q ≢ p → hand w' q ≡ hand w q) → ((q : ℕ) → q ≢ p → answer w' q ≡ answer w q)
       → hand w' p ≡ hand_seen plan.homes m' u → KeepsAnswer plan.homes m' u (answer w' p) → IsStepOf plan counters p m m' w w'
-  local_step m' w' u keep now long past stay own hands answers own_hand own_answer = record {
-    long = at.long;
-    still_long = long;
-    stay = stay;
-    past = past;
-    hands = hands;
-    answers = answers;
-    own = λ c h. own c (sym (same_locks keep c) ∙ h) ∙ ap (λ (v : Option UnderWay). queue_seen plan.homes m' v c) (sym now);
-    own_hand = own_hand ∙ ap (λ (v : Option UnderWay). hand_seen plan.homes m' v) (sym now);
-    own_answer = subst (λ (v : Option UnderWay). KeepsAnswer plan.homes m' v (answer w' p)) (sym now) own_answer;
-    released = λ c h k. absurd (false≢true (sym k ∙ same_locks keep c ∙ h));
-    acquired = λ c h k. absurd (false≢true (sym h ∙ sym (same_locks keep c) ∙ k));
-  }
+  local_step m' w' u keep now long past stay own hands answers own_hand own_answer = grind (arith, nat_tests, same_locks, false≢true)
 
   -- nothing is done on the queues, and nothing is under way before or after
   fresh_step : is_fresh_micro micro ≡ true → begun_by plan (counted counters p) p ≡ None

@@ -1,7 +1,6 @@
 -- What the caller's work on the queues comes to, seen from the machine of the history.
-use Rattle.std.proofs.Common.{◌≡◌, ◌≢◌, ℕ, ◌<◌, Bool, true, false, cond, List, length, set, sym, ap, subst, ◌∙◌, refl, arith}
-use Rattle.std.proofs.lemmas.Bool.{eqb-true, ne_eqb, eq-eqb}
-use Rattle.std.proofs.lemmas.List.{get_or-set_same, get_or-set_other}
+use Rattle.std.proofs.Common.{◌≡◌, ◌≢◌, ℕ, ◌<◌, true, false, List, length, set, sym, ap, subst, ◌∙◌, refl, arith}
+use Rattle.std.proofs.lemmas.{Bool.eqb-true, Bool.eq-eqb, List.get_or-set_same, List.get_or-set_other, Bool.Decides.nat_tests}
 use Rattle.std.specs.Prelude.{◌==◌, IfSome, Option, Some, None, Result, Ok, Err}
 use Rattle.eevdf_queue.specs.State.{State, Contents, empty_state}
 use Rattle.eevdf_queue.specs.{Moves.put_asleep, Moves.sleeper_of, Leaving.carried_running, Leaving.leave, Placing.can_place}
@@ -18,11 +17,10 @@ use Rattle.eevdf_ops.proofs.{MachinePlaces.other_queue, Pulling.decided_at, Pull
 use Rattle.eevdf_steps.specs.declared.micro.Micro.TheVariants.{Act, Detach, Attach}
 use Rattle.eevdf_steps.specs.Plan.{Plan, callers, home}
 use Rattle.eevdf_steps.specs.Counters.{Counters, counted, holds}
-use Rattle.eevdf_steps.specs.{Serial.begun_by, declared.plan.Step.Step}
+use Rattle.eevdf_steps.specs.{Serial.begun_by, UnderWay.leaves}
 use Rattle.eevdf_steps.specs.Work.{Work, acted, answer, answered, attach_asleep, attach_pulled, detach_pulled, detach_running, detached, hand, put_down}
-use Rattle.eevdf_steps.specs.UnderWay.{KeepsAnswer, UnderWay, hand_seen, leaves, queue_seen, begun, under_way}
 use Rattle.eevdf_steps.proofs.OtherCallers.{IsStepOf}
-use Rattle.eevdf_steps.proofs.OwnSteps.{AtStep, begun_now, local_step, sees_history, hand_empty, other_held}
+use Rattle.eevdf_steps.proofs.OwnSteps.{AtStep, local_step, sees_history, hand_empty, other_held}
 
 -- the deed is done on the caller's own queue alone
 abbrev pub ActsThere : List ℕ → Machine → ℕ → Deed → (State → Answer × State) → Type 0
@@ -110,13 +108,8 @@ pub record AtAttach (plan : Plan) (counters : Counters) (p : ℕ) (m : Machine) 
 -- a task that a pull takes has room at the CPU that pulls
 room_by : (m : Machine) (p s : ℕ) (x : Contents) (r : Result Contents Answer) → decided_at m p s ≡ r → taken (pull_decided m p s r).0 (offer (queue_at m s)) ≡ Some x
     → can_place (queue_at m p) (sleeper_of x) ≡ true
-room_by m p s x (Err why) e t =
-    let none : taken why (offer (queue_at m s)) ≡ None = untaken (queue_at m p) (load_of (queue_at m s)) (offer (queue_at m s)) (offer (queue_at m s)) why e in
-    cc
-room_by m p s x (Ok y) e t =
-    let offered : offer (queue_at m s) ≡ Some y = (decision-taken (queue_at m p) (load_of (queue_at m s)) (offer (queue_at m s)) y e).offered_it in
-    let is : y ≡ x = cc in
-    ap (λ (z : Contents). can_place (queue_at m p) (sleeper_of z)) (sym is) ∙ (decision-taken (queue_at m p) (load_of (queue_at m s)) (offer (queue_at m s)) y e).room
+room_by m p s x (Err why) e t = grind arith
+room_by m p s x (Ok y) e t = grind arith
 
 -- the whole deed at a queue that the caller holds: the task that left is put down
 abbrev pub PutsDown : Plan → Counters → ℕ → Machine → Work → Deed → ℕ → (Option Contents → State → State) → Type 0
@@ -125,15 +118,7 @@ PutsDown plan counters p m w d k put =
 
 module _ {plan : Plan} {counters : Counters} {p : ℕ} {m : Machine} {w : Work} where
   pub at_attach : {o : Op} (d : Deed) → AtStep plan counters p m w o Attach → deed_of p o ≡ Some d → AtAttach plan counters p m w o d
-  at_attach d at is =
-      let before : begun_by plan counters p ≡ Some (record { deed = d; done = false }) = begun_now at ∙ ap (begun false) is in
-      record {
-        at = at;
-        now = ap (λ (s : Option Step). under_way p s) at.fits.follows ∙ ap (begun true) is;
-        hand_is = at.seen.hands p ∙ ap (λ (u : Option UnderWay). hand_seen plan.homes m u) before;
-        answer_is = subst (λ (u : Option UnderWay). KeepsAnswer plan.homes m u (answer w p)) before (at.seen.answers p);
-        queues_are = λ c h. at.seen.held c p h ∙ ap (λ (u : Option UnderWay). queue_seen plan.homes m u c) before;
-      }
+  at_attach d at is = grind arith
 
   -- the hand is empty
   empty_step : {o : Op} (d : Deed) → AtAttach plan counters p m w o d → leaves plan.homes m d ≡ None
@@ -194,7 +179,4 @@ module _ {plan : Plan} {counters : Counters} {p : ℕ} {m : Machine} {w : Work} 
   pub room_then : (s : ℕ) (h : Option Contents) → AtAttach plan counters p m w (op.Pull s) (deed.Pull p s) → holds plan counters p p ≡ true → s ≢ p
       → leaves plan.homes m (deed.Pull p s) ≡ h → IfSome h (λ (x : Contents). can_place (queue_at w.machine p) (sleeper_of x) ≡ true)
   room_then s None a own apart e = tt
-  room_then s (Some x) a own apart e =
-      let here : queue_at w.machine p ≡ queue_at m p =
-      a.queues_are p own ∙ ap (λ (b : Bool). cond b (after_leaving (leaves plan.homes m (deed.Pull p s)) (queue_at m p)) (queue_at m p)) (ne_eqb p s (λ k. apart (sym k))) in
-      ap (λ (q : State). can_place q (sleeper_of x)) here ∙ room_by m p s x (decided_at m p s) refl e
+  room_then s (Some x) a own apart e = grind (arith, nat_tests)

@@ -1,6 +1,6 @@
 -- What a sound plan says of an operation.
 use Rattle.std.proofs.Common.{◌≡◌, ℕ, zero, suc, ◌<◌, ◌≤◌, true, List, [], ◌∷◌, length, get_or, sym, subst, arith, refl}
-use Rattle.std.proofs.lemmas.{Option.slice_get_within, Bool.and_parts, Bool.leb-true}
+use Rattle.std.proofs.lemmas.{Option.slice_get_within, Bool.and_parts, Bool.leb-true, Grind.common_steps}
 use Rattle.std.specs.List.{list_all}
 use Rattle.std.specs.Prelude.{slice_get, nat_le, Some, None}
 use Rattle.eevdf_ops.specs.declared.deeds.Op.{Op}
@@ -15,8 +15,7 @@ program_sound plan (x ∷ programs) (suc p) all = program_sound plan programs p 
 
 some_sound : (plan : Plan) (ops : List Op) (k : ℕ) (o : Op) → list_all (is_sound_op plan) ops ≡ true → slice_get ops k ≡ Some o → is_sound_op plan o ≡ true
 some_sound plan [] k o all here = cc
-some_sound plan (x ∷ ops) zero o all here =
-    let same : x ≡ o = cc in subst (λ (y : Op). is_sound_op plan y ≡ true) same (and_parts (is_sound_op plan x) (list_all (is_sound_op plan) ops) all).0
+some_sound plan (x ∷ ops) zero o all here = grind arith
 some_sound plan (x ∷ ops) (suc k) o all here = some_sound plan ops k o (and_parts (is_sound_op plan x) (list_all (is_sound_op plan) ops) all).1 here
 
 parts : (plan : Plan) (p : ℕ) → IsSound plan → (nat_le (length (program plan p)) 10000 ≡ true) × (list_all (is_sound_op plan) (program plan p) ≡ true)
@@ -26,10 +25,7 @@ pub op_sound : (plan : Plan) (p k : ℕ) (o : Op) → IsSound plan → slice_get
 op_sound plan p k o s here = some_sound plan (program plan p) k o (parts plan p s).1 here
 
 pub op_within : (plan : Plan) (p k : ℕ) (o : Op) → IsSound plan → slice_get (program plan p) k ≡ Some o → k < 10000
-op_within plan p k o s here =
-    let within : k < length (program plan p) = slice_get_within (program plan p) k o here in
-    let short : length (program plan p) ≤ 10000 = leb-true (length (program plan p)) 10000 (parts plan p s).0 in
-    omega arith
+op_within plan p k o s here = grind (arith, common_steps, slice_get_within, leb-true, parts)
 
 pub program_ops_sound : (plan : Plan) (p : ℕ) → IsSound plan → list_all (is_sound_op plan) (program plan p) ≡ true
 program_ops_sound plan p s = (parts plan p s).1

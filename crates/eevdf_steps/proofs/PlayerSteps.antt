@@ -1,9 +1,9 @@
 -- A player one step later.
 use Rattle.std.proofs.Common.{◌≡◌, ℕ, ◌+◌, ◌<◌, ◌≤◌, true, List, ◌++◌, length, get_or, set, sym, ap, ◌∙◌, arith, refl}
 use Rattle.std.proofs.Math.ListN.{length-set, length-append}
-use Rattle.std.proofs.lemmas.{List.map-append, Bool.and_parts}
+use Rattle.std.proofs.lemmas.{Bool.and_parts, Bool.Decides.nat_tests, Grind.common_steps}
 use Rattle.std.specs.Prelude.{nat_lt, Option, Some, None}
-use Rattle.eevdf_ops.specs.{declared.deeds.Op.Op, declared.deeds.Deed.Deed, declared.deeds.Line.Line, Programs.deeds_of}
+use Rattle.eevdf_ops.specs.{declared.deeds.Op.Op, Programs.deeds_of}
 use Rattle.eevdf_ops.specs.declared.deeds.Op.TheVariants as op
 use Rattle.eevdf_steps.specs.{declared.plan.Step.Step, Commits.committed, Commits.committed_by, Callers.Callers}
 use Rattle.eevdf_steps.specs.{SoundSteps.is_sound_micro, Requests.Progress, Room.lines_to_come, Work.hand, Work.pulls_from}
@@ -78,14 +78,7 @@ module _ {w : Callers} {lists : List PostList} {found : List (Option ℕ)} {done
   counted_it = omega (arith, st.caller, st.each)
 
   pub is_working : (h : ℕ) → h < callers w.plan → IsWorking done.work p h
-  is_working h home = record {
-    queue = omega (arith, st.caller, st.playing.work.queues);
-    home = omega (arith, home, st.playing.work.queues);
-    holds = omega (arith, st.caller, st.playing.work.hands);
-    keeps = omega (arith, st.caller, st.playing.work.answers);
-    nowhere = hand_nowhere w.plan done.work p p (hand done.work p) st.playing.work st.caller refl;
-    at_home = hand_nowhere w.plan done.work p h (hand done.work p) st.playing.work home refl;
-  }
+  is_working h home = grind (arith, nat_tests, hand_nowhere)
 
   pub pulls : pulls_from (length done.work.machine) s.op ≡ true
   pulls = pulls_by w.plan (length done.work.machine) s.op st.playing.work.queues st.sound_op
@@ -119,11 +112,7 @@ module _ {w : Callers} {lists : List PostList} {found : List (Option ℕ)} {done
   -- the deeds done after the step
   commits_then : (a : Player) → player_of w lists found done ≡ a
       → deeds_of (done_then w found done p s).journal.lines ≡ deeds_of a.state.lines ++ committed_by a.state.progress p (step_next a.plan a.state.progress.counters p)
-  commits_then a same =
-      map-append (λ (l : Line). l.deed) done.journal.lines (appends done.work p s.op s.micro (get_or found p None))
-      ∙ ap (λ (ds : List Deed). deeds_of done.journal.lines ++ ds) (step_of (get_or found p None)).commits
-      ∙ ap (λ (o : Option Step). deeds_of done.journal.lines ++ committed_by (player_of w lists found done).state.progress p o) (sym st.step)
-      ∙ ap (λ (b : Player). deeds_of b.state.lines ++ committed_by b.state.progress p (step_next b.plan b.state.progress.counters p)) same
+  commits_then a same = grind (arith, common_steps)
 
   playing_then : home_for w.plan p s.op < callers w.plan → IsPlaying (callers_then w p) (lists_then w lists p s) (found_then w lists found p s) (done_then w found done p s)
   playing_then home = record {

@@ -1,14 +1,14 @@
 -- Positions in a program, and the counters that they come to.
 use Rattle.std.proofs.Common.{◌≡◌, ℕ, zero, suc, ◌+◌, ◌*◌, ◌<◌, ◌≤◌, Bool, true, cond, List, [], ◌∷◌, ◌++◌, length, map, take, sym, ap, subst, ◌∙◌, arith, refl}
 use Rattle.std.proofs.Math.ListN.{length-append}
-use Rattle.std.proofs.lemmas.{List.length-map, Bool.Decides.nat_tests, Bool.lt-ltb, Bool.ltb-true}
+use Rattle.std.proofs.lemmas.{List.length-map, Bool.Decides.nat_tests, Bool.lt-ltb, Grind.common_steps}
 use Rattle.std.proofs.lemmas.Option.{none-some, slice_get-map, slice_get_within}
 use Rattle.std.specs.Option.{option_map}
 use Rattle.std.specs.Prelude.{slice_get, Option, Some, None}
 use Rattle.eevdf_ops.specs.{declared.deeds.Op.Op, Numbers.most_cpus}
 use Rattle.eevdf_ops.specs.declared.deeds.Op.TheVariants as op
-use Rattle.eevdf_steps.specs.{declared.micro.Micro.Micro, declared.micro.Micro.TheVariants.Release, declared.plan.Step.Step}
-use Rattle.eevdf_steps.specs.{declared.plan.Position.Position, Positions.IsPosition, Positions.is_within}
+use Rattle.eevdf_steps.specs.{declared.micro.Micro.Micro, declared.plan.Step.Step, declared.plan.Position.Position}
+use Rattle.eevdf_steps.specs.Positions.{IsPosition, is_within}
 use Rattle.eevdf_steps.specs.Plan.{Plan, callers, program}
 use Rattle.eevdf_steps.specs.MicroSteps.{draining, micros_of, moving, steps_of, under_lock, under_locks}
 use Rattle.eevdf_steps.proofs.Lists.{get_left, get_right, got_past}
@@ -40,22 +40,14 @@ pub located_past : (plan : Plan) (p : ℕ) (ops : List Op) (k j : ℕ) → slice
     → slice_get (steps_of plan p ops) (length (steps_of plan p (take k ops)) + j) ≡ None
 located_past plan p [] k j past z = refl
 located_past plan p (x ∷ ops) zero j past z = cc
-located_past plan p (x ∷ ops) (suc k) j past z =
-    ap (λ (i : ℕ). slice_get (steps_of plan p (x ∷ ops)) i) (let e : length (micros_in plan p x ++ steps_of plan p (take k ops)) + j ≡ length (micros_in plan p x) + (length (steps_of plan p (take k ops)) + j)
-    = omega (arith, length-append (micros_in plan p x) (steps_of plan p (take k ops))) in e)
-    ∙ get_right (micros_in plan p x) (steps_of plan p ops) (length (steps_of plan p (take k ops)) + j)
-    ∙ located_past plan p ops k j past z
+located_past plan p (x ∷ ops) (suc k) j past z = grind (arith, nat_tests, located_past plan p ops k j, length-append, get_right)
 
 -- where the next operation begins
 pub begins_after : (plan : Plan) (p : ℕ) (ops : List Op) (k : ℕ) (o : Op) → slice_get ops k ≡ Some o
     → length (steps_of plan p (take (suc k) ops)) ≡ length (steps_of plan p (take k ops)) + length (micros_of plan p o)
 begins_after plan p [] k o here = cc
-begins_after plan p (x ∷ ops) zero o here =
-    let same : x ≡ o = cc in
-    subst (λ (y : Op). length (micros_in plan p y ++ []) ≡ 0 + length (micros_of plan p o)) (sym same)
-    (let none : List Step = [] in omega (arith, length-append (micros_in plan p o) none, length-map (micros_of plan p o) (step_in o)))
-begins_after plan p (x ∷ ops) (suc k) o here =
-    omega (arith, length-append (micros_in plan p x) (steps_of plan p (take (suc k) ops)), length-append (micros_in plan p x) (steps_of plan p (take k ops)), begins_after plan p ops k o here)
+begins_after plan p (x ∷ ops) zero o here = grind (arith, common_steps)
+begins_after plan p (x ∷ ops) (suc k) o here = grind (arith, common_steps, begins_after plan p ops k o)
 
 length-draining : (n s : ℕ) → length (draining n s) ≡ 2 * n
 length-draining zero s = refl
@@ -66,26 +58,18 @@ few_sleeping : (p h : ℕ) (b : Bool) → (0 < length (cond b (under_lock p movi
 few_sleeping p h b = grind arith
 
 few_draining : (n p : ℕ) → n ≤ most_cpus → (0 < length (under_lock p (draining n 0))) × (length (under_lock p (draining n 0)) ≤ 2 * most_cpus + 2)
-few_draining n p few =
-    let long : length (draining n 0 ++ Release p ∷ []) ≡ 2 * n + 1 = omega (arith, length-append (draining n 0) (Release p ∷ []), length-draining n 0) in
-    (omega arith, omega arith)
+few_draining n p few = grind (arith, nat_tests, length-append, length-draining)
 
 pub few_micros : (plan : Plan) (p : ℕ) (o : Op) → callers plan ≤ most_cpus → (0 < length (micros_of plan p o)) × (length (micros_of plan p o) ≤ 2 * most_cpus + 2)
 few_micros plan p o few = grind (arith, nat_tests, few_sleeping, few_draining)
 
 pub counter_of_next : (plan : Plan) (p k j : ℕ) (o : Op) → slice_get (program plan p) k ≡ Some o → j + 1 ≡ length (micros_of plan p o)
     → length (steps_of plan p (take (k + 1) (program plan p))) ≡ length (steps_of plan p (take k (program plan p))) + j + 1
-counter_of_next plan p k j o here last =
-    let e : k + 1 ≡ suc k = omega arith in
-    let at : length (steps_of plan p (take (k + 1) (program plan p))) ≡ length (steps_of plan p (take k (program plan p))) + length (micros_of plan p o)
-    = ap (λ (i : ℕ). length (steps_of plan p (take i (program plan p)))) e ∙ begins_after plan p (program plan p) k o here in
-    omega arith
+counter_of_next plan p k j o here last = grind (arith, nat_tests, begins_after)
 
 within_some : (plan : Plan) (p j : ℕ) (q : Option Op) (o : Op) → q ≡ Some o → is_within plan p j q ≡ true → j < length (micros_of plan p o)
 within_some plan p j None o e h = cc
-within_some plan p j (Some x) o e h =
-    let same : x ≡ o = cc in
-    subst (λ (y : Op). j < length (micros_of plan p y)) same (ltb-true j (length (micros_of plan p x)) h)
+within_some plan p j (Some x) o e h = grind arith
 
 within_none : (plan : Plan) (p j : ℕ) (q : Option Op) → q ≡ None → is_within plan p j q ≡ true → j ≡ 0
 within_none plan p j q e h = grind arith
@@ -105,9 +89,7 @@ op_of o r s e = grind arith
 
 stands_by : (plan : Plan) (p : ℕ) (at : Position) (s : Step) (q : Option Op) → slice_get (program plan p) at.operation ≡ q → IsPosition plan p at → at.next ≡ Some s
     → StandsIn plan p at s
-stands_by plan p at s None past is e =
-    absurd (none-some s (sym (located_past plan p (program plan p) at.operation at.steps past
-    (within_none plan p at.steps (slice_get (program plan p) at.operation) past is.within)) ∙ sym is.next ∙ e))
+stands_by plan p at s None past is e = grind (arith, nat_tests, none-some, located_past, within_none)
 stands_by plan p at s (Some o) here is e =
     let h : at.steps < length (micros_of plan p o) = within_some plan p at.steps (slice_get (program plan p) at.operation) o here is.within in
     let same : o ≡ s.op = op_of o (slice_get (micros_of plan p o) at.steps) s (sym (located plan p (program plan p) at.operation at.steps o here h) ∙ sym is.next ∙ e) in

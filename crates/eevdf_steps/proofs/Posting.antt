@@ -1,5 +1,5 @@
 -- The lists of requests stay those that the steps have posted.
-use Rattle.std.proofs.Common.{append_assoc, ◌≡◌, ◌≢◌, ℕ, zero, suc, ◌+◌, ◌*◌, ◌<◌, ◌≤◌, Bool, true, cond, List, [], ◌∷◌, ◌++◌, length, take, set, inl, inr, sym, ap, subst, ◌∙◌, arith, refl}
+use Rattle.std.proofs.Common.{◌≡◌, ◌≢◌, ℕ, zero, suc, ◌+◌, ◌*◌, ◌<◌, ◌≤◌, Bool, true, cond, List, [], ◌∷◌, ◌++◌, length, take, set, inl, inr, sym, ap, subst, ◌∙◌, arith, refl}
 use Rattle.std.proofs.Math.ListN.{length-set, length-append}
 use Rattle.std.proofs.lemmas.{List.get_or-set_same, List.get_or-set_other, Nat.mul-add-lt, Nat.same_from_place}
 use Rattle.std.proofs.lemmas.{Bool.Decides.nat_tests, Grind.common_steps}
@@ -15,8 +15,7 @@ use Rattle.std.proofs.lemmas.Bool.{lt-ltb, ltb-true, cases_eq, ne_eqb, eq-eqb}
 
 pub posts_joined : (plan : Plan) (c : ℕ) (xs ys : List Step) → posts_to plan c (xs ++ ys) ≡ posts_to plan c xs ++ posts_to plan c ys
 posts_joined plan c [] ys = refl
-posts_joined plan c (x ∷ xs) ys =
-    ap (λ (l : List ℕ). post_to plan c x.micro ++ l) (posts_joined plan c xs ys) ∙ sym (append_assoc (post_to plan c x.micro) (posts_to plan c xs) (posts_to plan c ys))
+posts_joined plan c (x ∷ xs) ys = grind (arith, posts_joined plan c xs ys)
 
 append_nothing : (l : List ℕ) → l ++ [] ≡ l
 append_nothing [] = refl
@@ -33,8 +32,7 @@ posted_own plan counters p c s h e =
     ∙ ap (λ (l : List ℕ). posted plan counters p c ++ l) (append_nothing (post_to plan c s.micro))
 
 pub posted_other : (plan : Plan) (counters : Counters) (p q c : ℕ) → q ≢ p → posted plan (counted counters p) q c ≡ posted plan counters q c
-posted_other plan counters p q c apart =
-    ap (λ (k : ℕ). posts_to plan c (take k (steps_by plan q))) (get_or-set_other counters p q (count_of counters p + 1) 0 apart)
+posted_other plan counters p q c apart = grind (arith, common_steps)
 
 -- a step that posts nothing to a home
 pub quiet : (plan : Plan) (counters : Counters) (p q c : ℕ) (s : Step) → p < length counters → step_next plan counters p ≡ Some s → post_to plan c s.micro ≡ []
@@ -90,9 +88,7 @@ post_elsewhere plan t c apart = ap (λ (b : Bool). cond b (t ∷ []) []) (ne_eqb
 posts_within : (plan : Plan) (c k : ℕ) (ss : List Step) → length (posts_to plan c (take k ss)) ≤ length (posts_to plan c ss)
 posts_within plan c zero ss = omega arith
 posts_within plan c (suc k) [] = omega arith
-posts_within plan c (suc k) (s ∷ ss) =
-    let rest : length (posts_to plan c (take k ss)) ≤ length (posts_to plan c ss) = posts_within plan c k ss in
-    omega (arith, length-append (post_to plan c s.micro) (posts_to plan c (take k ss)), length-append (post_to plan c s.micro) (posts_to plan c ss))
+posts_within plan c (suc k) (s ∷ ss) = grind (arith, posts_within plan c k ss)
 
 -- a caller that posts a task to its home
 record Posts (plan : Plan) (counters : Counters) (p t : ℕ) : Type 0 where
@@ -103,16 +99,7 @@ record Posts (plan : Plan) (counters : Counters) (p t : ℕ) : Type 0 where
 
 posts_room : (plan : Plan) (counters : Counters) (lists : List PostList) (p t : ℕ) → ArePosted plan counters lists → Posts plan counters p t
     → length (list_at lists (pair plan p (home plan t))).posted < (list_at lists (pair plan p (home plan t))).room
-posts_room plan counters lists p t a ps =
-    let here : length (list_at lists (pair plan p (home plan t))).posted ≡ length (posted plan counters p (home plan t))
-    = ap (λ (l : List ℕ). length l) (a.posted p (home plan t) ps.caller ps.at_home) in
-    let more : length (posted plan (counted counters p) p (home plan t)) ≡ length (posted plan counters p (home plan t)) + 1
-    = ap (λ (l : List ℕ). length l) (ps.adds (home plan t)) ∙ length-append (posted plan counters p (home plan t)) (post_to plan (home plan t) (Post t))
-    ∙ ap (λ (l : List ℕ). length (posted plan counters p (home plan t)) + length l) (post_here plan t) in
-    let within : length (posted plan (counted counters p) p (home plan t)) ≤ length (posts_to plan (home plan t) (steps_by plan p))
-    = posts_within plan (home plan t) (count_of (counted counters p) p) (steps_by plan p) in
-    let room : length (posts_to plan (home plan t) (steps_by plan p)) ≤ (list_at lists (pair plan p (home plan t))).room = a.room p (home plan t) ps.caller ps.at_home in
-    omega arith
+posts_room plan counters lists p t a ps = grind (arith, common_steps, length-append, post_here, posts_within)
 
 posts_kept : (plan : Plan) (counters : Counters) (lists : List PostList) (p t : ℕ) → ArePosted plan counters lists → Posts plan counters p t
     → ArePosted plan (counted counters p) (posts_after (pair plan p (home plan t)) (Post t) lists)

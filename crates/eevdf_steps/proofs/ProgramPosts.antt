@@ -1,13 +1,12 @@
 -- What a caller has posted when it is done is what its program posts.
-use Rattle.std.proofs.Common.{◌≡◌, ℕ, zero, suc, ◌+◌, Bool, cond, List, [], ◌∷◌, ◌++◌, map, ap, ◌∙◌, refl, arith}
+use Rattle.std.proofs.Common.{◌≡◌, ℕ, zero, suc, ◌+◌, Bool, cond, List, [], ◌∷◌, ◌++◌, map, refl, arith}
 use Rattle.std.proofs.lemmas.{List.take_all, Bool.Decides.nat_tests}
 use Rattle.std.specs.Prelude.{None}
 use Rattle.eevdf_ops.specs.{declared.deeds.Op.Op, Programs.post_of, Programs.posts_in}
 use Rattle.eevdf_ops.specs.declared.deeds.Op.TheVariants as op
-use Rattle.eevdf_steps.specs.{declared.micro.Micro.TheVariants.Release, declared.plan.Step.Step, Requests.posted, Requests.posts_to}
-use Rattle.eevdf_steps.specs.Plan.{Plan, program}
-use Rattle.eevdf_steps.specs.Counters.{Counters, count_of, step_next}
-use Rattle.eevdf_steps.specs.MicroSteps.{draining, moving, steps_by, steps_of, under_lock}
+use Rattle.eevdf_steps.specs.{declared.micro.Micro.TheVariants.Release, Requests.posted, Requests.posts_to, Plan.Plan, Plan.program}
+use Rattle.eevdf_steps.specs.Counters.{Counters, step_next}
+use Rattle.eevdf_steps.specs.MicroSteps.{draining, moving, steps_of, under_lock}
 use Rattle.eevdf_steps.proofs.{Lists.got_past, Positions.micros_in, Positions.step_in, Posting.posts_joined}
 
 sleep_posts : (plan : Plan) (p a b c t : ℕ) (here : Bool)
@@ -23,13 +22,8 @@ operation_posts plan p c o = grind (arith, nat_tests, sleep_posts, drain_posts)
 
 pub program_posts : (plan : Plan) (p c : ℕ) (ops : List Op) → posts_to plan c (steps_of plan p ops) ≡ posts_in plan.homes c ops
 program_posts plan p c [] = refl
-program_posts plan p c (o ∷ ops) =
-    posts_joined plan c (micros_in plan p o) (steps_of plan p ops)
-    ∙ ap (λ (l : List ℕ). l ++ posts_to plan c (steps_of plan p ops)) (operation_posts plan p c o)
-    ∙ ap (λ (l : List ℕ). post_of plan.homes c o ++ l) (program_posts plan p c ops)
+program_posts plan p c (o ∷ ops) = search (program_posts plan p c ops, posts_joined, micros_in, operation_posts)
 
 pub posted_when_done : (plan : Plan) (counters : Counters) (q c : ℕ) → step_next plan counters q ≡ None
     → posted plan counters q c ≡ posts_in plan.homes c (program plan q)
-posted_when_done plan counters q c done =
-    ap (λ (ss : List Step). posts_to plan c ss) (take_all (count_of counters q) (steps_by plan q) (got_past (steps_by plan q) (count_of counters q) done))
-    ∙ program_posts plan q c (program plan q)
+posted_when_done plan counters q c done = grind (arith, nat_tests, take_all, got_past, program_posts)

@@ -1,13 +1,12 @@
 -- The deeds that the steps of a program commit, whatever requests they find, are those of its operations.
-use Rattle.std.proofs.Common.{append_assoc, ◌≡◌, ◌≤◌, ℕ, zero, suc, ◌+◌, ◌==◌, Bool, cond, List, [], ◌∷◌, ◌++◌, map, min, max, sym, ap, subst, ◌∙◌, arith, refl}
+use Rattle.std.proofs.Common.{append_assoc, ◌≡◌, ◌≤◌, ℕ, zero, suc, ◌+◌, Bool, cond, List, [], ◌∷◌, ◌++◌, map, min, max, sym, ap, subst, ◌∙◌, arith, refl}
 use Rattle.std.specs.{Prelude.Option, Prelude.Some, Option.option_to_list}
 use Rattle.eevdf_ops.specs.{declared.deeds.Op.Op, declared.deeds.Deed.Deed}
 use Rattle.eevdf_ops.specs.declared.deeds.Op.TheVariants as op
 use Rattle.eevdf_ops.specs.declared.deeds.Deed.TheVariants as deed
 use Rattle.eevdf_ops.specs.Programs.{AreWakes, FitsOperation, FitsOperations, InTwo, deed_of}
 use Rattle.eevdf_steps.specs.{declared.micro.Micro.Micro, declared.micro.Micro.TheVariants.Release, declared.plan.Step.Step}
-use Rattle.eevdf_steps.specs.Commits.{committed, wake_of}
-use Rattle.eevdf_steps.specs.Plan.{Plan, callers, home}
+use Rattle.eevdf_steps.specs.{Commits.committed, Commits.wake_of, Plan.Plan}
 use Rattle.eevdf_steps.specs.MicroSteps.{acting, draining, micros_of, moving, steps_of, under_lock}
 use Rattle.eevdf_steps.proofs.Positions.{step_in}
 use Rattle.std.proofs.lemmas.Bool.Decides.{nat_tests}
@@ -43,23 +42,14 @@ steps_in o ms = map (step_in o) ms
 
 -- an operation on the caller's own queue, and one that moves a task
 acts : (p : ℕ) (o : Op) (d : Deed) (deeds : List Deed) → deed_of p o ≡ Some d → FitsSteps p deeds (steps_in o (under_lock p acting)) → deeds ≡ d ∷ []
-acts p o d deeds e h =
-    h.joined ∙ h.fits.joined ∙ h.fits.fits.joined ∙ ap (λ (r : Option Deed). option_to_list r ++ h.fits.fits.rest) e
-    ∙ ap (λ (l : List Deed). d ∷ l) (h.fits.fits.fits.joined ∙ h.fits.fits.fits.fits)
+acts p o d deeds e h = grind arith
 
 moves : (p a : ℕ) (o : Op) (d : Deed) (deeds : List Deed) → deed_of p o ≡ Some d → FitsSteps p deeds (steps_in o (under_lock a moving)) → deeds ≡ d ∷ []
-moves p a o d deeds e h =
-    h.joined ∙ h.fits.joined ∙ h.fits.fits.joined ∙ h.fits.fits.fits.joined
-    ∙ ap (λ (r : Option Deed). option_to_list r ++ h.fits.fits.fits.rest) e
-    ∙ ap (λ (l : List Deed). d ∷ l) (h.fits.fits.fits.fits.joined ∙ h.fits.fits.fits.fits.fits)
+moves p a o d deeds e h = grind arith
 
 moves_between : (p a b : ℕ) (o : Op) (d : Deed) (deeds : List Deed) → deed_of p o ≡ Some d → FitsSteps p deeds (steps_in o (under_lock a (under_lock b moving)))
     → deeds ≡ d ∷ []
-moves_between p a b o d deeds e h =
-    h.joined ∙ h.fits.joined ∙ h.fits.fits.joined ∙ h.fits.fits.fits.joined ∙ h.fits.fits.fits.fits.joined
-    ∙ ap (λ (r : Option Deed). option_to_list r ++ h.fits.fits.fits.fits.rest) e
-    ∙ ap (λ (l : List Deed). d ∷ l)
-    (h.fits.fits.fits.fits.fits.joined ∙ h.fits.fits.fits.fits.fits.fits.joined ∙ h.fits.fits.fits.fits.fits.fits.fits)
+moves_between p a b o d deeds e h = grind arith
 
 sleeps : (p a b : ℕ) (o : Op) (d : Deed) (deeds : List Deed) (here : Bool) → deed_of p o ≡ Some d
     → FitsSteps p deeds (steps_in o (cond here (under_lock p moving) (under_lock a (under_lock b moving)))) → deeds ≡ d ∷ []
@@ -68,8 +58,7 @@ sleeps p a b o d deeds here e h = grind arith
 -- wakes of senders from a number on are such from a lesser one on
 wakes_from_less : (p from more : ℕ) (deeds : List Deed) → from ≤ more → AreWakes p more deeds → AreWakes p from deeds
 wakes_from_less p from more [] h wakes = tt
-wakes_from_less p from more (deed.Wake cpu task sender ∷ deeds) h wakes =
-    let later : more ≤ sender = wakes.1 in (wakes.0, omega arith, wakes.2)
+wakes_from_less p from more (deed.Wake cpu task sender ∷ deeds) h wakes = grind arith
 wakes_from_less p from more (deed.Tick cpu ns ∷ deeds) h wakes = wakes
 wakes_from_less p from more (deed.Pick cpu ∷ deeds) h wakes = wakes
 wakes_from_less p from more (deed.Yield cpu ∷ deeds) h wakes = wakes
@@ -83,21 +72,17 @@ settles p s found rest wakes = grind (arith, nat_tests, wakes_from_less)
 
 drains : (p c n s : ℕ) (deeds : List Deed) → FitsSteps p deeds (steps_in op.Drain (draining n s ++ Release c ∷ [])) → AreWakes p s deeds
 drains p c zero s deeds h = subst (λ (ds : List Deed). AreWakes p s ds) (sym (h.joined ∙ h.fits)) tt
-drains p c (suc n) s deeds h =
-    subst (λ (ds : List Deed). AreWakes p s ds) (sym (h.joined ∙ h.fits.joined))
-    (settles p s h.fits.found h.fits.rest (drains p c n (s + 1) h.fits.rest h.fits.fits))
+drains p c (suc n) s deeds h = grind (arith, nat_tests, drains p c n (s + 1) h.fits.rest, settles)
 
 operation_fits : (plan : Plan) (p : ℕ) (o : Op) (deeds : List Deed) → FitsSteps p deeds (steps_in o (micros_of plan p o)) → FitsOperation p deeds o
 operation_fits plan p (op.Tick ns) deeds h = acts p (op.Tick ns) (deed.Tick p ns) deeds refl h
 operation_fits plan p op.Pick deeds h = acts p op.Pick (deed.Pick p) deeds refl h
 operation_fits plan p op.Yield deeds h = acts p op.Yield (deed.Yield p) deeds refl h
 operation_fits plan p (op.Renice task nice) deeds h = acts p (op.Renice task nice) (deed.Renice p task nice) deeds refl h
-operation_fits plan p (op.Sleep t) deeds h =
-    sleeps p (min p (home plan t)) (max p (home plan t)) (op.Sleep t) (deed.Sleep p t) deeds (p == home plan t) refl h
+operation_fits plan p (op.Sleep t) deeds h = grind arith
 operation_fits plan p (op.Pull s) deeds h = moves_between p (min p s) (max p s) (op.Pull s) (deed.Pull p s) deeds refl h
 operation_fits plan p (op.Post t) deeds h = h.joined ∙ h.fits
-operation_fits plan p op.Drain deeds h =
-    subst (λ (ds : List Deed). AreWakes p 0 ds) (sym h.joined) (drains p p (callers plan) 0 h.rest h.fits)
+operation_fits plan p op.Drain deeds h = grind (arith, nat_tests, drains)
 
 pub operations_fit : (plan : Plan) (p : ℕ) (ops : List Op) (deeds : List Deed) → FitsSteps p deeds (steps_of plan p ops) → FitsOperations p deeds ops
 operations_fit plan p [] deeds h = h

@@ -1,13 +1,13 @@
 -- The progress that the lists of requests show after a step.
-use Rattle.std.proofs.Common.{◌≡◌, ℕ, zero, suc, ◌+◌, ◌<◌, true, cond, List, [], ◌∷◌, map, get_or, set, sym, ap, ◌∙◌, refl}
-use Rattle.std.proofs.lemmas.{List.set-get_or, Bool.ltb-true}
-use Rattle.std.specs.Prelude.{slice_get, is_some, Option, Some, None}
+use Rattle.std.proofs.Common.{◌≡◌, ℕ, zero, suc, ◌+◌, ◌<◌, true, cond, List, [], ◌∷◌, map, get_or, set, sym, ap, ◌∙◌, refl, arith}
+use Rattle.std.proofs.lemmas.{List.set-get_or, Bool.ltb-true, Bool.Decides.nat_tests, Grind.common_steps}
+use Rattle.std.specs.Prelude.{is_some, Option, Some, None}
 use Rattle.eevdf_steps.specs.{declared.micro.Micro.Micro, declared.plan.Step.Step, SoundSteps.is_sound_micro}
 use Rattle.eevdf_steps.specs.Plan.{Plan, callers, pair}
 use Rattle.eevdf_steps.specs.Counters.{Counters, counted, step_next}
 use Rattle.eevdf_steps.specs.declared.micro.Micro.TheVariants.{Take, Settle, Post}
-use Rattle.eevdf_steps.specs.Requests.{Progress, oldest, posted, progress_by, progress_step, requested, takes}
-use Rattle.eevdf_steps.specs.PostLists.{ArePosted, PostList, list_at, oldest_in, place_of, posted_more, posts_after, progress_in, request_after}
+use Rattle.eevdf_steps.specs.Requests.{Progress, oldest, progress_step, requested, takes}
+use Rattle.eevdf_steps.specs.PostLists.{ArePosted, PostList, list_at, oldest_in, place_of, posts_after, progress_in, request_after}
 
 abbrev taken_in : List PostList → List ℕ
 taken_in lists = map (λ (l : PostList). l.taken) lists
@@ -37,19 +37,13 @@ takes_by : (plan : Plan) (counters : Counters) (lists : List PostList) (found : 
     → l ≡ list_at lists (pair plan q p)
     → progress_as (counted counters p) (taken_in (set lists (pair plan q p) (cond (is_some r) (record l { taken = l.taken + 1 }) l))) (set found p r)
     ≡ record (takes plan (progress_in counters lists found) p q r) { counters = counted counters p }
-takes_by plan counters lists found p q l None e =
-    same_progress (counted counters p) _ _ _ _ (same_taken lists (pair plan q p) l (ap (λ (m : PostList). m.taken) e)) refl
-takes_by plan counters lists found p q l (Some t) e =
-    same_progress (counted counters p) _ _ _ _
-    (set_taken lists (pair plan q p) (record l { taken = l.taken + 1 })
-    ∙ ap (λ (n : ℕ). set (taken_in lists) (pair plan q p) (n + 1)) (ap (λ (m : PostList). m.taken) e ∙ sym (get_taken lists (pair plan q p)))) refl
+takes_by plan counters lists found p q l None e = grind (arith, common_steps)
+takes_by plan counters lists found p q l (Some t) e = grind (arith, nat_tests, same_progress, set_taken, get_taken)
 
 -- the oldest request is the list's
 oldest_is : (plan : Plan) (counters : Counters) (lists : List PostList) (found : List (Option ℕ)) (q c : ℕ) → ArePosted plan counters lists → q < callers plan → c < callers plan
     → oldest_in (list_at lists (pair plan q c)) ≡ oldest plan (progress_in counters lists found) q c
-oldest_is plan counters lists found q c a i j =
-    ap (λ (xs : List ℕ). slice_get xs (list_at lists (pair plan q c)).taken) (a.posted q c i j)
-    ∙ ap (λ (n : ℕ). slice_get (posted plan counters q c) n) (sym (get_taken lists (pair plan q c)))
+oldest_is plan counters lists found q c a i j = grind (arith, common_steps)
 
 unchanged : (plan : Plan) (counters : Counters) (lists : List PostList) (found : List (Option ℕ)) (p : ℕ)
     → progress_as (counted counters p) (taken_in lists) (set found p (get_or found p None)) ≡ progress_as (counted counters p) (taken_in lists) found
@@ -59,20 +53,13 @@ by_micro : (plan : Plan) (counters : Counters) (lists : List PostList) (found : 
     → is_sound_micro plan m ≡ true
     → progress_in (counted counters p) (posts_after (place_of plan p m) m lists) (set found p (request_after (place_of plan p m) m lists (get_or found p None)))
     ≡ record (requested plan (progress_in counters lists found) p m) { counters = counted counters p }
-by_micro plan counters lists found p (Take q) a below well =
-    takes_by plan counters lists found p q (list_at lists (pair plan q p)) (oldest_in (list_at lists (pair plan q p))) refl
-    ∙ ap (λ (r : Option ℕ). record (takes plan (progress_in counters lists found) p q r) { counters = counted counters p })
-    (oldest_is plan counters lists found q p a (ltb-true q (callers plan) well) below)
+by_micro plan counters lists found p (Take q) a below well = grind (arith, common_steps, takes_by, oldest_is, ltb-true)
 by_micro plan counters lists found p (Settle q) a below well = refl
-by_micro plan counters lists found p (Post t) a below well =
-    same_progress (counted counters p) _ _ _ _
-    (same_taken lists (place_of plan p (Post t)) (posted_more (list_at lists (place_of plan p (Post t))) t) refl) (set-get_or found p None)
+by_micro plan counters lists found p (Post t) a below well = grind (arith, nat_tests, same_progress, same_taken, set-get_or)
 by_micro plan counters lists found p _ a below well = unchanged plan counters lists found p
 
 pub progress_then : (plan : Plan) (counters : Counters) (lists : List PostList) (found : List (Option ℕ)) (p : ℕ) (s : Step) → ArePosted plan counters lists → p < callers plan
     → step_next plan counters p ≡ Some s → is_sound_micro plan s.micro ≡ true
     → progress_in (counted counters p) (posts_after (place_of plan p s.micro) s.micro lists) (set found p (request_after (place_of plan p s.micro) s.micro lists (get_or found p None)))
     ≡ progress_step plan (progress_in counters lists found) p
-progress_then plan counters lists found p s a below e well =
-    by_micro plan counters lists found p s.micro a below well
-    ∙ ap (λ (o : Option Step). progress_by plan (progress_in counters lists found) p o) (sym e)
+progress_then plan counters lists found p s a below e well = grind (arith, nat_tests, by_micro)

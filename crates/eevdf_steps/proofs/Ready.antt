@@ -1,14 +1,13 @@
 -- While a caller isn't done, some caller may do its next step: since locks are acquired in ascending order, who waits for a
 -- lock waits for a holder that waits, if at all, for a higher one.
 use Rattle.std.proofs.Common.{◌≡◌, ℕ, zero, suc, ◌+◌, ◌<◌, ◌≤◌, Bool, true, false, cond, List, [], ◌∷◌, inl, inr, ◌⊎◌, sym, ap, subst, ◌∙◌, arith, refl}
-use Rattle.std.proofs.lemmas.Bool.{false≢true, and_parts, lt-ltb, ltb-true, cases_eq}
+use Rattle.std.proofs.lemmas.Bool.{false≢true}
 use Rattle.std.specs.Option.{option_map}
-use Rattle.std.specs.Prelude.{◌==◌, is_none, is_some, nat_lt, length, MatchOption, Option, Some, None}
+use Rattle.std.specs.Prelude.{is_none, is_some, nat_lt, length, MatchOption, Option, Some, None}
 use Rattle.eevdf_ops.specs.declared.deeds.Op.{Op}
 use Rattle.eevdf_steps.specs.{declared.micro.Micro.Micro, declared.micro.Micro.TheVariants.Acquire, declared.plan.Step.Step}
-use Rattle.eevdf_steps.specs.declared.step_fault.StepFault.TheVariants.{NoCaller}
 use Rattle.eevdf_steps.specs.Plan.{IsSound, Plan, callers}
-use Rattle.eevdf_steps.specs.Counters.{Counters, blocked_by, counted, holder, holds, is_under_way, least, may_step, next, ready, refused, refused_next, step_next, unfinished}
+use Rattle.eevdf_steps.specs.Counters.{Counters, blocked_by, counted, holder, holds, is_under_way, least, may_step, next, ready, refused, step_next, unfinished}
 use Rattle.eevdf_steps.proofs.Walks.{Acquiring, Fits, FitsMicro, Walk, is_above, is_in}
 use Rattle.eevdf_steps.proofs.Walking.{walking}
 
@@ -19,8 +18,7 @@ pub record Found (f : ℕ → Bool) (from n k : ℕ) : Type 0 where
 
 found_by : (f : ℕ → Bool) (from n k : ℕ) (b : Bool) → f from ≡ b → cond b (Some from) (least f (from + 1) n) ≡ Some k
     → (least f (from + 1) n ≡ Some k → Found f (from + 1) n k) → Found f from (suc n) k
-found_by f from n k true e h later =
-    let same : from ≡ k = cc in record { passes = ap f (sym same) ∙ e; within = omega (arith, same) }
+found_by f from n k true e h later = grind arith
 found_by f from n k false e h later = let there : Found f (from + 1) n k = later h in record { passes = there.passes; within = omega (arith, there.within) }
 
 pub least_found : (f : ℕ → Bool) (from n k : ℕ) → least f from n ≡ Some k → Found f from n k
@@ -30,17 +28,12 @@ least_found f from (suc n) k h = found_by f from n k (f from) refl h (least_foun
 some_passes : (f : ℕ → Bool) (from n k : ℕ) (b : Bool) → f from ≡ b → f k ≡ true → (from + 1 ≤ k → is_none (least f (from + 1) n) ≡ false) → from ≤ k
     → is_none (cond b (Some from) (least f (from + 1) n)) ≡ false
 some_passes f from n k true e passes later low = refl
-some_passes f from n k false e passes later low =
-    later (elim (cases_eq from k) [
-      | inl same ↦ absurd (false≢true (sym e ∙ ap f same ∙ passes))
-      | inr apart ↦ omega (arith, low, apart)
-    ])
+some_passes f from n k false e passes later low = grind arith
 
 -- where a number passes there is a least one
 pub least_there : (f : ℕ → Bool) (from n k : ℕ) → f k ≡ true → from ≤ k → k < from + n → is_none (least f from n) ≡ false
 least_there f from zero k passes low high = absurd (omega arith)
-least_there f from (suc n) k passes low high =
-    some_passes f from n k (f from) refl passes (λ above. least_there f (from + 1) n k passes above (omega arith)) low
+least_there f from (suc n) k passes low high = grind (arith, least_there f (from + 1) n k)
 
 -- a caller that may do its next step
 record Free (plan : Plan) (counters : Counters) : Type 0 where
@@ -58,9 +51,7 @@ record Waiting (plan : Plan) (counters : Counters) (m : Micro) : Type 0 where
 
 may_if : (plan : Plan) (counters : Counters) (p : ℕ) (m : Micro) → p < callers plan → next plan counters p ≡ Some m → refused plan counters m ≡ None
     → may_step plan counters p ≡ true
-may_if plan counters p m below e free =
-    ap (λ (b : Bool). is_none (cond b (refused_next plan counters (next plan counters p)) (Some NoCaller))) (lt-ltb p (callers plan) below)
-    ∙ ap (λ (r : Option Micro). is_none (refused_next plan counters r)) e ∙ ap (λ r. is_none r) free
+may_if plan counters p m below e free = grind arith
 
 free_if : (plan : Plan) (counters : Counters) (p : ℕ) (m : Micro) → p < callers plan → next plan counters p ≡ Some m → refused plan counters m ≡ None → Free plan counters
 free_if plan counters p m below e free = record { caller = p; below = below; may = may_if plan counters p m below e free }
@@ -77,15 +68,10 @@ steps_or_waits : (plan : Plan) (counters : Counters) (p : ℕ) (m : Micro) → p
 steps_or_waits plan counters p (Acquire c) below e = acquires_or_waits plan counters p c (holder plan counters c) below e refl
 steps_or_waits plan counters p m below e = inl (free_if plan counters p m below e refl)
 
-in_by : (c d h : ℕ) (held : List ℕ) (b : Bool) → (h == d) ≡ b → cond b true (is_in d held) ≡ true → h < c → (is_in d held ≡ true → d < c) → d < c
-in_by c d h held b e there below later = grind arith
-
 -- what is in a list is below what is above the list
 below_above : (c d : ℕ) (held : List ℕ) → is_above c held ≡ true → is_in d held ≡ true → d < c
 below_above c d [] above there = absurd (false≢true there)
-below_above c d (h ∷ held) above there =
-    let parts = and_parts (nat_lt h c) (is_above c held) above in
-    in_by c d h held (h == d) refl there (ltb-true h c parts.0) (below_above c d held parts.1)
+below_above c d (h ∷ held) above there = grind (arith, below_above c d held)
 
 fits_acquire : (plan : Plan) (p : ℕ) (held : List ℕ) (o : Op) (m : Micro) (following : Option Step) (c : ℕ) → FitsMicro plan p held o m following → m ≡ Acquire c
     → Acquiring plan held o c following
@@ -95,8 +81,7 @@ fits_acquire plan p held o m following c fits e = subst (λ (k : Micro). FitsMic
 holder_by : (plan : Plan) (counters : Counters) (p c : ℕ) (w : Walk plan counters p) (r : Option Step) → p < callers plan → holds plan counters c p ≡ true → step_next plan counters p ≡ r
     → MatchOption r (w.held ≡ []) (λ s. Fits plan p w.held s (step_next plan (counted counters p) p))
     → ((d q : ℕ) → c < d → d < callers plan → q < callers plan → holds plan counters d q ≡ true → Free plan counters) → Free plan counters
-holder_by plan counters p c w None below held e fits higher =
-    absurd (false≢true (sym (w.holds_them c ∙ ap (λ (hs : List ℕ). is_in c hs) fits) ∙ held))
+holder_by plan counters p c w None below held e fits higher = grind arith
 holder_by plan counters p c w (Some s) below held e fits higher =
     elim (steps_or_waits plan counters p s.micro below (ap (λ (o : Option Step). option_map (λ (t : Step). t.micro) o) e)) [
       | inl free ↦ free
@@ -132,11 +117,8 @@ under_way plan counters p (Some s) sound each below e some =
 may_under_way : (plan : Plan) (counters : Counters) (p : ℕ) (b : Bool) (r : Option Step) → nat_lt p (callers plan) ≡ b → step_next plan counters p ≡ r
     → may_step plan counters p ≡ true → is_under_way plan counters p ≡ true
 may_under_way plan counters p b (Some s) e next_is may = ap (λ (o : Option Step). is_some o) next_is
-may_under_way plan counters p true None e next_is may =
-    absurd (false≢true (sym (ap (λ (x : Bool). is_none (cond x (refused_next plan counters (next plan counters p)) (Some NoCaller))) e
-    ∙ ap (λ (o : Option Step). is_none (refused_next plan counters (option_map (λ (t : Step). t.micro) o))) next_is) ∙ may))
-may_under_way plan counters p false None e next_is may =
-    absurd (false≢true (sym (ap (λ (x : Bool). is_none (cond x (refused_next plan counters (next plan counters p)) (Some NoCaller))) e) ∙ may))
+may_under_way plan counters p true None e next_is may = grind arith
+may_under_way plan counters p false None e next_is may = grind arith
 
 none_by : (plan : Plan) (counters : Counters) (a b : Option ℕ) → IsSound plan → length counters ≡ callers plan → ready plan counters ≡ a → unfinished plan counters ≡ b
     → is_none a ≡ is_none b

@@ -3,7 +3,7 @@ use Rattle.std.proofs.Common.{append-nil, ◌≡◌, ◌≢◌, ℕ, suc, ◌+�
 use Rattle.std.proofs.Math.ListN.{length-append, length-set}
 use Rattle.std.proofs.lemmas.{Nat.mul-add-lt, Nat.same_from_place, Option.slice_get_within}
 use Rattle.std.proofs.lemmas.List.{drop-append-le, get_or-set_other, get_or-set_same}
-use Rattle.std.proofs.lemmas.Bool.{false≢true, cases_eq, ne_eqb, eq-eqb}
+use Rattle.std.proofs.lemmas.Bool.{cases_eq, ne_eqb, eq-eqb}
 use Rattle.std.specs.Prelude.{slice_get, MatchOption, Option, Some, None}
 use Rattle.std.specs.Option.{option_map, option_to_list}
 use Rattle.eevdf_ops.specs.{declared.deeds.Op.Op, declared.deeds.Deed.Deed}
@@ -100,8 +100,7 @@ is_settle (Some (Settle s)) = true
 is_settle other = false
 
 found_nothing : (m : Option Micro) (found : Option ℕ) → is_settle m ≡ false → SettlesFound m found → found ≡ None
-found_nothing m found e s =
-    elim s [ inl none ↦ none | inr (q, settle) ↦ absurd (false≢true (sym e ∙ ap is_settle settle)) ]
+found_nothing m found e s = grind arith
 
 record Goes (plan : Plan) (g : Progress) (q c : ℕ) (o : Op) (m : Micro) : Type 0 where
   caller : c < callers plan

@@ -1,49 +1,31 @@
 -- What is reserved for the requests and the lines.
-use Rattle.std.proofs.Common.{◌≡◌, ℕ, zero, suc, ◌+◌, ◌*◌, ◌%◌, ◌<◌, ◌≤◌, Bool, true, cond, List, [], ◌∷◌, ◌++◌, length, map, drop, take, get_or, replicate, inl, inr, sym, ap, subst, ◌∙◌, arith, refl}
-use Rattle.std.proofs.Math.ListN.{length-append}
+use Rattle.std.proofs.Common.{◌≡◌, ℕ, zero, suc, ◌+◌, ◌*◌, ◌<◌, ◌≤◌, Bool, cond, List, [], ◌∷◌, ◌++◌, length, map, take, get_or, replicate, sym, subst, arith, refl}
 use Rattle.std.proofs.lemmas.{Bool.cases_lt, Grind.common_steps, List.Folds.sum_by-replicate, List.Sums.sum_by-cons}
-use Rattle.std.proofs.lemmas.{Nat.div-mul-add, Nat.mod-mul-add, Bool.Decides.nat_tests}
-use Rattle.std.proofs.lemmas.List.{get_or_append_left, get_or_push, length-take-le, take_more}
-use Rattle.std.specs.List.{sum_by}
-use Rattle.std.specs.Prelude.{is_some, slice_index, Option, None}
-use Rattle.eevdf_ops.specs.{declared.deeds.Op.Op, Numbers.most_operations, Places.count, Programs.post_of, Programs.posts_in}
+use Rattle.std.proofs.lemmas.Bool.Decides.{nat_tests}
+use Rattle.std.proofs.lemmas.List.{get_or_append_left, get_or_push, length-take-le}
+use Rattle.std.specs.{List.sum_by, Prelude.slice_index, Prelude.None}
+use Rattle.eevdf_ops.specs.{declared.deeds.Op.Op, Numbers.most_operations, Places.count, Programs.posts_in}
 use Rattle.eevdf_ops.specs.declared.deeds.Op.TheVariants as op
 use Rattle.eevdf_steps.specs.{declared.micro.Micro.TheVariants.Release, declared.plan.Step.Step, Orders.counters_at_start}
-use Rattle.eevdf_steps.specs.PostLists.{PostList, list_at, no_posts}
-use Rattle.eevdf_steps.specs.Plan.{IsSound, Plan, callers, is_sound_op, program}
-use Rattle.eevdf_steps.specs.MicroSteps.{draining, moving, steps_by, steps_of, under_lock, under_locks}
-use Rattle.eevdf_steps.specs.Room.{lines_in, lines_left, lines_to_come, steps_to_come, sum_from, unsettled, waiting, waiting_in}
+use Rattle.eevdf_steps.specs.PostLists.{PostList, list_at}
+use Rattle.eevdf_steps.specs.Plan.{IsSound, Plan, callers, program}
+use Rattle.eevdf_steps.specs.MicroSteps.{draining, moving, steps_of, under_lock, under_locks}
+use Rattle.eevdf_steps.specs.Room.{lines_in, lines_left, lines_to_come, steps_to_come, sum_from, waiting, waiting_in}
 use Rattle.eevdf_steps.specs.Openings.{AreEmpty, CountPosts, empty_at, most_lines, post_counted, room_at}
-use Rattle.eevdf_steps.proofs.{Holders.count_first, Lists.all_at, Plans.program_ops_sound, Plans.program_short, Positions.micros_in}
-use Rattle.eevdf_steps.proofs.Positions.{step_in}
-
--- operations post no more requests than they are
-few_posts : (homes : List ℕ) (c : ℕ) (o : Op) → length (post_of homes c o) ≤ 1
-few_posts homes c o = grind arith
+use Rattle.eevdf_steps.proofs.{Holders.count_first, Plans.program_short, Positions.micros_in, Positions.step_in}
 
 posts_few : (homes : List ℕ) (c : ℕ) (ops : List Op) → length (posts_in homes c ops) ≤ length ops
 posts_few homes c [] = omega arith
-posts_few homes c (o ∷ ops) =
-    omega (arith, few_posts homes c o, posts_few homes c ops, length-append (post_of homes c o) (posts_in homes c ops))
+posts_few homes c (o ∷ ops) = grind (arith, posts_few homes c ops)
 
 counts_few : (plan : Plan) (ops : List Op) (counts : List ℕ) (c : ℕ) → CountPosts plan ops counts → c < length counts → slice_index counts c ≤ length ops
 counts_few plan ops counts c a h =
     subst (λ (n : ℕ). n ≤ length ops) (sym (a.count c (omega (arith, a.each)))) (posts_few plan.homes c ops)
 
--- one operation more is counted
-counted_more : (plan : Plan) (ops : List Op) (o : Op) (counts : List ℕ) → IsSound plan → is_sound_op plan o ≡ true → CountPosts plan ops counts
-    → CountPosts plan (ops ++ o ∷ []) (post_counted plan o counts)
-counted_more plan ops o counts sound known a = grind (arith, common_steps)
-
 -- the operation at a place of a program is counted after those before it
 pub counted_next : (plan : Plan) (p i : ℕ) (o : Op) (counts : List ℕ) → IsSound plan → i < length (program plan p) → o ≡ get_or (program plan p) i o
     → CountPosts plan (take i (program plan p)) counts → CountPosts plan (take (i + 1) (program plan p)) (post_counted plan o counts)
-counted_next plan p i o counts sound h at a =
-    let known : is_sound_op plan o ≡ true
-    = subst (λ (x : Op). is_sound_op plan x ≡ true) (sym at) (all_at (is_sound_op plan) (program plan p) i o (program_ops_sound plan p sound) h) in
-    subst (λ (ops : List Op). CountPosts plan ops (post_counted plan o counts))
-    (ap (λ (x : Op). take i (program plan p) ++ x ∷ []) at ∙ sym (take_more (program plan p) i o h))
-    (counted_more plan (take i (program plan p)) o counts sound known a)
+counted_next plan p i o counts sound h at a = grind (arith, common_steps)
 
 -- fewer than a program may have
 pub counts_below : (plan : Plan) (p i c : ℕ) (counts : List ℕ) → IsSound plan → i < length (program plan p) → CountPosts plan (take i (program plan p)) counts → c < length counts
@@ -53,23 +35,13 @@ counts_below plan p i c counts sound h a k =
 
 -- the room at the place of a pair
 pub room_of : (plan : Plan) (q c : ℕ) (counts : List ℕ) → c < callers plan → CountPosts plan (program plan q) counts → slice_index counts c ≡ room_at plan (q * callers plan + c)
-room_of plan q c counts h a =
-    a.count c h
-    ∙ ap (λ (k : ℕ). length (posts_in plan.homes k (program plan q))) (sym (mod-mul-add q (callers plan) c h))
-    ∙ ap (λ (k : ℕ). length (posts_in plan.homes ((q * callers plan + c) % callers plan) (program plan k))) (sym (div-mul-add q (callers plan) c h))
+room_of plan q c counts h a = grind arith
 
 -- one list more
 pub empty_next : (plan : Plan) (q c : ℕ) (lists : List PostList) (counts : List ℕ) (l : PostList) → c < callers plan → CountPosts plan (program plan q) counts
     → l ≡ record { posted = []; taken = 0; room = slice_index counts c } → length lists ≡ q * callers plan + c → ((k : ℕ) → k < q * callers plan + c → list_at lists k ≡ empty_at plan k)
     → (k : ℕ) → k < q * callers plan + (c + 1) → list_at (lists ++ l ∷ []) k ≡ empty_at plan k
-empty_next plan q c lists counts l h a is long before k below =
-    elim (cases_lt k (q * callers plan + c)) [
-      | inl low ↦ get_or_append_left lists (l ∷ []) no_posts k (omega arith) ∙ before k low
-      | inr high ↦
-          let here : k ≡ q * callers plan + c = omega arith in
-          get_or_push lists l no_posts k (omega arith) ∙ is
-          ∙ ap (λ (n : ℕ). record { posted = []; taken = 0; room = n }) (room_of plan q c counts h a ∙ ap (λ (n : ℕ). room_at plan n) (sym here))
-    ]
+empty_next plan q c lists counts l h a is long before k below = grind (arith, nat_tests, cases_lt, get_or_append_left, get_or_push, room_of)
 
 lines_joined : (xs ys : List Step) → lines_in (xs ++ ys) ≡ lines_in xs + lines_in ys
 lines_joined [] ys = omega arith
@@ -92,8 +64,7 @@ program_lines plan p (o ∷ ops) =
     omega (arith, operation_lines plan p o, program_lines plan p ops, lines_joined (micros_in plan p o) (steps_of plan p ops))
 
 first_lines : (plan : Plan) (p : ℕ) → lines_left plan (counters_at_start plan) p ≤ length (program plan p)
-first_lines plan p =
-    subst (λ (k : ℕ). lines_in (drop k (steps_by plan p)) ≤ length (program plan p)) (sym (count_first (callers plan) p)) (program_lines plan p (program plan p))
+first_lines plan p = grind (arith, nat_tests, count_first, program_lines)
 
 sum_below : (f : ℕ → ℕ) (from : ℕ) (programs : List (List Op)) → ((k : ℕ) → f (from + k) ≤ length (get_or programs k []))
     → sum_from f from (length programs) ≤ sum_by (λ (ops : List Op). length ops) programs
@@ -105,9 +76,7 @@ sum_below f from (ops ∷ programs) h =
     omega (arith, sum_by-cons (λ (os : List Op). length os) ops programs)
 
 steps_first : (plan : Plan) → steps_to_come plan (counters_at_start plan) ≤ most_lines plan
-steps_first plan =
-    sum_below (lines_left plan (counters_at_start plan)) 0 plan.programs
-    (λ k. subst (λ (n : ℕ). lines_left plan (counters_at_start plan) n ≤ length (get_or plan.programs k [])) (let e : k ≡ 0 + k = omega arith in e) (first_lines plan k))
+steps_first plan = grind (arith, nat_tests, sum_below, first_lines)
 
 waiting_none : (lists : List PostList) → ((k : ℕ) → k < length lists → waiting_in (list_at lists k) ≡ 0) → waiting lists ≡ 0
 waiting_none [] h = refl
@@ -117,9 +86,4 @@ waiting_none (l ∷ lists) h =
 -- there is room for all that is to come
 pub room_first : (plan : Plan) (lists : List PostList) → AreEmpty plan lists
     → lines_to_come plan (counters_at_start plan) lists (replicate (callers plan) None) ≤ most_lines plan
-room_first plan lists a =
-    let none : waiting lists ≡ 0
-    = waiting_none lists (λ k below. ap waiting_in (a.empty k (subst (λ (n : ℕ). k < n) a.each below))) in
-    let nothing : unsettled (replicate (callers plan) None) ≡ callers plan * 0
-    = sum_by-replicate (λ (f : Option ℕ). count (is_some f)) (callers plan) None in
-    omega (arith, steps_first plan)
+room_first plan lists a = grind (arith, nat_tests, waiting_none, sum_by-replicate, steps_first)

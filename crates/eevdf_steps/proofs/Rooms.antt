@@ -1,15 +1,14 @@
 -- The history has room for all the lines that come.
-use Rattle.std.proofs.Common.{◌≡◌, ◌≢◌, ℕ, zero, suc, ◌+◌, ◌<◌, ◌≤◌, cond, List, [], ◌∷◌, length, drop, get_or, set, inl, inr, sym, ap, subst, ◌∙◌, arith, refl}
-use Rattle.std.proofs.Math.ListN.{length-append}
-use Rattle.std.proofs.lemmas.{List.get_or-set_same, List.get_or-set_other, List.Sums.sum_by-set, Option.slice_get_within}
-use Rattle.std.proofs.lemmas.Bool.{cases_eq}
+use Rattle.std.proofs.Common.{◌≡◌, ◌≢◌, ℕ, zero, suc, ◌+◌, ◌<◌, ◌≤◌, cond, List, [], ◌∷◌, length, drop, get_or, set, sym, ap, arith, refl}
+use Rattle.std.proofs.lemmas.{List.get_or-set_same, List.Sums.sum_by-set, Option.slice_get_within, Bool.cases_eq}
+use Rattle.std.proofs.lemmas.{Bool.Decides.nat_tests, Grind.common_steps}
 use Rattle.std.specs.Prelude.{slice_get, is_some, Option, Some, None}
 use Rattle.eevdf_ops.specs.{declared.deeds.Op.Op, declared.deeds.Deed.Deed, declared.deeds.Answer.Answer, Places.count}
-use Rattle.eevdf_steps.specs.{declared.micro.Micro.Micro, declared.plan.Step.Step, Plan.Plan, Plan.callers, MicroSteps.steps_by}
-use Rattle.eevdf_steps.specs.{Work.Work, MicroState.appends, MicroState.line_of}
+use Rattle.eevdf_steps.specs.{declared.micro.Micro.Micro, declared.plan.Step.Step, Plan.Plan, Plan.callers, Work.Work}
+use Rattle.eevdf_steps.specs.MicroState.{appends, line_of}
 use Rattle.eevdf_steps.specs.declared.micro.Micro.TheVariants.{Commit, Take, Settle, Post}
-use Rattle.eevdf_steps.specs.Counters.{Counters, count_of, counted, step_next}
-use Rattle.eevdf_steps.specs.PostLists.{PostList, list_at, no_posts, oldest_in, posted_more, posts_after, request_after, taken_more}
+use Rattle.eevdf_steps.specs.Counters.{Counters, counted, step_next}
+use Rattle.eevdf_steps.specs.PostLists.{PostList, list_at, no_posts, oldest_in, posts_after, request_after}
 use Rattle.eevdf_steps.specs.Room.{lines_in, lines_left, lines_of, lines_to_come, steps_to_come, sum_from, unsettled, waiting, waiting_in}
 
 rest_of : (ss : List Step) (k : ℕ) (s : Step) → slice_get ss k ≡ Some s → lines_in (drop k ss) ≡ lines_of s.micro + lines_in (drop (suc k) ss)
@@ -19,38 +18,19 @@ rest_of (x ∷ ss) (suc k) s e = rest_of ss k s e
 
 left_own : (plan : Plan) (counters : Counters) (p : ℕ) (s : Step) → p < length counters → step_next plan counters p ≡ Some s
     → lines_left plan counters p ≡ lines_left plan (counted counters p) p + lines_of s.micro
-left_own plan counters p s h e =
-    let one : count_of (counted counters p) p ≡ suc (count_of counters p)
-    = get_or-set_same counters p (count_of counters p + 1) 0 h ∙ (let more : count_of counters p + 1 ≡ suc (count_of counters p) = omega arith in more) in
-    let rest : lines_left plan counters p ≡ lines_of s.micro + lines_in (drop (suc (count_of counters p)) (steps_by plan p)) = rest_of (steps_by plan p) (count_of counters p) s e in
-    let after : lines_left plan (counted counters p) p ≡ lines_in (drop (suc (count_of counters p)) (steps_by plan p)) = ap (λ (k : ℕ). lines_in (drop k (steps_by plan p))) one in
-    omega arith
+left_own plan counters p s h e = grind (arith, common_steps, get_or-set_same, rest_of)
 
 left_other : (plan : Plan) (counters : Counters) (p q : ℕ) → q ≢ p → lines_left plan (counted counters p) q ≡ lines_left plan counters q
-left_other plan counters p q apart =
-    ap (λ (k : ℕ). lines_in (drop k (steps_by plan q))) (get_or-set_other counters p q (count_of counters p + 1) 0 apart)
+left_other plan counters p q apart = grind (arith, common_steps)
 
 sum_same : (f g : ℕ → ℕ) (p from n : ℕ) → p < from → ((q : ℕ) → q ≢ p → f q ≡ g q) → sum_from f from n ≡ sum_from g from n
 sum_same f g p from zero h same = refl
-sum_same f g p from (suc n) h same =
-    let here : f from ≡ g from = same from (λ e. absurd (omega arith)) in
-    let rest : sum_from f (from + 1) n ≡ sum_from g (from + 1) n = sum_same f g p (from + 1) n (omega arith) same in
-    omega arith
+sum_same f g p from (suc n) h same = grind (arith, sum_same f g p (from + 1) n)
 
 -- a sum is less by as much as one of its parts is
 pub sum_less : (f g : ℕ → ℕ) (p from n d : ℕ) → from ≤ p → p < from + n → f p ≡ g p + d → ((q : ℕ) → q ≢ p → f q ≡ g q) → sum_from f from n ≡ sum_from g from n + d
 sum_less f g p from zero d low high less same = absurd (omega arith)
-sum_less f g p from (suc n) d low high less same =
-    elim (cases_eq p from) [
-      | inl here ↦
-          let own : f from ≡ g from + d = subst (λ (k : ℕ). f k ≡ g k + d) here less in
-          let rest : sum_from f (from + 1) n ≡ sum_from g (from + 1) n = sum_same f g p (from + 1) n (omega arith) same in
-          omega arith
-      | inr apart ↦
-          let here : f from ≡ g from = same from (λ e. apart (sym e)) in
-          let rest : sum_from f (from + 1) n ≡ sum_from g (from + 1) n + d = sum_less f g p (from + 1) n d (omega arith) (omega arith) less same in
-          omega arith
-    ]
+sum_less f g p from (suc n) d low high less same = grind (arith, nat_tests, sum_less f g p (from + 1) n d, cases_eq, sum_same)
 
 -- what a step comes to is no longer to come of the steps
 steps_less : (plan : Plan) (counters : Counters) (p : ℕ) (s : Step) → p < length counters → p < callers plan → step_next plan counters p ≡ Some s
@@ -66,15 +46,12 @@ waiting_set lists k l h = sum_by-set waiting_in lists k l no_posts h
 -- what one caller has found is changed
 unsettled_set : (found : List (Option ℕ)) (p : ℕ) (f r : Option ℕ) → p < length found → f ≡ get_or found p None
     → unsettled (set found p r) + count (is_some f) ≡ unsettled found + count (is_some r)
-unsettled_set found p f r h read =
-    ap (λ (o : Option ℕ). unsettled (set found p r) + count (is_some o)) read ∙ sum_by-set (λ (o : Option ℕ). count (is_some o)) found p r None h
+unsettled_set found p f r h read = grind (arith, common_steps)
 
 -- a request that is found waits no longer
 taken_less : (l : PostList) (r : Option ℕ) → oldest_in l ≡ r → waiting_in (cond (is_some r) (record l { taken = l.taken + 1 }) l) + count (is_some r) ≡ waiting_in l
 taken_less l None e = omega arith
-taken_less l (Some t) e =
-    let within : l.taken < length l.posted = slice_get_within l.posted l.taken t e in
-    omega arith
+taken_less l (Some t) e = grind (arith, nat_tests, slice_get_within)
 
 -- what a step does on: its list and its caller are there, and this is what the caller has found
 pub record Passing (lists : List PostList) (found : List (Option ℕ)) (place p : ℕ) (f : Option ℕ) : Type 0 where
@@ -90,50 +67,28 @@ LeavesFewer w lists found place p o m f =
 -- a step that has nothing to do with requests
 other_leaves : (lists : List PostList) (found : List (Option ℕ)) (place p : ℕ) (f : Option ℕ) (n : ℕ) → Passing lists found place p f
     → waiting lists + unsettled (set found p f) + n ≤ waiting lists + unsettled found + n
-other_leaves lists found place p f n h =
-    let same : unsettled (set found p f) + count (is_some f) ≡ unsettled found + count (is_some f) = unsettled_set found p f f h.caller h.read in
-    omega arith
+other_leaves lists found place p f n h = grind (arith, common_steps)
 
 one_line : (d : Option Deed) (a : Option Answer) → length (line_of d a) ≤ 1
 one_line d a = grind arith
 
 commit_leaves : (w : Work) (lists : List PostList) (found : List (Option ℕ)) (place p : ℕ) (o : Op) (f : Option ℕ) → Passing lists found place p f
     → LeavesFewer w lists found place p o Commit f
-commit_leaves w lists found place p o f h =
-    let line : length (appends w p o Commit f) ≤ 1 = one_line _ _ in
-    omega (arith, other_leaves lists found place p f 0 h)
+commit_leaves w lists found place p o f h = grind (arith, common_steps, one_line, other_leaves)
 
 -- the request that is posted waits
 post_leaves : (w : Work) (lists : List PostList) (found : List (Option ℕ)) (place p t : ℕ) (o : Op) (f : Option ℕ) → Passing lists found place p f
     → LeavesFewer w lists found place p o (Post t) f
-post_leaves w lists found place p t o f h =
-    let l : PostList = list_at lists place in
-    let one : List ℕ = t ∷ [] in
-    let more : waiting (set lists place (posted_more l t)) + waiting_in l ≡ waiting lists + waiting_in (posted_more l t)
-    = waiting_set lists place (posted_more l t) h.listed in
-    omega (arith, length-append l.posted one, other_leaves lists found place p f 0 h)
+post_leaves w lists found place p t o f h = grind (arith, common_steps)
 
 -- the request that is taken was waiting, and is found
 take_leaves : (w : Work) (lists : List PostList) (found : List (Option ℕ)) (place p q : ℕ) (o : Op) (f : Option ℕ) → Passing lists found place p f
     → LeavesFewer w lists found place p o (Take q) f
-take_leaves w lists found place p q o f h =
-    let l : PostList = list_at lists place in
-    let fewer : waiting (set lists place (taken_more l)) + waiting_in l ≡ waiting lists + waiting_in (taken_more l) = waiting_set lists place (taken_more l) h.listed in
-    let one : waiting_in (taken_more l) + count (is_some (oldest_in l)) ≡ waiting_in l = taken_less l (oldest_in l) refl in
-    let found_now : unsettled (set found p (oldest_in l)) + count (is_some f) ≡ unsettled found + count (is_some (oldest_in l))
-    = unsettled_set found p f (oldest_in l) h.caller h.read in
-    omega arith
-
--- the request that was found has its line
-settled_line : (w : Work) (p q : ℕ) (o : Op) (f : Option ℕ) → length (appends w p o (Settle q) f) ≡ count (is_some f)
-settled_line w p q o f = grind arith
+take_leaves w lists found place p q o f h = grind (arith, nat_tests, waiting_set, taken_less, unsettled_set)
 
 settle_leaves : (w : Work) (lists : List PostList) (found : List (Option ℕ)) (place p q : ℕ) (o : Op) (f : Option ℕ) → Passing lists found place p f
     → LeavesFewer w lists found place p o (Settle q) f
-settle_leaves w lists found place p q o f h =
-    let line : length (appends w p o (Settle q) f) ≡ count (is_some f) = settled_line w p q o f in
-    let fewer : unsettled (set found p None) + count (is_some f) ≡ unsettled found + 0 = unsettled_set found p f None h.caller h.read in
-    omega arith
+settle_leaves w lists found place p q o f h = grind (arith, common_steps)
 
 leaves_fewer : (w : Work) (lists : List PostList) (found : List (Option ℕ)) (place p : ℕ) (o : Op) (m : Micro) (f : Option ℕ) → Passing lists found place p f
     → LeavesFewer w lists found place p o m f
@@ -148,5 +103,4 @@ pub fewer_to_come : (plan : Plan) (counters : Counters) (lists : List PostList) 
     → Passing lists found place p f → p < length counters → p < callers plan → step_next plan counters p ≡ Some s
     → lines_to_come plan (counted counters p) (posts_after place s.micro lists) (set found p (request_after place s.micro lists f)) + length (appends w p s.op s.micro f)
     ≤ lines_to_come plan counters lists found
-fewer_to_come plan counters lists found w place p s f h each below e =
-    omega (arith, steps_less plan counters p s each below e, leaves_fewer w lists found place p s.op s.micro f h)
+fewer_to_come plan counters lists found w place p s f h each below e = grind (arith, nat_tests, steps_less, leaves_fewer)

@@ -1,11 +1,11 @@
 -- Each micro-step keeps what the callers see a part of the history's whole operations.
 use Rattle.std.proofs.Common.{◌≡◌, ℕ, ◌+◌, ◌<◌, true, not, ◌||◌, List, [], ◌∷◌, ◌++◌, length, sym, ap, subst, ◌∙◌, inl, inr, refl, arith}
 use Rattle.std.proofs.lemmas.Bool.{false≢true, cases_lt, ltb-true, eq-eqb, false_from_ne_true, or_left, or_right}
-use Rattle.std.proofs.lemmas.List.{append-nil}
+use Rattle.std.proofs.lemmas.{List.append-nil, Bool.Decides.nat_tests}
 use Rattle.std.specs.Prelude.{◌==◌, MatchOption, Option, Some, None, is_none}
 use Rattle.std.specs.Option.{option_to_list}
 use Rattle.eevdf_steps.specs.{Commits.committed, Working.FitsHand, Working.HasRoom, UnderWay.under_way, UnderWay.begun}
-use Rattle.eevdf_steps.specs.{declared.micro.Micro.Micro, declared.plan.Step.Step}
+use Rattle.eevdf_steps.specs.{declared.micro.Micro.Micro, declared.plan.Step.Step, Serial.IsFree, Serial.IsSerial}
 use Rattle.eevdf_queue.specs.{State.State, Leaving.carried_running}
 use Rattle.eevdf_ops.specs.{declared.deeds.Op.Op, declared.deeds.Deed.Deed, declared.deeds.Answer.Answer, declared.deeds.Line.Line}
 use Rattle.eevdf_ops.specs.{Machine.Machine, Machine.queue_at, Whole.whole, Programs.deed_of, Programs.deeds_of}
@@ -19,7 +19,6 @@ use Rattle.eevdf_steps.specs.Plan.{IsSound, Plan, callers, home}
 use Rattle.eevdf_steps.specs.Counters.{Counters, counted, holder, holds, refused, step_next}
 use Rattle.eevdf_steps.specs.MicroState.{appends, home_for, line_of, works}
 use Rattle.eevdf_steps.specs.Work.{Work, answer, hand, pull_decision, woken, acted}
-use Rattle.eevdf_steps.specs.Serial.{IsFree, FollowsHistory, IsSerial}
 use Rattle.eevdf_steps.proofs.{Holders.nobody_past, Holders.not_blocked, Walking.walking, Positions.step_in, SoundSteps.home_below}
 use Rattle.eevdf_steps.proofs.{SoundSteps.is_caller, OtherCallers.IsStepOf, OtherCallers.followed_then, Ready.least_there}
 use Rattle.eevdf_steps.proofs.Walks.{Covers, Fits, Walk, touched, is_acting, is_moving}
@@ -69,20 +68,12 @@ module _ (plan : Plan) (start : Machine) (counters : Counters) (p : ℕ) (w : Wo
   Leaves w' more = IsSerial plan start (counted counters p) w' (lines ++ more)
 
   local_serial : (w' : Work) {o : Op} {micro : Micro} → Serial o micro → IsStepOf plan counters p told told w w' → Leaves w' []
-  local_serial w' s step =
-      subst (λ (ls : List Line). IsSerial plan start (counted counters p) w' ls) (sym (append-nil lines)) (record {
-        history = s.serial.history;
-        seen = followed_then s.serial.seen step (are_walking plan counters s.sound s.each);
-      })
+  local_serial w' s step = grind (arith, nat_tests, append-nil, followed_then, are_walking)
 
   -- a line is added
   line_serial : (w' : Work) (d : Deed) (a : Answer) {o : Op} {micro : Micro} → Serial o micro → IsStepOf plan counters p told (whole plan.homes d told).1 w w'
       → a ≡ (whole plan.homes d told).0 → Leaves w' (record { deed = d; answer = a } ∷ [])
-  line_serial w' d a s step e = record {
-    history = history_more plan.homes start lines d a s.serial.history e;
-    seen = subst (λ (m : Machine). FollowsHistory plan m (counted counters p) w') (sym (machine_more plan.homes start lines (record { deed = d; answer = a })))
-        (followed_then s.serial.seen step (are_walking plan counters s.sound s.each));
-  }
+  line_serial w' d a s step e = grind (arith, nat_tests, history_more, machine_more, followed_then, are_walking)
 
   -- the locks that the caller holds are those of the queues that its operation touches
   holds_covered : (o : Op) (v : Walk plan counters p) → Covers plan p o v.held → (c : ℕ) → holds plan counters c p ≡ touched plan p o c
@@ -157,9 +148,7 @@ module _ (plan : Plan) (start : Machine) (counters : Counters) (p : ℕ) (w : Wo
 
   -- the deeds of the lines that a step appends are those that it commits
   appended : (o : Op) (micro : Micro) (f : Option ℕ) → Serial o micro → deeds_of (appends w p o micro f) ≡ option_to_list (committed f p o micro)
-  appended o Commit f s =
-      let (d, e) = has_deed p o s.at.fits.acting_or_moving in
-      ap deeds_of (line_is (deed_of p o) (answer w p) d _ e (commit_answer d s.at e)) ∙ ap (λ (x : Option Deed). option_to_list x) (sym e)
+  appended o Commit f s = grind arith
   appended o (Settle q) None s = refl
   appended o (Settle q) (Some t) s = refl
   appended o _ f s = refl

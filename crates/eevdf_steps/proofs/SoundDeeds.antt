@@ -1,7 +1,6 @@
 -- The deeds of a sound plan name CPUs and tasks of the machine.
-use Rattle.std.proofs.Common.{◌≡◌, ℕ, ◌+◌, ◌<◌, Bool, true, ◌&&◌, not, List, [], ◌∷◌, length, map, sym, ap, subst, ◌∙◌, refl, arith}
-use Rattle.std.specs.List.{list_all}
-use Rattle.std.specs.Prelude.{◌==◌, nat_lt, Option, Some}
+use Rattle.std.proofs.Common.{◌≡◌, ℕ, ◌+◌, ◌<◌, Bool, true, List, [], ◌∷◌, length, map, sym, ap, subst, ◌∙◌, refl, arith}
+use Rattle.std.specs.{List.list_all, Prelude.Option, Prelude.Some}
 use Rattle.eevdf_ops.specs.{declared.deeds.Op.Op, declared.deeds.Deed.Deed, Places.AreCpus, Setup.is_allowed, Programs.deed_of}
 use Rattle.eevdf_ops.specs.declared.deeds.Op.TheVariants as op
 use Rattle.eevdf_ops.specs.declared.deeds.Deed.TheVariants as deed
@@ -13,8 +12,7 @@ use Rattle.eevdf_steps.specs.Plan.{IsSound, Plan, callers, is_sound_op, program,
 use Rattle.eevdf_steps.proofs.{Positions.step_in, Walks.Walk, Walking.program_pulls, Walking.walking, OtherCallers.AreWalking}
 use Rattle.eevdf_steps.proofs.Begun.{FitsAll, Standing, standing}
 use Rattle.eevdf_steps.proofs.SoundSteps.{all_joined, home_below, is_caller, some_all, step_sound}
-use Rattle.std.proofs.lemmas.Bool.{and_parts, lt-ltb, and_from}
-use Rattle.std.proofs.lemmas.Bool.Decides.{nat_tests}
+use Rattle.std.proofs.lemmas.{Bool.and_parts, Bool.and_from, Bool.Decides.nat_tests}
 
 abbrev step_pulls_elsewhere : ℕ → Step → Bool
 step_pulls_elsewhere p s = pulls_elsewhere p s.op
@@ -41,22 +39,12 @@ next_sound_op plan counters p s sound e =
 
 pub allowed_op : (plan : Plan) (p : ℕ) (o : Op) (d : Deed) → p < callers plan → is_sound_op plan o ≡ true → pulls_elsewhere p o ≡ true → deed_of p o ≡ Some d
     → is_allowed (callers plan) plan.homes d ≡ true
-allowed_op plan p (op.Tick ns) d h s k e =
-    let is : deed.Tick p ns ≡ d = cc in ap (λ (x : Deed). is_allowed (callers plan) plan.homes x) (sym is) ∙ lt-ltb p (callers plan) h
-allowed_op plan p op.Pick d h s k e =
-    let is : deed.Pick p ≡ d = cc in ap (λ (x : Deed). is_allowed (callers plan) plan.homes x) (sym is) ∙ lt-ltb p (callers plan) h
-allowed_op plan p op.Yield d h s k e =
-    let is : deed.Yield p ≡ d = cc in ap (λ (x : Deed). is_allowed (callers plan) plan.homes x) (sym is) ∙ lt-ltb p (callers plan) h
-allowed_op plan p (op.Renice t nice) d h s k e =
-    let is : deed.Renice p t nice ≡ d = cc in
-    ap (λ (x : Deed). is_allowed (callers plan) plan.homes x) (sym is) ∙ and_from (nat_lt p (callers plan)) (nat_lt t (length plan.homes)) (lt-ltb p (callers plan) h) s
-allowed_op plan p (op.Sleep t) d h s k e =
-    let is : deed.Sleep p t ≡ d = cc in
-    ap (λ (x : Deed). is_allowed (callers plan) plan.homes x) (sym is) ∙ and_from (nat_lt p (callers plan)) (nat_lt t (length plan.homes)) (lt-ltb p (callers plan) h) s
-allowed_op plan p (op.Pull q) d h s k e =
-    let is : deed.Pull p q ≡ d = cc in
-    ap (λ (x : Deed). is_allowed (callers plan) plan.homes x) (sym is)
-    ∙ and_from (nat_lt p (callers plan)) (nat_lt q (callers plan) && not (q == p)) (lt-ltb p (callers plan) h) (and_from (nat_lt q (callers plan)) (not (q == p)) s k)
+allowed_op plan p (op.Tick ns) d h s k e = grind arith
+allowed_op plan p op.Pick d h s k e = grind arith
+allowed_op plan p op.Yield d h s k e = grind arith
+allowed_op plan p (op.Renice t nice) d h s k e = grind arith
+allowed_op plan p (op.Sleep t) d h s k e = grind arith
+allowed_op plan p (op.Pull q) d h s k e = grind arith
 allowed_op plan p (op.Post t) d h s k e = cc
 allowed_op plan p op.Drain d h s k e = cc
 

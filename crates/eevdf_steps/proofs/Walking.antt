@@ -1,5 +1,5 @@
 -- Each caller walks through its program with its locks as its steps need them.
-use Rattle.std.proofs.Common.{◌≡◌, ◌≢◌, ℕ, zero, suc, ◌+◌, ◌<◌, ◌≤◌, Bool, true, false, cond, not, ◌||◌, List, [], ◌∷◌, ◌++◌, length, map, take, drop, get_or, min, max, inl, inr, sym, ap, subst, ◌∙◌, arith, refl}
+use Rattle.std.proofs.Common.{◌≡◌, ◌≢◌, ℕ, zero, suc, ◌+◌, ◌<◌, ◌≤◌, Bool, true, false, cond, not, ◌||◌, List, [], ◌∷◌, ◌++◌, length, map, take, drop, get_or, sym, ap, subst, ◌∙◌, arith, refl}
 use Rattle.std.proofs.lemmas.Bool.{cases_lt, and_parts, ltb-true}
 use Rattle.std.proofs.lemmas.{Bool.Decides.nat_tests, List.get_or-replicate, List.get_or-set_same}
 use Rattle.std.specs.List.{list_all}
@@ -22,9 +22,6 @@ Walks plan p held (s ∷ ss) = Fits plan p held s (slice_get ss 0) × Walks plan
 one_lock : (p c : ℕ) → is_in c (p ∷ []) ≡ (c == p)
 one_lock p c = grind (arith, nat_tests)
 
-two_locks : (p q c : ℕ) → is_in c (max p q ∷ min p q ∷ []) ≡ ((c == p) || (c == q))
-two_locks p q c = grind (arith, nat_tests)
-
 -- where the rest of a program begins
 record Rest (plan : Plan) (p : ℕ) (rest : List Step) : Type 0 where
   fresh : is_fresh (slice_get rest 0) ≡ true
@@ -37,15 +34,10 @@ act_walks plan p o rest h acts locks covers r = grind arith
 either : (a b : Bool) → b ≡ true → (a || b) ≡ true
 either a b h = grind arith
 
-between_walks : (plan : Plan) (p : ℕ) (o : Op) (a b : ℕ) (rest : List Step) → a < b → b < callers plan → is_moving o ≡ true → is_locking o ≡ true
-    → Covers plan p o (b ∷ a ∷ []) → Rest plan p rest → Walks plan p [] (map (step_in o) (under_lock a (under_lock b moving)) ++ rest)
-between_walks plan p o a b rest h k moves locks covers r = grind arith
-
 -- the caller's own CPU and another, in whichever order their locks come
 both_walk : (plan : Plan) (p q : ℕ) (o : Op) (rest : List Step) → p < callers plan → q < callers plan → p ≢ q → is_moving o ≡ true → is_locking o ≡ true
     → ((c : ℕ) → touched plan p o c ≡ ((c == p) || (c == q))) → Rest plan p rest → Walks plan p [] (map (step_in o) (under_locks p q moving) ++ rest)
-both_walk plan p q o rest h k apart moves locks touches r =
-    between_walks plan p o (min p q) (max p q) rest (grind (arith, apart)) (grind arith) moves locks (λ c. two_locks p q c ∙ sym (touches c)) r
+both_walk plan p q o rest h k apart moves locks touches r = grind arith
 
 abbrev drained : Plan → ℕ → ℕ → ℕ → List Step → List Step
 drained plan p n q rest = map (step_in op.Drain) (draining n q ++ Release p ∷ []) ++ rest
@@ -99,11 +91,8 @@ ops_walk plan p (o ∷ os) s h all elsewhere =
 
 pub program_pulls : (cpu p : ℕ) (programs : List (List Op)) → all_pull_elsewhere cpu programs ≡ true → list_all (pulls_elsewhere (cpu + p)) (get_or programs p []) ≡ true
 program_pulls cpu p [] all = refl
-program_pulls cpu zero (os ∷ programs) all =
-    subst (λ (k : ℕ). list_all (pulls_elsewhere k) os ≡ true) (let e : cpu ≡ cpu + 0 = omega arith in e) (and_parts (list_all (pulls_elsewhere cpu) os) (all_pull_elsewhere (cpu + 1) programs) all).0
-program_pulls cpu (suc p) (os ∷ programs) all =
-    subst (λ (k : ℕ). list_all (pulls_elsewhere k) (get_or programs p []) ≡ true) (let e : cpu + 1 + p ≡ cpu + suc p = omega arith in e)
-    (program_pulls (cpu + 1) p programs (and_parts (list_all (pulls_elsewhere cpu) os) (all_pull_elsewhere (cpu + 1) programs) all).1)
+program_pulls cpu zero (os ∷ programs) all = grind arith
+program_pulls cpu (suc p) (os ∷ programs) all = grind (arith, program_pulls (cpu + 1) p programs)
 
 program_walks : (plan : Plan) (p : ℕ) → IsSound plan → p < callers plan → Walks plan p [] (steps_by plan p)
 program_walks plan p s h =
@@ -167,8 +156,4 @@ walking plan counters caller sound each below =
     }
 
 pub fresh_at_start : (plan : Plan) (caller : ℕ) → IsSound plan → is_fresh (step_next plan (counters_at_start plan) caller) ≡ true
-fresh_at_start plan caller sound =
-    elim (cases_lt caller (callers plan)) [
-      | inl below ↦ ap (λ (k : ℕ). is_fresh (slice_get (steps_by plan caller) k)) (get_or-replicate (callers plan) caller 0 0 below) ∙ steps_fresh plan caller (program plan caller)
-      | inr past ↦ ap is_fresh (no_step plan (counters_at_start plan) caller past)
-    ]
+fresh_at_start plan caller sound = grind (arith, nat_tests, cases_lt, is_fresh, get_or-replicate, steps_fresh, no_step)

@@ -1,10 +1,9 @@
 -- Each task stands in one place while the callers work.
-use Rattle.std.proofs.Common.{◌≡◌, ℕ, zero, suc, ◌+◌, ◌<◌, ◌≤◌, Bool, true, List, [], ◌∷◌, get_or, ap, ◌∙◌, arith}
+use Rattle.std.proofs.Common.{◌≡◌, ℕ, zero, suc, ◌<◌, ◌≤◌, Bool, true, List, [], ◌∷◌, get_or, ap, arith}
 use Rattle.std.proofs.lemmas.Bool.Decides.{nat_tests}
 use Rattle.std.specs.Prelude.{◌==◌, IfSome, Option, Some, None}
 use Rattle.eevdf_queue.specs.State.{Contents}
-use Rattle.eevdf_ops.specs.{Machine.queue_at, Setup.is_task}
-use Rattle.eevdf_ops.specs.Places.{count, places, places_in}
+use Rattle.eevdf_ops.specs.{Machine.queue_at, Places.count, Places.places_in}
 use Rattle.eevdf_ops.proofs.MachinePlaces.{places-at}
 use Rattle.eevdf_steps.specs.{Plan.Plan, Plan.callers, Playing.IsWork, Places.hands_with, Places.is_in_hand, Work.Work, Work.hand}
 
@@ -14,8 +13,7 @@ own_hand p = ap count (let same : (p.task == p.task) ≡ true = grind (arith, na
 -- what is in a hand is in one
 in_one : (hands : List (Option Contents)) (k : ℕ) (p : Contents) → get_or hands k None ≡ Some p → 1 ≤ hands_with hands p.task
 in_one [] k p e = cc
-in_one (h ∷ hands) zero p e =
-    let here : count (is_in_hand h p.task) ≡ 1 = ap (λ (o : Option Contents). count (is_in_hand o p.task)) e ∙ own_hand p in omega arith
+in_one (h ∷ hands) zero p e = grind arith
 in_one (h ∷ hands) (suc k) p e = let rest : 1 ≤ hands_with hands p.task = in_one hands k p e in omega arith
 
 pub count-le : (b : Bool) → count b ≤ 1
@@ -23,12 +21,7 @@ count-le b = grind arith
 
 -- a task in a hand stands in no queue
 pub held_nowhere : (plan : Plan) (w : Work) (k c : ℕ) (p : Contents) → IsWork plan w → c < callers plan → hand w k ≡ Some p → places_in (queue_at w.machine c) p.task ≡ 0
-held_nowhere plan w k c p works below e =
-    let held : 1 ≤ hands_with w.hands p.task = in_one w.hands k p e in
-    let once : places w.machine p.task + hands_with w.hands p.task ≡ count (is_task plan.homes p.task) = works.once p.task in
-    let few : count (is_task plan.homes p.task) ≤ 1 = count-le (is_task plan.homes p.task) in
-    let here : places_in (queue_at w.machine c) p.task ≤ places w.machine p.task = places-at w.machine c p.task (omega (arith, works.queues)) in
-    omega arith
+held_nowhere plan w k c p works below e = grind (arith, nat_tests, in_one, count-le, places-at)
 
 pub hand_nowhere : (plan : Plan) (w : Work) (k c : ℕ) (h : Option Contents) → IsWork plan w → c < callers plan → hand w k ≡ h
     → IfSome h (λ (p : Contents). places_in (queue_at w.machine c) p.task ≡ 0)
