@@ -52,9 +52,9 @@ parted_first plan q c caller = grind (arith, common_steps)
 -- after any order
 pub posts_kept_after : (plan : Plan) (order : List ℕ) (lines : List Line) → IsSound plan → deeds_of lines ≡ commits plan (progress_at_start plan) order
     → PostsAreKept plan (progress_after plan (progress_at_start plan) order) lines
-posts_kept_after plan order lines sound same q c caller = grind (arith, common_steps, deeds_of_lines, parted_after, orderly_first, parted_first, unsettled, append_assoc)
+posts_kept_after plan order lines sound same q c caller = grind (arith, common_steps, deeds_of_lines, parted_after, orderly_first, parted_first, append_assoc)
 
 -- after an order without fault
 pub posts_taken_or_left : (plan : Plan) (order : List ℕ) (lines : List Line) → IsSound plan → order_fault plan (counters_at_start plan) 0 order ≡ None
     → deeds_of lines ≡ commits plan (progress_at_start plan) order → PostsAreTakenOrLeft plan (progress_after plan (progress_at_start plan) order) lines
-posts_taken_or_left plan order lines sound faultless same q c caller = grind (arith, nat_tests, done_by_all, whole_ends, faultless_whole, posts_kept_after, to_settle_next, append-nil)
+posts_taken_or_left plan order lines sound faultless same q c caller = grind (arith, nat_tests, done_by_all, whole_ends, faultless_whole, posts_kept_after, append-nil)

@@ -1,5 +1,5 @@
 -- The lists of requests stay those that the steps have posted.
-use Rattle.std.proofs.Common.{◌≡◌, ◌≢◌, ℕ, zero, suc, ◌+◌, ◌*◌, ◌<◌, ◌≤◌, Bool, true, cond, List, [], ◌∷◌, ◌++◌, length, take, set, inl, inr, sym, ap, subst, ◌∙◌, arith, refl}
+use Rattle.std.proofs.Common.{◌≡◌, ◌≢◌, ℕ, zero, suc, ◌+◌, ◌*◌, ◌<◌, ◌≤◌, Bool, true, cond, List, [], ◌∷◌, ◌++◌, length, take, set, inl, inr, sym, ap, subst, ◌∙◌, arith, refl, append-nil}
 use Rattle.std.proofs.Math.ListN.{length-set, length-append}
 use Rattle.std.proofs.lemmas.{List.get_or-set_same, List.get_or-set_other, Nat.mul-add-lt, Nat.same_from_place}
 use Rattle.std.proofs.lemmas.{Bool.Decides.nat_tests, Grind.common_steps}
@@ -17,10 +17,6 @@ pub posts_joined : (plan : Plan) (c : ℕ) (xs ys : List Step) → posts_to plan
 posts_joined plan c [] ys = refl
 posts_joined plan c (x ∷ xs) ys = grind (arith, posts_joined plan c xs ys)
 
-append_nothing : (l : List ℕ) → l ++ [] ≡ l
-append_nothing [] = refl
-append_nothing (x ∷ l) = ap (λ (k : List ℕ). x ∷ k) (append_nothing l)
-
 -- what a caller has posted after its step
 pub posted_own : (plan : Plan) (counters : Counters) (p c : ℕ) (s : Step) → p < length counters → step_next plan counters p ≡ Some s
     → posted plan (counted counters p) p c ≡ posted plan counters p c ++ post_to plan c s.micro
@@ -29,7 +25,7 @@ posted_own plan counters p c s h e =
     (get_or-set_same counters p (count_of counters p + 1) 0 h ∙ (let one : count_of counters p + 1 ≡ suc (count_of counters p) = omega arith in one))
     ∙ ap (λ (ss : List Step). posts_to plan c ss) (take_next (steps_by plan p) (count_of counters p) s e)
     ∙ posts_joined plan c (done_by plan counters p) (s ∷ [])
-    ∙ ap (λ (l : List ℕ). posted plan counters p c ++ l) (append_nothing (post_to plan c s.micro))
+    ∙ ap (λ (l : List ℕ). posted plan counters p c ++ l) (append-nil (post_to plan c s.micro))
 
 pub posted_other : (plan : Plan) (counters : Counters) (p q c : ℕ) → q ≢ p → posted plan (counted counters p) q c ≡ posted plan counters q c
 posted_other plan counters p q c apart = grind (arith, common_steps)
@@ -40,7 +36,7 @@ pub quiet : (plan : Plan) (counters : Counters) (p q c : ℕ) (s : Step) → p <
 quiet plan counters p q c s h e none =
     elim (cases_eq q p) [
       | inl same ↦ subst (λ (r : ℕ). posted plan (counted counters p) r c ≡ posted plan counters r c) (sym same)
-          (posted_own plan counters p c s h e ∙ ap (λ (l : List ℕ). posted plan counters p c ++ l) none ∙ append_nothing (posted plan counters p c))
+          (posted_own plan counters p c s h e ∙ ap (λ (l : List ℕ). posted plan counters p c ++ l) none ∙ append-nil (posted plan counters p c))
       | inr apart ↦ posted_other plan counters p q c apart
     ]
 
@@ -135,7 +131,7 @@ posts_kept plan counters lists p t a ps =
             | inl same ↦ subst (λ (x : ℕ). posted plan (counted counters p) x c ≡ posted plan counters x c) (sym same)
                 (ps.adds c ∙ ap (λ (ys : List ℕ). posted plan counters p c ++ ys)
                 (post_elsewhere plan t c (λ at. apart (ap (λ (x : ℕ). pair plan x c) same ∙ ap (λ (y : ℕ). pair plan p y) at)))
-                ∙ append_nothing (posted plan counters p c))
+                ∙ append-nil (posted plan counters p c))
             | inr other ↦ posted_other plan counters p q c other
           ]
 

@@ -22,7 +22,7 @@ operation_posts plan p c o = grind (arith, nat_tests, sleep_posts, drain_posts)
 
 pub program_posts : (plan : Plan) (p c : ℕ) (ops : List Op) → posts_to plan c (steps_of plan p ops) ≡ posts_in plan.homes c ops
 program_posts plan p c [] = refl
-program_posts plan p c (o ∷ ops) = search (program_posts plan p c ops, posts_joined, micros_in, operation_posts)
+program_posts plan p c (o ∷ ops) = search (program_posts plan p c ops, posts_joined, operation_posts)
 
 pub posted_when_done : (plan : Plan) (counters : Counters) (q c : ℕ) → step_next plan counters q ≡ None
     → posted plan counters q c ≡ posts_in plan.homes c (program plan q)

@@ -156,4 +156,4 @@ walking plan counters caller sound each below =
     }
 
 pub fresh_at_start : (plan : Plan) (caller : ℕ) → IsSound plan → is_fresh (step_next plan (counters_at_start plan) caller) ≡ true
-fresh_at_start plan caller sound = grind (arith, nat_tests, cases_lt, is_fresh, get_or-replicate, steps_fresh, no_step)
+fresh_at_start plan caller sound = grind (arith, nat_tests, cases_lt, get_or-replicate, steps_fresh, no_step)
