@@ -4,8 +4,6 @@ use Rattle.std.specs.Prelude.{MatchOption, Option, Some}
 use Rattle.eevdf_queue.specs.State.{State, Contents}
 use Rattle.eevdf_ops.specs.{declared.deeds.Op.Op, declared.deeds.Deed.Deed, Machine.Machine, Machine.queue_at, Whole.whole}
 use Rattle.eevdf_ops.specs.Programs.{deed_of}
-use Rattle.eevdf_ops.specs.declared.deeds.Op.TheVariants as op
-use Rattle.eevdf_ops.specs.declared.deeds.Deed.TheVariants as deed
 use Rattle.eevdf_ops.specs.Parts.{after_leaving, giver, only_at, touches}
 use Rattle.eevdf_ops.specs.PartsLaws as laws
 use Rattle.eevdf_ops.proofs.PartsProofs.{touched_decide}

@@ -6,7 +6,6 @@ use Rattle.std.proofs.lemmas.{Grind.common_steps, Bool.cases_eq}
 use Rattle.std.specs.Prelude.{◌==◌, Option, Some, None}
 use Rattle.std.specs.Option.{option_to_list}
 use Rattle.eevdf_ops.specs.{declared.deeds.Op.Op, declared.deeds.Deed.Deed, declared.deeds.Line.Line, Parts.decider}
-use Rattle.eevdf_ops.specs.declared.deeds.Op.TheVariants as op
 use Rattle.eevdf_ops.specs.Programs.{deeds_by, deeds_of, lines_by}
 use Rattle.eevdf_steps.specs.{declared.micro.Micro.Micro, declared.plan.Step.Step, MicroSteps.steps_by, Orders.counters_at_start}
 use Rattle.eevdf_steps.specs.Orders.{order_fault}

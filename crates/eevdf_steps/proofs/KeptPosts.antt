@@ -8,7 +8,7 @@ use Rattle.eevdf_steps.specs.{MicroSteps.steps_by, Counters.step_next, Commits.c
 use Rattle.eevdf_steps.specs.Orders.{counters_at_start, order_fault}
 use Rattle.eevdf_steps.specs.Plan.{IsSound, Plan, callers}
 use Rattle.eevdf_steps.specs.Requests.{Progress, found_by, left, posted, posts_to, progress_after, progress_at_start, progress_step}
-use Rattle.eevdf_steps.proofs.CommittedLines.{PostsAreKept, PostsAreTakenOrLeft, to_settle_next, unsettled}
+use Rattle.eevdf_steps.proofs.CommittedLines.{PostsAreKept, PostsAreTakenOrLeft, unsettled}
 use Rattle.eevdf_steps.proofs.{CommittedPrograms.deeds_of_lines, Holders.count_first}
 use Rattle.eevdf_steps.proofs.LawfulOrders.{done_by_all, faultless_whole, whole_ends}
 use Rattle.eevdf_steps.proofs.RequestMoves.{IsOrderly, Moves, step_moves}

@@ -2,7 +2,7 @@
 use Rattle.std.proofs.Common.{◌≡◌, ℕ, ◌*◌, ◌<◌, List, [], length, map, drop, get_or, arith}
 use Rattle.std.proofs.lemmas.Grind.{common_steps}
 use Rattle.std.specs.Prelude.{Option}
-use Rattle.eevdf_steps.specs.{Plan.callers, Plan.pair, Requests.left, Requests.posted, Callers.Callers, Recorded.Recorded}
+use Rattle.eevdf_steps.specs.{Plan.callers, Plan.pair, Requests.left, Callers.Callers, Recorded.Recorded}
 use Rattle.eevdf_steps.specs.{Players.Player, Playing.IsPlaying, Playing.player_of, PostLists.PostList}
 
 abbrev rest : PostList → List ℕ

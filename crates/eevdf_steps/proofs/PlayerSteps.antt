@@ -6,7 +6,7 @@ use Rattle.std.specs.Prelude.{nat_lt, Option, Some, None}
 use Rattle.eevdf_ops.specs.{declared.deeds.Op.Op, Programs.deeds_of}
 use Rattle.eevdf_ops.specs.declared.deeds.Op.TheVariants as op
 use Rattle.eevdf_steps.specs.{declared.plan.Step.Step, Commits.committed, Commits.committed_by, Callers.Callers}
-use Rattle.eevdf_steps.specs.{SoundSteps.is_sound_micro, Requests.Progress, Room.lines_to_come, Work.hand, Work.pulls_from}
+use Rattle.eevdf_steps.specs.{SoundSteps.is_sound_micro, Requests.Progress, Room.lines_to_come, Work.pulls_from}
 use Rattle.eevdf_steps.specs.{Journals.noted, Recorded.Recorded, Working.IsWorking, Players.Player, Players.player_step}
 use Rattle.eevdf_steps.specs.Playing.{IsPlaying, player_of}
 use Rattle.eevdf_steps.specs.Plan.{IsSound, Plan, callers, is_sound_op}

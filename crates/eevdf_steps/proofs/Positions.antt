@@ -6,7 +6,6 @@ use Rattle.std.proofs.lemmas.Option.{none-some, slice_get-map, slice_get_within}
 use Rattle.std.specs.Option.{option_map}
 use Rattle.std.specs.Prelude.{slice_get, Option, Some, None}
 use Rattle.eevdf_ops.specs.{declared.deeds.Op.Op, Numbers.most_cpus}
-use Rattle.eevdf_ops.specs.declared.deeds.Op.TheVariants as op
 use Rattle.eevdf_steps.specs.{declared.micro.Micro.Micro, declared.plan.Step.Step, declared.plan.Position.Position}
 use Rattle.eevdf_steps.specs.Positions.{IsPosition, is_within}
 use Rattle.eevdf_steps.specs.Plan.{Plan, callers, program}

@@ -4,8 +4,7 @@ use Rattle.std.proofs.lemmas.{Bool.cases_lt, Grind.common_steps, List.Folds.sum_
 use Rattle.std.proofs.lemmas.Bool.Decides.{nat_tests}
 use Rattle.std.proofs.lemmas.List.{get_or_append_left, get_or_push, length-take-le}
 use Rattle.std.specs.{List.sum_by, Prelude.slice_index, Prelude.None}
-use Rattle.eevdf_ops.specs.{declared.deeds.Op.Op, Numbers.most_operations, Places.count, Programs.posts_in}
-use Rattle.eevdf_ops.specs.declared.deeds.Op.TheVariants as op
+use Rattle.eevdf_ops.specs.{declared.deeds.Op.Op, Numbers.most_operations, Programs.posts_in}
 use Rattle.eevdf_steps.specs.{declared.micro.Micro.TheVariants.Release, declared.plan.Step.Step, Orders.counters_at_start}
 use Rattle.eevdf_steps.specs.PostLists.{PostList, list_at}
 use Rattle.eevdf_steps.specs.Plan.{IsSound, Plan, callers, program}

@@ -6,7 +6,6 @@ use Rattle.std.specs.List.{list_all}
 use Rattle.std.specs.Prelude.{nat_lt, nat_le, None}
 use Rattle.eevdf_ops.specs.{declared.task_spec.TaskSpec.TaskSpec, declared.deeds.Op.Op, Numbers.most_cpus, Setup.Setup}
 use Rattle.eevdf_ops.specs.Setup.{cpus_of}
-use Rattle.eevdf_ops.specs.declared.deeds.Op.TheVariants as op
 use Rattle.eevdf_queue.specs.State.{empty_state}
 use Rattle.eevdf_ops.proofs.Machines.{length-begin_at_homes}
 use Rattle.eevdf_ops.proofs.SetupFaults.{or_none_left, or_none_right, parts_of, passes}

@@ -3,7 +3,6 @@ use Rattle.std.proofs.Common.{◌≡◌, ℕ, ◌+◌, ◌<◌, Bool, true, List
 use Rattle.std.specs.{List.list_all, Prelude.Option, Prelude.Some}
 use Rattle.eevdf_ops.specs.{declared.deeds.Op.Op, declared.deeds.Deed.Deed, Places.AreCpus, Setup.is_allowed, Programs.deed_of}
 use Rattle.eevdf_ops.specs.declared.deeds.Op.TheVariants as op
-use Rattle.eevdf_ops.specs.declared.deeds.Deed.TheVariants as deed
 use Rattle.eevdf_steps.specs.{declared.micro.Micro.Micro, declared.plan.Step.Step, SoundSteps.is_sound_micro, UnderWay.UnderWay}
 use Rattle.eevdf_steps.specs.{UnderWay.under_way, Serial.begun_by}
 use Rattle.eevdf_steps.specs.MicroSteps.{micros_of, steps_by, steps_of}

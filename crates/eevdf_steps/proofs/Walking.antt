@@ -7,7 +7,7 @@ use Rattle.std.specs.Prelude.{slice_get, ◌==◌, MatchOption, Option}
 use Rattle.eevdf_ops.specs.declared.deeds.Op.{Op}
 use Rattle.eevdf_ops.specs.declared.deeds.Op.TheVariants as op
 use Rattle.eevdf_steps.specs.{declared.micro.Micro.Micro, declared.plan.Step.Step, Orders.counters_at_start}
-use Rattle.eevdf_steps.specs.declared.micro.Micro.TheVariants.{Release, Post}
+use Rattle.eevdf_steps.specs.declared.micro.Micro.TheVariants.{Release}
 use Rattle.eevdf_steps.specs.Plan.{IsSound, Plan, all_pull_elsewhere, callers, home, is_sound_op, program, pulls_elsewhere}
 use Rattle.eevdf_steps.specs.MicroSteps.{acting, draining, micros_of, moving, steps_by, steps_of, under_lock, under_locks}
 use Rattle.eevdf_steps.specs.Counters.{Counters, count_of, counted, held_after, held_by_steps, step_next}

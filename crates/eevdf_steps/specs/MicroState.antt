@@ -5,7 +5,7 @@ use Rattle.eevdf_ops.specs.declared.deeds.Op.TheVariants as op
 use Rattle.eevdf_ops.specs.{Setup.Setup, Machine.start}
 use Rattle.eevdf_steps.specs.declared.{micro.Micro.Micro, plan.Step.Step}
 use Rattle.eevdf_steps.specs.{Counters.step_next, Commits.committed}
-use Rattle.eevdf_steps.specs.declared.micro.Micro.TheVariants.{Act, Detach, Attach, Commit, Settle, Post}
+use Rattle.eevdf_steps.specs.declared.micro.Micro.TheVariants.{Act, Detach, Attach, Commit, Settle}
 use Rattle.eevdf_steps.specs.Plan.{Plan, callers, home, plan_of}
 use Rattle.eevdf_steps.specs.Requests.{Progress, found_by, progress_at_start, progress_step}
 use Rattle.eevdf_steps.specs.Work.{Work, act, answer, attach, detach, wake_answer, woken}

@@ -33,6 +33,7 @@ pub fn one_holder(player: &Player)
 
 /// An order of at most 1000000 places has no fault where at each place it names a caller that may step, and after it
 /// every caller is done.
+#[tactic(auto, using(crate::proofs::LawfulOrders::whole_is_played))]
 pub fn whole_orders_are_played()
     ensures { WholeIsPlayed }
 {}

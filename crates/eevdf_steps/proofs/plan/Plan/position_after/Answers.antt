@@ -1,4 +1,4 @@
-use Rattle.std.proofs.Common.{◌≡◌, ◌+◌, ◌*◌, ◌<◌, ◌≤◌, length, ◌∙◌, sym, arith}
+use Rattle.std.proofs.Common.{◌+◌, ◌*◌, ◌<◌, ◌≤◌, length, ◌∙◌, sym, arith}
 use Rattle.eevdf_ops.specs.Numbers.{most_cpus}
 use Rattle.eevdf_steps.specs.MicroSteps.{micros_of}
 use Rattle.eevdf_steps.proofs.Plans.{op_sound, op_within}
