@@ -21,7 +21,7 @@ all_taken test xs k all = list_all-from_AllPass test (take k xs) (All-take (λ x
 
 -- an element of a list all of whose elements pass, where there is one
 some_passes : {A : Type 0} (test : A → Bool) (xs : List A) (k : ℕ) (r : Option A) → list_all test xs ≡ true → slice_get xs k ≡ r → IfSome r (λ (x : A). test x ≡ true)
-some_passes test xs k r all e = grind (arith, nat_tests, some_all)
+some_passes test xs k r all e = grind (arith, some_all)
 
 -- a request to a home is for a task of that home
 abbrev IsForHome : Plan → ℕ → Option ℕ → Type 0
@@ -53,7 +53,7 @@ takes_own : (plan : Plan) (g : Progress) (x s : ℕ) (r : Option ℕ) → FindTh
 takes_own plan g x s r own new = grind (arith, common_steps)
 
 requested_own : (plan : Plan) (g : Progress) (x : ℕ) (m : Micro) → IsSound plan → is_sound_micro plan m ≡ true → FindTheirOwn plan g → FindTheirOwn plan (requested plan g x m)
-requested_own plan g x (Take s) sound well own = grind (arith, nat_tests, takes_own, oldest_is_for_home, ltb-true)
+requested_own plan g x (Take s) sound well own = grind (arith, takes_own, oldest_is_for_home, ltb-true)
 requested_own plan g x (Settle s) sound well own = found_next plan g.found x None own tt
 requested_own plan g x _ sound well own = own
 
@@ -87,7 +87,7 @@ step_allowed plan g x (Some s) sound own e =
 
 allowed_from : (plan : Plan) (g : Progress) (order : List ℕ) → IsSound plan → FindTheirOwn plan g → AllAllowed plan (commits plan g order)
 allowed_from plan g [] sound own = refl
-allowed_from plan g (x ∷ order) sound own = grind (arith, nat_tests, allowed_from plan (progress_step plan g x) order, step_allowed, all_joined)
+allowed_from plan g (x ∷ order) sound own = grind (arith, allowed_from plan (progress_step plan g x) order, step_allowed, all_joined)
 
 pub commits_allowed : (plan : Plan) (order : List ℕ) → IsSound plan → list_all (is_allowed (callers plan) plan.homes) (commits plan (progress_at_start plan) order) ≡ true
 commits_allowed plan order sound = allowed_from plan (progress_at_start plan) order sound (found_first plan)

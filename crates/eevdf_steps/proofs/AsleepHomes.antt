@@ -31,10 +31,10 @@ still : (homes : List ℕ) (cpu : ℕ) (q r : State) → IsNoMore q r → Sleeps
 still homes cpu q r less at_home task a = at_home task (less task a)
 
 wake_to_less : (q : State) (t : ℕ) (o : Option Entry) → IsNoMore q (wake_to q t o).1
-wake_to_less q t o = grind (arith, nat_tests, contains-removed)
+wake_to_less q t o = grind (arith, contains-removed)
 
 wake_sleeper_less : (q : State) (t : ℕ) (o : Option Sleeper) → IsNoMore q (wake_sleeper q t o).1
-wake_sleeper_less q t o = grind (arith, nat_tests, wake_to_less)
+wake_sleeper_less q t o = grind (arith, wake_to_less)
 
 leave_less : (q : State) (t : ℕ) (o : Option Entry) → IsNoMore q (without_entry q t o)
 leave_less q t o = grind arith
@@ -46,7 +46,7 @@ fallen : (homes : List ℕ) (cpu task : ℕ) (b c : Bool) → (b ≡ true → ho
 fallen homes cpu task b c f g e = grind arith
 
 falls_at_home : (homes : List ℕ) (cpu : ℕ) (q : State) (p : Contents) → home_of homes p.task ≡ cpu → SleepsAtHome homes cpu q → SleepsAtHome homes cpu (put_asleep q p)
-falls_at_home homes cpu q p home at_home task a = grind (arith, nat_tests, fallen, equal, contains-insert)
+falls_at_home homes cpu q p home at_home task a = grind (arith, fallen, equal, contains-insert)
 
 module _ (homes : List ℕ) where
   set_at_home : (m : Machine) (c : ℕ) (q : State) → SleepsAtHome homes c q → AllAtHome homes m → AllAtHome homes (set m c q)
@@ -70,7 +70,7 @@ module _ (homes : List ℕ) where
 
   pull_at_home : (m : Machine) (cpu source : ℕ) (d : Result Contents Answer) → AllAtHome homes m → AllAtHome homes (pull_decided m cpu source d).1
   pull_at_home m cpu source (Err refusal) all = all
-  pull_at_home m cpu source (Ok p) all = grind (arith, nat_tests, less_at_home, joined_less, leaves_at_home)
+  pull_at_home m cpu source (Ok p) all = grind (arith, less_at_home, joined_less, leaves_at_home)
 
   whole_at_home : (deed : Deed) (m : Machine) → AllAtHome homes m → AllAtHome homes (whole homes deed m).1
   whole_at_home (Tick cpu ns) m all = less_at_home m cpu _ (tick-same (queue_at m cpu) ns).asleep all
@@ -97,8 +97,8 @@ module _ (homes : List ℕ) where
 -- a queue whose lock is held, and one whose lock is free
 at_home_by : (plan : Plan) (start : Machine) (counters : Counters) (w : Work) (lines : List Line) (cpu : ℕ) (o : Option ℕ) → holder plan counters cpu ≡ o
     → IsSerial plan start counters w lines → AllAtHome plan.homes (machine_told plan.homes start lines) → SleepsAtHome plan.homes cpu (queue_at w.machine cpu)
-at_home_by plan start counters w lines cpu None e serial all = grind (arith, nat_tests, free_queue)
-at_home_by plan start counters w lines cpu (Some p) e serial all = grind (arith, nat_tests, least_found, seen_at_home)
+at_home_by plan start counters w lines cpu None e serial all = grind (arith, free_queue)
+at_home_by plan start counters w lines cpu (Some p) e serial all = grind (arith, least_found, seen_at_home)
 
 pub callers_at_home : (plan : Plan) (start : Machine) (counters : Counters) (w : Work) (lines : List Line) → IsSerial plan start counters w lines → AllAtHome plan.homes start
     → AllAtHome plan.homes w.machine

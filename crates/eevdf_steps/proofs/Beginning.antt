@@ -88,7 +88,7 @@ module _ {s : Setup} {w : Callers} {lists : List PostList} {found : List (Option
   opens P there = grind arith
 
   pub playing_open : IsPlaying w lists found done
-  playing_open = grind (arith, nat_tests, opens, playing_first)
+  playing_open = grind (arith, opens, playing_first)
 
   pub player_open : player_of w lists found done ≡ player_start s
   player_open =

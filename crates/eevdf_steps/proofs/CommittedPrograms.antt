@@ -38,7 +38,7 @@ count_other counters p q apart = get_or-set_other counters p q (count_of counter
 -- the step of a caller, for itself and for another
 own_step : (plan : Plan) (g : Progress) (x : ℕ) (s : Step) (rest : List Deed) → x < length g.counters → step_next plan g.counters x ≡ Some s
     → Left plan (counted g.counters x) x (deeds_by x rest) → Left plan g.counters x (deeds_by x (committed_by g x (Some s) ++ rest))
-own_step plan g x s rest h e later = grind (arith, nat_tests, drop_next, deeds_joined, own_deeds, count_own)
+own_step plan g x s rest h e later = grind (arith, drop_next, deeds_joined, own_deeds, count_own)
 
 other_step : (plan : Plan) (g : Progress) (x p : ℕ) (s : Step) (rest : List Deed) → p ≢ x
     → Left plan (counted g.counters x) p (deeds_by p rest) → Left plan g.counters p (deeds_by p (committed_by g x (Some s) ++ rest))
@@ -47,13 +47,13 @@ other_step plan g x p s rest apart later = grind (arith, common_steps)
 any_step : (plan : Plan) (g : Progress) (x p : ℕ) (r : Option Step) (rest : List Deed) → length g.counters ≡ callers plan → step_next plan g.counters x ≡ r
     → Left plan (progress_by plan g x r).counters p (deeds_by p rest) → Left plan g.counters p (deeds_by p (committed_by g x r ++ rest))
 any_step plan g x p None rest each e later = later
-any_step plan g x p (Some s) rest each e later = grind (arith, nat_tests, cases_eq, own_step, is_caller, other_step)
+any_step plan g x p (Some s) rest each e later = grind (arith, cases_eq, own_step, is_caller, other_step)
 
 -- a caller's deeds of an order that ends with everybody done fit the steps that it has still to do
 deeds_fit : (plan : Plan) (g : Progress) (order : List ℕ) (p : ℕ) → length g.counters ≡ callers plan → unfinished plan (progress_after plan g order).counters ≡ None
     → Left plan g.counters p (deeds_by p (commits plan g order))
 deeds_fit plan g [] p each done = search (drop_all, got_past, done_by_all)
-deeds_fit plan g (x ∷ order) p each done = grind (arith, nat_tests, deeds_fit plan (progress_step plan g x) order p, any_step, length-progress_step)
+deeds_fit plan g (x ∷ order) p each done = grind (arith, deeds_fit plan (progress_step plan g x) order p, any_step, length-progress_step)
 
 pub deeds_of_lines : (p : ℕ) (lines : List Line) → deeds_of (lines_by p lines) ≡ deeds_by p (deeds_of lines)
 deeds_of_lines p [] = refl

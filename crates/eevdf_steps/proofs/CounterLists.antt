@@ -32,14 +32,14 @@ position_of plan ats k a h e all = subst (λ (b : Position). IsPosition plan k b
 -- the step that is kept is the next one
 pub step_kept : (plan : Plan) (ats : List Position) (k cpu : ℕ) (a : Position) → k ≡ cpu → k < length ats → a ≡ get_or ats k a → ArePositions plan ats
     → a.next ≡ step_next plan (counters_at plan 0 ats) cpu
-step_kept plan ats k cpu a same h e all = grind (arith, nat_tests, position_of, counter_of)
+step_kept plan ats k cpu a same h e all = grind (arith, position_of, counter_of)
 
 pub positions_with : (plan : Plan) (ats : List Position) (k : ℕ) (a : Position) → k < length ats → IsPosition plan k a → ArePositions plan ats → ArePositions plan (set ats k a)
 positions_with plan ats k a h new all c d below = grind (arith, common_steps)
 
 pub counters_with : (plan : Plan) (ats : List Position) (k : ℕ) (a b : Position) → k < length ats → a ≡ get_or ats k a → counter_at plan k b ≡ counter_at plan k a + 1
     → counters_at plan 0 (set ats k b) ≡ counted (counters_at plan 0 ats) k
-counters_with plan ats k a b h e more = grind (arith, nat_tests, set_counter, from_zero, counter_of)
+counters_with plan ats k a b h e more = grind (arith, set_counter, from_zero, counter_of)
 
 -- at the start
 pushed : (P : ℕ → Position → Type 0) (ats : List Position) (a : Position) → ((c : ℕ) (d : Position) → c < length ats → P c (get_or ats c d)) → P (length ats) a
@@ -55,7 +55,7 @@ first_counters plan p (a ∷ ats) none =
     ap (λ (q : ℕ). counter_at plan q (get_or ats k d)) (let e : p + 1 + k ≡ p + suc k = omega arith in e) ∙ none (suc k) d (omega arith)))
 
 pub counters_first : (plan : Plan) (n : ℕ) (ats : List Position) → BeginAll plan n ats → counters_at plan 0 ats ≡ replicate n 0
-counters_first plan n ats b = grind (arith, nat_tests, first_counters, from_zero)
+counters_first plan n ats b = grind (arith, first_counters, from_zero)
 
 pub length-counters_at : (plan : Plan) (p : ℕ) (ats : List Position) → length (counters_at plan p ats) ≡ length ats
 length-counters_at plan p [] = refl

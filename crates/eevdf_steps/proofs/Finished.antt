@@ -25,4 +25,4 @@ all_free plan counters c sound each done p =
 
 pub finished_machine : (plan : Plan) (counters : Counters) (w : Work) (lines : List Line) → IsSound plan → length counters ≡ callers plan → length w.machine ≡ callers plan
     → IsSerial plan plan.start counters w lines → unfinished plan counters ≡ None → w.machine ≡ machine_told plan.homes plan.start lines
-finished_machine plan counters w lines sound each long serial done = grind (arith, nat_tests, same_machine, length-machine_after, all_free)
+finished_machine plan counters w lines sound each long serial done = grind (arith, same_machine, length-machine_after, all_free)

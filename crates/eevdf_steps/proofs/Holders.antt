@@ -145,7 +145,7 @@ length-holders_after p m holders = grind (arith, common_steps)
 -- the holder that was read
 pub read_holder : (plan : Plan) (counters : Counters) (holders : List (Option ℕ)) (cpu k : ℕ) (h : Option ℕ) → k ≡ cpu → cpu < callers plan → AreHolders plan counters holders
     → h ≡ get_or holders k h → h ≡ holder plan counters cpu
-read_holder plan counters holders cpu k h at below a e = grind (arith, nat_tests, get_or_default, holder_is)
+read_holder plan counters holders cpu k h at below a e = grind (arith, get_or_default, holder_is)
 
 -- a number that doesn't pass is passed over
 pub least_past : (f : ℕ → Bool) (from n : ℕ) → from < n → f from ≡ false → least f from (n - from) ≡ least f (from + 1) (n - (from + 1))

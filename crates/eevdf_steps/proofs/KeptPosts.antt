@@ -57,4 +57,4 @@ posts_kept_after plan order lines sound same q c caller = grind (arith, common_s
 -- after an order without fault
 pub posts_taken_or_left : (plan : Plan) (order : List ℕ) (lines : List Line) → IsSound plan → order_fault plan (counters_at_start plan) 0 order ≡ None
     → deeds_of lines ≡ commits plan (progress_at_start plan) order → PostsAreTakenOrLeft plan (progress_after plan (progress_at_start plan) order) lines
-posts_taken_or_left plan order lines sound faultless same q c caller = grind (arith, nat_tests, done_by_all, whole_ends, faultless_whole, posts_kept_after, append-nil)
+posts_taken_or_left plan order lines sound faultless same q c caller = grind (arith, done_by_all, whole_ends, faultless_whole, posts_kept_after, append-nil)

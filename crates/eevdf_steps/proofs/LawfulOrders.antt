@@ -43,7 +43,7 @@ whole_faultless plan counters at (p ∷ order) w = grind (arith, whole_faultless
 
 -- after a whole order everybody is done
 pub whole_ends : (plan : Plan) (g : Progress) (order : List ℕ) → IsWhole plan g.counters order → unfinished plan (progress_after plan g order).counters ≡ None
-whole_ends plan g order w = grind (arith, nat_tests, counters_lawful, none_of)
+whole_ends plan g order w = grind (arith, counters_lawful, none_of)
 
 not_under_way : (plan : Plan) (counters : Counters) (p : ℕ) (r : Option Step) → step_next plan counters p ≡ r → unfinished plan counters ≡ None
     → p < callers plan → r ≡ None
@@ -53,7 +53,7 @@ not_under_way plan counters p (Some s) e none below =
     ∙ ap (λ (r : Option ℕ). is_none r) none))
 
 pub done_by_all : (plan : Plan) (counters : Counters) (p : ℕ) → unfinished plan counters ≡ None → step_next plan counters p ≡ None
-done_by_all plan counters p e = grind (arith, nat_tests, cases_lt, not_under_way, no_step)
+done_by_all plan counters p e = grind (arith, cases_lt, not_under_way, no_step)
 
 -- each step counts one caller on
 pub length-progress_step : (plan : Plan) (g : Progress) (p : ℕ) → length (progress_step plan g p).counters ≡ length g.counters
@@ -63,4 +63,4 @@ fits_in : (n most : ℕ) → n ≤ most → nat_lt most n ≡ false
 fits_in n most h = grind (arith, nat_tests)
 
 pub whole_is_played : WholeIsPlayed
-whole_is_played plan order short whole = grind (arith, nat_tests, fits_in, whole_faultless)
+whole_is_played plan order short whole = grind (arith, fits_in, whole_faultless)

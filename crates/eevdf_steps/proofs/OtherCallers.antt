@@ -63,7 +63,7 @@ module _ {plan : Plan} {counters : Counters} {p : ℕ} {m m' : Machine} {w w' : 
 
   held_then : AreWalking plan counters → (c q : ℕ) → holds plan (counted counters p) c q ≡ true
       → queue_at w'.machine c ≡ queue_seen plan.homes m' (begun_by plan (counted counters p) q) c
-  held_then walking c q h = grind (arith, nat_tests, cases_eq, holds_other, not_held, others_alike, begun_other)
+  held_then walking c q h = grind (arith, cases_eq, holds_other, not_held, others_alike, begun_other)
 
   hands_then : AreWalking plan counters → (q : ℕ) → hand w' q ≡ hand_seen plan.homes m' (begun_by plan (counted counters p) q)
   hands_then walking q =
@@ -86,7 +86,7 @@ module _ {plan : Plan} {counters : Counters} {p : ℕ} {m m' : Machine} {w w' : 
   -- a queue that nobody holds any more
   free_by : (c : ℕ) (b : Bool) → IsFree plan (counted counters p) c → holds plan counters c p ≡ b → queue_at w'.machine c ≡ queue_at m' c
   free_by c true free e = s.released c e (free p)
-  free_by c false free e = grind (arith, nat_tests, cases_eq, holds_other)
+  free_by c false free e = grind (arith, cases_eq, holds_other)
 
   -- nobody else holds what the caller holds
   alone_by : (c q : ℕ) (b : Bool) → holds plan (counted counters p) c q ≡ true → holds plan (counted counters p) c p ≡ true → holds plan counters c p ≡ b → q ≢ p → q ≡ p
@@ -97,7 +97,7 @@ module _ {plan : Plan} {counters : Counters} {p : ℕ} {m m' : Machine} {w w' : 
   alone_with c q h k = elim (cases_eq q p) [ inl same ↦ same | inr apart ↦ alone_by c q (holds plan counters c p) h k refl apart ]
 
   alone_then : (c q o : ℕ) → holds plan (counted counters p) c q ≡ true → holds plan (counted counters p) c o ≡ true → q ≡ o
-  alone_then c q o h k = grind (arith, nat_tests, cases_eq, alone_with, holds_other)
+  alone_then c q o h k = grind (arith, cases_eq, alone_with, holds_other)
 
   pub followed_then : AreWalking plan counters → FollowsHistory plan m' (counted counters p) w'
   followed_then walking = record {

@@ -34,11 +34,11 @@ length-machine_after homes m (d ∷ ds) = length-machine_after homes (whole home
 -- a line is added, whose answer is that of the whole deed
 pub machine_more : (homes : List ℕ) (start : Machine) (lines : List Line) (l : Line)
     → machine_told homes start (lines ++ l ∷ []) ≡ (whole homes l.deed (machine_told homes start lines)).1
-machine_more homes start lines l = grind (arith, nat_tests, map-append, machine_after-more)
+machine_more homes start lines l = grind (arith, map-append, machine_after-more)
 
 pub history_more : (homes : List ℕ) (start : Machine) (lines : List Line) (d : Deed) (a : Answer) → AreHistory homes start lines
     → a ≡ (whole homes d (machine_told homes start lines)).0 → AreHistory homes start (lines ++ record { deed = d; answer = a } ∷ [])
-history_more homes start lines d a is e = grind (arith, nat_tests, lines_of-more, map-append)
+history_more homes start lines d a is e = grind (arith, lines_of-more, map-append)
 
 module _ {plan : Plan} {counters : Counters} {p : ℕ} {m : Machine} {w : Work} {o : Op} (d : Deed) (at : AtStep plan counters p m w o Commit) (is : deed_of p o ≡ Some d) where
   done_now : begun_by plan counters p ≡ Some (record { deed = d; done = true })

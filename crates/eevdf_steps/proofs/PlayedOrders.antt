@@ -24,7 +24,7 @@ played_deeds setup order b o played is = ap deeds_of is.lines ∙ played.commits
 
 pub play_allowed : (setup : Setup) (order : List ℕ) (b : Player) (o : Outcome) → HasPlayed (player_start setup) order b → IsSound b.plan → IsOutcome b o
     → list_all (allows setup) (deeds_of o.lines) ≡ true
-play_allowed setup order b o played sound is = grind (arith, nat_tests, played_deeds, deeds_allowed, played_plan)
+play_allowed setup order b o played sound is = grind (arith, played_deeds, deeds_allowed, played_plan)
 
 -- the same, where nobody is left to step
 played_faultless : (setup : Setup) (order : List ℕ) (b : Player) → HasPlayed (player_start setup) order b → unfinished b.plan b.state.progress.counters ≡ None
@@ -37,9 +37,9 @@ play_whole setup order b played done = faultless_whole (plan_of setup) (counters
 
 pub play_follows : (setup : Setup) (order : List ℕ) (b : Player) (o : Outcome) → HasPlayed (player_start setup) order b → unfinished b.plan b.state.progress.counters ≡ None
     → IsSound b.plan → IsOutcome b o → FollowsPrograms setup o
-play_follows setup order b o played done sound is = grind (arith, nat_tests, outcome_follows, played_plan, played_faultless, played_deeds)
+play_follows setup order b o played done sound is = grind (arith, outcome_follows, played_plan, played_faultless, played_deeds)
 
 pub play_placed : (setup : Setup) (order : List ℕ) (b : Player) (o : Outcome) → HasPlayed (player_start setup) order b → IsSound b.plan → IsOutcome b o
     → IsOneThread b.plan.homes b.plan.start (deeds_of b.state.lines) o → AreCpus (cpus_of setup) (homes_of setup) → IsPlaced (homes_of setup) (start setup)
     → IsPlaced (homes_of setup) (machine_of o.queues)
-play_placed setup order b o played sound is one = grind (arith, nat_tests, outcome_placed, played_plan, play_allowed)
+play_placed setup order b o played sound is one = grind (arith, outcome_placed, played_plan, play_allowed)

@@ -78,7 +78,7 @@ module _ {w : Callers} {lists : List PostList} {found : List (Option ℕ)} {done
   counted_it = omega (arith, st.caller, st.each)
 
   pub is_working : (h : ℕ) → h < callers w.plan → IsWorking done.work p h
-  is_working h home = grind (arith, nat_tests, hand_nowhere)
+  is_working h home = grind (arith, hand_nowhere)
 
   pub pulls : pulls_from (length done.work.machine) s.op ≡ true
   pulls = pulls_by w.plan (length done.work.machine) s.op st.playing.work.queues st.sound_op

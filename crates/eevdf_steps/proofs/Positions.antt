@@ -39,7 +39,7 @@ pub located_past : (plan : Plan) (p : ℕ) (ops : List Op) (k j : ℕ) → slice
     → slice_get (steps_of plan p ops) (length (steps_of plan p (take k ops)) + j) ≡ None
 located_past plan p [] k j past z = refl
 located_past plan p (x ∷ ops) zero j past z = cc
-located_past plan p (x ∷ ops) (suc k) j past z = grind (arith, nat_tests, located_past plan p ops k j, length-append, get_right)
+located_past plan p (x ∷ ops) (suc k) j past z = grind (arith, located_past plan p ops k j, length-append, get_right)
 
 -- where the next operation begins
 pub begins_after : (plan : Plan) (p : ℕ) (ops : List Op) (k : ℕ) (o : Op) → slice_get ops k ≡ Some o
@@ -57,14 +57,14 @@ few_sleeping : (p h : ℕ) (b : Bool) → (0 < length (cond b (under_lock p movi
 few_sleeping p h b = grind arith
 
 few_draining : (n p : ℕ) → n ≤ most_cpus → (0 < length (under_lock p (draining n 0))) × (length (under_lock p (draining n 0)) ≤ 2 * most_cpus + 2)
-few_draining n p few = grind (arith, nat_tests, length-append, length-draining)
+few_draining n p few = grind (arith, length-append, length-draining)
 
 pub few_micros : (plan : Plan) (p : ℕ) (o : Op) → callers plan ≤ most_cpus → (0 < length (micros_of plan p o)) × (length (micros_of plan p o) ≤ 2 * most_cpus + 2)
-few_micros plan p o few = grind (arith, nat_tests, few_sleeping, few_draining)
+few_micros plan p o few = grind (arith, few_sleeping, few_draining)
 
 pub counter_of_next : (plan : Plan) (p k j : ℕ) (o : Op) → slice_get (program plan p) k ≡ Some o → j + 1 ≡ length (micros_of plan p o)
     → length (steps_of plan p (take (k + 1) (program plan p))) ≡ length (steps_of plan p (take k (program plan p))) + j + 1
-counter_of_next plan p k j o here last = grind (arith, nat_tests, begins_after)
+counter_of_next plan p k j o here last = grind (arith, begins_after)
 
 within_some : (plan : Plan) (p j : ℕ) (q : Option Op) (o : Op) → q ≡ Some o → is_within plan p j q ≡ true → j < length (micros_of plan p o)
 within_some plan p j None o e h = cc
@@ -76,7 +76,7 @@ within_none plan p j q e h = grind arith
 -- a position before a step of an operation, and one past the last operation
 pub position_in : (plan : Plan) (p k j : ℕ) (o : Op) (next : Option Step) → slice_get (program plan p) k ≡ Some o → j < length (micros_of plan p o)
     → next ≡ option_map (step_in o) (slice_get (micros_of plan p o) j) → IsPosition plan p (record { operation = k; steps = j; next = next })
-position_in plan p k j o next here h e = grind (arith, nat_tests, lt-ltb, located)
+position_in plan p k j o next here h e = grind (arith, lt-ltb, located)
 
 -- a position with a step stands in the step's operation
 pub record StandsIn (plan : Plan) (p : ℕ) (at : Position) (s : Step) : Type 0 where
@@ -88,7 +88,7 @@ op_of o r s e = grind arith
 
 stands_by : (plan : Plan) (p : ℕ) (at : Position) (s : Step) (q : Option Op) → slice_get (program plan p) at.operation ≡ q → IsPosition plan p at → at.next ≡ Some s
     → StandsIn plan p at s
-stands_by plan p at s None past is e = grind (arith, nat_tests, none-some, located_past, within_none)
+stands_by plan p at s None past is e = grind (arith, none-some, located_past, within_none)
 stands_by plan p at s (Some o) here is e =
     let h : at.steps < length (micros_of plan p o) = within_some plan p at.steps (slice_get (program plan p) at.operation) o here is.within in
     let same : o ≡ s.op = op_of o (slice_get (micros_of plan p o) at.steps) s (sym (located plan p (program plan p) at.operation at.steps o here h) ∙ sym is.next ∙ e) in
@@ -106,4 +106,4 @@ step_within ms o j s e = some_within ms o j s (slice_get ms j) refl e
     some_within ms o j s (Some m) at e = slice_get_within ms j m at
 
 pub step_past : (ms : List Micro) (o : Op) (j : ℕ) → option_map (step_in o) (slice_get ms j) ≡ None → length ms ≤ j
-step_past ms o j e = grind (arith, nat_tests, got_past)
+step_past ms o j e = grind (arith, got_past)

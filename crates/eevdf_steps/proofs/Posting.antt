@@ -45,7 +45,7 @@ pair_below plan q c h k = mul-add-lt q (callers plan) c (callers plan) h k
 
 -- the list of a step is one of those that there are
 pub place_below : (plan : Plan) (p : ℕ) (m : Micro) → IsSound plan → p < callers plan → is_sound_micro plan m ≡ true → place_of plan p m < callers plan * callers plan
-place_below plan p m sound h well = grind (arith, nat_tests, pair_below, ltb-true, home_below)
+place_below plan p m sound h well = grind (arith, pair_below, ltb-true, home_below)
 
 -- a list is written, the others stay
 list_same : (lists : List PostList) (k : ℕ) (l : PostList) → k < length lists → list_at (set lists k l) k ≡ l

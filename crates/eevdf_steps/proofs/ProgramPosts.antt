@@ -18,7 +18,7 @@ drain_posts plan p c zero s = refl
 drain_posts plan p c (suc n) s = drain_posts plan p c n (s + 1)
 
 operation_posts : (plan : Plan) (p c : ℕ) (o : Op) → posts_to plan c (micros_in plan p o) ≡ post_of plan.homes c o
-operation_posts plan p c o = grind (arith, nat_tests, sleep_posts, drain_posts)
+operation_posts plan p c o = grind (arith, sleep_posts, drain_posts)
 
 pub program_posts : (plan : Plan) (p c : ℕ) (ops : List Op) → posts_to plan c (steps_of plan p ops) ≡ posts_in plan.homes c ops
 program_posts plan p c [] = refl
@@ -26,4 +26,4 @@ program_posts plan p c (o ∷ ops) = search (program_posts plan p c ops, posts_j
 
 pub posted_when_done : (plan : Plan) (counters : Counters) (q c : ℕ) → step_next plan counters q ≡ None
     → posted plan counters q c ≡ posts_in plan.homes c (program plan q)
-posted_when_done plan counters q c done = grind (arith, nat_tests, take_all, got_past, program_posts)
+posted_when_done plan counters q c done = grind (arith, take_all, got_past, program_posts)

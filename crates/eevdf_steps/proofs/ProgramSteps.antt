@@ -68,11 +68,11 @@ wakes_from_less p from more (deed.Pull cpu source ∷ deeds) h wakes = wakes
 
 -- a request of a sender is settled, and then those of the senders after it are
 settles : (p s : ℕ) (found : Option ℕ) (rest : List Deed) → AreWakes p (s + 1) rest → AreWakes p s (option_to_list (wake_of p s found) ++ rest)
-settles p s found rest wakes = grind (arith, nat_tests, wakes_from_less)
+settles p s found rest wakes = grind (arith, wakes_from_less)
 
 drains : (p c n s : ℕ) (deeds : List Deed) → FitsSteps p deeds (steps_in op.Drain (draining n s ++ Release c ∷ [])) → AreWakes p s deeds
 drains p c zero s deeds h = subst (λ (ds : List Deed). AreWakes p s ds) (sym (h.joined ∙ h.fits)) tt
-drains p c (suc n) s deeds h = grind (arith, nat_tests, drains p c n (s + 1) h.fits.rest, settles)
+drains p c (suc n) s deeds h = grind (arith, drains p c n (s + 1) h.fits.rest, settles)
 
 operation_fits : (plan : Plan) (p : ℕ) (o : Op) (deeds : List Deed) → FitsSteps p deeds (steps_in o (micros_of plan p o)) → FitsOperation p deeds o
 operation_fits plan p (op.Tick ns) deeds h = acts p (op.Tick ns) (deed.Tick p ns) deeds refl h
@@ -82,7 +82,7 @@ operation_fits plan p (op.Renice task nice) deeds h = acts p (op.Renice task nic
 operation_fits plan p (op.Sleep t) deeds h = grind arith
 operation_fits plan p (op.Pull s) deeds h = moves_between p (min p s) (max p s) (op.Pull s) (deed.Pull p s) deeds refl h
 operation_fits plan p (op.Post t) deeds h = h.joined ∙ h.fits
-operation_fits plan p op.Drain deeds h = grind (arith, nat_tests, drains)
+operation_fits plan p op.Drain deeds h = grind (arith, drains)
 
 pub operations_fit : (plan : Plan) (p : ℕ) (ops : List Op) (deeds : List Deed) → FitsSteps p deeds (steps_of plan p ops) → FitsOperations p deeds ops
 operations_fit plan p [] deeds h = h

@@ -38,7 +38,7 @@ takes_by : (plan : Plan) (counters : Counters) (lists : List PostList) (found : 
     → progress_as (counted counters p) (taken_in (set lists (pair plan q p) (cond (is_some r) (record l { taken = l.taken + 1 }) l))) (set found p r)
     ≡ record (takes plan (progress_in counters lists found) p q r) { counters = counted counters p }
 takes_by plan counters lists found p q l None e = grind (arith, common_steps)
-takes_by plan counters lists found p q l (Some t) e = grind (arith, nat_tests, same_progress, set_taken, get_taken)
+takes_by plan counters lists found p q l (Some t) e = grind (arith, same_progress, set_taken, get_taken)
 
 -- the oldest request is the list's
 oldest_is : (plan : Plan) (counters : Counters) (lists : List PostList) (found : List (Option ℕ)) (q c : ℕ) → ArePosted plan counters lists → q < callers plan → c < callers plan
@@ -55,11 +55,11 @@ by_micro : (plan : Plan) (counters : Counters) (lists : List PostList) (found : 
     ≡ record (requested plan (progress_in counters lists found) p m) { counters = counted counters p }
 by_micro plan counters lists found p (Take q) a below well = grind (arith, common_steps, takes_by, oldest_is, ltb-true)
 by_micro plan counters lists found p (Settle q) a below well = refl
-by_micro plan counters lists found p (Post t) a below well = grind (arith, nat_tests, same_progress, same_taken, set-get_or)
+by_micro plan counters lists found p (Post t) a below well = grind (arith, same_progress, same_taken, set-get_or)
 by_micro plan counters lists found p _ a below well = unchanged plan counters lists found p
 
 pub progress_then : (plan : Plan) (counters : Counters) (lists : List PostList) (found : List (Option ℕ)) (p : ℕ) (s : Step) → ArePosted plan counters lists → p < callers plan
     → step_next plan counters p ≡ Some s → is_sound_micro plan s.micro ≡ true
     → progress_in (counted counters p) (posts_after (place_of plan p s.micro) s.micro lists) (set found p (request_after (place_of plan p s.micro) s.micro lists (get_or found p None)))
     ≡ progress_step plan (progress_in counters lists found) p
-progress_then plan counters lists found p s a below e well = grind (arith, nat_tests, by_micro)
+progress_then plan counters lists found p s a below e well = grind (arith, by_micro)

@@ -32,7 +32,7 @@ takes_elsewhere plan g x s q c (Some t) i j apart = record {
 
 pub elsewhere : (plan : Plan) (g : Progress) (x q c : ℕ) (m : Micro) → x < callers plan → c < callers plan → c ≢ x
     → IsElsewhere plan g (requested plan g x m) q c
-elsewhere plan g x q c m i j apart = grind (arith, nat_tests, takes_elsewhere, get_or-set_other)
+elsewhere plan g x q c m i j apart = grind (arith, takes_elsewhere, get_or-set_other)
 
 -- a list that has grown at its end
 pub record HasGrown (before after : List ℕ) : Type 0 where

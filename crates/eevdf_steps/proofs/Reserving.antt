@@ -40,7 +40,7 @@ room_of plan q c counts h a = grind arith
 pub empty_next : (plan : Plan) (q c : ℕ) (lists : List PostList) (counts : List ℕ) (l : PostList) → c < callers plan → CountPosts plan (program plan q) counts
     → l ≡ record { posted = []; taken = 0; room = slice_index counts c } → length lists ≡ q * callers plan + c → ((k : ℕ) → k < q * callers plan + c → list_at lists k ≡ empty_at plan k)
     → (k : ℕ) → k < q * callers plan + (c + 1) → list_at (lists ++ l ∷ []) k ≡ empty_at plan k
-empty_next plan q c lists counts l h a is long before k below = grind (arith, nat_tests, cases_lt, get_or_append_left, get_or_push, room_of)
+empty_next plan q c lists counts l h a is long before k below = grind (arith, cases_lt, get_or_append_left, get_or_push, room_of)
 
 lines_joined : (xs ys : List Step) → lines_in (xs ++ ys) ≡ lines_in xs + lines_in ys
 lines_joined [] ys = omega arith
@@ -55,7 +55,7 @@ sleeping_lines o p h b = grind arith
 
 -- an operation comes to at most one line
 operation_lines : (plan : Plan) (p : ℕ) (o : Op) → lines_in (micros_in plan p o) ≤ 1
-operation_lines plan p o = grind (arith, nat_tests, sleeping_lines, draining_lines)
+operation_lines plan p o = grind (arith, sleeping_lines, draining_lines)
 
 program_lines : (plan : Plan) (p : ℕ) (ops : List Op) → lines_in (steps_of plan p ops) ≤ length ops
 program_lines plan p [] = omega arith
@@ -63,7 +63,7 @@ program_lines plan p (o ∷ ops) =
     omega (arith, operation_lines plan p o, program_lines plan p ops, lines_joined (micros_in plan p o) (steps_of plan p ops))
 
 first_lines : (plan : Plan) (p : ℕ) → lines_left plan (counters_at_start plan) p ≤ length (program plan p)
-first_lines plan p = grind (arith, nat_tests, count_first, program_lines)
+first_lines plan p = grind (arith, count_first, program_lines)
 
 sum_below : (f : ℕ → ℕ) (from : ℕ) (programs : List (List Op)) → ((k : ℕ) → f (from + k) ≤ length (get_or programs k []))
     → sum_from f from (length programs) ≤ sum_by (λ (ops : List Op). length ops) programs
@@ -75,7 +75,7 @@ sum_below f from (ops ∷ programs) h =
     omega (arith, sum_by-cons (λ (os : List Op). length os) ops programs)
 
 steps_first : (plan : Plan) → steps_to_come plan (counters_at_start plan) ≤ most_lines plan
-steps_first plan = grind (arith, nat_tests, sum_below, first_lines)
+steps_first plan = grind (arith, sum_below, first_lines)
 
 waiting_none : (lists : List PostList) → ((k : ℕ) → k < length lists → waiting_in (list_at lists k) ≡ 0) → waiting lists ≡ 0
 waiting_none [] h = refl
@@ -85,4 +85,4 @@ waiting_none (l ∷ lists) h =
 -- there is room for all that is to come
 pub room_first : (plan : Plan) (lists : List PostList) → AreEmpty plan lists
     → lines_to_come plan (counters_at_start plan) lists (replicate (callers plan) None) ≤ most_lines plan
-room_first plan lists a = grind (arith, nat_tests, waiting_none, sum_by-replicate, steps_first)
+room_first plan lists a = grind (arith, waiting_none, sum_by-replicate, steps_first)

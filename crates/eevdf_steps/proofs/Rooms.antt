@@ -30,7 +30,7 @@ sum_same f g p from (suc n) h same = grind (arith, sum_same f g p (from + 1) n)
 -- a sum is less by as much as one of its parts is
 pub sum_less : (f g : ℕ → ℕ) (p from n d : ℕ) → from ≤ p → p < from + n → f p ≡ g p + d → ((q : ℕ) → q ≢ p → f q ≡ g q) → sum_from f from n ≡ sum_from g from n + d
 sum_less f g p from zero d low high less same = absurd (omega arith)
-sum_less f g p from (suc n) d low high less same = grind (arith, nat_tests, sum_less f g p (from + 1) n d, cases_eq, sum_same)
+sum_less f g p from (suc n) d low high less same = grind (arith, sum_less f g p (from + 1) n d, cases_eq, sum_same)
 
 -- what a step comes to is no longer to come of the steps
 steps_less : (plan : Plan) (counters : Counters) (p : ℕ) (s : Step) → p < length counters → p < callers plan → step_next plan counters p ≡ Some s
@@ -51,7 +51,7 @@ unsettled_set found p f r h read = grind (arith, common_steps)
 -- a request that is found waits no longer
 taken_less : (l : PostList) (r : Option ℕ) → oldest_in l ≡ r → waiting_in (cond (is_some r) (record l { taken = l.taken + 1 }) l) + count (is_some r) ≡ waiting_in l
 taken_less l None e = omega arith
-taken_less l (Some t) e = grind (arith, nat_tests, slice_get_within)
+taken_less l (Some t) e = grind (arith, slice_get_within)
 
 -- what a step does on: its list and its caller are there, and this is what the caller has found
 pub record Passing (lists : List PostList) (found : List (Option ℕ)) (place p : ℕ) (f : Option ℕ) : Type 0 where
@@ -84,7 +84,7 @@ post_leaves w lists found place p t o f h = grind (arith, common_steps)
 -- the request that is taken was waiting, and is found
 take_leaves : (w : Work) (lists : List PostList) (found : List (Option ℕ)) (place p q : ℕ) (o : Op) (f : Option ℕ) → Passing lists found place p f
     → LeavesFewer w lists found place p o (Take q) f
-take_leaves w lists found place p q o f h = grind (arith, nat_tests, waiting_set, taken_less, unsettled_set)
+take_leaves w lists found place p q o f h = grind (arith, waiting_set, taken_less, unsettled_set)
 
 settle_leaves : (w : Work) (lists : List PostList) (found : List (Option ℕ)) (place p q : ℕ) (o : Op) (f : Option ℕ) → Passing lists found place p f
     → LeavesFewer w lists found place p o (Settle q) f
@@ -103,4 +103,4 @@ pub fewer_to_come : (plan : Plan) (counters : Counters) (lists : List PostList) 
     → Passing lists found place p f → p < length counters → p < callers plan → step_next plan counters p ≡ Some s
     → lines_to_come plan (counted counters p) (posts_after place s.micro lists) (set found p (request_after place s.micro lists f)) + length (appends w p s.op s.micro f)
     ≤ lines_to_come plan counters lists found
-fewer_to_come plan counters lists found w place p s f h each below e = grind (arith, nat_tests, steps_less, leaves_fewer)
+fewer_to_come plan counters lists found w place p s f h each below e = grind (arith, steps_less, leaves_fewer)

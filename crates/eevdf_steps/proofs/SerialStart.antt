@@ -17,4 +17,4 @@ begun_first plan p sound = fresh_begun p (step_next plan (counters_at_start plan
 
 pub serial_start : (plan : Plan) (m : Machine) → IsSound plan → m ≡ plan.start
     → IsSerial plan plan.start (counters_at_start plan) (record { machine = m; hands = replicate (callers plan) None; answers = replicate (callers plan) None }) []
-serial_start plan m sound is = grind (arith, nat_tests, false≢true, holds_nothing, none_first, begun_first, no_answer)
+serial_start plan m sound is = grind (arith, false≢true, holds_nothing, none_first, begun_first, no_answer)

@@ -68,12 +68,12 @@ module _ (plan : Plan) (start : Machine) (counters : Counters) (p : ℕ) (w : Wo
   Leaves w' more = IsSerial plan start (counted counters p) w' (lines ++ more)
 
   local_serial : (w' : Work) {o : Op} {micro : Micro} → Serial o micro → IsStepOf plan counters p told told w w' → Leaves w' []
-  local_serial w' s step = grind (arith, nat_tests, append-nil, followed_then, are_walking)
+  local_serial w' s step = grind (arith, append-nil, followed_then, are_walking)
 
   -- a line is added
   line_serial : (w' : Work) (d : Deed) (a : Answer) {o : Op} {micro : Micro} → Serial o micro → IsStepOf plan counters p told (whole plan.homes d told).1 w w'
       → a ≡ (whole plan.homes d told).0 → Leaves w' (record { deed = d; answer = a } ∷ [])
-  line_serial w' d a s step e = grind (arith, nat_tests, history_more, machine_more, followed_then, are_walking)
+  line_serial w' d a s step e = grind (arith, history_more, machine_more, followed_then, are_walking)
 
   -- the locks that the caller holds are those of the queues that its operation touches
   holds_covered : (o : Op) (v : Walk plan counters p) → Covers plan p o v.held → (c : ℕ) → holds plan counters c p ≡ touched plan p o c

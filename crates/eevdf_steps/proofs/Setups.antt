@@ -22,11 +22,11 @@ ops_are_sound plan cpu place [] h = refl
 ops_are_sound plan cpu place (o ∷ os) h = grind (arith, ops_are_sound plan cpu (place + 1) os)
 
 program_is_sound : (plan : Plan) (cpu : ℕ) (os : List Op) → program_fault (length plan.homes) (callers plan) cpu os ≡ None → is_sound_program plan os ≡ true
-program_is_sound plan cpu os h = grind (arith, nat_tests, and_from, passes, or_none_left, ops_are_sound, or_none_right)
+program_is_sound plan cpu os h = grind (arith, and_from, passes, or_none_left, ops_are_sound, or_none_right)
 
 programs_are_sound : (plan : Plan) (cpu : ℕ) (ps : List (List Op)) → programs_fault (length plan.homes) (callers plan) cpu ps ≡ None → list_all (is_sound_program plan) ps ≡ true
 programs_are_sound plan cpu [] h = refl
-programs_are_sound plan cpu (p ∷ ps) h = grind (arith, nat_tests, programs_are_sound plan (cpu + 1) ps, and_from, program_is_sound, or_none_left, or_none_right)
+programs_are_sound plan cpu (p ∷ ps) h = grind (arith, programs_are_sound plan (cpu + 1) ps, and_from, program_is_sound, or_none_left, or_none_right)
 
 ops_pull_elsewhere : (tasks cpus cpu place : ℕ) (os : List Op) → operations_fault tasks cpus cpu place os ≡ None → list_all (pulls_elsewhere cpu) os ≡ true
 ops_pull_elsewhere tasks cpus cpu place [] h = refl
@@ -34,7 +34,7 @@ ops_pull_elsewhere tasks cpus cpu place (o ∷ os) h = grind (arith, ops_pull_el
 
 programs_pull_elsewhere : (tasks cpus cpu : ℕ) (ps : List (List Op)) → programs_fault tasks cpus cpu ps ≡ None → all_pull_elsewhere cpu ps ≡ true
 programs_pull_elsewhere tasks cpus cpu [] h = refl
-programs_pull_elsewhere tasks cpus cpu (p ∷ ps) h = grind (arith, nat_tests, programs_pull_elsewhere tasks cpus (cpu + 1) ps, or_none_left, and_from, ops_pull_elsewhere, or_none_right)
+programs_pull_elsewhere tasks cpus cpu (p ∷ ps) h = grind (arith, programs_pull_elsewhere tasks cpus (cpu + 1) ps, or_none_left, and_from, ops_pull_elsewhere, or_none_right)
 
 pub plan_sound : (s : Setup) → setup_fault s.tasks s.programs ≡ None → IsSound (plan_of s)
 plan_sound s h = record {

@@ -56,7 +56,7 @@ deed_fits plan counters p s d sound e is = λ m long. record {
 
 begun_walks : (plan : Plan) (counters : Counters) (q : ℕ) (u : UnderWay) (o : Option Step) → IsSound plan → length counters ≡ callers plan
     → under_way q o ≡ Some u → step_next plan counters q ≡ o → Walk plan counters q
-begun_walks plan counters q u o sound each b e = grind (arith, nat_tests, walking, is_caller)
+begun_walks plan counters q u o sound each b e = grind (arith, walking, is_caller)
 
 pub are_walking : (plan : Plan) (counters : Counters) → IsSound plan → length counters ≡ callers plan → AreWalking plan counters
 are_walking plan counters sound each =

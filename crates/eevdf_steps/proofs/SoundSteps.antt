@@ -68,7 +68,7 @@ micro_sound plan s well = (and_parts (is_sound_op plan s.op) (is_sound_micro pla
 
 pub some_step_sound : (plan : Plan) (counters : Counters) (p : ℕ) (r : Option Step) → IsSound plan → p < callers plan → r ≡ step_next plan counters p
     → IfSome r (λ (s : Step). is_sound_step plan s ≡ true)
-some_step_sound plan counters p r sound h e = grind (arith, nat_tests, step_sound)
+some_step_sound plan counters p r sound h e = grind (arith, step_sound)
 
 -- who has a step is a caller
 pub is_caller : (plan : Plan) (counters : Counters) (p : ℕ) (s : Step) → step_next plan counters p ≡ Some s → p < callers plan

@@ -102,16 +102,16 @@ program_walks plan p s h =
 -- a number that is above all of a list isn't in it
 pub above_apart : (c : ℕ) (held : List ℕ) → is_above c held ≡ true → is_in c held ≡ false
 above_apart c [] h = refl
-above_apart c (d ∷ held) h = grind (arith, nat_tests, above_apart c held)
+above_apart c (d ∷ held) h = grind (arith, above_apart c held)
 
 gives_up : (c d : ℕ) (held : List ℕ) → take 1 held ≡ d ∷ [] → is_falling held ≡ true → held_after c (is_in c held) (Release d) ≡ is_in c (drop 1 held)
 gives_up c d [] last falls = cc
-gives_up c d (e ∷ held) last falls = grind (arith, nat_tests, above_apart e held)
+gives_up c d (e ∷ held) last falls = grind (arith, above_apart e held)
 
 -- the locks that are held after a step are those of the list
 held_then : (plan : Plan) (p : ℕ) (held : List ℕ) (o : Op) (m : Micro) (following : Option Step) → FitsMicro plan p held o m following → is_falling held ≡ true
     → (c : ℕ) → held_after c (is_in c held) m ≡ is_in c (stack_after held m)
-held_then plan p held o m following fits falls c = grind (arith, nat_tests, gives_up)
+held_then plan p held o m following fits falls c = grind (arith, gives_up)
 
 falling_then : (plan : Plan) (p : ℕ) (held : List ℕ) (o : Op) (m : Micro) (following : Option Step) → FitsMicro plan p held o m following → is_falling held ≡ true
     → is_falling (stack_after held m) ≡ true
@@ -156,4 +156,4 @@ walking plan counters caller sound each below =
     }
 
 pub fresh_at_start : (plan : Plan) (caller : ℕ) → IsSound plan → is_fresh (step_next plan (counters_at_start plan) caller) ≡ true
-fresh_at_start plan caller sound = grind (arith, nat_tests, cases_lt, get_or-replicate, steps_fresh, no_step)
+fresh_at_start plan caller sound = grind (arith, cases_lt, get_or-replicate, steps_fresh, no_step)

@@ -21,8 +21,8 @@ count-le b = grind arith
 
 -- a task in a hand stands in no queue
 pub held_nowhere : (plan : Plan) (w : Work) (k c : ℕ) (p : Contents) → IsWork plan w → c < callers plan → hand w k ≡ Some p → places_in (queue_at w.machine c) p.task ≡ 0
-held_nowhere plan w k c p works below e = grind (arith, nat_tests, in_one, count-le, places-at)
+held_nowhere plan w k c p works below e = grind (arith, in_one, count-le, places-at)
 
 pub hand_nowhere : (plan : Plan) (w : Work) (k c : ℕ) (h : Option Contents) → IsWork plan w → c < callers plan → hand w k ≡ h
     → IfSome h (λ (p : Contents). places_in (queue_at w.machine c) p.task ≡ 0)
-hand_nowhere plan w k c h works below e = grind (arith, nat_tests, held_nowhere)
+hand_nowhere plan w k c h works below e = grind (arith, held_nowhere)

@@ -29,7 +29,7 @@ hands-set (x ∷ hands) (suc k) u h below = omega (arith, hands-set hands k u h 
 
 same_queue : (plan : Plan) (w : Work) (p : ℕ) (q : State) (kept : List (Option Answer)) → IsWork plan w → p < callers plan → IsSame (queue_at w.machine p) q
     → length kept ≡ length w.answers → IsWork plan (record w { machine = set w.machine p q; answers = kept })
-same_queue plan w p q kept works below same long = grind (arith, nat_tests, length-set, places-set)
+same_queue plan w p q kept works below same long = grind (arith, length-set, places-set)
 
 kept_answer : (plan : Plan) (w : Work) (p : ℕ) (a : Answer) → IsWork plan w → IsWork plan (answered w p a)
 kept_answer plan w p a works = record { queues = works.queues; hands = works.hands; answers = length-set w.answers p (Some a) ∙ works.answers; once = works.once }
@@ -37,18 +37,18 @@ kept_answer plan w p a works = record { queues = works.queues; hands = works.han
 taken_out : (plan : Plan) (w : Work) (p c : ℕ) (q : State) (t : Contents) (a : Answer) → IsWork plan w → p < callers plan → c < callers plan
     → IsWithout (queue_at w.machine c) t.task q → hand w p ≡ None
     → IsWork plan (record { machine = set w.machine c q; hands = set w.hands p (Some t); answers = set w.answers p (Some a) })
-taken_out plan w p c q t a works below source without empty = grind (arith, nat_tests, length-set, places-set, hands-set)
+taken_out plan w p c q t a works below source without empty = grind (arith, length-set, places-set, hands-set)
 
 put_in : (plan : Plan) (w : Work) (p c : ℕ) (q : State) (t : Contents) → IsWork plan w → p < callers plan → c < callers plan
     → IsWith (queue_at w.machine c) t.task q → hand w p ≡ Some t
     → IsWork plan (record w { machine = set w.machine c q; hands = set w.hands p None })
-put_in plan w p c q t works below target with full = grind (arith, nat_tests, length-set, places-set, hands-set)
+put_in plan w p c q t works below target with full = grind (arith, length-set, places-set, hands-set)
 
 act_kept : (plan : Plan) (w : Work) (p : ℕ) (o : Op) → IsWork plan w → p < callers plan → IsWork plan (act w p o)
-act_kept plan w p (op.Tick ns) works below = grind (arith, nat_tests, same_queue, tick-same, length-set)
-act_kept plan w p op.Pick works below = grind (arith, nat_tests, same_queue, pick-same, length-set)
-act_kept plan w p op.Yield works below = grind (arith, nat_tests, same_queue, yield-same, length-set)
-act_kept plan w p (op.Renice task nice) works below = grind (arith, nat_tests, same_queue, renice-same, length-set)
+act_kept plan w p (op.Tick ns) works below = grind (arith, same_queue, tick-same, length-set)
+act_kept plan w p op.Pick works below = grind (arith, same_queue, pick-same, length-set)
+act_kept plan w p op.Yield works below = grind (arith, same_queue, yield-same, length-set)
+act_kept plan w p (op.Renice task nice) works below = grind (arith, same_queue, renice-same, length-set)
 act_kept plan w p _ works below = works
 
 running_kept : (plan : Plan) (w : Work) (p task : ℕ) (r : Option Contents) → IsWork plan w → p < callers plan → hand w p ≡ None
