@@ -1,7 +1,7 @@
 -- Every order of a sound plan commits only deeds that are allowed.
 use Rattle.std.proofs.Common.{◌≡◌, ℕ, ◌<◌, Bool, true, List, [], ◌∷◌, get_or, set, take, sym, subst, refl, arith}
 use Rattle.std.proofs.lemmas.{List.Elements.All-take, List.Sums.AllPass-from_list_all, List.Sums.list_all-from_AllPass}
-use Rattle.std.proofs.lemmas.{Bool.Decides.nat_tests, Grind.common_steps, Bool.and_parts, Bool.ltb-true}
+use Rattle.std.proofs.lemmas.{Grind.common_steps, Bool.and_parts}
 use Rattle.std.specs.{List.list_all, Option.option_to_list}
 use Rattle.std.specs.Prelude.{slice_get, IfSome, Option, Some, None}
 use Rattle.eevdf_ops.specs.{declared.deeds.Op.Op, declared.deeds.Deed.Deed}
@@ -53,7 +53,7 @@ takes_own : (plan : Plan) (g : Progress) (x s : ℕ) (r : Option ℕ) → FindTh
 takes_own plan g x s r own new = grind (arith, common_steps)
 
 requested_own : (plan : Plan) (g : Progress) (x : ℕ) (m : Micro) → IsSound plan → is_sound_micro plan m ≡ true → FindTheirOwn plan g → FindTheirOwn plan (requested plan g x m)
-requested_own plan g x (Take s) sound well own = grind (arith, takes_own, oldest_is_for_home, ltb-true)
+requested_own plan g x (Take s) sound well own = grind (arith, takes_own, oldest_is_for_home)
 requested_own plan g x (Settle s) sound well own = found_next plan g.found x None own tt
 requested_own plan g x _ sound well own = own
 

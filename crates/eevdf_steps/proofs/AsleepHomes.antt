@@ -17,7 +17,6 @@ use Rattle.eevdf_ops.proofs.QueuePlaces.{pick-same, renice-same, tick-same, yiel
 use Rattle.eevdf_steps.specs.{Counters.Counters, Counters.holder, Plan.Plan, Work.Work, Serial.IsSerial}
 use Rattle.eevdf_steps.specs.UnderWay.{UnderWay, leaves, queue_seen}
 use Rattle.eevdf_steps.proofs.{Ready.least_found, SerialSteps.free_queue}
-use Rattle.std.proofs.lemmas.Bool.Decides.{nat_tests}
 
 -- each sleeping task of a machine is at its home
 abbrev pub AllAtHome : List ℕ → Machine → Type 0

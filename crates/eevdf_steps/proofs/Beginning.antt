@@ -11,7 +11,6 @@ use Rattle.eevdf_steps.specs.{Openings.most_lines, MicroState.micro_start, Playe
 use Rattle.eevdf_steps.specs.{Recorded.done_at_start, Playing.IsPlaying, Playing.player_of}
 use Rattle.eevdf_steps.specs.Requests.{Progress, posts_to, progress_at_start}
 use Rattle.eevdf_steps.specs.PostLists.{ArePosted, PostList, list_at, progress_in}
-use Rattle.std.proofs.lemmas.Bool.Decides.{nat_tests}
 
 pub posts_first : (plan : Plan) (lists : List PostList) → AreEmpty plan lists → ArePosted plan (counters_at_start plan) lists
 posts_first plan lists a = record {

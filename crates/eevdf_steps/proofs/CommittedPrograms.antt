@@ -1,8 +1,7 @@
 -- The deeds that a complete order commits follow the callers' programs.
 use Rattle.std.proofs.Common.{◌≡◌, ◌≢◌, ℕ, suc, ◌+◌, ◌<◌, Bool, true, false, cond, List, [], ◌∷◌, ◌++◌, length, drop, sym, ap, subst, ◌∙◌, arith, refl}
 use Rattle.std.proofs.Math.ListN.{length-replicate}
-use Rattle.std.proofs.lemmas.{List.drop_all, List.get_or-set_other, List.Elements.filter-append, Bool.Decides.nat_tests}
-use Rattle.std.proofs.lemmas.{Grind.common_steps, Bool.cases_eq}
+use Rattle.std.proofs.lemmas.{List.drop_all, List.get_or-set_other, List.Elements.filter-append, Grind.common_steps}
 use Rattle.std.specs.Prelude.{◌==◌, Option, Some, None}
 use Rattle.std.specs.Option.{option_to_list}
 use Rattle.eevdf_ops.specs.{declared.deeds.Op.Op, declared.deeds.Deed.Deed, declared.deeds.Line.Line, Parts.decider}
@@ -47,7 +46,7 @@ other_step plan g x p s rest apart later = grind (arith, common_steps)
 any_step : (plan : Plan) (g : Progress) (x p : ℕ) (r : Option Step) (rest : List Deed) → length g.counters ≡ callers plan → step_next plan g.counters x ≡ r
     → Left plan (progress_by plan g x r).counters p (deeds_by p rest) → Left plan g.counters p (deeds_by p (committed_by g x r ++ rest))
 any_step plan g x p None rest each e later = later
-any_step plan g x p (Some s) rest each e later = grind (arith, cases_eq, own_step, is_caller, other_step)
+any_step plan g x p (Some s) rest each e later = grind (arith, own_step, is_caller, other_step)
 
 -- a caller's deeds of an order that ends with everybody done fit the steps that it has still to do
 deeds_fit : (plan : Plan) (g : Progress) (order : List ℕ) (p : ℕ) → length g.counters ≡ callers plan → unfinished plan (progress_after plan g order).counters ≡ None

@@ -1,6 +1,6 @@
 -- Positions of several callers, and their counters.
 use Rattle.std.proofs.Common.{◌≡◌, ℕ, zero, suc, ◌+◌, ◌<◌, List, [], ◌∷◌, ◌++◌, length, get_or, set, replicate, sym, ap, subst, ◌∙◌, arith, refl}
-use Rattle.std.proofs.lemmas.{Bool.Decides.nat_tests, Grind.common_steps}
+use Rattle.std.proofs.lemmas.Grind.{common_steps}
 use Rattle.eevdf_steps.specs.{declared.plan.Position.Position, Plan.Plan, Callers.BeginAll}
 use Rattle.eevdf_steps.specs.Counters.{Counters, count_of, counted, step_next}
 use Rattle.eevdf_steps.specs.Positions.{ArePositions, IsPosition, counter_at, counters_at}

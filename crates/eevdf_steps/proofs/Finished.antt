@@ -1,6 +1,6 @@
 -- Where every caller is done, the machine is that of the history.
 use Rattle.std.proofs.Common.{◌≡◌, ℕ, List, [], length, ap, ◌∙◌, inl, inr, arith}
-use Rattle.std.proofs.lemmas.{Bool.cases_lt, Bool.Decides.nat_tests}
+use Rattle.std.proofs.lemmas.Bool.{cases_lt}
 use Rattle.std.specs.Prelude.{None}
 use Rattle.eevdf_ops.specs.{declared.deeds.Line.Line, Histories.machine_told}
 use Rattle.eevdf_ops.proofs.PartsProofs.{same_machine}

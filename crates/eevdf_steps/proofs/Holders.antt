@@ -1,7 +1,7 @@
 -- What becomes of the locks at a step.
 use Rattle.std.proofs.Common.{◌≡◌, ◌≢◌, ℕ, zero, suc, ◌+◌, ◌-◌, ◌<◌, ◌≤◌, Bool, true, false, cond, List, [], ◌∷◌, ◌++◌, length, take, drop, get_or, set, replicate, inl, inr, sym, ap, ◌∙◌, arith, refl}
-use Rattle.std.proofs.lemmas.Bool.{false≢true, cases_lt, and_parts, ltb-true, eq-eqb}
-use Rattle.std.proofs.lemmas.{List.get_or-set_same, List.get_or_default, Grind.common_steps, Bool.Decides.nat_tests}
+use Rattle.std.proofs.lemmas.Bool.{false≢true, cases_lt, ltb-true, eq-eqb}
+use Rattle.std.proofs.lemmas.{List.get_or-set_same, List.get_or_default, Grind.common_steps}
 use Rattle.std.proofs.Math.Seq.{take-append_seam}
 use Rattle.std.specs.Prelude.{slice_get, Option, Some, None}
 use Rattle.eevdf_steps.specs.{declared.micro.Micro.Micro, declared.plan.Step.Step, declared.micro.Micro.TheVariants.Acquire}
@@ -104,14 +104,14 @@ not_blocked cpu o e = grind arith
 -- the holders after a step that nothing refuses
 holders_step : (plan : Plan) (counters : Counters) (holders : List (Option ℕ)) (p : ℕ) (m : Micro) → AreHolders plan counters holders → Follows plan counters p m
     → is_sound_micro plan m ≡ true → refused plan counters m ≡ None → AreHolders plan (counted counters p) (holders_after p m holders)
-holders_step plan counters holders p (Acquire c) a follows sound free = grind (arith, common_steps, ltb-true, acquired, holder_is, not_blocked)
+holders_step plan counters holders p (Acquire c) a follows sound free = grind (arith, common_steps, acquired, holder_is, not_blocked)
 holders_step plan counters holders p (Release c) a follows sound free = released plan counters holders p c a follows (ltb-true c (callers plan) sound)
 holders_step plan counters holders p m a follows sound free = kept plan counters holders p m a follows (λ cpu b. refl)
 
 pub holders_next : (plan : Plan) (counters : Counters) (holders : List (Option ℕ)) (p : ℕ) (s : Step) → AreHolders plan counters holders → p < length counters
     → step_next plan counters p ≡ Some s → is_sound_step plan s ≡ true → refused plan counters s.micro ≡ None
     → AreHolders plan (counted counters p) (holders_after p s.micro holders)
-holders_next plan counters holders p s a h e sound free = grind (arith, common_steps, holders_step, holds_own, and_parts)
+holders_next plan counters holders p s a h e sound free = grind (arith, common_steps, holders_step, holds_own)
 
 -- at the start nobody holds a lock
 pub count_first : (n p : ℕ) → ◌≡◌ {A = ℕ} (get_or (replicate n 0) p 0) 0

@@ -1,6 +1,6 @@
 -- Each request that is posted is taken once, in the order of posting, and settled before its home takes another.
 use Rattle.std.proofs.Common.{append_assoc, append-nil, ◌≡◌, ℕ, ◌<◌, List, [], ◌∷◌, ◌++◌, take, sym, ap, subst, ◌∙◌, arith, refl}
-use Rattle.std.proofs.lemmas.{Grind.common_steps, List.get_or-replicate, Bool.Decides.nat_tests}
+use Rattle.std.proofs.lemmas.{Grind.common_steps, List.get_or-replicate}
 use Rattle.std.specs.Prelude.{None}
 use Rattle.eevdf_ops.specs.{declared.deeds.Deed.Deed, declared.deeds.Line.Line}
 use Rattle.eevdf_ops.specs.Programs.{deeds_by, deeds_of, wakes_in}
@@ -52,7 +52,7 @@ parted_first plan q c caller = grind (arith, common_steps)
 -- after any order
 pub posts_kept_after : (plan : Plan) (order : List ℕ) (lines : List Line) → IsSound plan → deeds_of lines ≡ commits plan (progress_at_start plan) order
     → PostsAreKept plan (progress_after plan (progress_at_start plan) order) lines
-posts_kept_after plan order lines sound same q c caller = grind (arith, common_steps, deeds_of_lines, parted_after, orderly_first, parted_first, append_assoc)
+posts_kept_after plan order lines sound same q c caller = grind (arith, common_steps, deeds_of_lines, parted_after, orderly_first, parted_first)
 
 -- after an order without fault
 pub posts_taken_or_left : (plan : Plan) (order : List ℕ) (lines : List Line) → IsSound plan → order_fault plan (counters_at_start plan) 0 order ≡ None

@@ -1,6 +1,6 @@
 -- Where a lawful order leads, and where a complete one ends.
 use Rattle.std.proofs.Common.{◌≡◌, ℕ, ◌+◌, ◌<◌, ◌≤◌, Bool, true, false, cond, List, [], ◌∷◌, length, sym, ap, ◌∙◌, arith, refl}
-use Rattle.std.proofs.lemmas.{Bool.cases_lt, Bool.false≢true, Bool.Decides.nat_tests, Grind.common_steps}
+use Rattle.std.proofs.lemmas.{Bool.false≢true, Grind.common_steps}
 use Rattle.std.specs.Prelude.{nat_lt, is_none, is_some, Option, Some, None}
 use Rattle.std.specs.Option.{option_map}
 use Rattle.eevdf_steps.specs.{declared.plan.Step.Step, declared.step_fault.StepFault.TheVariants.NoCaller}
@@ -53,14 +53,14 @@ not_under_way plan counters p (Some s) e none below =
     ∙ ap (λ (r : Option ℕ). is_none r) none))
 
 pub done_by_all : (plan : Plan) (counters : Counters) (p : ℕ) → unfinished plan counters ≡ None → step_next plan counters p ≡ None
-done_by_all plan counters p e = grind (arith, cases_lt, not_under_way, no_step)
+done_by_all plan counters p e = grind (arith, not_under_way, no_step)
 
 -- each step counts one caller on
 pub length-progress_step : (plan : Plan) (g : Progress) (p : ℕ) → length (progress_step plan g p).counters ≡ length g.counters
 length-progress_step plan g p = grind (arith, common_steps)
 
 fits_in : (n most : ℕ) → n ≤ most → nat_lt most n ≡ false
-fits_in n most h = grind (arith, nat_tests)
+fits_in n most h = grind arith
 
 pub whole_is_played : WholeIsPlayed
 whole_is_played plan order short whole = grind (arith, fits_in, whole_faultless)

@@ -1,7 +1,7 @@
 -- A step of one caller leaves all others as they are, and what they see.
 use Rattle.std.proofs.Common.{◌≡◌, ◌≢◌, ℕ, ◌+◌, Bool, true, false, length, sym, ap, subst, ◌∙◌, inl, inr, refl, arith}
 use Rattle.std.proofs.lemmas.Bool.{false≢true, cases_eq, false_from_ne_true}
-use Rattle.std.proofs.lemmas.{List.get_or-set_other, Bool.Decides.nat_tests}
+use Rattle.std.proofs.lemmas.List.{get_or-set_other}
 use Rattle.std.specs.Prelude.{slice_get, Option, Some, None}
 use Rattle.eevdf_ops.specs.{declared.deeds.Answer.Answer, Machine.Machine, Machine.queue_at}
 use Rattle.eevdf_steps.specs.{declared.plan.Step.Step, Plan.Plan, Plan.callers, MicroSteps.steps_by}
@@ -63,7 +63,7 @@ module _ {plan : Plan} {counters : Counters} {p : ℕ} {m m' : Machine} {w w' : 
 
   held_then : AreWalking plan counters → (c q : ℕ) → holds plan (counted counters p) c q ≡ true
       → queue_at w'.machine c ≡ queue_seen plan.homes m' (begun_by plan (counted counters p) q) c
-  held_then walking c q h = grind (arith, cases_eq, holds_other, not_held, others_alike, begun_other)
+  held_then walking c q h = grind (arith, holds_other, not_held, others_alike, begun_other)
 
   hands_then : AreWalking plan counters → (q : ℕ) → hand w' q ≡ hand_seen plan.homes m' (begun_by plan (counted counters p) q)
   hands_then walking q =
@@ -86,7 +86,7 @@ module _ {plan : Plan} {counters : Counters} {p : ℕ} {m m' : Machine} {w w' : 
   -- a queue that nobody holds any more
   free_by : (c : ℕ) (b : Bool) → IsFree plan (counted counters p) c → holds plan counters c p ≡ b → queue_at w'.machine c ≡ queue_at m' c
   free_by c true free e = s.released c e (free p)
-  free_by c false free e = grind (arith, cases_eq, holds_other)
+  free_by c false free e = grind (arith, holds_other)
 
   -- nobody else holds what the caller holds
   alone_by : (c q : ℕ) (b : Bool) → holds plan (counted counters p) c q ≡ true → holds plan (counted counters p) c p ≡ true → holds plan counters c p ≡ b → q ≢ p → q ≡ p
@@ -97,7 +97,7 @@ module _ {plan : Plan} {counters : Counters} {p : ℕ} {m m' : Machine} {w w' : 
   alone_with c q h k = elim (cases_eq q p) [ inl same ↦ same | inr apart ↦ alone_by c q (holds plan counters c p) h k refl apart ]
 
   alone_then : (c q o : ℕ) → holds plan (counted counters p) c q ≡ true → holds plan (counted counters p) c o ≡ true → q ≡ o
-  alone_then c q o h k = grind (arith, cases_eq, alone_with, holds_other)
+  alone_then c q o h k = grind (arith, alone_with, holds_other)
 
   pub followed_then : AreWalking plan counters → FollowsHistory plan m' (counted counters p) w'
   followed_then walking = record {

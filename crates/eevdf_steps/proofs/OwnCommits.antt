@@ -1,6 +1,6 @@
 -- What a commit makes of the history, and of what the caller sees.
 use Rattle.std.proofs.Common.{◌≡◌, ℕ, true, List, [], ◌∷◌, ◌++◌, length, set, sym, ap, subst, ◌∙◌, refl, arith}
-use Rattle.std.proofs.lemmas.{Bool.eqb-true, Bool.eq-eqb, List.get_or-set_same, List.map-append, Bool.Decides.nat_tests}
+use Rattle.std.proofs.lemmas.{Bool.eqb-true, Bool.eq-eqb, List.get_or-set_same, List.map-append}
 use Rattle.std.proofs.Math.ListN.{length-set}
 use Rattle.std.specs.Prelude.{◌==◌, Option, Some, None}
 use Rattle.eevdf_queue.specs.State.{State, empty_state}

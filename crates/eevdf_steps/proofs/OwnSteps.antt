@@ -11,7 +11,6 @@ use Rattle.eevdf_steps.specs.UnderWay.{KeepsAnswer, UnderWay, hand_seen, queue_s
 use Rattle.eevdf_steps.specs.Serial.{IsFree, FollowsHistory, begun_by}
 use Rattle.eevdf_steps.proofs.{Holders.holds_own, Positions.step_in, OtherCallers.IsStepOf}
 use Rattle.eevdf_steps.proofs.Walks.{FitsMicro, Walk, is_fresh, is_fresh_micro}
-use Rattle.std.proofs.lemmas.Bool.Decides.{nat_tests}
 
 -- a caller before its next step, on the machine of the history
 pub record AtStep (plan : Plan) (counters : Counters) (p : ℕ) (m : Machine) (w : Work) (o : Op) (micro : Micro) : Type 0 where
@@ -79,7 +78,7 @@ module _ {plan : Plan} {counters : Counters} {p : ℕ} {m : Machine} {w : Work} 
       → ((c : ℕ) → holds plan counters c p ≡ true → queue_at w'.machine c ≡ queue_seen plan.homes m' u c)
       → ((q : ℕ) → q ≢ p → hand w' q ≡ hand w q) → ((q : ℕ) → q ≢ p → answer w' q ≡ answer w q)
       → hand w' p ≡ hand_seen plan.homes m' u → KeepsAnswer plan.homes m' u (answer w' p) → IsStepOf plan counters p m m' w w'
-  local_step m' w' u keep now long past stay own hands answers own_hand own_answer = grind (arith, same_locks, false≢true)
+  local_step m' w' u keep now long past stay own hands answers own_hand own_answer = grind (arith, same_locks)
 
   -- nothing is done on the queues, and nothing is under way before or after
   fresh_step : is_fresh_micro micro ≡ true → begun_by plan (counted counters p) p ≡ None

@@ -9,7 +9,6 @@ use Rattle.eevdf_steps.specs.{Players.Player, Players.player_start, Plan.IsSound
 use Rattle.eevdf_steps.specs.Orders.{IsWhole, counters_at_start, order_fault}
 use Rattle.eevdf_steps.proofs.{LawfulOrders.faultless_whole, AllowedCommits.deeds_allowed, PlacedHistories.outcome_placed}
 use Rattle.eevdf_steps.proofs.FollowedPrograms.{outcome_follows}
-use Rattle.std.proofs.lemmas.Bool.Decides.{nat_tests}
 
 -- the deeds done by a player, and those that an order still commits
 abbrev pub deeds_with : Player → List ℕ → List Deed

@@ -1,14 +1,14 @@
 -- A player one step later.
 use Rattle.std.proofs.Common.{◌≡◌, ℕ, ◌+◌, ◌<◌, ◌≤◌, true, List, ◌++◌, length, get_or, set, sym, ap, ◌∙◌, arith, refl}
 use Rattle.std.proofs.Math.ListN.{length-set, length-append}
-use Rattle.std.proofs.lemmas.{Bool.and_parts, Bool.Decides.nat_tests, Grind.common_steps}
+use Rattle.std.proofs.lemmas.{Bool.and_parts, Grind.common_steps}
 use Rattle.std.specs.Prelude.{nat_lt, Option, Some, None}
 use Rattle.eevdf_ops.specs.{declared.deeds.Op.Op, Programs.deeds_of}
 use Rattle.eevdf_ops.specs.declared.deeds.Op.TheVariants as op
 use Rattle.eevdf_steps.specs.{declared.plan.Step.Step, Commits.committed, Commits.committed_by, Callers.Callers}
-use Rattle.eevdf_steps.specs.{SoundSteps.is_sound_micro, Requests.Progress, Room.lines_to_come, Work.pulls_from}
-use Rattle.eevdf_steps.specs.{Journals.noted, Recorded.Recorded, Working.IsWorking, Players.Player, Players.player_step}
-use Rattle.eevdf_steps.specs.Playing.{IsPlaying, player_of}
+use Rattle.eevdf_steps.specs.{SoundSteps.is_sound_micro, Requests.Progress, Room.lines_to_come, Work.pulls_from, Journals.noted}
+use Rattle.eevdf_steps.specs.{Recorded.Recorded, Working.IsWorking, Players.Player, Players.player_step, Playing.IsPlaying}
+use Rattle.eevdf_steps.specs.Playing.{player_of}
 use Rattle.eevdf_steps.specs.Plan.{IsSound, Plan, callers, is_sound_op}
 use Rattle.eevdf_steps.specs.Counters.{counted, refused, step_next}
 use Rattle.eevdf_steps.specs.PostLists.{PostList, has_room, list_at, place_of, posts_after, request_after, ArePosted}

@@ -1,8 +1,7 @@
 -- Positions in a program, and the counters that they come to.
 use Rattle.std.proofs.Common.{◌≡◌, ℕ, zero, suc, ◌+◌, ◌*◌, ◌<◌, ◌≤◌, Bool, true, cond, List, [], ◌∷◌, ◌++◌, length, map, take, sym, ap, subst, ◌∙◌, arith, refl}
 use Rattle.std.proofs.Math.ListN.{length-append}
-use Rattle.std.proofs.lemmas.{List.length-map, Bool.Decides.nat_tests, Bool.lt-ltb, Grind.common_steps}
-use Rattle.std.proofs.lemmas.Option.{none-some, slice_get-map, slice_get_within}
+use Rattle.std.proofs.lemmas.{List.length-map, Grind.common_steps, Option.slice_get-map, Option.slice_get_within}
 use Rattle.std.specs.Option.{option_map}
 use Rattle.std.specs.Prelude.{slice_get, Option, Some, None}
 use Rattle.eevdf_ops.specs.{declared.deeds.Op.Op, Numbers.most_cpus}
@@ -76,7 +75,7 @@ within_none plan p j q e h = grind arith
 -- a position before a step of an operation, and one past the last operation
 pub position_in : (plan : Plan) (p k j : ℕ) (o : Op) (next : Option Step) → slice_get (program plan p) k ≡ Some o → j < length (micros_of plan p o)
     → next ≡ option_map (step_in o) (slice_get (micros_of plan p o) j) → IsPosition plan p (record { operation = k; steps = j; next = next })
-position_in plan p k j o next here h e = grind (arith, lt-ltb, located)
+position_in plan p k j o next here h e = grind (arith, located)
 
 -- a position with a step stands in the step's operation
 pub record StandsIn (plan : Plan) (p : ℕ) (at : Position) (s : Step) : Type 0 where
@@ -88,7 +87,7 @@ op_of o r s e = grind arith
 
 stands_by : (plan : Plan) (p : ℕ) (at : Position) (s : Step) (q : Option Op) → slice_get (program plan p) at.operation ≡ q → IsPosition plan p at → at.next ≡ Some s
     → StandsIn plan p at s
-stands_by plan p at s None past is e = grind (arith, none-some, located_past, within_none)
+stands_by plan p at s None past is e = grind (arith, located_past, within_none)
 stands_by plan p at s (Some o) here is e =
     let h : at.steps < length (micros_of plan p o) = within_some plan p at.steps (slice_get (program plan p) at.operation) o here is.within in
     let same : o ≡ s.op = op_of o (slice_get (micros_of plan p o) at.steps) s (sym (located plan p (program plan p) at.operation at.steps o here h) ∙ sym is.next ∙ e) in

@@ -1,8 +1,7 @@
 -- The lists of requests stay those that the steps have posted.
 use Rattle.std.proofs.Common.{◌≡◌, ◌≢◌, ℕ, zero, suc, ◌+◌, ◌*◌, ◌<◌, ◌≤◌, Bool, true, cond, List, [], ◌∷◌, ◌++◌, length, take, set, inl, inr, sym, ap, subst, ◌∙◌, arith, refl, append-nil}
-use Rattle.std.proofs.Math.ListN.{length-set, length-append}
-use Rattle.std.proofs.lemmas.{List.get_or-set_same, List.get_or-set_other, Nat.mul-add-lt, Nat.same_from_place}
-use Rattle.std.proofs.lemmas.{Bool.Decides.nat_tests, Grind.common_steps}
+use Rattle.std.proofs.Math.ListN.{length-set}
+use Rattle.std.proofs.lemmas.{List.get_or-set_same, List.get_or-set_other, Nat.mul-add-lt, Nat.same_from_place, Grind.common_steps}
 use Rattle.std.specs.Prelude.{Some}
 use Rattle.eevdf_steps.specs.{declared.micro.Micro.Micro, declared.plan.Step.Step, declared.micro.Micro.TheVariants.Take}
 use Rattle.eevdf_steps.specs.{declared.micro.Micro.TheVariants.Post, MicroSteps.steps_by, SoundSteps.is_sound_micro}
@@ -95,7 +94,7 @@ record Posts (plan : Plan) (counters : Counters) (p t : ℕ) : Type 0 where
 
 posts_room : (plan : Plan) (counters : Counters) (lists : List PostList) (p t : ℕ) → ArePosted plan counters lists → Posts plan counters p t
     → length (list_at lists (pair plan p (home plan t))).posted < (list_at lists (pair plan p (home plan t))).room
-posts_room plan counters lists p t a ps = grind (arith, common_steps, length-append, post_here, posts_within)
+posts_room plan counters lists p t a ps = grind (arith, common_steps, post_here, posts_within)
 
 posts_kept : (plan : Plan) (counters : Counters) (lists : List PostList) (p t : ℕ) → ArePosted plan counters lists → Posts plan counters p t
     → ArePosted plan (counted counters p) (posts_after (pair plan p (home plan t)) (Post t) lists)

@@ -1,6 +1,6 @@
 -- What a caller has posted when it is done is what its program posts.
 use Rattle.std.proofs.Common.{◌≡◌, ℕ, zero, suc, ◌+◌, Bool, cond, List, [], ◌∷◌, ◌++◌, map, refl, arith}
-use Rattle.std.proofs.lemmas.{List.take_all, Bool.Decides.nat_tests}
+use Rattle.std.proofs.lemmas.List.{take_all}
 use Rattle.std.specs.Prelude.{None}
 use Rattle.eevdf_ops.specs.{declared.deeds.Op.Op, Programs.post_of, Programs.posts_in}
 use Rattle.eevdf_ops.specs.declared.deeds.Op.TheVariants as op

@@ -9,7 +9,6 @@ use Rattle.eevdf_steps.specs.{declared.micro.Micro.Micro, declared.micro.Micro.T
 use Rattle.eevdf_steps.specs.{Commits.committed, Commits.wake_of, Plan.Plan}
 use Rattle.eevdf_steps.specs.MicroSteps.{acting, draining, micros_of, moving, steps_of, under_lock}
 use Rattle.eevdf_steps.proofs.Positions.{step_in}
-use Rattle.std.proofs.lemmas.Bool.Decides.{nat_tests}
 
 -- the deed that a step commits, and then others
 pub record FitsStep (p : ℕ) (deeds : List Deed) (s : Step) (Rest : List Deed → Type 0) : Type 0 where

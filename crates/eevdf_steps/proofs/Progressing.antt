@@ -1,6 +1,6 @@
 -- The progress that the lists of requests show after a step.
 use Rattle.std.proofs.Common.{◌≡◌, ℕ, zero, suc, ◌+◌, ◌<◌, true, cond, List, [], ◌∷◌, map, get_or, set, sym, ap, ◌∙◌, refl, arith}
-use Rattle.std.proofs.lemmas.{List.set-get_or, Bool.ltb-true, Bool.Decides.nat_tests, Grind.common_steps}
+use Rattle.std.proofs.lemmas.{List.set-get_or, Grind.common_steps}
 use Rattle.std.specs.Prelude.{is_some, Option, Some, None}
 use Rattle.eevdf_steps.specs.{declared.micro.Micro.Micro, declared.plan.Step.Step, SoundSteps.is_sound_micro}
 use Rattle.eevdf_steps.specs.Plan.{Plan, callers, pair}
@@ -53,7 +53,7 @@ by_micro : (plan : Plan) (counters : Counters) (lists : List PostList) (found : 
     → is_sound_micro plan m ≡ true
     → progress_in (counted counters p) (posts_after (place_of plan p m) m lists) (set found p (request_after (place_of plan p m) m lists (get_or found p None)))
     ≡ record (requested plan (progress_in counters lists found) p m) { counters = counted counters p }
-by_micro plan counters lists found p (Take q) a below well = grind (arith, common_steps, takes_by, oldest_is, ltb-true)
+by_micro plan counters lists found p (Take q) a below well = grind (arith, common_steps, takes_by, oldest_is)
 by_micro plan counters lists found p (Settle q) a below well = refl
 by_micro plan counters lists found p (Post t) a below well = grind (arith, same_progress, same_taken, set-get_or)
 by_micro plan counters lists found p _ a below well = unchanged plan counters lists found p

@@ -1,6 +1,6 @@
 -- What a step of a caller changes of the requests, and what it leaves.
 use Rattle.std.proofs.Common.{◌≡◌, ◌≢◌, ℕ, ◌+◌, ◌<◌, List, [], ◌++◌, length, inl, inr, sym, subst, ◌∙◌, append-nil, refl, arith}
-use Rattle.std.proofs.lemmas.{List.get_or-set_other, Nat.same_from_place, Bool.cases_eq, Bool.Decides.nat_tests, Grind.common_steps}
+use Rattle.std.proofs.lemmas.{List.get_or-set_other, Nat.same_from_place, Bool.cases_eq, Grind.common_steps}
 use Rattle.std.specs.Prelude.{Option, Some, None}
 use Rattle.eevdf_steps.specs.{declared.micro.Micro.Micro, declared.plan.Step.Step}
 use Rattle.eevdf_steps.specs.Plan.{Plan, callers, pair}

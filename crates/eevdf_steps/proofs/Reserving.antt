@@ -1,7 +1,6 @@
 -- What is reserved for the requests and the lines.
 use Rattle.std.proofs.Common.{◌≡◌, ℕ, zero, suc, ◌+◌, ◌*◌, ◌<◌, ◌≤◌, Bool, cond, List, [], ◌∷◌, ◌++◌, length, map, take, get_or, replicate, sym, subst, arith, refl}
-use Rattle.std.proofs.lemmas.{Bool.cases_lt, Grind.common_steps, List.Folds.sum_by-replicate, List.Sums.sum_by-cons}
-use Rattle.std.proofs.lemmas.Bool.Decides.{nat_tests}
+use Rattle.std.proofs.lemmas.{Grind.common_steps, List.Folds.sum_by-replicate, List.Sums.sum_by-cons}
 use Rattle.std.proofs.lemmas.List.{get_or_append_left, get_or_push, length-take-le}
 use Rattle.std.specs.{List.sum_by, Prelude.slice_index, Prelude.None}
 use Rattle.eevdf_ops.specs.{declared.deeds.Op.Op, Numbers.most_operations, Programs.posts_in}
@@ -40,7 +39,7 @@ room_of plan q c counts h a = grind arith
 pub empty_next : (plan : Plan) (q c : ℕ) (lists : List PostList) (counts : List ℕ) (l : PostList) → c < callers plan → CountPosts plan (program plan q) counts
     → l ≡ record { posted = []; taken = 0; room = slice_index counts c } → length lists ≡ q * callers plan + c → ((k : ℕ) → k < q * callers plan + c → list_at lists k ≡ empty_at plan k)
     → (k : ℕ) → k < q * callers plan + (c + 1) → list_at (lists ++ l ∷ []) k ≡ empty_at plan k
-empty_next plan q c lists counts l h a is long before k below = grind (arith, cases_lt, get_or_append_left, get_or_push, room_of)
+empty_next plan q c lists counts l h a is long before k below = grind (arith, get_or_append_left, get_or_push, room_of)
 
 lines_joined : (xs ys : List Step) → lines_in (xs ++ ys) ≡ lines_in xs + lines_in ys
 lines_joined [] ys = omega arith

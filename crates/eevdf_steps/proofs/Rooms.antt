@@ -1,7 +1,6 @@
 -- The history has room for all the lines that come.
 use Rattle.std.proofs.Common.{◌≡◌, ◌≢◌, ℕ, zero, suc, ◌+◌, ◌<◌, ◌≤◌, cond, List, [], ◌∷◌, length, drop, get_or, set, sym, ap, arith, refl}
-use Rattle.std.proofs.lemmas.{List.get_or-set_same, List.Sums.sum_by-set, Option.slice_get_within, Bool.cases_eq}
-use Rattle.std.proofs.lemmas.{Bool.Decides.nat_tests, Grind.common_steps}
+use Rattle.std.proofs.lemmas.{List.Sums.sum_by-set, Option.slice_get_within, Grind.common_steps}
 use Rattle.std.specs.Prelude.{slice_get, is_some, Option, Some, None}
 use Rattle.eevdf_ops.specs.{declared.deeds.Op.Op, declared.deeds.Deed.Deed, declared.deeds.Answer.Answer, Places.count}
 use Rattle.eevdf_steps.specs.{declared.micro.Micro.Micro, declared.plan.Step.Step, Plan.Plan, Plan.callers, Work.Work}
@@ -18,7 +17,7 @@ rest_of (x ∷ ss) (suc k) s e = rest_of ss k s e
 
 left_own : (plan : Plan) (counters : Counters) (p : ℕ) (s : Step) → p < length counters → step_next plan counters p ≡ Some s
     → lines_left plan counters p ≡ lines_left plan (counted counters p) p + lines_of s.micro
-left_own plan counters p s h e = grind (arith, common_steps, get_or-set_same, rest_of)
+left_own plan counters p s h e = grind (arith, common_steps, rest_of)
 
 left_other : (plan : Plan) (counters : Counters) (p q : ℕ) → q ≢ p → lines_left plan (counted counters p) q ≡ lines_left plan counters q
 left_other plan counters p q apart = grind (arith, common_steps)
@@ -30,7 +29,7 @@ sum_same f g p from (suc n) h same = grind (arith, sum_same f g p (from + 1) n)
 -- a sum is less by as much as one of its parts is
 pub sum_less : (f g : ℕ → ℕ) (p from n d : ℕ) → from ≤ p → p < from + n → f p ≡ g p + d → ((q : ℕ) → q ≢ p → f q ≡ g q) → sum_from f from n ≡ sum_from g from n + d
 sum_less f g p from zero d low high less same = absurd (omega arith)
-sum_less f g p from (suc n) d low high less same = grind (arith, sum_less f g p (from + 1) n d, cases_eq, sum_same)
+sum_less f g p from (suc n) d low high less same = grind (arith, sum_less f g p (from + 1) n d, sum_same)
 
 -- what a step comes to is no longer to come of the steps
 steps_less : (plan : Plan) (counters : Counters) (p : ℕ) (s : Step) → p < length counters → p < callers plan → step_next plan counters p ≡ Some s

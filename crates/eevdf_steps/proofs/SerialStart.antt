@@ -1,6 +1,5 @@
 -- At the start nothing is under way, and the machine is the history's.
 use Rattle.std.proofs.Common.{◌≡◌, ℕ, false, [], replicate, take, ap, arith}
-use Rattle.std.proofs.lemmas.{Bool.false≢true, Bool.Decides.nat_tests}
 use Rattle.std.specs.Prelude.{None}
 use Rattle.eevdf_ops.specs.Machine.{Machine}
 use Rattle.eevdf_steps.specs.Plan.{IsSound, Plan, callers}
@@ -17,4 +16,4 @@ begun_first plan p sound = fresh_begun p (step_next plan (counters_at_start plan
 
 pub serial_start : (plan : Plan) (m : Machine) → IsSound plan → m ≡ plan.start
     → IsSerial plan plan.start (counters_at_start plan) (record { machine = m; hands = replicate (callers plan) None; answers = replicate (callers plan) None }) []
-serial_start plan m sound is = grind (arith, false≢true, holds_nothing, none_first, begun_first, no_answer)
+serial_start plan m sound is = grind (arith, holds_nothing, none_first, begun_first, no_answer)

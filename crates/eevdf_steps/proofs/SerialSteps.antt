@@ -1,7 +1,7 @@
 -- Each micro-step keeps what the callers see a part of the history's whole operations.
 use Rattle.std.proofs.Common.{◌≡◌, ℕ, ◌<◌, true, not, ◌||◌, List, [], ◌∷◌, ◌++◌, length, sym, ap, subst, ◌∙◌, inl, inr, refl, arith}
 use Rattle.std.proofs.lemmas.Bool.{false≢true, cases_lt, ltb-true, eq-eqb, false_from_ne_true, or_left, or_right}
-use Rattle.std.proofs.lemmas.{List.append-nil, Bool.Decides.nat_tests}
+use Rattle.std.proofs.lemmas.List.{append-nil}
 use Rattle.std.specs.Prelude.{◌==◌, MatchOption, Option, Some, None, is_none}
 use Rattle.std.specs.Option.{option_to_list}
 use Rattle.eevdf_steps.specs.{Commits.committed, Working.FitsHand, Working.HasRoom, UnderWay.under_way, UnderWay.begun}

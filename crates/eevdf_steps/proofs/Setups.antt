@@ -1,6 +1,6 @@
 -- The plan of a setup is sound.
 use Rattle.std.proofs.Common.{◌≡◌, ℕ, ◌+◌, true, List, [], ◌∷◌, length, map, replicate, sym, subst, ◌∙◌, refl, arith}
-use Rattle.std.proofs.lemmas.{List.length-map, Bool.Decides.nat_tests}
+use Rattle.std.proofs.lemmas.{List.length-map, Bool.and_parts, Bool.leb-true}
 use Rattle.std.proofs.Math.ListN.{length-replicate}
 use Rattle.std.specs.List.{list_all}
 use Rattle.std.specs.Prelude.{nat_lt, nat_le, None}
@@ -11,7 +11,6 @@ use Rattle.eevdf_ops.proofs.Machines.{length-begin_at_homes}
 use Rattle.eevdf_ops.proofs.SetupFaults.{or_none_left, or_none_right, parts_of, passes}
 use Rattle.eevdf_ops.specs.Faults.{operations_fault, program_fault, programs_fault, setup_fault, tasks_fault}
 use Rattle.eevdf_steps.specs.Plan.{IsSound, Plan, all_pull_elsewhere, callers, is_sound_op, is_sound_program, plan_of, pulls_elsewhere}
-use Rattle.std.proofs.lemmas.Bool.{and_parts, leb-true, and_from}
 
 at_cpus : (cpus place : ℕ) (ts : List TaskSpec) → tasks_fault cpus place ts ≡ None → list_all (λ (h : ℕ). nat_lt h cpus) (map (λ (t : TaskSpec). t.home) ts) ≡ true
 at_cpus cpus place [] h = refl
@@ -22,11 +21,11 @@ ops_are_sound plan cpu place [] h = refl
 ops_are_sound plan cpu place (o ∷ os) h = grind (arith, ops_are_sound plan cpu (place + 1) os)
 
 program_is_sound : (plan : Plan) (cpu : ℕ) (os : List Op) → program_fault (length plan.homes) (callers plan) cpu os ≡ None → is_sound_program plan os ≡ true
-program_is_sound plan cpu os h = grind (arith, and_from, passes, or_none_left, ops_are_sound, or_none_right)
+program_is_sound plan cpu os h = grind (arith, passes, or_none_left, ops_are_sound, or_none_right)
 
 programs_are_sound : (plan : Plan) (cpu : ℕ) (ps : List (List Op)) → programs_fault (length plan.homes) (callers plan) cpu ps ≡ None → list_all (is_sound_program plan) ps ≡ true
 programs_are_sound plan cpu [] h = refl
-programs_are_sound plan cpu (p ∷ ps) h = grind (arith, programs_are_sound plan (cpu + 1) ps, and_from, program_is_sound, or_none_left, or_none_right)
+programs_are_sound plan cpu (p ∷ ps) h = grind (arith, programs_are_sound plan (cpu + 1) ps, program_is_sound, or_none_left, or_none_right)
 
 ops_pull_elsewhere : (tasks cpus cpu place : ℕ) (os : List Op) → operations_fault tasks cpus cpu place os ≡ None → list_all (pulls_elsewhere cpu) os ≡ true
 ops_pull_elsewhere tasks cpus cpu place [] h = refl
@@ -34,7 +33,7 @@ ops_pull_elsewhere tasks cpus cpu place (o ∷ os) h = grind (arith, ops_pull_el
 
 programs_pull_elsewhere : (tasks cpus cpu : ℕ) (ps : List (List Op)) → programs_fault tasks cpus cpu ps ≡ None → all_pull_elsewhere cpu ps ≡ true
 programs_pull_elsewhere tasks cpus cpu [] h = refl
-programs_pull_elsewhere tasks cpus cpu (p ∷ ps) h = grind (arith, programs_pull_elsewhere tasks cpus (cpu + 1) ps, or_none_left, and_from, ops_pull_elsewhere, or_none_right)
+programs_pull_elsewhere tasks cpus cpu (p ∷ ps) h = grind (arith, programs_pull_elsewhere tasks cpus (cpu + 1) ps, or_none_left, ops_pull_elsewhere, or_none_right)
 
 pub plan_sound : (s : Setup) → setup_fault s.tasks s.programs ≡ None → IsSound (plan_of s)
 plan_sound s h = record {

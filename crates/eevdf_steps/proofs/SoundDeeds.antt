@@ -11,7 +11,7 @@ use Rattle.eevdf_steps.specs.Plan.{IsSound, Plan, callers, is_sound_op, program,
 use Rattle.eevdf_steps.proofs.{Positions.step_in, Walks.Walk, Walking.program_pulls, Walking.walking, OtherCallers.AreWalking}
 use Rattle.eevdf_steps.proofs.Begun.{FitsAll, Standing, standing}
 use Rattle.eevdf_steps.proofs.SoundSteps.{all_joined, home_below, is_caller, some_all, step_sound}
-use Rattle.std.proofs.lemmas.{Bool.and_parts, Bool.and_from, Bool.Decides.nat_tests}
+use Rattle.std.proofs.lemmas.Bool.{and_parts, and_from}
 
 abbrev step_pulls_elsewhere : ℕ → Step → Bool
 step_pulls_elsewhere p s = pulls_elsewhere p s.op

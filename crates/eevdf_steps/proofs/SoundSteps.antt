@@ -1,7 +1,7 @@
 -- Every step of a sound plan is sound.
 use Rattle.std.proofs.Common.{◌≡◌, ℕ, zero, suc, ◌+◌, ◌<◌, ◌≤◌, Bool, true, cond, List, [], ◌∷◌, ◌++◌, length, map, arith, refl}
 use Rattle.std.proofs.lemmas.Bool.{and_parts, ltb-true, and_from}
-use Rattle.std.proofs.lemmas.{Bool.Decides.nat_tests, Grind.common_steps}
+use Rattle.std.proofs.lemmas.Grind.{common_steps}
 use Rattle.std.specs.List.{list_all}
 use Rattle.std.specs.Prelude.{slice_get, nat_lt, IfSome, Option, Some}
 use Rattle.eevdf_ops.specs.declared.deeds.Op.{Op}

@@ -1,7 +1,7 @@
 -- Each caller walks through its program with its locks as its steps need them.
 use Rattle.std.proofs.Common.{◌≡◌, ◌≢◌, ℕ, zero, suc, ◌+◌, ◌<◌, ◌≤◌, Bool, true, false, cond, not, ◌||◌, List, [], ◌∷◌, ◌++◌, length, map, take, drop, get_or, sym, ap, subst, ◌∙◌, arith, refl}
 use Rattle.std.proofs.lemmas.Bool.{cases_lt, and_parts, ltb-true}
-use Rattle.std.proofs.lemmas.{Bool.Decides.nat_tests, List.get_or-replicate, List.get_or-set_same}
+use Rattle.std.proofs.lemmas.List.{get_or-replicate, get_or-set_same}
 use Rattle.std.specs.List.{list_all}
 use Rattle.std.specs.Prelude.{slice_get, ◌==◌, MatchOption, Option}
 use Rattle.eevdf_ops.specs.declared.deeds.Op.{Op}
@@ -20,7 +20,7 @@ Walks plan p held [] = held ≡ []
 Walks plan p held (s ∷ ss) = Fits plan p held s (slice_get ss 0) × Walks plan p (stack_after held s.micro) ss
 
 one_lock : (p c : ℕ) → is_in c (p ∷ []) ≡ (c == p)
-one_lock p c = grind (arith, nat_tests)
+one_lock p c = grind arith
 
 -- where the rest of a program begins
 record Rest (plan : Plan) (p : ℕ) (rest : List Step) : Type 0 where
@@ -60,7 +60,7 @@ sleep_walks : (plan : Plan) (p t : ℕ) (rest : List Step) (x : Bool) → p < ca
 sleep_walks plan p t rest x h k e r = grind arith
 
 other_source : (q p : ℕ) → not (q == p) ≡ true → p ≢ q
-other_source q p h same = grind (arith, nat_tests)
+other_source q p h same = grind arith
 
 op_walks : (plan : Plan) (p : ℕ) (o : Op) (rest : List Step) → IsSound plan → p < callers plan → is_sound_op plan o ≡ true → pulls_elsewhere p o ≡ true → Rest plan p rest
     → Walks plan p [] (map (step_in o) (micros_of plan p o) ++ rest)

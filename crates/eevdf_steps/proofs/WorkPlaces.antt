@@ -1,6 +1,5 @@
 -- Each task stands in one place while the callers work.
 use Rattle.std.proofs.Common.{◌≡◌, ℕ, zero, suc, ◌<◌, ◌≤◌, Bool, true, List, [], ◌∷◌, get_or, ap, arith}
-use Rattle.std.proofs.lemmas.Bool.Decides.{nat_tests}
 use Rattle.std.specs.Prelude.{◌==◌, IfSome, Option, Some, None}
 use Rattle.eevdf_queue.specs.State.{Contents}
 use Rattle.eevdf_ops.specs.{Machine.queue_at, Places.count, Places.places_in}
@@ -8,7 +7,7 @@ use Rattle.eevdf_ops.proofs.MachinePlaces.{places-at}
 use Rattle.eevdf_steps.specs.{Plan.Plan, Plan.callers, Playing.IsWork, Places.hands_with, Places.is_in_hand, Work.Work, Work.hand}
 
 own_hand : (p : Contents) → count (is_in_hand (Some p) p.task) ≡ 1
-own_hand p = ap count (let same : (p.task == p.task) ≡ true = grind (arith, nat_tests) in same)
+own_hand p = ap count (let same : (p.task == p.task) ≡ true = grind arith in same)
 
 -- what is in a hand is in one
 in_one : (hands : List (Option Contents)) (k : ℕ) (p : Contents) → get_or hands k None ≡ Some p → 1 ≤ hands_with hands p.task

@@ -19,7 +19,7 @@ use Rattle.eevdf_steps.specs.Places.{hands_with, is_in_hand, places_of}
 use Rattle.eevdf_steps.specs.declared.micro.Micro.TheVariants.{Act, Detach, Attach, Settle}
 use Rattle.eevdf_steps.specs.Work.{Work, act, answered, attach, attach_asleep, attach_pulled, detach, detach_pulled, detach_running, hand, pull_decision, pulls_from}
 use Rattle.eevdf_steps.proofs.WorkPlaces.{held_nowhere, count-le}
-use Rattle.std.proofs.lemmas.{Bool.ltb-true, Bool.Decides.nat_tests}
+use Rattle.std.proofs.lemmas.Bool.{ltb-true}
 
 hands-set : (hands : List (Option Contents)) (k u : ℕ) (h : Option Contents) → k < length hands
     → hands_with (set hands k h) u + count (is_in_hand (get_or hands k None) u) ≡ hands_with hands u + count (is_in_hand h u)
