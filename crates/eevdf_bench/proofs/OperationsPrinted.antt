@@ -1,16 +1,15 @@
 -- Printed operations are read back, and nothing else is read as them.
-use Rattle.std.proofs.Common.{◌≡◌, ◌↔◌, ℕ, codes, ◌<◌, ◌^◌, true, ltb, List, [], ◌∷◌, ◌++◌, append_assoc, Option, Some, None, option_map, option_and_then, if◌then◌else◌, refl, ap, sym, subst, ◌∙◌, inl, inr, arith}
+use Rattle.std.proofs.Common.{◌≡◌, ◌↔◌, ℕ, codes, ◌<◌, ◌^◌, true, ltb, List, [], ◌∷◌, ◌++◌, append_assoc, Option, Some, None, option_map, option_and_then, if◌then◌else◌, refl, ap, ap₂, sym, subst, ◌∙◌, inl, inr, arith}
 use Rattle.std.specs.{Prelude.ℤ, Fmt.decimal, Fmt.signed_decimal, List.join_with_byte, Str.bytes_eq}
 use Rattle.std.proofs.{lemmas.Bool.cases_Bool, lemmas.Bool.Decides.nat_tests, lemmas.Slice.Eq.bytes_eq-Decides}
 use Rattle.std.proofs.lemmas.Option.{same_Some, none-some, cond_some, option_and_then_some}
-use Rattle.eevdf_weight.specs.Limits.{checked_tick, is_nice_level, is_tick}
+use Rattle.eevdf_weight.specs.Limits.{checked_tick, is_tick}
 use Rattle.eevdf_queue.specs.Numbers.{checked_number}
 use Rattle.eevdf_ops.specs.{Numbers.cpu_limit, declared.deeds.Op.Op}
 use Rattle.eevdf_ops.specs.declared.deeds.Op.TheVariants.{Tick, Pick, Yield, Sleep, Post, Drain, Pull, Renice}
-use Rattle.eevdf_workload.specs.{declared.version.Version.Version, declared.version.Version.TheVariants.One}
-use Rattle.eevdf_workload.specs.{declared.version.Version.TheVariants.Two, Versions.cpu_within, Versions.limits_of}
-use Rattle.eevdf_workload.specs.Words.{words, number, only_number, only_level, task_in, alone, renice_of, operation, operation_of}
-use Rattle.eevdf_bench.specs.WordsPrinted.{knows_operation, knows_renice, most_cpus, operation_text}
+use Rattle.eevdf_workload.specs.{declared.version.Version.Version, Versions.cpu_within, Versions.limits_of}
+use Rattle.eevdf_workload.specs.Words.{words, number, only_word, only_number, only_level, level_in, task_in, alone, renice_of, operation, operation_of}
+use Rattle.eevdf_bench.specs.WordsPrinted.{IsSmall, knows_operation, operation_text}
 use Rattle.eevdf_bench.proofs.ReadingPrinted.{number-decimal, decimal-number, words-decimal, words-after_decimal, joined_words}
 use Rattle.eevdf_bench.proofs.LevelsPrinted.{level-printed, printed-level, words-printed}
 
@@ -32,15 +31,6 @@ task_check n m h = let (passes, same) = cond_some (ltb n 1024) n m h in (same, g
 pub task_passes : (n : ℕ) → n < 1024 → checked_number n ≡ Some n
 task_passes n h = grind (arith, nat_tests)
 
--- what the limits of a version are
-cpus_are : (version : Version) → (limits_of version).cpus ≡ most_cpus version
-cpus_are One = refl
-cpus_are Two = refl
-
-renice_is : (version : Version) → (limits_of version).renice ≡ knows_renice version
-renice_is One = refl
-renice_is Two = refl
-
 -- a CPU that is within the limits of a version
 pub cpu_parts : (version : Version) (n m : ℕ) → cpu_within (limits_of version) n ≡ Some m → (n ≡ m) × (n < cpu_limit) × (ltb n (limits_of version).cpus ≡ true)
 cpu_parts version n m h =
@@ -54,15 +44,11 @@ cpu_parts version n m h =
 pub cpu_check : (version : Version) → IsCheck (cpu_within (limits_of version))
 cpu_check version n m h = let (same, below, known) = cpu_parts version n m h in (same, omega arith)
 
-pub cpu_known : (version : Version) (n : ℕ) → cpu_within (limits_of version) n ≡ Some n → ltb n (most_cpus version) ≡ true
-cpu_known version n h =
-    let (same, below, known) = cpu_parts version n n h in
-    subst (λ (cpus : ℕ). ltb n cpus ≡ true) (cpus_are version) known
+pub cpu_known : (version : Version) (n : ℕ) → cpu_within (limits_of version) n ≡ Some n → ltb n (limits_of version).cpus ≡ true
+cpu_known version n h = let (same, below, known) = cpu_parts version n n h in known
 
-pub cpu_passes : (version : Version) (n : ℕ) → n < cpu_limit → ltb n (most_cpus version) ≡ true → cpu_within (limits_of version) n ≡ Some n
-cpu_passes version n h known =
-    let within : ltb n (limits_of version).cpus ≡ true = subst (λ (cpus : ℕ). ltb n cpus ≡ true) (sym (cpus_are version)) known in
-    rw within (grind (arith, nat_tests))
+pub cpu_passes : (version : Version) (n : ℕ) → n < cpu_limit → ltb n (limits_of version).cpus ≡ true → cpu_within (limits_of version) n ≡ Some n
+cpu_passes version n h known = rw known (grind (arith, nat_tests))
 
 -- ---- arguments that are read
 
@@ -74,12 +60,18 @@ checked_word check word m is h =
     let (same, small) = is n m checked in
     (decimal-number word n read small ∙ ap decimal same, ap check (sym same) ∙ checked))
 
-pub only_word : (check : ℕ → Option ℕ) (ws : List (List ℕ)) (m : ℕ) → IsCheck check → option_and_then check (only_number ws) ≡ Some m → (ws ≡ decimal m ∷ []) × (check m ≡ Some m)
-only_word check [] m is h = absurd (none-some m h)
-only_word check (word ∷ []) m is h =
-    let (same, passes) = checked_word check word m is h in
-    (ap (λ w. w ∷ []) same, passes)
-only_word check (word ∷ next ∷ ws) m is h = absurd (none-some m h)
+-- what is read of the only word is read of a word alone
+pub single : {A : Type 0} (read : Option (List ℕ) → Option A) (ws : List (List ℕ)) (a : A) → read None ≡ None → read (only_word ws) ≡ Some a
+    → (word : List ℕ) × (ws ≡ word ∷ []) × (read (Some word) ≡ Some a)
+single read [] a nothing h = absurd (none-some a (sym nothing ∙ h))
+single read (word ∷ []) a nothing h = (word, refl, h)
+single read (word ∷ next ∷ ws) a nothing h = absurd (none-some a (sym nothing ∙ h))
+
+pub one_number : (check : ℕ → Option ℕ) (ws : List (List ℕ)) (m : ℕ) → IsCheck check → option_and_then check (only_number ws) ≡ Some m → (ws ≡ decimal m ∷ []) × (check m ≡ Some m)
+one_number check ws m is h =
+    let (word, alone, read) = single (λ o. option_and_then check (option_and_then number o)) ws m refl h in
+    let (same, passes) = checked_word check word m is read in
+    (alone ∙ ap (λ w. w ∷ []) same, passes)
 
 pub mapped_parts : {A B : Type 0} (f : A → B) (o : Option A) (b : B) → option_map f o ≡ Some b → (a : A) × (o ≡ Some a) × (f a ≡ b)
 mapped_parts f None b h = absurd (none-some b h)
@@ -94,7 +86,7 @@ text-numbered : (version : Version) (verb : List ℕ) (make : ℕ → Op) (check
     → option_map make (option_and_then check (only_number ws)) ≡ Some op → IsPrinted version op (verb ∷ ws)
 text-numbered version verb make check ws op is printed known h =
     let (n, read, made) = mapped_parts make (option_and_then check (only_number ws)) op h in
-    let (words_are, passes) = only_word check ws n is read in
+    let (words_are, passes) = one_number check ws n is read in
     (ap (λ rest. join_with_byte 32 (verb ∷ rest)) words_are ∙ sym (printed n) ∙ ap operation_text made, ap (knows_operation version) (sym made) ∙ known n passes)
 
 text-alone : (version : Version) (verb : List ℕ) (o : Op) (ws : List (List ℕ)) (op : Op) → operation_text o ≡ verb → knows_operation version o ≡ true → alone o ws ≡ Some op → IsPrinted version op (verb ∷ ws)
@@ -107,21 +99,16 @@ text-alone version verb o (w ∷ ws) op printed known h = absurd (none-some op h
 pub renice_text : (task : ℕ) (nice : ℤ) → operation_text (Renice task nice) ≡ codes "renice " ++ (decimal task ++ (32 ∷ signed_decimal nice))
 renice_text task nice = ap (λ (t : List ℕ). codes "renice " ++ t) (append_assoc (decimal task) (codes " ") (signed_decimal nice))
 
-text-renice : (version : Version) (ws : List (List ℕ)) (op : Op) → knows_renice version ≡ true → renice_of ws ≡ Some op → IsPrinted version op (codes "renice" ∷ ws)
+text-renice : (version : Version) (ws : List (List ℕ)) (op : Op) → (limits_of version).renice ≡ true → renice_of ws ≡ Some op → IsPrinted version op (codes "renice" ∷ ws)
 text-renice version [] op known h = absurd (none-some op h)
-text-renice version (word ∷ []) op known h = option_and_then_some (λ task. option_map (Renice task) (only_level [])) (task_in word) op h (λ task read made. absurd (none-some op made))
-text-renice version (word ∷ last ∷ next ∷ ws) op known h =
-    option_and_then_some (λ task. option_map (Renice task) (only_level (last ∷ next ∷ ws))) (task_in word) op h (λ task read made. absurd (none-some op made))
-text-renice version (word ∷ last ∷ []) op known h =
-    option_and_then_some (λ task. option_map (Renice task) (only_level (last ∷ []))) (task_in word) op h
+text-renice version (word ∷ ws) op known h =
+    option_and_then_some (λ task. option_map (Renice task) (only_level ws)) (task_in word) op h
     (λ task read made.
-    let (nice, level, same) = mapped_parts (Renice task) (only_level (last ∷ [])) op made in
+    let (nice, found, same) = mapped_parts (Renice task) (only_level ws) op made in
+    let (last, alone, level) = single (option_and_then level_in) ws nice refl found in
     let printed : word ≡ decimal task = (checked_word checked_number word task task_check read).0 in
-    let behind : last ≡ signed_decimal nice = printed-level last nice level in (
-      ap (λ (w : List ℕ). codes "renice " ++ (w ++ (32 ∷ last))) printed ∙ ap (λ (w : List ℕ). codes "renice " ++ (decimal task ++ (32 ∷ w))) behind
-          ∙ sym (renice_text task nice) ∙ ap operation_text same,
-      ap (knows_operation version) (sym same) ∙ known,
-    ))
+    let behind : ws ≡ signed_decimal nice ∷ [] = alone ∙ ap (λ w. w ∷ []) (printed-level last nice level) in
+    (ap₂ (λ w rest. join_with_byte 32 (codes "renice" ∷ w ∷ rest)) printed behind ∙ sym (renice_text task nice) ∙ ap operation_text same, ap (knows_operation version) (sym same) ∙ known))
 
 -- ---- operations that are read
 
@@ -146,7 +133,7 @@ text-operation_of version verb ws op h =
     named (codes "renice") verb ws _ _ op (IsPrinted version op) h
     (λ h.
     elim (cases_Bool (limits_of version).renice) [
-      | inl known ↦ text-renice version ws op (sym (renice_is version) ∙ known) (rw known at h)
+      | inl known ↦ text-renice version ws op known (rw known at h)
       | inr unknown ↦ absurd (none-some op (rw unknown at h))
     ]) (λ h.
     absurd (none-some op h)))))))))
@@ -156,58 +143,27 @@ unfolding operation
 text-words version [] op h = absurd (none-some op h)
 text-words version (verb ∷ ws) op h = text-operation_of version verb ws op h
 
-text-operation : (version : Version) (text : List ℕ) (op : Op) → operation (limits_of version) (words text) ≡ Some op → (text ≡ operation_text op) × (knows_operation version op ≡ true)
-text-operation version text op h =
-    let (printed, known) = text-words version (words text) op h in
-    (sym (joined_words text) ∙ printed, known)
-
 -- ---- operations that are printed
 
--- an operation that a version knows is read back where it is printed
-abbrev pub IsReadBack : Version → Op → Type 0
-IsReadBack version op = knows_operation version op ≡ true → operation (limits_of version) (words (operation_text op)) ≡ Some op
-
-pub operation-tick : (version : Version) (n : ℕ) → is_tick n ≡ true → IsReadBack version (Tick n)
+-- an operation within the limits of a version is read back where it is printed
+pub operation-read : (version : Version) (op : Op) → IsSmall op → knows_operation version op ≡ true → operation (limits_of version) (words (operation_text op)) ≡ Some op
 unfolding operation
-operation-tick version n h known = rw (words-decimal n (small_tick n h), number-decimal n (small_tick n h), h)
+operation-read version (Tick n) h known = rw (words-decimal n (small_tick n h), number-decimal n (small_tick n h), h)
+operation-read version Pick h known = refl
+operation-read version Yield h known = refl
+operation-read version (Sleep n) h known = rw (words-decimal n (omega arith), number-decimal n (omega arith), task_passes n h)
+operation-read version (Post n) h known = rw (words-decimal n (omega arith), number-decimal n (omega arith), task_passes n h)
+operation-read version Drain h known = refl
+operation-read version (Pull n) h known = rw (words-decimal n (omega arith), number-decimal n (omega arith), cpu_passes version n h known)
+operation-read version (Renice n nice) h known =
+    ap (λ t. operation (limits_of version) (words t)) (renice_text n nice)
+    ∙ ap (operation_of (limits_of version) (codes "renice")) (words-after_decimal n (signed_decimal nice) (omega (arith, h.0)))
+    ∙ rw (known, words-printed nice h.1, number-decimal n (omega (arith, h.0)), task_passes n h.0, level-printed nice h.1)
 
-pub operation-pick : (version : Version) → IsReadBack version Pick
-unfolding operation
-operation-pick version known = refl
-
-pub operation-yield : (version : Version) → IsReadBack version Yield
-unfolding operation
-operation-yield version known = refl
-
-pub operation-sleep : (version : Version) (n : ℕ) → n < 1024 → IsReadBack version (Sleep n)
-unfolding operation
-operation-sleep version n h known = rw (words-decimal n (omega arith), number-decimal n (omega arith), task_passes n h)
-
-pub operation-post : (version : Version) (n : ℕ) → n < 1024 → IsReadBack version (Post n)
-unfolding operation
-operation-post version n h known = rw (words-decimal n (omega arith), number-decimal n (omega arith), task_passes n h)
-
-pub operation-drain : (version : Version) → IsReadBack version Drain
-unfolding operation
-operation-drain version known = refl
-
-pub operation-pull : (version : Version) (n : ℕ) → n < cpu_limit → IsReadBack version (Pull n)
-unfolding operation
-operation-pull version n h known = rw (words-decimal n (omega arith), number-decimal n (omega arith), cpu_passes version n h known)
-
-pub renice-read : (version : Version) (task : ℕ) (nice : ℤ) → task < 1024 → is_nice_level nice ≡ true → knows_renice version ≡ true
-    → operation_of (limits_of version) (codes "renice") (words (decimal task ++ (32 ∷ signed_decimal nice))) ≡ Some (Renice task nice)
-renice-read version task nice h level known =
-    let knows : (limits_of version).renice ≡ true = renice_is version ∙ known in
-    ap (operation_of (limits_of version) (codes "renice")) (words-after_decimal task (signed_decimal nice) (omega arith))
-    ∙ rw (knows, words-printed nice level, number-decimal task (omega arith), task_passes task h, level-printed nice level)
-
-pub operation-renice : (version : Version) (task : ℕ) (nice : ℤ) → task < 1024 → is_nice_level nice ≡ true → IsReadBack version (Renice task nice)
-unfolding operation
-operation-renice version task nice h level known = ap (λ t. operation (limits_of version) (words t)) (renice_text task nice) ∙ renice-read version task nice h level known
-
--- a text is read as an operation that is read back where it is printed
-pub operation_is_text : (version : Version) (text : List ℕ) (op o : Op) → op ≡ o → IsReadBack version o → (operation (limits_of version) (words text) ≡ Some op) ↔ ((text ≡ operation_text op) × (knows_operation version op ≡ true))
-operation_is_text version text op o is read =
-    let back : IsReadBack version op = subst (IsReadBack version) (sym is) read in
-    (text-operation version text op, λ e. ap (λ t. operation (limits_of version) (words t)) e.0 ∙ back e.1)
+-- a text is read as an operation whose numbers are small exactly where it is that operation as it is printed
+pub operation_is_text : (version : Version) (text : List ℕ) (op : Op) → IsSmall op
+    → (operation (limits_of version) (words text) ≡ Some op) ↔ ((text ≡ operation_text op) × (knows_operation version op ≡ true))
+operation_is_text version text op small = (
+  λ h. let (printed, known) = text-words version (words text) op h in (sym (joined_words text) ∙ printed, known),
+  λ e. ap (λ t. operation (limits_of version) (words t)) e.0 ∙ operation-read version op small e.1,
+)

@@ -1,13 +1,9 @@
 //! Laws of what is read: what the words of a workload are, and what its version decides.
-ghost use Rattle.std.specs.Prelude.{◌≡◌, ◌↔◌, true, Some};
+ghost use Rattle.std.specs.Prelude.{◌≡◌, ◌<◌, ◌↔◌, true, Some};
+ghost use Rattle.eevdf_ops.specs.{Numbers.cpu_limit, Parts.decider};
 ghost use Rattle.eevdf_workload.specs.Versions.{limits_of};
 ghost use Rattle.eevdf_workload.specs.Words.{deed_in, operation, words};
-ghost use Rattle.eevdf_bench.specs.WordsPrinted.{
-  knows_deed,
-  knows_operation,
-  numbered_deed_text,
-  operation_text,
-};
+ghost use Rattle.eevdf_bench.specs.WordsPrinted.{IsSmall, IsSmallAct, knows_deed, knows_operation, numbered_deed_text, operation_text};
 
 use eevdf_ops::{Deed, Op};
 use eevdf_workload::Version;
@@ -19,27 +15,7 @@ pub fn operation_is_its_text(version: Version, text: &str, op: Op)
     ensures { (operation (limits_of version) (words text.now) ≡ Some op)
         ↔ ((text.now ≡ operation_text op) × (knows_operation version op ≡ true)) }
 {
-    match op {
-        Op::Tick(ns) => {
-            let _within = ns.get();
-        }
-        Op::Pick => {}
-        Op::Yield => {}
-        Op::Sleep(task) => {
-            let _below = task.get();
-        }
-        Op::Post(task) => {
-            let _below = task.get();
-        }
-        Op::Drain => {}
-        Op::Pull(source) => {
-            let _below = source.get();
-        }
-        Op::Renice(task, nice) => {
-            let _below = task.get();
-            let _level = nice.get();
-        }
-    }
+    operation_is_small(op);
 }
 
 /// A text is read in a version as a deed exactly where it is the number of its CPU, a space and the deed as it is
@@ -48,15 +24,42 @@ pub fn deed_is_its_text(version: Version, text: &str, deed: Deed)
     ensures { (deed_in (limits_of version) (words text.now) ≡ Some deed)
         ↔ ((text.now ≡ numbered_deed_text deed) × (knows_deed version deed ≡ true)) }
 {
+    deed_is_small(deed);
+}
+
+/// The numbers of an operation are as small as its types have them.
+fn operation_is_small(op: Op)
+    ensures { IsSmall op }
+{
+    match op {
+        Op::Tick(ns) => {
+            let _within = ns.get();
+        }
+        Op::Sleep(task) | Op::Post(task) => {
+            let _below = task.get();
+        }
+        Op::Pull(source) => {
+            let _below = source.get();
+        }
+        Op::Renice(task, nice) => {
+            let _below = task.get();
+            let _level = nice.get();
+        }
+        Op::Pick | Op::Yield | Op::Drain => {}
+    }
+}
+
+/// The numbers of a deed are as small as its types have them.
+fn deed_is_small(deed: Deed)
+    ensures cpu { decider deed < cpu_limit }
+    ensures act { IsSmallAct deed }
+{
     match deed {
         Deed::Tick { cpu, ns } => {
             let _below = cpu.get();
             let _within = ns.get();
         }
-        Deed::Pick { cpu } => {
-            let _below = cpu.get();
-        }
-        Deed::Yield { cpu } => {
+        Deed::Pick { cpu } | Deed::Yield { cpu } => {
             let _below = cpu.get();
         }
         Deed::Sleep { cpu, task } => {
