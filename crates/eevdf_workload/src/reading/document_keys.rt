@@ -1,6 +1,6 @@
 ghost use Rattle.std.specs.Prelude.{◌≡◌, Ok, Err, option_map, MatchResult};
 ghost use Rattle.eevdf_workload.specs.Meaning.{version, version_of};
-ghost use Rattle.eevdf_workload.specs.MeaningSteps.{array_at, boolean_or, integer_or, natural};
+ghost use Rattle.eevdf_workload.specs.MeaningSteps.{array_at, boolean_or, good_at, integer_or, natural};
 ghost use Rattle.toml.specs.Data.{get_member};
 ghost use Rattle.toml.specs.View.{array_view, table_view, view};
 
@@ -28,6 +28,13 @@ fn version_of(value: &Value) -> Result<Version, LoadFault>
         Some(2) => Ok(Version::Two),
         _ => Err(LoadFault::BadValue { key: Key::Version }),
     }
+}
+
+/// The value that was found, or a bad value at the key.
+pub(crate) fn good_at<T>(key: Key, found: Option<T>) -> Result<T, LoadFault>
+    ensures { result ≡ good_at key found }
+{
+    found.ok_or(LoadFault::BadValue { key })
 }
 
 /// The value at a key of a table.

@@ -4,7 +4,7 @@ ghost use Rattle.eevdf_workload.specs.MeaningSteps.{each, Reads};
 ghost use Rattle.toml.specs.View.{items_view, table_view, view};
 
 use crate::load_fault::{Key, LoadFault};
-use crate::reading::document_keys::{array_at, member, natural};
+use crate::reading::document_keys::{array_at, good_at, member, natural};
 use std::alloc::Global;
 use toml::{Table, Value};
 
@@ -40,10 +40,6 @@ fn callers(alloc: Global, members: &[Value]) -> Result<Vec<usize>, LoadFault>
 fn caller_at(place: usize, value: &Value) -> Result<usize, LoadFault>
     ensures { result ≡ caller_at place (view value.now) }
 {
-    match value.as_integer().and_then(natural) {
-        Some(caller) => Ok(caller as usize),
-        None => Err(LoadFault::BadValue {
-            key: Key::Order(place),
-        }),
-    }
+    let caller = good_at(Key::Order(place), value.as_integer().and_then(natural))?;
+    Ok(caller as usize)
 }

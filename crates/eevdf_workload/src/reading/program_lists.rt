@@ -4,7 +4,7 @@ ghost use Rattle.eevdf_workload.specs.MeaningSteps.{each, Reads};
 ghost use Rattle.toml.specs.View.{items_view, table_view, view};
 
 use crate::load_fault::{Key, LoadFault};
-use crate::reading::document_keys::{array_at, member};
+use crate::reading::document_keys::{array_at, good_at, member};
 use crate::reading::operation_text::operation;
 use crate::version::Limits;
 use eevdf_ops::Op;
@@ -69,11 +69,6 @@ fn operations(
 fn operation_at(limits: Limits, cpu: usize, place: usize, value: &Value) -> Result<Op, LoadFault>
     ensures { result ≡ operation_at limits cpu place (view value.now) }
 {
-    let found = match value.as_str() {
-        Some(text) => operation(limits, text),
-        None => None,
-    };
-    found.ok_or(LoadFault::BadValue {
-        key: Key::Op(cpu, place),
-    })
+    let operation = value.as_str().and_then(|text| operation(limits, text));
+    good_at(Key::Op(cpu, place), operation)
 }

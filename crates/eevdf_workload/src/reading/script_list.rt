@@ -5,7 +5,7 @@ ghost use Rattle.toml.specs.View.{items_view, table_view, view};
 
 use crate::load_fault::{Key, LoadFault};
 use crate::reading::deed_text::deed;
-use crate::reading::document_keys::{array_at, member};
+use crate::reading::document_keys::{array_at, good_at, member};
 use crate::version::Limits;
 use eevdf_ops::Deed;
 use std::alloc::Global;
@@ -51,11 +51,6 @@ fn deeds(alloc: Global, limits: Limits, members: &[Value]) -> Result<Vec<Deed>, 
 fn deed_at(limits: Limits, place: usize, value: &Value) -> Result<Deed, LoadFault>
     ensures { result ≡ deed_at limits place (view value.now) }
 {
-    let found = match value.as_str() {
-        Some(text) => deed(limits, text),
-        None => None,
-    };
-    found.ok_or(LoadFault::BadValue {
-        key: Key::Script(place),
-    })
+    let deed = value.as_str().and_then(|text| deed(limits, text));
+    good_at(Key::Script(place), deed)
 }

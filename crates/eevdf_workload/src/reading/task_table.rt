@@ -4,7 +4,7 @@ ghost use Rattle.eevdf_workload.specs.MeaningSteps.{each, Reads};
 ghost use Rattle.toml.specs.View.{items_view, table_view, view};
 
 use crate::load_fault::{Key, LoadFault};
-use crate::reading::document_keys::{array_at, boolean_or, integer_or, member, natural};
+use crate::reading::document_keys::{array_at, boolean_or, good_at, integer_or, member, natural};
 use crate::version::Limits;
 use eevdf_ops::{CpuId, TaskSpec};
 use eevdf_weight::{Nice, Slice};
@@ -66,12 +66,8 @@ fn task_of(limits: Limits, place: usize, task: &Table) -> Result<TaskSpec, LoadF
 fn home_of(limits: Limits, place: usize, task: &Table) -> Result<CpuId, LoadFault>
     ensures { result ≡ home_of limits place (table_view task.now) }
 {
-    let home = integer_or(task, "home", 0);
-    home.and_then(natural)
-        .and_then(|number| limits.cpu(number))
-        .ok_or(LoadFault::BadValue {
-            key: Key::Home(place),
-        })
+    let home = integer_or(task, "home", 0).and_then(natural);
+    good_at(Key::Home(place), home.and_then(|number| limits.cpu(number)))
 }
 
 #[tactic(auto, unfolding(crate::specs::Meaning::nice_of))]
@@ -79,9 +75,7 @@ fn nice_of(place: usize, task: &Table) -> Result<Nice, LoadFault>
     ensures { result ≡ nice_of place (table_view task.now) }
 {
     let nice = integer_or(task, "nice", 0);
-    nice.and_then(Nice::new).ok_or(LoadFault::BadValue {
-        key: Key::Nice(place),
-    })
+    good_at(Key::Nice(place), nice.and_then(Nice::new))
 }
 
 #[tactic(auto, unfolding(crate::specs::Meaning::slice_of))]
@@ -89,28 +83,22 @@ fn slice_of(place: usize, task: &Table) -> Result<Slice, LoadFault>
     ensures { result ≡ slice_of place (table_view task.now) }
 {
     let slice = integer_or(task, "slice", Slice::default().get() as i64);
-    slice
-        .and_then(natural)
-        .and_then(Slice::new)
-        .ok_or(LoadFault::BadValue {
-            key: Key::Slice(place),
-        })
+    good_at(
+        Key::Slice(place),
+        slice.and_then(natural).and_then(Slice::new),
+    )
 }
 
 #[tactic(auto, unfolding(crate::specs::Meaning::start_of))]
 fn start_of(place: usize, task: &Table) -> Result<i64, LoadFault>
     ensures { result ≡ start_of place (table_view task.now) }
 {
-    integer_or(task, "start", 0).ok_or(LoadFault::BadValue {
-        key: Key::Start(place),
-    })
+    good_at(Key::Start(place), integer_or(task, "start", 0))
 }
 
 #[tactic(auto, unfolding(crate::specs::Meaning::asleep_of))]
 fn asleep_of(place: usize, task: &Table) -> Result<bool, LoadFault>
     ensures { result ≡ asleep_of place (table_view task.now) }
 {
-    boolean_or(task, "asleep", false).ok_or(LoadFault::BadValue {
-        key: Key::Asleep(place),
-    })
+    good_at(Key::Asleep(place), boolean_or(task, "asleep", false))
 }
