@@ -1,4 +1,4 @@
-ghost use Rattle.std.specs.Prelude.{◌≡◌, Ok, Err, option_map, MatchResult};
+ghost use Rattle.std.specs.Prelude.{◌≡◌, Ok, Err, Some, None, option_map, MatchResult};
 ghost use Rattle.eevdf_workload.specs.Meaning.{version, version_of};
 ghost use Rattle.eevdf_workload.specs.MeaningSteps.{array_at, boolean_or, good_at, integer_or, natural};
 ghost use Rattle.toml.specs.Data.{get_member};
@@ -14,10 +14,7 @@ use toml::{Table, Value};
 pub(crate) fn version(document: &Table) -> Result<Version, LoadFault>
     ensures { result ≡ version (table_view document.now) }
 {
-    match member(document, "version") {
-        Some(value) => version_of(value),
-        None => Err(LoadFault::Missing { key: Key::Version }),
-    }
+    version_of(required(document, "version", Key::Version)?)
 }
 
 fn version_of(value: &Value) -> Result<Version, LoadFault>
@@ -42,6 +39,15 @@ pub(crate) fn member<'a>(table: &'a Table, name: &str) -> Option<&'a Value>
     ensures { option_map (λ v. view v.now) result ≡ get_member name.now (table_view table.now) }
 {
     table.get(name)
+}
+
+/// The value at a key of a table, or a fault where the key is absent.
+pub(crate) fn required<'a>(table: &'a Table, name: &str, key: Key) -> Result<&'a Value, LoadFault>
+    ensures { MatchResult result
+        (λ v. get_member name.now (table_view table.now) ≡ Some (view v.now))
+        (λ e. (get_member name.now (table_view table.now) ≡ None) × (e ≡ LoadFault.Missing key)) }
+{
+    member(table, name).ok_or(LoadFault::Missing { key })
 }
 
 /// The integer at a key of a table, or the default where the key is absent.
@@ -75,8 +81,5 @@ pub(crate) fn natural(number: i64) -> Option<u64>
 pub(crate) fn array_at(value: &Value, key: Key) -> Result<&Array, LoadFault>
     ensures { MatchResult result (λ a. array_at key (view value.now) ≡ Ok (array_view a.now)) (λ e. array_at key (view value.now) ≡ Err e) }
 {
-    match value.as_array() {
-        Some(members) => Ok(members),
-        None => Err(LoadFault::BadValue { key }),
-    }
+    good_at(key, value.as_array())
 }

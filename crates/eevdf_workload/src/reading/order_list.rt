@@ -1,5 +1,5 @@
 ghost use Rattle.std.specs.Prelude.{◌≡◌, option_map};
-ghost use Rattle.eevdf_workload.specs.Meaning.{caller_at, order, order_of};
+ghost use Rattle.eevdf_workload.specs.Meaning.{caller_at, order};
 ghost use Rattle.eevdf_workload.specs.MeaningSteps.{each, Reads};
 ghost use Rattle.toml.specs.View.{items_view, table_view, view};
 
@@ -14,16 +14,9 @@ pub(crate) fn order(alloc: Global, document: &Table) -> Result<Option<Vec<usize>
     ensures { Reads (λ found. option_map (λ ps. ps.items) found) (order (table_view document.now)) result }
 {
     match member(document, "order") {
-        Some(value) => Ok(Some(order_of(alloc, value)?)),
+        Some(value) => Ok(Some(callers(alloc, array_at(value, Key::Orders)?)?)),
         None => Ok(None),
     }
-}
-
-fn order_of(alloc: Global, value: &Value) -> Result<Vec<usize>, LoadFault>
-    ensures { Reads (λ ps. ps.items) (order_of (view value.now)) result }
-{
-    let members = array_at(value, Key::Orders)?;
-    callers(alloc, members)
 }
 
 fn callers(alloc: Global, members: &[Value]) -> Result<Vec<usize>, LoadFault>

@@ -4,7 +4,7 @@ ghost use Rattle.eevdf_workload.specs.MeaningSteps.{each, Reads};
 ghost use Rattle.toml.specs.View.{items_view, table_view, view};
 
 use crate::load_fault::{Key, LoadFault};
-use crate::reading::document_keys::{array_at, good_at, member};
+use crate::reading::document_keys::{array_at, good_at, required};
 use crate::reading::operation_text::operation;
 use crate::version::Limits;
 use eevdf_ops::Op;
@@ -20,10 +20,8 @@ pub(crate) fn programs(
 ) -> Result<Vec<Vec<Op>>, LoadFault>
     ensures { Reads (λ ps. map (λ p. p.items) ps.items) (programs limits (table_view document.now)) result }
 {
-    match member(document, "program") {
-        Some(value) => programs_of(alloc, limits, array_at(value, Key::Programs)?),
-        None => Err(LoadFault::Missing { key: Key::Programs }),
-    }
+    let value = required(document, "program", Key::Programs)?;
+    programs_of(alloc, limits, array_at(value, Key::Programs)?)
 }
 
 fn programs_of(alloc: Global, limits: Limits, members: &[Value]) -> Result<Vec<Vec<Op>>, LoadFault>
@@ -46,8 +44,7 @@ fn program_at(
 ) -> Result<Vec<Op>, LoadFault>
     ensures { Reads (λ p. p.items) (program_at limits cpu (view value.now)) result }
 {
-    let members = array_at(value, Key::Program(cpu))?;
-    operations(alloc, limits, cpu, members)
+    operations(alloc, limits, cpu, array_at(value, Key::Program(cpu))?)
 }
 
 fn operations(

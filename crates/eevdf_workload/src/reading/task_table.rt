@@ -4,7 +4,7 @@ ghost use Rattle.eevdf_workload.specs.MeaningSteps.{each, Reads};
 ghost use Rattle.toml.specs.View.{items_view, table_view, view};
 
 use crate::load_fault::{Key, LoadFault};
-use crate::reading::document_keys::{array_at, boolean_or, good_at, integer_or, member, natural};
+use crate::reading::document_keys::{array_at, boolean_or, good_at, integer_or, natural, required};
 use crate::version::Limits;
 use eevdf_ops::{CpuId, TaskSpec};
 use eevdf_weight::{Nice, Slice};
@@ -20,10 +20,8 @@ pub(crate) fn tasks(
 ) -> Result<Vec<TaskSpec>, LoadFault>
     ensures { Reads (λ ts. ts.items) (tasks limits (table_view document.now)) result }
 {
-    match member(document, "task") {
-        Some(value) => tasks_of(alloc, limits, array_at(value, Key::Tasks)?),
-        None => Err(LoadFault::Missing { key: Key::Tasks }),
-    }
+    let value = required(document, "task", Key::Tasks)?;
+    tasks_of(alloc, limits, array_at(value, Key::Tasks)?)
 }
 
 fn tasks_of(alloc: Global, limits: Limits, members: &[Value]) -> Result<Vec<TaskSpec>, LoadFault>
@@ -41,12 +39,7 @@ fn tasks_of(alloc: Global, limits: Limits, members: &[Value]) -> Result<Vec<Task
 fn task_at(limits: Limits, place: usize, value: &Value) -> Result<TaskSpec, LoadFault>
     ensures { result ≡ task_at limits place (view value.now) }
 {
-    match value.as_table() {
-        Some(task) => task_of(limits, place, task),
-        None => Err(LoadFault::BadValue {
-            key: Key::Task(place),
-        }),
-    }
+    task_of(limits, place, good_at(Key::Task(place), value.as_table())?)
 }
 
 #[tactic(auto, unfolding(crate::specs::Meaning::task_of))]
