@@ -1,27 +1,19 @@
 -- A workload that is cut one byte past its limit means what it meant.
-use Rattle.std.proofs.Common.{◌≡◌, ℕ, ◌+◌, ◌<◌, ◌≤◌, Bool, true, false, cond, List, length, take, refl, ap, ◌∙◌, arith}
+use Rattle.std.proofs.Common.{◌≡◌, ℕ, ◌+◌, ◌≤◌, Bool, true, false, cond, List, length, take, refl, ap, ◌∙◌, arith}
 use Rattle.std.specs.Prelude.{nat_lt, if◌then◌else◌, Err}
 use Rattle.std.proofs.{lemmas.List.take_all, lemmas.List.length-take, lemmas.Bool.Decides.nat_tests}
 use Rattle.eevdf_workload.specs.declared.load_fault.LoadFault.TheVariants as fault
 use Rattle.eevdf_workload.specs.Meaning.{meaning, document_of, workload_of}
 use Rattle.eevdf_workload.specs.MeaningSteps.{◌>>=◌}
 
-too_long : (m n : ℕ) → nat_lt m n ≡ true → m < n
-too_long m n h = grind (arith, nat_tests)
-
-not_long : (m n : ℕ) → nat_lt m n ≡ false → n ≤ m
-not_long m n h = grind (arith, nat_tests)
-
-is_long : (m n : ℕ) → m < n → nat_lt m n ≡ true
-is_long m n h = grind (arith, nat_tests)
-
 cut : {A : Type 0} (m n : ℕ) (e : A) (read : List ℕ → A) (bytes : List ℕ) (b : Bool) → n ≡ m + 1 → nat_lt m (length bytes) ≡ b
     → (if nat_lt m (length (take n bytes)) then e else read (take n bytes)) ≡ (if b then e else read bytes)
 cut {A} m n e read bytes true one h =
-    let longer : m < length (take n bytes) = omega (arith, length-take n bytes, too_long m (length bytes) h) in
-    ap (λ (t : Bool). cond t e (read (take n bytes))) (is_long m (length (take n bytes)) longer)
+    let longer : nat_lt m (length (take n bytes)) ≡ true = grind (arith, nat_tests, length-take n bytes) in
+    ap (λ (t : Bool). cond t e (read (take n bytes))) longer
 cut {A} m n e read bytes false one h =
-    let same : take n bytes ≡ bytes = take_all n bytes (omega (arith, not_long m (length bytes) h)) in
+    let short : length bytes ≤ n = grind (arith, nat_tests) in
+    let same : take n bytes ≡ bytes = take_all n bytes short in
     ap (λ (bs : List ℕ). cond (nat_lt m (length bs)) e (read bs)) same ∙ ap (λ (t : Bool). cond t e (read bytes)) h
 
 pub meaning_cut : (bytes : List ℕ) → meaning (take 16777217 bytes) ≡ meaning bytes

@@ -63,10 +63,7 @@ impl Workload {
     pub fn order(&self) -> Option<&[usize]>
         ensures { option_map (λ ps. ps.now) result ≡ self.now.order }
     {
-        match &self.order {
-            Some(callers) => Some(callers.as_slice()),
-            None => None,
-        }
+        self.order.as_deref()
     }
 
     /// The deeds to be done on the machine, in order, if the workload lists any. The setup allows each.
@@ -74,9 +71,6 @@ impl Workload {
         ensures deeds { option_map (λ ds. ds.now) result ≡ self.now.script }
         ensures allowed { allowed self.now.setup self.now.script ≡ Ok tt }
     {
-        match &self.script {
-            Some(deeds) => Some(deeds.as_slice()),
-            None => None,
-        }
+        self.script.as_deref()
     }
 }
