@@ -3,8 +3,8 @@ use Rattle.std.proofs.Common.{◌≡◌, ◌≢◌, ℕ, ◌+◌, ◌<◌, ◌�
 use Rattle.std.proofs.lemmas.List.{append-nil, flat_map_more, get_or-map, get_or-set_same, get_or-set_other, length-map, map-set, take_more}
 use Rattle.std.proofs.lemmas.List.FromFn.{fill_by_all, get_or-map-range_with_len, length-map-range_with_len}
 use Rattle.std.proofs.{lemmas.Bool.cases_order, lemmas.Bool.Decides.nat_tests}
-use Rattle.eevdf_ops.specs.declared.deeds.Line.{Line}
-use Rattle.eevdf_report.specs.{TextDeed.cpu_of, TextDeed.schedule_line, TextReport.schedule_at, TextReport.schedule_of}
+use Rattle.eevdf_ops.specs.{declared.deeds.Line.Line, Parts.decider}
+use Rattle.eevdf_report.specs.{TextDeed.schedule_line, TextReport.schedule_at, TextReport.schedule_of}
 use Rattle.eevdf_report.specs.TextSchedules.{schedules_of}
 
 -- the schedule of one CPU
@@ -31,32 +31,32 @@ schedules_of-more cpus lines i l was now low here e many each =
     schedules_of-append cpus (take i lines) l was now e many each
     ∙ ap (schedules_of cpus) (ap (λ (m : Line). take i lines ++ m ∷ []) here ∙ sym (take_more lines i l low))
 
-own_line : (l : Line) (c : ℕ) → c ≡ cpu_of l.deed → schedule_at c l ≡ schedule_line l
+own_line : (l : Line) (c : ℕ) → c ≡ decider l.deed → schedule_at c l ≡ schedule_line l
 own_line l c e = grind (arith, nat_tests)
 
-other_line : (l : Line) (c : ℕ) → c ≢ cpu_of l.deed → schedule_at c l ≡ []
+other_line : (l : Line) (c : ℕ) → c ≢ decider l.deed → schedule_at c l ≡ []
 other_line l c e = grind (arith, nat_tests)
 
 module _ {X : Type 0} (f : X → List ℕ) where
   -- a line stands in the schedule of its CPU
-  added_own : (texts : List X) (was now : X) (l : Line) (c : ℕ) → c ≡ cpu_of l.deed → c < length texts → was ≡ get_or texts c was → f now ≡ f was ++ schedule_line l → get_or (map f (set texts c now)) c [] ≡ get_or (map f texts) c [] ++ schedule_at c l
+  added_own : (texts : List X) (was now : X) (l : Line) (c : ℕ) → c ≡ decider l.deed → c < length texts → was ≡ get_or texts c was → f now ≡ f was ++ schedule_line l → get_or (map f (set texts c now)) c [] ≡ get_or (map f texts) c [] ++ schedule_at c l
   added_own texts was now l c e low here is =
       let many : c < length (map f texts) = omega (arith, length-map texts f) in
       rw (own_line l c e, map-set, get_or-set_same (map f texts) c (f now) [] many, get_or-map f texts c was [] low, ← here) is
 
-  added_other : (texts : List X) (now : X) (l : Line) (i c : ℕ) → i ≡ cpu_of l.deed → c ≢ i → get_or (map f (set texts i now)) c [] ≡ get_or (map f texts) c [] ++ schedule_at c l
+  added_other : (texts : List X) (now : X) (l : Line) (i c : ℕ) → i ≡ decider l.deed → c ≢ i → get_or (map f (set texts i now)) c [] ≡ get_or (map f texts) c [] ++ schedule_at c l
   added_other texts now l i c e other =
-      let o : c ≢ cpu_of l.deed = omega arith in
+      let o : c ≢ decider l.deed = omega arith in
       rw (other_line l c o, append-nil, map-set, get_or-set_other (map f texts) i c (f now) [] other) refl
 
-  pub added : (texts : List X) (was now : X) (l : Line) (i c : ℕ) → i ≡ cpu_of l.deed → i < length texts → was ≡ get_or texts i was → f now ≡ f was ++ schedule_line l → get_or (map f (set texts i now)) c [] ≡ get_or (map f texts) c [] ++ schedule_at c l
+  pub added : (texts : List X) (was now : X) (l : Line) (i c : ℕ) → i ≡ decider l.deed → i < length texts → was ≡ get_or texts i was → f now ≡ f was ++ schedule_line l → get_or (map f (set texts i now)) c [] ≡ get_or (map f texts) c [] ++ schedule_at c l
   added texts was now l i c e low here is =
       ⊎_elim (λ q. rw q (added_own texts was now l i e low here is))
       (λ r. added_other texts now l i c e (⊎_elim (λ h. omega arith) (λ h. omega arith) r))
       (cases_order c i)
 
 -- a line of any other CPU stands in none
-pub not_added : (texts : List (List ℕ)) (l : Line) (c : ℕ) → length texts ≤ cpu_of l.deed → c < length texts → get_or texts c [] ≡ get_or texts c [] ++ schedule_at c l
+pub not_added : (texts : List (List ℕ)) (l : Line) (c : ℕ) → length texts ≤ decider l.deed → c < length texts → get_or texts c [] ≡ get_or texts c [] ++ schedule_at c l
 not_added texts l c high low =
-    let other : c ≢ cpu_of l.deed = omega arith in
+    let other : c ≢ decider l.deed = omega arith in
     rw (other_line l c other, append-nil) refl

@@ -1,13 +1,13 @@
 -- The report: each CPU's schedule, queue and waiting requests, and the history as a script.
 use Rattle.std.specs.Prelude.{ℕ, ◌+◌, ◌*◌, ◌==◌, Bool, true, false, List, [], ◌++◌, length, codes, decimal, if◌then◌else◌, slice_index_or}
 use Rattle.std.specs.List.{flat_map, range_with_len}
-use Rattle.eevdf_ops.specs.{declared.deeds.Line.Line, Machine.Machine, Machine.queue_at}
+use Rattle.eevdf_ops.specs.{declared.deeds.Line.Line, Machine.Machine, Machine.queue_at, Parts.decider}
 use Rattle.eevdf_report.specs.{Text.as_line, TextQueue.queue_text}
-use Rattle.eevdf_report.specs.TextDeed.{cpu_of, schedule_line, script_line}
+use Rattle.eevdf_report.specs.TextDeed.{schedule_line, script_line}
 
 -- a line of the history, where its deed is of this CPU
 abbrev pub schedule_at : ℕ → Line → List ℕ
-schedule_at cpu l = if cpu_of l.deed == cpu then schedule_line l else []
+schedule_at cpu l = if decider l.deed == cpu then schedule_line l else []
 
 -- the schedule of one CPU
 abbrev pub schedule_of : ℕ → List Line → List ℕ

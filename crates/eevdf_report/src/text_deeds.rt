@@ -1,6 +1,6 @@
 ghost use Rattle.std.specs.Prelude.{◌≡◌, ◌++◌, OnOk, decimal};
+ghost use Rattle.eevdf_ops.specs.Parts.{decider};
 ghost use Rattle.eevdf_report.specs.TextDeed.{deed_text, answer_text, resched_text, schedule_line, script_line};
-ghost use Rattle.eevdf_report.specs.TextDeed as texts;
 
 use crate::text_numbers::{push_number, push_signed};
 use eevdf_ops::{Answer, CpuId, Deed, Line};
@@ -8,16 +8,16 @@ use std::alloc::AllocError;
 
 /// The CPU on which a deed is done.
 pub(crate) fn cpu_of(deed: Deed) -> CpuId
-    ensures { result ≡ texts.cpu_of deed }
+    ensures { result ≡ decider deed }
 {
     match deed {
-        Deed::Tick { cpu, .. } => cpu,
-        Deed::Pick { cpu } => cpu,
-        Deed::Yield { cpu } => cpu,
-        Deed::Sleep { cpu, .. } => cpu,
-        Deed::Wake { cpu, .. } => cpu,
-        Deed::Pull { cpu, .. } => cpu,
-        Deed::Renice { cpu, .. } => cpu,
+        Deed::Tick { cpu, .. }
+        | Deed::Pick { cpu }
+        | Deed::Yield { cpu }
+        | Deed::Sleep { cpu, .. }
+        | Deed::Wake { cpu, .. }
+        | Deed::Pull { cpu, .. }
+        | Deed::Renice { cpu, .. } => cpu,
     }
 }
 
@@ -53,11 +53,7 @@ fn push_with_number(text: &mut Vec<u8>, word: &[u8], number: u64) -> Result<(), 
 fn push_resched(text: &mut Vec<u8>, resched: bool) -> Result<(), AllocError>
     ensures { OnOk result (text.new.items ≡ text.old.items ++ resched_text resched) }
 {
-    if resched {
-        text.extend_from_slice(b" resched")
-    } else {
-        Ok(())
-    }
+    text.extend_from_slice(if resched { b" resched" } else { b"" })
 }
 
 pub(crate) fn push_answer(text: &mut Vec<u8>, answer: Answer) -> Result<(), AllocError>

@@ -1,6 +1,6 @@
 use Rattle.std.proofs.Common.{◌≡◌, ◌<◌, ◌≤◌, ℕ, Vec, Global, length, ⊎_elim, ◌∙◌, arith, refl}
 use Rattle.std.proofs.{lemmas.Bool.cases_lt, lemmas.Bool.false≢true, lemmas.List.length-map}
-use Rattle.eevdf_report.specs.TextDeed.{cpu_of}
+use Rattle.eevdf_ops.specs.Parts.{decider}
 use Rattle.eevdf_report.proofs.ScheduleLines.{added, not_added}
 use Rattle.eevdf_report.proofs.schedules.Schedules.push.Goals as goal
 use Rattle.eevdf_report.proofs.schedules.Schedules.push.Goals.{in-Some+in_ok-push_schedule_line, in_default}
@@ -8,7 +8,7 @@ use Rattle.eevdf_report.proofs.schedules.Schedules.push.Goals.{in-Some+in_ok-pus
 pub returns-clause-each : goal.returns-clause-each
 returns-clause-each c =
     let texts = c.self.inside.texts in
-    let own : c.get-cpu.result ≡ cpu_of c.args.line.deed = c.get-cpu.ensures.number ∙ c.cpu_of.ensures in
+    let own : c.get-cpu.result ≡ decider c.args.line.deed = c.get-cpu.ensures.number ∙ c.cpu_of.ensures in
     rw (← c.self.view_is) (elim c.match-get_mut.branch [
       | in-Some+in_ok-push_schedule_line w ↦
           let here : c.get-cpu.result < length texts.items = omega (arith, w.in-Some.ensures.variant.0 refl, texts.ok.0) in
