@@ -105,7 +105,10 @@ pub fn command_of<S: AsStr>(alloc: Global, words: &[S]) -> Result<Command, WordF
     ensures refused { result ≡ Err WordFault.Words → spec.is_taken (map S.text words.now) ≡ false }
 {
     let matches = matches_of(alloc, words)?;
-    let kind = kind_met(&matches).ok_or(WordFault::Words)?;
+    let kind = matches
+        .subcommand_name()
+        .and_then(kind_named)
+        .ok_or(WordFault::Words)?;
     let history = has_history(&matches);
     Ok(Command { kind, history })
 }
@@ -145,13 +148,6 @@ fn subcommand<'a>(alloc: Global, name: &'a str) -> Result<clap::Command<'a>, All
         .long("history")
         .action(ArgAction::SetTrue);
     clap::Command::new(alloc, name).arg(history)
-}
-
-// The kind that the subcommand names.
-fn kind_met(matches: &ArgMatches<'_>) -> Option<Kind>
-    ensures { result ≡ option_and_then spec.kind_named (subcommand_name_of matches.now) }
-{
-    matches.subcommand_name().and_then(kind_named)
 }
 
 // Whether the subcommand's flag was given. `clap` holds a flag as the text `true` or `false`.

@@ -1,5 +1,5 @@
 ghost use Rattle.std.specs.Prelude.{◌≡◌, ◌++◌, OnOk};
-ghost use Rattle.eevdf_report.specs.TextReport.{left_line, left_from, cpu_line, script_start, script_lines, script_text};
+ghost use Rattle.eevdf_report.specs.TextReport.{left_line, left_from, cpu_line, script_lines, script_text};
 
 use crate::text_deeds::push_script_line;
 use crate::text_numbers::push_number;
@@ -39,13 +39,6 @@ pub(crate) fn push_left(
     Ok(())
 }
 
-#[tactic(auto, unfolding(crate::specs::TextReport::script_start))]
-fn push_script_start(text: &mut Vec<u8>) -> Result<(), AllocError>
-    ensures { OnOk result (text.new.items ≡ text.old.items ++ script_start) }
-{
-    text.extend_from_slice(b"script = [\n")
-}
-
 fn push_script_lines(text: &mut Vec<u8>, lines: &[Line]) -> Result<(), AllocError>
     ensures { OnOk result (text.new.items ≡ text.old.items ++ script_lines lines.now) }
 {
@@ -56,10 +49,11 @@ fn push_script_lines(text: &mut Vec<u8>, lines: &[Line]) -> Result<(), AllocErro
 }
 
 /// Writes a whole history as a script.
+#[tactic(auto, unfolding(crate::specs::TextReport::script_start))]
 pub(crate) fn push_script(text: &mut Vec<u8>, lines: &[Line]) -> Result<(), AllocError>
     ensures { OnOk result (text.new.items ≡ text.old.items ++ script_text lines.now) }
 {
-    push_script_start(text)?;
+    text.extend_from_slice(b"script = [\n")?;
     push_script_lines(text, lines)?;
     text.extend_from_slice(b"]\n")
 }

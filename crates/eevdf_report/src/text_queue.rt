@@ -1,6 +1,5 @@
 ghost use Rattle.std.specs.Prelude.{◌≡◌, ◌++◌, Some, OnOk};
 ghost use Rattle.std.specs.FinMap as map;
-ghost use Rattle.eevdf_queue.specs.Candidate.{is_running};
 ghost use Rattle.eevdf_report.specs.TextQueue.{queue_text, task_lines, asleep_lines, runnable_line};
 
 use crate::text_tasks::{push_asleep_line, push_load_line, push_task_line};
@@ -44,11 +43,6 @@ fn push_runnable(
     ensures { OnOk result (text.new.items ≡ text.old.items ++ runnable_line queue.now.state (task, entry)) }
 {
     let lag = queue.lag_of(task).unwrap();
-    push_task_line(text, task, entry, lag, runs(queue.running(), task))
-}
-
-fn runs(running: Option<TaskId>, task: TaskId) -> bool
-    ensures { result ≡ is_running running task }
-{
-    running == Some(task)
+    let runs = queue.running() == Some(task);
+    push_task_line(text, task, entry, lag, runs)
 }

@@ -23,11 +23,7 @@ pub(crate) fn push_load_line(
 fn push_running(text: &mut Vec<u8>, runs: bool) -> Result<(), AllocError>
     ensures { OnOk result (text.new.items ≡ text.old.items ++ running_text runs) }
 {
-    if runs {
-        text.extend_from_slice(b" running")
-    } else {
-        Ok(())
-    }
+    text.extend_from_slice(if runs { b" running" } else { b"" })
 }
 
 #[tactic(auto, unfolding(crate::specs::TextQueue::times_text))]
