@@ -1,9 +1,11 @@
-ghost use Rattle.std.specs.Prelude.{Some};
+ghost use Rattle.std.specs.Prelude.{◌≡◌, Some};
+ghost use Rattle.eevdf_bench.specs.declared.bench_fault.BenchFault.TheVariants.{Memory};
 ghost use Rattle.eevdf_bench.specs.TextFault.{bench_fault_text};
 
 use eevdf_fleet::RunFault;
 use eevdf_steps::PlayFault;
 use eevdf_workload::LoadFault;
+use std::alloc::AllocError;
 use std::error::Error;
 use std::fmt;
 
@@ -41,3 +43,11 @@ impl fmt::Display for BenchFault {
 }
 
 impl Error for BenchFault {}
+
+impl From<AllocError> for BenchFault {
+    ghost from_gives = { λ _ fault. fault ≡ Memory };
+
+    fn from(_error: AllocError) -> BenchFault {
+        BenchFault::Memory
+    }
+}

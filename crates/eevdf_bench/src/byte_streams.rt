@@ -56,10 +56,8 @@ fn read_piece<R: Read>(reader: &mut Watched<R>, input: &mut Vec<u8>) -> Result<u
         Ok(count) => count,
         Err(_) => return Err(BenchFault::Read),
     };
-    match input.extend_from_slice(&buffer[..count]) {
-        Ok(()) => Ok(count),
-        Err(_) => Err(BenchFault::Memory),
-    }
+    input.extend_from_slice(&buffer[..count])?;
+    Ok(count)
 }
 
 /// Writes a whole text to a writer that hasn't failed yet, and flushes. `Write` where the writer fails: a beginning of the text

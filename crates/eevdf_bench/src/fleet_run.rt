@@ -28,10 +28,8 @@ pub fn run_text<R: Threads + Wait + Sync>(
         Ok(outcome) => outcome,
         Err(fault) => return Err(refusal(fault)),
     };
-    match report(alloc, &outcome, history) {
-        Ok(text) => Ok(text),
-        Err(_) => Err(BenchFault::Memory),
-    }
+    let text = report(alloc, &outcome, history)?;
+    Ok(text)
 }
 
 fn refusal(fault: RunFault) -> BenchFault

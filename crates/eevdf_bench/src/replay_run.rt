@@ -25,10 +25,8 @@ pub fn replay_text(alloc: Global, workload: &Workload, history: bool) -> Result<
         Ok(outcome) => outcome,
         Err(fault) => return Err(refusal(fault)),
     };
-    match report(alloc, &outcome, history) {
-        Ok(text) => Ok(text),
-        Err(_) => Err(BenchFault::Memory),
-    }
+    let text = report(alloc, &outcome, history)?;
+    Ok(text)
 }
 
 fn refusal(fault: PlayFault) -> BenchFault

@@ -19,11 +19,7 @@ pub fn solo_text(alloc: Global, workload: &Workload, history: bool) -> Result<Ve
     let Some(deeds) = workload.script() else {
         return Err(BenchFault::Load(LoadFault::Missing { key: Key::Scripts }));
     };
-    let Ok(outcome) = solo(alloc, workload.setup(), deeds) else {
-        return Err(BenchFault::Memory);
-    };
-    match report(alloc, &outcome, history) {
-        Ok(text) => Ok(text),
-        Err(_) => Err(BenchFault::Memory),
-    }
+    let outcome = solo(alloc, workload.setup(), deeds)?;
+    let text = report(alloc, &outcome, history)?;
+    Ok(text)
 }
