@@ -1,13 +1,14 @@
 -- From the meaning of a workload to what the engine answers.
-use Rattle.std.proofs.Common.{◌≡◌, ◌⊎◌, ℕ, Bool, ◌+◌, true, false, ◌&&◌, List, [], ◌∷◌, take, refl, sym, ap, subst, ◌∙◌, inl, inr}
-use Rattle.std.specs.Prelude.{Option, Some, None, IfSome, IfOk, Result, Ok, Err, OnOk, OnErr, Vec, if◌then◌else◌}
+use Rattle.std.proofs.Common.{◌≡◌, ℕ, Bool, ◌+◌, true, false, ◌&&◌, List, [], ◌∷◌, take, refl, sym, ap, subst, ◌∙◌, inl, inr}
+use Rattle.std.specs.Prelude.{Option, Some, IfSome, IfOk, Result, Ok, Err, OnErr, Vec, if◌then◌else◌}
+use Rattle.std.proofs.lemmas.{Option.IfSome_then, Result.IfOk-weaker}
 use Rattle.std.specs.{declared.alloc.Global.Global, List.list_all, Io.KnownBytes.Appends}
 use Rattle.eevdf_ops.specs.{Setup.Setup, Setup.allows, declared.deeds.Deed.Deed}
 use Rattle.eevdf_workload.specs.{declared.load_fault.LoadFault.LoadFault, MeaningSteps.Reads}
 use Rattle.eevdf_workload.specs.declared.load_fault.LoadFault.TheVariants as fault
 use Rattle.eevdf_workload.specs.declared.load_fault.Key.TheVariants as key
 use Rattle.eevdf_bench.specs.{declared.bench_fault.BenchFault.BenchFault, declared.command.Command.Command}
-use Rattle.eevdf_bench.specs.{declared.command.Kind.TheVariants.Run, Streams.HasBegun}
+use Rattle.eevdf_bench.specs.{Streams.HasBegun}
 use Rattle.eevdf_bench.specs.declared.bench_fault.BenchFault.TheVariants as bench
 use Rattle.eevdf_workload.specs.Meaning.{Workload, meaning, allowed, allowed_from}
 use Rattle.eevdf_steps.specs.declared.play_fault.PlayFault.{PlayFault}
@@ -66,8 +67,7 @@ answered c bytes w r e h = subst (λ (m : Result Workload LoadFault). Answers (I
 
 pub reported : (c : Command) (bytes : List ℕ) (w : Workload) (r : Result (Vec ℕ Global) BenchFault) → meaning bytes ≡ Ok w → IfOk r (λ t. IsReport c.kind w c.history t.items)
     → IfOk r (λ t. IsReportOf c bytes t.items)
-reported c bytes w (Ok text) e h = record { workload = w; means = e; report = h }
-reported c bytes w (Err f) e h = tt
+reported c bytes w r e h = IfOk-weaker r _ _ (λ text is. record { workload = w; means = e; report = is }) h
 
 -- a workload that is cut at its limit is answered as the whole
 of_the_whole : (c : Command) (all input : List ℕ) (P : (Answer → Type 0) → Type 0) → input ≡ take 16777217 all → P (IsAnswerOf c input) → P (IsAnswerOf c all)
@@ -81,47 +81,33 @@ answered_as c bytes input made text b t h =
 -- what was written for a workload that was read up to its limit
 pub written : (c : Command) (left : Option (List ℕ)) (input text : List ℕ) (held held' : Option (List ℕ)) → IfSome left (λ all. input ≡ take 16777217 all) → IsAnswerOf c input (Ok text)
     → Appends held held' text → IfSome left (λ all. Writes (IsAnswerOf c all) held held')
-written c None input text held held' cut a w = tt
-written c (Some all) input text held held' cut a w = record {
-  text = text;
-  answered = of_the_whole c all input (λ Allows. Allows (Ok text)) cut a;
-  written = w;
-}
+written c left input text held held' cut a w =
+    IfSome_then left cut (λ all cut. record { text = text; answered = of_the_whole c all input (λ Allows. Allows (Ok text)) cut a; written = w })
 
 -- what the text says that was written
 pub report_written : (c : Command) (left : Option (List ℕ)) (input bytes text made : List ℕ) (held held' : Option (List ℕ)) → IfSome left (λ all. input ≡ take 16777217 all)
     → bytes ≡ input → text ≡ made → IsReportOf c bytes made → Appends held held' text → IfSome left (λ all. WritesReport c all held held')
-report_written c None input bytes text made held held' cut b t r w = tt
-report_written c (Some all) input bytes text made held held' cut b t r w = record {
-  text = text;
-  report = record {
-    workload = r.workload;
-    means = sym (meaning_cut all) ∙ ap meaning (sym cut) ∙ ap meaning (sym b) ∙ r.means;
-    report = subst (λ (bs : List ℕ). IsReport c.kind r.workload c.history bs) (sym t) r.report;
-  };
-  written = w;
-}
+report_written c left input bytes text made held held' cut b t r w =
+    IfSome_then left cut (λ all cut. record {
+      text = text;
+      report = record {
+        workload = r.workload;
+        means = sym (meaning_cut all) ∙ ap meaning (sym cut) ∙ ap meaning (sym b) ∙ r.means;
+        report = subst (λ (bs : List ℕ). IsReport c.kind r.workload c.history bs) (sym t) r.report;
+      };
+      written = w;
+    })
 
 -- the same where a beginning was written
 pub begun : (c : Command) (left : Option (List ℕ)) (input text : List ℕ) (flush_failed : Bool) (held held' : Option (List ℕ)) → IfSome left (λ all. input ≡ take 16777217 all)
     → IsAnswerOf c input (Ok text) → HasBegun flush_failed held held' text → IfSome left (λ all. Begins (IsAnswerOf c all) flush_failed held held')
-begun c None input text flush_failed held held' cut a w = tt
-begun c (Some all) input text flush_failed held held' cut a w = record {
-  text = text;
-  answered = of_the_whole c all input (λ Allows. Allows (Ok text)) cut a;
-  begun = w;
-}
+begun c left input text flush_failed held held' cut a w =
+    IfSome_then left cut (λ all cut. record { text = text; answered = of_the_whole c all input (λ Allows. Allows (Ok text)) cut a; begun = w })
 
 -- why nothing was written for it
 pub of_input : (c : Command) (left : Option (List ℕ)) (bytes input : List ℕ) (f : BenchFault) → bytes ≡ input → IfSome left (λ all. input ≡ take 16777217 all) → Refuses (IsAnswerOf c bytes) f
     → IfSome left (λ all. Refuses (IsAnswerOf c all) f)
-of_input c None bytes input f b cut h = tt
-of_input c (Some all) bytes input f b cut h = of_the_whole c all bytes (λ Allows. Refuses Allows f) (b ∙ cut) h
-
-pub on_ok : {E : Type 0} (r : Result (Unit {0}) E) (P Q : Type 0) → OnOk r P → (P → Q) → OnOk r Q
-on_ok (Ok x) P Q h f = f h
-on_ok (Err e) P Q h f = tt
+of_input c left bytes input f b cut h = IfSome_then left cut (λ all cut. of_the_whole c all bytes (λ Allows. Refuses Allows f) (b ∙ cut) h)
 
 pub on_err : {E : Type 0} (r : Result (Unit {0}) E) (e : E) (P : Type 0) → OnErr r P → r ≡ Err e → P
-on_err (Ok x) e P h is = cc
-on_err (Err f) e P h is = h
+on_err r e P h is = subst (λ s. OnErr s P) is h

@@ -97,8 +97,7 @@ fn write_piece<W: Write>(writer: &mut Watched<W>, text: &[u8]) -> Result<usize, 
     ensures kind { IfErr result (λ f. f ≡ BenchFault.Write) }
 {
     match writer.write(text) {
-        Ok(0) => Err(BenchFault::Write),
+        Ok(0) | Err(_) => Err(BenchFault::Write),
         Ok(taken) => Ok(taken),
-        Err(_) => Err(BenchFault::Write),
     }
 }

@@ -1,4 +1,5 @@
-use Rattle.eevdf_bench.proofs.EngineAnswers.{answered_as, written, begun, of_input, on_ok, on_err, report_written}
+use Rattle.eevdf_bench.proofs.EngineAnswers.{answered_as, written, begun, of_input, on_err, report_written}
+use Rattle.std.proofs.lemmas.Result.{on_ok_weaker}
 use Rattle.eevdf_bench.proofs.bench_engine.engine.Goals as goal
 
 pub returns-in-Err-clause-refused : goal.returns-in-Err-clause-refused
@@ -7,9 +8,9 @@ returns-in-Err-clause-refused g c =
 
 pub returns-clause-report : goal.returns-clause-report
 returns-clause-report g c =
-    on_ok _ _ _ c.write_text.ensures.written
-    (λ w. written c.args.command _ c.in_ok-input.input.items c.deref-2.result.now _ _ c.in_ok-input.ensures.bytes
-    (answered_as c.args.command _ _ _ _ c.deref.ensures.value c.deref-2.ensures.value c.in-Ok.ensures.answer) w)
+    on_ok_weaker _
+    (written c.args.command _ c.in_ok-input.input.items c.deref-2.result.now _ _ c.in_ok-input.ensures.bytes
+    (answered_as c.args.command _ _ _ _ c.deref.ensures.value c.deref-2.ensures.value c.in-Ok.ensures.answer)) c.write_text.ensures.written
 
 pub returns-clause-begun : goal.returns-clause-begun
 returns-clause-begun g c e =
@@ -19,6 +20,6 @@ returns-clause-begun g c e =
 
 pub returns-clause-one_thread : goal.returns-clause-one_thread
 returns-clause-one_thread g c =
-    on_ok _ _ _ c.write_text.ensures.written
-    (λ w. report_written c.args.command _ c.in_ok-input.input.items _ c.deref-2.result.now _ _ _ c.in_ok-input.ensures.bytes
-    c.deref.ensures.value c.deref-2.ensures.value c.in-Ok.ensures.one_thread w)
+    on_ok_weaker _
+    (report_written c.args.command _ c.in_ok-input.input.items _ c.deref-2.result.now _ _ _ c.in_ok-input.ensures.bytes
+    c.deref.ensures.value c.deref-2.ensures.value c.in-Ok.ensures.one_thread) c.write_text.ensures.written
