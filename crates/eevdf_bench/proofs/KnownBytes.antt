@@ -1,5 +1,5 @@
 -- One write or read after another, where the bytes are known.
-use Rattle.std.proofs.Common.{◌≡◌, ℕ, ◌+◌, ◌-◌, ◌≤◌, List, ◌++◌, length, take, drop, sym, ap, ◌∙◌, subst, append_assoc, append-nil, arith}
+use Rattle.std.proofs.Common.{◌≡◌, ℕ, ◌+◌, ◌-◌, ◌≤◌, List, ◌++◌, length, take, drop, refl, sym, ap, ◌∙◌, subst, append_assoc, append-nil, arith}
 use Rattle.std.specs.Prelude.{Option, Some, None, IfSome}
 use Rattle.std.specs.Io.KnownBytes.{Appends, Consumes, IsAtEnd}
 use Rattle.eevdf_bench.specs.Streams.{ReadsOn, ReadsTo, ReadsWithin}
@@ -27,44 +27,32 @@ consumes_both (Some u) None c xs ys p q = absurd p
 consumes_both (Some u) (Some v) None xs ys p q = absurd q
 consumes_both (Some u) (Some v) (Some w) xs ys p q = p ∙ ap (λ z. xs ++ z) q ∙ sym (append_assoc xs ys w)
 
--- what was read up to a limit: all there is, where the end was met, and else as much as the limit
-pub read_all : (a b : Option (List ℕ)) (input : List ℕ) (limit : ℕ) → Consumes a b input → IsAtEnd b → length input ≤ limit → IfSome a (λ all. input ≡ take limit all)
-read_all None b input limit p e h = tt
-read_all (Some u) None input limit p e h = absurd p
-read_all (Some u) (Some v) input limit p e h =
-    let same : u ≡ input = p ∙ ap (λ z. input ++ z) e ∙ append-nil input in
-    subst (λ (xs : List ℕ). input ≡ take limit xs) (sym same) (sym (take_all limit input h))
+-- what was read is the front of what there was, up to a limit
+abbrev pub IsReadUpTo : ℕ → Option (List ℕ) → Option (List ℕ) → List ℕ → Type 0
+IsReadUpTo limit a b input = IfSome a (λ all. input ≡ take limit all) × ReadsTo limit a b
 
-pub read_front : (a b : Option (List ℕ)) (input : List ℕ) (limit : ℕ) → Consumes a b input → length input ≡ limit → IfSome a (λ all. input ≡ take limit all)
-read_front None b input limit p h = tt
-read_front (Some u) None input limit p h = absurd p
-read_front (Some u) (Some v) input limit p h =
-    subst (λ (n : ℕ). input ≡ take n u) h
-    (subst (λ (xs : List ℕ). input ≡ take (length input) xs) (sym p) (sym (take-append_seam input v)))
+up_to : (a b : Option (List ℕ)) (input : List ℕ) (limit : ℕ) → Consumes a b input → ((u v : List ℕ) → u ≡ input ++ v → b ≡ Some v → input ≡ take limit u) → IsReadUpTo limit a b input
+up_to None b input limit p front = (tt, tt)
+up_to (Some u) None input limit p front = absurd p
+up_to (Some u) (Some v) input limit p front =
+    let same : input ≡ take limit u = front u v p refl in
+    (same, subst (λ (xs : List ℕ). u ≡ xs ++ v) same p)
 
-consumes_on : (a b c : Option (List ℕ)) (input input' : List ℕ) (n : ℕ) → Consumes a b input → ReadsOn b c input input' n → Consumes a c input'
-consumes_on a b c input input' n p r =
-    subst (λ (xs : List ℕ). Consumes a c xs) (sym r.grows) (consumes_both a b c input r.piece p r.consumes)
+-- as much as the limit
+pub read_front : (a b : Option (List ℕ)) (input : List ℕ) (limit : ℕ) → Consumes a b input → length input ≡ limit → IsReadUpTo limit a b input
+read_front a b input limit p h =
+    up_to a b input limit p
+    (λ u v is to.
+    sym (take-append_seam input v) ∙ ap (take (length input)) (sym is) ∙ ap (λ (n : ℕ). take n u) h)
 
--- the same where the last read gave nothing
-pub read_end : (a b c : Option (List ℕ)) (input input' : List ℕ) (n limit : ℕ) → Consumes a b input → ReadsOn b c input input' n → n ≡ 0 → length input' ≤ limit → IfSome a (λ all. input' ≡ take limit all)
+-- all there is, where the last read gave nothing
+pub read_end : (a b c : Option (List ℕ)) (input input' : List ℕ) (n limit : ℕ) → Consumes a b input → ReadsOn b c input input' n → n ≡ 0 → length input' ≤ limit → IsReadUpTo limit a c input'
 read_end a b c input input' n limit p r e h =
-    read_all a c input' limit (consumes_on a b c input input' n p r) (r.ends e) h
-
--- how far the reader was read, where what was read is the front of what it had
-reads_to : (a b : Option (List ℕ)) (input : List ℕ) (limit : ℕ) → Consumes a b input → IfSome a (λ all. input ≡ take limit all) → ReadsTo limit a b
-reads_to None b input limit p e = tt
-reads_to (Some u) None input limit p e = absurd p
-reads_to (Some u) (Some v) input limit p e = subst (λ (xs : List ℕ). u ≡ xs ++ v) e p
-
--- the same where the last read gave nothing
-pub reads_to_end : (a b c : Option (List ℕ)) (input input' : List ℕ) (n limit : ℕ) → Consumes a b input → ReadsOn b c input input' n → n ≡ 0 → length input' ≤ limit → ReadsTo limit a c
-reads_to_end a b c input input' n limit p r e h =
-    reads_to a c input' limit (consumes_on a b c input input' n p r) (read_end a b c input input' n limit p r e h)
-
--- as far as a limit
-pub reads_to_front : (a b : Option (List ℕ)) (input : List ℕ) (limit : ℕ) → Consumes a b input → length input ≡ limit → ReadsTo limit a b
-reads_to_front a b input limit p h = reads_to a b input limit p (read_front a b input limit p h)
+    let consumed : Consumes a c input' = subst (λ (xs : List ℕ). Consumes a c xs) (sym r.grows) (consumes_both a b c input r.piece p r.consumes) in
+    up_to a c input' limit consumed
+    (λ u v is to.
+    let all : u ≡ input' = is ∙ ap (λ z. input' ++ z) (subst IsAtEnd to (r.ends e)) ∙ append-nil input' in
+    sym (take_all limit input' h) ∙ ap (take limit) (sym all))
 
 -- one reading within what the one before left of the limit
 pub within_both : (a b c : Option (List ℕ)) (input : List ℕ) (room limit : ℕ) → Consumes a b input → ReadsWithin room b c → length input + room ≤ limit → ReadsWithin limit a c
