@@ -3,10 +3,11 @@ ghost use Rattle.eevdf_workload.specs.Words.{is_number, number, fitting};
 
 /// The number that a word writes: `0`, or a digit from 1 to 9 followed by digits. `None` also where it
 /// doesn't fit its type.
+#[tactic(auto, unfolding(crate::specs::Words::number))]
 pub(crate) fn number(word: &str) -> Option<u64>
     ensures { result ≡ option_and_then fitting (number word.now) }
 {
-    if is_number(word.as_bytes()) {
+    if is_number(word) {
         word.parse().ok()
     } else {
         None
@@ -14,13 +15,13 @@ pub(crate) fn number(word: &str) -> Option<u64>
 }
 
 // A word that doesn't begin with `0` has digits alone.
-fn is_number(word: &[u8]) -> bool
+fn is_number(word: &str) -> bool
     ensures { result ≡ is_number word.now }
 {
-    match word {
+    match word.as_bytes() {
         [] => false,
         [first] if *first == b'0' => true,
-        [first, ..] => *first != b'0' && has_digits_alone(word),
+        [first, ..] => *first != b'0' && has_digits_alone(word.as_bytes()),
     }
 }
 
