@@ -1,14 +1,14 @@
 -- A nice level that is written without a sign.
-use Rattle.std.proofs.Common.{◌≡◌, ◌≢◌, ℕ, ◌^◌, true, eqb, ltb, List, [], ◌∷◌, Option, Some, None, option_map, option_and_then, refl, ap, ◌∙◌, inl, inr, arith}
+use Rattle.std.proofs.Common.{◌≡◌, ◌≢◌, ℕ, ◌^◌, true, eqb, ltb, List, [], ◌∷◌, Option, Some, None, option_map, option_and_then, refl, ap, inl, inr, arith}
 use Rattle.std.specs.Prelude.{pos}
 use Rattle.std.proofs.{lemmas.Bool.cases_Bool, lemmas.Bool.Decides.nat_tests, lemmas.Int.ints}
 use Rattle.eevdf_weight.specs.Limits.{checked_level}
-use Rattle.eevdf_workload.specs.Words.{number, fitting, signed_number, level_in}
+use Rattle.eevdf_workload.specs.Words.{number, fitting, signed_number}
 
 pub is_sign : (c : ℕ) → eqb c 45 ≡ true → c ≡ 45
 is_sign c h = grind (arith, nat_tests)
 
-without_sign : (word : List ℕ) → ((rest : List ℕ) → word ≢ 45 ∷ rest) → signed_number word ≡ option_map pos (number word)
+pub without_sign : (word : List ℕ) → ((rest : List ℕ) → word ≢ 45 ∷ rest) → signed_number word ≡ option_map pos (number word)
 unfolding number
 without_sign [] h = refl
 without_sign (c ∷ cs) h =
@@ -17,13 +17,10 @@ without_sign (c ∷ cs) h =
       | inr other ↦ rw other
     ]
 
-fitting_level : (o : Option ℕ) → option_and_then checked_level (option_map pos o) ≡ option_and_then (λ n. checked_level (pos n)) (option_and_then fitting o)
+pub fitting_level : (o : Option ℕ) → option_and_then checked_level (option_map pos o) ≡ option_and_then (λ n. checked_level (pos n)) (option_and_then fitting o)
 fitting_level None = refl
 fitting_level (Some n) =
     elim (cases_Bool (ltb n (2 ^ 64))) [
       | inl fits ↦ rw fits
       | inr over ↦ rw over (grind (arith, ints, nat_tests))
     ]
-
-pub level-unsigned : (word : List ℕ) → ((rest : List ℕ) → word ≢ 45 ∷ rest) → level_in word ≡ option_and_then (λ n. checked_level (pos n)) (option_and_then fitting (number word))
-level-unsigned word h = ap (option_and_then checked_level) (without_sign word h) ∙ fitting_level (number word)

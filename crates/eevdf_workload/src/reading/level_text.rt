@@ -1,6 +1,6 @@
-ghost use Rattle.std.specs.Prelude.{◌≡◌, pos, option_and_then};
+ghost use Rattle.std.specs.Prelude.{◌≡◌, pos, option_and_then, option_map};
 ghost use Rattle.eevdf_weight.specs.Limits.{checked_level};
-ghost use Rattle.eevdf_workload.specs.Words.{below_zero, level_in};
+ghost use Rattle.eevdf_workload.specs.Words.{below_zero, level_in, number};
 
 use crate::reading::number_text::number;
 use eevdf_weight::Nice;
@@ -11,14 +11,16 @@ pub(crate) fn level(word: &str) -> Option<Nice>
 {
     match word.strip_prefix('-') {
         Some(digits) => level_below_zero(number(digits)?),
-        None => level_from_zero(number(word)?),
+        None => level_from_zero(word),
     }
 }
 
-fn level_from_zero(distance: u64) -> Option<Nice>
-    ensures { result ≡ checked_level (pos distance) }
+// The level that a word without a sign writes.
+#[tactic(auto, using(crate::proofs::ReadingLevels::fitting_level))]
+fn level_from_zero(word: &str) -> Option<Nice>
+    ensures { result ≡ option_and_then checked_level (option_map pos (number word.now)) }
 {
-    Nice::new(i64::try_from(distance).ok()?)
+    Nice::new(i64::try_from(number(word)?).ok()?)
 }
 
 // The level so far below 0, which isn't 0 itself.
