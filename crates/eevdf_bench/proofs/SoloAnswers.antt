@@ -22,14 +22,14 @@ done homes m ds o lines machine = record {
   machine = machine;
 }
 
-pub script_report : (w : Workload) (history : Bool) (s : Setup) (ds : List Deed) (text : List ℕ) (o : Outcome) → Some ds ≡ w.script → s ≡ w.setup → list_all (allows s) ds ≡ true
+pub script_report : (w : Workload) (history : Bool) (s : Setup) (ds : List Deed) (text : List ℕ) (o : Outcome) → Some ds ≡ w.script → s ≡ w.setup → list_all (allows w.setup) ds ≡ true
     → o.lines ≡ lines_of (homes_of s) (start s) ds → machine_of o.queues ≡ machine_after (homes_of s) (start s) ds → IsPlaced (homes_of s) (machine_of o.queues)
     → text ≡ report_text o.lines (machine_of o.queues) o.left history → IsReport Solo w history text
 script_report w history s ds text o there same allowed lines machine placed t =
     let one : IsOneThread (homes_of s) (start s) ds o = done (homes_of s) (start s) ds o lines machine in record {
       outcome = o;
       one_thread = subst (λ (u : Setup). IsOneThread (homes_of u) (start u) (deeds_of o.lines) o) same (own_deeds (homes_of s) (start s) ds o one);
-      allowed = subst (λ (u : Setup). list_all (allows u) (deeds_of o.lines) ≡ true) same (subst (λ (es : List Deed). list_all (allows s) es ≡ true) (sym one.deeds_are) allowed);
+      allowed = subst (λ (es : List Deed). list_all (allows w.setup) es ≡ true) (sym one.deeds_are) allowed;
       places = subst (λ (u : Setup). IsPlaced (homes_of u) (machine_of o.queues)) same placed;
       does = sym there ∙ ap (λ (es : List Deed). Some es) (sym one.deeds_are);
       says = t;

@@ -12,6 +12,5 @@ solo-requires c =
 pub returns-clause-one_thread : goal.returns-clause-one_thread
 returns-clause-one_thread c =
     script_report c.args.workload.now c.args.history c.setup.result.now c.in-Some.deeds.now c.in_ok-text.text.items c.in_ok-outcome.outcome c.in-Some.ensures.deeds c.setup.ensures
-    (subst (λ (s : Setup). list_all (allows s) c.in-Some.deeds.now ≡ true) (sym c.setup.ensures)
-    (script_allowed c.args.workload.now.setup c.args.workload.now.script c.in-Some.deeds.now c.in-Some.ensures.deeds c.in-Some.ensures.allowed))
+    (script_allowed c.args.workload.now.setup c.args.workload.now.script c.in-Some.deeds.now c.in-Some.ensures.deeds c.in-Some.ensures.allowed)
     c.in_ok-outcome.ensures.lines c.in_ok-outcome.ensures.machine c.in_ok-outcome.ensures.places c.in_ok-text.ensures
