@@ -9,7 +9,7 @@ use Rattle.eevdf_ops.specs.declared.deeds.Op.TheVariants as op
 use Rattle.eevdf_ops.specs.declared.deeds.Deed.TheVariants.{Tick, Pick, Yield, Sleep, Wake, Pull, Renice}
 use Rattle.eevdf_workload.specs.{declared.version.Version.Version, Versions.cpu_within, Versions.limits_of}
 use Rattle.eevdf_workload.specs.Words.{words, operation, operation_of, sender_of, wake_of, task_in, cpu_in, deed_on, deed_in}
-use Rattle.eevdf_bench.specs.WordsPrinted.{IsSmallAct, knows_act, knows_deed, knows_operation, numbered_deed_text, operation_text}
+use Rattle.eevdf_bench.specs.WordsPrinted.{IsActInRange, knows_act, knows_deed, knows_operation, numbered_deed_text, operation_text}
 use Rattle.eevdf_bench.proofs.ReadingPrinted.{number-decimal, words-decimal, words-after_decimal, joined_words}
 use Rattle.eevdf_bench.proofs.OperationsPrinted.{cpu_check, cpu_known, cpu_passes, task_check, task_passes, checked_word, one_number, mapped_parts, named, operation-read, text-operation_of}
 
@@ -96,7 +96,7 @@ text-deed_in version (word ∷ verb ∷ ws) d h =
 -- ---- deeds that are printed
 
 -- a deed whose act a version knows is read back where it is printed behind its CPU
-act-read : (version : Version) (d : Deed) → IsSmallAct d → knows_act version d ≡ true → deed_on (limits_of version) (decider d) (words (deed_text d)) ≡ Some d
+act-read : (version : Version) (d : Deed) → IsActInRange d → knows_act version d ≡ true → deed_on (limits_of version) (decider d) (words (deed_text d)) ≡ Some d
 unfolding operation
 act-read version (Tick cpu ns) h known = ap (option_and_then (deed_of cpu)) (operation-read version (op.Tick ns) h known)
 act-read version (Pick cpu) h known = refl
@@ -109,15 +109,15 @@ act-read version (Wake cpu task sender) h known =
     ∙ ap (wake_of (limits_of version) cpu) (words-after_decimal task (codes "from " ++ decimal sender) (omega (arith, h.0)))
     ∙ rw (words-decimal sender (omega (arith, h.1)), number-decimal task (omega (arith, h.0)), task_passes task h.0, number-decimal sender (omega (arith, h.1)), cpu_passes version sender h.1 known)
 
-deed-read : (version : Version) (d : Deed) → decider d < cpu_limit → IsSmallAct d → knows_deed version d ≡ true → deed_in (limits_of version) (words (numbered_deed_text d)) ≡ Some d
+deed-read : (version : Version) (d : Deed) → decider d < cpu_limit → IsActInRange d → knows_deed version d ≡ true → deed_in (limits_of version) (words (numbered_deed_text d)) ≡ Some d
 unfolding deed_in
 deed-read version d below small known =
     let (on, act) = and_parts (ltb (decider d) (limits_of version).cpus) (knows_act version d) known in
     ap (λ t. deed_in (limits_of version) (words t)) (append_assoc (decimal (decider d)) (codes " ") (deed_text d)) ∙ ap (deed_in (limits_of version)) (words-after_decimal (decider d) (deed_text d) (omega arith))
     ∙ rw (number-decimal (decider d) (omega arith), cpu_passes version (decider d) below on, act-read version d small act)
 
--- a text is read as a deed whose numbers are small exactly where it is that deed as it is printed
-pub deed_is_text : (version : Version) (text : List ℕ) (d : Deed) → decider d < cpu_limit → IsSmallAct d
+-- a text is read as a deed whose numbers are in range exactly where it is that deed as it is printed
+pub deed_is_text : (version : Version) (text : List ℕ) (d : Deed) → decider d < cpu_limit → IsActInRange d
     → (deed_in (limits_of version) (words text) ≡ Some d) ↔ ((text ≡ numbered_deed_text d) × (knows_deed version d ≡ true))
 deed_is_text version text d below small = (
   λ h. let (printed, known) = text-deed_in version (words text) d h in (sym (joined_words text) ∙ printed, known),

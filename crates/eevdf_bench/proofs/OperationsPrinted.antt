@@ -9,7 +9,7 @@ use Rattle.eevdf_ops.specs.{Numbers.cpu_limit, declared.deeds.Op.Op}
 use Rattle.eevdf_ops.specs.declared.deeds.Op.TheVariants.{Tick, Pick, Yield, Sleep, Post, Drain, Pull, Renice}
 use Rattle.eevdf_workload.specs.{declared.version.Version.Version, Versions.cpu_within, Versions.limits_of}
 use Rattle.eevdf_workload.specs.Words.{words, number, only_word, only_number, only_level, level_in, task_in, alone, renice_of, operation, operation_of}
-use Rattle.eevdf_bench.specs.WordsPrinted.{IsSmall, knows_operation, operation_text}
+use Rattle.eevdf_bench.specs.WordsPrinted.{IsInRange, knows_operation, operation_text}
 use Rattle.eevdf_bench.proofs.ReadingPrinted.{number-decimal, decimal-number, words-decimal, words-after_decimal, joined_words}
 use Rattle.eevdf_bench.proofs.LevelsPrinted.{level-printed, printed-level, words-printed}
 
@@ -146,7 +146,7 @@ text-words version (verb ∷ ws) op h = text-operation_of version verb ws op h
 -- ---- operations that are printed
 
 -- an operation within the limits of a version is read back where it is printed
-pub operation-read : (version : Version) (op : Op) → IsSmall op → knows_operation version op ≡ true → operation (limits_of version) (words (operation_text op)) ≡ Some op
+pub operation-read : (version : Version) (op : Op) → IsInRange op → knows_operation version op ≡ true → operation (limits_of version) (words (operation_text op)) ≡ Some op
 unfolding operation
 operation-read version (Tick n) h known = rw (words-decimal n (small_tick n h), number-decimal n (small_tick n h), h)
 operation-read version Pick h known = refl
@@ -160,8 +160,8 @@ operation-read version (Renice n nice) h known =
     ∙ ap (operation_of (limits_of version) (codes "renice")) (words-after_decimal n (signed_decimal nice) (omega (arith, h.0)))
     ∙ rw (known, words-printed nice h.1, number-decimal n (omega (arith, h.0)), task_passes n h.0, level-printed nice h.1)
 
--- a text is read as an operation whose numbers are small exactly where it is that operation as it is printed
-pub operation_is_text : (version : Version) (text : List ℕ) (op : Op) → IsSmall op
+-- a text is read as an operation whose numbers are in range exactly where it is that operation as it is printed
+pub operation_is_text : (version : Version) (text : List ℕ) (op : Op) → IsInRange op
     → (operation (limits_of version) (words text) ≡ Some op) ↔ ((text ≡ operation_text op) × (knows_operation version op ≡ true))
 operation_is_text version text op small = (
   λ h. let (printed, known) = text-words version (words text) op h in (sym (joined_words text) ∙ printed, known),

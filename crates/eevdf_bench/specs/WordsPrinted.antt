@@ -24,20 +24,20 @@ knows_act version other = true
 abbrev pub knows_deed : Version → Deed → Bool
 knows_deed version d = nat_lt (decider d) (limits_of version).cpus && knows_act version d
 
--- the numbers of an operation are as small as its types have them
-abbrev pub IsSmall : Op → Type 0
-IsSmall (Tick ns) = is_tick ns ≡ true
-IsSmall (Sleep task) = task < 1024
-IsSmall (Post task) = task < 1024
-IsSmall (Pull source) = source < cpu_limit
-IsSmall (Renice task nice) = (task < 1024) × (is_nice_level nice ≡ true)
-IsSmall other = Unit {0}
+-- the numbers of an operation are in the ranges of their types
+abbrev pub IsInRange : Op → Type 0
+IsInRange (Tick ns) = is_tick ns ≡ true
+IsInRange (Sleep task) = task < 1024
+IsInRange (Post task) = task < 1024
+IsInRange (Pull source) = source < cpu_limit
+IsInRange (Renice task nice) = (task < 1024) × (is_nice_level nice ≡ true)
+IsInRange other = Unit {0}
 
 -- and those of what a deed does
-abbrev pub IsSmallAct : Deed → Type 0
-IsSmallAct (deed.Tick cpu ns) = is_tick ns ≡ true
-IsSmallAct (deed.Sleep cpu task) = task < 1024
-IsSmallAct (deed.Wake cpu task sender) = (task < 1024) × (sender < cpu_limit)
-IsSmallAct (deed.Pull cpu source) = source < cpu_limit
-IsSmallAct (deed.Renice cpu task nice) = (task < 1024) × (is_nice_level nice ≡ true)
-IsSmallAct other = Unit {0}
+abbrev pub IsActInRange : Deed → Type 0
+IsActInRange (deed.Tick cpu ns) = is_tick ns ≡ true
+IsActInRange (deed.Sleep cpu task) = task < 1024
+IsActInRange (deed.Wake cpu task sender) = (task < 1024) × (sender < cpu_limit)
+IsActInRange (deed.Pull cpu source) = source < cpu_limit
+IsActInRange (deed.Renice cpu task nice) = (task < 1024) × (is_nice_level nice ≡ true)
+IsActInRange other = Unit {0}

@@ -29,7 +29,8 @@ use std::thread::Threads;
 /// A reader that goes on for more than 16777216 bytes is read to one byte more, and then refused; it is never read
 /// further. `Read` comes exactly where the reader failed, `Write` exactly where the writer did, and `Ok` where neither did and
 /// the report is flushed. An end that failed isn't called again. After a `Write` a beginning of the report was written, the
-/// whole report where it was the flush that failed; after any other fault the writer is as it was. Only `Read` and `Memory` may come before the workload has been read to its end.
+/// whole report where it was the flush that failed; after any other fault the writer is as it was. Only `Read` and `Memory` may
+/// come before the workload has been read to its end.
 pub fn engine<T: Threads + Wait + Sync, R: Read, W: Write>(
     rt: &T,
     alloc: Global,

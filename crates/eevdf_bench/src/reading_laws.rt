@@ -3,7 +3,7 @@ ghost use Rattle.std.specs.Prelude.{◌≡◌, ◌<◌, ◌↔◌, true, Some};
 ghost use Rattle.eevdf_ops.specs.{Numbers.cpu_limit, Parts.decider};
 ghost use Rattle.eevdf_workload.specs.Versions.{limits_of};
 ghost use Rattle.eevdf_workload.specs.Words.{deed_in, operation, words};
-ghost use Rattle.eevdf_bench.specs.WordsPrinted.{IsSmall, IsSmallAct, knows_deed, knows_operation, numbered_deed_text, operation_text};
+ghost use Rattle.eevdf_bench.specs.WordsPrinted.{IsInRange, IsActInRange, knows_deed, knows_operation, numbered_deed_text, operation_text};
 
 use eevdf_ops::{Deed, Op};
 use eevdf_workload::Version;
@@ -15,7 +15,7 @@ pub fn operation_is_its_text(version: Version, text: &str, op: Op)
     ensures { (operation (limits_of version) (words text.now) ≡ Some op)
         ↔ ((text.now ≡ operation_text op) × (knows_operation version op ≡ true)) }
 {
-    operation_is_small(op);
+    operation_is_in_range(op);
 }
 
 /// A text is read in a version as a deed exactly where it is the number of its CPU, a space and the deed as it is
@@ -24,12 +24,12 @@ pub fn deed_is_its_text(version: Version, text: &str, deed: Deed)
     ensures { (deed_in (limits_of version) (words text.now) ≡ Some deed)
         ↔ ((text.now ≡ numbered_deed_text deed) × (knows_deed version deed ≡ true)) }
 {
-    deed_is_small(deed);
+    deed_is_in_range(deed);
 }
 
-/// The numbers of an operation are as small as its types have them.
-fn operation_is_small(op: Op)
-    ensures { IsSmall op }
+/// The numbers of an operation are in the ranges of their types.
+fn operation_is_in_range(op: Op)
+    ensures { IsInRange op }
 {
     match op {
         Op::Tick(ns) => {
@@ -49,10 +49,10 @@ fn operation_is_small(op: Op)
     }
 }
 
-/// The numbers of a deed are as small as its types have them.
-fn deed_is_small(deed: Deed)
+/// The numbers of a deed are in the ranges of their types.
+fn deed_is_in_range(deed: Deed)
     ensures cpu { decider deed < cpu_limit }
-    ensures act { IsSmallAct deed }
+    ensures act { IsActInRange deed }
 {
     match deed {
         Deed::Tick { cpu, ns } => {
