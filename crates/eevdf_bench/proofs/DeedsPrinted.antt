@@ -28,14 +28,9 @@ abbrev IsDeedOf : Version → ℕ → Op → Deed → Type 0
 IsDeedOf version cpu o d = (decider d ≡ cpu) × (deed_text d ≡ operation_text o) × (knows_act version d ≡ knows_operation version o)
 
 deed_is_of : (version : Version) (cpu : ℕ) (o : Op) → IfSome (deed_of cpu o) (IsDeedOf version cpu o)
-deed_is_of version cpu (op.Tick ns) = (refl, refl, refl)
-deed_is_of version cpu op.Pick = (refl, refl, refl)
-deed_is_of version cpu op.Yield = (refl, refl, refl)
-deed_is_of version cpu (op.Sleep task) = (refl, refl, refl)
 deed_is_of version cpu (op.Post task) = tt
 deed_is_of version cpu op.Drain = tt
-deed_is_of version cpu (op.Pull source) = (refl, refl, refl)
-deed_is_of version cpu (op.Renice task nice) = (refl, refl, refl)
+deed_is_of version cpu _ = (refl, refl, refl)
 
 -- the words of the sender of a wake
 abbrev IsSender : Version → ℕ → List (List ℕ) → Type 0

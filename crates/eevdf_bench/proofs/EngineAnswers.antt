@@ -56,10 +56,7 @@ made (Ok text) (Err f) h = as_fault (λ a. Ok text ≡ a) f bench.Memory h (tt, 
 made (Err (bench.Load l)) (Err f) h = as_fault (λ a. Err (bench.Load l) ≡ a) f (bench.Load l) h (inr refl, load_inside l)
 made (Err (bench.Play p)) (Err f) (inl h) = as_fault (λ a. Err (bench.Play p) ≡ a) f (bench.Play p) h (refl, play_inside p)
 made (Err (bench.Play p)) (Err f) (inr h) = as_fault (λ a. Err (bench.Play p) ≡ a) f bench.Memory h.1 (tt, memory_inside)
-made (Err (bench.Run r)) (Err f) h = elim h [ ]
-made (Err bench.Read) (Err f) h = elim h [ ]
-made (Err bench.Write) (Err f) h = elim h [ ]
-made (Err bench.Memory) (Err f) h = elim h [ ]
+made (Err _) (Err f) h = elim h [ ]
 
 -- a workload that is read is answered as the command asks
 pub answered : (c : Command) (bytes : List ℕ) (w : Workload) (r : Result (Vec ℕ Global) BenchFault) → meaning bytes ≡ Ok w → Answers (IsAnswer c.kind w c.history) r → Answers (IsAnswerOf c bytes) r
