@@ -6,7 +6,7 @@ use Rattle.eevdf_queue.specs.Numbers.{checked_number}
 use Rattle.eevdf_ops.specs.{Numbers.cpu_limit, Parts.decider, Programs.deed_of, Texts.deed_text}
 use Rattle.eevdf_ops.specs.{declared.deeds.Op.Op, declared.deeds.Deed.Deed}
 use Rattle.eevdf_ops.specs.declared.deeds.Op.TheVariants as op
-use Rattle.eevdf_ops.specs.declared.deeds.Deed.TheVariants.{Tick, Pick, Yield, Sleep, Wake, Pull, Renice}
+use Rattle.eevdf_ops.specs.declared.deeds.Deed.TheVariants.{Tick, Sleep, Wake, Pull, Renice}
 use Rattle.eevdf_workload.specs.{declared.version.Version.Version, Versions.cpu_within, Versions.limits_of}
 use Rattle.eevdf_workload.specs.Words.{words, operation, operation_of, sender_of, wake_of, task_in, cpu_in, deed_on, deed_in}
 use Rattle.eevdf_bench.specs.WordsPrinted.{IsActInRange, knows_act, knows_deed, knows_operation, numbered_deed_text, operation_text}
@@ -94,8 +94,6 @@ text-deed_in version (word ∷ verb ∷ ws) d h =
 act-read : (version : Version) (d : Deed) → IsActInRange d → knows_act version d ≡ true → deed_on (limits_of version) (decider d) (words (deed_text d)) ≡ Some d
 unfolding operation
 act-read version (Tick cpu ns) h known = ap (option_and_then (deed_of cpu)) (operation-read version (op.Tick ns) h known)
-act-read version (Pick cpu) h known = refl
-act-read version (Yield cpu) h known = refl
 act-read version (Sleep cpu task) h known = ap (option_and_then (deed_of cpu)) (operation-read version (op.Sleep task) h known)
 act-read version (Pull cpu source) h known = ap (option_and_then (deed_of cpu)) (operation-read version (op.Pull source) h known)
 act-read version (Renice cpu task nice) h known = ap (option_and_then (deed_of cpu)) (operation-read version (op.Renice task nice) h known)
@@ -103,6 +101,7 @@ act-read version (Wake cpu task sender) h known =
     ap (λ t. deed_on (limits_of version) cpu (words t)) (wake_text cpu task sender)
     ∙ ap (wake_of (limits_of version) cpu) (words-after_decimal task (codes "from " ++ decimal sender) (omega (arith, h.0)))
     ∙ rw (words-decimal sender (omega (arith, h.1)), number-decimal task (omega (arith, h.0)), task_passes task h.0, number-decimal sender (omega (arith, h.1)), cpu_passes version sender h.1 known)
+act-read version _ h known = refl
 
 deed-read : (version : Version) (d : Deed) → decider d < cpu_limit → IsActInRange d → knows_deed version d ≡ true → deed_in (limits_of version) (words (numbered_deed_text d)) ≡ Some d
 unfolding deed_in

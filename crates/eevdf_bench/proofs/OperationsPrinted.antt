@@ -149,16 +149,14 @@ text-words version (verb ∷ ws) op h = text-operation_of version verb ws op h
 pub operation-read : (version : Version) (op : Op) → IsInRange op → knows_operation version op ≡ true → operation (limits_of version) (words (operation_text op)) ≡ Some op
 unfolding operation
 operation-read version (Tick n) h known = rw (words-decimal n (small_tick n h), number-decimal n (small_tick n h), h)
-operation-read version Pick h known = refl
-operation-read version Yield h known = refl
 operation-read version (Sleep n) h known = rw (words-decimal n (omega arith), number-decimal n (omega arith), task_passes n h)
 operation-read version (Post n) h known = rw (words-decimal n (omega arith), number-decimal n (omega arith), task_passes n h)
-operation-read version Drain h known = refl
 operation-read version (Pull n) h known = rw (words-decimal n (omega arith), number-decimal n (omega arith), cpu_passes version n h known)
 operation-read version (Renice n nice) h known =
     ap (λ t. operation (limits_of version) (words t)) (renice_text n nice)
     ∙ ap (operation_of (limits_of version) (codes "renice")) (words-after_decimal n (signed_decimal nice) (omega (arith, h.0)))
     ∙ rw (known, words-printed nice h.1, number-decimal n (omega (arith, h.0)), task_passes n h.0, level-printed nice h.1)
+operation-read version _ h known = refl
 
 -- a text is read as an operation whose numbers are in range exactly where it is that operation as it is printed
 pub operation_is_text : (version : Version) (text : List ℕ) (op : Op) → IsInRange op

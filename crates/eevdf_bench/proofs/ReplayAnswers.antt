@@ -12,7 +12,7 @@ use Rattle.eevdf_bench.specs.{declared.command.Kind.TheVariants.Replay, Reports.
 use Rattle.eevdf_bench.specs.declared.bench_fault.BenchFault.{BenchFault}
 use Rattle.eevdf_bench.proofs.{OwnDeeds.own_deeds, LeftLists.all_left}
 use Rattle.eevdf_steps.specs.declared.step_fault.StepFault.TheVariants as step
-use Rattle.eevdf_steps.specs.declared.play_fault.PlayFault.TheVariants.{TooLong, Memory, NoCaller, Done, Blocked, Short}
+use Rattle.eevdf_steps.specs.declared.play_fault.PlayFault.TheVariants.{TooLong, Memory, Short}
 use Rattle.eevdf_steps.specs.Counters.{Counters, counted, refusal, unfinished}
 use Rattle.eevdf_steps.specs.Orders.{IsWhole, counters_at_start, fault_or, most_places, order_fault, play_fault}
 use Rattle.eevdf_bench.specs.declared.bench_fault.BenchFault.TheVariants as bench
@@ -43,12 +43,8 @@ in_time plan order short e =
     (subst (λ (b : Bool). (if b then Some TooLong else order_fault plan (counters_at_start plan) 0 order) ≡ Some TooLong) short e)
 
 fault_made : (f : PlayFault) → IsFault (bench.Play f) (play_refusal f)
-fault_made TooLong = inl refl
 fault_made Memory = inr ((λ e. cc), refl)
-fault_made (NoCaller at) = inl refl
-fault_made (Done at) = inl refl
-fault_made (Blocked at cpu) = inl refl
-fault_made (Short caller) = inl refl
+fault_made _ = inl refl
 
 memory_made : (fault : Option PlayFault) (text : List ℕ) → fault ≢ Some TooLong → Makes (unless fault text) (Err bench.Memory)
 memory_made None text in_time = refl
