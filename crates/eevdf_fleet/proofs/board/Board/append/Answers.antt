@@ -6,6 +6,9 @@ use Rattle.eevdf_fleet.proofs.board.Board.append.Goals as goal
 
 pub compare_exchange_with-requires : goal.compare_exchange_with-requires
 compare_exchange_with-requires c =
-    let t : Terms = c.args.self.now.table.shared.key in
-    (cc, omega arith, appends_as t _ _ c.into_seat-seat.result.me (claims_of c.args.token) c.of.result (cc) (cc)
-    (subst (λ (s : Said). Owes t (claims_of c.args.token) s) (sym c.of.ensures) c.requires.owed))
+    let t : Terms = c.args.self.now.table.shared.key in (
+      cc,
+      omega arith,
+      appends_as t _ _ c.into_seat-seat.result.me (claims_of c.args.token) c.of.result (cc) (cc)
+          (subst (λ (s : Said). Owes t (claims_of c.args.token) s) (sym c.of.ensures) c.requires.owed),
+    )
