@@ -31,6 +31,7 @@ mod TreeCandidates
 mod TreeChange
 mod TreeAge
 mod Ageing
+mod ChargedRange
 mod TreeTotals
 mod PickedTasks
 mod Waiting

@@ -11,7 +11,7 @@ ghost use Rattle.eevdf_queue.specs.Yield as yields;
 use crate::answers::{TickAnswer, YieldAnswer};
 use crate::entry::Entry;
 use crate::queue::Queue;
-use crate::request::{charged, is_deadline_in_range, is_entry_in_range, yielded};
+use crate::request::{charged, is_deadline_in_range, yielded};
 use crate::task_id::TaskId;
 use eevdf_weight::Ns;
 
@@ -59,21 +59,21 @@ impl Queue {
             return TickAnswer::Idle;
         };
         let charged = charged(&runner.entry, ns);
-        if !is_entry_in_range(&charged.entry) {
-            return TickAnswer::Range;
-        }
-        if charged.resched {
-            self.runnable.set(runner.task, &runner.entry, charged.entry);
+        if !charged.resched {
+            self.runnable
+                .age(runner.task, &runner.entry, &charged.entry);
             return TickAnswer::Charged {
                 task: runner.task,
-                resched: true,
+                resched: false,
             };
         }
-        self.runnable
-            .age(runner.task, &runner.entry, &charged.entry);
+        if !is_deadline_in_range(&charged.entry) {
+            return TickAnswer::Range;
+        }
+        self.runnable.set(runner.task, &runner.entry, charged.entry);
         TickAnswer::Charged {
             task: runner.task,
-            resched: false,
+            resched: true,
         }
     }
 

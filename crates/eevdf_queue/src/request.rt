@@ -1,6 +1,6 @@
 //! What a request of a task costs, and how a task is charged.
 
-ghost use Rattle.std.specs.Prelude.{◌≡◌, ◌≤◌, ◌^◌, ◌-ℤ◌, pos, unsigned_abs, true};
+ghost use Rattle.std.specs.Prelude.{◌≡◌, ◌≤◌, ◌^◌, ◌-ℤ◌, ◌≤ℤ◌, pos, unsigned_abs, true, false};
 ghost use Rattle.eevdf_weight.specs.Limits as limits;
 ghost use Rattle.eevdf_weight.specs.{Charge.charge_of, Weight.weight_of};
 ghost use Rattle.eevdf_queue.specs.Moves.{entry_in_range, fresh_entry};
@@ -16,13 +16,6 @@ use eevdf_weight::{Ns, charge, is_in_range, weight};
 pub struct ChargedEntry {
     pub entry: Entry,
     pub resched: bool,
-}
-
-/// Whether the virtual runtime and deadline are in range.
-pub fn is_entry_in_range(entry: &Entry) -> bool
-    ensures { result ≡ moves.is_entry_in_range entry.now }
-{
-    is_in_range(entry.v) && is_in_range(entry.d)
 }
 
 /// Whether the virtual deadline is in range.
@@ -51,7 +44,8 @@ pub fn started(entry: &Entry) -> Option<Entry>
 /// The entry with a fresh request.
 fn renewed(entry: &Entry) -> Entry
     requires { unsigned_abs entry.now.v ≤ 2 ^ 61 }
-    ensures { result ≡ fresh_entry entry.now.v entry.now.nice entry.now.slice }
+    ensures value { result ≡ fresh_entry entry.now.v entry.now.nice entry.now.slice }
+    ensures later { result.v ≤ℤ result.d }
 {
     Entry {
         d: entry.v + cost(entry, entry.slice.get()),
@@ -75,6 +69,7 @@ fn aged(entry: &Entry, ns: Ns) -> Entry
     ensures value { result ≡ record entry.now { v = ticks.aged entry.now ns } }
     ensures small { unsigned_abs result.v ≤ 2 ^ 61 }
     ensures near { unsigned_abs (result.v -ℤ entry.now.v) ≤ 2 ^ 40 }
+    ensures later { entry.now.v ≤ℤ result.v }
 {
     Entry {
         v: entry.v + cost(entry, ns.get()),
@@ -82,12 +77,17 @@ fn aged(entry: &Entry, ns: Ns) -> Entry
     }
 }
 
-/// The entry after the task has run for `ns`, with a fresh request where the old one is used up.
+/// The entry after the task has run for `ns`, with a fresh request where the old one is used up. It is in range where the request
+/// isn't used up, since the virtual runtime is between the older one and the deadline, and else where the deadline is.
+#[tactic(auto, using(crate::proofs::ChargedRange::kept_in_range, crate::proofs::ChargedRange::renewed_in_range))]
 pub fn charged(entry: &Entry, ns: Ns) -> ChargedEntry
-    requires { limits.is_in_range entry.now.v ≡ true }
+    requires { moves.is_entry_in_range entry.now ≡ true }
     ensures entry { result.entry ≡ ticks.charged entry.now ns }
     ensures resched { result.resched ≡ ticks.is_used_up entry.now ns }
     ensures near { unsigned_abs (result.entry.v -ℤ entry.now.v) ≤ 2 ^ 40 }
+    ensures later { entry.now.v ≤ℤ result.entry.v }
+    ensures kept { result.resched ≡ false → moves.is_entry_in_range result.entry ≡ true }
+    ensures renewed { result.resched ≡ true → limits.is_in_range result.entry.d ≡ moves.is_entry_in_range result.entry }
 {
     let older = aged(entry, ns);
     if older.v >= entry.d {

@@ -130,6 +130,7 @@ impl TreeNode {
     }
 
     /// Gives another task to a node that is alone.
+    #[inline(always)]
     pub fn replace(&mut self, task: Task)
         requires { IsAlone self.old }
         ensures { self.new.tasks ≡ task ∷ [] }
@@ -148,6 +149,7 @@ impl TreeNode {
     }
 
     /// Exchanges the task of a node that is alone for another.
+    #[inline(always)]
     pub fn exchange(&mut self, task: &mut Task)
         requires { IsAlone self.old }
         ensures other { self.new.tasks ≡ task.old ∷ [] }
@@ -159,6 +161,7 @@ impl TreeNode {
     }
 
     /// Gives two sides to a node that is alone.
+    #[inline(always)]
     pub fn hold(&mut self, left: Option<Box<TreeNode>>, right: Option<Box<TreeNode>>)
         requires alone { IsAlone self.old }
         requires balanced { DifferByAtMost 1 (height_in left) (height_in right) }
@@ -174,6 +177,7 @@ impl TreeNode {
     }
 
     /// Parts this node from its sides.
+    #[inline(always)]
     pub fn part(&mut self) -> Sides
         ensures alone { IsAlone self.new }
         ensures tasks { self.old.tasks ≡ tasks_in result.left ++ first_task self.new.tasks ∷ tasks_in result.right }

@@ -8,7 +8,7 @@ use std::marker::Model;
 /// A nice level, from -20, the heaviest, to 19, the lightest. Levels are ordered as their numbers.
 #[derive(Clone, Copy, PartialEq, Eq, PartialOrd, Ord, Hash, Debug)]
 pub struct Nice {
-    level: i8,
+    level: i32,
 }
 
 impl Model for Nice {
@@ -36,7 +36,9 @@ impl Nice {
         ensures { result ≡ checked_level level }
     {
         if Nice::MIN.get() <= level && level <= Nice::MAX.get() {
-            Some(Nice { level: level as i8 })
+            Some(Nice {
+                level: level as i32,
+            })
         } else {
             None
         }

@@ -9,7 +9,7 @@ use std::marker::Model;
 /// virtual deadline. Slices are ordered as their lengths.
 #[derive(Clone, Copy, PartialEq, Eq, PartialOrd, Ord, Hash, Debug)]
 pub struct Slice {
-    length: u64,
+    length: u32,
 }
 
 impl Model for Slice {
@@ -39,7 +39,7 @@ impl Slice {
         ensures { result ≡ checked_slice ns }
     {
         if Slice::MIN.get() <= ns && ns <= Slice::MAX.get() {
-            Some(Slice { length: ns })
+            Some(Slice { length: ns as u32 })
         } else {
             None
         }
@@ -50,7 +50,7 @@ impl Slice {
         ensures length { result ≡ self }
         ensures within { is_slice self ≡ true }
     {
-        self.length
+        u64::from(self.length)
     }
 }
 

@@ -13,6 +13,7 @@ use crate::tree_change::TreeChange;
 use crate::tree_least::Least;
 
 /// Takes the two sides from a node, and leaves it alone.
+#[inline(always)]
 pub fn part_from(
     node_height: &mut u32,
     node_least: &mut Least,
