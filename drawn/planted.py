@@ -24,13 +24,13 @@ sys.path.append(str(TOP / "wrong_bodies"))
 from edits import apply, read_edit  # noqa: E402
 
 WRONG_BODIES = (
-    "eevdf_queue/eligible-at-the-next-unit",
-    "eevdf_queue/mean-towards-zero",
-    "eevdf_queue/lag-limited-above-only",
-    "eevdf_queue/tick-without-range",
-    "eevdf_queue/candidate-may-run",
-    "eevdf_queue/base-kept-on-leaving",
-    "eevdf_queue/reniced-task-stops-running",
+    "eevdf_queue/eligible_at_the_next_unit",
+    "eevdf_queue/mean_towards_zero",
+    "eevdf_queue/lag_limited_above_only",
+    "eevdf_queue/tick_without_range",
+    "eevdf_queue/candidate_may_run",
+    "eevdf_queue/base_kept_on_leaving",
+    "eevdf_queue/reniced_task_stops_running",
     "eevdf_ops/pull_tries_the_range_first",
     "eevdf_ops/sleep_where_it_ran",
     "eevdf_ops/start_wakes_everybody",

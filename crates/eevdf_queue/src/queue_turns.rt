@@ -101,13 +101,9 @@ impl Queue {
         ensures entry { IfSome result (λ r. map.get self.now.state.runnable r.task ≡ Some r.entry) }
         ensures in_range { IfSome result (λ r. moves.is_entry_in_range r.entry ≡ true) }
     {
-        let Some(task) = self.running else {
-            return None
-        };
+        let task = self.running?;
         self.runnable.keeps();
-        match self.runnable.get(task) {
-            None => None,
-            Some(entry) => Some(Runner { task, entry }),
-        }
+        let entry = self.runnable.get(task)?;
+        Some(Runner { task, entry })
     }
 }

@@ -11,13 +11,6 @@ ghost use Rattle.eevdf_queue.specs.Yield as yields;
 use crate::entry::Entry;
 use eevdf_weight::{Ns, charge, is_in_range, weight};
 
-/// An entry after a tick, and whether it has got a fresh request.
-#[derive(Clone, Copy)]
-pub struct ChargedEntry {
-    pub entry: Entry,
-    pub resched: bool,
-}
-
 /// Whether the virtual deadline is in range.
 pub fn is_deadline_in_range(entry: &Entry) -> bool
     ensures { result ≡ limits.is_in_range entry.now.d }
@@ -75,6 +68,13 @@ fn aged(entry: &Entry, ns: Ns) -> Entry
         v: entry.v + cost(entry, ns.get()),
         ..*entry
     }
+}
+
+/// An entry after a tick, and whether it has got a fresh request.
+#[derive(Clone, Copy)]
+pub struct ChargedEntry {
+    pub entry: Entry,
+    pub resched: bool,
 }
 
 /// The entry after the task has run for `ns`, with a fresh request where the old one is used up. It is in range where the request

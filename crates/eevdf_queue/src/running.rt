@@ -10,10 +10,7 @@ use crate::task_id::TaskId;
 pub fn is_running(running: &Option<TaskId>, number: TaskId) -> bool
     ensures { result ≡ candidate.is_running running.now number }
 {
-    match running {
-        None => false,
-        Some(running) => number == *running,
-    }
+    *running == Some(number)
 }
 
 /// Lets nobody run where this task runs.
