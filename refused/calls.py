@@ -8,10 +8,12 @@ from sweep import say_faults, sweep
 
 WORKLOADS = ["two-tasks", "posts", "pull", "program", "renice", "each-operation"]
 
-# Calls each of which has to meet a refusal on some workload.
+# Calls each of which is made on each workload, and has to be refused there if it asks for memory there at all.
 CALLS = [
     "Parcel::make",
     "Setup::make",
+    "Setup::try_clone",
+    "Setup::homes",
     "Solo::open",
     "one_thread::solo",
     "Player::open",
@@ -19,6 +21,7 @@ CALLS = [
     "Kit::make",
     "Fleet::open",
     "run_all",
+    "run_turns",
     "read_workload",
     "solo_text",
     "replay_text",
@@ -29,8 +32,8 @@ CALLS = [
     "engine",
 ]
 
-# What is opened, by whose calls no memory is asked for: Queue, Solo, Player and Fleet.
-OPENED = 4
+# What is opened, by whose calls no memory is asked for: a few tasks' Queue, Solo, Player, Fleet and a Queue of many tasks.
+OPENED = 5
 
 CALLED, REFUSED, LAST = "== ", "-- refused", "== end"
 OPEN, CLOSED = "-- opened", "-- closed"
@@ -44,6 +47,10 @@ class Call:
     answer: str = ""
     refusals: int = 0
 
+    def kind(self):
+        """Its name without what stands beside it."""
+        return self.name.split(" ")[0]
+
 
 @dataclass
 class Sweep:
@@ -52,6 +59,8 @@ class Sweep:
     programs: object
     workload: object
     ample: list = field(default_factory=list)
+    # by call: the requests for memory with nothing refused, and the refusals of all runs
+    requests: Counter = field(default_factory=Counter)
     refusals: Counter = field(default_factory=Counter)
     # refused requests that no call tells of: what asked did without
     harmless: int = 0
@@ -72,7 +81,8 @@ class Sweep:
         refused = sum(call.refusals for call in calls)
         if refused > int(0 < number <= run.counts.memory):
             self.fail(number, f"{refused} calls say that they were refused")
-        self.refusals.update({call.name: call.refusals for call in calls})
+        for call in calls:
+            self.refusals[call.kind()] += call.refusals
         self.harmless += int(0 < number <= run.counts.memory) - refused
         self.compare(number, calls)
         requests = requests_between(run)
@@ -89,6 +99,14 @@ class Sweep:
             if call.answer not in [ample.answer, *self.other_answers(before, call.name)]:
                 self.fail(number, f"{call.name}: {call.answer!r} and not {ample.answer!r}")
             before = call.name
+
+    def look_at_refusals(self):
+        """Each call was made, and those that ask for memory were refused."""
+        for call in CALLS:
+            if call not in self.requests:
+                self.faults.append(f"{call} isn't made on {self.workload.name}")
+            elif self.requests[call] and not self.refusals[call]:
+                self.faults.append(f"{call} asks for memory on {self.workload.name} and was never refused")
 
     def other_answers(self, before, name):
         """What a run by threads may print besides, where its threads may come in another order."""
@@ -115,17 +133,33 @@ def calls_of(text):
     return calls
 
 
+def requests_at(run):
+    """How many requests for memory came before each write, by the place in the output where it begins."""
+    requests = {}
+    place = 0
+    for write in run.writes:
+        requests[place] = write.memory
+        place += write.length
+    return requests
+
+
 def requests_between(run):
     """How many requests for memory each of what was opened made before it was closed."""
-    places = {}
-    at = 0
-    for write in run.writes:
-        places[at] = write.memory
-        at += write.length
+    requests = requests_at(run)
     text = run.printed.out.decode()
-    opened = [places[place] for place in starts_of(text, OPEN)]
-    closed = [places[place] for place in starts_of(text, CLOSED)]
+    opened = [requests[place] for place in starts_of(text, OPEN)]
+    closed = [requests[place] for place in starts_of(text, CLOSED)]
     return [end - begin for begin, end in zip(opened, closed, strict=True)]
+
+
+def requests_of(run, calls):
+    """How many requests for memory came from each kind of call to the next call."""
+    requests = requests_at(run)
+    begun = [requests[place] for place in starts_of(run.printed.out.decode(), CALLED)]
+    met = Counter()
+    for call, first, next_first in zip(calls, begun, begun[1:]):
+        met[call.kind()] += next_first - first
+    return met
 
 
 def starts_of(text, line):
@@ -135,37 +169,36 @@ def starts_of(text, line):
         place = text.find(line, place + 1)
 
 
+def look_at_ample(case):
+    """Looks at the run with nothing refused, with which the others are compared."""
+    run = case.run(0)
+    if run.printed.status == 0:
+        case.ample = calls_of(run.printed.out.decode())
+        case.requests = requests_of(run, case.ample)
+    case.look(0, run)
+    if case.ample[-1:] != [Call(LAST.removeprefix(CALLED))]:
+        case.fail(0, f"it doesn't come to its end: {run.printed}")
+
+
+def say_refusals(cases, say):
+    """A line for each call: how often it was refused on each workload, and `-` where it asks for no memory."""
+    names = [case.workload.stem for case in cases]
+    say("".join(f"{name:>16}" for name in names) + "  call")
+    for call in CALLS:
+        counts = [case.refusals[call] if case.requests[call] else "-" for case in cases]
+        say("".join(f"{count:>16}" for count in counts) + f"  {call}")
+    say("".join(f"{case.harmless:>16}" for case in cases) + "  any of them, which answered as with ample memory")
+
+
 def check(programs, pool, workloads, say):
-    """Looks at all workloads, says how many requests each call met, and gives for each workload whether it passed."""
-    refusals = Counter()
-    harmless = 0
-    passed = []
-    for name in WORKLOADS:
-        case = Sweep(programs, workloads / f"{name}.toml")
-        ample = case.run(0)
-        case.ample = calls_of(ample.printed.out.decode()) if ample.printed.status == 0 else []
-        case.look(0, ample)
-        if case.ample[-1:] != [Call(LAST.removeprefix(CALLED))]:
-            case.fail(0, f"it doesn't come to its end: {ample.printed}")
+    """Looks at all workloads, says how often each call was refused, and gives for each workload whether it passed."""
+    cases = [Sweep(programs, workloads / f"{name}.toml") for name in WORKLOADS]
+    for case in cases:
+        look_at_ample(case)
         if not case.faults:
             sweep(pool, case.run, lambda number, run: run.counts is None or run.counts.memory >= number, case.look)
+            case.look_at_refusals()
+    say_refusals(cases, say)
+    for case in cases:
         say_faults(case.faults, say)
-        refusals.update(case.refusals)
-        harmless += case.harmless
-        passed.append(not case.faults)
-    met = by_call(refusals)
-    say(f"{'refused':>8}  call")
-    for call in CALLS:
-        say(f"{met[call]:>8}  {call}")
-    say(f"{harmless:>8}  any of them, which answered as with ample memory")
-    never = [f"{call} was never refused" for call in CALLS if not met[call]]
-    say_faults(never, say)
-    return [*passed, not never]
-
-
-def by_call(refusals):
-    """The refusals without what stands beside a call's name."""
-    calls = Counter()
-    for name, count in refusals.items():
-        calls[name.split(" ")[0]] += count
-    return calls
+    return [not case.faults for case in cases]

@@ -18,11 +18,16 @@ CASES = [
     ("eevdf", ["run"], "posts"),
     ("eevdf", ["run", "--history"], "posts"),
     ("eevdf", ["solo"], "pull"),
+    ("eevdf", ["solo", "--history"], "pull"),
+    ("eevdf", ["run"], "pull"),
     ("eevdf", ["run"], "program"),
     ("eevdf", ["run", "--history"], "program"),
     ("eevdf", ["solo"], "renice"),
+    ("eevdf", ["solo", "--history"], "renice"),
     ("eevdf", ["replay"], "renice"),
+    ("eevdf", ["replay", "--history"], "renice"),
     ("eevdf", ["run"], "renice"),
+    ("eevdf", ["run", "--history"], "renice"),
     ("eevdf", ["solo", "--history"], "each-operation"),
     ("eevdf", ["replay", "--history"], "each-operation"),
     ("eevdf", ["run", "--history"], "each-operation"),
@@ -33,11 +38,17 @@ CASES = [
     ("eevdf_orders", ["--seed", "7"], "program"),
     ("eevdf_orders", ["--seed", "7"], "two-tasks"),
     ("eevdf_orders", [], "posts"),
+    ("eevdf_orders", ["--seed", "7"], "pull"),
+    ("eevdf_orders", [], "two-cpus"),
+    ("eevdf_orders", ["--seed", "7"], "two-cpus"),
     ("eevdf_orders", ["--seed", "7"], "bad-value"),
 ]
 
 SHORT_READ = 16
 SHORT_WRITE = 10
+
+# What is refused, each by a sweep of its own: one request, or (`..`) it and all that come after it.
+SWEEPS = ["memory", "memory..", "threads", "reads", "writes", "writes.."]
 
 
 @dataclass
@@ -65,6 +76,21 @@ class Case:
     def want(self, what, printed, wanted):
         if printed not in wanted:
             self.faults.append(f"{self}: {what}: {printed}")
+
+    def reports_success(self):
+        return all(report.status == 0 for report in self.reports)
+
+    def kinds_asked(self):
+        """The kinds of request that the program makes, so that each sweep of these has to meet one."""
+        kinds = ["memory"]
+        # words that the program doesn't know have status 2, and nothing is read then
+        if all(report.status != 2 for report in self.reports):
+            kinds.append("reads")
+        if self.reports_success():
+            kinds.append("writes")
+            if self.words[:1] == ["run"]:
+                kinds.append("threads")
+        return kinds
 
 
 def open_case(programs, name, words, workload):
@@ -150,23 +176,37 @@ def refuse_writes(case, pool, variable):
     return sweep(pool, lambda number: case.run(**{variable: number}, short_write=SHORT_WRITE), met, look)
 
 
+def sweep_all(case, pool):
+    """How many requests each sweep met."""
+    met = {
+        "memory": refuse_memory(case, pool, "refuse_memory"),
+        "memory..": refuse_memory(case, pool, "refuse_memory_from"),
+        "threads": refuse_threads(case, pool),
+        "reads": refuse_reads(case, pool),
+    }
+    # what writes a fault line or how the words are used isn't asked whether it succeeds
+    if case.reports_success():
+        met["writes"] = refuse_writes(case, pool, "refuse_write")
+        met["writes.."] = refuse_writes(case, pool, "refuse_write_from")
+    return met
+
+
+def look_at_met(case, met):
+    """Each sweep has to meet a request where the program makes any of its kind."""
+    for sweep_name in SWEEPS:
+        if sweep_name.removesuffix("..") in case.kinds_asked() and not met.get(sweep_name):
+            case.faults.append(f"{case}: the sweep of {sweep_name} met no request")
+
+
 def check(programs, pool, workloads, say):
-    """Looks at all cases, says how many requests each met, and gives for each case whether it passed."""
-    say(f"{'memory':>8}{'threads':>9}{'reads':>7}{'writes':>8}  command")
+    """Looks at all cases, says how many requests each sweep met, and gives for each case whether it passed."""
+    say("".join(f"{sweep_name:>10}" for sweep_name in SWEEPS) + "  command")
     passed = []
     for name, words, workload in CASES:
         case = open_case(programs, name, words, workloads / f"{workload}.toml")
-        met = [refuse_memory(case, pool, "refuse_memory")]
-        refuse_memory(case, pool, "refuse_memory_from")
-        met.append(refuse_threads(case, pool))
-        met.append(refuse_reads(case, pool))
-        # what writes a fault line or how the words are used isn't asked whether it succeeds
-        if all(report.status == 0 for report in case.reports):
-            met.append(refuse_writes(case, pool, "refuse_write"))
-            refuse_writes(case, pool, "refuse_write_from")
-        else:
-            met.append(0)
-        say(f"{met[0]:>8}{met[1]:>9}{met[2]:>7}{met[3]:>8}  {case}")
+        met = sweep_all(case, pool)
+        look_at_met(case, met)
+        say("".join(f"{met.get(sweep_name, '-'):>10}" for sweep_name in SWEEPS) + f"  {case}")
         say_faults(case.faults, say)
         passed.append(not case.faults)
     return passed

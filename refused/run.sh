@@ -1,22 +1,26 @@
 #!/usr/bin/env bash
 # refused/run.sh: refuses each request for memory, each thread, each read and each write of the built programs in turn, and
 # each request for memory of the library's calls. Prints how many each met; the last line is 'N passed, M failed'. Ends
-# with 1 where something failed, and with 3 where nothing can be refused, since there is no C compiler, or nothing can be
-# built. TOP names another checkout whose programs are looked at.
+# with 1 where something failed, and with 3 where nothing can be refused, since there is no C compiler. TOP names another
+# checkout whose programs are looked at.
 set -u
 here=$(cd "$(dirname "$0")" && pwd)
 top=${TOP:-$here/..}
-command -v cc >/dev/null || { echo "refused/run.sh: there is no C compiler" >&2; exit 3; }
+
+for compiler in cc gcc clang none; do
+  command -v "$compiler" >/dev/null && break
+done
+[ "$compiler" != none ] || { echo "refused/run.sh: there is no C compiler" >&2; exit 3; }
 
 # Builds what isn't built yet, by a run that is of no interest.
 if [ -z "${TOP:-}" ]; then
   for name in eevdf eevdf_orders refused_calls; do
     "$top/launch" "$name" <"$here/workloads/two-tasks.toml" >/dev/null
-    [ $? -ne 3 ] || exit 3
+    [ $? -ne 3 ] || exit 1
   done
 fi
 
 work=$(mktemp -d)
 trap 'rm -rf "$work"' EXIT
-cc -O2 -Wall -Wextra -shared -fPIC -o "$work/refuse.so" "$here/refuse.c" || exit 3
+"$compiler" -O2 -Wall -Wextra -shared -fPIC -o "$work/refuse.so" "$here/refuse.c" || exit 1
 python3 -B "$here/all.py" --top "$top" --work "$work"
