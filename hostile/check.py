@@ -7,7 +7,7 @@ import tempfile
 from pathlib import Path
 
 from beyond import BEYOND
-from bounds import MOST_MEMORY, MOST_SECONDS, run, slowness
+from bounds import MOST_MEMORY, MOST_SECONDS, run
 from documents import DOCUMENTS
 from ordered import ORDERED
 from words import WORDS
@@ -32,7 +32,8 @@ def run_text(top, text, limited):
     with tempfile.TemporaryFile() as data:
         data.write(text.make())
         data.flush()
-        return run([top / "crates" / text.program / "out" / text.program, *text.words], data, limited)
+        program = top / "crates" / text.program / "out" / text.program
+        return run([program, *text.words], data, limited, text.has_threads())
 
 
 def shown(answer):
@@ -50,7 +51,7 @@ def failure(text, ran):
         return f"{shown(ran.answer)} in place of {shown(text.answer)}"
     if ran.is_within():
         return None
-    slow = slowness()
+    slow = ran.slowness()
     if not ran.is_within(slow):
         return f"more than {MOST_SECONDS * slow:.2f} s or {MOST_MEMORY >> 20} MiB: {figures(ran)}"
     return None
@@ -58,7 +59,7 @@ def failure(text, ran):
 
 def check(top, text, with_figures):
     # the stacks of the threads of a run take address space that they don't use
-    limited = "run" not in text.words
+    limited = not text.has_threads()
     ran = run_text(top, text, limited)
     wrong = failure(text, ran)
     # what else a machine does can only make a program slower

@@ -4,6 +4,8 @@ from text import MOST_BYTES, NOT_TOML, Answer, Text, fault, filled, given, numbe
 from workloads import OPERATIONS, TASK, programs
 
 LONGEST = programs(b"pick", OPERATIONS, 25) + TASK
+# the same, and a CPU that posts once, which is one step
+LONGER = programs(b"pick", OPERATIONS, 25).replace(b"],]\n", b"],['post 0']]\n") + TASK
 SHORT = b"version = 1\nprogram = [[]]" + TASK
 
 
@@ -30,6 +32,7 @@ ORDERED = (
          refused(fault("workload longer than 16777216 bytes"))),
     sent("the longest programs to be ordered", given(programs(b"pick", OPERATIONS, 64) + TASK),
          refused(fault("order longer than 1000000"))),
+    sent("programs of one place more than an order has", given(LONGER), refused(fault("order longer than 1000000"))),
     sent("programs of the longest order", given(LONGEST), Answer(put_in(LONGEST, list(range(25)) * (4 * OPERATIONS)), 0)),
     sent("a workload up to the limit to be ordered", padded(SHORT), Answer(put_in(padded(SHORT)(), []), 0)),
 )

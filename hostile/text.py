@@ -24,6 +24,9 @@ class Text:
     words: tuple = ("solo",)
     program: str = "eevdf"
 
+    def has_threads(self):
+        return self.words[0:1] == ("run",)
+
 
 def fault(line, status=1):
     return Answer(f"fault: {line}\n".encode(), status)

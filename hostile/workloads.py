@@ -9,6 +9,10 @@ TASK = b"\n[[task]]\n"
 EMPTY = b"version = 1\nprogram = [[]]\nscript = []\n"
 ONE_PICK = b'version = 1\nprogram = [[]]\nscript = ["0 pick"]' + TASK
 AFTER_ONE_PICK = report("cpu 0", "pick: picked 0", "load 1024 floor 0", "task 0 v 0 d 3000000 lag 0 running")
+TWO_TASKS = b'version = 1\nprogram = [[]]\nscript = ["0 pick", "0 tick 3000000", "0 pick"]' + TASK + b"[[task]]\n"
+AFTER_TWO_TASKS = report(
+    "cpu 0", "pick: picked 0", "tick 3000000: charged 0 resched", "pick: picked 1", "load 2048 floor 1500000",
+    "task 0 v 3000000 d 6000000 lag -1500000", "task 1 v 0 d 3000000 lag 1500000 running")
 MANY_TASKS = 1024
 
 
@@ -68,9 +72,9 @@ def many_tasks():
     return EMPTY + task * MANY_TASKS
 
 
-def tasks_at_rest():
-    tasks = [f"task {task} v 0 d 3000000 lag 0" for task in range(MANY_TASKS)]
-    return report("cpu 0", f"load {1024 * MANY_TASKS} floor 0", *tasks)
+def tasks_at_rest(count):
+    tasks = [f"task {task} v 0 d 3000000 lag 0" for task in range(count)]
+    return report("cpu 0", f"load {1024 * count} floor 0", *tasks)
 
 
 TASKS = (
@@ -80,14 +84,18 @@ TASKS = (
     Text("numbers in place of tasks", filled(b"1,", EMPTY + b"task = [", b"]\n"), fault("bad value at task 0")),
     Text("a bad value behind a million tasks", given(EMPTY + b"task = [" + b"{}," * 1000000 + b"{nice=20}]\n"),
          fault("bad value at task 1000000 nice")),
-    Text("tasks with long keys", many_tasks, tasks_at_rest()),
+    Text("tasks with long keys", many_tasks, tasks_at_rest(MANY_TASKS)),
+    Text("a task less than there may be", given(EMPTY + b"[[task]]\n" * (MANY_TASKS - 1)), tasks_at_rest(MANY_TASKS - 1)),
     Text("a task more than there may be", given(EMPTY + b"[[task]]\n" * (MANY_TASKS + 1)), fault("number of tasks")),
+    Text("a task more than there may be in version 2",
+         given(b"version = 2\nprogram = [[]]\nscript = []\n" + b"[[task]]\n" * (MANY_TASKS + 1)), fault("number of tasks")),
 )
 
 PROGRAMS = (
     Text("programs", filled(b"[],", b"version = 1\nprogram = [", b"]" + TASK), fault("number of cpus")),
     Text("numbers in place of programs", filled(b"1,", b"version = 1\nprogram = [", b"]" + TASK), fault("bad value at program 0")),
     Text("operations", filled(b'"pick",', b"version = 1\nprogram = [[", b"]]" + TASK), fault("program 0 too long")),
+    Text("an operation less than there may be", given(programs(b"pick", OPERATIONS - 1, 1) + b"script = []" + TASK), at_rest(1)),
     Text("an operation more than there may be", given(programs(b"pick", OPERATIONS + 1, 1) + b"script = []" + TASK),
          fault("program 0 too long")),
     Text("an operation more in the second program", given(
@@ -110,8 +118,10 @@ PROGRAMS = (
 
 SCRIPTS = (
     Text("the longest script of version 1", scripted(1, 160000), after_picks(160000)),
+    Text("a script of one deed less", scripted(1, 159999), after_picks(159999)),
     Text("a script of one deed more", scripted(1, 160001), fault("bad value at script")),
     Text("the longest script of version 2", scripted(2, 640000), after_picks(640000)),
+    Text("a script of version 2 of one deed less", scripted(2, 639999), after_picks(639999)),
     Text("a script of version 2 of one deed more", scripted(2, 640001), fault("bad value at script")),
     Text("deeds", filled(b'"0 pick",', b"version = 1\nprogram = [[]]\nscript = [", b"]" + TASK), fault("bad value at script")),
     Text("empty deeds", filled(b'"",', b"version = 1\nprogram = [[]]\nscript = [", b"]" + TASK), fault("bad value at script")),
@@ -154,6 +164,7 @@ ORDERS = (
 )
 
 BYTES = (
+    Text("two tasks with newlines up to the limit", padded(TWO_TASKS), AFTER_TWO_TASKS),
     Text("a workload with newlines up to the limit", padded(ONE_PICK), AFTER_ONE_PICK),
     Text("a workload with newlines past the limit", padded(ONE_PICK, size=MOST_BYTES + 1),
          fault("workload longer than 16777216 bytes")),
