@@ -12,8 +12,12 @@ from collections import Counter
 from pathlib import Path
 
 from checks import OTHER_WORDS, check, check_words
-from draw.cases import Case, draw
+from draw.cases import NAMES, Case, draw
 from programs import Printed, Programs
+
+
+# Who draws for so long comes to each kind of workload.
+SECONDS_FOR_EACH_KIND = 30
 
 
 def parse_words():
@@ -42,9 +46,11 @@ class Comparison:
         self.seed = seed
         self.folder = folder
         self.alike = Counter()
+        self.compared = set()
         self.failed = 0
 
     def count(self, number, case, difference):
+        self.compared.add(case.kind)
         if difference is None:
             self.alike[case.kind] += 1
             return
@@ -63,7 +69,15 @@ class Comparison:
 
     def add(self, other):
         self.alike += other.alike
+        self.compared |= other.compared
         self.failed += other.failed
+
+    def look_for_each_kind(self):
+        """A kind that never came has failed."""
+        for kind in ("words", *NAMES):
+            if kind not in self.compared:
+                self.failed += 1
+                print(f"FAILED: no workload was of the kind {kind}", flush=True)
 
     def print_counts(self):
         counts = ", ".join(f"{count} {kind}" for kind, count in sorted(self.alike.items()))
@@ -77,7 +91,7 @@ def compare_words(comparison, programs):
 
 
 def compare_one(comparison, programs, words, number):
-    case = draw(random.Random(f"{words.seed} {number}"))
+    case = draw(random.Random(f"{words.seed} {number}"), number)
     comparison.count(number, case, check(programs, case))
 
 
@@ -112,6 +126,8 @@ def main():
     else:
         compare_words(comparison, Programs(words.top))
         compare_drawn(comparison, words)
+        if words.seconds >= SECONDS_FOR_EACH_KIND:
+            comparison.look_for_each_kind()
     comparison.print_counts()
     return 1 if comparison.failed else 0
 

@@ -21,7 +21,7 @@ from plain.bench import answer
 TOP = Path(__file__).resolve().parent.parent
 sys.path.append(str(TOP / "wrong_bodies"))
 
-from edits import apply, read_edit  # noqa: E402
+from edits import BadEdit, apply, changed, read_edit  # noqa: E402
 
 WRONG_BODIES = (
     "eevdf_queue/eligible_at_the_next_unit",
@@ -42,6 +42,7 @@ def parse_words():
     words.add_argument("--seed", default="1", help="what the workloads are drawn from")
     words.add_argument("--count", type=int, default=120, help="how many workloads are drawn")
     words.add_argument("--jobs", type=int, default=1, help="how many bodies are tried at a time")
+    words.add_argument("--look", action="store_true", help="tries nothing: looks whether each body has its place in its crate")
     words.add_argument("bodies", nargs="*", default=WRONG_BODIES, help="CRATE/NAME of crates/CRATE/must-fail/NAME.edit")
     return words.parse_args()
 
@@ -56,7 +57,7 @@ def is_for_a_try(case):
 def drawn_cases(seed, count):
     number = 0
     while count > 0:
-        case = draw(random.Random(f"{seed} {number}"))
+        case = draw(random.Random(f"{seed} {number}"), number)
         number += 1
         if is_for_a_try(case):
             count -= 1
@@ -114,6 +115,17 @@ def is_as_wanted(body, result):
     return different > 0 if body else alike == count
 
 
+def has_its_place(body):
+    """Whether the edit is there and its old texts stand in the crate."""
+    crate, name = body.split("/")
+    try:
+        changed(read_edit(crate, name), TOP / "crates" / crate)
+    except (BadEdit, OSError) as why:
+        print(f"FAILED: {body}: {why}", flush=True)
+        return False
+    return True
+
+
 def report_body(body, result):
     passed = is_as_wanted(body, result)
     told = "the try failed" if result is None else f"of {result[0]} workloads {result[2]} different"
@@ -121,12 +133,16 @@ def report_body(body, result):
     return passed
 
 
-def main():
-    words = parse_words()
+def try_all(words):
     bodies = (None, *words.bodies)
     with tempfile.TemporaryDirectory(prefix="planted-cases-") as folder, ThreadPoolExecutor(words.jobs) as pool:
         write_cases(Path(folder), words.seed, words.count)
-        results = list(map(report_body, bodies, pool.map(partial(try_body, Path(folder)), bodies)))
+        return list(map(report_body, bodies, pool.map(partial(try_body, Path(folder)), bodies)))
+
+
+def main():
+    words = parse_words()
+    results = list(map(has_its_place, words.bodies)) if words.look else try_all(words)
     print(f"{results.count(True)} passed, {results.count(False)} failed")
     return 0 if all(results) else 1
 

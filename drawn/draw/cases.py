@@ -127,7 +127,12 @@ def limits(dice, version):
 
 KINDS = {solo: 26, replay: 18, run: 18, broken: 10, values: 22, damage: 14, ordered: 12, refused: 5, limits: 0.6}
 
+# What the cases of these kinds are called.
+NAMES = ("solo", "replay", "run", "broken order", "values", "bytes", "ordered", "ordered or refused", "limits")
 
-def draw(dice):
-    kind = dice.choices(list(KINDS), list(KINDS.values()))[0]
+
+def draw(dice, number):
+    """The case of a number from 0 on. The first ones are one of each kind, so that none stays away."""
+    kinds = list(KINDS)
+    kind = kinds[number] if number < len(kinds) else dice.choices(kinds, list(KINDS.values()))[0]
     return kind(dice, dice.choice(list(VERSIONS)))

@@ -30,19 +30,34 @@ def start_below(dice, nice, length):
     return last - dice.choice((0, 0, 1, 2, 1000, 10**8))
 
 
-def start(dice, nice, length, far):
-    if far and dice.random() < 0.6:
-        return start_below(dice, nice, length)
-    if far and dice.random() < 0.5:
-        return -BOUND + dice.choice((0, 0, 1, 10**8))
+def start_anywhere(dice, _nice, _length):
     if dice.random() < 0.5:
         return 0
     return dice.choice((-1, 1)) * int(10 ** (8 * dice.random()))
 
 
-def task(dice, cpus, far):
+def start_at_an_end(dice, nice, length):
+    """A start at either end of the range, or anywhere."""
+    share = dice.random()
+    if share < 0.6:
+        return start_below(dice, nice, length)
+    if share < 0.8:
+        return -BOUND + dice.choice((0, 0, 1, 10**8))
+    return start_anywhere(dice, nice, length)
+
+
+def start_beside(dice, _nice, _length):
+    """A start that is a unit away from the others: the mean is less than a unit below some of them."""
+    return dice.randrange(2)
+
+
+# How the tasks of a machine start, and how often. Where all start at the upper end, whoever runs leaves the range.
+STARTS = {start_anywhere: 70, start_at_an_end: 12, start_below: 9, start_beside: 9}
+
+
+def task(dice, cpus, start):
     nice, length = level(dice), slice_length(dice)
-    return Task(dice.randrange(cpus), nice, length, start(dice, nice, length, far), dice.random() < 0.2)
+    return Task(dice.randrange(cpus), nice, length, start(dice, nice, length), dice.random() < 0.2)
 
 
 def sizes(dice, version):
@@ -59,8 +74,8 @@ def sizes(dice, version):
 
 
 def tasks(dice, cpus, count):
-    far = dice.random() < 0.15
-    return [task(dice, cpus, far) for _ in range(count)]
+    start = dice.choices(list(STARTS), list(STARTS.values()))[0]
+    return [task(dice, cpus, start) for _ in range(count)]
 
 
 class Script:
