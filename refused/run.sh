@@ -7,10 +7,16 @@ set -u
 here=$(cd "$(dirname "$0")" && pwd)
 top=${TOP:-$here/..}
 
-for compiler in cc gcc clang none; do
-  command -v "$compiler" >/dev/null && break
-done
-[ "$compiler" != none ] || { echo "refused/run.sh: there is no C compiler" >&2; exit 3; }
+# The first C compiler that there is.
+find_compiler() {
+  local name
+  for name in cc gcc clang; do
+    command -v "$name" && return
+  done
+  return 1
+}
+
+compiler=$(find_compiler) || { echo "refused/run.sh: there is no C compiler" >&2; exit 3; }
 
 # Builds what isn't built yet, by a run that is of no interest.
 if [ -z "${TOP:-}" ]; then
