@@ -81,20 +81,24 @@ def copy_crates(copy):
         shutil.copy(TOP / file, copy)
 
 
+# A busy machine needs longer than a try has by itself.
+SECONDS = 600
+
 LAST = re.compile(r"^cases=(\d+) ended=(\d+) fault=(\d+) differs=(\d+) no-answer=(\d+) proved=no$", re.MULTILINE)
 
 
 def try_cases(copy, cases):
-    """How many workloads there are, how many end as expected, and how many otherwise; None where the try failed."""
+    """How many workloads there are, how many end as expected, how many otherwise, and how many aren't answered in time; None where
+    the try failed."""
     # Steps are those of an interpreter, which can't run this program: the run that is compiled with checks answers.
-    words = ["rt", "try", "--steps", "1", "--cases", str(cases)]
+    words = ["rt", "try", "--steps", "1", "--seconds", str(SECONDS), "--cases", str(cases)]
     run = subprocess.run(words, cwd=copy / "crates" / "eevdf", capture_output=True, text=True, errors="replace")
     found = LAST.search(run.stderr)
     if found is None:
         print(run.stderr[-2000:])
         return None
-    count, alike, faults, different, _unanswered = map(int, found.groups())
-    return count, alike, faults + different
+    count, alike, faults, different, unanswered = map(int, found.groups())
+    return count, alike, faults + different, unanswered
 
 
 def try_body(cases, body):
@@ -111,7 +115,7 @@ def is_as_wanted(body, result):
     """Whether all cases of the right bodies are as expected, or some case finds the wrong one."""
     if result is None:
         return False
-    count, alike, different = result
+    count, alike, different, _unanswered = result
     return different > 0 if body else alike == count
 
 
@@ -128,7 +132,10 @@ def has_its_place(body):
 
 def report_body(body, result):
     passed = is_as_wanted(body, result)
-    told = "the try failed" if result is None else f"of {result[0]} workloads {result[2]} different"
+    told = "the try failed"
+    if result is not None:
+        count, _alike, different, unanswered = result
+        told = f"of {count} workloads {different} different" + f" and {unanswered} without an answer" * (unanswered > 0)
     print(f"{'passed' if passed else 'FAILED'}: {body or 'no wrong body'}: {told}", flush=True)
     return passed
 

@@ -1,5 +1,8 @@
 """Draws tasks, programs and scripts that the model takes."""
 
+from dataclasses import dataclass
+from typing import Callable
+
 from plain.limits import VERSIONS
 from plain.machine import Setup, Task, queues_at_start, whole
 from plain.numbers import BOUND, charge_of, weight_of
@@ -47,17 +50,8 @@ def start_at_an_end(dice, nice, length):
 
 
 def start_beside(dice, _nice, _length):
-    """A start that is a unit away from the others: the mean is less than a unit below some of them."""
+    """A start that is a unit at most away from the others."""
     return dice.randrange(2)
-
-
-# How the tasks of a machine start, and how often. Where all start at the upper end, whoever runs leaves the range.
-STARTS = {start_anywhere: 70, start_at_an_end: 12, start_below: 9, start_beside: 9}
-
-
-def task(dice, cpus, start):
-    nice, length = level(dice), slice_length(dice)
-    return Task(dice.randrange(cpus), nice, length, start(dice, nice, length), dice.random() < 0.2)
 
 
 def sizes(dice, version):
@@ -73,16 +67,51 @@ def sizes(dice, version):
     return dice.choice((1, cpus - 1, cpus)), dice.choice((1, 200))
 
 
-def tasks(dice, cpus, count):
-    start = dice.choices(list(STARTS), list(STARTS.values()))[0]
-    return [task(dice, cpus, start) for _ in range(count)]
+def sizes_of_a_crowd(dice, _version):
+    """A CPU or two, with a few tasks for each."""
+    cpus = dice.randint(1, 2)
+    return cpus, cpus * dice.choice((2, 2, 3, 3, 5, 7))
+
+
+def level_zero(_dice):
+    return 0
+
+
+def tick_of_units(dice):
+    """So short a tick that tasks of level 0 stay a unit or two away from one another."""
+    return dice.randint(1, 2)
+
+
+@dataclass(frozen=True)
+class Manner:
+    """How the values of a machine are drawn."""
+
+    sizes: Callable = sizes
+    start: Callable = start_anywhere
+    level: Callable = level
+    tick: Callable = tick_length
+
+
+# How often each manner is drawn. Where all tasks start at the upper end, whoever runs leaves the range; where all are a unit or two
+# away from one another, one unit decides who is eligible.
+MANNERS = {
+    Manner(): 64,
+    Manner(start=start_at_an_end): 12,
+    Manner(sizes_of_a_crowd, start_below): 12,
+    Manner(sizes_of_a_crowd, start_beside, level_zero, tick_of_units): 12,
+}
+
+
+def task(dice, cpus, manner):
+    nice, length = manner.level(dice), slice_length(dice)
+    return Task(dice.randrange(cpus), nice, length, manner.start(dice, nice, length), dice.random() < 0.2)
 
 
 class Script:
     """Draws deeds one after the other, by the state that those before them leave."""
 
-    def __init__(self, dice, version, setup):
-        self.dice, self.version, self.setup = dice, version, setup
+    def __init__(self, dice, version, setup, manner):
+        self.dice, self.version, self.setup, self.manner = dice, version, setup, manner
         self.queues = queues_at_start(setup)
         self.deeds = []
 
@@ -99,7 +128,7 @@ class Script:
         return cpu, ("sleep", self.task_among([] if running is None else [running]))
 
     def renice(self, cpu):
-        return cpu, ("renice", self.task_among(self.queues[cpu].runnable), level(self.dice))
+        return cpu, ("renice", self.task_among(self.queues[cpu].runnable), self.manner.level(self.dice))
 
     def wake(self, _cpu):
         chosen = self.task_among(task for queue in self.queues for task in queue.asleep)
@@ -114,7 +143,7 @@ class Script:
         return cpu, ("pull", source)
 
     def tick(self, cpu):
-        return cpu, ("tick", tick_length(self.dice))
+        return cpu, ("tick", self.manner.tick(self.dice))
 
     def kind(self):
         shares = {self.tick: 30, self.wake: 14, self.sleep: 12, self.pull: 12}
@@ -154,9 +183,10 @@ def programs_of(dice, cpus, deeds):
 
 def setup(dice, version):
     """A setup and a script that it allows."""
-    cpus, count = sizes(dice, version)
-    members = tasks(dice, cpus, count)
+    manner = dice.choices(list(MANNERS), list(MANNERS.values()))[0]
+    cpus, count = manner.sizes(dice, version)
+    members = [task(dice, cpus, manner) for _ in range(count)]
     empty = Setup(members, [[] for _ in range(cpus)])
-    script = Script(dice, version, empty).draw(length_of_script(dice))
-    like = Script(dice, version, empty).draw(length_of_script(dice))
+    script = Script(dice, version, empty, manner).draw(length_of_script(dice))
+    like = Script(dice, version, empty, manner).draw(length_of_script(dice))
     return Setup(members, programs_of(dice, cpus, like)), script
