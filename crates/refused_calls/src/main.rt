@@ -10,22 +10,26 @@ mod every_operation;
 mod fleet_calls;
 mod fleet_operations;
 mod player_calls;
+mod player_lines;
 mod queue_calls;
+mod queue_lines;
+mod queue_moves;
 mod setup_calls;
 mod solo_calls;
 mod solo_deeds;
 mod stopped;
 mod text_calls;
-mod watched_player;
+mod turn_calls;
 
 use crate::called::{called, say};
 use crate::fleet_calls::{fleet_calls, run_calls};
 use crate::player_calls::{play_calls, player_calls};
 use crate::queue_calls::queue_calls;
-use crate::setup_calls::copied_setup;
+use crate::setup_calls::{copied_setup, copy_calls};
 use crate::solo_calls::{script_calls, solo_calls};
 use crate::stopped::Stopped;
-use crate::text_calls::{engine_calls, text_calls};
+use crate::text_calls::{engine_calls, fault_calls, text_calls};
+use crate::turn_calls::turn_calls;
 use eevdf_bench::{LoadFault, read_workload};
 use eevdf_ops::SetupFault;
 use std::alloc::Global;
@@ -60,12 +64,15 @@ fn all_calls<R: Print + Threads + Wait + Sync>(
         read_workload(alloc, bytes)
     )
     .map_err(|_| Stopped)?;
+    fault_calls(rt, alloc)?;
     text_calls(rt, alloc, &workload)?;
     engine_calls(rt, alloc, bytes)?;
     script_calls(rt, alloc, &workload)?;
     play_calls(rt, alloc, &workload)?;
     let setup = copied_setup(rt, alloc, workload.setup())?;
+    copy_calls(rt, alloc, &setup)?;
     run_calls(rt, alloc, &setup)?;
+    turn_calls(rt, alloc, &setup)?;
     queue_calls(rt, alloc)?;
     solo_calls(rt, alloc, &setup)?;
     player_calls(rt, alloc, &setup)?;

@@ -1,128 +1,85 @@
-//! Parcels, and a queue by itself.
+//! Parcels, and two queues by themselves.
 
 use crate::called::{called, say};
+use crate::queue_lines::{say_queue, say_sums};
+use crate::queue_moves::{move_tasks, sleep_and_wake};
 use crate::stopped::Stopped;
-use eevdf_queue::{Parcel, Queue, TaskId};
+use eevdf_queue::{Parcel, Queue, Refused, TaskId};
 use eevdf_weight::{Nice, Ns, Slice};
 use std::alloc::{AllocError, Global};
 
-/// Makes two parcels, and does every call of a queue with their tasks.
+/// So many tasks that their trees are rebalanced.
+const MANY: u64 = 64;
+
+/// The tasks of the other queue. The first has tasks of the same numbers, so those are refused when they come.
+const FEW: u64 = 20;
+
+const TURNS: u64 = 100;
+
+/// Makes parcels, and does every call of a queue with their tasks.
 pub fn queue_calls(rt: &impl Print, alloc: Global) -> Result<(), Stopped> {
-    let first = called!(rt, "Parcel::make", Err(_), parcel(alloc, 0))?;
-    let second = match called!(rt, "Parcel::make", Err(_), parcel(alloc, 1)) {
-        Ok(second) => second,
-        Err(refused) => {
-            first.retire();
-            return Err(refused.into());
-        }
-    };
+    let mut queue = called!(rt, "Parcel::make", Err(_), filled_queue(alloc, MANY))?;
+    let mut other = called!(rt, "Parcel::make", Err(_), filled_queue(alloc, FEW))?;
     say(rt, "-- opened");
-    let mut queue = Queue::open();
-    admit(&mut queue, first);
-    admit(&mut queue, second);
+    take_turns(rt, &mut queue);
+    move_tasks(&mut queue, &mut other, MANY);
     say_queue(rt, &queue);
-    turns(rt, &mut queue);
-    moves(&mut queue);
-    say_queue(rt, &queue);
+    take_turns(rt, &mut other);
+    sleep_and_wake(&mut other, MANY);
+    say_queue(rt, &other);
     say(rt, "-- closed");
     Ok(())
 }
 
+/// A queue of so many tasks.
+fn filled_queue(alloc: Global, tasks: u64) -> Result<Queue, AllocError> {
+    let mut queue = Queue::open();
+    for number in 0..tasks {
+        let parcel = parcel(alloc, number)?;
+        if let Err(Refused { parcel, reason: _ }) = queue.try_admit(parcel) {
+            parcel.retire();
+        }
+    }
+    Ok(queue)
+}
+
+/// A parcel of this task. Weights, slices and starts differ from task to task.
 fn parcel(alloc: Global, number: u64) -> Result<Parcel, AllocError> {
     let (Some(task), Some(nice), Some(slice)) = (
         TaskId::new(number),
-        Nice::new(0),
-        Slice::new(3_000_000),
+        Nice::new((number % 40) as i64 - 20),
+        Slice::new(1_000_000 + number % 64 * 29 % 64 * 100_000),
     ) else {
         return Err(AllocError);
     };
-    Parcel::make(alloc, task, nice, slice, 0)
+    Parcel::make(
+        alloc,
+        task,
+        nice,
+        slice,
+        (number % 64 * 37 % 64) as i64 * 50_000,
+    )
 }
 
-fn admit(queue: &mut Queue, parcel: Parcel) {
-    let task = parcel.task();
-    if queue.entry(task).is_some() || queue.asleep(task) {
-        parcel.retire();
-        return;
-    }
-    if let Err(refused) = queue.admit(parcel) {
-        refused.retire();
-    }
-}
-
-/// Lets tasks run.
-fn turns(rt: &impl Print, queue: &mut Queue) {
-    let _ = queue.pick();
-    if let Some(ns) = Ns::new(3_000_000) {
-        let _ = queue.tick(ns);
-    }
-    let _ = queue.yield_now();
-    if let (Some(task), Some(nice)) = (TaskId::new(0), Nice::new(5)) {
-        let _ = queue.renice(task, nice);
-    }
-    let _ = queue.pick();
-    say_queue(rt, queue);
-}
-
-/// Takes tasks out and puts them back.
-fn moves(queue: &mut Queue) {
-    if let Some(task) = queue.running()
-        && let Some(parcel) = queue.detach_running(task)
-    {
-        queue.put_asleep(parcel);
-        let _ = queue.wake(task);
-    }
-    if let Some(task) = queue.candidate() {
-        let parcel = queue.detach(task);
-        settle(queue, parcel);
-    }
-}
-
-/// Puts a task that isn't here where it can stand. Any other ends.
-fn settle(queue: &mut Queue, parcel: Parcel) {
-    let task = parcel.task();
-    if queue.entry(task).is_some() || queue.asleep(task) {
-        parcel.retire();
-    } else if queue.can_place(parcel.nice(), parcel.slice(), parcel.lag()) {
-        queue.attach(parcel);
-    } else {
-        queue.put_asleep(parcel);
-    }
-}
-
-/// Prints what is told of a queue.
-pub fn say_queue(rt: &impl Print, queue: &Queue) {
-    let load = queue.load();
-    let floor = queue.floor_time();
-    let len = queue.len();
-    let _ = queue.pick_steps();
-    let _ = println!(rt; "load {load} floor {floor} tasks {len}");
-    say_task(rt, "running", queue.running());
-    say_task(rt, "candidate", queue.candidate());
-    for number in 0..5 {
-        if let Some(task) = TaskId::new(number) {
-            say_place(rt, queue, task);
+/// Lets tasks run, and gives them other nice levels.
+fn take_turns(rt: &impl Print, queue: &mut Queue) {
+    for turn in 0..TURNS {
+        let _ = queue.pick();
+        if let Some(ns) = Ns::new(300_000 + turn % 7 * 400_000) {
+            let _ = queue.tick(ns);
+        }
+        if turn % 3 == 0 {
+            let _ = queue.yield_now();
+        }
+        if let (Some(task), Some(nice)) = (
+            TaskId::new(turn % MANY),
+            Nice::new((turn % 40) as i64 - 20),
+        ) {
+            let _ = queue.renice(task, nice);
+        }
+        if turn % 5 == 0 {
+            let _ = queue.stop_running();
         }
     }
-}
-
-fn say_task(rt: &impl Print, what: &str, task: Option<TaskId>) {
-    if let Some(task) = task {
-        let number = task.get();
-        let _ = println!(rt; "{what} {number}");
-    }
-}
-
-/// Prints where a task stands, if it does.
-fn say_place(rt: &impl Print, queue: &Queue, task: TaskId) {
-    let number = task.get();
-    if let Some(entry) = queue.entry(task) {
-        let v = entry.v;
-        let d = entry.d;
-        let _ = println!(rt; "task {number} v {v} d {d}");
-    }
-    if let Some(lag) = queue.lag_of(task) {
-        let asleep = queue.asleep(task);
-        let _ = println!(rt; "task {number} lag {lag} asleep {asleep}");
-    }
+    say_sums(rt, queue);
 }

@@ -1,4 +1,4 @@
-//! Making a setup, of the tasks and the programs of another.
+//! Making a setup, of the tasks and the programs of another, and copying it.
 
 use crate::called::called;
 use crate::stopped::Stopped;
@@ -17,6 +17,17 @@ pub fn copied_setup(rt: &impl Print, alloc: Global, setup: &Setup) -> Result<Set
         Setup::make(alloc, &tasks, &programs)
     )
     .map_err(|_| Stopped)
+}
+
+/// What is copied of a setup.
+pub fn copy_calls(rt: &impl Print, alloc: Global, setup: &Setup) -> Result<(), Stopped> {
+    let copy = called!(rt, "Setup::try_clone", Err(_), setup.try_clone(alloc))?;
+    let homes = called!(rt, "Setup::homes", Err(_), copy.homes(alloc))?;
+    for home in &homes {
+        let home = home.get();
+        let _ = println!(rt; "home {home}");
+    }
+    Ok(())
 }
 
 fn tasks_of(alloc: Global, setup: &Setup) -> Result<Vec<TaskSpec>, AllocError> {

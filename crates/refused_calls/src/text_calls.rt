@@ -3,8 +3,8 @@
 use crate::called::{called, say_text};
 use crate::stopped::Stopped;
 use eevdf_bench::{
-    BenchFault, Command, LoadFault, Watched, WordFault, Workload, command_of, engine, fault_text,
-    replay_text, report, run_text, solo_text,
+    BenchFault, Command, Key, LoadFault, Watched, WordFault, Workload, command_of, engine,
+    fault_text, replay_text, report, run_text, solo_text,
 };
 use eevdf_fleet::RunFault;
 use eevdf_ops::{Outcome, SetupFault};
@@ -13,6 +13,12 @@ use std::alloc::Global;
 use std::io;
 use std::sync::Wait;
 use std::thread::Threads;
+
+/// The line of a fault that no workload here has.
+pub fn fault_calls(rt: &impl Print, alloc: Global) -> Result<(), Stopped> {
+    let key = Key::Op(3, 141);
+    say_fault(rt, alloc, &BenchFault::Load(LoadFault::BadValue { key }))
+}
 
 /// The reports of a workload by each command, or the faults' lines.
 pub fn text_calls<R: Print + Threads + Wait + Sync>(
@@ -139,7 +145,17 @@ fn print_report<R: Print + Threads + Wait + Sync>(
 
 /// Prints the report of an outcome, with its history.
 pub fn say_outcome(rt: &impl Print, alloc: Global, outcome: &Outcome) -> Result<(), Stopped> {
-    let text = called!(rt, "report", Err(_), report(alloc, outcome, true))?;
+    say_report(rt, alloc, outcome, true)
+}
+
+/// Prints the report of an outcome.
+pub fn say_report(
+    rt: &impl Print,
+    alloc: Global,
+    outcome: &Outcome,
+    history: bool,
+) -> Result<(), Stopped> {
+    let text = called!(rt, "report", Err(_), report(alloc, outcome, history))?;
     say_text(rt, &text);
     Ok(())
 }
