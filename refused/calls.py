@@ -32,8 +32,8 @@ CALLS = [
     "engine",
 ]
 
-# What is opened, by whose calls no memory is asked for: a few tasks' Queue, Solo, Player, Fleet and a Queue of many tasks.
-OPENED = 5
+# How often something is opened by whose calls no memory is asked for: two queues at once, a Solo, a Player and a Fleet.
+OPENED = 4
 
 CALLED, REFUSED, LAST = "== ", "-- refused", "== end"
 OPEN, CLOSED = "-- opened", "-- closed"
