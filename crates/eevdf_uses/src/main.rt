@@ -40,10 +40,10 @@ fn show_two_queues(rt: &(impl Print + AllocGlobal + Wait)) -> io::Result<()> {
     for number in 0..3 {
         add(rt.alloc(), &mut source, TaskId::new(number).unwrap())?;
     }
-    let source = Mutex::new(source);
-    let puller = Mutex::new(Queue::open());
-    for _pull in 0..2 {
-        let moved = pull(rt, &puller, &source);
+    let lower = Mutex::new(source);
+    let higher = Mutex::new(Queue::open());
+    for from_lower in [true, true, false] {
+        let moved = pull(rt, &lower, &higher, from_lower);
         println!(rt; "{}", if moved { "a task moved" } else { "none moved" })?;
     }
     Ok(())

@@ -4,8 +4,7 @@ use eevdf_queue::{Parcel, Queue, Refused, TaskId};
 use eevdf_weight::{Nice, Ns, Slice};
 use std::alloc::{AllocError, Global};
 
-/// Runs three tasks for nine turns of 2 ms, and gives who ran in each. Who runs in turn 3 sleeps until turn 6, and who runs in
-/// turn 8 ends.
+/// Runs three tasks for nine turns of 2 ms, and gives who ran in each. That of turn 3 sleeps until turn 6; that of turn 8 ends.
 pub fn one_queue(alloc: Global) -> Result<Vec<TaskId>, AllocError> {
     let mut queue = Queue::open();
     for number in 0..3 {
@@ -35,11 +34,12 @@ pub fn one_queue(alloc: Global) -> Result<Vec<TaskId>, AllocError> {
     Ok(ran)
 }
 
-/// Makes a task of nice level 0 runnable, if it isn't here yet.
+/// Makes a task of nice level 0 runnable, if it isn't here yet. It starts at the queue's virtual time: a task that comes late and
+/// starts at 0 would be owed all that the others have had, and would run alone until it has caught up.
 pub fn add(alloc: Global, queue: &mut Queue, task: TaskId) -> Result<(), AllocError> {
     let nice = Nice::new(0).unwrap();
     let slice = Slice::new(3_000_000).unwrap();
-    let parcel = Parcel::make(alloc, task, nice, slice, 0)?;
+    let parcel = Parcel::make(alloc, task, nice, slice, queue.floor_time())?;
     if let Err(Refused { parcel, reason: _ }) = queue.try_admit(parcel) {
         parcel.retire();
     }
