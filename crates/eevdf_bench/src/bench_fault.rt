@@ -22,7 +22,7 @@ pub enum BenchFault {
     Read,
     /// The writer failed.
     Write,
-    /// There was no memory.
+    /// Out of memory.
     Memory,
 }
 

@@ -62,7 +62,7 @@ impl fmt::Display for Command {
 pub enum WordFault {
     /// They are no command line of the program, as a call for help isn't.
     Words,
-    /// There was no memory.
+    /// Out of memory.
     Memory,
 }
 

@@ -1,10 +1,22 @@
 //! The answers of one queue as those of deeds.
 
 ghost use Rattle.std.specs.Prelude.{◌≡◌};
-ghost use Rattle.eevdf_ops.specs.OneQueue.{answer_of_renice, answer_of_tick, answer_of_wake, answer_of_yield};
+ghost use Rattle.eevdf_ops.specs.OneQueue.{answer_of_pick, answer_of_renice, answer_of_tick, answer_of_wake, answer_of_yield};
 
 use crate::deeds::Answer;
-use eevdf_queue::{ReniceAnswer, TickAnswer, WakeAnswer, YieldAnswer};
+use eevdf_queue::{ReniceAnswer, TaskId, TickAnswer, WakeAnswer, YieldAnswer};
+
+/// The answer of a pick: who was picked, and `Idle` where nothing is runnable.
+impl From<Option<TaskId>> for Answer {
+    ghost from_gives = { λ picked answer. answer ≡ answer_of_pick picked };
+
+    fn from(picked: Option<TaskId>) -> Answer {
+        match picked {
+            Some(task) => Answer::Picked(task),
+            None => Answer::Idle,
+        }
+    }
+}
 
 impl From<TickAnswer> for Answer {
     ghost from_gives = { λ tick answer. answer ≡ answer_of_tick tick };

@@ -63,7 +63,7 @@ fn begin(
         (machine.begin task spec (machine.queue_at (machine_of queues.old) spec.home))) }
 {
     let parcel = Parcel::make(alloc, task, spec.nice, spec.slice, spec.start)?;
-    let home = spec.home.get() as usize;
+    let home = spec.home.index();
     join(&mut queues[home], parcel, spec.asleep);
     Ok(())
 }

@@ -17,7 +17,7 @@ pub fn tick(queues: &mut [Queue], cpu: CpuId, ns: Ns) -> Answer
     ensures machine { machine_of queues.new ≡ slice_set (machine_of queues.old) cpu
         (whole.one_tick (queue_at (machine_of queues.old) cpu) ns).1 }
 {
-    let queue = &mut queues[cpu.get() as usize];
+    let queue = &mut queues[cpu.index()];
     queue_deeds::tick(queue, ns)
 }
 
@@ -29,7 +29,7 @@ pub fn pick(queues: &mut [Queue], cpu: CpuId) -> Answer
         (whole.one_pick (queue_at (machine_of queues.old) cpu)).1 }
     ensures turns { ArePickTurns (queue_at (machine_of queues.old) cpu) (turns_at queues.new cpu) }
 {
-    let queue = &mut queues[cpu.get() as usize];
+    let queue = &mut queues[cpu.index()];
     queue_deeds::pick(queue)
 }
 
@@ -40,7 +40,7 @@ pub fn yield_now(queues: &mut [Queue], cpu: CpuId) -> Answer
     ensures machine { machine_of queues.new ≡ slice_set (machine_of queues.old) cpu
         (whole.one_yield (queue_at (machine_of queues.old) cpu)).1 }
 {
-    let queue = &mut queues[cpu.get() as usize];
+    let queue = &mut queues[cpu.index()];
     queue_deeds::yield_now(queue)
 }
 
@@ -51,7 +51,7 @@ pub fn wake(queues: &mut [Queue], cpu: CpuId, task: TaskId) -> Answer
     ensures machine { machine_of queues.new ≡ slice_set (machine_of queues.old) cpu
         (whole.one_wake (queue_at (machine_of queues.old) cpu) task).1 }
 {
-    let queue = &mut queues[cpu.get() as usize];
+    let queue = &mut queues[cpu.index()];
     queue_deeds::wake(queue, task)
 }
 
@@ -62,6 +62,6 @@ pub fn renice(queues: &mut [Queue], cpu: CpuId, task: TaskId, nice: Nice) -> Ans
     ensures machine { machine_of queues.new ≡ slice_set (machine_of queues.old) cpu
         (whole.one_renice (queue_at (machine_of queues.old) cpu) task nice).1 }
 {
-    let queue = &mut queues[cpu.get() as usize];
+    let queue = &mut queues[cpu.index()];
     queue_deeds::renice(queue, task, nice)
 }

@@ -22,7 +22,7 @@ pub fn pick(queue: &mut Queue) -> Answer
     ensures after { queue.new.state ≡ (whole.one_pick queue.old.state).1 }
     ensures turns { ArePickTurns queue.old.state queue.new.turns }
 {
-    answer_of_pick(queue.pick())
+    Answer::from(queue.pick())
 }
 
 /// Makes the deadline of the running task one request later.
@@ -47,13 +47,4 @@ pub fn renice(queue: &mut Queue, task: TaskId, nice: Nice) -> Answer
     ensures after { queue.new.state ≡ (whole.one_renice queue.old.state task nice).1 }
 {
     Answer::from(queue.renice(task, nice))
-}
-
-fn answer_of_pick(picked: Option<TaskId>) -> Answer
-    ensures { result ≡ whole.answer_of_pick picked }
-{
-    match picked {
-        Some(task) => Answer::Picked(task),
-        None => Answer::Idle,
-    }
 }

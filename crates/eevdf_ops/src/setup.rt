@@ -51,8 +51,8 @@ impl Setup {
         match setup_fault(tasks, programs) {
             Some(fault) => Err(fault),
             None => {
-                let tasks = Vec::from_slice(alloc, tasks).map_err(|_| SetupFault::Memory)?;
-                let programs = copy_programs(alloc, programs).map_err(|_| SetupFault::Memory)?;
+                let tasks = Vec::from_slice(alloc, tasks)?;
+                let programs = copy_programs(alloc, programs)?;
                 Ok(Setup { tasks, programs })
             }
         }

@@ -1,3 +1,4 @@
+use std::alloc::AllocError;
 use std::error::Error;
 use std::fmt;
 
@@ -19,7 +20,7 @@ pub enum SetupFault {
     /// The operation at this place of the program of this CPU pulls from its own CPU, or from none of the
     /// setup.
     BadPull { cpu: usize, at: usize },
-    /// There was no memory.
+    /// Out of memory.
     Memory,
 }
 
@@ -47,3 +48,14 @@ impl fmt::Display for SetupFault {
 }
 
 impl Error for SetupFault {}
+
+impl From<AllocError> for SetupFault {
+    ghost use Rattle.std.specs.Prelude.{◌≡◌};
+    ghost use Rattle.eevdf_ops.specs.declared.setup_fault.SetupFault.TheVariants.{Memory};
+
+    ghost from_gives = { λ _ fault. fault ≡ Memory };
+
+    fn from(_out_of_memory: AllocError) -> SetupFault {
+        SetupFault::Memory
+    }
+}

@@ -33,7 +33,7 @@ pub fn pull(queues: &mut [Queue], cpu: CpuId, source: CpuId) -> Answer
     ensures answer { result ≡ (whole.pull (machine_of queues.old) cpu source).0 }
     ensures machine { machine_of queues.new ≡ (whole.pull (machine_of queues.old) cpu source).1 }
 {
-    match decide(&queues[cpu.get() as usize], &queues[source.get() as usize]) {
+    match decide(&queues[cpu.index()], &queues[source.index()]) {
         Err(refusal) => refusal,
         Ok(task) => {
             let parcel = take(queues, source, task);
@@ -104,7 +104,7 @@ pub fn take(queues: &mut [Queue], cpu: CpuId, task: TaskId) -> Parcel
     ensures parcel { leaving.carried (queue_at (machine_of queues.old) cpu) task ≡ Some result }
     ensures machine { machine_of queues.new ≡ task_leaves (machine_of queues.old) cpu task }
 {
-    let queue = &mut queues[cpu.get() as usize];
+    let queue = &mut queues[cpu.index()];
     queue.detach(task)
 }
 
@@ -115,6 +115,6 @@ pub fn join(queues: &mut [Queue], cpu: CpuId, parcel: Parcel)
     requires room { can_place (queue_at (machine_of queues.old) cpu) (sleeper_of parcel) ≡ true }
     ensures { machine_of queues.new ≡ whole.task_joins (machine_of queues.old) cpu parcel }
 {
-    let queue = &mut queues[cpu.get() as usize];
+    let queue = &mut queues[cpu.index()];
     queue.attach(parcel);
 }

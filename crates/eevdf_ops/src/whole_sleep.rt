@@ -34,7 +34,7 @@ pub fn take_running(queues: &mut [Queue], cpu: CpuId, task: TaskId) -> Option<Pa
     ensures machine { machine_of queues.new ≡ slice_set (machine_of queues.old) cpu
         (leave_running (queue_at (machine_of queues.old) cpu) task) }
 {
-    let queue = &mut queues[cpu.get() as usize];
+    let queue = &mut queues[cpu.index()];
     queue.detach_running(task)
 }
 
@@ -51,6 +51,6 @@ pub fn fall_asleep(queues: &mut [Queue], cpu: CpuId, parcel: Parcel)
     requires nowhere { places_in (queue_at (machine_of queues.old) cpu) parcel.task ≡ 0 }
     ensures { machine_of queues.new ≡ whole.falls_asleep (machine_of queues.old) cpu parcel }
 {
-    let queue = &mut queues[cpu.get() as usize];
+    let queue = &mut queues[cpu.index()];
     queue.put_asleep(parcel);
 }

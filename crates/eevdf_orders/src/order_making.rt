@@ -15,7 +15,7 @@ use std::fmt;
 /// Why no order was made.
 #[derive(Clone, Copy, PartialEq, Eq, Debug)]
 pub enum OrderFault {
-    /// There was no memory.
+    /// Out of memory.
     Memory,
     /// The callers have more than 1000000 steps to do.
     TooLong,

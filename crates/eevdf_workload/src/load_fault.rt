@@ -75,7 +75,7 @@ pub enum LoadFault {
     BadValue { key: Key },
     /// The setup that it describes is refused.
     Setup(SetupFault),
-    /// There was no memory.
+    /// Out of memory.
     Memory,
 }
 

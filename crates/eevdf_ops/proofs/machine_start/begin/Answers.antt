@@ -16,8 +16,8 @@ carries c =
 
 pub returns : goal.returns
 returns c =
-    let within : c.get-home.result < length c.args.queues.now = omega (arith, c.requires.home, c.get-home.ensures.number) in
-    machine_with c.args.queues.now c.args.spec.home c.get-home.result c.join.new.queue _ c.get-home.ensures.number
+    let within : c.index-home.result < length c.args.queues.now = omega (arith, c.requires.home, c.index-home.ensures.number) in
+    machine_with c.args.queues.now c.args.spec.home c.index-home.result c.join.new.queue _ c.index-home.ensures.number
     (c.join.ensures ∙ joins_as_it_begins c.args.task c.args.spec c.in_ok-parcel.parcel _ (carries c)
     ∙ ap (λ (q : State). begin c.args.task c.args.spec q)
-    (sym (queue_read c.args.queues.now c.args.spec.home c.get-home.result c.index-queues-home.result c.get-home.ensures.number within)))
+    (sym (queue_read c.args.queues.now c.args.spec.home c.index-home.result c.index-queues-home.result c.index-home.ensures.number within)))

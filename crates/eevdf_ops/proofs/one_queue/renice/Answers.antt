@@ -4,5 +4,5 @@ use Rattle.eevdf_ops.proofs.one_queue.renice.Goals as goal
 
 pub returns-clause-machine : goal.returns-clause-machine
 returns-clause-machine c =
-    queue_written c.args.queues.now c.args.cpu c.get.result c.index-queues-get.result c.renice.new.queue (λ (q : State). (renice q c.args.task c.args.nice).1) c.get.ensures.number c.requires
+    queue_written c.args.queues.now c.args.cpu c.index.result c.index-queues-index.result c.renice.new.queue (λ (q : State). (renice q c.args.task c.args.nice).1) c.index.ensures.number c.requires
     c.renice.ensures.after

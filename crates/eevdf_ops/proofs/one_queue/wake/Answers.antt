@@ -4,5 +4,5 @@ use Rattle.eevdf_ops.proofs.one_queue.wake.Goals as goal
 
 pub returns-clause-machine : goal.returns-clause-machine
 returns-clause-machine c =
-    queue_written c.args.queues.now c.args.cpu c.get.result c.index-queues-get.result c.wake.new.queue (λ (q : State). (wake q c.args.task).1) c.get.ensures.number c.requires
+    queue_written c.args.queues.now c.args.cpu c.index.result c.index-queues-index.result c.wake.new.queue (λ (q : State). (wake q c.args.task).1) c.index.ensures.number c.requires
     c.wake.ensures.after

@@ -4,5 +4,5 @@ use Rattle.eevdf_ops.proofs.whole_pull.take.Goals as goal
 
 pub returns-clause-machine : goal.returns-clause-machine
 returns-clause-machine c =
-    queue_written c.args.queues.now c.args.cpu c.get.result c.index-queues-get.result c.detach.new.self (λ (q : State). leave q c.args.task) c.get.ensures.number c.requires.cpu
+    queue_written c.args.queues.now c.args.cpu c.index.result c.index-queues-index.result c.detach.new.self (λ (q : State). leave q c.args.task) c.index.ensures.number c.requires.cpu
     c.detach.ensures.after
