@@ -1,8 +1,7 @@
 //! The report of an outcome: each CPU's schedule, its queue and the requests that were left to it, and the
 //! history as a script where that is wanted.
 //!
-//! A text is pushed onto a vector of bytes, one kind of line by one function. Numbers and tasks are written by
-//! public functions, since the lines of faults have them too.
+//! A text is pushed onto a vector of bytes, one kind of line by one function.
 #![tactic(auto)]
 
 mod schedules;
@@ -13,5 +12,4 @@ mod text_queue;
 mod text_report;
 mod text_tasks;
 
-pub use text_numbers::{push_number, push_task};
 pub use text_report::report;

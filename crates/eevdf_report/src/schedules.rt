@@ -58,7 +58,7 @@ impl Schedules {
         ensures each { OnOk result ((c : ℕ) → c < length self.old
             → slice_index_or self.new c [] ≡ slice_index_or self.old c [] ++ schedule_at c line) }
     {
-        let cpu = cpu_of(line.deed).get() as usize;
+        let cpu = cpu_of(line.deed).index();
         if let Some(text) = self.texts.get_mut(cpu) {
             push_schedule_line(text, line)?;
         }

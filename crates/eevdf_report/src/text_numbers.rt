@@ -6,7 +6,7 @@ use itoa::Buffer;
 use std::alloc::AllocError;
 
 /// Writes a number in decimal. When out of memory the text is as it was.
-pub fn push_number(text: &mut Vec<u8>, number: u64) -> Result<(), AllocError>
+pub(crate) fn push_number(text: &mut Vec<u8>, number: u64) -> Result<(), AllocError>
     ensures written { OnOk result (text.new.items ≡ text.old.items ++ decimal number) }
     ensures kept { OnErr result (text.new.items ≡ text.old.items) }
 {
@@ -22,7 +22,7 @@ pub(crate) fn push_signed(text: &mut Vec<u8>, signed: i64) -> Result<(), AllocEr
 
 /// Writes a task's number with its noun. When out of memory the text is as it was.
 #[tactic(auto, unfolding(crate::specs::Text::task_text))]
-pub fn push_task(text: &mut Vec<u8>, task: u64) -> Result<(), AllocError>
+pub(crate) fn push_task(text: &mut Vec<u8>, task: u64) -> Result<(), AllocError>
     ensures written { OnOk result (text.new.items ≡ text.old.items ++ task_text task) }
     ensures kept { OnErr result (text.new.items ≡ text.old.items) }
 {
