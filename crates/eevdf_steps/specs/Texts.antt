@@ -6,6 +6,7 @@ use Rattle.eevdf_steps.specs.declared.place.Place.TheVariants.{Runnable, Asleep,
 use Rattle.eevdf_steps.specs.declared.play_fault.PlayFault.TheVariants as play
 use Rattle.eevdf_steps.specs.declared.step_fault.StepFault.{StepFault}
 use Rattle.eevdf_steps.specs.declared.step_fault.StepFault.TheVariants as step
+use Rattle.eevdf_steps.specs.Orders.{most_places}
 
 abbrev pub micro_text : Micro → List ℕ
 micro_text (micro.Acquire cpu) = codes "acquire " ++ decimal cpu
@@ -29,7 +30,7 @@ step_fault_text step.Done = codes "done"
 step_fault_text (step.Blocked cpu holder) = codes "blocked on " ++ decimal cpu ++ codes " by " ++ decimal holder
 
 abbrev pub play_fault_text : PlayFault → List ℕ
-play_fault_text play.TooLong = codes "order longer than 1000000"
+play_fault_text play.TooLong = codes "order longer than " ++ decimal most_places
 play_fault_text play.Memory = codes "memory"
 play_fault_text (play.NoCaller at) = codes "order at " ++ decimal at ++ codes ": no caller"
 play_fault_text (play.Done at) = codes "order at " ++ decimal at ++ codes ": done"

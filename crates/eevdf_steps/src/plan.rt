@@ -2,7 +2,7 @@
 
 ghost use Rattle.std.specs.Prelude.{◌≡◌, ◌+◌, ◌*◌, ◌<◌, ◌≤◌, Some, true, length, slice_get, take, IfOk, IfSome};
 ghost use Rattle.std.specs.Option.{option_map};
-ghost use Rattle.eevdf_ops.specs.Numbers.{most_cpus};
+ghost use Rattle.eevdf_ops.specs.Numbers.{most_cpus, most_operations};
 ghost use Rattle.eevdf_steps.specs.{Callers.BeginAll, MicroState.home_for, MicroSteps.micros_of, MicroSteps.steps_of};
 ghost use Rattle.eevdf_steps.specs.{Positions.IsPosition, Positions.counter_at, PostLists.place_of, SoundSteps.is_sound_micro};
 ghost use Rattle.eevdf_steps.specs.Plan.{IsSound, callers, home, is_sound_op, pair, plan_of, program};
@@ -96,11 +96,11 @@ impl Plan {
         self.setup.cpus()
     }
 
-    /// A caller's program, of at most 10000 operations.
+    /// A caller's program, of at most [`Setup::MOST_OPERATIONS`] operations.
     pub(crate) fn program(&self, cpu: CpuId) -> &[Op]
         requires { cpu < callers self.now }
         ensures program { result.now ≡ program self.now cpu }
-        ensures few { length result.now ≤ 10000 }
+        ensures few { length result.now ≤ most_operations }
     {
         self.setup.program(cpu)
     }

@@ -36,9 +36,7 @@ pub fn play(alloc: Global, setup: &Setup, order: &[usize]) -> Result<Outcome, Pl
     if order.len() > MOST_PLACES {
         return Err(PlayFault::TooLong);
     }
-    let Ok(mut player) = Player::open(alloc, setup) else {
-        return Err(PlayFault::Memory);
-    };
+    let mut player = Player::open(alloc, setup)?;
     if let Some(fault) = play_order(&mut player, order) {
         return Err(fault);
     }

@@ -6,6 +6,7 @@ ghost use Rattle.eevdf_steps.specs.Texts.{micro_text, place_text, play_fault_tex
 use crate::micro::Micro;
 use crate::place::Place;
 use crate::play_fault::PlayFault;
+use crate::played_order::MOST_PLACES;
 use crate::step_fault::StepFault;
 use std::error::Error;
 use std::fmt;
@@ -63,7 +64,7 @@ impl fmt::Display for PlayFault {
 
     fn fmt<W: fmt::Write>(&self, f: &mut fmt::Formatter<W>) -> fmt::Result {
         match self {
-            PlayFault::TooLong => f.write_str("order longer than 1000000"),
+            PlayFault::TooLong => write!(f, "order longer than {MOST_PLACES}"),
             PlayFault::Memory => f.write_str("memory"),
             PlayFault::NoCaller { at } => write!(f, "order at {at}: no caller"),
             PlayFault::Done { at } => write!(f, "order at {at}: done"),

@@ -74,7 +74,7 @@ impl Work {
         requires { cpu < length self.now.machine }
         ensures { result.now.state ≡ queue_at self.now.machine cpu }
     {
-        &self.queues[cpu.get() as usize]
+        &self.queues[cpu.index()]
     }
 
     /// The first place in which a task stands, where it stands in one.
@@ -121,7 +121,7 @@ impl Work {
         requires { cpu < length self.now.answers }
         ensures { result ≡ work.answer self.now cpu }
     {
-        self.answers[cpu.get() as usize]
+        self.answers[cpu.index()]
     }
 
     /// Does the deed of an operation on the caller's own queue.
@@ -240,7 +240,7 @@ impl Work {
         ensures parcel { result ≡ work.hand self.old cpu }
         ensures after { self.new ≡ work.emptied self.old cpu }
     {
-        self.hands[cpu.get() as usize].take()
+        self.hands[cpu.index()].take()
     }
 
     fn grasp(&mut self, cpu: CpuId, parcel: Parcel, answer: Answer)
@@ -248,15 +248,15 @@ impl Work {
         requires hand { cpu < length self.old.hands }
         ensures { self.new ≡ work.grasped self.old cpu parcel answer }
     {
-        self.hands[cpu.get() as usize] = Hand::with(parcel);
-        self.answers[cpu.get() as usize] = Some(answer);
+        self.hands[cpu.index()] = Hand::with(parcel);
+        self.answers[cpu.index()] = Some(answer);
     }
 
     fn keep(&mut self, cpu: CpuId, answer: Answer)
         requires { cpu < length self.old.answers }
         ensures { self.new ≡ work.answered self.old cpu answer }
     {
-        self.answers[cpu.get() as usize] = Some(answer);
+        self.answers[cpu.index()] = Some(answer);
     }
 }
 
@@ -277,7 +277,7 @@ fn take_pulled(queues: &mut [Queue], cpu: CpuId, source: CpuId) -> Result<Parcel
     ensures decision { result ≡ work.pull_decision (machine_of queues.old) cpu source }
     ensures machine { machine_of queues.new ≡ work.taken_from (machine_of queues.old) source result }
 {
-    match decide(&queues[cpu.get() as usize], &queues[source.get() as usize]) {
+    match decide(&queues[cpu.index()], &queues[source.index()]) {
         Err(refusal) => Err(refusal),
         Ok(task) => Ok(take(queues, source, task)),
     }

@@ -7,9 +7,9 @@ use Rattle.eevdf_steps.proofs.work.take_pulled.Goals as goal
 
 decided : (c : After-decide) → task_of (decided_at (machine_of c.args.queues.now) c.args.cpu c.args.source) ≡ c.decide.result
 decided c =
-    decided_of (machine_of c.args.queues.now) c.args.cpu c.args.source c.index-queues-get.result.state c.index-queues-get-2.result.state c.decide.result
-    (queue_state c.args.queues.now c.args.cpu c.get.result c.index-queues-get.result c.index-queues-get.is c.get.ensures.number (omega (arith, c.requires.cpu, c.get.ensures.number)))
-    (queue_state c.args.queues.now c.args.source c.get-2.result c.index-queues-get-2.result c.index-queues-get-2.is c.get-2.ensures.number (omega (arith, c.requires.source, c.get-2.ensures.number)))
+    decided_of (machine_of c.args.queues.now) c.args.cpu c.args.source c.index-queues-index.result.state c.index-queues-index-2.result.state c.decide.result
+    (queue_state c.args.queues.now c.args.cpu c.index.result c.index-queues-index.result c.index-queues-index.is c.index.ensures.number (omega (arith, c.requires.cpu, c.index.ensures.number)))
+    (queue_state c.args.queues.now c.args.source c.index-2.result c.index-queues-index-2.result c.index-queues-index-2.is c.index-2.ensures.number (omega (arith, c.requires.source, c.index-2.ensures.number)))
     c.decide.ensures
 
 pub take-requires-clause-waiting : goal.take-requires-clause-waiting
