@@ -32,7 +32,7 @@ use std::thread::Threads;
 /// either drained once, in order, or is left. Each drain has taken the oldest request that its own program had posted to its
 /// own CPU before it and that wasn't taken yet, if there was one; of each other CPU it has taken one request or none.
 ///
-/// `Memory` where a request for memory was refused, and `Start` where a thread was; there is no outcome then, and the
+/// `Memory` where it is out of memory, and `Start` where a thread was; there is no outcome then, and the
 /// threads that had started have ended.
 pub fn run_all<R: Threads + Wait + Sync, G: Gate + Sync>(
     rt: &R,

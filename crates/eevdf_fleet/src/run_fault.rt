@@ -3,7 +3,7 @@ use std::alloc::AllocError;
 /// Why programs couldn't be run.
 #[derive(Clone, Copy, PartialEq, Eq, Debug, Drop)]
 pub enum RunFault {
-    /// A request for memory was refused.
+    /// Out of memory.
     Memory,
     /// A thread couldn't be started. The threads that had started have ended.
     Start,

@@ -25,7 +25,7 @@ use std::thread::Threads;
 /// Whatever the turns do and in whatever order the threads come, the outcome is that of one thread that does the deeds of its
 /// lines one after the other, each at once: the same answers, the same queues.
 ///
-/// `Memory` where a request for memory was refused, and `Start` where a thread was; there is no outcome then, and the threads
+/// `Memory` where it is out of memory, and `Start` where a thread was; there is no outcome then, and the threads
 /// that had started have ended.
 pub fn run_turns<R: Threads + Wait + Sync, T: SeatTurn + Sync>(
     rt: &R,
