@@ -1,6 +1,6 @@
 //! Which texts are deeds in which version, and of which meaning.
 
-use crate::fixtures::{cpu, nice, ns, task};
+use crate::fixtures::{cpu, nice, ns, task, wake};
 use crate::whole_machines::with_deed;
 use eevdf_bench::{Key, LoadFault, Version, read_workload};
 use eevdf_ops::Deed;
@@ -33,11 +33,6 @@ fn both_versions_know_these_deeds(rt: HostRuntime) -> Result<(), Fail> {
         cpu: first,
         task: task(1023)?,
     };
-    let wake = Deed::Wake {
-        cpu: first,
-        task: task(1023)?,
-        sender: last,
-    };
     let pull = Deed::Pull {
         cpu: first,
         source: last,
@@ -47,7 +42,7 @@ fn both_versions_know_these_deeds(rt: HostRuntime) -> Result<(), Fail> {
         ("15 pick", Deed::Pick { cpu: last }),
         ("0 yield", Deed::Yield { cpu: first }),
         ("0 sleep 1023", sleep),
-        ("0 wake 1023 from 15", wake),
+        ("0 wake 1023 from 15", wake(first, 1023, last)?),
         ("0 pull 15", pull),
     ] {
         for version in [Version::One, Version::Two] {
@@ -62,11 +57,6 @@ fn version_two_knows_more_deeds(rt: HostRuntime) -> Result<(), Fail> {
     let first = cpu(0)?;
     let last = cpu(63)?;
     let next = cpu(16)?;
-    let wake = Deed::Wake {
-        cpu: first,
-        task: task(1023)?,
-        sender: last,
-    };
     let renice = Deed::Renice {
         cpu: first,
         task: task(1023)?,
@@ -79,7 +69,7 @@ fn version_two_knows_more_deeds(rt: HostRuntime) -> Result<(), Fail> {
     for (text, meant) in [
         ("16 pick", Deed::Pick { cpu: next }),
         ("63 pick", Deed::Pick { cpu: last }),
-        ("0 wake 1023 from 63", wake),
+        ("0 wake 1023 from 63", wake(first, 1023, last)?),
         ("0 pull 63", pull),
         ("0 renice 1023 -5", renice),
     ] {

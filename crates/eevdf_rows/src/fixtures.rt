@@ -1,6 +1,6 @@
 //! CPUs, tasks and times for tests, by their numbers, and tasks on their way into a queue.
 
-use eevdf_ops::CpuId;
+use eevdf_ops::{CpuId, Deed};
 use eevdf_queue::{Parcel, Queue, TaskId};
 use eevdf_weight::{Nice, Ns, Slice};
 use std::alloc::Global;
@@ -27,6 +27,12 @@ pub fn ns(number: u64) -> Result<Ns, Fail> {
     Ok(Ns::new(number).ok_or("ns")?)
 }
 
+/// The wake of the task of a number, for a sender.
+pub fn wake(cpu: CpuId, number: u64, sender: CpuId) -> Result<Deed, Fail> {
+    let task = task(number)?;
+    Ok(Deed::Wake { cpu, task, sender })
+}
+
 /// A task of nice level 0 that starts at the virtual runtime `v`.
 pub fn parcel(alloc: Global, number: u64, slice_ns: u64, v: i64) -> Result<Parcel, Fail> {
     Ok(Parcel::make(alloc, task(number)?, nice(0)?, slice(slice_ns)?, v)?)
@@ -35,8 +41,7 @@ pub fn parcel(alloc: Global, number: u64, slice_ns: u64, v: i64) -> Result<Parce
 /// Makes a task that isn't in the queue runnable there.
 pub fn admit(rt: &impl Abort, queue: &mut Queue, parcel: Parcel) {
     let task = parcel.task();
-    assert!(rt; queue.entry(task).is_none());
-    assert!(rt; !queue.asleep(task));
+    assert!(rt; !queue.contains(task));
     let admitted = match queue.admit(parcel) {
         Ok(()) => true,
         Err(refused) => {
@@ -50,8 +55,7 @@ pub fn admit(rt: &impl Abort, queue: &mut Queue, parcel: Parcel) {
 /// Makes a task that isn't in the queue, and can join, runnable with its lag.
 pub fn attach(rt: &impl Abort, queue: &mut Queue, parcel: Parcel) {
     let task = parcel.task();
-    assert!(rt; queue.entry(task).is_none());
-    assert!(rt; !queue.asleep(task));
+    assert!(rt; !queue.contains(task));
     assert!(rt; queue.can_place(parcel.nice(), parcel.slice(), parcel.lag()));
     queue.attach(parcel);
 }
@@ -59,7 +63,6 @@ pub fn attach(rt: &impl Abort, queue: &mut Queue, parcel: Parcel) {
 /// Puts a task that isn't in the queue to sleep there.
 pub fn put_asleep(rt: &impl Abort, queue: &mut Queue, parcel: Parcel) {
     let task = parcel.task();
-    assert!(rt; queue.entry(task).is_none());
-    assert!(rt; !queue.asleep(task));
+    assert!(rt; !queue.contains(task));
     queue.put_asleep(parcel);
 }

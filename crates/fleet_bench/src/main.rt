@@ -12,7 +12,6 @@ mod mix;
 mod one_place;
 mod run_fault;
 mod run_report;
-mod solo_bench;
 mod solo_run;
 mod thread_seats;
 mod thread_work;
@@ -25,8 +24,8 @@ use crate::run_fault::RunFault;
 use crate::run_report::Report;
 use crate::solo_run::solo_count;
 use crate::way::Way;
+use drawn_values::words_of;
 use std::alloc::Global;
-use std::env;
 use std::process::ExitCode;
 use std::rt::Env;
 use std::sync::Wait;
@@ -42,14 +41,8 @@ fn main(rt: HostRuntime) -> ExitCode {
 
 /// The run that the process's words ask for.
 fn asked(rt: &(impl Env + AllocGlobal), alloc: Global) -> Result<AskedRun, WordFault> {
-    let Ok(arguments) = env::args(rt) else {
-        return Err(WordFault::Unread);
-    };
-    let words: Result<Vec<String>, _> = arguments.collect(alloc);
-    match words {
-        Ok(words) => AskedRun::of(words.as_slice()),
-        Err(_) => Err(WordFault::Unread),
-    }
+    let words = words_of(rt, alloc).ok_or(WordFault::Unread)?;
+    AskedRun::of(words.as_slice())
 }
 
 /// Does the operations that are asked for.

@@ -2,8 +2,7 @@
 
 use crate::asked_run::AskedRun;
 use crate::drawn_operations::{DrawnOperations, Refused, running_after};
-use crate::solo_bench::SoloBench;
-use eevdf_ops::{CpuId, Setup};
+use eevdf_ops::{Answer, CpuId, Deed, Op, Setup, Solo};
 use eevdf_queue::TaskId;
 use std::alloc::{AllocError, Global};
 
@@ -23,12 +22,12 @@ struct Part {
 
 /// Does the operations of a run, and gives how many were done.
 pub fn solo_count(alloc: Global, run: &AskedRun, setup: &Setup) -> Result<u64, AllocError> {
-    let mut bench = SoloBench::open(alloc, setup)?;
+    let mut solo = Solo::open(alloc, setup)?;
     let mut parts = parts_of(alloc, run)?;
     let mut done = 0u64;
     for number in 0..run.operations {
         for part in parts.iter_mut() {
-            if step(&mut bench, part, number).is_ok() {
+            if step(setup, &mut solo, part, number).is_ok() {
                 done = done.saturating_add(1);
             }
         }
@@ -55,15 +54,40 @@ fn parts_of(alloc: Global, run: &AskedRun) -> Result<Vec<Part>, AllocError> {
 }
 
 /// Does the operation of this number of a thread, on its CPUs in turn.
-fn step(bench: &mut SoloBench<'_>, part: &mut Part, number: u64) -> Result<(), Refused> {
+fn step(setup: &Setup, solo: &mut Solo, part: &mut Part, number: u64) -> Result<(), Refused> {
     let places = part.places.len() as u64;
     if places == 0 {
         return Err(Refused);
     }
     let place = &mut part.places[(number % places) as usize];
     let operation = part.drawn.next(place.cpu, place.running);
-    if let Some(answer) = bench.operate(place.cpu, operation)? {
+    if let Some(answer) = operate(setup, solo, place.cpu, operation)? {
         place.running = running_after(place.running, answer);
     }
     Ok(())
+}
+
+/// Does an operation of a CPU. A post is a wake at once, and a drain nothing.
+fn operate(
+    setup: &Setup,
+    solo: &mut Solo,
+    cpu: CpuId,
+    operation: Op,
+) -> Result<Option<Answer>, Refused> {
+    let deed = match operation {
+        Op::Drain => return Ok(None),
+        Op::Post(task) => wake_of(setup, cpu, task),
+        _ => operation.on(cpu),
+    };
+    let answer = deed.and_then(|deed| solo.try_apply(deed));
+    Ok(Some(answer.ok_or(Refused)?))
+}
+
+/// The wake that a sender asks for, if the setup has the task.
+fn wake_of(setup: &Setup, sender: CpuId, task: TaskId) -> Option<Deed> {
+    if !setup.has_task(task) {
+        return None;
+    }
+    let cpu = setup.spec(task).home;
+    Some(Deed::Wake { cpu, task, sender })
 }

@@ -14,8 +14,8 @@ mod turns;
 
 use crate::asked_run::{AskedRun, WordFault};
 use crate::turns::checksum_of;
+use drawn_values::words_of;
 use std::alloc::Global;
-use std::env;
 use std::process::ExitCode;
 use std::rt::Env;
 
@@ -29,14 +29,8 @@ fn main(rt: HostRuntime) -> ExitCode {
 
 /// The run that the process's words ask for.
 fn asked(rt: &(impl Env + AllocGlobal), alloc: Global) -> Result<AskedRun, WordFault> {
-    let Ok(arguments) = env::args(rt) else {
-        return Err(WordFault::Unread);
-    };
-    let words: Result<Vec<String>, _> = arguments.collect(alloc);
-    match words {
-        Ok(words) => AskedRun::of(words.as_slice()),
-        Err(_) => Err(WordFault::Unread),
-    }
+    let words = words_of(rt, alloc).ok_or(WordFault::Unread)?;
+    AskedRun::of(words.as_slice())
 }
 
 /// Runs the turns and prints their checksum, and gives the exit status.

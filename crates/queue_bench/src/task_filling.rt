@@ -1,7 +1,7 @@
 ghost use Rattle.std.specs.Prelude.{◌≤◌};
 
 use drawn_values::Draws;
-use eevdf_queue::{Parcel, Queue, TaskId};
+use eevdf_queue::{Parcel, Queue, Refused, TaskId};
 use std::alloc::{AllocError, Global};
 
 /// What the values of a run are drawn from.
@@ -21,19 +21,9 @@ pub fn fill(
     for number in 0..tasks {
         let task = TaskId::new(number).unwrap();
         let parcel = Parcel::make(alloc, task, draws.nice(), draws.slice(), draws.start())?;
-        admit(queue, parcel);
+        if let Err(Refused { parcel, reason: _ }) = queue.try_admit(parcel) {
+            parcel.retire();
+        }
     }
     Ok(())
-}
-
-/// Makes a task that isn't in the queue runnable there. Any other ends.
-fn admit(queue: &mut Queue, parcel: Parcel) {
-    let task = parcel.task();
-    if queue.entry(task).is_some() || queue.asleep(task) {
-        parcel.retire();
-        return;
-    }
-    if let Err(refused) = queue.admit(parcel) {
-        refused.retire();
-    }
 }

@@ -21,15 +21,6 @@ const A_POST_AFTER_A_PICK: &[u8] =
 const PICKED_AND_POSTED: &str =
     "cpu 0\npick: picked 0\nload 1024 floor 0\ntask 0 v 0 d 3000000 lag 0 running\nleft 0 from 1\ncpu 1\npick: picked 1\nload 1024 floor 0\ntask 1 v 0 d 3000000 lag 0 running\n";
 
-/// A workload, two pairs of calls of which the first is held until the second is made, and what is reported.
-struct Case {
-    name: &'static str,
-    workload: &'static [u8],
-    first: (GateCall, GateCall),
-    second: (GateCall, GateCall),
-    report: &'static str,
-}
-
 /// A pick at a moment, which is the first operation of its CPU.
 const INSIDE_0: GateCall = GateCall {
     moment: Moment::Inside,
@@ -51,41 +42,21 @@ const ANSWERED_1: GateCall = GateCall {
 
 const POSTED_1: GateCall = GateCall { n: 1, ..ANSWERED_1 };
 
-const CASES: [Case; 3] = [
-    Case {
-        name: "two operations hold their locks at once",
-        workload: TWO_PICKS,
-        first: (INSIDE_0, INSIDE_1),
-        second: (INSIDE_1, INSIDE_0),
-        report: TWO_PICKED,
-    },
-    Case {
-        name: "an operation is done while another has acted and not returned",
-        workload: TWO_PICKS,
-        first: (ACTED_0, ANSWERED_1),
-        second: (INSIDE_1, ACTED_0),
-        report: TWO_PICKED,
-    },
-    Case {
-        name: "a post goes to a CPU whose lock is held",
-        workload: A_POST_AFTER_A_PICK,
-        first: (INSIDE_0, POSTED_1),
-        second: (INSIDE_1, INSIDE_0),
-        report: PICKED_AND_POSTED,
-    },
-];
-
 #[test]
 fn operations_go_on_beside_one_another(rt: HostRuntime) -> Result<(), Fail> {
-    for case in &CASES {
-        let workload = read_workload(rt.alloc(), case.workload)
-            .ok()
-            .ok_or("workload")?;
-        let gate = HoldingGate::new(case.first, case.second);
+    let picks = (TWO_PICKS, TWO_PICKED);
+    let post = (A_POST_AFTER_A_PICK, PICKED_AND_POSTED);
+    for (name, held, until, (text, reported)) in [
+        ("two operations hold their locks at once", INSIDE_0, INSIDE_1, picks),
+        ("an operation is done while another has acted and not returned", ACTED_0, ANSWERED_1, picks),
+        ("a post goes to a CPU whose lock is held", INSIDE_0, POSTED_1, post),
+    ] {
+        let workload = read_workload(rt.alloc(), text).ok().ok_or("workload")?;
+        let gate = HoldingGate::new((held, until), (INSIDE_1, held));
         let outcome = run_all(&rt, rt.alloc(), workload.setup(), &gate)?;
-        assert!(rt; !gate.has_given_up(), "{}", case.name);
-        let text = report(rt.alloc(), &outcome, false)?;
-        assert!(rt; text.as_slice() == case.report.as_bytes(), "{}", case.name);
+        assert!(rt; !gate.has_given_up(), "{name}");
+        let report = report(rt.alloc(), &outcome, false)?;
+        assert!(rt; report.as_slice() == reported.as_bytes(), "{name}");
     }
     Ok(())
 }
