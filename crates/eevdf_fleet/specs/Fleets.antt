@@ -17,6 +17,22 @@ pub record Kit : Type 0 where
 abbrev pub setup_of : Kit → Setup
 setup_of k = k.terms.setup.value
 
+-- how many lines each CPU may have
+abbrev pub quota_of : Kit → ℕ
+quota_of k = k.terms.quota
+
+-- how many requests each ring has room for
+abbrev pub capacity_of : Kit → ℕ
+capacity_of k = k.rings.capacity
+
+-- a quota is at most this
+abbrev pub most_lines : ℕ
+most_lines = 1000000
+
+-- a ring has room for at most so many requests
+abbrev pub most_requests : ℕ
+most_requests = 1000000
+
 -- a seat: its CPU, its lines in order, how many more it may have, and the tasks that it has posted, by homes
 pub record Seat : Type 0 where
   pub cpu : ℕ

@@ -1,6 +1,7 @@
 -- Room for the ends that are given back, and for what is left in the rings.
 use Rattle.std.specs.Prelude.{◌≡◌, ℕ, ◌*◌, ◌/◌, ◌%◌, ◌≤◌, ◌<◌, List, [], ◌++◌, length, slice_get, slice_index_or, Some, vec_capacity}
 use Rattle.std.specs.{declared.alloc.Global.Global, declared.vec.Vec.Vec}
+use Rattle.eevdf_ops.specs.Numbers.{most_cpus}
 use Rattle.eevdf_fleet.specs.RingEnds.{lists_of}
 use Rattle.eevdf_fleet.specs.Rings.{Posts, Takes, Returned, AllReturned, posts_at, takes_at, posted_to, taken_from}
 
@@ -15,7 +16,7 @@ pub record AreEmptyLists (capacity count : ℕ) (lists : List (Vec ℕ Global)) 
 
 -- room for all ends, and an empty list for each pair
 pub record HasRoom (capacity cpus : ℕ) (producers : Vec Posts Global) (consumers : Vec Takes Global) (left : List (Vec ℕ Global)) : Type 0 where
-  pub few : cpus ≤ 64
+  pub few : cpus ≤ most_cpus
   pub producers_fit : cpus ≤ vec_capacity producers
   pub consumers_fit : cpus ≤ vec_capacity consumers
   pub left_fits : AreEmptyLists capacity (cpus * cpus) left

@@ -102,7 +102,7 @@ pub(crate) fn close_locks<N: Names>(
             names: _,
         } = lock.into_inner();
         token = board.check(board.join(token, own));
-        queues[number.get() as usize] = queue;
+        queues[number.index()] = queue;
     }
     board.check(token);
     queues

@@ -1,6 +1,7 @@
 //! How the requests that were posted to a CPU are decided.
 
 ghost use Rattle.std.specs.Prelude.{◌≡◌, ◌≤◌, ◌<◌, ◌↔◌, IfNone, IfOk, IfSome, IsErr, MatchResult, None, true};
+ghost use Rattle.eevdf_ops.specs.Numbers.{most_cpus};
 ghost use Rattle.eevdf_ops.specs.Setup.{cpus_of, homes_of, is_at_home};
 ghost use Rattle.eevdf_fleet.specs.Drains.{HasDrained, HasTaken, counted, oldest_own};
 ghost use Rattle.eevdf_fleet.specs.Fleets.{setup_of};
@@ -81,9 +82,7 @@ impl<N: Names> Fleet<N> {
         ensures number { slot.new.number ≡ slot.old.number }
     {
         let cpu = seat.cpu();
-        let task = seat
-            .consumers
-            .take(&mut seat.producers, sender.get() as usize)?;
+        let task = seat.consumers.take(&mut seat.producers, sender.index())?;
         self.wait_unless_at_home(rt, task, cpu);
         let deed = Deed::Wake { cpu, task, sender };
         Some(self.done_on_one(rt, &OpenGate, 0, &mut seat.log, slot, deed))
@@ -105,7 +104,7 @@ impl<N: Names> Fleet<N> {
     fn is_at_home(&self, task: TaskId, cpu: CpuId) -> bool
         ensures { result ≡ is_at_home (homes_of (setup_of N.kit)) task cpu }
     {
-        match self.homes.get(task.get() as usize) {
+        match self.homes.get(task.index()) {
             Some(home) => home.get() == cpu.get(),
             None => false,
         }
@@ -114,8 +113,8 @@ impl<N: Names> Fleet<N> {
 
 /// What a drain did, with one request more that was answered so.
 fn counted(drained: Drained, answer: Answer) -> Drained
-    requires taken { drained.taken < 64 }
-    requires woken { drained.woken < 64 }
+    requires taken { drained.taken < most_cpus }
+    requires woken { drained.woken < most_cpus }
     ensures { result ≡ counted drained answer }
 {
     let woken = match answer {

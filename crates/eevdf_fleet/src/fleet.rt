@@ -4,7 +4,7 @@ ghost use Rattle.eevdf_ops.specs.{Histories.IsOneThread, Machine.start, Outcome.
 ghost use Rattle.eevdf_ops.specs.Programs.{lines_by};
 ghost use Rattle.eevdf_ops.specs.Setup.{allows, cpus_of, homes_of, is_task};
 ghost use Rattle.eevdf_fleet.specs.Drains.{HasDrained};
-ghost use Rattle.eevdf_fleet.specs.Fleets.{AllPostsTold, AreSeats, IsLogged, fresh_seats, setup_of};
+ghost use Rattle.eevdf_fleet.specs.Fleets.{AllPostsTold, AreSeats, IsLogged, fresh_seats, quota_of, setup_of};
 
 use crate::closing::{close_locks, close_seats};
 use crate::drains::Drained;
@@ -47,7 +47,7 @@ pub struct Fleet<N: Names> {
 
 impl<N: Names> Model for Fleet<N> {
     ghost use Rattle.std.specs.Prelude.{◌≡◌, ◌≤◌, vec_len};
-    ghost use Rattle.eevdf_ops.specs.{Places.AreCpus, Setup.cpus_of, Setup.homes_of};
+    ghost use Rattle.eevdf_ops.specs.{Numbers.most_cpus, Places.AreCpus, Setup.cpus_of, Setup.homes_of};
     ghost use Rattle.eevdf_fleet.specs.Fleets.{setup_of};
 
     ghost Value = { Unit {0} };
@@ -55,7 +55,7 @@ impl<N: Names> Model for Fleet<N> {
     ghost view = { λ f. tt };
 
     ghost invariant = { λ f. (f.homes.items ≡ homes_of (setup_of N.kit)) × (vec_len f.locks ≡ cpus_of (setup_of N.kit))
-        × AreCpus (cpus_of (setup_of N.kit)) (homes_of (setup_of N.kit)) × (cpus_of (setup_of N.kit) ≤ 64) };
+        × AreCpus (cpus_of (setup_of N.kit)) (homes_of (setup_of N.kit)) × (cpus_of (setup_of N.kit) ≤ most_cpus) };
 }
 
 impl<N: Names> Fleet<N> {
@@ -64,7 +64,7 @@ impl<N: Names> Fleet<N> {
     /// is then lost.
     pub fn open(alloc: Global, kit: Kit) -> Result<(Fleet<N>, Vec<Seat<N>>), AllocError>
         requires { kit ≡ N.kit }
-        ensures { IfOk result (λ r. r.1.items ≡ fresh_seats N.kit.terms.quota (cpus_of (setup_of N.kit))) }
+        ensures { IfOk result (λ r. r.1.items ≡ fresh_seats (quota_of N.kit) (cpus_of (setup_of N.kit))) }
     {
         let Kit {
             board,
@@ -220,7 +220,7 @@ impl<N: Names> Fleet<N> {
             return false;
         }
         for number in 0..seats.len() {
-            if seats[number].cpu().get() as usize != number {
+            if seats[number].cpu().index() != number {
                 return false;
             }
         }

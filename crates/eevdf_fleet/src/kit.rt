@@ -1,5 +1,5 @@
 ghost use Rattle.std.specs.Prelude.{◌≡◌, ◌≤◌, IfOk};
-ghost use Rattle.eevdf_fleet.specs.Fleets.{setup_of};
+ghost use Rattle.eevdf_fleet.specs.Fleets.{capacity_of, most_lines, most_requests, quota_of, setup_of};
 
 use crate::board::{Board, Terms, Token};
 use crate::rings::Rings;
@@ -30,7 +30,7 @@ impl Model for Kit {
     ghost view = { λ k. record { board = k.board.table.shared.table_id; terms = k.board.table.shared.key; rings = k.rings } };
 
     ghost use Rattle.std.specs.Prelude.{◌≡◌, ◌*◌, ◌≤◌, [], length, vec_len, vec_capacity};
-    ghost use Rattle.eevdf_ops.specs.{Outcome.machine_of, Places.AreCpus, Setup.cpus_of, Setup.homes_of};
+    ghost use Rattle.eevdf_ops.specs.{Numbers.most_cpus, Outcome.machine_of, Places.AreCpus, Setup.cpus_of, Setup.homes_of};
     ghost use Rattle.eevdf_fleet.specs.{Board.IsToken, Board.claims_of, Claims.claims_from};
 
     ghost invariant = { λ k. IsToken k.board.table.shared.table_id k.board.table.shared.key k.token
@@ -41,7 +41,7 @@ impl Model for Kit {
         × (cpus_of k.board.table.shared.key.setup.value * k.quota ≤ vec_capacity k.lines)
         × (k.quota ≡ k.board.table.shared.key.quota)
         × AreCpus (cpus_of k.board.table.shared.key.setup.value) (homes_of k.board.table.shared.key.setup.value)
-        × (cpus_of k.board.table.shared.key.setup.value ≤ 64)
+        × (cpus_of k.board.table.shared.key.setup.value ≤ most_cpus)
         × (length k.rings.rings ≡ cpus_of k.board.table.shared.key.setup.value) };
 }
 
@@ -54,14 +54,14 @@ impl Kit {
 
     /// A kit for a fleet with the CPUs and the tasks of the setup, whose programs aren't used. Each CPU may have `quota` lines
     /// over all, and each ring has room for `rings` requests; both may be 0. Memory is taken for twice `quota` lines of each
-    /// CPU, and for `rings` requests twice for each pair of a sender and a home. The answer is `AllocError` where memory is
-    /// refused, and nothing else is refused.
+    /// CPU, and for `rings` requests twice for each pair of a sender and a home. The answer is `AllocError` where it is out of
+    /// memory, and nothing else is refused.
     pub fn make(alloc: Global, setup: &Setup, quota: usize, rings: usize) -> Result<Kit, AllocError>
-        requires quota { quota ≤ 1000000 }
-        requires rings { rings ≤ 1000000 }
+        requires quota { quota ≤ most_lines }
+        requires rings { rings ≤ most_requests }
         ensures setup { IfOk result (λ k. setup_of k ≡ setup.now) }
-        ensures quota { IfOk result (λ k. k.terms.quota ≡ quota) }
-        ensures rings { IfOk result (λ k. k.rings.capacity ≡ rings) }
+        ensures quota { IfOk result (λ k. quota_of k ≡ quota) }
+        ensures rings { IfOk result (λ k. capacity_of k ≡ rings) }
     {
         laws::start_is_placed(setup);
         let terms = Terms {

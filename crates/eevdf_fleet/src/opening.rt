@@ -1,6 +1,7 @@
 //! How a fleet is opened from its kit.
 
 ghost use Rattle.std.specs.Prelude.{◌≡◌, ◌<◌, ◌≤◌, [], ◌∷◌, drop, take, vec_len, IfOk, length};
+ghost use Rattle.eevdf_ops.specs.Numbers.{cpu_limit, most_cpus};
 ghost use Rattle.eevdf_ops.specs.{Outcome.machine_of, Places.AreCpus, Setup.cpus_of, Setup.homes_of};
 ghost use Rattle.eevdf_fleet.specs.declared.board.claims.Claim.TheVariants as claim;
 ghost use Rattle.eevdf_fleet.specs.{Board.IsToken, Board.claims_of, Claims.claims_from};
@@ -48,7 +49,7 @@ pub(crate) fn open_all<N: Names>(
     requires token { IsToken N.kit.board N.kit.terms token }
     requires claims { claims_of token ≡ claims_from 0 (machine_of queues.items) }
     requires cpus { vec_len queues ≡ cpus_of (setup_of N.kit) }
-    requires few { cpus_of (setup_of N.kit) ≤ 64 }
+    requires few { cpus_of (setup_of N.kit) ≤ most_cpus }
     requires quota { quota ≡ N.kit.terms.quota }
     ensures logs { IfOk result (λ o. o.logs.items ≡ fresh_logs quota (cpus_of (setup_of N.kit))) }
     ensures locks { IfOk result (λ o. vec_len o.locks ≡ cpus_of (setup_of N.kit)) }
@@ -149,7 +150,7 @@ pub(crate) fn open_seats<N: Names>(
 
 /// The CPU of this number.
 pub(crate) fn cpu_number(number: usize) -> CpuId
-    requires { number < 64 }
+    requires { number < cpu_limit }
     ensures { result ≡ number }
 {
     match CpuId::new(number as u64) {

@@ -67,6 +67,6 @@ impl<N: Names> Fleet<N> {
         ensures home { result ≡ home_of (homes_of (setup_of N.kit)) task }
         ensures below { result < cpus_of (setup_of N.kit) }
     {
-        self.homes[task.get() as usize]
+        self.homes[task.index()]
     }
 }

@@ -39,7 +39,7 @@ impl<N: Names> Fleet<N> {
         requires { cpu < cpus_of (setup_of N.kit) }
         ensures { (mutex_guard_value result).number ≡ cpu }
     {
-        let guard = self.locks[cpu.get() as usize].lock(rt);
+        let guard = self.locks[cpu.index()].lock(rt);
         // No type says which lock keeps which number. They stand in order from the opening on.
         if guard.number().get() == cpu.get() {
             return guard;

@@ -1,6 +1,6 @@
 ghost use Rattle.std.specs.Prelude.{◌≡◌, ◌+◌, ◌<◌, length, OnOk, OnErr, IfErr, IsOk, true};
 ghost use Rattle.eevdf_ops.specs.Setup.{cpus_of, home_of, homes_of, is_task};
-ghost use Rattle.eevdf_fleet.specs.Fleets.{posted_to, setup_of, with_post};
+ghost use Rattle.eevdf_fleet.specs.Fleets.{capacity_of, posted_to, quota_of, setup_of, with_post};
 
 use crate::names::Names;
 use crate::rings::{Consumers, Producers, RingFull};
@@ -47,7 +47,7 @@ impl<N: Names> Seat<N> {
     /// How many more lines its log may have: the quota less the lines so far.
     pub fn room(&self) -> usize
         ensures room { result ≡ self.now.room }
-        ensures quota { length self.now.log + result ≡ N.kit.terms.quota }
+        ensures quota { length self.now.log + result ≡ quota_of N.kit }
     {
         self.log.room()
     }
@@ -67,9 +67,9 @@ impl<N: Names> Seat<N> {
         ensures accepted { OnOk result (self.new ≡ with_post self.old (home_of (homes_of (setup_of N.kit)) task) task) }
         ensures refused { OnErr result (self.new ≡ self.old) }
         ensures given_back { IfErr result (λ full. full.task ≡ task) }
-        ensures room { length (posted_to self.old (home_of (homes_of (setup_of N.kit)) task)) < N.kit.rings.capacity → IsOk result }
+        ensures room { length (posted_to self.old (home_of (homes_of (setup_of N.kit)) task)) < capacity_of N.kit → IsOk result }
     {
-        let home = self.homes[task.get() as usize];
-        self.producers.post(home.get() as usize, task)
+        let home = self.homes[task.index()];
+        self.producers.post(home.index(), task)
     }
 }

@@ -27,7 +27,7 @@ impl<N: Names> Fleet<N> {
         ensures { HasRun setup.now seat.cpu (program_of setup.now seat.cpu) result }
     {
         let cpu = seat.cpu();
-        prove!((cpu.get() as usize) < setup.cpus());
+        prove!(cpu.index() < setup.cpus());
         let program = setup.program(cpu);
         for n in 0..program.len() {
             self.run_operation(rt, gate, n, &mut seat, program[n]);

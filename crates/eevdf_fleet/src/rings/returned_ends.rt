@@ -1,4 +1,5 @@
 ghost use Rattle.std.specs.Prelude.{◌≡◌, ◌<◌, ◌≤◌, ◌++◌, [], ◌∷◌, length, map, IfOk};
+ghost use Rattle.eevdf_ops.specs.Numbers.{most_cpus};
 ghost use Rattle.eevdf_fleet.specs.Rings as rings;
 ghost use Rattle.eevdf_fleet.specs.ReturnedEnds.{AreEmptyLists};
 
@@ -36,7 +37,7 @@ impl<N: Names> ReturnedEnds<N> {
         cpus: usize,
         capacity: usize,
     ) -> Result<ReturnedEnds<N>, AllocError>
-        requires cpus { cpus ≤ 64 }
+        requires cpus { cpus ≤ most_cpus }
         requires capacity { capacity ≡ N.kit.rings.capacity }
         ensures { IfOk result (λ r. r ≡ record { cpus = cpus; posts = []; takes = [] }) }
     {

@@ -21,7 +21,7 @@ loop-lock-preserved g c =
     closed-more t c.args.lines.now.items c.loop-lock.queues.items c.number.inside.number c.number.inside.queue (claims_of c.loop-lock.token) known c.number.invariant.2 within c.loop-lock.invariant.1 in
     let claims : claims_of c.check-token.result ≡ Queue c.number.inside.number c.number.inside.queue.state ∷ claims_of c.loop-lock.token = c.check-token.ensures.claims ∙ joined g at in (
       c.check-token.ensures.token,
-      subst (λ (n : ℕ). AreClosed t c.args.lines.now.items (set c.loop-lock.queues.items n c.number.inside.queue) (claims_of c.check-token.result)) (sym c.get.ensures.number)
+      subst (λ (n : ℕ). AreClosed t c.args.lines.now.items (set c.loop-lock.queues.items n c.number.inside.queue) (claims_of c.check-token.result)) (sym c.index.ensures.number)
           (subst (λ (cs : List Claim). AreClosed t c.args.lines.now.items (set c.loop-lock.queues.items c.number.inside.number c.number.inside.queue) cs) (sym claims) closed),
       omega (arith, ap (λ (l : List Claim). length l) claims, c.in-Some.ensures.cases, c.loop-lock.invariant.2),
       c.loop-lock.invariant.3,
