@@ -4,7 +4,7 @@ use eevdf_queue::{Parcel, Queue, Refused, TaskId};
 use eevdf_weight::{Nice, Ns, Slice};
 use std::alloc::{AllocError, Global};
 
-/// Runs three tasks for nine turns of 2 ms, and gives who ran in each. That of turn 3 sleeps until turn 6; that of turn 8 ends.
+/// Runs three tasks for nine turns of 2 ms, and gives who ran in each. Who runs in turn 3 sleeps until turn 6; who runs in 8 ends.
 pub fn one_queue(alloc: Global) -> Result<Vec<TaskId>, AllocError> {
     let mut queue = Queue::open();
     for number in 0..3 {

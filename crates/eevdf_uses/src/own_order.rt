@@ -38,7 +38,7 @@ pub fn pull_and_picks(alloc: Global) -> Result<Setup, SetupFault> {
 }
 
 fn program(alloc: Global, operations: &[Op]) -> Result<Vec<Op>, SetupFault> {
-    Vec::from_slice(alloc, operations).map_err(|_| SetupFault::Memory)
+    Ok(Vec::from_slice(alloc, operations)?)
 }
 
 fn task() -> TaskSpec {

@@ -47,9 +47,24 @@ fn operations_go_on_beside_one_another(rt: HostRuntime) -> Result<(), Fail> {
     let picks = (TWO_PICKS, TWO_PICKED);
     let post = (A_POST_AFTER_A_PICK, PICKED_AND_POSTED);
     for (name, held, until, (text, reported)) in [
-        ("two operations hold their locks at once", INSIDE_0, INSIDE_1, picks),
-        ("an operation is done while another has acted and not returned", ACTED_0, ANSWERED_1, picks),
-        ("a post goes to a CPU whose lock is held", INSIDE_0, POSTED_1, post),
+        (
+            "two operations hold their locks at once",
+            INSIDE_0,
+            INSIDE_1,
+            picks,
+        ),
+        (
+            "an operation is done while another has acted and not returned",
+            ACTED_0,
+            ANSWERED_1,
+            picks,
+        ),
+        (
+            "a post goes to a CPU whose lock is held",
+            INSIDE_0,
+            POSTED_1,
+            post,
+        ),
     ] {
         let workload = read_workload(rt.alloc(), text).ok().ok_or("workload")?;
         let gate = HoldingGate::new((held, until), (INSIDE_1, held));
