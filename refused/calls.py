@@ -32,6 +32,9 @@ CALLS = [
     "engine",
 ]
 
+# A call that asks once more, for less, where its request is refused: so it answers, as long as one request alone is refused.
+ASKS_AGAIN = {"Setup::homes"}
+
 # How often something is opened by whose calls no memory is asked for: two queues at once, a Solo, a Player and a Fleet.
 OPENED = 4
 
@@ -105,7 +108,7 @@ class Sweep:
         for call in CALLS:
             if call not in self.requests:
                 self.faults.append(f"{call} isn't made on {self.workload.name}")
-            elif self.requests[call] and not self.refusals[call]:
+            elif self.requests[call] and not self.refusals[call] and call not in ASKS_AGAIN:
                 self.faults.append(f"{call} asks for memory on {self.workload.name} and was never refused")
 
     def other_answers(self, before, name):
