@@ -5,16 +5,12 @@ use Rattle.std.specs.{Cmp.nat_cmp_total}
 use Rattle.std.specs.FinMap.{insert, remove, get, get-insert, get-remove, same_map, nat_cmp-IsAntisymmetric}
 use Rattle.std.proofs.lemmas.Bool.Decides.{nat_tests}
 use Rattle.eevdf_weight.specs.{Limits.is_in_range, Weight.weight_of, Placement.floor_div, Placement.placement_of}
-use Rattle.eevdf_queue.specs.{declared.entry.Entry.Entry, State.State, State.Sleeper, Leaving.leave, Leaving.without_entry}
+use Rattle.eevdf_queue.specs.{declared.entry.Entry.Entry, State.State, declared.sleeper.Sleeper.Sleeper, Leaving.leave, Leaving.without_entry}
 use Rattle.eevdf_queue.specs.{Placing.runtime_of, Placing.placed_entry, Kept.IsSound}
 use Rattle.eevdf_queue.specs.Sums.{Tasks, time_over, total_weight, total_moment}
 use Rattle.eevdf_queue.specs.Moves.{entry_in_range, fresh_entry, with_runnable}
 use Rattle.eevdf_queue.specs.Renice.{reniced, renice, renice_entry, renice_to}
 use Rattle.eevdf_queue.proofs.Sound.{Asleep, sound_change}
-
-among_none : (b : Bool) (base mean : ℤ) (place : ℤ → ℤ) → cond b (cond b base mean) (place (cond b base mean)) ≡ cond b base (place (cond b base mean))
-among_none true base mean place = refl
-among_none false base mean place = refl
 
 -- where a task is placed beside the others, once it has left
 pub placed_again : (q : State) (task : ℕ) (e : Entry) (s : Sleeper) (total : ℕ) (moment time : ℤ) → get q.runnable task ≡ Some e
@@ -25,8 +21,6 @@ placed_again q task e s total moment time here w m t =
     let rest : Tasks = remove q.runnable task in
     ap (λ (x : ℤ). of_time x total) (t ∙ ap (λ (y : ℕ). time_over y moment e.v) w ∙ ap (λ (z : ℤ). time_over (total_weight rest) z e.v) m)
     ∙ ap (λ (y : ℕ). of_time (time_over (total_weight rest) (total_moment rest) e.v) y) w
-    ∙ ap (λ (v : ℤ). entry_in_range (fresh_entry v s.nice s.slice))
-    (among_none (total_weight rest == 0) e.v (floor_div (total_moment rest) (total_weight rest)) (λ (x : ℤ). placement_of x (total_weight rest) s.lag (weight_of s.nice)))
     ∙ ap (λ (o : Option Entry). placed_entry (without_entry q task o) s) (sym here)
 
 put_back : (m : Tasks) (k u : ℕ) (e : Entry) → get (insert (remove m k) k e) u ≡ get (insert m k e) u

@@ -5,7 +5,7 @@ use Rattle.std.proofs.Math.Nat.{mul-le-mul_right}
 use Rattle.std.proofs.{lemmas.Int.ints, lemmas.Int.unsigned_abs-mul, lemmas.Bool.Decides.nat_tests}
 use Rattle.eevdf_weight.specs.{Limits.is_in_range, Placement.floor_div, Placement.placement_of, Weight.weight_of}
 use Rattle.eevdf_weight.proofs.Weighing.{weight_of-greatest}
-use Rattle.eevdf_queue.specs.{declared.entry.Entry.Entry, declared.totals.Totals.Totals, State.State, State.Sleeper}
+use Rattle.eevdf_queue.specs.{declared.entry.Entry.Entry, declared.totals.Totals.Totals, State.State, declared.sleeper.Sleeper.Sleeper}
 use Rattle.eevdf_queue.specs.{Sums.total_weight, Sums.total_moment, Lag.is_lag}
 use Rattle.eevdf_queue.specs.Moves.{request_of, fresh_entry, entry_in_range}
 use Rattle.eevdf_queue.specs.Placing.{placement, can_place, IsRoomy}
@@ -32,7 +32,7 @@ roomy q s t ew em r short limited =
     let n : (total_weight q.runnable == 0) ≡ false = grind (arith, nat_tests) in
     let time = floor_div (total_moment q.runnable) (total_weight q.runnable) in
     let p : placement q s ≡ placement_of time (total_weight q.runnable) s.lag (weight_of s.nice) =
-    ap (λ b. cond b q.base (placement_of (cond b q.base time) (total_weight q.runnable) s.lag (weight_of s.nice))) n in
+    ap (λ b. cond b (cond b q.base time) (placement_of (cond b q.base time) (total_weight q.runnable) s.lag (weight_of s.nice))) n in
     let near : unsigned_abs (placement q s) ≤ 2 ^ 59 + 2 ^ 55 =
     subst (λ (z : ℤ). unsigned_abs z ≤ 2 ^ 59 + 2 ^ 55) (sym p)
     (apart_small time (floor_div (s.lag *ℤ pos (total_weight q.runnable + weight_of s.nice)) (total_weight q.runnable))

@@ -2,19 +2,19 @@
 use Rattle.std.specs.Prelude.{◌≡◌, ℕ, ◌<◌, true, Option, Some, None}
 use Rattle.std.specs.Ordering.{nat_cmp}
 use Rattle.std.specs.FinMap as map
-use Rattle.eevdf_queue.specs.{declared.entry.Entry.Entry, State.State, State.Sleeper, Sums.Tasks, Sums.virtual_time}
-use Rattle.eevdf_queue.specs.{Moves.is_entry_in_range, Lag.is_lag}
+use Rattle.eevdf_queue.specs.{declared.entry.Entry.Entry, State.State, declared.sleeper.Sleeper.Sleeper, Sums.Tasks, Sums.virtual_time}
+use Rattle.eevdf_queue.specs.{Moves.is_entry_in_range, Lag.is_lag, Numbers.number_limit}
 use Rattle.eevdf_weight.specs.Limits.{is_in_range}
 
 -- numbers are below the limit, virtual runtimes and deadlines in range
 abbrev pub AreInRange : Tasks → Type 0
 AreInRange tasks =
-    (t : ℕ) (e : Entry) → map.get tasks t ≡ Some e → (t < 1024) × (is_entry_in_range e ≡ true)
+    (t : ℕ) (e : Entry) → map.get tasks t ≡ Some e → (t < number_limit) × (is_entry_in_range e ≡ true)
 
 -- numbers are below the limit, lags within the limits of their tasks
 abbrev pub AreLimited : map.FinMap nat_cmp Sleeper → Type 0
 AreLimited asleep =
-    (t : ℕ) (s : Sleeper) → map.get asleep t ≡ Some s → (t < 1024) × (is_lag s.lag s.nice s.slice ≡ true)
+    (t : ℕ) (s : Sleeper) → map.get asleep t ≡ Some s → (t < number_limit) × (is_lag s.lag s.nice s.slice ≡ true)
 
 -- whoever runs is runnable
 abbrev pub RunnerIsHere : Tasks → Option ℕ → Type 0

@@ -2,7 +2,7 @@
 use Rattle.std.specs.Prelude.{◌≡◌, ◌↔◌, ℕ, ◌*◌, ◌^◌, ◌<◌, ◌≤◌, ℤ, pos, ◌+ℤ◌, ◌-ℤ◌, ◌*ℤ◌, unsigned_abs, List, [], ◌∷◌, Some, IsNone}
 use Rattle.std.specs.FinMap as map
 use Rattle.eevdf_weight.specs.Weight.{weight_of}
-use Rattle.eevdf_queue.specs.declared.entry.Entry.{Entry}
+use Rattle.eevdf_queue.specs.{declared.entry.Entry.Entry, Numbers.number_limit}
 use Rattle.eevdf_queue.specs.Sums.{Tasks, total_weight, total_moment}
 use Rattle.eevdf_queue.specs.Pick.{Eligible, IsPick, pick_of}
 
@@ -34,7 +34,7 @@ PickOfNobody = (tasks : Tasks) → IsNone (pick_of tasks) ↔ (tasks ≡ map.emp
 -- the total weight `W` is at most 1024 greatest weights, and the sum `S` of weight times virtual runtime at
 -- most `2 ^ 60 * W`; so `S` and each `v * W` that is compared with it are below `2 ^ 88`
 pub record AreSumsSmall (tasks : Tasks) : Type 0 where
-  pub weight : total_weight tasks ≤ 88761 * 1024
+  pub weight : total_weight tasks ≤ 88761 * number_limit
   pub moment : unsigned_abs (total_moment tasks) ≤ 2 ^ 60 * total_weight tasks
   pub sum : unsigned_abs (total_moment tasks) < 2 ^ 88
   pub compared : (t : ℕ) (e : Entry) → map.get tasks t ≡ Some e → unsigned_abs (e.v *ℤ pos (total_weight tasks)) < 2 ^ 88

@@ -6,4 +6,4 @@ abbrev pub number_limit : ℕ
 number_limit = 1024
 
 abbrev pub checked_number : ℕ → Option ℕ
-checked_number n = if nat_lt n 1024 then Some n else None
+checked_number n = if nat_lt n number_limit then Some n else None

@@ -1,24 +1,18 @@
 -- How a task with a lag joins a queue.
 use Rattle.std.specs.Prelude.{ℕ, ◌==◌, ◌*◌, ◌^◌, ◌≤◌, ℤ, unsigned_abs, Bool, is_some, if◌then◌else◌, Option}
 use Rattle.eevdf_weight.specs.{Weight.weight_of, Placement.placement_of}
-use Rattle.eevdf_queue.specs.{declared.entry.Entry.Entry, declared.placing.Newcomer.Newcomer, State.State, State.Sleeper}
+use Rattle.eevdf_queue.specs.{declared.entry.Entry.Entry, State.State, declared.sleeper.Sleeper.Sleeper}
 use Rattle.eevdf_queue.specs.{Sums.total_weight, Sums.virtual_time}
 use Rattle.eevdf_queue.specs.Moves.{fresh_entry, entry_in_range, with_runnable}
 
--- the virtual runtime that a task gets at a virtual time, beside others of this total weight
+-- the virtual runtime that a task gets at a virtual time: beside others of this total weight so far from that time that,
+-- but for rounding, its lag stays what it was, and alone the time itself
 abbrev pub runtime_of : ℤ → ℕ → ℤ → ℤ → ℤ
 runtime_of time total lag nice = if total == 0 then time else placement_of time total lag (weight_of nice)
 
--- what a task brings along, as it would be kept asleep
-abbrev pub sleeper_from : Newcomer → Sleeper
-sleeper_from n = record { lag = n.lag; nice = n.nice; slice = n.slice }
-
--- the virtual runtime that the task gets: beside others so far from the virtual time that, but for rounding,
--- its lag stays what it was, alone at the time that stands
+-- the virtual runtime that the task gets in a queue
 abbrev pub placement : State → Sleeper → ℤ
-placement q s =
-    if total_weight q.runnable == 0 then q.base
-    else placement_of (virtual_time q) (total_weight q.runnable) s.lag (weight_of s.nice)
+placement q s = runtime_of (virtual_time q) (total_weight q.runnable) s.lag s.nice
 
 -- the entry that it gets; none where that is out of range
 abbrev pub placed_entry : State → Sleeper → Option Entry

@@ -2,8 +2,8 @@
 use Rattle.std.specs.Prelude.{◌≡◌, ℕ, suc, ◌<◌, ◌==◌, if◌then◌else◌, List, [], ◌∷◌, Option, Some, None, Box, slice_index_or}
 use Rattle.std.specs.Ordering.{nat_cmp}
 use Rattle.std.specs.FinMap as map
-use Rattle.eevdf_queue.specs.{declared.task.Task.Task, State.Sleeper, TreeShape.Tree}
-use Rattle.eevdf_queue.specs.TaskLists.{first_task, sleeper_in, IsLone}
+use Rattle.eevdf_queue.specs.{declared.task.Task.Task, declared.sleeper.Sleeper.Sleeper, TreeShape.Tree}
+use Rattle.eevdf_queue.specs.{TaskLists.first_task, TaskLists.sleeper_in, TaskLists.IsLone, Numbers.number_limit}
 
 -- what is kept of the task of a lone node
 abbrev pub sleeper_of_node : Tree → Sleeper
@@ -30,7 +30,7 @@ slot_at ss q = slice_index_or ss q None
 pub record IsLoneOf (q : ℕ) (ts : List Task) : Type 0 where
   pub lone : IsLone ts
   pub number : (first_task ts).number ≡ q
-  pub below : q < 1024
+  pub below : q < number_limit
 
 -- a slot is empty, or has the lone task of its number
 abbrev pub IsSlot : {Z : Type 0} → ℕ → Option (Box Tree Z) → Type 0

@@ -2,13 +2,7 @@
 use Rattle.std.specs.Prelude.{ℕ, ℤ, pos, Option, None}
 use Rattle.std.specs.Ordering.{nat_cmp}
 use Rattle.std.specs.FinMap as map
-use Rattle.eevdf_queue.specs.declared.entry.Entry.{Entry}
-
--- what a queue keeps of a sleeping task
-pub record Sleeper : Type 0 where
-  pub lag : ℤ
-  pub nice : ℤ
-  pub slice : ℕ
+use Rattle.eevdf_queue.specs.{declared.entry.Entry.Entry, declared.sleeper.Sleeper.Sleeper}
 
 -- the runnable tasks and the sleeping ones by their numbers, who runs, and the virtual time that stands
 -- while nothing is runnable

@@ -2,8 +2,8 @@
 use Rattle.std.specs.Prelude.{◌≡◌, ℕ, ◌<◌, ◌==◌, Bool, true, pos, List, [], ◌∷◌, if◌then◌else◌, Option, Some, None}
 use Rattle.std.specs.Ordering.{nat_cmp}
 use Rattle.std.specs.FinMap as map
-use Rattle.eevdf_queue.specs.{declared.entry.Entry.Entry, declared.task.Task.Task, State.Sleeper, State.Contents}
-use Rattle.eevdf_queue.specs.{Moves.is_entry_in_range, Lag.is_lag}
+use Rattle.eevdf_queue.specs.{declared.entry.Entry.Entry, declared.task.Task.Task, declared.sleeper.Sleeper.Sleeper, State.Contents}
+use Rattle.eevdf_queue.specs.{Moves.is_entry_in_range, Lag.is_lag, Numbers.number_limit}
 
 -- the first task; in an empty list, which no node has, the task 0 with zeros
 abbrev pub first_task : List Task → Task
@@ -49,7 +49,7 @@ contents_of t =
 abbrev pub AreRunnable : List Task → Type 0
 AreRunnable [] = Unit {0}
 AreRunnable (t ∷ ts) =
-    (find_task t.number ts ≡ None) × (t.number < 1024) × (is_entry_in_range t.entry ≡ true) × AreRunnable ts
+    (find_task t.number ts ≡ None) × (t.number < number_limit) × (is_entry_in_range t.entry ≡ true) × AreRunnable ts
 
 -- one task, whose lag is within its limit
 pub record IsLone (ts : List Task) : Type 0 where

@@ -1,7 +1,7 @@
 -- Lists of tasks by key: the deadline first, then the number.
 use Rattle.std.specs.Prelude.{◌≡◌, ℕ, ◌==◌, ◌≤◌, ℤ, Bool, true, List, [], ◌∷◌, length, if◌then◌else◌, Option, Some, None}
 use Rattle.std.specs.List.{AllByRecursion}
-use Rattle.eevdf_queue.specs.{declared.entry.Entry.Entry, declared.task.Task.Task, Order.is_before, Candidate.is_running, TaskLists.first_with}
+use Rattle.eevdf_queue.specs.{declared.entry.Entry.Entry, declared.task.Task.Task, Order.is_before, Candidate.is_running, TaskLists.first_with, Numbers.number_limit}
 
 -- the earlier key
 abbrev pub precedes : Task → Task → Bool
@@ -58,7 +58,7 @@ numbered_entry t = (t.number, t.entry)
 -- the keys rise, and the tasks are no more than there are numbers
 pub record IsSorted (ts : List Task) : Type 0 where
   pub ordered : AreOrdered ts
-  pub few : length ts ≤ 1024
+  pub few : length ts ≤ number_limit
 
 -- the same, and the count is right
 pub record IsCounted (count : ℕ) (ts : List Task) : Type 0 where

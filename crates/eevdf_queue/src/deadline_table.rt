@@ -1,7 +1,7 @@
 ghost use Rattle.std.specs.Prelude.{◌≡◌, ℕ, ◌==◌, ◌<◌, if◌then◌else◌};
 ghost use Rattle.eevdf_queue.specs.TreeStores.{deadline_at};
 
-use crate::task::Task;
+use crate::entry::Entry;
 use crate::task_id::TaskId;
 use crate::tree_key::Key;
 use std::marker::Model;
@@ -40,10 +40,10 @@ impl DeadlineTable {
         }
     }
 
-    /// Notes the deadline of a task.
-    pub fn note(&mut self, task: &Task)
-        ensures { (q : ℕ) → deadline_at self.new q ≡ (if q == task.now.number then task.now.entry.d else deadline_at self.old q) }
+    /// Notes the deadline of a task's entry.
+    pub fn note(&mut self, number: TaskId, entry: &Entry)
+        ensures { (q : ℕ) → deadline_at self.new q ≡ (if q == number then entry.now.d else deadline_at self.old q) }
     {
-        self.by_number[task.number.index()] = task.entry.d;
+        self.by_number[number.index()] = entry.d;
     }
 }

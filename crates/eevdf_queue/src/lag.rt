@@ -7,7 +7,7 @@ ghost use Rattle.eevdf_queue.specs.Lag as lags;
 ghost use Rattle.eevdf_queue.specs.Renice as renices;
 
 use crate::entry::Entry;
-use eevdf_weight::{Nice, lag_limit, weight};
+use eevdf_weight::{Nice, Slice, lag_limit, weight};
 
 /// The virtual time less the task's virtual runtime, cut to plus or minus the limit of the task.
 #[tactic(auto, using(crate::proofs::Bounds::cut_small))]
@@ -40,7 +40,7 @@ pub fn rescaled_lag(lag: i64, entry: &Entry, nice: Nice) -> i64
     ensures value { result ≡ renices.rescaled_lag lag entry.now nice }
     ensures limited { unsigned_abs result ≤ lag_limit_of entry.now.slice (weight_of nice) }
 {
-    prove!(entry.slice.get() <= 100_000_000);
+    prove!(entry.slice.get() <= Slice::MAX.get());
     let newer = weight(nice);
     cut(
         quotient(product(lag, weight(entry.nice)), newer),

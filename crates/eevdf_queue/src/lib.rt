@@ -23,6 +23,7 @@ mod refusal;
 mod request;
 mod runnable_tasks;
 mod running;
+mod sleeper;
 mod sleepers;
 mod task;
 mod task_id;

@@ -1,10 +1,10 @@
 ghost use Rattle.std.specs.Prelude.{◌≡◌, ◌<◌, IfOk, pos, true};
-ghost use Rattle.eevdf_queue.specs.{Lag.is_lag, Moves.sleeper_of, Placing.sleeper_from};
+ghost use Rattle.eevdf_queue.specs.{Lag.is_lag, Moves.sleeper_of, Numbers.number_limit};
 ghost use Rattle.eevdf_queue.specs.TaskLists.{first_task, contents_of, IsLone};
 
 use crate::entry::Entry;
-use crate::placing::Newcomer;
-use crate::task::{Task, newcomer};
+use crate::sleeper::Sleeper;
+use crate::task::{Task, sleeper_of};
 use crate::task_id::TaskId;
 use crate::tree_node::TreeNode;
 use eevdf_weight::{Nice, Slice};
@@ -123,20 +123,20 @@ impl Parcel {
     }
 
     /// What the task brings along.
-    pub(crate) fn newcomer(&self) -> Newcomer
-        ensures value { sleeper_from result ≡ sleeper_of self.now }
+    pub(crate) fn sleeper(&self) -> Sleeper
+        ensures value { result ≡ sleeper_of self.now }
         ensures limited { is_lag result.lag result.nice result.slice ≡ true }
     {
-        newcomer(&self.node.task())
+        sleeper_of(&self.node.task())
     }
 
     /// The node, alone.
     pub(crate) fn into_node(self) -> Box<TreeNode>
         ensures lone { IsLone result.value.tasks }
         ensures contents { contents_of (first_task result.value.tasks) ≡ self }
-        ensures below { self.task < 1024 }
+        ensures below { self.task < number_limit }
     {
-        prove!(self.task().get() < 1024);
+        prove!(self.task().index() < TaskId::COUNT);
         let Parcel { node } = self;
         node
     }

@@ -7,32 +7,25 @@ ghost use Rattle.eevdf_queue.specs.{Lag.is_lag, Moves.entry_in_range, Moves.fres
 
 use crate::entry::Entry;
 use crate::request::started;
+use crate::sleeper::Sleeper;
 use crate::totals::Totals;
-use eevdf_weight::{Nice, Slice, placed, weight};
-
-/// What a task brings along when it joins a queue.
-#[derive(Clone, Copy)]
-pub struct Newcomer {
-    pub lag: i64,
-    pub nice: Nice,
-    pub slice: Slice,
-}
+use eevdf_weight::{Slice, placed, weight};
 
 /// The entry of a task that joins runnable tasks of this total weight at this virtual time. `None` exactly
 /// where it would be out of range.
-pub fn placed_entry(time: i64, total: u64, newcomer: &Newcomer) -> Option<Entry>
+pub fn placed_entry(time: i64, total: u64, sleeper: &Sleeper) -> Option<Entry>
     requires time { limits.is_in_range time ≡ true }
     requires few { total ≤ 2 ^ 40 }
-    requires limited { is_lag newcomer.now.lag newcomer.now.nice newcomer.now.slice ≡ true }
-    ensures { result ≡ entry_in_range (fresh_entry (runtime_of time total newcomer.now.lag newcomer.now.nice) newcomer.now.nice newcomer.now.slice) }
+    requires limited { is_lag sleeper.now.lag sleeper.now.nice sleeper.now.slice ≡ true }
+    ensures { result ≡ entry_in_range (fresh_entry (runtime_of time total sleeper.now.lag sleeper.now.nice) sleeper.now.nice sleeper.now.slice) }
 {
-    match runtime(time, total, newcomer) {
+    match runtime(time, total, sleeper) {
         None => None,
         Some(v) => started(&Entry {
             v,
             d: v,
-            nice: newcomer.nice,
-            slice: newcomer.slice,
+            nice: sleeper.nice,
+            slice: sleeper.slice,
         }),
     }
 }
@@ -49,16 +42,16 @@ pub fn is_roomy(totals: &Totals) -> bool
 
 /// The virtual runtime that it gets: among no tasks the time itself.
 #[tactic(auto, using(crate::proofs::Bounds::lag_small))]
-fn runtime(time: i64, total: u64, newcomer: &Newcomer) -> Option<i64>
+fn runtime(time: i64, total: u64, sleeper: &Sleeper) -> Option<i64>
     requires time { limits.is_in_range time ≡ true }
     requires few { total ≤ 2 ^ 40 }
-    requires limited { is_lag newcomer.now.lag newcomer.now.nice newcomer.now.slice ≡ true }
-    ensures { result ≡ within_range (runtime_of time total newcomer.now.lag newcomer.now.nice) }
+    requires limited { is_lag sleeper.now.lag sleeper.now.nice sleeper.now.slice ≡ true }
+    ensures { result ≡ within_range (runtime_of time total sleeper.now.lag sleeper.now.nice) }
 {
-    prove!(newcomer.slice.get() <= 100_000_000);
+    prove!(sleeper.slice.get() <= Slice::MAX.get());
     if total == 0 {
         Some(time)
     } else {
-        placed(time, total, newcomer.lag, weight(newcomer.nice))
+        placed(time, total, sleeper.lag, weight(sleeper.nice))
     }
 }

@@ -11,10 +11,11 @@ ghost use Rattle.eevdf_queue.specs.Leaving.{carried, leave, carried_running, lea
 use crate::answers::WakeAnswer;
 use crate::entry::Entry;
 use crate::parcel::Parcel;
-use crate::placing::{Newcomer, is_roomy, placed_entry};
+use crate::placing::{is_roomy, placed_entry};
 use crate::queue::Queue;
 use crate::request::started;
 use crate::running::{is_running, stop};
+use crate::sleeper::Sleeper;
 use crate::task_id::TaskId;
 use eevdf_weight::{Nice, Slice};
 
@@ -128,11 +129,11 @@ impl Queue {
         requires { is_lag lag nice slice ≡ true }
         ensures { result ≡ placing.can_place self.now.state (record { lag = lag; nice = nice; slice = slice }) }
     {
-        prove!(slice.get() <= 100_000_000);
+        prove!(slice.get() <= Slice::MAX.get());
         if is_roomy(&self.runnable.totals()) {
             return true;
         }
-        self.placed(&Newcomer { lag, nice, slice }).is_some()
+        self.placed(&Sleeper { lag, nice, slice }).is_some()
     }
 
     /// Makes the task of a parcel, which isn't here and can join, runnable with the lag of the parcel: beside others
@@ -145,7 +146,7 @@ impl Queue {
         ensures after { placing.put self.old.state parcel.task (moves.sleeper_of parcel) ≡ Some self.new.state }
         ensures turns { self.new.turns ≡ self.old.turns }
     {
-        let entry = self.placed(&parcel.newcomer()).unwrap();
+        let entry = self.placed(&parcel.sleeper()).unwrap();
         self.runnable.add(parcel, entry);
     }
 
@@ -170,10 +171,10 @@ impl Queue {
 
     /// The entry of a task that joins. `None` exactly where it would be out of range.
     #[inline(always)]
-    fn placed(&self, newcomer: &Newcomer) -> Option<Entry>
-        requires { is_lag newcomer.now.lag newcomer.now.nice newcomer.now.slice ≡ true }
-        ensures { result ≡ placing.placed_entry self.now.state (placing.sleeper_from newcomer.now) }
+    fn placed(&self, sleeper: &Sleeper) -> Option<Entry>
+        requires { is_lag sleeper.now.lag sleeper.now.nice sleeper.now.slice ≡ true }
+        ensures { result ≡ placing.placed_entry self.now.state (sleeper.now) }
     {
-        placed_entry(self.floor_time(), self.runnable.totals().weight, newcomer)
+        placed_entry(self.floor_time(), self.runnable.totals().weight, sleeper)
     }
 }

@@ -11,8 +11,9 @@ ghost use Rattle.eevdf_queue.specs.Sums as sums;
 use crate::answers::ReniceAnswer;
 use crate::entry::Entry;
 use crate::lag::{kept_lag, rescaled_lag};
-use crate::placing::{Newcomer, placed_entry};
+use crate::placing::placed_entry;
 use crate::queue::Queue;
+use crate::sleeper::Sleeper;
 use crate::task_id::TaskId;
 use crate::totals::{Totals, time_over};
 use eevdf_weight::Nice;
@@ -46,18 +47,18 @@ impl Queue {
         ensures { result ≡ placing.placed_entry (leave self.now.state task) (renices.reniced self.now.state entry.now nice) }
     {
         let others = self.runnable.totals_without(task, entry);
-        let newcomer = self.newcomer(entry, nice);
-        placed_entry(time_after(&others, entry), others.weight, &newcomer)
+        let sleeper = self.as_sleeper(entry, nice);
+        placed_entry(time_after(&others, entry), others.weight, &sleeper)
     }
 
     /// What a task of the queue brings along when it joins again under another nice level.
-    fn newcomer(&self, entry: &Entry, nice: Nice) -> Newcomer
+    fn as_sleeper(&self, entry: &Entry, nice: Nice) -> Sleeper
         requires { limits.is_in_range entry.now.v ≡ true }
-        ensures value { placing.sleeper_from result ≡ renices.reniced self.now.state entry.now nice }
+        ensures value { result ≡ renices.reniced self.now.state entry.now nice }
         ensures limited { is_lag result.lag result.nice result.slice ≡ true }
     {
         let lag = kept_lag(self.floor_time(), entry);
-        Newcomer {
+        Sleeper {
             lag: rescaled_lag(lag, entry, nice),
             nice,
             slice: entry.slice,

@@ -3,7 +3,7 @@ ghost use Rattle.std.specs.Option.{option_map};
 ghost use Rattle.std.specs.FinMap as map;
 ghost use Rattle.eevdf_weight.specs.Limits as limits;
 ghost use Rattle.eevdf_queue.specs.{Sums.total_weight, Sums.total_moment, Order.earliest, Candidate.candidate_of};
-ghost use Rattle.eevdf_queue.specs.{Moves.is_entry_in_range, Kept.AreInRange, Laws.AreSumsSmall, TreeShape.IsAlone};
+ghost use Rattle.eevdf_queue.specs.{Numbers.number_limit, Moves.is_entry_in_range, Kept.AreInRange, Laws.AreSumsSmall, TreeShape.IsAlone};
 ghost use Rattle.eevdf_queue.specs.{TreeShape.IsFull, Lag.is_lag, TreeTasks.insert_task, TreeStores.deadline_at};
 ghost use Rattle.eevdf_queue.specs.Leaving.{leaving_at};
 ghost use Rattle.eevdf_queue.specs.Pick.{IsPick, is_eligible_at, pick_of};
@@ -83,7 +83,7 @@ impl RunnableTasks {
     pub fn totals(&self) -> Totals
         ensures weight { result.weight ≡ total_weight self.now }
         ensures moment { result.moment ≡ total_moment self.now }
-        ensures few { result.weight ≤ 88761 * 1024 }
+        ensures few { result.weight ≤ 88761 * number_limit }
         ensures small { unsigned_abs result.moment ≤ 2 ^ 60 * result.weight }
     {
         self.totals
@@ -94,7 +94,7 @@ impl RunnableTasks {
         requires { map.get self.now task ≡ Some entry.now }
         ensures weight { result.weight ≡ total_weight (map.remove self.now task) }
         ensures moment { result.moment ≡ total_moment (map.remove self.now task) }
-        ensures few { result.weight ≤ 88761 * 1024 }
+        ensures few { result.weight ≤ 88761 * number_limit }
         ensures small { unsigned_abs result.moment ≤ 2 ^ 60 * result.weight }
     {
         without_share(&self.totals, &share(entry))
@@ -216,7 +216,12 @@ impl RunnableTasks {
             turns: first.turns,
         };
         let picked = PickedTask::of(first.task);
-        self.picked = picked;
+        // field by field, so that no padding is written
+        self.picked.runtime = picked.runtime;
+        self.picked.slice = picked.slice;
+        self.picked.number = picked.number;
+        self.picked.nice = picked.nice;
+        self.picked.known = picked.known;
         Some(pick)
     }
 
@@ -247,12 +252,12 @@ impl RunnableTasks {
 fn put(tree: &mut TaskTree, deadlines: &mut DeadlineTable, mut node: Box<TreeNode>, entry: Entry)
     requires alone { IsAlone node.value }
     requires absent { find_task (first_task node.value.tasks).number tree.old ≡ None }
-    requires few { length tree.old < 1024 }
+    requires few { length tree.old < number_limit }
     ensures tree { tree.new ≡ insert_task (record (first_task node.value.tasks) { entry = entry }) tree.old }
     ensures table { (q : ℕ) → deadline_at deadlines.new q ≡ (if q == (first_task node.value.tasks).number then entry.d else deadline_at deadlines.old q) }
 {
     node.replace_entry(&entry);
-    deadlines.note(&node.task());
+    deadlines.note(node.task().number, &entry);
     tree.insert(node);
 }
 
@@ -262,8 +267,6 @@ fn leave(mut node: Box<TreeNode>, lag: i64) -> Parcel
     requires limited { is_lag lag (first_task node.value.tasks).entry.nice (first_task node.value.tasks).entry.slice ≡ true }
     ensures { result ≡ record (contents_of (first_task node.value.tasks)) { lag = lag } }
 {
-    let mut task = node.task();
-    task.lag = lag;
-    node.replace(task);
+    node.replace_lag(lag);
     Parcel::of(node)
 }

@@ -1,12 +1,11 @@
 ghost use Rattle.std.specs.Prelude.{◌≡◌, ℕ, Some, None, is_some, true};
-ghost use Rattle.std.specs.Option.{option_map};
 ghost use Rattle.std.specs.FinMap as map;
-ghost use Rattle.eevdf_queue.specs.{Lag.sleeping_lag, Placing.sleeper_from, Moves.sleeper_of, Kept.AreLimited, Slots.slot_at};
+ghost use Rattle.eevdf_queue.specs.{Lag.sleeping_lag, Moves.sleeper_of, Kept.AreLimited, Slots.slot_at};
 ghost use Rattle.eevdf_queue.specs.Slots.{IsWith};
 
 use crate::parcel::Parcel;
-use crate::placing::Newcomer;
-use crate::task::newcomer;
+use crate::sleeper::Sleeper;
+use crate::task::sleeper_of;
 use crate::task_id::TaskId;
 use crate::tree_node::TreeNode;
 use std::array;
@@ -22,7 +21,7 @@ pub struct Sleepers {
 impl Model for Sleepers {
     ghost use Rattle.std.specs.{Ordering.nat_cmp, Coded.coded_ℕ};
     ghost use Rattle.std.specs.FinMap as map;
-    ghost use Rattle.eevdf_queue.specs.{State.Sleeper, Codes.sleeper_code};
+    ghost use Rattle.eevdf_queue.specs.{declared.sleeper.Sleeper.Sleeper, Codes.sleeper_code};
 
     ghost Value = { map.FinMap nat_cmp Sleeper };
 
@@ -62,12 +61,12 @@ impl Sleepers {
 
     /// What is kept of a task that sleeps here.
     #[tactic(auto, using(crate::proofs::AsleepMaps::asleep_maps))]
-    pub fn get(&self, task: TaskId) -> Option<Newcomer>
-        ensures { option_map sleeper_from result ≡ map.get self.now task }
+    pub fn get(&self, task: TaskId) -> Option<Sleeper>
+        ensures { result ≡ map.get self.now task }
     {
         match slot(&self.slots, task) {
             None => None,
-            Some(node) => Some(newcomer(&node.task())),
+            Some(node) => Some(sleeper_of(&node.task())),
         }
     }
 

@@ -1,8 +1,8 @@
 ghost use Rattle.std.specs.Prelude.{◌≡◌};
-ghost use Rattle.eevdf_queue.specs.{TaskLists.sleeper_in, Placing.sleeper_from};
+ghost use Rattle.eevdf_queue.specs.TaskLists.{sleeper_in};
 
 use crate::entry::Entry;
-use crate::placing::Newcomer;
+use crate::sleeper::Sleeper;
 use crate::task_id::TaskId;
 
 /// What a node carries of its task: `entry` while it is runnable, `lag` while it sleeps. In a parcel the
@@ -15,10 +15,10 @@ pub struct Task {
 }
 
 /// What the task brings along when it joins a queue.
-pub fn newcomer(task: &Task) -> Newcomer
-    ensures { sleeper_from result ≡ sleeper_in task.now }
+pub fn sleeper_of(task: &Task) -> Sleeper
+    ensures { result ≡ sleeper_in task.now }
 {
-    Newcomer {
+    Sleeper {
         lag: task.lag,
         nice: task.entry.nice,
         slice: task.entry.slice,

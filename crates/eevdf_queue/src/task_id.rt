@@ -1,5 +1,5 @@
 ghost use Rattle.std.specs.Prelude.{◌≡◌, ◌<◌};
-ghost use Rattle.eevdf_queue.specs.Numbers.{checked_number};
+ghost use Rattle.eevdf_queue.specs.Numbers.{checked_number, number_limit};
 
 use std::error::Error;
 use std::fmt;
@@ -44,7 +44,7 @@ impl TaskId {
     /// The number, below 1024.
     pub fn get(self) -> u64
         ensures number { result ≡ self }
-        ensures below { result < 1024 }
+        ensures below { result < number_limit }
     {
         u64::from(self.number)
     }
@@ -52,7 +52,7 @@ impl TaskId {
     /// The number as a place in a list that has one for each task, below 1024.
     pub fn index(self) -> usize
         ensures number { result ≡ self }
-        ensures below { result < 1024 }
+        ensures below { result < number_limit }
     {
         usize::from(self.number)
     }
@@ -74,7 +74,7 @@ impl TryFrom<u64> for TaskId {
     type Error = BadTaskId;
 
     ghost use Rattle.std.specs.Prelude.{◌≡◌, ok_or};
-    ghost use Rattle.eevdf_queue.specs.Numbers.{checked_number};
+    ghost use Rattle.eevdf_queue.specs.Numbers.{checked_number, number_limit};
 
     ghost try_from_gives = { λ number r. r ≡ ok_or (checked_number number) (record { 0 = number }) };
 

@@ -2,7 +2,7 @@ ghost use Rattle.std.specs.Prelude.{◌≡◌, suc, ◌<◌, ◌≤◌, ◌/◌,
 ghost use Rattle.std.specs.Option.{option_map};
 ghost use Rattle.eevdf_queue.specs.TaskLists.{first_task, find_task, set_entry, entries_of};
 ghost use Rattle.eevdf_queue.specs.{Order.earliest, Pick.is_eligible_at, Candidate.latest_waiting, TreeShape.IsAlone};
-ghost use Rattle.eevdf_queue.specs.TreeShape.{IsFull};
+ghost use Rattle.eevdf_queue.specs.{TreeShape.IsFull, Numbers.number_limit};
 ghost use Rattle.eevdf_queue.specs.TreeTasks.{IsAtDeadline, insert_task, without, first_that};
 
 use crate::entry::Entry;
@@ -50,7 +50,7 @@ impl TaskTree {
 
     pub fn len(&self) -> usize
         ensures value { result ≡ length self.now }
-        ensures few { result ≤ 1024 }
+        ensures few { result ≤ number_limit }
     {
         self.count
     }
@@ -67,7 +67,7 @@ impl TaskTree {
     pub fn insert(&mut self, node: Box<TreeNode>)
         requires alone { IsAlone node.value }
         requires absent { find_task (first_task node.value.tasks).number self.old ≡ None }
-        requires few { length self.old < 1024 }
+        requires few { length self.old < number_limit }
         ensures { self.new ≡ insert_task (first_task node.value.tasks) self.old }
     {
         insert(&mut self.root, node);

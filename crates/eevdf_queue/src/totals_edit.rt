@@ -2,6 +2,7 @@
 
 ghost use Rattle.std.specs.Prelude.{◌≡◌, ◌+◌, ◌*◌, ◌≤◌, ◌^◌, pos, ◌+ℤ◌, ◌-ℤ◌, ◌*ℤ◌, unsigned_abs};
 ghost use Rattle.eevdf_weight.specs.Weight.{weight_of};
+ghost use Rattle.eevdf_queue.specs.Numbers.{number_limit};
 
 use crate::entry::Entry;
 use crate::totals::Totals;
@@ -56,7 +57,7 @@ pub fn without_share(totals: &Totals, share: &Totals) -> Totals
 /// The sums where one of the tasks gets another entry.
 pub fn exchanged(totals: &Totals, older: &Entry, newer: &Entry) -> Totals
     requires part { weight_of older.now.nice ≤ totals.now.weight }
-    requires few { totals.now.weight ≤ 88761 * 1024 }
+    requires few { totals.now.weight ≤ 88761 * number_limit }
     requires small { unsigned_abs totals.now.moment ≤ 2 ^ 60 * totals.now.weight }
     ensures weight { weight_of older.now.nice + result.weight ≡ weight_of newer.now.nice + totals.now.weight }
     ensures moment { (older.now.v *ℤ pos (weight_of older.now.nice)) +ℤ result.moment

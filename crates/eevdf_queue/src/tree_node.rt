@@ -148,6 +148,14 @@ impl TreeNode {
         self.least = Least::of(&self.task);
     }
 
+    /// Gives another lag to the task of a node that is alone.
+    pub fn replace_lag(&mut self, lag: i64)
+        requires { IsAlone self.old }
+        ensures { self.new.tasks ≡ record (first_task self.old.tasks) { lag = lag } ∷ [] }
+    {
+        self.task.lag = lag;
+    }
+
     /// Exchanges the task of a node that is alone for another.
     #[inline(always)]
     pub fn exchange(&mut self, task: &mut Task)

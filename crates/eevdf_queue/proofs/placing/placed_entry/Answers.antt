@@ -18,7 +18,7 @@ pub returns-in-Some : goal.returns-in-Some
 returns-in-Some c =
     let v : ℤ = c.in-Some.v in
     let time : ℤ = c.args.time in
-    let n = c.args.newcomer.now in
+    let n = c.args.sleeper.now in
     let fits : SFits w64 v = search rules in
     let same = within_is (runtime_of time c.args.total n.lag n.nice) v (ap (λ (t : ℤ). within_range (runtime_of t c.args.total n.lag n.nice)) (sym (to_z-of_z w64 time c.ranges.time)) ∙ sym c.in-Some.ensures) in
     c.started.ensures

@@ -1,12 +1,11 @@
 use Rattle.std.proofs.Common.{ℕ, ap, ◌∙◌, sym}
 use Rattle.std.specs.FinMap.{insert}
-use Rattle.eevdf_queue.specs.Placing.{sleeper_from}
 use Rattle.eevdf_queue.proofs.Sound.{sound_wake}
 use Rattle.eevdf_queue.proofs.queue.Queue.wake.Goals as goal
 
 pub placed-requires : goal.placed-requires
 placed-requires c =
-    (c.keeps.ensures c.args.task (sleeper_from c.in-Some.sleeper) (sym c.in-Some.ensures)).1
+    (c.keeps.ensures c.args.task c.in-Some.sleeper (sym c.in-Some.ensures)).1
 
 pub invariant_of-self : goal.invariant_of-self
 invariant_of-self c =

@@ -1,5 +1,8 @@
-use Rattle.std.proofs.Common.{◌≡◌, ◌∙◌, ℕ, Option, subst}
-use Rattle.std.specs.Prelude.{IfSome, IsNone, ◌↔◌}
+use Rattle.std.proofs.Common.{◌≡◌, ◌∙◌, ℕ, Option, subst, rules}
+use Rattle.std.specs.Prelude.{ℤ, IfSome, IsNone, ◌↔◌}
+use Rattle.std.proofs.lemmas.Int.{to_z-of_z}
+use mir.Syntax.{w64}
+use mir.Val.{SFits}
 use Rattle.std.specs.Option.{option_map}
 use Rattle.std.specs.FinMap as map
 use Rattle.eevdf_queue.specs.{declared.tree_node.Found.Found, Pick.IsPick, Pick.pick_of}
@@ -23,12 +26,14 @@ returns-in_default-clause-none c =
 
 pub invariant_of-self : goal.invariant_of-self
 invariant_of-self c =
+    let v : ℤ = c.of-picked.result.runtime in
+    let fits : SFits w64 v = search rules in
     record {
       store = c.self.invariant.store;
       totals = c.self.invariant.totals;
       picked =
-          known_of c.of-picked.result c.self.inside.tree c.args.self.now c.in-Some.first.task.now c.self.view_is c.in-Some.ensures.here
-          c.of-picked.ensures.number c.of-picked.ensures.runtime c.of-picked.ensures.nice c.of-picked.ensures.slice;
+          known_of _ c.self.inside.tree c.args.self.now c.in-Some.first.task.now c.self.view_is c.in-Some.ensures.here
+          c.of-picked.ensures.number (to_z-of_z w64 v fits ∙ c.of-picked.ensures.runtime) c.of-picked.ensures.nice c.of-picked.ensures.slice;
     }
 
 pub returns-clause-picked : goal.returns-clause-picked
