@@ -7,7 +7,7 @@ use Rattle.std.specs.FinMap.Entries.{find, is_sorted, below_all}
 use Rattle.std.proofs.{lemmas.Bool.Decides.nat_tests}
 use Rattle.std.specs.Prelude.{ℤ, map}
 use Rattle.eevdf_queue.proofs.{ListMaps.same_number, SortedEntries.first_above, SortedEntries.sorted_parts, SortedEntries.none_found}
-use Rattle.eevdf_queue.specs.{declared.sleeper.Sleeper.Sleeper, Numbers.checked_number, Lag.sleeping_lag, Ascending.from_number, Ascending.with_lag}
+use Rattle.eevdf_queue.specs.{State.Sleeper, Numbers.checked_number, Lag.sleeping_lag, Ascending.from_number, Ascending.with_lag}
 
 module _ {X : Type 0} where
   abbrev with_found : ℕ → Option X → List (ℕ × X) → List (ℕ × X)

@@ -4,7 +4,7 @@ use Rattle.std.specs.{Prelude.is_some, Prelude.Box, Ordering.nat_cmp, Ordering.e
 use Rattle.std.specs.FinMap.{FinMap, find, empty, insert, remove, get, nat_cmp-IsAntisymmetric, get-from_entries, get-insert, get-remove, get-empty, same_map}
 use Rattle.std.proofs.lemmas.Bool.Decides.{nat_tests}
 use Rattle.eevdf_queue.proofs.ListMaps.{same_number}
-use Rattle.eevdf_queue.specs.{declared.sleeper.Sleeper.Sleeper, Lag.is_lag, Kept.AreLimited, TreeShape.Tree}
+use Rattle.eevdf_queue.specs.{State.Sleeper, Lag.is_lag, Kept.AreLimited, TreeShape.Tree}
 use Rattle.eevdf_queue.specs.Slots.{sleeper_of_node, sleeper_in_slot, sleepers_from, asleep_in, slot_at, IsSlot, AreSlots, IsWith}
 
 abbrev Slot : Type 0 → Type 0

@@ -4,7 +4,7 @@ use Rattle.std.specs.Prelude.{ℤ, IfSome, unsigned_abs}
 use Rattle.std.specs.FinMap.{get}
 use Rattle.std.proofs.lemmas.Bool.Decides.{nat_tests}
 use Rattle.eevdf_weight.specs.{Weight.weight_of, Charge.lag_limit_of}
-use Rattle.eevdf_queue.specs.{declared.entry.Entry.Entry, State.State, declared.sleeper.Sleeper.Sleeper, Kept.AreLimited}
+use Rattle.eevdf_queue.specs.{declared.entry.Entry.Entry, State.State, State.Sleeper, Kept.AreLimited}
 use Rattle.eevdf_queue.specs.Lag.{is_lag, sleeping_lag, limit_by, limit_at}
 
 within : (s : Sleeper) → is_lag s.lag s.nice s.slice ≡ true → unsigned_abs s.lag ≤ lag_limit_of s.slice (weight_of s.nice)

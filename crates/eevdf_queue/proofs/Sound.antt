@@ -6,8 +6,7 @@ use Rattle.std.proofs.lemmas.Bool.Decides.{nat_tests}
 use Rattle.eevdf_queue.proofs.ListMaps.{same_number}
 use Rattle.eevdf_weight.specs.Limits.{is_in_range}
 use Rattle.eevdf_queue.specs.{declared.entry.Entry.Entry, Sums.Tasks}
-use Rattle.eevdf_queue.specs.State.{Contents}
-use Rattle.eevdf_queue.specs.declared.sleeper.Sleeper.{Sleeper}
+use Rattle.eevdf_queue.specs.State.{Sleeper, Contents}
 use Rattle.eevdf_queue.specs.Leaving.{stopped, leaving_at, IsNowhere}
 use Rattle.eevdf_queue.specs.Kept.{RunnerIsHere, IsSound}
 

@@ -1,7 +1,7 @@
 -- Tasks gone over in ascending number.
 use Rattle.std.specs.Prelude.{ℕ, ℤ, List, [], ◌∷◌, map, nat_lt, if◌then◌else◌}
 use Rattle.std.specs.FinMap as finite
-use Rattle.eevdf_queue.specs.{declared.entry.Entry.Entry, State.State, declared.sleeper.Sleeper.Sleeper}
+use Rattle.eevdf_queue.specs.{declared.entry.Entry.Entry, State.State, State.Sleeper}
 
 -- of tasks in ascending number those from a number on
 abbrev pub from_number : {X : Type 0} → ℕ → List (ℕ × X) → List (ℕ × X)

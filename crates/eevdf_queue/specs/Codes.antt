@@ -4,8 +4,7 @@ use Rattle.std.specs.Ordering.{nat_cmp}
 use Rattle.std.specs.FinMap as map
 use Rattle.std.specs.Coded.{Coded, code_by, coded×, coded_option, coded_ℕ, coded_ℤ}
 use Rattle.eevdf_queue.specs.declared.entry.Entry.{Entry}
-use Rattle.eevdf_queue.specs.State.{State, View}
-use Rattle.eevdf_queue.specs.declared.sleeper.Sleeper.{Sleeper}
+use Rattle.eevdf_queue.specs.State.{State, Sleeper, View}
 
 -- an entry is stored as nested pairs of its fields
 abbrev pub entry_code : Coded Entry

@@ -3,7 +3,7 @@ use Rattle.std.specs.Prelude.{ℕ, Bool, nat_le, unsigned_abs, ℤ, pos, neg_ℤ
 use Rattle.std.specs.Int.{int_min, int_max}
 use Rattle.std.specs.FinMap as map
 use Rattle.eevdf_weight.specs.{Weight.weight_of, Charge.lag_limit_of}
-use Rattle.eevdf_queue.specs.{declared.entry.Entry.Entry, State.State, declared.sleeper.Sleeper.Sleeper, Sums.virtual_time}
+use Rattle.eevdf_queue.specs.{declared.entry.Entry.Entry, State.State, State.Sleeper, Sums.virtual_time}
 
 -- a number cut to plus or minus a limit
 abbrev pub cut : ℤ → ℕ → ℤ

@@ -3,8 +3,7 @@ use Rattle.std.specs.Prelude.{◌≡◌, ℕ, ℤ, ◌-ℤ◌, if◌then◌else�
 use Rattle.std.specs.Option.{option_map}
 use Rattle.std.specs.FinMap as map
 use Rattle.eevdf_queue.specs.{declared.entry.Entry.Entry, Sums.virtual_time, Candidate.is_running}
-use Rattle.eevdf_queue.specs.State.{State, Contents}
-use Rattle.eevdf_queue.specs.declared.sleeper.Sleeper.{Sleeper}
+use Rattle.eevdf_queue.specs.State.{State, Sleeper, Contents}
 use Rattle.eevdf_queue.specs.Lag.{kept_lag, cut, limit_of}
 
 -- what a runnable task takes along when it leaves with a lag: its virtual runtime is its start

@@ -3,8 +3,7 @@ use Rattle.std.specs.Prelude.{ℕ, ℤ, pos, ◌+ℤ◌, Bool, ◌&&◌, if◌th
 use Rattle.std.specs.FinMap as map
 use Rattle.eevdf_weight.specs.{Limits.is_in_range, Weight.weight_of, Charge.charge_of}
 use Rattle.eevdf_queue.specs.declared.entry.Entry.{Entry}
-use Rattle.eevdf_queue.specs.State.{State, Contents}
-use Rattle.eevdf_queue.specs.declared.sleeper.Sleeper.{Sleeper}
+use Rattle.eevdf_queue.specs.State.{State, Sleeper, Contents}
 
 -- what one request of a task is charged
 abbrev pub request_of : ℤ → ℕ → ℕ

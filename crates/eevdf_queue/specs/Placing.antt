@@ -1,7 +1,7 @@
 -- How a task with a lag joins a queue.
 use Rattle.std.specs.Prelude.{ℕ, ◌==◌, ◌*◌, ◌^◌, ◌≤◌, ℤ, unsigned_abs, Bool, is_some, if◌then◌else◌, Option}
 use Rattle.eevdf_weight.specs.{Weight.weight_of, Placement.placement_of}
-use Rattle.eevdf_queue.specs.{declared.entry.Entry.Entry, State.State, declared.sleeper.Sleeper.Sleeper}
+use Rattle.eevdf_queue.specs.{declared.entry.Entry.Entry, State.State, State.Sleeper}
 use Rattle.eevdf_queue.specs.{Sums.total_weight, Sums.virtual_time}
 use Rattle.eevdf_queue.specs.Moves.{fresh_entry, entry_in_range, with_runnable}
 

@@ -3,7 +3,7 @@ use Rattle.std.specs.Prelude.{ℕ, ℤ, pos, ◌*ℤ◌, Option, Some, None}
 use Rattle.std.specs.FinMap as map
 use Rattle.eevdf_weight.specs.{Weight.weight_of, Charge.lag_limit_of, Placement.floor_div}
 use Rattle.eevdf_queue.specs.{declared.entry.Entry.Entry, declared.answers.ReniceAnswer.ReniceAnswer, State.State}
-use Rattle.eevdf_queue.specs.{declared.sleeper.Sleeper.Sleeper, Lag.cut, Lag.kept_lag, Leaving.leave, Placing.put}
+use Rattle.eevdf_queue.specs.{State.Sleeper, Lag.cut, Lag.kept_lag, Leaving.leave, Placing.put}
 use Rattle.eevdf_queue.specs.declared.answers.ReniceAnswer.TheVariants.{Reniced, NotHere, Range}
 
 -- a lag under another nice level: the same service in the virtual time of the new weight, rounded down, and cut

@@ -2,7 +2,7 @@
 use Rattle.std.specs.Prelude.{◌≡◌, ℕ, suc, ◌<◌, ◌==◌, if◌then◌else◌, List, [], ◌∷◌, Option, Some, None, Box, slice_index_or}
 use Rattle.std.specs.Ordering.{nat_cmp}
 use Rattle.std.specs.FinMap as map
-use Rattle.eevdf_queue.specs.{declared.task.Task.Task, declared.sleeper.Sleeper.Sleeper, TreeShape.Tree}
+use Rattle.eevdf_queue.specs.{declared.task.Task.Task, State.Sleeper, TreeShape.Tree}
 use Rattle.eevdf_queue.specs.{TaskLists.first_task, TaskLists.sleeper_in, TaskLists.IsLone, Numbers.number_limit}
 
 -- what is kept of the task of a lone node

@@ -2,7 +2,9 @@
 use Rattle.std.specs.Prelude.{ℕ, ℤ, pos, Option, None}
 use Rattle.std.specs.Ordering.{nat_cmp}
 use Rattle.std.specs.FinMap as map
-use Rattle.eevdf_queue.specs.{declared.entry.Entry.Entry, declared.sleeper.Sleeper.Sleeper}
+use Rattle.eevdf_queue.specs.declared.entry.Entry.{Entry}
+-- what is kept of a sleeping task: its lag, its nice level and its slice
+pub use Rattle.eevdf_queue.specs.declared.sleeper.Sleeper.{Sleeper}
 
 -- the runnable tasks and the sleeping ones by their numbers, who runs, and the virtual time that stands
 -- while nothing is runnable

@@ -2,7 +2,7 @@
 use Rattle.std.specs.Prelude.{◌≡◌, ℕ, ◌<◌, ◌==◌, Bool, true, pos, List, [], ◌∷◌, if◌then◌else◌, Option, Some, None}
 use Rattle.std.specs.Ordering.{nat_cmp}
 use Rattle.std.specs.FinMap as map
-use Rattle.eevdf_queue.specs.{declared.entry.Entry.Entry, declared.task.Task.Task, declared.sleeper.Sleeper.Sleeper, State.Contents}
+use Rattle.eevdf_queue.specs.{declared.entry.Entry.Entry, declared.task.Task.Task, State.Sleeper, State.Contents}
 use Rattle.eevdf_queue.specs.{Moves.is_entry_in_range, Lag.is_lag, Numbers.number_limit}
 
 -- the first task; in an empty list, which no node has, the task 0 with zeros

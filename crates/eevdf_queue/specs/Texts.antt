@@ -1,7 +1,7 @@
 -- The texts of entries and answers.
 use Rattle.std.specs.Prelude.{ℕ, Bool, true, false, List, [], ◌++◌, codes, decimal}
 use Rattle.std.specs.Fmt.{signed_decimal}
-use Rattle.eevdf_queue.specs.{declared.entry.Entry.Entry, declared.answers.TickAnswer.TickAnswer}
+use Rattle.eevdf_queue.specs.{declared.entry.Entry.Entry, declared.sleeper.Sleeper.Sleeper, declared.answers.TickAnswer.TickAnswer}
 use Rattle.eevdf_queue.specs.{declared.answers.YieldAnswer.YieldAnswer, declared.answers.WakeAnswer.WakeAnswer}
 use Rattle.eevdf_queue.specs.{declared.answers.ReniceAnswer.ReniceAnswer, declared.refusal.Refusal.Refusal}
 use Rattle.eevdf_queue.specs.declared.answers.TickAnswer.TheVariants as tick
@@ -15,6 +15,10 @@ abbrev pub entry_text : Entry → List ℕ
 entry_text e =
     codes "v " ++ signed_decimal e.v ++ codes " d " ++ signed_decimal e.d ++ codes " nice " ++ signed_decimal e.nice
     ++ codes " slice " ++ decimal e.slice
+
+-- a sleeping task's kept lag, nice level and slice
+abbrev pub sleeper_text : Sleeper → List ℕ
+sleeper_text s = codes "lag " ++ signed_decimal s.lag ++ codes " nice " ++ signed_decimal s.nice ++ codes " slice " ++ decimal s.slice
 
 abbrev pub resched_text : Bool → List ℕ
 resched_text true = codes " resched"

@@ -1,7 +1,7 @@
 -- A wake: a task that sleeps here becomes runnable with the lag that it kept.
 use Rattle.std.specs.Prelude.{ℕ, Option, Some, None}
 use Rattle.std.specs.FinMap as map
-use Rattle.eevdf_queue.specs.{declared.answers.WakeAnswer.WakeAnswer, State.State, declared.sleeper.Sleeper.Sleeper}
+use Rattle.eevdf_queue.specs.{declared.answers.WakeAnswer.WakeAnswer, State.State, State.Sleeper}
 use Rattle.eevdf_queue.specs.Placing.{put}
 use Rattle.eevdf_queue.specs.declared.answers.WakeAnswer.TheVariants.{Woken, Awake, Range}
 

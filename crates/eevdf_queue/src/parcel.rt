@@ -9,6 +9,7 @@ use crate::task_id::TaskId;
 use crate::tree_node::TreeNode;
 use eevdf_weight::{Nice, Slice};
 use std::alloc::{AllocError, Global};
+use std::fmt;
 use std::marker::Model;
 
 /// One task on its way into a queue, with the node that carries it there: its number, its nice level and
@@ -31,6 +32,20 @@ impl Model for Parcel {
     ghost view = { λ a. contents_of (first_task a.node.value.tasks) };
 
     ghost invariant = { λ a. IsLone a.node.value.tasks };
+}
+
+impl fmt::Debug for Parcel {
+    fn fmt<W: fmt::Write>(&self, f: &mut fmt::Formatter<W>) -> fmt::Result {
+        write!(
+            f,
+            "Parcel {{ task: {}, nice: {}, slice: {}, start: {}, lag: {} }}",
+            self.task(),
+            self.nice(),
+            self.slice(),
+            self.start(),
+            self.lag()
+        )
+    }
 }
 
 impl Parcel {

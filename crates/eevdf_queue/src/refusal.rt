@@ -14,6 +14,7 @@ pub enum Refusal {
 }
 
 /// A parcel that a queue didn't take, with the reason. The queue is as it was.
+#[derive(Debug)]
 pub struct Refused {
     pub parcel: Parcel,
     pub reason: Refusal,
@@ -47,3 +48,15 @@ impl fmt::Display for Refusal {
 }
 
 impl Error for Refusal {}
+
+/// The text of the reason. It is no `Error`, which asks for a value that may be dropped.
+impl fmt::Display for Refused {
+    ghost use Rattle.std.specs.Prelude.{Some};
+    ghost use Rattle.eevdf_queue.specs.Texts.{refusal_text};
+
+    ghost output = { λ refused. Some (refusal_text refused.reason) };
+
+    fn fmt<W: fmt::Write>(&self, f: &mut fmt::Formatter<W>) -> fmt::Result {
+        fmt::Display::fmt(&self.reason, f)
+    }
+}

@@ -21,7 +21,7 @@ pub struct Sleepers {
 impl Model for Sleepers {
     ghost use Rattle.std.specs.{Ordering.nat_cmp, Coded.coded_ℕ};
     ghost use Rattle.std.specs.FinMap as map;
-    ghost use Rattle.eevdf_queue.specs.{declared.sleeper.Sleeper.Sleeper, Codes.sleeper_code};
+    ghost use Rattle.eevdf_queue.specs.{State.Sleeper, Codes.sleeper_code};
 
     ghost Value = { map.FinMap nat_cmp Sleeper };
 

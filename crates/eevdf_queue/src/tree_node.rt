@@ -9,6 +9,7 @@ ghost use Rattle.eevdf_queue.specs.TreeTasks.{AreOrdered, IsAtDeadline, first_th
 ghost use Rattle.eevdf_queue.specs.TreeShape.{tasks_in, height_in, depths_in, DifferByAtMost, IsFull, IsAlone};
 
 mod node_parts;
+mod rotation;
 mod tree_age;
 mod tree_edit;
 
@@ -19,7 +20,6 @@ use crate::task_id::TaskId;
 use crate::tree_eligible::{Threshold, is_least_eligible, is_task_eligible};
 use crate::tree_key::Key;
 use crate::tree_least::Least;
-use node_parts::part_from;
 use std::marker::Model;
 pub use tree_age::{Runtimes, age};
 pub use tree_edit::{change, insert, remove};
@@ -166,40 +166,6 @@ impl TreeNode {
         let own = self.task();
         self.replace(*task);
         *task = own;
-    }
-
-    /// Gives two sides to a node that is alone.
-    #[inline(always)]
-    pub fn hold(&mut self, left: Option<Box<TreeNode>>, right: Option<Box<TreeNode>>)
-        requires alone { IsAlone self.old }
-        requires balanced { DifferByAtMost 1 (height_in left) (height_in right) }
-        requires few { length (tasks_in left) + length (tasks_in right) ≤ 2 ^ 20 }
-        ensures tasks { self.new.tasks ≡ tasks_in left ++ first_task self.old.tasks ∷ tasks_in right }
-        ensures height { self.new.height ≡ suc (max (height_in left) (height_in right)) }
-        ensures length { length self.new.tasks ≡ suc (length (tasks_in left) + length (tasks_in right)) }
-    {
-        self.height = height(&left).max(height(&right)) + 1;
-        self.least = least_around(&left, &self.task, &right);
-        self.left = left;
-        self.right = right;
-    }
-
-    /// Parts this node from its sides.
-    #[inline(always)]
-    pub fn part(&mut self) -> Sides
-        ensures alone { IsAlone self.new }
-        ensures tasks { self.old.tasks ≡ tasks_in result.left ++ first_task self.new.tasks ∷ tasks_in result.right }
-        ensures height { self.old.height ≡ suc (max (height_in result.left) (height_in result.right)) }
-        ensures balanced { DifferByAtMost 1 (height_in result.left) (height_in result.right) }
-        ensures length { length self.old.tasks ≡ suc (length (tasks_in result.left) + length (tasks_in result.right)) }
-    {
-        part_from(
-            &mut self.height,
-            &mut self.least,
-            &mut self.left,
-            &self.task,
-            &mut self.right,
-        )
     }
 }
 

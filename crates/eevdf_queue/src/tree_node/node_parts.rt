@@ -6,9 +6,9 @@ ghost use Rattle.eevdf_queue.specs.{TreeChanges.keeps_height, TreeChanges.keeps_
 ghost use Rattle.eevdf_queue.specs.TreeNodes.{IsNode};
 ghost use Rattle.eevdf_queue.specs.TreeShape.{tasks_in, height_in, DifferByAtMost, IsFull, IsHeightOfBalanced};
 
+use super::rotation::even_out;
 use super::{Sides, TreeNode, height, least_around};
 use crate::task::Task;
-use crate::tree_balance::even_out;
 use crate::tree_change::TreeChange;
 use crate::tree_least::Least;
 
@@ -157,6 +157,26 @@ fn raise_uneven(
 {
     even_out(left, task, right);
     look_around(left, task, right).renew_height(node_height)
+}
+
+/// Makes what is kept of a node right, whose sides are of nearly one height.
+#[inline(always)]
+pub fn renew(
+    node_height: &mut u32,
+    node_least: &mut Least,
+    left: &Option<Box<TreeNode>>,
+    task: &Task,
+    right: &Option<Box<TreeNode>>,
+)
+    requires balanced { DifferByAtMost 1 (height_in left.now) (height_in right.now) }
+    requires low { max (height_in left.now) (height_in right.now) ≤ 2 ^ 20 }
+    ensures node { IsNode
+        (record { task = task.now; height = node_height.new; least = node_least.new; left = left.now; right = right.now }) }
+    ensures height { node_height.new ≡ suc (max (height_in left.now) (height_in right.now)) }
+{
+    let around = look_around(left, task, right);
+    around.renew_height(node_height);
+    around.renew_least(node_least);
 }
 
 /// What stands on the two sides of a task: their heights, and the least virtual runtime with the task's own.

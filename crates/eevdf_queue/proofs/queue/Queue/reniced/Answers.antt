@@ -3,8 +3,7 @@ use Rattle.std.specs.{Prelude.ℤ, FinMap.get}
 use Rattle.std.proofs.lemmas.Int.{to_z-of_z}
 use mir.Syntax.{w64}
 use mir.Val.{SFits}
-use Rattle.eevdf_queue.specs.State.{State, View}
-use Rattle.eevdf_queue.specs.declared.sleeper.Sleeper.{Sleeper}
+use Rattle.eevdf_queue.specs.State.{State, Sleeper, View}
 use Rattle.eevdf_queue.specs.{Moves.entry_in_range, Moves.fresh_entry, Leaving.leave}
 use Rattle.eevdf_queue.specs.Placing.{placed_entry, runtime_of}
 use Rattle.eevdf_queue.proofs.Renicing.{placed_again}
