@@ -1,10 +1,10 @@
 -- A task that joins again the queue that it has left.
-use Rattle.std.proofs.Common.{◌≡◌, ℕ, Bool, true, false, cond, Option, Some, refl, sym, ap, ◌∙◌, arith}
-use Rattle.std.specs.Prelude.{ℤ, ◌==◌, is_some}
+use Rattle.std.proofs.Common.{◌≡◌, ℕ, true, Option, Some, sym, ap, ◌∙◌, arith}
+use Rattle.std.specs.Prelude.{ℤ, is_some}
 use Rattle.std.specs.{Cmp.nat_cmp_total}
 use Rattle.std.specs.FinMap.{insert, remove, get, get-insert, get-remove, same_map, nat_cmp-IsAntisymmetric}
 use Rattle.std.proofs.lemmas.Bool.Decides.{nat_tests}
-use Rattle.eevdf_weight.specs.{Limits.is_in_range, Weight.weight_of, Placement.floor_div, Placement.placement_of}
+use Rattle.eevdf_weight.specs.{Limits.is_in_range}
 use Rattle.eevdf_queue.specs.{declared.entry.Entry.Entry, State.State, State.Sleeper, Leaving.leave, Leaving.without_entry}
 use Rattle.eevdf_queue.specs.{Placing.runtime_of, Placing.placed_entry, Kept.IsSound}
 use Rattle.eevdf_queue.specs.Sums.{Tasks, time_over, total_weight, total_moment}

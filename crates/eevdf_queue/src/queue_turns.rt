@@ -70,7 +70,8 @@ impl Queue {
         if !is_deadline_in_range(&charged.entry) {
             return TickAnswer::Range;
         }
-        self.runnable.set(runner.task, &runner.entry, charged.entry);
+        self.runnable
+            .renew(runner.task, &runner.entry, charged.entry);
         TickAnswer::Charged {
             task: runner.task,
             resched: true,
@@ -91,7 +92,7 @@ impl Queue {
         if !is_deadline_in_range(&yielded) {
             return YieldAnswer::Range;
         }
-        self.runnable.set(runner.task, &runner.entry, yielded);
+        self.runnable.renew(runner.task, &runner.entry, yielded);
         YieldAnswer::Yielded
     }
 

@@ -1,10 +1,11 @@
-ghost use Rattle.std.specs.Prelude.{◌≡◌, ℕ, ◌==◌, ◌<◌, if◌then◌else◌, ◌*◌, ◌≤◌, ◌^◌, ◌-ℤ◌, ◌≤ℤ◌, None, Some, true, unsigned_abs, length, IfSome, IsNone, ◌↔◌};
-ghost use Rattle.std.specs.Option.{option_map};
+ghost use Rattle.std.specs.Prelude.{◌≡◌, ℕ, ◌==◌, ◌<◌, if◌then◌else◌, ◌*◌, ◌≤◌, ◌^◌, ◌-ℤ◌, ◌≤ℤ◌, None, Some, true, unsigned_abs, length, is_some, IfSome, IsNone, ◌↔◌};
+ghost use Rattle.std.specs.{Option.option_map, List.AllByRecursion};
 ghost use Rattle.std.specs.FinMap as map;
 ghost use Rattle.eevdf_weight.specs.Limits as limits;
 ghost use Rattle.eevdf_queue.specs.{Sums.total_weight, Sums.total_moment, Order.earliest, Candidate.candidate_of};
 ghost use Rattle.eevdf_queue.specs.{Numbers.number_limit, Moves.is_entry_in_range, Kept.AreInRange, Laws.AreSumsSmall, TreeShape.IsAlone};
-ghost use Rattle.eevdf_queue.specs.{TreeShape.IsFull, Lag.is_lag, TreeTasks.insert_task, TreeStores.deadline_at};
+ghost use Rattle.eevdf_queue.specs.{TreeShape.IsFull, Lag.is_lag, TreeTasks.insert_task, TreeTasks.without};
+ghost use Rattle.eevdf_queue.specs.TreeStores.{deadline_at, IsNoted};
 ghost use Rattle.eevdf_queue.specs.Leaving.{leaving_at};
 ghost use Rattle.eevdf_queue.specs.Pick.{IsPick, is_eligible_at, pick_of};
 ghost use Rattle.eevdf_queue.specs.TaskLists.{first_task, find_task, contents_of};
@@ -114,7 +115,7 @@ impl RunnableTasks {
         }
     }
 
-    /// Gives a task that is here with an older entry another one. Where the deadline stays, the task keeps its place.
+    /// Gives a task that is here with an older entry another one.
     #[inline(always)]
     pub fn set(&mut self, task: TaskId, older: &Entry, entry: Entry)
         requires here { map.get self.old task ≡ Some older.now }
@@ -123,13 +124,23 @@ impl RunnableTasks {
     {
         self.picked.known = false;
         self.totals = exchanged(&self.totals, older, &entry);
-        let key = self.deadlines.key(task);
-        if key.is_at(&entry) {
-            self.tree.change(&key, older, &entry);
-            return;
-        }
-        let node = self.tree.remove(&key);
+        let node = take(&mut self.tree, &self.deadlines, task);
         put(&mut self.tree, &mut self.deadlines, node, entry);
+    }
+
+    /// Gives a task that is here with an older entry one of another request, and of a later virtual runtime or the same.
+    #[inline(always)]
+    pub fn renew(&mut self, task: TaskId, older: &Entry, newer: Entry)
+        requires here { map.get self.old task ≡ Some older.now }
+        requires in_range { is_entry_in_range newer ≡ true }
+        requires same { record older.now { v = newer.v; d = newer.d } ≡ newer }
+        requires near { unsigned_abs (newer.v -ℤ older.now.v) ≤ 2 ^ 40 }
+        ensures { self.new ≡ map.insert self.old task newer }
+    {
+        self.picked.known = false;
+        self.totals = aged(&self.totals, older, &newer);
+        let node = take(&mut self.tree, &self.deadlines, task);
+        put(&mut self.tree, &mut self.deadlines, node, newer);
     }
 
     /// Gives a task that is here with an older entry one of a later virtual runtime. The task keeps its place.
@@ -172,8 +183,7 @@ impl RunnableTasks {
     {
         self.keeps();
         self.picked.known = false;
-        let key = self.deadlines.key(task);
-        let node = self.tree.remove(&key);
+        let node = take(&mut self.tree, &self.deadlines, task);
         let entry = node.task().entry;
         self.totals = without_share(&self.totals, &share(&entry));
         leave(node, kept_lag(time, &entry))
@@ -246,6 +256,18 @@ impl RunnableTasks {
         self.keeps();
         let _totals = self.totals();
     }
+}
+
+/// Takes the task of a number, which is here, out of the tree, in its node.
+#[inline(always)]
+fn take(tree: &mut TaskTree, deadlines: &DeadlineTable, task: TaskId) -> Box<TreeNode>
+    requires here { is_some (find_task task tree.old) ≡ true }
+    requires noted { AllByRecursion (IsNoted deadlines.now) tree.old }
+    ensures alone { IsAlone result.value }
+    ensures task { find_task task tree.old ≡ Some (first_task result.value.tasks) }
+    ensures rest { tree.new ≡ without task tree.old }
+{
+    tree.remove(&deadlines.key(task))
 }
 
 /// Puts the task of a lone node into the tree with another entry, and notes its deadline.

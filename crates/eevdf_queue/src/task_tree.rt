@@ -11,10 +11,8 @@ use crate::task::Task;
 use crate::task_id::TaskId;
 use crate::tree_eligible::Threshold;
 use crate::tree_key::Key;
-use crate::tree_least::Least;
 use crate::tree_node::{
-    Found, Runtimes, TreeNode, age, change, find, first_eligible, insert, last_task, last_waiting,
-    remove,
+    Found, Runtimes, TreeNode, age, find, first_eligible, insert, last_task, last_waiting, remove,
 };
 use std::marker::Model;
 
@@ -72,16 +70,6 @@ impl TaskTree {
     {
         insert(&mut self.root, node);
         self.count += 1;
-    }
-
-    /// Gives the task of a key, which is here with an older entry, another one of the same deadline.
-    pub fn change(&mut self, key: &Key, older: &Entry, entry: &Entry)
-        requires here { option_map (λ t. t.entry) (find_task key.now.number self.old) ≡ Some older.now }
-        requires placed { IsAtDeadline key.now.deadline (find_task key.now.number self.old) }
-        requires stays { key.now.deadline ≡ entry.now.d }
-        ensures { self.new ≡ set_entry key.now.number entry.now self.old }
-    {
-        change(&mut self.root, key, Least::of_entries(older, entry), entry);
     }
 
     /// Gives the task of a key, which is here with an older entry, one of another virtual runtime, which isn't less than

@@ -1,4 +1,4 @@
-ghost use Rattle.std.specs.Prelude.{◌≡◌, ◌↔◌, IsTrue};
+ghost use Rattle.std.specs.Prelude.{◌≡◌};
 ghost use Rattle.eevdf_queue.specs.TreeKeys as keys;
 ghost use Rattle.eevdf_queue.specs.TreeTasks as ordering;
 
@@ -48,13 +48,6 @@ impl Key {
     {
         task.entry.d < self.deadline
             || task.entry.d == self.deadline && task.number.get() < self.number.get()
-    }
-
-    /// Whether an entry has the key's deadline.
-    pub fn is_at(&self, entry: &Entry) -> bool
-        ensures { IsTrue result ↔ (self.now.deadline ≡ entry.now.d) }
-    {
-        self.deadline == entry.d
     }
 }
 

@@ -1,7 +1,6 @@
 ghost use Rattle.std.specs.Prelude.{◌≡◌, [], ◌∷◌, pos, ◌≤ℤ◌, ◌<ℤ◌, true};
 ghost use Rattle.eevdf_queue.specs.TreeLeast.{least_of, lesser, AreLow};
 
-use crate::entry::Entry;
 use crate::task::Task;
 
 /// The least virtual runtime of some tasks.
@@ -26,16 +25,6 @@ impl Least {
         is_bounded(task);
         Least {
             runtime: task.entry.v,
-        }
-    }
-
-    /// The lesser virtual runtime of two entries.
-    pub fn of_entries(entry: &Entry, other: &Entry) -> Least
-        ensures one { result.runtime ≤ℤ entry.now.v }
-        ensures other { result.runtime ≤ℤ other.now.v }
-    {
-        Least {
-            runtime: entry.v.min(other.v),
         }
     }
 

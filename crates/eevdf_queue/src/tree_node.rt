@@ -22,7 +22,7 @@ use crate::tree_key::Key;
 use crate::tree_least::Least;
 use std::marker::Model;
 pub use tree_age::{Runtimes, age};
-pub use tree_edit::{change, insert, remove};
+pub use tree_edit::{insert, remove};
 
 /// A task, and the nodes on either side of it.
 #[derive(Drop)]

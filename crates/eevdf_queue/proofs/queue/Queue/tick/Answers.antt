@@ -10,4 +10,4 @@ invariant_of-self c =
 
 pub invariant_of-self-2 : goal.invariant_of-self-2
 invariant_of-self-2 c =
-    sound_change _ _ _ _ _ _ _ c.set.ensures (ap (λ (v : View). contains_key v.state.runnable c.in-Some.runner.task) c.self.view_is ∙ ap is_some c.in-Some.ensures.entry) c.self.invariant
+    sound_change _ _ _ _ _ _ _ c.renew.ensures (ap (λ (v : View). contains_key v.state.runnable c.in-Some.runner.task) c.self.view_is ∙ ap is_some c.in-Some.ensures.entry) c.self.invariant

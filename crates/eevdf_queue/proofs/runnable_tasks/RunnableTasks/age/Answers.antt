@@ -1,35 +1,31 @@
-use Rattle.std.proofs.Common.{◌≡◌, ◌∙◌, ◌+◌, ℕ, false, true, List, Some, refl, ap, sym, subst}
-use Rattle.std.specs.{Prelude.ℤ, Prelude.pos, Prelude.◌+ℤ◌, Prelude.◌*ℤ◌, Prelude.is_some, Option.option_map, Ordering.nat_cmp, FinMap.FinMap, FinMap.get}
+use Rattle.std.proofs.Common.{◌≡◌, ◌∙◌, ◌+◌, ℕ, false, true, refl, ap, sym, subst}
+use Rattle.std.specs.{Prelude.ℤ, Prelude.pos, Prelude.◌+ℤ◌, Prelude.◌*ℤ◌, Prelude.is_some, Option.option_map}
 use Rattle.eevdf_weight.specs.Weight.{weight_of}
 use Rattle.eevdf_queue.specs.{declared.entry.Entry.Entry, declared.task.Task.Task, declared.tree_key.Key.Key, TreeTasks.IsAtDeadline}
-use Rattle.eevdf_queue.specs.TaskLists.{find_task, set_entry, runnable_in}
-use Rattle.eevdf_queue.proofs.{RunnableMaps.get-runnable_in, TreeAge.at_deadline, TreeChange.stored-set, TreeChange.set_seen, PickedTasks.sums_kept}
+use Rattle.eevdf_queue.specs.TaskLists.{find_task, set_entry}
+use Rattle.eevdf_queue.proofs.{TreeMaps.entry_here, TreeAge.at_deadline, TreeChange.stored-set, TreeChange.set_seen, PickedTasks.sums_kept}
 use Rattle.eevdf_queue.proofs.TreeTotals.{totals-set, totals_near, entry_found}
 use Rattle.eevdf_queue.proofs.runnable_tasks.RunnableTasks.age.Goals as goal
 use Rattle.eevdf_queue.proofs.runnable_tasks.RunnableTasks.age.Goals.{After-age}
-
--- the task in the list of the tree
-here : (q : ℕ) (e : Entry) (ts : List Task) (m : FinMap nat_cmp Entry) → runnable_in ts ≡ m → get m q ≡ Some e → option_map (λ (t : Task). t.entry) (find_task q ts) ≡ Some e
-here q e ts m v h = sym (get-runnable_in ts q) ∙ ap (λ (z : FinMap nat_cmp Entry). get z q) v ∙ h
 
 pub aged-self-inside-requires-clause-small : goal.aged-self-inside-requires-clause-small
 aged-self-inside-requires-clause-small c = totals_near c.self.inside.deadlines c.self.inside.totals c.self.inside.tree (sums_kept _ _ _ _ c.self.invariant)
 
 pub age-requires-clause-here : goal.age-requires-clause-here
 age-requires-clause-here c =
-    ap (λ (k : Key). option_map (λ (t : Task). t.entry) (find_task k.number c.self.inside.tree)) c.of-key.ensures ∙ here c.args.task c.args.older.now c.self.inside.tree c.args.self.now c.self.view_is c.requires.here
+    ap (λ (k : Key). option_map (λ (t : Task). t.entry) (find_task k.number c.self.inside.tree)) c.of-key.ensures ∙ entry_here c.args.task c.args.older.now c.self.inside.tree c.args.self.now c.self.view_is c.requires.here
 
 pub age-requires-clause-placed : goal.age-requires-clause-placed
 age-requires-clause-placed c =
     subst (λ (k : Key). IsAtDeadline k.deadline (find_task k.number c.self.inside.tree)) (sym c.of-key.ensures)
-    (at_deadline c.args.older.now c.args.older.now.d (find_task c.args.task c.self.inside.tree) (here c.args.task c.args.older.now c.self.inside.tree c.args.self.now c.self.view_is c.requires.here) refl)
+    (at_deadline c.args.older.now c.args.older.now.d (find_task c.args.task c.self.inside.tree) (entry_here c.args.task c.args.older.now c.self.inside.tree c.args.self.now c.self.view_is c.requires.here) refl)
 
 changed : (c : After-age) → c.age.new.self ≡ set_entry c.args.task c.args.newer.now c.self.inside.tree
 changed c = c.age.ensures ∙ ap (λ (k : Key). set_entry k.number c.args.newer.now c.self.inside.tree) c.of-key.ensures
 
 pub invariant_of-self : goal.invariant_of-self
 invariant_of-self c =
-    let h = here c.args.task c.args.older.now c.self.inside.tree c.args.self.now c.self.view_is c.requires.here in
+    let h = entry_here c.args.task c.args.older.now c.self.inside.tree c.args.self.now c.self.view_is c.requires.here in
     let i = changed (goal.at.invariant_of-self c).After-age in
     let g = entry_found (find_task c.args.task c.self.inside.tree) c.args.older.now h in
     let d : c.args.older.now.d ≡ c.args.newer.now.d = ap (λ (z : Entry). z.d) c.requires.same in
