@@ -7,7 +7,7 @@ use Rattle.eevdf_weight.specs.Limits.{is_in_range}
 use Rattle.eevdf_queue.specs.{declared.entry.Entry.Entry, Placing.placed_entry, Leaving.without_entry}
 use Rattle.eevdf_queue.specs.declared.answers.TickAnswer.TheVariants as tick_answer
 use Rattle.eevdf_queue.specs.declared.answers.YieldAnswer.TheVariants as yield_answer
-use Rattle.eevdf_queue.specs.State.{State, Sleeper, Contents}
+use Rattle.eevdf_queue.specs.{declared.sleeper.Sleeper.Sleeper, State.State, State.Contents}
 use Rattle.eevdf_queue.specs.Moves.{is_entry_in_range, put_asleep, sleeper_of, with_runnable}
 use Rattle.eevdf_queue.specs.Tick.{tick, tick_running, tick_entry, tick_to, charged, is_used_up}
 use Rattle.eevdf_queue.specs.Pick.{after_pick, picked_by, pick_of}
@@ -85,7 +85,7 @@ alone true true h e = absurd (omega arith)
 alone true false h e = absurd (false≢true e)
 alone false c h e = refl
 
-wake_to-same : (q : State) (t : ℕ) (o : Option Entry) → contains_key q.runnable t ≡ false → contains_key q.asleep t ≡ true → IsSame q (wake_to q t o).1
+wake_to-same : (q : State) (t : ℕ) (o : Option Entry) → contains_key q.runnable t ≡ false → contains_key q.asleep t ≡ true → IsSame q (wake_to q t (with_runnable q t o)).1
 wake_to-same q t None absent present = itself q
 wake_to-same q t (Some e) absent present = record {
   places = λ u. omega (arith, count-insert q.runnable t u e absent, count-remove q.asleep t u present);

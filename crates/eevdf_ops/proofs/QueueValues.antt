@@ -8,7 +8,8 @@ use Rattle.eevdf_weight.specs.Limits.{is_in_range}
 use Rattle.eevdf_queue.specs.{declared.entry.Entry.Entry, Lag.kept_lag, Candidate.is_running, Candidate.candidate_of}
 use Rattle.eevdf_queue.specs.declared.answers.TickAnswer.TheVariants as tick_answer
 use Rattle.eevdf_queue.specs.declared.answers.YieldAnswer.TheVariants as yield_answer
-use Rattle.eevdf_queue.specs.State.{State, Sleeper, Contents, empty_state}
+use Rattle.eevdf_queue.specs.State.{State, Contents, empty_state}
+use Rattle.eevdf_queue.specs.declared.sleeper.Sleeper.{Sleeper}
 use Rattle.eevdf_queue.specs.Moves.{fresh_entry, is_entry_in_range, put_asleep, sleeper_of, with_runnable}
 use Rattle.eevdf_queue.specs.Tick.{aged, tick, tick_running, tick_entry, tick_to, charged, is_used_up}
 use Rattle.eevdf_queue.specs.Pick.{after_pick, picked_by, pick_of}
@@ -104,7 +105,7 @@ module _ (P : ℕ → ℤ → ℕ → Type 0) where
       let fresh : Entry = fresh_entry (placement q s) s.nice s.slice in
       subst (λ (f : Entry). P t f.nice f.slice) (in_range_only fresh e (is_entry_in_range fresh) h) p
 
-  wake_to-each : (q : State) (t : ℕ) (o : Option Entry) → Each P q → ((e : Entry) → o ≡ Some e → P t e.nice e.slice) → Each P (wake_to q t o).1
+  wake_to-each : (q : State) (t : ℕ) (o : Option Entry) → Each P q → ((e : Entry) → o ≡ Some e → P t e.nice e.slice) → Each P (wake_to q t (with_runnable q t o)).1
   wake_to-each q t None each p = each
   wake_to-each q t (Some e) each p = record {
     runnable = each-insert (λ (k : ℕ) (f : Entry). P k f.nice f.slice) q.runnable t e each.runnable (p e refl);

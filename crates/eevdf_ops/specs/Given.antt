@@ -1,7 +1,7 @@
 -- What the setup gives its tasks, and that it still stands on the machine.
 use Rattle.std.specs.Prelude.{◌≡◌, ℕ, ◌==◌, ℤ, Bool, false, ◌||◌, List, [], ◌∷◌, slice_get, Some}
 use Rattle.std.specs.FinMap as map
-use Rattle.eevdf_queue.specs.{declared.entry.Entry.Entry, State.State, State.Sleeper}
+use Rattle.eevdf_queue.specs.{declared.entry.Entry.Entry, declared.sleeper.Sleeper.Sleeper, State.State}
 use Rattle.eevdf_ops.specs.{declared.task_spec.TaskSpec.TaskSpec, declared.deeds.Deed.Deed, Setup.Setup, Setup.homes_of}
 use Rattle.eevdf_ops.specs.{Machine.queue_at, Machine.start, Whole.machine_after}
 use Rattle.eevdf_ops.specs.declared.deeds.Deed.TheVariants.{Tick, Pick, Yield, Sleep, Wake, Pull, Renice}

@@ -2,7 +2,7 @@
 use Rattle.std.specs.Prelude.{ℕ, ℤ, Bool, true, false, List, [], ◌++◌, codes, decimal}
 use Rattle.std.specs.{Fmt.signed_decimal, List.flat_map}
 use Rattle.std.specs.FinMap as finite
-use Rattle.eevdf_queue.specs.{declared.entry.Entry.Entry, State.State, State.Sleeper, Sums.total_weight, Sums.virtual_time}
+use Rattle.eevdf_queue.specs.{declared.entry.Entry.Entry, declared.sleeper.Sleeper.Sleeper, State.State, Sums.total_weight, Sums.virtual_time}
 use Rattle.eevdf_queue.specs.{Lag.kept_lag, Candidate.is_running}
 use Rattle.eevdf_report.specs.Text.{as_line, task_text}
 

@@ -3,7 +3,7 @@ use Rattle.std.proofs.Common.{◌≡◌, ℕ, Bool, true, false, cond, ◌||◌,
 use Rattle.std.specs.Prelude.{Option, Some, None, Result, Ok, Err}
 use Rattle.std.specs.{Option.unwrap_or, FinMap.contains_key}
 use Rattle.eevdf_queue.specs.{declared.entry.Entry.Entry, Wake.wake_sleeper, Wake.wake_to, Moves.put_asleep, Moves.with_runnable}
-use Rattle.eevdf_queue.specs.State.{State, Contents, Sleeper}
+use Rattle.eevdf_queue.specs.{declared.sleeper.Sleeper.Sleeper, Placing.placed_entry, State.State, State.Contents}
 use Rattle.eevdf_queue.specs.Leaving.{carried_running, leave, without_entry}
 use Rattle.eevdf_ops.specs.{declared.deeds.Answer.Answer, declared.deeds.Deed.Deed, declared.deeds.Line.Line}
 use Rattle.eevdf_ops.specs.{Histories.machine_told, Machine.Machine, Machine.queue_at, Programs.deeds_of, Setup.home_of}
@@ -29,11 +29,12 @@ IsNoMore q r = (task : ℕ) → contains_key r.asleep task ≡ true → contains
 still : (homes : List ℕ) (cpu : ℕ) (q r : State) → IsNoMore q r → SleepsAtHome homes cpu q → SleepsAtHome homes cpu r
 still homes cpu q r less at_home task a = at_home task (less task a)
 
-wake_to_less : (q : State) (t : ℕ) (o : Option Entry) → IsNoMore q (wake_to q t o).1
+wake_to_less : (q : State) (t : ℕ) (o : Option Entry) → IsNoMore q (wake_to q t (with_runnable q t o)).1
 wake_to_less q t o = grind (arith, contains-removed)
 
 wake_sleeper_less : (q : State) (t : ℕ) (o : Option Sleeper) → IsNoMore q (wake_sleeper q t o).1
-wake_sleeper_less q t o = grind (arith, wake_to_less)
+wake_sleeper_less q t None = λ task is. is
+wake_sleeper_less q t (Some s) = wake_to_less q t (placed_entry q s)
 
 leave_less : (q : State) (t : ℕ) (o : Option Entry) → IsNoMore q (without_entry q t o)
 leave_less q t o = grind arith

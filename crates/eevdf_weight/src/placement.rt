@@ -106,7 +106,7 @@ fn placed_widely(v0: i64, total: u64, lag: i64, w: u64) -> Option<i64>
 fn in_range(time: i128) -> Option<i64>
     ensures { result ≡ within_range time }
 {
-    if time.unsigned_abs() <= 1 << 60 {
+    if time.unsigned_abs() <= u128::from(BOUND.unsigned_abs()) {
         Some(time as i64)
     } else {
         None

@@ -6,8 +6,8 @@ use Rattle.std.specs.Ordering.{nat_cmp, eq_by_cmp}
 use Rattle.std.specs.Cmp.{nat_cmp_total}
 use Rattle.std.specs.FinMap.{insert, get, get-empty, get-insert, get-remove}
 use Rattle.std.proofs.lemmas.Bool.Decides.{nat_tests}
-use Rattle.eevdf_queue.specs.declared.entry.Entry.{Entry}
-use Rattle.eevdf_queue.specs.State.{State, Sleeper, Contents, empty_state}
+use Rattle.eevdf_queue.specs.{declared.entry.Entry.Entry, declared.sleeper.Sleeper.Sleeper}
+use Rattle.eevdf_queue.specs.State.{State, Contents, empty_state}
 use Rattle.eevdf_queue.specs.Moves.{with_runnable, put_asleep, sleeper_of}
 use Rattle.eevdf_queue.specs.Placing.{put, placed_entry}
 use Rattle.eevdf_queue.specs.Leaving.{leave, without_entry, carried, leaving, IsNowhere}
