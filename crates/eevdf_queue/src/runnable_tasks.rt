@@ -5,7 +5,8 @@ ghost use Rattle.eevdf_weight.specs.Limits as limits;
 ghost use Rattle.eevdf_queue.specs.{Sums.total_weight, Sums.total_moment, Order.earliest, Candidate.candidate_of};
 ghost use Rattle.eevdf_queue.specs.{Numbers.number_limit, Moves.is_entry_in_range, Kept.AreInRange, Laws.AreSumsSmall, TreeShape.IsAlone};
 ghost use Rattle.eevdf_queue.specs.{TreeShape.IsFull, Lag.is_lag, TreeTasks.insert_task, TreeTasks.without};
-ghost use Rattle.eevdf_queue.specs.TreeStores.{deadline_at, IsNoted};
+ghost use Rattle.eevdf_queue.specs.{declared.task.Task.Task, TaskLists.runnable_in};
+ghost use Rattle.eevdf_queue.specs.TreeStores.{deadline_at, IsNoted, IsRunnableStore};
 ghost use Rattle.eevdf_queue.specs.Leaving.{leaving_at};
 ghost use Rattle.eevdf_queue.specs.Pick.{IsPick, is_eligible_at, pick_of};
 ghost use Rattle.eevdf_queue.specs.TaskLists.{first_task, find_task, contents_of};
@@ -124,8 +125,7 @@ impl RunnableTasks {
     {
         self.picked.known = false;
         self.totals = exchanged(&self.totals, older, &entry);
-        let node = take(&mut self.tree, &self.deadlines, task);
-        put(&mut self.tree, &mut self.deadlines, node, entry);
+        replace(&mut self.tree, &mut self.deadlines, task, entry);
     }
 
     /// Gives a task that is here with an older entry one of another request, and of a later virtual runtime or the same.
@@ -139,8 +139,7 @@ impl RunnableTasks {
     {
         self.picked.known = false;
         self.totals = aged(&self.totals, older, &newer);
-        let node = take(&mut self.tree, &self.deadlines, task);
-        put(&mut self.tree, &mut self.deadlines, node, newer);
+        replace(&mut self.tree, &mut self.deadlines, task, newer);
     }
 
     /// Gives a task that is here with an older entry one of a later virtual runtime. The task keeps its place.
@@ -256,6 +255,21 @@ impl RunnableTasks {
         self.keeps();
         let _totals = self.totals();
     }
+}
+
+/// Gives the task of a number, which is here, another entry, with which it takes its place anew.
+#[inline(always)]
+fn replace(tree: &mut TaskTree, deadlines: &mut DeadlineTable, task: TaskId, entry: Entry)
+    requires here { is_some (find_task task tree.old) ≡ true }
+    requires stored { IsRunnableStore deadlines.old tree.old }
+    requires in_range { is_entry_in_range entry ≡ true }
+    ensures stored { IsRunnableStore deadlines.new tree.new }
+    ensures seen { runnable_in tree.new ≡ map.insert (runnable_in tree.old) task entry }
+    ensures tree { (t : Task) → find_task task tree.old ≡ Some t
+        → tree.new ≡ insert_task (record t { entry = entry }) (without task tree.old) }
+{
+    let node = take(tree, deadlines, task);
+    put(tree, deadlines, node, entry);
 }
 
 /// Takes the task of a number, which is here, out of the tree, in its node.
