@@ -42,7 +42,9 @@ impl DeadlineTable {
 
     /// Notes the deadline of a task's entry.
     pub fn note(&mut self, number: TaskId, entry: &Entry)
-        ensures { (q : ℕ) → deadline_at self.new q ≡ (if q == number then entry.now.d else deadline_at self.old q) }
+        ensures { (q : ℕ)
+            → deadline_at self.new q
+            ≡ (if q == number then entry.now.d else deadline_at self.old q) }
     {
         self.by_number[number.index()] = entry.d;
     }

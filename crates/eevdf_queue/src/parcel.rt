@@ -58,7 +58,8 @@ impl Parcel {
         slice: Slice,
         v: i64,
     ) -> Result<Parcel, AllocError>
-        ensures { IfOk result (λ p. p ≡ record { task = task; nice = nice; slice = slice; start = v; lag = pos 0 }) }
+        ensures { IfOk result
+            (λ p. p ≡ record { task = task; nice = nice; slice = slice; start = v; lag = pos 0 }) }
     {
         let entry = Entry {
             v,

@@ -57,7 +57,12 @@ impl PickedTask {
 
     /// The entry with the deadline of a key.
     pub fn entry(&self, key: &Key) -> Entry
-        ensures { result ≡ record { v = self.now.runtime; d = key.now.deadline; nice = self.now.nice; slice = self.now.slice } }
+        ensures { result ≡ record {
+          v = self.now.runtime;
+          d = key.now.deadline;
+          nice = self.now.nice;
+          slice = self.now.slice;
+        } }
     {
         Entry {
             v: self.runtime,

@@ -17,7 +17,9 @@ pub fn placed_entry(time: i64, total: u64, sleeper: &Sleeper) -> Option<Entry>
     requires time { limits.is_in_range time ≡ true }
     requires few { total ≤ 2 ^ 40 }
     requires limited { is_lag sleeper.now.lag sleeper.now.nice sleeper.now.slice ≡ true }
-    ensures { result ≡ entry_in_range (fresh_entry (runtime_of time total sleeper.now.lag sleeper.now.nice) sleeper.now.nice sleeper.now.slice) }
+    ensures { result ≡ entry_in_range
+        (fresh_entry (runtime_of time total sleeper.now.lag sleeper.now.nice)
+        sleeper.now.nice sleeper.now.slice) }
 {
     match runtime(time, total, sleeper) {
         None => None,

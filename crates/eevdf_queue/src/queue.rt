@@ -107,11 +107,14 @@ impl Queue {
     /// deadline, the greater number where deadlines are equal. `None` exactly where no task waits.
     #[tactic(auto, using(crate::proofs::Waiting::candidate_last, crate::proofs::Waiting::candidate_waits))]
     pub fn candidate(&self) -> Option<TaskId>
-        ensures value { result ≡ candidates.candidate_of self.now.state.runnable self.now.state.running }
-        ensures last { IfSome result (candidates.IsCandidate self.now.state.runnable self.now.state.running) }
+        ensures value { result
+            ≡ candidates.candidate_of self.now.state.runnable self.now.state.running }
+        ensures last { IfSome result
+            (candidates.IsCandidate self.now.state.runnable self.now.state.running) }
         ensures waiting { IfSome result (λ t. (map.contains_key self.now.state.runnable t ≡ true)
             × (candidates.is_running self.now.state.running t ≡ false)) }
-        ensures none { IsNone result ↔ candidates.NoneWaits self.now.state.runnable self.now.state.running }
+        ensures none { IsNone result
+            ↔ candidates.NoneWaits self.now.state.runnable self.now.state.running }
     {
         self.runnable.candidate(self.running)
     }
@@ -120,7 +123,8 @@ impl Queue {
     /// any other.
     pub fn lag_of(&self, task: TaskId) -> Option<i64>
         ensures value { result ≡ lags.lag_of self.now.state task }
-        ensures limited { IfSome result (λ lag. unsigned_abs lag ≤ lags.limit_at self.now.state task) }
+        ensures limited { IfSome result
+            (λ lag. unsigned_abs lag ≤ lags.limit_at self.now.state task) }
     {
         self.runnable.keeps();
         self.asleep.keeps();
@@ -153,7 +157,9 @@ impl Queue {
 
     /// Whether a task is here, runnable or asleep.
     pub fn contains(&self, task: TaskId) -> bool
-        ensures value { result ≡ (map.contains_key self.now.state.runnable task || map.contains_key self.now.state.asleep task) }
+        ensures value { result
+            ≡ (map.contains_key self.now.state.runnable task
+            || map.contains_key self.now.state.asleep task) }
         ensures absent { FalseIff result (IsNowhere self.now.state task) }
     {
         self.entry(task).is_some() || self.asleep(task)

@@ -25,8 +25,10 @@ impl Queue {
     pub fn admit(&mut self, parcel: Parcel) -> Result<(), Parcel>
         requires not_runnable { map.get self.old.state.runnable parcel.task ≡ None }
         requires not_asleep { map.get self.old.state.asleep parcel.task ≡ None }
-        ensures cases { MatchResult result (λ _. moves.admit self.old.state parcel ≡ Some self.new.state)
-            (λ back. (moves.admit self.old.state parcel ≡ None) × (back ≡ parcel) × (self.new.state ≡ self.old.state)) }
+        ensures cases { MatchResult result
+            (λ _. moves.admit self.old.state parcel ≡ Some self.new.state)
+            (λ back. (moves.admit self.old.state parcel ≡ None) × (back ≡ parcel)
+            × (self.new.state ≡ self.old.state)) }
         ensures turns { self.new.turns ≡ self.old.turns }
     {
         match started(&parcel.entry()) {
@@ -127,7 +129,8 @@ impl Queue {
     /// virtual runtime and deadline would be in range.
     pub fn can_place(&self, nice: Nice, slice: Slice, lag: i64) -> bool
         requires { is_lag lag nice slice ≡ true }
-        ensures { result ≡ placing.can_place self.now.state (record { lag = lag; nice = nice; slice = slice }) }
+        ensures { result
+            ≡ placing.can_place self.now.state (record { lag = lag; nice = nice; slice = slice }) }
     {
         prove!(slice.get() <= Slice::MAX.get());
         if is_roomy(&self.runnable.totals()) {
@@ -143,7 +146,8 @@ impl Queue {
         requires not_runnable { map.get self.old.state.runnable parcel.task ≡ None }
         requires not_asleep { map.get self.old.state.asleep parcel.task ≡ None }
         requires room { placing.can_place self.old.state (moves.sleeper_of parcel) ≡ true }
-        ensures after { placing.put self.old.state parcel.task (moves.sleeper_of parcel) ≡ Some self.new.state }
+        ensures after { placing.put self.old.state parcel.task (moves.sleeper_of parcel)
+            ≡ Some self.new.state }
         ensures turns { self.new.turns ≡ self.old.turns }
     {
         let entry = self.placed(&parcel.sleeper()).unwrap();

@@ -44,7 +44,9 @@ impl Queue {
     fn reniced(&self, task: TaskId, entry: &Entry, nice: Nice) -> Option<Entry>
         requires here { map.get self.now.state.runnable task ≡ Some entry.now }
         requires in_range { limits.is_in_range entry.now.v ≡ true }
-        ensures { result ≡ placing.placed_entry (leave self.now.state task) (renices.reniced self.now.state entry.now nice) }
+        ensures { result
+            ≡ placing.placed_entry (leave self.now.state task)
+            (renices.reniced self.now.state entry.now nice) }
     {
         let others = self.runnable.totals_without(task, entry);
         let sleeper = self.as_sleeper(entry, nice);

@@ -54,7 +54,8 @@ impl<'a> Model for Sleeping<'a> {
 
     ghost Value = { List (ℕ × ℤ) };
 
-    ghost view = { λ s. map with_lag (from_number s.next (finite.entries s.queue.now.state.asleep)) };
+    ghost view = { λ s. map with_lag
+        (from_number s.next (finite.entries s.queue.now.state.asleep)) };
 }
 
 impl Iterator for Sleeping<'_> {
@@ -114,7 +115,8 @@ impl Queue {
     fn asleep_from(&self, first: u64) -> Option<(TaskId, i64)>
         ensures { MatchOption result (from_number first (finite.entries self.now.state.asleep) ≡ [])
             (λ found. map with_lag (from_number first (finite.entries self.now.state.asleep))
-            ≡ found ∷ map with_lag (from_number (found.0 + 1) (finite.entries self.now.state.asleep))) }
+            ≡ found ∷ map with_lag
+            (from_number (found.0 + 1) (finite.entries self.now.state.asleep))) }
     {
         self.keeps();
         for number in first..TaskId::COUNT as u64 {

@@ -33,7 +33,8 @@ impl Queue {
         ensures after { self.new.state ≡ after_pick self.old.state }
         ensures no_turns { IsNone result → self.new.turns ≡ 0 }
         ensures turns { IfSome result (λ _. 1 ≤ self.new.turns) }
-        ensures few_turns { IfSome result (λ _. 2 ^ (self.new.turns / 2) ≤ map.len self.old.state.runnable + 1) }
+        ensures few_turns { IfSome result
+            (λ _. 2 ^ (self.new.turns / 2) ≤ map.len self.old.state.runnable + 1) }
     {
         match self.runnable.pick() {
             None => {

@@ -87,7 +87,8 @@ pub fn charged(entry: &Entry, ns: Ns) -> ChargedEntry
     ensures near { unsigned_abs (result.entry.v -ℤ entry.now.v) ≤ 2 ^ 40 }
     ensures later { entry.now.v ≤ℤ result.entry.v }
     ensures kept { result.resched ≡ false → moves.is_entry_in_range result.entry ≡ true }
-    ensures renewed { result.resched ≡ true → limits.is_in_range result.entry.d ≡ moves.is_entry_in_range result.entry }
+    ensures renewed { result.resched ≡ true
+        → limits.is_in_range result.entry.d ≡ moves.is_entry_in_range result.entry }
 {
     let older = aged(entry, ns);
     if older.v >= entry.d {

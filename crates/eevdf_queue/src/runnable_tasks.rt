@@ -195,9 +195,11 @@ impl RunnableTasks {
         requires few { totals.now.weight ≤ 2 ^ 40 }
         requires weight { totals.now.weight ≡ total_weight self.now }
         requires moment { totals.now.moment ≡ total_moment self.now }
-        ensures here { IfSome result (λ f. map.get self.now f.task.now.number ≡ Some f.task.now.entry) }
+        ensures here { IfSome result
+            (λ f. map.get self.now f.task.now.number ≡ Some f.task.now.entry) }
         ensures number { option_map (λ f. f.task.now.number) result
-            ≡ option_map (λ a. a.0) (earliest (is_eligible_at totals.now.weight totals.now.moment) (map.entries self.now)) }
+            ≡ option_map (λ a. a.0)
+            (earliest (is_eligible_at totals.now.weight totals.now.moment) (map.entries self.now)) }
         ensures positive { IfSome result (λ f. 1 ≤ f.turns) }
         ensures turns { IfSome result (λ f. IsFull f.turns (map.len self.now)) }
     {
@@ -289,8 +291,12 @@ fn put(tree: &mut TaskTree, deadlines: &mut DeadlineTable, mut node: Box<TreeNod
     requires alone { IsAlone node.value }
     requires absent { find_task (first_task node.value.tasks).number tree.old ≡ None }
     requires few { length tree.old < number_limit }
-    ensures tree { tree.new ≡ insert_task (record (first_task node.value.tasks) { entry = entry }) tree.old }
-    ensures table { (q : ℕ) → deadline_at deadlines.new q ≡ (if q == (first_task node.value.tasks).number then entry.d else deadline_at deadlines.old q) }
+    ensures tree { tree.new
+        ≡ insert_task (record (first_task node.value.tasks) { entry = entry }) tree.old }
+    ensures table { (q : ℕ)
+        → deadline_at deadlines.new q
+        ≡ (if q ==
+        (first_task node.value.tasks).number then entry.d else deadline_at deadlines.old q) }
 {
     node.replace_entry(&entry);
     deadlines.note(node.task().number, &entry);
@@ -300,7 +306,8 @@ fn put(tree: &mut TaskTree, deadlines: &mut DeadlineTable, mut node: Box<TreeNod
 /// The parcel of a lone node's task, with another lag.
 fn leave(mut node: Box<TreeNode>, lag: i64) -> Parcel
     requires alone { IsAlone node.value }
-    requires limited { is_lag lag (first_task node.value.tasks).entry.nice (first_task node.value.tasks).entry.slice ≡ true }
+    requires limited { is_lag lag (first_task node.value.tasks).entry.nice
+        (first_task node.value.tasks).entry.slice ≡ true }
     ensures { result ≡ record (contents_of (first_task node.value.tasks)) { lag = lag } }
 {
     node.replace_lag(lag);

@@ -76,7 +76,8 @@ impl TryFrom<u64> for TaskId {
     ghost use Rattle.std.specs.Prelude.{◌≡◌, ok_or};
     ghost use Rattle.eevdf_queue.specs.Numbers.{checked_number, number_limit};
 
-    ghost try_from_gives = { λ number r. r ≡ ok_or (checked_number number) (record { 0 = number }) };
+    ghost try_from_gives = { λ number r. r
+        ≡ ok_or (checked_number number) (record { 0 = number }) };
 
     fn try_from(number: u64) -> Result<TaskId, BadTaskId> {
         TaskId::new(number).ok_or(BadTaskId(number))

@@ -76,7 +76,8 @@ impl TaskTree {
     /// before.
     #[inline(always)]
     pub fn age(&mut self, key: &Key, older: &Entry, newer: &Entry)
-        requires here { option_map (λ t. t.entry) (find_task key.now.number self.old) ≡ Some older.now }
+        requires here { option_map (λ t. t.entry) (find_task key.now.number self.old)
+            ≡ Some older.now }
         requires placed { IsAtDeadline key.now.deadline (find_task key.now.number self.old) }
         requires same { record older.now { v = newer.now.v } ≡ newer.now }
         requires later { older.now.v ≤ℤ newer.now.v }
@@ -103,10 +104,13 @@ impl TaskTree {
     /// descent to it. Where there is a task, some task is eligible.
     pub fn earliest(&self, totals: &Threshold) -> Option<Found<'_>>
         requires few { totals.now.weight ≤ 2 ^ 40 }
-        requires some { first_that (is_eligible_at totals.now.weight totals.now.moment) self.now ≡ None → self.now ≡ [] }
-        ensures task { option_map (λ f. f.task.now) result ≡ first_that (is_eligible_at totals.now.weight totals.now.moment) self.now }
+        requires some { first_that (is_eligible_at totals.now.weight totals.now.moment) self.now
+            ≡ None → self.now ≡ [] }
+        ensures task { option_map (λ f. f.task.now) result
+            ≡ first_that (is_eligible_at totals.now.weight totals.now.moment) self.now }
         ensures number { option_map (λ f. f.task.now.number) result
-            ≡ option_map (λ a. a.0) (earliest (is_eligible_at totals.now.weight totals.now.moment) (entries_of self.now)) }
+            ≡ option_map (λ a. a.0)
+            (earliest (is_eligible_at totals.now.weight totals.now.moment) (entries_of self.now)) }
         ensures positive { IfSome result (λ f. 1 ≤ f.turns) }
         ensures turns { IfSome result (λ f. IsFull f.turns (length self.now)) }
     {

@@ -59,7 +59,8 @@ pub fn exchanged(totals: &Totals, older: &Entry, newer: &Entry) -> Totals
     requires part { weight_of older.now.nice ≤ totals.now.weight }
     requires few { totals.now.weight ≤ 88761 * number_limit }
     requires small { unsigned_abs totals.now.moment ≤ 2 ^ 60 * totals.now.weight }
-    ensures weight { weight_of older.now.nice + result.weight ≡ weight_of newer.now.nice + totals.now.weight }
+    ensures weight { weight_of older.now.nice + result.weight
+        ≡ weight_of newer.now.nice + totals.now.weight }
     ensures moment { (older.now.v *ℤ pos (weight_of older.now.nice)) +ℤ result.moment
         ≡ (newer.now.v *ℤ pos (weight_of newer.now.nice)) +ℤ totals.now.moment }
 {

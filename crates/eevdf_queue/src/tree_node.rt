@@ -212,11 +212,14 @@ pub fn find(link: &Option<Box<TreeNode>>, key: &Key) -> Option<Task>
 pub fn first_eligible<'a>(link: &'a Option<Box<TreeNode>>, totals: &Threshold) -> Option<Found<'a>>
     requires few { totals.now.weight ≤ 2 ^ 40 }
     requires small { length (tasks_in link.now) ≤ 2 ^ 20 }
-    requires some { first_that (is_eligible_at totals.now.weight totals.now.moment) (tasks_in link.now) ≡ None → tasks_in link.now ≡ [] }
-    ensures task { option_map (λ f. f.task.now) result ≡ first_that (is_eligible_at totals.now.weight totals.now.moment) (tasks_in link.now) }
+    requires some { first_that (is_eligible_at totals.now.weight totals.now.moment)
+        (tasks_in link.now) ≡ None → tasks_in link.now ≡ [] }
+    ensures task { option_map (λ f. f.task.now) result
+        ≡ first_that (is_eligible_at totals.now.weight totals.now.moment) (tasks_in link.now) }
     ensures positive { IfSome result (λ f. 1 ≤ f.turns) }
     ensures few_turns { IfSome result (λ f. IsFull f.turns (length (tasks_in link.now))) }
-    ensures depth { IfSome result (λ f. is_at_depth f.task.now.number f.turns (depths_in link.now) ≡ true) }
+    ensures depth { IfSome result
+        (λ f. is_at_depth f.task.now.number f.turns (depths_in link.now) ≡ true) }
 {
     let Some(root) = link else { return None };
     let root: &TreeNode = root;
@@ -229,8 +232,10 @@ pub fn first_eligible<'a>(link: &'a Option<Box<TreeNode>>, totals: &Threshold) -
 fn first_under<'a>(root: &'a TreeNode, totals: &Threshold) -> Found<'a>
     requires few { totals.now.weight ≤ 2 ^ 40 }
     requires small { length root.now.tasks ≤ 2 ^ 20 }
-    requires some { is_some (first_that (is_eligible_at totals.now.weight totals.now.moment) root.now.tasks) ≡ true }
-    ensures task { first_that (is_eligible_at totals.now.weight totals.now.moment) root.now.tasks ≡ Some result.task.now }
+    requires some { is_some
+        (first_that (is_eligible_at totals.now.weight totals.now.moment) root.now.tasks) ≡ true }
+    ensures task { first_that (is_eligible_at totals.now.weight totals.now.moment) root.now.tasks
+        ≡ Some result.task.now }
     ensures positive { 1 ≤ result.turns }
     ensures turns { IsFull result.turns (length root.now.tasks) }
     ensures depth { is_at_depth result.task.now.number result.turns root.now.depths ≡ true }

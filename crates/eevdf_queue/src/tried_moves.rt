@@ -14,8 +14,10 @@ impl Queue {
     /// reason, and nothing has changed.
     pub fn try_admit(&mut self, parcel: Parcel) -> Result<(), Refused>
         ensures cases { MatchResult result
-            (λ _. tried self.old.state parcel.task (moves.admit self.old.state parcel) ≡ Ok self.new.state)
-            (λ refused. (tried self.old.state parcel.task (moves.admit self.old.state parcel) ≡ Err refused.reason)
+            (λ _. tried self.old.state parcel.task (moves.admit self.old.state parcel)
+            ≡ Ok self.new.state)
+            (λ refused. (tried self.old.state parcel.task (moves.admit self.old.state parcel)
+            ≡ Err refused.reason)
             × (refused.parcel ≡ parcel) × (self.new.state ≡ self.old.state)) }
         ensures turns { self.new.turns ≡ self.old.turns }
     {
@@ -32,8 +34,11 @@ impl Queue {
     /// it can't be placed in range, the parcel comes back with that reason, and nothing has changed.
     pub fn try_attach(&mut self, parcel: Parcel) -> Result<(), Refused>
         ensures cases { MatchResult result
-            (λ _. tried self.old.state parcel.task (put self.old.state parcel.task (moves.sleeper_of parcel)) ≡ Ok self.new.state)
-            (λ refused. (tried self.old.state parcel.task (put self.old.state parcel.task (moves.sleeper_of parcel)) ≡ Err refused.reason)
+            (λ _. tried self.old.state parcel.task
+            (put self.old.state parcel.task (moves.sleeper_of parcel)) ≡ Ok self.new.state)
+            (λ refused.
+            (tried self.old.state parcel.task
+            (put self.old.state parcel.task (moves.sleeper_of parcel)) ≡ Err refused.reason)
             × (refused.parcel ≡ parcel) × (self.new.state ≡ self.old.state)) }
         ensures turns { self.new.turns ≡ self.old.turns }
     {

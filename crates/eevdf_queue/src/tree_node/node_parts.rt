@@ -52,10 +52,14 @@ pub fn correct(
 ) -> TreeChange
     requires near { DifferByAtMost 2 (height_in left.old) (height_in right.old) }
     requires few { length (tasks_in left.old) + length (tasks_in right.old) ≤ 2 ^ 20 }
-    requires kept_height { keeps_height below ≡ true → node_height.old ≡ suc (max (height_in left.old) (height_in right.old)) }
-    requires kept_balanced { keeps_height below ≡ true → DifferByAtMost 1 (height_in left.old) (height_in right.old) }
-    requires kept_least { keeps_least below ≡ true → node_least.old ≡ least_of (tasks_in left.old ++ task.old ∷ tasks_in right.old) }
-    ensures tasks { tasks_in left.new ++ task.new ∷ tasks_in right.new ≡ tasks_in left.old ++ task.old ∷ tasks_in right.old }
+    requires kept_height { keeps_height below ≡ true
+        → node_height.old ≡ suc (max (height_in left.old) (height_in right.old)) }
+    requires kept_balanced { keeps_height below ≡ true
+        → DifferByAtMost 1 (height_in left.old) (height_in right.old) }
+    requires kept_least { keeps_least below ≡ true
+        → node_least.old ≡ least_of (tasks_in left.old ++ task.old ∷ tasks_in right.old) }
+    ensures tasks { tasks_in left.new ++ task.new ∷ tasks_in right.new
+        ≡ tasks_in left.old ++ task.old ∷ tasks_in right.old }
     ensures node { IsNode
         (record { task = task.new; height = node_height.new; least = node_least.new; left = left.new; right = right.new }) }
     ensures mended { IsHeightOfBalanced (height_in left.old) (height_in right.old) node_height.new }
@@ -94,11 +98,21 @@ pub fn raise(
 ) -> bool
     requires near { DifferByAtMost 2 (height_in left.old) (height_in right.old) }
     requires few { length (tasks_in left.old) + length (tasks_in right.old) ≤ 2 ^ 20 }
-    requires kept_height { may_differ ≡ false → node_height.old ≡ suc (max (height_in left.old) (height_in right.old)) }
-    requires kept_balanced { may_differ ≡ false → DifferByAtMost 1 (height_in left.old) (height_in right.old) }
-    ensures tasks { tasks_in left.new ++ task.new ∷ tasks_in right.new ≡ tasks_in left.old ++ task.old ∷ tasks_in right.old }
-    ensures node { (least : _) → least ≡ least_of (tasks_in left.new ++ task.new ∷ tasks_in right.new)
-        → IsNode (record { task = task.new; height = node_height.new; least = least; left = left.new; right = right.new }) }
+    requires kept_height { may_differ ≡ false
+        → node_height.old ≡ suc (max (height_in left.old) (height_in right.old)) }
+    requires kept_balanced { may_differ ≡ false
+        → DifferByAtMost 1 (height_in left.old) (height_in right.old) }
+    ensures tasks { tasks_in left.new ++ task.new ∷ tasks_in right.new
+        ≡ tasks_in left.old ++ task.old ∷ tasks_in right.old }
+    ensures node { (least : _)
+        → least ≡ least_of (tasks_in left.new ++ task.new ∷ tasks_in right.new)
+        → IsNode (record {
+          task = task.new;
+          height = node_height.new;
+          least = least;
+          left = left.new;
+          right = right.new;
+        }) }
     ensures mended { IsHeightOfBalanced (height_in left.old) (height_in right.old) node_height.new }
     ensures same_height { result ≡ false → node_height.new ≡ node_height.old }
 {
@@ -126,7 +140,8 @@ fn mend_uneven(
 ) -> TreeChange
     requires near { DifferByAtMost 2 (height_in left.old) (height_in right.old) }
     requires few { length (tasks_in left.old) + length (tasks_in right.old) ≤ 2 ^ 20 }
-    ensures tasks { tasks_in left.new ++ task.new ∷ tasks_in right.new ≡ tasks_in left.old ++ task.old ∷ tasks_in right.old }
+    ensures tasks { tasks_in left.new ++ task.new ∷ tasks_in right.new
+        ≡ tasks_in left.old ++ task.old ∷ tasks_in right.old }
     ensures node { IsNode
         (record { task = task.new; height = node_height.new; least = node_least.new; left = left.new; right = right.new }) }
     ensures mended { IsHeightOfBalanced (height_in left.old) (height_in right.old) node_height.new }
@@ -149,9 +164,17 @@ fn raise_uneven(
 ) -> bool
     requires near { DifferByAtMost 2 (height_in left.old) (height_in right.old) }
     requires few { length (tasks_in left.old) + length (tasks_in right.old) ≤ 2 ^ 20 }
-    ensures tasks { tasks_in left.new ++ task.new ∷ tasks_in right.new ≡ tasks_in left.old ++ task.old ∷ tasks_in right.old }
-    ensures node { (least : _) → least ≡ least_of (tasks_in left.new ++ task.new ∷ tasks_in right.new)
-        → IsNode (record { task = task.new; height = node_height.new; least = least; left = left.new; right = right.new }) }
+    ensures tasks { tasks_in left.new ++ task.new ∷ tasks_in right.new
+        ≡ tasks_in left.old ++ task.old ∷ tasks_in right.old }
+    ensures node { (least : _)
+        → least ≡ least_of (tasks_in left.new ++ task.new ∷ tasks_in right.new)
+        → IsNode (record {
+          task = task.new;
+          height = node_height.new;
+          least = least;
+          left = left.new;
+          right = right.new;
+        }) }
     ensures mended { IsHeightOfBalanced (height_in left.old) (height_in right.old) node_height.new }
     ensures same_height { result ≡ false → node_height.new ≡ node_height.old }
 {
@@ -196,9 +219,11 @@ pub fn look_around(
     ensures left { result.left ≡ height_in left.now }
     ensures right { result.right ≡ height_in right.now }
     ensures least { result.least ≡ least_of (tasks_in left.now ++ task.now ∷ tasks_in right.now) }
-    ensures low { suc (max (height_in left.now) (height_in right.now)) ≤ length (tasks_in left.now ++ task.now ∷ tasks_in right.now) }
+    ensures low { suc (max (height_in left.now) (height_in right.now))
+        ≤ length (tasks_in left.now ++ task.now ∷ tasks_in right.now) }
     ensures full { DifferByAtMost 1 (height_in left.now) (height_in right.now)
-        → IsFull (suc (max (height_in left.now) (height_in right.now))) (length (tasks_in left.now ++ task.now ∷ tasks_in right.now)) }
+        → IsFull (suc (max (height_in left.now) (height_in right.now))) (length (tasks_in left.now
+        ++ task.now ∷ tasks_in right.now)) }
     ensures bounded { AreLow (tasks_in left.now ++ task.now ∷ tasks_in right.now) }
 {
     Around {

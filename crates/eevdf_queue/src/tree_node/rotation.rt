@@ -41,9 +41,11 @@ pub fn even_out(
 )
     requires near { DifferByAtMost 2 (height_in left.old) (height_in right.old) }
     requires few { length (tasks_in left.old) + length (tasks_in right.old) ≤ 2 ^ 20 }
-    ensures tasks { tasks_in left.new ++ task.new ∷ tasks_in right.new ≡ tasks_in left.old ++ task.old ∷ tasks_in right.old }
+    ensures tasks { tasks_in left.new ++ task.new ∷ tasks_in right.new
+        ≡ tasks_in left.old ++ task.old ∷ tasks_in right.old }
     ensures balanced { DifferByAtMost 1 (height_in left.new) (height_in right.new) }
-    ensures height { IsHeightOfBalanced (height_in left.old) (height_in right.old) (suc (max (height_in left.new) (height_in right.new))) }
+    ensures height { IsHeightOfBalanced (height_in left.old) (height_in right.old)
+        (suc (max (height_in left.new) (height_in right.new))) }
 {
     let left_height = height(left);
     let right_height = height(right);
@@ -62,9 +64,11 @@ pub fn even_out(
 fn turn_right(left: &mut Option<Box<TreeNode>>, task: &mut Task, right: &mut Option<Box<TreeNode>>)
     requires higher { height_in left.old ≡ height_in right.old + 2 }
     requires few { length (tasks_in left.old) + length (tasks_in right.old) ≤ 2 ^ 20 }
-    ensures tasks { tasks_in left.new ++ task.new ∷ tasks_in right.new ≡ tasks_in left.old ++ task.old ∷ tasks_in right.old }
+    ensures tasks { tasks_in left.new ++ task.new ∷ tasks_in right.new
+        ≡ tasks_in left.old ++ task.old ∷ tasks_in right.old }
     ensures balanced { DifferByAtMost 1 (height_in left.new) (height_in right.new) }
-    ensures height { IsHeightOfBalanced (height_in left.old) (height_in right.old) (suc (max (height_in left.new) (height_in right.new))) }
+    ensures height { IsHeightOfBalanced (height_in left.old) (height_in right.old)
+        (suc (max (height_in left.new) (height_in right.new))) }
 {
     let Some(node) = left else { unreachable!() };
     let node: &mut TreeNode = node;
@@ -97,9 +101,11 @@ fn turn_right(left: &mut Option<Box<TreeNode>>, task: &mut Task, right: &mut Opt
 fn turn_left(left: &mut Option<Box<TreeNode>>, task: &mut Task, right: &mut Option<Box<TreeNode>>)
     requires higher { height_in right.old ≡ height_in left.old + 2 }
     requires few { length (tasks_in left.old) + length (tasks_in right.old) ≤ 2 ^ 20 }
-    ensures tasks { tasks_in left.new ++ task.new ∷ tasks_in right.new ≡ tasks_in left.old ++ task.old ∷ tasks_in right.old }
+    ensures tasks { tasks_in left.new ++ task.new ∷ tasks_in right.new
+        ≡ tasks_in left.old ++ task.old ∷ tasks_in right.old }
     ensures balanced { DifferByAtMost 1 (height_in left.new) (height_in right.new) }
-    ensures height { IsHeightOfBalanced (height_in left.old) (height_in right.old) (suc (max (height_in left.new) (height_in right.new))) }
+    ensures height { IsHeightOfBalanced (height_in left.old) (height_in right.old)
+        (suc (max (height_in left.new) (height_in right.new))) }
 {
     let Some(node) = right else { unreachable!() };
     let node: &mut TreeNode = node;
@@ -131,7 +137,8 @@ fn turn_left(left: &mut Option<Box<TreeNode>>, task: &mut Task, right: &mut Opti
 fn lean_right(left: &mut Option<Box<TreeNode>>, task: &mut Task, right: &mut Option<Box<TreeNode>>)
     requires higher { height_in left.old ≡ suc (height_in right.old) }
     requires low { height_in left.old ≤ 2 ^ 20 }
-    ensures tasks { tasks_in left.new ++ task.new ∷ tasks_in right.new ≡ tasks_in left.old ++ task.old ∷ tasks_in right.old }
+    ensures tasks { tasks_in left.new ++ task.new ∷ tasks_in right.new
+        ≡ tasks_in left.old ++ task.old ∷ tasks_in right.old }
     ensures low { height_in left.new ≤ height_in right.old }
     ensures not_lower { height_in right.old ≤ suc (height_in left.new) }
     ensures higher { height_in right.new ≡ suc (height_in right.old) }
@@ -155,7 +162,8 @@ fn lean_right(left: &mut Option<Box<TreeNode>>, task: &mut Task, right: &mut Opt
 fn lean_left(left: &mut Option<Box<TreeNode>>, task: &mut Task, right: &mut Option<Box<TreeNode>>)
     requires higher { height_in right.old ≡ suc (height_in left.old) }
     requires low { height_in right.old ≤ 2 ^ 20 }
-    ensures tasks { tasks_in left.new ++ task.new ∷ tasks_in right.new ≡ tasks_in left.old ++ task.old ∷ tasks_in right.old }
+    ensures tasks { tasks_in left.new ++ task.new ∷ tasks_in right.new
+        ≡ tasks_in left.old ++ task.old ∷ tasks_in right.old }
     ensures low { height_in right.new ≤ height_in left.old }
     ensures not_lower { height_in left.old ≤ suc (height_in right.new) }
     ensures higher { height_in left.new ≡ suc (height_in left.old) }
@@ -190,7 +198,8 @@ fn cross_right(
     requires low { max (height_in node_right.old) (height_in right.old) ≤ 2 ^ 20 }
     ensures node { IsNode
         (record { task = node_task.new; height = node_height.new; least = node_least.new; left = node_left.new; right = node_right.new }) }
-    ensures tasks { tasks_in node_left.new ++ node_task.new ∷ tasks_in node_right.new ≡ tasks_in node_right.old ++ task.old ∷ tasks_in right.old }
+    ensures tasks { tasks_in node_left.new ++ node_task.new ∷ tasks_in node_right.new
+        ≡ tasks_in node_right.old ++ task.old ∷ tasks_in right.old }
     ensures height { node_height.new ≡ suc (max (height_in node_right.old) (height_in right.old)) }
     ensures own { task.new ≡ node_task.old }
     ensures own_tasks { tasks_in right.new ≡ tasks_in node_left.old }
@@ -218,7 +227,8 @@ fn cross_left(
     requires low { max (height_in node_left.old) (height_in left.old) ≤ 2 ^ 20 }
     ensures node { IsNode
         (record { task = node_task.new; height = node_height.new; least = node_least.new; left = node_left.new; right = node_right.new }) }
-    ensures tasks { tasks_in node_left.new ++ node_task.new ∷ tasks_in node_right.new ≡ tasks_in left.old ++ task.old ∷ tasks_in node_left.old }
+    ensures tasks { tasks_in node_left.new ++ node_task.new ∷ tasks_in node_right.new
+        ≡ tasks_in left.old ++ task.old ∷ tasks_in node_left.old }
     ensures height { node_height.new ≡ suc (max (height_in node_left.old) (height_in left.old)) }
     ensures own { task.new ≡ node_task.old }
     ensures own_tasks { tasks_in left.new ≡ tasks_in node_right.old }

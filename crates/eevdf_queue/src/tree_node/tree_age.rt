@@ -46,9 +46,13 @@ impl Runtimes {
 /// corrected.
 pub fn age(link: &mut Option<Box<TreeNode>>, key: Key, runtimes: Runtimes)
     requires holds { Holds key (tasks_in link.old) }
-    requires above { IfSome (find_task key.number (tasks_in link.old)) (λ t. runtimes.older ≤ℤ t.entry.v) }
+    requires above { IfSome (find_task key.number (tasks_in link.old))
+        (λ t. runtimes.older ≤ℤ t.entry.v) }
     requires later { runtimes.older ≤ℤ runtimes.newer }
-    ensures tasks { (e : Entry) → option_map (λ t. record t.entry { v = runtimes.newer }) (find_task key.number (tasks_in link.old)) ≡ Some e
+    ensures tasks { (e : Entry)
+        → option_map (λ t. record t.entry { v = runtimes.newer })
+        (find_task key.number (tasks_in link.old))
+        ≡ Some e
         → tasks_in link.new ≡ set_entry key.number e (tasks_in link.old) }
     ensures height { height_in link.new ≡ height_in link.old }
     ensures length { length (tasks_in link.new) ≡ length (tasks_in link.old) }
@@ -74,7 +78,10 @@ pub fn age(link: &mut Option<Box<TreeNode>>, key: Key, runtimes: Runtimes)
 /// the link.
 fn age_least(link: &mut Option<Box<TreeNode>>, key: Key, runtimes: Runtimes) -> Least
     requires { Holds key (tasks_in link.old) }
-    ensures tasks { (e : Entry) → option_map (λ t. record t.entry { v = runtimes.newer }) (find_task key.number (tasks_in link.old)) ≡ Some e
+    ensures tasks { (e : Entry)
+        → option_map (λ t. record t.entry { v = runtimes.newer })
+        (find_task key.number (tasks_in link.old))
+        ≡ Some e
         → tasks_in link.new ≡ set_entry key.number e (tasks_in link.old) }
     ensures height { height_in link.new ≡ height_in link.old }
     ensures length { length (tasks_in link.new) ≡ length (tasks_in link.old) }
@@ -119,7 +126,8 @@ fn is_bounded(least: &Least)
 
 /// Gives a task its newer virtual runtime.
 fn set_runtime(task: &mut Task, runtimes: &Runtimes)
-    ensures { task.new ≡ record task.old { entry = record task.old.entry { v = runtimes.now.newer } } }
+    ensures { task.new
+        ≡ record task.old { entry = record task.old.entry { v = runtimes.now.newer } } }
 {
     task.entry.v = runtimes.newer;
 }

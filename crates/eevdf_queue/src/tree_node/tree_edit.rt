@@ -22,7 +22,8 @@ pub fn insert(link: &mut Option<Box<TreeNode>>, node: Box<TreeNode>) -> bool
     requires alone { IsAlone node.value }
     requires ordered { AreOrdered (tasks_in link.old) }
     requires few { length (tasks_in link.old) < 2 ^ 20 }
-    ensures tasks { tasks_in link.new ≡ insert_task (first_task node.value.tasks) (tasks_in link.old) }
+    ensures tasks { tasks_in link.new
+        ≡ insert_task (first_task node.value.tasks) (tasks_in link.old) }
     ensures length { length (tasks_in link.new) ≡ suc (length (tasks_in link.old)) }
     ensures not_lower { height_in link.old ≤ height_in link.new }
     ensures at_most_one_higher { height_in link.new ≤ suc (height_in link.old) }
@@ -61,13 +62,16 @@ pub struct Taken {
 pub fn remove(link: &mut Option<Box<TreeNode>>, key: &Key) -> Taken
     requires { Holds key.now (tasks_in link.old) }
     ensures alone { IsAlone result.node.value }
-    ensures task { find_task key.now.number (tasks_in link.old) ≡ Some (first_task result.node.value.tasks) }
+    ensures task { find_task key.now.number (tasks_in link.old)
+        ≡ Some (first_task result.node.value.tasks) }
     ensures rest { tasks_in link.new ≡ without key.now.number (tasks_in link.old) }
     ensures length { length (tasks_in link.old) ≡ suc (length (tasks_in link.new)) }
     ensures not_higher { height_in link.new ≤ height_in link.old }
     ensures at_most_one_lower { height_in link.old ≤ suc (height_in link.new) }
-    ensures same_height { keeps_height result.change ≡ true → height_in link.new ≡ height_in link.old }
-    ensures same_least { keeps_least result.change ≡ true → least_of (tasks_in link.new) ≡ least_of (tasks_in link.old) }
+    ensures same_height { keeps_height result.change ≡ true
+        → height_in link.new ≡ height_in link.old }
+    ensures same_least { keeps_least result.change ≡ true
+        → least_of (tasks_in link.new) ≡ least_of (tasks_in link.old) }
 {
     let Some(root) = link else { unreachable!() };
     let root: &mut TreeNode = root;
@@ -110,12 +114,15 @@ fn remove_last(link: &mut Option<Box<TreeNode>>) -> Taken
     requires some { is_some link.old ≡ true }
     requires few { length (tasks_in link.old) ≤ 2 ^ 20 }
     ensures alone { IsAlone result.node.value }
-    ensures tasks { tasks_in link.old ≡ tasks_in link.new ++ first_task result.node.value.tasks ∷ [] }
+    ensures tasks { tasks_in link.old
+        ≡ tasks_in link.new ++ first_task result.node.value.tasks ∷ [] }
     ensures length { length (tasks_in link.old) ≡ suc (length (tasks_in link.new)) }
     ensures not_higher { height_in link.new ≤ height_in link.old }
     ensures at_most_one_lower { height_in link.old ≤ suc (height_in link.new) }
-    ensures same_height { keeps_height result.change ≡ true → height_in link.new ≡ height_in link.old }
-    ensures same_least { keeps_least result.change ≡ true → least_of (tasks_in link.new) ≡ least_of (tasks_in link.old) }
+    ensures same_height { keeps_height result.change ≡ true
+        → height_in link.new ≡ height_in link.old }
+    ensures same_least { keeps_least result.change ≡ true
+        → least_of (tasks_in link.new) ≡ least_of (tasks_in link.old) }
 {
     let Some(root) = link else { unreachable!() };
     let root: &mut TreeNode = root;
@@ -159,7 +166,8 @@ fn exchanged(task: &mut Task, left: &mut Option<Box<TreeNode>>) -> Taken
     ensures length { length (tasks_in left.old) ≡ suc (length (tasks_in left.new)) }
     ensures not_higher { height_in left.new ≤ height_in left.old }
     ensures at_most_one_lower { height_in left.old ≤ suc (height_in left.new) }
-    ensures same_height { keeps_height result.change ≡ true → height_in left.new ≡ height_in left.old }
+    ensures same_height { keeps_height result.change ≡ true
+        → height_in left.new ≡ height_in left.old }
     ensures other_least { keeps_least result.change ≡ false }
 {
     let Taken { mut node, change } = remove_last(left);
