@@ -12,7 +12,7 @@ use Rattle.eevdf_queue.specs.Moves.{with_runnable, put_asleep, sleeper_of}
 use Rattle.eevdf_queue.specs.Placing.{put, placed_entry}
 use Rattle.eevdf_queue.specs.Leaving.{leave, without_entry, carried, leaving, IsNowhere}
 use Rattle.eevdf_queue.specs.Lag.{kept_lag}
-use Rattle.queue_bench.specs.Apart.{stands_in, AreApart}
+use Rattle.queue_bench.specs.SharedTasks.{stands_in, ShareNoTask}
 
 both_none : (o : Option Entry) (s : Option Sleeper) → o ≡ None → s ≡ None → (is_some o || is_some s) ≡ false
 both_none None None e f = refl
@@ -35,17 +35,17 @@ swapped true b h = grind arith
 swapped false true h = refl
 swapped false false h = refl
 
-pub apart_swapped : (a b : State) → AreApart a b → AreApart b a
+pub apart_swapped : (a b : State) → ShareNoTask a b → ShareNoTask b a
 apart_swapped a b h = λ u. swapped (stands_in a u) (stands_in b u) (h u)
 
-changed_at : (a b b' : State) (t u : ℕ) (x : Bool) → eq_by_cmp nat_cmp u t ≡ x → AreApart a b → DiffersAt b b' t
+changed_at : (a b b' : State) (t u : ℕ) (x : Bool) → eq_by_cmp nat_cmp u t ≡ x → ShareNoTask a b → DiffersAt b b' t
     → (stands_in a t && stands_in b' t) ≡ false → (stands_in a u && stands_in b' u) ≡ false
 changed_at a b b' t u true k h d at =
     let same : u ≡ t = grind (arith, nat_tests) in ap (λ (n : ℕ). stands_in a n && stands_in b' n) same ∙ at
 changed_at a b b' t u false k h d at = ap (λ (x : Bool). stands_in a u && x) (d u k) ∙ h u
 
 -- one of them changes at a task that then stands in one at most
-apart_changed : (a b b' : State) (t : ℕ) → AreApart a b → DiffersAt b b' t → (stands_in a t && stands_in b' t) ≡ false → AreApart a b'
+apart_changed : (a b b' : State) (t : ℕ) → ShareNoTask a b → DiffersAt b b' t → (stands_in a t && stands_in b' t) ≡ false → ShareNoTask a b'
 apart_changed a b b' t h d at = λ u. changed_at a b b' t u (eq_by_cmp nat_cmp u t) refl h d at
 
 is_other : (q : State) (t u : ℕ) (e : Entry) → eq_by_cmp nat_cmp u t ≡ false → get (insert q.runnable t e) u ≡ get q.runnable u
@@ -69,14 +69,14 @@ differs_without q t (Some e) = λ u k.
     (get-remove nat_cmp_total q.runnable t u ∙ ap (λ x. cond x None (get q.runnable u)) k)
 
 -- a task that stands in neither joins the second
-pub apart_put : (a b b' : State) (t : ℕ) (s : Sleeper) → AreApart a b → IsNowhere a t → put b t s ≡ Some b' → AreApart a b'
+pub apart_put : (a b b' : State) (t : ℕ) (s : Sleeper) → ShareNoTask a b → IsNowhere a t → put b t s ≡ Some b' → ShareNoTask a b'
 apart_put a b b' t s h nowhere is =
     apart_changed a b b' t h (differs_put b b' t (placed_entry b s) is) (ap (λ (x : Bool). x && stands_in b' t) (stands_nowhere a t nowhere))
 
 -- or falls asleep in the first
-pub apart_asleep : (a b : State) (p : Contents) → AreApart a b → IsNowhere b p.task → AreApart (put_asleep a p) b
+pub apart_asleep : (a b : State) (p : Contents) → ShareNoTask a b → IsNowhere b p.task → ShareNoTask (put_asleep a p) b
 apart_asleep a b p h nowhere =
-    let b_a : AreApart b (put_asleep a p) = apart_changed b a (put_asleep a p) p.task (apart_swapped a b h) (differs_asleep a p)
+    let b_a : ShareNoTask b (put_asleep a p) = apart_changed b a (put_asleep a p) p.task (apart_swapped a b h) (differs_asleep a p)
     (ap (λ (x : Bool). x && stands_in (put_asleep a p) p.task) (stands_nowhere b p.task nowhere)) in
     apart_swapped b (put_asleep a p) b_a
 
@@ -86,17 +86,17 @@ left_number q t (Some e) p h =
     let same : leaving t (kept_lag q e) e ≡ p = grind arith in sym (ap (λ (c : Contents). c.task) same)
 
 -- a task leaves the first
-pub apart_left : (a a' b : State) (t : ℕ) (p : Contents) → AreApart a b → carried a t ≡ Some p → a' ≡ leave a t → IsNowhere a' p.task → AreApart a' b
+pub apart_left : (a a' b : State) (t : ℕ) (p : Contents) → ShareNoTask a b → carried a t ≡ Some p → a' ≡ leave a t → IsNowhere a' p.task → ShareNoTask a' b
 apart_left a a' b t p h c is nowhere =
     let number : p.task ≡ t = left_number a t (get a.runnable t) p c in
-    let b_a : AreApart b a' =
+    let b_a : ShareNoTask b a' =
     apart_changed b a a' t (apart_swapped a b h)
     (λ u k. ap (λ (x : State). stands_in x u) is ∙ differs_without a t (get a.runnable t) u k)
     (and_false (stands_in b t) (stands_in a' t) (ap (stands_in a') (sym number) ∙ stands_nowhere a' p.task nowhere)) in
     apart_swapped b a' b_a
 
 -- nothing stands in an empty queue
-pub apart_empty : (a b : State) → b ≡ empty_state → AreApart a b
+pub apart_empty : (a b : State) → b ≡ empty_state → ShareNoTask a b
 apart_empty a b is = λ u.
     and_false (stands_in a u) (stands_in b u)
     (ap (λ (x : State). stands_in x u) is ∙ both_none (get empty_state.runnable u) (get empty_state.asleep u) (get-empty nat_cmp u) (get-empty nat_cmp u))

@@ -1,7 +1,7 @@
 ghost use Rattle.std.specs.Prelude.{◌≡◌, ◌≤◌, true, IfOk};
 ghost use Rattle.std.specs.FinMap as map;
 ghost use Rattle.eevdf_queue.specs.Leaving.{IsNowhere};
-ghost use Rattle.queue_bench.specs.Apart.{AreApart};
+ghost use Rattle.queue_bench.specs.SharedTasks.{ShareNoTask};
 
 use crate::answer_words::of_task;
 use crate::checksum::Checksum;
@@ -21,7 +21,7 @@ impl PullQueues {
     /// Two queues with half of the tasks each.
     pub fn open(alloc: Global, tasks: u64) -> Result<PullQueues, AllocError>
         requires { tasks ≤ 1024 }
-        ensures { IfOk result (λ queues. AreApart queues.first.state queues.second.state) }
+        ensures { IfOk result (λ queues. ShareNoTask queues.first.state queues.second.state) }
     {
         let mut first = Queue::open();
         let mut second = Queue::open();
@@ -42,8 +42,8 @@ impl PullQueues {
 
     /// Pulls from the first queue to the second.
     pub fn pull_forth(&mut self)
-        requires { AreApart self.old.first.state self.old.second.state }
-        ensures { AreApart self.new.first.state self.new.second.state }
+        requires { ShareNoTask self.old.first.state self.old.second.state }
+        ensures { ShareNoTask self.new.first.state self.new.second.state }
     {
         let pulled = pull(&mut self.first, &mut self.second);
         self.checksum.add(of_task(pulled));
@@ -51,8 +51,8 @@ impl PullQueues {
 
     /// Pulls from the second queue to the first.
     pub fn pull_back(&mut self)
-        requires { AreApart self.old.first.state self.old.second.state }
-        ensures { AreApart self.new.first.state self.new.second.state }
+        requires { ShareNoTask self.old.first.state self.old.second.state }
+        ensures { ShareNoTask self.new.first.state self.new.second.state }
     {
         let pulled = pull(&mut self.second, &mut self.first);
         self.checksum.add(of_task(pulled));
@@ -61,8 +61,8 @@ impl PullQueues {
 
 /// Brings the candidate of a queue to another. Where it can't be placed there, it falls asleep.
 fn pull(from: &mut Queue, to: &mut Queue) -> Option<TaskId>
-    requires { AreApart from.old.state to.old.state }
-    ensures { AreApart from.new.state to.new.state }
+    requires { ShareNoTask from.old.state to.old.state }
+    ensures { ShareNoTask from.new.state to.new.state }
 {
     let task = from.candidate()?;
     let parcel = from.detach(task);
@@ -72,10 +72,10 @@ fn pull(from: &mut Queue, to: &mut Queue) -> Option<TaskId>
 
 /// Puts a task that stands in neither queue where it can be placed.
 fn settle(from: &mut Queue, to: &mut Queue, parcel: Parcel)
-    requires apart { AreApart from.old.state to.old.state }
+    requires apart { ShareNoTask from.old.state to.old.state }
     requires left { IsNowhere from.old.state parcel.task }
     requires new { IsNowhere to.old.state parcel.task }
-    ensures { AreApart from.new.state to.new.state }
+    ensures { ShareNoTask from.new.state to.new.state }
 {
     if to.can_place(parcel.nice(), parcel.slice(), parcel.lag()) {
         to.attach(parcel);

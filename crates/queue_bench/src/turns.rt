@@ -1,7 +1,7 @@
 //! The turns of a run. Each mix has a loop of its own, so that a turn is its calls and nothing else.
 
 ghost use Rattle.std.specs.Prelude.{◌<◌, ◌≤◌};
-ghost use Rattle.queue_bench.specs.Apart.{AreApart};
+ghost use Rattle.queue_bench.specs.SharedTasks.{ShareNoTask};
 
 use crate::asked_run::AskedRun;
 use crate::bench_queue::BenchQueue;
@@ -76,7 +76,7 @@ fn renices(bench: &mut BenchQueue, tasks: u64, turns: u64)
 }
 
 fn pulls(queues: &mut PullQueues, turns: u64)
-    requires { AreApart queues.old.first.state queues.old.second.state }
+    requires { ShareNoTask queues.old.first.state queues.old.second.state }
 {
     for turn in 0..turns {
         if turn % 2 == 0 {
