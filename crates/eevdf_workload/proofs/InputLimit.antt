@@ -3,7 +3,7 @@ use Rattle.std.proofs.Common.{◌≡◌, ℕ, ◌+◌, ◌≤◌, Bool, true, fa
 use Rattle.std.specs.Prelude.{nat_lt, if◌then◌else◌, Err}
 use Rattle.std.proofs.{lemmas.List.take_all, lemmas.List.length-take, lemmas.Bool.Decides.nat_tests}
 use Rattle.eevdf_workload.specs.declared.load_fault.LoadFault.TheVariants as fault
-use Rattle.eevdf_workload.specs.Meaning.{meaning, document_of, workload_of}
+use Rattle.eevdf_workload.specs.Meaning.{meaning, most_bytes, read_limit, document_of, workload_of}
 use Rattle.eevdf_workload.specs.MeaningSteps.{◌>>=◌}
 
 cut : {A : Type 0} (m n : ℕ) (e : A) (read : List ℕ → A) (bytes : List ℕ) (b : Bool) → n ≡ m + 1 → nat_lt m (length bytes) ≡ b
@@ -16,6 +16,6 @@ cut {A} m n e read bytes false one h =
     let same : take n bytes ≡ bytes = take_all n bytes short in
     ap (λ (bs : List ℕ). cond (nat_lt m (length bs)) e (read bs)) same ∙ ap (λ (t : Bool). cond t e (read bytes)) h
 
-pub meaning_cut : (bytes : List ℕ) → meaning (take 16777217 bytes) ≡ meaning bytes
+pub meaning_cut : (bytes : List ℕ) → meaning (take read_limit bytes) ≡ meaning bytes
 unfolding meaning
-meaning_cut bytes = cut 16777216 16777217 (Err fault.TooLarge) (λ (bs : List ℕ). document_of bs >>= workload_of) bytes (nat_lt 16777216 (length bytes)) refl refl
+meaning_cut bytes = cut most_bytes read_limit (Err fault.TooLarge) (λ (bs : List ℕ). document_of bs >>= workload_of) bytes (nat_lt most_bytes (length bytes)) refl refl

@@ -26,6 +26,10 @@ pub record Workload : Type 0 where
 abbrev pub most_bytes : ℕ
 most_bytes = 16777216
 
+-- as many bytes are read at most, which is enough to see that there are too many
+abbrev pub read_limit : ℕ
+read_limit = most_bytes + 1
+
 -- ---- the version
 
 abbrev pub version_of : Data → Result Version LoadFault

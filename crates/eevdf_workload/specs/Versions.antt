@@ -1,12 +1,12 @@
 -- What a workload of each version may hold.
 use Rattle.std.specs.Prelude.{ℕ, ◌==◌, nat_lt, true, false, if◌then◌else◌, List, codes, Option, Some, None}
-use Rattle.eevdf_ops.specs.Numbers.{checked_cpu}
+use Rattle.eevdf_ops.specs.Numbers.{checked_cpu, cpu_limit}
 use Rattle.eevdf_workload.specs.{declared.version.Version.Version, declared.version.Version.TheVariants.One}
 use Rattle.eevdf_workload.specs.{declared.version.Version.TheVariants.Two, declared.version.Limits.Limits}
 
 abbrev pub limits_of : Version → Limits
 limits_of One = record { cpus = 16; deeds = 160000; renice = false }
-limits_of Two = record { cpus = 64; deeds = 640000; renice = true }
+limits_of Two = record { cpus = cpu_limit; deeds = 640000; renice = true }
 
 -- the version of a number
 abbrev pub checked_version : ℕ → Option Version

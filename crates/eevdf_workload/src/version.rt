@@ -42,12 +42,12 @@ impl Version {
     {
         match self {
             Version::One => Limits {
-                cpus: 16,
+                cpus: Workload::MOST_CPUS_IN_VERSION_ONE,
                 deeds: Workload::MOST_DEEDS_IN_VERSION_ONE,
                 renice: false,
             },
             Version::Two => Limits {
-                cpus: 64,
+                cpus: CpuId::COUNT as u64,
                 deeds: Workload::MOST_DEEDS,
                 renice: true,
             },

@@ -30,6 +30,10 @@ impl Workload {
     /// A workload has at most so many bytes, in either version.
     pub const MOST_BYTES: usize = 16_777_216;
 
+    /// There are at most so many programs, and the numbers of CPUs are below this, in version 1. In version 2 both are
+    /// `CpuId::COUNT`.
+    pub const MOST_CPUS_IN_VERSION_ONE: u64 = 16;
+
     /// A script has at most so many deeds, in version 2.
     pub const MOST_DEEDS: usize = 640_000;
 
