@@ -11,8 +11,8 @@ use Rattle.eevdf_ops.specs.declared.deeds.Answer.TheVariants.{Nothing, Balanced,
 use Rattle.eevdf_ops.specs.OneQueue.{one_tick, one_pick, one_yield, one_wake, one_renice}
 use Rattle.eevdf_ops.specs.Parts.{decider, giver, taker, Moved, given, answer_of_sleep, answer_of_pull, local_answer, taken, after_leaving, after_falling_asleep, after_joining, only_at, local_after}
 use Rattle.eevdf_ops.specs.PartsLaws as laws
-use Rattle.eevdf_ops.specs.WholePull.{offer, load_of, is_lighter, decision, with_task, pull_decided}
-use Rattle.eevdf_ops.proofs.{MapCounts.equal, MachinePlaces.other_queue, Pulling.decision-taken, Pulling.decided_at}
+use Rattle.eevdf_ops.specs.WholePull.{offer, load_of, is_lighter, decision, with_task, pull_decided, pull_decision}
+use Rattle.eevdf_ops.proofs.{MapCounts.equal, MachinePlaces.other_queue, Pulling.decision-taken}
 use Rattle.eevdf_ops.proofs.{DeedNames.DeedNames, DeedNames.deed_names}
 
 unequal : (k c : ℕ) → (k == c) ≡ false → k ≢ c
@@ -58,7 +58,7 @@ untaken q load (Some p) o why e = untaken_by p (is_lighter (load_of q) p load) (
 abbrev pulled_queue : Machine → ℕ → ℕ → ℕ → Option Contents → State
 pulled_queue m cpu source k o = only_at cpu k (after_joining o) (only_at source k (after_leaving o) (queue_at m k))
 
-pull_after : (m : Machine) (cpu source k : ℕ) (d : Result Contents Answer) → cpu < length m → source < length m → decided_at m cpu source ≡ d
+pull_after : (m : Machine) (cpu source k : ℕ) (d : Result Contents Answer) → cpu < length m → source < length m → pull_decision m cpu source ≡ d
     → queue_at (pull_decided m cpu source d).1 k ≡ pulled_queue m cpu source k (taken (answer_of_pull d) (offer (queue_at m source)))
 pull_after m cpu source k (Err why) h i e =
     sym (ap (pulled_queue m cpu source k) (untaken (queue_at m cpu) (load_of (queue_at m source)) (offer (queue_at m source)) (offer (queue_at m source)) why e)
@@ -87,7 +87,7 @@ whole-answer homes (Yield cpu) m = refl
 whole-answer homes (Sleep cpu task) m = sleep_answer m cpu (home_of homes task) (carried_running (queue_at m cpu) task)
 whole-answer homes (Wake cpu task sender) m = refl
 whole-answer homes (Renice cpu task nice) m = refl
-whole-answer homes (Pull cpu source) m = pull_answer m cpu source (decided_at m cpu source)
+whole-answer homes (Pull cpu source) m = pull_answer m cpu source (pull_decision m cpu source)
 
 -- and each queue changes by itself
 pub whole-after : (homes : List ℕ) (deed : Deed) (m : Machine) (k : ℕ) → laws.Fits homes deed m
@@ -104,8 +104,8 @@ whole-after homes (Renice cpu task nice) m k fits =
     changed (λ q. (one_renice q task nice).1) m cpu k (deed_names homes (Renice cpu task nice) m fits.allowed fits.cpus).of_decider
 whole-after homes (Pull cpu source) m k fits =
     let named : DeedNames homes (Pull cpu source) m = deed_names homes (Pull cpu source) m fits.allowed fits.cpus in
-    pull_after m cpu source k (decided_at m cpu source) named.of_decider named.of_giver refl
-    ∙ ap (λ (a : Answer). pulled_queue m cpu source k (taken a (offer (queue_at m source)))) (sym (pull_answer m cpu source (decided_at m cpu source)))
+    pull_after m cpu source k (pull_decision m cpu source) named.of_decider named.of_giver refl
+    ∙ ap (λ (a : Answer). pulled_queue m cpu source k (taken a (offer (queue_at m source)))) (sym (pull_answer m cpu source (pull_decision m cpu source)))
 
 or_false : (a b : Bool) → (a || b) ≡ false → (a ≡ false) × (b ≡ false)
 or_false true b e = cc
@@ -126,7 +126,7 @@ stays homes (Yield cpu) m k d g t = other_queue m cpu k _ d
 stays homes (Sleep cpu task) m k d g t = sleep_stays m cpu (home_of homes task) k (carried_running (queue_at m cpu) task) d t
 stays homes (Wake cpu task sender) m k d g t = other_queue m cpu k _ d
 stays homes (Renice cpu task nice) m k d g t = other_queue m cpu k _ d
-stays homes (Pull cpu source) m k d g t = pull_stays m cpu source k (decided_at m cpu source) d g
+stays homes (Pull cpu source) m k d g t = pull_stays m cpu source k (pull_decision m cpu source) d g
 
 pub others_stay : laws.OthersStay
 others_stay homes deed m c e =

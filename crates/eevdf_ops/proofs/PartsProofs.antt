@@ -83,7 +83,7 @@ same_machine (x ∷ m) [] e all = absurd (omega arith)
 same_machine (x ∷ m) (y ∷ n) e all =
     ap (λ (q : State). q ∷ m) (all zero) ∙ ap (λ (l : Machine). y ∷ l) (same_machine m n (omega arith) (λ c. all (suc c)))
 
-either_order : (homes : List ℕ) (a b : Deed) (m : Machine) (c : ℕ) (t : Bool) → touches homes a c ≡ t → laws.Fits homes a m → laws.Fits homes b m → laws.AreApart homes a b
+either_order : (homes : List ℕ) (a b : Deed) (m : Machine) (c : ℕ) (t : Bool) → touches homes a c ≡ t → laws.Fits homes a m → laws.Fits homes b m → laws.TouchNothingCommon homes a b
     → queue_at (whole homes b (whole homes a m).1).1 c ≡ queue_at (whole homes a (whole homes b m).1).1 c
 either_order homes a b m c true t fa fb apart =
     let quiet : touches homes b c ≡ false = second_untouched (touches homes a c) (touches homes b c) (apart c) t in

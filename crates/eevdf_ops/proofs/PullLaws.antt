@@ -11,11 +11,11 @@ use Rattle.eevdf_queue.specs.{Moves.sleeper_of, Placing.can_place, Leaving.leave
 use Rattle.eevdf_ops.specs.{declared.deeds.Answer.Answer, Machine.Machine, Machine.queue_at, WholeSleep.task_leaves}
 use Rattle.eevdf_ops.specs.declared.deeds.Answer.TheVariants.{Pulled, Balanced, Range}
 use Rattle.eevdf_ops.specs.Places.{count, places_in, IsPlaced}
-use Rattle.eevdf_ops.specs.WholePull.{offer, load_of, is_lighter, decision, with_task, task_joins, pull, pull_decided}
+use Rattle.eevdf_ops.specs.WholePull.{offer, load_of, is_lighter, decision, with_task, task_joins, pull, pull_decided, pull_decision}
 use Rattle.eevdf_ops.specs.Laws as laws
 use Rattle.eevdf_ops.proofs.{MachinePlaces.other_queue, Carried.Carries, Carried.offer-carries, WholePlaces.stands_nowhere}
 use Rattle.eevdf_ops.proofs.{WholePlaces.leaves-placed, DeedNames.PullNames, DeedNames.pull_names}
-use Rattle.eevdf_ops.proofs.Pulling.{IsTaken, decision-taken, decided_at}
+use Rattle.eevdf_ops.proofs.Pulling.{IsTaken, decision-taken}
 use Rattle.eevdf_ops.proofs.Loads.{load-leave, load-with, load-empty}
 
 -- no refusal is an answer that a task was pulled
@@ -44,7 +44,7 @@ record IsLevelled (m after : Machine) (cpu source weight : ℕ) : Type 0 where
 below : (a b : ℕ) → nat_lt a b ≡ true → a < b
 below a b h = grind (arith, nat_tests)
 
-taken_levels : (homes : List ℕ) (m : Machine) (cpu source : ℕ) (p : Contents) → cpu < length m → source < length m → cpu ≢ source → IsPlaced homes m → decided_at m cpu source ≡ Ok p
+taken_levels : (homes : List ℕ) (m : Machine) (cpu source : ℕ) (p : Contents) → cpu < length m → source < length m → cpu ≢ source → IsPlaced homes m → pull_decision m cpu source ≡ Ok p
     → IsLevelled m (task_joins (task_leaves m source p.task) cpu p) cpu source (weight_of p.nice)
 taken_levels homes m cpu source p h g apart placed e =
     let taken : IsTaken (queue_at m cpu) (load_of (queue_at m source)) (offer (queue_at m source)) p = decision-taken (queue_at m cpu) (load_of (queue_at m source)) (offer (queue_at m source)) p e in
@@ -70,7 +70,7 @@ record Levels (m after : Machine) (cpu source : ℕ) : Type 0 where
   some_weight : 15 ≤ weight
   is : IsLevelled m after cpu source weight
 
-levels_by : (homes : List ℕ) (m : Machine) (cpu source task : ℕ) (d : Result Contents Answer) → cpu < length m → source < length m → cpu ≢ source → IsPlaced homes m → decided_at m cpu source ≡ d
+levels_by : (homes : List ℕ) (m : Machine) (cpu source task : ℕ) (d : Result Contents Answer) → cpu < length m → source < length m → cpu ≢ source → IsPlaced homes m → pull_decision m cpu source ≡ d
     → (pull_decided m cpu source d).0 ≡ Pulled task → Levels m (pull_decided m cpu source d).1 cpu source
 levels_by homes m cpu source task (Err why) h g apart placed e answered =
     absurd (refusal (queue_at m cpu) (load_of (queue_at m source)) task (offer (queue_at m source)) why e answered)
@@ -83,7 +83,7 @@ levels_by homes m cpu source task (Ok p) h g apart placed e answered = record {
 levels : (homes : List ℕ) (m : Machine) (cpu source task : ℕ) → laws.Pulls homes m cpu source task → Levels m (pull m cpu source).1 cpu source
 levels homes m cpu source task pulls =
     let named : PullNames (length m) cpu source = pull_names (length m) homes cpu source pulls.allowed in
-    levels_by homes m cpu source task (decided_at m cpu source) named.puller named.from named.apart pulls.placed refl pulls.answered
+    levels_by homes m cpu source task (pull_decision m cpu source) named.puller named.from named.apart pulls.placed refl pulls.answered
 
 nearer : (w a b c d : ℕ) → 15 ≤ w → c ≡ w + a → w + d ≡ b → a + w < b → abs_diff c d < abs_diff a b
 nearer w a b c d some ec ed lighter = omega arith

@@ -1,5 +1,5 @@
 -- What a pull decides, and what it then does.
-use Rattle.std.proofs.Common.{◌≡◌, ℕ, ◌<◌, ◌≤◌, length, arith, Bool, true, false, cond, refl, sym, ap, subst, ◌∙◌}
+use Rattle.std.proofs.Common.{◌≡◌, ◌≢◌, ℕ, ◌<◌, ◌≤◌, length, arith, Bool, true, false, cond, refl, sym, ap, subst, ◌∙◌}
 use Rattle.std.specs.Prelude.{is_some, Option, Some, None, Result, Ok, Err}
 use Rattle.std.specs.Option.{unwrap_or}
 use Rattle.eevdf_queue.specs.{declared.entry.Entry.Entry, State.State, State.Contents, Moves.sleeper_of, Moves.with_runnable}
@@ -8,8 +8,9 @@ use Rattle.eevdf_queue.specs.Placing.{can_place, put, placed_entry}
 use Rattle.eevdf_ops.specs.{declared.deeds.Answer.Answer, declared.deeds.Answer.TheVariants.Balanced}
 use Rattle.eevdf_ops.specs.{declared.deeds.Answer.TheVariants.Range, Machine.Machine, Machine.queue_at, PullOffer.task_of}
 use Rattle.eevdf_ops.specs.{Places.places, Places.places_in, WholeSleep.task_leaves}
-use Rattle.eevdf_ops.specs.WholePull.{offer, is_lighter, load_of, decision, with_task, task_joins, pull, pull_decided}
+use Rattle.eevdf_ops.specs.WholePull.{offer, is_lighter, load_of, decision, with_task, pull_decision}
 use Rattle.std.proofs.Math.ListN.{length-set}
+use Rattle.eevdf_ops.proofs.MachinePlaces.{other_queue}
 use Rattle.eevdf_ops.proofs.Carried.{Carries, carried-carries, offer-carried, offer-waits, left-nowhere}
 
 -- what a pull decides, where it takes a task
@@ -38,34 +39,26 @@ joined_by q p (Some entry) e = refl
 pub with_task-put : (q : State) (p : Contents) → can_place q (sleeper_of p) ≡ true → put q p.task (sleeper_of p) ≡ Some (with_task q p)
 with_task-put q p room = joined_by q p (placed_entry q (sleeper_of p)) room
 
--- what the CPU decides on the machine
-abbrev pub decided_at : Machine → ℕ → ℕ → Result Contents Answer
-decided_at m cpu source = decision (queue_at m cpu) (load_of (queue_at m source)) (offer (queue_at m source))
-
-pub decided_of : (m : Machine) (cpu source : ℕ) (q s : State) (r : Result ℕ Answer) → q ≡ queue_at m cpu → s ≡ queue_at m source → r ≡ task_of (decision q (load_of s) (offer s)) → task_of (decided_at m cpu source) ≡ r
+pub decided_of : (m : Machine) (cpu source : ℕ) (q s : State) (r : Result ℕ Answer) → q ≡ queue_at m cpu → s ≡ queue_at m source → r ≡ task_of (decision q (load_of s) (offer s)) → task_of (pull_decision m cpu source) ≡ r
 decided_of m cpu source q s r at_cpu at_source e =
     ap (λ (x : State). task_of (decision x (load_of (queue_at m source)) (offer (queue_at m source)))) (sym at_cpu)
     ∙ ap (λ (x : State). task_of (decision q (load_of x) (offer x))) (sym at_source) ∙ sym e
 
-refused_by : (m : Machine) (cpu source : ℕ) (d : Result Contents Answer) (refusal : Answer) → task_of d ≡ Err refusal → pull_decided m cpu source d ≡ (refusal, m)
-refused_by m cpu source (Ok p) refusal e = cc
-refused_by m cpu source (Err why) refusal e = let is : why ≡ refusal = cc in ap (λ (a : Answer). (a, m)) is
-
-pub refused : (m : Machine) (cpu source : ℕ) (refusal : Answer) → task_of (decided_at m cpu source) ≡ Err refusal → pull m cpu source ≡ (refusal, m)
-refused m cpu source refusal e = refused_by m cpu source (decided_at m cpu source) refusal e
+pub refusal_decided : (decided : Result Contents Answer) (refusal : Answer) → task_of decided ≡ Err refusal → decided ≡ Err refusal
+refusal_decided decided refusal e = grind arith
 
 -- the CPU takes a task
 pub record Takes (m : Machine) (cpu source task : ℕ) : Type 0 where
   pub contents : Contents
-  pub decides : decided_at m cpu source ≡ Ok contents
+  pub decides : pull_decision m cpu source ≡ Ok contents
   pub of_task : contents.task ≡ task
 
-takes_by : (m : Machine) (cpu source task : ℕ) (d : Result Contents Answer) → decided_at m cpu source ≡ d → task_of d ≡ Ok task → Takes m cpu source task
+takes_by : (m : Machine) (cpu source task : ℕ) (d : Result Contents Answer) → pull_decision m cpu source ≡ d → task_of d ≡ Ok task → Takes m cpu source task
 takes_by m cpu source task (Ok p) at e = record { contents = p; decides = at; of_task = cc }
 takes_by m cpu source task (Err why) at e = cc
 
-pub takes : (m : Machine) (cpu source task : ℕ) → task_of (decided_at m cpu source) ≡ Ok task → Takes m cpu source task
-takes m cpu source task e = takes_by m cpu source task (decided_at m cpu source) refl e
+pub takes : (m : Machine) (cpu source task : ℕ) → task_of (pull_decision m cpu source) ≡ Ok task → Takes m cpu source task
+takes m cpu source task e = takes_by m cpu source task (pull_decision m cpu source) refl e
 
 takes-offer : (m : Machine) (cpu source task : ℕ) (t : Takes m cpu source task) → offer (queue_at m source) ≡ Some t.contents
 takes-offer m cpu source task t = (decision-taken (queue_at m cpu) (load_of (queue_at m source)) (offer (queue_at m source)) t.contents t.decides).offered_it
@@ -75,24 +68,21 @@ pub takes-waiting : (m : Machine) (cpu source task : ℕ) → Takes m cpu source
 takes-waiting m cpu source task t =
     ap (is_running (queue_at m source).running) (sym t.of_task) ∙ offer-waits (queue_at m source) t.contents (takes-offer m cpu source task t)
 
--- and what leaves with it is what was decided on
-pub takes-contents : (m : Machine) (cpu source task : ℕ) (p : Contents) (t : Takes m cpu source task) → carried (queue_at m source) task ≡ Some p → t.contents ≡ p
-takes-contents m cpu source task p t e =
-    let carries : carried (queue_at m source) task ≡ Some t.contents =
-    ap (carried (queue_at m source)) (sym t.of_task) ∙ offer-carried (queue_at m source) t.contents (takes-offer m cpu source task t) in
-    cc
+-- what is taken is what the source offered
+taken-carried : (m : Machine) (cpu source : ℕ) (p : Contents) → pull_decision m cpu source ≡ Ok p → carried (queue_at m source) p.task ≡ Some p
+taken-carried m cpu source p e =
+    offer-carried (queue_at m source) p (decision-taken (queue_at m cpu) (load_of (queue_at m source)) (offer (queue_at m source)) p e).offered_it
 
-pub taken-nowhere : (m left : Machine) (cpu source task : ℕ) (p : Contents) → cpu < length m → source < length m → places m p.task ≤ 1 → carried (queue_at m source) task ≡ Some p → left ≡ task_leaves m source task
+pub taken-nowhere : (m left : Machine) (cpu source : ℕ) (p : Contents) → cpu < length m → source < length m → places m p.task ≤ 1 → pull_decision m cpu source ≡ Ok p → left ≡ task_leaves m source p.task
     → places_in (queue_at left cpu) p.task ≡ 0
-taken-nowhere m left cpu source task p h g few e is =
-    let c : Carries (queue_at m source) task p = carried-carries (queue_at m source) task p e in
-    let at : left ≡ task_leaves m source p.task = is ∙ ap (task_leaves m source) (sym c.of_task) in
-    ap (λ (n : Machine). places_in (queue_at n cpu) p.task) at
-    ∙ left-nowhere m source task cpu p g (omega (arith, length-set m source (leave (queue_at m source) p.task))) c few
+taken-nowhere m left cpu source p h g few e is =
+    let c : Carries (queue_at m source) p.task p = carried-carries (queue_at m source) p.task p (taken-carried m cpu source p e) in
+    ap (λ (n : Machine). places_in (queue_at n cpu) p.task) is
+    ∙ left-nowhere m source p.task cpu p g (omega (arith, length-set m source (leave (queue_at m source) p.task))) c few
 
-pub pulled-machine : (m left joined : Machine) (cpu source task : ℕ) (p : Contents) → Takes m cpu source task → carried (queue_at m source) task ≡ Some p → left ≡ task_leaves m source task
-    → joined ≡ task_joins left cpu p → joined ≡ (pull m cpu source).1
-pulled-machine m left joined cpu source task p t e is into =
-    into ∙ ap (λ (n : Machine). task_joins n cpu p) (is ∙ ap (task_leaves m source) (sym t.of_task))
-    ∙ ap (λ (r : Contents). task_joins (task_leaves m source t.contents.task) cpu r) (sym (takes-contents m cpu source task p t e))
-    ∙ ap (λ (d : Result Contents Answer). (pull_decided m cpu source d).1) (sym t.decides)
+pub taken-room : (m left : Machine) (cpu source : ℕ) (p : Contents) → cpu ≢ source → pull_decision m cpu source ≡ Ok p → left ≡ task_leaves m source p.task
+    → can_place (queue_at left cpu) (sleeper_of p) ≡ true
+taken-room m left cpu source p apart e is =
+    ap (λ (n : Machine). can_place (queue_at n cpu) (sleeper_of p)) is
+    ∙ ap (λ (q : State). can_place q (sleeper_of p)) (other_queue m source cpu (leave (queue_at m source) p.task) apart)
+    ∙ (decision-taken (queue_at m cpu) (load_of (queue_at m source)) (offer (queue_at m source)) p e).room

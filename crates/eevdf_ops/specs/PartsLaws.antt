@@ -49,8 +49,8 @@ TouchedDecide =
     AgreeWhereTouched homes deed m n → IsAlike homes deed m n
 
 -- no queue is touched by both
-abbrev pub AreApart : List ℕ → Deed → Deed → Type 0
-AreApart homes a b = (c : ℕ) → touches homes a c && touches homes b c ≡ false
+abbrev pub TouchNothingCommon : List ℕ → Deed → Deed → Type 0
+TouchNothingCommon homes a b = (c : ℕ) → touches homes a c && touches homes b c ≡ false
 
 -- two deeds done one after the other
 pub record Commute (homes : List ℕ) (a b : Deed) (m : Machine) : Type 0 where
@@ -61,7 +61,7 @@ pub record Commute (homes : List ℕ) (a b : Deed) (m : Machine) : Type 0 where
 -- deeds that touch no common queue are answered alike, and leave the same machine, in either order
 abbrev pub ApartDeedsCommute : Type 0
 ApartDeedsCommute =
-    (homes : List ℕ) (a b : Deed) (m : Machine) → Fits homes a m → Fits homes b m → AreApart homes a b →
+    (homes : List ℕ) (a b : Deed) (m : Machine) → Fits homes a m → Fits homes b m → TouchNothingCommon homes a b →
     Commute homes a b m
 
 -- a wake depends on the queue of its CPU alone, and changes it alone

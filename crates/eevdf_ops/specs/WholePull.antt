@@ -25,6 +25,15 @@ decision q source_load (Some p) =
     if is_lighter (load_of q) p source_load then (if can_place q (sleeper_of p) then Ok p else Err Range)
     else Err Balanced
 
+-- the same of two CPUs of a machine
+abbrev pub pull_decision : Machine → ℕ → ℕ → Result Contents Answer
+pull_decision m cpu source = decision (queue_at m cpu) (load_of (queue_at m source)) (offer (queue_at m source))
+
+-- the machine when what was decided is taken from the source
+abbrev pub decided_leaves : Machine → ℕ → Result Contents Answer → Machine
+decided_leaves m source (Err refusal) = m
+decided_leaves m source (Ok p) = task_leaves m source p.task
+
 -- a queue with the task, where it can be placed there
 abbrev pub with_task : State → Contents → State
 with_task q p = unwrap_or (put q p.task (sleeper_of p)) q
@@ -38,5 +47,4 @@ pull_decided m cpu source (Err refusal) = (refusal, m)
 pull_decided m cpu source (Ok p) = (Pulled p.task, task_joins (task_leaves m source p.task) cpu p)
 
 abbrev pub pull : Machine → ℕ → ℕ → Answer × Machine
-pull m cpu source =
-    pull_decided m cpu source (decision (queue_at m cpu) (load_of (queue_at m source)) (offer (queue_at m source)))
+pull m cpu source = pull_decided m cpu source (pull_decision m cpu source)

@@ -41,6 +41,16 @@ impl CpuId {
         }
     }
 
+    /// The CPU at a place in a list that has one for each CPU.
+    pub fn numbered(place: usize) -> CpuId
+        requires { place < cpu_limit }
+        ensures { result ≡ place }
+    {
+        CpuId {
+            number: place as u8,
+        }
+    }
+
     /// The number, below 64.
     pub fn get(self) -> u64
         ensures number { result ≡ self }

@@ -1,7 +1,8 @@
 //! The answers of one queue as those of deeds.
 
 ghost use Rattle.std.specs.Prelude.{◌≡◌};
-ghost use Rattle.eevdf_ops.specs.OneQueue.{answer_of_pick, answer_of_renice, answer_of_tick, answer_of_wake, answer_of_yield};
+ghost use Rattle.eevdf_ops.specs.OneQueue.{answer_of_pick, answer_of_renice, answer_of_tick};
+ghost use Rattle.eevdf_ops.specs.OneQueue.{answer_of_wake, answer_of_yield};
 
 use crate::deeds::Answer;
 use eevdf_queue::{ReniceAnswer, TaskId, TickAnswer, WakeAnswer, YieldAnswer};

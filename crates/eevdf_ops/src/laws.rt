@@ -1,6 +1,7 @@
 //! Laws of the machine and its deeds, each the contract of a function that does nothing.
 
-ghost use Rattle.eevdf_ops.specs.{Given.TasksStayAsGiven, Outcome.machine_of, PartsHistory.HistoryByParts};
+ghost use Rattle.eevdf_ops.specs.{Given.TasksStayAsGiven, Outcome.machine_of};
+ghost use Rattle.eevdf_ops.specs.{PartsHistory.HistoryByParts};
 ghost use Rattle.eevdf_ops.specs.Laws.{DeedsKeepPlaces, PullLevels, PullLeavesSome};
 ghost use Rattle.eevdf_ops.specs.Machine as machine;
 ghost use Rattle.eevdf_ops.specs.PartsLaws.{

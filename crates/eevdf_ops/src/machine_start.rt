@@ -1,8 +1,11 @@
 //! The machine at the start: each task at its home.
 
-ghost use Rattle.std.specs.Prelude.{◌≡◌, ◌≤◌, ◌<◌, None, true, length, replicate, slice_set, IfOk, OnOk};
-ghost use Rattle.eevdf_queue.specs.{State.empty_state, Leaving.IsNowhere, Moves.fresh_entry, Moves.is_entry_in_range};
-ghost use Rattle.eevdf_ops.specs.{Faults.starts_in_range, Faults.tasks_fault, Numbers.most_tasks, Outcome.machine_of};
+ghost use Rattle.std.specs.Prelude.{◌≡◌, ◌≤◌, ◌<◌, None, true, length, replicate, slice_set, IfOk};
+ghost use Rattle.std.specs.Prelude.{OnOk};
+ghost use Rattle.eevdf_queue.specs.{State.empty_state, Leaving.IsNowhere, Moves.fresh_entry};
+ghost use Rattle.eevdf_queue.specs.{Moves.is_entry_in_range};
+ghost use Rattle.eevdf_ops.specs.{Faults.starts_in_range, Faults.tasks_fault, Numbers.most_tasks};
+ghost use Rattle.eevdf_ops.specs.{Outcome.machine_of};
 ghost use Rattle.eevdf_ops.specs.Machine as machine;
 
 use crate::task_spec::TaskSpec;
@@ -71,7 +74,8 @@ fn begin(
 /// Puts a task that is in no place yet into a queue, asleep or runnable at its start.
 fn join(queue: &mut Queue, parcel: Parcel, asleep: bool)
     requires absent { IsNowhere queue.old.state parcel.task }
-    requires in_range { is_entry_in_range (fresh_entry parcel.start parcel.nice parcel.slice) ≡ true }
+    requires in_range { is_entry_in_range
+        (fresh_entry parcel.start parcel.nice parcel.slice) ≡ true }
     ensures { queue.new.state ≡ machine.joined asleep parcel queue.old.state }
 {
     if asleep {

@@ -1,7 +1,8 @@
 //! Deeds on one queue of a machine, done at once.
 
 ghost use Rattle.std.specs.Prelude.{◌≡◌, ◌<◌, length, slice_set};
-ghost use Rattle.eevdf_ops.specs.{Machine.queue_at, Outcome.machine_of, PickTurns.ArePickTurns, PickTurns.turns_at};
+ghost use Rattle.eevdf_ops.specs.{Machine.queue_at, Outcome.machine_of, PickTurns.ArePickTurns};
+ghost use Rattle.eevdf_ops.specs.{PickTurns.turns_at};
 ghost use Rattle.eevdf_ops.specs.OneQueue as whole;
 
 use crate::cpu_id::CpuId;
@@ -58,7 +59,8 @@ pub fn wake(queues: &mut [Queue], cpu: CpuId, task: TaskId) -> Answer
 /// Gives a task that is runnable on the CPU another nice level.
 pub fn renice(queues: &mut [Queue], cpu: CpuId, task: TaskId, nice: Nice) -> Answer
     requires { cpu < length queues.old }
-    ensures answer { result ≡ (whole.one_renice (queue_at (machine_of queues.old) cpu) task nice).0 }
+    ensures answer { result
+        ≡ (whole.one_renice (queue_at (machine_of queues.old) cpu) task nice).0 }
     ensures machine { machine_of queues.new ≡ slice_set (machine_of queues.old) cpu
         (whole.one_renice (queue_at (machine_of queues.old) cpu) task nice).1 }
 {

@@ -74,7 +74,8 @@ impl Outcome {
     pub fn left(&self, sender: usize, home: usize) -> &[TaskId]
         requires sender { sender < length self.now.queues }
         requires home { home < length self.now.queues }
-        ensures { result.now ≡ slice_index_or self.now.left (sender * length self.now.queues + home) [] }
+        ensures { result.now
+            ≡ slice_index_or self.now.left (sender * length self.now.queues + home) [] }
     {
         &self.left[sender * self.cpus() + home]
     }

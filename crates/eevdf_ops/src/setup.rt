@@ -1,6 +1,7 @@
 ghost use Rattle.std.specs.Prelude.{◌≡◌, ◌<◌, ◌≤◌, nat_lt, length, map, slice_index_or, IfOk, None};
 ghost use Rattle.eevdf_ops.specs.Faults as faults;
-ghost use Rattle.eevdf_ops.specs.{Faults.IsSetupOf, Faults.tasks_fault, Numbers.most_cpus, Numbers.most_tasks};
+ghost use Rattle.eevdf_ops.specs.{Faults.IsSetupOf, Faults.tasks_fault, Numbers.most_cpus};
+ghost use Rattle.eevdf_ops.specs.{Numbers.most_tasks};
 ghost use Rattle.eevdf_ops.specs.TasksLeft.{tasks_left};
 ghost use Rattle.eevdf_ops.specs.Setup as setup;
 ghost use Rattle.std.specs.List.{enumerate_from};
@@ -29,9 +30,13 @@ impl Model for Setup {
 
     ghost Value = { setup.Setup };
 
-    ghost view = { λ s. record { tasks = s.tasks.items; programs = map (λ p. p.items) s.programs.items } };
+    ghost view = { λ s. record {
+      tasks = s.tasks.items;
+      programs = map (λ p. p.items) s.programs.items;
+    } };
 
-    ghost invariant = { λ s. setup_fault s.tasks.items (map (λ p. p.items) s.programs.items) ≡ None };
+    ghost invariant = { λ s.
+        setup_fault s.tasks.items (map (λ p. p.items) s.programs.items) ≡ None };
 }
 
 impl Setup {
@@ -163,7 +168,8 @@ impl Setup {
 }
 
 fn copy_programs(alloc: Global, programs: &[Vec<Op>]) -> Result<Vec<Vec<Op>>, AllocError>
-    ensures { IfOk result (λ copies. map (λ p. p.items) copies.items ≡ map (λ p. p.items) programs.now) }
+    ensures { IfOk result (λ copies.
+        map (λ p. p.items) copies.items ≡ map (λ p. p.items) programs.now) }
 {
     let mut copies = Vec::with_capacity(alloc, programs.len())?;
     for program in programs {

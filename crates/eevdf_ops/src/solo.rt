@@ -1,5 +1,7 @@
-ghost use Rattle.std.specs.Prelude.{◌≡◌, ◌<◌, ◌↔◌, nat_lt, length, true, false, IfOk, IfSome, IfNone, IsNone, OnSome, slice_index_or};
-ghost use Rattle.eevdf_ops.specs.Setup.{cpus_of, homes_of, is_allowed, is_at_home, is_task, wakes_at_home};
+ghost use Rattle.std.specs.Prelude.{◌≡◌, ◌<◌, ◌↔◌, nat_lt, length, true, false, IfOk, IfSome};
+ghost use Rattle.std.specs.Prelude.{IfNone, IsNone, OnSome, slice_index_or};
+ghost use Rattle.eevdf_ops.specs.Setup.{cpus_of, homes_of, is_allowed, is_at_home, is_task};
+ghost use Rattle.eevdf_ops.specs.Setup.{wakes_at_home};
 ghost use Rattle.eevdf_ops.specs.Machine as machine;
 ghost use Rattle.eevdf_ops.specs.{Outcome.machine_of, PickTurns.HasPickTurns, Places.IsPlaced};
 ghost use Rattle.eevdf_ops.specs.Whole as operation;
@@ -53,8 +55,10 @@ impl Solo {
     /// Does a deed at once, and answers it. It takes no memory. A pick takes no more turns than `Queue::pick` says.
     pub fn apply(&mut self, deed: Deed) -> Answer
         requires { is_allowed (length self.old.queues) self.old.homes deed ≡ true }
-        ensures answer { result ≡ (operation.whole self.old.homes deed (machine_of self.old.queues)).0 }
-        ensures machine { machine_of self.new.queues ≡ (operation.whole self.old.homes deed (machine_of self.old.queues)).1 }
+        ensures answer { result
+            ≡ (operation.whole self.old.homes deed (machine_of self.old.queues)).0 }
+        ensures machine { machine_of self.new.queues
+            ≡ (operation.whole self.old.homes deed (machine_of self.old.queues)).1 }
         ensures turns { HasPickTurns (machine_of self.old.queues) deed self.new.queues }
         ensures homes { self.new.homes ≡ self.old.homes }
         ensures cpus { length self.new.queues ≡ length self.old.queues }
@@ -64,11 +68,15 @@ impl Solo {
 
     /// Does a deed as `apply` does, where the machine allows it. `None`, with nothing changed, exactly where it doesn't.
     pub fn try_apply(&mut self, deed: Deed) -> Option<Answer>
-        ensures refused { IsNone result ↔ (is_allowed (length self.old.queues) self.old.homes deed ≡ false) }
+        ensures refused { IsNone result
+            ↔ (is_allowed (length self.old.queues) self.old.homes deed ≡ false) }
         ensures unchanged { IfNone result (self.new ≡ self.old) }
-        ensures answer { IfSome result (λ answer. answer ≡ (operation.whole self.old.homes deed (machine_of self.old.queues)).0) }
-        ensures machine { OnSome result (machine_of self.new.queues ≡ (operation.whole self.old.homes deed (machine_of self.old.queues)).1) }
-        ensures turns { OnSome result (HasPickTurns (machine_of self.old.queues) deed self.new.queues) }
+        ensures answer { IfSome result (λ answer. answer
+            ≡ (operation.whole self.old.homes deed (machine_of self.old.queues)).0) }
+        ensures machine { OnSome result (machine_of self.new.queues
+            ≡ (operation.whole self.old.homes deed (machine_of self.old.queues)).1) }
+        ensures turns { OnSome result
+            (HasPickTurns (machine_of self.old.queues) deed self.new.queues) }
         ensures homes { self.new.homes ≡ self.old.homes }
         ensures cpus { length self.new.queues ≡ length self.old.queues }
     {

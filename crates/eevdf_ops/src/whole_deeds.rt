@@ -1,7 +1,8 @@
 //! Any deed on the queues of a machine, done at once.
 
 ghost use Rattle.std.specs.Prelude.{◌≡◌, length, true};
-ghost use Rattle.eevdf_ops.specs.{Outcome.machine_of, PickTurns.HasPickTurns, Places.AreCpus, Places.IsPlaced, Setup.is_allowed};
+ghost use Rattle.eevdf_ops.specs.{Outcome.machine_of, PickTurns.HasPickTurns, Places.AreCpus};
+ghost use Rattle.eevdf_ops.specs.{Places.IsPlaced, Setup.is_allowed};
 ghost use Rattle.eevdf_ops.specs.Whole as operation;
 
 use crate::cpu_id::CpuId;
@@ -17,7 +18,8 @@ pub(crate) fn whole(homes: &[CpuId], deed: Deed, queues: &mut [Queue]) -> Answer
     requires cpus { AreCpus (length queues.old) homes.now }
     requires placed { IsPlaced homes.now (machine_of queues.old) }
     ensures answer { result ≡ (operation.whole homes.now deed (machine_of queues.old)).0 }
-    ensures machine { machine_of queues.new ≡ (operation.whole homes.now deed (machine_of queues.old)).1 }
+    ensures machine { machine_of queues.new
+        ≡ (operation.whole homes.now deed (machine_of queues.old)).1 }
     ensures turns { HasPickTurns (machine_of queues.old) deed queues.new }
 {
     match deed {

@@ -1,12 +1,15 @@
 //! A pull, done at once: the candidate of the source comes to the CPU, where that levels their loads.
 
-ghost use Rattle.std.specs.Prelude.{◌≡◌, ◌≢◌, ◌<◌, ◌≤◌, length, nat_lt, ◌+◌, Some, IfSome, true, false};
+ghost use Rattle.std.specs.Prelude.{◌≡◌, ◌≢◌, ◌<◌, ◌≤◌, length, nat_lt, ◌+◌, Some, IfSome, true};
+ghost use Rattle.std.specs.Prelude.{false};
 ghost use Rattle.eevdf_weight.specs.Weight.{weight_of};
 ghost use Rattle.std.specs.Option.{option_map};
 ghost use Rattle.std.specs.FinMap as map;
-ghost use Rattle.eevdf_queue.specs.{Candidate.is_running, Lag.is_lag, Moves.sleeper_of, Placing.can_place};
+ghost use Rattle.eevdf_queue.specs.{Candidate.is_running, Lag.is_lag, Moves.sleeper_of};
+ghost use Rattle.eevdf_queue.specs.{Placing.can_place};
 ghost use Rattle.eevdf_queue.specs.Leaving as leaving;
-ghost use Rattle.eevdf_ops.specs.{Machine.queue_at, Outcome.machine_of, Places.places, Places.places_in, PullOffer.task_of};
+ghost use Rattle.eevdf_ops.specs.{Machine.queue_at, Outcome.machine_of, Places.places};
+ghost use Rattle.eevdf_ops.specs.{Places.places_in, PullOffer.task_of};
 ghost use Rattle.eevdf_ops.specs.{PullOffer.offer_of, WholeSleep.task_leaves};
 ghost use Rattle.eevdf_ops.specs.WholePull as whole;
 
@@ -33,20 +36,34 @@ pub fn pull(queues: &mut [Queue], cpu: CpuId, source: CpuId) -> Answer
     ensures answer { result ≡ (whole.pull (machine_of queues.old) cpu source).0 }
     ensures machine { machine_of queues.new ≡ (whole.pull (machine_of queues.old) cpu source).1 }
 {
-    match decide(&queues[cpu.index()], &queues[source.index()]) {
+    match take_pulled(queues, cpu, source) {
         Err(refusal) => refusal,
-        Ok(task) => {
-            let parcel = take(queues, source, task);
+        Ok(parcel) => {
+            let task = parcel.task();
             join(queues, cpu, parcel);
             Answer::Pulled(task)
         }
     }
 }
 
+/// Takes out of the source what the CPU decides to pull.
+pub fn take_pulled(queues: &mut [Queue], cpu: CpuId, source: CpuId) -> Result<Parcel, Answer>
+    requires cpu { cpu < length queues.old }
+    requires source { source < length queues.old }
+    ensures decision { result ≡ whole.pull_decision (machine_of queues.old) cpu source }
+    ensures machine { machine_of queues.new
+        ≡ whole.decided_leaves (machine_of queues.old) source result }
+{
+    match decide(&queues[cpu.index()], &queues[source.index()]) {
+        Err(refusal) => Err(refusal),
+        Ok(task) => Ok(take(queues, source, task)),
+    }
+}
+
 /// The task that the CPU takes, or why it takes none.
 pub fn decide(puller: &Queue, source: &Queue) -> Result<TaskId, Answer>
-    ensures { result ≡ task_of
-        (whole.decision puller.now.state (whole.load_of source.now.state) (whole.offer source.now.state)) }
+    ensures { result ≡ task_of (whole.decision puller.now.state
+        (whole.load_of source.now.state) (whole.offer source.now.state)) }
 {
     let Some(offer) = candidate(source) else {
         return Err(Answer::Nothing);

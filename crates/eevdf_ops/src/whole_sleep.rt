@@ -2,7 +2,8 @@
 
 ghost use Rattle.std.specs.Prelude.{◌≡◌, ◌<◌, ◌≤◌, length, slice_set};
 ghost use Rattle.eevdf_queue.specs.Leaving.{carried_running, leave_running};
-ghost use Rattle.eevdf_ops.specs.{Machine.queue_at, Outcome.machine_of, Places.places, Places.places_in};
+ghost use Rattle.eevdf_ops.specs.{Machine.queue_at, Outcome.machine_of, Places.places};
+ghost use Rattle.eevdf_ops.specs.{Places.places_in};
 ghost use Rattle.eevdf_ops.specs.WholeSleep as whole;
 
 use crate::cpu_id::CpuId;
@@ -15,7 +16,8 @@ pub fn sleep(queues: &mut [Queue], cpu: CpuId, home: CpuId, task: TaskId) -> Ans
     requires home { home < length queues.old }
     requires once { places (machine_of queues.old) task ≤ 1 }
     ensures answer { result ≡ (whole.sleep (machine_of queues.old) cpu home task).0 }
-    ensures machine { machine_of queues.new ≡ (whole.sleep (machine_of queues.old) cpu home task).1 }
+    ensures machine { machine_of queues.new
+        ≡ (whole.sleep (machine_of queues.old) cpu home task).1 }
 {
     match take_running(queues, cpu, task) {
         None => Answer::NotRunning,

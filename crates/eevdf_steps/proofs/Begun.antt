@@ -10,7 +10,7 @@ use Rattle.eevdf_ops.proofs.PartsProofs.{touched_decide}
 use Rattle.eevdf_steps.specs.{declared.plan.Step.Step, Serial.begun_by, Plan.Plan, Plan.callers}
 use Rattle.eevdf_steps.specs.Counters.{Counters, counted, holds, step_next}
 use Rattle.eevdf_steps.specs.UnderWay.{UnderWay, hand_seen, leaves, queue_seen, under_way}
-use Rattle.eevdf_steps.proofs.Walks.{Covers, Fits, Walk, touched}
+use Rattle.eevdf_steps.proofs.Walks.{Covers, FitsWalk, Walk, touched}
 use Rattle.std.proofs.lemmas.Bool.Decides.{nat_tests}
 
 -- the queues that an operation touches are those that its deed touches
@@ -37,7 +37,7 @@ pub record Standing (plan : Plan) (counters : Counters) (p : ℕ) (u : UnderWay)
   pub holds_all : HoldsTouched plan counters p u.deed
 
 standing_at : (plan : Plan) (counters : Counters) (p : ℕ) (u : UnderWay) (w : Walk plan counters p) (o : Option Step)
-    → MatchOption o (w.held ≡ []) (λ s. Fits plan p w.held s (step_next plan (counted counters p) p)) → step_next plan counters p ≡ o → under_way p o ≡ Some u
+    → MatchOption o (w.held ≡ []) (λ s. FitsWalk plan p w.held s (step_next plan (counted counters p) p)) → step_next plan counters p ≡ o → under_way p o ≡ Some u
     → Standing plan counters p u
 standing_at plan counters p u w o f n e = grind arith
 

@@ -11,9 +11,9 @@ use Rattle.eevdf_ops.specs.declared.deeds.Op.TheVariants as op
 use Rattle.eevdf_ops.specs.declared.deeds.Deed.TheVariants as deed
 use Rattle.eevdf_ops.specs.Parts.{after_leaving, after_falling_asleep, after_joining, giver, only_at, taken}
 use Rattle.eevdf_ops.specs.PartsLaws as laws
-use Rattle.eevdf_ops.specs.WholePull.{load_of, offer, pull_decided, with_task}
+use Rattle.eevdf_ops.specs.WholePull.{load_of, offer, pull_decided, pull_decision, with_task}
 use Rattle.eevdf_ops.proofs.LocalParts.{changed, idle, untaken, whole-after}
-use Rattle.eevdf_ops.proofs.{MachinePlaces.other_queue, Pulling.decided_at, Pulling.decision-taken}
+use Rattle.eevdf_ops.proofs.{MachinePlaces.other_queue, Pulling.decision-taken}
 use Rattle.eevdf_steps.specs.declared.micro.Micro.TheVariants.{Act, Detach, Attach}
 use Rattle.eevdf_steps.specs.Plan.{Plan, callers, home}
 use Rattle.eevdf_steps.specs.Counters.{Counters, counted, holds}
@@ -85,7 +85,7 @@ module _ {plan : Plan} {counters : Counters} {p : ℕ} {m : Machine} {w : Work} 
   -- the task that is pulled
   pub pull_leaves : (s : ℕ) (r : Result Contents Answer) → AtStep plan counters p m w (op.Pull s) Detach
       → begun_by plan (counted counters p) p ≡ Some (record { deed = deed.Pull p s; done = false }) → holds plan counters s p ≡ true → s < callers plan
-      → decided_at m p s ≡ r → IsStepOf plan counters p m m w (detach_pulled w p s r)
+      → pull_decision m p s ≡ r → IsStepOf plan counters p m m w (detach_pulled w p s r)
   pull_leaves s (Err why) at now own below e =
       let answers : (whole plan.homes (deed.Pull p s) m).0 ≡ why = ap (λ (r : Result Contents Answer). (pull_decided m p s r).0) e in
       refused_step (deed.Pull p s) why at now answers
@@ -106,7 +106,7 @@ pub record AtAttach (plan : Plan) (counters : Counters) (p : ℕ) (m : Machine) 
   pub queues_are : (c : ℕ) → holds plan counters c p ≡ true → queue_at w.machine c ≡ only_at (giver d) c (after_leaving (leaves plan.homes m d)) (queue_at m c)
 
 -- a task that a pull takes has room at the CPU that pulls
-room_by : (m : Machine) (p s : ℕ) (x : Contents) (r : Result Contents Answer) → decided_at m p s ≡ r → taken (pull_decided m p s r).0 (offer (queue_at m s)) ≡ Some x
+room_by : (m : Machine) (p s : ℕ) (x : Contents) (r : Result Contents Answer) → pull_decision m p s ≡ r → taken (pull_decided m p s r).0 (offer (queue_at m s)) ≡ Some x
     → can_place (queue_at m p) (sleeper_of x) ≡ true
 room_by m p s x (Err why) e t = grind arith
 room_by m p s x (Ok y) e t = grind arith

@@ -8,7 +8,7 @@ use Rattle.eevdf_ops.specs.declared.deeds.Op.{Op}
 use Rattle.eevdf_steps.specs.{declared.micro.Micro.Micro, declared.micro.Micro.TheVariants.Acquire, declared.plan.Step.Step}
 use Rattle.eevdf_steps.specs.Plan.{IsSound, Plan, callers}
 use Rattle.eevdf_steps.specs.Counters.{Counters, blocked_by, counted, holder, holds, is_under_way, least, may_step, next, ready, refused, step_next, unfinished}
-use Rattle.eevdf_steps.proofs.Walks.{Acquiring, Fits, FitsMicro, Walk, is_above, is_in}
+use Rattle.eevdf_steps.proofs.Walks.{Acquiring, FitsWalk, FitsMicro, Walk, is_above, is_in}
 use Rattle.eevdf_steps.proofs.Walking.{walking}
 
 -- a number that passes, of those from one on
@@ -79,7 +79,7 @@ fits_acquire plan p held o m following c fits e = subst (λ (k : Micro). FitsMic
 
 -- who holds a lock isn't done, and waits for no lock but a higher one
 holder_by : (plan : Plan) (counters : Counters) (p c : ℕ) (w : Walk plan counters p) (r : Option Step) → p < callers plan → holds plan counters c p ≡ true → step_next plan counters p ≡ r
-    → MatchOption r (w.held ≡ []) (λ s. Fits plan p w.held s (step_next plan (counted counters p) p))
+    → MatchOption r (w.held ≡ []) (λ s. FitsWalk plan p w.held s (step_next plan (counted counters p) p))
     → ((d q : ℕ) → c < d → d < callers plan → q < callers plan → holds plan counters d q ≡ true → Free plan counters) → Free plan counters
 holder_by plan counters p c w None below held e fits higher = grind arith
 holder_by plan counters p c w (Some s) below held e fits higher =
@@ -106,8 +106,8 @@ under_way plan counters p (Some s) sound each below e some =
     elim (steps_or_waits plan counters p s.micro below (ap (λ (o : Option Step). option_map (λ (t : Step). t.micro) o) e)) [
       | inl free ↦ free
       | inr waits ↦ let w : Walk plan counters p = walking plan counters p sound each below in
-          let fits : Fits plan p w.held s (step_next plan (counted counters p) p)
-          = subst (λ (o : Option Step). MatchOption o (w.held ≡ []) (λ t. Fits plan p w.held t (step_next plan (counted counters p) p))) e w.fits in
+          let fits : FitsWalk plan p w.held s (step_next plan (counted counters p) p)
+          = subst (λ (o : Option Step). MatchOption o (w.held ≡ []) (λ t. FitsWalk plan p w.held t (step_next plan (counted counters p) p))) e w.fits in
           let acquiring : Acquiring plan w.held s.op waits.cpu (step_next plan (counted counters p) p)
           = fits_acquire plan p w.held s.op s.micro (step_next plan (counted counters p) p) waits.cpu fits waits.acquires in
           holder_frees (callers plan) plan counters waits.cpu waits.holding sound each (omega arith) acquiring.below waits.below waits.holds_it

@@ -18,7 +18,7 @@ use Rattle.eevdf_steps.proofs.CommittedLines.{to_settle, to_settle_next, unsettl
 use Rattle.eevdf_steps.proofs.CommittedPrograms.{count_other, other_deeds, own_deeds}
 use Rattle.eevdf_steps.proofs.{Positions.step_in, Lists.drop_next, Posting.quiet, SoundSteps.is_caller, Walking.walking}
 use Rattle.eevdf_steps.proofs.Requesting.{HasGrown, IsAsLong, IsElsewhere, as_long, elsewhere, posts_grow}
-use Rattle.eevdf_steps.proofs.Walks.{Fits, Taking, Walk}
+use Rattle.eevdf_steps.proofs.Walks.{FitsWalk, Taking, Walk}
 
 -- who has found something settles it next
 abbrev SettlesFound : Option Micro → Option ℕ → Type 0
@@ -171,7 +171,7 @@ grasps plan g q c s o sound t =
     let w : Walk plan g.counters c = walking plan g.counters c sound t.orderly.each t.caller in
     let following : Option Step = step_next plan (counted g.counters c) c in
     let fits : Taking plan c w.held o s following
-    = subst (λ (r : Option Step). MatchOption r (w.held ≡ []) (λ u. Fits plan c w.held u following)) t.step w.fits in
+    = subst (λ (r : Option Step). MatchOption r (w.held ≡ []) (λ u. FitsWalk plan c w.held u following)) t.step w.fits in
     record { goes = t; sender = fits.sender; follows = ap (λ (r : Option Step). option_map (λ (u : Step). u.micro) r) fits.follows }
 
 taking_waits : (plan : Plan) (g : Progress) (q c s : ℕ) (o : Op) → Goes plan g q c o (Take s) → unsettled plan g q c ≡ []

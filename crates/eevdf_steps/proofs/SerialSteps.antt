@@ -12,16 +12,16 @@ use Rattle.eevdf_ops.specs.{Machine.Machine, Machine.queue_at, Whole.whole, Prog
 use Rattle.eevdf_ops.specs.Histories.{machine_told}
 use Rattle.eevdf_ops.specs.declared.deeds.Op.TheVariants as op
 use Rattle.eevdf_ops.specs.declared.deeds.Deed.TheVariants as deed
-use Rattle.eevdf_ops.specs.WholePull.{decision, load_of, offer}
+use Rattle.eevdf_ops.specs.WholePull.{decision, load_of, offer, pull_decision}
 use Rattle.eevdf_ops.specs.OneQueue.{one_tick, one_pick, one_yield, one_renice}
 use Rattle.eevdf_steps.specs.declared.micro.Micro.TheVariants.{Acquire, Act, Detach, Attach, Commit, Take, Settle, Release, Post}
 use Rattle.eevdf_steps.specs.Plan.{IsSound, Plan, callers, home}
 use Rattle.eevdf_steps.specs.Counters.{Counters, counted, holder, holds, refused, step_next}
 use Rattle.eevdf_steps.specs.MicroState.{appends, home_for, line_of, works}
-use Rattle.eevdf_steps.specs.Work.{Work, answer, hand, pull_decision, woken, acted}
+use Rattle.eevdf_steps.specs.Work.{Work, answer, hand, woken, acted}
 use Rattle.eevdf_steps.proofs.{Holders.nobody_past, Holders.not_blocked, Walking.walking, Positions.step_in, SoundSteps.home_below}
 use Rattle.eevdf_steps.proofs.{SoundSteps.is_caller, OtherCallers.IsStepOf, OtherCallers.followed_then, Ready.least_there}
-use Rattle.eevdf_steps.proofs.Walks.{Covers, Fits, Walk, touched, is_acting, is_moving}
+use Rattle.eevdf_steps.proofs.Walks.{Covers, FitsWalk, Walk, touched, is_acting, is_moving}
 use Rattle.eevdf_steps.proofs.OwnSteps.{AtStep, acquire_step, fresh_begun, quiet_step, release_step, sees_history, hand_empty}
 use Rattle.eevdf_steps.proofs.OwnWork.{AtAttach, acted_step, at_attach, falls_asleep_step, joins_step, pull_leaves, room_then, sleep_leaves, ActsThere}
 use Rattle.eevdf_steps.proofs.OwnCommits.{commit_answer, commit_step, history_more, length-machine_after, machine_more, settle_answer, settle_step}
@@ -193,7 +193,7 @@ serial_step plan start counters p w lines s f sound long all serial e free =
         seen = serial.seen;
         walk = walk;
         next = e;
-        fits = subst (λ (o : Option Step). MatchOption o (walk.held ≡ []) (λ t. Fits plan p walk.held t (step_next plan (counted counters p) p))) e walk.fits;
+        fits = subst (λ (o : Option Step). MatchOption o (walk.held ≡ []) (λ t. FitsWalk plan p walk.held t (step_next plan (counted counters p) p))) e walk.fits;
         counter = omega (arith, below, all.each);
         caller = below;
         long = length-machine_after plan.homes start (deeds_of lines) ∙ long;

@@ -12,12 +12,12 @@ use Rattle.eevdf_steps.specs.Plan.{IsSound, Plan, all_pull_elsewhere, callers, h
 use Rattle.eevdf_steps.specs.MicroSteps.{acting, draining, micros_of, moving, steps_by, steps_of, under_lock, under_locks}
 use Rattle.eevdf_steps.specs.Counters.{Counters, count_of, counted, held_after, held_by_steps, step_next}
 use Rattle.eevdf_steps.proofs.{Plans.no_step, Plans.program_ops_sound, SoundSteps.home_below, Positions.step_in}
-use Rattle.eevdf_steps.proofs.Walks.{Covers, Fits, FitsMicro, Walk, is_above, is_acting, is_falling, is_fresh, is_in, is_locking, is_moving, stack_after, touched}
+use Rattle.eevdf_steps.proofs.Walks.{Covers, FitsWalk, FitsMicro, Walk, is_above, is_acting, is_falling, is_fresh, is_in, is_locking, is_moving, stack_after, touched}
 
 -- from these locks on each step of a list fits the locks that are held then, and in the end none is held
 abbrev Walks : Plan → ℕ → List ℕ → List Step → Type 0
 Walks plan p held [] = held ≡ []
-Walks plan p held (s ∷ ss) = Fits plan p held s (slice_get ss 0) × Walks plan p (stack_after held s.micro) ss
+Walks plan p held (s ∷ ss) = FitsWalk plan p held s (slice_get ss 0) × Walks plan p (stack_after held s.micro) ss
 
 one_lock : (p c : ℕ) → is_in c (p ∷ []) ≡ (c == p)
 one_lock p c = grind arith
@@ -122,7 +122,7 @@ record Standing (plan : Plan) (p : ℕ) (first : List ℕ) (ss : List Step) (k :
   held : List ℕ
   holds_them : (c : ℕ) → held_by_steps c (is_in c first) (take k ss) ≡ is_in c held
   falling : is_falling held ≡ true
-  fits : MatchOption (slice_get ss k) (held ≡ []) (λ s. Fits plan p held s (slice_get ss (suc k)))
+  fits : MatchOption (slice_get ss k) (held ≡ []) (λ s. FitsWalk plan p held s (slice_get ss (suc k)))
 
 standing : (plan : Plan) (p : ℕ) (first : List ℕ) (ss : List Step) (k : ℕ) → Walks plan p first ss → is_falling first ≡ true → Standing plan p first ss k
 standing plan p first [] zero walks falls = record { held = first; holds_them = λ c. refl; falling = falls; fits = walks }
@@ -151,7 +151,7 @@ walking plan counters caller sound each below =
       holds_them = here.holds_them;
       falling = here.falling;
       fits =
-          subst (λ (k : ℕ). MatchOption (step_next plan counters caller) (here.held ≡ []) (λ s. Fits plan caller here.held s (slice_get (steps_by plan caller) k)))
+          subst (λ (k : ℕ). MatchOption (step_next plan counters caller) (here.held ≡ []) (λ s. FitsWalk plan caller here.held s (slice_get (steps_by plan caller) k)))
           one_more here.fits;
     }
 

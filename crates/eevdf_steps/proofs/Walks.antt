@@ -130,12 +130,12 @@ FitsMicro plan cpu held o (Settle q) following = Settling plan cpu held o q foll
 FitsMicro plan cpu held o (Post t) following = Posting held following
 
 -- what is so of a step of a caller with these locks held and this step after it
-abbrev pub Fits : Plan → ℕ → List ℕ → Step → Option Step → Type 0
-Fits plan cpu held s following = FitsMicro plan cpu held s.op s.micro following
+abbrev pub FitsWalk : Plan → ℕ → List ℕ → Step → Option Step → Type 0
+FitsWalk plan cpu held s following = FitsMicro plan cpu held s.op s.micro following
 
 -- where a caller stands: the locks that it holds, and how its next step fits them; who is done holds none
 pub record Walk (plan : Plan) (counters : Counters) (caller : ℕ) : Type 0 where
   pub held : List ℕ
   pub holds_them : (c : ℕ) → holds plan counters c caller ≡ is_in c held
   pub falling : is_falling held ≡ true
-  pub fits : MatchOption (step_next plan counters caller) (held ≡ []) (λ s. Fits plan caller held s (step_next plan (counted counters caller) caller))
+  pub fits : MatchOption (step_next plan counters caller) (held ≡ []) (λ s. FitsWalk plan caller held s (step_next plan (counted counters caller) caller))

@@ -6,7 +6,7 @@ use Rattle.eevdf_queue.specs.{State.State, State.Contents, Moves.sleeper_of, Lea
 use Rattle.eevdf_queue.specs.Placing.{can_place}
 use Rattle.eevdf_ops.specs.{declared.deeds.Op.Op, declared.deeds.Answer.Answer, declared.deeds.Answer.TheVariants.NotRunning}
 use Rattle.eevdf_ops.specs.{declared.deeds.Answer.TheVariants.Pulled, Machine.queue_at, Setup.is_task, OneQueue.one_wake}
-use Rattle.eevdf_ops.specs.WholePull.{load_of, offer}
+use Rattle.eevdf_ops.specs.WholePull.{load_of, offer, pull_decision}
 use Rattle.eevdf_ops.specs.declared.deeds.Op.TheVariants as op
 use Rattle.eevdf_ops.specs.Places.{count, places, places_in}
 use Rattle.eevdf_ops.proofs.MachinePlaces.{places-set, places-at}
@@ -17,7 +17,7 @@ use Rattle.eevdf_steps.specs.{declared.micro.Micro.Micro, Plan.Plan, Plan.caller
 use Rattle.eevdf_steps.specs.{Working.HasRoom, MicroState.settled, MicroState.works}
 use Rattle.eevdf_steps.specs.Places.{hands_with, is_in_hand, places_of}
 use Rattle.eevdf_steps.specs.declared.micro.Micro.TheVariants.{Act, Detach, Attach, Settle}
-use Rattle.eevdf_steps.specs.Work.{Work, act, answered, attach, attach_asleep, attach_pulled, detach, detach_pulled, detach_running, hand, pull_decision, pulls_from}
+use Rattle.eevdf_steps.specs.Work.{Work, act, answered, attach, attach_asleep, attach_pulled, detach, detach_pulled, detach_running, hand, pulls_from}
 use Rattle.eevdf_steps.proofs.WorkPlaces.{held_nowhere, count-le}
 use Rattle.std.proofs.lemmas.Bool.{ltb-true}
 

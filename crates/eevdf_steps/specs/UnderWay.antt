@@ -30,14 +30,14 @@ under_way caller None = None
 under_way caller (Some s) = under_way_before caller s.op s.micro
 
 -- the task that leaves a queue, by the deed's answer and by what the queue has for it
-abbrev pub leaving : Deed → Answer → Moved → Option Contents
-leaving (deed.Sleep cpu task) answer moved = moved.contents
-leaving (deed.Pull cpu source) answer moved = taken answer moved.contents
-leaving _ answer moved = None
+abbrev pub taken_from_giver : Deed → Answer → Moved → Option Contents
+taken_from_giver (deed.Sleep cpu task) answer moved = moved.contents
+taken_from_giver (deed.Pull cpu source) answer moved = taken answer moved.contents
+taken_from_giver _ answer moved = None
 
 -- the same on a machine
 abbrev pub leaves : List ℕ → Machine → Deed → Option Contents
-leaves homes m d = leaving d (whole homes d m).0 (given d (queue_at m (giver d)))
+leaves homes m d = taken_from_giver d (whole homes d m).0 (given d (queue_at m (giver d)))
 
 -- a queue of the machine, as the caller that holds its lock has made it
 abbrev pub queue_seen : List ℕ → Machine → Option UnderWay → ℕ → State

@@ -6,7 +6,7 @@ use Rattle.eevdf_ops.specs.declared.deeds.Op.TheVariants as op
 use Rattle.eevdf_ops.specs.Machine.{Machine, queue_at}
 use Rattle.eevdf_ops.specs.OneQueue.{one_tick, one_pick, one_yield, one_wake, one_renice}
 use Rattle.eevdf_ops.specs.WholeSleep.{falls_asleep, slept, task_leaves}
-use Rattle.eevdf_ops.specs.WholePull.{decision, load_of, offer, task_joins}
+use Rattle.eevdf_ops.specs.WholePull.{pull_decision, task_joins}
 
 -- the queues, the task in each caller's hand, and the answer that each caller keeps
 pub record Work : Type 0 where
@@ -55,14 +55,6 @@ detach_running w caller (Some p) = detached w caller caller p (slept p)
 abbrev pub detach_pulled : Work → ℕ → ℕ → Result Contents Answer → Work
 detach_pulled w caller source (Err refusal) = answered w caller refusal
 detach_pulled w caller source (Ok p) = detached w caller source p (Pulled p.task)
-
-abbrev pub pull_decision : Machine → ℕ → ℕ → Result Contents Answer
-pull_decision m cpu source = decision (queue_at m cpu) (load_of (queue_at m source)) (offer (queue_at m source))
-
--- the machine when what was decided is taken from the source
-abbrev pub taken_from : Machine → ℕ → Result Contents Answer → Machine
-taken_from m source (Err refusal) = m
-taken_from m source (Ok p) = task_leaves m source p.task
 
 -- the task of an operation leaves into the caller's hand
 abbrev pub detach : Work → ℕ → Op → Work

@@ -1,12 +1,13 @@
 //! The callers on their way through their programs, and the locks that they hold.
 
-ghost use Rattle.std.specs.Prelude.{◌≡◌, ◌+◌, ◌<◌, ◌≤◌, true, length, replicate, Some, None, IfOk, IfSome, MatchOption};
+ghost use Rattle.std.specs.Prelude.{◌≡◌, ◌+◌, ◌<◌, ◌≤◌, true, length, replicate, Some, None, IfOk};
+ghost use Rattle.std.specs.Prelude.{IfSome, MatchOption};
 ghost use Rattle.eevdf_steps.specs.Counters as counters;
 ghost use Rattle.eevdf_steps.specs.Holders as locks;
-ghost use Rattle.eevdf_steps.specs.{Orders.counters_at_start, SoundSteps.is_sound_micro, SoundSteps.is_sound_step};
+ghost use Rattle.eevdf_steps.specs.{Orders.counters_at_start, SoundSteps.is_sound_micro};
+ghost use Rattle.eevdf_steps.specs.{SoundSteps.is_sound_step};
 ghost use Rattle.eevdf_steps.specs.Plan.{IsSound, callers, plan_of};
 
-use crate::lists_of_steps::cpu_number;
 use crate::micro::Micro;
 use crate::plan::{Plan, Position, Step};
 use crate::step_fault::StepFault;
@@ -70,10 +71,11 @@ impl Callers {
 
     /// The CPU of a caller, where there is one.
     pub(crate) fn cpu(&self, caller: usize) -> Option<CpuId>
-        ensures { MatchOption result (callers self.now.plan ≤ caller) (λ cpu. (cpu ≡ caller) × (cpu < callers self.now.plan)) }
+        ensures { MatchOption result (callers self.now.plan ≤ caller) (λ cpu.
+            (cpu ≡ caller) × (cpu < callers self.now.plan)) }
     {
         if caller < self.plan.callers() {
-            Some(cpu_number(caller))
+            Some(CpuId::numbered(caller))
         } else {
             None
         }
@@ -102,7 +104,7 @@ impl Callers {
         ensures { result ≡ counters.unfinished self.now.plan self.now.counters }
     {
         for caller in 0..self.plan().callers() {
-            if self.next(cpu_number(caller)).is_some() {
+            if self.next(CpuId::numbered(caller)).is_some() {
                 return Some(caller);
             }
         }
@@ -114,7 +116,7 @@ impl Callers {
         ensures { result ≡ counters.ready self.now.plan self.now.counters }
     {
         for caller in 0..self.plan().callers() {
-            if self.free_step(cpu_number(caller)).is_ok() {
+            if self.free_step(CpuId::numbered(caller)).is_ok() {
                 return Some(caller);
             }
         }
@@ -126,9 +128,7 @@ impl Callers {
         requires { cpu < callers self.now.plan }
         ensures { counters.IsFreeStep self.now.plan self.now.counters cpu result }
     {
-        let Some(step) = self.next(cpu) else {
-            return Err(StepFault::Done);
-        };
+        let step = self.next(cpu).ok_or(StepFault::Done)?;
         match self.refused(step.micro) {
             Some(fault) => Err(fault),
             None => Ok(step),

@@ -12,9 +12,11 @@ use eevdf_ops::{Answer, Deed};
 
 /// Adds the deed that a step commits to the history with its answer, where there are both.
 pub(crate) fn commit(journal: &mut Journal, turn: &Turn, answer: Option<Answer>)
-    requires { length journal.old.lines
-        + length (line_of (commits.committed turn.now.found turn.now.cpu turn.now.op turn.now.micro) answer) ≤ journal.old.room }
-    ensures { journal.new ≡ journals.noted journal.old (commits.committed turn.now.found turn.now.cpu turn.now.op turn.now.micro) answer }
+    requires { length journal.old.lines + length (line_of
+        (commits.committed turn.now.found turn.now.cpu turn.now.op turn.now.micro) answer)
+        ≤ journal.old.room }
+    ensures { journal.new ≡ journals.noted journal.old
+        (commits.committed turn.now.found turn.now.cpu turn.now.op turn.now.micro) answer }
 {
     if let (Some(deed), Some(answer)) = (committed(turn), answer) {
         journal.add(deed, answer);

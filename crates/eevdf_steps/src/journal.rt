@@ -39,9 +39,7 @@ impl Journal {
         requires { length self.old.lines < self.old.room }
         ensures { self.new ≡ journal.added self.old deed answer }
     {
-        if let Err(_) = self.lines.push(Line { deed, answer }) {
-            unreachable!()
-        }
+        self.lines.push_reserved(Line { deed, answer });
     }
 
     /// The lines, in the order in which they were added.

@@ -1,7 +1,7 @@
 //! The micro-steps of operations by their places.
 
 ghost use Rattle.std.specs.Prelude.{◌≡◌, ◌*◌, ◌<◌, ◌≤◌, min, max, slice_get};
-ghost use Rattle.eevdf_ops.specs.Numbers.{cpu_limit, most_cpus};
+ghost use Rattle.eevdf_ops.specs.Numbers.{most_cpus};
 ghost use Rattle.eevdf_steps.specs.MicroSteps as steps;
 
 use crate::micro::Micro;
@@ -87,7 +87,7 @@ pub(crate) fn drain_step(cpus: usize, cpu: CpuId, at: usize) -> Option<Micro>
     if sender >= cpus {
         return drained_step(cpus, cpu, at);
     }
-    let sender = cpu_number(sender);
+    let sender = CpuId::numbered(sender);
     if at % 2 == 1 {
         Some(Micro::Take(sender))
     } else {
@@ -105,16 +105,5 @@ fn drained_step(cpus: usize, cpu: CpuId, at: usize) -> Option<Micro>
         Some(Micro::Release(cpu))
     } else {
         None
-    }
-}
-
-/// The CPU of a number.
-pub(crate) fn cpu_number(number: usize) -> CpuId
-    requires { number < cpu_limit }
-    ensures { result ≡ number }
-{
-    match CpuId::new(number as u64) {
-        Some(cpu) => cpu,
-        None => unreachable!(),
     }
 }

@@ -1,11 +1,11 @@
 //! What a player reserves when it opens.
 
-ghost use Rattle.std.specs.Prelude.{◌≡◌, ◌<◌, true, length, slice_index, EachIndex, replicate, None, IfOk};
+ghost use Rattle.std.specs.Prelude.{◌≡◌, ◌<◌, true, length, slice_index, EachIndex, replicate};
+ghost use Rattle.std.specs.Prelude.{None, IfOk};
 ghost use Rattle.eevdf_ops.specs.Numbers.{most_operations};
 ghost use Rattle.eevdf_steps.specs.Plan.{callers as number, is_sound_op, program};
 ghost use Rattle.eevdf_steps.specs.Openings as openings;
 
-use crate::lists_of_steps::cpu_number;
 use crate::plan::Plan;
 use crate::post_list::PostList;
 use eevdf_ops::{CpuId, Op};
@@ -19,7 +19,7 @@ pub(crate) fn empty_posts(alloc: Global, plan: &Plan) -> Result<Vec<PostList>, A
     let count = plan.callers();
     let mut lists = Vec::with_capacity(alloc, count * count)?;
     for sender in 0..count {
-        let rooms = post_counts(alloc, plan, cpu_number(sender))?;
+        let rooms = post_counts(alloc, plan, CpuId::numbered(sender))?;
         for room in &rooms {
             lists.push(PostList::open(alloc, *room)?)?;
         }
@@ -30,7 +30,8 @@ pub(crate) fn empty_posts(alloc: Global, plan: &Plan) -> Result<Vec<PostList>, A
 /// For each home how many requests a caller's program posts to it.
 fn post_counts(alloc: Global, plan: &Plan, caller: CpuId) -> Result<Vec<usize>, AllocError>
     requires { caller < number plan.now }
-    ensures { IfOk result (λ counts. openings.CountPosts plan.now (program plan.now caller) counts.items) }
+    ensures { IfOk result (λ counts.
+        openings.CountPosts plan.now (program plan.now caller) counts.items) }
 {
     plan.keeps();
     let mut counts = vec![in alloc; 0; plan.callers()]?;
@@ -59,7 +60,7 @@ pub(crate) fn lines(plan: &Plan) -> usize
 {
     let mut lines = 0;
     for caller in 0..plan.callers() {
-        lines += plan.program(cpu_number(caller)).len();
+        lines += plan.program(CpuId::numbered(caller)).len();
     }
     lines
 }

@@ -1,13 +1,17 @@
 //! What the callers are to do.
 
-ghost use Rattle.std.specs.Prelude.{◌≡◌, ◌+◌, ◌*◌, ◌<◌, ◌≤◌, Some, true, length, slice_get, take, IfOk, IfSome};
+ghost use Rattle.std.specs.Prelude.{◌≡◌, ◌+◌, ◌*◌, ◌<◌, ◌≤◌, Some, true, length, slice_get, take};
+ghost use Rattle.std.specs.Prelude.{IfOk, IfSome};
 ghost use Rattle.std.specs.Option.{option_map};
 ghost use Rattle.eevdf_ops.specs.Numbers.{most_cpus, most_operations};
-ghost use Rattle.eevdf_steps.specs.{Callers.BeginAll, MicroState.home_for, MicroSteps.micros_of, MicroSteps.steps_of};
-ghost use Rattle.eevdf_steps.specs.{Positions.IsPosition, Positions.counter_at, PostLists.place_of, SoundSteps.is_sound_micro};
-ghost use Rattle.eevdf_steps.specs.Plan.{IsSound, callers, home, is_sound_op, pair, plan_of, program};
+ghost use Rattle.eevdf_steps.specs.{Callers.BeginAll, MicroState.home_for, MicroSteps.micros_of};
+ghost use Rattle.eevdf_steps.specs.{MicroSteps.steps_of};
+ghost use Rattle.eevdf_steps.specs.{Positions.IsPosition, Positions.counter_at, PostLists.place_of};
+ghost use Rattle.eevdf_steps.specs.{SoundSteps.is_sound_micro};
+ghost use Rattle.eevdf_steps.specs.Plan.{IsSound, callers, home, is_sound_op, pair, plan_of};
+ghost use Rattle.eevdf_steps.specs.Plan.{program};
 
-use crate::lists_of_steps::{act_step, cpu_number, drain_step, move_between_step, sleep_step};
+use crate::lists_of_steps::{act_step, drain_step, move_between_step, sleep_step};
 use crate::micro::Micro;
 use eevdf_ops::{CpuId, Op, Setup};
 use eevdf_queue::TaskId;
@@ -196,7 +200,7 @@ impl Plan {
         let _held: (Option<Op>, Option<Micro>, Option<Step>) = (None, None, None);
         let mut positions = Vec::with_capacity(alloc, self.callers())?;
         for caller in 0..self.callers() {
-            positions.push(self.begin(cpu_number(caller), 0))?;
+            positions.push(self.begin(CpuId::numbered(caller), 0))?;
         }
         Ok(positions)
     }
@@ -205,7 +209,8 @@ impl Plan {
     fn begin(&self, cpu: CpuId, operation: usize) -> Position
         requires { cpu < callers self.now }
         ensures position { IsPosition self.now cpu result }
-        ensures counter { counter_at self.now cpu result ≡ length (steps_of self.now cpu (take operation (program self.now cpu))) }
+        ensures counter { counter_at self.now cpu result
+            ≡ length (steps_of self.now cpu (take operation (program self.now cpu))) }
     {
         self.keeps();
         match self.operation(cpu, operation) {
@@ -224,7 +229,8 @@ impl Plan {
 
     fn step_of(&self, cpu: CpuId, op: Op, at: usize) -> Option<Step>
         requires { is_sound_op self.now op ≡ true }
-        ensures { result ≡ option_map (λ (m : _). record { op = op; micro = m }) (slice_get (micros_of self.now cpu op) at) }
+        ensures { result ≡ option_map (λ (m : _). record { op = op; micro = m })
+            (slice_get (micros_of self.now cpu op) at) }
     {
         self.micro_at(cpu, op, at).map(|micro| Step { op, micro })
     }

@@ -2,9 +2,11 @@
 
 ghost use Rattle.std.specs.List.{list_all};
 ghost use Rattle.std.specs.Prelude.{◌≡◌, true, IfOk, OnOk};
-ghost use Rattle.eevdf_ops.specs.{Followed.FollowsPrograms, Histories.IsOneThread, Machine.start, Outcome.machine_of};
+ghost use Rattle.eevdf_ops.specs.{Followed.FollowsPrograms, Histories.IsOneThread, Machine.start};
+ghost use Rattle.eevdf_ops.specs.{Outcome.machine_of};
 ghost use Rattle.eevdf_ops.specs.{Places.IsPlaced, Programs.deeds_of, Setup.allows, Setup.homes_of};
-ghost use Rattle.eevdf_steps.specs.{Commits.deeds_committed, Orders.IsWhole, Plan.plan_of, PlayedSteps.IsPlayed, Plays.IsPlay};
+ghost use Rattle.eevdf_steps.specs.{Commits.deeds_committed, Orders.IsWhole, Plan.plan_of};
+ghost use Rattle.eevdf_steps.specs.{PlayedSteps.IsPlayed, Plays.IsPlay};
 ghost use Rattle.eevdf_steps.specs.Orders as orders;
 
 use crate::play_fault::PlayFault;
@@ -26,8 +28,10 @@ pub const MOST_PLACES: usize = 1_000_000;
 /// that was posted was either drained once, in order, or is left. Each task stands in one place.
 pub fn play(alloc: Global, setup: &Setup, order: &[usize]) -> Result<Outcome, PlayFault>
     ensures play { IsPlay setup.now order.now result }
-    ensures whole { OnOk result (IsWhole (plan_of setup.now) (orders.counters_at_start (plan_of setup.now)) order.now) }
-    ensures one_thread { IfOk result (λ o. IsOneThread (homes_of setup.now) (start setup.now) (deeds_committed setup.now order.now) o) }
+    ensures whole { OnOk result
+        (IsWhole (plan_of setup.now) (orders.counters_at_start (plan_of setup.now)) order.now) }
+    ensures one_thread { IfOk result (λ o. IsOneThread
+        (homes_of setup.now) (start setup.now) (deeds_committed setup.now order.now) o) }
     ensures allowed { IfOk result (λ o. list_all (allows setup.now) (deeds_of o.lines) ≡ true) }
     ensures programs { IfOk result (λ o. FollowsPrograms setup.now o) }
     ensures places { IfOk result (λ o. IsPlaced (homes_of setup.now) (machine_of o.queues)) }

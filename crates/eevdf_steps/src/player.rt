@@ -1,5 +1,7 @@
-ghost use Rattle.std.specs.Prelude.{◌≡◌, ◌<◌, nat_lt, true, is_none, length, Some, None, IfOk, OnOk};
-ghost use Rattle.eevdf_ops.specs.{Histories.AreHistory, Histories.IsOneThread, Machine.queue_at, Programs.deeds_of};
+ghost use Rattle.std.specs.Prelude.{◌≡◌, ◌<◌, nat_lt, true, is_none, length, Some, None, IfOk};
+ghost use Rattle.std.specs.Prelude.{OnOk};
+ghost use Rattle.eevdf_ops.specs.{Histories.AreHistory, Histories.IsOneThread, Machine.queue_at};
+ghost use Rattle.eevdf_ops.specs.{Programs.deeds_of};
 ghost use Rattle.eevdf_steps.specs.Counters as counters;
 ghost use Rattle.eevdf_steps.specs.{Plan.IsSound, Plan.callers, Places.stands_at, Serial.IsSerial};
 ghost use Rattle.eevdf_steps.specs.Players as player;
@@ -44,9 +46,11 @@ impl Model for Player {
 
     ghost coded = { Prim.hlevel (codes, state_code) };
 
-    ghost view = { λ a. playing.player_of a.callers a.posts a.found.items (recorded a.work a.journal) };
+    ghost view = { λ a.
+        playing.player_of a.callers a.posts a.found.items (recorded a.work a.journal) };
 
-    ghost invariant = { λ a. playing.IsPlaying a.callers a.posts a.found.items (recorded a.work a.journal) };
+    ghost invariant = { λ a.
+        playing.IsPlaying a.callers a.posts a.found.items (recorded a.work a.journal) };
 }
 
 impl Player {
@@ -78,10 +82,8 @@ impl Player {
     pub fn next(&self, caller: usize) -> Option<Micro>
         ensures { result ≡ player.next self.now caller }
     {
-        match self.callers.cpu(caller) {
-            None => None,
-            Some(cpu) => micro_of(self.callers.next(cpu)),
-        }
+        let cpu = self.callers.cpu(caller)?;
+        micro_of(self.callers.next(cpu))
     }
 
     /// The least caller whose next step nothing refuses: `None` exactly where all callers are done. Until then there
@@ -155,9 +157,7 @@ impl Player {
         ensures step { player.IsStep self.old caller result self.new }
         ensures commits { OnOk result (player.Appends self.old caller self.new) }
     {
-        let Some(cpu) = self.callers.cpu(caller) else {
-            return Err(StepFault::NoCaller);
-        };
+        let cpu = self.callers.cpu(caller).ok_or(StepFault::NoCaller)?;
         match self.callers.free_step(cpu) {
             Ok(step) => {
                 self.do_step(cpu, step);
@@ -170,7 +170,8 @@ impl Player {
     /// Learns what is kept of the queues and of what the callers hold.
     pub(crate) fn keeps(&self)
         ensures work { playing.IsWork self.now.plan self.now.state.work }
-        ensures serial { IsSerial self.now.plan self.now.plan.start self.now.state.progress.counters self.now.state.work self.now.state.lines }
+        ensures serial { IsSerial self.now.plan self.now.plan.start
+            self.now.state.progress.counters self.now.state.work self.now.state.lines }
         ensures sound { IsSound self.now.plan }
         ensures each { length self.now.state.progress.counters ≡ callers self.now.plan }
     {
@@ -217,8 +218,10 @@ impl Player {
     }
 
     fn do_step(&mut self, cpu: CpuId, step: Step)
-        requires next { counters.step_next self.old.plan self.old.state.progress.counters cpu ≡ Some step }
-        requires free { counters.refused self.old.plan self.old.state.progress.counters step.micro ≡ None }
+        requires next { counters.step_next self.old.plan self.old.state.progress.counters cpu
+            ≡ Some step }
+        requires free { counters.refused self.old.plan self.old.state.progress.counters step.micro
+            ≡ None }
         ensures step { self.new ≡ player.player_step self.old cpu }
         ensures commits { player.Appends self.old cpu self.new }
     {

@@ -44,9 +44,7 @@ impl PostList {
         requires { length self.old.posted < self.old.room }
         ensures { self.new ≡ posts.posted_more self.old task }
     {
-        if let Err(_) = self.tasks.push(task) {
-            unreachable!()
-        }
+        self.tasks.push_reserved(task);
     }
 
     /// Takes the oldest request that wasn't taken yet, where there is one.

@@ -45,9 +45,11 @@ impl Requests {
     /// answer is what the caller has found then.
     pub(crate) fn pass(&mut self, turn: &Turn) -> Option<TaskId>
         requires place { turn.now.place < length self.old }
-        requires room { lists.has_room (lists.list_at self.old turn.now.place) turn.now.micro ≡ true }
+        requires room { lists.has_room (lists.list_at self.old turn.now.place) turn.now.micro
+            ≡ true }
         ensures posts { self.new ≡ lists.posts_after turn.now.place turn.now.micro self.old }
-        ensures found { result ≡ lists.request_after turn.now.place turn.now.micro self.old turn.now.found }
+        ensures found { result
+            ≡ lists.request_after turn.now.place turn.now.micro self.old turn.now.found }
     {
         match turn.micro {
             Micro::Take(_) => self.posts[turn.place].take(),
@@ -62,13 +64,12 @@ impl Requests {
 
     /// What is left of each list. It takes no memory.
     pub(crate) fn into_left(self) -> Vec<Vec<TaskId>>
-        ensures { map (λ (l : _). l.items) result.items ≡ map (λ (l : _). drop l.taken l.posted) self }
+        ensures { map (λ (l : _). l.items) result.items
+            ≡ map (λ (l : _). drop l.taken l.posted) self }
     {
         let Requests { posts, mut left } = self;
         for list in posts {
-            if let Err(_) = left.push(list.into_left()) {
-                unreachable!()
-            }
+            left.push_reserved(list.into_left());
         }
         left
     }

@@ -1,17 +1,19 @@
 //! The work that the callers do on the queues.
 
-ghost use Rattle.std.specs.Prelude.{◌≡◌, ◌<◌, ◌≤◌, length, replicate, vec_len, true, None, IfOk, IfSome};
+ghost use Rattle.std.specs.Prelude.{◌≡◌, ◌<◌, ◌≤◌, length, replicate, vec_len, true, None, IfOk};
+ghost use Rattle.std.specs.Prelude.{IfSome};
 ghost use Rattle.eevdf_queue.specs.{Leaving.carried_running, Moves.sleeper_of, Placing.can_place};
-ghost use Rattle.eevdf_ops.specs.{Machine.queue_at, Numbers.most_cpus, Outcome.machine_of, Places.places_in};
+ghost use Rattle.eevdf_ops.specs.{Machine.queue_at, Numbers.most_cpus, Outcome.machine_of};
+ghost use Rattle.eevdf_ops.specs.{Places.places_in};
 ghost use Rattle.eevdf_ops.specs.Places.{places as machine_places};
+ghost use Rattle.eevdf_ops.specs.WholePull.{pull_decision};
 ghost use Rattle.eevdf_steps.specs.Places as places;
 ghost use Rattle.eevdf_steps.specs.Work as work;
 
 use crate::hand::Hand;
-use crate::lists_of_steps::cpu_number;
 use crate::place::Place;
 use eevdf_ops::one_queue::{pick, renice, tick, wake, yield_now};
-use eevdf_ops::whole_pull::{decide, join, take};
+use eevdf_ops::whole_pull::{join, take_pulled};
 use eevdf_ops::whole_sleep::{fall_asleep, slept, take_running};
 use eevdf_ops::{Answer, CpuId, Op};
 use eevdf_queue::{Parcel, Queue, TaskId};
@@ -36,7 +38,11 @@ impl Model for Work {
 
     ghost coded = { Prim.hlevel (codes, state_code) };
 
-    ghost view = { λ w. record { machine = machine_of w.queues.items; hands = w.hands.items; answers = w.answers.items } };
+    ghost view = { λ w. record {
+      machine = machine_of w.queues.items;
+      hands = w.hands.items;
+      answers = w.answers.items;
+    } };
 }
 
 impl Work {
@@ -93,7 +99,7 @@ impl Work {
         ensures { places.IsPlaceOf self.now task (machine_places self.now.machine task) result }
     {
         for at in 0..self.queues.len() {
-            let cpu = cpu_number(at);
+            let cpu = CpuId::numbered(at);
             let queue = self.queue(cpu);
             if queue.entry(task).is_some() {
                 return Some(Place::Runnable(cpu));
@@ -180,7 +186,8 @@ impl Work {
         requires queue { cpu < length self.old.machine }
         requires answer { cpu < length self.old.answers }
         requires hand { cpu < length self.old.hands }
-        ensures { self.new ≡ work.detach_running self.old cpu (carried_running (queue_at self.old.machine cpu) task) }
+        ensures { self.new ≡ work.detach_running self.old cpu
+            (carried_running (queue_at self.old.machine cpu) task) }
     {
         match take_running(&mut self.queues, cpu, task) {
             None => self.keep(cpu, Answer::NotRunning),
@@ -196,7 +203,8 @@ impl Work {
         requires answer { cpu < length self.old.answers }
         requires hand { cpu < length self.old.hands }
         requires source { source < length self.old.machine }
-        ensures { self.new ≡ work.detach_pulled self.old cpu source (work.pull_decision self.old.machine cpu source) }
+        ensures { self.new ≡ work.detach_pulled self.old cpu source
+            (pull_decision self.old.machine cpu source) }
     {
         match take_pulled(&mut self.queues, cpu, source) {
             Err(refusal) => self.keep(cpu, refusal),
@@ -211,12 +219,12 @@ impl Work {
     pub(crate) fn attach_asleep(&mut self, cpu: CpuId, home: CpuId)
         requires queue { home < length self.old.machine }
         requires hand { cpu < length self.old.hands }
-        requires nowhere { IfSome (work.hand self.old cpu) (λ p. places_in (queue_at self.old.machine home) p.task ≡ 0) }
+        requires nowhere { IfSome (work.hand self.old cpu) (λ p.
+            places_in (queue_at self.old.machine home) p.task ≡ 0) }
         ensures { self.new ≡ work.attach_asleep self.old cpu home (work.hand self.old cpu) }
     {
-        match self.let_go(cpu) {
-            None => {}
-            Some(parcel) => fall_asleep(&mut self.queues, home, parcel),
+        if let Some(parcel) = self.let_go(cpu) {
+            fall_asleep(&mut self.queues, home, parcel);
         }
     }
 
@@ -224,13 +232,14 @@ impl Work {
     pub(crate) fn attach_pulled(&mut self, cpu: CpuId)
         requires queue { cpu < length self.old.machine }
         requires hand { cpu < length self.old.hands }
-        requires nowhere { IfSome (work.hand self.old cpu) (λ p. places_in (queue_at self.old.machine cpu) p.task ≡ 0) }
-        requires room { IfSome (work.hand self.old cpu) (λ p. can_place (queue_at self.old.machine cpu) (sleeper_of p) ≡ true) }
+        requires nowhere { IfSome (work.hand self.old cpu) (λ p.
+            places_in (queue_at self.old.machine cpu) p.task ≡ 0) }
+        requires room { IfSome (work.hand self.old cpu) (λ p.
+            can_place (queue_at self.old.machine cpu) (sleeper_of p) ≡ true) }
         ensures { self.new ≡ work.attach_pulled self.old cpu (work.hand self.old cpu) }
     {
-        match self.let_go(cpu) {
-            None => {}
-            Some(parcel) => join(&mut self.queues, cpu, parcel),
+        if let Some(parcel) = self.let_go(cpu) {
+            join(&mut self.queues, cpu, parcel);
         }
     }
 
@@ -268,17 +277,4 @@ fn empty_hands(alloc: Global, callers: usize) -> Result<Vec<Hand>, AllocError>
         hands.push(Hand::empty())?;
     }
     Ok(hands)
-}
-
-/// Takes out of the source what the CPU decides to pull.
-fn take_pulled(queues: &mut [Queue], cpu: CpuId, source: CpuId) -> Result<Parcel, Answer>
-    requires cpu { cpu < length queues.old }
-    requires source { source < length queues.old }
-    ensures decision { result ≡ work.pull_decision (machine_of queues.old) cpu source }
-    ensures machine { machine_of queues.new ≡ work.taken_from (machine_of queues.old) source result }
-{
-    match decide(&queues[cpu.index()], &queues[source.index()]) {
-        Err(refusal) => Err(refusal),
-        Ok(task) => Ok(take(queues, source, task)),
-    }
 }

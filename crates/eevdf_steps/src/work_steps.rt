@@ -16,7 +16,8 @@ pub(crate) fn do_work(work: &mut Work, turn: &Turn) -> Option<Answer>
     requires work { IsWorking work.old turn.now.cpu turn.now.home }
     requires source { steps.pulls_from (length work.old.machine) turn.now.op ≡ true }
     requires hand { FitsHand work.old turn.now.cpu turn.now.op turn.now.micro }
-    ensures work { work.new ≡ state.works turn.now.home work.old turn.now.cpu turn.now.op turn.now.micro turn.now.found }
+    ensures work { work.new ≡ state.works turn.now.home work.old
+        turn.now.cpu turn.now.op turn.now.micro turn.now.found }
     ensures answer { result ≡ state.answers work.old turn.now.cpu turn.now.micro turn.now.found }
 {
     let cpu = turn.cpu;

@@ -16,7 +16,7 @@ loop-room-preserved c =
       each = omega (arith, ap (λ (l : List PostList). length l) pushed, length-append c.loop-room.lists.items one, c.loop-room.invariant.each);
       empty = λ k below. subst (λ (ls : List PostList). list_at ls k ≡ empty_at plan k) (sym pushed)
           (empty_next plan c.loop-sender.sender c.loop-room.room-index c.loop-room.lists.items c.in_ok-rooms.rooms.items c.in_ok-open.field-0 within
-          (subst (λ (p : ℕ). CountPosts plan (program plan p) c.in_ok-rooms.rooms.items) c.cpu_number.ensures c.in_ok-rooms.ensures)
+          (subst (λ (p : ℕ). CountPosts plan (program plan p) c.in_ok-rooms.rooms.items) c.numbered.ensures c.in_ok-rooms.ensures)
           (c.in_ok-open.ensures ∙ ap (λ (rs : List ℕ). record { posted = []; taken = 0; room = slice_index rs c.loop-room.room-index }) rooms)
           c.loop-room.invariant.each c.loop-room.invariant.empty k below);
     }

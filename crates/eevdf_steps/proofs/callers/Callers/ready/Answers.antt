@@ -14,5 +14,5 @@ loop-caller-preserved c =
     c.loop-caller.invariant
     ∙ least_past (may_step c.args.self.now.plan c.args.self.now.counters) c.loop-caller.caller (callers c.args.self.now.plan)
     (omega (arith, c.loop-caller-test.true, c.callers-caller-end.ensures.callers, ap callers c.plan.ensures))
-    (ap (may_step c.args.self.now.plan c.args.self.now.counters) (sym c.cpu_number.ensures)
-    ∙ is_free c.args.self.now.plan c.args.self.now.counters c.cpu_number.result c.free_step.result c.free_step.ensures ∙ sym c.is_ok.ensures.value ∙ c.if-is_ok.false)
+    (ap (may_step c.args.self.now.plan c.args.self.now.counters) (sym c.numbered.ensures)
+    ∙ is_free c.args.self.now.plan c.args.self.now.counters c.numbered.result c.free_step.result c.free_step.ensures ∙ sym c.is_ok.ensures.value ∙ c.if-is_ok.false)
