@@ -1,18 +1,10 @@
 -- What is known of the CPUs that an allowed deed names.
-use Rattle.std.proofs.Common.{◌≡◌, ◌≢◌, ℕ, ◌<◌, Bool, true, false, not, ◌&&◌, List, length, refl, arith}
+use Rattle.std.proofs.Common.{◌≡◌, ◌≢◌, ℕ, ◌<◌, true, not, List, length, arith}
 use Rattle.std.specs.Prelude.{◌==◌, nat_lt}
-use Rattle.std.proofs.{lemmas.Bool.false≢true, lemmas.Bool.Decides.nat_tests}
+use Rattle.std.proofs.{lemmas.Bool.and_parts, lemmas.Bool.Decides.nat_tests}
 use Rattle.eevdf_ops.specs.{declared.deeds.Deed.Deed, Setup.is_task, Setup.is_allowed, Machine.Machine, Places.AreCpus}
 use Rattle.eevdf_ops.specs.declared.deeds.Deed.TheVariants.{Tick, Pick, Yield, Sleep, Wake, Pull, Renice}
 use Rattle.eevdf_ops.specs.Parts.{decider, giver, taker}
-
-left : (a b : Bool) → (a && b) ≡ true → a ≡ true
-left true b e = refl
-left false b e = e
-
-right : (a b : Bool) → (a && b) ≡ true → b ≡ true
-right true b e = e
-right false b e = absurd (false≢true e)
 
 below : (a b : ℕ) → nat_lt a b ≡ true → a < b
 below a b h = grind (arith, nat_tests)
@@ -28,9 +20,9 @@ pub record PullNames (cpus cpu source : ℕ) : Type 0 where
 
 pub pull_names : (cpus : ℕ) (homes : List ℕ) (cpu source : ℕ) → is_allowed cpus homes (Pull cpu source) ≡ true → PullNames cpus cpu source
 pull_names cpus homes cpu source ok = record {
-  puller = below cpu cpus (left _ _ ok);
-  from = below source cpus (left _ _ (right (nat_lt cpu cpus) _ ok));
-  apart = differs cpu source (right (nat_lt source cpus) _ (right (nat_lt cpu cpus) _ ok));
+  puller = below cpu cpus (and_parts _ _ ok).0;
+  from = below source cpus (and_parts _ _ (and_parts (nat_lt cpu cpus) _ ok).1).0;
+  apart = differs cpu source (and_parts (nat_lt source cpus) _ (and_parts (nat_lt cpu cpus) _ ok).1).1;
 }
 
 -- the CPUs whose queues are touched are CPUs of the machine
@@ -47,12 +39,12 @@ deed_names homes (Pick cpu) m ok cpus =
 deed_names homes (Yield cpu) m ok cpus =
     let h : cpu < length m = below cpu (length m) ok in record { of_decider = h; of_giver = h; of_taker = h }
 deed_names homes (Sleep cpu task) m ok cpus =
-    let h : cpu < length m = below cpu (length m) (left _ (is_task homes task) ok) in
-    record { of_decider = h; of_giver = h; of_taker = cpus task (below task (length homes) (right (nat_lt cpu (length m)) _ ok)) }
+    let h : cpu < length m = below cpu (length m) (and_parts _ (is_task homes task) ok).0 in
+    record { of_decider = h; of_giver = h; of_taker = cpus task (below task (length homes) (and_parts (nat_lt cpu (length m)) _ ok).1) }
 deed_names homes (Wake cpu task sender) m ok cpus =
-    let h : cpu < length m = below cpu (length m) (left _ _ (left _ _ ok)) in record { of_decider = h; of_giver = h; of_taker = h }
+    let h : cpu < length m = below cpu (length m) (and_parts _ _ (and_parts _ _ ok).0).0 in record { of_decider = h; of_giver = h; of_taker = h }
 deed_names homes (Renice cpu task nice) m ok cpus =
-    let h : cpu < length m = below cpu (length m) (left _ (is_task homes task) ok) in record { of_decider = h; of_giver = h; of_taker = h }
+    let h : cpu < length m = below cpu (length m) (and_parts _ (is_task homes task) ok).0 in record { of_decider = h; of_giver = h; of_taker = h }
 deed_names homes (Pull cpu source) m ok cpus =
     let named : PullNames (length m) cpu source = pull_names (length m) homes cpu source ok in
     record { of_decider = named.puller; of_giver = named.from; of_taker = named.puller }

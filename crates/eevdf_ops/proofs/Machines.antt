@@ -1,6 +1,6 @@
 -- A list of queues and the machine that it is.
-use Rattle.std.proofs.Common.{Bool, true, false, ◌&&◌, ◌++◌, drop, drop-cons, add-one, append_assoc, ◌≡◌, ℕ, zero, suc, ◌+◌, ◌<◌, List, [], ◌∷◌, length, get_or, set, replicate, refl, sym, ap, ◌∙◌, arith}
-use Rattle.std.proofs.{Math.ListN.length-set, Math.ListN.length-replicate, lemmas.Bool.false≢true}
+use Rattle.std.proofs.Common.{Bool, true, ◌++◌, drop, drop-cons, add-one, append_assoc, ◌≡◌, ℕ, zero, suc, ◌+◌, ◌<◌, List, [], ◌∷◌, length, get_or, set, replicate, refl, sym, ap, ◌∙◌, arith}
+use Rattle.std.proofs.{Math.ListN.length-set, Math.ListN.length-replicate, lemmas.Bool.and_parts}
 use Rattle.std.specs.List.{list_all}
 use Rattle.eevdf_ops.specs.{declared.deeds.Deed.Deed, declared.deeds.Answer.Answer, declared.deeds.Line.Line}
 use Rattle.eevdf_ops.specs.{declared.task_spec.TaskSpec.TaskSpec, Outcome.machine_of}
@@ -78,10 +78,6 @@ machine_step homes homes' m m' last ds i d h at eh em inv =
     ∙ ap (λ (n : Machine). machine_after homes n (drop (i + 1) ds)) em
     ∙ ap (λ (es : List Deed). machine_after homes m es) (sym (drop_step ds i d h at)) ∙ inv
 
-both : (a b : Bool) → (a && b) ≡ true → (a ≡ true) × (b ≡ true)
-both true b e = (refl, e)
-both false b e = absurd (false≢true e)
-
 -- the deed that comes next is allowed, and so are those after it
 pub allowed_step : (p : Deed → Bool) (ds : List Deed) (i : ℕ) (d : Deed) → i < length ds → d ≡ get_or ds i d → list_all p (drop i ds) ≡ true → (p d ≡ true) × (list_all p (drop (i + 1) ds) ≡ true)
-allowed_step p ds i d h at e = both (p d) (list_all p (drop (i + 1) ds)) (ap (list_all p) (sym (drop_step ds i d h at)) ∙ e)
+allowed_step p ds i d h at e = and_parts (p d) (list_all p (drop (i + 1) ds)) (ap (list_all p) (sym (drop_step ds i d h at)) ∙ e)

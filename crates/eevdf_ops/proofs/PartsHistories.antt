@@ -1,7 +1,7 @@
 -- Where each queue agrees with all steps, they are the history.
-use Rattle.std.proofs.Common.{◌≡◌, ℕ, Bool, true, false, ◌&&◌, List, [], ◌∷◌, length, refl, sym, ap, subst, ◌∙◌}
+use Rattle.std.proofs.Common.{◌≡◌, ℕ, true, List, [], ◌∷◌, length, refl, sym, ap, subst, ◌∙◌}
 use Rattle.std.specs.List.{list_all}
-use Rattle.std.proofs.lemmas.Bool.{false≢true}
+use Rattle.std.proofs.lemmas.Bool.{and_parts}
 use Rattle.eevdf_queue.specs.State.{State}
 use Rattle.eevdf_ops.specs.{declared.deeds.Deed.Deed, declared.deeds.Answer.Answer, declared.deeds.Line.Line, Setup.is_allowed}
 use Rattle.eevdf_ops.specs.{Machine.Machine, Places.AreCpus, Whole.whole, Whole.lines_of}
@@ -10,17 +10,13 @@ use Rattle.eevdf_ops.specs.PartsHistory.{Step, deeds_in, replayed, AgreesAlong, 
 use Rattle.eevdf_ops.specs.PartsLaws as laws
 use Rattle.eevdf_ops.proofs.{PartsProofs.parts_make_the_whole, WholePlaces.length-whole}
 
-both : (a b : Bool) → (a && b) ≡ true → (a ≡ true) × (b ≡ true)
-both true b e = (refl, e)
-both false b e = absurd (false≢true e)
-
 pub history_by_parts : history.HistoryByParts
 history_by_parts homes m [] ok cpus along = record { lines = refl; queues = λ c. refl }
 history_by_parts homes m (s ∷ ss) ok cpus along =
     let deed : Deed = s.line.deed in
     let after : Machine = (whole homes deed m).1 in
     let allowed : (is_allowed (length m) homes deed ≡ true) × (list_all (is_allowed (length m) homes) (deeds_in ss) ≡ true) =
-    both (is_allowed (length m) homes deed) (list_all (is_allowed (length m) homes) (deeds_in ss)) ok in
+    and_parts (is_allowed (length m) homes deed) (list_all (is_allowed (length m) homes) (deeds_in ss)) ok in
     let step : laws.ComesTo homes deed m s.line.answer s.moved =
     parts_make_the_whole homes deed m s.line.answer s.moved (record { allowed = allowed.0; cpus = cpus }) (λ c t. (along c).0) in
     let same : length after ≡ length m = length-whole homes deed m in

@@ -1,25 +1,17 @@
 -- Bounds on weights, for the crates above too.
-use Rattle.std.proofs.Common.{◌≡◌, ℕ, zero, suc, ◌≤◌, ◌<◌, Bool, true, false, ◌&&◌, leb, List, [], ◌∷◌, length, get_or, refl, ap, ◌∙◌, arith}
+use Rattle.std.proofs.Common.{◌≡◌, ℕ, zero, suc, ◌≤◌, ◌<◌, Bool, true, ◌&&◌, leb, List, [], ◌∷◌, length, get_or, refl, ap, ◌∙◌, arith}
 use Rattle.std.specs.Prelude.{ℤ}
 use Rattle.std.specs.List.{list_all}
-use Rattle.std.proofs.{lemmas.List.get_or_default, lemmas.Bool.Decides.nat_tests}
+use Rattle.std.proofs.{lemmas.List.get_or_default, lemmas.Bool.and_parts, lemmas.Bool.Decides.nat_tests}
 use Rattle.eevdf_weight.specs.Weight.{weights, place_of, weight_of}
 
 abbrev is_weight : ℕ → Bool
 is_weight w = leb 15 w && leb w 88761
 
-left : (a b : Bool) → (a && b) ≡ true → a ≡ true
-left true b h = refl
-left false b h = h
-
-right : (a b : Bool) → (a && b) ≡ true → b ≡ true
-right true b h = h
-right false b h = cc
-
 bounded : (xs : List ℕ) → list_all is_weight xs ≡ true → (k : ℕ) → is_weight (get_or xs k 15) ≡ true
 bounded [] h k = refl
-bounded (x ∷ xs) h zero = left (is_weight x) (list_all is_weight xs) h
-bounded (x ∷ xs) h (suc k) = bounded xs (right (is_weight x) (list_all is_weight xs) h) k
+bounded (x ∷ xs) h zero = (and_parts (is_weight x) (list_all is_weight xs) h).0
+bounded (x ∷ xs) h (suc k) = bounded xs (and_parts (is_weight x) (list_all is_weight xs) h).1 k
 
 is_weight_of : (z : ℤ) → is_weight (weight_of z) ≡ true
 unfolding weight_of weights

@@ -10,7 +10,7 @@ use crate::task::Task;
 use crate::tree_least::Least;
 use std::mem;
 
-// What a turn keeps. A side that is two levels higher than the other would make descents longer than the number of tasks
+// What a rotation keeps. A side that is two levels higher than the other would make descents longer than the number of tasks
 // asks for, so the task at the root of the higher side comes to the top. The node at the top stays, and the two exchange
 // their tasks: the node that leaves the higher side goes to the other, with the task that was at the top.
 //
@@ -50,18 +50,22 @@ pub fn even_out(
     let left_height = height(left);
     let right_height = height(right);
     if left_height > right_height + 1 {
-        turn_right(left, task, right);
+        rotate_right(left, task, right);
         return;
     }
     if right_height > left_height + 1 {
-        turn_left(left, task, right);
+        rotate_left(left, task, right);
     }
 }
 
 /// Evens two sides of which the left is two higher: the task of its root, or of the root of its right side, comes between the
 /// two.
 #[inline(never)]
-fn turn_right(left: &mut Option<Box<TreeNode>>, task: &mut Task, right: &mut Option<Box<TreeNode>>)
+fn rotate_right(
+    left: &mut Option<Box<TreeNode>>,
+    task: &mut Task,
+    right: &mut Option<Box<TreeNode>>,
+)
     requires higher { height_in left.old ≡ height_in right.old + 2 }
     requires few { length (tasks_in left.old) + length (tasks_in right.old) ≤ 2 ^ 20 }
     ensures tasks { tasks_in left.new ++ task.new ∷ tasks_in right.new
@@ -98,7 +102,7 @@ fn turn_right(left: &mut Option<Box<TreeNode>>, task: &mut Task, right: &mut Opt
 /// Evens two sides of which the right is two higher: the task of its root, or of the root of its left side, comes between the
 /// two.
 #[inline(never)]
-fn turn_left(left: &mut Option<Box<TreeNode>>, task: &mut Task, right: &mut Option<Box<TreeNode>>)
+fn rotate_left(left: &mut Option<Box<TreeNode>>, task: &mut Task, right: &mut Option<Box<TreeNode>>)
     requires higher { height_in right.old ≡ height_in left.old + 2 }
     requires few { length (tasks_in left.old) + length (tasks_in right.old) ≤ 2 ^ 20 }
     ensures tasks { tasks_in left.new ++ task.new ∷ tasks_in right.new

@@ -1,6 +1,6 @@
 use Rattle.std.proofs.Common.{◌≡◌, ◌∙◌, append_assoc, List, ◌∷◌, ◌++◌, ap, sym}
 use Rattle.eevdf_queue.specs.{declared.task.Task.Task, TreeShape.tasks_in}
-use Rattle.eevdf_queue.proofs.tree_node.rotation.turn_left.Goals as goal
+use Rattle.eevdf_queue.proofs.tree_node.rotation.rotate_left.Goals as goal
 
 with_tail : (ls ms xs ys zs : List Task) (t u : Task) → xs ++ t ∷ ys ≡ ls ++ u ∷ ms → xs ++ t ∷ (ys ++ zs) ≡ ls ++ u ∷ (ms ++ zs)
 with_tail ls ms xs ys zs t u e = sym (append_assoc xs (t ∷ ys) zs) ∙ ap (λ (q : List Task). q ++ zs) e ∙ append_assoc ls (u ∷ ms) zs
