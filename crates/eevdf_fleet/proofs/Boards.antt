@@ -16,8 +16,8 @@ use Rattle.eevdf_ops.proofs.{LocalParts.others_stay, WholePlaces.whole-placed}
 use Rattle.eevdf_fleet.specs.{declared.board.claims.Terms.Terms, declared.board.claims.Claim.Claim, declared.board.claims.View.View}
 use Rattle.eevdf_fleet.specs.declared.board.claims.Said.{Said}
 use Rattle.eevdf_fleet.specs.declared.board.claims.Claim.TheVariants.{Seat, Queue, Journal}
-use Rattle.eevdf_fleet.specs.Claims.{Key, seat, queue, journal, once, here, times, touches, homes, told, IsKept, Tells, AllTell, Agrees, AllAgree, Owes, advanced, knowing, nothing, start, claims_from, opening}
-use Rattle.eevdf_fleet.specs.Board.{Fits, IsOneHistory, Rule, Appended, advanced_if, Known, Checked, first_claim, other_claims, joined}
+use Rattle.eevdf_fleet.specs.Claims.{Subject, seat, queue, journal, once, here, times, touches, homes, told, IsKept, Tells, AllTell, Agrees, AllAgree, Owes, advanced, knowing, nothing, start, claims_from, opening}
+use Rattle.eevdf_fleet.specs.Board.{ViewTells, IsOneHistory, Rule, Appended, advanced_if, Known, Checked, first_claim, other_claims, joined}
 use Rattle.eevdf_fleet.proofs.Totals.{total-set, total-append, times-append, times-at, times-two, times-advanced}
 use Rattle.eevdf_fleet.proofs.Told.{length-told, told-more, lines_by-more, list_all-more, history-more, deeds-more}
 
@@ -41,12 +41,12 @@ queue_stays t lines l cpu true e none = absurd (let one : once (cpu == cpu) ≡ 
 queue_stays t lines l cpu false e none =
     ap (λ (m : Machine). queue_at m cpu) (told-more t lines l) ∙ others_stay (homes t) l.deed (told t lines) cpu e
 
-stays : (t : Terms) (lines : List Line) (l : Line) (c : Claim) → ((k : Key) → touches (homes t) k l.deed ≡ true → here k c ≡ 0) → Tells t lines c → Tells t (lines ++ l ∷ []) c
+stays : (t : Terms) (lines : List Line) (l : Line) (c : Claim) → ((k : Subject) → touches (homes t) k l.deed ≡ true → here k c ≡ 0) → Tells t lines c → Tells t (lines ++ l ∷ []) c
 stays t lines l (Seat cpu own) none h = seat_stays t lines l cpu own (decider l.deed == cpu) refl (none (seat cpu)) h
 stays t lines l (Queue cpu q) none h = queue_stays t lines l cpu (parts.touches (homes t) l.deed cpu) refl (none (queue cpu)) ∙ h
 stays t lines l (Journal all) none h = absurd (let one : ◌≡◌ {A = ℕ} 1 0 = none journal refl in omega arith)
 
-all_stay : (t : Terms) (lines : List Line) (l : Line) (cs : List Claim) → ((k : Key) → touches (homes t) k l.deed ≡ true → times k cs ≡ 0) → AllTell t lines cs → AllTell t (lines ++ l ∷ []) cs
+all_stay : (t : Terms) (lines : List Line) (l : Line) (cs : List Claim) → ((k : Subject) → touches (homes t) k l.deed ≡ true → times k cs ≡ 0) → AllTell t lines cs → AllTell t (lines ++ l ∷ []) cs
 all_stay t lines l [] none h = tt
 all_stay t lines l (c ∷ cs) none h = (
   stays t lines l c (λ k e. omega (arith, none k e)) h.0,
@@ -109,11 +109,11 @@ kept-more t lines cs s kept tell owed =
 
 -- one view changes, and the rule holds of each
 fits-set : (t : Terms) (lines : List Line) (views : List View) (id : ℕ) (w : View)
-    → ((j : ℕ) (u : View) → j ≢ id → get_elem? views j ≡ option.some u → Fits t lines u) → Fits t lines w
-    → (j : ℕ) (u : View) → get_elem? (set views id w) j ≡ option.some u → Fits t lines u
+    → ((j : ℕ) (u : View) → j ≢ id → get_elem? views j ≡ option.some u → ViewTells t lines u) → ViewTells t lines w
+    → (j : ℕ) (u : View) → get_elem? (set views id w) j ≡ option.some u → ViewTells t lines u
 fits-set t lines views id w others mine j u e =
     ⊎_elim
-    (λ (x : (j ≡ id) × (w ≡ u)). subst (λ (y : View). Fits t lines y) x.1 mine)
+    (λ (x : (j ≡ id) × (w ≡ u)). subst (λ (y : View). ViewTells t lines y) x.1 mine)
     (λ (x : (j ≢ id) × (get_elem? views j ≡ option.some u)). others j u x.0 x.1)
     (at_set views id j w u e)
 
@@ -177,7 +177,7 @@ tell-append : (t : Terms) (lines : List Line) (cs ds : List Claim) → AllTell t
 tell-append t lines [] ds h g = g
 tell-append t lines (c ∷ cs) ds h g = (h.0, tell-append t lines cs ds h.1 g)
 
-times-parts : (k : Key) (n : ℕ) (cs : List Claim) → times k (take n cs) + times k (drop n cs) ≡ times k cs
+times-parts : (k : Subject) (n : ℕ) (cs : List Claim) → times k (take n cs) + times k (drop n cs) ≡ times k cs
 times-parts k zero cs = omega arith
 times-parts k (suc n) [] = refl
 times-parts k (suc n) (c ∷ cs) = omega (arith, times-parts k n cs)
@@ -187,14 +187,14 @@ split : (t : Terms) (cs : List Claim) (views : List View) (id : ℕ) → get_ele
 split t cs views id at h =
     let v : View = knowing t cs in
     let tell : AllTell t h.lines cs = (h.fits id v at).1 in
-    let kept : (j : ℕ) (u : View) → get_elem? (set views id (other_claims v)) j ≡ option.some u → Fits t h.lines u
+    let kept : (j : ℕ) (u : View) → get_elem? (set views id (other_claims v)) j ≡ option.some u → ViewTells t h.lines u
     = fits-set t h.lines views id (other_claims v) (λ j u apart e. h.fits j u e) (refl, tell-drop t h.lines 1 cs tell) in
     record {
       lines = h.lines;
       kept = h.kept;
       fits = λ j u e.
           ⊎_elim (λ (x : get_elem? (set views id (other_claims v)) j ≡ option.some u). kept j u x)
-          (λ (x : first_claim v ≡ u). subst (λ (y : View). Fits t h.lines y) x (refl, tell-take t h.lines 1 cs tell))
+          (λ (x : first_claim v ≡ u). subst (λ (y : View). ViewTells t h.lines y) x (refl, tell-take t h.lines 1 cs tell))
           (at_snoc (set views id (other_claims v)) (first_claim v) u j e);
       once = λ k. omega (arith, total-append k (set views id (other_claims v)) (first_claim v), total-set k views id v (other_claims v) at, times-parts k 1 cs, h.once k);
     }
@@ -253,7 +253,7 @@ queue-once m cpu from true e rest =
     let same : from ≡ cpu = grind (arith, nat_tests) in omega (arith, (none-from m cpu (from + 1) (omega arith)).1)
 queue-once m cpu from false e rest = omega arith
 
-once-from : (m : Machine) (k : Key) (from : ℕ) → times k (claims_from from m) ≤ 1
+once-from : (m : Machine) (k : Subject) (from : ℕ) → times k (claims_from from m) ≤ 1
 once-from [] (seat cpu) from = omega arith
 once-from [] (queue cpu) from = omega arith
 once-from [] journal from = omega arith
@@ -261,9 +261,9 @@ once-from (q ∷ m) (seat cpu) from = omega (arith, seat-once m cpu from (from =
 once-from (q ∷ m) (queue cpu) from = omega (arith, queue-once m cpu from (from == cpu) refl (once-from m (queue cpu) (from + 1)))
 once-from (q ∷ m) journal from = omega (arith, once-from m journal (from + 1))
 
-opened_views : (t : Terms) (id : ℕ) (v : View) → get_elem? (knowing t (opening t) ∷ []) id ≡ option.some v → Fits t [] v
+opened_views : (t : Terms) (id : ℕ) (v : View) → get_elem? (knowing t (opening t) ∷ []) id ≡ option.some v → ViewTells t [] v
 opened_views t zero v e =
-    subst (λ (u : View). Fits t [] u) (option.some-injective _ _ e) (refl, tell-from t (start t) 0 (λ k less. ap (λ (c : ℕ). queue_at (start t) c) (let z : 0 + k ≡ k = omega arith in z)))
+    subst (λ (u : View). ViewTells t [] u) (option.some-injective _ _ e) (refl, tell-from t (start t) 0 (λ k less. ap (λ (c : ℕ). queue_at (start t) c) (let z : 0 + k ≡ k = omega arith in z)))
 opened_views t (suc id) v e = absurd (option.some-ne-none v (sym e))
 
 pub opens : (t : Terms) → IsKept t [] → IsOneHistory t (knowing t (opening t) ∷ [])

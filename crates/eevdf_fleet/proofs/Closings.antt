@@ -8,7 +8,7 @@ use Rattle.eevdf_ops.specs.{declared.deeds.Line.Line, Machine.Machine, Machine.q
 use Rattle.eevdf_ops.proofs.{Machines.length-machine_of, Machines.machine_with, PartsProofs.same_machine}
 use Rattle.eevdf_fleet.specs.{declared.board.claims.Terms.Terms, declared.board.claims.Claim.Claim, Board.Known}
 use Rattle.eevdf_fleet.specs.declared.board.claims.Claim.TheVariants.{Seat, Queue, Journal}
-use Rattle.eevdf_fleet.specs.Claims.{Key, queue, once, here, times, told, AllTell}
+use Rattle.eevdf_fleet.specs.Claims.{Subject, queue, once, here, times, told, AllTell}
 use Rattle.eevdf_fleet.proofs.{QueuesClosed.AreClosed, Told.length-told}
 use Rattle.eevdf_fleet.proofs.Sums.{sum_below, sum-none, sum-once, sum-less}
 
@@ -61,7 +61,7 @@ claimed-sum t lines qs (Journal whole ∷ []) closed = omega (arith, sum-none (c
 claimed-sum t lines qs (Journal whole ∷ c ∷ cs) closed = absurd closed
 
 -- where each queue is claimed once at most, and there are enough claims, each is claimed
-each-claimed : (t : Terms) (lines : List Line) (qs : List View) (cs : List Claim) (c : ℕ) → AreClosed t lines qs cs → ((k : Key) → times k cs ≤ 1) → cpus_of t.setup.value < length cs → c < cpus_of t.setup.value
+each-claimed : (t : Terms) (lines : List Line) (qs : List View) (cs : List Claim) (c : ℕ) → AreClosed t lines qs cs → ((k : Subject) → times k cs ≤ 1) → cpus_of t.setup.value < length cs → c < cpus_of t.setup.value
     → 1 ≤ times (queue c) cs
 unfolding claimed
 each-claimed t lines qs cs c closed few enough less = enough-of (times (queue c) cs) refl

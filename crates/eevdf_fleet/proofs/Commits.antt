@@ -5,14 +5,14 @@ use Rattle.eevdf_ops.specs.{declared.deeds.Line.Line, Parts.decider, Programs.li
 use Rattle.eevdf_fleet.specs.{declared.board.claims.Terms.Terms, declared.board.claims.Claim.Claim}
 use Rattle.eevdf_fleet.specs.{declared.board.claims.Claim.TheVariants.Seat, declared.board.claims.Claim.TheVariants.Journal}
 use Rattle.eevdf_fleet.specs.declared.board.claims.Said.{Said}
-use Rattle.eevdf_fleet.specs.Claims.{Key, seat, queue, journal, once, times, touches, homes, Owes, OwesQueues}
+use Rattle.eevdf_fleet.specs.Claims.{Subject, seat, queue, journal, once, times, touches, homes, Owes, OwesQueues}
 
 -- the claims of the lines of a CPU, of the journal and of queues
 abbrev pub with_seat : ℕ → List Line → List Line → List Claim → List Claim
 with_seat cpu log all qs = Seat cpu log ∷ Journal all ∷ qs
 
 claimed-all : (t : Terms) (cpu : ℕ) (log all : List Line) (qs : List Claim) (s : Said) → decider s.line.deed ≡ cpu → OwesQueues t qs s
-    → (k : Key) → touches (homes t) k s.line.deed ≡ true → 1 ≤ times k (with_seat cpu log all qs)
+    → (k : Subject) → touches (homes t) k s.line.deed ≡ true → 1 ≤ times k (with_seat cpu log all qs)
 claimed-all t cpu log all qs s own owed (seat c) e =
     let one : once (cpu == c) ≡ 1 = ap once (ap (λ (n : ℕ). n == c) (sym own) ∙ e) in omega arith
 claimed-all t cpu log all qs s own owed (queue c) e = omega (arith, owed.claimed c e)

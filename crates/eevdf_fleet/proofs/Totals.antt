@@ -5,37 +5,37 @@ use lib.ListN.{get_elem?}
 use Rattle.atomic_table.proofs.Lists.{set_else}
 use Rattle.eevdf_fleet.specs.{declared.board.claims.Claim.Claim, declared.board.claims.View.View, declared.board.claims.Said.Said}
 use Rattle.eevdf_fleet.specs.declared.board.claims.Claim.TheVariants.{Seat, Queue, Journal}
-use Rattle.eevdf_fleet.specs.Claims.{Key, seat, queue, journal, here, times, total, nothing, advanced}
+use Rattle.eevdf_fleet.specs.Claims.{Subject, seat, queue, journal, here, times, total, nothing, advanced}
 
-pub total-set : (k : Key) (views : List View) (id : ℕ) (v w : View) → get_elem? views id ≡ some v
+pub total-set : (k : Subject) (views : List View) (id : ℕ) (v w : View) → get_elem? views id ≡ some v
     → total k (set views id w) + times k v.claims ≡ total k views + times k w.claims
 total-set k [] id v w e = absurd (some-ne-none v (sym e))
 total-set k (x ∷ views) zero v w e =
     let same : times k x.claims ≡ times k v.claims = ap (λ (u : View). times k u.claims) (some-injective x v e) in omega arith
 total-set k (x ∷ views) (suc id) v w e = omega (arith, total-set k views id v w e)
 
-pub times-at : (k : Key) (views : List View) (id : ℕ) (v : View) → get_elem? views id ≡ some v → times k v.claims ≤ total k views
+pub times-at : (k : Subject) (views : List View) (id : ℕ) (v : View) → get_elem? views id ≡ some v → times k v.claims ≤ total k views
 times-at k [] id v e = absurd (some-ne-none v (sym e))
 times-at k (x ∷ views) zero v e =
     let same : times k x.claims ≡ times k v.claims = ap (λ (u : View). times k u.claims) (some-injective x v e) in omega arith
 times-at k (x ∷ views) (suc id) v e = omega (arith, times-at k views id v e)
 
 -- two views claim it together no more often than all do
-pub times-two : (k : Key) (views : List View) (i j : ℕ) (v w : View) → j ≢ i → get_elem? views i ≡ some v → get_elem? views j ≡ some w
+pub times-two : (k : Subject) (views : List View) (i j : ℕ) (v w : View) → j ≢ i → get_elem? views i ≡ some v → get_elem? views j ≡ some w
     → times k v.claims + times k w.claims ≤ total k views
 times-two k views i j v w apart ev ew =
     let rest : times k w.claims ≤ total k (set views i nothing) = times-at k (set views i nothing) j w (set_else views i j nothing apart ∙ ew) in
     omega (arith, total-set k views i v nothing ev, rest)
 
-pub total-append : (k : Key) (views : List View) (w : View) → total k (views ++ w ∷ []) ≡ total k views + times k w.claims
+pub total-append : (k : Subject) (views : List View) (w : View) → total k (views ++ w ∷ []) ≡ total k views + times k w.claims
 total-append k [] w = omega arith
 total-append k (x ∷ views) w = omega (arith, total-append k views w)
 
-pub times-append : (k : Key) (xs ys : List Claim) → times k (xs ++ ys) ≡ times k xs + times k ys
+pub times-append : (k : Subject) (xs ys : List Claim) → times k (xs ++ ys) ≡ times k xs + times k ys
 times-append k [] ys = omega arith
 times-append k (x ∷ xs) ys = omega (arith, times-append k xs ys)
 
-here-advanced : (k : Key) (s : Said) (c : Claim) → here k (advanced s c) ≡ here k c
+here-advanced : (k : Subject) (s : Said) (c : Claim) → here k (advanced s c) ≡ here k c
 here-advanced (seat cpu) s (Seat of lines) = refl
 here-advanced (seat cpu) s (Queue of q) = refl
 here-advanced (seat cpu) s (Journal lines) = refl
@@ -46,6 +46,6 @@ here-advanced journal s (Seat of lines) = refl
 here-advanced journal s (Queue of q) = refl
 here-advanced journal s (Journal lines) = refl
 
-pub times-advanced : (k : Key) (s : Said) (cs : List Claim) → times k (map (advanced s) cs) ≡ times k cs
+pub times-advanced : (k : Subject) (s : Said) (cs : List Claim) → times k (map (advanced s) cs) ≡ times k cs
 times-advanced k s [] = refl
 times-advanced k s (c ∷ cs) = omega (arith, here-advanced k s c, times-advanced k s cs)

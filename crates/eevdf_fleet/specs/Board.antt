@@ -8,16 +8,16 @@ use Rattle.atomic_table.specs.{Seated.TableId, declared.badge.Badge.Badge}
 use Rattle.eevdf_ops.specs.declared.deeds.Line.{Line}
 use Rattle.eevdf_fleet.specs.{declared.board.claims.Terms.Terms, declared.board.claims.Claim.Claim, declared.board.claims.View.View}
 use Rattle.eevdf_fleet.specs.declared.board.claims.Said.{Said}
-use Rattle.eevdf_fleet.specs.Claims.{Key, total, times, AllTell, AreTerms, IsKept, advanced, knowing}
+use Rattle.eevdf_fleet.specs.Claims.{Subject, total, times, AllTell, AreTerms, IsKept, advanced, knowing}
 
-abbrev pub Fits : Terms → List Line → View → Type 0
-Fits t lines v = AreTerms t v.terms × AllTell t lines v.claims
+abbrev pub ViewTells : Terms → List Line → View → Type 0
+ViewTells t lines v = AreTerms t v.terms × AllTell t lines v.claims
 
 pub record IsOneHistory (t : Terms) (views : List View) : Type 0 where
   pub lines : List Line
   pub kept : IsKept t lines
-  pub fits : (id : ℕ) (v : View) → get_elem? views id ≡ option.some v → Fits t lines v
-  pub once : (k : Key) → total k views ≤ 1
+  pub fits : (id : ℕ) (v : View) → get_elem? views id ≡ option.some v → ViewTells t lines v
+  pub once : (k : Subject) → total k views ≤ 1
 
 abbrev pub Rule : Terms → State (Snapshot Said) View → Type 0
 Rule t s = IsOneHistory t s.views
@@ -35,7 +35,7 @@ pub record Known (t : Terms) (claims : List Claim) : Type 0 where
   pub lines : List Line
   pub kept : IsKept t lines
   pub tell : AllTell t lines claims
-  pub once : (k : Key) → times k claims ≤ 1
+  pub once : (k : Subject) → times k claims ≤ 1
 
 abbrev pub IfKnown : View → Type 0
 IfKnown v = IfSome v.terms (λ (t : Terms). Known t v.claims)

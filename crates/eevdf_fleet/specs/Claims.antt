@@ -32,16 +32,16 @@ pub record IsKept (t : Terms) (lines : List Line) : Type 0 where
   pub placed : IsPlaced (homes t) (told t lines)
 
 -- what a claim is of
-pub data Key : Type 0 where
-  seat : ℕ → Key
-  queue : ℕ → Key
-  journal : Key
+pub data Subject : Type 0 where
+  seat : ℕ → Subject
+  queue : ℕ → Subject
+  journal : Subject
 
 -- how often a claim is of this: once or not at all
 abbrev pub once : Bool → ℕ
 once b = if b then 1 else 0
 
-abbrev pub here : Key → Claim → ℕ
+abbrev pub here : Subject → Claim → ℕ
 here (seat cpu) (Seat of lines) = once (of == cpu)
 here (seat cpu) (Queue of q) = 0
 here (seat cpu) (Journal lines) = 0
@@ -52,16 +52,16 @@ here journal (Seat of lines) = 0
 here journal (Queue of q) = 0
 here journal (Journal lines) = 1
 
-abbrev pub times : Key → List Claim → ℕ
+abbrev pub times : Subject → List Claim → ℕ
 times k [] = 0
 times k (c ∷ cs) = here k c + times k cs
 
-abbrev pub total : Key → List View → ℕ
+abbrev pub total : Subject → List View → ℕ
 total k [] = 0
 total k (v ∷ vs) = times k v.claims + total k vs
 
 -- whether a deed changes what holds of this
-abbrev pub touches : List ℕ → Key → Deed → Bool
+abbrev pub touches : List ℕ → Subject → Deed → Bool
 touches homes (seat cpu) deed = decider deed == cpu
 touches homes (queue cpu) deed = parts.touches homes deed cpu
 touches homes journal deed = true
@@ -117,7 +117,7 @@ AllAgree m (c ∷ cs) = Agrees m c × AllAgree m cs
 -- what who commits a line owes: it claims all that the line changes, the line is allowed and has room, and wherever
 -- the claims hold, it is the next of the history and leaves the queues that are said
 pub record Owes (t : Terms) (claims : List Claim) (s : Said) : Type 0 where
-  pub claimed : (k : Key) → touches (homes t) k s.line.deed ≡ true → 1 ≤ times k claims
+  pub claimed : (k : Subject) → touches (homes t) k s.line.deed ≡ true → 1 ≤ times k claims
   pub allowed : allows t.setup.value s.line.deed ≡ true
   pub room : (lines : List Line) → AllTell t lines claims → length (lines_by (decider s.line.deed) lines) < t.quota
   pub answers : (m : Machine) → laws.Fits (homes t) s.line.deed m → AllAgree m claims → (whole (homes t) s.line.deed m).0 ≡ s.line.answer

@@ -2,7 +2,8 @@
 
 ghost use Rattle.std.specs.Prelude.{◌≡◌, ◌<◌, ◌++◌, [], ◌∷◌, map};
 ghost use Rattle.eevdf_ops.specs.Parts.{decider};
-ghost use Rattle.eevdf_fleet.specs.{Claims.OwesQueues, Claims.advanced, Board.IsToken, Board.claims_of, Fleets.written};
+ghost use Rattle.eevdf_fleet.specs.{Claims.OwesQueues, Claims.advanced, Board.IsToken};
+ghost use Rattle.eevdf_fleet.specs.{Board.claims_of, Fleets.written};
 
 use crate::board::{Said, Token};
 use crate::journal::Journal;

@@ -1,6 +1,7 @@
 //! How the requests that were posted to a CPU are decided.
 
-ghost use Rattle.std.specs.Prelude.{◌≡◌, ◌≤◌, ◌<◌, ◌↔◌, IfNone, IfOk, IfSome, IsErr, MatchResult, None, true};
+ghost use Rattle.std.specs.Prelude.{◌≡◌, ◌≤◌, ◌<◌, ◌↔◌, IfNone, IfOk, IfSome, IsErr, MatchResult};
+ghost use Rattle.std.specs.Prelude.{None, true};
 ghost use Rattle.eevdf_ops.specs.Numbers.{most_cpus};
 ghost use Rattle.eevdf_ops.specs.Setup.{cpus_of, homes_of, is_at_home};
 ghost use Rattle.eevdf_fleet.specs.Drains.{HasDrained, HasTaken, counted, oldest_own};
@@ -9,7 +10,6 @@ ghost use Rattle.eevdf_fleet.specs.Fleets.{setup_of};
 use crate::fleet::{Fleet, SeatFull};
 use crate::gate::{Gate, OpenGate};
 use crate::names::Names;
-use crate::opening::cpu_number;
 use crate::seat::Seat;
 use crate::slot::Slot;
 use eevdf_ops::{Answer, CpuId, Deed};
@@ -58,7 +58,7 @@ impl<N: Names> Fleet<N> {
     {
         let mut drained = Drained { taken: 0, woken: 0 };
         for sender in 0..self.locks.len() {
-            if let Some(answer) = self.drain_one(rt, seat, slot, cpu_number(sender)) {
+            if let Some(answer) = self.drain_one(rt, seat, slot, CpuId::numbered(sender)) {
                 drained = counted(drained, answer);
             }
         }

@@ -1,10 +1,13 @@
-ghost use Rattle.std.specs.Prelude.{◌≡◌, ◌≢◌, ◌*◌, ◌<◌, ◌≤◌, ◌↔◌, nat_lt, All, IfOk, IsErr, IsTrue, MatchResult, length, true};
+ghost use Rattle.std.specs.Prelude.{◌≡◌, ◌≢◌, ◌*◌, ◌<◌, ◌≤◌, ◌↔◌, nat_lt, All, IfOk, IsErr, IsTrue};
+ghost use Rattle.std.specs.Prelude.{MatchResult, length, true};
 ghost use Rattle.std.specs.List.{list_all};
-ghost use Rattle.eevdf_ops.specs.{Histories.IsOneThread, Machine.start, Outcome.machine_of, Places.IsPlaced, Programs.deeds_of};
+ghost use Rattle.eevdf_ops.specs.{Histories.IsOneThread, Machine.start, Outcome.machine_of};
+ghost use Rattle.eevdf_ops.specs.{Places.IsPlaced, Programs.deeds_of};
 ghost use Rattle.eevdf_ops.specs.Programs.{lines_by};
 ghost use Rattle.eevdf_ops.specs.Setup.{allows, cpus_of, homes_of, is_task};
 ghost use Rattle.eevdf_fleet.specs.Drains.{HasDrained};
-ghost use Rattle.eevdf_fleet.specs.Fleets.{AllPostsTold, AreSeats, IsLogged, fresh_seats, quota_of, setup_of};
+ghost use Rattle.eevdf_fleet.specs.Fleets.{AllPostsTold, AreSeats, IsLogged, fresh_seats, quota_of};
+ghost use Rattle.eevdf_fleet.specs.Fleets.{setup_of};
 
 use crate::closing::{close_locks, close_seats};
 use crate::drains::Drained;
@@ -47,15 +50,18 @@ pub struct Fleet<N: Names> {
 
 impl<N: Names> Model for Fleet<N> {
     ghost use Rattle.std.specs.Prelude.{◌≡◌, ◌≤◌, vec_len};
-    ghost use Rattle.eevdf_ops.specs.{Numbers.most_cpus, Places.AreCpus, Setup.cpus_of, Setup.homes_of};
+    ghost use Rattle.eevdf_ops.specs.{Numbers.most_cpus, Places.AreCpus, Setup.cpus_of};
+    ghost use Rattle.eevdf_ops.specs.{Setup.homes_of};
     ghost use Rattle.eevdf_fleet.specs.Fleets.{setup_of};
 
     ghost Value = { Unit {0} };
 
     ghost view = { λ f. tt };
 
-    ghost invariant = { λ f. (f.homes.items ≡ homes_of (setup_of N.kit)) × (vec_len f.locks ≡ cpus_of (setup_of N.kit))
-        × AreCpus (cpus_of (setup_of N.kit)) (homes_of (setup_of N.kit)) × (cpus_of (setup_of N.kit) ≤ most_cpus) };
+    ghost invariant = { λ f. (f.homes.items ≡ homes_of (setup_of N.kit))
+        × (vec_len f.locks ≡ cpus_of (setup_of N.kit))
+        × AreCpus (cpus_of (setup_of N.kit)) (homes_of (setup_of N.kit))
+        × (cpus_of (setup_of N.kit) ≤ most_cpus) };
 }
 
 impl<N: Names> Fleet<N> {
@@ -64,7 +70,8 @@ impl<N: Names> Fleet<N> {
     /// is then lost.
     pub fn open(alloc: Global, kit: Kit) -> Result<(Fleet<N>, Vec<Seat<N>>), AllocError>
         requires { kit ≡ N.kit }
-        ensures { IfOk result (λ r. r.1.items ≡ fresh_seats (quota_of N.kit) (cpus_of (setup_of N.kit))) }
+        ensures { IfOk result (λ r. r.1.items
+            ≡ fresh_seats (quota_of N.kit) (cpus_of (setup_of N.kit))) }
     {
         let Kit {
             board,
@@ -233,11 +240,13 @@ impl<N: Names> Fleet<N> {
     /// were, followed by what is left.
     pub fn close(self, seats: Vec<Seat<N>>) -> Closed
         requires { AreSeats (cpus_of (setup_of N.kit)) seats.items }
-        ensures one_thread { IsOneThread (homes_of (setup_of N.kit)) (start (setup_of N.kit)) (deeds_of result.lines) result }
+        ensures one_thread { IsOneThread (homes_of (setup_of N.kit)) (start (setup_of N.kit))
+            (deeds_of result.lines) result }
         ensures allowed { list_all (allows (setup_of N.kit)) (deeds_of result.lines) ≡ true }
         ensures logs { All (λ s. lines_by s.cpu result.lines ≡ s.log) seats.items }
         ensures places { IsPlaced (homes_of (setup_of N.kit)) (machine_of result.queues) }
-        ensures posts { AllPostsTold (cpus_of (setup_of N.kit)) seats.items result.lines result.left }
+        ensures posts { AllPostsTold (cpus_of (setup_of N.kit)) seats.items
+            result.lines result.left }
         ensures left { length result.left ≡ cpus_of (setup_of N.kit) * cpus_of (setup_of N.kit) }
     {
         let Fleet {

@@ -1,5 +1,6 @@
 ghost use Rattle.std.specs.Prelude.{◌≡◌, ◌≤◌, IfOk};
-ghost use Rattle.eevdf_fleet.specs.Fleets.{capacity_of, most_lines, most_requests, quota_of, setup_of};
+ghost use Rattle.eevdf_fleet.specs.Fleets.{capacity_of, most_lines, most_requests, quota_of};
+ghost use Rattle.eevdf_fleet.specs.Fleets.{setup_of};
 
 use crate::board::{Board, Terms, Token};
 use crate::rings::Rings;
@@ -27,10 +28,15 @@ impl Model for Kit {
 
     ghost Value = { Kit };
 
-    ghost view = { λ k. record { board = k.board.table.shared.table_id; terms = k.board.table.shared.key; rings = k.rings } };
+    ghost view = { λ k. record {
+      board = k.board.table.shared.table_id;
+      terms = k.board.table.shared.key;
+      rings = k.rings;
+    } };
 
     ghost use Rattle.std.specs.Prelude.{◌≡◌, ◌*◌, ◌≤◌, [], length, vec_len, vec_capacity};
-    ghost use Rattle.eevdf_ops.specs.{Numbers.most_cpus, Outcome.machine_of, Places.AreCpus, Setup.cpus_of, Setup.homes_of};
+    ghost use Rattle.eevdf_ops.specs.{Numbers.most_cpus, Outcome.machine_of, Places.AreCpus};
+    ghost use Rattle.eevdf_ops.specs.{Setup.cpus_of, Setup.homes_of};
     ghost use Rattle.eevdf_fleet.specs.{Board.IsToken, Board.claims_of, Claims.claims_from};
 
     ghost invariant = { λ k. IsToken k.board.table.shared.table_id k.board.table.shared.key k.token
@@ -40,7 +46,8 @@ impl Model for Kit {
         × (k.lines.items ≡ [])
         × (cpus_of k.board.table.shared.key.setup.value * k.quota ≤ vec_capacity k.lines)
         × (k.quota ≡ k.board.table.shared.key.quota)
-        × AreCpus (cpus_of k.board.table.shared.key.setup.value) (homes_of k.board.table.shared.key.setup.value)
+        × AreCpus (cpus_of k.board.table.shared.key.setup.value)
+        (homes_of k.board.table.shared.key.setup.value)
         × (cpus_of k.board.table.shared.key.setup.value ≤ most_cpus)
         × (length k.rings.rings ≡ cpus_of k.board.table.shared.key.setup.value) };
 }
@@ -69,17 +76,13 @@ impl Kit {
             quota,
         };
         let (board, token) = Board::open(alloc, &terms)?;
-        let homes = setup.homes(alloc)?;
-        let queues = Solo::open(alloc, setup)?.into_queues();
-        let lines = Vec::with_capacity(alloc, setup.cpus() * quota)?;
-        let rings = Rings::open(alloc, setup.cpus(), rings)?;
         Ok(Kit {
             board,
             token,
-            homes,
-            queues,
-            rings,
-            lines,
+            homes: setup.homes(alloc)?,
+            queues: Solo::open(alloc, setup)?.into_queues(),
+            rings: Rings::open(alloc, setup.cpus(), rings)?,
+            lines: Vec::with_capacity(alloc, setup.cpus() * quota)?,
             quota,
         })
     }

@@ -3,8 +3,10 @@
 ghost use Rattle.std.specs.Prelude.{◌≡◌, ◌≢◌, ◌<◌, [], ◌∷◌, true};
 ghost use Rattle.eevdf_ops.specs.{Parts.decider, Setup.allows, Setup.homes_of};
 ghost use Rattle.eevdf_fleet.specs.declared.board.claims.Claim.TheVariants as claim;
-ghost use Rattle.eevdf_fleet.specs.{Board.IsToken, Board.claims_of, Fleets.setup_of, Fleets.written};
-ghost use Rattle.eevdf_fleet.specs.TouchedQueues.{AreDoneFrom, IsDoneFrom, IsOfOneQueue, IsOfTwoQueues};
+ghost use Rattle.eevdf_fleet.specs.{Board.IsToken, Board.claims_of, Fleets.setup_of};
+ghost use Rattle.eevdf_fleet.specs.{Fleets.written};
+ghost use Rattle.eevdf_fleet.specs.TouchedQueues.{AreDoneFrom, IsDoneFrom, IsOfOneQueue};
+ghost use Rattle.eevdf_fleet.specs.TouchedQueues.{IsOfTwoQueues};
 
 use crate::board::{Change, Said, Token};
 use crate::commit::commit;
@@ -59,7 +61,8 @@ impl<N: Names> Fleet<N> {
         requires apart { other ≢ log.old.cpu }
         requires allowed { allows (setup_of N.kit) line.now.deed ≡ true }
         requires room { 0 < log.old.room }
-        requires done { AreDoneFrom (claims_of token) log.old.cpu queue.now.state other other_queue.now.state line.now }
+        requires done { AreDoneFrom (claims_of token) log.old.cpu queue.now.state
+            other other_queue.now.state line.now }
         ensures first { IsToken N.kit.board N.kit.terms result.0 }
         ensures second { IsToken N.kit.board N.kit.terms result.1 }
         ensures first_claim { claims_of result.0 ≡ claim.Queue log.old.cpu queue.now.state ∷ [] }

@@ -18,12 +18,14 @@ impl<N: Names> Model for NamedBoard<N> {
 
     ghost view = { λ b. tt };
 
-    ghost invariant = { λ b. (b.board.table.shared.table_id ≡ N.kit.board) × (b.board.table.shared.key ≡ N.kit.terms) };
+    ghost invariant = { λ b. (b.board.table.shared.table_id ≡ N.kit.board)
+        × (b.board.table.shared.key ≡ N.kit.terms) };
 }
 
 impl<N: Names> NamedBoard<N> {
     pub(crate) fn new(board: Board) -> NamedBoard<N>
-        requires { (board.table.shared.table_id ≡ N.kit.board) × (board.table.shared.key ≡ N.kit.terms) }
+        requires { (board.table.shared.table_id ≡ N.kit.board)
+            × (board.table.shared.key ≡ N.kit.terms) }
     {
         NamedBoard {
             board,

@@ -1,8 +1,9 @@
 //! How a fleet is opened from its kit.
 
 ghost use Rattle.std.specs.Prelude.{◌≡◌, ◌<◌, ◌≤◌, [], ◌∷◌, drop, take, vec_len, IfOk, length};
-ghost use Rattle.eevdf_ops.specs.Numbers.{cpu_limit, most_cpus};
-ghost use Rattle.eevdf_ops.specs.{Outcome.machine_of, Places.AreCpus, Setup.cpus_of, Setup.homes_of};
+ghost use Rattle.eevdf_ops.specs.Numbers.{most_cpus};
+ghost use Rattle.eevdf_ops.specs.{Outcome.machine_of, Places.AreCpus, Setup.cpus_of};
+ghost use Rattle.eevdf_ops.specs.{Setup.homes_of};
 ghost use Rattle.eevdf_fleet.specs.declared.board.claims.Claim.TheVariants as claim;
 ghost use Rattle.eevdf_fleet.specs.{Board.IsToken, Board.claims_of, Claims.claims_from};
 ghost use Rattle.eevdf_fleet.specs.Fleets.{fresh_log, fresh_logs, fresh_seats, setup_of};
@@ -62,7 +63,7 @@ pub(crate) fn open_all<N: Names>(
     let mut locks = Vec::with_capacity(alloc, cpus)?;
     for number in 0..cpus {
         let queue = mem::replace(&mut queues[number], Queue::open());
-        let part = open_one(alloc, board, token, cpu_number(number), queue, quota)?;
+        let part = open_one(alloc, board, token, CpuId::numbered(number), queue, quota)?;
         let Part { log, slot, others } = part;
         logs.push(log)?;
         locks.push(Mutex::new(slot))?;
@@ -146,15 +147,4 @@ pub(crate) fn open_seats<N: Names>(
     }
     seats.reverse();
     Ok(seats)
-}
-
-/// The CPU of this number.
-pub(crate) fn cpu_number(number: usize) -> CpuId
-    requires { number < cpu_limit }
-    ensures { result ≡ number }
-{
-    match CpuId::new(number as u64) {
-        Some(cpu) => cpu,
-        None => unreachable!(),
-    }
 }

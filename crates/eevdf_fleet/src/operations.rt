@@ -44,7 +44,8 @@ impl<N: Names> Fleet<N> {
     fn other_queue(&self, deed: &Deed) -> Option<CpuId>
         requires { allows (setup_of N.kit) deed.now ≡ true }
         ensures one { IfNone result (IsOfOneQueue (homes_of (setup_of N.kit)) deed.now) }
-        ensures two { IfSome result (λ other. IsOfTwoQueues (homes_of (setup_of N.kit)) other deed.now
+        ensures two { IfSome result (λ other.
+            IsOfTwoQueues (homes_of (setup_of N.kit)) other deed.now
             × (other ≢ decider deed.now) × (other < cpus_of (setup_of N.kit))) }
     {
         match *deed {

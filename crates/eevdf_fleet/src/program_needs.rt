@@ -4,8 +4,7 @@ ghost use Rattle.std.specs.Prelude.{◌≡◌, ◌≤◌, ◌*◌, length};
 ghost use Rattle.eevdf_ops.specs.Numbers.{most_cpus, most_operations};
 ghost use Rattle.eevdf_fleet.specs.ProgramRuns.{program_posts, program_room, quota_for, rings_for};
 
-use crate::opening::cpu_number;
-use eevdf_ops::{Op, Setup};
+use eevdf_ops::{CpuId, Op, Setup};
 
 /// The room for lines that each seat needs so that no operation of any program is refused, at least 1.
 pub(crate) fn quota(setup: &Setup) -> usize
@@ -14,7 +13,7 @@ pub(crate) fn quota(setup: &Setup) -> usize
 {
     let mut quota = 1;
     for cpu in 0..setup.cpus() {
-        quota = quota.max(room_of(setup.cpus(), setup.program(cpu_number(cpu))));
+        quota = quota.max(room_of(setup.cpus(), setup.program(CpuId::numbered(cpu))));
     }
     quota
 }
@@ -26,7 +25,7 @@ pub(crate) fn rings(setup: &Setup) -> usize
 {
     let mut rings = 1;
     for cpu in 0..setup.cpus() {
-        rings = rings.max(posts_of(setup.program(cpu_number(cpu))));
+        rings = rings.max(posts_of(setup.program(CpuId::numbered(cpu))));
     }
     rings
 }

@@ -2,8 +2,10 @@
 
 ghost use Rattle.std.specs.Prelude.{◌≡◌, ◌*◌, IfOk, length, true};
 ghost use Rattle.std.specs.List.{list_all};
-ghost use Rattle.eevdf_ops.specs.{Followed.FollowsPrograms, Followed.program_of, Histories.IsOneThread, Machine.start};
-ghost use Rattle.eevdf_ops.specs.{Outcome.machine_of, OwnRequests.TakesOwnRequests, Places.IsPlaced, Programs.deeds_of};
+ghost use Rattle.eevdf_ops.specs.{Followed.FollowsPrograms, Followed.program_of};
+ghost use Rattle.eevdf_ops.specs.{Histories.IsOneThread, Machine.start};
+ghost use Rattle.eevdf_ops.specs.{Outcome.machine_of, OwnRequests.TakesOwnRequests};
+ghost use Rattle.eevdf_ops.specs.{Places.IsPlaced, Programs.deeds_of};
 ghost use Rattle.eevdf_ops.specs.Setup.{allows, cpus_of, homes_of};
 ghost use Rattle.eevdf_fleet.specs.Fleets.{setup_of};
 ghost use Rattle.eevdf_fleet.specs.ProgramRuns.{HasRun, quota_for, rings_for};
@@ -40,7 +42,8 @@ pub fn run_all<R: Threads + Wait + Sync, G: Gate + Sync>(
     setup: &Setup,
     gate: &G,
 ) -> Result<Closed, RunFault>
-    ensures one_thread { IfOk result (λ o. IsOneThread (homes_of setup.now) (start setup.now) (deeds_of o.lines) o) }
+    ensures one_thread { IfOk result (λ o.
+        IsOneThread (homes_of setup.now) (start setup.now) (deeds_of o.lines) o) }
     ensures allowed { IfOk result (λ o. list_all (allows setup.now) (deeds_of o.lines) ≡ true) }
     ensures programs { IfOk result (λ o. FollowsPrograms setup.now o) }
     ensures own { IfOk result (λ o. TakesOwnRequests setup.now o) }
@@ -63,7 +66,8 @@ fn run_on_fleet<N: Names + Send + Sync, R: Threads + Wait + Sync, G: Gate + Sync
     requires setup { setup_of kit ≡ setup.now }
     requires quota { kit.terms.quota ≡ quota_for setup.now }
     requires rings { kit.rings.capacity ≡ rings_for setup.now }
-    ensures one_thread { IfOk result (λ o. IsOneThread (homes_of setup.now) (start setup.now) (deeds_of o.lines) o) }
+    ensures one_thread { IfOk result (λ o.
+        IsOneThread (homes_of setup.now) (start setup.now) (deeds_of o.lines) o) }
     ensures allowed { IfOk result (λ o. list_all (allows setup.now) (deeds_of o.lines) ≡ true) }
     ensures programs { IfOk result (λ o. FollowsPrograms setup.now o) }
     ensures own { IfOk result (λ o. TakesOwnRequests setup.now o) }
@@ -84,9 +88,12 @@ struct Programs<'a, G> {
 }
 
 impl<'a, G: Gate> SeatWork for Programs<'a, G> {
-    ghost serves = { λ p kit. (setup_of kit ≡ p.setup.now) × (kit.terms.quota ≡ quota_for p.setup.now) × (kit.rings.capacity ≡ rings_for p.setup.now) };
+    ghost serves = { λ p kit. (setup_of kit ≡ p.setup.now)
+        × (kit.terms.quota ≡ quota_for p.setup.now)
+        × (kit.rings.capacity ≡ rings_for p.setup.now) };
 
-    ghost is_done = { λ kit seat. HasRun (setup_of kit) seat.cpu (program_of (setup_of kit) seat.cpu) seat };
+    ghost is_done = { λ kit seat.
+        HasRun (setup_of kit) seat.cpu (program_of (setup_of kit) seat.cpu) seat };
 
     fn work<N: Names, R: Wait>(&self, rt: &R, fleet: &Fleet<N>, seat: Seat<N>) -> Seat<N> {
         fleet.run_program(rt, self.gate, self.setup, seat)

@@ -40,7 +40,8 @@ pub(crate) fn act(queue: &mut Queue, deed: &Deed) -> Answer
 /// Puts a task to sleep in the queue where it runs.
 fn sleep_here(queue: &mut Queue, task: TaskId) -> Answer
     ensures answer { result ≡ answer_of_sleep (carried_running queue.old.state task) }
-    ensures after { queue.new.state ≡ slept_here (carried_running queue.old.state task) queue.old.state }
+    ensures after { queue.new.state
+        ≡ slept_here (carried_running queue.old.state task) queue.old.state }
 {
     match queue.detach_running(task) {
         None => Answer::NotRunning,
@@ -70,9 +71,12 @@ pub(crate) fn act_across(queue: &mut Queue, other: &mut Queue, deed: &Deed) -> A
 /// Puts a task to sleep in another queue than the one where it runs.
 fn sleep_away(queue: &mut Queue, home: &mut Queue, task: TaskId) -> Answer
     requires { NoneTwice queue.old.state home.old.state }
-    ensures answer { result ≡ (slept_away (carried_running queue.old.state task) queue.old.state home.old.state).0 }
-    ensures queue { queue.new.state ≡ (slept_away (carried_running queue.old.state task) queue.old.state home.old.state).1.0 }
-    ensures home { home.new.state ≡ (slept_away (carried_running queue.old.state task) queue.old.state home.old.state).1.1 }
+    ensures answer { result ≡ (slept_away
+        (carried_running queue.old.state task) queue.old.state home.old.state).0 }
+    ensures queue { queue.new.state ≡ (slept_away
+        (carried_running queue.old.state task) queue.old.state home.old.state).1.0 }
+    ensures home { home.new.state ≡ (slept_away
+        (carried_running queue.old.state task) queue.old.state home.old.state).1.1 }
 {
     match queue.detach_running(task) {
         None => Answer::NotRunning,
@@ -87,9 +91,12 @@ fn sleep_away(queue: &mut Queue, home: &mut Queue, task: TaskId) -> Answer
 /// Brings the candidate of the source to the queue, where that levels their loads.
 fn pull(queue: &mut Queue, source: &mut Queue) -> Answer
     requires { NoneTwice queue.old.state source.old.state }
-    ensures answer { result ≡ answer_of_pull (decision queue.old.state (load_of source.old.state) (offer source.old.state)) }
-    ensures queue { queue.new.state ≡ (pulled_with result (offer source.old.state) queue.old.state source.old.state).1.0 }
-    ensures source { source.new.state ≡ (pulled_with result (offer source.old.state) queue.old.state source.old.state).1.1 }
+    ensures answer { result ≡ answer_of_pull
+        (decision queue.old.state (load_of source.old.state) (offer source.old.state)) }
+    ensures queue { queue.new.state ≡ (pulled_with
+        result (offer source.old.state) queue.old.state source.old.state).1.0 }
+    ensures source { source.new.state ≡ (pulled_with
+        result (offer source.old.state) queue.old.state source.old.state).1.1 }
 {
     match decide(queue, source) {
         Err(refusal) => refusal,

@@ -64,10 +64,12 @@ impl<N: Names> Seat<N> {
     /// that home, over all, as a ring has room for; then nothing has changed. Below that number it always succeeds.
     pub fn post(&mut self, task: TaskId) -> Result<(), RingFull>
         requires { is_task (homes_of (setup_of N.kit)) task ≡ true }
-        ensures accepted { OnOk result (self.new ≡ with_post self.old (home_of (homes_of (setup_of N.kit)) task) task) }
+        ensures accepted { OnOk result
+            (self.new ≡ with_post self.old (home_of (homes_of (setup_of N.kit)) task) task) }
         ensures refused { OnErr result (self.new ≡ self.old) }
         ensures given_back { IfErr result (λ full. full.task ≡ task) }
-        ensures room { length (posted_to self.old (home_of (homes_of (setup_of N.kit)) task)) < capacity_of N.kit → IsOk result }
+        ensures room { length (posted_to self.old (home_of (homes_of (setup_of N.kit)) task))
+            < capacity_of N.kit → IsOk result }
     {
         let home = self.homes[task.index()];
         self.producers.post(home.index(), task)

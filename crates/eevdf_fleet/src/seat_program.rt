@@ -1,9 +1,11 @@
 //! How the program of a CPU is run by its seat.
 
 ghost use Rattle.std.specs.Prelude.{◌≡◌, ◌≢◌, ◌≤◌, ◌<◌, ℕ, [], length, None};
-ghost use Rattle.eevdf_ops.specs.{Faults.operation_fault, Followed.program_of, Programs.post_of, Setup.cpus_of, Setup.homes_of};
+ghost use Rattle.eevdf_ops.specs.{Faults.operation_fault, Followed.program_of, Programs.post_of};
+ghost use Rattle.eevdf_ops.specs.{Setup.cpus_of, Setup.homes_of};
 ghost use Rattle.eevdf_fleet.specs.Fleets.{fresh, posted_to, setup_of};
-ghost use Rattle.eevdf_fleet.specs.ProgramRuns.{HasOperated, HasRun, quota_for, rings_for, room_for};
+ghost use Rattle.eevdf_fleet.specs.ProgramRuns.{HasOperated, HasRun, quota_for, rings_for};
+ghost use Rattle.eevdf_fleet.specs.ProgramRuns.{room_for};
 
 use crate::fleet::Fleet;
 use crate::gate::Gate;
@@ -45,9 +47,11 @@ impl<N: Names> Fleet<N> {
         seat: &mut Seat<N>,
         op: Op,
     )
-        requires sound { operation_fault (length (homes_of (setup_of N.kit))) (cpus_of (setup_of N.kit)) seat.old.cpu n op ≡ None }
+        requires sound { operation_fault (length (homes_of (setup_of N.kit)))
+            (cpus_of (setup_of N.kit)) seat.old.cpu n op ≡ None }
         requires room { room_for (cpus_of (setup_of N.kit)) op ≤ seat.old.room }
-        requires ring { (home : ℕ) → home < cpus_of (setup_of N.kit) → post_of (homes_of (setup_of N.kit)) home op ≢ []
+        requires ring { (home : ℕ) → home < cpus_of (setup_of N.kit)
+            → post_of (homes_of (setup_of N.kit)) home op ≢ []
             → length (posted_to seat.old home) < N.kit.rings.capacity }
         ensures { HasOperated (setup_of N.kit) op seat.old seat.new }
     {

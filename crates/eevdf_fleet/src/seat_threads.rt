@@ -26,15 +26,18 @@ pub(crate) fn run_seats<'a, N: Names + Send + Sync, R: Threads + Wait + Sync, W:
 ) -> Result<Vec<Seat<N>>, RunFault>
     requires serves { W.serves work.now N.kit }
     requires fresh { seats.items ≡ fresh_seats N.kit.terms.quota (cpus_of (setup_of N.kit)) }
-    ensures { IfOk result (λ done. AreDone (cpus_of (setup_of N.kit)) (W.is_done N.kit) done.items) }
+    ensures { IfOk result (λ done.
+        AreDone (cpus_of (setup_of N.kit)) (W.is_done N.kit) done.items) }
 {
     thread::scope(
         thread::scope_env(),
         rt,
         |scope| -> Result<Vec<Seat<N>>, RunFault>
             requires serves { W.serves work.now N.kit }
-            requires fresh { seats.items ≡ fresh_seats N.kit.terms.quota (cpus_of (setup_of N.kit)) }
-            ensures { IfOk result (λ done. AreDone (cpus_of (setup_of N.kit)) (W.is_done N.kit) done.items) }
+            requires fresh { seats.items
+                ≡ fresh_seats N.kit.terms.quota (cpus_of (setup_of N.kit)) }
+            ensures { IfOk result (λ done.
+                AreDone (cpus_of (setup_of N.kit)) (W.is_done N.kit) done.items) }
         { run_in_threads(scope, rt, alloc, fleet, seats, work) },
     )
 }
@@ -50,7 +53,8 @@ fn run_in_threads<'s, E, N: Names + Send + Sync, R: Threads + Wait + Sync, W: Se
 ) -> Result<Vec<Seat<N>>, RunFault>
     requires serves { W.serves work.now N.kit }
     requires fresh { seats.items ≡ fresh_seats N.kit.terms.quota (cpus_of (setup_of N.kit)) }
-    ensures { IfOk result (λ done. AreDone (cpus_of (setup_of N.kit)) (W.is_done N.kit) done.items) }
+    ensures { IfOk result (λ done.
+        AreDone (cpus_of (setup_of N.kit)) (W.is_done N.kit) done.items) }
 {
     let mut threads = Vec::with_capacity(alloc, seats.len())?;
     let mut done = Vec::with_capacity(alloc, seats.len())?;

@@ -1,7 +1,8 @@
 //! How the answers and the faults of a fleet print.
 
 ghost use Rattle.std.specs.Prelude.{Some};
-ghost use Rattle.eevdf_fleet.specs.Texts.{drained_text, ring_full_text, run_fault_text, seat_full_text};
+ghost use Rattle.eevdf_fleet.specs.Texts.{drained_text, ring_full_text, run_fault_text};
+ghost use Rattle.eevdf_fleet.specs.Texts.{seat_full_text};
 
 use crate::drains::Drained;
 use crate::fleet::SeatFull;

@@ -2,7 +2,8 @@
 
 ghost use Rattle.std.specs.Prelude.{◌≡◌, ◌*◌, IfOk, length, true};
 ghost use Rattle.std.specs.List.{list_all};
-ghost use Rattle.eevdf_ops.specs.{Histories.IsOneThread, Machine.start, Outcome.machine_of, Places.IsPlaced, Programs.deeds_of};
+ghost use Rattle.eevdf_ops.specs.{Histories.IsOneThread, Machine.start, Outcome.machine_of};
+ghost use Rattle.eevdf_ops.specs.{Places.IsPlaced, Programs.deeds_of};
 ghost use Rattle.eevdf_ops.specs.Setup.{allows, cpus_of, homes_of};
 ghost use Rattle.eevdf_fleet.specs.Fleets.{setup_of};
 
@@ -34,10 +35,13 @@ pub fn run_turns<R: Threads + Wait + Sync, T: SeatTurn + Sync>(
     turns: usize,
     each: &T,
 ) -> Result<Closed, RunFault>
-    ensures one_thread { IfOk result (λ o. IsOneThread (homes_of (setup_of kit)) (start (setup_of kit)) (deeds_of o.lines) o) }
-    ensures allowed { IfOk result (λ o. list_all (allows (setup_of kit)) (deeds_of o.lines) ≡ true) }
+    ensures one_thread { IfOk result (λ o. IsOneThread
+        (homes_of (setup_of kit)) (start (setup_of kit)) (deeds_of o.lines) o) }
+    ensures allowed { IfOk result (λ o.
+        list_all (allows (setup_of kit)) (deeds_of o.lines) ≡ true) }
     ensures places { IfOk result (λ o. IsPlaced (homes_of (setup_of kit)) (machine_of o.queues)) }
-    ensures left { IfOk result (λ o. length o.left ≡ cpus_of (setup_of kit) * cpus_of (setup_of kit)) }
+    ensures left { IfOk result (λ o. length o.left
+        ≡ cpus_of (setup_of kit) * cpus_of (setup_of kit)) }
 {
     run_on_fleet::<Brand, _, _>(rt, alloc, kit, &Turns { turns, each })
 }
@@ -50,10 +54,13 @@ fn run_on_fleet<N: Names + Send + Sync, R: Threads + Wait + Sync, T: SeatTurn + 
     turns: &Turns<T>,
 ) -> Result<Closed, RunFault>
     requires kit { kit ≡ N.kit }
-    ensures one_thread { IfOk result (λ o. IsOneThread (homes_of (setup_of kit)) (start (setup_of kit)) (deeds_of o.lines) o) }
-    ensures allowed { IfOk result (λ o. list_all (allows (setup_of kit)) (deeds_of o.lines) ≡ true) }
+    ensures one_thread { IfOk result (λ o. IsOneThread
+        (homes_of (setup_of kit)) (start (setup_of kit)) (deeds_of o.lines) o) }
+    ensures allowed { IfOk result (λ o.
+        list_all (allows (setup_of kit)) (deeds_of o.lines) ≡ true) }
     ensures places { IfOk result (λ o. IsPlaced (homes_of (setup_of kit)) (machine_of o.queues)) }
-    ensures left { IfOk result (λ o. length o.left ≡ cpus_of (setup_of kit) * cpus_of (setup_of kit)) }
+    ensures left { IfOk result (λ o. length o.left
+        ≡ cpus_of (setup_of kit) * cpus_of (setup_of kit)) }
 {
     let (fleet, seats) = Fleet::<N>::open(alloc, kit)?;
     let seats = run_seats(rt, alloc, &fleet, seats, turns)?;

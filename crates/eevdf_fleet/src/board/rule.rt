@@ -1,4 +1,5 @@
-ghost use Rattle.eevdf_fleet.specs.Board.{Rule, Appended, Checked, first_claim, other_claims, joined};
+ghost use Rattle.eevdf_fleet.specs.Board.{Rule, Appended, Checked, first_claim, other_claims};
+ghost use Rattle.eevdf_fleet.specs.Board.{joined};
 ghost use Rattle.eevdf_fleet.specs.Claims.{knowing, nothing, opening};
 
 use crate::board::claims::{Said, Terms, View};

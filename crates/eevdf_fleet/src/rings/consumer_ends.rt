@@ -21,11 +21,13 @@ impl<N: Names> Model for Consumers<N> {
 
     ghost view = { λ c. takes c.home c.ends.items };
 
-    ghost invariant = { λ c. AreConsumers N.kit.rings.capacity (rings.ring_at N.kit.rings) c.home c.ends.items };
+    ghost invariant = { λ c.
+        AreConsumers N.kit.rings.capacity (rings.ring_at N.kit.rings) c.home c.ends.items };
 }
 
 impl<N: Names> Consumers<N> {
-    ghost use Rattle.std.specs.Prelude.{◌≡◌, ◌<◌, ◌≤◌, ◌++◌, [], ◌∷◌, length, vec_capacity, IfNone, IfSome};
+    ghost use Rattle.std.specs.Prelude.{◌≡◌, ◌<◌, ◌≤◌, ◌++◌, [], ◌∷◌, length, vec_capacity, IfNone};
+    ghost use Rattle.std.specs.Prelude.{IfSome};
     ghost use Rattle.eevdf_fleet.specs.Rings as rings;
     ghost use Rattle.eevdf_fleet.specs.RingEnds.{takes, AreConsumers};
 
@@ -47,7 +49,8 @@ impl<N: Names> Consumers<N> {
         requires own { producers.old.sender ≡ self.old.home }
         requires home { self.old.home < length producers.old.posted }
         requires sender { sender < length self.old.taken }
-        ensures some { IfSome result (λ task. self.new ≡ rings.taken_more self.old sender (task ∷ [])) }
+        ensures some { IfSome result (λ task. self.new
+            ≡ rings.taken_more self.old sender (task ∷ [])) }
         ensures none { IfNone result (self.new ≡ self.old) }
         ensures own { sender ≡ self.old.home → result ≡ rings.oldest producers.old self.old }
         ensures producers { producers.new ≡ producers.old }
@@ -62,7 +65,8 @@ impl<N: Names> Consumers<N> {
     /// Takes the oldest request of a sender that wasn't taken yet, if one is seen.
     fn take_seen(&mut self, sender: usize) -> Option<TaskId>
         requires { sender < length self.old.taken }
-        ensures some { IfSome result (λ task. self.new ≡ rings.taken_more self.old sender (task ∷ [])) }
+        ensures some { IfSome result (λ task. self.new
+            ≡ rings.taken_more self.old sender (task ∷ [])) }
         ensures none { IfNone result (self.new ≡ self.old) }
     {
         pop(&mut self.ends[sender])
@@ -73,7 +77,8 @@ impl<N: Names> Consumers<N> {
         requires own { producers.old.sender ≡ self.old.home }
         requires home { self.old.home < length producers.old.posted }
         requires sender { self.old.home < length self.old.taken }
-        ensures some { IfSome result (λ task. self.new ≡ rings.taken_more self.old self.old.home (task ∷ [])) }
+        ensures some { IfSome result (λ task. self.new
+            ≡ rings.taken_more self.old self.old.home (task ∷ [])) }
         ensures none { IfNone result (self.new ≡ self.old) }
         ensures oldest { result ≡ rings.oldest producers.old self.old }
         ensures producers { producers.new ≡ producers.old }

@@ -2,7 +2,8 @@
 
 ghost use Rattle.std.specs.Prelude.{◌≡◌, length, IfOk};
 ghost use Rattle.eevdf_fleet.specs.Rings as rings;
-ghost use Rattle.eevdf_fleet.specs.{OpenedRings.AreNewRows, OpenedRings.AreNewColumns, RingEnds.lists_of};
+ghost use Rattle.eevdf_fleet.specs.{OpenedRings.AreNewRows, OpenedRings.AreNewColumns};
+ghost use Rattle.eevdf_fleet.specs.{RingEnds.lists_of};
 
 use crate::names::Names;
 use crate::rings::consumer_ends::Consumers;
@@ -31,7 +32,8 @@ pub(super) fn consumers_by_home<N: Names>(
     alloc: Global,
     columns: Vec<Vec<Consumer<TaskId>>>,
 ) -> Result<Vec<Consumers<N>>, AllocError>
-    requires { AreNewColumns N.kit.rings.capacity (rings.ring_at N.kit.rings) (lists_of columns.items) }
+    requires { AreNewColumns N.kit.rings.capacity (rings.ring_at N.kit.rings)
+        (lists_of columns.items) }
     ensures { IfOk result (λ all. all.items ≡ rings.all_no_takes (length columns.items)) }
 {
     let mut all = Vec::with_capacity(alloc, columns.len())?;

@@ -31,7 +31,8 @@ impl Model for Rings {
     ghost view = { λ r. record { capacity = r.capacity; rings = lists_of r.producers.items } };
 
     ghost invariant = { λ r.
-        AreOpened r.capacity (length r.producers.items) (lists_of r.producers.items) (lists_of r.consumers.items) };
+        AreOpened r.capacity (length r.producers.items) (lists_of r.producers.items)
+        (lists_of r.consumers.items) };
 }
 
 impl Rings {
@@ -65,8 +66,10 @@ impl Rings {
         alloc: Global,
     ) -> Result<(Vec<Producers<N>>, Vec<Consumers<N>>), AllocError>
         requires { self ≡ N.kit.rings }
-        ensures producers { IfOk result (λ ends. ends.0.items ≡ rings.all_no_posts (length self.rings)) }
-        ensures consumers { IfOk result (λ ends. ends.1.items ≡ rings.all_no_takes (length self.rings)) }
+        ensures producers { IfOk result (λ ends.
+            ends.0.items ≡ rings.all_no_posts (length self.rings)) }
+        ensures consumers { IfOk result (λ ends.
+            ends.1.items ≡ rings.all_no_takes (length self.rings)) }
     {
         let Rings {
             capacity: _,

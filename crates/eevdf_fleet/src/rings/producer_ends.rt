@@ -28,7 +28,8 @@ impl<N: Names> Model for Producers<N> {
 
     ghost view = { λ p. posts p.sender p.ends.items };
 
-    ghost invariant = { λ p. AreProducers N.kit.rings.capacity (rings.ring_at N.kit.rings) p.sender p.ends.items };
+    ghost invariant = { λ p.
+        AreProducers N.kit.rings.capacity (rings.ring_at N.kit.rings) p.sender p.ends.items };
 }
 
 impl<N: Names> Producers<N> {

@@ -25,9 +25,14 @@ impl<N: Names> Model for ReturnedEnds<N> {
 
     ghost Value = { rings.Returned };
 
-    ghost view = { λ r. record { cpus = r.cpus; posts = r.producers.items; takes = r.consumers.items } };
+    ghost view = { λ r. record {
+      cpus = r.cpus;
+      posts = r.producers.items;
+      takes = r.consumers.items;
+    } };
 
-    ghost invariant = { λ r. HasRoom N.kit.rings.capacity r.cpus r.producers r.consumers r.left.items };
+    ghost invariant = { λ r.
+        HasRoom N.kit.rings.capacity r.cpus r.producers r.consumers r.left.items };
 }
 
 impl<N: Names> ReturnedEnds<N> {

@@ -1,7 +1,9 @@
 //! What is done at the ends of one ring.
 
-ghost use Rattle.std.specs.Prelude.{◌≡◌, ◌<◌, ◌≤◌, ◌+◌, ◌++◌, [], ◌∷◌, length, slice_get, vec_capacity, IfNone, IfSome, IfErr, IsOk, OnErr, OnOk};
-ghost use Rattle.rtrb.specs.Ring.{sent, known_free, received, consumer_capacity, IsPair, SameConsumer, SameProducer, ProducerLooked};
+ghost use Rattle.std.specs.Prelude.{◌≡◌, ◌<◌, ◌≤◌, ◌+◌, ◌++◌, [], ◌∷◌, length, slice_get};
+ghost use Rattle.std.specs.Prelude.{vec_capacity, IfNone, IfSome, IfErr, IsOk, OnErr, OnOk};
+ghost use Rattle.rtrb.specs.Ring.{sent, known_free, received, consumer_capacity, IsPair};
+ghost use Rattle.rtrb.specs.Ring.{SameConsumer, SameProducer, ProducerLooked};
 
 use crate::rings::RingFull;
 use eevdf_queue::TaskId;
@@ -26,7 +28,8 @@ pub(super) fn push(producer: &mut Producer<TaskId>, task: TaskId) -> Result<(), 
 /// Pops the oldest request that is in the ring, if one is seen.
 pub(super) fn pop(consumer: &mut Consumer<TaskId>) -> Option<TaskId>
     ensures ring { SameConsumer consumer.old consumer.new }
-    ensures some { IfSome result (λ task. received consumer.new ≡ received consumer.old ++ task ∷ []) }
+    ensures some { IfSome result (λ task. received consumer.new
+        ≡ received consumer.old ++ task ∷ []) }
     ensures none { IfNone result (received consumer.new ≡ received consumer.old) }
 {
     match consumer.pop() {
@@ -42,7 +45,8 @@ pub(super) fn pop_beside(
 ) -> Option<TaskId>
     requires { IsPair producer.old consumer.old }
     ensures ring { SameConsumer consumer.old consumer.new }
-    ensures some { IfSome result (λ task. received consumer.new ≡ received consumer.old ++ task ∷ []) }
+    ensures some { IfSome result (λ task. received consumer.new
+        ≡ received consumer.old ++ task ∷ []) }
     ensures none { IfNone result (received consumer.new ≡ received consumer.old) }
     ensures oldest { result ≡ slice_get (sent producer.old) (length (received consumer.old)) }
     ensures producer { ProducerLooked producer.old producer.new }

@@ -5,8 +5,8 @@ use Rattle.eevdf_fleet.proofs.SenderTurns.{DrainedBelow, drained-all, none-taken
 use Rattle.eevdf_fleet.proofs.fleet.Fleet.drain_all.Goals as goal
 use Rattle.eevdf_fleet.proofs.fleet.Fleet.drain_all.Goals.{in-Some, in_default}
 
-pub cpu_number-requires : goal.cpu_number-requires
-cpu_number-requires g c = omega (arith, c.loop-sender-test.true, c.len-sender-end.ensures, c.self.invariant.1, c.self.invariant.3)
+pub numbered-requires : goal.numbered-requires
+numbered-requires g c = omega (arith, c.loop-sender-test.true, c.len-sender-end.ensures, c.self.invariant.1, c.self.invariant.3)
 
 pub counted-drained-requires-clause-woken : goal.counted-drained-requires-clause-woken
 counted-drained-requires-clause-woken g c =
@@ -20,10 +20,10 @@ loop-sender-preserved g c =
         | in-Some w ↦
             subst (λ (d : Drained). DrainedBelow (k + 1) before c.drain_one.new.seat d) (sym (w.drained-is ∙ w.counted-drained.ensures))
             (one-taken k before c.loop-sender.seat c.drain_one.new.seat c.loop-sender.drained c.loop-sender.invariant.0 w.in-Some.answer
-            (subst (λ (n : ℕ). HasTaken c.loop-sender.seat c.drain_one.new.seat n w.in-Some.answer) c.cpu_number.ensures w.in-Some.ensures.some))
+            (subst (λ (n : ℕ). HasTaken c.loop-sender.seat c.drain_one.new.seat n w.in-Some.answer) c.numbered.ensures w.in-Some.ensures.some))
         | in_default w ↦
             subst (λ (d : Drained). DrainedBelow (k + 1) before c.drain_one.new.seat d) (sym w.drained-is)
-            (none-taken k before c.loop-sender.seat c.drain_one.new.seat c.loop-sender.drained c.loop-sender.invariant.0 w.in_default.ensures.none (λ here. w.in_default.ensures.none_own (c.cpu_number.ensures ∙ here)))
+            (none-taken k before c.loop-sender.seat c.drain_one.new.seat c.loop-sender.drained c.loop-sender.invariant.0 w.in_default.ensures.none (λ here. w.in_default.ensures.none_own (c.numbered.ensures ∙ here)))
       ],
       c.drain_one.ensures.number ∙ c.loop-sender.invariant.1,
     )
