@@ -10,9 +10,9 @@ use Rattle.eevdf_workload.specs.declared.load_fault.Key.TheVariants as key
 use Rattle.eevdf_bench.specs.{declared.bench_fault.BenchFault.BenchFault, declared.command.Command.Command}
 use Rattle.eevdf_bench.specs.{Streams.HasBegun}
 use Rattle.eevdf_bench.specs.declared.bench_fault.BenchFault.TheVariants as bench
-use Rattle.eevdf_workload.specs.Meaning.{Workload, meaning, allowed, allowed_from}
+use Rattle.eevdf_workload.specs.Meaning.{Workload, meaning, read_limit, allowed, allowed_from}
 use Rattle.eevdf_steps.specs.declared.play_fault.PlayFault.{PlayFault}
-use Rattle.eevdf_bench.specs.Runs.{Answer, Answers, Begins, IsAnswer, IsAnswerOf, IsAnswerTo, IsInside, Makes, Refuses, Writes}
+use Rattle.eevdf_bench.specs.Runs.{TextOrFault, Answers, Begins, IsAnswer, IsAnswerOf, IsAnswerTo, IsInside, Makes, Refuses, Writes}
 use Rattle.eevdf_bench.specs.Reports.{IsReport, IsReportOf, WritesReport}
 use Rattle.eevdf_workload.proofs.InputLimit.{meaning_cut}
 
@@ -46,11 +46,11 @@ pub refused : (c : Command) (bytes : List ℕ) (f : LoadFault) → Reads (λ (w 
 refused c bytes f (inl e) = (inl e, load_inside f)
 refused c bytes f (inr e) = (inr (subst (λ (m : Result Workload LoadFault). IsAnswerTo m c (Err (bench.Load f))) (sym e) refl), load_inside f)
 
-as_fault : (Allows : Answer → Type 0) (f g : BenchFault) → f ≡ g → Answers Allows (Err g) → Answers Allows (Err f)
+as_fault : (Allows : TextOrFault → Type 0) (f g : BenchFault) → f ≡ g → Answers Allows (Err g) → Answers Allows (Err f)
 as_fault Allows f g e h = subst (λ (b : BenchFault). Answers Allows (Err b)) (sym e) h
 
 -- what is made of the only answer
-pub made : (answer : Answer) (r : Result (Vec ℕ Global) BenchFault) → Makes answer r → Answers (λ a. answer ≡ a) r
+pub made : (answer : TextOrFault) (r : Result (Vec ℕ Global) BenchFault) → Makes answer r → Answers (λ a. answer ≡ a) r
 made answer (Ok text) h = h
 made (Ok text) (Err f) h = as_fault (λ a. Ok text ≡ a) f bench.Memory h (tt, memory_inside)
 made (Err (bench.Load l)) (Err f) h = as_fault (λ a. Err (bench.Load l) ≡ a) f (bench.Load l) h (inr refl, load_inside l)
@@ -67,7 +67,7 @@ pub reported : (c : Command) (bytes : List ℕ) (w : Workload) (r : Result (Vec 
 reported c bytes w r e h = IfOk-weaker r _ _ (λ text is. record { workload = w; means = e; report = is }) h
 
 -- a workload that is cut at its limit is answered as the whole
-of_the_whole : (c : Command) (all input : List ℕ) (P : (Answer → Type 0) → Type 0) → input ≡ take 16777217 all → P (IsAnswerOf c input) → P (IsAnswerOf c all)
+of_the_whole : (c : Command) (all input : List ℕ) (P : (TextOrFault → Type 0) → Type 0) → input ≡ take read_limit all → P (IsAnswerOf c input) → P (IsAnswerOf c all)
 of_the_whole c all input P cut h = subst (λ (m : Result Workload LoadFault). P (IsAnswerTo m c)) (ap meaning cut ∙ meaning_cut all) h
 
 -- the same answer, of bytes and of a text under other names
@@ -76,13 +76,13 @@ answered_as c bytes input made text b t h =
     subst (λ (bs : List ℕ). IsAnswerOf c bs (Ok text)) b (subst (λ (bs : List ℕ). IsAnswerOf c bytes (Ok bs)) (sym t) h)
 
 -- what was written for a workload that was read up to its limit
-pub written : (c : Command) (left : Option (List ℕ)) (input text : List ℕ) (held held' : Option (List ℕ)) → IfSome left (λ all. input ≡ take 16777217 all) → IsAnswerOf c input (Ok text)
+pub written : (c : Command) (left : Option (List ℕ)) (input text : List ℕ) (held held' : Option (List ℕ)) → IfSome left (λ all. input ≡ take read_limit all) → IsAnswerOf c input (Ok text)
     → Appends held held' text → IfSome left (λ all. Writes (IsAnswerOf c all) held held')
 written c left input text held held' cut a w =
     IfSome_then left cut (λ all cut. record { text = text; answered = of_the_whole c all input (λ Allows. Allows (Ok text)) cut a; written = w })
 
 -- what the text says that was written
-pub report_written : (c : Command) (left : Option (List ℕ)) (input bytes text made : List ℕ) (held held' : Option (List ℕ)) → IfSome left (λ all. input ≡ take 16777217 all)
+pub report_written : (c : Command) (left : Option (List ℕ)) (input bytes text made : List ℕ) (held held' : Option (List ℕ)) → IfSome left (λ all. input ≡ take read_limit all)
     → bytes ≡ input → text ≡ made → IsReportOf c bytes made → Appends held held' text → IfSome left (λ all. WritesReport c all held held')
 report_written c left input bytes text made held held' cut b t r w =
     IfSome_then left cut (λ all cut. record {
@@ -96,13 +96,13 @@ report_written c left input bytes text made held held' cut b t r w =
     })
 
 -- the same where a beginning was written
-pub begun : (c : Command) (left : Option (List ℕ)) (input text : List ℕ) (flush_failed : Bool) (held held' : Option (List ℕ)) → IfSome left (λ all. input ≡ take 16777217 all)
+pub begun : (c : Command) (left : Option (List ℕ)) (input text : List ℕ) (flush_failed : Bool) (held held' : Option (List ℕ)) → IfSome left (λ all. input ≡ take read_limit all)
     → IsAnswerOf c input (Ok text) → HasBegun flush_failed held held' text → IfSome left (λ all. Begins (IsAnswerOf c all) flush_failed held held')
 begun c left input text flush_failed held held' cut a w =
     IfSome_then left cut (λ all cut. record { text = text; answered = of_the_whole c all input (λ Allows. Allows (Ok text)) cut a; begun = w })
 
 -- why nothing was written for it
-pub of_input : (c : Command) (left : Option (List ℕ)) (bytes input : List ℕ) (f : BenchFault) → bytes ≡ input → IfSome left (λ all. input ≡ take 16777217 all) → Refuses (IsAnswerOf c bytes) f
+pub of_input : (c : Command) (left : Option (List ℕ)) (bytes input : List ℕ) (f : BenchFault) → bytes ≡ input → IfSome left (λ all. input ≡ take read_limit all) → Refuses (IsAnswerOf c bytes) f
     → IfSome left (λ all. Refuses (IsAnswerOf c all) f)
 of_input c left bytes input f b cut h = IfSome_then left cut (λ all cut. of_the_whole c all bytes (λ Allows. Refuses Allows f) (b ∙ cut) h)
 

@@ -17,7 +17,7 @@ use Rattle.eevdf_steps.specs.Counters.{Counters, counted, refusal, unfinished}
 use Rattle.eevdf_steps.specs.Orders.{IsWhole, counters_at_start, fault_or, most_places, order_fault, play_fault}
 use Rattle.eevdf_bench.specs.declared.bench_fault.BenchFault.TheVariants as bench
 use Rattle.eevdf_workload.specs.Meaning.{Workload}
-use Rattle.eevdf_bench.specs.Runs.{IsFault, Makes, order_report, play_refusal, replay_report, state_report, unless}
+use Rattle.eevdf_bench.specs.Runs.{IsFault, Makes, order_report, play_refusal, replay_report, state_report, text_unless}
 use Rattle.eevdf_report.specs.TextReport.{report_text}
 
 -- no place of an order, nor its end, is too long
@@ -46,16 +46,16 @@ fault_made : (f : PlayFault) → IsFault (bench.Play f) (play_refusal f)
 fault_made Memory = inr ((λ e. cc), refl)
 fault_made _ = inl refl
 
-memory_made : (fault : Option PlayFault) (text : List ℕ) → fault ≢ Some TooLong → Makes (unless fault text) (Err bench.Memory)
+memory_made : (fault : Option PlayFault) (text : List ℕ) → fault ≢ Some TooLong → Makes (text_unless fault text) (Err bench.Memory)
 memory_made None text in_time = refl
 memory_made (Some p) text in_time = inr ((λ e. in_time (ap (λ (q : PlayFault). Some q) e)), refl)
 
 -- the fault of an order that isn't played
 refused : (plan : Plan) (order text : List ℕ) (f : PlayFault) → (play_fault plan order ≡ Some f) ⊎ ((nat_lt most_places (length order) ≡ false) × (f ≡ Memory))
-    → Makes (unless (play_fault plan order) text) (Err (play_refusal f))
-refused plan order text f (inl e) = subst (λ (o : Option PlayFault). Makes (unless o text) (Err (play_refusal f))) (sym e) (fault_made f)
+    → Makes (text_unless (play_fault plan order) text) (Err (play_refusal f))
+refused plan order text f (inl e) = subst (λ (o : Option PlayFault). Makes (text_unless o text) (Err (play_refusal f))) (sym e) (fault_made f)
 refused plan order text f (inr e) =
-    subst (λ (p : PlayFault). Makes (unless (play_fault plan order) text) (Err (play_refusal p))) (sym e.1)
+    subst (λ (p : PlayFault). Makes (text_unless (play_fault plan order) text) (Err (play_refusal p))) (sym e.1)
     (memory_made (play_fault plan order) text (in_time plan order e.0))
 
 pub not_replayed : (w : Workload) (history : Bool) (s : Setup) (order : List ℕ) (f : PlayFault) (g : BenchFault) → Some order ≡ w.order → s ≡ w.setup → IsPlay s order (Err f) → g ≡ play_refusal f
@@ -78,7 +78,7 @@ reported s order history o is =
 played : (s : Setup) (order text : List ℕ) (history : Bool) (o : Outcome) → IsPlay s order (Ok o) → text ≡ report_text o.lines (machine_of o.queues) o.left history
     → order_report s (Some order) history ≡ Ok text
 played s order text history o is t =
-    ap (λ (f : Option PlayFault). unless f (state_report s (micro s order) history)) is.0
+    ap (λ (f : Option PlayFault). text_unless f (state_report s (micro s order) history)) is.0
     ∙ ap (λ (bs : List ℕ). Ok bs) (sym (t ∙ reported s order history o is.1))
 
 pub replayed : (w : Workload) (history : Bool) (s : Setup) (order text : List ℕ) (o : Outcome) → Some order ≡ w.order → s ≡ w.setup → IsPlay s order (Ok o)

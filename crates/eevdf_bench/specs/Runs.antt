@@ -18,8 +18,8 @@ use Rattle.eevdf_bench.specs.declared.bench_fault.BenchFault.TheVariants.{Load, 
 use Rattle.eevdf_report.specs.TextReport.{report_text}
 
 -- a text, or why there is none
-abbrev pub Answer : Type 0
-Answer = Result (List ℕ) BenchFault
+abbrev pub TextOrFault : Type 0
+TextOrFault = Result (List ℕ) BenchFault
 
 -- ---- what `solo` answers
 
@@ -29,11 +29,11 @@ history_report s deeds history =
     report_text (lines_of (homes_of s) (start s) deeds) (machine_after (homes_of s) (start s) deeds) (replicate (cpus_of s * cpus_of s) []) history
 
 -- the same of a script, which must be there
-abbrev pub script_report : Setup → Option (List Deed) → Bool → Answer
+abbrev pub script_report : Setup → Option (List Deed) → Bool → TextOrFault
 script_report s (Some deeds) history = Ok (history_report s deeds history)
 script_report s None history = Err (Load (Missing Scripts))
 
-abbrev pub solo_report : Workload → Bool → Answer
+abbrev pub solo_report : Workload → Bool → TextOrFault
 solo_report w history = script_report w.setup w.script history
 
 -- ---- what `replay` answers
@@ -43,34 +43,34 @@ abbrev pub state_report : Setup → MicroState → Bool → List ℕ
 state_report s m history = report_text m.lines m.work.machine (left_lists (plan_of s) m.progress) history
 
 -- the text, or the fault where there is one
-abbrev pub unless : Option PlayFault → List ℕ → Answer
-unless None text = Ok text
-unless (Some f) text = Err (Play f)
+abbrev pub text_unless : Option PlayFault → List ℕ → TextOrFault
+text_unless None text = Ok text
+text_unless (Some f) text = Err (Play f)
 
 -- the report of the state that an order leaves, which must be there
-abbrev pub order_report : Setup → Option (List ℕ) → Bool → Answer
-order_report s (Some order) history = unless (play_fault (plan_of s) order) (state_report s (micro s order) history)
+abbrev pub order_report : Setup → Option (List ℕ) → Bool → TextOrFault
+order_report s (Some order) history = text_unless (play_fault (plan_of s) order) (state_report s (micro s order) history)
 order_report s None history = Err (Load (Missing Orders))
 
-abbrev pub replay_report : Workload → Bool → Answer
+abbrev pub replay_report : Workload → Bool → TextOrFault
 replay_report w history = order_report w.setup w.order history
 
 -- ---- what a command answers
 
 -- `solo` and `replay` have one answer; `run` may give the report of any history of the programs, and no other fault than that a thread wasn't started
-abbrev pub IsAnswer : Kind → Workload → Bool → Answer → Type 0
+abbrev pub IsAnswer : Kind → Workload → Bool → TextOrFault → Type 0
 IsAnswer Solo w history answer = solo_report w history ≡ answer
 IsAnswer Replay w history answer = replay_report w history ≡ answer
 IsAnswer Run w history (Ok text) = IsReport Run w history text
 IsAnswer Run w history (Err f) = f ≡ NotRun Start
 
 -- a workload that is refused has its fault for the only answer
-abbrev pub IsAnswerTo : Result Workload LoadFault → Command → Answer → Type 0
+abbrev pub IsAnswerTo : Result Workload LoadFault → Command → TextOrFault → Type 0
 IsAnswerTo (Ok w) c answer = IsAnswer c.kind w c.history answer
 IsAnswerTo (Err f) c answer = Err (Load f) ≡ answer
 
 -- for the bytes of a workload
-abbrev pub IsAnswerOf : Command → List ℕ → Answer → Type 0
+abbrev pub IsAnswerOf : Command → List ℕ → TextOrFault → Type 0
 IsAnswerOf c bytes answer = IsAnswerTo (meaning bytes) c answer
 
 -- ---- how what is returned agrees with an answer
@@ -92,13 +92,13 @@ run_refusal NoSpace = Memory
 run_refusal Start = NotRun Start
 
 -- the text that is to be made, or its fault; where there is none, out of memory may be answered
-abbrev pub Makes : Answer → Result (Vec ℕ Global) BenchFault → Type 0
+abbrev pub Makes : TextOrFault → Result (Vec ℕ Global) BenchFault → Type 0
 Makes answer (Ok text) = answer ≡ Ok text.items
 Makes (Ok text) (Err f) = f ≡ Memory
 Makes (Err e) (Err f) = IsFault e f
 
 -- a workload is refused for its own fault, or when out of memory, and an order and a run for theirs
-abbrev pub Refuses : (Answer → Type 0) → BenchFault → Type 0
+abbrev pub Refuses : (TextOrFault → Type 0) → BenchFault → Type 0
 Refuses Allows (Load e) = (e ≡ NoMemory) ⊎ Allows (Err (Load e))
 Refuses Allows (Play p) = Allows (Err (Play p))
 Refuses Allows (NotRun r) = Allows (Err (NotRun r))
@@ -111,18 +111,18 @@ abbrev pub IsInside : BenchFault → Type 0
 IsInside f = (f ≢ Read) × (f ≢ Write)
 
 -- the text of an allowed answer, or why there is none
-abbrev pub Answers : (Answer → Type 0) → Result (Vec ℕ Global) BenchFault → Type 0
+abbrev pub Answers : (TextOrFault → Type 0) → Result (Vec ℕ Global) BenchFault → Type 0
 Answers Allows (Ok text) = Allows (Ok text.items)
 Answers Allows (Err f) = Refuses Allows f × IsInside f
 
 -- the text is an allowed answer, and it was written after what was there
-pub record Writes (Allows : Answer → Type 0) (held held' : Option (List ℕ)) : Type 0 where
+pub record Writes (Allows : TextOrFault → Type 0) (held held' : Option (List ℕ)) : Type 0 where
   pub text : List ℕ
   pub answered : Allows (Ok text)
   pub written : Appends held held' text
 
 -- the text is an allowed answer, of which a call that failed left a beginning after what was there
-pub record Begins (Allows : Answer → Type 0) (flush_failed : Bool) (held held' : Option (List ℕ)) : Type 0 where
+pub record Begins (Allows : TextOrFault → Type 0) (flush_failed : Bool) (held held' : Option (List ℕ)) : Type 0 where
   pub text : List ℕ
   pub answered : Allows (Ok text)
   pub begun : HasBegun flush_failed held held' text

@@ -4,6 +4,7 @@ ghost use Rattle.std.specs.Prelude.{◌≡◌, ◌≢◌, true, false, IfOk, IfE
 ghost use Rattle.eevdf_bench.specs.Reports.{IsReport, IsReportOf, WritesReport};
 ghost use Rattle.eevdf_bench.specs.Runs.{Answers, Begins, IsAnswer, IsAnswerOf, Refuses, Writes};
 ghost use Rattle.eevdf_bench.specs.Streams.{ReadsTo, ReadsWithin};
+ghost use Rattle.eevdf_workload.specs.Meaning.{read_limit};
 
 use crate::bench_fault::BenchFault;
 use crate::byte_streams::{read_input, write_text};
@@ -26,7 +27,7 @@ use std::thread::Threads;
 /// The report of `solo` and that of `replay` are determined by the workload; the report of a run depends on the order in
 /// which its threads came, too. Each is that of one thread that does the deeds of its lines one after the other, each at once.
 ///
-/// A reader that goes on for more than 16777216 bytes is read to one byte more, and then refused; it is never read
+/// A reader that goes on for more than `Workload::MOST_BYTES` bytes is read to one byte more, and then refused; it is never read
 /// further. `Read` comes exactly where the reader failed, `Write` exactly where the writer did, and `Ok` where neither did and
 /// the report is flushed. An end that failed isn't called again. After a `Write` a beginning of the report was written, the
 /// whole report where it was the flush that failed; after any other fault the writer is as it was. Only `Read` and `Memory` may
@@ -50,8 +51,9 @@ pub fn engine<T: Threads + Wait + Sync, R: Read, W: Write>(
     ensures begun { result ≡ Err BenchFault.Write → IfSome (R.remaining reader.old.end) (λ input.
         Begins (IsAnswerOf command input) writer.new.flush_failed (W.contents writer.old.end) (W.contents writer.new.end)) }
     ensures consumed { result ≢ Err BenchFault.Read → result ≢ Err BenchFault.Memory →
-        ReadsTo 16777217 (R.remaining reader.old.end) (R.remaining reader.new.end) }
-    ensures limit { ReadsWithin 16777217 (R.remaining reader.old.end) (R.remaining reader.new.end) }
+        ReadsTo read_limit (R.remaining reader.old.end) (R.remaining reader.new.end) }
+    ensures limit { ReadsWithin read_limit
+        (R.remaining reader.old.end) (R.remaining reader.new.end) }
     ensures read_whole { OnOk result (reader.new.failed ≡ false) }
     ensures written_whole { OnOk result (writer.new.failed ≡ false) }
     ensures flushed { OnOk result (writer.new.flushed ≡ true) }
@@ -95,7 +97,8 @@ fn text_of<T: Threads + Wait + Sync>(
 ) -> Result<Vec<u8>, BenchFault>
     ensures answer { Answers (IsAnswer command.kind workload.now command.history) result }
     ensures thread { result ≡ Err (BenchFault.Run RunFault.Start) → command.kind ≡ Kind.Run }
-    ensures one_thread { IfOk result (λ t. IsReport command.kind workload.now command.history t.items) }
+    ensures one_thread { IfOk result (λ t.
+        IsReport command.kind workload.now command.history t.items) }
 {
     match command.kind {
         Kind::Solo => solo_text(alloc, workload, command.history),

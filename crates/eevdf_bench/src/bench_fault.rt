@@ -1,6 +1,7 @@
 ghost use Rattle.std.specs.Prelude.{◌≡◌, Some};
 ghost use Rattle.eevdf_bench.specs.declared.bench_fault.BenchFault.TheVariants.{Memory};
 ghost use Rattle.eevdf_bench.specs.TextFault.{bench_fault_text};
+ghost use Rattle.eevdf_bench.specs.Runs.{play_refusal, run_refusal};
 
 use eevdf_fleet::RunFault;
 use eevdf_steps::PlayFault;
@@ -49,5 +50,27 @@ impl From<AllocError> for BenchFault {
 
     fn from(_error: AllocError) -> BenchFault {
         BenchFault::Memory
+    }
+}
+
+impl From<PlayFault> for BenchFault {
+    ghost from_gives = { λ refused fault. fault ≡ play_refusal refused };
+
+    fn from(refused: PlayFault) -> BenchFault {
+        match refused {
+            PlayFault::Memory => BenchFault::Memory,
+            refused => BenchFault::Play(refused),
+        }
+    }
+}
+
+impl From<RunFault> for BenchFault {
+    ghost from_gives = { λ refused fault. fault ≡ run_refusal refused };
+
+    fn from(refused: RunFault) -> BenchFault {
+        match refused {
+            RunFault::Memory => BenchFault::Memory,
+            RunFault::Start => BenchFault::Run(refused),
+        }
     }
 }

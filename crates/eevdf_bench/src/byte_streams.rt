@@ -3,6 +3,7 @@
 ghost use Rattle.std.specs.Prelude.{◌≡◌, ◌≢◌, ◌+◌, ◌-◌, ◌≤◌, ◌<◌, ◌⊎◌, length, take, true, false, vec_len, IfOk, OnOk, IfErr, OnErr, IfSome, Err};
 ghost use Rattle.std.specs.Io.KnownBytes.{Appends, Keeps};
 ghost use Rattle.eevdf_bench.specs.Streams.{ReadsOn, ReadsTo, ReadsWithin, HasBegun};
+ghost use Rattle.eevdf_workload.specs.Meaning.{read_limit};
 
 use crate::bench_fault::BenchFault;
 use crate::watched::Watched;
@@ -18,9 +19,11 @@ const READ_LIMIT: usize = Workload::MOST_BYTES + 1;
 pub fn read_input<R: Read>(alloc: Global, reader: &mut Watched<R>) -> Result<Vec<u8>, BenchFault>
     requires { reader.old.failed ≡ false }
     ensures bytes { IfOk result (λ input. IfSome (R.remaining reader.old.end)
-        (λ all. input.items ≡ take 16777217 all)) }
-    ensures consumed { OnOk result (ReadsTo 16777217 (R.remaining reader.old.end) (R.remaining reader.new.end)) }
-    ensures limit { ReadsWithin 16777217 (R.remaining reader.old.end) (R.remaining reader.new.end) }
+        (λ all. input.items ≡ take read_limit all)) }
+    ensures consumed { OnOk result (ReadsTo read_limit
+        (R.remaining reader.old.end) (R.remaining reader.new.end)) }
+    ensures limit { ReadsWithin read_limit
+        (R.remaining reader.old.end) (R.remaining reader.new.end) }
     ensures whole { OnOk result (reader.new.failed ≡ false) }
     ensures failed { result ≡ Err BenchFault.Read → reader.new.failed ≡ true }
     ensures unfailed { IfErr result (λ f. f ≢ BenchFault.Read → reader.new.failed ≡ false) }
@@ -43,7 +46,8 @@ fn read_piece<R: Read>(reader: &mut Watched<R>, input: &mut Vec<u8>) -> Result<u
     ensures piece { IfOk result (ReadsOn (R.remaining reader.old.end) (R.remaining reader.new.end)
         input.old.items input.new.items) }
     ensures limit { vec_len input.new ≤ READ_LIMIT }
-    ensures within { ReadsWithin (READ_LIMIT - vec_len input.old) (R.remaining reader.old.end) (R.remaining reader.new.end) }
+    ensures within { ReadsWithin (READ_LIMIT - vec_len input.old)
+        (R.remaining reader.old.end) (R.remaining reader.new.end) }
     ensures grown { IfOk result (λ n. vec_len input.new ≡ vec_len input.old + n) }
     ensures whole { OnOk result (reader.new.failed ≡ false) }
     ensures failed { result ≡ Err BenchFault.Read → reader.new.failed ≡ true }
@@ -64,9 +68,10 @@ fn read_piece<R: Read>(reader: &mut Watched<R>, input: &mut Vec<u8>) -> Result<u
 /// is written then, the whole text where it was the flush that failed, and less where it was a write.
 pub fn write_text<W: Write>(writer: &mut Watched<W>, text: &[u8]) -> Result<(), BenchFault>
     requires { writer.old.failed ≡ false }
-    ensures written { OnOk result (Appends (W.contents writer.old.end) (W.contents writer.new.end) text.now) }
-    ensures begun { OnErr result (HasBegun writer.new.flush_failed (W.contents writer.old.end) (W.contents writer.new.end)
-        text.now) }
+    ensures written { OnOk result (Appends
+        (W.contents writer.old.end) (W.contents writer.new.end) text.now) }
+    ensures begun { OnErr result (HasBegun writer.new.flush_failed
+        (W.contents writer.old.end) (W.contents writer.new.end) text.now) }
     ensures whole { OnOk result (writer.new.failed ≡ false) }
     ensures flushed { OnOk result (writer.new.flushed ≡ true) }
     ensures failed { OnErr result (writer.new.failed ≡ true) }
@@ -87,7 +92,8 @@ pub fn write_text<W: Write>(writer: &mut Watched<W>, text: &[u8]) -> Result<(), 
 fn write_piece<W: Write>(writer: &mut Watched<W>, text: &[u8]) -> Result<usize, BenchFault>
     requires some { 0 < length text.now }
     requires whole { writer.old.failed ≡ false }
-    ensures written { IfOk result (λ n. Appends (W.contents writer.old.end) (W.contents writer.new.end) (take n text.now)) }
+    ensures written { IfOk result (λ n. Appends
+        (W.contents writer.old.end) (W.contents writer.new.end) (take n text.now)) }
     ensures some { IfOk result (λ n. 0 < n) }
     ensures within { IfOk result (λ n. n ≤ length text.now) }
     ensures whole { OnOk result (writer.new.failed ≡ false) }

@@ -1,7 +1,7 @@
 //! Running a workload's programs by threads.
 
 ghost use Rattle.std.specs.Prelude.{◌≡◌, ◌⊎◌, IfOk, IfErr};
-ghost use Rattle.eevdf_bench.specs.{Reports.IsReport, Runs.run_refusal};
+ghost use Rattle.eevdf_bench.specs.Reports.{IsReport};
 
 use crate::bench_fault::BenchFault;
 use crate::command::Kind;
@@ -22,21 +22,10 @@ pub fn run_text<R: Threads + Wait + Sync>(
     history: bool,
 ) -> Result<Vec<u8>, BenchFault>
     ensures report { IfOk result (λ t. IsReport Kind.Run workload.now history t.items) }
-    ensures refused { IfErr result (λ f. (f ≡ BenchFault.Run RunFault.Start) ⊎ (f ≡ BenchFault.Memory)) }
+    ensures refused { IfErr result (λ f.
+        (f ≡ BenchFault.Run RunFault.Start) ⊎ (f ≡ BenchFault.Memory)) }
 {
-    let outcome = match run_all(rt, alloc, workload.setup(), &OpenGate) {
-        Ok(outcome) => outcome,
-        Err(fault) => return Err(refusal(fault)),
-    };
+    let outcome = run_all(rt, alloc, workload.setup(), &OpenGate)?;
     let text = report(alloc, &outcome, history)?;
     Ok(text)
-}
-
-fn refusal(fault: RunFault) -> BenchFault
-    ensures { result ≡ run_refusal fault }
-{
-    match fault {
-        RunFault::Memory => BenchFault::Memory,
-        RunFault::Start => BenchFault::Run(fault),
-    }
 }

@@ -1,13 +1,13 @@
 //! Playing a workload's order.
 
-ghost use Rattle.std.specs.Prelude.{◌≡◌, IfOk};
+ghost use Rattle.std.specs.Prelude.{IfOk};
 ghost use Rattle.eevdf_bench.specs.Reports.{IsReport};
-ghost use Rattle.eevdf_bench.specs.Runs.{Makes, play_refusal, replay_report};
+ghost use Rattle.eevdf_bench.specs.Runs.{Makes, replay_report};
 
 use crate::bench_fault::BenchFault;
 use crate::command::Kind;
 use eevdf_report::report;
-use eevdf_steps::{PlayFault, play};
+use eevdf_steps::play;
 use eevdf_workload::{Key, LoadFault, Workload};
 use std::alloc::Global;
 
@@ -23,17 +23,8 @@ pub fn replay_text(alloc: Global, workload: &Workload, history: bool) -> Result<
     };
     let outcome = match play(alloc, workload.setup(), order) {
         Ok(outcome) => outcome,
-        Err(fault) => return Err(refusal(fault)),
+        Err(fault) => return Err(BenchFault::from(fault)),
     };
     let text = report(alloc, &outcome, history)?;
     Ok(text)
-}
-
-fn refusal(fault: PlayFault) -> BenchFault
-    ensures { result ≡ play_refusal fault }
-{
-    match fault {
-        PlayFault::Memory => BenchFault::Memory,
-        fault => BenchFault::Play(fault),
-    }
 }

@@ -87,7 +87,8 @@ impl<R: Read> Watched<R> {
     pub fn read(&mut self, buf: &mut [u8]) -> io::Result<usize>
         requires { self.old.failed ≡ false }
         ensures bound { ReadsAtMost result buf.new }
-        ensures bytes { ReadConsumes (R.remaining self.old.end) (R.remaining self.new.end) result buf.new }
+        ensures bytes { ReadConsumes
+            (R.remaining self.old.end) (R.remaining self.new.end) result buf.new }
         ensures failed { self.new.failed ≡ is_err result }
         ensures flush_failed { self.new.flush_failed ≡ self.old.flush_failed }
         ensures flushed { self.new.flushed ≡ self.old.flushed }
@@ -104,7 +105,8 @@ impl<W: Write> Watched<W> {
     pub fn write(&mut self, buf: &[u8]) -> io::Result<usize>
         requires { self.old.failed ≡ false }
         ensures bound { WritesAtMost result buf.now }
-        ensures bytes { WriteAppends (W.contents self.old.end) (W.contents self.new.end) result buf.now }
+        ensures bytes { WriteAppends
+            (W.contents self.old.end) (W.contents self.new.end) result buf.now }
         ensures failed { self.new.failed ≡ takes_nothing result buf.now }
         ensures flush_failed { self.new.flush_failed ≡ false }
         ensures flushed { self.new.flushed ≡ false }

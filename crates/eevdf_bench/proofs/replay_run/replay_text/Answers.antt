@@ -3,7 +3,7 @@ use Rattle.eevdf_bench.proofs.replay_run.replay_text.Goals as goal
 
 pub returns-in-Err-clause-report : goal.returns-in-Err-clause-report
 returns-in-Err-clause-report c =
-    not_replayed c.args.workload.now c.args.history c.setup.result.now c.in-Some.order.now c.in-Err.fault c.refusal.result c.in-Some.ensures c.setup.ensures c.in-Err.ensures.play c.refusal.ensures
+    not_replayed c.args.workload.now c.args.history c.setup.result.now c.in-Some.order.now c.in-Err.fault c.from.result c.in-Some.ensures c.setup.ensures c.in-Err.ensures.play c.from.ensures
 
 pub returns-clause-report : goal.returns-clause-report
 returns-clause-report c =
