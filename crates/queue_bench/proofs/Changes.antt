@@ -1,17 +1,18 @@
 -- Two queues that share no task still share none when one of them gains or loses a task.
-use Rattle.std.proofs.Common.{◌≡◌, ℕ, Bool, true, false, cond, Option, Some, None, refl, sym, ap, ◌∙◌, arith}
+use Rattle.std.proofs.Common.{◌≡◌, ℕ, ◌<◌, Bool, true, false, cond, Option, Some, None, refl, sym, ap, ◌∙◌, arith}
 use Rattle.std.specs.Prelude.{is_some, ◌&&◌, ◌||◌}
 use Rattle.std.specs.Option.{option_map}
 use Rattle.std.specs.Ordering.{nat_cmp, eq_by_cmp}
 use Rattle.std.specs.Cmp.{nat_cmp_total}
-use Rattle.std.specs.FinMap.{insert, get, get-empty, get-insert, get-remove}
+use Rattle.std.specs.FinMap.{insert, get, get-insert, get-remove}
 use Rattle.std.proofs.lemmas.Bool.Decides.{nat_tests}
 use Rattle.eevdf_queue.specs.{declared.entry.Entry.Entry, declared.sleeper.Sleeper.Sleeper}
-use Rattle.eevdf_queue.specs.State.{State, Contents, empty_state}
+use Rattle.eevdf_queue.specs.State.{State, Contents}
 use Rattle.eevdf_queue.specs.Moves.{with_runnable, put_asleep, sleeper_of}
 use Rattle.eevdf_queue.specs.Placing.{put, placed_entry}
 use Rattle.eevdf_queue.specs.Leaving.{leave, without_entry, carried, leaving, IsNowhere}
 use Rattle.eevdf_queue.specs.Lag.{kept_lag}
+use Rattle.eevdf_queue.specs.Kept.{IsKept}
 use Rattle.queue_bench.specs.SharedTasks.{stands_in, ShareNoTask}
 
 both_none : (o : Option Entry) (s : Option Sleeper) → o ≡ None → s ≡ None → (is_some o || is_some s) ≡ false
@@ -95,8 +96,12 @@ apart_left a a' b t p h c is nowhere =
     (and_false (stands_in b t) (stands_in a' t) (ap (stands_in a') (sym number) ∙ stands_nowhere a' p.task nowhere)) in
     apart_swapped b a' b_a
 
--- nothing stands in an empty queue
-pub apart_empty : (a b : State) → b ≡ empty_state → ShareNoTask a b
-apart_empty a b is = λ u.
-    and_false (stands_in a u) (stands_in b u)
-    (ap (λ (x : State). stands_in x u) is ∙ both_none (get empty_state.runnable u) (get empty_state.asleep u) (get-empty nat_cmp u) (get-empty nat_cmp u))
+apart_at : (a b : State) (t : ℕ) (o : Option Entry) (s : Option Sleeper) → get a.runnable t ≡ o → get a.asleep t ≡ s → IsKept a
+    → (t < 1024 → (stands_in a t && stands_in b t) ≡ false) → (stands_in a t && stands_in b t) ≡ false
+apart_at a b t (Some e) s r z k h = h ((k.in_range t e r).0)
+apart_at a b t None (Some s) r z k h = h ((k.limited t s z).0)
+apart_at a b t None None r z k h = ap (λ (x : Bool). x && stands_in b t) (both_none (get a.runnable t) (get a.asleep t) r z)
+
+-- numbers are below 1024, so a scan to there finds each task that stands in both
+pub apart_by_scan : (a b : State) → IsKept a → ((t : ℕ) → t < 1024 → (stands_in a t && stands_in b t) ≡ false) → ShareNoTask a b
+apart_by_scan a b k h = λ t. apart_at a b t (get a.runnable t) (get a.asleep t) refl refl k (h t)

@@ -1,81 +1,111 @@
 ghost use Rattle.std.specs.Prelude.{◌<◌, ◌≤◌};
 
-use crate::answer_words::{of_renice, of_task, of_tick, of_wake, of_yield};
+use crate::answer_words::{of_renice, of_task, of_tick};
 use crate::checksum::Checksum;
 use crate::sleep_ring::SleepRing;
-use crate::task_filling::{drawn, fill};
-use drawn_values::Draws;
-use eevdf_queue::{Queue, TaskId};
+use crate::task_values::{drawn_task, words_for};
+use crate::turn_values::TurnValues;
+use crate::warm_up::warm_up;
+use eevdf_queue::{Queue, Refused, TaskId};
 use std::alloc::{AllocError, Global};
 
 /// A queue of runnable tasks, of which one runs, and the checksum of its answers.
 #[derive(Drop)]
 pub struct BenchQueue {
     queue: Queue,
+    running: Option<TaskId>,
     sleepers: SleepRing,
-    draws: Draws,
+    values: TurnValues,
+    picks: u64,
     checksum: Checksum,
 }
 
 impl BenchQueue {
+    /// A queue of so many tasks after the warm-up.
     pub fn open(alloc: Global, tasks: u64) -> Result<BenchQueue, AllocError>
-        requires { tasks ≤ 1024 }
+        requires some { 0 < tasks }
+        requires few { tasks ≤ 1024 }
     {
-        let mut bench = BenchQueue {
-            queue: Queue::open(),
-            sleepers: SleepRing::new(tasks),
-            draws: drawn(),
-            checksum: Checksum::new(),
-        };
-        fill(alloc, &mut bench.queue, &mut bench.draws, tasks)?;
-        bench.pick();
-        Ok(bench)
+        let mut words = words_for(tasks);
+        let mut queue = Queue::open();
+        for number in 0..tasks {
+            let parcel = drawn_task(alloc, &mut words, number, tasks)?;
+            if let Err(Refused { parcel, reason: _ }) = queue.try_admit(parcel) {
+                parcel.retire();
+            }
+        }
+        let values = TurnValues::draw(&mut words, tasks);
+        let mut checksum = Checksum::new();
+        warm_up(&mut queue, &values, &mut checksum);
+        let running = queue.running();
+        Ok(BenchQueue {
+            queue,
+            running,
+            sleepers: SleepRing::new(),
+            values,
+            picks: 0,
+            checksum,
+        })
     }
 
     pub fn sum(&self) -> u64 {
         self.checksum.sum()
     }
 
+    #[inline(always)]
     pub fn pick(&mut self) {
-        let picked = self.queue.pick();
-        self.checksum.add(of_task(picked));
+        self.running = self.queue.pick();
+        self.checksum.add(of_task(self.running));
     }
 
+    #[inline(always)]
     pub fn tick(&mut self) {
-        let answer = self.queue.tick(self.draws.tick());
-        self.checksum.add(of_tick(answer));
+        let length = self.values.length();
+        self.checksum.add(of_tick(self.queue.tick(length)));
     }
 
-    pub fn yield_now(&mut self) {
-        let answer = self.queue.yield_now();
-        self.checksum.add(of_yield(answer));
-    }
-
-    /// Gives a drawn one of so many tasks a drawn nice level.
-    pub fn renice(&mut self, tasks: u64)
-        requires some { 0 < tasks }
-        requires few { tasks ≤ 1024 }
-    {
-        let task = self.draws.task(tasks);
-        let answer = self.queue.renice(task, self.draws.nice());
-        self.checksum.add(of_renice(answer));
-    }
-
-    /// Lets the running task fall asleep, picks, and wakes the task that has slept longest.
-    pub fn sleep_pick_wake(&mut self) {
-        let fell = fall_asleep(&mut self.queue);
+    /// A pick, before which every 1024th time there is a tick.
+    #[inline(always)]
+    pub fn pick_with_rare_ticks(&mut self) {
+        self.picks = self.picks.wrapping_add(1);
+        if self.picks % 1024 == 0 {
+            self.tick();
+        }
         self.pick();
-        if let Some(task) = self.sleepers.turn(fell) {
-            let answer = self.queue.wake(task);
-            self.checksum.add(of_wake(answer));
+    }
+
+    #[inline(always)]
+    pub fn yield_now(&mut self) {
+        let _ = self.queue.yield_now();
+    }
+
+    /// Gives the next task its next nice level.
+    #[inline(always)]
+    pub fn renice(&mut self) {
+        let (task, level) = self.values.task_and_level();
+        self.checksum.add(of_renice(self.queue.renice(task, level)));
+    }
+
+    /// Lets the running task fall asleep, and picks.
+    #[inline(always)]
+    pub fn sleep_pick(&mut self) {
+        if let Some(task) = self.running
+            && let Some(parcel) = self.queue.detach_running(task)
+        {
+            self.queue.put_asleep(parcel);
+            self.sleepers.push(task);
+        }
+        self.pick();
+    }
+
+    /// Lets the running task fall asleep, picks, and wakes the task that has slept longest. Where nobody was left to run, it
+    /// picks once more.
+    #[inline(always)]
+    pub fn sleep_pick_wake(&mut self) {
+        self.sleep_pick();
+        let _ = self.queue.wake(self.sleepers.pop());
+        if self.running.is_none() {
+            self.pick();
         }
     }
-}
-
-/// Lets the running task fall asleep, and gives its number.
-fn fall_asleep(queue: &mut Queue) -> Option<TaskId> {
-    let task = queue.running()?;
-    let parcel = queue.detach_running(task)?;
-    queue.put_asleep(parcel);
-    Some(task)
 }

@@ -9,11 +9,9 @@ impl Checksum {
         Checksum { sum: 0 }
     }
 
-    pub fn add(&mut self, word: u64) {
-        self.sum = self
-            .sum
-            .wrapping_mul(0x9e37_79b9_7f4a_7c15)
-            .wrapping_add(word);
+    #[inline(always)]
+    pub fn add(&mut self, word: u32) {
+        self.sum = self.sum.wrapping_mul(31).wrapping_add(u64::from(word));
     }
 
     pub fn sum(&self) -> u64 {

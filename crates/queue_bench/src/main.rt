@@ -9,8 +9,11 @@ mod checksum;
 mod mix;
 mod pull_queues;
 mod sleep_ring;
-mod task_filling;
+mod splitmix;
+mod task_values;
+mod turn_values;
 mod turns;
+mod warm_up;
 
 use crate::asked_run::{AskedRun, WordFault};
 use crate::turns::checksum_of;

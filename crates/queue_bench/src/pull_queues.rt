@@ -1,12 +1,14 @@
-ghost use Rattle.std.specs.Prelude.{◌≡◌, ◌≤◌, true, IfOk};
-ghost use Rattle.std.specs.FinMap as map;
+ghost use Rattle.std.specs.Prelude.{◌≡◌, ◌<◌, ◌≤◌, IsTrue};
 ghost use Rattle.eevdf_queue.specs.Leaving.{IsNowhere};
 ghost use Rattle.queue_bench.specs.SharedTasks.{ShareNoTask};
 
 use crate::answer_words::of_task;
 use crate::checksum::Checksum;
-use crate::task_filling::{drawn, fill};
-use eevdf_queue::{Parcel, Queue, TaskId};
+use crate::task_values::{drawn_task, words_for};
+use crate::turn_values::TurnValues;
+use crate::warm_up::warm_up;
+use eevdf_queue::laws::every_queue;
+use eevdf_queue::{Parcel, Queue, Refused, TaskId};
 use std::alloc::{AllocError, Global};
 
 /// Two queues that share the tasks, and the checksum of their answers.
@@ -18,29 +20,46 @@ pub struct PullQueues {
 }
 
 impl PullQueues {
-    /// Two queues with half of the tasks each.
+    /// Two queues with half of the tasks each, by turns, after the warm-up of each. A task that is alone isn't warmed up.
     pub fn open(alloc: Global, tasks: u64) -> Result<PullQueues, AllocError>
-        requires { tasks ≤ 1024 }
-        ensures { IfOk result (λ queues. ShareNoTask queues.first.state queues.second.state) }
+        requires some { 0 < tasks }
+        requires few { tasks ≤ 1024 }
     {
-        let mut first = Queue::open();
-        let mut second = Queue::open();
-        fill(alloc, &mut first, &mut drawn(), tasks)?;
-        for _ in 0..tasks / 2 {
-            let _ = pull(&mut first, &mut second);
-        }
-        Ok(PullQueues {
-            first,
-            second,
+        let mut words = words_for(tasks);
+        let mut queues = PullQueues {
+            first: Queue::open(),
+            second: Queue::open(),
             checksum: Checksum::new(),
-        })
+        };
+        for number in 0..tasks {
+            let parcel = drawn_task(alloc, &mut words, number, tasks)?;
+            if number % 2 == 0 {
+                admit(&mut queues.first, parcel);
+            } else {
+                admit(&mut queues.second, parcel);
+            }
+        }
+        if tasks > 1 {
+            let values = TurnValues::draw(&mut words, tasks);
+            warm_up(&mut queues.first, &values, &mut queues.checksum);
+            warm_up(&mut queues.second, &values, &mut queues.checksum);
+        }
+        Ok(queues)
     }
 
     pub fn sum(&self) -> u64 {
         self.checksum.sum()
     }
 
+    /// Whether no task stands in both queues.
+    pub fn share_no_task(&self) -> bool
+        ensures { IsTrue result → ShareNoTask self.now.first.state self.now.second.state }
+    {
+        share_no_task(&self.first, &self.second)
+    }
+
     /// Pulls from the first queue to the second.
+    #[inline(always)]
     pub fn pull_forth(&mut self)
         requires { ShareNoTask self.old.first.state self.old.second.state }
         ensures { ShareNoTask self.new.first.state self.new.second.state }
@@ -50,6 +69,7 @@ impl PullQueues {
     }
 
     /// Pulls from the second queue to the first.
+    #[inline(always)]
     pub fn pull_back(&mut self)
         requires { ShareNoTask self.old.first.state self.old.second.state }
         ensures { ShareNoTask self.new.first.state self.new.second.state }
@@ -59,7 +79,27 @@ impl PullQueues {
     }
 }
 
+fn admit(queue: &mut Queue, parcel: Parcel) {
+    if let Err(Refused { parcel, reason: _ }) = queue.try_admit(parcel) {
+        parcel.retire();
+    }
+}
+
+fn share_no_task(first: &Queue, second: &Queue) -> bool
+    ensures { IsTrue result → ShareNoTask first.now.state second.now.state }
+{
+    for number in 0..1024 {
+        let task = TaskId::new(number).unwrap();
+        if first.contains(task) && second.contains(task) {
+            return false;
+        }
+    }
+    every_queue(first);
+    true
+}
+
 /// Brings the candidate of a queue to another. Where it can't be placed there, it falls asleep.
+#[inline(always)]
 fn pull(from: &mut Queue, to: &mut Queue) -> Option<TaskId>
     requires { ShareNoTask from.old.state to.old.state }
     ensures { ShareNoTask from.new.state to.new.state }
@@ -71,6 +111,7 @@ fn pull(from: &mut Queue, to: &mut Queue) -> Option<TaskId>
 }
 
 /// Puts a task that stands in neither queue where it can be placed.
+#[inline(always)]
 fn settle(from: &mut Queue, to: &mut Queue, parcel: Parcel)
     requires apart { ShareNoTask from.old.state to.old.state }
     requires left { IsNowhere from.old.state parcel.task }

@@ -1,45 +1,34 @@
-ghost use Rattle.std.specs.Prelude.{◌<◌, ◌≤◌};
-
 use eevdf_queue::TaskId;
 
-/// The numbers of the sleeping tasks in the order in which they fell asleep. There are as many places as
-/// tasks sleep from one turn to the next.
+/// The numbers of the sleeping tasks in the order in which they fell asleep, with room for 2048.
 #[derive(Drop)]
 pub struct SleepRing {
-    places: [Option<TaskId>; 128],
-    len: usize,
-    at: usize,
-    ghost within: { at < len },
-    ghost few: { len ≤ 128 },
+    places: [TaskId; 2048],
+    first: u32,
+    end: u32,
 }
 
 impl SleepRing {
-    /// A ring for an eighth of the tasks, and at least for one.
-    pub fn new(tasks: u64) -> SleepRing
-        requires { tasks ≤ 1024 }
-    {
-        let eighth = (tasks / 8) as usize;
+    pub fn new() -> SleepRing {
         SleepRing {
-            places: [None; 128],
-            len: if eighth < 1 { 1 } else { eighth },
-            at: 0,
+            places: [TaskId::new(0).unwrap(); 2048],
+            first: 0,
+            end: 0,
         }
     }
 
-    /// Takes in the task that has fallen asleep last, and gives the one that has slept longest, as soon as
-    /// each place has been used.
-    pub fn turn(&mut self, fell: Option<TaskId>) -> Option<TaskId> {
-        let longest = self.places[self.at];
-        self.places[self.at] = fell;
-        self.at = next(self.at, self.len);
-        longest
+    /// Takes in the task that has fallen asleep last.
+    #[inline(always)]
+    pub fn push(&mut self, task: TaskId) {
+        self.places[(self.end % 2048) as usize] = task;
+        self.end = self.end.wrapping_add(1);
     }
-}
 
-/// The place after this one.
-fn next(at: usize, len: usize) -> usize
-    requires { at < len }
-    ensures { result < len }
-{
-    if at + 1 < len { at + 1 } else { 0 }
+    /// Gives the task that has slept longest.
+    #[inline(always)]
+    pub fn pop(&mut self) -> TaskId {
+        let task = self.places[(self.first % 2048) as usize];
+        self.first = self.first.wrapping_add(1);
+        task
+    }
 }

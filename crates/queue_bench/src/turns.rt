@@ -1,6 +1,5 @@
 //! The turns of a run. Each mix has a loop of its own, so that a turn is its calls and nothing else.
 
-ghost use Rattle.std.specs.Prelude.{◌<◌, ◌≤◌};
 ghost use Rattle.queue_bench.specs.SharedTasks.{ShareNoTask};
 
 use crate::asked_run::AskedRun;
@@ -15,13 +14,16 @@ pub fn checksum_of(alloc: Global, run: &AskedRun) -> Result<u64, AllocError> {
         return pulled_sum(alloc, run);
     }
     let mut bench = BenchQueue::open(alloc, run.tasks)?;
+    if run.mix == Mix::SleepPickWake || run.mix == Mix::TickSleepPickWake {
+        let_sleep(&mut bench, run.tasks / 8);
+    }
     match run.mix {
         Mix::Pick => picks(&mut bench, run.turns),
         Mix::TickPick => ticks(&mut bench, run.turns),
         Mix::SleepPickWake => sleeps(&mut bench, run.turns),
         Mix::YieldPick => yields(&mut bench, run.turns),
         Mix::TickSleepPickWake => ticks_and_sleeps(&mut bench, run.turns),
-        Mix::Renice => renices(&mut bench, run.tasks, run.turns),
+        Mix::Renice => renices(&mut bench, run.turns),
         Mix::Pull => {}
     }
     Ok(bench.sum())
@@ -29,13 +31,22 @@ pub fn checksum_of(alloc: Global, run: &AskedRun) -> Result<u64, AllocError> {
 
 fn pulled_sum(alloc: Global, run: &AskedRun) -> Result<u64, AllocError> {
     let mut queues = PullQueues::open(alloc, run.tasks)?;
-    pulls(&mut queues, run.turns);
+    if queues.share_no_task() {
+        pulls(&mut queues, burst_of(run.tasks), run.turns);
+    }
     Ok(queues.sum())
+}
+
+/// Lets so many tasks fall asleep, each as it runs.
+fn let_sleep(bench: &mut BenchQueue, count: u64) {
+    for _ in 0..count {
+        bench.sleep_pick();
+    }
 }
 
 fn picks(bench: &mut BenchQueue, turns: u64) {
     for _ in 0..turns {
-        bench.pick();
+        bench.pick_with_rare_ticks();
     }
 }
 
@@ -66,23 +77,38 @@ fn ticks_and_sleeps(bench: &mut BenchQueue, turns: u64) {
     }
 }
 
-fn renices(bench: &mut BenchQueue, tasks: u64, turns: u64)
-    requires some { 0 < tasks }
-    requires few { tasks ≤ 1024 }
-{
+fn renices(bench: &mut BenchQueue, turns: u64) {
     for _ in 0..turns {
-        bench.renice(tasks);
+        bench.renice();
     }
 }
 
-fn pulls(queues: &mut PullQueues, turns: u64)
+/// How many tasks are pulled one way before as many are pulled the other way.
+fn burst_of(tasks: u64) -> u64 {
+    if tasks >= 64 {
+        8
+    } else if tasks >= 8 {
+        2
+    } else {
+        1
+    }
+}
+
+fn pulls(queues: &mut PullQueues, burst: u64, turns: u64)
     requires { ShareNoTask queues.old.first.state queues.old.second.state }
 {
-    for turn in 0..turns {
-        if turn % 2 == 0 {
+    let mut left = burst;
+    let mut forth = true;
+    for _ in 0..turns {
+        if forth {
             queues.pull_forth();
         } else {
             queues.pull_back();
+        }
+        left = left.wrapping_sub(1);
+        if left == 0 {
+            forth = !forth;
+            left = burst;
         }
     }
 }
