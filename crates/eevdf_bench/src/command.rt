@@ -117,7 +117,8 @@ fn matches_of<'a, S: AsStr>(alloc: Global, words: &'a [S]) -> Result<ArgMatches<
     ensures ok { IfOk result (λ m. (spec.is_taken (map S.text words.entry.now) ≡ true)
         × (is_some (option_and_then spec.kind_named (subcommand_name_of m)) ≡ true)
         × (spec.subcommand_named (map S.text words.entry.now) ≡ subcommand_name_of m)
-        × (spec.has_history (map S.text words.entry.now) ≡ spec.history_in (option_map (λ p. p.1) (subcommand_rows_of m)))) }
+        × (spec.has_history (map S.text words.entry.now)
+        ≡ spec.history_in (option_map (λ p. p.1) (subcommand_rows_of m)))) }
     ensures refused { result ≡ Err WordFault.Words
         → spec.is_taken (map S.text words.entry.now) ≡ false }
 {

@@ -27,7 +27,12 @@ impl<E> Model for Watched<E> {
 
     ghost coded = { watch_code E.code };
 
-    ghost view = { λ w. record { end = w.end; failed = w.failed; flush_failed = w.flush_failed; flushed = w.flushed } };
+    ghost view = { λ w. record {
+      end = w.end;
+      failed = w.failed;
+      flush_failed = w.flush_failed;
+      flushed = w.flushed;
+    } };
 }
 
 impl<E> Watched<E> {

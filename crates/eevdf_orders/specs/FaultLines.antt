@@ -1,5 +1,6 @@
 -- What is printed where no workload is.
-use Rattle.std.specs.Prelude.{ℕ, List, ◌++◌, codes}
+use Rattle.std.specs.Prelude.{ℕ, List, ◌++◌, codes, decimal}
+use Rattle.eevdf_steps.specs.Orders.{most_places}
 use Rattle.eevdf_bench.specs.TextFault as bench
 use Rattle.eevdf_orders.specs.declared.order_making.OrderFault.{OrderFault}
 use Rattle.eevdf_orders.specs.declared.order_making.OrderFault.TheVariants.{Memory, TooLong}
@@ -9,7 +10,7 @@ use Rattle.eevdf_orders.specs.declared.print_fault.PrintFault.TheVariants.{Bench
 -- why no order was made, in words
 abbrev pub order_fault_text : OrderFault → List ℕ
 order_fault_text Memory = codes "memory"
-order_fault_text TooLong = codes "order longer than 1000000"
+order_fault_text TooLong = codes "order longer than " ++ decimal most_places
 
 -- why no workload was printed, in words
 abbrev pub print_fault_text : PrintFault → List ℕ

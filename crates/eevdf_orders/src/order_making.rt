@@ -17,7 +17,7 @@ use std::fmt;
 pub enum OrderFault {
     /// Out of memory.
     Memory,
-    /// The callers have more than 1000000 steps to do.
+    /// The callers have more than `MOST_PLACES` steps to do.
     TooLong,
 }
 
@@ -28,7 +28,7 @@ impl fmt::Display for OrderFault {
     fn fmt<W: fmt::Write>(&self, f: &mut fmt::Formatter<W>) -> fmt::Result {
         match self {
             OrderFault::Memory => f.write_str("memory"),
-            OrderFault::TooLong => f.write_str("order longer than 1000000"),
+            OrderFault::TooLong => write!(f, "order longer than {MOST_PLACES}"),
         }
     }
 }
@@ -41,7 +41,8 @@ impl Error for OrderFault {}
 pub fn order_of(alloc: Global, setup: &Setup, mut choice: Choice) -> Result<Vec<usize>, OrderFault>
     ensures faultless { IfOk result (λ order. play_fault (plan_of setup.now) order.items ≡ None) }
     ensures chosen { IfOk result (λ order. IsChosen (plan_of setup.now) choice order.items) }
-    ensures too_long { result ≡ Err OrderFault.TooLong → (order : List ℕ) → is_some (play_fault (plan_of setup.now) order) ≡ true }
+    ensures too_long { result ≡ Err OrderFault.TooLong → (order : List ℕ) →
+        is_some (play_fault (plan_of setup.now) order) ≡ true }
 {
     let Ok(mut player) = Player::open(alloc, setup) else {
         return Err(OrderFault::Memory);

@@ -3,6 +3,7 @@
 ghost use Rattle.std.specs.Prelude.{◌≡◌, ◌≢◌, false, true, IfOk, IfErr, IfSome, OnOk, Err};
 ghost use Rattle.eevdf_bench.specs.Streams.{ReadsWithin};
 ghost use Rattle.eevdf_orders.specs.OrderedWorkload as texts;
+ghost use Rattle.eevdf_workload.specs.Meaning.{read_limit};
 
 use crate::caller_choice::Choice;
 use crate::order_making::{OrderFault, order_of};
@@ -17,9 +18,9 @@ use std::io::{Read, Write};
 /// gives, or with the one in which they take turns where there is no seed. A workload that can't be read is refused with its
 /// fault, one that has an order already with `Ordered`, and one of which every order has a fault with `Play(TooLong)`.
 ///
-/// No more than 16777217 bytes are read. The fault `Read` comes exactly where the reader failed, `Write` exactly where the
-/// writer did. The writer isn't called before the whole order is made: after `Write` a beginning was written, the whole where
-/// it was the flush that failed, and after any other fault the writer is as it was.
+/// No more than `Workload::MOST_BYTES + 1` bytes are read. The fault `Read` comes exactly where the reader failed, `Write`
+/// exactly where the writer did. The writer isn't called before the whole order is made: after `Write` a beginning was written,
+/// the whole where it was the flush that failed, and after any other fault the writer is as it was.
 pub fn print_ordered<R: Read, W: Write>(
     alloc: Global,
     reader: &mut Watched<R>,
@@ -30,17 +31,22 @@ pub fn print_ordered<R: Read, W: Write>(
     requires writer { writer.old.failed ≡ false }
     ensures printed { OnOk result (IfSome (R.remaining reader.old.end) (λ input.
         texts.Prints seed input (W.contents writer.old.end) (W.contents writer.new.end))) }
-    ensures refused { IfErr result (λ f. IfSome (R.remaining reader.old.end) (λ input. texts.RefusesAs input f)) }
-    ensures begun { result ≡ Err (PrintFault.Bench BenchFault.Write) → IfSome (R.remaining reader.old.end) (λ input.
-        texts.Begins seed input writer.new.flush_failed (W.contents writer.old.end) (W.contents writer.new.end)) }
-    ensures limit { ReadsWithin 16777217 (R.remaining reader.old.end) (R.remaining reader.new.end) }
+    ensures refused { IfErr result (λ f. IfSome (R.remaining reader.old.end) (λ input.
+        texts.RefusesAs input f)) }
+    ensures begun { result ≡ Err (PrintFault.Bench BenchFault.Write) →
+        IfSome (R.remaining reader.old.end) (λ input. texts.Begins seed input writer.new.flush_failed
+        (W.contents writer.old.end) (W.contents writer.new.end)) }
+    ensures limit { ReadsWithin read_limit
+        (R.remaining reader.old.end) (R.remaining reader.new.end) }
     ensures read_whole { OnOk result (reader.new.failed ≡ false) }
     ensures written_whole { OnOk result (writer.new.failed ≡ false) }
     ensures flushed { OnOk result (writer.new.flushed ≡ true) }
     ensures read { result ≡ Err (PrintFault.Bench BenchFault.Read) → reader.new.failed ≡ true }
-    ensures unfailed { IfErr result (λ f. f ≢ PrintFault.Bench BenchFault.Read → reader.new.failed ≡ false) }
+    ensures unfailed { IfErr result (λ f. f ≢ PrintFault.Bench BenchFault.Read →
+        reader.new.failed ≡ false) }
     ensures write { result ≡ Err (PrintFault.Bench BenchFault.Write) → writer.new.failed ≡ true }
-    ensures unwritten { IfErr result (λ f. f ≢ PrintFault.Bench BenchFault.Write → writer.new ≡ writer.old) }
+    ensures unwritten { IfErr result (λ f. f ≢ PrintFault.Bench BenchFault.Write →
+        writer.new ≡ writer.old) }
 {
     let input = match read_input(alloc, reader) {
         Ok(input) => input,

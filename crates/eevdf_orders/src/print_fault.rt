@@ -9,7 +9,7 @@ use std::fmt;
 /// Why no workload was printed.
 #[derive(Clone, Copy, PartialEq, Eq, Debug)]
 pub enum PrintFault {
-    /// The workload is refused, has no order of at most 1000000 places, or reading, writing or memory failed.
+    /// The workload is refused, has no order of at most `MOST_PLACES` places, or reading, writing or memory failed.
     Bench(BenchFault),
     /// The workload has an order already.
     Ordered,

@@ -23,7 +23,8 @@ pub fn seed_of<S: AsStr>(alloc: Global, words: &[S]) -> Result<Option<u64>, Word
 /// The number that the flag's value is.
 fn number_of(value: Option<&str>) -> Result<Option<u64>, WordFault>
     ensures ok { IfOk result (spec.ReadsAs (option_map (λ s. s.now) value.entry)) }
-    ensures refused { result ≡ Err WordFault.Words → spec.IsNoNumber (option_map (λ s. s.now) value.entry) }
+    ensures refused { result ≡ Err WordFault.Words →
+        spec.IsNoNumber (option_map (λ s. s.now) value.entry) }
 {
     let Some(text) = value else {
         return Ok(None);
@@ -36,7 +37,8 @@ fn number_of(value: Option<&str>) -> Result<Option<u64>, WordFault>
 
 fn matches_of<'a, S: AsStr>(alloc: Global, words: &'a [S]) -> Result<ArgMatches<'a>, WordFault>
     ensures ok { IfOk result (λ m. (spec.is_taken (map S.text words.entry.now) ≡ true)
-        × (first_of (codes "seed") (rows_of (found_of m)) ≡ spec.value_in (map S.text words.entry.now))) }
+        × (first_of (codes "seed") (rows_of (found_of m))
+        ≡ spec.value_in (map S.text words.entry.now))) }
     ensures refused { result ≡ Err WordFault.Words
         → spec.is_taken (map S.text words.entry.now) ≡ false }
 {

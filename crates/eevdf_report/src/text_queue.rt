@@ -40,7 +40,8 @@ fn push_runnable(
     entry: Entry,
 ) -> Result<(), AllocError>
     requires { map.get queue.now.state.runnable task ≡ Some entry }
-    ensures { OnOk result (text.new.items ≡ text.old.items ++ runnable_line queue.now.state (task, entry)) }
+    ensures { OnOk result (text.new.items
+        ≡ text.old.items ++ runnable_line queue.now.state (task, entry)) }
 {
     let lag = queue.lag_of(task).unwrap();
     let runs = queue.running() == Some(task);

@@ -32,7 +32,8 @@ fn push_history(text: &mut Vec<u8>, history: bool, lines: &[Line]) -> Result<(),
 
 fn push_cpus(alloc: Global, text: &mut Vec<u8>, outcome: &Outcome) -> Result<(), AllocError>
     ensures { OnOk result (text.new.items
-        ≡ text.old.items ++ cpus_text outcome.now.lines (machine_of outcome.now.queues) outcome.now.left) }
+        ≡ text.old.items
+        ++ cpus_text outcome.now.lines (machine_of outcome.now.queues) outcome.now.left) }
 {
     let schedules = Schedules::of(alloc, outcome.cpus(), outcome.history())?;
     for cpu in 0..outcome.cpus() {
@@ -50,7 +51,8 @@ fn push_cpu(
     requires cpu { cpu < length outcome.now.queues }
     requires schedule { schedule.now ≡ schedule_of cpu outcome.now.lines }
     ensures { OnOk result (text.new.items
-        ≡ text.old.items ++ cpu_text outcome.now.lines (machine_of outcome.now.queues) outcome.now.left cpu) }
+        ≡ text.old.items
+        ++ cpu_text outcome.now.lines (machine_of outcome.now.queues) outcome.now.left cpu) }
 {
     push_cpu_line(text, cpu)?;
     text.extend_from_slice(schedule)?;

@@ -19,7 +19,11 @@ impl Model for Workload {
 
     ghost Value = { meant.Workload };
 
-    ghost view = { λ w. record { setup = w.setup; order = option_map (λ ps. ps.items) w.order; script = option_map (λ ds. ds.items) w.script } };
+    ghost view = { λ w. record {
+      setup = w.setup;
+      order = option_map (λ ps. ps.items) w.order;
+      script = option_map (λ ds. ds.items) w.script;
+    } };
 
     ghost invariant = { λ w. meant.allowed w.setup (option_map (λ ds. ds.items) w.script) ≡ Ok tt };
 }
@@ -47,7 +51,11 @@ impl Workload {
         script: Option<Vec<Deed>>,
     ) -> Workload
         requires { allowed setup (option_map (λ ds. ds.items) script) ≡ Ok tt }
-        ensures { result ≡ record { setup = setup; order = option_map (λ ps. ps.items) order; script = option_map (λ ds. ds.items) script } }
+        ensures { result ≡ record {
+          setup = setup;
+          order = option_map (λ ps. ps.items) order;
+          script = option_map (λ ds. ds.items) script;
+        } }
     {
         Workload {
             setup,

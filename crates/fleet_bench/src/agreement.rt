@@ -20,7 +20,8 @@ const NUMBERS: u64 = 1024;
 /// does, so another answer tells of what no proof covers, as the compiler.
 pub fn agrees(alloc: Global, setup: &Setup, outcome: &Outcome) -> Result<bool, AllocError>
     requires allowed { list_all (allows setup.now) (deeds_of outcome.now.lines) ≡ true }
-    requires one_thread { IsOneThread (homes_of setup.now) (start setup.now) (deeds_of outcome.now.lines) outcome.now }
+    requires one_thread { IsOneThread (homes_of setup.now) (start setup.now)
+        (deeds_of outcome.now.lines) outcome.now }
     ensures { IfOk result (λ same. IsTrue same) }
 {
     let deeds = deeds_of(alloc, outcome)?;
@@ -39,7 +40,8 @@ fn deeds_of(alloc: Global, outcome: &Outcome) -> Result<Vec<Deed>, AllocError>
 }
 
 fn same_outcomes(one: &Outcome, other: &Outcome) -> bool
-    ensures { one.now.lines ≡ other.now.lines → machine_of one.now.queues ≡ machine_of other.now.queues → IsTrue result }
+    ensures { one.now.lines ≡ other.now.lines
+        → machine_of one.now.queues ≡ machine_of other.now.queues → IsTrue result }
 {
     one.history() == other.history() && same_queues(one, other)
 }

@@ -41,7 +41,8 @@ fn two_operate<N: Names + Send + Sync, R: Threads + Wait + Sync>(
 ) -> Option<Outcome>
     requires kit { kit ≡ N.kit }
     requires setup { setup_of kit ≡ setup.now }
-    ensures allowed { IfSome result (λ outcome. list_all (allows setup.now) (deeds_of outcome.lines) ≡ true) }
+    ensures allowed { IfSome result
+        (λ outcome. list_all (allows setup.now) (deeds_of outcome.lines) ≡ true) }
 {
     let (fleet, mut seats) = Fleet::<N>::open(alloc, kit).ok()?;
     let one = seats.pop()?;

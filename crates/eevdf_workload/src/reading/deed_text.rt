@@ -29,7 +29,8 @@ fn deed_on(limits: Limits, cpu: CpuId, mut words: Words) -> Option<Deed>
 
 // The deed that the operation with these words is.
 fn of_operation(limits: Limits, cpu: CpuId, verb: &str, arguments: Words) -> Option<Deed>
-    ensures { result ≡ option_and_then (deed_of cpu) (operation_of limits verb.now arguments.entry) }
+    ensures { result
+        ≡ option_and_then (deed_of cpu) (operation_of limits verb.now arguments.entry) }
 {
     operation_of(limits, verb, arguments)?.on(cpu)
 }

@@ -79,7 +79,8 @@ pub(crate) fn natural(number: i64) -> Option<u64>
 
 /// The members of an array, or a bad value at the key where it is none.
 pub(crate) fn array_at(value: &Value, key: Key) -> Result<&Array, LoadFault>
-    ensures { MatchResult result (λ a. array_at key (view value.now) ≡ Ok (array_view a.now)) (λ e. array_at key (view value.now) ≡ Err e) }
+    ensures { MatchResult result (λ a. array_at key (view value.now) ≡ Ok (array_view a.now))
+        (λ e. array_at key (view value.now) ≡ Err e) }
 {
     good_at(key, value.as_array())
 }

@@ -21,14 +21,16 @@ pub(crate) fn programs(
     limits: Limits,
     document: &Table,
 ) -> Result<Vec<Vec<Op>>, LoadFault>
-    ensures { Reads (λ ps. map (λ p. p.items) ps.items) (programs limits (table_view document.now)) result }
+    ensures { Reads (λ ps. map (λ p. p.items) ps.items)
+        (programs limits (table_view document.now)) result }
 {
     let value = required(document, "program", Key::Programs)?;
     programs_of(alloc, limits, array_at(value, Key::Programs)?)
 }
 
 fn programs_of(alloc: Global, limits: Limits, members: &[Value]) -> Result<Vec<Vec<Op>>, LoadFault>
-    ensures { Reads (λ ps. map (λ p. p.items) ps.items) (each (program_at limits) 0 (items_view members.now)) result }
+    ensures { Reads (λ ps. map (λ p. p.items) ps.items)
+        (each (program_at limits) 0 (items_view members.now)) result }
 {
     let mut programs = Vec::new(alloc);
     for (cpu, member) in members.iter().enumerate() {
@@ -56,7 +58,8 @@ fn operations(
     cpu: usize,
     members: &[Value],
 ) -> Result<Vec<Op>, LoadFault>
-    ensures { Reads (λ p. p.items) (each (operation_at limits cpu) 0 (items_view members.now)) result }
+    ensures { Reads (λ p. p.items)
+        (each (operation_at limits cpu) 0 (items_view members.now)) result }
 {
     let mut program = Vec::new(alloc);
     for (place, member) in members.iter().enumerate() {
@@ -80,7 +83,8 @@ pub(crate) fn script(
     limits: Limits,
     document: &Table,
 ) -> Result<Option<Vec<Deed>>, LoadFault>
-    ensures { Reads (λ found. option_map (λ ds. ds.items) found) (script limits (table_view document.now)) result }
+    ensures { Reads (λ found. option_map (λ ds. ds.items) found)
+        (script limits (table_view document.now)) result }
 {
     match member(document, "script") {
         Some(value) => Ok(Some(script_of(alloc, limits, value)?)),
@@ -120,7 +124,8 @@ fn deed_at(limits: Limits, place: usize, value: &Value) -> Result<Deed, LoadFaul
 /// The order of the callers, if there is one.
 #[tactic(auto, unfolding(crate::specs::Meaning::order))]
 pub(crate) fn order(alloc: Global, document: &Table) -> Result<Option<Vec<usize>>, LoadFault>
-    ensures { Reads (λ found. option_map (λ ps. ps.items) found) (order (table_view document.now)) result }
+    ensures { Reads (λ found. option_map (λ ps. ps.items) found)
+        (order (table_view document.now)) result }
 {
     match member(document, "order") {
         Some(value) => Ok(Some(callers(alloc, array_at(value, Key::Orders)?)?)),

@@ -29,7 +29,8 @@ impl<'a> Words<'a> {
 
     /// The next word, or `None` where there is none.
     pub(crate) fn next(&mut self) -> Option<&'a str>
-        ensures { MatchOption result ((self.old ≡ []) × (self.new ≡ [])) (λ word. self.old ≡ word.now ∷ self.new) }
+        ensures { MatchOption result ((self.old ≡ []) × (self.new ≡ []))
+            (λ word. self.old ≡ word.now ∷ self.new) }
     {
         let rest = self.rest.take()?;
         match rest.split_once(' ') {
