@@ -9,7 +9,6 @@ mod checksum;
 mod mix;
 mod pull_queues;
 mod sleep_ring;
-mod splitmix;
 mod task_values;
 mod turn_values;
 mod turns;

@@ -1,9 +1,10 @@
 ghost use Rattle.std.specs.Prelude.{◌≡◌, ◌<◌, ◌≤◌};
 
-use crate::splitmix::SplitMix;
 use crate::task_values::near_level;
 use eevdf_queue::TaskId;
 use eevdf_weight::{Nice, Ns};
+use rand_core::Rng;
+use rand_xoshiro::SplitMix64;
 
 /// How many values are drawn of each sort. Turns take them in order, over and over.
 const COUNT: usize = 16_384;
@@ -19,7 +20,7 @@ pub struct TurnValues {
 
 impl TurnValues {
     /// Values for turns on so many tasks.
-    pub fn draw(words: &mut SplitMix, tasks: u64) -> TurnValues
+    pub fn draw(words: &mut SplitMix64, tasks: u64) -> TurnValues
         requires some { 0 < tasks }
         requires few { tasks ≤ 1024 }
     {
@@ -30,8 +31,8 @@ impl TurnValues {
             at: 0,
         };
         for place in 0..COUNT {
-            values.lengths[place] = Ns::new(1 + words.word() % 2_000_000).unwrap();
-            values.tasks[place] = TaskId::new(words.word() % tasks).unwrap();
+            values.lengths[place] = Ns::new(1 + words.next_u64() % 2_000_000).unwrap();
+            values.tasks[place] = TaskId::new(words.next_u64() % tasks).unwrap();
             values.levels[place] = near_level(words);
         }
         values
