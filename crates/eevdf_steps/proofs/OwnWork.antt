@@ -1,5 +1,5 @@
 -- What the caller's work on the queues comes to, seen from the machine of the history.
-use Rattle.std.proofs.Common.{◌≡◌, ◌≢◌, ℕ, ◌<◌, true, false, List, length, set, sym, ap, subst, ◌∙◌, refl, arith}
+use Rattle.std.proofs.Common.{◌≡◌, ◌≢◌, ℕ, ◌<◌, true, false, cond, List, length, set, sym, ap, subst, ◌∙◌, refl, arith}
 use Rattle.std.proofs.lemmas.{Bool.eqb-true, Bool.eq-eqb, List.get_or-set_same, List.get_or-set_other, Bool.Decides.nat_tests}
 use Rattle.std.specs.Prelude.{◌==◌, IfSome, Option, Some, None, Result, Ok, Err}
 use Rattle.eevdf_queue.specs.State.{State, Contents, empty_state}
@@ -179,4 +179,8 @@ module _ {plan : Plan} {counters : Counters} {p : ℕ} {m : Machine} {w : Work} 
   pub room_then : (s : ℕ) (h : Option Contents) → AtAttach plan counters p m w (op.Pull s) (deed.Pull p s) → holds plan counters p p ≡ true → s ≢ p
       → leaves plan.homes m (deed.Pull p s) ≡ h → IfSome h (λ (x : Contents). can_place (queue_at w.machine p) (sleeper_of x) ≡ true)
   room_then s None a own apart e = tt
-  room_then s (Some x) a own apart e = grind (arith, nat_tests)
+  room_then s (Some x) a own apart e =
+      let other : (p == s) ≡ false = grind (arith, nat_tests) in
+      let same : queue_at w.machine p ≡ queue_at m p =
+      a.queues_are p own ∙ ap (λ b. cond b (after_leaving (leaves plan.homes m (deed.Pull p s)) (queue_at m p)) (queue_at m p)) other in
+      subst (λ (q : State). can_place q (sleeper_of x) ≡ true) (sym same) (room_by m p s x (pull_decision m p s) refl e)
