@@ -1,5 +1,5 @@
-//! Values that follow from a seed, the same at each run: numbers, tasks, nice levels, slices and times for the programs that
-//! measure the calls, and for tests; and the words that such a program is given.
+//! Values that follow from a seed, the same at each run: numbers, tasks, nice levels, slices and times for the program that
+//! measures a fleet, and for tests; and the words that a program which measures is given.
 #![tactic(auto)]
 
 mod draws;

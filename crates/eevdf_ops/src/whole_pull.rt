@@ -46,7 +46,8 @@ pub fn pull(queues: &mut [Queue], cpu: CpuId, source: CpuId) -> Answer
     }
 }
 
-/// Takes out of the source what the CPU decides to pull.
+/// Takes out of the source the task that the CPU decides to pull, or answers why it takes none (`Nothing`, `Balanced` or `Range`),
+/// and then nothing has changed.
 pub fn take_pulled(queues: &mut [Queue], cpu: CpuId, source: CpuId) -> Result<Parcel, Answer>
     requires cpu { cpu < length queues.old }
     requires source { source < length queues.old }

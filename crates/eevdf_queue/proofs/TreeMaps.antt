@@ -96,11 +96,6 @@ found_entry ts m q t v f = seen_at ts m q v ∙ ap (option_map (λ u. u.entry)) 
 pub entry_here : (q : ℕ) (e : Entry) (ts : List Task) (m : FinMap nat_cmp Entry) → runnable_in ts ≡ m → get m q ≡ Some e → option_map (λ (t : Task). t.entry) (find_task q ts) ≡ Some e
 entry_here q e ts m v h = sym (seen_at ts m q v) ∙ h
 
-pub entry_is : (q : ℕ) (t : Task) (e : Entry) (ts : List Task) (m : FinMap nat_cmp Entry) → runnable_in ts ≡ m → find_task q ts ≡ Some t → get m q ≡ Some e → t.entry ≡ e
-entry_is q t e ts m v f h =
-    let same : Some t.entry ≡ Some e = sym (found_entry ts m q t v f) ∙ h in
-    cc
-
 -- a task put in
 module _ (table table' : List ℤ) (t : Task) (ts us : List Task) (m : FinMap nat_cmp Entry) (s : IsRunnableStore table ts) (v : runnable_in ts ≡ m)
     (n : get m t.number ≡ None) (l : t.number < 1024) (e : us ≡ insert_task t ts) where

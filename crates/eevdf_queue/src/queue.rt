@@ -16,7 +16,7 @@ use crate::task_id::TaskId;
 use crate::totals::time_over;
 use std::marker::Model;
 
-/// The run queue of one CPU: 24672 bytes, whatever it holds. Each of its tasks has 88 bytes more, in its node.
+/// The run queue of one CPU. It has 24672 bytes on x86-64, whatever it holds, and each of its tasks 88 more, in a node.
 #[derive(Drop)]
 pub struct Queue {
     pub(crate) runnable: RunnableTasks,
@@ -143,8 +143,10 @@ impl Queue {
 
     /// What is kept of a task that sleeps here, and `None` of any other.
     pub fn sleeper(&self, task: TaskId) -> Option<Sleeper>
-        ensures { result ≡ map.get self.now.state.asleep task }
+        ensures value { result ≡ map.get self.now.state.asleep task }
+        ensures limited { IfSome result (λ s. lags.is_lag s.lag s.nice s.slice ≡ true) }
     {
+        self.asleep.keeps();
         self.asleep.get(task)
     }
 

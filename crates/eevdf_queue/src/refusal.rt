@@ -49,7 +49,7 @@ impl fmt::Display for Refusal {
 
 impl Error for Refusal {}
 
-/// The text of the reason. It is no `Error`, which asks for a value that may be dropped.
+/// The text of the reason. A `Refused` is no `Error`: that asks for a value that may be dropped, and this one has a task.
 impl fmt::Display for Refused {
     ghost use Rattle.std.specs.Prelude.{Some};
     ghost use Rattle.eevdf_queue.specs.Texts.{refusal_text};

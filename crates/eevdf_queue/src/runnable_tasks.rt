@@ -128,7 +128,7 @@ impl RunnableTasks {
         replace(&mut self.tree, &mut self.deadlines, task, entry);
     }
 
-    /// Gives a task that is here with an older entry one of another request, and of a later virtual runtime or the same.
+    /// Gives a task that is here with an older entry one of another request, whose virtual runtime is near the older one.
     #[inline(always)]
     pub fn renew(&mut self, task: TaskId, older: &Entry, newer: Entry)
         requires here { map.get self.old task ≡ Some older.now }

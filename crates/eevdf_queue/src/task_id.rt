@@ -74,7 +74,7 @@ impl TryFrom<u64> for TaskId {
     type Error = BadTaskId;
 
     ghost use Rattle.std.specs.Prelude.{◌≡◌, ok_or};
-    ghost use Rattle.eevdf_queue.specs.Numbers.{checked_number, number_limit};
+    ghost use Rattle.eevdf_queue.specs.Numbers.{checked_number};
 
     ghost try_from_gives = { λ number r. r
         ≡ ok_or (checked_number number) (record { 0 = number }) };

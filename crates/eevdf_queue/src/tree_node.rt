@@ -1,12 +1,12 @@
 //! The boxed node of a balanced tree of tasks. It carries one task, alone in a parcel or between the two sides
 //! of a subtree, and keeps the height and the least virtual runtime of that subtree.
 
-ghost use Rattle.std.specs.Prelude.{◌≡◌, suc, ◌+◌, ◌≤◌, ◌^◌, max, [], ◌∷◌, ◌++◌, length, is_some, true, None, Some, IfSome};
+ghost use Rattle.std.specs.Prelude.{◌≡◌, ◌≤◌, ◌^◌, [], ◌∷◌, ◌++◌, length, is_some, true, None, Some, IfSome};
 ghost use Rattle.std.specs.Option.{option_map};
 ghost use Rattle.eevdf_queue.specs.{TaskLists.first_task, TaskLists.find_task, Pick.is_eligible_at, NodeDepths.is_at_depth};
 ghost use Rattle.eevdf_queue.specs.{TreeLeast.least_of, TreeLeast.AreLow};
 ghost use Rattle.eevdf_queue.specs.TreeTasks.{AreOrdered, IsAtDeadline, first_that, last_number};
-ghost use Rattle.eevdf_queue.specs.TreeShape.{tasks_in, height_in, depths_in, DifferByAtMost, IsFull, IsAlone};
+ghost use Rattle.eevdf_queue.specs.TreeShape.{tasks_in, height_in, depths_in, IsFull, IsAlone};
 
 mod node_parts;
 mod rotation;

@@ -61,7 +61,13 @@ pub fn correct(
     ensures tasks { tasks_in left.new ++ task.new ∷ tasks_in right.new
         ≡ tasks_in left.old ++ task.old ∷ tasks_in right.old }
     ensures node { IsNode
-        (record { task = task.new; height = node_height.new; least = node_least.new; left = left.new; right = right.new }) }
+        (record {
+          task = task.new;
+          height = node_height.new;
+          least = node_least.new;
+          left = left.new;
+          right = right.new;
+        }) }
     ensures mended { IsHeightOfBalanced (height_in left.old) (height_in right.old) node_height.new }
     ensures same_height { keeps_height result ≡ true → node_height.new ≡ node_height.old }
     ensures same_least { keeps_least result ≡ true → node_least.new ≡ node_least.old }
@@ -143,7 +149,13 @@ fn mend_uneven(
     ensures tasks { tasks_in left.new ++ task.new ∷ tasks_in right.new
         ≡ tasks_in left.old ++ task.old ∷ tasks_in right.old }
     ensures node { IsNode
-        (record { task = task.new; height = node_height.new; least = node_least.new; left = left.new; right = right.new }) }
+        (record {
+          task = task.new;
+          height = node_height.new;
+          least = node_least.new;
+          left = left.new;
+          right = right.new;
+        }) }
     ensures mended { IsHeightOfBalanced (height_in left.old) (height_in right.old) node_height.new }
     ensures same_height { keeps_height result ≡ true → node_height.new ≡ node_height.old }
     ensures same_least { keeps_least result ≡ true → node_least.new ≡ node_least.old }
@@ -194,7 +206,13 @@ pub fn renew(
     requires balanced { DifferByAtMost 1 (height_in left.now) (height_in right.now) }
     requires low { max (height_in left.now) (height_in right.now) ≤ 2 ^ 20 }
     ensures node { IsNode
-        (record { task = task.now; height = node_height.new; least = node_least.new; left = left.now; right = right.now }) }
+        (record {
+          task = task.now;
+          height = node_height.new;
+          least = node_least.new;
+          left = left.now;
+          right = right.now;
+        }) }
     ensures height { node_height.new ≡ suc (max (height_in left.now) (height_in right.now)) }
 {
     let around = look_around(left, task, right);

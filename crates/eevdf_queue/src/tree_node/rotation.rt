@@ -201,7 +201,13 @@ fn cross_right(
     requires balanced { DifferByAtMost 1 (height_in node_right.old) (height_in right.old) }
     requires low { max (height_in node_right.old) (height_in right.old) ≤ 2 ^ 20 }
     ensures node { IsNode
-        (record { task = node_task.new; height = node_height.new; least = node_least.new; left = node_left.new; right = node_right.new }) }
+        (record {
+          task = node_task.new;
+          height = node_height.new;
+          least = node_least.new;
+          left = node_left.new;
+          right = node_right.new;
+        }) }
     ensures tasks { tasks_in node_left.new ++ node_task.new ∷ tasks_in node_right.new
         ≡ tasks_in node_right.old ++ task.old ∷ tasks_in right.old }
     ensures height { node_height.new ≡ suc (max (height_in node_right.old) (height_in right.old)) }
@@ -230,7 +236,13 @@ fn cross_left(
     requires balanced { DifferByAtMost 1 (height_in node_left.old) (height_in left.old) }
     requires low { max (height_in node_left.old) (height_in left.old) ≤ 2 ^ 20 }
     ensures node { IsNode
-        (record { task = node_task.new; height = node_height.new; least = node_least.new; left = node_left.new; right = node_right.new }) }
+        (record {
+          task = node_task.new;
+          height = node_height.new;
+          least = node_least.new;
+          left = node_left.new;
+          right = node_right.new;
+        }) }
     ensures tasks { tasks_in node_left.new ++ node_task.new ∷ tasks_in node_right.new
         ≡ tasks_in left.old ++ task.old ∷ tasks_in node_left.old }
     ensures height { node_height.new ≡ suc (max (height_in node_left.old) (height_in left.old)) }

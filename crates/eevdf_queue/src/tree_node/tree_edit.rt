@@ -1,19 +1,17 @@
-//! Tasks put in, taken out and changed where they stand: one path of the tree is walked down, and its heights
-//! and least virtual runtimes are corrected on the way back, as long as they change.
+//! Tasks put in and taken out: one path of the tree is walked down, and its heights and least virtual runtimes are
+//! corrected on the way down or back, as long as they change.
 
-ghost use Rattle.std.specs.Prelude.{◌≡◌, suc, ◌+◌, ◌<◌, ◌≤◌, ◌^◌, [], ◌∷◌, ◌++◌, ◌≤ℤ◌, length, is_some, true, false, Some, IfSome};
-ghost use Rattle.eevdf_queue.specs.TaskLists.{first_task, find_task, set_entry};
+ghost use Rattle.std.specs.Prelude.{◌≡◌, suc, ◌+◌, ◌<◌, ◌≤◌, ◌^◌, [], ◌∷◌, ◌++◌, length, is_some, true, false, Some};
+ghost use Rattle.eevdf_queue.specs.TaskLists.{first_task, find_task};
 ghost use Rattle.eevdf_queue.specs.TreeTasks.{AreOrdered, insert_task, without};
 ghost use Rattle.eevdf_queue.specs.{TreeChanges.keeps_height, TreeChanges.keeps_least, TreeLeast.least_of};
 ghost use Rattle.eevdf_queue.specs.{TreeKeys.Holds, TreeShape.tasks_in, TreeShape.height_in, TreeShape.IsAlone};
 
 use super::TreeNode;
-use super::node_parts::{correct, look_around, part_from, raise};
-use crate::entry::Entry;
+use super::node_parts::{correct, part_from, raise};
 use crate::task::Task;
 use crate::tree_change::TreeChange;
 use crate::tree_key::{Key, precedes};
-use crate::tree_least::Least;
 use std::mem;
 
 /// Puts a node that is alone below a link, where keys rise. The least virtual runtimes are made right on the way down.
