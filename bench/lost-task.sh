@@ -53,7 +53,7 @@ refuses eevdf_queue queue_moves.rt 'None => Err(parcel),' 'None => Ok(()),' queu
 refuses eevdf_ops whole_sleep.rt 'fall_asleep(queues, home, parcel);' 'let _parcel = parcel;' whole_sleep
 refuses eevdf_ops whole_pull.rt 'join(queues, cpu, parcel);' 'let _parcel = parcel;' whole_pull
 refuses eevdf_steps hand.rt 'parcel.retire();' 'let _parcel = parcel;' hand
-refuses eevdf_steps work.rt 'Some(parcel) => join(&mut self.queues, cpu, parcel),' 'Some(_parcel) => {}' work
+refuses eevdf_steps work.rt 'join(&mut self.queues, cpu, parcel);' 'let _parcel = parcel;' work
 refuses mine lib.rt $'if let Some(parcel) = queue.detach_running(task) {\n        parcel.retire();\n    }' \
   'let _parcel = queue.detach_running(task);' end
 echo "$refused bodies that let a task go are refused"
