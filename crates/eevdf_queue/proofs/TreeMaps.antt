@@ -3,7 +3,7 @@ use Rattle.std.proofs.Common.{◌≡◌, ℕ, ◌<◌, true, false, cond, eqb, L
 use Rattle.std.specs.{Prelude.ℤ, Prelude.is_some, Option.option_map, Ordering.nat_cmp, List.AllByRecursion}
 use Rattle.std.proofs.lemmas.Bool.Decides.{nat_tests}
 use Rattle.std.specs.FinMap.{FinMap, insert, remove, get}
-use Rattle.eevdf_queue.specs.{declared.entry.Entry.Entry, declared.task.Task.Task, declared.tree_key.Key.Key}
+use Rattle.eevdf_queue.specs.{declared.entry.Entry.Entry, declared.task.Task.Task, declared.tree_key.TreeKey.TreeKey}
 use Rattle.eevdf_queue.specs.Moves.{is_entry_in_range}
 use Rattle.eevdf_queue.specs.TaskLists.{has_number, find_task, runnable_in, AreRunnable}
 use Rattle.eevdf_queue.specs.TreeTasks.{insert_task, without, IsAtDeadline}
@@ -41,7 +41,7 @@ pub noted_deadline : (table : List ℤ) (q : ℕ) (ts : List Task) (t : Task) �
 noted_deadline table q ts t a h =
     sym (all-found (IsNoted table) (has_number q) ts t a h) ∙ ap (deadline_at table) (found_number q ts t h)
 
-pub placed : (table : List ℤ) (k : Key) (ts : List Task) → AllByRecursion (IsNoted table) ts → k.deadline ≡ deadline_at table k.number → IsAtDeadline k.deadline (find_task k.number ts)
+pub placed : (table : List ℤ) (k : TreeKey) (ts : List Task) → AllByRecursion (IsNoted table) ts → k.deadline ≡ deadline_at table k.number → IsAtDeadline k.deadline (find_task k.number ts)
 placed table k ts a e =
     placed_by k.deadline (find_task k.number ts) (λ t h. noted_deadline table k.number ts t a h ∙ sym e)
 

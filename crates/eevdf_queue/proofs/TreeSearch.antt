@@ -2,7 +2,7 @@
 use Rattle.std.proofs.Common.{◌≡◌, ℕ, Bool, true, false, cond, eqb, List, [], ◌∷◌, ◌++◌, Option, Some, None, refl, sym, subst, ap, ◌∙◌, arith}
 use Rattle.std.specs.Prelude.{is_some}
 use Rattle.std.proofs.{lemmas.Int.ints, lemmas.Bool.eqb-true, lemmas.Bool.Decides.nat_tests}
-use Rattle.eevdf_queue.specs.{declared.entry.Entry.Entry, declared.task.Task.Task, declared.tree_key.Key.Key}
+use Rattle.eevdf_queue.specs.{declared.entry.Entry.Entry, declared.task.Task.Task, declared.tree_key.TreeKey.TreeKey}
 use Rattle.eevdf_queue.specs.TaskLists.{first_with, has_number, find_task}
 use Rattle.eevdf_queue.specs.TreeKeys.{is_of, is_under, is_over}
 use Rattle.eevdf_queue.specs.TreeTasks.{precedes, AreOrdered, first_that, IsAtDeadline}
@@ -26,55 +26,55 @@ pub found_number : (q : ℕ) (xs : List Task) (t : Task) → find_task q xs ≡ 
 found_number q xs t h = eqb-true t.number q (first_passed (has_number q) xs t h)
 
 -- a task has the key
-pub record HasKey (k : Key) (t : Task) : Type 0 where
+pub record HasKey (k : TreeKey) (t : Task) : Type 0 where
   pub deadline : t.entry.d ≡ k.deadline
   pub number : t.number ≡ k.number
 
-not_after_under : (k : Key) (t u : Task) → HasKey k t → is_under k u ≡ true → precedes u t ≡ true → ⊥
+not_after_under : (k : TreeKey) (t u : Task) → HasKey k t → is_under k u ≡ true → precedes u t ≡ true → ⊥
 not_after_under k t u h p q =
     grind (arith, ints, h.deadline, h.number, told k.deadline u.entry.d k.number u.number, told u.entry.d t.entry.d u.number t.number)
 
-not_before_over : (k : Key) (t u : Task) → HasKey k t → is_over k u ≡ true → precedes t u ≡ true → ⊥
+not_before_over : (k : TreeKey) (t u : Task) → HasKey k t → is_over k u ≡ true → precedes t u ≡ true → ⊥
 not_before_over k t u h p q =
     grind (arith, ints, h.deadline, h.number, told u.entry.d k.deadline u.number k.number, told t.entry.d u.entry.d t.number u.number)
 
-not_itself : (k : Key) (t u : Task) → HasKey k t → HasKey k u → precedes t u ≡ true → ⊥
+not_itself : (k : TreeKey) (t u : Task) → HasKey k t → HasKey k u → precedes t u ≡ true → ⊥
 not_itself k t u h g p = grind (arith, ints, h.deadline, h.number, g.deadline, g.number, told t.entry.d u.entry.d t.number u.number)
 
-under_not_itself : (k : Key) (u : Task) → HasKey k u → is_under k u ≡ true → ⊥
+under_not_itself : (k : TreeKey) (u : Task) → HasKey k u → is_under k u ≡ true → ⊥
 under_not_itself k u g p = grind (arith, ints, g.deadline, g.number, told k.deadline u.entry.d k.number u.number)
 
-pub over_not_itself : (k : Key) (u : Task) → HasKey k u → is_over k u ≡ true → ⊥
+pub over_not_itself : (k : TreeKey) (u : Task) → HasKey k u → is_over k u ≡ true → ⊥
 over_not_itself k u g p = grind (arith, ints, g.deadline, g.number, told u.entry.d k.deadline u.number k.number)
 
 -- a key is under a task's, over it, or its own
-pub own_not_under : (k : Key) (u : Task) → is_of k u ≡ true → is_under k u ≡ false
+pub own_not_under : (k : TreeKey) (u : Task) → is_of k u ≡ true → is_under k u ≡ false
 own_not_under k u h = grind (arith, ints, nat_tests)
 
-pub own_not_over : (k : Key) (u : Task) → is_of k u ≡ true → is_over k u ≡ false
+pub own_not_over : (k : TreeKey) (u : Task) → is_of k u ≡ true → is_over k u ≡ false
 own_not_over k u h = grind (arith, ints, nat_tests)
 
-pub over_else : (k : Key) (u : Task) → is_of k u ≡ false → is_under k u ≡ false → is_over k u ≡ true
+pub over_else : (k : TreeKey) (u : Task) → is_of k u ≡ false → is_under k u ≡ false → is_over k u ≡ true
 over_else k u h p = grind (arith, ints, nat_tests)
 
 -- a key that is neither under nor over a task's is its own
-pub own_key : (k : Key) (u : Task) → is_under k u ≡ false → is_over k u ≡ false → HasKey k u
+pub own_key : (k : TreeKey) (u : Task) → is_under k u ≡ false → is_over k u ≡ false → HasKey k u
 own_key k u p q = record {
   deadline = grind (arith, ints, told k.deadline u.entry.d k.number u.number, told u.entry.d k.deadline u.number k.number);
   number = grind (arith, ints, told k.deadline u.entry.d k.number u.number, told u.entry.d k.deadline u.number k.number);
 }
 
-pub of_key : (k : Key) (u : Task) → is_of k u ≡ true → HasKey k u
+pub of_key : (k : TreeKey) (u : Task) → is_of k u ≡ true → HasKey k u
 of_key k u h = own_key k u (own_not_under k u h) (own_not_over k u h)
 
-has_key : (k : Key) (ts : List Task) (t : Task) → IsAtDeadline k.deadline (find_task k.number ts) → find_task k.number ts ≡ Some t → HasKey k t
+has_key : (k : TreeKey) (ts : List Task) (t : Task) → IsAtDeadline k.deadline (find_task k.number ts) → find_task k.number ts ≡ Some t → HasKey k t
 has_key k ts t a h = record {
   deadline = subst (IsAtDeadline k.deadline) h a;
   number = found_number k.number ts t h;
 }
 
 -- where a key leads: the task of its number, if any, stands on that side
-module _ (k : Key) (xs : List Task) (u : Task) (ys : List Task) (o : AreOrdered (xs ++ u ∷ ys))
+module _ (k : TreeKey) (xs : List Task) (u : Task) (ys : List Task) (o : AreOrdered (xs ++ u ∷ ys))
     (a : IsAtDeadline k.deadline (find_task k.number (xs ++ u ∷ ys))) where
   from_middle : (b : Bool) (t : Task) → eqb u.number k.number ≡ b → HasKey k t → cond b (Some u) (find_task k.number ys) ≡ Some t → is_under k u ≡ true → ⊥
   from_middle true t e h f p = let same : u ≡ t = cc in under_not_itself k u (subst (HasKey k) (sym same) h) p
@@ -129,23 +129,23 @@ module _ (k : Key) (xs : List Task) (u : Task) (ys : List Task) (o : AreOrdered 
       first-missed (has_number k.number) xs (u ∷ ys) (missed-left g) ∙ own
 
 -- the same of a list that is known to be so parted
-abbrev pub IsPlaced : Key → List Task → Type 0
+abbrev pub IsPlaced : TreeKey → List Task → Type 0
 IsPlaced k ts = IsAtDeadline k.deadline (find_task k.number ts)
 
-pub find_left : (k : Key) (ts xs : List Task) (u : Task) (ys : List Task) → ts ≡ xs ++ u ∷ ys → AreOrdered ts → IsPlaced k ts → is_under k u ≡ true
+pub find_left : (k : TreeKey) (ts xs : List Task) (u : Task) (ys : List Task) → ts ≡ xs ++ u ∷ ys → AreOrdered ts → IsPlaced k ts → is_under k u ≡ true
     → find_task k.number ts ≡ find_task k.number xs
 find_left k ts xs u ys e o a p = ap (find_task k.number) e ∙ find-under k xs u ys (subst AreOrdered e o) (subst (IsPlaced k) e a) p
 
-pub find_right : (k : Key) (ts xs : List Task) (u : Task) (ys : List Task) → ts ≡ xs ++ u ∷ ys → AreOrdered ts → IsPlaced k ts → is_over k u ≡ true
+pub find_right : (k : TreeKey) (ts xs : List Task) (u : Task) (ys : List Task) → ts ≡ xs ++ u ∷ ys → AreOrdered ts → IsPlaced k ts → is_over k u ≡ true
     → find_task k.number ts ≡ find_task k.number ys
 find_right k ts xs u ys e o a p = ap (find_task k.number) e ∙ find-over k xs u ys (subst AreOrdered e o) (subst (IsPlaced k) e a) p
 
-pub find_own : (k : Key) (ts xs : List Task) (u : Task) (ys : List Task) → ts ≡ xs ++ u ∷ ys → AreOrdered ts → IsPlaced k ts
+pub find_own : (k : TreeKey) (ts xs : List Task) (u : Task) (ys : List Task) → ts ≡ xs ++ u ∷ ys → AreOrdered ts → IsPlaced k ts
     → is_under k u ≡ false → is_over k u ≡ false → find_task k.number ts ≡ Some u
 find_own k ts xs u ys e o a p q =
     ap (find_task k.number) e ∙ find-here k xs u ys (subst AreOrdered e o) (subst (IsPlaced k) e a) (own_key k u p q)
 
-pub placed_on : (k : Key) (ts xs : List Task) → find_task k.number ts ≡ find_task k.number xs → IsPlaced k ts → IsPlaced k xs
+pub placed_on : (k : TreeKey) (ts xs : List Task) → find_task k.number ts ≡ find_task k.number xs → IsPlaced k ts → IsPlaced k xs
 placed_on k ts xs e a = subst (IsAtDeadline k.deadline) e a
 
 pub some_of : (o : Option Task) → is_some o ≡ true → (t : Task) × (o ≡ Some t)

@@ -2,7 +2,7 @@
 use Rattle.std.proofs.Common.{◌≡◌, ℕ, suc, ◌+◌, ◌<◌, Bool, true, false, cond, eqb, List, [], ◌∷◌, ◌++◌, length, length-append, Some, None, refl, sym, subst, ap, ◌∙◌, arith}
 use Rattle.std.specs.Prelude.{is_some}
 use Rattle.std.proofs.lemmas.Bool.Decides.{nat_tests}
-use Rattle.eevdf_queue.specs.{declared.entry.Entry.Entry, declared.task.Task.Task, declared.tree_key.Key.Key}
+use Rattle.eevdf_queue.specs.{declared.entry.Entry.Entry, declared.task.Task.Task, declared.tree_key.TreeKey.TreeKey}
 use Rattle.eevdf_queue.specs.{declared.tree_node.TreeNode.TheInside.Inside, TreeShape.tasks_in, TreeNodes.tasks_of}
 use Rattle.eevdf_queue.specs.TaskLists.{find_task, set_entry}
 use Rattle.eevdf_queue.specs.TreeKeys.{is_under, is_over, Holds}
@@ -11,12 +11,12 @@ use Rattle.eevdf_queue.proofs.TreeOrder.{ordered_left, ordered_right}
 use Rattle.eevdf_queue.proofs.TreeSearch.{HasKey, IsPlaced, find_left, find_right, find-here, missed-left, missed-left_over, not_here, some_of}
 
 -- the key's task stands on a side of a node
-pub record IsBelow (k : Key) (ts xs : List Task) : Type 0 where
+pub record IsBelow (k : TreeKey) (ts xs : List Task) : Type 0 where
   pub fewer : length xs < length ts
   pub holds : Holds k xs
   pub found : find_task k.number ts ≡ find_task k.number xs
 
-module _ (k : Key) (a : Inside) (ts : List Task) (e : ts ≡ tasks_of a) (h : Holds k ts) where
+module _ (k : TreeKey) (a : Inside) (ts : List Task) (e : ts ≡ tasks_of a) (h : Holds k ts) where
   longer : length ts ≡ length (tasks_in a.left) + suc (length (tasks_in a.right))
   longer = ap (λ (z : List Task). length z) e ∙ length-append (tasks_in a.left) (a.task ∷ tasks_in a.right)
 
@@ -41,7 +41,7 @@ module _ (k : Key) (a : Inside) (ts : List Task) (e : ts ≡ tasks_of a) (h : Ho
   found_here g = ap (find_task k.number) e ∙ find-here k (tasks_in a.left) a.task (tasks_in a.right) (subst AreOrdered e h.ordered) (subst (IsPlaced k) e h.placed) g
 
 -- a list in which something is done at the key's task, of a node: it is done on that side, or at the task
-pub record IsEdited (k : Key) (a : Inside) (edit : List Task → List Task) (at : Task → List Task → List Task) (ts : List Task) : Type 0 where
+pub record IsEdited (k : TreeKey) (a : Inside) (edit : List Task → List Task) (at : Task → List Task → List Task) (ts : List Task) : Type 0 where
   pub left : is_under k a.task ≡ true → (xs : List Task) → xs ≡ edit (tasks_in a.left) → xs ++ a.task ∷ tasks_in a.right ≡ edit ts
   pub right : is_over k a.task ≡ true → (ys : List Task) → ys ≡ edit (tasks_in a.right) → tasks_in a.left ++ a.task ∷ ys ≡ edit ts
   pub here : HasKey k a.task → tasks_in a.left ++ at a.task (tasks_in a.right) ≡ edit ts
@@ -49,7 +49,7 @@ pub record IsEdited (k : Key) (a : Inside) (edit : List Task → List Task) (at 
 same_number : (m n : ℕ) → m ≡ n → eqb m n ≡ true
 same_number m n h = grind (arith, nat_tests)
 
-module _ (k : Key) (edit : List Task → List Task) (at : Task → List Task → List Task) (none : edit [] ≡ [])
+module _ (k : TreeKey) (edit : List Task → List Task) (at : Task → List Task → List Task) (none : edit [] ≡ [])
     (more : (t : Task) (ts : List Task) → edit (t ∷ ts) ≡ cond (eqb t.number k.number) (at t ts) (t ∷ edit ts))
     (before : (t : Task) (xs ys : List Task) → at t (xs ++ ys) ≡ at t xs ++ ys) where
   edit-found : (xs ys : List Task) (t : Task) → find_task k.number xs ≡ Some t → edit (xs ++ ys) ≡ edit xs ++ ys
@@ -83,10 +83,10 @@ module _ (k : Key) (edit : List Task → List Task) (at : Task → List Task →
       }
 
 -- the task taken out
-pub taken_out : (k : Key) (a : Inside) (ts : List Task) → ts ≡ tasks_of a → Holds k ts → IsEdited k a (without k.number) (λ t ts. ts) ts
+pub taken_out : (k : TreeKey) (a : Inside) (ts : List Task) → ts ≡ tasks_of a → Holds k ts → IsEdited k a (without k.number) (λ t ts. ts) ts
 taken_out k = edited k (without k.number) (λ t ts. ts) refl (λ t ts. refl) (λ t xs ys. refl)
 
 -- and with another entry
-pub entry_set : (e : Entry) (k : Key) (a : Inside) (ts : List Task) → ts ≡ tasks_of a → Holds k ts
+pub entry_set : (e : Entry) (k : TreeKey) (a : Inside) (ts : List Task) → ts ≡ tasks_of a → Holds k ts
     → IsEdited k a (set_entry k.number e) (λ t ts. record t { entry = e } ∷ ts) ts
 entry_set e k = edited k (set_entry k.number e) (λ t ts. record t { entry = e } ∷ ts) refl (λ t ts. refl) (λ t xs ys. refl)

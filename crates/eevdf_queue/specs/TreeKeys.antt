@@ -1,22 +1,22 @@
 -- Keys against tasks, and lists of tasks that hold a key.
 use Rattle.std.specs.Prelude.{◌≡◌, ◌≤◌, ◌^◌, true, List, length, is_some, nat_eq, nat_lt, int_lt, Bool, ◌&&◌, ◌||◌, not}
-use Rattle.eevdf_queue.specs.{declared.task.Task.Task, declared.tree_key.Key.Key}
+use Rattle.eevdf_queue.specs.{declared.task.Task.Task, declared.tree_key.TreeKey.TreeKey}
 use Rattle.eevdf_queue.specs.{TaskLists.find_task, TreeTasks.AreOrdered, TreeTasks.IsAtDeadline}
 
 -- the key is a task's own
-abbrev pub is_of : Key → Task → Bool
+abbrev pub is_of : TreeKey → Task → Bool
 is_of k t = not (int_lt k.deadline t.entry.d) && (not (int_lt t.entry.d k.deadline) && nat_eq k.number t.number)
 
 -- the key comes before a task's
-abbrev pub is_under : Key → Task → Bool
+abbrev pub is_under : TreeKey → Task → Bool
 is_under k t = int_lt k.deadline t.entry.d || (not (int_lt t.entry.d k.deadline) && nat_lt k.number t.number)
 
 -- the key comes after a task's
-abbrev pub is_over : Key → Task → Bool
+abbrev pub is_over : TreeKey → Task → Bool
 is_over k t = int_lt t.entry.d k.deadline || (not (int_lt k.deadline t.entry.d) && nat_lt t.number k.number)
 
 -- the keys rise, and the task of the key's number is here, at the key
-pub record Holds (k : Key) (ts : List Task) : Type 0 where
+pub record Holds (k : TreeKey) (ts : List Task) : Type 0 where
   pub ordered : AreOrdered ts
   pub few : length ts ≤ 2 ^ 20
   pub here : is_some (find_task k.number ts) ≡ true

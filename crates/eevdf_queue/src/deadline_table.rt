@@ -3,7 +3,7 @@ ghost use Rattle.eevdf_queue.specs.TreeStores.{deadline_at};
 
 use crate::entry::Entry;
 use crate::task_id::TaskId;
-use crate::tree_key::Key;
+use crate::tree_key::TreeKey;
 use std::marker::Model;
 
 /// The deadlines of runnable tasks by number, so that a task that is named by its number alone is found by a
@@ -30,11 +30,11 @@ impl DeadlineTable {
     }
 
     /// The key that the table gives to a number.
-    pub fn key(&self, number: TaskId) -> Key
+    pub fn key(&self, number: TaskId) -> TreeKey
         ensures number { result.number ≡ number }
         ensures deadline { result.deadline ≡ deadline_at self.now number }
     {
-        Key {
+        TreeKey {
             deadline: self.by_number[number.index()],
             number,
         }

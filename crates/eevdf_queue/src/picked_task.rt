@@ -3,7 +3,7 @@ ghost use Rattle.std.specs.Prelude.{◌≡◌, true, false};
 use crate::entry::Entry;
 use crate::task::Task;
 use crate::task_id::TaskId;
-use crate::tree_key::Key;
+use crate::tree_key::TreeKey;
 use eevdf_weight::{Nice, Slice};
 
 /// What is known of the task that was picked last without a descent to it: its entry but for the deadline, which the
@@ -56,7 +56,7 @@ impl PickedTask {
     }
 
     /// The entry with the deadline of a key.
-    pub fn entry(&self, key: &Key) -> Entry
+    pub fn entry(&self, key: &TreeKey) -> Entry
         ensures { result ≡ record {
           v = self.now.runtime;
           d = key.now.deadline;

@@ -21,7 +21,7 @@ use crate::task_tree::TaskTree;
 use crate::totals::Totals;
 use crate::totals_edit::{aged, exchanged, share, with_share, without_share};
 use crate::tree_eligible::Threshold;
-use crate::tree_key::Key;
+use crate::tree_key::TreeKey;
 use crate::tree_node::{Found, TreeNode};
 use std::marker::Model;
 
@@ -154,7 +154,7 @@ impl RunnableTasks {
     {
         self.picked.known = false;
         self.totals = aged(&self.totals, older, newer);
-        let key = Key::of(task, older);
+        let key = TreeKey::of(task, older);
         self.tree.age(&key, older, newer);
     }
 

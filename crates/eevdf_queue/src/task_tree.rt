@@ -10,7 +10,7 @@ use crate::running::is_running;
 use crate::task::Task;
 use crate::task_id::TaskId;
 use crate::tree_eligible::Threshold;
-use crate::tree_key::Key;
+use crate::tree_key::TreeKey;
 use crate::tree_node::{
     Found, Runtimes, TreeNode, age, find, first_eligible, insert, last_task, last_waiting, remove,
 };
@@ -54,7 +54,7 @@ impl TaskTree {
     }
 
     /// The task of a key's number, which stands at the key where it is here.
-    pub fn find(&self, key: &Key) -> Option<Task>
+    pub fn find(&self, key: &TreeKey) -> Option<Task>
         requires { IsAtDeadline key.now.deadline (find_task key.now.number self.now) }
         ensures { result ≡ find_task key.now.number self.now }
     {
@@ -75,7 +75,7 @@ impl TaskTree {
     /// Gives the task of a key, which is here with an older entry, one of another virtual runtime, which isn't less than
     /// before.
     #[inline(always)]
-    pub fn age(&mut self, key: &Key, older: &Entry, newer: &Entry)
+    pub fn age(&mut self, key: &TreeKey, older: &Entry, newer: &Entry)
         requires here { option_map (λ t. t.entry) (find_task key.now.number self.old)
             ≡ Some older.now }
         requires placed { IsAtDeadline key.now.deadline (find_task key.now.number self.old) }
@@ -88,7 +88,7 @@ impl TaskTree {
     }
 
     /// Takes out the task of a key, which is here, in its node.
-    pub fn remove(&mut self, key: &Key) -> Box<TreeNode>
+    pub fn remove(&mut self, key: &TreeKey) -> Box<TreeNode>
         requires here { is_some (find_task key.now.number self.old) ≡ true }
         requires placed { IsAtDeadline key.now.deadline (find_task key.now.number self.old) }
         ensures alone { IsAlone result.value }

@@ -8,17 +8,17 @@ use crate::task_id::TaskId;
 
 /// What places a task in a tree: the deadline, then the number.
 #[derive(Clone, Copy)]
-pub struct Key {
+pub struct TreeKey {
     pub deadline: i64,
     pub number: TaskId,
 }
 
-impl Key {
+impl TreeKey {
     /// The key of a task with this number and entry.
-    pub fn of(number: TaskId, entry: &Entry) -> Key
+    pub fn of(number: TaskId, entry: &Entry) -> TreeKey
         ensures { result ≡ record { deadline = entry.now.d; number = number } }
     {
-        Key {
+        TreeKey {
             deadline: entry.d,
             number,
         }

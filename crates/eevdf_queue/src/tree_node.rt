@@ -18,7 +18,7 @@ use crate::running::is_running;
 use crate::task::Task;
 use crate::task_id::TaskId;
 use crate::tree_eligible::{Threshold, is_least_eligible, is_task_eligible};
-use crate::tree_key::Key;
+use crate::tree_key::TreeKey;
 use crate::tree_least::Least;
 use std::marker::Model;
 pub use tree_age::{Runtimes, age};
@@ -178,7 +178,7 @@ fn least_around(left: &Option<Box<TreeNode>>, task: &Task, right: &Option<Box<Tr
 }
 
 /// The task of a key's number, which stands at the key where it is here.
-pub fn find(link: &Option<Box<TreeNode>>, key: &Key) -> Option<Task>
+pub fn find(link: &Option<Box<TreeNode>>, key: &TreeKey) -> Option<Task>
     requires ordered { AreOrdered (tasks_in link.now) }
     requires placed { IsAtDeadline key.now.deadline (find_task key.now.number (tasks_in link.now)) }
     ensures { result ≡ find_task key.now.number (tasks_in link.now) }

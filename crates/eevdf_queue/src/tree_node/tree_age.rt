@@ -9,7 +9,7 @@ use super::TreeNode;
 use super::node_parts::look_around;
 use crate::entry::Entry;
 use crate::task::Task;
-use crate::tree_key::Key;
+use crate::tree_key::TreeKey;
 use crate::tree_least::Least;
 
 /// The virtual runtime that a task had, and the one that it gets.
@@ -44,7 +44,7 @@ impl Runtimes {
 /// Gives a key's task, which stands below a link, a virtual runtime that isn't less than before. A least virtual runtime
 /// below the older one is another task's and stays, so on the way down over such nodes nothing is left to be
 /// corrected.
-pub fn age(link: &mut Option<Box<TreeNode>>, key: Key, runtimes: Runtimes)
+pub fn age(link: &mut Option<Box<TreeNode>>, key: TreeKey, runtimes: Runtimes)
     requires holds { Holds key (tasks_in link.old) }
     requires above { IfSome (find_task key.number (tasks_in link.old))
         (λ t. runtimes.older ≤ℤ t.entry.v) }
@@ -76,7 +76,7 @@ pub fn age(link: &mut Option<Box<TreeNode>>, key: Key, runtimes: Runtimes)
 
 /// The same where the least virtual runtimes may become others, which are made right on the way back. Answers the one below
 /// the link.
-fn age_least(link: &mut Option<Box<TreeNode>>, key: Key, runtimes: Runtimes) -> Least
+fn age_least(link: &mut Option<Box<TreeNode>>, key: TreeKey, runtimes: Runtimes) -> Least
     requires { Holds key (tasks_in link.old) }
     ensures tasks { (e : Entry)
         → option_map (λ t. record t.entry { v = runtimes.newer })

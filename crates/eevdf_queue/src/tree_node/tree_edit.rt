@@ -11,7 +11,7 @@ use super::TreeNode;
 use super::node_parts::{correct, part_from, raise};
 use crate::task::Task;
 use crate::tree_change::TreeChange;
-use crate::tree_key::{Key, precedes};
+use crate::tree_key::{TreeKey, precedes};
 use std::mem;
 
 /// Puts a node that is alone below a link, where keys rise. The least virtual runtimes are made right on the way down.
@@ -57,7 +57,7 @@ pub struct Taken {
 
 /// Takes the task of a key, which stands below a link, out, in its node. Where neither the height nor the least
 /// virtual runtime has changed, nothing above is to be corrected.
-pub fn remove(link: &mut Option<Box<TreeNode>>, key: &Key) -> Taken
+pub fn remove(link: &mut Option<Box<TreeNode>>, key: &TreeKey) -> Taken
     requires { Holds key.now (tasks_in link.old) }
     ensures alone { IsAlone result.node.value }
     ensures task { find_task key.now.number (tasks_in link.old)

@@ -1,7 +1,7 @@
 use Rattle.std.proofs.Common.{◌≡◌, ◌∙◌, ◌+◌, ℕ, false, true, refl, ap, sym, subst}
 use Rattle.std.specs.{Prelude.ℤ, Prelude.pos, Prelude.◌+ℤ◌, Prelude.◌*ℤ◌, Prelude.is_some, Option.option_map}
 use Rattle.eevdf_weight.specs.Weight.{weight_of}
-use Rattle.eevdf_queue.specs.{declared.entry.Entry.Entry, declared.task.Task.Task, declared.tree_key.Key.Key, TreeTasks.IsAtDeadline}
+use Rattle.eevdf_queue.specs.{declared.entry.Entry.Entry, declared.task.Task.Task, declared.tree_key.TreeKey.TreeKey, TreeTasks.IsAtDeadline}
 use Rattle.eevdf_queue.specs.TaskLists.{find_task, set_entry}
 use Rattle.eevdf_queue.proofs.{TreeMaps.entry_here, TreeAge.at_deadline, TreeChange.stored-set, TreeChange.set_seen, PickedTasks.sums_kept}
 use Rattle.eevdf_queue.proofs.TreeTotals.{totals-set, totals_near, entry_found}
@@ -13,15 +13,15 @@ aged-self-inside-requires-clause-small c = totals_near c.self.inside.deadlines c
 
 pub age-requires-clause-here : goal.age-requires-clause-here
 age-requires-clause-here c =
-    ap (λ (k : Key). option_map (λ (t : Task). t.entry) (find_task k.number c.self.inside.tree)) c.of-key.ensures ∙ entry_here c.args.task c.args.older.now c.self.inside.tree c.args.self.now c.self.view_is c.requires.here
+    ap (λ (k : TreeKey). option_map (λ (t : Task). t.entry) (find_task k.number c.self.inside.tree)) c.of-key.ensures ∙ entry_here c.args.task c.args.older.now c.self.inside.tree c.args.self.now c.self.view_is c.requires.here
 
 pub age-requires-clause-placed : goal.age-requires-clause-placed
 age-requires-clause-placed c =
-    subst (λ (k : Key). IsAtDeadline k.deadline (find_task k.number c.self.inside.tree)) (sym c.of-key.ensures)
+    subst (λ (k : TreeKey). IsAtDeadline k.deadline (find_task k.number c.self.inside.tree)) (sym c.of-key.ensures)
     (at_deadline c.args.older.now c.args.older.now.d (find_task c.args.task c.self.inside.tree) (entry_here c.args.task c.args.older.now c.self.inside.tree c.args.self.now c.self.view_is c.requires.here) refl)
 
 changed : (c : After-age) → c.age.new.self ≡ set_entry c.args.task c.args.newer.now c.self.inside.tree
-changed c = c.age.ensures ∙ ap (λ (k : Key). set_entry k.number c.args.newer.now c.self.inside.tree) c.of-key.ensures
+changed c = c.age.ensures ∙ ap (λ (k : TreeKey). set_entry k.number c.args.newer.now c.self.inside.tree) c.of-key.ensures
 
 pub invariant_of-self : goal.invariant_of-self
 invariant_of-self c =
