@@ -6,8 +6,8 @@ use Rattle.std.proofs.{lemmas.Bool.and_parts, lemmas.Bool.cases_Bool, lemmas.Boo
 use Rattle.std.proofs.{lemmas.Fmt.digits_decimal, lemmas.Int.ints, lemmas.Option.none-some, lemmas.Option.cond_some}
 use Rattle.eevdf_weight.specs.Limits.{checked_level, is_nice_level}
 use Rattle.eevdf_workload.specs.Words.{words, number, below_zero, signed_number, level_in}
-use Rattle.eevdf_workload.proofs.{ReadingWords.digits, ReadingLevels.is_sign}
-use Rattle.eevdf_bench.proofs.ReadingPrinted.{number-decimal, decimal-number, words-decimal}
+use Rattle.eevdf_workload.proofs.ReadingLevels.{is_sign}
+use Rattle.eevdf_bench.proofs.ReadingPrinted.{digits, number-decimal, decimal-number, words-decimal}
 
 few_above : (n : ℕ) → is_nice_level (pos n) ≡ true → n < 2 ^ 64
 few_above n h = grind (arith, ints, nat_tests)

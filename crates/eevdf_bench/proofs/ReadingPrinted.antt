@@ -1,12 +1,20 @@
 -- Printed numbers are read back, and nothing else is read as them.
-use Rattle.std.proofs.Common.{◌≡◌, ℕ, zero, suc, ◌<◌, ◌^◌, true, false, eqb, List, [], ◌∷◌, ◌++◌, length, get_or, Some, refl, ap, sym, ◌∙◌, inl, inr, arith}
+use Rattle.std.proofs.Common.{◌≡◌, ◌≢◌, ℕ, zero, suc, ◌<◌, ◌≤◌, ◌^◌, true, List, [], ◌∷◌, ◌++◌, length, get_or, Some, refl, ap, sym, ◌∙◌, inl, inr, arith, rules}
 use Rattle.std.specs.{Fmt.decimal, Char.is_ascii_digit, List.list_all, List.join_with_byte, Str.Parse.digits_value}
 use Rattle.std.proofs.lemmas.Bool.{and_parts, cases_Bool, false≢true}
 use Rattle.std.proofs.{lemmas.Bool.Decides.nat_tests, lemmas.Option.same_Some, lemmas.Option.none-some}
 use Rattle.std.proofs.lemmas.List.Splits.{join_with_byte-slice_split}
 use Rattle.std.proofs.lemmas.Fmt.{decimal_digit, decimal_nonempty, first_decimal, digits_decimal, digits_value-decimal, decimal-digits_value}
+use Rattle.std.proofs.lemmas.Str.Parse.{IsNumeralModel, numerals_by_value}
 use Rattle.eevdf_workload.specs.Words.{words, is_number, number}
-use Rattle.eevdf_workload.proofs.ReadingWords.{digits, has_digits, is_number-no_zero}
+use Rattle.eevdf_workload.proofs.ReadingWords.{digit_is_no_space, has_digits, words-digits}
+
+is_number-no_zero : (word : List ℕ) → 1 ≤ length word → get_or word 0 0 ≢ 48 → is_number word ≡ list_all is_ascii_digit word
+is_number-no_zero [] h n = absurd (omega arith)
+is_number-no_zero (c ∷ cs) h n = grind (arith, nat_tests)
+
+pub digits : IsNumeralModel (λ ds. list_all is_ascii_digit ds ≡ true) (digits_value 10)
+digits = numerals_by_value _ (search rules)
 
 is_number-decimal : (n : ℕ) → n < 2 ^ 64 → is_number (decimal n) ≡ true
 is_number-decimal zero h = rw (decimal_digit 0 (omega arith))
@@ -36,22 +44,8 @@ decimal-number word n read h =
       | inr other ↦ absurd (none-some n (rw other at read))
     ]
 
-digit_is_no_space : (c : ℕ) → is_ascii_digit c ≡ true → eqb c 32 ≡ false
-digit_is_no_space c h = grind (arith, nat_tests)
-
--- digits are one word
-word_of_digits : (c : ℕ) (ds : List ℕ) → list_all is_ascii_digit (c ∷ ds) ≡ true → words (c ∷ ds) ≡ (c ∷ ds) ∷ []
-word_of_digits c [] h = rw (digit_is_no_space c (and_parts (is_ascii_digit c) true h).0)
-word_of_digits c (d ∷ ds) h =
-    let (here, more) = and_parts (is_ascii_digit c) (list_all is_ascii_digit (d ∷ ds)) h in
-    rw (digit_is_no_space c here, word_of_digits d ds more)
-
-one_word : (ds : List ℕ) → 0 < length ds → list_all is_ascii_digit ds ≡ true → words ds ≡ ds ∷ []
-one_word [] some h = absurd (omega arith)
-one_word (c ∷ ds) some h = word_of_digits c ds h
-
 pub words-decimal : (n : ℕ) → n < 2 ^ 64 → words (decimal n) ≡ decimal n ∷ []
-words-decimal n h = one_word (decimal n) (decimal_nonempty n h) (digits_decimal digits n h)
+words-decimal n h = words-digits (decimal n) (digits_decimal digits n h)
 
 -- a text is its words, with a space between each two
 pub joined_words : (text : List ℕ) → join_with_byte 32 (words text) ≡ text

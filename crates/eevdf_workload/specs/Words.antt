@@ -1,16 +1,22 @@
 -- The words of a string, and the operation or the deed that they name.
-use Rattle.std.specs.Prelude.{codes, ℕ, zero, suc, ◌==◌, ◌^◌, nat_lt, ℤ, pos, negsuc, Bool, false, if◌then◌else◌, List, [], ◌∷◌, length, Option, Some, None, option_map, option_and_then}
-use Rattle.std.specs.{List.slice_split, List.list_all, Str.bytes_eq, Char.is_ascii_digit, Str.Parse.digits_value}
+use Rattle.std.specs.Prelude.{codes, ◌≡◌, MatchOption, ℕ, zero, suc, ◌==◌, ◌^◌, nat_lt, ℤ, pos, negsuc, Bool, false, if◌then◌else◌, List, [], ◌∷◌, length, Option, Some, None, option_map, option_and_then}
+use Rattle.std.specs.{Borrow.Bor, List.slice_split, List.list_all, Str.bytes_eq, Char.is_ascii_digit, Str.Parse.digits_value, Str.Parse.digits_value_after}
 use Rattle.eevdf_weight.specs.Limits.{checked_level, checked_tick}
 use Rattle.eevdf_queue.specs.Numbers.{checked_number}
 use Rattle.eevdf_ops.specs.{declared.deeds.Op.Op, Programs.deed_of, declared.deeds.Deed.Deed}
 use Rattle.eevdf_ops.specs.declared.deeds.Op.TheVariants as op
 use Rattle.eevdf_ops.specs.declared.deeds.Deed.TheVariants as deed
-use Rattle.eevdf_workload.specs.{declared.version.Limits.Limits, Versions.cpu_within}
+use Rattle.eevdf_workload.specs.{declared.version.Limits.Limits, declared.reading.verb_text.Verb.Verb, Versions.cpu_within}
+use Rattle.eevdf_workload.specs.declared.reading.verb_text.Verb.TheVariants as verb
 
 -- what stands between the single spaces of a text
 abbrev pub words : List ℕ → List (List ℕ)
 words text = slice_split (λ b. b == 32) text
+
+-- the words of a text that stands behind a space, if there is one
+abbrev pub words_left : Option (Bor (List ℕ)) → List (List ℕ)
+words_left None = []
+words_left (Some text) = words text.now
 
 -- `0`, or a digit from 1 to 9 followed by digits
 abbrev pub is_number : List ℕ → Bool
@@ -24,6 +30,20 @@ number word = if is_number word then Some (digits_value 10 word) else None
 -- a number that has at most 64 bits
 abbrev pub fitting : ℕ → Option ℕ
 fitting n = if nat_lt n (2 ^ 64) then Some n else None
+
+-- the number of at most 64 bits that the first word writes
+abbrev pub first_number : List (List ℕ) → Option ℕ
+first_number [] = None
+first_number (word ∷ ws) = option_and_then fitting (number word)
+
+-- the number that the digits of the first word write where they follow those of n
+abbrev pub number_on : ℕ → List (List ℕ) → Option ℕ
+number_on n [] = None
+number_on n (word ∷ ws) = if list_all is_ascii_digit word then fitting (digits_value_after 10 n word) else None
+
+-- what is split off a text: the number of its first word, and the text that the words behind it stand in
+abbrev pub IsSplitOff : Option ℕ → List (List ℕ) → Option (ℕ × Option (Bor (List ℕ))) → Type 0
+IsSplitOff number behind result = MatchOption result (number ≡ None) (λ r. (number ≡ Some r.0) × (words_left r.1 ≡ behind))
 
 -- the number so far below 0; 0 isn't below itself
 abbrev pub below_zero : ℕ → Option ℤ
@@ -77,6 +97,19 @@ alone o _ = None
 abbrev pub renice_of : List (List ℕ) → Option Op
 renice_of [] = None
 renice_of (word ∷ ws) = option_and_then (λ task. option_map (op.Renice task) (only_level ws)) (task_in word)
+
+-- what a word says that is done
+abbrev pub verb_of : List ℕ → Option Verb
+verb_of word =
+    if bytes_eq word (codes "renice") then Some verb.Renice
+    else if bytes_eq word (codes "tick") then Some verb.Tick
+    else if bytes_eq word (codes "pick") then Some verb.Pick
+    else if bytes_eq word (codes "yield") then Some verb.Yield
+    else if bytes_eq word (codes "sleep") then Some verb.Sleep
+    else if bytes_eq word (codes "post") then Some verb.Post
+    else if bytes_eq word (codes "drain") then Some verb.Drain
+    else if bytes_eq word (codes "pull") then Some verb.Pull
+    else None
 
 -- the operation that the first word names, with the other words as its arguments
 abbrev pub operation_of : Limits → List ℕ → List (List ℕ) → Option Op

@@ -13,6 +13,7 @@ mod no_memory;
 mod number_text;
 mod operation_text;
 mod task_table;
+mod verb_text;
 mod word_list;
 
 use crate::load_fault::{Key, LoadFault};

@@ -6,18 +6,19 @@ use crate::reading::number_text::number;
 use eevdf_weight::Nice;
 
 /// The nice level that a word writes: a number, or `-` before a number from 1 on.
-pub(crate) fn level(word: &str) -> Option<Nice>
+#[tactic(auto, using(crate::proofs::ReadingLevels::without_sign))]
+pub(crate) fn level(word: &[u8]) -> Option<Nice>
     ensures { result ≡ level_in word.now }
 {
-    match word.strip_prefix('-') {
-        Some(digits) => level_below_zero(number(digits)?),
-        None => level_from_zero(word),
+    match word {
+        [b'-', digits @ ..] => level_below_zero(number(digits)?),
+        _ => level_from_zero(word),
     }
 }
 
 // The level that a word without a sign writes.
 #[tactic(auto, using(crate::proofs::ReadingLevels::fitting_level))]
-fn level_from_zero(word: &str) -> Option<Nice>
+fn level_from_zero(word: &[u8]) -> Option<Nice>
     ensures { result ≡ option_and_then checked_level (option_map pos (number word.now)) }
 {
     Nice::new(i64::try_from(number(word)?).ok()?)

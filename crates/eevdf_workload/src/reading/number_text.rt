@@ -1,32 +1,65 @@
-ghost use Rattle.std.specs.{Prelude.◌≡◌, Prelude.option_and_then, Char.is_ascii_digit, List.list_all};
-ghost use Rattle.eevdf_workload.specs.Words.{is_number, number, fitting};
+ghost use Rattle.std.specs.Prelude.{◌≡◌, ◌∷◌, drop, option_and_then};
+ghost use Rattle.eevdf_workload.specs.Words.{first_number, fitting, number, number_on, words, IsSplitOff};
 
 /// The number that a word writes: `0`, or a digit from 1 to 9 followed by digits. `None` also where it
 /// doesn't fit its type.
-#[tactic(auto, unfolding(crate::specs::Words::number))]
-pub(crate) fn number(word: &str) -> Option<u64>
+#[tactic(auto, using(crate::proofs::ReadingWords::number_none, crate::proofs::ReadingWords::number_some, crate::proofs::ReadingWords::number_more))]
+pub(crate) fn number(word: &[u8]) -> Option<u64>
     ensures { result ≡ option_and_then fitting (number word.now) }
 {
-    if is_number(word) {
-        word.parse().ok()
+    match split_number(word)? {
+        (number, None) => Some(number),
+        _ => None,
+    }
+}
+
+/// The number that the first word of a text writes, and what stands after the space behind it, if there is one.
+#[tactic(auto, using(crate::proofs::ReadingWords::empty_text, crate::proofs::ReadingWords::first_digit, crate::proofs::ReadingWords::no_digit))]
+pub(crate) fn split_number(text: &[u8]) -> Option<(u64, Option<&[u8]>)>
+    ensures { IsSplitOff (first_number (words text.now)) (drop 1 (words text.now)) result }
+{
+    let [first, after @ ..] = text else {
+        return None;
+    };
+    if *first == b'0' {
+        split_zero(after)
+    } else if first.is_ascii_digit() {
+        split_digits(text)
     } else {
         None
     }
 }
 
-// A word that doesn't begin with `0` has digits alone.
-fn is_number(word: &str) -> bool
-    ensures { result ≡ is_number word.now }
+// The same for the text that has `0` before this one.
+#[tactic(auto, using(crate::proofs::ReadingWords::zero_alone, crate::proofs::ReadingWords::zero_before, crate::proofs::ReadingWords::zero_within))]
+fn split_zero(after: &[u8]) -> Option<(u64, Option<&[u8]>)>
+    ensures { IsSplitOff (first_number (words (48 ∷ after.now)))
+        (drop 1 (words (48 ∷ after.now))) result }
 {
-    match word.as_bytes() {
-        [] => false,
-        [first] if *first == b'0' => true,
-        [first, ..] => *first != b'0' && has_digits_alone(word.as_bytes()),
+    match after {
+        [] => Some((0, None)),
+        [b' ', left @ ..] => Some((0, Some(left))),
+        _ => None,
     }
 }
 
-fn has_digits_alone(word: &[u8]) -> bool
-    ensures { result ≡ list_all is_ascii_digit word.now }
+// The same for a text that begins with a digit from 1 to 9.
+fn split_digits(text: &[u8]) -> Option<(u64, Option<&[u8]>)>
+    ensures { IsSplitOff (number_on 0 (words text.now)) (drop 1 (words text.now)) result }
 {
-    word.iter().all(|byte| byte.is_ascii_digit())
+    let mut number: u64 = 0;
+    let mut left = text;
+    'digits: while let [byte, after @ ..] = left {
+        match *byte {
+            b'0'..=b'9' => {
+                number = number
+                    .checked_mul(10)?
+                    .checked_add(u64::from(*byte - b'0'))?;
+                left = after;
+            }
+            b' ' => return Some((number, Some(after))),
+            _ => return None,
+        }
+    }
+    Some((number, None))
 }

@@ -1,35 +1,38 @@
 ghost use Rattle.std.specs.Prelude.{◌≡◌};
 ghost use Rattle.eevdf_workload.specs.Words.{alone, operation, operation_of, renice_of, words};
 
-use crate::reading::argument_words::{only_cpu, only_level, only_task, only_time, task};
+use crate::reading::argument_words::{only_cpu, only_level, only_task, only_time};
+use crate::reading::verb_text::Verb;
 use crate::reading::word_list::Words;
 use crate::version::Limits;
 use eevdf_ops::Op;
+use eevdf_queue::TaskId;
 
 /// The operation that a text is.
 #[tactic(auto, unfolding(crate::specs::Words::operation))]
 pub(crate) fn operation(limits: Limits, text: &str) -> Option<Op>
     ensures { result ≡ operation limits (words text.now) }
 {
-    let mut words = Words::new(text);
+    let mut words = Words::new(text.as_bytes());
     let verb = words.next()?;
     operation_of(limits, verb, words)
 }
 
 /// The operation that a word names, with the words after it as its arguments.
-pub(crate) fn operation_of(limits: Limits, verb: &str, arguments: Words) -> Option<Op>
+#[inline(always)]
+pub(crate) fn operation_of(limits: Limits, verb: &[u8], arguments: Words) -> Option<Op>
     ensures { result ≡ operation_of limits verb.now arguments.entry }
 {
-    match verb {
-        "tick" => Some(Op::Tick(only_time(arguments)?)),
-        "pick" => alone(Op::Pick, arguments),
-        "yield" => alone(Op::Yield, arguments),
-        "sleep" => Some(Op::Sleep(only_task(arguments)?)),
-        "post" => Some(Op::Post(only_task(arguments)?)),
-        "drain" => alone(Op::Drain, arguments),
-        "pull" => Some(Op::Pull(only_cpu(limits, arguments)?)),
-        "renice" if limits.renice => renice(arguments),
-        _ => None,
+    match Verb::of(verb)? {
+        Verb::Tick => Some(Op::Tick(only_time(arguments)?)),
+        Verb::Pick => alone(Op::Pick, arguments),
+        Verb::Yield => alone(Op::Yield, arguments),
+        Verb::Sleep => Some(Op::Sleep(only_task(arguments)?)),
+        Verb::Post => Some(Op::Post(only_task(arguments)?)),
+        Verb::Drain => alone(Op::Drain, arguments),
+        Verb::Pull => Some(Op::Pull(only_cpu(limits, arguments)?)),
+        Verb::Renice if limits.renice => renice(arguments),
+        Verb::Renice => None,
     }
 }
 
@@ -37,7 +40,7 @@ pub(crate) fn operation_of(limits: Limits, verb: &str, arguments: Words) -> Opti
 fn renice(mut arguments: Words) -> Option<Op>
     ensures { result ≡ renice_of arguments.entry }
 {
-    let task = task(arguments.next()?)?;
+    let task = TaskId::new(arguments.next_number()?)?;
     let nice = only_level(arguments)?;
     Some(Op::Renice(task, nice))
 }

@@ -1,19 +1,18 @@
-use Rattle.std.proofs.Common.{◌≡◌, [], ap, List, ℕ, Bor, ◌∙◌, sym, arith}
-use Rattle.std.proofs.lemmas.Str.Pattern.{split_once_first}
-use Rattle.std.specs.Option.{option_map_or}
-use Rattle.eevdf_workload.specs.Words.{words}
-use Rattle.eevdf_workload.proofs.ReadingWords.{words-first, words-last}
+use Rattle.std.proofs.Common.{◌≡◌, ap, sym, ◌∙◌, eqb, rules, tests}
+use Rattle.std.proofs.lemmas.Iterator.{YieldsList-from_slice}
+use Rattle.std.proofs.lemmas.Iterator.Search.{position_from_yields_List}
+use Rattle.eevdf_workload.specs.Words.{words, words_left}
+use Rattle.eevdf_workload.proofs.ReadingWords.{words_before, words_whole}
 use Rattle.eevdf_workload.proofs.reading.word_list.Words.next.Goals as goal
 
 pub returns-in-Some : goal.returns-in-Some
 returns-in-Some c =
-    let start : words c.in_ok-rest.rest.now ≡ c.args.self.now = ap (λ r. option_map_or (λ (x : Bor (List ℕ)). words x.now) r []) (sym c.in_ok-rest.was ∙ c.take.ensures.value) ∙ c.self.view_is in
-    let cut = split_once_first 32 c.in_ok-rest.rest.now c.split_once.result c.split_once.ensures.cases (omega arith) in
-    let (h, first, after) = rw c.in-Some.is at cut in
-    sym start ∙ words-first _ _ _ h first after
+    let start : words c.in_ok-rest.rest.now ≡ c.args.self.now = ap words_left (sym c.in_ok-rest.was ∙ c.take.ensures.value) ∙ c.self.view_is in
+    let found = position_from_yields_List (λ b. eqb b 32) _ _ c.position.result c.position.ensures.ran (YieldsList-from_slice c.in_ok-rest.rest.now c.iter.ensures.rest) (λ x b q k. search (rules, tests)) in
+    sym start ∙ words_before c.in_ok-rest.rest.now c.in-Some.end (sym found ∙ c.in-Some.is)
 
 pub returns-in-None : goal.returns-in-None
 returns-in-None c =
-    let start : words c.in_ok-rest.rest.now ≡ c.args.self.now = ap (λ r. option_map_or (λ (x : Bor (List ℕ)). words x.now) r []) (sym c.in_ok-rest.was ∙ c.take.ensures.value) ∙ c.self.view_is in
-    let whole = split_once_first 32 c.in_ok-rest.rest.now c.split_once.result c.split_once.ensures.cases (omega arith) in
-    rw c.take.ensures.after (sym start ∙ words-last _ (rw c.in-None.is at whole))
+    let start : words c.in_ok-rest.rest.now ≡ c.args.self.now = ap words_left (sym c.in_ok-rest.was ∙ c.take.ensures.value) ∙ c.self.view_is in
+    let found = position_from_yields_List (λ b. eqb b 32) _ _ c.position.result c.position.ensures.ran (YieldsList-from_slice c.in_ok-rest.rest.now c.iter.ensures.rest) (λ x b q k. search (rules, tests)) in
+    rw c.take.ensures.after (sym start ∙ words_whole c.in_ok-rest.rest.now (sym found ∙ c.in-None.is))
