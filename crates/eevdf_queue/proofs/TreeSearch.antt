@@ -1,10 +1,10 @@
 -- What is found in a list of tasks from what stands on either side of one.
 use Rattle.std.proofs.Common.{◌≡◌, ℕ, Bool, true, false, cond, eqb, List, [], ◌∷◌, ◌++◌, Option, Some, None, refl, sym, subst, ap, ◌∙◌, arith}
-use Rattle.std.specs.Prelude.{is_some}
+use Rattle.std.specs.Prelude.{is_some, nat_lt, int_lt, ◌&&◌, ◌||◌, not}
 use Rattle.std.proofs.{lemmas.Int.ints, lemmas.Bool.eqb-true, lemmas.Bool.Decides.nat_tests}
 use Rattle.eevdf_queue.specs.{declared.entry.Entry.Entry, declared.task.Task.Task, declared.tree_key.TreeKey.TreeKey}
 use Rattle.eevdf_queue.specs.TaskLists.{first_with, has_number, find_task}
-use Rattle.eevdf_queue.specs.TreeKeys.{is_of, is_under, is_over}
+use Rattle.eevdf_queue.specs.TreeKeys.{is_of, is_under}
 use Rattle.eevdf_queue.specs.TreeTasks.{precedes, AreOrdered, first_that, IsAtDeadline}
 use Rattle.eevdf_queue.proofs.{AllTasks.all-found, Earliest.told}
 use Rattle.eevdf_queue.proofs.TreeOrder.{left_precede, right_follow}
@@ -24,6 +24,10 @@ module _ (test : Task → Bool) where
 
 pub found_number : (q : ℕ) (xs : List Task) (t : Task) → find_task q xs ≡ Some t → t.number ≡ q
 found_number q xs t h = eqb-true t.number q (first_passed (has_number q) xs t h)
+
+-- the key comes after a task's
+abbrev pub is_over : TreeKey → Task → Bool
+is_over k t = int_lt t.entry.d k.deadline || (not (int_lt k.deadline t.entry.d) && nat_lt t.number k.number)
 
 -- a task has the key
 pub record HasKey (k : TreeKey) (t : Task) : Type 0 where

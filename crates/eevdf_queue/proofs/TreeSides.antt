@@ -5,10 +5,10 @@ use Rattle.std.proofs.lemmas.Bool.Decides.{nat_tests}
 use Rattle.eevdf_queue.specs.{declared.entry.Entry.Entry, declared.task.Task.Task, declared.tree_key.TreeKey.TreeKey}
 use Rattle.eevdf_queue.specs.{declared.tree_node.TreeNode.TheInside.Inside, TreeShape.tasks_in, TreeNodes.tasks_of}
 use Rattle.eevdf_queue.specs.TaskLists.{find_task, set_entry}
-use Rattle.eevdf_queue.specs.TreeKeys.{is_under, is_over, Holds}
+use Rattle.eevdf_queue.specs.TreeKeys.{is_under, Holds}
 use Rattle.eevdf_queue.specs.TreeTasks.{AreOrdered, without, IsAtDeadline}
 use Rattle.eevdf_queue.proofs.TreeOrder.{ordered_left, ordered_right}
-use Rattle.eevdf_queue.proofs.TreeSearch.{HasKey, IsPlaced, find_left, find_right, find-here, missed-left, missed-left_over, not_here, some_of}
+use Rattle.eevdf_queue.proofs.TreeSearch.{HasKey, IsPlaced, is_over, find_left, find_right, find-here, missed-left, missed-left_over, not_here, some_of}
 
 -- the key's task stands on a side of a node
 pub record IsBelow (k : TreeKey) (ts xs : List Task) : Type 0 where

@@ -11,10 +11,6 @@ is_of k t = not (int_lt k.deadline t.entry.d) && (not (int_lt t.entry.d k.deadli
 abbrev pub is_under : TreeKey → Task → Bool
 is_under k t = int_lt k.deadline t.entry.d || (not (int_lt t.entry.d k.deadline) && nat_lt k.number t.number)
 
--- the key comes after a task's
-abbrev pub is_over : TreeKey → Task → Bool
-is_over k t = int_lt t.entry.d k.deadline || (not (int_lt k.deadline t.entry.d) && nat_lt t.number k.number)
-
 -- the keys rise, and the task of the key's number is here, at the key
 pub record Holds (k : TreeKey) (ts : List Task) : Type 0 where
   pub ordered : AreOrdered ts

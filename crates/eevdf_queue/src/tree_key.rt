@@ -41,14 +41,6 @@ impl TreeKey {
             self.deadline < task.entry.d
         }
     }
-
-    /// Whether the key comes after a task's.
-    pub fn is_over(&self, task: &Task) -> bool
-        ensures { result ≡ keys.is_over self.now task.now }
-    {
-        task.entry.d < self.deadline
-            || task.entry.d == self.deadline && task.number.get() < self.number.get()
-    }
 }
 
 /// Whether a task has the earlier deadline, or the same and the lower number.

@@ -63,12 +63,12 @@ pub fn age(link: &mut Option<Box<TreeNode>>, key: TreeKey, runtimes: Runtimes)
         let _least = age_least(link, key, runtimes);
         return;
     }
-    if key.is_under(&node.task) {
-        age(&mut node.left, key, runtimes);
-    } else if key.is_over(&node.task) {
-        age(&mut node.right, key, runtimes);
-    } else {
+    if key.is_of(&node.task) {
         set_runtime(&mut node.task, &runtimes);
+    } else if key.is_under(&node.task) {
+        age(&mut node.left, key, runtimes);
+    } else {
+        age(&mut node.right, key, runtimes);
     }
     // for the proof alone, as at an insertion
     look_around(&node.left, &node.task, &node.right);
@@ -89,15 +89,15 @@ fn age_least(link: &mut Option<Box<TreeNode>>, key: TreeKey, runtimes: Runtimes)
 {
     let Some(node) = link else { unreachable!() };
     let node: &mut TreeNode = node;
-    let renewed = if key.is_under(&node.task) {
-        let left = age_least(&mut node.left, key, runtimes);
-        left.or(&with_below(&Least::of(&node.task), &node.right))
-    } else if key.is_over(&node.task) {
-        let right = age_least(&mut node.right, key, runtimes);
-        with_below(&Least::of(&node.task).or(&right), &node.left)
-    } else {
+    let renewed = if key.is_of(&node.task) {
         set_runtime(&mut node.task, &runtimes);
         with_below(&with_below(&Least::of(&node.task), &node.right), &node.left)
+    } else if key.is_under(&node.task) {
+        let left = age_least(&mut node.left, key, runtimes);
+        left.or(&with_below(&Least::of(&node.task), &node.right))
+    } else {
+        let right = age_least(&mut node.right, key, runtimes);
+        with_below(&Least::of(&node.task).or(&right), &node.left)
     };
     node.least = renewed;
     // for the proof alone, as at an insertion

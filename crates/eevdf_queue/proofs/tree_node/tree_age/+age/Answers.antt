@@ -1,11 +1,11 @@
 use Rattle.std.proofs.Common.{◌≡◌, ◌∙◌, ◌∷◌, ◌++◌, ℕ, Option, Some, ap, sym, subst, refl, arith}
 use Rattle.std.specs.{Prelude.◌≤ℤ◌, Prelude.◌<ℤ◌, Prelude.IfSome, Option.option_map}
 use Rattle.eevdf_queue.specs.{declared.entry.Entry.Entry, declared.task.Task.Task, TaskLists.find_task, TaskLists.set_entry, TreeShape.tasks_in, TreeNodes.tasks_of, TreeLeast.least_of}
-use Rattle.eevdf_queue.proofs.{TreeLeasts.least-set, TreeSearch.own_key}
+use Rattle.eevdf_queue.proofs.{TreeLeasts.least-set, TreeSearch.over_else, TreeSearch.of_key}
 use Rattle.eevdf_queue.proofs.TreeSides.{below_left, below_right, found_here, entry_set}
 use Rattle.eevdf_queue.proofs.TreeAge.{aged_to, aged_task, aged_entry, IsSameHigh, still_high}
 use Rattle.eevdf_queue.proofs.tree_node.tree_age.+age.Goals as goal
-use Rattle.eevdf_queue.proofs.tree_node.tree_age.+age.Goals.{After-look_around, then-is_under, else-is_under+then-is_over, else-is_under+else-is_over}
+use Rattle.eevdf_queue.proofs.tree_node.tree_age.+age.Goals.{After-look_around, then-is_of, else-is_of+then-is_under, else-is_of+else-is_under}
 
 pub age-requires : goal.age-requires
 age-requires t c =
@@ -13,29 +13,29 @@ age-requires t c =
     let b = below_left c.args.key c.node.inside _ e c.requires.holds (sym c.is_under.ensures ∙ c.if-is_under.true) in
     (omega (arith, b.fewer), (b.holds, (subst (λ (o : Option Task). IfSome o (λ u. c.args.runtimes.older ≤ℤ u.entry.v)) b.found c.requires.above, c.requires.later)))
 
-pub age-requires-then-is_over : goal.age-requires-then-is_over
-age-requires-then-is_over t c =
+pub age-requires-else-is_under : goal.age-requires-else-is_under
+age-requires-else-is_under t c =
     let e : tasks_in c.args.link.now ≡ tasks_of c.node.inside = cc in
-    let b = below_right c.args.key c.node.inside _ e c.requires.holds (sym c.is_over.ensures ∙ c.if-is_over.true) in
+    let b = below_right c.args.key c.node.inside _ e c.requires.holds (over_else c.args.key c.node.inside.task (sym c.is_of.ensures ∙ c.if-is_of.false) (sym c.is_under.ensures ∙ c.if-is_under.false)) in
     (omega (arith, b.fewer), (b.holds, (subst (λ (o : Option Task). IfSome o (λ u. c.args.runtimes.older ≤ℤ u.entry.v)) b.found c.requires.above, c.requires.later)))
 
 -- the tasks of the node with the entry exchanged
 changed : (t : ℕ) (c : After-look_around t) (x : Entry) → option_map (aged_to c.args.runtimes.newer) (find_task c.args.key.number (tasks_in c.args.link.now)) ≡ Some x
-    → tasks_of c.if-is_under.node-inside ≡ set_entry c.args.key.number x (tasks_in c.args.link.now)
+    → tasks_of c.if-is_of.node-inside ≡ set_entry c.args.key.number x (tasks_in c.args.link.now)
 changed t c x h =
     let e : tasks_in c.args.link.now ≡ tasks_of c.node.inside = cc in
     let s = entry_set x c.args.key c.node.inside _ e c.requires.holds in
-    elim c.if-is_under.branch [
-      | then-is_under w ↦
-          let p = sym c.is_under.ensures ∙ w.if-is_under.true in
+    elim c.if-is_of.branch [
+      | else-is_of+then-is_under w ↦
+          let p = sym w.is_under.ensures ∙ w.if-is_under.true in
           let b = below_left c.args.key c.node.inside _ e c.requires.holds p in
           ap tasks_of w.node-inside-is ∙ s.left p _ (w.age.ensures.tasks x (ap (option_map (aged_to c.args.runtimes.newer)) (sym b.found) ∙ h))
-      | else-is_under+then-is_over w ↦
-          let p = sym w.is_over.ensures ∙ w.if-is_over.true in
+      | else-is_of+else-is_under w ↦
+          let p = over_else c.args.key c.node.inside.task (sym c.is_of.ensures ∙ w.if-is_of.false) (sym w.is_under.ensures ∙ w.if-is_under.false) in
           let b = below_right c.args.key c.node.inside _ e c.requires.holds p in
-          ap tasks_of w.node-inside-is ∙ s.right p _ (w.age-then-is_over.ensures.tasks x (ap (option_map (aged_to c.args.runtimes.newer)) (sym b.found) ∙ h))
-      | else-is_under+else-is_over w ↦
-          let g = own_key c.args.key c.node.inside.task (sym c.is_under.ensures ∙ w.if-is_under.false) (sym w.is_over.ensures ∙ w.if-is_over.false) in
+          ap tasks_of w.node-inside-is ∙ s.right p _ (w.age-else-is_under.ensures.tasks x (ap (option_map (aged_to c.args.runtimes.newer)) (sym b.found) ∙ h))
+      | then-is_of w ↦
+          let g = of_key c.args.key c.node.inside.task (sym c.is_of.ensures ∙ w.if-is_of.true) in
           let f = found_here c.args.key c.node.inside _ e c.requires.holds g in
           ap tasks_of w.node-inside-is
           ∙ ap (λ z. tasks_in c.node.inside.left ++ z ∷ tasks_in c.node.inside.right)
@@ -47,21 +47,21 @@ pub invariant_of-node : goal.invariant_of-node
 invariant_of-node t c =
     let a = (goal.at.invariant_of-node t c).After-look_around in
     let e : tasks_in c.args.link.now ≡ tasks_of c.node.inside = cc in
-    let h : IsSameHigh c.node.inside c.if-is_under.node-inside =
-    elim c.if-is_under.branch [
-      | then-is_under w ↦ subst (IsSameHigh c.node.inside) (sym w.node-inside-is) (record { height = refl; left = w.age.ensures.height; right = refl })
-      | else-is_under+then-is_over w ↦ subst (IsSameHigh c.node.inside) (sym w.node-inside-is) (record { height = refl; left = refl; right = w.age-then-is_over.ensures.height })
-      | else-is_under+else-is_over w ↦ subst (IsSameHigh c.node.inside) (sym w.node-inside-is) (record { height = refl; left = refl; right = refl })
+    let h : IsSameHigh c.node.inside c.if-is_of.node-inside =
+    elim c.if-is_of.branch [
+      | else-is_of+then-is_under w ↦ subst (IsSameHigh c.node.inside) (sym w.node-inside-is) (record { height = refl; left = w.age.ensures.height; right = refl })
+      | else-is_of+else-is_under w ↦ subst (IsSameHigh c.node.inside) (sym w.node-inside-is) (record { height = refl; left = refl; right = w.age-else-is_under.ensures.height })
+      | then-is_of w ↦ subst (IsSameHigh c.node.inside) (sym w.node-inside-is) (record { height = refl; left = refl; right = refl })
     ] in
-    let k : c.if-is_under.node-inside.least ≡ c.node.inside.least = elim c.if-is_under.branch [
-      | then-is_under w ↦ ap (λ z. z.least) w.node-inside-is
-      | else-is_under+then-is_over w ↦ ap (λ z. z.least) w.node-inside-is
-      | else-is_under+else-is_over w ↦ ap (λ z. z.least) w.node-inside-is
+    let k : c.if-is_of.node-inside.least ≡ c.node.inside.least = elim c.if-is_of.branch [
+      | else-is_of+then-is_under w ↦ ap (λ z. z.least) w.node-inside-is
+      | else-is_of+else-is_under w ↦ ap (λ z. z.least) w.node-inside-is
+      | then-is_of w ↦ ap (λ z. z.least) w.node-inside-is
     ] in
     let x = aged_entry c.args.runtimes.newer (find_task c.args.key.number (tasks_in c.args.link.now)) c.requires.holds.here in
-    let least = least-set c.args.key.number c.args.runtimes.older x.0 c.node.inside.least (tasks_in c.args.link.now) (tasks_of c.if-is_under.node-inside)
+    let least = least-set c.args.key.number c.args.runtimes.older x.0 c.node.inside.least (tasks_in c.args.link.now) (tasks_of c.if-is_of.node-inside)
     (c.node.invariant.least ∙ ap least_of (sym e)) c.requires.above (subst (λ z. c.args.runtimes.older ≤ℤ z) (sym x.1.1) c.requires.later) (subst (λ z. c.node.inside.least.runtime <ℤ z) c.floor.ensures (c.is_below.ensures c.if-not-is_below.false)) (changed t a x.0 x.1.0) in
-    still_high c.node.inside c.if-is_under.node-inside c.node.invariant h (k ∙ least) c.look_around.ensures.low c.look_around.ensures.full c.look_around.ensures.bounded
+    still_high c.node.inside c.if-is_of.node-inside c.node.invariant h (k ∙ least) c.look_around.ensures.low c.look_around.ensures.full c.look_around.ensures.bounded
 
 pub returns-clause-tasks : goal.returns-clause-tasks
 returns-clause-tasks t c = λ x h. changed t (goal.at.returns-clause-tasks t c).After-look_around x h

@@ -1,11 +1,11 @@
 use Rattle.std.proofs.Common.{◌≡◌, ◌∙◌, ◌∷◌, ◌++◌, ℕ, Some, ap, sym, subst, refl, arith}
 use Rattle.std.specs.Option.{option_map}
 use Rattle.eevdf_queue.specs.{declared.entry.Entry.Entry, TaskLists.find_task, TaskLists.set_entry, TreeShape.tasks_in, TreeNodes.tasks_of, TreeLeast.least_of}
-use Rattle.eevdf_queue.proofs.{TreeLeasts.least-node, TreeSearch.own_key}
+use Rattle.eevdf_queue.proofs.{TreeLeasts.least-node, TreeSearch.over_else, TreeSearch.of_key}
 use Rattle.eevdf_queue.proofs.TreeSides.{below_left, below_right, found_here, entry_set}
 use Rattle.eevdf_queue.proofs.TreeAge.{aged_to, aged_task, IsSameHigh, still_high}
 use Rattle.eevdf_queue.proofs.tree_node.tree_age.+age_least.Goals as goal
-use Rattle.eevdf_queue.proofs.tree_node.tree_age.+age_least.Goals.{After-look_around, then-is_under, else-is_under+then-is_over, else-is_under+else-is_over}
+use Rattle.eevdf_queue.proofs.tree_node.tree_age.+age_least.Goals.{After-look_around, then-is_of, else-is_of+then-is_under, else-is_of+else-is_under}
 
 pub age_least-left-requires : goal.age_least-left-requires
 age_least-left-requires t c =
@@ -16,26 +16,26 @@ age_least-left-requires t c =
 pub age_least-right-requires : goal.age_least-right-requires
 age_least-right-requires t c =
     let e : tasks_in c.args.link.now ≡ tasks_of c.node.inside = cc in
-    let b = below_right c.args.key c.node.inside _ e c.requires (sym c.is_over.ensures ∙ c.if-is_over.true) in
+    let b = below_right c.args.key c.node.inside _ e c.requires (over_else c.args.key c.node.inside.task (sym c.is_of.ensures ∙ c.if-is_of.false) (sym c.is_under.ensures ∙ c.if-is_under.false)) in
     (omega (arith, b.fewer), b.holds)
 
 -- the tasks of the node with the entry exchanged
 changed : (t : ℕ) (c : After-look_around t) (x : Entry) → option_map (aged_to c.args.runtimes.newer) (find_task c.args.key.number (tasks_in c.args.link.now)) ≡ Some x
-    → tasks_of c.if-is_under.node-inside ≡ set_entry c.args.key.number x (tasks_in c.args.link.now)
+    → tasks_of c.if-is_of.node-inside ≡ set_entry c.args.key.number x (tasks_in c.args.link.now)
 changed t c x h =
     let e : tasks_in c.args.link.now ≡ tasks_of c.node.inside = cc in
     let s = entry_set x c.args.key c.node.inside _ e c.requires in
-    elim c.if-is_under.branch [
-      | then-is_under w ↦
-          let p = sym c.is_under.ensures ∙ w.if-is_under.true in
+    elim c.if-is_of.branch [
+      | else-is_of+then-is_under w ↦
+          let p = sym w.is_under.ensures ∙ w.if-is_under.true in
           let b = below_left c.args.key c.node.inside _ e c.requires p in
           ap tasks_of w.node-inside-is ∙ s.left p _ (w.age_least-left.ensures.tasks x (ap (option_map (aged_to c.args.runtimes.newer)) (sym b.found) ∙ h))
-      | else-is_under+then-is_over w ↦
-          let p = sym w.is_over.ensures ∙ w.if-is_over.true in
+      | else-is_of+else-is_under w ↦
+          let p = over_else c.args.key c.node.inside.task (sym c.is_of.ensures ∙ w.if-is_of.false) (sym w.is_under.ensures ∙ w.if-is_under.false) in
           let b = below_right c.args.key c.node.inside _ e c.requires p in
           ap tasks_of w.node-inside-is ∙ s.right p _ (w.age_least-right.ensures.tasks x (ap (option_map (aged_to c.args.runtimes.newer)) (sym b.found) ∙ h))
-      | else-is_under+else-is_over w ↦
-          let g = own_key c.args.key c.node.inside.task (sym c.is_under.ensures ∙ w.if-is_under.false) (sym w.is_over.ensures ∙ w.if-is_over.false) in
+      | then-is_of w ↦
+          let g = of_key c.args.key c.node.inside.task (sym c.is_of.ensures ∙ w.if-is_of.true) in
           let f = found_here c.args.key c.node.inside _ e c.requires g in
           ap tasks_of w.node-inside-is
           ∙ ap (λ z. tasks_in c.node.inside.left ++ z ∷ tasks_in c.node.inside.right)
@@ -44,35 +44,35 @@ changed t c x h =
     ]
 
 -- the least virtual runtime that the node gets
-renewed : (t : ℕ) (c : After-look_around t) → c.if-is_under.renewed ≡ least_of (tasks_of c.if-is_under.node-inside)
+renewed : (t : ℕ) (c : After-look_around t) → c.if-is_of.renewed ≡ least_of (tasks_of c.if-is_of.node-inside)
 renewed t c =
-    elim c.if-is_under.branch [
-      | then-is_under w ↦
+    elim c.if-is_of.branch [
+      | else-is_of+then-is_under w ↦
           w.renewed-is
-          ∙ least-node w.or-renewed.result w.age_least-left.result w.with_below.result w.of.result (least_of (tasks_in c.node.inside.right)) (tasks_in w.age_least-left.new.link) c.node.inside.task (tasks_in c.node.inside.right)
-          w.or-renewed.ensures w.with_below.ensures.behind w.age_least-left.ensures.least w.of.ensures.value refl
+          ∙ least-node w.or.result w.age_least-left.result w.with_below-then-is_under.result w.of-then-is_under.result (least_of (tasks_in c.node.inside.right)) (tasks_in w.age_least-left.new.link) c.node.inside.task (tasks_in c.node.inside.right)
+          w.or.ensures w.with_below-then-is_under.ensures.behind w.age_least-left.ensures.least w.of-then-is_under.ensures.value refl
           ∙ ap (λ z. least_of (tasks_of z)) (sym w.node-inside-is)
-      | else-is_under+then-is_over w ↦
+      | else-is_of+else-is_under w ↦
           w.renewed-is
-          ∙ least-node w.with_below-then-is_over.result (least_of (tasks_in c.node.inside.left)) w.or.result w.of-then-is_over.result w.age_least-right.result (tasks_in c.node.inside.left) c.node.inside.task (tasks_in w.age_least-right.new.link)
-          w.with_below-then-is_over.ensures.before w.or.ensures refl w.of-then-is_over.ensures.value w.age_least-right.ensures.least
+          ∙ least-node w.with_below-else-is_under.result (least_of (tasks_in c.node.inside.left)) w.or-else-is_under.result w.of-else-is_under.result w.age_least-right.result (tasks_in c.node.inside.left) c.node.inside.task (tasks_in w.age_least-right.new.link)
+          w.with_below-else-is_under.ensures.before w.or-else-is_under.ensures refl w.of-else-is_under.ensures.value w.age_least-right.ensures.least
           ∙ ap (λ z. least_of (tasks_of z)) (sym w.node-inside-is)
-      | else-is_under+else-is_over w ↦
+      | then-is_of w ↦
           w.renewed-is
-          ∙ least-node w.with_below-else-is_over-2.result (least_of (tasks_in c.node.inside.left)) w.with_below-else-is_over.result w.of-else-is_over.result (least_of (tasks_in c.node.inside.right)) (tasks_in c.node.inside.left) w.set_runtime.new.task (tasks_in c.node.inside.right)
-          w.with_below-else-is_over-2.ensures.before w.with_below-else-is_over.ensures.behind refl w.of-else-is_over.ensures.value refl
+          ∙ least-node w.with_below-renewed.result (least_of (tasks_in c.node.inside.left)) w.with_below.result w.of.result (least_of (tasks_in c.node.inside.right)) (tasks_in c.node.inside.left) w.set_runtime.new.task (tasks_in c.node.inside.right)
+          w.with_below-renewed.ensures.before w.with_below.ensures.behind refl w.of.ensures.value refl
           ∙ ap (λ z. least_of (tasks_of z)) (sym w.node-inside-is)
     ]
 
 pub invariant_of-node : goal.invariant_of-node
 invariant_of-node t c =
-    let h : IsSameHigh c.node.inside c.if-is_under.node-inside =
-    elim c.if-is_under.branch [
-      | then-is_under w ↦ subst (IsSameHigh c.node.inside) (sym w.node-inside-is) (record { height = refl; left = w.age_least-left.ensures.height; right = refl })
-      | else-is_under+then-is_over w ↦ subst (IsSameHigh c.node.inside) (sym w.node-inside-is) (record { height = refl; left = refl; right = w.age_least-right.ensures.height })
-      | else-is_under+else-is_over w ↦ subst (IsSameHigh c.node.inside) (sym w.node-inside-is) (record { height = refl; left = refl; right = refl })
+    let h : IsSameHigh c.node.inside c.if-is_of.node-inside =
+    elim c.if-is_of.branch [
+      | else-is_of+then-is_under w ↦ subst (IsSameHigh c.node.inside) (sym w.node-inside-is) (record { height = refl; left = w.age_least-left.ensures.height; right = refl })
+      | else-is_of+else-is_under w ↦ subst (IsSameHigh c.node.inside) (sym w.node-inside-is) (record { height = refl; left = refl; right = w.age_least-right.ensures.height })
+      | then-is_of w ↦ subst (IsSameHigh c.node.inside) (sym w.node-inside-is) (record { height = refl; left = refl; right = refl })
     ] in
-    still_high c.node.inside (record c.if-is_under.node-inside { least = c.if-is_under.renewed }) c.node.invariant (record { height = h.height; left = h.left; right = h.right })
+    still_high c.node.inside (record c.if-is_of.node-inside { least = c.if-is_of.renewed }) c.node.invariant (record { height = h.height; left = h.left; right = h.right })
     (renewed t (goal.at.invariant_of-node t c).After-look_around) c.look_around.ensures.low c.look_around.ensures.full c.look_around.ensures.bounded
 
 pub returns-clause-tasks : goal.returns-clause-tasks
