@@ -19,7 +19,7 @@ use crate::picked_task::PickedTask;
 use crate::task_id::TaskId;
 use crate::task_tree::TaskTree;
 use crate::totals::Totals;
-use crate::totals_edit::{aged, exchanged, share, with_share, without_share};
+use crate::totals_edit::{correct_moment, exchanged, share, with_share, without_share};
 use crate::tree_eligible::Threshold;
 use crate::tree_key::TreeKey;
 use crate::tree_node::{Found, TreeNode};
@@ -138,7 +138,7 @@ impl RunnableTasks {
         ensures { self.new ≡ map.insert self.old task newer }
     {
         self.picked.known = false;
-        self.totals = aged(&self.totals, older, &newer);
+        correct_moment(&mut self.totals, older, &newer);
         replace(&mut self.tree, &mut self.deadlines, task, newer);
     }
 
@@ -153,7 +153,7 @@ impl RunnableTasks {
         ensures { self.new ≡ map.insert self.old task newer.now }
     {
         self.picked.known = false;
-        self.totals = aged(&self.totals, older, newer);
+        correct_moment(&mut self.totals, older, newer);
         let key = TreeKey::of(task, older);
         self.tree.age(&key, older, newer);
     }

@@ -67,18 +67,16 @@ pub fn exchanged(totals: &Totals, older: &Entry, newer: &Entry) -> Totals
     with_share(&without_share(totals, &share(older)), &share(newer))
 }
 
-/// The sums where one of the tasks gets a later virtual runtime.
-pub fn aged(totals: &Totals, older: &Entry, newer: &Entry) -> Totals
-    requires small { unsigned_abs totals.now.moment ≤ 2 ^ 110 }
+/// Makes the sums right where one of the tasks gets a later virtual runtime. The weights stay, so that nothing but the moment is
+/// written.
+pub fn correct_moment(totals: &mut Totals, older: &Entry, newer: &Entry)
+    requires small { unsigned_abs totals.old.moment ≤ 2 ^ 110 }
     requires near { unsigned_abs (newer.now.v -ℤ older.now.v) ≤ 2 ^ 40 }
-    ensures weight { result.weight ≡ totals.now.weight }
-    ensures moment { (older.now.v *ℤ pos (weight_of older.now.nice)) +ℤ result.moment
-        ≡ (newer.now.v *ℤ pos (weight_of older.now.nice)) +ℤ totals.now.moment }
+    ensures weight { totals.new.weight ≡ totals.old.weight }
+    ensures moment { (older.now.v *ℤ pos (weight_of older.now.nice)) +ℤ totals.new.moment
+        ≡ (newer.now.v *ℤ pos (weight_of older.now.nice)) +ℤ totals.old.moment }
 {
-    Totals {
-        weight: totals.weight,
-        moment: aged_moment(totals, older, newer),
-    }
+    totals.moment = aged_moment(totals, older, newer);
 }
 
 /// The sum of weight times virtual runtime after that.

@@ -8,8 +8,8 @@ use Rattle.eevdf_queue.proofs.TreeTotals.{totals-set, totals_near, entry_found}
 use Rattle.eevdf_queue.proofs.runnable_tasks.RunnableTasks.age.Goals as goal
 use Rattle.eevdf_queue.proofs.runnable_tasks.RunnableTasks.age.Goals.{After-age}
 
-pub aged-self-inside-requires-clause-small : goal.aged-self-inside-requires-clause-small
-aged-self-inside-requires-clause-small c = totals_near c.self.inside.deadlines c.self.inside.totals c.self.inside.tree (sums_kept _ _ _ _ c.self.invariant)
+pub correct_moment-requires-clause-small : goal.correct_moment-requires-clause-small
+correct_moment-requires-clause-small c = totals_near c.self.inside.deadlines c.self.inside.totals c.self.inside.tree (sums_kept _ _ _ _ c.self.invariant)
 
 pub age-requires-clause-here : goal.age-requires-clause-here
 age-requires-clause-here c =
@@ -35,10 +35,10 @@ invariant_of-self c =
           stored-set c.self.inside.deadlines c.args.task c.args.newer.now c.self.inside.tree c.age.new.self c.self.invariant.store
           (at_deadline c.args.older.now c.args.newer.now.d (find_task c.args.task c.self.inside.tree) h d) c.requires.in_range i;
       totals =
-          totals-set c.args.task g.0 c.args.older.now c.args.newer.now c.self.inside.tree c.age.new.self c.self.inside.totals c.aged-self-inside.result
+          totals-set c.args.task g.0 c.args.older.now c.args.newer.now c.self.inside.tree c.age.new.self c.self.inside.totals c.correct_moment.new.totals
           c.self.invariant.totals g.1.0 g.1.1
-          (ap (λ (z : ℕ). weight_of c.args.older.now.nice + z) c.aged-self-inside.ensures.weight ∙ ap (λ (z : ℤ). weight_of z + c.self.inside.totals.weight) n)
-          (c.aged-self-inside.ensures.moment ∙ ap (λ (z : ℤ). (c.args.newer.now.v *ℤ pos (weight_of z)) +ℤ c.self.inside.totals.moment) n) i;
+          (ap (λ (z : ℕ). weight_of c.args.older.now.nice + z) c.correct_moment.ensures.weight ∙ ap (λ (z : ℤ). weight_of z + c.self.inside.totals.weight) n)
+          (c.correct_moment.ensures.moment ∙ ap (λ (z : ℤ). (c.args.newer.now.v *ℤ pos (weight_of z)) +ℤ c.self.inside.totals.moment) n) i;
       picked = λ k. absurd (let w : false ≡ true = k in cc);
     }
 

@@ -20,10 +20,10 @@ invariant_of-self c =
     record {
       store = c.replace.ensures.stored;
       totals =
-          totals-moved c.args.task g.0 c.args.older.now c.args.newer c.self.inside.tree c.replace.new.tree c.self.inside.totals c.aged-self-inside.result
+          totals-moved c.args.task g.0 c.args.older.now c.args.newer c.self.inside.tree c.replace.new.tree c.self.inside.totals c.correct_moment.new.totals
           c.self.invariant.totals g.1.0 g.1.1
-          (ap (λ (z : ℕ). weight_of c.args.older.now.nice + z) c.aged-self-inside.ensures.weight ∙ ap (λ (z : ℤ). weight_of z + c.self.inside.totals.weight) n)
-          (c.aged-self-inside.ensures.moment ∙ ap (λ (z : ℤ). (c.args.newer.v *ℤ pos (weight_of z)) +ℤ c.self.inside.totals.moment) n)
+          (ap (λ (z : ℕ). weight_of c.args.older.now.nice + z) c.correct_moment.ensures.weight ∙ ap (λ (z : ℤ). weight_of z + c.self.inside.totals.weight) n)
+          (c.correct_moment.ensures.moment ∙ ap (λ (z : ℤ). (c.args.newer.v *ℤ pos (weight_of z)) +ℤ c.self.inside.totals.moment) n)
           (c.replace.ensures.tree g.0 g.1.0);
       picked = λ k. absurd (let n : false ≡ true = k in cc);
     }
@@ -31,5 +31,5 @@ invariant_of-self c =
 pub returns : goal.returns
 returns c = c.replace.ensures.seen ∙ ap (λ (m : FinMap nat_cmp Entry). insert m c.args.task c.args.newer) c.self.view_is
 
-pub aged-self-inside-requires-clause-small : goal.aged-self-inside-requires-clause-small
-aged-self-inside-requires-clause-small c = totals_near c.self.inside.deadlines c.self.inside.totals c.self.inside.tree (sums_kept _ _ _ _ c.self.invariant)
+pub correct_moment-requires-clause-small : goal.correct_moment-requires-clause-small
+correct_moment-requires-clause-small c = totals_near c.self.inside.deadlines c.self.inside.totals c.self.inside.tree (sums_kept _ _ _ _ c.self.invariant)
