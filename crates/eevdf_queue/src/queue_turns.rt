@@ -103,9 +103,13 @@ impl Queue {
         ensures entry { IfSome result (λ r. map.get self.now.state.runnable r.task ≡ Some r.entry) }
         ensures in_range { IfSome result (λ r. moves.is_entry_in_range r.entry ≡ true) }
     {
-        let task = self.running?;
+        let Some(task) = self.running else {
+            return None;
+        };
         self.runnable.keeps();
-        let entry = self.runnable.get(task)?;
+        let Some(entry) = self.runnable.get(task) else {
+            return None;
+        };
         Some(Runner { task, entry })
     }
 }
