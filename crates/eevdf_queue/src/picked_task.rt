@@ -11,9 +11,10 @@ use eevdf_weight::{Nice, Slice};
 #[derive(Clone, Copy)]
 pub struct PickedTask {
     pub runtime: i64,
+    // the nice level and the slice stand as in an entry, so that both are copied in one go
+    pub nice: Nice,
     pub slice: Slice,
     pub number: TaskId,
-    pub nice: Nice,
     pub known: bool,
 }
 
@@ -24,9 +25,9 @@ impl PickedTask {
     {
         PickedTask {
             runtime: 0,
+            nice: Nice::MIN,
             slice: Slice::MIN,
             number: TaskId::new(0).unwrap(),
-            nice: Nice::MIN,
             known: false,
         }
     }
@@ -40,9 +41,9 @@ impl PickedTask {
     {
         PickedTask {
             runtime: task.entry.v,
+            nice: task.entry.nice,
             slice: task.entry.slice,
             number: task.number,
-            nice: task.entry.nice,
             known: true,
         }
     }

@@ -229,9 +229,9 @@ impl RunnableTasks {
         let picked = PickedTask::of(first.task);
         // field by field, so that no padding is written
         self.picked.runtime = picked.runtime;
+        self.picked.nice = picked.nice;
         self.picked.slice = picked.slice;
         self.picked.number = picked.number;
-        self.picked.nice = picked.nice;
         self.picked.known = picked.known;
         Some(pick)
     }
