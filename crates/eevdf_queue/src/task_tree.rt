@@ -95,7 +95,7 @@ impl TaskTree {
         ensures task { find_task key.now.number self.old ≡ Some (first_task result.value.tasks) }
         ensures rest { self.new ≡ without key.now.number self.old }
     {
-        let taken = remove(&mut self.root, key);
+        let taken = remove(&mut self.root, *key);
         self.count -= 1;
         taken.node
     }

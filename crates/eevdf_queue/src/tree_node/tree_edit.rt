@@ -57,12 +57,12 @@ pub struct Taken {
 
 /// Takes the task of a key, which stands below a link, out, in its node. Where neither the height nor the least
 /// virtual runtime has changed, nothing above is to be corrected.
-pub fn remove(link: &mut Option<Box<TreeNode>>, key: &TreeKey) -> Taken
-    requires { Holds key.now (tasks_in link.old) }
+pub fn remove(link: &mut Option<Box<TreeNode>>, key: TreeKey) -> Taken
+    requires { Holds key (tasks_in link.old) }
     ensures alone { IsAlone result.node.value }
-    ensures task { find_task key.now.number (tasks_in link.old)
+    ensures task { find_task key.number (tasks_in link.old)
         ≡ Some (first_task result.node.value.tasks) }
-    ensures rest { tasks_in link.new ≡ without key.now.number (tasks_in link.old) }
+    ensures rest { tasks_in link.new ≡ without key.number (tasks_in link.old) }
     ensures length { length (tasks_in link.old) ≡ suc (length (tasks_in link.new)) }
     ensures not_higher { height_in link.new ≤ height_in link.old }
     ensures at_most_one_lower { height_in link.old ≤ suc (height_in link.new) }
