@@ -177,3 +177,15 @@ first_here passes ts xs u ys e h p = grind (arith, e, p, first-missed (λ t. pas
 pub first_right : (passes : Entry → Bool) (ts xs : List Task) (u : Task) (ys : List Task) → ts ≡ xs ++ u ∷ ys → is_some (first_that passes xs) ≡ false
     → passes u.entry ≡ false → first_that passes ts ≡ first_that passes ys
 first_right passes ts xs u ys e h p = grind (arith, e, p, first-missed (λ t. passes t.entry) xs (u ∷ ys) (none_from (first_that passes xs) h))
+
+-- with nothing on either side that passes, it is the task itself, where there is one
+pub first_only : (passes : Entry → Bool) (ts xs : List Task) (u : Task) (ys : List Task) → ts ≡ xs ++ u ∷ ys → is_some (first_that passes xs) ≡ false
+    → ys ≡ [] → is_some (first_that passes ts) ≡ true → first_that passes ts ≡ Some u
+first_only passes ts xs u ys e h n s =
+    by (passes u.entry) refl
+  where
+    by : (b : Bool) → passes u.entry ≡ b → first_that passes ts ≡ Some u
+    by true p = first_here passes ts xs u ys e h p
+    by false p =
+        let nobody : true ≡ false = sym s ∙ ap is_some (first_right passes ts xs u ys e h p ∙ ap (first_that passes) n) in
+        cc

@@ -252,15 +252,18 @@ fn first_under<'a>(root: &'a TreeNode, totals: &Threshold) -> Found<'a>
                 continue;
             }
         }
+        let Some(right) = &at.right else {
+            return Found {
+                task: &at.task,
+                turns,
+            };
+        };
         if is_task_eligible(totals, &at.task) {
             return Found {
                 task: &at.task,
                 turns,
             };
         }
-        let Some(right) = &at.right else {
-            unreachable!()
-        };
         at = right;
     }
 }

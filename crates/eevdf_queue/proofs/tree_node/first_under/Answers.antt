@@ -4,9 +4,9 @@ use Rattle.eevdf_queue.specs.{declared.task.Task.Task, Pick.is_eligible_at, Tree
 use Rattle.eevdf_queue.specs.{TreeNodes.tasks_of, TreeTasks.first_that}
 use Rattle.eevdf_queue.proofs.Descending.{lead_left, lead_right, lead_here}
 use Rattle.eevdf_queue.proofs.{TreeEligible.some-node, TreeSorted.full-lower}
-use Rattle.eevdf_queue.proofs.TreeSearch.{first_left_same, first_here, first_right}
+use Rattle.eevdf_queue.proofs.TreeSearch.{first_left_same, first_here, first_only, first_right}
 use Rattle.eevdf_queue.proofs.tree_node.first_under.Goals as goal
-use Rattle.eevdf_queue.proofs.tree_node.first_under.Goals.{After-is_task_eligible, in-Some+else-is_least_eligible, in_default}
+use Rattle.eevdf_queue.proofs.tree_node.first_under.Goals.{After-is_task_eligible, In_default-right, in-Some+else-is_least_eligible, in_default}
 
 pub down-preserved-then-is_least_eligible : goal.down-preserved-then-is_least_eligible
 down-preserved-then-is_least_eligible c =
@@ -43,6 +43,19 @@ missed c =
           ap (λ (z : List Task). is_some (first_that (is_eligible_at c.args.totals.now.weight c.args.totals.now.moment) z)) l
     ]
 
+-- nor where nothing stands on the right
+missed_alone : (c : In_default-right) → is_some (first_that (is_eligible_at c.args.totals.now.weight c.args.totals.now.moment) (tasks_in c.at.inside.left)) ≡ false
+missed_alone c =
+    elim c.match-at.branch [
+      | in-Some+else-is_least_eligible w ↦
+          let l : tasks_in c.at.inside.left ≡ tasks_of w.left.inside = cc in
+          ap (λ (z : List Task). is_some (first_that (is_eligible_at c.args.totals.now.weight c.args.totals.now.moment) z)) l
+          ∙ sym (some-node c.args.totals.now.weight c.args.totals.now.moment w.left.inside w.left.invariant) ∙ sym w.is_least_eligible.ensures ∙ w.if-is_least_eligible.false
+      | in_default w ↦
+          let l : tasks_in c.at.inside.left ≡ [] = ap tasks_in w.in_default.is in
+          ap (λ (z : List Task). is_some (first_that (is_eligible_at c.args.totals.now.weight c.args.totals.now.moment) z)) l
+    ]
+
 pub returns-then-is_task_eligible-clause-task : goal.returns-then-is_task_eligible-clause-task
 returns-then-is_task_eligible-clause-task c =
     let e : c.down.at.now.tasks ≡ tasks_of c.at.inside = cc in
@@ -57,13 +70,21 @@ pub returns-then-is_task_eligible-clause-depth : goal.returns-then-is_task_eligi
 returns-then-is_task_eligible-clause-depth c =
     lead_here c.at.inside c.down.turns c.down.at.now.depths c.args.root.now.depths (cc) c.down.invariant.1.1.1
 
-pub unreachable-requires : goal.unreachable-requires
-unreachable-requires c =
+-- nothing stands on the right: then it is the own task
+pub returns-in_default-right-clause-task : goal.returns-in_default-right-clause-task
+returns-in_default-right-clause-task c =
     let e : c.down.at.now.tasks ≡ tasks_of c.at.inside = cc in
-    let f = first_right (is_eligible_at c.args.totals.now.weight c.args.totals.now.moment) c.down.at.now.tasks (tasks_in c.at.inside.left) c.at.inside.task (tasks_in c.at.inside.right) e (missed (goal.at.unreachable-requires c).After-is_task_eligible) (sym c.is_task_eligible.ensures ∙ c.if-is_task_eligible.false) in
     let r : tasks_in c.at.inside.right ≡ [] = ap tasks_in c.in_default-right.is in
-    let n : true ≡ false = sym c.down.invariant.0 ∙ ap is_some (f ∙ ap (first_that (is_eligible_at c.args.totals.now.weight c.args.totals.now.moment)) r) in
-    cc
+    c.down.invariant.1.0 ∙ first_only (is_eligible_at c.args.totals.now.weight c.args.totals.now.moment) c.down.at.now.tasks (tasks_in c.at.inside.left) c.at.inside.task (tasks_in c.at.inside.right) e (missed_alone (goal.at.returns-in_default-right-clause-task c).In_default-right) r c.down.invariant.0
+
+pub returns-in_default-right-clause-turns : goal.returns-in_default-right-clause-turns
+returns-in_default-right-clause-turns c =
+    let h : c.down.at.now.height ≡ c.at.inside.height = cc in
+    full-lower (c.down.turns + 1) c.args.root.now.height (length c.args.root.now.tasks) (omega (arith, h, c.at.invariant.height, c.down.invariant.1.1.0)) c.height-height.ensures.full
+
+pub returns-in_default-right-clause-depth : goal.returns-in_default-right-clause-depth
+returns-in_default-right-clause-depth c =
+    lead_here c.at.inside c.down.turns c.down.at.now.depths c.args.root.now.depths (cc) c.down.invariant.1.1.1
 
 pub down-preserved : goal.down-preserved
 down-preserved c =
