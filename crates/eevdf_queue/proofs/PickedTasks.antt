@@ -1,5 +1,5 @@
 -- The entry of the task that was picked last: that it is the task's, and stays so when another task joins.
-use Rattle.std.proofs.Common.{◌≡◌, ℕ, Bool, true, List, [], ◌∷◌, Option, Some, None, sym, ap, ◌∙◌, arith}
+use Rattle.std.proofs.Common.{◌≡◌, ◌<◌, ℕ, Bool, List, [], ◌∷◌, Option, Some, None, sym, ap, ◌∙◌, arith}
 use Rattle.std.specs.{Prelude.ℤ, Prelude.IfSome, Option.option_map, Ordering.nat_cmp, FinMap.FinMap, FinMap.get}
 use Rattle.std.proofs.lemmas.Bool.Decides.{nat_tests}
 use Rattle.eevdf_queue.specs.{declared.entry.Entry.Entry, declared.task.Task.Task, declared.totals.Totals.Totals}
@@ -22,7 +22,7 @@ entry_of d p (Some t) h a =
     ap (λ (z : ℤ × ℤ × ℕ). Some (record { v = z.0; d = t.entry.d; nice = z.1; slice = z.2 })) same
     ∙ ap (λ (z : ℤ). Some (record { v = p.runtime; d = z; nice = p.nice; slice = p.slice })) a
 
-pub known_entry : (table : List ℤ) (p : PickedTask) (ts : List Task) (m : FinMap nat_cmp Entry) (q : ℕ) → IsRunnableStore table ts → runnable_in ts ≡ m → IsKnown p ts → p.known ≡ true → p.number ≡ q
+pub known_entry : (table : List ℤ) (p : PickedTask) (ts : List Task) (m : FinMap nat_cmp Entry) (q : ℕ) → IsRunnableStore table ts → runnable_in ts ≡ m → IsKnown p ts → p.number < 1024 → p.number ≡ q
     → get m q ≡ Some (record { v = p.runtime; d = deadline_at table q; nice = p.nice; slice = p.slice })
 known_entry table p ts m q s v h k e =
     ap (λ (z : FinMap nat_cmp Entry). get z q) (sym v)

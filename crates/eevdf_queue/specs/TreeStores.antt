@@ -1,8 +1,8 @@
 -- What the stores over trees keep.
-use Rattle.std.specs.Prelude.{◌≡◌, ℕ, ℤ, pos, true, List, Some, slice_index_or}
+use Rattle.std.specs.Prelude.{◌≡◌, ◌<◌, ℕ, ℤ, pos, List, Some, slice_index_or}
 use Rattle.std.specs.{Option.option_map, List.AllByRecursion}
 use Rattle.eevdf_queue.specs.{declared.picked_task.PickedTask.PickedTask, declared.task.Task.Task, declared.totals.Totals.Totals}
-use Rattle.eevdf_queue.specs.{Sums.sum_weights, Sums.sum_moments}
+use Rattle.eevdf_queue.specs.{Numbers.number_limit, Sums.sum_weights, Sums.sum_moments}
 use Rattle.eevdf_queue.specs.TaskLists.{find_task, entries_of, AreRunnable}
 
 -- what a table of deadlines says of a number
@@ -37,7 +37,7 @@ picked_timeless p = (p.runtime, p.nice, p.slice)
 
 -- where the entry of the task that was picked last is known, it is the task's
 abbrev pub IsKnown : PickedTask → List Task → Type 0
-IsKnown p ts = p.known ≡ true → option_map timeless (find_task p.number ts) ≡ Some (picked_timeless p)
+IsKnown p ts = p.number < number_limit → option_map timeless (find_task p.number ts) ≡ Some (picked_timeless p)
 
 -- all of it
 pub record IsRunnableTasks (table : List ℤ) (s : Totals) (p : PickedTask) (ts : List Task) : Type 0 where

@@ -1,4 +1,5 @@
-ghost use Rattle.std.specs.Prelude.{◌≡◌, true, false};
+ghost use Rattle.std.specs.Prelude.{◌≡◌, ◌<◌, true};
+ghost use Rattle.eevdf_queue.specs.Numbers.{number_limit};
 
 use crate::entry::Entry;
 use crate::task::Task;
@@ -14,21 +15,23 @@ pub struct PickedTask {
     // the nice level and the slice stand as in an entry, so that both are copied in one go
     pub nice: Nice,
     pub slice: Slice,
-    pub number: TaskId,
-    pub known: bool,
+    /// The task's number, and `NOBODY` where nothing is known.
+    pub number: u64,
 }
 
 impl PickedTask {
+    /// A number that no task has. It takes the place of a flag, which would have to be written and asked too.
+    pub const NOBODY: u64 = TaskId::COUNT as u64;
+
     /// Nothing is known.
     pub fn none() -> PickedTask
-        ensures { result.known ≡ false }
+        ensures { result.number ≡ number_limit }
     {
         PickedTask {
             runtime: 0,
             nice: Nice::MIN,
             slice: Slice::MIN,
-            number: TaskId::new(0).unwrap(),
-            known: false,
+            number: PickedTask::NOBODY,
         }
     }
 
@@ -43,17 +46,16 @@ impl PickedTask {
             runtime: task.entry.v,
             nice: task.entry.nice,
             slice: task.entry.slice,
-            number: task.number,
-            known: true,
+            number: task.number.get(),
         }
     }
 
     /// Whether the entry of this task is known.
     pub fn is(&self, task: TaskId) -> bool
-        ensures known { result ≡ true → self.now.known ≡ true }
+        ensures known { result ≡ true → self.now.number < number_limit }
         ensures number { result ≡ true → self.now.number ≡ task }
     {
-        self.known && self.number == task
+        self.number == task.get()
     }
 
     /// The entry with the deadline of a key.

@@ -1,4 +1,4 @@
-use Rattle.std.proofs.Common.{◌≡◌, ◌∙◌, ◌+◌, true, false, [], ap, sym, arith, List, length}
+use Rattle.std.proofs.Common.{◌≡◌, ◌∙◌, ◌+◌, false, [], ap, sym, arith, List, length}
 use Rattle.std.specs.Prelude.{is_some}
 use Rattle.eevdf_queue.specs.{declared.task.Task.Task, Pick.is_eligible_at, TreeShape.tasks_in, TreeShape.height_in}
 use Rattle.eevdf_queue.specs.{TreeNodes.tasks_of, TreeTasks.first_that}

@@ -1,4 +1,4 @@
-use Rattle.std.proofs.Common.{◌≡◌, ◌∙◌, ◌+◌, ℕ, false, true, refl, ap, sym, subst}
+use Rattle.std.proofs.Common.{◌≡◌, ◌∙◌, ◌+◌, ℕ, refl, ap, sym, subst, arith}
 use Rattle.std.specs.{Prelude.ℤ, Prelude.pos, Prelude.◌+ℤ◌, Prelude.◌*ℤ◌, Prelude.is_some, Option.option_map}
 use Rattle.eevdf_weight.specs.Weight.{weight_of}
 use Rattle.eevdf_queue.specs.{declared.entry.Entry.Entry, declared.task.Task.Task, declared.tree_key.TreeKey.TreeKey, TreeTasks.IsAtDeadline}
@@ -39,7 +39,7 @@ invariant_of-self c =
           c.self.invariant.totals g.1.0 g.1.1
           (ap (λ (z : ℕ). weight_of c.args.older.now.nice + z) c.correct_moment.ensures.weight ∙ ap (λ (z : ℤ). weight_of z + c.self.inside.totals.weight) n)
           (c.correct_moment.ensures.moment ∙ ap (λ (z : ℤ). (c.args.newer.now.v *ℤ pos (weight_of z)) +ℤ c.self.inside.totals.moment) n) i;
-      picked = λ k. absurd (let w : false ≡ true = k in cc);
+      picked = λ k. absurd (omega arith);
     }
 
 pub returns : goal.returns

@@ -1,4 +1,4 @@
-use Rattle.std.proofs.Common.{◌≡◌, ◌∙◌, ℕ, false, true, ◌≤◌, Some, ap, sym, subst, rules}
+use Rattle.std.proofs.Common.{◌≡◌, ◌∙◌, ℕ, true, ◌≤◌, Some, ap, sym, subst, rules, arith}
 use Rattle.std.specs.Prelude.{ℤ, ◌-ℤ◌}
 use Rattle.std.specs.Option.{option_map}
 use Rattle.std.proofs.lemmas.Int.{to_z-of_z}
@@ -34,7 +34,7 @@ invariant_of-self c =
           totals-without c.args.task (first_task c.take-node.result.value.tasks) c.task-entry.result.entry c.self.inside.tree c.take-node.new.tree c.self.inside.totals c.without_share-self-inside.result
           c.share.result.weight c.share.result.moment c.self.invariant.totals c.take-node.ensures.task x c.take-node.ensures.rest c.share.ensures.weight c.share.ensures.moment
           c.without_share-self-inside.ensures.weight c.without_share-self-inside.ensures.moment;
-      picked = λ k. absurd (let n : false ≡ true = k in cc);
+      picked = λ k. absurd (omega arith);
     }
 
 pub returns-clause-rest : goal.returns-clause-rest

@@ -1,4 +1,4 @@
-use Rattle.std.proofs.Common.{◌≡◌, ◌∙◌, ◌+◌, ℕ, false, true, ap}
+use Rattle.std.proofs.Common.{◌≡◌, ◌∙◌, ◌+◌, ℕ, ap, arith}
 use Rattle.std.specs.{Prelude.ℤ, Prelude.pos, Prelude.◌+ℤ◌, Prelude.◌*ℤ◌, Prelude.is_some, Ordering.nat_cmp, FinMap.FinMap, FinMap.insert}
 use Rattle.eevdf_weight.specs.Weight.{weight_of}
 use Rattle.eevdf_queue.specs.{declared.entry.Entry.Entry, TaskLists.find_task}
@@ -25,7 +25,7 @@ invariant_of-self c =
           (ap (λ (z : ℕ). weight_of c.args.older.now.nice + z) c.correct_moment.ensures.weight ∙ ap (λ (z : ℤ). weight_of z + c.self.inside.totals.weight) n)
           (c.correct_moment.ensures.moment ∙ ap (λ (z : ℤ). (c.args.newer.v *ℤ pos (weight_of z)) +ℤ c.self.inside.totals.moment) n)
           (c.replace.ensures.tree g.0 g.1.0);
-      picked = λ k. absurd (let n : false ≡ true = k in cc);
+      picked = λ k. absurd (omega arith);
     }
 
 pub returns : goal.returns

@@ -1,4 +1,4 @@
-use Rattle.std.proofs.Common.{◌≡◌, ◌∙◌, false, true, ap}
+use Rattle.std.proofs.Common.{◌∙◌, ap, arith}
 use Rattle.std.specs.{Prelude.is_some, Ordering.nat_cmp, FinMap.FinMap, FinMap.insert}
 use Rattle.eevdf_queue.specs.{declared.entry.Entry.Entry, TaskLists.find_task}
 use Rattle.eevdf_queue.proofs.PickedTasks.{sums_kept}
@@ -23,7 +23,7 @@ invariant_of-self c =
           c.exchanged-self-inside.ensures.weight
           c.exchanged-self-inside.ensures.moment
           (c.replace.ensures.tree g.0 g.1.0);
-      picked = λ k. absurd (let n : false ≡ true = k in cc);
+      picked = λ k. absurd (omega arith);
     }
 
 pub returns : goal.returns
