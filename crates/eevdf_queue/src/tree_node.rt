@@ -205,6 +205,7 @@ pub fn find(link: &Option<Box<TreeNode>>, key: &TreeKey) -> Option<Task>
 // - Some task on its left is eligible: then the first one is there, and all that is not on the left is later.
 // - None is, but the node's own task is: then that is the first one.
 // - Neither: then it is on the right, since the descent is only ever at a node whose subtree has an eligible task.
+// So where no task on the left is eligible and none stands on the right, the own task is the first one, and isn't asked.
 // Each turn goes one level down, and nothing is looked at twice.
 
 /// The first eligible task below a link, left before right, and the turns that lead to it. Where there is a task, some task
