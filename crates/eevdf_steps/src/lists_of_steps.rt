@@ -11,13 +11,13 @@ use eevdf_ops::CpuId;
 pub(crate) fn act_step(cpu: CpuId, at: usize) -> Option<Micro>
     ensures { result ≡ slice_get (steps.under_lock cpu steps.acting) at }
 {
-    let list = [
-        Micro::Acquire(cpu),
-        Micro::Act,
-        Micro::Commit,
-        Micro::Release(cpu),
-    ];
-    list.get(at).copied()
+    match at {
+        0 => Some(Micro::Acquire(cpu)),
+        1 => Some(Micro::Act),
+        2 => Some(Micro::Commit),
+        3 => Some(Micro::Release(cpu)),
+        _ => None,
+    }
 }
 
 /// The micro-steps of a task that goes to sleep.
@@ -35,32 +35,30 @@ pub(crate) fn sleep_step(cpu: CpuId, home: CpuId, at: usize) -> Option<Micro>
 fn move_step(cpu: CpuId, at: usize) -> Option<Micro>
     ensures { result ≡ slice_get (steps.under_lock cpu steps.moving) at }
 {
-    let list = [
-        Micro::Acquire(cpu),
-        Micro::Detach,
-        Micro::Attach,
-        Micro::Commit,
-        Micro::Release(cpu),
-    ];
-    list.get(at).copied()
+    match at {
+        0 => Some(Micro::Acquire(cpu)),
+        1 => Some(Micro::Detach),
+        2 => Some(Micro::Attach),
+        3 => Some(Micro::Commit),
+        4 => Some(Micro::Release(cpu)),
+        _ => None,
+    }
 }
 
 /// The micro-steps of a task's move between two queues.
 pub(crate) fn move_between_step(a: CpuId, b: CpuId, at: usize) -> Option<Micro>
     ensures { result ≡ slice_get (steps.under_locks a b steps.moving) at }
 {
-    let first = lesser(a, b);
-    let second = greater(a, b);
-    let list = [
-        Micro::Acquire(first),
-        Micro::Acquire(second),
-        Micro::Detach,
-        Micro::Attach,
-        Micro::Commit,
-        Micro::Release(second),
-        Micro::Release(first),
-    ];
-    list.get(at).copied()
+    match at {
+        0 => Some(Micro::Acquire(lesser(a, b))),
+        1 => Some(Micro::Acquire(greater(a, b))),
+        2 => Some(Micro::Detach),
+        3 => Some(Micro::Attach),
+        4 => Some(Micro::Commit),
+        5 => Some(Micro::Release(greater(a, b))),
+        6 => Some(Micro::Release(lesser(a, b))),
+        _ => None,
+    }
 }
 
 fn lesser(a: CpuId, b: CpuId) -> CpuId

@@ -39,13 +39,6 @@ number_on-other n c text h d = rw h (go (words text))
     go [] = rw d
     go (w ∷ ws) = rw d
 
-pub words-within : (c : ℕ) (text : List ℕ) → eqb c 32 ≡ false → drop 1 (words (c ∷ text)) ≡ drop 1 (words text)
-words-within c text h = rw h (go (words text))
-  where
-    go : (ws : List (List ℕ)) → drop 1 (onto_first c ws) ≡ drop 1 ws
-    go [] = refl
-    go (w ∷ ws) = refl
-
 -- a number that begins with another digit than 0 is its digits'
 pub first_number-digits : (c : ℕ) (text : List ℕ) → eqb c 32 ≡ false → eqb c 48 ≡ false → first_number (words (c ∷ text)) ≡ number_on 0 (words (c ∷ text))
 unfolding number
