@@ -1,3 +1,4 @@
+pub mod BlockText
 pub mod Text
 pub mod TextDeed
 pub mod TextQueue

@@ -1,10 +1,13 @@
 //! The report of an outcome: each CPU's schedule, its queue and the requests that were left to it, and the
 //! history as a script where that is wanted.
 //!
-//! A text is pushed onto a vector of bytes, one kind of line by one function.
+//! A text is pushed onto a vector of bytes, one kind of line by one function. The lines of the history, of which there
+//! are the most, are written into a `BlockText` first, which is pushed whole.
 #![tactic(auto)]
 
+mod block_text;
 mod schedules;
+mod text_blocks;
 mod text_deeds;
 mod text_lines;
 mod text_numbers;

@@ -1,66 +1,73 @@
-//! The texts of the CPUs' schedules, written in one pass over the history.
+//! The lines of the CPUs' schedules, found in one pass over the history.
 
-ghost use Rattle.std.specs.Prelude.{◌≡◌, ℕ, ◌<◌, ◌++◌, [], length, IfOk, OnOk, slice_index_or};
-ghost use Rattle.eevdf_report.specs.{TextReport.schedule_at, TextSchedules.schedules_of};
+ghost use Rattle.std.specs.Prelude.{◌≡◌, ℕ, ◌<◌, ◌++◌, [], length, map, IfOk, OnOk, slice_index_or};
+ghost use Rattle.eevdf_report.specs.TextSchedules.{own_line, schedules_of};
 
-use crate::text_deeds::{cpu_of, push_schedule_line};
+use crate::text_deeds::cpu_of;
 use eevdf_ops::Line;
 use std::alloc::{AllocError, Global};
 use std::marker::Model;
 
-/// The text of each CPU's schedule.
+/// The lines of each CPU's schedule.
 #[derive(Drop)]
-pub(crate) struct Schedules {
-    texts: Vec<Vec<u8>>,
+pub(crate) struct Schedules<'a> {
+    lines: Vec<Vec<&'a Line>>,
 }
 
-impl Model for Schedules {
+impl<'a> Model for Schedules<'a> {
     ghost use Rattle.std.specs.Prelude.{ℕ, List, map};
+    ghost use Rattle.eevdf_ops.specs.declared.deeds.Line.{Line};
 
-    ghost Value = { List (List ℕ) };
+    ghost Value = { List (List Line) };
 
-    ghost view = { λ s. map (λ t. t.items) s.texts.items };
+    ghost view = { λ s. map (λ v. map (λ l. l.now) v.items) s.lines.items };
 }
 
-impl Schedules {
+impl<'a> Schedules<'a> {
     /// The schedules of so many CPUs in a history. A line of any other CPU stands in none of them.
-    pub(crate) fn of(alloc: Global, cpus: usize, lines: &[Line]) -> Result<Schedules, AllocError>
+    pub(crate) fn of(
+        alloc: Global,
+        cpus: usize,
+        lines: &'a [Line],
+    ) -> Result<Schedules<'a>, AllocError>
         ensures { IfOk result (λ s. s ≡ schedules_of cpus lines.now) }
     {
-        let mut schedules = Schedules::empty(alloc, cpus)?;
+        let average = lines.len() / cpus.max(1);
+        let mut schedules = Schedules::empty(alloc, cpus, average + average / 8)?;
         for line in lines {
-            schedules.push(*line)?;
+            schedules.push(line)?;
         }
         Ok(schedules)
     }
 
     /// The schedule of a CPU.
-    pub(crate) fn schedule(&self, cpu: usize) -> &[u8]
+    pub(crate) fn schedule(&self, cpu: usize) -> &[&'a Line]
         requires { cpu < length self.now }
-        ensures { result.now ≡ slice_index_or self.now cpu [] }
+        ensures { map (λ l. l.now) result.now ≡ slice_index_or self.now cpu [] }
     {
-        &self.texts[cpu]
+        &self.lines[cpu]
     }
 
-    fn empty(alloc: Global, cpus: usize) -> Result<Schedules, AllocError>
+    /// The schedules of a history without lines, with room for so many lines in each.
+    fn empty(alloc: Global, cpus: usize, room: usize) -> Result<Schedules<'a>, AllocError>
         ensures { IfOk result (λ s. s ≡ schedules_of cpus []) }
     {
-        let mut texts = Vec::with_capacity(alloc, cpus)?;
+        let mut lines = Vec::with_capacity(alloc, cpus)?;
         for _ in 0..cpus {
-            texts.push(Vec::new(alloc))?;
+            lines.push(Vec::with_capacity(alloc, room)?)?;
         }
-        Ok(Schedules { texts })
+        Ok(Schedules { lines })
     }
 
     /// Adds a line to the schedule of its CPU.
-    fn push(&mut self, line: Line) -> Result<(), AllocError>
+    fn push(&mut self, line: &'a Line) -> Result<(), AllocError>
         ensures cpus { OnOk result (length self.new ≡ length self.old) }
         ensures each { OnOk result ((c : ℕ) → c < length self.old
-            → slice_index_or self.new c [] ≡ slice_index_or self.old c [] ++ schedule_at c line) }
+            → slice_index_or self.new c [] ≡ slice_index_or self.old c [] ++ own_line c line.now) }
     {
         let cpu = cpu_of(line.deed).index();
-        if let Some(text) = self.texts.get_mut(cpu) {
-            push_schedule_line(text, line)?;
+        if let Some(lines) = self.lines.get_mut(cpu) {
+            lines.push(line)?;
         }
         Ok(())
     }

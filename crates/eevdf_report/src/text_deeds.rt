@@ -1,10 +1,10 @@
-ghost use Rattle.std.specs.Prelude.{◌≡◌, ◌++◌, OnOk, decimal};
+ghost use Rattle.std.specs.Prelude.{◌≡◌, ◌+◌, ◌≤◌, ◌++◌, length, decimal};
 ghost use Rattle.eevdf_ops.specs.Parts.{decider};
+ghost use Rattle.eevdf_report.specs.BlockText.{block_room, most_bytes};
 ghost use Rattle.eevdf_report.specs.TextDeed.{deed_text, answer_text, resched_text, schedule_line, script_line};
 
-use crate::text_numbers::{push_number, push_signed};
+use crate::block_text::BlockText;
 use eevdf_ops::{Answer, CpuId, Deed, Line};
-use std::alloc::AllocError;
 
 /// The CPU on which a deed is done.
 pub(crate) fn cpu_of(deed: Deed) -> CpuId
@@ -21,85 +21,102 @@ pub(crate) fn cpu_of(deed: Deed) -> CpuId
     }
 }
 
-pub(crate) fn push_deed(text: &mut Vec<u8>, deed: Deed) -> Result<(), AllocError>
-    ensures { OnOk result (text.new.items ≡ text.old.items ++ deed_text deed) }
+/// Writes a deed before the text of a line.
+fn prepend_deed(text: &mut BlockText, deed: Deed)
+    requires { 51 + length text.old ≤ block_room }
+    ensures text { text.new ≡ deed_text deed ++ text.old }
+    ensures len { length text.new ≤ 51 + length text.old }
 {
     match deed {
-        Deed::Tick { ns, .. } => push_with_number(text, b"tick ", ns.get()),
-        Deed::Pick { .. } => text.extend_from_slice(b"pick"),
-        Deed::Yield { .. } => text.extend_from_slice(b"yield"),
-        Deed::Sleep { task, .. } => push_with_number(text, b"sleep ", task.get()),
+        Deed::Tick { ns, .. } => prepend_with_number(text, b"tick ", ns.get()),
+        Deed::Pick { .. } => text.prepend(b"pick"),
+        Deed::Yield { .. } => text.prepend(b"yield"),
+        Deed::Sleep { task, .. } => prepend_with_number(text, b"sleep ", task.get()),
         Deed::Wake { task, sender, .. } => {
-            push_with_number(text, b"wake ", task.get())?;
-            push_with_number(text, b" from ", sender.get())
+            prepend_with_number(text, b" from ", sender.get());
+            prepend_with_number(text, b"wake ", task.get());
         }
-        Deed::Pull { source, .. } => push_with_number(text, b"pull ", source.get()),
+        Deed::Pull { source, .. } => prepend_with_number(text, b"pull ", source.get()),
         Deed::Renice { task, nice, .. } => {
-            push_with_number(text, b"renice ", task.get())?;
-            text.extend_from_slice(b" ")?;
-            push_signed(text, nice.get())
+            text.prepend_signed(nice.get());
+            text.prepend(b" ");
+            prepend_with_number(text, b"renice ", task.get());
         }
     }
 }
 
 /// Writes a word with a number after it.
-fn push_with_number(text: &mut Vec<u8>, word: &[u8], number: u64) -> Result<(), AllocError>
-    ensures { OnOk result (text.new.items ≡ text.old.items ++ (word.now ++ decimal number)) }
+#[inline(always)]
+fn prepend_with_number<const N: usize>(text: &mut BlockText, word: &[u8; N], number: u64)
+    requires { N + (20 + length text.old) ≤ block_room }
+    ensures text { text.new ≡ word.now ++ (decimal number ++ text.old) }
+    ensures len { length text.new ≤ N + (20 + length text.old) }
 {
-    text.extend_from_slice(word)?;
-    push_number(text, number)
+    text.prepend_number(number);
+    text.prepend(word);
 }
 
-fn push_resched(text: &mut Vec<u8>, resched: bool) -> Result<(), AllocError>
-    ensures { OnOk result (text.new.items ≡ text.old.items ++ resched_text resched) }
+fn prepend_resched(text: &mut BlockText, resched: bool)
+    requires { 8 + length text.old ≤ block_room }
+    ensures text { text.new ≡ resched_text resched ++ text.old }
+    ensures len { length text.new ≤ 8 + length text.old }
 {
-    text.extend_from_slice(if resched { b" resched" } else { b"" })
-}
-
-pub(crate) fn push_answer(text: &mut Vec<u8>, answer: Answer) -> Result<(), AllocError>
-    ensures { OnOk result (text.new.items ≡ text.old.items ++ answer_text answer) }
-{
-    match answer {
-        Answer::Charged { task, resched } => {
-            push_with_number(text, b"charged ", task.get())?;
-            push_resched(text, resched)
-        }
-        Answer::Picked(task) => push_with_number(text, b"picked ", task.get()),
-        Answer::Idle => text.extend_from_slice(b"idle"),
-        Answer::Yielded => text.extend_from_slice(b"yielded"),
-        Answer::Slept(lag) => {
-            text.extend_from_slice(b"slept ")?;
-            push_signed(text, lag)
-        }
-        Answer::NotRunning => text.extend_from_slice(b"not running"),
-        Answer::Woken => text.extend_from_slice(b"woken"),
-        Answer::Awake => text.extend_from_slice(b"awake"),
-        Answer::Pulled(task) => push_with_number(text, b"pulled ", task.get()),
-        Answer::Balanced => text.extend_from_slice(b"balanced"),
-        Answer::Nothing => text.extend_from_slice(b"nothing"),
-        Answer::Range => text.extend_from_slice(b"range"),
-        Answer::Reniced => text.extend_from_slice(b"reniced"),
-        Answer::NotHere => text.extend_from_slice(b"not here"),
+    if resched {
+        text.prepend(b" resched");
     }
 }
 
-/// Writes a deed with its answer, as a schedule lists it.
-pub(crate) fn push_schedule_line(text: &mut Vec<u8>, line: Line) -> Result<(), AllocError>
-    ensures { OnOk result (text.new.items ≡ text.old.items ++ schedule_line line) }
+/// Writes an answer before the text of a line.
+fn prepend_answer(text: &mut BlockText, answer: Answer)
+    requires { 36 + length text.old ≤ block_room }
+    ensures text { text.new ≡ answer_text answer ++ text.old }
+    ensures len { length text.new ≤ 36 + length text.old }
 {
-    push_deed(text, line.deed)?;
-    text.extend_from_slice(b": ")?;
-    push_answer(text, line.answer)?;
-    text.extend_from_slice(b"\n")
+    match answer {
+        Answer::Charged { task, resched } => {
+            prepend_resched(text, resched);
+            prepend_with_number(text, b"charged ", task.get());
+        }
+        Answer::Picked(task) => prepend_with_number(text, b"picked ", task.get()),
+        Answer::Idle => text.prepend(b"idle"),
+        Answer::Yielded => text.prepend(b"yielded"),
+        Answer::Slept(lag) => {
+            text.prepend_signed(lag);
+            text.prepend(b"slept ");
+        }
+        Answer::NotRunning => text.prepend(b"not running"),
+        Answer::Woken => text.prepend(b"woken"),
+        Answer::Awake => text.prepend(b"awake"),
+        Answer::Pulled(task) => prepend_with_number(text, b"pulled ", task.get()),
+        Answer::Balanced => text.prepend(b"balanced"),
+        Answer::Nothing => text.prepend(b"nothing"),
+        Answer::Range => text.prepend(b"range"),
+        Answer::Reniced => text.prepend(b"reniced"),
+        Answer::NotHere => text.prepend(b"not here"),
+    }
 }
 
-/// Writes a deed as a member of a script.
-pub(crate) fn push_script_line(text: &mut Vec<u8>, line: Line) -> Result<(), AllocError>
-    ensures { OnOk result (text.new.items ≡ text.old.items ++ script_line line) }
+/// Writes a deed with its answer, as a schedule lists it, before the text.
+pub(crate) fn prepend_schedule_line(text: &mut BlockText, line: Line)
+    requires { most_bytes + length text.old ≤ block_room }
+    ensures text { text.new ≡ schedule_line line ++ text.old }
+    ensures len { length text.new ≤ most_bytes + length text.old }
 {
-    text.extend_from_slice(b"\"")?;
-    push_number(text, cpu_of(line.deed).get())?;
-    text.extend_from_slice(b" ")?;
-    push_deed(text, line.deed)?;
-    text.extend_from_slice(b"\",\n")
+    text.prepend(b"\n");
+    prepend_answer(text, line.answer);
+    text.prepend(b": ");
+    prepend_deed(text, line.deed);
+}
+
+/// Writes a deed as a member of a script, before the text.
+pub(crate) fn prepend_script_line(text: &mut BlockText, line: Line)
+    requires { most_bytes + length text.old ≤ block_room }
+    ensures text { text.new ≡ script_line line ++ text.old }
+    ensures len { length text.new ≤ most_bytes + length text.old }
+{
+    text.prepend(b"\",\n");
+    prepend_deed(text, line.deed);
+    text.prepend(b" ");
+    text.prepend_number(cpu_of(line.deed).get());
+    text.prepend(b"\"");
 }

@@ -1,7 +1,8 @@
 ghost use Rattle.std.specs.Prelude.{◌≡◌, ◌++◌, OnOk};
 ghost use Rattle.eevdf_report.specs.TextReport.{left_line, left_from, cpu_line, script_lines, script_text};
 
-use crate::text_deeds::push_script_line;
+use crate::block_text::BlockText;
+use crate::text_deeds::prepend_script_line;
 use crate::text_numbers::push_number;
 use eevdf_ops::Line;
 use eevdf_queue::TaskId;
@@ -42,8 +43,11 @@ pub(crate) fn push_left(
 fn push_script_lines(text: &mut Vec<u8>, lines: &[Line]) -> Result<(), AllocError>
     ensures { OnOk result (text.new.items ≡ text.old.items ++ script_lines lines.now) }
 {
+    let mut script_line = BlockText::new();
     for line in lines {
-        push_script_line(text, *line)?;
+        script_line.clear();
+        prepend_script_line(&mut script_line, *line);
+        text.extend_from_slice(script_line.as_bytes())?;
     }
     Ok(())
 }

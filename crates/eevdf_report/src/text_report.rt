@@ -1,8 +1,10 @@
-ghost use Rattle.std.specs.Prelude.{◌≡◌, ◌++◌, ◌<◌, length, IfOk, OnOk};
+ghost use Rattle.std.specs.Prelude.{◌≡◌, ◌++◌, ◌<◌, length, map, IfOk, OnOk};
 ghost use Rattle.eevdf_ops.specs.Outcome.{machine_of};
 ghost use Rattle.eevdf_report.specs.TextReport.{cpu_text, cpus_text, left_of, history_text, report_text, schedule_of};
+ghost use Rattle.eevdf_report.specs.TextSchedules.{schedule_lines};
 
 use crate::schedules::Schedules;
+use crate::text_blocks::push_schedule;
 use crate::text_lines::{push_cpu_line, push_left, push_script};
 use crate::text_queue::push_queue;
 use eevdf_ops::{Line, Outcome};
@@ -14,7 +16,7 @@ pub fn report(alloc: Global, outcome: &Outcome, history: bool) -> Result<Vec<u8>
     ensures { IfOk result (λ text.
         text.items ≡ report_text outcome.now.lines (machine_of outcome.now.queues) outcome.now.left history) }
 {
-    let mut text = Vec::new(alloc);
+    let mut text = Vec::with_capacity(alloc, usual_bytes(outcome.history().len()))?;
     push_cpus(alloc, &mut text, outcome)?;
     push_history(&mut text, history, outcome.history())?;
     Ok(text)
@@ -46,16 +48,17 @@ fn push_cpu(
     text: &mut Vec<u8>,
     outcome: &Outcome,
     cpu: usize,
-    schedule: &[u8],
+    schedule: &[&Line],
 ) -> Result<(), AllocError>
     requires cpu { cpu < length outcome.now.queues }
-    requires schedule { schedule.now ≡ schedule_of cpu outcome.now.lines }
+    requires schedule { schedule_lines (map (λ l. l.now) schedule.now)
+        ≡ schedule_of cpu outcome.now.lines }
     ensures { OnOk result (text.new.items
         ≡ text.old.items
         ++ cpu_text outcome.now.lines (machine_of outcome.now.queues) outcome.now.left cpu) }
 {
     push_cpu_line(text, cpu)?;
-    text.extend_from_slice(schedule)?;
+    push_schedule(text, schedule)?;
     push_queue(text, outcome.queue(cpu))?;
     push_left_of(text, outcome, cpu)
 }
@@ -69,4 +72,10 @@ fn push_left_of(text: &mut Vec<u8>, outcome: &Outcome, home: usize) -> Result<()
         push_left(text, sender, outcome.left(sender, home))?;
     }
     Ok(())
+}
+
+/// As many bytes as so many lines of a schedule take at most, as a rule: a vector that begins with room for them is
+/// seldom moved to a larger place.
+fn usual_bytes(lines: usize) -> usize {
+    lines.saturating_mul(32)
 }

@@ -1,7 +1,8 @@
-use Rattle.std.proofs.Common.{List, ℕ, [], length, get_or, ap, ◌∙◌, arith}
+use Rattle.std.proofs.Common.{List, [], length, get_or, ap, ◌∙◌, arith}
 use Rattle.eevdf_ops.specs.Outcome.{machine_of}
-use Rattle.eevdf_report.specs.TextReport.{cpu_text, schedule_of}
-use Rattle.eevdf_report.proofs.{ByNumber.text_more, ScheduleLines.length-schedules_of, ScheduleLines.schedule-at}
+use Rattle.eevdf_ops.specs.declared.deeds.Line.{Line}
+use Rattle.eevdf_report.specs.{TextReport.cpu_text, TextSchedules.own_lines, TextSchedules.schedule_lines}
+use Rattle.eevdf_report.proofs.{ByNumber.text_more, ScheduleLines.length-schedules_of, ScheduleLines.schedule-at, ScheduleLines.texts_of_own}
 use Rattle.eevdf_report.proofs.text_report.push_cpus.Goals as goal
 
 pub schedule-requires : goal.schedule-requires
@@ -9,10 +10,12 @@ schedule-requires c = omega (arith, ap length c.in_ok-schedules.ensures ∙ leng
 
 pub push_cpu-requires-clause-schedule : goal.push_cpu-requires-clause-schedule
 push_cpu-requires-clause-schedule c =
-    c.schedule.ensures
-    ∙ ap (λ (s : List (List ℕ)). get_or s c.loop-cpu.cpu []) c.in_ok-schedules.ensures
+    ap schedule_lines
+    (c.schedule.ensures
+    ∙ ap (λ (s : List (List Line)). get_or s c.loop-cpu.cpu []) c.in_ok-schedules.ensures
     ∙ schedule-at c.cpus.result c.loop-cpu.cpu c.history.result.now (omega arith)
-    ∙ ap (schedule_of c.loop-cpu.cpu) c.history.ensures
+    ∙ ap (own_lines c.loop-cpu.cpu) c.history.ensures)
+    ∙ texts_of_own c.loop-cpu.cpu c.args.outcome.now.lines
 
 pub loop-cpu-preserved : goal.loop-cpu-preserved
 loop-cpu-preserved c =
