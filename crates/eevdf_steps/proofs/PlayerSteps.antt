@@ -13,7 +13,7 @@ use Rattle.eevdf_steps.specs.Plan.{IsSound, Plan, callers, is_sound_op}
 use Rattle.eevdf_steps.specs.Counters.{counted, refused, step_next}
 use Rattle.eevdf_steps.specs.PostLists.{PostList, has_room, list_at, place_of, posts_after, request_after, ArePosted}
 use Rattle.eevdf_steps.specs.MicroState.{answers, appends, home_for, micro_by, works}
-use Rattle.eevdf_steps.proofs.{SoundSteps.is_caller, SoundSteps.step_sound, WorkPlaces.hand_nowhere, SerialSteps.SerialStep}
+use Rattle.eevdf_steps.proofs.{SoundSteps.home_for_below, SoundSteps.is_caller, SoundSteps.step_sound, WorkPlaces.hand_nowhere, SerialSteps.SerialStep}
 use Rattle.eevdf_steps.proofs.{SerialSteps.serial_step, WorkSteps.works_kept, Rooms.fewer_to_come, Posting.place_below}
 use Rattle.eevdf_steps.proofs.{Posting.posts_step, Progressing.progress_then, PlayerParts.same_callers, PlayerParts.with_parts}
 
@@ -77,8 +77,14 @@ module _ {w : Callers} {lists : List PostList} {found : List (Option ℕ)} {done
   counted_it : p < length w.counters
   counted_it = omega (arith, st.caller, st.each)
 
-  pub is_working : (h : ℕ) → h < callers w.plan → IsWorking done.work p h
-  is_working h home = grind (arith, hand_nowhere)
+  home_there : home_for w.plan p s.op < callers w.plan
+  home_there = home_for_below w.plan p s.op st.sound st.caller st.sound_op
+
+  works_at : (h : ℕ) → h < callers w.plan → IsWorking done.work p h
+  works_at h home = grind (arith, hand_nowhere)
+
+  pub is_working : IsWorking done.work p (home_for w.plan p s.op)
+  is_working = works_at (home_for w.plan p s.op) home_there
 
   pub pulls : pulls_from (length done.work.machine) s.op ≡ true
   pulls = pulls_by w.plan (length done.work.machine) s.op st.playing.work.queues st.sound_op
@@ -114,11 +120,11 @@ module _ {w : Callers} {lists : List PostList} {found : List (Option ℕ)} {done
       → deeds_of (done_then w found done p s).journal.lines ≡ deeds_of a.state.lines ++ committed_by a.state.progress p (step_next a.plan a.state.progress.counters p)
   commits_then a same = grind (arith, common_steps)
 
-  playing_then : home_for w.plan p s.op < callers w.plan → IsPlaying (callers_then w p) (lists_then w lists p s) (found_then w lists found p s) (done_then w found done p s)
-  playing_then home = record {
+  playing_then : IsPlaying (callers_then w p) (lists_then w lists p s) (found_then w lists found p s) (done_then w found done p s)
+  playing_then = record {
     posts = posts_then.1;
     found = length-set found p (request_then w lists p s (get_or found p None)) ∙ st.playing.found;
-    work = works_kept w.plan done.work p (home_for w.plan p s.op) s.op s.micro (get_or found p None) st.playing.work st.caller home
+    work = works_kept w.plan done.work p (home_for w.plan p s.op) s.op s.micro (get_or found p None) st.playing.work st.caller home_there
         (pulls_by w.plan (callers w.plan) s.op refl st.sound_op) (step_of (get_or found p None)).hand;
     reserved = st.playing.reserved;
     room = omega (arith, fewer, st.playing.room, length-append done.journal.lines (appends done.work p s.op s.micro (get_or found p None)));
@@ -152,8 +158,8 @@ module _ {w w' : Callers} {lists lists' : List PostList} {found found' : List (O
       → P (callers_then w p) (lists_then w lists p s) (found_then w lists found p s) (done_then w found done p s) → P w' lists' found' done'
   then P = with_parts P (same_callers w' w.plan (counted w.counters p) t.plan t.counters) t.lists_are t.found_are t.done_is
 
-  pub playing_after : home_for w.plan p s.op < callers w.plan → IsPlaying w' lists' found' done'
-  playing_after home = then IsPlaying (playing_then t.stepped home)
+  pub playing_after : IsPlaying w' lists' found' done'
+  playing_after = then IsPlaying (playing_then t.stepped)
 
   pub state_after : (a : Player) → player_of w lists found done ≡ a → player_of w' lists' found' done' ≡ player_step a p
   state_after a same = then (λ v ls fs d. player_of v ls fs d ≡ player_step a p) (player_then t.stepped ∙ ap (λ (b : Player). player_step b p) same)

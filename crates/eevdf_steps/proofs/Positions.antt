@@ -9,7 +9,7 @@ use Rattle.eevdf_steps.specs.{declared.micro.Micro.Micro, declared.plan.Step.Ste
 use Rattle.eevdf_steps.specs.Positions.{IsPosition, is_within}
 use Rattle.eevdf_steps.specs.Plan.{Plan, callers, program}
 use Rattle.eevdf_steps.specs.MicroSteps.{draining, micros_of, moving, steps_of, under_lock, under_locks}
-use Rattle.eevdf_steps.proofs.Lists.{get_left, get_right, got_past}
+use Rattle.eevdf_steps.proofs.Lists.{get_left, get_right}
 
 abbrev pub step_in : Op → Micro → Step
 step_in o m = record { op = o; micro = m }
@@ -96,13 +96,14 @@ stands_by plan p at s (Some o) here is e =
 pub stands : (plan : Plan) (p : ℕ) (at : Position) (s : Step) → IsPosition plan p at → at.next ≡ Some s → StandsIn plan p at s
 stands plan p at s is e = stands_by plan p at s (slice_get (program plan p) at.operation) refl is e
 
--- the operation's next step is there, or was its last
-pub step_within : (ms : List Micro) (o : Op) (j : ℕ) (s : Step) → option_map (step_in o) (slice_get ms j) ≡ Some s → j < length ms
-step_within ms o j s e = some_within ms o j s (slice_get ms j) refl e
-  where
-    some_within : (ms : List Micro) (o : Op) (j : ℕ) (s : Step) (r : Option Micro) → slice_get ms j ≡ r → option_map (step_in o) r ≡ Some s → j < length ms
-    some_within ms o j s None at e = cc
-    some_within ms o j s (Some m) at e = slice_get_within ms j m at
-
-pub step_past : (ms : List Micro) (o : Op) (j : ℕ) → option_map (step_in o) (slice_get ms j) ≡ None → length ms ≤ j
-step_past ms o j e = grind (arith, got_past)
+-- a position that has gone on with its operation's next step
+pub goes_on : (plan : Plan) (p : ℕ) (at on : Position) (s : Step) (m : Micro) → StandsIn plan p at s → at.next ≡ Some s
+    → on.operation ≡ at.operation → on.steps ≡ at.steps + 1 → on.next ≡ option_map (λ (t : Step). step_in t.op m) at.next
+    → slice_get (micros_of plan p s.op) (at.steps + 1) ≡ Some m → IsPosition plan p on
+goes_on plan p at on s m stands e same one next is =
+    let h : at.steps + 1 < length (micros_of plan p s.op) = slice_get_within (micros_of plan p s.op) (at.steps + 1) m is in
+    let there : on.next ≡ option_map (step_in s.op) (slice_get (micros_of plan p s.op) (at.steps + 1))
+    = next ∙ ap (λ (q : Option Step). option_map (λ (t : Step). step_in t.op m) q) e
+    ∙ sym (ap (λ (q : Option Micro). option_map (step_in s.op) q) is) in
+    let on_is : record { operation = at.operation; steps = at.steps + 1; next = on.next } ≡ on = grind arith in
+    subst (IsPosition plan p) on_is (position_in plan p at.operation (at.steps + 1) s.op on.next stands.here h there)

@@ -11,7 +11,7 @@ use Rattle.eevdf_steps.specs.{SoundSteps.is_sound_step, declared.micro.Micro.The
 use Rattle.eevdf_steps.specs.declared.micro.Micro.TheVariants.{Commit}
 use Rattle.eevdf_steps.specs.Plan.{IsSound, Plan, callers, home, is_sound_op, program}
 use Rattle.eevdf_steps.specs.MicroSteps.{draining, micros_of, moving, steps_by, steps_of, under_lock, under_locks}
-use Rattle.eevdf_steps.specs.Counters.{Counters, count_of, step_next}
+use Rattle.eevdf_steps.specs.{Counters.Counters, Counters.count_of, Counters.step_next, MicroState.home_for}
 use Rattle.eevdf_steps.proofs.{Lists.all_at, Plans.program_ops_sound, Positions.step_in}
 
 pub all_joined : {A : Type 0} (test : A → Bool) (xs ys : List A) → list_all test xs ≡ true → list_all test ys ≡ true → list_all test (xs ++ ys) ≡ true
@@ -33,6 +33,9 @@ sleeps plan p h b k l = grind arith
 
 pub home_below : (plan : Plan) (task : ℕ) → IsSound plan → task < length plan.homes → home plan task < callers plan
 home_below plan task s h = ltb-true (home plan task) (callers plan) (all_at (λ (k : ℕ). nat_lt k (callers plan)) plan.homes task 0 s.homes h)
+
+pub home_for_below : (plan : Plan) (p : ℕ) (o : Op) → IsSound plan → p < callers plan → is_sound_op plan o ≡ true → home_for plan p o < callers plan
+home_for_below plan p o s h k = grind (arith, home_below, ltb-true)
 
 micros_sound : (plan : Plan) (p : ℕ) (o : Op) → IsSound plan → p < callers plan → is_sound_op plan o ≡ true → list_all (is_sound_micro plan) (micros_of plan p o) ≡ true
 micros_sound plan p (op.Sleep task) s h k = grind (arith, common_steps)

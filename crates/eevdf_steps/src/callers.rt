@@ -157,8 +157,8 @@ impl Callers {
     {
         self.plan.keeps();
         note_locks(&mut self.holders, cpu, step.micro);
-        let at = self.positions[cpu.index()];
-        self.positions[cpu.index()] = self.plan.position_after(cpu, at, step);
+        self.plan
+            .move_on(cpu, &mut self.positions[cpu.index()], step);
     }
 }
 

@@ -6,7 +6,6 @@
 #![tactic(auto)]
 
 mod callers;
-mod commits;
 mod hand;
 mod journal;
 pub mod laws;

@@ -1,13 +1,12 @@
 //! What the callers are to do.
 
-ghost use Rattle.std.specs.Prelude.{◌≡◌, ◌+◌, ◌*◌, ◌<◌, ◌≤◌, Some, true, length, slice_get, take};
+ghost use Rattle.std.specs.Prelude.{◌≡◌, ◌+◌, ◌*◌, ◌<◌, ◌^◌, ◌≤◌, Some, true, length, slice_get, take};
 ghost use Rattle.std.specs.Prelude.{IfOk, IfSome};
 ghost use Rattle.std.specs.Option.{option_map};
 ghost use Rattle.eevdf_ops.specs.Numbers.{most_cpus, most_operations};
-ghost use Rattle.eevdf_steps.specs.{Callers.BeginAll, MicroState.home_for, MicroSteps.micros_of};
+ghost use Rattle.eevdf_steps.specs.{Callers.BeginAll, MicroSteps.micros_of};
 ghost use Rattle.eevdf_steps.specs.{MicroSteps.steps_of};
-ghost use Rattle.eevdf_steps.specs.{Positions.IsPosition, Positions.counter_at, PostLists.place_of};
-ghost use Rattle.eevdf_steps.specs.{SoundSteps.is_sound_micro};
+ghost use Rattle.eevdf_steps.specs.{Positions.IsPosition, Positions.counter_at};
 ghost use Rattle.eevdf_steps.specs.Plan.{IsSound, callers, home, is_sound_op, pair, plan_of};
 ghost use Rattle.eevdf_steps.specs.Plan.{program};
 
@@ -23,18 +22,6 @@ use std::marker::Model;
 pub(crate) struct Step {
     pub(crate) op: Op,
     pub(crate) micro: Micro,
-}
-
-/// A step with all that it is done with: the caller's CPU, the home of the task that the operation names, the
-/// place of the list of requests that it reads or adds to, and the request that the caller has found.
-#[derive(Clone, Copy, Debug)]
-pub(crate) struct Turn {
-    pub(crate) cpu: CpuId,
-    pub(crate) op: Op,
-    pub(crate) micro: Micro,
-    pub(crate) home: CpuId,
-    pub(crate) place: usize,
-    pub(crate) found: Option<TaskId>,
 }
 
 /// The micro-step alone.
@@ -53,6 +40,22 @@ pub(crate) struct Position {
     pub(crate) operation: usize,
     pub(crate) steps: usize,
     pub(crate) next: Option<Step>,
+}
+
+impl Position {
+    /// Goes on with this micro-step of the operation.
+    fn go_on(&mut self, micro: Micro)
+        requires { self.old.steps + 1 < 2 ^ 64 }
+        ensures operation { self.new.operation ≡ self.old.operation }
+        ensures steps { self.new.steps ≡ self.old.steps + 1 }
+        ensures next { self.new.next
+            ≡ option_map (λ (s : _). record { op = s.op; micro = micro }) self.old.next }
+    {
+        self.steps += 1;
+        if let Some(next) = &mut self.next {
+            next.micro = micro;
+        }
+    }
 }
 
 /// What the callers of a setup are to do, with the setup itself.
@@ -125,35 +128,8 @@ impl Plan {
         self.setup.spec(task).home
     }
 
-    /// The home to which an operation's task goes or its request is posted, and the caller's CPU for any other operation.
-    pub(crate) fn home_for(&self, cpu: CpuId, op: Op) -> CpuId
-        requires caller { cpu < callers self.now }
-        requires sound { is_sound_op self.now op ≡ true }
-        ensures home { result ≡ home_for self.now cpu op }
-        ensures below { result < callers self.now }
-    {
-        match op {
-            Op::Sleep(task) | Op::Post(task) => self.home(task),
-            _ => cpu,
-        }
-    }
-
-    /// The place of the list of requests that a step reads or adds to.
-    pub(crate) fn place(&self, cpu: CpuId, micro: Micro) -> usize
-        requires caller { cpu < callers self.now }
-        requires sound { is_sound_micro self.now micro ≡ true }
-        ensures place { result ≡ place_of self.now cpu micro }
-        ensures below { result < callers self.now * callers self.now }
-    {
-        match micro {
-            Micro::Take(sender) => self.pair(sender, cpu),
-            Micro::Post(task) => self.pair(cpu, self.home(task)),
-            _ => 0,
-        }
-    }
-
-    /// The place of the list from a sender to a home.
-    fn pair(&self, sender: CpuId, home: CpuId) -> usize
+    /// The place of the list of requests from a sender to a home.
+    pub(crate) fn pair(&self, sender: CpuId, home: CpuId) -> usize
         requires sender { sender < callers self.now }
         requires home { home < callers self.now }
         ensures place { result ≡ pair self.now sender home }
@@ -235,22 +211,18 @@ impl Plan {
         self.micro_at(cpu, op, at).map(|micro| Step { op, micro })
     }
 
-    /// The position of a caller that has done its next step.
-    pub(crate) fn position_after(&self, cpu: CpuId, at: Position, step: Step) -> Position
+    /// Moves a caller on that has done its next step.
+    pub(crate) fn move_on(&self, cpu: CpuId, at: &mut Position, step: Step)
         requires caller { cpu < callers self.now }
-        requires position { IsPosition self.now cpu at }
-        requires step { at.next ≡ Some step }
-        ensures position { IsPosition self.now cpu result }
-        ensures counter { counter_at self.now cpu result ≡ counter_at self.now cpu at + 1 }
+        requires position { IsPosition self.now cpu at.old }
+        requires step { at.old.next ≡ Some step }
+        ensures position { IsPosition self.now cpu at.new }
+        ensures counter { counter_at self.now cpu at.new ≡ counter_at self.now cpu at.old + 1 }
     {
         self.keeps();
-        match self.step_of(cpu, step.op, at.steps + 1) {
-            None => self.begin(cpu, at.operation + 1),
-            Some(following) => Position {
-                operation: at.operation,
-                steps: at.steps + 1,
-                next: Some(following),
-            },
+        match self.micro_at(cpu, step.op, at.steps + 1) {
+            None => *at = self.begin(cpu, at.operation + 1),
+            Some(micro) => at.go_on(micro),
         }
     }
 }

@@ -9,16 +9,15 @@ ghost use Rattle.eevdf_steps.specs.Playing as playing;
 ghost use Rattle.eevdf_steps.specs.Plays as plays;
 
 use crate::callers::Callers;
-use crate::commits::commit;
 use crate::journal::Journal;
 use crate::micro::Micro;
 use crate::openings::{lines, nothing_found};
 use crate::place::Place;
-use crate::plan::{Step, Turn, micro_of};
+use crate::plan::{Step, micro_of};
 use crate::requests::Requests;
 use crate::step_fault::StepFault;
 use crate::work::Work;
-use crate::work_steps::do_work;
+use crate::work_steps::do_micro;
 use eevdf_ops::laws::every_task_in_one_place;
 use eevdf_ops::{CpuId, Line, Outcome, Setup, Solo};
 use eevdf_queue::{Queue, TaskId};
@@ -226,19 +225,15 @@ impl Player {
         ensures commits { player.Appends self.old cpu self.new }
     {
         self.callers.keeps();
-        let plan = self.callers.plan();
-        let turn = Turn {
+        do_micro(
+            &mut self.work,
+            &mut self.journal,
+            &mut self.posts,
+            &mut self.found[cpu.index()],
+            self.callers.plan(),
             cpu,
-            op: step.op,
-            micro: step.micro,
-            home: plan.home_for(cpu, step.op),
-            place: plan.place(cpu, step.micro),
-            found: self.found[cpu.index()],
-        };
-        let answer = do_work(&mut self.work, &turn);
-        commit(&mut self.journal, &turn, answer);
-        let request = self.posts.pass(&turn);
-        self.found[cpu.index()] = request;
+            &step,
+        );
         self.callers.advance(cpu, step);
     }
 }

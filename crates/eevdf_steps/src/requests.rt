@@ -1,12 +1,12 @@
 //! The requests from CPU to CPU, and what the steps of the callers do to them.
 
-ghost use Rattle.std.specs.Prelude.{◌≡◌, ◌<◌, drop, length, map, true, IfOk};
+ghost use Rattle.std.specs.Prelude.{◌≡◌, ◌<◌, drop, length, map, slice_set, true, IfOk};
 ghost use Rattle.eevdf_steps.specs.Openings.{AreEmpty};
+ghost use Rattle.eevdf_steps.specs.{declared.micro.Micro.TheVariants.Post};
 ghost use Rattle.eevdf_steps.specs.PostLists as lists;
 
-use crate::micro::Micro;
 use crate::openings::empty_posts;
-use crate::plan::{Plan, Turn};
+use crate::plan::Plan;
 use crate::post_list::PostList;
 use eevdf_queue::TaskId;
 use std::alloc::{AllocError, Global};
@@ -41,25 +41,24 @@ impl Requests {
         Ok(Requests { posts, left })
     }
 
-    /// Does a step on its list: a post is added to it, a take finds its oldest request, and what was found is settled. The
-    /// answer is what the caller has found then.
-    pub(crate) fn pass(&mut self, turn: &Turn) -> Option<TaskId>
-        requires place { turn.now.place < length self.old }
-        requires room { lists.has_room (lists.list_at self.old turn.now.place) turn.now.micro
-            ≡ true }
-        ensures posts { self.new ≡ lists.posts_after turn.now.place turn.now.micro self.old }
-        ensures found { result
-            ≡ lists.request_after turn.now.place turn.now.micro self.old turn.now.found }
+    /// Takes the oldest request of a list that wasn't taken yet, where there is one.
+    pub(crate) fn take(&mut self, place: usize) -> Option<TaskId>
+        requires { place < length self.old }
+        ensures oldest { result ≡ lists.oldest_in (lists.list_at self.old place) }
+        ensures after { self.new
+            ≡ slice_set self.old place (lists.taken_more (lists.list_at self.old place)) }
     {
-        match turn.micro {
-            Micro::Take(_) => self.posts[turn.place].take(),
-            Micro::Settle(_) => None,
-            Micro::Post(task) => {
-                self.posts[turn.place].post(task);
-                turn.found
-            }
-            _ => turn.found,
-        }
+        self.posts[place].take()
+    }
+
+    /// Adds a request to a list. It takes no memory.
+    pub(crate) fn post(&mut self, place: usize, task: TaskId)
+        requires place { place < length self.old }
+        requires room { lists.has_room (lists.list_at self.old place) (Post task) ≡ true }
+        ensures { self.new
+            ≡ slice_set self.old place (lists.posted_more (lists.list_at self.old place) task) }
+    {
+        self.posts[place].post(task);
     }
 
     /// What is left of each list. It takes no memory.

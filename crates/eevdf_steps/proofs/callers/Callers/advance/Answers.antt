@@ -7,7 +7,7 @@ use Rattle.eevdf_steps.proofs.{SoundSteps.is_caller, SoundSteps.micro_sound, Sou
 use Rattle.eevdf_steps.proofs.CounterLists.{counters_with, length-counters_at, positions_with, step_kept}
 use Rattle.eevdf_steps.proofs.Holders.{holders_next, same_holders, sound_lock, written_back, length-holders_after}
 use Rattle.eevdf_steps.proofs.callers.Callers.advance.Goals as goal
-use Rattle.eevdf_steps.proofs.callers.Callers.advance.Goals.{After-keeps, After-index-at, After-index_mut}
+use Rattle.eevdf_steps.proofs.callers.Callers.advance.Goals.{After-keeps, After-index, After-index_mut, After-move_on}
 
 step_is : (c : After-keeps) → step_next c.self.inside.plan (counters_at c.self.inside.plan 0 c.self.inside.positions.items) c.args.cpu ≡ Some c.args.step
 step_is c = ap (λ (w : Callers). step_next w.plan w.counters c.args.cpu) c.self.view_is ∙ c.requires.step
@@ -25,26 +25,25 @@ note_locks-requires c =
     (ap (λ (hs : List (Option ℕ)). length hs) c.deref_mut.ensures.value ∙ c.self.invariant.locks.each)
     (micro_sound c.self.inside.plan c.args.step (sound (goal.at.note_locks-requires c).After-keeps))
 
-kept : (c : After-index-at) → c.index-at.result.now.next ≡ Some c.args.step
+within : (c : After-index) → c.index.result < length c.self.inside.positions.items
+within c = omega (arith, caller (goal.at.After-index c).After-keeps, c.index.ensures.number, c.self.invariant.each)
+
+kept : (c : After-index_mut) → c.index_mut.result.now.next ≡ Some c.args.step
 kept c =
-    step_kept c.self.inside.plan c.self.inside.positions.items c.index.result c.args.cpu c.index-at.result.now c.index.ensures.number
-    (omega (arith, caller (goal.at.After-index-at c).After-keeps, c.index.ensures.number, c.self.invariant.each)) c.index-at.ensures c.self.invariant.within
-    ∙ step_is (goal.at.After-index-at c).After-keeps
+    step_kept c.self.inside.plan c.self.inside.positions.items c.index.result c.args.cpu c.index_mut.result.now c.index.ensures.number
+    (within (goal.at.After-index_mut c).After-index) c.index_mut.ensures.value c.self.invariant.within
+    ∙ step_is (goal.at.After-index_mut c).After-keeps
 
-pub position_after-requires-clause-step : goal.position_after-requires-clause-step
-position_after-requires-clause-step c = kept (goal.at.position_after-requires-clause-step c).After-index-at
+pub move_on-requires-clause-step : goal.move_on-requires-clause-step
+move_on-requires-clause-step c = kept (goal.at.move_on-requires-clause-step c).After-index_mut
 
-within : (c : After-index_mut) → c.index-2.result < length c.self.inside.positions.items
-within c = omega (arith, caller (goal.at.After-index_mut c).After-keeps, c.index-2.ensures.number, c.self.invariant.each)
-
-counts : (c : After-index_mut) → counters_at c.self.inside.plan 0 (set c.self.inside.positions.items c.index-2.result c.position_after.result)
+counts : (c : After-move_on) → counters_at c.self.inside.plan 0 (set c.self.inside.positions.items c.index.result c.move_on.new.at)
     ≡ counted (counters_at c.self.inside.plan 0 c.self.inside.positions.items) c.args.cpu
 counts c =
-    ap (λ (k : ℕ). counters_at c.self.inside.plan 0 (set c.self.inside.positions.items k c.position_after.result)) (c.index-2.ensures.number ∙ sym c.index.ensures.number)
-    ∙ counters_with c.self.inside.plan c.self.inside.positions.items c.index.result c.index-at.result.now c.position_after.result
-    (omega (arith, within c, c.index.ensures.number, c.index-2.ensures.number)) c.index-at.ensures
-    (subst (λ (k : ℕ). counter_at c.self.inside.plan k c.position_after.result ≡ counter_at c.self.inside.plan k c.index-at.result.now + 1)
-    (sym c.index.ensures.number) c.position_after.ensures.counter)
+    counters_with c.self.inside.plan c.self.inside.positions.items c.index.result c.index_mut.result.now c.move_on.new.at
+    (within (goal.at.After-move_on c).After-index) c.index_mut.ensures.value
+    (subst (λ (k : ℕ). counter_at c.self.inside.plan k c.move_on.new.at ≡ counter_at c.self.inside.plan k c.index_mut.result.now + 1)
+    (sym c.index.ensures.number) c.move_on.ensures.counter)
     ∙ ap (counted (counters_at c.self.inside.plan 0 c.self.inside.positions.items)) c.index.ensures.number
 
 pub invariant_of-self : goal.invariant_of-self
@@ -54,10 +53,10 @@ invariant_of-self c =
     let long : length c.note_locks.new.holders ≡ length c.self.inside.holders.items
     = ap (λ (hs : List (Option ℕ)). length hs) noted ∙ length-holders_after c.args.cpu c.args.step.micro c.self.inside.holders.items in
     record {
-      each = length-set c.self.inside.positions.items c.index-2.result c.position_after.result ∙ c.self.invariant.each;
-      within = positions_with c.self.inside.plan c.self.inside.positions.items c.index-2.result c.position_after.result (within (goal.at.invariant_of-self c).After-index_mut)
-          (subst (λ (k : ℕ). IsPosition c.self.inside.plan k c.position_after.result) (sym c.index-2.ensures.number) c.position_after.ensures.position) c.self.invariant.within;
-      locks = same_holders c.self.inside.plan _ _ _ _ (counts (goal.at.invariant_of-self c).After-index_mut)
+      each = length-set c.self.inside.positions.items c.index.result c.move_on.new.at ∙ c.self.invariant.each;
+      within = positions_with c.self.inside.plan c.self.inside.positions.items c.index.result c.move_on.new.at (within (goal.at.invariant_of-self c).After-index)
+          (subst (λ (k : ℕ). IsPosition c.self.inside.plan k c.move_on.new.at) (sym c.index.ensures.number) c.move_on.ensures.position) c.self.invariant.within;
+      locks = same_holders c.self.inside.plan _ _ _ _ (counts (goal.at.invariant_of-self c).After-move_on)
           (written_back c.self.inside.holders.len c.note_locks.new.holders c.self.inside.holders.items (omega (arith, c.deref_mut.ensures.len, long)) ∙ noted)
           (holders_next c.self.inside.plan (counters_at c.self.inside.plan 0 c.self.inside.positions.items) c.self.inside.holders.items c.args.cpu c.args.step c.self.invariant.locks
           (omega (arith, caller (goal.at.invariant_of-self c).After-keeps, length-counters_at c.self.inside.plan 0 c.self.inside.positions.items, c.self.invariant.each))
@@ -66,4 +65,4 @@ invariant_of-self c =
     }
 
 pub returns-clause-counters : goal.returns-clause-counters
-returns-clause-counters c = counts (goal.at.returns-clause-counters c).After-index_mut ∙ ap (λ (w : Callers). counted w.counters c.args.cpu) c.self.view_is
+returns-clause-counters c = counts (goal.at.returns-clause-counters c).After-move_on ∙ ap (λ (w : Callers). counted w.counters c.args.cpu) c.self.view_is
