@@ -3,6 +3,7 @@ ghost use Rattle.eevdf_workload.specs.FaultTexts.{key_text, load_fault_text};
 
 use crate::workload::Workload;
 use eevdf_ops::SetupFault;
+use std::alloc::AllocError;
 use std::error::Error;
 use std::fmt;
 
@@ -98,3 +99,14 @@ impl fmt::Display for LoadFault {
 }
 
 impl Error for LoadFault {}
+
+impl From<AllocError> for LoadFault {
+    ghost use Rattle.std.specs.Prelude.{◌≡◌};
+    ghost use Rattle.eevdf_workload.specs.declared.load_fault.LoadFault.TheVariants.{Memory};
+
+    ghost from_gives = { λ _ fault. fault ≡ Memory };
+
+    fn from(_out_of_memory: AllocError) -> LoadFault {
+        LoadFault::Memory
+    }
+}

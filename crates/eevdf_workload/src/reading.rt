@@ -36,7 +36,7 @@ pub fn read_workload(alloc: Global, bytes: &[u8]) -> Result<Workload, LoadFault>
         return Err(LoadFault::TooLarge);
     }
     let document = document_of(alloc, bytes)?;
-    workload_of(alloc, &document)
+    workload_of(alloc, document)
 }
 
 #[tactic(auto, unfolding(crate::specs::Meaning::document_of))]
@@ -51,22 +51,24 @@ fn document_of(alloc: Global, bytes: &[u8]) -> Result<Table, LoadFault>
 }
 
 #[tactic(auto, unfolding(crate::specs::Meaning::workload_of))]
-fn workload_of(alloc: Global, document: &Table) -> Result<Workload, LoadFault>
-    ensures { Reads (λ w. w) (workload_of (table_view document.now)) result }
+fn workload_of(alloc: Global, document: Table) -> Result<Workload, LoadFault>
+    ensures { Reads (λ w. w) (workload_of (table_view document)) result }
 {
-    let version = version(document)?;
+    let version = version(&document)?;
     workload_in(alloc, version.limits(), document)
 }
 
-// The workload that a document describes within the limits of its version.
+// The workload that a document describes within the limits of its version. The order is read last, out of what it stands
+// in, but its faults come before the script's.
 #[tactic(auto, unfolding(crate::specs::Meaning::workload_in))]
-fn workload_in(alloc: Global, limits: Limits, document: &Table) -> Result<Workload, LoadFault>
-    ensures { Reads (λ w. w) (workload_in limits (table_view document.now)) result }
+fn workload_in(alloc: Global, limits: Limits, document: Table) -> Result<Workload, LoadFault>
+    ensures { Reads (λ w. w) (workload_in limits (table_view document)) result }
 {
-    let tasks = tasks(alloc, limits, document)?;
-    let programs = programs(alloc, limits, document)?;
+    let tasks = tasks(alloc, limits, &document)?;
+    let programs = programs(alloc, limits, &document)?;
+    let script = script(alloc, limits, &document);
     let order = order(alloc, document)?;
-    let script = script(alloc, limits, document)?;
+    let script = script?;
     let setup = setup_of(alloc, limits, &tasks, &programs)?;
     check_script(&setup, &script)?;
     Ok(Workload::new(setup, order, script))

@@ -1,7 +1,7 @@
 ghost use Rattle.std.specs.Prelude.{◌≡◌, Ok, Err, Some, None, option_map, MatchResult};
 ghost use Rattle.eevdf_workload.specs.Meaning.{version, version_of};
 ghost use Rattle.eevdf_workload.specs.MeaningSteps.{array_at, boolean_or, good_at, integer_or, natural};
-ghost use Rattle.toml.specs.Data.{get_member};
+ghost use Rattle.toml.specs.Data.{as_integer, get_member};
 ghost use Rattle.toml.specs.View.{array_view, table_view, view};
 
 use crate::load_fault::{Key, LoadFault};
@@ -83,4 +83,32 @@ pub(crate) fn array_at(value: &Value, key: Key) -> Result<&Array, LoadFault>
         (λ e. array_at key (view value.now) ≡ Err e) }
 {
     good_at(key, value.as_array())
+}
+
+/// The value at a key of a table, and the rest of the table let go.
+pub(crate) fn into_member(mut table: Table, name: &str) -> Option<Value>
+    ensures { option_map (λ v. view v) result ≡ get_member name.now (table_view table) }
+{
+    table.remove(name)
+}
+
+/// The members of an array, or a bad value at the key where it is none.
+pub(crate) fn into_array_at(value: Value, key: Key) -> Result<Array, LoadFault>
+    ensures { MatchResult result (λ a. array_at key (view value) ≡ Ok (array_view a))
+        (λ e. array_at key (view value) ≡ Err e) }
+{
+    match value {
+        Value::Array(members) => Ok(members),
+        _ => Err(LoadFault::BadValue { key }),
+    }
+}
+
+/// The integer that a value is, if it is one.
+pub(crate) fn into_integer(value: Value) -> Option<i64>
+    ensures { result ≡ as_integer (view value) }
+{
+    match value {
+        Value::Integer(number) => Some(number),
+        _ => None,
+    }
 }

@@ -3,15 +3,18 @@
 ghost use Rattle.std.specs.Prelude.{◌≡◌, map, option_map};
 ghost use Rattle.eevdf_workload.specs.Meaning.{caller_at, deed_at, operation_at, order, program_at, programs, script, script_of};
 ghost use Rattle.eevdf_workload.specs.MeaningSteps.{each, Reads};
-ghost use Rattle.toml.specs.View.{items_view, table_view, view};
+ghost use Rattle.toml.specs.View.{array_view, items_view, table_view, view};
 
 use crate::load_fault::{Key, LoadFault};
 use crate::reading::deed_text::deed;
-use crate::reading::document_keys::{array_at, good_at, member, natural, required};
+use crate::reading::document_keys::{
+    array_at, good_at, into_array_at, into_integer, into_member, member, natural, required,
+};
 use crate::reading::operation_text::operation;
 use crate::version::Limits;
 use eevdf_ops::{Deed, Op};
 use std::alloc::Global;
+use toml::value::Array;
 use toml::{Table, Value};
 
 /// The programs, one for each CPU.
@@ -121,32 +124,34 @@ fn deed_at(limits: Limits, place: usize, value: &Value) -> Result<Deed, LoadFaul
     good_at(Key::Script(place), deed)
 }
 
-/// The order of the callers, if there is one.
+/// The order of the callers, if there is one. The document goes with it: a long list is let go sooner as it is read than
+/// after that.
 #[tactic(auto, unfolding(crate::specs::Meaning::order))]
-pub(crate) fn order(alloc: Global, document: &Table) -> Result<Option<Vec<usize>>, LoadFault>
+pub(crate) fn order(alloc: Global, document: Table) -> Result<Option<Vec<usize>>, LoadFault>
     ensures { Reads (λ found. option_map (λ ps. ps.items) found)
-        (order (table_view document.now)) result }
+        (order (table_view document)) result }
 {
-    match member(document, "order") {
-        Some(value) => Ok(Some(callers(alloc, array_at(value, Key::Orders)?)?)),
+    match into_member(document, "order") {
+        Some(value) => Ok(Some(callers(alloc, into_array_at(value, Key::Orders)?)?)),
         None => Ok(None),
     }
 }
 
-fn callers(alloc: Global, members: &[Value]) -> Result<Vec<usize>, LoadFault>
-    ensures { Reads (λ ps. ps.items) (each caller_at 0 (items_view members.now)) result }
+fn callers(alloc: Global, members: Array) -> Result<Vec<usize>, LoadFault>
+    ensures { Reads (λ ps. ps.items) (each caller_at 0 (array_view members)) result }
 {
-    let mut order = Vec::new(alloc);
-    for (place, member) in members.iter().enumerate() {
-        order.push(caller_at(place, member)?)?;
+    let mut order = Vec::with_capacity(alloc, members.len())?;
+    for member in members {
+        let place = order.len();
+        order.push_reserved(caller_at(place, member)?);
     }
     Ok(order)
 }
 
 #[tactic(auto, unfolding(crate::specs::Meaning::caller_at))]
-fn caller_at(place: usize, value: &Value) -> Result<usize, LoadFault>
-    ensures { result ≡ caller_at place (view value.now) }
+fn caller_at(place: usize, value: Value) -> Result<usize, LoadFault>
+    ensures { result ≡ caller_at place (view value) }
 {
-    let caller = good_at(Key::Order(place), value.as_integer().and_then(natural))?;
+    let caller = good_at(Key::Order(place), into_integer(value).and_then(natural))?;
     Ok(caller as usize)
 }
