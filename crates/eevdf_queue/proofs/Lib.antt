@@ -39,3 +39,4 @@ mod SmallSums
 mod Renicing
 mod Ascending
 mod Descending
+mod OneSide

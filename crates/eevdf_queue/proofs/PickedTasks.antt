@@ -4,7 +4,7 @@ use Rattle.std.specs.{Prelude.ℤ, Prelude.IfSome, Option.option_map, Ordering.n
 use Rattle.std.proofs.lemmas.Bool.Decides.{nat_tests}
 use Rattle.eevdf_queue.specs.{declared.entry.Entry.Entry, declared.task.Task.Task, declared.totals.Totals.Totals}
 use Rattle.eevdf_queue.specs.declared.picked_task.PickedTask.{PickedTask}
-use Rattle.eevdf_queue.specs.TaskLists.{find_task, runnable_in, AreRunnable}
+use Rattle.eevdf_queue.specs.{Numbers.number_limit, TaskLists.find_task, TaskLists.runnable_in, TaskLists.AreRunnable}
 use Rattle.eevdf_queue.specs.TreeTasks.{insert_task, first_that, IsAtDeadline}
 use Rattle.eevdf_queue.specs.TreeStores.{deadline_at, timeless, picked_timeless, IsRunnableStore, IsSummedStore, IsKnown, IsRunnableTasks}
 use Rattle.eevdf_queue.proofs.{RunnableMaps.get-runnable_in, TreeLists.find-insert_task, TreeMaps.placed_by}
@@ -22,7 +22,7 @@ entry_of d p (Some t) h a =
     ap (λ (z : ℤ × ℤ × ℕ). Some (record { v = z.0; d = t.entry.d; nice = z.1; slice = z.2 })) same
     ∙ ap (λ (z : ℤ). Some (record { v = p.runtime; d = z; nice = p.nice; slice = p.slice })) a
 
-pub known_entry : (table : List ℤ) (p : PickedTask) (ts : List Task) (m : FinMap nat_cmp Entry) (q : ℕ) → IsRunnableStore table ts → runnable_in ts ≡ m → IsKnown p ts → p.number < 1024 → p.number ≡ q
+pub known_entry : (table : List ℤ) (p : PickedTask) (ts : List Task) (m : FinMap nat_cmp Entry) (q : ℕ) → IsRunnableStore table ts → runnable_in ts ≡ m → IsKnown p ts → p.number < number_limit → p.number ≡ q
     → get m q ≡ Some (record { v = p.runtime; d = deadline_at table q; nice = p.nice; slice = p.slice })
 known_entry table p ts m q s v h k e =
     ap (λ (z : FinMap nat_cmp Entry). get z q) (sym v)

@@ -45,16 +45,16 @@ lesser_none a ts h k =
 -- a node of which one side is another of the same height: what it keeps is right where its least virtual runtime is
 pub record IsSameHigh (b a : Inside) : Type 0 where
   pub height : a.height ≡ b.height
-  pub left : height_in a.left ≡ height_in b.left
-  pub right : height_in a.right ≡ height_in b.right
+  pub left : height_in a.sides.left ≡ height_in b.sides.left
+  pub right : height_in a.sides.right ≡ height_in b.sides.right
 
 pub still_high : (b a : Inside) → IsNode b → IsSameHigh b a → a.least ≡ least_of (tasks_of a)
-    → suc (max (height_in a.left) (height_in a.right)) ≤ length (tasks_of a)
-    → (DifferByAtMost 1 (height_in a.left) (height_in a.right) → IsFull (suc (max (height_in a.left) (height_in a.right))) (length (tasks_of a)))
+    → suc (max (height_in a.sides.left) (height_in a.sides.right)) ≤ length (tasks_of a)
+    → (DifferByAtMost 1 (height_in a.sides.left) (height_in a.sides.right) → IsFull (suc (max (height_in a.sides.left) (height_in a.sides.right))) (length (tasks_of a)))
     → AreLow (tasks_of a) → IsNode a
 still_high b a n s least low full bounded =
-    let height : a.height ≡ suc (max (height_in a.left) (height_in a.right)) = omega (arith, n.height, s.height, s.left, s.right) in
-    let balanced : DifferByAtMost 1 (height_in a.left) (height_in a.right) =
+    let height : a.height ≡ suc (max (height_in a.sides.left) (height_in a.sides.right)) = omega (arith, n.height, s.height, s.left, s.right) in
+    let balanced : DifferByAtMost 1 (height_in a.sides.left) (height_in a.sides.right) =
     (omega (arith, n.balanced.0, n.balanced.1, s.left, s.right), omega (arith, n.balanced.0, n.balanced.1, s.left, s.right)) in
     record {
       height = height;

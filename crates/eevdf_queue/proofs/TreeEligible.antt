@@ -40,4 +40,4 @@ low-around xs t ys h k l = all-append _ xs (t ∷ ys) h (k.0, l)
 pub some-node : (w : ℕ) (s : ℤ) (a : Inside) → IsNode a → int_le (a.least.runtime *ℤ pos w) s ≡ is_some (first_that (is_eligible_at w s) (tasks_of a))
 some-node w s a h =
     ap (λ (z : Least). int_le (z.runtime *ℤ pos w) s) h.least
-    ∙ sym (some-least w s (tasks_of a) (tasks_in a.left) a.task (tasks_in a.right) refl h.bounded)
+    ∙ sym (some-least w s (tasks_of a) (tasks_in a.sides.left) a.task (tasks_in a.sides.right) refl h.bounded)

@@ -17,8 +17,8 @@ pub record IsBelow (k : TreeKey) (ts xs : List Task) : Type 0 where
   pub found : find_task k.number ts ≡ find_task k.number xs
 
 module _ (k : TreeKey) (a : Inside) (ts : List Task) (e : ts ≡ tasks_of a) (h : Holds k ts) where
-  longer : length ts ≡ length (tasks_in a.left) + suc (length (tasks_in a.right))
-  longer = ap (λ (z : List Task). length z) e ∙ length-append (tasks_in a.left) (a.task ∷ tasks_in a.right)
+  longer : length ts ≡ length (tasks_in a.sides.left) + suc (length (tasks_in a.sides.right))
+  longer = ap (λ (z : List Task). length z) e ∙ length-append (tasks_in a.sides.left) (a.task ∷ tasks_in a.sides.right)
 
   below : (xs : List Task) → length xs < length ts → AreOrdered xs → find_task k.number ts ≡ find_task k.number xs → IsBelow k ts xs
   below xs l o f = record {
@@ -27,24 +27,24 @@ module _ (k : TreeKey) (a : Inside) (ts : List Task) (e : ts ≡ tasks_of a) (h 
     found = f;
   }
 
-  pub below_left : is_under k a.task ≡ true → IsBelow k ts (tasks_in a.left)
+  pub below_left : is_under k a.task ≡ true → IsBelow k ts (tasks_in a.sides.left)
   below_left p =
-      below (tasks_in a.left) (omega (arith, longer)) (ordered_left ts (tasks_in a.left) a.task (tasks_in a.right) e h.ordered)
-      (find_left k ts (tasks_in a.left) a.task (tasks_in a.right) e h.ordered h.placed p)
+      below (tasks_in a.sides.left) (omega (arith, longer)) (ordered_left ts (tasks_in a.sides.left) a.task (tasks_in a.sides.right) e h.ordered)
+      (find_left k ts (tasks_in a.sides.left) a.task (tasks_in a.sides.right) e h.ordered h.placed p)
 
-  pub below_right : is_over k a.task ≡ true → IsBelow k ts (tasks_in a.right)
+  pub below_right : is_over k a.task ≡ true → IsBelow k ts (tasks_in a.sides.right)
   below_right p =
-      below (tasks_in a.right) (omega (arith, longer)) (ordered_right ts (tasks_in a.left) a.task (tasks_in a.right) e h.ordered)
-      (find_right k ts (tasks_in a.left) a.task (tasks_in a.right) e h.ordered h.placed p)
+      below (tasks_in a.sides.right) (omega (arith, longer)) (ordered_right ts (tasks_in a.sides.left) a.task (tasks_in a.sides.right) e h.ordered)
+      (find_right k ts (tasks_in a.sides.left) a.task (tasks_in a.sides.right) e h.ordered h.placed p)
 
   pub found_here : HasKey k a.task → find_task k.number ts ≡ Some a.task
-  found_here g = ap (find_task k.number) e ∙ find-here k (tasks_in a.left) a.task (tasks_in a.right) (subst AreOrdered e h.ordered) (subst (IsPlaced k) e h.placed) g
+  found_here g = ap (find_task k.number) e ∙ find-here k (tasks_in a.sides.left) a.task (tasks_in a.sides.right) (subst AreOrdered e h.ordered) (subst (IsPlaced k) e h.placed) g
 
 -- a list in which something is done at the key's task, of a node: it is done on that side, or at the task
 pub record IsEdited (k : TreeKey) (a : Inside) (edit : List Task → List Task) (at : Task → List Task → List Task) (ts : List Task) : Type 0 where
-  pub left : is_under k a.task ≡ true → (xs : List Task) → xs ≡ edit (tasks_in a.left) → xs ++ a.task ∷ tasks_in a.right ≡ edit ts
-  pub right : is_over k a.task ≡ true → (ys : List Task) → ys ≡ edit (tasks_in a.right) → tasks_in a.left ++ a.task ∷ ys ≡ edit ts
-  pub here : HasKey k a.task → tasks_in a.left ++ at a.task (tasks_in a.right) ≡ edit ts
+  pub left : is_under k a.task ≡ true → (xs : List Task) → xs ≡ edit (tasks_in a.sides.left) → xs ++ a.task ∷ tasks_in a.sides.right ≡ edit ts
+  pub right : is_over k a.task ≡ true → (ys : List Task) → ys ≡ edit (tasks_in a.sides.right) → tasks_in a.sides.left ++ a.task ∷ ys ≡ edit ts
+  pub here : HasKey k a.task → tasks_in a.sides.left ++ at a.task (tasks_in a.sides.right) ≡ edit ts
 
 same_number : (m n : ℕ) → m ≡ n → eqb m n ≡ true
 same_number m n h = grind (arith, nat_tests)
@@ -70,16 +70,16 @@ module _ (k : TreeKey) (edit : List Task → List Task) (at : Task → List Task
       let d = subst (IsPlaced k) e h.placed in
       record {
         left = λ p xs i.
-            let f = some_of (find_task k.number (tasks_in a.left)) (below_left k a ts e h p).holds.here in
-            ap (λ (z : List Task). z ++ a.task ∷ tasks_in a.right) i
-            ∙ sym (ap edit e ∙ edit-found (tasks_in a.left) (a.task ∷ tasks_in a.right) f.0 f.1);
+            let f = some_of (find_task k.number (tasks_in a.sides.left)) (below_left k a ts e h p).holds.here in
+            ap (λ (z : List Task). z ++ a.task ∷ tasks_in a.sides.right) i
+            ∙ sym (ap edit e ∙ edit-found (tasks_in a.sides.left) (a.task ∷ tasks_in a.sides.right) f.0 f.1);
         right = λ p ys i.
-            let n = missed-left_over k (tasks_in a.left) a.task (tasks_in a.right) o d p in
-            ap (λ (z : List Task). tasks_in a.left ++ a.task ∷ z) i
-            ∙ sym (ap edit e ∙ past (tasks_in a.left) a.task (tasks_in a.right) false n (not_here k (tasks_in a.left) a.task (tasks_in a.right) o d p));
+            let n = missed-left_over k (tasks_in a.sides.left) a.task (tasks_in a.sides.right) o d p in
+            ap (λ (z : List Task). tasks_in a.sides.left ++ a.task ∷ z) i
+            ∙ sym (ap edit e ∙ past (tasks_in a.sides.left) a.task (tasks_in a.sides.right) false n (not_here k (tasks_in a.sides.left) a.task (tasks_in a.sides.right) o d p));
         here = λ g.
-            let n = missed-left k (tasks_in a.left) a.task (tasks_in a.right) o d g in
-            sym (ap edit e ∙ past (tasks_in a.left) a.task (tasks_in a.right) true n (same_number a.task.number k.number g.number));
+            let n = missed-left k (tasks_in a.sides.left) a.task (tasks_in a.sides.right) o d g in
+            sym (ap edit e ∙ past (tasks_in a.sides.left) a.task (tasks_in a.sides.right) true n (same_number a.task.number k.number g.number));
       }
 
 -- the task taken out

@@ -22,6 +22,7 @@ pub mod TreeChanges
 pub mod TreeNodes
 pub mod TreeDepth
 pub mod TreeKeys
+pub mod Sides
 pub mod Kept
 pub mod Laws
 pub mod TreeStores

@@ -6,12 +6,12 @@ use Rattle.eevdf_queue.specs.{declared.tree_node.TreeNode.TheDeep.deep-TreeNode,
 
 pub depth-le-length : (a : Inside) → deep-TreeNode a ≤ length (tasks_of a)
 depth-le-length a =
-    elim a.left as (λ l. deep-TreeNode (record a { left = l }) ≤ length (tasks_in l ++ a.task ∷ tasks_in a.right)) [
-      | None ↦ elim a.right as (λ r. deep-TreeNode (record a { left = None; right = r }) ≤ length (a.task ∷ tasks_in r)) [
+    elim a.sides.left as (λ l. deep-TreeNode (record a { sides = record a.sides { left = l } }) ≤ length (tasks_in l ++ a.task ∷ tasks_in a.sides.right)) [
+      | None ↦ elim a.sides.right as (λ r. deep-TreeNode (record a { sides = record { left = None; right = r } }) ≤ length (a.task ∷ tasks_in r)) [
         | None ↦ omega (arith, length-append {A = Task})
         | Some c ↦ omega (arith, length-append {A = Task})
       ]
-      | Some b ↦ elim a.right as (λ r. deep-TreeNode (record a { left = Some b; right = r }) ≤ length (b.value.tasks ++ a.task ∷ tasks_in r)) [
+      | Some b ↦ elim a.sides.right as (λ r. deep-TreeNode (record a { sides = record { left = Some b; right = r } }) ≤ length (b.value.tasks ++ a.task ∷ tasks_in r)) [
         | None ↦ omega (arith, length-append {A = Task})
         | Some c ↦ omega (arith, length-append {A = Task})
       ]

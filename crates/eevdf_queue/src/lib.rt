@@ -23,6 +23,7 @@ mod refusal;
 mod request;
 mod runnable_tasks;
 mod running;
+mod sides;
 mod sleeper;
 mod sleepers;
 mod task;

@@ -15,13 +15,13 @@ pub struct PickedTask {
     // the nice level and the slice stand as in an entry, so that both are copied in one go
     pub nice: Nice,
     pub slice: Slice,
-    /// The task's number, and `NOBODY` where nothing is known.
+    /// The task's number, and `NO_TASK` where nothing is known.
     pub number: u64,
 }
 
 impl PickedTask {
     /// A number that no task has. It takes the place of a flag, which would have to be written and asked too.
-    pub const NOBODY: u64 = TaskId::COUNT as u64;
+    pub const NO_TASK: u64 = TaskId::COUNT as u64;
 
     /// Nothing is known.
     pub fn none() -> PickedTask
@@ -31,7 +31,7 @@ impl PickedTask {
             runtime: 0,
             nice: Nice::MIN,
             slice: Slice::MIN,
-            number: PickedTask::NOBODY,
+            number: PickedTask::NO_TASK,
         }
     }
 

@@ -123,7 +123,7 @@ impl RunnableTasks {
         requires in_range { is_entry_in_range entry ≡ true }
         ensures { self.new ≡ map.insert self.old task entry }
     {
-        self.picked.number = PickedTask::NOBODY;
+        self.picked.number = PickedTask::NO_TASK;
         self.totals = exchanged(&self.totals, older, &entry);
         replace(&mut self.tree, &mut self.deadlines, task, entry);
     }
@@ -137,7 +137,7 @@ impl RunnableTasks {
         requires near { unsigned_abs (newer.v -ℤ older.now.v) ≤ 2 ^ 40 }
         ensures { self.new ≡ map.insert self.old task newer }
     {
-        self.picked.number = PickedTask::NOBODY;
+        self.picked.number = PickedTask::NO_TASK;
         correct_moment(&mut self.totals, older, &newer);
         replace(&mut self.tree, &mut self.deadlines, task, newer);
     }
@@ -152,7 +152,7 @@ impl RunnableTasks {
         requires near { unsigned_abs (newer.now.v -ℤ older.now.v) ≤ 2 ^ 40 }
         ensures { self.new ≡ map.insert self.old task newer.now }
     {
-        self.picked.number = PickedTask::NOBODY;
+        self.picked.number = PickedTask::NO_TASK;
         correct_moment(&mut self.totals, older, newer);
         let key = TreeKey::of(task, older);
         self.tree.age(&key, older, newer);
@@ -181,7 +181,7 @@ impl RunnableTasks {
         ensures parcel { option_map (leaving_at time task) (map.get self.old task) ≡ Some result }
     {
         self.keeps();
-        self.picked.number = PickedTask::NOBODY;
+        self.picked.number = PickedTask::NO_TASK;
         let node = take(&mut self.tree, &self.deadlines, task);
         let entry = node.task().entry;
         self.totals = without_share(&self.totals, &share(&entry));

@@ -15,6 +15,7 @@ mod tree_edit;
 
 use crate::entry::Entry;
 use crate::running::is_running;
+use crate::sides::Sides;
 use crate::task::Task;
 use crate::task_id::TaskId;
 use crate::tree_eligible::{Threshold, is_least_eligible, is_task_eligible};
@@ -30,8 +31,7 @@ pub struct TreeNode {
     task: Task,
     height: u32,
     least: Least,
-    left: Option<Box<TreeNode>>,
-    right: Option<Box<TreeNode>>,
+    sides: Sides<Option<Box<TreeNode>>>,
 }
 
 impl Model for TreeNode {
@@ -58,13 +58,6 @@ impl Model for TreeNode {
 pub struct Found<'a> {
     pub task: &'a Task,
     pub turns: u32,
-}
-
-/// The two sides of a node.
-#[derive(Drop)]
-pub struct Sides {
-    pub left: Option<Box<TreeNode>>,
-    pub right: Option<Box<TreeNode>>,
 }
 
 /// The height below a link.
@@ -99,8 +92,10 @@ impl TreeNode {
             task,
             height: 1,
             least: Least::of(&task),
-            left: None,
-            right: None,
+            sides: Sides {
+                left: None,
+                right: None,
+            },
         }
     }
 
@@ -190,9 +185,9 @@ pub fn find(link: &Option<Box<TreeNode>>, key: &TreeKey) -> Option<Task>
             return Some(node.task);
         }
         at = if key.is_under(&node.task) {
-            &node.left
+            &node.sides.left
         } else {
-            &node.right
+            &node.sides.right
         };
     }
     None
@@ -246,14 +241,14 @@ fn first_under<'a>(root: &'a TreeNode, totals: &Threshold) -> Found<'a>
     let mut turns: u32 = 0;
     'down: loop {
         turns += 1;
-        if let Some(left) = &at.left {
+        if let Some(left) = &at.sides.left {
             let left: &TreeNode = left;
             if is_least_eligible(totals, &left.least) {
                 at = left;
                 continue;
             }
         }
-        let Some(right) = &at.right else {
+        let Some(right) = &at.sides.right else {
             return Found {
                 task: &at.task,
                 turns,
@@ -278,7 +273,7 @@ pub fn last_task(link: &Option<Box<TreeNode>>) -> Option<TaskId>
     'down: while let Some(node) = at {
         let node: &TreeNode = node;
         last = Some(node.task.number);
-        at = &node.right;
+        at = &node.sides.right;
     }
     last
 }
@@ -296,11 +291,11 @@ pub fn last_waiting(
     'down: while let Some(node) = at {
         let node: &TreeNode = node;
         if is_running(running, node.task.number) {
-            last = last_waiting(&node.left, running, last);
+            last = last_waiting(&node.sides.left, running, last);
         } else {
             last = Some(node.task.number);
         }
-        at = &node.right;
+        at = &node.sides.right;
     }
     last
 }

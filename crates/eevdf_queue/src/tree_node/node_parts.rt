@@ -7,7 +7,8 @@ ghost use Rattle.eevdf_queue.specs.TreeNodes.{IsNode};
 ghost use Rattle.eevdf_queue.specs.TreeShape.{tasks_in, height_in, DifferByAtMost, IsFull, IsHeightOfBalanced};
 
 use super::rotation::even_out;
-use super::{Sides, TreeNode, height, least_around};
+use super::{TreeNode, height, least_around};
+use crate::sides::Sides;
 use crate::task::Task;
 use crate::tree_change::TreeChange;
 use crate::tree_least::Least;
@@ -20,7 +21,7 @@ pub fn part_from(
     left: &mut Option<Box<TreeNode>>,
     task: &Task,
     right: &mut Option<Box<TreeNode>>,
-) -> Sides
+) -> Sides<Option<Box<TreeNode>>>
     ensures left { tasks_in result.left ≡ tasks_in left.old }
     ensures right { tasks_in result.right ≡ tasks_in right.old }
     ensures left_height { height_in result.left ≡ height_in left.old }
@@ -65,8 +66,7 @@ pub fn correct(
           task = task.new;
           height = node_height.new;
           least = node_least.new;
-          left = left.new;
-          right = right.new;
+          sides = record { left = left.new; right = right.new };
         }) }
     ensures mended { IsHeightOfBalanced (height_in left.old) (height_in right.old) node_height.new }
     ensures same_height { keeps_height result ≡ true → node_height.new ≡ node_height.old }
@@ -81,15 +81,41 @@ pub fn correct(
         TreeChange::LeastAlone => {
             TreeChange::of_least(look_around(left, task, right).renew_least(node_least))
         }
-        TreeChange::Height => {
-            let around = look_around(left, task, right);
-            if around.is_uneven() {
-                return mend_uneven(node_height, node_least, left, task, right);
-            }
-            let other_height = around.renew_height(node_height);
-            TreeChange::of_both(other_height, around.renew_least(node_least))
-        }
+        TreeChange::Height => correct_both(node_height, node_least, left, task, right),
     }
+}
+
+/// Makes the height of a node and its least virtual runtime right again, where both may be others. A function of its own, so
+/// that the way back over other nodes keeps nothing for it.
+#[inline(never)]
+fn correct_both(
+    node_height: &mut u32,
+    node_least: &mut Least,
+    left: &mut Option<Box<TreeNode>>,
+    task: &mut Task,
+    right: &mut Option<Box<TreeNode>>,
+) -> TreeChange
+    requires near { DifferByAtMost 2 (height_in left.old) (height_in right.old) }
+    requires few { length (tasks_in left.old) + length (tasks_in right.old) ≤ 2 ^ 20 }
+    ensures tasks { tasks_in left.new ++ task.new ∷ tasks_in right.new
+        ≡ tasks_in left.old ++ task.old ∷ tasks_in right.old }
+    ensures node { IsNode
+        (record {
+          task = task.new;
+          height = node_height.new;
+          least = node_least.new;
+          sides = record { left = left.new; right = right.new };
+        }) }
+    ensures mended { IsHeightOfBalanced (height_in left.old) (height_in right.old) node_height.new }
+    ensures same_height { keeps_height result ≡ true → node_height.new ≡ node_height.old }
+    ensures same_least { keeps_least result ≡ true → node_least.new ≡ node_least.old }
+{
+    let around = look_around(left, task, right);
+    if around.is_uneven() {
+        return mend_uneven(node_height, node_least, left, task, right);
+    }
+    let other_height = around.renew_height(node_height);
+    TreeChange::of_both(other_height, around.renew_least(node_least))
 }
 
 /// Makes the height of a node right again where it may be another, and evens its sides where one is two higher. Answers whether
@@ -116,8 +142,7 @@ pub fn raise(
           task = task.new;
           height = node_height.new;
           least = least;
-          left = left.new;
-          right = right.new;
+          sides = record { left = left.new; right = right.new };
         }) }
     ensures mended { IsHeightOfBalanced (height_in left.old) (height_in right.old) node_height.new }
     ensures same_height { result ≡ false → node_height.new ≡ node_height.old }
@@ -153,8 +178,7 @@ fn mend_uneven(
           task = task.new;
           height = node_height.new;
           least = node_least.new;
-          left = left.new;
-          right = right.new;
+          sides = record { left = left.new; right = right.new };
         }) }
     ensures mended { IsHeightOfBalanced (height_in left.old) (height_in right.old) node_height.new }
     ensures same_height { keeps_height result ≡ true → node_height.new ≡ node_height.old }
@@ -184,8 +208,7 @@ fn raise_uneven(
           task = task.new;
           height = node_height.new;
           least = least;
-          left = left.new;
-          right = right.new;
+          sides = record { left = left.new; right = right.new };
         }) }
     ensures mended { IsHeightOfBalanced (height_in left.old) (height_in right.old) node_height.new }
     ensures same_height { result ≡ false → node_height.new ≡ node_height.old }
@@ -210,8 +233,7 @@ pub fn renew(
           task = task.now;
           height = node_height.new;
           least = node_least.new;
-          left = left.now;
-          right = right.now;
+          sides = record { left = left.now; right = right.now };
         }) }
     ensures height { node_height.new ≡ suc (max (height_in left.now) (height_in right.now)) }
 {

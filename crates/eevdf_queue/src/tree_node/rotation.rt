@@ -76,26 +76,26 @@ fn rotate_right(
 {
     let Some(node) = left else { unreachable!() };
     let node: &mut TreeNode = node;
-    if height(&node.left) >= height(&node.right) {
+    if height(&node.sides.left) >= height(&node.sides.right) {
         cross_right(
             &mut node.height,
             &mut node.least,
-            &mut node.left,
+            &mut node.sides.left,
             &mut node.task,
-            &mut node.right,
+            &mut node.sides.right,
             task,
             right,
         );
         mem::swap(left, right);
         return;
     }
-    lean_right(&mut node.right, task, right);
+    lean_right(&mut node.sides.right, task, right);
     renew(
         &mut node.height,
         &mut node.least,
-        &node.left,
+        &node.sides.left,
         &node.task,
-        &node.right,
+        &node.sides.right,
     );
 }
 
@@ -113,26 +113,26 @@ fn rotate_left(left: &mut Option<Box<TreeNode>>, task: &mut Task, right: &mut Op
 {
     let Some(node) = right else { unreachable!() };
     let node: &mut TreeNode = node;
-    if height(&node.right) >= height(&node.left) {
+    if height(&node.sides.right) >= height(&node.sides.left) {
         cross_left(
             &mut node.height,
             &mut node.least,
-            &mut node.left,
+            &mut node.sides.left,
             &mut node.task,
-            &mut node.right,
+            &mut node.sides.right,
             task,
             left,
         );
         mem::swap(left, right);
         return;
     }
-    lean_left(left, task, &mut node.left);
+    lean_left(left, task, &mut node.sides.left);
     renew(
         &mut node.height,
         &mut node.least,
-        &node.left,
+        &node.sides.left,
         &node.task,
-        &node.right,
+        &node.sides.right,
     );
 }
 
@@ -152,9 +152,9 @@ fn lean_right(left: &mut Option<Box<TreeNode>>, task: &mut Task, right: &mut Opt
     cross_right(
         &mut node.height,
         &mut node.least,
-        &mut node.left,
+        &mut node.sides.left,
         &mut node.task,
-        &mut node.right,
+        &mut node.sides.right,
         task,
         right,
     );
@@ -177,9 +177,9 @@ fn lean_left(left: &mut Option<Box<TreeNode>>, task: &mut Task, right: &mut Opti
     cross_left(
         &mut node.height,
         &mut node.least,
-        &mut node.left,
+        &mut node.sides.left,
         &mut node.task,
-        &mut node.right,
+        &mut node.sides.right,
         task,
         left,
     );
@@ -205,8 +205,7 @@ fn cross_right(
           task = node_task.new;
           height = node_height.new;
           least = node_least.new;
-          left = node_left.new;
-          right = node_right.new;
+          sides = record { left = node_left.new; right = node_right.new };
         }) }
     ensures tasks { tasks_in node_left.new ++ node_task.new ∷ tasks_in node_right.new
         ≡ tasks_in node_right.old ++ task.old ∷ tasks_in right.old }
@@ -240,8 +239,7 @@ fn cross_left(
           task = node_task.new;
           height = node_height.new;
           least = node_least.new;
-          left = node_left.new;
-          right = node_right.new;
+          sides = record { left = node_left.new; right = node_right.new };
         }) }
     ensures tasks { tasks_in node_left.new ++ node_task.new ∷ tasks_in node_right.new
         ≡ tasks_in left.old ++ task.old ∷ tasks_in node_left.old }

@@ -66,12 +66,12 @@ pub fn age(link: &mut Option<Box<TreeNode>>, key: TreeKey, runtimes: Runtimes)
     if key.is_of(&node.task) {
         set_runtime(&mut node.task, &runtimes);
     } else if key.is_under(&node.task) {
-        age(&mut node.left, key, runtimes);
+        age(&mut node.sides.left, key, runtimes);
     } else {
-        age(&mut node.right, key, runtimes);
+        age(&mut node.sides.right, key, runtimes);
     }
     // for the proof alone, as at an insertion
-    look_around(&node.left, &node.task, &node.right);
+    look_around(&node.sides.left, &node.task, &node.sides.right);
 }
 
 /// The same where the least virtual runtimes may become others, which are made right on the way back. Answers the one below
@@ -91,17 +91,20 @@ fn age_least(link: &mut Option<Box<TreeNode>>, key: TreeKey, runtimes: Runtimes)
     let node: &mut TreeNode = node;
     let renewed = if key.is_of(&node.task) {
         set_runtime(&mut node.task, &runtimes);
-        with_below(&with_below(&Least::of(&node.task), &node.right), &node.left)
+        with_below(
+            &with_below(&Least::of(&node.task), &node.sides.right),
+            &node.sides.left,
+        )
     } else if key.is_under(&node.task) {
-        let left = age_least(&mut node.left, key, runtimes);
-        left.or(&with_below(&Least::of(&node.task), &node.right))
+        let left = age_least(&mut node.sides.left, key, runtimes);
+        left.or(&with_below(&Least::of(&node.task), &node.sides.right))
     } else {
-        let right = age_least(&mut node.right, key, runtimes);
-        with_below(&Least::of(&node.task).or(&right), &node.left)
+        let right = age_least(&mut node.sides.right, key, runtimes);
+        with_below(&Least::of(&node.task).or(&right), &node.sides.left)
     };
     node.least = renewed;
     // for the proof alone, as at an insertion
-    look_around(&node.left, &node.task, &node.right);
+    look_around(&node.sides.left, &node.task, &node.sides.right);
     renewed
 }
 

@@ -9,6 +9,7 @@ ghost use Rattle.eevdf_queue.specs.{TreeKeys.Holds, TreeShape.tasks_in, TreeShap
 
 use super::TreeNode;
 use super::node_parts::{correct, part_from, raise};
+use crate::sides::Side;
 use crate::task::Task;
 use crate::tree_change::TreeChange;
 use crate::tree_key::{TreeKey, precedes};
@@ -35,16 +36,16 @@ pub fn insert(link: &mut Option<Box<TreeNode>>, node: Box<TreeNode>) -> bool
     let root: &mut TreeNode = root;
     root.least = root.least.or(&node.least());
     let grown = if precedes(&node.task(), &root.task) {
-        insert(&mut root.left, node)
+        insert(&mut root.sides.left, node)
     } else {
-        insert(&mut root.right, node)
+        insert(&mut root.sides.right, node)
     };
     raise(
         grown,
         &mut root.height,
-        &mut root.left,
+        &mut root.sides.left,
         &mut root.task,
-        &mut root.right,
+        &mut root.sides.right,
     )
 }
 
@@ -74,32 +75,31 @@ pub fn remove(link: &mut Option<Box<TreeNode>>, key: TreeKey) -> Taken
     let Some(root) = link else { unreachable!() };
     let root: &mut TreeNode = root;
     let taken = if key.is_of(&root.task) {
-        if root.left.is_none() {
+        if root.sides.left.is_none() {
             let sides = part_from(
                 &mut root.height,
                 &mut root.least,
-                &mut root.left,
+                &mut root.sides.left,
                 &root.task,
-                &mut root.right,
+                &mut root.sides.right,
             );
             return Taken {
                 node: replaced(link, sides.right),
                 change: TreeChange::Height,
             };
         }
-        exchanged(&mut root.task, &mut root.left)
-    } else if key.is_under(&root.task) {
-        remove(&mut root.left, key)
+        exchanged(&mut root.task, &mut root.sides.left)
     } else {
-        remove(&mut root.right, key)
+        let side = Side::left_where(key.is_under(&root.task));
+        remove(root.sides.side_mut(side), key)
     };
     let change = correct(
         taken.change,
         &mut root.height,
         &mut root.least,
-        &mut root.left,
+        &mut root.sides.left,
         &mut root.task,
-        &mut root.right,
+        &mut root.sides.right,
     );
     Taken {
         node: taken.node,
@@ -124,27 +124,27 @@ fn remove_last(link: &mut Option<Box<TreeNode>>) -> Taken
 {
     let Some(root) = link else { unreachable!() };
     let root: &mut TreeNode = root;
-    if root.right.is_none() {
+    if root.sides.right.is_none() {
         let sides = part_from(
             &mut root.height,
             &mut root.least,
-            &mut root.left,
+            &mut root.sides.left,
             &root.task,
-            &mut root.right,
+            &mut root.sides.right,
         );
         return Taken {
             node: replaced(link, sides.left),
             change: TreeChange::Height,
         };
     }
-    let taken = remove_last(&mut root.right);
+    let taken = remove_last(&mut root.sides.right);
     let change = correct(
         taken.change,
         &mut root.height,
         &mut root.least,
-        &mut root.left,
+        &mut root.sides.left,
         &mut root.task,
-        &mut root.right,
+        &mut root.sides.right,
     );
     Taken {
         node: taken.node,

@@ -14,13 +14,13 @@ pub down-preserved : goal.down-preserved
 down-preserved t c =
     let e : tasks_in c.down.at.now ≡ tasks_of c.node.inside = cc in
     let n = ap (λ (z : List Task). length z) e in
-    let k : last_number c.down.last c.args.running.now (tasks_in c.down.at.now) ≡ last_number c.if-is_running.last c.args.running.now (tasks_in c.node.inside.right) =
+    let k : last_number c.down.last c.args.running.now (tasks_in c.down.at.now) ≡ last_number c.if-is_running.last c.args.running.now (tasks_in c.node.inside.sides.right) =
     elim c.if-is_running.branch [
       | then-is_running w ↦
-          past_running c.down.last c.args.running.now (tasks_in c.down.at.now) (tasks_in c.node.inside.left) c.node.inside.task (tasks_in c.node.inside.right) e (sym c.is_running.ensures ∙ w.if-is_running.true)
-          ∙ ap (λ (b : Option ℕ). last_number b c.args.running.now (tasks_in c.node.inside.right)) (sym w.last_waiting-last.ensures ∙ sym w.last-is)
+          past_running c.down.last c.args.running.now (tasks_in c.down.at.now) (tasks_in c.node.inside.sides.left) c.node.inside.task (tasks_in c.node.inside.sides.right) e (sym c.is_running.ensures ∙ w.if-is_running.true)
+          ∙ ap (λ (b : Option ℕ). last_number b c.args.running.now (tasks_in c.node.inside.sides.right)) (sym w.last_waiting-last.ensures ∙ sym w.last-is)
       | else-is_running w ↦
-          past_waiting c.down.last c.args.running.now (tasks_in c.down.at.now) (tasks_in c.node.inside.left) c.node.inside.task (tasks_in c.node.inside.right) e (sym c.is_running.ensures ∙ w.if-is_running.false)
-          ∙ ap (λ (b : Option ℕ). last_number b c.args.running.now (tasks_in c.node.inside.right)) (sym w.last-is)
+          past_waiting c.down.last c.args.running.now (tasks_in c.down.at.now) (tasks_in c.node.inside.sides.left) c.node.inside.task (tasks_in c.node.inside.sides.right) e (sym c.is_running.ensures ∙ w.if-is_running.false)
+          ∙ ap (λ (b : Option ℕ). last_number b c.args.running.now (tasks_in c.node.inside.sides.right)) (sym w.last-is)
     ] in
     (c.down.invariant.0 ∙ k, omega (arith, n, c.down.invariant.1, length-append {A = Task}))

@@ -10,4 +10,4 @@ first_under-requires-clause-some c =
     let e : tasks_in c.args.link.now ≡ tasks_of c.root.inside = cc in
     let d : tasks_in c.args.link.now ≡ c.deref-root.result.now.tasks = cc in
     ap (λ (z : List Task). is_some (first_that (is_eligible_at c.args.totals.now.weight c.args.totals.now.moment) z)) (sym d)
-    ∙ someone_there (is_eligible_at c.args.totals.now.weight c.args.totals.now.moment) (tasks_in c.args.link.now) (tasks_in c.root.inside.left) c.root.inside.task (tasks_in c.root.inside.right) e c.requires.some
+    ∙ someone_there (is_eligible_at c.args.totals.now.weight c.args.totals.now.moment) (tasks_in c.args.link.now) (tasks_in c.root.inside.sides.left) c.root.inside.task (tasks_in c.root.inside.sides.right) e c.requires.some

@@ -6,21 +6,21 @@ use Rattle.eevdf_queue.proofs.Descending.{lead_left, lead_right, lead_here}
 use Rattle.eevdf_queue.proofs.{TreeEligible.some-node, TreeSorted.full-lower}
 use Rattle.eevdf_queue.proofs.TreeSearch.{first_left_same, first_here, first_only, first_right}
 use Rattle.eevdf_queue.proofs.tree_node.first_under.Goals as goal
-use Rattle.eevdf_queue.proofs.tree_node.first_under.Goals.{After-is_task_eligible, In_default-right, in-Some+else-is_least_eligible, in_default}
+use Rattle.eevdf_queue.proofs.tree_node.first_under.Goals.{Joined-at, in-Some+else-is_least_eligible, in_default}
 
 pub down-preserved-then-is_least_eligible : goal.down-preserved-then-is_least_eligible
 down-preserved-then-is_least_eligible c =
     let e : c.down.at.now.tasks ≡ tasks_of c.at.inside = cc in
     let h : c.down.at.now.height ≡ c.at.inside.height = cc in
-    let l : tasks_in c.at.inside.left ≡ c.deref-left.result.now.tasks = cc in
-    let k : height_in c.at.inside.left ≡ c.deref-left.result.now.height = cc in
+    let l : tasks_in c.at.inside.sides.left ≡ c.deref-left.result.now.tasks = cc in
+    let k : height_in c.at.inside.sides.left ≡ c.deref-left.result.now.height = cc in
     let i : c.deref-left.result.now.tasks ≡ tasks_of c.left.inside = cc in
     let s = ap (λ (z : List Task). is_some (first_that (is_eligible_at c.args.totals.now.weight c.args.totals.now.moment) z)) i
     ∙ sym (some-node c.args.totals.now.weight c.args.totals.now.moment c.left.inside c.left.invariant) ∙ sym c.is_least_eligible.ensures ∙ c.if-is_least_eligible.true in (
       s,
       (
         c.down.invariant.1.0
-            ∙ first_left_same (is_eligible_at c.args.totals.now.weight c.args.totals.now.moment) c.down.at.now.tasks (tasks_in c.at.inside.left) c.at.inside.task (tasks_in c.at.inside.right) e
+            ∙ first_left_same (is_eligible_at c.args.totals.now.weight c.args.totals.now.moment) c.down.at.now.tasks (tasks_in c.at.inside.sides.left) c.at.inside.task (tasks_in c.at.inside.sides.right) e
             (ap (λ (z : List Task). is_some (first_that (is_eligible_at c.args.totals.now.weight c.args.totals.now.moment) z)) l ∙ s)
             ∙ ap (first_that (is_eligible_at c.args.totals.now.weight c.args.totals.now.moment)) l,
         (
@@ -30,36 +30,23 @@ down-preserved-then-is_least_eligible c =
       ),
     )
 
--- no task on the left is eligible, once the own task is asked
-missed : (c : After-is_task_eligible) → is_some (first_that (is_eligible_at c.args.totals.now.weight c.args.totals.now.moment) (tasks_in c.at.inside.left)) ≡ false
+-- no task on the left is eligible where the descent doesn't go there
+missed : (c : Joined-at) → is_some (first_that (is_eligible_at c.args.totals.now.weight c.args.totals.now.moment) (tasks_in c.at.inside.sides.left)) ≡ false
 missed c =
     elim c.match-at.branch [
       | in-Some+else-is_least_eligible w ↦
-          let l : tasks_in c.at.inside.left ≡ tasks_of w.left.inside = cc in
+          let l : tasks_in c.at.inside.sides.left ≡ tasks_of w.left.inside = cc in
           ap (λ (z : List Task). is_some (first_that (is_eligible_at c.args.totals.now.weight c.args.totals.now.moment) z)) l
           ∙ sym (some-node c.args.totals.now.weight c.args.totals.now.moment w.left.inside w.left.invariant) ∙ sym w.is_least_eligible.ensures ∙ w.if-is_least_eligible.false
       | in_default w ↦
-          let l : tasks_in c.at.inside.left ≡ [] = ap tasks_in w.in_default.is in
-          ap (λ (z : List Task). is_some (first_that (is_eligible_at c.args.totals.now.weight c.args.totals.now.moment) z)) l
-    ]
-
--- nor where nothing stands on the right
-missed_alone : (c : In_default-right) → is_some (first_that (is_eligible_at c.args.totals.now.weight c.args.totals.now.moment) (tasks_in c.at.inside.left)) ≡ false
-missed_alone c =
-    elim c.match-at.branch [
-      | in-Some+else-is_least_eligible w ↦
-          let l : tasks_in c.at.inside.left ≡ tasks_of w.left.inside = cc in
-          ap (λ (z : List Task). is_some (first_that (is_eligible_at c.args.totals.now.weight c.args.totals.now.moment) z)) l
-          ∙ sym (some-node c.args.totals.now.weight c.args.totals.now.moment w.left.inside w.left.invariant) ∙ sym w.is_least_eligible.ensures ∙ w.if-is_least_eligible.false
-      | in_default w ↦
-          let l : tasks_in c.at.inside.left ≡ [] = ap tasks_in w.in_default.is in
+          let l : tasks_in c.at.inside.sides.left ≡ [] = ap tasks_in w.in_default.is in
           ap (λ (z : List Task). is_some (first_that (is_eligible_at c.args.totals.now.weight c.args.totals.now.moment) z)) l
     ]
 
 pub returns-then-is_task_eligible-clause-task : goal.returns-then-is_task_eligible-clause-task
 returns-then-is_task_eligible-clause-task c =
     let e : c.down.at.now.tasks ≡ tasks_of c.at.inside = cc in
-    c.down.invariant.1.0 ∙ first_here (is_eligible_at c.args.totals.now.weight c.args.totals.now.moment) c.down.at.now.tasks (tasks_in c.at.inside.left) c.at.inside.task (tasks_in c.at.inside.right) e (missed (goal.at.returns-then-is_task_eligible-clause-task c).After-is_task_eligible) (sym c.is_task_eligible.ensures ∙ c.if-is_task_eligible.true)
+    c.down.invariant.1.0 ∙ first_here (is_eligible_at c.args.totals.now.weight c.args.totals.now.moment) c.down.at.now.tasks (tasks_in c.at.inside.sides.left) c.at.inside.task (tasks_in c.at.inside.sides.right) e (missed (goal.at.returns-then-is_task_eligible-clause-task c).Joined-at) (sym c.is_task_eligible.ensures ∙ c.if-is_task_eligible.true)
 
 pub returns-then-is_task_eligible-clause-turns : goal.returns-then-is_task_eligible-clause-turns
 returns-then-is_task_eligible-clause-turns c =
@@ -74,8 +61,8 @@ returns-then-is_task_eligible-clause-depth c =
 pub returns-in_default-right-clause-task : goal.returns-in_default-right-clause-task
 returns-in_default-right-clause-task c =
     let e : c.down.at.now.tasks ≡ tasks_of c.at.inside = cc in
-    let r : tasks_in c.at.inside.right ≡ [] = ap tasks_in c.in_default-right.is in
-    c.down.invariant.1.0 ∙ first_only (is_eligible_at c.args.totals.now.weight c.args.totals.now.moment) c.down.at.now.tasks (tasks_in c.at.inside.left) c.at.inside.task (tasks_in c.at.inside.right) e (missed_alone (goal.at.returns-in_default-right-clause-task c).In_default-right) r c.down.invariant.0
+    let r : tasks_in c.at.inside.sides.right ≡ [] = ap tasks_in c.in_default-right.is in
+    c.down.invariant.1.0 ∙ first_only (is_eligible_at c.args.totals.now.weight c.args.totals.now.moment) c.down.at.now.tasks (tasks_in c.at.inside.sides.left) c.at.inside.task (tasks_in c.at.inside.sides.right) e (missed (goal.at.returns-in_default-right-clause-task c).Joined-at) r c.down.invariant.0
 
 pub returns-in_default-right-clause-turns : goal.returns-in_default-right-clause-turns
 returns-in_default-right-clause-turns c =
@@ -90,9 +77,9 @@ pub down-preserved : goal.down-preserved
 down-preserved c =
     let e : c.down.at.now.tasks ≡ tasks_of c.at.inside = cc in
     let h : c.down.at.now.height ≡ c.at.inside.height = cc in
-    let r : tasks_in c.at.inside.right ≡ c.deref-at.result.now.tasks = cc in
-    let k : height_in c.at.inside.right ≡ c.deref-at.result.now.height = cc in
-    let f = first_right (is_eligible_at c.args.totals.now.weight c.args.totals.now.moment) c.down.at.now.tasks (tasks_in c.at.inside.left) c.at.inside.task (tasks_in c.at.inside.right) e (missed (goal.at.down-preserved c).After-is_task_eligible) (sym c.is_task_eligible.ensures ∙ c.if-is_task_eligible.false)
+    let r : tasks_in c.at.inside.sides.right ≡ c.deref-at.result.now.tasks = cc in
+    let k : height_in c.at.inside.sides.right ≡ c.deref-at.result.now.height = cc in
+    let f = first_right (is_eligible_at c.args.totals.now.weight c.args.totals.now.moment) c.down.at.now.tasks (tasks_in c.at.inside.sides.left) c.at.inside.task (tasks_in c.at.inside.sides.right) e (missed (goal.at.down-preserved c).Joined-at) (sym c.is_task_eligible.ensures ∙ c.if-is_task_eligible.false)
     ∙ ap (first_that (is_eligible_at c.args.totals.now.weight c.args.totals.now.moment)) r in (
       ap is_some (sym f) ∙ c.down.invariant.0,
       (

@@ -6,4 +6,4 @@ use Rattle.eevdf_queue.proofs.tree_node.last_task.Goals as goal
 pub down-preserved : goal.down-preserved
 down-preserved c =
     let e : tasks_in c.down.at.now ≡ tasks_of c.node.inside = cc in
-    c.down.invariant ∙ past_waiting c.down.last None (tasks_in c.down.at.now) (tasks_in c.node.inside.left) c.node.inside.task (tasks_in c.node.inside.right) e refl
+    c.down.invariant ∙ past_waiting c.down.last None (tasks_in c.down.at.now) (tasks_in c.node.inside.sides.left) c.node.inside.task (tasks_in c.node.inside.sides.right) e refl

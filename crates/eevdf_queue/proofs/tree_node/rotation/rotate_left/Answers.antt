@@ -8,7 +8,7 @@ with_tail ls ms xs ys zs t u e = sym (append_assoc xs (t ∷ ys) zs) ∙ ap (λ 
 pub returns-clause-tasks : goal.returns-clause-tasks
 returns-clause-tasks c =
     let n = c.node.inside in
-    let is : tasks_in n.left ++ n.task ∷ tasks_in n.right ≡ tasks_in c.args.right.now = cc in
-    with_tail (tasks_in c.args.left.now) (tasks_in n.left) (tasks_in c.lean_left.new.left) (tasks_in c.lean_left.new.right) (n.task ∷ tasks_in n.right) c.lean_left.new.task c.args.task.now
+    let is : tasks_in n.sides.left ++ n.task ∷ tasks_in n.sides.right ≡ tasks_in c.args.right.now = cc in
+    with_tail (tasks_in c.args.left.now) (tasks_in n.sides.left) (tasks_in c.lean_left.new.left) (tasks_in c.lean_left.new.right) (n.task ∷ tasks_in n.sides.right) c.lean_left.new.task c.args.task.now
     c.lean_left.ensures.tasks
     ∙ ap (λ (z : List Task). tasks_in c.args.left.now ++ c.args.task.now ∷ z) is

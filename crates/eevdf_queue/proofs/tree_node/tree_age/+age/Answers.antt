@@ -38,7 +38,7 @@ changed t c x h =
           let g = of_key c.args.key c.node.inside.task (sym c.is_of.ensures ∙ w.if-is_of.true) in
           let f = found_here c.args.key c.node.inside _ e c.requires.holds g in
           ap tasks_of w.node-inside-is
-          ∙ ap (λ z. tasks_in c.node.inside.left ++ z ∷ tasks_in c.node.inside.right)
+          ∙ ap (λ z. tasks_in c.node.inside.sides.left ++ z ∷ tasks_in c.node.inside.sides.right)
           (w.set_runtime.ensures ∙ aged_task c.args.runtimes.newer c.node.inside.task (find_task c.args.key.number (tasks_in c.args.link.now)) x f h)
           ∙ s.here g
     ]

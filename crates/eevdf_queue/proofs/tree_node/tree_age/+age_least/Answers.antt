@@ -38,7 +38,7 @@ changed t c x h =
           let g = of_key c.args.key c.node.inside.task (sym c.is_of.ensures ∙ w.if-is_of.true) in
           let f = found_here c.args.key c.node.inside _ e c.requires g in
           ap tasks_of w.node-inside-is
-          ∙ ap (λ z. tasks_in c.node.inside.left ++ z ∷ tasks_in c.node.inside.right)
+          ∙ ap (λ z. tasks_in c.node.inside.sides.left ++ z ∷ tasks_in c.node.inside.sides.right)
           (w.set_runtime.ensures ∙ aged_task c.args.runtimes.newer c.node.inside.task (find_task c.args.key.number (tasks_in c.args.link.now)) x f h)
           ∙ s.here g
     ]
@@ -49,17 +49,17 @@ renewed t c =
     elim c.if-is_of.branch [
       | else-is_of+then-is_under w ↦
           w.renewed-is
-          ∙ least-node w.or.result w.age_least-left.result w.with_below-then-is_under.result w.of-then-is_under.result (least_of (tasks_in c.node.inside.right)) (tasks_in w.age_least-left.new.link) c.node.inside.task (tasks_in c.node.inside.right)
+          ∙ least-node w.or.result w.age_least-left.result w.with_below-then-is_under.result w.of-then-is_under.result (least_of (tasks_in c.node.inside.sides.right)) (tasks_in w.age_least-left.new.link) c.node.inside.task (tasks_in c.node.inside.sides.right)
           w.or.ensures w.with_below-then-is_under.ensures.behind w.age_least-left.ensures.least w.of-then-is_under.ensures.value refl
           ∙ ap (λ z. least_of (tasks_of z)) (sym w.node-inside-is)
       | else-is_of+else-is_under w ↦
           w.renewed-is
-          ∙ least-node w.with_below-else-is_under.result (least_of (tasks_in c.node.inside.left)) w.or-else-is_under.result w.of-else-is_under.result w.age_least-right.result (tasks_in c.node.inside.left) c.node.inside.task (tasks_in w.age_least-right.new.link)
+          ∙ least-node w.with_below-else-is_under.result (least_of (tasks_in c.node.inside.sides.left)) w.or-else-is_under.result w.of-else-is_under.result w.age_least-right.result (tasks_in c.node.inside.sides.left) c.node.inside.task (tasks_in w.age_least-right.new.link)
           w.with_below-else-is_under.ensures.before w.or-else-is_under.ensures refl w.of-else-is_under.ensures.value w.age_least-right.ensures.least
           ∙ ap (λ z. least_of (tasks_of z)) (sym w.node-inside-is)
       | then-is_of w ↦
           w.renewed-is
-          ∙ least-node w.with_below-renewed.result (least_of (tasks_in c.node.inside.left)) w.with_below.result w.of.result (least_of (tasks_in c.node.inside.right)) (tasks_in c.node.inside.left) w.set_runtime.new.task (tasks_in c.node.inside.right)
+          ∙ least-node w.with_below-renewed.result (least_of (tasks_in c.node.inside.sides.left)) w.with_below.result w.of.result (least_of (tasks_in c.node.inside.sides.right)) (tasks_in c.node.inside.sides.left) w.set_runtime.new.task (tasks_in c.node.inside.sides.right)
           w.with_below-renewed.ensures.before w.with_below.ensures.behind refl w.of.ensures.value refl
           ∙ ap (λ z. least_of (tasks_of z)) (sym w.node-inside-is)
     ]

@@ -10,13 +10,13 @@ pub insert-grown-requires : goal.insert-grown-requires
 insert-grown-requires t c =
     let e : tasks_in c.args.link.now ≡ tasks_of c.root.inside = cc in
     let n = ap (λ (z : List Task). length z) e in
-    (omega (arith, n, length-append {A = Task}), (c.requires.alone, (ordered_left (tasks_in c.args.link.now) (tasks_in c.root.inside.left) c.root.inside.task (tasks_in c.root.inside.right) e c.requires.ordered, omega (arith, n, c.requires.few, length-append {A = Task}))))
+    (omega (arith, n, length-append {A = Task}), (c.requires.alone, (ordered_left (tasks_in c.args.link.now) (tasks_in c.root.inside.sides.left) c.root.inside.task (tasks_in c.root.inside.sides.right) e c.requires.ordered, omega (arith, n, c.requires.few, length-append {A = Task}))))
 
 pub insert-grown-requires-else-precedes : goal.insert-grown-requires-else-precedes
 insert-grown-requires-else-precedes t c =
     let e : tasks_in c.args.link.now ≡ tasks_of c.root.inside = cc in
     let n = ap (λ (z : List Task). length z) e in
-    (omega (arith, n, length-append {A = Task}), (c.requires.alone, (ordered_right (tasks_in c.args.link.now) (tasks_in c.root.inside.left) c.root.inside.task (tasks_in c.root.inside.right) e c.requires.ordered, omega (arith, n, c.requires.few, length-append {A = Task}))))
+    (omega (arith, n, length-append {A = Task}), (c.requires.alone, (ordered_right (tasks_in c.args.link.now) (tasks_in c.root.inside.sides.left) c.root.inside.task (tasks_in c.root.inside.sides.right) e c.requires.ordered, omega (arith, n, c.requires.few, length-append {A = Task}))))
 
 -- the tasks of the node with the new one on its side
 inserted : (t : ℕ) (c : After-raise t) → tasks_of c.if-precedes.root-inside ≡ insert_task (first_task c.args.node.value.tasks) (tasks_in c.args.link.now)

@@ -6,4 +6,4 @@ use Rattle.eevdf_queue.proofs.tree_node.tree_edit.+remove_last.Goals as goal
 pub correct-change-requires-clause-kept_least : goal.correct-change-requires-clause-kept_least
 correct-change-requires-clause-kept_least t c = λ h.
     c.root.invariant.least
-    ∙ sym (least-same_right (tasks_in c.root.inside.left) c.root.inside.task (tasks_in c.root.inside.right) (tasks_in c.remove_last-taken.new.link) (c.remove_last-taken.ensures.same_least h))
+    ∙ sym (least-same_right (tasks_in c.root.inside.sides.left) c.root.inside.task (tasks_in c.root.inside.sides.right) (tasks_in c.remove_last-taken.new.link) (c.remove_last-taken.ensures.same_least h))

@@ -1,0 +1,49 @@
+-- A node of which one side is another.
+use Rattle.std.proofs.Common.{◌≡◌, ◌∙◌, Bool, ap, sym, true, false, cond, List, ◌∷◌, ◌++◌, arith, Global}
+use Rattle.std.specs.Prelude.{Option, Box}
+use Rattle.eevdf_queue.specs.{declared.task.Task.Task, TreeShape.Tree, TreeShape.tasks_in}
+use Rattle.eevdf_queue.specs.{declared.sides.Side.Side, declared.sides.Side.TheVariants.Left, declared.sides.Side.TheVariants.Right}
+use Rattle.eevdf_queue.specs.{declared.sides.Sides.Sides, Sides.on_side, Sides.with_side}
+use Rattle.eevdf_queue.specs.{declared.tree_node.TreeNode.TheInside.Inside, declared.tree_key.TreeKey.TreeKey, TreeNodes.tasks_of}
+use Rattle.eevdf_queue.specs.{TreeLeast.least_of, TreeKeys.is_of, TreeKeys.is_under, TreeKeys.Holds}
+use Rattle.eevdf_queue.proofs.TreeSides.{IsBelow, IsEdited, below_left, below_right}
+use Rattle.eevdf_queue.proofs.{TreeSearch.over_else, TreeLeasts.least-same_left, TreeLeasts.least-same_right}
+
+abbrev Links : Type 0 → Type 0
+Links Z = Sides (Option (Box Tree Z))
+
+module _ {Z : Type 0} where
+  -- the tasks of a node with these sides
+  abbrev pub tasks_around : Links Z → Task → List Task
+  tasks_around s u = tasks_in s.left ++ u ∷ tasks_in s.right
+
+  -- where one side has the same least virtual runtime, so has the whole
+  pub least_on : (s : Links Z) (u : Task) (l : Option (Box Tree Z)) (side : Side) → least_of (tasks_in l) ≡ least_of (tasks_in (on_side s side))
+      → least_of (tasks_around (with_side s side l) u) ≡ least_of (tasks_around s u)
+  least_on s u l Left h = least-same_left (tasks_in s.left) (tasks_in l) u (tasks_in s.right) h
+  least_on s u l Right h = least-same_right (tasks_in s.left) u (tasks_in s.right) (tasks_in l) h
+
+-- the side of a node on which a key's task stands that isn't the node's own
+abbrev pub IsSideOf : TreeKey → Task → Side → Type 0
+IsSideOf k u side = (is_of k u ≡ false) × (side ≡ cond (is_under k u) Left Right)
+
+pub side_of : (k : TreeKey) (u : Task) (own under : Bool) (side : Side) → own ≡ is_of k u → own ≡ false → under ≡ is_under k u → side ≡ cond under Left Right → IsSideOf k u side
+side_of k u own under side e f h i = (sym e ∙ f, i ∙ ap (λ b. cond b Left Right) h)
+
+pub below_on : (k : TreeKey) (a : Inside) (ts : List Task) (side : Side) → ts ≡ tasks_of a → Holds k ts → IsSideOf k a.task side → IsBelow k ts (tasks_in (on_side a.sides side))
+below_on k a ts Left e h p =
+    let u : is_under k a.task ≡ true = let q = p.1 in grind arith in
+    below_left k a ts e h u
+below_on k a ts Right e h p =
+    let u : is_under k a.task ≡ false = let q = p.1 in grind arith in
+    below_right k a ts e h (over_else k a.task p.0 u)
+
+pub edited_on : (k : TreeKey) (a : Inside) (edit : List Task → List Task) (at : Task → List Task → List Task) (ts : List Task) (side : Side)
+    (l : Option (Box Tree Global)) → IsEdited k a edit at ts → IsSideOf k a.task side → tasks_in l ≡ edit (tasks_in (on_side a.sides side))
+    → tasks_around (with_side a.sides side l) a.task ≡ edit ts
+edited_on k a edit at ts Left l d p i =
+    let u : is_under k a.task ≡ true = let q = p.1 in grind arith in
+    d.left u (tasks_in l) i
+edited_on k a edit at ts Right l d p i =
+    let u : is_under k a.task ≡ false = let q = p.1 in grind arith in
+    d.right (over_else k a.task p.0 u) (tasks_in l) i
