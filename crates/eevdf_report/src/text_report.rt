@@ -74,8 +74,8 @@ fn push_left_of(text: &mut Vec<u8>, outcome: &Outcome, home: usize) -> Result<()
     Ok(())
 }
 
-/// As many bytes as so many lines of a schedule take at most, as a rule: a vector that begins with room for them is
-/// seldom moved to a larger place.
+/// Room for so many lines of a schedule, of which most take fewer than 32 bytes. A vector that begins with it seldom has to
+/// grow.
 fn usual_bytes(lines: usize) -> usize {
     lines.saturating_mul(32)
 }

@@ -58,8 +58,8 @@ fn workload_of(alloc: Global, document: Table) -> Result<Workload, LoadFault>
     workload_in(alloc, version.limits(), document)
 }
 
-// The workload that a document describes within the limits of its version. The order is read last, out of what it stands
-// in, but its faults come before the script's.
+// The workload that a document describes within the limits of its version. The order is read last, since the document goes
+// with it, but its faults come before the script's.
 #[tactic(auto, unfolding(crate::specs::Meaning::workload_in))]
 fn workload_in(alloc: Global, limits: Limits, document: Table) -> Result<Workload, LoadFault>
     ensures { Reads (λ w. w) (workload_in limits (table_view document)) result }

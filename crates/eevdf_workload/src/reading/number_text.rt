@@ -30,7 +30,7 @@ pub(crate) fn split_number(text: &[u8]) -> Option<(u64, Option<&[u8]>)>
     }
 }
 
-// The same for the text that has `0` before this one.
+// The same for a text that is `0` with these bytes after it.
 #[tactic(auto, using(crate::proofs::ReadingWords::zero_alone, crate::proofs::ReadingWords::zero_before, crate::proofs::ReadingWords::zero_within))]
 fn split_zero(after: &[u8]) -> Option<(u64, Option<&[u8]>)>
     ensures { IsSplitOff (first_number (words (48 ∷ after.now)))
