@@ -1,5 +1,5 @@
--- A node of which one side is another.
-use Rattle.std.proofs.Common.{◌≡◌, ◌∙◌, Bool, ap, sym, true, false, cond, List, ◌∷◌, ◌++◌, arith, Global}
+-- A node after one of its sides has changed.
+use Rattle.std.proofs.Common.{◌≡◌, true, false, cond, List, ◌∷◌, ◌++◌, arith, Global}
 use Rattle.std.specs.Prelude.{Option, Box}
 use Rattle.eevdf_queue.specs.{declared.task.Task.Task, TreeShape.Tree, TreeShape.tasks_in}
 use Rattle.eevdf_queue.specs.{declared.sides.Side.Side, declared.sides.Side.TheVariants.Left, declared.sides.Side.TheVariants.Right}
@@ -27,9 +27,7 @@ module _ {Z : Type 0} where
 abbrev pub IsSideOf : TreeKey → Task → Side → Type 0
 IsSideOf k u side = (is_of k u ≡ false) × (side ≡ cond (is_under k u) Left Right)
 
-pub side_of : (k : TreeKey) (u : Task) (own under : Bool) (side : Side) → own ≡ is_of k u → own ≡ false → under ≡ is_under k u → side ≡ cond under Left Right → IsSideOf k u side
-side_of k u own under side e f h i = (sym e ∙ f, i ∙ ap (λ b. cond b Left Right) h)
-
+-- the key is on that side
 pub below_on : (k : TreeKey) (a : Inside) (ts : List Task) (side : Side) → ts ≡ tasks_of a → Holds k ts → IsSideOf k a.task side → IsBelow k ts (tasks_in (on_side a.sides side))
 below_on k a ts Left e h p =
     let u : is_under k a.task ≡ true = let q = p.1 in grind arith in
@@ -38,6 +36,7 @@ below_on k a ts Right e h p =
     let u : is_under k a.task ≡ false = let q = p.1 in grind arith in
     below_right k a ts e h (over_else k a.task p.0 u)
 
+-- and an edit at the key is one on that side
 pub edited_on : (k : TreeKey) (a : Inside) (edit : List Task → List Task) (at : Task → List Task → List Task) (ts : List Task) (side : Side)
     (l : Option (Box Tree Global)) → IsEdited k a edit at ts → IsSideOf k a.task side → tasks_in l ≡ edit (tasks_in (on_side a.sides side))
     → tasks_around (with_side a.sides side l) a.task ≡ edit ts

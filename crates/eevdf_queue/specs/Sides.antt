@@ -1,9 +1,10 @@
--- What a pair of sides ends as, of which one was lent.
+-- The two sides of a task, and what they are after one was lent and written to.
 use Rattle.std.specs.Borrow.{Lends, MutBor, Fml, RattleType}
 use Rattle.eevdf_queue.specs.{declared.sides.Side.Side, declared.sides.Side.TheVariants.Left, declared.sides.Side.TheVariants.Right}
 use Rattle.eevdf_queue.specs.{declared.sides.Sides.Sides, contracts.sides.Sides.the_row}
 
 module _ {L : Type 0} where
+  -- what stands on a side
   abbrev pub on_side : Sides L → Side → L
   on_side s Left = s.left
   on_side s Right = s.right

@@ -1,6 +1,5 @@
-ghost use Rattle.std.specs.Prelude.{◌≡◌, cond};
+ghost use Rattle.std.specs.Prelude.{◌≡◌};
 ghost use Rattle.std.specs.Borrow.{sem};
-ghost use Rattle.eevdf_queue.specs.declared.sides.Side.TheVariants.{Left, Right};
 ghost use Rattle.eevdf_queue.specs.Sides.{LendsSide, on_side};
 
 /// One of two sides.
@@ -10,18 +9,8 @@ pub enum Side {
     Left,
 }
 
-impl Side {
-    /// The left one where something holds, else the right one.
-    #[inline(always)]
-    pub fn left_where(holds: bool) -> Side
-        ensures { result ≡ cond holds Left Right }
-    {
-        if holds { Side::Left } else { Side::Right }
-    }
-}
-
-/// What stands on the two sides of a task. The right one is the first in memory, so that the place of a side is found by
-/// adding.
+/// What stands on the two sides of a task. It is generic so that a node, which has its sides by value, refers to no other
+/// type that refers to it. The right side comes first here and in `Side`: then LLVM finds the address of a side by adding.
 #[derive(Drop)]
 pub struct Sides<L> {
     pub right: L,
@@ -29,7 +18,8 @@ pub struct Sides<L> {
 }
 
 impl<L> Sides<L> {
-    /// What stands on a side. No branch is taken, since no processor could predict it on the way to a task.
+    /// What stands on a side. As LLVM compiles it, this takes no branch, which would often be mispredicted on the way to a
+    /// task.
     #[inline(always)]
     pub fn side_mut(&mut self, side: Side) -> &mut L
         ensures* writes_back { sem 𝓛 (LendsSide L.row self.entry side result) }

@@ -1,8 +1,10 @@
-ghost use Rattle.std.specs.Prelude.{◌≡◌};
+ghost use Rattle.std.specs.Prelude.{◌≡◌, if◌then◌else◌};
+ghost use Rattle.eevdf_queue.specs.declared.sides.Side.TheVariants.{Left, Right};
 ghost use Rattle.eevdf_queue.specs.TreeKeys as keys;
 ghost use Rattle.eevdf_queue.specs.TreeTasks as ordering;
 
 use crate::entry::Entry;
+use crate::sides::Side;
 use crate::task::Task;
 use crate::task_id::TaskId;
 
@@ -39,6 +41,18 @@ impl TreeKey {
             self.number.get() < task.number.get()
         } else {
             self.deadline < task.entry.d
+        }
+    }
+
+    /// The side of a task on which the key stands, where it isn't the task's own.
+    #[inline(always)]
+    pub fn side_of(&self, task: &Task) -> Side
+        ensures { result ≡ (if keys.is_under self.now task.now then Left else Right) }
+    {
+        if self.is_under(task) {
+            Side::Left
+        } else {
+            Side::Right
         }
     }
 }

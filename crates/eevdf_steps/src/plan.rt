@@ -43,7 +43,7 @@ pub(crate) struct Position {
 }
 
 impl Position {
-    /// Goes on with this micro-step of the operation.
+    /// Goes on with this micro-step of the operation that it is at.
     fn go_on(&mut self, micro: Micro)
         requires { self.old.steps + 1 < 2 ^ 64 }
         ensures operation { self.new.operation ≡ self.old.operation }

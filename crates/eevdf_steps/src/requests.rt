@@ -1,4 +1,4 @@
-//! The requests from CPU to CPU, and what the steps of the callers do to them.
+//! The requests from CPU to CPU, as they are posted and taken.
 
 ghost use Rattle.std.specs.Prelude.{◌≡◌, ◌<◌, drop, length, map, slice_set, true, IfOk};
 ghost use Rattle.eevdf_steps.specs.Openings.{AreEmpty};

@@ -18,7 +18,8 @@ use crate::work::Work;
 use eevdf_ops::{Answer, CpuId, Deed, Op};
 use eevdf_queue::TaskId;
 
-/// Does a caller's step on the queues, on the history, on the requests, and on the request that the caller has found.
+/// Does a caller's micro-step on what it concerns: the queues, the history, the requests, or the request that the caller has
+/// found. The locks are noted where the step is counted (`Callers::advance`).
 pub(crate) fn do_micro(
     work: &mut Work,
     journal: &mut Journal,

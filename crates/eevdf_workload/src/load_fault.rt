@@ -3,7 +3,7 @@ ghost use Rattle.eevdf_workload.specs.FaultTexts.{key_text, load_fault_text};
 
 use crate::workload::Workload;
 use eevdf_ops::SetupFault;
-use std::alloc::AllocError;
+use std::alloc::{AllocError, AllocFailed};
 use std::error::Error;
 use std::fmt;
 
@@ -107,6 +107,17 @@ impl From<AllocError> for LoadFault {
     ghost from_gives = { λ _ fault. fault ≡ Memory };
 
     fn from(_out_of_memory: AllocError) -> LoadFault {
+        LoadFault::Memory
+    }
+}
+
+impl<T: Drop> From<AllocFailed<T>> for LoadFault {
+    ghost use Rattle.std.specs.Prelude.{◌≡◌};
+    ghost use Rattle.eevdf_workload.specs.declared.load_fault.LoadFault.TheVariants.{Memory};
+
+    ghost from_gives = { λ _ fault. fault ≡ Memory };
+
+    fn from(_out_of_memory: AllocFailed<T>) -> LoadFault {
         LoadFault::Memory
     }
 }

@@ -9,7 +9,6 @@ mod deed_text;
 mod document_keys;
 mod level_text;
 mod lists;
-mod no_memory;
 mod number_text;
 mod operation_text;
 mod task_table;
@@ -58,8 +57,8 @@ fn workload_of(alloc: Global, document: Table) -> Result<Workload, LoadFault>
     workload_in(alloc, version.limits(), document)
 }
 
-// The workload that a document describes within the limits of its version. The order is read last, since the document goes
-// with it, but its faults come before the script's.
+// The workload that a document describes within the limits of its version. The script is read before the order, which takes
+// the document, but a fault of the order comes first.
 #[tactic(auto, unfolding(crate::specs::Meaning::workload_in))]
 fn workload_in(alloc: Global, limits: Limits, document: Table) -> Result<Workload, LoadFault>
     ensures { Reads (λ w. w) (workload_in limits (table_view document)) result }

@@ -85,8 +85,8 @@ pub fn correct(
     }
 }
 
-/// Makes the height of a node and its least virtual runtime right again, where both may be others. A function of its own, so
-/// that the way back over other nodes keeps nothing for it.
+/// Makes the height of a node and its least virtual runtime right again, where both may be others. It isn't inlined, so that
+/// `correct`, which is, saves no registers for it.
 #[inline(never)]
 fn correct_both(
     node_height: &mut u32,
@@ -159,8 +159,8 @@ pub fn raise(
     around.renew_height(node_height)
 }
 
-/// Makes what is kept of a node right again where one side may be two higher. It is seldom called, and a function of its own, so
-/// that the way back over even nodes keeps nothing for it.
+/// Makes what is kept of a node right again where one side may be two higher. It is seldom called, and isn't inlined for the
+/// same reason.
 #[inline(never)]
 fn mend_uneven(
     node_height: &mut u32,

@@ -9,7 +9,6 @@ ghost use Rattle.eevdf_queue.specs.{TreeKeys.Holds, TreeShape.tasks_in, TreeShap
 
 use super::TreeNode;
 use super::node_parts::{correct, part_from, raise};
-use crate::sides::Side;
 use crate::task::Task;
 use crate::tree_change::TreeChange;
 use crate::tree_key::{TreeKey, precedes};
@@ -90,8 +89,7 @@ pub fn remove(link: &mut Option<Box<TreeNode>>, key: TreeKey) -> Taken
         }
         exchanged(&mut root.task, &mut root.sides.left)
     } else {
-        let side = Side::left_where(key.is_under(&root.task));
-        remove(root.sides.side_mut(side), key)
+        remove(root.sides.side_mut(key.side_of(&root.task)), key)
     };
     let change = correct(
         taken.change,

@@ -85,14 +85,14 @@ pub(crate) fn array_at(value: &Value, key: Key) -> Result<&Array, LoadFault>
     good_at(key, value.as_array())
 }
 
-/// The value at a key of a table, and the rest of the table let go.
+/// Takes the value at a key out of a table, and drops the rest.
 pub(crate) fn into_member(mut table: Table, name: &str) -> Option<Value>
     ensures { option_map (λ v. view v) result ≡ get_member name.now (table_view table) }
 {
     table.remove(name)
 }
 
-/// The members of an array, or a bad value at the key where it is none.
+/// As `array_at`, by value.
 pub(crate) fn into_array_at(value: Value, key: Key) -> Result<Array, LoadFault>
     ensures { MatchResult result (λ a. array_at key (view value) ≡ Ok (array_view a))
         (λ e. array_at key (view value) ≡ Err e) }
@@ -103,7 +103,7 @@ pub(crate) fn into_array_at(value: Value, key: Key) -> Result<Array, LoadFault>
     }
 }
 
-/// The integer that a value is, if it is one.
+/// The integer that a value is, if it is one. It takes the value, and so frees it in the one case that needs nothing for it.
 pub(crate) fn into_integer(value: Value) -> Option<i64>
     ensures { result ≡ as_integer (view value) }
 {

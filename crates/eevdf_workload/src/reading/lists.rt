@@ -124,8 +124,8 @@ fn deed_at(limits: Limits, place: usize, value: &Value) -> Result<Deed, LoadFaul
     good_at(Key::Script(place), deed)
 }
 
-/// The order of the callers, if there is one. The document is taken with it, since the values of a long list are let go in
-/// less time one by one, as they are read.
+/// The order of the callers, if there is one. It takes the document by value: to free each value as it is read costs less than
+/// to free a long list afterwards.
 #[tactic(auto, unfolding(crate::specs::Meaning::order))]
 pub(crate) fn order(alloc: Global, document: Table) -> Result<Option<Vec<usize>>, LoadFault>
     ensures { Reads (λ found. option_map (λ ps. ps.items) found)

@@ -4,7 +4,7 @@ use Rattle.eevdf_queue.specs.{declared.task.Task.Task, declared.tree_node.TreeNo
 use Rattle.eevdf_queue.specs.{TreeShape.tasks_in, TreeNodes.tasks_of, TreeChanges.keeps_least, TreeLeast.least_of}
 use Rattle.eevdf_queue.specs.{TreeTasks.without, TreeKeys.Holds}
 use Rattle.eevdf_queue.proofs.TreeOrder.{none_below, left_alone, last_moved}
-use Rattle.eevdf_queue.proofs.OneSide.{side_of, below_on, edited_on, least_on}
+use Rattle.eevdf_queue.proofs.OneSide.{IsSideOf, below_on, edited_on, least_on}
 use Rattle.eevdf_queue.proofs.{TreeSearch.of_key, TreeSides.found_here, TreeSides.taken_out}
 use Rattle.eevdf_queue.proofs.tree_node.tree_edit.+remove.Goals as goal
 use Rattle.eevdf_queue.proofs.tree_node.tree_edit.+remove.Goals.{then-is_of+else-is_none, else-is_of}
@@ -12,8 +12,8 @@ use Rattle.eevdf_queue.proofs.tree_node.tree_edit.+remove.Goals.{then-is_of+else
 pub remove-taken-requires : goal.remove-taken-requires
 remove-taken-requires t c =
     let e : tasks_in c.args.link.now ≡ tasks_of c.root.inside = cc in
-    let side = side_of c.args.key c.root.inside.task _ _ c.left_where-side.result c.is_of.ensures c.if-is_of.false c.is_under.ensures c.left_where-side.ensures in
-    let b = below_on c.args.key c.root.inside _ c.left_where-side.result e c.requires side in
+    let side : IsSideOf c.args.key c.root.inside.task c.side_of.result = (sym c.is_of.ensures ∙ c.if-is_of.false, c.side_of.ensures) in
+    let b = below_on c.args.key c.root.inside _ c.side_of.result e c.requires side in
     let n = ap (λ z. length (tasks_in z)) c.side_mut.ensures.value in
     (omega (arith, n, b.fewer), subst (λ z. Holds c.args.key (tasks_in z)) (sym c.side_mut.ensures.value) b.holds)
 
@@ -38,7 +38,7 @@ correct-change-requires-clause-kept_least t c = λ h.
       | else-is_of w ↦
           let k = sym (ap (λ z. keeps_least z.change) w.taken-is) ∙ h in
           subst (λ (a : Inside). a.least ≡ least_of (tasks_of a)) (sym w.root-inside-is)
-          (c.root.invariant.least ∙ sym (least_on c.root.inside.sides c.root.inside.task w.remove-taken.new.link w.left_where-side.result (w.remove-taken.ensures.same_least k ∙ ap (λ z. least_of (tasks_in z)) w.side_mut.ensures.value)))
+          (c.root.invariant.least ∙ sym (least_on c.root.inside.sides c.root.inside.task w.remove-taken.new.link w.side_of.result (w.remove-taken.ensures.same_least k ∙ ap (λ z. least_of (tasks_in z)) w.side_mut.ensures.value)))
       | then-is_of+else-is_none w ↦
           let k = sym (ap (λ z. keeps_least z.change) w.taken-is) ∙ h in
           absurd (let n : false ≡ true = sym w.exchanged-taken.ensures.other_least ∙ k in cc)
@@ -49,8 +49,8 @@ returns-clause-task t c =
     let e : tasks_in c.args.link.now ≡ tasks_of c.root.inside = cc in
     elim c.if-is_of.branch [
       | else-is_of w ↦
-          let side = side_of c.args.key c.root.inside.task _ _ w.left_where-side.result c.is_of.ensures w.if-is_of.false w.is_under.ensures w.left_where-side.ensures in
-          (below_on c.args.key c.root.inside _ w.left_where-side.result e c.requires side).found
+          let side : IsSideOf c.args.key c.root.inside.task w.side_of.result = (sym c.is_of.ensures ∙ w.if-is_of.false, w.side_of.ensures) in
+          (below_on c.args.key c.root.inside _ w.side_of.result e c.requires side).found
           ∙ ap (λ z. find_task c.args.key.number (tasks_in z)) (sym w.side_mut.ensures.value)
           ∙ w.remove-taken.ensures.task ∙ ap (λ z. Some (first_task z.node.value.tasks)) (sym w.taken-is)
       | then-is_of+else-is_none w ↦
@@ -65,9 +65,9 @@ returns-clause-rest t c =
     let rest : tasks_of c.if-is_of.root-inside ≡ without c.args.key.number (tasks_in c.args.link.now) =
     elim c.if-is_of.branch [
       | else-is_of w ↦
-          let side = side_of c.args.key c.root.inside.task _ _ w.left_where-side.result c.is_of.ensures w.if-is_of.false w.is_under.ensures w.left_where-side.ensures in
+          let side : IsSideOf c.args.key c.root.inside.task w.side_of.result = (sym c.is_of.ensures ∙ w.if-is_of.false, w.side_of.ensures) in
           ap tasks_of w.root-inside-is
-          ∙ edited_on c.args.key c.root.inside _ _ _ w.left_where-side.result w.remove-taken.new.link s side (w.remove-taken.ensures.rest ∙ ap (λ z. without c.args.key.number (tasks_in z)) w.side_mut.ensures.value)
+          ∙ edited_on c.args.key c.root.inside _ _ _ w.side_of.result w.remove-taken.new.link s side (w.remove-taken.ensures.rest ∙ ap (λ z. without c.args.key.number (tasks_in z)) w.side_mut.ensures.value)
       | then-is_of+else-is_none w ↦
           ap tasks_of w.root-inside-is
           ∙ last_moved (tasks_in c.root.inside.sides.left) (tasks_in w.exchanged-taken.new.left) w.exchanged-taken.new.task (tasks_in c.root.inside.sides.right) w.exchanged-taken.ensures.tasks
