@@ -2,13 +2,21 @@
 # Counts the instructions of a turn of calls of one run queue, by `valgrind --tool=callgrind`: those of a run
 # with many turns less those of a run with few, divided by the difference of the turns, so that the setting up
 # drops out. Prints a table with a row for each mix of calls and a column for each number of tasks. The
-# arguments, where given, are the mixes. No proof speaks of any of it.
+# arguments, where given, are the mixes. With --branches as the first argument it counts the branches that
+# callgrind's model of a processor mispredicts, of a hundred turns. No proof speaks of any of it.
 set -eu
 cd "$(dirname "$0")/.."
 program=$PWD/crates/queue_bench/out/queue_bench
 few=2000
 many=6000
 sizes=(1 8 64 256 1024)
+events=Ir
+scale=1
+if [ "${1:-}" = --branches ]; then
+  events="Bcm Bim"
+  scale=100
+  shift
+fi
 mixes=("$@")
 [ $# -gt 0 ] || mixes=(pick tick-pick sleep-pick-wake yield-pick pull tick-sleep-pick-wake renice)
 
@@ -17,10 +25,16 @@ mixes=("$@")
 profile=$(mktemp)
 trap 'rm -f "$profile"' EXIT
 
-# The instructions of a run.
-instructions() {
-  valgrind --tool=callgrind --callgrind-out-file="$profile" "$program" "$@" >/dev/null 2>&1
-  awk '$1 == "summary:" || $1 == "totals:" { count = $2 } END { print count }' "$profile"
+# How often the events come in a run.
+counted() {
+  valgrind --tool=callgrind --branch-sim=yes --callgrind-out-file="$profile" "$program" "$@" >/dev/null 2>&1
+  awk -v wanted="$events" '
+    $1 == "events:" { for (at = 2; at <= NF; at++) column[$at] = at }
+    $1 == "summary:" || $1 == "totals:" {
+      count = 0
+      for (at = split(wanted, names, " "); at > 0; at--) count += $column[names[at]]
+    }
+    END { print count }' "$profile"
 }
 
 printf '| %-20s |' "mix, tasks"
@@ -31,9 +45,9 @@ printf '\n'
 for mix in "${mixes[@]}"; do
   printf '| %-20s |' "$mix"
   for size in "${sizes[@]}"; do
-    less=$(instructions "$mix" "$size" "$few")
-    more=$(instructions "$mix" "$size" "$many")
-    printf ' %6d |' $(((more - less) / (many - few)))
+    less=$(counted "$mix" "$size" "$few")
+    more=$(counted "$mix" "$size" "$many")
+    printf ' %6d |' $(((more - less) * scale / (many - few)))
   done
   printf '\n'
 done
