@@ -1,13 +1,14 @@
 -- The entry of the task that was picked last: that it is the task's, and stays so when another task joins.
-use Rattle.std.proofs.Common.{◌≡◌, ◌<◌, ℕ, Bool, List, [], ◌∷◌, Option, Some, None, sym, ap, ◌∙◌, arith}
-use Rattle.std.specs.{Prelude.ℤ, Prelude.IfSome, Option.option_map, Ordering.nat_cmp, FinMap.FinMap, FinMap.get}
+use Rattle.std.proofs.Common.{◌≡◌, ◌<◌, ◌≤◌, ℕ, Bool, List, [], ◌∷◌, length, Option, Some, None, sym, ap, subst, ◌∙◌, arith}
+use Rattle.std.specs.{Prelude.ℤ, Prelude.IfSome, Option.option_map, Ordering.nat_cmp, FinMap.FinMap, FinMap.get, FinMap.len}
 use Rattle.std.proofs.lemmas.Bool.Decides.{nat_tests}
 use Rattle.eevdf_queue.specs.{declared.entry.Entry.Entry, declared.task.Task.Task, declared.totals.Totals.Totals}
-use Rattle.eevdf_queue.specs.declared.picked_task.PickedTask.{PickedTask}
+use Rattle.eevdf_queue.specs.{declared.picked_task.Pick.Pick, declared.picked_task.PickedTask.PickedTask}
+use Rattle.eevdf_queue.specs.{Pick.pick_of, TreeShape.IsFull}
 use Rattle.eevdf_queue.specs.{Numbers.number_limit, TaskLists.find_task, TaskLists.runnable_in, TaskLists.AreRunnable}
 use Rattle.eevdf_queue.specs.TreeTasks.{insert_task, first_that, IsAtDeadline}
-use Rattle.eevdf_queue.specs.TreeStores.{deadline_at, timeless, picked_timeless, IsRunnableStore, IsSummedStore, IsKnown, IsRunnableTasks}
-use Rattle.eevdf_queue.proofs.{RunnableMaps.get-runnable_in, TreeLists.find-insert_task, TreeMaps.placed_by}
+use Rattle.eevdf_queue.specs.TreeStores.{deadline_at, timeless, picked_timeless, IsRunnableStore, IsSummedStore, IsKnown, IsStillPick, IsRunnableTasks}
+use Rattle.eevdf_queue.proofs.{RunnableMaps.get-runnable_in, RunnableMaps.len-runnable_in, TreeLists.find-insert_task, TreeMaps.placed_by}
 use Rattle.eevdf_queue.proofs.TreeMaps.{noted_deadline}
 
 pub sums_kept : (table : List ℤ) (s : Totals) (p : PickedTask) (ts : List Task) → IsRunnableTasks table s p ts → IsSummedStore table s ts
@@ -32,12 +33,13 @@ known_entry table p ts m q s v h k e =
     (placed_by (deadline_at table q) (find_task q ts) (λ t f. noted_deadline table q ts t s.noted f))
 
 -- of the entry of a task all of that is known
-pub known_of : (p : PickedTask) (ts : List Task) (m : FinMap nat_cmp Entry) (t : Task) → runnable_in ts ≡ m → get m t.number ≡ Some t.entry
-    → p.number ≡ t.number → p.runtime ≡ t.entry.v → p.nice ≡ t.entry.nice → p.slice ≡ t.entry.slice → IsKnown p ts
-known_of p ts m t view g number v n s = λ _. read (find_task p.number ts)
-    (sym (get-runnable_in ts p.number) ∙ ap (λ (z : FinMap nat_cmp Entry). get z p.number) view ∙ ap (get m) number ∙ g)
+pub known_of : (number : ℕ) (v nice : ℤ) (slice : ℕ) (ts : List Task) (m : FinMap nat_cmp Entry) (t : Task) → runnable_in ts ≡ m → get m t.number ≡ Some t.entry
+    → number ≡ t.number → v ≡ t.entry.v → nice ≡ t.entry.nice → slice ≡ t.entry.slice
+    → number < number_limit → option_map timeless (find_task number ts) ≡ Some (v, nice, slice)
+known_of number v nice slice ts m t view g same runtime n s = λ _. read (find_task number ts)
+    (sym (get-runnable_in ts number) ∙ ap (λ (z : FinMap nat_cmp Entry). get z number) view ∙ ap (get m) same ∙ g)
   where
-    read : (o : Option Task) → option_map (λ (u : Task). u.entry) o ≡ Some t.entry → option_map timeless o ≡ Some (picked_timeless p)
+    read : (o : Option Task) → option_map (λ (u : Task). u.entry) o ≡ Some t.entry → option_map timeless o ≡ Some (v, nice, slice)
     read None h = cc
     read (Some u) h =
         let e : u.entry ≡ t.entry = cc in
@@ -64,3 +66,21 @@ first_entry read passes ts m (Some x) r v h =
     ap (λ (z : FinMap nat_cmp Entry). get z (read x).number) (sym v)
     ∙ get-runnable_in ts (read x).number
     ∙ ap (option_map (λ (t : Task). t.entry)) (first_found passes ts (read x) r (sym h))
+
+-- a pick with the turns of the descent to it, as it is kept
+pub still_pick : (ts : List Task) (m : FinMap nat_cmp Entry) (t turns : ℕ) → runnable_in ts ≡ m → AreRunnable ts → Some t ≡ pick_of m → IsFull turns (len m)
+    → (pick_of (runnable_in ts) ≡ Some t) × IsFull turns (length ts)
+still_pick ts m t turns view r pick full = (
+  ap pick_of view ∙ sym pick,
+  subst (λ (z : ℕ). IsFull turns z) (sym (ap (λ (z : FinMap nat_cmp Entry). len z) view) ∙ len-runnable_in ts r) full,
+)
+
+-- what is kept is the pick, and so far down
+pub still_picked : (p : PickedTask) (ts : List Task) (m : FinMap nat_cmp Entry) (q : Pick) → IsStillPick p ts → runnable_in ts ≡ m → AreRunnable ts
+    → (p.number < number_limit) × (1 ≤ p.turns) × (q.task ≡ p.number) × (q.turns ≡ p.turns) → (Some q.task ≡ pick_of m) × IsFull q.turns (len m)
+still_picked p ts m q h view r (known, positive, number, turns) =
+    let k = h known positive in (
+      ap (λ (z : ℕ). Some z) number ∙ sym k.0 ∙ ap pick_of view,
+      subst (λ (z : ℕ). IsFull z (len m)) (sym turns)
+          (subst (λ (z : ℕ). IsFull p.turns z) (sym (len-runnable_in ts r) ∙ ap (λ (z : FinMap nat_cmp Entry). len z) view) k.1),
+    )

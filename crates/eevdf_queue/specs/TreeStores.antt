@@ -1,9 +1,10 @@
 -- What the stores over trees keep.
-use Rattle.std.specs.Prelude.{◌≡◌, ◌<◌, ℕ, ℤ, pos, List, Some, slice_index_or}
+use Rattle.std.specs.Prelude.{◌≡◌, ◌<◌, ◌≤◌, ℕ, ℤ, pos, List, Some, length, slice_index_or}
 use Rattle.std.specs.{Option.option_map, List.AllByRecursion}
 use Rattle.eevdf_queue.specs.{declared.picked_task.PickedTask.PickedTask, declared.task.Task.Task, declared.totals.Totals.Totals}
 use Rattle.eevdf_queue.specs.{Numbers.number_limit, Sums.sum_weights, Sums.sum_moments}
-use Rattle.eevdf_queue.specs.TaskLists.{find_task, entries_of, AreRunnable}
+use Rattle.eevdf_queue.specs.TaskLists.{find_task, entries_of, runnable_in, AreRunnable}
+use Rattle.eevdf_queue.specs.{Pick.pick_of, TreeShape.IsFull}
 
 -- what a table of deadlines says of a number
 abbrev pub deadline_at : List ℤ → ℕ → ℤ
@@ -39,8 +40,13 @@ picked_timeless p = (p.runtime, p.nice, p.slice)
 abbrev pub IsKnown : PickedTask → List Task → Type 0
 IsKnown p ts = p.number < number_limit → option_map timeless (find_task p.number ts) ≡ Some (picked_timeless p)
 
+-- while the turns to it are kept, the task that was picked last would be picked again
+abbrev pub IsStillPick : PickedTask → List Task → Type 0
+IsStillPick p ts = p.number < number_limit → 1 ≤ p.turns → (pick_of (runnable_in ts) ≡ Some p.number) × IsFull p.turns (length ts)
+
 -- all of it
 pub record IsRunnableTasks (table : List ℤ) (s : Totals) (p : PickedTask) (ts : List Task) : Type 0 where
   pub store : IsRunnableStore table ts
   pub totals : AreTotals s ts
   pub picked : IsKnown p ts
+  pub pick : IsStillPick p ts

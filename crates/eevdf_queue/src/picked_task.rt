@@ -1,4 +1,4 @@
-ghost use Rattle.std.specs.Prelude.{◌≡◌, ◌<◌, true};
+ghost use Rattle.std.specs.Prelude.{◌≡◌, ◌<◌, ◌≤◌, true, IfSome};
 ghost use Rattle.eevdf_queue.specs.Numbers.{number_limit};
 
 use crate::entry::Entry;
@@ -7,8 +7,16 @@ use crate::task_id::TaskId;
 use crate::tree_key::TreeKey;
 use eevdf_weight::{Nice, Slice};
 
-/// What is known of the task that was picked last without a descent to it: its entry but for the deadline, which the
-/// table of deadlines has. It is known until the task gets another entry or some task leaves.
+/// The number of the task that is picked, and the turns of the descent to it.
+#[derive(Clone, Copy)]
+pub struct Pick {
+    pub task: TaskId,
+    pub turns: u32,
+}
+
+/// What is known of the task that was picked last without a descent to it. Its entry but for the deadline, which the table
+/// of deadlines has, is known until the task gets another entry or some task leaves. That it would be picked again is known
+/// until then too, unless some task joins.
 #[derive(Clone, Copy)]
 pub struct PickedTask {
     pub runtime: i64,
@@ -16,12 +24,14 @@ pub struct PickedTask {
     pub nice: Nice,
     pub slice: Slice,
     /// The task's number, and `NO_TASK` where nothing is known.
-    pub number: u64,
+    pub number: u32,
+    /// The turns of the descent to it where it would be picked again, else 0.
+    pub turns: u32,
 }
 
 impl PickedTask {
     /// A number that no task has. It takes the place of a flag, which would have to be written and asked too.
-    pub const NO_TASK: u64 = TaskId::COUNT as u64;
+    pub const NO_TASK: u32 = TaskId::COUNT as u32;
 
     /// Nothing is known.
     pub fn none() -> PickedTask
@@ -32,21 +42,24 @@ impl PickedTask {
             nice: Nice::MIN,
             slice: Slice::MIN,
             number: PickedTask::NO_TASK,
+            turns: 0,
         }
     }
 
-    /// What is known of a task.
-    pub fn of(task: &Task) -> PickedTask
+    /// What is known of a task that a descent of so many turns has found.
+    pub fn of(task: &Task, turns: u32) -> PickedTask
         ensures number { result.number ≡ task.now.number }
         ensures runtime { result.runtime ≡ task.now.entry.v }
         ensures nice { result.nice ≡ task.now.entry.nice }
         ensures slice { result.slice ≡ task.now.entry.slice }
+        ensures turns { result.turns ≡ turns }
     {
         PickedTask {
             runtime: task.entry.v,
             nice: task.entry.nice,
             slice: task.entry.slice,
-            number: task.number.get(),
+            number: task.number.get() as u32,
+            turns,
         }
     }
 
@@ -55,7 +68,33 @@ impl PickedTask {
         ensures known { result ≡ true → self.now.number < number_limit }
         ensures number { result ≡ true → self.now.number ≡ task }
     {
-        self.number == task.get()
+        u64::from(self.number) == task.get()
+    }
+
+    /// Forgets the task.
+    #[inline(always)]
+    pub fn forget(&mut self)
+        ensures number { self.new.number ≡ number_limit }
+        ensures turns { self.new.turns ≡ 0 }
+    {
+        self.number = PickedTask::NO_TASK;
+        self.turns = 0;
+    }
+
+    /// The task with the turns to it, where it would be picked again.
+    #[inline(always)]
+    pub fn pick(&self) -> Option<Pick>
+        ensures { IfSome result (λ p. (self.now.number < number_limit) × (1 ≤ self.now.turns)
+            × (p.task ≡ self.now.number) × (p.turns ≡ self.now.turns)) }
+    {
+        if self.turns == 0 {
+            return None;
+        }
+        let task = TaskId::new(u64::from(self.number))?;
+        Some(Pick {
+            task,
+            turns: self.turns,
+        })
     }
 
     /// The entry with the deadline of a key.

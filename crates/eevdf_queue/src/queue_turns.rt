@@ -10,6 +10,7 @@ ghost use Rattle.eevdf_queue.specs.Yield as yields;
 
 use crate::answers::{TickAnswer, YieldAnswer};
 use crate::entry::Entry;
+use crate::picked_task::Pick;
 use crate::queue::Queue;
 use crate::request::{charged, is_deadline_in_range, yielded};
 use crate::task_id::TaskId;
@@ -25,7 +26,8 @@ struct Runner {
 impl Queue {
     /// Lets the eligible task of earliest virtual deadline run, the lower number where deadlines are equal.
     /// `None` exactly when nothing is runnable. With `n` runnable tasks, the descent to it in the tree takes `k`
-    /// turns such that `2 ^ (k / 2) <= n + 1`.
+    /// turns such that `2 ^ (k / 2) <= n + 1`. Where no task has joined, left or changed since the last pick, that one's
+    /// answer is given again, and nothing is descended.
     pub fn pick(&mut self) -> Option<TaskId>
         ensures number { result ≡ pick_of self.old.state.runnable }
         ensures picked { IfSome result (IsPick self.old.state.runnable) }
@@ -36,17 +38,27 @@ impl Queue {
         ensures few_turns { IfSome result
             (λ _. 2 ^ (self.new.turns / 2) ≤ map.len self.old.state.runnable + 1) }
     {
-        match self.runnable.pick() {
-            None => {
-                self.turns = 0;
-                None
-            }
-            Some(first) => {
-                self.running = Some(first.task);
-                self.turns = first.turns;
-                Some(first.task)
-            }
+        if let Some(known) = self.runnable.known_pick() {
+            return Some(self.run(known));
         }
+        let Some(first) = self.runnable.pick() else {
+            self.turns = 0;
+            return None;
+        };
+        Some(self.run(first))
+    }
+
+    /// Lets the task of a pick run.
+    #[inline(always)]
+    fn run(&mut self, pick: Pick) -> TaskId
+        requires { map.contains_key self.old.state.runnable pick.task ≡ true }
+        ensures task { result ≡ pick.task }
+        ensures after { self.new.state ≡ record self.old.state { running = Some pick.task } }
+        ensures turns { self.new.turns ≡ pick.turns }
+    {
+        self.running = Some(pick.task);
+        self.turns = pick.turns;
+        pick.task
     }
 
     /// Charges the running task for `ns`, and gives it a fresh request where it has used up its own. Nobody

@@ -15,7 +15,7 @@ use crate::deadline_table::DeadlineTable;
 use crate::entry::Entry;
 use crate::lag::kept_lag;
 use crate::parcel::Parcel;
-use crate::picked_task::PickedTask;
+use crate::picked_task::{Pick, PickedTask};
 use crate::task_id::TaskId;
 use crate::task_tree::TaskTree;
 use crate::totals::Totals;
@@ -32,13 +32,6 @@ pub struct RunnableTasks {
     tree: TaskTree,
     deadlines: DeadlineTable,
     picked: PickedTask,
-}
-
-/// The number of the task that is picked, and the turns of the descent to it.
-#[derive(Clone, Copy)]
-pub struct Pick {
-    pub task: TaskId,
-    pub turns: u32,
 }
 
 impl Model for RunnableTasks {
@@ -123,7 +116,7 @@ impl RunnableTasks {
         requires in_range { is_entry_in_range entry ≡ true }
         ensures { self.new ≡ map.insert self.old task entry }
     {
-        self.picked.number = PickedTask::NO_TASK;
+        self.picked.forget();
         self.totals = exchanged(&self.totals, older, &entry);
         replace(&mut self.tree, &mut self.deadlines, task, entry);
     }
@@ -137,7 +130,7 @@ impl RunnableTasks {
         requires near { unsigned_abs (newer.v -ℤ older.now.v) ≤ 2 ^ 40 }
         ensures { self.new ≡ map.insert self.old task newer }
     {
-        self.picked.number = PickedTask::NO_TASK;
+        self.picked.forget();
         correct_moment(&mut self.totals, older, &newer);
         replace(&mut self.tree, &mut self.deadlines, task, newer);
     }
@@ -152,7 +145,7 @@ impl RunnableTasks {
         requires near { unsigned_abs (newer.now.v -ℤ older.now.v) ≤ 2 ^ 40 }
         ensures { self.new ≡ map.insert self.old task newer.now }
     {
-        self.picked.number = PickedTask::NO_TASK;
+        self.picked.forget();
         correct_moment(&mut self.totals, older, newer);
         let key = TreeKey::of(task, older);
         self.tree.age(&key, older, newer);
@@ -164,6 +157,8 @@ impl RunnableTasks {
         requires in_range { is_entry_in_range entry ≡ true }
         ensures { self.new ≡ map.insert self.old parcel.task entry }
     {
+        // the picked task keeps its entry, but another one may be picked next
+        self.picked.turns = 0;
         self.totals = with_share(&self.totals, &share(&entry));
         put(
             &mut self.tree,
@@ -181,7 +176,7 @@ impl RunnableTasks {
         ensures parcel { option_map (leaving_at time task) (map.get self.old task) ≡ Some result }
     {
         self.keeps();
-        self.picked.number = PickedTask::NO_TASK;
+        self.picked.forget();
         let node = take(&mut self.tree, &self.deadlines, task);
         let entry = node.task().entry;
         self.totals = without_share(&self.totals, &share(&entry));
@@ -206,6 +201,19 @@ impl RunnableTasks {
         self.tree.earliest(totals)
     }
 
+    /// The eligible task of earliest virtual deadline, and the turns of the descent to it, where that is known from the
+    /// last descent.
+    #[inline(always)]
+    pub fn known_pick(&self) -> Option<Pick>
+        ensures number { IfSome result (λ f. Some f.task ≡ pick_of self.now) }
+        ensures picked { IfSome result (λ f. IsPick self.now f.task) }
+        ensures here { IfSome result (λ f. map.contains_key self.now f.task ≡ true) }
+        ensures positive { IfSome result (λ f. 1 ≤ f.turns) }
+        ensures turns { IfSome result (λ f. IsFull f.turns (map.len self.now)) }
+    {
+        self.picked.pick()
+    }
+
     /// The eligible task of earliest virtual deadline, and the turns of the descent to it. `None` exactly where
     /// there is no task.
     pub fn pick(&mut self) -> Option<Pick>
@@ -226,12 +234,13 @@ impl RunnableTasks {
             task: first.task.number,
             turns: first.turns,
         };
-        let picked = PickedTask::of(first.task);
+        let picked = PickedTask::of(first.task, first.turns);
         // field by field, so that no padding is written
         self.picked.runtime = picked.runtime;
         self.picked.nice = picked.nice;
         self.picked.slice = picked.slice;
         self.picked.number = picked.number;
+        self.picked.turns = picked.turns;
         Some(pick)
     }
 

@@ -31,6 +31,7 @@ invariant_of-self c =
       picked =
           still_known c.self.inside.picked t c.self.inside.tree c.put.new.tree c.self.invariant.picked
           (find_absent c.self.inside.tree c.args.self.now t.number c.self.view_is (ap (map.get c.args.self.now) k ∙ c.requires.absent)) c.put.ensures.tree;
+      pick = λ k l. absurd (omega arith);
     }
 
 pub returns : goal.returns

@@ -39,7 +39,8 @@ invariant_of-self c =
           c.self.invariant.totals g.1.0 g.1.1
           (ap (λ (z : ℕ). weight_of c.args.older.now.nice + z) c.correct_moment.ensures.weight ∙ ap (λ (z : ℤ). weight_of z + c.self.inside.totals.weight) n)
           (c.correct_moment.ensures.moment ∙ ap (λ (z : ℤ). (c.args.newer.now.v *ℤ pos (weight_of z)) +ℤ c.self.inside.totals.moment) n) i;
-      picked = λ k. absurd (omega arith);
+      picked = λ k. absurd (omega (arith, c.forget.ensures.number));
+      pick = λ k. absurd (omega (arith, c.forget.ensures.number));
     }
 
 pub returns : goal.returns

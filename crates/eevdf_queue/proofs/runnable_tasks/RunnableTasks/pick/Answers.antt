@@ -1,13 +1,13 @@
-use Rattle.std.proofs.Common.{◌≡◌, ◌∙◌, ℕ, Option, subst, rules}
+use Rattle.std.proofs.Common.{◌≡◌, ◌∙◌, ℕ, Option, Some, ap, sym, subst, rules}
 use Rattle.std.specs.Prelude.{ℤ, IfSome, IsNone, ◌↔◌}
 use Rattle.std.proofs.lemmas.Int.{to_z-of_z}
 use mir.Syntax.{w64}
 use mir.Val.{SFits}
 use Rattle.std.specs.Option.{option_map}
 use Rattle.std.specs.FinMap as map
-use Rattle.eevdf_queue.specs.{declared.tree_node.Found.Found, Pick.IsPick, Pick.pick_of}
+use Rattle.eevdf_queue.specs.{declared.tree_node.Found.Found, Pick.IsPick, Pick.pick_of, TreeShape.IsFull}
 use Rattle.eevdf_queue.proofs.Picked.{picked, none_picked, first_is_pick}
-use Rattle.eevdf_queue.proofs.PickedTasks.{known_of}
+use Rattle.eevdf_queue.proofs.PickedTasks.{known_of, still_pick}
 use Rattle.eevdf_queue.proofs.runnable_tasks.RunnableTasks.pick.Goals as goal
 use Rattle.eevdf_queue.proofs.runnable_tasks.RunnableTasks.pick.Goals.{After-first}
 
@@ -32,8 +32,13 @@ invariant_of-self c =
       store = c.self.invariant.store;
       totals = c.self.invariant.totals;
       picked =
-          known_of _ c.self.inside.tree c.args.self.now c.in-Some.first.task.now c.self.view_is c.in-Some.ensures.here
+          known_of _ _ _ _ c.self.inside.tree c.args.self.now c.in-Some.first.task.now c.self.view_is c.in-Some.ensures.here
           c.of-picked.ensures.number (to_z-of_z w64 v fits ∙ c.of-picked.ensures.runtime) c.of-picked.ensures.nice c.of-picked.ensures.slice;
+      pick = λ _ _.
+          still_pick c.self.inside.tree c.args.self.now c.of-picked.result.number c.of-picked.result.turns c.self.view_is c.self.invariant.store.runnable
+          (ap (λ (q : ℕ). Some q) c.of-picked.ensures.number
+          ∙ subst (λ (o : Option Found). option_map number_of o ≡ pick_of c.args.self.now) c.in-Some.is (is_pick (goal.at.invariant_of-self c).After-first))
+          (subst (λ (z : ℕ). IsFull z (map.len c.args.self.now)) (sym c.of-picked.ensures.turns) c.in-Some.ensures.turns);
     }
 
 pub returns-clause-picked : goal.returns-clause-picked

@@ -34,7 +34,8 @@ invariant_of-self c =
           totals-without c.args.task (first_task c.take-node.result.value.tasks) c.task-entry.result.entry c.self.inside.tree c.take-node.new.tree c.self.inside.totals c.without_share-self-inside.result
           c.share.result.weight c.share.result.moment c.self.invariant.totals c.take-node.ensures.task x c.take-node.ensures.rest c.share.ensures.weight c.share.ensures.moment
           c.without_share-self-inside.ensures.weight c.without_share-self-inside.ensures.moment;
-      picked = λ k. absurd (omega arith);
+      picked = λ k. absurd (omega (arith, c.forget.ensures.number));
+      pick = λ k. absurd (omega (arith, c.forget.ensures.number));
     }
 
 pub returns-clause-rest : goal.returns-clause-rest

@@ -25,7 +25,8 @@ invariant_of-self c =
           (ap (λ (z : ℕ). weight_of c.args.older.now.nice + z) c.correct_moment.ensures.weight ∙ ap (λ (z : ℤ). weight_of z + c.self.inside.totals.weight) n)
           (c.correct_moment.ensures.moment ∙ ap (λ (z : ℤ). (c.args.newer.v *ℤ pos (weight_of z)) +ℤ c.self.inside.totals.moment) n)
           (c.replace.ensures.tree g.0 g.1.0);
-      picked = λ k. absurd (omega arith);
+      picked = λ k. absurd (omega (arith, c.forget.ensures.number));
+      pick = λ k. absurd (omega (arith, c.forget.ensures.number));
     }
 
 pub returns : goal.returns

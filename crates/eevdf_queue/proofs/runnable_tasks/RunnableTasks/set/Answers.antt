@@ -23,7 +23,8 @@ invariant_of-self c =
           c.exchanged-self-inside.ensures.weight
           c.exchanged-self-inside.ensures.moment
           (c.replace.ensures.tree g.0 g.1.0);
-      picked = λ k. absurd (omega arith);
+      picked = λ k. absurd (omega (arith, c.forget.ensures.number));
+      pick = λ k. absurd (omega (arith, c.forget.ensures.number));
     }
 
 pub returns : goal.returns
