@@ -2,8 +2,8 @@
 # Counts the instructions of a turn of calls of one run queue, by `valgrind --tool=callgrind`: those of a run
 # with many turns less those of a run with few, divided by the difference of the turns, so that the setting up
 # drops out. Prints a table with a row for each mix of calls and a column for each number of tasks. The
-# arguments, where given, are the mixes. With --branches as the first argument it counts the branches that
-# callgrind's model of a processor mispredicts, of a hundred turns. No proof speaks of any of it.
+# arguments, where given, are the mixes. With --branches as the first argument it counts in their place the branches
+# that callgrind's model of a processor mispredicts, in a hundred turns. No proof speaks of any of it.
 set -eu
 cd "$(dirname "$0")/.."
 program=$PWD/crates/queue_bench/out/queue_bench

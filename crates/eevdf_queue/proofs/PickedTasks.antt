@@ -1,4 +1,4 @@
--- The entry of the task that was picked last: that it is the task's, and stays so when another task joins.
+-- What is kept of the task that was picked last: that it is its entry, and stays so when another task joins, and that the task is the pick.
 use Rattle.std.proofs.Common.{◌≡◌, ◌<◌, ◌≤◌, ℕ, Bool, List, [], ◌∷◌, length, Option, Some, None, sym, ap, subst, ◌∙◌, arith}
 use Rattle.std.specs.{Prelude.ℤ, Prelude.IfSome, Option.option_map, Ordering.nat_cmp, FinMap.FinMap, FinMap.get, FinMap.len}
 use Rattle.std.proofs.lemmas.Bool.Decides.{nat_tests}
@@ -67,7 +67,7 @@ first_entry read passes ts m (Some x) r v h =
     ∙ get-runnable_in ts (read x).number
     ∙ ap (option_map (λ (t : Task). t.entry)) (first_found passes ts (read x) r (sym h))
 
--- a pick with the turns of the descent to it, as it is kept
+-- the pick that a descent has found may be kept
 pub still_pick : (ts : List Task) (m : FinMap nat_cmp Entry) (t turns : ℕ) → runnable_in ts ≡ m → AreRunnable ts → Some t ≡ pick_of m → IsFull turns (len m)
     → (pick_of (runnable_in ts) ≡ Some t) × IsFull turns (length ts)
 still_pick ts m t turns view r pick full = (
@@ -75,7 +75,7 @@ still_pick ts m t turns view r pick full = (
   subst (λ (z : ℕ). IsFull turns z) (sym (ap (λ (z : FinMap nat_cmp Entry). len z) view) ∙ len-runnable_in ts r) full,
 )
 
--- what is kept is the pick, and so far down
+-- what is kept is the pick, and its turns are few
 pub still_picked : (p : PickedTask) (ts : List Task) (m : FinMap nat_cmp Entry) (q : Pick) → IsStillPick p ts → runnable_in ts ≡ m → AreRunnable ts
     → (p.number < number_limit) × (1 ≤ p.turns) × (q.task ≡ p.number) × (q.turns ≡ p.turns) → (Some q.task ≡ pick_of m) × IsFull q.turns (len m)
 still_picked p ts m q h view r (known, positive, number, turns) =

@@ -40,7 +40,7 @@ picked_timeless p = (p.runtime, p.nice, p.slice)
 abbrev pub IsKnown : PickedTask → List Task → Type 0
 IsKnown p ts = p.number < number_limit → option_map timeless (find_task p.number ts) ≡ Some (picked_timeless p)
 
--- while the turns to it are kept, the task that was picked last would be picked again
+-- while the turns of the descent to it are kept, the task that was picked last is the pick, and they are few
 abbrev pub IsStillPick : PickedTask → List Task → Type 0
 IsStillPick p ts = p.number < number_limit → 1 ≤ p.turns → (pick_of (runnable_in ts) ≡ Some p.number) × IsFull p.turns (length ts)
 

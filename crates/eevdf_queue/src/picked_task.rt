@@ -1,4 +1,4 @@
-ghost use Rattle.std.specs.Prelude.{◌≡◌, ◌<◌, ◌≤◌, true, IfSome};
+ghost use Rattle.std.specs.Prelude.{◌≡◌, ◌≢◌, ◌<◌, ◌≤◌, ◌⊎◌, true, false, IfSome, IsNone};
 ghost use Rattle.eevdf_queue.specs.Numbers.{number_limit};
 
 use crate::entry::Entry;
@@ -14,9 +14,9 @@ pub struct Pick {
     pub turns: u32,
 }
 
-/// What is known of the task that was picked last without a descent to it. Its entry but for the deadline, which the table
-/// of deadlines has, is known until the task gets another entry or some task leaves. That it would be picked again is known
-/// until then too, unless some task joins.
+/// What is kept of the task that was picked last, so that no descent to it is needed: its entry but for the deadline, which
+/// the table of deadlines has, until any task gets another entry or leaves; and that it is the pick, until then or until a
+/// task joins.
 #[derive(Clone, Copy)]
 pub struct PickedTask {
     pub runtime: i64,
@@ -25,12 +25,12 @@ pub struct PickedTask {
     pub slice: Slice,
     /// The task's number, and `NO_TASK` where nothing is known.
     pub number: u32,
-    /// The turns of the descent to it where it would be picked again, else 0.
+    /// The turns of the descent to it where it is known to be the pick, else 0.
     pub turns: u32,
 }
 
 impl PickedTask {
-    /// A number that no task has. It takes the place of a flag, which would have to be written and asked too.
+    /// A number that no task has.
     pub const NO_TASK: u32 = TaskId::COUNT as u32;
 
     /// Nothing is known.
@@ -67,6 +67,7 @@ impl PickedTask {
     pub fn is(&self, task: TaskId) -> bool
         ensures known { result ≡ true → self.now.number < number_limit }
         ensures number { result ≡ true → self.now.number ≡ task }
+        ensures other { result ≡ false → self.now.number ≢ task }
     {
         u64::from(self.number) == task.get()
     }
@@ -81,11 +82,13 @@ impl PickedTask {
         self.turns = 0;
     }
 
-    /// The task with the turns to it, where it would be picked again.
+    /// The pick, where it is known.
     #[inline(always)]
-    pub fn pick(&self) -> Option<Pick>
-        ensures { IfSome result (λ p. (self.now.number < number_limit) × (1 ≤ self.now.turns)
+    pub fn known_pick(&self) -> Option<Pick>
+        ensures known { IfSome result (λ p. (self.now.number < number_limit) × (1 ≤ self.now.turns)
             × (p.task ≡ self.now.number) × (p.turns ≡ self.now.turns)) }
+        ensures unknown { IsNone result
+            → (self.now.turns ≡ 0) ⊎ (number_limit ≤ self.now.number) }
     {
         if self.turns == 0 {
             return None;

@@ -26,8 +26,8 @@ struct Runner {
 impl Queue {
     /// Lets the eligible task of earliest virtual deadline run, the lower number where deadlines are equal.
     /// `None` exactly when nothing is runnable. With `n` runnable tasks, the descent to it in the tree takes `k`
-    /// turns such that `2 ^ (k / 2) <= n + 1`. Where no task has joined, left or changed since the last pick, that one's
-    /// answer is given again, and nothing is descended.
+    /// turns such that `2 ^ (k / 2) <= n + 1`. Where no task was put in, taken out, charged or given another entry since
+    /// the last pick, its answer still holds, and no descent is made.
     pub fn pick(&mut self) -> Option<TaskId>
         ensures number { result ≡ pick_of self.old.state.runnable }
         ensures picked { IfSome result (IsPick self.old.state.runnable) }

@@ -201,8 +201,8 @@ impl RunnableTasks {
         self.tree.earliest(totals)
     }
 
-    /// The eligible task of earliest virtual deadline, and the turns of the descent to it, where that is known from the
-    /// last descent.
+    /// The eligible task of earliest virtual deadline, and the turns of the descent to it, where both are known from the
+    /// last descent. `None` says nothing.
     #[inline(always)]
     pub fn known_pick(&self) -> Option<Pick>
         ensures number { IfSome result (λ f. Some f.task ≡ pick_of self.now) }
@@ -211,7 +211,7 @@ impl RunnableTasks {
         ensures positive { IfSome result (λ f. 1 ≤ f.turns) }
         ensures turns { IfSome result (λ f. IsFull f.turns (map.len self.now)) }
     {
-        self.picked.pick()
+        self.picked.known_pick()
     }
 
     /// The eligible task of earliest virtual deadline, and the turns of the descent to it. `None` exactly where

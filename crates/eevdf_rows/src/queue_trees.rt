@@ -62,7 +62,10 @@ fn empties_in_order(rt: &impl Abort, queue: &mut Queue) -> Result<(), Fail> {
     assert_eq!(rt; queue.len() as u64, TASKS);
     assert_eq!(rt; queue.candidate(), Some(task(1023)?));
     assert_eq!(rt; queue.pick(), Some(task(0)?));
-    assert!(rt; queue.pick_steps() >= 6);
+    let turns = queue.pick_steps();
+    assert!(rt; turns >= 6);
+    assert_eq!(rt; queue.pick(), Some(task(0)?));
+    assert_eq!(rt; queue.pick_steps(), turns);
     for number in 0..TASKS {
         takes_next(rt, queue, number)?;
     }
@@ -82,11 +85,13 @@ fn picks_one(rt: &impl Abort, alloc: Global, queue: &mut Queue) -> Result<(), Fa
 }
 
 /// The pick of three tasks stands on the right of the root, since of the first two neither is eligible: a turn to the root, and
-/// one to the right.
+/// one to the right. A second pick, before which nothing changes, leaves the same number of turns.
 fn picks_to_the_right(rt: &impl Abort, alloc: Global, queue: &mut Queue) -> Result<(), Fail> {
     admit(rt, queue, parcel(alloc, 0, 100_000, 10)?);
     admit(rt, queue, parcel(alloc, 1, 200_000, 10)?);
     admit(rt, queue, parcel(alloc, 2, 300_000, 0)?);
+    assert_eq!(rt; queue.pick(), Some(task(2)?));
+    assert_eq!(rt; queue.pick_steps(), 2);
     assert_eq!(rt; queue.pick(), Some(task(2)?));
     assert_eq!(rt; queue.pick_steps(), 2);
     Ok(())

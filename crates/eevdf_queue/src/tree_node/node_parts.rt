@@ -274,13 +274,13 @@ pub fn look_around(
 }
 
 impl Around {
-    /// Whether one side is more than one higher than the other.
+    /// Whether one side is more than one level higher than the other.
     pub fn is_uneven(&self) -> bool
         requires { max self.now.left self.now.right ≤ 2 ^ 20 }
         ensures { result ≡ false → DifferByAtMost 1 self.now.left self.now.right }
     {
-        let higher_by = self.left as i32 - self.right as i32;
-        higher_by < -1 || higher_by > 1
+        let left_higher_by = self.left as i32 - self.right as i32;
+        left_higher_by < -1 || left_higher_by > 1
     }
 
     /// Makes the height of a node right again. Answers whether it has changed.
