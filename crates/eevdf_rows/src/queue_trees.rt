@@ -57,15 +57,21 @@ fn takes_next(rt: &impl Abort, queue: &mut Queue, number: u64) -> Result<(), Fai
     Ok(())
 }
 
+/// Asks that this task is picked, and once more, before which nothing changes. Gives the turns, which a second pick leaves.
+fn picks_twice(rt: &impl Abort, queue: &mut Queue, number: u64) -> Result<u32, Fail> {
+    let task = Some(task(number)?);
+    assert_eq!(rt; queue.pick(), task);
+    let turns = queue.pick_steps();
+    assert_eq!(rt; queue.pick(), task);
+    assert_eq!(rt; queue.pick_steps(), turns);
+    Ok(turns)
+}
+
 /// Asks that the picks of all tasks come in ascending number, when each picked task is taken out.
 fn empties_in_order(rt: &impl Abort, queue: &mut Queue) -> Result<(), Fail> {
     assert_eq!(rt; queue.len() as u64, TASKS);
     assert_eq!(rt; queue.candidate(), Some(task(1023)?));
-    assert_eq!(rt; queue.pick(), Some(task(0)?));
-    let turns = queue.pick_steps();
-    assert!(rt; turns >= 6);
-    assert_eq!(rt; queue.pick(), Some(task(0)?));
-    assert_eq!(rt; queue.pick_steps(), turns);
+    assert!(rt; picks_twice(rt, queue, 0)? >= 6);
     for number in 0..TASKS {
         takes_next(rt, queue, number)?;
     }
@@ -85,15 +91,12 @@ fn picks_one(rt: &impl Abort, alloc: Global, queue: &mut Queue) -> Result<(), Fa
 }
 
 /// The pick of three tasks stands on the right of the root, since of the first two neither is eligible: a turn to the root, and
-/// one to the right. A second pick, before which nothing changes, leaves the same number of turns.
+/// one to the right.
 fn picks_to_the_right(rt: &impl Abort, alloc: Global, queue: &mut Queue) -> Result<(), Fail> {
     admit(rt, queue, parcel(alloc, 0, 100_000, 10)?);
     admit(rt, queue, parcel(alloc, 1, 200_000, 10)?);
     admit(rt, queue, parcel(alloc, 2, 300_000, 0)?);
-    assert_eq!(rt; queue.pick(), Some(task(2)?));
-    assert_eq!(rt; queue.pick_steps(), 2);
-    assert_eq!(rt; queue.pick(), Some(task(2)?));
-    assert_eq!(rt; queue.pick_steps(), 2);
+    assert_eq!(rt; picks_twice(rt, queue, 2)?, 2);
     Ok(())
 }
 
