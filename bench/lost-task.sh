@@ -6,7 +6,9 @@ set -u
 cd "$(dirname "$0")/.."
 copy=$(mktemp -d)
 trap 'rm -rf "$copy"' EXIT
-tar -cf - --exclude=incremental HANDLES crates/eevdf_{weight,queue,ops,steps} | tar -xf - -C "$copy"
+# other runs may link what was built, and have copies of their own among it
+tar -cf - --exclude=incremental --exclude='wrong-bodies-*' --warning=no-file-changed HANDLES \
+  crates/eevdf_{weight,queue,ops,steps} | tar -xf - -C "$copy"
 grep -E '^eevdf_(weight|queue|ops|steps):' crates.txt >"$copy/crates.txt"
 echo 'mine: eevdf_queue eevdf_weight' >>"$copy/crates.txt"
 mkdir -p "$copy/crates/mine/src"
