@@ -44,27 +44,45 @@ CRATES = read_crates()
 # What a check says.
 
 FUNCTION = re.compile(r"^(?:so far: )?fn (\S+): (.*)$", re.MULTILINE)
-# An error of a proof file, but for one that says only that the file names what isn't there or isn't proved.
 PROOF_ERROR = re.compile(r"^(?:\./)?proofs/(\S+)/[^/]+\.antt:\d+:\d+: error: (.*)$", re.MULTILINE)
-NAMES_ALONE = re.compile(r"has no field|is not in scope|has no `|was not admitted")
+# What the error of a proof file says where the file only names what isn't there or isn't proved.
+NAMES_ALONE = re.compile(r"has no field|is not in scope|has no `|was not admitted|\(nearest: ")
+# What is said of a function whose code the prover has no rules for: it is neither proved nor refused.
+NOT_COVERED = re.compile(r"does not cover|not covered")
 FIRST_ERROR = re.compile(r"^.*: error\b.*$", re.MULTILINE)
 
 
-def refused_functions(crate, said):
-    """The functions that a check refuses for what they do themselves, each with what it says of them."""
-    wrong_proofs = {}
-    for folder, error in PROOF_ERROR.findall(said):
-        if not NAMES_ALONE.search(error):
-            wrong_proofs.setdefault(folder.replace("/", "::"), error)
-    refused = {}
-    for name, told in FUNCTION.findall(said):
-        name = name.removeprefix(f"{crate}::")
-        own = [part for part in told.split("; ") if "did not prove" in part or "is not covered" in part]
-        if own:
-            refused[name] = own[0]
+class Said:
+    """What a check says: which functions it refuses for what they do themselves, with its words; which it proves; and the first
+    error that it finds."""
+
+    def __init__(self, crate, text):
+        self.refused = {}
+        self.proved = set()
+        error = FIRST_ERROR.search(text)
+        self.error = error[0] if error else text[-300:]
+        wrong_proofs = {}
+        for folder, error in PROOF_ERROR.findall(text):
+            if not NAMES_ALONE.search(error):
+                wrong_proofs.setdefault(function_of(folder), error)
+        for name, told in FUNCTION.findall(text):
+            name = name.removeprefix(f"{crate}::")
+            if told == "proved":
+                self.proved.add(name)
+            elif not NOT_COVERED.search(told):
+                self.look(name, told, wrong_proofs)
+
+    def look(self, name, told, wrong_proofs):
+        unproved = [part for part in told.split("; ") if "did not prove" in part]
+        if unproved:
+            self.refused[name] = unproved[0]
         elif told.startswith(("not proved", "no proof")) and name in wrong_proofs:
-            refused[name] = wrong_proofs[name]
-    return refused
+            self.refused[name] = wrong_proofs[name]
+
+
+def function_of(folder):
+    """The function whose proof stands in this folder of proofs/. The folder of one that calls itself begins with a plus."""
+    return folder.replace("/+", "/").removeprefix("+").replace("/", "::")
 
 
 # The tries.
@@ -111,23 +129,22 @@ def prove(crate):
 
 
 def try_together(crate, edits):
-    """What a check says of each function that it refuses with these edits in place, and the first error that it finds."""
+    """What a check says with these edits in place."""
     room = Room(crate)
     with room.held:
         for edit in edits:
             apply(edit, room.folder)
-        _, said = room.run("check", "--jobs", "1")
-    error = FIRST_ERROR.search(said)
-    return refused_functions(crate, said), error[0] if error else said[-300:]
+        return Said(crate, room.run("check", "--jobs", "1")[1])
 
 
 def try_group(crate, edits):
     """Each of the edits with whether it is refused in its function, and what is said of it."""
-    refused, error = try_together(crate, edits)
-    told = [(edit, True, refused[edit.refused]) for edit in edits if edit.refused in refused]
-    rest = [edit for edit in edits if edit.refused not in refused]
+    said = try_together(crate, edits)
+    told = [(edit, True, said.refused[edit.refused]) for edit in edits if edit.refused in said.refused]
+    told += [(edit, False, f"{edit.refused} is proved") for edit in edits if edit.refused in said.proved]
+    rest = [edit for edit in edits if edit.refused not in said.refused and edit.refused not in said.proved]
     if len(edits) == 1:
-        return told or [(edit, False, f"not refused in {edit.refused}, but: {error}") for edit in rest]
+        return told or [(edit, False, f"not refused in {edit.refused}, but: {said.error}") for edit in rest]
     # a check that refuses none of them has ended before it reached any
     size = 1 if told else (len(rest) + 1) // 2
     for start in range(0, len(rest), size):
