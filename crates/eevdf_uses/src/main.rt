@@ -12,8 +12,10 @@ use crate::one_queue::{add, one_queue};
 use crate::own_order::{last_first, pull_and_picks};
 use crate::two_queues::pull;
 use crate::two_threads::sleep_and_wake;
+use eevdf_fleet::RunFault;
 use eevdf_ops::Deed;
 use eevdf_queue::{Queue, TaskId};
+use std::alloc::AllocError;
 use std::io;
 use std::sync::{Mutex, Wait};
 use std::thread::Threads;
@@ -59,7 +61,7 @@ fn show_checked_input(rt: &(impl Print + AllocGlobal)) -> io::Result<()> {
         Order::Run { cpu: 1 },
     ];
     let Ok(setup) = two_cpus(rt.alloc()) else {
-        return Ok(());
+        return Err(out_of_memory());
     };
     for answer in answers(rt.alloc(), &setup, &orders)?.iter() {
         match answer {
@@ -73,7 +75,7 @@ fn show_checked_input(rt: &(impl Print + AllocGlobal)) -> io::Result<()> {
 fn show_own_order(rt: &(impl Print + AllocGlobal)) -> io::Result<()> {
     println!(rt; "own order")?;
     let Ok(setup) = pull_and_picks(rt.alloc()) else {
-        return Ok(());
+        return Err(out_of_memory());
     };
     if let Some(outcome) = last_first(rt.alloc(), &setup, 100)? {
         for line in outcome.history() {
@@ -87,11 +89,13 @@ fn show_own_order(rt: &(impl Print + AllocGlobal)) -> io::Result<()> {
 fn show_two_threads(rt: &(impl Print + AllocGlobal + Threads + Wait + Sync)) -> io::Result<()> {
     println!(rt; "two threads")?;
     let Ok(setup) = two_cpus(rt.alloc()) else {
-        return Ok(());
+        return Err(out_of_memory());
     };
     let sleeper = TaskId::new(1).unwrap();
-    let Ok(closed) = sleep_and_wake(rt, rt.alloc(), &setup, sleeper) else {
-        return Ok(());
+    let closed = match sleep_and_wake(rt, rt.alloc(), &setup, sleeper) {
+        Ok(closed) => closed,
+        Err(RunFault::Memory) => return Err(out_of_memory()),
+        Err(RunFault::Start) => return Err(io::Error::from(io::ErrorKind::WouldBlock)),
     };
     let mut requests = 0usize;
     for line in closed.history() {
@@ -108,4 +112,9 @@ fn show_two_threads(rt: &(impl Print + AllocGlobal + Threads + Wait + Sync)) -> 
     }
     println!(rt; "{requests} requests taken or left")?;
     Ok(())
+}
+
+/// Of the setups of these programs nothing but memory can be refused.
+fn out_of_memory() -> io::Error {
+    io::Error::from(AllocError)
 }
