@@ -1,54 +1,123 @@
 -- How deep a node is, as seen from a node and from another above it.
-use Rattle.std.proofs.Common.{◌≡◌, ℕ, suc, ◌+◌, true, List, [], ◌∷◌, ◌++◌, ap, ◌∙◌, arith}
+use Rattle.std.proofs.Common.{◌≡◌, ℕ, suc, ◌+◌, true, false, eqb, List, [], ◌∷◌, ◌++◌, None, refl, ap, ◌∙◌, sym, subst, arith}
+use Rattle.std.specs.Prelude.{is_some}
 use Rattle.std.proofs.lemmas.Bool.Decides.{nat_tests}
-use Rattle.eevdf_queue.specs.{declared.tree_node.TreeNode.TheInside.Inside, NodeDepths.deeper, NodeDepths.is_at_depth}
-use Rattle.eevdf_queue.specs.{TreeShape.depths_in, TreeNodes.depths_of}
+use Rattle.eevdf_queue.specs.{declared.task.Task.Task, declared.tree_node.TreeNode.TheInside.Inside, NodeDepths.deeper, NodeDepths.depth_at}
+use Rattle.eevdf_queue.specs.TaskLists.{has_number, find_task, DifferInNumber, AreRunnable}
+use Rattle.eevdf_queue.specs.TreeShape.{Tree, tasks_in, depths_in}
+use Rattle.eevdf_queue.specs.TreeNodes.{tasks_of, depths_of, tree_of}
+use Rattle.eevdf_queue.proofs.{TreeSearch.first-missed}
 
-before : (t k : ℕ) (xs ys : List (ℕ × ℕ)) → is_at_depth t k xs ≡ true → is_at_depth t k (xs ++ ys) ≡ true
-before t k [] ys h = cc
-before t k (x ∷ xs) ys h = grind (arith, nat_tests, before t k xs ys)
+pub differ_runnable : (ts : List Task) → AreRunnable ts → DifferInNumber ts
+differ_runnable [] h = tt
+differ_runnable (t ∷ ts) h = (h.0, differ_runnable ts h.3)
 
-behind : (t k : ℕ) (xs ys : List (ℕ × ℕ)) → is_at_depth t k ys ≡ true → is_at_depth t k (xs ++ ys) ≡ true
-behind t k [] ys h = h
-behind t k (x ∷ xs) ys h = grind (arith, nat_tests, behind t k xs ys)
+-- a task of one part of a list isn't in another part
+module _ (q : ℕ) where
+  not_left : (xs : List Task) (ys : List Task) → DifferInNumber (xs ++ ys) → is_some (find_task q ys) ≡ true → find_task q xs ≡ None
+  not_left [] ys d h = refl
+  not_left (x ∷ xs) ys d h = grind (arith, nat_tests, d.0, not_left xs ys d.1 h, first-missed (has_number q) xs ys)
 
-further : (t k : ℕ) (xs : List (ℕ × ℕ)) → is_at_depth t k xs ≡ true → is_at_depth t (suc k) (deeper xs) ≡ true
-further t k [] h = cc
-further t k (x ∷ xs) h = grind (arith, nat_tests, further t k xs)
+  not_first : (u : Task) (ys : List Task) → DifferInNumber (u ∷ ys) → is_some (find_task q ys) ≡ true → eqb u.number q ≡ false
+  not_first u ys d h = grind (arith, nat_tests, d.0)
 
-here : (t k : ℕ) (xs : List (ℕ × ℕ)) → is_at_depth t k ((t, k) ∷ xs) ≡ true
-here t k xs = grind (arith, nat_tests)
+missed_left : (q : ℕ) (xs ys : List Task) → find_task q (xs ++ ys) ≡ None → find_task q xs ≡ None
+missed_left q [] ys h = refl
+missed_left q (x ∷ xs) ys h = grind (arith, nat_tests, missed_left q xs ys)
 
-pub deep_left : (a : Inside) (t k : ℕ) → is_at_depth t k (depths_in a.sides.left) ≡ true → is_at_depth t (suc k) (depths_of a) ≡ true
-deep_left a t k h = before t (suc k) (deeper (depths_in a.sides.left)) ((a.task.number, 1) ∷ deeper (depths_in a.sides.right)) (further t k (depths_in a.sides.left) h)
+differ_left : (xs ys : List Task) → DifferInNumber (xs ++ ys) → DifferInNumber xs
+differ_left [] ys d = tt
+differ_left (x ∷ xs) ys d = (missed_left x.number xs ys d.0, differ_left xs ys d.1)
 
-pub deep_here : (a : Inside) → is_at_depth a.task.number 1 (depths_of a) ≡ true
-deep_here a =
-    behind a.task.number 1 (deeper (depths_in a.sides.left)) ((a.task.number, 1) ∷ deeper (depths_in a.sides.right)) (here a.task.number 1 (deeper (depths_in a.sides.right)))
+differ_right : (xs ys : List Task) → DifferInNumber (xs ++ ys) → DifferInNumber ys
+differ_right [] ys d = d
+differ_right (x ∷ xs) ys d = differ_right xs ys d.1
 
-pub deep_right : (a : Inside) (t k : ℕ) → is_at_depth t k (depths_in a.sides.right) ≡ true → is_at_depth t (suc k) (depths_of a) ≡ true
-deep_right a t k h =
-    behind t (suc k) (deeper (depths_in a.sides.left)) ((a.task.number, 1) ∷ deeper (depths_in a.sides.right))
-    (behind t (suc k) ((a.task.number, 1) ∷ []) (deeper (depths_in a.sides.right)) (further t k (depths_in a.sides.right) h))
+present_left : (q : ℕ) (xs ys : List Task) → is_some (find_task q xs) ≡ true → is_some (find_task q (xs ++ ys)) ≡ true
+present_left q [] ys h = cc
+present_left q (x ∷ xs) ys h = grind (arith, nat_tests, present_left q xs ys)
 
--- so many turns lead from the root of a tree to a node below it
-abbrev pub LeadTo : ℕ → List (ℕ × ℕ) → List (ℕ × ℕ) → Type 0
-LeadTo turns below whole = (task depth : ℕ) → is_at_depth task depth below ≡ true → is_at_depth task (turns + depth) whole ≡ true
+present_right : (q : ℕ) (xs ys : List Task) → is_some (find_task q ys) ≡ true → is_some (find_task q (xs ++ ys)) ≡ true
+present_right q [] ys h = h
+present_right q (x ∷ xs) ys h = grind (arith, nat_tests, present_right q xs ys)
 
-further_on : (turns depth : ℕ) → turns + 1 + depth ≡ turns + suc depth
-further_on turns depth = omega arith
+present_first : (t : Task) (ts : List Task) → is_some (find_task t.number (t ∷ ts)) ≡ true
+present_first t ts = grind (arith, nat_tests)
 
--- one turn more leads to each side
-pub lead_left : (a : Inside) (turns : ℕ) (at side whole : List (ℕ × ℕ)) → at ≡ depths_of a → depths_in a.sides.left ≡ side → LeadTo turns at whole → LeadTo (turns + 1) side whole
-lead_left a turns at side whole e l lead task depth h =
-    ap (λ (n : ℕ). is_at_depth task n whole) (further_on turns depth)
-    ∙ lead task (suc depth) (ap (is_at_depth task (suc depth)) e ∙ deep_left a task depth (ap (is_at_depth task depth) l ∙ h))
+-- the depths below a node
+module _ (q : ℕ) (side : List (ℕ × ℕ)) where
+  deep_here : (ts : List Task) (rest : List (ℕ × ℕ)) → is_some (find_task q ts) ≡ true → depth_at q (deeper side ts ++ rest) ≡ suc (depth_at q side)
+  deep_here [] rest h = cc
+  deep_here (t ∷ ts) rest h = grind (arith, nat_tests, deep_here ts rest)
 
-pub lead_right : (a : Inside) (turns : ℕ) (at side whole : List (ℕ × ℕ)) → at ≡ depths_of a → depths_in a.sides.right ≡ side → LeadTo turns at whole → LeadTo (turns + 1) side whole
-lead_right a turns at side whole e r lead task depth h =
-    ap (λ (n : ℕ). is_at_depth task n whole) (further_on turns depth)
-    ∙ lead task (suc depth) (ap (is_at_depth task (suc depth)) e ∙ deep_right a task depth (ap (is_at_depth task depth) r ∙ h))
+  deep_last : (ts : List Task) → is_some (find_task q ts) ≡ true → depth_at q (deeper side ts) ≡ suc (depth_at q side)
+  deep_last [] h = cc
+  deep_last (t ∷ ts) h = grind (arith, nat_tests, deep_last ts)
 
--- and so deep is the node itself
-pub lead_here : (a : Inside) (turns : ℕ) (at whole : List (ℕ × ℕ)) → at ≡ depths_of a → LeadTo turns at whole → is_at_depth a.task.number (turns + 1) whole ≡ true
-lead_here a turns at whole e lead = lead a.task.number 1 (ap (is_at_depth a.task.number 1) e ∙ deep_here a)
+  deep_behind : (ts : List Task) (rest : List (ℕ × ℕ)) → find_task q ts ≡ None → depth_at q (deeper side ts ++ rest) ≡ depth_at q rest
+  deep_behind [] rest h = refl
+  deep_behind (t ∷ ts) rest h = grind (arith, nat_tests, deep_behind ts rest)
+
+depth_first : (q : ℕ) (rest : List (ℕ × ℕ)) → depth_at q ((q, 1) ∷ rest) ≡ 1
+depth_first q rest = grind (arith, nat_tests)
+
+depth_rest : (q n : ℕ) (rest : List (ℕ × ℕ)) → eqb n q ≡ false → depth_at q ((n, 1) ∷ rest) ≡ depth_at q rest
+depth_rest q n rest h = grind (arith, nat_tests)
+
+-- a part of a tree, to whose root so many turns lead from the tree's own
+pub record IsPart (turns : ℕ) (part : Tree) (whole : List (ℕ × ℕ)) : Type 0 where
+  pub differ : DifferInNumber part.tasks
+  pub depths : (q : ℕ) → is_some (find_task q part.tasks) ≡ true → depth_at q whole ≡ turns + depth_at q part.depths
+
+pub itself : (tree : Tree) → DifferInNumber tree.tasks → IsPart 0 tree tree.depths
+itself tree d = record { differ = d; depths = λ q h. omega arith }
+
+one_more : (turns depth : ℕ) → turns + suc depth ≡ turns + 1 + depth
+one_more turns depth = omega arith
+
+module _ (a : Inside) (at : Tree) (v : tree_of a ≡ at) (turns : ℕ) (whole : List (ℕ × ℕ)) (p : IsPart turns at whole) where
+  parted : DifferInNumber (tasks_of a)
+  parted = subst (λ (z : Tree). DifferInNumber z.tasks) (sym v) p.differ
+
+  from_node : (q : ℕ) → is_some (find_task q (tasks_of a)) ≡ true → depth_at q whole ≡ turns + depth_at q (depths_of a)
+  from_node q h = subst (λ (z : Tree). is_some (find_task q z.tasks) ≡ true → depth_at q whole ≡ turns + depth_at q z.depths) (sym v) (p.depths q) h
+
+  -- one turn more leads to each side
+  pub to_left : (side : Tree) → tasks_in a.sides.left ≡ side.tasks → depths_in a.sides.left ≡ side.depths → IsPart (turns + 1) side whole
+  to_left side t e = record {
+    differ = subst DifferInNumber t (differ_left (tasks_in a.sides.left) (a.task ∷ tasks_in a.sides.right) parted);
+    depths = λ q h.
+        let here : is_some (find_task q (tasks_in a.sides.left)) ≡ true = ap (λ (z : List Task). is_some (find_task q z)) t ∙ h in
+        from_node q (present_left q (tasks_in a.sides.left) (a.task ∷ tasks_in a.sides.right) here)
+        ∙ ap (λ (n : ℕ). turns + n) (deep_here q (depths_in a.sides.left) (tasks_in a.sides.left) ((a.task.number, 1) ∷ deeper (depths_in a.sides.right) (tasks_in a.sides.right)) here)
+        ∙ one_more turns (depth_at q (depths_in a.sides.left))
+        ∙ ap (λ (z : List (ℕ × ℕ)). turns + 1 + depth_at q z) e;
+  }
+
+  pub to_right : (side : Tree) → tasks_in a.sides.right ≡ side.tasks → depths_in a.sides.right ≡ side.depths → IsPart (turns + 1) side whole
+  to_right side t e =
+      let behind : DifferInNumber (a.task ∷ tasks_in a.sides.right) = differ_right (tasks_in a.sides.left) (a.task ∷ tasks_in a.sides.right) parted in
+      record {
+        differ = subst DifferInNumber t behind.1;
+        depths = λ q h.
+            let here : is_some (find_task q (tasks_in a.sides.right)) ≡ true = ap (λ (z : List Task). is_some (find_task q z)) t ∙ h in
+            let there : is_some (find_task q (a.task ∷ tasks_in a.sides.right)) ≡ true = present_right q (a.task ∷ []) (tasks_in a.sides.right) here in
+            from_node q (present_right q (tasks_in a.sides.left) (a.task ∷ tasks_in a.sides.right) there)
+            ∙ ap (λ (n : ℕ). turns + n)
+            (deep_behind q (depths_in a.sides.left) (tasks_in a.sides.left) ((a.task.number, 1) ∷ deeper (depths_in a.sides.right) (tasks_in a.sides.right))
+            (not_left q (tasks_in a.sides.left) (a.task ∷ tasks_in a.sides.right) parted there)
+            ∙ depth_rest q a.task.number (deeper (depths_in a.sides.right) (tasks_in a.sides.right)) (not_first q a.task (tasks_in a.sides.right) behind here)
+            ∙ deep_last q (depths_in a.sides.right) (tasks_in a.sides.right) here)
+            ∙ one_more turns (depth_at q (depths_in a.sides.right))
+            ∙ ap (λ (z : List (ℕ × ℕ)). turns + 1 + depth_at q z) e;
+      }
+
+  -- and so deep is the node itself
+  pub at_root : depth_at a.task.number whole ≡ turns + 1
+  at_root =
+      let here = present_first a.task (tasks_in a.sides.right) in
+      from_node a.task.number (present_right a.task.number (tasks_in a.sides.left) (a.task ∷ tasks_in a.sides.right) here)
+      ∙ ap (λ (n : ℕ). turns + n)
+      (deep_behind a.task.number (depths_in a.sides.left) (tasks_in a.sides.left) ((a.task.number, 1) ∷ deeper (depths_in a.sides.right) (tasks_in a.sides.right))
+      (not_left a.task.number (tasks_in a.sides.left) (a.task ∷ tasks_in a.sides.right) parted here)
+      ∙ depth_first a.task.number (deeper (depths_in a.sides.right) (tasks_in a.sides.right)))

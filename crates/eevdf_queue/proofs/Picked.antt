@@ -3,9 +3,9 @@ use Rattle.std.proofs.Common.{◌≡◌, ℕ, Option, Some, None, refl, sym, ap,
 use Rattle.std.specs.Prelude.{ℤ, ◌↔◌, IfSome, IsNone}
 use Rattle.std.specs.Option.{option_map}
 use Rattle.std.specs.FinMap.{empty, entries}
-use Rattle.eevdf_queue.specs.{declared.entry.Entry.Entry, Laws.PickIsFirst, Laws.PickOfNobody, Order.earliest}
+use Rattle.eevdf_queue.specs.{declared.entry.Entry.Entry, Laws.PickIsFirst, Laws.PickOfNobody, Laws.SecondPickChangesNothing, Order.earliest}
 use Rattle.eevdf_queue.specs.Sums.{Tasks, total_weight, total_moment}
-use Rattle.eevdf_queue.specs.Pick.{IsPick, is_eligible, is_eligible_at, pick_of}
+use Rattle.eevdf_queue.specs.Pick.{IsPick, is_eligible, is_eligible_at, pick_of, view_picked_by, view_after_pick}
 use Rattle.eevdf_queue.proofs.{MapFolds.entries-empty, Mean.nobody}
 use Rattle.eevdf_queue.proofs.{SortedEntries.distinct_entries, Picking.IsEarliest, Picking.earliest_is, Picking.pick_is}
 
@@ -41,3 +41,12 @@ pick_is_first = pick_is
 
 pub pick_of_nobody : PickOfNobody
 pick_of_nobody tasks = none_picked tasks (pick_of tasks) refl
+
+-- a pick changes neither the runnable tasks nor how deep their nodes stand
+pub second_pick_changes_nothing : SecondPickChangesNothing
+second_pick_changes_nothing w =
+    by (pick_of w.state.runnable) refl
+  where
+    by : (o : Option ℕ) → pick_of w.state.runnable ≡ o → view_after_pick (view_picked_by w o) ≡ view_picked_by w o
+    by None e = ap (view_picked_by (view_picked_by w None)) e
+    by (Some t) e = ap (view_picked_by (view_picked_by w (Some t))) e

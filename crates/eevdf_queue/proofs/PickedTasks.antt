@@ -1,18 +1,18 @@
 -- What is kept of the task that was picked last: that it is its entry, and stays so when another task joins, and that the task is the pick.
 use Rattle.std.proofs.Common.{◌≡◌, ◌<◌, ◌≤◌, ℕ, Bool, List, [], ◌∷◌, length, Option, Some, None, sym, ap, subst, ◌∙◌, arith}
-use Rattle.std.specs.{Prelude.ℤ, Prelude.IfSome, Option.option_map, Ordering.nat_cmp, FinMap.FinMap, FinMap.get, FinMap.len}
+use Rattle.std.specs.{Prelude.ℤ, Prelude.IfSome, Option.option_map, Ordering.nat_cmp, FinMap.FinMap, FinMap.get, FinMap.len, FinMap.find, FinMap.get-from_entries, Cmp.nat_cmp_total}
 use Rattle.std.proofs.lemmas.Bool.Decides.{nat_tests}
 use Rattle.eevdf_queue.specs.{declared.entry.Entry.Entry, declared.task.Task.Task, declared.totals.Totals.Totals}
 use Rattle.eevdf_queue.specs.{declared.picked_task.Pick.Pick, declared.picked_task.PickedTask.PickedTask}
-use Rattle.eevdf_queue.specs.{Pick.pick_of, TreeShape.IsFull}
-use Rattle.eevdf_queue.specs.{Numbers.number_limit, TaskLists.find_task, TaskLists.runnable_in, TaskLists.AreRunnable}
+use Rattle.eevdf_queue.specs.{Pick.pick_of, State.TasksInTree, TreeShape.IsFull, TreeShape.Tree}
+use Rattle.eevdf_queue.specs.{Numbers.number_limit, NodeDepths.depth_at, NodeDepths.depths_by_number, TaskLists.find_task, TaskLists.runnable_in, TaskLists.AreRunnable}
 use Rattle.eevdf_queue.specs.TreeTasks.{insert_task, first_that, IsAtDeadline}
-use Rattle.eevdf_queue.specs.TreeStores.{deadline_at, timeless, picked_timeless, IsRunnableStore, IsSummedStore, IsKnown, IsStillPick, IsRunnableTasks}
+use Rattle.eevdf_queue.specs.TreeStores.{deadline_at, timeless, picked_timeless, IsRunnableStore, IsSummedStore, IsKnown, IsPickAt, IsStillPick, IsRunnableTasks}
 use Rattle.eevdf_queue.proofs.{RunnableMaps.get-runnable_in, RunnableMaps.len-runnable_in, TreeLists.find-insert_task, TreeMaps.placed_by}
-use Rattle.eevdf_queue.proofs.TreeMaps.{noted_deadline}
+use Rattle.eevdf_queue.proofs.{TreeMaps.noted_deadline, ListMaps.same_number}
 
-pub sums_kept : (table : List ℤ) (s : Totals) (p : PickedTask) (ts : List Task) → IsRunnableTasks table s p ts → IsSummedStore table s ts
-sums_kept table s p ts h = record { store = h.store; totals = h.totals }
+pub sums_kept : (table : List ℤ) (s : Totals) (p : PickedTask) (tree : Tree) → IsRunnableTasks table s p tree → IsSummedStore table s tree.tasks
+sums_kept table s p tree h = record { store = h.store; totals = h.totals }
 
 -- what is known, with the deadline
 entry_of : (d : ℤ) (p : PickedTask) (o : Option Task) → option_map timeless o ≡ Some (picked_timeless p) → IsAtDeadline d o
@@ -67,20 +67,46 @@ first_entry read passes ts m (Some x) r v h =
     ∙ get-runnable_in ts (read x).number
     ∙ ap (option_map (λ (t : Task). t.entry)) (first_found passes ts (read x) r (sym h))
 
--- the pick that a descent has found may be kept
-pub still_pick : (ts : List Task) (m : FinMap nat_cmp Entry) (t turns : ℕ) → runnable_in ts ≡ m → AreRunnable ts → Some t ≡ pick_of m → IsFull turns (len m)
-    → (pick_of (runnable_in ts) ≡ Some t) × IsFull turns (length ts)
-still_pick ts m t turns view r pick full = (
-  ap pick_of view ∙ sym pick,
-  subst (λ (z : ℕ). IsFull turns z) (sym (ap (λ (z : FinMap nat_cmp Entry). len z) view) ∙ len-runnable_in ts r) full,
-)
+-- what the tree is seen as
+abbrev pub IsSeen : Tree → TasksInTree → Type 0
+IsSeen tree w = record { tasks = runnable_in tree.tasks; depths = depths_by_number tree.depths } ≡ w
 
--- what is kept is the pick, and its turns are few
-pub still_picked : (p : PickedTask) (ts : List Task) (m : FinMap nat_cmp Entry) (q : Pick) → IsStillPick p ts → runnable_in ts ≡ m → AreRunnable ts
-    → (p.number < number_limit) × (1 ≤ p.turns) × (q.task ≡ p.number) × (q.turns ≡ p.turns) → (Some q.task ≡ pick_of m) × IsFull q.turns (len m)
-still_picked p ts m q h view r (known, positive, number, turns) =
+tasks_seen : (tree : Tree) (w : TasksInTree) → IsSeen tree w → runnable_in tree.tasks ≡ w.tasks
+tasks_seen tree w view = ap (λ (z : TasksInTree). z.tasks) view
+
+len_seen : (tree : Tree) (w : TasksInTree) → IsSeen tree w → AreRunnable tree.tasks → len w.tasks ≡ length tree.tasks
+len_seen tree w view r = sym (ap (λ (z : FinMap nat_cmp Entry). len z) (tasks_seen tree w view)) ∙ len-runnable_in tree.tasks r
+
+depth_seen : (tree : Tree) (w : TasksInTree) (t : ℕ) → IsSeen tree w → get (depths_by_number tree.depths) t ≡ get w.depths t
+depth_seen tree w t view = ap (λ (z : TasksInTree). get z.depths t) view
+
+-- the pick that a descent has found may be kept
+pub still_pick : (tree : Tree) (w : TasksInTree) (t turns : ℕ) → IsSeen tree w → AreRunnable tree.tasks → Some t ≡ pick_of w.tasks → IsFull turns (len w.tasks)
+    → get w.depths t ≡ Some turns → IsPickAt t turns tree
+still_pick tree w t turns view r pick full depth = record {
+  pick = ap pick_of (tasks_seen tree w view) ∙ sym pick;
+  depth = depth_seen tree w t view ∙ depth;
+  low = subst (λ (z : ℕ). IsFull turns z) (len_seen tree w view r) full;
+}
+
+-- what is kept is the pick, and its turns are the depth of its node, and few
+pub still_picked : (p : PickedTask) (tree : Tree) (w : TasksInTree) (q : Pick) → IsStillPick p tree → IsSeen tree w → AreRunnable tree.tasks
+    → (p.number < number_limit) × (1 ≤ p.turns) × (q.task ≡ p.number) × (q.turns ≡ p.turns)
+    → (Some q.task ≡ pick_of w.tasks) × IsFull q.turns (len w.tasks) × (get w.depths q.task ≡ Some q.turns)
+still_picked p tree w q h view r (known, positive, number, turns) =
     let k = h known positive in (
-      ap (λ (z : ℕ). Some z) number ∙ sym k.0 ∙ ap pick_of view,
-      subst (λ (z : ℕ). IsFull z (len m)) (sym turns)
-          (subst (λ (z : ℕ). IsFull p.turns z) (sym (len-runnable_in ts r) ∙ ap (λ (z : FinMap nat_cmp Entry). len z) view) k.1),
+      ap (λ (z : ℕ). Some z) number ∙ sym k.pick ∙ ap pick_of (tasks_seen tree w view),
+      subst (λ (z : ℕ). IsFull z (len w.tasks)) (sym turns) (subst (λ (z : ℕ). IsFull p.turns z) (sym (len_seen tree w view r)) k.low),
+      sym (depth_seen tree w q.task view) ∙ ap (get (depths_by_number tree.depths)) number ∙ k.depth ∙ ap (λ (z : ℕ). Some z) (sym turns),
     )
+
+-- a depth that isn't 0 is found under its number
+numbered_depth : (t turns : ℕ) (ds : List (ℕ × ℕ)) → turns ≡ depth_at t ds → 1 ≤ turns → find nat_cmp t ds ≡ Some turns
+numbered_depth t turns [] e p = absurd (omega arith)
+numbered_depth t turns (d ∷ ds) e p = grind (arith, nat_tests, same_number t d.0, numbered_depth t turns ds)
+
+pub first_depth : {X : Type 0} (task turns : X → ℕ) (tree : Tree) (w : TasksInTree) (o : Option X) → IsSeen tree w → IfSome o (λ x. turns x ≡ depth_at (task x) tree.depths)
+    → IfSome o (λ x. 1 ≤ turns x) → IfSome o (λ x. get w.depths (task x) ≡ Some (turns x))
+first_depth task turns tree w None view e p = tt
+first_depth task turns tree w (Some x) view e p =
+    sym (depth_seen tree w (task x) view) ∙ get-from_entries nat_cmp_total tree.depths (task x) ∙ numbered_depth (task x) (turns x) tree.depths e p

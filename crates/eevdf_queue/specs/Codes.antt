@@ -4,7 +4,7 @@ use Rattle.std.specs.Ordering.{nat_cmp}
 use Rattle.std.specs.FinMap as map
 use Rattle.std.specs.Coded.{Coded, code_by, coded×, coded_option, coded_ℕ, coded_ℤ}
 use Rattle.eevdf_queue.specs.declared.entry.Entry.{Entry}
-use Rattle.eevdf_queue.specs.State.{State, Sleeper, View}
+use Rattle.eevdf_queue.specs.State.{State, Sleeper, TasksInTree, View}
 
 -- an entry is stored as nested pairs of its fields
 abbrev pub entry_code : Coded Entry
@@ -32,5 +32,14 @@ state_code =
     (λ q. (q.runnable, (q.running, (q.asleep, q.base))))
     (λ p. record { runnable = p.0; running = p.1.0; asleep = p.1.1.0; base = p.1.1.1 }) (λ _. refl)
 
+abbrev pub DepthMap : Type 0
+DepthMap = map.FinMap nat_cmp ℕ
+
+abbrev pub tasks_in_tree_code : Coded TasksInTree
+tasks_in_tree_code =
+    code_by (RunnableMap × DepthMap) (coded× (map.code coded_ℕ entry_code) (map.code coded_ℕ coded_ℕ)) (λ w. (w.tasks, w.depths)) (λ p. record { tasks = p.0; depths = p.1 }) (λ _. refl)
+
 abbrev pub view_code : Coded View
-view_code = code_by (State × ℕ) (coded× state_code coded_ℕ) (λ w. (w.state, w.turns)) (λ p. record { state = p.0; turns = p.1 }) (λ _. refl)
+view_code =
+    code_by (State × (ℕ × DepthMap)) (coded× state_code (coded× coded_ℕ (map.code coded_ℕ coded_ℕ)))
+    (λ w. (w.state, (w.turns, w.depths))) (λ p. record { state = p.0; turns = p.1.0; depths = p.1.1 }) (λ _. refl)

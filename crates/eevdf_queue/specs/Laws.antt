@@ -2,9 +2,9 @@
 use Rattle.std.specs.Prelude.{◌≡◌, ◌↔◌, ℕ, ◌*◌, ◌^◌, ◌<◌, ◌≤◌, ℤ, pos, ◌+ℤ◌, ◌-ℤ◌, ◌*ℤ◌, unsigned_abs, List, [], ◌∷◌, Some, IsNone}
 use Rattle.std.specs.FinMap as map
 use Rattle.eevdf_weight.specs.Weight.{weight_of}
-use Rattle.eevdf_queue.specs.{declared.entry.Entry.Entry, Numbers.number_limit}
+use Rattle.eevdf_queue.specs.{declared.entry.Entry.Entry, Numbers.number_limit, State.View}
 use Rattle.eevdf_queue.specs.Sums.{Tasks, total_weight, total_moment}
-use Rattle.eevdf_queue.specs.Pick.{Eligible, IsPick, pick_of}
+use Rattle.eevdf_queue.specs.Pick.{Eligible, IsPick, pick_of, view_after_pick}
 
 -- the sum of weight times lag, where a lag is the mean less the virtual runtime; the mean is a quotient, so
 -- all lags stand times the total weight
@@ -30,6 +30,10 @@ PickIsFirst = (tasks : Tasks) (task : ℕ) → pick_of tasks ≡ Some task → I
 -- the scan answers none exactly where nothing is runnable
 abbrev pub PickOfNobody : Type 0
 PickOfNobody = (tasks : Tasks) → IsNone (pick_of tasks) ↔ (tasks ≡ map.empty)
+
+-- a second pick leaves what is seen of a queue as the first left it
+abbrev pub SecondPickChangesNothing : Type 0
+SecondPickChangesNothing = (w : View) → view_after_pick (view_after_pick w) ≡ view_after_pick w
 
 -- the total weight `W` is at most 1024 greatest weights, and the sum `S` of weight times virtual runtime at
 -- most `2 ^ 60 * W`; so `S` and each `v * W` that is compared with it are below `2 ^ 88`

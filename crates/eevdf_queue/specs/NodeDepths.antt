@@ -1,12 +1,19 @@
 -- How deep the nodes of a tree are.
-use Rattle.std.specs.Prelude.{ℕ, suc, ◌==◌, Bool, false, ◌&&◌, ◌||◌, List, [], ◌∷◌}
+use Rattle.std.specs.Prelude.{ℕ, suc, ◌==◌, List, [], ◌∷◌, if◌then◌else◌}
+use Rattle.std.specs.Ordering.{nat_cmp}
+use Rattle.std.specs.FinMap as map
+use Rattle.eevdf_queue.specs.declared.task.Task.{Task}
 
--- the nodes, each one turn further from the root
-abbrev pub deeper : List (ℕ × ℕ) → List (ℕ × ℕ)
-deeper [] = []
-deeper (p ∷ ps) = (p.0, suc p.1) ∷ deeper ps
+-- the depth of the node with the task of this number, and 0 where there is none
+abbrev pub depth_at : ℕ → List (ℕ × ℕ) → ℕ
+depth_at task [] = 0
+depth_at task (p ∷ ps) = if p.0 == task then p.1 else depth_at task ps
 
--- a node with the task of this number is so deep
-abbrev pub is_at_depth : ℕ → ℕ → List (ℕ × ℕ) → Bool
-is_at_depth task depth [] = false
-is_at_depth task depth (p ∷ ps) = ((p.0 == task) && (p.1 == depth)) || is_at_depth task depth ps
+-- the nodes of the tasks of a side, each one turn further from the root than in that side
+abbrev pub deeper : List (ℕ × ℕ) → List Task → List (ℕ × ℕ)
+deeper side [] = []
+deeper side (t ∷ ts) = (t.number, suc (depth_at t.number side)) ∷ deeper side ts
+
+-- the depths by number
+abbrev pub depths_by_number : List (ℕ × ℕ) → map.FinMap nat_cmp ℕ
+depths_by_number depths = map.from_entries depths

@@ -1,8 +1,8 @@
 -- Which task is picked: the eligible one of earliest virtual deadline, ties by number.
-use Rattle.std.specs.Prelude.{◌≡◌, ℕ, ◌≤◌, ◌⊎◌, Bool, true, ℤ, pos, ◌*ℤ◌, ◌<ℤ◌, int_le, Option, Some, None}
+use Rattle.std.specs.Prelude.{◌≡◌, ℕ, ◌≤◌, ◌⊎◌, Bool, true, ℤ, pos, ◌*ℤ◌, ◌<ℤ◌, int_le, Option, Some, None, unwrap_or, option_and_then}
 use Rattle.std.specs.Option.{option_map}
 use Rattle.std.specs.FinMap as map
-use Rattle.eevdf_queue.specs.{declared.entry.Entry.Entry, State.State, Order.earliest}
+use Rattle.eevdf_queue.specs.{declared.entry.Entry.Entry, State.State, State.View, Order.earliest}
 use Rattle.eevdf_queue.specs.Sums.{Tasks, total_weight, total_moment}
 
 -- the lag isn't negative: the virtual runtime isn't past the weighted mean, compared without rounding
@@ -38,3 +38,14 @@ picked_by q (Some t) = record q { running = Some t }
 
 abbrev pub after_pick : State → State
 after_pick q = picked_by q (pick_of q.runnable)
+
+-- what is seen of the queue after it: the turns are how deep the pick's node stands, and 0 where there is no pick
+abbrev pub view_picked_by : View → Option ℕ → View
+view_picked_by w pick = record {
+  state = picked_by w.state pick;
+  turns = unwrap_or (option_and_then (map.get w.depths) pick) 0;
+  depths = w.depths;
+}
+
+abbrev pub view_after_pick : View → View
+view_after_pick w = view_picked_by w (pick_of w.state.runnable)

@@ -14,10 +14,18 @@ pub record State : Type 0 where
   pub asleep : map.FinMap nat_cmp Sleeper
   pub base : ℤ
 
--- what is seen of a queue: its state, and beside it the turns that its last pick took
+-- the runnable tasks in their tree: their entries by number, and how deep the node of each stands, where the root's depth
+-- is 1
+pub record TasksInTree : Type 0 where
+  pub tasks : map.FinMap nat_cmp Entry
+  pub depths : map.FinMap nat_cmp ℕ
+
+-- what is seen of a queue: its state, and beside it the turns that its last pick took and, of its tree, how deep the node
+-- of each runnable task stands
 pub record View : Type 0 where
   pub state : State
   pub turns : ℕ
+  pub depths : map.FinMap nat_cmp ℕ
 
 abbrev pub empty_state : State
 empty_state = record { runnable = map.empty; running = None; asleep = map.empty; base = pos 0 }

@@ -23,6 +23,11 @@ has_number q t = t.number == q
 abbrev pub find_task : ℕ → List Task → Option Task
 find_task q = first_with (has_number q)
 
+-- numbers differ
+abbrev pub DifferInNumber : List Task → Type 0
+DifferInNumber [] = Unit {0}
+DifferInNumber (t ∷ ts) = (find_task t.number ts ≡ None) × DifferInNumber ts
+
 -- the tasks with another entry at the first of a number
 abbrev pub set_entry : ℕ → Entry → List Task → List Task
 set_entry q e [] = []

@@ -8,7 +8,8 @@ abbrev pub tasks_of : Inside → List Task
 tasks_of a = tasks_in a.sides.left ++ a.task ∷ tasks_in a.sides.right
 
 abbrev pub depths_of : Inside → List (ℕ × ℕ)
-depths_of a = deeper (depths_in a.sides.left) ++ (a.task.number, 1) ∷ deeper (depths_in a.sides.right)
+depths_of a =
+    deeper (depths_in a.sides.left) (tasks_in a.sides.left) ++ (a.task.number, 1) ∷ deeper (depths_in a.sides.right) (tasks_in a.sides.right)
 
 abbrev pub tree_of : Inside → Tree
 tree_of a = record { tasks = tasks_of a; height = a.height; depths = depths_of a }

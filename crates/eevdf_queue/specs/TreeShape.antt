@@ -8,6 +8,9 @@ pub record Tree : Type 0 where
   -- for each task in order its number, and how deep its node is: the root's depth is 1
   pub depths : List (ℕ × ℕ)
 
+abbrev pub empty_tree : Tree
+empty_tree = record { tasks = []; height = 0; depths = [] }
+
 -- the tasks below a link, in order
 abbrev pub tasks_in : {Z : Type 0} → Option (Box Tree Z) → List Task
 tasks_in None = []
@@ -36,3 +39,7 @@ IsAlone a = a.tasks ≡ first_task a.tasks ∷ []
 -- the height of a balanced tree made of sides of these heights
 abbrev pub IsHeightOfBalanced : ℕ → ℕ → ℕ → Type 0
 IsHeightOfBalanced m n h = (max m n ≤ h) × (h ≤ suc (max m n)) × (DifferByAtMost 1 m n → h ≡ suc (max m n))
+
+-- the tree below a link
+abbrev pub tree_in : {Z : Type 0} → Option (Box Tree Z) → Tree
+tree_in link = record { tasks = tasks_in link; height = height_in link; depths = depths_in link }

@@ -1,10 +1,10 @@
 -- What the stores over trees keep.
 use Rattle.std.specs.Prelude.{◌≡◌, ◌<◌, ◌≤◌, ℕ, ℤ, pos, List, Some, length, slice_index_or}
-use Rattle.std.specs.{Option.option_map, List.AllByRecursion}
+use Rattle.std.specs.{Option.option_map, List.AllByRecursion, FinMap.get}
 use Rattle.eevdf_queue.specs.{declared.picked_task.PickedTask.PickedTask, declared.task.Task.Task, declared.totals.Totals.Totals}
 use Rattle.eevdf_queue.specs.{Numbers.number_limit, Sums.sum_weights, Sums.sum_moments}
 use Rattle.eevdf_queue.specs.TaskLists.{find_task, entries_of, runnable_in, AreRunnable}
-use Rattle.eevdf_queue.specs.{Pick.pick_of, TreeShape.IsFull}
+use Rattle.eevdf_queue.specs.{Pick.pick_of, NodeDepths.depths_by_number, TreeShape.IsFull, TreeShape.Tree}
 
 -- what a table of deadlines says of a number
 abbrev pub deadline_at : List ℤ → ℕ → ℤ
@@ -40,13 +40,19 @@ picked_timeless p = (p.runtime, p.nice, p.slice)
 abbrev pub IsKnown : PickedTask → List Task → Type 0
 IsKnown p ts = p.number < number_limit → option_map timeless (find_task p.number ts) ≡ Some (picked_timeless p)
 
--- while the turns of the descent to it are kept, the task that was picked last is the pick, and they are few
-abbrev pub IsStillPick : PickedTask → List Task → Type 0
-IsStillPick p ts = p.number < number_limit → 1 ≤ p.turns → (pick_of (runnable_in ts) ≡ Some p.number) × IsFull p.turns (length ts)
+-- while the turns of the descent to it are kept, the task that was picked last is the pick, and they are the depth of its
+-- node, which is low
+pub record IsPickAt (task turns : ℕ) (tree : Tree) : Type 0 where
+  pub pick : pick_of (runnable_in tree.tasks) ≡ Some task
+  pub depth : get (depths_by_number tree.depths) task ≡ Some turns
+  pub low : IsFull turns (length tree.tasks)
+
+abbrev pub IsStillPick : PickedTask → Tree → Type 0
+IsStillPick p tree = p.number < number_limit → 1 ≤ p.turns → IsPickAt p.number p.turns tree
 
 -- all of it
-pub record IsRunnableTasks (table : List ℤ) (s : Totals) (p : PickedTask) (ts : List Task) : Type 0 where
-  pub store : IsRunnableStore table ts
-  pub totals : AreTotals s ts
-  pub picked : IsKnown p ts
-  pub pick : IsStillPick p ts
+pub record IsRunnableTasks (table : List ℤ) (s : Totals) (p : PickedTask) (tree : Tree) : Type 0 where
+  pub store : IsRunnableStore table tree.tasks
+  pub totals : AreTotals s tree.tasks
+  pub picked : IsKnown p tree.tasks
+  pub pick : IsStillPick p tree

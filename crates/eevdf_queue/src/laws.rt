@@ -1,6 +1,6 @@
 //! Laws of the model of a queue, each the contract of a function that does nothing.
 
-ghost use Rattle.eevdf_queue.specs.Laws.{AreSumsSmall, LagsBalance, PickIsFirst, PickOfNobody, SomeTaskIsEligible};
+ghost use Rattle.eevdf_queue.specs.Laws.{AreSumsSmall, LagsBalance, PickIsFirst, PickOfNobody, SecondPickChangesNothing, SomeTaskIsEligible};
 ghost use Rattle.eevdf_queue.specs.Kept.{IsKept};
 
 use crate::queue::Queue;
@@ -36,6 +36,12 @@ pub fn pick_is_first()
 #[tactic(auto, using(crate::proofs::Picked::pick_of_nobody))]
 pub fn pick_of_nobody()
     ensures { PickOfNobody }
+{}
+
+/// A second pick with nothing between them leaves a queue as the first left it, with the number that `pick_steps` gives.
+#[tactic(auto, using(crate::proofs::Picked::second_pick_changes_nothing))]
+pub fn second_pick_changes_nothing()
+    ensures { SecondPickChangesNothing }
 {}
 
 /// How large the sums of every queue can be: where `W` is the sum of the weights and `S` the sum of `w * v`,

@@ -37,18 +37,19 @@ impl Model for Queue {
     ghost use Rattle.eevdf_queue.specs.Kept.{IsSound};
 
     ghost view = { λ a. record {
-      state = record { runnable = a.runnable; running = a.running; asleep = a.asleep; base = a.base };
+      state = record { runnable = a.runnable.tasks; running = a.running; asleep = a.asleep; base = a.base };
       turns = a.turns;
+      depths = a.runnable.depths;
     } };
 
     ghost invariant = { λ a. IsSound
-        (record { runnable = a.runnable; running = a.running; asleep = a.asleep; base = a.base }) };
+        (record { runnable = a.runnable.tasks; running = a.running; asleep = a.asleep; base = a.base }) };
 }
 
 impl Queue {
     /// A queue without tasks, at the virtual time 0. Takes no memory.
     pub fn open() -> Queue
-        ensures { result ≡ record { state = empty_state; turns = 0 } }
+        ensures { result ≡ record { state = empty_state; turns = 0; depths = map.empty } }
     {
         Queue {
             runnable: RunnableTasks::new(),
@@ -167,8 +168,9 @@ impl Queue {
         self.entry(task).is_some() || self.asleep(task)
     }
 
-    /// The turns of the descent to the task that the last pick answered: `k` such that `2 ^ (k / 2) <= n + 1` with
-    /// `n` tasks runnable at that pick. 0 where it answered none, and before the first pick.
+    /// The turns of the descent to the task that the last pick answered: how deep its node stood in the tree, where the
+    /// root's depth is 1. They are `k` such that `2 ^ (k / 2) <= n + 1` with `n` tasks runnable at that pick. 0 where it
+    /// answered none, and before the first pick.
     pub fn pick_steps(&self) -> u32
         ensures { result ≡ self.now.turns }
     {

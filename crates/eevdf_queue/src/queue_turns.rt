@@ -4,7 +4,7 @@ ghost use Rattle.std.specs.Prelude.{◌≡◌, ◌≤◌, ◌↔◌, ◌+◌, �
 ghost use Rattle.std.specs.Option.{option_map};
 ghost use Rattle.std.specs.FinMap as map;
 ghost use Rattle.eevdf_queue.specs.Moves as moves;
-ghost use Rattle.eevdf_queue.specs.Pick.{IsPick, pick_of, after_pick};
+ghost use Rattle.eevdf_queue.specs.Pick.{IsPick, pick_of, after_pick, view_after_pick};
 ghost use Rattle.eevdf_queue.specs.Tick as ticks;
 ghost use Rattle.eevdf_queue.specs.Yield as yields;
 
@@ -26,8 +26,9 @@ struct Runner {
 impl Queue {
     /// Lets the eligible task of earliest virtual deadline run, the lower number where deadlines are equal.
     /// `None` exactly when nothing is runnable. With `n` runnable tasks, the descent to it in the tree takes `k`
-    /// turns such that `2 ^ (k / 2) <= n + 1`. Where no task was put in, taken out, charged or given another entry since
-    /// the last pick, its answer still holds, and no descent is made.
+    /// turns such that `2 ^ (k / 2) <= n + 1`: as many as its node is deep, where the root's depth is 1. Where no task was
+    /// put in, taken out, charged or given another entry since the last pick, its answer still holds, with its turns, and
+    /// no descent is made.
     pub fn pick(&mut self) -> Option<TaskId>
         ensures number { result ≡ pick_of self.old.state.runnable }
         ensures picked { IfSome result (IsPick self.old.state.runnable) }
@@ -37,6 +38,8 @@ impl Queue {
         ensures turns { IfSome result (λ _. 1 ≤ self.new.turns) }
         ensures few_turns { IfSome result
             (λ _. 2 ^ (self.new.turns / 2) ≤ map.len self.old.state.runnable + 1) }
+        ensures depth { IfSome result (λ t. map.get self.old.depths t ≡ Some self.new.turns) }
+        ensures seen { self.new ≡ view_after_pick self.old }
     {
         if let Some(known) = self.runnable.known_pick() {
             return Some(self.run(known));
@@ -55,6 +58,7 @@ impl Queue {
         ensures task { result ≡ pick.task }
         ensures after { self.new.state ≡ record self.old.state { running = Some pick.task } }
         ensures turns { self.new.turns ≡ pick.turns }
+        ensures depths { self.new.depths ≡ self.old.depths }
     {
         self.running = Some(pick.task);
         self.turns = pick.turns;

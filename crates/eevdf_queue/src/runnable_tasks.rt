@@ -25,7 +25,7 @@ use crate::tree_key::TreeKey;
 use crate::tree_node::{Found, TreeNode};
 use std::marker::Model;
 
-/// The runnable tasks of a queue, seen as the map from their numbers to their entries.
+/// The runnable tasks of a queue, seen as the map from their numbers to their entries, and the one to the depths of their nodes.
 #[derive(Drop)]
 pub struct RunnableTasks {
     totals: Totals,
@@ -35,17 +35,15 @@ pub struct RunnableTasks {
 }
 
 impl Model for RunnableTasks {
-    ghost use Rattle.std.specs.{Ordering.nat_cmp, Coded.coded_ℕ};
-    ghost use Rattle.std.specs.FinMap as map;
-    ghost use Rattle.eevdf_queue.specs.{declared.entry.Entry.Entry, Codes.entry_code};
+    ghost use Rattle.eevdf_queue.specs.{State.TasksInTree, Codes.tasks_in_tree_code};
 
-    ghost Value = { map.FinMap nat_cmp Entry };
+    ghost Value = { TasksInTree };
 
-    ghost coded = { map.code coded_ℕ entry_code };
+    ghost coded = { tasks_in_tree_code };
 
-    ghost use Rattle.eevdf_queue.specs.{TaskLists.runnable_in, TreeStores.IsRunnableTasks};
+    ghost use Rattle.eevdf_queue.specs.{NodeDepths.depths_by_number, TaskLists.runnable_in, TreeStores.IsRunnableTasks};
 
-    ghost view = { λ a. runnable_in a.tree };
+    ghost view = { λ a. record { tasks = runnable_in a.tree.tasks; depths = depths_by_number a.tree.depths } };
 
     ghost invariant = { λ a. IsRunnableTasks a.deadlines a.totals a.picked a.tree };
 }
@@ -53,7 +51,7 @@ impl Model for RunnableTasks {
 impl RunnableTasks {
     #[tactic(auto, using(crate::proofs::RunnableMaps::basics))]
     pub fn new() -> RunnableTasks
-        ensures { result ≡ map.empty }
+        ensures { result ≡ record { tasks = map.empty; depths = map.empty } }
     {
         RunnableTasks {
             totals: Totals {
@@ -68,7 +66,7 @@ impl RunnableTasks {
 
     #[tactic(auto, using(crate::proofs::RunnableMaps::lengths))]
     pub fn len(&self) -> usize
-        ensures { result ≡ map.len self.now }
+        ensures { result ≡ map.len self.now.tasks }
     {
         self.tree.len()
     }
@@ -76,8 +74,8 @@ impl RunnableTasks {
     /// The sums over the tasks.
     #[tactic(auto, using(crate::proofs::RunnableMaps::sums))]
     pub fn totals(&self) -> Totals
-        ensures weight { result.weight ≡ total_weight self.now }
-        ensures moment { result.moment ≡ total_moment self.now }
+        ensures weight { result.weight ≡ total_weight self.now.tasks }
+        ensures moment { result.moment ≡ total_moment self.now.tasks }
         ensures few { result.weight ≤ 88761 * number_limit }
         ensures small { unsigned_abs result.moment ≤ 2 ^ 60 * result.weight }
     {
@@ -86,9 +84,9 @@ impl RunnableTasks {
 
     /// The sums over the tasks but one that is here.
     pub fn totals_without(&self, task: TaskId, entry: &Entry) -> Totals
-        requires { map.get self.now task ≡ Some entry.now }
-        ensures weight { result.weight ≡ total_weight (map.remove self.now task) }
-        ensures moment { result.moment ≡ total_moment (map.remove self.now task) }
+        requires { map.get self.now.tasks task ≡ Some entry.now }
+        ensures weight { result.weight ≡ total_weight (map.remove self.now.tasks task) }
+        ensures moment { result.moment ≡ total_moment (map.remove self.now.tasks task) }
         ensures few { result.weight ≤ 88761 * number_limit }
         ensures small { unsigned_abs result.moment ≤ 2 ^ 60 * result.weight }
     {
@@ -97,7 +95,7 @@ impl RunnableTasks {
 
     #[tactic(auto, using(crate::proofs::RunnableMaps::basics))]
     pub fn get(&self, task: TaskId) -> Option<Entry>
-        ensures { result ≡ map.get self.now task }
+        ensures { result ≡ map.get self.now.tasks task }
     {
         let key = self.deadlines.key(task);
         if self.picked.is(task) {
@@ -112,9 +110,9 @@ impl RunnableTasks {
     /// Gives a task that is here with an older entry another one.
     #[inline(always)]
     pub fn set(&mut self, task: TaskId, older: &Entry, entry: Entry)
-        requires here { map.get self.old task ≡ Some older.now }
+        requires here { map.get self.old.tasks task ≡ Some older.now }
         requires in_range { is_entry_in_range entry ≡ true }
-        ensures { self.new ≡ map.insert self.old task entry }
+        ensures { self.new.tasks ≡ map.insert self.old.tasks task entry }
     {
         self.picked.forget();
         self.totals = exchanged(&self.totals, older, &entry);
@@ -124,11 +122,11 @@ impl RunnableTasks {
     /// Gives a task that is here with an older entry one of another request, whose virtual runtime is near the older one.
     #[inline(always)]
     pub fn renew(&mut self, task: TaskId, older: &Entry, newer: Entry)
-        requires here { map.get self.old task ≡ Some older.now }
+        requires here { map.get self.old.tasks task ≡ Some older.now }
         requires in_range { is_entry_in_range newer ≡ true }
         requires same { record older.now { v = newer.v; d = newer.d } ≡ newer }
         requires near { unsigned_abs (newer.v -ℤ older.now.v) ≤ 2 ^ 40 }
-        ensures { self.new ≡ map.insert self.old task newer }
+        ensures { self.new.tasks ≡ map.insert self.old.tasks task newer }
     {
         self.picked.forget();
         correct_moment(&mut self.totals, older, &newer);
@@ -138,12 +136,12 @@ impl RunnableTasks {
     /// Gives a task that is here with an older entry one of a later virtual runtime. The task keeps its place.
     #[inline(always)]
     pub fn age(&mut self, task: TaskId, older: &Entry, newer: &Entry)
-        requires here { map.get self.old task ≡ Some older.now }
+        requires here { map.get self.old.tasks task ≡ Some older.now }
         requires in_range { is_entry_in_range newer.now ≡ true }
         requires same { record older.now { v = newer.now.v } ≡ newer.now }
         requires later { older.now.v ≤ℤ newer.now.v }
         requires near { unsigned_abs (newer.now.v -ℤ older.now.v) ≤ 2 ^ 40 }
-        ensures { self.new ≡ map.insert self.old task newer.now }
+        ensures { self.new.tasks ≡ map.insert self.old.tasks task newer.now }
     {
         self.picked.forget();
         correct_moment(&mut self.totals, older, newer);
@@ -153,9 +151,9 @@ impl RunnableTasks {
 
     /// Adds a task that isn't here, in the node of its parcel.
     pub fn add(&mut self, parcel: Parcel, entry: Entry)
-        requires absent { map.get self.old parcel.task ≡ None }
+        requires absent { map.get self.old.tasks parcel.task ≡ None }
         requires in_range { is_entry_in_range entry ≡ true }
-        ensures { self.new ≡ map.insert self.old parcel.task entry }
+        ensures { self.new.tasks ≡ map.insert self.old.tasks parcel.task entry }
     {
         // the picked task keeps its entry, but another one may be picked next
         self.picked.turns = 0;
@@ -170,10 +168,10 @@ impl RunnableTasks {
 
     /// Takes out a task that is here, in a parcel with the lag that it keeps at this virtual time.
     pub fn remove(&mut self, task: TaskId, time: i64) -> Parcel
-        requires here { map.contains_key self.old task ≡ true }
+        requires here { map.contains_key self.old.tasks task ≡ true }
         requires time { limits.is_in_range time ≡ true }
-        ensures rest { self.new ≡ map.remove self.old task }
-        ensures parcel { option_map (leaving_at time task) (map.get self.old task) ≡ Some result }
+        ensures rest { self.new.tasks ≡ map.remove self.old.tasks task }
+        ensures parcel { option_map (leaving_at time task) (map.get self.old.tasks task) ≡ Some result }
     {
         self.keeps();
         self.picked.forget();
@@ -188,15 +186,17 @@ impl RunnableTasks {
     #[tactic(auto, using(crate::proofs::RunnableMaps::firsts))]
     fn first(&self, totals: &Threshold) -> Option<Found<'_>>
         requires few { totals.now.weight ≤ 2 ^ 40 }
-        requires weight { totals.now.weight ≡ total_weight self.now }
-        requires moment { totals.now.moment ≡ total_moment self.now }
+        requires weight { totals.now.weight ≡ total_weight self.now.tasks }
+        requires moment { totals.now.moment ≡ total_moment self.now.tasks }
         ensures here { IfSome result
-            (λ f. map.get self.now f.task.now.number ≡ Some f.task.now.entry) }
+            (λ f. map.get self.now.tasks f.task.now.number ≡ Some f.task.now.entry) }
         ensures number { option_map (λ f. f.task.now.number) result
             ≡ option_map (λ a. a.0)
-            (earliest (is_eligible_at totals.now.weight totals.now.moment) (map.entries self.now)) }
+            (earliest (is_eligible_at totals.now.weight totals.now.moment) (map.entries self.now.tasks)) }
         ensures positive { IfSome result (λ f. 1 ≤ f.turns) }
-        ensures turns { IfSome result (λ f. IsFull f.turns (map.len self.now)) }
+        ensures turns { IfSome result (λ f. IsFull f.turns (map.len self.now.tasks)) }
+        ensures depth { IfSome result
+            (λ f. map.get self.now.depths f.task.now.number ≡ Some f.turns) }
     {
         self.tree.earliest(totals)
     }
@@ -205,11 +205,12 @@ impl RunnableTasks {
     /// last descent. `None` says nothing.
     #[inline(always)]
     pub fn known_pick(&self) -> Option<Pick>
-        ensures number { IfSome result (λ f. Some f.task ≡ pick_of self.now) }
-        ensures picked { IfSome result (λ f. IsPick self.now f.task) }
-        ensures here { IfSome result (λ f. map.contains_key self.now f.task ≡ true) }
+        ensures number { IfSome result (λ f. Some f.task ≡ pick_of self.now.tasks) }
+        ensures picked { IfSome result (λ f. IsPick self.now.tasks f.task) }
+        ensures here { IfSome result (λ f. map.contains_key self.now.tasks f.task ≡ true) }
         ensures positive { IfSome result (λ f. 1 ≤ f.turns) }
-        ensures turns { IfSome result (λ f. IsFull f.turns (map.len self.now)) }
+        ensures turns { IfSome result (λ f. IsFull f.turns (map.len self.now.tasks)) }
+        ensures depth { IfSome result (λ f. map.get self.now.depths f.task ≡ Some f.turns) }
     {
         self.picked.known_pick()
     }
@@ -217,12 +218,13 @@ impl RunnableTasks {
     /// The eligible task of earliest virtual deadline, and the turns of the descent to it. `None` exactly where
     /// there is no task.
     pub fn pick(&mut self) -> Option<Pick>
-        ensures number { option_map (λ f. f.task) result ≡ pick_of self.old }
-        ensures picked { IfSome result (λ f. IsPick self.old f.task) }
-        ensures none { IsNone result ↔ (self.old ≡ map.empty) }
-        ensures here { IfSome result (λ f. map.contains_key self.old f.task ≡ true) }
+        ensures number { option_map (λ f. f.task) result ≡ pick_of self.old.tasks }
+        ensures picked { IfSome result (λ f. IsPick self.old.tasks f.task) }
+        ensures none { IsNone result ↔ (self.old.tasks ≡ map.empty) }
+        ensures here { IfSome result (λ f. map.contains_key self.old.tasks f.task ≡ true) }
         ensures positive { IfSome result (λ f. 1 ≤ f.turns) }
-        ensures turns { IfSome result (λ f. IsFull f.turns (map.len self.old)) }
+        ensures turns { IfSome result (λ f. IsFull f.turns (map.len self.old.tasks)) }
+        ensures depth { IfSome result (λ f. map.get self.old.depths f.task ≡ Some f.turns) }
         ensures same { self.new ≡ self.old }
     {
         let totals = self.totals();
@@ -246,21 +248,21 @@ impl RunnableTasks {
 
     /// The last task by deadline and number of those that don't run.
     pub fn candidate(&self, running: Option<TaskId>) -> Option<TaskId>
-        ensures { result ≡ candidate_of self.now running }
+        ensures { result ≡ candidate_of self.now.tasks running }
     {
         self.tree.latest_waiting(running)
     }
 
     /// Learns what every task here keeps.
     pub fn keeps(&self)
-        ensures { AreInRange self.now }
+        ensures { AreInRange self.now.tasks }
     {
         let _tree = &self.tree;
     }
 
     /// Learns how large the sums over the tasks can be.
     pub fn sums_are_small(&self)
-        ensures { AreSumsSmall self.now }
+        ensures { AreSumsSmall self.now.tasks }
     {
         self.keeps();
         let _totals = self.totals();
@@ -270,13 +272,13 @@ impl RunnableTasks {
 /// Gives the task of a number, which is here, another entry, with which it takes its place anew.
 #[inline(always)]
 fn replace(tree: &mut TaskTree, deadlines: &mut DeadlineTable, task: TaskId, entry: Entry)
-    requires here { is_some (find_task task tree.old) ≡ true }
-    requires stored { IsRunnableStore deadlines.old tree.old }
+    requires here { is_some (find_task task tree.old.tasks) ≡ true }
+    requires stored { IsRunnableStore deadlines.old tree.old.tasks }
     requires in_range { is_entry_in_range entry ≡ true }
-    ensures stored { IsRunnableStore deadlines.new tree.new }
-    ensures seen { runnable_in tree.new ≡ map.insert (runnable_in tree.old) task entry }
-    ensures tree { (t : Task) → find_task task tree.old ≡ Some t
-        → tree.new ≡ insert_task (record t { entry = entry }) (without task tree.old) }
+    ensures stored { IsRunnableStore deadlines.new tree.new.tasks }
+    ensures seen { runnable_in tree.new.tasks ≡ map.insert (runnable_in tree.old.tasks) task entry }
+    ensures tree { (t : Task) → find_task task tree.old.tasks ≡ Some t
+        → tree.new.tasks ≡ insert_task (record t { entry = entry }) (without task tree.old.tasks) }
 {
     let node = take(tree, deadlines, task);
     put(tree, deadlines, node, entry);
@@ -285,11 +287,11 @@ fn replace(tree: &mut TaskTree, deadlines: &mut DeadlineTable, task: TaskId, ent
 /// Takes the task of a number, which is here, out of the tree, in its node.
 #[inline(always)]
 fn take(tree: &mut TaskTree, deadlines: &DeadlineTable, task: TaskId) -> Box<TreeNode>
-    requires here { is_some (find_task task tree.old) ≡ true }
-    requires noted { AllByRecursion (IsNoted deadlines.now) tree.old }
+    requires here { is_some (find_task task tree.old.tasks) ≡ true }
+    requires noted { AllByRecursion (IsNoted deadlines.now) tree.old.tasks }
     ensures alone { IsAlone result.value }
-    ensures task { find_task task tree.old ≡ Some (first_task result.value.tasks) }
-    ensures rest { tree.new ≡ without task tree.old }
+    ensures task { find_task task tree.old.tasks ≡ Some (first_task result.value.tasks) }
+    ensures rest { tree.new.tasks ≡ without task tree.old.tasks }
 {
     tree.remove(&deadlines.key(task))
 }
@@ -297,10 +299,10 @@ fn take(tree: &mut TaskTree, deadlines: &DeadlineTable, task: TaskId) -> Box<Tre
 /// Puts the task of a lone node into the tree with another entry, and notes its deadline.
 fn put(tree: &mut TaskTree, deadlines: &mut DeadlineTable, mut node: Box<TreeNode>, entry: Entry)
     requires alone { IsAlone node.value }
-    requires absent { find_task (first_task node.value.tasks).number tree.old ≡ None }
-    requires few { length tree.old < number_limit }
-    ensures tree { tree.new
-        ≡ insert_task (record (first_task node.value.tasks) { entry = entry }) tree.old }
+    requires absent { find_task (first_task node.value.tasks).number tree.old.tasks ≡ None }
+    requires few { length tree.old.tasks < number_limit }
+    ensures tree { tree.new.tasks
+        ≡ insert_task (record (first_task node.value.tasks) { entry = entry }) tree.old.tasks }
     ensures table { (q : ℕ)
         → deadline_at deadlines.new q
         ≡ (if q ==

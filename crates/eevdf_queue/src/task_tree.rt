@@ -1,8 +1,8 @@
 ghost use Rattle.std.specs.Prelude.{◌≡◌, suc, ◌<◌, ◌≤◌, ◌/◌, ◌^◌, ◌≤ℤ◌, [], length, is_some, true, None, Some, IfSome};
 ghost use Rattle.std.specs.Option.{option_map};
-ghost use Rattle.eevdf_queue.specs.TaskLists.{first_task, find_task, set_entry, entries_of};
+ghost use Rattle.eevdf_queue.specs.TaskLists.{first_task, find_task, set_entry, entries_of, DifferInNumber};
 ghost use Rattle.eevdf_queue.specs.{Order.earliest, Pick.is_eligible_at, Candidate.latest_waiting, TreeShape.IsAlone};
-ghost use Rattle.eevdf_queue.specs.{TreeShape.IsFull, Numbers.number_limit};
+ghost use Rattle.eevdf_queue.specs.{TreeShape.IsFull, TreeShape.empty_tree, Numbers.number_limit, NodeDepths.depth_at};
 ghost use Rattle.eevdf_queue.specs.TreeTasks.{IsAtDeadline, insert_task, without, first_that};
 
 use crate::entry::Entry;
@@ -16,7 +16,8 @@ use crate::tree_node::{
 };
 use std::marker::Model;
 
-/// Tasks in a balanced tree by deadline and number, seen as the list of them in that order.
+/// Tasks in a balanced tree by deadline and number, seen as the list of them in that order, its height and the depths of
+/// its nodes.
 #[derive(Drop)]
 pub struct TaskTree {
     root: Option<Box<TreeNode>>,
@@ -24,21 +25,20 @@ pub struct TaskTree {
 }
 
 impl Model for TaskTree {
-    ghost use Rattle.std.specs.Prelude.{List};
-    ghost use Rattle.eevdf_queue.specs.declared.task.Task.{Task};
+    ghost use Rattle.eevdf_queue.specs.TreeShape.{Tree};
 
-    ghost Value = { List Task };
+    ghost Value = { Tree };
 
-    ghost use Rattle.eevdf_queue.specs.{TreeShape.tasks_in, TreeTasks.IsCounted};
+    ghost use Rattle.eevdf_queue.specs.{TreeShape.tasks_in, TreeShape.tree_in, TreeTasks.IsCounted};
 
-    ghost view = { λ a. tasks_in a.root };
+    ghost view = { λ a. tree_in a.root };
 
     ghost invariant = { λ a. IsCounted a.count (tasks_in a.root) };
 }
 
 impl TaskTree {
     pub fn new() -> TaskTree
-        ensures { result ≡ [] }
+        ensures { result ≡ empty_tree }
     {
         TaskTree {
             root: None,
@@ -47,7 +47,7 @@ impl TaskTree {
     }
 
     pub fn len(&self) -> usize
-        ensures value { result ≡ length self.now }
+        ensures value { result ≡ length self.now.tasks }
         ensures few { result ≤ number_limit }
     {
         self.count
@@ -55,8 +55,8 @@ impl TaskTree {
 
     /// The task of a key's number, which stands at the key where it is here.
     pub fn find(&self, key: &TreeKey) -> Option<Task>
-        requires { IsAtDeadline key.now.deadline (find_task key.now.number self.now) }
-        ensures { result ≡ find_task key.now.number self.now }
+        requires { IsAtDeadline key.now.deadline (find_task key.now.number self.now.tasks) }
+        ensures { result ≡ find_task key.now.number self.now.tasks }
     {
         find(&self.root, key)
     }
@@ -64,9 +64,9 @@ impl TaskTree {
     /// Puts in the task of a lone node, whose number isn't here.
     pub fn insert(&mut self, node: Box<TreeNode>)
         requires alone { IsAlone node.value }
-        requires absent { find_task (first_task node.value.tasks).number self.old ≡ None }
-        requires few { length self.old < number_limit }
-        ensures { self.new ≡ insert_task (first_task node.value.tasks) self.old }
+        requires absent { find_task (first_task node.value.tasks).number self.old.tasks ≡ None }
+        requires few { length self.old.tasks < number_limit }
+        ensures { self.new.tasks ≡ insert_task (first_task node.value.tasks) self.old.tasks }
     {
         insert(&mut self.root, node);
         self.count += 1;
@@ -76,12 +76,12 @@ impl TaskTree {
     /// before.
     #[inline(always)]
     pub fn age(&mut self, key: &TreeKey, older: &Entry, newer: &Entry)
-        requires here { option_map (λ t. t.entry) (find_task key.now.number self.old)
+        requires here { option_map (λ t. t.entry) (find_task key.now.number self.old.tasks)
             ≡ Some older.now }
-        requires placed { IsAtDeadline key.now.deadline (find_task key.now.number self.old) }
+        requires placed { IsAtDeadline key.now.deadline (find_task key.now.number self.old.tasks) }
         requires same { record older.now { v = newer.now.v } ≡ newer.now }
         requires later { older.now.v ≤ℤ newer.now.v }
-        ensures { self.new ≡ set_entry key.now.number newer.now self.old }
+        ensures { self.new.tasks ≡ set_entry key.now.number newer.now self.old.tasks }
     {
         let runtimes = Runtimes::of(older, newer);
         age(&mut self.root, *key, runtimes);
@@ -89,11 +89,11 @@ impl TaskTree {
 
     /// Takes out the task of a key, which is here, in its node.
     pub fn remove(&mut self, key: &TreeKey) -> Box<TreeNode>
-        requires here { is_some (find_task key.now.number self.old) ≡ true }
-        requires placed { IsAtDeadline key.now.deadline (find_task key.now.number self.old) }
+        requires here { is_some (find_task key.now.number self.old.tasks) ≡ true }
+        requires placed { IsAtDeadline key.now.deadline (find_task key.now.number self.old.tasks) }
         ensures alone { IsAlone result.value }
-        ensures task { find_task key.now.number self.old ≡ Some (first_task result.value.tasks) }
-        ensures rest { self.new ≡ without key.now.number self.old }
+        ensures task { find_task key.now.number self.old.tasks ≡ Some (first_task result.value.tasks) }
+        ensures rest { self.new.tasks ≡ without key.now.number self.old.tasks }
     {
         let taken = remove(&mut self.root, *key);
         self.count -= 1;
@@ -101,25 +101,27 @@ impl TaskTree {
     }
 
     /// The first by deadline and number of the tasks that are eligible at these sums, and the turns of the
-    /// descent to it. Where there is a task, some task is eligible.
+    /// descent to it, which are the depth of its node. Where there is a task, some task is eligible.
     pub fn earliest(&self, totals: &Threshold) -> Option<Found<'_>>
         requires few { totals.now.weight ≤ 2 ^ 40 }
-        requires some { first_that (is_eligible_at totals.now.weight totals.now.moment) self.now
-            ≡ None → self.now ≡ [] }
+        requires differ { DifferInNumber self.now.tasks }
+        requires some { first_that (is_eligible_at totals.now.weight totals.now.moment) self.now.tasks
+            ≡ None → self.now.tasks ≡ [] }
         ensures task { option_map (λ f. f.task.now) result
-            ≡ first_that (is_eligible_at totals.now.weight totals.now.moment) self.now }
+            ≡ first_that (is_eligible_at totals.now.weight totals.now.moment) self.now.tasks }
         ensures number { option_map (λ f. f.task.now.number) result
             ≡ option_map (λ a. a.0)
-            (earliest (is_eligible_at totals.now.weight totals.now.moment) (entries_of self.now)) }
+            (earliest (is_eligible_at totals.now.weight totals.now.moment) (entries_of self.now.tasks)) }
         ensures positive { IfSome result (λ f. 1 ≤ f.turns) }
-        ensures turns { IfSome result (λ f. IsFull f.turns (length self.now)) }
+        ensures turns { IfSome result (λ f. IsFull f.turns (length self.now.tasks)) }
+        ensures depth { IfSome result (λ f. f.turns ≡ depth_at f.task.now.number self.now.depths) }
     {
         first_eligible(&self.root, totals)
     }
 
     /// The number of the last by deadline and number of the tasks that don't run.
     pub fn latest_waiting(&self, running: Option<TaskId>) -> Option<TaskId>
-        ensures { result ≡ option_map (λ a. a.0) (latest_waiting running (entries_of self.now)) }
+        ensures { result ≡ option_map (λ a. a.0) (latest_waiting running (entries_of self.now.tasks)) }
     {
         let Some(last) = last_task(&self.root) else {
             return None;

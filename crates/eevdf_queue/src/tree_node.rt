@@ -3,8 +3,8 @@
 
 ghost use Rattle.std.specs.Prelude.{◌≡◌, ◌≤◌, ◌^◌, [], ◌∷◌, ◌++◌, length, is_some, true, None, Some, IfSome};
 ghost use Rattle.std.specs.Option.{option_map};
-ghost use Rattle.eevdf_queue.specs.{TaskLists.first_task, TaskLists.find_task, Pick.is_eligible_at, NodeDepths.is_at_depth};
-ghost use Rattle.eevdf_queue.specs.{TreeLeast.least_of, TreeLeast.AreLow};
+ghost use Rattle.eevdf_queue.specs.{TaskLists.first_task, TaskLists.find_task, TaskLists.DifferInNumber, Pick.is_eligible_at};
+ghost use Rattle.eevdf_queue.specs.{TreeLeast.least_of, TreeLeast.AreLow, NodeDepths.depth_at};
 ghost use Rattle.eevdf_queue.specs.TreeTasks.{AreOrdered, IsAtDeadline, first_that, last_number};
 ghost use Rattle.eevdf_queue.specs.TreeShape.{tasks_in, height_in, depths_in, IsFull, IsAlone};
 
@@ -208,6 +208,7 @@ pub fn find(link: &Option<Box<TreeNode>>, key: &TreeKey) -> Option<Task>
 pub fn first_eligible<'a>(link: &'a Option<Box<TreeNode>>, totals: &Threshold) -> Option<Found<'a>>
     requires few { totals.now.weight ≤ 2 ^ 40 }
     requires small { length (tasks_in link.now) ≤ 2 ^ 20 }
+    requires differ { DifferInNumber (tasks_in link.now) }
     requires some { first_that (is_eligible_at totals.now.weight totals.now.moment)
         (tasks_in link.now) ≡ None → tasks_in link.now ≡ [] }
     ensures task { option_map (λ f. f.task.now) result
@@ -215,7 +216,7 @@ pub fn first_eligible<'a>(link: &'a Option<Box<TreeNode>>, totals: &Threshold) -
     ensures positive { IfSome result (λ f. 1 ≤ f.turns) }
     ensures few_turns { IfSome result (λ f. IsFull f.turns (length (tasks_in link.now))) }
     ensures depth { IfSome result
-        (λ f. is_at_depth f.task.now.number f.turns (depths_in link.now) ≡ true) }
+        (λ f. f.turns ≡ depth_at f.task.now.number (depths_in link.now)) }
 {
     let Some(root) = link else { return None };
     let root: &TreeNode = root;
@@ -228,13 +229,14 @@ pub fn first_eligible<'a>(link: &'a Option<Box<TreeNode>>, totals: &Threshold) -
 fn first_under<'a>(root: &'a TreeNode, totals: &Threshold) -> Found<'a>
     requires few { totals.now.weight ≤ 2 ^ 40 }
     requires small { length root.now.tasks ≤ 2 ^ 20 }
+    requires differ { DifferInNumber root.now.tasks }
     requires some { is_some
         (first_that (is_eligible_at totals.now.weight totals.now.moment) root.now.tasks) ≡ true }
     ensures task { first_that (is_eligible_at totals.now.weight totals.now.moment) root.now.tasks
         ≡ Some result.task.now }
     ensures positive { 1 ≤ result.turns }
     ensures turns { IsFull result.turns (length root.now.tasks) }
-    ensures depth { is_at_depth result.task.now.number result.turns root.now.depths ≡ true }
+    ensures depth { result.turns ≡ depth_at result.task.now.number root.now.depths }
 {
     let _height = root.height();
     let mut at = root;

@@ -8,23 +8,23 @@ take-node-requires-clause-noted c = c.requires.stored.noted
 
 pub put-requires-clause-absent : goal.put-requires-clause-absent
 put-requires-clause-absent c =
-    taken_absent c.args.deadlines.now c.args.task (first_task c.take-node.result.value.tasks) c.args.tree.now c.take-node.new.tree c.requires.stored c.take-node.ensures.task c.take-node.ensures.rest
+    taken_absent c.args.deadlines.now c.args.task (first_task c.take-node.result.value.tasks) c.args.tree.now.tasks c.take-node.new.tree.tasks c.requires.stored c.take-node.ensures.task c.take-node.ensures.rest
 
 pub put-requires-clause-few : goal.put-requires-clause-few
 put-requires-clause-few c =
-    taken_room c.args.deadlines.now c.args.task (first_task c.take-node.result.value.tasks) c.args.tree.now c.take-node.new.tree c.requires.stored c.take-node.ensures.task c.take-node.ensures.rest
+    taken_room c.args.deadlines.now c.args.task (first_task c.take-node.result.value.tasks) c.args.tree.now.tasks c.take-node.new.tree.tasks c.requires.stored c.take-node.ensures.task c.take-node.ensures.rest
 
 pub returns-clause-stored : goal.returns-clause-stored
 returns-clause-stored c =
     let u : Task = record (first_task c.take-node.result.value.tasks) { entry = c.args.entry } in
-    moved_stored c.args.deadlines.now c.args.task (first_task c.take-node.result.value.tasks) c.args.tree.now c.take-node.new.tree c.requires.stored c.take-node.ensures.task c.take-node.ensures.rest
-    c.put.new.deadlines u c.put.new.tree refl c.put.ensures.tree c.requires.in_range c.put.ensures.table
+    moved_stored c.args.deadlines.now c.args.task (first_task c.take-node.result.value.tasks) c.args.tree.now.tasks c.take-node.new.tree.tasks c.requires.stored c.take-node.ensures.task c.take-node.ensures.rest
+    c.put.new.deadlines u c.put.new.tree.tasks refl c.put.ensures.tree c.requires.in_range c.put.ensures.table
 
 pub returns-clause-seen : goal.returns-clause-seen
 returns-clause-seen c =
     let u : Task = record (first_task c.take-node.result.value.tasks) { entry = c.args.entry } in
-    moved_seen c.args.deadlines.now c.args.task (first_task c.take-node.result.value.tasks) c.args.tree.now c.take-node.new.tree c.requires.stored c.take-node.ensures.task c.take-node.ensures.rest
-    (runnable_in c.args.tree.now) u c.put.new.tree refl refl c.put.ensures.tree
+    moved_seen c.args.deadlines.now c.args.task (first_task c.take-node.result.value.tasks) c.args.tree.now.tasks c.take-node.new.tree.tasks c.requires.stored c.take-node.ensures.task c.take-node.ensures.rest
+    (runnable_in c.args.tree.now.tasks) u c.put.new.tree.tasks refl refl c.put.ensures.tree
 
 pub returns-clause-tree : goal.returns-clause-tree
 returns-clause-tree c = λ t f.
@@ -32,4 +32,4 @@ returns-clause-tree c = λ t f.
     let same : first_task c.take-node.result.value.tasks ≡ t = cc in
     c.put.ensures.tree
     ∙ ap (insert_task (record (first_task c.take-node.result.value.tasks) { entry = c.args.entry })) c.take-node.ensures.rest
-    ∙ ap (λ (u : Task). insert_task (record u { entry = c.args.entry }) (without c.args.task c.args.tree.now)) same
+    ∙ ap (λ (u : Task). insert_task (record u { entry = c.args.entry }) (without c.args.task c.args.tree.now.tasks)) same

@@ -5,15 +5,15 @@ use Rattle.eevdf_queue.proofs.TreeMaps.{placed}
 use Rattle.eevdf_queue.proofs.runnable_tasks.take.Goals as goal
 
 pub remove-requires-clause-here : goal.remove-requires-clause-here
-remove-requires-clause-here c = ap (λ (q : ℕ). is_some (find_task q c.args.tree.now)) c.key.ensures.number ∙ c.requires.here
+remove-requires-clause-here c = ap (λ (q : ℕ). is_some (find_task q c.args.tree.now.tasks)) c.key.ensures.number ∙ c.requires.here
 
 pub remove-requires-clause-placed : goal.remove-requires-clause-placed
 remove-requires-clause-placed c =
     let d : c.key.result.deadline ≡ deadline_at c.args.deadlines.now c.key.result.number = cc in
-    placed c.args.deadlines.now c.key.result c.args.tree.now c.requires.noted d
+    placed c.args.deadlines.now c.key.result c.args.tree.now.tasks c.requires.noted d
 
 pub returns-clause-task : goal.returns-clause-task
-returns-clause-task c = ap (λ (q : ℕ). find_task q c.args.tree.now) (sym c.key.ensures.number) ∙ c.remove.ensures.task
+returns-clause-task c = ap (λ (q : ℕ). find_task q c.args.tree.now.tasks) (sym c.key.ensures.number) ∙ c.remove.ensures.task
 
 pub returns-clause-rest : goal.returns-clause-rest
-returns-clause-rest c = c.remove.ensures.rest ∙ ap (λ (q : ℕ). without q c.args.tree.now) c.key.ensures.number
+returns-clause-rest c = c.remove.ensures.rest ∙ ap (λ (q : ℕ). without q c.args.tree.now.tasks) c.key.ensures.number

@@ -1,12 +1,15 @@
-use Rattle.std.proofs.Common.{◌≡◌, ◌∙◌, ◌+◌, false, [], ap, sym, arith, List, length}
+use Rattle.std.proofs.Common.{◌≡◌, ◌∙◌, ◌+◌, false, refl, [], ap, sym, arith, List, length}
 use Rattle.std.specs.Prelude.{is_some}
 use Rattle.eevdf_queue.specs.{declared.task.Task.Task, Pick.is_eligible_at, TreeShape.tasks_in, TreeShape.height_in}
 use Rattle.eevdf_queue.specs.{TreeNodes.tasks_of, TreeTasks.first_that}
-use Rattle.eevdf_queue.proofs.Descending.{lead_left, lead_right, lead_here}
+use Rattle.eevdf_queue.proofs.Descending.{itself, to_left, to_right, at_root}
 use Rattle.eevdf_queue.proofs.{TreeEligible.some-node, TreeSorted.full-lower}
 use Rattle.eevdf_queue.proofs.TreeSearch.{first_left_same, first_here, first_only, first_right}
 use Rattle.eevdf_queue.proofs.tree_node.first_under.Goals as goal
 use Rattle.eevdf_queue.proofs.tree_node.first_under.Goals.{Joined-at, in-Some+else-is_least_eligible, in_default}
+
+pub down-init : goal.down-init
+down-init c = (c.requires.some, (refl, (omega arith, itself c.args.root.now c.requires.differ)))
 
 pub down-preserved-then-is_least_eligible : goal.down-preserved-then-is_least_eligible
 down-preserved-then-is_least_eligible c =
@@ -25,7 +28,7 @@ down-preserved-then-is_least_eligible c =
             ∙ ap (first_that (is_eligible_at c.args.totals.now.weight c.args.totals.now.moment)) l,
         (
           omega (arith, h, k, c.at.invariant.height, c.down.invariant.1.1.0),
-          lead_left c.at.inside c.down.turns c.down.at.now.depths c.deref-left.result.now.depths c.args.root.now.depths (cc) (cc) c.down.invariant.1.1.1,
+          to_left c.at.inside c.down.at.now c.at.view_is c.down.turns c.args.root.now.depths c.down.invariant.1.1.1 c.deref-left.result.now l (cc),
         ),
       ),
     )
@@ -55,7 +58,7 @@ returns-then-is_task_eligible-clause-turns c =
 
 pub returns-then-is_task_eligible-clause-depth : goal.returns-then-is_task_eligible-clause-depth
 returns-then-is_task_eligible-clause-depth c =
-    lead_here c.at.inside c.down.turns c.down.at.now.depths c.args.root.now.depths (cc) c.down.invariant.1.1.1
+    sym (at_root c.at.inside c.down.at.now c.at.view_is c.down.turns c.args.root.now.depths c.down.invariant.1.1.1)
 
 -- nothing stands on the right: then it is the own task
 pub returns-in_default-right-clause-task : goal.returns-in_default-right-clause-task
@@ -71,7 +74,7 @@ returns-in_default-right-clause-turns c =
 
 pub returns-in_default-right-clause-depth : goal.returns-in_default-right-clause-depth
 returns-in_default-right-clause-depth c =
-    lead_here c.at.inside c.down.turns c.down.at.now.depths c.args.root.now.depths (cc) c.down.invariant.1.1.1
+    sym (at_root c.at.inside c.down.at.now c.at.view_is c.down.turns c.args.root.now.depths c.down.invariant.1.1.1)
 
 pub down-preserved : goal.down-preserved
 down-preserved c =
@@ -86,7 +89,7 @@ down-preserved c =
         c.down.invariant.1.0 ∙ f,
         (
           omega (arith, h, k, c.at.invariant.height, c.down.invariant.1.1.0),
-          lead_right c.at.inside c.down.turns c.down.at.now.depths c.deref-at.result.now.depths c.args.root.now.depths (cc) (cc) c.down.invariant.1.1.1,
+          to_right c.at.inside c.down.at.now c.at.view_is c.down.turns c.args.root.now.depths c.down.invariant.1.1.1 c.deref-at.result.now r (cc),
         ),
       ),
     )

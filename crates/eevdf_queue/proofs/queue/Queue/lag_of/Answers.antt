@@ -11,6 +11,6 @@ kept_lag-requires-clause-placed c =
 pub returns-in-None-clause-limited : goal.returns-in-None-clause-limited
 returns-in-None-clause-limited c =
     let inside = c.self.inside in
-    let q : State = record { runnable = inside.runnable; running = inside.running; asleep = inside.asleep; base = inside.base } in
+    let q : State = record { runnable = inside.runnable.tasks; running = inside.running; asleep = inside.asleep; base = inside.base } in
     subst (λ (w : View). IfSome c.lag.result (λ lag. unsigned_abs lag ≤ limit_at w.state c.args.task)) c.self.view_is
     (sleeping_limited q c.args.task c.lag.result (sym c.in-None.ensures) c.keeps-2.ensures c.lag.ensures)

@@ -18,11 +18,11 @@ invariant_of-self c =
 pub returns-clause-after : goal.returns-clause-after
 returns-clause-after c =
     let a = c.self.inside in
-    let q : State = record { runnable = a.runnable; running = a.running; asleep = a.asleep; base = a.base } in
+    let q : State = record { runnable = a.runnable.tasks; running = a.running; asleep = a.asleep; base = a.base } in
     let e = c.in-Some.entry in
     let v : ℤ = e.v in
     let fits : SFits w64 v = search rules in
-    ap (λ (z : ℤ). record q { runnable = c.set.new.self; base = z }) (to_z-of_z w64 v fits)
-    ∙ after_renice q c.args.task c.args.nice e c.in-Some-reniced.reniced c.set.new.self (sym c.in-Some.ensures)
+    ap (λ (z : ℤ). record q { runnable = c.set.new.self.tasks; base = z }) (to_z-of_z w64 v fits)
+    ∙ after_renice q c.args.task c.args.nice e c.in-Some-reniced.reniced c.set.new.self.tasks (sym c.in-Some.ensures)
     (ap (λ (w : View). placed_entry (leave w.state c.args.task) (renices.reniced w.state e c.args.nice)) c.self.view_is ∙ sym c.in-Some-reniced.ensures) c.set.ensures
     ∙ ap (λ (w : View). (renices.renice w.state c.args.task c.args.nice).1) c.self.view_is

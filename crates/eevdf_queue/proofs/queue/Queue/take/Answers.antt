@@ -13,7 +13,7 @@ pub invariant_of-self : goal.invariant_of-self
 invariant_of-self c =
     let v : ℤ = c.start-self-inside.result in
     let r : is_in_range c.remove-parcel.result.start ≡ true =
-    left_start (λ v. is_in_range v ≡ true) _ c.args.task (get c.self.inside.runnable c.args.task) c.remove-parcel.result c.remove-parcel.ensures.parcel (λ e h. range_v e (c.keeps.ensures c.args.task e h).1) in
+    left_start (λ v. is_in_range v ≡ true) _ c.args.task (get c.self.inside.runnable.tasks c.args.task) c.remove-parcel.result c.remove-parcel.ensures.parcel (λ e h. range_v e (c.keeps.ensures c.args.task e h).1) in
     let fits : SFits w64 v = search rules in
     sound_leave _ _ _ _ _ _ _ _ c.remove-parcel.ensures.rest c.stop.ensures (ap is_in_range (to_z-of_z w64 v fits ∙ c.start-self-inside.ensures) ∙ r) c.self.invariant
 

@@ -10,5 +10,5 @@ placed-requires c =
 pub invariant_of-self : goal.invariant_of-self
 invariant_of-self c =
     sound_wake _ _ _ _ _ _ c.args.task c.in-Some-placed.entry
-    (c.add.ensures ∙ ap (λ (q : ℕ). insert c.self.inside.runnable q c.in-Some-placed.entry) c.remove-parcel.ensures.task)
+    (c.add.ensures ∙ ap (λ (q : ℕ). insert c.self.inside.runnable.tasks q c.in-Some-placed.entry) c.remove-parcel.ensures.task)
     c.remove-parcel.ensures.rest c.self.invariant

@@ -5,37 +5,38 @@ use Rattle.eevdf_queue.specs.{declared.entry.Entry.Entry, declared.task.Task.Tas
 use Rattle.eevdf_queue.specs.TaskLists.{find_task, set_entry}
 use Rattle.eevdf_queue.proofs.{TreeMaps.entry_here, TreeAge.at_deadline, TreeChange.stored-set, TreeChange.set_seen, PickedTasks.sums_kept}
 use Rattle.eevdf_queue.proofs.TreeTotals.{totals-set, totals_near, entry_found}
+use Rattle.eevdf_queue.specs.State.{TasksInTree}
 use Rattle.eevdf_queue.proofs.runnable_tasks.RunnableTasks.age.Goals as goal
 use Rattle.eevdf_queue.proofs.runnable_tasks.RunnableTasks.age.Goals.{After-age}
 
 pub correct_moment-requires-clause-small : goal.correct_moment-requires-clause-small
-correct_moment-requires-clause-small c = totals_near c.self.inside.deadlines c.self.inside.totals c.self.inside.tree (sums_kept _ _ _ _ c.self.invariant)
+correct_moment-requires-clause-small c = totals_near c.self.inside.deadlines c.self.inside.totals c.self.inside.tree.tasks (sums_kept _ _ _ _ c.self.invariant)
 
 pub age-requires-clause-here : goal.age-requires-clause-here
 age-requires-clause-here c =
-    ap (λ (k : TreeKey). option_map (λ (t : Task). t.entry) (find_task k.number c.self.inside.tree)) c.of-key.ensures ∙ entry_here c.args.task c.args.older.now c.self.inside.tree c.args.self.now c.self.view_is c.requires.here
+    ap (λ (k : TreeKey). option_map (λ (t : Task). t.entry) (find_task k.number c.self.inside.tree.tasks)) c.of-key.ensures ∙ entry_here c.args.task c.args.older.now c.self.inside.tree.tasks c.args.self.now.tasks (ap (λ (w : TasksInTree). w.tasks) c.self.view_is) c.requires.here
 
 pub age-requires-clause-placed : goal.age-requires-clause-placed
 age-requires-clause-placed c =
-    subst (λ (k : TreeKey). IsAtDeadline k.deadline (find_task k.number c.self.inside.tree)) (sym c.of-key.ensures)
-    (at_deadline c.args.older.now c.args.older.now.d (find_task c.args.task c.self.inside.tree) (entry_here c.args.task c.args.older.now c.self.inside.tree c.args.self.now c.self.view_is c.requires.here) refl)
+    subst (λ (k : TreeKey). IsAtDeadline k.deadline (find_task k.number c.self.inside.tree.tasks)) (sym c.of-key.ensures)
+    (at_deadline c.args.older.now c.args.older.now.d (find_task c.args.task c.self.inside.tree.tasks) (entry_here c.args.task c.args.older.now c.self.inside.tree.tasks c.args.self.now.tasks (ap (λ (w : TasksInTree). w.tasks) c.self.view_is) c.requires.here) refl)
 
-changed : (c : After-age) → c.age.new.self ≡ set_entry c.args.task c.args.newer.now c.self.inside.tree
-changed c = c.age.ensures ∙ ap (λ (k : TreeKey). set_entry k.number c.args.newer.now c.self.inside.tree) c.of-key.ensures
+changed : (c : After-age) → c.age.new.self.tasks ≡ set_entry c.args.task c.args.newer.now c.self.inside.tree.tasks
+changed c = c.age.ensures ∙ ap (λ (k : TreeKey). set_entry k.number c.args.newer.now c.self.inside.tree.tasks) c.of-key.ensures
 
 pub invariant_of-self : goal.invariant_of-self
 invariant_of-self c =
-    let h = entry_here c.args.task c.args.older.now c.self.inside.tree c.args.self.now c.self.view_is c.requires.here in
+    let h = entry_here c.args.task c.args.older.now c.self.inside.tree.tasks c.args.self.now.tasks (ap (λ (w : TasksInTree). w.tasks) c.self.view_is) c.requires.here in
     let i = changed (goal.at.invariant_of-self c).After-age in
-    let g = entry_found (find_task c.args.task c.self.inside.tree) c.args.older.now h in
+    let g = entry_found (find_task c.args.task c.self.inside.tree.tasks) c.args.older.now h in
     let d : c.args.older.now.d ≡ c.args.newer.now.d = ap (λ (z : Entry). z.d) c.requires.same in
     let n : c.args.older.now.nice ≡ c.args.newer.now.nice = ap (λ (z : Entry). z.nice) c.requires.same in
     record {
       store =
-          stored-set c.self.inside.deadlines c.args.task c.args.newer.now c.self.inside.tree c.age.new.self c.self.invariant.store
-          (at_deadline c.args.older.now c.args.newer.now.d (find_task c.args.task c.self.inside.tree) h d) c.requires.in_range i;
+          stored-set c.self.inside.deadlines c.args.task c.args.newer.now c.self.inside.tree.tasks c.age.new.self.tasks c.self.invariant.store
+          (at_deadline c.args.older.now c.args.newer.now.d (find_task c.args.task c.self.inside.tree.tasks) h d) c.requires.in_range i;
       totals =
-          totals-set c.args.task g.0 c.args.older.now c.args.newer.now c.self.inside.tree c.age.new.self c.self.inside.totals c.correct_moment.new.totals
+          totals-set c.args.task g.0 c.args.older.now c.args.newer.now c.self.inside.tree.tasks c.age.new.self.tasks c.self.inside.totals c.correct_moment.new.totals
           c.self.invariant.totals g.1.0 g.1.1
           (ap (λ (z : ℕ). weight_of c.args.older.now.nice + z) c.correct_moment.ensures.weight ∙ ap (λ (z : ℤ). weight_of z + c.self.inside.totals.weight) n)
           (c.correct_moment.ensures.moment ∙ ap (λ (z : ℤ). (c.args.newer.now.v *ℤ pos (weight_of z)) +ℤ c.self.inside.totals.moment) n) i;
@@ -45,4 +46,4 @@ invariant_of-self c =
 
 pub returns : goal.returns
 returns c =
-    set_seen c.args.task c.args.newer.now c.self.inside.tree c.age.new.self c.args.self.now c.self.view_is (ap is_some c.requires.here) (changed (goal.at.returns c).After-age)
+    set_seen c.args.task c.args.newer.now c.self.inside.tree.tasks c.age.new.self.tasks c.args.self.now.tasks (ap (λ (w : TasksInTree). w.tasks) c.self.view_is) (ap is_some c.requires.here) (changed (goal.at.returns c).After-age)

@@ -5,22 +5,23 @@ use Rattle.eevdf_queue.specs.{declared.entry.Entry.Entry, TaskLists.find_task}
 use Rattle.eevdf_queue.proofs.PickedTasks.{sums_kept}
 use Rattle.eevdf_queue.proofs.TreeMaps.{find_present, entry_here}
 use Rattle.eevdf_queue.proofs.TreeTotals.{totals-moved, totals_near, entry_found}
+use Rattle.eevdf_queue.specs.State.{TasksInTree}
 use Rattle.eevdf_queue.proofs.runnable_tasks.RunnableTasks.renew.Goals as goal
 
 pub replace-requires-clause-here : goal.replace-requires-clause-here
-replace-requires-clause-here c = find_present c.self.inside.tree c.args.self.now c.args.task c.self.view_is (ap is_some c.requires.here)
+replace-requires-clause-here c = find_present c.self.inside.tree.tasks c.args.self.now.tasks c.args.task (ap (λ (w : TasksInTree). w.tasks) c.self.view_is) (ap is_some c.requires.here)
 
 pub replace-requires-clause-stored : goal.replace-requires-clause-stored
 replace-requires-clause-stored c = c.self.invariant.store
 
 pub invariant_of-self : goal.invariant_of-self
 invariant_of-self c =
-    let g = entry_found (find_task c.args.task c.self.inside.tree) c.args.older.now (entry_here c.args.task c.args.older.now c.self.inside.tree c.args.self.now c.self.view_is c.requires.here) in
+    let g = entry_found (find_task c.args.task c.self.inside.tree.tasks) c.args.older.now (entry_here c.args.task c.args.older.now c.self.inside.tree.tasks c.args.self.now.tasks (ap (λ (w : TasksInTree). w.tasks) c.self.view_is) c.requires.here) in
     let n : c.args.older.now.nice ≡ c.args.newer.nice = ap (λ (z : Entry). z.nice) c.requires.same in
     record {
       store = c.replace.ensures.stored;
       totals =
-          totals-moved c.args.task g.0 c.args.older.now c.args.newer c.self.inside.tree c.replace.new.tree c.self.inside.totals c.correct_moment.new.totals
+          totals-moved c.args.task g.0 c.args.older.now c.args.newer c.self.inside.tree.tasks c.replace.new.tree.tasks c.self.inside.totals c.correct_moment.new.totals
           c.self.invariant.totals g.1.0 g.1.1
           (ap (λ (z : ℕ). weight_of c.args.older.now.nice + z) c.correct_moment.ensures.weight ∙ ap (λ (z : ℤ). weight_of z + c.self.inside.totals.weight) n)
           (c.correct_moment.ensures.moment ∙ ap (λ (z : ℤ). (c.args.newer.v *ℤ pos (weight_of z)) +ℤ c.self.inside.totals.moment) n)
@@ -30,7 +31,7 @@ invariant_of-self c =
     }
 
 pub returns : goal.returns
-returns c = c.replace.ensures.seen ∙ ap (λ (m : FinMap nat_cmp Entry). insert m c.args.task c.args.newer) c.self.view_is
+returns c = c.replace.ensures.seen ∙ ap (λ (m : FinMap nat_cmp Entry). insert m c.args.task c.args.newer) (ap (λ (w : TasksInTree). w.tasks) c.self.view_is)
 
 pub correct_moment-requires-clause-small : goal.correct_moment-requires-clause-small
-correct_moment-requires-clause-small c = totals_near c.self.inside.deadlines c.self.inside.totals c.self.inside.tree (sums_kept _ _ _ _ c.self.invariant)
+correct_moment-requires-clause-small c = totals_near c.self.inside.deadlines c.self.inside.totals c.self.inside.tree.tasks (sums_kept _ _ _ _ c.self.invariant)

@@ -4,21 +4,22 @@ use Rattle.eevdf_queue.specs.{declared.entry.Entry.Entry, TaskLists.find_task}
 use Rattle.eevdf_queue.proofs.PickedTasks.{sums_kept}
 use Rattle.eevdf_queue.proofs.TreeMaps.{find_present, entry_here}
 use Rattle.eevdf_queue.proofs.TreeTotals.{totals-moved, totals_part, totals_few, totals_small, entry_found}
+use Rattle.eevdf_queue.specs.State.{TasksInTree}
 use Rattle.eevdf_queue.proofs.runnable_tasks.RunnableTasks.set.Goals as goal
 
 pub replace-requires-clause-here : goal.replace-requires-clause-here
-replace-requires-clause-here c = find_present c.self.inside.tree c.args.self.now c.args.task c.self.view_is (ap is_some c.requires.here)
+replace-requires-clause-here c = find_present c.self.inside.tree.tasks c.args.self.now.tasks c.args.task (ap (λ (w : TasksInTree). w.tasks) c.self.view_is) (ap is_some c.requires.here)
 
 pub replace-requires-clause-stored : goal.replace-requires-clause-stored
 replace-requires-clause-stored c = c.self.invariant.store
 
 pub invariant_of-self : goal.invariant_of-self
 invariant_of-self c =
-    let g = entry_found (find_task c.args.task c.self.inside.tree) c.args.older.now (entry_here c.args.task c.args.older.now c.self.inside.tree c.args.self.now c.self.view_is c.requires.here) in
+    let g = entry_found (find_task c.args.task c.self.inside.tree.tasks) c.args.older.now (entry_here c.args.task c.args.older.now c.self.inside.tree.tasks c.args.self.now.tasks (ap (λ (w : TasksInTree). w.tasks) c.self.view_is) c.requires.here) in
     record {
       store = c.replace.ensures.stored;
       totals =
-          totals-moved c.args.task g.0 c.args.older.now c.args.entry c.self.inside.tree c.replace.new.tree c.self.inside.totals c.exchanged-self-inside.result
+          totals-moved c.args.task g.0 c.args.older.now c.args.entry c.self.inside.tree.tasks c.replace.new.tree.tasks c.self.inside.totals c.exchanged-self-inside.result
           c.self.invariant.totals g.1.0 g.1.1
           c.exchanged-self-inside.ensures.weight
           c.exchanged-self-inside.ensures.moment
@@ -28,15 +29,15 @@ invariant_of-self c =
     }
 
 pub returns : goal.returns
-returns c = c.replace.ensures.seen ∙ ap (λ (m : FinMap nat_cmp Entry). insert m c.args.task c.args.entry) c.self.view_is
+returns c = c.replace.ensures.seen ∙ ap (λ (m : FinMap nat_cmp Entry). insert m c.args.task c.args.entry) (ap (λ (w : TasksInTree). w.tasks) c.self.view_is)
 
 pub exchanged-self-inside-requires-clause-part : goal.exchanged-self-inside-requires-clause-part
 exchanged-self-inside-requires-clause-part c =
-    let g = entry_found (find_task c.args.task c.self.inside.tree) c.args.older.now (entry_here c.args.task c.args.older.now c.self.inside.tree c.args.self.now c.self.view_is c.requires.here) in
-    totals_part c.args.task g.0 c.args.older.now c.self.inside.totals c.self.inside.tree c.self.invariant.totals g.1.0 g.1.1
+    let g = entry_found (find_task c.args.task c.self.inside.tree.tasks) c.args.older.now (entry_here c.args.task c.args.older.now c.self.inside.tree.tasks c.args.self.now.tasks (ap (λ (w : TasksInTree). w.tasks) c.self.view_is) c.requires.here) in
+    totals_part c.args.task g.0 c.args.older.now c.self.inside.totals c.self.inside.tree.tasks c.self.invariant.totals g.1.0 g.1.1
 
 pub exchanged-self-inside-requires-clause-few : goal.exchanged-self-inside-requires-clause-few
-exchanged-self-inside-requires-clause-few c = totals_few c.self.inside.deadlines c.self.inside.totals c.self.inside.tree (sums_kept _ _ _ _ c.self.invariant)
+exchanged-self-inside-requires-clause-few c = totals_few c.self.inside.deadlines c.self.inside.totals c.self.inside.tree.tasks (sums_kept _ _ _ _ c.self.invariant)
 
 pub exchanged-self-inside-requires-clause-small : goal.exchanged-self-inside-requires-clause-small
-exchanged-self-inside-requires-clause-small c = totals_small c.self.inside.deadlines c.self.inside.totals c.self.inside.tree (sums_kept _ _ _ _ c.self.invariant)
+exchanged-self-inside-requires-clause-small c = totals_small c.self.inside.deadlines c.self.inside.totals c.self.inside.tree.tasks (sums_kept _ _ _ _ c.self.invariant)

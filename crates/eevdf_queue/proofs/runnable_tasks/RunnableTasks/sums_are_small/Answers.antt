@@ -3,5 +3,5 @@ use Rattle.eevdf_queue.proofs.runnable_tasks.RunnableTasks.sums_are_small.Goals 
 
 pub returns : goal.returns
 returns c =
-    sums_small c.args.self.now c.totals-totals.result.weight c.totals-totals.result.moment c.totals-totals.ensures.weight c.totals-totals.ensures.moment
+    sums_small c.args.self.now.tasks c.totals-totals.result.weight c.totals-totals.result.moment c.totals-totals.ensures.weight c.totals-totals.ensures.moment
     c.totals-totals.ensures.few c.totals-totals.ensures.small c.keeps.ensures
