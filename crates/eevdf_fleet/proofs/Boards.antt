@@ -9,15 +9,15 @@ use lib.ListN.{get_elem?}
 use prog.Atomic.{either}
 use Rattle.atomic_table.specs.Table.{Me, Step, step, keeps, Allows, Splits, Joins}
 use Rattle.atomic_table.proofs.Lists.{at_set, at_snoc, set_again, set_else}
-use Rattle.eevdf_ops.specs.Setup.{allows, cpus_of, is_allowed}
+use Rattle.eevdf_ops.specs.Setup.{cpus_of}
 use Rattle.eevdf_ops.specs.Parts as parts
-use Rattle.eevdf_ops.specs.PartsLaws as laws
-use Rattle.eevdf_ops.proofs.{LocalParts.others_stay, WholePlaces.whole-placed}
+use Rattle.eevdf_ops.proofs.LocalParts.{others_stay}
 use Rattle.eevdf_fleet.specs.{declared.board.claims.Terms.Terms, declared.board.claims.Claim.Claim, declared.board.claims.View.View}
 use Rattle.eevdf_fleet.specs.declared.board.claims.Said.{Said}
 use Rattle.eevdf_fleet.specs.declared.board.claims.Claim.TheVariants.{Seat, Queue, Journal}
-use Rattle.eevdf_fleet.specs.Claims.{Subject, seat, queue, journal, once, here, times, touches, homes, told, IsKept, Tells, AllTell, Agrees, AllAgree, Owes, advanced, knowing, nothing, start, claims_from, opening}
+use Rattle.eevdf_fleet.specs.Claims.{Subject, seat, queue, journal, once, here, times, touches, homes, told, IsKept, Tells, AllTell, Agrees, AllAgree, Owes, advanced, knowing, nothing, start, claims_from, opening, Suits, is_committable, may_commit}
 use Rattle.eevdf_fleet.specs.Board.{ViewTells, IsOneHistory, Rule, Appended, advanced_if, Known, Checked, first_claim, other_claims, joined}
+use Rattle.eevdf_fleet.proofs.Committable.{committed-placed}
 use Rattle.eevdf_fleet.proofs.Totals.{total-set, total-append, times-append, times-at, times-two, times-advanced}
 use Rattle.eevdf_fleet.proofs.Told.{length-told, told-more, lines_by-more, list_all-more, history-more, deeds-more}
 
@@ -82,12 +82,12 @@ room_by cpu quota lines l true e some had =
 room_by cpu quota lines l false e some had =
     omega (arith, length-append (lines_by cpu lines) (lines_by cpu (l ∷ [])), ap (λ (x : List Line). length x) (by_one cpu l false e))
 
--- a line that is owed is of the machine so far
-fitting : (t : Terms) (lines : List Line) (cs : List Claim) (s : Said) → IsKept t lines → Owes t cs s → laws.Fits (homes t) s.line.deed (told t lines)
-fitting t lines cs s kept owed =
+-- a line that is owed may be committed on the machine so far
+suited : (t : Terms) (lines : List Line) (cs : List Claim) (s : Said) → IsKept t lines → Owes t cs s → Suits (homes t) s.line.deed (told t lines)
+suited t lines cs s kept owed =
     let many : length (told t lines) ≡ cpus_of t.setup.value = length-told t lines in
     record {
-      allowed = ap (λ (n : ℕ). is_allowed n (homes t) s.line.deed) many ∙ owed.allowed;
+      committable = ap (λ (n : ℕ). is_committable n (homes t) s.line.deed) many ∙ owed.committable;
       cpus = subst (λ (n : ℕ). AreCpus n (homes t)) (sym many) kept.cpus;
     }
 
@@ -95,16 +95,16 @@ fitting t lines cs s kept owed =
 kept-more : (t : Terms) (lines : List Line) (cs : List Claim) (s : Said) → IsKept t lines → AllTell t lines cs → Owes t cs s → IsKept t (lines ++ s.line ∷ [])
 kept-more t lines cs s kept tell owed =
     let m : Machine = told t lines in
-    let fits : laws.Fits (homes t) s.line.deed m = fitting t lines cs s kept owed in
-    let answer : (whole (homes t) s.line.deed m).0 ≡ s.line.answer = owed.answers m fits (all_agree t lines cs tell) in
+    let suits : Suits (homes t) s.line.deed m = suited t lines cs s kept owed in
+    let answer : (whole (homes t) s.line.deed m).0 ≡ s.line.answer = owed.answers m suits (all_agree t lines cs tell) in
     record {
       history = history-more t lines s.line kept.history answer;
-      allowed = subst (λ (ds : List Deed). list_all (allows t.setup.value) ds ≡ true) (sym (deeds-more lines s.line)) (list_all-more (allows t.setup.value) (deeds_of lines) s.line.deed kept.allowed owed.allowed);
+      committable = subst (λ (ds : List Deed). list_all (may_commit t.setup.value) ds ≡ true) (sym (deeds-more lines s.line)) (list_all-more (may_commit t.setup.value) (deeds_of lines) s.line.deed kept.committable owed.committable);
       room = λ cpu. subst (λ (x : List Line). length x ≤ t.quota) (sym (lines_by-more cpu lines s.line))
           (room_by cpu t.quota lines s.line (decider s.line.deed == cpu) refl (owed.room lines tell) (kept.room cpu));
       cpus = kept.cpus;
       placed = subst (λ (n : Machine). IsPlaced (homes t) n) (sym (told-more t lines s.line))
-          (whole-placed (homes t) s.line.deed m fits.allowed fits.cpus kept.placed);
+          (committed-placed (homes t) s.line.deed m suits kept.placed);
     }
 
 -- one view changes, and the rule holds of each
@@ -131,7 +131,7 @@ appended t cs s views id owed at h =
       kept = kept-more t lines cs s h.kept tell owed;
       fits = fits-set t (lines ++ s.line ∷ []) views id w
           (λ j u apart e. ((h.fits j u e).0, all_stay t lines s.line u.claims (λ k touched. omega (arith, owed.claimed k touched, times-two k views id j v u apart at e, h.once k)) (h.fits j u e).1))
-          (refl, all_advance t lines s cs tell (owed.changes m (fitting t lines cs s h.kept owed) (all_agree t lines cs tell)));
+          (refl, all_advance t lines s cs tell (owed.changes m (suited t lines cs s h.kept owed) (all_agree t lines cs tell)));
       once = λ k. omega (arith, total-set k views id v w at, times-advanced k s cs, h.once k);
     }
 

@@ -22,7 +22,7 @@ pub owes-all : (t : Terms) (cpu : ℕ) (log all : List Line) (qs : List Claim) (
     → Owes t (with_seat cpu log all qs) s
 owes-all t cpu log all qs s own some owed = record {
   claimed = claimed-all t cpu log all qs s own owed;
-  allowed = owed.allowed;
+  committable = owed.committable;
   room = λ lines tell. let same : length (lines_by (decider s.line.deed) lines) ≡ length log = ap (λ (p : ℕ). length (lines_by p lines)) own ∙ ap (λ (x : List Line). length x) tell.0 in omega arith;
   answers = λ m fits agree. owed.answers m fits agree.1.1;
   changes = λ m fits agree. (tt, (tt, owed.changes m fits agree.1.1));

@@ -1,5 +1,6 @@
 pub mod Totals
 pub mod Told
+pub mod Committable
 pub mod Boards
 pub mod Sums
 pub mod Rooms
@@ -20,7 +21,9 @@ pub mod Takes
 pub mod SenderTurns
 pub mod SeatLists
 pub mod SeatParts
+pub mod PostedHome
 pub mod PostsTold
+pub mod AllowedLines
 pub mod Crossing
 pub mod ProgramRooms
 pub mod ProgramDrains

@@ -15,7 +15,7 @@ places-two (x ∷ m) zero (suc b) task apart h g = omega (arith, places-at m b t
 places-two (x ∷ m) (suc a) zero task apart h g = omega (arith, places-at m a task (omega arith))
 places-two (x ∷ m) (suc a) (suc b) task apart h g = omega (arith, places-two m a b task (λ e. apart (ap suc e)) (omega arith) (omega arith))
 
-at-most : (b : Bool) → count b ≤ 1
+pub at-most : (b : Bool) → count b ≤ 1
 at-most true = omega arith
 at-most false = omega arith
 

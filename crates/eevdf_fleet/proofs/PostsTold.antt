@@ -9,8 +9,8 @@ use Rattle.eevdf_fleet.specs.Fleets.{AllPostsTold, AreSeats, Seat, given_back, p
 use Rattle.eevdf_fleet.proofs.{RingPlaces.got_some, Takes.taken-of}
 use Rattle.eevdf_fleet.proofs.RingWords.{all-returned, posts-returned, takes-returned}
 
-all_at : {X : Type 0} (P : X → Type 0) (xs : List X) (k : ℕ) (x : X) → All P xs → slice_get xs k ≡ Some x → P x
-all_at P xs k x h got = subst P (get_or_from_slice_get xs k x x got) (h k x (slice_get_within xs k x got))
+pub all-at : {X : Type 0} (P : X → Type 0) (xs : List X) (k : ℕ) (x : X) → All P xs → slice_get xs k ≡ Some x → P x
+all-at P xs k x h got = subst P (get_or_from_slice_get xs k x x got) (h k x (slice_get_within xs k x got))
 
 -- the ends of one seat more
 pub returned-more : (cpus : ℕ) (seats : List Seat) (s : Seat) (r r' : Returned) → r ≡ returned cpus seats → r' ≡ given_back cpus r s → r' ≡ returned cpus (seats ++ s ∷ [])
@@ -27,7 +27,7 @@ seats-returned cpus seats r h posted is =
       within = omega (arith, slice_get_within seats cpu s got, h.all);
       sender_is = h.in_order cpu s got;
       home_is = h.in_order cpu s got;
-      to_all = all_at (λ (x : Seat). length x.posted ≡ cpus) seats cpu s posted got;
+      to_all = all-at (λ (x : Seat). length x.posted ≡ cpus) seats cpu s posted got;
       from_all = length-map-range_with_len _ 0 cpus;
     }))
 
@@ -37,7 +37,7 @@ module _ (cpus : ℕ) (seats : List Seat) (lines : List Line) (left : List (List
   told sender home s c from to =
       let here : sender < cpus = omega (arith, slice_get_within seats sender s from, h.all) in
       let there : home < cpus = omega (arith, slice_get_within seats home c to, h.all) in
-      let log : c.log ≡ lines_by home lines = sym (all_at (λ (x : Seat). lines_by x.cpu lines ≡ x.log) seats home c logs to) ∙ ap (λ (n : ℕ). lines_by n lines) (h.in_order home c to) in
+      let log : c.log ≡ lines_by home lines = sym (all-at (λ (x : Seat). lines_by x.cpu lines ≡ x.log) seats home c logs to) ∙ ap (λ (n : ℕ). lines_by n lines) (h.in_order home c to) in
       ap (λ (p : Posts). posted_to p home) (sym (posts-returned posts_by (taken_by cpus) cpus seats sender s from))
       ∙ rest.pairs sender home here there
       ∙ ap (λ (xs : List ℕ). xs ++ left_of cpus left sender home)

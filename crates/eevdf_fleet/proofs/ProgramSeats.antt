@@ -12,6 +12,7 @@ use Rattle.eevdf_ops.specs.Programs.{FitsProgram, deeds_of, lines_by, posts_in, 
 use Rattle.eevdf_ops.specs.Setup.{Setup, allows, cpus_of, homes_of, is_allowed}
 use Rattle.eevdf_fleet.specs.Fleets.{AllPostsTold, Seat, fresh}
 use Rattle.eevdf_fleet.specs.{ProgramRuns.AreRun, ProgramRuns.HasRun, SeatWorks.AreDone}
+use Rattle.eevdf_fleet.proofs.Committable.{allowed-committable}
 use Rattle.eevdf_fleet.proofs.Rooms.{below, decider-below, left, right}
 use Rattle.eevdf_fleet.proofs.Takes.{wake-other}
 
@@ -30,7 +31,7 @@ line_of_another true l lines e = cc
 no_lines : (cpus : ℕ) (hs : List ℕ) (p : ℕ) (lines : List Line) → cpus ≤ p → list_all (is_allowed cpus hs) (deeds_of lines) ≡ true → lines_by p lines ≡ []
 no_lines cpus hs p [] past ok = refl
 no_lines cpus hs p (l ∷ lines) past ok =
-    let there : decider l.deed < cpus = decider-below cpus hs l.deed (left _ _ ok) in
+    let there : decider l.deed < cpus = decider-below cpus hs l.deed (allowed-committable cpus hs l.deed (left _ _ ok)) in
     let other : (decider l.deed == p) ≡ false = grind (arith, nat_tests) in
     line_of_another (decider l.deed == p) l (lines_by p lines) other ∙ no_lines cpus hs p lines past (right (is_allowed cpus hs l.deed) _ ok)
 

@@ -1,14 +1,14 @@
 -- What a token claims of the one history.
-use Rattle.std.specs.Prelude.{◌≡◌, ℕ, ◌+◌, ◌<◌, ◌≤◌, ◌==◌, Bool, true, List, [], ◌∷◌, ◌++◌, length, map, if◌then◌else◌, Option, Some, None}
+use Rattle.std.specs.Prelude.{◌≡◌, ℕ, ◌+◌, ◌<◌, ◌≤◌, ◌==◌, nat_lt, Bool, true, ◌&&◌, List, [], ◌∷◌, ◌++◌, length, map, if◌then◌else◌, Option, Some, None}
 use Rattle.std.specs.List.{list_all}
 use Rattle.eevdf_queue.specs.State.{State}
 use Rattle.eevdf_ops.specs.{declared.deeds.Deed.Deed, declared.deeds.Line.Line, Machine.Machine, Machine.queue_at}
 use Rattle.eevdf_ops.specs.{Histories.machine_told, Histories.AreHistory, Parts.decider, Places.AreCpus, Places.IsPlaced}
 use Rattle.eevdf_ops.specs.{Programs.deeds_of, Programs.lines_by, Whole.whole}
-use Rattle.eevdf_ops.specs.Setup.{allows, cpus_of, homes_of}
+use Rattle.eevdf_ops.specs.Setup.{Setup, cpus_of, homes_of, is_allowed}
+use Rattle.eevdf_ops.specs.declared.deeds.Deed.TheVariants.{Tick, Pick, Yield, Sleep, Wake, Pull, Renice}
 use Rattle.eevdf_ops.specs.Machine as machine
 use Rattle.eevdf_ops.specs.Parts as parts
-use Rattle.eevdf_ops.specs.PartsLaws as laws
 use Rattle.eevdf_fleet.specs.{declared.board.claims.Terms.Terms, declared.board.claims.Claim.Claim, declared.board.claims.View.View}
 use Rattle.eevdf_fleet.specs.{declared.board.claims.Change.Change, declared.board.claims.Said.Said}
 use Rattle.eevdf_fleet.specs.declared.board.claims.Claim.TheVariants.{Seat, Queue, Journal}
@@ -23,10 +23,29 @@ start t = machine.start t.setup.value
 abbrev pub told : Terms → List Line → Machine
 told t lines = machine_told (homes t) (start t) lines
 
+-- whether a fleet of so many CPUs may commit a deed: it is allowed, but that a wake may be of any task. A drain doesn't
+-- know whose home a request was posted to; that all were posted to the home of their task is known at closing
+abbrev pub is_committable : ℕ → List ℕ → Deed → Bool
+is_committable cpus homes (Tick cpu ns) = is_allowed cpus homes (Tick cpu ns)
+is_committable cpus homes (Pick cpu) = is_allowed cpus homes (Pick cpu)
+is_committable cpus homes (Yield cpu) = is_allowed cpus homes (Yield cpu)
+is_committable cpus homes (Sleep cpu task) = is_allowed cpus homes (Sleep cpu task)
+is_committable cpus homes (Wake cpu task sender) = nat_lt cpu cpus && nat_lt sender cpus
+is_committable cpus homes (Pull cpu source) = is_allowed cpus homes (Pull cpu source)
+is_committable cpus homes (Renice cpu task nice) = is_allowed cpus homes (Renice cpu task nice)
+
+abbrev pub may_commit : Setup → Deed → Bool
+may_commit s deed = is_committable (cpus_of s) (homes_of s) deed
+
+-- a machine on which a deed may be committed
+pub record Suits (homes : List ℕ) (deed : Deed) (m : Machine) : Type 0 where
+  pub committable : is_committable (length m) homes deed ≡ true
+  pub cpus : AreCpus (length m) homes
+
 -- a history on these terms
 pub record IsKept (t : Terms) (lines : List Line) : Type 0 where
   pub history : AreHistory (homes t) (start t) lines
-  pub allowed : list_all (allows t.setup.value) (deeds_of lines) ≡ true
+  pub committable : list_all (may_commit t.setup.value) (deeds_of lines) ≡ true
   pub room : (cpu : ℕ) → length (lines_by cpu lines) ≤ t.quota
   pub cpus : AreCpus (cpus_of t.setup.value) (homes t)
   pub placed : IsPlaced (homes t) (told t lines)
@@ -114,18 +133,18 @@ abbrev pub AllAgree : Machine → List Claim → Type 0
 AllAgree m [] = Unit {0}
 AllAgree m (c ∷ cs) = Agrees m c × AllAgree m cs
 
--- what who commits a line owes: it claims all that the line changes, the line is allowed and has room, and wherever
+-- what who commits a line owes: it claims all that the line changes, the line may be committed and has room, and wherever
 -- the claims hold, it is the next of the history and leaves the queues that are said
 pub record Owes (t : Terms) (claims : List Claim) (s : Said) : Type 0 where
   pub claimed : (k : Subject) → touches (homes t) k s.line.deed ≡ true → 1 ≤ times k claims
-  pub allowed : allows t.setup.value s.line.deed ≡ true
+  pub committable : may_commit t.setup.value s.line.deed ≡ true
   pub room : (lines : List Line) → AllTell t lines claims → length (lines_by (decider s.line.deed) lines) < t.quota
-  pub answers : (m : Machine) → laws.Fits (homes t) s.line.deed m → AllAgree m claims → (whole (homes t) s.line.deed m).0 ≡ s.line.answer
-  pub changes : (m : Machine) → laws.Fits (homes t) s.line.deed m → AllAgree m claims → AllAgree (whole (homes t) s.line.deed m).1 (map (advanced s) claims)
+  pub answers : (m : Machine) → Suits (homes t) s.line.deed m → AllAgree m claims → (whole (homes t) s.line.deed m).0 ≡ s.line.answer
+  pub changes : (m : Machine) → Suits (homes t) s.line.deed m → AllAgree m claims → AllAgree (whole (homes t) s.line.deed m).1 (map (advanced s) claims)
 
 -- the same of the queues alone
 pub record OwesQueues (t : Terms) (claims : List Claim) (s : Said) : Type 0 where
   pub claimed : (cpu : ℕ) → parts.touches (homes t) s.line.deed cpu ≡ true → 1 ≤ times (queue cpu) claims
-  pub allowed : allows t.setup.value s.line.deed ≡ true
-  pub answers : (m : Machine) → laws.Fits (homes t) s.line.deed m → AllAgree m claims → (whole (homes t) s.line.deed m).0 ≡ s.line.answer
-  pub changes : (m : Machine) → laws.Fits (homes t) s.line.deed m → AllAgree m claims → AllAgree (whole (homes t) s.line.deed m).1 (map (advanced s) claims)
+  pub committable : may_commit t.setup.value s.line.deed ≡ true
+  pub answers : (m : Machine) → Suits (homes t) s.line.deed m → AllAgree m claims → (whole (homes t) s.line.deed m).0 ≡ s.line.answer
+  pub changes : (m : Machine) → Suits (homes t) s.line.deed m → AllAgree m claims → AllAgree (whole (homes t) s.line.deed m).1 (map (advanced s) claims)

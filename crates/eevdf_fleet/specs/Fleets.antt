@@ -1,9 +1,9 @@
 -- What contracts see of a fleet.
-use Rattle.std.specs.Prelude.{◌≡◌, ℕ, ◌-◌, ◌<◌, List, [], ◌∷◌, ◌++◌, length, map, replicate, slice_get, slice_index_or, slice_set, Some, Result, MatchResult}
-use Rattle.std.specs.List.{range_with_len}
+use Rattle.std.specs.Prelude.{◌≡◌, ℕ, ◌-◌, ◌<◌, true, List, [], ◌∷◌, ◌++◌, length, map, replicate, slice_get, slice_index_or, slice_set, Some, Result, MatchResult}
+use Rattle.std.specs.List.{list_all, range_with_len}
 use Rattle.atomic_table.specs.Seated.{TableId}
 use Rattle.eevdf_queue.specs.State as states
-use Rattle.eevdf_ops.specs.{declared.deeds.Answer.Answer, declared.deeds.Deed.Deed, declared.deeds.Line.Line, Programs.lines_by, Programs.wakes_from, Setup.Setup}
+use Rattle.eevdf_ops.specs.{declared.deeds.Answer.Answer, declared.deeds.Deed.Deed, declared.deeds.Line.Line, Programs.lines_by, Programs.wakes_from, Setup.Setup, Setup.is_at_home}
 use Rattle.eevdf_fleet.specs.declared.board.claims.Terms.{Terms}
 use Rattle.eevdf_fleet.specs.Rings.{Rings, Posts, Takes, Returned, ArePostsOf, left_of}
 
@@ -100,6 +100,10 @@ pub record AreParts (cpus : ℕ) (log : SeatLog) (p : Posts) (t : Takes) : Type 
   pub posts : ArePostsOf cpus log.cpu p
   pub takes : t ≡ takes_by cpus log.cpu log.lines
   pub within : log.cpu < cpus
+
+-- requests by homes, each posted to the home of its task
+pub record ArePostedHome (homes : List ℕ) (posted : List (List ℕ)) : Type 0 where
+  pub each : (home : ℕ) → list_all (λ (task : ℕ). is_at_home homes task home) (slice_index_or posted home []) ≡ true
 
 -- the ends that seats give back, one CPU's after the other's, and with those of a seat more
 abbrev pub posts_by : Seat → Posts

@@ -2,9 +2,10 @@
 
 ghost use Rattle.std.specs.Prelude.{◌≡◌, ◌≤◌, ◌<◌, [], ◌∷◌, All, length, vec_len};
 ghost use Rattle.eevdf_ops.specs.{Outcome.machine_of, Programs.lines_by, Setup.cpus_of};
+ghost use Rattle.eevdf_ops.specs.{Setup.homes_of};
 ghost use Rattle.eevdf_fleet.specs.declared.board.claims.Claim.TheVariants as claim;
 ghost use Rattle.eevdf_fleet.specs.{Board.IsToken, Board.claims_of, Claims.IsKept, Claims.told};
-ghost use Rattle.eevdf_fleet.specs.Fleets.{AreSeats, given_back, returned, setup_of};
+ghost use Rattle.eevdf_fleet.specs.Fleets.{ArePostedHome, AreSeats, given_back, returned, setup_of};
 
 use crate::board::Token;
 use crate::named_board::NamedBoard;
@@ -33,6 +34,7 @@ pub(crate) fn close_seats<N: Names>(
     ensures claims { claims_of result.0 ≡ claim.Journal lines.now.items ∷ [] }
     ensures logs { All (λ s. lines_by s.cpu lines.now.items ≡ s.log) seats.items }
     ensures posted { All (λ s. length s.posted ≡ cpus_of (setup_of N.kit)) seats.items }
+    ensures homes { All (λ s. ArePostedHome (homes_of (setup_of N.kit)) s.posted) seats.items }
     ensures ends { result.1 ≡ returned (cpus_of (setup_of N.kit)) seats.items }
 {
     for seat in seats {
@@ -57,6 +59,7 @@ fn close_seat<N: Names>(
     ensures claims { claims_of result ≡ claim.Journal lines.now.items ∷ [] }
     ensures log { lines_by seat.cpu lines.now.items ≡ seat.log }
     ensures posted { length seat.posted ≡ cpus_of (setup_of N.kit) }
+    ensures homes { ArePostedHome (homes_of (setup_of N.kit)) seat.posted }
     ensures ends { ends.new ≡ given_back (cpus_of (setup_of N.kit)) ends.old seat }
 {
     let Seat {

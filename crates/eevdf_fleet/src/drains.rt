@@ -1,9 +1,9 @@
 //! How the requests that were posted to a CPU are decided.
 
 ghost use Rattle.std.specs.Prelude.{◌≡◌, ◌≤◌, ◌<◌, ◌↔◌, IfNone, IfOk, IfSome, IsErr, MatchResult};
-ghost use Rattle.std.specs.Prelude.{None, true};
+ghost use Rattle.std.specs.Prelude.{None};
 ghost use Rattle.eevdf_ops.specs.Numbers.{most_cpus};
-ghost use Rattle.eevdf_ops.specs.Setup.{cpus_of, homes_of, is_at_home};
+ghost use Rattle.eevdf_ops.specs.Setup.{cpus_of};
 ghost use Rattle.eevdf_fleet.specs.Drains.{HasDrained, HasTaken, counted, oldest_own};
 ghost use Rattle.eevdf_fleet.specs.Fleets.{setup_of};
 
@@ -13,7 +13,6 @@ use crate::names::Names;
 use crate::seat::Seat;
 use crate::slot::Slot;
 use eevdf_ops::{Answer, CpuId, Deed};
-use eevdf_queue::TaskId;
 use std::sync::Wait;
 
 /// What a drain did: how many requests it took, and how many of these woke their task.
@@ -83,31 +82,9 @@ impl<N: Names> Fleet<N> {
     {
         let cpu = seat.cpu();
         let task = seat.consumers.take(&mut seat.producers, sender.index())?;
-        self.wait_unless_at_home(rt, task, cpu);
+        // Whose home the task has isn't known here. `close` has the posts of all seats, and shows that each was to the task's home.
         let deed = Deed::Wake { cpu, task, sender };
         Some(self.done_on_one(rt, &OpenGate, 0, &mut seat.log, slot, deed))
-    }
-
-    /// Returns where a task has its home at a CPU, and never returns where it hasn't.
-    fn wait_unless_at_home<R: Wait>(&self, rt: &R, task: TaskId, cpu: CpuId)
-        ensures { is_at_home (homes_of (setup_of N.kit)) task cpu ≡ true }
-    {
-        // A seat posts a request to the task's home alone, but no type says so of what comes out of a ring.
-        if self.is_at_home(task, cpu) {
-            return;
-        }
-        for _ in rt.forever() {}
-        unreachable!()
-    }
-
-    /// Whether a task has its home at a CPU.
-    fn is_at_home(&self, task: TaskId, cpu: CpuId) -> bool
-        ensures { result ≡ is_at_home (homes_of (setup_of N.kit)) task cpu }
-    {
-        match self.homes.get(task.index()) {
-            Some(home) => home.get() == cpu.get(),
-            None => false,
-        }
     }
 }
 

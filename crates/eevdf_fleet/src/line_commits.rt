@@ -1,10 +1,10 @@
 //! How a line is committed, by the queues that it has changed.
 
 ghost use Rattle.std.specs.Prelude.{◌≡◌, ◌≢◌, ◌<◌, [], ◌∷◌, true};
-ghost use Rattle.eevdf_ops.specs.{Parts.decider, Setup.allows, Setup.homes_of};
+ghost use Rattle.eevdf_ops.specs.{Parts.decider, Setup.homes_of};
 ghost use Rattle.eevdf_fleet.specs.declared.board.claims.Claim.TheVariants as claim;
-ghost use Rattle.eevdf_fleet.specs.{Board.IsToken, Board.claims_of, Fleets.setup_of};
-ghost use Rattle.eevdf_fleet.specs.{Fleets.written};
+ghost use Rattle.eevdf_fleet.specs.{Board.IsToken, Board.claims_of, Claims.may_commit};
+ghost use Rattle.eevdf_fleet.specs.{Fleets.setup_of, Fleets.written};
 ghost use Rattle.eevdf_fleet.specs.TouchedQueues.{AreDoneFrom, IsDoneFrom, IsOfOneQueue};
 ghost use Rattle.eevdf_fleet.specs.TouchedQueues.{IsOfTwoQueues};
 
@@ -31,7 +31,7 @@ impl<N: Names> Fleet<N> {
         requires token { IsToken N.kit.board N.kit.terms token }
         requires one { IsOfOneQueue (homes_of (setup_of N.kit)) line.now.deed }
         requires own { decider line.now.deed ≡ log.old.cpu }
-        requires allowed { allows (setup_of N.kit) line.now.deed ≡ true }
+        requires committable { may_commit (setup_of N.kit) line.now.deed ≡ true }
         requires room { 0 < log.old.room }
         requires done { IsDoneFrom (claims_of token) log.old.cpu queue.now.state line.now }
         ensures token { IsToken N.kit.board N.kit.terms result }
@@ -59,7 +59,7 @@ impl<N: Names> Fleet<N> {
         requires two { IsOfTwoQueues (homes_of (setup_of N.kit)) other line.now.deed }
         requires own { decider line.now.deed ≡ log.old.cpu }
         requires apart { other ≢ log.old.cpu }
-        requires allowed { allows (setup_of N.kit) line.now.deed ≡ true }
+        requires committable { may_commit (setup_of N.kit) line.now.deed ≡ true }
         requires room { 0 < log.old.room }
         requires done { AreDoneFrom (claims_of token) log.old.cpu queue.now.state
             other other_queue.now.state line.now }

@@ -2,7 +2,8 @@
 
 ghost use Rattle.std.specs.Prelude.{◌≡◌, ◌≢◌, ◌<◌, true};
 ghost use Rattle.eevdf_ops.specs.Parts.{decider};
-ghost use Rattle.eevdf_ops.specs.Setup.{allows, cpus_of, homes_of};
+ghost use Rattle.eevdf_ops.specs.Setup.{cpus_of, homes_of};
+ghost use Rattle.eevdf_fleet.specs.Claims.{may_commit};
 ghost use Rattle.eevdf_fleet.specs.Fleets.{logged, setup_of, written};
 ghost use Rattle.eevdf_fleet.specs.TouchedQueues.{IsNoWake, IsOfOneQueue, IsOfTwoQueues};
 
@@ -31,7 +32,7 @@ impl<N: Names> Fleet<N> {
         requires one { IsOfOneQueue (homes_of (setup_of N.kit)) deed }
         requires no_wake { IsNoWake deed }
         requires own { decider deed ≡ seat.old.cpu }
-        requires allowed { allows (setup_of N.kit) deed ≡ true }
+        requires committable { may_commit (setup_of N.kit) deed ≡ true }
         requires room { 0 < seat.old.room }
         ensures { seat.new ≡ logged seat.old (record { deed = deed; answer = result }) }
     {
@@ -54,7 +55,7 @@ impl<N: Names> Fleet<N> {
         requires own { decider deed ≡ seat.old.cpu }
         requires apart { other ≢ seat.old.cpu }
         requires there { other < cpus_of (setup_of N.kit) }
-        requires allowed { allows (setup_of N.kit) deed ≡ true }
+        requires committable { may_commit (setup_of N.kit) deed ≡ true }
         requires room { 0 < seat.old.room }
         ensures { seat.new ≡ logged seat.old (record { deed = deed; answer = result }) }
     {
@@ -84,7 +85,7 @@ impl<N: Names> Fleet<N> {
         requires number { slot.old.number ≡ log.old.cpu }
         requires one { IsOfOneQueue (homes_of (setup_of N.kit)) deed }
         requires own { decider deed ≡ log.old.cpu }
-        requires allowed { allows (setup_of N.kit) deed ≡ true }
+        requires committable { may_commit (setup_of N.kit) deed ≡ true }
         requires room { 0 < log.old.room }
         ensures log { log.new ≡ written log.old (record { deed = deed; answer = result }) }
         ensures number { slot.new.number ≡ slot.old.number }
@@ -113,7 +114,7 @@ impl<N: Names> Fleet<N> {
         requires two { IsOfTwoQueues (homes_of (setup_of N.kit)) away.old.number deed }
         requires own { decider deed ≡ log.old.cpu }
         requires apart { away.old.number ≢ log.old.cpu }
-        requires allowed { allows (setup_of N.kit) deed ≡ true }
+        requires committable { may_commit (setup_of N.kit) deed ≡ true }
         requires room { 0 < log.old.room }
         ensures log { log.new ≡ written log.old (record { deed = deed; answer = result }) }
     {

@@ -28,9 +28,10 @@ impl<N: Names> Model for Seat<N> {
 
     ghost use Rattle.std.specs.Prelude.{◌≡◌};
     ghost use Rattle.eevdf_ops.specs.{Places.AreCpus, Setup.cpus_of, Setup.homes_of};
-    ghost use Rattle.eevdf_fleet.specs.Fleets.{AreParts, setup_of};
+    ghost use Rattle.eevdf_fleet.specs.Fleets.{AreParts, ArePostedHome, setup_of};
 
     ghost invariant = { λ s. AreParts (cpus_of (setup_of N.kit)) s.log s.producers s.consumers
+        × ArePostedHome (homes_of (setup_of N.kit)) s.producers.posted
         × (s.homes.items ≡ homes_of (setup_of N.kit))
         × AreCpus (cpus_of (setup_of N.kit)) (homes_of (setup_of N.kit)) };
 }

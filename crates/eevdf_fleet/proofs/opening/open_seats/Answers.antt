@@ -2,9 +2,10 @@ use Rattle.std.proofs.Common.{◌≡◌, ◌<◌, ℕ, length, map, reverse, vec
 use Rattle.std.specs.List.{range_with_len}
 use Rattle.std.proofs.{lemmas.List.map-id, lemmas.List.FromFn.length-map-range_with_len, lemmas.Option.MatchOption-at_none}
 use Rattle.std.proofs.lemmas.Slice.Zip.{AllZip-map}
-use Rattle.eevdf_ops.specs.Setup.{cpus_of}
+use Rattle.eevdf_ops.specs.Setup.{cpus_of, homes_of}
 use Rattle.eevdf_fleet.specs.Fleets.{fresh, fresh_log, setup_of}
 use Rattle.eevdf_fleet.specs.Rings.{no_posts, no_takes}
+use Rattle.eevdf_fleet.proofs.PostedHome.{none-posted-home}
 use Rattle.eevdf_fleet.proofs.Openings.{fresh-parts, fresh-seat, front-more, popped}
 use Rattle.eevdf_fleet.proofs.opening.open_seats.Goals as goal
 use Rattle.eevdf_fleet.proofs.opening.open_seats.Goals.{in_default-via-in-Some+in-Some+in_default, in_default-via-in-Some+in_default, in_default-via-in_default}
@@ -32,6 +33,7 @@ invariant_of-push g c =
     let same_posts : length c.pop-in-loop.new.self.items ≡ length c.pop.new.self.items = omega (arith, log.0, posts.0) in
     let same_takes : length c.pop-in-loop-2.new.self.items ≡ length c.pop.new.self.items = omega (arith, log.0, takes.0) in (
       fresh-parts c.args.quota cpus (length c.pop.new.self.items) _ _ _ log.2 (posts.2 ∙ ap (no_posts cpus) same_posts) (takes.2 ∙ ap (no_takes cpus) same_takes) (omega (arith, log.0, c.loop.invariant.rest)),
+      none-posted-home (homes_of (setup_of g.N.Names.kit)) cpus (length c.pop.new.self.items) _ (posts.2 ∙ ap (no_posts cpus) same_posts),
       AllZip-map (λ (n : ℕ). n) c.args.homes.now.items c.in_ok-homes-in-Some-Some-Some.homes.items c.in_ok-homes-in-Some-Some-Some.ensures.cases.0 ∙ map-id c.args.homes.now.items ∙ c.requires.homes,
       c.requires.homes_below,
     )

@@ -8,4 +8,5 @@ invariant_of-seat g c = (
   parts-written _ _ _ _ _ _ c.seat.invariant.0 (two-no-wake (homes_of (setup_of g.N.Names.kit)) c.args.other c.args.deed c.requires.two) c.done_on_two.ensures.log,
   c.seat.invariant.1,
   c.seat.invariant.2,
+  c.seat.invariant.3,
 )

@@ -1,4 +1,5 @@
 use Rattle.std.proofs.Common.{arith}
+use Rattle.eevdf_fleet.proofs.PostedHome.{same-posted-home}
 use Rattle.eevdf_fleet.proofs.SeatParts.{if_none, own-oldest, parts-taken, parts-width, seat-taken}
 use Rattle.eevdf_fleet.proofs.fleet.Fleet.drain_one.Goals as goal
 
@@ -12,8 +13,9 @@ returns-in_err-task-clause-none_own g c =
 pub invariant_of-seat-2 : goal.invariant_of-seat-2
 invariant_of-seat-2 g c = (
   parts-taken _ _ _ _ _ _ _ _ _ _ _ _ c.seat.invariant.0 c.index.ensures.number c.requires.sender c.take.ensures.producers c.in_ok-task.ensures.some c.done_on_one.ensures.log,
-  c.seat.invariant.1,
+  same-posted-home _ _ _ c.take.ensures.producers c.seat.invariant.1,
   c.seat.invariant.2,
+  c.seat.invariant.3,
 )
 
 pub returns-clause-some : goal.returns-clause-some

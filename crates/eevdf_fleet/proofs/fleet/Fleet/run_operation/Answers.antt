@@ -14,5 +14,5 @@ returns-in-Post g c =
     let after = c.post.new.self in
     let within = posts-a-task (homes_of s) (cpus_of s) before.cpu c.args.n c.in-Post.task c.args.op c.requires.sound c.in-Post.is in
     subst (λ (o : Op). HasOperated s o before after) (sym c.in-Post.is)
-    (post-done s before after c.in-Post.task (ap (λ (x : Seat). length x.posted) (sym c.seat.view_is) ∙ c.seat.invariant.0.posts.to_all) (c.seat.invariant.2 c.in-Post.task within)
+    (post-done s before after c.in-Post.task (ap (λ (x : Seat). length x.posted) (sym c.seat.view_is) ∙ c.seat.invariant.0.posts.to_all) (c.seat.invariant.3 c.in-Post.task within)
     (subst (λ r. OnOk r (after ≡ with_post before (home_of (homes_of s) c.in-Post.task) c.in-Post.task)) c.unwrap.ensures c.post.ensures.accepted))
