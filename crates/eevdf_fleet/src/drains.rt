@@ -9,6 +9,7 @@ ghost use Rattle.eevdf_fleet.specs.Fleets.{setup_of};
 
 use crate::fleet::{Fleet, SeatFull};
 use crate::gate::{Gate, OpenGate};
+use crate::held_locks::HeldLocks;
 use crate::names::Names;
 use crate::seat::Seat;
 use crate::slot::Slot;
@@ -42,7 +43,7 @@ impl<N: Names> Fleet<N> {
         if seat.room() < self.locks.len() {
             return Err(SeatFull);
         }
-        let mut guard = self.hold(rt, seat.cpu());
+        let mut guard = self.hold(rt, &mut HeldLocks::none(), seat.cpu());
         gate.inside(seat.cpu(), n);
         Ok(self.drain_all(rt, seat, &mut guard))
     }

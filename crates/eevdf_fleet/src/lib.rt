@@ -16,6 +16,7 @@ mod commit;
 mod drains;
 mod fleet;
 mod gate;
+mod held_locks;
 mod journal;
 mod kit;
 mod line_commits;

@@ -9,6 +9,7 @@ ghost use Rattle.eevdf_fleet.specs.TouchedQueues.{IsNoWake, IsOfOneQueue, IsOfTw
 
 use crate::fleet::Fleet;
 use crate::gate::Gate;
+use crate::held_locks::HeldLocks;
 use crate::names::Names;
 use crate::queue_work::{act, act_across};
 use crate::seat::Seat;
@@ -36,7 +37,7 @@ impl<N: Names> Fleet<N> {
         requires room { 0 < seat.old.room }
         ensures { seat.new ≡ logged seat.old (record { deed = deed; answer = result }) }
     {
-        let mut guard = self.hold(rt, seat.cpu());
+        let mut guard = self.hold(rt, &mut HeldLocks::none(), seat.cpu());
         gate.inside(seat.cpu(), n);
         self.done_on_one(rt, gate, n, &mut seat.log, &mut guard, deed)
     }
@@ -59,7 +60,8 @@ impl<N: Names> Fleet<N> {
         requires room { 0 < seat.old.room }
         ensures { seat.new ≡ logged seat.old (record { deed = deed; answer = result }) }
     {
-        let (mut guard, mut other_guard) = self.hold_both(rt, seat.cpu(), other);
+        let mut held = HeldLocks::none();
+        let (mut guard, mut other_guard) = self.hold_both(rt, &mut held, seat.cpu(), other);
         gate.inside(seat.cpu(), n);
         self.done_on_two(
             rt,
