@@ -22,6 +22,7 @@ pub mod SenderTurns
 pub mod SeatLists
 pub mod SeatParts
 pub mod PostedHome
+pub mod SeatTurns
 pub mod PostsTold
 pub mod AllowedLines
 pub mod Crossing

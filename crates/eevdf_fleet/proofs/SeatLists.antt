@@ -24,18 +24,20 @@ each-pushed P n xs ys x more count all here k d within =
           subst (P k) (sym (get_or_push xs x d k (omega (arith, last, count)))) (subst (λ (j : ℕ). P j x) (sym last) here)
     ])
 
--- a number of each element of a list that goes up by one, at the first and at the others
-pub first-number : {X : Type 0} (f : X → ℕ) (m n : ℕ) (xs rest : List X) (x : X) → xs ≡ x ∷ rest → 0 < m
-    → ((k : ℕ) (d : X) → k < m → f (get_or xs k d) ≡ n + k) → f x ≡ n
-first-number f m n xs rest x parted some all =
-    let first : f (get_or xs 0 x) ≡ n + 0 = all 0 x some in
-    ap (λ (ys : List _). f (get_or ys 0 x)) (sym parted) ∙ first ∙ (omega arith)
+-- what holds of the elements of a list, each with its number, of the first and of the others
+pub first-holds : {X : Type 0} (P : ℕ → X → Type 0) (m n : ℕ) (xs rest : List X) (x : X) → xs ≡ x ∷ rest → 0 < m
+    → ((k : ℕ) (d : X) → k < m → P (n + k) (get_or xs k d)) → P n x
+first-holds P m n xs rest x parted some all =
+    let first : P (n + 0) x = subst (λ (ys : List _). P (n + 0) (get_or ys 0 x)) parted (all 0 x some) in
+    let same : n + 0 ≡ n = omega arith in
+    subst (λ (j : ℕ). P j x) same first
 
-pub other-numbers : {X : Type 0} (f : X → ℕ) (m n : ℕ) (xs rest : List X) (x : X) → xs ≡ x ∷ rest
-    → ((k : ℕ) (d : X) → k < m → f (get_or xs k d) ≡ n + k) → (k : ℕ) (d : X) → k + 1 < m → f (get_or rest k d) ≡ n + 1 + k
-other-numbers f m n xs rest x parted all k d within =
-    let next : f (get_or xs (suc k) d) ≡ n + suc k = all (suc k) d (omega arith) in
-    ap (λ (ys : List _). f (get_or ys (suc k) d)) (sym parted) ∙ next ∙ (omega arith)
+pub others-hold : {X : Type 0} (P : ℕ → X → Type 0) (m n : ℕ) (xs rest : List X) (x : X) → xs ≡ x ∷ rest
+    → ((k : ℕ) (d : X) → k < m → P (n + k) (get_or xs k d)) → (k : ℕ) (d : X) → k + 1 < m → P (n + 1 + k) (get_or rest k d)
+others-hold P m n xs rest x parted all k d within =
+    let next : P (n + suc k) (get_or rest k d) = subst (λ (ys : List _). P (n + suc k) (get_or ys (suc k) d)) parted (all (suc k) d (omega arith)) in
+    let same : n + suc k ≡ n + 1 + k = omega arith in
+    subst (λ (j : ℕ). P j (get_or rest k d)) same next
 
 -- seats with which a work was done are those of all CPUs, in order
 pub done-seats : (cpus : ℕ) (IsDone : Seat → Type 0) (seats : List Seat) → AreDone cpus IsDone seats → AreSeats cpus seats

@@ -5,6 +5,7 @@ pub mod Fleets
 pub mod Drains
 pub mod ProgramRuns
 pub mod SeatWorks
+pub mod Turns
 pub mod TouchedQueues
 pub mod RingEnds
 pub mod ReturnedEnds

@@ -92,7 +92,7 @@ impl<'a, G: Gate> SeatWork for Programs<'a, G> {
         × (kit.terms.quota ≡ quota_for p.setup.now)
         × (kit.rings.capacity ≡ rings_for p.setup.now) };
 
-    ghost is_done = { λ kit seat.
+    ghost is_done = { λ _ kit seat.
         HasRun (setup_of kit) seat.cpu (program_of (setup_of kit) seat.cpu) seat };
 
     fn work<N: Names, R: Wait>(&self, rt: &R, fleet: &Fleet<N>, seat: Seat<N>) -> Seat<N> {

@@ -12,6 +12,7 @@ use crate::seat_work::SeatWork;
 use eevdf_ops::CpuId;
 use std::alloc::Global;
 use std::marker::PhantomData;
+use std::snapshot::Snapshot;
 use std::sync::Wait;
 use std::thread;
 use std::thread::{Promise, Scope, Threads};
@@ -27,7 +28,7 @@ pub(crate) fn run_seats<'a, N: Names + Send + Sync, R: Threads + Wait + Sync, W:
     requires serves { W.serves work.now N.kit }
     requires fresh { seats.items ≡ fresh_seats N.kit.terms.quota (cpus_of (setup_of N.kit)) }
     ensures { IfOk result (λ done.
-        AreDone (cpus_of (setup_of N.kit)) (W.is_done N.kit) done.items) }
+        AreDone (cpus_of (setup_of N.kit)) (W.is_done work.now N.kit) done.items) }
 {
     thread::scope(
         thread::scope_env(),
@@ -37,7 +38,7 @@ pub(crate) fn run_seats<'a, N: Names + Send + Sync, R: Threads + Wait + Sync, W:
             requires fresh { seats.items
                 ≡ fresh_seats N.kit.terms.quota (cpus_of (setup_of N.kit)) }
             ensures { IfOk result (λ done.
-                AreDone (cpus_of (setup_of N.kit)) (W.is_done N.kit) done.items) }
+                AreDone (cpus_of (setup_of N.kit)) (W.is_done work.entry.now N.kit) done.items) }
         { run_in_threads(scope, rt, alloc, fleet, seats, work) },
     )
 }
@@ -54,15 +55,15 @@ fn run_in_threads<'s, E, N: Names + Send + Sync, R: Threads + Wait + Sync, W: Se
     requires serves { W.serves work.now N.kit }
     requires fresh { seats.items ≡ fresh_seats N.kit.terms.quota (cpus_of (setup_of N.kit)) }
     ensures { IfOk result (λ done.
-        AreDone (cpus_of (setup_of N.kit)) (W.is_done N.kit) done.items) }
+        AreDone (cpus_of (setup_of N.kit)) (W.is_done work.now N.kit) done.items) }
 {
     let mut threads = Vec::with_capacity(alloc, seats.len())?;
     let mut done = Vec::with_capacity(alloc, seats.len())?;
     for seat in seats {
         let promise = WorkDone::<N, W> {
             cpu: seat.cpu(),
+            work: Snapshot::of(work),
             names: PhantomData,
-            work: PhantomData,
         };
         let run = move || work.work(rt, fleet, seat);
         let Ok(thread) = scope.spawn_with(promise, run) else {
@@ -80,10 +81,10 @@ fn run_in_threads<'s, E, N: Names + Send + Sync, R: Threads + Wait + Sync, W: Se
 #[derive(Drop)]
 struct WorkDone<N: Names, W: SeatWork> {
     cpu: CpuId,
+    work: Snapshot<W>,
     names: PhantomData<N>,
-    work: PhantomData<W>,
 }
 
 impl<N: Names, W: SeatWork> Promise<Seat<N>> for WorkDone<N, W> {
-    ghost kept_by = { λ p seat. (seat.cpu ≡ p.cpu) × W.is_done N.kit seat };
+    ghost kept_by = { λ p seat. (seat.cpu ≡ p.cpu) × W.is_done p.work.value N.kit seat };
 }

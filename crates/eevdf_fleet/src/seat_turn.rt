@@ -1,4 +1,6 @@
-ghost use Rattle.std.specs.Prelude.{◌≡◌};
+ghost use Rattle.std.specs.Prelude.{◌≡◌, ℕ, Bool, is_some};
+ghost use Rattle.std.specs.ControlFlow.{break_value};
+ghost use Rattle.eevdf_fleet.specs.Fleets.{Kit, Seat};
 
 use crate::fleet::Fleet;
 use crate::names::Names;
@@ -9,6 +11,10 @@ use std::sync::Wait;
 /// What each thread of `run_turns` does with the seat of its CPU, one turn after the other. The threads share the value, and each
 /// finds by its seat which CPU it has, what was answered before, and how much room is left.
 pub trait SeatTurn {
+    /// What a turn comes to: of a fleet from this kit, the turn of this number takes the first seat to the second, and is
+    /// `Break` or not. `run_turns` says that each turn that was done is so. Where nothing is given, it says nothing of a turn.
+    ghost turn_gives: { Self → Kit → ℕ → Seat → Seat → Bool → Type 0 } = { λ _ _ _ _ _ _. Unit {0} };
+
     /// Does the turn of this number, from 0 on: any operations of the seat. `Break` ends the thread, so that its CPU has no
     /// further turn, and `Continue` goes on where a turn is left. The seat stays that of its CPU.
     fn turn<N: Names, R: Wait>(
@@ -18,5 +24,7 @@ pub trait SeatTurn {
         seat: &mut Seat<N>,
         turn: usize,
     ) -> ControlFlow<()>
-        ensures { seat.new.cpu ≡ seat.old.cpu };
+        ensures cpu { seat.new.cpu ≡ seat.old.cpu }
+        ensures gives { turn_gives self.now N.kit turn seat.old seat.new
+            (is_some (break_value result)) };
 }

@@ -13,12 +13,12 @@ pub(crate) trait SeatWork {
     ghost serves: { Self → Kit → Type 0 };
 
     /// What holds of a seat, of a fleet from this kit, when the work is done.
-    ghost is_done: { Kit → Seat → Type 0 };
+    ghost is_done: { Self → Kit → Seat → Type 0 };
 
     /// Does the work, on a seat with which nothing was done, and gives the seat back.
     fn work<N: Names, R: Wait>(&self, rt: &R, fleet: &Fleet<N>, seat: Seat<N>) -> Seat<N>
         requires kit { serves self.now N.kit }
         requires fresh { seat ≡ fresh N.kit.terms.quota (cpus_of (setup_of N.kit)) seat.cpu }
         ensures cpu { result.cpu ≡ seat.cpu }
-        ensures done { is_done N.kit result };
+        ensures done { is_done self.now N.kit result };
 }

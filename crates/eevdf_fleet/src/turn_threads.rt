@@ -1,11 +1,12 @@
 //! How a work of the caller's own is done with the seats of a fleet, each by a thread of its own.
 
-ghost use Rattle.std.specs.Prelude.{◌≡◌, ◌*◌, IfOk, length, true};
+ghost use Rattle.std.specs.Prelude.{◌≡◌, ◌*◌, ◌<◌, ℕ, IfOk, length, true};
 ghost use Rattle.std.specs.List.{list_all};
 ghost use Rattle.eevdf_ops.specs.{Histories.IsOneThread, Machine.start, Outcome.machine_of};
 ghost use Rattle.eevdf_ops.specs.{Places.IsPlaced, Programs.deeds_of};
 ghost use Rattle.eevdf_ops.specs.Setup.{allows, cpus_of, homes_of};
-ghost use Rattle.eevdf_fleet.specs.Fleets.{setup_of};
+ghost use Rattle.eevdf_fleet.specs.Fleets.{fresh, quota_of, setup_of};
+ghost use Rattle.eevdf_fleet.specs.Turns.{HasItsTurns, HasTurned};
 
 use crate::fleet::{Closed, Fleet};
 use crate::kit::Kit;
@@ -40,6 +41,8 @@ pub fn run_turns<R: Threads + Wait + Sync, T: SeatTurn + Sync>(
     ensures allowed { IfOk result (λ o.
         list_all (allows (setup_of kit)) (deeds_of o.lines) ≡ true) }
     ensures places { IfOk result (λ o. IsPlaced (homes_of (setup_of kit)) (machine_of o.queues)) }
+    ensures turns { IfOk result (λ o. (cpu : ℕ) → cpu < cpus_of (setup_of kit)
+        → HasItsTurns (T.turn_gives each.now kit) kit turns cpu o) }
     ensures left { IfOk result (λ o. length o.left
         ≡ cpus_of (setup_of kit) * cpus_of (setup_of kit)) }
 {
@@ -59,6 +62,8 @@ fn run_on_fleet<N: Names + Send + Sync, R: Threads + Wait + Sync, T: SeatTurn + 
     ensures allowed { IfOk result (λ o.
         list_all (allows (setup_of kit)) (deeds_of o.lines) ≡ true) }
     ensures places { IfOk result (λ o. IsPlaced (homes_of (setup_of kit)) (machine_of o.queues)) }
+    ensures turns { IfOk result (λ o. (cpu : ℕ) → cpu < cpus_of (setup_of kit)
+        → HasItsTurns (T.turn_gives turns.now.each.now kit) kit turns.now.turns cpu o) }
     ensures left { IfOk result (λ o. length o.left
         ≡ cpus_of (setup_of kit) * cpus_of (setup_of kit)) }
 {
@@ -77,7 +82,8 @@ struct Turns<'a, T> {
 impl<'a, T: SeatTurn> SeatWork for Turns<'a, T> {
     ghost serves = { λ _ _. Unit {0} };
 
-    ghost is_done = { λ _ _. Unit {0} };
+    ghost is_done = { λ work kit seat. HasTurned (T.turn_gives work.each.now kit) 0 work.turns
+        (fresh (quota_of kit) (cpus_of (setup_of kit)) seat.cpu) seat };
 
     fn work<N: Names, R: Wait>(&self, rt: &R, fleet: &Fleet<N>, mut seat: Seat<N>) -> Seat<N> {
         for turn in 0..self.turns {
