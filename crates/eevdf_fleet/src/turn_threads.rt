@@ -27,6 +27,10 @@ use std::thread::Threads;
 /// Whatever the turns do and in whatever order the threads come, the outcome is that of one thread that does the deeds of its
 /// lines one after the other, each at once: the same answers, the same queues.
 ///
+/// Each CPU has had the turns 0, 1, 2 and so on, on a seat that was fresh before the first: `turns` of them, or those up to the
+/// first `Break`. Each was as `SeatTurn::turn_gives` says of a turn of its number. The CPU's lines in the outcome, and the
+/// requests that it posted, are those of the seat after its last turn.
+///
 /// `Memory` where it is out of memory, and `Start` where a thread was; there is no outcome then, and the threads
 /// that had started have ended.
 pub fn run_turns<R: Threads + Wait + Sync, T: SeatTurn + Sync>(

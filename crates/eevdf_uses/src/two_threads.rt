@@ -1,5 +1,9 @@
 //! Two CPUs, each operated by a thread of its own. One puts a task to sleep again and again, and the other asks to wake it.
 
+ghost use Rattle.std.specs.Prelude.{◌≡◌, not};
+ghost use Rattle.eevdf_ops.specs.Setup.{homes_of, is_task};
+ghost use Rattle.eevdf_fleet.specs.Fleets.{setup_of};
+
 use eevdf_fleet::{Closed, Fleet, Kit, Names, RunFault, Seat, SeatTurn, run_turns};
 use eevdf_ops::Setup;
 use eevdf_queue::TaskId;
@@ -17,6 +21,10 @@ pub struct SleepAndWake {
 }
 
 impl SeatTurn for SleepAndWake {
+    // A turn breaks where the setup doesn't have the sleeper, and nowhere else.
+    ghost turn_gives = { λ it kit _ _ _ breaks.
+        breaks ≡ not (is_task (homes_of (setup_of kit)) it.sleeper) };
+
     fn turn<N: Names, R: Wait>(
         &self,
         rt: &R,
