@@ -11,12 +11,14 @@ use std::sync::Wait;
 /// What each thread of `run_turns` does with the seat of its CPU, one turn after the other. The threads share the value, and each
 /// finds by its seat which CPU it has, what was answered before, and how much room is left.
 pub trait SeatTurn {
-    /// What a turn comes to: of a fleet from this kit, the turn of this number takes the first seat to the second, and is
-    /// `Break` or not. `run_turns` says that each turn that was done is so. Where nothing is given, it says nothing of a turn.
+    /// What holds of a turn, by the kit that the fleet was opened from, the number of the turn, the seat before it, the seat after
+    /// it, and whether it is `Break`. `run_turns` says it of each turn that was done. An impl that leaves it out says nothing of
+    /// its turns.
     ghost turn_gives: { Self → Kit → ℕ → Seat → Seat → Bool → Type 0 } = { λ _ _ _ _ _ _. Unit {0} };
 
     /// Does the turn of this number, from 0 on: any operations of the seat. `Break` ends the thread, so that its CPU has no
-    /// further turn, and `Continue` goes on where a turn is left. The seat stays that of its CPU.
+    /// further turn, and `Continue` goes on where a turn is left. The seat stays that of its CPU, and the turn is as `turn_gives`
+    /// says.
     fn turn<N: Names, R: Wait>(
         &self,
         rt: &R,
