@@ -8,7 +8,7 @@ use std::alloc::Global;
 use std::process::Abort;
 use std::test::Fail;
 
-/// Compares the line and the status of a fault.
+/// Compares the line and the status of a fault, and the text that its `Display` has with the line.
 fn check(
     rt: &impl Abort,
     alloc: Global,
@@ -18,6 +18,8 @@ fn check(
 ) -> Result<(), Fail> {
     let text = fault_text(alloc, &fault)?;
     assert!(rt; text.as_slice() == line.as_bytes(), "{line}");
+    let shown = format!(in alloc; "fault: {fault}\n")?;
+    assert!(rt; shown.as_str() == line, "{line}");
     assert!(rt; status_of(&fault) == status, "{line}");
     Ok(())
 }

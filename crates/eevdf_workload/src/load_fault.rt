@@ -1,11 +1,11 @@
 ghost use Rattle.std.specs.Prelude.{Some};
-ghost use Rattle.eevdf_workload.specs.FaultTexts.{key_text, load_fault_text};
+ghost use Rattle.eevdf_workload.specs.FaultTexts.{key_text};
 
 use crate::workload::Workload;
 use eevdf_ops::SetupFault;
 use std::alloc::{AllocError, AllocFailed};
-use std::error::Error;
 use std::fmt;
+use thiserror::Error;
 
 /// A place in a workload. Counts begin at 0.
 #[derive(Clone, Copy, PartialEq, Eq, Debug)]
@@ -64,41 +64,27 @@ impl fmt::Display for Key {
 }
 
 /// Why a workload is refused.
-#[derive(Clone, Copy, PartialEq, Eq, Debug)]
+#[derive(Clone, Copy, PartialEq, Eq, Debug, Error)]
 pub enum LoadFault {
     /// It has more than 16777216 bytes.
+    #[error("workload longer than {} bytes", Workload::MOST_BYTES)]
     TooLarge,
     /// It isn't UTF-8, or not a TOML document.
+    #[error("not a TOML document")]
     NotToml,
     /// A key that must be there isn't.
+    #[error("missing {key}")]
     Missing { key: Key },
     /// A value is of the wrong kind or out of its bounds.
+    #[error("bad value at {key}")]
     BadValue { key: Key },
     /// The setup that it describes is refused.
+    #[error(transparent)]
     Setup(SetupFault),
     /// Out of memory.
+    #[error("memory")]
     Memory,
 }
-
-/// What is wrong, and where, as `bad value at task 3 home`.
-impl fmt::Display for LoadFault {
-    ghost output = { λ fault. Some (load_fault_text fault) };
-
-    fn fmt<W: fmt::Write>(&self, f: &mut fmt::Formatter<W>) -> fmt::Result {
-        match self {
-            LoadFault::TooLarge => {
-                write!(f, "workload longer than {} bytes", Workload::MOST_BYTES)
-            }
-            LoadFault::NotToml => f.write_str("not a TOML document"),
-            LoadFault::Missing { key } => write!(f, "missing {key}"),
-            LoadFault::BadValue { key } => write!(f, "bad value at {key}"),
-            LoadFault::Setup(fault) => write!(f, "{fault}"),
-            LoadFault::Memory => f.write_str("memory"),
-        }
-    }
-}
-
-impl Error for LoadFault {}
 
 impl From<AllocError> for LoadFault {
     ghost use Rattle.std.specs.Prelude.{◌≡◌};
