@@ -1,26 +1,19 @@
 -- The lines of a closed fleet are allowed: each wake was asked for by a request, which was posted to the home of its task.
-use Rattle.std.proofs.Common.{◌≡◌, ℕ, ◌<◌, Bool, true, false, cond, ◌&&◌, List, [], ◌∷◌, refl, sym, ap, ◌∙◌, eq-eqb, arith}
-use Rattle.std.specs.{Prelude.◌==◌, Prelude.nat_lt, Prelude.All, List.list_all}
-use Rattle.std.proofs.{lemmas.Bool.and_parts, lemmas.Bool.Decides.nat_tests, lemmas.List.Folds.list_all-append}
+use Rattle.std.proofs.Common.{◌≡◌, ℕ, ◌<◌, Bool, true, false, cond, List, [], ◌∷◌, refl, sym, ap, ◌∙◌, eq-eqb, arith}
+use Rattle.std.specs.{Prelude.◌==◌, Prelude.All, List.list_all}
+use Rattle.std.proofs.{lemmas.Bool.and_from, lemmas.Bool.and_parts, lemmas.List.Folds.list_all-append}
 use Rattle.eevdf_ops.specs.{declared.deeds.Deed.Deed, declared.deeds.Line.Line, Parts.decider}
 use Rattle.eevdf_ops.specs.declared.deeds.Deed.TheVariants.{Tick, Pick, Yield, Sleep, Wake, Pull, Renice}
 use Rattle.eevdf_ops.specs.Programs.{deeds_of, lines_by, wake_from, wakes_from}
 use Rattle.eevdf_ops.specs.Setup.{is_allowed, is_at_home}
 use Rattle.eevdf_fleet.specs.{Claims.is_committable, Rings.left_of}
 use Rattle.eevdf_fleet.specs.Fleets.{AllPostsTold, ArePostedHome, AreSeats, Seat, posted_to}
-use Rattle.eevdf_fleet.proofs.{PostsTold.all-at, RingPlaces.got_some, Takes.wake-own}
+use Rattle.eevdf_fleet.proofs.{PostsTold.all-at, RingPlaces.got_some, Rooms.below, Takes.wake-own}
 
 abbrev at_home : List ℕ → ℕ → ℕ → Bool
 at_home hs home task = is_at_home hs task home
 
-below : (a b : ℕ) → nat_lt a b ≡ true → a < b
-below a b h = grind (arith, nat_tests)
-
-both : (a b : Bool) → a ≡ true → b ≡ true → (a && b) ≡ true
-both true b e f = f
-both false b e f = e
-
--- what one line more tells of a sender's requests
+-- what was asked for by one line more, and by the others
 front : (p : ℕ → Bool) (sender : ℕ) (l : Line) (lines : List Line) (b : Bool) → b ≡ true → list_all p (wakes_from sender (cond b (l ∷ lines) lines)) ≡ true → list_all p (wake_from sender l.deed) ≡ true
 front p sender l lines true e h = (and_parts _ _ (sym (list_all-append p (wake_from sender l.deed) (wakes_from sender lines)) ∙ h)).0
 front p sender l lines false e h = cc
@@ -40,7 +33,7 @@ deed-allowed cpus hs (Wake cpu task sender) ok home =
     let names = and_parts _ _ ok in
     let asked : list_all (at_home hs cpu) (task ∷ []) ≡ true
     = ap (λ (ts : List ℕ). list_all (at_home hs cpu) ts) (sym (wake-own cpu task sender sender refl)) ∙ home sender (below sender cpus names.1) (below cpu cpus names.0) in
-    both _ _ ok (and_parts (at_home hs cpu task) _ asked).0
+    and_from _ _ ok (and_parts (at_home hs cpu task) _ asked).0
 deed-allowed cpus hs (Pull cpu source) ok home = ok
 deed-allowed cpus hs (Renice cpu task nice) ok home = ok
 
@@ -50,7 +43,7 @@ all-allowed : (cpus : ℕ) (hs : List ℕ) (lines : List Line) → list_all (is_
 all-allowed cpus hs [] ok home = refl
 all-allowed cpus hs (l ∷ lines) ok home =
     let parts = and_parts (is_committable cpus hs l.deed) _ ok in
-    both _ _
+    and_from _ _
     (deed-allowed cpus hs l.deed parts.0
     (λ sender from to. front (at_home hs (decider l.deed)) sender l (lines_by (decider l.deed) lines) (decider l.deed == decider l.deed) (eq-eqb (decider l.deed) (decider l.deed) refl) (home sender (decider l.deed) from to)))
     (all-allowed cpus hs lines parts.1

@@ -1,13 +1,12 @@
 -- Deeds that a fleet may commit: which they are, and that each keeps every task in one place.
 use Rattle.std.proofs.Common.{◌≡◌, ℕ, ◌<◌, ◌≤◌, true, List, length, arith}
-use Rattle.std.specs.Prelude.{nat_lt}
-use Rattle.std.proofs.{lemmas.Bool.and_parts, lemmas.Bool.Decides.nat_tests}
+use Rattle.std.proofs.lemmas.Bool.{and_parts}
 use Rattle.eevdf_ops.specs.{declared.deeds.Deed.Deed, Machine.Machine, Machine.queue_at, Whole.whole}
 use Rattle.eevdf_ops.specs.declared.deeds.Deed.TheVariants.{Tick, Pick, Yield, Sleep, Wake, Pull, Renice}
 use Rattle.eevdf_ops.specs.{Places.places_in, Places.IsPlaced, Setup.is_allowed, Setup.is_task}
 use Rattle.eevdf_ops.proofs.{MachinePlaces.places-at, MachinePlaces.same-placed, QueuePlaces.wake-same, WholePlaces.whole-placed}
 use Rattle.eevdf_fleet.specs.Claims.{Suits, is_committable}
-use Rattle.eevdf_fleet.proofs.Placed.{at-most}
+use Rattle.eevdf_fleet.proofs.{Placed.at-most, Rooms.below}
 
 -- each deed that is allowed is one
 pub allowed-committable : (cpus : ℕ) (hs : List ℕ) (d : Deed) → is_allowed cpus hs d ≡ true → is_committable cpus hs d ≡ true
@@ -25,9 +24,6 @@ few-places homes m cpu task h placed = omega (arith, places-at m cpu task h, pla
 -- a wake moves nobody to another queue, wherever the task has its home
 wake-placed : (homes : List ℕ) (m : Machine) (cpu task sender : ℕ) → cpu < length m → IsPlaced homes m → IsPlaced homes (whole homes (Wake cpu task sender) m).1
 wake-placed homes m cpu task sender h placed = same-placed homes m cpu _ h (wake-same (queue_at m cpu) task (few-places homes m cpu task h placed)) placed
-
-below : (a b : ℕ) → nat_lt a b ≡ true → a < b
-below a b h = grind (arith, nat_tests)
 
 pub committed-placed : (homes : List ℕ) (deed : Deed) (m : Machine) → Suits homes deed m → IsPlaced homes m → IsPlaced homes (whole homes deed m).1
 committed-placed homes (Tick cpu ns) m suits placed = whole-placed homes (Tick cpu ns) m suits.committable suits.cpus placed
