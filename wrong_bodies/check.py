@@ -44,9 +44,11 @@ CRATES = read_crates()
 # What a check says.
 
 FUNCTION = re.compile(r"^(?:so far: )?fn (\S+): (.*)$", re.MULTILINE)
-PROOF_ERROR = re.compile(r"^(?:\./)?proofs/(\S+)/[^/]+\.antt:\d+:\d+: error: (.*)$", re.MULTILINE)
-# What the error of a proof file says where the file only names what isn't there or isn't proved.
-NAMES_ALONE = re.compile(r"has no field|is not in scope|has no `|was not admitted|\(nearest: ")
+# An error of a proof file, with its further lines, which are indented.
+PROOF_ERROR = re.compile(r"^(?:\./)?proofs/(\S+)/[^/]+\.antt:\d+:\d+: error: (.*(?:\n  .*)*)", re.MULTILINE)
+# What it says where the file only names what isn't there or isn't proved. What is printed of a term may have names that can't be
+# written there; that is no such case.
+NAMES_ALONE = re.compile(r"has no field|has no `|was not admitted|\(nearest: |is not in scope(?! here, so what is shown)")
 # What is said of a function whose code the prover has no rules for: it is neither proved nor refused.
 NOT_COVERED = re.compile(r"does not cover|not covered")
 FIRST_ERROR = re.compile(r"^.*: error\b.*$", re.MULTILINE)
