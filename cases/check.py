@@ -111,6 +111,13 @@ def check_beginnings(checks, path):
         checks.compare(name, words_of(workload), begun, refusal("order short at 0"))
 
 
+def check_shortest(checks):
+    """The least inputs, of nothing and of one byte, which have no first line for a command."""
+    for kind in ("solo", "replay", "run"):
+        checks.compare(f"no byte for {kind}", (kind,), b"", refusal("missing version"))
+        checks.compare(f"the byte 255 for {kind}", (kind,), b"\xff", refusal("not a TOML document"))
+
+
 def check_deeds(checks):
     """A script of a deed that the version has comes to a report, and one of another is refused for its first member."""
     for versions, deeds in made.DEEDS.items():
@@ -181,6 +188,7 @@ def main():
         if not words or any(word in str(path.relative_to(TOP)) for word in words):
             check_pair(checks, path)
     if not words:
+        check_shortest(checks)
         for path in DAMAGED:
             check_damaged(checks, path)
         for path in ORDERED:
