@@ -1,6 +1,6 @@
 //! CPUs, tasks and times for tests, by their numbers, and tasks on their way into a queue.
 
-use eevdf_ops::{CpuId, Deed};
+use eevdf_ops::{CpuId, Deed, Setup, TaskSpec};
 use eevdf_queue::{Parcel, Queue, TaskId};
 use eevdf_weight::{Nice, Ns, Slice};
 use std::alloc::Global;
@@ -65,4 +65,26 @@ pub fn put_asleep(rt: &impl Abort, queue: &mut Queue, parcel: Parcel) {
     let task = parcel.task();
     assert!(rt; !queue.contains(task));
     queue.put_asleep(parcel);
+}
+
+/// A setup of so many CPUs without programs. On each is a task of nice level 0, which has the CPU's number.
+pub fn one_task_each(alloc: Global, cpus: usize) -> Result<Setup, Fail> {
+    let mut tasks = Vec::new(alloc);
+    let mut programs = Vec::new(alloc);
+    for number in 0..cpus {
+        tasks.push(task_at(cpu(number as u64)?)?)?;
+        programs.push(Vec::new(alloc))?;
+    }
+    Ok(Setup::make(alloc, &tasks, &programs)?)
+}
+
+/// A task of nice level 0 that begins runnable at its home.
+fn task_at(home: CpuId) -> Result<TaskSpec, Fail> {
+    Ok(TaskSpec {
+        home,
+        nice: nice(0)?,
+        slice: slice(3_000_000)?,
+        start: 0,
+        asleep: false,
+    })
 }

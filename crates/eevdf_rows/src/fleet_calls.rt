@@ -3,7 +3,7 @@
 
 mod cases;
 mod limits;
-mod seat_call;
+pub mod seat_call;
 mod two_threads;
 
 ghost use Rattle.std.specs.Prelude.{◌≡◌, IfSome};
@@ -56,7 +56,16 @@ fn outcome_of<N: Names, R: Wait>(
     requires { kit ≡ N.kit }
 {
     let (fleet, mut seats) = Fleet::<N>::open(alloc, kit).ok()?;
-    if make_calls(rt, &fleet, &mut seats, calls) && fleet.has_all_seats(&seats) {
+    if make_calls(rt, &fleet, &mut seats, calls) {
+        closed(fleet, seats)
+    } else {
+        None
+    }
+}
+
+/// Closes a fleet, where these are its seats. It has no handle `Wait`, so it compiles only as long as `close` doesn't wait.
+fn closed<N: Names>(fleet: Fleet<N>, seats: Vec<Seat<N>>) -> Option<Outcome> {
+    if fleet.has_all_seats(&seats) {
         Some(fleet.close(seats))
     } else {
         None
@@ -64,7 +73,7 @@ fn outcome_of<N: Names, R: Wait>(
 }
 
 /// A kit, where the quota and the rings are such as a kit may have.
-fn kit_of(alloc: Global, setup: &Setup, quota: usize, rings: usize) -> Option<Kit>
+pub fn kit_of(alloc: Global, setup: &Setup, quota: usize, rings: usize) -> Option<Kit>
     ensures { IfSome result (λ kit. setup_of kit ≡ setup.now) }
 {
     if quota <= 1_000_000 && rings <= 1_000_000 {

@@ -1,6 +1,7 @@
 //! Programs that are run at the same time, each by a thread of its own. Gates hold the threads at chosen operations, and
 //! give up after a bounded number of turns, so that each test ends by itself.
 
+mod every_cpu;
 mod gate_call;
 mod gate_calls;
 mod held_calls;

@@ -88,3 +88,19 @@ fn a_drain_takes_a_request_of_each_of_sixty_four_seats(rt: HostRuntime) {
         assert!(rt; outcome.is_some(), "{quota}");
     }
 }
+
+/// A drain of sixty-four CPUs needs room for sixty-four lines, also where nothing was posted.
+#[test]
+fn a_drain_that_takes_nothing_needs_its_room(rt: HostRuntime) {
+    let nothing = Done::Drained { taken: 0, woken: 0 };
+    for cpu in [0, 63] {
+        let calls = [
+            (cpu, Call::Drain, nothing),
+            (cpu, Call::Pick, Done::Line),
+            (cpu, Call::Drain, Done::SeatFull),
+        ];
+        let outcome = outcome_of_calls(&rt, rt.alloc(), SIXTY_FOUR_CPUS, 64, 1, &calls);
+        let lines = outcome.map(|outcome| outcome.history().len());
+        assert!(rt; lines == Some(1), "CPU {cpu}");
+    }
+}

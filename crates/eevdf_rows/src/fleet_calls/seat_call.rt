@@ -39,7 +39,9 @@ pub fn call_on<N: Names, R: Wait>(
     fleet: &Fleet<N>,
     seat: &mut Seat<N>,
     call: Call,
-) -> Option<Done> {
+) -> Option<Done>
+    ensures { seat.new.cpu ≡ seat.old.cpu }
+{
     Some(match call {
         Call::Tick(ns) => line(fleet.tick(rt, seat, Ns::new(ns)?)),
         Call::Pick => line(fleet.pick(rt, seat)),
@@ -56,15 +58,23 @@ pub fn call_on<N: Names, R: Wait>(
             }
             line(fleet.pull(rt, seat, source))
         }
-        Call::Post(task) => match seat.post(known_task(fleet, task)?) {
-            Ok(()) => Done::Posted,
-            Err(RingFull { task: _ }) => Done::RingFull,
-        },
+        Call::Post(task) => posted(seat, known_task(fleet, task)?),
         Call::Drain => match fleet.drain(rt, seat) {
             Ok(Drained { taken, woken }) => Done::Drained { taken, woken },
             Err(SeatFull) => Done::SeatFull,
         },
     })
+}
+
+/// Posts a request. It has no handle `Wait`, so it compiles only as long as a post doesn't wait.
+fn posted<N: Names>(seat: &mut Seat<N>, task: TaskId) -> Done
+    requires { is_task (homes_of (setup_of N.kit)) task ≡ true }
+    ensures { seat.new.cpu ≡ seat.old.cpu }
+{
+    match seat.post(task) {
+        Ok(()) => Done::Posted,
+        Err(RingFull { task: _ }) => Done::RingFull,
+    }
 }
 
 /// A task of the setup by its number.

@@ -1,77 +1,108 @@
-//! Operations of two CPUs that go on beside one another: each case holds operations until others have come to a place,
-//! which they can't reach where a lock is held for too long.
+//! Operations of several CPUs that go on beside one another: each case holds operations until others have come to a place, which
+//! they can't reach where a lock is held for too long, or which they come to too late where the gate is called at another moment.
 
-use super::gate_call::{GateCall, Moment};
+use super::gate_call::GateCall;
 use super::holding_gate::HoldingGate;
 use eevdf_bench::{read_workload, report};
 use eevdf_fleet::run_all;
 use std::test::Fail;
 
+/// Programs, the calls that are held, each until the call beside it is made, and the report of the run.
+#[derive(Clone, Copy)]
+struct Case {
+    name: &'static str,
+    workload: &'static [u8],
+    holds: [(GateCall, GateCall); 2],
+    has_history: bool,
+    report: &'static str,
+}
+
 /// Two CPUs, each with a task of its own that it picks.
 const TWO_PICKS: &[u8] =
     b"version = 1\nprogram = [[\"pick\"], [\"pick\"]]\n[[task]]\n[[task]]\nhome = 1\n";
 
-const TWO_PICKED: &str =
-    "cpu 0\npick: picked 0\nload 1024 floor 0\ntask 0 v 0 d 3000000 lag 0 running\ncpu 1\npick: picked 1\nload 1024 floor 0\ntask 1 v 0 d 3000000 lag 0 running\n";
-
-/// The same, and the second CPU posts a wake to the first one.
-const A_POST_AFTER_A_PICK: &[u8] =
-    b"version = 1\nprogram = [[\"pick\"], [\"pick\", \"post 0\"]]\n[[task]]\n[[task]]\nhome = 1\n";
-
-const PICKED_AND_POSTED: &str =
-    "cpu 0\npick: picked 0\nload 1024 floor 0\ntask 0 v 0 d 3000000 lag 0 running\nleft 0 from 1\ncpu 1\npick: picked 1\nload 1024 floor 0\ntask 1 v 0 d 3000000 lag 0 running\n";
-
-/// A pick at a moment, which is the first operation of its CPU.
-const INSIDE_0: GateCall = GateCall {
-    moment: Moment::Inside,
-    cpu: 0,
-    n: 0,
-};
-
-const INSIDE_1: GateCall = GateCall { cpu: 1, ..INSIDE_0 };
-
-const ACTED_0: GateCall = GateCall {
-    moment: Moment::Acted,
-    ..INSIDE_0
-};
-
-const ANSWERED_1: GateCall = GateCall {
-    moment: Moment::Answered,
-    ..INSIDE_1
-};
-
-const POSTED_1: GateCall = GateCall { n: 1, ..ANSWERED_1 };
+fn cases() -> [Case; 6] {
+    [
+        Case {
+            name: "two operations hold their locks at once",
+            workload: TWO_PICKS,
+            holds: [
+                (GateCall::inside(0, 0), GateCall::inside(1, 0)),
+                (GateCall::inside(1, 0), GateCall::inside(0, 0)),
+            ],
+            has_history: false,
+            report: "cpu 0\npick: picked 0\nload 1024 floor 0\ntask 0 v 0 d 3000000 lag 0 running\ncpu 1\npick: picked 1\nload 1024 floor 0\ntask 1 v 0 d 3000000 lag 0 running\n",
+        },
+        // CPU 0 has acted and hasn't committed yet, so the line of CPU 1 comes first.
+        Case {
+            name: "an operation is done while another has acted on one queue and has no line yet",
+            workload: TWO_PICKS,
+            holds: [
+                (GateCall::acted(0, 0), GateCall::answered(1, 0)),
+                (GateCall::inside(1, 0), GateCall::acted(0, 0)),
+            ],
+            has_history: true,
+            report: "cpu 0\npick: picked 0\nload 1024 floor 0\ntask 0 v 0 d 3000000 lag 0 running\ncpu 1\npick: picked 1\nload 1024 floor 0\ntask 1 v 0 d 3000000 lag 0 running\nscript = [\n\"1 pick\",\n\"0 pick\",\n]\n",
+        },
+        Case {
+            name: "an operation is done while another has acted on two queues and has no line yet",
+            workload: b"version = 1\nprogram = [[\"pull 2\"], [\"pick\"], []]\n[[task]]\nhome = 1\n",
+            holds: [
+                (GateCall::acted(0, 0), GateCall::answered(1, 0)),
+                (GateCall::inside(1, 0), GateCall::acted(0, 0)),
+            ],
+            has_history: true,
+            report: "cpu 0\npull 2: nothing\nload 0 floor 0\ncpu 1\npick: picked 0\nload 1024 floor 0\ntask 0 v 0 d 3000000 lag 0 running\ncpu 2\nload 0 floor 0\nscript = [\n\"1 pick\",\n\"0 pull 2\",\n]\n",
+        },
+        Case {
+            name: "a post goes to a CPU whose lock is held",
+            workload: b"version = 1\nprogram = [[\"pick\"], [\"pick\", \"post 0\"]]\n[[task]]\n[[task]]\nhome = 1\n",
+            holds: [
+                (GateCall::inside(0, 0), GateCall::answered(1, 1)),
+                (GateCall::inside(1, 0), GateCall::inside(0, 0)),
+            ],
+            has_history: false,
+            report: "cpu 0\npick: picked 0\nload 1024 floor 0\ntask 0 v 0 d 3000000 lag 0 running\nleft 0 from 1\ncpu 1\npick: picked 1\nload 1024 floor 0\ntask 1 v 0 d 3000000 lag 0 running\n",
+        },
+        Case {
+            name: "a drain takes a request that comes while it holds its lock",
+            workload: b"version = 1\nprogram = [[\"drain\"], [\"pick\", \"post 0\"]]\n[[task]]\nasleep = true\n",
+            holds: [
+                (GateCall::inside(0, 0), GateCall::answered(1, 1)),
+                (GateCall::inside(1, 0), GateCall::inside(0, 0)),
+            ],
+            has_history: false,
+            report: "cpu 0\nwake 0 from 1: woken\nload 1024 floor 0\ntask 0 v 0 d 3000000 lag 0\ncpu 1\npick: idle\nload 0 floor 0\n",
+        },
+        // CPU 0 is the sender that a drain comes to first.
+        Case {
+            name: "so does it with the first request that it comes to",
+            workload: b"version = 1\nprogram = [[\"pick\", \"post 0\"], [\"drain\"]]\n[[task]]\nhome = 1\nasleep = true\n",
+            holds: [
+                (GateCall::inside(1, 0), GateCall::answered(0, 1)),
+                (GateCall::inside(0, 0), GateCall::inside(1, 0)),
+            ],
+            has_history: false,
+            report: "cpu 0\npick: idle\nload 0 floor 0\ncpu 1\nwake 0 from 0: woken\nload 1024 floor 0\ntask 0 v 0 d 3000000 lag 0\n",
+        },
+    ]
+}
 
 #[test]
 fn operations_go_on_beside_one_another(rt: HostRuntime) -> Result<(), Fail> {
-    let picks = (TWO_PICKS, TWO_PICKED);
-    let post = (A_POST_AFTER_A_PICK, PICKED_AND_POSTED);
-    for (name, held, until, (text, reported)) in [
-        (
-            "two operations hold their locks at once",
-            INSIDE_0,
-            INSIDE_1,
-            picks,
-        ),
-        (
-            "an operation is done while another has acted and not returned",
-            ACTED_0,
-            ANSWERED_1,
-            picks,
-        ),
-        (
-            "a post goes to a CPU whose lock is held",
-            INSIDE_0,
-            POSTED_1,
-            post,
-        ),
-    ] {
-        let workload = read_workload(rt.alloc(), text).ok().ok_or("workload")?;
-        let gate = HoldingGate::new((held, until), (INSIDE_1, held));
+    for case in &cases() {
+        let workload = read_workload(rt.alloc(), case.workload)
+            .ok()
+            .ok_or("workload")?;
+        let gate = HoldingGate::new(case.holds[0], case.holds[1]);
         let outcome = run_all(&rt, rt.alloc(), workload.setup(), &gate)?;
-        assert!(rt; !gate.has_given_up(), "{name}");
-        let report = report(rt.alloc(), &outcome, false)?;
-        assert!(rt; report.as_slice() == reported.as_bytes(), "{name}");
+        assert!(rt; !gate.has_given_up(), "{}", case.name);
+        let report = report(rt.alloc(), &outcome, case.has_history)?;
+        assert!(rt;
+            report.as_slice() == case.report.as_bytes(),
+            "{}",
+            case.name
+        );
     }
     Ok(())
 }

@@ -39,17 +39,25 @@ impl Gate for CountingGate {
     fn answered(&self, _cpu: CpuId, _n: usize) {}
 }
 
+/// Two CPUs, of which CPU 1 pulls from CPU 0 and CPU 0 does an operation of its own.
+const PULL_BESIDE_A_PICK: &[u8] = b"version = 1\nprogram = [[\"pick\"], [\"pull 0\"]]\n[[task]]\n";
+
+const PULL_BESIDE_A_DRAIN: &[u8] =
+    b"version = 1\nprogram = [[\"drain\"], [\"pull 0\"]]\n[[task]]\n";
+
 #[test]
-fn a_pull_and_a_pick_of_one_queue_are_inside_one_after_the_other(
-    rt: HostRuntime,
-) -> Result<(), Fail> {
-    let text = b"version = 1\nprogram = [[\"pick\"], [\"pull 0\"]]\n[[task]]\n";
-    let workload = read_workload(rt.alloc(), text).ok().ok_or("workload")?;
-    let gate = CountingGate {
-        inside: AtomicU64::new(0),
-        were_two: AtomicBool::new(false),
-    };
-    let _outcome = run_all(&rt, rt.alloc(), workload.setup(), &gate)?;
-    assert!(rt; !gate.were_two.load(Ordering::SeqCst));
+fn operations_on_one_queue_are_inside_one_after_the_other(rt: HostRuntime) -> Result<(), Fail> {
+    for (name, text) in [
+        ("a pull beside a pick", PULL_BESIDE_A_PICK),
+        ("a pull beside a drain", PULL_BESIDE_A_DRAIN),
+    ] {
+        let workload = read_workload(rt.alloc(), text).ok().ok_or("workload")?;
+        let gate = CountingGate {
+            inside: AtomicU64::new(0),
+            were_two: AtomicBool::new(false),
+        };
+        let _outcome = run_all(&rt, rt.alloc(), workload.setup(), &gate)?;
+        assert!(rt; !gate.were_two.load(Ordering::SeqCst), "{name}");
+    }
     Ok(())
 }

@@ -1,18 +1,55 @@
 //! A caller's own turns are done by a thread for each CPU, until it has had them all or ends them.
 
-use crate::fixtures::cpu;
-use eevdf_bench::read_workload;
-use eevdf_fleet::{Closed, Fleet, Kit, Names, Seat, SeatTurn, run_turns};
-use eevdf_ops::Deed;
+use crate::fixtures::one_task_each;
+use eevdf_fleet::{Fleet, Kit, Names, Seat, SeatTurn, run_turns};
+use std::alloc::{AllocError, Global};
 use std::ops::ControlFlow;
 use std::sync::Wait;
+use std::sync::atomic::{AtomicBool, AtomicUsize, Ordering};
 use std::test::Fail;
 
-/// A pick in each turn, of which CPU 1 ends the turns with the one of number 1.
-#[derive(Drop)]
-struct Picks;
+const CPUS: usize = 64;
 
-impl SeatTurn for Picks {
+/// A pick in each turn. The CPUs of odd number end the turns with the one of number 1.
+#[derive(Drop)]
+struct CountedPicks {
+    /// How many turns each CPU has had.
+    counts: Vec<AtomicUsize>,
+    is_misnumbered: AtomicBool,
+}
+
+impl CountedPicks {
+    fn new(alloc: Global) -> Result<CountedPicks, AllocError> {
+        let mut counts = Vec::new(alloc);
+        for _cpu in 0..CPUS {
+            counts.push(AtomicUsize::new(0))?;
+        }
+        Ok(CountedPicks {
+            counts,
+            is_misnumbered: AtomicBool::new(false),
+        })
+    }
+
+    fn count(&self, cpu: usize, turn: usize) {
+        let number = match self.counts.get(cpu) {
+            Some(count) => count.fetch_add(1, Ordering::SeqCst),
+            None => CPUS,
+        };
+        if number != turn {
+            self.is_misnumbered.store(true, Ordering::SeqCst);
+        }
+    }
+
+    /// Whether the CPUs of even number have had so many turns, and the others two.
+    fn has_counted(&self, turns: usize) -> bool {
+        self.counts.iter().enumerate().all(|(cpu, count)| {
+            let wanted = if cpu % 2 == 0 { turns } else { 2 };
+            count.load(Ordering::SeqCst) == wanted
+        })
+    }
+}
+
+impl SeatTurn for CountedPicks {
     fn turn<N: Names, R: Wait>(
         &self,
         rt: &R,
@@ -20,34 +57,24 @@ impl SeatTurn for Picks {
         seat: &mut Seat<N>,
         turn: usize,
     ) -> ControlFlow<()> {
+        self.count(seat.cpu().index(), turn);
         let _ = fleet.pick(rt, seat);
-        if turn == 1 && seat.cpu().get() == 1 {
+        if turn == 1 && seat.cpu().get() % 2 == 1 {
             return ControlFlow::Break(());
         }
         ControlFlow::Continue(())
     }
 }
 
-fn picks_on(closed: &Closed, number: u64) -> Result<usize, Fail> {
-    let pick = Deed::Pick { cpu: cpu(number)? };
-    let mut picks = 0usize;
-    for line in closed.history() {
-        if line.deed == pick {
-            picks = picks.saturating_add(1);
-        }
-    }
-    Ok(picks)
-}
-
+/// There is room for three lines on each CPU, and a seat that is full has its turns all the same.
 #[test]
 fn each_cpu_has_its_turns_until_it_ends_them(rt: HostRuntime) -> Result<(), Fail> {
-    let text = b"version = 1\nprogram = [[], [], []]\n[[task]]\n";
-    let workload = read_workload(rt.alloc(), text).ok().ok_or("workload")?;
-    let kit = Kit::make(rt.alloc(), workload.setup(), 10, 1)?;
-    let closed = run_turns(&rt, rt.alloc(), kit, 5, &Picks)?;
-    assert!(rt; picks_on(&closed, 0)? == 5);
-    assert!(rt; picks_on(&closed, 1)? == 2);
-    assert!(rt; picks_on(&closed, 2)? == 5);
-    assert!(rt; closed.history().len() == 12);
+    let setup = one_task_each(rt.alloc(), CPUS)?;
+    let kit = Kit::make(rt.alloc(), &setup, 3, 1)?;
+    let picks = CountedPicks::new(rt.alloc())?;
+    let closed = run_turns(&rt, rt.alloc(), kit, 5, &picks)?;
+    assert!(rt; picks.has_counted(5));
+    assert!(rt; !picks.is_misnumbered.load(Ordering::SeqCst));
+    assert!(rt; closed.history().len() == 32 * 3 + 32 * 2);
     Ok(())
 }

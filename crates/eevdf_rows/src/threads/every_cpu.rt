@@ -1,0 +1,79 @@
+//! Each CPU does each kind of operation, beside all others. Two CPUs post to one another and pull from one another, for each of
+//! which a thread takes the locks of both: where two threads take them in different orders, they wait for one another for ever.
+
+use crate::fixtures::one_task_each;
+use crate::fleet_calls::kit_of;
+use crate::fleet_calls::seat_call::{Call, call_on};
+use eevdf_fleet::{Closed, Fleet, Names, Seat, SeatTurn, run_turns};
+use eevdf_ops::Deed;
+use std::ops::ControlFlow;
+use std::sync::Wait;
+use std::test::Fail;
+
+/// Each operation once in each turn. The other CPU of the least number is that of the greatest, and so on.
+#[derive(Drop)]
+struct EachOperation {
+    cpus: u64,
+}
+
+impl SeatTurn for EachOperation {
+    fn turn<N: Names, R: Wait>(
+        &self,
+        rt: &R,
+        fleet: &Fleet<N>,
+        seat: &mut Seat<N>,
+        _turn: usize,
+    ) -> ControlFlow<()> {
+        let own = seat.cpu().get();
+        let other = self.cpus.saturating_sub(own).saturating_sub(1);
+        let _done = call_on(rt, fleet, seat, Call::Pick);
+        let _done = call_on(rt, fleet, seat, Call::Tick(1_000));
+        let _done = call_on(rt, fleet, seat, Call::Yield);
+        let _done = call_on(rt, fleet, seat, Call::Renice(own, 5));
+        let _done = call_on(rt, fleet, seat, Call::Pull(other));
+        let _done = call_on(rt, fleet, seat, Call::Post(other));
+        let _done = call_on(rt, fleet, seat, Call::Drain);
+        let _done = call_on(rt, fleet, seat, Call::Sleep(own));
+        ControlFlow::Continue(())
+    }
+}
+
+/// So many lines each turn has besides those of its drain.
+const LINES: usize = 6;
+
+/// How many requests were taken.
+fn taken(closed: &Closed) -> usize {
+    closed
+        .history()
+        .iter()
+        .filter(|line| matches!(line.deed, Deed::Wake { .. }))
+        .count()
+}
+
+/// How many requests are left.
+fn left(closed: &Closed) -> usize {
+    let mut requests = 0usize;
+    for sender in 0..closed.cpus() {
+        for home in 0..closed.cpus() {
+            requests = requests.saturating_add(closed.left(sender, home).len());
+        }
+    }
+    requests
+}
+
+#[test]
+fn every_cpu_does_each_operation(rt: HostRuntime) -> Result<(), Fail> {
+    for (cpus, turns, quota) in [(2, 10_000, 70_002), (64, 10, 134)] {
+        let setup = one_task_each(rt.alloc(), cpus)?;
+        let kit = kit_of(rt.alloc(), &setup, quota, turns).ok_or("kit")?;
+        let each = EachOperation { cpus: cpus as u64 };
+        let closed = run_turns(&rt, rt.alloc(), kit, turns, &each)?;
+        let of_each_kind = turns.saturating_mul(cpus);
+        let taken = taken(&closed);
+        let lines = of_each_kind.saturating_mul(LINES).saturating_add(taken);
+        assert!(rt; closed.history().len() == lines, "{cpus} CPUs");
+        let requests = taken.saturating_add(left(&closed));
+        assert!(rt; requests == of_each_kind, "{cpus} CPUs");
+    }
+    Ok(())
+}
