@@ -39,22 +39,26 @@ def file_of(crate, name):
     return TOP / "crates" / crate / "must-fail" / f"{name}.edit"
 
 
-def read_edit(crate, name):
-    refused, file, old, changes = None, None, None, []
-    for line in file_of(crate, name).read_text().splitlines():
+def read_lines(path):
+    """The changes that the lines of an edit tell, and by their keys what its other lines say."""
+    told, old, changes = {}, None, []
+    for line in path.read_text().splitlines():
         key, _, text = line.partition(":")
         text = text.removeprefix(" ")
-        if key == "refused":
-            refused = text
-        elif key == "file":
-            file = text
-        elif key == "old":
+        if key == "old":
             old = text
-        elif key == "new" and file and old:
-            changes.append(Change(file, old, text))
-    if not refused or not changes:
+        elif key == "new" and told.get("file") and old:
+            changes.append(Change(told["file"], old, text))
+        else:
+            told[key] = text
+    return tuple(changes), told
+
+
+def read_edit(crate, name):
+    changes, told = read_lines(file_of(crate, name))
+    if not told.get("refused") or not changes:
         raise BadEdit(f"{crate}/{name}: a line `refused:`, `file:`, `old:` or `new:` is missing")
-    return Edit(crate, name, refused, tuple(changes))
+    return Edit(crate, name, told["refused"], changes)
 
 
 def edits_of(crate):

@@ -1,0 +1,149 @@
+#!/usr/bin/env -S python3 -B
+"""wrong_bodies/tested.py [--look] [NAME..]: tries the wrong bodies of wrong_bodies/tested/, all or those named, which meet every
+contract, so that a test has to refuse them.
+
+Each is planted in a copy of the crates, and the test that its line `refused by:` names is run there, unproved. It is refused where
+the test fails or hasn't ended in time. The tests are run first in a copy without a wrong body, where each has to pass. With --look
+nothing is tried: it looks whether each wrong body has its place in the crates, and its test is there. The last line is
+'N passed, M failed'."""
+
+import argparse
+import re
+import shutil
+import subprocess
+import sys
+import tempfile
+from concurrent.futures import ThreadPoolExecutor
+from dataclasses import dataclass
+from pathlib import Path
+
+from edits import TOP, BadEdit, Change, apply, changed, read_lines
+
+sys.path.append(str(TOP))
+
+from crate_copies import SOURCES, all_below, copy_list, copy_parts, folder_of, read_crates  # noqa: E402
+
+# The crate of the tests.
+TESTS = "eevdf_rows"
+# A test that has run for so many seconds is ended, and has failed. A right body takes a few.
+SECONDS = 30
+
+CRATES = read_crates()
+COPIED = (*all_below(CRATES, TESTS), TESTS)
+
+RESULT = re.compile(r"^test (\S+) \.\.\. (ok|FAILED)$(?=\n(.*))", re.MULTILINE)
+
+
+@dataclass(frozen=True)
+class Body:
+    name: str
+    test: str
+    changes: tuple[Change, ...]
+
+    def __str__(self):
+        return self.name
+
+
+def read_body(file):
+    changes, told = read_lines(file)
+    if not told.get("refused by") or not changes:
+        raise BadEdit(f"{file.stem}: a line `refused by:`, `file:`, `old:` or `new:` is missing")
+    return Body(file.stem, told["refused by"], changes)
+
+
+def bodies_named(names):
+    """The wrong bodies of these names: all where no name is given."""
+    folder = TOP / "wrong_bodies" / "tested"
+    files = [folder / f"{name}.edit" for name in names] or sorted(folder.glob("*.edit"))
+    return list(map(read_body, files))
+
+
+def has_its_place(body):
+    """Whether the old texts of a wrong body stand in the crates, and its test is there."""
+    *modules, test = body.test.split("::")
+    file = folder_of(TESTS).joinpath("src", *modules).with_suffix(".rt")
+    try:
+        changed(body, TOP)
+    except (BadEdit, OSError) as why:
+        print(f"FAILED: {body}: {why}", flush=True)
+        return False
+    if not file.is_file() or not re.search(rf"#\[test\]\nfn {test}\(", file.read_text()):
+        print(f"FAILED: {body}: there is no test {body.test}", flush=True)
+        return False
+    return True
+
+
+# The tries.
+
+def copy_crates(top):
+    for crate in COPIED:
+        copy_parts(crate, SOURCES, top, shutil.copy2)
+    copy_list(COPIED, top)
+    shutil.copy(TOP / "HANDLES", top)
+
+
+def run_tests(body, words):
+    """What comes of each test that is run with a body in place: its name, 'ok' or 'FAILED', and the line after it."""
+    with tempfile.TemporaryDirectory(prefix="tested-") as held:
+        top = Path(held)
+        copy_crates(top)
+        if body:
+            apply(body, top)
+        run = subprocess.run(["rt", "try", "--test", "--seconds", str(SECONDS), "--", *words], cwd=top / "crates" / TESTS,
+                             capture_output=True, text=True, errors="replace")
+    said = run.stdout + run.stderr
+    results = {name: (result, line.strip()) for name, result, line in RESULT.findall(said)}
+    return results, said[-500:]
+
+
+def try_body(body):
+    """Whether the test of a wrong body refuses it, and what is said of it."""
+    results, said = run_tests(body, [body.test])
+    if body.test not in results:
+        return False, f"the test wasn't run: {said}"
+    result, line = results[body.test]
+    if result == "ok":
+        return False, f"{body.test} passes"
+    return True, f"{body.test}: {line}"
+
+
+def try_right_bodies(tests):
+    """Whether each test passes with no wrong body in place."""
+    results, said = run_tests(None, [])
+    failed = [test for test in sorted(tests) if results.get(test, ("FAILED", ""))[0] != "ok"]
+    return not failed, ", ".join(failed) + f" failed: {said}" if failed else "every test passes"
+
+
+def try_all(bodies, jobs):
+    """Prints what comes of the right bodies and of each wrong one, and gives whether it is as it should be."""
+    with ThreadPoolExecutor(jobs) as pool:
+        right = pool.submit(try_right_bodies, {body.test for body in bodies})
+        tries = [("no wrong body", right), *((body, pool.submit(try_body, body)) for body in bodies)]
+        for body, tried in tries:
+            passed, told = tried.result()
+            print(f"{('refused' if tried is not right else 'passed') if passed else 'FAILED'}: {body}: {told}", flush=True)
+            yield passed
+
+
+def parse_words():
+    words = argparse.ArgumentParser(description=__doc__, formatter_class=argparse.RawDescriptionHelpFormatter)
+    words.add_argument("--look", action="store_true", help="tries nothing")
+    words.add_argument("--jobs", type=int, default=1, help="how many bodies are tried at a time")
+    words.add_argument("names", nargs="*", metavar="NAME", help="wrong_bodies/tested/NAME.edit")
+    return words.parse_args()
+
+
+def main():
+    words = parse_words()
+    try:
+        bodies = bodies_named(words.names)
+    except (BadEdit, OSError) as why:
+        print(f"{why}\n0 passed, 1 failed")
+        return 1
+    results = list(map(has_its_place, bodies) if words.look else try_all(bodies, words.jobs))
+    print(f"{results.count(True)} passed, {results.count(False)} failed")
+    return 0 if all(results) else 1
+
+
+if __name__ == "__main__":
+    sys.exit(main())
