@@ -1,11 +1,11 @@
 #!/usr/bin/env -S python3 -B
-"""wrong_bodies/tested.py [--look] [NAME..]: tries the wrong bodies of wrong_bodies/tested/, all or those named, which meet every
-contract, so that a test has to refuse them.
+"""wrong_bodies/tested.py [--look] [NAME..]: tries the wrong bodies of wrong_bodies/tested/, all or those named, which the contracts of
+the public calls allow, so that a test has to refuse them.
 
 Each is planted in a copy of the crates, and the test that its line `refused by:` names is run there, unproved. It is refused where
-the test fails or hasn't ended in time. The tests are run first in a copy without a wrong body, where each has to pass. With --look
-nothing is tried: it looks whether each wrong body has its place in the crates, and its test is there. The last line is
-'N passed, M failed'."""
+the test fails or hasn't ended in time. All tests are run in a copy without a wrong body too, and those that are named have to pass
+there. With --look nothing is tried: it looks whether each wrong body has its place in the crates, and its test is there. The last
+line is 'N passed, M failed'."""
 
 import argparse
 import re
@@ -111,7 +111,7 @@ def try_right_bodies(tests):
     """Whether each test passes with no wrong body in place."""
     results, said = run_tests(None, [])
     failed = [test for test in sorted(tests) if results.get(test, ("FAILED", ""))[0] != "ok"]
-    return not failed, ", ".join(failed) + f" failed: {said}" if failed else "every test passes"
+    return not failed, ", ".join(failed) + f" failed: {said}" if failed else "every test that is named passes"
 
 
 def try_all(bodies, jobs):
@@ -139,6 +139,9 @@ def main():
         bodies = bodies_named(words.names)
     except (BadEdit, OSError) as why:
         print(f"{why}\n0 passed, 1 failed")
+        return 1
+    if not bodies:
+        print("there are no wrong bodies\n0 passed, 1 failed")
         return 1
     results = list(map(has_its_place, bodies) if words.look else try_all(bodies, words.jobs))
     print(f"{results.count(True)} passed, {results.count(False)} failed")

@@ -23,8 +23,8 @@ start t = machine.start t.setup.value
 abbrev pub told : Terms → List Line → Machine
 told t lines = machine_told (homes t) (start t) lines
 
--- whether a fleet of so many CPUs may commit a deed: it is allowed, but that a wake may be of any task. A drain doesn't
--- know whose home a request was posted to; that all were posted to the home of their task is known at closing
+-- whether a fleet of so many CPUs may commit a deed: each that is allowed, and a wake of any task. A drain doesn't know
+-- the home of the task that was asked for; closing shows that each request went to its task's home
 abbrev pub is_committable : ℕ → List ℕ → Deed → Bool
 is_committable cpus homes (Tick cpu ns) = is_allowed cpus homes (Tick cpu ns)
 is_committable cpus homes (Pick cpu) = is_allowed cpus homes (Pick cpu)

@@ -48,7 +48,7 @@ impl<N: Names> Fleet<N> {
         Ok(self.drain_all(rt, seat, &mut guard))
     }
 
-    /// Takes at most one request of each sender, senders in ascending order, and decides each.
+    /// Goes through the senders in ascending order, and decides one request of each that is seen to have any.
     fn drain_all<R: Wait>(&self, rt: &R, seat: &mut Seat<N>, slot: &mut Slot<N>) -> Drained
         requires number { slot.old.number ≡ seat.old.cpu }
         requires cpu { seat.old.cpu < cpus_of (setup_of N.kit) }

@@ -17,8 +17,8 @@ pub trait SeatTurn {
     ghost turn_gives: { Self → Kit → ℕ → Seat → Seat → Bool → Type 0 } = { λ _ _ _ _ _ _. Unit {0} };
 
     /// Does the turn of this number, from 0 on: any operations of the seat. `Break` ends the thread, so that its CPU has no
-    /// further turn, and `Continue` goes on where a turn is left. The seat stays that of its CPU, and the turn is as `turn_gives`
-    /// says.
+    /// further turn; `Continue` goes on to the next turn, if there is one. The seat stays that of its CPU, and the turn is as
+    /// `turn_gives` says.
     fn turn<N: Names, R: Wait>(
         &self,
         rt: &R,

@@ -1,4 +1,4 @@
-//! CPUs, tasks and times for tests, by their numbers, and tasks on their way into a queue.
+//! CPUs, tasks and times for tests, by their numbers, tasks on their way into a queue, and setups with a task on each CPU.
 
 use eevdf_ops::{CpuId, Deed, Setup, TaskSpec};
 use eevdf_queue::{Parcel, Queue, TaskId};

@@ -1,5 +1,5 @@
-//! Programs that are run at the same time, each by a thread of its own. Gates hold the threads at chosen operations, and
-//! give up after a bounded number of turns, so that each test ends by itself.
+//! Programs, and turns, that are run at the same time, each by a thread of its own. Gates hold the threads of a program at chosen
+//! operations, and give up after a bounded number of turns. A test of turns has no gate: it ends if all threads do.
 
 mod every_cpu;
 mod gate_call;

@@ -14,7 +14,7 @@ const TWO_CPUS: &[u8] = b"version = 1\nprogram = [[], []]\n[[task]]\n";
 
 /// Sixty-four CPUs with a task of CPU 0 that sleeps.
 const SIXTY_FOUR_CPUS: &[u8] =
-    b"version = 2\nprogram = [[], [], [], [], [], [], [], [], [], [], [], [], [], [], [], [], [], [], [], [], [], [], [], [], [], [], [], [], [], [], [], [], [], [], [], [], [], [], [], [], [], [], [], [], [], [], [], [], [], [], [], [], [], [], [], [], [], [], [], [], [], [], [], []]\n[[task]]\nasleep = true\n";
+    b"version = 2\nprogram = [[], [], [], [], [], [], [], [], [], [], [], [], [], [], [], [], [], [], [], [], [], [], [], [], [], [], [], [], [], [], [], [], [], [], [], [], [], [], [], [], [], [], [], [], [], [], [], [], [], [], [], [], [], [], [], [], [], [], [], [], [], [], [], []]\n[[task]]\nasleep = true\n[[task]]\nhome = 63\nasleep = true\n";
 
 /// Calls on CPU 1: one that is made so many times, with what comes of it each time, and what comes of it once more.
 fn repeated(
@@ -66,14 +66,15 @@ fn quotas_and_rings_may_be_a_million(rt: HostRuntime) {
 fn outcome_of_drain<R: Wait>(
     rt: &R,
     alloc: Global,
+    (task, home): (u64, usize),
     quota: usize,
     drained: Done,
 ) -> Option<Outcome> {
     let mut calls = Vec::new(alloc);
     for cpu in 0..64 {
-        calls.push((cpu, Call::Post(0), Done::Posted)).ok()?;
+        calls.push((cpu, Call::Post(task), Done::Posted)).ok()?;
     }
-    calls.push((0, Call::Drain, drained)).ok()?;
+    calls.push((home, Call::Drain, drained)).ok()?;
     outcome_of_calls(rt, alloc, SIXTY_FOUR_CPUS, quota, 1, &calls)
 }
 
@@ -83,9 +84,11 @@ fn a_drain_takes_a_request_of_each_of_sixty_four_seats(rt: HostRuntime) {
         taken: 64,
         woken: 1,
     };
-    for (quota, drained) in [(63, Done::SeatFull), (64, all)] {
-        let outcome = outcome_of_drain(&rt, rt.alloc(), quota, drained);
-        assert!(rt; outcome.is_some(), "{quota}");
+    for asked in [(0, 0), (1, 63)] {
+        for (quota, drained) in [(63, Done::SeatFull), (64, all)] {
+            let outcome = outcome_of_drain(&rt, rt.alloc(), asked, quota, drained);
+            assert!(rt; outcome.is_some(), "task {}, {quota}", asked.0);
+        }
     }
 }
 

@@ -1,5 +1,5 @@
-//! Each CPU does each kind of operation, beside all others. Two CPUs post to one another and pull from one another, for each of
-//! which a thread takes the locks of both: where two threads take them in different orders, they wait for one another for ever.
+//! Each CPU does each kind of operation, beside all others. Two CPUs post to one another, and pull from one another, for which a
+//! thread takes the locks of both: if two threads took them in different orders, they could wait for one another for ever.
 
 use crate::fixtures::one_task_each;
 use crate::fleet_calls::kit_of;
@@ -10,7 +10,7 @@ use std::ops::ControlFlow;
 use std::sync::Wait;
 use std::test::Fail;
 
-/// Each operation once in each turn. The other CPU of the least number is that of the greatest, and so on.
+/// Each operation once in each turn. CPU c pulls from CPU `cpus - 1 - c` and posts to it.
 #[derive(Drop)]
 struct EachOperation {
     cpus: u64,

@@ -21,7 +21,7 @@ struct Case {
 const TWO_PICKS: &[u8] =
     b"version = 1\nprogram = [[\"pick\"], [\"pick\"]]\n[[task]]\n[[task]]\nhome = 1\n";
 
-fn cases() -> [Case; 6] {
+fn cases() -> [Case; 7] {
     [
         Case {
             name: "two operations hold their locks at once",
@@ -74,9 +74,19 @@ fn cases() -> [Case; 6] {
             has_history: false,
             report: "cpu 0\nwake 0 from 1: woken\nload 1024 floor 0\ntask 0 v 0 d 3000000 lag 0\ncpu 1\npick: idle\nload 0 floor 0\n",
         },
+        Case {
+            name: "an operation that has returned holds no lock",
+            workload: b"version = 1\nprogram = [[\"pick\"], [\"pick\", \"pull 0\"]]\n[[task]]\n[[task]]\nhome = 1\n",
+            holds: [
+                (GateCall::answered(0, 0), GateCall::inside(1, 1)),
+                (GateCall::inside(1, 0), GateCall::acted(0, 0)),
+            ],
+            has_history: false,
+            report: "cpu 0\npick: picked 0\nload 1024 floor 0\ntask 0 v 0 d 3000000 lag 0 running\ncpu 1\npick: picked 1\npull 0: nothing\nload 1024 floor 0\ntask 1 v 0 d 3000000 lag 0 running\n",
+        },
         // CPU 0 is the sender that a drain comes to first.
         Case {
-            name: "so does it with the first request that it comes to",
+            name: "a drain takes such a request of the sender that it asks first",
             workload: b"version = 1\nprogram = [[\"pick\", \"post 0\"], [\"drain\"]]\n[[task]]\nhome = 1\nasleep = true\n",
             holds: [
                 (GateCall::inside(1, 0), GateCall::answered(0, 1)),

@@ -39,17 +39,22 @@ impl Gate for CountingGate {
     fn answered(&self, _cpu: CpuId, _n: usize) {}
 }
 
-/// Two CPUs, of which CPU 1 pulls from CPU 0 and CPU 0 does an operation of its own.
+/// Two CPUs, of which one pulls from the other, and that one does an operation of its own. The lock that both want is the first that
+/// a pull from CPU 0 takes, and the second that a pull from CPU 1 does.
 const PULL_BESIDE_A_PICK: &[u8] = b"version = 1\nprogram = [[\"pick\"], [\"pull 0\"]]\n[[task]]\n";
 
 const PULL_BESIDE_A_DRAIN: &[u8] =
     b"version = 1\nprogram = [[\"drain\"], [\"pull 0\"]]\n[[task]]\n";
+
+const PULL_FROM_THE_SECOND: &[u8] =
+    b"version = 1\nprogram = [[\"pull 1\"], [\"pick\"]]\n[[task]]\nhome = 1\n";
 
 #[test]
 fn operations_on_one_queue_are_inside_one_after_the_other(rt: HostRuntime) -> Result<(), Fail> {
     for (name, text) in [
         ("a pull beside a pick", PULL_BESIDE_A_PICK),
         ("a pull beside a drain", PULL_BESIDE_A_DRAIN),
+        ("a pull from the second CPU", PULL_FROM_THE_SECOND),
     ] {
         let workload = read_workload(rt.alloc(), text).ok().ok_or("workload")?;
         let gate = CountingGate {

@@ -75,6 +75,6 @@ fn each_cpu_has_its_turns_until_it_ends_them(rt: HostRuntime) -> Result<(), Fail
     let closed = run_turns(&rt, rt.alloc(), kit, 5, &picks)?;
     assert!(rt; picks.has_counted(5));
     assert!(rt; !picks.is_misnumbered.load(Ordering::SeqCst));
-    assert!(rt; closed.history().len() == 32 * 3 + 32 * 2);
+    assert!(rt; closed.history().len() == CPUS / 2 * 3 + CPUS / 2 * 2);
     Ok(())
 }
