@@ -5,7 +5,7 @@
 set -eu
 cd "$(dirname "$0")/.."
 program=$PWD/crates/fleet_bench/out/fleet_bench
-./launch fleet_bench fleet 1 1 1 own 1 1 >/dev/null
+./build fleet_bench
 
 for seed in $(seq "${1:-10}"); do
   said=$("$program" check 4 2 64 all 2000 "$seed") || true

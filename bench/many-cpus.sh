@@ -29,7 +29,7 @@ programs_of() {
   }'
 }
 
-./eevdf solo <examples/two-tasks.toml >/dev/null
+./build eevdf
 program=crates/eevdf/out/eevdf
 
 for operation in pick drain "post 0"; do

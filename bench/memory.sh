@@ -6,7 +6,7 @@
 set -eu
 cd "$(dirname "$0")/.."
 program=$PWD/crates/fleet_bench/out/fleet_bench
-./launch fleet_bench fleet 1 1 1 own 1 1 >/dev/null
+./build fleet_bench
 
 # How often the program asks for memory with so many tasks.
 requests() {

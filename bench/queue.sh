@@ -20,7 +20,7 @@ fi
 mixes=("$@")
 [ $# -gt 0 ] || mixes=(pick tick-pick sleep-pick-wake yield-pick pull tick-sleep-pick-wake renice)
 
-./launch queue_bench pick 1 1 >/dev/null
+./build queue_bench
 
 profile=$(mktemp)
 trap 'rm -f "$profile"' EXIT

@@ -4,7 +4,7 @@
 # library, which gives a thread a stack as large as the soft limit of stacks says.
 set -eu
 cd "$(dirname "$0")/.."
-./eevdf solo <examples/two-tasks.toml >/dev/null
+./build eevdf
 program=crates/eevdf/out/eevdf
 
 workload=$(mktemp)

@@ -58,8 +58,9 @@ BEGIN {
 }
 EOF
 
+./build eevdf_orders
 ./eevdf_orders --seed "$seed" <"$workload" >"$workload.ordered"
-./eevdf solo <examples/two-tasks.toml >/dev/null
+./build eevdf
 program=crates/eevdf/out/eevdf
 
 seconds() {

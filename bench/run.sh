@@ -38,7 +38,7 @@ BEGIN {
 }
 EOF
 
-./eevdf solo <examples/two-tasks.toml >/dev/null
+./build eevdf
 program=crates/eevdf/out/eevdf
 
 # the workload with the history of a run as its script, put before the first task

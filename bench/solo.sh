@@ -42,7 +42,7 @@ BEGIN {
 }
 EOF
 
-./eevdf solo <examples/two-tasks.toml >/dev/null
+./build eevdf
 program=crates/eevdf/out/eevdf
 
 # Runs a workload, and prints its wall time and its processor time, as user and as system.

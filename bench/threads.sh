@@ -23,7 +23,7 @@ threads=(1 2 4)
 mixes=("$@")
 [ $# -gt 0 ] || mixes=(own wakes pulls)
 
-./launch fleet_bench fleet 1 1 1 own 1 1 >/dev/null
+./build fleet_bench
 
 profile=$(mktemp)
 trap 'rm -f "$profile"' EXIT

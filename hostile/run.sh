@@ -8,9 +8,8 @@ top=${TOP:-$here/..}
 
 # builds what isn't built yet
 if [ -z "${TOP:-}" ]; then
-  for command in "eevdf solo" eevdf_orders; do
-    # shellcheck disable=SC2086 # a program and its word
-    "$top/launch" $command <"$top/examples/two-tasks.toml" >/dev/null || exit 3
+  for name in eevdf eevdf_orders; do
+    "$top/build" "$name" || exit 3
   done
 fi
 exec python3 -B "$here/check.py" --top "$top" "$@"
