@@ -1,8 +1,10 @@
 #!/usr/bin/env -S python3 -B
 """unbuilt.py: what a user sees first. In a copy of the tree where nothing is built, `./eevdf` has to answer a workload of examples/
-with its stored answer on standard output, and to say in one line on standard error that this isn't the proved program. The
-whole may take SECONDS of processor time. Ends with 1 where it isn't so."""
+with its stored answer on standard output, and to say in one line on standard error that this isn't the proved program. That may take
+SECONDS of processor time. Then each workload of examples/ has to be answered unproved as it is stored, where the kit's `rt try` can
+run many. Ends with 1 where it isn't so."""
 
+import re
 import resource
 import shutil
 import subprocess
@@ -11,8 +13,23 @@ import tempfile
 from pathlib import Path
 
 TOP = Path(__file__).resolve().parent.parent
-WORKLOAD = "examples/two-tasks"
+FIRST = TOP / "examples" / "two-tasks.toml"
 SECONDS = 150
+
+# What `rt try --cases` says of a workload, and what it says where the kit has no such flag.
+CASE = re.compile(r"^case=(\S+) run=ended status=(\d+) .*output=expected", re.MULTILINE)
+OLDER = "older than --cases"
+
+
+def words_of(workload):
+    """The words of the command, which stand in the workload's first line: '# eevdf solo'."""
+    return workload.partition(b"\n")[0].decode().split()[2:]
+
+
+def answer_of(workload):
+    """What the program prints for a workload of examples/, and its status, as they are stored."""
+    lines = workload.with_suffix(".out").read_bytes().splitlines(keepends=True)
+    return b"".join(lines[:-1]), int(lines[-1].split()[1])
 
 
 def processor_time():
@@ -20,27 +37,52 @@ def processor_time():
     return used.ru_utime + used.ru_stime
 
 
+def look_at_first(copy):
+    """What is wrong with the first answer."""
+    text = FIRST.read_bytes()
+    before = processor_time()
+    run = subprocess.run([copy / "eevdf", *words_of(text)], input=text, capture_output=True)
+    took = processor_time() - before
+    said = run.stderr.decode(errors="replace")
+    print(f"./eevdf where nothing is built took {took:.0f} seconds of processor time")
+    if (run.stdout, run.returncode) != answer_of(FIRST):
+        yield f"answers {run.stdout!r} with status {run.returncode}"
+    if said.count("\n") != 1 or not said.startswith("eevdf: not the proved program") or "`./build eevdf`" not in said:
+        yield f"says {said!r}"
+    if took > SECONDS:
+        yield f"takes {took:.0f} seconds of processor time"
+
+
+def look_at_examples(copy, cases):
+    """What is wrong with the answers to the workloads of examples/."""
+    cases.mkdir()
+    wanted = {}
+    for workload in sorted((TOP / "examples").glob("*.toml")):
+        case, text = cases / workload.stem, workload.read_bytes()
+        printed, status = answer_of(workload)
+        case.write_bytes(text)
+        case.with_suffix(".args").write_text("".join(f"{word}\n" for word in words_of(text)))
+        case.with_suffix(".stdout").write_bytes(printed)
+        wanted[workload.stem] = str(status)
+    run = subprocess.run(["rt", "try", "--cases", cases], cwd=copy / "crates" / "eevdf", stdin=subprocess.DEVNULL,
+                         capture_output=True, text=True, errors="replace")
+    said = run.stdout + run.stderr
+    if OLDER in said:
+        print("the workloads of examples/ aren't answered unproved: this kit's rt try takes no --cases")
+        return
+    answered = dict(CASE.findall(said))
+    print(f"unproved, {len(answered)} of {len(wanted)} workloads of examples/ are answered as they are stored")
+    if answered != wanted:
+        yield f"answers some workload of examples/ otherwise:\n{said[-3000:]}"
+
+
 def main():
     with tempfile.TemporaryDirectory(prefix="unbuilt-") as held:
         copy = Path(held) / "tree"
         shutil.copytree(TOP, copy, ignore=shutil.ignore_patterns(".git", "out", "must-fail"), symlinks=True)
-        workload = (copy / f"{WORKLOAD}.toml").read_bytes()
-        words = workload.partition(b"\n")[0].decode().split()[2:]
-        before = processor_time()
-        run = subprocess.run([copy / "eevdf", *words], input=workload, capture_output=True)
-        took = processor_time() - before
-    stored = (TOP / f"{WORKLOAD}.out").read_bytes()
-    said = run.stderr.decode(errors="replace")
-    wrong = []
-    if run.stdout + b"status %d\n" % run.returncode != stored:
-        wrong.append(f"answers {run.stdout!r} with status {run.returncode}")
-    if said.count("\n") != 1 or not said.startswith("eevdf: not the proved program") or "`./build eevdf`" not in said:
-        wrong.append(f"says {said!r}")
-    if took > SECONDS:
-        wrong.append(f"takes {took:.0f} seconds of processor time")
+        wrong = [*look_at_first(copy), *look_at_examples(copy, Path(held) / "cases")]
     for text in wrong:
         print(f"FAILED: ./eevdf where nothing is built {text}")
-    print(f"./eevdf where nothing is built took {took:.0f} seconds of processor time")
     sys.exit(1 if wrong else 0)
 
 
