@@ -1,20 +1,24 @@
 #!/usr/bin/env -S python3 -B
 """unbuilt.py: what a user sees first. In a copy of the tree where nothing is built, `./eevdf` has to answer a workload of examples/
 with its stored answer on standard output, and to say in one line on standard error that this isn't the proved program. That may take
-SECONDS of processor time. Then each workload of examples/ has to be answered unproved as it is stored, where the kit's `rt try` can
-run many. Ends with 1 where it isn't so."""
+SECONDS of processor time. A run that is killed has to leave nothing behind. Then each workload of examples/ has to be answered unproved
+as it is stored, where the kit's `rt try` can run many. Ends with 1 where it isn't so."""
 
+import os
 import re
 import resource
 import shutil
 import subprocess
 import sys
 import tempfile
+import time
 from pathlib import Path
 
 TOP = Path(__file__).resolve().parent.parent
 FIRST = TOP / "examples" / "two-tasks.toml"
 SECONDS = 150
+# A run is killed after so many seconds, when it is under way, and has so many to be cleared away.
+KILLED, CLEARED = 4, 30
 
 # What `rt try --cases` says of a workload, and what it says where the kit has no such flag.
 CASE = re.compile(r"^case=(\S+) run=ended status=(\d+) .*output=expected", re.MULTILINE)
@@ -53,6 +57,23 @@ def look_at_first(copy):
         yield f"takes {took:.0f} seconds of processor time"
 
 
+def look_at_killed(copy, folder):
+    """What is wrong with what a killed run leaves."""
+    folder.mkdir()
+    words = [copy / "eevdf", *words_of(FIRST.read_bytes())]
+    with open(FIRST, "rb") as given:
+        run = subprocess.Popen(words, stdin=given, env={**os.environ, "TMPDIR": str(folder)}, stderr=subprocess.DEVNULL)
+    time.sleep(KILLED)
+    begun = os.listdir(folder)
+    run.kill()
+    run.wait()
+    deadline = time.monotonic() + CLEARED
+    while os.listdir(folder) and time.monotonic() < deadline:
+        time.sleep(0.1)
+    if not begun or os.listdir(folder):
+        yield f"leaves {os.listdir(folder)} of {begun} where it is killed"
+
+
 def look_at_examples(copy, cases):
     """What is wrong with the answers to the workloads of examples/."""
     cases.mkdir()
@@ -80,7 +101,7 @@ def main():
     with tempfile.TemporaryDirectory(prefix="unbuilt-") as held:
         copy = Path(held) / "tree"
         shutil.copytree(TOP, copy, ignore=shutil.ignore_patterns(".git", "out", "must-fail"), symlinks=True)
-        wrong = [*look_at_first(copy), *look_at_examples(copy, Path(held) / "cases")]
+        wrong = [*look_at_first(copy), *look_at_killed(copy, Path(held) / "killed"), *look_at_examples(copy, Path(held) / "cases")]
     for text in wrong:
         print(f"FAILED: ./eevdf where nothing is built {text}")
     sys.exit(1 if wrong else 0)
