@@ -6,7 +6,7 @@ ghost use Rattle.eevdf_queue.specs.Numbers.{number_limit};
 
 use crate::entry::Entry;
 use crate::totals::Totals;
-use eevdf_weight::weight;
+use eevdf_weight::{weight, wide_product};
 
 /// The sums over one task: its weight, and that times its virtual runtime.
 #[tactic(auto, using(crate::proofs::Bounds::scaled_near))]
@@ -20,7 +20,7 @@ pub fn share(entry: &Entry) -> Totals
     let weight = weight(entry.nice);
     Totals {
         weight,
-        moment: scaled(entry, weight),
+        moment: wide_product(entry.v, weight),
     }
 }
 
@@ -134,15 +134,6 @@ fn difference(totals: &Totals, share: &Totals) -> i128
     ensures { totals.now.moment ≡ share.now.moment +ℤ result }
 {
     totals.moment - share.moment
-}
-
-/// The virtual runtime of a task times a weight.
-#[tactic(auto, using(crate::proofs::Bounds::scaled_near))]
-fn scaled(entry: &Entry, weight: u64) -> i128
-    requires { weight ≤ 88761 }
-    ensures { result ≡ entry.now.v *ℤ pos weight }
-{
-    i128::from(entry.v) * i128::from(weight as i64)
 }
 
 /// A virtual runtime is a number of 64 bits.

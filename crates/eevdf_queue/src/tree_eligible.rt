@@ -4,6 +4,7 @@ ghost use Rattle.eevdf_queue.specs.Pick.{is_eligible_at};
 use crate::task::Task;
 use crate::totals::Totals;
 use crate::tree_least::Least;
+use eevdf_weight::wide_product;
 
 /// The sums over tasks, and the number after their moment: whether a number is below that one takes less to find out than
 /// whether it is at most the moment.
@@ -35,7 +36,7 @@ pub fn is_task_eligible(totals: &Threshold, task: &Task) -> bool
     requires { totals.now.weight ≤ 2 ^ 40 }
     ensures { result ≡ is_eligible_at totals.now.weight totals.now.moment task.now.entry }
 {
-    runtime_scaled(task, totals) < totals.next
+    wide_product(task.entry.v, totals.weight) < totals.next
 }
 
 /// Whether the least virtual runtime is eligible among tasks with these sums.
@@ -43,21 +44,5 @@ pub fn is_least_eligible(totals: &Threshold, least: &Least) -> bool
     requires { totals.now.weight ≤ 2 ^ 40 }
     ensures { result ≡ int_le (least.now.runtime *ℤ pos totals.now.weight) totals.now.moment }
 {
-    least_scaled(least, totals) < totals.next
-}
-
-/// The virtual runtime of a task times the sum of the weights.
-fn runtime_scaled(task: &Task, totals: &Threshold) -> i128
-    requires { totals.now.weight ≤ 2 ^ 40 }
-    ensures { result ≡ task.now.entry.v *ℤ pos totals.now.weight }
-{
-    i128::from(task.entry.v) * i128::from(totals.weight as i64)
-}
-
-/// The least virtual runtime times the sum of the weights.
-fn least_scaled(least: &Least, totals: &Threshold) -> i128
-    requires { totals.now.weight ≤ 2 ^ 40 }
-    ensures { result ≡ least.now.runtime *ℤ pos totals.now.weight }
-{
-    i128::from(least.runtime) * i128::from(totals.weight as i64)
+    wide_product(least.runtime, totals.weight) < totals.next
 }

@@ -1,2 +1,3 @@
 pub mod Weighing
+mod Products
 mod Stretching

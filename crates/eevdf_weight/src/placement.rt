@@ -2,6 +2,7 @@ ghost use Rattle.std.specs.Prelude.{◌≡◌, ◌≤◌, ◌^◌, ◌+◌, ◌*
 ghost use Rattle.eevdf_weight.specs.Limits as limits;
 ghost use Rattle.eevdf_weight.specs.Placement.{floor_div, placement_of, within_range};
 
+use crate::product::wide_product;
 use crate::quotient::floor_quotient;
 
 /// The greatest distance from 0 of a virtual time that a task or a queue may have.
@@ -130,13 +131,5 @@ fn stretched(lag: i64, total: u64, w: u64) -> i128
     ensures value { result ≡ floor_div (lag *ℤ pos (total + w)) total }
     ensures small { unsigned_abs result ≤ 2 ^ 100 }
 {
-    floor_quotient(product(lag, total + w), total)
-}
-
-fn product(lag: i64, weight: u64) -> i128
-    requires kept { unsigned_abs lag ≤ 2 ^ 38 }
-    requires light { weight ≤ 2 ^ 41 }
-    ensures value { result ≡ lag *ℤ pos weight }
-{
-    i128::from(lag) * i128::from(weight)
+    floor_quotient(wide_product(lag, total + w), total)
 }
