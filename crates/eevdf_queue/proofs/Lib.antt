@@ -10,6 +10,7 @@ mod RunnableMaps
 mod TreeLeasts
 mod TreeHeights
 mod TreeOrder
+mod TreeLengths
 mod TreeSearch
 mod TreeSides
 mod TreeEligible

@@ -1,5 +1,5 @@
 -- A node after one of its sides has changed.
-use Rattle.std.proofs.Common.{◌≡◌, true, false, cond, List, ◌∷◌, ◌++◌, arith, Global}
+use Rattle.std.proofs.Common.{◌≡◌, ℕ, suc, ◌+◌, ◌≤◌, true, false, cond, List, ◌∷◌, ◌++◌, length, refl, arith, Global}
 use Rattle.std.specs.Prelude.{Option, Box}
 use Rattle.eevdf_queue.specs.{declared.task.Task.Task, TreeShape.Tree, TreeShape.tasks_in}
 use Rattle.eevdf_queue.specs.{declared.sides.Side.Side, declared.sides.Side.TheVariants.Left, declared.sides.Side.TheVariants.Right}
@@ -7,6 +7,7 @@ use Rattle.eevdf_queue.specs.{declared.sides.Sides.Sides, Sides.on_side, Sides.w
 use Rattle.eevdf_queue.specs.{declared.tree_node.TreeNode.TheInside.Inside, declared.tree_key.TreeKey.TreeKey, TreeNodes.tasks_of}
 use Rattle.eevdf_queue.specs.{TreeLeast.least_of, TreeKeys.is_of, TreeKeys.is_under, TreeKeys.Holds}
 use Rattle.eevdf_queue.proofs.TreeSides.{IsBelow, IsEdited, below_left, below_right}
+use Rattle.eevdf_queue.proofs.TreeLengths.{few_left, few_right}
 use Rattle.eevdf_queue.proofs.{TreeSearch.over_else, TreeLeasts.least-same_left, TreeLeasts.least-same_right}
 
 abbrev Links : Type 0 → Type 0
@@ -22,6 +23,13 @@ module _ {Z : Type 0} where
       → least_of (tasks_around (with_side s side l) u) ≡ least_of (tasks_around s u)
   least_on s u l Left h = least-same_left (tasks_in s.left) (tasks_in l) u (tasks_in s.right) h
   least_on s u l Right h = least-same_right (tasks_in s.left) u (tasks_in s.right) (tasks_in l) h
+
+  -- where one side is a task shorter, both together have few
+  pub few_on : (most : ℕ) (s : Links Z) (u : Task) (l : Option (Box Tree Z)) (side : Side) → length (tasks_around s u) ≤ most
+      → length (tasks_in (on_side s side)) ≡ suc (length (tasks_in l))
+      → length (tasks_in (with_side s side l).left) + length (tasks_in (with_side s side l).right) ≤ most
+  few_on most s u l Left h k = few_left most _ (tasks_in s.left) u (tasks_in s.right) (tasks_in l) refl h k
+  few_on most s u l Right h k = few_right most _ (tasks_in s.left) u (tasks_in s.right) (tasks_in l) refl h k
 
 -- the side of a node on which a key's task stands that isn't the node's own
 abbrev pub IsSideOf : TreeKey → Task → Side → Type 0

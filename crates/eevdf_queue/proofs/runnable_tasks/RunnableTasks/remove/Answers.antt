@@ -65,3 +65,6 @@ without_share-self-inside-requires-clause-part c =
 
 pub without_share-self-inside-requires-clause-small : goal.without_share-self-inside-requires-clause-small
 without_share-self-inside-requires-clause-small c = totals_near c.self.inside.deadlines c.self.inside.totals c.self.inside.tree.tasks (sums_kept _ _ _ _ c.self.invariant)
+
+pub leave-requires-clause-limited : goal.leave-requires-clause-limited
+leave-requires-clause-limited c = search rules

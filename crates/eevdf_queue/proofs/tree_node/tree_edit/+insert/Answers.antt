@@ -1,25 +1,26 @@
-use Rattle.std.proofs.Common.{◌≡◌, ◌∙◌, true, false, ℕ, ap, sym, subst, arith, List, length, length-append}
-use Rattle.eevdf_queue.specs.{declared.task.Task.Task, TaskLists.first_task, TreeShape.tasks_in, TreeNodes.tasks_of}
+use Rattle.std.proofs.Common.{◌≡◌, ◌^◌, ◌∙◌, true, false, ℕ, ap, sym, subst, arith}
+use Rattle.eevdf_queue.specs.{TaskLists.first_task, TreeShape.tasks_in, TreeNodes.tasks_of}
 use Rattle.eevdf_queue.specs.{TreeLeast.least_of, TreeLeast.AreLow, TreeTasks.precedes, TreeTasks.insert_task}
 use Rattle.eevdf_queue.proofs.TreeOrder.{ordered_left, ordered_right, inserted_left, inserted_right}
+use Rattle.eevdf_queue.proofs.TreeLengths.{left_shorter, right_shorter, few_inserted, more_inserted}
 use Rattle.eevdf_queue.proofs.TreeLeasts.{least-inserted}
 use Rattle.eevdf_queue.proofs.tree_node.tree_edit.+insert.Goals as goal
-use Rattle.eevdf_queue.proofs.tree_node.tree_edit.+insert.Goals.{After-raise, then-precedes, else-precedes}
+use Rattle.eevdf_queue.proofs.tree_node.tree_edit.+insert.Goals.{Joined-precedes, then-precedes, else-precedes}
 
 pub insert-grown-requires : goal.insert-grown-requires
 insert-grown-requires t c =
     let e : tasks_in c.args.link.now ≡ tasks_of c.root.inside = cc in
-    let n = ap (λ (z : List Task). length z) e in
-    (omega (arith, n, length-append {A = Task}), (c.requires.alone, (ordered_left (tasks_in c.args.link.now) (tasks_in c.root.inside.sides.left) c.root.inside.task (tasks_in c.root.inside.sides.right) e c.requires.ordered, omega (arith, n, c.requires.few, length-append {A = Task}))))
+    let n = left_shorter _ (tasks_in c.root.inside.sides.left) c.root.inside.task (tasks_in c.root.inside.sides.right) e in
+    (omega (arith, n), (c.requires.alone, (ordered_left (tasks_in c.args.link.now) (tasks_in c.root.inside.sides.left) c.root.inside.task (tasks_in c.root.inside.sides.right) e c.requires.ordered, omega (arith, n, c.requires.few))))
 
 pub insert-grown-requires-else-precedes : goal.insert-grown-requires-else-precedes
 insert-grown-requires-else-precedes t c =
     let e : tasks_in c.args.link.now ≡ tasks_of c.root.inside = cc in
-    let n = ap (λ (z : List Task). length z) e in
-    (omega (arith, n, length-append {A = Task}), (c.requires.alone, (ordered_right (tasks_in c.args.link.now) (tasks_in c.root.inside.sides.left) c.root.inside.task (tasks_in c.root.inside.sides.right) e c.requires.ordered, omega (arith, n, c.requires.few, length-append {A = Task}))))
+    let n = right_shorter _ (tasks_in c.root.inside.sides.left) c.root.inside.task (tasks_in c.root.inside.sides.right) e in
+    (omega (arith, n), (c.requires.alone, (ordered_right (tasks_in c.args.link.now) (tasks_in c.root.inside.sides.left) c.root.inside.task (tasks_in c.root.inside.sides.right) e c.requires.ordered, omega (arith, n, c.requires.few))))
 
 -- the tasks of the node with the new one on its side
-inserted : (t : ℕ) (c : After-raise t) → tasks_of c.if-precedes.root-inside ≡ insert_task (first_task c.args.node.value.tasks) (tasks_in c.args.link.now)
+inserted : (t : ℕ) (c : Joined-precedes t) → tasks_of c.if-precedes.root-inside ≡ insert_task (first_task c.args.node.value.tasks) (tasks_in c.args.link.now)
 inserted t c =
     let e : tasks_in c.args.link.now ≡ tasks_of c.root.inside = cc in
     elim c.if-precedes.branch [
@@ -32,7 +33,7 @@ inserted t c =
     ]
 
 -- and their least virtual runtime
-least : (t : ℕ) (c : After-raise t) → c.if-precedes.root-inside.least ≡ least_of (tasks_of c.if-precedes.root-inside)
+least : (t : ℕ) (c : Joined-precedes t) → c.if-precedes.root-inside.least ≡ least_of (tasks_of c.if-precedes.root-inside)
 least t c =
     let e : tasks_in c.args.link.now ≡ tasks_of c.root.inside = cc in
     let d : c.deref-2.result.now.tasks ≡ c.args.node.value.tasks = cc in
@@ -45,7 +46,15 @@ least t c =
     (subst AreLow (d ∙ c.requires.alone) c.least.ensures.bounded).0 (inserted t c)
 
 pub invariant_of-root : goal.invariant_of-root
-invariant_of-root t c = c.raise.ensures.node c.if-precedes.root-inside.least (least t (goal.at.invariant_of-root t c).After-raise ∙ ap least_of (sym c.raise.ensures.tasks))
+invariant_of-root t c = c.raise.ensures.node c.if-precedes.root-inside.least (least t (goal.at.invariant_of-root t c).Joined-precedes ∙ ap least_of (sym c.raise.ensures.tasks))
 
 pub returns-clause-tasks : goal.returns-clause-tasks
-returns-clause-tasks t c = c.raise.ensures.tasks ∙ inserted t (goal.at.returns-clause-tasks t c).After-raise
+returns-clause-tasks t c = c.raise.ensures.tasks ∙ inserted t (goal.at.returns-clause-tasks t c).Joined-precedes
+
+pub raise-requires-clause-few : goal.raise-requires-clause-few
+raise-requires-clause-few t c =
+    few_inserted (2 ^ 20) (first_task c.args.node.value.tasks) (tasks_in c.args.link.now) (tasks_in c.if-precedes.root-inside.sides.left) c.if-precedes.root-inside.task (tasks_in c.if-precedes.root-inside.sides.right)
+    (inserted t (goal.at.raise-requires-clause-few t c).Joined-precedes) c.requires.few
+
+pub returns-clause-length : goal.returns-clause-length
+returns-clause-length t c = more_inserted (first_task c.args.node.value.tasks) (tasks_in c.args.link.now) _ (returns-clause-tasks t c)

@@ -1,10 +1,11 @@
-use Rattle.std.proofs.Common.{◌≡◌, ◌∙◌, [], ◌++◌, true, false, Some, ap, sym, subst, arith, List, length}
+use Rattle.std.proofs.Common.{◌≡◌, ◌≤◌, ◌+◌, ◌^◌, ◌∙◌, [], ◌++◌, true, false, Some, ap, sym, subst, arith, List, length}
 use Rattle.std.specs.Prelude.{not}
 use Rattle.eevdf_queue.specs.{declared.task.Task.Task, declared.tree_node.TreeNode.TheInside.Inside, TaskLists.first_task, TaskLists.find_task}
 use Rattle.eevdf_queue.specs.{TreeShape.tasks_in, TreeNodes.tasks_of, TreeChanges.keeps_least, TreeLeast.least_of}
 use Rattle.eevdf_queue.specs.{TreeTasks.without, TreeKeys.Holds}
 use Rattle.eevdf_queue.proofs.TreeOrder.{none_below, left_alone, last_moved}
-use Rattle.eevdf_queue.proofs.OneSide.{IsSideOf, below_on, edited_on, least_on}
+use Rattle.eevdf_queue.proofs.OneSide.{IsSideOf, below_on, edited_on, least_on, few_on}
+use Rattle.eevdf_queue.proofs.TreeLengths.{left_shorter, few_left, fewer_without}
 use Rattle.eevdf_queue.proofs.{TreeSearch.of_key, TreeSides.found_here, TreeSides.taken_out}
 use Rattle.eevdf_queue.proofs.tree_node.tree_edit.+remove.Goals as goal
 use Rattle.eevdf_queue.proofs.tree_node.tree_edit.+remove.Goals.{then-is_of+else-is_none, else-is_of}
@@ -74,3 +75,26 @@ returns-clause-rest t c =
           ∙ s.here (of_key c.args.key c.root.inside.task (sym c.is_of.ensures ∙ w.if-is_of.true))
     ] in
     c.correct-change.ensures.tasks ∙ rest
+
+pub exchanged-taken-requires-clause-few : goal.exchanged-taken-requires-clause-few
+exchanged-taken-requires-clause-few t c =
+    let e : tasks_in c.args.link.now ≡ tasks_of c.root.inside = cc in
+    let n = left_shorter _ (tasks_in c.root.inside.sides.left) c.root.inside.task (tasks_in c.root.inside.sides.right) e in
+    let few = c.requires.few in
+    omega (arith, n, few)
+
+pub correct-change-requires-clause-few : goal.correct-change-requires-clause-few
+correct-change-requires-clause-few t c =
+    let e : tasks_in c.args.link.now ≡ tasks_of c.root.inside = cc in
+    let few = subst (λ (z : List Task). length z ≤ 2 ^ 20) e c.requires.few in
+    elim c.if-is_of.branch [
+      | else-is_of w ↦
+          subst (λ (a : Inside). length (tasks_in a.sides.left) + length (tasks_in a.sides.right) ≤ 2 ^ 20) (sym w.root-inside-is)
+          (few_on (2 ^ 20) c.root.inside.sides c.root.inside.task w.remove-taken.new.link w.side_of.result few (ap (λ z. length (tasks_in z)) (sym w.side_mut.ensures.value) ∙ w.remove-taken.ensures.length))
+      | then-is_of+else-is_none w ↦
+          subst (λ (a : Inside). length (tasks_in a.sides.left) + length (tasks_in a.sides.right) ≤ 2 ^ 20) (sym w.root-inside-is)
+          (few_left (2 ^ 20) _ (tasks_in c.root.inside.sides.left) c.root.inside.task (tasks_in c.root.inside.sides.right) (tasks_in w.exchanged-taken.new.left) e c.requires.few w.exchanged-taken.ensures.length)
+    ]
+
+pub returns-clause-length : goal.returns-clause-length
+returns-clause-length t c = fewer_without c.args.key.number _ _ c.requires.here (returns-clause-rest t c)
