@@ -46,29 +46,30 @@ impl fmt::Display for Answer {
     ghost output = { λ answer. Some (answer_text answer) };
 
     fn fmt<W: fmt::Write>(&self, f: &mut fmt::Formatter<W>) -> fmt::Result {
-        match self {
+        let word = match self {
             Answer::Charged {
                 task,
                 resched: true,
-            } => write!(f, "charged {task} resched"),
+            } => return write!(f, "charged {task} resched"),
             Answer::Charged {
                 task,
                 resched: false,
-            } => write!(f, "charged {task}"),
-            Answer::Picked(task) => write!(f, "picked {task}"),
-            Answer::Idle => f.write_str("idle"),
-            Answer::Yielded => f.write_str("yielded"),
-            Answer::Slept(lag) => write!(f, "slept {lag}"),
-            Answer::NotRunning => f.write_str("not running"),
-            Answer::Woken => f.write_str("woken"),
-            Answer::Awake => f.write_str("awake"),
-            Answer::Pulled(task) => write!(f, "pulled {task}"),
-            Answer::Balanced => f.write_str("balanced"),
-            Answer::Nothing => f.write_str("nothing"),
-            Answer::Range => f.write_str("range"),
-            Answer::Reniced => f.write_str("reniced"),
-            Answer::NotHere => f.write_str("not here"),
-        }
+            } => return write!(f, "charged {task}"),
+            Answer::Picked(task) => return write!(f, "picked {task}"),
+            Answer::Slept(lag) => return write!(f, "slept {lag}"),
+            Answer::Pulled(task) => return write!(f, "pulled {task}"),
+            Answer::Idle => "idle",
+            Answer::Yielded => "yielded",
+            Answer::NotRunning => "not running",
+            Answer::Woken => "woken",
+            Answer::Awake => "awake",
+            Answer::Balanced => "balanced",
+            Answer::Nothing => "nothing",
+            Answer::Range => "range",
+            Answer::Reniced => "reniced",
+            Answer::NotHere => "not here",
+        };
+        f.write_str(word)
     }
 }
 
