@@ -1,4 +1,5 @@
-ghost use Rattle.std.specs.Prelude.{Some};
+ghost use Rattle.std.specs.Prelude.{Some, ◌++◌, codes, decimal};
+ghost use Rattle.std.specs.Fmt.{WritesOnOk};
 ghost use Rattle.eevdf_workload.specs.FaultTexts.{key_text};
 
 use crate::workload::Workload;
@@ -46,21 +47,35 @@ impl fmt::Display for Key {
         match self {
             Key::Version => f.write_str("version"),
             Key::Tasks => f.write_str("task"),
-            Key::Task(task) => write!(f, "task {task}"),
-            Key::Home(task) => write!(f, "task {task} home"),
-            Key::Nice(task) => write!(f, "task {task} nice"),
-            Key::Slice(task) => write!(f, "task {task} slice"),
-            Key::Start(task) => write!(f, "task {task} start"),
-            Key::Asleep(task) => write!(f, "task {task} asleep"),
+            Key::Task(task) => numbered(f, "task ", task),
+            Key::Home(task) => of_task(f, task, " home"),
+            Key::Nice(task) => of_task(f, task, " nice"),
+            Key::Slice(task) => of_task(f, task, " slice"),
+            Key::Start(task) => of_task(f, task, " start"),
+            Key::Asleep(task) => of_task(f, task, " asleep"),
             Key::Programs => f.write_str("program"),
-            Key::Program(cpu) => write!(f, "program {cpu}"),
+            Key::Program(cpu) => numbered(f, "program ", cpu),
             Key::Op(cpu, place) => write!(f, "program {cpu} at {place}"),
             Key::Orders => f.write_str("order"),
-            Key::Order(place) => write!(f, "order at {place}"),
+            Key::Order(place) => numbered(f, "order at ", place),
             Key::Scripts => f.write_str("script"),
-            Key::Script(place) => write!(f, "script at {place}"),
+            Key::Script(place) => numbered(f, "script at ", place),
         }
     }
+}
+
+// Writes a number behind a text.
+fn numbered<W: fmt::Write>(f: &mut fmt::Formatter<W>, text: &str, number: &usize) -> fmt::Result
+    ensures { WritesOnOk W.write_str_gives f.old result (text.now ++ decimal number.now) f.new }
+{
+    write!(f, "{text}{number}")
+}
+
+// Writes the number of a task, and the key of it that a text names.
+fn of_task<W: fmt::Write>(f: &mut fmt::Formatter<W>, task: &usize, key: &str) -> fmt::Result
+    ensures { WritesOnOk W.write_str_gives f.old result (codes "task " ++ decimal task.now ++ key.now) f.new }
+{
+    write!(f, "task {task}{key}")
 }
 
 /// Why a workload is refused.
