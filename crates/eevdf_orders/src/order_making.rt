@@ -4,6 +4,7 @@ ghost use Rattle.std.specs.Prelude.{◌≡◌, ◌-◌, ◌<◌, ◌≤◌, true
 ghost use Rattle.eevdf_orders.specs.{CallerSteps.IsStepAmong, CallerSteps.IsStepFrom, ChosenOrders.IsChosen};
 ghost use Rattle.eevdf_orders.specs.FaultLines.{order_fault_text};
 ghost use Rattle.eevdf_steps.specs.{Counters.ready, Orders.play_fault, Plan.callers, Plan.plan_of};
+ghost use Rattle.eevdf_steps.specs.{Players.player_start};
 
 use crate::caller_choice::Choice;
 use eevdf_ops::Setup;
@@ -38,7 +39,7 @@ impl Error for OrderFault {}
 /// An order in which the callers of a setup can do all their steps: at each place the next caller that may step, going
 /// around from the one with whom the choice begins, and at the end every caller is done. `TooLong` comes only where every
 /// order has a fault; out of memory may come in place of all.
-pub fn order_of(alloc: Global, setup: &Setup, mut choice: Choice) -> Result<Vec<usize>, OrderFault>
+pub fn order_of(alloc: Global, setup: &Setup, choice: Choice) -> Result<Vec<usize>, OrderFault>
     ensures faultless { IfOk result (λ order. play_fault (plan_of setup.now) order.items ≡ None) }
     ensures chosen { IfOk result (λ order. IsChosen (plan_of setup.now) choice order.items) }
     ensures too_long { result ≡ Err OrderFault.TooLong → (order : List ℕ) →
@@ -47,6 +48,22 @@ pub fn order_of(alloc: Global, setup: &Setup, mut choice: Choice) -> Result<Vec<
     let Ok(mut player) = Player::open(alloc, setup) else {
         return Err(OrderFault::Memory);
     };
+    played_order(alloc, setup, &mut player, choice)
+}
+
+/// That order, as a player at the start is played by it.
+fn played_order(
+    alloc: Global,
+    setup: &Setup,
+    player: &mut Player,
+    mut choice: Choice,
+) -> Result<Vec<usize>, OrderFault>
+    requires { player.old ≡ player_start setup.now }
+    ensures faultless { IfOk result (λ order. play_fault (plan_of setup.now) order.items ≡ None) }
+    ensures chosen { IfOk result (λ order. IsChosen (plan_of setup.now) choice order.items) }
+    ensures too_long { result ≡ Err OrderFault.TooLong → (order : List ℕ) →
+        is_some (play_fault (plan_of setup.now) order) ≡ true }
+{
     let count = setup.cpus();
     let mut order = Vec::new(alloc);
     let mut last = count - 1;
@@ -54,7 +71,7 @@ pub fn order_of(alloc: Global, setup: &Setup, mut choice: Choice) -> Result<Vec<
         if player.ready().is_none() {
             return Ok(order);
         }
-        last = step_from(&mut player, count, choice.first(count, last));
+        last = step_from(player, count, choice.first(count, last));
         if order.push(last).is_err() {
             return Err(OrderFault::Memory);
         }

@@ -1,9 +1,9 @@
 //! From the bytes of a workload to the same bytes with an order.
 
-ghost use Rattle.std.specs.Prelude.{◌≡◌, ◌≢◌, false, true, IfOk, IfErr, IfSome, OnOk, Err};
+ghost use Rattle.std.specs.Prelude.{◌≡◌, ◌≢◌, false, true, IfOk, IfErr, IfSome, OnOk, Err, Ok};
 ghost use Rattle.eevdf_bench.specs.Streams.{ReadsWithin};
 ghost use Rattle.eevdf_orders.specs.OrderedWorkload as texts;
-ghost use Rattle.eevdf_workload.specs.Meaning.{read_limit};
+ghost use Rattle.eevdf_workload.specs.Meaning.{meaning, read_limit};
 
 use crate::caller_choice::Choice;
 use crate::order_making::{OrderFault, order_of};
@@ -11,6 +11,7 @@ use crate::order_text::ordered;
 use crate::print_fault::PrintFault;
 use eevdf_bench::{BenchFault, Watched, read_input, read_workload, write_text};
 use eevdf_steps::PlayFault;
+use eevdf_workload::Workload;
 use std::alloc::Global;
 use std::io::{Read, Write};
 
@@ -69,10 +70,25 @@ fn ordered_text(alloc: Global, input: &[u8], seed: Option<u64>) -> Result<Vec<u8
     ensures read { result ≢ Err (PrintFault.Bench BenchFault.Read) }
     ensures write { result ≢ Err (PrintFault.Bench BenchFault.Write) }
 {
-    let workload = match read_workload(alloc, input) {
-        Ok(workload) => workload,
-        Err(fault) => return Err(PrintFault::Bench(BenchFault::Load(fault))),
-    };
+    match read_workload(alloc, input) {
+        Ok(workload) => with_order(alloc, &workload, input, seed),
+        Err(fault) => Err(PrintFault::Bench(BenchFault::Load(fault))),
+    }
+}
+
+/// The same of the workload that these bytes mean.
+fn with_order(
+    alloc: Global,
+    workload: &Workload,
+    input: &[u8],
+    seed: Option<u64>,
+) -> Result<Vec<u8>, PrintFault>
+    requires { meaning input.now ≡ Ok workload.now }
+    ensures ordered { IfOk result (λ text. texts.IsOrdered seed input.now text.items) }
+    ensures refused { IfErr result (λ f. texts.RefusesAs input.now f) }
+    ensures read { result ≢ Err (PrintFault.Bench BenchFault.Read) }
+    ensures write { result ≢ Err (PrintFault.Bench BenchFault.Write) }
+{
     if workload.order().is_some() {
         return Err(PrintFault::Ordered);
     }

@@ -1,7 +1,7 @@
 use Rattle.std.proofs.Common.{◌≡◌, ◌<◌, length}
 use Rattle.eevdf_steps.specs.Plan.{plan_of}
 use Rattle.eevdf_orders.proofs.{ChosenPlaces.IsChoosing, PlacedOrders.IsPlaced}
-use Rattle.eevdf_orders.proofs.order_making.order_of.Given as goal
+use Rattle.eevdf_orders.proofs.order_making.played_order.Given as goal
 
 abbrev pub invariant-loop-place : goal.invariant-loop-place
 invariant-loop-place l = record {

@@ -3,13 +3,13 @@ use Rattle.eevdf_steps.specs.Plan.{plan_of}
 use Rattle.eevdf_orders.proofs.ChosenPlaces.{IsChoosing, choosing_first, choosing_more}
 use Rattle.eevdf_orders.proofs.PlacedOrders.{IsPlaced, below_count, nobody_unfinished, one_place_more, placed_first, placed_more, placed_whole, pushed, somebody_unfinished}
 use Rattle.eevdf_orders.proofs.StepsLeft.{all_faulty}
-use Rattle.eevdf_orders.proofs.order_making.order_of.Goals as goal
+use Rattle.eevdf_orders.proofs.order_making.played_order.Goals as goal
 
 pub loop-place-init : goal.loop-place-init
 loop-place-init c = record {
   placed =
-      subst (λ (xs : List ℕ). IsPlaced (plan_of c.args.setup.now) c.in-Ok.player xs) (sym c.new-order.ensures.items)
-      (placed_first c.args.setup.now c.in-Ok.player c.in-Ok.ensures);
+      subst (λ (xs : List ℕ). IsPlaced (plan_of c.args.setup.now) c.args.player.now xs) (sym c.new-order.ensures.items)
+      (placed_first c.args.setup.now c.args.player.now c.requires);
   choosing =
       subst (λ (xs : List ℕ). IsChoosing (plan_of c.args.setup.now) c.args.choice c.args.choice xs (c.cpus-count.result - 1)) (sym c.new-order.ensures.items)
       (choosing_first (plan_of c.args.setup.now) c.args.choice c.cpus-count.result c.cpus-count.ensures.cpus);
@@ -49,8 +49,8 @@ returns-in-None-clause-faultless c =
     (omega (arith, c.loop-place.invariant.places, c.loop-place.auto._place-end))
     (sym c.in-None.ensures.none)
 
-pub returns-clause-too_long : goal.returns-clause-too_long
-returns-clause-too_long c e other =
+pub returns-in-Some-clause-too_long : goal.returns-in-Some-clause-too_long
+returns-in-Some-clause-too_long c e other =
     all_faulty (plan_of c.args.setup.now) c.loop-place.player c.loop-place.order.items c.loop-place.invariant.placed
     (omega (arith, c.loop-place.invariant.places, c.loop-place.auto._place-end, c.loop-place-test.false))
     (somebody_unfinished _ c.in-Some.ensures.none) other
