@@ -1,7 +1,7 @@
 //! The command for which the program's words ask.
 
 ghost use Rattle.std.specs.Prelude.{◌≡◌, IfOk, Err, Some, map, option_map, option_and_then, true, false, is_some};
-ghost use Rattle.clap.specs.Words.{app_of, kind_of, subcommand_name_of, subcommand_rows_of};
+ghost use Rattle.clap.specs.Words.{app_of, kind_of, subcommand_name_of, subcommand_rows_of, with_subcommand};
 ghost use Rattle.clap.specs.declared.builder.command.Command.TheViews.{out-Command as fields_of};
 ghost use Rattle.eevdf_bench.specs.Command as spec;
 ghost use Rattle.eevdf_bench.specs.declared.command.WordFault.TheVariants.{Memory};
@@ -131,13 +131,28 @@ fn program<'a>(alloc: Global) -> Result<clap::Command<'a>, AllocError>
     ensures model { IfOk result (λ c. app_of c ≡ spec.program) }
     ensures local { IfOk result (λ c. (fields_of c).has_globals ≡ false) }
 {
-    clap::Command::new(alloc, "eevdf")
+    let bare = clap::Command::new(alloc, "eevdf")
         .subcommand_required(true)
         .disable_help_flag(true)
-        .disable_help_subcommand(true)
-        .subcommand(subcommand(alloc, "solo")?)?
-        .subcommand(subcommand(alloc, "replay")?)?
-        .subcommand(subcommand(alloc, "run")?)
+        .disable_help_subcommand(true);
+    let one = with_command(alloc, bare, "solo")?;
+    let two = with_command(alloc, one, "replay")?;
+    with_command(alloc, two, "run")
+}
+
+// The same with another subcommand.
+fn with_command<'a>(
+    alloc: Global,
+    program: clap::Command<'a>,
+    name: &'a str,
+) -> Result<clap::Command<'a>, AllocError>
+    requires { (fields_of program).has_globals ≡ false }
+    ensures model { IfOk result (λ c. app_of c
+        ≡ with_subcommand (app_of program.entry) (spec.subcommand name.entry.now).top) }
+    ensures local { IfOk result (λ c. (fields_of c).has_globals ≡ false) }
+{
+    let command = subcommand(alloc, name)?;
+    program.subcommand(command)
 }
 
 // A subcommand with its flag.
