@@ -11,6 +11,8 @@ from pathlib import Path
 TOP = Path(__file__).resolve().parent
 # What rt reads of a crate, what it makes of it for the crates above, and what it keeps for the crate's next check.
 SOURCES = ("src", "specs", "proofs")
+# What the gate runs a program with, and what it must print.
+RUN_WITH = ("args", "stdin", "stdout", "status", "data")
 RLIB, KEPT = "out/rlib", "out/incremental"
 
 
@@ -36,8 +38,11 @@ def all_below(crates, crate):
 def copy_parts(crate, parts, top, how=os.link):
     """Copies parts of a crate below another top, by links where nothing else is said: rt writes a file anew to change it."""
     for part in parts:
-        if (folder_of(crate) / part).is_dir():
-            shutil.copytree(folder_of(crate) / part, top / "crates" / crate / part, copy_function=how)
+        source, target = folder_of(crate) / part, top / "crates" / crate / part
+        if source.is_dir():
+            shutil.copytree(source, target, copy_function=how)
+        elif source.is_file():
+            how(source, target)
 
 
 def copy_list(crates, top):
