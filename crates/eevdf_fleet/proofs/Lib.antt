@@ -5,6 +5,7 @@ pub mod Boards
 pub mod Sums
 pub mod Rooms
 pub mod Commits
+pub mod Advances
 pub mod Pulled
 pub mod Placed
 pub mod Openings

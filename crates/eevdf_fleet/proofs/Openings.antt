@@ -1,9 +1,9 @@
 -- The claims that a fleet is opened with, CPU by CPU.
-use Rattle.std.proofs.Common.{◌≡◌, ℕ, zero, suc, ◌+◌, ◌<◌, List, [], ◌∷◌, ◌++◌, length, map, get_or, drop, set, reverse, refl, sym, ap, subst, ◌∙◌, arith}
+use Rattle.std.proofs.Common.{◌≡◌, ℕ, zero, suc, ◌+◌, ◌<◌, ◌≤◌, List, [], ◌∷◌, ◌++◌, length, map, get_or, drop, set, reverse, refl, sym, ap, subst, ◌∙◌, arith}
 use Rattle.eevdf_queue.specs.State.{View}
 use Rattle.eevdf_ops.specs.Outcome.{machine_of}
 use Rattle.eevdf_fleet.specs.{declared.board.claims.Claim.Claim, declared.board.claims.Claim.TheVariants.Seat}
-use Rattle.eevdf_fleet.specs.{declared.board.claims.Claim.TheVariants.Queue, Claims.claims_from}
+use Rattle.eevdf_fleet.specs.{declared.board.claims.Claim.TheVariants.Queue, declared.board.claims.Claim.TheVariants.Journal, Claims.claims_from}
 use Rattle.eevdf_fleet.specs.Fleets.{AreParts, SeatLog, fresh, fresh_log, fresh_logs, seat_of, takes_by}
 use Rattle.eevdf_fleet.specs.Rings.{Posts, Takes, no_posts, no_takes}
 use Rattle.eevdf_fleet.proofs.Takes.{no-takes}
@@ -35,6 +35,16 @@ other-claims qs n q y claims others h e is rest =
     ∙ ap (λ (k : ℕ). claims_from (n + 1) (drop k (machine_of qs))) (let s : n + 1 ≡ suc n = omega arith in s)
     ∙ ap (claims_from (n + 1)) (sym (drop-machine-set qs n y))
     ∙ ap (λ (k : ℕ). claims_from (n + 1) (drop k (machine_of (set qs n y)))) (let s : suc n ≡ n + 1 = omega arith in s)
+
+-- no queue is left
+drop-none : (qs : List View) (n : ℕ) → length qs ≤ n → drop n (machine_of qs) ≡ []
+drop-none [] zero h = refl
+drop-none [] (suc n) h = refl
+drop-none (q ∷ qs) zero h = absurd (omega arith)
+drop-none (q ∷ qs) (suc n) h = drop-none qs n (omega arith)
+
+pub last-claims : (qs : List View) (n : ℕ) (claims : List Claim) → length qs ≤ n → claims ≡ claims_from n (drop n (machine_of qs)) → claims ≡ Journal [] ∷ []
+last-claims qs n claims h is = is ∙ ap (claims_from n) (drop-none qs n h)
 
 pub fresh-more : (quota n : ℕ) (logs more : List SeatLog) (s : SeatLog) → logs ≡ fresh_logs quota n → s ≡ fresh_log quota n → more ≡ logs ++ s ∷ [] → more ≡ fresh_logs quota (n + 1)
 fresh-more quota n logs more s es e em =

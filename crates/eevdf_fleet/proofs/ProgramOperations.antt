@@ -14,9 +14,11 @@ use Rattle.eevdf_fleet.specs.ProgramRuns.{HasOperated, HasRun}
 use Rattle.eevdf_fleet.proofs.ProgramDrains.{fits-waiting-more, takes-own, waiting-more, waits-after}
 
 -- a task that is posted is one of the setup
+pub posts-known : (homes : List ℕ) (cpus cpu n task : ℕ) (o : Op) → operation_fault (length homes) cpus cpu n o ≡ None → o ≡ op.Post task → nat_lt task (length homes) ≡ true
+posts-known homes cpus cpu n task o e is = passes (nat_lt task (length homes)) _ (subst (λ (x : Op). operation_fault (length homes) cpus cpu n x ≡ None) is e)
+
 pub posts-a-task : (homes : List ℕ) (cpus cpu n task : ℕ) (o : Op) → operation_fault (length homes) cpus cpu n o ≡ None → o ≡ op.Post task → task < length homes
-posts-a-task homes cpus cpu n task o e is =
-    ltb-true task (length homes) (passes (nat_lt task (length homes)) _ (subst (λ (x : Op). operation_fault (length homes) cpus cpu n x ≡ None) is e))
+posts-a-task homes cpus cpu n task o e is = ltb-true task (length homes) (posts-known homes cpus cpu n task o e is)
 
 posted-next : (posted : List (List ℕ)) (at home task : ℕ) (b : Bool) → (at == home) ≡ b → at < length posted
     → get_or (set posted at (get_or posted at [] ++ task ∷ [])) home [] ≡ get_or posted home [] ++ cond b (task ∷ []) []

@@ -1,8 +1,9 @@
 -- Lists of what each CPU has, in order, from which the first is taken and to which one more is added, and the seats of all CPUs.
-use Rattle.std.proofs.Common.{◌≡◌, ℕ, suc, ◌+◌, ◌<◌, List, [], ◌∷◌, ◌++◌, length, map, get_or, inl, inr, sym, ap, subst, ◌∙◌, arith}
+use Rattle.std.proofs.Common.{◌≡◌, ℕ, suc, ◌+◌, ◌<◌, List, [], ◌∷◌, ◌++◌, length, map, get_or, ⊎_elim, inl, inr, sym, ap, subst, ◌∙◌, arith}
 use Rattle.std.proofs.{lemmas.Bool.cases_lt, lemmas.List.get_or_append_left, lemmas.List.get_or_push}
-use Rattle.std.specs.List.{range_with_len}
+use Rattle.std.specs.{List.range_with_len, Prelude.slice_get, Prelude.Some}
 use Rattle.eevdf_fleet.specs.{Fleets.AreSeats, Fleets.Seat, SeatWorks.AreDone}
+use Rattle.eevdf_fleet.proofs.RingPlaces.{got-read}
 
 -- the first of the seats that are left, and the others
 pub next-seat : {X : Type 0} (f : ℕ → X) (k m n : ℕ) (xs rest : List X) (x : X) → xs ≡ map f (range_with_len k m) → xs ≡ x ∷ rest → n + 1 ≡ m
@@ -42,3 +43,14 @@ others-hold P m n xs rest x parted all k d within =
 -- seats with which a work was done are those of all CPUs, in order
 pub done-seats : (cpus : ℕ) (IsDone : Seat → Type 0) (seats : List Seat) → AreDone cpus IsDone seats → AreSeats cpus seats
 done-seats cpus IsDone seats done = record { all = done.all; in_order = λ cpu s at. (done.each cpu s at).0 }
+
+-- one seat more stands at its number
+pub in-order-more : (seats : List Seat) (number : ℕ) (s : Seat) → ((cpu : ℕ) (x : Seat) → slice_get seats cpu ≡ Some x → cpu < number → x.cpu ≡ cpu)
+    → s ≡ get_or seats number s → s.cpu ≡ number → (cpu : ℕ) (x : Seat) → slice_get seats cpu ≡ Some x → cpu < number + 1 → x.cpu ≡ cpu
+in-order-more seats number s before at own cpu x got within =
+    ⊎_elim (λ lower. before cpu x got lower)
+    (λ above.
+    let here : cpu ≡ number = omega arith in
+    let read : slice_get seats number ≡ Some s = got-read seats number s x at (subst (λ (k : ℕ). slice_get seats k ≡ Some x) here got) in
+    let same : x ≡ s = cc in ap (λ (y : Seat). y.cpu) same ∙ own ∙ sym here)
+    (cases_lt cpu number)

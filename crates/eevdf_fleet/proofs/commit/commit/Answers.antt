@@ -1,7 +1,6 @@
-use Rattle.std.proofs.Common.{◌≡◌, ◌<◌, List, length, sym, ap, subst, ◌∙◌, arith}
+use Rattle.std.proofs.Common.{◌≡◌, ◌<◌, List, length, map, drop, sym, ap, subst, ◌∙◌, arith}
 use Rattle.eevdf_fleet.specs.{declared.board.claims.Claim.Claim, declared.board.claims.Claim.TheVariants.Seat}
-use Rattle.eevdf_fleet.specs.{declared.board.claims.Claim.TheVariants.Journal, Claims.Owes, Board.Known, Board.claims_of}
-use Rattle.eevdf_fleet.specs.Fleets.{setup_of}
+use Rattle.eevdf_fleet.specs.{declared.board.claims.Claim.TheVariants.Journal, Claims.Owes, Claims.advanced, Board.Known, Board.claims_of}
 use Rattle.eevdf_fleet.specs.Fleets as fleets
 use Rattle.eevdf_fleet.proofs.Commits.{with_seat, owes-all, joined-claims}
 use Rattle.eevdf_fleet.proofs.Rooms.{journal-room}
@@ -35,3 +34,9 @@ push_reserved-requires g c =
     let known : Known g.N.Names.kit.terms (with_seat c.log.inside.cpu c.log.inside.lines.items c.journal.inside.lines.items (claims_of c.args.queues)) =
     subst (λ (cs : List Claim). Known g.N.Names.kit.terms cs) (joined g at) c.check-token.ensures.known in
     omega (arith, journal-room g.N.Names.kit.terms c.log.inside.cpu c.log.inside.lines.items c.journal.inside.lines.items (claims_of c.args.queues) known c.log.invariant.2 (some g at), c.journal.invariant.2, c.journal.inside.lines.ok.0)
+
+pub returns-clause-claims : goal.returns-clause-claims
+returns-clause-claims g c =
+    let at : After-check-token g = (goal.at.returns-clause-claims g c).After-check-token in
+    c.split-all.ensures.other_claims ∙ ap (λ (l : List Claim). drop 1 l) c.split-own.ensures.other_claims
+    ∙ ap (λ (l : List Claim). drop 1 (drop 1 l)) (c.append-token.ensures.claims ∙ ap (map (advanced c.args.said.now)) (c.check-token.ensures.claims ∙ joined g at))

@@ -1,9 +1,9 @@
-use Rattle.std.proofs.Common.{◌≡◌, ◌<◌, ◌+◌, ℕ, List, [], ◌∷◌, length, take, drop, get_or, sym, ap, ◌∙◌, arith, rules}
+use Rattle.std.proofs.Common.{◌≡◌, ◌<◌, ◌≤◌, ◌+◌, ℕ, List, [], ◌∷◌, length, take, drop, get_or, sym, ap, ◌∙◌, arith}
 use Rattle.eevdf_queue.specs.State.{View}
-use Rattle.eevdf_ops.specs.Outcome.{machine_of}
+use Rattle.eevdf_ops.specs.{Outcome.machine_of, Setup.cpus_of}
 use Rattle.eevdf_fleet.specs.{declared.board.claims.Claim.Claim, declared.board.claims.Claim.TheVariants.Seat}
-use Rattle.eevdf_fleet.specs.{declared.board.claims.Claim.TheVariants.Queue, Board.claims_of, Claims.claims_from, Fleets.fresh_log}
-use Rattle.eevdf_fleet.proofs.Openings.{next-claims, other-claims, fresh-more}
+use Rattle.eevdf_fleet.specs.{declared.board.claims.Claim.TheVariants.Queue, Board.claims_of, Claims.claims_from, Fleets.fresh_log, Fleets.fresh_logs, Fleets.setup_of}
+use Rattle.eevdf_fleet.proofs.Openings.{last-claims, next-claims, other-claims, fresh-more}
 use Rattle.eevdf_fleet.proofs.opening.open_all.Goals as goal
 use Rattle.eevdf_fleet.proofs.opening.open_all.Goals.{After-numbered}
 
@@ -30,7 +30,7 @@ open_one-requires-clause-queue g c =
 pub loop-number-preserved : goal.loop-number-preserved
 loop-number-preserved g c =
     let at : After-numbered g = (goal.at.loop-number-preserved g c).After-numbered in (
-      search rules,
+      c.in_ok-part.ensures.token,
       other-claims c.loop-number.queues.items c.loop-number.number c.replace-queue.result c.replace-queue.new.dest (claims_of c.loop-number.token) (claims_of c.in_ok-part.part.others)
           (within g at) (taken g at) c.loop-number.invariant.1 c.in_ok-part.ensures.claims,
       fresh-more c.args.quota c.loop-number.number c.loop-number.logs.items c.push.new.self.items c.in_ok-part.part.log c.loop-number.invariant.2
@@ -39,3 +39,19 @@ loop-number-preserved g c =
       c.loop-number.invariant.4,
       c.loop-number.invariant.5,
     )
+
+pub open_one-requires-clause-token : goal.open_one-requires-clause-token
+open_one-requires-clause-token g c = c.loop-number.invariant.0
+
+pub open_one-requires-clause-cpu : goal.open_one-requires-clause-cpu
+open_one-requires-clause-cpu g c = omega (arith, c.numbered.ensures, c.loop-number-test.true, c.loop-number.invariant.5)
+
+pub returns-clause-logs : goal.returns-clause-logs
+returns-clause-logs g c =
+    let all : c.loop-number.number ≡ cpus_of (setup_of g.N.Names.kit) = omega (arith, c.loop-number-test.false, c.loop-number.auto.number-end, c.loop-number.invariant.5) in
+    c.loop-number.invariant.2 ∙ ap (fresh_logs c.args.quota) all
+
+pub returns-clause-claims : goal.returns-clause-claims
+returns-clause-claims g c =
+    let ended : length c.loop-number.queues.items ≤ c.loop-number.number = omega (arith, c.loop-number-test.false, c.loop-number.invariant.4, c.loop-number.invariant.5, c.loop-number.queues.ok.0) in
+    last-claims c.loop-number.queues.items c.loop-number.number (claims_of c.loop-number.token) ended c.loop-number.invariant.1

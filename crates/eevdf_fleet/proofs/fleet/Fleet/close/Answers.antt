@@ -1,7 +1,7 @@
 use Rattle.std.proofs.Common.{◌≡◌, true, List, map, sym, subst}
-use Rattle.std.specs.List.{list_all}
-use Rattle.eevdf_ops.specs.{declared.deeds.Line.Line, Programs.deeds_of, Setup.allows, Setup.cpus_of, Setup.homes_of}
-use Rattle.eevdf_fleet.specs.{Rings.Returned, Rings.AreLeft, Fleets.AllPostsTold, Fleets.setup_of}
+use Rattle.std.specs.{List.list_all, Prelude.All}
+use Rattle.eevdf_ops.specs.{declared.deeds.Line.Line, Programs.deeds_of, Programs.lines_by, Setup.allows, Setup.cpus_of, Setup.homes_of}
+use Rattle.eevdf_fleet.specs.{Rings.Returned, Rings.AreLeft, Fleets.AllPostsTold, Fleets.Seat, Fleets.setup_of}
 use Rattle.eevdf_fleet.proofs.PostsTold.{all-told, seats-returned}
 use Rattle.eevdf_fleet.proofs.AllowedLines.{lines-allowed}
 use Rattle.eevdf_fleet.proofs.fleet.Fleet.close.Goals as goal
@@ -29,3 +29,6 @@ returns-clause-allowed g c =
     subst (λ (l : List Line). list_all (allows s) (deeds_of l) ≡ true) (sym c.of.ensures.lines)
     (lines-allowed (cpus_of s) (homes_of s) c.args.seats.items c.lines.inside.lines.items _ c.requires c.close_seats-token.ensures.homes
     (told g (goal.at.returns-clause-allowed g c).After-of) c.close_locks-queues.ensures.kept.committable)
+
+pub returns-clause-logs : goal.returns-clause-logs
+returns-clause-logs g c = subst (λ (l : List Line). All (λ (s : Seat). lines_by s.cpu l ≡ s.log) c.args.seats.items) (sym c.of.ensures.lines) c.close_seats-token.ensures.logs

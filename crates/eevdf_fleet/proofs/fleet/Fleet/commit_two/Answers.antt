@@ -1,0 +1,25 @@
+use Rattle.std.proofs.Common.{◌≡◌, List, [], ◌∷◌, map, take, drop, ap, ◌∙◌}
+use Rattle.eevdf_queue.specs.declared.queue.Queue.{Queue}
+use Rattle.eevdf_fleet.specs.declared.board.claims.{Claim.Claim, Said.Said}
+use Rattle.eevdf_fleet.specs.declared.board.claims.Claim.TheVariants as claim
+use Rattle.eevdf_fleet.specs.{Board.claims_of, Claims.advanced}
+use Rattle.eevdf_fleet.proofs.Advances.{two-advanced}
+use Rattle.eevdf_fleet.proofs.fleet.Fleet.commit_two.Goals as goal
+use Rattle.eevdf_fleet.proofs.fleet.Fleet.commit_two.Goals.{After-split}
+
+-- what the committed token claims
+claimed : (g : _) (c : After-split g) → claims_of c.commit-token.result ≡ claim.Queue c.args.log.now.cpu c.args.queue.now.state ∷ claim.Queue c.args.other c.args.other_queue.now.state ∷ []
+claimed g c =
+    let said : Said = c.said_both-said.result in
+    c.commit-token.ensures.claims ∙ ap (map (advanced said)) c.requires.done.claimed
+    ∙ two-advanced said c.args.log.now.cpu c.args.other c.requires.done.before c.requires.done.other_before c.args.queue.now.state c.args.other_queue.now.state c.requires.apart
+    (ap (λ (s : Said). s.first.cpu) c.said_both-said.ensures ∙ c.change.ensures.cpu ∙ c.cpu.ensures.cpu)
+    (ap (λ (s : Said). s.second.cpu) c.said_both-said.ensures ∙ c.change-2.ensures.cpu)
+    (ap (λ (s : Said). s.first.queue.value.state) c.said_both-said.ensures ∙ ap (λ (q : Queue). q.state) c.change.ensures.queue)
+    (ap (λ (s : Said). s.second.queue.value.state) c.said_both-said.ensures ∙ ap (λ (q : Queue). q.state) c.change-2.ensures.queue)
+
+pub returns-clause-first_claim : goal.returns-clause-first_claim
+returns-clause-first_claim g c = c.split.ensures.first_claim ∙ ap (λ (cs : List Claim). take 1 cs) (claimed g (goal.at.returns-clause-first_claim g c).After-split)
+
+pub returns-clause-second_claim : goal.returns-clause-second_claim
+returns-clause-second_claim g c = c.split.ensures.other_claims ∙ ap (λ (cs : List Claim). drop 1 cs) (claimed g (goal.at.returns-clause-second_claim g c).After-split)
