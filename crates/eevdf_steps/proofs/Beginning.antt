@@ -3,7 +3,7 @@ use Rattle.std.proofs.Common.{◌≡◌, ℕ, zero, suc, ◌*◌, ◌/◌, ◌<�
 use Rattle.std.proofs.Math.ListN.{length-replicate}
 use Rattle.std.proofs.lemmas.Nat.{div-mul-add, mod-mul-add, mul-add-lt}
 use Rattle.std.specs.Prelude.{Option, None}
-use Rattle.eevdf_ops.specs.{Machine.Machine, Machine.start, Places.IsPlaced, Programs.posts_in, Setup.Setup, Setup.homes_of}
+use Rattle.eevdf_ops.specs.{Machine.start, Places.IsPlaced, Programs.posts_in, Setup.Setup, Setup.homes_of}
 use Rattle.eevdf_steps.proofs.{SerialStart.serial_start, Holders.count_first, ProgramPosts.program_posts, Reserving.room_first}
 use Rattle.eevdf_steps.specs.Plan.{IsSound, Plan, callers, pair, plan_of, program}
 use Rattle.eevdf_steps.specs.{MicroSteps.steps_by, Orders.counters_at_start, Callers.Callers, Places.hands_with, Openings.AreEmpty}
@@ -38,20 +38,20 @@ taken_none (l ∷ lists) (suc n) e h =
     ap (λ (k : ℕ). k ∷ map (λ (m : PostList). m.taken) lists) (h 0 (omega arith))
     ∙ ap (λ (ns : List ℕ). 0 ∷ ns) (taken_none lists n (omega arith) (λ k below. h (suc k) (omega arith)))
 
-pub playing_first : (plan : Plan) (lists : List PostList) (m : Machine) → IsSound plan → m ≡ plan.start → AreEmpty plan lists → length m ≡ callers plan → IsPlaced plan.homes m
-    → IsPlaying (record { plan = plan; counters = counters_at_start plan }) lists (replicate (callers plan) None) (done_at_start m (callers plan) (most_lines plan))
-playing_first plan lists m sound is a long placed = record {
+pub playing_first : (plan : Plan) (lists : List PostList) → IsSound plan → AreEmpty plan lists → IsPlaced plan.homes plan.start
+    → IsPlaying (record { plan = plan; counters = counters_at_start plan }) lists (replicate (callers plan) None) (done_at_start plan.start (callers plan) (most_lines plan))
+playing_first plan lists sound a placed = record {
   posts = posts_first plan lists a;
   found = length-replicate (callers plan) None;
   work = record {
-    queues = long;
+    queues = sound.start;
     hands = length-replicate (callers plan) None;
     answers = length-replicate (callers plan) None;
     once = λ u. omega (arith, placed.once u, none_held (callers plan) u);
   };
   reserved = refl;
   room = omega (arith, room_first plan lists a);
-  serial = serial_start plan m sound is;
+  serial = serial_start plan plan.start sound refl;
 }
 
 pub progress_first : (plan : Plan) (lists : List PostList) → AreEmpty plan lists
@@ -61,37 +61,33 @@ progress_first plan lists a =
     (taken_none lists (callers plan * callers plan) a.each (λ k below. ap (λ (l : PostList). l.taken) (a.empty k below)))
 
 -- a player whose parts are known by equations
-pub record Opened (s : Setup) (w : Callers) (lists : List PostList) (found : List (Option ℕ)) (done : Recorded) (m : Machine) (n room : ℕ) : Type 0 where
+pub record Opened (s : Setup) (w : Callers) (lists : List PostList) (found : List (Option ℕ)) (done : Recorded) : Type 0 where
   pub sound : IsSound w.plan
   pub plan : w.plan ≡ plan_of s
   pub counters : w.counters ≡ counters_at_start (plan_of s)
   pub empty : AreEmpty w.plan lists
   pub nothing : found ≡ replicate (callers w.plan) None
-  pub machine : m ≡ start s
-  pub queues : n ≡ callers w.plan
-  pub each : length m ≡ n
-  pub placed : IsPlaced (homes_of s) m
-  pub lines : room ≡ most_lines w.plan
-  pub is_done : done ≡ done_at_start m n room
+  pub placed : IsPlaced (homes_of s) (start s)
+  pub is_done : done ≡ done_at_start (start s) (callers (plan_of s)) (most_lines w.plan)
 
 -- the parts as they are at the start
 abbrev first_callers : Setup → Callers
 first_callers s = record { plan = plan_of s; counters = counters_at_start (plan_of s) }
 
-abbrev first_done : Setup → Machine → Recorded
-first_done s m = done_at_start m (callers (plan_of s)) (most_lines (plan_of s))
+abbrev first_done : Setup → Recorded
+first_done s = done_at_start (start s) (callers (plan_of s)) (most_lines (plan_of s))
 
-module _ {s : Setup} {w : Callers} {lists : List PostList} {found : List (Option ℕ)} {done : Recorded} {m : Machine} {n room : ℕ} (o : Opened s w lists found done m n room) where
+module _ {s : Setup} {w : Callers} {lists : List PostList} {found : List (Option ℕ)} {done : Recorded} (o : Opened s w lists found done) where
   opens : (P : Callers → List PostList → List (Option ℕ) → Recorded → Type 0)
-      → P (first_callers s) lists (replicate (callers (plan_of s)) None) (first_done s m) → P w lists found done
+      → P (first_callers s) lists (replicate (callers (plan_of s)) None) (first_done s) → P w lists found done
   opens P there = grind arith
 
   pub playing_open : IsPlaying w lists found done
-  playing_open = grind (arith, opens, playing_first)
+  playing_open =
+      opens IsPlaying (playing_first (plan_of s) lists (subst IsSound o.plan o.sound) (subst (λ (p : Plan). AreEmpty p lists) o.plan o.empty) o.placed)
 
   pub player_open : player_of w lists found done ≡ player_start s
   player_open =
       opens (λ v ls fs d. player_of v ls fs d ≡ player_start s)
-      (ap (λ (x : Machine). player_of (first_callers s) lists (replicate (callers (plan_of s)) None) (first_done s x)) o.machine
-      ∙ ap (λ (g : Progress). record { plan = plan_of s; state = record (micro_start s) { progress = g } })
+      (ap (λ (g : Progress). record { plan = plan_of s; state = record (micro_start s) { progress = g } })
       (progress_first (plan_of s) lists (subst (λ (p : Plan). AreEmpty p lists) o.plan o.empty)))

@@ -59,7 +59,7 @@ done_by_all plan counters p e = grind (arith, not_under_way, no_step)
 pub length-progress_step : (plan : Plan) (g : Progress) (p : ℕ) → length (progress_step plan g p).counters ≡ length g.counters
 length-progress_step plan g p = grind (arith, common_steps)
 
-fits_in : (n most : ℕ) → n ≤ most → nat_lt most n ≡ false
+pub fits_in : (n most : ℕ) → n ≤ most → nat_lt most n ≡ false
 fits_in n most h = grind arith
 
 pub whole_is_played : WholeIsPlayed

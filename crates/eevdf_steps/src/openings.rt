@@ -2,13 +2,17 @@
 
 ghost use Rattle.std.specs.Prelude.{◌≡◌, ◌<◌, true, length, slice_index, EachIndex, replicate};
 ghost use Rattle.std.specs.Prelude.{None, IfOk};
-ghost use Rattle.eevdf_ops.specs.Numbers.{most_operations};
-ghost use Rattle.eevdf_steps.specs.Plan.{callers as number, is_sound_op, program};
+ghost use Rattle.eevdf_ops.specs.{Machine.start, Numbers.most_operations};
+ghost use Rattle.eevdf_steps.specs.Plan.{callers as number, is_sound_op, plan_of, program};
+ghost use Rattle.eevdf_steps.specs.Recorded.{done_at_start, recorded};
 ghost use Rattle.eevdf_steps.specs.Openings as openings;
 
+use crate::journal::Journal;
 use crate::plan::Plan;
 use crate::post_list::PostList;
-use eevdf_ops::{CpuId, Op};
+use crate::requests::Requests;
+use crate::work::Work;
+use eevdf_ops::{CpuId, Op, Setup, Solo};
 use eevdf_queue::TaskId;
 use std::alloc::{AllocError, Global};
 
@@ -65,9 +69,30 @@ pub(crate) fn lines(plan: &Plan) -> usize
     lines
 }
 
-/// For each caller that it has found no request.
-pub(crate) fn nothing_found(alloc: Global, plan: &Plan) -> Result<Vec<Option<TaskId>>, AllocError>
-    ensures { IfOk result (λ found. found.items ≡ replicate (number plan.now) None) }
+/// The requests of callers of whom none has posted one, and for each caller that it has found none.
+pub(crate) fn no_requests(
+    alloc: Global,
+    plan: &Plan,
+) -> Result<(Requests, Vec<Option<TaskId>>), AllocError>
+    ensures posts { IfOk result (λ r. openings.AreEmpty plan.now r.0) }
+    ensures found { IfOk result (λ r. r.1.items ≡ replicate (number plan.now) None) }
 {
-    vec![in alloc; None; plan.callers()]
+    let posts = Requests::open(alloc, plan)?;
+    let found = vec![in alloc; None; plan.callers()]?;
+    Ok((posts, found))
+}
+
+/// The work at the start of a setup, and a history without lines that has room for so many.
+pub(crate) fn nothing_done(
+    alloc: Global,
+    setup: &Setup,
+    room: usize,
+) -> Result<(Work, Journal), AllocError>
+    ensures { IfOk result (λ d. recorded d.0 d.1
+        ≡ done_at_start (start setup.now) (number (plan_of setup.now)) room) }
+{
+    let queues = Solo::open(alloc, setup)?.into_queues();
+    let work = Work::open(alloc, queues)?;
+    let journal = Journal::open(alloc, room)?;
+    Ok((work, journal))
 }

@@ -6,7 +6,7 @@ ghost use Rattle.eevdf_ops.specs.{Followed.FollowsPrograms, Histories.IsOneThrea
 ghost use Rattle.eevdf_ops.specs.{Outcome.machine_of};
 ghost use Rattle.eevdf_ops.specs.{Places.IsPlaced, Programs.deeds_of, Setup.allows, Setup.homes_of};
 ghost use Rattle.eevdf_steps.specs.{Commits.deeds_committed, Orders.IsWhole, Plan.plan_of};
-ghost use Rattle.eevdf_steps.specs.{PlayedSteps.IsPlayed, Plays.IsPlay};
+ghost use Rattle.eevdf_steps.specs.{PlayedSteps.IsPlayed, PlayedSteps.IsPlayedOut, Plays.IsPlay};
 ghost use Rattle.eevdf_steps.specs.Orders as orders;
 
 use crate::play_fault::PlayFault;
@@ -40,17 +40,22 @@ pub fn play(alloc: Global, setup: &Setup, order: &[usize]) -> Result<Outcome, Pl
     if order.len() > MOST_PLACES {
         return Err(PlayFault::TooLong);
     }
-    let mut player = Player::open(alloc, setup)?;
-    if let Some(fault) = play_order(&mut player, order) {
-        return Err(fault);
-    }
-    if let Some(caller) = player.unfinished() {
-        return Err(PlayFault::Short { caller });
-    }
-    Ok(player.into_outcome())
+    let player = Player::open(alloc, setup)?;
+    play_with(player, order)
 }
 
-/// Does the steps of an order up to its first faulty place, whose fault is the answer.
+/// The outcome of a player's callers after their steps in an order. Where the order has a fault, that is the answer.
+fn play_with(mut player: Player, order: &[usize]) -> Result<Outcome, PlayFault>
+    ensures { IsPlayedOut player order.now result }
+{
+    match play_order(&mut player, order) {
+        Some(fault) => Err(fault),
+        None => Ok(player.into_outcome()),
+    }
+}
+
+/// Does the steps of an order up to its first faulty place, whose fault is the answer. Where no place is faulty it is
+/// that of an order which ends before all callers are done.
 fn play_order(player: &mut Player, order: &[usize]) -> Option<PlayFault>
     ensures { IsPlayed player.old order.now result player.new }
 {
@@ -59,7 +64,8 @@ fn play_order(player: &mut Player, order: &[usize]) -> Option<PlayFault>
             return Some(fault_at(at, fault));
         }
     }
-    None
+    let caller = player.unfinished()?;
+    Some(PlayFault::Short { caller })
 }
 
 fn fault_at(at: usize, fault: StepFault) -> PlayFault

@@ -11,15 +11,15 @@ ghost use Rattle.eevdf_steps.specs.Plays as plays;
 use crate::callers::Callers;
 use crate::journal::Journal;
 use crate::micro::Micro;
-use crate::openings::{lines, nothing_found};
+use crate::openings::{lines, no_requests, nothing_done};
 use crate::place::Place;
 use crate::plan::{Step, micro_of};
 use crate::requests::Requests;
 use crate::step_fault::StepFault;
 use crate::work::Work;
 use crate::work_steps::do_micro;
-use eevdf_ops::laws::every_task_in_one_place;
-use eevdf_ops::{CpuId, Line, Outcome, Setup, Solo};
+use eevdf_ops::laws::start_is_placed;
+use eevdf_ops::{CpuId, Line, Outcome, Setup};
 use eevdf_queue::{Queue, TaskId};
 use std::alloc::{AllocError, Global};
 use std::marker::Model;
@@ -59,15 +59,12 @@ impl Player {
     pub fn open(alloc: Global, setup: &Setup) -> Result<Player, AllocError>
         ensures { IfOk result (λ a. a ≡ player.player_start setup.now) }
     {
+        start_is_placed(setup);
         let callers = Callers::open(alloc, setup)?;
         callers.keeps();
         let plan = callers.plan();
-        let posts = Requests::open(alloc, plan)?;
-        let found = nothing_found(alloc, plan)?;
-        let solo = Solo::open(alloc, setup)?;
-        every_task_in_one_place(&solo);
-        let work = Work::open(alloc, solo.into_queues())?;
-        let journal = Journal::open(alloc, lines(plan))?;
+        let (posts, found) = no_requests(alloc, plan)?;
+        let (work, journal) = nothing_done(alloc, setup, lines(plan))?;
         Ok(Player {
             callers,
             posts,
