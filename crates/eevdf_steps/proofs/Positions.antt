@@ -1,12 +1,12 @@
 -- Positions in a program, and the counters that they come to.
-use Rattle.std.proofs.Common.{◌≡◌, ℕ, zero, suc, ◌+◌, ◌*◌, ◌<◌, ◌≤◌, Bool, true, cond, List, [], ◌∷◌, ◌++◌, length, map, take, sym, ap, subst, ◌∙◌, arith, refl}
+use Rattle.std.proofs.Common.{◌≡◌, ℕ, zero, suc, ◌+◌, ◌*◌, ◌<◌, ◌≤◌, Bool, true, cond, List, [], ◌∷◌, ◌++◌, length, map, take, get_or, sym, ap, subst, ◌∙◌, arith, refl}
 use Rattle.std.proofs.Math.ListN.{length-append}
 use Rattle.std.proofs.lemmas.{List.length-map, Grind.common_steps, Option.slice_get-map, Option.slice_get_within}
 use Rattle.std.specs.Option.{option_map}
 use Rattle.std.specs.Prelude.{slice_get, Option, Some, None}
 use Rattle.eevdf_ops.specs.{declared.deeds.Op.Op, Numbers.most_cpus}
 use Rattle.eevdf_steps.specs.{declared.micro.Micro.Micro, declared.plan.Step.Step, declared.plan.Position.Position}
-use Rattle.eevdf_steps.specs.Positions.{IsPosition, is_within}
+use Rattle.eevdf_steps.specs.{Callers.BeginAll, Positions.IsPosition, Positions.counter_at, Positions.is_within}
 use Rattle.eevdf_steps.specs.Plan.{Plan, callers, program}
 use Rattle.eevdf_steps.specs.MicroSteps.{draining, micros_of, moving, steps_of, under_lock, under_locks}
 use Rattle.eevdf_steps.proofs.Lists.{get_left, get_right}
@@ -107,3 +107,22 @@ goes_on plan p at on s m stands e same one next is =
     ∙ sym (ap (λ (q : Option Micro). option_map (step_in s.op) q) is) in
     let on_is : record { operation = at.operation; steps = at.steps + 1; next = on.next } ≡ on = grind arith in
     subst (IsPosition plan p) on_is (position_in plan p at.operation (at.steps + 1) s.op on.next stands.here h there)
+
+-- what holds of each place of a list and of one more at its end
+each_pushed : {A : Type 0} (P : ℕ → A → Type 0) (xs : List A) (x : A) → ((i : ℕ) (d : A) → i < length xs → P i (get_or xs i d)) → P (length xs) x
+    → (i : ℕ) (d : A) → i < length (xs ++ x ∷ []) → P i (get_or (xs ++ x ∷ []) i d)
+each_pushed P [] x each last zero d h = last
+each_pushed P [] x each last (suc i) d h = absurd (omega arith)
+each_pushed P (y ∷ xs) x each last zero d h = each 0 d (omega arith)
+each_pushed P (y ∷ xs) x each last (suc i) d h = each_pushed (λ k. P (suc k)) xs x (λ k e below. each (suc k) e (omega arith)) last i d (omega arith)
+
+-- one more caller stands at the beginning of its program
+pub begin_next : (plan : Plan) (k p : ℕ) (ps : List Position) (d : Position) → BeginAll plan k ps → p ≡ k → IsPosition plan p d → counter_at plan p d ≡ 0
+    → BeginAll plan (k + 1) (ps ++ d ∷ [])
+begin_next plan k p ps d all at is none =
+    let same : p ≡ length ps = at ∙ sym all.each in
+    record {
+      each = omega (arith, length-append ps (d ∷ []), all.each);
+      within = each_pushed (IsPosition plan) ps d all.within (subst (λ q. IsPosition plan q d) same is);
+      nothing_done = each_pushed (λ q x. counter_at plan q x ≡ 0) ps d all.nothing_done (subst (λ q. counter_at plan q d ≡ 0) same none);
+    }

@@ -1,6 +1,7 @@
 use Rattle.std.proofs.Common.{◌≡◌, ℕ, ◌+◌, ◌<◌, List, length, set, true, ap, subst, ◌∙◌, sym, arith}
 use Rattle.std.proofs.Math.ListN.{length-set}
 use Rattle.std.specs.Prelude.{Option, Some}
+use Rattle.std.proofs.lemmas.Grind.{common_steps}
 use Rattle.eevdf_steps.specs.{Callers.Callers, Counters.counted, Counters.refused, Counters.step_next, Plan.callers}
 use Rattle.eevdf_steps.specs.{Holders.holders_after, Positions.IsPosition, Positions.counter_at, Positions.counters_at, SoundSteps.is_sound_step}
 use Rattle.eevdf_steps.proofs.{SoundSteps.is_caller, SoundSteps.micro_sound, SoundSteps.step_sound}
@@ -66,3 +67,12 @@ invariant_of-self c =
 
 pub returns-clause-counters : goal.returns-clause-counters
 returns-clause-counters c = counts (goal.at.returns-clause-counters c).After-move_on ∙ ap (λ (w : Callers). counted w.counters c.args.cpu) c.self.view_is
+
+pub move_on-requires-clause-position : goal.move_on-requires-clause-position
+move_on-requires-clause-position c = grind (arith, common_steps)
+
+pub move_on-requires-clause-caller : goal.move_on-requires-clause-caller
+move_on-requires-clause-caller c = grind (arith, common_steps)
+
+pub returns-clause-plan : goal.returns-clause-plan
+returns-clause-plan c = grind (arith, common_steps)
