@@ -1,11 +1,11 @@
 -- What an order comes to that is played from the start of a setup to its end.
-use Rattle.std.proofs.Common.{◌≡◌, ℕ, ◌≤◌, Bool, true, false, cond, List, ◌++◌, length, ap, subst, ◌∙◌, sym, arith, inl}
-use Rattle.std.specs.Prelude.{nat_lt, Option, Some, None, Result, Ok, Err, IfOk, OnOk}
+use Rattle.std.proofs.Common.{◌≡◌, ℕ, ◌≤◌, Bool, true, cond, List, ◌++◌, length, ap, subst, ◌∙◌, sym, inl}
+use Rattle.std.specs.Prelude.{Some, Result, Ok, Err, IfOk, OnOk}
 use Rattle.std.specs.List.{list_all}
-use Rattle.eevdf_ops.specs.{declared.deeds.Deed.Deed, Followed.FollowsPrograms, Histories.IsOneThread, Machine.Machine, Machine.start}
+use Rattle.eevdf_ops.specs.{declared.deeds.Deed.Deed, Followed.FollowsPrograms, Histories.IsOneThread, Machine.start}
 use Rattle.eevdf_ops.specs.{Places.AreCpus, Places.IsPlaced, Outcome.Outcome, Outcome.machine_of, Programs.deeds_of}
 use Rattle.eevdf_ops.specs.Setup.{Setup, allows, cpus_of, homes_of}
-use Rattle.eevdf_steps.specs.{Counters.unfinished, Plays.IsOutcome, Plays.IsPlay, PlayedSteps.HasPlayed, PlayedSteps.Ends, PlayedSteps.IsPlayedOut, PlayedSteps.player_after}
+use Rattle.eevdf_steps.specs.{Plays.IsOutcome, Plays.IsPlay, PlayedSteps.HasPlayed, PlayedSteps.Ends, PlayedSteps.IsPlayedOut}
 use Rattle.eevdf_steps.specs.{Commits.commits, Commits.deeds_committed, declared.play_fault.PlayFault.PlayFault, declared.play_fault.PlayFault.TheVariants.TooLong}
 use Rattle.eevdf_steps.specs.{Players.Player, Players.player_start, Plan.IsSound, Plan.plan_of}
 use Rattle.eevdf_steps.specs.Orders.{IsWhole, counters_at_start, most_places, order_fault, play_fault}

@@ -1,8 +1,9 @@
 -- What a step of a caller changes of the requests, and what it leaves.
 use Rattle.std.proofs.Common.{◌≡◌, ◌≢◌, ℕ, ◌+◌, ◌<◌, List, [], ◌++◌, length, inl, inr, sym, subst, ◌∙◌, append-nil, refl, arith}
-use Rattle.std.proofs.lemmas.{List.get_or-set_other, Nat.same_from_place, Bool.cases_eq, Grind.common_steps}
+use Rattle.std.proofs.Math.ListN.{length-set}
+use Rattle.std.proofs.lemmas.{List.get_or-set_other, Nat.same_from_place, Bool.cases_eq}
 use Rattle.std.specs.Prelude.{Option, Some, None}
-use Rattle.eevdf_steps.specs.{declared.micro.Micro.Micro, declared.plan.Step.Step}
+use Rattle.eevdf_steps.specs.{declared.micro.Micro.Micro, declared.micro.Micro.TheVariants.Take, declared.micro.Micro.TheVariants.Settle, declared.plan.Step.Step}
 use Rattle.eevdf_steps.specs.Plan.{Plan, callers, pair}
 use Rattle.eevdf_steps.specs.Counters.{Counters, counted, step_next}
 use Rattle.eevdf_steps.specs.Requests.{Progress, found_by, post_to, posted, requested, taken_of, takes}
@@ -13,8 +14,14 @@ pub record IsAsLong (g h : Progress) : Type 0 where
   pub taken : length h.taken ≡ length g.taken
   pub found : length h.found ≡ length g.found
 
+takes_as_long : (plan : Plan) (g : Progress) (x s : ℕ) (r : Option ℕ) → IsAsLong g (takes plan g x s r)
+takes_as_long plan g x s None = record { taken = refl; found = length-set g.found x None }
+takes_as_long plan g x s (Some t) = record { taken = length-set g.taken (pair plan s x) (taken_of plan g s x + 1); found = length-set g.found x (Some t) }
+
 pub as_long : (plan : Plan) (g : Progress) (x : ℕ) (m : Micro) → IsAsLong g (requested plan g x m)
-as_long plan g x m = grind (arith, common_steps)
+as_long plan g x (Take s) = takes_as_long plan g x s _
+as_long plan g x (Settle s) = record { taken = refl; found = length-set g.found x None }
+as_long plan g x _ = record { taken = refl; found = refl }
 
 -- what another caller has taken and found stays
 pub record IsElsewhere (plan : Plan) (g h : Progress) (q c : ℕ) : Type 0 where

@@ -1,5 +1,5 @@
 -- The texts of micro-steps, places and faults.
-use Rattle.std.specs.Prelude.{ℕ, List, ◌++◌, codes, decimal}
+use Rattle.std.specs.Prelude.{ℕ, List, ◌++◌, Option, Some, None, codes, decimal}
 use Rattle.eevdf_steps.specs.declared.{micro.Micro.Micro, place.Place.Place, play_fault.PlayFault.PlayFault}
 use Rattle.eevdf_steps.specs.declared.micro.Micro.TheVariants as micro
 use Rattle.eevdf_steps.specs.declared.place.Place.TheVariants.{Runnable, Asleep, InHand}
@@ -18,6 +18,11 @@ micro_text (micro.Take sender) = codes "take " ++ decimal sender
 micro_text (micro.Settle sender) = codes "settle " ++ decimal sender
 micro_text (micro.Release cpu) = codes "release " ++ decimal cpu
 micro_text (micro.Post task) = codes "post " ++ decimal task
+
+-- a name, with a number where there is one
+abbrev pub named : List ℕ → Option ℕ → List ℕ
+named name None = name
+named name (Some number) = name ++ codes " " ++ decimal number
 
 abbrev pub place_text : Place → List ℕ
 place_text (Runnable cpu) = codes "runnable on " ++ decimal cpu

@@ -1,7 +1,8 @@
 //! How micro-steps, places and faults print.
 
-ghost use Rattle.std.specs.Prelude.{Some};
-ghost use Rattle.eevdf_steps.specs.Texts.{micro_text, place_text, play_fault_text, step_fault_text};
+ghost use Rattle.std.specs.Prelude.{◌≡◌, Some};
+ghost use Rattle.eevdf_steps.specs.Texts.{micro_text, named, place_text, play_fault_text};
+ghost use Rattle.eevdf_steps.specs.Texts.{step_fault_text};
 
 use crate::micro::Micro;
 use crate::place::Place;
@@ -16,17 +17,28 @@ impl fmt::Display for Micro {
     ghost output = { λ micro. Some (micro_text micro) };
 
     fn fmt<W: fmt::Write>(&self, f: &mut fmt::Formatter<W>) -> fmt::Result {
-        match self {
-            Micro::Acquire(cpu) => write!(f, "acquire {cpu}"),
-            Micro::Act => f.write_str("act"),
-            Micro::Detach => f.write_str("detach"),
-            Micro::Attach => f.write_str("attach"),
-            Micro::Commit => f.write_str("commit"),
-            Micro::Take(sender) => write!(f, "take {sender}"),
-            Micro::Settle(sender) => write!(f, "settle {sender}"),
-            Micro::Release(cpu) => write!(f, "release {cpu}"),
-            Micro::Post(task) => write!(f, "post {task}"),
+        let (name, number) = name_of(*self);
+        match number {
+            None => f.write_str(name),
+            Some(number) => write!(f, "{name} {number}"),
         }
+    }
+}
+
+/// The name of a step, and the number that it has, if it has one.
+fn name_of(micro: Micro) -> (&'static str, Option<usize>)
+    ensures { named result.0.now result.1 ≡ micro_text micro }
+{
+    match micro {
+        Micro::Acquire(cpu) => ("acquire", Some(cpu.index())),
+        Micro::Act => ("act", None),
+        Micro::Detach => ("detach", None),
+        Micro::Attach => ("attach", None),
+        Micro::Commit => ("commit", None),
+        Micro::Take(sender) => ("take", Some(sender.index())),
+        Micro::Settle(sender) => ("settle", Some(sender.index())),
+        Micro::Release(cpu) => ("release", Some(cpu.index())),
+        Micro::Post(task) => ("post", Some(task.index())),
     }
 }
 
