@@ -6,9 +6,11 @@ use Rattle.eevdf_steps.specs.{Orders.order_fault, MicroState.micro_after, Plan.I
 use Rattle.eevdf_steps.specs.Plays.{IsOutcome}
 use Rattle.eevdf_steps.specs.Commits as deeds
 
+-- the fault of an order that a player is to play
 abbrev pub fault_of : Player → List ℕ → Option PlayFault
 fault_of a order = order_fault a.plan a.state.progress.counters 0 order
 
+-- the player after the steps of an order
 abbrev pub player_after : Player → List ℕ → Player
 player_after a order = record a { state = micro_after a.plan a.state order }
 
@@ -32,5 +34,6 @@ pub record Ends (a : Player) (order : List ℕ) (o : Outcome) : Type 0 where
   pub commits : deeds_of o.lines ≡ deeds_of a.state.lines ++ deeds.commits a.plan a.state.progress order
   pub one_thread : IsOneThread a.plan.homes a.plan.start (deeds_of o.lines) o
 
+-- the outcome of an order that is played to its end, or its fault
 abbrev pub IsPlayedOut : Player → List ℕ → Result Outcome PlayFault → Type 0
 IsPlayedOut a order result = MatchResult result (Ends a order) (λ f. fault_of a order ≡ Some f)
