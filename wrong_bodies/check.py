@@ -118,12 +118,12 @@ class Room:
         return run.returncode, run.stdout + run.stderr
 
 
-def prove(crate):
+def prove(crate, jobs):
     """Proves the crate as it stands and keeps what those above it and the tries need; says whether it is proved."""
     room = Room(crate)
     with room.held:
         is_library = (room.folder / "src" / "lib.rt").is_file()
-        status, said = room.run("lib" if is_library else "check", "--jobs", "2")
+        status, said = room.run("lib" if is_library else "check", "--jobs", str(jobs))
         room.keep()
     if status:
         print(f"{crate} isn't proved:\n{said[-2000:]}", flush=True)
@@ -197,7 +197,8 @@ class Run:
         return None
 
     def prove(self, crate):
-        is_proved = prove(crate)
+        # a second job reads all that the crate stands on once more, so it is left out where another check takes its processor
+        is_proved = prove(crate, 2 if self.busy == 1 else 1)
         with self.change:
             if is_proved:
                 self.proved.add(crate)
