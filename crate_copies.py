@@ -1,29 +1,36 @@
-"""The crates of the repository, and what a copy of some of them takes. Two runs of rt that need one crate wait for one another,
-also where both only read it; where each has its own copy they don't."""
+"""The crates of the repository, copies of them, and what `rt ci` says in such a copy. A run of rt in a copy doesn't wait for those in
+the repository itself."""
 
 import fcntl
 import os
 import re
 import shutil
+import subprocess
 import sys
 from pathlib import Path
 
 TOP = Path(__file__).resolve().parent
-# What rt reads of a crate, what it makes of it for the crates above, and what it keeps for the crate's next check.
+# What rt reads of a crate.
 SOURCES = ("src", "specs", "proofs")
 # What the gate runs a program with, and what it must print.
 RUN_WITH = ("args", "stdin", "stdout", "status", "data")
-RLIB, KEPT = "out/rlib", "out/incremental"
+# What `rt ci` says of a crate that it is done with.
+DONE = re.compile(r"rt: (\w+) (?:proved$|is kept:)")
 
 
 def folder_of(crate):
     return TOP / "crates" / crate
 
 
+def read_lines():
+    """The lines of crates.txt: each crate with all that it names."""
+    rows = [row.partition("#")[0].partition(":") for row in (TOP / "crates.txt").read_text().splitlines()]
+    return {head.split()[0]: names.split() for head, colon, names in rows if colon}
+
+
 def read_crates():
     """The crates of the repository, each with those of them that it stands on, as its line in crates.txt names them."""
-    rows = [row.partition("#")[0].partition(":") for row in (TOP / "crates.txt").read_text().splitlines()]
-    named = {head.split()[0]: names.split() for head, colon, names in rows if colon}
+    named = read_lines()
     return {crate: [name for name in names if name in named] for crate, names in named.items()}
 
 
@@ -35,20 +42,36 @@ def all_below(crates, crate):
     return list(found)
 
 
-def copy_parts(crate, parts, top, how=os.link):
-    """Copies parts of a crate below another top, by links where nothing else is said: rt writes a file anew to change it."""
+def with_all_below(crates, named):
+    """The crates that are named and those that they stand on, each after those below it."""
+    return list(dict.fromkeys(name for crate in named for name in (*all_below(crates, crate), crate)))
+
+
+def copy_parts(crate, parts, folder):
+    """Copies parts of a crate into a folder."""
     for part in parts:
-        source, target = folder_of(crate) / part, top / "crates" / crate / part
+        source = folder_of(crate) / part
         if source.is_dir():
-            shutil.copytree(source, target, copy_function=how)
+            shutil.copytree(source, folder / part)
         elif source.is_file():
-            how(source, target)
+            shutil.copy2(source, folder / part)
 
 
-def copy_list(crates, top):
-    """Writes the crates.txt of a copy of these crates."""
+def copy_crates(crates, top):
+    """Copies what `rt ci` reads of these crates below another top."""
+    for crate in crates:
+        copy_parts(crate, (*SOURCES, *RUN_WITH), top / "crates" / crate)
     lines = (TOP / "crates.txt").read_text().splitlines(keepends=True)
     (top / "crates.txt").write_text("".join(line for line in lines if re.split(r"[\s:]", line)[0] in crates))
+    shutil.copy2(TOP / "HANDLES", top)
+    # rt runs the programs as nobody
+    top.chmod(0o755)
+
+
+def start_ci(top):
+    """Starts `rt ci` in a copy. What it says comes on one pipe."""
+    return subprocess.Popen(["rt", "ci"], cwd=top, stdin=subprocess.DEVNULL, stdout=subprocess.PIPE, stderr=subprocess.STDOUT,
+                            text=True, errors="replace")
 
 
 def free_memory():

@@ -1,8 +1,9 @@
 #!/usr/bin/env -S python3 -B
-"""recipe.py: does README's recipe for a crate of one's own to the letter, in a copy: its commands, its two programs, `rt check` and
-`rt run`, which has to print the nine lines that README speaks of. Ends with 1 where it doesn't."""
+"""recipe.py: does README's recipe for a crate of one's own to the letter, in a copy: its commands, its two programs, `./build mine`, and
+the run of what is built, which has to print the nine lines that README speaks of. Ends with 1 where it doesn't."""
 
 import re
+import shutil
 import subprocess
 import sys
 import tempfile
@@ -11,10 +12,11 @@ from pathlib import Path
 TOP = Path(__file__).resolve().parent.parent
 sys.path.append(str(TOP))
 
-from crate_copies import KEPT, RLIB, SOURCES, copy_list, copy_parts, folder_of  # noqa: E402
+from crate_copies import copy_crates  # noqa: E402
 
-# What the recipe's crate stands on.
+# What the recipe's crate stands on, and what it is built by.
 BELOW = ("eevdf_weight", "eevdf_queue")
+SCRIPTS = ("build", "current", "crate_copies.py")
 COMMANDS_AND_MAIN, PROGRAM = "### A crate of your own", "### One CPU's queue"
 
 
@@ -37,19 +39,17 @@ def run(words, folder):
 def main():
     commands, main_file = blocks(COMMANDS_AND_MAIN)[:2]
     program = blocks(PROGRAM)[0]
-    (folder_of(BELOW[-1]) / "out").mkdir(exist_ok=True)
-    with tempfile.TemporaryDirectory(prefix="recipe-", dir=folder_of(BELOW[-1]) / "out") as held:
+    with tempfile.TemporaryDirectory(prefix="recipe-") as held:
         copy = Path(held)
-        for crate in BELOW:
-            copy_parts(crate, (*SOURCES, RLIB, KEPT), copy)
-        copy_list(BELOW, copy)
-        (copy / "HANDLES").write_text((TOP / "HANDLES").read_text())
+        copy_crates(BELOW, copy)
+        for script in SCRIPTS:
+            shutil.copy2(TOP / script, copy)
         run(["bash", "-euc", commands], copy)
-        mine = copy / "crates" / "mine"
-        (mine / "src" / "main.rt").write_text(main_file)
-        (mine / "src" / "one_queue.rt").write_text(program)
-        run(["rt", "check", "--jobs", "1"], mine)
-        lines = run(["rt", "run"], mine).splitlines()
+        sources = copy / "crates" / "mine" / "src"
+        (sources / "main.rt").write_text(main_file)
+        (sources / "one_queue.rt").write_text(program)
+        run(["./build", "mine"], copy)
+        lines = run(["crates/mine/out/mine"], copy).splitlines()
     if lines[:3] != ["0 ran", "1 ran", "2 ran"] or len(lines) != 9 or not all(re.fullmatch(r"\d ran", line) for line in lines):
         sys.exit(f"FAILED: README's recipe prints {lines}")
     print("README's recipe for a crate of one's own works as printed")

@@ -3,42 +3,44 @@
 
 Each must be refused in the function that its line `refused:` names. Wrong bodies of different functions are planted together in
 one copy of the crate and tried by one check, since a function is proved from the contracts of those that it calls, and not from
-their bodies. One that such a check doesn't say enough of is tried once more by itself. The last line is 'N passed, M failed'."""
+their bodies. One that such a check doesn't say enough of is tried once more by itself. They are tried over the libraries that
+`rt ci` makes in a copy of the repository, while it goes on there; none of a crate counts that isn't proved there as it stands. The
+last line is 'N passed, M failed'."""
 
 import argparse
+import contextlib
 import math
 import os
 import re
 import shutil
-import subprocess
 import sys
 import tempfile
 import threading
 from pathlib import Path
 
 from edits import TOP, BadEdit, apply, edits_of, is_in_its_function
+from libraries import CRATES, Libraries
 
 sys.path.append(str(TOP))
 
 from crate_copies import (  # noqa: E402
-    KEPT,
-    RLIB,
     SOURCES,
     all_below,
-    copy_list,
+    copy_crates,
     copy_parts,
     folder_of,
     free_memory,
-    read_crates,
+    start_ci,
     wait_for_other_runs,
+    with_all_below,
 )
 
 # How many wrong bodies one check tries at most; a few more where one function has many.
 MOST = 22
 # The memory that must be free, in bytes, for a check to be begun beside another.
 MEMORY = 5 << 30
-
-CRATES = read_crates()
+# What is kept in a crate's folder of what was proved of it here.
+KEPT = "out/wrong_bodies"
 
 
 # What a check says.
@@ -90,68 +92,68 @@ def function_of(folder):
 # The tries.
 
 class Room:
-    """A folder with copies of a crate, which may be changed, and of those below it."""
+    """A folder with a copy of a crate, which may be changed, and of what is kept of its proofs."""
 
     def __init__(self, crate):
         self.crate = crate
         (folder_of(crate) / "out").mkdir(exist_ok=True)
         self.held = tempfile.TemporaryDirectory(prefix="wrong-bodies-", dir=folder_of(crate) / "out")
-        self.top = Path(self.held.name)
-        self.folder = self.top / "crates" / crate
-        below = all_below(CRATES, crate)
-        for name in below:
-            copy_parts(name, (*SOURCES, RLIB), self.top)
-        copy_parts(crate, SOURCES, self.top, shutil.copy2)
-        copy_parts(crate, [KEPT], self.top)
-        copy_list((*below, crate), self.top)
+        self.folder = Path(self.held.name)
+        copy_parts(crate, SOURCES, self.folder)
+        self.kept = self.folder / KEPT
+        if (folder_of(crate) / KEPT).is_dir():
+            # a check writes a file anew to change it
+            shutil.copytree(folder_of(crate) / KEPT, self.kept, copy_function=os.link)
+        else:
+            self.kept.mkdir(parents=True)
 
     def keep(self):
-        """Keeps what was proved in the crate's own folder."""
-        for part in (RLIB, KEPT):
-            if (self.folder / part).is_dir():
-                kept = folder_of(self.crate) / part
-                shutil.rmtree(kept, ignore_errors=True)
-                (self.folder / part).rename(kept)
-
-    def run(self, *words):
-        run = subprocess.run(["rt", *words], cwd=self.folder, capture_output=True, text=True, errors="replace")
-        return run.returncode, run.stdout + run.stderr
+        kept = folder_of(self.crate) / KEPT
+        shutil.rmtree(kept, ignore_errors=True)
+        self.kept.rename(kept)
 
 
-def prove(crate, jobs):
-    """Proves the crate as it stands and keeps what those above it and the tries need; says whether it is proved."""
-    room = Room(crate)
-    with room.held:
-        is_library = (room.folder / "src" / "lib.rt").is_file()
-        status, said = room.run("lib" if is_library else "check", "--jobs", str(jobs))
-        room.keep()
-    if status:
-        print(f"{crate} isn't proved:\n{said[-2000:]}", flush=True)
-    return status == 0
+class Tries:
+    """The tries of one crate's edits over libraries."""
 
+    def __init__(self, crate, libraries):
+        self.crate = crate
+        self.libraries = libraries
 
-def try_together(crate, edits):
-    """What a check says with these edits in place."""
-    room = Room(crate)
-    with room.held:
-        for edit in edits:
-            apply(edit, room.folder)
-        return Said(crate, room.run("check", "--jobs", "1")[1])
+    def check(self, room, edits):
+        return self.libraries.check(self.crate, room.folder, room.kept, {edit.refused for edit in edits})
 
+    def prove(self, edits):
+        """Proves the functions of the edits as they stand, and those that they call, and keeps that; says whether they are proved."""
+        room = Room(self.crate)
+        with room.held:
+            is_proved, said = self.check(room, edits)
+            room.keep()
+        if not is_proved:
+            print(f"{self.crate} isn't proved:\n{said[-2000:]}", flush=True)
+        return is_proved
 
-def try_group(crate, edits):
-    """Each of the edits with whether it is refused in its function, and what is said of it."""
-    said = try_together(crate, edits)
-    told = [(edit, True, said.refused[edit.refused]) for edit in edits if edit.refused in said.refused]
-    told += [(edit, False, f"{edit.refused} is proved") for edit in edits if edit.refused in said.proved]
-    rest = [edit for edit in edits if edit.refused not in said.refused and edit.refused not in said.proved]
-    if len(edits) == 1:
-        return told or [(edit, False, f"not refused in {edit.refused}, but: {said.error}") for edit in rest]
-    # a check that refuses none of them has ended before it reached any
-    size = 1 if told else (len(rest) + 1) // 2
-    for start in range(0, len(rest), size):
-        told += try_group(crate, rest[start : start + size])
-    return told
+    def try_together(self, edits):
+        """What a check says with these edits in place."""
+        room = Room(self.crate)
+        with room.held:
+            for edit in edits:
+                apply(edit, room.folder)
+            return Said(self.crate, self.check(room, edits)[1])
+
+    def try_group(self, edits):
+        """Each of the edits with whether it is refused in its function, and what is said of it."""
+        said = self.try_together(edits)
+        told = [(edit, True, said.refused[edit.refused]) for edit in edits if edit.refused in said.refused]
+        told += [(edit, False, f"{edit.refused} is proved") for edit in edits if edit.refused in said.proved]
+        rest = [edit for edit in edits if edit.refused not in said.refused and edit.refused not in said.proved]
+        if len(edits) == 1:
+            return told or [(edit, False, f"not refused in {edit.refused}, but: {said.error}") for edit in rest]
+        # a check that refuses none of them has ended before it reached any
+        size = 1 if told else (len(rest) + 1) // 2
+        for start in range(0, len(rest), size):
+            told += self.try_group(rest[start : start + size])
+        return told
 
 
 def groups_of(crate, edits):
@@ -171,24 +173,23 @@ def groups_of(crate, edits):
 # The run.
 
 class Run:
-    """The crates that are yet to be proved, lowest first, and the groups of edits of those that are proved."""
+    """The crates whose functions are yet to be proved here, and the groups of edits of those that are."""
 
-    def __init__(self, edits):
+    def __init__(self, edits, libraries):
         self.edits = edits
-        needed = {name for crate in edits for name in (crate, *all_below(CRATES, crate))}
-        self.unproved = [crate for crate in CRATES if crate in needed]
-        self.proved = set()
+        self.libraries = libraries
+        self.change = libraries.change
+        self.unproved = list(edits)
         self.groups = []
-        self.refused = 0
+        self.refused = []
         self.busy = 0
-        self.change = threading.Condition()
 
     def next_task(self):
-        """A crate that can be proved now, or else a group that can be tried."""
+        """The functions of a crate that can be proved now, or else a group that can be tried."""
         if self.busy and free_memory() < MEMORY:
             return None
         for crate in self.unproved:
-            if self.proved.issuperset(CRATES[crate]):
+            if self.libraries.proved.issuperset(all_below(CRATES, crate)):
                 self.unproved.remove(crate)
                 return lambda: self.prove(crate)
         if self.groups:
@@ -197,22 +198,23 @@ class Run:
         return None
 
     def prove(self, crate):
-        # a second job reads all that the crate stands on once more, so it is left out where another check takes its processor
-        is_proved = prove(crate, 2 if self.busy == 1 else 1)
-        with self.change:
-            if is_proved:
-                self.proved.add(crate)
-                self.groups += [(crate, group) for group in groups_of(crate, self.edits.get(crate, []))]
+        if Tries(crate, self.libraries).prove(self.edits[crate]):
+            with self.change:
+                self.groups += [(crate, group) for group in groups_of(crate, self.edits[crate])]
 
     def try_group(self, crate, group):
         try:
-            told = try_group(crate, group)
+            told = Tries(crate, self.libraries).try_group(group)
         except BadEdit as why:
             told = [(group[0], False, str(why))]
         with self.change:
             for edit, is_refused, text in told:
                 print(f"{'refused' if is_refused else 'FAILED'}: {edit}: {text[:240]}", flush=True)
-                self.refused += is_refused
+                self.refused += [edit] * is_refused
+
+    def may_go_on(self):
+        """Whether something is under way after which there may be more to do."""
+        return self.busy or self.unproved and not self.libraries.has_ended
 
     def work(self):
         """What each of the threads does, until nothing is left that it could begin or wait for."""
@@ -220,7 +222,7 @@ class Run:
             with self.change:
                 task = self.next_task()
                 while task is None:
-                    if not self.busy:
+                    if not self.may_go_on():
                         return
                     self.change.wait(2)
                     task = self.next_task()
@@ -234,14 +236,41 @@ class Run:
 
     def go(self, jobs):
         threads = [threading.Thread(target=self.work) for _ in range(jobs)]
+        threads.append(threading.Thread(target=self.libraries.follow))
         for thread in threads:
             thread.start()
         for thread in threads:
             thread.join()
 
+    def count(self):
+        """How many edits are refused of crates that are proved as they stand."""
+        for crate in self.edits:
+            if crate not in self.libraries.proved:
+                print(f"rt ci doesn't prove {crate}, so its wrong bodies tell nothing", flush=True)
+        return sum(edit.crate in self.libraries.proved for edit in self.refused)
+
+
+@contextlib.contextmanager
+def ci_of(crates, copy):
+    """A folder where `rt ci` proves these crates and those below them, and what it says: in a copy of their own, or in one that is
+    given, where it was started by others and its words come on standard input."""
+    if copy:
+        yield copy.resolve(), sys.stdin
+        return
+    with tempfile.TemporaryDirectory(prefix="wrong-bodies-") as held:
+        top = Path(held)
+        copy_crates(with_all_below(CRATES, crates), top)
+        rt = start_ci(top)
+        try:
+            yield top, rt.stdout
+        finally:
+            rt.terminate()
+            rt.wait()
+
 
 def parse_words():
     words = argparse.ArgumentParser(description=__doc__, formatter_class=argparse.RawDescriptionHelpFormatter)
+    words.add_argument("--copy", type=Path, help="a copy of the repository where `rt ci` runs, whose words are the standard input")
     words.add_argument("--jobs", type=int, default=len(os.sched_getaffinity(0)), help="how many checks run at a time")
     words.add_argument("named", nargs="*", help="a crate, or CRATE/NAME of crates/CRATE/must-fail/NAME.edit")
     return words.parse_args()
@@ -261,12 +290,14 @@ def main():
     except BadEdit as why:
         print(f"{why}\n0 passed, 1 failed")
         return 1
-    run = Run(edits)
     with open(TOP / "crates.txt") as held:
         wait_for_other_runs("wrong_bodies", held)
-        run.go(words.jobs)
-    failed = sum(map(len, edits.values())) - run.refused
-    print(f"{run.refused} passed, {failed} failed")
+        with ci_of(edits, words.copy) as (top, said):
+            run = Run(edits, Libraries(top, said, threading.Condition()))
+            run.go(words.jobs)
+    passed = run.count()
+    failed = sum(map(len, edits.values())) - passed
+    print(f"{passed} passed, {failed} failed")
     return 1 if failed else 0
 
 

@@ -9,7 +9,6 @@ line is 'N passed, M failed'."""
 
 import argparse
 import re
-import shutil
 import subprocess
 import sys
 import tempfile
@@ -21,7 +20,7 @@ from edits import TOP, BadEdit, Change, apply, changed, read_lines
 
 sys.path.append(str(TOP))
 
-from crate_copies import SOURCES, all_below, copy_list, copy_parts, folder_of, read_crates  # noqa: E402
+from crate_copies import copy_crates, folder_of, read_crates, with_all_below  # noqa: E402
 
 # The crate of the tests.
 TESTS = "eevdf_rows"
@@ -29,7 +28,7 @@ TESTS = "eevdf_rows"
 SECONDS = 30
 
 CRATES = read_crates()
-COPIED = (*all_below(CRATES, TESTS), TESTS)
+COPIED = with_all_below(CRATES, [TESTS])
 
 RESULT = re.compile(r"^test (\S+) \.\.\. (ok|FAILED)$(?=\n(.*))", re.MULTILINE)
 
@@ -75,18 +74,11 @@ def has_its_place(body):
 
 # The tries.
 
-def copy_crates(top):
-    for crate in COPIED:
-        copy_parts(crate, SOURCES, top, shutil.copy2)
-    copy_list(COPIED, top)
-    shutil.copy(TOP / "HANDLES", top)
-
-
 def run_tests(body, words):
     """What comes of each test that is run with a body in place: its name, 'ok' or 'FAILED', and the line after it."""
     with tempfile.TemporaryDirectory(prefix="tested-") as held:
         top = Path(held)
-        copy_crates(top)
+        copy_crates(COPIED, top)
         if body:
             apply(body, top)
         run = subprocess.run(["rt", "try", "--test", "--seconds", str(SECONDS), "--", *words], cwd=top / "crates" / TESTS,
