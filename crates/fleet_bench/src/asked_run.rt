@@ -53,15 +53,21 @@ impl AskedRun {
         if words.len() != 8 {
             return Err(WordFault::Count);
         }
-        let way = Way::of(words[1].as_str()).ok_or(WordFault::Way)?;
-        let threads = count_of(words[2].as_str(), 64).ok_or(WordFault::Cpus)?;
-        let cpus_a_thread = count_of(words[3].as_str(), 64).ok_or(WordFault::Cpus)?;
-        if threads * cpus_a_thread > 64 {
+        let Some(way) = Way::of(words[1].as_str()) else {
+            return Err(WordFault::Way);
+        };
+        let Some((threads, cpus_a_thread)) = cpus_of(words[2].as_str(), words[3].as_str()) else {
             return Err(WordFault::Cpus);
-        }
-        let tasks = count_of(words[4].as_str(), 1024).ok_or(WordFault::Tasks)?;
-        let mix = Mix::of(words[5].as_str()).ok_or(WordFault::Mix)?;
-        let operations = operations_of(words[6].as_str()).ok_or(WordFault::Operations)?;
+        };
+        let Some(tasks) = count_of(words[4].as_str(), 1024) else {
+            return Err(WordFault::Tasks);
+        };
+        let Some(mix) = Mix::of(words[5].as_str()) else {
+            return Err(WordFault::Mix);
+        };
+        let Some(operations) = operations_of(words[6].as_str()) else {
+            return Err(WordFault::Operations);
+        };
         let Ok(seed) = words[7].as_str().parse::<u64>() else {
             return Err(WordFault::Seed);
         };
@@ -90,6 +96,20 @@ impl AskedRun {
         requires at { at < self.now.cpus_a_thread }
     {
         CpuId::new((thread * self.cpus_a_thread + at) as u64).unwrap()
+    }
+}
+
+/// The number of threads and that of the CPUs of each that two words give.
+fn cpus_of(threads: &str, cpus_a_thread: &str) -> Option<(usize, usize)>
+    ensures some { IfSome result (λ n. (0 < n.0) × (0 < n.1)) }
+    ensures few { IfSome result (λ n. n.0 * n.1 ≤ 64) }
+{
+    let threads = count_of(threads, 64)?;
+    let cpus_a_thread = count_of(cpus_a_thread, 64)?;
+    if threads * cpus_a_thread <= 64 {
+        Some((threads, cpus_a_thread))
+    } else {
+        None
     }
 }
 

@@ -3,23 +3,33 @@
 use crate::asked_run::AskedRun;
 use crate::mix::Mix;
 use drawn_values::Draws;
-use eevdf_ops::{CpuId, Setup, TaskSpec};
+use eevdf_ops::{CpuId, Op, Setup, TaskSpec};
 use std::alloc::{AllocError, Global};
 
 /// The setup of a run. It fails only when out of memory.
 pub fn drawn_setup(alloc: Global, run: &AskedRun) -> Result<Setup, AllocError> {
+    let tasks = drawn_tasks(alloc, run)?;
+    let programs = empty_programs(alloc, run.cpus())?;
+    Setup::make(alloc, &tasks, &programs).map_err(|_| AllocError)
+}
+
+fn drawn_tasks(alloc: Global, run: &AskedRun) -> Result<Vec<TaskSpec>, AllocError> {
     let cpus = run.cpus();
     let mut draws = Draws::new(run.seed, 0);
-    let mut specs = Vec::with_capacity(alloc, run.tasks)?;
+    let mut tasks = Vec::with_capacity(alloc, run.tasks)?;
     for number in 0..run.tasks {
         let home = CpuId::new((number % cpus) as u64).unwrap();
-        specs.push(drawn_task(&mut draws, run.mix, home))?;
+        tasks.push(drawn_task(&mut draws, run.mix, home))?;
     }
+    Ok(tasks)
+}
+
+fn empty_programs(alloc: Global, cpus: usize) -> Result<Vec<Vec<Op>>, AllocError> {
     let mut programs = Vec::with_capacity(alloc, cpus)?;
     for _cpu in 0..cpus {
         programs.push(Vec::new(alloc))?;
     }
-    Setup::make(alloc, &specs, &programs).map_err(|_| AllocError)
+    Ok(programs)
 }
 
 fn drawn_task(draws: &mut Draws, mix: Mix, home: CpuId) -> TaskSpec {

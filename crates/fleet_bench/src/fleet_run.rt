@@ -1,7 +1,12 @@
 //! A run by a fleet: each thread does the operations of its own CPUs.
 
-ghost use Rattle.std.specs.Prelude.{◌≡◌, ◌≤◌};
+ghost use Rattle.std.specs.Prelude.{◌≡◌, ◌≤◌, true};
+ghost use Rattle.std.specs.List.{list_all};
 ghost use Rattle.eevdf_fleet.specs.Fleets.{setup_of};
+ghost use Rattle.eevdf_ops.specs.Histories.{IsOneThread};
+ghost use Rattle.eevdf_ops.specs.Machine.{start};
+ghost use Rattle.eevdf_ops.specs.Programs.{deeds_of};
+ghost use Rattle.eevdf_ops.specs.Setup.{allows, homes_of};
 
 use crate::agreement::agrees;
 use crate::asked_run::AskedRun;
@@ -12,8 +17,8 @@ use crate::run_report::Report;
 use crate::thread_seats::{done_by, seats_by_thread, seats_of};
 use crate::thread_work::work;
 use crate::way::Way;
-use eevdf_fleet::{Fleet, Kit, Names};
-use eevdf_ops::Setup;
+use eevdf_fleet::{Fleet, Kit, Names, Seat};
+use eevdf_ops::{Outcome, Setup};
 use std::alloc::Global;
 use std::marker::Brand;
 use std::sync::Wait;
@@ -42,26 +47,53 @@ fn report_of<N: Names + Send + Sync, R: Threads + Wait + Sync>(
     requires setup { setup_of kit ≡ setup.now }
 {
     let (fleet, seats) = Fleet::<N>::open(alloc, kit)?;
-    let threads = seats_by_thread(alloc, run, seats)?;
-    let operations = run.operations;
-    let shared = &fleet;
-    let threads = thread::map_vec(
-        rt,
-        threads,
-        &move |own| { work(rt, shared, operations, own) },
-    )?;
-    let done = done_by(threads.as_slice());
-    let seats = seats_of(alloc, threads)?;
+    let (done, seats) = worked(rt, alloc, run, &fleet, seats)?;
     if !fleet.has_all_seats(&seats) {
         return Err(RunFault::Seats);
     }
     let outcome = fleet.close(seats);
-    let agrees = if run.way == Way::Check {
-        Some(agrees(alloc, setup, &outcome)? && all_stand_once(&outcome, run.tasks as u64))
-    } else {
-        None
-    };
-    Ok(Report { done, agrees })
+    report(alloc, run, setup, done, &outcome)
+}
+
+/// Has the threads do the operations, and gives how many were done, and the seats back.
+fn worked<N: Names + Send + Sync, R: Threads + Wait + Sync>(
+    rt: &R,
+    alloc: Global,
+    run: &AskedRun,
+    fleet: &Fleet<N>,
+    seats: Vec<Seat<N>>,
+) -> Result<(u64, Vec<Seat<N>>), RunFault> {
+    let threads = seats_by_thread(alloc, run, seats)?;
+    let operations = run.operations;
+    let threads = thread::map_vec(
+        rt,
+        threads,
+        &move |own| { work(rt, fleet, operations, own) },
+    )?;
+    let done = done_by(threads.as_slice());
+    Ok((done, seats_of(alloc, threads)?))
+}
+
+/// What is told of a run, and of its comparison with one thread where that is asked for.
+fn report(
+    alloc: Global,
+    run: &AskedRun,
+    setup: &Setup,
+    done: u64,
+    outcome: &Outcome,
+) -> Result<Report, RunFault>
+    requires allowed { list_all (allows setup.now) (deeds_of outcome.now.lines) ≡ true }
+    requires one_thread { IsOneThread (homes_of setup.now) (start setup.now)
+        (deeds_of outcome.now.lines) outcome.now }
+{
+    if run.way != Way::Check {
+        return Ok(Report { done, agrees: None });
+    }
+    let agrees = agrees(alloc, setup, outcome)? && all_stand_once(outcome, run.tasks as u64);
+    Ok(Report {
+        done,
+        agrees: Some(agrees),
+    })
 }
 
 /// How many lines a CPU may have: one for each of its operations, and room for the wakes that others ask for.

@@ -1,5 +1,7 @@
 //! The operations of all threads in one thread, without a fleet: one of each thread in turn.
 
+ghost use Rattle.std.specs.Prelude.{◌<◌};
+
 use crate::asked_run::AskedRun;
 use crate::drawn_operations::{DrawnOperations, Refused, running_after};
 use eevdf_ops::{Answer, CpuId, Deed, Op, Setup, Solo};
@@ -38,19 +40,26 @@ pub fn solo_count(alloc: Global, run: &AskedRun, setup: &Setup) -> Result<u64, A
 fn parts_of(alloc: Global, run: &AskedRun) -> Result<Vec<Part>, AllocError> {
     let mut parts = Vec::with_capacity(alloc, run.threads)?;
     for thread in 0..run.threads {
-        let mut places = Vec::with_capacity(alloc, run.cpus_a_thread)?;
-        for at in 0..run.cpus_a_thread {
-            places.push(Place {
-                cpu: run.cpu(thread, at),
-                running: None,
-            })?;
-        }
         parts.push(Part {
             drawn: DrawnOperations::new(run, thread),
-            places,
+            places: places_of(alloc, run, thread)?,
         })?;
     }
     Ok(parts)
+}
+
+/// The CPUs of a thread.
+fn places_of(alloc: Global, run: &AskedRun, thread: usize) -> Result<Vec<Place>, AllocError>
+    requires { thread < run.now.threads }
+{
+    let mut places = Vec::with_capacity(alloc, run.cpus_a_thread)?;
+    for at in 0..run.cpus_a_thread {
+        places.push(Place {
+            cpu: run.cpu(thread, at),
+            running: None,
+        })?;
+    }
+    Ok(places)
 }
 
 /// Does the operation of this number of a thread, on its CPUs in turn.

@@ -70,10 +70,16 @@ fn operate<N: Names, R: Wait>(
             return Ok(None);
         }
         Op::Drain => {
-            return fleet.drain(rt, seat).map(|_| None).map_err(|_| Refused);
+            return match fleet.drain(rt, seat) {
+                Ok(_) => Ok(None),
+                Err(_) => Err(Refused),
+            };
         }
     };
-    answer.map(|answer| Some(answer)).map_err(|_| Refused)
+    match answer {
+        Ok(answer) => Ok(Some(answer)),
+        Err(_) => Err(Refused),
+    }
 }
 
 /// The task, where the setup has it.

@@ -7,7 +7,7 @@ use std::io::Write;
 /// the call is made once more.
 macro_rules! called {
     ($rt:expr, $name:expr, if $is_refused:path, $call:expr) => {{
-        crate::called::say($rt, concat!("== ", $name));
+        crate::called::say_call($rt, $name);
         let answer = $call;
         if $is_refused(&answer) {
             crate::called::say($rt, "-- refused");
@@ -17,7 +17,7 @@ macro_rules! called {
         }
     }};
     ($rt:expr, $name:expr, $refused:pat, $call:expr) => {{
-        crate::called::say($rt, concat!("== ", $name));
+        crate::called::say_call($rt, $name);
         match $call {
             $refused => {
                 crate::called::say($rt, "-- refused");
@@ -29,6 +29,11 @@ macro_rules! called {
 }
 
 pub(crate) use called;
+
+/// Says which call is made.
+pub fn say_call(rt: &impl Print, name: &str) {
+    let _ = println!(rt; "== {name}");
+}
 
 /// Prints a line at once.
 pub fn say(rt: &impl Print, line: &str) {

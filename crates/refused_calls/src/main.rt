@@ -21,7 +21,7 @@ mod stopped;
 mod text_calls;
 mod turn_calls;
 
-use crate::called::{called, say};
+use crate::called::{called, say_call};
 use crate::fleet_calls::{fleet_calls, run_calls};
 use crate::player_calls::{play_calls, player_calls};
 use crate::queue_calls::queue_calls;
@@ -30,8 +30,8 @@ use crate::solo_calls::{script_calls, solo_calls};
 use crate::stopped::Stopped;
 use crate::text_calls::{engine_calls, fault_calls, text_calls};
 use crate::turn_calls::turn_calls;
-use eevdf_bench::{LoadFault, read_workload};
-use eevdf_ops::SetupFault;
+use eevdf_bench::{LoadFault, Workload, read_workload};
+use eevdf_ops::{Setup, SetupFault};
 use std::alloc::Global;
 use std::io::Read;
 use std::process::ExitCode;
@@ -57,26 +57,56 @@ fn all_calls<R: Print + Threads + Wait + Sync>(
     alloc: Global,
     bytes: &[u8],
 ) -> Result<(), Stopped> {
+    let workload = read(rt, alloc, bytes)?;
+    calls_on_workload(rt, alloc, bytes, &workload)?;
+    calls_on_copy(rt, alloc, workload.setup())?;
+    say_call(rt, "end");
+    Ok(())
+}
+
+fn read(rt: &impl Print, alloc: Global, bytes: &[u8]) -> Result<Workload, Stopped> {
     let workload = called!(
         rt,
         "read_workload",
         Err(LoadFault::Memory | LoadFault::Setup(SetupFault::Memory)),
         read_workload(alloc, bytes)
-    )
-    .map_err(|_| Stopped)?;
+    );
+    workload.map_err(|_| Stopped)
+}
+
+fn calls_on_workload<R: Print + Threads + Wait + Sync>(
+    rt: &R,
+    alloc: Global,
+    bytes: &[u8],
+    workload: &Workload,
+) -> Result<(), Stopped> {
     fault_calls(rt, alloc)?;
-    text_calls(rt, alloc, &workload)?;
+    text_calls(rt, alloc, workload)?;
     engine_calls(rt, alloc, bytes)?;
-    script_calls(rt, alloc, &workload)?;
-    play_calls(rt, alloc, &workload)?;
-    let setup = copied_setup(rt, alloc, workload.setup())?;
-    copy_calls(rt, alloc, &setup)?;
-    run_calls(rt, alloc, &setup)?;
-    turn_calls(rt, alloc, &setup)?;
+    script_calls(rt, alloc, workload)?;
+    play_calls(rt, alloc, workload)
+}
+
+/// The calls on a copy of a setup.
+fn calls_on_copy<R: Print + Threads + Wait + Sync>(
+    rt: &R,
+    alloc: Global,
+    setup: &Setup,
+) -> Result<(), Stopped> {
+    let copy = copied_setup(rt, alloc, setup)?;
+    calls_on_setup(rt, alloc, &copy)
+}
+
+fn calls_on_setup<R: Print + Threads + Wait + Sync>(
+    rt: &R,
+    alloc: Global,
+    setup: &Setup,
+) -> Result<(), Stopped> {
+    copy_calls(rt, alloc, setup)?;
+    run_calls(rt, alloc, setup)?;
+    turn_calls(rt, alloc, setup)?;
     queue_calls(rt, alloc)?;
-    solo_calls(rt, alloc, &setup)?;
-    player_calls(rt, alloc, &setup)?;
-    fleet_calls(rt, alloc, &setup)?;
-    say(rt, "== end");
-    Ok(())
+    solo_calls(rt, alloc, setup)?;
+    player_calls(rt, alloc, setup)?;
+    fleet_calls(rt, alloc, setup)
 }

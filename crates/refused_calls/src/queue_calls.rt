@@ -18,17 +18,25 @@ const TURNS: u64 = 100;
 
 /// Makes parcels, and does every call of a queue with their tasks.
 pub fn queue_calls(rt: &impl Print, alloc: Global) -> Result<(), Stopped> {
-    let mut queue = called!(rt, "Parcel::make", Err(_), filled_queue(alloc, MANY))?;
-    let mut other = called!(rt, "Parcel::make", Err(_), filled_queue(alloc, FEW))?;
+    let mut queue = made_queue(rt, alloc, MANY)?;
+    let mut other = made_queue(rt, alloc, FEW)?;
     say(rt, "-- opened");
-    take_turns(rt, &mut queue);
-    move_tasks(&mut queue, &mut other, MANY);
-    say_queue(rt, &queue);
-    take_turns(rt, &mut other);
-    sleep_and_wake(&mut other, MANY);
-    say_queue(rt, &other);
+    use_both(rt, &mut queue, &mut other);
     say(rt, "-- closed");
     Ok(())
+}
+
+fn made_queue(rt: &impl Print, alloc: Global, tasks: u64) -> Result<Queue, AllocError> {
+    called!(rt, "Parcel::make", Err(_), filled_queue(alloc, tasks))
+}
+
+fn use_both(rt: &impl Print, queue: &mut Queue, other: &mut Queue) {
+    take_turns(rt, queue);
+    move_tasks(queue, other, MANY);
+    say_queue(rt, queue);
+    take_turns(rt, other);
+    sleep_and_wake(other, MANY);
+    say_queue(rt, other);
 }
 
 /// A queue of so many tasks.

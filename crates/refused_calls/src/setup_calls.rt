@@ -10,11 +10,20 @@ use std::alloc::{AllocError, Global};
 pub fn copied_setup(rt: &impl Print, alloc: Global, setup: &Setup) -> Result<Setup, Stopped> {
     let tasks = called!(rt, "the tasks", Err(_), tasks_of(alloc, setup))?;
     let programs = called!(rt, "the programs", Err(_), programs_of(alloc, setup))?;
+    made_setup(rt, alloc, &tasks, &programs)
+}
+
+fn made_setup(
+    rt: &impl Print,
+    alloc: Global,
+    tasks: &[TaskSpec],
+    programs: &[Vec<Op>],
+) -> Result<Setup, Stopped> {
     called!(
         rt,
         "Setup::make",
         Err(SetupFault::Memory),
-        Setup::make(alloc, &tasks, &programs)
+        Setup::make(alloc, tasks, programs)
     )
     .map_err(|_| Stopped)
 }

@@ -3,7 +3,7 @@
 use crate::called::{called, say_text};
 use crate::stopped::Stopped;
 use eevdf_bench::{
-    BenchFault, Command, Key, LoadFault, Watched, WordFault, Workload, command_of, engine,
+    BenchFault, Command, Key, Kind, LoadFault, Watched, WordFault, Workload, command_of, engine,
     fault_text, replay_text, report, run_text, solo_text,
 };
 use eevdf_fleet::RunFault;
@@ -20,48 +20,57 @@ pub fn fault_calls(rt: &impl Print, alloc: Global) -> Result<(), Stopped> {
     say_fault(rt, alloc, &BenchFault::Load(LoadFault::BadValue { key }))
 }
 
+/// The calls that make a report, each with its command and whether the history is asked for.
+const TEXTS: [(&str, Kind, bool); 5] = [
+    ("solo_text", Kind::Solo, false),
+    ("solo_text --history", Kind::Solo, true),
+    ("replay_text", Kind::Replay, false),
+    ("replay_text --history", Kind::Replay, true),
+    ("run_text", Kind::Run, false),
+];
+
 /// The reports of a workload by each command, or the faults' lines.
 pub fn text_calls<R: Print + Threads + Wait + Sync>(
     rt: &R,
     alloc: Global,
     workload: &Workload,
 ) -> Result<(), Stopped> {
-    let text = called!(
-        rt,
-        "solo_text",
-        if is_refused,
-        solo_text(alloc, workload, false)
-    );
-    say_answer(rt, alloc, text)?;
-    let text = called!(
-        rt,
-        "solo_text --history",
-        if is_refused,
-        solo_text(alloc, workload, true)
-    );
-    say_answer(rt, alloc, text)?;
-    let text = called!(
-        rt,
-        "replay_text",
-        if is_refused,
-        replay_text(alloc, workload, false)
-    );
-    say_answer(rt, alloc, text)?;
-    let text = called!(
-        rt,
-        "replay_text --history",
-        if is_refused,
-        replay_text(alloc, workload, true)
-    );
-    say_answer(rt, alloc, text)?;
-    let text = called!(
-        rt,
-        "run_text",
-        if is_refused,
-        run_text(rt, alloc, workload, false)
-    );
-    say_answer(rt, alloc, text)
+    for (name, kind, history) in TEXTS {
+        let text = called!(
+            rt,
+            name,
+            if is_refused,
+            text_of(rt, alloc, workload, kind, history)
+        );
+        say_answer(rt, alloc, text)?;
+    }
+    Ok(())
 }
+
+fn text_of<R: Threads + Wait + Sync>(
+    rt: &R,
+    alloc: Global,
+    workload: &Workload,
+    kind: Kind,
+    history: bool,
+) -> Result<Vec<u8>, BenchFault> {
+    match kind {
+        Kind::Solo => solo_text(alloc, workload, history),
+        Kind::Replay => replay_text(alloc, workload, history),
+        Kind::Run => run_text(rt, alloc, workload, history),
+    }
+}
+
+/// The program's words for each command, with what the two calls are named.
+const WORDS: [(&str, &str, &[&str]); 3] = [
+    (
+        "command_of solo",
+        "engine solo --history",
+        &["eevdf", "solo", "--history"],
+    ),
+    ("command_of replay", "engine replay", &["eevdf", "replay"]),
+    ("command_of run", "engine run", &["eevdf", "run"]),
+];
 
 /// The same reports by `engine`, which reads the workload from its bytes and prints the report itself.
 pub fn engine_calls<R: Print + Threads + Wait + Sync>(
@@ -69,51 +78,23 @@ pub fn engine_calls<R: Print + Threads + Wait + Sync>(
     alloc: Global,
     bytes: &[u8],
 ) -> Result<(), Stopped> {
-    let words = ["eevdf", "solo", "--history"];
-    let solo = called!(
-        rt,
-        "command_of solo",
-        Err(WordFault::Memory),
-        command_of(alloc, &words)
-    )
-    .map_err(|_| Stopped)?;
-    let answer = called!(
-        rt,
-        "engine solo --history",
-        if is_refused,
-        print_report(rt, alloc, bytes, solo)
-    );
-    say_refusal(rt, alloc, answer)?;
-    let words = ["eevdf", "replay"];
-    let replay = called!(
-        rt,
-        "command_of replay",
-        Err(WordFault::Memory),
-        command_of(alloc, &words)
-    )
-    .map_err(|_| Stopped)?;
-    let answer = called!(
-        rt,
-        "engine replay",
-        if is_refused,
-        print_report(rt, alloc, bytes, replay)
-    );
-    say_refusal(rt, alloc, answer)?;
-    let words = ["eevdf", "run"];
-    let run = called!(
-        rt,
-        "command_of run",
-        Err(WordFault::Memory),
-        command_of(alloc, &words)
-    )
-    .map_err(|_| Stopped)?;
-    let answer = called!(
-        rt,
-        "engine run",
-        if is_refused,
-        print_report(rt, alloc, bytes, run)
-    );
-    say_refusal(rt, alloc, answer)
+    for (command_name, engine_name, words) in WORDS {
+        let command = called!(
+            rt,
+            command_name,
+            Err(WordFault::Memory),
+            command_of(alloc, words)
+        )
+        .map_err(|_| Stopped)?;
+        let answer = called!(
+            rt,
+            engine_name,
+            if is_refused,
+            print_report(rt, alloc, bytes, command)
+        );
+        say_refusal(rt, alloc, answer)?;
+    }
+    Ok(())
 }
 
 /// Whether memory was refused, or a thread, which takes memory too.

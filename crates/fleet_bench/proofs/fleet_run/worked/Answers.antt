@@ -1,6 +1,6 @@
 use denote.Param.Send.{sendable}
 use Rattle.eevdf_fleet.proofs.Crossing.{fleet_sync}
-use Rattle.fleet_bench.proofs.fleet_run.report_of.Goals as goal
+use Rattle.fleet_bench.proofs.fleet_run.worked.Goals as goal
 
 pub map_vec-requires-sync-F : goal.map_vec-requires-sync-F
 map_vec-requires-sync-F g c κs within = let runs = c.type_bounds.sync-R in
