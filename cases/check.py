@@ -1,8 +1,9 @@
 #!/usr/bin/env python3
-"""check.py [WORD..]: sends workloads to the built program `eevdf`, and looks whether each prints what stands in the file beside it;
-with words only those whose path has one of them. Without words it sends those of made.py too. The last line is
+"""check.py [WORD..]: sends workloads to the built programs `eevdf` and `eevdf_orders`, and looks whether each prints what stands in
+the file beside it; with words only those whose path has one of them. Without words it sends those of made.py too. The last line is
 'N passed, M failed'."""
 
+import codecs
 import re
 import subprocess
 import sys
@@ -13,7 +14,13 @@ import made
 
 CASES = Path(__file__).resolve().parent
 TOP = CASES.parent
-PROGRAM = TOP / "crates/eevdf/out/eevdf"
+
+SOLO = ("eevdf", "solo")
+REPLAY = ("eevdf", "replay")
+ORDERS = ("eevdf_orders",)
+
+# The last line of what is printed, where all is well.
+DONE = b"status 0\n"
 
 # A program that runs for so many seconds is ended, and has failed.
 PATIENCE = 60
@@ -29,15 +36,25 @@ ORDERED = (CASES / "orders/the-first-of-two-posts-wakes-the-task.toml",
            CASES / "orders/a-pull-before-two-picks-with-its-history.toml")
 
 
-def words_of(workload):
-    """The words of the command, which stand in the workload's first line: '# eevdf solo'."""
-    return workload.partition(b"\n")[0].decode().split()[2:]
+def command_of(workload):
+    """The program and its words, which stand in the workload's first line: '# eevdf solo'. A byte order mark may come before."""
+    return workload.removeprefix(codecs.BOM_UTF8).partition(b"\n")[0].decode().split()[1:]
 
 
-def run(words, workload):
-    """What the program prints for a workload, and as its last line the status."""
-    ran = subprocess.run([PROGRAM, *words], input=workload, stdout=subprocess.PIPE, stderr=subprocess.STDOUT, timeout=PATIENCE)
-    return ran.stdout + b"status %d\n" % ran.returncode
+def start(command, workload, out, errors):
+    program, *words = command
+    built = TOP / "crates" / program / "out" / program
+    return subprocess.run([built, *words], input=workload, stdout=out, stderr=errors, timeout=PATIENCE)
+
+
+def status_line(ran):
+    return b"status %d\n" % ran.returncode
+
+
+def run(command, workload):
+    """What a program prints for a workload, and as its last line the status."""
+    ran = start(command, workload, subprocess.PIPE, subprocess.STDOUT)
+    return ran.stdout + status_line(ran)
 
 
 class Checks:
@@ -53,22 +70,36 @@ class Checks:
             self.failed += 1
             print(f"FAILED: {name}: {printed.decode(errors='replace')}", flush=True)
 
-    def compare(self, name, words, workload, wanted):
-        printed = run(words, workload)
+    def compare(self, name, command, workload, wanted):
+        printed = run(command, workload)
         self.look(name, printed, printed == wanted)
+
+    def compare_errors(self, name, command, workload, wanted, out=subprocess.PIPE):
+        """The same of standard error alone. Nothing may come on standard output, or that goes to a file."""
+        ran = start(command, workload, out, subprocess.PIPE)
+        printed = ran.stderr + status_line(ran)
+        self.look(name, (ran.stdout or b"") + printed, not ran.stdout and printed == wanted)
 
 
 def is_of_both_versions(path, workload, wanted):
-    """Reports are alike in both versions, and so are the bounds of the numbers that numbers/ has."""
-    return b"\nversion = 1\n" in workload and (wanted.endswith(b"status 0\n") or path.parent.name == "numbers")
+    """Reports and orders are alike in both versions, and so are the bounds of the numbers that numbers/ has."""
+    return b"\nversion = 1\n" in workload and (wanted.endswith(DONE) or path.parent.name == "numbers")
+
+
+def in_version_two(text):
+    return text.replace(b"\nversion = 1\n", b"\nversion = 2\n")
 
 
 def check_pair(checks, path):
     workload, wanted = path.read_bytes(), path.with_suffix(".out").read_bytes()
-    checks.compare(path.relative_to(TOP), words_of(workload), workload, wanted)
+    name, command = path.relative_to(TOP), command_of(workload)
+    checks.compare(name, command, workload, wanted)
     if is_of_both_versions(path, workload, wanted):
-        second = workload.replace(b"\nversion = 1\n", b"\nversion = 2\n")
-        checks.compare(f"{path.relative_to(TOP)} in version 2", words_of(workload), second, wanted)
+        # a report has no version, and what eevdf_orders prints has that of the workload
+        checks.compare(f"{name} in version 2", command, in_version_two(workload), in_version_two(wanted))
+    if command[0] == "eevdf_orders" and wanted.endswith(DONE):
+        check_ordered(checks, name, command, workload)
+        check_places(checks, name, wanted)
 
 
 def refusal(fault):
@@ -76,11 +107,11 @@ def refusal(fault):
 
 
 def is_report(printed):
-    return printed.startswith(b"cpu 0\n") and printed.endswith(b"status 0\n")
+    return printed.startswith(b"cpu 0\n") and printed.endswith(DONE)
 
 
 def is_report_or_refusal(printed):
-    if printed.endswith(b"status 0\n"):
+    if printed.endswith(DONE):
         return is_report(printed)
     return bool(re.fullmatch(rb"fault: [^\n]*\nstatus 1\n", printed))
 
@@ -88,13 +119,13 @@ def is_report_or_refusal(printed):
 def check_damaged(checks, path):
     """Each beginning of a workload, and each that differs from it in one byte, comes to a report or to a refusal."""
     workload = path.read_bytes()
-    words = words_of(workload)
+    command = command_of(workload)
     body = workload.index(b"version")
     printed = {}
     for place in range(body, len(workload)):
-        printed[f"cut at {place}"] = run(words, workload[:place])
+        printed[f"cut at {place}"] = run(command, workload[:place])
         for byte in BYTES:
-            printed[f"{byte} at {place}"] = run(words, workload[:place] + byte + workload[place + 1:])
+            printed[f"{byte} at {place}"] = run(command, workload[:place] + byte + workload[place + 1:])
     wrong = [name for name, text in printed.items() if not is_report_or_refusal(text)]
     name = f"{path.relative_to(TOP)}, damaged in {len(printed)} ways"
     checks.look(name, ", ".join(wrong).encode(), not wrong)
@@ -108,14 +139,15 @@ def check_beginnings(checks, path):
     for length in range(len(places)):
         begun = workload[:order.start(1)] + b",".join(places[:length]) + workload[order.end(1):]
         name = f"{path.relative_to(TOP)}, {length} places"
-        checks.compare(name, words_of(workload), begun, refusal("order short at 0"))
+        checks.compare(name, command_of(workload), begun, refusal("order short at 0"))
 
 
 def check_shortest(checks):
     """The least inputs, of nothing and of one byte, which have no first line for a command."""
-    for kind in ("solo", "replay", "run"):
-        checks.compare(f"no byte for {kind}", (kind,), b"", refusal("missing version"))
-        checks.compare(f"the byte 255 for {kind}", (kind,), b"\xff", refusal("not a TOML document"))
+    for command in (SOLO, REPLAY, ("eevdf", "run"), ORDERS):
+        name = " ".join(command)
+        checks.compare(f"no byte for {name}", command, b"", refusal("missing version"))
+        checks.compare(f"the byte 255 for {name}", command, b"\xff", refusal("not a TOML document"))
 
 
 def check_deeds(checks):
@@ -123,7 +155,7 @@ def check_deeds(checks):
     for versions, deeds in made.DEEDS.items():
         for deed in deeds:
             for version in made.CPUS:
-                printed = run(("solo",), made.whole_machine(version, script=f'script = ["{deed}"]\n'))
+                printed = run(SOLO, made.whole_machine(version, script=f'script = ["{deed}"]\n'))
                 is_right = is_report(printed) if version in versions else printed == refusal("bad value at script at 0")
                 checks.look(f"the deed '{deed}' in version {version}", printed, is_right)
 
@@ -133,7 +165,7 @@ def check_other_operations(checks):
         for version in made.CPUS:
             name = f"the operation '{operation}' in version {version}"
             workload = made.whole_machine(version, program=f'["{operation}"]')
-            checks.compare(name, ("replay",), workload, refusal("bad value at program 0 at 0"))
+            checks.compare(name, REPLAY, workload, refusal("bad value at program 0 at 0"))
 
 
 def check_longest_orders(checks):
@@ -141,7 +173,7 @@ def check_longest_orders(checks):
     nobody = made.ORDERED_CPUS
     too_long = refusal(f"order longer than {made.PLACES}")
     rows = (
-        ("the longest order", made.LONGEST, made.report_of_longest().encode() + b"status 0\n"),
+        ("the longest order", made.LONGEST, made.report_of_longest().encode() + DONE),
         ("one place less", made.LONGEST[:-1], refusal(f"order short at {nobody - 1}")),
         ("one place more", made.LONGEST + [0], too_long),
         ("one place more, of nobody", [nobody] * (made.PLACES + 1), too_long),
@@ -149,20 +181,20 @@ def check_longest_orders(checks):
         ("one place less, of nobody", [nobody] * (made.PLACES - 1), refusal("order at 0: no caller")),
     )
     for name, order, wanted in rows:
-        checks.compare(name, ("replay",), made.picks_in_order(order), wanted)
+        checks.compare(name, REPLAY, made.picks_in_order(order), wanted)
 
 
 def check_run(checks, name, programs, tasks, cpus, count):
     """Each task stands in one place of the report of a run; and one thread that does the history prints the same report, but for
     the requests that are left."""
-    printed = run(("run", "--history"), (programs + tasks).encode())
-    report, script, deeds = printed.removesuffix(b"status 0\n").partition(b"script = [")
+    printed = run(("eevdf", "run", "--history"), (programs + tasks).encode())
+    report, script, deeds = printed.removesuffix(DONE).partition(b"script = [")
     report = re.sub(rb"^left .*\n", b"", report, flags=re.MULTILINE)
     placed = sorted(map(int, re.findall(rb"^(?:task|asleep) (\d+) ", report, re.MULTILINE)))
     checks.look(f"{name}: CPUs and tasks", printed,
                 len(re.findall(rb"^cpu ", report, re.MULTILINE)) == cpus and placed == list(range(count)))
     workload = programs.encode() + script + deeds + tasks.encode()
-    checks.compare(f"{name}: its history by one thread", ("solo",), workload, report + b"status 0\n")
+    checks.compare(f"{name}: its history by one thread", SOLO, workload, report + DONE)
 
 
 def check_runs(checks):
@@ -173,11 +205,67 @@ def check_runs(checks):
     check_run(checks, "the most programs", *made.most_programs())
 
 
+def order_of(text):
+    """The callers at the places of a text's order."""
+    order = re.search(rb"order = \[([\d,\s]*)\]", text)
+    return list(map(int, re.findall(rb"\d+", order[1]))) if order else []
+
+
+def check_ordered(checks, name, command, workload):
+    """What eevdf_orders prints is the workload with an order in front, and the workbench plays that to its end. Gives the order."""
+    ordered = run(command, workload).removesuffix(DONE)
+    played = run(REPLAY, ordered)
+    checks.look(f"{name}, played", played, ordered.endswith(workload.removeprefix(codecs.BOM_UTF8)) and is_report(played))
+    return order_of(ordered)
+
+
+def check_places(checks, name, ordered):
+    """The workbench reads at each place the caller that stands there: where it has done all its steps before, and no other caller
+    has, the order is refused at this place."""
+    order = order_of(ordered)
+    for place, caller in enumerate(order):
+        workload = made.posts_in_order(ordered, order, place)
+        checks.compare(f"{name}, read at place {place}", REPLAY, workload, refusal(f"order at {place}: done"))
+
+
+def check_ordered_workloads(checks):
+    """The orders of the same workloads play whether the callers take turns or a seed draws them."""
+    for number, workload in enumerate(made.TO_BE_ORDERED):
+        for words in ((), *(("--seed", str(seed)) for seed in range(20))):
+            command = (*ORDERS, *words)
+            check_ordered(checks, f"made workload {number} for {' '.join(command)}", command, workload)
+
+
+def check_drains(checks):
+    """A drain of 64 CPUs is 130 steps. It takes the lock of its own CPU alone, so nobody waits, and all callers take turns."""
+    order = check_ordered(checks, "64 drains, ordered", ORDERS, made.drains())
+    checks.look("the order of 64 drains", str(order).encode(), order == [*range(64)] * 130)
+
+
+def check_other_words(checks):
+    """Words that eevdf_orders doesn't take get one line on standard error, and nothing is ordered."""
+    usage = b"usage: eevdf_orders [--seed N]\nstatus 2\n"
+    for words in made.NO_SEEDS:
+        checks.compare_errors(f"the words '{words}'", (*ORDERS, *words.split()), made.TO_BE_ORDERED[0], usage)
+
+
+def check_failed_write(checks):
+    """A machine may lack the file that takes no byte."""
+    full = Path("/dev/full")
+    if full.is_char_device():
+        with full.open("wb") as out:
+            checks.compare_errors("a write that fails", ORDERS, made.TO_BE_ORDERED[0], b"fault: writing\nstatus 3\n", out)
+
+
 def check_made(checks):
     check_deeds(checks)
     check_other_operations(checks)
     check_longest_orders(checks)
     check_runs(checks)
+    check_ordered_workloads(checks)
+    check_drains(checks)
+    check_other_words(checks)
+    check_failed_write(checks)
 
 
 def main():

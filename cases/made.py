@@ -109,3 +109,60 @@ def most_programs():
     programs = [[operation_of_most(cpu, at) for at in range(OPERATIONS)] for cpu in range(CPUS[2])]
     tasks = "".join(f"[[task]]\nhome = {task % HOMES}\n" for task in range(POSTED_TASKS))
     return programs_text(programs), tasks, CPUS[2], POSTED_TASKS
+
+
+# Workloads that get an order. They have all operations, callers that wait for each other's locks, and CPUs with nothing to do.
+TO_BE_ORDERED = (
+    b'''version = 1
+program = [["pull 1", "pull 1"], ["pull 2", "pull 2"], ["pull 0", "pull 0"]]
+[[task]]
+[[task]]
+[[task]]
+''',
+    b'''version = 1
+program = [["pick", "tick 5", "sleep 0", "drain", "post 2"], ["post 0", "drain", "yield"], ["drain", "sleep 1"]]
+[[task]]
+[[task]]
+home = 1
+[[task]]
+home = 2
+asleep = true
+''',
+    b'''version = 1
+program = [[], ["pick", "pull 3", "drain", "pull 0", "pick", "yield"], ["post 0"], ["pull 1"]]
+[[task]]
+asleep = true
+[[task]]
+home = 3
+''',
+    b'''version = 1
+program = [[]]
+[[task]]
+''',
+    b'''version = 2
+program = [["pick", "renice 0 5", "drain"], ["pull 0", "renice 1 -20", "post 2"]]
+[[task]]
+[[task]]
+[[task]]
+asleep = true
+''',
+)
+
+# Words that eevdf_orders doesn't take. The first number is one past the greatest seed.
+NO_SEEDS = (
+    "--seed 18446744073709551616", "7", "--seed", "--seed x", "--seed -1", "--seed 1.5", "--seed 1 --seed 2", "--help", "help",
+)
+
+
+def drains():
+    """A drain on each CPU."""
+    return (programs_text([["drain"]] * CPUS[2]) + "[[task]]\n").encode()
+
+
+def posts_in_order(ordered, order, place):
+    """The order in front of a text, and programs of posts, each of which is one step. The caller at a place has as many as it has
+    done before this place, and the others have enough."""
+    posts = [len(order)] * (max(order) + 1)
+    posts[order[place]] = order[:place].count(order[place])
+    programs = programs_text([["post 0"] * count for count in posts])
+    return ordered[:ordered.index(b"]\n") + 2] + f"{programs}[[task]]\n".encode()
