@@ -110,6 +110,3 @@ fn step_among(player: &mut Player, from: usize, end: usize) -> Option<usize>
     }
     None
 }
-
-#[cfg(test)]
-mod tests;

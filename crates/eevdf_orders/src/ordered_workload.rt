@@ -104,6 +104,3 @@ fn with_order(
         Err(_) => Err(PrintFault::Bench(BenchFault::Memory)),
     }
 }
-
-#[cfg(test)]
-mod tests;

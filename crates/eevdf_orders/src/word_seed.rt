@@ -62,6 +62,3 @@ fn seed_flag<'a>(alloc: Global) -> Arg<'a>
 {
     Arg::new(alloc, "seed").long("seed").action(ArgAction::Set)
 }
-
-#[cfg(test)]
-mod tests;
