@@ -22,13 +22,13 @@ sys.path.append(str(TOP))
 
 from crate_copies import copy_crates, folder_of, read_crates, with_all_below  # noqa: E402
 
-# The crate of the tests.
-TESTS = "eevdf_rows"
+# The crates of the tests.
+TESTS = ("eevdf_rows", "workbench_rows")
 # A test that has run for so many seconds is ended, and has failed. A right body takes a few.
 SECONDS = 30
 
 CRATES = read_crates()
-COPIED = with_all_below(CRATES, [TESTS])
+COPIED = with_all_below(CRATES, TESTS)
 
 RESULT = re.compile(r"^test (\S+) \.\.\. (ok|FAILED)$(?=\n(.*))", re.MULTILINE)
 
@@ -57,16 +57,24 @@ def bodies_named(names):
     return list(map(read_body, files))
 
 
+def crate_of(test):
+    """The crate that has a test, if one has it."""
+    *modules, name = test.split("::")
+    for crate in TESTS:
+        file = folder_of(crate).joinpath("src", *modules).with_suffix(".rt")
+        if file.is_file() and re.search(rf"#\[test\]\nfn {name}\(", file.read_text()):
+            return crate
+    return None
+
+
 def has_its_place(body):
     """Whether the old texts of a wrong body stand in the crates, and its test is there."""
-    *modules, test = body.test.split("::")
-    file = folder_of(TESTS).joinpath("src", *modules).with_suffix(".rt")
     try:
         changed(body, TOP)
     except (BadEdit, OSError) as why:
         print(f"FAILED: {body}: {why}", flush=True)
         return False
-    if not file.is_file() or not re.search(rf"#\[test\]\nfn {test}\(", file.read_text()):
+    if not crate_of(body.test):
         print(f"FAILED: {body}: there is no test {body.test}", flush=True)
         return False
     return True
@@ -74,14 +82,14 @@ def has_its_place(body):
 
 # The tries.
 
-def run_tests(body, words):
-    """What comes of each test that is run with a body in place: its name, 'ok' or 'FAILED', and the line after it."""
+def run_tests(crate, body, words):
+    """What comes of each test of a crate that is run with a body in place: its name, 'ok' or 'FAILED', and the line after it."""
     with tempfile.TemporaryDirectory(prefix="tested-") as held:
         top = Path(held)
         copy_crates(COPIED, top)
         if body:
             apply(body, top)
-        run = subprocess.run(["rt", "try", "--test", "--seconds", str(SECONDS), "--", *words], cwd=top / "crates" / TESTS,
+        run = subprocess.run(["rt", "try", "--test", "--seconds", str(SECONDS), "--", *words], cwd=top / "crates" / crate,
                              capture_output=True, text=True, errors="replace")
     said = run.stdout + run.stderr
     results = {name: (result, line.strip()) for name, result, line in RESULT.findall(said)}
@@ -90,7 +98,8 @@ def run_tests(body, words):
 
 def try_body(body):
     """Whether the test of a wrong body refuses it, and what is said of it."""
-    results, said = run_tests(body, [body.test])
+    crate = crate_of(body.test)
+    results, said = run_tests(crate, body, [body.test]) if crate else ({}, "no crate has it")
     if body.test not in results:
         return False, f"the test wasn't run: {said}"
     result, line = results[body.test]
@@ -101,9 +110,11 @@ def try_body(body):
 
 def try_right_bodies(tests):
     """Whether each test passes with no wrong body in place."""
-    results, said = run_tests(None, [])
-    failed = [test for test in sorted(tests) if results.get(test, ("FAILED", ""))[0] != "ok"]
-    return not failed, ", ".join(failed) + f" failed: {said}" if failed else "every test that is named passes"
+    tried = [run_tests(crate, None, []) for crate in TESTS]
+    passed = {test for results, _ in tried for test, (result, _) in results.items() if result == "ok"}
+    failed = sorted(tests - passed)
+    told = " ".join(said for _, said in tried)
+    return not failed, ", ".join(failed) + f" failed: {told}" if failed else "every test that is named passes"
 
 
 def try_all(bodies, jobs):

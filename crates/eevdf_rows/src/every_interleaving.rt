@@ -7,10 +7,10 @@ ghost use Rattle.eevdf_ops.specs.Setup.{allows};
 
 use crate::one_thread_again::deeds;
 use crate::same_end::end_alike;
-use eevdf_bench::read_workload;
 use eevdf_ops::one_thread::solo;
 use eevdf_ops::{Deed, Line, Outcome, Setup};
 use eevdf_steps::{Player, play};
+use eevdf_workload::read_workload;
 use std::alloc::Global;
 use std::process::Abort;
 use std::test::Fail;

@@ -9,9 +9,10 @@ mod two_threads;
 ghost use Rattle.std.specs.Prelude.{◌≡◌, IfSome};
 ghost use Rattle.eevdf_fleet.specs.Fleets.{setup_of};
 
-use eevdf_bench::{read_workload, report};
 use eevdf_fleet::{Fleet, Kit, Names, Seat};
 use eevdf_ops::{Outcome, Setup};
+use eevdf_report::report;
+use eevdf_workload::read_workload;
 use seat_call::{Call, Done, call_on};
 use std::alloc::Global;
 use std::marker::Brand;

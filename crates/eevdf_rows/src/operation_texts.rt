@@ -2,8 +2,8 @@
 
 use crate::fixtures::{cpu, nice, ns, task};
 use crate::whole_machines::with_operation;
-use eevdf_bench::{Key, LoadFault, Version, read_workload};
 use eevdf_ops::{Op, Setup};
+use eevdf_workload::{Key, LoadFault, Version, read_workload};
 use std::alloc::Global;
 use std::test::Fail;
 

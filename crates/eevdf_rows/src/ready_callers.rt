@@ -1,10 +1,11 @@
 //! Who may step next, and where a task stands, while callers wait for each other's locks.
 
 use crate::fixtures::{cpu, task};
-use eevdf_bench::{Workload, read_workload, report};
 use eevdf_ops::CpuId;
 use eevdf_queue::TaskId;
+use eevdf_report::report;
 use eevdf_steps::{Place, Player, StepFault};
+use eevdf_workload::{Workload, read_workload};
 use std::alloc::Global;
 use std::process::Abort;
 use std::test::Fail;

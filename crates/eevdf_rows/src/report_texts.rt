@@ -1,9 +1,10 @@
 //! How the report prints lines of all kinds, requests that are left, and times below 0.
 
 use crate::fixtures::{cpu, nice, ns, task};
-use eevdf_bench::{read_workload, report};
 use eevdf_ops::{Answer, Deed, Line, Outcome, Solo};
 use eevdf_queue::{Queue, TaskId};
+use eevdf_report::report;
+use eevdf_workload::read_workload;
 use std::alloc::{AllocError, Global};
 use std::process::Abort;
 use std::test::Fail;

@@ -1,6 +1,6 @@
 //! Workloads with as many CPUs and tasks as a version allows, so that what they refuse isn't that a CPU or a task is missing.
 
-use eevdf_bench::Version;
+use eevdf_workload::Version;
 use std::alloc::{AllocError, Global};
 
 /// So many tasks there may be.

@@ -1,9 +1,9 @@
 //! Which calls of the gate come at each kind of operation, and in which order.
 
 use super::gate_call::GateCall;
-use eevdf_bench::read_workload;
 use eevdf_fleet::{Gate, run_all};
 use eevdf_ops::CpuId;
+use eevdf_workload::read_workload;
 use std::sync::atomic::{AtomicBool, AtomicUsize, Ordering};
 use std::test::Fail;
 

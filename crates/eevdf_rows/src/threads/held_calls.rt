@@ -3,8 +3,9 @@
 
 use super::gate_call::GateCall;
 use super::holding_gate::HoldingGate;
-use eevdf_bench::{read_workload, report};
 use eevdf_fleet::run_all;
+use eevdf_report::report;
+use eevdf_workload::read_workload;
 use std::test::Fail;
 
 /// Programs, the calls that are held, each until the call beside it is made, and the report of the run.

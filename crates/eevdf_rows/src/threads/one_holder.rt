@@ -1,8 +1,8 @@
 //! A lock that two CPUs want is held by one of them at a time.
 
-use eevdf_bench::read_workload;
 use eevdf_fleet::{Gate, run_all};
 use eevdf_ops::CpuId;
+use eevdf_workload::read_workload;
 use std::hint::spin_loop;
 use std::sync::atomic::{AtomicBool, AtomicU64, Ordering};
 use std::test::Fail;
