@@ -159,10 +159,15 @@ fn check_case(rt: &impl Abort, alloc: Global, case: &Case) -> Result<(), Fail> {
 /// A player whose callers have done the steps of a beginning of an order.
 fn player_after(alloc: Global, setup: &Setup, beginning: &[usize]) -> Result<Player, Fail> {
     let mut player = Player::open(alloc, setup)?;
-    for caller in beginning {
+    step_each(&mut player, beginning)?;
+    Ok(player)
+}
+
+fn step_each(player: &mut Player, callers: &[usize]) -> Result<(), Fail> {
+    for caller in callers {
         player.step(*caller).ok().ok_or("step")?;
     }
-    Ok(player)
+    Ok(())
 }
 
 /// The first, in the order of lists, of the lawful complete orders that begin so.
