@@ -21,6 +21,7 @@ mod AsleepMaps
 mod Sound
 mod Picking
 mod Scaled
+mod Signed
 mod Mean
 mod SomeEligible
 mod Picked

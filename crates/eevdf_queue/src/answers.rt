@@ -53,18 +53,19 @@ impl fmt::Display for TickAnswer {
     ghost output = { λ answer. Some (tick_text answer) };
 
     fn fmt<W: fmt::Write>(&self, f: &mut fmt::Formatter<W>) -> fmt::Result {
-        match self {
+        let word = match self {
             TickAnswer::Charged {
                 task,
                 resched: true,
-            } => write!(f, "charged {task} resched"),
+            } => return write!(f, "charged {task} resched"),
             TickAnswer::Charged {
                 task,
                 resched: false,
-            } => write!(f, "charged {task}"),
-            TickAnswer::Idle => f.write_str("idle"),
-            TickAnswer::Range => f.write_str("range"),
-        }
+            } => return write!(f, "charged {task}"),
+            TickAnswer::Idle => "idle",
+            TickAnswer::Range => "range",
+        };
+        f.write_str(word)
     }
 }
 
@@ -76,11 +77,12 @@ impl fmt::Display for YieldAnswer {
     ghost output = { λ answer. Some (yield_text answer) };
 
     fn fmt<W: fmt::Write>(&self, f: &mut fmt::Formatter<W>) -> fmt::Result {
-        match self {
-            YieldAnswer::Yielded => f.write_str("yielded"),
-            YieldAnswer::Idle => f.write_str("idle"),
-            YieldAnswer::Range => f.write_str("range"),
-        }
+        let word = match self {
+            YieldAnswer::Yielded => "yielded",
+            YieldAnswer::Idle => "idle",
+            YieldAnswer::Range => "range",
+        };
+        f.write_str(word)
     }
 }
 
@@ -92,11 +94,12 @@ impl fmt::Display for WakeAnswer {
     ghost output = { λ answer. Some (wake_text answer) };
 
     fn fmt<W: fmt::Write>(&self, f: &mut fmt::Formatter<W>) -> fmt::Result {
-        match self {
-            WakeAnswer::Woken => f.write_str("woken"),
-            WakeAnswer::Awake => f.write_str("awake"),
-            WakeAnswer::Range => f.write_str("range"),
-        }
+        let word = match self {
+            WakeAnswer::Woken => "woken",
+            WakeAnswer::Awake => "awake",
+            WakeAnswer::Range => "range",
+        };
+        f.write_str(word)
     }
 }
 
@@ -108,10 +111,11 @@ impl fmt::Display for ReniceAnswer {
     ghost output = { λ answer. Some (renice_text answer) };
 
     fn fmt<W: fmt::Write>(&self, f: &mut fmt::Formatter<W>) -> fmt::Result {
-        match self {
-            ReniceAnswer::Reniced => f.write_str("reniced"),
-            ReniceAnswer::NotHere => f.write_str("not here"),
-            ReniceAnswer::Range => f.write_str("range"),
-        }
+        let word = match self {
+            ReniceAnswer::Reniced => "reniced",
+            ReniceAnswer::NotHere => "not here",
+            ReniceAnswer::Range => "range",
+        };
+        f.write_str(word)
     }
 }

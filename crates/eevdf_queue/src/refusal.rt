@@ -40,10 +40,11 @@ impl fmt::Display for Refusal {
     ghost output = { λ refusal. Some (refusal_text refusal) };
 
     fn fmt<W: fmt::Write>(&self, f: &mut fmt::Formatter<W>) -> fmt::Result {
-        match self {
-            Refusal::Present => f.write_str("present"),
-            Refusal::Range => f.write_str("range"),
-        }
+        let word = match self {
+            Refusal::Present => "present",
+            Refusal::Range => "range",
+        };
+        f.write_str(word)
     }
 }
 
