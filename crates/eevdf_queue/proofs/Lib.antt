@@ -39,6 +39,7 @@ mod PickedTasks
 mod Waiting
 mod SmallSums
 mod Renicing
+mod Joining
 mod Ascending
 mod Descending
 mod OneSide

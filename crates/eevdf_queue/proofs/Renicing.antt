@@ -1,5 +1,5 @@
 -- A task that joins again the queue that it has left.
-use Rattle.std.proofs.Common.{◌≡◌, ℕ, true, Option, Some, sym, ap, ◌∙◌, arith}
+use Rattle.std.proofs.Common.{◌≡◌, ℕ, true, Option, Some, None, sym, ap, ◌∙◌, arith}
 use Rattle.std.specs.Prelude.{ℤ, is_some}
 use Rattle.std.specs.{Cmp.nat_cmp_total}
 use Rattle.std.specs.FinMap.{insert, remove, get, get-insert, get-remove, same_map, nat_cmp-IsAntisymmetric}
@@ -10,6 +10,7 @@ use Rattle.eevdf_queue.specs.{Placing.runtime_of, Placing.placed_entry, Kept.IsS
 use Rattle.eevdf_queue.specs.Sums.{Tasks, time_over, total_weight, total_moment}
 use Rattle.eevdf_queue.specs.Moves.{entry_in_range, fresh_entry, with_runnable}
 use Rattle.eevdf_queue.specs.Renice.{reniced, renice, renice_entry, renice_to}
+use Rattle.eevdf_queue.specs.declared.answers.ReniceAnswer.TheVariants.{Reniced, NotHere, Range}
 use Rattle.eevdf_queue.proofs.Sound.{Asleep, sound_change}
 
 -- where a task is placed beside the others, once it has left
@@ -38,6 +39,20 @@ after_renice q task nice e f tasks here placed is =
     ∙ ap (λ (r : State). (renice_to q (with_runnable r task (Some f))).1) (ap (without_entry q task) (sym here))
     ∙ ap (λ (o : Option Entry). (renice_to q (with_runnable (leave q task) task o)).1) (sym placed)
     ∙ ap (λ (o : Option Entry). (renice_entry q task nice o).1) (sym here)
+
+pub not_here : (q : State) (task : ℕ) (nice : ℤ) → get q.runnable task ≡ None → renice q task nice ≡ (NotHere, q)
+not_here q task nice h = ap (renice_entry q task nice) h
+
+pub out_of_range : (q : State) (task : ℕ) (nice : ℤ) (e : Entry) → get q.runnable task ≡ Some e → placed_entry (leave q task) (reniced q e nice) ≡ None
+    → renice q task nice ≡ (Range, q)
+out_of_range q task nice e here placed =
+    ap (renice_entry q task nice) here ∙ ap (λ (o : Option Entry). renice_to q (with_runnable (leave q task) task o)) placed
+
+pub has_level : (q : State) (task : ℕ) (nice : ℤ) (e f : Entry) → get q.runnable task ≡ Some e → placed_entry (leave q task) (reniced q e nice) ≡ Some f
+    → (renice q task nice).0 ≡ Reniced
+has_level q task nice e f here placed =
+    ap (λ (o : Option Entry). (renice_entry q task nice o).0) here
+    ∙ ap (λ (o : Option Entry). (renice_to q (with_runnable (leave q task) task o)).0) placed
 
 -- what the queue keeps
 pub sound_renice : (m m' : Tasks) (r : Option ℕ) (n : Asleep) (b b' : ℤ) (t : ℕ) (e f : Entry) → m' ≡ insert m t f → get m t ≡ Some e → is_in_range b' ≡ true

@@ -1,11 +1,38 @@
-use Rattle.std.proofs.Common.{ap, ◌∙◌}
-use Rattle.std.specs.FinMap.{get}
-use Rattle.eevdf_queue.specs.State.{View}
-use Rattle.eevdf_queue.proofs.Sound.{sound_admit}
+use Rattle.std.proofs.Common.{◌≡◌, Some, ap, ◌∙◌, sym}
+use Rattle.std.specs.{Prelude.is_some, FinMap.get, FinMap.insert}
+use Rattle.eevdf_queue.specs.{State.State, State.View, Sums.Tasks, Moves.sleeper_of, Placing.placed_entry}
+use Rattle.eevdf_queue.proofs.{Sound.sound_admit, Joining.placed_in_range, Joining.joined}
 use Rattle.eevdf_queue.proofs.queue.Queue.attach.Goals as goal
+
+pub placed-requires : goal.placed-requires
+placed-requires c = c.sleeper.ensures.limited
+
+pub unwrap-entry-requires : goal.unwrap-entry-requires
+unwrap-entry-requires c =
+    ap is_some (c.placed.ensures ∙ ap (placed_entry c.args.self.now.state) c.sleeper.ensures.value) ∙ c.requires.room
+
+pub add-requires : goal.add-requires
+add-requires c = record {
+  absent = ap (λ (w : View). get w.state.runnable c.args.parcel.task) c.self.view_is ∙ c.requires.not_runnable;
+  in_range = placed_in_range c.args.self.now.state c.sleeper.result c.unwrap-entry.result (sym c.placed.ensures ∙ c.unwrap-entry.ensures);
+}
 
 pub invariant_of-self : goal.invariant_of-self
 invariant_of-self c =
     sound_admit _ _ _ _ _ _ _ c.add.ensures
     (ap (λ (w : View). get w.state.asleep c.args.parcel.task) c.self.view_is ∙ c.requires.not_asleep)
     c.self.invariant
+
+pub returns-clause-after : goal.returns-clause-after
+returns-clause-after c =
+    let a = c.self.inside in
+    let q : State = record { runnable = a.runnable.tasks; running = a.running; asleep = a.asleep; base = a.base } in
+    let t = c.args.parcel.task in
+    let e = c.unwrap-entry.result in
+    joined c.args.self.now.state t (sleeper_of c.args.parcel) e
+    (ap (placed_entry c.args.self.now.state) (sym c.sleeper.ensures.value) ∙ sym c.placed.ensures ∙ c.unwrap-entry.ensures)
+    ∙ ap (λ (w : View). Some (record w.state { runnable = insert w.state.runnable t e })) (sym c.self.view_is)
+    ∙ ap (λ (m : Tasks). Some (record q { runnable = m })) (sym c.add.ensures)
+
+pub returns-clause-turns : goal.returns-clause-turns
+returns-clause-turns c = ap (λ (w : View). w.turns) c.self.view_is
