@@ -1,8 +1,8 @@
--- Sums and products of signed numbers that fit 64 bits.
+-- Sums and products of signed numbers that fit 64 bits, or 128.
 use Rattle.std.proofs.Common.{◌≡◌, ℕ, ◌^◌, ◌≤◌, Bool, sym, ap, subst, ◌∙◌, arith, to_z, of_z}
-use Rattle.std.specs.Prelude.{ℤ, pos, negsuc, ◌+ℤ◌, ◌*ℤ◌, ◌≤ℤ◌, int_le, unsigned_abs}
+use Rattle.std.specs.Prelude.{ℤ, pos, negsuc, ◌+ℤ◌, ◌*ℤ◌, ◌≤ℤ◌, int_le, int_lt, unsigned_abs}
 use Rattle.std.proofs.lemmas.Int.{ints, to_z-of_z}
-use mir.Syntax.{w64}
+use mir.Syntax.{w64, w128}
 use mir.Val.{SFits}
 use Rattle.eevdf_queue.specs.Lag.{cut}
 
@@ -55,3 +55,17 @@ cut_read r d l n f g i h k =
     to_z-of_z w64 r f ∙ h
     ∙ ap (λ (z : ℤ). cut z (unsigned_abs (to_z w64 (of_z w64 l)))) (to_z-of_z w64 d g)
     ∙ ap (λ (z : ℤ). cut d (unsigned_abs z)) (to_z-of_z w64 l i ∙ k)
+
+-- a wide product
+pub moment_read : (v r : ℤ) (w : ℕ) → SFits w64 v → SFits w128 r → r ≡ to_z w64 (of_z w64 v) *ℤ pos w → to_z w128 (of_z w128 r) ≡ v *ℤ pos w
+moment_read v r w f g h = to_z-of_z w128 r g ∙ h ∙ ap (λ (z : ℤ). z *ℤ pos w) (to_z-of_z w64 v f)
+
+below_next : (z m : ℤ) → int_lt z (m +ℤ pos 1) ≡ int_le z m
+below_next z m = grind (arith, ints)
+
+-- a wide product is at most a number where it is below the next
+pub moment_compared : (v r m next : ℤ) (w : ℕ) → SFits w64 v → SFits w128 r → SFits w128 next → r ≡ to_z w64 (of_z w64 v) *ℤ pos w → next ≡ m +ℤ pos 1
+    → int_lt (to_z w128 (of_z w128 r)) (to_z w128 (of_z w128 next)) ≡ int_le (v *ℤ pos w) m
+moment_compared v r m next w f g i h k =
+    ap (λ (z : ℤ). int_lt z (to_z w128 (of_z w128 next))) (moment_read v r w f g h)
+    ∙ ap (λ (z : ℤ). int_lt (v *ℤ pos w) z) (to_z-of_z w128 next i ∙ k) ∙ below_next (v *ℤ pos w) m

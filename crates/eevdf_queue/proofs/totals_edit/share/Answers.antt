@@ -1,12 +1,8 @@
-use Rattle.std.proofs.Common.{◌≡◌, ◌≤◌, ◌^◌, ◌*◌, pos, ◌*ℤ◌, unsigned_abs, ℕ, ℤ, to_z, of_z, sym, ap, subst, ◌∙◌, arith, rules}
-use Rattle.std.proofs.lemmas.Int.{to_z-of_z}
-use mir.Syntax.{w64, w128}
+use Rattle.std.proofs.Common.{◌≤◌, ◌^◌, ◌*◌, pos, ◌*ℤ◌, unsigned_abs, ℕ, ℤ, sym, ap, subst, ◌∙◌, arith, rules}
+use mir.Syntax.{w64}
 use mir.Val.{SFits}
-use Rattle.eevdf_queue.proofs.{Bounds.scaled_near}
+use Rattle.eevdf_queue.proofs.{Bounds.scaled_near, Signed.moment_read}
 use Rattle.eevdf_queue.proofs.totals_edit.share.Goals as goal
-
-moment_read : (v r : ℤ) (w : ℕ) → SFits w64 v → SFits w128 r → r ≡ to_z w64 (of_z w64 v) *ℤ pos w → to_z w128 (of_z w128 r) ≡ v *ℤ pos w
-moment_read v r w f g h = to_z-of_z w128 r g ∙ h ∙ ap (λ (z : ℤ). z *ℤ pos w) (to_z-of_z w64 v f)
 
 pub wide_product-requires : goal.wide_product-requires
 wide_product-requires c = omega (arith, c.weight-weight.ensures.greatest)

@@ -1,7 +1,42 @@
-use Rattle.std.proofs.Common.{◌∙◌, Some, ap}
-use Rattle.eevdf_queue.specs.{Pick.pick_of, State.View}
+use Rattle.std.proofs.Common.{◌≡◌, ℕ, ◌+◌, ◌/◌, ◌^◌, ◌≤◌, suc, Option, Some, sym, ap, subst, ◌∙◌, unwrap_or, arith}
+use Rattle.std.specs.FinMap.{FinMap, get, len}
+use Rattle.eevdf_queue.specs.{Pick.pick_of, Pick.view_picked_by, Pick.view_after_pick, State.State, State.View, Sums.Tasks}
 use Rattle.eevdf_queue.proofs.Picked.{none_picked}
 use Rattle.eevdf_queue.proofs.queue.Queue.pick.Goals as goal
+
+few : (m n : Tasks) (j k : ℕ) → j ≡ k → m ≡ n → 2 ^ (k / 2) ≤ suc (len m) → 2 ^ (j / 2) ≤ len n + 1
+few m n j k h i full =
+    let more : 2 ^ (k / 2) ≤ len m + 1 = omega arith in
+    subst (λ (x : ℕ). 2 ^ (x / 2) ≤ len n + 1) (sym h) (subst (λ (x : Tasks). 2 ^ (k / 2) ≤ len x + 1) i more)
+
+seen : (v w : View) (t k : ℕ) → w.state ≡ record v.state { running = Some t } → w.turns ≡ k → w.depths ≡ v.depths → get v.depths t ≡ Some k → Some t ≡ pick_of v.state.runnable
+    → w ≡ view_after_pick v
+seen v w t k state turns depths deep is =
+    let chosen : State = record v.state { running = Some t } in
+    ap (λ (s : State). record w { state = s }) state
+    ∙ ap (λ (x : ℕ). record w { state = chosen; turns = x }) (turns ∙ ap (λ (o : Option ℕ). unwrap_or o 0) (sym deep))
+    ∙ ap (λ d. record { state = chosen; turns = unwrap_or (get v.depths t) 0; depths = d }) depths
+    ∙ ap (view_picked_by v) is
+
+pub returns-in-Some-clause-turns : goal.returns-in-Some-clause-turns
+returns-in-Some-clause-turns c = subst (λ (k : ℕ). 1 ≤ k) (sym c.run.ensures.turns) c.in-Some.ensures.positive
+
+pub returns-in-Some-clause-few_turns : goal.returns-in-Some-clause-few_turns
+returns-in-Some-clause-few_turns c =
+    few c.self.inside.runnable.tasks c.args.self.now.state.runnable c.run.new.self.turns c.in-Some.known.turns c.run.ensures.turns
+    (ap (λ (q : View). q.state.runnable) c.self.view_is) c.in-Some.ensures.turns
+
+pub returns-in-Some-clause-depth : goal.returns-in-Some-clause-depth
+returns-in-Some-clause-depth c =
+    ap (get c.args.self.now.depths) c.run.ensures.task
+    ∙ ap (λ (q : View). get q.depths c.in-Some.known.task) (sym c.self.view_is)
+    ∙ c.in-Some.ensures.depth ∙ ap Some (sym c.run.ensures.turns)
+
+pub returns-in-Some-clause-seen : goal.returns-in-Some-clause-seen
+returns-in-Some-clause-seen c =
+    seen c.args.self.now c.run.new.self c.in-Some.known.task c.in-Some.known.turns c.run.ensures.after c.run.ensures.turns c.run.ensures.depths
+    (ap (λ (q : View). get q.depths c.in-Some.known.task) (sym c.self.view_is) ∙ c.in-Some.ensures.depth)
+    (c.in-Some.ensures.number ∙ ap (λ (q : View). pick_of q.state.runnable) c.self.view_is)
 
 pub returns-in-Some-clause-none : goal.returns-in-Some-clause-none
 returns-in-Some-clause-none c =

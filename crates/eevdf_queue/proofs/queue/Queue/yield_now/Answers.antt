@@ -1,9 +1,17 @@
-use Rattle.std.proofs.Common.{◌≡◌, true, ap, ◌∙◌}
-use Rattle.std.specs.{Prelude.is_some, FinMap.contains_key}
-use Rattle.eevdf_queue.specs.{State.View, Moves.is_entry_in_range, Yield.yielded}
+use Rattle.std.proofs.Common.{◌≡◌, ℕ, Bool, true, cond, Option, Some, sym, ap, ◌∙◌}
+use Rattle.std.specs.{Prelude.is_some, FinMap.get, FinMap.insert, FinMap.contains_key}
+use Rattle.eevdf_queue.specs.{declared.answers.YieldAnswer.YieldAnswer, declared.entry.Entry.Entry, State.State, State.View, Sums.Tasks}
+use Rattle.eevdf_queue.specs.{Moves.is_entry_in_range, Yield.yielded, Yield.yield_now, Yield.yield_entry, Yield.yield_running}
+use Rattle.eevdf_queue.specs.declared.answers.YieldAnswer.TheVariants.{Yielded, Range}
 use Rattle.eevdf_weight.specs.Limits.{is_in_range}
 use Rattle.eevdf_queue.proofs.{Bounds.range_d, Bounds.range_with, Sound.sound_change}
 use Rattle.eevdf_queue.proofs.queue.Queue.yield_now.Goals as goal
+
+later : (q : State) (task : ℕ) (e : Entry) → Some task ≡ q.running → get q.runnable task ≡ Some e → is_in_range (yielded e).d ≡ true
+    → yield_now q ≡ (Yielded, record q { runnable = insert q.runnable task (yielded e) })
+later q task e runs here is =
+    ap (yield_running q) (sym runs) ∙ ap (yield_entry q task) here
+    ∙ ap (λ (b : Bool). cond b (Yielded, record q { runnable = insert q.runnable task (yielded e) }) (Range, q)) is
 
 pub yielded-yielded-requires : goal.yielded-yielded-requires
 yielded-yielded-requires c = range_d c.in-Some.runner.entry c.in-Some.ensures.in_range
@@ -18,3 +26,15 @@ renew-requires-clause-in_range c =
 pub invariant_of-self : goal.invariant_of-self
 invariant_of-self c =
     sound_change _ _ _ _ _ _ _ c.renew.ensures (ap (λ (v : View). contains_key v.state.runnable c.in-Some.runner.task) c.self.view_is ∙ ap is_some c.in-Some.ensures.entry) c.self.invariant
+
+pub returns-clause-after : goal.returns-clause-after
+returns-clause-after c =
+    let a = c.self.inside in
+    let q : State = record { runnable = a.runnable.tasks; running = a.running; asleep = a.asleep; base = a.base } in
+    let task = c.in-Some.runner.task in
+    let e = c.in-Some.runner.entry in
+    let is : is_in_range (yielded e).d ≡ true =
+    ap (λ (x : Entry). is_in_range x.d) (sym c.yielded-yielded.ensures) ∙ sym c.is_deadline_in_range.ensures ∙ c.if-not-is_deadline_in_range.false in
+    ap (λ (m : Tasks). record q { runnable = m }) (c.renew.ensures ∙ ap (insert a.runnable.tasks task) c.yielded-yielded.ensures)
+    ∙ ap (λ (w : View). record w.state { runnable = insert w.state.runnable task (yielded e) }) c.self.view_is
+    ∙ sym (ap (λ (p : YieldAnswer × State). p.1) (later c.args.self.now.state task e c.in-Some.ensures.task c.in-Some.ensures.entry is))
