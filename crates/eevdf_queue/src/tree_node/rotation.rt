@@ -54,7 +54,7 @@ pub fn even_out(
         return;
     }
     if right_height > left_height + 1 {
-        rotate_left(left, task, right);
+        rotate_left(right, task, left);
     }
 }
 
@@ -102,7 +102,7 @@ fn rotate_right(
 /// Evens two sides of which the right is two higher: the task of its root, or of the root of its left side, comes between the
 /// two.
 #[inline(never)]
-fn rotate_left(left: &mut Option<Box<TreeNode>>, task: &mut Task, right: &mut Option<Box<TreeNode>>)
+fn rotate_left(right: &mut Option<Box<TreeNode>>, task: &mut Task, left: &mut Option<Box<TreeNode>>)
     requires higher { height_in right.old ≡ height_in left.old + 2 }
     requires few { length (tasks_in left.old) + length (tasks_in right.old) ≤ 2 ^ 20 }
     ensures tasks { tasks_in left.new ++ task.new ∷ tasks_in right.new
@@ -126,7 +126,7 @@ fn rotate_left(left: &mut Option<Box<TreeNode>>, task: &mut Task, right: &mut Op
         mem::swap(left, right);
         return;
     }
-    lean_left(left, task, &mut node.sides.left);
+    lean_left(&mut node.sides.left, task, left);
     renew(
         &mut node.height,
         &mut node.least,
@@ -163,7 +163,7 @@ fn lean_right(left: &mut Option<Box<TreeNode>>, task: &mut Task, right: &mut Opt
 
 /// Lets the task of the root of a right side, which is one higher, come between the two sides.
 #[inline(always)]
-fn lean_left(left: &mut Option<Box<TreeNode>>, task: &mut Task, right: &mut Option<Box<TreeNode>>)
+fn lean_left(right: &mut Option<Box<TreeNode>>, task: &mut Task, left: &mut Option<Box<TreeNode>>)
     requires higher { height_in right.old ≡ suc (height_in left.old) }
     requires low { height_in right.old ≤ 2 ^ 20 }
     ensures tasks { tasks_in left.new ++ task.new ∷ tasks_in right.new
