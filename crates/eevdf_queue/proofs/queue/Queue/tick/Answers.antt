@@ -1,31 +1,53 @@
-use Rattle.std.proofs.Common.{◌≡◌, ℕ, Bool, false, cond, Option, Some, sym, ap, ◌∙◌}
+use Rattle.std.proofs.Common.{◌≡◌, ℕ, Bool, true, false, cond, Option, Some, sym, ap, ◌∙◌}
 use Rattle.std.specs.{Prelude.is_some, FinMap.get, FinMap.insert, FinMap.contains_key}
-use Rattle.eevdf_queue.specs.{declared.answers.TickAnswer.TickAnswer, declared.entry.Entry.Entry, State.State, State.View, Moves.is_entry_in_range}
+use Rattle.eevdf_queue.specs.{declared.answers.TickAnswer.TickAnswer, declared.entry.Entry.Entry, State.State, State.View}
+use Rattle.eevdf_queue.specs.{Moves.is_entry_in_range, Sums.Tasks}
 use Rattle.eevdf_queue.specs.Tick.{charged, is_used_up, tick, tick_entry, tick_running}
 use Rattle.eevdf_queue.specs.declared.answers.TickAnswer.TheVariants.{Charged, Range}
 use Rattle.eevdf_queue.proofs.Sound.{sound_change}
 use Rattle.eevdf_queue.proofs.queue.Queue.tick.Goals as goal
 
--- a charge that leads out of range
-out_of_range : (q : State) (task : ℕ) (ns : ℕ) (e : Entry) → Some task ≡ q.running → get q.runnable task ≡ Some e → is_entry_in_range (charged e ns) ≡ false → tick q ns ≡ (Range, q)
-out_of_range q task ns e runs here out =
+-- what comes of a charge, by whether it leads out of range
+ticked : (q : State) (task ns : ℕ) (e : Entry) (b : Bool) → Some task ≡ q.running → get q.runnable task ≡ Some e → is_entry_in_range (charged e ns) ≡ b
+    → tick q ns ≡ cond b (Charged task (is_used_up e ns), record q { runnable = insert q.runnable task (charged e ns) }) (Range, q)
+ticked q task ns e b runs here is =
     ap (λ (r : Option ℕ). tick_running q r ns) (sym runs)
     ∙ ap (λ (o : Option Entry). tick_entry q task o ns) here
-    ∙ ap (λ (b : Bool). cond b (Charged task (is_used_up e ns), record q { runnable = insert q.runnable task (charged e ns) }) (Range, q)) out
+    ∙ ap (λ (t : Bool). cond t (Charged task (is_used_up e ns), record q { runnable = insert q.runnable task (charged e ns) }) (Range, q)) is
+
+pub returns-then-not-charged-clause-answer : goal.returns-then-not-charged-clause-answer
+returns-then-not-charged-clause-answer c =
+    let e = c.in-Some.runner.entry in
+    let is : is_entry_in_range (charged e c.args.ns) ≡ true =
+    ap is_entry_in_range (sym c.charged-charged.ensures.entry) ∙ c.charged-charged.ensures.kept c.if-not-charged.true in
+    ap (Charged c.in-Some.runner.task) (sym c.if-not-charged.true ∙ c.charged-charged.ensures.resched)
+    ∙ sym (ap (λ (p : TickAnswer × State). p.0) (ticked c.args.self.now.state c.in-Some.runner.task c.args.ns e true c.in-Some.ensures.task c.in-Some.ensures.entry is))
+
+pub returns-then-not-charged-clause-after : goal.returns-then-not-charged-clause-after
+returns-then-not-charged-clause-after c =
+    let a = c.self.inside in
+    let q : State = record { runnable = a.runnable.tasks; running = a.running; asleep = a.asleep; base = a.base } in
+    let task = c.in-Some.runner.task in
+    let e = c.in-Some.runner.entry in
+    let is : is_entry_in_range (charged e c.args.ns) ≡ true =
+    ap is_entry_in_range (sym c.charged-charged.ensures.entry) ∙ c.charged-charged.ensures.kept c.if-not-charged.true in
+    ap (λ (m : Tasks). record q { runnable = m }) (c.age.ensures ∙ ap (insert a.runnable.tasks task) c.charged-charged.ensures.entry)
+    ∙ ap (λ (w : View). record w.state { runnable = insert w.state.runnable task (charged e c.args.ns) }) c.self.view_is
+    ∙ sym (ap (λ (p : TickAnswer × State). p.1) (ticked c.args.self.now.state task c.args.ns e true c.in-Some.ensures.task c.in-Some.ensures.entry is))
 
 pub returns-then-not-is_deadline_in_range-clause-answer : goal.returns-then-not-is_deadline_in_range-clause-answer
 returns-then-not-is_deadline_in_range-clause-answer c =
     let e = c.in-Some.runner.entry in
     let out : is_entry_in_range (charged e c.args.ns) ≡ false =
     ap is_entry_in_range (sym c.charged-charged.ensures.entry) ∙ sym (c.charged-charged.ensures.renewed c.if-not-charged.false) ∙ sym c.is_deadline_in_range.ensures ∙ c.if-not-is_deadline_in_range.true in
-    sym (ap (λ (p : TickAnswer × State). p.0) (out_of_range c.args.self.now.state c.in-Some.runner.task c.args.ns e c.in-Some.ensures.task c.in-Some.ensures.entry out))
+    sym (ap (λ (p : TickAnswer × State). p.0) (ticked c.args.self.now.state c.in-Some.runner.task c.args.ns e false c.in-Some.ensures.task c.in-Some.ensures.entry out))
 
 pub returns-then-not-is_deadline_in_range-clause-after : goal.returns-then-not-is_deadline_in_range-clause-after
 returns-then-not-is_deadline_in_range-clause-after c =
     let e = c.in-Some.runner.entry in
     let out : is_entry_in_range (charged e c.args.ns) ≡ false =
     ap is_entry_in_range (sym c.charged-charged.ensures.entry) ∙ sym (c.charged-charged.ensures.renewed c.if-not-charged.false) ∙ sym c.is_deadline_in_range.ensures ∙ c.if-not-is_deadline_in_range.true in
-    sym (ap (λ (p : TickAnswer × State). p.1) (out_of_range c.args.self.now.state c.in-Some.runner.task c.args.ns e c.in-Some.ensures.task c.in-Some.ensures.entry out))
+    sym (ap (λ (p : TickAnswer × State). p.1) (ticked c.args.self.now.state c.in-Some.runner.task c.args.ns e false c.in-Some.ensures.task c.in-Some.ensures.entry out))
 
 pub renew-requires-clause-in_range : goal.renew-requires-clause-in_range
 renew-requires-clause-in_range c =
@@ -38,3 +60,23 @@ invariant_of-self c =
 pub invariant_of-self-2 : goal.invariant_of-self-2
 invariant_of-self-2 c =
     sound_change _ _ _ _ _ _ _ c.renew.ensures (ap (λ (v : View). contains_key v.state.runnable c.in-Some.runner.task) c.self.view_is ∙ ap is_some c.in-Some.ensures.entry) c.self.invariant
+
+pub returns-clause-answer : goal.returns-clause-answer
+returns-clause-answer c =
+    let e = c.in-Some.runner.entry in
+    let is : is_entry_in_range (charged e c.args.ns) ≡ true =
+    ap is_entry_in_range (sym c.charged-charged.ensures.entry) ∙ sym (c.charged-charged.ensures.renewed c.if-not-charged.false) ∙ sym c.is_deadline_in_range.ensures ∙ c.if-not-is_deadline_in_range.false in
+    ap (Charged c.in-Some.runner.task) (sym c.if-not-charged.false ∙ c.charged-charged.ensures.resched)
+    ∙ sym (ap (λ (p : TickAnswer × State). p.0) (ticked c.args.self.now.state c.in-Some.runner.task c.args.ns e true c.in-Some.ensures.task c.in-Some.ensures.entry is))
+
+pub returns-clause-after : goal.returns-clause-after
+returns-clause-after c =
+    let a = c.self.inside in
+    let q : State = record { runnable = a.runnable.tasks; running = a.running; asleep = a.asleep; base = a.base } in
+    let task = c.in-Some.runner.task in
+    let e = c.in-Some.runner.entry in
+    let is : is_entry_in_range (charged e c.args.ns) ≡ true =
+    ap is_entry_in_range (sym c.charged-charged.ensures.entry) ∙ sym (c.charged-charged.ensures.renewed c.if-not-charged.false) ∙ sym c.is_deadline_in_range.ensures ∙ c.if-not-is_deadline_in_range.false in
+    ap (λ (m : Tasks). record q { runnable = m }) (c.renew.ensures ∙ ap (insert a.runnable.tasks task) c.charged-charged.ensures.entry)
+    ∙ ap (λ (w : View). record w.state { runnable = insert w.state.runnable task (charged e c.args.ns) }) c.self.view_is
+    ∙ sym (ap (λ (p : TickAnswer × State). p.1) (ticked c.args.self.now.state task c.args.ns e true c.in-Some.ensures.task c.in-Some.ensures.entry is))
