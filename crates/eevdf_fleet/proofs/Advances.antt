@@ -1,7 +1,7 @@
 -- What one or two queues are claimed to be, once a line is committed that changes them.
-use Rattle.std.proofs.Common.{◌≡◌, ◌≢◌, ℕ, Bool, false, [], ◌∷◌, map, eq-eqb, sym, ap, ◌∙◌, arith}
-use Rattle.std.specs.Prelude.{◌==◌, if◌then◌else◌}
-use Rattle.std.proofs.lemmas.Bool.Decides.{nat_tests}
+use Rattle.std.proofs.Common.{◌≡◌, ◌≢◌, ℕ, Bool, [], ◌∷◌, map, eq-eqb, sym, ap, ◌∙◌}
+use Rattle.std.specs.Prelude.{if◌then◌else◌}
+use Rattle.std.proofs.lemmas.Bool.{ne_eqb}
 use Rattle.eevdf_queue.specs.State.{State}
 use Rattle.eevdf_fleet.specs.{declared.board.claims.Change.Change, declared.board.claims.Said.Said}
 use Rattle.eevdf_fleet.specs.declared.board.claims.Claim.TheVariants.{Queue}
@@ -12,7 +12,7 @@ changed_here c cpu q after at is =
     ap (λ (b : Bool). if b then c.queue.value.state else q) (eq-eqb cpu c.cpu (sym at)) ∙ is
 
 changed_else : (c : Change) (cpu : ℕ) (q : State) → cpu ≢ c.cpu → changed c cpu q ≡ q
-changed_else c cpu q away = let e : (cpu == c.cpu) ≡ false = grind (arith, nat_tests) in ap (λ (b : Bool). if b then c.queue.value.state else q) e
+changed_else c cpu q away = ap (λ (b : Bool). if b then c.queue.value.state else q) (ne_eqb cpu c.cpu away)
 
 pub one-advanced : (s : Said) (cpu : ℕ) (q after : State) → s.second.cpu ≡ cpu → s.second.queue.value.state ≡ after → map (advanced s) (Queue cpu q ∷ []) ≡ Queue cpu after ∷ []
 one-advanced s cpu q after at is = ap (λ (x : State). Queue cpu x ∷ []) (changed_here s.second cpu (changed s.first cpu q) after at is)

@@ -1,5 +1,5 @@
 -- The claims that a fleet is opened with, CPU by CPU.
-use Rattle.std.proofs.Common.{◌≡◌, ℕ, zero, suc, ◌+◌, ◌<◌, ◌≤◌, List, [], ◌∷◌, ◌++◌, length, map, get_or, drop, set, reverse, refl, sym, ap, subst, ◌∙◌, arith}
+use Rattle.std.proofs.Common.{◌≡◌, ℕ, zero, suc, ◌+◌, ◌<◌, ◌≤◌, List, [], ◌∷◌, ◌++◌, length, map, get_or, take, drop, set, reverse, refl, sym, ap, subst, ◌∙◌, arith}
 use Rattle.eevdf_queue.specs.State.{View}
 use Rattle.eevdf_ops.specs.Outcome.{machine_of}
 use Rattle.eevdf_fleet.specs.{declared.board.claims.Claim.Claim, declared.board.claims.Claim.TheVariants.Seat}
@@ -20,6 +20,15 @@ drop-machine-set : (qs : List View) (n : ℕ) (q : View) → drop (suc n) (machi
 drop-machine-set [] n q = refl
 drop-machine-set (x ∷ qs) zero q = refl
 drop-machine-set (x ∷ qs) (suc n) q = drop-machine-set qs n q
+
+-- the first claim is of a CPU's lines
+first-of : (qs : List View) (k n : ℕ) → n < length qs → take 1 (claims_from k (drop n (machine_of qs))) ≡ Seat k [] ∷ []
+first-of [] k n h = absurd (omega arith)
+first-of (x ∷ qs) k zero h = refl
+first-of (x ∷ qs) k (suc n) h = first-of qs k n (omega arith)
+
+pub first-claim : (qs : List View) (n : ℕ) (claims : List Claim) → n < length qs → claims ≡ claims_from n (drop n (machine_of qs)) → take 1 claims ≡ Seat n [] ∷ []
+first-claim qs n claims h is = ap (λ (l : List Claim). take 1 l) is ∙ first-of qs n n h
 
 -- the first two claims are of one CPU
 pub next-claims : (qs : List View) (n : ℕ) (q : View) (claims : List Claim) → n < length qs → q ≡ get_or qs n q → claims ≡ claims_from n (drop n (machine_of qs))

@@ -73,6 +73,7 @@ impl<N: Names> Fleet<N> {
         ensures { IfOk result (λ r. r.1.items
             ≡ fresh_seats (quota_of N.kit) (cpus_of (setup_of N.kit))) }
     {
+        let ends = ReturnedEnds::open(alloc, kit.queues.len(), kit.rings.capacity())?;
         let Kit {
             board,
             token,
@@ -82,7 +83,6 @@ impl<N: Names> Fleet<N> {
             lines,
             quota,
         } = kit;
-        let ends = ReturnedEnds::open(alloc, queues.len(), rings.capacity())?;
         let board = NamedBoard::new(board);
         let opened = open_all(alloc, &board, token, queues, quota)?;
         let Opened {
@@ -91,7 +91,7 @@ impl<N: Names> Fleet<N> {
             token,
             queues,
         } = opened;
-        let seats = open_seats(alloc, logs, rings, &homes, quota)?;
+        let seats = open_seats(alloc, logs, rings, &homes)?;
         let journal = Journal {
             lines,
             token,

@@ -1,20 +1,23 @@
 //! How a fleet is opened from its kit.
 
-ghost use Rattle.std.specs.Prelude.{◌≡◌, ◌<◌, ◌≤◌, [], ◌∷◌, drop, take, vec_len, IfOk, length};
+ghost use Rattle.std.specs.Prelude.{◌≡◌, ◌<◌, ◌≤◌, ◌+◌, ◌++◌, [], ◌∷◌, drop, vec_len};
+ghost use Rattle.std.specs.Prelude.{IfOk, OnOk, length};
 ghost use Rattle.eevdf_ops.specs.Numbers.{most_cpus};
 ghost use Rattle.eevdf_ops.specs.{Outcome.machine_of, Places.AreCpus, Setup.cpus_of};
 ghost use Rattle.eevdf_ops.specs.{Setup.homes_of};
 ghost use Rattle.eevdf_fleet.specs.declared.board.claims.Claim.TheVariants as claim;
 ghost use Rattle.eevdf_fleet.specs.{Board.IsToken, Board.claims_of, Claims.claims_from};
 ghost use Rattle.eevdf_fleet.specs.Fleets.{fresh_log, fresh_logs, fresh_seats, setup_of};
+ghost use Rattle.eevdf_fleet.specs.Rings.{all_no_posts, all_no_takes};
 
 use crate::board::Token;
 use crate::named_board::NamedBoard;
 use crate::names::Names;
-use crate::rings::Rings;
+use crate::rings::{Consumers, Producers, Rings};
 use crate::seat::Seat;
 use crate::seat_log::SeatLog;
 use crate::slot::Slot;
+use atomic_table::Badge;
 use eevdf_ops::CpuId;
 use eevdf_queue::Queue;
 use std::alloc::{AllocError, Global};
@@ -31,20 +34,12 @@ pub(crate) struct Opened<N: Names> {
     pub(crate) queues: Vec<Queue>,
 }
 
-/// A CPU's part of a fleet, and the token of the others.
-#[derive(Drop)]
-struct Part<N: Names> {
-    log: SeatLog<N>,
-    slot: Slot<N>,
-    others: Token,
-}
-
 /// Gives each CPU its log and its lock.
 pub(crate) fn open_all<N: Names>(
     alloc: Global,
     board: &NamedBoard<N>,
-    mut token: Token,
-    mut queues: Vec<Queue>,
+    token: Token,
+    queues: Vec<Queue>,
     quota: usize,
 ) -> Result<Opened<N>, AllocError>
     requires token { IsToken N.kit.board N.kit.terms token }
@@ -59,45 +54,47 @@ pub(crate) fn open_all<N: Names>(
     ensures queues { IfOk result (λ o. vec_len o.queues ≡ cpus_of (setup_of N.kit)) }
 {
     let cpus = queues.len();
-    let mut logs = Vec::with_capacity(alloc, cpus)?;
-    let mut locks = Vec::with_capacity(alloc, cpus)?;
-    for number in 0..cpus {
-        let queue = mem::replace(&mut queues[number], Queue::open());
-        let part = open_one(alloc, board, token, CpuId::numbered(number), queue, quota)?;
-        let Part { log, slot, others } = part;
-        logs.push(log)?;
-        locks.push(Mutex::new(slot))?;
-        token = others;
-    }
-    Ok(Opened {
+    let logs = Vec::with_capacity(alloc, cpus)?;
+    let locks = Vec::with_capacity(alloc, cpus)?;
+    let mut opened = Opened {
         logs,
         locks,
         token,
         queues,
-    })
+    };
+    for number in 0..cpus {
+        open_next(alloc, board, &mut opened, CpuId::numbered(number), quota)?;
+    }
+    Ok(opened)
 }
 
-/// Gives a CPU its log and its lock. The token claims what is its first.
-fn open_one<N: Names>(
+/// Gives the next CPU its log and its lock. The token claims what is its first.
+fn open_next<N: Names>(
     alloc: Global,
     board: &NamedBoard<N>,
-    token: Token,
+    opened: &mut Opened<N>,
     cpu: CpuId,
-    queue: Queue,
     quota: usize,
-) -> Result<Part<N>, AllocError>
-    requires token { IsToken N.kit.board N.kit.terms token }
-    requires seat { take 1 (claims_of token) ≡ claim.Seat cpu [] ∷ [] }
-    requires queue { take 1 (drop 1 (claims_of token)) ≡ claim.Queue cpu queue.state ∷ [] }
+) -> Result<(), AllocError>
+    requires token { IsToken N.kit.board N.kit.terms opened.old.token }
+    requires claims { claims_of opened.old.token
+        ≡ claims_from cpu (drop cpu (machine_of opened.old.queues.items)) }
+    requires queue { cpu < vec_len opened.old.queues }
     requires cpu { cpu < cpus_of (setup_of N.kit) }
     requires quota { quota ≡ N.kit.terms.quota }
-    ensures log { IfOk result (λ p. p.log ≡ fresh_log quota cpu) }
-    ensures token { IfOk result (λ p. IsToken N.kit.board N.kit.terms p.others) }
-    ensures claims { IfOk result (λ p. claims_of p.others ≡ drop 1 (drop 1 (claims_of token))) }
+    ensures log { OnOk result
+        (opened.new.logs.items ≡ opened.old.logs.items ++ fresh_log quota cpu ∷ []) }
+    ensures lock { OnOk result (vec_len opened.new.locks ≡ vec_len opened.old.locks + 1) }
+    ensures token { OnOk result (IsToken N.kit.board N.kit.terms opened.new.token) }
+    ensures claims { OnOk result (claims_of opened.new.token
+        ≡ claims_from (cpu + 1) (drop (cpu + 1) (machine_of opened.new.queues.items))) }
+    ensures queues { OnOk result (vec_len opened.new.queues ≡ vec_len opened.old.queues) }
 {
+    let lines = Vec::with_capacity(alloc, quota)?;
+    let token = mem::replace(&mut opened.token, Badge::blank());
     let (own, token) = board.split(token);
     let (kept, others) = board.split(token);
-    let lines = Vec::with_capacity(alloc, quota)?;
+    opened.token = others;
     let log = SeatLog {
         cpu,
         room: quota,
@@ -105,13 +102,16 @@ fn open_one<N: Names>(
         token: own,
         names: PhantomData,
     };
+    opened.logs.push(log)?;
+    let queue = mem::replace(&mut opened.queues[cpu.index()], Queue::open());
     let slot = Slot {
         number: cpu,
         queue,
         token: kept,
         names: PhantomData,
     };
-    Ok(Part { log, slot, others })
+    opened.locks.push(Mutex::new(slot))?;
+    Ok(())
 }
 
 /// Gives each log the ends of its CPU's rings.
@@ -120,21 +120,42 @@ pub(crate) fn open_seats<N: Names>(
     mut logs: Vec<SeatLog<N>>,
     rings: Rings,
     homes: &Vec<CpuId>,
-    quota: usize,
 ) -> Result<Vec<Seat<N>>, AllocError>
-    requires logs { logs.items ≡ fresh_logs quota (cpus_of (setup_of N.kit)) }
+    requires logs { logs.items ≡ fresh_logs N.kit.terms.quota (cpus_of (setup_of N.kit)) }
     requires rings { rings ≡ N.kit.rings }
     requires cpus { length rings.rings ≡ cpus_of (setup_of N.kit) }
     requires homes { homes.now.items ≡ homes_of (setup_of N.kit) }
     requires homes_below { AreCpus (cpus_of (setup_of N.kit)) (homes_of (setup_of N.kit)) }
-    ensures { IfOk result (λ seats. seats.items ≡ fresh_seats quota (cpus_of (setup_of N.kit))) }
+    ensures { IfOk result (λ seats.
+        seats.items ≡ fresh_seats N.kit.terms.quota (cpus_of (setup_of N.kit))) }
 {
     let (mut producers, mut consumers) = rings.named::<N>(alloc)?;
     let mut seats = Vec::with_capacity(alloc, logs.len())?;
+    make_seats(&mut logs, &mut producers, &mut consumers, homes, &mut seats)?;
+    Ok(seats)
+}
+
+/// Makes a seat of each log and of the ends of its CPU's rings. They are made last first, and then put in order.
+fn make_seats<N: Names>(
+    logs: &mut Vec<SeatLog<N>>,
+    producers: &mut Vec<Producers<N>>,
+    consumers: &mut Vec<Consumers<N>>,
+    homes: &Vec<CpuId>,
+    seats: &mut Vec<Seat<N>>,
+) -> Result<(), AllocError>
+    requires logs { logs.old.items ≡ fresh_logs N.kit.terms.quota (cpus_of (setup_of N.kit)) }
+    requires producers { producers.old.items ≡ all_no_posts (cpus_of (setup_of N.kit)) }
+    requires consumers { consumers.old.items ≡ all_no_takes (cpus_of (setup_of N.kit)) }
+    requires homes { homes.now.items ≡ homes_of (setup_of N.kit) }
+    requires homes_below { AreCpus (cpus_of (setup_of N.kit)) (homes_of (setup_of N.kit)) }
+    requires none { seats.old.items ≡ [] }
+    ensures { OnOk result
+        (seats.new.items ≡ fresh_seats N.kit.terms.quota (cpus_of (setup_of N.kit))) }
+{
     for _ in 0..logs.len() {
+        let homes = homes.clone()?;
         match (logs.pop(), producers.pop(), consumers.pop()) {
             (Some(log), Some(producers), Some(consumers)) => {
-                let homes = homes.clone()?;
                 seats.push(Seat {
                     log,
                     producers,
@@ -146,5 +167,5 @@ pub(crate) fn open_seats<N: Names>(
         }
     }
     seats.reverse();
-    Ok(seats)
+    Ok(())
 }

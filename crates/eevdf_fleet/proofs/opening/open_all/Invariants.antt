@@ -5,9 +5,9 @@ use Rattle.eevdf_fleet.proofs.opening.open_all.Given as goal
 
 abbrev pub invariant-loop-number : goal.invariant-loop-number
 invariant-loop-number g l =
-    IsToken g.N.Names.kit.board g.N.Names.kit.terms l.token
-    × (claims_of l.token ≡ claims_from l.number (drop l.number (machine_of l.queues.items)))
-    × (l.logs.items ≡ fresh_logs l.quota l.number)
-    × (vec_len l.locks ≡ l.number)
-    × (vec_len l.queues ≡ cpus_of (setup_of g.N.Names.kit))
+    IsToken g.N.Names.kit.board g.N.Names.kit.terms l.opened.token
+    × (claims_of l.opened.token ≡ claims_from l.number (drop l.number (machine_of l.opened.queues.items)))
+    × (l.opened.logs.items ≡ fresh_logs l.quota l.number)
+    × (vec_len l.opened.locks ≡ l.number)
+    × (vec_len l.opened.queues ≡ cpus_of (setup_of g.N.Names.kit))
     × (l.cpus ≡ cpus_of (setup_of g.N.Names.kit))
