@@ -6,6 +6,7 @@ pub mod Sums
 pub mod Rooms
 pub mod Commits
 pub mod Advances
+pub mod OwedQueues
 pub mod Pulled
 pub mod Placed
 pub mod Openings

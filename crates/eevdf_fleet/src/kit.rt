@@ -75,14 +75,18 @@ impl Kit {
             setup: Snapshot::of(setup),
             quota,
         };
+        let homes = setup.homes(alloc)?;
+        let queues = Solo::open(alloc, setup)?.into_queues();
+        let rings = Rings::open(alloc, setup.cpus(), rings)?;
+        let lines = Vec::with_capacity(alloc, setup.cpus() * quota)?;
         let (board, token) = Board::open(alloc, &terms)?;
         Ok(Kit {
             board,
             token,
-            homes: setup.homes(alloc)?,
-            queues: Solo::open(alloc, setup)?.into_queues(),
-            rings: Rings::open(alloc, setup.cpus(), rings)?,
-            lines: Vec::with_capacity(alloc, setup.cpus() * quota)?,
+            homes,
+            queues,
+            rings,
+            lines,
             quota,
         })
     }

@@ -1,6 +1,6 @@
 use denote.Param.Send.{param_send, sendable}
 use Rattle.eevdf_fleet.proofs.seat_threads.run_in_threads.Lts as lts
-use Rattle.std.proofs.Common.{rules, ◌≡◌, ◌+◌, ℕ, length, map, get_or, vec_items, vec_len, ap, subst, sym, ◌∙◌, arith}
+use Rattle.std.proofs.Common.{◌≡◌, ◌+◌, ℕ, length, map, get_or, vec_items, vec_len, ap, subst, sym, ◌∙◌, arith}
 use Rattle.std.proofs.lemmas.List.FromFn.{length-map-range_with_len}
 use Rattle.std.proofs.lemmas.Option.{get_or_from_slice_get, slice_get_within}
 use Rattle.std.specs.{List.range_with_len, Vec.Iter.into_iter_len}
@@ -15,7 +15,7 @@ pub loop-seat-init : goal.loop-seat-init
 loop-seat-init g c =
     let k = g.N.Names.kit in let n = cpus_of (setup_of k) in let f = fresh k.terms.quota n in
     let count : vec_len c.args.seats ≡ n = omega (arith, c.args.seats.ok.0, ap length c.requires.fresh, length-map-range_with_len f 0 n) in
-    let left : into_iter_len c.into_iter-seat-iterator.result ≡ n = search rules in
+    let left : into_iter_len c.into_iter-seat-iterator.result ≡ n = c.into_iter-seat-iterator.ensures.into_iter_gives.1 ∙ count in
     let none : vec_len c.in_ok-threads.threads ≡ 0 = c.in_ok-threads.ensures.len in
     record {
       rest = c.into_iter-seat-iterator.ensures.into_iter_gives.0 ∙ c.requires.fresh ∙ ap (λ (m : ℕ). map f (range_with_len 0 m)) (sym left)
@@ -45,7 +45,7 @@ pub loop-seat-preserved : goal.loop-seat-preserved
 loop-seat-preserved g c =
     let k = g.N.Names.kit in let n = cpus_of (setup_of k) in let before = c.loop-seat.threads in let f = fresh k.terms.quota n in
     let next = next-seat f _ _ _ _ _ _ c.loop-seat.invariant.rest c.in-Some.ensures.steps.0 c.in-Some.ensures.steps.1 in
-    let grown : vec_len c.push_reserved.new.self ≡ vec_len before + 1 = search rules in
+    let grown : vec_len c.push_reserved.new.self ≡ vec_len before + 1 = c.push_reserved.ensures.len in
     let number : c.in-Ok.thread.promise.cpu ≡ vec_len before = ap (λ p. p.cpu) c.in-Ok.ensures.ok ∙ c.cpu.ensures.cpu ∙ ap (λ (s : Seat). s.cpu) next.0 in
     let work : c.in-Ok.thread.promise.work.value ≡ c.args.work.now = ap (λ p. p.work.value) c.in-Ok.ensures.ok ∙ c.of.ensures in
     record {
@@ -59,7 +59,7 @@ pub loop-thread-init : goal.loop-thread-init
 loop-thread-init g c =
     let k = g.N.Names.kit in let n = cpus_of (setup_of k) in let f = fresh k.terms.quota n in
     let none : vec_len c.in_ok-done.done ≡ 0 = c.in_ok-done.ensures.len in
-    let left : into_iter_len c.into_iter-thread-iterator.result ≡ vec_len c.loop-seat.threads = search rules in
+    let left : into_iter_len c.into_iter-thread-iterator.result ≡ vec_len c.loop-seat.threads = c.into_iter-thread-iterator.ensures.into_iter_gives.1 in
     let ended : into_iter_len c.loop-seat.seat-iterator ≡ 0 = c.in-None.ensures.steps.0 in
     let count : vec_len c.args.seats ≡ n = omega (arith, c.args.seats.ok.0, ap length c.requires.fresh, length-map-range_with_len f 0 n) in
     record {
@@ -78,7 +78,7 @@ pub loop-thread-preserved : goal.loop-thread-preserved
 loop-thread-preserved g c =
     let kit = g.N.Names.kit in let done = c.loop-thread.done in
     let IsDone : ℕ → Seat → Type 0 = λ k seat. (seat.cpu ≡ k) × g.W.SeatWork.is_done c.args.work.now kit seat in
-    let grown : vec_len c.push_reserved-in-loop-thread.new.self ≡ vec_len done + 1 = search rules in
+    let grown : vec_len c.push_reserved-in-loop-thread.new.self ≡ vec_len done + 1 = c.push_reserved-in-loop-thread.ensures.len in
     let first = first-holds (λ k h. (h.promise.cpu ≡ k) × (h.promise.work.value ≡ c.args.work.now)) _ _ _ _ _ c.in-Some-thread.ensures.steps.0 (omega (arith, c.in-Some-thread.ensures.steps.1))
     c.loop-thread.invariant.promised in
     let here : IsDone (vec_len done) c.join.result = (c.join.ensures.0 ∙ first.0, subst (λ w. g.W.SeatWork.is_done w kit c.join.result) first.1 c.join.ensures.1) in

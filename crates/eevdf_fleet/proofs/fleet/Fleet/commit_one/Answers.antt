@@ -1,7 +1,7 @@
 use Rattle.std.proofs.Common.{ap, map, ◌∙◌}
 use Rattle.eevdf_queue.specs.declared.queue.Queue.{Queue}
-use Rattle.eevdf_fleet.specs.Claims.{advanced}
-use Rattle.eevdf_fleet.proofs.Advances.{one-advanced}
+use Rattle.eevdf_fleet.specs.{Board.claims_of, Claims.advanced}
+use Rattle.eevdf_fleet.proofs.{Advances.one-advanced, OwedQueues.one-owes}
 use Rattle.eevdf_fleet.proofs.fleet.Fleet.commit_one.Goals as goal
 
 pub returns-clause-claims : goal.returns-clause-claims
@@ -9,3 +9,8 @@ returns-clause-claims g c =
     c.commit.ensures.claims ∙ ap (map (advanced c.said-said.result)) c.requires.done.claimed
     ∙ one-advanced c.said-said.result c.args.log.now.cpu c.requires.done.before c.args.queue.now.state (c.said-said.ensures.cpu ∙ c.cpu.ensures.cpu)
     (ap (λ (q : Queue). q.state) c.said-said.ensures.queue)
+
+pub commit-requires-clause-owed : goal.commit-requires-clause-owed
+commit-requires-clause-owed g c =
+    one-owes g.N.Names.kit.terms c.args.log.now.cpu (claims_of c.args.token) c.args.queue.now.state c.args.line.now c.said-said.result c.requires.one c.requires.own c.requires.committable c.requires.done
+    c.said-said.ensures.line (c.said-said.ensures.cpu ∙ c.cpu.ensures.cpu) (ap (λ (q : Queue). q.state) c.said-said.ensures.queue)

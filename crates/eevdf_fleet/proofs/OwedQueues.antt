@@ -1,0 +1,84 @@
+-- What who commits a line owes of the queues that it has changed, one or two.
+use Rattle.std.proofs.Common.{◌≡◌, ◌≢◌, ℕ, ◌<◌, ◌≤◌, Bool, true, false, cond, ◌||◌, List, [], ◌∷◌, length, map, set, eq-eqb, refl, sym, ap, subst, ◌∙◌, arith}
+use Rattle.std.specs.Prelude.{◌==◌, Option, Some, None}
+use Rattle.std.proofs.{Math.ListN.length-set, lemmas.Bool.ne_eqb, lemmas.List.get_or-set_same}
+use Rattle.eevdf_queue.specs.{State.State, State.Contents, State.empty_state, Moves.put_asleep, Leaving.carried_running, Leaving.leave}
+use Rattle.eevdf_ops.specs.{declared.deeds.Answer.Answer, declared.deeds.Deed.Deed, declared.deeds.Line.Line, Setup.home_of}
+use Rattle.eevdf_ops.specs.{Machine.Machine, Machine.queue_at, Whole.whole, WholeSleep.sleep, WholeSleep.sleep_carrying, WholeSleep.task_leaves}
+use Rattle.eevdf_ops.specs.declared.deeds.Deed.TheVariants.{Tick, Pick, Yield, Sleep, Wake, Pull, Renice}
+use Rattle.eevdf_ops.specs.OneQueue.{one_tick, one_pick, one_yield, one_wake, one_renice}
+use Rattle.eevdf_ops.specs.Parts.{decider, touches, answer_of_sleep, answer_of_pull, taken, after_leaving, after_falling_asleep, after_joining}
+use Rattle.eevdf_ops.specs.PartsLaws.{Fits}
+use Rattle.eevdf_ops.specs.WholePull.{offer, load_of, decision}
+use Rattle.eevdf_ops.proofs.{MapCounts.equal, LocalParts.whole-after, LocalParts.whole-answer}
+use Rattle.eevdf_fleet.specs.{declared.board.claims.Terms.Terms, declared.board.claims.Claim.Claim, declared.board.claims.Said.Said}
+use Rattle.eevdf_fleet.specs.declared.board.claims.Claim.TheVariants.{Queue}
+use Rattle.eevdf_fleet.specs.Claims.{queue, once, times, homes, may_commit, AllAgree, OwesQueues, Suits, advanced}
+use Rattle.eevdf_fleet.specs.TouchedQueues.{AreDoneFrom, IsDoneFrom, IsOfOneQueue, IsOfTwoQueues, one_done, two_done}
+use Rattle.eevdf_fleet.proofs.{Advances.one-advanced, Advances.two-advanced, Rooms.decider-below}
+
+any-of : (x : Bool) → (x || (x || x)) ≡ true → x ≡ true
+any-of true e = refl
+any-of false e = e
+
+-- the one queue that a deed touches is its CPU's
+one-touched : (hs : List ℕ) (d : Deed) (c cpu : ℕ) → IsOfOneQueue hs d → decider d ≡ cpu → touches hs d c ≡ true → (cpu == c) ≡ true
+one-touched hs (Tick k ns) c cpu one own e = eq-eqb cpu c (sym (equal c k (any-of (c == k) e) ∙ own))
+one-touched hs (Pick k) c cpu one own e = eq-eqb cpu c (sym (equal c k (any-of (c == k) e) ∙ own))
+one-touched hs (Yield k) c cpu one own e = eq-eqb cpu c (sym (equal c k (any-of (c == k) e) ∙ own))
+one-touched hs (Wake k task sender) c cpu one own e = eq-eqb cpu c (sym (equal c k (any-of (c == k) e) ∙ own))
+one-touched hs (Renice k task nice) c cpu one own e = eq-eqb cpu c (sym (equal c k (any-of (c == k) e) ∙ own))
+one-touched hs (Sleep k task) c cpu one own e =
+    eq-eqb cpu c (sym (equal c k (any-of (c == k) (ap (λ (n : ℕ). (c == k) || ((c == k) || (c == n))) (sym one) ∙ e)) ∙ own))
+one-touched hs (Pull k source) c cpu one own e = absurd one
+
+one-answer : (hs : List ℕ) (d : Deed) (m : Machine) (cpu : ℕ) → IsOfOneQueue hs d → decider d ≡ cpu → (whole hs d m).0 ≡ (one_done d (queue_at m cpu)).0
+one-answer hs (Tick k ns) m cpu one own = ap (λ (n : ℕ). (one_tick (queue_at m n) ns).0) own
+one-answer hs (Pick k) m cpu one own = ap (λ (n : ℕ). (one_pick (queue_at m n)).0) own
+one-answer hs (Yield k) m cpu one own = ap (λ (n : ℕ). (one_yield (queue_at m n)).0) own
+one-answer hs (Wake k task sender) m cpu one own = ap (λ (n : ℕ). (one_wake (queue_at m n) task).0) own
+one-answer hs (Renice k task nice) m cpu one own = ap (λ (n : ℕ). (one_renice (queue_at m n) task nice).0) own
+one-answer hs (Sleep k task) m cpu one own = whole-answer hs (Sleep k task) m ∙ ap (λ (n : ℕ). answer_of_sleep (carried_running (queue_at m n) task)) own
+one-answer hs (Pull k source) m cpu one own = absurd one
+
+set-here : (m : Machine) (k cpu : ℕ) (f : State → State) → k ≡ cpu → cpu < length m → queue_at (set m k (f (queue_at m k))) cpu ≡ f (queue_at m cpu)
+set-here m k cpu f own h = ap (λ (n : ℕ). queue_at (set m n (f (queue_at m n))) cpu) own ∙ get_or-set_same m cpu (f (queue_at m cpu)) empty_state h
+
+sleeps-here : (m : Machine) (cpu : ℕ) (o : Option Contents) → cpu < length m → queue_at (sleep_carrying m cpu cpu o).1 cpu ≡ after_falling_asleep o (after_leaving o (queue_at m cpu))
+sleeps-here m cpu None h = refl
+sleeps-here m cpu (Some p) h =
+    set-here (task_leaves m cpu p.task) cpu cpu (λ q. put_asleep q p) refl (omega (arith, length-set m cpu (leave (queue_at m cpu) p.task)))
+    ∙ ap (λ (q : State). put_asleep q p) (set-here m cpu cpu (λ q. leave q p.task) refl h)
+
+one-leaves : (hs : List ℕ) (d : Deed) (m : Machine) (cpu : ℕ) → IsOfOneQueue hs d → decider d ≡ cpu → cpu < length m → queue_at (whole hs d m).1 cpu ≡ (one_done d (queue_at m cpu)).1
+one-leaves hs (Tick k ns) m cpu one own h = set-here m k cpu (λ q. (one_tick q ns).1) own h
+one-leaves hs (Pick k) m cpu one own h = set-here m k cpu (λ q. (one_pick q).1) own h
+one-leaves hs (Yield k) m cpu one own h = set-here m k cpu (λ q. (one_yield q).1) own h
+one-leaves hs (Wake k task sender) m cpu one own h = set-here m k cpu (λ q. (one_wake q task).1) own h
+one-leaves hs (Renice k task nice) m cpu one own h = set-here m k cpu (λ q. (one_renice q task nice).1) own h
+one-leaves hs (Sleep k task) m cpu one own h =
+    ap (λ (n : ℕ). queue_at (sleep m k n task).1 cpu) one ∙ ap (λ (n : ℕ). queue_at (sleep m n n task).1 cpu) own ∙ sleeps-here m cpu (carried_running (queue_at m cpu) task) h
+one-leaves hs (Pull k source) m cpu one own h = absurd one
+
+owes-one : (t : Terms) (cpu : ℕ) (claims : List Claim) (after : State) (s : Said) → IsOfOneQueue (homes t) s.line.deed → decider s.line.deed ≡ cpu → may_commit t.setup.value s.line.deed ≡ true
+    → IsDoneFrom claims cpu after s.line → s.second.cpu ≡ cpu → s.second.queue.value.state ≡ after → OwesQueues t claims s
+owes-one t cpu claims after s one own may done at is = record {
+  claimed = λ c e. subst (λ (cs : List Claim). 1 ≤ times (queue c) cs) (sym done.claimed)
+      (let here : once (cpu == c) ≡ 1 = ap once (one-touched (homes t) s.line.deed c cpu one own e) in omega arith);
+  committable = may;
+  answers = λ m fits agree.
+      let held : AllAgree m (Queue cpu done.before ∷ []) = subst (λ (cs : List Claim). AllAgree m cs) done.claimed agree in
+      one-answer (homes t) s.line.deed m cpu one own ∙ ap (λ (q : State). (one_done s.line.deed q).0) held.0 ∙ sym done.answers;
+  changes = λ m fits agree.
+      let held : AllAgree m (Queue cpu done.before ∷ []) = subst (λ (cs : List Claim). AllAgree m cs) done.claimed agree in
+      let below : cpu < length m = subst (λ (n : ℕ). n < length m) own (decider-below (length m) (homes t) s.line.deed fits.committable) in
+      subst (λ (cs : List Claim). AllAgree (whole (homes t) s.line.deed m).1 cs) (sym (ap (map (advanced s)) done.claimed ∙ one-advanced s cpu done.before after at is))
+      (one-leaves (homes t) s.line.deed m cpu one own below ∙ ap (λ (q : State). (one_done s.line.deed q).1) held.0 ∙ sym done.leaves, tt);
+}
+
+-- a line that has changed the queue of one CPU, which is told as the second
+pub one-owes : (t : Terms) (cpu : ℕ) (claims : List Claim) (after : State) (l : Line) (s : Said) → IsOfOneQueue (homes t) l.deed → decider l.deed ≡ cpu → may_commit t.setup.value l.deed ≡ true
+    → IsDoneFrom claims cpu after l → s.line ≡ l → s.second.cpu ≡ cpu → s.second.queue.value.state ≡ after → OwesQueues t claims s
+one-owes t cpu claims after l s one own may done line at is =
+    owes-one t cpu claims after s (subst (λ (x : Line). IsOfOneQueue (homes t) x.deed) (sym line) one) (ap (λ (x : Line). decider x.deed) line ∙ own)
+    (ap (λ (x : Line). may_commit t.setup.value x.deed) line ∙ may) (subst (λ (x : Line). IsDoneFrom claims cpu after x) (sym line) done) at is
