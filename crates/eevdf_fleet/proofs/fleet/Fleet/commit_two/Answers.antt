@@ -3,7 +3,7 @@ use Rattle.eevdf_queue.specs.declared.queue.Queue.{Queue}
 use Rattle.eevdf_fleet.specs.declared.board.claims.{Claim.Claim, Said.Said}
 use Rattle.eevdf_fleet.specs.declared.board.claims.Claim.TheVariants as claim
 use Rattle.eevdf_fleet.specs.{Board.claims_of, Claims.advanced}
-use Rattle.eevdf_fleet.proofs.Advances.{two-advanced}
+use Rattle.eevdf_fleet.proofs.{Advances.two-advanced, OwedQueues.two-owes}
 use Rattle.eevdf_fleet.proofs.fleet.Fleet.commit_two.Goals as goal
 use Rattle.eevdf_fleet.proofs.fleet.Fleet.commit_two.Goals.{After-split}
 
@@ -23,3 +23,12 @@ returns-clause-first_claim g c = c.split.ensures.first_claim ∙ ap (λ (cs : Li
 
 pub returns-clause-second_claim : goal.returns-clause-second_claim
 returns-clause-second_claim g c = c.split.ensures.other_claims ∙ ap (λ (cs : List Claim). drop 1 cs) (claimed g (goal.at.returns-clause-second_claim g c).After-split)
+
+pub commit-token-requires-clause-owed : goal.commit-token-requires-clause-owed
+commit-token-requires-clause-owed g c =
+    two-owes g.N.Names.kit.terms c.args.log.now.cpu c.args.other (claims_of c.args.token) c.args.queue.now.state c.args.other_queue.now.state c.args.line.now c.said_both-said.result
+    c.requires.two c.requires.own c.requires.apart c.requires.committable c.requires.done (ap (λ (s : Said). s.line) c.said_both-said.ensures)
+    (ap (λ (s : Said). s.first.cpu) c.said_both-said.ensures ∙ c.change.ensures.cpu ∙ c.cpu.ensures.cpu)
+    (ap (λ (s : Said). s.second.cpu) c.said_both-said.ensures ∙ c.change-2.ensures.cpu)
+    (ap (λ (s : Said). s.first.queue.value.state) c.said_both-said.ensures ∙ ap (λ (q : Queue). q.state) c.change.ensures.queue)
+    (ap (λ (s : Said). s.second.queue.value.state) c.said_both-said.ensures ∙ ap (λ (q : Queue). q.state) c.change-2.ensures.queue)
