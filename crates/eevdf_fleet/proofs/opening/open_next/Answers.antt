@@ -3,7 +3,7 @@ use Rattle.eevdf_queue.specs.State.{View}
 use Rattle.eevdf_ops.specs.{Outcome.machine_of}
 use Rattle.eevdf_ops.specs.declared.deeds.Line.{Line}
 use Rattle.eevdf_fleet.specs.{declared.board.claims.Claim.Claim, declared.board.claims.Claim.TheVariants.Seat}
-use Rattle.eevdf_fleet.specs.{declared.board.claims.Claim.TheVariants.Queue, Board.claims_of, Claims.claims_from}
+use Rattle.eevdf_fleet.specs.{Board.claims_of, Claims.claims_from}
 use Rattle.eevdf_fleet.proofs.Openings.{first-claim, next-claims, other-claims}
 use Rattle.eevdf_fleet.proofs.opening.open_next.Goals as goal
 use Rattle.eevdf_fleet.proofs.opening.open_next.Goals.{After-replace-queue}
