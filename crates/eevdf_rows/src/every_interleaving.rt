@@ -142,18 +142,32 @@ fn every_order_comes_to_what_one_thread_does(rt: HostRuntime) -> Result<(), Fail
 /// Plays each order of a case, and counts them.
 fn check_case(rt: &impl Abort, alloc: Global, case: &Case) -> Result<(), Fail> {
     let workload = read_workload(alloc, case.workload).ok().ok_or("workload")?;
-    let setup = workload.setup();
+    check_orders(rt, alloc, workload.setup(), case)
+}
+
+fn check_orders(rt: &impl Abort, alloc: Global, setup: &Setup, case: &Case) -> Result<(), Fail> {
     let mut next = Some(least_order(alloc, setup, &[])?);
     for before in 0..case.orders {
         let Some(order) = next else {
             assert!(rt; false, "{}: {before} orders", case.name);
             return Ok(());
         };
-        check_order(rt, alloc, setup, &order, case.name)?;
-        next = order_after(alloc, setup, &order)?;
+        next = checked_order(rt, alloc, setup, &order, case.name)?;
     }
     assert!(rt; next.is_none(), "{}: more orders", case.name);
     Ok(())
+}
+
+/// Checks an order, and gives the next.
+fn checked_order(
+    rt: &impl Abort,
+    alloc: Global,
+    setup: &Setup,
+    order: &[usize],
+    name: &str,
+) -> Result<Option<Vec<usize>>, Fail> {
+    check_order(rt, alloc, setup, order, name)?;
+    order_after(alloc, setup, order)
 }
 
 /// A player whose callers have done the steps of a beginning of an order.
@@ -172,11 +186,16 @@ fn step_each(player: &mut Player, callers: &[usize]) -> Result<(), Fail> {
 
 /// The first, in the order of lists, of the lawful complete orders that begin so.
 fn least_order(alloc: Global, setup: &Setup, beginning: &[usize]) -> Result<Vec<usize>, Fail> {
-    let mut player = player_after(alloc, setup, beginning)?;
     let mut order = Vec::from_slice(alloc, beginning)?;
+    go_on(&mut player_after(alloc, setup, beginning)?, &mut order)?;
+    Ok(order)
+}
+
+/// Does the steps that are left, each of the first caller that may step, and adds these callers to an order.
+fn go_on(player: &mut Player, order: &mut Vec<usize>) -> Result<(), Fail> {
     for _step in 0..=MOST_STEPS {
         let Some(caller) = player.ready() else {
-            return Ok(order);
+            return Ok(());
         };
         player.step(caller).ok().ok_or("ready")?;
         order.push(caller)?;
@@ -217,8 +236,14 @@ fn check_order(
     order: &[usize],
     name: &str,
 ) -> Result<(), Fail> {
-    let mut player = Player::open(alloc, setup)?;
-    check_steps(rt, alloc, setup, &mut player, order, name)?;
+    check_steps(
+        rt,
+        alloc,
+        setup,
+        &mut Player::open(alloc, setup)?,
+        order,
+        name,
+    )?;
     let outcome = play(alloc, setup, order).ok().ok_or("outcome")?;
     check_end(rt, alloc, setup, &outcome, name)
 }

@@ -159,21 +159,31 @@ fn take_turns(rt: &impl Abort, alloc: Global, queue: &mut Queue) -> Result<(), F
         admit(rt, queue, numbered(alloc, u64::from(number))?);
     }
     for number in 0..64u32 {
-        charges_next(rt, queue, u64::from(number), 1000, false)?;
-        let turns = i64::from(number) + 1;
-        assert_eq!(rt; queue.floor_time(), 1000 * turns / 64);
-        let deadline = 100_000 + 1000 * i64::from(number);
-        assert_eq!(rt; times(queue, u64::from(number))?, (1000, deadline));
+        takes_short_turn(rt, queue, number)?;
     }
     for number in 0..64u32 {
-        charges_next(rt, queue, u64::from(number), 1_000_000, true)?;
-        let turns = i64::from(number) + 1;
-        assert_eq!(rt; queue.floor_time(), 1000 + 1_000_000 * turns / 64);
-        let deadline = 1_001_000 + 100_000 + 1000 * i64::from(number);
-        assert_eq!(rt; times(queue, u64::from(number))?, (1_001_000, deadline));
+        takes_long_turn(rt, queue, number)?;
     }
     assert_eq!(rt; queue.candidate(), Some(task(62)?));
     assert_eq!(rt; queue.pick(), Some(task(0)?));
+    Ok(())
+}
+
+fn takes_short_turn(rt: &impl Abort, queue: &mut Queue, number: u32) -> Result<(), Fail> {
+    charges_next(rt, queue, u64::from(number), 1000, false)?;
+    let turns = i64::from(number) + 1;
+    assert_eq!(rt; queue.floor_time(), 1000 * turns / 64);
+    let deadline = 100_000 + 1000 * i64::from(number);
+    assert_eq!(rt; times(queue, u64::from(number))?, (1000, deadline));
+    Ok(())
+}
+
+fn takes_long_turn(rt: &impl Abort, queue: &mut Queue, number: u32) -> Result<(), Fail> {
+    charges_next(rt, queue, u64::from(number), 1_000_000, true)?;
+    let turns = i64::from(number) + 1;
+    assert_eq!(rt; queue.floor_time(), 1000 + 1_000_000 * turns / 64);
+    let deadline = 1_001_000 + 100_000 + 1000 * i64::from(number);
+    assert_eq!(rt; times(queue, u64::from(number))?, (1_001_000, deadline));
     Ok(())
 }
 

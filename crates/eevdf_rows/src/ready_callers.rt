@@ -1,7 +1,7 @@
 //! Who may step next, and where a task stands, while callers wait for each other's locks.
 
 use crate::fixtures::{cpu, task};
-use eevdf_ops::CpuId;
+use eevdf_ops::{CpuId, Outcome, Setup};
 use eevdf_queue::TaskId;
 use eevdf_report::report;
 use eevdf_steps::{Place, Player, StepFault};
@@ -50,12 +50,20 @@ fn crossed_pulls(rt: &impl Abort, player: &mut Player) -> Result<(), Fail> {
 #[test]
 fn crossed_pulls_take_the_lesser_lock_first(rt: HostRuntime) -> Result<(), Fail> {
     let workload = workload_of(rt.alloc(), CROSSED_PULLS)?;
-    let mut player = Player::open(rt.alloc(), workload.setup())?;
-    crossed_pulls(&rt, &mut player)?;
-    let outcome = player.outcome().ok().ok_or("outcome")?;
+    let outcome = outcome_of_crossed_pulls(&rt, rt.alloc(), workload.setup())?;
     let text = report(rt.alloc(), &outcome, true)?;
     assert!(rt; text.as_slice() == CROSSED_REPORT.as_bytes());
     Ok(())
+}
+
+fn outcome_of_crossed_pulls(
+    rt: &impl Abort,
+    alloc: Global,
+    setup: &Setup,
+) -> Result<Outcome, Fail> {
+    let mut player = Player::open(alloc, setup)?;
+    crossed_pulls(rt, &mut player)?;
+    Ok(player.outcome().ok().ok_or("outcome")?)
 }
 
 /// Where a task stands, who holds the lock of a CPU, and the load of its queue.
@@ -88,6 +96,5 @@ fn a_pulled_task_is_in_its_callers_hand(rt: HostRuntime) -> Result<(), Fail> {
     let setup = workload.setup();
     assert!(rt; (setup.cpus(), setup.tasks()) == (3, 3));
     assert!(rt; workload.order() == Some(PULL_FIRST.as_slice()));
-    let mut player = Player::open(rt.alloc(), setup)?;
-    pull_under_way(&rt, &mut player)
+    pull_under_way(&rt, &mut Player::open(rt.alloc(), setup)?)
 }
