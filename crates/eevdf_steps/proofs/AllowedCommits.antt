@@ -1,14 +1,16 @@
 -- Every order of a sound plan commits only deeds that are allowed.
 use Rattle.std.proofs.Common.{◌≡◌, ℕ, ◌<◌, Bool, true, List, [], ◌∷◌, get_or, set, take, sym, subst, refl, arith}
 use Rattle.std.proofs.lemmas.{List.Elements.All-take, List.Sums.AllPass-from_list_all, List.Sums.list_all-from_AllPass}
-use Rattle.std.proofs.lemmas.{Grind.common_steps, Bool.and_parts}
+use Rattle.std.proofs.lemmas.{Grind.common_steps, Bool.and_from, Bool.and_parts, Bool.lt-ltb, Bool.ltb-true}
 use Rattle.std.specs.{List.list_all, Option.option_to_list}
-use Rattle.std.specs.Prelude.{slice_get, IfSome, Option, Some, None}
+use Rattle.std.specs.Prelude.{nat_lt, slice_get, IfSome, Option, Some, None}
 use Rattle.eevdf_ops.specs.{declared.deeds.Op.Op, declared.deeds.Deed.Deed}
+use Rattle.eevdf_ops.specs.declared.deeds.Op.TheVariants as op
+use Rattle.eevdf_ops.specs.Programs.{deed_of}
 use Rattle.eevdf_ops.specs.Setup.{Setup, allows, is_allowed, is_at_home}
 use Rattle.eevdf_steps.specs.{declared.micro.Micro.Micro, declared.plan.Step.Step, MicroSteps.steps_by, SoundSteps.is_sound_micro}
 use Rattle.eevdf_steps.specs.{SoundSteps.is_sound_step, declared.micro.Micro.TheVariants.Take}
-use Rattle.eevdf_steps.specs.declared.micro.Micro.TheVariants.{Settle}
+use Rattle.eevdf_steps.specs.declared.micro.Micro.TheVariants.{Commit, Settle}
 use Rattle.eevdf_steps.specs.Counters.{count_of, done_by, step_next}
 use Rattle.eevdf_steps.specs.Plan.{IsSound, Plan, callers, is_sound_op, plan_of, pulls_elsewhere}
 use Rattle.eevdf_steps.specs.Requests.{Progress, found_by, oldest, posted, posts_to, progress_at_start, progress_by, progress_step, requested, taken_of, takes}
@@ -21,7 +23,8 @@ all_taken test xs k all = list_all-from_AllPass test (take k xs) (All-take (λ x
 
 -- an element of a list all of whose elements pass, where there is one
 some_passes : {A : Type 0} (test : A → Bool) (xs : List A) (k : ℕ) (r : Option A) → list_all test xs ≡ true → slice_get xs k ≡ r → IfSome r (λ (x : A). test x ≡ true)
-some_passes test xs k r all e = grind (arith, some_all)
+some_passes test xs k None all e = tt
+some_passes test xs k (Some x) all e = some_all test xs k x all e
 
 -- a request to a home is for a task of that home
 abbrev IsForHome : Plan → ℕ → Option ℕ → Type 0
@@ -50,10 +53,11 @@ found_next : (plan : Plan) (found : List (Option ℕ)) (x : ℕ) (r : Option ℕ
 found_next plan found x r own new c = grind (arith, common_steps)
 
 takes_own : (plan : Plan) (g : Progress) (x s : ℕ) (r : Option ℕ) → FindTheirOwn plan g → IsForHome plan x r → FindTheirOwn plan (takes plan g x s r)
-takes_own plan g x s r own new = grind (arith, common_steps)
+takes_own plan g x s r own new = found_next plan g.found x r own new
 
 requested_own : (plan : Plan) (g : Progress) (x : ℕ) (m : Micro) → IsSound plan → is_sound_micro plan m ≡ true → FindTheirOwn plan g → FindTheirOwn plan (requested plan g x m)
-requested_own plan g x (Take s) sound well own = grind (arith, takes_own, oldest_is_for_home)
+requested_own plan g x (Take s) sound well own =
+    takes_own plan g x s (oldest plan g s x) own (oldest_is_for_home plan g s x sound (ltb-true s (callers plan) well))
 requested_own plan g x (Settle s) sound well own = found_next plan g.found x None own tt
 requested_own plan g x _ sound well own = own
 
@@ -73,9 +77,23 @@ sound_step plan g x s sound e =
 abbrev AllAllowed : Plan → List Deed → Type 0
 AllAllowed plan deeds = list_all (is_allowed (callers plan) plan.homes) deeds ≡ true
 
+deed_allowed : (plan : Plan) (x : ℕ) (o : Op) → nat_lt x (callers plan) ≡ true → is_sound_op plan o ≡ true → pulls_elsewhere x o ≡ true
+    → AllAllowed plan (option_to_list (deed_of x o))
+deed_allowed plan x (op.Tick ns) h sound pulls = and_from _ true h refl
+deed_allowed plan x op.Pick h sound pulls = and_from _ true h refl
+deed_allowed plan x op.Yield h sound pulls = and_from _ true h refl
+deed_allowed plan x (op.Sleep task) h sound pulls = and_from _ true (and_from _ _ h sound) refl
+deed_allowed plan x (op.Renice task nice) h sound pulls = and_from _ true (and_from _ _ h sound) refl
+deed_allowed plan x (op.Pull source) h sound pulls = and_from _ true (and_from _ _ h (and_from _ _ sound pulls)) refl
+deed_allowed plan x (op.Post task) h sound pulls = refl
+deed_allowed plan x op.Drain h sound pulls = refl
+
 micro_allowed : (plan : Plan) (found : Option ℕ) (x : ℕ) (o : Op) (m : Micro) → x < callers plan → is_sound_op plan o ≡ true → pulls_elsewhere x o ≡ true
     → is_sound_micro plan m ≡ true → IsForHome plan x found → AllAllowed plan (option_to_list (committed found x o m))
-micro_allowed plan found x o m h sound pulls well own = grind arith
+micro_allowed plan found x o Commit h sound pulls well own = deed_allowed plan x o (lt-ltb x (callers plan) h) sound pulls
+micro_allowed plan None x o (Settle s) h sound pulls well own = refl
+micro_allowed plan (Some task) x o (Settle s) h sound pulls well own = and_from _ true (and_from _ _ (and_from _ _ (lt-ltb x (callers plan) h) well) own) refl
+micro_allowed plan found x o _ h sound pulls well own = refl
 
 -- a step commits what is allowed, and leaves each caller with requests of its own
 step_allowed : (plan : Plan) (g : Progress) (x : ℕ) (r : Option Step) → IsSound plan → FindTheirOwn plan g → step_next plan g.counters x ≡ r
@@ -87,7 +105,10 @@ step_allowed plan g x (Some s) sound own e =
 
 allowed_from : (plan : Plan) (g : Progress) (order : List ℕ) → IsSound plan → FindTheirOwn plan g → AllAllowed plan (commits plan g order)
 allowed_from plan g [] sound own = refl
-allowed_from plan g (x ∷ order) sound own = grind (arith, allowed_from plan (progress_step plan g x) order, step_allowed, all_joined)
+allowed_from plan g (x ∷ order) sound own =
+    let step = step_allowed plan g x (step_next plan g.counters x) sound own refl in
+    all_joined (is_allowed (callers plan) plan.homes) (committed_by g x (step_next plan g.counters x)) (commits plan (progress_step plan g x) order) step.0
+    (allowed_from plan (progress_step plan g x) order sound step.1)
 
 pub commits_allowed : (plan : Plan) (order : List ℕ) → IsSound plan → list_all (is_allowed (callers plan) plan.homes) (commits plan (progress_at_start plan) order) ≡ true
 commits_allowed plan order sound = allowed_from plan (progress_at_start plan) order sound (found_first plan)

@@ -1,8 +1,8 @@
 -- A task sleeps at its home alone, on the machines that deeds leave and while the callers work.
-use Rattle.std.proofs.Common.{◌≡◌, ℕ, Bool, true, false, cond, ◌||◌, List, [], ◌∷◌, set, refl, ap, arith}
-use Rattle.std.specs.Prelude.{Option, Some, None, Result, Ok, Err}
-use Rattle.std.specs.{Option.unwrap_or, FinMap.contains_key}
-use Rattle.eevdf_queue.specs.{declared.entry.Entry.Entry, Wake.wake_sleeper, Wake.wake_to, Moves.put_asleep, Moves.with_runnable}
+use Rattle.std.proofs.Common.{◌≡◌, ℕ, Bool, true, false, cond, ◌||◌, List, [], ◌∷◌, set, refl, sym, ap, subst, ◌∙◌}
+use Rattle.std.specs.Prelude.{◌==◌, Option, Some, None, Result, Ok, Err}
+use Rattle.std.specs.{Option.unwrap_or, FinMap.contains_key, FinMap.get}
+use Rattle.eevdf_queue.specs.{declared.entry.Entry.Entry, Wake.wake_sleeper, Wake.wake_to, Moves.put_asleep, Moves.sleeper_of, Moves.with_runnable}
 use Rattle.eevdf_queue.specs.{declared.sleeper.Sleeper.Sleeper, Placing.placed_entry, State.State, State.Contents}
 use Rattle.eevdf_queue.specs.Leaving.{carried_running, leave, without_entry}
 use Rattle.eevdf_ops.specs.{declared.deeds.Answer.Answer, declared.deeds.Deed.Deed, declared.deeds.Line.Line}
@@ -14,7 +14,7 @@ use Rattle.eevdf_ops.specs.WholePull.{decision, load_of, offer, pull_decided}
 use Rattle.eevdf_ops.proofs.{Carried.Carries, Carried.running-carries, MachinePlaces.SleepsAtHome, MachinePlaces.each-set}
 use Rattle.eevdf_ops.proofs.MapCounts.{contains-insert, contains-removed, equal}
 use Rattle.eevdf_ops.proofs.QueuePlaces.{pick-same, renice-same, tick-same, yield-same}
-use Rattle.eevdf_steps.specs.{Counters.Counters, Counters.holder, Plan.Plan, Work.Work, Serial.IsSerial}
+use Rattle.eevdf_steps.specs.{Counters.Counters, Counters.holder, Counters.holds, Plan.Plan, Plan.callers, Work.Work, Serial.IsSerial, Serial.begun_by}
 use Rattle.eevdf_steps.specs.UnderWay.{UnderWay, leaves, queue_seen}
 use Rattle.eevdf_steps.proofs.{Ready.least_found, SerialSteps.free_queue}
 
@@ -30,23 +30,35 @@ still : (homes : List ℕ) (cpu : ℕ) (q r : State) → IsNoMore q r → Sleeps
 still homes cpu q r less at_home task a = at_home task (less task a)
 
 wake_to_less : (q : State) (t : ℕ) (o : Option Entry) → IsNoMore q (wake_to q t (with_runnable q t o)).1
-wake_to_less q t o = grind (arith, contains-removed)
+wake_to_less q t None = λ task is. is
+wake_to_less q t (Some e) = λ task is. contains-removed q.asleep t task is
 
 wake_sleeper_less : (q : State) (t : ℕ) (o : Option Sleeper) → IsNoMore q (wake_sleeper q t o).1
 wake_sleeper_less q t None = λ task is. is
 wake_sleeper_less q t (Some s) = wake_to_less q t (placed_entry q s)
 
 leave_less : (q : State) (t : ℕ) (o : Option Entry) → IsNoMore q (without_entry q t o)
-leave_less q t o = grind arith
+leave_less q t None = λ task is. is
+leave_less q t (Some e) = λ task is. is
 
 joined_less : (q : State) (t : ℕ) (o : Option Entry) → IsNoMore q (unwrap_or (with_runnable q t o) q)
-joined_less q t o = grind arith
+joined_less q t None = λ task is. is
+joined_less q t (Some e) = λ task is. is
 
 fallen : (homes : List ℕ) (cpu task : ℕ) (b c : Bool) → (b ≡ true → home_of homes task ≡ cpu) → (c ≡ true → home_of homes task ≡ cpu) → (b || c) ≡ true → home_of homes task ≡ cpu
-fallen homes cpu task b c f g e = grind arith
+fallen homes cpu task true c f g e = f refl
+fallen homes cpu task false c f g e = g e
 
 falls_at_home : (homes : List ℕ) (cpu : ℕ) (q : State) (p : Contents) → home_of homes p.task ≡ cpu → SleepsAtHome homes cpu q → SleepsAtHome homes cpu (put_asleep q p)
-falls_at_home homes cpu q p home at_home task a = grind (arith, fallen, equal, contains-insert)
+falls_at_home homes cpu q p home at_home task a =
+    fallen homes cpu task (task == p.task) (contains_key q.asleep task) (λ e. ap (home_of homes) (equal task p.task e) ∙ home) (at_home task)
+    (sym (contains-insert q.asleep p.task task (sleeper_of p)) ∙ a)
+
+-- nor where a task left that was runnable
+left_less : (q : State) (b : Bool) (o : Option Contents) → IsNoMore q (cond b (after_leaving o q) q)
+left_less q false o = λ task is. is
+left_less q true None = λ task is. is
+left_less q true (Some p) = leave_less q p.task (get q.runnable p.task)
 
 module _ (homes : List ℕ) where
   set_at_home : (m : Machine) (c : ℕ) (q : State) → SleepsAtHome homes c q → AllAtHome homes m → AllAtHome homes (set m c q)
@@ -70,7 +82,9 @@ module _ (homes : List ℕ) where
 
   pull_at_home : (m : Machine) (cpu source : ℕ) (d : Result Contents Answer) → AllAtHome homes m → AllAtHome homes (pull_decided m cpu source d).1
   pull_at_home m cpu source (Err refusal) all = all
-  pull_at_home m cpu source (Ok p) all = grind (arith, less_at_home, joined_less, leaves_at_home)
+  pull_at_home m cpu source (Ok p) all =
+      let left : Machine = task_leaves m source p.task in
+      less_at_home left cpu _ (joined_less (queue_at left cpu) p.task (placed_entry (queue_at left cpu) (sleeper_of p))) (leaves_at_home m source p.task all)
 
   whole_at_home : (deed : Deed) (m : Machine) → AllAtHome homes m → AllAtHome homes (whole homes deed m).1
   whole_at_home (Tick cpu ns) m all = less_at_home m cpu _ (tick-same (queue_at m cpu) ns).asleep all
@@ -88,7 +102,9 @@ module _ (homes : List ℕ) where
   begun_at_home : (m : Machine) (u : UnderWay) (cpu : ℕ) (b : Bool) → AllAtHome homes m
       → SleepsAtHome homes cpu (cond b (queue_at (whole homes u.deed m).1 cpu) (only_at (giver u.deed) cpu (after_leaving (leaves homes m u.deed)) (queue_at m cpu)))
   begun_at_home m u cpu true all = whole_at_home u.deed m all cpu
-  begun_at_home m u cpu false all = grind arith
+  begun_at_home m u cpu false all =
+      still homes cpu (queue_at m cpu) (only_at (giver u.deed) cpu (after_leaving (leaves homes m u.deed)) (queue_at m cpu))
+      (left_less (queue_at m cpu) (cpu == giver u.deed) (leaves homes m u.deed)) (all cpu)
 
   seen_at_home : (m : Machine) (o : Option UnderWay) (cpu : ℕ) → AllAtHome homes m → SleepsAtHome homes cpu (queue_seen homes m o cpu)
   seen_at_home m None cpu all = all cpu
@@ -97,8 +113,12 @@ module _ (homes : List ℕ) where
 -- a queue whose lock is held, and one whose lock is free
 at_home_by : (plan : Plan) (start : Machine) (counters : Counters) (w : Work) (lines : List Line) (cpu : ℕ) (o : Option ℕ) → holder plan counters cpu ≡ o
     → IsSerial plan start counters w lines → AllAtHome plan.homes (machine_told plan.homes start lines) → SleepsAtHome plan.homes cpu (queue_at w.machine cpu)
-at_home_by plan start counters w lines cpu None e serial all = grind (arith, free_queue)
-at_home_by plan start counters w lines cpu (Some p) e serial all = grind (arith, least_found, seen_at_home)
+at_home_by plan start counters w lines cpu None e serial all =
+    subst (SleepsAtHome plan.homes cpu) (sym (free_queue plan start counters w lines cpu serial e)) (all cpu)
+at_home_by plan start counters w lines cpu (Some p) e serial all =
+    subst (SleepsAtHome plan.homes cpu)
+    (sym (serial.seen.held cpu p (least_found (holds plan counters cpu) 0 (callers plan) p e).passes))
+    (seen_at_home plan.homes (machine_told plan.homes start lines) (begun_by plan counters p) cpu all)
 
 pub callers_at_home : (plan : Plan) (start : Machine) (counters : Counters) (w : Work) (lines : List Line) → IsSerial plan start counters w lines → AllAtHome plan.homes start
     → AllAtHome plan.homes w.machine

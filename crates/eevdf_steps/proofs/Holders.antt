@@ -1,12 +1,12 @@
 -- What becomes of the locks at a step.
-use Rattle.std.proofs.Common.{◌≡◌, ◌≢◌, ℕ, zero, suc, ◌+◌, ◌-◌, ◌<◌, ◌≤◌, Bool, true, false, cond, List, [], ◌∷◌, ◌++◌, length, take, drop, get_or, set, replicate, inl, inr, sym, ap, ◌∙◌, arith, refl}
-use Rattle.std.proofs.lemmas.Bool.{false≢true, cases_lt, ltb-true, eq-eqb}
-use Rattle.std.proofs.lemmas.{List.get_or-set_same, List.get_or_default, Grind.common_steps}
+use Rattle.std.proofs.Common.{◌≡◌, ◌≢◌, ℕ, zero, suc, ◌+◌, ◌-◌, ◌<◌, ◌≤◌, Bool, true, false, cond, List, [], ◌∷◌, ◌++◌, length, take, drop, get_or, set, replicate, inl, inr, sym, ap, subst, ◌∙◌, arith, refl}
+use Rattle.std.proofs.lemmas.Bool.{and_parts, false≢true, cases_eq, cases_lt, eqb-true, ltb-true, eq-eqb, ne_eqb}
+use Rattle.std.proofs.lemmas.{List.length-set, List.get_or-set_same, List.get_or-set_other, List.get_or_read, Grind.common_steps}
 use Rattle.std.proofs.Math.Seq.{take-append_seam}
-use Rattle.std.specs.Prelude.{slice_get, Option, Some, None}
+use Rattle.std.specs.Prelude.{nat_lt, slice_get, Option, Some, None}
 use Rattle.eevdf_steps.specs.{declared.micro.Micro.Micro, declared.plan.Step.Step, declared.micro.Micro.TheVariants.Acquire}
 use Rattle.eevdf_steps.specs.{declared.micro.Micro.TheVariants.Release, MicroSteps.steps_by, Orders.counters_at_start}
-use Rattle.eevdf_steps.specs.{SoundSteps.is_sound_micro, SoundSteps.is_sound_step, Plan.Plan, Plan.callers}
+use Rattle.eevdf_steps.specs.{SoundSteps.is_sound_micro, SoundSteps.is_sound_step, Plan.Plan, Plan.callers, Plan.is_sound_op}
 use Rattle.eevdf_steps.specs.Counters.{Counters, blocked_by, count_of, counted, held_after, held_by_steps, holder, holds, least, refused, step_next}
 use Rattle.eevdf_steps.specs.Holders.{AreHolders, given_up, holders_after, is_holder, names_lock}
 
@@ -30,11 +30,13 @@ holds_own plan counters cpu p s h e =
 
 -- any other caller
 pub holds_other : (plan : Plan) (counters : Counters) (cpu p q : ℕ) → q ≢ p → holds plan (counted counters p) cpu q ≡ holds plan counters cpu q
-holds_other plan counters cpu p q apart = grind (arith, common_steps)
+holds_other plan counters cpu p q apart =
+    ap (λ (k : ℕ). held_by_steps cpu false (take k (steps_by plan q))) (get_or-set_other counters p q (count_of counters p + 1) 0 apart)
 
 least_same : (f g : ℕ → Bool) (from n : ℕ) → ((p : ℕ) → f p ≡ g p) → least f from n ≡ least g from n
 least_same f g from zero same = refl
-least_same f g from (suc n) same = grind (arith, least_same f g (from + 1) n)
+least_same f g from (suc n) same =
+    ap (λ (b : Bool). cond b (Some from) (least f (from + 1) n)) (same from) ∙ ap (λ (o : Option ℕ). cond (g from) (Some from) o) (least_same f g (from + 1) n same)
 
 least_none : (from n : ℕ) → least (is_holder None) from n ≡ None
 least_none from zero = refl
@@ -45,7 +47,8 @@ least_some q from zero low high = absurd (omega arith)
 least_some q from (suc n) low high = grind (arith, least_some q (from + 1) n)
 
 taken_none : (cpu k : ℕ) → held_by_steps cpu false (take k []) ≡ false
-taken_none cpu k = grind arith
+taken_none cpu zero = refl
+taken_none cpu (suc k) = refl
 
 pub nobody_past : (plan : Plan) (counters : Counters) (cpu p : ℕ) → callers plan ≤ p → holds plan counters cpu p ≡ false
 nobody_past plan counters cpu p h = grind (arith, common_steps)
@@ -77,41 +80,101 @@ Matches plan counters holders cpu q = holds plan counters cpu q ≡ is_holder (g
 elsewhere : (plan : Plan) (counters : Counters) (holders : List (Option ℕ)) (p c cpu q : ℕ) (h : Option ℕ)
     → cpu ≢ c → Matches plan counters holders cpu q → holds plan (counted counters p) cpu q ≡ holds plan counters cpu q
     → Matches plan (counted counters p) (set holders c h) cpu q
-elsewhere plan counters holders p c cpu q h apart here same = grind (arith, common_steps)
+elsewhere plan counters holders p c cpu q h apart here same =
+    same ∙ here ∙ ap (λ (o : Option ℕ). is_holder o q) (sym (get_or-set_other holders c cpu h None apart))
+
+-- nor at a lock that the step leaves as it is
+stays : (plan : Plan) (counters : Counters) (p : ℕ) (m : Micro) (cpu q : ℕ) → Follows plan counters p m → held_after cpu (holds plan counters cpu p) m ≡ holds plan counters cpu p
+    → holds plan (counted counters p) cpu q ≡ holds plan counters cpu q
+stays plan counters p m cpu q follows still =
+    elim (cases_eq q p) [
+      | inl same ↦ ap (λ (k : ℕ). holds plan (counted counters p) cpu k) same ∙ follows cpu ∙ still ∙ ap (λ (k : ℕ). holds plan counters cpu k) (sym same)
+      | inr apart ↦ holds_other plan counters cpu p q apart
+    ]
+
+acquires_at : (plan : Plan) (counters : Counters) (holders : List (Option ℕ)) (p c q : ℕ) → AreHolders plan counters holders → Follows plan counters p (Acquire c)
+    → c < callers plan → get_or holders c None ≡ None → holds plan (counted counters p) c q ≡ is_holder (Some p) q
+acquires_at plan counters holders p c q a follows below free =
+    elim (cases_eq q p) [
+      | inl same ↦
+          ap (λ (k : ℕ). holds plan (counted counters p) c k) same ∙ follows c ∙ ap (λ (b : Bool). cond b true (holds plan counters c p)) (eq-eqb c c refl)
+          ∙ sym (eq-eqb p q (sym same))
+      | inr apart ↦
+          holds_other plan counters c p q apart ∙ a.held c q below ∙ ap (λ (o : Option ℕ). is_holder o q) free ∙ sym (ne_eqb p q (λ e. apart (sym e)))
+    ]
+
+-- the holder of one lock is written down
+written : (plan : Plan) (counters : Counters) (holders : List (Option ℕ)) (p c : ℕ) (h : Option ℕ) → AreHolders plan counters holders → c < callers plan
+    → ((q : ℕ) → holds plan (counted counters p) c q ≡ is_holder h q)
+    → ((cpu q : ℕ) → cpu ≢ c → holds plan (counted counters p) cpu q ≡ holds plan counters cpu q) → AreHolders plan (counted counters p) (set holders c h)
+written plan counters holders p c h a below here other = record {
+  each = length-set holders c h ∙ a.each;
+  held = λ cpu q k. elim (cases_eq cpu c) [
+    | inl same ↦
+        ap (λ (i : ℕ). holds plan (counted counters p) i q) same ∙ here q
+        ∙ ap (λ (o : Option ℕ). is_holder o q) (sym (get_or-set_same holders c h None (omega (arith, below, a.each))))
+        ∙ ap (λ (i : ℕ). is_holder (get_or (set holders c h) i None) q) (sym same)
+    | inr apart ↦ elsewhere plan counters holders p c cpu q h apart (a.held cpu q k) (other cpu q apart)
+  ];
+}
 
 pub acquired : (plan : Plan) (counters : Counters) (holders : List (Option ℕ)) (p c : ℕ) → AreHolders plan counters holders → Follows plan counters p (Acquire c)
     → c < callers plan → get_or holders c None ≡ None → AreHolders plan (counted counters p) (set holders c (Some p))
-acquired plan counters holders p c a follows below free = grind (arith, common_steps)
+acquired plan counters holders p c a follows below free =
+    written plan counters holders p c (Some p) a below (λ q. acquires_at plan counters holders p c q a follows below free)
+    (λ cpu q apart. stays plan counters p (Acquire c) cpu q follows (ap (λ (b : Bool). cond b true (holds plan counters cpu p)) (ne_eqb c cpu (λ e. apart (sym e)))))
 
 gives_up : (h : Option ℕ) (p q : ℕ) (b : Bool) → is_holder h p ≡ b → q ≢ p → is_holder h q ≡ is_holder (cond b None h) q
-gives_up h p q b e apart = grind arith
+gives_up None p q true e apart = refl
+gives_up (Some o) p q true e apart = ne_eqb o q (λ same. apart (sym same ∙ eqb-true o p e))
+gives_up h p q false e apart = refl
+
+gone : (h : Option ℕ) (p : ℕ) (b : Bool) → is_holder h p ≡ b → is_holder (cond b None h) p ≡ false
+gone h p true e = refl
+gone h p false e = e
 
 releases_at : (plan : Plan) (counters : Counters) (p c q : ℕ) (h : Option ℕ) → Follows plan counters p (Release c) → holds plan counters c q ≡ is_holder h q
     → holds plan (counted counters p) c q ≡ is_holder (given_up h p) q
-releases_at plan counters p c q h follows here = grind (arith, common_steps)
+releases_at plan counters p c q h follows here =
+    elim (cases_eq q p) [
+      | inl same ↦
+          ap (λ (k : ℕ). holds plan (counted counters p) c k) same ∙ follows c ∙ ap (λ (b : Bool). cond b false (holds plan counters c p)) (eq-eqb c c refl)
+          ∙ sym (gone h p (is_holder h p) refl) ∙ ap (λ (k : ℕ). is_holder (given_up h p) k) (sym same)
+      | inr apart ↦ holds_other plan counters c p q apart ∙ here ∙ gives_up h p q (is_holder h p) refl apart
+    ]
 
 pub released : (plan : Plan) (counters : Counters) (holders : List (Option ℕ)) (p c : ℕ) → AreHolders plan counters holders → Follows plan counters p (Release c)
     → c < callers plan → AreHolders plan (counted counters p) (set holders c (given_up (get_or holders c None) p))
-released plan counters holders p c a follows below = grind (arith, common_steps)
+released plan counters holders p c a follows below =
+    written plan counters holders p c (given_up (get_or holders c None) p) a below
+    (λ q. releases_at plan counters p c q (get_or holders c None) follows (a.held c q below))
+    (λ cpu q apart. stays plan counters p (Release c) cpu q follows (ap (λ (b : Bool). cond b false (holds plan counters cpu p)) (ne_eqb c cpu (λ e. apart (sym e)))))
 
 kept : (plan : Plan) (counters : Counters) (holders : List (Option ℕ)) (p : ℕ) (m : Micro) → AreHolders plan counters holders → Follows plan counters p m
     → ((cpu : ℕ) (b : Bool) → held_after cpu b m ≡ b) → AreHolders plan (counted counters p) holders
-kept plan counters holders p m a follows still = grind (arith, common_steps)
+kept plan counters holders p m a follows still = record {
+  each = a.each;
+  held = λ cpu q k. stays plan counters p m cpu q follows (still cpu (holds plan counters cpu p)) ∙ a.held cpu q k;
+}
 
 pub not_blocked : (cpu : ℕ) (o : Option ℕ) → blocked_by cpu o ≡ None → o ≡ None
-not_blocked cpu o e = grind arith
+not_blocked cpu None e = refl
+not_blocked cpu (Some q) e = cc
 
 -- the holders after a step that nothing refuses
 holders_step : (plan : Plan) (counters : Counters) (holders : List (Option ℕ)) (p : ℕ) (m : Micro) → AreHolders plan counters holders → Follows plan counters p m
     → is_sound_micro plan m ≡ true → refused plan counters m ≡ None → AreHolders plan (counted counters p) (holders_after p m holders)
-holders_step plan counters holders p (Acquire c) a follows sound free = grind (arith, common_steps, acquired, holder_is, not_blocked)
+holders_step plan counters holders p (Acquire c) a follows sound free =
+    let below : c < callers plan = ltb-true c (callers plan) sound in
+    acquired plan counters holders p c a follows below (sym (holder_is plan counters holders c below a) ∙ not_blocked c (holder plan counters c) free)
 holders_step plan counters holders p (Release c) a follows sound free = released plan counters holders p c a follows (ltb-true c (callers plan) sound)
 holders_step plan counters holders p m a follows sound free = kept plan counters holders p m a follows (λ cpu b. refl)
 
 pub holders_next : (plan : Plan) (counters : Counters) (holders : List (Option ℕ)) (p : ℕ) (s : Step) → AreHolders plan counters holders → p < length counters
     → step_next plan counters p ≡ Some s → is_sound_step plan s ≡ true → refused plan counters s.micro ≡ None
     → AreHolders plan (counted counters p) (holders_after p s.micro holders)
-holders_next plan counters holders p s a h e sound free = grind (arith, common_steps, holders_step, holds_own)
+holders_next plan counters holders p s a h e sound free =
+    holders_step plan counters holders p s.micro a (λ cpu. holds_own plan counters cpu p s h e) (and_parts (is_sound_op plan s.op) (is_sound_micro plan s.micro) sound).1 free
 
 -- at the start nobody holds a lock
 pub count_first : (n p : ℕ) → ◌≡◌ {A = ℕ} (get_or (replicate n 0) p 0) 0
@@ -130,23 +193,30 @@ holders_first plan = grind (arith, common_steps)
 -- the same, where the counters and the list are known by equations
 pub same_holders : (plan : Plan) (counters counters' : Counters) (holders holders' : List (Option ℕ)) → counters' ≡ counters → holders' ≡ holders
     → AreHolders plan counters holders → AreHolders plan counters' holders'
-same_holders plan counters counters' holders holders' f g a = grind arith
+same_holders plan counters counters' holders holders' f g a =
+    subst (λ (cs : Counters). AreHolders plan cs holders') (sym f) (subst (AreHolders plan counters) (sym g) a)
 
 -- what a write through a slice leaves
 pub written_back : {A : Type 0} (n : ℕ) (xs ys : List A) → length xs ≡ n → take n (xs ++ drop (length xs) ys) ≡ xs
 written_back n xs ys e = ap (λ (k : ℕ). take k (xs ++ drop (length xs) ys)) (sym e) ∙ take-append_seam xs (drop (length xs) ys)
 
 pub sound_lock : (plan : Plan) (n : ℕ) (m : Micro) → n ≡ callers plan → is_sound_micro plan m ≡ true → names_lock n m ≡ true
-sound_lock plan n m e h = grind arith
+sound_lock plan n (Acquire c) e h = ap (nat_lt c) e ∙ h
+sound_lock plan n (Release c) e h = ap (nat_lt c) e ∙ h
+sound_lock plan n _ e h = refl
 
 pub length-holders_after : (p : ℕ) (m : Micro) (holders : List (Option ℕ)) → length (holders_after p m holders) ≡ length holders
-length-holders_after p m holders = grind (arith, common_steps)
+length-holders_after p (Acquire c) holders = length-set holders c _
+length-holders_after p (Release c) holders = length-set holders c _
+length-holders_after p _ holders = refl
 
 -- the holder that was read
 pub read_holder : (plan : Plan) (counters : Counters) (holders : List (Option ℕ)) (cpu k : ℕ) (h : Option ℕ) → k ≡ cpu → cpu < callers plan → AreHolders plan counters holders
     → h ≡ get_or holders k h → h ≡ holder plan counters cpu
-read_holder plan counters holders cpu k h at below a e = grind (arith, get_or_default, holder_is)
+read_holder plan counters holders cpu k h at below a e =
+    get_or_read holders k h (omega (arith, at, below, a.each)) e None ∙ ap (λ (i : ℕ). get_or holders i None) at ∙ sym (holder_is plan counters holders cpu below a)
 
 -- a number that doesn't pass is passed over
 pub least_past : (f : ℕ → Bool) (from n : ℕ) → from < n → f from ≡ false → least f from (n - from) ≡ least f (from + 1) (n - (from + 1))
-least_past f from n below fails = grind arith
+least_past f from n below fails =
+    ap (least f from) (let one : n - from ≡ suc (n - (from + 1)) = omega arith in one) ∙ ap (λ (b : Bool). cond b (Some from) (least f (from + 1) (n - (from + 1)))) fails

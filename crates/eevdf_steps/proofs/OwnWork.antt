@@ -1,6 +1,6 @@
 -- What the caller's work on the queues comes to, seen from the machine of the history.
 use Rattle.std.proofs.Common.{◌≡◌, ◌≢◌, ℕ, ◌<◌, true, false, cond, List, length, set, sym, ap, subst, ◌∙◌, refl, arith}
-use Rattle.std.proofs.lemmas.{Bool.eqb-true, Bool.eq-eqb, List.get_or-set_same, List.get_or-set_other, Bool.Decides.nat_tests}
+use Rattle.std.proofs.lemmas.{Bool.eqb-true, Bool.eq-eqb, Bool.ne_eqb, List.get_or-set_same, List.get_or-set_other}
 use Rattle.std.specs.Prelude.{◌==◌, IfSome, Option, Some, None, Result, Ok, Err}
 use Rattle.eevdf_queue.specs.State.{State, Contents, empty_state}
 use Rattle.eevdf_queue.specs.{Moves.put_asleep, Moves.sleeper_of, Leaving.carried_running, Leaving.leave, Placing.can_place}
@@ -17,10 +17,11 @@ use Rattle.eevdf_ops.proofs.{MachinePlaces.other_queue, Pulling.decision-taken}
 use Rattle.eevdf_steps.specs.declared.micro.Micro.TheVariants.{Act, Detach, Attach}
 use Rattle.eevdf_steps.specs.Plan.{Plan, callers, home}
 use Rattle.eevdf_steps.specs.Counters.{Counters, counted, holds}
-use Rattle.eevdf_steps.specs.{Serial.begun_by, UnderWay.leaves}
+use Rattle.eevdf_steps.specs.{declared.plan.Step.Step, Serial.begun_by}
+use Rattle.eevdf_steps.specs.UnderWay.{KeepsAnswer, UnderWay, begun, hand_seen, leaves, queue_seen, under_way}
 use Rattle.eevdf_steps.specs.Work.{Work, acted, answer, answered, attach_asleep, attach_pulled, detach_pulled, detach_running, detached, hand, put_down}
 use Rattle.eevdf_steps.proofs.OtherCallers.{IsStepOf}
-use Rattle.eevdf_steps.proofs.OwnSteps.{AtStep, local_step, sees_history, hand_empty, other_held}
+use Rattle.eevdf_steps.proofs.OwnSteps.{AtStep, begun_now, local_step, sees_history, hand_empty, other_held}
 
 -- the deed is done on the caller's own queue alone
 abbrev pub ActsThere : List ℕ → Machine → ℕ → Deed → (State → Answer × State) → Type 0
@@ -108,8 +109,14 @@ pub record AtAttach (plan : Plan) (counters : Counters) (p : ℕ) (m : Machine) 
 -- a task that a pull takes has room at the CPU that pulls
 room_by : (m : Machine) (p s : ℕ) (x : Contents) (r : Result Contents Answer) → pull_decision m p s ≡ r → taken (pull_decided m p s r).0 (offer (queue_at m s)) ≡ Some x
     → can_place (queue_at m p) (sleeper_of x) ≡ true
-room_by m p s x (Err why) e t = grind arith
-room_by m p s x (Ok y) e t = grind arith
+room_by m p s x (Err why) e t =
+    let none : None ≡ Some x = sym (untaken (queue_at m p) (load_of (queue_at m s)) (offer (queue_at m s)) (offer (queue_at m s)) why e) ∙ t in
+    cc
+room_by m p s x (Ok y) e t =
+    let taking = decision-taken (queue_at m p) (load_of (queue_at m s)) (offer (queue_at m s)) y e in
+    let some : Some y ≡ Some x = sym taking.offered_it ∙ t in
+    let same : y ≡ x = cc in
+    subst (λ (z : Contents). can_place (queue_at m p) (sleeper_of z) ≡ true) same taking.room
 
 -- the whole deed at a queue that the caller holds: the task that left is put down
 abbrev pub PutsDown : Plan → Counters → ℕ → Machine → Work → Deed → ℕ → (Option Contents → State → State) → Type 0
@@ -118,7 +125,15 @@ PutsDown plan counters p m w d k put =
 
 module _ {plan : Plan} {counters : Counters} {p : ℕ} {m : Machine} {w : Work} where
   pub at_attach : {o : Op} (d : Deed) → AtStep plan counters p m w o Attach → deed_of p o ≡ Some d → AtAttach plan counters p m w o d
-  at_attach d at is = grind arith
+  at_attach d at is =
+      let under : begun_by plan counters p ≡ Some (record { deed = d; done = false }) = begun_now at ∙ ap (begun false) is in
+      record {
+        at = at;
+        now = ap (λ (n : Option Step). under_way p n) at.fits.follows ∙ ap (begun true) is;
+        hand_is = at.seen.hands p ∙ ap (λ (u : Option UnderWay). hand_seen plan.homes m u) under;
+        answer_is = subst (λ (u : Option UnderWay). KeepsAnswer plan.homes m u (answer w p)) under (at.seen.answers p);
+        queues_are = λ c h. at.seen.held c p h ∙ ap (λ (u : Option UnderWay). queue_seen plan.homes m u c) under;
+      }
 
   -- the hand is empty
   empty_step : {o : Op} (d : Deed) → AtAttach plan counters p m w o d → leaves plan.homes m d ≡ None
@@ -180,7 +195,7 @@ module _ {plan : Plan} {counters : Counters} {p : ℕ} {m : Machine} {w : Work} 
       → leaves plan.homes m (deed.Pull p s) ≡ h → IfSome h (λ (x : Contents). can_place (queue_at w.machine p) (sleeper_of x) ≡ true)
   room_then s None a own apart e = tt
   room_then s (Some x) a own apart e =
-      let other : (p == s) ≡ false = grind (arith, nat_tests) in
+      let other : (p == s) ≡ false = ne_eqb p s (λ e. apart (sym e)) in
       let same : queue_at w.machine p ≡ queue_at m p =
       a.queues_are p own ∙ ap (λ b. cond b (after_leaving (leaves plan.homes m (deed.Pull p s)) (queue_at m p)) (queue_at m p)) other in
       subst (λ (q : State). can_place q (sleeper_of x) ≡ true) (sym same) (room_by m p s x (pull_decision m p s) refl e)

@@ -5,7 +5,7 @@ use Rattle.std.proofs.lemmas.List.{append-nil}
 use Rattle.std.specs.Prelude.{◌==◌, MatchOption, Option, Some, None, is_none}
 use Rattle.std.specs.Option.{option_to_list}
 use Rattle.eevdf_steps.specs.{Commits.committed, Working.FitsHand, Working.HasRoom, UnderWay.under_way, UnderWay.begun}
-use Rattle.eevdf_steps.specs.{declared.micro.Micro.Micro, declared.plan.Step.Step, Serial.IsFree, Serial.IsSerial}
+use Rattle.eevdf_steps.specs.{declared.micro.Micro.Micro, declared.plan.Step.Step, Serial.FollowsHistory, Serial.IsFree, Serial.IsSerial}
 use Rattle.eevdf_queue.specs.{State.State, Leaving.carried_running}
 use Rattle.eevdf_ops.specs.{declared.deeds.Op.Op, declared.deeds.Deed.Deed, declared.deeds.Answer.Answer, declared.deeds.Line.Line}
 use Rattle.eevdf_ops.specs.{Machine.Machine, Machine.queue_at, Whole.whole, Programs.deed_of, Programs.deeds_of}
@@ -68,12 +68,18 @@ module _ (plan : Plan) (start : Machine) (counters : Counters) (p : ℕ) (w : Wo
   Leaves w' more = IsSerial plan start (counted counters p) w' (lines ++ more)
 
   local_serial : (w' : Work) {o : Op} {micro : Micro} → Serial o micro → IsStepOf plan counters p told told w w' → Leaves w' []
-  local_serial w' s step = grind (arith, append-nil, followed_then, are_walking)
+  local_serial w' s step =
+      subst (IsSerial plan start (counted counters p) w') (sym (append-nil lines))
+      (record { history = s.serial.history; seen = followed_then s.serial.seen step (are_walking plan counters s.sound s.each) })
 
   -- a line is added
   line_serial : (w' : Work) (d : Deed) (a : Answer) {o : Op} {micro : Micro} → Serial o micro → IsStepOf plan counters p told (whole plan.homes d told).1 w w'
       → a ≡ (whole plan.homes d told).0 → Leaves w' (record { deed = d; answer = a } ∷ [])
-  line_serial w' d a s step e = grind (arith, history_more, machine_more, followed_then, are_walking)
+  line_serial w' d a s step e = record {
+    history = history_more plan.homes start lines d a s.serial.history e;
+    seen = subst (λ (m : Machine). FollowsHistory plan m (counted counters p) w') (sym (machine_more plan.homes start lines (record { deed = d; answer = a })))
+        (followed_then s.serial.seen step (are_walking plan counters s.sound s.each));
+  }
 
   -- the locks that the caller holds are those of the queues that its operation touches
   holds_covered : (o : Op) (v : Walk plan counters p) → Covers plan p o v.held → (c : ℕ) → holds plan counters c p ≡ touched plan p o c

@@ -16,7 +16,9 @@ use Rattle.eevdf_steps.proofs.{Lists.all_at, Plans.program_ops_sound, Positions.
 
 pub all_joined : {A : Type 0} (test : A → Bool) (xs ys : List A) → list_all test xs ≡ true → list_all test ys ≡ true → list_all test (xs ++ ys) ≡ true
 all_joined test [] ys h k = k
-all_joined test (x ∷ xs) ys h k = grind (arith, all_joined test xs ys)
+all_joined test (x ∷ xs) ys h k =
+    let parts = and_parts (test x) (list_all test xs) h in
+    and_from (test x) (list_all test (xs ++ ys)) parts.0 (all_joined test xs ys parts.1 k)
 
 locked : (plan : Plan) (cpu : ℕ) (ms : List Micro) → cpu < callers plan → list_all (is_sound_micro plan) ms ≡ true → list_all (is_sound_micro plan) (under_lock cpu ms) ≡ true
 locked plan cpu ms h all = grind (arith, common_steps)
