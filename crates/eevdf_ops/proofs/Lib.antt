@@ -21,3 +21,5 @@ pub mod PartsHistories
 pub mod MapValues
 pub mod QueueValues
 pub mod GivenTasks
+pub mod DeedsDone
+pub mod GrownLists

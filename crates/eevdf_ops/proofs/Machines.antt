@@ -1,5 +1,6 @@
 -- A list of queues and the machine that it is.
-use Rattle.std.proofs.Common.{Bool, true, ◌++◌, drop, drop-cons, add-one, append_assoc, ◌≡◌, ℕ, zero, suc, ◌+◌, ◌<◌, List, [], ◌∷◌, length, get_or, set, replicate, refl, sym, ap, ◌∙◌, arith}
+use Rattle.std.proofs.Common.{Bool, true, ◌++◌, drop, drop-cons, add-one, append_assoc, ◌≡◌, ℕ, zero, suc, ◌+◌, ◌<◌, ◌≤◌, List, [], ◌∷◌, length, get_or, set, replicate, refl, sym, ap, ◌∙◌, arith}
+use Rattle.std.proofs.lemmas.List.{append-nil, drop_all}
 use Rattle.std.proofs.{Math.ListN.length-set, Math.ListN.length-replicate, lemmas.Bool.and_parts}
 use Rattle.std.specs.List.{list_all}
 use Rattle.eevdf_ops.specs.{declared.deeds.Deed.Deed, declared.deeds.Answer.Answer, declared.deeds.Line.Line}
@@ -30,11 +31,16 @@ set_machine (x ∷ queues) (suc k) q = ap (λ (m : Machine). x.state ∷ m) (set
 pub machine_with : (queues : List View) (cpu k : ℕ) (q : View) (s : State) → k ≡ cpu → q.state ≡ s → machine_of (set queues k q) ≡ set (machine_of queues) cpu s
 machine_with queues cpu k q s at e = set_machine queues k q ∙ ap (λ (i : ℕ). set (machine_of queues) i q.state) at ∙ ap (λ (t : State). set (machine_of queues) cpu t) e
 
+-- what comes of a queue that is read comes of the one that stands in the machine
+pub of_queue : {X : Type 0} (queues : List View) (cpu k : ℕ) (read : View) (f : State → X) (x : X) → k ≡ cpu → cpu < length queues
+    → x ≡ f (get_or queues k read).state → x ≡ f (queue_at (machine_of queues) cpu)
+of_queue queues cpu k read f x at within e = e ∙ ap f (sym (queue_read queues cpu k read at (omega (arith, at, within))))
+
 -- a queue is read, and what comes of it is written back
 pub queue_written : (queues : List View) (cpu k : ℕ) (read written : View) (f : State → State) → k ≡ cpu → cpu < length queues
     → written.state ≡ f (get_or queues k read).state → machine_of (set queues k written) ≡ set (machine_of queues) cpu (f (queue_at (machine_of queues) cpu))
 queue_written queues cpu k read written f at within e =
-    machine_with queues cpu k written (f (queue_at (machine_of queues) cpu)) at (e ∙ ap f (sym (queue_read queues cpu k read at (omega (arith, at, within)))))
+    machine_with queues cpu k written (f (queue_at (machine_of queues) cpu)) at (of_queue queues cpu k read f written.state at within e)
 
 pub length-machine_of : (queues : List View) → length (machine_of queues) ≡ length queues
 length-machine_of [] = refl
@@ -70,6 +76,13 @@ lines_step homes homes' m m' ds i d answer lines lines' all h at eh em ea el inv
     ∙ append_assoc lines (line answer ∷ []) (lines_of homes (whole homes d m).1 (drop (i + 1) ds))
     ∙ ap (λ (a : Answer). lines ++ (line a ∷ lines_of homes (whole homes d m).1 (drop (i + 1) ds))) ea
     ∙ ap (λ (es : List Deed). lines ++ lines_of homes m es) (sym (drop_step ds i d h at)) ∙ inv
+
+-- no deed more
+pub lines_end : (homes : List ℕ) (m : Machine) (ds : List Deed) (i : ℕ) (lines all : List Line) → length ds ≤ i → lines ++ lines_of homes m (drop i ds) ≡ all → lines ≡ all
+lines_end homes m ds i lines all h e = sym (append-nil lines) ∙ ap (λ (es : List Deed). lines ++ lines_of homes m es) (sym (drop_all i ds h)) ∙ e
+
+pub machine_end : (homes : List ℕ) (m last : Machine) (ds : List Deed) (i : ℕ) → length ds ≤ i → machine_after homes m (drop i ds) ≡ last → m ≡ last
+machine_end homes m last ds i h e = ap (λ (es : List Deed). machine_after homes m es) (sym (drop_all i ds h)) ∙ e
 
 pub machine_step : (homes homes' : List ℕ) (m m' last : Machine) (ds : List Deed) (i : ℕ) (d : Deed) → i < length ds → d ≡ get_or ds i d → homes' ≡ homes → m' ≡ (whole homes d m).1
     → machine_after homes m (drop i ds) ≡ last → machine_after homes' m' (drop (i + 1) ds) ≡ last

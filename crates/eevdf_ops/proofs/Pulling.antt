@@ -1,7 +1,7 @@
 -- What a pull decides, and what it then does.
 use Rattle.std.proofs.Common.{◌≡◌, ◌≢◌, ℕ, ◌<◌, ◌≤◌, length, arith, Bool, true, false, cond, refl, sym, ap, subst, ◌∙◌}
 use Rattle.std.specs.Prelude.{is_some, Option, Some, None, Result, Ok, Err}
-use Rattle.std.specs.Option.{unwrap_or}
+use Rattle.std.specs.{Option.unwrap_or, FinMap.contains_key}
 use Rattle.eevdf_queue.specs.{declared.entry.Entry.Entry, State.State, State.Contents, Moves.sleeper_of, Moves.with_runnable}
 use Rattle.eevdf_queue.specs.{Candidate.is_running, Leaving.carried, Leaving.leave}
 use Rattle.eevdf_queue.specs.Placing.{can_place, put, placed_entry}
@@ -60,6 +60,29 @@ takes_by m cpu source task (Err why) at e = cc
 pub takes : (m : Machine) (cpu source task : ℕ) → task_of (pull_decision m cpu source) ≡ Ok task → Takes m cpu source task
 takes m cpu source task e = takes_by m cpu source task (pull_decision m cpu source) refl e
 
+-- what is taken is what the source offered
+taken-carried : (m : Machine) (cpu source : ℕ) (p : Contents) → pull_decision m cpu source ≡ Ok p → carried (queue_at m source) p.task ≡ Some p
+taken-carried m cpu source p e =
+    offer-carried (queue_at m source) p (decision-taken (queue_at m cpu) (load_of (queue_at m source)) (offer (queue_at m source)) p e).offered_it
+
+taken_contents : (m : Machine) (cpu source task : ℕ) (t : Takes m cpu source task) (p : Contents) → carried (queue_at m source) task ≡ Some p → t.contents ≡ p
+taken_contents m cpu source task t p e =
+    let same : Some t.contents ≡ Some p =
+    sym (taken-carried m cpu source t.contents t.decides) ∙ ap (carried (queue_at m source)) t.of_task ∙ e in
+    cc
+
+-- the decision is to take what is then carried
+pub takes-carried : (m : Machine) (cpu source task : ℕ) (t : Takes m cpu source task) (p : Contents) → carried (queue_at m source) task ≡ Some p → pull_decision m cpu source ≡ Ok p
+takes-carried m cpu source task t p e = t.decides ∙ ap (λ (r : Contents). Ok r) (taken_contents m cpu source task t p e)
+
+pub takes-task : (m : Machine) (cpu source task : ℕ) (t : Takes m cpu source task) (p : Contents) → carried (queue_at m source) task ≡ Some p → task ≡ p.task
+takes-task m cpu source task t p e = sym t.of_task ∙ ap (λ (r : Contents). r.task) (taken_contents m cpu source task t p e)
+
+pub takes-here : (m : Machine) (cpu source task : ℕ) → Takes m cpu source task → contains_key (queue_at m source).runnable task ≡ true
+takes-here m cpu source task t =
+    ap (contains_key (queue_at m source).runnable) (sym t.of_task)
+    ∙ ap is_some (carried-carries (queue_at m source) t.contents.task t.contents (taken-carried m cpu source t.contents t.decides)).here
+
 takes-offer : (m : Machine) (cpu source task : ℕ) (t : Takes m cpu source task) → offer (queue_at m source) ≡ Some t.contents
 takes-offer m cpu source task t = (decision-taken (queue_at m cpu) (load_of (queue_at m source)) (offer (queue_at m source)) t.contents t.decides).offered_it
 
@@ -67,11 +90,6 @@ takes-offer m cpu source task t = (decision-taken (queue_at m cpu) (load_of (que
 pub takes-waiting : (m : Machine) (cpu source task : ℕ) → Takes m cpu source task → is_running (queue_at m source).running task ≡ false
 takes-waiting m cpu source task t =
     ap (is_running (queue_at m source).running) (sym t.of_task) ∙ offer-waits (queue_at m source) t.contents (takes-offer m cpu source task t)
-
--- what is taken is what the source offered
-taken-carried : (m : Machine) (cpu source : ℕ) (p : Contents) → pull_decision m cpu source ≡ Ok p → carried (queue_at m source) p.task ≡ Some p
-taken-carried m cpu source p e =
-    offer-carried (queue_at m source) p (decision-taken (queue_at m cpu) (load_of (queue_at m source)) (offer (queue_at m source)) p e).offered_it
 
 pub taken-nowhere : (m left : Machine) (cpu source : ℕ) (p : Contents) → cpu < length m → source < length m → places m p.task ≤ 1 → pull_decision m cpu source ≡ Ok p → left ≡ task_leaves m source p.task
     → places_in (queue_at left cpu) p.task ≡ 0

@@ -1,5 +1,5 @@
-use Rattle.std.proofs.Common.{arith}
-use Rattle.eevdf_ops.specs.Outcome.{machine_of}
+use Rattle.std.proofs.Common.{sym, ap, ◌∙◌, arith}
+use Rattle.eevdf_ops.specs.{Outcome.machine_of, WholePull.decided_leaves}
 use Rattle.eevdf_ops.proofs.{Machines.length-machine_of, Pulling.taken-nowhere, Pulling.taken-room}
 use Rattle.eevdf_ops.proofs.whole_pull.pull.Goals as goal
 
@@ -7,8 +7,10 @@ pub join-requires-clause-nowhere : goal.join-requires-clause-nowhere
 join-requires-clause-nowhere c =
     taken-nowhere (machine_of c.args.queues.now) (machine_of c.take_pulled.new.queues) c.args.cpu c.args.source c.in-Ok.parcel
     (omega (arith, c.requires.cpu, length-machine_of c.args.queues.now)) (omega (arith, c.requires.source, length-machine_of c.args.queues.now))
-    (c.requires.once c.in-Ok.parcel.task) (cc) (cc)
+    (c.requires.once c.in-Ok.parcel.task) (sym c.take_pulled.ensures.decision ∙ c.in-Ok.is)
+    (c.take_pulled.ensures.machine ∙ ap (decided_leaves (machine_of c.args.queues.now) c.args.source) c.in-Ok.is)
 
 pub join-requires-clause-room : goal.join-requires-clause-room
 join-requires-clause-room c =
-    taken-room (machine_of c.args.queues.now) (machine_of c.take_pulled.new.queues) c.args.cpu c.args.source c.in-Ok.parcel c.requires.apart (cc) (cc)
+    taken-room (machine_of c.args.queues.now) (machine_of c.take_pulled.new.queues) c.args.cpu c.args.source c.in-Ok.parcel c.requires.apart
+    (sym c.take_pulled.ensures.decision ∙ c.in-Ok.is) (c.take_pulled.ensures.machine ∙ ap (decided_leaves (machine_of c.args.queues.now) c.args.source) c.in-Ok.is)
