@@ -29,15 +29,18 @@ impl fmt::Display for Deed {
     ghost output = { λ deed. Some (numbered_deed_text deed) };
 
     fn fmt<W: fmt::Write>(&self, f: &mut fmt::Formatter<W>) -> fmt::Result {
-        match self {
-            Deed::Tick { cpu, ns } => write!(f, "{cpu} tick {ns}"),
-            Deed::Pick { cpu } => write!(f, "{cpu} pick"),
-            Deed::Yield { cpu } => write!(f, "{cpu} yield"),
-            Deed::Sleep { cpu, task } => write!(f, "{cpu} sleep {task}"),
-            Deed::Wake { cpu, task, sender } => write!(f, "{cpu} wake {task} from {sender}"),
-            Deed::Pull { cpu, source } => write!(f, "{cpu} pull {source}"),
-            Deed::Renice { cpu, task, nice } => write!(f, "{cpu} renice {task} {nice}"),
-        }
+        let (cpu, operation) = match *self {
+            Deed::Wake { cpu, task, sender } => {
+                return write!(f, "{cpu} wake {task} from {sender}");
+            }
+            Deed::Tick { cpu, ns } => (cpu, Op::Tick(ns)),
+            Deed::Pick { cpu } => (cpu, Op::Pick),
+            Deed::Yield { cpu } => (cpu, Op::Yield),
+            Deed::Sleep { cpu, task } => (cpu, Op::Sleep(task)),
+            Deed::Pull { cpu, source } => (cpu, Op::Pull(source)),
+            Deed::Renice { cpu, task, nice } => (cpu, Op::Renice(task, nice)),
+        };
+        write!(f, "{cpu} {operation}")
     }
 }
 
