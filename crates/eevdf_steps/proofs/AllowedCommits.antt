@@ -53,7 +53,8 @@ found_next : (plan : Plan) (found : List (Option ℕ)) (x : ℕ) (r : Option ℕ
 found_next plan found x r own new c = grind (arith, common_steps)
 
 takes_own : (plan : Plan) (g : Progress) (x s : ℕ) (r : Option ℕ) → FindTheirOwn plan g → IsForHome plan x r → FindTheirOwn plan (takes plan g x s r)
-takes_own plan g x s r own new = found_next plan g.found x r own new
+takes_own plan g x s None own new = found_next plan g.found x None own new
+takes_own plan g x s (Some task) own new = found_next plan g.found x (Some task) own new
 
 requested_own : (plan : Plan) (g : Progress) (x : ℕ) (m : Micro) → IsSound plan → is_sound_micro plan m ≡ true → FindTheirOwn plan g → FindTheirOwn plan (requested plan g x m)
 requested_own plan g x (Take s) sound well own =
