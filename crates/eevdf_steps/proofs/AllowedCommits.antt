@@ -1,19 +1,19 @@
 -- Every order of a sound plan commits only deeds that are allowed.
-use Rattle.std.proofs.Common.{◌≡◌, ℕ, ◌<◌, Bool, true, List, [], ◌∷◌, get_or, set, take, sym, subst, refl, arith}
+use Rattle.std.proofs.Common.{◌≡◌, ℕ, zero, suc, ◌<◌, Bool, true, false, cond, List, [], ◌∷◌, length, get_or, set, take, inl, inr, sym, subst, refl}
 use Rattle.std.proofs.lemmas.{List.Elements.All-take, List.Sums.AllPass-from_list_all, List.Sums.list_all-from_AllPass}
-use Rattle.std.proofs.lemmas.{Grind.common_steps, Bool.and_from, Bool.and_parts, Bool.lt-ltb, Bool.ltb-true}
+use Rattle.std.proofs.lemmas.{List.get_or-set_other, Bool.and_from, Bool.and_parts, Bool.cases_eq, Bool.lt-ltb, Bool.ltb-true}
 use Rattle.std.specs.{List.list_all, Option.option_to_list}
-use Rattle.std.specs.Prelude.{nat_lt, slice_get, IfSome, Option, Some, None}
+use Rattle.std.specs.Prelude.{◌==◌, nat_lt, slice_get, IfSome, Option, Some, None}
 use Rattle.eevdf_ops.specs.{declared.deeds.Op.Op, declared.deeds.Deed.Deed}
 use Rattle.eevdf_ops.specs.declared.deeds.Op.TheVariants as op
 use Rattle.eevdf_ops.specs.Programs.{deed_of}
 use Rattle.eevdf_ops.specs.Setup.{Setup, allows, is_allowed, is_at_home}
 use Rattle.eevdf_steps.specs.{declared.micro.Micro.Micro, declared.plan.Step.Step, MicroSteps.steps_by, SoundSteps.is_sound_micro}
 use Rattle.eevdf_steps.specs.{SoundSteps.is_sound_step, declared.micro.Micro.TheVariants.Take}
-use Rattle.eevdf_steps.specs.declared.micro.Micro.TheVariants.{Commit, Settle}
+use Rattle.eevdf_steps.specs.declared.micro.Micro.TheVariants.{Commit, Settle, Post}
 use Rattle.eevdf_steps.specs.Counters.{count_of, done_by, step_next}
-use Rattle.eevdf_steps.specs.Plan.{IsSound, Plan, callers, is_sound_op, plan_of, pulls_elsewhere}
-use Rattle.eevdf_steps.specs.Requests.{Progress, found_by, oldest, posted, posts_to, progress_at_start, progress_by, progress_step, requested, taken_of, takes}
+use Rattle.eevdf_steps.specs.Plan.{IsSound, Plan, callers, home, is_sound_op, plan_of, pulls_elsewhere}
+use Rattle.eevdf_steps.specs.Requests.{Progress, found_by, oldest, post_to, posted, posts_to, progress_at_start, progress_by, progress_step, requested, taken_of, takes}
 use Rattle.eevdf_steps.specs.Commits.{commits, committed, committed_by, deeds_committed}
 use Rattle.eevdf_steps.proofs.{Holders.none_first, SoundDeeds.next_pulls_elsewhere}
 use Rattle.eevdf_steps.proofs.SoundSteps.{all_joined, all_steps_sound, is_caller, some_all, step_sound}
@@ -30,9 +30,21 @@ some_passes test xs k (Some x) all e = some_all test xs k x all e
 abbrev IsForHome : Plan → ℕ → Option ℕ → Type 0
 IsForHome plan c r = IfSome r (λ (task : ℕ). is_at_home plan.homes task c ≡ true)
 
+post_is_for_home : (plan : Plan) (c t : ℕ) (b : Bool) → (home plan t == c) ≡ b → nat_lt t (length plan.homes) ≡ true
+    → list_all (λ (k : ℕ). is_at_home plan.homes k c) (cond b (t ∷ []) []) ≡ true
+post_is_for_home plan c t true at there = and_from _ true (and_from _ _ there at) refl
+post_is_for_home plan c t false at there = refl
+
+micro_posts : (plan : Plan) (c : ℕ) (m : Micro) → is_sound_micro plan m ≡ true → list_all (λ (t : ℕ). is_at_home plan.homes t c) (post_to plan c m) ≡ true
+micro_posts plan c (Post t) sound = post_is_for_home plan c t (home plan t == c) refl sound
+micro_posts plan c _ sound = refl
+
 posts_are_for_home : (plan : Plan) (c : ℕ) (ss : List Step) → list_all (is_sound_step plan) ss ≡ true → list_all (λ (t : ℕ). is_at_home plan.homes t c) (posts_to plan c ss) ≡ true
 posts_are_for_home plan c [] all = refl
-posts_are_for_home plan c (s ∷ ss) all = grind (arith, posts_are_for_home plan c ss)
+posts_are_for_home plan c (s ∷ ss) all =
+    let parts = and_parts (is_sound_step plan s) (list_all (is_sound_step plan) ss) all in
+    let micro = (and_parts (is_sound_op plan s.op) (is_sound_micro plan s.micro) parts.0).1 in
+    all_joined (λ (t : ℕ). is_at_home plan.homes t c) (post_to plan c s.micro) (posts_to plan c ss) (micro_posts plan c s.micro micro) (posts_are_for_home plan c ss parts.1)
 
 oldest_is_for_home : (plan : Plan) (g : Progress) (q c : ℕ) → IsSound plan → q < callers plan → IsForHome plan c (oldest plan g q c)
 oldest_is_for_home plan g q c sound h =
@@ -47,10 +59,19 @@ FindTheirOwn plan g = (c : ℕ) → IsForHome plan c (found_by g c)
 found_first : (plan : Plan) → FindTheirOwn plan (progress_at_start plan)
 found_first plan c = subst (λ (r : Option ℕ). IsForHome plan c r) (sym (none_first (callers plan) c)) tt
 
+found_now : (P : Option ℕ → Type 0) (found : List (Option ℕ)) (x : ℕ) (r : Option ℕ) → P None → P r → P (get_or (set found x r) x None)
+found_now P [] x r none new = none
+found_now P (f ∷ fs) zero r none new = new
+found_now P (f ∷ fs) (suc x) r none new = found_now P fs x r none new
+
 -- a caller finds something, or nothing
 found_next : (plan : Plan) (found : List (Option ℕ)) (x : ℕ) (r : Option ℕ) → ((c : ℕ) → IsForHome plan c (get_or found c None)) → IsForHome plan x r
     → (c : ℕ) → IsForHome plan c (get_or (set found x r) c None)
-found_next plan found x r own new c = grind (arith, common_steps)
+found_next plan found x r own new c =
+    elim (cases_eq c x) [
+      | inl same ↦ subst (λ (k : ℕ). IsForHome plan k (get_or (set found x r) k None)) (sym same) (found_now (IsForHome plan x) found x r tt new)
+      | inr apart ↦ subst (IsForHome plan c) (sym (get_or-set_other found x c r None apart)) (own c)
+    ]
 
 takes_own : (plan : Plan) (g : Progress) (x s : ℕ) (r : Option ℕ) → FindTheirOwn plan g → IsForHome plan x r → FindTheirOwn plan (takes plan g x s r)
 takes_own plan g x s None own new = found_next plan g.found x None own new
