@@ -1,5 +1,7 @@
 pub mod ReadingWords
 mod ReadingLists
+mod ReadingVerbs
+mod ReadingWorkloads
 mod ReadingDocuments
 pub mod ReadingLevels
 pub mod InputLimit

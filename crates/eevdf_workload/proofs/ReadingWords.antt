@@ -172,6 +172,25 @@ words_whole text none = whole text (grind (arith, nat_tests))
           | inr other ↦ rw (other, whole bs (omega (arith, rw other at h)))
         ]
 
+-- a byte that is no space leaves the words behind the first as they are
+behind_digit : (c : ℕ) (text : List ℕ) → eqb c 32 ≡ false → drop 1 (words (c ∷ text)) ≡ drop 1 (words text)
+behind_digit c text h = rw h (go (words text))
+  where
+    go : (ws : List (List ℕ)) → drop 1 (onto_first c ws) ≡ drop 1 ws
+    go [] = refl
+    go (w ∷ ws) = refl
+
+-- one digit more is read
+pub digit_more : (n m : ℕ) (text left : List ℕ) → number_on 0 (words text) ≡ number_on n (words left) → drop 1 (words text) ≡ drop 1 (words left) → 1 ≤ length left → 48 ≤ get_or left 0 0 → get_or left 0 0 < 58
+    → m + 48 ≡ n * 10 + get_or left 0 0 → (number_on 0 (words text) ≡ number_on m (words (take (length left - 1) (drop 1 left)))) × (drop 1 (words text) ≡ drop 1 (words (take (length left - 1) (drop 1 left))))
+digit_more n m text [] so behind some h k is = absurd (omega arith)
+digit_more n m text (c ∷ cs) so behind some h k is =
+    let digit : is_ascii_digit c ≡ true = grind (arith, nat_tests) in
+    let value : digit_value c + 48 ≡ c = grind (arith, nat_tests) in
+    let space : eqb c 32 ≡ false = digit_is_no_space c digit in
+    rw (take_rest (c ∷ cs) 1)
+    (so ∙ number_on-digit n c cs space digit ∙ ap (λ (x : ℕ). number_on x (words cs)) (omega (arith, value)), behind ∙ behind_digit c cs space)
+
 -- further digits may be too many
 pub overflow : (n : ℕ) (text left : List ℕ) → number_on 0 (words text) ≡ number_on n (words left) → 1 ≤ length left → 48 ≤ get_or left 0 0 → get_or left 0 0 < 58 → 2 ^ 64 + 48 ≤ n * 10 + get_or left 0 0 → number_on 0 (words text) ≡ None
 overflow n text [] so some h k over = absurd (omega arith)
