@@ -23,26 +23,16 @@ module _ (limits : Limits) (document : Members) where
   unfolding workload_in
   tasks_fault e h = ⊎_elim inl (λ f. inr (failed _ _ e f)) h
 
-  module _ (specs : List TaskSpec) (has_specs : tasks limits document ≡ Ok specs) where
-    pub programs_fault : (e : LoadFault) → (e ≡ Memory) ⊎ (programs limits document ≡ Err e) → IsFault e
+  module _ (specs : List TaskSpec) (has_specs : tasks limits document ≡ Ok specs) (operations : List (List Op)) (has_operations : programs limits document ≡ Ok operations) where
+    pub order_fault : (e : LoadFault) → (e ≡ Memory) ⊎ (order document ≡ Err e) → IsFault e
     unfolding workload_in
-    programs_fault e h = ⊎_elim inl (λ f. inr (found _ _ specs _ has_specs (failed _ _ e f))) h
+    order_fault e h = ⊎_elim inl (λ f. inr (found _ _ specs _ has_specs (found _ _ operations _ has_operations (failed _ _ e f)))) h
 
-    module _ (operations : List (List Op)) (has_operations : programs limits document ≡ Ok operations) where
-      pub order_fault : (e : LoadFault) → (e ≡ Memory) ⊎ (order document ≡ Err e) → IsFault e
-      unfolding workload_in
-      order_fault e h = ⊎_elim inl (λ f. inr (found _ _ specs _ has_specs (found _ _ operations _ has_operations (failed _ _ e f)))) h
-
-      module _ (callers : Option (List ℕ)) (has_callers : order document ≡ Ok callers) where
-        pub script_fault : (e : LoadFault) → (e ≡ Memory) ⊎ (script limits document ≡ Err e) → IsFault e
-        unfolding workload_in
-        script_fault e h = ⊎_elim inl (λ f. inr (found _ _ specs _ has_specs (found _ _ operations _ has_operations (found _ _ callers _ has_callers (failed _ _ e f))))) h
-
-        pub whole : (deeds : Option (List Deed)) (setup : Setup) → script limits document ≡ Ok deeds → setup_of limits specs operations ≡ Ok setup → allowed setup deeds ≡ Ok tt
-            → workload_in limits document ≡ Ok (record { setup = setup; order = callers; script = deeds })
-        unfolding workload_in
-        whole deeds setup has_deeds has_setup all =
-            found _ _ specs _ has_specs
-            (found _ _ operations _ has_operations
-            (found _ _ callers _ has_callers
-            (found _ _ deeds _ has_deeds (found _ _ setup _ has_setup (found _ _ tt _ all refl)))))
+    pub whole : (callers : Option (List ℕ)) (deeds : Option (List Deed)) (setup : Setup) → order document ≡ Ok callers → script limits document ≡ Ok deeds → setup_of limits specs operations ≡ Ok setup → allowed setup deeds ≡ Ok tt
+        → workload_in limits document ≡ Ok (record { setup = setup; order = callers; script = deeds })
+    unfolding workload_in
+    whole callers deeds setup has_callers has_deeds has_setup all =
+        found _ _ specs _ has_specs
+        (found _ _ operations _ has_operations
+        (found _ _ callers _ has_callers
+        (found _ _ deeds _ has_deeds (found _ _ setup _ has_setup (found _ _ tt _ all refl)))))
