@@ -1,4 +1,4 @@
-use Rattle.std.proofs.Common.{◌≡◌, ◌∙◌, Bool, None, cond, option_map, sym, ap}
+use Rattle.std.proofs.Common.{◌∙◌, Bool, None, cond, option_map, sym, ap}
 use Rattle.eevdf_ops.specs.declared.deeds.Op.TheVariants as op
 use Rattle.eevdf_workload.specs.declared.reading.verb_text.Verb.TheVariants as verb
 use Rattle.eevdf_workload.specs.Words.{renice_of}
