@@ -36,7 +36,7 @@ from crate_copies import (  # noqa: E402
 )
 
 # How many wrong bodies one check tries at most; a few more where one function has many.
-MOST = 22
+MOST = 40
 # The memory that must be free, in bytes, for a check to be begun beside another.
 MEMORY = 5 << 30
 # What is kept in a crate's folder of what was proved of it here.
