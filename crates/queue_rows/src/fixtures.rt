@@ -4,20 +4,19 @@ use eevdf_queue::{Parcel, Queue, TaskId};
 use eevdf_weight::{Nice, Ns, Slice};
 use std::alloc::Global;
 use std::process::Abort;
-use std::test::Fail;
 
-pub fn task(number: u64) -> Result<TaskId, Fail> {
-    Ok(TaskId::new(number).ok_or("task")?)
+pub fn task(rt: &impl Abort, number: u64) -> TaskId {
+    TaskId::new(number).expect(rt, "task")
 }
 
-pub fn ns(number: u64) -> Result<Ns, Fail> {
-    Ok(Ns::new(number).ok_or("ns")?)
+pub fn ns(rt: &impl Abort, number: u64) -> Ns {
+    Ns::new(number).expect(rt, "ns")
 }
 
 /// A task of nice level 0 that starts at the virtual runtime `v`.
-pub fn parcel(alloc: Global, number: u64, slice_ns: u64, v: i64) -> Result<Parcel, Fail> {
-    let slice = Slice::new(slice_ns).ok_or("slice")?;
-    Ok(Parcel::make(alloc, task(number)?, Nice::default(), slice, v)?)
+pub fn parcel(rt: &impl Abort, alloc: Global, number: u64, slice_ns: u64, v: i64) -> Parcel {
+    let slice = Slice::new(slice_ns).expect(rt, "slice");
+    Parcel::make(alloc, task(rt, number), Nice::default(), slice, v).expect(rt, "memory")
 }
 
 /// Makes a task that isn't in the queue runnable there.

@@ -5,7 +5,6 @@ use eevdf_queue::{Queue, TickAnswer, WakeAnswer, YieldAnswer};
 use eevdf_weight::{Nice, Slice};
 use std::alloc::Global;
 use std::process::Abort;
-use std::test::Fail;
 
 /// Where a task is to stand in a queue.
 #[derive(Clone, Copy)]
@@ -16,50 +15,47 @@ struct Place {
 }
 
 /// Asks that a task is runnable, and stands at this place.
-fn stands_at(rt: &impl Abort, queue: &Queue, number: u64, place: &Place) -> Result<(), Fail> {
-    let task = task(number)?;
-    let entry = queue.entry(task).ok_or("not runnable")?;
+fn stands_at(rt: &impl Abort, queue: &Queue, number: u64, place: &Place) {
+    let task = task(rt, number);
+    let entry = queue.entry(task).expect(rt, "not runnable");
     assert_eq!(rt; entry.v, place.v);
     assert_eq!(rt; entry.d, place.d);
     assert_eq!(rt; queue.lag_of(task), Some(place.lag));
-    Ok(())
 }
 
 /// Puts a task to sleep in an empty queue.
-fn sleeps(rt: &impl Abort, alloc: Global, queue: &mut Queue) -> Result<(), Fail> {
-    let sleeper = parcel(alloc, 7, 3_000_000, 5)?;
+fn sleeps(rt: &impl Abort, alloc: Global, queue: &mut Queue) {
+    let sleeper = parcel(rt, alloc, 7, 3_000_000, 5);
     assert_eq!(rt; sleeper.start(), 5);
     assert_eq!(rt; sleeper.lag(), 0);
     assert_eq!(rt; Some(sleeper.nice()), Nice::new(0));
     assert_eq!(rt; Some(sleeper.slice()), Slice::new(3_000_000));
     put_asleep(rt, queue, sleeper);
-    assert!(rt; queue.asleep(task(7)?));
-    assert_eq!(rt; queue.lag_of(task(7)?), Some(0));
-    assert_eq!(rt; queue.lag_of(task(8)?), None);
+    assert!(rt; queue.asleep(task(rt, 7)));
+    assert_eq!(rt; queue.lag_of(task(rt, 7)), Some(0));
+    assert_eq!(rt; queue.lag_of(task(rt, 8)), None);
     assert_eq!(rt; queue.pick(), None);
     assert_eq!(rt; queue.floor_time(), 0);
-    Ok(())
 }
 
 /// Makes an empty queue one of two tasks of equal weight, of which the first runs and has been charged for a million
 /// nanoseconds.
-fn charge_first_of_two(rt: &impl Abort, alloc: Global, queue: &mut Queue) -> Result<(), Fail> {
-    admit(rt, queue, parcel(alloc, 0, 3_000_000, 0)?);
-    admit(rt, queue, parcel(alloc, 1, 3_000_000, 0)?);
-    let first = task(0)?;
+fn charge_first_of_two(rt: &impl Abort, alloc: Global, queue: &mut Queue) {
+    admit(rt, queue, parcel(rt, alloc, 0, 3_000_000, 0));
+    admit(rt, queue, parcel(rt, alloc, 1, 3_000_000, 0));
+    let first = task(rt, 0);
     assert_eq!(rt; queue.pick(), Some(first));
     let charged = TickAnswer::Charged {
         task: first,
         resched: false,
     };
-    assert_eq!(rt; queue.tick(ns(1_000_000)?), charged);
-    Ok(())
+    assert_eq!(rt; queue.tick(ns(rt, 1_000_000)), charged);
 }
 
 /// Takes the waiting one of two tasks out and puts it back, and then the running one yields.
-fn leaves_and_joins(rt: &impl Abort, alloc: Global, queue: &mut Queue) -> Result<(), Fail> {
-    charge_first_of_two(rt, alloc, queue)?;
-    let waiting = queue.candidate().ok_or("nobody waits")?;
+fn leaves_and_joins(rt: &impl Abort, alloc: Global, queue: &mut Queue) {
+    charge_first_of_two(rt, alloc, queue);
+    let waiting = queue.candidate().expect(rt, "nobody waits");
     let pulled = queue.detach(waiting);
     assert_eq!(rt; pulled.task().get(), 1);
     assert_eq!(rt; pulled.lag(), 500_000);
@@ -70,7 +66,7 @@ fn leaves_and_joins(rt: &impl Abort, alloc: Global, queue: &mut Queue) -> Result
         d: 3_000_000,
         lag: 500_000,
     };
-    stands_at(rt, queue, 1, &joined)?;
+    stands_at(rt, queue, 1, &joined);
     assert_eq!(rt; queue.yield_now(), YieldAnswer::Yielded);
     let yielded = Place {
         v: 1_000_000,
@@ -81,14 +77,14 @@ fn leaves_and_joins(rt: &impl Abort, alloc: Global, queue: &mut Queue) -> Result
 }
 
 /// Puts the running one of two tasks to sleep, and wakes it.
-fn sleeps_and_wakes(rt: &impl Abort, alloc: Global, queue: &mut Queue) -> Result<(), Fail> {
-    charge_first_of_two(rt, alloc, queue)?;
-    let sleeper = queue.detach_running(task(0)?).ok_or("not running")?;
+fn sleeps_and_wakes(rt: &impl Abort, alloc: Global, queue: &mut Queue) {
+    charge_first_of_two(rt, alloc, queue);
+    let sleeper = queue.detach_running(task(rt, 0)).expect(rt, "not running");
     assert_eq!(rt; queue.yield_now(), YieldAnswer::Idle);
     put_asleep(rt, queue, sleeper);
-    assert_eq!(rt; queue.lag_of(task(0)?), Some(-500_000));
-    assert_eq!(rt; queue.wake(task(0)?), WakeAnswer::Woken);
-    assert_eq!(rt; queue.wake(task(0)?), WakeAnswer::Awake);
+    assert_eq!(rt; queue.lag_of(task(rt, 0)), Some(-500_000));
+    assert_eq!(rt; queue.wake(task(rt, 0)), WakeAnswer::Woken);
+    assert_eq!(rt; queue.wake(task(rt, 0)), WakeAnswer::Awake);
     let woken = Place {
         v: 1_000_000,
         d: 4_000_000,
@@ -105,7 +101,7 @@ enum Story {
     SleepAndWake,
 }
 
-fn tell(rt: &impl Abort, alloc: Global, queue: &mut Queue, story: Story) -> Result<(), Fail> {
+fn tell(rt: &impl Abort, alloc: Global, queue: &mut Queue, story: Story) {
     match story {
         Story::Sleeper => sleeps(rt, alloc, queue),
         Story::LeaveAndJoin => leaves_and_joins(rt, alloc, queue),
@@ -114,10 +110,9 @@ fn tell(rt: &impl Abort, alloc: Global, queue: &mut Queue, story: Story) -> Resu
 }
 
 #[test]
-fn a_queue_comes_to_what_is_worked_out(rt: HostRuntime) -> Result<(), Fail> {
+fn a_queue_comes_to_what_is_worked_out(rt: HostRuntime) {
     for story in [Story::Sleeper, Story::LeaveAndJoin, Story::SleepAndWake] {
         let mut queue = Queue::open();
-        tell(&rt, rt.alloc(), &mut queue, story)?;
+        tell(&rt, rt.alloc(), &mut queue, story);
     }
-    Ok(())
 }

@@ -7,7 +7,6 @@ use crate::fixtures::{admit, ns, parcel, put_asleep, task};
 use eevdf_queue::{Parcel, Queue, TickAnswer, WakeAnswer};
 use std::alloc::Global;
 use std::process::Abort;
-use std::test::Fail;
 
 /// So many tasks there may be.
 const TASKS: u64 = 1024;
@@ -41,85 +40,76 @@ impl Arrival {
 }
 
 /// The task of this number, which starts at 0. Its weight is 1024, so its deadline is its slice.
-fn numbered(alloc: Global, number: u64) -> Result<Parcel, Fail> {
-    let slice = 100_000 + 1000 * task(number)?.get();
-    parcel(alloc, number, slice, 0)
+fn numbered(rt: &impl Abort, alloc: Global, number: u64) -> Parcel {
+    let slice = 100_000 + 1000 * task(rt, number).get();
+    parcel(rt, alloc, number, slice, 0)
 }
 
 /// Asks that this task is picked after few turns, and takes it out.
-fn takes_next(rt: &impl Abort, queue: &mut Queue, number: u64) -> Result<(), Fail> {
-    let task = queue.pick().ok_or("empty")?;
+fn takes_next(rt: &impl Abort, queue: &mut Queue, number: u64) {
+    let task = queue.pick().expect(rt, "empty");
     assert_eq!(rt; task.get(), number);
     assert!(rt; queue.pick_steps() <= 21);
-    let parcel = queue.detach_running(task).ok_or("not running")?;
+    let parcel = queue.detach_running(task).expect(rt, "not running");
     assert!(rt; parcel.task() == task);
     parcel.retire();
-    Ok(())
 }
 
 /// Asks that this task is picked, and once more, before which nothing changes. Gives the turns, which a second pick leaves.
-fn picks_twice(rt: &impl Abort, queue: &mut Queue, number: u64) -> Result<u32, Fail> {
-    let task = Some(task(number)?);
+fn picks_twice(rt: &impl Abort, queue: &mut Queue, number: u64) -> u32 {
+    let task = Some(task(rt, number));
     assert_eq!(rt; queue.pick(), task);
     let turns = queue.pick_steps();
     assert_eq!(rt; queue.pick(), task);
     assert_eq!(rt; queue.pick_steps(), turns);
-    Ok(turns)
+    turns
 }
 
 /// Asks that the picks of all tasks come in ascending number, when each picked task is taken out.
-fn empties_in_order(rt: &impl Abort, queue: &mut Queue) -> Result<(), Fail> {
+fn empties_in_order(rt: &impl Abort, queue: &mut Queue) {
     assert_eq!(rt; queue.len() as u64, TASKS);
-    assert_eq!(rt; queue.candidate(), Some(task(1023)?));
-    assert!(rt; picks_twice(rt, queue, 0)? >= 6);
+    assert_eq!(rt; queue.candidate(), Some(task(rt, 1023)));
+    assert!(rt; picks_twice(rt, queue, 0) >= 6);
     for number in 0..TASKS {
-        takes_next(rt, queue, number)?;
+        takes_next(rt, queue, number);
     }
     assert_eq!(rt; queue.pick(), None);
     assert_eq!(rt; queue.pick_steps(), 0);
-    Ok(())
 }
 
 /// One task is picked in one turn.
-fn picks_one(rt: &impl Abort, alloc: Global, queue: &mut Queue) -> Result<(), Fail> {
-    admit(rt, queue, numbered(alloc, 7)?);
-    assert_eq!(rt; queue.candidate(), Some(task(7)?));
-    assert_eq!(rt; queue.pick(), Some(task(7)?));
+fn picks_one(rt: &impl Abort, alloc: Global, queue: &mut Queue) {
+    admit(rt, queue, numbered(rt, alloc, 7));
+    assert_eq!(rt; queue.candidate(), Some(task(rt, 7)));
+    assert_eq!(rt; queue.pick(), Some(task(rt, 7)));
     assert_eq!(rt; queue.pick_steps(), 1);
     assert_eq!(rt; queue.candidate(), None);
-    Ok(())
 }
 
 /// The pick of three tasks stands on the right of the root, since of the first two neither is eligible: a turn to the root, and
 /// one to the right.
-fn picks_to_the_right(rt: &impl Abort, alloc: Global, queue: &mut Queue) -> Result<(), Fail> {
-    admit(rt, queue, parcel(alloc, 0, 100_000, 10)?);
-    admit(rt, queue, parcel(alloc, 1, 200_000, 10)?);
-    admit(rt, queue, parcel(alloc, 2, 300_000, 0)?);
-    assert_eq!(rt; picks_twice(rt, queue, 2)?, 2);
-    Ok(())
+fn picks_to_the_right(rt: &impl Abort, alloc: Global, queue: &mut Queue) {
+    admit(rt, queue, parcel(rt, alloc, 0, 100_000, 10));
+    admit(rt, queue, parcel(rt, alloc, 1, 200_000, 10));
+    admit(rt, queue, parcel(rt, alloc, 2, 300_000, 0));
+    assert_eq!(rt; picks_twice(rt, queue, 2), 2);
 }
 
 /// Makes all tasks runnable in an empty queue, in the order in which they come, and takes them out by their deadlines.
-fn fills_and_empties(
-    rt: &impl Abort,
-    alloc: Global,
-    queue: &mut Queue,
-    arrival: Arrival,
-) -> Result<(), Fail> {
+fn fills_and_empties(rt: &impl Abort, alloc: Global, queue: &mut Queue, arrival: Arrival) {
     for place in 0..TASKS {
-        admit(rt, queue, numbered(alloc, arrival.number_at(place))?);
+        admit(rt, queue, numbered(rt, alloc, arrival.number_at(place)));
     }
     empties_in_order(rt, queue)
 }
 
 /// Puts all tasks to sleep in an empty queue, wakes them, the greatest number first, and takes them out by their deadlines.
-fn sleep_and_wake(rt: &impl Abort, alloc: Global, queue: &mut Queue) -> Result<(), Fail> {
+fn sleep_and_wake(rt: &impl Abort, alloc: Global, queue: &mut Queue) {
     for number in 0..TASKS {
-        put_asleep(rt, queue, numbered(alloc, number)?);
+        put_asleep(rt, queue, numbered(rt, alloc, number));
     }
     for place in 0..TASKS {
-        let task = task(Arrival::Descending.number_at(place))?;
+        let task = task(rt, Arrival::Descending.number_at(place));
         assert_eq!(rt; queue.lag_of(task), Some(0));
         assert_eq!(rt; queue.wake(task), WakeAnswer::Woken);
         assert!(rt; !queue.asleep(task));
@@ -130,61 +120,51 @@ fn sleep_and_wake(rt: &impl Abort, alloc: Global, queue: &mut Queue) -> Result<(
 }
 
 /// Picks the next task, which is to be this one, and charges it.
-fn charges_next(
-    rt: &impl Abort,
-    queue: &mut Queue,
-    number: u64,
-    time: u64,
-    resched: bool,
-) -> Result<(), Fail> {
-    let task = task(number)?;
+fn charges_next(rt: &impl Abort, queue: &mut Queue, number: u64, time: u64, resched: bool) {
+    let task = task(rt, number);
     assert_eq!(rt; queue.pick(), Some(task));
     assert_eq!(rt;
-        queue.tick(ns(time)?),
+        queue.tick(ns(rt, time)),
         TickAnswer::Charged { task, resched }
     );
-    Ok(())
 }
 
 /// The virtual runtime and the deadline of a runnable task.
-fn times(queue: &Queue, number: u64) -> Result<(i64, i64), Fail> {
-    let entry = queue.entry(task(number)?).ok_or("not runnable")?;
-    Ok((entry.v, entry.d))
+fn times(rt: &impl Abort, queue: &Queue, number: u64) -> (i64, i64) {
+    let entry = queue.entry(task(rt, number)).expect(rt, "not runnable");
+    (entry.v, entry.d)
 }
 
 /// A task that was charged is ahead of the mean, so the next one is picked. A tick of 1000 ns is below every slice and leaves
 /// the deadline; one of a million is past every slice, and the next deadline is a slice after the new virtual runtime.
-fn take_turns(rt: &impl Abort, alloc: Global, queue: &mut Queue) -> Result<(), Fail> {
+fn take_turns(rt: &impl Abort, alloc: Global, queue: &mut Queue) {
     for number in (0..64u32).rev() {
-        admit(rt, queue, numbered(alloc, u64::from(number))?);
+        admit(rt, queue, numbered(rt, alloc, u64::from(number)));
     }
     for number in 0..64u32 {
-        takes_short_turn(rt, queue, number)?;
+        takes_short_turn(rt, queue, number);
     }
     for number in 0..64u32 {
-        takes_long_turn(rt, queue, number)?;
+        takes_long_turn(rt, queue, number);
     }
-    assert_eq!(rt; queue.candidate(), Some(task(62)?));
-    assert_eq!(rt; queue.pick(), Some(task(0)?));
-    Ok(())
+    assert_eq!(rt; queue.candidate(), Some(task(rt, 62)));
+    assert_eq!(rt; queue.pick(), Some(task(rt, 0)));
 }
 
-fn takes_short_turn(rt: &impl Abort, queue: &mut Queue, number: u32) -> Result<(), Fail> {
-    charges_next(rt, queue, u64::from(number), 1000, false)?;
+fn takes_short_turn(rt: &impl Abort, queue: &mut Queue, number: u32) {
+    charges_next(rt, queue, u64::from(number), 1000, false);
     let turns = i64::from(number) + 1;
     assert_eq!(rt; queue.floor_time(), 1000 * turns / 64);
     let deadline = 100_000 + 1000 * i64::from(number);
-    assert_eq!(rt; times(queue, u64::from(number))?, (1000, deadline));
-    Ok(())
+    assert_eq!(rt; times(rt, queue, u64::from(number)), (1000, deadline));
 }
 
-fn takes_long_turn(rt: &impl Abort, queue: &mut Queue, number: u32) -> Result<(), Fail> {
-    charges_next(rt, queue, u64::from(number), 1_000_000, true)?;
+fn takes_long_turn(rt: &impl Abort, queue: &mut Queue, number: u32) {
+    charges_next(rt, queue, u64::from(number), 1_000_000, true);
     let turns = i64::from(number) + 1;
     assert_eq!(rt; queue.floor_time(), 1000 + 1_000_000 * turns / 64);
     let deadline = 1_001_000 + 100_000 + 1000 * i64::from(number);
-    assert_eq!(rt; times(queue, u64::from(number))?, (1_001_000, deadline));
-    Ok(())
+    assert_eq!(rt; times(rt, queue, u64::from(number)), (1_001_000, deadline));
 }
 
 /// What is told of an empty queue.
@@ -207,7 +187,7 @@ const STORIES: [Story; 7] = [
     Story::Turns,
 ];
 
-fn tell(rt: &impl Abort, alloc: Global, queue: &mut Queue, story: Story) -> Result<(), Fail> {
+fn tell(rt: &impl Abort, alloc: Global, queue: &mut Queue, story: Story) {
     match story {
         Story::One => picks_one(rt, alloc, queue),
         Story::ToTheRight => picks_to_the_right(rt, alloc, queue),
@@ -218,10 +198,9 @@ fn tell(rt: &impl Abort, alloc: Global, queue: &mut Queue, story: Story) -> Resu
 }
 
 #[test]
-fn tasks_are_picked_in_their_turns(rt: HostRuntime) -> Result<(), Fail> {
+fn tasks_are_picked_in_their_turns(rt: HostRuntime) {
     for story in STORIES {
         let mut queue = Queue::open();
-        tell(&rt, rt.alloc(), &mut queue, story)?;
+        tell(&rt, rt.alloc(), &mut queue, story);
     }
-    Ok(())
 }
