@@ -18,8 +18,9 @@ import tempfile
 import threading
 from pathlib import Path
 
-from edits import TOP, BadEdit, apply, edits_of, is_in_its_function
+from edits import TOP, BadEdit, apply, edits_of, is_in_its_function, names_of
 from libraries import CRATES, Libraries
+from stand_ins import put_stand_ins
 
 sys.path.append(str(TOP))
 
@@ -36,12 +37,9 @@ from crate_copies import (  # noqa: E402
 )
 
 # How many wrong bodies one check tries at most; a few more where one function has many.
-MOST = 40
+MOST = 60
 # The memory that must be free, in bytes, for a check to be begun beside another.
 MEMORY = 5 << 30
-# What is kept in a crate's folder of what was proved of it here.
-KEPT = "out/wrong_bodies"
-
 
 # What a check says.
 
@@ -91,28 +89,6 @@ def function_of(folder):
 
 # The tries.
 
-class Room:
-    """A folder with a copy of a crate, which may be changed, and of what is kept of its proofs."""
-
-    def __init__(self, crate):
-        self.crate = crate
-        (folder_of(crate) / "out").mkdir(exist_ok=True)
-        self.held = tempfile.TemporaryDirectory(prefix="wrong-bodies-", dir=folder_of(crate) / "out")
-        self.folder = Path(self.held.name)
-        copy_parts(crate, SOURCES, self.folder)
-        self.kept = self.folder / KEPT
-        if (folder_of(crate) / KEPT).is_dir():
-            # a check writes a file anew to change it
-            shutil.copytree(folder_of(crate) / KEPT, self.kept, copy_function=os.link)
-        else:
-            self.kept.mkdir(parents=True)
-
-    def keep(self):
-        kept = folder_of(self.crate) / KEPT
-        shutil.rmtree(kept, ignore_errors=True)
-        self.kept.rename(kept)
-
-
 class Tries:
     """The tries of one crate's edits over libraries."""
 
@@ -120,26 +96,17 @@ class Tries:
         self.crate = crate
         self.libraries = libraries
 
-    def check(self, room, edits):
-        return self.libraries.check(self.crate, room.folder, room.kept, {edit.refused for edit in edits})
-
-    def prove(self, edits):
-        """Proves the functions of the edits as they stand, and those that they call, and keeps that; says whether they are proved."""
-        room = Room(self.crate)
-        with room.held:
-            is_proved, said = self.check(room, edits)
-            room.keep()
-        if not is_proved:
-            print(f"{self.crate} isn't proved:\n{said[-2000:]}", flush=True)
-        return is_proved
-
     def try_together(self, edits):
-        """What a check says with these edits in place."""
-        room = Room(self.crate)
-        with room.held:
+        """What a check says of a copy of the crate with these edits in place, and with stand-ins for the functions that aren't
+        theirs."""
+        (folder_of(self.crate) / "out").mkdir(exist_ok=True)
+        with tempfile.TemporaryDirectory(prefix="wrong-bodies-", dir=folder_of(self.crate) / "out") as held:
+            folder = Path(held)
+            copy_parts(self.crate, SOURCES, folder)
+            put_stand_ins(folder, {name for edit in edits for name in names_of(edit, folder)})
             for edit in edits:
-                apply(edit, room.folder)
-            return Said(self.crate, self.check(room, edits)[1])
+                apply(edit, folder)
+            return Said(self.crate, self.libraries.check(self.crate, folder, {edit.refused for edit in edits}))
 
     def try_group(self, edits):
         """Each of the edits with whether it is refused in its function, and what is said of it."""
@@ -173,34 +140,26 @@ def groups_of(crate, edits):
 # The run.
 
 class Run:
-    """The crates whose functions are yet to be proved here, and the groups of edits of those that are."""
+    """The crates whose edits can't be tried yet, and the groups of edits that can."""
 
     def __init__(self, edits, libraries):
         self.edits = edits
         self.libraries = libraries
         self.change = libraries.change
-        self.unproved = list(edits)
+        self.waiting = list(edits)
         self.groups = []
         self.refused = []
         self.busy = 0
 
     def next_task(self):
-        """The functions of a crate that can be proved now, or else a group that can be tried."""
-        if self.busy and free_memory() < MEMORY:
-            return None
-        for crate in self.unproved:
+        """A crate and a group of its edits that can be tried now."""
+        for crate in list(self.waiting):
             if self.libraries.proved.issuperset(all_below(CRATES, crate)):
-                self.unproved.remove(crate)
-                return lambda: self.prove(crate)
-        if self.groups:
-            crate, group = self.groups.pop(0)
-            return lambda: self.try_group(crate, group)
-        return None
-
-    def prove(self, crate):
-        if Tries(crate, self.libraries).prove(self.edits[crate]):
-            with self.change:
+                self.waiting.remove(crate)
                 self.groups += [(crate, group) for group in groups_of(crate, self.edits[crate])]
+        if not self.groups or self.busy and free_memory() < MEMORY:
+            return None
+        return self.groups.pop(0)
 
     def try_group(self, crate, group):
         try:
@@ -214,7 +173,7 @@ class Run:
 
     def may_go_on(self):
         """Whether something is under way after which there may be more to do."""
-        return self.busy or self.unproved and not self.libraries.has_ended
+        return self.groups or self.waiting and not self.libraries.has_ended
 
     def work(self):
         """What each of the threads does, until nothing is left that it could begin or wait for."""
@@ -228,7 +187,7 @@ class Run:
                     task = self.next_task()
                 self.busy += 1
             try:
-                task()
+                self.try_group(*task)
             finally:
                 with self.change:
                     self.busy -= 1

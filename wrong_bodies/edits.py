@@ -65,16 +65,42 @@ def edits_of(crate):
     return [read_edit(crate, file.stem) for file in sorted(file_of(crate, "").parent.glob("*.edit"))]
 
 
+@dataclass(frozen=True)
+class Function:
+    """A function of a file, with its margin and the numbers of its first line and of those with the braces round its body."""
+
+    name: str
+    margin: str
+    first: int
+    begin: int
+    end: int
+
+
+def ends_signature(line, margin, is_first):
+    """Whether a line of a function of this margin has the brace that begins its body."""
+    return line.startswith(margin + "{") or line.endswith((" {", " {}")) and (is_first or line.startswith(margin + ")"))
+
+
+def functions_of(text):
+    """The functions with bodies in a text that is laid out as `rt fmt` does."""
+    lines = text.split("\n")
+    found = []
+    for first, line in enumerate(lines):
+        begun = FUNCTION.match(line)
+        if not begun or found and first <= found[-1].end:
+            continue
+        margin, name = begun.groups()
+        begin = next(n for n in range(first, len(lines)) if lines[n].endswith(";") or ends_signature(lines[n], margin, n == first))
+        if not lines[begin].endswith(";"):
+            end = begin if lines[begin].endswith("}") else lines.index(margin + "}", begin)
+            found.append(Function(name, margin, first, begin, end))
+    return found
+
+
 def function_at(text, place):
     """The name of the function whose lines this place of a file's text stands in, if it is one's."""
-    margin, name = None, None
-    for line in text[:place].splitlines():
-        begun = FUNCTION.match(line)
-        if begun:
-            margin, name = begun.groups()
-        elif margin is not None and line == margin + "}":
-            margin, name = None, None
-    return name
+    line = text.count("\n", 0, place)
+    return next((it.name for it in functions_of(text) if it.first <= line <= it.end), None)
 
 
 def changed(edit, folder):
@@ -87,6 +113,11 @@ def changed(edit, folder):
         functions.add(function_at(text, text.index(change.old)))
         texts[change.file] = text.replace(change.old, change.new)
     return texts, functions
+
+
+def names_of(edit, folder):
+    """The names of the function that is to be refused and of those that the edit changes."""
+    return changed(edit, folder)[1] - {None} | {edit.refused.rpartition("::")[2]}
 
 
 def is_in_its_function(edit, folder):

@@ -45,15 +45,13 @@ class Libraries:
     def of(self, crate):
         return self.top / "crates" / crate / "out" / "rlib" / f"{crate}.rlib"
 
-    def check(self, crate, folder, kept, functions):
-        """Checks these functions of the crate, which stands in a folder, and those that they call, over what is kept of earlier
-        checks; gives whether all are proved, and what is said."""
+    def check(self, crate, folder, functions):
+        """What a check says of these functions of the crate, which stands in a folder, and of those that they call."""
         words = [kit() / "bin" / "rattle", "check", "--crate-name", crate, *self.reads(crate, folder)]
         words += ["--logic-built", kit() / "logic_built", "--antt-project", kit() / "rattle" / "logic" / "antt-project.json"]
-        words += ["--jobs", "1", "--incremental", kept]
         words += [word for function in sorted(functions) for word in ("--only", function)]
         run = subprocess.run(words, cwd=folder, stdin=subprocess.DEVNULL, capture_output=True, text=True, errors="replace")
-        return run.returncode == 0, run.stdout + run.stderr
+        return run.stdout + run.stderr
 
     def reads(self, crate, folder):
         """The words that name the crate's root and the libraries below it."""

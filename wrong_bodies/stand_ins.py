@@ -1,0 +1,52 @@
+"""Stand-ins for the bodies of functions whose wrong bodies aren't tried. A function is proved from the contracts of those that it calls,
+so a try needs the contracts of the other functions and not their proofs. A stand-in calls a function of which it is assumed that it
+doesn't return, so it meets any contract, and its proof takes next to nothing. Nothing that is proved over stand-ins is kept as a proof
+of the crate, which `rt ci` proves as it stands."""
+
+from edits import functions_of
+
+MODULE = """//! What stands in for the bodies that aren't tried.
+
+unsafe extern "C" {
+    fn never_returns() -> i32
+        ensures { ⊥ };
+}
+
+pub fn stand_in() -> !
+{
+    unsafe { never_returns() };
+    unsafe { std::hint::unreachable_unchecked() }
+}
+"""
+BODY = "    crate::stand_in::stand_in()"
+# What may be written by hand of a function's proof.
+PROOF_FILES = ("Answers.antt", "Invariants.antt", "Proof.antt")
+
+
+def with_stand_ins(text, kept):
+    """The text of a file with stand-ins for all bodies but those of the functions that are kept."""
+    lines = text.split("\n")
+    for function in reversed(functions_of(text)):
+        if function.name not in kept:
+            signature = lines[function.begin].removesuffix("}")
+            lines[function.begin : function.end + 1] = [signature, function.margin + BODY, function.margin + "}"]
+    return "\n".join(lines)
+
+
+def root_of(folder):
+    """The first file of the crate in a folder."""
+    library = folder / "src" / "lib.rt"
+    return library if library.is_file() else folder / "src" / "main.rt"
+
+
+def put_stand_ins(folder, kept):
+    """Puts stand-ins into a crate's folder for the bodies of all functions but those of these names."""
+    for file in (folder / "src").rglob("*.rt"):
+        file.write_text(with_stand_ins(file.read_text(), kept))
+    (folder / "src" / "stand_in.rt").write_text(MODULE)
+    with open(root_of(folder), "a") as root:
+        root.write("\nmod stand_in;\n")
+    for file in list((folder / "proofs").rglob("*.antt")):
+        # the folder of a function that calls itself begins with a plus
+        if file.name in PROOF_FILES and file.parent.name.removeprefix("+") not in kept:
+            file.unlink()
