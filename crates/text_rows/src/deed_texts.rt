@@ -5,33 +5,39 @@ use crate::whole_machines::with_deed;
 use eevdf_ops::Deed;
 use eevdf_workload::{Key, LoadFault, Version, read_workload};
 use std::alloc::Global;
-use std::test::Fail;
+use std::process::Abort;
 
-/// The deed that a text is. `None` where the workload is refused for this text.
-fn deed(alloc: Global, version: Version, text: &str) -> Result<Option<Deed>, Fail> {
-    let workload = with_deed(alloc, version, text)?;
-    match read_workload(alloc, workload.as_bytes()) {
-        Ok(workload) => Ok(workload.script().and_then(|deeds| deeds.first().copied())),
+/// Asks that a text is this deed in a version, or that the workload is refused for it.
+fn check(rt: &impl Abort, alloc: Global, version: Version, text: &str, meant: Option<&Deed>) {
+    let workload = with_deed(rt, alloc, version, text);
+    let read = first_deed(rt, alloc, workload.as_bytes());
+    assert!(rt; read.as_ref() == meant, "{text}");
+}
+
+/// The first deed of a workload's script. `None` where the workload is refused for its text.
+fn first_deed(rt: &impl Abort, alloc: Global, workload: &[u8]) -> Option<Deed> {
+    match read_workload(alloc, workload) {
+        Ok(workload) => workload.script().and_then(|deeds| deeds.first().copied()),
         Err(
             LoadFault::BadValue {
                 key: Key::Script(0),
             },
-        ) => Ok(None),
-        Err(_) => Err(Fail::from("another fault")),
+        ) => None,
+        Err(_) => panic!(rt; "another fault"),
     }
 }
 
 #[test]
-fn both_versions_know_these_deeds(rt: HostRuntime) -> Result<(), Fail> {
-    let first = cpu(0)?;
-    let last = cpu(15)?;
+fn both_versions_know_these_deeds(rt: HostRuntime) {
+    let first = cpu(&rt, 0);
+    let last = cpu(&rt, 15);
     let tick = Deed::Tick {
         cpu: last,
-        ns: ns(1_000_000_000)?,
+        ns: ns(&rt, 1_000_000_000),
     };
     let sleep = Deed::Sleep {
         cpu: first,
-        task: task(1023)?,
+        task: task(&rt, 1023),
     };
     let pull = Deed::Pull {
         cpu: first,
@@ -42,25 +48,23 @@ fn both_versions_know_these_deeds(rt: HostRuntime) -> Result<(), Fail> {
         ("15 pick", Deed::Pick { cpu: last }),
         ("0 yield", Deed::Yield { cpu: first }),
         ("0 sleep 1023", sleep),
-        ("0 wake 1023 from 15", wake(first, 1023, last)?),
+        ("0 wake 1023 from 15", wake(&rt, first, 1023, last)),
         ("0 pull 15", pull),
     ] {
-        for version in [Version::One, Version::Two] {
-            assert!(rt; deed(rt.alloc(), version, text)? == Some(meant), "{text}");
-        }
+        check(&rt, rt.alloc(), Version::One, text, Some(&meant));
+        check(&rt, rt.alloc(), Version::Two, text, Some(&meant));
     }
-    Ok(())
 }
 
 #[test]
-fn version_two_knows_more_deeds(rt: HostRuntime) -> Result<(), Fail> {
-    let first = cpu(0)?;
-    let last = cpu(63)?;
-    let next = cpu(16)?;
+fn version_two_knows_more_deeds(rt: HostRuntime) {
+    let first = cpu(&rt, 0);
+    let last = cpu(&rt, 63);
+    let next = cpu(&rt, 16);
     let renice = Deed::Renice {
         cpu: first,
-        task: task(1023)?,
-        nice: nice(-5)?,
+        task: task(&rt, 1023),
+        nice: nice(&rt, -5),
     };
     let pull = Deed::Pull {
         cpu: first,
@@ -69,15 +73,11 @@ fn version_two_knows_more_deeds(rt: HostRuntime) -> Result<(), Fail> {
     for (text, meant) in [
         ("16 pick", Deed::Pick { cpu: next }),
         ("63 pick", Deed::Pick { cpu: last }),
-        ("0 wake 1023 from 63", wake(first, 1023, last)?),
+        ("0 wake 1023 from 63", wake(&rt, first, 1023, last)),
         ("0 pull 63", pull),
         ("0 renice 1023 -5", renice),
     ] {
-        assert!(rt;
-            deed(rt.alloc(), Version::Two, text)? == Some(meant),
-            "{text}"
-        );
-        assert!(rt; deed(rt.alloc(), Version::One, text)?.is_none(), "{text}");
+        check(&rt, rt.alloc(), Version::Two, text, Some(&meant));
+        check(&rt, rt.alloc(), Version::One, text, None);
     }
-    Ok(())
 }

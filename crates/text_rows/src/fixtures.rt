@@ -3,26 +3,26 @@
 use eevdf_ops::{CpuId, Deed};
 use eevdf_queue::TaskId;
 use eevdf_weight::{Nice, Ns};
-use std::test::Fail;
+use std::process::Abort;
 
-pub fn cpu(number: u64) -> Result<CpuId, Fail> {
-    Ok(CpuId::new(number).ok_or("cpu")?)
+pub fn cpu(rt: &impl Abort, number: u64) -> CpuId {
+    CpuId::new(number).expect(rt, "cpu")
 }
 
-pub fn task(number: u64) -> Result<TaskId, Fail> {
-    Ok(TaskId::new(number).ok_or("task")?)
+pub fn task(rt: &impl Abort, number: u64) -> TaskId {
+    TaskId::new(number).expect(rt, "task")
 }
 
-pub fn nice(level: i64) -> Result<Nice, Fail> {
-    Ok(Nice::new(level).ok_or("nice")?)
+pub fn nice(rt: &impl Abort, level: i64) -> Nice {
+    Nice::new(level).expect(rt, "nice")
 }
 
-pub fn ns(number: u64) -> Result<Ns, Fail> {
-    Ok(Ns::new(number).ok_or("ns")?)
+pub fn ns(rt: &impl Abort, number: u64) -> Ns {
+    Ns::new(number).expect(rt, "ns")
 }
 
 /// The wake of the task of a number, for a sender.
-pub fn wake(cpu: CpuId, number: u64, sender: CpuId) -> Result<Deed, Fail> {
-    let task = task(number)?;
-    Ok(Deed::Wake { cpu, task, sender })
+pub fn wake(rt: &impl Abort, cpu: CpuId, number: u64, sender: CpuId) -> Deed {
+    let task = task(rt, number);
+    Deed::Wake { cpu, task, sender }
 }

@@ -5,9 +5,8 @@ use eevdf_ops::{Answer, Deed, Line, Outcome, Solo};
 use eevdf_queue::{Queue, TaskId};
 use eevdf_report::report;
 use eevdf_workload::read_workload;
-use std::alloc::{AllocError, Global};
+use std::alloc::Global;
 use std::process::Abort;
-use std::test::Fail;
 
 /// A schedule of CPU 11 with each kind of deed and each of its own answers, after those of eleven CPUs that did nothing.
 const REPORT_OF_ALL_KINDS: &str = "cpu 0
@@ -69,94 +68,61 @@ script = [
 ";
 
 /// The lines of that schedule.
-fn lines_of_all_kinds() -> Result<[Line; 15], Fail> {
-    let task = task(1023)?;
-    let source = cpu(2)?;
-    let cpu = cpu(11)?;
+fn lines_of_all_kinds(rt: &impl Abort, alloc: Global) -> Vec<Line> {
+    let task = task(rt, 1023);
+    let source = cpu(rt, 2);
+    let cpu = cpu(rt, 11);
+    let mut lines = Vec::new(alloc);
     let tick = Deed::Tick {
         cpu,
-        ns: ns(3_000_000)?,
+        ns: ns(rt, 3_000_000),
     };
+    let charged = Answer::Charged {
+        task,
+        resched: false,
+    };
+    let rescheduled = Answer::Charged {
+        task,
+        resched: true,
+    };
+    push_lines(rt, &mut lines, &tick, &[charged, rescheduled, Answer::Idle]);
+    push_lines(rt, &mut lines, &Deed::Pick { cpu }, &[Answer::Picked(task)]);
+    push_lines(rt, &mut lines, &Deed::Yield { cpu }, &[Answer::Yielded]);
     let sleep = Deed::Sleep { cpu, task };
+    let slept = Answer::Slept(-200_000);
+    push_lines(rt, &mut lines, &sleep, &[slept, Answer::NotRunning]);
     let wake = Deed::Wake {
         cpu,
         task,
         sender: source,
     };
+    push_lines(rt, &mut lines, &wake, &[Answer::Woken, Answer::Awake]);
     let pull = Deed::Pull { cpu, source };
+    let pulls = [
+        Answer::Pulled(task),
+        Answer::Balanced,
+        Answer::Nothing,
+        Answer::Range,
+    ];
+    push_lines(rt, &mut lines, &pull, &pulls);
     let renice = Deed::Renice {
         cpu,
         task,
-        nice: nice(-20)?,
+        nice: nice(rt, -20),
     };
-    Ok([
-        Line {
-            deed: tick,
-            answer: Answer::Charged {
-                task,
-                resched: false,
-            },
-        },
-        Line {
-            deed: tick,
-            answer: Answer::Charged {
-                task,
-                resched: true,
-            },
-        },
-        Line {
-            deed: tick,
-            answer: Answer::Idle,
-        },
-        Line {
-            deed: Deed::Pick { cpu },
-            answer: Answer::Picked(task),
-        },
-        Line {
-            deed: Deed::Yield { cpu },
-            answer: Answer::Yielded,
-        },
-        Line {
-            deed: sleep,
-            answer: Answer::Slept(-200_000),
-        },
-        Line {
-            deed: sleep,
-            answer: Answer::NotRunning,
-        },
-        Line {
-            deed: wake,
-            answer: Answer::Woken,
-        },
-        Line {
-            deed: wake,
-            answer: Answer::Awake,
-        },
-        Line {
-            deed: pull,
-            answer: Answer::Pulled(task),
-        },
-        Line {
-            deed: pull,
-            answer: Answer::Balanced,
-        },
-        Line {
-            deed: pull,
-            answer: Answer::Nothing,
-        },
-        Line {
-            deed: pull,
-            answer: Answer::Range,
-        },
-        Line {
-            deed: renice,
-            answer: Answer::Reniced,
-        },
-        Line {
-            deed: renice,
-            answer: Answer::NotHere,
-        },
-    ])
+    push_lines(rt, &mut lines, &renice, &[Answer::Reniced, Answer::NotHere]);
+    lines
+}
+
+/// Adds a line of a deed for each of these answers.
+fn push_lines(rt: &impl Abort, lines: &mut Vec<Line>, deed: &Deed, answers: &[Answer]) {
+    for answer in answers {
+        let line = Line {
+            deed: *deed,
+            answer: *answer,
+        };
+        lines.push(line).expect(rt, "memory");
+    }
 }
 
 /// The outcome of these parts.
@@ -171,29 +137,30 @@ fn outcome_of(
 }
 
 /// The requests that are left of each pair of CPUs.
-fn requests_of(alloc: Global, pairs: &[&[TaskId]]) -> Result<Vec<Vec<TaskId>>, AllocError> {
+fn requests_of(rt: &impl Abort, alloc: Global, pairs: &[&[TaskId]]) -> Vec<Vec<TaskId>> {
     let mut left = Vec::new(alloc);
     for pair in pairs {
-        left.push(Vec::from_slice(alloc, pair)?)?;
+        let requests = Vec::from_slice(alloc, pair).expect(rt, "memory");
+        left.push(requests).expect(rt, "memory");
     }
-    Ok(left)
+    left
 }
 
-fn empty_queues(alloc: Global, cpus: usize) -> Result<Vec<Queue>, AllocError> {
+fn empty_queues(rt: &impl Abort, alloc: Global, cpus: usize) -> Vec<Queue> {
     let mut queues = Vec::new(alloc);
     for _cpu in 0..cpus {
-        queues.push(Queue::open())?;
+        queues.push(Queue::open()).expect(rt, "memory");
     }
-    Ok(queues)
+    queues
 }
 
 /// The outcome of lines of all kinds on twelve CPUs, whose queues are empty and to which nothing is posted.
-fn outcome_of_all_kinds(rt: &impl Abort, alloc: Global) -> Result<Outcome, Fail> {
-    let lines = Vec::from_slice(alloc, &lines_of_all_kinds()?)?;
+fn outcome_of_all_kinds(rt: &impl Abort, alloc: Global) -> Outcome {
+    let lines = lines_of_all_kinds(rt, alloc);
     let none: &[TaskId] = &[];
-    let left = requests_of(alloc, &vec![in alloc; none; 144]?)?;
-    let queues = empty_queues(alloc, 12)?;
-    Ok(outcome_of(rt, lines, queues, left))
+    let left = requests_of(rt, alloc, &[none; 144]);
+    let queues = empty_queues(rt, alloc, 12);
+    outcome_of(rt, lines, queues, left)
 }
 
 const TWO_CPUS: &[u8] =
@@ -203,51 +170,52 @@ const REPORT_OF_REQUESTS: &str =
     "cpu 0\npull 1: nothing\nload 1024 floor -1\ntask 0 v -1 d 2999999 lag 0\nleft 2 from 1\nleft 1 from 1\ncpu 1\npick: idle\nload 1024 floor 0\ntask 2 v 0 d 3000000 lag 0\nasleep 1 lag 0\nleft 0 from 0\nscript = [\n\"1 pick\",\n\"0 pull 1\",\n]\n";
 
 /// A pick and a pull.
-fn two_lines() -> Result<[Line; 2], Fail> {
+fn two_lines(rt: &impl Abort) -> [Line; 2] {
     let pick = Line {
-        deed: Deed::Pick { cpu: cpu(1)? },
+        deed: Deed::Pick { cpu: cpu(rt, 1) },
         answer: Answer::Idle,
     };
     let pull = Line {
         deed: Deed::Pull {
-            cpu: cpu(0)?,
-            source: cpu(1)?,
+            cpu: cpu(rt, 0),
+            source: cpu(rt, 1),
         },
         answer: Answer::Nothing,
     };
-    Ok([pick, pull])
+    [pick, pull]
 }
 
 /// The queues in which the tasks of a workload begin.
-fn beginning(alloc: Global, bytes: &[u8]) -> Result<Vec<Queue>, Fail> {
-    let workload = read_workload(alloc, bytes).ok().ok_or("workload")?;
-    Ok(Solo::open(alloc, workload.setup())?.into_queues())
+fn beginning(rt: &impl Abort, alloc: Global, bytes: &[u8]) -> Vec<Queue> {
+    let workload = read_workload(alloc, bytes).expect(rt, "workload");
+    let solo = Solo::open(alloc, workload.setup()).expect(rt, "memory");
+    solo.into_queues()
 }
 
 /// The outcome of two lines on two CPUs, with a request that is left on the one and two on the other.
-fn outcome_with_requests(rt: &impl Abort, alloc: Global) -> Result<Outcome, Fail> {
-    let to_first = [task(2)?, task(1)?];
-    let to_second = [task(0)?];
-    let lines = Vec::from_slice(alloc, &two_lines()?)?;
-    let left = requests_of(alloc, &[&[], &to_second, &to_first, &[]])?;
-    let queues = beginning(alloc, TWO_CPUS)?;
-    Ok(outcome_of(rt, lines, queues, left))
+fn outcome_with_requests(rt: &impl Abort, alloc: Global) -> Outcome {
+    let to_first = [task(rt, 2), task(rt, 1)];
+    let to_second = [task(rt, 0)];
+    let lines = Vec::from_slice(alloc, &two_lines(rt)).expect(rt, "memory");
+    let left = requests_of(rt, alloc, &[&[], &to_second, &to_first, &[]]);
+    let queues = beginning(rt, alloc, TWO_CPUS);
+    outcome_of(rt, lines, queues, left)
 }
 
 /// Asks that this is the report of an outcome, with its history.
-fn is_reported(rt: &impl Abort, alloc: Global, outcome: &Outcome, text: &str) -> Result<(), Fail> {
-    assert!(rt; report(alloc, outcome, true)?.as_slice() == text.as_bytes());
-    Ok(())
+fn is_reported(rt: &impl Abort, alloc: Global, outcome: &Outcome, text: &str) {
+    let printed = report(alloc, outcome, true).expect(rt, "memory");
+    assert!(rt; printed.as_slice() == text.as_bytes());
 }
 
 #[test]
-fn every_kind_of_line_is_printed(rt: HostRuntime) -> Result<(), Fail> {
-    let outcome = outcome_of_all_kinds(&rt, rt.alloc())?;
+fn every_kind_of_line_is_printed(rt: HostRuntime) {
+    let outcome = outcome_of_all_kinds(&rt, rt.alloc());
     is_reported(&rt, rt.alloc(), &outcome, REPORT_OF_ALL_KINDS)
 }
 
 #[test]
-fn requests_are_left_on_two_cpus(rt: HostRuntime) -> Result<(), Fail> {
-    let outcome = outcome_with_requests(&rt, rt.alloc())?;
+fn requests_are_left_on_two_cpus(rt: HostRuntime) {
+    let outcome = outcome_with_requests(&rt, rt.alloc());
     is_reported(&rt, rt.alloc(), &outcome, REPORT_OF_REQUESTS)
 }
