@@ -13,7 +13,6 @@ use eevdf_steps::{Player, play};
 use eevdf_workload::read_workload;
 use std::alloc::Global;
 use std::process::Abort;
-use std::test::Fail;
 
 /// No workload here has more steps.
 const MOST_STEPS: usize = 30;
@@ -132,173 +131,158 @@ const CASES: [Case; 17] = [
 ];
 
 #[test]
-fn every_order_comes_to_what_one_thread_does(rt: HostRuntime) -> Result<(), Fail> {
+fn every_order_comes_to_what_one_thread_does(rt: HostRuntime) {
     for case in &CASES {
-        check_case(&rt, rt.alloc(), case)?;
+        check_case(&rt, rt.alloc(), case);
     }
-    Ok(())
 }
 
 /// Plays each order of a case, and counts them.
-fn check_case(rt: &impl Abort, alloc: Global, case: &Case) -> Result<(), Fail> {
-    let workload = read_workload(alloc, case.workload).ok().ok_or("workload")?;
+fn check_case(rt: &impl Abort, alloc: Global, case: &Case) {
+    let workload = read_workload(alloc, case.workload).expect(rt, "workload");
     check_orders(rt, alloc, workload.setup(), case)
 }
 
-fn check_orders(rt: &impl Abort, alloc: Global, setup: &Setup, case: &Case) -> Result<(), Fail> {
-    let mut next = Some(least_order(alloc, setup, &[])?);
+fn check_orders(rt: &impl Abort, alloc: Global, setup: &Setup, case: &Case) {
+    let mut order = Vec::new(alloc);
+    complete(rt, alloc, setup, &mut order);
+    let mut has_next = true;
     for before in 0..case.orders {
-        let Some(order) = next else {
-            assert!(rt; false, "{}: {before} orders", case.name);
-            return Ok(());
-        };
-        next = checked_order(rt, alloc, setup, &order, case.name)?;
+        assert!(rt; has_next, "{}: {before} orders", case.name);
+        check_order(rt, alloc, setup, &order, case.name);
+        has_next = advance(rt, alloc, setup, &mut order);
     }
-    assert!(rt; next.is_none(), "{}: more orders", case.name);
-    Ok(())
+    assert!(rt; !has_next, "{}: more orders", case.name);
 }
 
-/// Checks an order, and gives the next.
-fn checked_order(
+/// Makes a beginning of an order the first, in the order of lists, of the lawful complete orders that begin so.
+fn complete(rt: &impl Abort, alloc: Global, setup: &Setup, order: &mut Vec<usize>) {
+    let mut player = player_after(rt, alloc, setup, order);
+    go_on(rt, &mut player, order);
+}
+
+/// A player whose callers have done the steps of a beginning of an order.
+fn player_after(rt: &impl Abort, alloc: Global, setup: &Setup, beginning: &[usize]) -> Player {
+    let mut player = Player::open(alloc, setup).expect(rt, "memory");
+    for caller in beginning {
+        player.step(*caller).expect(rt, "step");
+    }
+    player
+}
+
+/// Does the steps that are left, each of the first caller that may step, and adds these callers to an order.
+fn go_on(rt: &impl Abort, player: &mut Player, order: &mut Vec<usize>) {
+    for _step in 0..=MOST_STEPS {
+        let Some(caller) = player.ready() else {
+            return;
+        };
+        player.step(caller).expect(rt, "ready");
+        order.push(caller).expect(rt, "memory");
+    }
+    panic!(rt; "too many steps")
+}
+
+/// Makes an order the next, in the order of lists, of the lawful complete orders, and says whether there is one.
+fn advance(rt: &impl Abort, alloc: Global, setup: &Setup, order: &mut Vec<usize>) -> bool {
+    let Some((place, caller)) = parting(rt, alloc, setup, order) else {
+        return false;
+    };
+    order.truncate(place);
+    order.push(caller).expect(rt, "memory");
+    complete(rt, alloc, setup, order);
+    true
+}
+
+/// Where the next order parts from this one, which is as late as it can, and the caller that steps there.
+fn parting(
     rt: &impl Abort,
     alloc: Global,
     setup: &Setup,
     order: &[usize],
-    name: &str,
-) -> Result<Option<Vec<usize>>, Fail> {
-    check_order(rt, alloc, setup, order, name)?;
-    order_after(alloc, setup, order)
-}
-
-/// A player whose callers have done the steps of a beginning of an order.
-fn player_after(alloc: Global, setup: &Setup, beginning: &[usize]) -> Result<Player, Fail> {
-    let mut player = Player::open(alloc, setup)?;
-    step_each(&mut player, beginning)?;
-    Ok(player)
-}
-
-fn step_each(player: &mut Player, callers: &[usize]) -> Result<(), Fail> {
-    for caller in callers {
-        player.step(*caller).ok().ok_or("step")?;
-    }
-    Ok(())
-}
-
-/// The first, in the order of lists, of the lawful complete orders that begin so.
-fn least_order(alloc: Global, setup: &Setup, beginning: &[usize]) -> Result<Vec<usize>, Fail> {
-    let mut order = Vec::from_slice(alloc, beginning)?;
-    go_on(&mut player_after(alloc, setup, beginning)?, &mut order)?;
-    Ok(order)
-}
-
-/// Does the steps that are left, each of the first caller that may step, and adds these callers to an order.
-fn go_on(player: &mut Player, order: &mut Vec<usize>) -> Result<(), Fail> {
-    for _step in 0..=MOST_STEPS {
-        let Some(caller) = player.ready() else {
-            return Ok(());
-        };
-        player.step(caller).ok().ok_or("ready")?;
-        order.push(caller)?;
-    }
-    Err("too many steps")?
-}
-
-/// The next, in the order of lists, of the lawful complete orders: it parts from this one as late as it can.
-fn order_after(alloc: Global, setup: &Setup, order: &[usize]) -> Result<Option<Vec<usize>>, Fail> {
-    for at in (0..order.len()).rev() {
-        for caller in 0..setup.cpus() {
-            if caller > order[at] && may_follow(alloc, setup, &order[..at], caller)? {
-                let mut beginning = Vec::from_slice(alloc, &order[..at])?;
-                beginning.push(caller)?;
-                return Ok(Some(least_order(alloc, setup, &beginning)?));
-            }
+) -> Option<(usize, usize)> {
+    for place in (0..order.len()).rev() {
+        if let Some(caller) = later_caller(rt, alloc, setup, &order[..place], order[place]) {
+            return Some((place, caller));
         }
     }
-    Ok(None)
+    None
 }
 
-/// Whether a caller may step after the steps of a beginning.
-fn may_follow(
+/// The first caller, of those of a greater number than this one, that may step after the steps of a beginning.
+fn later_caller(
+    rt: &impl Abort,
     alloc: Global,
     setup: &Setup,
     beginning: &[usize],
     caller: usize,
-) -> Result<bool, Fail> {
-    let mut player = player_after(alloc, setup, beginning)?;
-    Ok(player.step(caller).is_ok())
+) -> Option<usize> {
+    for later in 0..setup.cpus() {
+        if later > caller && may_follow(rt, alloc, setup, beginning, later) {
+            return Some(later);
+        }
+    }
+    None
 }
 
-/// Plays an order, and compares its history each time it grows, and what it comes to, with one thread.
-fn check_order(
+/// Whether a caller may step after the steps of a beginning.
+fn may_follow(
     rt: &impl Abort,
     alloc: Global,
     setup: &Setup,
-    order: &[usize],
-    name: &str,
-) -> Result<(), Fail> {
-    check_steps(
-        rt,
-        alloc,
-        setup,
-        &mut Player::open(alloc, setup)?,
-        order,
-        name,
-    )?;
-    let outcome = play(alloc, setup, order).ok().ok_or("outcome")?;
+    beginning: &[usize],
+    caller: usize,
+) -> bool {
+    let mut player = player_after(rt, alloc, setup, beginning);
+    player.step(caller).is_ok()
+}
+
+/// Plays an order, and compares its history each time it grows, and what it comes to, with one thread.
+fn check_order(rt: &impl Abort, alloc: Global, setup: &Setup, order: &[usize], name: &str) {
+    check_histories(rt, alloc, setup, order, name);
+    let outcome = play(alloc, setup, order).expect(rt, "outcome");
     check_end(rt, alloc, setup, &outcome, name)
 }
 
-fn check_steps(
+fn check_histories(rt: &impl Abort, alloc: Global, setup: &Setup, order: &[usize], name: &str) {
+    let mut player = Player::open(alloc, setup).expect(rt, "memory");
+    for caller in order {
+        check_step(rt, alloc, setup, &mut player, *caller, name);
+    }
+}
+
+/// Does a step of a caller, and compares the history where it grows.
+fn check_step(
     rt: &impl Abort,
     alloc: Global,
     setup: &Setup,
     player: &mut Player,
-    order: &[usize],
+    caller: usize,
     name: &str,
-) -> Result<(), Fail> {
-    for caller in order {
-        let before = player.history().len();
-        player.step(*caller).ok().ok_or("step")?;
-        if player.history().len() > before {
-            check_history(rt, alloc, setup, player.history(), name)?;
-        }
+) {
+    let before = player.history().len();
+    player.step(caller).expect(rt, "step");
+    if player.history().len() > before {
+        check_history(rt, alloc, setup, player.history(), name);
     }
-    Ok(())
 }
 
-fn check_history(
-    rt: &impl Abort,
-    alloc: Global,
-    setup: &Setup,
-    history: &[Line],
-    name: &str,
-) -> Result<(), Fail> {
-    let alone = one_thread(alloc, setup, history)?;
+fn check_history(rt: &impl Abort, alloc: Global, setup: &Setup, history: &[Line], name: &str) {
+    let alone = one_thread(rt, alloc, setup, history);
     assert!(rt; history == alone.history(), "{name}: a history");
-    Ok(())
 }
 
-fn check_end(
-    rt: &impl Abort,
-    alloc: Global,
-    setup: &Setup,
-    outcome: &Outcome,
-    name: &str,
-) -> Result<(), Fail> {
-    let alone = one_thread(alloc, setup, outcome.history())?;
+fn check_end(rt: &impl Abort, alloc: Global, setup: &Setup, outcome: &Outcome, name: &str) {
+    let alone = one_thread(rt, alloc, setup, outcome.history());
     let ends = outcome.history() == alone.history()
         && end_alike(outcome, &alone, setup.tasks() as u64);
     assert!(rt; ends, "{name}: the end");
-    Ok(())
 }
 
 /// What one thread comes to that does the deeds of a history.
-fn one_thread(alloc: Global, setup: &Setup, history: &[Line]) -> Result<Outcome, Fail> {
-    let deeds = deeds(alloc, history)?;
-    if !allows_all(setup, &deeds) {
-        return Err("a deed that isn't allowed")?;
-    }
-    Ok(solo(alloc, setup, &deeds)?)
+fn one_thread(rt: &impl Abort, alloc: Global, setup: &Setup, history: &[Line]) -> Outcome {
+    let deeds = deeds(alloc, history).expect(rt, "memory");
+    assert!(rt; allows_all(setup, &deeds), "a deed that isn't allowed");
+    solo(alloc, setup, &deeds).expect(rt, "memory")
 }
 
 fn allows_all(setup: &Setup, deeds: &[Deed]) -> bool

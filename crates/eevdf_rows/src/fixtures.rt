@@ -4,25 +4,27 @@ use eevdf_ops::{CpuId, Setup, TaskSpec};
 use eevdf_queue::TaskId;
 use eevdf_weight::{Nice, Slice};
 use std::alloc::Global;
-use std::test::Fail;
+use std::process::Abort;
 
-pub fn cpu(number: u64) -> Result<CpuId, Fail> {
-    Ok(CpuId::new(number).ok_or("cpu")?)
+pub fn cpu(rt: &impl Abort, number: u64) -> CpuId {
+    CpuId::new(number).expect(rt, "cpu")
 }
 
-pub fn task(number: u64) -> Result<TaskId, Fail> {
-    Ok(TaskId::new(number).ok_or("task")?)
+pub fn task(rt: &impl Abort, number: u64) -> TaskId {
+    TaskId::new(number).expect(rt, "task")
 }
 
 /// A setup of so many CPUs without programs. On each is a task of nice level 0, which has the CPU's number.
-pub fn one_task_each(alloc: Global, cpus: usize) -> Result<Setup, Fail> {
+pub fn one_task_each(rt: &impl Abort, alloc: Global, cpus: usize) -> Setup {
     let mut tasks = Vec::new(alloc);
     let mut programs = Vec::new(alloc);
     for number in 0..cpus {
-        tasks.push(task_at(cpu(number as u64)?))?;
-        programs.push(Vec::new(alloc))?;
+        tasks
+            .push(task_at(cpu(rt, number as u64)))
+            .expect(rt, "memory");
+        programs.push(Vec::new(alloc)).expect(rt, "memory");
     }
-    Ok(Setup::make(alloc, &tasks, &programs)?)
+    Setup::make(alloc, &tasks, &programs).expect(rt, "setup")
 }
 
 /// A task of nice level 0 that begins runnable at its home.

@@ -6,7 +6,7 @@ mod limits;
 pub mod seat_call;
 mod two_threads;
 
-ghost use Rattle.std.specs.Prelude.{◌≡◌, IfSome};
+ghost use Rattle.std.specs.Prelude.{◌≡◌};
 ghost use Rattle.eevdf_fleet.specs.Fleets.{setup_of};
 
 use eevdf_fleet::{Fleet, Kit, Names, Seat};
@@ -16,6 +16,7 @@ use eevdf_workload::read_workload;
 use seat_call::{Call, Done, call_on};
 use std::alloc::Global;
 use std::marker::Brand;
+use std::process::Abort;
 use std::sync::Wait;
 
 /// A fleet of the setup of a workload, the calls that are made one after the other, each on the seat of a CPU, and what the
@@ -48,7 +49,7 @@ fn make_calls<N: Names, R: Wait>(
 }
 
 /// What a fleet comes to by these calls, where each comes to what is told.
-fn outcome_of<N: Names, R: Wait>(
+fn outcome_of<N: Names, R: Wait + Abort>(
     rt: &R,
     alloc: Global,
     kit: Kit,
@@ -56,7 +57,7 @@ fn outcome_of<N: Names, R: Wait>(
 ) -> Option<Outcome>
     requires { kit ≡ N.kit }
 {
-    let (fleet, mut seats) = Fleet::<N>::open(alloc, kit).ok()?;
+    let (fleet, mut seats) = Fleet::<N>::open(alloc, kit).expect(rt, "memory");
     if make_calls(rt, &fleet, &mut seats, calls) {
         closed(fleet, seats)
     } else {
@@ -73,19 +74,16 @@ fn closed<N: Names>(fleet: Fleet<N>, seats: Vec<Seat<N>>) -> Option<Outcome> {
     }
 }
 
-/// A kit, where the quota and the rings are such as a kit may have.
-pub fn kit_of(alloc: Global, setup: &Setup, quota: usize, rings: usize) -> Option<Kit>
-    ensures { IfSome result (λ kit. setup_of kit ≡ setup.now) }
+/// A kit, whose quota and rings are to be such as a kit may have.
+pub fn kit_of(rt: &impl Abort, alloc: Global, setup: &Setup, quota: usize, rings: usize) -> Kit
+    ensures { setup_of result ≡ setup.now }
 {
-    if quota <= 1_000_000 && rings <= 1_000_000 {
-        Kit::make(alloc, setup, quota, rings).ok()
-    } else {
-        None
-    }
+    assert!(rt; quota <= 1_000_000 && rings <= 1_000_000);
+    Kit::make(alloc, setup, quota, rings).expect(rt, "memory")
 }
 
 /// The same of a fleet of the setup of a workload.
-fn outcome_of_calls<R: Wait>(
+fn outcome_of_calls<R: Wait + Abort>(
     rt: &R,
     alloc: Global,
     workload: &[u8],
@@ -93,16 +91,21 @@ fn outcome_of_calls<R: Wait>(
     rings: usize,
     calls: &[(usize, Call, Done)],
 ) -> Option<Outcome> {
-    let workload = read_workload(alloc, workload).ok()?;
-    let kit = kit_of(alloc, workload.setup(), quota, rings)?;
+    let workload = read_workload(alloc, workload).expect(rt, "workload");
+    let kit = kit_of(rt, alloc, workload.setup(), quota, rings);
     outcome_of::<Brand, _>(rt, alloc, kit, calls)
 }
 
 /// Whether a case comes to what it tells.
-fn holds<R: Wait>(rt: &R, alloc: Global, case: &Case) -> Option<bool> {
+fn holds<R: Wait + Abort>(rt: &R, alloc: Global, case: &Case) -> Option<bool> {
     let outcome = outcome_of_calls(rt, alloc, case.workload, case.quota, case.rings, case.calls)?;
-    let text = report(alloc, &outcome, true).ok()?;
-    Some(text.as_slice() == case.report.as_bytes())
+    Some(is_reported(rt, alloc, &outcome, case.report))
+}
+
+/// Whether this is the report of an outcome, with its history.
+fn is_reported(rt: &impl Abort, alloc: Global, outcome: &Outcome, text: &str) -> bool {
+    let printed = report(alloc, outcome, true).expect(rt, "memory");
+    printed.as_slice() == text.as_bytes()
 }
 
 #[test]

@@ -8,6 +8,7 @@ ghost use Rattle.eevdf_ops.specs.Setup.{allows};
 use eevdf_ops::one_thread::solo;
 use eevdf_ops::{Deed, Line, Outcome, Setup};
 use std::alloc::{AllocError, Global};
+use std::process::Abort;
 
 /// The deeds of a history.
 pub fn deeds(alloc: Global, lines: &[Line]) -> Result<Vec<Deed>, AllocError>
@@ -17,9 +18,9 @@ pub fn deeds(alloc: Global, lines: &[Line]) -> Result<Vec<Deed>, AllocError>
 }
 
 /// What one thread comes to that does the deeds of the outcome's lines one after the other.
-pub fn done_alone(alloc: Global, setup: &Setup, outcome: &Outcome) -> Result<Outcome, AllocError>
+pub fn done_alone(rt: &impl Abort, alloc: Global, setup: &Setup, outcome: &Outcome) -> Outcome
     requires { list_all (allows setup.now) (deeds_of outcome.now.lines) ≡ true }
 {
-    let deeds = deeds(alloc, outcome.history())?;
-    solo(alloc, setup, &deeds)
+    let deeds = deeds(alloc, outcome.history()).expect(rt, "memory");
+    solo(alloc, setup, &deeds).expect(rt, "memory")
 }

@@ -8,7 +8,6 @@ use eevdf_steps::{Place, Player, StepFault};
 use eevdf_workload::{Workload, read_workload};
 use std::alloc::Global;
 use std::process::Abort;
-use std::test::Fail;
 
 /// Two callers each of whom pulls from the other's CPU.
 const CROSSED_PULLS: &[u8] = b"version = 1\nprogram = [[\"pull 1\"], [\"pull 0\"]]\n[[task]]\n";
@@ -22,8 +21,12 @@ const PULL_UNDER_WAY: &[u8] =
 
 const PULL_FIRST: [usize; 15] = [1, 1, 1, 2, 1, 1, 1, 1, 2, 2, 2, 0, 0, 0, 0];
 
-fn workload_of(alloc: Global, bytes: &[u8]) -> Result<Workload, Fail> {
-    Ok(read_workload(alloc, bytes).ok().ok_or("workload")?)
+fn workload_of(rt: &impl Abort, alloc: Global, bytes: &[u8]) -> Workload {
+    read_workload(alloc, bytes).expect(rt, "workload")
+}
+
+fn player_of(rt: &impl Abort, alloc: Global, setup: &Setup) -> Player {
+    Player::open(alloc, setup).expect(rt, "memory")
 }
 
 /// Does so many steps of a caller, which nothing is to refuse.
@@ -34,8 +37,8 @@ fn step_on(rt: &impl Abort, player: &mut Player, caller: usize, steps: usize) {
 }
 
 /// Both callers want the lesser lock first.
-fn crossed_pulls(rt: &impl Abort, player: &mut Player) -> Result<(), Fail> {
-    let cpu = cpu(0)?;
+fn crossed_pulls(rt: &impl Abort, player: &mut Player) {
+    let cpu = cpu(rt, 0);
     assert!(rt; player.ready() == Some(0));
     step_on(rt, player, 0, 1);
     assert!(rt; player.ready() == Some(0));
@@ -44,26 +47,25 @@ fn crossed_pulls(rt: &impl Abort, player: &mut Player) -> Result<(), Fail> {
     assert!(rt; player.ready() == Some(1));
     step_on(rt, player, 1, 7);
     assert!(rt; player.ready() == None);
-    Ok(())
 }
 
 #[test]
-fn crossed_pulls_take_the_lesser_lock_first(rt: HostRuntime) -> Result<(), Fail> {
-    let workload = workload_of(rt.alloc(), CROSSED_PULLS)?;
-    let outcome = outcome_of_crossed_pulls(&rt, rt.alloc(), workload.setup())?;
-    let text = report(rt.alloc(), &outcome, true)?;
-    assert!(rt; text.as_slice() == CROSSED_REPORT.as_bytes());
-    Ok(())
+fn crossed_pulls_take_the_lesser_lock_first(rt: HostRuntime) {
+    let workload = workload_of(&rt, rt.alloc(), CROSSED_PULLS);
+    let outcome = outcome_of_crossed_pulls(&rt, rt.alloc(), workload.setup());
+    is_reported(&rt, rt.alloc(), &outcome);
 }
 
-fn outcome_of_crossed_pulls(
-    rt: &impl Abort,
-    alloc: Global,
-    setup: &Setup,
-) -> Result<Outcome, Fail> {
-    let mut player = Player::open(alloc, setup)?;
-    crossed_pulls(rt, &mut player)?;
-    Ok(player.outcome().ok().ok_or("outcome")?)
+fn outcome_of_crossed_pulls(rt: &impl Abort, alloc: Global, setup: &Setup) -> Outcome {
+    let mut player = player_of(rt, alloc, setup);
+    crossed_pulls(rt, &mut player);
+    player.outcome().ok().expect(rt, "outcome")
+}
+
+/// Asks that the report of crossed pulls is that of this outcome, with its history.
+fn is_reported(rt: &impl Abort, alloc: Global, outcome: &Outcome) {
+    let text = report(alloc, outcome, true).expect(rt, "memory");
+    assert!(rt; text.as_slice() == CROSSED_REPORT.as_bytes());
 }
 
 /// Where a task stands, who holds the lock of a CPU, and the load of its queue.
@@ -77,9 +79,9 @@ fn seen(player: &Player, task: TaskId, cpu: CpuId) -> Option<(Place, Option<usiz
 }
 
 /// The caller that pulls has the task in its hand. It is ready before the one that waits for its lock.
-fn pull_under_way(rt: &impl Abort, player: &mut Player) -> Result<(), Fail> {
-    let task = task(2)?;
-    let cpu = cpu(0)?;
+fn pull_under_way(rt: &impl Abort, player: &mut Player) {
+    let task = task(rt, 2);
+    let cpu = cpu(rt, 0);
     assert!(rt; player.ready() == Some(0));
     assert!(rt; seen(player, task, cpu) == Some((Place::Runnable(cpu), None, 3072)));
     step_on(rt, player, 1, 3);
@@ -87,14 +89,19 @@ fn pull_under_way(rt: &impl Abort, player: &mut Player) -> Result<(), Fail> {
     assert!(rt; seen(player, task, cpu) == Some((Place::InHand(1), Some(1), 2048)));
     step_on(rt, player, 2, 1);
     assert!(rt; player.step(0) == Err(StepFault::Blocked { cpu, holder: 1 }));
-    Ok(())
 }
 
 #[test]
-fn a_pulled_task_is_in_its_callers_hand(rt: HostRuntime) -> Result<(), Fail> {
-    let workload = workload_of(rt.alloc(), PULL_UNDER_WAY)?;
+fn a_pulled_task_is_in_its_callers_hand(rt: HostRuntime) {
+    let workload = workload_of(&rt, rt.alloc(), PULL_UNDER_WAY);
+    has_pull_first(&rt, &workload);
+    let mut player = player_of(&rt, rt.alloc(), workload.setup());
+    pull_under_way(&rt, &mut player);
+}
+
+/// Asks that a workload has three CPUs, three tasks, and the order in which the pull goes first.
+fn has_pull_first(rt: &impl Abort, workload: &Workload) {
     let setup = workload.setup();
     assert!(rt; (setup.cpus(), setup.tasks()) == (3, 3));
     assert!(rt; workload.order() == Some(PULL_FIRST.as_slice()));
-    pull_under_way(&rt, &mut Player::open(rt.alloc(), setup)?)
 }

@@ -3,7 +3,8 @@
 use super::outcome_of_calls;
 use super::seat_call::{Call, Done};
 use eevdf_ops::Outcome;
-use std::alloc::{AllocError, Global};
+use std::alloc::Global;
+use std::process::Abort;
 use std::sync::Wait;
 
 /// So many lines each CPU may have, and so many requests a ring may have room for.
@@ -18,31 +19,45 @@ const SIXTY_FOUR_CPUS: &[u8] =
 
 /// Calls on CPU 1: one that is made so many times, with what comes of it each time, and what comes of it once more.
 fn repeated(
+    rt: &impl Abort,
     alloc: Global,
     call: Call,
     times: usize,
     done: Done,
     refused: Done,
-) -> Result<Vec<(usize, Call, Done)>, AllocError> {
-    let mut calls = vec![in alloc; (1, call, done); times]?;
-    calls.push((1, call, refused))?;
-    Ok(calls)
+) -> Vec<(usize, Call, Done)> {
+    let mut calls = vec![in alloc; (1, call, done); times].expect(rt, "memory");
+    calls.push((1, call, refused)).expect(rt, "memory");
+    calls
 }
 
 /// What a fleet of two CPUs with this quota comes to, where CPU 1 has room for so many picks and no more.
-fn outcome_of_picks<R: Wait>(rt: &R, alloc: Global, quota: usize) -> Option<Outcome> {
-    let calls = repeated(alloc, Call::Pick, quota, Done::Line, Done::SeatFull).ok()?;
+fn outcome_of_picks<R: Wait + Abort>(rt: &R, alloc: Global, quota: usize) -> Option<Outcome> {
+    let calls = repeated(rt, alloc, Call::Pick, quota, Done::Line, Done::SeatFull);
     outcome_of_calls(rt, alloc, TWO_CPUS, quota, 1, &calls)
 }
 
 /// What a fleet of two CPUs with these rings comes to, where CPU 1 can post so many requests and no more.
-fn outcome_of_posts<R: Wait>(rt: &R, alloc: Global, rings: usize) -> Option<Outcome> {
-    let calls = repeated(alloc, Call::Post(0), rings, Done::Posted, Done::RingFull).ok()?;
+fn outcome_of_posts<R: Wait + Abort>(rt: &R, alloc: Global, rings: usize) -> Option<Outcome> {
+    let calls = repeated(
+        rt,
+        alloc,
+        Call::Post(0),
+        rings,
+        Done::Posted,
+        Done::RingFull,
+    );
     outcome_of_calls(rt, alloc, TWO_CPUS, 1, rings, &calls)
 }
 
+/// How many lines an outcome has.
+fn lines(outcome: Option<Outcome>) -> Option<usize> {
+    Some(outcome?.history().len())
+}
+
 /// How many requests CPU 1 has posted to CPU 0 that weren't drained.
-fn left(outcome: &Outcome) -> Option<usize> {
+fn left(outcome: Option<Outcome>) -> Option<usize> {
+    let outcome = outcome?;
     if outcome.cpus() == 2 {
         Some(outcome.left(1, 0).len())
     } else {
@@ -53,17 +68,15 @@ fn left(outcome: &Outcome) -> Option<usize> {
 #[test]
 fn quotas_and_rings_may_be_a_million(rt: HostRuntime) {
     for number in [0, 1, MOST] {
-        let outcome = outcome_of_picks(&rt, rt.alloc(), number);
-        let lines = outcome.map(|outcome| outcome.history().len());
+        let lines = lines(outcome_of_picks(&rt, rt.alloc(), number));
         assert!(rt; lines == Some(number), "{number} lines");
-        let outcome = outcome_of_posts(&rt, rt.alloc(), number);
-        let requests = outcome.and_then(|outcome| left(&outcome));
+        let requests = left(outcome_of_posts(&rt, rt.alloc(), number));
         assert!(rt; requests == Some(number), "{number} requests");
     }
 }
 
 /// What sixty-four seats come to that all ask for one task, where its home has so much room for lines and this comes of its drain.
-fn outcome_of_drain<R: Wait>(
+fn outcome_of_drain<R: Wait + Abort>(
     rt: &R,
     alloc: Global,
     (task, home): (u64, usize),
@@ -72,9 +85,13 @@ fn outcome_of_drain<R: Wait>(
 ) -> Option<Outcome> {
     let mut calls = Vec::new(alloc);
     for cpu in 0..64 {
-        calls.push((cpu, Call::Post(task), Done::Posted)).ok()?;
+        calls
+            .push((cpu, Call::Post(task), Done::Posted))
+            .expect(rt, "memory");
     }
-    calls.push((home, Call::Drain, drained)).ok()?;
+    calls
+        .push((home, Call::Drain, drained))
+        .expect(rt, "memory");
     outcome_of_calls(rt, alloc, SIXTY_FOUR_CPUS, quota, 1, &calls)
 }
 
@@ -103,7 +120,7 @@ fn a_drain_that_takes_nothing_needs_its_room(rt: HostRuntime) {
             (cpu, Call::Drain, Done::SeatFull),
         ];
         let outcome = outcome_of_calls(&rt, rt.alloc(), SIXTY_FOUR_CPUS, 64, 1, &calls);
-        let lines = outcome.map(|outcome| outcome.history().len());
+        let lines = lines(outcome);
         assert!(rt; lines == Some(1), "CPU {cpu}");
     }
 }

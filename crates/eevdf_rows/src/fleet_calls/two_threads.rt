@@ -15,8 +15,8 @@ use eevdf_ops::{Outcome, Setup};
 use eevdf_workload::read_workload;
 use std::alloc::Global;
 use std::marker::Brand;
+use std::process::Abort;
 use std::sync::Wait;
-use std::test::Fail;
 use std::thread::{Threads, join};
 
 /// A hundred calls on one seat: a pick, a tick and a pull in turn.
@@ -33,7 +33,7 @@ fn operate<N: Names, R: Wait>(rt: &R, fleet: &Fleet<N>, mut seat: Seat<N>, other
 }
 
 /// What a fleet comes to by two threads.
-fn two_operate<N: Names + Send + Sync, R: Threads + Wait + Sync>(
+fn two_operate<N: Names + Send + Sync, R: Threads + Wait + Abort + Sync>(
     rt: &R,
     alloc: Global,
     setup: &Setup,
@@ -44,17 +44,17 @@ fn two_operate<N: Names + Send + Sync, R: Threads + Wait + Sync>(
     ensures allowed { IfSome result
         (λ outcome. list_all (allows setup.now) (deeds_of outcome.lines) ≡ true) }
 {
-    let (fleet, mut seats) = Fleet::<N>::open(alloc, kit).ok()?;
-    let one = seats.pop()?;
-    let zero = seats.pop()?;
+    let (fleet, mut seats) = Fleet::<N>::open(alloc, kit).expect(rt, "memory");
+    let one = seats.pop().expect(rt, "seat 1");
+    let zero = seats.pop().expect(rt, "seat 0");
     let shared = &fleet;
     let (zero, one) = join(
         rt,
         move || operate(rt, shared, zero, 1),
         move || operate(rt, shared, one, 0),
     );
-    seats.push(zero).ok()?;
-    seats.push(one).ok()?;
+    seats.push(zero).expect(rt, "memory");
+    seats.push(one).expect(rt, "memory");
     if fleet.has_all_seats(&seats) {
         Some(fleet.close(seats))
     } else {
@@ -68,16 +68,20 @@ const FOUR_TASKS: &[u8] =
 
 /// What two threads do is what one thread does that goes by their history.
 #[test]
-fn two_threads_operate(rt: HostRuntime) -> Result<(), Fail> {
-    let workload = read_workload(rt.alloc(), FOUR_TASKS)
-        .ok()
-        .ok_or("workload")?;
+fn two_threads_operate(rt: HostRuntime) {
+    let workload = read_workload(rt.alloc(), FOUR_TASKS).expect(&rt, "workload");
     let setup = workload.setup();
-    let kit = kit_of(rt.alloc(), setup, 100, 1).ok_or("kit")?;
-    let outcome = two_operate::<Brand, _>(&rt, rt.alloc(), setup, kit).ok_or("outcome")?;
+    let kit = kit_of(&rt, rt.alloc(), setup, 100, 1);
+    let outcome = two_operate::<Brand, _>(&rt, rt.alloc(), setup, kit).expect(&rt, "outcome");
     assert!(rt; outcome.history().len() == 200);
-    let alone = done_alone(rt.alloc(), setup, &outcome)?;
+    is_of_one_thread(&rt, rt.alloc(), setup, &outcome);
+}
+
+/// Asks that one thread comes to this outcome that does the deeds of its lines.
+fn is_of_one_thread(rt: &impl Abort, alloc: Global, setup: &Setup, outcome: &Outcome)
+    requires { list_all (allows setup.now) (deeds_of outcome.now.lines) ≡ true }
+{
+    let alone = done_alone(rt, alloc, setup, outcome);
     assert!(rt; alone.history() == outcome.history());
-    assert!(rt; end_alike(&alone, &outcome, 4));
-    Ok(())
+    assert!(rt; end_alike(&alone, outcome, 4));
 }

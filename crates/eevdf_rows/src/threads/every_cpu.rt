@@ -7,8 +7,8 @@ use crate::fleet_calls::seat_call::{Call, call_on};
 use eevdf_fleet::{Closed, Fleet, Names, Seat, SeatTurn, run_turns};
 use eevdf_ops::Deed;
 use std::ops::ControlFlow;
+use std::process::Abort;
 use std::sync::Wait;
-use std::test::Fail;
 
 /// Each operation once in each turn. CPU c pulls from CPU `cpus - 1 - c` and posts to it.
 #[derive(Drop)]
@@ -61,19 +61,23 @@ fn left(closed: &Closed) -> usize {
     requests
 }
 
+/// Asks that so many CPUs have done each operation in so many turns.
+fn have_done_each(rt: &impl Abort, closed: &Closed, cpus: usize, turns: usize) {
+    let of_each_kind = turns.saturating_mul(cpus);
+    let taken = taken(closed);
+    let lines = of_each_kind.saturating_mul(LINES).saturating_add(taken);
+    assert!(rt; closed.history().len() == lines, "{cpus} CPUs");
+    let requests = taken.saturating_add(left(closed));
+    assert!(rt; requests == of_each_kind, "{cpus} CPUs");
+}
+
 #[test]
-fn every_cpu_does_each_operation(rt: HostRuntime) -> Result<(), Fail> {
+fn every_cpu_does_each_operation(rt: HostRuntime) {
     for (cpus, turns, quota) in [(2, 10_000, 70_002), (64, 10, 134)] {
-        let setup = one_task_each(rt.alloc(), cpus)?;
-        let kit = kit_of(rt.alloc(), &setup, quota, turns).ok_or("kit")?;
+        let setup = one_task_each(&rt, rt.alloc(), cpus);
+        let kit = kit_of(&rt, rt.alloc(), &setup, quota, turns);
         let each = EachOperation { cpus: cpus as u64 };
-        let closed = run_turns(&rt, rt.alloc(), kit, turns, &each)?;
-        let of_each_kind = turns.saturating_mul(cpus);
-        let taken = taken(&closed);
-        let lines = of_each_kind.saturating_mul(LINES).saturating_add(taken);
-        assert!(rt; closed.history().len() == lines, "{cpus} CPUs");
-        let requests = taken.saturating_add(left(&closed));
-        assert!(rt; requests == of_each_kind, "{cpus} CPUs");
+        let closed = run_turns(&rt, rt.alloc(), kit, turns, &each).expect(&rt, "turns");
+        have_done_each(&rt, &closed, cpus, turns);
     }
-    Ok(())
 }

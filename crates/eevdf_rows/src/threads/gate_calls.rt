@@ -5,7 +5,6 @@ use eevdf_fleet::{Gate, run_all};
 use eevdf_ops::CpuId;
 use eevdf_workload::read_workload;
 use std::sync::atomic::{AtomicBool, AtomicUsize, Ordering};
-use std::test::Fail;
 
 /// An operation of each kind, and of sleeps one of a task of another home. CPU 1 does nothing.
 const WORKLOAD: &[u8] =
@@ -74,17 +73,16 @@ impl Gate for ComparingGate {
 }
 
 #[test]
-fn each_kind_of_operation_has_its_calls(rt: HostRuntime) -> Result<(), Fail> {
-    let workload = read_workload(rt.alloc(), WORKLOAD).ok().ok_or("workload")?;
+fn each_kind_of_operation_has_its_calls(rt: HostRuntime) {
+    let workload = read_workload(rt.alloc(), WORKLOAD).expect(&rt, "workload");
     let gate = ComparingGate {
         expected: calls(),
         calls: AtomicUsize::new(0),
         differs: AtomicBool::new(false),
     };
-    let outcome = run_all(&rt, rt.alloc(), workload.setup(), &gate)?;
+    let outcome = run_all(&rt, rt.alloc(), workload.setup(), &gate).expect(&rt, "run");
     assert!(rt; !gate.differs.load(Ordering::SeqCst));
     assert!(rt; gate.calls.load(Ordering::SeqCst) == gate.expected.len());
     // Eight of the nine have a line: the drain that of the wake, and the post none.
     assert!(rt; outcome.history().len() == 8);
-    Ok(())
 }

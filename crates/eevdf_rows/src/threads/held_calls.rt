@@ -3,10 +3,13 @@
 
 use super::gate_call::GateCall;
 use super::holding_gate::HoldingGate;
-use eevdf_fleet::run_all;
+use eevdf_fleet::{Closed, run_all};
 use eevdf_report::report;
 use eevdf_workload::read_workload;
-use std::test::Fail;
+use std::alloc::Global;
+use std::process::Abort;
+use std::sync::Wait;
+use std::thread::Threads;
 
 /// Programs, the calls that are held, each until the call beside it is made, and the report of the run.
 #[derive(Clone, Copy)]
@@ -99,21 +102,28 @@ fn cases() -> [Case; 7] {
     ]
 }
 
+/// Runs the programs of a case by threads that its gate holds.
+fn check_case<R: Threads + Wait + Abort + Sync>(rt: &R, alloc: Global, case: &Case) {
+    let workload = read_workload(alloc, case.workload).expect(rt, "workload");
+    let gate = HoldingGate::new(case.holds[0], case.holds[1]);
+    let closed = run_all(rt, alloc, workload.setup(), &gate).expect(rt, "run");
+    assert!(rt; !gate.has_given_up(), "{}", case.name);
+    is_reported(rt, alloc, &closed, case);
+}
+
+/// Asks that the report of a run is that of a case.
+fn is_reported(rt: &impl Abort, alloc: Global, closed: &Closed, case: &Case) {
+    let report = report(alloc, closed, case.has_history).expect(rt, "memory");
+    assert!(rt;
+        report.as_slice() == case.report.as_bytes(),
+        "{}",
+        case.name
+    );
+}
+
 #[test]
-fn operations_go_on_beside_one_another(rt: HostRuntime) -> Result<(), Fail> {
+fn operations_go_on_beside_one_another(rt: HostRuntime) {
     for case in &cases() {
-        let workload = read_workload(rt.alloc(), case.workload)
-            .ok()
-            .ok_or("workload")?;
-        let gate = HoldingGate::new(case.holds[0], case.holds[1]);
-        let outcome = run_all(&rt, rt.alloc(), workload.setup(), &gate)?;
-        assert!(rt; !gate.has_given_up(), "{}", case.name);
-        let report = report(rt.alloc(), &outcome, case.has_history)?;
-        assert!(rt;
-            report.as_slice() == case.report.as_bytes(),
-            "{}",
-            case.name
-        );
+        check_case(&rt, rt.alloc(), case);
     }
-    Ok(())
 }

@@ -5,7 +5,6 @@ use eevdf_ops::CpuId;
 use eevdf_workload::read_workload;
 use std::hint::spin_loop;
 use std::sync::atomic::{AtomicBool, AtomicU64, Ordering};
-use std::test::Fail;
 
 /// So many turns each operation stays inside.
 const TURNS: u64 = 10_000_000;
@@ -50,19 +49,18 @@ const PULL_FROM_THE_SECOND: &[u8] =
     b"version = 1\nprogram = [[\"pull 1\"], [\"pick\"]]\n[[task]]\nhome = 1\n";
 
 #[test]
-fn operations_on_one_queue_are_inside_one_after_the_other(rt: HostRuntime) -> Result<(), Fail> {
+fn operations_on_one_queue_are_inside_one_after_the_other(rt: HostRuntime) {
     for (name, text) in [
         ("a pull beside a pick", PULL_BESIDE_A_PICK),
         ("a pull beside a drain", PULL_BESIDE_A_DRAIN),
         ("a pull from the second CPU", PULL_FROM_THE_SECOND),
     ] {
-        let workload = read_workload(rt.alloc(), text).ok().ok_or("workload")?;
+        let workload = read_workload(rt.alloc(), text).expect(&rt, "workload");
         let gate = CountingGate {
             inside: AtomicU64::new(0),
             were_two: AtomicBool::new(false),
         };
-        let _outcome = run_all(&rt, rt.alloc(), workload.setup(), &gate)?;
+        let _outcome = run_all(&rt, rt.alloc(), workload.setup(), &gate).expect(&rt, "run");
         assert!(rt; !gate.were_two.load(Ordering::SeqCst), "{name}");
     }
-    Ok(())
 }

@@ -2,11 +2,11 @@
 
 use crate::fixtures::one_task_each;
 use eevdf_fleet::{Fleet, Kit, Names, Seat, SeatTurn, run_turns};
-use std::alloc::{AllocError, Global};
+use std::alloc::Global;
 use std::ops::ControlFlow;
+use std::process::Abort;
 use std::sync::Wait;
 use std::sync::atomic::{AtomicBool, AtomicUsize, Ordering};
-use std::test::Fail;
 
 const CPUS: usize = 64;
 
@@ -19,15 +19,15 @@ struct CountedPicks {
 }
 
 impl CountedPicks {
-    fn new(alloc: Global) -> Result<CountedPicks, AllocError> {
+    fn new(rt: &impl Abort, alloc: Global) -> CountedPicks {
         let mut counts = Vec::new(alloc);
         for _cpu in 0..CPUS {
-            counts.push(AtomicUsize::new(0))?;
+            counts.push(AtomicUsize::new(0)).expect(rt, "memory");
         }
-        Ok(CountedPicks {
+        CountedPicks {
             counts,
             is_misnumbered: AtomicBool::new(false),
-        })
+        }
     }
 
     fn count(&self, cpu: usize, turn: usize) {
@@ -68,13 +68,12 @@ impl SeatTurn for CountedPicks {
 
 /// There is room for three lines on each CPU, and a seat that is full has its turns all the same.
 #[test]
-fn each_cpu_has_its_turns_until_it_ends_them(rt: HostRuntime) -> Result<(), Fail> {
-    let setup = one_task_each(rt.alloc(), CPUS)?;
-    let kit = Kit::make(rt.alloc(), &setup, 3, 1)?;
-    let picks = CountedPicks::new(rt.alloc())?;
-    let closed = run_turns(&rt, rt.alloc(), kit, 5, &picks)?;
+fn each_cpu_has_its_turns_until_it_ends_them(rt: HostRuntime) {
+    let setup = one_task_each(&rt, rt.alloc(), CPUS);
+    let kit = Kit::make(rt.alloc(), &setup, 3, 1).expect(&rt, "memory");
+    let picks = CountedPicks::new(&rt, rt.alloc());
+    let closed = run_turns(&rt, rt.alloc(), kit, 5, &picks).expect(&rt, "turns");
     assert!(rt; picks.has_counted(5));
     assert!(rt; !picks.is_misnumbered.load(Ordering::SeqCst));
     assert!(rt; closed.history().len() == CPUS / 2 * 3 + CPUS / 2 * 2);
-    Ok(())
 }
