@@ -4,7 +4,8 @@ use crate::commands::{
     REPLAY, REPLAY_WITH_HISTORY, RUN, RUN_WITH_HISTORY, SOLO, SOLO_WITH_HISTORY,
 };
 use eevdf_bench::{Command, WordFault, command_of};
-use std::test::Fail;
+use std::alloc::Global;
+use std::process::Abort;
 
 const ROWS: [(&[&str], Result<Command, WordFault>); 22] = [
     (&["eevdf", "solo"], Ok(SOLO)),
@@ -44,11 +45,18 @@ fn words_are_taken_for_a_command_or_refused(rt: HostRuntime) {
     }
 }
 
+/// These words as strings.
+fn strings(rt: &impl Abort, alloc: Global, words: &[&str]) -> Vec<String> {
+    let mut strings = Vec::new(alloc);
+    for word in words {
+        let string = String::from_str(alloc, word).expect(rt, "memory");
+        strings.push(string).expect(rt, "memory");
+    }
+    strings
+}
+
 #[test]
-fn words_may_be_strings(rt: HostRuntime) -> Result<(), Fail> {
-    let mut words = Vec::new(rt.alloc());
-    words.push(String::from_str(rt.alloc(), "eevdf")?)?;
-    words.push(String::from_str(rt.alloc(), "solo")?)?;
+fn words_may_be_strings(rt: HostRuntime) {
+    let words = strings(&rt, rt.alloc(), &["eevdf", "solo"]);
     assert!(rt; command_of(rt.alloc(), words.as_slice()) == Ok(SOLO));
-    Ok(())
 }

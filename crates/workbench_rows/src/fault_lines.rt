@@ -6,22 +6,14 @@ use eevdf_ops::{CpuId, SetupFault};
 use eevdf_steps::PlayFault;
 use std::alloc::Global;
 use std::process::Abort;
-use std::test::Fail;
 
 /// Compares the line and the status of a fault, and the text that its `Display` has with the line.
-fn check(
-    rt: &impl Abort,
-    alloc: Global,
-    fault: BenchFault,
-    line: &str,
-    status: u8,
-) -> Result<(), Fail> {
-    let text = fault_text(alloc, &fault)?;
+fn check(rt: &impl Abort, alloc: Global, fault: BenchFault, line: &str, status: u8) {
+    let text = fault_text(alloc, &fault).expect(rt, "memory");
     assert!(rt; text.as_slice() == line.as_bytes(), "{line}");
-    let shown = format!(in alloc; "fault: {fault}\n")?;
+    let shown = format!(in alloc; "fault: {fault}\n").expect(rt, "memory");
     assert!(rt; shown.as_str() == line, "{line}");
     assert!(rt; status_of(&fault) == status, "{line}");
-    Ok(())
 }
 
 const KEYS: [(Key, &str); 15] = [
@@ -43,17 +35,16 @@ const KEYS: [(Key, &str); 15] = [
 ];
 
 #[test]
-fn each_key_has_its_text(rt: HostRuntime) -> Result<(), Fail> {
+fn each_key_has_its_text(rt: HostRuntime) {
     let alloc = rt.alloc();
     for (key, text) in KEYS {
         let bad = BenchFault::Load(LoadFault::BadValue { key });
-        let line = format!(in alloc; "fault: bad value at {text}\n")?;
-        check(&rt, alloc, bad, &line, 1)?;
+        let line = format!(in alloc; "fault: bad value at {text}\n").expect(&rt, "memory");
+        check(&rt, alloc, bad, &line, 1);
         let missing = BenchFault::Load(LoadFault::Missing { key });
-        let line = format!(in alloc; "fault: missing {text}\n")?;
-        check(&rt, alloc, missing, &line, 1)?;
+        let line = format!(in alloc; "fault: missing {text}\n").expect(&rt, "memory");
+        check(&rt, alloc, missing, &line, 1);
     }
-    Ok(())
 }
 
 /// Of the faults that name no CPU, those of a workload and of an order, and then those of the machine.
@@ -138,11 +129,11 @@ const FAULTS: [(BenchFault, &str, u8); 21] = [
 ];
 
 #[test]
-fn each_fault_has_its_line_and_status(rt: HostRuntime) -> Result<(), Fail> {
+fn each_fault_has_its_line_and_status(rt: HostRuntime) {
     for (fault, line, status) in FAULTS {
-        check(&rt, rt.alloc(), fault, line, status)?;
+        check(&rt, rt.alloc(), fault, line, status);
     }
-    let cpu = CpuId::new(15).ok_or("cpu")?;
+    let cpu = CpuId::new(15).expect(&rt, "cpu");
     let blocked = BenchFault::Play(PlayFault::Blocked { at: 4, cpu });
     check(
         &rt,
