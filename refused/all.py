@@ -1,4 +1,4 @@
-"""Looks at the library's calls and at the built programs."""
+"""Looks at the built programs and at the library's calls."""
 
 import argparse
 import os
@@ -7,6 +7,7 @@ from pathlib import Path
 
 import calls
 import commands
+import uses
 from programs import Programs
 from sweep import open_pool
 
@@ -25,6 +26,7 @@ def main():
     workloads = Path(__file__).parent / "workloads"
     with open_pool(asked.jobs) as pool:
         passed = commands.check(programs, pool, workloads, say) + calls.check(programs, pool, workloads, say)
+        passed += uses.check(programs, pool, say)
     say(f"{sum(passed)} passed, {len(passed) - sum(passed)} failed")
     sys.exit(0 if all(passed) else 1)
 

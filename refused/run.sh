@@ -20,7 +20,7 @@ compiler=$(find_compiler) || { echo "refused/run.sh: there is no C compiler" >&2
 
 # builds what isn't built yet
 if [ -z "${TOP:-}" ]; then
-  for name in eevdf eevdf_orders refused_calls; do
+  for name in eevdf eevdf_orders refused_calls eevdf_uses; do
     "$top/build" "$name" || exit 1
   done
 fi
