@@ -31,7 +31,7 @@ pub fn read_input<R: Read>(alloc: Global, reader: &mut Watched<R>) -> Result<Vec
 {
     let mut input = Vec::new(alloc);
     while input.len() < READ_LIMIT {
-        let count = read_piece(reader, &mut input)?;
+        let count = read_more(reader, &mut input)?;
         if count == 0 {
             break;
         }
@@ -40,7 +40,7 @@ pub fn read_input<R: Read>(alloc: Global, reader: &mut Watched<R>) -> Result<Vec
 }
 
 /// Reads one piece onto the end of the input, and says how long it is.
-fn read_piece<R: Read>(reader: &mut Watched<R>, input: &mut Vec<u8>) -> Result<usize, BenchFault>
+fn read_more<R: Read>(reader: &mut Watched<R>, input: &mut Vec<u8>) -> Result<usize, BenchFault>
     requires room { vec_len input.old < READ_LIMIT }
     requires whole { reader.old.failed ≡ false }
     ensures piece { IfOk result (ReadsOn (R.remaining reader.old.end) (R.remaining reader.new.end)
@@ -56,7 +56,30 @@ fn read_piece<R: Read>(reader: &mut Watched<R>, input: &mut Vec<u8>) -> Result<u
 {
     let mut buffer = [0u8; 8192];
     let room = (READ_LIMIT - input.len()).min(buffer.len());
-    let count = match reader.read(&mut buffer[..room]) {
+    read_piece(reader, &mut buffer[..room], input)
+}
+
+/// The same through a buffer that isn't empty, and for which the input has room.
+fn read_piece<R: Read>(
+    reader: &mut Watched<R>,
+    buffer: &mut [u8],
+    input: &mut Vec<u8>,
+) -> Result<usize, BenchFault>
+    requires some { 0 < length buffer.old }
+    requires room { vec_len input.old + length buffer.old ≤ READ_LIMIT }
+    requires whole { reader.old.failed ≡ false }
+    ensures piece { IfOk result (ReadsOn (R.remaining reader.old.end) (R.remaining reader.new.end)
+        input.old.items input.new.items) }
+    ensures limit { vec_len input.new ≤ READ_LIMIT }
+    ensures within { ReadsWithin (READ_LIMIT - vec_len input.old)
+        (R.remaining reader.old.end) (R.remaining reader.new.end) }
+    ensures grown { IfOk result (λ n. vec_len input.new ≡ vec_len input.old + n) }
+    ensures whole { OnOk result (reader.new.failed ≡ false) }
+    ensures failed { result ≡ Err BenchFault.Read → reader.new.failed ≡ true }
+    ensures unfailed { IfErr result (λ f. f ≢ BenchFault.Read → reader.new.failed ≡ false) }
+    ensures kinds { IfErr result (λ f. (f ≡ BenchFault.Read) ⊎ (f ≡ BenchFault.Memory)) }
+{
+    let count = match reader.read(buffer) {
         Ok(count) => count,
         Err(_) => return Err(BenchFault::Read),
     };

@@ -105,12 +105,12 @@ pub fn command_of<S: AsStr>(alloc: Global, words: &[S]) -> Result<Command, WordF
     ensures refused { result ≡ Err WordFault.Words → spec.is_taken (map S.text words.now) ≡ false }
 {
     let matches = matches_of(alloc, words)?;
-    let kind = matches
-        .subcommand_name()
-        .and_then(kind_named)
-        .ok_or(WordFault::Words)?;
+    let kind = matches.subcommand_name().and_then(kind_named);
     let history = has_history(&matches);
-    Ok(Command { kind, history })
+    match kind {
+        Some(kind) => Ok(Command { kind, history }),
+        None => Err(WordFault::Words),
+    }
 }
 
 fn matches_of<'a, S: AsStr>(alloc: Global, words: &'a [S]) -> Result<ArgMatches<'a>, WordFault>
@@ -122,22 +122,31 @@ fn matches_of<'a, S: AsStr>(alloc: Global, words: &'a [S]) -> Result<ArgMatches<
     ensures refused { result ≡ Err WordFault.Words
         → spec.is_taken (map S.text words.entry.now) ≡ false }
 {
-    let matches = program(alloc)?.try_get_matches_from(words)?;
-    Ok(matches)
+    match whole_program(alloc)?.try_get_matches_from(words) {
+        Ok(matches) => Ok(matches),
+        Err(error) => Err(WordFault::from(error)),
+    }
 }
 
-// The program as `clap` knows it.
-fn program<'a>(alloc: Global) -> Result<clap::Command<'a>, AllocError>
+// The program as `clap` knows it, with its subcommands.
+fn whole_program<'a>(alloc: Global) -> Result<clap::Command<'a>, AllocError>
     ensures model { IfOk result (λ c. app_of c ≡ spec.program) }
     ensures local { IfOk result (λ c. (fields_of c).has_globals ≡ false) }
 {
-    let bare = clap::Command::new(alloc, "eevdf")
-        .subcommand_required(true)
-        .disable_help_flag(true)
-        .disable_help_subcommand(true);
-    let one = with_command(alloc, bare, "solo")?;
+    let one = with_command(alloc, program(alloc), "solo")?;
     let two = with_command(alloc, one, "replay")?;
     with_command(alloc, two, "run")
+}
+
+// The program without its subcommands.
+fn program<'a>(alloc: Global) -> clap::Command<'a>
+    ensures model { app_of result ≡ spec.bare_program }
+    ensures local { (fields_of result).has_globals ≡ false }
+{
+    clap::Command::new(alloc, "eevdf")
+        .subcommand_required(true)
+        .disable_help_flag(true)
+        .disable_help_subcommand(true)
 }
 
 // The same with another subcommand.
@@ -151,8 +160,10 @@ fn with_command<'a>(
         ≡ with_subcommand (app_of program.entry) (spec.subcommand name.entry.now).top) }
     ensures local { IfOk result (λ c. (fields_of c).has_globals ≡ false) }
 {
-    let command = subcommand(alloc, name)?;
-    program.subcommand(command)
+    match subcommand(alloc, name) {
+        Ok(command) => program.subcommand(command),
+        Err(refused) => Err(refused),
+    }
 }
 
 // A subcommand with its flag.

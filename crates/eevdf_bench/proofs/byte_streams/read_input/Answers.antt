@@ -14,7 +14,7 @@ read g c =
           (read_front _ _ _ read_limit c.loop-reader.invariant.consumed (omega (arith, c.loop-reader.input.ok.0, c.loop-reader.invariant.within, w.loop-reader-test.false, c.len.ensures)))
       | then-loop-reader-test+in_ok-count+then-count-eq0 w ↦
           rw (w.input-is, w.reader-is)
-          (read_end _ _ _ _ _ _ read_limit c.loop-reader.invariant.consumed w.in_ok-count.ensures.piece w.if-count-eq0.true (omega (arith, w.read_piece.new.input.ok.0, w.in_ok-count.ensures.limit)))
+          (read_end _ _ _ _ _ _ read_limit c.loop-reader.invariant.consumed w.in_ok-count.ensures.piece w.if-count-eq0.true (omega (arith, w.read_more.new.input.ok.0, w.in_ok-count.ensures.limit)))
     ]
 
 pub returns-clause-bytes : goal.returns-clause-bytes
@@ -25,5 +25,5 @@ returns-clause-consumed g c = (read g c).1
 
 pub returns-in_err-count-clause-limit : goal.returns-in_err-count-clause-limit
 returns-in_err-count-clause-limit g c =
-    within_both _ _ _ c.loop-reader.input.items _ read_limit c.loop-reader.invariant.consumed c.read_piece.ensures.within
+    within_both _ _ _ c.loop-reader.input.items _ read_limit c.loop-reader.invariant.consumed c.read_more.ensures.within
     (omega (arith, c.loop-reader.input.ok.0, c.loop-reader.invariant.within))

@@ -78,12 +78,12 @@ kind_is_met : (words : List Text) (n : Option Text) → subcommand_named words �
 kind_is_met words n is some =
     kind_from (subcommand_of program words) n is some (entered_name names_kind (built program) (stop_after (built program).top.rules (names_of (built program)) (argument_words program words)) each_names_kind)
 
-pub returns-clause-ok : goal.returns-clause-ok
-returns-clause-ok g c =
+pub returns-in-Ok-clause-ok : goal.returns-in-Ok-clause-ok
+returns-in-Ok-clause-ok g c =
     let words : List Text = map g.S.AsStr.text c.args.words.now in
-    let known = c.in_ok-program.ensures in
-    let parse = c.in_ok-matches.ensures in
-    let matches = c.in_ok-matches.matches in
+    let known = c.in_ok-whole_program.ensures in
+    let parse = c.in-Ok.ensures in
+    let matches = c.in-Ok.matches in
     let is_program = known.model in
     let no_fault = ap (λ a. fault_of a words) (sym is_program) ∙ parse.kinds (ap is_simple_and_free is_program) in
     let name = name_met _ words matches is_program parse.matches in
