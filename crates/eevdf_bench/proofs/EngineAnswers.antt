@@ -1,6 +1,6 @@
 -- From the meaning of a workload to what the engine answers.
 use Rattle.std.proofs.Common.{◌≡◌, ℕ, Bool, ◌+◌, true, false, ◌&&◌, List, [], ◌∷◌, take, refl, sym, ap, subst, ◌∙◌, inl, inr}
-use Rattle.std.specs.Prelude.{Option, Some, IfSome, IfOk, Result, Ok, Err, OnErr, Vec, if◌then◌else◌}
+use Rattle.std.specs.Prelude.{Option, Some, None, IfSome, IfOk, IfErr, Result, Ok, Err, OnErr, Vec, if◌then◌else◌}
 use Rattle.std.proofs.lemmas.{Option.IfSome_then, Result.IfOk-weaker}
 use Rattle.std.specs.{declared.alloc.Global.Global, List.list_all, Io.KnownBytes.Appends}
 use Rattle.eevdf_ops.specs.{Setup.Setup, Setup.allows, declared.deeds.Deed.Deed}
@@ -108,3 +108,22 @@ of_input c left bytes input f b cut h = IfSome_then left cut (λ all cut. of_the
 
 pub on_err : {E : Type 0} (r : Result (Unit {0}) E) (e : E) (P : Type 0) → OnErr r P → r ≡ Err e → P
 on_err r e P h is = subst (λ s. OnErr s P) is h
+
+-- what failed to write blames the writer alone
+pub only_write : (r : Result (Unit {0}) BenchFault) (P : BenchFault → Type 0) → IfErr r (λ f. f ≡ bench.Write) → P bench.Write → IfErr r P
+only_write (Ok _) P kind h = tt
+only_write (Err f) P kind h = subst P (sym kind) h
+
+pub no_other : (r : Result (Unit {0}) BenchFault) (f : BenchFault) → IfErr r (λ f. f ≡ bench.Write) → r ≡ Err f → f ≡ bench.Write
+no_other r f kind is = subst (λ s. IfErr s (λ f. f ≡ bench.Write)) is kind
+
+abbrev failed : BenchFault → Result (Unit {0}) BenchFault
+failed f = Err f
+
+-- faults that differ are no equal results
+pub results_differ : (f g : BenchFault) → (f ≡ g → ⊥) → failed f ≡ failed g → ⊥
+results_differ f g differs is = differs cc
+
+pub any_input : (left : Option (List ℕ)) → IfSome left (λ _. Unit {0})
+any_input None = tt
+any_input (Some _) = tt

@@ -1,4 +1,5 @@
-use Rattle.eevdf_bench.proofs.EngineAnswers.{answered_as, written, begun, of_input, on_err, report_written}
+use Rattle.std.proofs.Common.{refl}
+use Rattle.eevdf_bench.proofs.EngineAnswers.{answered_as, any_input, written, begun, no_other, results_differ, of_input, on_err, only_write, report_written}
 use Rattle.std.proofs.lemmas.Result.{on_ok_weaker}
 use Rattle.eevdf_bench.proofs.bench_engine.engine.Goals as goal
 
@@ -23,3 +24,47 @@ returns-clause-one_thread g c =
     on_ok_weaker _
     (report_written c.args.command _ c.in_ok-input.input.items _ c.deref-2.result.now _ _ _ c.in_ok-input.ensures.bytes
     c.deref.ensures.value c.deref-2.ensures.value c.in-Ok.ensures.one_thread) c.write_text.ensures.written
+
+-- what the workload is refused for is none of an end, and the writer is as it was
+pub returns-in-Err-clause-begun : goal.returns-in-Err-clause-begun
+returns-in-Err-clause-begun g c = λ is. absurd (results_differ _ _ c.in-Err.ensures.answer.1.1 is)
+
+pub returns-in-Err-clause-consumed : goal.returns-in-Err-clause-consumed
+returns-in-Err-clause-consumed g c = λ _ _. c.in_ok-input.ensures.consumed
+
+pub returns-in-Err-clause-limit : goal.returns-in-Err-clause-limit
+returns-in-Err-clause-limit g c = c.in_ok-input.ensures.limit
+
+pub returns-in-Err-clause-read : goal.returns-in-Err-clause-read
+returns-in-Err-clause-read g c = λ is. absurd (results_differ _ _ c.in-Err.ensures.answer.1.0 is)
+
+pub returns-in-Err-clause-unfailed : goal.returns-in-Err-clause-unfailed
+returns-in-Err-clause-unfailed g c = λ _. c.in_ok-input.ensures.whole
+
+pub returns-in-Err-clause-write : goal.returns-in-Err-clause-write
+returns-in-Err-clause-write g c = λ is. absurd (results_differ _ _ c.in-Err.ensures.answer.1.1 is)
+
+pub returns-in-Err-clause-unwritten : goal.returns-in-Err-clause-unwritten
+returns-in-Err-clause-unwritten g c = λ _. refl
+
+-- what fails after that is the writer
+pub returns-clause-refused : goal.returns-clause-refused
+returns-clause-refused g c = only_write _ _ c.write_text.ensures.kind (any_input _)
+
+pub returns-clause-consumed : goal.returns-clause-consumed
+returns-clause-consumed g c = λ _ _. c.in_ok-input.ensures.consumed
+
+pub returns-clause-limit : goal.returns-clause-limit
+returns-clause-limit g c = c.in_ok-input.ensures.limit
+
+pub returns-clause-read : goal.returns-clause-read
+returns-clause-read g c = λ is. cc (no_other _ _ c.write_text.ensures.kind is)
+
+pub returns-clause-unfailed : goal.returns-clause-unfailed
+returns-clause-unfailed g c = only_write _ _ c.write_text.ensures.kind (λ _. c.in_ok-input.ensures.whole)
+
+pub returns-clause-unwritten : goal.returns-clause-unwritten
+returns-clause-unwritten g c = only_write _ _ c.write_text.ensures.kind (λ differs. absurd (differs refl))
+
+pub returns-clause-read_whole : goal.returns-clause-read_whole
+returns-clause-read_whole g c = on_ok_weaker _ (λ _. c.in_ok-input.ensures.whole) c.write_text.ensures.whole
