@@ -122,10 +122,8 @@ fn matches_of<'a, S: AsStr>(alloc: Global, words: &'a [S]) -> Result<ArgMatches<
     ensures refused { result ≡ Err WordFault.Words
         → spec.is_taken (map S.text words.entry.now) ≡ false }
 {
-    match whole_program(alloc)?.try_get_matches_from(words) {
-        Ok(matches) => Ok(matches),
-        Err(error) => Err(WordFault::from(error)),
-    }
+    let matches = whole_program(alloc)?.try_get_matches_from(words)?;
+    Ok(matches)
 }
 
 // The program as `clap` knows it, with its subcommands.
@@ -160,10 +158,8 @@ fn with_command<'a>(
         ≡ with_subcommand (app_of program.entry) (spec.subcommand name.entry.now).top) }
     ensures local { IfOk result (λ c. (fields_of c).has_globals ≡ false) }
 {
-    match subcommand(alloc, name) {
-        Ok(command) => program.subcommand(command),
-        Err(refused) => Err(refused),
-    }
+    let command = subcommand(alloc, name)?;
+    program.subcommand(command)
 }
 
 // A subcommand with its flag.

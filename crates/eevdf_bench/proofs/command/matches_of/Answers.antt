@@ -1,18 +1,14 @@
-use Rattle.std.proofs.Common.{◌≡◌, ◌∙◌, Bool, true, false, refl, sym, ap, List, [], ◌∷◌, Option, Some, None, is_some, true≢false, cond, option_map, map, subst, inl, inr, length, ne_eqb, arith}
+use Rattle.std.proofs.Common.{◌≡◌, ◌∙◌, Bool, true, false, refl, sym, ap, List, [], ◌∷◌, Option, Some, None, is_some, true≢false, cond, option_map, map}
 use Rattle.std.specs.{List.list_all, Option.option_map_or, Box.box_value}
 use Rattle.clap.proofs.WalkLemmas.{both}
 use Rattle.std.specs.Prelude.{Box, find, option_and_then}
 use Rattle.clap.specs.Words.{App, HasMatchesOf, IsParsedFrom, Row, Text, app_of, fault_of, has_subcommand, is_simple, is_simple_and_free, subcommand_name_of, subcommand_of, subcommand_rows, subcommand_rows_of}
-use Rattle.clap.specs.Kinds.{HasKind, Kinds}
-use Rattle.clap.specs.Values.{kind_of}
-use Rattle.clap.specs.declared.error.Error.{Error}
 use Rattle.clap.specs.Simple.{Shape, argument_words, built, entered, label_of, names_of, rows_at}
 use Rattle.clap.specs.Walk.{answers_to, is_empty, stop_after}
 use Rattle.clap.specs.{declared.builder.command.Command.Command, declared.builder.command.Command.TheViews.out-Command}
 use Rattle.clap.specs.{declared.parser.matches.ArgMatches.ArgMatches, declared.parser.matches.ArgMatches.TheViews.out-ArgMatches}
 use Rattle.clap.specs.{declared.parser.matches.ArgMatches.TheViews.out-SubCommand, declared.parser.matches.SubCommand.SubCommand}
-use Rattle.eevdf_bench.specs.Command.{has_history, history_in, kind_named, program, subcommand_named, word_fault}
-use Rattle.eevdf_bench.specs.{declared.command.WordFault.WordFault, declared.command.WordFault.TheVariants.Memory, declared.command.WordFault.TheVariants.Words}
+use Rattle.eevdf_bench.specs.Command.{has_history, history_in, kind_named, program, subcommand_named}
 use Rattle.eevdf_bench.proofs.command.matches_of.Goals as goal
 
 -- `clap` tells all of a parse by this command line
@@ -82,30 +78,14 @@ kind_is_met : (words : List Text) (n : Option Text) → subcommand_named words �
 kind_is_met words n is some =
     kind_from (subcommand_of program words) n is some (entered_name names_kind (built program) (stop_after (built program).top.rules (names_of (built program)) (argument_words program words)) each_names_kind)
 
-pub returns-in-Ok-clause-ok : goal.returns-in-Ok-clause-ok
-returns-in-Ok-clause-ok g c =
+pub returns-clause-ok : goal.returns-clause-ok
+returns-clause-ok g c =
     let words : List Text = map g.S.AsStr.text c.args.words.now in
     let known = c.in_ok-whole_program.ensures in
-    let parse = c.in-Ok.ensures in
-    let matches = c.in-Ok.matches in
+    let parse = c.in_ok-matches.ensures in
+    let matches = c.in_ok-matches.matches in
     let is_program = known.model in
     let no_fault = ap (λ a. fault_of a words) (sym is_program) ∙ parse.kinds (ap is_simple_and_free is_program) in
     let name = name_met _ words matches is_program parse.matches in
     let met = subcommand_is_met _ matches is_program known.local parse.parsed in
     (ap is_empty no_fault, kind_is_met words _ name (has_name matches met), name, rows_met _ words matches is_program parse.matches)
-
-memory_is_no_word : Words ≡ Memory → ⊥
-memory_is_no_word e = cc
-
--- words that are refused have a fault
-has_fault : (kinds : Kinds) (e : Error) (f : WordFault) → HasKind kinds e → f ≡ word_fault (kind_of e) → f ≡ Words → is_empty kinds ≡ false
-has_fault [] e f (inl memory) is words = absurd (memory_is_no_word (sym words ∙ is ∙ ap word_fault memory))
-has_fault [] e f (inr none) is words = absurd none
-has_fault (k ∷ ks) e f kind is words = ne_eqb (length (k ∷ ks)) 0 (omega arith)
-
-pub returns-in-Err-clause-refused : goal.returns-in-Err-clause-refused
-returns-in-Err-clause-refused g c =
-    let words : List Text = map g.S.AsStr.text c.args.words.now in
-    let is_program = c.in_ok-whole_program.ensures.model in
-    let kind = subst (λ (a : App). HasKind (fault_of a words) c.in-Err.error) is_program (c.in-Err.ensures.kinds (ap is_simple_and_free is_program)) in
-    λ is. has_fault (fault_of program words) c.in-Err.error c.from.result kind c.from.ensures cc
