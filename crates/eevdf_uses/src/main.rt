@@ -12,10 +12,10 @@ use crate::one_queue::{add, one_queue};
 use crate::own_order::{last_first, pull_and_picks};
 use crate::two_queues::pull;
 use crate::two_threads::sleep_and_wake;
-use eevdf_fleet::RunFault;
-use eevdf_ops::Deed;
+use eevdf_fleet::{Closed, RunFault};
+use eevdf_ops::{Answer, Deed, Line};
 use eevdf_queue::{Queue, TaskId};
-use std::alloc::AllocError;
+use std::alloc::{AllocError, Global};
 use std::io;
 use std::sync::{Mutex, Wait};
 use std::thread::Threads;
@@ -30,7 +30,12 @@ fn main(rt: HostRuntime) -> io::Result<()> {
 
 fn show_one_queue(rt: &(impl Print + AllocGlobal)) -> io::Result<()> {
     println!(rt; "one queue")?;
-    for task in one_queue(rt.alloc())?.iter() {
+    let ran = one_queue(rt.alloc())?;
+    print_turns(rt, &ran)
+}
+
+fn print_turns(rt: &impl Print, ran: &[TaskId]) -> io::Result<()> {
+    for task in ran {
         println!(rt; "{task} ran")?;
     }
     Ok(())
@@ -39,13 +44,24 @@ fn show_one_queue(rt: &(impl Print + AllocGlobal)) -> io::Result<()> {
 fn show_two_queues(rt: &(impl Print + AllocGlobal + Wait)) -> io::Result<()> {
     println!(rt; "two queues")?;
     let mut source = Queue::open();
+    add_three(rt.alloc(), &mut source)?;
+    print_pulls(rt, &Mutex::new(source), &Mutex::new(Queue::open()))
+}
+
+fn add_three(alloc: Global, queue: &mut Queue) -> Result<(), AllocError> {
     for number in 0..3 {
-        add(rt.alloc(), &mut source, TaskId::new(number).unwrap())?;
+        add(alloc, queue, TaskId::new(number).unwrap())?;
     }
-    let lower = Mutex::new(source);
-    let higher = Mutex::new(Queue::open());
+    Ok(())
+}
+
+fn print_pulls(
+    rt: &(impl Print + Wait),
+    lower: &Mutex<Queue>,
+    higher: &Mutex<Queue>,
+) -> io::Result<()> {
     for from_lower in [true, true, false] {
-        let moved = pull(rt, &lower, &higher, from_lower);
+        let moved = pull(rt, lower, higher, from_lower);
         println!(rt; "{}", if moved { "a task moved" } else { "none moved" })?;
     }
     Ok(())
@@ -63,7 +79,12 @@ fn show_checked_input(rt: &(impl Print + AllocGlobal)) -> io::Result<()> {
     let Ok(setup) = two_cpus(rt.alloc()) else {
         return Err(out_of_memory());
     };
-    for answer in answers(rt.alloc(), &setup, &orders)?.iter() {
+    let answers = answers(rt.alloc(), &setup, &orders)?;
+    print_answers(rt, &answers)
+}
+
+fn print_answers(rt: &impl Print, answers: &[Option<Answer>]) -> io::Result<()> {
+    for answer in answers {
         match answer {
             Some(answer) => println!(rt; "{answer}")?,
             None => println!(rt; "refused")?,
@@ -77,26 +98,34 @@ fn show_own_order(rt: &(impl Print + AllocGlobal)) -> io::Result<()> {
     let Ok(setup) = pull_and_picks(rt.alloc()) else {
         return Err(out_of_memory());
     };
-    if let Some(outcome) = last_first(rt.alloc(), &setup, 100)? {
-        for line in outcome.history() {
-            println!(rt; "{line}")?;
-        }
+    match last_first(rt.alloc(), &setup, 100)? {
+        Some(outcome) => print_lines(rt, outcome.history()),
+        None => Ok(()),
+    }
+}
+
+fn print_lines(rt: &impl Print, lines: &[Line]) -> io::Result<()> {
+    for line in lines {
+        println!(rt; "{line}")?;
     }
     Ok(())
 }
 
-/// Prints what is the same in whatever order the threads come: the lines of CPU 0, and how many requests there were.
 fn show_two_threads(rt: &(impl Print + AllocGlobal + Threads + Wait + Sync)) -> io::Result<()> {
     println!(rt; "two threads")?;
     let Ok(setup) = two_cpus(rt.alloc()) else {
         return Err(out_of_memory());
     };
     let sleeper = TaskId::new(1).unwrap();
-    let closed = match sleep_and_wake(rt, rt.alloc(), &setup, sleeper) {
-        Ok(closed) => closed,
-        Err(RunFault::Memory) => return Err(out_of_memory()),
-        Err(RunFault::Start) => return Err(io::Error::from(io::ErrorKind::WouldBlock)),
-    };
+    match sleep_and_wake(rt, rt.alloc(), &setup, sleeper) {
+        Ok(closed) => print_closed(rt, &closed),
+        Err(RunFault::Memory) => Err(out_of_memory()),
+        Err(RunFault::Start) => Err(io::Error::from(io::ErrorKind::WouldBlock)),
+    }
+}
+
+/// Prints what is the same in whatever order the threads come: the lines of CPU 0, and how many requests there were.
+fn print_closed(rt: &impl Print, closed: &Closed) -> io::Result<()> {
     let mut requests = 0usize;
     for line in closed.history() {
         match line.deed {
