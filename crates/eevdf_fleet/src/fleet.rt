@@ -1,5 +1,5 @@
 ghost use Rattle.std.specs.Prelude.{◌≡◌, ◌≢◌, ◌*◌, ◌<◌, ◌≤◌, ◌↔◌, nat_lt, All, IfOk, IsErr, IsTrue};
-ghost use Rattle.std.specs.Prelude.{MatchResult, length, true};
+ghost use Rattle.std.specs.Prelude.{MatchResult, [], length, true};
 ghost use Rattle.std.specs.List.{list_all};
 ghost use Rattle.eevdf_ops.specs.{Histories.IsOneThread, Machine.start, Outcome.machine_of};
 ghost use Rattle.eevdf_ops.specs.{Places.IsPlaced, Programs.deeds_of};
@@ -74,6 +74,21 @@ impl<N: Names> Fleet<N> {
             ≡ fresh_seats (quota_of N.kit) (cpus_of (setup_of N.kit))) }
     {
         let ends = ReturnedEnds::open(alloc, kit.queues.len(), kit.rings.capacity())?;
+        let (fleet, seats) = Fleet::<N>::with_room(alloc, kit, ends)?;
+        Ok((fleet, seats))
+    }
+
+    /// Opens a fleet from its kit, with this room for the ends of rings that its seats will give back.
+    fn with_room(
+        alloc: Global,
+        kit: Kit,
+        ends: ReturnedEnds<N>,
+    ) -> Result<(Fleet<N>, Vec<Seat<N>>), AllocError>
+        requires kit { kit ≡ N.kit }
+        requires ends { ends ≡ record { cpus = cpus_of (setup_of N.kit); posts = []; takes = [] } }
+        ensures { IfOk result (λ r. r.1.items
+            ≡ fresh_seats (quota_of N.kit) (cpus_of (setup_of N.kit))) }
+    {
         let Kit {
             board,
             token,
