@@ -41,6 +41,9 @@ spawn_with-requires-clause-runs g c κs within =
 pub push_reserved-requires : goal.push_reserved-requires
 push_reserved-requires g c = omega (arith, c.loop-seat.invariant.count, c.loop-seat.invariant.room, c.in-Some.ensures.steps.1)
 
+pub returns-in_default : goal.returns-in_default
+returns-in_default g c = tt
+
 pub loop-seat-preserved : goal.loop-seat-preserved
 loop-seat-preserved g c =
     let k = g.N.Names.kit in let n = cpus_of (setup_of k) in let before = c.loop-seat.threads in let f = fresh k.terms.quota n in
