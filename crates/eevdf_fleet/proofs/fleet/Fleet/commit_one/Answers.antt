@@ -1,6 +1,7 @@
 use Rattle.std.proofs.Common.{ap, map, ◌∙◌}
+use Rattle.eevdf_ops.specs.declared.deeds.Line.{Line}
 use Rattle.eevdf_queue.specs.declared.queue.Queue.{Queue}
-use Rattle.eevdf_fleet.specs.{Board.claims_of, Claims.advanced}
+use Rattle.eevdf_fleet.specs.{Board.claims_of, Claims.advanced, Fleets.written}
 use Rattle.eevdf_fleet.proofs.{Advances.one-advanced, OwedQueues.one-owes}
 use Rattle.eevdf_fleet.proofs.fleet.Fleet.commit_one.Goals as goal
 
@@ -14,3 +15,6 @@ pub commit-requires-clause-owed : goal.commit-requires-clause-owed
 commit-requires-clause-owed g c =
     one-owes g.N.Names.kit.terms c.args.log.now.cpu (claims_of c.args.token) c.args.queue.now.state c.args.line.now c.said-said.result c.requires.one c.requires.own c.requires.committable c.requires.done
     c.said-said.ensures.line (c.said-said.ensures.cpu ∙ c.cpu.ensures.cpu) (ap (λ (q : Queue). q.state) c.said-said.ensures.queue)
+
+pub returns-clause-log : goal.returns-clause-log
+returns-clause-log g c = c.commit.ensures.log ∙ ap (λ (l : Line). written c.args.log.now l) c.said-said.ensures.line
