@@ -74,8 +74,7 @@ impl<N: Names> Fleet<N> {
             ≡ fresh_seats (quota_of N.kit) (cpus_of (setup_of N.kit))) }
     {
         let ends = ReturnedEnds::open(alloc, kit.queues.len(), kit.rings.capacity())?;
-        let (fleet, seats) = Fleet::<N>::with_room(alloc, kit, ends)?;
-        Ok((fleet, seats))
+        Fleet::<N>::with_room(alloc, kit, ends)
     }
 
     /// Opens a fleet from its kit, with this room for the ends of rings that its seats will give back.

@@ -1,4 +1,4 @@
 use Rattle.eevdf_fleet.proofs.fleet.Fleet.open.Goals as goal
 
 pub returns : goal.returns
-returns g c = c.in_ok-fleet.ensures
+returns g c = c.with_room.ensures
