@@ -18,7 +18,7 @@ import tempfile
 import threading
 from pathlib import Path
 
-from edits import TOP, BadEdit, apply, edits_of, is_in_its_function, names_of
+from edits import TOP, BadEdit, apply, are_apart, edits_of, is_of_functions, names_of
 from libraries import CRATES, Libraries
 from stand_ins import put_stand_ins
 
@@ -124,12 +124,14 @@ class Tries:
 
 
 def groups_of(crate, edits):
-    """The edits in groups that are tried together: no two of one function, and by itself each that changes more than a body."""
-    together = [edit for edit in edits if is_in_its_function(edit, folder_of(crate))]
+    """The edits in groups that are tried together: no two of them of one function, and by itself each that changes more than
+    functions."""
+    folder = folder_of(crate)
+    together = [edit for edit in edits if is_of_functions(edit, folder)]
     alone = [[edit] for edit in edits if edit not in together]
     groups = [[] for _ in range(math.ceil(len(together) / MOST))]
     for edit in together:
-        free = [group for group in groups if edit.refused not in (other.refused for other in group)]
+        free = [group for group in groups if all(are_apart(edit, other, folder) for other in group)]
         if not free:
             groups.append([])
             free = groups[-1:]

@@ -1,6 +1,7 @@
 """The wrong bodies of the crates. Each is an edit, a file crates/CRATE/must-fail/NAME.edit in the kit's form: the lines `file:`,
 `old:` and `new:` say what is put in place of what, and a line `refused:` names the function that the prover must not accept then."""
 
+import functools
 import re
 from dataclasses import dataclass
 from pathlib import Path
@@ -29,6 +30,10 @@ class Edit:
 
     def __str__(self):
         return f"{self.crate}/{self.name}"
+
+    def name_refused(self):
+        """The name of the function that is to be refused, without its path."""
+        return self.refused.rpartition("::")[2]
 
 
 class BadEdit(Exception):
@@ -76,9 +81,17 @@ class Function:
     end: int
 
 
-def ends_signature(line, margin, is_first):
-    """Whether a line of a function of this margin has the brace that begins its body."""
-    return line.startswith(margin + "{") or line.endswith((" {", " {}")) and (is_first or line.startswith(margin + ")"))
+def end_of_signature(lines, first, margin):
+    """The line after which a function's body begins, or with which it ends, where it has no body."""
+    depth = 0
+    for number in range(first, len(lines)):
+        line = lines[number]
+        depth += line.count("{") - line.count("}")
+        begins = line.startswith(margin + "{") or line.endswith((" {", " {}")) and (number == first or line.startswith(margin + ")"))
+        # within the braces of a clause a line may end so too
+        if begins or line.endswith(";") and depth == 0:
+            return number
+    raise ValueError(f"the function in line {first + 1} has no end")
 
 
 def functions_of(text):
@@ -90,7 +103,7 @@ def functions_of(text):
         if not begun or found and first <= found[-1].end:
             continue
         margin, name = begun.groups()
-        begin = next(n for n in range(first, len(lines)) if lines[n].endswith(";") or ends_signature(lines[n], margin, n == first))
+        begin = end_of_signature(lines, first, margin)
         if not lines[begin].endswith(";"):
             end = begin if lines[begin].endswith("}") else lines.index(margin + "}", begin)
             found.append(Function(name, margin, first, begin, end))
@@ -115,14 +128,26 @@ def changed(edit, folder):
     return texts, functions
 
 
+@functools.cache
 def names_of(edit, folder):
     """The names of the function that is to be refused and of those that the edit changes."""
-    return changed(edit, folder)[1] - {None} | {edit.refused.rpartition("::")[2]}
+    return changed(edit, folder)[1] - {None} | {edit.name_refused()}
 
 
-def is_in_its_function(edit, folder):
-    """Whether each change is of the body of the function that is to be refused, so that it is no matter to the others."""
-    return changed(edit, folder)[1] == {edit.refused.rpartition("::")[2]}
+def are_apart(edit, other, folder):
+    """Whether two edits are of different functions."""
+    beside, beside_other = (names_of(it, folder) - {it.name_refused()} for it in (edit, other))
+    return (
+        edit.refused != other.refused
+        and edit.name_refused() not in beside_other
+        and other.name_refused() not in beside
+        and not beside & beside_other
+    )
+
+
+def is_of_functions(edit, folder):
+    """Whether each change is of a function, so that it is no matter to others."""
+    return None not in changed(edit, folder)[1]
 
 
 def apply(edit, folder):

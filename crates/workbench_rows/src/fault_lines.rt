@@ -8,12 +8,12 @@ use std::alloc::Global;
 use std::process::Abort;
 
 /// Compares the line and the status of a fault, and the text that its `Display` has with the line.
-fn check(rt: &impl Abort, alloc: Global, fault: BenchFault, line: &str, status: u8) {
-    let text = fault_text(alloc, &fault).expect(rt, "memory");
+fn check(rt: &impl Abort, alloc: Global, fault: &BenchFault, line: &str, status: u8) {
+    let text = fault_text(alloc, fault).expect(rt, "memory");
     assert!(rt; text.as_slice() == line.as_bytes(), "{line}");
     let shown = format!(in alloc; "fault: {fault}\n").expect(rt, "memory");
     assert!(rt; shown.as_str() == line, "{line}");
-    assert!(rt; status_of(&fault) == status, "{line}");
+    assert!(rt; status_of(fault) == status, "{line}");
 }
 
 const KEYS: [(Key, &str); 15] = [
@@ -40,10 +40,10 @@ fn each_key_has_its_text(rt: HostRuntime) {
     for (key, text) in KEYS {
         let bad = BenchFault::Load(LoadFault::BadValue { key });
         let line = format!(in alloc; "fault: bad value at {text}\n").expect(&rt, "memory");
-        check(&rt, alloc, bad, &line, 1);
+        check(&rt, alloc, &bad, &line, 1);
         let missing = BenchFault::Load(LoadFault::Missing { key });
         let line = format!(in alloc; "fault: missing {text}\n").expect(&rt, "memory");
-        check(&rt, alloc, missing, &line, 1);
+        check(&rt, alloc, &missing, &line, 1);
     }
 }
 
@@ -130,15 +130,15 @@ const FAULTS: [(BenchFault, &str, u8); 21] = [
 
 #[test]
 fn each_fault_has_its_line_and_status(rt: HostRuntime) {
-    for (fault, line, status) in FAULTS {
-        check(&rt, rt.alloc(), fault, line, status);
+    for (fault, line, status) in &FAULTS {
+        check(&rt, rt.alloc(), fault, line, *status);
     }
     let cpu = CpuId::new(15).expect(&rt, "cpu");
     let blocked = BenchFault::Play(PlayFault::Blocked { at: 4, cpu });
     check(
         &rt,
         rt.alloc(),
-        blocked,
+        &blocked,
         "fault: order at 4: blocked on 15\n",
         1,
     )
