@@ -15,7 +15,7 @@ unsafe extern "C" {
 pub fn stand_in() -> !
 {
     unsafe { never_returns() };
-    unsafe { std::hint::unreachable_unchecked() }
+    unreachable!()
 }
 """
 BODY = "    crate::stand_in::stand_in()"
