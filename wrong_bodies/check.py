@@ -18,7 +18,7 @@ import tempfile
 import threading
 from pathlib import Path
 
-from edits import TOP, BadEdit, apply, are_apart, edits_of, is_of_functions, names_of
+from edits import TOP, BadEdit, apply, are_apart, edits_of, is_of_bodies, names_of
 from libraries import CRATES, Libraries
 from stand_ins import put_stand_ins
 
@@ -125,9 +125,9 @@ class Tries:
 
 def groups_of(crate, edits):
     """The edits in groups that are tried together: no two of them of one function, and by itself each that changes more than
-    functions."""
+    bodies."""
     folder = folder_of(crate)
-    together = [edit for edit in edits if is_of_functions(edit, folder)]
+    together = [edit for edit in edits if is_of_bodies(edit, folder)]
     alone = [[edit] for edit in edits if edit not in together]
     groups = [[] for _ in range(math.ceil(len(together) / MOST))]
     for edit in together:

@@ -111,13 +111,15 @@ def functions_of(text):
 
 
 def function_at(text, place):
-    """The name of the function whose lines this place of a file's text stands in, if it is one's."""
+    """The name of the function in whose body this place of a file's text stands, if it is one's. The signature is left out: it has
+    the contract, which is a matter to callers too."""
     line = text.count("\n", 0, place)
-    return next((it.name for it in functions_of(text) if it.first <= line <= it.end), None)
+    return next((it.name for it in functions_of(text) if it.begin <= line <= it.end), None)
 
 
 def changed(edit, folder):
-    """The texts that the edit leaves of the files of the crate's folder, and the functions that it changes them in."""
+    """The texts that the edit leaves of the files of the crate's folder, and the functions in whose bodies it changes them, with None
+    where it changes anything else."""
     texts, functions = {}, set()
     for change in edit.changes:
         text = texts.get(change.file) or (folder / change.file).read_text()
@@ -129,9 +131,15 @@ def changed(edit, folder):
 
 
 @functools.cache
+def functions_changed(edit, folder):
+    """The names of the functions whose bodies the edit changes in the crate's folder as it stands before any edit, with None where
+    it changes anything else."""
+    return frozenset(changed(edit, folder)[1])
+
+
 def names_of(edit, folder):
     """The names of the function that is to be refused and of those that the edit changes."""
-    return changed(edit, folder)[1] - {None} | {edit.name_refused()}
+    return functions_changed(edit, folder) - {None} | {edit.name_refused()}
 
 
 def are_apart(edit, other, folder):
@@ -145,9 +153,9 @@ def are_apart(edit, other, folder):
     )
 
 
-def is_of_functions(edit, folder):
-    """Whether each change is of a function, so that it is no matter to others."""
-    return None not in changed(edit, folder)[1]
+def is_of_bodies(edit, folder):
+    """Whether each change is of a function's body, so that it is no matter to others."""
+    return None not in functions_changed(edit, folder)
 
 
 def apply(edit, folder):
