@@ -1,8 +1,8 @@
 //! Reading the whole input, up to a limit, and writing the whole report.
 
-ghost use Rattle.std.specs.Prelude.{◌≡◌, ◌≢◌, ◌+◌, ◌-◌, ◌≤◌, ◌<◌, ◌⊎◌, length, take, true, false, vec_len, IfOk, OnOk, IfErr, OnErr, IfSome, Err};
+ghost use Rattle.std.specs.Prelude.{◌≡◌, ◌≢◌, ◌+◌, ◌≤◌, ◌<◌, ◌⊎◌, length, take, true, false, vec_len, IfOk, OnOk, IfErr, OnErr, IfSome, Err};
 ghost use Rattle.std.specs.Io.KnownBytes.{Appends, Keeps};
-ghost use Rattle.eevdf_bench.specs.Streams.{ReadsOn, ReadsTo, ReadsWithin, HasBegun};
+ghost use Rattle.eevdf_bench.specs.Streams.{ReadsPiece, ReadsTo, ReadsWithin, HasBegun};
 ghost use Rattle.eevdf_workload.specs.Meaning.{read_limit};
 
 use crate::bench_fault::BenchFault;
@@ -43,16 +43,8 @@ pub fn read_input<R: Read>(alloc: Global, reader: &mut Watched<R>) -> Result<Vec
 fn read_more<R: Read>(reader: &mut Watched<R>, input: &mut Vec<u8>) -> Result<usize, BenchFault>
     requires room { vec_len input.old < READ_LIMIT }
     requires whole { reader.old.failed ≡ false }
-    ensures piece { IfOk result (ReadsOn (R.remaining reader.old.end) (R.remaining reader.new.end)
-        input.old.items input.new.items) }
-    ensures limit { vec_len input.new ≤ READ_LIMIT }
-    ensures within { ReadsWithin (READ_LIMIT - vec_len input.old)
-        (R.remaining reader.old.end) (R.remaining reader.new.end) }
-    ensures grown { IfOk result (λ n. vec_len input.new ≡ vec_len input.old + n) }
-    ensures whole { OnOk result (reader.new.failed ≡ false) }
-    ensures failed { result ≡ Err BenchFault.Read → reader.new.failed ≡ true }
-    ensures unfailed { IfErr result (λ f. f ≢ BenchFault.Read → reader.new.failed ≡ false) }
-    ensures kinds { IfErr result (λ f. (f ≡ BenchFault.Read) ⊎ (f ≡ BenchFault.Memory)) }
+    ensures { ReadsPiece result (R.remaining reader.old.end) (R.remaining reader.new.end)
+        reader.new.failed input.old.items input.new.items }
 {
     let mut buffer = [0u8; 8192];
     let room = (READ_LIMIT - input.len()).min(buffer.len());
@@ -68,16 +60,8 @@ fn read_piece<R: Read>(
     requires some { 0 < length buffer.old }
     requires room { vec_len input.old + length buffer.old ≤ READ_LIMIT }
     requires whole { reader.old.failed ≡ false }
-    ensures piece { IfOk result (ReadsOn (R.remaining reader.old.end) (R.remaining reader.new.end)
-        input.old.items input.new.items) }
-    ensures limit { vec_len input.new ≤ READ_LIMIT }
-    ensures within { ReadsWithin (READ_LIMIT - vec_len input.old)
-        (R.remaining reader.old.end) (R.remaining reader.new.end) }
-    ensures grown { IfOk result (λ n. vec_len input.new ≡ vec_len input.old + n) }
-    ensures whole { OnOk result (reader.new.failed ≡ false) }
-    ensures failed { result ≡ Err BenchFault.Read → reader.new.failed ≡ true }
-    ensures unfailed { IfErr result (λ f. f ≢ BenchFault.Read → reader.new.failed ≡ false) }
-    ensures kinds { IfErr result (λ f. (f ≡ BenchFault.Read) ⊎ (f ≡ BenchFault.Memory)) }
+    ensures { ReadsPiece result (R.remaining reader.old.end) (R.remaining reader.new.end)
+        reader.new.failed input.old.items input.new.items }
 {
     let count = match reader.read(buffer) {
         Ok(count) => count,
