@@ -48,10 +48,10 @@ pub record IsSameHigh (b a : Inside) : Type 0 where
   pub left : height_in a.sides.left ≡ height_in b.sides.left
   pub right : height_in a.sides.right ≡ height_in b.sides.right
 
-pub still_high : (b a : Inside) → IsNode b → IsSameHigh b a → a.least ≡ least_of (tasks_of a)
+pub still_high : (b a : Inside) → IsNode b.height b.least b.sides.left b.task b.sides.right → IsSameHigh b a → a.least ≡ least_of (tasks_of a)
     → suc (max (height_in a.sides.left) (height_in a.sides.right)) ≤ length (tasks_of a)
     → (DifferByAtMost 1 (height_in a.sides.left) (height_in a.sides.right) → IsFull (suc (max (height_in a.sides.left) (height_in a.sides.right))) (length (tasks_of a)))
-    → AreLow (tasks_of a) → IsNode a
+    → AreLow (tasks_of a) → IsNode a.height a.least a.sides.left a.task a.sides.right
 still_high b a n s least low full bounded =
     let height : a.height ≡ suc (max (height_in a.sides.left) (height_in a.sides.right)) = omega (arith, n.height, s.height, s.left, s.right) in
     let balanced : DifferByAtMost 1 (height_in a.sides.left) (height_in a.sides.right) =

@@ -27,11 +27,15 @@ pub use tree_edit::{insert, remove};
 
 /// A task, and the nodes on either side of it.
 #[derive(Drop)]
+#[repr(C)]
 pub struct TreeNode {
     task: Task,
     height: u32,
     least: Least,
     sides: Sides<Option<Box<TreeNode>>>,
+    /// Keeps two nodes from sharing a line of 64 bytes, at any address. Nodes of tasks on different CPUs can lie side by side,
+    /// and each thread that writes to its own would else take the line from the other.
+    unused: [u64; 8],
 }
 
 impl Model for TreeNode {
@@ -44,7 +48,7 @@ impl Model for TreeNode {
 
     ghost view = { tree_of };
 
-    ghost invariant = { IsNode };
+    ghost invariant = { λ a. IsNode a.height a.least a.sides.left a.task a.sides.right };
 
     ghost size = { λ a. length a.tasks };
 
@@ -96,6 +100,7 @@ impl TreeNode {
                 left: None,
                 right: None,
             },
+            unused: [0; 8],
         }
     }
 

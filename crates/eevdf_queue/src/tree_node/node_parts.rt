@@ -61,13 +61,7 @@ pub fn correct(
         → node_least.old ≡ least_of (tasks_in left.old ++ task.old ∷ tasks_in right.old) }
     ensures tasks { tasks_in left.new ++ task.new ∷ tasks_in right.new
         ≡ tasks_in left.old ++ task.old ∷ tasks_in right.old }
-    ensures node { IsNode
-        (record {
-          task = task.new;
-          height = node_height.new;
-          least = node_least.new;
-          sides = record { left = left.new; right = right.new };
-        }) }
+    ensures node { IsNode node_height.new node_least.new left.new task.new right.new }
     ensures mended { IsHeightOfBalanced (height_in left.old) (height_in right.old) node_height.new }
     ensures same_height { keeps_height result ≡ true → node_height.new ≡ node_height.old }
     ensures same_least { keeps_least result ≡ true → node_least.new ≡ node_least.old }
@@ -99,13 +93,7 @@ fn correct_both(
     requires few { length (tasks_in left.old) + length (tasks_in right.old) ≤ 2 ^ 20 }
     ensures tasks { tasks_in left.new ++ task.new ∷ tasks_in right.new
         ≡ tasks_in left.old ++ task.old ∷ tasks_in right.old }
-    ensures node { IsNode
-        (record {
-          task = task.new;
-          height = node_height.new;
-          least = node_least.new;
-          sides = record { left = left.new; right = right.new };
-        }) }
+    ensures node { IsNode node_height.new node_least.new left.new task.new right.new }
     ensures mended { IsHeightOfBalanced (height_in left.old) (height_in right.old) node_height.new }
     ensures same_height { keeps_height result ≡ true → node_height.new ≡ node_height.old }
     ensures same_least { keeps_least result ≡ true → node_least.new ≡ node_least.old }
@@ -138,12 +126,7 @@ pub fn raise(
         ≡ tasks_in left.old ++ task.old ∷ tasks_in right.old }
     ensures node { (least : _)
         → least ≡ least_of (tasks_in left.new ++ task.new ∷ tasks_in right.new)
-        → IsNode (record {
-          task = task.new;
-          height = node_height.new;
-          least = least;
-          sides = record { left = left.new; right = right.new };
-        }) }
+        → IsNode node_height.new least left.new task.new right.new }
     ensures mended { IsHeightOfBalanced (height_in left.old) (height_in right.old) node_height.new }
     ensures same_height { result ≡ false → node_height.new ≡ node_height.old }
 {
@@ -173,13 +156,7 @@ fn mend_uneven(
     requires few { length (tasks_in left.old) + length (tasks_in right.old) ≤ 2 ^ 20 }
     ensures tasks { tasks_in left.new ++ task.new ∷ tasks_in right.new
         ≡ tasks_in left.old ++ task.old ∷ tasks_in right.old }
-    ensures node { IsNode
-        (record {
-          task = task.new;
-          height = node_height.new;
-          least = node_least.new;
-          sides = record { left = left.new; right = right.new };
-        }) }
+    ensures node { IsNode node_height.new node_least.new left.new task.new right.new }
     ensures mended { IsHeightOfBalanced (height_in left.old) (height_in right.old) node_height.new }
     ensures same_height { keeps_height result ≡ true → node_height.new ≡ node_height.old }
     ensures same_least { keeps_least result ≡ true → node_least.new ≡ node_least.old }
@@ -204,12 +181,7 @@ fn raise_uneven(
         ≡ tasks_in left.old ++ task.old ∷ tasks_in right.old }
     ensures node { (least : _)
         → least ≡ least_of (tasks_in left.new ++ task.new ∷ tasks_in right.new)
-        → IsNode (record {
-          task = task.new;
-          height = node_height.new;
-          least = least;
-          sides = record { left = left.new; right = right.new };
-        }) }
+        → IsNode node_height.new least left.new task.new right.new }
     ensures mended { IsHeightOfBalanced (height_in left.old) (height_in right.old) node_height.new }
     ensures same_height { result ≡ false → node_height.new ≡ node_height.old }
 {
@@ -228,13 +200,7 @@ pub fn renew(
 )
     requires balanced { DifferByAtMost 1 (height_in left.now) (height_in right.now) }
     requires low { max (height_in left.now) (height_in right.now) ≤ 2 ^ 20 }
-    ensures node { IsNode
-        (record {
-          task = task.now;
-          height = node_height.new;
-          least = node_least.new;
-          sides = record { left = left.now; right = right.now };
-        }) }
+    ensures node { IsNode node_height.new node_least.new left.now task.now right.now }
     ensures height { node_height.new ≡ suc (max (height_in left.now) (height_in right.now)) }
 {
     let around = look_around(left, task, right);

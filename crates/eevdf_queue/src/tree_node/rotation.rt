@@ -200,13 +200,7 @@ fn cross_right(
 )
     requires balanced { DifferByAtMost 1 (height_in node_right.old) (height_in right.old) }
     requires low { max (height_in node_right.old) (height_in right.old) ≤ 2 ^ 20 }
-    ensures node { IsNode
-        (record {
-          task = node_task.new;
-          height = node_height.new;
-          least = node_least.new;
-          sides = record { left = node_left.new; right = node_right.new };
-        }) }
+    ensures node { IsNode node_height.new node_least.new node_left.new node_task.new node_right.new }
     ensures tasks { tasks_in node_left.new ++ node_task.new ∷ tasks_in node_right.new
         ≡ tasks_in node_right.old ++ task.old ∷ tasks_in right.old }
     ensures height { node_height.new ≡ suc (max (height_in node_right.old) (height_in right.old)) }
@@ -234,13 +228,7 @@ fn cross_left(
 )
     requires balanced { DifferByAtMost 1 (height_in node_left.old) (height_in left.old) }
     requires low { max (height_in node_left.old) (height_in left.old) ≤ 2 ^ 20 }
-    ensures node { IsNode
-        (record {
-          task = node_task.new;
-          height = node_height.new;
-          least = node_least.new;
-          sides = record { left = node_left.new; right = node_right.new };
-        }) }
+    ensures node { IsNode node_height.new node_least.new node_left.new node_task.new node_right.new }
     ensures tasks { tasks_in node_left.new ++ node_task.new ∷ tasks_in node_right.new
         ≡ tasks_in left.old ++ task.old ∷ tasks_in node_left.old }
     ensures height { node_height.new ≡ suc (max (height_in node_left.old) (height_in left.old)) }
