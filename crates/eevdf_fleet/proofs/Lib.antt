@@ -1,7 +1,9 @@
 pub mod Totals
 pub mod Told
-pub mod Committable
+pub mod ClaimsTold
 pub mod Boards
+pub mod BoardOpening
+pub mod BoardCalls
 pub mod Sums
 pub mod Rooms
 pub mod Commits
@@ -10,10 +12,10 @@ pub mod OwedQueues
 pub mod Pulled
 pub mod Placed
 pub mod Openings
-pub mod QueuesClosed
 pub mod Closings
 pub mod RingPlaces
 pub mod ProgramSeats
+pub mod MarkedItems
 pub mod RingEnds
 pub mod RingRests
 pub mod RingOpenings
@@ -23,12 +25,11 @@ pub mod Takes
 pub mod SenderTurns
 pub mod SeatLists
 pub mod SeatParts
-pub mod PostedHome
 pub mod SeatTurns
 pub mod PostsTold
-pub mod AllowedLines
 pub mod Crossing
 pub mod ProgramRooms
 pub mod ProgramDrains
 pub mod ProgramOperations
 pub mod ProgramPlaces
+pub mod EndlessSeats

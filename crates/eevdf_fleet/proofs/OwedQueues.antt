@@ -3,7 +3,7 @@ use Rattle.std.proofs.Common.{◌≡◌, ◌≢◌, ℕ, ◌+◌, ◌<◌, ◌�
 use Rattle.std.specs.Prelude.{◌==◌, Option, Some, None}
 use Rattle.std.proofs.{Math.ListN.length-set, lemmas.Bool.false≢true, lemmas.Bool.ne_eqb, lemmas.List.get_or-set_same}
 use Rattle.eevdf_queue.specs.{State.State, State.Contents, State.empty_state, Moves.put_asleep, Leaving.carried_running, Leaving.leave}
-use Rattle.eevdf_ops.specs.{declared.deeds.Answer.Answer, declared.deeds.Deed.Deed, declared.deeds.Line.Line, Setup.home_of}
+use Rattle.eevdf_ops.specs.{declared.deeds.Answer.Answer, declared.deeds.Deed.Deed, declared.deeds.Line.Line, Setup.allows, Setup.home_of, Setup.is_allowed}
 use Rattle.eevdf_ops.specs.{Machine.Machine, Machine.queue_at, Whole.whole, WholeSleep.sleep, WholeSleep.sleep_carrying, WholeSleep.task_leaves}
 use Rattle.eevdf_ops.specs.declared.deeds.Deed.TheVariants.{Tick, Pick, Yield, Sleep, Wake, Pull, Renice}
 use Rattle.eevdf_ops.specs.OneQueue.{one_tick, one_pick, one_yield, one_wake, one_renice}
@@ -13,7 +13,7 @@ use Rattle.eevdf_ops.specs.WholePull.{offer, load_of, decision}
 use Rattle.eevdf_ops.proofs.{MapCounts.equal, LocalParts.whole-after, LocalParts.whole-answer}
 use Rattle.eevdf_fleet.specs.{declared.board.claims.Terms.Terms, declared.board.claims.Claim.Claim, declared.board.claims.Said.Said}
 use Rattle.eevdf_fleet.specs.declared.board.claims.Claim.TheVariants.{Queue}
-use Rattle.eevdf_fleet.specs.Claims.{queue, once, times, homes, may_commit, AllAgree, OwesQueues, advanced, is_committable}
+use Rattle.eevdf_fleet.specs.Claims.{queue, once, times, homes, AllAgree, OwesQueues, advanced}
 use Rattle.eevdf_fleet.specs.TouchedQueues.{AreDoneFrom, IsDoneFrom, IsOfOneQueue, IsOfTwoQueues, one_done, two_done}
 use Rattle.eevdf_fleet.proofs.{Advances.one-advanced, Advances.two-advanced, Rooms.decider-below}
 
@@ -60,28 +60,28 @@ one-leaves hs (Sleep k task) m cpu one own h =
     ap (λ (n : ℕ). queue_at (sleep m k n task).1 cpu) one ∙ ap (λ (n : ℕ). queue_at (sleep m n n task).1 cpu) own ∙ sleeps-here m cpu (carried_running (queue_at m cpu) task) h
 one-leaves hs (Pull k source) m cpu one own h = absurd one
 
-owes-one : (t : Terms) (cpu : ℕ) (claims : List Claim) (after : State) (s : Said) → IsOfOneQueue (homes t) s.line.deed → decider s.line.deed ≡ cpu → may_commit t.setup.value s.line.deed ≡ true
+owes-one : (t : Terms) (cpu : ℕ) (claims : List Claim) (after : State) (s : Said) → IsOfOneQueue (homes t) s.line.deed → decider s.line.deed ≡ cpu → allows t.setup.value s.line.deed ≡ true
     → IsDoneFrom claims cpu after s.line → s.second.cpu ≡ cpu → s.second.queue.value.state ≡ after → OwesQueues t claims s
 owes-one t cpu claims after s one own may done at is = record {
   claimed = λ c e. subst (λ (cs : List Claim). 1 ≤ times (queue c) cs) (sym done.claimed)
       (let here : once (cpu == c) ≡ 1 = ap once (one-touched (homes t) s.line.deed c cpu one own e) in omega arith);
-  committable = may;
+  allowed = may;
   answers = λ m fits agree.
       let held : AllAgree m (Queue cpu done.before ∷ []) = subst (λ (cs : List Claim). AllAgree m cs) done.claimed agree in
       one-answer (homes t) s.line.deed m cpu one own ∙ ap (λ (q : State). (one_done s.line.deed q).0) held.0 ∙ sym done.answers;
   changes = λ m fits agree.
       let held : AllAgree m (Queue cpu done.before ∷ []) = subst (λ (cs : List Claim). AllAgree m cs) done.claimed agree in
-      let below : cpu < length m = subst (λ (n : ℕ). n < length m) own (decider-below (length m) (homes t) s.line.deed fits.committable) in
+      let below : cpu < length m = subst (λ (n : ℕ). n < length m) own (decider-below (length m) (homes t) s.line.deed fits.allowed) in
       subst (λ (cs : List Claim). AllAgree (whole (homes t) s.line.deed m).1 cs) (sym (ap (map (advanced s)) done.claimed ∙ one-advanced s cpu done.before after at is))
       (one-leaves (homes t) s.line.deed m cpu one own below ∙ ap (λ (q : State). (one_done s.line.deed q).1) held.0 ∙ sym done.leaves, tt);
 }
 
 -- a line that has changed the queue of one CPU, which is told as the second
-pub one-owes : (t : Terms) (cpu : ℕ) (claims : List Claim) (after : State) (l : Line) (s : Said) → IsOfOneQueue (homes t) l.deed → decider l.deed ≡ cpu → may_commit t.setup.value l.deed ≡ true
+pub one-owes : (t : Terms) (cpu : ℕ) (claims : List Claim) (after : State) (l : Line) (s : Said) → IsOfOneQueue (homes t) l.deed → decider l.deed ≡ cpu → allows t.setup.value l.deed ≡ true
     → IsDoneFrom claims cpu after l → s.line ≡ l → s.second.cpu ≡ cpu → s.second.queue.value.state ≡ after → OwesQueues t claims s
 one-owes t cpu claims after l s one own may done line at is =
     owes-one t cpu claims after s (subst (λ (x : Line). IsOfOneQueue (homes t) x.deed) (sym line) one) (ap (λ (x : Line). decider x.deed) line ∙ own)
-    (ap (λ (x : Line). may_commit t.setup.value x.deed) line ∙ may) (subst (λ (x : Line). IsDoneFrom claims cpu after x) (sym line) done) at is
+    (ap (λ (x : Line). allows t.setup.value x.deed) line ∙ may) (subst (λ (x : Line). IsDoneFrom claims cpu after x) (sym line) done) at is
 
 claimed-either : (c cpu other : ℕ) (x y : Bool) → (c == cpu) ≡ x → (c == other) ≡ y → (x || y) ≡ true → 1 ≤ once (cpu == c) + (once (other == c) + 0)
 claimed-either c cpu other true y e f some = let here : once (cpu == c) ≡ 1 = ap once (eq-eqb cpu c (sym (equal c cpu e))) in omega arith
@@ -154,7 +154,7 @@ pull-leaves hs k source m apart fits =
           ∙ ap (λ (b : Bool). cond b (after_leaving t (queue_at m source)) (queue_at m source)) (eq-eqb source source refl),
     )
 
-two-leaves : (hs : List ℕ) (d : Deed) (m : Machine) (cpu other : ℕ) → IsOfTwoQueues hs other d → decider d ≡ cpu → other ≢ cpu → is_committable (length m) hs d ≡ true → AreCpus (length m) hs
+two-leaves : (hs : List ℕ) (d : Deed) (m : Machine) (cpu other : ℕ) → IsOfTwoQueues hs other d → decider d ≡ cpu → other ≢ cpu → is_allowed (length m) hs d ≡ true → AreCpus (length m) hs
     → AreLeftBy d m (whole hs d m).1 cpu other
 two-leaves hs (Sleep k task) m cpu other two own apart allowed cpus =
     subst (λ (n : ℕ). AreLeftBy (Sleep k task) m (whole hs (Sleep k task) m).1 n other) own
@@ -172,7 +172,7 @@ two-leaves hs (Renice k task nice) m cpu other two own apart allowed cpus = absu
 
 -- a line that has changed the queues of two CPUs
 pub two-owes : (t : Terms) (cpu other : ℕ) (claims : List Claim) (after other_after : State) (l : Line) (s : Said) → IsOfTwoQueues (homes t) other l.deed → decider l.deed ≡ cpu → other ≢ cpu
-    → may_commit t.setup.value l.deed ≡ true → AreDoneFrom claims cpu after other other_after l → s.line ≡ l → s.first.cpu ≡ cpu → s.second.cpu ≡ other
+    → allows t.setup.value l.deed ≡ true → AreDoneFrom claims cpu after other other_after l → s.line ≡ l → s.first.cpu ≡ cpu → s.second.cpu ≡ other
     → s.first.queue.value.state ≡ after → s.second.queue.value.state ≡ other_after → OwesQueues t claims s
 two-owes t cpu other claims after other_after l s two' own' apart may' done' line at other_at is other_is =
     let hs : List ℕ = homes t in
@@ -182,13 +182,13 @@ two-owes t cpu other claims after other_after l s two' own' apart may' done' lin
     let done : AreDoneFrom claims cpu after other other_after s.line = subst (λ (x : Line). AreDoneFrom claims cpu after other other_after x) (sym line) done' in
     record {
       claimed = λ c e. subst (λ (cs : List Claim). 1 ≤ times (queue c) cs) (sym done.claimed) (two-touched hs d c cpu other two own e);
-      committable = ap (λ (x : Line). may_commit t.setup.value x.deed) line ∙ may';
+      allowed = ap (λ (x : Line). allows t.setup.value x.deed) line ∙ may';
       answers = λ m fits agree.
           let held : AllAgree m (Queue cpu done.before ∷ Queue other done.other_before ∷ []) = subst (λ (cs : List Claim). AllAgree m cs) done.claimed agree in
           two-answer hs d m cpu other two own ∙ ap (λ (q : State). (two_done d q (queue_at m other)).0) held.0 ∙ ap (λ (q : State). (two_done d done.before q).0) held.1.0 ∙ sym done.answers;
       changes = λ m fits agree.
           let held : AllAgree m (Queue cpu done.before ∷ Queue other done.other_before ∷ []) = subst (λ (cs : List Claim). AllAgree m cs) done.claimed agree in
-          let left : AreLeftBy d m (whole hs d m).1 cpu other = two-leaves hs d m cpu other two own apart fits.committable fits.cpus in
+          let left : AreLeftBy d m (whole hs d m).1 cpu other = two-leaves hs d m cpu other two own apart fits.allowed fits.cpus in
           subst (λ (cs : List Claim). AllAgree (whole hs d m).1 cs)
           (sym (ap (map (advanced s)) done.claimed ∙ two-advanced s cpu other done.before done.other_before after other_after apart at other_at is other_is)) (
             left.0 ∙ ap (λ (q : State). (two_done d q (queue_at m other)).1.0) held.0 ∙ ap (λ (q : State). (two_done d done.before q).1.0) held.1.0 ∙ sym done.leaves,

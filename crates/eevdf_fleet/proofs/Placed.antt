@@ -1,7 +1,7 @@
 -- No task stands twice in the queues that a token claims.
-use Rattle.std.proofs.Common.{◌≡◌, ◌≢◌, ℕ, zero, suc, ◌+◌, ◌<◌, ◌≤◌, Bool, true, false, [], ◌∷◌, length, refl, ap, arith}
+use Rattle.std.proofs.Common.{◌≡◌, ◌≢◌, ℕ, zero, suc, ◌+◌, ◌<◌, ◌≤◌, Bool, true, false, List, [], ◌∷◌, length, refl, ap, arith}
 use Rattle.eevdf_queue.specs.State.{State}
-use Rattle.eevdf_ops.specs.{Machine.Machine, Machine.queue_at, Setup.cpus_of, Setup.is_task}
+use Rattle.eevdf_ops.specs.{declared.deeds.Line.Line, Machine.Machine, Machine.queue_at, Setup.cpus_of, Setup.is_task}
 use Rattle.eevdf_ops.specs.Places.{count, places_in, places}
 use Rattle.eevdf_ops.proofs.MachinePlaces.{places-at}
 use Rattle.eevdf_fleet.specs.{declared.board.claims.Terms.Terms, declared.board.claims.Claim.TheVariants.Queue, Claims.homes}
@@ -19,10 +19,10 @@ pub at-most : (b : Bool) → count b ≤ 1
 at-most true = omega arith
 at-most false = omega arith
 
-pub none-twice : (t : Terms) (a b : ℕ) (q r : State) → Known t (Queue a q ∷ Queue b r ∷ []) → a ≢ b → a < cpus_of t.setup.value → b < cpus_of t.setup.value → NoneTwice q r
-none-twice t a b q r known apart h g task =
-    let m : Machine = told t known.lines in
-    let many : length m ≡ cpus_of t.setup.value = length-told t known.lines in
+pub none-twice : (t : Terms) (lines : List Line) (a b : ℕ) (q r : State) → Known t lines (Queue a q ∷ Queue b r ∷ []) → a ≢ b → a < cpus_of t.setup.value → b < cpus_of t.setup.value → NoneTwice q r
+none-twice t lines a b q r known apart h g task =
+    let m : Machine = told t lines in
+    let many : length m ≡ cpus_of t.setup.value = length-told t lines in
     let one : places m task ≤ 1 = omega (arith, known.kept.placed.once task, at-most (is_task (homes t) task)) in
     let two : places_in (queue_at m a) task + places_in (queue_at m b) task ≤ places m task = places-two m a b task apart (omega arith) (omega arith) in
     let first : places_in (queue_at m a) task ≡ places_in q task = ap (λ (s : State). places_in s task) known.tell.0 in

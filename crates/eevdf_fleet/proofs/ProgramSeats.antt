@@ -12,16 +12,12 @@ use Rattle.eevdf_ops.specs.Programs.{FitsProgram, deeds_of, lines_by, posts_in, 
 use Rattle.eevdf_ops.specs.Setup.{Setup, allows, cpus_of, homes_of, is_allowed}
 use Rattle.eevdf_fleet.specs.Fleets.{AllPostsTold, Seat, fresh}
 use Rattle.eevdf_fleet.specs.{ProgramRuns.AreRun, ProgramRuns.HasRun, SeatWorks.AreDone}
-use Rattle.eevdf_fleet.proofs.Committable.{allowed-committable}
 use Rattle.eevdf_fleet.proofs.Rooms.{below, decider-below, left, right}
 use Rattle.eevdf_fleet.proofs.Takes.{wake-other}
 
 -- where each thread's work is its CPU's program, the programs are run
-pub done-run : (s : Setup) (seats : List Seat) → AreDone (cpus_of s) (λ seat. HasRun s seat.cpu (program_of s seat.cpu) seat) seats → AreRun s seats
-done-run s seats done = record {
-  all = done.all;
-  each = λ cpu seat at. subst (λ (p : ℕ). HasRun s p (program_of s p) seat) (done.each cpu seat at).0 (done.each cpu seat at).1;
-}
+pub done-run : (s : Setup) (seats : List Seat) → AreDone (cpus_of s) (λ cpu seat. HasRun s cpu (program_of s cpu) seat) seats → AreRun s seats
+done-run s seats done = record { all = done.all; each = done.each }
 
 line_of_another : (b : Bool) (l : Line) (lines : List Line) → b ≡ false → cond b (l ∷ lines) lines ≡ lines
 line_of_another false l lines e = refl
@@ -31,7 +27,7 @@ line_of_another true l lines e = cc
 no_lines : (cpus : ℕ) (hs : List ℕ) (p : ℕ) (lines : List Line) → cpus ≤ p → list_all (is_allowed cpus hs) (deeds_of lines) ≡ true → lines_by p lines ≡ []
 no_lines cpus hs p [] past ok = refl
 no_lines cpus hs p (l ∷ lines) past ok =
-    let there : decider l.deed < cpus = decider-below cpus hs l.deed (allowed-committable cpus hs l.deed (left _ _ ok)) in
+    let there : decider l.deed < cpus = decider-below cpus hs l.deed (left _ _ ok) in
     let other : (decider l.deed == p) ≡ false = grind (arith, nat_tests) in
     line_of_another (decider l.deed == p) l (lines_by p lines) other ∙ no_lines cpus hs p lines past (right (is_allowed cpus hs l.deed) _ ok)
 

@@ -1,112 +1,200 @@
 -- The ends of the rings, where one of them moves on.
-use Rattle.std.proofs.Common.{◌≡◌, ℕ, ◌+◌, ◌<◌, ◌≤◌, List, [], ◌++◌, length, map, get_or, set, sym, ap, ◌∙◌, arith}
+use Rattle.std.proofs.Common.{◌≡◌, ℕ, zero, suc, ◌+◌, ◌<◌, ◌≤◌, min, List, [], ◌∷◌, ◌++◌, length, map, get_or, set, refl, sym, ap, ◌∙◌, arith, get_or-set_same}
 use Rattle.std.proofs.{Math.Seq.map-set_same, lemmas.Option.slice_get_read}
-use Rattle.std.proofs.lemmas.List.{length-map, map-set, get_or-map}
-use Rattle.std.specs.Prelude.{Option, Some, None}
+use Rattle.std.proofs.lemmas.List.{length-map, map-set, get_or-map, set-get_or}
+use Rattle.std.specs.Prelude.{Option, Some, None, slice_get}
 use Rattle.std.specs.Option.{IsSomeAnd}
 use Rattle.rtrb.specs.Ring.{sent, known_free, received, consumer_capacity, IsPair, SameConsumer, SameProducer, ProducerLooked}
-use Rattle.eevdf_fleet.specs.Rings.{Ring, Posts, Takes, posted_to, posted_more, taken_more}
-use Rattle.eevdf_fleet.specs.RingEnds.{Pushing, Popping, PushesInto, PopsFrom, AreProducers, AreConsumers, posts, takes}
+use Rattle.eevdf_fleet.specs.Requests.{Grows, IsMarked, tasks_after, tasks_of}
+use Rattle.eevdf_fleet.specs.Rings.{HasLooked, HasPosted, Ring, Rings, Posts, Takes, free_to, posted_to, ring_at, taken_from, taken_more}
+use Rattle.eevdf_fleet.specs.RingEnds.{Pushing, Popping, PushesInto, PopsFrom, AreProducers, AreConsumers, free_in, posted_into, posts, slots_for, taken_out, takes}
+use Rattle.eevdf_fleet.proofs.{MarkedItems.grows-tasks, MarkedItems.marked-length, MarkedItems.next-task, MarkedItems.same-marked}
 use Rattle.eevdf_fleet.proofs.RingPlaces.{each-set, got-read}
-
-abbrev pub posts_of : ℕ → List (List ℕ) → Posts
-posts_of sender l = record { sender = sender; posted = l }
 
 abbrev pub takes_of : ℕ → List (List ℕ) → Takes
 takes_of home l = record { home = home; taken = l }
+
+abbrev pub posts_of : ℕ → List (List ℕ) → List ℕ → Posts
+posts_of sender l free = record { sender = sender; posted = l; free = free }
 
 of_more : {E : Type 0} (P : Ring → E → Type 0) (o : Option Ring) (e e' : E) → ((r : Ring) → P r e → P r e') → IsSomeAnd o (λ r. P r e) → IsSomeAnd o (λ r. P r e')
 of_more P None e e' step h = h
 of_more P (Some r) e e' step h = step r h
 
-pub consumers-set : {capacity : ℕ} {ring : ℕ → ℕ → Option Ring} {home : ℕ} {es : List Popping} (k : ℕ) (e e' : Popping) → AreConsumers capacity ring home es
-    → e ≡ get_or es k e → SameConsumer e e' → AreConsumers capacity ring home (set es k e')
-consumers-set {capacity} {ring} {home} {es} k e e' h at same = record {
-  each = each-set _ es k e' (λ x got. of_more (PopsFrom capacity) (ring k home) e e' (λ r pops. record {
+pub consumers-set : {r : Rings} {home : ℕ} {es : List Popping} (k : ℕ) (e e' : Popping) → AreConsumers r home es
+    → e ≡ get_or es k e → SameConsumer e e' → (IsMarked r.homes home (received e) → IsMarked r.homes home (received e')) → AreConsumers r home (set es k e')
+consumers-set {r} {home} {es} k e e' h at same marked = record {
+  each = each-set _ es k e' (λ x got. of_more (PopsFrom r.capacity r.homes home) (ring_at r k home) e e' (λ ring pops. record {
     pair = (same.0.0 ∙ pops.pair.0, same.0.1 ∙ pops.pair.1, same.0.2 ∙ pops.pair.2, same.0.3 ∙ pops.pair.3);
     capacity_is = same.1 ∙ pops.capacity_is;
+    marked = marked pops.marked;
   }) (h.each k e (got-read es k e x at got))) h.each;
 }
 
-pub producers-set : {capacity : ℕ} {ring : ℕ → ℕ → Option Ring} {sender : ℕ} {es : List Pushing} (k : ℕ) (e e' : Pushing) → AreProducers capacity ring sender es
+pub producers-set : {r : Rings} {sender : ℕ} {es : List Pushing} (k : ℕ) (e e' : Pushing) → AreProducers r sender es
     → e ≡ get_or es k e → SameProducer e e'
-    → (capacity ≤ known_free e + length (sent e) → capacity ≤ known_free e' + length (sent e')) → AreProducers capacity ring sender (set es k e')
-producers-set {capacity} {ring} {sender} {es} k e e' h at same room = record {
-  each = each-set _ es k e' (λ x got. of_more (PushesInto capacity) (ring sender k) e e' (λ r pushes. record {
+    → (r.capacity < known_free e + length (sent e) → r.capacity < known_free e' + length (sent e'))
+    → (IsMarked r.homes k (sent e) → IsMarked r.homes k (sent e')) → AreProducers r sender (set es k e')
+producers-set {r} {sender} {es} k e e' h at same room marked = record {
+  each = each-set _ es k e' (λ x got. of_more (PushesInto r.capacity r.homes k) (ring_at r sender k) e e' (λ ring pushes. record {
     same = ((same.0.0 ∙ pushes.same.0.0, same.0.1 ∙ pushes.same.0.1, same.0.2 ∙ pushes.same.0.2, same.0.3 ∙ pushes.same.0.3), same.1 ∙ pushes.same.1);
     room = room pushes.room;
+    marked = marked pushes.marked;
   }) (h.each k e (got-read es k e x at got))) h.each;
 }
 
 -- an end that has looked at its ring
-pub producers-looked : {capacity : ℕ} {ring : ℕ → ℕ → Option Ring} {sender : ℕ} {es : List Pushing} (k : ℕ) (e e' : Pushing) → AreProducers capacity ring sender es
-    → e ≡ get_or es k e → ProducerLooked e e' → AreProducers capacity ring sender (set es k e')
-producers-looked k e e' h at looked = producers-set k e e' h at looked.0 (λ room. omega (arith, looked.2, ap length looked.1))
+pub producers-looked : {r : Rings} {sender : ℕ} {es : List Pushing} (k : ℕ) (e e' : Pushing) → AreProducers r sender es
+    → e ≡ get_or es k e → ProducerLooked e e' → AreProducers r sender (set es k e')
+producers-looked k e e' h at looked =
+    producers-set k e e' h at looked.0 (λ room. omega (arith, looked.2, ap length looked.1)) (λ marked. same-marked marked looked.1)
 
-pushes-at : {capacity : ℕ} {ring : ℕ → ℕ → Option Ring} {sender : ℕ} {ps : List Pushing} (home : ℕ) (p : Pushing) → AreProducers capacity ring sender ps
-    → home < length (posts sender ps).posted → p ≡ get_or ps home p → IsSomeAnd (ring sender home) (λ r. PushesInto capacity r p)
-pushes-at {ps = ps} home p h within at =
-    h.each home p (slice_get_read ps (length (map sent ps)) home p (length-map ps sent) within at)
+-- what is known of the end at a place
+within_shown : {E X : Type 0} (shown : E → X) (es : List E) (k : ℕ) → k < length (map shown es) → k < length es
+within_shown shown es k within = omega (arith, length-map es shown)
 
-pops-at : {capacity : ℕ} {ring : ℕ → ℕ → Option Ring} {home : ℕ} {es : List Popping} (sender : ℕ) (e : Popping) → AreConsumers capacity ring home es
-    → sender < length (takes home es).taken → e ≡ get_or es sender e → IsSomeAnd (ring sender home) (λ r. PopsFrom capacity r e)
-pops-at {es = es} sender e h within at =
-    h.each sender e (slice_get_read es (length (map received es)) sender e (length-map es received) within at)
+some_pushes : (r : Rings) (home : ℕ) (o : Option Ring) (p : Pushing) → IsSomeAnd o (λ ring. PushesInto r.capacity r.homes home ring p)
+    → (r.capacity < known_free p + length (sent p)) × IsMarked r.homes home (sent p)
+some_pushes r home None p h = absurd h
+some_pushes r home (Some ring) p h = (h.room, h.marked)
 
-pair_of : (capacity : ℕ) (o : Option Ring) (p : Pushing) (e : Popping) → IsSomeAnd o (λ r. PushesInto capacity r p) → IsSomeAnd o (λ r. PopsFrom capacity r e) → IsPair p e
-pair_of capacity None p e pushes pops = absurd pushes
-pair_of capacity (Some r) p e pushes pops =
+some_pops : (r : Rings) (home : ℕ) (o : Option Ring) (e : Popping) → IsSomeAnd o (λ ring. PopsFrom r.capacity r.homes home ring e)
+    → (consumer_capacity e ≡ slots_for r.capacity) × IsMarked r.homes home (received e)
+some_pops r home None e h = absurd h
+some_pops r home (Some ring) e h = (h.capacity_is, h.marked)
+
+module _ {r : Rings} {sender : ℕ} {ps : List Pushing} (home : ℕ) (p : Pushing) (h : AreProducers r sender ps) (within : home < length (map posted_into ps)) (at : p ≡ get_or ps home p) where
+  pub pushes-at : IsSomeAnd (ring_at r sender home) (λ ring. PushesInto r.capacity r.homes home ring p)
+  pushes-at = h.each home p (slice_get_read ps (length (map posted_into ps)) home p (length-map ps posted_into) within at)
+
+  pub room-at : r.capacity < known_free p + length (sent p)
+  room-at = (some_pushes r home (ring_at r sender home) p pushes-at).0
+
+  pub pushed-mark : IsMarked r.homes home (sent p)
+  pushed-mark = (some_pushes r home (ring_at r sender home) p pushes-at).1
+
+module _ {r : Rings} {home : ℕ} {es : List Popping} (sender : ℕ) (e : Popping) (h : AreConsumers r home es) (within : sender < length (map taken_out es)) (at : e ≡ get_or es sender e) where
+  pub pops-at : IsSomeAnd (ring_at r sender home) (λ ring. PopsFrom r.capacity r.homes home ring e)
+  pops-at = h.each sender e (slice_get_read es (length (map taken_out es)) sender e (length-map es taken_out) within at)
+
+  pub capacity-at : consumer_capacity e ≡ slots_for r.capacity
+  capacity-at = (some_pops r home (ring_at r sender home) e pops-at).0
+
+  pub popped-mark : IsMarked r.homes home (received e)
+  popped-mark = (some_pops r home (ring_at r sender home) e pops-at).1
+
+pair_of : (r : Rings) (home : ℕ) (o : Option Ring) (p : Pushing) (e : Popping) → IsSomeAnd o (λ ring. PushesInto r.capacity r.homes home ring p)
+    → IsSomeAnd o (λ ring. PopsFrom r.capacity r.homes home ring e) → IsPair p e
+pair_of r home None p e pushes pops = absurd pushes
+pair_of r home (Some ring) p e pushes pops =
     (pops.pair.0 ∙ sym pushes.same.0.0, pops.pair.1 ∙ sym pushes.same.0.1, pops.pair.2 ∙ sym pushes.same.0.2, pops.pair.3 ∙ sym pushes.same.0.3)
 
 -- the end of a sender's ring to a home and that of the home's ring from the sender are a pair
-pub pair-at : {capacity : ℕ} {ring : ℕ → ℕ → Option Ring} {sender home : ℕ} {ps : List Pushing} {es : List Popping} (p : Pushing) (e : Popping)
-    → AreProducers capacity ring sender ps → AreConsumers capacity ring home es
-    → home < length (posts sender ps).posted → p ≡ get_or ps home p → sender < length (takes home es).taken → e ≡ get_or es sender e → IsPair p e
-pair-at {capacity} {ring} {sender} {home} p e producers consumers in_posts at_p in_takes at_e =
-    pair_of capacity (ring sender home) p e (pushes-at home p producers in_posts at_p) (pops-at sender e consumers in_takes at_e)
-
--- what is seen of the ends
-shown_same : {E : Type 0} (shown : E → List ℕ) (es : List E) (k : ℕ) (e e' : E) → e ≡ get_or es k e → shown e' ≡ shown e → map shown (set es k e') ≡ map shown es
-shown_same shown es k e e' at same = map-set_same shown es k e' e (same ∙ ap shown at)
-
-shown_at : {E : Type 0} (shown : E → List ℕ) (es : List E) (k : ℕ) (e : E) → k < length (map shown es) → e ≡ get_or es k e → get_or (map shown es) k [] ≡ shown e
-shown_at shown es k e within at = get_or-map shown es k e [] (omega (arith, length-map es shown)) ∙ ap shown (sym at)
-
-shown_more : {E : Type 0} (shown : E → List ℕ) (es : List E) (k : ℕ) (e e' : E) (tasks : List ℕ) → k < length (map shown es) → e ≡ get_or es k e → shown e' ≡ shown e ++ tasks
-    → map shown (set es k e') ≡ set (map shown es) k (get_or (map shown es) k [] ++ tasks)
-shown_more shown es k e e' tasks within at more =
-    map-set shown es k e' ∙ ap (λ (l : List ℕ). set (map shown es) k l) (more ∙ ap (λ (l : List ℕ). l ++ tasks) (sym (shown_at shown es k e within at)))
-
-some_capacity : (capacity : ℕ) (o : Option Ring) (e : Popping) → IsSomeAnd o (λ r. PopsFrom capacity r e) → consumer_capacity e ≡ capacity
-some_capacity capacity None e h = absurd h
-some_capacity capacity (Some r) e h = h.capacity_is
-
-pub capacity-at : {capacity : ℕ} {ring : ℕ → ℕ → Option Ring} {home : ℕ} {es : List Popping} (sender : ℕ) (e : Popping) → AreConsumers capacity ring home es
-    → sender < length (takes home es).taken → e ≡ get_or es sender e → consumer_capacity e ≡ capacity
-capacity-at {capacity} {ring} {home} sender e h within at = some_capacity capacity (ring sender home) e (pops-at sender e h within at)
-
-some_room : (capacity : ℕ) (o : Option Ring) (p : Pushing) → IsSomeAnd o (λ r. PushesInto capacity r p) → capacity ≤ known_free p + length (sent p)
-some_room capacity None p h = absurd h
-some_room capacity (Some r) p h = h.room
+pub pair-at : {r : Rings} {sender home : ℕ} {ps : List Pushing} {es : List Popping} (p : Pushing) (e : Popping)
+    → AreProducers r sender ps → AreConsumers r home es
+    → home < length (map posted_into ps) → p ≡ get_or ps home p → sender < length (map taken_out es) → e ≡ get_or es sender e → IsPair p e
+pair-at {r} {sender} {home} p e producers consumers in_posts at_p in_takes at_e =
+    pair_of r home (ring_at r sender home) p e (pushes-at home p producers in_posts at_p) (pops-at sender e consumers in_takes at_e)
 
 -- an end that has posted fewer requests than its ring has room for knows a free slot
-pub free-at : {capacity : ℕ} {ring : ℕ → ℕ → Option Ring} {sender : ℕ} {ps : List Pushing} (home : ℕ) (p : Pushing) → AreProducers capacity ring sender ps
-    → home < length (posts sender ps).posted → p ≡ get_or ps home p → length (posted_to (posts sender ps) home) < capacity → 0 < known_free p
-free-at {capacity} {ring} {sender} {ps} home p h within at few =
-    let room = some_room capacity (ring sender home) p (pushes-at home p h within at) in
-    let shown : posted_to (posts sender ps) home ≡ sent p = shown_at sent ps home p within at in
-    omega (arith, ap length shown)
+pub free-at : {r : Rings} {sender : ℕ} {ps : List Pushing} (home : ℕ) (p : Pushing) → AreProducers r sender ps → home < length (map posted_into ps) → p ≡ get_or ps home p
+    → length (posted_into p) < r.capacity → 0 < known_free p
+free-at home p h within at few = omega (arith, room-at home p h within at, marked-length (pushed-mark home p h within at))
 
-pub posts-same : (sender : ℕ) (es : List Pushing) (k : ℕ) (e e' : Pushing) → e ≡ get_or es k e → sent e' ≡ sent e → posts sender (set es k e') ≡ posts sender es
-posts-same sender es k e e' at same = ap (λ (l : List (List ℕ)). posts_of sender l) (shown_same sent es k e e' at same)
+-- what is seen of the ends
+shown_same : {E X : Type 0} (shown : E → X) (es : List E) (k : ℕ) (e e' : E) → e ≡ get_or es k e → shown e' ≡ shown e → map shown (set es k e') ≡ map shown es
+shown_same shown es k e e' at same = map-set_same shown es k e' e (same ∙ ap shown at)
 
-pub posts-more : (sender : ℕ) (es : List Pushing) (k : ℕ) (e e' : Pushing) (tasks : List ℕ) → k < length (posts sender es).posted → e ≡ get_or es k e
-    → sent e' ≡ sent e ++ tasks → posts sender (set es k e') ≡ posted_more (posts sender es) k tasks
-posts-more sender es k e e' tasks within at more = ap (λ (l : List (List ℕ)). posts_of sender l) (shown_more sent es k e e' tasks within at more)
+shown_at : {E X : Type 0} (shown : E → X) (es : List E) (k : ℕ) (e : E) (d : X) → k < length es → e ≡ get_or es k e → get_or (map shown es) k d ≡ shown e
+shown_at shown es k e d within at = get_or-map shown es k e d within ∙ ap shown (sym at)
 
+shown_set : {E X : Type 0} (shown : E → X) (es : List E) (k : ℕ) (e' : E) (d : X) → k < length es → get_or (map shown (set es k e')) k d ≡ shown e'
+shown_set shown es k e' d within =
+    ap (λ (l : List _). get_or l k d) (map-set shown es k e') ∙ get_or-set_same (map shown es) k (shown e') d (omega (arith, length-map es shown))
+
+shown_more : {E : Type 0} (shown : E → List ℕ) (es : List E) (k : ℕ) (e e' : E) (tasks : List ℕ) → k < length es → e ≡ get_or es k e → shown e' ≡ shown e ++ tasks
+    → map shown (set es k e') ≡ set (map shown es) k (get_or (map shown es) k [] ++ tasks)
+shown_more shown es k e e' tasks within at more =
+    map-set shown es k e' ∙ ap (λ (l : List ℕ). set (map shown es) k l) (more ∙ ap (λ (l : List ℕ). l ++ tasks) (sym (shown_at shown es k e [] within at)))
+
+-- into a ring without room nothing fits
+pub none-fits : (capacity sender : ℕ) (es : List Pushing) (home : ℕ) → capacity ≡ 0 → free_to (posts capacity sender es) home ≡ 0
+none-fits capacity sender [] home none = refl
+none-fits capacity sender (e ∷ es) zero none = omega (arith, none)
+none-fits capacity sender (e ∷ es) (suc home) none = none-fits capacity sender es home none
+
+-- where nothing has changed, there is nothing new to know
+pub looked-none : (home : ℕ) (p : Posts) → HasLooked home p p
+looked-none home p = record {
+  posts = ap (λ (l : List ℕ). posts_of p.sender p.posted l) (sym (set-get_or p.free home 0));
+  free = omega arith;
+}
+
+-- the posts of a sender, one of whose ends has changed
+module _ (capacity sender : ℕ) (es : List Pushing) (k : ℕ) (e e' : Pushing) (within : k < length (map posted_into es)) (at : e ≡ get_or es k e) where
+  abbrev before : Posts
+  before = posts capacity sender es
+
+  abbrev after : Posts
+  after = posts capacity sender (set es k e')
+
+  in_es : k < length es
+  in_es = within_shown posted_into es k within
+
+  pub posted-at : posted_to before k ≡ posted_into e
+  posted-at = shown_at posted_into es k e [] in_es at
+
+  pub free-before : free_to before k ≡ min capacity (known_free e)
+  free-before = shown_at (free_in capacity) es k e 0 in_es at
+
+  pub free-after : free_to after k ≡ min capacity (known_free e')
+  free-after = shown_set (free_in capacity) es k e' 0 in_es
+
+  free_set : after.free ≡ set before.free k (free_to after k)
+  free_set = map-set (free_in capacity) es k e' ∙ ap (λ (n : ℕ). set before.free k n) (sym free-after)
+
+  pub posts-looked : sent e' ≡ sent e → known_free e ≤ known_free e' → HasLooked k before after
+  posts-looked same more = record {
+    posts = ap (λ (l : List (List ℕ)). posts_of sender l after.free) (shown_same posted_into es k e e' at (ap tasks_after same))
+        ∙ ap (λ (l : List ℕ). posts_of sender before.posted l) free_set;
+    free = omega (arith, free-before, free-after);
+  }
+
+  pub posts-more : (task : ℕ) → posted_into e' ≡ posted_into e ++ task ∷ [] → known_free e ≤ known_free e' + 1 → HasPosted k task before after
+  posts-more task more fewer = record {
+    posts = ap (λ (l : List (List ℕ)). posts_of sender l after.free) (shown_more posted_into es k e e' (task ∷ []) in_es at more)
+        ∙ ap (λ (l : List ℕ). posts_of sender (set before.posted k (posted_to before k ++ task ∷ [])) l) free_set;
+    free = omega (arith, free-before, free-after);
+  }
+
+  pub posts-same : sent e' ≡ sent e → known_free e ≡ known_free e' → after ≡ before
+  posts-same same free =
+      ap (λ (l : List (List ℕ)). posts_of sender l after.free) (shown_same posted_into es k e e' at (ap tasks_after same))
+      ∙ ap (λ (l : List ℕ). posts_of sender before.posted l) (shown_same (free_in capacity) es k e e' at (ap (λ (n : ℕ). min capacity n) (sym free)))
+
+-- the requests that a home has taken
 pub takes-same : (home : ℕ) (es : List Popping) (k : ℕ) (e e' : Popping) → e ≡ get_or es k e → received e' ≡ received e → takes home (set es k e') ≡ takes home es
-takes-same home es k e e' at same = ap (λ (l : List (List ℕ)). takes_of home l) (shown_same received es k e e' at same)
+takes-same home es k e e' at same = ap (λ (l : List (List ℕ)). takes_of home l) (shown_same taken_out es k e e' at (ap tasks_after same))
 
-pub takes-more : (home : ℕ) (es : List Popping) (k : ℕ) (e e' : Popping) (tasks : List ℕ) → k < length (takes home es).taken → e ≡ get_or es k e
-    → received e' ≡ received e ++ tasks → takes home (set es k e') ≡ taken_more (takes home es) k tasks
-takes-more home es k e e' tasks within at more = ap (λ (l : List (List ℕ)). takes_of home l) (shown_more received es k e e' tasks within at more)
+pub takes-more : {r : Rings} (home : ℕ) (es : List Popping) (k : ℕ) (e e' : Popping) (tasks : List ℕ) → AreConsumers r home es → k < length (map taken_out es) → e ≡ get_or es k e
+    → Grows (received e) (received e') tasks → takes home (set es k e') ≡ taken_more (takes home es) k tasks
+takes-more home es k e e' tasks h within at grows =
+    ap (λ (l : List (List ℕ)). takes_of home l)
+    (shown_more taken_out es k e e' tasks (within_shown taken_out es k within) at (grows-tasks (popped-mark k e h within at) grows))
+
+taken-at : (home : ℕ) (es : List Popping) (k : ℕ) (e : Popping) → k < length (map taken_out es) → e ≡ get_or es k e → taken_from (takes home es) k ≡ taken_out e
+taken-at home es k e within at = shown_at taken_out es k e [] (within_shown taken_out es k within) at
+
+-- what a sender has posted and a home has taken, where both ends of their ring are here
+module _ {r : Rings} {sender home : ℕ} {ps : List Pushing} {es : List Popping} (capacity : ℕ) (p : Pushing) (e : Popping) (producers : AreProducers r sender ps) (consumers : AreConsumers r home es)
+    (in_posts : home < length (map posted_into ps)) (at_p : p ≡ get_or ps home p) (in_takes : sender < length (map taken_out es)) (at_e : e ≡ get_or es sender e) where
+  pub oldest-at : slice_get (tasks_of (sent p)) (length (received e)) ≡ slice_get (posted_to (posts capacity sender ps) home) (length (taken_from (takes home es) sender))
+  oldest-at =
+      next-task (pushed-mark home p producers in_posts at_p) (popped-mark sender e consumers in_takes at_e)
+      ∙ ap (λ (l : List ℕ). slice_get l (length (taken_out e))) (sym (posted-at capacity sender ps home p p in_posts at_p))
+      ∙ ap (λ (l : List ℕ). slice_get (posted_to (posts capacity sender ps) home) (length l)) (sym (taken-at home es sender e in_takes at_e))
+
+  pub left-at : (left : List ℕ) → Grows (received e) (sent p) left → posted_to (posts capacity sender ps) home ≡ taken_from (takes home es) sender ++ left
+  left-at left grows =
+      posted-at capacity sender ps home p p in_posts at_p ∙ grows-tasks (popped-mark sender e consumers in_takes at_e) grows
+      ∙ ap (λ (l : List ℕ). l ++ left) (sym (taken-at home es sender e in_takes at_e))

@@ -5,9 +5,9 @@ use Rattle.std.proofs.lemmas.List.FromFn.{length-map-range_with_len, map-range_w
 use Rattle.std.specs.{List.range_with_len, Option.IsSomeAnd, declared.alloc.Global.Global, declared.vec.Vec.Vec}
 use Rattle.std.specs.Prelude.{slice_get, Option, Some, None}
 use Rattle.eevdf_fleet.specs.Rings.{Ring, Rings, ring_at, no_posts, no_takes}
-use Rattle.eevdf_fleet.specs.RingEnds.{Pushing, Popping, PushesInto, PopsFrom, Each, lists_of, AreProducers, AreConsumers, posts, takes}
+use Rattle.eevdf_fleet.specs.RingEnds.{Pushing, Popping, PushesInto, PopsFrom, Each, lists_of, AreProducers, AreConsumers, free_in, posted_into, posts, slots_for, taken_out, takes}
 use Rattle.eevdf_fleet.specs.OpenedRings.{IsFresh, Begins, AreOpened, ring_in, AreNewRows, AreNewColumns, list_at}
-use Rattle.rtrb.specs.Ring.{sent, received}
+use Rattle.rtrb.specs.Ring.{known_free}
 use Rattle.eevdf_fleet.proofs.{RingEnds.posts_of, RingEnds.takes_of, RingOpenings.length-lists}
 
 list_read : {A : Type 0} (lists : List (Vec A Global)) (k : ℕ) (list : Vec A Global) → k < length lists → list ≡ get_or lists k list → list_at (lists_of lists) k ≡ list.items
@@ -26,16 +26,18 @@ list-named {E} {S} Are view none lists k list h read =
     )
 
 -- a row that was read
-pub row-read : {capacity : ℕ} {ring : ℕ → ℕ → Option Ring} (rows : List (Vec Pushing Global)) (sender : ℕ) (row : Vec Pushing Global) → AreNewRows capacity ring (lists_of rows)
+pub row-read : {r : Rings} (capacity : ℕ) (rows : List (Vec Pushing Global)) (sender : ℕ) (row : Vec Pushing Global) → AreNewRows r (lists_of rows) → capacity ≡ r.capacity
     → (sender < length rows) × (row ≡ get_or rows sender row)
-    → AreProducers capacity ring sender row.items × (posts sender row.items ≡ no_posts (length rows) sender)
-row-read {capacity} {ring} rows sender row h read = list-named (AreProducers capacity ring) posts no_posts rows sender row h read
+    → AreProducers r sender row.items × (posts capacity sender row.items ≡ no_posts capacity (length rows) sender)
+row-read {r} capacity rows sender row h same read =
+    subst (λ (n : ℕ). AreProducers r sender row.items × (posts n sender row.items ≡ no_posts n (length rows) sender)) (sym same)
+    (list-named (AreProducers r) (posts r.capacity) (no_posts r.capacity) rows sender row h read)
 
 -- a column that was read
-pub column-read : {capacity : ℕ} {ring : ℕ → ℕ → Option Ring} (columns : List (Vec Popping Global)) (home : ℕ) (column : Vec Popping Global) → AreNewColumns capacity ring (lists_of columns)
+pub column-read : {r : Rings} (columns : List (Vec Popping Global)) (home : ℕ) (column : Vec Popping Global) → AreNewColumns r (lists_of columns)
     → (home < length columns) × (column ≡ get_or columns home column)
-    → AreConsumers capacity ring home column.items × (takes home column.items ≡ no_takes (length columns) home)
-column-read {capacity} {ring} columns home column h read = list-named (AreConsumers capacity ring) takes no_takes columns home column h read
+    → AreConsumers r home column.items × (takes home column.items ≡ no_takes (length columns) home)
+column-read {r} columns home column h read = list-named (AreConsumers r) takes no_takes columns home column h read
 
 -- one more element of a list by places
 pub next-place : {A : Type 0} (f : ℕ → A) (xs : List A) (n : ℕ) → xs ≡ map f (range_with_len 0 n) → length xs ≡ n
@@ -47,49 +49,64 @@ by-place-more f xs xs' x ys y is pushed there =
     pushed ∙ ap (λ (l : List _). l ++ x ∷ []) is ∙ ap (λ (a : _). map f (range_with_len 0 (length ys)) ++ a ∷ []) there
     ∙ sym (map-range_with_len_more f 0 (length ys) (length ys) (omega arith)) ∙ ap (λ (n : ℕ). map f (range_with_len 0 n)) (sym (length-append ys (y ∷ [])))
 
-all_empty : {E : Type 0} (shown : E → List ℕ) (es : List E) → Each (λ k e. shown e ≡ []) es → map shown es ≡ replicate (length es) []
-all_empty shown [] h = refl
-all_empty shown (e ∷ es) h =
-    ap (λ (l : List ℕ). l ∷ map shown es) (h 0 e refl) ∙ ap (λ (ls : List (List ℕ)). [] ∷ ls) (all_empty shown es (λ k x got. h (suc k) x got))
+all_shown : {E X : Type 0} (shown : E → X) (x : X) (es : List E) → Each (λ k e. shown e ≡ x) es → map shown es ≡ replicate (length es) x
+all_shown shown x [] h = refl
+all_shown shown x (e ∷ es) h =
+    ap (λ (y : _). y ∷ map shown es) (h 0 e refl) ∙ ap (λ (ys : List _). x ∷ ys) (all_shown shown x es (λ k y got. h (suc k) y got))
 
-none_shown : {E : Type 0} (shown : E → List ℕ) (es : List E) (cpus : ℕ) → length es ≡ cpus → Each (λ k e. shown e ≡ []) es → map shown es ≡ replicate cpus []
-none_shown shown es cpus is h = all_empty shown es h ∙ ap (λ (n : ℕ). replicate n []) is
+same_shown : {E X : Type 0} (shown : E → X) (x : X) (es : List E) (cpus : ℕ) → length es ≡ cpus → Each (λ k e. shown e ≡ x) es → map shown es ≡ replicate cpus x
+same_shown shown x es cpus is h = all_shown shown x es h ∙ ap (λ (n : ℕ). replicate n x) is
 
-begins_pops : (capacity : ℕ) (o : Option Ring) (end : Popping) → IsSomeAnd o (λ r. Begins capacity r end) → IsSomeAnd o (λ r. PopsFrom capacity r end)
-begins_pops capacity None end h = absurd h
-begins_pops capacity (Some r) end h = h.pops
+begins_pops : (capacity : ℕ) (homes : List ℕ) (home : ℕ) (o : Option Ring) (end : Popping) → IsSomeAnd o (λ r. Begins capacity homes home r end)
+    → IsSomeAnd o (λ r. PopsFrom capacity homes home r end)
+begins_pops capacity homes home None end h = absurd h
+begins_pops capacity homes home (Some r) end h = h.pops
 
-begins_empty : (capacity : ℕ) (o : Option Ring) (end : Popping) → IsSomeAnd o (λ r. Begins capacity r end) → received end ≡ []
-begins_empty capacity None end h = absurd h
-begins_empty capacity (Some r) end h = h.received_is
+begins_empty : (capacity : ℕ) (homes : List ℕ) (home : ℕ) (o : Option Ring) (end : Popping) → IsSomeAnd o (λ r. Begins capacity homes home r end) → taken_out end ≡ []
+begins_empty capacity homes home None end h = absurd h
+begins_empty capacity homes home (Some r) end h = h.none
+
+-- as many requests are known to fit as the ring has room for
+all_free : (capacity : ℕ) (end : Pushing) → known_free end ≡ slots_for capacity → free_in capacity end ≡ capacity
+all_free capacity end is = omega (arith, is)
 
 -- the ends of rings that were opened, under the rings' names
-module _ (r : Rings) (opened : ℕ) (rows : List (List Pushing)) (columns : List (List Popping)) (named : record { capacity = opened; rings = rows } ≡ r) (h : AreOpened opened (length rows) rows columns) where
-  capacity_is : r.capacity ≡ opened
-  capacity_is = ap (λ (x : Rings). x.capacity) (sym named)
-
+module _ (r : Rings) (rows : List (List Pushing)) (columns : List (List Popping)) (is : rows ≡ r.rings) (h : AreOpened r.capacity r.homes (length rows) rows columns) where
   ring_is : (sender home : ℕ) → ring_at r sender home ≡ ring_in rows sender home
-  ring_is sender home = ap (λ (x : Rings). ring_at x sender home) (sym named)
+  ring_is sender home = ap (λ (x : List (List Pushing)). ring_in x sender home) (sym is)
 
-  pushes_new : (sender home : ℕ) (end : Pushing) → IsFresh opened end → slice_get (list_at rows sender) home ≡ Some end → IsSomeAnd (ring_at r sender home) (λ x. PushesInto r.capacity x end)
+  pushes_new : (sender home : ℕ) (end : Pushing) → IsFresh r.capacity r.homes home end → slice_get (list_at rows sender) home ≡ Some end
+      → IsSomeAnd (ring_at r sender home) (λ x. PushesInto r.capacity r.homes home x end)
   pushes_new sender home end fresh got =
-      subst (λ (o : Option Ring). IsSomeAnd o (λ x. PushesInto r.capacity x end)) (sym (ring_is sender home ∙ got))
-      (record { same = ((refl, refl, refl, refl), refl); room = omega (arith, capacity_is, fresh.free_is) })
+      subst (λ (o : Option Ring). IsSomeAnd o (λ x. PushesInto r.capacity r.homes home x end)) (sym (ring_is sender home ∙ got))
+      (record { same = ((refl, refl, refl, refl), refl); room = omega (arith, fresh.free_is, ap length fresh.marked.are); marked = fresh.marked })
 
-  pub new-rows : AreNewRows r.capacity (ring_at r) rows
+  pub new-rows : AreNewRows r rows
   new-rows sender within = (
     record { each = λ home end got. pushes_new sender home end (h.fresh sender within home end got) got },
-    ap (λ (l : List (List ℕ)). posts_of sender l) (none_shown sent (list_at rows sender) (length rows) (h.to_all sender within) (λ home end got. (h.fresh sender within home end got).sent_is)),
+    ap (λ (l : List (List ℕ)). posts_of sender l (map (free_in r.capacity) (list_at rows sender)))
+        (same_shown posted_into [] (list_at rows sender) (length rows) (h.to_all sender within) (λ home end got. (h.fresh sender within home end got).none))
+        ∙ ap (λ (l : List ℕ). posts_of sender (replicate (length rows) []) l)
+        (same_shown (free_in r.capacity) r.capacity (list_at rows sender) (length rows) (h.to_all sender within) (λ home end got. all_free r.capacity end (h.fresh sender within home end got).free_is)),
   )
 
-  pops_new : (sender home : ℕ) (end : Popping) → IsSomeAnd (ring_in rows sender home) (λ x. Begins opened x end) → IsSomeAnd (ring_at r sender home) (λ x. PopsFrom r.capacity x end)
+  pops_new : (sender home : ℕ) (end : Popping) → IsSomeAnd (ring_in rows sender home) (λ x. Begins r.capacity r.homes home x end)
+      → IsSomeAnd (ring_at r sender home) (λ x. PopsFrom r.capacity r.homes home x end)
   pops_new sender home end begins =
-      subst (λ (o : Option Ring). IsSomeAnd o (λ x. PopsFrom r.capacity x end)) (sym (ring_is sender home))
-      (subst (λ (n : ℕ). IsSomeAnd (ring_in rows sender home) (λ x. PopsFrom n x end)) (sym capacity_is) (begins_pops opened (ring_in rows sender home) end begins))
+      subst (λ (o : Option Ring). IsSomeAnd o (λ x. PopsFrom r.capacity r.homes home x end)) (sym (ring_is sender home))
+      (begins_pops r.capacity r.homes home (ring_in rows sender home) end begins)
 
-  pub new-columns : AreNewColumns r.capacity (ring_at r) columns
+  pub new-columns : AreNewColumns r columns
   new-columns home within = (
-    record { each = λ sender end got. pops_new sender home end (h.pairs home (omega (arith, h.homes)) sender end got) },
-    ap (λ (l : List (List ℕ)). takes_of home l) (none_shown received (list_at columns home) (length columns) (h.from_all home (omega (arith, h.homes)) ∙ sym h.homes)
-        (λ sender end got. begins_empty opened (ring_in rows sender home) end (h.pairs home (omega (arith, h.homes)) sender end got))),
+    record { each = λ sender end got. pops_new sender home end (h.pairs home (omega (arith, h.columns_are)) sender end got) },
+    ap (λ (l : List (List ℕ)). takes_of home l) (same_shown taken_out [] (list_at columns home) (length columns) (h.from_all home (omega (arith, h.columns_are)) ∙ sym h.columns_are)
+        (λ sender end got. begins_empty r.capacity r.homes home (ring_in rows sender home) end (h.pairs home (omega (arith, h.columns_are)) sender end got))),
   )
+
+-- the same, of rings that are seen as these
+pub opened-as : (r : Rings) (capacity : ℕ) (homes : List ℕ) (rows : List (List Pushing)) (columns : List (List Popping)) → record { capacity = capacity; homes = homes; rings = rows } ≡ r
+    → AreOpened capacity homes (length rows) rows columns → AreNewRows r rows × AreNewColumns r columns
+opened-as r capacity homes rows columns named h =
+    let opened = subst (λ (x : Rings). AreOpened x.capacity x.homes (length rows) rows columns) named h in
+    let is : rows ≡ r.rings = ap (λ (x : Rings). x.rings) named in
+    (new-rows r rows columns is opened, new-columns r rows columns is opened)

@@ -12,34 +12,34 @@ pub length-lists : {A : Type 0} (lists : List (Vec A Global)) → length (lists_
 length-lists {A} lists = length-map lists (λ (l : Vec A Global). l.items)
 
 -- the ends of one ring more in a row
-pub row-more : {capacity home : ℕ} {row : List Pushing} {before columns : List (List Popping)} (ring : Pushing) (column : List Popping) → AreRow capacity home row before columns
-    → home < length before → Adds capacity ring (list_at columns home) column → AreRow capacity (home + 1) (row ++ ring ∷ []) before (set columns home column)
-row-more {capacity} {home} {row} {before} {columns} ring column h within adds = record {
+pub row-more : {capacity : ℕ} {homes : List ℕ} {home : ℕ} {row : List Pushing} {before columns : List (List Popping)} (ring : Pushing) (column : List Popping) → AreRow capacity homes home row before columns
+    → home < length before → Adds capacity homes home ring (list_at columns home) column → AreRow capacity homes (home + 1) (row ++ ring ∷ []) before (set columns home column)
+row-more {capacity} {homes} {home} {row} {before} {columns} ring column h within adds = record {
   to_all = length-append row (ring ∷ []) ∙ ap (λ (n : ℕ). n + 1) h.to_all;
-  homes = length-set columns home column ∙ h.homes;
+  columns_are = length-set columns home column ∙ h.columns_are;
   each = each-push _ row ring
-      (λ k x lower got. subst (λ (c : List Popping). Adds capacity x (list_at before k) c) (sym (get_or-set_other columns home k column [] (omega (arith, h.to_all)))) (h.each k x got))
-      (subst (λ (k : ℕ). Adds capacity ring (list_at before k) (list_at (set columns home column) k)) (sym h.to_all)
-      (subst (λ (c : List Popping). Adds capacity ring (list_at before home) c) (sym (get_or-set_same columns home column [] (omega (arith, h.homes))))
-      (subst (λ (c : List Popping). Adds capacity ring c column) (h.others home (omega arith)) adds)));
+      (λ k x lower got. subst (λ (c : List Popping). Adds capacity homes k x (list_at before k) c) (sym (get_or-set_other columns home k column [] (omega (arith, h.to_all)))) (h.each k x got))
+      (subst (λ (k : ℕ). Adds capacity homes k ring (list_at before k) (list_at (set columns home column) k)) (sym h.to_all)
+      (subst (λ (c : List Popping). Adds capacity homes home ring (list_at before home) c) (sym (get_or-set_same columns home column [] (omega (arith, h.columns_are))))
+      (subst (λ (c : List Popping). Adds capacity homes home ring c column) (h.others home (omega arith)) adds)));
   others = λ k above. get_or-set_other columns home k column [] (omega arith) ∙ h.others k (omega arith);
 }
 
 -- the same, of the lists as they were read and are put back
-pub row-pushed : {capacity home : ℕ} {row : List Pushing} {before : List (List Popping)} (columns : List (Vec Popping Global)) (row' : List Pushing) (ring : Pushing) (end : Popping)
-    (column column' : Vec Popping Global) → AreRow capacity home row before (lists_of columns) → home < length before → row' ≡ row ++ ring ∷ []
-    → IsFresh capacity ring → Begins capacity ring end → column ≡ get_or columns home column → column'.items ≡ column.items ++ end ∷ []
-    → AreRow capacity (home + 1) row' before (lists_of (set columns home column'))
-row-pushed {capacity} {home} {row} {before} columns row' ring end column column' h within pushed fresh begins at added =
-    let in_columns : home < length columns = omega (arith, length-lists columns, h.homes) in
+pub row-pushed : {capacity : ℕ} {homes : List ℕ} {home : ℕ} {row : List Pushing} {before : List (List Popping)} (columns : List (Vec Popping Global)) (row' : List Pushing) (ring : Pushing) (end : Popping)
+    (column column' : Vec Popping Global) → AreRow capacity homes home row before (lists_of columns) → home < length before → row' ≡ row ++ ring ∷ []
+    → IsFresh capacity homes home ring → Begins capacity homes home ring end → column ≡ get_or columns home column → column'.items ≡ column.items ++ end ∷ []
+    → AreRow capacity homes (home + 1) row' before (lists_of (set columns home column'))
+row-pushed {capacity} {homes} {home} {row} {before} columns row' ring end column column' h within pushed fresh begins at added =
+    let in_columns : home < length columns = omega (arith, length-lists columns, h.columns_are) in
     let here : list_at (lists_of columns) home ≡ column.items
     = get_or-map (λ (l : Vec Popping Global). l.items) columns home column [] in_columns ∙ ap (λ (l : Vec Popping Global). l.items) (sym at) in
-    subst (λ (r : List Pushing). AreRow capacity (home + 1) r before (lists_of (set columns home column'))) (sym pushed)
-    (subst (λ (cs : List (List Popping)). AreRow capacity (home + 1) (row ++ ring ∷ []) before cs) (sym (map-set (λ (l : Vec Popping Global). l.items) columns home column'))
+    subst (λ (r : List Pushing). AreRow capacity homes (home + 1) r before (lists_of (set columns home column'))) (sym pushed)
+    (subst (λ (cs : List (List Popping)). AreRow capacity homes (home + 1) (row ++ ring ∷ []) before cs) (sym (map-set (λ (l : Vec Popping Global). l.items) columns home column'))
     (row-more ring column'.items h within
     (record { fresh = fresh; end = end; begins = begins; added = added ∙ ap (λ (l : List Popping). l ++ end ∷ []) (sym here) })))
 
-module _ (capacity cpus : ℕ) (rows : List (List Pushing)) (row : List Pushing) (before after : List (List Popping)) (h : AreOpened capacity cpus rows before) (new : AreRow capacity cpus row before after) where
+module _ (capacity : ℕ) (homes : List ℕ) (cpus : ℕ) (rows : List (List Pushing)) (row : List Pushing) (before after : List (List Popping)) (h : AreOpened capacity homes cpus rows before) (new : AreRow capacity homes cpus row before after) where
   abbrev rows_after : List (List Pushing)
   rows_after = rows ++ row ∷ []
 
@@ -56,14 +56,14 @@ module _ (capacity cpus : ℕ) (rows : List (List Pushing)) (row : List Pushing)
       (λ above. ap length (row_new sender (omega (arith, length-append rows (row ∷ [])))) ∙ new.to_all)
       (cases_lt sender (length rows))
 
-  more_fresh : (sender : ℕ) → sender < length rows_after → Each (λ home end. IsFresh capacity end) (list_at rows_after sender)
+  more_fresh : (sender : ℕ) → sender < length rows_after → Each (IsFresh capacity homes) (list_at rows_after sender)
   more_fresh sender within =
       ⊎_elim
-      (λ lower. subst (λ (r : List Pushing). Each (λ home end. IsFresh capacity end) r) (sym (row_before sender lower)) (h.fresh sender lower))
-      (λ above. subst (λ (r : List Pushing). Each (λ home end. IsFresh capacity end) r) (sym (row_new sender (omega (arith, length-append rows (row ∷ []))))) (λ k x got. (new.each k x got).fresh))
+      (λ lower. subst (λ (r : List Pushing). Each (IsFresh capacity homes) r) (sym (row_before sender lower)) (h.fresh sender lower))
+      (λ above. subst (λ (r : List Pushing). Each (IsFresh capacity homes) r) (sym (row_new sender (omega (arith, length-append rows (row ∷ []))))) (λ k x got. (new.each k x got).fresh))
       (cases_lt sender (length rows))
 
-  adds_at : (home : ℕ) → home < cpus → (ring : Pushing) × (slice_get row home ≡ Some ring) × Adds capacity ring (list_at before home) (list_at after home)
+  adds_at : (home : ℕ) → home < cpus → (ring : Pushing) × (slice_get row home ≡ Some ring) × Adds capacity homes home ring (list_at before home) (list_at after home)
   adds_at home within =
       let got = got_some row home (omega (arith, new.to_all)) in (got.0, got.1, new.each home got.0 got.1)
 
@@ -72,40 +72,40 @@ module _ (capacity cpus : ℕ) (rows : List (List Pushing)) (row : List Pushing)
       let adds = adds_at home within in
       ap length adds.2.added ∙ length-append (list_at before home) (adds.2.end ∷ []) ∙ ap (λ (n : ℕ). n + 1) (h.from_all home within) ∙ sym (length-append rows (row ∷ []))
 
-  more_pairs : (home : ℕ) → home < cpus → Each (λ sender end. IsSomeAnd (ring_in rows_after sender home) (λ r. Begins capacity r end)) (list_at after home)
+  more_pairs : (home : ℕ) → home < cpus → Each (λ sender end. IsSomeAnd (ring_in rows_after sender home) (λ r. Begins capacity homes home r end)) (list_at after home)
   more_pairs home within =
       let adds = adds_at home within in
-      subst (λ (column : List Popping). Each (λ sender end. IsSomeAnd (ring_in rows_after sender home) (λ r. Begins capacity r end)) column) (sym adds.2.added)
+      subst (λ (column : List Popping). Each (λ sender end. IsSomeAnd (ring_in rows_after sender home) (λ r. Begins capacity homes home r end)) column) (sym adds.2.added)
       (each-push _ (list_at before home) adds.2.end
-      (λ sender x lower got. subst (λ (r : List Pushing). IsSomeAnd (slice_get r home) (λ p. Begins capacity p x)) (sym (row_before sender (omega (arith, h.from_all home within)))) (h.pairs home within sender x got))
-      (subst (λ (r : List Pushing). IsSomeAnd (slice_get r home) (λ p. Begins capacity p adds.2.end)) (sym (row_new (length (list_at before home)) (h.from_all home within)))
-      (subst (λ (o : Option Pushing). IsSomeAnd o (λ p. Begins capacity p adds.2.end)) (sym adds.1) adds.2.begins)))
+      (λ sender x lower got. subst (λ (r : List Pushing). IsSomeAnd (slice_get r home) (λ p. Begins capacity homes home p x)) (sym (row_before sender (omega (arith, h.from_all home within)))) (h.pairs home within sender x got))
+      (subst (λ (r : List Pushing). IsSomeAnd (slice_get r home) (λ p. Begins capacity homes home p adds.2.end)) (sym (row_new (length (list_at before home)) (h.from_all home within)))
+      (subst (λ (o : Option Pushing). IsSomeAnd o (λ p. Begins capacity homes home p adds.2.end)) (sym adds.1) adds.2.begins)))
 
-opened_with : {capacity cpus : ℕ} {rows : List (List Pushing)} {row : List Pushing} {before after : List (List Popping)} → AreOpened capacity cpus rows before
-    → AreRow capacity cpus row before after → AreOpened capacity cpus (rows ++ row ∷ []) after
-opened_with {capacity} {cpus} {rows} {row} {before} {after} h new = record {
-  homes = new.homes ∙ h.homes;
-  to_all = more_to_all capacity cpus rows row before after h new;
-  from_all = more_from_all capacity cpus rows row before after h new;
-  fresh = more_fresh capacity cpus rows row before after h new;
-  pairs = more_pairs capacity cpus rows row before after h new;
+opened_with : {capacity : ℕ} {homes : List ℕ} {cpus : ℕ} {rows : List (List Pushing)} {row : List Pushing} {before after : List (List Popping)} → AreOpened capacity homes cpus rows before
+    → AreRow capacity homes cpus row before after → AreOpened capacity homes cpus (rows ++ row ∷ []) after
+opened_with {capacity} {homes} {cpus} {rows} {row} {before} {after} h new = record {
+  columns_are = new.columns_are ∙ h.columns_are;
+  to_all = more_to_all capacity homes cpus rows row before after h new;
+  from_all = more_from_all capacity homes cpus rows row before after h new;
+  fresh = more_fresh capacity homes cpus rows row before after h new;
+  pairs = more_pairs capacity homes cpus rows row before after h new;
 }
 
 -- one row more
-pub opened-more : {capacity cpus : ℕ} {before after : List (List Popping)} (rows rows' : List (Vec Pushing Global)) (row : Vec Pushing Global)
-    → AreOpened capacity cpus (lists_of rows) before → AreRow capacity (length before) row.items before after → rows' ≡ rows ++ row ∷ []
-    → AreOpened capacity cpus (lists_of rows') after
-opened-more {capacity} {cpus} {before} {after} rows rows' row h new more =
-    subst (λ (r : List (List Pushing)). AreOpened capacity cpus r after) (sym (ap lists_of more ∙ map-append (λ (l : Vec Pushing Global). l.items) rows (row ∷ [])))
-    (opened_with h (subst (λ (n : ℕ). AreRow capacity n row.items before after) h.homes new))
+pub opened-more : {capacity : ℕ} {homes : List ℕ} {cpus : ℕ} {before after : List (List Popping)} (rows rows' : List (Vec Pushing Global)) (row : Vec Pushing Global)
+    → AreOpened capacity homes cpus (lists_of rows) before → AreRow capacity homes (length before) row.items before after → rows' ≡ rows ++ row ∷ []
+    → AreOpened capacity homes cpus (lists_of rows') after
+opened-more {capacity} {homes} {cpus} {before} {after} rows rows' row h new more =
+    subst (λ (r : List (List Pushing)). AreOpened capacity homes cpus r after) (sym (ap lists_of more ∙ map-append (λ (l : Vec Pushing Global). l.items) rows (row ∷ [])))
+    (opened_with h (subst (λ (n : ℕ). AreRow capacity homes n row.items before after) h.columns_are new))
 
 -- no row yet
-pub opened-none : (capacity cpus : ℕ) → AreOpened capacity cpus [] (replicate cpus [])
-opened-none capacity cpus = record {
-  homes = length-replicate cpus [];
+pub opened-none : (capacity : ℕ) (homes : List ℕ) (cpus : ℕ) → AreOpened capacity homes cpus [] (replicate cpus [])
+opened-none capacity homes cpus = record {
+  columns_are = length-replicate cpus [];
   to_all = λ sender within. absurd (omega arith);
   from_all = λ home within. ap length (get_or-replicate cpus home [] [] within);
   fresh = λ sender within. absurd (omega arith);
-  pairs = λ home within. subst (λ (column : List Popping). Each (λ sender end. IsSomeAnd (ring_in [] sender home) (λ r. Begins capacity r end)) column)
+  pairs = λ home within. subst (λ (column : List Popping). Each (λ sender end. IsSomeAnd (ring_in [] sender home) (λ r. Begins capacity homes home r end)) column)
       (sym (get_or-replicate cpus home [] [] within)) (λ k x got. absurd (none-some x got));
 }

@@ -1,6 +1,6 @@
 -- Elements of lists by their places.
-use Rattle.std.proofs.Common.{◌≡◌, ◌≢◌, ℕ, zero, suc, ◌<◌, List, [], ◌∷◌, ◌++◌, length, get_or, set, refl, sym, ap, subst, ◌∙◌, arith}
-use Rattle.std.specs.Prelude.{slice_get, Option, Some, None}
+use Rattle.std.proofs.Common.{◌≡◌, ◌≢◌, ℕ, zero, suc, ◌<◌, List, [], ◌∷◌, ◌++◌, length, map, get_or, set, refl, sym, ap, subst, ◌∙◌, arith}
+use Rattle.std.specs.Prelude.{slice_get, Option, Some, None, OnErr, OnOk, Result, Ok, Err}
 use Rattle.std.specs.Option.{IfNone}
 use Rattle.std.proofs.lemmas.Option.{get_or_from_slice_get}
 use Rattle.eevdf_fleet.specs.RingEnds.{Each}
@@ -29,6 +29,15 @@ pub IfNone_then : {X : Type 0} (r : Option X) {P Q : Type 0} → IfNone r P → 
 IfNone_then None h f = f h
 IfNone_then (Some x) h f = tt
 
+-- what follows from two facts of an answer
+pub ok_both : {T E : Type 0} (r : Result T E) {P Q R : Type 0} → OnOk r P → OnOk r Q → (P → Q → R) → OnOk r R
+ok_both (Ok x) p q f = f p q
+ok_both (Err e) p q f = tt
+
+pub err_both : {T E : Type 0} (r : Result T E) {P Q R : Type 0} → OnErr r P → OnErr r Q → (P → Q → R) → OnErr r R
+err_both (Ok x) p q f = tt
+err_both (Err e) p q f = f p q
+
 pub got_some : {A : Type 0} (xs : List A) (k : ℕ) → k < length xs → (x : A) × (slice_get xs k ≡ Some x)
 got_some [] k within = absurd (omega arith)
 got_some (x ∷ xs) zero within = (x, refl)
@@ -41,3 +50,12 @@ each-push Belongs [] y old new zero x e = let same : y ≡ x = cc in subst (λ (
 each-push Belongs [] y old new (suc k) x e = absurd (cc)
 each-push Belongs (z ∷ xs) y old new zero x e = old 0 x (omega arith) e
 each-push Belongs (z ∷ xs) y old new (suc k) x e = each-push (λ j. Belongs (suc j)) xs y (λ j a within got. old (suc j) a (omega arith) got) new k x e
+
+got-mapped : {A B : Type 0} (f : A → B) (xs : List A) (k : ℕ) (d : A) → get_or (map f xs) k (f d) ≡ f (get_or xs k d)
+got-mapped f [] k d = refl
+got-mapped f (x ∷ xs) zero d = refl
+got-mapped f (x ∷ xs) (suc k) d = got-mapped f xs k d
+
+-- what is seen of an element that was read
+pub read-given : {A B : Type 0} (f : A → B) (xs : List A) (k : ℕ) (x : A) → x ≡ get_or xs k x → f x ≡ get_or (map f xs) k (f x)
+read-given f xs k x at = ap f at ∙ sym (got-mapped f xs k x)

@@ -1,14 +1,12 @@
 -- The journal has room for the lines of every CPU.
-use Rattle.std.proofs.Common.{◌≡◌, ℕ, ◌+◌, ◌*◌, ◌<◌, Bool, true, false, cond, ◌&&◌, List, [], ◌∷◌, length, refl, ap, ◌∙◌, arith}
-use Rattle.std.specs.{Prelude.◌==◌, Prelude.nat_lt, List.list_all}
-use Rattle.std.proofs.{lemmas.Bool.false≢true, lemmas.Bool.Decides.nat_tests}
+use Rattle.std.proofs.Common.{◌≡◌, ℕ, suc, ◌+◌, ◌*◌, ◌<◌, ◌≤◌, Bool, true, false, cond, ◌&&◌, List, [], ◌∷◌, ◌++◌, length, refl, ap, ◌∙◌, arith}
+use Rattle.std.specs.{Prelude.◌==◌, Prelude.nat_lt, Prelude.Option, Prelude.Some, Prelude.None, Prelude.IfSome, List.list_all}
+use Rattle.std.proofs.{lemmas.Bool.false≢true, lemmas.Bool.Decides.nat_tests, lemmas.List.length_push}
 use Rattle.eevdf_ops.specs.{declared.deeds.Deed.Deed, declared.deeds.Line.Line, Parts.decider, Programs.deeds_of, Programs.lines_by}
 use Rattle.eevdf_ops.specs.declared.deeds.Deed.TheVariants.{Tick, Pick, Yield, Sleep, Wake, Pull, Renice}
-use Rattle.eevdf_ops.specs.Setup.{is_task, cpus_of}
-use Rattle.eevdf_fleet.specs.{declared.board.claims.Terms.Terms, declared.board.claims.Claim.Claim}
-use Rattle.eevdf_fleet.specs.{declared.board.claims.Claim.TheVariants.Seat, declared.board.claims.Claim.TheVariants.Journal}
-use Rattle.eevdf_fleet.specs.{Claims.once, Claims.homes, Claims.is_committable, Board.Known}
-use Rattle.eevdf_fleet.proofs.Sums.{sum_below, sum-none, sum-once, sum-less}
+use Rattle.eevdf_ops.specs.Setup.{cpus_of, is_allowed, is_task}
+use Rattle.eevdf_fleet.specs.{declared.board.claims.Terms.Terms, Claims.once, Claims.homes, Claims.FitsQuota, Claims.HasAllRoom, Claims.IsKept}
+use Rattle.eevdf_fleet.proofs.Sums.{sum_below, sum-most, sum-none, sum-once}
 
 pub left : (a b : Bool) → (a && b) ≡ true → a ≡ true
 left true b e = refl
@@ -21,13 +19,13 @@ right false b e = absurd (false≢true e)
 pub below : (a b : ℕ) → nat_lt a b ≡ true → a < b
 below a b h = grind (arith, nat_tests)
 
--- a deed that may be committed is of a CPU that there is
-pub decider-below : (cpus : ℕ) (hs : List ℕ) (d : Deed) → is_committable cpus hs d ≡ true → decider d < cpus
+-- a deed that is allowed is of a CPU that there is
+pub decider-below : (cpus : ℕ) (hs : List ℕ) (d : Deed) → is_allowed cpus hs d ≡ true → decider d < cpus
 decider-below cpus hs (Tick cpu ns) ok = below cpu cpus ok
 decider-below cpus hs (Pick cpu) ok = below cpu cpus ok
 decider-below cpus hs (Yield cpu) ok = below cpu cpus ok
 decider-below cpus hs (Sleep cpu task) ok = below cpu cpus (left _ (is_task hs task) ok)
-decider-below cpus hs (Wake cpu task sender) ok = below cpu cpus (left _ _ ok)
+decider-below cpus hs (Wake cpu task sender) ok = below cpu cpus (left _ _ (left _ _ ok))
 decider-below cpus hs (Pull cpu source) ok = below cpu cpus (left _ _ ok)
 decider-below cpus hs (Renice cpu task nice) ok = below cpu cpus (left _ (is_task hs task) ok)
 
@@ -44,20 +42,26 @@ unfolding count_of
 none-counted cpu = refl
 
 -- the lines of all CPUs are all lines
-all-counted : (cpus : ℕ) (hs : List ℕ) (lines : List Line) → list_all (is_committable cpus hs) (deeds_of lines) ≡ true → sum_below (count_of lines) cpus ≡ length lines
+all-counted : (cpus : ℕ) (hs : List ℕ) (lines : List Line) → list_all (is_allowed cpus hs) (deeds_of lines) ≡ true → sum_below (count_of lines) cpus ≡ length lines
 all-counted cpus hs [] ok = sum-none (count_of []) cpus none-counted
 all-counted cpus hs (l ∷ lines) ok =
-    let here : is_committable cpus hs l.deed ≡ true = left _ _ ok in
-    let rest : list_all (is_committable cpus hs) (deeds_of lines) ≡ true = right (is_committable cpus hs l.deed) _ ok in
+    let here : is_allowed cpus hs l.deed ≡ true = left _ _ ok in
+    let rest : list_all (is_allowed cpus hs) (deeds_of lines) ≡ true = right (is_allowed cpus hs l.deed) _ ok in
     omega (arith, sum-once (count_of (l ∷ lines)) (count_of lines) (decider l.deed) cpus (λ k. counted-by l lines k (decider l.deed == k) refl) (decider-below cpus hs l.deed here), all-counted cpus hs lines rest)
 
--- while a CPU has room, so has the journal
-pub journal-room : (t : Terms) (cpu : ℕ) (log all : List Line) (cs : List Claim) → Known t (Seat cpu log ∷ Journal all ∷ cs) → cpu < cpus_of t.setup.value → length log < t.quota
-    → length all < cpus_of t.setup.value * t.quota
+-- the lines of a history are no more than the quotas of all CPUs
+pub all-fit : (t : Terms) (lines : List Line) (most : ℕ) → IsKept t lines → FitsQuota (Some most) lines → length lines ≤ cpus_of t.setup.value * most
 unfolding count_of
-journal-room t cpu log all cs known less some =
-    let own : lines_by cpu known.lines ≡ log = known.tell.0 in
-    let whole : known.lines ≡ all = known.tell.1.0 in
-    let few : length (lines_by cpu known.lines) < t.quota = omega (arith, ap (λ (x : List Line). length x) own) in
-    let total : sum_below (count_of known.lines) (cpus_of t.setup.value) ≡ length known.lines = all-counted (cpus_of t.setup.value) (homes t) known.lines known.kept.committable in
-    omega (arith, sum-less (count_of known.lines) t.quota (cpus_of t.setup.value) cpu known.kept.room less few, total, ap (λ (x : List Line). length x) whole)
+all-fit t lines most kept fits =
+    let total : sum_below (count_of lines) (cpus_of t.setup.value) ≡ length lines = all-counted (cpus_of t.setup.value) (homes t) lines kept.allowed in
+    omega (arith, sum-most (count_of lines) most (cpus_of t.setup.value) fits, total)
+
+-- the journal has room for a line with which its lines are a history
+journal-room-by : (quota : Option ℕ) (t : Terms) (lines all more : List Line) (capacity : ℕ) → IsKept t lines → FitsQuota quota lines → HasAllRoom quota (cpus_of t.setup.value) capacity
+    → IfSome quota (λ (most : ℕ). lines ≡ more) → length more ≡ suc (length all) → length all < capacity
+journal-room-by None t lines all more capacity kept fits room is one = absurd room
+journal-room-by (Some most) t lines all more capacity kept fits room is one = omega (arith, all-fit t lines most kept fits, ap (λ (l : List Line). length l) is, room, one)
+
+pub journal-room : (t : Terms) (lines all : List Line) (l : Line) (capacity : ℕ) → IsKept t lines → HasAllRoom t.quota (cpus_of t.setup.value) capacity
+    → IfSome t.quota (λ (most : ℕ). lines ≡ all ++ l ∷ []) → length all < capacity
+journal-room t lines all l capacity kept room is = journal-room-by t.quota t lines all (all ++ l ∷ []) capacity kept kept.fits room is (omega (arith, length_push all l))

@@ -1,8 +1,9 @@
 -- Lists of what each CPU has, in order, from which the first is taken and to which one more is added, and the seats of all CPUs.
-use Rattle.std.proofs.Common.{◌≡◌, ℕ, suc, ◌+◌, ◌<◌, List, [], ◌∷◌, ◌++◌, length, map, get_or, ⊎_elim, inl, inr, sym, ap, subst, ◌∙◌, arith}
+use Rattle.std.proofs.Common.{◌≡◌, ℕ, zero, suc, ◌+◌, ◌<◌, List, [], ◌∷◌, ◌++◌, length, map, get_or, ⊎_elim, inl, inr, refl, sym, ap, subst, ◌∙◌, arith}
+use Rattle.std.proofs.{lemmas.List.FromFn.get_or-map-range_with_len, lemmas.List.FromFn.length-map-range_with_len, lemmas.Option.get_or_from_slice_get, lemmas.Option.slice_get_within}
 use Rattle.std.proofs.{lemmas.Bool.cases_lt, lemmas.List.get_or_append_left, lemmas.List.get_or_push}
 use Rattle.std.specs.{List.range_with_len, Prelude.slice_get, Prelude.Some}
-use Rattle.eevdf_fleet.specs.{Fleets.AreSeats, Fleets.Seat, SeatWorks.AreDone}
+use Rattle.eevdf_fleet.specs.{Fleets.AreSeats, Fleets.Parts, Fleets.Seat, Fleets.fresh, Fleets.fresh_parts, Fleets.fresh_seats, Fleets.seats_in, SeatWorks.AreDone}
 use Rattle.eevdf_fleet.proofs.RingPlaces.{got-read}
 
 -- the first of the seats that are left, and the others
@@ -40,17 +41,33 @@ others-hold P m n xs rest x parted all k d within =
     let same : n + suc k ≡ n + 1 + k = omega arith in
     subst (λ (j : ℕ). P j (get_or rest k d)) same next
 
--- seats with which a work was done are those of all CPUs, in order
-pub done-seats : (cpus : ℕ) (IsDone : Seat → Type 0) (seats : List Seat) → AreDone cpus IsDone seats → AreSeats cpus seats
-done-seats cpus IsDone seats done = record { all = done.all; in_order = λ cpu s at. (done.each cpu s at).0 }
+-- seats with which a work was done that leaves each its number are those of all CPUs, in order
+pub done-seats : (cpus : ℕ) (IsDone : ℕ → Seat → Type 0) (seats : List Seat) → ((cpu : ℕ) (s : Seat) → IsDone cpu s → s.cpu ≡ cpu) → AreDone cpus IsDone seats → AreSeats cpus seats
+done-seats cpus IsDone seats own done = record { all = done.all; in_order = λ cpu s at. own cpu s (done.each cpu s at) }
+
+-- a list by places, at a place
+pub by-places-at : {X : Type 0} (f : ℕ → X) (n k : ℕ) (x : X) → slice_get (map f (range_with_len 0 n)) k ≡ Some x → x ≡ f k
+by-places-at f n k x at =
+    let within : k < n = omega (arith, slice_get_within (map f (range_with_len 0 n)) k x at, length-map-range_with_len f 0 n) in
+    sym (get_or_from_slice_get (map f (range_with_len 0 n)) k x x at) ∙ get_or-map-range_with_len f 0 n k k x within (omega arith)
 
 -- one seat more stands at its number
-pub in-order-more : (seats : List Seat) (number : ℕ) (s : Seat) → ((cpu : ℕ) (x : Seat) → slice_get seats cpu ≡ Some x → cpu < number → x.cpu ≡ cpu)
-    → s ≡ get_or seats number s → s.cpu ≡ number → (cpu : ℕ) (x : Seat) → slice_get seats cpu ≡ Some x → cpu < number + 1 → x.cpu ≡ cpu
-in-order-more seats number s before at own cpu x got within =
+pub in-order-more : {X : Type 0} (cpu_in : X → ℕ) (seats : List X) (number : ℕ) (s : X) → ((cpu : ℕ) (x : X) → slice_get seats cpu ≡ Some x → cpu < number → cpu_in x ≡ cpu)
+    → s ≡ get_or seats number s → cpu_in s ≡ number → (cpu : ℕ) (x : X) → slice_get seats cpu ≡ Some x → cpu < number + 1 → cpu_in x ≡ cpu
+in-order-more cpu_in seats number s before at own cpu x got within =
     ⊎_elim (λ lower. before cpu x got lower)
     (λ above.
     let here : cpu ≡ number = omega arith in
     let read : slice_get seats number ≡ Some s = got-read seats number s x at (subst (λ (k : ℕ). slice_get seats k ≡ Some x) here got) in
-    let same : x ≡ s = cc in ap (λ (y : Seat). y.cpu) same ∙ own ∙ sym here)
+    let same : x ≡ s = cc in ap cpu_in same ∙ own ∙ sym here)
     (cases_lt cpu number)
+
+-- a list by places, of which something is read
+pub map-by-places : {X Y : Type 0} (f : X → Y) (g : ℕ → X) (h : ℕ → Y) (k n : ℕ) → ((j : ℕ) → f (g j) ≡ h j) → map f (map g (range_with_len k n)) ≡ map h (range_with_len k n)
+map-by-places f g h k zero same = refl
+map-by-places {X} {Y} f g h k (suc n) same =
+    ap (λ (y : Y). y ∷ map f (map g (range_with_len (k + 1) n))) (same k) ∙ ap (λ (l : List Y). h k ∷ l) (map-by-places f g h (k + 1) n same)
+
+-- the seats before anything is done
+pub seats-fresh : (quota capacity cpus : ℕ) → seats_in (map (fresh_parts quota capacity cpus) (range_with_len 0 cpus)) ≡ fresh_seats quota cpus
+seats-fresh quota capacity cpus = map-by-places (λ (p : Parts). p.seat) (fresh_parts quota capacity cpus) (fresh quota cpus) 0 cpus (λ j. refl)

@@ -14,15 +14,9 @@ turned-on Gives n turns breaks before next after within gives others =
     let one : suc (turns - (n + 1)) ≡ turns - n = omega (arith, within) in
     subst (λ (k : ℕ). HasTurned Gives n k before after) one (next, breaks, gives, others)
 
--- the turns began on the fresh seat of the CPU
-pub turned-fresh : (Gives : ℕ → Seat → Seat → Bool → Type 0) (quota cpus turns : ℕ) (first after : Seat) → first ≡ fresh quota cpus first.cpu → after.cpu ≡ first.cpu
-    → HasTurned Gives 0 turns first after → HasTurned Gives 0 turns (fresh quota cpus after.cpu) after
-turned-fresh Gives quota cpus turns first after is same turned =
-    subst (λ (s : Seat). HasTurned Gives 0 turns s after) (is ∙ ap (fresh quota cpus) (sym same)) turned
-
 -- where each seat has had its turns, each CPU's are told by what the seats are closed to
 pub turns-told : (Gives : ℕ → Seat → Seat → Bool → Type 0) (kit : Kit) (turns : ℕ) (seats : List Seat) (o : Outcome)
-    → AreDone (cpus_of (setup_of kit)) (λ seat. HasTurned Gives 0 turns (fresh (quota_of kit) (cpus_of (setup_of kit)) seat.cpu) seat) seats
+    → AreDone (cpus_of (setup_of kit)) (λ cpu seat. (seat.cpu ≡ cpu) × HasTurned Gives 0 turns (fresh (quota_of kit) (cpus_of (setup_of kit)) cpu) seat) seats
     → All (λ (seat : Seat). lines_by seat.cpu o.lines ≡ seat.log) seats → AllPostsTold (cpus_of (setup_of kit)) seats o.lines o.left
     → (cpu : ℕ) → cpu < cpus_of (setup_of kit) → HasItsTurns Gives kit turns cpu o
 turns-told Gives kit turns seats o done logs told cpu less =
@@ -32,7 +26,7 @@ turns-told Gives kit turns seats o done logs told cpu less =
     let own : seat.cpu ≡ cpu = (done.each cpu seat at).0 in
     record {
       seat = seat;
-      turned = subst (λ (p : ℕ). HasTurned Gives 0 turns (fresh (quota_of kit) (cpus_of (setup_of kit)) p) seat) own (done.each cpu seat at).1;
+      turned = (done.each cpu seat at).1;
       log = ap (λ (p : ℕ). lines_by p o.lines) (sym own) ∙ All-get_or (λ (x : Seat). lines_by x.cpu o.lines ≡ x.log) seats cpu (fresh 0 0 0) within logs;
       posts = λ home there. told cpu home seat at there;
     }

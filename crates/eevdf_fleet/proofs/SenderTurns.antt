@@ -1,6 +1,6 @@
 -- What a drain has done, sender by sender.
 use Rattle.std.proofs.Common.{◌≡◌, ℕ, suc, ◌+◌, ◌-◌, ◌<◌, ◌≤◌, Bool, true, false, ⊎_elim, List, [], ◌∷◌, ◌++◌, length, refl, sym, ap, subst, ◌∙◌, arith}
-use Rattle.std.specs.Prelude.{if◌then◌else◌, slice_get, None}
+use Rattle.std.specs.Prelude.{if◌then◌else◌, slice_get, Option, None, Some}
 use Rattle.std.specs.{List.filter, Option.option_to_list}
 use Rattle.std.proofs.lemmas.Bool.{cases_eq}
 use Rattle.std.proofs.lemmas.List.{length_push, append-nil, append_assoc, map-append}
@@ -8,7 +8,7 @@ use Rattle.eevdf_ops.specs.{declared.deeds.Answer.Answer, declared.deeds.Deed.De
 use Rattle.eevdf_ops.specs.declared.deeds.Deed.TheVariants.{Tick, Pick, Yield, Sleep, Wake, Pull, Renice}
 use Rattle.eevdf_ops.specs.Programs.{AreWakes, deeds_of, wakes_from}
 use Rattle.eevdf_fleet.specs.declared.drains.Drained.{Drained}
-use Rattle.eevdf_fleet.specs.Fleets.{Seat, logged, posted_to}
+use Rattle.eevdf_fleet.specs.Fleets.{IsRoomFor, Seat, logged, posted_to}
 use Rattle.eevdf_fleet.specs.Drains.{HasDrained, HasTaken, counted, is_woken, logged_all, oldest_own}
 use Rattle.eevdf_fleet.proofs.Takes.{wakes-append, wakes-one, wake-own, wake-other, wakes-unless}
 
@@ -60,6 +60,29 @@ pub record DrainedBelow (sender : ℕ) (before now : Seat) (drained : Drained) :
   pub few : length lines ≤ sender
   pub own : before.cpu < sender → wakes_from before.cpu lines ≡ option_to_list (oldest_own before)
   pub not_yet : sender ≤ before.cpu → wakes_from before.cpu lines ≡ []
+
+-- before the first sender's turn
+pub none-drained : (s : Seat) → DrainedBelow 0 s s (record { taken = 0; woken = 0 })
+none-drained s = record {
+  lines = [];
+  seat = ap (λ (l : List Line). record s { log = l }) (sym (append-nil s.log)) ∙ ap (λ (n : ℕ). record s { log = s.log ++ []; room = n }) (let e : s.room ≡ s.room - 0 = omega arith in e);
+  wakes = omega arith;
+  taken = refl;
+  woken = refl;
+  few = omega arith;
+  own = λ late. absurd (omega arith);
+  not_yet = λ early. refl;
+}
+
+-- there is room for the next sender's
+room-by : (quota : Option ℕ) (cpus count sender room : ℕ) → count ≤ sender → sender < cpus → IsRoomFor quota cpus room → IsRoomFor quota 1 (room - count)
+room-by None cpus count sender room few less enough = tt
+room-by (Some most) cpus count sender room few less enough = omega arith
+
+pub room-left : (quota : Option ℕ) (cpus sender : ℕ) (before now : Seat) (drained : Drained) → DrainedBelow sender before now drained → sender < cpus → IsRoomFor quota cpus before.room
+    → IsRoomFor quota 1 now.room
+room-left quota cpus sender before now drained h less enough =
+    subst (λ (n : ℕ). IsRoomFor quota 1 n) (sym (ap (λ (s : Seat). s.room) h.seat)) (room-by quota cpus (length h.lines) sender before.room h.few less enough)
 
 pub drained-all : (cpus : ℕ) (before after : Seat) (drained : Drained) → before.cpu < cpus → DrainedBelow cpus before after drained → HasDrained before after drained
 drained-all cpus before after drained within h = record {

@@ -13,6 +13,11 @@ unfolding sum_below
 sum-none f zero h = refl
 sum-none f (suc n) h = omega (arith, sum-none f n h, h n)
 
+pub sum-same : (f g : ℕ → ℕ) (n : ℕ) → ((k : ℕ) → f k ≡ g k) → sum_below f n ≡ sum_below g n
+unfolding sum_below
+sum-same f g zero h = refl
+sum-same f g (suc n) h = omega (arith, sum-same f g n h, h n)
+
 -- one more at one number is seen by the sums that reach past it
 sum-past : (f g : ℕ → ℕ) (at n : ℕ) → ((k : ℕ) → f k ≡ once (at == k) + g k) → n ≤ at → sum_below f n ≡ sum_below g n
 unfolding sum_below
@@ -35,7 +40,7 @@ unfolding sum_below
 sum-once f g at zero more h = absurd (omega arith)
 sum-once f g at (suc n) more h = sum-at f g at n (at == n) refl more h (λ less. sum-once f g at n more less)
 
-sum-most : (f : ℕ → ℕ) (most n : ℕ) → ((k : ℕ) → f k ≤ most) → sum_below f n ≤ n * most
+pub sum-most : (f : ℕ → ℕ) (most n : ℕ) → ((k : ℕ) → f k ≤ most) → sum_below f n ≤ n * most
 unfolding sum_below
 sum-most f most zero h = omega arith
 sum-most f most (suc n) h = omega (arith, sum-most f most n h, h n)

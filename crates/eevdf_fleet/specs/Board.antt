@@ -1,13 +1,13 @@
--- The rule of the board: the claims are of one history, and of nothing is there more than one claim.
-use Rattle.std.specs.Prelude.{◌≡◌, ℕ, ◌≤◌, List, [], ◌∷◌, ◌++◌, take, drop, map, IfSome}
+-- The rule of the board: the claims are of one history, and of nothing that others could change is there more than one claim.
+use Rattle.std.specs.Prelude.{◌≡◌, ℕ, ◌≤◌, List, [], ◌∷◌, ◌++◌, take, drop, map, Option, IfSome}
 use mathlib.Core.Option as option
 use lib.ListN.{get_elem?}
 use Rattle.atomic_table.specs.Table.{State, Me, Step}
-use Rattle.std.specs.declared.snapshot.Snapshot.{Snapshot}
 use Rattle.atomic_table.specs.{Seated.TableId, declared.badge.Badge.Badge}
 use Rattle.eevdf_ops.specs.declared.deeds.Line.{Line}
 use Rattle.eevdf_fleet.specs.{declared.board.claims.Terms.Terms, declared.board.claims.Claim.Claim, declared.board.claims.View.View}
 use Rattle.eevdf_fleet.specs.declared.board.claims.Said.{Said}
+use Rattle.eevdf_fleet.specs.declared.board.claims.Claim.TheVariants.{Seat, Queue, Journal, Past}
 use Rattle.eevdf_fleet.specs.Claims.{Subject, total, times, AllTell, AreTerms, IsKept, advanced, knowing}
 
 abbrev pub ViewTells : Terms → List Line → View → Type 0
@@ -19,36 +19,64 @@ pub record IsOneHistory (t : Terms) (views : List View) : Type 0 where
   pub fits : (id : ℕ) (v : View) → get_elem? views id ≡ option.some v → ViewTells t lines v
   pub once : (k : Subject) → total k views ≤ 1
 
-abbrev pub Rule : Terms → State (Snapshot Said) View → Type 0
+abbrev pub Rule : Terms → State (Unit {0}) View → Type 0
 Rule t s = IsOneHistory t s.views
 
--- what a token's holder knows after a commit
-abbrev pub advanced_if : option.Option (Snapshot Said) → View → View
-advanced_if option.none v = v
-advanced_if (option.some s) v = record { terms = v.terms; claims = map (advanced s.value) v.claims }
+-- the claims that nobody else can have too: all but those of the past
+abbrev pub held : List Claim → List Claim
+held [] = []
+held (Seat cpu own ∷ claims) = Seat cpu own ∷ held claims
+held (Queue cpu q ∷ claims) = Queue cpu q ∷ held claims
+held (Journal all ∷ claims) = Journal all ∷ held claims
+held (Past seen ∷ claims) = held claims
 
-abbrev pub Appended : Step (Snapshot Said) → Me (Snapshot Said) View → ℕ → Me (Snapshot Said) View → Type 0
-Appended step before found after = after ≡ (advanced_if step.said before.0, before.1)
+-- the same claims beside these lines as the past
+abbrev pub recalled : List Line → List Claim → List Claim
+recalled lines claims = Past lines ∷ held claims
 
--- claims hold of one history on these terms, and none of them stands twice
-pub record Known (t : Terms) (claims : List Claim) : Type 0 where
-  pub lines : List Line
+-- claims hold of a history on these terms, and none of them stands twice
+pub record Known (t : Terms) (lines : List Line) (claims : List Claim) : Type 0 where
   pub kept : IsKept t lines
   pub tell : AllTell t lines claims
   pub once : (k : Subject) → times k claims ≤ 1
 
-abbrev pub IfKnown : View → Type 0
-IfKnown v = IfSome v.terms (λ (t : Terms). Known t v.claims)
+-- the lines so far are known
+pub record HasLooked (t : Terms) (before after : List Claim) : Type 0 where
+  pub lines : List Line
+  pub known : Known t lines before
+  pub claims : after ≡ recalled lines before
 
-abbrev pub Checked : Step (Snapshot Said) → Me (Snapshot Said) View → ℕ → Me (Snapshot Said) View → Type 0
-Checked step before found after = (after ≡ before) × IfKnown before.0
+-- a line is committed, and the lines up to it are known
+pub record HasAppended (t : Terms) (s : Said) (before after : List Claim) : Type 0 where
+  pub lines : List Line
+  pub known : Known t lines before
+  pub more : Known t (lines ++ s.line ∷ []) after
+  pub claims : after ≡ recalled (lines ++ s.line ∷ []) (map (advanced s) before)
 
--- a token cut in two: its first claim, and the others
-abbrev pub first_claim : View → View
-first_claim v = record { terms = v.terms; claims = take 1 v.claims }
+-- a step that changes nothing but the claims of a view whose terms are known, and these so
+abbrev pub StepsTo : (Terms → List Claim → List Claim → Type 0) → Me (Unit {0}) View → Me (Unit {0}) View → Type 0
+StepsTo Claims before after = (after.1 ≡ before.1) × (after.0.terms ≡ before.0.terms) × IfSome before.0.terms (λ (t : Terms). Claims t before.0.claims after.0.claims)
 
-abbrev pub other_claims : View → View
-other_claims v = record { terms = v.terms; claims = drop 1 v.claims }
+abbrev pub Looked : Step (Unit {0}) → Me (Unit {0}) View → ℕ → Me (Unit {0}) View → Type 0
+Looked step before found after = StepsTo HasLooked before after
+
+abbrev pub Appended : Option Said → Step (Unit {0}) → Me (Unit {0}) View → ℕ → Me (Unit {0}) View → Type 0
+Appended said step before found after = StepsTo (λ t claims more. IfSome said (λ (s : Said). HasAppended t s claims more)) before after
+
+-- a token cut in two: its first claims, and the others
+abbrev pub first_claims : ℕ → View → View
+first_claims n v = record { terms = v.terms; claims = take n v.claims }
+
+abbrev pub other_claims : ℕ → View → View
+other_claims n v = record { terms = v.terms; claims = drop n v.claims }
+
+-- a token cut in two that both have the first claim, of the past: the first has the next claim too, and the second the others
+abbrev pub shared : List Claim → List Claim
+shared (Past seen ∷ claims) = Past seen ∷ drop 1 claims
+shared claims = drop 2 claims
+
+abbrev pub shared_claims : View → View
+shared_claims v = record { terms = v.terms; claims = shared v.claims }
 
 -- two tokens made one
 abbrev pub joined : View → View → View

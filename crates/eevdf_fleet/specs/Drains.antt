@@ -1,11 +1,12 @@
 -- What a drain does to a seat.
 use Rattle.std.specs.Prelude.{◌≡◌, ℕ, ◌+◌, ◌-◌, Bool, true, false, List, ◌++◌, length, slice_get, if◌then◌else◌, Option, Some}
 use Rattle.std.specs.{List.filter, Option.option_to_list}
+use mathlib.Core.List.{IsPrefix}
 use Rattle.eevdf_ops.specs.{declared.deeds.Answer.Answer, declared.deeds.Answer.TheVariants.Woken}
 use Rattle.eevdf_ops.specs.{declared.deeds.Deed.TheVariants.Wake, declared.deeds.Line.Line}
 use Rattle.eevdf_ops.specs.Programs.{AreWakes, deeds_of, wakes_from}
 use Rattle.eevdf_fleet.specs.declared.drains.Drained.{Drained}
-use Rattle.eevdf_fleet.specs.Fleets.{Seat, logged, posted_to}
+use Rattle.eevdf_fleet.specs.Fleets.{IsNoLess, Parts, Seat, logged, posted_to}
 
 -- the oldest request that a seat posted to its own CPU and that wasn't taken yet
 abbrev pub oldest_own : Seat → Option ℕ
@@ -37,3 +38,14 @@ pub record HasDrained (before after : Seat) (drained : Drained) : Type 0 where
   pub taken : drained.taken ≡ length lines
   pub woken : drained.woken ≡ length (filter (λ (l : Line). is_woken l.answer) lines)
   pub own : wakes_from before.cpu lines ≡ option_to_list (oldest_own before)
+
+-- the same of a seat's parts, which may have seen more of the history since
+pub record PartsTaken (before after : Parts) (sender : ℕ) (answer : Answer) : Type 0 where
+  pub taken : HasTaken before.seat after.seat sender answer
+  pub seen : IsPrefix before.seen after.seen
+  pub free : IsNoLess before.free after.free
+
+pub record ArePartsDrained (before after : Parts) (drained : Drained) : Type 0 where
+  pub does : HasDrained before.seat after.seat drained
+  pub seen : IsPrefix before.seen after.seen
+  pub free : IsNoLess before.free after.free

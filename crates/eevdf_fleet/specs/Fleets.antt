@@ -1,11 +1,12 @@
 -- What contracts see of a fleet.
-use Rattle.std.specs.Prelude.{◌≡◌, ℕ, ◌-◌, ◌<◌, true, List, [], ◌∷◌, ◌++◌, length, map, replicate, slice_get, slice_index_or, slice_set, Some, Result, MatchResult}
-use Rattle.std.specs.List.{list_all, range_with_len}
+use Rattle.std.specs.Prelude.{◌≡◌, ℕ, ◌+◌, ◌-◌, ◌*◌, ◌<◌, ◌≤◌, List, [], ◌∷◌, ◌++◌, length, map, replicate, slice_get, slice_index_or, slice_set, Option, Some, None, IfSome, Result, MatchResult, vec_capacity}
+use Rattle.std.specs.{declared.alloc.Global.Global, declared.vec.Vec.Vec, List.range_with_len}
 use Rattle.atomic_table.specs.Seated.{TableId}
 use Rattle.eevdf_queue.specs.State as states
-use Rattle.eevdf_ops.specs.{declared.deeds.Answer.Answer, declared.deeds.Deed.Deed, declared.deeds.Line.Line, Programs.lines_by, Programs.wakes_from, Setup.Setup, Setup.is_at_home}
-use Rattle.eevdf_fleet.specs.declared.board.claims.Terms.{Terms}
-use Rattle.eevdf_fleet.specs.Rings.{Rings, Posts, Takes, Returned, ArePostsOf, left_of}
+use Rattle.eevdf_ops.specs.{declared.deeds.Answer.Answer, declared.deeds.Deed.Deed, declared.deeds.Line.Line, Programs.lines_by, Programs.wakes_from, Setup.Setup, Setup.cpus_of}
+use Rattle.eevdf_fleet.specs.{declared.board.claims.Terms.Terms, Claims.IsKept}
+use mathlib.Core.List.{IsPrefix}
+use Rattle.eevdf_fleet.specs.Rings.{Rings, Posts, Posted, Takes, Returned, ArePostsOf, left_of}
 
 -- what a fleet is opened from: the setup and each CPU's quota, the table that its tokens are of, and the rings between
 -- its CPUs
@@ -17,9 +18,20 @@ pub record Kit : Type 0 where
 abbrev pub setup_of : Kit → Setup
 setup_of k = k.terms.setup.value
 
--- how many lines each CPU may have
+-- how many lines each CPU may have, where a journal has them
+abbrev pub quota_in : Option ℕ → ℕ
+quota_in None = 0
+quota_in (Some most) = most
+
 abbrev pub quota_of : Kit → ℕ
-quota_of k = k.terms.quota
+quota_of k = quota_in k.terms.quota
+
+-- there are no lines yet, and where there is a quota, room for that of every CPU
+abbrev pub HasLines : Option ℕ → ℕ → Option (Vec Line Global) → Type 0
+HasLines None cpus None = Unit {0}
+HasLines None cpus (Some lines) = ⊥
+HasLines (Some most) cpus None = ⊥
+HasLines (Some most) cpus (Some lines) = (lines.items ≡ []) × (cpus * most ≤ vec_capacity lines)
 
 -- how many requests each ring has room for
 abbrev pub capacity_of : Kit → ℕ
@@ -73,23 +85,92 @@ abbrev pub AllPostsTold : ℕ → List Seat → List Line → List (List ℕ) �
 AllPostsTold cpus seats lines left = (sender home : ℕ) (s : Seat) → slice_get seats sender ≡ Some s → home < cpus
     → posted_to s home ≡ wakes_from sender (lines_by home lines) ++ left_of cpus left sender home
 
--- the lines of a seat's CPU, and how many more it may have
+-- the lines of a seat's CPU, how many more it may have where a journal has them, and the first lines of the history, as far as
+-- the seat knows them
 pub record SeatLog : Type 0 where
   pub cpu : ℕ
   pub lines : List Line
   pub room : ℕ
+  pub seen : List Line
 
-abbrev pub written : SeatLog → Line → SeatLog
-written s line = record s { lines = s.lines ++ line ∷ []; room = s.room - 1 }
+-- a line was committed, after these of other CPUs
+abbrev pub written : SeatLog → List Line → Line → SeatLog
+written s others line = record s { lines = s.lines ++ line ∷ []; room = s.room - 1; seen = s.seen ++ (others ++ line ∷ []) }
+
+pub record HasWritten (before after : SeatLog) (line : Line) : Type 0 where
+  pub others : List Line
+  pub is : after ≡ written before others line
+
+-- there is room for so many lines: always, where no journal has them
+abbrev pub IsRoomFor : Option ℕ → ℕ → ℕ → Type 0
+IsRoomFor quota count room = IfSome quota (λ (most : ℕ). count ≤ room)
 
 abbrev pub fresh_log : ℕ → ℕ → SeatLog
-fresh_log quota cpu = record { cpu = cpu; lines = []; room = quota }
+fresh_log quota cpu = record { cpu = cpu; lines = []; room = quota; seen = [] }
 
 abbrev pub fresh_logs : ℕ → ℕ → List SeatLog
 fresh_logs quota cpus = map (fresh_log quota) (range_with_len 0 cpus)
 
 abbrev pub seat_of : SeatLog → Posts → Seat
 seat_of s p = record { cpu = s.cpu; log = s.lines; room = s.room; posted = p.posted }
+
+-- a seat, the first lines of the history, as far as it knows them, and how many requests more certainly fit into the rings
+-- to the homes
+pub record Parts : Type 0 where
+  pub seat : Seat
+  pub seen : List Line
+  pub free : List ℕ
+
+abbrev pub parts_of : SeatLog → Posts → Parts
+parts_of s p = record { seat = seat_of s p; seen = s.seen; free = p.free }
+
+abbrev pub free_at : List ℕ → ℕ → ℕ
+free_at free home = slice_index_or free home 0
+
+-- no less fits than before
+abbrev pub IsNoLess : List ℕ → List ℕ → Type 0
+IsNoLess before after = (home : ℕ) → free_at before home ≤ free_at after home
+
+-- nothing was done, and it may be known that more fits
+pub record PartsLooked (before after : Parts) : Type 0 where
+  pub seat : after.seat ≡ before.seat
+  pub seen : after.seen ≡ before.seen
+  pub free : IsNoLess before.free after.free
+
+-- what the seat has seen is a history, in which its CPU has its lines
+pub record AreKnown (t : Terms) (p : Parts) : Type 0 where
+  pub kept : IsKept t p.seen
+  pub own : lines_by p.seat.cpu p.seen ≡ p.seat.log
+
+-- the seat has seen more, and nothing else has changed
+pub record PartsSeeMore (before after : Parts) : Type 0 where
+  pub seat : after.seat ≡ before.seat
+  pub seen : IsPrefix before.seen after.seen
+  pub free : after.free ≡ before.free
+
+-- a line of the seat was committed, after these of other CPUs
+pub record HasCommitted (before after : Parts) (line : Line) : Type 0 where
+  pub others : List Line
+  pub seat : after.seat ≡ logged before.seat line
+  pub seen : after.seen ≡ before.seen ++ (others ++ line ∷ [])
+  pub free : after.free ≡ before.free
+
+-- a request was posted, which fills one place in the ring to the home
+pub record HasPosted (before after : Parts) (home task : ℕ) : Type 0 where
+  pub seat : after.seat ≡ with_post before.seat home task
+  pub seen : after.seen ≡ before.seen
+  pub others : after.free ≡ slice_set before.free home (free_at after.free home)
+  pub free : free_at before.free home ≤ free_at after.free home + 1
+
+-- the parts of the seat of a CPU before anything is done, and those of all CPUs, in order
+abbrev pub fresh_parts : ℕ → ℕ → ℕ → ℕ → Parts
+fresh_parts quota capacity cpus cpu = record { seat = fresh quota cpus cpu; seen = []; free = replicate cpus capacity }
+
+abbrev pub all_fresh_parts : Kit → List Parts
+all_fresh_parts k = map (fresh_parts (quota_of k) (capacity_of k) (cpus_of (setup_of k))) (range_with_len 0 (cpus_of (setup_of k)))
+
+abbrev pub seats_in : List Parts → List Seat
+seats_in parts = map (λ (p : Parts). p.seat) parts
 
 -- what the lines of a CPU say that it took, by the CPUs that asked for it
 abbrev pub takes_by : ℕ → ℕ → List Line → Takes
@@ -101,12 +182,8 @@ pub record AreParts (cpus : ℕ) (log : SeatLog) (p : Posts) (t : Takes) : Type 
   pub takes : t ≡ takes_by cpus log.cpu log.lines
   pub within : log.cpu < cpus
 
--- requests by homes, each posted to the home of its task
-pub record ArePostedHome (homes : List ℕ) (posted : List (List ℕ)) : Type 0 where
-  pub each : (home : ℕ) → list_all (λ (task : ℕ). is_at_home homes task home) (slice_index_or posted home []) ≡ true
-
 -- the ends that seats give back, one CPU's after the other's, and with those of a seat more
-abbrev pub posts_by : Seat → Posts
+abbrev pub posts_by : Seat → Posted
 posts_by s = record { sender = s.cpu; posted = s.posted }
 
 abbrev pub taken_by : ℕ → Seat → Takes
@@ -127,4 +204,4 @@ abbrev pub no_table : TableId
 no_table = record { words = 0; slots = 0; views_name = 0; atom = 0; block = 0; offset = 0; slot_names = [] }
 
 abbrev pub no_kit : Kit
-no_kit = record { board = no_table; terms = record { setup = record { marker = record {}; value = record { tasks = []; programs = [] } }; quota = 0 }; rings = record { capacity = 0; rings = [] } }
+no_kit = record { board = no_table; terms = record { setup = record { marker = record {}; value = record { tasks = []; programs = [] } }; quota = None }; rings = record { capacity = 0; homes = []; rings = [] } }

@@ -1,8 +1,13 @@
+pub mod Requests
 pub mod Rings
 pub mod Claims
 pub mod Board
+pub mod SeatLogs
 pub mod Fleets
 pub mod Drains
+pub mod Closings
+pub mod Endless
+pub mod EndlessTurns
 pub mod ProgramRuns
 pub mod SeatWorks
 pub mod Turns

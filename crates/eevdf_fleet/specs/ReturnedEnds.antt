@@ -2,8 +2,8 @@
 use Rattle.std.specs.Prelude.{◌≡◌, ℕ, ◌*◌, ◌/◌, ◌%◌, ◌≤◌, ◌<◌, List, [], ◌++◌, length, slice_get, slice_index_or, Some, vec_capacity}
 use Rattle.std.specs.{declared.alloc.Global.Global, declared.vec.Vec.Vec}
 use Rattle.eevdf_ops.specs.Numbers.{most_cpus}
-use Rattle.eevdf_fleet.specs.RingEnds.{lists_of}
-use Rattle.eevdf_fleet.specs.Rings.{Posts, Takes, Returned, AllReturned, posts_at, takes_at, posted_to, taken_from}
+use Rattle.eevdf_fleet.specs.RingEnds.{lists_of, slots_for}
+use Rattle.eevdf_fleet.specs.Rings.{Posts, Takes, Returned, AllReturned, given_to, posts_at, takes_at, taken_from}
 
 -- an empty list with room for this many requests
 pub record IsEmptyList (capacity : ℕ) (list : Vec ℕ Global) : Type 0 where
@@ -14,12 +14,12 @@ pub record AreEmptyLists (capacity count : ℕ) (lists : List (Vec ℕ Global)) 
   pub each : length lists ≡ count
   pub empty : (place : ℕ) (list : Vec ℕ Global) → slice_get lists place ≡ Some list → IsEmptyList capacity list
 
--- room for all ends, and an empty list for each pair
+-- room for all ends, and an empty list for each pair, as long as its ring
 pub record HasRoom (capacity cpus : ℕ) (producers : Vec Posts Global) (consumers : Vec Takes Global) (left : List (Vec ℕ Global)) : Type 0 where
   pub few : cpus ≤ most_cpus
   pub producers_fit : cpus ≤ vec_capacity producers
   pub consumers_fit : cpus ≤ vec_capacity consumers
-  pub left_fits : AreEmptyLists capacity (cpus * cpus) left
+  pub left_fits : AreEmptyLists (slots_for capacity) (cpus * cpus) left
 
 -- the sender and the home of the pair at a place, of so many CPUs
 abbrev pub sender_at : ℕ → ℕ → ℕ
@@ -29,7 +29,7 @@ abbrev pub home_at : ℕ → ℕ → ℕ
 home_at cpus place = place % cpus
 
 abbrev pub posted_at : Returned → ℕ → List ℕ
-posted_at r place = posted_to (posts_at r (sender_at r.cpus place)) (home_at r.cpus place)
+posted_at r place = given_to (posts_at r (sender_at r.cpus place)) (home_at r.cpus place)
 
 abbrev pub taken_at : Returned → ℕ → List ℕ
 taken_at r place = taken_from (takes_at r (home_at r.cpus place)) (sender_at r.cpus place)

@@ -1,25 +1,44 @@
 -- The ends of the rings, and what is seen of them.
-use Rattle.std.specs.Prelude.{◌≡◌, ℕ, ◌+◌, ◌≤◌, List, length, map, slice_get, Option, Some}
+use Rattle.std.specs.Prelude.{◌≡◌, ℕ, ◌+◌, ◌<◌, List, length, map, min, max, slice_get, Some}
 use Rattle.std.specs.{Option.IsSomeAnd, declared.alloc.Global.Global, declared.vec.Vec.Vec}
-use Rattle.rtrb.specs.{declared.AnyItems.AnyItems, declared.consumer.Consumer.Consumer}
+use Rattle.rtrb.specs.declared.consumer.Consumer.{Consumer}
 use Rattle.rtrb.specs.Ring.{sent, known_free, received, consumer_capacity, IsPair, SameProducer}
-use Rattle.eevdf_fleet.specs.Rings.{Ring, Posts, Takes}
+use Rattle.eevdf_fleet.specs.declared.rings.request.{AtHome.AtHome, Request.Request}
+use Rattle.eevdf_fleet.specs.Requests.{IsMarked, tasks_after}
+use Rattle.eevdf_fleet.specs.Rings.{Ring, Rings, Posts, Takes, ring_at}
 
 abbrev pub Pushing : Type 0
 Pushing = Ring
 
 abbrev pub Popping : Type 0
-Popping = Consumer ℕ Global AnyItems
+Popping = Consumer Request Global AtHome
 
--- an end that pushes into a ring, which has room for what was never pushed
-pub record PushesInto (capacity : ℕ) (ring : Ring) (end : Pushing) : Type 0 where
+-- how many slots a ring has that has room for so many requests: its mark needs one, if only before the first request
+abbrev pub slots_for : ℕ → ℕ
+slots_for capacity = max capacity 1
+
+-- the tasks that were pushed into a ring, and those that were popped from it
+abbrev pub posted_into : Pushing → List ℕ
+posted_into end = tasks_after (sent end)
+
+abbrev pub taken_out : Popping → List ℕ
+taken_out end = tasks_after (received end)
+
+-- how many requests more are known to fit. Into a ring without room none fits, though it has a slot.
+abbrev pub free_in : ℕ → Pushing → ℕ
+free_in capacity end = min capacity (known_free end)
+
+-- an end that pushes into a ring to a home, which has room for what was never pushed
+pub record PushesInto (capacity : ℕ) (homes : List ℕ) (home : ℕ) (ring : Ring) (end : Pushing) : Type 0 where
   pub same : SameProducer ring end
-  pub room : capacity ≤ known_free end + length (sent end)
+  pub room : capacity < known_free end + length (sent end)
+  pub marked : IsMarked homes home (sent end)
 
--- an end that pops from a ring
-pub record PopsFrom (capacity : ℕ) (ring : Ring) (end : Popping) : Type 0 where
+-- an end that pops from a ring to a home
+pub record PopsFrom (capacity : ℕ) (homes : List ℕ) (home : ℕ) (ring : Ring) (end : Popping) : Type 0 where
   pub pair : IsPair ring end
-  pub capacity_is : consumer_capacity end ≡ capacity
+  pub capacity_is : consumer_capacity end ≡ slots_for capacity
+  pub marked : IsMarked homes home (received end)
 
 -- each end belongs to its place
 abbrev pub Each : {E : Type 0} → (ℕ → E → Type 0) → List E → Type 0
@@ -29,15 +48,15 @@ abbrev pub lists_of : {X : Type 0} → List (Vec X Global) → List (List X)
 lists_of {X} lists = map (λ (l : Vec X Global). l.items) lists
 
 -- the ends of a sender's rings to all homes
-pub record AreProducers (capacity : ℕ) (ring : ℕ → ℕ → Option Ring) (sender : ℕ) (ends : List Pushing) : Type 0 where
-  pub each : Each (λ home end. IsSomeAnd (ring sender home) (λ r. PushesInto capacity r end)) ends
+pub record AreProducers (r : Rings) (sender : ℕ) (ends : List Pushing) : Type 0 where
+  pub each : Each (λ home end. IsSomeAnd (ring_at r sender home) (λ ring. PushesInto r.capacity r.homes home ring end)) ends
 
 -- the ends of a home's rings from all senders
-pub record AreConsumers (capacity : ℕ) (ring : ℕ → ℕ → Option Ring) (home : ℕ) (ends : List Popping) : Type 0 where
-  pub each : Each (λ sender end. IsSomeAnd (ring sender home) (λ r. PopsFrom capacity r end)) ends
+pub record AreConsumers (r : Rings) (home : ℕ) (ends : List Popping) : Type 0 where
+  pub each : Each (λ sender end. IsSomeAnd (ring_at r sender home) (λ ring. PopsFrom r.capacity r.homes home ring end)) ends
 
-abbrev pub posts : ℕ → List Pushing → Posts
-posts sender ends = record { sender = sender; posted = map sent ends }
+abbrev pub posts : ℕ → ℕ → List Pushing → Posts
+posts capacity sender ends = record { sender = sender; posted = map posted_into ends; free = map (free_in capacity) ends }
 
 abbrev pub takes : ℕ → List Popping → Takes
-takes home ends = record { home = home; taken = map received ends }
+takes home ends = record { home = home; taken = map taken_out ends }

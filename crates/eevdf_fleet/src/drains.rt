@@ -1,17 +1,16 @@
 //! How the requests that were posted to a CPU are decided.
 
-ghost use Rattle.std.specs.Prelude.{◌≡◌, ◌≤◌, ◌<◌, ◌↔◌, IfNone, IfOk, IfSome, IsErr, MatchResult};
-ghost use Rattle.std.specs.Prelude.{None};
+ghost use Rattle.std.specs.Prelude.{◌≡◌, ◌≤◌, ◌<◌, IfNone, IfSome, None};
 ghost use Rattle.eevdf_ops.specs.Numbers.{most_cpus};
 ghost use Rattle.eevdf_ops.specs.Setup.{cpus_of};
-ghost use Rattle.eevdf_fleet.specs.Drains.{HasDrained, HasTaken, counted, oldest_own};
-ghost use Rattle.eevdf_fleet.specs.Fleets.{setup_of};
+ghost use Rattle.eevdf_fleet.specs.Drains.{ArePartsDrained, PartsTaken, counted, oldest_own};
+ghost use Rattle.eevdf_fleet.specs.Fleets.{IsRoomFor, PartsLooked, setup_of};
 
-use crate::fleet::{Fleet, SeatFull};
 use crate::gate::{Gate, OpenGate};
 use crate::held_locks::HeldLocks;
 use crate::names::Names;
-use crate::seat::Seat;
+use crate::run_queues::RunQueues;
+use crate::seat_parts::SeatParts;
 use crate::slot::Slot;
 use eevdf_ops::{Answer, CpuId, Deed};
 use std::sync::Wait;
@@ -25,35 +24,30 @@ pub struct Drained {
     pub woken: usize,
 }
 
-impl<N: Names> Fleet<N> {
+impl<N: Names> RunQueues<N> {
     /// The drain of a seat's CPU. The gate is told that it is operation `n` of the CPU's program.
-    pub(crate) fn drain_requests<R: Wait, G: Gate>(
+    pub(crate) fn drain<R: Wait, G: Gate>(
         &self,
         rt: &R,
         gate: &G,
         n: usize,
-        seat: &mut Seat<N>,
-    ) -> Result<Drained, SeatFull>
-        ensures cases { MatchResult result
-            (λ drained. HasDrained seat.old seat.new drained)
-            (λ _. seat.new ≡ seat.old) }
-        ensures few { IfOk result (λ drained. drained.taken ≤ cpus_of (setup_of N.kit)) }
-        ensures full { IsErr result ↔ (seat.old.room < cpus_of (setup_of N.kit)) }
+        seat: &mut SeatParts<N>,
+    ) -> Drained
+        requires { IsRoomFor N.kit.terms.quota (cpus_of (setup_of N.kit)) seat.old.seat.room }
+        ensures drained { ArePartsDrained seat.old seat.new result }
+        ensures few { result.taken ≤ cpus_of (setup_of N.kit) }
     {
-        if seat.room() < self.locks.len() {
-            return Err(SeatFull);
-        }
         let mut guard = self.hold(rt, &mut HeldLocks::none(), seat.cpu());
         gate.inside(seat.cpu(), n);
-        Ok(self.drain_all(rt, seat, &mut guard))
+        self.drain_all(rt, seat, &mut guard)
     }
 
     /// Goes through the senders in ascending order, and decides one request of each that is seen to have any.
-    fn drain_all<R: Wait>(&self, rt: &R, seat: &mut Seat<N>, slot: &mut Slot<N>) -> Drained
-        requires number { slot.old.number ≡ seat.old.cpu }
-        requires cpu { seat.old.cpu < cpus_of (setup_of N.kit) }
-        requires room { cpus_of (setup_of N.kit) ≤ seat.old.room }
-        ensures drained { HasDrained seat.old seat.new result }
+    fn drain_all<R: Wait>(&self, rt: &R, seat: &mut SeatParts<N>, slot: &mut Slot<N>) -> Drained
+        requires number { slot.old.number ≡ seat.old.seat.cpu }
+        requires cpu { seat.old.seat.cpu < cpus_of (setup_of N.kit) }
+        requires room { IsRoomFor N.kit.terms.quota (cpus_of (setup_of N.kit)) seat.old.seat.room }
+        ensures drained { ArePartsDrained seat.old seat.new result }
         ensures few { result.taken ≤ cpus_of (setup_of N.kit) }
     {
         let mut drained = Drained { taken: 0, woken: 0 };
@@ -69,21 +63,20 @@ impl<N: Names> Fleet<N> {
     fn drain_one<R: Wait>(
         &self,
         rt: &R,
-        seat: &mut Seat<N>,
+        seat: &mut SeatParts<N>,
         slot: &mut Slot<N>,
         sender: CpuId,
     ) -> Option<Answer>
-        requires number { slot.old.number ≡ seat.old.cpu }
+        requires number { slot.old.number ≡ seat.old.seat.cpu }
         requires sender { sender < cpus_of (setup_of N.kit) }
-        requires room { 0 < seat.old.room }
-        ensures some { IfSome result (λ answer. HasTaken seat.old seat.new sender answer) }
-        ensures none { IfNone result (seat.new ≡ seat.old) }
-        ensures none_own { IfNone result (sender ≡ seat.old.cpu → oldest_own seat.old ≡ None) }
+        requires room { IsRoomFor N.kit.terms.quota 1 seat.old.seat.room }
+        ensures some { IfSome result (λ answer. PartsTaken seat.old seat.new sender answer) }
+        ensures none { IfNone result (PartsLooked seat.old seat.new) }
+        ensures none_own { IfNone result (sender ≡ seat.old.seat.cpu → oldest_own seat.old.seat ≡ None) }
         ensures number { slot.new.number ≡ slot.old.number }
     {
         let cpu = seat.cpu();
         let task = seat.consumers.take(&mut seat.producers, sender.index())?;
-        // Whose home the task has isn't known here. `close` has the posts of all seats, and shows that each was to the task's home.
         let deed = Deed::Wake { cpu, task, sender };
         Some(self.done_on_one(rt, &OpenGate, 0, &mut seat.log, slot, deed))
     }

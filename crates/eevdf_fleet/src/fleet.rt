@@ -1,32 +1,28 @@
 ghost use Rattle.std.specs.Prelude.{◌≡◌, ◌≢◌, ◌*◌, ◌<◌, ◌≤◌, ◌↔◌, nat_lt, All, IfOk, IsErr, IsTrue};
-ghost use Rattle.std.specs.Prelude.{MatchResult, [], length, true};
+ghost use Rattle.std.specs.Prelude.{MatchResult, length, true};
 ghost use Rattle.std.specs.List.{list_all};
 ghost use Rattle.eevdf_ops.specs.{Histories.IsOneThread, Machine.start, Outcome.machine_of};
-ghost use Rattle.eevdf_ops.specs.{Places.IsPlaced, Programs.deeds_of};
+ghost use Rattle.eevdf_ops.specs.{Parts.decider, Places.IsPlaced, Programs.deeds_of};
 ghost use Rattle.eevdf_ops.specs.Programs.{lines_by};
 ghost use Rattle.eevdf_ops.specs.Setup.{allows, cpus_of, homes_of, is_task};
 ghost use Rattle.eevdf_fleet.specs.Drains.{HasDrained};
 ghost use Rattle.eevdf_fleet.specs.Fleets.{AllPostsTold, AreSeats, IsLogged, fresh_seats, quota_of};
 ghost use Rattle.eevdf_fleet.specs.Fleets.{setup_of};
+ghost use Rattle.eevdf_fleet.specs.TouchedQueues.{IsNoWake};
 
-use crate::closing::{close_locks, close_seats};
+use crate::closing::ClosedQueues;
 use crate::drains::Drained;
-use crate::gate::OpenGate;
-use crate::journal::Journal;
+use crate::gate::{Gate, OpenGate};
 use crate::kit::Kit;
-use crate::named_board::NamedBoard;
 use crate::names::Names;
-use crate::opening::{Opened, open_all, open_seats};
-use crate::reserve::Reserve;
-use crate::rings::ReturnedEnds;
-use crate::seat::Seat;
-use crate::slot::Slot;
+use crate::run_queues::RunQueues;
+use crate::seat::{Seat, parts_in, seats_of};
 use eevdf_ops::{Answer, CpuId, Deed, Outcome};
 use eevdf_queue::TaskId;
 use eevdf_weight::{Nice, Ns};
 use std::alloc::{AllocError, Global};
-use std::marker::{Model, PhantomData};
-use std::sync::{Mutex, Wait};
+use std::marker::Model;
+use std::sync::Wait;
 
 /// The seat has room for fewer lines than the operation may need: one, or for a drain one for each CPU. It is decided
 /// before the first lock is taken, and nothing has changed. Room never grows, so the same call is refused until the fleet
@@ -40,28 +36,17 @@ pub type Closed = Outcome;
 /// A scheduler for several threads: each CPU's queue in a lock of its own, and the journal.
 #[derive(Drop)]
 pub struct Fleet<N: Names> {
-    pub(crate) board: NamedBoard<N>,
-    pub(crate) homes: Vec<CpuId>,
-    pub(crate) locks: Vec<Mutex<Slot<N>>>,
-    pub(crate) journal: Mutex<Journal<N>>,
-    // The ends of rings can't be shared by threads, not even room for them: hence the lock, which no operation takes.
-    reserve: Mutex<Reserve<N>>,
+    pub(crate) queues: RunQueues<N>,
 }
 
 impl<N: Names> Model for Fleet<N> {
-    ghost use Rattle.std.specs.Prelude.{◌≡◌, ◌≤◌, vec_len};
-    ghost use Rattle.eevdf_ops.specs.{Numbers.most_cpus, Places.AreCpus, Setup.cpus_of};
-    ghost use Rattle.eevdf_ops.specs.{Setup.homes_of};
-    ghost use Rattle.eevdf_fleet.specs.Fleets.{setup_of};
+    ghost use Rattle.std.specs.Prelude.{◌≡◌, is_some, true};
 
     ghost Value = { Unit {0} };
 
     ghost view = { λ f. tt };
 
-    ghost invariant = { λ f. (f.homes.items ≡ homes_of (setup_of N.kit))
-        × (vec_len f.locks ≡ cpus_of (setup_of N.kit))
-        × AreCpus (cpus_of (setup_of N.kit)) (homes_of (setup_of N.kit))
-        × (cpus_of (setup_of N.kit) ≤ most_cpus) };
+    ghost invariant = { λ _. is_some N.kit.terms.quota ≡ true };
 }
 
 impl<N: Names> Fleet<N> {
@@ -73,52 +58,9 @@ impl<N: Names> Fleet<N> {
         ensures { IfOk result (λ r. r.1.items
             ≡ fresh_seats (quota_of N.kit) (cpus_of (setup_of N.kit))) }
     {
-        let ends = ReturnedEnds::open(alloc, kit.queues.len(), kit.rings.capacity())?;
-        Fleet::<N>::with_room(alloc, kit, ends)
-    }
-
-    /// Opens a fleet from its kit, with this room for the ends of rings that its seats will give back.
-    fn with_room(
-        alloc: Global,
-        kit: Kit,
-        ends: ReturnedEnds<N>,
-    ) -> Result<(Fleet<N>, Vec<Seat<N>>), AllocError>
-        requires kit { kit ≡ N.kit }
-        requires ends { ends ≡ record { cpus = cpus_of (setup_of N.kit); posts = []; takes = [] } }
-        ensures { IfOk result (λ r. r.1.items
-            ≡ fresh_seats (quota_of N.kit) (cpus_of (setup_of N.kit))) }
-    {
-        let Kit {
-            board,
-            token,
-            homes,
-            queues,
-            rings,
-            lines,
-            quota,
-        } = kit;
-        let board = NamedBoard::new(board);
-        let opened = open_all(alloc, &board, token, queues, quota)?;
-        let Opened {
-            logs,
-            locks,
-            token,
-            queues,
-        } = opened;
-        let seats = open_seats(alloc, logs, rings, &homes)?;
-        let journal = Journal {
-            lines,
-            token,
-            names: PhantomData,
-        };
-        let fleet = Fleet {
-            board,
-            homes,
-            locks,
-            journal: Mutex::new(journal),
-            reserve: Mutex::new(Reserve { queues, ends }),
-        };
-        Ok((fleet, seats))
+        let (queues, parts) = RunQueues::<N>::open(alloc, kit.parts)?;
+        let seats = seats_of(alloc, parts)?;
+        Ok((Fleet { queues }, seats))
     }
 
     /// Charges `ns` nanoseconds to the task that runs on the seat's CPU (`Deed::Tick`). `Charged` says whether its request
@@ -216,28 +158,28 @@ impl<N: Names> Fleet<N> {
         ensures few { IfOk result (λ drained. drained.taken ≤ cpus_of (setup_of N.kit)) }
         ensures full { IsErr result ↔ (seat.old.room < cpus_of (setup_of N.kit)) }
     {
-        self.drain_requests(rt, &OpenGate, 0, seat)
+        self.drain_by(rt, &OpenGate, 0, seat)
     }
 
     /// Whether the setup has a task: the condition of `sleep`, `renice` and `Seat::post`.
     pub fn has_task(&self, task: TaskId) -> bool
         ensures { result ≡ is_task (homes_of (setup_of N.kit)) task }
     {
-        task.index() < self.homes.len()
+        self.queues.has_task(task)
     }
 
     /// Whether the setup has a CPU. From one that it has, and that isn't the seat's, a seat may pull.
     pub fn has_cpu(&self, cpu: CpuId) -> bool
         ensures { result ≡ nat_lt cpu (cpus_of (setup_of N.kit)) }
     {
-        cpu.index() < self.locks.len()
+        self.queues.has_cpu(cpu)
     }
 
     /// Whether the list has the seats of all CPUs, in order: the condition of `close`.
     pub fn has_all_seats(&self, seats: &Vec<Seat<N>>) -> bool
         ensures { IsTrue result ↔ AreSeats (cpus_of (setup_of N.kit)) seats.now.items }
     {
-        if seats.len() != self.locks.len() {
+        if seats.len() != self.queues.cpus() {
             return false;
         }
         for number in 0..seats.len() {
@@ -263,21 +205,57 @@ impl<N: Names> Fleet<N> {
             result.lines result.left }
         ensures left { length result.left ≡ cpus_of (setup_of N.kit) * cpus_of (setup_of N.kit) }
     {
-        let Fleet {
-            board,
-            homes: _,
-            locks,
-            journal,
-            reserve,
-        } = self;
-        let Reserve { queues, ends } = reserve.into_inner();
-        let Journal {
+        let (closing, room) = self.queues.into_closing();
+        let ClosedQueues {
             lines,
-            token,
-            names: _,
-        } = journal.into_inner();
-        let (token, ends) = close_seats(&board, token, ends, seats, &lines);
-        let queues = close_locks(&board, token, locks, queues, &lines);
-        Outcome::of(lines, queues, ends.into_left())
+            queues,
+            left,
+        } = closing.close(parts_in(seats, room));
+        match lines {
+            Some(lines) => Outcome::of(lines, queues, left),
+            None => unreachable!(),
+        }
+    }
+
+    /// Does a deed of the seat's CPU that isn't a wake. The gate is told that it is operation `n` of the CPU's program; where
+    /// no program is run the gate is open, and `n` is 0.
+    pub(crate) fn operate<R: Wait, G: Gate>(
+        &self,
+        rt: &R,
+        gate: &G,
+        n: usize,
+        seat: &mut Seat<N>,
+        deed: Deed,
+    ) -> Result<Answer, SeatFull>
+        requires no_wake { IsNoWake deed }
+        requires own { decider deed ≡ seat.old.cpu }
+        requires allowed { allows (setup_of N.kit) deed ≡ true }
+        ensures cases { IsLogged deed seat.old seat.new result }
+        ensures full { IsErr result ↔ (seat.old.room < 1) }
+    {
+        if seat.room() == 0 {
+            return Err(SeatFull);
+        }
+        Ok(self.queues.operate(rt, gate, n, &mut seat.parts, deed))
+    }
+
+    /// The drain of a seat's CPU. The gate is told that it is operation `n` of the CPU's program.
+    pub(crate) fn drain_by<R: Wait, G: Gate>(
+        &self,
+        rt: &R,
+        gate: &G,
+        n: usize,
+        seat: &mut Seat<N>,
+    ) -> Result<Drained, SeatFull>
+        ensures cases { MatchResult result
+            (λ drained. HasDrained seat.old seat.new drained)
+            (λ _. seat.new ≡ seat.old) }
+        ensures few { IfOk result (λ drained. drained.taken ≤ cpus_of (setup_of N.kit)) }
+        ensures full { IsErr result ↔ (seat.old.room < cpus_of (setup_of N.kit)) }
+    {
+        if seat.room() < self.queues.cpus() {
+            return Err(SeatFull);
+        }
+        Ok(self.queues.drain(rt, gate, n, &mut seat.parts))
     }
 }

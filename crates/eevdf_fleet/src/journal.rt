@@ -19,12 +19,13 @@ impl<N: Names> Model for Journal<N> {
 
     ghost view = { λ j. j.lines.items };
 
-    ghost use Rattle.std.specs.Prelude.{◌≡◌, ◌*◌, ◌≤◌, [], ◌∷◌, vec_capacity};
+    ghost use Rattle.std.specs.Prelude.{◌≡◌, [], ◌∷◌, vec_capacity};
     ghost use Rattle.eevdf_ops.specs.Setup.{cpus_of};
     ghost use Rattle.eevdf_fleet.specs.declared.board.claims.Claim.TheVariants as claim;
     ghost use Rattle.eevdf_fleet.specs.{Board.IsToken, Board.claims_of, Fleets.setup_of};
+    ghost use Rattle.eevdf_fleet.specs.Claims.{HasAllRoom};
 
     ghost invariant = { λ j. IsToken N.kit.board N.kit.terms j.token
         × (claims_of j.token ≡ claim.Journal j.lines.items ∷ [])
-        × (cpus_of (setup_of N.kit) * N.kit.terms.quota ≤ vec_capacity j.lines) };
+        × HasAllRoom N.kit.terms.quota (cpus_of (setup_of N.kit)) (vec_capacity j.lines) };
 }

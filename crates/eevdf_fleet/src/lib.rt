@@ -1,10 +1,13 @@
-//! A scheduler for several threads: each CPU's run queue stands in a lock of its own, and a journal, in a lock of its
-//! own too, has the lines of what was done, in the order in which it was committed.
+//! A scheduler for several threads: each CPU's run queue stands in a lock of its own. There are two fleets on one base.
+//!
+//! [`Fleet`] keeps a history: a journal, in a lock of its own, has the lines of what was done, in the order in which it was committed, and
+//! each seat has those of its CPU. When it is closed with all its seats, its lines are the history of one thread.
+//! [`endless::Fleet`] keeps none, and can run for ever. The contract of each of its calls has the answer in a history of one thread that
+//! only grows, and that contracts alone see.
 //!
 //! A fleet is opened from a kit, with a seat for each CPU. Whoever has a CPU's seat does its operations: they take the
-//! locks of the queues that they touch, in ascending order, work on these queues, and then commit their line under the
-//! journal's lock. A request to wake a task is posted to the task's home by a ring of the two CPUs, without a lock, and
-//! decided there by a drain. When the fleet is closed with all its seats, its lines are the history of one thread.
+//! locks of the queues that they touch, in ascending order, work on these queues, and then commit their line. A request to wake a
+//! task is posted to the task's home by a ring of the two CPUs, without a lock, and decided there by a drain.
 //!
 //! What holds across the locks is kept by a board of claims: who holds a seat, a queue or the journal has a token, which
 //! takes no memory and claims what the one history has of it.
@@ -14,13 +17,16 @@ mod board;
 mod closing;
 mod commit;
 mod drains;
+pub mod endless;
 mod fleet;
 mod gate;
 mod held_locks;
 mod journal;
 mod kit;
+mod kit_parts;
 mod line_commits;
 mod locked_deeds;
+mod looking;
 mod named_board;
 mod names;
 mod opening;
@@ -32,8 +38,10 @@ mod queue_work;
 mod reserve;
 mod rings;
 mod run_fault;
+mod run_queues;
 mod seat;
 mod seat_log;
+mod seat_parts;
 mod seat_program;
 mod seat_threads;
 mod seat_turn;

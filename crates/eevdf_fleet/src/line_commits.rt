@@ -1,24 +1,25 @@
 //! How a line is committed, by the queues that it has changed.
 
-ghost use Rattle.std.specs.Prelude.{◌≡◌, ◌≢◌, ◌<◌, [], ◌∷◌, true};
-ghost use Rattle.eevdf_ops.specs.{Parts.decider, Setup.homes_of};
+ghost use Rattle.std.specs.Prelude.{◌≡◌, ◌≢◌, [], ◌∷◌, map, true};
+ghost use Rattle.eevdf_ops.specs.{Parts.decider, Setup.allows, Setup.homes_of};
 ghost use Rattle.eevdf_fleet.specs.declared.board.claims.Claim.TheVariants as claim;
-ghost use Rattle.eevdf_fleet.specs.{Board.IsToken, Board.claims_of, Claims.may_commit};
-ghost use Rattle.eevdf_fleet.specs.{Fleets.setup_of, Fleets.written};
+ghost use Rattle.eevdf_fleet.specs.{Board.IsToken, Board.claims_of, Board.held};
+ghost use Rattle.eevdf_fleet.specs.Claims.{OwesQueues, advanced};
+ghost use Rattle.eevdf_fleet.specs.Fleets.{HasWritten, IsRoomFor, setup_of};
 ghost use Rattle.eevdf_fleet.specs.TouchedQueues.{AreDoneFrom, IsDoneFrom, IsOfOneQueue};
 ghost use Rattle.eevdf_fleet.specs.TouchedQueues.{IsOfTwoQueues};
 
 use crate::board::{Change, Said, Token};
-use crate::commit::commit;
-use crate::fleet::Fleet;
+use crate::commit::{commit, commit_in_journal};
 use crate::names::Names;
+use crate::run_queues::RunQueues;
 use crate::seat_log::SeatLog;
 use eevdf_ops::{CpuId, Line};
 use eevdf_queue::Queue;
 use std::snapshot::Snapshot;
 use std::sync::Wait;
 
-impl<N: Names> Fleet<N> {
+impl<N: Names> RunQueues<N> {
     /// Commits a line that has changed the queue of the log's CPU alone, which the token claims as it was.
     pub(crate) fn commit_one<R: Wait>(
         &self,
@@ -31,16 +32,15 @@ impl<N: Names> Fleet<N> {
         requires token { IsToken N.kit.board N.kit.terms token }
         requires one { IsOfOneQueue (homes_of (setup_of N.kit)) line.now.deed }
         requires own { decider line.now.deed ≡ log.old.cpu }
-        requires committable { may_commit (setup_of N.kit) line.now.deed ≡ true }
-        requires room { 0 < log.old.room }
+        requires allowed { allows (setup_of N.kit) line.now.deed ≡ true }
+        requires room { IsRoomFor N.kit.terms.quota 1 log.old.room }
         requires done { IsDoneFrom (claims_of token) log.old.cpu queue.now.state line.now }
         ensures token { IsToken N.kit.board N.kit.terms result }
         ensures claims { claims_of result ≡ claim.Queue log.old.cpu queue.now.state ∷ [] }
-        ensures log { log.new ≡ written log.old line.now }
+        ensures log { HasWritten log.old log.new line.now }
     {
         let said = said(line, log.cpu(), queue);
-        let mut journal = self.journal.lock(rt);
-        commit(&self.board, &mut journal, log, token, &said)
+        self.commit_line(rt, log, token, &said)
     }
 
     /// Commits a line that has changed the queues of the log's CPU and of another one, which the token claims as they
@@ -59,20 +59,44 @@ impl<N: Names> Fleet<N> {
         requires two { IsOfTwoQueues (homes_of (setup_of N.kit)) other line.now.deed }
         requires own { decider line.now.deed ≡ log.old.cpu }
         requires apart { other ≢ log.old.cpu }
-        requires committable { may_commit (setup_of N.kit) line.now.deed ≡ true }
-        requires room { 0 < log.old.room }
+        requires allowed { allows (setup_of N.kit) line.now.deed ≡ true }
+        requires room { IsRoomFor N.kit.terms.quota 1 log.old.room }
         requires done { AreDoneFrom (claims_of token) log.old.cpu queue.now.state
             other other_queue.now.state line.now }
         ensures first { IsToken N.kit.board N.kit.terms result.0 }
         ensures second { IsToken N.kit.board N.kit.terms result.1 }
         ensures first_claim { claims_of result.0 ≡ claim.Queue log.old.cpu queue.now.state ∷ [] }
         ensures second_claim { claims_of result.1 ≡ claim.Queue other other_queue.now.state ∷ [] }
-        ensures log { log.new ≡ written log.old line.now }
+        ensures log { HasWritten log.old log.new line.now }
     {
         let said = said_both(line, change(log.cpu(), queue), change(other, other_queue));
-        let mut journal = self.journal.lock(rt);
-        let token = commit(&self.board, &mut journal, log, token, &said);
+        let token = self.commit_line(rt, log, token, &said);
         self.board.split(token)
+    }
+
+    /// Commits a line of the log's CPU, in the journal too where there is one. The token claims the queues that it changes.
+    fn commit_line<R: Wait>(
+        &self,
+        rt: &R,
+        log: &mut SeatLog<N>,
+        queues: Token,
+        said: &Said,
+    ) -> Token
+        requires token { IsToken N.kit.board N.kit.terms queues }
+        requires room { IsRoomFor N.kit.terms.quota 1 log.old.room }
+        requires own { decider said.now.line.deed ≡ log.old.cpu }
+        requires owed { OwesQueues N.kit.terms (claims_of queues) said.now }
+        ensures token { IsToken N.kit.board N.kit.terms result }
+        ensures claims { claims_of result ≡ held (map (advanced said.now) (claims_of queues)) }
+        ensures log { HasWritten log.old log.new said.now.line }
+    {
+        match &self.journal {
+            None => commit(&self.board, log, queues, said),
+            Some(journal) => {
+                let mut journal = journal.lock(rt);
+                commit_in_journal(&self.board, &mut journal, log, queues, said)
+            }
+        }
     }
 }
 

@@ -2,40 +2,39 @@
 
 ghost use Rattle.std.specs.Prelude.{◌≡◌, ◌≢◌, ◌<◌, true};
 ghost use Rattle.eevdf_ops.specs.Parts.{decider};
-ghost use Rattle.eevdf_ops.specs.Setup.{cpus_of, homes_of};
-ghost use Rattle.eevdf_fleet.specs.Claims.{may_commit};
-ghost use Rattle.eevdf_fleet.specs.Fleets.{logged, setup_of, written};
+ghost use Rattle.eevdf_ops.specs.Setup.{allows, cpus_of, homes_of};
+ghost use Rattle.eevdf_fleet.specs.Fleets.{HasCommitted, HasWritten, IsRoomFor, setup_of};
 ghost use Rattle.eevdf_fleet.specs.TouchedQueues.{IsNoWake, IsOfOneQueue, IsOfTwoQueues};
 
-use crate::fleet::Fleet;
 use crate::gate::Gate;
 use crate::held_locks::HeldLocks;
 use crate::names::Names;
 use crate::queue_work::{act, act_across};
-use crate::seat::Seat;
+use crate::run_queues::RunQueues;
 use crate::seat_log::SeatLog;
+use crate::seat_parts::SeatParts;
 use crate::slot::Slot;
 use atomic_table::Badge;
 use eevdf_ops::{Answer, CpuId, Deed, Line};
 use std::mem;
 use std::sync::Wait;
 
-impl<N: Names> Fleet<N> {
+impl<N: Names> RunQueues<N> {
     /// Does a deed of the seat's CPU that touches its queue alone, and isn't a wake.
     pub(crate) fn own<R: Wait, G: Gate>(
         &self,
         rt: &R,
         gate: &G,
         n: usize,
-        seat: &mut Seat<N>,
+        seat: &mut SeatParts<N>,
         deed: Deed,
     ) -> Answer
         requires one { IsOfOneQueue (homes_of (setup_of N.kit)) deed }
         requires no_wake { IsNoWake deed }
-        requires own { decider deed ≡ seat.old.cpu }
-        requires committable { may_commit (setup_of N.kit) deed ≡ true }
-        requires room { 0 < seat.old.room }
-        ensures { seat.new ≡ logged seat.old (record { deed = deed; answer = result }) }
+        requires own { decider deed ≡ seat.old.seat.cpu }
+        requires allowed { allows (setup_of N.kit) deed ≡ true }
+        requires room { IsRoomFor N.kit.terms.quota 1 seat.old.seat.room }
+        ensures { HasCommitted seat.old seat.new (record { deed = deed; answer = result }) }
     {
         let mut guard = self.hold(rt, &mut HeldLocks::none(), seat.cpu());
         gate.inside(seat.cpu(), n);
@@ -48,17 +47,17 @@ impl<N: Names> Fleet<N> {
         rt: &R,
         gate: &G,
         n: usize,
-        seat: &mut Seat<N>,
+        seat: &mut SeatParts<N>,
         other: CpuId,
         deed: Deed,
     ) -> Answer
         requires two { IsOfTwoQueues (homes_of (setup_of N.kit)) other deed }
-        requires own { decider deed ≡ seat.old.cpu }
-        requires apart { other ≢ seat.old.cpu }
+        requires own { decider deed ≡ seat.old.seat.cpu }
+        requires apart { other ≢ seat.old.seat.cpu }
         requires there { other < cpus_of (setup_of N.kit) }
-        requires committable { may_commit (setup_of N.kit) deed ≡ true }
-        requires room { 0 < seat.old.room }
-        ensures { seat.new ≡ logged seat.old (record { deed = deed; answer = result }) }
+        requires allowed { allows (setup_of N.kit) deed ≡ true }
+        requires room { IsRoomFor N.kit.terms.quota 1 seat.old.seat.room }
+        ensures { HasCommitted seat.old seat.new (record { deed = deed; answer = result }) }
     {
         let mut held = HeldLocks::none();
         let (mut guard, mut other_guard) = self.hold_both(rt, &mut held, seat.cpu(), other);
@@ -87,9 +86,9 @@ impl<N: Names> Fleet<N> {
         requires number { slot.old.number ≡ log.old.cpu }
         requires one { IsOfOneQueue (homes_of (setup_of N.kit)) deed }
         requires own { decider deed ≡ log.old.cpu }
-        requires committable { may_commit (setup_of N.kit) deed ≡ true }
-        requires room { 0 < log.old.room }
-        ensures log { log.new ≡ written log.old (record { deed = deed; answer = result }) }
+        requires allowed { allows (setup_of N.kit) deed ≡ true }
+        requires room { IsRoomFor N.kit.terms.quota 1 log.old.room }
+        ensures log { HasWritten log.old log.new (record { deed = deed; answer = result }) }
         ensures number { slot.new.number ≡ slot.old.number }
     {
         let answer = act(&mut slot.queue, &deed);
@@ -116,13 +115,14 @@ impl<N: Names> Fleet<N> {
         requires two { IsOfTwoQueues (homes_of (setup_of N.kit)) away.old.number deed }
         requires own { decider deed ≡ log.old.cpu }
         requires apart { away.old.number ≢ log.old.cpu }
-        requires committable { may_commit (setup_of N.kit) deed ≡ true }
-        requires room { 0 < log.old.room }
-        ensures log { log.new ≡ written log.old (record { deed = deed; answer = result }) }
+        requires allowed { allows (setup_of N.kit) deed ≡ true }
+        requires room { IsRoomFor N.kit.terms.quota 1 log.old.room }
+        ensures log { HasWritten log.old log.new (record { deed = deed; answer = result }) }
     {
         let own = mem::replace(&mut slot.token, Badge::blank());
         let others = mem::replace(&mut away.token, Badge::blank());
-        let token = self.board.check(self.board.join(others, own));
+        let token = self.board.look(self.board.join(others, own));
+        let (_past, token) = self.board.split(token);
         let answer = act_across(&mut slot.queue, &mut away.queue, &deed);
         gate.acted(log.cpu(), n);
         let line = Line { deed, answer };

@@ -1,6 +1,6 @@
-ghost use Rattle.std.specs.Prelude.{◌≡◌, ◌++◌, take, drop, map};
-ghost use Rattle.eevdf_fleet.specs.Claims.{Owes, advanced};
-ghost use Rattle.eevdf_fleet.specs.Board.{IsToken, Known, claims_of};
+ghost use Rattle.std.specs.Prelude.{◌≡◌, ◌++◌, take, drop};
+ghost use Rattle.eevdf_fleet.specs.Claims.{Owes};
+ghost use Rattle.eevdf_fleet.specs.Board.{HasAppended, HasLooked, IsToken, claims_of, shared};
 
 use crate::board::{Board, Said, Token};
 use crate::names::Names;
@@ -54,23 +54,44 @@ impl<N: Names> NamedBoard<N> {
         self.board.split(token)
     }
 
-    /// Commits a line. The token claims all that it changes.
+    /// A token of the first two claims, and one of the others.
+    pub(crate) fn split_two(&self, token: Token) -> (Token, Token)
+        requires { IsToken N.kit.board N.kit.terms token }
+        ensures first { IsToken N.kit.board N.kit.terms result.0 }
+        ensures others { IsToken N.kit.board N.kit.terms result.1 }
+        ensures first_claims { claims_of result.0 ≡ take 2 (claims_of token) }
+        ensures other_claims { claims_of result.1 ≡ drop 2 (claims_of token) }
+    {
+        self.board.split_two(token)
+    }
+
+    /// A token of the first two claims, and one of the others. Both have the first, where it is of the past.
+    pub(crate) fn split_shared(&self, token: Token) -> (Token, Token)
+        requires { IsToken N.kit.board N.kit.terms token }
+        ensures first { IsToken N.kit.board N.kit.terms result.0 }
+        ensures others { IsToken N.kit.board N.kit.terms result.1 }
+        ensures first_claims { claims_of result.0 ≡ take 2 (claims_of token) }
+        ensures other_claims { claims_of result.1 ≡ shared (claims_of token) }
+    {
+        self.board.split_shared(token)
+    }
+
+    /// Commits a line, and learns the lines up to it. The token claims all that it changes.
     pub(crate) fn append(&self, token: Token, said: &Said) -> Token
         requires token { IsToken N.kit.board N.kit.terms token }
         requires owed { Owes N.kit.terms (claims_of token) said.now }
         ensures token { IsToken N.kit.board N.kit.terms result }
-        ensures claims { claims_of result ≡ map (advanced said.now) (claims_of token) }
+        ensures appended { HasAppended N.kit.terms said.now (claims_of token) (claims_of result) }
     {
         self.board.append(token, said)
     }
 
-    /// Learns that the claims of a token hold of one history, and that none of them stands twice.
-    pub(crate) fn check(&self, token: Token) -> Token
+    /// Learns the lines so far, which the claims of a token hold of, and that none of these stands twice.
+    pub(crate) fn look(&self, token: Token) -> Token
         requires { IsToken N.kit.board N.kit.terms token }
         ensures token { IsToken N.kit.board N.kit.terms result }
-        ensures claims { claims_of result ≡ claims_of token }
-        ensures known { Known N.kit.terms (claims_of token) }
+        ensures looked { HasLooked N.kit.terms (claims_of token) (claims_of result) }
     {
-        self.board.check(token)
+        self.board.look(token)
     }
 }

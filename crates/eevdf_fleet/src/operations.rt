@@ -1,20 +1,20 @@
 //! How an operation that is a deed of its CPU finds the locks that it needs.
 
-ghost use Rattle.std.specs.Prelude.{◌≡◌, ◌≢◌, ◌<◌, ◌↔◌, IfNone, IfSome, IsErr, true};
+ghost use Rattle.std.specs.Prelude.{◌≡◌, ◌≢◌, ◌<◌, IfNone, IfSome, true};
 ghost use Rattle.eevdf_ops.specs.Parts.{decider};
 ghost use Rattle.eevdf_ops.specs.Setup.{allows, cpus_of, home_of, homes_of, is_task};
-ghost use Rattle.eevdf_fleet.specs.Fleets.{IsLogged, setup_of};
+ghost use Rattle.eevdf_fleet.specs.Fleets.{HasCommitted, IsRoomFor, setup_of};
 ghost use Rattle.eevdf_fleet.specs.TouchedQueues.{IsNoWake, IsOfOneQueue, IsOfTwoQueues};
 
-use crate::fleet::{Fleet, SeatFull};
 use crate::gate::Gate;
 use crate::names::Names;
-use crate::seat::Seat;
+use crate::run_queues::RunQueues;
+use crate::seat_parts::SeatParts;
 use eevdf_ops::{Answer, CpuId, Deed};
 use eevdf_queue::TaskId;
 use std::sync::Wait;
 
-impl<N: Names> Fleet<N> {
+impl<N: Names> RunQueues<N> {
     /// Does a deed of the seat's CPU that isn't a wake. The gate is told that it is operation `n` of the CPU's program; where
     /// no program is run the gate is open, and `n` is 0.
     pub(crate) fn operate<R: Wait, G: Gate>(
@@ -22,22 +22,19 @@ impl<N: Names> Fleet<N> {
         rt: &R,
         gate: &G,
         n: usize,
-        seat: &mut Seat<N>,
+        seat: &mut SeatParts<N>,
         deed: Deed,
-    ) -> Result<Answer, SeatFull>
+    ) -> Answer
         requires no_wake { IsNoWake deed }
-        requires own { decider deed ≡ seat.old.cpu }
+        requires own { decider deed ≡ seat.old.seat.cpu }
         requires allowed { allows (setup_of N.kit) deed ≡ true }
-        ensures cases { IsLogged deed seat.old seat.new result }
-        ensures full { IsErr result ↔ (seat.old.room < 1) }
+        requires room { IsRoomFor N.kit.terms.quota 1 seat.old.seat.room }
+        ensures { HasCommitted seat.old seat.new (record { deed = deed; answer = result }) }
     {
-        if seat.room() == 0 {
-            return Err(SeatFull);
-        }
-        Ok(match self.other_queue(&deed) {
+        match self.other_queue(&deed) {
             Some(other) => self.across(rt, gate, n, seat, other, deed),
             None => self.own(rt, gate, n, seat, deed),
-        })
+        }
     }
 
     /// The CPU whose queue a deed touches beside that of its own CPU, if there is one.

@@ -7,7 +7,7 @@ ghost use Rattle.eevdf_ops.specs.{Histories.IsOneThread, Machine.start};
 ghost use Rattle.eevdf_ops.specs.{Outcome.machine_of, OwnRequests.TakesOwnRequests};
 ghost use Rattle.eevdf_ops.specs.{Places.IsPlaced, Programs.deeds_of};
 ghost use Rattle.eevdf_ops.specs.Setup.{allows, cpus_of, homes_of};
-ghost use Rattle.eevdf_fleet.specs.Fleets.{setup_of};
+ghost use Rattle.eevdf_fleet.specs.Fleets.{fresh, quota_of, setup_of};
 ghost use Rattle.eevdf_fleet.specs.ProgramRuns.{HasRun, quota_for, rings_for};
 
 use crate::fleet::{Closed, Fleet};
@@ -64,7 +64,7 @@ fn run_on_fleet<N: Names + Send + Sync, R: Threads + Wait + Sync, G: Gate + Sync
 ) -> Result<Closed, RunFault>
     requires kit { kit ≡ N.kit }
     requires setup { setup_of kit ≡ setup.now }
-    requires quota { kit.terms.quota ≡ quota_for setup.now }
+    requires quota { quota_of kit ≡ quota_for setup.now }
     requires rings { kit.rings.capacity ≡ rings_for setup.now }
     ensures one_thread { IfOk result (λ o.
         IsOneThread (homes_of setup.now) (start setup.now) (deeds_of o.lines) o) }
@@ -75,27 +75,33 @@ fn run_on_fleet<N: Names + Send + Sync, R: Threads + Wait + Sync, G: Gate + Sync
     ensures left { IfOk result (λ o. length o.left ≡ cpus_of setup.now * cpus_of setup.now) }
 {
     let (fleet, seats) = Fleet::<N>::open(alloc, kit)?;
-    let programs = Programs { setup, gate };
-    let seats = run_seats(rt, alloc, &fleet, seats, &programs)?;
+    let programs = Programs {
+        fleet: &fleet,
+        setup,
+        gate,
+    };
+    let seats = run_seats(rt, alloc, seats, &programs)?;
     Ok(fleet.close(seats))
 }
 
 /// The programs of a setup, each the work of its CPU's seat.
 #[derive(Drop)]
-struct Programs<'a, G> {
+struct Programs<'a, N: Names, G> {
+    fleet: &'a Fleet<N>,
     setup: &'a Setup,
     gate: &'a G,
 }
 
-impl<'a, G: Gate> SeatWork for Programs<'a, G> {
-    ghost serves = { λ p kit. (setup_of kit ≡ p.setup.now)
-        × (kit.terms.quota ≡ quota_for p.setup.now)
-        × (kit.rings.capacity ≡ rings_for p.setup.now) };
+impl<'a, N: Names, G: Gate> SeatWork<Seat<N>> for Programs<'a, N, G> {
+    ghost fits = { λ p number seat. (setup_of N.kit ≡ p.setup.now)
+        × (quota_of N.kit ≡ quota_for p.setup.now)
+        × (N.kit.rings.capacity ≡ rings_for p.setup.now)
+        × (seat ≡ fresh (quota_of N.kit) (cpus_of (setup_of N.kit)) number) };
 
-    ghost is_done = { λ _ kit seat.
-        HasRun (setup_of kit) seat.cpu (program_of (setup_of kit) seat.cpu) seat };
+    ghost is_done = { λ _ number seat.
+        HasRun (setup_of N.kit) number (program_of (setup_of N.kit) number) seat };
 
-    fn work<N: Names, R: Wait>(&self, rt: &R, fleet: &Fleet<N>, seat: Seat<N>) -> Seat<N> {
-        fleet.run_program(rt, self.gate, self.setup, seat)
+    fn work<R: Wait>(&self, rt: &R, _number: usize, seat: Seat<N>) -> Seat<N> {
+        self.fleet.run_program(rt, self.gate, self.setup, seat)
     }
 }

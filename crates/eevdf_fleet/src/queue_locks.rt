@@ -5,14 +5,14 @@ ghost use Rattle.std.specs.Prelude.{IfSome, None, Some};
 ghost use Rattle.eevdf_ops.specs.Setup.{cpus_of};
 ghost use Rattle.eevdf_fleet.specs.Fleets.{setup_of};
 
-use crate::fleet::Fleet;
 use crate::held_locks::HeldLocks;
 use crate::names::Names;
+use crate::run_queues::RunQueues;
 use crate::slot::Slot;
 use eevdf_ops::CpuId;
 use std::sync::{MutexGuard, Wait};
 
-impl<N: Names> Fleet<N> {
+impl<N: Names> RunQueues<N> {
     /// Takes the locks of the queues of two CPUs, the lower number first, where none is held.
     pub(crate) fn hold_both<R: Wait>(
         &self,

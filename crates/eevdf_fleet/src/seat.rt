@@ -1,39 +1,33 @@
-ghost use Rattle.std.specs.Prelude.{◌≡◌, ◌+◌, ◌<◌, length, OnOk, OnErr, IfErr, IsOk, true};
+ghost use Rattle.std.specs.Prelude.{◌≡◌, ◌+◌, ◌<◌, ◌≤◌, [], length, vec_capacity, vec_len, OnOk, OnErr, IfErr, IfOk, is_some};
+ghost use Rattle.std.specs.Prelude.{IsOk, true};
 ghost use Rattle.eevdf_ops.specs.Setup.{cpus_of, home_of, homes_of, is_task};
-ghost use Rattle.eevdf_fleet.specs.Fleets.{capacity_of, posted_to, quota_of, setup_of, with_post};
+ghost use Rattle.eevdf_fleet.specs.Fleets.{capacity_of, posted_to, quota_of, seats_in, setup_of};
+ghost use Rattle.eevdf_fleet.specs.Fleets.{with_post};
 
 use crate::names::Names;
-use crate::rings::{Consumers, Producers, RingFull};
-use crate::seat_log::SeatLog;
+use crate::rings::RingFull;
+use crate::seat_parts::SeatParts;
 use eevdf_ops::{CpuId, Line};
 use eevdf_queue::TaskId;
+use std::alloc::{AllocError, Global};
 use std::marker::Model;
 
 /// A CPU's part of a fleet: whoever has it does the CPU's operations. Contracts see its CPU, its lines in order, how
 /// many more it may have, and the tasks of the requests that it has posted to each home, in order.
 #[derive(Drop)]
 pub struct Seat<N: Names> {
-    pub(crate) log: SeatLog<N>,
-    pub(crate) producers: Producers<N>,
-    pub(crate) consumers: Consumers<N>,
-    pub(crate) homes: Vec<CpuId>,
+    pub(crate) parts: SeatParts<N>,
 }
 
 impl<N: Names> Model for Seat<N> {
-    ghost use Rattle.eevdf_fleet.specs.Fleets.{Seat, seat_of};
+    ghost use Rattle.std.specs.Prelude.{◌≡◌, is_some, true};
+    ghost use Rattle.eevdf_fleet.specs.Fleets.{Seat};
 
     ghost Value = { Seat };
 
-    ghost view = { λ s. seat_of s.log s.producers };
+    ghost view = { λ s. s.parts.seat };
 
-    ghost use Rattle.std.specs.Prelude.{◌≡◌};
-    ghost use Rattle.eevdf_ops.specs.{Places.AreCpus, Setup.cpus_of, Setup.homes_of};
-    ghost use Rattle.eevdf_fleet.specs.Fleets.{AreParts, ArePostedHome, setup_of};
-
-    ghost invariant = { λ s. AreParts (cpus_of (setup_of N.kit)) s.log s.producers s.consumers
-        × ArePostedHome (homes_of (setup_of N.kit)) s.producers.posted
-        × (s.homes.items ≡ homes_of (setup_of N.kit))
-        × AreCpus (cpus_of (setup_of N.kit)) (homes_of (setup_of N.kit)) };
+    ghost invariant = { λ _. is_some N.kit.terms.quota ≡ true };
 }
 
 impl<N: Names> Seat<N> {
@@ -42,7 +36,7 @@ impl<N: Names> Seat<N> {
         ensures cpu { result ≡ self.now.cpu }
         ensures below { result < cpus_of (setup_of N.kit) }
     {
-        self.log.cpu()
+        self.parts.cpu()
     }
 
     /// How many more lines its log may have: the quota less the lines so far.
@@ -50,14 +44,14 @@ impl<N: Names> Seat<N> {
         ensures room { result ≡ self.now.room }
         ensures quota { length self.now.log + result ≡ quota_of N.kit }
     {
-        self.log.room()
+        self.parts.room()
     }
 
     /// The lines that its operations have made, oldest first. A post has none.
     pub fn log(&self) -> &[Line]
         ensures { result.now ≡ self.now.log }
     {
-        self.log.lines()
+        self.parts.lines()
     }
 
     /// Sends a request to wake a task to the task's home, whose drain decides it. It needs no room, adds no line, and neither
@@ -72,7 +66,37 @@ impl<N: Names> Seat<N> {
         ensures room { length (posted_to self.old (home_of (homes_of (setup_of N.kit)) task))
             < capacity_of N.kit → IsOk result }
     {
-        let home = self.homes[task.index()];
-        self.producers.post(home.index(), task)
+        self.parts.post(task)
     }
+}
+
+/// The seats of these parts, in order.
+pub(crate) fn seats_of<N: Names>(
+    alloc: Global,
+    parts: Vec<SeatParts<N>>,
+) -> Result<Vec<Seat<N>>, AllocError>
+    requires { is_some N.kit.terms.quota ≡ true }
+    ensures { IfOk result (λ seats. seats.items ≡ seats_in parts.items) }
+{
+    let mut seats = Vec::with_capacity(alloc, parts.len())?;
+    for parts in parts {
+        seats.push(Seat { parts })?;
+    }
+    Ok(seats)
+}
+
+/// The parts of these seats, in order, in the room for them.
+pub(crate) fn parts_in<N: Names>(
+    seats: Vec<Seat<N>>,
+    mut room: Vec<SeatParts<N>>,
+) -> Vec<SeatParts<N>>
+    requires none { room.items ≡ [] }
+    requires enough { vec_len seats ≤ vec_capacity room }
+    ensures { seats_in result.items ≡ seats.items }
+{
+    for seat in seats {
+        let Seat { parts } = seat;
+        room.push_reserved(parts);
+    }
+    room
 }

@@ -55,11 +55,11 @@ impl<N: Names> Fleet<N> {
             → length (posted_to seat.old home) < N.kit.rings.capacity }
         ensures { HasOperated (setup_of N.kit) op seat.old seat.new }
     {
-        let cpu = seat.log.cpu();
+        let cpu = seat.cpu();
         match op {
-            Op::Post(task) => seat.post(task).unwrap(),
+            Op::Post(task) => seat.parts.post(task).unwrap(),
             Op::Drain => {
-                self.drain_requests(rt, gate, n, seat).unwrap();
+                self.drain_by(rt, gate, n, seat).unwrap();
             }
             _ => {
                 if let Some(deed) = op.on(cpu) {

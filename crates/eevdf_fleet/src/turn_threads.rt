@@ -50,7 +50,7 @@ pub fn run_turns<R: Threads + Wait + Sync, T: SeatTurn + Sync>(
     ensures left { IfOk result (λ o. length o.left
         ≡ cpus_of (setup_of kit) * cpus_of (setup_of kit)) }
 {
-    run_on_fleet::<Brand, _, _>(rt, alloc, kit, &Turns { turns, each })
+    run_on_fleet::<Brand, _, _>(rt, alloc, kit, turns, each)
 }
 
 /// Does the turns on the fleet of a kit.
@@ -58,7 +58,8 @@ fn run_on_fleet<N: Names + Send + Sync, R: Threads + Wait + Sync, T: SeatTurn + 
     rt: &R,
     alloc: Global,
     kit: Kit,
-    turns: &Turns<T>,
+    turns: usize,
+    each: &T,
 ) -> Result<Closed, RunFault>
     requires kit { kit ≡ N.kit }
     ensures one_thread { IfOk result (λ o. IsOneThread
@@ -67,31 +68,39 @@ fn run_on_fleet<N: Names + Send + Sync, R: Threads + Wait + Sync, T: SeatTurn + 
         list_all (allows (setup_of kit)) (deeds_of o.lines) ≡ true) }
     ensures places { IfOk result (λ o. IsPlaced (homes_of (setup_of kit)) (machine_of o.queues)) }
     ensures turns { IfOk result (λ o. (cpu : ℕ) → cpu < cpus_of (setup_of kit)
-        → HasItsTurns (T.turn_gives turns.now.each.now kit) kit turns.now.turns cpu o) }
+        → HasItsTurns (T.turn_gives each.now kit) kit turns cpu o) }
     ensures left { IfOk result (λ o. length o.left
         ≡ cpus_of (setup_of kit) * cpus_of (setup_of kit)) }
 {
     let (fleet, seats) = Fleet::<N>::open(alloc, kit)?;
-    let seats = run_seats(rt, alloc, &fleet, seats, turns)?;
+    let work = Turns {
+        fleet: &fleet,
+        turns,
+        each,
+    };
+    let seats = run_seats(rt, alloc, seats, &work)?;
     Ok(fleet.close(seats))
 }
 
 /// So many turns, each of this kind.
 #[derive(Drop)]
-struct Turns<'a, T> {
+struct Turns<'a, N: Names, T> {
+    fleet: &'a Fleet<N>,
     turns: usize,
     each: &'a T,
 }
 
-impl<'a, T: SeatTurn> SeatWork for Turns<'a, T> {
-    ghost serves = { λ _ _. Unit {0} };
+impl<'a, N: Names, T: SeatTurn> SeatWork<Seat<N>> for Turns<'a, N, T> {
+    ghost fits = { λ _ number seat.
+        seat ≡ fresh (quota_of N.kit) (cpus_of (setup_of N.kit)) number };
 
-    ghost is_done = { λ work kit seat. HasTurned (T.turn_gives work.each.now kit) 0 work.turns
-        (fresh (quota_of kit) (cpus_of (setup_of kit)) seat.cpu) seat };
+    ghost is_done = { λ work number seat. (seat.cpu ≡ number)
+        × HasTurned (T.turn_gives work.each.now N.kit) 0 work.turns
+        (fresh (quota_of N.kit) (cpus_of (setup_of N.kit)) number) seat };
 
-    fn work<N: Names, R: Wait>(&self, rt: &R, fleet: &Fleet<N>, mut seat: Seat<N>) -> Seat<N> {
+    fn work<R: Wait>(&self, rt: &R, _number: usize, mut seat: Seat<N>) -> Seat<N> {
         for turn in 0..self.turns {
-            if self.each.turn(rt, fleet, &mut seat, turn).is_break() {
+            if self.each.turn(rt, self.fleet, &mut seat, turn).is_break() {
                 break;
             }
         }

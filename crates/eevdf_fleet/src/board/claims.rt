@@ -4,11 +4,12 @@ use std::collections::LinkedList;
 use std::marker::Model;
 use std::snapshot::Snapshot;
 
-/// On what terms a history is kept: the setup that it begins from, and how many lines it may have of each CPU.
+/// On what terms a history is kept: the setup that it begins from, and, where a journal has its lines, how many it may have of
+/// each CPU.
 #[derive(Drop)]
 pub struct Terms {
     pub setup: Snapshot<Setup>,
-    pub quota: usize,
+    pub quota: Option<usize>,
 }
 
 /// A queue, of which contracts see the state alone. No value of it is made.
@@ -34,6 +35,8 @@ pub enum Claim {
     Queue(u64, QueueState),
     /// All its lines are these.
     Journal(LinkedList<Line>),
+    /// Its first lines are these. Nothing can change that, so any number of tokens may claim it.
+    Past(LinkedList<Line>),
 }
 
 /// What the holder of a token knows. No value of it is made.

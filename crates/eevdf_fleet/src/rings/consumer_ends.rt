@@ -1,15 +1,15 @@
 use crate::names::Names;
 use crate::rings::producer_ends::Producers;
+use crate::rings::request::PopEnd;
 use crate::rings::ring_ends::{pop, pop_beside, pop_rest};
 use eevdf_queue::TaskId;
-use rtrb::Consumer;
 use std::marker::{Model, PhantomData};
 
 /// The ends at which a home takes the requests that were posted to it, one for each sender.
 #[derive(Drop)]
 pub(crate) struct Consumers<N: Names> {
     home: usize,
-    ends: Vec<Consumer<TaskId>>,
+    ends: Vec<PopEnd>,
     of: PhantomData<N>,
 }
 
@@ -22,18 +22,19 @@ impl<N: Names> Model for Consumers<N> {
     ghost view = { λ c. takes c.home c.ends.items };
 
     ghost invariant = { λ c.
-        AreConsumers N.kit.rings.capacity (rings.ring_at N.kit.rings) c.home c.ends.items };
+        AreConsumers N.kit.rings c.home c.ends.items };
 }
 
 impl<N: Names> Consumers<N> {
     ghost use Rattle.std.specs.Prelude.{◌≡◌, ◌<◌, ◌≤◌, ◌++◌, [], ◌∷◌, length, vec_capacity, IfNone};
-    ghost use Rattle.std.specs.Prelude.{IfSome};
+    ghost use Rattle.std.specs.Prelude.{IfSome, true};
+    ghost use Rattle.eevdf_ops.specs.Setup.{is_at_home};
     ghost use Rattle.eevdf_fleet.specs.Rings as rings;
-    ghost use Rattle.eevdf_fleet.specs.RingEnds.{takes, AreConsumers};
+    ghost use Rattle.eevdf_fleet.specs.RingEnds.{slots_for, takes, AreConsumers};
 
     /// The ends of a home's rings.
-    pub(super) fn new(home: usize, ends: Vec<Consumer<TaskId>>) -> Consumers<N>
-        requires { AreConsumers N.kit.rings.capacity (rings.ring_at N.kit.rings) home ends.items }
+    pub(super) fn new(home: usize, ends: Vec<PopEnd>) -> Consumers<N>
+        requires { AreConsumers N.kit.rings home ends.items }
         ensures { result ≡ takes home ends.items }
     {
         Consumers {
@@ -52,8 +53,10 @@ impl<N: Names> Consumers<N> {
         ensures some { IfSome result (λ task. self.new
             ≡ rings.taken_more self.old sender (task ∷ [])) }
         ensures none { IfNone result (self.new ≡ self.old) }
+        ensures at_home { IfSome result (λ task.
+            is_at_home N.kit.rings.homes task self.old.home ≡ true) }
         ensures own { sender ≡ self.old.home → result ≡ rings.oldest producers.old self.old }
-        ensures producers { producers.new ≡ producers.old }
+        ensures producers { rings.HasLooked self.old.home producers.old producers.new }
     {
         if sender == self.home {
             self.take_own(producers)
@@ -68,6 +71,8 @@ impl<N: Names> Consumers<N> {
         ensures some { IfSome result (λ task. self.new
             ≡ rings.taken_more self.old sender (task ∷ [])) }
         ensures none { IfNone result (self.new ≡ self.old) }
+        ensures at_home { IfSome result (λ task.
+            is_at_home N.kit.rings.homes task self.old.home ≡ true) }
     {
         pop(&mut self.ends[sender])
     }
@@ -80,8 +85,10 @@ impl<N: Names> Consumers<N> {
         ensures some { IfSome result (λ task. self.new
             ≡ rings.taken_more self.old self.old.home (task ∷ [])) }
         ensures none { IfNone result (self.new ≡ self.old) }
+        ensures at_home { IfSome result (λ task.
+            is_at_home N.kit.rings.homes task self.old.home ≡ true) }
         ensures oldest { result ≡ rings.oldest producers.old self.old }
-        ensures producers { producers.new ≡ producers.old }
+        ensures producers { rings.HasLooked self.old.home producers.old producers.new }
     {
         let home = self.home;
         pop_beside(&mut self.ends[home], &mut producers.ends[home])
@@ -92,11 +99,11 @@ impl<N: Names> Consumers<N> {
         requires home { self.old.home < length producers.old.posted }
         requires sender { producers.old.sender < length self.old.taken }
         requires empty { left.old.items ≡ [] }
-        requires room { N.kit.rings.capacity ≤ vec_capacity left.old }
+        requires room { slots_for N.kit.rings.capacity ≤ vec_capacity left.old }
         ensures taken { self.new ≡ rings.taken_more self.old producers.old.sender left.new.items }
         ensures left { rings.posted_to producers.old self.old.home
             ≡ rings.taken_from self.old producers.old.sender ++ left.new.items }
-        ensures producers { producers.new ≡ producers.old }
+        ensures producers { rings.HasLooked self.old.home producers.old producers.new }
     {
         let home = self.home;
         let sender = producers.sender;

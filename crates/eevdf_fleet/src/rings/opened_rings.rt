@@ -6,19 +6,22 @@ use crate::names::Names;
 use crate::rings::consumer_ends::Consumers;
 use crate::rings::named_ends::{consumers_by_home, producers_by_sender};
 use crate::rings::producer_ends::Producers;
-use eevdf_queue::TaskId;
-use rtrb::{Consumer, Producer, RingBuffer};
+use crate::rings::request::{PopEnd, PushEnd};
+use crate::rings::ring_ends::{open_ring, slots_for};
+use eevdf_ops::CpuId;
 use std::alloc::{AllocError, Global};
 use std::marker::Model;
+use std::snapshot::Snapshot;
 
 /// A ring for each pair of a sender and a home, into which nothing was posted.
 #[derive(Drop)]
 pub(crate) struct Rings {
     capacity: usize,
+    homes: Snapshot<Vec<CpuId>>,
     // by senders, then by homes
-    producers: Vec<Vec<Producer<TaskId>>>,
+    producers: Vec<Vec<PushEnd>>,
     // by homes, then by senders
-    consumers: Vec<Vec<Consumer<TaskId>>>,
+    consumers: Vec<Vec<PopEnd>>,
 }
 
 impl Model for Rings {
@@ -28,26 +31,37 @@ impl Model for Rings {
 
     ghost Value = { rings.Rings };
 
-    ghost view = { λ r. record { capacity = r.capacity; rings = lists_of r.producers.items } };
+    ghost view = { λ r. record {
+      capacity = r.capacity;
+      homes = r.homes.value.items;
+      rings = lists_of r.producers.items;
+    } };
 
     ghost invariant = { λ r.
-        AreOpened r.capacity (length r.producers.items) (lists_of r.producers.items)
-        (lists_of r.consumers.items) };
+        AreOpened r.capacity r.homes.value.items (length r.producers.items)
+        (lists_of r.producers.items) (lists_of r.consumers.items) };
 }
 
 impl Rings {
-    /// Opens a ring of this capacity for each pair of so many CPUs.
-    pub(crate) fn open(alloc: Global, cpus: usize, capacity: usize) -> Result<Rings, AllocError>
+    /// Opens a ring of this capacity for each pair of so many CPUs, for tasks with these homes.
+    pub(crate) fn open(
+        alloc: Global,
+        cpus: usize,
+        capacity: usize,
+        homes: &Vec<CpuId>,
+    ) -> Result<Rings, AllocError>
         ensures cpus { IfOk result (λ r. length r.rings ≡ cpus) }
         ensures capacity { IfOk result (λ r. r.capacity ≡ capacity) }
+        ensures homes { IfOk result (λ r. r.homes ≡ homes.now.items) }
     {
         let mut consumers = no_consumers(alloc, cpus)?;
         let mut producers = Vec::with_capacity(alloc, cpus)?;
         for _ in 0..cpus {
-            producers.push(open_row(alloc, capacity, &mut consumers)?)?;
+            producers.push(open_row(alloc, capacity, homes, &mut consumers)?)?;
         }
         Ok(Rings {
             capacity,
+            homes: Snapshot::of(homes),
             producers,
             consumers,
         })
@@ -67,23 +81,24 @@ impl Rings {
     ) -> Result<(Vec<Producers<N>>, Vec<Consumers<N>>), AllocError>
         requires { self ≡ N.kit.rings }
         ensures producers { IfOk result (λ ends.
-            ends.0.items ≡ rings.all_no_posts (length self.rings)) }
+            ends.0.items ≡ rings.all_no_posts self.capacity (length self.rings)) }
         ensures consumers { IfOk result (λ ends.
             ends.1.items ≡ rings.all_no_takes (length self.rings)) }
     {
         let Rings {
-            capacity: _,
+            capacity,
+            homes: _,
             producers,
             consumers,
         } = self;
-        let producers = producers_by_sender(alloc, producers)?;
+        let producers = producers_by_sender(alloc, capacity, producers)?;
         let consumers = consumers_by_home(alloc, consumers)?;
         Ok((producers, consumers))
     }
 }
 
 /// For each CPU no ends yet.
-fn no_consumers(alloc: Global, cpus: usize) -> Result<Vec<Vec<Consumer<TaskId>>>, AllocError>
+fn no_consumers(alloc: Global, cpus: usize) -> Result<Vec<Vec<PopEnd>>, AllocError>
     ensures { IfOk result (λ columns. lists_of columns.items ≡ replicate cpus []) }
 {
     let mut columns = Vec::with_capacity(alloc, cpus)?;
@@ -97,14 +112,17 @@ fn no_consumers(alloc: Global, cpus: usize) -> Result<Vec<Vec<Consumer<TaskId>>>
 fn open_row(
     alloc: Global,
     capacity: usize,
-    columns: &mut Vec<Vec<Consumer<TaskId>>>,
-) -> Result<Vec<Producer<TaskId>>, AllocError>
-    ensures { IfOk result (λ row. AreRow capacity (length (lists_of columns.old.items)) row.items
+    homes: &Vec<CpuId>,
+    columns: &mut Vec<Vec<PopEnd>>,
+) -> Result<Vec<PushEnd>, AllocError>
+    ensures { IfOk result (λ row. AreRow capacity homes.now.items
+        (length (lists_of columns.old.items)) row.items
         (lists_of columns.old.items) (lists_of columns.new.items)) }
 {
+    let slots = slots_for(capacity);
     let mut row = Vec::with_capacity(alloc, columns.len())?;
     for home in 0..columns.len() {
-        let (producer, consumer) = RingBuffer::new(alloc, capacity)?;
+        let (producer, consumer) = open_ring(alloc, slots, home, homes)?;
         row.push(producer)?;
         columns[home].push(consumer)?;
     }

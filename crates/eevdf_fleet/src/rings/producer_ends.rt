@@ -1,7 +1,7 @@
 use crate::names::Names;
-use crate::rings::ring_ends::push;
+use crate::rings::request::PushEnd;
+use crate::rings::ring_ends::{free, push};
 use eevdf_queue::TaskId;
-use rtrb::Producer;
 use std::marker::{Model, PhantomData};
 
 /// The answer to a post that was refused. It comes only where the seat has posted at least as many requests to the task's
@@ -12,51 +12,74 @@ pub struct RingFull {
     pub task: TaskId,
 }
 
-/// The ends at which a CPU posts requests, one for each home.
+/// The ends at which a CPU posts requests, one for each home. Contracts see what was posted to each home, and how many
+/// requests more are known to fit.
 #[derive(Drop)]
 pub(crate) struct Producers<N: Names> {
     pub(super) sender: usize,
-    pub(super) ends: Vec<Producer<TaskId>>,
+    capacity: usize,
+    pub(super) ends: Vec<PushEnd>,
     of: PhantomData<N>,
 }
 
 impl<N: Names> Model for Producers<N> {
+    ghost use Rattle.std.specs.Prelude.{◌≡◌};
     ghost use Rattle.eevdf_fleet.specs.RingEnds.{posts, AreProducers};
     ghost use Rattle.eevdf_fleet.specs.Rings as rings;
 
     ghost Value = { rings.Posts };
 
-    ghost view = { λ p. posts p.sender p.ends.items };
+    ghost view = { λ p. posts p.capacity p.sender p.ends.items };
 
-    ghost invariant = { λ p.
-        AreProducers N.kit.rings.capacity (rings.ring_at N.kit.rings) p.sender p.ends.items };
+    ghost invariant = { λ p. AreProducers N.kit.rings p.sender p.ends.items
+        × (p.capacity ≡ N.kit.rings.capacity) };
 }
 
 impl<N: Names> Producers<N> {
-    ghost use Rattle.std.specs.Prelude.{◌≡◌, ◌<◌, [], ◌∷◌, length, OnOk, OnErr, IfErr, IsOk};
+    ghost use Rattle.std.specs.Prelude.{◌≡◌, ◌<◌, [], ◌∷◌, length, true, OnOk, OnErr, IfErr, IsOk};
+    ghost use Rattle.eevdf_ops.specs.Setup.{is_at_home};
     ghost use Rattle.eevdf_fleet.specs.Rings as rings;
     ghost use Rattle.eevdf_fleet.specs.RingEnds.{posts, AreProducers};
 
-    /// The ends of a sender's rings.
-    pub(super) fn new(sender: usize, ends: Vec<Producer<TaskId>>) -> Producers<N>
-        requires { AreProducers N.kit.rings.capacity (rings.ring_at N.kit.rings) sender ends.items }
-        ensures { result ≡ posts sender ends.items }
+    /// The ends of a sender's rings, each with room for so many requests.
+    pub(super) fn new(sender: usize, capacity: usize, ends: Vec<PushEnd>) -> Producers<N>
+        requires ends { AreProducers N.kit.rings sender ends.items }
+        requires capacity { capacity ≡ N.kit.rings.capacity }
+        ensures { result ≡ posts capacity sender ends.items }
     {
         Producers {
             sender,
+            capacity,
             ends,
             of: PhantomData,
         }
     }
 
-    /// Posts a request to a home. It takes no memory.
+    /// Posts a request to the home of its task. It takes no memory. Where the rings have room for no request, none is
+    /// taken, though each has a slot.
     pub(crate) fn post(&mut self, home: usize, task: TaskId) -> Result<(), RingFull>
-        requires { home < length self.old.posted }
-        ensures accepted { OnOk result (self.new ≡ rings.posted_more self.old home (task ∷ [])) }
+        requires home { home < length self.old.posted }
+        requires at_home { is_at_home N.kit.rings.homes task home ≡ true }
+        ensures accepted { OnOk result (rings.HasPosted home task self.old self.new) }
         ensures refused { OnErr result (self.new ≡ self.old) }
+        ensures full { OnErr result (rings.free_to self.new home ≡ 0) }
         ensures given_back { IfErr result (λ full. full.task ≡ task) }
+        ensures free { 0 < rings.free_to self.old home → IsOk result }
+        ensures has_room { OnOk result (0 < N.kit.rings.capacity) }
         ensures room { length (rings.posted_to self.old home) < N.kit.rings.capacity → IsOk result }
     {
+        if self.capacity == 0 {
+            return Err(RingFull { task });
+        }
         push(&mut self.ends[home], task)
+    }
+
+    /// Looks how many requests to a home certainly fit now.
+    pub(crate) fn free(&mut self, home: usize) -> usize
+        requires { home < length self.old.posted }
+        ensures looked { rings.HasLooked home self.old self.new }
+        ensures free { result ≡ rings.free_to self.new home }
+    {
+        free(&mut self.ends[home], self.capacity)
     }
 }

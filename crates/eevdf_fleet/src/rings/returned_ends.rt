@@ -6,6 +6,7 @@ ghost use Rattle.eevdf_fleet.specs.ReturnedEnds.{AreEmptyLists};
 use crate::names::Names;
 use crate::rings::consumer_ends::Consumers;
 use crate::rings::producer_ends::Producers;
+use crate::rings::ring_ends::slots_for;
 use eevdf_queue::TaskId;
 use std::alloc::{AllocError, Global};
 use std::marker::Model;
@@ -20,6 +21,7 @@ pub(crate) struct ReturnedEnds<N: Names> {
 }
 
 impl<N: Names> Model for ReturnedEnds<N> {
+    ghost use Rattle.std.specs.Prelude.{map};
     ghost use Rattle.eevdf_fleet.specs.Rings as rings;
     ghost use Rattle.eevdf_fleet.specs.ReturnedEnds.{HasRoom};
 
@@ -27,7 +29,7 @@ impl<N: Names> Model for ReturnedEnds<N> {
 
     ghost view = { λ r. record {
       cpus = r.cpus;
-      posts = r.producers.items;
+      posts = map rings.posted_by r.producers.items;
       takes = r.consumers.items;
     } };
 
@@ -46,7 +48,7 @@ impl<N: Names> ReturnedEnds<N> {
         requires capacity { capacity ≡ N.kit.rings.capacity }
         ensures { IfOk result (λ r. r ≡ record { cpus = cpus; posts = []; takes = [] }) }
     {
-        let left = empty_lists(alloc, cpus * cpus, capacity)?;
+        let left = empty_lists(alloc, cpus * cpus, slots_for(capacity))?;
         Ok(ReturnedEnds {
             cpus,
             producers: Vec::with_capacity(alloc, cpus)?,
@@ -60,7 +62,7 @@ impl<N: Names> ReturnedEnds<N> {
         requires posts { length self.old.posts < self.old.cpus }
         requires takes { length self.old.takes < self.old.cpus }
         ensures { self.new ≡ record self.old {
-          posts = self.old.posts ++ producers ∷ [];
+          posts = self.old.posts ++ rings.posted_by producers ∷ [];
           takes = self.old.takes ++ consumers ∷ [];
         } }
     {

@@ -1,78 +1,124 @@
 //! What is done at the ends of one ring.
 
 ghost use Rattle.std.specs.Prelude.{◌≡◌, ◌<◌, ◌≤◌, ◌+◌, ◌++◌, [], ◌∷◌, length, slice_get};
-ghost use Rattle.std.specs.Prelude.{vec_capacity, IfNone, IfSome, IfErr, IsOk, OnErr, OnOk};
+ghost use Rattle.std.specs.Prelude.{vec_capacity, IfNone, IfOk, IfSome, IfErr, IsOk, OnErr, OnOk};
 ghost use Rattle.rtrb.specs.Ring.{sent, known_free, received, consumer_capacity, IsPair};
 ghost use Rattle.rtrb.specs.Ring.{SameConsumer, SameProducer, ProducerLooked};
+ghost use Rattle.eevdf_fleet.specs.{Requests.Grows, Requests.IsMarked, Requests.MayFollow};
+ghost use Rattle.eevdf_fleet.specs.RingEnds.{free_in, taken_out};
+ghost use Rattle.eevdf_fleet.specs.{Requests.tasks_of, RingEnds.posted_into, RingEnds.slots_for};
 
 use crate::rings::RingFull;
+use crate::rings::request::{AtHome, PopEnd, PushEnd, Request};
+use eevdf_ops::CpuId;
 use eevdf_queue::TaskId;
-use rtrb::{Consumer, Producer};
+use rtrb::RingBuffer;
+use std::alloc::{AllocError, Global};
+
+/// How many slots a ring has that has room for so many requests. One without room has one too, for its mark.
+pub(super) fn slots_for(capacity: usize) -> usize
+    ensures { result ≡ slots_for capacity }
+{
+    capacity.max(1)
+}
+
+/// Opens a ring that leads to a home. Its mark goes through it at once, while both ends are here, so that each end has
+/// the mark, and all slots are known to be free again.
+pub(super) fn open_ring(
+    alloc: Global,
+    slots: usize,
+    home: usize,
+    homes: &Vec<CpuId>,
+) -> Result<(PushEnd, PopEnd), AllocError>
+    requires { 0 < slots }
+    ensures pair { IfOk result (λ r. IsPair r.0 r.1) }
+    ensures sent { IfOk result (λ r. IsMarked homes.now.items home (sent r.0)) }
+    ensures posted { IfOk result (λ r. posted_into r.0 ≡ []) }
+    ensures free { IfOk result (λ r. known_free r.0 ≡ slots) }
+    ensures received { IfOk result (λ r. IsMarked homes.now.items home (received r.1)) }
+    ensures taken { IfOk result (λ r. taken_out r.1 ≡ []) }
+    ensures capacity { IfOk result (λ r. consumer_capacity r.1 ≡ slots) }
+{
+    let (mut producer, mut consumer) = RingBuffer::with_protocol::<Global, AtHome>(alloc, slots)?;
+    producer.push_reserved(Request::mark(home, homes));
+    consumer.slots_beside(&mut producer);
+    let _mark = consumer.pop_known();
+    producer.slots_beside(&mut consumer);
+    Ok((producer, consumer))
+}
 
 /// Pushes a request, or hands it back where the ring is full.
-pub(super) fn push(producer: &mut Producer<TaskId>, task: TaskId) -> Result<(), RingFull>
+pub(super) fn push(producer: &mut PushEnd, task: TaskId) -> Result<(), RingFull>
+    requires { MayFollow (sent producer.old) task }
     ensures ring { SameProducer producer.old producer.new }
-    ensures accepted { OnOk result (sent producer.new ≡ sent producer.old ++ task ∷ []) }
+    ensures accepted { OnOk result (Grows (sent producer.old) (sent producer.new) (task ∷ [])) }
     ensures refused { OnErr result (sent producer.new ≡ sent producer.old) }
     ensures given_back { IfErr result (λ full. full.task ≡ task) }
     ensures free { 0 < known_free producer.old → IsOk result }
+    ensures fewer { OnOk result (known_free producer.old ≤ known_free producer.new + 1) }
+    ensures full { OnErr result (known_free producer.new ≡ 0) }
+    ensures none_free { OnErr result (known_free producer.old ≡ 0) }
     ensures room { known_free producer.old + length (sent producer.old)
         ≤ known_free producer.new + length (sent producer.new) }
 {
-    match producer.push(task) {
+    match producer.push(Request::to_wake(task)) {
         Ok(()) => Ok(()),
         Err(_) => Err(RingFull { task }),
     }
 }
 
+/// Looks how many requests fit, into a ring that has room for so many.
+pub(super) fn free(producer: &mut PushEnd, capacity: usize) -> usize
+    ensures looked { ProducerLooked producer.old producer.new }
+    ensures free { result ≡ free_in capacity producer.new }
+{
+    producer.slots().min(capacity)
+}
+
 /// Pops the oldest request that is in the ring, if one is seen.
-pub(super) fn pop(consumer: &mut Consumer<TaskId>) -> Option<TaskId>
+pub(super) fn pop(consumer: &mut PopEnd) -> Option<TaskId>
     ensures ring { SameConsumer consumer.old consumer.new }
-    ensures some { IfSome result (λ task. received consumer.new
-        ≡ received consumer.old ++ task ∷ []) }
+    ensures some { IfSome result (λ task.
+        Grows (received consumer.old) (received consumer.new) (task ∷ [])) }
+    ensures allowed { IfSome result (λ task. MayFollow (received consumer.old) task) }
     ensures none { IfNone result (received consumer.new ≡ received consumer.old) }
 {
     match consumer.pop() {
-        Ok(task) => Some(task),
+        Ok(request) => Some(request.task),
         Err(_) => None,
     }
 }
 
 /// Pops the oldest request that is in the ring, if there is one: the end that pushes is here too.
-pub(super) fn pop_beside(
-    consumer: &mut Consumer<TaskId>,
-    producer: &mut Producer<TaskId>,
-) -> Option<TaskId>
+pub(super) fn pop_beside(consumer: &mut PopEnd, producer: &mut PushEnd) -> Option<TaskId>
     requires { IsPair producer.old consumer.old }
     ensures ring { SameConsumer consumer.old consumer.new }
-    ensures some { IfSome result (λ task. received consumer.new
-        ≡ received consumer.old ++ task ∷ []) }
+    ensures some { IfSome result (λ task.
+        Grows (received consumer.old) (received consumer.new) (task ∷ [])) }
+    ensures allowed { IfSome result (λ task. MayFollow (received consumer.old) task) }
     ensures none { IfNone result (received consumer.new ≡ received consumer.old) }
-    ensures oldest { result ≡ slice_get (sent producer.old) (length (received consumer.old)) }
+    ensures oldest { result
+        ≡ slice_get (tasks_of (sent producer.old)) (length (received consumer.old)) }
     ensures producer { ProducerLooked producer.old producer.new }
 {
     if consumer.slots_beside(producer) == 0 {
         return None;
     }
-    Some(consumer.pop_known())
+    Some(consumer.pop_known().task)
 }
 
 /// Pops all requests that are in the ring, oldest first: the end that pushes is here too. It takes no memory.
-pub(super) fn pop_rest(
-    consumer: &mut Consumer<TaskId>,
-    producer: &mut Producer<TaskId>,
-    left: &mut Vec<TaskId>,
-)
+pub(super) fn pop_rest(consumer: &mut PopEnd, producer: &mut PushEnd, left: &mut Vec<TaskId>)
     requires pair { IsPair producer.old consumer.old }
     requires empty { left.old.items ≡ [] }
     requires room { consumer_capacity consumer.old ≤ vec_capacity left.old }
     ensures ring { SameConsumer consumer.old consumer.new }
-    ensures received { received consumer.new ≡ received consumer.old ++ left.new.items }
+    ensures received { Grows (received consumer.old) (received consumer.new) left.new.items }
     ensures producer { ProducerLooked producer.old producer.new }
-    ensures left { sent producer.old ≡ received consumer.old ++ left.new.items }
+    ensures left { Grows (received consumer.old) (sent producer.old) left.new.items }
 {
     let count = consumer.slots_beside(producer);
     for _ in 0..count {
-        left.push_reserved(consumer.pop_known());
+        left.push_reserved(consumer.pop_known().task);
     }
 }

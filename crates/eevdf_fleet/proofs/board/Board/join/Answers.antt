@@ -1,6 +1,6 @@
 use Rattle.std.proofs.Common.{◌≡◌, [], arith}
 use Rattle.eevdf_fleet.specs.{declared.board.claims.Terms.Terms, Claims.knowing, Board.claims_of}
-use Rattle.eevdf_fleet.proofs.Boards.{joins_as}
+use Rattle.eevdf_fleet.proofs.BoardCalls.{joins_as}
 use Rattle.eevdf_fleet.proofs.board.Board.join.Goals as goal
 
 pub join_seat-requires : goal.join_seat-requires

@@ -1,4 +1,4 @@
-use Rattle.eevdf_fleet.proofs.Boards.{opens}
+use Rattle.eevdf_fleet.proofs.BoardOpening.{opens}
 use Rattle.eevdf_fleet.proofs.board.Board.open.Goals as goal
 
 pub of_words-requires : goal.of_words-requires

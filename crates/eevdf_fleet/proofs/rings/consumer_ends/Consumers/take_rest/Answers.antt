@@ -1,9 +1,10 @@
-use Rattle.eevdf_fleet.proofs.RingEnds.{consumers-set, producers-looked, pair-at, capacity-at, takes-more, posts-same}
+use Rattle.eevdf_fleet.proofs.MarkedItems.{grows-marked}
+use Rattle.eevdf_fleet.proofs.RingEnds.{consumers-set, producers-looked, pair-at, capacity-at, left-at, takes-more, posts-looked}
 use Rattle.eevdf_fleet.proofs.rings.consumer_ends.Consumers.take_rest.Goals as goal
 
 pub pop_rest-requires-clause-pair : goal.pop_rest-requires-clause-pair
 pop_rest-requires-clause-pair g c =
-    pair-at _ _ c.producers.invariant c.self.invariant
+    pair-at _ _ c.producers.invariant.0 c.self.invariant
     (rw (← c.self.view_is, ← c.producers.view_is) at c.requires.home) c.index_mut-2.ensures.value
     (rw (← c.self.view_is, ← c.producers.view_is) at c.requires.sender) c.index_mut.ensures.value
 
@@ -12,17 +13,31 @@ pop_rest-requires-clause-room g c =
     rw (capacity-at _ _ c.self.invariant (rw (← c.self.view_is, ← c.producers.view_is) at c.requires.sender) c.index_mut.ensures.value) c.requires.room
 
 pub invariant_of-self : goal.invariant_of-self
-invariant_of-self g c = consumers-set _ _ _ c.self.invariant c.index_mut.ensures.value c.pop_rest.ensures.ring
+invariant_of-self g c =
+    consumers-set _ _ _ c.self.invariant c.index_mut.ensures.value c.pop_rest.ensures.ring (λ marked. grows-marked marked c.pop_rest.ensures.received)
 
 pub invariant_of-producers : goal.invariant_of-producers
-invariant_of-producers g c =
-    producers-looked _ _ _ c.producers.invariant c.index_mut-2.ensures.value c.pop_rest.ensures.producer
+invariant_of-producers g c = (
+  producers-looked _ _ _ c.producers.invariant.0 c.index_mut-2.ensures.value c.pop_rest.ensures.producer,
+  c.producers.invariant.1,
+)
 
 pub returns-clause-taken : goal.returns-clause-taken
 returns-clause-taken g c =
     rw (← c.self.view_is, ← c.producers.view_is)
-    (takes-more _ _ _ _ _ _ (rw (← c.self.view_is, ← c.producers.view_is) at c.requires.sender) c.index_mut.ensures.value c.pop_rest.ensures.received)
+    (takes-more _ _ _ _ _ _ c.self.invariant (rw (← c.self.view_is, ← c.producers.view_is) at c.requires.sender) c.index_mut.ensures.value c.pop_rest.ensures.received)
+
+pub returns-clause-left : goal.returns-clause-left
+returns-clause-left g c =
+    rw (← c.self.view_is, ← c.producers.view_is) (
+    left-at c.producers.inside.capacity _ _ c.producers.invariant.0 c.self.invariant
+    (rw (← c.self.view_is, ← c.producers.view_is) at c.requires.home) c.index_mut-2.ensures.value
+    (rw (← c.self.view_is, ← c.producers.view_is) at c.requires.sender) c.index_mut.ensures.value _ c.pop_rest.ensures.left
+    )
 
 pub returns-clause-producers : goal.returns-clause-producers
 returns-clause-producers g c =
-    rw (← c.producers.view_is) (posts-same _ _ _ _ _ c.index_mut-2.ensures.value c.pop_rest.ensures.producer.1)
+    rw (← c.self.view_is, ← c.producers.view_is) (
+    posts-looked _ _ _ _ _ _ (rw (← c.self.view_is, ← c.producers.view_is) at c.requires.home) c.index_mut-2.ensures.value
+    c.pop_rest.ensures.producer.1 c.pop_rest.ensures.producer.2
+    )

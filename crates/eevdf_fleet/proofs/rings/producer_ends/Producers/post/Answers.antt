@@ -1,19 +1,48 @@
-use Rattle.std.proofs.{Common.arith, lemmas.Result.on_ok_weaker, lemmas.Result.on_err_weaker}
-use Rattle.eevdf_fleet.proofs.RingEnds.{producers-set, free-at, posts-same, posts-more}
+use Rattle.std.proofs.Common.{length, ap, sym, ◌∙◌, arith}
+use Rattle.std.proofs.lemmas.Result.{on_err_weaker}
+use Rattle.eevdf_fleet.proofs.{MarkedItems.grows-tasks, MarkedItems.may-follow, MarkedItems.pushed-marked}
+use Rattle.eevdf_fleet.proofs.RingEnds.{free-after, free-at, none-fits, posted-at, posts-more, posts-same, producers-set, pushed-mark}
+use Rattle.eevdf_fleet.proofs.RingPlaces.{err_both, ok_both}
 use Rattle.eevdf_fleet.proofs.rings.producer_ends.Producers.post.Goals as goal
 
+pub returns-then-self-eq0-clause-full : goal.returns-then-self-eq0-clause-full
+returns-then-self-eq0-clause-full g c = rw (← c.self.view_is) (none-fits _ c.self.inside.sender c.self.inside.ends.items c.args.home (omega arith))
+
+pub returns-then-self-eq0-clause-free : goal.returns-then-self-eq0-clause-free
+returns-then-self-eq0-clause-free g c =
+    rw (← c.self.view_is) (λ some. absurd (omega (arith, some, none-fits c.self.inside.capacity c.self.inside.sender c.self.inside.ends.items c.args.home (omega arith))))
+
+pub push-requires : goal.push-requires
+push-requires g c =
+    may-follow _ (pushed-mark _ _ c.self.invariant.0 (rw (← c.self.view_is) at c.requires.home) c.index_mut.ensures.value) c.requires.at_home
+
 pub invariant_of-self : goal.invariant_of-self
-invariant_of-self g c =
-    producers-set _ _ _ c.self.invariant c.index_mut.ensures.value c.push.ensures.ring (λ before. omega (arith, c.push.ensures.room))
+invariant_of-self g c = (
+  producers-set _ _ _ c.self.invariant.0 c.index_mut.ensures.value c.push.ensures.ring (λ before. omega (arith, c.push.ensures.room))
+      (λ marked. pushed-marked _ c.push.result c.push.ensures.accepted c.push.ensures.refused marked),
+  c.self.invariant.1,
+)
 
 pub returns-clause-accepted : goal.returns-clause-accepted
 returns-clause-accepted g c =
-    rw (← c.self.view_is) (on_ok_weaker c.push.result (λ more. posts-more _ _ _ _ _ _ (rw (← c.self.view_is) at c.requires) c.index_mut.ensures.value more) c.push.ensures.accepted)
+    let within = rw (← c.self.view_is) at c.requires.home in
+    let marked = pushed-mark _ _ c.self.invariant.0 within c.index_mut.ensures.value in
+    rw (← c.self.view_is) (ok_both c.push.result c.push.ensures.accepted c.push.ensures.fewer
+    (λ grows fewer. posts-more _ _ _ _ _ _ within c.index_mut.ensures.value _ (grows-tasks marked grows) fewer))
 
 pub returns-clause-refused : goal.returns-clause-refused
 returns-clause-refused g c =
-    rw (← c.self.view_is) (on_err_weaker c.push.result (λ same. posts-same _ _ _ _ _ c.index_mut.ensures.value same) c.push.ensures.refused)
+    rw (← c.self.view_is) (err_both c.push.result c.push.ensures.refused (err_both c.push.result c.push.ensures.none_free c.push.ensures.full (λ none full. none ∙ sym full))
+    (λ same free. posts-same _ _ _ _ _ _ (rw (← c.self.view_is) at c.requires.home) c.index_mut.ensures.value same free))
+
+pub returns-clause-full : goal.returns-clause-full
+returns-clause-full g c =
+    on_err_weaker c.push.result
+    (λ full. omega (arith, full, free-after c.self.inside.capacity c.self.inside.sender c.self.inside.ends.items c.args.home _ c.push.new.producer (rw (← c.self.view_is) at c.requires.home) c.index_mut.ensures.value))
+    c.push.ensures.full
 
 pub returns-clause-room : goal.returns-clause-room
 returns-clause-room g c =
-    rw (← c.self.view_is) (λ few. c.push.ensures.free (free-at _ _ c.self.invariant (rw (← c.self.view_is) at c.requires) c.index_mut.ensures.value few))
+    let within = rw (← c.self.view_is) at c.requires.home in
+    rw (← c.self.view_is) (λ few. c.push.ensures.free (free-at _ _ c.self.invariant.0 within c.index_mut.ensures.value
+    (omega (arith, few, ap length (posted-at c.self.inside.capacity c.self.inside.sender c.self.inside.ends.items c.args.home _ c.push.new.producer within c.index_mut.ensures.value)))))

@@ -1,0 +1,63 @@
+-- The claims at the start hold of the history that has no line yet.
+use Rattle.std.proofs.Common.{◌≡◌, ℕ, zero, suc, ◌+◌, ◌<◌, ◌≤◌, Bool, true, false, List, [], ◌∷◌, length, refl, sym, ap, subst, ◌∙◌, arith}
+use Rattle.std.specs.Prelude.{◌==◌, Option, Some, None, IfSome}
+use Rattle.std.proofs.lemmas.Bool.Decides.{nat_tests}
+use mathlib.Core.Option as option
+use lib.ListN.{get_elem?}
+use Rattle.eevdf_ops.specs.{declared.deeds.Line.Line, Machine.Machine, Machine.queue_at}
+use Rattle.eevdf_fleet.specs.{declared.board.claims.Terms.Terms, declared.board.claims.View.View}
+use Rattle.eevdf_fleet.specs.Claims.{Subject, seat, queue, journal, once, times, IsKept, AllTell, claims_from, knowing, opening, start}
+use Rattle.eevdf_fleet.specs.Board.{ViewTells, IsOneHistory}
+
+tell-journal : (quota : Option ℕ) → IfSome quota (λ (most : ℕ). ◌≡◌ {A = List Line} [] [])
+tell-journal None = tt
+tell-journal (Some most) = refl
+
+tell-from : (t : Terms) (m : Machine) (cpu : ℕ) → ((k : ℕ) → k < length m → queue_at (start t) (cpu + k) ≡ queue_at m k) → AllTell t [] (claims_from cpu m)
+tell-from t [] cpu same = (tell-journal t.quota, tt)
+tell-from t (q ∷ m) cpu same = (
+  ([], refl),
+  (
+    refl,
+    (
+      ap (λ (c : ℕ). queue_at (start t) c) (let e : cpu ≡ cpu + 0 = omega arith in e) ∙ same 0 (omega arith),
+      tell-from t m (cpu + 1) (λ k less. ap (λ (c : ℕ). queue_at (start t) c) (let e : (cpu + 1) + k ≡ cpu + suc k = omega arith in e) ∙ same (suc k) (omega arith)),
+    ),
+  ),
+)
+
+-- what isn't from one CPU on, isn't claimed
+none-from : (m : Machine) (cpu from : ℕ) → cpu < from → (times (seat cpu) (claims_from from m) ≡ 0) × (times (queue cpu) (claims_from from m) ≡ 0)
+none-from [] cpu from less = (refl, refl)
+none-from (q ∷ m) cpu from less =
+    let rest : (times (seat cpu) (claims_from (from + 1) m) ≡ 0) × (times (queue cpu) (claims_from (from + 1) m) ≡ 0) = none-from m cpu (from + 1) (omega arith) in
+    let apart : once (from == cpu) ≡ 0 = grind (arith, nat_tests) in
+    (omega (arith, rest.0), omega (arith, rest.1))
+
+seat-once : (m : Machine) (cpu from : ℕ) (b : Bool) → (from == cpu) ≡ b → times (seat cpu) (claims_from (from + 1) m) ≤ 1
+    → once b + times (seat cpu) (claims_from (from + 1) m) ≤ 1
+seat-once m cpu from true e rest =
+    let same : from ≡ cpu = grind (arith, nat_tests) in omega (arith, (none-from m cpu (from + 1) (omega arith)).0)
+seat-once m cpu from false e rest = omega arith
+
+queue-once : (m : Machine) (cpu from : ℕ) (b : Bool) → (from == cpu) ≡ b → times (queue cpu) (claims_from (from + 1) m) ≤ 1
+    → once b + times (queue cpu) (claims_from (from + 1) m) ≤ 1
+queue-once m cpu from true e rest =
+    let same : from ≡ cpu = grind (arith, nat_tests) in omega (arith, (none-from m cpu (from + 1) (omega arith)).1)
+queue-once m cpu from false e rest = omega arith
+
+once-from : (m : Machine) (k : Subject) (from : ℕ) → times k (claims_from from m) ≤ 1
+once-from [] (seat cpu) from = omega arith
+once-from [] (queue cpu) from = omega arith
+once-from [] journal from = omega arith
+once-from (q ∷ m) (seat cpu) from = omega (arith, seat-once m cpu from (from == cpu) refl (once-from m (seat cpu) (from + 1)))
+once-from (q ∷ m) (queue cpu) from = omega (arith, queue-once m cpu from (from == cpu) refl (once-from m (queue cpu) (from + 1)))
+once-from (q ∷ m) journal from = omega (arith, once-from m journal (from + 1))
+
+opened_views : (t : Terms) (id : ℕ) (v : View) → get_elem? (knowing t (opening t) ∷ []) id ≡ option.some v → ViewTells t [] v
+opened_views t zero v e =
+    subst (λ (u : View). ViewTells t [] u) (option.some-injective _ _ e) (refl, tell-from t (start t) 0 (λ k less. ap (λ (c : ℕ). queue_at (start t) c) (let z : 0 + k ≡ k = omega arith in z)))
+opened_views t (suc id) v e = absurd (option.some-ne-none v (sym e))
+
+pub opens : (t : Terms) → IsKept t [] → IsOneHistory t (knowing t (opening t) ∷ [])
+opens t kept = record { lines = []; kept = kept; fits = opened_views t; once = λ k. omega (arith, once-from (start t) k 0) }

@@ -1,0 +1,13 @@
+use Rattle.std.proofs.Common.{◌≡◌, ℕ, [], ◌∷◌, ap, ◌∙◌}
+use Rattle.eevdf_fleet.specs.{declared.board.claims.Claim.TheVariants.Queue, Board.claims_of, Fleets.Slot}
+use Rattle.eevdf_fleet.proofs.run_queues.RunQueues.done_on_one.Goals as goal
+
+pub commit_one-requires-clause-done : goal.commit_one-requires-clause-done
+commit_one-requires-clause-done g c =
+    let number : c.slot.inside.number ≡ c.args.log.now.cpu = ap (λ (s : Slot). s.number) c.slot.view_is ∙ c.requires.number in
+    record {
+      before = c.slot.inside.queue.state;
+      claimed = ap claims_of c.replace-token.ensures.value ∙ c.slot.invariant.1 ∙ ap (λ (n : ℕ). Queue n c.slot.inside.queue.state ∷ []) number;
+      answers = c.act-answer.ensures.answer;
+      leaves = c.act-answer.ensures.after;
+    }

@@ -1,0 +1,19 @@
+//! A fleet that keeps no history, so that it can run for ever: it takes no memory after it was opened, and refuses nothing for want of
+//! room. What a closed fleet's lines show, each call says by itself: its answer is the one-thread scheduler's, in a history that
+//! only grows, in which the seat's CPU has the lines of its calls and no other.
+
+mod closed;
+mod fleet;
+mod kit;
+mod queue_look;
+mod seat;
+mod seat_turn;
+mod turn_threads;
+
+pub use closed::Closed;
+pub use fleet::Fleet;
+pub use kit::Kit;
+pub use queue_look::QueueLook;
+pub use seat::Seat;
+pub use seat_turn::SeatTurn;
+pub use turn_threads::run_turns;

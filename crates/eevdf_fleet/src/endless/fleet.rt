@@ -1,0 +1,204 @@
+ghost use Rattle.std.specs.Prelude.{◌≡◌, ◌≢◌, ◌<◌, ◌≤◌, ◌↔◌, nat_lt, IfOk, IsTrue, map, true};
+ghost use Rattle.eevdf_ops.specs.{Machine.queue_at, Outcome.machine_of, Parts.decider};
+ghost use Rattle.eevdf_ops.specs.Setup.{allows, cpus_of, homes_of, is_task};
+ghost use Rattle.eevdf_fleet.specs.Endless.{AreOfOneHistory, AreSeats, HasDone, HasDrained, HasSeenMore};
+ghost use Rattle.eevdf_fleet.specs.Endless.{fresh_seats, told_by};
+ghost use Rattle.eevdf_fleet.specs.Fleets.{setup_of};
+ghost use Rattle.eevdf_fleet.specs.TouchedQueues.{IsNoWake};
+
+use crate::closing::ClosedQueues;
+use crate::drains::Drained;
+use crate::endless::closed::Closed;
+use crate::endless::kit::Kit;
+use crate::endless::queue_look::QueueLook;
+use crate::endless::seat::{Seat, parts_in, seats_of};
+use crate::gate::OpenGate;
+use crate::names::Names;
+use crate::run_queues::RunQueues;
+use eevdf_ops::{Answer, CpuId, Deed};
+use eevdf_queue::TaskId;
+use eevdf_weight::{Nice, Ns};
+use std::alloc::{AllocError, Global};
+use std::marker::Model;
+use std::sync::Wait;
+
+/// A scheduler for several threads that keeps no history: each CPU's run queue in a lock of its own, and nothing that all operations
+/// write.
+#[derive(Drop)]
+pub struct Fleet<N: Names> {
+    queues: RunQueues<N>,
+}
+
+impl<N: Names> Model for Fleet<N> {
+    ghost use Rattle.std.specs.Prelude.{◌≡◌, None};
+
+    ghost Value = { Unit {0} };
+
+    ghost view = { λ f. tt };
+
+    ghost invariant = { λ _. N.kit.terms.quota ≡ None };
+}
+
+impl<N: Names> Fleet<N> {
+    /// Opens a fleet from the kit that `N` names, and gives a seat for each CPU, in order, which has done and seen nothing. It takes all
+    /// the memory that they ever need. The answer is `AllocError` where memory is refused, and the kit is then lost.
+    pub fn open(alloc: Global, kit: Kit) -> Result<(Fleet<N>, Vec<Seat<N>>), AllocError>
+        requires { kit ≡ N.kit }
+        ensures { IfOk result (λ r. r.1.items ≡ fresh_seats N.kit) }
+    {
+        let (queues, parts) = RunQueues::<N>::open(alloc, kit.parts)?;
+        let seats = seats_of(alloc, parts)?;
+        Ok((Fleet { queues }, seats))
+    }
+
+    /// Charges `ns` nanoseconds to the task that runs on the seat's CPU (`Deed::Tick`). `Charged` says whether its request
+    /// was used up; `Idle`: nobody runs; `Range`: a virtual time would leave its range, and nothing changes.
+    pub fn tick<R: Wait>(&self, rt: &R, seat: &mut Seat<N>, ns: Ns) -> Answer
+        ensures { HasDone (setup_of N.kit) (Deed.Tick seat.old.cpu ns) result seat.old seat.new }
+    {
+        let cpu = seat.cpu();
+        self.operate(rt, seat, Deed::Tick { cpu, ns })
+    }
+
+    /// Makes the eligible task of earliest virtual deadline run on the seat's CPU, among equal deadlines that of lowest
+    /// number (`Deed::Pick`; Stoica and Abdel-Wahab 1995). `Idle`: no task is runnable there.
+    pub fn pick<R: Wait>(&self, rt: &R, seat: &mut Seat<N>) -> Answer
+        ensures { HasDone (setup_of N.kit) (Deed.Pick seat.old.cpu) result seat.old seat.new }
+    {
+        let cpu = seat.cpu();
+        self.operate(rt, seat, Deed::Pick { cpu })
+    }
+
+    /// Adds the charge of one slice to the virtual deadline of the task that runs on the seat's CPU, which runs until the
+    /// next pick (`Deed::Yield`). `Idle`: nobody runs; `Range`: the deadline would leave its range, and nothing changes.
+    pub fn yield_now<R: Wait>(&self, rt: &R, seat: &mut Seat<N>) -> Answer
+        ensures { HasDone (setup_of N.kit) (Deed.Yield seat.old.cpu) result seat.old seat.new }
+    {
+        let cpu = seat.cpu();
+        self.operate(rt, seat, Deed::Yield { cpu })
+    }
+
+    /// Gives a task another nice level, if it is runnable on the seat's CPU (`Deed::Renice`). `NotHere`: it isn't runnable
+    /// there; `Range`: it couldn't be placed in range. Both change nothing.
+    pub fn renice<R: Wait>(&self, rt: &R, seat: &mut Seat<N>, task: TaskId, nice: Nice) -> Answer
+        requires { is_task (homes_of (setup_of N.kit)) task ≡ true }
+        ensures { HasDone (setup_of N.kit) (Deed.Renice seat.old.cpu task nice)
+            result seat.old seat.new }
+    {
+        let cpu = seat.cpu();
+        self.operate(rt, seat, Deed::Renice { cpu, task, nice })
+    }
+
+    /// Puts a task to sleep at its home, if it runs on the seat's CPU (`Deed::Sleep`). `Slept` has the lag that it keeps, in
+    /// virtual time; `NotRunning` changes nothing.
+    pub fn sleep<R: Wait>(&self, rt: &R, seat: &mut Seat<N>, task: TaskId) -> Answer
+        requires { is_task (homes_of (setup_of N.kit)) task ≡ true }
+        ensures { HasDone (setup_of N.kit) (Deed.Sleep seat.old.cpu task) result seat.old seat.new }
+    {
+        let cpu = seat.cpu();
+        self.operate(rt, seat, Deed::Sleep { cpu, task })
+    }
+
+    /// Moves the waiting task of latest virtual deadline, of equal ones that of highest number, from the source to the seat's
+    /// CPU, where the load of the CPU with it is still below that of the source (`Deed::Pull`; the rule is this project's
+    /// own). `Nothing`: no task waits there; `Balanced`: the load wouldn't be below; `Range`: it couldn't be placed in
+    /// range. These change nothing.
+    pub fn pull<R: Wait>(&self, rt: &R, seat: &mut Seat<N>, source: CpuId) -> Answer
+        requires source { source < cpus_of (setup_of N.kit) }
+        requires apart { source ≢ seat.old.cpu }
+        ensures { HasDone (setup_of N.kit) (Deed.Pull seat.old.cpu source)
+            result seat.old seat.new }
+    {
+        let cpu = seat.cpu();
+        self.operate(rt, seat, Deed::Pull { cpu, source })
+    }
+
+    /// Takes at most one of the requests that each CPU posted to the seat's CPU, senders in ascending order, and decides
+    /// each by `Deed::Wake`. Of the seat's own requests it takes the oldest; it may miss requests of other seats.
+    pub fn drain<R: Wait>(&self, rt: &R, seat: &mut Seat<N>) -> Drained
+        ensures drained { HasDrained (setup_of N.kit) result seat.old seat.new }
+        ensures few { result.taken ≤ cpus_of (setup_of N.kit) }
+    {
+        let drained = self.queues.drain(rt, &OpenGate, 0, &mut seat.parts);
+        seat.parts.know();
+        drained
+    }
+
+    /// Does a deed of the seat's CPU that isn't a wake.
+    fn operate<R: Wait>(&self, rt: &R, seat: &mut Seat<N>, deed: Deed) -> Answer
+        requires no_wake { IsNoWake deed }
+        requires own { decider deed ≡ seat.old.cpu }
+        requires allowed { allows (setup_of N.kit) deed ≡ true }
+        ensures { HasDone (setup_of N.kit) deed result seat.old seat.new }
+    {
+        let answer = self.queues.operate(rt, &OpenGate, 0, &mut seat.parts, deed);
+        seat.parts.know();
+        answer
+    }
+
+    /// Locks a CPU's queue, and learns the history that leaves it as it is. So a seat can choose from whom to pull: what it sees is true
+    /// until the look ends.
+    pub fn look<R: Wait>(&self, rt: &R, seat: &mut Seat<N>, cpu: CpuId) -> QueueLook<'_, N>
+        requires { cpu < cpus_of (setup_of N.kit) }
+        ensures seat { HasSeenMore (setup_of N.kit) seat.old seat.new }
+        ensures queue { queue_at (told_by (setup_of N.kit) seat.new.seen) cpu ≡ result.state }
+    {
+        let guard = self.queues.look(rt, &mut seat.parts, cpu);
+        QueueLook { guard }
+    }
+
+    /// Makes what two seats have seen one history, that goes on from what each of them had seen. At run time it does nothing.
+    pub fn meet(&self, seat: &mut Seat<N>, other: &mut Seat<N>)
+        ensures seat { HasSeenMore (setup_of N.kit) seat.old seat.new }
+        ensures other { HasSeenMore (setup_of N.kit) other.old other.new }
+        ensures same { seat.new.seen ≡ other.new.seen }
+    {
+        self.queues.meet(&mut seat.parts, &mut other.parts);
+    }
+
+    /// Whether the setup has a task: the condition of `sleep`, `renice` and `Seat::post`.
+    pub fn has_task(&self, task: TaskId) -> bool
+        ensures { result ≡ is_task (homes_of (setup_of N.kit)) task }
+    {
+        self.queues.has_task(task)
+    }
+
+    /// Whether the setup has a CPU. From one that it has, and that isn't the seat's, a seat may pull.
+    pub fn has_cpu(&self, cpu: CpuId) -> bool
+        ensures { result ≡ nat_lt cpu (cpus_of (setup_of N.kit)) }
+    {
+        self.queues.has_cpu(cpu)
+    }
+
+    /// Whether the list has the seats of all CPUs, in order: the condition of `close`.
+    pub fn has_all_seats(&self, seats: &Vec<Seat<N>>) -> bool
+        ensures { IsTrue result ↔ AreSeats (cpus_of (setup_of N.kit)) seats.now.items }
+    {
+        if seats.len() != self.queues.cpus() {
+            return false;
+        }
+        for number in 0..seats.len() {
+            if seats[number].cpu().index() != number {
+                return false;
+            }
+        }
+        true
+    }
+
+    /// Closes the fleet; it neither waits nor takes memory. There is one history of one thread that has each seat's lines as those of its
+    /// CPU and begins with what each seat has seen, and the queues have the states that it leaves. What a seat has posted to a home is
+    /// what the home's drains took, in order and each once, whatever the answers were, followed by what is left.
+    pub fn close(self, seats: Vec<Seat<N>>) -> Closed
+        requires { AreSeats (cpus_of (setup_of N.kit)) seats.items }
+        ensures { AreOfOneHistory (setup_of N.kit) seats.items
+            (machine_of result.queues.items) (map (λ l. l.items) result.left.items) }
+    {
+        let (closing, room) = self.queues.into_closing();
+        let ClosedQueues {
+            lines: _,
+            queues,
+            left,
+        } = closing.close(parts_in(seats, room));
+        Closed { queues, left }
+    }
+}

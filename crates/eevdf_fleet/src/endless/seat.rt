@@ -1,0 +1,98 @@
+ghost use Rattle.std.specs.Prelude.{◌≡◌, ◌<◌, ◌≤◌, [], map, vec_capacity, vec_len, None, OnOk, OnErr, IfErr, IfOk, IsOk};
+ghost use Rattle.std.specs.Prelude.{true};
+ghost use Rattle.eevdf_ops.specs.Setup.{cpus_of, home_of, homes_of, is_task};
+ghost use Rattle.eevdf_fleet.specs.Fleets.{free_at, setup_of};
+ghost use Rattle.eevdf_fleet.specs.Endless.{HasFound, HasPosted, seat_of_parts};
+
+use crate::names::Names;
+use crate::rings::RingFull;
+use crate::seat_parts::SeatParts;
+use eevdf_ops::CpuId;
+use eevdf_queue::TaskId;
+use std::alloc::{AllocError, Global};
+use std::marker::Model;
+
+/// A CPU's part of a fleet that keeps no history: whoever has it does the CPU's operations. Contracts see its CPU, the lines of its
+/// operations in order, the first lines of the history, as far as the seat knows them, the tasks of the requests that it has posted
+/// to each home, and how many requests more certainly fit into the ring to each home. None of these lists is there at run time.
+#[derive(Drop)]
+pub struct Seat<N: Names> {
+    pub(super) parts: SeatParts<N>,
+}
+
+impl<N: Names> Model for Seat<N> {
+    ghost use Rattle.std.specs.Prelude.{◌≡◌, None};
+    ghost use Rattle.eevdf_fleet.specs.Endless.{Seat, seat_of_parts};
+
+    ghost Value = { Seat };
+
+    ghost view = { λ s. seat_of_parts s.parts };
+
+    ghost invariant = { λ _. N.kit.terms.quota ≡ None };
+}
+
+impl<N: Names> Seat<N> {
+    /// The number of its CPU.
+    pub fn cpu(&self) -> CpuId
+        ensures cpu { result ≡ self.now.cpu }
+        ensures below { result < cpus_of (setup_of N.kit) }
+    {
+        self.parts.cpu()
+    }
+
+    /// Sends a request to wake a task to the task's home, whose drain decides it. It adds no line, and neither waits nor takes memory.
+    /// `RingFull`, with the task, comes only where no place in the ring to that home is known to be free; then nothing has changed, and
+    /// none is known to be. Wherever one is known to be free it succeeds, after any number of posts and drains.
+    pub fn post(&mut self, task: TaskId) -> Result<(), RingFull>
+        requires { is_task (homes_of (setup_of N.kit)) task ≡ true }
+        ensures accepted { OnOk result
+            (HasPosted (home_of (homes_of (setup_of N.kit)) task) task self.old self.new) }
+        ensures refused { OnErr result (self.new ≡ self.old) }
+        ensures given_back { IfErr result (λ full. full.task ≡ task) }
+        ensures full { OnErr result (free_at self.new.free (home_of (homes_of (setup_of N.kit)) task) ≡ 0) }
+        ensures free { 0 < free_at self.old.free (home_of (homes_of (setup_of N.kit)) task) → IsOk result }
+    {
+        self.parts.post(task)
+    }
+
+    /// How many requests to a home certainly fit into its ring now: so many posts to it succeed, whoever drains in the meantime. The home's
+    /// drains can only make it more.
+    pub fn free(&mut self, home: CpuId) -> usize
+        requires { home < cpus_of (setup_of N.kit) }
+        ensures seat { HasFound self.old self.new }
+        ensures free { result ≡ free_at self.new.free home }
+    {
+        self.parts.free(home)
+    }
+}
+
+/// The seats of these parts, in order.
+pub(super) fn seats_of<N: Names>(
+    alloc: Global,
+    parts: Vec<SeatParts<N>>,
+) -> Result<Vec<Seat<N>>, AllocError>
+    requires { N.kit.terms.quota ≡ None }
+    ensures { IfOk result (λ seats. seats.items ≡ map seat_of_parts parts.items) }
+{
+    let mut seats = Vec::with_capacity(alloc, parts.len())?;
+    for parts in parts {
+        seats.push(Seat { parts })?;
+    }
+    Ok(seats)
+}
+
+/// The parts of these seats, in order, in the room for them.
+pub(super) fn parts_in<N: Names>(
+    seats: Vec<Seat<N>>,
+    mut room: Vec<SeatParts<N>>,
+) -> Vec<SeatParts<N>>
+    requires none { room.items ≡ [] }
+    requires enough { vec_len seats ≤ vec_capacity room }
+    ensures { map seat_of_parts result.items ≡ seats.items }
+{
+    for seat in seats {
+        let Seat { parts } = seat;
+        room.push_reserved(parts);
+    }
+    room
+}

@@ -1,0 +1,131 @@
+ghost use Rattle.std.specs.Prelude.{◌≡◌, ◌≤◌, [], nat_lt, vec_capacity, IfOk};
+ghost use Rattle.eevdf_ops.specs.Setup.{cpus_of, homes_of, is_task};
+ghost use Rattle.eevdf_fleet.specs.Fleets.{all_fresh_parts, setup_of};
+
+use crate::journal::Journal;
+use crate::kit_parts::{KitParts, room_of};
+use crate::named_board::NamedBoard;
+use crate::names::Names;
+use crate::opening::{Opened, open_all, open_journal, open_seats};
+use crate::reserve::Reserve;
+use crate::rings::ReturnedEnds;
+use crate::seat_parts::SeatParts;
+use crate::slot::Slot;
+use eevdf_ops::CpuId;
+use eevdf_queue::TaskId;
+use std::alloc::{AllocError, Global};
+use std::marker::Model;
+use std::sync::Mutex;
+
+/// The run queues of all CPUs, each in a lock of its own, and the journal, where one is kept.
+#[derive(Drop)]
+pub(crate) struct RunQueues<N: Names> {
+    pub(crate) board: NamedBoard<N>,
+    pub(crate) homes: Vec<CpuId>,
+    pub(crate) locks: Vec<Mutex<Slot<N>>>,
+    pub(crate) journal: Option<Mutex<Journal<N>>>,
+    // The ends of rings can't be shared by threads, not even room for them: hence the lock, which no operation takes.
+    pub(crate) reserve: Mutex<Reserve<N>>,
+}
+
+impl<N: Names> Model for RunQueues<N> {
+    ghost use Rattle.std.specs.Prelude.{◌≡◌, ◌≤◌, is_some, vec_len};
+    ghost use Rattle.eevdf_ops.specs.{Numbers.most_cpus, Places.AreCpus, Setup.cpus_of};
+    ghost use Rattle.eevdf_ops.specs.{Setup.homes_of};
+    ghost use Rattle.eevdf_fleet.specs.Fleets.{setup_of};
+
+    ghost Value = { Unit {0} };
+
+    ghost view = { λ f. tt };
+
+    ghost invariant = { λ f. (f.homes.items ≡ homes_of (setup_of N.kit))
+        × (vec_len f.locks ≡ cpus_of (setup_of N.kit))
+        × AreCpus (cpus_of (setup_of N.kit)) (homes_of (setup_of N.kit))
+        × (cpus_of (setup_of N.kit) ≤ most_cpus)
+        × (is_some f.journal ≡ is_some N.kit.terms.quota) };
+}
+
+impl<N: Names> RunQueues<N> {
+    /// Opens the queues of a kit, and gives a seat for each CPU, in order. It takes all the memory that they ever need.
+    pub(crate) fn open(
+        alloc: Global,
+        kit: KitParts,
+    ) -> Result<(RunQueues<N>, Vec<SeatParts<N>>), AllocError>
+        requires { kit ≡ N.kit }
+        ensures { IfOk result (λ r. r.1.items
+            ≡ all_fresh_parts N.kit) }
+    {
+        let ends = ReturnedEnds::open(alloc, kit.queues.len(), kit.rings.capacity())?;
+        let seats = Vec::with_capacity(alloc, kit.queues.len())?;
+        RunQueues::<N>::with_room(alloc, kit, ends, seats)
+    }
+
+    /// Opens the queues of a kit, with this room for what its seats will give back.
+    fn with_room(
+        alloc: Global,
+        kit: KitParts,
+        ends: ReturnedEnds<N>,
+        returned: Vec<SeatParts<N>>,
+    ) -> Result<(RunQueues<N>, Vec<SeatParts<N>>), AllocError>
+        requires kit { kit ≡ N.kit }
+        requires ends { ends ≡ record { cpus = cpus_of (setup_of N.kit); posts = []; takes = [] } }
+        requires none { returned.items ≡ [] }
+        requires room { cpus_of (setup_of N.kit) ≤ vec_capacity returned }
+        ensures { IfOk result (λ r. r.1.items
+            ≡ all_fresh_parts N.kit) }
+    {
+        let KitParts {
+            board,
+            token,
+            homes,
+            queues,
+            rings,
+            lines,
+            quota,
+        } = kit;
+        let board = NamedBoard::new(board);
+        let opened = open_all(alloc, &board, token, queues, room_of(quota))?;
+        let Opened {
+            logs,
+            locks,
+            token,
+            queues,
+        } = opened;
+        let seats = open_seats(alloc, logs, rings, &homes)?;
+        let (journal, token) = open_journal(&board, token, lines);
+        let queues = RunQueues {
+            board,
+            homes,
+            locks,
+            journal,
+            reserve: Mutex::new(Reserve {
+                queues,
+                ends,
+                seats: returned,
+                token,
+            }),
+        };
+        Ok((queues, seats))
+    }
+
+    /// How many CPUs there are.
+    pub(crate) fn cpus(&self) -> usize
+        ensures { result ≡ cpus_of (setup_of N.kit) }
+    {
+        self.locks.len()
+    }
+
+    /// Whether the setup has a task.
+    pub(crate) fn has_task(&self, task: TaskId) -> bool
+        ensures { result ≡ is_task (homes_of (setup_of N.kit)) task }
+    {
+        task.index() < self.homes.len()
+    }
+
+    /// Whether the setup has a CPU.
+    pub(crate) fn has_cpu(&self, cpu: CpuId) -> bool
+        ensures { result ≡ nat_lt cpu (cpus_of (setup_of N.kit)) }
+    {
+        cpu.index() < self.locks.len()
+    }
+}

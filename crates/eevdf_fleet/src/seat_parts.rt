@@ -1,0 +1,97 @@
+ghost use Rattle.std.specs.Prelude.{◌≡◌, ◌+◌, ◌<◌, is_some, length, OnOk, OnErr, IfErr, IsOk, true};
+ghost use Rattle.eevdf_ops.specs.Setup.{cpus_of, home_of, homes_of, is_task};
+ghost use Rattle.eevdf_fleet.specs.Fleets.{AreKnown, HasPosted, PartsLooked, capacity_of, free_at, posted_to, quota_of, setup_of};
+
+use crate::names::Names;
+use crate::rings::{Consumers, Producers, RingFull};
+use crate::seat_log::SeatLog;
+use eevdf_ops::{CpuId, Line};
+use eevdf_queue::TaskId;
+use std::marker::Model;
+
+/// What a seat is made of: its CPU's lines and its ends of the rings. Contracts see besides how far it knows the history.
+#[derive(Drop)]
+pub(crate) struct SeatParts<N: Names> {
+    pub(crate) log: SeatLog<N>,
+    pub(crate) producers: Producers<N>,
+    pub(crate) consumers: Consumers<N>,
+    pub(crate) homes: Vec<CpuId>,
+}
+
+impl<N: Names> Model for SeatParts<N> {
+    ghost use Rattle.eevdf_fleet.specs.Fleets.{Parts, parts_of};
+
+    ghost Value = { Parts };
+
+    ghost view = { λ s. parts_of s.log s.producers };
+
+    ghost use Rattle.std.specs.Prelude.{◌≡◌};
+    ghost use Rattle.eevdf_ops.specs.{Places.AreCpus, Setup.cpus_of, Setup.homes_of};
+    ghost use Rattle.eevdf_fleet.specs.Fleets.{AreParts, setup_of};
+
+    ghost invariant = { λ s. AreParts (cpus_of (setup_of N.kit)) s.log s.producers s.consumers
+        × (s.homes.items ≡ homes_of (setup_of N.kit))
+        × AreCpus (cpus_of (setup_of N.kit)) (homes_of (setup_of N.kit))
+        × (N.kit.rings.homes ≡ homes_of (setup_of N.kit)) };
+}
+
+impl<N: Names> SeatParts<N> {
+    /// The number of its CPU.
+    pub(crate) fn cpu(&self) -> CpuId
+        ensures cpu { result ≡ self.now.seat.cpu }
+        ensures below { result < cpus_of (setup_of N.kit) }
+    {
+        self.log.cpu()
+    }
+
+    /// How many more lines its log may have, where a journal is kept.
+    pub(crate) fn room(&self) -> usize
+        ensures room { result ≡ self.now.seat.room }
+        ensures quota { is_some N.kit.terms.quota ≡ true
+            → length self.now.seat.log + result ≡ quota_of N.kit }
+    {
+        self.log.room()
+    }
+
+    /// The lines of its operations, where a journal is kept.
+    pub(crate) fn lines(&self) -> &[Line]
+        requires { is_some N.kit.terms.quota ≡ true }
+        ensures { result.now ≡ self.now.seat.log }
+    {
+        self.log.lines()
+    }
+
+    /// Sends a request to wake a task to the task's home.
+    pub(crate) fn post(&mut self, task: TaskId) -> Result<(), RingFull>
+        requires { is_task (homes_of (setup_of N.kit)) task ≡ true }
+        ensures accepted { OnOk result (HasPosted self.old self.new
+            (home_of (homes_of (setup_of N.kit)) task) task) }
+        ensures refused { OnErr result (self.new ≡ self.old) }
+        ensures full { OnErr result (free_at self.new.free (home_of (homes_of (setup_of N.kit)) task) ≡ 0) }
+        ensures given_back { IfErr result (λ full. full.task ≡ task) }
+        ensures free { 0 < free_at self.old.free (home_of (homes_of (setup_of N.kit)) task) → IsOk result }
+        ensures home { home_of (homes_of (setup_of N.kit)) task < cpus_of (setup_of N.kit) }
+        ensures homes { length self.old.seat.posted ≡ cpus_of (setup_of N.kit) }
+        ensures room { length (posted_to self.old.seat (home_of (homes_of (setup_of N.kit)) task))
+            < capacity_of N.kit → IsOk result }
+    {
+        let home = self.homes[task.index()];
+        self.producers.post(home.index(), task)
+    }
+
+    /// What it has seen is a history, in which its CPU has its lines. It does nothing.
+    pub(crate) fn know(&self)
+        ensures { AreKnown N.kit.terms self.now }
+    {
+        self.log.know();
+    }
+
+    /// Looks how many requests for tasks of a home certainly fit now.
+    pub(crate) fn free(&mut self, home: CpuId) -> usize
+        requires { home < cpus_of (setup_of N.kit) }
+        ensures looked { PartsLooked self.old self.new }
+        ensures free { result ≡ free_at self.new.free home }
+    {
+        self.producers.free(home.index())
+    }
+}
