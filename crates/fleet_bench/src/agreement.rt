@@ -46,7 +46,8 @@ fn same_outcomes(one: &Outcome, other: &Outcome) -> bool
     one.history() == other.history() && same_queues(one, other)
 }
 
-fn same_queues(one: &Outcome, other: &Outcome) -> bool
+/// Whether all that is told of the queues is the same.
+pub fn same_queues(one: &Outcome, other: &Outcome) -> bool
     ensures { machine_of one.now.queues ≡ machine_of other.now.queues → IsTrue result }
 {
     if one.cpus() != other.cpus() {

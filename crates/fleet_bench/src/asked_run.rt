@@ -33,7 +33,7 @@ pub enum WordFault {
     Unread,
     #[error("seven words are wanted")]
     Count,
-    #[error("WAY is fleet, check or solo")]
+    #[error("WAY is fleet, check, solo, endless or twins")]
     Way,
     #[error("THREADS and CPUS_A_THREAD are numbers whose product is from 1 to 64")]
     Cpus,

@@ -112,7 +112,3 @@ pub fn running_after(running: Option<TaskId>, answer: Answer) -> Option<TaskId> 
         _ => running,
     }
 }
-
-/// The operation could not be done: it is no operation of the machine, or its CPU may have no more lines.
-#[derive(Clone, Copy, PartialEq, Eq, Debug)]
-pub struct Refused;

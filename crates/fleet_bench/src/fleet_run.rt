@@ -68,7 +68,7 @@ fn worked<N: Names + Send + Sync, R: Threads + Wait + Sync>(
     let threads = thread::map_vec(
         rt,
         threads,
-        &move |own| { work(rt, fleet, operations, own) },
+        &move |own| { work::<Seat<N>, R>(rt, fleet, operations, own) },
     )?;
     let done = done_by(threads.as_slice());
     Ok((done, seats_of(alloc, threads)?))
@@ -87,17 +87,14 @@ fn report(
         (deeds_of outcome.now.lines) outcome.now }
 {
     if run.way != Way::Check {
-        return Ok(Report { done, agrees: None });
+        return Ok(Report::of(done));
     }
     let agrees = agrees(alloc, setup, outcome)? && all_stand_once(outcome, run.tasks as u64);
-    Ok(Report {
-        done,
-        agrees: Some(agrees),
-    })
+    Ok(Report::compared(done, agrees, "one thread"))
 }
 
 /// How many lines a CPU may have: one for each of its operations, and room for the wakes that others ask for.
-fn quota(run: &AskedRun) -> usize
+pub fn quota(run: &AskedRun) -> usize
     ensures some { 1 ≤ result }
     ensures few { result ≤ 1000000 }
 {
@@ -111,7 +108,7 @@ fn quota(run: &AskedRun) -> usize
 }
 
 /// How many requests to a home a CPU may have posted that the home has not taken yet.
-fn rings(run: &AskedRun) -> usize
+pub fn rings(run: &AskedRun) -> usize
     ensures some { 1 ≤ result }
     ensures few { result ≤ 1000000 }
 {

@@ -6,8 +6,12 @@
 mod agreement;
 mod asked_run;
 mod drawn_operations;
+mod drawn_seat;
 mod drawn_setup;
+mod endless_run;
+mod endless_seat;
 mod fleet_run;
+mod kept_seat;
 mod mix;
 mod one_place;
 mod run_fault;
@@ -15,14 +19,17 @@ mod run_report;
 mod solo_run;
 mod thread_seats;
 mod thread_work;
+mod twins;
 mod way;
 
 use crate::asked_run::{AskedRun, WordFault};
 use crate::drawn_setup::drawn_setup;
+use crate::endless_run::endless_report;
 use crate::fleet_run::fleet_report;
 use crate::run_fault::RunFault;
 use crate::run_report::Report;
 use crate::solo_run::solo_count;
+use crate::twins::twins_report;
 use crate::way::Way;
 use drawn_values::words_of;
 use std::alloc::Global;
@@ -54,10 +61,9 @@ fn outcome_of<R: Threads + Wait + Sync>(
     let setup = drawn_setup(alloc, run)?;
     match run.way {
         Way::Fleet | Way::Check => fleet_report(rt, alloc, run, &setup),
-        Way::Solo => Ok(Report {
-            done: solo_count(alloc, run, &setup)?,
-            agrees: None,
-        }),
+        Way::Solo => Ok(Report::of(solo_count(alloc, run, &setup)?)),
+        Way::Endless => endless_report(rt, alloc, run, &setup),
+        Way::Twins => twins_report(rt, alloc, run, &setup),
     }
 }
 
@@ -73,11 +79,11 @@ fn print(rt: &(impl Print + Eprint), report: &Result<Report, RunFault>) -> u8 {
     let done = report.done;
     let printed = match report.agrees {
         None => println!(rt; "{done} operations"),
-        Some(true) => println!(rt; "{done} operations, agrees with one thread"),
-        Some(false) => println!(rt; "{done} operations, differs from one thread"),
+        Some((true, with)) => println!(rt; "{done} operations, agrees with {with}"),
+        Some((false, with)) => println!(rt; "{done} operations, differs from {with}"),
     };
     match printed {
-        Ok(()) if report.agrees != Some(false) => 0,
+        Ok(()) if report.agrees.is_none_or(|(agrees, _)| agrees) => 0,
         _ => 3,
     }
 }

@@ -8,6 +8,8 @@ pub enum RunFault {
     Memory,
     #[error("a thread has not given its seats back in order")]
     Seats,
+    #[error("a task doesn't stand in one place")]
+    Places,
 }
 
 impl From<AllocError> for RunFault {

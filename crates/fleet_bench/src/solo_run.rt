@@ -3,7 +3,8 @@
 ghost use Rattle.std.specs.Prelude.{◌<◌};
 
 use crate::asked_run::AskedRun;
-use crate::drawn_operations::{DrawnOperations, Refused, running_after};
+use crate::drawn_operations::{DrawnOperations, running_after};
+use crate::drawn_seat::Refused;
 use eevdf_ops::{Answer, CpuId, Deed, Op, Setup, Solo};
 use eevdf_queue::TaskId;
 use std::alloc::{AllocError, Global};

@@ -4,32 +4,31 @@ ghost use Rattle.std.specs.Prelude.{◌<◌};
 
 use crate::asked_run::AskedRun;
 use crate::drawn_operations::DrawnOperations;
-use eevdf_fleet::{Names, Seat};
 use eevdf_queue::TaskId;
 use std::alloc::{AllocError, Global};
 use std::vec::IntoIter;
 
 /// A seat, and the task that runs on its CPU.
 #[derive(Drop)]
-pub struct HeldSeat<N: Names> {
-    pub seat: Seat<N>,
+pub struct HeldSeat<S: Drop> {
+    pub seat: S,
     pub running: Option<TaskId>,
 }
 
 /// What a thread has: its operations, the seats of its CPUs, and how many operations it has done.
 #[derive(Drop)]
-pub struct ThreadSeats<N: Names> {
+pub struct ThreadSeats<S: Drop> {
     pub drawn: DrawnOperations,
-    pub seats: Vec<HeldSeat<N>>,
+    pub seats: Vec<HeldSeat<S>>,
     pub done: u64,
 }
 
 /// Hands the seats to the threads.
-pub fn seats_by_thread<N: Names>(
+pub fn seats_by_thread<S: Drop>(
     alloc: Global,
     run: &AskedRun,
-    seats: Vec<Seat<N>>,
-) -> Result<Vec<ThreadSeats<N>>, AllocError> {
+    seats: Vec<S>,
+) -> Result<Vec<ThreadSeats<S>>, AllocError> {
     let mut others = seats.into_iter();
     let mut threads = Vec::with_capacity(alloc, run.threads)?;
     for thread in 0..run.threads {
@@ -39,14 +38,15 @@ pub fn seats_by_thread<N: Names>(
 }
 
 /// What a thread has, of the seats that no other has been handed.
-fn thread_seats<N: Names>(
+fn thread_seats<S: Drop>(
     alloc: Global,
     run: &AskedRun,
     thread: usize,
-    others: &mut IntoIter<Seat<N>>,
-) -> Result<ThreadSeats<N>, AllocError>
+    others: &mut IntoIter<S>,
+) -> Result<ThreadSeats<S>, AllocError>
     requires { thread < run.now.threads }
 {
+    let drawn = DrawnOperations::new(run, thread);
     let mut seats = Vec::with_capacity(alloc, run.cpus_a_thread)?;
     for _seat in 0..run.cpus_a_thread {
         if let Some(seat) = others.next() {
@@ -57,17 +57,17 @@ fn thread_seats<N: Names>(
         }
     }
     Ok(ThreadSeats {
-        drawn: DrawnOperations::new(run, thread),
+        drawn,
         seats,
         done: 0,
     })
 }
 
 /// Takes the seats back.
-pub fn seats_of<N: Names>(
+pub fn seats_of<S: Drop>(
     alloc: Global,
-    threads: Vec<ThreadSeats<N>>,
-) -> Result<Vec<Seat<N>>, AllocError> {
+    threads: Vec<ThreadSeats<S>>,
+) -> Result<Vec<S>, AllocError> {
     let mut seats = Vec::with_capacity(alloc, 64)?;
     for own in threads {
         take_seats(&mut seats, own.seats)?;
@@ -75,7 +75,7 @@ pub fn seats_of<N: Names>(
     Ok(seats)
 }
 
-fn take_seats<N: Names>(seats: &mut Vec<Seat<N>>, own: Vec<HeldSeat<N>>) -> Result<(), AllocError> {
+fn take_seats<S: Drop>(seats: &mut Vec<S>, own: Vec<HeldSeat<S>>) -> Result<(), AllocError> {
     for held in own {
         seats.push(held.seat)?;
     }
@@ -83,7 +83,7 @@ fn take_seats<N: Names>(seats: &mut Vec<Seat<N>>, own: Vec<HeldSeat<N>>) -> Resu
 }
 
 /// How many operations all threads have done.
-pub fn done_by<N: Names>(threads: &[ThreadSeats<N>]) -> u64 {
+pub fn done_by<S: Drop>(threads: &[ThreadSeats<S>]) -> u64 {
     let mut done = 0u64;
     for own in threads {
         done = done.saturating_add(own.done);

@@ -7,6 +7,11 @@ pub enum Way {
     Check,
     /// In one thread without a fleet, those of the threads in turn.
     Solo,
+    /// By a fleet that keeps no history, each thread those of its own CPUs. Afterwards each task has to stand in one place.
+    Endless,
+    /// In one thread, those of the threads in turn, by a fleet with a history and again by one without; what comes of each operation,
+    /// the queues and the requests that are left are compared.
+    Twins,
 }
 
 impl Way {
@@ -16,6 +21,8 @@ impl Way {
             "fleet" => Some(Way::Fleet),
             "check" => Some(Way::Check),
             "solo" => Some(Way::Solo),
+            "endless" => Some(Way::Endless),
+            "twins" => Some(Way::Twins),
             _ => None,
         }
     }

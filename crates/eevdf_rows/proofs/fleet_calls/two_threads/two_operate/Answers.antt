@@ -1,9 +1,8 @@
 use denote.Param.Send.{sendable}
 use Rattle.eevdf_ops.proofs.setup.Setup.TheSendSync as setup
-use Rattle.eevdf_fleet.proofs.seat.Seat.TheSendSync as seat
-use Rattle.eevdf_fleet.proofs.Crossing.{fleet_sync}
+use Rattle.eevdf_fleet.proofs.Crossing.{fleet_sync, seat_send}
 use Rattle.eevdf_rows.proofs.fleet_calls.two_threads.two_operate.Goals as goal
 
 pub join-zero-requires-send-F : goal.join-zero-requires-send-F
 join-zero-requires-send-F g c κs within = let runs = c.type_bounds.sync-R in
-    search (fleet_sync, seat.the_send, setup.the_sync, sendable) depth 20
+    search (fleet_sync, seat_send, setup.the_sync, sendable) depth 20

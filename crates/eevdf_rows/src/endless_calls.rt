@@ -1,0 +1,116 @@
+//! The calls of a fleet that keeps no history, and of its seats: tables of calls in one thread, each with what comes of it and the
+//! report of what the fleet is closed to, calls beyond the quota of a fleet that keeps one, and two threads.
+
+mod came;
+mod cases;
+mod looks;
+mod no_quota;
+mod two_threads;
+
+ghost use Rattle.std.specs.Prelude.{◌≡◌};
+ghost use Rattle.eevdf_fleet.specs.Fleets.{setup_of};
+
+use crate::fleet_calls::seat_call::Call;
+use came::{call_on, text_of};
+use eevdf_fleet::Names;
+use eevdf_fleet::endless::{Closed, Fleet, Kit, Seat};
+use eevdf_ops::{Outcome, Setup};
+use eevdf_report::report;
+use eevdf_workload::read_workload;
+use std::alloc::Global;
+use std::marker::Brand;
+use std::process::Abort;
+use std::sync::Wait;
+
+/// A fleet of the setup of a workload, the calls that are made one after the other, each on the seat of a CPU, with what comes of it
+/// as it is printed, and the report of what the fleet is closed to.
+struct Case {
+    name: &'static str,
+    workload: &'static [u8],
+    rings: usize,
+    calls: &'static [(usize, Call, &'static str)],
+    report: &'static str,
+}
+
+/// Makes the calls, up to the first of which something else comes than is told, and says whether there is none.
+fn make_calls<N: Names, R: Wait + Abort>(
+    rt: &R,
+    alloc: Global,
+    fleet: &Fleet<N>,
+    seats: &mut [Seat<N>],
+    calls: &[(usize, Call, &'static str)],
+) -> bool {
+    for (cpu, call, text) in calls {
+        let Some(seat) = seats.get_mut(*cpu) else {
+            return false;
+        };
+        let Some(came) = call_on(rt, fleet, seat, *call) else {
+            return false;
+        };
+        if text_of(rt, alloc, &came).as_str() != *text {
+            return false;
+        }
+    }
+    true
+}
+
+/// What a fleet is closed to after these calls, where each comes to what is told.
+fn outcome_of<N: Names, R: Wait + Abort>(
+    rt: &R,
+    alloc: Global,
+    kit: Kit,
+    calls: &[(usize, Call, &'static str)],
+) -> Option<Outcome>
+    requires { kit ≡ N.kit }
+{
+    let (fleet, mut seats) = Fleet::<N>::open(alloc, kit).expect(rt, "memory");
+    if make_calls(rt, alloc, &fleet, &mut seats, calls) {
+        closed(alloc, fleet, seats)
+    } else {
+        None
+    }
+}
+
+/// Closes a fleet, where these are its seats. It has no handle `Wait`, so it compiles only as long as `close` doesn't wait.
+fn closed<N: Names>(alloc: Global, fleet: Fleet<N>, seats: Vec<Seat<N>>) -> Option<Outcome> {
+    if fleet.has_all_seats(&seats) {
+        without_lines(alloc, fleet.close(seats))
+    } else {
+        None
+    }
+}
+
+/// What a fleet was closed to, as an outcome that has no lines.
+fn without_lines(alloc: Global, closed: Closed) -> Option<Outcome> {
+    let Closed { queues, left } = closed;
+    let cpus = queues.len();
+    if cpus <= 64 && left.len() == cpus * cpus {
+        Some(Outcome::of(Vec::new(alloc), queues, left))
+    } else {
+        None
+    }
+}
+
+/// A kit, whose rings are to be such as a kit may have.
+fn kit_of(rt: &impl Abort, alloc: Global, setup: &Setup, rings: usize) -> Kit
+    ensures { setup_of result ≡ setup.now }
+{
+    assert!(rt; rings <= 1_000_000);
+    Kit::make(alloc, setup, rings).expect(rt, "memory")
+}
+
+/// Whether a case comes to what it tells.
+fn holds<R: Wait + Abort>(rt: &R, alloc: Global, case: &Case) -> Option<bool> {
+    let workload = read_workload(alloc, case.workload).expect(rt, "workload");
+    let kit = kit_of(rt, alloc, workload.setup(), case.rings);
+    let outcome = outcome_of::<Brand, _>(rt, alloc, kit, case.calls)?;
+    let text = report(alloc, &outcome, false).expect(rt, "memory");
+    Some(text.as_slice() == case.report.as_bytes())
+}
+
+#[test]
+fn seats_do_what_the_cases_tell(rt: HostRuntime) {
+    for case in &cases::CASES {
+        assert!(rt; holds(&rt, rt.alloc(), case) == Some(true), "{}", case.name);
+    }
+}

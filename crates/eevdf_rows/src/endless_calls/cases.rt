@@ -1,0 +1,70 @@
+//! Calls of seats of a fleet that keeps no history, with what comes of them.
+
+use super::Case;
+use crate::fleet_calls::seat_call::Call::{Drain, Pick, Post, Pull, Renice, Sleep, Tick, Yield};
+
+pub const CASES: [Case; 5] = [
+    Case {
+        name: "each operation of a running task",
+        workload: b"version = 2\nprogram = [[]]\n[[task]]\n[[task]]\n",
+        rings: 1,
+        calls: &[
+            (0, Pick, "picked 0"),
+            (0, Tick(3_000_000), "charged 0 resched"),
+            (0, Renice(0, 5), "reniced"),
+            (0, Yield, "yielded"),
+        ],
+        report: "cpu 0\nload 1359 floor 1500000\ntask 0 v 6085076 d 24425374 lag -4585076 running\ntask 1 v 0 d 3000000 lag 1500000\n",
+    },
+    // The sleep takes the lock of CPU 0 first.
+    Case {
+        name: "a task sleeps and wakes at its home wherever it runs",
+        workload: b"version = 1\nprogram = [[], []]\n[[task]]\n[[task]]\n[[task]]\n",
+        rings: 1,
+        calls: &[
+            (1, Pull(0), "pulled 2"),
+            (1, Pick, "picked 2"),
+            (1, Tick(500_000), "charged 2"),
+            (1, Sleep(2), "slept 0"),
+            (1, Sleep(2), "not running"),
+            (1, Post(2), "posted"),
+            (0, Drain, "1 taken, 1 woken"),
+        ],
+        report: "cpu 0\nload 3072 floor 0\ntask 0 v 0 d 3000000 lag 0\ntask 1 v 0 d 3000000 lag 0\ntask 2 v 0 d 3000000 lag 0\ncpu 1\nload 0 floor 500000\n",
+    },
+    Case {
+        name: "a ring that was full takes requests again when it was drained",
+        workload: b"version = 1\nprogram = [[], []]\n[[task]]\nasleep = true\n[[task]]\nasleep = true\n[[task]]\nasleep = true\n",
+        rings: 1,
+        calls: &[
+            (1, Post(0), "posted"),
+            (1, Post(1), "ring full at task 1"),
+            (0, Drain, "1 taken, 1 woken"),
+            (1, Post(0), "posted"),
+            (0, Drain, "1 taken, 0 woken"),
+            (1, Post(2), "posted"),
+        ],
+        report: "cpu 0\nload 1024 floor 0\ntask 0 v 0 d 3000000 lag 0\nasleep 1 lag 0\nasleep 2 lag 0\nleft 2 from 1\ncpu 1\nload 0 floor 0\n",
+    },
+    Case {
+        name: "two CPUs ask for one task",
+        workload: b"version = 1\nprogram = [[], []]\n[[task]]\nasleep = true\n",
+        rings: 1,
+        calls: &[
+            (1, Post(0), "posted"),
+            (0, Post(0), "posted"),
+            (0, Drain, "2 taken, 1 woken"),
+        ],
+        report: "cpu 0\nload 1024 floor 0\ntask 0 v 0 d 3000000 lag 0\ncpu 1\nload 0 floor 0\n",
+    },
+    Case {
+        name: "rings without room take no request",
+        workload: b"version = 1\nprogram = [[]]\n[[task]]\n",
+        rings: 0,
+        calls: &[
+            (0, Post(0), "ring full at task 0"),
+            (0, Drain, "0 taken, 0 woken"),
+        ],
+        report: "cpu 0\nload 1024 floor 0\ntask 0 v 0 d 3000000 lag 0\n",
+    },
+];

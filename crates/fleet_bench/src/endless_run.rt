@@ -1,0 +1,85 @@
+//! A run by a fleet that keeps no history: each thread does the operations of its own CPUs.
+
+ghost use Rattle.std.specs.Prelude.{◌≡◌};
+
+use crate::asked_run::AskedRun;
+use crate::fleet_run::rings;
+use crate::one_place::all_stand_once;
+use crate::run_fault::RunFault;
+use crate::run_report::Report;
+use crate::thread_seats::{done_by, seats_by_thread, seats_of};
+use crate::thread_work::work;
+use eevdf_fleet::Names;
+use eevdf_fleet::endless::{Closed, Fleet, Kit, Seat};
+use eevdf_ops::{Outcome, Setup};
+use std::alloc::Global;
+use std::marker::Brand;
+use std::sync::Wait;
+use std::thread;
+use std::thread::Threads;
+
+/// Does the operations of a run, and tells how many were done, where each task stands in one place afterwards.
+pub fn endless_report<R: Threads + Wait + Sync>(
+    rt: &R,
+    alloc: Global,
+    run: &AskedRun,
+    setup: &Setup,
+) -> Result<Report, RunFault> {
+    let kit = Kit::make(alloc, setup, rings(run))?;
+    let (done, outcome) = worked_out::<Brand, R>(rt, alloc, run, kit)?;
+    if !all_stand_once(&outcome, run.tasks as u64) {
+        return Err(RunFault::Places);
+    }
+    Ok(Report::of(done))
+}
+
+/// How many operations were done, and what the fleet is closed to.
+fn worked_out<N: Names + Send + Sync, R: Threads + Wait + Sync>(
+    rt: &R,
+    alloc: Global,
+    run: &AskedRun,
+    kit: Kit,
+) -> Result<(u64, Outcome), RunFault>
+    requires { kit ≡ N.kit }
+{
+    let (fleet, seats) = Fleet::<N>::open(alloc, kit)?;
+    let (done, seats) = worked(rt, alloc, run, &fleet, seats)?;
+    Ok((done, closed(alloc, fleet, seats)?))
+}
+
+/// Has the threads do the operations, and gives how many were done, and the seats back.
+fn worked<N: Names + Send + Sync, R: Threads + Wait + Sync>(
+    rt: &R,
+    alloc: Global,
+    run: &AskedRun,
+    fleet: &Fleet<N>,
+    seats: Vec<Seat<N>>,
+) -> Result<(u64, Vec<Seat<N>>), RunFault> {
+    let threads = seats_by_thread(alloc, run, seats)?;
+    let operations = run.operations;
+    let threads = thread::map_vec(
+        rt,
+        threads,
+        &move |own| { work::<Seat<N>, R>(rt, fleet, operations, own) },
+    )?;
+    let done = done_by(threads.as_slice());
+    Ok((done, seats_of(alloc, threads)?))
+}
+
+/// Closes a fleet, and gives its queues and requests as an outcome without lines.
+pub fn closed<N: Names>(
+    alloc: Global,
+    fleet: Fleet<N>,
+    seats: Vec<Seat<N>>,
+) -> Result<Outcome, RunFault> {
+    if !fleet.has_all_seats(&seats) {
+        return Err(RunFault::Seats);
+    }
+    let Closed { queues, left } = fleet.close(seats);
+    let cpus = queues.len();
+    if cpus <= 64 && left.len() == cpus * cpus {
+        Ok(Outcome::of(Vec::new(alloc), queues, left))
+    } else {
+        Err(RunFault::Places)
+    }
+}
