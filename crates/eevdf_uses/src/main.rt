@@ -2,18 +2,20 @@
 #![tactic(auto)]
 
 mod checked_input;
+mod idle_pulls;
 mod one_queue;
 mod own_order;
 mod two_queues;
 mod two_threads;
 
 use crate::checked_input::{Order, answers, two_cpus};
+use crate::idle_pulls::{three_at_one, until_end};
 use crate::one_queue::{add, one_queue};
 use crate::own_order::{last_first, pull_and_picks};
 use crate::two_queues::pull;
 use crate::two_threads::sleep_and_wake;
-use eevdf_fleet::{Closed, RunFault};
-use eevdf_ops::{Answer, Deed, Line};
+use eevdf_fleet::{Closed, RunFault, endless};
+use eevdf_ops::{Answer, CpuId, Deed, Line};
 use eevdf_queue::{Queue, TaskId};
 use std::alloc::{AllocError, Global};
 use std::io;
@@ -25,7 +27,8 @@ fn main(rt: HostRuntime) -> io::Result<()> {
     show_two_queues(&rt)?;
     show_checked_input(&rt)?;
     show_own_order(&rt)?;
-    show_two_threads(&rt)
+    show_two_threads(&rt)?;
+    show_idle_pulls(&rt)
 }
 
 fn show_one_queue(rt: &(impl Print + AllocGlobal)) -> io::Result<()> {
@@ -140,6 +143,33 @@ fn print_closed(rt: &impl Print, closed: &Closed) -> io::Result<()> {
         requests = requests.saturating_add(closed.left(0, 1).len());
     }
     println!(rt; "{requests} requests taken or left")?;
+    Ok(())
+}
+
+fn show_idle_pulls(rt: &(impl Print + AllocGlobal + Threads + Wait + Sync)) -> io::Result<()> {
+    println!(rt; "idle pulls")?;
+    let Ok(setup) = three_at_one(rt.alloc()) else {
+        return Err(out_of_memory());
+    };
+    match until_end(rt, rt.alloc(), &setup, 1000) {
+        Ok(closed) => print_places(rt, &closed),
+        Err(RunFault::Memory) => Err(out_of_memory()),
+        Err(RunFault::Start) => Err(io::Error::from(io::ErrorKind::WouldBlock)),
+    }
+}
+
+/// Prints what is the same in whatever order the threads come: how many tasks stand on how many CPUs.
+fn print_places(rt: &impl Print, closed: &endless::Closed) -> io::Result<()> {
+    let mut standing = 0usize;
+    for queue in closed.queues.iter() {
+        for number in 0..3 {
+            let task = TaskId::new(number).unwrap();
+            if queue.entry(task).is_some() || queue.asleep(task) {
+                standing = standing.saturating_add(1);
+            }
+        }
+    }
+    println!(rt; "{standing} tasks on {} CPUs", closed.queues.len())?;
     Ok(())
 }
 

@@ -1,0 +1,140 @@
+//! Threads that share a fleet which keeps no history, one for each CPU, until a clock says stop. Tasks sleep and are woken by requests of
+//! other CPUs, and a CPU that has nothing to run looks at the loads of the others and pulls from the most loaded one.
+
+ghost use Rattle.std.specs.Prelude.{◌≡◌};
+
+use eevdf_fleet::endless::{Closed, Fleet, Kit, Seat, SeatTurn, run_turns};
+use eevdf_fleet::{Names, RunFault};
+use eevdf_ops::{Answer, CpuId, Op, Setup, SetupFault, TaskSpec};
+use eevdf_queue::TaskId;
+use eevdf_weight::{Nice, Ns, Slice};
+use std::alloc::{AllocError, Global};
+use std::ops::ControlFlow;
+use std::sync::Wait;
+use std::sync::atomic::{AtomicU64, Ordering};
+use std::thread::Threads;
+
+/// The turns of the CPUs until a clock has come to an end. The clock is the caller's own, and the threads share it: here it goes on by
+/// one with each turn.
+#[derive(Drop)]
+pub struct UntilEnd {
+    pub clock: AtomicU64,
+    pub end: u64,
+}
+
+impl SeatTurn for UntilEnd {
+    fn turn<N: Names, R: Wait>(
+        &self,
+        rt: &R,
+        fleet: &Fleet<N>,
+        seat: &mut Seat<N>,
+    ) -> ControlFlow<()> {
+        run_next(rt, fleet, seat);
+        if self.clock.fetch_add(1, Ordering::SeqCst) < self.end {
+            ControlFlow::Continue(())
+        } else {
+            ControlFlow::Break(())
+        }
+    }
+}
+
+/// Wakes the tasks that others ask this CPU to wake, and runs its next task for 2 ms.
+fn run_next<N: Names, R: Wait>(rt: &R, fleet: &Fleet<N>, seat: &mut Seat<N>)
+    ensures { seat.new.cpu ≡ seat.old.cpu }
+{
+    let _ = fleet.drain(rt, seat);
+    let mut picked = fleet.pick(rt, seat);
+    if picked == Answer::Idle {
+        pull_from_most_loaded(rt, fleet, seat);
+        picked = fleet.pick(rt, seat);
+    }
+    let Answer::Picked(task) = picked else {
+        return;
+    };
+    let charged = fleet.tick(rt, seat, Ns::new(2_000_000).unwrap());
+    if matches!(charged, Answer::Charged { resched: true, .. }) {
+        sleep_and_ask(rt, fleet, seat, task);
+    }
+}
+
+/// A task that has used up its request sleeps at its home, and the CPU on which it ran asks the home to wake it. Each task has one
+/// request at most that no drain has taken, so a ring with room for all tasks is never full; in another one the task comes back in
+/// `RingFull`, and the caller would have to ask again later.
+fn sleep_and_ask<N: Names, R: Wait>(rt: &R, fleet: &Fleet<N>, seat: &mut Seat<N>, task: TaskId)
+    ensures { seat.new.cpu ≡ seat.old.cpu }
+{
+    if fleet.has_task(task) {
+        let _ = fleet.sleep(rt, seat, task);
+        let _ = seat.post(task);
+    }
+}
+
+/// Pulls a task from the most loaded of the other CPUs. The load may have changed since the look; the pull decides anew, under the locks
+/// of both queues, and answers `Nothing` or `Balanced` where no task comes.
+fn pull_from_most_loaded<N: Names, R: Wait>(rt: &R, fleet: &Fleet<N>, seat: &mut Seat<N>)
+    ensures { seat.new.cpu ≡ seat.old.cpu }
+{
+    if let Some(source) = most_loaded(rt, fleet, seat)
+        && fleet.has_cpu(source)
+        && source != seat.cpu()
+    {
+        let _ = fleet.pull(rt, seat, source);
+    }
+}
+
+/// The most loaded of the other CPUs, of equal ones the lowest; `None` where all are empty. Each look ends before the next one, since two
+/// CPUs that each held a look and asked for the other's could wait for ever.
+fn most_loaded<N: Names, R: Wait>(rt: &R, fleet: &Fleet<N>, seat: &mut Seat<N>) -> Option<CpuId>
+    ensures { seat.new.cpu ≡ seat.old.cpu }
+{
+    let mut most = None;
+    let mut most_load = 0;
+    for number in 0..64 {
+        let cpu = CpuId::new(number)?;
+        if fleet.has_cpu(cpu) && cpu != seat.cpu() {
+            let load = fleet.look(rt, seat, cpu).queue().load();
+            if most_load < load {
+                most_load = load;
+                most = Some(cpu);
+            }
+        }
+    }
+    most
+}
+
+/// Runs the CPUs of a setup, each by a thread of its own, for so many turns, all together.
+pub fn until_end<R: Threads + Wait + Sync>(
+    rt: &R,
+    alloc: Global,
+    setup: &Setup,
+    end: u64,
+) -> Result<Closed, RunFault> {
+    let kit = Kit::make(alloc, setup, 64)?;
+    let clock = AtomicU64::new(0);
+    run_turns(rt, alloc, kit, &UntilEnd { clock, end })
+}
+
+/// Four CPUs, of which the first has three tasks and the others none.
+pub fn three_at_one(alloc: Global) -> Result<Setup, SetupFault> {
+    let programs = empty_programs(alloc, 4)?;
+    Setup::make(alloc, &[task(), task(), task()], &programs)
+}
+
+/// A program without operations for each of so many CPUs: a fleet uses no programs.
+fn empty_programs(alloc: Global, cpus: usize) -> Result<Vec<Vec<Op>>, AllocError> {
+    let mut programs = Vec::new(alloc);
+    for _cpu in 0..cpus {
+        programs.push(Vec::new(alloc))?;
+    }
+    Ok(programs)
+}
+
+fn task() -> TaskSpec {
+    TaskSpec {
+        home: CpuId::new(0).unwrap(),
+        nice: Nice::new(0).unwrap(),
+        slice: Slice::new(3_000_000).unwrap(),
+        start: 0,
+        asleep: false,
+    }
+}
