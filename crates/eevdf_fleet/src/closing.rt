@@ -17,6 +17,7 @@ use crate::run_queues::RunQueues;
 use crate::seat_log::SeatLog;
 use crate::seat_parts::SeatParts;
 use crate::slot::Slot;
+use crossbeam_utils::CachePadded;
 use eevdf_ops::Line;
 use eevdf_queue::{Queue, TaskId};
 use std::marker::Model;
@@ -26,7 +27,7 @@ use std::sync::Mutex;
 #[derive(Drop)]
 pub(crate) struct Closing<N: Names> {
     pub(crate) board: NamedBoard<N>,
-    pub(crate) locks: Vec<Mutex<Slot<N>>>,
+    pub(crate) locks: Vec<CachePadded<Mutex<Slot<N>>>>,
     pub(crate) journal: Option<Mutex<Journal<N>>>,
     pub(crate) queues: Vec<Queue>,
     pub(crate) ends: ReturnedEnds<N>,
@@ -177,7 +178,7 @@ fn close_seat<N: Names>(
 fn close_locks<N: Names>(
     board: &NamedBoard<N>,
     mut token: Token,
-    mut locks: Vec<Mutex<Slot<N>>>,
+    mut locks: Vec<CachePadded<Mutex<Slot<N>>>>,
     mut queues: Vec<Queue>,
 ) -> (Token, Vec<Queue>)
     requires token { IsToken N.kit.board N.kit.terms token }
@@ -198,7 +199,7 @@ fn close_locks<N: Names>(
             queue,
             token: own,
             names: _,
-        } = lock.into_inner();
+        } = lock.into_inner().into_inner();
         token = board.join(token, own);
         queues[number.index()] = queue;
     }

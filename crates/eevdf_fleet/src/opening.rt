@@ -20,6 +20,7 @@ use crate::seat_log::SeatLog;
 use crate::seat_parts::SeatParts;
 use crate::slot::Slot;
 use atomic_table::Badge;
+use crossbeam_utils::CachePadded;
 use eevdf_ops::{CpuId, Line};
 use eevdf_queue::Queue;
 use std::alloc::{AllocError, Global};
@@ -31,7 +32,7 @@ use std::sync::Mutex;
 #[derive(Drop)]
 pub(crate) struct Opened<N: Names> {
     pub(crate) logs: Vec<SeatLog<N>>,
-    pub(crate) locks: Vec<Mutex<Slot<N>>>,
+    pub(crate) locks: Vec<CachePadded<Mutex<Slot<N>>>>,
     pub(crate) token: Token,
     pub(crate) queues: Vec<Queue>,
 }
@@ -114,7 +115,7 @@ fn open_next<N: Names>(
         token: kept,
         names: PhantomData,
     };
-    opened.locks.push(Mutex::new(slot))?;
+    opened.locks.push(CachePadded::new(Mutex::new(slot)))?;
     Ok(())
 }
 

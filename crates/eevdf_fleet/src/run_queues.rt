@@ -11,6 +11,7 @@ use crate::reserve::Reserve;
 use crate::rings::ReturnedEnds;
 use crate::seat_parts::SeatParts;
 use crate::slot::Slot;
+use crossbeam_utils::CachePadded;
 use eevdf_ops::CpuId;
 use eevdf_queue::TaskId;
 use std::alloc::{AllocError, Global};
@@ -22,7 +23,7 @@ use std::sync::Mutex;
 pub(crate) struct RunQueues<N: Names> {
     pub(crate) board: NamedBoard<N>,
     pub(crate) homes: Vec<CpuId>,
-    pub(crate) locks: Vec<Mutex<Slot<N>>>,
+    pub(crate) locks: Vec<CachePadded<Mutex<Slot<N>>>>,
     pub(crate) journal: Option<Mutex<Journal<N>>>,
     // The ends of rings can't be shared by threads, not even room for them: hence the lock, which no operation takes.
     pub(crate) reserve: Mutex<Reserve<N>>,
