@@ -1,64 +1,73 @@
 #!/usr/bin/env bash
-# threads.sh [MIX..]: measures the operations of a fleet in 1, 2 and 4 threads, each on two CPUs of its own with 64 tasks
-# each, and beside them the same operations in one thread without a fleet. A row is a mix of operations. Prints, for each:
-# - operations a second by wall clock, of all threads together, and of the one thread without a fleet ("solo"): the
-#   operations of a run with many less those of a run with few, over the difference of the shortest times of several such
-#   runs, so that starting, setting up and closing drop out;
-# - instructions an operation in one thread, with a fleet and without, and how many times as many the first are, by
-#   `valgrind --tool=callgrind` and by the same difference.
-# Drawing the operations is part of it everywhere. A fleet also keeps two lines of each operation, in memory that it
-# touches for the first time; without a fleet no line is kept, and a wake is done as soon as it is posted. The history is
-# not compared with that of one thread meanwhile: `fleet_bench check` does that. No proof speaks of any of it.
+# threads.sh [MIX..]: measures the operations of fleets in 1, 2 and 4 threads, each on two CPUs of its own with 64 tasks each: of
+# the fleet that keeps a history ("fleet") and of the one that keeps none ("endless"), and beside them the same operations in one
+# thread without a fleet ("solo"). Prints three tables, with a row for each mix of operations and way:
+# - operations a second by wall clock, of all threads together: the best and the median of several runs, and how many times the best
+#   of one thread these bests are. The shortest time of a run with few operations is taken off each time, and its operations from
+#   the operations, so that starting, setting up and closing drop out;
+# - instructions an operation in one thread, and how many times those of solo they are, by `valgrind --tool=callgrind` and by the
+#   same difference;
+# - the memory that is resident at most, in KiB, of the fleet that keeps no history, where four threads together do a million
+#   operations, and a hundred million.
+# Drawing the operations is part of it everywhere. The fleet with a history also keeps two lines of each operation, in memory that it
+# touches for the first time; without a fleet no line is kept, and a wake is done as soon as it is posted. What the fleets do is not
+# compared with one thread meanwhile: `fleet_bench check` does that. Which thread runs on which processor is left to the system, which
+# moves them where it has to: where other programs run the numbers are too low, and the load is printed before and after. The
+# environment may give other numbers: RUNS (10), PROGRAM (the one that ./build makes). No proof speaks of any of it.
 set -eu
 cd "$(dirname "$0")/.."
-program=$PWD/crates/fleet_bench/out/fleet_bench
+runs=${RUNS:-10}
+program=${PROGRAM:-$PWD/crates/fleet_bench/out/fleet_bench}
 few=20000
-many=400000
 counted_few=2000
 counted_many=6000
-runs=7
 cpus_a_thread=2
 tasks_a_cpu=64
 threads=(1 2 4)
 mixes=("$@")
 [ $# -gt 0 ] || mixes=(own wakes pulls)
 
-./build fleet_bench
+[ -n "${PROGRAM:-}" ] || ./build fleet_bench
 
-profile=$(mktemp)
-trap 'rm -f "$profile"' EXIT
+held=$(mktemp)
+trap 'rm -f "$held"' EXIT
+
+# How many operations a long run has in each thread. A history has no room for more.
+many() {
+  if [ "$1" = fleet ]; then echo 400000; else echo 4000000; fi
+}
 
 # The words of a run of seed 42: its way, threads, mix and operations a thread.
 words() {
   echo "$1 $2 $cpus_a_thread $(($2 * cpus_a_thread * tasks_a_cpu)) $3 $4 42"
 }
 
-# The shortest wall time of several runs, in microseconds.
-shortest() {
-  local best=0 begun taken
+# The wall times of several runs, in microseconds, the shortest first.
+times() {
+  local begun
   for _ in $(seq "$runs"); do
     begun=${EPOCHREALTIME//[!0-9]/}
     # shellcheck disable=SC2046 # the words are words of the program
     "$program" $(words "$@") >/dev/null
-    taken=$((${EPOCHREALTIME//[!0-9]/} - begun))
-    if [ "$best" -eq 0 ] || [ "$taken" -lt "$best" ]; then best=$taken; fi
-  done
-  echo "$best"
+    echo $((${EPOCHREALTIME//[!0-9]/} - begun))
+  done | sort -n
 }
 
-# Operations a second, of all threads.
-rate() {
-  local less more
-  less=$(shortest "$1" "$2" "$3" "$few")
-  more=$(shortest "$1" "$2" "$3" "$many")
-  if [ "$more" -le "$less" ]; then echo 0; else echo $(($2 * (many - few) * 1000000 / (more - less))); fi
+# Operations a second, of all threads: the best and the median.
+rates() {
+  local less
+  less=$(times "$1" "$2" "$3" "$few" | head -n 1)
+  times "$1" "$2" "$3" "$(many "$1")" |
+    awk -v less="$less" -v operations="$(($2 * ($(many "$1") - few)))" '
+      { rate[NR] = ($1 > less) ? operations * 1000000 / ($1 - less) : 0 }
+      END { print rate[1], rate[int((NR + 1) / 2)] }'
 }
 
 # The instructions of a run.
 instructions() {
   # shellcheck disable=SC2046 # the words are words of the program
-  valgrind --tool=callgrind --callgrind-out-file="$profile" "$program" $(words "$@") >/dev/null 2>&1
-  awk '$1 == "summary:" || $1 == "totals:" { count = $2 } END { print count }' "$profile"
+  valgrind --tool=callgrind --callgrind-out-file="$held" "$program" $(words "$@") >/dev/null 2>&1
+  awk '$1 == "summary:" || $1 == "totals:" { count = $2 } END { print count }' "$held"
 }
 
 # Instructions an operation, in one thread.
@@ -69,19 +78,62 @@ cost() {
   echo $(((more - less) / (counted_many - counted_few)))
 }
 
-columns=("${threads[@]/#/threads }" "solo" "fleet, ins." "solo, ins." "times")
-printf '| %-5s |' mix
-printf ' %11s |' "${columns[@]}"
-printf '\n|-------|'
-for _ in "${columns[@]}"; do printf -- '------------:|'; done
-printf '\n'
+# The memory that is resident at most where four threads together do so many operations of a mix.
+resident() {
+  # shellcheck disable=SC2046 # the words are words of the program
+  /usr/bin/env time -f '%M' -o "$held" "$program" $(words endless 4 "$1" $(($2 / 4))) >/dev/null
+  tail -n 1 "$held"
+}
+
+load() {
+  echo "load $1: $(cut -d ' ' -f 1-3 /proc/loadavg), on $(nproc) processors"
+}
+
+# The head of a table, whose first columns are words.
+head_of() {
+  printf '| %-5s | %-7s |' mix way
+  printf ' %10s |' "$@"
+  printf '\n|-------|---------|'
+  for _ in "$@"; do printf -- '-----------:|'; done
+  printf '\n'
+}
+
+load before
+columns=()
+for count in "${threads[@]}"; do columns+=("$count, best" "median" "times"); done
+head_of "${columns[@]}"
 for mix in "${mixes[@]}"; do
-  printf '| %-5s |' "$mix"
-  for count in "${threads[@]}"; do
-    printf ' %11d |' "$(rate fleet "$count" "$mix")"
+  for way in solo fleet endless; do
+    printf '| %-5s | %-7s |' "$mix" "$way"
+    one=
+    for count in "${threads[@]}"; do
+      if [ "$way" = solo ] && [ "$count" -gt 1 ]; then
+        printf ' %10s |' '' '' ''
+        continue
+      fi
+      read -r best median < <(rates "$way" "$count" "$mix")
+      one=${one:-$best}
+      awk -v best="$best" -v median="$median" -v one="$one" \
+        'BEGIN { printf " %10d | %10d | %10.2f |", best, median, one ? best / one : 0 }'
+    done
+    printf '\n'
   done
-  printf ' %11d |' "$(rate solo 1 "$mix")"
-  fleet=$(cost fleet "$mix")
+done
+load after
+
+echo
+head_of ins. times
+for mix in "${mixes[@]}"; do
   solo=$(cost solo "$mix")
-  printf ' %11d | %11d | %11s |\n' "$fleet" "$solo" "$(awk -v a="$fleet" -v b="$solo" 'BEGIN { printf "%.2f", a / b }')"
+  for way in solo fleet endless; do
+    count=$(cost "$way" "$mix")
+    awk -v mix="$mix" -v way="$way" -v count="$count" -v solo="$solo" \
+      'BEGIN { printf "| %-5s | %-7s | %10d | %10.2f |\n", mix, way, count, count / solo }'
+  done
+done
+
+echo
+head_of 1000000 100000000
+for mix in "${mixes[@]}"; do
+  printf '| %-5s | %-7s | %10d | %10d |\n' "$mix" endless "$(resident "$mix" 1000000)" "$(resident "$mix" 100000000)"
 done

@@ -20,11 +20,14 @@ pub struct AskedRun {
     pub seed: u64,
     pub ghost threads_some: { 0 < threads },
     pub ghost cpus_some: { 0 < cpus_a_thread },
+    pub ghost threads_few: { threads ≤ 64 },
     pub ghost cpus_few: { threads * cpus_a_thread ≤ 64 },
     pub ghost tasks_some: { 0 < tasks },
     pub ghost tasks_few: { tasks ≤ 1024 },
-    pub ghost operations_few: { operations ≤ 400000 },
 }
+
+/// The most operations of a thread of which a history is kept.
+pub const MOST_KEPT: u64 = 400_000;
 
 /// Why the words ask for no run.
 #[derive(Debug, Drop, Error)]
@@ -41,7 +44,7 @@ pub enum WordFault {
     Tasks,
     #[error("MIX is own, wakes, pulls or all")]
     Mix,
-    #[error("OPERATIONS is a number up to 400000")]
+    #[error("OPERATIONS is a number, up to 400000 where a history is kept")]
     Operations,
     #[error("SEED is a number")]
     Seed,
@@ -65,7 +68,7 @@ impl AskedRun {
         let Some(mix) = Mix::of(words[5].as_str()) else {
             return Err(WordFault::Mix);
         };
-        let Some(operations) = operations_of(words[6].as_str()) else {
+        let Some(operations) = operations_of(words[6].as_str(), way) else {
             return Err(WordFault::Operations);
         };
         let Ok(seed) = words[7].as_str().parse::<u64>() else {
@@ -102,6 +105,7 @@ impl AskedRun {
 /// The number of threads and that of the CPUs of each that two words give.
 fn cpus_of(threads: &str, cpus_a_thread: &str) -> Option<(usize, usize)>
     ensures some { IfSome result (λ n. (0 < n.0) × (0 < n.1)) }
+    ensures threads { IfSome result (λ n. n.0 ≤ 64) }
     ensures few { IfSome result (λ n. n.0 * n.1 ≤ 64) }
 {
     let threads = count_of(threads, 64)?;
@@ -128,14 +132,20 @@ fn count_of(word: &str, most: usize) -> Option<usize>
     }
 }
 
-/// The number of operations that a word gives.
-fn operations_of(word: &str) -> Option<u64>
-    ensures { IfSome result (λ n. n ≤ 400000) }
-{
+/// The number of operations that a word gives. Where a history is kept, it needs memory for each.
+fn operations_of(word: &str, way: Way) -> Option<u64> {
     let Ok(number) = word.parse::<u64>() else {
         return None;
     };
-    if number <= 400_000 {
+    match way {
+        Way::Solo | Way::Endless => Some(number),
+        Way::Fleet | Way::Check | Way::Twins => kept_number(number),
+    }
+}
+
+/// A number of operations of which a history can be kept.
+fn kept_number(number: u64) -> Option<u64> {
+    if number <= MOST_KEPT {
         Some(number)
     } else {
         None

@@ -1,9 +1,9 @@
 //! A run by a fleet that keeps no history: each thread does the operations of its own CPUs.
 
-ghost use Rattle.std.specs.Prelude.{◌≡◌};
+ghost use Rattle.std.specs.Prelude.{◌≡◌, ◌≤◌};
 
 use crate::asked_run::AskedRun;
-use crate::fleet_run::rings;
+use crate::mix::Mix;
 use crate::one_place::all_stand_once;
 use crate::run_fault::RunFault;
 use crate::run_report::Report;
@@ -31,6 +31,17 @@ pub fn endless_report<R: Threads + Wait + Sync>(
         return Err(RunFault::Places);
     }
     Ok(Report::of(done))
+}
+
+/// How many requests to a home a CPU may have posted that the home has not taken yet.
+fn rings(run: &AskedRun) -> usize
+    ensures some { 1 ≤ result }
+    ensures few { result ≤ 1000000 }
+{
+    match run.mix {
+        Mix::All => 4,
+        _ => 64,
+    }
 }
 
 /// How many operations were done, and what the fleet is closed to.

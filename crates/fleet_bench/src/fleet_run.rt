@@ -9,7 +9,7 @@ ghost use Rattle.eevdf_ops.specs.Programs.{deeds_of};
 ghost use Rattle.eevdf_ops.specs.Setup.{allows, homes_of};
 
 use crate::agreement::agrees;
-use crate::asked_run::AskedRun;
+use crate::asked_run::{AskedRun, MOST_KEPT};
 use crate::mix::Mix;
 use crate::one_place::all_stand_once;
 use crate::run_fault::RunFault;
@@ -93,12 +93,14 @@ fn report(
     Ok(Report::compared(done, agrees, "one thread"))
 }
 
-/// How many lines a CPU may have: one for each of its operations, and room for the wakes that others ask for.
+/// How many lines a CPU may have: one for each of its operations, and room for the wakes that others ask for. No run with a history
+/// has more operations than `MOST_KEPT`.
 pub fn quota(run: &AskedRun) -> usize
     ensures some { 1 ≤ result }
     ensures few { result ≤ 1000000 }
 {
-    let own = (run.operations / run.cpus_a_thread as u64) as usize + 1;
+    let operations = run.operations.min(MOST_KEPT);
+    let own = (operations / run.cpus_a_thread as u64) as usize + 1;
     match run.mix {
         Mix::Own | Mix::Pulls => own,
         Mix::Wakes => 2 * own + 128,
