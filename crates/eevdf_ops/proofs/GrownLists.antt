@@ -3,7 +3,7 @@ use Rattle.std.proofs.Common.{◌≡◌, ℕ, ◌+◌, ◌<◌, ◌++◌, List, 
 use Rattle.std.proofs.lemmas.List.{length-map, length-replicate, map-append, replicate-append-replicate, take_more}
 
 -- what is seen of the list with one element more
-seen_more : {X Y : Type 0} (f : X → Y) (xs items : List X) (x : X) (y : Y) (ys : List Y) → items ≡ xs ++ x ∷ [] → f x ≡ y → map f xs ≡ ys → map f items ≡ ys ++ y ∷ []
+pub seen_more : {X Y : Type 0} (f : X → Y) (xs items : List X) (x : X) (y : Y) (ys : List Y) → items ≡ xs ++ x ∷ [] → f x ≡ y → map f xs ≡ ys → map f items ≡ ys ++ y ∷ []
 seen_more f xs items x y ys new at e =
     ap (λ (l : List _). map f l) new ∙ map-append f xs (x ∷ []) ∙ ap (λ (l : List _). l ++ f x ∷ []) e ∙ ap (λ (z : _). ys ++ z ∷ []) at
 

@@ -2,12 +2,14 @@ pub mod Charges
 pub mod SetupFaults
 pub mod Starting
 pub mod Machines
+pub mod OwnStarts
 pub mod PickDescents
 pub mod MapCounts
 pub mod QueuePlaces
 pub mod MachinePlaces
 pub mod Carried
 pub mod Pulling
+pub mod SurelyBalanced
 pub mod AllowedDeeds
 pub mod DeedNames
 pub mod WholePlaces

@@ -12,7 +12,8 @@ use crate::task_spec::TaskSpec;
 use eevdf_queue::{Parcel, Queue, TaskId};
 use std::alloc::{AllocError, Global};
 
-/// The queues of so many CPUs, with each task at its home.
+/// The queues of so many CPUs, with each task at its home. The memory of the tasks is taken CPU by CPU, so that what threads of
+/// different CPUs write to doesn't lie in turns.
 pub(crate) fn queues_at_start(
     alloc: Global,
     cpus: usize,
@@ -24,21 +25,35 @@ pub(crate) fn queues_at_start(
         machine_of queues.items ≡ machine.begin_at_homes 0 tasks.now (replicate cpus empty_state)) }
     ensures cpus { IfOk result (λ queues. length queues.items ≡ cpus) }
 {
-    let mut queues = empty_queues(alloc, cpus)?;
-    for place in (0..tasks.len()).rev() {
-        begin(alloc, &mut queues, task_number(place), tasks[place])?;
+    let mut queues = Vec::with_capacity(alloc, cpus)?;
+    for cpu in 0..cpus {
+        let queue = queue_at_start(alloc, cpus, cpu, tasks)?;
+        queues.push(queue)?;
     }
     Ok(queues)
 }
 
-fn empty_queues(alloc: Global, cpus: usize) -> Result<Vec<Queue>, AllocError>
-    ensures { IfOk result (λ queues. machine_of queues.items ≡ replicate cpus empty_state) }
+/// The queue of a CPU, with the tasks whose home it is.
+fn queue_at_start(
+    alloc: Global,
+    cpus: usize,
+    cpu: usize,
+    tasks: &[TaskSpec],
+) -> Result<Queue, AllocError>
+    requires few { length tasks.now ≤ most_tasks }
+    requires well { tasks_fault cpus 0 tasks.now ≡ None }
+    requires cpu { cpu < cpus }
+    ensures { IfOk result (λ queue. queue.state
+        ≡ machine.queue_at (machine.begin_at_homes 0 tasks.now (replicate cpus empty_state)) cpu) }
 {
-    let mut queues = Vec::with_capacity(alloc, cpus)?;
-    for _cpu in 0..cpus {
-        queues.push(Queue::open())?;
+    let mut queue = Queue::open();
+    for place in (0..tasks.len()).rev() {
+        let spec = tasks[place];
+        if spec.home.index() == cpu {
+            begin(alloc, &mut queue, task_number(place), spec)?;
+        }
     }
-    Ok(queues)
+    Ok(queue)
 }
 
 /// The number of the task at a place of the list of tasks.
@@ -53,21 +68,13 @@ pub(crate) fn task_number(place: usize) -> TaskId
 }
 
 /// Puts a task into the queue of its home.
-fn begin(
-    alloc: Global,
-    queues: &mut [Queue],
-    task: TaskId,
-    spec: TaskSpec,
-) -> Result<(), AllocError>
-    requires home { spec.home < length queues.old }
+fn begin(alloc: Global, queue: &mut Queue, task: TaskId, spec: TaskSpec) -> Result<(), AllocError>
     requires in_range { starts_in_range spec ≡ true }
-    requires absent { IsNowhere (machine.queue_at (machine_of queues.old) spec.home) task }
-    ensures { OnOk result (machine_of queues.new ≡ slice_set (machine_of queues.old) spec.home
-        (machine.begin task spec (machine.queue_at (machine_of queues.old) spec.home))) }
+    requires absent { IsNowhere queue.old.state task }
+    ensures { OnOk result (queue.new.state ≡ machine.begin task spec queue.old.state) }
 {
     let parcel = Parcel::make(alloc, task, spec.nice, spec.slice, spec.start)?;
-    let home = spec.home.index();
-    join(&mut queues[home], parcel, spec.asleep);
+    join(queue, parcel, spec.asleep);
     Ok(())
 }
 

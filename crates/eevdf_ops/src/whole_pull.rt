@@ -1,14 +1,14 @@
 //! A pull, done at once: the candidate of the source comes to the CPU, where that levels their loads.
 
 ghost use Rattle.std.specs.Prelude.{◌≡◌, ◌≢◌, ◌<◌, ◌≤◌, length, nat_lt, ◌+◌, Some, IfSome, true};
-ghost use Rattle.std.specs.Prelude.{false};
+ghost use Rattle.std.specs.Prelude.{false, Err, IsTrue};
 ghost use Rattle.eevdf_weight.specs.Weight.{weight_of};
 ghost use Rattle.std.specs.Option.{option_map};
 ghost use Rattle.std.specs.FinMap as map;
 ghost use Rattle.eevdf_queue.specs.{Candidate.is_running, Lag.is_lag, Moves.sleeper_of};
 ghost use Rattle.eevdf_queue.specs.{Placing.can_place};
 ghost use Rattle.eevdf_queue.specs.Leaving as leaving;
-ghost use Rattle.eevdf_ops.specs.{Machine.queue_at, Outcome.machine_of, Places.places};
+ghost use Rattle.eevdf_ops.specs.{declared.deeds.Answer.TheVariants.Balanced, Machine.queue_at, Outcome.machine_of, Places.places};
 ghost use Rattle.eevdf_ops.specs.{Places.places_in, PullOffer.task_of};
 ghost use Rattle.eevdf_ops.specs.{PullOffer.offer_of, WholeSleep.task_leaves};
 ghost use Rattle.eevdf_ops.specs.WholePull as whole;
@@ -63,6 +63,27 @@ pub fn take_pulled(queues: &mut [Queue], cpu: CpuId, source: CpuId) -> Result<Pa
 
 /// The task that the CPU takes, or why it takes none.
 pub fn decide(puller: &Queue, source: &Queue) -> Result<TaskId, Answer>
+    ensures { result ≡ task_of (whole.decision puller.now.state
+        (whole.load_of source.now.state) (whole.offer source.now.state)) }
+{
+    if is_surely_balanced(puller, source) {
+        Err(Answer::Balanced)
+    } else {
+        weigh(puller, source)
+    }
+}
+
+/// Whether the source is no heavier and a task waits there, by the counts alone: of two runnable tasks one waits. So nothing of the
+/// source's tree need be read, which another processor may have in its cache.
+fn is_surely_balanced(puller: &Queue, source: &Queue) -> bool
+    ensures { IsTrue result → whole.decision puller.now.state
+        (whole.load_of source.now.state) (whole.offer source.now.state) ≡ Err Balanced }
+{
+    source.len() > 1 && source.load() <= puller.load()
+}
+
+/// The same by the candidate of the source.
+fn weigh(puller: &Queue, source: &Queue) -> Result<TaskId, Answer>
     ensures { result ≡ task_of (whole.decision puller.now.state
         (whole.load_of source.now.state) (whole.offer source.now.state)) }
 {

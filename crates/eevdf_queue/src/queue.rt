@@ -16,7 +16,7 @@ use crate::task_id::TaskId;
 use crate::totals::time_over;
 use std::marker::Model;
 
-/// The run queue of one CPU. It has 24672 bytes on x86-64, whatever it holds, and each of its tasks 88 more, in a node.
+/// The run queue of one CPU. It has 24672 bytes on x86-64, whatever it holds, and each of its tasks 152 more, in a node.
 #[derive(Drop)]
 pub struct Queue {
     pub(crate) runnable: RunnableTasks,
