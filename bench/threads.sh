@@ -1,7 +1,8 @@
 #!/usr/bin/env bash
 # threads.sh [MIX..]: measures the operations of fleets in 1, 2 and 4 threads, each on two CPUs of its own with 64 tasks each: of
 # the fleet that keeps a history ("fleet") and of the one that keeps none ("endless"), and beside them the same operations in one
-# thread without a fleet ("solo"). Prints three tables, with a row for each mix of operations and way:
+# thread without a fleet ("solo"), and of as many programs of one thread each, side by side ("apart"), which share nothing: that is what
+# the machine gives to so many threads. Prints three tables, with a row for each mix of operations and way:
 # - operations a second by wall clock, of all threads together: the best and the median of several runs, and how many times the best
 #   of one thread these bests are. The shortest time of a run with few operations is taken off each time, and its operations from
 #   the operations, so that starting, setting up and closing drop out;
@@ -34,7 +35,7 @@ trap 'rm -f "$held"' EXIT
 
 # How many operations a long run has in each thread. A history has no room for more.
 many() {
-  if [ "$1" = fleet ]; then echo 400000; else echo 4000000; fi
+  if [ "$1" = fleet ]; then echo 400000; else echo 16000000; fi
 }
 
 # The words of a run of seed 42: its way, threads, mix and operations a thread.
@@ -42,13 +43,26 @@ words() {
   echo "$1 $2 $cpus_a_thread $(($2 * cpus_a_thread * tasks_a_cpu)) $3 $4 42"
 }
 
+# Runs the program once, or as often as there are threads at the same time.
+run() {
+  local count=1
+  if [ "$1" = apart ]; then
+    count=$2
+    set -- endless 1 "$3" "$4"
+  fi
+  for _ in $(seq "$count"); do
+    # shellcheck disable=SC2046 # the words are words of the program
+    "$program" $(words "$@") >/dev/null &
+  done
+  wait
+}
+
 # The wall times of several runs, in microseconds, the shortest first.
 times() {
   local begun
   for _ in $(seq "$runs"); do
     begun=${EPOCHREALTIME//[!0-9]/}
-    # shellcheck disable=SC2046 # the words are words of the program
-    "$program" $(words "$@") >/dev/null
+    run "$@"
     echo $((${EPOCHREALTIME//[!0-9]/} - begun))
   done | sort -n
 }
@@ -103,7 +117,7 @@ columns=()
 for count in "${threads[@]}"; do columns+=("$count, best" "median" "times"); done
 head_of "${columns[@]}"
 for mix in "${mixes[@]}"; do
-  for way in solo fleet endless; do
+  for way in solo fleet endless apart; do
     printf '| %-5s | %-7s |' "$mix" "$way"
     one=
     for count in "${threads[@]}"; do

@@ -28,7 +28,7 @@ use std::sync::Mutex;
 pub(crate) struct Closing<N: Names> {
     pub(crate) board: NamedBoard<N>,
     pub(crate) locks: Vec<CachePadded<Mutex<Slot<N>>>>,
-    pub(crate) journal: Option<Mutex<Journal<N>>>,
+    pub(crate) journal: Option<CachePadded<Mutex<Journal<N>>>>,
     pub(crate) queues: Vec<Queue>,
     pub(crate) ends: ReturnedEnds<N>,
     pub(crate) token: Token,
@@ -158,10 +158,12 @@ fn close_seat<N: Names>(
     ensures ends { ends.new ≡ given_back (cpus_of (setup_of N.kit)) ends.old seat.seat }
 {
     let SeatParts {
+        unused_before: _,
         log,
         producers,
         consumers,
         homes: _,
+        unused_after: _,
     } = seat;
     ends.give_back(producers, consumers);
     let SeatLog {
@@ -210,7 +212,7 @@ fn close_locks<N: Names>(
 fn close_journal<N: Names>(
     board: &NamedBoard<N>,
     token: Token,
-    journal: Option<Mutex<Journal<N>>>,
+    journal: Option<CachePadded<Mutex<Journal<N>>>>,
 ) -> (Token, Option<Vec<Line>>)
     requires { IsToken N.kit.board N.kit.terms token }
     ensures token { IsToken N.kit.board N.kit.terms result.0 }
@@ -224,7 +226,7 @@ fn close_journal<N: Names>(
                 lines,
                 token: all,
                 names: _,
-            } = journal.into_inner();
+            } = journal.into_inner().into_inner();
             (board.join(token, all), Some(lines))
         }
     }

@@ -15,6 +15,7 @@ use atomic_table::Badge;
 use std::mem;
 
 /// Commits a line of the log's CPU. The token claims the queues that it changes, and the journal where there is one.
+#[inline(always)]
 pub(crate) fn commit<N: Names>(
     board: &NamedBoard<N>,
     log: &mut SeatLog<N>,
@@ -48,20 +49,20 @@ pub(crate) fn commit_in_journal<N: Names>(
     journal: &mut Journal<N>,
     log: &mut SeatLog<N>,
     queues: Token,
-    said: &Said,
+    said: Said,
 ) -> Token
     requires token { IsToken N.kit.board N.kit.terms queues }
     requires room { IsRoomFor N.kit.terms.quota 1 log.old.room }
-    requires own { decider said.now.line.deed ≡ log.old.cpu }
-    requires owed { OwesQueues N.kit.terms (claims_of queues) said.now }
+    requires own { decider said.line.deed ≡ log.old.cpu }
+    requires owed { OwesQueues N.kit.terms (claims_of queues) said }
     ensures token { IsToken N.kit.board N.kit.terms result }
-    ensures claims { claims_of result ≡ held (map (advanced said.now) (claims_of queues)) }
-    ensures journal { journal.new ≡ journal.old ++ said.now.line ∷ [] }
-    ensures log { HasWritten log.old log.new said.now.line }
+    ensures claims { claims_of result ≡ held (map (advanced said) (claims_of queues)) }
+    ensures journal { journal.new ≡ journal.old ++ said.line ∷ [] }
+    ensures log { HasWritten log.old log.new said.line }
 {
     let all = mem::replace(&mut journal.token, Badge::blank());
     let token = board.join(queues, all);
-    let token = commit(board, log, token, said);
+    let token = commit(board, log, token, &said);
     let (all, token) = board.split(token);
     journal.token = all;
     journal.lines.push_reserved(said.line);

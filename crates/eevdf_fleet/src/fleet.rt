@@ -17,6 +17,7 @@ use crate::kit::Kit;
 use crate::names::Names;
 use crate::run_queues::RunQueues;
 use crate::seat::{Seat, parts_in, seats_of};
+use crossbeam_utils::CachePadded;
 use eevdf_ops::{Answer, CpuId, Deed, Outcome};
 use eevdf_queue::TaskId;
 use eevdf_weight::{Nice, Ns};
@@ -36,7 +37,7 @@ pub type Closed = Outcome;
 /// A scheduler for several threads: each CPU's queue in a lock of its own, and the journal.
 #[derive(Drop)]
 pub struct Fleet<N: Names> {
-    pub(crate) queues: RunQueues<N>,
+    pub(crate) queues: CachePadded<RunQueues<N>>,
 }
 
 impl<N: Names> Model for Fleet<N> {
@@ -60,6 +61,7 @@ impl<N: Names> Fleet<N> {
     {
         let (queues, parts) = RunQueues::<N>::open(alloc, kit.parts)?;
         let seats = seats_of(alloc, parts)?;
+        let queues = CachePadded::new(queues);
         Ok((Fleet { queues }, seats))
     }
 
@@ -205,7 +207,7 @@ impl<N: Names> Fleet<N> {
             result.lines result.left }
         ensures left { length result.left ≡ cpus_of (setup_of N.kit) * cpus_of (setup_of N.kit) }
     {
-        let (closing, room) = self.queues.into_closing();
+        let (closing, room) = self.queues.into_inner().into_closing();
         let ClosedQueues {
             lines,
             queues,
@@ -219,6 +221,7 @@ impl<N: Names> Fleet<N> {
 
     /// Does a deed of the seat's CPU that isn't a wake. The gate is told that it is operation `n` of the CPU's program; where
     /// no program is run the gate is open, and `n` is 0.
+    #[inline(always)]
     pub(crate) fn operate<R: Wait, G: Gate>(
         &self,
         rt: &R,

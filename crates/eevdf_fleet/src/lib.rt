@@ -13,6 +13,7 @@
 //! takes no memory and claims what the one history has of it.
 #![tactic(auto)]
 
+mod adaptive_lock;
 mod board;
 mod closing;
 mod commit;

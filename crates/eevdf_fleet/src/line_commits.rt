@@ -21,6 +21,7 @@ use std::sync::Wait;
 
 impl<N: Names> RunQueues<N> {
     /// Commits a line that has changed the queue of the log's CPU alone, which the token claims as it was.
+    #[inline(always)]
     pub(crate) fn commit_one<R: Wait>(
         &self,
         rt: &R,
@@ -40,7 +41,7 @@ impl<N: Names> RunQueues<N> {
         ensures log { HasWritten log.old log.new line.now }
     {
         let said = said(line, log.cpu(), queue);
-        self.commit_line(rt, log, token, &said)
+        self.commit_line(rt, log, token, said)
     }
 
     /// Commits a line that has changed the queues of the log's CPU and of another one, which the token claims as they
@@ -70,28 +71,23 @@ impl<N: Names> RunQueues<N> {
         ensures log { HasWritten log.old log.new line.now }
     {
         let said = said_both(line, change(log.cpu(), queue), change(other, other_queue));
-        let token = self.commit_line(rt, log, token, &said);
+        let token = self.commit_line(rt, log, token, said);
         self.board.split(token)
     }
 
     /// Commits a line of the log's CPU, in the journal too where there is one. The token claims the queues that it changes.
-    fn commit_line<R: Wait>(
-        &self,
-        rt: &R,
-        log: &mut SeatLog<N>,
-        queues: Token,
-        said: &Said,
-    ) -> Token
+    #[inline(always)]
+    fn commit_line<R: Wait>(&self, rt: &R, log: &mut SeatLog<N>, queues: Token, said: Said) -> Token
         requires token { IsToken N.kit.board N.kit.terms queues }
         requires room { IsRoomFor N.kit.terms.quota 1 log.old.room }
-        requires own { decider said.now.line.deed ≡ log.old.cpu }
-        requires owed { OwesQueues N.kit.terms (claims_of queues) said.now }
+        requires own { decider said.line.deed ≡ log.old.cpu }
+        requires owed { OwesQueues N.kit.terms (claims_of queues) said }
         ensures token { IsToken N.kit.board N.kit.terms result }
-        ensures claims { claims_of result ≡ held (map (advanced said.now) (claims_of queues)) }
-        ensures log { HasWritten log.old log.new said.now.line }
+        ensures claims { claims_of result ≡ held (map (advanced said) (claims_of queues)) }
+        ensures log { HasWritten log.old log.new said.line }
     {
         match &self.journal {
-            None => commit(&self.board, log, queues, said),
+            None => commit(&self.board, log, queues, &said),
             Some(journal) => {
                 let mut journal = journal.lock(rt);
                 commit_in_journal(&self.board, &mut journal, log, queues, said)
@@ -101,6 +97,7 @@ impl<N: Names> RunQueues<N> {
 }
 
 /// A line, and the queue that it has changed.
+#[inline(always)]
 fn said(line: &Line, cpu: CpuId, queue: &Queue) -> Said
     ensures line { result.line ≡ line.now }
     ensures cpu { result.second.cpu ≡ cpu }
@@ -114,6 +111,7 @@ fn said(line: &Line, cpu: CpuId, queue: &Queue) -> Said
 }
 
 /// The queue of a CPU as it is now.
+#[inline(always)]
 fn change(cpu: CpuId, queue: &Queue) -> Change
     ensures cpu { result.cpu ≡ cpu }
     ensures queue { result.queue.value ≡ queue.now }

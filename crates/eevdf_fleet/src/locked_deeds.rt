@@ -21,6 +21,7 @@ use std::sync::Wait;
 
 impl<N: Names> RunQueues<N> {
     /// Does a deed of the seat's CPU that touches its queue alone, and isn't a wake.
+    #[inline(always)]
     pub(crate) fn own<R: Wait, G: Gate>(
         &self,
         rt: &R,
@@ -74,6 +75,7 @@ impl<N: Names> RunQueues<N> {
     }
 
     /// Does a deed on the one queue that it touches, whose lock is held, and commits its line.
+    #[inline(always)]
     pub(crate) fn done_on_one<R: Wait, G: Gate>(
         &self,
         rt: &R,

@@ -124,7 +124,7 @@ pub(crate) fn open_journal<N: Names>(
     board: &NamedBoard<N>,
     token: Token,
     lines: Option<Vec<Line>>,
-) -> (Option<Mutex<Journal<N>>>, Token)
+) -> (Option<CachePadded<Mutex<Journal<N>>>>, Token)
     requires token { IsToken N.kit.board N.kit.terms token }
     requires claims { claims_of token ≡ claim.Journal [] ∷ [] }
     requires lines { HasLines N.kit.terms.quota (cpus_of (setup_of N.kit)) lines }
@@ -135,11 +135,11 @@ pub(crate) fn open_journal<N: Names>(
     let (all, rest) = board.split(token);
     let journal = match lines {
         None => None,
-        Some(lines) => Some(Mutex::new(Journal {
+        Some(lines) => Some(CachePadded::new(Mutex::new(Journal {
             lines,
             token: all,
             names: PhantomData,
-        })),
+        }))),
     };
     (journal, rest)
 }
@@ -190,10 +190,12 @@ fn make_seats<N: Names>(
         match (logs.pop(), producers.pop(), consumers.pop()) {
             (Some(log), Some(producers), Some(consumers)) => {
                 seats.push(SeatParts {
+                    unused_before: [0; 8],
                     log,
                     producers,
                     consumers,
                     homes,
+                    unused_after: [0; 8],
                 })?;
             }
             _ => unreachable!(),

@@ -17,6 +17,7 @@ use std::sync::Wait;
 impl<N: Names> RunQueues<N> {
     /// Does a deed of the seat's CPU that isn't a wake. The gate is told that it is operation `n` of the CPU's program; where
     /// no program is run the gate is open, and `n` is 0.
+    #[inline(always)]
     pub(crate) fn operate<R: Wait, G: Gate>(
         &self,
         rt: &R,
@@ -38,6 +39,7 @@ impl<N: Names> RunQueues<N> {
     }
 
     /// The CPU whose queue a deed touches beside that of its own CPU, if there is one.
+    #[inline(always)]
     fn other_queue(&self, deed: &Deed) -> Option<CpuId>
         requires { allows (setup_of N.kit) deed.now ≡ true }
         ensures one { IfNone result (IsOfOneQueue (homes_of (setup_of N.kit)) deed.now) }
@@ -60,6 +62,7 @@ impl<N: Names> RunQueues<N> {
     }
 
     /// The home of a task.
+    #[inline(always)]
     fn home(&self, task: TaskId) -> CpuId
         requires { is_task (homes_of (setup_of N.kit)) task ≡ true }
         ensures home { result ≡ home_of (homes_of (setup_of N.kit)) task }

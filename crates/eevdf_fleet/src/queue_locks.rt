@@ -5,6 +5,7 @@ ghost use Rattle.std.specs.Prelude.{IfSome, None, Some};
 ghost use Rattle.eevdf_ops.specs.Setup.{cpus_of};
 ghost use Rattle.eevdf_fleet.specs.Fleets.{setup_of};
 
+use crate::adaptive_lock::lock_adaptively;
 use crate::held_locks::HeldLocks;
 use crate::names::Names;
 use crate::run_queues::RunQueues;
@@ -40,6 +41,7 @@ impl<N: Names> RunQueues<N> {
     }
 
     /// Takes the lock of a CPU's queue, whose number is above those of the locks that are held.
+    #[inline(always)]
     pub(crate) fn hold<R: Wait>(
         &self,
         rt: &R,
@@ -52,7 +54,7 @@ impl<N: Names> RunQueues<N> {
         ensures held { held.new.highest.value ≡ Some cpu }
     {
         held.add(cpu);
-        let guard = self.locks[cpu.index()].lock(rt);
+        let guard = lock_adaptively(rt, &self.locks[cpu.index()]);
         // No type says which lock keeps which number. They stand in order from the opening on.
         if guard.number().get() == cpu.get() {
             return guard;

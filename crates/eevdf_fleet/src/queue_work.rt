@@ -21,6 +21,7 @@ use eevdf_ops::{Answer, Deed, queue_deeds};
 use eevdf_queue::{Queue, TaskId};
 
 /// Does a deed on the one queue that it touches.
+#[inline(always)]
 pub(crate) fn act(queue: &mut Queue, deed: &Deed) -> Answer
     requires { (homes : List ℕ) × IsOfOneQueue homes deed.now }
     ensures answer { result ≡ (one_done deed.now queue.old.state).0 }

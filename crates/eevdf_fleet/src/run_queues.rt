@@ -24,7 +24,7 @@ pub(crate) struct RunQueues<N: Names> {
     pub(crate) board: NamedBoard<N>,
     pub(crate) homes: Vec<CpuId>,
     pub(crate) locks: Vec<CachePadded<Mutex<Slot<N>>>>,
-    pub(crate) journal: Option<Mutex<Journal<N>>>,
+    pub(crate) journal: Option<CachePadded<Mutex<Journal<N>>>>,
     // The ends of rings can't be shared by threads, not even room for them: hence the lock, which no operation takes.
     pub(crate) reserve: Mutex<Reserve<N>>,
 }

@@ -9,13 +9,17 @@ use eevdf_ops::{CpuId, Line};
 use eevdf_queue::TaskId;
 use std::marker::Model;
 
-/// What a seat is made of: its CPU's lines and its ends of the rings. Contracts see besides how far it knows the history.
+/// What a seat is made of: its CPU's lines and its ends of the rings. Contracts see besides how far it knows the history. The unused
+/// bytes keep it off the cache lines of what stands beside it, which another thread may write to.
 #[derive(Drop)]
+#[repr(C)]
 pub(crate) struct SeatParts<N: Names> {
+    pub(crate) unused_before: [u64; 8],
     pub(crate) log: SeatLog<N>,
     pub(crate) producers: Producers<N>,
     pub(crate) consumers: Consumers<N>,
     pub(crate) homes: Vec<CpuId>,
+    pub(crate) unused_after: [u64; 8],
 }
 
 impl<N: Names> Model for SeatParts<N> {

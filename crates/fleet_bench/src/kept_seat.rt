@@ -13,10 +13,12 @@ use std::sync::Wait;
 impl<N: Names> DrawnSeat for Seat<N> {
     type Fleet = Fleet<N>;
 
+    #[inline(always)]
     fn own_cpu(&self) -> CpuId {
         self.cpu()
     }
 
+    #[inline(always)]
     fn operate<R: Wait>(
         &mut self,
         rt: &R,
@@ -52,6 +54,7 @@ fn came(answer: Result<Answer, SeatFull>) -> Result<Came, Refused> {
 }
 
 /// The task, where the setup has it.
+#[inline(always)]
 fn known_task<N: Names>(fleet: &Fleet<N>, task: TaskId) -> Result<TaskId, Refused>
     ensures { IfOk result (λ known. is_task (homes_of (setup_of N.kit)) known ≡ true) }
 {

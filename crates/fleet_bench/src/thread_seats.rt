@@ -8,11 +8,13 @@ use eevdf_queue::TaskId;
 use std::alloc::{AllocError, Global};
 use std::vec::IntoIter;
 
-/// A seat, and the task that runs on its CPU.
+/// A seat, and the task that runs on its CPU. The unused bytes keep it off the cache lines of the seats of another thread.
 #[derive(Drop)]
+#[repr(C)]
 pub struct HeldSeat<S: Drop> {
     pub seat: S,
     pub running: Option<TaskId>,
+    unused: [u64; 8],
 }
 
 /// What a thread has: its operations, the seats of its CPUs, and how many operations it has done.
@@ -53,6 +55,7 @@ fn thread_seats<S: Drop>(
             seats.push(HeldSeat {
                 seat,
                 running: None,
+                unused: [0; 8],
             })?;
         }
     }

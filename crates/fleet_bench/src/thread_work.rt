@@ -39,6 +39,7 @@ pub fn work_in_turn<S: DrawnSeat + Drop, R: Wait>(
 }
 
 /// Does the operation of this number of a thread, on its CPUs in turn.
+#[inline(always)]
 fn step<S: DrawnSeat + Drop, R: Wait>(
     rt: &R,
     fleet: &S::Fleet,

@@ -4,7 +4,7 @@ ghost use Rattle.std.specs.Prelude.{◌≡◌, ◌*◌, length};
 
 use crate::agreement::same_queues;
 use crate::asked_run::AskedRun;
-use crate::drawn_seat::{Came, Refused};
+use crate::drawn_seat::{Came, DrawnSeat, Refused};
 use crate::endless_run::closed;
 use crate::fleet_run::{quota, rings};
 use crate::one_place::all_stand_once;
@@ -12,9 +12,9 @@ use crate::run_fault::RunFault;
 use crate::run_report::Report;
 use crate::thread_seats::{seats_by_thread, seats_of};
 use crate::thread_work::work_in_turn;
-use eevdf_fleet::{Fleet, Kit, Names, Seat, endless};
+use eevdf_fleet::{Fleet, Kit, Names, endless};
 use eevdf_ops::{Outcome, Setup};
-use std::alloc::Global;
+use std::alloc::{AllocError, Global};
 use std::marker::Brand;
 use std::sync::Wait;
 
@@ -51,15 +51,7 @@ fn kept_twin<N: Names, R: Wait>(
     requires { kit ≡ N.kit }
 {
     let (fleet, seats) = Fleet::<N>::open(alloc, kit)?;
-    let mut threads = seats_by_thread(alloc, run, seats)?;
-    let came = work_in_turn::<Seat<N>, R>(
-        rt,
-        alloc,
-        &fleet,
-        run.operations,
-        threads.as_mut_slice(),
-    )?;
-    let seats = seats_of(alloc, threads)?;
+    let (came, seats) = came_of(rt, alloc, run, &fleet, seats)?;
     if !fleet.has_all_seats(&seats) {
         return Err(RunFault::Seats);
     }
@@ -77,16 +69,22 @@ fn endless_twin<N: Names, R: Wait>(
     requires { kit ≡ N.kit }
 {
     let (fleet, seats) = endless::Fleet::<N>::open(alloc, kit)?;
-    let mut threads = seats_by_thread(alloc, run, seats)?;
-    let came = work_in_turn::<endless::Seat<N>, R>(
-        rt,
-        alloc,
-        &fleet,
-        run.operations,
-        threads.as_mut_slice(),
-    )?;
-    let outcome = closed(alloc, fleet, seats_of(alloc, threads)?)?;
+    let (came, seats) = came_of(rt, alloc, run, &fleet, seats)?;
+    let outcome = closed(alloc, fleet, seats)?;
     Ok(Twin { came, outcome })
+}
+
+/// Does the operations of a run with a fleet's seats, and gives what came of each, and the seats back.
+fn came_of<S: DrawnSeat + Drop, R: Wait>(
+    rt: &R,
+    alloc: Global,
+    run: &AskedRun,
+    fleet: &S::Fleet,
+    seats: Vec<S>,
+) -> Result<(Vec<Result<Came, Refused>>, Vec<S>), AllocError> {
+    let mut threads = seats_by_thread(alloc, run, seats)?;
+    let came = work_in_turn(rt, alloc, fleet, run.operations, threads.as_mut_slice())?;
+    Ok((came, seats_of(alloc, threads)?))
 }
 
 /// Whether the same came of the operations, and the queues and the requests that are left are the same.

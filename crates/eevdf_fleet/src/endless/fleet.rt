@@ -15,6 +15,7 @@ use crate::endless::seat::{Seat, parts_in, seats_of};
 use crate::gate::OpenGate;
 use crate::names::Names;
 use crate::run_queues::RunQueues;
+use crossbeam_utils::CachePadded;
 use eevdf_ops::{Answer, CpuId, Deed};
 use eevdf_queue::TaskId;
 use eevdf_weight::{Nice, Ns};
@@ -26,7 +27,7 @@ use std::sync::Wait;
 /// write.
 #[derive(Drop)]
 pub struct Fleet<N: Names> {
-    queues: RunQueues<N>,
+    queues: CachePadded<RunQueues<N>>,
 }
 
 impl<N: Names> Model for Fleet<N> {
@@ -48,6 +49,7 @@ impl<N: Names> Fleet<N> {
     {
         let (queues, parts) = RunQueues::<N>::open(alloc, kit.parts)?;
         let seats = seats_of(alloc, parts)?;
+        let queues = CachePadded::new(queues);
         Ok((Fleet { queues }, seats))
     }
 
@@ -125,6 +127,7 @@ impl<N: Names> Fleet<N> {
     }
 
     /// Does a deed of the seat's CPU that isn't a wake.
+    #[inline(always)]
     fn operate<R: Wait>(&self, rt: &R, seat: &mut Seat<N>, deed: Deed) -> Answer
         requires no_wake { IsNoWake deed }
         requires own { decider deed ≡ seat.old.cpu }
@@ -193,7 +196,7 @@ impl<N: Names> Fleet<N> {
         ensures { AreOfOneHistory (setup_of N.kit) seats.items
             (machine_of result.queues.items) (map (λ l. l.items) result.left.items) }
     {
-        let (closing, room) = self.queues.into_closing();
+        let (closing, room) = self.queues.into_inner().into_closing();
         let ClosedQueues {
             lines: _,
             queues,

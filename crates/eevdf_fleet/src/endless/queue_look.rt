@@ -5,7 +5,8 @@ use std::marker::Model;
 use std::sync::MutexGuard;
 
 /// A look at a CPU's queue, which is locked for as long as it lasts: contracts see the queue. While a thread has one, no operation on
-/// that CPU goes on, and the thread itself would wait for good for one that needs the queue's lock, or that of a CPU of a lower number.
+/// that CPU goes on. The thread itself would wait for good for an operation that needs the queue's lock, and may wait for good for one
+/// that needs the lock of a CPU of a lower number: another thread may hold that one and wait for the look's.
 #[derive(Drop)]
 pub struct QueueLook<'a, N: Names> {
     pub(super) guard: MutexGuard<'a, Slot<N>>,

@@ -13,6 +13,10 @@ use std::alloc::{AllocError, Global};
 use std::marker::Model;
 use std::snapshot::Snapshot;
 
+/// Each list of ends has room for so many more than it needs. This keeps the ends that one thread writes to off the cache lines of those
+/// of another thread.
+const UNUSED_ENDS: usize = 4;
+
 /// A ring for each pair of a sender and a home, into which nothing was posted.
 #[derive(Drop)]
 pub(crate) struct Rings {
@@ -103,7 +107,7 @@ fn no_consumers(alloc: Global, cpus: usize) -> Result<Vec<Vec<PopEnd>>, AllocErr
 {
     let mut columns = Vec::with_capacity(alloc, cpus)?;
     for _ in 0..cpus {
-        columns.push(Vec::with_capacity(alloc, cpus)?)?;
+        columns.push(Vec::with_capacity(alloc, cpus.saturating_add(UNUSED_ENDS))?)?;
     }
     Ok(columns)
 }
@@ -120,7 +124,7 @@ fn open_row(
         (lists_of columns.old.items) (lists_of columns.new.items)) }
 {
     let slots = slots_for(capacity);
-    let mut row = Vec::with_capacity(alloc, columns.len())?;
+    let mut row = Vec::with_capacity(alloc, columns.len().saturating_add(UNUSED_ENDS))?;
     for home in 0..columns.len() {
         let (producer, consumer) = open_ring(alloc, slots, home, homes)?;
         row.push(producer)?;

@@ -7,11 +7,11 @@ use Rattle.eevdf_fleet.proofs.commit.commit_in_journal.Goals as goal
 pub push_reserved-requires : goal.push_reserved-requires
 push_reserved-requires g c =
     let t = g.N.Names.kit.terms in
-    let l = c.args.said.now.line in
+    let l = c.args.said.line in
     let all = c.journal.inside.lines.items in
-    let claims : claims_of c.commit-token.result ≡ Journal (all ++ l ∷ []) ∷ held (map (advanced c.args.said.now) (claims_of c.args.queues)) =
-    c.commit-token.ensures.claims ∙ ap (λ (cs : List Claim). held (map (advanced c.args.said.now) cs))
+    let claims : claims_of c.commit-token.result ≡ Journal (all ++ l ∷ []) ∷ held (map (advanced c.args.said) (claims_of c.args.queues)) =
+    c.commit-token.ensures.claims ∙ ap (λ (cs : List Claim). held (map (advanced c.args.said) cs))
     (c.join-token.ensures.claims ∙ ap (λ (cs : List Claim). cs ++ claims_of c.args.queues) (ap claims_of c.replace-all.ensures.value ∙ c.journal.invariant.1)) in
-    let known : Known t c.commit-token.new.log.seen (Journal (all ++ l ∷ []) ∷ held (map (advanced c.args.said.now) (claims_of c.args.queues))) =
+    let known : Known t c.commit-token.new.log.seen (Journal (all ++ l ∷ []) ∷ held (map (advanced c.args.said) (claims_of c.args.queues))) =
     subst (λ (cs : List Claim). Known t c.commit-token.new.log.seen cs) claims c.commit-token.ensures.known in
     omega (arith, journal-room t c.commit-token.new.log.seen all l _ known.kept c.journal.invariant.2 known.tell.0, c.journal.inside.lines.ok.0)
