@@ -1,0 +1,13 @@
+pub mod Scaled
+pub mod EntrySums
+pub mod Growing
+pub mod Rooms
+pub mod Turning
+pub mod Owed
+pub mod Fairness
+pub mod Passing
+pub mod Shares
+pub mod OneCpu
+pub mod Opening
+pub mod Healing
+pub mod Joining

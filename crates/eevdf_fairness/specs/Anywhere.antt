@@ -1,0 +1,27 @@
+-- What turns come to from any state of a queue, whatever was done to it before.
+use Rattle.std.specs.Prelude.{◌≡◌, ℕ, ℤ, pos, ◌+ℤ◌, ◌*ℤ◌, ◌≤ℤ◌, ◌<ℤ◌, List, Some}
+use Rattle.std.specs.{Int.int_max, FinMap.get}
+use Rattle.eevdf_queue.specs.{declared.entry.Entry.Entry, State.State}
+use Rattle.eevdf_queue.specs.Sums.{Tasks, total_weight, total_moment}
+use Rattle.eevdf_fairness.specs.{Turns.AreNoLonger, Turns.Turn, Turns.after_turns, Fair.NoneIsFarPast, Fair.IsNotLate, Fair.IsNotAhead, Fair.turns_of_others}
+
+-- no virtual runtime is past the front
+abbrev pub NoneIsPast : ℤ → Tasks → Type 0
+NoneIsPast front tasks = (t : ℕ) (e : Entry) → get tasks t ≡ Some e → e.v ≤ℤ front
+
+-- fair, counted from the front where the deadline lies before that, and for a task that is past the front
+pub record IsFairPast (front : ℤ) (ns : ℕ) (tasks : Tasks) (e : Entry) : Type 0 where
+  pub past : NoneIsFarPast ns tasks (int_max e.d front)
+  pub late : IsNotLate ns tasks (int_max e.d front)
+  pub ahead : front <ℤ e.v → IsNotAhead ns tasks e
+  -- once the virtual time is past the front by more than the others' turns, so is every deadline, and none is counted from it any more
+  pub healed : ((front *ℤ pos (total_weight tasks)) +ℤ pos (turns_of_others ns tasks)) <ℤ total_moment tasks → front <ℤ e.d
+
+abbrev pub AllAreFairPast : ℤ → ℕ → Tasks → Type 0
+AllAreFairPast front ns tasks = (t : ℕ) (e : Entry) → get tasks t ≡ Some e → IsFairPast front ns tasks e
+
+-- from any state, with any front that no virtual runtime is past in it, after any list of turns none of which is longer
+abbrev pub TurnsAreFairAnywhere : Type 0
+TurnsAreFairAnywhere =
+    (q : State) (front : ℤ) (ns : ℕ) (turns : List Turn) → NoneIsPast front q.runnable → AreNoLonger ns turns
+    → AllAreFairPast front ns (after_turns q turns).runnable

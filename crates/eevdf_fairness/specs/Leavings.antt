@@ -1,0 +1,42 @@
+-- Turns between which tasks leave, as by a sleep, or by a pull of another CPU.
+use Rattle.std.specs.Prelude.{◌≡◌, ℕ, ◌+◌, ◌≤◌, ℤ, pos, ◌+ℤ◌, ◌≤ℤ◌, List, [], ◌∷◌, Some}
+use Rattle.std.specs.FinMap.{get}
+use Rattle.eevdf_weight.specs.{Weight.weight_of, Charge.charge_of}
+use Rattle.eevdf_queue.specs.{declared.entry.Entry.Entry, State.State, Moves.request_of, Sums.Tasks, Leaving.leave}
+use Rattle.eevdf_fairness.specs.Turns.{Turn, turn_length, IsFresh, after_turn}
+use Rattle.eevdf_fairness.specs.Fair.{NoneIsFarPast, IsNotLate, IsNotBehind}
+
+-- a turn, or a task that leaves, whether it runs or waits
+pub data Step : Type 0 where
+  Takes : Turn → Step
+  Leaves : ℕ → Step
+
+abbrev pub after_steps : State → List Step → State
+after_steps q [] = q
+after_steps q (Takes turn ∷ steps) = after_steps (after_turn q turn) steps
+after_steps q (Leaves task ∷ steps) = after_steps (leave q task) steps
+
+-- no turn among them runs longer than this
+abbrev pub HaveNoLongerTurns : ℕ → List Step → Type 0
+HaveNoLongerTurns ns [] = Unit {0}
+HaveNoLongerTurns ns (Takes turn ∷ steps) = (turn_length turn ≤ ns) × HaveNoLongerTurns ns steps
+HaveNoLongerTurns ns (Leaves task ∷ steps) = HaveNoLongerTurns ns steps
+
+-- the task isn't past another by more than the charge of a turn and the other's request; so it isn't past the mean by more than
+-- such a charge and the greatest request
+abbrev pub IsNotFarPastOthers : ℕ → Tasks → Entry → Type 0
+IsNotFarPastOthers ns tasks e =
+    (u : ℕ) (f : Entry) → get tasks u ≡ Some f → e.v ≤ℤ (f.v +ℤ pos (request_of f.nice f.slice + charge_of ns (weight_of e.nice)))
+
+pub record IsStillFair (ns : ℕ) (tasks : Tasks) (e : Entry) : Type 0 where
+  pub past : NoneIsFarPast ns tasks e.d
+  pub late : IsNotLate ns tasks e.d
+  pub behind : IsNotBehind ns tasks e
+  pub apart : IsNotFarPastOthers ns tasks e
+
+-- from a fresh start, after any list of turns and leavings, of the tasks that are left no request is late, none is behind, and no
+-- two are far apart
+abbrev pub LeavingsKeepFair : Type 0
+LeavingsKeepFair =
+    (q : State) (v : ℤ) (ns : ℕ) (steps : List Step) → IsFresh v q.runnable → HaveNoLongerTurns ns steps
+    → (t : ℕ) (e : Entry) → get (after_steps q steps).runnable t ≡ Some e → IsStillFair ns (after_steps q steps).runnable e

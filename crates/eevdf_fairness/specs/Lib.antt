@@ -1,0 +1,11 @@
+pub mod Turns
+pub mod Keeping
+pub mod Fair
+pub mod Leavings
+pub mod Anywhere
+pub mod Tallies
+pub mod Share
+pub mod OneCpu
+pub mod Opening
+pub mod Healing
+pub mod Joining

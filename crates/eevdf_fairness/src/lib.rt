@@ -1,0 +1,10 @@
+//! How fair the turns of a queue are: laws of the model of eevdf_queue, on any list of picks with their ticks.
+//!
+//! A turn is a pick, and then ticks of the task picked. Each function of [`laws`] does nothing; what it says is its contract.
+//! [`take_turns`] takes turns.
+#![tactic(auto)]
+
+pub mod laws;
+mod turns;
+
+pub use turns::{take_turn, take_turns};
