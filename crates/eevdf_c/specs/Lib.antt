@@ -1,0 +1,13 @@
+pub mod Codes
+pub mod Turns
+pub mod Tick
+pub mod Yield
+pub mod Wake
+pub mod Renice
+pub mod Admit
+pub mod Leaving
+pub mod Hands
+pub mod Readers
+pub mod EntryOut
+pub mod Errors
+pub mod Memory

@@ -1,0 +1,34 @@
+-- What lies at the pointers that C hands over.
+use Rattle.std.specs.Prelude.{ℤ, Option}
+use Rattle.std.specs.Borrow.{Fml, full_share}
+use Rattle.std.specs.Ptr.{Ptr, lies_at, room_at}
+use Rattle.eevdf_queue.specs.State.{State, Contents}
+use denote.Builtin.{i64}
+use Rattle.eevdf_c.specs.contracts.entry_out.EntryOut as entry_type
+use Rattle.eevdf_c.specs.declared.entry_out.EntryOut.{EntryOut}
+use Rattle.eevdf_c.specs.contracts.opened.Opened as opened_type
+use Rattle.eevdf_c.specs.contracts.hand.Hand as hand_type
+
+-- an opened queue, which nobody else uses
+abbrev pub queue_at : Ptr → State → Fml
+queue_at at q = lies_at opened_type.the_row full_share at q
+
+-- as many bytes as an opened queue has, aligned as it is, which nobody else uses, whatever is in them
+abbrev pub room_for_queue : Ptr → Fml
+room_for_queue at = room_at opened_type.the_row at
+
+-- an opened hand, which nobody else uses
+abbrev pub hand_at : Ptr → Option Contents → Fml
+hand_at at h = lies_at hand_type.the_row full_share at h
+
+-- the room of a hand
+abbrev pub room_for_hand : Ptr → Fml
+room_for_hand at = room_at hand_type.the_row at
+
+-- a number of 64 bits, which nobody else uses
+abbrev pub number_at : Ptr → ℤ → Fml
+number_at at z = lies_at i64 full_share at z
+
+-- an entry, which nobody else uses
+abbrev pub entry_at : Ptr → EntryOut → Fml
+entry_at at e = lies_at entry_type.the_row full_share at e

@@ -1,0 +1,9 @@
+//! What each call does, on the queue or the hand itself: its contract gives the code that is answered and the state afterwards.
+
+pub mod carrying;
+pub mod changing;
+pub mod closing;
+pub mod coming;
+pub mod leaving;
+pub mod reading;
+pub mod turns;

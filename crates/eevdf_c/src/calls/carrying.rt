@@ -1,0 +1,91 @@
+//! A task in the caller's hand, on its way between two queues.
+
+ghost use Rattle.std.specs.Prelude.{◌≡◌, None};
+ghost use Rattle.eevdf_c.specs.Errors.{BothKeepOnError};
+ghost use Rattle.eevdf_c.specs.Hands as hands;
+
+use crate::calls::coming::refusal_code;
+use crate::calls::leaving::taken_out;
+use crate::codes::{ABSENT, BUSY, DONE, INVALID, PRESENT};
+use crate::hand::Hand;
+use crate::opened::Opened;
+use eevdf_queue::{Refused, TaskId};
+
+/// The number of the task in a hand.
+pub fn hand_task(hand: &Hand) -> i64
+    ensures { result ≡ hands.hand_task hand.now }
+{
+    match &hand.parcel {
+        Some(parcel) => parcel.task().get() as i64,
+        None => ABSENT,
+    }
+}
+
+/// Ends the task in a hand, if there is one.
+pub fn hand_close(hand: &mut Hand)
+    ensures { hand.new ≡ None }
+{
+    hand.close();
+}
+
+/// A task goes from a queue into an empty hand, with its lag.
+#[tactic(auto, using(crate::proofs::Unchanged::take_keeps))]
+pub fn take(opened: &mut Opened, hand: &mut Hand, number: u64) -> i64
+    ensures answer { result ≡ (hands.take opened.old hand.old number).answer }
+    ensures queue { opened.new ≡ (hands.take opened.old hand.old number).queue }
+    ensures hand { hand.new ≡ (hands.take opened.old hand.old number).hand }
+    ensures kept { BothKeepOnError opened.old hand.old (hands.take opened.old hand.old number) }
+{
+    let Some(task) = TaskId::new(number) else {
+        return INVALID;
+    };
+    if hand.parcel.is_some() {
+        return BUSY;
+    }
+    match taken_out(&mut opened.queue, task) {
+        Some(taken) => {
+            hand.fill(taken);
+            DONE
+        }
+        None => ABSENT,
+    }
+}
+
+/// The task of a hand becomes runnable, placed with its lag.
+#[tactic(auto, using(crate::proofs::Unchanged::put_keeps))]
+pub fn put(opened: &mut Opened, hand: &mut Hand) -> i64
+    ensures answer { result ≡ (hands.put opened.old hand.old).answer }
+    ensures queue { opened.new ≡ (hands.put opened.old hand.old).queue }
+    ensures hand { hand.new ≡ (hands.put opened.old hand.old).hand }
+    ensures kept { BothKeepOnError opened.old hand.old (hands.put opened.old hand.old) }
+{
+    let Some(parcel) = hand.parcel.take() else {
+        return ABSENT;
+    };
+    match opened.queue.try_attach(parcel) {
+        Ok(()) => DONE,
+        Err(Refused { parcel, reason }) => {
+            hand.fill(parcel);
+            refusal_code(reason)
+        }
+    }
+}
+
+/// The task of a hand falls asleep, with its lag.
+#[tactic(auto, using(crate::proofs::Unchanged::put_asleep_keeps))]
+pub fn put_asleep(opened: &mut Opened, hand: &mut Hand) -> i64
+    ensures answer { result ≡ (hands.put_asleep opened.old hand.old).answer }
+    ensures queue { opened.new ≡ (hands.put_asleep opened.old hand.old).queue }
+    ensures hand { hand.new ≡ (hands.put_asleep opened.old hand.old).hand }
+    ensures kept { BothKeepOnError opened.old hand.old (hands.put_asleep opened.old hand.old) }
+{
+    let Some(held) = hand.parcel.take() else {
+        return ABSENT;
+    };
+    if opened.queue.contains(held.task()) {
+        hand.fill(held);
+        return PRESENT;
+    }
+    opened.queue.put_asleep(held);
+    DONE
+}

@@ -1,0 +1,76 @@
+//! How a task falls asleep or leaves.
+
+ghost use Rattle.std.specs.Prelude.{◌≡◌, Some};
+ghost use Rattle.eevdf_c.specs.Errors.{KeepsOnError};
+ghost use Rattle.eevdf_c.specs.Leaving as leaving;
+
+use crate::codes::{ABSENT, DONE, INVALID};
+use crate::opened::Opened;
+use eevdf_queue::{Parcel, Queue, TaskId};
+
+/// The running task falls asleep, with the lag that it keeps.
+#[tactic(auto, using(crate::proofs::Unchanged::sleep_keeps))]
+pub fn sleep(opened: &mut Opened, number: u64) -> i64
+    ensures answer { result ≡ (leaving.sleep opened.old number).0 }
+    ensures after { opened.new ≡ (leaving.sleep opened.old number).1 }
+    ensures kept { KeepsOnError opened.old (leaving.sleep opened.old number) }
+{
+    match TaskId::new(number) {
+        Some(task) => sleep_task(&mut opened.queue, task),
+        None => INVALID,
+    }
+}
+
+fn sleep_task(queue: &mut Queue, task: TaskId) -> i64
+    ensures answer { result ≡ (leaving.sleep_by queue.old.state (Some task)).0 }
+    ensures after { queue.new.state ≡ (leaving.sleep_by queue.old.state (Some task)).1 }
+{
+    match queue.detach_running(task) {
+        Some(parcel) => {
+            queue.put_asleep(parcel);
+            DONE
+        }
+        None => ABSENT,
+    }
+}
+
+/// A task ends, runnable or asleep.
+#[tactic(auto, using(crate::proofs::Unchanged::end_keeps))]
+pub fn end(opened: &mut Opened, number: u64) -> i64
+    ensures answer { result ≡ (leaving.end opened.old number).0 }
+    ensures after { opened.new ≡ (leaving.end opened.old number).1 }
+    ensures kept { KeepsOnError opened.old (leaving.end opened.old number) }
+{
+    match TaskId::new(number) {
+        Some(task) => end_task(&mut opened.queue, task),
+        None => INVALID,
+    }
+}
+
+/// Ends a task, where it is here.
+pub fn end_task(queue: &mut Queue, task: TaskId) -> i64
+    ensures answer { result ≡ (leaving.end_by queue.old.state (Some task)).0 }
+    ensures after { queue.new.state ≡ (leaving.end_by queue.old.state (Some task)).1 }
+{
+    match taken_out(queue, task) {
+        Some(parcel) => {
+            parcel.retire();
+            DONE
+        }
+        None => ABSENT,
+    }
+}
+
+/// Takes out a task, running, runnable or asleep, with its lag. `None` where it isn't here, and then nothing has changed.
+pub fn taken_out(queue: &mut Queue, task: TaskId) -> Option<Parcel>
+    ensures parcel { result ≡ leaving.carried_out queue.old.state task }
+    ensures after { queue.new.state ≡ leaving.gone queue.old.state task }
+{
+    if let Some(parcel) = queue.detach_running(task) {
+        return Some(parcel);
+    }
+    if queue.entry(task).is_some() {
+        return Some(queue.detach(task));
+    }
+    queue.detach_asleep(task)
+}

@@ -1,0 +1,85 @@
+//! Who runs, and what is charged.
+
+ghost use Rattle.std.specs.Prelude.{◌≡◌, ◌↔◌, ℕ, pos};
+ghost use Rattle.std.specs.FinMap as map;
+ghost use Rattle.eevdf_queue.specs.Pick.{IsPick};
+ghost use Rattle.eevdf_c.specs.Codes.{absent};
+ghost use Rattle.eevdf_c.specs.Errors.{KeepsOnError};
+ghost use Rattle.eevdf_c.specs.Turns as turns;
+ghost use Rattle.eevdf_c.specs.Tick as ticks;
+ghost use Rattle.eevdf_c.specs.Yield as yields;
+
+use crate::codes::{ABSENT, DONE, INVALID, RANGE, TIME_TO_PICK};
+use crate::opened::Opened;
+use eevdf_queue::{TaskId, TickAnswer, YieldAnswer};
+use eevdf_weight::Ns;
+
+/// The number of a task, and `ABSENT` where there is none.
+pub fn task_or_absent(task: Option<TaskId>) -> i64
+    ensures { result ≡ turns.task_code task }
+{
+    match task {
+        Some(task) => task.get() as i64,
+        None => ABSENT,
+    }
+}
+
+/// Lets the eligible task of earliest virtual deadline run.
+#[tactic(auto, using(crate::proofs::Unchanged::pick_keeps, crate::proofs::PickCodes::absent_of_none, crate::proofs::PickCodes::picked_of_code))]
+pub fn pick(opened: &mut Opened) -> i64
+    ensures answer { result ≡ (turns.pick opened.old).0 }
+    ensures after { opened.new ≡ (turns.pick opened.old).1 }
+    ensures picked { (t : ℕ) → result ≡ pos t → IsPick opened.old.runnable t }
+    ensures nobody { (result ≡ absent) ↔ (opened.old.runnable ≡ map.empty) }
+    ensures kept { KeepsOnError opened.old (turns.pick opened.old) }
+{
+    task_or_absent(opened.queue.pick())
+}
+
+/// Lets nobody run.
+#[tactic(auto, using(crate::proofs::Unchanged::stop_keeps))]
+pub fn stop(opened: &mut Opened) -> i64
+    ensures answer { result ≡ (turns.stop opened.old).0 }
+    ensures after { opened.new ≡ (turns.stop opened.old).1 }
+    ensures kept { KeepsOnError opened.old (turns.stop opened.old) }
+{
+    task_or_absent(opened.queue.stop_running())
+}
+
+/// Charges the running task for `ns` nanoseconds.
+#[tactic(auto, using(crate::proofs::Unchanged::tick_keeps))]
+pub fn tick(opened: &mut Opened, ns: u64) -> i64
+    ensures answer { result ≡ (ticks.tick opened.old ns).0 }
+    ensures after { opened.new ≡ (ticks.tick opened.old ns).1 }
+    ensures kept { KeepsOnError opened.old (ticks.tick opened.old ns) }
+{
+    match Ns::new(ns) {
+        Some(ns) => tick_code(opened.queue.tick(ns)),
+        None => INVALID,
+    }
+}
+
+fn tick_code(answer: TickAnswer) -> i64
+    ensures { result ≡ ticks.tick_code answer }
+{
+    match answer {
+        TickAnswer::Charged { resched: true, .. } => TIME_TO_PICK,
+        TickAnswer::Charged { resched: false, .. } => DONE,
+        TickAnswer::Idle => ABSENT,
+        TickAnswer::Range => RANGE,
+    }
+}
+
+/// Makes the running task's deadline one request later.
+#[tactic(auto, using(crate::proofs::Unchanged::yield_keeps))]
+pub fn yield_now(opened: &mut Opened) -> i64
+    ensures answer { result ≡ (yields.yield_now opened.old).0 }
+    ensures after { opened.new ≡ (yields.yield_now opened.old).1 }
+    ensures kept { KeepsOnError opened.old (yields.yield_now opened.old) }
+{
+    match opened.queue.yield_now() {
+        YieldAnswer::Yielded => DONE,
+        YieldAnswer::Idle => ABSENT,
+        YieldAnswer::Range => RANGE,
+    }
+}

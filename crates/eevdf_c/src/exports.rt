@@ -1,0 +1,8 @@
+//! What C calls, one line each: the pointers become references, and the work is done by [`crate::calls`].
+
+pub mod hands;
+pub mod opening;
+pub mod readers;
+pub mod tasks;
+pub mod turns;
+pub mod version;

@@ -1,0 +1,92 @@
+//! A task on its way between two queues, in the caller's hand.
+
+ghost use Rattle.std.specs.Prelude.{◌≡◌, Option, None};
+ghost use Rattle.std.specs.Borrow.{sem};
+ghost use Rattle.eevdf_queue.specs.State.{State, Contents};
+ghost use Rattle.eevdf_c.specs.Memory.{hand_at, queue_at, room_for_hand};
+ghost use Rattle.eevdf_c.specs.Errors.{BothKeepOnError};
+ghost use Rattle.eevdf_c.specs.Hands as hands;
+
+use crate::calls;
+use crate::hand::Hand;
+use crate::opened::Opened;
+
+/// Opens an empty hand in memory of the caller's. Takes no memory.
+#[unsafe(no_mangle)]
+pub unsafe extern "C" fn eevdf_hand_open(hand: *mut u8)
+    requires* { sem 𝓛 (room_for_hand hand) }
+    ensures* { sem 𝓛 (hand_at hand None) }
+{
+    (hand as *mut Hand).write(Hand::open());
+}
+
+/// The task in a hand. `ABSENT`: it is empty.
+#[unsafe(no_mangle)]
+pub unsafe extern "C" fn eevdf_hand_task(hand: *const u8) -> i64
+    ghost h: { Option Contents }
+    requires* { sem 𝓛 (hand_at hand h) }
+    ensures* after { sem 𝓛 (hand_at hand h) }
+    ensures answer { result ≡ hands.hand_task h }
+{
+    calls::carrying::hand_task(&*(hand as *const Hand))
+}
+
+/// Ends the task in a hand, if there is one, and gives its memory back. The hand is then empty.
+#[unsafe(no_mangle)]
+pub unsafe extern "C" fn eevdf_hand_close(hand: *mut u8)
+    ghost h: { Option Contents }
+    requires* { sem 𝓛 (hand_at hand h) }
+    ensures* { sem 𝓛 (hand_at hand None) }
+{
+    calls::carrying::hand_close(&mut *(hand as *mut Hand))
+}
+
+/// A task, running, runnable or asleep, goes from a queue into an empty hand, with its lag. Answers 0. `INVALID`: no task has the
+/// number; `BUSY`: the hand is full; `ABSENT`: the task isn't here.
+#[unsafe(no_mangle)]
+pub unsafe extern "C" fn eevdf_take(queue: *mut u8, hand: *mut u8, task: u64) -> i64
+    ghost g: { State × Option Contents }
+    requires* queue { sem 𝓛 (queue_at queue g.0) }
+    requires* hand { sem 𝓛 (hand_at hand g.1) }
+    ensures* queue { sem 𝓛 (queue_at queue (hands.take g.0 g.1 task).queue) }
+    ensures* hand { sem 𝓛 (hand_at hand (hands.take g.0 g.1 task).hand) }
+    ensures answer { result ≡ (hands.take g.0 g.1 task).answer }
+    ensures kept { BothKeepOnError g.0 g.1 (hands.take g.0 g.1 task) }
+{
+    calls::carrying::take(
+        &mut *(queue as *mut Opened),
+        &mut *(hand as *mut Hand),
+        task,
+    )
+}
+
+/// The task of a hand becomes runnable in a queue, placed with its lag. Answers 0, and the hand is empty. `ABSENT`: the hand is
+/// empty; `PRESENT`: the task is here already; `RANGE`: its runtime or deadline would be out of range. On an error the hand keeps
+/// the task.
+#[unsafe(no_mangle)]
+pub unsafe extern "C" fn eevdf_put(queue: *mut u8, hand: *mut u8) -> i64
+    ghost g: { State × Option Contents }
+    requires* queue { sem 𝓛 (queue_at queue g.0) }
+    requires* hand { sem 𝓛 (hand_at hand g.1) }
+    ensures* queue { sem 𝓛 (queue_at queue (hands.put g.0 g.1).queue) }
+    ensures* hand { sem 𝓛 (hand_at hand (hands.put g.0 g.1).hand) }
+    ensures answer { result ≡ (hands.put g.0 g.1).answer }
+    ensures kept { BothKeepOnError g.0 g.1 (hands.put g.0 g.1) }
+{
+    calls::carrying::put(&mut *(queue as *mut Opened), &mut *(hand as *mut Hand))
+}
+
+/// The task of a hand falls asleep in a queue, with its lag. Answers 0, and the hand is empty. `ABSENT`: the hand is empty;
+/// `PRESENT`: the task is here already, and the hand keeps it.
+#[unsafe(no_mangle)]
+pub unsafe extern "C" fn eevdf_put_asleep(queue: *mut u8, hand: *mut u8) -> i64
+    ghost g: { State × Option Contents }
+    requires* queue { sem 𝓛 (queue_at queue g.0) }
+    requires* hand { sem 𝓛 (hand_at hand g.1) }
+    ensures* queue { sem 𝓛 (queue_at queue (hands.put_asleep g.0 g.1).queue) }
+    ensures* hand { sem 𝓛 (hand_at hand (hands.put_asleep g.0 g.1).hand) }
+    ensures answer { result ≡ (hands.put_asleep g.0 g.1).answer }
+    ensures kept { BothKeepOnError g.0 g.1 (hands.put_asleep g.0 g.1) }
+{
+    calls::carrying::put_asleep(&mut *(queue as *mut Opened), &mut *(hand as *mut Hand))
+}
