@@ -1,0 +1,134 @@
+/* c_queue.c MIX TASKS TURNS: turns of calls of one queue through C, on the inputs of the program queue_bench, and the same checksum of the
+ * answers (docs/speed.md has both). The mixes are tick-pick and tick-sleep-pick-wake. */
+#include <eevdf.h>
+#include <inttypes.h>
+#include <stdio.h>
+#include <stdlib.h>
+#include <string.h>
+
+enum { DRAWN = 16384, WARM_UP = 4096 };
+
+static const uint64_t slices[] = { 100000,  300000,  700000,  1000000,  2000000,  3000000,
+				   3000000, 3000000, 6000000, 10000000, 20000000, 100000000 };
+static eevdf_queue queue;
+static uint64_t state, sum, lengths[DRAWN], sleepers[2 * EEVDF_TASKS];
+static size_t length_at, first_sleeper, last_sleeper;
+static int64_t running;
+
+/* The generator SplitMix64. */
+static uint64_t drawn(uint64_t below)
+{
+	uint64_t word = state += 0x9e3779b97f4a7c15u;
+
+	word = (word ^ word >> 30) * 0xbf58476d1ce4e5b9u;
+	word = (word ^ word >> 27) * 0x94d049bb133111ebu;
+	return (word ^ word >> 31) % below;
+}
+
+static int64_t drawn_nice(void)
+{
+	uint64_t kind = drawn(16);
+
+	if (kind < 7)
+		return 0;
+	return kind < 15 ? (int64_t)drawn(21) - 10 : (int64_t)drawn(40) - 20;
+}
+
+static void admit(uint64_t task, uint64_t tasks)
+{
+	int64_t nice = drawn_nice();
+	uint64_t slice = slices[drawn(12)];
+	int64_t start = (int64_t)drawn(10000000);
+
+	eevdf_admit(&queue, task, tasks == 1 ? 0 : nice, tasks == 1 ? 3000000 : slice, start);
+}
+
+/* Beside each length queue_bench draws a task and a nice level for other mixes. */
+static void draw_lengths(uint64_t tasks)
+{
+	for (size_t at = 0; at < DRAWN; at++) {
+		lengths[at] = 1 + drawn(2000000);
+		drawn(tasks);
+		drawn(21);
+	}
+}
+
+static inline void add(int64_t answer)
+{
+	sum = sum * 31 + (uint32_t)answer;
+}
+
+/* 0 where nobody runs, 1 where the running task is charged, 2 where its request is used up, 3 where it can't be. */
+static inline void tick(uint64_t ns)
+{
+	int64_t answer = eevdf_tick(&queue, ns);
+
+	add(answer >= 0 ? answer + 1 : answer == EEVDF_ABSENT ? 0 : 3);
+}
+
+static inline void pick(void)
+{
+	running = eevdf_pick(&queue);
+	add(running >= 0 ? running : -1);
+}
+
+static inline uint64_t length(void)
+{
+	return lengths[length_at++ % DRAWN];
+}
+
+static void sleep_pick(void)
+{
+	eevdf_sleep(&queue, (uint64_t)running);
+	sleepers[last_sleeper++ % (2 * EEVDF_TASKS)] = (uint64_t)running;
+	pick();
+}
+
+static void sleep_pick_wake(void)
+{
+	sleep_pick();
+	eevdf_wake(&queue, sleepers[first_sleeper++ % (2 * EEVDF_TASKS)]);
+	if (running < 0)
+		pick();
+}
+
+static void open_queue(uint64_t tasks)
+{
+	state = 0x45455644462d3031u + tasks;
+	eevdf_open(&queue);
+	for (uint64_t task = 0; task < tasks; task++)
+		admit(task, tasks);
+	draw_lengths(tasks);
+	running = eevdf_pick(&queue);
+	for (size_t at = 0; at < WARM_UP; at++) {
+		tick(lengths[at]);
+		pick();
+	}
+}
+
+int main(int count, char **words)
+{
+	uint64_t tasks, turns;
+
+	if (count != 4)
+		return 2;
+	tasks = strtoul(words[2], NULL, 10);
+	turns = strtoul(words[3], NULL, 10);
+	open_queue(tasks);
+	if (strcmp(words[1], "tick-pick") == 0) {
+		for (; turns > 0; turns--) {
+			tick(length());
+			pick();
+		}
+	} else {
+		for (uint64_t at = 0; at < tasks / 8; at++)
+			sleep_pick();
+		for (; turns > 0; turns--) {
+			tick(length());
+			sleep_pick_wake();
+		}
+	}
+	printf("%016" PRIx64 "\n", sum);
+	eevdf_close(&queue);
+	return 0;
+}

@@ -1,0 +1,23 @@
+//! Finds the library: in the folder that EEVDF_LIB_DIR names, or else by pkg-config.
+
+use std::env;
+use std::process::Command;
+
+fn main() {
+    println!("cargo:rerun-if-env-changed=EEVDF_LIB_DIR");
+    println!("cargo:rerun-if-env-changed=PKG_CONFIG_PATH");
+    let folder = env::var("EEVDF_LIB_DIR").unwrap_or_else(|_| asked_of_pkg_config());
+    println!("cargo:rustc-link-search=native={folder}");
+    println!("cargo:rustc-link-lib=static=eevdf");
+    if env::var_os("CARGO_FEATURE_MALLOC").is_some() {
+        println!("cargo:rustc-link-lib=static=eevdf_malloc");
+    }
+}
+
+fn asked_of_pkg_config() -> String {
+    let asked = Command::new("pkg-config").args(["--variable=libdir", "eevdf"]).output();
+    match asked {
+        Ok(said) if said.status.success() => String::from_utf8_lossy(&said.stdout).trim().to_string(),
+        _ => panic!("eevdf: set EEVDF_LIB_DIR to the folder of libeevdf.a, or let pkg-config find eevdf.pc"),
+    }
+}

@@ -1,0 +1,35 @@
+//! The calls of eevdf.h.
+
+use crate::queue::Entry;
+use core::ffi::c_void;
+
+extern "C" {
+    pub fn eevdf_version() -> i64;
+    pub fn eevdf_open(queue: *mut c_void);
+    pub fn eevdf_close(queue: *mut c_void);
+    pub fn eevdf_admit(queue: *mut c_void, task: u64, nice: i64, slice_ns: u64, start: i64) -> i64;
+    pub fn eevdf_pick(queue: *mut c_void) -> i64;
+    pub fn eevdf_tick(queue: *mut c_void, ns: u64) -> i64;
+    pub fn eevdf_yield(queue: *mut c_void) -> i64;
+    pub fn eevdf_stop(queue: *mut c_void) -> i64;
+    pub fn eevdf_sleep(queue: *mut c_void, task: u64) -> i64;
+    pub fn eevdf_wake(queue: *mut c_void, task: u64) -> i64;
+    pub fn eevdf_end(queue: *mut c_void, task: u64) -> i64;
+    pub fn eevdf_renice(queue: *mut c_void, task: u64, nice: i64) -> i64;
+    pub fn eevdf_hand_open(hand: *mut c_void);
+    pub fn eevdf_hand_task(hand: *const c_void) -> i64;
+    pub fn eevdf_hand_close(hand: *mut c_void);
+    pub fn eevdf_take(queue: *mut c_void, hand: *mut c_void, task: u64) -> i64;
+    pub fn eevdf_put(queue: *mut c_void, hand: *mut c_void) -> i64;
+    pub fn eevdf_put_asleep(queue: *mut c_void, hand: *mut c_void) -> i64;
+    pub fn eevdf_len(queue: *const c_void) -> i64;
+    pub fn eevdf_load(queue: *const c_void) -> i64;
+    pub fn eevdf_floor_time(queue: *const c_void, time: *mut i64) -> i64;
+    pub fn eevdf_running(queue: *const c_void) -> i64;
+    pub fn eevdf_candidate(queue: *const c_void) -> i64;
+    pub fn eevdf_entry_of(queue: *const c_void, task: u64, out: *mut Entry) -> i64;
+    pub fn eevdf_lag(queue: *const c_void, task: u64, lag: *mut i64) -> i64;
+    pub fn eevdf_is_asleep(queue: *const c_void, task: u64) -> i64;
+    pub fn eevdf_contains(queue: *const c_void, task: u64) -> i64;
+    pub fn eevdf_can_place(queue: *const c_void, nice: i64, slice_ns: u64, lag: i64) -> i64;
+}

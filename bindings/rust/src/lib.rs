@@ -1,0 +1,71 @@
+//! Run queues under EEVDF (Earliest Eligible Virtual Deadline First): a safe type over a static library whose calls are proved. The
+//! crate needs no `std` and no other crate.
+//!
+//! A [`Queue`] says which of its tasks runs next. Its caller says which tasks there are, how long the running one ran, and who sleeps,
+//! wakes and ends:
+//!
+//! ```
+//! use eevdf::{Queue, QueueMemory};
+//!
+//! # fn main() -> eevdf::Result<()> {
+//! let mut memory = QueueMemory::new();
+//! let mut queue = Queue::open(&mut memory);
+//! queue.admit(0, 0, 3_000_000, 0)?;
+//! queue.admit(1, 0, 3_000_000, 0)?;
+//! assert_eq!(queue.pick(), Some(0));
+//! assert!(queue.tick(3_000_000)?); // its request is used up
+//! assert_eq!(queue.pick(), Some(1));
+//! # Ok(())
+//! # }
+//! ```
+//!
+//! # Memory
+//!
+//! A queue stands in a [`QueueMemory`] of its caller's, and never moves. Each task takes one block of 152 bytes, in [`Queue::admit`],
+//! from the functions `rattle_alloc` and `rattle_dealloc`. With the feature `malloc`, which is on by default, they are over C's `malloc`
+//! and `free`. Without it the program defines them, as the header `eevdf.h` says.
+//!
+//! # Threads
+//!
+//! A queue can be sent to another thread, and not be used by two: `Queue` is `Send` and not `Sync`. Queues of several CPUs stand each in
+//! a lock, and a task moves from one to the other in a [`Hand`], with one lock held at a time. The functions for memory are then called
+//! by several threads.
+//!
+//! ```
+//! fn is_send<T: Send>() {}
+//! is_send::<eevdf::Queue<'static>>();
+//! is_send::<eevdf::Hand<'static>>();
+//! ```
+//!
+//! ```compile_fail
+//! fn is_sync<T: Sync>() {}
+//! is_sync::<eevdf::Queue<'static>>();
+//! ```
+//!
+//! # Units
+//!
+//! Times are nanoseconds. Virtual times and lags are in units of which a task of nice level 0 ages one a nanosecond.
+
+#![no_std]
+#![deny(missing_docs)]
+#![deny(unsafe_op_in_unsafe_fn)]
+
+mod calls;
+mod error;
+mod hand;
+mod memory;
+mod queue;
+
+pub use error::{Error, Result};
+pub use hand::Hand;
+pub use memory::{HandMemory, QueueMemory};
+pub use queue::{Entry, Queue};
+
+/// How many numbers there are for tasks, from 0 on.
+pub const TASKS: u64 = 1024;
+
+/// The version of the library that is linked: major * 1000000 + minor * 1000 + patch.
+pub fn version() -> i64 {
+    // SAFETY: the call has no condition
+    unsafe { calls::eevdf_version() }
+}

@@ -1,0 +1,200 @@
+//! The run queue of one CPU.
+
+use crate::calls;
+use crate::error::{checked, done, Result};
+use crate::hand::Hand;
+use crate::memory::QueueMemory;
+use core::ffi::c_void;
+use core::marker::PhantomData;
+use core::ptr::NonNull;
+
+/// What a queue knows of a runnable task.
+#[repr(C)]
+#[derive(Clone, Copy, PartialEq, Eq, Debug, Default)]
+pub struct Entry {
+    /// The virtual runtime.
+    pub vruntime: i64,
+    /// The virtual deadline.
+    pub deadline: i64,
+    /// The nice level.
+    pub nice: i64,
+    /// The slice in nanoseconds.
+    pub slice_ns: u64,
+}
+
+/// The run queue of one CPU, with the tasks that are runnable here and those that sleep here. Where it is dropped, all of them end.
+///
+/// An error changes nothing. Every call that takes the number of a task answers [`Error::Invalid`](crate::Error::Invalid) from
+/// [`TASKS`](crate::TASKS) on; its comment names what else it may answer.
+pub struct Queue<'a> {
+    at: NonNull<c_void>,
+    memory: PhantomData<&'a mut QueueMemory>,
+}
+
+// SAFETY: the library has no data of its own, and no call keeps a pointer
+unsafe impl Send for Queue<'_> {}
+
+// SAFETY of all calls below: `at` points to a queue that `open` has opened in bytes that are borrowed for as long as it lives, and who
+// calls has borrowed it: alone where the call changes it, and else shared with callers of the same thread, since it isn't `Sync`.
+impl<'a> Queue<'a> {
+    /// A queue without tasks, at the virtual time 0.
+    pub fn open(memory: &'a mut QueueMemory) -> Queue<'a> {
+        let at = NonNull::from(&mut memory.0).cast();
+        unsafe { calls::eevdf_open(at.as_ptr()) };
+        Queue { at, memory: PhantomData }
+    }
+
+    /// Makes a new task runnable, with a fresh request, at the virtual runtime `start`; [`Queue::floor_time`] gives the start of one that
+    /// comes later. `nice` is from -20 to 19, `slice_ns` from 100000 to 100000000.
+    ///
+    /// `Invalid`, `Present`, `NoMemory`, or `Range` where its deadline would leave the range.
+    pub fn admit(&mut self, task: u64, nice: i64, slice_ns: u64, start: i64) -> Result<()> {
+        done(unsafe { calls::eevdf_admit(self.at.as_ptr(), task, nice, slice_ns, start) })
+    }
+
+    /// Lets the eligible task of earliest deadline run. `None` where nothing is runnable.
+    pub fn pick(&mut self) -> Option<u64> {
+        checked(unsafe { calls::eevdf_pick(self.at.as_ptr()) }).ok()
+    }
+
+    /// Charges the running task for 1 to 1000000000 nanoseconds. Whether its request is used up, so that it is time to pick.
+    ///
+    /// `Invalid`, `Absent` where nobody runs, or `Range`.
+    pub fn tick(&mut self, ns: u64) -> Result<bool> {
+        checked(unsafe { calls::eevdf_tick(self.at.as_ptr(), ns) }).map(|answer| answer == 1)
+    }
+
+    /// Makes the running task's deadline later by the charge of a slice. It runs on until the next pick.
+    ///
+    /// `Absent` where nobody runs, or `Range`.
+    pub fn yield_now(&mut self) -> Result<()> {
+        done(unsafe { calls::eevdf_yield(self.at.as_ptr()) })
+    }
+
+    /// Lets nobody run, and gives the task that ran and waits now.
+    pub fn stop(&mut self) -> Option<u64> {
+        checked(unsafe { calls::eevdf_stop(self.at.as_ptr()) }).ok()
+    }
+
+    /// The running task falls asleep here, with the lag that it has.
+    ///
+    /// `Absent` where it doesn't run here.
+    pub fn sleep(&mut self, task: u64) -> Result<()> {
+        done(unsafe { calls::eevdf_sleep(self.at.as_ptr(), task) })
+    }
+
+    /// A task that sleeps here is runnable again, placed with the lag that it kept.
+    ///
+    /// `Present` where it is runnable here, `Absent` where it isn't here, or `Range`, and then it sleeps on.
+    pub fn wake(&mut self, task: u64) -> Result<()> {
+        done(unsafe { calls::eevdf_wake(self.at.as_ptr(), task) })
+    }
+
+    /// Ends a task, whether it runs, waits or sleeps.
+    ///
+    /// `Absent` where it isn't here.
+    pub fn end(&mut self, task: u64) -> Result<()> {
+        done(unsafe { calls::eevdf_end(self.at.as_ptr(), task) })
+    }
+
+    /// Gives a runnable task another nice level, and rescales its lag.
+    ///
+    /// `Invalid`, `Absent` where it isn't runnable here, or `Range`.
+    pub fn renice(&mut self, task: u64, nice: i64) -> Result<()> {
+        done(unsafe { calls::eevdf_renice(self.at.as_ptr(), task, nice) })
+    }
+
+    /// Takes a task into the hand, with its lag, whether it runs, waits or sleeps.
+    ///
+    /// `Busy` where the hand holds a task, or `Absent` where the task isn't here.
+    pub fn take(&mut self, hand: &mut Hand<'_>, task: u64) -> Result<()> {
+        done(unsafe { calls::eevdf_take(self.at.as_ptr(), hand.place(), task) })
+    }
+
+    /// Puts the task in the hand here: runnable, placed with its lag. On an error the hand keeps it.
+    ///
+    /// `Absent` where the hand is empty, `Present` where the number is here, or `Range`.
+    pub fn put(&mut self, hand: &mut Hand<'_>) -> Result<()> {
+        done(unsafe { calls::eevdf_put(self.at.as_ptr(), hand.place()) })
+    }
+
+    /// Puts the task in the hand to sleep here, with its lag. On an error the hand keeps it.
+    ///
+    /// `Absent` where the hand is empty, or `Present` where the number is here.
+    pub fn put_asleep(&mut self, hand: &mut Hand<'_>) -> Result<()> {
+        done(unsafe { calls::eevdf_put_asleep(self.at.as_ptr(), hand.place()) })
+    }
+
+    /// How many tasks are runnable, of which the running one is one.
+    pub fn len(&self) -> u64 {
+        checked(unsafe { calls::eevdf_len(self.at.as_ptr()) }).unwrap_or(0)
+    }
+
+    /// Whether no task is runnable. Tasks may sleep here all the same.
+    pub fn is_empty(&self) -> bool {
+        self.len() == 0
+    }
+
+    /// The sum of the runnable tasks' weights; nice level 0 weighs 1024.
+    pub fn load(&self) -> u64 {
+        checked(unsafe { calls::eevdf_load(self.at.as_ptr()) }).unwrap_or(0)
+    }
+
+    /// The virtual time, rounded down.
+    pub fn floor_time(&self) -> i64 {
+        let mut time = 0;
+        unsafe { calls::eevdf_floor_time(self.at.as_ptr(), &mut time) };
+        time
+    }
+
+    /// The running task.
+    pub fn running(&self) -> Option<u64> {
+        checked(unsafe { calls::eevdf_running(self.at.as_ptr()) }).ok()
+    }
+
+    /// The task that another CPU may pull: the waiting one of latest deadline. `None` where no task waits.
+    pub fn candidate(&self) -> Option<u64> {
+        checked(unsafe { calls::eevdf_candidate(self.at.as_ptr()) }).ok()
+    }
+
+    /// What the queue knows of a runnable task.
+    ///
+    /// `Absent` where it isn't runnable here.
+    pub fn entry(&self, task: u64) -> Result<Entry> {
+        let mut entry = Entry::default();
+        done(unsafe { calls::eevdf_entry_of(self.at.as_ptr(), task, &mut entry) })?;
+        Ok(entry)
+    }
+
+    /// The lag that a runnable task would keep if it left now, or that a sleeping one keeps.
+    ///
+    /// `Absent` where it isn't here.
+    pub fn lag(&self, task: u64) -> Result<i64> {
+        let mut lag = 0;
+        done(unsafe { calls::eevdf_lag(self.at.as_ptr(), task, &mut lag) })?;
+        Ok(lag)
+    }
+
+    /// Whether a task sleeps here.
+    pub fn is_asleep(&self, task: u64) -> Result<bool> {
+        checked(unsafe { calls::eevdf_is_asleep(self.at.as_ptr(), task) }).map(|answer| answer == 1)
+    }
+
+    /// Whether a task is here, runnable or asleep.
+    pub fn contains(&self, task: u64) -> Result<bool> {
+        checked(unsafe { calls::eevdf_contains(self.at.as_ptr(), task) }).map(|answer| answer == 1)
+    }
+
+    /// Whether a task of this nice level, slice and lag can be put here.
+    ///
+    /// `Invalid` where a number is out of its limits, or the lag is beyond the charge of two slices.
+    pub fn can_place(&self, nice: i64, slice_ns: u64, lag: i64) -> Result<bool> {
+        checked(unsafe { calls::eevdf_can_place(self.at.as_ptr(), nice, slice_ns, lag) }).map(|answer| answer == 1)
+    }
+}
+
+impl Drop for Queue<'_> {
+    fn drop(&mut self) {
+        unsafe { calls::eevdf_close(self.at.as_ptr()) };
+    }
+}

@@ -1,0 +1,35 @@
+"""C programs that make the calls: each error, the memory, the stack; plainly built, and with what the compiler can find in them."""
+
+from tools import SANITIZED, TOP, ending, run
+
+# What a program links to is looked up before it begins, since that takes stack of its own.
+LINKED_AT_ONCE = ("-Wl,-z,now",)
+
+
+def fault_of(made):
+    """What is wrong with a run, or None."""
+    return ending(made.stdout + made.stderr) or f"status {made.returncode}" if made.returncode else None
+
+
+def check_one(tools, name, label, *flags):
+    program, fault = tools.compile(f"{name}-{label or 'plain'}", [tools.callers / f"{name}.c"], *flags)
+    made = None if fault else run([program])
+    tools.checks.look(f"callers/{name}.c{label and ', ' + label}", fault or fault_of(made), made.stdout.strip() if made else "")
+
+
+def check_checksum(tools):
+    """The C program of bench/c-queue.sh takes the turns of queue_bench, and has to come to the checksum that this one is stored with."""
+    bench = TOP / "crates" / "queue_bench"
+    program, fault = tools.compile("c_queue", [TOP / "bench" / "c_queue.c", tools.malloc_library()])
+    made = None if fault else run([program, *(bench / "args").read_text().split()])
+    wanted = (bench / "stdout").read_text()
+    other = made and made.stdout != wanted and f"{made.stdout.strip()}, where queue_bench has {wanted.strip()}"
+    tools.checks.look("bench/c_queue.c has the checksum of queue_bench", fault or other)
+
+
+def check(tools):
+    for name in ("errors", "memory"):
+        check_one(tools, name, "")
+        check_one(tools, name, "sanitized", *SANITIZED)
+    check_one(tools, "stack", "", *LINKED_AT_ONCE)
+    check_checksum(tools)

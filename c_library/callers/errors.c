@@ -1,0 +1,203 @@
+/* errors.c: each error of each call once, in the order in which the header names them, and that it has changed nothing. Ends with 1 where
+ * an answer or a state is another. */
+#include "state.h"
+
+#include <stdbool.h>
+#include <stdio.h>
+#include <stdlib.h>
+
+enum { SLICE = 3000000 };
+
+static eevdf_queue queue, other;
+static eevdf_hand hand, full;
+static bool refuses;
+static unsigned failed, looked_at;
+
+eevdf_memory rattle_alloc(size_t size, size_t align)
+{
+	static unsigned char none;
+	void *block = refuses ? NULL : malloc(size);
+
+	(void)align;
+	return block ? (eevdf_memory){ 1, block } : (eevdf_memory){ 0, &none };
+}
+
+void rattle_dealloc(void *block)
+{
+	free(block);
+}
+
+static void fail(const char *what, int64_t answer)
+{
+	printf("FAILED: %s: %d\n", what, (int)answer);
+	failed++;
+}
+
+/* Looks whether a call answers this, and changes nothing. */
+#define ANSWERS(wanted, call)												\
+	do {														\
+		struct state before = state_of(&queue, &hand), other_before = state_of(&other, &full);			\
+		int64_t answer = (call);										\
+		struct state after = state_of(&queue, &hand), other_after = state_of(&other, &full);			\
+															\
+		looked_at++;												\
+		if (answer != (wanted) || !is_same(&before, &after) || !is_same(&other_before, &other_after))		\
+			fail(#call, answer);										\
+	} while (0)
+
+#define DONE(call)													\
+	do {														\
+		int64_t answer = (call);										\
+															\
+		if (answer != 0)											\
+			fail(#call, answer);										\
+	} while (0)
+
+static int64_t admit_without_memory(uint64_t task, int64_t start)
+{
+	int64_t answer;
+
+	refuses = true;
+	answer = eevdf_admit(&queue, task, 0, SLICE, start);
+	refuses = false;
+	return answer;
+}
+
+/* Of an empty queue, and of an empty hand. */
+static void look_at_empty(void)
+{
+	int64_t number = 0;
+	eevdf_entry entry;
+
+	ANSWERS(EEVDF_ABSENT, eevdf_pick(&queue));
+	ANSWERS(EEVDF_ABSENT, eevdf_tick(&queue, 1));
+	ANSWERS(EEVDF_ABSENT, eevdf_yield(&queue));
+	ANSWERS(EEVDF_ABSENT, eevdf_stop(&queue));
+	ANSWERS(EEVDF_ABSENT, eevdf_running(&queue));
+	ANSWERS(EEVDF_ABSENT, eevdf_candidate(&queue));
+	ANSWERS(EEVDF_ABSENT, eevdf_sleep(&queue, 0));
+	ANSWERS(EEVDF_ABSENT, eevdf_wake(&queue, 0));
+	ANSWERS(EEVDF_ABSENT, eevdf_end(&queue, 0));
+	ANSWERS(EEVDF_ABSENT, eevdf_renice(&queue, 0, 0));
+	ANSWERS(EEVDF_ABSENT, eevdf_entry_of(&queue, 0, &entry));
+	ANSWERS(EEVDF_ABSENT, eevdf_lag(&queue, 0, &number));
+	ANSWERS(EEVDF_ABSENT, eevdf_hand_task(&hand));
+	ANSWERS(EEVDF_ABSENT, eevdf_take(&queue, &hand, 0));
+	ANSWERS(EEVDF_ABSENT, eevdf_put(&queue, &hand));
+	ANSWERS(EEVDF_ABSENT, eevdf_put_asleep(&queue, &hand));
+	ANSWERS(0, eevdf_is_asleep(&queue, 0));
+	ANSWERS(0, eevdf_contains(&queue, 0));
+}
+
+/* Numbers a little past their limits, and far from them. Each comes with what would be another error, which is named later. */
+static void look_at_numbers(void)
+{
+	static const uint64_t tasks[] = { EEVDF_TASKS, UINT32_MAX + 1ull, UINT64_MAX };
+	static const int64_t levels[] = { EEVDF_NICE_MIN - 1, EEVDF_NICE_MAX + 1, INT64_MIN, INT64_MAX, 1ll << 32 };
+	static const uint64_t slices[] = { 0, EEVDF_SLICE_MIN - 1, EEVDF_SLICE_MAX + 1, (1ull << 32) + SLICE, UINT64_MAX };
+	static const int64_t starts[] = { EEVDF_TIME_MAX + 1, -EEVDF_TIME_MAX - 1, INT64_MAX, INT64_MIN };
+	static const uint64_t ticks[] = { 0, EEVDF_TICK_MAX + 1, (1ull << 32) + 1, UINT64_MAX };
+	int64_t number = 0;
+	eevdf_entry entry;
+
+	for (size_t at = 0; at < sizeof tasks / sizeof *tasks; at++) {
+		ANSWERS(EEVDF_INVALID, eevdf_admit(&queue, tasks[at], 0, SLICE, 0));
+		ANSWERS(EEVDF_INVALID, eevdf_sleep(&queue, tasks[at]));
+		ANSWERS(EEVDF_INVALID, eevdf_wake(&queue, tasks[at]));
+		ANSWERS(EEVDF_INVALID, eevdf_end(&queue, tasks[at]));
+		ANSWERS(EEVDF_INVALID, eevdf_renice(&queue, tasks[at], 0));
+		ANSWERS(EEVDF_INVALID, eevdf_take(&queue, &full, tasks[at]));
+		ANSWERS(EEVDF_INVALID, eevdf_entry_of(&queue, tasks[at], &entry));
+		ANSWERS(EEVDF_INVALID, eevdf_lag(&queue, tasks[at], &number));
+		ANSWERS(EEVDF_INVALID, eevdf_is_asleep(&queue, tasks[at]));
+		ANSWERS(EEVDF_INVALID, eevdf_contains(&queue, tasks[at]));
+	}
+	for (size_t at = 0; at < sizeof levels / sizeof *levels; at++) {
+		ANSWERS(EEVDF_INVALID, eevdf_admit(&queue, 1, levels[at], SLICE, 0));
+		ANSWERS(EEVDF_INVALID, eevdf_renice(&queue, 15, levels[at]));
+		ANSWERS(EEVDF_INVALID, eevdf_can_place(&queue, levels[at], SLICE, 0));
+	}
+	for (size_t at = 0; at < sizeof slices / sizeof *slices; at++) {
+		ANSWERS(EEVDF_INVALID, eevdf_admit(&queue, 1, 0, slices[at], 0));
+		ANSWERS(EEVDF_INVALID, eevdf_can_place(&queue, 0, slices[at], 0));
+	}
+	for (size_t at = 0; at < sizeof starts / sizeof *starts; at++)
+		ANSWERS(EEVDF_INVALID, eevdf_admit(&queue, 1, 0, SLICE, starts[at]));
+	for (size_t at = 0; at < sizeof ticks / sizeof *ticks; at++)
+		ANSWERS(EEVDF_INVALID, eevdf_tick(&other, ticks[at]));
+	ANSWERS(EEVDF_INVALID, eevdf_can_place(&queue, 0, SLICE, 2 * SLICE + 1));
+	ANSWERS(EEVDF_INVALID, eevdf_can_place(&queue, 0, SLICE, -2 * SLICE - 1));
+	ANSWERS(1, eevdf_can_place(&queue, 0, SLICE, 2 * SLICE));
+}
+
+/* Tasks 1 and 3 are here, of which 3 sleeps, and task 2 is in the other hand. */
+static void look_at_places(void)
+{
+	int64_t lag = 0;
+	eevdf_entry entry;
+
+	ANSWERS(EEVDF_PRESENT, admit_without_memory(1, EEVDF_TIME_MAX));
+	ANSWERS(EEVDF_PRESENT, eevdf_admit(&queue, 3, 0, SLICE, 0));
+	ANSWERS(EEVDF_NO_MEMORY, admit_without_memory(4, EEVDF_TIME_MAX));
+	ANSWERS(EEVDF_RANGE, eevdf_admit(&queue, 4, 0, SLICE, EEVDF_TIME_MAX));
+	ANSWERS(EEVDF_PRESENT, eevdf_wake(&queue, 1));
+	ANSWERS(EEVDF_ABSENT, eevdf_sleep(&queue, 3));
+	ANSWERS(EEVDF_ABSENT, eevdf_renice(&queue, 3, 1));
+	ANSWERS(EEVDF_ABSENT, eevdf_entry_of(&queue, 3, &entry));
+	ANSWERS(0, eevdf_lag(&queue, 3, &lag));
+	ANSWERS(1, eevdf_is_asleep(&queue, 3));
+	ANSWERS(EEVDF_BUSY, eevdf_take(&queue, &full, 1));
+	ANSWERS(EEVDF_BUSY, eevdf_take(&queue, &full, 9));
+	ANSWERS(2, eevdf_hand_task(&full));
+	DONE(eevdf_admit(&queue, 2, 0, SLICE, 0));
+	ANSWERS(EEVDF_PRESENT, eevdf_put(&queue, &full));
+	ANSWERS(EEVDF_PRESENT, eevdf_put_asleep(&queue, &full));
+}
+
+/* A queue whose tasks stand at the upper end of the range. */
+static void look_at_range(void)
+{
+	const int64_t last = EEVDF_TIME_MAX - SLICE;
+
+	eevdf_close(&queue);
+	DONE(eevdf_admit(&queue, 5, 0, SLICE, last));
+	DONE(eevdf_pick(&queue) - 5);
+	ANSWERS(EEVDF_RANGE, eevdf_tick(&queue, EEVDF_TICK_MAX));
+	ANSWERS(EEVDF_RANGE, eevdf_tick(&queue, SLICE));
+	ANSWERS(EEVDF_RANGE, eevdf_yield(&queue));
+	ANSWERS(EEVDF_RANGE, eevdf_renice(&queue, 5, 19));
+	DONE(eevdf_sleep(&queue, 5));
+	DONE(eevdf_admit(&queue, 6, 0, SLICE, last));
+	DONE(eevdf_admit(&queue, 7, 0, EEVDF_SLICE_MIN, EEVDF_TIME_MAX - EEVDF_SLICE_MIN));
+	ANSWERS(EEVDF_RANGE, eevdf_wake(&queue, 5));
+	ANSWERS(EEVDF_RANGE, eevdf_put(&queue, &full));
+	ANSWERS(0, eevdf_can_place(&queue, 0, SLICE, 0));
+	ANSWERS(1, eevdf_can_place(&queue, 0, EEVDF_SLICE_MIN, EEVDF_SLICE_MIN));
+	ANSWERS(2, eevdf_hand_task(&full));
+}
+
+int main(void)
+{
+	if (eevdf_version() != EEVDF_VERSION)
+		fail("eevdf_version", eevdf_version());
+	eevdf_open(&queue);
+	eevdf_open(&other);
+	eevdf_hand_open(&hand);
+	eevdf_hand_open(&full);
+	look_at_empty();
+	DONE(eevdf_admit(&other, 2, 0, SLICE, 0));
+	DONE(eevdf_take(&other, &full, 2));
+	DONE(eevdf_admit(&queue, 3, 0, SLICE, 0));
+	DONE(eevdf_pick(&queue) - 3);
+	DONE(eevdf_sleep(&queue, 3));
+	DONE(eevdf_admit(&queue, 1, 0, SLICE, 0));
+	look_at_numbers();
+	look_at_places();
+	look_at_range();
+	eevdf_hand_close(&full);
+	eevdf_hand_close(&hand);
+	eevdf_close(&queue);
+	eevdf_close(&other);
+	printf("%u answers looked at, %u of them wrong\n", looked_at, failed);
+	return failed > 0;
+}

@@ -1,0 +1,41 @@
+/* state.h: all that can be read of a queue and a hand, so that two moments can be compared. */
+#ifndef STATE_H
+#define STATE_H
+
+#include <eevdf.h>
+#include <string.h>
+
+enum { STATE_TASKS = 16 };
+
+struct state {
+	int64_t len, load, time, running, candidate, in_hand;
+	int64_t is_runnable[STATE_TASKS], is_asleep[STATE_TASKS], is_here[STATE_TASKS], lag[STATE_TASKS];
+	eevdf_entry entry[STATE_TASKS];
+};
+
+static inline struct state state_of(const eevdf_queue *queue, const eevdf_hand *hand)
+{
+	struct state state;
+
+	memset(&state, 0, sizeof state);
+	state.len = eevdf_len(queue);
+	state.load = eevdf_load(queue);
+	eevdf_floor_time(queue, &state.time);
+	state.running = eevdf_running(queue);
+	state.candidate = eevdf_candidate(queue);
+	state.in_hand = eevdf_hand_task(hand);
+	for (uint64_t task = 0; task < STATE_TASKS; task++) {
+		state.is_runnable[task] = eevdf_entry_of(queue, task, &state.entry[task]);
+		state.is_asleep[task] = eevdf_is_asleep(queue, task);
+		state.is_here[task] = eevdf_contains(queue, task);
+		eevdf_lag(queue, task, &state.lag[task]);
+	}
+	return state;
+}
+
+static inline int is_same(const struct state *one, const struct state *other)
+{
+	return memcmp(one, other, sizeof *one) == 0;
+}
+
+#endif

@@ -1,0 +1,60 @@
+"""Whether a program has two threads in calls on one queue or one hand at a time. Each call marks its queue and hand as in use, lets others
+run, and ends the program where one of them is in use already."""
+
+from wrapped import arguments, declarations, flags, function
+
+MARKS = """
+#define _POSIX_C_SOURCE 200809L
+#include <eevdf.h>
+#include <sched.h>
+#include <stdatomic.h>
+#include <stdio.h>
+#include <stdlib.h>
+
+static struct {
+	_Atomic(const void *) at;
+	atomic_int is_used;
+} marks[64];
+
+static void use(const void *at)
+{
+	for (unsigned place = 0; place < sizeof marks / sizeof *marks; place++) {
+		const void *held = NULL;
+
+		if (!atomic_compare_exchange_strong(&marks[place].at, &held, at) && held != at)
+			continue;
+		if (!atomic_exchange(&marks[place].is_used, 1))
+			return;
+		fputs("two threads use one queue or hand\\n", stderr);
+		abort();
+	}
+	abort();
+}
+
+static void leave(const void *at)
+{
+	for (unsigned place = 0; place < sizeof marks / sizeof *marks; place++)
+		if (atomic_load(&marks[place].at) == at)
+			atomic_store(&marks[place].is_used, 0);
+}
+"""
+
+
+def body(kind, held):
+    """The body of a call that is given these queues and hands."""
+    before = "".join(f"use({name}); " for name in held) + "sched_yield(); "
+    after = "".join(f"leave({name}); " for name in held)
+    if kind == "void":
+        return f"{before}RIGHT; {after}"
+    return f"{before}int64_t answer = RIGHT; {after}return answer;"
+
+
+def source_and_flags():
+    """A C file that marks what each call uses, and how it is linked."""
+    text, calls = MARKS, []
+    for call, (kind, parameters) in declarations().items():
+        held = [name for name in arguments(parameters) if name in ("queue", "hand")]
+        if held:
+            text += function(call, body(kind, held))
+            calls.append(call)
+    return text, flags(calls)

@@ -1,0 +1,73 @@
+"""The header as C11 and as C++17, with all warnings, by each compiler that there is; a small program of each, linked and run; and the sizes
+of the header, which have to be those that the crate proves."""
+
+import re
+import shutil
+
+from tools import TOP, WARNINGS, ending, run
+
+# A program that includes the header twice and uses each of its types and limits.
+PROGRAM = """
+#include <eevdf.h>
+#include <eevdf.h>
+
+static eevdf_queue queue;
+static eevdf_hand hand;
+
+static int is_moved(void)
+{
+	eevdf_entry entry;
+
+	return eevdf_take(&queue, &hand, EEVDF_TASKS - 1) == 0 && eevdf_put(&queue, &hand) == 0 &&
+	       eevdf_entry_of(&queue, EEVDF_TASKS - 1, &entry) == 0 && entry.slice_ns == EEVDF_SLICE_MAX;
+}
+
+int main(void)
+{
+	int is_admitted, is_right;
+
+	eevdf_open(&queue);
+	eevdf_hand_open(&hand);
+	is_admitted = eevdf_admit(&queue, EEVDF_TASKS - 1, EEVDF_NICE_MIN, EEVDF_SLICE_MAX, -EEVDF_TIME_MAX) == 0;
+	is_right = is_admitted && is_moved() && eevdf_tick(&queue, EEVDF_TICK_MAX) == EEVDF_ABSENT;
+	eevdf_hand_close(&hand);
+	eevdf_close(&queue);
+	return !is_right || eevdf_version() != EEVDF_VERSION;
+}
+"""
+COMPILERS = (
+    ("gcc", "c", "c11", "gcc"),
+    ("clang", "c", "c11", "clang"),
+    ("g++", "c++", "c++17", "g++"),
+    ("clang++", "c++", "c++17", "clang"),
+)
+
+
+# Where the crate says how large what crosses to C is.
+SOURCES = TOP / "crates" / "eevdf_c" / "src"
+SIZE = r"size_of::<{}>\(\) == (\d+)"
+SIZES = (("opened.rt", "Opened", "EEVDF_QUEUE_SIZE"), ("hand.rt", "Hand", "EEVDF_HAND_SIZE"))
+
+
+def other_sizes():
+    """The sizes that aren't the crate's."""
+    header = (TOP / "include" / "eevdf.h").read_text()
+    for file, name, macro in SIZES:
+        proved = re.search(SIZE.format(name), (SOURCES / file).read_text())[1]
+        if f"#define {macro} {proved}\n" not in header:
+            yield f"{macro} isn't {proved}"
+
+
+def check(tools):
+    if SOURCES.exists():
+        tools.checks.look("eevdf.h has the sizes that are proved", ", ".join(other_sizes()))
+    for compiler, language, standard, package in COMPILERS:
+        name = f"eevdf.h as {standard} by {compiler}"
+        if not shutil.which(compiler):
+            tools.checks.skip(name, compiler, package)
+            continue
+        program = tools.work / "header"
+        words = [compiler, f"-std={standard}", *WARNINGS, f"-I{TOP / 'include'}", "-o", program, "-x", language, "-", "-x", "none"]
+        built = run([*words, tools.malloc_library(), tools.archive], input=PROGRAM)
+        fault = ending(built.stderr) if built.returncode else None
+        tools.checks.look(name, fault or (run([program]).returncode and "the program finds an answer wrong"))

@@ -1,0 +1,32 @@
+"""The kernel under qemu: its log has to be the plain model's, and to repeat byte for byte."""
+
+import os
+import shutil
+
+from tools import TOP, ending, run
+
+FOLDER = TOP / "examples" / "kernel"
+# Time is counted by instructions, so that it doesn't depend on the host.
+COUNTED = "-icount", "shift=6,sleep=off"
+
+
+def first_difference(said, wanted):
+    for at, (one, other) in enumerate(zip(said.splitlines(), wanted.splitlines())):
+        if one != other:
+            return f"line {at + 1} is {one!r}, and the model says {other!r}"
+    return None if said == wanted else f"{len(said.splitlines())} lines, where the model has {len(wanted.splitlines())}"
+
+
+def check(tools):
+    name = "examples/kernel"
+    if not shutil.which("qemu-system-x86_64"):
+        tools.checks.skip(name, "qemu-system-x86_64", "qemu-system-x86")
+        return
+    env = {**os.environ, "ARCHIVE": str(tools.archive), "CC": tools.cc}
+    first, second = (run([FOLDER / "run.sh", *COUNTED], env=env) for _ in range(2))
+    if first.returncode:
+        tools.checks.look(name, ending(first.stdout + first.stderr))
+        return
+    said = f"{first.stdout.count(' to ')} switches"
+    tools.checks.look("the kernel's log is the model's", first_difference(first.stdout, run([FOLDER / "model.py"]).stdout), said)
+    tools.checks.look("the kernel's log repeats", None if first.stdout == second.stdout else "two runs differ")

@@ -1,0 +1,95 @@
+#!/usr/bin/env -S python3 -B
+"""planted.py ARCHIVE: shows that the checks look. Puts a wrong body before a call of the library, which the linker takes in the call's
+place (--wrap), and says which of the callers and drawn sequences find it. Ends with 1 where one isn't found. It takes half a minute; the
+gate doesn't run it."""
+
+import multiprocessing
+import os
+import sys
+import tempfile
+from pathlib import Path
+
+from drawn_calls import KINDS, compare
+from tools import Tools, run
+from wrapped import flags, function
+
+CALLS = 10000
+
+# Bodies by what is wrong with them, each with its call. RIGHT is the right body's answer.
+BODIES = {
+    "an admit cuts the number to 32 bits": ("admit", "task &= 0xffffffff; return RIGHT;"),
+    "an admit asks for memory first": ("admit", """
+        if (eevdf_contains(queue, task) == 1) {
+            eevdf_memory memory = rattle_alloc(EEVDF_TASK_SIZE, 8);
+            if (!memory.ok) return EEVDF_NO_MEMORY;
+            rattle_dealloc(memory.block);
+        }
+        return RIGHT;"""),
+    "an admit that answers RANGE keeps its block": ("admit", """
+        int64_t answer = RIGHT;
+        if (answer == EEVDF_RANGE) rattle_alloc(EEVDF_TASK_SIZE, 8);
+        return answer;"""),
+    "a tick charges a nanosecond more": ("tick", "if (ns < EEVDF_TICK_MAX && ns > 0) ns++; return RIGHT;"),
+    "a tick that answers INVALID stops who runs": ("tick", "if (ns == 0) eevdf_stop(queue); return RIGHT;"),
+    "a yield puts the deadline off twice": ("yield", "if (RIGHT != 0) return RIGHT; RIGHT; return 0;"),
+    "a wake of a runnable task answers ABSENT": ("wake", """
+        int64_t answer = RIGHT;
+        return answer == EEVDF_PRESENT ? EEVDF_ABSENT : answer;"""),
+    "a renice of a task that sleeps answers INVALID": ("renice", """
+        int64_t answer = RIGHT;
+        return answer == EEVDF_ABSENT && eevdf_is_asleep(queue, task) == 1 ? EEVDF_INVALID : answer;"""),
+    "a take asks for the hand last": ("take", "return eevdf_contains(queue, task) == 0 ? EEVDF_ABSENT : RIGHT;"),
+    "a put that answers RANGE loses the task": ("put", """
+        int64_t answer = RIGHT;
+        if (answer == EEVDF_RANGE) eevdf_hand_close(hand);
+        return answer;"""),
+    "a put that can't be placed sleeps": ("put", "return RIGHT == EEVDF_RANGE ? eevdf_put_asleep(queue, hand) : RIGHT;"),
+    "a close keeps the blocks": ("close", "eevdf_open(queue);"),
+    "an open writes a byte behind the queue": ("open", "RIGHT; *((unsigned char *)queue + EEVDF_QUEUE_SIZE) = 0;"),
+    "a hand is opened with a byte behind it": ("hand_open", "RIGHT; *((unsigned char *)hand + EEVDF_HAND_SIZE) = 0;"),
+    "the candidate may run": ("candidate", "int64_t answer = RIGHT; return answer == EEVDF_ABSENT ? eevdf_running(queue) : answer;"),
+    "the lag of a task that sleeps is 0": ("lag", """
+        int64_t answer = RIGHT;
+        if (eevdf_is_asleep(queue, task) == 1) *lag = 0;
+        return answer;"""),
+    "an entry is written on an error": ("entry_of", "if (eevdf_contains(queue, task) != 1) out->nice = 0; return RIGHT;"),
+    "a virtual time takes 1100 bytes of stack": ("floor_time", "volatile char deep[1100]; deep[0] = 0; return RIGHT + deep[0];"),
+    "the version is another": ("version", "return RIGHT + 1;"),
+}
+
+
+def found_by(job):
+    """Which programs find a wrong body."""
+    archive, what = job
+    call, body = BODIES[what]
+    with tempfile.TemporaryDirectory() as held:
+        tools = Tools(archive, held)
+        planted = Path(held) / "planted.c"
+        planted.write_text("#include <eevdf.h>\n" + function(call, body))
+        return what, list(finders(tools, planted, *flags([call]), "-Wl,-z,now"))
+
+
+def finders(tools, planted, *linked):
+    for name in ("errors", "memory", "stack", "play"):
+        program, fault = tools.compile(name, [tools.callers / f"{name}.c", planted], *linked)
+        if fault:
+            raise RuntimeError(fault)
+        if name != "play":
+            if run([program]).returncode:
+                yield f"{name}.c"
+        elif any(compare((program, kind, "planted", CALLS)).fault for kind in KINDS):
+            yield "drawn calls"
+
+
+def main():
+    missed = 0
+    with multiprocessing.Pool(os.cpu_count()) as pool:
+        for what, found in pool.imap(found_by, [(sys.argv[1], what) for what in BODIES]):
+            print(f"{what}: {', '.join(found) or 'NOT FOUND'}", flush=True)
+            missed += not found
+    print(f"{len(BODIES) - missed} passed, {missed} failed")
+    sys.exit(1 if missed else 0)
+
+
+if __name__ == "__main__":
+    main()

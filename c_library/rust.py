@@ -1,0 +1,56 @@
+"""The crate for Rust: that its sizes, codes and calls are the header's, its tests and those of its pages with warnings as errors, and that
+it builds without the functions for memory."""
+
+import os
+import re
+import shutil
+
+from object_file import declared, difference
+from tools import TOP, ending, run
+
+FOLDER = TOP / "bindings" / "rust"
+
+
+def source(name):
+    return (FOLDER / "src" / name).read_text()
+
+
+def numbers_of_header():
+    """The sizes of a queue and a hand, and the codes of the errors."""
+    header = (TOP / "include" / "eevdf.h").read_text()
+    sizes = re.findall(r"^#define EEVDF_(?:QUEUE|HAND)_SIZE (\d+)$", header, re.MULTILINE)
+    return {*sizes, *re.findall(r"^ +EEVDF_\w+ = (-\d+)", header, re.MULTILINE)}
+
+
+def numbers_of_crate():
+    sizes = re.findall(r"MaybeUninit<\[u8; (\d+)\]>", source("memory.rs"))
+    # every other code is taken for this one
+    return {*sizes, *re.findall(r"(-\d+) =>", source("error.rs")), "-22"}
+
+
+def check_names(tools):
+    calls = set(re.findall(r"pub fn (eevdf_\w+)\(", source("calls.rs")))
+    tools.checks.look("bindings/rust has the header's calls", difference(calls, declared()))
+    tools.checks.look("bindings/rust has the header's sizes and codes", difference(numbers_of_crate(), numbers_of_header()))
+
+
+def cargo(tools, *words):
+    env = {**os.environ, "EEVDF_LIB_DIR": str(tools.work / "prefix" / "lib"), "CARGO_TARGET_DIR": str(tools.work / "cargo"),
+           "RUSTFLAGS": "-D warnings", "RUSTDOCFLAGS": "-D warnings"}
+    made = run(["cargo", *words, "--offline", "--manifest-path", tools.work / "rust" / "Cargo.toml"], env=env)
+    return made, ending(made.stdout + made.stderr) if made.returncode else None
+
+
+def check(tools):
+    """After `./install`."""
+    check_names(tools)
+    if not shutil.which("cargo") or not shutil.which("rustc"):
+        tools.checks.skip("bindings/rust", "cargo or rustc", "cargo and rustc")
+        return
+    # a copy, so that the tree isn't written to
+    shutil.copytree(FOLDER, tools.work / "rust", ignore=shutil.ignore_patterns("target", "Cargo.lock"))
+    made, fault = cargo(tools, "test")
+    count = sum(int(line.split()[3]) for line in made.stdout.splitlines() if line.startswith("test result: ok."))
+    tools.checks.look("bindings/rust: cargo test", fault, f"{count} tests")
+    tools.checks.look("bindings/rust: cargo doc", cargo(tools, "doc", "--no-deps")[1])
+    tools.checks.look("bindings/rust without malloc: cargo build", cargo(tools, "build", "--no-default-features")[1])

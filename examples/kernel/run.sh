@@ -1,0 +1,33 @@
+#!/usr/bin/env bash
+# examples/kernel/run.sh [FLAGS]: builds the kernel and runs it under qemu, with these flags of qemu besides. Prints its log. With
+# `-icount shift=6,sleep=off` the log repeats byte for byte. ARCHIVE names the library (crates/eevdf_c/out/libeevdf_c.a), CC the C
+# compiler (gcc). Ends with 1 where the kernel doesn't come to its end, and with 3 where there is no compiler or no qemu.
+set -eu
+here=$(cd "$(dirname "$0")" && pwd)
+top=$here/../..
+archive=${ARCHIVE:-$top/crates/eevdf_c/out/libeevdf_c.a}
+cc=${CC:-gcc}
+
+needs() {
+  command -v "$1" >/dev/null || { echo "examples/kernel/run.sh: there is no $1 (Debian package $2)" >&2; exit 3; }
+}
+
+needs "$cc" gcc
+needs qemu-system-x86_64 qemu-system-x86
+
+# what a kernel's code needs: no red zone, since interrupts come on the stack of whoever runs, and nothing of a C library
+flags=(-std=c11 -Wall -Wextra -Werror -pedantic -O2 "-I$top/include" -ffreestanding -mno-red-zone -fno-pic
+  -fno-stack-protector -fno-asynchronous-unwind-tables)
+
+work=$(mktemp -d)
+trap 'rm -rf "$work"' EXIT
+"$cc" "${flags[@]}" -c -o "$work/kernel.o" "$here/kernel.c"
+"$cc" -c -o "$work/boot.o" "$here/boot.S"
+"$cc" -nostdlib -static -Wl,--build-id=none,-z,noexecstack,--no-warn-rwx-segments -T "$here/kernel.ld" -o "$work/kernel" \
+  "$work/boot.o" "$work/kernel.o" "$archive" -lgcc
+
+# the kernel ends qemu by its device for exits, with 33; one that hangs is ended after a minute
+status=0
+timeout 60 qemu-system-x86_64 -machine pc -m 32 -nodefaults -display none -serial stdio -no-reboot \
+  -device isa-debug-exit,iobase=0xf4,iosize=4 -kernel "$work/kernel" "$@" </dev/null || status=$?
+[ "$status" = 33 ] || { echo "examples/kernel/run.sh: qemu ended with $status" >&2; exit 1; }
