@@ -20,7 +20,7 @@ from pathlib import Path
 
 from edits import TOP, BadEdit, apply, are_apart, edits_of, is_of_bodies, names_of
 from libraries import CRATES, Libraries
-from stand_ins import put_stand_ins
+from stand_ins import make_library, put_stand_ins
 
 sys.path.append(str(TOP))
 
@@ -106,6 +106,8 @@ class Tries:
             put_stand_ins(folder, {name for edit in edits for name in names_of(edit, folder)})
             for edit in edits:
                 apply(edit, folder)
+            if all("main" not in names_of(edit, folder_of(self.crate)) for edit in edits):
+                make_library(folder)
             return Said(self.crate, self.libraries.check(self.crate, folder, {edit.refused for edit in edits}))
 
     def try_group(self, edits):

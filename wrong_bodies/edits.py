@@ -117,6 +117,17 @@ def function_at(text, place):
     return next((it.name for it in functions_of(text) if it.begin <= line <= it.end), None)
 
 
+def function_changed(text, change):
+    """The name of the function whose body a change of a file's text is of, if it is one's. A change that leaves the end of a signature as
+    it is, and puts another body after it, gives the body that stood there to a further function: it is of that function's body too."""
+    place = text.index(change.old)
+    end = place + len(change.old)
+    if not change.new.startswith(change.old + " {") or text[end] != "\n":
+        return function_at(text, place)
+    line = text.count("\n", 0, end)
+    return next((it.name for it in functions_of(text) if it.first <= line == it.begin - 1), None)
+
+
 def changed(edit, folder):
     """The texts that the edit leaves of the files of the crate's folder, and the functions in whose bodies it changes them, with None
     where it changes anything else."""
@@ -125,7 +136,7 @@ def changed(edit, folder):
         text = texts.get(change.file) or (folder / change.file).read_text()
         if text.count(change.old) != 1:
             raise BadEdit(f"{edit}: the old text stands in {change.file} {text.count(change.old)} times: {change.old}")
-        functions.add(function_at(text, text.index(change.old)))
+        functions.add(function_changed(text, change))
         texts[change.file] = text.replace(change.old, change.new)
     return texts, functions
 

@@ -50,3 +50,17 @@ def put_stand_ins(folder, kept):
         # the folder of a function that calls itself begins with a plus
         if file.name in PROOF_FILES and file.parent.name.removeprefix("+") not in kept:
             file.unlink()
+
+
+def make_library(folder):
+    """Makes a library of the program in a folder, without its `main`: of a program a check also reads all the code that is linked."""
+    program = folder / "src" / "main.rt"
+    if not program.is_file():
+        return
+    lines = program.read_text().split("\n")
+    for function in functions_of("\n".join(lines)):
+        if function.name == "main":
+            del lines[function.first : function.end + 1]
+            break
+    (folder / "src" / "lib.rt").write_text("\n".join(lines))
+    program.unlink()

@@ -1,4 +1,4 @@
-use Rattle.std.proofs.Common.{ℕ, List, subst}
+use Rattle.std.proofs.Common.{ℕ, List, refl, subst}
 use Rattle.eevdf_orders.specs.OrderedWorkload.{RefusesAs}
 use Rattle.eevdf_orders.proofs.CutWorkloads.{begun_whole, ordered_as, printed_whole, refused_whole}
 use Rattle.eevdf_orders.proofs.ordered_workload.print_ordered.Goals as goal
@@ -17,3 +17,6 @@ pub returns-clause-begun : goal.returns-clause-begun
 returns-clause-begun g c e =
     begun_whole c.args.seed _ c.in-Ok.input.items c.deref-2.result.now _ _ _ c.in-Ok.ensures.bytes
     (ordered_as c.args.seed _ _ _ _ c.deref.ensures.value c.deref-2.ensures.value c.in-Ok-ordered_text.ensures.ordered) c.in-Err-write_text.ensures.begun
+
+pub returns-in-Err-ordered_text-clause-unwritten : goal.returns-in-Err-ordered_text-clause-unwritten
+returns-in-Err-ordered_text-clause-unwritten g c e = refl
