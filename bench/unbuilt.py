@@ -1,8 +1,8 @@
 #!/usr/bin/env -S python3 -B
 """unbuilt.py: what a user sees first. In a copy of the tree where nothing is built, `./eevdf` has to answer a workload of examples/
-with its stored answer on standard output, and to say in one line on standard error that this isn't the proved program. That may take
-SECONDS of processor time. A run that is killed has to leave nothing behind. Then each workload of examples/ has to be answered unproved
-as it is stored, where the kit's `rt try` can run many. Ends with 1 where it isn't so."""
+with its stored answer on standard output, and to say in one line on standard error, which README has, that this isn't the proved program.
+That may take SECONDS of processor time. A run that is killed has to leave nothing behind. Then each workload of examples/ has to be
+answered unproved as it is stored, where the kit's `rt try` can run many. Ends with 1 where it isn't so."""
 
 import os
 import re
@@ -53,6 +53,8 @@ def look_at_first(copy):
         yield f"answers {run.stdout!r} with status {run.returncode}"
     if said.count("\n") != 1 or not said.startswith("eevdf: not the proved program") or "`./build eevdf`" not in said:
         yield f"says {said!r}"
+    if f"\n    {said}" not in (TOP / "README.md").read_text():
+        yield "says another line than README.md has"
     if took > SECONDS:
         yield f"takes {took:.0f} seconds of processor time"
 

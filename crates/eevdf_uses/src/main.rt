@@ -1,4 +1,4 @@
-//! Small programs that embed the library, as README prints them. Each is run, and what comes of it is printed.
+//! Small programs that embed the library, which docs/embedding.md explains. Each is run, and what comes of it is printed.
 #![tactic(auto)]
 
 mod checked_input;
