@@ -1,7 +1,6 @@
 """Looks at the library for C, part by part."""
 
 import argparse
-import os
 import sys
 
 import callers
@@ -18,7 +17,7 @@ def main():
     words = argparse.ArgumentParser()
     words.add_argument("--archive", required=True)
     words.add_argument("--work", required=True)
-    words.add_argument("--seed", default=str(int.from_bytes(os.urandom(4), "big")))
+    words.add_argument("--seed", default="1")
     asked = words.parse_args()
     tools = Tools(asked.archive, asked.work)
     for part in (header, object_file, callers, examples, rust, kernel):

@@ -1,14 +1,9 @@
 """C programs that make the calls: each error, the memory, the stack; plainly built, and with what the compiler can find in them."""
 
-from tools import SANITIZED, TOP, ending, run
+from tools import SANITIZED, TOP, fault_of, run
 
 # What a program links to is looked up before it begins, since that takes stack of its own.
 LINKED_AT_ONCE = ("-Wl,-z,now",)
-
-
-def fault_of(made):
-    """What is wrong with a run, or None."""
-    return ending(made.stdout + made.stderr) or f"status {made.returncode}" if made.returncode else None
 
 
 def check_one(tools, name, label, *flags):
@@ -23,6 +18,7 @@ def check_checksum(tools):
     program, fault = tools.compile("c_queue", [TOP / "bench" / "c_queue.c", tools.malloc_library()])
     made = None if fault else run([program, *(bench / "args").read_text().split()])
     wanted = (bench / "stdout").read_text()
+    fault = fault or fault_of(made)
     other = made and made.stdout != wanted and f"{made.stdout.strip()}, where queue_bench has {wanted.strip()}"
     tools.checks.look("bench/c_queue.c has the checksum of queue_bench", fault or other)
 

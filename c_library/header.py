@@ -4,7 +4,7 @@ of the header, which have to be those that the crate proves."""
 import re
 import shutil
 
-from tools import TOP, WARNINGS, ending, run
+from tools import TOP, WARNINGS, fault_of, run
 
 # A program that includes the header twice and uses each of its types and limits.
 PROGRAM = """
@@ -16,7 +16,7 @@ static eevdf_hand hand;
 
 static int is_moved(void)
 {
-	eevdf_entry entry;
+	eevdf_entry entry = { 0, 0, 0, 0 };
 
 	return eevdf_take(&queue, &hand, EEVDF_TASKS - 1) == 0 && eevdf_put(&queue, &hand) == 0 &&
 	       eevdf_entry_of(&queue, EEVDF_TASKS - 1, &entry) == 0 && entry.slice_ns == EEVDF_SLICE_MAX;
@@ -66,8 +66,8 @@ def check(tools):
         if not shutil.which(compiler):
             tools.checks.skip(name, compiler, package)
             continue
-        program = tools.work / "header"
+        # each has a program of its own, so that none is taken for another's
+        program = tools.work / f"header-{compiler}"
         words = [compiler, f"-std={standard}", *WARNINGS, f"-I{TOP / 'include'}", "-o", program, "-x", language, "-", "-x", "none"]
-        built = run([*words, tools.malloc_library(), tools.archive], input=PROGRAM)
-        fault = ending(built.stderr) if built.returncode else None
-        tools.checks.look(name, fault or (run([program]).returncode and "the program finds an answer wrong"))
+        fault = fault_of(run([*words, tools.malloc_library(), tools.archive], input=PROGRAM))
+        tools.checks.look(name, fault or fault_of(run([program])))

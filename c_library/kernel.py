@@ -3,7 +3,7 @@
 import os
 import shutil
 
-from tools import TOP, ending, run
+from tools import TOP, fault_of, run
 
 FOLDER = TOP / "examples" / "kernel"
 # Time is counted by instructions, so that it doesn't depend on the host.
@@ -25,8 +25,10 @@ def check(tools):
     env = {**os.environ, "ARCHIVE": str(tools.archive), "CC": tools.cc}
     first, second = (run([FOLDER / "run.sh", *COUNTED], env=env) for _ in range(2))
     if first.returncode:
-        tools.checks.look(name, ending(first.stdout + first.stderr))
+        tools.checks.look(name, fault_of(first))
         return
     said = f"{first.stdout.count(' to ')} switches"
-    tools.checks.look("the kernel's log is the model's", first_difference(first.stdout, run([FOLDER / "model.py"]).stdout), said)
-    tools.checks.look("the kernel's log repeats", None if first.stdout == second.stdout else "two runs differ")
+    wanted = run([FOLDER / "model.py"])
+    tools.checks.look("the kernel's log is the model's", fault_of(wanted) or first_difference(first.stdout, wanted.stdout), said)
+    again = fault_of(second) or (None if first.stdout == second.stdout else "two runs differ")
+    tools.checks.look("the kernel's log repeats", again)

@@ -6,7 +6,7 @@ import re
 import shutil
 
 from object_file import declared, difference
-from tools import TOP, ending, run
+from tools import TOP, fault_of, run
 
 FOLDER = TOP / "bindings" / "rust"
 
@@ -16,16 +16,23 @@ def source(name):
 
 
 def numbers_of_header():
-    """The sizes of a queue and a hand, and the codes of the errors."""
+    """The sizes of a queue and a hand, and the code of each error, by name."""
     header = (TOP / "include" / "eevdf.h").read_text()
-    sizes = re.findall(r"^#define EEVDF_(?:QUEUE|HAND)_SIZE (\d+)$", header, re.MULTILINE)
-    return {*sizes, *re.findall(r"^ +EEVDF_\w+ = (-\d+)", header, re.MULTILINE)}
+    sizes = re.findall(r"^#define EEVDF_(QUEUE|HAND)_SIZE (\d+)$", header, re.MULTILINE)
+    return {*sizes, *re.findall(r"^\s+EEVDF_(\w+) = (-\d+)", header, re.MULTILINE)}
 
 
 def numbers_of_crate():
-    sizes = re.findall(r"MaybeUninit<\[u8; (\d+)\]>", source("memory.rs"))
+    sizes = re.findall(r"struct (Queue|Hand)Memory\(.*MaybeUninit<\[u8; (\d+)\]>", source("memory.rs"))
+    codes = [(variant, code) for code, variant in re.findall(r"(-\d+) => Error::(\w+)", source("error.rs"))]
     # every other code is taken for this one
-    return {*sizes, *re.findall(r"(-\d+) =>", source("error.rs")), "-22"}
+    codes += [(variant, "-22") for variant in re.findall(r"\b_ => Error::(\w+)", source("error.rs"))]
+    return {(name.upper(), number) for name, number in sizes} | {(upper_name(variant), code) for variant, code in codes}
+
+
+def upper_name(variant):
+    """A variant under the header's name: NoMemory is NO_MEMORY there."""
+    return re.sub(r"(?<=[a-z])(?=[A-Z])", "_", variant).upper()
 
 
 def check_names(tools):
@@ -38,7 +45,7 @@ def cargo(tools, *words):
     env = {**os.environ, "EEVDF_LIB_DIR": str(tools.work / "prefix" / "lib"), "CARGO_TARGET_DIR": str(tools.work / "cargo"),
            "RUSTFLAGS": "-D warnings", "RUSTDOCFLAGS": "-D warnings"}
     made = run(["cargo", *words, "--offline", "--manifest-path", tools.work / "rust" / "Cargo.toml"], env=env)
-    return made, ending(made.stdout + made.stderr) if made.returncode else None
+    return made, fault_of(made)
 
 
 def check(tools):
@@ -51,6 +58,6 @@ def check(tools):
     shutil.copytree(FOLDER, tools.work / "rust", ignore=shutil.ignore_patterns("target", "Cargo.lock"))
     made, fault = cargo(tools, "test")
     count = sum(int(line.split()[3]) for line in made.stdout.splitlines() if line.startswith("test result: ok."))
-    tools.checks.look("bindings/rust: cargo test", fault, f"{count} tests")
+    tools.checks.look("bindings/rust: cargo test", fault or (None if count else "no test was run"), f"{count} tests")
     tools.checks.look("bindings/rust: cargo doc", cargo(tools, "doc", "--no-deps")[1])
     tools.checks.look("bindings/rust without malloc: cargo build", cargo(tools, "build", "--no-default-features")[1])

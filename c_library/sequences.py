@@ -41,7 +41,8 @@ def check(tools, seed):
     jobs, errors = list(jobs_of(tools, seed)), set()
     with multiprocessing.Pool(max(1, min(len(jobs), os.cpu_count()))) as pool:
         for (name, _), compared in zip(jobs, pool.imap(compare, [job for _, job in jobs])):
-            tools.checks.look(name, compared.fault, f"{compared.count} calls of seed {seed} are answered as by the model")
+            tools.checks.look(f"{name}, seed {seed}", compared.fault, f"{compared.count} calls are answered as by the model")
             errors |= compared.errors
     wanted = documented()
-    tools.checks.look("drawn calls come to the errors of the header", difference(named(errors), wanted), f"{len(wanted)} of them")
+    name = f"drawn calls of seed {seed} come to the errors of the header"
+    tools.checks.look(name, difference(named(errors), wanted), f"{len(wanted)} of them")

@@ -22,6 +22,11 @@ def ending(text):
     return text.strip()[-1500:]
 
 
+def fault_of(made):
+    """What is wrong with a run, or None. A program that a signal ends may say nothing, so there is always the status."""
+    return ending(made.stdout + made.stderr) or f"status {made.returncode}" if made.returncode else None
+
+
 @dataclass
 class Checks:
     """Counts what passed, failed or was left out, and says so."""
@@ -39,9 +44,12 @@ class Checks:
             self.passed += 1
             print(f"passed: {name}{said and ': ' + said}", flush=True)
 
-    def skip(self, name, tool, package):
+    def leave_out(self, name, why):
         self.skipped += 1
-        print(f"skipped: {name}: there is no {tool} (Debian package {package})", flush=True)
+        print(f"skipped: {name}: {why}", flush=True)
+
+    def skip(self, name, tool, package):
+        self.leave_out(name, f"there is no {tool} (Debian package {package})")
 
     def end(self):
         if self.skipped:
@@ -66,14 +74,13 @@ class Tools:
         """Builds a program of C11 over the library. Gives its path and what is wrong."""
         program = self.work / name
         over = [self.archive] if libraries is None else libraries
-        built = run([self.cc, *C11, *flags, "-o", program, *sources, *over])
-        return program, ending(built.stderr) if built.returncode else None
+        return program, fault_of(run([self.cc, *C11, *flags, "-o", program, *sources, *over]))
 
     def malloc_library(self):
         """The functions for memory over malloc and free, as an object."""
         made = self.work / "eevdf_malloc.o"
         if not made.exists():
-            built = run([self.cc, *C11, "-c", "-o", made, TOP / "bindings" / "c" / "eevdf_malloc.c"])
-            if built.returncode:
-                raise RuntimeError(ending(built.stderr))
+            fault = fault_of(run([self.cc, *C11, "-c", "-o", made, TOP / "bindings" / "c" / "eevdf_malloc.c"]))
+            if fault:
+                raise RuntimeError(fault)
         return made

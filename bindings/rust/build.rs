@@ -8,10 +8,16 @@ fn main() {
     println!("cargo:rerun-if-env-changed=PKG_CONFIG_PATH");
     let folder = env::var("EEVDF_LIB_DIR").unwrap_or_else(|_| asked_of_pkg_config());
     println!("cargo:rustc-link-search=native={folder}");
-    println!("cargo:rustc-link-lib=static=eevdf");
+    link(&folder, "eevdf");
     if env::var_os("CARGO_FEATURE_MALLOC").is_some() {
-        println!("cargo:rustc-link-lib=static=eevdf_malloc");
+        link(&folder, "eevdf_malloc");
     }
+}
+
+/// Links an archive, and builds the crate anew where it has changed.
+fn link(folder: &str, name: &str) {
+    println!("cargo:rustc-link-lib=static={name}");
+    println!("cargo:rerun-if-changed={folder}/lib{name}.a");
 }
 
 fn asked_of_pkg_config() -> String {

@@ -67,7 +67,7 @@ static int64_t admit_without_memory(uint64_t task, int64_t start)
 static void look_at_empty(void)
 {
 	int64_t number = 0;
-	eevdf_entry entry;
+	eevdf_entry entry = { 0, 0, 0, 0 };
 
 	ANSWERS(EEVDF_ABSENT, eevdf_pick(&queue));
 	ANSWERS(EEVDF_ABSENT, eevdf_tick(&queue, 1));
@@ -98,7 +98,7 @@ static void look_at_numbers(void)
 	static const int64_t starts[] = { EEVDF_TIME_MAX + 1, -EEVDF_TIME_MAX - 1, INT64_MAX, INT64_MIN };
 	static const uint64_t ticks[] = { 0, EEVDF_TICK_MAX + 1, (1ull << 32) + 1, UINT64_MAX };
 	int64_t number = 0;
-	eevdf_entry entry;
+	eevdf_entry entry = { 0, 0, 0, 0 };
 
 	for (size_t at = 0; at < sizeof tasks / sizeof *tasks; at++) {
 		ANSWERS(EEVDF_INVALID, eevdf_admit(&queue, tasks[at], 0, SLICE, 0));
@@ -134,7 +134,7 @@ static void look_at_numbers(void)
 static void look_at_places(void)
 {
 	int64_t lag = 0;
-	eevdf_entry entry;
+	eevdf_entry entry = { 0, 0, 0, 0 };
 
 	ANSWERS(EEVDF_PRESENT, admit_without_memory(1, EEVDF_TIME_MAX));
 	ANSWERS(EEVDF_PRESENT, eevdf_admit(&queue, 3, 0, SLICE, 0));

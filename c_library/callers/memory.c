@@ -122,12 +122,18 @@ static void move(eevdf_queue *from, eevdf_queue *to, uint64_t task)
 	eevdf_stop(from);
 }
 
-/* An admit that answers RANGE has asked for a block, and gives it back at once. */
+/* An admit whose deadline would leave the range asks for a block first, and gives it back at once. */
 static void admit_out_of_range(eevdf_queue *queue, uint64_t task)
 {
-	const unsigned held = requests - given_back;
+	const unsigned made = requests, back = given_back;
+	int64_t answer = eevdf_admit(queue, task, 0, SLICE, EEVDF_TIME_MAX);
+	bool is_refused = requests == refused_request;
 
-	if (eevdf_admit(queue, task, 0, SLICE, EEVDF_TIME_MAX) == EEVDF_RANGE && requests - given_back != held)
+	if (requests != made + 1)
+		fail("an admit out of range makes another number of requests than one");
+	if (answer != (is_refused ? EEVDF_NO_MEMORY : EEVDF_RANGE))
+		fail("an admit out of range says something else");
+	if (given_back != back + !is_refused)
 		fail("an admit that answers RANGE keeps its block");
 }
 
@@ -138,6 +144,8 @@ static void walk(void)
 	eevdf_open(&first.queue);
 	eevdf_open(&second.queue);
 	eevdf_hand_open(&between.hand);
+	if (requests != 0)
+		fail("a queue or a hand asks for memory where it is opened");
 	for (uint64_t task = 0; task < TASKS; task++)
 		admit(&first.queue, task);
 	made = requests;
@@ -152,13 +160,18 @@ static void walk(void)
 		fail("a call that takes no memory asks for some");
 	eevdf_end(&first.queue, TASKS - 1);
 	eevdf_end(&second.queue, 1);
+	if (requests != made)
+		fail("the end of a task asks for memory");
 	admit(&second.queue, TASKS - 1);
 	admit_out_of_range(&second.queue, TASKS);
+	made = requests;
 	eevdf_take(&first.queue, &between.hand, TASKS - 2);
 	eevdf_hand_close(&between.hand);
 	eevdf_sleep(&first.queue, (uint64_t)eevdf_pick(&first.queue));
 	eevdf_close(&first.queue);
 	eevdf_close(&second.queue);
+	if (requests != made)
+		fail("a call at the end of the walk asks for memory");
 }
 
 static void look_at_end(void)

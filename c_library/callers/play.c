@@ -227,8 +227,8 @@ static void print_answer(const struct line *line)
 
 static void print_task(const eevdf_queue *queue, uint64_t task)
 {
-	eevdf_entry entry;
-	int64_t lag;
+	eevdf_entry entry = { 0, 0, 0, 0 };
+	int64_t lag = 0;
 
 	if (eevdf_contains(queue, task) != 1)
 		return;
@@ -241,7 +241,7 @@ static void print_task(const eevdf_queue *queue, uint64_t task)
 static void print_state(const struct line *line)
 {
 	const eevdf_queue *queue = queue_of(line);
-	int64_t time;
+	int64_t time = 0;
 
 	eevdf_floor_time(queue, &time);
 	printf("%" PRId64 " %" PRId64 " %" PRId64, eevdf_len(queue), eevdf_load(queue), time);

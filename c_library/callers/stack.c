@@ -41,7 +41,7 @@ static inline void turn(void)
 {
 	uint64_t task = drawn(EEVDF_TASKS);
 	int64_t running = eevdf_pick(&queue), number = 0;
-	eevdf_entry entry;
+	eevdf_entry entry = { 0, 0, 0, 0 };
 
 	eevdf_tick(&queue, 1 + drawn(3000000));
 	eevdf_yield(&queue);

@@ -30,7 +30,7 @@ static uint64_t ticks, current = IDLE, alive = COUNT;
 
 static void out8(uint16_t port, uint8_t value)
 {
-	__asm__ volatile("outb %0, %1" : : "a"(value), "Nd"(port));
+	__asm__ volatile("outb %0, %1" : : "a"(value), "Nd"(port) : "memory");
 }
 
 /* Ends qemu, with the status 1 + 2 * code. */
@@ -38,15 +38,13 @@ static _Noreturn void end_qemu(uint8_t code)
 {
 	out8(0xf4, code);
 	for (;;)
-		__asm__ volatile("hlt");
+		__asm__ volatile("hlt" : : : "memory");
 }
 
 static void put(uint8_t letter)
 {
-	uint8_t status = 0;
-
-	while (!(status & 0x20))
-		__asm__ volatile("inb %1, %0" : "=a"(status) : "Nd"((uint16_t)0x3fd));
+	for (uint8_t status = 0; !(status & 0x20);)
+		__asm__ volatile("inb %1, %0" : "=a"(status) : "Nd"((uint16_t)0x3fd) : "memory");
 	out8(0x3f8, letter);
 }
 
@@ -117,8 +115,10 @@ struct frame *on_timer(struct frame *frame)
 	if (current != IDLE)
 		changed = must(eevdf_tick(&queue, TICK_NS)) == 1;
 	for (uint64_t at = 0; at < COUNT; at++)
-		if (threads[at].wakes_at == ticks)
-			changed = must(eevdf_wake(&queue, at)) == 0;
+		if (threads[at].wakes_at == ticks) {
+			must(eevdf_wake(&queue, at));
+			changed = 1;
+		}
 	if (ticks == END_OF_RUN || alive == 0)
 		end_run();
 	return changed ? pick() : frame;
@@ -185,7 +185,7 @@ static void set_interrupts(void)
 
 		gates[at].low = (to & 0xffff) | 8 << 16 | 0x8e00ull << 32 | (to >> 16 & 0xffff) << 48;
 	}
-	__asm__ volatile("lidt %0" : : "m"(table));
+	__asm__ volatile("lidt %0" : : "m"(table) : "memory");
 }
 
 /* The timer at 1000 Hz, as interrupt 32, and no other. */
@@ -206,5 +206,5 @@ void kernel_main(void)
 	set_interrupts();
 	set_timer();
 	for (;;)
-		__asm__ volatile("sti; hlt");
+		__asm__ volatile("sti; hlt" : : : "memory");
 }

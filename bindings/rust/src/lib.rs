@@ -37,7 +37,7 @@
 //! is_send::<eevdf::Hand<'static>>();
 //! ```
 //!
-//! ```compile_fail
+//! ```compile_fail,E0277
 //! fn is_sync<T: Sync>() {}
 //! is_sync::<eevdf::Queue<'static>>();
 //! ```

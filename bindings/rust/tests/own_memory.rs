@@ -1,12 +1,14 @@
 //! A program that defines the functions for memory itself, as one without C's `malloc` does: blocks of a pool that has room for two tasks.
 
 use eevdf::{Error, Queue, QueueMemory};
+use std::cell::UnsafeCell;
 use std::ffi::c_void;
 use std::ptr;
-use std::sync::Mutex;
+use std::sync::{Mutex, MutexGuard, PoisonError};
 
 const SLICE: u64 = 3_000_000;
 const BLOCKS: usize = 2;
+const SIZE: usize = 160;
 
 #[repr(C)]
 pub struct Memory {
@@ -14,37 +16,48 @@ pub struct Memory {
     block: *mut c_void,
 }
 
+/// The bytes of the blocks. Who is given one uses it, so nothing here borrows them, and only their addresses are taken.
 #[repr(align(16))]
-struct Block([u8; 160]);
+struct Blocks(UnsafeCell<[[u8; SIZE]; BLOCKS]>);
 
-struct Pool {
-    blocks: [Block; BLOCKS],
-    is_used: [bool; BLOCKS],
+// SAFETY: a block is used by nobody but whom it is given to, and USED says which are
+unsafe impl Sync for Blocks {}
+
+static POOL: Blocks = Blocks(UnsafeCell::new([[0; SIZE]; BLOCKS]));
+static USED: Mutex<[bool; BLOCKS]> = Mutex::new([false; BLOCKS]);
+
+/// Which blocks are used. A test that has panicked leaves them as they are, so the functions below needn't panic as well.
+fn used() -> MutexGuard<'static, [bool; BLOCKS]> {
+    USED.lock().unwrap_or_else(PoisonError::into_inner)
 }
 
-static POOL: Mutex<Pool> = Mutex::new(Pool { blocks: [Block([0; 160]), Block([0; 160])], is_used: [false; BLOCKS] });
+fn address(block: usize) -> *mut c_void {
+    POOL.0.get().cast::<[u8; SIZE]>().wrapping_add(block).cast()
+}
 
 #[no_mangle]
 pub extern "C" fn rattle_alloc(size: usize, align: usize) -> Memory {
-    let mut pool = POOL.lock().unwrap();
-    match pool.is_used.iter().position(|is_used| !is_used) {
-        Some(free) if size <= 160 && align <= 16 => {
-            pool.is_used[free] = true;
-            Memory { ok: 1, block: pool.blocks[free].0.as_mut_ptr().cast() }
+    let mut used = used();
+    match (0..BLOCKS).zip(used.iter_mut()).find(|(_, is_used)| !**is_used) {
+        Some((free, is_used)) if size <= SIZE && align <= 16 => {
+            *is_used = true;
+            Memory { ok: 1, block: address(free) }
         }
-        _ => Memory { ok: 0, block: ptr::NonNull::<Block>::dangling().as_ptr().cast() },
+        _ => Memory { ok: 0, block: ptr::NonNull::<u64>::dangling().as_ptr().cast() },
     }
 }
 
 #[no_mangle]
 pub extern "C" fn rattle_dealloc(block: *mut c_void) {
-    let mut pool = POOL.lock().unwrap();
-    let given_back = pool.blocks.iter_mut().position(|held| ptr::eq(held.0.as_mut_ptr().cast(), block));
-    pool.is_used[given_back.unwrap()] = false;
+    for (given_back, is_used) in (0..BLOCKS).zip(used().iter_mut()) {
+        if address(given_back) == block {
+            *is_used = false;
+        }
+    }
 }
 
-fn used() -> usize {
-    POOL.lock().unwrap().is_used.iter().filter(|is_used| **is_used).count()
+fn count() -> usize {
+    used().iter().filter(|is_used| **is_used).count()
 }
 
 #[test]
@@ -54,11 +67,11 @@ fn each_task_takes_a_block() {
     assert_eq!(queue.admit(0, 0, SLICE, 0), Ok(()));
     assert_eq!(queue.admit(1, 0, SLICE, 0), Ok(()));
     assert_eq!(queue.admit(2, 0, SLICE, 0), Err(Error::NoMemory));
-    assert_eq!((queue.len(), used()), (2, 2));
+    assert_eq!((queue.len(), count()), (2, 2));
     queue.end(0).unwrap();
     assert_eq!(queue.admit(2, 0, SLICE, 1 << 60), Err(Error::Range));
-    assert_eq!(used(), 1);
+    assert_eq!(count(), 1);
     assert_eq!(queue.admit(2, 0, SLICE, 0), Ok(()));
     drop(queue);
-    assert_eq!(used(), 0);
+    assert_eq!(count(), 0);
 }

@@ -51,7 +51,7 @@ static int64_t unlock(struct worker *worker, int64_t answer)
 	return answer;
 }
 
-/* Ends the program where memory or room lacks. No other error comes, since each fiber is where it is looked for; RANGE after 36 years. */
+/* Ends the program where memory or room lacks. Else only RANGE comes, after 36 years of running at nice level 0, or 3.9 at 10. */
 static int64_t must(int64_t answer)
 {
 	if (answer < 0)
@@ -105,7 +105,7 @@ static bool wake_due(struct worker *worker)
 	return any;
 }
 
-/* Takes the candidate of a queue into the hand, where a puller of this load stays the less loaded of the two. */
+/* Takes the candidate of a queue into the hand, where that brings the two loads closer: its own and that of a puller of this load. */
 static int64_t take(eevdf_queue *from, int64_t load, eevdf_hand *hand)
 {
 	int64_t task = eevdf_candidate(from);
@@ -139,10 +139,9 @@ static void balance(struct worker *worker)
 static void leave(enum wish wish)
 {
 	struct worker *worker = own_worker();
-	struct fiber *fiber = worker->runs;
 
-	fiber->wish = wish;
-	swapcontext(&fiber->context, &worker->context);
+	worker->runs->wish = wish;
+	swapcontext(&worker->runs->context, &worker->context);
 }
 
 void runtime_point(void)
@@ -151,7 +150,9 @@ void runtime_point(void)
 
 	if (runtime_now() - worker->charged_at < GRAIN)
 		return;
-	if (charge(worker) + wake_due(worker) > 0 || runtime_now() >= worker->balances_at)
+	bool used_up = charge(worker);
+	bool woken = wake_due(worker);
+	if (used_up || woken || runtime_now() >= worker->balances_at)
 		leave(GO_ON);
 }
 

@@ -6,7 +6,6 @@
 enum { RUNTIME_FIBERS = 64, RUNTIME_WORKERS = 8 };
 /* What a fiber has had of the workers' time, in ns, and what it weighs. */
 struct runtime_share { uint64_t ns; int64_t weight; };
-
 void runtime_open(unsigned workers);	/* before all others */
 void runtime_add(int64_t nice, void (*run)(void *), void *with, struct runtime_share *share);	/* before the run */
 unsigned runtime_run(void);		/* until each fiber has returned; how many were pulled from one worker to another */
