@@ -43,7 +43,8 @@ pub fn turns_are_fair_anywhere()
     eevdf_queue::laws::pick_of_nobody();
 }
 
-/// A task that joins others, by a wake, a pull or a renice, stands past the virtual time by little more than its lag limit.
+/// A task that joins others, by a wake, a pull or a renice, stands past the virtual time by at most its lag limit, times the new weight of
+/// all over the old one, and one.
 pub fn join_is_near()
     ensures { JoinIsNear }
 {}
