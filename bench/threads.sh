@@ -2,7 +2,8 @@
 # threads.sh [MIX..]: measures the operations of fleets in 1, 2 and 4 threads, each on two CPUs of its own with 64 tasks each: of
 # the fleet that keeps a history ("fleet") and of the one that keeps none ("endless"), and beside them the same operations in one
 # thread without a fleet ("solo"), and of as many programs of one thread each, side by side ("apart"), which share nothing: that is what
-# the machine gives to so many threads. Prints three tables, with a row for each mix of operations and way:
+# the machine gives to so many threads. With one thread "apart" is the same command as "endless", so the better of the two is the one to
+# compare both with. Prints three tables, with a row for each mix of operations and way:
 # - operations a second by wall clock, of all threads together: the best and the median of several runs, and how many times the best
 #   of one thread these bests are. The shortest time of a run with few operations is taken off each time, and its operations from
 #   the operations, so that starting, setting up and closing drop out;
@@ -45,7 +46,7 @@ words() {
 
 # Runs the program once, or as often as there are threads at the same time.
 run() {
-  local count=1
+  local count=1 started=() process
   if [ "$1" = apart ]; then
     count=$2
     set -- endless 1 "$3" "$4"
@@ -53,8 +54,12 @@ run() {
   for _ in $(seq "$count"); do
     # shellcheck disable=SC2046 # the words are words of the program
     "$program" $(words "$@") >/dev/null &
+    started+=($!)
   done
-  wait
+  # this shell's own status would be lost where its output is read
+  for process in "${started[@]}"; do
+    wait "$process" || { echo "threads.sh: a run failed: $(words "$@")" >&2; kill $$; }
+  done
 }
 
 # The wall times of several runs, in microseconds, the shortest first.
