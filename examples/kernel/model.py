@@ -1,5 +1,5 @@
 #!/usr/bin/env -S python3 -B
-"""model.py: prints the log that the kernel has to write, from threads.h and the definitions alone: the plain queue of drawn/plain, which
+"""model.py: prints the log that the kernel has to write, from threads.h and the definitions alone: the plain queue of checks/drawn/plain, which
 follows docs/model.md and scans where the library has a tree, and what kernel.c says of ticks, sleeps and ends."""
 
 import re
@@ -8,7 +8,7 @@ from dataclasses import dataclass
 from pathlib import Path
 
 HERE = Path(__file__).resolve().parent
-sys.path.append(str(HERE.parent.parent / "drawn"))
+sys.path.append(str(HERE.parent.parent / "checks" / "drawn"))
 
 from plain.queue import Queue  # noqa: E402
 

@@ -6,7 +6,7 @@
 //! exact code and the exact state afterwards, by the definitions that the queue's own contracts use. An error changes nothing.
 //!
 //! [`calls`] does the work on references, and is proved like any safe code. [`exports`] makes references of C's pointers; those
-//! proofs are uniform, and a script writes them: export_proofs/README.md.
+//! proofs are uniform, and a script writes them: tools/export_proofs/README.md.
 #![tactic(auto)]
 
 mod calls;

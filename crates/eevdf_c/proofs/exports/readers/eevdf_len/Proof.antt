@@ -1,4 +1,4 @@
--- Written by export_proofs/write.py.
+-- Written by tools/export_proofs/write.py.
 use Rattle.eevdf_c.proofs.Steps.{◌≡◌, ℕ, ℤ, List, [], ◌∷◌, refl, w64, proved, full_share, id⊢, emp, Incl-refl, ftrue, flft, flent, named, vptr, ⊑_static, fact, fact_i, tables, WpFn, use0, ‵, raw, keep, ◌⊛◌, some, later, prop, ◌$◌, ◌∵◌, !, qed, done, move, drop, use1, use2, split, join, fsplit, regoal, pick, await, suffices, group, enter, of_opd, addr, stop, no_more, and_then, returns, alloc_all, pass_all, free_all, look_at, get, through, sets, lands_as, lft_new, lft_end, lent_back, i64, yes, Is, shows, flat, lends_shr, part_at, Ptr, RawPtr, block_ptr, lies_at, in_a_block, rawptr_vals, rawptr_Tells, ShrRef, plain, types_at, sint_Lawful, nothing, heard, peeks, calls_at, lasts, on_entry, triple_of, framed, Stays, walk_of, stay_dropped, Goes-dropped, ends_at}
 use Rattle.eevdf_c.specs.Readers as readers
 use Rattle.eevdf_c.specs.contracts.opened.Opened.{the_row as Opened-row}

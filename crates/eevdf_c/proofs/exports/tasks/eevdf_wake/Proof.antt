@@ -1,4 +1,4 @@
--- Written by export_proofs/write.py.
+-- Written by tools/export_proofs/write.py.
 use Rattle.eevdf_c.proofs.Steps.{◌≡◌, ℕ, ℤ, List, [], ◌∷◌, refl, w64, proved, full_share, id⊢, emp, ftrue, flft, flent, fres, named, vptr, fact, fact_i, tables, WpFn, use0, ‵, raw, keep, ◌⊛◌, some, later, prop, ◌$◌, ◌∵◌, !, qed, done, move, drop, use1, use2, use3, split, join, fsplit, rewrite, regoal, pick, await, suffices, group, enter, of_opd, addr, stop, no_more, and_then, returns, alloc_all, pass_all, free_all, look_at, get, through, sets, lands_as, Body, lft_new, lft_end, i64, u64, yes, Is, shows, flat, lends_ref, ref_back, mem, Ptr, RawPtr, block_ptr, lies_at, in_a_block, rawptr_vals, rawptr_Tells, MutRef, plain, types_at, sint_Lawful, uint_Lawful, uint_Makes, uint_vals, uint_Tells, nothing, owned, heard, peeks, calls_at, lasts, on_entry, triple_of, framed, Stays, walk_of, stay_dropped, Goes-dropped, ends_at}
 use Rattle.eevdf_c.specs.Errors.{KeepsOnError}
 use Rattle.eevdf_c.specs.Wake as wakes

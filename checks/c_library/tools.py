@@ -1,0 +1,86 @@
+"""What the checks need: the library, a folder to work in, compilers, runs of programs, and a count of what was looked at."""
+
+import shutil
+import subprocess
+from dataclasses import dataclass, field
+from pathlib import Path
+
+TOP = Path(__file__).resolve().parents[2]
+WARNINGS = ("-Wall", "-Wextra", "-Werror", "-pedantic")
+C11 = ("-std=c11", "-O2", *WARNINGS, f"-I{TOP / 'include'}")
+SANITIZED = ("-g", "-fsanitize=address,undefined", "-fno-sanitize-recover=all")
+# No run takes so long, also on a busy machine.
+SECONDS = 300
+
+
+def run(words, **more):
+    return subprocess.run(list(map(str, words)), capture_output=True, text=True, errors="replace", timeout=SECONDS, **more)
+
+
+def ending(text):
+    """The end of what a command says, for a fault."""
+    return text.strip()[-1500:]
+
+
+def fault_of(made):
+    """What is wrong with a run, or None. A program that a signal ends may say nothing, so there is always the status."""
+    return ending(made.stdout + made.stderr) or f"status {made.returncode}" if made.returncode else None
+
+
+@dataclass
+class Checks:
+    """Counts what passed, failed or was left out, and says so."""
+
+    passed: int = 0
+    failed: int = 0
+    skipped: int = 0
+
+    def look(self, name, fault, said=""):
+        """Counts a check: failed where there is a fault."""
+        if fault:
+            self.failed += 1
+            print(f"FAILED: {name}: {fault}", flush=True)
+        else:
+            self.passed += 1
+            print(f"passed: {name}{said and ': ' + said}", flush=True)
+
+    def leave_out(self, name, why):
+        self.skipped += 1
+        print(f"skipped: {name}: {why}", flush=True)
+
+    def skip(self, name, tool, package):
+        self.leave_out(name, f"there is no {tool} (Debian package {package})")
+
+    def end(self):
+        if self.skipped:
+            print(f"{self.skipped} skipped")
+        print(f"{self.passed} passed, {self.failed} failed")
+        return 1 if self.failed else 0
+
+
+@dataclass
+class Tools:
+    archive: Path
+    work: Path
+    checks: Checks = field(default_factory=Checks)
+    callers: Path = TOP / "checks" / "c_library" / "callers"
+
+    def __post_init__(self):
+        self.archive = Path(self.archive).resolve()
+        self.work = Path(self.work)
+        self.cc = shutil.which("gcc") or shutil.which("clang")
+
+    def compile(self, name, sources, *flags, libraries=None):
+        """Builds a program of C11 over the library. Gives its path and what is wrong."""
+        program = self.work / name
+        over = [self.archive] if libraries is None else libraries
+        return program, fault_of(run([self.cc, *C11, *flags, "-o", program, *sources, *over]))
+
+    def malloc_library(self):
+        """The functions for memory over malloc and free, as an object."""
+        made = self.work / "eevdf_malloc.o"
+        if not made.exists():
+            fault = fault_of(run([self.cc, *C11, "-c", "-o", made, TOP / "bindings" / "c" / "eevdf_malloc.c"]))
+            if fault:
+                raise RuntimeError(fault)
+        return made

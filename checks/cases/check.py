@@ -1,0 +1,290 @@
+#!/usr/bin/env python3
+"""check.py [WORD..]: sends workloads to the built programs `eevdf` and `eevdf_orders`, and looks whether each prints what stands in
+the file beside it; with words only those whose path has one of them. Without words it sends those of made.py too. The last line is
+'N passed, M failed'."""
+
+import codecs
+import re
+import subprocess
+import sys
+from pathlib import Path
+
+sys.dont_write_bytecode = True
+import made
+
+CASES = Path(__file__).resolve().parent
+TOP = CASES.parent.parent
+
+SOLO = ("eevdf", "solo")
+REPLAY = ("eevdf", "replay")
+ORDERS = ("eevdf_orders",)
+
+# The last line of what is printed, where all is well.
+DONE = b"status 0\n"
+
+# A program that runs for so many seconds is ended, and has failed.
+PATIENCE = 60
+
+# What is cut short and damaged, byte by byte.
+DAMAGED = (TOP / "examples/two-tasks.toml", CASES / "orders/the-first-of-two-posts-wakes-the-task.toml")
+# Bytes that are put in the place of each one: what ends a text, a line or a string, what begins a number or an array, and two
+# that aren't UTF-8 there.
+BYTES = (b"\0", b"\n", b'"', b"9", b"-", b"[", b"]", b"\\", b"\xc3", b"\xff")
+
+# Orders in which caller 0 comes last.
+ORDERED = (CASES / "orders/the-first-of-two-posts-wakes-the-task.toml",
+           CASES / "orders/a-pull-before-two-picks-with-its-history.toml")
+
+
+def command_of(workload):
+    """The program and its words, which stand in the workload's first line: '# eevdf solo'. A byte order mark may come before."""
+    return workload.removeprefix(codecs.BOM_UTF8).partition(b"\n")[0].decode().split()[1:]
+
+
+def start(command, workload, out, errors):
+    program, *words = command
+    built = TOP / "crates" / program / "out" / program
+    return subprocess.run([built, *words], input=workload, stdout=out, stderr=errors, timeout=PATIENCE)
+
+
+def status_line(ran):
+    return b"status %d\n" % ran.returncode
+
+
+def run(command, workload):
+    """What a program prints for a workload, and as its last line the status."""
+    ran = start(command, workload, subprocess.PIPE, subprocess.STDOUT)
+    return ran.stdout + status_line(ran)
+
+
+class Checks:
+    """Counts what is as it should be and what isn't."""
+
+    def __init__(self):
+        self.passed = self.failed = 0
+
+    def look(self, name, printed, is_right):
+        if is_right:
+            self.passed += 1
+        else:
+            self.failed += 1
+            print(f"FAILED: {name}: {printed.decode(errors='replace')}", flush=True)
+
+    def compare(self, name, command, workload, wanted):
+        printed = run(command, workload)
+        self.look(name, printed, printed == wanted)
+
+    def compare_errors(self, name, command, workload, wanted, out=subprocess.PIPE):
+        """The same of standard error alone. Nothing may come on standard output, or that goes to a file."""
+        ran = start(command, workload, out, subprocess.PIPE)
+        printed = ran.stderr + status_line(ran)
+        self.look(name, (ran.stdout or b"") + printed, not ran.stdout and printed == wanted)
+
+
+def is_of_both_versions(path, workload, wanted):
+    """Reports and orders are alike in both versions, and so are the bounds of the numbers that numbers/ has."""
+    return b"\nversion = 1\n" in workload and (wanted.endswith(DONE) or path.parent.name == "numbers")
+
+
+def in_version_two(text):
+    return text.replace(b"\nversion = 1\n", b"\nversion = 2\n")
+
+
+def check_pair(checks, path):
+    workload, wanted = path.read_bytes(), path.with_suffix(".out").read_bytes()
+    name, command = path.relative_to(TOP), command_of(workload)
+    checks.compare(name, command, workload, wanted)
+    if is_of_both_versions(path, workload, wanted):
+        # a report has no version, and what eevdf_orders prints has that of the workload
+        checks.compare(f"{name} in version 2", command, in_version_two(workload), in_version_two(wanted))
+    if command[0] == "eevdf_orders" and wanted.endswith(DONE):
+        check_ordered(checks, name, command, workload)
+        check_places(checks, name, wanted)
+
+
+def refusal(fault):
+    return f"fault: {fault}\nstatus 1\n".encode()
+
+
+def is_report(printed):
+    return printed.startswith(b"cpu 0\n") and printed.endswith(DONE)
+
+
+def is_report_or_refusal(printed):
+    if printed.endswith(DONE):
+        return is_report(printed)
+    return bool(re.fullmatch(rb"fault: [^\n]*\nstatus 1\n", printed))
+
+
+def check_damaged(checks, path):
+    """Each beginning of a workload, and each that differs from it in one byte, comes to a report or to a refusal."""
+    workload = path.read_bytes()
+    command = command_of(workload)
+    body = workload.index(b"version")
+    printed = {}
+    for place in range(body, len(workload)):
+        printed[f"cut at {place}"] = run(command, workload[:place])
+        for byte in BYTES:
+            printed[f"{byte} at {place}"] = run(command, workload[:place] + byte + workload[place + 1:])
+    wrong = [name for name, text in printed.items() if not is_report_or_refusal(text)]
+    name = f"{path.relative_to(TOP)}, damaged in {len(printed)} ways"
+    checks.look(name, ", ".join(wrong).encode(), not wrong)
+
+
+def check_beginnings(checks, path):
+    """Every beginning of an order is short at the caller that comes last."""
+    workload = path.read_bytes()
+    order = re.search(rb"order = \[(.*?)\]", workload)
+    places = order[1].split(b",")
+    for length in range(len(places)):
+        begun = workload[:order.start(1)] + b",".join(places[:length]) + workload[order.end(1):]
+        name = f"{path.relative_to(TOP)}, {length} places"
+        checks.compare(name, command_of(workload), begun, refusal("order short at 0"))
+
+
+def check_shortest(checks):
+    """The least inputs, of nothing and of one byte, which have no first line for a command."""
+    for command in (SOLO, REPLAY, ("eevdf", "run"), ORDERS):
+        name = " ".join(command)
+        checks.compare(f"no byte for {name}", command, b"", refusal("missing version"))
+        checks.compare(f"the byte 255 for {name}", command, b"\xff", refusal("not a TOML document"))
+
+
+def check_deeds(checks):
+    """A script of a deed that the version has comes to a report, and one of another is refused for its first member."""
+    for versions, deeds in made.DEEDS.items():
+        for deed in deeds:
+            for version in made.CPUS:
+                printed = run(SOLO, made.whole_machine(version, script=f'script = ["{deed}"]\n'))
+                is_right = is_report(printed) if version in versions else printed == refusal("bad value at script at 0")
+                checks.look(f"the deed '{deed}' in version {version}", printed, is_right)
+
+
+def check_other_operations(checks):
+    for operation in made.NO_OPERATIONS:
+        for version in made.CPUS:
+            name = f"the operation '{operation}' in version {version}"
+            workload = made.whole_machine(version, program=f'["{operation}"]')
+            checks.compare(name, REPLAY, workload, refusal("bad value at program 0 at 0"))
+
+
+def check_longest_orders(checks):
+    """The longest order is played, and one place less is too few. A longer one is refused before its places are looked at."""
+    nobody = made.ORDERED_CPUS
+    too_long = refusal(f"order longer than {made.PLACES}")
+    rows = (
+        ("the longest order", made.LONGEST, made.report_of_longest().encode() + DONE),
+        ("one place less", made.LONGEST[:-1], refusal(f"order short at {nobody - 1}")),
+        ("one place more", made.LONGEST + [0], too_long),
+        ("one place more, of nobody", [nobody] * (made.PLACES + 1), too_long),
+        ("the longest order, of nobody", [nobody] * made.PLACES, refusal("order at 0: no caller")),
+        ("one place less, of nobody", [nobody] * (made.PLACES - 1), refusal("order at 0: no caller")),
+    )
+    for name, order, wanted in rows:
+        checks.compare(name, REPLAY, made.picks_in_order(order), wanted)
+
+
+def check_run(checks, name, programs, tasks, cpus, count):
+    """Each task stands in one place of the report of a run; and one thread that does the history prints the same report, but for
+    the requests that are left."""
+    printed = run(("eevdf", "run", "--history"), (programs + tasks).encode())
+    report, script, deeds = printed.removesuffix(DONE).partition(b"script = [")
+    report = re.sub(rb"^left .*\n", b"", report, flags=re.MULTILINE)
+    placed = sorted(map(int, re.findall(rb"^(?:task|asleep) (\d+) ", report, re.MULTILINE)))
+    checks.look(f"{name}: CPUs and tasks", printed,
+                len(re.findall(rb"^cpu ", report, re.MULTILINE)) == cpus and placed == list(range(count)))
+    workload = programs.encode() + script + deeds + tasks.encode()
+    checks.compare(f"{name}: its history by one thread", SOLO, workload, report + DONE)
+
+
+def check_runs(checks):
+    """Each drawn workload is run three times, since its threads may come in another order."""
+    for seed in range(1, 21):
+        for time in range(1, 4):
+            check_run(checks, f"the programs of seed {seed}, run {time}", *made.drawn_programs(seed))
+    check_run(checks, "the most programs", *made.most_programs())
+
+
+def order_of(text):
+    """The callers at the places of a text's order."""
+    order = re.search(rb"order = \[([\d,\s]*)\]", text)
+    return list(map(int, re.findall(rb"\d+", order[1]))) if order else []
+
+
+def check_ordered(checks, name, command, workload):
+    """What eevdf_orders prints is the workload with an order in front, and the workbench plays that to its end. Gives the order."""
+    ordered = run(command, workload).removesuffix(DONE)
+    played = run(REPLAY, ordered)
+    checks.look(f"{name}, played", played, ordered.endswith(workload.removeprefix(codecs.BOM_UTF8)) and is_report(played))
+    return order_of(ordered)
+
+
+def check_places(checks, name, ordered):
+    """The workbench reads at each place the caller that stands there: where it has done all its steps before, and no other caller
+    has, the order is refused at this place."""
+    order = order_of(ordered)
+    for place, caller in enumerate(order):
+        workload = made.posts_in_order(ordered, order, place)
+        checks.compare(f"{name}, read at place {place}", REPLAY, workload, refusal(f"order at {place}: done"))
+
+
+def check_ordered_workloads(checks):
+    """The orders of the same workloads play whether the callers take turns or a seed draws them."""
+    for number, workload in enumerate(made.TO_BE_ORDERED):
+        for words in ((), *(("--seed", str(seed)) for seed in range(20))):
+            command = (*ORDERS, *words)
+            check_ordered(checks, f"made workload {number} for {' '.join(command)}", command, workload)
+
+
+def check_drains(checks):
+    """A drain of 64 CPUs is 130 steps. It takes the lock of its own CPU alone, so nobody waits, and all callers take turns."""
+    order = check_ordered(checks, "64 drains, ordered", ORDERS, made.drains())
+    checks.look("the order of 64 drains", str(order).encode(), order == [*range(64)] * 130)
+
+
+def check_other_words(checks):
+    """Words that eevdf_orders doesn't take get one line on standard error, and nothing is ordered."""
+    usage = b"usage: eevdf_orders [--seed N]\nstatus 2\n"
+    for words in made.NO_SEEDS:
+        checks.compare_errors(f"the words '{words}'", (*ORDERS, *words.split()), made.TO_BE_ORDERED[0], usage)
+
+
+def check_failed_write(checks):
+    """A machine may lack the file that takes no byte."""
+    full = Path("/dev/full")
+    if full.is_char_device():
+        with full.open("wb") as out:
+            checks.compare_errors("a write that fails", ORDERS, made.TO_BE_ORDERED[0], b"fault: writing\nstatus 3\n", out)
+
+
+def check_made(checks):
+    check_deeds(checks)
+    check_other_operations(checks)
+    check_longest_orders(checks)
+    check_runs(checks)
+    check_ordered_workloads(checks)
+    check_drains(checks)
+    check_other_words(checks)
+    check_failed_write(checks)
+
+
+def main():
+    paths = sorted([*TOP.glob("examples/*.toml"), *CASES.glob("*/*.toml")])
+    words = sys.argv[1:]
+    checks = Checks()
+    for path in paths:
+        if not words or any(word in str(path.relative_to(TOP)) for word in words):
+            check_pair(checks, path)
+    if not words:
+        check_shortest(checks)
+        for path in DAMAGED:
+            check_damaged(checks, path)
+        for path in ORDERED:
+            check_beginnings(checks, path)
+        check_made(checks)
+    print(f"{checks.passed} passed, {checks.failed} failed")
+    return 0 if checks.failed == 0 else 1
+
+
+if __name__ == "__main__":
+    sys.exit(main())

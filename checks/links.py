@@ -1,0 +1,112 @@
+#!/usr/bin/env python3
+"""links.py: whether README, the pages of docs/ and the README of each folder name what there is. Each link has to lead to a file, and to a
+heading of it where it names one. Each file that is named has to be there. An excerpt, which is a block of lines below "from [NAME](FILE):",
+has to stand in that file, indentation aside, or for a workload in what is stored beside it; two dots are lines left out, and what stands
+three blanks behind a line is a remark. A call of the library for C has to stand in its header. docs/embedding.md has to link each program
+of crates/eevdf_uses. Names what is wrong, and ends with 1 then."""
+
+import re
+import subprocess
+import sys
+from pathlib import Path
+
+TOP = Path(__file__).resolve().parent.parent
+LINK = re.compile(r"\[[^\]]*\]\(([^)\s]+)\)")
+EXCERPT = re.compile(r"[Ff]rom \[[^\]]*\]\(([^)]+)\)[^\n]*:\n\n((?: {4}.*\n|\n)+)")
+# A file by its name alone, and by a path from the top of the repository.
+NAME = re.compile(r"(?<![\w/.*-])([\w-]+\.(?:rt|antt|py|sh|toml))\b")
+PATH = r"(?<![\w/.-])(?:\./)?((?:{})/[\w./-]*[\w/])"
+# What a page speaks of that a user, a build or a run makes, and words in capitals, which stand for any name.
+MADE = re.compile(r"crates/mine\b|crates/\w+/out\b|^workload\.toml$|(?:^|/)(?!README\.|DECISIONS\.)[A-Z]+\b")
+
+
+def tracked():
+    """The files of the repository."""
+    listed = subprocess.run(["git", "ls-files", "-z", "--cached", "--others", "--exclude-standard"], cwd=TOP, capture_output=True)
+    names = listed.stdout.decode().split("\0") if not listed.returncode else map(str, (f.relative_to(TOP) for f in TOP.rglob("*")))
+    return {name for name in names if name and (TOP / name).is_file()}
+
+
+def anchors(page):
+    """The headings of a page, as links name them."""
+    headings = re.findall(r"^#+ (.*)$", page.read_text(), re.MULTILINE)
+    return {re.sub(r"[^\w -]", "", heading.lower()).replace(" ", "-") for heading in headings}
+
+
+def link_faults(page, text):
+    for link in LINK.findall(text):
+        target, _, anchor = link.partition("#")
+        path = page.parent / target if target else page
+        if "://" in link:
+            continue
+        if not path.exists():
+            yield f"links {link}, which isn't there"
+        elif anchor and anchor not in anchors(path):
+            yield f"links {link}, and there is no such heading"
+
+
+def name_faults(text, files):
+    folders = "|".join(sorted({name.partition("/")[0] for name in files if "/" in name}))
+    names = {Path(name).name for name in files}
+    for path in re.findall(PATH.format(folders), text):
+        if not MADE.search(path) and not (TOP / path).exists():
+            yield f"names {path}, which isn't there"
+    for name in NAME.findall(text):
+        if name not in names and not MADE.search(name):
+            yield f"names {name}, and no file is called so"
+
+
+def call_faults(text):
+    header = TOP / "include/eevdf.h"
+    declared = set(re.findall(r"\beevdf_\w+(?=\()", header.read_text())) if header.is_file() else set()
+    for call in re.findall(r"\beevdf_\w+(?=\()", text):
+        if call not in declared:
+            yield f"calls {call}, which include/eevdf.h doesn't declare"
+
+
+def pieces(block):
+    """The parts of an excerpt between its dots, each a list of lines without indentation and remarks."""
+    lines = [re.split(r" {3,}", line.strip())[0] for line in block.strip("\n").splitlines() if line.strip()]
+    return [part.split("\n") for part in re.split(r"(?:^|\n)\.\.(?:\n|$)", "\n".join(lines)) if part]
+
+
+def stands_in(piece, lines):
+    return any(lines[at:at + len(piece)] == piece for at in range(len(lines)))
+
+
+def excerpt_faults(page, text):
+    for link, block in EXCERPT.findall(text):
+        source = page.parent / link
+        if source.suffix == ".toml":
+            source = source.with_suffix(".out")
+        if not source.is_file():
+            continue
+        lines = [line.strip() for line in source.read_text().splitlines() if line.strip()]
+        for piece in pieces(block):
+            if not stands_in(piece, lines):
+                yield f"has an excerpt that doesn't stand in {source.relative_to(TOP)}: {piece[0]} .."
+
+
+def use_faults():
+    linked = (TOP / "docs/embedding.md").read_text()
+    for program in sorted((TOP / "crates/eevdf_uses/src").glob("*.rt")):
+        if program.name != "main.rt" and f"(../crates/eevdf_uses/src/{program.name})" not in linked:
+            yield f"docs/embedding.md doesn't link crates/eevdf_uses/src/{program.name}"
+
+
+def main():
+    files = tracked()
+    pages = sorted(TOP / name for name in files if re.fullmatch(r"(?:\w+/)*README\.md|docs/\w[\w-]*\.md", name))
+    faults = list(use_faults())
+    for page in pages:
+        text = page.read_text()
+        found = (*link_faults(page, text), *name_faults(text, files), *call_faults(text), *excerpt_faults(page, text))
+        faults += [f"{page.relative_to(TOP)} {fault}" for fault in found]
+    for fault in dict.fromkeys(faults):
+        print(f"FAILED: {fault}")
+    print(f"{len(pages)} pages: {len(set(faults))} links, names and excerpts are wrong")
+    sys.exit(1 if faults else 0)
+
+
+if __name__ == "__main__":
+    main()

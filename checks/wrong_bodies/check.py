@@ -1,0 +1,268 @@
+#!/usr/bin/env -S python3 -B
+"""checks/wrong_bodies/check.py [CRATE | CRATE/NAME]..: tries the wrong bodies, of every crate or of those named.
+
+Each must be refused in the function that its line `refused:` names. Wrong bodies of different functions are planted together in
+one copy of the crate and tried by one check, since a function is proved from the contracts of those that it calls, and not from
+their bodies. One that such a check doesn't say enough of is tried once more by itself. They are tried over the libraries that
+`rt ci` makes in a copy of the repository, while it goes on there; none of a crate counts that isn't proved there as it stands. The
+last line is 'N passed, M failed'."""
+
+import argparse
+import contextlib
+import math
+import os
+import re
+import shutil
+import sys
+import tempfile
+import threading
+from pathlib import Path
+
+from edits import TOP, BadEdit, apply, are_apart, edits_of, is_of_bodies, names_of
+from libraries import CRATES, Libraries
+from stand_ins import make_library, put_stand_ins
+
+sys.path.append(str(TOP / "tools"))
+
+from crate_copies import (  # noqa: E402
+    SOURCES,
+    all_below,
+    copy_crates,
+    copy_parts,
+    folder_of,
+    free_memory,
+    start_ci,
+    wait_for_other_runs,
+    with_all_below,
+)
+
+# How many wrong bodies one check tries at most; a few more where one function has many.
+MOST = 60
+# The memory that must be free, in bytes, for a check to be begun beside another.
+MEMORY = 5 << 30
+
+# What a check says.
+
+FUNCTION = re.compile(r"^(?:so far: )?fn (\S+): (.*)$", re.MULTILINE)
+# An error of a proof file, with its further lines, which are indented.
+PROOF_ERROR = re.compile(r"^(?:\./)?proofs/(\S+)/[^/]+\.antt:\d+:\d+: error: (.*(?:\n  .*)*)", re.MULTILINE)
+# What it says where the file only names what isn't there or isn't proved. What is printed of a term may have names that can't be
+# written there; that is no such case.
+NAMES_ALONE = re.compile(r"has no field|has no `|was not admitted|\(nearest: |is not in scope(?! here, so what is shown)")
+# What is said of a function whose code the prover has no rules for: it is neither proved nor refused.
+NOT_COVERED = re.compile(r"does not cover|not covered")
+FIRST_ERROR = re.compile(r"^.*: error\b.*$", re.MULTILINE)
+
+
+class Said:
+    """What a check says: which functions it refuses for what they do themselves, with its words; which it proves; and the first
+    error that it finds."""
+
+    def __init__(self, crate, text):
+        self.refused = {}
+        self.proved = set()
+        error = FIRST_ERROR.search(text)
+        self.error = error[0] if error else text[-300:]
+        wrong_proofs = {}
+        for folder, error in PROOF_ERROR.findall(text):
+            if not NAMES_ALONE.search(error):
+                wrong_proofs.setdefault(function_of(folder), error)
+        for name, told in FUNCTION.findall(text):
+            name = name.removeprefix(f"{crate}::")
+            if told == "proved":
+                self.proved.add(name)
+            elif not NOT_COVERED.search(told):
+                self.look(name, told, wrong_proofs)
+
+    def look(self, name, told, wrong_proofs):
+        unproved = [part for part in told.split("; ") if "did not prove" in part]
+        if unproved:
+            self.refused[name] = unproved[0]
+        elif told.startswith(("not proved", "no proof")) and name in wrong_proofs:
+            self.refused[name] = wrong_proofs[name]
+
+
+def function_of(folder):
+    """The function whose proof stands in this folder of proofs/. The folder of one that calls itself begins with a plus."""
+    return folder.replace("/+", "/").removeprefix("+").replace("/", "::")
+
+
+# The tries.
+
+class Tries:
+    """The tries of one crate's edits over libraries."""
+
+    def __init__(self, crate, libraries):
+        self.crate = crate
+        self.libraries = libraries
+
+    def try_together(self, edits):
+        """What a check says of a copy of the crate with these edits in place, and with stand-ins for the functions that aren't
+        theirs."""
+        (folder_of(self.crate) / "out").mkdir(exist_ok=True)
+        with tempfile.TemporaryDirectory(prefix="wrong-bodies-", dir=folder_of(self.crate) / "out") as held:
+            folder = Path(held)
+            copy_parts(self.crate, SOURCES, folder)
+            put_stand_ins(folder, {name for edit in edits for name in names_of(edit, folder)})
+            for edit in edits:
+                apply(edit, folder)
+            if all("main" not in names_of(edit, folder_of(self.crate)) for edit in edits):
+                make_library(folder)
+            return Said(self.crate, self.libraries.check(self.crate, folder, {edit.refused for edit in edits}))
+
+    def try_group(self, edits):
+        """Each of the edits with whether it is refused in its function, and what is said of it."""
+        said = self.try_together(edits)
+        told = [(edit, True, said.refused[edit.refused]) for edit in edits if edit.refused in said.refused]
+        told += [(edit, False, f"{edit.refused} is proved") for edit in edits if edit.refused in said.proved]
+        rest = [edit for edit in edits if edit.refused not in said.refused and edit.refused not in said.proved]
+        if len(edits) == 1:
+            return told or [(edit, False, f"not refused in {edit.refused}, but: {said.error}") for edit in rest]
+        # a check that refuses none of them has ended before it reached any
+        size = 1 if told else (len(rest) + 1) // 2
+        for start in range(0, len(rest), size):
+            told += self.try_group(rest[start : start + size])
+        return told
+
+
+def groups_of(crate, edits):
+    """The edits in groups that are tried together: no two of them of one function, and by itself each that changes more than
+    bodies."""
+    folder = folder_of(crate)
+    together = [edit for edit in edits if is_of_bodies(edit, folder)]
+    alone = [[edit] for edit in edits if edit not in together]
+    groups = [[] for _ in range(math.ceil(len(together) / MOST))]
+    for edit in together:
+        free = [group for group in groups if all(are_apart(edit, other, folder) for other in group)]
+        if not free:
+            groups.append([])
+            free = groups[-1:]
+        min(free, key=len).append(edit)
+    return groups + alone
+
+
+# The run.
+
+class Run:
+    """The crates whose edits can't be tried yet, and the groups of edits that can."""
+
+    def __init__(self, edits, libraries):
+        self.edits = edits
+        self.libraries = libraries
+        self.change = libraries.change
+        self.waiting = list(edits)
+        self.groups = []
+        self.refused = []
+        self.busy = 0
+
+    def next_task(self):
+        """A crate and a group of its edits that can be tried now."""
+        for crate in list(self.waiting):
+            if self.libraries.proved.issuperset(all_below(CRATES, crate)):
+                self.waiting.remove(crate)
+                self.groups += [(crate, group) for group in groups_of(crate, self.edits[crate])]
+        if not self.groups or self.busy and free_memory() < MEMORY:
+            return None
+        return self.groups.pop(0)
+
+    def try_group(self, crate, group):
+        try:
+            told = Tries(crate, self.libraries).try_group(group)
+        except BadEdit as why:
+            told = [(group[0], False, str(why))]
+        with self.change:
+            for edit, is_refused, text in told:
+                print(f"{'refused' if is_refused else 'FAILED'}: {edit}: {text[:240]}", flush=True)
+                self.refused += [edit] * is_refused
+
+    def may_go_on(self):
+        """Whether something is under way after which there may be more to do."""
+        return self.groups or self.waiting and not self.libraries.has_ended
+
+    def work(self):
+        """What each of the threads does, until nothing is left that it could begin or wait for."""
+        while True:
+            with self.change:
+                task = self.next_task()
+                while task is None:
+                    if not self.may_go_on():
+                        return
+                    self.change.wait(2)
+                    task = self.next_task()
+                self.busy += 1
+            try:
+                self.try_group(*task)
+            finally:
+                with self.change:
+                    self.busy -= 1
+                    self.change.notify_all()
+
+    def go(self, jobs):
+        threads = [threading.Thread(target=self.work) for _ in range(jobs)]
+        threads.append(threading.Thread(target=self.libraries.follow))
+        for thread in threads:
+            thread.start()
+        for thread in threads:
+            thread.join()
+
+    def count(self):
+        """How many edits are refused of crates that are proved as they stand."""
+        for crate in self.edits:
+            if crate not in self.libraries.proved:
+                print(f"rt ci doesn't prove {crate}, so its wrong bodies tell nothing", flush=True)
+        return sum(edit.crate in self.libraries.proved for edit in self.refused)
+
+
+@contextlib.contextmanager
+def ci_of(crates, copy):
+    """A folder where `rt ci` proves these crates and those below them, and what it says: in a copy of their own, or in one that is
+    given, where it was started by others and its words come on standard input."""
+    if copy:
+        yield copy.resolve(), sys.stdin
+        return
+    with tempfile.TemporaryDirectory(prefix="wrong-bodies-") as held:
+        top = Path(held)
+        copy_crates(with_all_below(CRATES, crates), top)
+        rt = start_ci(top)
+        try:
+            yield top, rt.stdout
+        finally:
+            rt.terminate()
+            rt.wait()
+
+
+def parse_words():
+    words = argparse.ArgumentParser(description=__doc__, formatter_class=argparse.RawDescriptionHelpFormatter)
+    words.add_argument("--copy", type=Path, help="a copy of the repository where `rt ci` runs, whose words are the standard input")
+    words.add_argument("--jobs", type=int, default=len(os.sched_getaffinity(0)), help="how many checks run at a time")
+    words.add_argument("named", nargs="*", help="a crate, or CRATE/NAME of crates/CRATE/must-fail/NAME.edit")
+    return words.parse_args()
+
+
+def edits_named(named):
+    """The edits by their crate: all where no name is given."""
+    crates = [crate for crate in CRATES if not named or crate in (name.partition("/")[0] for name in named)]
+    wanted = {crate: [it for it in edits_of(crate) if not named or crate in named or str(it) in named] for crate in crates}
+    return {crate: edits for crate, edits in wanted.items() if edits}
+
+
+def main():
+    words = parse_words()
+    try:
+        edits = edits_named(words.named)
+    except BadEdit as why:
+        print(f"{why}\n0 passed, 1 failed")
+        return 1
+    with open(TOP / "crates.txt") as held:
+        wait_for_other_runs("wrong_bodies", held)
+        with ci_of(edits, words.copy) as (top, said):
+            run = Run(edits, Libraries(top, said, threading.Condition()))
+            run.go(words.jobs)
+    passed = run.count()
+    failed = sum(map(len, edits.values())) - passed
+    print(f"{passed} passed, {failed} failed")
+    return 1 if failed else 0
+
+
+if __name__ == "__main__":
+    sys.exit(main())

@@ -1,0 +1,80 @@
+#!/usr/bin/env -S python3 -B
+"""Writes the proofs of the exports of crates/eevdf_c, which C calls: write.py. With --check, compares them with those that stand there."""
+
+import argparse
+import re
+import sys
+from pathlib import Path
+
+from exports import read_exports
+from proof import Proof
+from statement import I64
+
+ROOT = Path(__file__).resolve().parents[2]
+CRATE = "eevdf_c"
+HEAD = "-- Written by tools/export_proofs/write.py.\n"
+
+
+def names_of_steps(folder):
+    """What proofs/Steps.antt passes on."""
+    text = (folder / "proofs/Steps.antt").read_text()
+    return [n.strip() for names in re.findall(r"^pub use \S+\.\{(.*)\}$", text, re.M) for n in names.split(",")]
+
+
+def imports(proof, text, steps, types):
+    """The lines that bring in what the proof says."""
+    export = proof.export
+    own = f"exports.{export.module}.{export.name}"
+    call = "calls." + export.call.replace("::", ".")
+    words = {it.partition(".")[0] for it in re.split(r"[\s(),;{}]+", text)} | {"[]"}
+    used = [n for n in steps if n.strip("◌") in words]
+    lines = [f"use Rattle.{CRATE}.proofs.Steps.{{{', '.join(used)}}}"]
+    for path, names in export.imports:
+        left = [n for n in names if n not in used]
+        lines += [f"use {path}.{{{', '.join(left)}}}"] * bool(left)
+    lines += [f"use {path} as {alias}" for path, alias in export.aliases]
+    for pointee, row in proof.rows.items():
+        if row != I64:
+            lines.append(f"use Rattle.{CRATE}.specs.contracts.{types[pointee]}.{{the_row as {row}}}")
+        if f"{pointee}-laws" in text:
+            lines.append(f"use Rattle.{CRATE}.proofs.{types[pointee]}.TheLaws.{{the_row_laws as {pointee}-laws}}")
+    return [
+        *lines,
+        f"use Rattle.{CRATE}.specs.contracts.{own} as export",
+        f"use Rattle.{CRATE}.proofs.{own}.Statement.{{statement}}",
+        f"use Rattle.{CRATE}.proofs.{own}.Code as code",
+        f"use Rattle.{CRATE}.specs.contracts.{call} as call",
+        f"use Rattle.{CRATE}.proofs.{call}.Met.{{met}}",
+    ]
+
+
+def written():
+    """Each proof's file and its text."""
+    folder = ROOT / "crates" / CRATE
+    steps = names_of_steps(folder)
+    found, types = read_exports(folder / "src/exports")
+    for export in found:
+        proof = Proof(export, CRATE)
+        text = proof.text()
+        file = folder / "proofs/exports" / export.module / export.name / "Proof.antt"
+        yield file, HEAD + "\n".join([*imports(proof, text, steps, types), "", text])
+
+
+def main():
+    args = argparse.ArgumentParser(description=__doc__)
+    args.add_argument("--check", action="store_true", help="write nothing, and fail where a file differs")
+    is_check = args.parse_args().check
+    proofs = list(written())
+    differ = [(file, text) for file, text in proofs if not file.is_file() or file.read_text() != text]
+    for file, text in differ:
+        print(f"{'differs' if is_check else 'written'}: {file.relative_to(ROOT)}")
+        if not is_check:
+            file.parent.mkdir(parents=True, exist_ok=True)
+            file.write_text(text)
+    if is_check:
+        print(f"{len(proofs) - len(differ)} of {len(proofs)} proofs of exports are as the script writes them")
+    sys.exit(1 if is_check and differ else 0)
+
+
+if __name__ == "__main__":
+    main()
