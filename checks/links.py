@@ -1,16 +1,17 @@
-#!/usr/bin/env python3
-"""links.py: whether README, the pages of docs/ and the README of each folder name what there is. Each link has to lead to a file, and to a
-heading of it where it names one. Each file that is named has to be there. An excerpt, which is a block of lines below "from [NAME](FILE):",
-has to stand in that file, indentation aside, or for a workload in what is stored beside it; two dots are lines left out, and what stands
-three blanks behind a line is a remark. A call of the library for C has to stand in its header. docs/embedding.md has to link each program
-of crates/eevdf_uses. Names what is wrong, and ends with 1 then."""
+#!/usr/bin/env -S python3 -B
+"""checks/links.py: whether README, the pages of docs/ and the README of each folder name what there is. Each link has to lead to a file,
+and to a heading of it where it names one. Each file that is named has to be there. An excerpt, which is a block of lines below "from
+[NAME](FILE):", has to stand in that file, indentation aside, or for a workload in what is stored beside it; two dots are lines left out,
+and what stands three blanks behind a line is a remark. A call of the library for C has to stand in its header. docs/embedding.md has to
+link each program of crates/eevdf_uses. The last line is 'N passed, M failed', of the pages."""
 
 import re
 import subprocess
 import sys
 from pathlib import Path
 
-TOP = Path(__file__).resolve().parent.parent
+from runner import TOP, Checks
+
 LINK = re.compile(r"\[[^\]]*\]\(([^)\s]+)\)")
 EXCERPT = re.compile(r"[Ff]rom \[[^\]]*\]\(([^)]+)\)[^\n]*:\n\n((?: {4}.*\n|\n)+)")
 # A file by its name alone, and by a path from the top of the repository.
@@ -87,26 +88,27 @@ def excerpt_faults(page, text):
                 yield f"has an excerpt that doesn't stand in {source.relative_to(TOP)}: {piece[0]} .."
 
 
-def use_faults():
-    linked = (TOP / "docs/embedding.md").read_text()
+def use_faults(text):
+    """Which programs of crates/eevdf_uses docs/embedding.md doesn't link."""
     for program in sorted((TOP / "crates/eevdf_uses/src").glob("*.rt")):
-        if program.name != "main.rt" and f"(../crates/eevdf_uses/src/{program.name})" not in linked:
-            yield f"docs/embedding.md doesn't link crates/eevdf_uses/src/{program.name}"
+        if program.name != "main.rt" and f"(../crates/eevdf_uses/src/{program.name})" not in text:
+            yield f"doesn't link crates/eevdf_uses/src/{program.name}"
+
+
+def faults_of(page, files):
+    text = page.read_text()
+    found = [*link_faults(page, text), *name_faults(text, files), *call_faults(text), *excerpt_faults(page, text)]
+    return found + list(use_faults(text)) if page == TOP / "docs/embedding.md" else found
 
 
 def main():
     files = tracked()
-    pages = sorted(TOP / name for name in files if re.fullmatch(r"(?:\w+/)*README\.md|docs/\w[\w-]*\.md", name))
-    faults = list(use_faults())
-    for page in pages:
-        text = page.read_text()
-        found = (*link_faults(page, text), *name_faults(text, files), *call_faults(text), *excerpt_faults(page, text))
-        faults += [f"{page.relative_to(TOP)} {fault}" for fault in found]
-    for fault in dict.fromkeys(faults):
-        print(f"FAILED: {fault}")
-    print(f"{len(pages)} pages: {len(set(faults))} links, names and excerpts are wrong")
-    sys.exit(1 if faults else 0)
+    checks = Checks(are_many=True)
+    for name in sorted(files):
+        if re.fullmatch(r"(?:\w+/)*README\.md|docs/\w[\w-]*\.md", name):
+            checks.look(name, "\n".join(dict.fromkeys(faults_of(TOP / name, files))))
+    return checks.end()
 
 
 if __name__ == "__main__":
-    main()
+    sys.exit(main())

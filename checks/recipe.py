@@ -1,15 +1,16 @@
 #!/usr/bin/env -S python3 -B
-"""recipe.py: does the recipe of docs/embedding.md for a crate of one's own to the letter, in a copy: its commands, its main file, `./build
-mine`, and the run of what is built, which has to print the nine lines that the page speaks of. Ends with 1 where it doesn't."""
+"""checks/recipe.py: does the recipe of docs/embedding.md for a crate of one's own to the letter, in a copy: its commands, its main file,
+`./build mine`, and the run of what is built, which has to print the nine lines that the page speaks of. The last line is 'N passed, M
+failed'."""
 
 import re
 import shutil
-import subprocess
 import sys
 import tempfile
 from pathlib import Path
 
-TOP = Path(__file__).resolve().parent.parent
+from runner import TOP, Checks, run
+
 sys.path.append(str(TOP / "tools"))
 
 from crate_copies import copy_crates  # noqa: E402
@@ -18,6 +19,8 @@ from crate_copies import copy_crates  # noqa: E402
 BELOW = ("eevdf_weight", "eevdf_queue")
 SCRIPTS = ("build", "tools/current", "tools/crate_copies.py")
 PROGRAM = "crates/eevdf_uses/src/one_queue.rt"
+# A build proves three crates.
+SECONDS = 3600
 PAGE, HEADING = TOP / "docs" / "embedding.md", "## A crate of your own"
 
 
@@ -29,32 +32,30 @@ def blocks():
     return [re.sub(r"^ {4}", "", block, flags=re.MULTILINE).strip("\n") + "\n" for block in indented if block.strip()]
 
 
-def run(words, folder):
-    """What a command prints; the recipe fails where the command does."""
-    done = subprocess.run(words, cwd=folder, capture_output=True, text=True, errors="replace")
-    if done.returncode:
-        sys.exit(f"FAILED: the recipe: {' '.join(words)}\n{(done.stdout + done.stderr)[-2000:]}")
-    return done.stdout
+def follow(commands, main_file, copy):
+    """What is wrong with the recipe, done in a copy, or None."""
+    made = run(["bash", "-euc", commands], cwd=copy)
+    if made.status:
+        return f"its commands: {made}"
+    (copy / "crates" / "mine" / "src" / "main.rt").write_text(main_file)
+    for words in (["./build", "mine"], ["crates/mine/out/mine"]):
+        made = run(words, seconds=SECONDS, cwd=copy)
+        if made.status:
+            return f"{words[0]}: {made}"
+    return None if re.fullmatch(rb"0 ran\n1 ran\n2 ran\n(\d ran\n){6}", made.out) else f"it prints {made}"
 
 
 def main():
-    commands, main_file = blocks()
+    checks = Checks()
     with tempfile.TemporaryDirectory(prefix="recipe-") as held:
         copy = Path(held)
         copy_crates(BELOW, copy)
-        (copy / "tools").mkdir()
-        for script in SCRIPTS:
-            shutil.copy2(TOP / script, copy / script)
-        (copy / PROGRAM).parent.mkdir(parents=True)
-        shutil.copy2(TOP / PROGRAM, copy / PROGRAM)
-        run(["bash", "-euc", commands], copy)
-        (copy / "crates" / "mine" / "src" / "main.rt").write_text(main_file)
-        run(["./build", "mine"], copy)
-        lines = run(["crates/mine/out/mine"], copy).splitlines()
-    if lines[:3] != ["0 ran", "1 ran", "2 ran"] or len(lines) != 9 or not all(re.fullmatch(r"\d ran", line) for line in lines):
-        sys.exit(f"FAILED: the recipe prints {lines}")
-    print("the recipe for a crate of one's own works as it stands in docs/embedding.md")
+        for file in (*SCRIPTS, PROGRAM):
+            (copy / file).parent.mkdir(parents=True, exist_ok=True)
+            shutil.copy2(TOP / file, copy / file)
+        checks.look("the recipe for a crate of one's own, as it stands in docs/embedding.md", follow(*blocks(), copy))
+    return checks.end()
 
 
 if __name__ == "__main__":
-    main()
+    sys.exit(main())

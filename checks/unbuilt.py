@@ -1,12 +1,11 @@
 #!/usr/bin/env -S python3 -B
-"""unbuilt.py: what a user sees first. In a copy of the tree where nothing is built, `./eevdf` has to answer a workload of examples/
+"""checks/unbuilt.py: what a user sees first. In a copy of the tree where nothing is built, `./eevdf` has to answer a workload of examples/
 with its stored answer on standard output, and to say in one line on standard error, which README has, that this isn't the proved program.
 That may take SECONDS of processor time. A run that is killed has to leave nothing behind. Then each workload of examples/ has to be
-answered unproved as it is stored, where the kit's `rt try` can run many. Ends with 1 where it isn't so."""
+answered unproved as it is stored, where the kit's `rt try` can run many. The last line is 'N passed, M failed'."""
 
 import os
 import re
-import resource
 import shutil
 import subprocess
 import sys
@@ -14,15 +13,18 @@ import tempfile
 import time
 from pathlib import Path
 
-TOP = Path(__file__).resolve().parent.parent
+from runner import TOP, Checks, run, stored
+
 FIRST = TOP / "examples" / "two-tasks.toml"
 SECONDS = 150
 # A run is killed after so many seconds, when it is under way, and has so many to be cleared away.
 KILLED, CLEARED = 4, 30
 
 # What `rt try --cases` says of a workload, and what it says where the kit has no such flag.
-CASE = re.compile(r"^case=(\S+) run=ended status=(\d+) .*output=expected", re.MULTILINE)
-OLDER = "older than --cases"
+CASE = re.compile(rb"^case=(\S+) run=ended status=(\d+) .*output=expected", re.MULTILINE)
+OLDER = b"older than --cases"
+# Which compiles the program first, and ends each case after a minute by itself.
+PATIENCE = 3600
 
 
 def words_of(workload):
@@ -30,84 +32,67 @@ def words_of(workload):
     return workload.partition(b"\n")[0].decode().split()[2:]
 
 
-def answer_of(workload):
-    """What the program prints for a workload of examples/, and its status, as they are stored."""
-    lines = workload.with_suffix(".out").read_bytes().splitlines(keepends=True)
-    return b"".join(lines[:-1]), int(lines[-1].split()[1])
-
-
-def processor_time():
-    used = resource.getrusage(resource.RUSAGE_CHILDREN)
-    return used.ru_utime + used.ru_stime
-
-
-def look_at_first(copy):
-    """What is wrong with the first answer."""
+def look_at_first(checks, copy):
+    """The first answer."""
     text = FIRST.read_bytes()
-    before = processor_time()
-    run = subprocess.run([copy / "eevdf", *words_of(text)], input=text, capture_output=True)
-    took = processor_time() - before
-    said = run.stderr.decode(errors="replace")
-    print(f"./eevdf where nothing is built took {took:.0f} seconds of processor time")
-    if (run.stdout, run.returncode) != answer_of(FIRST):
-        yield f"answers {run.stdout!r} with status {run.returncode}"
-    if said.count("\n") != 1 or not said.startswith("eevdf: not the proved program") or "`./build eevdf`" not in said:
-        yield f"says {said!r}"
-    if f"\n    {said}" not in (TOP / "README.md").read_text():
-        yield "says another line than README.md has"
-    if took > SECONDS:
-        yield f"takes {took:.0f} seconds of processor time"
+    printed = run([copy / "eevdf", *words_of(text)], text, seconds=PATIENCE)
+    said = printed.errors.decode(errors="replace")
+    wanted = stored(FIRST.with_suffix(".out"))
+    checks.expect("answers the first workload", printed, (printed.out, printed.status) == (wanted.out, wanted.status))
+    is_said = said.count("\n") == 1 and said.startswith("eevdf: not the proved program") and "`./build eevdf`" in said
+    checks.expect("says that it isn't the proved program", said, is_said)
+    checks.expect("says so in the line that README.md has", said, f"\n    {said}" in (TOP / "README.md").read_text())
+    took = f"{printed.processor:.0f} seconds of processor time"
+    checks.look(f"takes at most {SECONDS} seconds of processor time", took if printed.processor > SECONDS else None, took)
 
 
-def look_at_killed(copy, folder):
-    """What is wrong with what a killed run leaves."""
+def look_at_killed(checks, copy, folder):
+    """What a killed run leaves."""
     folder.mkdir()
     words = [copy / "eevdf", *words_of(FIRST.read_bytes())]
     with open(FIRST, "rb") as given:
-        run = subprocess.Popen(words, stdin=given, env={**os.environ, "TMPDIR": str(folder)}, stderr=subprocess.DEVNULL)
+        killed = subprocess.Popen(words, stdin=given, env={**os.environ, "TMPDIR": str(folder)}, stderr=subprocess.DEVNULL)
     time.sleep(KILLED)
     begun = os.listdir(folder)
-    run.kill()
-    run.wait()
+    killed.kill()
+    killed.wait()
     deadline = time.monotonic() + CLEARED
     while os.listdir(folder) and time.monotonic() < deadline:
         time.sleep(0.1)
-    if not begun or os.listdir(folder):
-        yield f"leaves {os.listdir(folder)} of {begun} where it is killed"
+    left = os.listdir(folder)
+    checks.look("leaves nothing where it is killed", f"{left} of {begun}" if left or not begun else None)
 
 
-def look_at_examples(copy, cases):
-    """What is wrong with the answers to the workloads of examples/."""
+def look_at_examples(checks, copy, cases):
+    """The answers to the workloads of examples/."""
     cases.mkdir()
     wanted = {}
     for workload in sorted((TOP / "examples").glob("*.toml")):
         case, text = cases / workload.stem, workload.read_bytes()
-        printed, status = answer_of(workload)
+        wanted[workload.stem] = stored(workload.with_suffix(".out"))
         case.write_bytes(text)
         case.with_suffix(".args").write_text("".join(f"{word}\n" for word in words_of(text)))
-        case.with_suffix(".stdout").write_bytes(printed)
-        wanted[workload.stem] = str(status)
-    run = subprocess.run(["rt", "try", "--cases", cases], cwd=copy / "crates" / "eevdf", stdin=subprocess.DEVNULL,
-                         capture_output=True, text=True, errors="replace")
-    said = run.stdout + run.stderr
+        case.with_suffix(".stdout").write_bytes(wanted[workload.stem].out)
+    tried = run(["rt", "try", "--cases", cases], seconds=PATIENCE, cwd=copy / "crates" / "eevdf")
+    said = tried.out + tried.errors
     if OLDER in said:
-        print("the workloads of examples/ aren't answered unproved: this kit's rt try takes no --cases")
+        checks.leave_out("answers the workloads of examples/", "this kit's rt try takes no --cases")
         return
-    answered = dict(CASE.findall(said))
-    print(f"unproved, {len(answered)} of {len(wanted)} workloads of examples/ are answered as they are stored")
-    if answered != wanted:
-        yield f"answers some workload of examples/ otherwise:\n{said[-3000:]}"
+    answered = {name.decode(): int(status) for name, status in CASE.findall(said)}
+    wrong = [name for name, printed in wanted.items() if answered.get(name) != printed.status]
+    checks.look(f"answers the {len(wanted)} workloads of examples/", wrong and f"not {wrong}: {said[-3000:].decode(errors='replace')}")
 
 
 def main():
+    checks = Checks()
     with tempfile.TemporaryDirectory(prefix="unbuilt-") as held:
         copy = Path(held) / "tree"
         shutil.copytree(TOP, copy, ignore=shutil.ignore_patterns(".git", "out", "must-fail"), symlinks=True)
-        wrong = [*look_at_first(copy), *look_at_killed(copy, Path(held) / "killed"), *look_at_examples(copy, Path(held) / "cases")]
-    for text in wrong:
-        print(f"FAILED: ./eevdf where nothing is built {text}")
-    sys.exit(1 if wrong else 0)
+        look_at_first(checks, copy)
+        look_at_killed(checks, copy, Path(held) / "killed")
+        look_at_examples(checks, copy, Path(held) / "cases")
+    return checks.end()
 
 
 if __name__ == "__main__":
-    main()
+    sys.exit(main())

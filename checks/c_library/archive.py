@@ -1,7 +1,7 @@
 #!/usr/bin/env -S python3 -B
-"""checks/c_library/archive.py COPY: builds crates/eevdf_c/out/libeevdf_c.a in a copy of the repository in which `rt ci` has proved the crates.
-`rt lib` would prove those below it once more, since `rt ci` keeps their statements alone. Prints what the build says, and ends with its
-status."""
+"""checks/c_library/archive.py COPY: builds crates/eevdf_c/out/libeevdf_c.a in a copy of the repository in which `rt ci` has proved the
+crates. `rt lib` would prove those below it once more, since `rt ci` keeps their statements alone. Prints what the build says, and ends
+with its status."""
 
 import subprocess
 import sys

@@ -1,5 +1,5 @@
-"""The calls of eevdf.h over the plain queue of checks/drawn/plain: each answers what the header says, tested in the header's order, and every sum
-is a scan. It shares no code with the library."""
+"""The calls of eevdf.h over the plain queue of checks/drawn/plain: each answers what the header says, tested in the header's order, and
+every sum is a scan. It shares no code with the library."""
 
 import sys
 from pathlib import Path

@@ -1,6 +1,7 @@
 #!/usr/bin/env bash
-# checks/c_library/run.sh [ARCHIVE [SEED]]: looks at the library for C, its header, its examples and what is built on it: README.md says at what. Prints a
-# line for each check; the last line is 'N passed, M failed'. Ends with 1 where something failed, and with 3 where there is no library.
+# checks/c_library/run.sh [ARCHIVE [SEED]]: looks at the library for C, its header, its examples and what is built on it: README.md says at
+# what. Prints a line for each check; the last line is 'N passed, M failed'. Ends with 1 where something failed, and with 3 where there is
+# no library.
 # ARCHIVE is crates/eevdf_c/out/libeevdf_c.a where none is given, and SEED, from which the sequences of calls are drawn, 1.
 set -u
 here=$(cd "$(dirname "$0")" && pwd)

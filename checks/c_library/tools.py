@@ -1,11 +1,16 @@
 """What the checks need: the library, a folder to work in, compilers, runs of programs, and a count of what was looked at."""
 
 import shutil
-import subprocess
+import sys
 from dataclasses import dataclass, field
 from pathlib import Path
+from subprocess import CompletedProcess
 
 TOP = Path(__file__).resolve().parents[2]
+sys.path.append(str(TOP / "checks"))
+
+import runner  # noqa: E402
+
 WARNINGS = ("-Wall", "-Wextra", "-Werror", "-pedantic")
 C11 = ("-std=c11", "-O2", *WARNINGS, f"-I{TOP / 'include'}")
 SANITIZED = ("-g", "-fsanitize=address,undefined", "-fno-sanitize-recover=all")
@@ -13,8 +18,10 @@ SANITIZED = ("-g", "-fsanitize=address,undefined", "-fno-sanitize-recover=all")
 SECONDS = 300
 
 
-def run(words, **more):
-    return subprocess.run(list(map(str, words)), capture_output=True, text=True, errors="replace", timeout=SECONDS, **more)
+def run(words, input="", **more):
+    """A run of a program or a tool, with what it prints as text."""
+    printed = runner.run(list(map(str, words)), input.encode(), SECONDS, **more)
+    return CompletedProcess(words, printed.status, *(text.decode(errors="replace") for text in (printed.out, printed.errors)))
 
 
 def ending(text):
@@ -28,41 +35,10 @@ def fault_of(made):
 
 
 @dataclass
-class Checks:
-    """Counts what passed, failed or was left out, and says so."""
-
-    passed: int = 0
-    failed: int = 0
-    skipped: int = 0
-
-    def look(self, name, fault, said=""):
-        """Counts a check: failed where there is a fault."""
-        if fault:
-            self.failed += 1
-            print(f"FAILED: {name}: {fault}", flush=True)
-        else:
-            self.passed += 1
-            print(f"passed: {name}{said and ': ' + said}", flush=True)
-
-    def leave_out(self, name, why):
-        self.skipped += 1
-        print(f"skipped: {name}: {why}", flush=True)
-
-    def skip(self, name, tool, package):
-        self.leave_out(name, f"there is no {tool} (Debian package {package})")
-
-    def end(self):
-        if self.skipped:
-            print(f"{self.skipped} skipped")
-        print(f"{self.passed} passed, {self.failed} failed")
-        return 1 if self.failed else 0
-
-
-@dataclass
 class Tools:
     archive: Path
     work: Path
-    checks: Checks = field(default_factory=Checks)
+    checks: runner.Checks = field(default_factory=runner.Checks)
     callers: Path = TOP / "checks" / "c_library" / "callers"
 
     def __post_init__(self):

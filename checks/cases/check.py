@@ -1,19 +1,19 @@
-#!/usr/bin/env python3
-"""check.py [WORD..]: sends workloads to the built programs `eevdf` and `eevdf_orders`, and looks whether each prints what stands in
-the file beside it; with words only those whose path has one of them. Without words it sends those of made.py too. The last line is
-'N passed, M failed'."""
+#!/usr/bin/env -S python3 -B
+"""checks/cases/check.py [WORD..]: sends workloads to the built programs `eevdf` and `eevdf_orders`, and looks whether each prints what
+stands in the file beside it; with words only those whose path has one of them. Without words it sends those of made.py too. The last line
+is 'N passed, M failed'. TOP names another checkout whose programs are tried."""
 
 import codecs
 import re
-import subprocess
 import sys
 from pathlib import Path
 
-sys.dont_write_bytecode = True
 import made
 
 CASES = Path(__file__).resolve().parent
-TOP = CASES.parent.parent
+sys.path.append(str(CASES.parent))
+
+from runner import TOP, Checks, Printed, built  # noqa: E402
 
 SOLO = ("eevdf", "solo")
 REPLAY = ("eevdf", "replay")
@@ -21,9 +21,6 @@ ORDERS = ("eevdf_orders",)
 
 # The last line of what is printed, where all is well.
 DONE = b"status 0\n"
-
-# A program that runs for so many seconds is ended, and has failed.
-PATIENCE = 60
 
 # What is cut short and damaged, byte by byte.
 DAMAGED = (TOP / "examples/two-tasks.toml", CASES / "orders/the-first-of-two-posts-wakes-the-task.toml")
@@ -41,44 +38,29 @@ def command_of(workload):
     return workload.removeprefix(codecs.BOM_UTF8).partition(b"\n")[0].decode().split()[1:]
 
 
-def start(command, workload, out, errors):
-    program, *words = command
-    built = TOP / "crates" / program / "out" / program
-    return subprocess.run([built, *words], input=workload, stdout=out, stderr=errors, timeout=PATIENCE)
-
-
-def status_line(ran):
-    return b"status %d\n" % ran.returncode
-
-
-def run(command, workload):
-    """What a program prints for a workload, and as its last line the status."""
-    ran = start(command, workload, subprocess.PIPE, subprocess.STDOUT)
-    return ran.stdout + status_line(ran)
-
-
-class Checks:
-    """Counts what is as it should be and what isn't."""
+class Cases(Checks):
+    """Counts the workloads for which the programs print what they should."""
 
     def __init__(self):
-        self.passed = self.failed = 0
+        super().__init__(are_many=True)
+        self.programs = built("eevdf", "eevdf_orders")
 
-    def look(self, name, printed, is_right):
-        if is_right:
-            self.passed += 1
-        else:
-            self.failed += 1
-            print(f"FAILED: {name}: {printed.decode(errors='replace')}", flush=True)
+    def run(self, command, workload, **more):
+        program, *words = command
+        return self.programs.run(program, words, workload, **more)
+
+    def whole(self, command, workload):
+        """What a program prints for a workload, and as its last line the status."""
+        return self.run(command, workload).whole()
 
     def compare(self, name, command, workload, wanted):
-        printed = run(command, workload)
-        self.look(name, printed, printed == wanted)
+        printed = self.whole(command, workload)
+        self.expect(name, printed, printed == wanted)
 
-    def compare_errors(self, name, command, workload, wanted, out=subprocess.PIPE):
-        """The same of standard error alone. Nothing may come on standard output, or that goes to a file."""
-        ran = start(command, workload, out, subprocess.PIPE)
-        printed = ran.stderr + status_line(ran)
-        self.look(name, (ran.stdout or b"") + printed, not ran.stdout and printed == wanted)
+    def compare_errors(self, name, command, workload, wanted, **more):
+        """The same where all comes on standard error."""
+        printed = self.run(command, workload, **more)
+        self.expect(name, printed, printed == wanted)
 
 
 def is_of_both_versions(path, workload, wanted):
@@ -123,12 +105,12 @@ def check_damaged(checks, path):
     body = workload.index(b"version")
     printed = {}
     for place in range(body, len(workload)):
-        printed[f"cut at {place}"] = run(command, workload[:place])
+        printed[f"cut at {place}"] = checks.whole(command, workload[:place])
         for byte in BYTES:
-            printed[f"{byte} at {place}"] = run(command, workload[:place] + byte + workload[place + 1:])
+            printed[f"{byte} at {place}"] = checks.whole(command, workload[:place] + byte + workload[place + 1:])
     wrong = [name for name, text in printed.items() if not is_report_or_refusal(text)]
     name = f"{path.relative_to(TOP)}, damaged in {len(printed)} ways"
-    checks.look(name, ", ".join(wrong).encode(), not wrong)
+    checks.look(name, ", ".join(wrong))
 
 
 def check_beginnings(checks, path):
@@ -155,9 +137,9 @@ def check_deeds(checks):
     for versions, deeds in made.DEEDS.items():
         for deed in deeds:
             for version in made.CPUS:
-                printed = run(SOLO, made.whole_machine(version, script=f'script = ["{deed}"]\n'))
+                printed = checks.whole(SOLO, made.whole_machine(version, script=f'script = ["{deed}"]\n'))
                 is_right = is_report(printed) if version in versions else printed == refusal("bad value at script at 0")
-                checks.look(f"the deed '{deed}' in version {version}", printed, is_right)
+                checks.expect(f"the deed '{deed}' in version {version}", printed, is_right)
 
 
 def check_other_operations(checks):
@@ -187,11 +169,11 @@ def check_longest_orders(checks):
 def check_run(checks, name, programs, tasks, cpus, count):
     """Each task stands in one place of the report of a run; and one thread that does the history prints the same report, but for
     the requests that are left."""
-    printed = run(("eevdf", "run", "--history"), (programs + tasks).encode())
+    printed = checks.whole(("eevdf", "run", "--history"), (programs + tasks).encode())
     report, script, deeds = printed.removesuffix(DONE).partition(b"script = [")
     report = re.sub(rb"^left .*\n", b"", report, flags=re.MULTILINE)
     placed = sorted(map(int, re.findall(rb"^(?:task|asleep) (\d+) ", report, re.MULTILINE)))
-    checks.look(f"{name}: CPUs and tasks", printed,
+    checks.expect(f"{name}: CPUs and tasks", printed,
                 len(re.findall(rb"^cpu ", report, re.MULTILINE)) == cpus and placed == list(range(count)))
     workload = programs.encode() + script + deeds + tasks.encode()
     checks.compare(f"{name}: its history by one thread", SOLO, workload, report + DONE)
@@ -213,9 +195,9 @@ def order_of(text):
 
 def check_ordered(checks, name, command, workload):
     """What eevdf_orders prints is the workload with an order in front, and the workbench plays that to its end. Gives the order."""
-    ordered = run(command, workload).removesuffix(DONE)
-    played = run(REPLAY, ordered)
-    checks.look(f"{name}, played", played, ordered.endswith(workload.removeprefix(codecs.BOM_UTF8)) and is_report(played))
+    ordered = checks.whole(command, workload).removesuffix(DONE)
+    played = checks.whole(REPLAY, ordered)
+    checks.expect(f"{name}, played", played, ordered.endswith(workload.removeprefix(codecs.BOM_UTF8)) and is_report(played))
     return order_of(ordered)
 
 
@@ -239,12 +221,12 @@ def check_ordered_workloads(checks):
 def check_drains(checks):
     """A drain of 64 CPUs is 130 steps. It takes the lock of its own CPU alone, so nobody waits, and all callers take turns."""
     order = check_ordered(checks, "64 drains, ordered", ORDERS, made.drains())
-    checks.look("the order of 64 drains", str(order).encode(), order == [*range(64)] * 130)
+    checks.expect("the order of 64 drains", str(order).encode(), order == [*range(64)] * 130)
 
 
 def check_other_words(checks):
     """Words that eevdf_orders doesn't take get one line on standard error, and nothing is ordered."""
-    usage = b"usage: eevdf_orders [--seed N]\nstatus 2\n"
+    usage = Printed(b"", 2, b"usage: eevdf_orders [--seed N]\n")
     for words in made.NO_SEEDS:
         checks.compare_errors(f"the words '{words}'", (*ORDERS, *words.split()), made.TO_BE_ORDERED[0], usage)
 
@@ -252,9 +234,11 @@ def check_other_words(checks):
 def check_failed_write(checks):
     """A machine may lack the file that takes no byte."""
     full = Path("/dev/full")
-    if full.is_char_device():
-        with full.open("wb") as out:
-            checks.compare_errors("a write that fails", ORDERS, made.TO_BE_ORDERED[0], b"fault: writing\nstatus 3\n", out)
+    if not full.is_char_device():
+        checks.leave_out("a write that fails", f"there is no {full}")
+        return
+    with full.open("wb") as out:
+        checks.compare_errors("a write that fails", ORDERS, made.TO_BE_ORDERED[0], Printed(b"", 3, b"fault: writing\n"), stdout=out)
 
 
 def check_made(checks):
@@ -271,7 +255,7 @@ def check_made(checks):
 def main():
     paths = sorted([*TOP.glob("examples/*.toml"), *CASES.glob("*/*.toml")])
     words = sys.argv[1:]
-    checks = Checks()
+    checks = Cases()
     for path in paths:
         if not words or any(word in str(path.relative_to(TOP)) for word in words):
             check_pair(checks, path)
@@ -282,8 +266,7 @@ def main():
         for path in ORDERED:
             check_beginnings(checks, path)
         check_made(checks)
-    print(f"{checks.passed} passed, {checks.failed} failed")
-    return 0 if checks.failed == 0 else 1
+    return checks.end()
 
 
 if __name__ == "__main__":

@@ -1,7 +1,7 @@
 #!/usr/bin/env python3
 """fair.py [--seconds N] [--seed SEED] [--top TOP] [--model]: draws turns of one CPU, sends them to the built program `eevdf`, and looks
 whether what it prints keeps within the bounds that "Fairness" of docs/model.md gives, and how near it comes to them. A turn is a pick
-and then ticks of the task picked. Of the examples that are kept in checks/cases/fair one has to come near the bound of a late request, and one
+and then ticks of the task picked. Of the examples of checks/cases/fair one has to come near the bound of a late request, and one
 to meet the bound of a task that is ahead. With --model the plain model answers in place of the program. The last line is 'N passed, M
 failed'."""
 
@@ -16,10 +16,11 @@ from fractions import Fraction
 from pathlib import Path
 
 sys.dont_write_bytecode = True
+sys.path.append(str(Path(__file__).resolve().parents[1]))
 from draw.machines import level, slice_length
 from plain.bench import answer
 from plain.numbers import charge_of, weight_of
-from programs import Programs
+from runner import Programs
 
 EXAMPLES = Path(__file__).resolve().parent.parent / "cases/fair"
 TASK = re.compile(r"^task (\d+) v (-?\d+) d (-?\d+) ", re.M)

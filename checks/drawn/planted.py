@@ -1,4 +1,7 @@
-"""Plants wrong bodies into copies of the crates, one at a time, and looks whether the comparison finds each.
+#!/usr/bin/env -S python3 -B
+"""checks/drawn/planted.py [CRATE/NAME..]: plants wrong bodies into copies of the crates, one at a time, and looks whether the comparison
+finds each. It takes a quarter of an hour; with --look it tries nothing, but looks whether each has its place in its crate. The last line is
+'N passed, M failed'.
 
 A wrong body can't be built, since only proved crates are. `rt try` runs a program without its proofs, on files with words
 and an expected output beside them: here drawn workloads with the words of their command and the output of the plain model.
@@ -7,7 +10,6 @@ and an expected output beside them: here drawn workloads with the words of their
 import argparse
 import random
 import re
-import shutil
 import subprocess
 import sys
 import tempfile
@@ -18,10 +20,14 @@ from pathlib import Path
 from draw.cases import draw
 from plain.bench import answer
 
-TOP = Path(__file__).resolve().parents[2]
-sys.path.append(str(TOP / "checks" / "wrong_bodies"))
+CHECKS = Path(__file__).resolve().parents[1]
+sys.path += [str(CHECKS), str(CHECKS / "wrong_bodies"), str(CHECKS.parent / "tools")]
 
+from crate_copies import copy_crates, folder_of, read_crates, with_all_below  # noqa: E402
 from edits import BadEdit, apply, changed, read_edit  # noqa: E402
+from runner import Checks  # noqa: E402
+
+CRATES = with_all_below(read_crates(), ["eevdf"])
 
 WRONG_BODIES = (
     "eevdf_queue/eligible_at_the_next_unit",
@@ -75,12 +81,6 @@ def write_cases(folder, seed, count):
 
 # The tries.
 
-def copy_crates(copy):
-    shutil.copytree(TOP / "crates", copy / "crates", ignore=shutil.ignore_patterns("out"))
-    for file in ("crates.txt", "HANDLES"):
-        shutil.copy(TOP / file, copy)
-
-
 # A busy machine needs longer than a try has by itself.
 SECONDS = 600
 
@@ -104,54 +104,51 @@ def try_cases(copy, cases):
 def try_body(cases, body):
     with tempfile.TemporaryDirectory(prefix="planted-") as folder:
         copy = Path(folder)
-        copy_crates(copy)
+        copy_crates(CRATES, copy)
         if body:
             crate, name = body.split("/")
             apply(read_edit(crate, name), copy / "crates" / crate)
         return try_cases(copy, cases)
 
 
-def is_as_wanted(body, result):
-    """Whether all cases of the right bodies are as expected, or some case finds the wrong one."""
-    if result is None:
-        return False
-    count, alike, different, _unanswered = result
-    return different > 0 if body else alike == count
-
-
-def has_its_place(body):
-    """Whether the edit is there and its old texts stand in the crate."""
+def fault_of_place(body):
+    """What is wrong with the place of an edit: that it isn't there, or its old texts don't stand in the crate."""
     crate, name = body.split("/")
     try:
-        changed(read_edit(crate, name), TOP / "crates" / crate)
+        changed(read_edit(crate, name), folder_of(crate))
     except (BadEdit, OSError) as why:
-        print(f"FAILED: {body}: {why}", flush=True)
-        return False
-    return True
+        return str(why)
+    return None
 
 
-def report_body(body, result):
-    passed = is_as_wanted(body, result)
-    told = "the try failed"
-    if result is not None:
-        count, _alike, different, unanswered = result
-        told = f"of {count} workloads {different} different" + f" and {unanswered} without an answer" * (unanswered > 0)
-    print(f"{'passed' if passed else 'FAILED'}: {body or 'no wrong body'}: {told}", flush=True)
-    return passed
+def look_at(checks, body, result):
+    """All cases of the right bodies have to be as expected, and some case has to find a wrong one."""
+    name = body or "no wrong body"
+    if result is None:
+        checks.look(name, "the try failed")
+        return
+    count, alike, different, unanswered = result
+    told = f"of {count} workloads {different} different" + f" and {unanswered} without an answer" * (unanswered > 0)
+    checks.look(name, None if (different > 0 if body else alike == count) else told, told)
 
 
-def try_all(words):
+def try_all(checks, words):
     bodies = (None, *words.bodies)
     with tempfile.TemporaryDirectory(prefix="planted-cases-") as folder, ThreadPoolExecutor(words.jobs) as pool:
         write_cases(Path(folder), words.seed, words.count)
-        return list(map(report_body, bodies, pool.map(partial(try_body, Path(folder)), bodies)))
+        for body, result in zip(bodies, pool.map(partial(try_body, Path(folder)), bodies)):
+            look_at(checks, body, result)
 
 
 def main():
     words = parse_words()
-    results = list(map(has_its_place, words.bodies)) if words.look else try_all(words)
-    print(f"{results.count(True)} passed, {results.count(False)} failed")
-    return 0 if all(results) else 1
+    checks = Checks(are_many=words.look)
+    if words.look:
+        for body in words.bodies:
+            checks.look(body, fault_of_place(body))
+    else:
+        try_all(checks, words)
+    return checks.end()
 
 
 if __name__ == "__main__":

@@ -1,6 +1,7 @@
 """What `eevdf_orders` is sent. Its faults go to standard error."""
 
-from text import MOST_BYTES, NOT_TOML, Answer, Text, fault, filled, given, numbered, padded
+from runner import Printed
+from text import MOST_BYTES, NOT_TOML, Text, fault, filled, given, numbered, padded
 from workloads import OPERATIONS, TASK, programs
 
 LONGEST = programs(b"pick", OPERATIONS, 25) + TASK
@@ -10,7 +11,7 @@ SHORT = b"version = 1\nprogram = [[]]" + TASK
 
 
 def refused(answer):
-    return Answer(b"", answer.status, answer.printed)
+    return Printed(b"", answer.status, answer.out)
 
 
 def put_in(text, order):
@@ -33,6 +34,6 @@ ORDERED = (
     sent("the longest programs to be ordered", given(programs(b"pick", OPERATIONS, 64) + TASK),
          refused(fault("order longer than 1000000"))),
     sent("programs of one place more than an order has", given(LONGER), refused(fault("order longer than 1000000"))),
-    sent("programs of the longest order", given(LONGEST), Answer(put_in(LONGEST, list(range(25)) * (4 * OPERATIONS)), 0)),
-    sent("a workload up to the limit to be ordered", padded(SHORT), Answer(put_in(padded(SHORT)(), []), 0)),
+    sent("programs of the longest order", given(LONGEST), Printed(put_in(LONGEST, list(range(25)) * (4 * OPERATIONS)))),
+    sent("a workload up to the limit to be ordered", padded(SHORT), Printed(put_in(padded(SHORT)(), []))),
 )

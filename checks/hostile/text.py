@@ -3,15 +3,10 @@
 from dataclasses import dataclass
 from typing import Callable
 
+from runner import Printed
+
 # The bytes that a workload may have.
 MOST_BYTES = 16777216
-
-
-@dataclass(frozen=True)
-class Answer:
-    printed: bytes
-    status: int
-    errors: bytes = b""
 
 
 @dataclass(frozen=True)
@@ -20,7 +15,7 @@ class Text:
 
     name: str
     make: Callable[[], bytes]
-    answer: Answer
+    answer: Printed
     words: tuple = ("solo",)
     program: str = "eevdf"
 
@@ -29,11 +24,11 @@ class Text:
 
 
 def fault(line, status=1):
-    return Answer(f"fault: {line}\n".encode(), status)
+    return Printed(f"fault: {line}\n".encode(), status)
 
 
 def report(*lines):
-    return Answer("".join(line + "\n" for line in lines).encode(), 0)
+    return Printed("".join(line + "\n" for line in lines).encode(), 0)
 
 
 NOT_TOML = fault("not a TOML document")

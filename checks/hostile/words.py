@@ -1,8 +1,9 @@
 """Words of a command, more and longer ones than anybody types."""
 
-from text import Answer, Text, given
+from runner import Printed
+from text import Text, given
 
-USAGE = Answer(b"usage: eevdf solo|replay|run [--history]\n", 2)
+USAGE = Printed(b"usage: eevdf solo|replay|run [--history]\n", 2)
 NOTHING = given(b"")
 
 WORDS = (

@@ -3,8 +3,8 @@
 from collections import Counter
 from dataclasses import dataclass, field
 
-from commands import expected
-from sweep import say_faults, sweep
+from runner import stored
+from sweep import first_of, sweep
 
 WORKLOADS = ["two-tasks", "posts", "pull", "program", "renice", "each-operation"]
 
@@ -59,21 +59,21 @@ class Call:
 class Sweep:
     """The runs of `refused_calls` on a workload."""
 
-    programs: object
+    refusals: object
     workload: object
     ample: list = field(default_factory=list)
     # by call: the requests for memory with nothing refused, and the refusals of all runs
     requests: Counter = field(default_factory=Counter)
-    refusals: Counter = field(default_factory=Counter)
+    refusals_met: Counter = field(default_factory=Counter)
     # refused requests that no call tells of: what asked did without
     harmless: int = 0
     faults: list = field(default_factory=list)
 
     def run(self, number):
-        return self.programs.run("refused_calls", [], self.workload, refuse_memory=number)
+        return self.refusals.run("refused_calls", [], self.workload, refuse_memory=number)
 
     def fail(self, number, what):
-        self.faults.append(f"refused_calls < {self.workload.name}: refused {number}: {what}")
+        self.faults.append(f"refused {number}: {what}")
 
     def look(self, number, run):
         """Looks at a run of which a request is refused, or of which none is (number 0)."""
@@ -85,7 +85,7 @@ class Sweep:
         if refused > int(0 < number <= run.counts.memory):
             self.fail(number, f"{refused} calls say that they were refused")
         for call in calls:
-            self.refusals[call.kind()] += call.refusals
+            self.refusals_met[call.kind()] += call.refusals
         self.harmless += int(0 < number <= run.counts.memory) - refused
         self.compare(number, calls)
         requests = requests_between(run)
@@ -108,7 +108,7 @@ class Sweep:
         for call in CALLS:
             if call not in self.requests:
                 self.faults.append(f"{call} isn't made on {self.workload.name}")
-            elif self.requests[call] and not self.refusals[call] and call not in ASKS_AGAIN:
+            elif self.requests[call] and not self.refusals_met[call] and call not in ASKS_AGAIN:
                 self.faults.append(f"{call} asks for memory on {self.workload.name} and was never refused")
 
     def other_answers(self, before, name):
@@ -120,7 +120,7 @@ class Sweep:
         else:
             return []
         files = [*self.workload.parent.glob(pattern), *self.workload.parent.glob(pattern.replace(".*", ""))]
-        return [expected(file).out.decode() for file in files]
+        return [stored(file).out.decode() for file in files]
 
 
 def calls_of(text):
@@ -183,25 +183,23 @@ def look_at_ample(case):
         case.fail(0, f"it doesn't come to its end: {run.printed}")
 
 
-def say_refusals(cases, say):
+def say_refusals(cases):
     """A line for each call: how often it was refused on each workload, and `-` where it asks for no memory."""
-    names = [case.workload.stem for case in cases]
-    say("".join(f"{name:>16}" for name in names) + "  call")
+    print("".join(f"{case.workload.stem:>16}" for case in cases) + "  call")
     for call in CALLS:
-        counts = [case.refusals[call] if case.requests[call] else "-" for case in cases]
-        say("".join(f"{count:>16}" for count in counts) + f"  {call}")
-    say("".join(f"{case.harmless:>16}" for case in cases) + "  any of them, which answered as with ample memory")
+        counts = [case.refusals_met[call] if case.requests[call] else "-" for case in cases]
+        print("".join(f"{count:>16}" for count in counts) + f"  {call}")
+    print("".join(f"{case.harmless:>16}" for case in cases) + "  any of them, which answered as with ample memory", flush=True)
 
 
-def check(programs, pool, workloads, say):
-    """Looks at all workloads, says how often each call was refused, and gives for each workload whether it passed."""
-    cases = [Sweep(programs, workloads / f"{name}.toml") for name in WORKLOADS]
+def check(checks, refusals, pool, workloads):
+    """Looks at all workloads, and says how often each call was refused."""
+    cases = [Sweep(refusals, workloads / f"{name}.toml") for name in WORKLOADS]
     for case in cases:
         look_at_ample(case)
         if not case.faults:
-            sweep(pool, case.run, lambda number, run: run.counts is None or run.counts.memory >= number, case.look)
+            sweep(pool, case.run, "memory", case.look)
             case.look_at_refusals()
-    say_refusals(cases, say)
+    say_refusals(cases)
     for case in cases:
-        say_faults(case.faults, say)
-    return [not case.faults for case in cases]
+        checks.look(f"refused_calls < {case.workload.name}", first_of(case.faults))

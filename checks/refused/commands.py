@@ -2,8 +2,8 @@
 
 from dataclasses import dataclass
 
-from programs import Printed
-from sweep import say_faults, sweep
+from runner import Printed, stored
+from sweep import first_of, sweep
 
 # The programs, their words and the workloads that they are run on. Where a workload has a file of what is printed, or several
 # since its threads come in an order of their own, this is compared too.
@@ -55,7 +55,7 @@ SWEEPS = ["memory", "memory..", "threads", "reads", "writes", "writes.."]
 class Case:
     """A program with its words and workload, and what it prints when nothing is refused."""
 
-    programs: object
+    refusals: object
     name: str
     words: list
     workload: object
@@ -66,12 +66,12 @@ class Case:
         return " ".join([self.name, *self.words, "<", self.workload.name])
 
     def run(self, **refused):
-        return self.programs.run(self.name, self.words, self.workload, **refused)
+        return self.refusals.run(self.name, self.words, self.workload, **refused)
 
     def fault(self, line, written=b""):
         """What is printed with a fault line: by eevdf on standard output, by eevdf_orders on standard error."""
         line = f"fault: {line}\n".encode()
-        return Printed(written + line, b"", 3) if self.name == "eevdf" else Printed(written, line, 3)
+        return Printed(written + line, 3) if self.name == "eevdf" else Printed(written, 3, line)
 
     def want(self, what, printed, wanted):
         if printed not in wanted:
@@ -93,14 +93,14 @@ class Case:
         return kinds
 
 
-def open_case(programs, name, words, workload):
+def open_case(refusals, name, words, workload):
     """A case with the reports that its files have, or else the one that is printed with nothing refused."""
-    case = Case(programs, name, words, workload, [], [])
+    case = Case(refusals, name, words, workload, [], [])
     ample = case.run()
     stem = ".".join([workload.stem, "".join(words)])
     files = sorted(workload.parent.glob(f"{stem}.out")) + sorted(workload.parent.glob(f"{stem}.*.out"))
     if name == "eevdf" and files:
-        case.reports = [expected(file) for file in files]
+        case.reports = [stored(file) for file in files]
         case.want("nothing refused", ample.printed, case.reports)
     else:
         case.reports = [ample.printed]
@@ -109,85 +109,41 @@ def open_case(programs, name, words, workload):
     return case
 
 
-def expected(file):
-    """What a file says that is printed: its last line is the status."""
-    *lines, status = file.read_text().splitlines(keepends=True)
-    return Printed("".join(lines).encode(), b"", int(status.removeprefix("status ")))
-
-
-def refuse_memory(case, pool, variable):
-    """Refuses the n-th request for memory, alone or with all that come after it."""
-    refusals = [case.fault("memory")]
-    if case.words[:1] == ["run"]:
-        refusals.append(case.fault("thread"))
-
-    def met(number, run):
-        return run.counts is None or run.counts.memory >= number
+def refuse(case, pool, kind, variable, wanted, **more):
+    """Refuses the n-th request of a kind, as a variable of refuse.c says, and gives how many runs met a refusal. `wanted(n)` is what may be
+    printed then."""
 
     def look(number, run):
-        wanted = case.reports + (refusals if met(number, run) else [])
-        case.want(f"{variable} {number}", run.printed, wanted)
+        case.want(f"{variable} {number}", run.printed, wanted(number) if run.met(kind, number) else case.reports)
 
-    return sweep(pool, lambda number: case.run(**{variable: number}), met, look)
-
-
-def refuse_threads(case, pool):
-    def met(number, run):
-        return run.counts is None or run.counts.threads >= number
-
-    def look(number, run):
-        wanted = [case.fault("thread")] if met(number, run) else case.reports
-        case.want(f"thread {number}", run.printed, wanted)
-
-    return sweep(pool, lambda number: case.run(refuse_thread=number), met, look)
+    return sweep(pool, lambda number: case.run(**{variable: number}, **more), kind, look)
 
 
-def refuse_reads(case, pool):
-    """Refuses the n-th read, where each takes a few bytes."""
-
-    def met(number, run):
-        return run.counts is None or run.counts.reads >= number
-
-    def look(number, run):
-        wanted = [case.fault("reading")] if met(number, run) else case.reports
-        case.want(f"read {number}", run.printed, wanted)
-
-    return sweep(pool, lambda number: case.run(refuse_read=number, short_read=SHORT_READ), met, look)
-
-
-def refuse_writes(case, pool, variable):
-    """Refuses the n-th write, alone or with all that come after it, where each takes a few bytes."""
-
-    def cut(report, number):
-        return report.out[: (number - 1) * SHORT_WRITE]
-
-    def met(number, run):
-        return run.counts is None or run.counts.writes >= number
-
-    def look(number, run):
-        if not met(number, run):
-            wanted = case.reports
-        elif variable == "refuse_write":
-            wanted = [case.fault("writing", cut(report, number)) for report in case.reports]
-        else:
-            wanted = [Printed(cut(report, number), b"", 3) for report in case.reports]
-        case.want(f"{variable} {number}", run.printed, wanted)
-
-    return sweep(pool, lambda number: case.run(**{variable: number}, short_write=SHORT_WRITE), met, look)
+def written(report, number):
+    """What of a report is written before the n-th write, where each takes a few bytes."""
+    return report.out[: (number - 1) * SHORT_WRITE]
 
 
 def sweep_all(case, pool):
     """How many requests each sweep met."""
+    threads = [case.fault("thread")] if case.words[:1] == ["run"] else []
+    without_memory = [*case.reports, case.fault("memory"), *threads]
     met = {
-        "memory": refuse_memory(case, pool, "refuse_memory"),
-        "memory..": refuse_memory(case, pool, "refuse_memory_from"),
-        "threads": refuse_threads(case, pool),
-        "reads": refuse_reads(case, pool),
+        "memory": refuse(case, pool, "memory", "refuse_memory", lambda _: without_memory),
+        "memory..": refuse(case, pool, "memory", "refuse_memory_from", lambda _: without_memory),
+        "threads": refuse(case, pool, "threads", "refuse_thread", lambda _: [case.fault("thread")]),
+        "reads": refuse(case, pool, "reads", "refuse_read", lambda _: [case.fault("reading")], short_read=SHORT_READ),
     }
     # what writes a fault line or how the words are used isn't asked whether it succeeds
     if case.reports_success():
-        met["writes"] = refuse_writes(case, pool, "refuse_write")
-        met["writes.."] = refuse_writes(case, pool, "refuse_write_from")
+        met["writes"] = refuse(
+            case, pool, "writes", "refuse_write",
+            lambda n: [case.fault("writing", written(report, n)) for report in case.reports], short_write=SHORT_WRITE,
+        )
+        met["writes.."] = refuse(
+            case, pool, "writes", "refuse_write_from",
+            lambda n: [Printed(written(report, n), 3) for report in case.reports], short_write=SHORT_WRITE,
+        )
     return met
 
 
@@ -198,15 +154,12 @@ def look_at_met(case, met):
             case.faults.append(f"{case}: the sweep of {sweep_name} met no request")
 
 
-def check(programs, pool, workloads, say):
-    """Looks at all cases, says how many requests each sweep met, and gives for each case whether it passed."""
-    say("".join(f"{sweep_name:>10}" for sweep_name in SWEEPS) + "  command")
-    passed = []
+def check(checks, refusals, pool, workloads):
+    """Looks at all cases, and says how many requests each sweep met."""
+    print("".join(f"{sweep_name:>10}" for sweep_name in SWEEPS) + "  command")
     for name, words, workload in CASES:
-        case = open_case(programs, name, words, workloads / f"{workload}.toml")
+        case = open_case(refusals, name, words, workloads / f"{workload}.toml")
         met = sweep_all(case, pool)
         look_at_met(case, met)
-        say("".join(f"{met.get(sweep_name, '-'):>10}" for sweep_name in SWEEPS) + f"  {case}")
-        say_faults(case.faults, say)
-        passed.append(not case.faults)
-    return passed
+        print("".join(f"{met.get(sweep_name, '-'):>10}" for sweep_name in SWEEPS) + f"  {case}", flush=True)
+        checks.look(case, first_of(case.faults))

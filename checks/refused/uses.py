@@ -4,7 +4,8 @@ import os
 from dataclasses import dataclass, field
 from pathlib import Path
 
-from sweep import say_faults, sweep
+from runner import Printed
+from sweep import first_of, sweep
 
 NAME = "eevdf_uses"
 # What a run may say that was refused a request: starting a thread takes memory too.
@@ -15,31 +16,27 @@ REFUSED = (b"OutOfMemory", b"WouldBlock")
 class Uses:
     """The runs of the program, and what it prints when nothing is refused."""
 
-    programs: object
+    refusals: object
     whole: bytes
     faults: list = field(default_factory=list)
 
     def run(self, number):
-        return self.programs.run(NAME, [], Path(os.devnull), refuse_memory=number)
-
-    def met(self, number, run):
-        return run.counts is None or run.counts.memory >= number
+        return self.refusals.run(NAME, [], Path(os.devnull), refuse_memory=number)
 
     def look(self, number, run):
         """A run that is refused a request prints a beginning of the output and says so, or does without and prints it whole."""
         printed = run.printed
-        is_whole = (printed.out, printed.errors, printed.status) == (self.whole, b"", 0)
+        is_whole = printed == Printed(self.whole)
         says_so = printed.status == 1 and any(word in printed.errors for word in REFUSED) and self.whole.startswith(printed.out)
-        if not (is_whole or says_so and self.met(number, run)):
-            self.faults.append(f"{NAME}: request {number}: {printed}")
+        if not (is_whole or says_so and run.met("memory", number)):
+            self.faults.append(f"request {number}: {printed}")
 
 
-def check(programs, pool, say):
-    """Whether each refused request for memory comes to a good end, as a list of one."""
-    uses = Uses(programs, (programs.top / "crates" / NAME / "stdout").read_bytes())
-    met = sweep(pool, uses.run, uses.met, uses.look)
+def check(checks, refusals, pool):
+    """Looks whether each refused request for memory comes to a good end."""
+    uses = Uses(refusals, (refusals.programs.top / "crates" / NAME / "stdout").read_bytes())
+    met = sweep(pool, uses.run, "memory", uses.look)
     if not met:
-        uses.faults.append(f"{NAME}: the sweep of memory met no request")
-    say(f"{met} requests for memory of {NAME} were refused")
-    say_faults(uses.faults, say)
-    return [not uses.faults]
+        uses.faults.append("the sweep of memory met no request")
+    print(f"{met} requests for memory of {NAME} were refused", flush=True)
+    checks.look(NAME, first_of(uses.faults))

@@ -1,6 +1,6 @@
 #!/usr/bin/env -S python3 -B
-"""checks/wrong_bodies/tested.py [--look] [NAME..]: tries the wrong bodies of checks/wrong_bodies/tested/, all or those named, which the contracts of
-the public calls allow, so that a test has to refuse them.
+"""checks/wrong_bodies/tested.py [--look] [NAME..]: tries the wrong bodies of tested/, all or those named, which the contracts of the public
+calls allow, so that a test has to refuse them.
 
 Each is planted in a copy of the crates, and the test that its line `refused by:` names is run there, unproved. It is refused where
 the test fails or hasn't ended in time. All tests are run in a copy without a wrong body too, and those that are named have to pass

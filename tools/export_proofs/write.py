@@ -1,5 +1,6 @@
 #!/usr/bin/env -S python3 -B
-"""Writes the proofs of the exports of crates/eevdf_c, which C calls: write.py. With --check, compares them with those that stand there."""
+"""tools/export_proofs/write.py [--check]: writes the proofs of the exports of crates/eevdf_c, which C calls. With --check it compares them
+with those that stand there, and the last line is 'N passed, M failed'."""
 
 import argparse
 import re
@@ -67,12 +68,12 @@ def main():
     proofs = list(written())
     differ = [(file, text) for file, text in proofs if not file.is_file() or file.read_text() != text]
     for file, text in differ:
-        print(f"{'differs' if is_check else 'written'}: {file.relative_to(ROOT)}")
+        print(f"{'FAILED: differs' if is_check else 'written'}: {file.relative_to(ROOT)}")
         if not is_check:
             file.parent.mkdir(parents=True, exist_ok=True)
             file.write_text(text)
     if is_check:
-        print(f"{len(proofs) - len(differ)} of {len(proofs)} proofs of exports are as the script writes them")
+        print(f"{len(proofs) - len(differ)} passed, {len(differ)} failed")
     sys.exit(1 if is_check and differ else 0)
 
 

@@ -1,6 +1,6 @@
 //! What the operations of a fleet cost: `fleet_bench WAY THREADS CPUS_A_THREAD TASKS MIX OPERATIONS SEED` lets each of
 //! so many threads do so many operations of a mix, drawn from a seed, each on its own CPUs, and prints how many were done.
-//! `bench/threads.sh` measures it, and `checks/agreement.sh` compares such runs with those of one thread.
+//! `bench/threads.sh` measures it, and `checks/agreement.py` compares such runs with those of one thread.
 #![tactic(auto)]
 
 mod agreement;

@@ -1,6 +1,6 @@
 //! Makes each of the library's calls that take memory on the workload from standard input, and then those that take none. A
 //! call that is refused memory is made once more on the same arguments. Printed is which call is made, whether it was
-//! refused, and what it answered, so that `checks/refused/run.sh`, which refuses its requests in turn, can compare.
+//! refused, and what it answered, so that `checks/refused/check.py`, which refuses its requests in turn, can compare.
 //!
 //! What it does itself takes no memory, but for the lists that calls are given: what is refused is a call's own request.
 #![tactic(auto)]

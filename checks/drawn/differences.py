@@ -12,8 +12,8 @@ from plain.report import report
 from plain.runs import run
 from plain.words import deed_of
 from plain.workload import read_workload
-from programs import outcome
 from put_back import with_script, without_requests
+from runner import Printed
 
 REPORT = re.compile(rb"((?:.*\n)?)(script = \[\n((?:\".*\",\n)*)\]\n)", re.DOTALL)
 
@@ -46,12 +46,12 @@ def check_run(programs, data):
     try:
         setup = read_workload(data).setup
     except Fault as fault:
-        return compared("eevdf run", said, outcome(fault_line(fault), 1))
+        return compared("eevdf run", said, Printed(fault_line(fault), 1))
     history = history_of(setup, said.out)
     expected = None if history is None else run(setup, history)
     if expected is None:
         return Difference("history of eevdf run", said, None)
-    difference = compared("eevdf run", said, outcome(report(expected, True), 0))
+    difference = compared("eevdf run", said, Printed(report(expected, True), 0))
     return difference or check_put_back(programs, data, said.out)
 
 
@@ -59,13 +59,13 @@ def check_put_back(programs, data, text):
     """The history of a run in place of the workload's own script: one thread comes to the same, but for requests that are left."""
     script = REPORT.fullmatch(text)[2]
     said = programs.run("eevdf", ("solo", "--history"), with_script(data, script))
-    return compared("eevdf solo of the history of eevdf run", said, outcome(without_requests(text), 0))
+    return compared("eevdf solo of the history of eevdf run", said, Printed(without_requests(text), 0))
 
 
 def check_bench(programs, words, data):
     if words[0] == "run":
         return check_run(programs, data)
-    expected = outcome(*answer(words[0], "--history" in words, data))
+    expected = Printed(*answer(words[0], "--history" in words, data))
     return compared(f"eevdf {' '.join(words)}", programs.run("eevdf", words, data), expected)
 
 
@@ -78,9 +78,9 @@ def check_ordered(programs, words, data):
     said = programs.run("eevdf_orders", words, data)
     refusal = order_refusal(data)
     if refusal is not None:
-        return compared("eevdf_orders", said, outcome(b"", 1, refusal))
+        return compared("eevdf_orders", said, Printed(b"", 1, refusal))
     order = made_order(read_workload(data).setup, seed_of(words))
-    difference = compared("eevdf_orders", said, outcome(ordered_text(data, order), 0))
+    difference = compared("eevdf_orders", said, Printed(ordered_text(data, order), 0))
     if difference is not None or len(said.out) > BYTES:
         return difference
     return check_bench(programs, ("replay", "--history"), said.out)
@@ -93,8 +93,8 @@ def check(programs, case):
     return check_ordered(programs, case.words, case.data)
 
 
-BENCH_USAGE = outcome(b"usage: eevdf solo|replay|run [--history]\n", 2)
-ORDERS_USAGE = outcome(b"usage: eevdf_orders [--seed N]\n", 2)
+BENCH_USAGE = Printed(b"usage: eevdf solo|replay|run [--history]\n", 2)
+ORDERS_USAGE = Printed(b"usage: eevdf_orders [--seed N]\n", 2)
 OTHER_WORDS = (
     ("eevdf", ()), ("eevdf", ("stop",)), ("eevdf", ("Solo",)), ("eevdf", ("",)), ("eevdf", ("help",)),
     ("eevdf", ("--help",)), ("eevdf", ("solo", "--help")), ("eevdf", ("--history",)), ("eevdf", ("--history", "solo")),
@@ -111,4 +111,4 @@ def check_words(programs, name, words):
     said = programs.run(name, words, b"")
     if name == "eevdf":
         return compared("words of eevdf", said, BENCH_USAGE)
-    return compared("words of eevdf_orders", outcome(said.errors + said.out, said.status), ORDERS_USAGE)
+    return compared("words of eevdf_orders", Printed(said.errors + said.out, said.status), ORDERS_USAGE)

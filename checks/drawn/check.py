@@ -1,7 +1,8 @@
-"""Draws workloads and compares the built programs with the plain model, for a number of seconds."""
+#!/usr/bin/env -S python3 -B
+"""checks/drawn/check.py: draws workloads and compares the built programs with the plain model, for a number of seconds. The last line is
+'N passed, M failed'. TOP names another checkout whose programs are compared."""
 
 import argparse
-import itertools
 import multiprocessing
 import os
 import random
@@ -11,10 +12,11 @@ import time
 from collections import Counter
 from pathlib import Path
 
-from checks import OTHER_WORDS, check, check_words
-from draw.cases import NAMES, Case, draw
-from programs import Printed, Programs
+sys.path.append(str(Path(__file__).resolve().parents[1]))
 
+from differences import OTHER_WORDS, check, check_words  # noqa: E402
+from draw.cases import NAMES, Case, draw  # noqa: E402
+from runner import Checks, Printed, built  # noqa: E402
 
 # Who draws for so long comes to each kind of workload.
 SECONDS_FOR_EACH_KIND = 30
@@ -25,7 +27,6 @@ def parse_words():
     words.add_argument("--seconds", type=float, default=40, help="how long to go on drawing")
     words.add_argument("--seed", default=str(int.from_bytes(os.urandom(4))), help="what everything is drawn from")
     words.add_argument("--only", type=int, help="compares only the workload of this number")
-    words.add_argument("--top", default=Path(__file__).resolve().parents[2], help="the checkout whose programs are compared")
     words.add_argument("--jobs", type=int, default=min(4, os.cpu_count()), help="how many processes compare")
     return words.parse_args()
 
@@ -33,31 +34,29 @@ def parse_words():
 def bytes_of(value):
     if isinstance(value, bytes):
         return value
-    if isinstance(value, Printed):
-        errors = b"standard error:\n" + value.errors if value.errors else b""
-        return value.out + errors + f"status {value.status}\n".encode()
+    if isinstance(value, Printed) and not value.errors:
+        return value.whole()
     return f"{value}\n".encode()
 
 
-class Comparison:
+class Comparison(Checks):
     """Counts what was compared, and writes down what differs."""
 
     def __init__(self, seed, folder):
+        super().__init__(are_many=True)
         self.seed = seed
         self.folder = folder
         self.alike = Counter()
-        self.compared = set()
-        self.failed = 0
 
     def count(self, number, case, difference):
-        self.compared.add(case.kind)
+        self.alike[case.kind] += difference is None
         if difference is None:
-            self.alike[case.kind] += 1
-            return
-        self.failed += 1
-        self.write(number, case, difference)
+            self.look(case.kind, None)
+        else:
+            self.look(difference.what, self.write(number, case, difference))
 
     def write(self, number, case, difference):
+        """Writes a folder of what differs, and gives its name."""
         folder = self.folder / str(number)
         folder.mkdir(parents=True)
         words = " ".join(map(str, (case.program, *case.words)))
@@ -65,24 +64,21 @@ class Comparison:
         (folder / "workload.toml").write_bytes(case.data)
         (folder / "program").write_bytes(bytes_of(difference.said))
         (folder / "model").write_bytes(bytes_of(difference.expected))
-        print(f"FAILED: {difference.what}: {folder}", flush=True)
+        return folder
 
     def add(self, other):
-        self.alike += other.alike
-        self.compared |= other.compared
-        self.failed += other.failed
+        super().add(other)
+        self.alike.update(other.alike)
 
     def look_for_each_kind(self):
         """A kind that never came has failed."""
         for kind in ("words", *NAMES):
-            if kind not in self.compared:
-                self.failed += 1
-                print(f"FAILED: no workload was of the kind {kind}", flush=True)
+            if kind not in self.alike:
+                self.look(kind, "no workload was of this kind")
 
-    def print_counts(self):
-        counts = ", ".join(f"{count} {kind}" for kind, count in sorted(self.alike.items()))
-        print(f"compared alike: {counts}")
-        print(f"{self.alike.total()} passed, {self.failed} failed")
+    def end(self):
+        print(f"compared alike: {', '.join(f'{count} {kind}' for kind, count in sorted(self.alike.items()))}")
+        return super().end()
 
 
 def compare_words(comparison, programs):
@@ -90,25 +86,25 @@ def compare_words(comparison, programs):
         comparison.count(f"words-{at}", Case("words", name, words, b""), check_words(programs, name, words))
 
 
-def compare_one(comparison, programs, words, number):
-    case = draw(random.Random(f"{words.seed} {number}"), number)
+def compare_one(comparison, programs, number):
+    case = draw(random.Random(f"{comparison.seed} {number}"), number)
     comparison.count(number, case, check(programs, case))
 
 
-def compare_share(words, folder, end, share):
-    """Compares the workloads whose numbers are a share's, until the time is over."""
-    comparison, programs = Comparison(words.seed, folder), Programs(words.top)
-    for number in itertools.count(share, words.jobs):
+def compare_share(seed, folder, programs, end, numbers):
+    """Compares the workloads of a share's numbers, until the time is over."""
+    comparison = Comparison(seed, folder)
+    for number in numbers:
         if time.monotonic() >= end:
             return comparison
-        compare_one(comparison, programs, words, number)
+        compare_one(comparison, programs, number)
 
 
-def compare_drawn(comparison, words):
+def compare_drawn(comparison, programs, words):
     end = time.monotonic() + words.seconds
+    shares = [range(share, sys.maxsize, words.jobs) for share in range(words.jobs)]
     with multiprocessing.Pool(words.jobs) as pool:
-        shares = [(words, comparison.folder, end, share) for share in range(words.jobs)]
-        for other in pool.starmap(compare_share, shares):
+        for other in pool.starmap(compare_share, [(words.seed, comparison.folder, programs, end, share) for share in shares]):
             comparison.add(other)
 
 
@@ -120,16 +116,15 @@ def new_folder():
 def main():
     words = parse_words()
     print(f"seed {words.seed}", flush=True)
-    comparison = Comparison(words.seed, new_folder())
+    programs, comparison = built("eevdf", "eevdf_orders"), Comparison(words.seed, new_folder())
     if words.only is not None:
-        compare_one(comparison, Programs(words.top), words, words.only)
+        compare_one(comparison, programs, words.only)
     else:
-        compare_words(comparison, Programs(words.top))
-        compare_drawn(comparison, words)
+        compare_words(comparison, programs)
+        compare_drawn(comparison, programs, words)
         if words.seconds >= SECONDS_FOR_EACH_KIND:
             comparison.look_for_each_kind()
-    comparison.print_counts()
-    return 1 if comparison.failed else 0
+    return comparison.end()
 
 
 if __name__ == "__main__":

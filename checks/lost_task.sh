@@ -1,7 +1,7 @@
 #!/usr/bin/env bash
-# lost-task.sh: tries bodies that let a task go: some of the library's own, and a function as a user writes it. The compiler has to
+# checks/lost_task.sh: tries bodies that let a task go: some of the library's own, and a function as a user writes it. The compiler has to
 # refuse each, since a `Parcel` isn't `Drop`. No file of must-fail/ can ask this, because what stands there has to compile. It works
-# in a copy of the crates, with what was built of them here before. Prints how many are refused. Ends with 1 where one isn't.
+# in a copy of the crates, with what was built of them here before. The last line is 'N passed, M failed'.
 set -u
 cd "$(dirname "$0")/.."
 copy=$(mktemp -d)
@@ -26,27 +26,29 @@ pub fn end(queue: &mut Queue, task: TaskId) {
 }
 TEXT
 
-refused=0
-status=0
+passed=0
+failed=0
+
+fail() {
+  echo "FAILED: $1"
+  failed=$((failed + 1))
+}
 
 # Replaces one text of a file of a crate by another, and asks that the compiler refuses the crate then.
 refuses() {
   local file=$copy/crates/$1/src/$2 old=$3 new=$4 text said
   text=$(<"$file")
   if [[ "$text" != *"$old"* ]]; then
-    echo "FAILED: $1/src/$2 hasn't the text: $old"
-    status=1
+    fail "$1/src/$2 hasn't the text: $old"
     return
   fi
   printf '%s\n' "${text/"$old"/"$new"}" >"$file"
   said=$(cd "$copy/crates/$1" && rt check --only "$5" 2>&1)
   printf '%s\n' "$text" >"$file"
   if grep -q 'error\[linear-value-let-go\].*`Parcel` is not' <<<"$said"; then
-    refused=$((refused + 1))
+    passed=$((passed + 1))
   else
-    echo "FAILED: $1/src/$2 lets a task go: $new"
-    tail -n 3 <<<"$said"
-    status=1
+    fail "$1/src/$2 lets a task go: $new: $(tail -n 3 <<<"$said")"
   fi
 }
 
@@ -58,5 +60,5 @@ refuses eevdf_steps hand.rt 'parcel.retire();' 'let _parcel = parcel;' hand
 refuses eevdf_steps work.rt 'join(&mut self.queues, cpu, parcel);' 'let _parcel = parcel;' work
 refuses mine lib.rt $'if let Some(parcel) = queue.detach_running(task) {\n        parcel.retire();\n    }' \
   'let _parcel = queue.detach_running(task);' end
-echo "$refused bodies that let a task go are refused"
-exit "$status"
+echo "$passed passed, $failed failed"
+[ "$failed" -eq 0 ]

@@ -1,9 +1,10 @@
 """Runs a program of which requests are refused."""
 
 import os
-import subprocess
 from dataclasses import dataclass
 from pathlib import Path
+
+from runner import Printed
 
 # No run takes a second.
 SECONDS = 20
@@ -29,31 +30,22 @@ class Counts:
 
 
 @dataclass(frozen=True)
-class Printed:
-    out: bytes
-    errors: bytes
-    status: int
-
-    def __str__(self):
-        return f"status {self.status}, output {self.out!r}, errors {self.errors!r}"
-
-
-@dataclass(frozen=True)
 class Run:
     printed: Printed
     counts: Counts | None
     writes: tuple[Write, ...]
 
+    def met(self, kind, number):
+        """Whether it made so many requests of a kind. One that comes to no end tells no counts."""
+        return self.counts is None or getattr(self.counts, kind) >= number
 
-class Programs:
-    """The programs of a checkout, and the library by which their requests are refused."""
 
-    def __init__(self, top, work):
-        self.top = Path(top)
+class Refusals:
+    """The built programs, and a folder with the library by which their requests are refused."""
+
+    def __init__(self, programs, work):
+        self.programs = programs
         self.work = Path(work)
-
-    def path(self, name):
-        return self.top / "crates" / name / "out" / name
 
     def run(self, name, words, workload, **refused):
         """Runs a program on a workload. What is refused is named as in refuse.c, in small letters."""
@@ -61,14 +53,7 @@ class Programs:
         counts = self.work / "-".join([name, *words, workload.stem, label, "counts"]).replace("/", "")
         variables = {key.upper(): str(value) for key, value in refused.items()}
         variables |= {"LD_PRELOAD": str(self.work / "refuse.so"), "COUNTS": str(counts)}
-        with open(workload, "rb") as data:
-            try:
-                run = subprocess.run(
-                    [self.path(name), *words], stdin=data, capture_output=True, timeout=SECONDS, env=os.environ | variables
-                )
-                printed = Printed(run.stdout, run.stderr, run.returncode)
-            except subprocess.TimeoutExpired:
-                printed = Printed(b"", f"no end after {SECONDS} seconds".encode(), -1)
+        printed = self.programs.run(name, words, workload.read_bytes(), seconds=SECONDS, env=os.environ | variables)
         told = counts.read_text().splitlines() if counts.exists() else []
         counts.unlink(missing_ok=True)
         return Run(printed, *counted(told))
