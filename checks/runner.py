@@ -93,7 +93,10 @@ def built(*names):
     for name in () if top else names:
         if subprocess.run([TOP / "build", name]).returncode:
             sys.exit(3)
-    return Programs(top or TOP)
+    programs = Programs(top or TOP)
+    if missing := [name for name in names if not programs.path(name).exists()]:
+        sys.exit(f"FAILED: {programs.top} has no built program {', '.join(missing)}\n0 passed, 1 failed")
+    return programs
 
 
 @dataclass
