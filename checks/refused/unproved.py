@@ -14,7 +14,7 @@ sys.path.append(str(Path(__file__).resolve().parents[1]))
 from runner import TOP, Checks, run  # noqa: E402
 
 CRATE = TOP / "crates" / "eevdf_uses"
-STEP = 8
+STEP = 32
 # How many runs there are at a time: each takes one processor, and a gigabyte or two.
 JOBS = 2
 # `rt try` ends a run after a minute of its own, and compiles before it.

@@ -6,7 +6,7 @@ use Rattle.eevdf_queue.specs.{declared.entry.Entry.Entry, State.State, State.Con
 use Rattle.eevdf_queue.specs.{Candidate.is_running, Leaving.carried, Leaving.leave}
 use Rattle.eevdf_queue.specs.Placing.{can_place, put, placed_entry}
 use Rattle.eevdf_ops.specs.{declared.deeds.Answer.Answer, declared.deeds.Answer.TheVariants.Balanced}
-use Rattle.eevdf_ops.specs.{declared.deeds.Answer.TheVariants.Range, Machine.Machine, Machine.queue_at, PullOffer.task_of}
+use Rattle.eevdf_ops.specs.{declared.deeds.Answer.TheVariants.Range, Machine.Machine, Machine.queue_at, WholePull.task_of}
 use Rattle.eevdf_ops.specs.{Places.places, Places.places_in, WholeSleep.task_leaves}
 use Rattle.eevdf_ops.specs.WholePull.{offer, is_lighter, load_of, decision, with_task, pull_decision}
 use Rattle.std.proofs.Math.ListN.{length-set}

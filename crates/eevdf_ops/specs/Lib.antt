@@ -5,7 +5,6 @@ pub mod Machine
 pub mod OneQueue
 pub mod WholeSleep
 pub mod WholePull
-pub mod PullOffer
 pub mod Whole
 pub mod Places
 pub mod PickTurns

@@ -1,6 +1,6 @@
 -- A pull: the candidate of the source comes to the CPU, where that levels their loads.
 use Rattle.std.specs.Prelude.{ℕ, ◌+◌, nat_lt, Bool, if◌then◌else◌, Option, Some, None, Result, Ok, Err, slice_set}
-use Rattle.std.specs.Option.{option_and_then, unwrap_or}
+use Rattle.std.specs.{Option.option_and_then, Option.unwrap_or, Result.result_map_both}
 use Rattle.eevdf_weight.specs.Weight.{weight_of}
 use Rattle.eevdf_queue.specs.{State.State, State.Contents, Sums.total_weight, Moves.sleeper_of, Candidate.candidate_of}
 use Rattle.eevdf_queue.specs.{Leaving.carried, Placing.can_place, Placing.put}
@@ -24,6 +24,10 @@ decision q source_load None = Err Nothing
 decision q source_load (Some p) =
     if is_lighter (load_of q) p source_load then (if can_place q (sleeper_of p) then Ok p else Err Range)
     else Err Balanced
+
+-- the number of the task alone
+abbrev pub task_of : Result Contents Answer → Result ℕ Answer
+task_of decided = result_map_both (λ (p : Contents). p.task) (λ (a : Answer). a) decided
 
 -- the same of two CPUs of a machine
 abbrev pub pull_decision : Machine → ℕ → ℕ → Result Contents Answer

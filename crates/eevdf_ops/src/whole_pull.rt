@@ -1,31 +1,20 @@
 //! A pull, done at once: the candidate of the source comes to the CPU, where that levels their loads.
 
-ghost use Rattle.std.specs.Prelude.{◌≡◌, ◌≢◌, ◌<◌, ◌≤◌, length, nat_lt, ◌+◌, Some, IfSome, true};
+ghost use Rattle.std.specs.Prelude.{◌≡◌, ◌≢◌, ◌<◌, ◌≤◌, length, nat_lt, ◌+◌, Some, true};
 ghost use Rattle.std.specs.Prelude.{false, Err, IsTrue};
 ghost use Rattle.eevdf_weight.specs.Weight.{weight_of};
-ghost use Rattle.std.specs.Option.{option_map};
 ghost use Rattle.std.specs.FinMap as map;
-ghost use Rattle.eevdf_queue.specs.{Candidate.is_running, Lag.is_lag, Moves.sleeper_of};
+ghost use Rattle.eevdf_queue.specs.{Candidate.is_running, Moves.sleeper_of};
 ghost use Rattle.eevdf_queue.specs.{Placing.can_place};
 ghost use Rattle.eevdf_queue.specs.Leaving as leaving;
 ghost use Rattle.eevdf_ops.specs.{declared.deeds.Answer.TheVariants.Balanced, Machine.queue_at, Outcome.machine_of, Places.places};
-ghost use Rattle.eevdf_ops.specs.{Places.places_in, PullOffer.task_of};
-ghost use Rattle.eevdf_ops.specs.{PullOffer.offer_of, WholeSleep.task_leaves};
+ghost use Rattle.eevdf_ops.specs.{Places.places_in, WholePull.task_of, WholeSleep.task_leaves};
 ghost use Rattle.eevdf_ops.specs.WholePull as whole;
 
 use crate::cpu_id::CpuId;
 use crate::deeds::Answer;
 use eevdf_queue::{Parcel, Queue, TaskId};
-use eevdf_weight::{Nice, Slice, weight};
-
-/// What a source offers: its candidate, with what that would carry.
-#[derive(Clone, Copy)]
-struct Offer {
-    task: TaskId,
-    nice: Nice,
-    slice: Slice,
-    lag: i64,
-}
+use eevdf_weight::{Nice, weight};
 
 /// Brings the candidate of the source to the CPU, where that levels their loads.
 pub fn pull(queues: &mut [Queue], cpu: CpuId, source: CpuId) -> Answer
@@ -87,14 +76,17 @@ fn weigh(puller: &Queue, source: &Queue) -> Result<TaskId, Answer>
     ensures { result ≡ task_of (whole.decision puller.now.state
         (whole.load_of source.now.state) (whole.offer source.now.state)) }
 {
-    let Some(offer) = candidate(source) else {
+    let Some(task) = source.candidate() else {
         return Err(Answer::Nothing);
     };
-    if !is_lighter(puller.load(), offer.nice, source.load()) {
+    let entry = source.entry(task).unwrap();
+    if !is_lighter(puller.load(), entry.nice, source.load()) {
         return Err(Answer::Balanced);
     }
-    if puller.can_place(offer.nice, offer.slice, offer.lag) {
-        Ok(offer.task)
+    // Only here, since the lag takes a search of its own.
+    let lag = source.lag_of(task).unwrap();
+    if puller.can_place(entry.nice, entry.slice, lag) {
+        Ok(task)
     } else {
         Err(Answer::Range)
     }
@@ -106,33 +98,6 @@ fn is_lighter(load: u64, nice: Nice, source_load: u64) -> bool
 {
     // no sum of the load and the weight, which 64 bits might not hold
     weight(nice) < source_load.saturating_sub(load)
-}
-
-/// The queue's candidate.
-fn candidate(queue: &Queue) -> Option<Offer>
-    ensures offer { result ≡ option_map offer_of (whole.offer queue.now.state) }
-    ensures limited { IfSome result (λ o. is_lag o.lag o.nice o.slice ≡ true) }
-{
-    match queue.candidate() {
-        None => None,
-        Some(task) => Some(offered(queue, task)),
-    }
-}
-
-/// What a runnable task would carry.
-fn offered(queue: &Queue, task: TaskId) -> Offer
-    requires { map.contains_key queue.now.state.runnable task ≡ true }
-    ensures offer { option_map offer_of (leaving.carried queue.now.state task) ≡ Some result }
-    ensures limited { is_lag result.lag result.nice result.slice ≡ true }
-{
-    let entry = queue.entry(task).unwrap();
-    let lag = queue.lag_of(task).unwrap();
-    Offer {
-        task,
-        nice: entry.nice,
-        slice: entry.slice,
-        lag,
-    }
 }
 
 /// Takes a waiting task out of the CPU's queue.

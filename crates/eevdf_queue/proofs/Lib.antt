@@ -43,3 +43,11 @@ mod Joining
 mod Ascending
 mod Descending
 mod OneSide
+mod ShortestTicks
+mod SliceChanging
+mod Closing
+mod Floors
+mod LoweredLists
+mod LoweredMaps
+mod LoweredQueues
+mod LoweredStores

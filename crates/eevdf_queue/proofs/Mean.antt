@@ -56,7 +56,7 @@ all_past W S (e ∷ es) h =
 weightless : (S : ℤ) (W : ℕ) → ((S +ℤ pos 1) *ℤ pos W) ≤ℤ (S *ℤ pos W) → W ≡ 0
 weightless S W h = omega (arith, ints, sum_scaled S (pos 1) W)
 
-without_weight : (es : List (ℕ × Entry)) → sum_weights es ≡ 0 → length es ≡ 0
+pub without_weight : (es : List (ℕ × Entry)) → sum_weights es ≡ 0 → length es ≡ 0
 without_weight [] h = refl
 without_weight (e ∷ es) h = let k = weight_of-least e.1.nice in absurd (omega arith)
 

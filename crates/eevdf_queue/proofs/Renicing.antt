@@ -1,8 +1,8 @@
 -- A task that joins again the queue that it has left.
 use Rattle.std.proofs.Common.{◌≡◌, ℕ, true, Option, Some, None, sym, ap, ◌∙◌, arith}
 use Rattle.std.specs.Prelude.{ℤ, is_some}
-use Rattle.std.specs.{Cmp.nat_cmp_total}
-use Rattle.std.specs.FinMap.{insert, remove, get, get-insert, get-remove, same_map, nat_cmp-IsAntisymmetric}
+use Rattle.std.specs.{Cmp.nat_cmp_total, Ordering.nat_cmp}
+use Rattle.std.specs.FinMap.{FinMap, insert, remove, get, get-insert, get-remove, same_map, nat_cmp-IsAntisymmetric}
 use Rattle.std.proofs.lemmas.Bool.Decides.{nat_tests}
 use Rattle.eevdf_weight.specs.{Limits.is_in_range}
 use Rattle.eevdf_queue.specs.{declared.entry.Entry.Entry, State.State, State.Sleeper, Leaving.leave, Leaving.without_entry}
@@ -24,11 +24,11 @@ placed_again q task e s total moment time here w m t =
     ∙ ap (λ (y : ℕ). of_time (time_over (total_weight rest) (total_moment rest) e.v) y) w
     ∙ ap (λ (o : Option Entry). placed_entry (without_entry q task o) s) (sym here)
 
-put_back : (m : Tasks) (k u : ℕ) (e : Entry) → get (insert (remove m k) k e) u ≡ get (insert m k e) u
+put_back : {X : Type 0} (m : FinMap nat_cmp X) (k u : ℕ) (e : X) → get (insert (remove m k) k e) u ≡ get (insert m k e) u
 put_back m k u e = grind (arith, nat_tests, get-insert nat_cmp_total (remove m k) k e u, get-remove nat_cmp_total m k u, get-insert nat_cmp_total m k e u)
 
 -- a task that is taken out and put in again
-joined_again : (m : Tasks) (k : ℕ) (e : Entry) → insert (remove m k) k e ≡ insert m k e
+pub joined_again : {X : Type 0} (m : FinMap nat_cmp X) (k : ℕ) (e : X) → insert (remove m k) k e ≡ insert m k e
 joined_again m k e = same_map nat_cmp_total nat_cmp-IsAntisymmetric _ _ (λ u. put_back m k u e)
 
 -- the queue once the task has its new entry

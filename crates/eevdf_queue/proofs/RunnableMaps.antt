@@ -29,7 +29,7 @@ get-runnable_in ts q = get-from_entries nat_cmp_total (entries_of ts) q ∙ find
 pub seen_as : (ts : List Task) (m : FinMap nat_cmp Entry) → ((x : ℕ) → option_map (λ t. t.entry) (find_task x ts) ≡ get m x) → runnable_in ts ≡ m
 seen_as ts m h = same_map nat_cmp_total nat_cmp-IsAntisymmetric _ _ (λ x. get-runnable_in ts x ∙ h x)
 
-folded : {A : Type 0} (F : List (ℕ × Entry) → A) (op : ℕ × Entry → A → A)
+pub folded : {A : Type 0} (F : List (ℕ × Entry) → A) (op : ℕ × Entry → A → A)
     (first : (e : ℕ × Entry) (es : List (ℕ × Entry)) → F (e ∷ es) ≡ op e (F es))
     (swap : (a b : ℕ × Entry) (x : A) → a.0 ≢ b.0 → op a (op b x) ≡ op b (op a x))
     (ts : List Task) → AreRunnable ts → F (entries (runnable_in ts)) ≡ F (entries_of ts)

@@ -107,7 +107,7 @@ left_start P time t None p h k = cc
 left_start P time t (Some e) p h k =
     let same : leaving_at time t e ≡ p = grind arith in subst P (ap (λ (c : Contents). c.start) same) (k e refl)
 
-gone : {X : Type 0} (m : FinMap nat_cmp X) (t : ℕ) → get (remove m t) t ≡ None
+pub gone : {X : Type 0} (m : FinMap nat_cmp X) (t : ℕ) → get (remove m t) t ≡ None
 gone m t = grind (arith, nat_tests, same_number t t, get-remove nat_cmp_total m t t)
 
 -- and stands nowhere in the queue that it has left

@@ -29,4 +29,10 @@ pub mod TreeStores
 pub mod Slots
 pub mod Trying
 pub mod Ascending
+pub mod TimeToResched
+pub mod SliceChange
+pub mod Closing
+pub mod Rebase
+pub mod TreeLowering
+pub mod LoweredQueues
 pub mod Texts

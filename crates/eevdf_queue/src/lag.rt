@@ -5,6 +5,7 @@ ghost use Rattle.eevdf_weight.specs.{Charge.lag_limit_of, Placement.floor_div, W
 ghost use Rattle.eevdf_weight.specs.Limits as limits;
 ghost use Rattle.eevdf_queue.specs.Lag as lags;
 ghost use Rattle.eevdf_queue.specs.Renice as renices;
+ghost use Rattle.eevdf_queue.specs.SliceChange as slices;
 
 use crate::entry::Entry;
 use eevdf_weight::{Nice, Slice, lag_limit, weight};
@@ -65,6 +66,15 @@ fn quotient(number: i64, weight: u64) -> i64
     ensures { result ≡ floor_div number weight }
 {
     number.div_euclid(weight as i64)
+}
+
+/// A lag cut to plus or minus the limit of a task of this nice level and slice.
+#[tactic(auto, using(crate::proofs::Bounds::cut_small))]
+pub fn limited_lag(lag: i64, nice: Nice, slice: Slice) -> i64
+    ensures value { result ≡ slices.limited_lag lag nice slice }
+    ensures limited { lags.is_lag result nice slice ≡ true }
+{
+    cut(lag, lag_limit(slice, weight(nice)))
 }
 
 fn cut(lag: i64, limit: i64) -> i64

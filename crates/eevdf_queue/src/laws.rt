@@ -2,6 +2,7 @@
 
 ghost use Rattle.eevdf_queue.specs.Laws.{AreSumsSmall, LagsBalance, PickIsFirst, PickOfNobody, SecondPickChangesNothing, SomeTaskIsEligible};
 ghost use Rattle.eevdf_queue.specs.Kept.{IsKept};
+ghost use Rattle.eevdf_queue.specs.LoweredQueues.{LoweredQueueAnswersAlike, RebasedIsLower};
 
 use crate::queue::Queue;
 
@@ -42,6 +43,19 @@ pub fn pick_of_nobody()
 #[tactic(auto, using(crate::proofs::Picked::second_pick_changes_nothing))]
 pub fn second_pick_changes_nothing()
     ensures { SecondPickChangesNothing }
+{}
+
+/// A queue and the same queue with all virtual times lower by a number, as [`Queue::rebase`] leaves it, answer every call alike,
+/// but for that number in virtual times and for the answer that something would be out of range. The same ticks use the running
+/// task's request up, so [`Queue::time_to_resched`] answers alike too.
+pub fn lowered_queue_answers_alike()
+    ensures { LoweredQueueAnswersAlike }
+{}
+
+/// The queue that [`Queue::rebase`] leaves where it can make the virtual time 0 is the same queue, lower by what was its virtual time.
+#[tactic(auto, using(crate::proofs::LoweredQueues::rebased_is_lower))]
+pub fn rebased_is_lower()
+    ensures { RebasedIsLower }
 {}
 
 /// How large the sums of every queue can be: where `W` is the sum of the weights and `S` the sum of `w * v`,

@@ -1,10 +1,10 @@
 ghost use Rattle.std.specs.Prelude.{◌≡◌, ◌<◌, IfOk, pos, true};
-ghost use Rattle.eevdf_queue.specs.{Lag.is_lag, Moves.sleeper_of, Numbers.number_limit};
+ghost use Rattle.eevdf_queue.specs.{Lag.is_lag, Moves.sleeper_of, Numbers.number_limit, SliceChange.contents_with_slice};
 ghost use Rattle.eevdf_queue.specs.TaskLists.{first_task, contents_of, IsLone};
 
 use crate::entry::Entry;
 use crate::sleeper::Sleeper;
-use crate::task::{Task, sleeper_of};
+use crate::task::{Task, sleeper_of, with_slice};
 use crate::task_id::TaskId;
 use crate::tree_node::TreeNode;
 use eevdf_weight::{Nice, Slice};
@@ -126,6 +126,15 @@ impl Parcel {
         let mut task = self.node.task();
         task.entry.v = v;
         self.node.replace(task);
+        self
+    }
+
+    /// The same task with another slice, and with its lag cut to the limit that it then has.
+    pub fn with_slice(mut self, slice: Slice) -> Parcel
+        ensures { result ≡ contents_with_slice self slice }
+    {
+        let task = self.node.task();
+        self.node.replace(with_slice(&task, slice));
         self
     }
 

@@ -1,7 +1,8 @@
-ghost use Rattle.std.specs.Prelude.{◌≡◌, ◌≢◌, ◌<◌, ◌≤◌, ◌⊎◌, true, false, IfSome, IsNone};
+ghost use Rattle.std.specs.Prelude.{◌≡◌, ◌≢◌, ◌<◌, ◌≤◌, ◌^◌, ◌-ℤ◌, ◌⊎◌, unsigned_abs, true, false, IfSome, IsNone};
 ghost use Rattle.eevdf_queue.specs.Numbers.{number_limit};
 
 use crate::entry::Entry;
+use crate::lowering::earlier;
 use crate::task::Task;
 use crate::task_id::TaskId;
 use crate::tree_key::TreeKey;
@@ -80,6 +81,22 @@ impl PickedTask {
     {
         self.number = PickedTask::NO_TASK;
         self.turns = 0;
+    }
+
+    /// Lowers the virtual runtime by a number, where the task is known.
+    pub fn lower(&mut self, by: i64)
+        requires near { self.old.number < number_limit → unsigned_abs self.old.runtime ≤ 2 ^ 60 }
+        requires small { unsigned_abs by ≤ 2 ^ 60 }
+        ensures runtime { self.old.number < number_limit
+            → self.new.runtime ≡ self.old.runtime -ℤ by }
+        ensures number { self.new.number ≡ self.old.number }
+        ensures nice { self.new.nice ≡ self.old.nice }
+        ensures slice { self.new.slice ≡ self.old.slice }
+        ensures turns { self.new.turns ≡ self.old.turns }
+    {
+        if self.number < PickedTask::NO_TASK {
+            self.runtime = earlier(self.runtime, by);
+        }
     }
 
     /// The pick, where it is known.

@@ -109,7 +109,7 @@ impl Queue {
 
     /// Takes out a runnable task, with the lag that it keeps. Its virtual runtime is the time that stands.
     #[inline(always)]
-    fn take(&mut self, task: TaskId) -> Parcel
+    pub(crate) fn take(&mut self, task: TaskId) -> Parcel
         requires { map.contains_key self.old.state.runnable task ≡ true }
         ensures parcel { carried self.old.state task ≡ Some result }
         ensures task { result.task ≡ task }

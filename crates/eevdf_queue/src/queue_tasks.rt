@@ -112,7 +112,7 @@ impl Queue {
     }
 
     /// The first sleeping task from a number on, with the lag that it keeps.
-    fn asleep_from(&self, first: u64) -> Option<(TaskId, i64)>
+    pub(crate) fn asleep_from(&self, first: u64) -> Option<(TaskId, i64)>
         ensures { MatchOption result (from_number first (finite.entries self.now.state.asleep) ≡ [])
             (λ found. map with_lag (from_number first (finite.entries self.now.state.asleep))
             ≡ found ∷ map with_lag

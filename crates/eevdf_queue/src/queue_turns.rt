@@ -6,6 +6,7 @@ ghost use Rattle.std.specs.FinMap as map;
 ghost use Rattle.eevdf_queue.specs.Moves as moves;
 ghost use Rattle.eevdf_queue.specs.Pick.{IsPick, pick_of, after_pick, view_after_pick};
 ghost use Rattle.eevdf_queue.specs.Tick as ticks;
+ghost use Rattle.eevdf_queue.specs.TimeToResched.{IsShortest, ends_request};
 ghost use Rattle.eevdf_queue.specs.Yield as yields;
 
 use crate::answers::{TickAnswer, YieldAnswer};
@@ -14,6 +15,7 @@ use crate::picked_task::Pick;
 use crate::queue::Queue;
 use crate::request::{charged, is_deadline_in_range, yielded};
 use crate::task_id::TaskId;
+use crate::time_to_use_up::time_to_use_up;
 use eevdf_weight::Ns;
 
 /// The task that runs, with its entry.
@@ -49,6 +51,17 @@ impl Queue {
             return None;
         };
         Some(self.run(first))
+    }
+
+    /// The task that a pick would let run now; nothing changes. Where it isn't the running one, as it may be after a wake, that
+    /// one is to be preempted. `None` exactly when nothing is runnable. It takes no more than a pick, and no descent where a
+    /// pick would make none.
+    pub fn peek(&self) -> Option<TaskId>
+        ensures number { result ≡ pick_of self.now.state.runnable }
+        ensures picked { IfSome result (IsPick self.now.state.runnable) }
+        ensures none { IsNone result ↔ (self.now.state.runnable ≡ map.empty) }
+    {
+        self.runnable.peek()
     }
 
     /// Lets the task of a pick run.
@@ -93,6 +106,19 @@ impl Queue {
             task: runner.task,
             resched: true,
         }
+    }
+
+    /// The shortest tick that uses up the running task's request: one of that length answers that it is time to pick, and no
+    /// shorter one does. A timer that is set to it makes periodic ticks needless. `None` exactly where nobody runs, or where the
+    /// longest tick, of a second, leaves some of the request. Where the fresh request would be out of range, a tick of that
+    /// length answers `Range`.
+    pub fn time_to_resched(&self) -> Option<Ns>
+        ensures { IsShortest (λ ns. ends_request (ticks.tick self.now.state ns).0) result }
+    {
+        let Some(runner) = self.runner() else {
+            return None;
+        };
+        time_to_use_up(&runner.entry)
     }
 
     /// Makes the running task's deadline one request later: by its slice, charged to its weight. The task runs

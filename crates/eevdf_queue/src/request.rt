@@ -18,6 +18,13 @@ pub fn is_deadline_in_range(entry: &Entry) -> bool
     is_in_range(entry.d)
 }
 
+/// Whether the virtual runtime is in range.
+pub fn is_runtime_in_range(entry: &Entry) -> bool
+    ensures { result ≡ limits.is_in_range entry.now.v }
+{
+    is_in_range(entry.v)
+}
+
 /// A task at the virtual runtime of the entry, with a fresh request. `None` exactly where it would be out of
 /// range.
 pub fn started(entry: &Entry) -> Option<Entry>

@@ -1,4 +1,4 @@
-ghost use Rattle.std.specs.Prelude.{◌≡◌, ℕ, ◌==◌, ◌<◌, if◌then◌else◌, ◌*◌, ◌≤◌, ◌^◌, ◌-ℤ◌, ◌≤ℤ◌, None, Some, true, unsigned_abs, length, is_some, IfSome, IsNone, ◌↔◌};
+ghost use Rattle.std.specs.Prelude.{◌≡◌, ℕ, ◌==◌, ◌<◌, if◌then◌else◌, ◌*◌, ◌≤◌, ◌^◌, ◌-ℤ◌, ◌≤ℤ◌, None, Some, true, false, unsigned_abs, length, is_some, IfSome, IsNone, ◌↔◌};
 ghost use Rattle.std.specs.{Option.option_map, List.AllByRecursion};
 ghost use Rattle.std.specs.FinMap as map;
 ghost use Rattle.eevdf_weight.specs.Limits as limits;
@@ -8,12 +8,14 @@ ghost use Rattle.eevdf_queue.specs.{TreeShape.IsFull, Lag.is_lag, TreeTasks.inse
 ghost use Rattle.eevdf_queue.specs.{declared.task.Task.Task, TaskLists.runnable_in};
 ghost use Rattle.eevdf_queue.specs.TreeStores.{deadline_at, IsNoted, IsRunnableStore};
 ghost use Rattle.eevdf_queue.specs.Leaving.{leaving_at};
+ghost use Rattle.eevdf_queue.specs.Rebase.{can_lower, lowered_tasks};
 ghost use Rattle.eevdf_queue.specs.Pick.{IsPick, is_eligible_at, pick_of};
 ghost use Rattle.eevdf_queue.specs.TaskLists.{first_task, find_task, contents_of};
 
 use crate::deadline_table::DeadlineTable;
 use crate::entry::Entry;
 use crate::lag::kept_lag;
+use crate::lowering::{lower_moment, opposite};
 use crate::parcel::Parcel;
 use crate::picked_task::{Pick, PickedTask};
 use crate::task_id::TaskId;
@@ -244,6 +246,40 @@ impl RunnableTasks {
         self.picked.number = picked.number;
         self.picked.turns = picked.turns;
         Some(pick)
+    }
+
+    /// The eligible task of earliest virtual deadline, as `pick` answers it. Nothing is kept of it.
+    #[tactic(auto, using(crate::proofs::Picked::picked, crate::proofs::Picked::none_picked))]
+    pub fn peek(&self) -> Option<TaskId>
+        ensures number { result ≡ pick_of self.now.tasks }
+        ensures picked { IfSome result (IsPick self.now.tasks) }
+        ensures none { IsNone result ↔ (self.now.tasks ≡ map.empty) }
+    {
+        if let Some(known) = self.known_pick() {
+            return Some(known.task);
+        }
+        let Some(first) = self.first(&Threshold::of(&self.totals())) else {
+            return None;
+        };
+        Some(first.task.number)
+    }
+
+    /// Lowers the virtual runtimes and the deadlines of all tasks, in one walk over them, and answers whether all stay in range;
+    /// where they don't, they stay as they are, by a second walk. The pick that is kept stays so.
+    pub fn lower(&mut self, by: i64) -> bool
+        requires { unsigned_abs by ≤ 2 ^ 60 }
+        ensures in_range { result ≡ can_lower by self.old.tasks }
+        ensures lowered { result ≡ true → self.new.tasks ≡ lowered_tasks by self.old.tasks }
+        ensures stayed { result ≡ false → self.new.tasks ≡ self.old.tasks }
+        ensures depths { self.new.depths ≡ self.old.depths }
+    {
+        if !self.tree.lower(&mut self.deadlines, by) {
+            let _ = self.tree.lower(&mut self.deadlines, opposite(by));
+            return false;
+        }
+        lower_moment(&mut self.totals, by);
+        self.picked.lower(by);
+        true
     }
 
     /// The last task by deadline and number of those that don't run.

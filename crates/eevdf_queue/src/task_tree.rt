@@ -1,10 +1,12 @@
-ghost use Rattle.std.specs.Prelude.{◌≡◌, suc, ◌<◌, ◌≤◌, ◌/◌, ◌^◌, ◌≤ℤ◌, [], length, is_some, true, None, Some, IfSome};
-ghost use Rattle.std.specs.Option.{option_map};
+ghost use Rattle.std.specs.Prelude.{◌≡◌, ℕ, unsigned_abs, suc, ◌<◌, ◌≤◌, ◌/◌, ◌^◌, ◌≤ℤ◌, [], length, is_some, true, None, Some, IfSome};
+ghost use Rattle.std.specs.{Option.option_map, List.AllByRecursion};
 ghost use Rattle.eevdf_queue.specs.TaskLists.{first_task, find_task, set_entry, entries_of, DifferInNumber};
 ghost use Rattle.eevdf_queue.specs.{Order.earliest, Pick.is_eligible_at, Candidate.latest_waiting, TreeShape.IsAlone};
 ghost use Rattle.eevdf_queue.specs.{TreeShape.IsFull, TreeShape.empty_tree, Numbers.number_limit, NodeDepths.depth_at};
 ghost use Rattle.eevdf_queue.specs.TreeTasks.{IsAtDeadline, insert_task, without, first_that};
+ghost use Rattle.eevdf_queue.specs.{TreeStores.deadline_at, TreeLowering.IsNear, TreeLowering.lowered_list, TreeLowering.are_tasks_in_range, TreeLowering.deadline_or};
 
+use crate::deadline_table::DeadlineTable;
 use crate::entry::Entry;
 use crate::running::is_running;
 use crate::task::Task;
@@ -12,7 +14,8 @@ use crate::task_id::TaskId;
 use crate::tree_eligible::Threshold;
 use crate::tree_key::TreeKey;
 use crate::tree_node::{
-    Found, Runtimes, TreeNode, age, find, first_eligible, insert, last_task, last_waiting, remove,
+    Found, Runtimes, TreeNode, age, find, first_eligible, insert, last_task, last_waiting, lower,
+    remove,
 };
 use std::marker::Model;
 
@@ -85,6 +88,20 @@ impl TaskTree {
     {
         let runtimes = Runtimes::of(older, newer);
         age(&mut self.root, *key, runtimes);
+    }
+
+    /// Lowers the virtual runtimes and the deadlines of all tasks, notes these in the table, and answers whether all are in
+    /// range afterwards.
+    pub fn lower(&mut self, deadlines: &mut DeadlineTable, by: i64) -> bool
+        requires near { AllByRecursion IsNear self.old.tasks }
+        requires small { unsigned_abs by ≤ 2 ^ 60 }
+        ensures tasks { self.new.tasks ≡ lowered_list by self.old.tasks }
+        ensures depths { self.new.depths ≡ self.old.depths }
+        ensures noted { (q : ℕ) → deadline_at deadlines.new q
+            ≡ deadline_or (deadline_at deadlines.old q) (find_task q self.new.tasks) }
+        ensures in_range { result ≡ are_tasks_in_range self.new.tasks }
+    {
+        lower(&mut self.root, deadlines, by)
     }
 
     /// Takes out the task of a key, which is here, in its node.

@@ -12,6 +12,7 @@ mod node_parts;
 mod rotation;
 mod tree_age;
 mod tree_edit;
+mod tree_lowering;
 
 use crate::entry::Entry;
 use crate::running::is_running;
@@ -24,6 +25,7 @@ use crate::tree_least::Least;
 use std::marker::Model;
 pub use tree_age::{Runtimes, age};
 pub use tree_edit::{insert, remove};
+pub use tree_lowering::lower;
 
 /// A task, and the nodes on either side of it.
 #[derive(Drop)]

@@ -38,22 +38,50 @@ impl SeatTurn for UntilEnd {
     }
 }
 
-/// Wakes the tasks that others ask this CPU to wake, and runs its next task for 2 ms.
+/// Wakes the tasks that others ask this CPU to wake, and runs its next task until that has used up its request, or for 2 ms, if that is
+/// sooner.
 fn run_next<N: Names, R: Wait>(rt: &R, fleet: &Fleet<N>, seat: &mut Seat<N>)
     ensures { seat.new.cpu ≡ seat.old.cpu }
 {
     let _ = fleet.drain(rt, seat);
-    let mut picked = fleet.pick(rt, seat);
-    if picked == Answer::Idle {
+    if !has_next(rt, fleet, seat) {
         pull_from_most_loaded(rt, fleet, seat);
-        picked = fleet.pick(rt, seat);
     }
-    let Answer::Picked(task) = picked else {
+    let Answer::Picked(task) = fleet.pick(rt, seat) else {
         return;
     };
-    let charged = fleet.tick(rt, seat, Ns::new(2_000_000).unwrap());
+    let time = time_to_run(rt, fleet, seat);
+    let charged = fleet.tick(rt, seat, time);
     if matches!(charged, Answer::Charged { resched: true, .. }) {
         sleep_and_ask(rt, fleet, seat, task);
+    }
+}
+
+/// Whether a pick would find a task to run.
+fn has_next<N: Names, R: Wait>(rt: &R, fleet: &Fleet<N>, seat: &mut Seat<N>) -> bool
+    ensures { seat.new.cpu ≡ seat.old.cpu }
+{
+    let cpu = seat.cpu();
+    if !fleet.has_cpu(cpu) {
+        return false;
+    }
+    let first = fleet.look(rt, seat, cpu).queue().peek();
+    first.is_some()
+}
+
+/// How long the running task runs before it is charged.
+fn time_to_run<N: Names, R: Wait>(rt: &R, fleet: &Fleet<N>, seat: &mut Seat<N>) -> Ns
+    ensures { seat.new.cpu ≡ seat.old.cpu }
+{
+    let most = Ns::new(2_000_000).unwrap();
+    let cpu = seat.cpu();
+    if !fleet.has_cpu(cpu) {
+        return most;
+    }
+    let left = fleet.look(rt, seat, cpu).queue().time_to_resched();
+    match left {
+        Some(left) if left < most => left,
+        _ => most,
     }
 }
 

@@ -2,16 +2,20 @@
 #![tactic(auto)]
 
 mod checked_input;
+mod hundred_years;
 mod idle_pulls;
 mod one_queue;
 mod own_order;
+mod tickless;
 mod two_queues;
 mod two_threads;
 
 use crate::checked_input::{Order, answers, two_cpus};
+use crate::hundred_years::first_day_out_of_range;
 use crate::idle_pulls::{three_at_one, until_end};
 use crate::one_queue::{add, one_queue};
 use crate::own_order::{last_first, pull_and_picks};
+use crate::tickless::tickless;
 use crate::two_queues::pull;
 use crate::two_threads::sleep_and_wake;
 use eevdf_fleet::{Closed, RunFault, endless};
@@ -24,6 +28,8 @@ use std::thread::Threads;
 
 fn main(rt: HostRuntime) -> io::Result<()> {
     show_one_queue(&rt)?;
+    show_tickless(&rt)?;
+    show_hundred_years(&rt)?;
     show_two_queues(&rt)?;
     show_checked_input(&rt)?;
     show_own_order(&rt)?;
@@ -40,6 +46,27 @@ fn show_one_queue(rt: &(impl Print + AllocGlobal)) -> io::Result<()> {
 fn print_turns(rt: &impl Print, ran: &[TaskId]) -> io::Result<()> {
     for task in ran {
         println!(rt; "{task} ran")?;
+    }
+    Ok(())
+}
+
+fn show_tickless(rt: &(impl Print + AllocGlobal)) -> io::Result<()> {
+    println!(rt; "without periodic ticks")?;
+    let ran = tickless(rt.alloc(), &[2_000_000, 2_000_000, 3_000_000])?;
+    for stretch in &ran {
+        println!(rt; "{} ran for {} ns", stretch.task, stretch.ns)?;
+    }
+    Ok(())
+}
+
+fn show_hundred_years(rt: &(impl Print + AllocGlobal)) -> io::Result<()> {
+    println!(rt; "a hundred years")?;
+    for with_rebase in [false, true] {
+        let words = if with_rebase { "with" } else { "without" };
+        match first_day_out_of_range(rt.alloc(), 36_525, with_rebase)? {
+            Some(day) => println!(rt; "{words} a rebase each day: out of range on day {day}")?,
+            None => println!(rt; "{words} a rebase each day: in range")?,
+        }
     }
     Ok(())
 }

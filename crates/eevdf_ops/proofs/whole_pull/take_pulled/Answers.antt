@@ -1,6 +1,6 @@
 use Rattle.std.proofs.Common.{◌≡◌, ℕ, sym, ap, ◌∙◌, arith}
 use Rattle.std.specs.Prelude.{Ok}
-use Rattle.eevdf_ops.specs.{Outcome.machine_of, PullOffer.task_of, WholePull.pull_decision, WholeSleep.task_leaves}
+use Rattle.eevdf_ops.specs.{Outcome.machine_of, WholePull.pull_decision, WholePull.task_of, WholeSleep.task_leaves}
 use Rattle.eevdf_ops.proofs.Machines.{queue_state}
 use Rattle.eevdf_ops.proofs.Pulling.{Takes, decided_of, refusal_decided, takes, takes-carried, takes-here, takes-task, takes-waiting}
 use Rattle.eevdf_ops.proofs.whole_pull.take_pulled.Goals as goal

@@ -1,0 +1,75 @@
+-- A queue, and the same queue with all virtual times lower by a number.
+use Rattle.std.specs.Prelude.{◌≡◌, ℕ, ℤ, pos, ◌-ℤ◌, ◌*ℤ◌, ◌⊎◌, Option, Some, None}
+use Rattle.std.specs.Option.{option_map}
+use Rattle.std.specs.FinMap as map
+use Rattle.eevdf_queue.specs.{State.State, State.Sleeper, State.Contents, Sums.total_weight, Sums.total_moment, Sums.virtual_time, Lag.lag_of, Pick.pick_of, Pick.after_pick}
+use Rattle.eevdf_queue.specs.{Candidate.candidate_of, Tick.tick, Yield.yield_now, Wake.wake, Renice.renice, SliceChange.set_slice}
+use Rattle.eevdf_queue.specs.{Kept.AreInRange, TimeToResched.ends_request, Closing.take_any}
+use Rattle.eevdf_queue.specs.{Moves.admit, Moves.put_asleep, Placing.put, Rebase.lowered_entry, Rebase.lowered_tasks, Rebase.rebased}
+use Rattle.eevdf_queue.specs.Leaving.{carried, leave, carried_asleep, leave_asleep, nobody_runs}
+use Rattle.eevdf_queue.specs.declared.answers.TickAnswer.TheVariants as ticks
+use Rattle.eevdf_queue.specs.declared.answers.YieldAnswer.TheVariants as yields
+use Rattle.eevdf_queue.specs.declared.answers.WakeAnswer.TheVariants as wakes
+use Rattle.eevdf_queue.specs.declared.answers.ReniceAnswer.TheVariants as renices
+
+-- the queue `r` is the queue `q`, lower by a number. The time that stands counts where nothing is runnable: before it is
+-- looked at again, a task that leaves makes it anew
+pub record IsLower (by : ℤ) (q r : State) : Type 0 where
+  pub runnable : r.runnable ≡ lowered_tasks by q.runnable
+  pub running : r.running ≡ q.running
+  pub asleep : r.asleep ≡ q.asleep
+  pub base : q.runnable ≡ map.empty → r.base ≡ q.base -ℤ by
+
+-- two answers with what they leave: alike, unless one of them is that something would be out of range
+abbrev pub AreAlike : {A : Type 0} → A → ℤ → A × State → A × State → Type 0
+AreAlike range by x y = (x.0 ≡ range) ⊎ ((y.0 ≡ range) ⊎ ((x.0 ≡ y.0) × IsLower by x.1 y.1))
+
+-- the same of a task that joins, where none says that it would be out of range
+abbrev pub JoinAlike : ℤ → Option State → Option State → Type 0
+JoinAlike by None o = Unit {0}
+JoinAlike by (Some q) None = Unit {0}
+JoinAlike by (Some q) (Some r) = IsLower by q r
+
+-- what a parcel carries, lower by a number
+abbrev pub lowered_contents : ℤ → Contents → Contents
+lowered_contents by p = record p { start = p.start -ℤ by }
+
+-- what a queue gives away, or nothing, with what it leaves
+abbrev pub TakenAlike : ℤ → Option Contents × State → Option Contents × State → Type 0
+TakenAlike by x y = (y.0 ≡ option_map (lowered_contents by) x.0) × IsLower by x.1 y.1
+
+pub record AnswerAlike (by : ℤ) (q r : State) : Type 0 where
+  pub time : virtual_time r ≡ virtual_time q -ℤ by
+  pub load : total_weight r.runnable ≡ total_weight q.runnable
+  pub moment : total_moment r.runnable ≡ total_moment q.runnable -ℤ (by *ℤ pos (total_weight q.runnable))
+  pub count : map.len r.runnable ≡ map.len q.runnable
+  pub entry : (t : ℕ) → map.get r.runnable t ≡ option_map (lowered_entry by) (map.get q.runnable t)
+  pub lag : (t : ℕ) → lag_of r t ≡ lag_of q t
+  pub candidate : candidate_of r.runnable r.running ≡ candidate_of q.runnable q.running
+  pub pick : pick_of r.runnable ≡ pick_of q.runnable
+  pub picked : IsLower by (after_pick q) (after_pick r)
+  pub resched : AreInRange q.runnable → AreInRange r.runnable → (ns : ℕ) → ends_request (tick r ns).0 ≡ ends_request (tick q ns).0
+  pub tick : (ns : ℕ) → AreAlike ticks.Range by (tick q ns) (tick r ns)
+  pub yields : AreAlike yields.Range by (yield_now q) (yield_now r)
+  pub wake : (t : ℕ) → AreAlike wakes.Range by (wake q t) (wake r t)
+  pub renice : (t : ℕ) (nice : ℤ) → AreAlike renices.Range by (renice q t nice) (renice r t nice)
+  pub set_slice : (t slice : ℕ) → IsLower by (set_slice q t slice) (set_slice r t slice)
+  pub stopped : IsLower by (nobody_runs q) (nobody_runs r)
+  pub put : (t : ℕ) (s : Sleeper) → JoinAlike by (put q t s) (put r t s)
+  pub admit : (p : Contents) → JoinAlike by (admit q p) (admit r (lowered_contents by p))
+  pub put_asleep : (p : Contents) → IsLower by (put_asleep q p) (put_asleep r p)
+  pub carried : (t : ℕ) → carried r t ≡ option_map (lowered_contents by) (carried q t)
+  pub left : (t : ℕ) → IsLower by (leave q t) (leave r t)
+  pub carried_asleep : (t : ℕ) → carried_asleep r t ≡ option_map (lowered_contents by) (carried_asleep q t)
+  pub left_asleep : (t : ℕ) → IsLower by (leave_asleep q t) (leave_asleep r t)
+  pub taken : TakenAlike by (take_any q) (take_any r)
+
+-- a queue and the same queue, lower by a number, answer every call alike, but for that number in virtual times and for what
+-- would be out of range. Of entries in range, as those of every queue are, the same ticks use the request up: so the shortest
+-- one is the same (`resched`). What a rebase answers and leaves of each is told by `RebasedIsLower`
+abbrev pub LoweredQueueAnswersAlike : Type 0
+LoweredQueueAnswersAlike = (by : ℤ) (q r : State) → IsLower by q r → AnswerAlike by q r
+
+-- the queue that a rebase leaves is the same queue, lower by its virtual time
+abbrev pub RebasedIsLower : Type 0
+RebasedIsLower = (q : State) → IsLower (virtual_time q) q (rebased q)

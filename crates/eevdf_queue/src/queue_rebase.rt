@@ -1,0 +1,30 @@
+//! How the virtual times of a queue are kept small.
+
+ghost use Rattle.std.specs.Prelude.{◌≡◌, pos, true};
+ghost use Rattle.eevdf_queue.specs.Rebase as rebases;
+ghost use Rattle.eevdf_queue.specs.Sums.{virtual_time};
+
+use crate::queue::Queue;
+
+impl Queue {
+    /// Lowers all virtual times by one number, so that the virtual time is 0, and answers the number. The queue then answers every
+    /// call as it would have, but for that number in virtual times and for `Range`
+    /// ([`laws::lowered_queue_answers_alike`](crate::laws::lowered_queue_answers_alike)). Lags stay as they are. Where a virtual
+    /// runtime or a deadline would leave the range, all stays as it is and the answer is 0. It takes one walk over the runnable
+    /// tasks, and a second one where it is refused. The pick that is known stays known.
+    pub fn rebase(&mut self) -> i64
+        ensures by { result ≡ (rebases.rebase self.old.state).0 }
+        ensures after { self.new.state ≡ (rebases.rebase self.old.state).1 }
+        ensures time { rebases.can_rebase self.old.state ≡ true
+            → virtual_time self.new.state ≡ pos 0 }
+        ensures turns { self.new.turns ≡ self.old.turns }
+        ensures depths { self.new.depths ≡ self.old.depths }
+    {
+        let time = self.floor_time();
+        if !self.runnable.lower(time) {
+            return 0;
+        }
+        self.base = 0;
+        time
+    }
+}
