@@ -19,7 +19,7 @@ use Rattle.eevdf_fleet.specs.contracts.endless.fleet.Fleet as EndlessFleet
 use Rattle.eevdf_fleet.specs.contracts.endless.seat.Seat as EndlessSeat
 use Rattle.eevdf_fleet.specs.contracts.fleet.Fleet as Fleet
 use Rattle.eevdf_fleet.specs.contracts.journal.Journal as Journal
-use Rattle.eevdf_fleet.specs.contracts.named_board.NamedBoard as NamedBoard
+use Rattle.eevdf_fleet.specs.contracts.board.named_board.NamedBoard as NamedBoard
 use Rattle.eevdf_fleet.specs.contracts.reserve.Reserve as Reserve
 use Rattle.eevdf_fleet.specs.contracts.rings.consumer_ends.Consumers as Consumers
 use Rattle.eevdf_fleet.specs.contracts.rings.producer_ends.Producers as Producers

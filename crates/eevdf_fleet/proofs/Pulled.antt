@@ -3,10 +3,10 @@ use Rattle.std.proofs.Common.{◌≡◌, ℕ, Bool, true, false, cond, refl, sym
 use Rattle.std.specs.Prelude.{Option, Some, None, Result, Ok, Err}
 use Rattle.eevdf_queue.specs.{State.State, State.Contents, Candidate.is_running, Leaving.carried, Leaving.leave, Moves.sleeper_of}
 use Rattle.eevdf_queue.specs.Placing.{can_place, put}
-use Rattle.eevdf_ops.specs.{declared.deeds.Answer.Answer, PullOffer.task_of, Parts.taken, Parts.answer_of_pull}
+use Rattle.eevdf_ops.specs.{declared.deeds.Answer.Answer, Parts.taken, Parts.answer_of_pull}
 use Rattle.eevdf_ops.specs.{Parts.after_leaving, Parts.after_joining}
 use Rattle.eevdf_ops.specs.declared.deeds.Answer.TheVariants.{Balanced, Nothing, Pulled, Range}
-use Rattle.eevdf_ops.specs.WholePull.{offer, is_lighter, load_of, decision, with_task}
+use Rattle.eevdf_ops.specs.WholePull.{offer, is_lighter, load_of, decision, task_of, with_task}
 use Rattle.eevdf_ops.proofs.{Carried.offer-waits, Carried.offer-carried, Pulling.IsTaken, Pulling.decision-taken, Pulling.with_task-put}
 
 -- the task that is pulled, with what it carries

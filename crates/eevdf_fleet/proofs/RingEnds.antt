@@ -4,7 +4,7 @@ use Rattle.std.proofs.{Math.Seq.map-set_same, lemmas.Option.slice_get_read}
 use Rattle.std.proofs.lemmas.List.{length-map, map-set, get_or-map, set-get_or}
 use Rattle.std.specs.Prelude.{Option, Some, None, slice_get}
 use Rattle.std.specs.Option.{IsSomeAnd}
-use Rattle.rtrb.specs.Ring.{sent, known_free, received, consumer_capacity, IsPair, SameConsumer, SameProducer, ProducerLooked}
+use Rattle.rtrb.specs.Ring.{sent, known_free, producer_capacity, received, consumer_capacity, IsPair, SameConsumer, SameProducer, ProducerLooked}
 use Rattle.eevdf_fleet.specs.Requests.{Grows, IsMarked, tasks_after, tasks_of}
 use Rattle.eevdf_fleet.specs.Rings.{HasLooked, HasPosted, Ring, Rings, Posts, Takes, free_to, posted_to, ring_at, taken_from, taken_more}
 use Rattle.eevdf_fleet.specs.RingEnds.{Pushing, Popping, PushesInto, PopsFrom, AreProducers, AreConsumers, free_in, posted_into, posts, slots_for, taken_out, takes}
@@ -38,6 +38,7 @@ pub producers-set : {r : Rings} {sender : ℕ} {es : List Pushing} (k : ℕ) (e 
 producers-set {r} {sender} {es} k e e' h at same room marked = record {
   each = each-set _ es k e' (λ x got. of_more (PushesInto r.capacity r.homes k) (ring_at r sender k) e e' (λ ring pushes. record {
     same = ((same.0.0 ∙ pushes.same.0.0, same.0.1 ∙ pushes.same.0.1, same.0.2 ∙ pushes.same.0.2, same.0.3 ∙ pushes.same.0.3), same.1 ∙ pushes.same.1);
+    capacity_is = same.1 ∙ pushes.capacity_is;
     room = room pushes.room;
     marked = marked pushes.marked;
   }) (h.each k e (got-read es k e x at got))) h.each;
@@ -54,9 +55,9 @@ within_shown : {E X : Type 0} (shown : E → X) (es : List E) (k : ℕ) → k < 
 within_shown shown es k within = omega (arith, length-map es shown)
 
 some_pushes : (r : Rings) (home : ℕ) (o : Option Ring) (p : Pushing) → IsSomeAnd o (λ ring. PushesInto r.capacity r.homes home ring p)
-    → (r.capacity < known_free p + length (sent p)) × IsMarked r.homes home (sent p)
+    → (r.capacity < known_free p + length (sent p)) × IsMarked r.homes home (sent p) × (producer_capacity p ≡ slots_for r.capacity)
 some_pushes r home None p h = absurd h
-some_pushes r home (Some ring) p h = (h.room, h.marked)
+some_pushes r home (Some ring) p h = (h.room, h.marked, h.capacity_is)
 
 some_pops : (r : Rings) (home : ℕ) (o : Option Ring) (e : Popping) → IsSomeAnd o (λ ring. PopsFrom r.capacity r.homes home ring e)
     → (consumer_capacity e ≡ slots_for r.capacity) × IsMarked r.homes home (received e)
@@ -72,6 +73,9 @@ module _ {r : Rings} {sender : ℕ} {ps : List Pushing} (home : ℕ) (p : Pushin
 
   pub pushed-mark : IsMarked r.homes home (sent p)
   pushed-mark = (some_pushes r home (ring_at r sender home) p pushes-at).1
+
+  pub slots-at : producer_capacity p ≡ slots_for r.capacity
+  slots-at = (some_pushes r home (ring_at r sender home) p pushes-at).2
 
 module _ {r : Rings} {home : ℕ} {es : List Popping} (sender : ℕ) (e : Popping) (h : AreConsumers r home es) (within : sender < length (map taken_out es)) (at : e ≡ get_or es sender e) where
   pub pops-at : IsSomeAnd (ring_at r sender home) (λ ring. PopsFrom r.capacity r.homes home ring e)
@@ -193,6 +197,23 @@ module _ {r : Rings} {sender home : ℕ} {ps : List Pushing} {es : List Popping}
       next-task (pushed-mark home p producers in_posts at_p) (popped-mark sender e consumers in_takes at_e)
       ∙ ap (λ (l : List ℕ). slice_get l (length (taken_out e))) (sym (posted-at capacity sender ps home p p in_posts at_p))
       ∙ ap (λ (l : List ℕ). slice_get (posted_to (posts capacity sender ps) home) (length l)) (sym (taken-at home es sender e in_takes at_e))
+
+  pub free-beside : (p' : Pushing) (n : ℕ) → n ≡ min r.capacity (known_free p') → known_free p' + length (sent p) ≡ producer_capacity p + length (received e)
+      → length (received e) ≤ length (sent p) → 0 < r.capacity
+      → n + length (posted_to (posts capacity sender ps) home) ≡ r.capacity + length (taken_from (takes home es) sender)
+  free-beside p' n is all fewer some =
+      omega (
+        arith,
+        is,
+        all,
+        fewer,
+        some,
+        slots-at home p producers in_posts at_p,
+        marked-length (pushed-mark home p producers in_posts at_p),
+        marked-length (popped-mark sender e consumers in_takes at_e),
+        ap length (posted-at capacity sender ps home p p in_posts at_p),
+        ap length (taken-at home es sender e in_takes at_e),
+      )
 
   pub left-at : (left : List ℕ) → Grows (received e) (sent p) left → posted_to (posts capacity sender ps) home ≡ taken_from (takes home es) sender ++ left
   left-at left grows =

@@ -79,7 +79,7 @@ module _ (r : Rings) (rows : List (List Pushing)) (columns : List (List Popping)
       → IsSomeAnd (ring_at r sender home) (λ x. PushesInto r.capacity r.homes home x end)
   pushes_new sender home end fresh got =
       subst (λ (o : Option Ring). IsSomeAnd o (λ x. PushesInto r.capacity r.homes home x end)) (sym (ring_is sender home ∙ got))
-      (record { same = ((refl, refl, refl, refl), refl); room = omega (arith, fresh.free_is, ap length fresh.marked.are); marked = fresh.marked })
+      (record { same = ((refl, refl, refl, refl), refl); capacity_is = fresh.capacity_is; room = omega (arith, fresh.free_is, ap length fresh.marked.are); marked = fresh.marked })
 
   pub new-rows : AreNewRows r rows
   new-rows sender within = (

@@ -1,11 +1,13 @@
 -- The parts of a seat with a line more.
-use Rattle.std.proofs.Common.{◌≡◌, ℕ, ◌<◌, List, [], ◌∷◌, ◌++◌, length, ◌≤◌, ⊎_elim, refl, sym, ap, subst, ◌∙◌, arith}
+use Rattle.std.proofs.Common.{◌≡◌, ℕ, ◌+◌, ◌<◌, List, [], ◌∷◌, ◌++◌, length, ◌≤◌, ⊎_elim, refl, sym, ap, subst, ◌∙◌, arith}
 use Rattle.std.specs.Prelude.{IfNone, slice_get, Option, Some, None, Result, Ok, Err, OnOk, OnErr}
 use Rattle.std.proofs.{lemmas.Bool.cases_eq, lemmas.List.get_or-set_other, lemmas.List.length-set}
 use Rattle.std.proofs.lemmas.List.FromFn.{length-map-range_with_len}
 use Rattle.eevdf_ops.specs.{declared.deeds.Answer.Answer, declared.deeds.Deed.Deed, declared.deeds.Line.Line}
 use Rattle.eevdf_ops.specs.declared.deeds.Deed.TheVariants.{Tick, Pick, Yield, Sleep, Wake, Pull, Renice}
 use Rattle.eevdf_fleet.specs.Rings.{HasLooked, Posts, Takes, free_to, oldest, posted_to, taken_from, taken_more}
+use Rattle.eevdf_ops.specs.Programs.{wakes_from}
+use Rattle.eevdf_fleet.specs.Fleets as fleets
 use Rattle.eevdf_fleet.specs.Rings as rings
 use Rattle.eevdf_fleet.specs.{Drains.PartsTaken, Drains.oldest_own, TouchedQueues.IsNoWake, TouchedQueues.IsOfTwoQueues}
 use Rattle.eevdf_fleet.specs.Fleets.{AreParts, HasCommitted, HasPosted, HasWritten, IsNoLess, Parts, PartsLooked, Seat, SeatLog, free_at, logged, parts_of, seat_of, takes_by, written}
@@ -101,6 +103,17 @@ seat-taken log log' home p p' s on task sender answer is looked view on_is own =
       seen = (is.others ++ l on ∷ [], ap (λ (x : Parts). x.seen ++ (is.others ++ l on ∷ [])) (sym view) ∙ ap (λ (x : SeatLog). x.seen) (sym is.is));
       free = subst (λ (x : Parts). IsNoLess x.free p'.free) view (no-less home p p' looked);
     }
+
+-- how many requests more a seat can post to its own CPU, by what its lines tell of those that it has posted
+pub own-free : (cpus : ℕ) (log : SeatLog) (p : Posts) (t : Takes) (s : Parts) (home capacity n : ℕ) → AreParts cpus log p t → parts_of log p ≡ s → home ≡ s.seat.cpu
+    → n + length (posted_to p t.home) ≡ capacity + length (taken_from t t.home) → n + length (fleets.posted_to s.seat home) ≡ capacity + length (wakes_from home s.seat.log)
+own-free cpus log p t s home capacity n h view here all =
+    let at : t.home ≡ home = ap (λ (x : Takes). x.home) h.takes ∙ ap (λ (x : Parts). x.seat.cpu) view ∙ sym here in
+    let posted : length (posted_to p t.home) ≡ length (fleets.posted_to s.seat home) = ap (λ (k : ℕ). length (posted_to p k)) at ∙ ap (λ (x : Parts). length (fleets.posted_to x.seat home)) view in
+    let taken : length (taken_from t t.home) ≡ length (wakes_from home s.seat.log) =
+    ap (λ (x : Takes). length (taken_from x x.home)) h.takes ∙ ap length (taken-of cpus log.cpu log.lines log.cpu h.within)
+    ∙ ap (λ (x : Parts). length (wakes_from x.seat.cpu x.seat.log)) view ∙ ap (λ (k : ℕ). length (wakes_from k s.seat.log)) (sym here) in
+    omega (arith, all, posted, taken)
 
 -- a seat with a line more
 pub parts-committed : (log log' : SeatLog) (p : Posts) (s : Parts) (l : Line) → HasWritten log log' l → parts_of log p ≡ s → HasCommitted s (parts_of log' p) l

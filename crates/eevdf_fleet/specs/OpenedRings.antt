@@ -2,7 +2,7 @@
 -- home each.
 use Rattle.std.specs.Prelude.{◌≡◌, ℕ, ◌≤◌, ◌<◌, List, [], ◌∷◌, ◌++◌, length, slice_get, slice_index_or, Option}
 use Rattle.std.specs.Option.{IsSomeAnd}
-use Rattle.rtrb.specs.Ring.{sent, known_free}
+use Rattle.rtrb.specs.Ring.{sent, known_free, producer_capacity}
 use Rattle.eevdf_fleet.specs.Requests.{IsMarked}
 use Rattle.eevdf_fleet.specs.Rings.{Ring, Rings, no_posts, no_takes}
 use Rattle.eevdf_fleet.specs.RingEnds.{Pushing, Popping, PopsFrom, Each, AreProducers, AreConsumers, posted_into, posts, slots_for, taken_out, takes}
@@ -12,6 +12,7 @@ list_at lists k = slice_index_or lists k []
 
 -- only its mark was pushed into a ring to a home, and all its slots are known to be free
 pub record IsFresh (capacity : ℕ) (homes : List ℕ) (home : ℕ) (end : Pushing) : Type 0 where
+  pub capacity_is : producer_capacity end ≡ slots_for capacity
   pub marked : IsMarked homes home (sent end)
   pub none : posted_into end ≡ []
   pub free_is : known_free end ≡ slots_for capacity

@@ -2,7 +2,7 @@
 use Rattle.std.specs.Prelude.{◌≡◌, ℕ, ◌+◌, ◌<◌, List, length, map, min, max, slice_get, Some}
 use Rattle.std.specs.{Option.IsSomeAnd, declared.alloc.Global.Global, declared.vec.Vec.Vec}
 use Rattle.rtrb.specs.declared.consumer.Consumer.{Consumer}
-use Rattle.rtrb.specs.Ring.{sent, known_free, received, consumer_capacity, IsPair, SameProducer}
+use Rattle.rtrb.specs.Ring.{sent, known_free, producer_capacity, received, consumer_capacity, IsPair, SameProducer}
 use Rattle.eevdf_fleet.specs.declared.rings.request.{AtHome.AtHome, Request.Request}
 use Rattle.eevdf_fleet.specs.Requests.{IsMarked, tasks_after}
 use Rattle.eevdf_fleet.specs.Rings.{Ring, Rings, Posts, Takes, ring_at}
@@ -31,6 +31,7 @@ free_in capacity end = min capacity (known_free end)
 -- an end that pushes into a ring to a home, which has room for what was never pushed
 pub record PushesInto (capacity : ℕ) (homes : List ℕ) (home : ℕ) (ring : Ring) (end : Pushing) : Type 0 where
   pub same : SameProducer ring end
+  pub capacity_is : producer_capacity end ≡ slots_for capacity
   pub room : capacity < known_free end + length (sent end)
   pub marked : IsMarked homes home (sent end)
 

@@ -7,9 +7,8 @@ ghost use Rattle.eevdf_fleet.specs.{Board.IsToken, Board.Known, Board.claims_of,
 ghost use Rattle.eevdf_fleet.specs.Closings.{AllPut, AreClosed, IsOfLines, queue_count, with_journal};
 ghost use Rattle.eevdf_fleet.specs.Fleets.{AreSeats, given_back, returned, seats_in, setup_of};
 
-use crate::board::Token;
+use crate::board::{NamedBoard, Token};
 use crate::journal::Journal;
-use crate::named_board::NamedBoard;
 use crate::names::Names;
 use crate::reserve::Reserve;
 use crate::rings::ReturnedEnds;

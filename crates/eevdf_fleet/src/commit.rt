@@ -6,9 +6,8 @@ ghost use Rattle.eevdf_fleet.specs.Claims.{OwesQueues, advanced, journal, times}
 ghost use Rattle.eevdf_fleet.specs.Board.{IsToken, Known, claims_of, held};
 ghost use Rattle.eevdf_fleet.specs.Fleets.{HasWritten, IsRoomFor};
 
-use crate::board::{Said, Token};
+use crate::board::{NamedBoard, Said, Token};
 use crate::journal::Journal;
-use crate::named_board::NamedBoard;
 use crate::names::Names;
 use crate::seat_log::SeatLog;
 use atomic_table::Badge;

@@ -28,7 +28,6 @@ mod kit_parts;
 mod line_commits;
 mod locked_deeds;
 mod looking;
-mod named_board;
 mod names;
 mod opening;
 mod operations;

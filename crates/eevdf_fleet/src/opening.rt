@@ -11,9 +11,8 @@ ghost use Rattle.eevdf_fleet.specs.Fleets.{HasLines, all_fresh_parts, capacity_o
 ghost use Rattle.eevdf_fleet.specs.Fleets.{quota_of, setup_of};
 ghost use Rattle.eevdf_fleet.specs.Rings.{all_no_posts, all_no_takes};
 
-use crate::board::Token;
+use crate::board::{NamedBoard, Token};
 use crate::journal::Journal;
-use crate::named_board::NamedBoard;
 use crate::names::Names;
 use crate::rings::{Consumers, Producers, Rings};
 use crate::seat_log::SeatLog;

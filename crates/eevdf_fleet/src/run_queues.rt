@@ -2,9 +2,9 @@ ghost use Rattle.std.specs.Prelude.{◌≡◌, ◌≤◌, [], nat_lt, vec_capaci
 ghost use Rattle.eevdf_ops.specs.Setup.{cpus_of, homes_of, is_task};
 ghost use Rattle.eevdf_fleet.specs.Fleets.{all_fresh_parts, setup_of};
 
+use crate::board::NamedBoard;
 use crate::journal::Journal;
 use crate::kit_parts::{KitParts, room_of};
-use crate::named_board::NamedBoard;
 use crate::names::Names;
 use crate::opening::{Opened, open_all, open_journal, open_seats};
 use crate::reserve::Reserve;

@@ -1,5 +1,5 @@
 ghost use Rattle.std.specs.Prelude.{◌≡◌, ◌+◌, ◌<◌, is_some, length, OnOk, OnErr, IfErr, IsOk, true};
-ghost use Rattle.eevdf_ops.specs.Setup.{cpus_of, home_of, homes_of, is_task};
+ghost use Rattle.eevdf_ops.specs.{Programs.wakes_from, Setup.cpus_of, Setup.home_of, Setup.homes_of, Setup.is_task};
 ghost use Rattle.eevdf_fleet.specs.Fleets.{AreKnown, HasPosted, PartsLooked, capacity_of, free_at, posted_to, quota_of, setup_of};
 
 use crate::names::Names;
@@ -90,12 +90,19 @@ impl<N: Names> SeatParts<N> {
         self.log.know();
     }
 
-    /// Looks how many requests for tasks of a home certainly fit now.
+    /// Looks how many requests for tasks of a home certainly fit now: for those of its own CPU as many as there is room for beside those
+    /// that it hasn't taken yet.
     pub(crate) fn free(&mut self, home: CpuId) -> usize
         requires { home < cpus_of (setup_of N.kit) }
         ensures looked { PartsLooked self.old self.new }
         ensures free { result ≡ free_at self.new.free home }
+        ensures own { 0 < capacity_of N.kit → home ≡ self.old.seat.cpu → result + length (posted_to self.old.seat home)
+            ≡ capacity_of N.kit + length (wakes_from home self.old.seat.log) }
     {
-        self.producers.free(home.index())
+        if home.get() == self.log.cpu().get() {
+            self.consumers.free_own(&mut self.producers)
+        } else {
+            self.producers.free(home.index())
+        }
     }
 }

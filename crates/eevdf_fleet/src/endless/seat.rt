@@ -1,8 +1,8 @@
-ghost use Rattle.std.specs.Prelude.{◌≡◌, ◌<◌, ◌≤◌, [], map, vec_capacity, vec_len, None, OnOk, OnErr, IfErr, IfOk, IsOk};
+ghost use Rattle.std.specs.Prelude.{◌≡◌, ◌+◌, ◌<◌, ◌≤◌, [], length, map, vec_capacity, vec_len, None, OnOk, OnErr, IfErr, IfOk, IsOk};
 ghost use Rattle.std.specs.Prelude.{true};
-ghost use Rattle.eevdf_ops.specs.Setup.{cpus_of, home_of, homes_of, is_task};
-ghost use Rattle.eevdf_fleet.specs.Fleets.{free_at, setup_of};
-ghost use Rattle.eevdf_fleet.specs.Endless.{HasFound, HasPosted, seat_of_parts};
+ghost use Rattle.eevdf_ops.specs.{Programs.wakes_from, Setup.cpus_of, Setup.home_of, Setup.homes_of, Setup.is_task};
+ghost use Rattle.eevdf_fleet.specs.Fleets.{capacity_of, free_at, setup_of};
+ghost use Rattle.eevdf_fleet.specs.Endless.{HasFound, HasPosted, posted_to, seat_of_parts};
 
 use crate::names::Names;
 use crate::rings::RingFull;
@@ -56,11 +56,13 @@ impl<N: Names> Seat<N> {
     }
 
     /// How many requests to a home certainly fit into its ring now: so many posts to it succeed, whoever drains in the meantime. The home's
-    /// drains can only make it more.
+    /// drains can only make it more. For the seat's own CPU it is the room of a ring less what the seat has posted to it and not drained.
     pub fn free(&mut self, home: CpuId) -> usize
         requires { home < cpus_of (setup_of N.kit) }
         ensures seat { HasFound self.old self.new }
         ensures free { result ≡ free_at self.new.free home }
+        ensures own { 0 < capacity_of N.kit → home ≡ self.old.cpu → result + length (posted_to self.old home)
+            ≡ capacity_of N.kit + length (wakes_from home self.old.log) }
     {
         self.parts.free(home)
     }

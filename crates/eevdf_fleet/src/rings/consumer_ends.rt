@@ -1,7 +1,7 @@
 use crate::names::Names;
 use crate::rings::producer_ends::Producers;
 use crate::rings::request::PopEnd;
-use crate::rings::ring_ends::{pop, pop_beside, pop_rest};
+use crate::rings::ring_ends::{free_beside, pop, pop_beside, pop_rest};
 use eevdf_queue::TaskId;
 use std::marker::{Model, PhantomData};
 
@@ -26,7 +26,7 @@ impl<N: Names> Model for Consumers<N> {
 }
 
 impl<N: Names> Consumers<N> {
-    ghost use Rattle.std.specs.Prelude.{◌≡◌, ◌<◌, ◌≤◌, ◌++◌, [], ◌∷◌, length, vec_capacity, IfNone};
+    ghost use Rattle.std.specs.Prelude.{◌≡◌, ◌+◌, ◌<◌, ◌≤◌, ◌++◌, [], ◌∷◌, length, vec_capacity, IfNone};
     ghost use Rattle.std.specs.Prelude.{IfSome, true};
     ghost use Rattle.eevdf_ops.specs.Setup.{is_at_home};
     ghost use Rattle.eevdf_fleet.specs.Rings as rings;
@@ -92,6 +92,22 @@ impl<N: Names> Consumers<N> {
     {
         let home = self.home;
         pop_beside(&mut self.ends[home], &mut producers.ends[home])
+    }
+
+    /// Looks how many requests more the home can post to itself: as many as there is room for beside those that weren't taken yet.
+    pub(crate) fn free_own(&mut self, producers: &mut Producers<N>) -> usize
+        requires own { producers.old.sender ≡ self.old.home }
+        requires home { self.old.home < length producers.old.posted }
+        requires sender { self.old.home < length self.old.taken }
+        ensures takes { self.new ≡ self.old }
+        ensures producers { rings.HasLooked self.old.home producers.old producers.new }
+        ensures free { result ≡ rings.free_to producers.new self.old.home }
+        ensures all { 0 < N.kit.rings.capacity → result + length (rings.posted_to producers.old self.old.home)
+            ≡ N.kit.rings.capacity + length (rings.taken_from self.old self.old.home) }
+    {
+        let home = self.home;
+        let capacity = producers.capacity;
+        free_beside(&mut producers.ends[home], &mut self.ends[home], capacity)
     }
 
     /// Takes all requests of a sender that weren't taken yet, oldest first. It takes no memory.

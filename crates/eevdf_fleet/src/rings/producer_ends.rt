@@ -17,7 +17,7 @@ pub struct RingFull {
 #[derive(Drop)]
 pub(crate) struct Producers<N: Names> {
     pub(super) sender: usize,
-    capacity: usize,
+    pub(super) capacity: usize,
     pub(super) ends: Vec<PushEnd>,
     of: PhantomData<N>,
 }
@@ -74,7 +74,7 @@ impl<N: Names> Producers<N> {
         push(&mut self.ends[home], task)
     }
 
-    /// Looks how many requests to a home certainly fit now.
+    /// Looks how many requests to a home certainly fit now. `Consumers::free_own` knows it of the sender's own.
     pub(crate) fn free(&mut self, home: usize) -> usize
         requires { home < length self.old.posted }
         ensures looked { rings.HasLooked home self.old self.new }

@@ -2,8 +2,8 @@
 
 ghost use Rattle.std.specs.Prelude.{◌≡◌, ◌<◌, ◌≤◌, ◌+◌, ◌++◌, [], ◌∷◌, length, slice_get};
 ghost use Rattle.std.specs.Prelude.{vec_capacity, IfNone, IfOk, IfSome, IfErr, IsOk, OnErr, OnOk};
-ghost use Rattle.rtrb.specs.Ring.{sent, known_free, received, consumer_capacity, IsPair};
-ghost use Rattle.rtrb.specs.Ring.{SameConsumer, SameProducer, ProducerLooked};
+ghost use Rattle.rtrb.specs.Ring.{sent, known_free, producer_capacity, received, consumer_capacity, IsPair};
+ghost use Rattle.rtrb.specs.Ring.{SameConsumer, SameProducer, ConsumerLooked, ProducerLooked};
 ghost use Rattle.eevdf_fleet.specs.{Requests.Grows, Requests.IsMarked, Requests.MayFollow};
 ghost use Rattle.eevdf_fleet.specs.RingEnds.{free_in, taken_out};
 ghost use Rattle.eevdf_fleet.specs.{Requests.tasks_of, RingEnds.posted_into, RingEnds.slots_for};
@@ -35,6 +35,7 @@ pub(super) fn open_ring(
     ensures sent { IfOk result (λ r. IsMarked homes.now.items home (sent r.0)) }
     ensures posted { IfOk result (λ r. posted_into r.0 ≡ []) }
     ensures free { IfOk result (λ r. known_free r.0 ≡ slots) }
+    ensures slots { IfOk result (λ r. producer_capacity r.0 ≡ slots) }
     ensures received { IfOk result (λ r. IsMarked homes.now.items home (received r.1)) }
     ensures taken { IfOk result (λ r. taken_out r.1 ≡ []) }
     ensures capacity { IfOk result (λ r. consumer_capacity r.1 ≡ slots) }
@@ -73,6 +74,20 @@ pub(super) fn free(producer: &mut PushEnd, capacity: usize) -> usize
     ensures free { result ≡ free_in capacity producer.new }
 {
     producer.slots().min(capacity)
+}
+
+/// Looks how many requests fit, into a ring that has room for so many: the end that pops is here too, so what was popped is known.
+pub(super) fn free_beside(producer: &mut PushEnd, consumer: &mut PopEnd, capacity: usize) -> usize
+    requires { IsPair producer.old consumer.old }
+    ensures looked { ProducerLooked producer.old producer.new }
+    ensures consumer { ConsumerLooked consumer.old consumer.new }
+    ensures free { result ≡ free_in capacity producer.new }
+    ensures all { known_free producer.new + length (sent producer.old)
+        ≡ producer_capacity producer.old + length (received consumer.old) }
+    ensures fewer { length (received consumer.old) ≤ length (sent producer.old) }
+{
+    consumer.slots_beside(producer);
+    producer.slots_beside(consumer).min(capacity)
 }
 
 /// Pops the oldest request that is in the ring, if one is seen.

@@ -1,25 +1,32 @@
-ghost use Rattle.std.specs.Prelude.{◌≡◌, ◌++◌, take, drop};
+ghost use Rattle.std.specs.Prelude.{◌≡◌, ◌++◌, take, drop, Some};
 ghost use Rattle.eevdf_fleet.specs.Claims.{Owes};
 ghost use Rattle.eevdf_fleet.specs.Board.{HasAppended, HasLooked, IsToken, claims_of, shared};
 
-use crate::board::{Board, Said, Token};
+use crate::board::claims::{Said, Terms, View};
+use crate::board::rule::{Append, Both, First, FirstTwo, Look, OneHistory, Saying, SharedFirst};
+use crate::board::{Board, Token};
 use crate::names::Names;
-use std::marker::{Model, PhantomData};
+use atomic_table::Table;
+use std::alloc::Global;
+use std::marker::{Brand, Model, PhantomData};
 
 /// The board of the fleet of this name.
 #[derive(Drop)]
 pub(crate) struct NamedBoard<N: Names> {
-    board: Board,
+    table: Table<(), View, Terms, OneHistory, Global>,
     names: PhantomData<N>,
 }
 
 impl<N: Names> Model for NamedBoard<N> {
+    ghost use Rattle.std.specs.Prelude.{◌≡◌};
+
     ghost Value = { Unit {0} };
 
     ghost view = { λ b. tt };
 
-    ghost invariant = { λ b. (b.board.table.shared.table_id ≡ N.kit.board)
-        × (b.board.table.shared.key ≡ N.kit.terms) };
+    ghost invariant = { λ b. (b.table.shared.table_id ≡ N.kit.board)
+        × (b.table.shared.key ≡ N.kit.terms)
+        × (b.table.shared.table_id.words ≡ 1) };
 }
 
 impl<N: Names> NamedBoard<N> {
@@ -27,8 +34,9 @@ impl<N: Names> NamedBoard<N> {
         requires { (board.table.shared.table_id ≡ N.kit.board)
             × (board.table.shared.key ≡ N.kit.terms) }
     {
+        let Board { table } = board;
         NamedBoard {
-            board,
+            table,
             names: PhantomData,
         }
     }
@@ -40,7 +48,11 @@ impl<N: Names> NamedBoard<N> {
         ensures token { IsToken N.kit.board N.kit.terms result }
         ensures claims { claims_of result ≡ claims_of other ++ claims_of token }
     {
-        self.board.join(token, other)
+        let mut seat = token.into_seat();
+        self.table
+            .shared
+            .join_seat::<Both>(&mut seat, other.into_seat());
+        seat.into_badge()
     }
 
     /// A token of the first claim alone, and one of the others.
@@ -51,7 +63,9 @@ impl<N: Names> NamedBoard<N> {
         ensures first_claim { claims_of result.0 ≡ take 1 (claims_of token) }
         ensures other_claims { claims_of result.1 ≡ drop 1 (claims_of token) }
     {
-        self.board.split(token)
+        let mut seat = token.into_seat();
+        let first = self.table.shared.split_seat::<First>(&mut seat);
+        (first.into_badge(), seat.into_badge())
     }
 
     /// A token of the first two claims, and one of the others.
@@ -62,7 +76,9 @@ impl<N: Names> NamedBoard<N> {
         ensures first_claims { claims_of result.0 ≡ take 2 (claims_of token) }
         ensures other_claims { claims_of result.1 ≡ drop 2 (claims_of token) }
     {
-        self.board.split_two(token)
+        let mut seat = token.into_seat();
+        let first = self.table.shared.split_seat::<FirstTwo>(&mut seat);
+        (first.into_badge(), seat.into_badge())
     }
 
     /// A token of the first two claims, and one of the others. Both have the first, where it is of the past.
@@ -73,7 +89,9 @@ impl<N: Names> NamedBoard<N> {
         ensures first_claims { claims_of result.0 ≡ take 2 (claims_of token) }
         ensures other_claims { claims_of result.1 ≡ shared (claims_of token) }
     {
-        self.board.split_shared(token)
+        let mut seat = token.into_seat();
+        let first = self.table.shared.split_seat::<SharedFirst>(&mut seat);
+        (first.into_badge(), seat.into_badge())
     }
 
     /// Commits a line, and learns the lines up to it. The token claims all that it changes.
@@ -83,7 +101,20 @@ impl<N: Names> NamedBoard<N> {
         ensures token { IsToken N.kit.board N.kit.terms result }
         ensures appended { HasAppended N.kit.terms said.now (claims_of token) (claims_of result) }
     {
-        self.board.append(token, said)
+        self.append_as::<Brand>(token, said)
+    }
+
+    /// Commits the line that the type says.
+    fn append_as<S: Saying>(&self, token: Token, said: &Said) -> Token
+        requires token { IsToken N.kit.board N.kit.terms token }
+        requires owed { Owes N.kit.terms (claims_of token) said.now }
+        requires same { S.said ≡ Some said.now }
+        ensures token { IsToken N.kit.board N.kit.terms result }
+        ensures appended { HasAppended N.kit.terms said.now (claims_of token) (claims_of result) }
+    {
+        let mut seat = token.into_seat();
+        self.table.shared.load::<Append<S>>(&mut seat, 0);
+        seat.into_badge()
     }
 
     /// Learns the lines so far, which the claims of a token hold of, and that none of these stands twice.
@@ -92,6 +123,8 @@ impl<N: Names> NamedBoard<N> {
         ensures token { IsToken N.kit.board N.kit.terms result }
         ensures looked { HasLooked N.kit.terms (claims_of token) (claims_of result) }
     {
-        self.board.look(token)
+        let mut seat = token.into_seat();
+        self.table.shared.load::<Look>(&mut seat, 0);
+        seat.into_badge()
     }
 }

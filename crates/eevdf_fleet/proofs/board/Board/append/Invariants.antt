@@ -1,5 +1,0 @@
-use Rattle.std.specs.Prelude.{Some}
-use Rattle.eevdf_fleet.proofs.board.Board.append.Given as goal
-
-abbrev pub ghosts-append_as : goal.ghosts-append_as
-ghosts-append_as a = record { said = Some a.said.now }
