@@ -122,6 +122,23 @@ sum_insert f tasks t a b here =
     ap (λ es. sum_of f es +ℤ f a) (entries-insert nat_cmp_total tasks t b)
     ∙ replaced f t a b (entries tasks) (entries_sorted tasks) (sym (get-entries tasks t) ∙ here)
 
+added_by : (f : Entry → ℤ) (k : ℕ) (b : Entry) (e : ℕ × Entry) (es : List (ℕ × Entry)) (o : Ordering)
+    → (find nat_cmp k es ≡ None → sum_of f (put nat_cmp k b es) ≡ sum_of f es +ℤ f b)
+    → cond (is_eq o) (Some e.1) (find nat_cmp k es) ≡ None
+    → sum_of f (by_order o ((k, b) ∷ e ∷ es) ((e.0, b) ∷ es) (e ∷ put nat_cmp k b es)) ≡ (f e.1 +ℤ sum_of f es) +ℤ f b
+added_by f k b e es Less rest none = omega (arith, ints)
+added_by f k b e es Equal rest none = cc
+added_by f k b e es Greater rest none = let more = rest none in omega (arith, ints, more)
+
+added : (f : Entry → ℤ) (k : ℕ) (b : Entry) (es : List (ℕ × Entry)) → find nat_cmp k es ≡ None → sum_of f (put nat_cmp k b es) ≡ sum_of f es +ℤ f b
+added f k b [] none = omega (arith, ints)
+added f k b (e ∷ es) none = added_by f k b e es (nat_cmp k e.0) (added f k b es) none
+
+-- an entry at a new number: the sum has one summand more
+pub sum_added : (f : Entry → ℤ) (tasks : Tasks) (t : ℕ) (b : Entry) → get tasks t ≡ None → sum_over f (insert tasks t b) ≡ sum_over f tasks +ℤ f b
+sum_added f tasks t b none =
+    ap (sum_of f) (entries-insert nat_cmp_total tasks t b) ∙ added f t b (entries tasks) (sym (get-entries tasks t) ∙ none)
+
 -- ---- the sums of the model
 abbrev pub weight : Entry → ℤ
 weight e = pos (weight_of e.nice)

@@ -85,11 +85,15 @@ one_then e f g m n a b = record {
 }
 
 -- ---- entries in maps
-same_number : (u x : ℕ) → eq_by_cmp nat_cmp u x ≡ true → u ≡ x
+pub same_number : (u x : ℕ) → eq_by_cmp nat_cmp u x ≡ true → u ≡ x
 same_number u x h = grind (arith, nat_tests)
 
-itself : (t : ℕ) → eq_by_cmp nat_cmp t t ≡ true
+pub itself : (t : ℕ) → eq_by_cmp nat_cmp t t ≡ true
 itself t = grind (arith, nat_tests)
+
+pub not_itself : (t task : ℕ) (b : Bool) → (t ≡ task → ⊥) → eq_by_cmp nat_cmp t task ≡ b → b ≡ false
+not_itself t task true other is = absurd (other (same_number t task is))
+not_itself t task false other is = refl
 
 -- the entry that is there, put there again
 pub insert_same : (tasks : Tasks) (t : ℕ) (e : Entry) → get tasks t ≡ Some e → insert tasks t e ≡ tasks
@@ -100,7 +104,7 @@ insert_same tasks t e here =
     by x true k = sym here ∙ ap (get tasks) (sym (same_number x t k))
     by x false k = refl
 
-hidden : {X : Type 0} (b : Bool) (x y z : X) → cond b x (cond b y z) ≡ cond b x z
+pub hidden : {X : Type 0} (b : Bool) (x y z : X) → cond b x (cond b y z) ≡ cond b x z
 hidden true x y z = refl
 hidden false x y z = refl
 
@@ -115,15 +119,22 @@ insert_twice tasks t e f =
 pub get_here : (tasks : Tasks) (t : ℕ) (e : Entry) → get (insert tasks t e) t ≡ Some e
 get_here tasks t e = get-insert nat_cmp_total tasks t e t ∙ ap (λ b. cond b (Some e) (get tasks t)) (itself t)
 
-found_by : (P : Entry → Type 0) (b : Bool) (e f : Entry) (o : Option Entry) → P e → (o ≡ Some f → P f) → cond b (Some e) o ≡ Some f → P f
-found_by P true e f o new old found = let same : e ≡ f = cc in subst P same new
-found_by P false e f o new old found = old found
+found_by : (P : ℕ → Entry → Type 0) (u t : ℕ) (b : Bool) (e f : Entry) (o : Option Entry) → eq_by_cmp nat_cmp u t ≡ b → P t e → (o ≡ Some f → P u f)
+    → cond b (Some e) o ≡ Some f → P u f
+found_by P u t true e f o is new old found =
+    let entry : e ≡ f = cc in
+    subst (λ (x : Entry). P u x) entry (subst (λ (n : ℕ). P n e) (sym (same_number u t is)) new)
+found_by P u t false e f o is new old found = old found
 
 -- what holds of the new entry and of each task before holds of each task
+pub found_at_after : (P : ℕ → Entry → Type 0) (tasks : Tasks) (t : ℕ) (e : Entry) → P t e → ((u : ℕ) (f : Entry) → get tasks u ≡ Some f → P u f)
+    → (u : ℕ) (f : Entry) → get (insert tasks t e) u ≡ Some f → P u f
+found_at_after P tasks t e new old u f found =
+    found_by P u t (eq_by_cmp nat_cmp u t) e f (get tasks u) refl new (old u f) (sym (get-insert nat_cmp_total tasks t e u) ∙ found)
+
 pub found_after : (P : Entry → Type 0) (tasks : Tasks) (t : ℕ) (e : Entry) → P e → ((u : ℕ) (f : Entry) → get tasks u ≡ Some f → P f)
     → (u : ℕ) (f : Entry) → get (insert tasks t e) u ≡ Some f → P f
-found_after P tasks t e new old u f found =
-    found_by P (eq_by_cmp nat_cmp u t) e f (get tasks u) new (old u f) (sym (get-insert nat_cmp_total tasks t e u) ∙ found)
+found_after P = found_at_after (λ u f. P f)
 
 -- ---- the queue after ticks: the task still runs, and its entry has grown
 pub record HasRun (q : State) (t : ℕ) (e : Entry) (ns : ℕ) (r : State) : Type 0 where

@@ -1,17 +1,16 @@
 -- Turns of one CPU: whatever else is done, its queue is as the turns leave it.
-use Rattle.std.proofs.Common.{◌≡◌, ℕ, ◌<◌, Bool, true, false, cond, List, [], ◌∷◌, ◌++◌, length, Some, refl, sym, ap, ◌∙◌, subst}
-use Rattle.std.specs.{FinMap.get}
+use Rattle.std.proofs.Common.{◌≡◌, ℕ, ◌<◌, Bool, true, false, cond, List, [], ◌∷◌, ◌++◌, length, refl, sym, ap, ◌∙◌, subst}
 use Rattle.std.proofs.{lemmas.List.get_or-set_same}
-use Rattle.eevdf_queue.specs.{declared.entry.Entry.Entry, State.State, State.empty_state, Pick.after_pick, Tick.tick}
+use Rattle.eevdf_queue.specs.{State.State, State.empty_state, Pick.after_pick, Tick.tick}
 use Rattle.eevdf_ops.specs.{declared.deeds.Deed.Deed, Machine.Machine, Machine.queue_at, Parts.touches, PartsLaws.OthersStay, Whole.whole, Whole.machine_after}
 use Rattle.eevdf_ops.specs.declared.deeds.Deed.TheVariants.{Tick, Pick, Yield, Sleep, Wake, Pull, Renice}
 use Rattle.eevdf_ops.proofs.WholePlaces.{length-whole}
-use Rattle.eevdf_fairness.specs.{Turns.Turn, Turns.after_ticks, Turns.after_turns, Fair.AllAreFair, Fair.TurnsAreFair, Share.HasItsShare, Share.TurnsGiveShares}
-use Rattle.eevdf_fairness.specs.OneCpu.{ticks_on, turns_on, touching, TurnsOfOneCpu, OneCpuIsFair, OneCpuIsFairAnywhere, OneCpuGivesShares}
+use Rattle.eevdf_fairness.specs.{Turns.Turn, Turns.after_ticks, Turns.after_turns, Fair.AllAreFair, Fair.TurnsAreFair}
+use Rattle.eevdf_fairness.specs.OneCpu.{ticks_on, turns_on, touching, TurnsOfOneCpu, OneCpuIsFair, OneCpuIsFairAnywhere}
 use Rattle.eevdf_fairness.specs.Anywhere.{AllAreFairPast, TurnsAreFairAnywhere}
 
 -- a pick or a tick of a CPU
-abbrev IsOfTurns : ℕ → Deed → Type 0
+abbrev pub IsOfTurns : ℕ → Deed → Type 0
 IsOfTurns cpu (Tick at ns) = at ≡ cpu
 IsOfTurns cpu (Pick at) = at ≡ cpu
 IsOfTurns cpu (Yield at) = ⊥
@@ -20,12 +19,12 @@ IsOfTurns cpu (Wake at task sender) = ⊥
 IsOfTurns cpu (Pull at source) = ⊥
 IsOfTurns cpu (Renice at task nice) = ⊥
 
-abbrev AreOfTurns : ℕ → List Deed → Type 0
+abbrev pub AreOfTurns : ℕ → List Deed → Type 0
 AreOfTurns cpu [] = Unit {0}
 AreOfTurns cpu (d ∷ ds) = IsOfTurns cpu d × AreOfTurns cpu ds
 
 -- what it does to the queue
-abbrev done : Deed → State → State
+abbrev pub done : Deed → State → State
 done (Tick at ns) q = (tick q ns).1
 done (Pick at) q = after_pick q
 done (Yield at) q = q
@@ -34,11 +33,11 @@ done (Wake at task sender) q = q
 done (Pull at source) q = q
 done (Renice at task nice) q = q
 
-abbrev all_done : List Deed → State → State
+abbrev pub all_done : List Deed → State → State
 all_done [] q = q
 all_done (d ∷ ds) q = all_done ds (done d q)
 
-one_done : (homes : List ℕ) (m : Machine) (cpu : ℕ) (d : Deed) → cpu < length m → IsOfTurns cpu d → queue_at (whole homes d m).1 cpu ≡ done d (queue_at m cpu)
+pub one_done : (homes : List ℕ) (m : Machine) (cpu : ℕ) (d : Deed) → cpu < length m → IsOfTurns cpu d → queue_at (whole homes d m).1 cpu ≡ done d (queue_at m cpu)
 one_done homes m cpu (Tick at ns) h is =
     subst (λ (c : ℕ). queue_at (whole homes (Tick at ns) m).1 c ≡ (tick (queue_at m c) ns).1) is
     (get_or-set_same m at ((tick (queue_at m at) ns).1) empty_state (subst (λ (c : ℕ). c < length m) (sym is) h))
@@ -81,7 +80,7 @@ ticks_of_turns : (cpu : ℕ) (turn : Turn) (more : List Deed) → AreOfTurns cpu
 ticks_of_turns cpu [] more h = h
 ticks_of_turns cpu (ns ∷ turn) more h = (refl, ticks_of_turns cpu turn more h)
 
-all_of_turns : (cpu : ℕ) (turns : List Turn) → AreOfTurns cpu (turns_on cpu turns)
+pub all_of_turns : (cpu : ℕ) (turns : List Turn) → AreOfTurns cpu (turns_on cpu turns)
 all_of_turns cpu [] = tt
 all_of_turns cpu (turn ∷ turns) = (refl, ticks_of_turns cpu turn (turns_on cpu turns) (all_of_turns cpu turns))
 
@@ -100,8 +99,3 @@ pub one_cpu_is_fair_anywhere : OthersStay → TurnsAreFairAnywhere → OneCpuIsF
 one_cpu_is_fair_anywhere stay fair homes m cpu deeds front ns turns h only none short =
     subst (λ (q : State). AllAreFairPast front ns q.runnable)
     (sym (turns_of_one_cpu stay homes m cpu deeds turns h only)) (fair (queue_at m cpu) front ns turns none short)
-
-pub one_cpu_gives_shares : OthersStay → TurnsGiveShares → OneCpuGivesShares
-one_cpu_gives_shares stay shares homes m cpu deeds v ns before turns h only fresh short more =
-    subst (λ (q : State). (t : ℕ) (e : Entry) → get q.runnable t ≡ Some e → HasItsShare ns q turns t e)
-    (sym (turns_of_one_cpu stay homes m cpu deeds before h only)) (shares (queue_at m cpu) v ns before turns fresh short more)

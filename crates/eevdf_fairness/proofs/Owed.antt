@@ -8,7 +8,7 @@ use Rattle.eevdf_queue.specs.declared.entry.Entry.{Entry}
 use Rattle.eevdf_queue.specs.Sums.{Tasks, sum_weights, sum_moments, total_weight, total_moment}
 use Rattle.eevdf_fairness.specs.Fair.{IsOwedOnlyTurns, weight_of_others}
 use Rattle.eevdf_fairness.proofs.{Scaled.sum_scaled, Scaled.scaled_sum, Scaled.scaled_twice, Scaled.scaled_le, Scaled.fewer, EntrySums.each, EntrySums.sum_of}
-use Rattle.eevdf_fairness.proofs.{EntrySums.one_of, EntrySums.no_heavier, Growing.rounded_down, Turning.crossed, Turning.IsLittleAhead}
+use Rattle.eevdf_fairness.proofs.{EntrySums.one_of, EntrySums.no_heavier, Growing.rounded_down, Rules.IsLittleAhead, Turning.crossed}
 
 -- what is left of the most that a task can be ahead
 abbrev slack : ℕ → ℤ → ℕ → Entry → ℤ

@@ -1,20 +1,20 @@
 -- What ticks and turns do to the sums and to each task, by the time that was charged.
-use Rattle.std.proofs.Common.{◌≡◌, ℕ, ◌+◌, ◌*◌, ◌%◌, ◌≤◌, Bool, true, false, cond, List, [], ◌∷◌, Option, Some, None, refl, sym, ap, ◌∙◌, subst, arith}
+use Rattle.std.proofs.Common.{◌≡◌, ℕ, ◌+◌, ◌-◌, ◌*◌, ◌%◌, ◌≤◌, Bool, true, false, cond, List, [], ◌∷◌, Option, Some, None, refl, sym, ap, ◌∙◌, subst, arith}
 use Rattle.std.specs.Prelude.{ℤ, pos, ◌+ℤ◌, ◌*ℤ◌, ◌==◌, is_some}
 use Rattle.std.specs.{Ordering.nat_cmp, Ordering.eq_by_cmp, Cmp.nat_cmp_total}
 use Rattle.std.specs.FinMap.{get, insert, len, len-insert, get-insert}
 use Rattle.std.proofs.{lemmas.Int.ints, lemmas.Bool.Decides.nat_tests}
 use Rattle.eevdf_weight.specs.{Weight.weight_of, Charge.charge_of}
-use Rattle.eevdf_weight.proofs.Weighing.{weight_of-least, weight_of-greatest}
+use Rattle.eevdf_weight.proofs.Weighing.{weight_of-least}
 use Rattle.eevdf_queue.specs.{declared.entry.Entry.Entry, declared.answers.TickAnswer.TickAnswer, State.State}
 use Rattle.eevdf_queue.specs.declared.answers.TickAnswer.TheVariants.{Charged, Range}
 use Rattle.eevdf_queue.specs.{Moves.is_entry_in_range, Moves.fresh_entry, Sums.Tasks, Sums.total_weight, Sums.total_moment, Pick.pick_of, Pick.picked_by, Pick.after_pick}
 use Rattle.eevdf_queue.specs.Tick.{aged, is_used_up, charged, tick, tick_entry, tick_running}
-use Rattle.eevdf_fairness.specs.Keeping.{IsStillThere, TurnsKeepTasks}
+use Rattle.eevdf_fairness.specs.{Keeping.IsStillThere, Keeping.TurnsKeepTasks, Share.most_lost, Share.NoneLosesMore}
 use Rattle.eevdf_fairness.specs.Turns.{Turn, after_ticks, after_turn, after_turns}
 use Rattle.eevdf_fairness.specs.Tallies.{over_ticks, over_turns, if_charged, if_charged_to, remainder, remainder_of}
 use Rattle.eevdf_fairness.proofs.{Scaled.sum_scaled, EntrySums.sum_over, EntrySums.sum_insert, EntrySums.weight, EntrySums.moment, EntrySums.weights, EntrySums.moments}
-use Rattle.eevdf_fairness.proofs.Growing.{get_here}
+use Rattle.eevdf_fairness.proofs.Growing.{get_here, found_after}
 
 -- the entry that a task has now: it was charged for so much time, less what rounding took, in so many charges
 pub record IsServed (e : Entry) (time rounding charges : ℕ) (now : Option Entry) : Type 0 where
@@ -23,14 +23,15 @@ pub record IsServed (e : Entry) (time rounding charges : ℕ) (now : Option Entr
   pub same_nice : entry.nice ≡ e.nice
   pub same_slice : entry.slice ≡ e.slice
   pub runtime : (entry.v *ℤ pos (weight_of e.nice)) +ℤ pos rounding ≡ (e.v *ℤ pos (weight_of e.nice)) +ℤ pos (1024 * time)
-  pub rounded : rounding ≤ weight_of e.nice * charges
+  pub rounded : rounding ≤ most_lost (weight_of e.nice) * charges
 
 -- what so much time, in so many charges, does to the tasks and to one of them
 pub record HasPassed (t : ℕ) (before after : Tasks) (time rounding charges task_time task_rounding task_charges : ℕ) : Type 0 where
   pub weight : total_weight after ≡ total_weight before
   pub count : len after ≡ len before
   pub moment : total_moment after +ℤ pos rounding ≡ total_moment before +ℤ pos (1024 * time)
-  pub rounded : rounding ≤ 88761 * charges
+  pub lighter : (most : ℕ) → NoneLosesMore most before → NoneLosesMore most after
+  pub rounded : (most : ℕ) → NoneLosesMore most before → rounding ≤ most * charges
   pub served : (e : Entry) → get before t ≡ Some e → IsServed e task_time task_rounding task_charges (get after t)
 
 not_served : (e : Entry) (o : Option Entry) → o ≡ Some e → IsServed e 0 0 0 o
@@ -41,7 +42,8 @@ nothing_passed t tasks = record {
   weight = refl;
   count = refl;
   moment = refl;
-  rounded = omega arith;
+  lighter = λ most none. none;
+  rounded = λ most none. omega arith;
   served = λ e here. not_served e (get tasks t) here;
 }
 
@@ -59,7 +61,7 @@ served_more e i x k j y l o p f g = record {
   same_slice = g.same_slice ∙ f.same_slice;
   runtime = added (e.v *ℤ pos (weight_of e.nice)) (f.entry.v *ℤ pos (weight_of e.nice)) (g.entry.v *ℤ pos (weight_of e.nice)) x y i j f.runtime
       (subst (λ (z : ℤ). (g.entry.v *ℤ pos (weight_of z)) +ℤ pos y ≡ (f.entry.v *ℤ pos (weight_of z)) +ℤ pos (1024 * j)) f.same_nice g.runtime);
-  rounded = more_rounded (weight_of e.nice) x y k l f.rounded (subst (λ (z : ℤ). y ≤ weight_of z * l) f.same_nice g.rounded);
+  rounded = more_rounded (most_lost (weight_of e.nice)) x y k l f.rounded (subst (λ (z : ℤ). y ≤ most_lost (weight_of z) * l) f.same_nice g.rounded);
 }
 
 pub then_passed : (t : ℕ) (a b c : Tasks) (i x k p q r j y l s u v : ℕ) → HasPassed t a b i x k p q r → HasPassed t b c j y l s u v
@@ -68,7 +70,8 @@ then_passed t a b c i x k p q r j y l s u v f g = record {
   weight = g.weight ∙ f.weight;
   count = g.count ∙ f.count;
   moment = added (total_moment a) (total_moment b) (total_moment c) x y i j f.moment g.moment;
-  rounded = more_rounded 88761 x y k l f.rounded g.rounded;
+  lighter = λ most none. g.lighter most (f.lighter most none);
+  rounded = λ most none. more_rounded most x y k l (f.rounded most none) (g.rounded most (f.lighter most none));
   served = λ e here.
       let first : IsServed e p q r (get b t) = f.served e here in
       served_more e p q r s u v (get b t) (get c t) first (g.served first.entry first.here);
@@ -90,7 +93,7 @@ whole_charge : (ns w : ℕ) → charge_of ns w * w + (ns * 1024) % w ≡ 1024 * 
 unfolding charge_of
 whole_charge ns w = omega arith
 
-remainder_below : (n w : ℕ) → 15 ≤ w → n % w ≤ w * 1
+remainder_below : (n w : ℕ) → 15 ≤ w → n % w ≤ (w - 1) * 1
 remainder_below n w h = omega arith
 
 charged_moment : (a b : ℤ) (i x w y n : ℕ) → b ≡ a +ℤ pos i → i * w + x ≡ 1024 * n → y ≡ w → (b *ℤ pos y) +ℤ pos x ≡ (a *ℤ pos w) +ℤ pos (1024 * n)
@@ -104,11 +107,18 @@ weight_kept m n w x A B h k l e = omega (arith, ints, h, k, l, e)
 moment_grows : (A B S T a b : ℤ) (x n : ℕ) → A ≡ S → B ≡ T → A +ℤ a ≡ B +ℤ b → b +ℤ pos x ≡ a +ℤ pos (1024 * n) → S +ℤ pos x ≡ T +ℤ pos (1024 * n)
 moment_grows A B S T a b x n h k l e = omega (arith, ints, h, k, l, e)
 
-small : (x w : ℕ) → x ≤ w * 1 → w ≤ 88761 → x ≤ 88761 * 1
-small x w h k = omega (arith, h, k)
+small : (x l most : ℕ) → x ≤ l * 1 → l ≤ most → x ≤ most * 1
+small x l most h k = omega (arith, h, k)
 
 same_number : (u x : ℕ) → (u == x) ≡ true → u ≡ x
 same_number u x h = grind (arith, nat_tests)
+
+lost_by : (ns w : ℕ) (b : Bool) → (w == 1024) ≡ b → 15 ≤ w → (ns * 1024) % w ≤ cond b 0 (w - 1) * 1
+lost_by ns w true is h = subst (λ (x : ℕ). (ns * 1024) % x ≤ 0 * 1) (sym (same_number w 1024 is)) (omega arith)
+lost_by ns w false is h = remainder_below (ns * 1024) w h
+
+remainder_lost : (ns w : ℕ) → 15 ≤ w → (ns * 1024) % w ≤ most_lost w * 1
+remainder_lost ns w h = lost_by ns w (w == 1024) refl h
 
 other_number : (u x : ℕ) → (u == x) ≡ false → eq_by_cmp nat_cmp x u ≡ false
 other_number u x h = grind (arith, nat_tests)
@@ -133,7 +143,7 @@ module _ (tasks : Tasks) (p : ℕ) (e : Entry) (ns : ℕ) (here : get tasks p �
         same_slice = f.2;
         runtime = charged_moment e.v (charged e ns).v (charge_of ns (weight_of e.nice)) ((ns * 1024) % weight_of e.nice) (weight_of e.nice) (weight_of e.nice) ns
             f.0 (whole_charge ns (weight_of e.nice)) refl;
-        rounded = remainder_below (ns * 1024) (weight_of e.nice) (weight_of-least e.nice);
+        rounded = remainder_lost ns (weight_of e.nice) (weight_of-least e.nice);
       }
 
   served_by : (t : ℕ) (b : Bool) → (p == t) ≡ b → (g : Entry) → get tasks t ≡ Some g
@@ -157,7 +167,11 @@ module _ (tasks : Tasks) (p : ℕ) (e : Entry) (ns : ℕ) (here : get tasks p �
     moment = moment_grows (sum_over moment (insert tasks p (charged e ns))) (sum_over moment tasks) (total_moment (insert tasks p (charged e ns))) (total_moment tasks)
         (moment e) (moment (charged e ns)) ((ns * 1024) % weight_of e.nice) ns (moments (insert tasks p (charged e ns))) (moments tasks)
         (sum_insert moment tasks p e (charged e ns) here) charged_runtime;
-    rounded = small ((ns * 1024) % weight_of e.nice) (weight_of e.nice) (remainder_below (ns * 1024) (weight_of e.nice) (weight_of-least e.nice)) (weight_of-greatest e.nice);
+    lighter = λ most none.
+        found_after (λ x. most_lost (weight_of x.nice) ≤ most) tasks p (charged e ns)
+        (subst (λ (z : ℤ). most_lost (weight_of z) ≤ most) (sym (charged_fields e ns).1) (none p e here)) none;
+    rounded = λ most none.
+        small ((ns * 1024) % weight_of e.nice) (most_lost (weight_of e.nice)) most (remainder_lost ns (weight_of e.nice) (weight_of-least e.nice)) (none p e here);
     served = λ g found. served_by t (p == t) refl g found;
   }
 

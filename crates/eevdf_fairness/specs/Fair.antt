@@ -28,6 +28,12 @@ abbrev pub IsNotLate : ℕ → Tasks → ℤ → Type 0
 IsNotLate ns tasks time =
     total_moment tasks ≤ℤ ((time *ℤ pos (total_weight tasks)) +ℤ pos (turns_of_others ns tasks))
 
+-- such a request is the less late, the more is left of it: `W * (V - d) + w * (d - v)` is at most `(n - 1) * 1024 * ns`
+abbrev pub IsNotLateWithRest : ℕ → Tasks → ℤ → Entry → Type 0
+IsNotLateWithRest ns tasks time e =
+    (total_moment tasks +ℤ (time *ℤ pos (weight_of e.nice)))
+    ≤ℤ (((time *ℤ pos (total_weight tasks)) +ℤ (e.v *ℤ pos (weight_of e.nice))) +ℤ pos (turns_of_others ns tasks))
+
 -- the task isn't behind: `V - v` is at most `(1 - w / W) * c + (n - 1) * 1024 * ns / W`
 abbrev pub IsNotBehind : ℕ → Tasks → Entry → Type 0
 IsNotBehind ns tasks e =
@@ -48,6 +54,7 @@ IsNotAhead ns tasks e =
 pub record IsFair (ns : ℕ) (tasks : Tasks) (e : Entry) : Type 0 where
   pub past : NoneIsFarPast ns tasks e.d
   pub late : IsNotLate ns tasks e.d
+  pub rest : IsNotLateWithRest ns tasks e.d e
   pub behind : IsNotBehind ns tasks e
   pub owed : IsOwedOnlyTurns ns tasks e
   pub ahead : IsNotAhead ns tasks e

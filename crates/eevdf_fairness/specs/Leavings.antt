@@ -3,8 +3,8 @@ use Rattle.std.specs.Prelude.{◌≡◌, ℕ, ◌+◌, ◌≤◌, ℤ, pos, ◌+
 use Rattle.std.specs.FinMap.{get}
 use Rattle.eevdf_weight.specs.{Weight.weight_of, Charge.charge_of}
 use Rattle.eevdf_queue.specs.{declared.entry.Entry.Entry, State.State, Moves.request_of, Sums.Tasks, Leaving.leave}
-use Rattle.eevdf_fairness.specs.Turns.{Turn, turn_length, IsFresh, after_turn}
-use Rattle.eevdf_fairness.specs.Fair.{NoneIsFarPast, IsNotLate, IsNotBehind}
+use Rattle.eevdf_fairness.specs.Turns.{Turn, turn_length, IsFresh, after_turn, after_turns}
+use Rattle.eevdf_fairness.specs.Fair.{NoneIsFarPast, IsNotLate, IsNotLateWithRest, IsNotBehind}
 
 -- a turn, or a task that leaves, whether it runs or waits
 pub data Step : Type 0 where
@@ -31,6 +31,7 @@ IsNotFarPastOthers ns tasks e =
 pub record IsStillFair (ns : ℕ) (tasks : Tasks) (e : Entry) : Type 0 where
   pub past : NoneIsFarPast ns tasks e.d
   pub late : IsNotLate ns tasks e.d
+  pub rest : IsNotLateWithRest ns tasks e.d e
   pub behind : IsNotBehind ns tasks e
   pub apart : IsNotFarPastOthers ns tasks e
 
@@ -40,3 +41,13 @@ abbrev pub LeavingsKeepFair : Type 0
 LeavingsKeepFair =
     (q : State) (v : ℤ) (ns : ℕ) (steps : List Step) → IsFresh v q.runnable → HaveNoLongerTurns ns steps
     → (t : ℕ) (e : Entry) → get (after_steps q steps).runnable t ≡ Some e → IsStillFair ns (after_steps q steps).runnable e
+
+-- two queues with the same runnable tasks, of which the same one runs; nothing is asked of who sleeps there, and of `base`
+pub record HaveSameRunnable (q r : State) : Type 0 where
+  pub runnable : q.runnable ≡ r.runnable
+  pub running : q.running ≡ r.running
+
+-- turns and leavings read nothing else, and so they leave such queues
+pub record RunnableTasksDecide : Type 0 where
+  pub of_turns : (q r : State) (turns : List Turn) → HaveSameRunnable q r → HaveSameRunnable (after_turns q turns) (after_turns r turns)
+  pub of_steps : (q r : State) (steps : List Step) → HaveSameRunnable q r → HaveSameRunnable (after_steps q steps) (after_steps r steps)

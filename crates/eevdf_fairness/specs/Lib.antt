@@ -2,10 +2,15 @@ pub mod Turns
 pub mod Keeping
 pub mod Fair
 pub mod Leavings
+pub mod LeavingDeeds
 pub mod Anywhere
 pub mod Tallies
 pub mod Share
-pub mod OneCpu
-pub mod Opening
 pub mod Healing
 pub mod Joining
+pub mod JoiningDeeds
+pub mod Opening
+pub mod OneCpu
+pub mod OneCpuSteps
+pub mod Lines
+pub mod Days

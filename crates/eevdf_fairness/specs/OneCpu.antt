@@ -1,10 +1,9 @@
 -- Turns of one CPU of a machine, among whatever the other CPUs do.
-use Rattle.std.specs.Prelude.{◌≡◌, ℕ, ◌<◌, ℤ, List, [], ◌∷◌, ◌++◌, length, Some}
-use Rattle.std.specs.{List.filter, FinMap.get}
-use Rattle.eevdf_queue.specs.{declared.entry.Entry.Entry}
+use Rattle.std.specs.Prelude.{◌≡◌, ℕ, ◌<◌, ℤ, List, [], ◌∷◌, ◌++◌, length}
+use Rattle.std.specs.List.{filter}
 use Rattle.eevdf_ops.specs.{declared.deeds.Deed.Deed, declared.deeds.Deed.TheVariants.Tick, declared.deeds.Deed.TheVariants.Pick}
 use Rattle.eevdf_ops.specs.{Machine.Machine, Machine.queue_at, Parts.touches, Whole.machine_after}
-use Rattle.eevdf_fairness.specs.{Turns.Turn, Turns.AreNoLonger, Turns.IsFresh, Turns.after_turns, Fair.AllAreFair, Share.HasItsShare}
+use Rattle.eevdf_fairness.specs.{Turns.Turn, Turns.AreNoLonger, Turns.IsFresh, Turns.after_turns, Fair.AllAreFair}
 use Rattle.eevdf_fairness.specs.Anywhere.{NoneIsPast, AllAreFairPast}
 
 -- the deeds of ticks on a CPU, and of turns: each is a pick and then its ticks
@@ -43,11 +42,3 @@ OneCpuIsFairAnywhere =
     (homes : List ℕ) (m : Machine) (cpu : ℕ) (deeds : List Deed) (front : ℤ) (ns : ℕ) (turns : List Turn) → cpu < length m
     → OnlyTurnsTouch homes cpu deeds turns → NoneIsPast front (queue_at m cpu).runnable → AreNoLonger ns turns
     → AllAreFairPast front ns (queue_at (machine_after homes m deeds) cpu).runnable
-
--- and has its share of the time of its CPU, over any stretch of such deeds after others
-abbrev pub OneCpuGivesShares : Type 0
-OneCpuGivesShares =
-    (homes : List ℕ) (m : Machine) (cpu : ℕ) (deeds : List Deed) (v : ℤ) (ns : ℕ) (before turns : List Turn) → cpu < length m
-    → OnlyTurnsTouch homes cpu deeds before → IsFresh v (queue_at m cpu).runnable → AreNoLonger ns before → AreNoLonger ns turns
-    → (t : ℕ) (e : Entry) → get (queue_at (machine_after homes m deeds) cpu).runnable t ≡ Some e
-    → HasItsShare ns (queue_at (machine_after homes m deeds) cpu) turns t e

@@ -18,6 +18,10 @@ turn_length (ns ∷ turn) = ns + turn_length turn
 abbrev pub AreNoLonger : ℕ → List Turn → Type 0
 AreNoLonger ns turns = AllByRecursion (λ turn. turn_length turn ≤ ns) turns
 
+-- no tick of theirs runs shorter than this
+abbrev pub HaveNoShorterTicks : ℕ → List Turn → Type 0
+HaveNoShorterTicks least turns = AllByRecursion (λ turn. AllByRecursion (λ ns. least ≤ ns) turn) turns
+
 -- the queue after ticks of the task that runs; one that is refused changes nothing
 abbrev pub after_ticks : State → Turn → State
 after_ticks q [] = q

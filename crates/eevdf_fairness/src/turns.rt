@@ -1,6 +1,7 @@
 //! Turns of a queue.
 
 ghost use Rattle.std.specs.Prelude.{◌≡◌, ℕ, ℤ, map};
+ghost use Rattle.eevdf_queue.specs.Pick.{view_after_pick};
 ghost use Rattle.eevdf_fairness.specs.Fair.{AllAreFair};
 ghost use Rattle.eevdf_fairness.specs.Turns.{AreNoLonger, IsFresh, after_turn, after_turns};
 
@@ -8,9 +9,11 @@ use crate::laws::turns_are_fair;
 use eevdf_queue::Queue;
 use eevdf_weight::Ns;
 
-/// Takes a turn: picks, and charges the task picked for each of these times. Where nothing is runnable nothing happens.
+/// Takes a turn: picks, and charges the task picked for each of these times. Where nothing is runnable nothing happens. How far the pick
+/// went down in the tree (`Queue::pick_steps`) is as that pick left it.
 pub fn take_turn(queue: &mut Queue, ticks: &[Ns])
-    ensures { queue.new.state ≡ after_turn queue.old.state ticks.now }
+    ensures state { queue.new.state ≡ after_turn queue.old.state ticks.now }
+    ensures turns { queue.new.turns ≡ (view_after_pick queue.old).turns }
 {
     let _picked = queue.pick();
     for ns in ticks {

@@ -1,0 +1,373 @@
+-- With a rebase each day no tick is out of range.
+use Rattle.std.proofs.Common.{◌≡◌, ℕ, ◌+◌, ◌-◌, ◌*◌, ◌^◌, ◌/◌, ◌≤◌, Bool, true, false, ◌&&◌, cond, List, [], ◌∷◌, Option, Some, None, refl, sym, ap, ◌∙◌, subst, arith}
+use Rattle.std.specs.Prelude.{ℤ, pos, negsuc, ◌==◌, ◌+ℤ◌, ◌-ℤ◌, ◌*ℤ◌, ◌≤ℤ◌, ◌<ℤ◌, int_le, is_some, unsigned_abs}
+use Rattle.std.specs.{Option.option_map, FinMap.get, FinMap.insert, FinMap.empty, FinMap.entries, FinMap.len}
+use Rattle.std.proofs.lemmas.{Int.ints, Int.unsigned_abs-mul, Bool.Decides.nat_tests}
+use Rattle.std.proofs.Math.Nat.{mul-le-mul_left, mul-le-mul_right, div-le_self}
+use Rattle.eevdf_weight.specs.{Weight.weight_of, Charge.charge_of, Placement.floor_div}
+use Rattle.eevdf_weight.proofs.Weighing.{weight_of-least}
+use Rattle.eevdf_queue.specs.{declared.entry.Entry.Entry, declared.answers.TickAnswer.TickAnswer, State.State, Moves.request_of, Moves.fresh_entry, Moves.is_entry_in_range}
+use Rattle.eevdf_queue.specs.declared.answers.TickAnswer.TheVariants.{Charged, Range}
+use Rattle.eevdf_queue.specs.{Laws.PickIsFirst, Laws.PickOfNobody}
+use Rattle.eevdf_queue.specs.Sums.{Tasks, total_weight, total_moment, virtual_time}
+use Rattle.eevdf_queue.specs.Pick.{IsPick, pick_of, picked_by}
+use Rattle.eevdf_queue.specs.Tick.{aged, is_used_up, charged, tick_to, tick_entry, tick_running}
+use Rattle.eevdf_queue.specs.Rebase.{lowered_entry, lowered_entries, are_entries_in_range, can_rebase, rebased, rebase}
+use Rattle.eevdf_queue.specs.LoweredQueues.{AnswerAlike, LoweredQueueAnswersAlike, RebasedIsLower}
+use Rattle.eevdf_fairness.specs.Turns.{Turn, turn_length, AreNoLonger, after_ticks, after_turn, after_turns}
+use Rattle.eevdf_fairness.specs.Fair.{NoneIsFarPast, turns_of_others, weight_of_others}
+use Rattle.eevdf_fairness.specs.Days.{total_length, IsDay, AreDays, after_days, IsNearStart, DaysStayInRange}
+use Rattle.eevdf_fairness.proofs.{Scaled.sum_scaled, Scaled.difference_scaled, Scaled.scaled_le, EntrySums.Each, EntrySums.each, EntrySums.no_heavier}
+use Rattle.eevdf_fairness.proofs.{Growing.HasRun, Growing.has_run, Growing.found_after, Owed.owed, Passing.turns_passed}
+use Rattle.eevdf_fairness.proofs.Rules.{IsWithin, settled, Everyone, at_one_time, IsLittleAhead, fresh_within}
+use Rattle.eevdf_fairness.proofs.{Turning.moment_after, Steps.idle, Steps.turns_within, Bounds.itself}
+
+abbrev second : ℕ
+second = 1000000000
+
+-- as from a fresh start, of turns of at most a second
+abbrev IsWithinFresh : ℤ → Tasks → Type 0
+IsWithinFresh front = IsWithin (settled second front Everyone)
+
+abbrev HaveSlices : Tasks → Type 0
+HaveSlices tasks = (t : ℕ) (e : Entry) → get tasks t ≡ Some e → e.slice ≤ 100000000
+
+-- the virtual time is within a bound, and all tasks are near it
+record IsCalm (bound : ℕ) (front : ℤ) (tasks : Tasks) : Type 0 where
+  within : IsWithinFresh front tasks
+  few : len tasks ≤ 1024
+  slices : HaveSlices tasks
+  mean : 1 ≤ total_weight tasks → unsigned_abs (total_moment tasks) ≤ bound * total_weight tasks
+
+-- ---- what a turn adds
+-- the sums after, from those before
+record HasMoved (ns : ℕ) (before after : Tasks) : Type 0 where
+  least : total_moment before ≤ℤ total_moment after
+  most : total_moment after ≤ℤ (total_moment before +ℤ pos (1024 * ns))
+  slices : HaveSlices before → HaveSlices after
+
+stayed : (ns : ℕ) (before after : Tasks) → after ≡ before → HasMoved ns before after
+stayed ns before after e =
+    subst (HasMoved ns before) (sym e) (record { least = omega (arith, ints); most = omega (arith, ints); slices = λ h. h })
+
+up : (a b : ℤ) (i : ℕ) → b ≡ a +ℤ pos i → a ≤ℤ b
+up a b i h = omega (arith, ints, h)
+
+up_by : (a b : ℤ) (i n : ℕ) → b ≡ a +ℤ pos i → i ≤ n → b ≤ℤ (a +ℤ pos n)
+up_by a b i n h k = omega (arith, ints, h, k)
+
+module _ (first : PickIsFirst) (nobody : PickOfNobody) (front : ℤ) where
+  turn_moved : (q : State) (turn : Turn) (o : Option ℕ) → pick_of q.runnable ≡ o → turn_length turn ≤ second → IsWithinFresh front q.runnable
+      → HasMoved (turn_length turn) q.runnable (after_ticks (picked_by q o) turn).runnable
+  turn_moved q turn None is short w =
+      let none : q.runnable ≡ empty = (nobody q.runnable).0 (ap (λ (o : Option ℕ). is_some o) is) in
+      stayed (turn_length turn) q.runnable (after_ticks q turn).runnable (idle q turn none ∙ sym none)
+  turn_moved q turn (Some p) is short w =
+      let pick : IsPick q.runnable p = first q.runnable p is in
+      let run : HasRun (record q { running = Some p }) p pick.entry (turn_length turn) (after_ticks (record q { running = Some p }) turn) =
+      has_run (record q { running = Some p }) p pick.entry turn refl pick.eligible.here in
+      let moment : total_moment (insert q.runnable p run.entry) ≡ total_moment q.runnable +ℤ pos (run.grown.by * weight_of pick.entry.nice) =
+      moment_after (settled second front Everyone) (turn_length turn) q.runnable p pick.entry run.entry pick.eligible.here pick.eligible.owed pick.first run.grown short w in
+      subst (HasMoved (turn_length turn) q.runnable) (sym run.runnable) (record {
+        least = up (total_moment q.runnable) (total_moment (insert q.runnable p run.entry)) (run.grown.by * weight_of pick.entry.nice) moment;
+        most = up_by (total_moment q.runnable) (total_moment (insert q.runnable p run.entry)) (run.grown.by * weight_of pick.entry.nice) (1024 * turn_length turn) moment run.grown.little;
+        slices = λ h. found_after (λ e. e.slice ≤ 100000000) q.runnable p run.entry
+            (subst (λ (n : ℕ). n ≤ 100000000) (sym run.grown.same_slice) (h p pick.entry pick.eligible.here)) h;
+      })
+
+  both_moved : (a b c : Tasks) (m n : ℕ) → HasMoved m a b → HasMoved n b c → HasMoved (m + n) a c
+  both_moved a b c m n f g = record {
+    least = omega (arith, ints, f.least, g.least);
+    most = omega (arith, ints, f.most, g.most);
+    slices = λ h. g.slices (f.slices h);
+  }
+
+  turns_moved : (q : State) (turns : List Turn) → AreNoLonger second turns → IsWithinFresh front q.runnable
+      → HasMoved (total_length turns) q.runnable (after_turns q turns).runnable
+  turns_moved q [] h w = stayed 0 q.runnable q.runnable refl
+  turns_moved q (turn ∷ turns) h w =
+      both_moved q.runnable (after_turn q turn).runnable (after_turns q (turn ∷ turns)).runnable (turn_length turn) (total_length turns)
+      (turn_moved q turn (pick_of q.runnable) refl h.0 w)
+      (turns_moved (after_turn q turn) turns h.1 (turns_within first nobody (settled second front Everyone) q (turn ∷ []) (h.0, tt) w))
+
+mean_after : (S T : ℤ) (W n : ℕ) → unsigned_abs S ≤ 2 ^ 58 * W → S ≤ℤ T → T ≤ℤ (S +ℤ pos (1024 * n)) → n ≤ 86400000000000 → 1 ≤ W → unsigned_abs T ≤ 2 ^ 59 * W
+mean_after S T W n h k l m some = omega (arith, ints, h, k, l, m, some)
+
+module _ (first : PickIsFirst) (nobody : PickOfNobody) where
+  day_calm : (front : ℤ) (q : State) (turns : List Turn) → IsDay turns → IsCalm (2 ^ 58) front q.runnable → IsCalm (2 ^ 59) front (after_turns q turns).runnable
+  day_calm front q turns d c =
+      let passed = turns_passed 0 q turns in
+      let moved = turns_moved first nobody front q turns d.brief c.within in
+      record {
+        within = turns_within first nobody (settled second front Everyone) q turns d.brief c.within;
+        few = subst (λ (n : ℕ). n ≤ 1024) (sym passed.count) c.few;
+        slices = moved.slices c.slices;
+        mean = λ some.
+            let same : 1 ≤ total_weight q.runnable = subst (λ (n : ℕ). 1 ≤ n) passed.weight some in
+            subst (λ (n : ℕ). unsigned_abs (total_moment (after_turns q turns).runnable) ≤ 2 ^ 59 * n) (sym passed.weight)
+            (mean_after (total_moment q.runnable) (total_moment (after_turns q turns).runnable) (total_weight q.runnable) (total_length turns) (c.mean same) moved.least moved.most d.whole same);
+      }
+
+-- ---- how near the virtual time each task is
+cancel : (a b : ℤ) (n : ℕ) → 1 ≤ n → (a *ℤ pos n) ≤ℤ (b *ℤ pos n) → a ≤ℤ b
+cancel a b n some h =
+    by (int_le a b) refl
+  where
+    by : (t : Bool) → int_le a b ≡ t → a ≤ℤ b
+    by true is = omega (arith, ints, is)
+    by false is =
+        let over : (b +ℤ pos 1) ≤ℤ a = omega (arith, ints, is) in
+        absurd (omega (arith, ints, h, some, scaled_le (b +ℤ pos 1) a n over, sum_scaled b (pos 1) n))
+
+cancel_more : (a b : ℤ) (x n : ℕ) → 1 ≤ n → (a *ℤ pos n) ≤ℤ ((b *ℤ pos n) +ℤ pos x) → a ≤ℤ (b +ℤ pos x)
+cancel_more a b x n some h =
+    let more : x * 1 ≤ x * n = mul-le-mul_left x some in
+    cancel a (b +ℤ pos x) n some (omega (arith, ints, h, sum_scaled b (pos x) n, more))
+
+others_small : (n : ℕ) → n ≤ 1024 → (n - 1) * (1024 * second) ≤ 2 ^ 50
+others_small n h = omega (arith, h)
+
+charge_small : (ns w : ℕ) → ns ≤ 1000000000 → charge_of ns w ≤ 2 ^ 40
+unfolding charge_of
+charge_small ns w h = let k : ns * 1024 / w ≤ ns * 1024 = div-le_self (ns * 1024) w in omega (arith, h, k)
+
+low_by : (v S : ℤ) (w m W X : ℕ) → 15 ≤ w → X ≤ 2 ^ 50 → ((S *ℤ pos w) +ℤ pos m) ≤ℤ (((v *ℤ pos W) *ℤ pos w) +ℤ pos (W * X)) → S ≤ℤ ((v *ℤ pos W) +ℤ pos (2 ^ 50 * W))
+low_by v S w m W X some few h =
+    let drop : (S *ℤ pos w) ≤ℤ (((v *ℤ pos W) *ℤ pos w) +ℤ pos (W * X)) = omega (arith, ints, h) in
+    let one : 1 ≤ w = omega (arith, some) in
+    let small : W * X ≤ W * 2 ^ 50 = mul-le-mul_left W few in
+    let near = cancel_more S (v *ℤ pos W) (W * X) w one drop in
+    omega (arith, ints, near, small)
+
+high_by : (a S : ℤ) (x W c : ℕ) → c ≤ 2 ^ 40 → (a +ℤ pos x) ≤ℤ (S +ℤ pos (W * c)) → a ≤ℤ (S +ℤ pos (2 ^ 40 * W))
+high_by a S x W c few h =
+    let small : W * c ≤ W * 2 ^ 40 = mul-le-mul_left W few in omega (arith, ints, h, small)
+
+-- within so much before the virtual time, and so much after it
+record IsNear (W : ℕ) (S v : ℤ) : Type 0 where
+  low : S ≤ℤ ((v *ℤ pos W) +ℤ pos (2 ^ 50 * W))
+  high : (v *ℤ pos W) ≤ℤ (S +ℤ pos (2 ^ 40 * W))
+
+calm_near : (bound : ℕ) (front : ℤ) (tasks : Tasks) → IsCalm bound front tasks → (t : ℕ) (e : Entry) → get tasks t ≡ Some e → IsNear (total_weight tasks) (total_moment tasks) e.v
+calm_near bound front tasks c t e here =
+    let ahead : (u : ℕ) (f : Entry) → get tasks u ≡ Some f → IsLittleAhead second (total_weight tasks) (total_moment tasks) f = λ u f found. c.within.ahead u f found tt in
+    record {
+      low = low_by e.v (total_moment tasks) (weight_of e.nice) (weight_of_others tasks e * (1024 * second)) (total_weight tasks) (turns_of_others second tasks) (weight_of-least e.nice)
+          (others_small (len tasks) c.few) (owed second tasks ahead t e here);
+      high = high_by (e.v *ℤ pos (total_weight tasks)) (total_moment tasks) (weight_of e.nice * charge_of second (weight_of e.nice)) (total_weight tasks) (charge_of second (weight_of e.nice))
+          (charge_small second (weight_of e.nice) (omega arith)) (ahead t e here);
+    }
+
+from_zero : (v S : ℤ) (W : ℕ) → 1 ≤ W → unsigned_abs S ≤ 2 ^ 59 * W → IsNear W S v → unsigned_abs v ≤ 2 ^ 59 + 2 ^ 51
+from_zero v S W some h k =
+    let low : pos 0 ≤ℤ (v +ℤ pos (2 ^ 59 + 2 ^ 50)) =
+    cancel (pos 0) (v +ℤ pos (2 ^ 59 + 2 ^ 50)) W some (omega (arith, ints, h, k.low, sum_scaled v (pos (2 ^ 59 + 2 ^ 50)) W)) in
+    let high : v ≤ℤ pos (2 ^ 59 + 2 ^ 40) = cancel v (pos (2 ^ 59 + 2 ^ 40)) W some (omega (arith, ints, h, k.high)) in
+    omega (arith, ints, low, high)
+
+from_mean : (v S time : ℤ) (W : ℕ) → 1 ≤ W → (time *ℤ pos W) ≤ℤ S → S <ℤ ((time *ℤ pos W) +ℤ pos W) → IsNear W S v → unsigned_abs (v -ℤ time) ≤ 2 ^ 51
+from_mean v S time W some h l k =
+    let low : pos 0 ≤ℤ ((v -ℤ time) +ℤ pos (2 ^ 50)) =
+    cancel (pos 0) ((v -ℤ time) +ℤ pos (2 ^ 50)) W some (omega (arith, ints, h, k.low, sum_scaled (v -ℤ time) (pos (2 ^ 50)) W, difference_scaled v time W)) in
+    let high : (v -ℤ time) ≤ℤ pos (2 ^ 40 + 1) = cancel (v -ℤ time) (pos (2 ^ 40 + 1)) W some (omega (arith, ints, l, k.high, difference_scaled v time W)) in
+    omega (arith, ints, low, high)
+
+-- ---- deadlines
+due_by : (v d : ℤ) (r n : ℕ) → v ≤ℤ d → d ≤ℤ (v +ℤ pos r) → r ≤ 2 ^ 40 → unsigned_abs v ≤ n → unsigned_abs d ≤ n + 2 ^ 40
+due_by v d r n h k l m = omega (arith, ints, h, k, l, m)
+
+module _ (bound : ℕ) (front : ℤ) (tasks : Tasks) (c : IsCalm bound front tasks) (t : ℕ) (e : Entry) (here : get tasks t ≡ Some e) where
+  due : e.v ≤ℤ e.d
+  due = c.within.within e.d (c.within.kept t e here).0 t e here (itself e.d)
+
+  soon : e.d ≤ℤ (e.v +ℤ pos (request_of e.nice e.slice))
+  soon = (c.within.kept t e here).1
+
+  request_small : request_of e.nice e.slice ≤ 2 ^ 40
+  request_small = let k = c.slices t e here in charge_small e.slice (weight_of e.nice) (omega (arith, k))
+
+  some_weight : 1 ≤ total_weight tasks
+  some_weight = let k = no_heavier tasks t e here in let l = weight_of-least e.nice in omega (arith, k, l)
+
+-- ---- no tick is refused
+in_range_of : (e : Entry) → unsigned_abs e.v ≤ 2 ^ 60 → unsigned_abs e.d ≤ 2 ^ 60 → is_entry_in_range e ≡ true
+in_range_of e h k = grind (arith, nat_tests)
+
+more_by : (v : ℤ) (c m n : ℕ) → unsigned_abs v ≤ m → c ≤ n → unsigned_abs (v +ℤ pos c) ≤ m + n
+more_by v c m n h k = omega (arith, ints, h, k)
+
+below : (n m : ℕ) → n ≤ m → m ≤ 2 ^ 60 → n ≤ 2 ^ 60
+below n m h k = omega (arith, h, k)
+
+charged_in_range : (e : Entry) (ns : ℕ) (b : Bool) → ns ≤ 1000000000 → e.slice ≤ 100000000 → unsigned_abs e.v ≤ 2 ^ 59 + 2 ^ 51 → unsigned_abs e.d ≤ 2 ^ 59 + 2 ^ 51 + 2 ^ 40
+    → is_entry_in_range (cond b (fresh_entry (aged e ns) e.nice e.slice) (record e { v = aged e ns })) ≡ true
+charged_in_range e ns true short slice v d =
+    let aged_near = more_by e.v (charge_of ns (weight_of e.nice)) (2 ^ 59 + 2 ^ 51) (2 ^ 40) v (charge_small ns (weight_of e.nice) short) in
+    let request : request_of e.nice e.slice ≤ 2 ^ 40 = charge_small e.slice (weight_of e.nice) (omega (arith, slice)) in
+    let due_near = more_by (aged e ns) (request_of e.nice e.slice) (2 ^ 59 + 2 ^ 51 + 2 ^ 40) (2 ^ 40) aged_near request in
+    in_range_of (fresh_entry (aged e ns) e.nice e.slice) (below (unsigned_abs (aged e ns)) (2 ^ 59 + 2 ^ 51 + 2 ^ 40) aged_near (omega arith))
+    (below (unsigned_abs (aged e ns +ℤ pos (request_of e.nice e.slice))) (2 ^ 59 + 2 ^ 51 + 2 ^ 40 + 2 ^ 40) due_near (omega arith))
+charged_in_range e ns false short slice v d =
+    let aged_near = more_by e.v (charge_of ns (weight_of e.nice)) (2 ^ 59 + 2 ^ 51) (2 ^ 40) v (charge_small ns (weight_of e.nice) short) in
+    in_range_of (record e { v = aged e ns }) (below (unsigned_abs (aged e ns)) (2 ^ 59 + 2 ^ 51 + 2 ^ 40) aged_near (omega arith)) (below (unsigned_abs e.d) (2 ^ 59 + 2 ^ 51 + 2 ^ 40) d (omega arith))
+
+module _ (q : State) (front : ℤ) (c : IsCalm (2 ^ 59) front q.runnable) (ns : ℕ) (short : ns ≤ 1000000000) where
+  charged_by : (t : ℕ) (u b : Bool) (x : Entry) → is_entry_in_range x ≡ b → b ≡ true → (tick_to q t u x).0 ≡ Range → ⊥
+  charged_by t u true x is k h =
+      let answer : (tick_to q t u x).0 ≡ Charged t u = ap (λ (b : Bool). (cond {A = TickAnswer × State} b (Charged t u, record q { runnable = insert q.runnable t x }) (Range, q)).0) is in cc
+  charged_by t u false x is k h = cc
+
+  entry_by : (t : ℕ) (o : Option Entry) → get q.runnable t ≡ o → (tick_entry q t o ns).0 ≡ Range → ⊥
+  entry_by t None here h = cc
+  entry_by t (Some e) here h =
+      let some = some_weight (2 ^ 59) front q.runnable c t e here in
+      let v = from_zero e.v (total_moment q.runnable) (total_weight q.runnable) some (c.mean some) (calm_near (2 ^ 59) front q.runnable c t e here) in
+      let d = due_by e.v e.d (request_of e.nice e.slice) (2 ^ 59 + 2 ^ 51) (due (2 ^ 59) front q.runnable c t e here) (soon (2 ^ 59) front q.runnable c t e here) (request_small (2 ^ 59) front q.runnable c t e here) v in
+      charged_by t (is_used_up e ns) (is_entry_in_range (charged e ns)) (charged e ns) refl (charged_in_range e ns (is_used_up e ns) short (c.slices t e here) v d) h
+
+  runner_by : (o : Option ℕ) → (tick_running q o ns).0 ≡ Range → ⊥
+  runner_by None h = cc
+  runner_by (Some t) h = entry_by t (get q.runnable t) refl h
+
+-- ---- the rebase
+not_above : (z : ℤ) (n : ℕ) → 1 ≤ n → (floor_div z n *ℤ pos n) ≤ℤ z
+not_above (pos a) n h = omega (arith, ints)
+not_above (negsuc a) n h = omega (arith, ints)
+
+below_next : (z : ℤ) (n : ℕ) → 1 ≤ n → z <ℤ ((floor_div z n *ℤ pos n) +ℤ pos n)
+below_next (pos a) n h = omega (arith, ints)
+below_next (negsuc a) n h = omega (arith, ints)
+
+some_is : (n : ℕ) → 1 ≤ n → (n == 0) ≡ false
+some_is n h = grind (arith, nat_tests)
+
+mean_is : (q : State) → 1 ≤ total_weight q.runnable → virtual_time q ≡ floor_div (total_moment q.runnable) (total_weight q.runnable)
+mean_is q some = ap (λ (b : Bool). cond b q.base (floor_div (total_moment q.runnable) (total_weight q.runnable))) (some_is (total_weight q.runnable) some)
+
+all_in_range : (by : ℤ) (es : List (ℕ × Entry)) → Each (λ e. is_entry_in_range (lowered_entry by e) ≡ true) es → are_entries_in_range (lowered_entries by es) ≡ true
+all_in_range by [] h = refl
+all_in_range by (e ∷ es) h = ap (λ (b : Bool). b && are_entries_in_range (lowered_entries by es)) h.0 ∙ all_in_range by es h.1
+
+found_lower : (P : Entry → Type 0) (by : ℤ) (o : Option Entry) (f : Entry) → option_map (lowered_entry by) o ≡ Some f → ((e : Entry) → o ≡ Some e → P (lowered_entry by e)) → P f
+found_lower P by None f h k = cc
+found_lower P by (Some e) f h k = let same : lowered_entry by e ≡ f = cc in subst P same (k e refl)
+
+mean_lower : (S T time : ℤ) (W : ℕ) → (time *ℤ pos W) ≤ℤ S → S <ℤ ((time *ℤ pos W) +ℤ pos W) → T ≡ S -ℤ (time *ℤ pos W) → unsigned_abs T ≤ 2 ^ 58 * W
+mean_lower S T time W h k e = omega (arith, ints, h, k, e)
+
+up_again : (d time by : ℤ) → (d -ℤ by) ≤ℤ time → d ≤ℤ (time +ℤ by)
+up_again d time by h = omega (arith, ints, h)
+
+down_again : (v time by : ℤ) → v ≤ℤ (time +ℤ by) → (v -ℤ by) ≤ℤ time
+down_again v time by h = omega (arith, ints, h)
+
+past_down : (v time by : ℤ) (c : ℕ) → v ≤ℤ ((time +ℤ by) +ℤ pos c) → (v -ℤ by) ≤ℤ (time +ℤ pos c)
+past_down v time by c h = omega (arith, ints, h)
+
+front_down : (front d by : ℤ) → front ≤ℤ d → (front -ℤ by) ≤ℤ (d -ℤ by)
+front_down front d by h = omega (arith, ints, h)
+
+short_down : (d v by : ℤ) (c : ℕ) → d ≤ℤ (v +ℤ pos c) → (d -ℤ by) ≤ℤ ((v -ℤ by) +ℤ pos c)
+short_down d v by c h = omega (arith, ints, h)
+
+ahead_down : (v S T by : ℤ) (W x y : ℕ) → T ≡ S -ℤ (by *ℤ pos W) → ((v *ℤ pos W) +ℤ pos x) ≤ℤ (S +ℤ pos y) → (((v -ℤ by) *ℤ pos W) +ℤ pos x) ≤ℤ (T +ℤ pos y)
+ahead_down v S T by W x y e h = omega (arith, ints, h, e, difference_scaled v by W)
+
+module _ (alike : LoweredQueueAnswersAlike) (lower : RebasedIsLower) (q : State) (front : ℤ) (c : IsCalm (2 ^ 59) front q.runnable) where
+  near_mean : (t : ℕ) (e : Entry) → get q.runnable t ≡ Some e → unsigned_abs (e.v -ℤ virtual_time q) ≤ 2 ^ 51
+  near_mean t e here =
+      let some = some_weight (2 ^ 59) front q.runnable c t e here in
+      subst (λ (z : ℤ). unsigned_abs (e.v -ℤ z) ≤ 2 ^ 51) (sym (mean_is q some))
+      (from_mean e.v (total_moment q.runnable) (floor_div (total_moment q.runnable) (total_weight q.runnable)) (total_weight q.runnable) some
+      (not_above (total_moment q.runnable) (total_weight q.runnable) some) (below_next (total_moment q.runnable) (total_weight q.runnable) some)
+      (calm_near (2 ^ 59) front q.runnable c t e here))
+
+  lower_in_range : (t : ℕ) (e : Entry) → get q.runnable t ≡ Some e → is_entry_in_range (lowered_entry (virtual_time q) e) ≡ true
+  lower_in_range t e here =
+      let v = near_mean t e here in
+      let d = due_by (e.v -ℤ virtual_time q) (e.d -ℤ virtual_time q) (request_of e.nice e.slice) (2 ^ 51)
+      (front_down e.v e.d (virtual_time q) (due (2 ^ 59) front q.runnable c t e here)) (short_down e.d e.v (virtual_time q) (request_of e.nice e.slice) (soon (2 ^ 59) front q.runnable c t e here))
+      (request_small (2 ^ 59) front q.runnable c t e here) v in
+      in_range_of (lowered_entry (virtual_time q) e) (below (unsigned_abs (e.v -ℤ virtual_time q)) (2 ^ 51) v (omega arith)) (below (unsigned_abs (e.d -ℤ virtual_time q)) (2 ^ 51 + 2 ^ 40) d (omega arith))
+
+  calm_can : can_rebase q ≡ true
+  calm_can = all_in_range (virtual_time q) (entries q.runnable) (each (λ e. is_entry_in_range (lowered_entry (virtual_time q) e) ≡ true) q.runnable lower_in_range)
+
+  rebase_is : (rebase q).1 ≡ rebased q
+  rebase_is = ap (λ (b : Bool). (cond {A = ℤ × State} b (virtual_time q, rebased q) (pos 0, q)).1) calm_can
+
+  answers : AnswerAlike (virtual_time q) q (rebased q)
+  answers = alike (virtual_time q) q (rebased q) (lower q)
+
+  found : (P : Entry → Type 0) → ((t : ℕ) (e : Entry) → get q.runnable t ≡ Some e → P (lowered_entry (virtual_time q) e)) → (t : ℕ) (f : Entry) → get (rebased q).runnable t ≡ Some f → P f
+  found P h t f here = found_lower P (virtual_time q) (get q.runnable t) f (sym (answers.entry t) ∙ here) (h t)
+
+  rebased_within : IsWithinFresh (front -ℤ virtual_time q) (rebased q).runnable
+  rebased_within = record {
+    within = λ time later. found (λ x. x.d ≤ℤ time → x.v ≤ℤ time)
+        (λ t e here d. down_again e.v time (virtual_time q) (c.within.within (time +ℤ virtual_time q) (up_again front time (virtual_time q) later) t e here (up_again e.d time (virtual_time q) d)));
+    past = λ time later. found (λ x. Unit {0} → x.d ≤ℤ time → NoneIsFarPast second (rebased q).runnable time)
+        (λ t e here counts d. found (λ x. x.v ≤ℤ (time +ℤ pos (charge_of second (weight_of x.nice))))
+        (λ u f there. past_down f.v time (virtual_time q) (charge_of second (weight_of f.nice))
+        (c.within.past (time +ℤ virtual_time q) (up_again front time (virtual_time q) later) t e here counts (up_again e.d time (virtual_time q) d) u f there)));
+    ahead = λ t f here so. found (λ x. IsLittleAhead second (total_weight (rebased q).runnable) (total_moment (rebased q).runnable) x)
+        (λ t e here. subst (λ (n : ℕ). IsLittleAhead second n (total_moment (rebased q).runnable) (lowered_entry (virtual_time q) e)) (sym answers.load)
+        (ahead_down e.v (total_moment q.runnable) (total_moment (rebased q).runnable) (virtual_time q) (total_weight q.runnable)
+        (weight_of e.nice * charge_of second (weight_of e.nice)) (total_weight q.runnable * charge_of second (weight_of e.nice)) answers.moment (c.within.ahead t e here tt))) t f here;
+    kept = found (λ x. ((front -ℤ virtual_time q) ≤ℤ x.d) × (x.d ≤ℤ (x.v +ℤ pos (request_of x.nice x.slice))))
+        (λ t e here. (front_down front e.d (virtual_time q) (c.within.kept t e here).0, short_down e.d e.v (virtual_time q) (request_of e.nice e.slice) (c.within.kept t e here).1));
+  }
+
+  rebased_calm : IsCalm (2 ^ 58) (front -ℤ virtual_time q) (rebased q).runnable
+  rebased_calm = record {
+    within = rebased_within;
+    few = subst (λ (n : ℕ). n ≤ 1024) (sym answers.count) c.few;
+    slices = found (λ x. x.slice ≤ 100000000) c.slices;
+    mean = λ weighs.
+        let some : 1 ≤ total_weight q.runnable = subst (λ (n : ℕ). 1 ≤ n) answers.load weighs in
+        subst (λ (n : ℕ). unsigned_abs (total_moment (rebased q).runnable) ≤ 2 ^ 58 * n) (sym answers.load)
+        (mean_lower (total_moment q.runnable) (total_moment (rebased q).runnable) (floor_div (total_moment q.runnable) (total_weight q.runnable)) (total_weight q.runnable)
+        (not_above (total_moment q.runnable) (total_weight q.runnable) some) (below_next (total_moment q.runnable) (total_weight q.runnable) some)
+        (answers.moment ∙ ap (λ (z : ℤ). total_moment q.runnable -ℤ (z *ℤ pos (total_weight q.runnable))) (mean_is q some)));
+  }
+
+-- ---- days
+fresh_mean : (v S : ℤ) (W : ℕ) → unsigned_abs v ≤ 2 ^ 58 → S ≡ v *ℤ pos W → unsigned_abs S ≤ 2 ^ 58 * W
+fresh_mean v S W h e = let k : unsigned_abs (v *ℤ pos W) ≤ 2 ^ 58 * W = omega (arith, unsigned_abs-mul v (pos W), mul-le-mul_right W h) in rw e k
+
+start_calm : (v : ℤ) (q : State) → IsNearStart v q → IsCalm (2 ^ 58) v q.runnable
+start_calm v q s = record {
+  within = fresh_within v second Everyone q.runnable s.fresh;
+  few = s.few;
+  slices = s.slices;
+  mean = λ weighs. fresh_mean v (total_moment q.runnable) (total_weight q.runnable) s.near
+      (at_one_time v (entries q.runnable) (each (λ e. e.v ≡ v) q.runnable (λ t e here. ap (λ (x : Entry). x.v) (s.fresh t e here))));
+}
+
+record IsCalmDay (q : State) : Type 0 where
+  front : ℤ
+  calm : IsCalm (2 ^ 58) front q.runnable
+
+module _ (first : PickIsFirst) (nobody : PickOfNobody) (alike : LoweredQueueAnswersAlike) (lower : RebasedIsLower) where
+  next_day : (q : State) (day : List Turn) → IsDay day → IsCalmDay q → IsCalmDay ((rebase (after_turns q day)).1)
+  next_day q day d c =
+      let evening = day_calm first nobody c.front q day d c.calm in
+      let s : State = after_turns q day in
+      record {
+        front = c.front -ℤ virtual_time s;
+        calm = subst (λ (r : State). IsCalm (2 ^ 58) (c.front -ℤ virtual_time s) r.runnable) (sym (rebase_is alike lower s c.front evening)) (rebased_calm alike lower s c.front evening);
+      }
+
+  days_calm : (q : State) (days : List (List Turn)) → AreDays days → IsCalmDay q → IsCalmDay (after_days q days)
+  days_calm q [] h c = c
+  days_calm q (day ∷ days) h c = days_calm ((rebase (after_turns q day)).1) days h.1 (next_day q day h.0 c)
+
+  pub days_stay_in_range : DaysStayInRange
+  days_stay_in_range q v days turns s h d =
+      let morning = days_calm q days h (record { front = v; calm = start_calm v q s }) in
+      let now = day_calm first nobody morning.front (after_days q days) turns d morning.calm in
+      let r : State = after_turns (after_days q days) turns in
+      record {
+        ticks = λ ns short. runner_by r morning.front now ns short r.running;
+        rebases = calm_can alike lower r morning.front now;
+      }

@@ -1,0 +1,240 @@
+-- Turns and leavings of one CPU: whatever else is done, its runnable tasks are as these steps leave them.
+use Rattle.std.proofs.Common.{◌≡◌, ℕ, ◌<◌, Bool, true, false, cond, List, [], ◌∷◌, ◌++◌, length, map, slice_set, Option, Some, None, refl, sym, ap, ◌∙◌, subst, arith}
+use Rattle.std.specs.Prelude.{◌==◌, Result, Ok, Err}
+use Rattle.std.proofs.lemmas.Bool.Decides.{nat_tests}
+use Rattle.std.specs.FinMap.{get}
+use Rattle.eevdf_queue.specs.{declared.entry.Entry.Entry, Sums.Tasks, State.State, State.Contents, Moves.sleeper_of, Leaving.carried_running, Leaving.leave, Pick.after_pick, Placing.can_place, Tick.tick}
+use Rattle.eevdf_ops.specs.{declared.deeds.Deed.Deed, declared.deeds.Answer.Answer, Setup.home_of, Machine.Machine, Machine.queue_at}
+use Rattle.eevdf_ops.specs.declared.deeds.Deed.TheVariants.{Tick, Pick, Yield, Sleep, Wake, Pull, Renice}
+use Rattle.eevdf_ops.specs.declared.deeds.Answer.TheVariants.{Balanced, Nothing, Range}
+use Rattle.eevdf_ops.specs.{WholeSleep.sleep, WholeSleep.sleep_carrying, WholeSleep.task_leaves, Whole.whole, Whole.lines_of, Whole.machine_after}
+use Rattle.eevdf_ops.specs.WholePull.{load_of, offer, is_lighter, decision, with_task, pull, pull_decision, pull_decided}
+use Rattle.eevdf_ops.proofs.{MachinePlaces.other_queue, WholePlaces.length-whole}
+use Rattle.eevdf_fairness.specs.{Turns.Turn, Turns.after_ticks, Turns.after_turn, Leavings.Step, Leavings.Takes, Leavings.Leaves, Leavings.after_steps, Leavings.HaveSameRunnable}
+use Rattle.eevdf_fairness.specs.OneCpuSteps.{Change, Picks, Ticks, Loses, IsNoStep, change_of_sleep, change_of_pull, change_at, and_then, changes_at, after_ticks_of, leavings_last, changes_of}
+use Rattle.eevdf_fairness.specs.OneCpuSteps.{StepsOfOneCpu, OneCpuStaysFair, OneCpuJoinKeepsFair}
+use Rattle.eevdf_fairness.specs.{Leavings.IsStillFair, Leavings.LeavingsKeepFair, Joining.IsFairAfterJoin, Joining.JoinKeepsFair}
+use Rattle.eevdf_fairness.proofs.{OneCpu.one_done, LeavingDeeds.alike, LeavingDeeds.of_same, LeavingDeeds.then, LeavingLater.leaves_later, LeavingDeeds.ticked, LeavingDeeds.picked, LeavingDeeds.left}
+use Rattle.eevdf_fairness.proofs.LeavingDeeds.{slept_by, elsewhere_by, pulled_by}
+
+-- ---- changes, and what they make of a queue
+abbrev changed : Change → State → State
+changed Picks q = after_pick q
+changed (Ticks ns) q = (tick q ns).1
+changed (Loses task) q = leave q task
+changed IsNoStep q = q
+
+abbrev changed_by : Option Change → State → State
+changed_by None q = q
+changed_by (Some change) q = changed change q
+
+abbrev all_changed : List Change → State → State
+all_changed [] q = q
+all_changed (change ∷ changes) q = all_changed changes (changed change q)
+
+abbrev IsOfSteps : Change → Type 0
+IsOfSteps Picks = Unit {0}
+IsOfSteps (Ticks ns) = Unit {0}
+IsOfSteps (Loses task) = Unit {0}
+IsOfSteps IsNoStep = ⊥
+
+abbrev MayBeOfSteps : Option Change → Type 0
+MayBeOfSteps None = Unit {0}
+MayBeOfSteps (Some change) = IsOfSteps change
+
+abbrev AreOfSteps : List Change → Type 0
+AreOfSteps [] = Unit {0}
+AreOfSteps (change ∷ changes) = IsOfSteps change × AreOfSteps changes
+
+-- ---- the same runnable tasks
+changed_alike : (change : Change) (q r : State) → HaveSameRunnable q r → HaveSameRunnable (changed change q) (changed change r)
+changed_alike Picks q r same = picked q r same
+changed_alike (Ticks ns) q r same = ticked q r ns same
+changed_alike (Loses task) q r same = left q r task same
+changed_alike IsNoStep q r same = same
+
+changed_by_alike : (o : Option Change) (q r : State) → HaveSameRunnable q r → HaveSameRunnable (changed_by o q) (changed_by o r)
+changed_by_alike None q r same = same
+changed_by_alike (Some change) q r same = changed_alike change q r same
+
+all_changed_alike : (changes : List Change) (q r : State) → HaveSameRunnable q r → HaveSameRunnable (all_changed changes q) (all_changed changes r)
+all_changed_alike [] q r same = same
+all_changed_alike (change ∷ changes) q r same = all_changed_alike changes (changed change q) (changed change r) (changed_alike change q r same)
+
+-- ---- leavings after ticks
+after_ticks_alike : (task : ℕ) (changes : List Change) (q : State) → HaveSameRunnable (all_changed changes (leave q task)) (all_changed (after_ticks_of task changes) q)
+after_ticks_alike task [] q = alike (leave q task)
+after_ticks_alike task (Ticks ns ∷ changes) q =
+    then _ _ _ (all_changed_alike changes ((tick (leave q task) ns).1) (leave ((tick q ns).1) task) (leaves_later q task ns))
+    (after_ticks_alike task changes ((tick q ns).1))
+after_ticks_alike task (Picks ∷ changes) q = alike (all_changed changes (after_pick (leave q task)))
+after_ticks_alike task (Loses other ∷ changes) q = alike (all_changed changes (leave (leave q task) other))
+after_ticks_alike task (IsNoStep ∷ changes) q = alike (all_changed changes (leave q task))
+
+leavings_last_alike : (changes : List Change) (q : State) → HaveSameRunnable (all_changed changes q) (all_changed (leavings_last changes) q)
+leavings_last_alike [] q = alike q
+leavings_last_alike (Ticks ns ∷ changes) q = leavings_last_alike changes ((tick q ns).1)
+leavings_last_alike (Picks ∷ changes) q = leavings_last_alike changes (after_pick q)
+leavings_last_alike (Loses task ∷ changes) q =
+    then _ _ _ (leavings_last_alike changes (leave q task)) (after_ticks_alike task (leavings_last changes) q)
+leavings_last_alike (IsNoStep ∷ changes) q = leavings_last_alike changes q
+
+before_ticks_of : (task : ℕ) (changes : List Change) → AreOfSteps (after_ticks_of task changes) → AreOfSteps changes
+before_ticks_of task [] these = tt
+before_ticks_of task (Ticks ns ∷ changes) these = (tt, before_ticks_of task changes these.1)
+before_ticks_of task (Picks ∷ changes) these = these.1
+before_ticks_of task (Loses other ∷ changes) these = these.1
+before_ticks_of task (IsNoStep ∷ changes) these = these.1
+
+leavings_not_last : (changes : List Change) → AreOfSteps (leavings_last changes) → AreOfSteps changes
+leavings_not_last [] these = tt
+leavings_not_last (Ticks ns ∷ changes) these = (tt, leavings_not_last changes these.1)
+leavings_not_last (Picks ∷ changes) these = (tt, leavings_not_last changes these.1)
+leavings_not_last (Loses task ∷ changes) these = (tt, leavings_not_last changes (before_ticks_of task (leavings_last changes) these))
+leavings_not_last (IsNoStep ∷ changes) these = absurd these.0
+
+-- ---- what one deed changes
+is_here : (at cpu : ℕ) → (at == cpu) ≡ true → at ≡ cpu
+is_here at cpu is = grind (arith, nat_tests)
+
+is_apart : (at cpu : ℕ) → (at == cpu) ≡ false → cpu ≡ at → ⊥
+is_apart at cpu is same = grind (arith, nat_tests)
+
+module _ (homes : List ℕ) (m : Machine) (cpu : ℕ) (h : cpu < length m) where
+  ticks_by : (at ns : ℕ) (b : Bool) → (at == cpu) ≡ b
+      → HaveSameRunnable (queue_at (whole homes (Tick at ns) m).1 cpu) (changed_by (cond b (Some (Ticks ns)) None) (queue_at m cpu))
+  ticks_by at ns true is = of_same _ _ (one_done homes m cpu (Tick at ns) h (is_here at cpu is))
+  ticks_by at ns false is = of_same _ _ (other_queue m at cpu ((tick (queue_at m at) ns).1) (is_apart at cpu is))
+
+  picks_by : (at : ℕ) (b : Bool) → (at == cpu) ≡ b
+      → HaveSameRunnable (queue_at (whole homes (Pick at) m).1 cpu) (changed_by (cond b (Some Picks) None) (queue_at m cpu))
+  picks_by at true is = of_same _ _ (one_done homes m cpu (Pick at) h (is_here at cpu is))
+  picks_by at false is = of_same _ _ (other_queue m at cpu (after_pick (queue_at m at)) (is_apart at cpu is))
+
+  -- a deed of which no step is made
+  other_by : (at : ℕ) (q : State) (b : Bool) → (at == cpu) ≡ b → MayBeOfSteps (cond b (Some IsNoStep) None)
+      → HaveSameRunnable (queue_at (slice_set m at q) cpu) (changed_by (cond b (Some IsNoStep) None) (queue_at m cpu))
+  other_by at q true is steps = absurd steps
+  other_by at q false is steps = of_same _ _ (other_queue m at cpu q (is_apart at cpu is))
+
+  sleep_here : (home task : ℕ) (o : Option Contents) → carried_running (queue_at m cpu) task ≡ o
+      → HaveSameRunnable (queue_at (sleep_carrying m cpu home o).1 cpu) (changed_by (change_of_sleep task (sleep_carrying m cpu home o).0) (queue_at m cpu))
+  sleep_here home task None is = alike (queue_at m cpu)
+  sleep_here home task (Some p) is = slept_by m cpu home task p.lag (Some p) is h refl
+
+  sleeps_by : (at task : ℕ) (b : Bool) → (at == cpu) ≡ b
+      → HaveSameRunnable (queue_at (sleep m at (home_of homes task) task).1 cpu)
+      (changed_by (cond b (change_of_sleep task (sleep m at (home_of homes task) task).0) None) (queue_at m cpu))
+  sleeps_by at task true is =
+      subst (λ (a : ℕ). HaveSameRunnable (queue_at (sleep m a (home_of homes task) task).1 cpu) (changed_by (change_of_sleep task (sleep m a (home_of homes task) task).0) (queue_at m cpu)))
+      (sym (is_here at cpu is)) (sleep_here (home_of homes task) task (carried_running (queue_at m cpu) task) refl)
+  sleeps_by at task false is = elsewhere_by m at (home_of homes task) cpu (carried_running (queue_at m at) task) (is_apart at cpu is)
+
+  -- ---- pulls
+  refusal_by : (p : Contents) (b c : Bool) (why : Answer) → cond b (cond c (Ok p) (Err Range)) (Err Balanced) ≡ Err why → change_of_pull why ≡ None
+  refusal_by p true true why e = cc
+  refusal_by p true false why e = let is : Range ≡ why = cc in ap change_of_pull (sym is)
+  refusal_by p false c why e = let is : Balanced ≡ why = cc in ap change_of_pull (sym is)
+
+  refusal : (q : State) (load : ℕ) (o : Option Contents) (why : Answer) → decision q load o ≡ Err why → change_of_pull why ≡ None
+  refusal q load None why e = let is : Nothing ≡ why = cc in ap change_of_pull (sym is)
+  refusal q load (Some p) why e = refusal_by p (is_lighter (load_of q) p load) (can_place q (sleeper_of p)) why e
+
+  pull_from : (at : ℕ) (d : Result Contents Answer) → pull_decision m at cpu ≡ d → (cpu ≡ at → ⊥)
+      → HaveSameRunnable (queue_at (pull_decided m at cpu d).1 cpu) (changed_by (change_of_pull (pull_decided m at cpu d).0) (queue_at m cpu))
+  pull_from at (Err why) is apart =
+      subst (λ (o : Option Change). HaveSameRunnable (queue_at m cpu) (changed_by o (queue_at m cpu)))
+      (sym (refusal (queue_at m at) (load_of (queue_at m cpu)) (offer (queue_at m cpu)) why is)) (alike (queue_at m cpu))
+  pull_from at (Ok p) is apart = pulled_by m at cpu p.task (Ok p) is h apart refl
+
+  pull_apart : (at source : ℕ) (d : Result Contents Answer) → (cpu ≡ at → ⊥) → (cpu ≡ source → ⊥) → queue_at (pull_decided m at source d).1 cpu ≡ queue_at m cpu
+  pull_apart at source (Err why) one two = refl
+  pull_apart at source (Ok p) one two =
+      other_queue (task_leaves m source p.task) at cpu (with_task (queue_at (task_leaves m source p.task) at) p) one
+      ∙ other_queue m source cpu (leave (queue_at m source) p.task) two
+
+  pulls_by : (at source : ℕ) (b c : Bool) → (at == cpu) ≡ b → (source == cpu) ≡ c
+      → MayBeOfSteps (cond b (Some IsNoStep) (cond c (change_of_pull (pull m at source).0) None))
+      → HaveSameRunnable (queue_at (pull m at source).1 cpu)
+      (changed_by (cond b (Some IsNoStep) (cond c (change_of_pull (pull m at source).0) None)) (queue_at m cpu))
+  pulls_by at source true c is at_source steps = absurd steps
+  pulls_by at source false true is at_source steps =
+      subst (λ (s : ℕ). HaveSameRunnable (queue_at (pull m at s).1 cpu) (changed_by (change_of_pull (pull m at s).0) (queue_at m cpu)))
+      (sym (is_here source cpu at_source)) (pull_from at (pull_decision m at cpu) refl (is_apart at cpu is))
+  pulls_by at source false false is at_source steps =
+      of_same _ _ (pull_apart at source (pull_decision m at source) (is_apart at cpu is) (is_apart source cpu at_source))
+
+  one_change : (d : Deed) → MayBeOfSteps (change_at cpu d (whole homes d m).0)
+      → HaveSameRunnable (queue_at (whole homes d m).1 cpu) (changed_by (change_at cpu d (whole homes d m).0) (queue_at m cpu))
+  one_change (Tick at ns) steps = ticks_by at ns (at == cpu) refl
+  one_change (Pick at) steps = picks_by at (at == cpu) refl
+  one_change (Yield at) steps = other_by at _ (at == cpu) refl steps
+  one_change (Sleep at task) steps = sleeps_by at task (at == cpu) refl
+  one_change (Wake at task sender) steps = other_by at _ (at == cpu) refl steps
+  one_change (Pull at source) steps = pulls_by at source (at == cpu) (source == cpu) refl refl steps
+  one_change (Renice at task nice) steps = other_by at _ (at == cpu) refl steps
+
+-- ---- all deeds
+first_of : (o : Option Change) (rest : List Change) → AreOfSteps (and_then o rest) → MayBeOfSteps o
+first_of None rest these = tt
+first_of (Some change) rest these = these.0
+
+rest_of : (o : Option Change) (rest : List Change) → AreOfSteps (and_then o rest) → AreOfSteps rest
+rest_of None rest these = these
+rest_of (Some change) rest these = these.1
+
+and_then_changed : (o : Option Change) (rest : List Change) (q : State) → all_changed rest (changed_by o q) ≡ all_changed (and_then o rest) q
+and_then_changed None rest q = refl
+and_then_changed (Some change) rest q = refl
+
+as_changed : (homes : List ℕ) (m : Machine) (cpu : ℕ) (deeds : List Deed) (q : State) → cpu < length m → HaveSameRunnable (queue_at m cpu) q
+    → AreOfSteps (changes_at cpu (lines_of homes m deeds))
+    → HaveSameRunnable (queue_at (machine_after homes m deeds) cpu) (all_changed (changes_at cpu (lines_of homes m deeds)) q)
+as_changed homes m cpu [] q h same these = same
+as_changed homes m cpu (d ∷ ds) q h same these =
+    let change : Option Change = change_at cpu d (whole homes d m).0 in
+    let rest : List Change = changes_at cpu (lines_of homes (whole homes d m).1 ds) in
+    subst (HaveSameRunnable (queue_at (machine_after homes (whole homes d m).1 ds) cpu)) (and_then_changed change rest q)
+    (as_changed homes (whole homes d m).1 cpu ds (changed_by change q) (subst (λ (n : ℕ). cpu < n) (sym (length-whole homes d m)) h)
+    (then _ _ _ (one_change homes m cpu h d (first_of change rest these)) (changed_by_alike change (queue_at m cpu) q same))
+    (rest_of change rest these))
+
+-- ---- steps
+ticks_changed : (turn : Turn) (more : List Change) (q : State) → all_changed (map Ticks turn ++ more) q ≡ all_changed more (after_ticks q turn)
+ticks_changed [] more q = refl
+ticks_changed (ns ∷ turn) more q = ticks_changed turn more ((tick q ns).1)
+
+steps_changed : (steps : List Step) (q : State) → all_changed (changes_of steps) q ≡ after_steps q steps
+steps_changed [] q = refl
+steps_changed (Takes turn ∷ steps) q = ticks_changed turn (changes_of steps) (after_pick q) ∙ steps_changed steps (after_turn q turn)
+steps_changed (Leaves task ∷ steps) q = steps_changed steps (leave q task)
+
+ticks_of_steps : (turn : Turn) (more : List Change) → AreOfSteps more → AreOfSteps (map Ticks turn ++ more)
+ticks_of_steps [] more these = these
+ticks_of_steps (ns ∷ turn) more these = (tt, ticks_of_steps turn more these)
+
+are_of_steps : (steps : List Step) → AreOfSteps (changes_of steps)
+are_of_steps [] = tt
+are_of_steps (Takes turn ∷ steps) = (tt, ticks_of_steps turn (changes_of steps) (are_of_steps steps))
+are_of_steps (Leaves task ∷ steps) = (tt, are_of_steps steps)
+
+pub steps_of_one_cpu : StepsOfOneCpu
+steps_of_one_cpu homes m cpu deeds steps h only =
+    let changes : List Change = changes_at cpu (lines_of homes m deeds) in
+    let these : AreOfSteps changes = leavings_not_last changes (subst AreOfSteps (sym only) (are_of_steps steps)) in
+    then _ (all_changed changes (queue_at m cpu)) _ (as_changed homes m cpu deeds (queue_at m cpu) h (alike (queue_at m cpu)) these)
+    (then _ (all_changed (leavings_last changes) (queue_at m cpu)) _ (leavings_last_alike changes (queue_at m cpu))
+    (of_same _ _ (ap (λ (cs : List Change). all_changed cs (queue_at m cpu)) only ∙ steps_changed steps (queue_at m cpu))))
+
+pub one_cpu_stays_fair : LeavingsKeepFair → OneCpuStaysFair
+one_cpu_stays_fair fair homes m cpu deeds v ns steps h only fresh short =
+    subst (λ (tasks : Tasks). (t : ℕ) (e : Entry) → get tasks t ≡ Some e → IsStillFair ns tasks e)
+    (sym (steps_of_one_cpu homes m cpu deeds steps h only).runnable) (fair (queue_at m cpu) v ns steps fresh short)
+
+pub one_cpu_join_keeps_fair : JoinKeepsFair → OneCpuJoinKeepsFair
+one_cpu_join_keeps_fair keeps homes m n cpu earlier deeds v ns before steps task s h k first only fresh short more j =
+    subst (λ (tasks : Tasks). (t : ℕ) (e : Entry) → (t ≡ task → ⊥) → get tasks t ≡ Some e
+    → IsFairAfterJoin ns (queue_at (machine_after homes m earlier) cpu).runnable s tasks e)
+    (sym (steps_of_one_cpu homes n cpu deeds steps k only).runnable)
+    (keeps (queue_at m cpu) (queue_at (machine_after homes m earlier) cpu) (queue_at n cpu) v ns before steps task s fresh short more
+    (steps_of_one_cpu homes m cpu earlier before h first).runnable j)
