@@ -1,4 +1,5 @@
-/* eevdf.h: run queues under EEVDF (Earliest Eligible Virtual Deadline First) for C11 and C++17.
+/*
+ * eevdf.h: run queues under EEVDF (Earliest Eligible Virtual Deadline First) for C11 and C++17.
  *
  * A queue says which of its tasks runs next. The caller says which tasks there are, how long the
  * running one ran, and who sleeps, wakes and ends. docs/model.md has the rules, docs/embedding-c.md
@@ -24,8 +25,10 @@
  *   - from eevdf_open to eevdf_close only these calls read or write the queue's bytes, one call at
  *     a time, and nobody copies or moves them; the same holds of a hand from eevdf_hand_open to
  *     eevdf_hand_close;
- *   - `out`, `time` and `lag` point to an initialised object of the caller's own that is no part of
- *     a queue or a hand, and that nobody else uses during the call;
+ *   - `out`, `time`, `lag` and `by` point to an object of the caller's own that is no part of a
+ *     queue or a hand, and that nobody else uses during the call. The proofs take it for
+ *     initialised, whatever its bytes: write to it once, as by `int64_t time = 0;`, before the
+ *     first call;
  *   - the two functions for memory (below) do what is said there.
  *
  * LOCKS. "The queue's lock" is whatever makes sure that nobody else uses the queue during the call:
@@ -49,11 +52,13 @@
  *   - who enters the kernel saves xmm0 and xmm1 before the first call, or all by fxsave, unless the
  *     interrupted code has none of them;
  *   - SSE is on: CR0.EM is 0 and CR4.OSFXSR is 1.
- * A call takes at most 1 KiB of stack. These two registers and this stack are of the object alone:
- * what the kernel's memcpy and memset and the two functions for memory use comes on top. The object
- * has no thread-local storage, no threads, no unwind tables and no way to end the program, and can
- * be linked at any address. It wants these names, and no others: memcpy, memset and __udivti3,
- * which compilers bring along in libc and libgcc, rattle_alloc and rattle_dealloc. */
+ * A call takes at most 1 KiB of stack, eevdf_rebase 1.5 KiB. These two registers and this stack are
+ * of the object alone: what the kernel's memcpy and memset and the two functions for memory use
+ * comes on top. The object has no thread-local storage, no threads, no unwind tables and no way to
+ * end the program, and can be linked at any address. It wants these names, and no others: memcpy,
+ * memset and __udivti3, which compilers bring along in libc and libgcc, rattle_alloc and
+ * rattle_dealloc.
+ */
 #ifndef EEVDF_H
 #define EEVDF_H
 
@@ -69,10 +74,12 @@ extern "C" {
 #define EEVDF_ASSERT _Static_assert
 #endif
 
-/* The version of this header. A program that is linked with another library than it was compiled
- * for can compare it with eevdf_version(). */
+/*
+ * The version of this header. A program that is linked with another library than it was compiled
+ * for can compare it with eevdf_version().
+ */
 #define EEVDF_VERSION_MAJOR 0
-#define EEVDF_VERSION_MINOR 1
+#define EEVDF_VERSION_MINOR 2
 #define EEVDF_VERSION_PATCH 0
 #define EEVDF_VERSION \
 	(EEVDF_VERSION_MAJOR * 1000000 + EEVDF_VERSION_MINOR * 1000 + EEVDF_VERSION_PATCH)
@@ -112,8 +119,10 @@ typedef struct eevdf_hand {
 	EEVDF_ALIGNED unsigned char bytes[EEVDF_HAND_SIZE];
 } eevdf_hand;
 
-/* What a queue knows of a runnable task: its virtual runtime and deadline, its nice level, and its
- * slice in ns. */
+/*
+ * What a queue knows of a runnable task: its virtual runtime and deadline, its nice level, and its
+ * slice in ns.
+ */
 typedef struct eevdf_entry {
 	int64_t vruntime;
 	int64_t deadline;
@@ -121,173 +130,313 @@ typedef struct eevdf_entry {
 	uint64_t slice_ns;
 } eevdf_entry;
 
+/*
+ * What a queue keeps of a task that sleeps here: the lag that it keeps, its nice level, and its
+ * slice in ns.
+ */
+typedef struct eevdf_sleeper {
+	int64_t lag;
+	int64_t nice;
+	uint64_t slice_ns;
+} eevdf_sleeper;
+
+/*
+ * What a task in a hand has: its number, its nice level, its slice in ns, its virtual runtime where
+ * it left (of one that slept, the virtual time there), and its lag.
+ */
+typedef struct eevdf_parcel {
+	uint64_t task;
+	int64_t nice;
+	uint64_t slice_ns;
+	int64_t start;
+	int64_t lag;
+} eevdf_parcel;
+
 EEVDF_ASSERT(sizeof(eevdf_queue) == EEVDF_QUEUE_SIZE, "a queue has padding");
 EEVDF_ASSERT(sizeof(eevdf_hand) == EEVDF_HAND_SIZE, "a hand has padding");
 EEVDF_ASSERT(sizeof(eevdf_entry) == 32, "an entry has padding");
+EEVDF_ASSERT(sizeof(eevdf_sleeper) == 24, "what is kept of a sleeping task has padding");
+EEVDF_ASSERT(sizeof(eevdf_parcel) == 40, "what a task in a hand has has padding");
 EEVDF_ASSERT(sizeof(void *) == 8, "the library is for machines of 64 bits");
 
-/* Memory that the library asks for. `ok` is 1 where there is a block, and 0 where there is none;
- * `block` isn't null in either case. */
+/*
+ * Memory that the library asks for. `ok` is 1 where there is a block, and 0 where there is none;
+ * `block` isn't null in either case.
+ */
 typedef struct eevdf_memory {
 	uint64_t ok;
 	void *block;
 } eevdf_memory;
 
-/* The two functions for memory, which the caller defines, or takes over malloc and free from
+/*
+ * The two functions for memory, which the caller defines, or takes over malloc and free from
  * libeevdf_malloc.a. The library asks for one block in eevdf_admit, of EEVDF_TASK_SIZE bytes
  * aligned to 8, and gives it back where the task ends; a block inside the caller's own struct of
  * the task will do. A block belongs to the library until it is given back.
  * rattle_alloc is called by eevdf_admit alone, and rattle_dealloc by eevdf_end, eevdf_close,
  * eevdf_hand_close, and eevdf_admit where it answers RANGE. They are called under whatever lock the
  * caller of these holds, of eevdf_hand_close perhaps none, and where there are several queues, on
- * several CPUs at once: what they share needs a lock of its own. */
+ * several CPUs at once: what they share needs a lock of its own.
+ */
 eevdf_memory rattle_alloc(size_t size, size_t align);
 void rattle_dealloc(void *block);
 
-/* The version of the library: equal to EEVDF_VERSION where the two belong together.
- * Lock: none. Interrupts: yes. */
+/*
+ * The version of the library: equal to EEVDF_VERSION where the two belong together.
+ * Lock: none. Interrupts: yes.
+ */
 int64_t eevdf_version(void);
 
-/* Opens a queue in the caller's bytes: empty, at the virtual time 0. Takes no memory. Opening one
+/*
+ * Opens a queue in the caller's bytes: empty, at the virtual time 0. Takes no memory. Opening one
  * that has tasks loses their memory.
- * Lock: nobody else may know of the queue yet. Interrupts: yes. */
+ * Lock: nobody else may know of the queue yet. Interrupts: yes.
+ */
 void eevdf_open(eevdf_queue *queue);
 
-/* Ends every task that is here, and gives their memory back. The queue is then as newly opened, and
- * its bytes are the caller's again. It looks at every number of a task.
- * Lock: the queue's. Interrupts: as memory. */
+/*
+ * Ends every task that is here, in ascending number, and gives their memory back. The queue is then
+ * empty, at the virtual time that the last of them left. Its bytes are the caller's again, and
+ * eevdf_open makes a new queue of them. It looks at every number of a task.
+ * Lock: the queue's. Interrupts: as memory.
+ */
 void eevdf_close(eevdf_queue *queue);
 
-/* A new task: runnable at the virtual runtime `start`, with a fresh request of `slice_ns`.
+/*
+ * A new task: runnable at the virtual runtime `start`, with a fresh request of `slice_ns`.
  * eevdf_floor_time gives the start of a task that comes later; one that starts earlier is owed what
  * the others have had. Takes a block of memory. Answers 0.
  * Lock: the queue's. Interrupts: as memory.
  * INVALID: task, nice, slice_ns or start is out of its limits. PRESENT: the task is here, runnable
  * or asleep. NO_MEMORY: there is no block. RANGE: its deadline would leave the range; the block is
- * given back. */
-int64_t eevdf_admit(eevdf_queue *queue, uint64_t task, int64_t nice, uint64_t slice_ns, int64_t start);
+ * given back.
+ */
+int64_t eevdf_admit(eevdf_queue *queue, uint64_t task, int64_t nice, uint64_t slice_ns,
+		    int64_t start);
 
-/* Lets the eligible task of earliest deadline run, the lower number of equal ones, and answers it.
+/*
+ * Lets the eligible task of earliest deadline run, the lower number of equal ones, and answers it.
  * Who ran before waits, if it is another.
- * Lock: the queue's. Interrupts: yes. ABSENT: nothing is runnable, and nobody runs. */
+ * Lock: the queue's. Interrupts: yes. ABSENT: nothing is runnable, and nobody runs.
+ */
 int64_t eevdf_pick(eevdf_queue *queue);
 
-/* Charges the running task for `ns`. 0: its request stands. 1: its request is used up, and it has a
+/*
+ * The task that eevdf_pick would let run now. Where it isn't the running one, as it may be after a
+ * wake, that one is to be preempted. Nothing changes.
+ * Lock: the queue's. Interrupts: yes. ABSENT: nothing is runnable.
+ */
+int64_t eevdf_peek(const eevdf_queue *queue);
+
+/*
+ * Charges the running task for `ns`. 0: its request stands. 1: its request is used up, and it has a
  * fresh one: time to pick.
  * Lock: the queue's. Interrupts: yes.
  * INVALID: ns is 0 or above EEVDF_TICK_MAX. ABSENT: nobody runs. RANGE: its deadline would leave
- * the range. */
+ * the range.
+ */
 int64_t eevdf_tick(eevdf_queue *queue, uint64_t ns);
 
-/* Makes the running task's deadline later by the charge of a slice. It runs on until the next pick.
+/*
+ * The shortest tick, in ns, that uses up the running task's request: eevdf_tick answers 1 to it, or
+ * RANGE where the fresh request would be out of range, and 0 to each shorter one. A timer that is
+ * set to it makes periodic ticks needless. Nothing changes.
+ * Lock: the queue's. Interrupts: yes. ABSENT: nobody runs, or a tick of EEVDF_TICK_MAX leaves some
+ * of the request, as it may after ten yields; eevdf_running tells the two apart.
+ */
+int64_t eevdf_time_to_resched(const eevdf_queue *queue);
+
+/*
+ * Makes the running task's deadline later by the charge of a slice. It runs on until the next pick.
  * Answers 0.
  * Lock: the queue's. Interrupts: yes. ABSENT: nobody runs. RANGE: its deadline would leave the
- * range. */
+ * range.
+ */
 int64_t eevdf_yield(eevdf_queue *queue);
 
-/* Lets nobody run, and answers the task that ran and waits now.
- * Lock: the queue's. Interrupts: yes. ABSENT: nobody runs. */
+/*
+ * Lets nobody run, and answers the task that ran and waits now.
+ * Lock: the queue's. Interrupts: yes. ABSENT: nobody runs.
+ */
 int64_t eevdf_stop(eevdf_queue *queue);
 
-/* The running task falls asleep here, and keeps the lag that it has. Nobody runs then. Answers 0.
+/*
+ * The running task falls asleep here, and keeps the lag that it has. Nobody runs then. Answers 0.
  * Lock: the queue's. Interrupts: yes. INVALID: no number of a task. ABSENT: the task doesn't run
- * here. */
+ * here.
+ */
 int64_t eevdf_sleep(eevdf_queue *queue, uint64_t task);
 
-/* A task that sleeps here is runnable again, placed with the lag that it kept, with a fresh
+/*
+ * A task that sleeps here is runnable again, placed with the lag that it kept, with a fresh
  * request. Nobody is picked. Answers 0.
  * Lock: the queue's. Interrupts: yes.
  * INVALID: no number of a task. PRESENT: it is runnable here. ABSENT: it isn't here. RANGE: it
- * can't be placed, and sleeps on. */
+ * can't be placed, and sleeps on.
+ */
 int64_t eevdf_wake(eevdf_queue *queue, uint64_t task);
 
-/* Ends a task, whether it runs, waits or sleeps, and gives its memory back. If it ran, nobody runs
+/*
+ * Ends a task, whether it runs, waits or sleeps, and gives its memory back. If it ran, nobody runs
  * then. Answers 0.
- * Lock: the queue's. Interrupts: as memory. INVALID: no number of a task. ABSENT: it isn't here. */
+ * Lock: the queue's. Interrupts: as memory. INVALID: no number of a task. ABSENT: it isn't here.
+ */
 int64_t eevdf_end(eevdf_queue *queue, uint64_t task);
 
-/* Gives a runnable task another nice level, and rescales its lag. Whoever ran runs on. Answers 0.
+/*
+ * Gives a runnable task another nice level, and rescales its lag. Whoever ran runs on. Answers 0.
  * Lock: the queue's. Interrupts: yes.
  * INVALID: no number of a task, or no nice level. ABSENT: it isn't runnable here. RANGE: it
- * couldn't be placed. */
+ * couldn't be placed.
+ */
 int64_t eevdf_renice(eevdf_queue *queue, uint64_t task, int64_t nice);
 
-/* Opens an empty hand in the caller's bytes. Takes no memory. Opening one that holds a task loses
+/*
+ * Gives a task another slice, runnable or asleep. The request that stands keeps its deadline, and
+ * the next one is of the new slice. The lag that a sleeping task keeps is cut to the charge of two
+ * new slices; that of a runnable one is cut when it leaves. Answers 0.
+ * Lock: the queue's. Interrupts: yes.
+ * INVALID: no number of a task, or slice_ns is out of its limits. ABSENT: the task isn't here.
+ */
+int64_t eevdf_set_slice(eevdf_queue *queue, uint64_t task, uint64_t slice_ns);
+
+/*
+ * Lowers all virtual times of the queue by one number, so that the virtual time is 0, and writes
+ * the number to `by`. The queue then answers every call as it would have, but for that number in
+ * virtual times and for RANGE, from which it is further away; lags stay as they are. Where a
+ * virtual time would leave its range, as no task within 2^59 of the time 0 can make it, nothing
+ * changes, and `by` gets 0. It looks at every runnable task. Answers 0.
+ * Lock: the queue's. Interrupts: yes.
+ */
+int64_t eevdf_rebase(eevdf_queue *queue, int64_t *by);
+
+/*
+ * Opens an empty hand in the caller's bytes. Takes no memory. Opening one that holds a task loses
  * its memory.
- * Lock: none. Interrupts: yes. */
+ * Lock: none. Interrupts: yes.
+ */
 void eevdf_hand_open(eevdf_hand *hand);
 
 /* The task in the hand. Lock: none. Interrupts: yes. ABSENT: the hand is empty. */
 int64_t eevdf_hand_task(const eevdf_hand *hand);
 
-/* Ends the task in the hand, if there is one, and gives its memory back. The hand is then as newly
+/*
+ * Writes what the task in the hand has to `out`. Answers 0. On an error `out` isn't touched.
+ * Lock: none. Interrupts: yes. ABSENT: the hand is empty.
+ */
+int64_t eevdf_hand_parcel(const eevdf_hand *hand, eevdf_parcel *out);
+
+/*
+ * Ends the task in the hand, if there is one, and gives its memory back. The hand is then as newly
  * opened.
- * Lock: none. Interrupts: as memory. */
+ * Lock: none. Interrupts: as memory.
+ */
 void eevdf_hand_close(eevdf_hand *hand);
 
-/* Takes a task out of the queue into the hand, with its lag, whether it runs, waits or sleeps. If
+/*
+ * Takes a task out of the queue into the hand, with its lag, whether it runs, waits or sleeps. If
  * it ran, nobody runs then. Answers 0.
  * Lock: the queue's. Interrupts: yes.
- * INVALID: no number of a task. BUSY: the hand holds a task. ABSENT: the task isn't here. */
+ * INVALID: no number of a task. BUSY: the hand holds a task. ABSENT: the task isn't here.
+ */
 int64_t eevdf_take(eevdf_queue *queue, eevdf_hand *hand, uint64_t task);
 
-/* Puts the task in the hand into the queue: runnable, placed with its lag, with a fresh request.
+/*
+ * Takes some task out of the queue into the hand, with its lag, and answers it: the one that
+ * eevdf_pick would let run, or, where none is runnable, the sleeping one of lowest number. If it
+ * ran, nobody runs then. Called until it answers ABSENT, and the hand emptied each time, it empties
+ * a queue whose tasks needn't be known. A sleeping task is looked for from number 0 on each time.
+ * Lock: the queue's. Interrupts: yes. BUSY: the hand holds a task. ABSENT: no task is here.
+ */
+int64_t eevdf_take_any(eevdf_queue *queue, eevdf_hand *hand);
+
+/*
+ * Puts the task in the hand into the queue: runnable, placed with its lag, with a fresh request.
  * The hand is empty then. Answers 0.
  * Lock: the queue's. Interrupts: yes.
  * ABSENT: the hand is empty. PRESENT: the task's number is here. RANGE: it can't be placed. On an
- * error the hand keeps it. */
+ * error the hand keeps it.
+ */
 int64_t eevdf_put(eevdf_queue *queue, eevdf_hand *hand);
 
-/* Puts the task in the hand to sleep in the queue, with its lag. The hand is empty then. Answers 0.
+/*
+ * Puts the task in the hand to sleep in the queue, with its lag. The hand is empty then. Answers 0.
  * Lock: the queue's. Interrupts: yes.
- * ABSENT: the hand is empty. PRESENT: the task's number is here. On an error the hand keeps it. */
+ * ABSENT: the hand is empty. PRESENT: the task's number is here. On an error the hand keeps it.
+ */
 int64_t eevdf_put_asleep(eevdf_queue *queue, eevdf_hand *hand);
 
-/* How many tasks are runnable, of which the running one is one.
- * Lock: the queue's. Interrupts: yes. */
+/*
+ * How many tasks are runnable, of which the running one is one.
+ * Lock: the queue's. Interrupts: yes.
+ */
 int64_t eevdf_len(const eevdf_queue *queue);
 
-/* The sum of the runnable tasks' weights; nice level 0 weighs 1024.
- * Lock: the queue's. Interrupts: yes. */
+/*
+ * The sum of the runnable tasks' weights; nice level 0 weighs 1024.
+ * Lock: the queue's. Interrupts: yes.
+ */
 int64_t eevdf_load(const eevdf_queue *queue);
 
-/* Writes the virtual time, rounded down, to `time`. Answers 0.
- * Lock: the queue's. Interrupts: yes. */
+/*
+ * Writes the virtual time, rounded down, to `time`. Answers 0.
+ * Lock: the queue's. Interrupts: yes.
+ */
 int64_t eevdf_floor_time(const eevdf_queue *queue, int64_t *time);
 
 /* The running task. Lock: the queue's. Interrupts: yes. ABSENT: nobody runs. */
 int64_t eevdf_running(const eevdf_queue *queue);
 
-/* The task that another CPU may pull: the waiting one of latest deadline, the greater number of
+/*
+ * The task that another CPU may pull: the waiting one of latest deadline, the greater number of
  * equal ones.
- * Lock: the queue's. Interrupts: yes. ABSENT: no task waits. */
+ * Lock: the queue's. Interrupts: yes. ABSENT: no task waits.
+ */
 int64_t eevdf_candidate(const eevdf_queue *queue);
 
-/* Writes what the queue knows of a runnable task to `out`. Answers 0. On an error `out` isn't
+/*
+ * Writes what the queue knows of a runnable task to `out`. Answers 0. On an error `out` isn't
  * touched.
  * Lock: the queue's. Interrupts: yes. INVALID: no number of a task. ABSENT: it isn't runnable
- * here. */
+ * here.
+ */
 int64_t eevdf_entry_of(const eevdf_queue *queue, uint64_t task, eevdf_entry *out);
 
-/* Writes the lag to `lag` that a runnable task would keep if it left now, or that a sleeping one
+/*
+ * Writes what the queue keeps of a sleeping task to `out`. Answers 0. On an error `out` isn't
+ * touched.
+ * Lock: the queue's. Interrupts: yes. INVALID: no number of a task. ABSENT: it doesn't sleep
+ * here.
+ */
+int64_t eevdf_sleeper_of(const eevdf_queue *queue, uint64_t task, eevdf_sleeper *out);
+
+/*
+ * Writes the lag to `lag` that a runnable task would keep if it left now, or that a sleeping one
  * keeps, in virtual time; above 0 it is owed time. Answers 0. On an error `lag` isn't touched.
- * Lock: the queue's. Interrupts: yes. INVALID: no number of a task. ABSENT: it isn't here. */
+ * Lock: the queue's. Interrupts: yes. INVALID: no number of a task. ABSENT: it isn't here.
+ */
 int64_t eevdf_lag(const eevdf_queue *queue, uint64_t task, int64_t *lag);
 
-/* 1 where the task sleeps here, else 0.
- * Lock: the queue's. Interrupts: yes. INVALID: no number of a task. */
+/*
+ * 1 where the task sleeps here, else 0.
+ * Lock: the queue's. Interrupts: yes. INVALID: no number of a task.
+ */
 int64_t eevdf_is_asleep(const eevdf_queue *queue, uint64_t task);
 
-/* 1 where the task is here, runnable or asleep, else 0.
- * Lock: the queue's. Interrupts: yes. INVALID: no number of a task. */
+/*
+ * 1 where the task is here, runnable or asleep, else 0.
+ * Lock: the queue's. Interrupts: yes. INVALID: no number of a task.
+ */
 int64_t eevdf_contains(const eevdf_queue *queue, uint64_t task);
 
-/* 1 where a task of this nice level, slice and lag can be put here to be runnable without a virtual
+/*
+ * 1 where a task of this nice level, slice and lag can be put here to be runnable without a virtual
  * time leaving its range, else 0. Whether such a task's number is here already is another question:
  * eevdf_contains.
  * Lock: the queue's. Interrupts: yes.
  * INVALID: nice or slice_ns is out of its limits, or the lag is beyond that of such a task, the
- * charge of two slices. */
+ * charge of two slices.
+ */
 int64_t eevdf_can_place(const eevdf_queue *queue, int64_t nice, uint64_t slice_ns, int64_t lag);
 
 #ifdef __cplusplus

@@ -1,4 +1,7 @@
-/* The two functions for memory of eevdf.h over malloc and free. They are weak: a program that defines them itself has its own. */
+/*
+ * The two functions for memory of eevdf.h over malloc and free. They are weak: a program that
+ * defines them itself has its own.
+ */
 #include <eevdf.h>
 #include <stdlib.h>
 

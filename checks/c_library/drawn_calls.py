@@ -1,4 +1,5 @@
-"""Draws sequences of calls, and compares what the library answers with what the plain model does."""
+"""Draws sequences of calls, and compares what the library answers with what the plain model does, and with what the same calls answer in
+Rattle."""
 
 import random
 from dataclasses import dataclass
@@ -88,7 +89,9 @@ class Sequence:
         queue, hand = self.random.randrange(2), self.random.randrange(2)
         draws = {
             "pick": (20, lambda: (queue,)),
+            "peek": (2, lambda: (queue,)),
             "tick": (20, lambda: (queue, self.nanoseconds())),
+            "time_to_resched": (2, lambda: (queue,)),
             "yield": (3, lambda: (queue,)),
             "stop": (2, lambda: (queue,)),
             "sleep": (8, lambda: (queue, self.runner(queue))),
@@ -96,15 +99,20 @@ class Sequence:
             "admit": (10, lambda: (queue, self.task(), self.nice(), self.slice(), self.start())),
             "end": (4, lambda: (queue, self.task_here(queue))),
             "renice": (5, lambda: (queue, self.task_here(queue), self.nice())),
+            "set_slice": (3, lambda: (queue, self.task_here(queue), self.slice())),
+            "rebase": (0.2, lambda: (queue,)),
             "take": (8, lambda: (queue, hand, self.task_here(queue))),
+            "take_any": (2, lambda: (queue, hand)),
             "put": (8, lambda: (queue, hand)),
             "put_asleep": (4, lambda: (queue, hand)),
             "entry_of": (1, lambda: (queue, self.task())),
+            "sleeper_of": (1, lambda: (queue, self.sleeper(queue))),
             "lag": (1, lambda: (queue, self.task())),
             "is_asleep": (1, lambda: (queue, self.task())),
             "contains": (1, lambda: (queue, self.task())),
             "can_place": (2, lambda: (queue, self.nice(), self.slice(), self.random.randint(-9000000, 9000000))),
             "hand_task": (1, lambda: (hand,)),
+            "hand_parcel": (1, lambda: (hand,)),
             "len": (1, lambda: (queue,)),
             "load": (1, lambda: (queue,)),
             "floor_time": (1, lambda: (queue,)),
@@ -132,9 +140,11 @@ class Sequence:
 
 @dataclass(frozen=True)
 class Compared:
-    """What came of a comparison: the first difference, or None; how many calls were compared; and which calls had which answers below 0."""
+    """What came of a comparison: the first differences from the model and from the program in Rattle, or None; how many calls were
+    compared; and which calls had which answers below 0."""
 
     fault: str | None
+    fault_in_rattle: str | None
     count: int
     errors: frozenset
 
@@ -146,21 +156,33 @@ def errors_of(sequence):
     return frozenset((name, answer) for name, answer in first if answer < 0)
 
 
-def first_difference(sequence, played):
-    """The first line that a program answers otherwise than the model, or None."""
+def first_difference(lines, all_wanted, played, other):
+    """The first line that a program answers otherwise than is wanted, which the other says, or None."""
     said = played.stdout.splitlines()
-    for at, (line, wanted) in enumerate(zip(sequence.lines, sequence.wanted)):
+    for at, (line, wanted) in enumerate(zip(lines, all_wanted, strict=True)):
         answered = said[at] if at < len(said) else "nothing"
         if answered != wanted:
-            return f"line {at + 1}, {line}, is answered {answered}, where the model says {wanted} {ending(played.stderr)}"
+            return f"line {at + 1}, {line}, is answered {answered}, where {other} says {wanted} {ending(played.stderr)}"
     return f"status {played.returncode}: {ending(played.stderr)}" if played.returncode else None
 
 
+def difference_in_rattle(in_rattle, lines, played):
+    """The first line that the program in Rattle answers otherwise than the library, or None. What both print has to be the same bytes."""
+    text = "\n".join(lines) + "\n"
+    made = run([in_rattle, "calls"], input=text)
+    if made.stdout == played.stdout and not made.returncode:
+        return None
+    said = [*played.stdout.splitlines(), *["nothing"] * len(lines)][: len(lines)]
+    return first_difference(lines, said, made, "the library") or "what is printed has other ends of lines"
+
+
 def compare(job):
-    """Plays a drawn sequence by a program and by the model."""
-    program, kind, seed, calls = job
+    """Plays a drawn sequence by a program over the library, by the model, and by a program in Rattle where there is one."""
+    program, in_rattle, kind, seed, calls = job
     sequence = Sequence(kind, seed)
     sequence.run(calls)
     played = run([program], input="\n".join(sequence.lines) + "\n")
+    fault = first_difference(sequence.lines, sequence.wanted, played, "the model")
+    other = difference_in_rattle(in_rattle, sequence.lines, played) if in_rattle else None
     count = sum(not line.startswith("state") for line in sequence.lines)
-    return Compared(first_difference(sequence, played), count, errors_of(sequence))
+    return Compared(fault, other, count, errors_of(sequence))

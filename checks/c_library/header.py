@@ -1,5 +1,5 @@
 """The header as C11 and as C++17, with all warnings, by each compiler that there is; a small program of each, linked and run; and the sizes
-of the header, which have to be those that the crate proves."""
+and fields of the header, which have to be those of the crate."""
 
 import re
 import shutil
@@ -17,8 +17,12 @@ static eevdf_hand hand;
 static int is_moved(void)
 {
 	eevdf_entry entry = { 0, 0, 0, 0 };
+	eevdf_sleeper sleeper = { 0, 0, 0 };
+	eevdf_parcel parcel = { 0, 0, 0, 0, 0 };
 
-	return eevdf_take(&queue, &hand, EEVDF_TASKS - 1) == 0 && eevdf_put(&queue, &hand) == 0 &&
+	return eevdf_take(&queue, &hand, EEVDF_TASKS - 1) == 0 && eevdf_hand_parcel(&hand, &parcel) == 0 &&
+	       parcel.task == EEVDF_TASKS - 1 && eevdf_put(&queue, &hand) == 0 &&
+	       eevdf_sleeper_of(&queue, EEVDF_TASKS - 1, &sleeper) == EEVDF_ABSENT && sleeper.slice_ns == 0 &&
 	       eevdf_entry_of(&queue, EEVDF_TASKS - 1, &entry) == 0 && entry.slice_ns == EEVDF_SLICE_MAX;
 }
 
@@ -47,6 +51,34 @@ COMPILERS = (
 SOURCES = TOP / "crates" / "eevdf_c" / "src"
 SIZE = r"size_of::<{}>\(\) == (\d+)"
 SIZES = (("opened.rt", "Opened", "EEVDF_QUEUE_SIZE"), ("hand.rt", "Hand", "EEVDF_HAND_SIZE"))
+# The structs with fields that C reads, and the names of their types in C.
+STRUCTS = (
+    ("entry_out.rt", "EntryOut", "eevdf_entry"),
+    ("sleeper_out.rt", "SleeperOut", "eevdf_sleeper"),
+    ("parcel_out.rt", "ParcelOut", "eevdf_parcel"),
+)
+TYPES = {"i64": "int64_t", "u64": "uint64_t"}
+
+
+def fields_of_header(name):
+    """The types and names of the fields of a struct of the header, in order."""
+    header = (TOP / "include" / "eevdf.h").read_text()
+    body = re.search(rf"^typedef struct {name} {{\n(.*?)^}} {name};", header, re.MULTILINE | re.DOTALL)[1]
+    return re.findall(r"^\t(\w+) (\w+);$", body, re.MULTILINE)
+
+
+def fields_of_source(source, name):
+    """The same of a struct of Rust or Rattle, with the types as C has them."""
+    body = re.search(rf"^pub struct {name} {{\n(.*?)^}}", source, re.MULTILINE | re.DOTALL)[1]
+    return [(TYPES[kind], field) for field, kind in re.findall(r"^    pub (\w+): (\w+),$", body, re.MULTILINE)]
+
+
+def other_fields():
+    """The structs that have other fields in the crate, or none."""
+    for file, name, in_c in STRUCTS:
+        fields = fields_of_source((SOURCES / file).read_text(), name)
+        if not fields or fields != fields_of_header(in_c):
+            yield f"{in_c} isn't {fields}"
 
 
 def other_sizes():
@@ -61,6 +93,7 @@ def other_sizes():
 def check(tools):
     if SOURCES.exists():
         tools.checks.look("eevdf.h has the sizes that are proved", ", ".join(other_sizes()))
+        tools.checks.look("eevdf.h has the fields of the crate", ", ".join(other_fields()))
     for compiler, language, standard, package in COMPILERS:
         name = f"eevdf.h as {standard} by {compiler}"
         if not shutil.which(compiler):

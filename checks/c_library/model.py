@@ -27,7 +27,7 @@ def is_slice(length):
 
 
 class Model:
-    """Two queues and two hands. A call gives its answer, or a list of it and what it writes."""
+    """Two queues and two hands. A call gives its answer, or a list of it and what it writes; on an error that is what stood there."""
 
     def __init__(self):
         self.queues = [Queue(), Queue()]
@@ -43,7 +43,10 @@ class Model:
         self.queues[queue] = Queue()
         return 0
 
-    close = open
+    def close(self, queue):
+        for task in range(TASKS):
+            self.leave(queue, task)
+        return 0
 
     def hand_open(self, hand):
         self.hands[hand] = None
@@ -60,11 +63,19 @@ class Model:
     def pick(self, queue):
         return ABSENT if self.queues[queue].pick() == "idle" else self.queues[queue].running
 
+    def peek(self, queue):
+        task = self.queues[queue].peek()
+        return ABSENT if task is None else task
+
     def tick(self, queue, nanoseconds):
         if not 1 <= nanoseconds <= 1000000000:
             return INVALID
         answer = self.queues[queue].tick(nanoseconds)
         return {"idle": ABSENT, "range": RANGE}.get(answer, int(answer.endswith("resched")))
+
+    def time_to_resched(self, queue):
+        nanoseconds = self.queues[queue].time_to_resched()
+        return ABSENT if nanoseconds is None else nanoseconds
 
     def yield_(self, queue):
         return {"idle": ABSENT, "range": RANGE, "yielded": 0}[self.queues[queue].yield_now()]
@@ -123,10 +134,22 @@ class Model:
             return INVALID
         return {"not here": ABSENT, "range": RANGE, "reniced": 0}[self.queues[queue].renice(task, nice)]
 
+    def set_slice(self, queue, task, length):
+        if not (is_task(task) and is_slice(length)):
+            return INVALID
+        return 0 if self.queues[queue].set_slice(task, length) else ABSENT
+
+    def rebase(self, queue):
+        return [0, self.queues[queue].rebase()]
+
     # Hands.
 
     def hand_task(self, hand):
         return ABSENT if self.hands[hand] is None else self.hands[hand].task
+
+    def hand_parcel(self, hand):
+        held = self.hands[hand]
+        return [ABSENT, 1, -1, 1, -1, -1] if held is None else [0, held.task, held.nice, held.length, held.v, held.lag]
 
     def take(self, queue, hand, task):
         if not is_task(task):
@@ -135,6 +158,17 @@ class Model:
             return BUSY
         self.hands[hand] = self.leave(queue, task)
         return ABSENT if self.hands[hand] is None else 0
+
+    def take_any(self, queue, hand):
+        if self.hands[hand] is not None:
+            return BUSY
+        here = self.queues[queue]
+        first = here.peek()
+        task = min(here.asleep, default=None) if first is None else first
+        if task is None:
+            return ABSENT
+        self.hands[hand] = self.leave(queue, task)
+        return task
 
     def put(self, queue, hand):
         held = self.hands[hand]
@@ -179,6 +213,12 @@ class Model:
             return [ABSENT if is_task(task) else INVALID, -1, -1, -1, 1]
         return [0, entry.v, entry.d, entry.nice, entry.length]
 
+    def sleeper_of(self, queue, task):
+        sleeper = self.queues[queue].asleep.get(task)
+        if sleeper is None:
+            return [ABSENT if is_task(task) else INVALID, -1, -1, 1]
+        return [0, sleeper.lag, sleeper.nice, sleeper.length]
+
     def lag_at(self, queue, task):
         here = self.queues[queue]
         return here.lag_of(task) if task in here.runnable else here.asleep[task].lag
@@ -204,8 +244,8 @@ class Model:
         words = [self.len(queue), self.load(queue), self.queues[queue].virtual_time(), self.running(queue), self.candidate(queue)]
         here = self.queues[queue]
         for task in sorted({*here.runnable, *here.asleep}):
-            entry = here.runnable.get(task)
-            rest = [entry.v, entry.d, entry.nice, entry.length] if entry else []
+            entry, sleeper = here.runnable.get(task), here.asleep.get(task)
+            rest = [entry.v, entry.d, entry.nice, entry.length] if entry else [sleeper.nice, sleeper.length]
             words.append(f"{task}:{','.join(map(str, [self.lag_at(queue, task), *rest]))}")
         return words
 

@@ -31,6 +31,8 @@ BODIES = {
         return answer;"""),
     "a tick charges a nanosecond more": ("tick", "if (ns < EEVDF_TICK_MAX && ns > 0) ns++; return RIGHT;"),
     "a tick that answers INVALID stops who runs": ("tick", "if (ns == 0) eevdf_stop(queue); return RIGHT;"),
+    "a peek asks who runs": ("peek", "int64_t running = eevdf_running(queue); return running >= 0 ? running : RIGHT;"),
+    "a time is a nanosecond too long": ("time_to_resched", "int64_t answer = RIGHT; return answer > 0 ? answer + 1 : answer;"),
     "a yield puts the deadline off twice": ("yield", "if (RIGHT != 0) return RIGHT; RIGHT; return 0;"),
     "a wake of a runnable task answers ABSENT": ("wake", """
         int64_t answer = RIGHT;
@@ -38,6 +40,12 @@ BODIES = {
     "a renice of a task that sleeps answers INVALID": ("renice", """
         int64_t answer = RIGHT;
         return answer == EEVDF_ABSENT && eevdf_is_asleep(queue, task) == 1 ? EEVDF_INVALID : answer;"""),
+    "a slice that is set begins a request": ("set_slice", """
+        int64_t answer = RIGHT;
+        if (answer == 0 && eevdf_running(queue) == (int64_t)task) eevdf_yield(queue);
+        return answer;"""),
+    "a rebase tells 0": ("rebase", "int64_t answer = RIGHT; *by = 0; return answer;"),
+    "a take of any task answers 0": ("take_any", "int64_t answer = RIGHT; return answer > 0 ? 0 : answer;"),
     "a take asks for the hand last": ("take", "return eevdf_contains(queue, task) == 0 ? EEVDF_ABSENT : RIGHT;"),
     "a put that answers RANGE loses the task": ("put", """
         int64_t answer = RIGHT;
@@ -45,6 +53,7 @@ BODIES = {
         return answer;"""),
     "a put that can't be placed sleeps": ("put", "return RIGHT == EEVDF_RANGE ? eevdf_put_asleep(queue, hand) : RIGHT;"),
     "a close keeps the blocks": ("close", "eevdf_open(queue);"),
+    "a closed queue is at the virtual time 0": ("close", "RIGHT; eevdf_open(queue);"),
     "an open writes a byte behind the queue": ("open", "RIGHT; *((unsigned char *)queue + EEVDF_QUEUE_SIZE) = 0;"),
     "a hand is opened with a byte behind it": ("hand_open", "RIGHT; *((unsigned char *)hand + EEVDF_HAND_SIZE) = 0;"),
     "the candidate may run": ("candidate", "int64_t answer = RIGHT; return answer == EEVDF_ABSENT ? eevdf_running(queue) : answer;"),
@@ -52,6 +61,8 @@ BODIES = {
         int64_t answer = RIGHT;
         if (eevdf_is_asleep(queue, task) == 1) *lag = 0;
         return answer;"""),
+    "the nice level of a task that sleeps is 0": ("sleeper_of", "int64_t answer = RIGHT; if (answer == 0) out->nice = 0; return answer;"),
+    "the start of a task in a hand is its lag": ("hand_parcel", "int64_t answer = RIGHT; if (answer == 0) out->start = out->lag; return answer;"),
     "an entry is written on an error": ("entry_of", "if (eevdf_contains(queue, task) != 1) out->nice = 0; return RIGHT;"),
     "a virtual time takes 1100 bytes of stack": ("floor_time", "volatile char deep[1100]; deep[0] = 0; return RIGHT + deep[0];"),
     "the version is another": ("version", "return RIGHT + 1;"),
@@ -77,7 +88,7 @@ def finders(tools, planted, *linked):
         if name != "play":
             if run([program]).returncode:
                 yield f"{name}.c"
-        elif any(compare((program, kind, "planted", CALLS)).fault for kind in KINDS):
+        elif any(compare((program, None, kind, "planted", CALLS)).fault for kind in KINDS):
             yield "drawn calls"
 
 

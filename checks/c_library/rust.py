@@ -5,10 +5,13 @@ import os
 import re
 import shutil
 
+from header import fields_of_header, fields_of_source
 from object_file import declared, difference
 from tools import TOP, fault_of, run
 
 FOLDER = TOP / "bindings" / "rust"
+# The structs with fields, by the file that has them, and their names in C.
+STRUCTS = (("queue.rs", "Entry", "eevdf_entry"), ("queue.rs", "Sleeper", "eevdf_sleeper"), ("hand.rs", "Parcel", "eevdf_parcel"))
 
 
 def source(name):
@@ -39,6 +42,8 @@ def check_names(tools):
     calls = set(re.findall(r"pub fn (eevdf_\w+)\(", source("calls.rs")))
     tools.checks.look("bindings/rust has the header's calls", difference(calls, declared()))
     tools.checks.look("bindings/rust has the header's sizes and codes", difference(numbers_of_crate(), numbers_of_header()))
+    other = [name for file, name, in_c in STRUCTS if fields_of_source(source(file), name) != fields_of_header(in_c)]
+    tools.checks.look("bindings/rust has the header's fields", other and f"not those of {', '.join(other)}")
 
 
 def cargo(tools, *words):

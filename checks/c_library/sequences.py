@@ -1,5 +1,5 @@
-"""Drawn sequences of calls, through the library and through the plain model, plainly built and sanitized, side by side. Together they have
-to come to each error that the header names with a call, and to no other."""
+"""Drawn sequences of calls, through the library, through the plain model and in Rattle, plainly built and sanitized, side by side. Together
+they have to come to each error that the header names with a call, and to no other."""
 
 import multiprocessing
 import os
@@ -8,7 +8,7 @@ import re
 import model
 from drawn_calls import KINDS, compare
 from object_file import difference
-from tools import SANITIZED, TOP
+from tools import SANITIZED, TOP, runner
 
 CALLS, SANITIZED_CALLS = 100000, 10000
 ERRORS = "ABSENT", "NO_MEMORY", "BUSY", "PRESENT", "INVALID", "RANGE"
@@ -26,22 +26,38 @@ def named(errors):
     return {(name, error) for name, answer in errors for error in ERRORS if getattr(model, error) == answer}
 
 
-def jobs_of(tools, seed):
-    """What is to be compared, and the programs that can't be built."""
-    for label, calls, flags in (("", CALLS, ()), (", sanitized", SANITIZED_CALLS, SANITIZED)):
+def built_in_rattle(tools):
+    """The program that makes the same calls in Rattle, on queues and parcels, or None where it isn't built. The checkout that the
+    environment names as TOP, as the gate names its own, has to have it."""
+    top = os.environ.get("TOP")
+    program = runner.Programs(top or TOP).path("queue_bench")
+    if program.is_file():
+        return program
+    if top:
+        tools.checks.look("drawn calls in Rattle", f"{top} has no built program queue_bench")
+    else:
+        tools.checks.leave_out("drawn calls in Rattle", "crates/queue_bench isn't built: ./build queue_bench")
+    return None
+
+
+def jobs_of(tools, seed, in_rattle):
+    """What is to be compared, with the program in Rattle once. Says which programs can't be built."""
+    for label, calls, other, flags in (("", CALLS, in_rattle, ()), (", sanitized", SANITIZED_CALLS, None, SANITIZED)):
         program, fault = tools.compile(f"play{label[2:]}", [tools.callers / "play.c"], *flags)
         if fault:
             tools.checks.look(f"callers/play.c{label}", fault)
             continue
         for kind in KINDS:
-            yield f"drawn calls of {kind.name}{label}", (program, kind, seed, calls)
+            yield f"drawn calls of {kind.name}{label}", (program, other, kind, seed, calls)
 
 
 def check(tools, seed):
-    jobs, errors = list(jobs_of(tools, seed)), set()
+    jobs, errors = list(jobs_of(tools, seed, built_in_rattle(tools))), set()
     with multiprocessing.Pool(max(1, min(len(jobs), os.cpu_count()))) as pool:
-        for (name, _), compared in zip(jobs, pool.imap(compare, [job for _, job in jobs])):
+        for (name, job), compared in zip(jobs, pool.imap(compare, [job for _, job in jobs])):
             tools.checks.look(f"{name}, seed {seed}", compared.fault, f"{compared.count} calls are answered as by the model")
+            if job[1]:
+                tools.checks.look(f"{name} in Rattle, seed {seed}", compared.fault_in_rattle, "the same answers and states, byte for byte")
             errors |= compared.errors
     wanted = documented()
     name = f"drawn calls of seed {seed} come to the errors of the header"

@@ -4,12 +4,13 @@ import re
 
 from tools import TOP
 
-DECLARATION = re.compile(r"^(int64_t|void) eevdf_(\w+)\((.*)\);$", re.MULTILINE)
+DECLARATION = re.compile(r"^(int64_t|void) eevdf_(\w+)\(([^;]*)\);$", re.MULTILINE)
 
 
 def declarations():
     """What the header declares: each call with its result's type and its parameters."""
-    return {name: (kind, parameters) for kind, name, parameters in DECLARATION.findall((TOP / "include" / "eevdf.h").read_text())}
+    found = DECLARATION.findall((TOP / "include" / "eevdf.h").read_text())
+    return {name: (kind, " ".join(parameters.split())) for kind, name, parameters in found}
 
 
 def arguments(parameters):

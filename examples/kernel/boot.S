@@ -1,7 +1,7 @@
-/* boot.S: from where qemu enters (by the PVH note: 32 bits, no paging) to kernel_main in 64 bits, and the ways into the kernel. */
+/* boot.S: from where qemu enters (PVH: 32 bits, no paging) to kernel_main, and the interrupts. */
 	.section .note, "a", @note
 	.balign 4
-	.long 4, 8, 18			/* a name of 4 bytes, an address of 8; 18: an entry in 32 bits */
+	.long 4, 8, 18			/* name of 4 bytes, address of 8, 18: an entry in 32 bits */
 	.asciz "Xen"
 	.quad start
 
@@ -35,9 +35,11 @@ wide:	xor %eax, %eax
 	mov $boot_stack + 8192, %rsp
 	call kernel_main
 
-/* entry NAME, FUNCTION: keeps all registers on the stack of whoever was interrupted, calls FUNCTION with the place, and goes on where
- * the place is that it answers. Interrupts are off meanwhile, so the red zone of what FUNCTION calls is safe. The processor aligns the
- * stack to 16 and pushes 40 bytes; with 15 registers and fxsave's 512 bytes it is aligned again. */
+/*
+ * entry NAME, FUNCTION: keeps all registers on the interrupted stack, calls FUNCTION with where,
+ * and goes on at the place that it answers. Interrupts are off, so the red zone of what it calls is
+ * safe. The stack is aligned to 16: 40 bytes are the processor's, 120 registers, 512 fxsave's.
+ */
 	.macro entry name, function
 	.globl \name
 \name:	.irp register, rax, rcx, rdx, rbx, rbp, rsi, rdi, r8, r9, r10, r11, r12, r13, r14, r15
@@ -72,9 +74,7 @@ memcpy:	mov %rdi, %rax
 	ret
 
 descriptors: .quad 0, 0x00af9a000000ffff	/* code of 64 bits */
-descriptors_at: .word descriptors_at - descriptors - 1
-	.long descriptors
-
+descriptors_at: .word descriptors_at - descriptors - 1; .long descriptors
 	.bss
 	.balign 4096
 tables:	.skip 3 * 4096

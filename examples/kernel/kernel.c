@@ -1,13 +1,13 @@
-/* kernel.c: threads on one processor without an operating system. The timer's interrupt charges whoever runs and wakes who is due; where
- * something has changed the queue says who goes on. All calls of the library are made with interrupts off. */
+/* kernel.c: threads on one processor. All calls of the library are made with interrupts off. */
 #include <eevdf.h>
 
 enum { TICK_NS = 1000000, STACK = 8192, END_OF_RUN = 2500 };
 
-/* What is on the stack of a thread that doesn't run: fxsave's bytes, what boot.S pushes, and what the processor does. */
+/* The stack of a thread that doesn't run: fxsave's bytes, what boot.S pushes, the processor's. */
 struct frame {
 	uint8_t fx[512];
-	uint64_t r15, r14, r13, r12, r11, r10, r9, r8, rdi, rsi, rbp, rbx, rdx, rcx, rax, rip, cs, rflags, rsp, ss;
+	uint64_t r15, r14, r13, r12, r11, r10, r9, r8, rdi, rsi, rbp, rbx, rdx, rcx, rax;
+	uint64_t rip, cs, rflags, rsp, ss;
 };
 
 /* A thread computes for `runs` ticks and sleeps for `sleeps`, so many rounds, and ends. */
@@ -104,6 +104,7 @@ static _Noreturn void end_run(void)
 	end_qemu(16);
 }
 
+/* Charges whoever runs, and wakes who is due; where something has changed the queue is asked. */
 struct frame *on_timer(struct frame *frame)
 {
 	int changed = current == IDLE;
@@ -115,10 +116,8 @@ struct frame *on_timer(struct frame *frame)
 	if (current != IDLE)
 		changed = must(eevdf_tick(&queue, TICK_NS)) == 1;
 	for (uint64_t at = 0; at < COUNT; at++)
-		if (threads[at].wakes_at == ticks) {
-			must(eevdf_wake(&queue, at));
-			changed = 1;
-		}
+		if (threads[at].wakes_at == ticks)
+			changed |= must(eevdf_wake(&queue, at)) == 0;
 	if (ticks == END_OF_RUN || alive == 0)
 		end_run();
 	return changed ? pick() : frame;
@@ -143,7 +142,7 @@ static void call(uint64_t sleeps)
 	__asm__ volatile("int $48" : : "D"(sleeps) : "memory");
 }
 
-/* Where a thread begins. What it computes is its own number, in a register of SSE, over and over. */
+/* Where a thread begins. It computes its own number, in a register of SSE, over and over. */
 static void thread_main(uint64_t number)
 {
 	const struct plan *plan = &plans[number];
@@ -165,37 +164,38 @@ static void start_thread(uint64_t number)
 
 	thread->frame = (struct frame *)(thread->stack + STACK - 16) - 1;
 	*thread->frame = (struct frame){
-		.fx = { 0x7f, 0x03, [24] = 0x80, 0x1f },	/* the control words: no exceptions */
-		.rip = (uint64_t)(uintptr_t)thread_main, .rdi = number,
-		.cs = 8, .rflags = 0x202,	/* interrupts are on */
-		.rsp = (uint64_t)(uintptr_t)(thread->stack + STACK - 8),
+		.fx = { 0x7f, 0x03, [24] = 0x80, 0x1f },	/* control words: no exceptions */
+		.rip = (uint64_t)(uintptr_t)thread_main, .rdi = number, .cs = 8,
+		.rflags = 0x202, .rsp = (uint64_t)(uintptr_t)(thread->stack + STACK - 8),
 	};
 	must(eevdf_admit(&queue, number, plans[number].nice, plans[number].slice_ns, 0));
 }
 
-/* The table of interrupts: 32 is the timer, 48 a call. A fault has no gate, so it resets the machine, which ends qemu. */
+/* Interrupt 32 is the timer, 48 a call. A fault has no gate: it resets the machine. */
 static void set_interrupts(void)
 {
 	static struct { uint64_t low, high; } gates[49];
-	struct __attribute__((packed)) { uint16_t limit; uint64_t at; } table = { sizeof gates - 1, (uint64_t)(uintptr_t)gates };
+	struct { uint16_t unused[3], limit; void *at; } table = { { 0 }, sizeof gates - 1, gates };
 	extern char timer_entry[], call_entry[];
 
 	for (unsigned at = 32; at <= 48; at += 16) {
 		uint64_t to = (uint64_t)(uintptr_t)(at == 32 ? timer_entry : call_entry);
 
-		gates[at].low = (to & 0xffff) | 8 << 16 | 0x8e00ull << 32 | (to >> 16 & 0xffff) << 48;
+		gates[at].low = (to & 0xffff) | 8 << 16 | 0x8e00ull << 32 | (to >> 16) << 48;
 	}
-	__asm__ volatile("lidt %0" : : "m"(table) : "memory");
+	__asm__ volatile("lidt %0" : : "m"(table.limit), "m"(table) : "memory");
 }
 
 /* The timer at 1000 Hz, as interrupt 32, and no other. */
 static void set_timer(void)
 {
-	static const uint8_t writes[][2] = { { 0x20, 0x11 }, { 0xa0, 0x11 }, { 0x21, 32 }, { 0xa1, 40 }, { 0x21, 4 }, { 0xa1, 2 },
-		{ 0x21, 1 }, { 0xa1, 1 }, { 0x21, 0xfe }, { 0xa1, 0xff }, { 0x43, 0x34 }, { 0x40, 0xa9 }, { 0x40, 0x04 } };
+	static const uint8_t writes[] = {	/* a port and a value each */
+		0x20, 0x11, 0xa0, 0x11, 0x21, 32, 0xa1, 40, 0x21, 4, 0xa1, 2, 0x21, 1, 0xa1, 1,
+		0x21, 0xfe, 0xa1, 0xff, 0x43, 0x34, 0x40, 0xa9, 0x40, 0x04,
+	};
 
-	for (unsigned at = 0; at < sizeof writes / 2; at++)
-		out8(writes[at][0], writes[at][1]);
+	for (unsigned at = 0; at < sizeof writes; at += 2)
+		out8(writes[at], writes[at + 1]);
 }
 
 void kernel_main(void)

@@ -1,4 +1,4 @@
-/* The threads: nice level, slice in ns, for how many ticks each computes and sleeps in a round, and how many rounds there are. */
+/* Of each thread: nice level, slice in ns, ticks to compute and to sleep in a round, and rounds. */
 { 0, 3000000, 700, 0, 1 },
 { 0, 3000000, 700, 0, 1 },
 { 5, 3000000, 200, 0, 1 },

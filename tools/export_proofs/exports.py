@@ -68,6 +68,7 @@ def at_pointer(text):
 
 
 def read_export(found, source, module):
+    """An export by what is found of it, or None where its body isn't one call of `calls`."""
     name, params, is_answered, clauses, body = found.groups()
     made = re.fullmatch(r"calls::([\w:]+)\((.*)\)", flat(body))
     if not made:
@@ -104,7 +105,9 @@ def words_of(export):
     """What the clauses say, word by word."""
     pointers = [p for p in export.params if isinstance(p, Pointer)]
     said = [*(text for _, text in export.facts), *(p.before for p in pointers), *(p.after for p in pointers)]
-    return set(re.findall(r"\w+|↔", " ".join(said)))
+    text = " ".join(said)
+    # an operator such as <ℤ has a letter in it, and stands between spaces
+    return {*re.findall(r"\w+|[^\w\s().]+", text), *text.split()}
 
 
 def find_imports(source, export):
@@ -120,12 +123,15 @@ def find_imports(source, export):
 
 
 def read_exports(folder):
-    """All exports of a folder of sources, in their order, and where its types stand."""
-    found, types = [], {}
+    """The exports of a folder of sources that make one call, in their order; the names of the others; and where the types stand."""
+    found, others, types = [], [], {}
     for file in sorted(folder.glob("*.rt")):
         source = file.read_text()
         for path, name in re.findall(r"^use crate::((?:\w+::)+)(\w+);", source, re.M):
             types[name] = path.replace("::", ".") + name
         for it in EXPORT.finditer(source):
-            found.append(read_export(it, source, file.stem))
-    return [it for it in found if it], types
+            if export := read_export(it, source, file.stem):
+                found.append(export)
+            else:
+                others.append(it[1])
+    return found, others, types

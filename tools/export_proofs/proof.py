@@ -130,13 +130,29 @@ class Proof(Statement):
     # ---- what the call gives back
     def facts(self):
         """What the call ensures: its answer, what is behind each `&mut` afterwards, and the rest."""
-        after = [
-            (f"after{self.number[p.name]}", f"ws{at(i)} ≡ {p.after}")
-            for i, p in enumerate(self.export.arguments)
-            if isinstance(p, Pointer) and p.is_mut
-        ]
-        said = self.export.facts
+        after = [(f"after{self.number[p.name]}", f"{left} ≡ {p.after}") for left, p in self.left()]
+        said = [(name, self.in_call(text)) for name, text in self.export.facts]
         return [f for f in said if f[0] == "answer"] + after + [f for f in said if f[0] != "answer"]
+
+    def left(self):
+        """How the call names what it leaves behind each `&mut`, with the pointer."""
+        return [(f"ws{at(i)}", p) for i, p in enumerate(self.export.arguments) if isinstance(p, Pointer) and p.is_mut]
+
+    def in_call(self, text):
+        """A fact as the call says it: of what it leaves behind a `&mut`, where the export names the value."""
+        for left, p in self.left():
+            text = text.replace(p.after, left)
+        return text
+
+    def shown(self, name, said):
+        """The proof of what the export says, from the call's fact of this name."""
+        proof, text = name, self.in_call(said)
+        for left, p in self.left():
+            if left in text:
+                what = text.replace(left, "m")
+                proof = f"(subst (λ (m : {self.row(p)}.Denot). {what}) after{self.number[p.name]} {proof})"
+                text = text.replace(left, p.after)
+        return proof
 
     def lasts(self):
         """The type of what the call says at its end of each argument."""
@@ -224,7 +240,7 @@ class Proof(Statement):
         owned = [*["result"] * self.export.is_answered, *[f"at {p.name}" for p in self.pointers]]
         w.keep(*owned)
         for name, said in reversed(self.export.facts):
-            w.step(f"use0 𝓛 (raw (fact 𝓤 ({said}))) (fact_i 𝓤 ({said}) (emp 𝓤) {name})")
+            w.step(f"use0 𝓛 (raw (fact 𝓤 ({said}))) (fact_i 𝓤 ({said}) (emp 𝓤) {self.shown(name, said)})")
             w.becomes(0, name)
             w.line()
         w.first(*owned)

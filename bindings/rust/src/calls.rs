@@ -1,6 +1,7 @@
 //! The calls of eevdf.h.
 
-use crate::queue::Entry;
+use crate::hand::Parcel;
+use crate::queue::{Entry, Sleeper};
 use core::ffi::c_void;
 
 extern "C" {
@@ -9,17 +10,23 @@ extern "C" {
     pub fn eevdf_close(queue: *mut c_void);
     pub fn eevdf_admit(queue: *mut c_void, task: u64, nice: i64, slice_ns: u64, start: i64) -> i64;
     pub fn eevdf_pick(queue: *mut c_void) -> i64;
+    pub fn eevdf_peek(queue: *const c_void) -> i64;
     pub fn eevdf_tick(queue: *mut c_void, ns: u64) -> i64;
+    pub fn eevdf_time_to_resched(queue: *const c_void) -> i64;
     pub fn eevdf_yield(queue: *mut c_void) -> i64;
     pub fn eevdf_stop(queue: *mut c_void) -> i64;
     pub fn eevdf_sleep(queue: *mut c_void, task: u64) -> i64;
     pub fn eevdf_wake(queue: *mut c_void, task: u64) -> i64;
     pub fn eevdf_end(queue: *mut c_void, task: u64) -> i64;
     pub fn eevdf_renice(queue: *mut c_void, task: u64, nice: i64) -> i64;
+    pub fn eevdf_set_slice(queue: *mut c_void, task: u64, slice_ns: u64) -> i64;
+    pub fn eevdf_rebase(queue: *mut c_void, by: *mut i64) -> i64;
     pub fn eevdf_hand_open(hand: *mut c_void);
     pub fn eevdf_hand_task(hand: *const c_void) -> i64;
+    pub fn eevdf_hand_parcel(hand: *const c_void, out: *mut Parcel) -> i64;
     pub fn eevdf_hand_close(hand: *mut c_void);
     pub fn eevdf_take(queue: *mut c_void, hand: *mut c_void, task: u64) -> i64;
+    pub fn eevdf_take_any(queue: *mut c_void, hand: *mut c_void) -> i64;
     pub fn eevdf_put(queue: *mut c_void, hand: *mut c_void) -> i64;
     pub fn eevdf_put_asleep(queue: *mut c_void, hand: *mut c_void) -> i64;
     pub fn eevdf_len(queue: *const c_void) -> i64;
@@ -28,6 +35,7 @@ extern "C" {
     pub fn eevdf_running(queue: *const c_void) -> i64;
     pub fn eevdf_candidate(queue: *const c_void) -> i64;
     pub fn eevdf_entry_of(queue: *const c_void, task: u64, out: *mut Entry) -> i64;
+    pub fn eevdf_sleeper_of(queue: *const c_void, task: u64, out: *mut Sleeper) -> i64;
     pub fn eevdf_lag(queue: *const c_void, task: u64, lag: *mut i64) -> i64;
     pub fn eevdf_is_asleep(queue: *const c_void, task: u64) -> i64;
     pub fn eevdf_contains(queue: *const c_void, task: u64) -> i64;

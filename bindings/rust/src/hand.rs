@@ -1,11 +1,27 @@
 //! A task on its way between two queues.
 
 use crate::calls;
-use crate::error::checked;
+use crate::error::{checked, done};
 use crate::memory::HandMemory;
 use core::ffi::c_void;
 use core::marker::PhantomData;
 use core::ptr::NonNull;
+
+/// What a task in a hand has.
+#[repr(C)]
+#[derive(Clone, Copy, PartialEq, Eq, Debug, Default)]
+pub struct Parcel {
+    /// The number.
+    pub task: u64,
+    /// The nice level.
+    pub nice: i64,
+    /// The slice in nanoseconds.
+    pub slice_ns: u64,
+    /// The virtual runtime where it left; of one that slept, the virtual time there.
+    pub start: i64,
+    /// The lag.
+    pub lag: i64,
+}
 
 /// A task on its way between two queues, or nothing. Where it is dropped, a task in it ends.
 pub struct Hand<'a> {
@@ -29,6 +45,14 @@ impl<'a> Hand<'a> {
     pub fn task(&self) -> Option<u64> {
         // SAFETY: it points to an opened hand that is borrowed
         checked(unsafe { calls::eevdf_hand_task(self.at.as_ptr()) }).ok()
+    }
+
+    /// What the task in the hand has.
+    pub fn parcel(&self) -> Option<Parcel> {
+        let mut parcel = Parcel::default();
+        // SAFETY: it points to an opened hand that is borrowed, and the parcel is written to alone
+        done(unsafe { calls::eevdf_hand_parcel(self.at.as_ptr(), &mut parcel) }).ok()?;
+        Some(parcel)
     }
 
     /// The place of the hand, for a call that changes it.

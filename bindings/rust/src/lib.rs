@@ -57,9 +57,9 @@ mod memory;
 mod queue;
 
 pub use error::{Error, Result};
-pub use hand::Hand;
+pub use hand::{Hand, Parcel};
 pub use memory::{HandMemory, QueueMemory};
-pub use queue::{Entry, Queue};
+pub use queue::{Entry, Queue, Sleeper};
 
 /// How many numbers there are for tasks, from 0 on.
 pub const TASKS: u64 = 1024;

@@ -22,6 +22,18 @@ pub struct Entry {
     pub slice_ns: u64,
 }
 
+/// What a queue keeps of a sleeping task.
+#[repr(C)]
+#[derive(Clone, Copy, PartialEq, Eq, Debug, Default)]
+pub struct Sleeper {
+    /// The lag that it keeps.
+    pub lag: i64,
+    /// The nice level.
+    pub nice: i64,
+    /// The slice in nanoseconds.
+    pub slice_ns: u64,
+}
+
 /// The run queue of one CPU, with the tasks that are runnable here and those that sleep here. Where it is dropped, all of them end.
 ///
 /// An error changes nothing. Every call that takes the number of a task answers [`Error::Invalid`](crate::Error::Invalid) from
@@ -57,11 +69,23 @@ impl<'a> Queue<'a> {
         checked(unsafe { calls::eevdf_pick(self.at.as_ptr()) }).ok()
     }
 
+    /// The task that a pick would let run now. Where it isn't the running one, that one is to be preempted. `None` where nothing is
+    /// runnable.
+    pub fn peek(&self) -> Option<u64> {
+        checked(unsafe { calls::eevdf_peek(self.at.as_ptr()) }).ok()
+    }
+
     /// Charges the running task for 1 to 1000000000 nanoseconds. Whether its request is used up, so that it is time to pick.
     ///
     /// `Invalid`, `Absent` where nobody runs, or `Range`.
     pub fn tick(&mut self, ns: u64) -> Result<bool> {
         checked(unsafe { calls::eevdf_tick(self.at.as_ptr(), ns) }).map(|answer| answer == 1)
+    }
+
+    /// The shortest time in nanoseconds whose tick uses up the running task's request. `None` where nobody runs, or where the longest
+    /// tick, of a second, leaves some of the request.
+    pub fn time_to_resched(&self) -> Option<u64> {
+        checked(unsafe { calls::eevdf_time_to_resched(self.at.as_ptr()) }).ok()
     }
 
     /// Makes the running task's deadline later by the charge of a slice. It runs on until the next pick.
@@ -104,11 +128,35 @@ impl<'a> Queue<'a> {
         done(unsafe { calls::eevdf_renice(self.at.as_ptr(), task, nice) })
     }
 
+    /// Gives a task another slice, from 100000 to 100000000 nanoseconds, runnable or asleep. The request that stands keeps its deadline,
+    /// and the lag that a sleeping task keeps is cut to its new limit.
+    ///
+    /// `Invalid`, or `Absent` where it isn't here.
+    pub fn set_slice(&mut self, task: u64, slice_ns: u64) -> Result<()> {
+        done(unsafe { calls::eevdf_set_slice(self.at.as_ptr(), task, slice_ns) })
+    }
+
+    /// Lowers all virtual times by one number, so that the virtual time is 0, and gives the number. Where a virtual time would leave its
+    /// range, as no task within 2^59 of the time 0 can make it, nothing changes, and the number is 0.
+    pub fn rebase(&mut self) -> i64 {
+        let mut by = 0;
+        unsafe { calls::eevdf_rebase(self.at.as_ptr(), &mut by) };
+        by
+    }
+
     /// Takes a task into the hand, with its lag, whether it runs, waits or sleeps.
     ///
     /// `Busy` where the hand holds a task, or `Absent` where the task isn't here.
     pub fn take(&mut self, hand: &mut Hand<'_>, task: u64) -> Result<()> {
         done(unsafe { calls::eevdf_take(self.at.as_ptr(), hand.place(), task) })
+    }
+
+    /// Takes some task into the hand, with its lag, and gives its number: the one that a pick would let run, or, where none is runnable,
+    /// the sleeping one of lowest number.
+    ///
+    /// `Busy` where the hand holds a task, or `Absent` where no task is here.
+    pub fn take_any(&mut self, hand: &mut Hand<'_>) -> Result<u64> {
+        checked(unsafe { calls::eevdf_take_any(self.at.as_ptr(), hand.place()) })
     }
 
     /// Puts the task in the hand here: runnable, placed with its lag. On an error the hand keeps it.
@@ -164,6 +212,15 @@ impl<'a> Queue<'a> {
         let mut entry = Entry::default();
         done(unsafe { calls::eevdf_entry_of(self.at.as_ptr(), task, &mut entry) })?;
         Ok(entry)
+    }
+
+    /// What the queue keeps of a sleeping task.
+    ///
+    /// `Absent` where it doesn't sleep here.
+    pub fn sleeper(&self, task: u64) -> Result<Sleeper> {
+        let mut sleeper = Sleeper::default();
+        done(unsafe { calls::eevdf_sleeper_of(self.at.as_ptr(), task, &mut sleeper) })?;
+        Ok(sleeper)
     }
 
     /// The lag that a runnable task would keep if it left now, or that a sleeping one keeps.

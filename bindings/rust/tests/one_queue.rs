@@ -1,6 +1,6 @@
 //! One queue: turns, sleeps, errors.
 
-use eevdf::{Entry, Error, Queue, QueueMemory};
+use eevdf::{Entry, Error, Hand, HandMemory, Queue, QueueMemory, Sleeper};
 
 const SLICE: u64 = 3_000_000;
 
@@ -32,6 +32,8 @@ fn a_sleeper_keeps_its_lag() {
     assert!(!queue.tick(2_000_000).unwrap());
     queue.sleep(0).unwrap();
     assert_eq!((queue.lag(0), queue.is_asleep(0), queue.running()), (Ok(-1_000_000), Ok(true), None));
+    assert_eq!(queue.sleeper(0), Ok(Sleeper { lag: -1_000_000, nice: 0, slice_ns: SLICE }));
+    assert_eq!(queue.sleeper(1), Err(Error::Absent));
     queue.wake(0).unwrap();
     assert_eq!(queue.entry(0), Ok(Entry { vruntime: 2_000_000, deadline: 5_000_000, nice: 0, slice_ns: SLICE }));
     assert_eq!(queue.lag(0), Ok(-1_000_000));
@@ -76,5 +78,65 @@ fn all_other_calls_do_what_they_say() {
     assert_eq!(queue.load(), 1024 + 335);
     queue.end(7).unwrap();
     assert_eq!(queue.len(), 1);
-    assert_eq!(eevdf::version(), 1000);
+    assert_eq!(eevdf::version(), 2000);
+}
+
+#[test]
+fn a_timer_needs_no_ticks() {
+    let mut memory = QueueMemory::new();
+    let mut queue = Queue::open(&mut memory);
+    assert_eq!((queue.peek(), queue.time_to_resched()), (None, None));
+    queue.admit(0, 0, SLICE, 0).unwrap();
+    queue.admit(1, 0, SLICE, 0).unwrap();
+    assert_eq!((queue.pick(), queue.peek(), queue.time_to_resched()), (Some(0), Some(0), Some(SLICE)));
+    assert!(!queue.tick(SLICE - 1).unwrap());
+    assert_eq!((queue.peek(), queue.running(), queue.time_to_resched()), (Some(1), Some(0), Some(1)));
+    assert!(queue.tick(1).unwrap());
+}
+
+#[test]
+fn a_slice_is_that_of_the_next_request() {
+    let mut memory = QueueMemory::new();
+    let mut queue = Queue::open(&mut memory);
+    queue.admit(0, 0, SLICE, 0).unwrap();
+    assert_eq!(queue.set_slice(0, 0), Err(Error::Invalid));
+    assert_eq!(queue.set_slice(1, SLICE), Err(Error::Absent));
+    queue.set_slice(0, 1_000_000).unwrap();
+    assert_eq!(queue.entry(0), Ok(Entry { vruntime: 0, deadline: 3_000_000, nice: 0, slice_ns: 1_000_000 }));
+    assert_eq!(queue.pick(), Some(0));
+    assert!(queue.tick(SLICE).unwrap());
+    assert_eq!(queue.entry(0).unwrap().deadline, 4_000_000);
+}
+
+#[test]
+fn a_queue_starts_from_time_zero_again() {
+    let mut memory = QueueMemory::new();
+    let mut queue = Queue::open(&mut memory);
+    queue.admit(0, 0, SLICE, -5).unwrap();
+    assert_eq!((queue.rebase(), queue.floor_time(), queue.rebase()), (-5, 0, 0));
+    assert_eq!(queue.entry(0), Ok(Entry { vruntime: 0, deadline: 3_000_000, nice: 0, slice_ns: SLICE }));
+}
+
+#[test]
+fn a_queue_is_emptied_task_by_task() {
+    let mut memory = QueueMemory::new();
+    let mut queue = Queue::open(&mut memory);
+    queue.admit(4, 0, SLICE, 0).unwrap();
+    assert_eq!(queue.pick(), Some(4));
+    queue.sleep(4).unwrap();
+    queue.admit(5, 0, SLICE, 0).unwrap();
+    queue.admit(6, 0, SLICE, 0).unwrap();
+    let taken: Vec<_> = (0..4)
+        .map(|_| {
+            let mut place = HandMemory::new();
+            let mut hand = Hand::open(&mut place);
+            let taken = queue.take_any(&mut hand);
+            assert_eq!(hand.task(), taken.ok());
+            if taken.is_ok() {
+                assert_eq!(queue.take_any(&mut hand), Err(Error::Busy));
+            }
+            taken
+        })
+        .collect();
+    assert_eq!(taken, [Ok(5), Ok(6), Ok(4), Err(Error::Absent)]);
 }

@@ -1,6 +1,6 @@
 //! Two queues in locks of their own, and a task that moves between them in a hand.
 
-use eevdf::{Error, Hand, HandMemory, Queue, QueueMemory};
+use eevdf::{Error, Hand, HandMemory, Parcel, Queue, QueueMemory};
 use std::sync::Mutex;
 use std::thread;
 
@@ -18,8 +18,9 @@ fn a_task_moves_in_a_hand() {
     from.take(&mut hand, 1).unwrap();
     assert_eq!(from.take(&mut hand, 0), Err(Error::Busy));
     assert_eq!((hand.task(), from.contains(1)), (Some(1), Ok(false)));
+    assert_eq!(hand.parcel(), Some(Parcel { task: 1, nice: 0, slice_ns: SLICE, start: 0, lag: 0 }));
     to.put(&mut hand).unwrap();
-    assert_eq!((hand.task(), to.pick()), (None, Some(1)));
+    assert_eq!((hand.task(), hand.parcel(), to.pick()), (None, None, Some(1)));
     to.take(&mut hand, 1).unwrap();
     from.put_asleep(&mut hand).unwrap();
     assert_eq!(from.is_asleep(1), Ok(true));

@@ -1,5 +1,7 @@
-/* errors.c: each error of each call once, in the order in which the header names them, and that it has changed nothing. Ends with 1 where
- * an answer or a state is another. */
+/*
+ * errors.c: each error of each call once, in the order in which the header names them, and that it
+ * has changed nothing. Ends with 1 where an answer or a state is another.
+ */
 #include "state.h"
 
 #include <stdbool.h>
@@ -34,23 +36,23 @@ static void fail(const char *what, int64_t answer)
 }
 
 /* Looks whether a call answers this, and changes nothing. */
-#define ANSWERS(wanted, call)												\
-	do {														\
-		struct state before = state_of(&queue, &hand), other_before = state_of(&other, &full);			\
-		int64_t answer = (call);										\
-		struct state after = state_of(&queue, &hand), other_after = state_of(&other, &full);			\
-															\
-		looked_at++;												\
-		if (answer != (wanted) || !is_same(&before, &after) || !is_same(&other_before, &other_after))		\
-			fail(#call, answer);										\
+#define ANSWERS(wanted, call)								\
+	do {										\
+		struct state before[] = { state_of(&queue, &hand), state_of(&other, &full) };	\
+		int64_t answer = (call);						\
+		struct state after[] = { state_of(&queue, &hand), state_of(&other, &full) };	\
+											\
+		looked_at++;								\
+		if (answer != (wanted) || memcmp(before, after, sizeof before) != 0)	\
+			fail(#call, answer);						\
 	} while (0)
 
-#define DONE(call)													\
-	do {														\
-		int64_t answer = (call);										\
-															\
-		if (answer != 0)											\
-			fail(#call, answer);										\
+#define DONE(call)									\
+	do {										\
+		int64_t answer = (call);						\
+											\
+		if (answer != 0)							\
+			fail(#call, answer);						\
 	} while (0)
 
 static int64_t admit_without_memory(uint64_t task, int64_t start)
@@ -68,9 +70,13 @@ static void look_at_empty(void)
 {
 	int64_t number = 0;
 	eevdf_entry entry = { 0, 0, 0, 0 };
+	eevdf_sleeper sleeper = { 0, 0, 0 };
+	eevdf_parcel parcel = { 0, 0, 0, 0, 0 };
 
 	ANSWERS(EEVDF_ABSENT, eevdf_pick(&queue));
+	ANSWERS(EEVDF_ABSENT, eevdf_peek(&queue));
 	ANSWERS(EEVDF_ABSENT, eevdf_tick(&queue, 1));
+	ANSWERS(EEVDF_ABSENT, eevdf_time_to_resched(&queue));
 	ANSWERS(EEVDF_ABSENT, eevdf_yield(&queue));
 	ANSWERS(EEVDF_ABSENT, eevdf_stop(&queue));
 	ANSWERS(EEVDF_ABSENT, eevdf_running(&queue));
@@ -79,26 +85,43 @@ static void look_at_empty(void)
 	ANSWERS(EEVDF_ABSENT, eevdf_wake(&queue, 0));
 	ANSWERS(EEVDF_ABSENT, eevdf_end(&queue, 0));
 	ANSWERS(EEVDF_ABSENT, eevdf_renice(&queue, 0, 0));
+	ANSWERS(EEVDF_ABSENT, eevdf_set_slice(&queue, 0, SLICE));
+	ANSWERS(0, eevdf_rebase(&queue, &number));
+	if (number != 0)
+		fail("an empty queue at the time 0 is moved", number);
 	ANSWERS(EEVDF_ABSENT, eevdf_entry_of(&queue, 0, &entry));
+	ANSWERS(EEVDF_ABSENT, eevdf_sleeper_of(&queue, 0, &sleeper));
 	ANSWERS(EEVDF_ABSENT, eevdf_lag(&queue, 0, &number));
 	ANSWERS(EEVDF_ABSENT, eevdf_hand_task(&hand));
+	ANSWERS(EEVDF_ABSENT, eevdf_hand_parcel(&hand, &parcel));
 	ANSWERS(EEVDF_ABSENT, eevdf_take(&queue, &hand, 0));
+	ANSWERS(EEVDF_ABSENT, eevdf_take_any(&queue, &hand));
 	ANSWERS(EEVDF_ABSENT, eevdf_put(&queue, &hand));
 	ANSWERS(EEVDF_ABSENT, eevdf_put_asleep(&queue, &hand));
 	ANSWERS(0, eevdf_is_asleep(&queue, 0));
 	ANSWERS(0, eevdf_contains(&queue, 0));
 }
 
-/* Numbers a little past their limits, and far from them. Each comes with what would be another error, which is named later. */
+/*
+ * Numbers a little past their limits, and far from them. Each comes with what would be another
+ * error, which is named later.
+ */
 static void look_at_numbers(void)
 {
 	static const uint64_t tasks[] = { EEVDF_TASKS, UINT32_MAX + 1ull, UINT64_MAX };
-	static const int64_t levels[] = { EEVDF_NICE_MIN - 1, EEVDF_NICE_MAX + 1, INT64_MIN, INT64_MAX, 1ll << 32 };
-	static const uint64_t slices[] = { 0, EEVDF_SLICE_MIN - 1, EEVDF_SLICE_MAX + 1, (1ull << 32) + SLICE, UINT64_MAX };
-	static const int64_t starts[] = { EEVDF_TIME_MAX + 1, -EEVDF_TIME_MAX - 1, INT64_MAX, INT64_MIN };
+	static const int64_t levels[] = {
+		EEVDF_NICE_MIN - 1, EEVDF_NICE_MAX + 1, INT64_MIN, INT64_MAX, 1ll << 32,
+	};
+	static const uint64_t slices[] = {
+		0, EEVDF_SLICE_MIN - 1, EEVDF_SLICE_MAX + 1, (1ull << 32) + SLICE, UINT64_MAX,
+	};
+	static const int64_t starts[] = {
+		EEVDF_TIME_MAX + 1, -EEVDF_TIME_MAX - 1, INT64_MAX, INT64_MIN,
+	};
 	static const uint64_t ticks[] = { 0, EEVDF_TICK_MAX + 1, (1ull << 32) + 1, UINT64_MAX };
 	int64_t number = 0;
 	eevdf_entry entry = { 0, 0, 0, 0 };
+	eevdf_sleeper sleeper = { 0, 0, 0 };
 
 	for (size_t at = 0; at < sizeof tasks / sizeof *tasks; at++) {
 		ANSWERS(EEVDF_INVALID, eevdf_admit(&queue, tasks[at], 0, SLICE, 0));
@@ -106,8 +129,10 @@ static void look_at_numbers(void)
 		ANSWERS(EEVDF_INVALID, eevdf_wake(&queue, tasks[at]));
 		ANSWERS(EEVDF_INVALID, eevdf_end(&queue, tasks[at]));
 		ANSWERS(EEVDF_INVALID, eevdf_renice(&queue, tasks[at], 0));
+		ANSWERS(EEVDF_INVALID, eevdf_set_slice(&queue, tasks[at], SLICE));
 		ANSWERS(EEVDF_INVALID, eevdf_take(&queue, &full, tasks[at]));
 		ANSWERS(EEVDF_INVALID, eevdf_entry_of(&queue, tasks[at], &entry));
+		ANSWERS(EEVDF_INVALID, eevdf_sleeper_of(&queue, tasks[at], &sleeper));
 		ANSWERS(EEVDF_INVALID, eevdf_lag(&queue, tasks[at], &number));
 		ANSWERS(EEVDF_INVALID, eevdf_is_asleep(&queue, tasks[at]));
 		ANSWERS(EEVDF_INVALID, eevdf_contains(&queue, tasks[at]));
@@ -119,6 +144,7 @@ static void look_at_numbers(void)
 	}
 	for (size_t at = 0; at < sizeof slices / sizeof *slices; at++) {
 		ANSWERS(EEVDF_INVALID, eevdf_admit(&queue, 1, 0, slices[at], 0));
+		ANSWERS(EEVDF_INVALID, eevdf_set_slice(&queue, 15, slices[at]));
 		ANSWERS(EEVDF_INVALID, eevdf_can_place(&queue, 0, slices[at], 0));
 	}
 	for (size_t at = 0; at < sizeof starts / sizeof *starts; at++)
@@ -135,6 +161,8 @@ static void look_at_places(void)
 {
 	int64_t lag = 0;
 	eevdf_entry entry = { 0, 0, 0, 0 };
+	eevdf_sleeper sleeper = { 0, 0, 0 };
+	eevdf_parcel parcel = { 0, 0, 0, 0, 0 };
 
 	ANSWERS(EEVDF_PRESENT, admit_without_memory(1, EEVDF_TIME_MAX));
 	ANSWERS(EEVDF_PRESENT, eevdf_admit(&queue, 3, 0, SLICE, 0));
@@ -144,14 +172,39 @@ static void look_at_places(void)
 	ANSWERS(EEVDF_ABSENT, eevdf_sleep(&queue, 3));
 	ANSWERS(EEVDF_ABSENT, eevdf_renice(&queue, 3, 1));
 	ANSWERS(EEVDF_ABSENT, eevdf_entry_of(&queue, 3, &entry));
+	ANSWERS(EEVDF_ABSENT, eevdf_sleeper_of(&queue, 1, &sleeper));
+	ANSWERS(0, eevdf_sleeper_of(&queue, 3, &sleeper));
 	ANSWERS(0, eevdf_lag(&queue, 3, &lag));
+	if (sleeper.lag != lag || sleeper.nice != 0 || sleeper.slice_ns != SLICE)
+		fail("a sleeping task has another lag, nice level or slice", sleeper.lag);
+	ANSWERS(0, eevdf_hand_parcel(&full, &parcel));
+	if (parcel.task != 2 || parcel.nice != 0 || parcel.slice_ns != SLICE || parcel.lag != 0)
+		fail("the task in a hand is another", (int64_t)parcel.task);
 	ANSWERS(1, eevdf_is_asleep(&queue, 3));
 	ANSWERS(EEVDF_BUSY, eevdf_take(&queue, &full, 1));
 	ANSWERS(EEVDF_BUSY, eevdf_take(&queue, &full, 9));
+	ANSWERS(EEVDF_BUSY, eevdf_take_any(&queue, &full));
+	ANSWERS(EEVDF_BUSY, eevdf_take_any(&other, &full));
+	ANSWERS(EEVDF_ABSENT, eevdf_time_to_resched(&queue));
+	ANSWERS(1, eevdf_peek(&queue));
 	ANSWERS(2, eevdf_hand_task(&full));
 	DONE(eevdf_admit(&queue, 2, 0, SLICE, 0));
 	ANSWERS(EEVDF_PRESENT, eevdf_put(&queue, &full));
 	ANSWERS(EEVDF_PRESENT, eevdf_put_asleep(&queue, &full));
+}
+
+/* A task that runs on after ten yields has a request that no tick uses up, and before it has one. */
+static void look_at_yields(void)
+{
+	DONE(eevdf_admit(&other, 9, 0, EEVDF_SLICE_MAX, 0));
+	DONE(eevdf_pick(&other) - 9);
+	for (int64_t yields = 1; yields <= 10; yields++) {
+		ANSWERS(yields * EEVDF_SLICE_MAX, eevdf_time_to_resched(&other));
+		DONE(eevdf_yield(&other));
+	}
+	ANSWERS(EEVDF_ABSENT, eevdf_time_to_resched(&other));
+	ANSWERS(9, eevdf_running(&other));
+	DONE(eevdf_end(&other, 9));
 }
 
 /* A queue whose tasks stand at the upper end of the range. */
@@ -164,6 +217,7 @@ static void look_at_range(void)
 	DONE(eevdf_pick(&queue) - 5);
 	ANSWERS(EEVDF_RANGE, eevdf_tick(&queue, EEVDF_TICK_MAX));
 	ANSWERS(EEVDF_RANGE, eevdf_tick(&queue, SLICE));
+	ANSWERS(SLICE, eevdf_time_to_resched(&queue));
 	ANSWERS(EEVDF_RANGE, eevdf_yield(&queue));
 	ANSWERS(EEVDF_RANGE, eevdf_renice(&queue, 5, 19));
 	DONE(eevdf_sleep(&queue, 5));
@@ -193,6 +247,7 @@ int main(void)
 	DONE(eevdf_admit(&queue, 1, 0, SLICE, 0));
 	look_at_numbers();
 	look_at_places();
+	look_at_yields();
 	look_at_range();
 	eevdf_hand_close(&full);
 	eevdf_hand_close(&hand);

@@ -1,6 +1,10 @@
-/* memory.c: the bytes around queues, hands and blocks stay as they are; the library asks for one block of one size in each admit that gets
- * so far, for nothing in any other call, and gives back each block once; where a request is refused the admit says so, changes nothing, and
- * can be made again. Each request of a walk through the calls is refused in turn. Ends with 1 where it isn't so. */
+/*
+ * memory.c: the bytes around queues, hands and blocks stay as they are; the library asks for one
+ * block of one size in each admit that gets so far, for nothing in any other call, and gives back
+ * each block once; where a request is refused the admit says so, changes nothing, and can be made
+ * again. Each request of a walk through the calls is refused in turn. Ends with 1 where it isn't
+ * so.
+ */
 #include "state.h"
 
 #include <stdbool.h>
@@ -75,7 +79,7 @@ void rattle_dealloc(void *block)
 	fail("a block is given back that the library doesn't have");
 }
 
-/* Admits a task; where the request is refused, looks whether nothing has changed, and does it once more. */
+/* Admits a task; where the request is refused, looks that nothing has changed and does it again. */
 static void admit(eevdf_queue *queue, uint64_t task)
 {
 	const unsigned made = requests;
@@ -91,7 +95,7 @@ static void admit(eevdf_queue *queue, uint64_t task)
 	}
 	after = state_of(queue, &between.hand);
 	if (answer != EEVDF_NO_MEMORY || !is_same(&before, &after))
-		fail("an admit that is refused its memory says something else, or changes something");
+		fail("an admit without memory says something else, or changes something");
 	if (eevdf_admit(queue, task, (int64_t)task - 6, SLICE, 0) != 0)
 		fail("an admit can't be done again");
 }
@@ -108,9 +112,13 @@ static void turns(eevdf_queue *queue, unsigned count)
 /* Calls that move tasks, none of which asks for memory. */
 static void move(eevdf_queue *from, eevdf_queue *to, uint64_t task)
 {
-	int64_t running = eevdf_pick(from);
+	int64_t running = eevdf_pick(from), number = 0;
 
+	eevdf_peek(from);
+	eevdf_time_to_resched(from);
 	eevdf_sleep(from, (uint64_t)running);
+	eevdf_set_slice(from, (uint64_t)running, SLICE / 2);
+	eevdf_set_slice(from, task, 2 * SLICE);
 	eevdf_take(from, &between.hand, task);
 	if (task % 2 == 0)
 		eevdf_put(to, &between.hand);
@@ -119,10 +127,13 @@ static void move(eevdf_queue *from, eevdf_queue *to, uint64_t task)
 	eevdf_wake(from, (uint64_t)running);
 	eevdf_wake(to, task);
 	eevdf_renice(to, task, 3);
+	eevdf_rebase(to, &number);
+	eevdf_take_any(to, &between.hand);
+	eevdf_put(to, &between.hand);
 	eevdf_stop(from);
 }
 
-/* An admit whose deadline would leave the range asks for a block first, and gives it back at once. */
+/* An admit whose deadline would leave the range asks for a block first, and gives it back. */
 static void admit_out_of_range(eevdf_queue *queue, uint64_t task)
 {
 	const unsigned made = requests, back = given_back;
@@ -178,13 +189,18 @@ static void look_at_end(void)
 {
 	struct state state = state_of(&first.queue, &between.hand);
 
-	if (state.len != 0 || state.load != 0 || state.time != 0 || state.in_hand != EEVDF_ABSENT)
-		fail("a closed queue isn't as newly opened");
+	if (state.len != 0 || state.load != 0 || state.in_hand != EEVDF_ABSENT)
+		fail("a closed queue isn't empty, or a closed hand");
+	for (unsigned task = 0; task < STATE_TASKS; task++)
+		if (state.is_here[task] != 0)
+			fail("a task is in a closed queue");
 	for (unsigned at = 0; at < BLOCKS; at++)
 		if (blocks[at])
 			fail("a block isn't given back");
-	if (!is_marked(first.before) || !is_marked(first.after) || !is_marked(second.before) || !is_marked(second.after))
-		fail("the bytes around a queue have changed");
+	if (!is_marked(first.before) || !is_marked(first.after))
+		fail("the bytes around the first queue have changed");
+	if (!is_marked(second.before) || !is_marked(second.after))
+		fail("the bytes around the second queue have changed");
 	if (!is_marked(between.before) || !is_marked(between.after))
 		fail("the bytes around a hand have changed");
 }
@@ -203,6 +219,7 @@ int main(void)
 		met = requests;
 		refused_request++;
 	} while (refused_request <= met && failed == 0);
-	printf("%u requests refused in turn, %u blocks given back, %u things wrong\n", refused_request - 1, given_back, failed);
+	printf("%u requests refused in turn, %u blocks given back, %u things wrong\n",
+	       refused_request - 1, given_back, failed);
 	return failed > 0;
 }

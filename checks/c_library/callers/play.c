@@ -1,8 +1,11 @@
-/* play.c: makes the calls that standard input names, a line each, and prints each answer, with what else the call gives. A line is the name
- * of a call without `eevdf_`, the numbers of its queue and its hand where it has them, and its numbers. Besides,
+/*
+ * play.c: makes the calls that standard input names, a line each, and prints each answer, with what
+ * else the call gives. A line is the name of a call without `eevdf_`, the numbers of its queue and
+ * its hand where it has them, and its numbers. Besides,
  *   state QUEUE TASKS   prints all that can be read of a queue and its tasks below a number,
  *   refuse 1, refuse 0  let every request for memory be refused from there on, or none.
- * A changed byte around a queue or a hand ends it with 1. */
+ * A changed byte around a queue or a hand ends it with 1.
+ */
 #include <eevdf.h>
 #include <inttypes.h>
 #include <stdbool.h>
@@ -25,7 +28,7 @@ static struct {
 } hands[HANDS];
 
 static bool refuses;
-static int64_t written[4];
+static int64_t written[5];
 static unsigned written_count;
 
 eevdf_memory rattle_alloc(size_t size, size_t align)
@@ -42,7 +45,10 @@ void rattle_dealloc(void *block)
 	free(block);
 }
 
-/* The numbers of a line are taken as a call has its arguments: those above 2^63 as they are, and negative ones by their signs. */
+/*
+ * The numbers of a line are taken as a call has its arguments: those above 2^63 as they are, and
+ * negative ones by their signs.
+ */
 struct line {
 	char name[16];
 	uint64_t number[NUMBERS];
@@ -97,7 +103,8 @@ static int64_t play_admit(const struct line *line)
 {
 	const uint64_t *number = line->number;
 
-	return eevdf_admit(queue_of(line), number[1], (int64_t)number[2], number[3], (int64_t)number[4]);
+	return eevdf_admit(queue_of(line), number[1], (int64_t)number[2], number[3],
+			   (int64_t)number[4]);
 }
 
 static int64_t play_tick(const struct line *line)
@@ -110,9 +117,25 @@ static int64_t play_renice(const struct line *line)
 	return eevdf_renice(queue_of(line), line->number[1], (int64_t)line->number[2]);
 }
 
+static int64_t play_set_slice(const struct line *line)
+{
+	return eevdf_set_slice(queue_of(line), line->number[1], line->number[2]);
+}
+
+static int64_t play_rebase(const struct line *line)
+{
+	written_count = 1;
+	return eevdf_rebase(queue_of(line), &written[0]);
+}
+
 static int64_t play_take(const struct line *line)
 {
 	return eevdf_take(queue_of(line), hand_of(line, 1), line->number[2]);
+}
+
+static int64_t play_take_any(const struct line *line)
+{
+	return eevdf_take_any(queue_of(line), hand_of(line, 1));
 }
 
 static int64_t play_put(const struct line *line)
@@ -151,6 +174,32 @@ static int64_t play_entry_of(const struct line *line)
 	return answer;
 }
 
+static int64_t play_sleeper_of(const struct line *line)
+{
+	eevdf_sleeper sleeper = { -1, -1, 1 };
+	int64_t answer = eevdf_sleeper_of(queue_of(line), line->number[1], &sleeper);
+
+	written_count = 3;
+	written[0] = sleeper.lag;
+	written[1] = sleeper.nice;
+	written[2] = (int64_t)sleeper.slice_ns;
+	return answer;
+}
+
+static int64_t play_hand_parcel(const struct line *line)
+{
+	eevdf_parcel parcel = { 1, -1, 1, -1, -1 };
+	int64_t answer = eevdf_hand_parcel(hand_of(line, 0), &parcel);
+
+	written_count = 5;
+	written[0] = (int64_t)parcel.task;
+	written[1] = parcel.nice;
+	written[2] = (int64_t)parcel.slice_ns;
+	written[3] = parcel.start;
+	written[4] = parcel.lag;
+	return answer;
+}
+
 static int64_t play_can_place(const struct line *line)
 {
 	const uint64_t *number = line->number;
@@ -158,7 +207,10 @@ static int64_t play_can_place(const struct line *line)
 	return eevdf_can_place(queue_of(line), (int64_t)number[1], number[2], (int64_t)number[3]);
 }
 
-/* The calls of a queue alone, of a queue and a task, and of a queue that is read, by their names; and those above. */
+/*
+ * The calls of a queue alone, of a queue and a task, and of a queue that is read, by their names;
+ * and those above.
+ */
 static const struct {
 	const char *name;
 	int64_t (*change)(eevdf_queue *);
@@ -168,7 +220,9 @@ static const struct {
 	int64_t (*play)(const struct line *);
 } calls[] = {
 	{ .name = "pick", .change = eevdf_pick },
+	{ .name = "peek", .read = eevdf_peek },
 	{ .name = "tick", .play = play_tick },
+	{ .name = "time_to_resched", .read = eevdf_time_to_resched },
 	{ .name = "yield", .change = eevdf_yield },
 	{ .name = "stop", .change = eevdf_stop },
 	{ .name = "sleep", .change_task = eevdf_sleep },
@@ -176,7 +230,10 @@ static const struct {
 	{ .name = "end", .change_task = eevdf_end },
 	{ .name = "admit", .play = play_admit },
 	{ .name = "renice", .play = play_renice },
+	{ .name = "set_slice", .play = play_set_slice },
+	{ .name = "rebase", .play = play_rebase },
 	{ .name = "take", .play = play_take },
+	{ .name = "take_any", .play = play_take_any },
 	{ .name = "put", .play = play_put },
 	{ .name = "put_asleep", .play = play_put_asleep },
 	{ .name = "len", .read = eevdf_len },
@@ -185,6 +242,7 @@ static const struct {
 	{ .name = "candidate", .read = eevdf_candidate },
 	{ .name = "floor_time", .play = play_floor_time },
 	{ .name = "entry_of", .play = play_entry_of },
+	{ .name = "sleeper_of", .play = play_sleeper_of },
 	{ .name = "lag", .play = play_lag },
 	{ .name = "is_asleep", .read_task = eevdf_is_asleep },
 	{ .name = "contains", .read_task = eevdf_contains },
@@ -193,6 +251,7 @@ static const struct {
 	{ .name = "close", .play = play_close },
 	{ .name = "hand_open", .play = play_hand_open },
 	{ .name = "hand_task", .play = play_hand_task },
+	{ .name = "hand_parcel", .play = play_hand_parcel },
 	{ .name = "hand_close", .play = play_hand_close },
 	{ .name = "refuse", .play = play_refuse },
 };
@@ -228,14 +287,18 @@ static void print_answer(const struct line *line)
 static void print_task(const eevdf_queue *queue, uint64_t task)
 {
 	eevdf_entry entry = { 0, 0, 0, 0 };
+	eevdf_sleeper sleeper = { 0, 0, 0 };
 	int64_t lag = 0;
 
 	if (eevdf_contains(queue, task) != 1)
 		return;
 	eevdf_lag(queue, task, &lag);
 	printf(" %" PRIu64 ":%" PRId64, task, lag);
-	if (eevdf_is_asleep(queue, task) == 0 && eevdf_entry_of(queue, task, &entry) == 0)
-		printf(",%" PRId64 ",%" PRId64 ",%" PRId64 ",%" PRIu64, entry.vruntime, entry.deadline, entry.nice, entry.slice_ns);
+	if (eevdf_entry_of(queue, task, &entry) == 0)
+		printf(",%" PRId64 ",%" PRId64 ",%" PRId64 ",%" PRIu64, entry.vruntime,
+		       entry.deadline, entry.nice, entry.slice_ns);
+	if (eevdf_sleeper_of(queue, task, &sleeper) == 0)
+		printf(",%" PRId64 ",%" PRIu64, sleeper.nice, sleeper.slice_ns);
 }
 
 static void print_state(const struct line *line)

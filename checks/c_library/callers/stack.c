@@ -1,17 +1,36 @@
-/* stack.c: makes every call on a painted stack, with 1024 tasks and after many turns, and prints how deep the paint is gone. The functions
- * for memory take from a pool, and call nothing. Ends with 1 where that is more than the limit, 1024 bytes. */
+/*
+ * stack.c: makes every call but eevdf_rebase on a painted stack, then that too, and prints how deep
+ * the paint is gone: in many turns over 1024 tasks, and at the deepest trees that there can be. The
+ * functions for memory take from a pool, and call nothing. Ends with 1 where that is more than the
+ * limits, 1024 bytes, and 1536 with eevdf_rebase, which goes over the whole tree, or where a plan
+ * of a tree isn't kept.
+ */
 #define _GNU_SOURCE
+#include "deepest.h"
 #include <eevdf.h>
+#include <stdbool.h>
 #include <stdio.h>
 #include <string.h>
 #include <ucontext.h>
 
-enum { STACK = 65536, PAINT = 0xa5, LIMIT = 1024, TURNS = 100000 };
+enum { STACK = 65536, PAINT = 0xa5, LIMIT = 1024, REBASE_LIMIT = 1536, TURNS = 100000 };
+
+/*
+ * Of a planned tree: how far apart its deadlines are, when a task starts that is early, the number
+ * of one that comes besides, and one that stands for none.
+ */
+enum { GAP = EEVDF_SLICE_MIN, EARLY = -2 * GAP, VISITOR = EEVDF_TASKS - 1, NOBODY = EEVDF_TASKS };
+
+/* The calls by which a task leaves its place in the tree, at once for another one or not. */
+enum { TICK, YIELD, SET_SLICE, RENICE, SLEEP, TAKE, TAKE_ANY, END, WAYS };
 
 static _Alignas(16) unsigned char stack[STACK];
 static _Alignas(16) unsigned char pool[EEVDF_TASKS + 8][EEVDF_TASK_SIZE];
 static void *unused[EEVDF_TASKS + 8];
 static unsigned unused_count;
+static bool rebases;
+static struct plan plan;
+static unsigned other_picks;
 static eevdf_queue queue, other;
 static eevdf_hand hand;
 static const unsigned char *top;
@@ -42,18 +61,30 @@ static inline void turn(void)
 	uint64_t task = drawn(EEVDF_TASKS);
 	int64_t running = eevdf_pick(&queue), number = 0;
 	eevdf_entry entry = { 0, 0, 0, 0 };
+	eevdf_sleeper sleeper = { 0, 0, 0 };
+	eevdf_parcel parcel = { 0, 0, 0, 0, 0 };
 
+	eevdf_peek(&queue);
+	eevdf_time_to_resched(&queue);
 	eevdf_tick(&queue, 1 + drawn(3000000));
 	eevdf_yield(&queue);
 	eevdf_sleep(&queue, (uint64_t)running);
 	eevdf_renice(&queue, task, (int64_t)drawn(40) - 20);
+	eevdf_set_slice(&queue, task, 100000 + drawn(1000000));
+	eevdf_set_slice(&queue, (uint64_t)running, 3000000);
 	eevdf_take(&queue, &hand, task);
+	eevdf_hand_parcel(&hand, &parcel);
 	eevdf_put(&other, &hand);
 	eevdf_pick(&other);
 	eevdf_take(&other, &hand, task);
 	eevdf_put_asleep(&queue, &hand);
+	eevdf_sleeper_of(&queue, task, &sleeper);
 	eevdf_wake(&queue, task);
 	eevdf_wake(&queue, (uint64_t)running);
+	if (rebases && task == 0)
+		eevdf_rebase(&queue, &number);
+	if (eevdf_take_any(&queue, &hand) >= 0)
+		eevdf_put(&queue, &hand);
 	eevdf_candidate(&queue);
 	eevdf_len(&queue);
 	eevdf_load(&queue);
@@ -70,7 +101,7 @@ static inline void turn(void)
 	eevdf_admit(&queue, task, (int64_t)drawn(40) - 20, 100000 + drawn(1000000), number);
 }
 
-static void make_calls(void)
+static void make_turns(void)
 {
 	top = __builtin_frame_address(0);
 	eevdf_version();
@@ -78,7 +109,8 @@ static void make_calls(void)
 	eevdf_open(&other);
 	eevdf_hand_open(&hand);
 	for (uint64_t task = 0; task < EEVDF_TASKS; task++)
-		eevdf_admit(&queue, task, (int64_t)(task % 40) - 20, 3000000, (int64_t)drawn(10000000));
+		eevdf_admit(&queue, task, (int64_t)(task % 40) - 20, 3000000,
+			    (int64_t)drawn(10000000));
 	for (unsigned at = 0; at < TURNS; at++)
 		turn();
 	eevdf_take(&queue, &hand, 0);
@@ -87,21 +119,173 @@ static void make_calls(void)
 	eevdf_close(&other);
 }
 
-int main(void)
+static inline void admit(uint64_t task, int64_t start, int64_t deadline)
+{
+	eevdf_admit(&queue, task, 0, (uint64_t)(deadline - start), start);
+}
+
+/*
+ * Makes the planned tree, level by level. All tasks start at 0 but for one that starts earlier: it
+ * is the only eligible one, wherever it stands.
+ */
+static inline void grow(unsigned early)
+{
+	eevdf_open(&queue);
+	for (int level = 1; level <= plan.levels; level++)
+		for (unsigned place = 0; place < plan.count; place++)
+			if (plan.level_of[place] == level)
+				admit(place, place == early ? EARLY : 0,
+				      ((int64_t)place + 1) * GAP);
+}
+
+/*
+ * The only eligible task is let run, leaves its place in one of the ways, and comes back unless it
+ * has ended.
+ */
+static inline void leave(int way, uint64_t task)
+{
+	eevdf_entry entry = { 0, 0, 0, 0 };
+	int64_t lag = 0;
+
+	other_picks += eevdf_pick(&queue) != (int64_t)task;
+	eevdf_tick(&queue, 1);
+	eevdf_peek(&queue);
+	other_picks += eevdf_pick(&queue) != (int64_t)task;
+	eevdf_candidate(&queue);
+	eevdf_entry_of(&queue, task, &entry);
+	eevdf_lag(&queue, task, &lag);
+	switch (way) {
+	case TICK:
+		eevdf_tick(&queue, (uint64_t)eevdf_time_to_resched(&queue));
+		break;
+	case YIELD:
+		eevdf_yield(&queue);
+		break;
+	case SET_SLICE:
+		eevdf_set_slice(&queue, task, entry.slice_ns);
+		break;
+	case RENICE:
+		eevdf_renice(&queue, task, 0);
+		break;
+	case SLEEP:
+		eevdf_sleep(&queue, task);
+		eevdf_wake(&queue, task);
+		break;
+	case TAKE:
+		eevdf_take(&queue, &hand, task);
+		eevdf_put(&queue, &hand);
+		break;
+	case TAKE_ANY:
+		eevdf_take_any(&queue, &hand);
+		eevdf_put(&queue, &hand);
+		break;
+	case END:
+		eevdf_end(&queue, task);
+		break;
+	}
+}
+
+/* The task of a place leaves in each way, from a tree as planned each time. */
+static inline void leave_place(unsigned place)
+{
+	for (int way = 0; way < WAYS; way++) {
+		grow(place);
+		leave(way, place);
+		eevdf_close(&queue);
+	}
+}
+
+/*
+ * Another task comes into the gap before a place, leaves, comes back, and ends. To be put there by
+ * TICK or YIELD it comes into another gap first. In any gap it makes at most the lower of two sides
+ * higher, so the tree has its levels again when it has ended.
+ */
+static inline void visit_place(unsigned place)
+{
+	int64_t deadline = (int64_t)place * GAP + GAP / 2;
+
+	for (int way = 0; way < WAYS; way++) {
+		bool comes_later = way == TICK || way == YIELD;
+
+		admit(VISITOR, EARLY, comes_later ? (EARLY + deadline) / 2 : deadline);
+		leave(way, VISITOR);
+		eevdf_end(&queue, VISITOR);
+	}
+}
+
+/* Every call that goes down a tree, at the low places of the planned one. */
+static void make_calls_at_plan(void)
+{
+	top = __builtin_frame_address(0);
+	eevdf_hand_open(&hand);
+	for (unsigned place = 0; place < plan.count; place++)
+		if (is_near_low(&plan, place))
+			leave_place(place);
+	grow(NOBODY);
+	for (unsigned place = 0; place <= plan.count; place++)
+		if (is_near_low(&plan, place))
+			visit_place(place);
+	eevdf_close(&queue);
+}
+
+static void rebase_plan(void)
+{
+	int64_t by = 0;
+
+	top = __builtin_frame_address(0);
+	grow(0);
+	eevdf_rebase(&queue, &by);
+	eevdf_close(&queue);
+}
+
+/* How many bytes of the stack the calls take. */
+static int depth_of(void (*calls)(void))
 {
 	const unsigned char *lowest = stack;
 
-	for (unsigned at = 0; at < sizeof pool / sizeof *pool; at++)
-		rattle_dealloc(pool[at]);
 	memset(stack, PAINT, sizeof stack);
 	getcontext(&inside);
 	inside.uc_stack.ss_sp = stack;
 	inside.uc_stack.ss_size = sizeof stack;
 	inside.uc_link = &outside;
-	makecontext(&inside, make_calls, 0);
+	makecontext(&inside, calls, 0);
 	swapcontext(&outside, &inside);
 	while (*lowest == PAINT)
 		lowest++;
-	printf("at most %d bytes of stack in %d turns over %d tasks, with those of the caller\n", (int)(top - lowest), TURNS, EEVDF_TASKS);
-	return top - lowest > LIMIT || unused_count != sizeof pool / sizeof *pool;
+	return (int)(top - lowest);
+}
+
+/* The same at the deepest trees, of the shape at which it is most. */
+static int depth_at_plans(void (*calls)(void))
+{
+	int most = 0;
+
+	for (unsigned shape = 0; shape < SHAPES; shape++) {
+		int depth;
+
+		plan_tree(&plan, shape);
+		depth = depth_of(calls);
+		if (depth > most)
+			most = depth;
+	}
+	return most;
+}
+
+int main(void)
+{
+	int in_turns, in_turns_with_rebase, at_plans, at_plans_with_rebase;
+
+	for (unsigned at = 0; at < sizeof pool / sizeof *pool; at++)
+		rattle_dealloc(pool[at]);
+	in_turns = depth_of(make_turns);
+	rebases = true;
+	in_turns_with_rebase = depth_of(make_turns);
+	at_plans = depth_at_plans(make_calls_at_plan);
+	at_plans_with_rebase = depth_at_plans(rebase_plan);
+	printf("at most %d bytes of stack in %d turns over %d tasks, and %d with eevdf_rebase; at "
+	       "trees of %d levels %d and %d; with those of the caller\n", in_turns, TURNS,
+	       EEVDF_TASKS, in_turns_with_rebase, plan.levels, at_plans, at_plans_with_rebase);
+	return in_turns > LIMIT || at_plans > LIMIT || in_turns_with_rebase > REBASE_LIMIT ||
+	       at_plans_with_rebase > REBASE_LIMIT || plan.levels != plan.most ||
+	       other_picks > 0 || unused_count != sizeof pool / sizeof *pool;
 }

@@ -1,8 +1,12 @@
 """One queue: "One queue" of docs/model.md. Every sum is a scan."""
 
+from bisect import bisect_left
 from dataclasses import dataclass, replace
 
 from plain.numbers import charge_of, is_in_range, limited, placement_of, weight_of
+
+# The lengths of a tick in nanoseconds.
+TICKS = range(1, 1000000001)
 
 
 @dataclass(frozen=True)
@@ -70,14 +74,27 @@ class Queue:
         waiting = [(entry.d, task) for task, entry in self.runnable.items() if task != self.running]
         return max(waiting)[1] if waiting else None
 
+    def peek(self):
+        """Who a pick would let run."""
+        load, moment = self.load(), self.moment()
+        eligible = [(entry.d, task) for task, entry in self.runnable.items() if entry.v * load <= moment]
+        return min(eligible)[1] if eligible else None
+
+    def time_to_resched(self):
+        """The shortest tick that uses up the running task's request, and None where none does."""
+        if self.running is None:
+            return None
+        entry = self.runnable[self.running]
+        at = bisect_left(TICKS, entry.d - entry.v, key=lambda ns: charge_of(ns, entry.weight()))
+        return TICKS[at] if at < len(TICKS) else None
+
     # Deeds on this queue alone. Each gives its answer as text.
 
     def pick(self):
-        load, moment = self.load(), self.moment()
-        eligible = [(entry.d, task) for task, entry in self.runnable.items() if entry.v * load <= moment]
-        if not eligible:
+        first = self.peek()
+        if first is None:
             return "idle"
-        self.running = min(eligible)[1]
+        self.running = first
         return f"picked {self.running}"
 
     def tick(self, nanoseconds):
@@ -127,6 +144,26 @@ class Queue:
         self.put(task, nice, carried.length, lag)
         self.running = task if ran else self.running
         return "reniced"
+
+    def set_slice(self, task, length):
+        """Whether the task is here."""
+        if task in self.runnable:
+            self.runnable[task] = replace(self.runnable[task], length=length)
+        elif task in self.asleep:
+            sleeper = self.asleep[task]
+            self.asleep[task] = Sleeper(limited(sleeper.lag, length, weight_of(sleeper.nice)), sleeper.nice, length)
+        else:
+            return False
+        return True
+
+    def rebase(self):
+        """The number by which all virtual times are lower."""
+        by = self.virtual_time()
+        lowered = {task: replace(entry, v=entry.v - by, d=entry.d - by) for task, entry in self.runnable.items()}
+        if not all(map(fits, lowered.values())):
+            return 0
+        self.runnable, self.base = lowered, 0
+        return by
 
     # How tasks come and go.
 

@@ -1,5 +1,5 @@
 pub mod Steps
 mod Emptied
 mod Few
-mod PickCodes
+mod TaskCodes
 mod Unchanged

@@ -2,6 +2,7 @@
 use Rattle.std.specs.Prelude.{ℕ, ℤ, pos, Bool, if◌then◌else◌, Option, Some, None, Result, Ok, Err}
 use Rattle.eevdf_queue.specs.{State.State, State.Contents, Numbers.checked_number, Trying.tried, Trying.is_here}
 use Rattle.eevdf_queue.specs.declared.refusal.Refusal.{Refusal}
+use Rattle.eevdf_queue.specs.Closing as closing
 use Rattle.eevdf_queue.specs.Moves as moves
 use Rattle.eevdf_queue.specs.Placing as placing
 use Rattle.eevdf_c.specs.Codes.{done, absent, busy, present, invalid}
@@ -26,6 +27,15 @@ take_by q None (Some task) = take_with q task (carried_out q task)
 -- a task goes from a queue into a hand
 abbrev pub take : State → Option Contents → ℕ → Outcome
 take q h number = take_by q h (checked_number number)
+
+abbrev pub take_any_with : State → Option Contents → Outcome
+take_any_with after None = record { answer = absent; queue = after; hand = None }
+take_any_with after (Some p) = record { answer = pos p.task; queue = after; hand = Some p }
+
+-- some task goes from a queue into a hand
+abbrev pub take_any : State → Option Contents → Outcome
+take_any q None = take_any_with (closing.take_any q).1 (closing.take_any q).0
+take_any q (Some p) = record { answer = busy; queue = q; hand = Some p }
 
 abbrev pub put_to : State → Contents → Result State Refusal → Outcome
 put_to q p (Ok after) = record { answer = done; queue = after; hand = None }

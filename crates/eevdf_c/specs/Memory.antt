@@ -6,6 +6,10 @@ use Rattle.eevdf_queue.specs.State.{State, Contents}
 use denote.Builtin.{i64}
 use Rattle.eevdf_c.specs.contracts.entry_out.EntryOut as entry_type
 use Rattle.eevdf_c.specs.declared.entry_out.EntryOut.{EntryOut}
+use Rattle.eevdf_c.specs.contracts.sleeper_out.SleeperOut as sleeper_type
+use Rattle.eevdf_c.specs.declared.sleeper_out.SleeperOut.{SleeperOut}
+use Rattle.eevdf_c.specs.contracts.parcel_out.ParcelOut as parcel_type
+use Rattle.eevdf_c.specs.declared.parcel_out.ParcelOut.{ParcelOut}
 use Rattle.eevdf_c.specs.contracts.opened.Opened as opened_type
 use Rattle.eevdf_c.specs.contracts.hand.Hand as hand_type
 
@@ -32,3 +36,11 @@ number_at at z = lies_at i64 full_share at z
 -- an entry, which nobody else uses
 abbrev pub entry_at : Ptr → EntryOut → Fml
 entry_at at e = lies_at entry_type.the_row full_share at e
+
+-- what is kept of a sleeping task, which nobody else uses
+abbrev pub sleeper_at : Ptr → SleeperOut → Fml
+sleeper_at at s = lies_at sleeper_type.the_row full_share at s
+
+-- what a task in a hand has, which nobody else uses
+abbrev pub parcel_at : Ptr → ParcelOut → Fml
+parcel_at at p = lies_at parcel_type.the_row full_share at p

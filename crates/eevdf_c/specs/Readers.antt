@@ -5,7 +5,7 @@ use Rattle.eevdf_weight.specs.Limits.{checked_level, checked_slice}
 use Rattle.eevdf_queue.specs.{State.State, declared.sleeper.Sleeper.Sleeper, Sums.total_weight, Numbers.checked_number, Trying.is_here}
 use Rattle.eevdf_queue.specs.{Candidate.candidate_of, Lag.is_lag, Lag.lag_of}
 use Rattle.eevdf_queue.specs.Placing as placing
-use Rattle.eevdf_c.specs.{Codes.done, Codes.absent, Codes.invalid, Turns.task_code}
+use Rattle.eevdf_c.specs.{Codes.invalid, Found.found_code, Found.found_or, Turns.task_code}
 
 abbrev pub len : State → ℤ
 len q = pos (map.len q.runnable)
@@ -34,25 +34,17 @@ contains_by q (Some task) = flag (is_here q task)
 abbrev pub contains : State → ℕ → ℤ
 contains q number = contains_by q (checked_number number)
 
-abbrev pub lag_answer : Option ℤ → ℤ
-lag_answer None = absent
-lag_answer (Some lag) = done
-
 abbrev pub lag_by : State → Option ℕ → ℤ
 lag_by q None = invalid
-lag_by q (Some task) = lag_answer (lag_of q task)
+lag_by q (Some task) = found_code (lag_of q task)
 
 -- what a question for a lag answers
 abbrev pub lag : State → ℕ → ℤ
 lag q number = lag_by q (checked_number number)
 
-abbrev pub lag_or : ℤ → Option ℤ → ℤ
-lag_or other None = other
-lag_or other (Some lag) = lag
-
 abbrev pub told_lag_by : State → ℤ → Option ℕ → ℤ
 told_lag_by q other None = other
-told_lag_by q other (Some task) = lag_or other (lag_of q task)
+told_lag_by q other (Some task) = found_or other (lag_of q task)
 
 -- what stands afterwards where the lag is to be written
 abbrev pub told_lag : State → ℤ → ℕ → ℤ

@@ -11,6 +11,10 @@ task_code (Some task) = pos task
 abbrev pub pick : State → ℤ × State
 pick q = (task_code (pick_of q.runnable), after_pick q)
 
+-- who a pick would let run
+abbrev pub peek : State → ℤ
+peek q = task_code (pick_of q.runnable)
+
 abbrev pub stop : State → ℤ × State
 stop q = (task_code q.running, nobody_runs q)
 

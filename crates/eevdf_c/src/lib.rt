@@ -15,3 +15,5 @@ mod entry_out;
 mod exports;
 mod hand;
 mod opened;
+mod parcel_out;
+mod sleeper_out;

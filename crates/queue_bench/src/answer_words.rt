@@ -1,10 +1,18 @@
 //! The answers of a queue as words for a checksum.
 
 use eevdf_queue::{ReniceAnswer, TaskId, TickAnswer};
+use eevdf_weight::Ns;
 
 pub fn of_task(task: Option<TaskId>) -> u32 {
     match task {
         Some(task) => task.get() as u32,
+        None => u32::MAX,
+    }
+}
+
+pub fn of_time(time: Option<Ns>) -> u32 {
+    match time {
+        Some(ns) => ns.get() as u32,
         None => u32::MAX,
     }
 }

@@ -22,7 +22,7 @@ pub enum WordFault {
     Unread,
     #[error("three words are wanted")]
     Count,
-    #[error("MIX is pick, tick-pick, sleep-pick-wake, yield-pick, pull, tick-sleep-pick-wake or renice")]
+    #[error("MIX is a mix of docs/speed.md, such as tick-pick")]
     Mix,
     #[error("TASKS is a number from 1 to 1024")]
     Tasks,

@@ -1,6 +1,6 @@
 ghost use Rattle.std.specs.Prelude.{◌<◌, ◌≤◌};
 
-use crate::answer_words::{of_renice, of_task, of_tick};
+use crate::answer_words::{of_renice, of_task, of_tick, of_time};
 use crate::checksum::Checksum;
 use crate::sleep_ring::SleepRing;
 use crate::task_values::{drawn_task, words_for};
@@ -72,6 +72,22 @@ impl BenchQueue {
             self.tick();
         }
         self.pick();
+    }
+
+    #[inline(always)]
+    pub fn peek(&mut self) {
+        self.checksum.add(of_task(self.queue.peek()));
+    }
+
+    /// Asks when a timer would end the running task's request.
+    #[inline(always)]
+    pub fn timer(&mut self) {
+        self.checksum.add(of_time(self.queue.time_to_resched()));
+    }
+
+    #[inline(always)]
+    pub fn rebase(&mut self) {
+        let _ = self.queue.rebase();
     }
 
     #[inline(always)]

@@ -8,6 +8,12 @@ pub enum Mix {
     Pull,
     TickSleepPickWake,
     Renice,
+    PickPeek,
+    TickPeekPick,
+    TickPickTimer,
+    TickTimerPick,
+    TickRebasePick,
+    TickPickRebasePick,
 }
 
 impl Mix {
@@ -21,6 +27,12 @@ impl Mix {
             "pull" => Some(Mix::Pull),
             "tick-sleep-pick-wake" => Some(Mix::TickSleepPickWake),
             "renice" => Some(Mix::Renice),
+            "pick-peek" => Some(Mix::PickPeek),
+            "tick-peek-pick" => Some(Mix::TickPeekPick),
+            "tick-pick-timer" => Some(Mix::TickPickTimer),
+            "tick-timer-pick" => Some(Mix::TickTimerPick),
+            "tick-rebase-pick" => Some(Mix::TickRebasePick),
+            "tick-pick-rebase-pick" => Some(Mix::TickPickRebasePick),
             _ => None,
         }
     }

@@ -24,6 +24,12 @@ pub fn checksum_of(alloc: Global, run: &AskedRun) -> Result<u64, AllocError> {
         Mix::YieldPick => yields(&mut bench, run.turns),
         Mix::TickSleepPickWake => ticks_and_sleeps(&mut bench, run.turns),
         Mix::Renice => renices(&mut bench, run.turns),
+        Mix::PickPeek => peeks_known(&mut bench, run.turns),
+        Mix::TickPeekPick => peeks(&mut bench, run.turns),
+        Mix::TickPickTimer => timers_known(&mut bench, run.turns),
+        Mix::TickTimerPick => timers(&mut bench, run.turns),
+        Mix::TickRebasePick => rebases(&mut bench, run.turns),
+        Mix::TickPickRebasePick => rebases_known(&mut bench, run.turns),
         Mix::Pull => {}
     }
     Ok(bench.sum())
@@ -80,6 +86,57 @@ fn ticks_and_sleeps(bench: &mut BenchQueue, turns: u64) {
 fn renices(bench: &mut BenchQueue, turns: u64) {
     for _ in 0..turns {
         bench.renice();
+    }
+}
+
+/// Peeks where the pick is known.
+fn peeks_known(bench: &mut BenchQueue, turns: u64) {
+    for _ in 0..turns {
+        bench.pick_with_rare_ticks();
+        bench.peek();
+    }
+}
+
+fn peeks(bench: &mut BenchQueue, turns: u64) {
+    for _ in 0..turns {
+        bench.tick();
+        bench.peek();
+        bench.pick();
+    }
+}
+
+/// Timers where the running task's entry is known.
+fn timers_known(bench: &mut BenchQueue, turns: u64) {
+    for _ in 0..turns {
+        bench.tick();
+        bench.pick();
+        bench.timer();
+    }
+}
+
+fn timers(bench: &mut BenchQueue, turns: u64) {
+    for _ in 0..turns {
+        bench.tick();
+        bench.timer();
+        bench.pick();
+    }
+}
+
+fn rebases(bench: &mut BenchQueue, turns: u64) {
+    for _ in 0..turns {
+        bench.tick();
+        bench.rebase();
+        bench.pick();
+    }
+}
+
+/// Rebases where the pick is known.
+fn rebases_known(bench: &mut BenchQueue, turns: u64) {
+    for _ in 0..turns {
+        bench.tick();
+        bench.pick();
+        bench.rebase();
+        bench.pick();
     }
 }
 

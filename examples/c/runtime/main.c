@@ -1,5 +1,4 @@
-/* main.c: for a second six fibers that compute on two workers, four of nice level 0 and two of 5, and two that mostly sleep. Prints
- * what share each has had of the time of those that compute, and what share it has of their weight. */
+/* main.c: six fibers compute on two workers for a second, two mostly sleep. Prints the shares. */
 #include "runtime.h"
 #include <stdio.h>
 
@@ -29,13 +28,14 @@ int main(void)
 	ends_at = runtime_now() + 1000000000;
 	runtime_open(WORKERS);
 	for (unsigned at = 0; at < COMPUTING + SLEEPING; at++)
-		runtime_add(at < 4 ? 0 : at < COMPUTING ? 5 : 10, at < COMPUTING ? compute : nap, &naps[at % SLEEPING], &shares[at]);
+		runtime_add(at < 4 ? 0 : at < COMPUTING ? 5 : 10, at < COMPUTING ? compute : nap,
+			    &naps[at % SLEEPING], &shares[at]);
 	printf("%u pulls\n", runtime_run());
 	for (unsigned at = 0; at < COMPUTING; at++)
 		ns += (double)shares[at].ns, weight += (double)shares[at].weight;
 	for (unsigned at = 0; at < COMPUTING; at++)
-		printf("fiber %u: %.1f %% of the time, %.1f %% of the weight\n", at, 100 * (double)shares[at].ns / ns,
-		       100 * (double)shares[at].weight / weight);
+		printf("fiber %u: %.1f %% of the time, %.1f %% of the weight\n", at,
+		       100 * (double)shares[at].ns / ns, 100 * (double)shares[at].weight / weight);
 	for (unsigned at = 0; at < SLEEPING; at++)
 		printf("fiber %u slept %u times\n", COMPUTING + at, naps[at]);
 	return 0;

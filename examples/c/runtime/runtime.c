@@ -1,5 +1,4 @@
-/* runtime.c: fibers on workers. What is shared of a worker is its queue, under the worker's lock; all else of it is used by its own
- * thread alone. A fiber that waits may be pulled by another worker. It goes through a hand, so no two locks are ever held at once. */
+/* runtime.c: fibers on workers, which share their queues alone. A hand takes a pulled one over. */
 #define _GNU_SOURCE
 #include "runtime.h"
 #include <eevdf.h>
@@ -10,7 +9,7 @@
 #include <time.h>
 #include <ucontext.h>
 
-/* A fiber's stack in bytes; in ns the slice of each, how long at least it runs unasked, and how often a worker looks at the others. */
+/* A stack in bytes; in ns a slice, the shortest turn, and how often a worker looks at others. */
 enum { STACK = 65536, SLICE = 2000000, GRAIN = 100000, BALANCE = 1000000 };
 
 struct fiber {
@@ -34,11 +33,11 @@ struct worker {
 
 static struct fiber fibers[RUNTIME_FIBERS];
 static struct worker workers[RUNTIME_WORKERS];
-static unsigned fiber_count, worker_count;
+static unsigned added, worker_count;
 static atomic_uint alive, pulls;
 static _Thread_local struct worker *this_worker;
 
-/* A call on a worker's queue stands between these two, as in unlock(worker, eevdf_pick(lock(worker))). */
+/* A call on a worker's queue stands between these two, as unlock(w, eevdf_pick(lock(w))). */
 static eevdf_queue *lock(struct worker *worker)
 {
 	pthread_mutex_lock(&worker->lock);
@@ -51,7 +50,7 @@ static int64_t unlock(struct worker *worker, int64_t answer)
 	return answer;
 }
 
-/* Ends the program where memory or room lacks. Else only RANGE comes, after 36 years of running at nice level 0, or 3.9 at 10. */
+/* Ends the program where memory or room lacks. Else only RANGE comes, after years of running. */
 static int64_t must(int64_t answer)
 {
 	if (answer < 0)
@@ -74,7 +73,7 @@ uint64_t runtime_now(void)
 	return (uint64_t)now.tv_sec * 1000000000 + (uint64_t)now.tv_nsec;
 }
 
-/* Charges the running fiber for the time since it was last charged. Whether its request is used up. */
+/* Charges the running fiber for the time since it last was. Whether its request is used up. */
 static bool charge(struct worker *worker)
 {
 	uint64_t now = runtime_now(), ns = now - worker->charged_at;
@@ -83,7 +82,8 @@ static bool charge(struct worker *worker)
 		return false;
 	worker->charged_at = now;
 	worker->runs->share->ns += ns;
-	return must(unlock(worker, eevdf_tick(lock(worker), ns < EEVDF_TICK_MAX ? ns : EEVDF_TICK_MAX))) == 1;
+	ns = ns < EEVDF_TICK_MAX ? ns : EEVDF_TICK_MAX;
+	return must(unlock(worker, eevdf_tick(lock(worker), ns))) == 1;
 }
 
 /* Wakes the fibers whose time has come. Whether there are any. */
@@ -105,7 +105,7 @@ static bool wake_due(struct worker *worker)
 	return any;
 }
 
-/* Takes the candidate of a queue into the hand, where that brings the two loads closer: its own and that of a puller of this load. */
+/* Takes a queue's candidate into the hand, where that brings its load and the puller's closer. */
 static int64_t take(eevdf_queue *from, int64_t load, eevdf_hand *hand)
 {
 	int64_t task = eevdf_candidate(from);
@@ -162,7 +162,7 @@ void runtime_sleep(uint64_t ns)
 	leave(SLEEP);
 }
 
-/* Runs a fiber until it leaves. Until the next pick it stays the queue's running task, which nobody pulls. */
+/* Runs a fiber until it leaves. Until the next pick it is the queue's running task: not pulled. */
 static void run(struct worker *worker, struct fiber *fiber)
 {
 	worker->runs = fiber;
@@ -219,11 +219,11 @@ void runtime_add(int64_t nice, void (*run)(void *), void *with, struct runtime_s
 {
 	eevdf_queue *queue = &workers[0].queue;
 	int64_t before = eevdf_load(queue);
-	struct fiber *fiber = &fibers[fiber_count];
+	struct fiber *fiber = &fibers[added];
 
-	must(fiber_count < RUNTIME_FIBERS ? eevdf_admit(queue, fiber_count, nice, SLICE, 0) : EEVDF_NO_MEMORY);
+	must(added < RUNTIME_FIBERS ? eevdf_admit(queue, added, nice, SLICE, 0) : EEVDF_NO_MEMORY);
 	*share = (struct runtime_share){ 0, eevdf_load(queue) - before };
-	*fiber = (struct fiber){ .run = run, .with = with, .share = share, .number = fiber_count++ };
+	*fiber = (struct fiber){ .run = run, .with = with, .share = share, .number = added++ };
 	getcontext(&fiber->context);
 	fiber->context.uc_stack = (stack_t){ .ss_sp = malloc(STACK), .ss_size = STACK };
 	must(fiber->context.uc_stack.ss_sp ? 0 : EEVDF_NO_MEMORY);
@@ -232,7 +232,7 @@ void runtime_add(int64_t nice, void (*run)(void *), void *with, struct runtime_s
 
 unsigned runtime_run(void)
 {
-	atomic_store(&alive, fiber_count);
+	atomic_store(&alive, added);
 	for (unsigned at = 0; at < worker_count; at++)
 		must(-pthread_create(&workers[at].thread, NULL, work, &workers[at]));
 	for (unsigned at = 0; at < worker_count; at++)

@@ -1,14 +1,18 @@
 //! A task in the caller's hand, on its way between two queues.
 
-ghost use Rattle.std.specs.Prelude.{◌≡◌, None};
-ghost use Rattle.eevdf_c.specs.Errors.{BothKeepOnError};
+ghost use Rattle.std.specs.Prelude.{◌≡◌, None, true};
+ghost use Rattle.eevdf_c.specs.Errors.{KeepsOnError};
 ghost use Rattle.eevdf_c.specs.Hands as hands;
+ghost use Rattle.eevdf_c.specs.ParcelOut as parcels;
+ghost use Rattle.eevdf_c.specs.Codes.{done};
+ghost use Rattle.eevdf_queue.specs.Lag.{is_lag};
 
 use crate::calls::coming::refusal_code;
 use crate::calls::leaving::taken_out;
 use crate::codes::{ABSENT, BUSY, DONE, INVALID, PRESENT};
 use crate::hand::Hand;
 use crate::opened::Opened;
+use crate::parcel_out::ParcelOut;
 use eevdf_queue::{Refused, TaskId};
 
 /// The number of the task in a hand.
@@ -21,6 +25,22 @@ pub fn hand_task(hand: &Hand) -> i64
     }
 }
 
+/// What the task in a hand has, which `out` gets. Where the hand is empty `out` stays as it was.
+pub fn hand_parcel(hand: &Hand, out: &mut ParcelOut) -> i64
+    ensures answer { result ≡ parcels.parcel hand.now }
+    ensures told { out.new ≡ parcels.told_parcel out.old hand.now }
+    ensures kept { KeepsOnError result out.old out.new }
+    ensures limited { result ≡ done → is_lag out.new.lag out.new.nice out.new.slice_ns ≡ true }
+{
+    match &hand.parcel {
+        Some(parcel) => {
+            *out = ParcelOut::of(parcel);
+            DONE
+        }
+        None => ABSENT,
+    }
+}
+
 /// Ends the task in a hand, if there is one.
 pub fn hand_close(hand: &mut Hand)
     ensures { hand.new ≡ None }
@@ -29,12 +49,13 @@ pub fn hand_close(hand: &mut Hand)
 }
 
 /// A task goes from a queue into an empty hand, with its lag.
-#[tactic(auto, using(crate::proofs::Unchanged::take_keeps))]
+#[tactic(auto, using(crate::proofs::Unchanged::take_keeps_queue, crate::proofs::Unchanged::take_keeps_hand))]
 pub fn take(opened: &mut Opened, hand: &mut Hand, number: u64) -> i64
     ensures answer { result ≡ (hands.take opened.old hand.old number).answer }
     ensures queue { opened.new ≡ (hands.take opened.old hand.old number).queue }
     ensures hand { hand.new ≡ (hands.take opened.old hand.old number).hand }
-    ensures kept { BothKeepOnError opened.old hand.old (hands.take opened.old hand.old number) }
+    ensures kept { KeepsOnError result opened.old opened.new }
+    ensures held { KeepsOnError result hand.old hand.new }
 {
     let Some(task) = TaskId::new(number) else {
         return INVALID;
@@ -52,12 +73,13 @@ pub fn take(opened: &mut Opened, hand: &mut Hand, number: u64) -> i64
 }
 
 /// The task of a hand becomes runnable, placed with its lag.
-#[tactic(auto, using(crate::proofs::Unchanged::put_keeps))]
+#[tactic(auto, using(crate::proofs::Unchanged::put_keeps_queue, crate::proofs::Unchanged::put_keeps_hand))]
 pub fn put(opened: &mut Opened, hand: &mut Hand) -> i64
     ensures answer { result ≡ (hands.put opened.old hand.old).answer }
     ensures queue { opened.new ≡ (hands.put opened.old hand.old).queue }
     ensures hand { hand.new ≡ (hands.put opened.old hand.old).hand }
-    ensures kept { BothKeepOnError opened.old hand.old (hands.put opened.old hand.old) }
+    ensures kept { KeepsOnError result opened.old opened.new }
+    ensures held { KeepsOnError result hand.old hand.new }
 {
     let Some(parcel) = hand.parcel.take() else {
         return ABSENT;
@@ -72,12 +94,13 @@ pub fn put(opened: &mut Opened, hand: &mut Hand) -> i64
 }
 
 /// The task of a hand falls asleep, with its lag.
-#[tactic(auto, using(crate::proofs::Unchanged::put_asleep_keeps))]
+#[tactic(auto, using(crate::proofs::Unchanged::put_asleep_keeps_queue, crate::proofs::Unchanged::put_asleep_keeps_hand))]
 pub fn put_asleep(opened: &mut Opened, hand: &mut Hand) -> i64
     ensures answer { result ≡ (hands.put_asleep opened.old hand.old).answer }
     ensures queue { opened.new ≡ (hands.put_asleep opened.old hand.old).queue }
     ensures hand { hand.new ≡ (hands.put_asleep opened.old hand.old).hand }
-    ensures kept { BothKeepOnError opened.old hand.old (hands.put_asleep opened.old hand.old) }
+    ensures kept { KeepsOnError result opened.old opened.new }
+    ensures held { KeepsOnError result hand.old hand.new }
 {
     let Some(held) = hand.parcel.take() else {
         return ABSENT;

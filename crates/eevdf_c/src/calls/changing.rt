@@ -1,21 +1,25 @@
-//! How a task wakes, and how it gets another nice level.
+//! How a task wakes, and how it gets another nice level or another slice; and how the virtual times of all become smaller.
 
-ghost use Rattle.std.specs.Prelude.{◌≡◌};
+ghost use Rattle.std.specs.Prelude.{◌≡◌, pos, true};
+ghost use Rattle.eevdf_queue.specs.Rebase as rebases;
+ghost use Rattle.eevdf_queue.specs.Sums.{virtual_time};
+ghost use Rattle.eevdf_c.specs.Codes.{done};
 ghost use Rattle.eevdf_c.specs.Errors.{KeepsOnError};
 ghost use Rattle.eevdf_c.specs.Wake as wakes;
 ghost use Rattle.eevdf_c.specs.Renice as renices;
+ghost use Rattle.eevdf_c.specs.SetSlice as slices;
 
 use crate::codes::{ABSENT, DONE, INVALID, PRESENT, RANGE};
 use crate::opened::Opened;
 use eevdf_queue::{ReniceAnswer, TaskId, WakeAnswer};
-use eevdf_weight::Nice;
+use eevdf_weight::{Nice, Slice};
 
 /// Makes a task runnable that sleeps here, with the lag that it kept.
 #[tactic(auto, using(crate::proofs::Unchanged::wake_keeps))]
 pub fn wake(opened: &mut Opened, number: u64) -> i64
     ensures answer { result ≡ (wakes.wake opened.old number).0 }
     ensures after { opened.new ≡ (wakes.wake opened.old number).1 }
-    ensures kept { KeepsOnError opened.old (wakes.wake opened.old number) }
+    ensures kept { KeepsOnError result opened.old opened.new }
 {
     let Some(task) = TaskId::new(number) else {
         return INVALID;
@@ -40,7 +44,7 @@ fn wake_code(answer: WakeAnswer, is_runnable: bool) -> i64
 pub fn renice(opened: &mut Opened, number: u64, level: i64) -> i64
     ensures answer { result ≡ (renices.renice opened.old number level).0 }
     ensures after { opened.new ≡ (renices.renice opened.old number level).1 }
-    ensures kept { KeepsOnError opened.old (renices.renice opened.old number level) }
+    ensures kept { KeepsOnError result opened.old opened.new }
 {
     let Some(task) = TaskId::new(number) else {
         return INVALID;
@@ -53,4 +57,35 @@ pub fn renice(opened: &mut Opened, number: u64, level: i64) -> i64
         ReniceAnswer::NotHere => ABSENT,
         ReniceAnswer::Range => RANGE,
     }
+}
+
+/// Gives a task another slice, runnable or asleep.
+#[tactic(auto, using(crate::proofs::Unchanged::set_slice_keeps))]
+pub fn set_slice(opened: &mut Opened, number: u64, slice_ns: u64) -> i64
+    ensures answer { result ≡ (slices.set_slice opened.old number slice_ns).0 }
+    ensures after { opened.new ≡ (slices.set_slice opened.old number slice_ns).1 }
+    ensures kept { KeepsOnError result opened.old opened.new }
+{
+    let Some(task) = TaskId::new(number) else {
+        return INVALID;
+    };
+    let Some(slice) = Slice::new(slice_ns) else {
+        return INVALID;
+    };
+    if opened.queue.set_slice(task, slice) {
+        DONE
+    } else {
+        ABSENT
+    }
+}
+
+/// Lowers all virtual times by one number, which `by` gets, so that the virtual time is 0.
+pub fn rebase(opened: &mut Opened, by: &mut i64) -> i64
+    ensures answer { result ≡ done }
+    ensures after { opened.new ≡ (rebases.rebase opened.old).1 }
+    ensures told { by.new ≡ (rebases.rebase opened.old).0 }
+    ensures time { rebases.can_rebase opened.old ≡ true → virtual_time opened.new ≡ pos 0 }
+{
+    *by = opened.queue.rebase();
+    DONE
 }

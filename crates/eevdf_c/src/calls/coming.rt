@@ -26,7 +26,7 @@ pub fn admit(opened: &mut Opened, number: u64, level: i64, slice_ns: u64, start:
         (admits.admit opened.old number level slice_ns start).0 result }
     ensures after { opened.new
         ≡ admits.after_answer opened.old (admits.admit opened.old number level slice_ns start) result }
-    ensures kept { KeepsOnError opened.old (admits.admit opened.old number level slice_ns start) }
+    ensures kept { KeepsOnError result opened.old opened.new }
 {
     match checked(number, level, slice_ns, start) {
         Some(new) => admit_checked(opened, new),

@@ -13,7 +13,7 @@ use eevdf_queue::{Parcel, Queue, TaskId};
 pub fn sleep(opened: &mut Opened, number: u64) -> i64
     ensures answer { result ≡ (leaving.sleep opened.old number).0 }
     ensures after { opened.new ≡ (leaving.sleep opened.old number).1 }
-    ensures kept { KeepsOnError opened.old (leaving.sleep opened.old number) }
+    ensures kept { KeepsOnError result opened.old opened.new }
 {
     match TaskId::new(number) {
         Some(task) => sleep_task(&mut opened.queue, task),
@@ -39,7 +39,7 @@ fn sleep_task(queue: &mut Queue, task: TaskId) -> i64
 pub fn end(opened: &mut Opened, number: u64) -> i64
     ensures answer { result ≡ (leaving.end opened.old number).0 }
     ensures after { opened.new ≡ (leaving.end opened.old number).1 }
-    ensures kept { KeepsOnError opened.old (leaving.end opened.old number) }
+    ensures kept { KeepsOnError result opened.old opened.new }
 {
     match TaskId::new(number) {
         Some(task) => end_task(&mut opened.queue, task),

@@ -1,17 +1,23 @@
 //! What is read of a queue.
 
-ghost use Rattle.std.specs.Prelude.{◌≡◌};
+ghost use Rattle.std.specs.Prelude.{◌≡◌, ◌≤◌, ◌↔◌, ℕ, pos, unsigned_abs, true, false};
+ghost use Rattle.std.specs.FinMap as map;
+ghost use Rattle.eevdf_weight.specs.Limits.{is_in_range};
 ghost use Rattle.eevdf_queue.specs.Sums.{virtual_time};
+ghost use Rattle.eevdf_queue.specs.Candidate.{IsCandidate, NoneWaits, is_running};
 ghost use Rattle.eevdf_queue.specs.Lag as lags;
-ghost use Rattle.eevdf_c.specs.Codes.{done};
+ghost use Rattle.eevdf_c.specs.Codes.{absent, done};
+ghost use Rattle.eevdf_c.specs.Errors.{KeepsOnError};
 ghost use Rattle.eevdf_c.specs.Readers as readers;
 ghost use Rattle.eevdf_c.specs.EntryOut as entries;
+ghost use Rattle.eevdf_c.specs.SleeperOut as sleepers;
 ghost use Rattle.eevdf_c.specs.Turns as turns;
 
 use crate::calls::turns::task_or_absent;
 use crate::codes::{ABSENT, DONE, INVALID};
 use crate::entry_out::EntryOut;
 use crate::opened::Opened;
+use crate::sleeper_out::SleeperOut;
 use eevdf_queue::{TaskId, laws};
 use eevdf_weight::{Nice, Slice, lag_limit, weight};
 
@@ -40,8 +46,13 @@ pub fn running(opened: &Opened) -> i64
 }
 
 /// The task that another CPU may pull.
+#[tactic(auto, using(crate::proofs::TaskCodes::absent_of_none, crate::proofs::TaskCodes::said_of_code))]
 pub fn candidate(opened: &Opened) -> i64
-    ensures { result ≡ readers.candidate opened.now }
+    ensures answer { result ≡ readers.candidate opened.now }
+    ensures last { (t : ℕ) → result ≡ pos t → IsCandidate opened.now.runnable opened.now.running t }
+    ensures waiting { (t : ℕ) → result ≡ pos t → (map.contains_key opened.now.runnable t ≡ true)
+        × (is_running opened.now.running t ≡ false) }
+    ensures nobody { (result ≡ absent) ↔ NoneWaits opened.now.runnable opened.now.running }
 {
     task_or_absent(opened.queue.candidate())
 }
@@ -50,6 +61,7 @@ pub fn candidate(opened: &Opened) -> i64
 pub fn floor_time(opened: &Opened, time: &mut i64) -> i64
     ensures answer { result ≡ done }
     ensures told { time.new ≡ virtual_time opened.now }
+    ensures in_range { is_in_range time.new ≡ true }
 {
     *time = opened.queue.floor_time();
     DONE
@@ -59,6 +71,7 @@ pub fn floor_time(opened: &Opened, time: &mut i64) -> i64
 pub fn entry_of(opened: &Opened, number: u64, out: &mut EntryOut) -> i64
     ensures answer { result ≡ entries.entry opened.now number }
     ensures told { out.new ≡ entries.told_entry opened.now out.old number }
+    ensures kept { KeepsOnError result out.old out.new }
 {
     let Some(task) = TaskId::new(number) else {
         return INVALID;
@@ -66,6 +79,25 @@ pub fn entry_of(opened: &Opened, number: u64, out: &mut EntryOut) -> i64
     match opened.queue.entry(task) {
         Some(entry) => {
             *out = EntryOut::of(&entry);
+            DONE
+        }
+        None => ABSENT,
+    }
+}
+
+/// What is kept of a task, where it sleeps here, which `out` gets. Else `out` stays as it was.
+pub fn sleeper_of(opened: &Opened, number: u64, out: &mut SleeperOut) -> i64
+    ensures answer { result ≡ sleepers.sleeper opened.now number }
+    ensures told { out.new ≡ sleepers.told_sleeper opened.now out.old number }
+    ensures kept { KeepsOnError result out.old out.new }
+    ensures limited { result ≡ done → lags.is_lag out.new.lag out.new.nice out.new.slice_ns ≡ true }
+{
+    let Some(task) = TaskId::new(number) else {
+        return INVALID;
+    };
+    match opened.queue.sleeper(task) {
+        Some(sleeper) => {
+            *out = SleeperOut::of(&sleeper);
             DONE
         }
         None => ABSENT,
@@ -103,6 +135,8 @@ fn flag(so: bool) -> i64
 pub fn lag(opened: &Opened, number: u64, lag: &mut i64) -> i64
     ensures answer { result ≡ readers.lag opened.now number }
     ensures told { lag.new ≡ readers.told_lag opened.now lag.old number }
+    ensures kept { KeepsOnError result lag.old lag.new }
+    ensures limited { result ≡ done → unsigned_abs lag.new ≤ lags.limit_at opened.now number }
 {
     let Some(task) = TaskId::new(number) else {
         return INVALID;

@@ -1,12 +1,13 @@
 //! Who runs, and what is charged.
 
-ghost use Rattle.std.specs.Prelude.{◌≡◌, ◌↔◌, ℕ, pos};
+ghost use Rattle.std.specs.Prelude.{◌≡◌, ◌<ℤ◌, ◌↔◌, ℕ, pos, Some, None};
 ghost use Rattle.std.specs.FinMap as map;
-ghost use Rattle.eevdf_queue.specs.Pick.{IsPick};
+ghost use Rattle.eevdf_queue.specs.{Pick.IsPick, TimeToResched.IsShortest};
 ghost use Rattle.eevdf_c.specs.Codes.{absent};
 ghost use Rattle.eevdf_c.specs.Errors.{KeepsOnError};
 ghost use Rattle.eevdf_c.specs.Turns as turns;
 ghost use Rattle.eevdf_c.specs.Tick as ticks;
+ghost use Rattle.eevdf_c.specs.TimeToResched.{uses_up};
 ghost use Rattle.eevdf_c.specs.Yield as yields;
 
 use crate::codes::{ABSENT, DONE, INVALID, RANGE, TIME_TO_PICK};
@@ -25,15 +26,25 @@ pub fn task_or_absent(task: Option<TaskId>) -> i64
 }
 
 /// Lets the eligible task of earliest virtual deadline run.
-#[tactic(auto, using(crate::proofs::Unchanged::pick_keeps, crate::proofs::PickCodes::absent_of_none, crate::proofs::PickCodes::picked_of_code))]
+#[tactic(auto, using(crate::proofs::Unchanged::pick_keeps, crate::proofs::TaskCodes::absent_of_none, crate::proofs::TaskCodes::said_of_code))]
 pub fn pick(opened: &mut Opened) -> i64
     ensures answer { result ≡ (turns.pick opened.old).0 }
     ensures after { opened.new ≡ (turns.pick opened.old).1 }
     ensures picked { (t : ℕ) → result ≡ pos t → IsPick opened.old.runnable t }
     ensures nobody { (result ≡ absent) ↔ (opened.old.runnable ≡ map.empty) }
-    ensures kept { KeepsOnError opened.old (turns.pick opened.old) }
+    ensures kept { KeepsOnError result opened.old opened.new }
 {
     task_or_absent(opened.queue.pick())
+}
+
+/// The task that a pick would let run.
+#[tactic(auto, using(crate::proofs::TaskCodes::absent_of_none, crate::proofs::TaskCodes::said_of_code))]
+pub fn peek(opened: &Opened) -> i64
+    ensures answer { result ≡ turns.peek opened.now }
+    ensures picked { (t : ℕ) → result ≡ pos t → IsPick opened.now.runnable t }
+    ensures nobody { (result ≡ absent) ↔ (opened.now.runnable ≡ map.empty) }
+{
+    task_or_absent(opened.queue.peek())
 }
 
 /// Lets nobody run.
@@ -41,7 +52,7 @@ pub fn pick(opened: &mut Opened) -> i64
 pub fn stop(opened: &mut Opened) -> i64
     ensures answer { result ≡ (turns.stop opened.old).0 }
     ensures after { opened.new ≡ (turns.stop opened.old).1 }
-    ensures kept { KeepsOnError opened.old (turns.stop opened.old) }
+    ensures kept { KeepsOnError result opened.old opened.new }
 {
     task_or_absent(opened.queue.stop_running())
 }
@@ -51,7 +62,7 @@ pub fn stop(opened: &mut Opened) -> i64
 pub fn tick(opened: &mut Opened, ns: u64) -> i64
     ensures answer { result ≡ (ticks.tick opened.old ns).0 }
     ensures after { opened.new ≡ (ticks.tick opened.old ns).1 }
-    ensures kept { KeepsOnError opened.old (ticks.tick opened.old ns) }
+    ensures kept { KeepsOnError result opened.old opened.new }
 {
     match Ns::new(ns) {
         Some(ns) => tick_code(opened.queue.tick(ns)),
@@ -70,12 +81,23 @@ fn tick_code(answer: TickAnswer) -> i64
     }
 }
 
+/// The shortest tick that uses up the running task's request, and `ABSENT` where none does.
+pub fn time_to_resched(opened: &Opened) -> i64
+    ensures shortest { (ns : ℕ) → result ≡ pos ns → IsShortest (uses_up opened.now) (Some ns) }
+    ensures never { result <ℤ pos 0 → (result ≡ absent) × IsShortest (uses_up opened.now) None }
+{
+    let Some(ns) = opened.queue.time_to_resched() else {
+        return ABSENT;
+    };
+    ns.get() as i64
+}
+
 /// Makes the running task's deadline one request later.
 #[tactic(auto, using(crate::proofs::Unchanged::yield_keeps))]
 pub fn yield_now(opened: &mut Opened) -> i64
     ensures answer { result ≡ (yields.yield_now opened.old).0 }
     ensures after { opened.new ≡ (yields.yield_now opened.old).1 }
-    ensures kept { KeepsOnError opened.old (yields.yield_now opened.old) }
+    ensures kept { KeepsOnError result opened.old opened.new }
 {
     match opened.queue.yield_now() {
         YieldAnswer::Yielded => DONE,

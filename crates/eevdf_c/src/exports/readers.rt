@@ -1,17 +1,24 @@
 //! What is read of a queue.
 
-ghost use Rattle.std.specs.Prelude.{◌≡◌, ℤ};
+ghost use Rattle.std.specs.Prelude.{◌≡◌, ◌≤◌, ◌↔◌, ℕ, ℤ, pos, unsigned_abs, true, false};
 ghost use Rattle.std.specs.Borrow.{sem};
+ghost use Rattle.std.specs.FinMap as map;
+ghost use Rattle.eevdf_weight.specs.Limits.{is_in_range};
 ghost use Rattle.eevdf_queue.specs.{State.State, Sums.virtual_time};
-ghost use Rattle.eevdf_c.specs.Memory.{entry_at, number_at, queue_at};
+ghost use Rattle.eevdf_queue.specs.Candidate.{IsCandidate, NoneWaits, is_running};
+ghost use Rattle.eevdf_queue.specs.Lag as lags;
+ghost use Rattle.eevdf_c.specs.Memory.{entry_at, number_at, queue_at, sleeper_at};
+ghost use Rattle.eevdf_c.specs.Errors.{KeepsOnError};
 ghost use Rattle.eevdf_c.specs.Codes as answers;
 ghost use Rattle.eevdf_c.specs.EntryOut as entries;
+ghost use Rattle.eevdf_c.specs.SleeperOut as sleepers;
 ghost use Rattle.eevdf_c.specs.Readers as readers;
 ghost use Rattle.eevdf_c.specs.Turns as turns;
 
 use crate::calls;
 use crate::entry_out::EntryOut;
 use crate::opened::Opened;
+use crate::sleeper_out::SleeperOut;
 
 /// The number of runnable tasks.
 #[unsafe(no_mangle)]
@@ -53,6 +60,10 @@ pub unsafe extern "C" fn eevdf_candidate(queue: *const u8) -> i64
     requires* { sem 𝓛 (queue_at queue q) }
     ensures* after { sem 𝓛 (queue_at queue q) }
     ensures answer { result ≡ readers.candidate q }
+    ensures last { (t : ℕ) → result ≡ pos t → IsCandidate q.runnable q.running t }
+    ensures waiting { (t : ℕ) → result ≡ pos t → (map.contains_key q.runnable t ≡ true)
+        × (is_running q.running t ≡ false) }
+    ensures nobody { (result ≡ answers.absent) ↔ NoneWaits q.runnable q.running }
 {
     calls::reading::candidate(&*(queue as *const Opened))
 }
@@ -66,6 +77,7 @@ pub unsafe extern "C" fn eevdf_floor_time(queue: *const u8, time: *mut i64) -> i
     ensures* after { sem 𝓛 (queue_at queue g.0) }
     ensures* told { sem 𝓛 (number_at time (virtual_time g.0)) }
     ensures answer { result ≡ answers.done }
+    ensures in_range { is_in_range (virtual_time g.0) ≡ true }
 {
     calls::reading::floor_time(&*(queue as *const Opened), &mut *time)
 }
@@ -79,6 +91,7 @@ pub unsafe extern "C" fn eevdf_entry_of(queue: *const u8, task: u64, out: *mut E
     ensures* after { sem 𝓛 (queue_at queue g.0) }
     ensures* told { sem 𝓛 (entry_at out (entries.told_entry g.0 g.1 task)) }
     ensures answer { result ≡ entries.entry g.0 task }
+    ensures kept { KeepsOnError result g.1 (entries.told_entry g.0 g.1 task) }
 {
     calls::reading::entry_of(&*(queue as *const Opened), task, &mut *out)
 }
@@ -92,8 +105,29 @@ pub unsafe extern "C" fn eevdf_lag(queue: *const u8, task: u64, lag: *mut i64) -
     ensures* after { sem 𝓛 (queue_at queue g.0) }
     ensures* told { sem 𝓛 (number_at lag (readers.told_lag g.0 g.1 task)) }
     ensures answer { result ≡ readers.lag g.0 task }
+    ensures kept { KeepsOnError result g.1 (readers.told_lag g.0 g.1 task) }
+    ensures limited { result ≡ answers.done
+        → unsigned_abs (readers.told_lag g.0 g.1 task) ≤ lags.limit_at g.0 task }
 {
     calls::reading::lag(&*(queue as *const Opened), task, &mut *lag)
+}
+
+/// What is kept of a task that sleeps here, which `out` gets. Answers 0. `INVALID`: no task has the number; `ABSENT`: it doesn't sleep
+/// here.
+#[unsafe(no_mangle)]
+pub unsafe extern "C" fn eevdf_sleeper_of(queue: *const u8, task: u64, out: *mut SleeperOut) -> i64
+    ghost g: { State × sleepers.SleeperOut }
+    requires* queue { sem 𝓛 (queue_at queue g.0) }
+    requires* out { sem 𝓛 (sleeper_at out g.1) }
+    ensures* after { sem 𝓛 (queue_at queue g.0) }
+    ensures* told { sem 𝓛 (sleeper_at out (sleepers.told_sleeper g.0 g.1 task)) }
+    ensures answer { result ≡ sleepers.sleeper g.0 task }
+    ensures kept { KeepsOnError result g.1 (sleepers.told_sleeper g.0 g.1 task) }
+    ensures limited { result ≡ answers.done → lags.is_lag (sleepers.told_sleeper g.0 g.1 task).lag
+        (sleepers.told_sleeper g.0 g.1 task).nice
+        (sleepers.told_sleeper g.0 g.1 task).slice_ns ≡ true }
+{
+    calls::reading::sleeper_of(&*(queue as *const Opened), task, &mut *out)
 }
 
 /// 1 where a task sleeps here, and else 0. `INVALID`: no task has the number.

@@ -1,6 +1,6 @@
 -- Written by tools/export_proofs/write.py.
-use Rattle.eevdf_c.proofs.Steps.{◌≡◌, ℕ, ℤ, List, [], ◌∷◌, refl, w64, proved, full_share, id⊢, emp, ftrue, flft, flent, fres, named, vptr, fact, fact_i, tables, WpFn, use0, ‵, raw, keep, ◌⊛◌, some, later, prop, ◌$◌, ◌∵◌, !, qed, done, move, drop, use1, use2, use3, split, join, fsplit, rewrite, regoal, pick, await, suffices, group, enter, of_opd, addr, stop, no_more, and_then, returns, alloc_all, pass_all, free_all, look_at, get, through, sets, lands_as, Body, lft_new, lft_end, i64, yes, Is, shows, flat, lends_ref, ref_back, mem, Ptr, RawPtr, block_ptr, lies_at, in_a_block, rawptr_vals, rawptr_Tells, MutRef, plain, types_at, sint_Lawful, nothing, heard, peeks, calls_at, lasts, on_entry, triple_of, framed, Stays, walk_of, stay_dropped, Goes-dropped, ends_at}
-use Rattle.eevdf_c.specs.Errors.{BothKeepOnError}
+use Rattle.eevdf_c.proofs.Steps.{◌≡◌, ℕ, ℤ, List, [], ◌∷◌, refl, subst, w64, proved, full_share, id⊢, emp, ftrue, flft, flent, fres, named, vptr, fact, fact_i, tables, WpFn, use0, ‵, raw, keep, ◌⊛◌, some, later, prop, ◌$◌, ◌∵◌, !, qed, done, move, drop, use1, use2, use3, split, join, fsplit, rewrite, regoal, pick, await, suffices, group, enter, of_opd, addr, stop, no_more, and_then, returns, alloc_all, pass_all, free_all, look_at, get, through, sets, lands_as, Body, lft_new, lft_end, i64, yes, Is, shows, flat, lends_ref, ref_back, mem, Ptr, RawPtr, block_ptr, lies_at, in_a_block, rawptr_vals, rawptr_Tells, MutRef, plain, types_at, sint_Lawful, nothing, heard, peeks, calls_at, lasts, on_entry, triple_of, framed, Stays, walk_of, stay_dropped, Goes-dropped, ends_at}
+use Rattle.eevdf_c.specs.Errors.{KeepsOnError}
 use Rattle.eevdf_c.specs.Hands as hands
 use Rattle.eevdf_c.specs.contracts.opened.Opened.{the_row as Opened-row}
 use Rattle.eevdf_c.specs.contracts.hand.Hand.{the_row as Hand-row}
@@ -37,19 +37,21 @@ eevdf_put_spec 𝓤 𝓛 𝓜 𝓡 wired =
     use2 𝓛 (raw (G.pre z)) (id⊢ 𝓤 _) $
     calls_at ! (framed 𝓤 𝓛.H 𝓜 𝓣) G (met 𝓤 𝓛 𝓜 𝓡 (code.calls-eevdf_c::calls::carrying::put 𝓡.env wired)) z (and_then ! (get ! refl) (and_then ! (get ! refl) (no_more !))) (λ v.
     use1 𝓛 (later (some (λ (r : ℤ). ((‵ (flft κ0 full_share) ⊛ (‵ (flft κ1 full_share) ⊛ ‵ ftrue)) ⊛ ‵ (i64.own_val r (v ∷ []))) ⊛
-    some (λ (ws : Opened-row.Denot × (Hand-row.Denot × Unit {0})). ‵ (lasts call.ended z.0.0 z.0.3 ws) ⊛ (raw (fact 𝓤 (r ≡ (hands.put g.0 g.1).answer)) ⊛ (raw (fact 𝓤 (ws.0 ≡ (hands.put g.0 g.1).queue)) ⊛ (raw (fact 𝓤 (ws.1.0 ≡ (hands.put g.0 g.1).hand)) ⊛ raw (fact 𝓤 (BothKeepOnError g.0 g.1 (hands.put g.0 g.1)))))))))) (id⊢ 𝓤 _) $ await ! tt $
+    some (λ (ws : Opened-row.Denot × (Hand-row.Denot × Unit {0})). ‵ (lasts call.ended z.0.0 z.0.3 ws) ⊛ (raw (fact 𝓤 (r ≡ (hands.put g.0 g.1).answer)) ⊛ (raw (fact 𝓤 (ws.0 ≡ (hands.put g.0 g.1).queue)) ⊛ (raw (fact 𝓤 (ws.1.0 ≡ (hands.put g.0 g.1).hand)) ⊛ (raw (fact 𝓤 (KeepsOnError r g.0 ws.0)) ⊛ raw (fact 𝓤 (KeepsOnError r g.1 ws.1.0)))))))))) (id⊢ 𝓤 _) $ await ! tt $
     pick ! (λ r.
     split ! $ split ! $ split ! $ lft_end ! tt $ move ! (1 ∷ []) $ split ! $ lft_end ! tt $ move ! (4 ∷ []) $
     pick ! (λ ws.
     split ! $ move ! (1 ∷ []) $ split ! $ heard ! _ (λ answer.
     split ! $ heard ! _ (λ after0.
     split ! $ heard ! _ (λ after1.
-    heard ! _ (λ kept.
+    split ! $ heard ! _ (λ kept.
+    heard ! _ (λ held.
     fsplit ! $ fsplit ! $ rewrite ! 0 (λ (m : Opened-row.Denot). ‵ (fres δ0 (Opened-row.coded.code m))) after0 refl $ move ! (2 ∷ []) $ fsplit ! $ fsplit ! $ rewrite ! 0 (λ (m : Hand-row.Denot). ‵ (fres δ1 (Hand-row.coded.code m))) after1 refl $
     move ! (7 ∷ 10 ∷ 3 ∷ []) $ use3 𝓛 (later (‵ ((mem Opened-row).own_at (hands.put g.0 g.1).queue b0 o0))) (ref_back 𝓛 Opened-row κ0 δ0 (hands.put g.0 g.1).queue b0 o0) $ await ! tt $
     move ! (5 ∷ 8 ∷ 1 ∷ []) $ use3 𝓛 (later (‵ ((mem Hand-row).own_at (hands.put g.0 g.1).hand b1 o1))) (ref_back 𝓛 Hand-row κ1 δ1 (hands.put g.0 g.1).hand b1 o1) $ await ! tt $
     move ! (6 ∷ []) $ peeks ! i64 (Is i64) (shows 𝓛 i64) r (v ∷ []) (λ is. lands_as ! refl refl ((sint_Lawful 𝓛 w64).typed r (v ∷ []) is).0 $
     returns ! (look_at ! 0 refl) $ free_all ! refl $
-    keep ! (0 ∷ 2 ∷ 1 ∷ []) $ use0 𝓛 (raw (fact 𝓤 (BothKeepOnError g.0 g.1 (hands.put g.0 g.1)))) (fact_i 𝓤 (BothKeepOnError g.0 g.1 (hands.put g.0 g.1)) (emp 𝓤) kept) $
+    keep ! (0 ∷ 2 ∷ 1 ∷ []) $ use0 𝓛 (raw (fact 𝓤 (KeepsOnError r g.1 (hands.put g.0 g.1).hand))) (fact_i 𝓤 (KeepsOnError r g.1 (hands.put g.0 g.1).hand) (emp 𝓤) (subst (λ (m : Hand-row.Denot). KeepsOnError r g.1 m) after1 held)) $
+    use0 𝓛 (raw (fact 𝓤 (KeepsOnError r g.0 (hands.put g.0 g.1).queue))) (fact_i 𝓤 (KeepsOnError r g.0 (hands.put g.0 g.1).queue) (emp 𝓤) (subst (λ (m : Opened-row.Denot). KeepsOnError r g.0 m) after0 kept)) $
     use0 𝓛 (raw (fact 𝓤 (r ≡ (hands.put g.0 g.1).answer))) (fact_i 𝓤 (r ≡ (hands.put g.0 g.1).answer) (emp 𝓤) answer) $
-    move ! (2 ∷ 3 ∷ 4 ∷ []) $ suffices ! _ (ends_at 𝓛 export.ended stayed c (y (block_ptr b0 o0) (block_ptr b1 o1)) v r (tt, (tt, tt)) (tt, (tt, tt))) $ nothing ! $ nothing ! $ join ! $ nothing ! $ join ! $ nothing ! $ group ! 3 $ done !))))))))))))))))
+    move ! (3 ∷ 4 ∷ 5 ∷ []) $ suffices ! _ (ends_at 𝓛 export.ended stayed c (y (block_ptr b0 o0) (block_ptr b1 o1)) v r (tt, (tt, tt)) (tt, (tt, tt))) $ nothing ! $ nothing ! $ join ! $ nothing ! $ join ! $ nothing ! $ group ! 3 $ done !)))))))))))))))))

@@ -1,5 +1,9 @@
 -- Written by tools/export_proofs/write.py.
 use Rattle.eevdf_c.proofs.Steps.{◌≡◌, ℕ, ℤ, List, [], ◌∷◌, refl, w64, proved, full_share, id⊢, emp, Incl-refl, ftrue, flft, flent, named, vptr, ⊑_static, fact, fact_i, tables, WpFn, use0, ‵, raw, keep, ◌⊛◌, some, later, prop, ◌$◌, ◌∵◌, !, qed, done, move, drop, use1, use2, split, join, fsplit, regoal, pick, await, suffices, group, enter, of_opd, addr, stop, no_more, and_then, returns, alloc_all, pass_all, free_all, look_at, get, through, sets, lands_as, lft_new, lft_end, lent_back, i64, yes, Is, shows, flat, lends_shr, part_at, Ptr, RawPtr, block_ptr, lies_at, in_a_block, rawptr_vals, rawptr_Tells, ShrRef, plain, types_at, sint_Lawful, nothing, heard, peeks, calls_at, lasts, on_entry, triple_of, framed, Stays, walk_of, stay_dropped, Goes-dropped, ends_at}
+use Rattle.std.specs.Prelude.{◌↔◌, pos, true, false}
+use Rattle.eevdf_queue.specs.Candidate.{IsCandidate, NoneWaits, is_running}
+use Rattle.std.specs.FinMap as map
+use Rattle.eevdf_c.specs.Codes as answers
 use Rattle.eevdf_c.specs.Readers as readers
 use Rattle.eevdf_c.specs.contracts.opened.Opened.{the_row as Opened-row}
 use Rattle.eevdf_c.proofs.opened.Opened.TheLaws.{the_row_laws as Opened-laws}
@@ -31,14 +35,20 @@ eevdf_candidate_spec 𝓤 𝓛 𝓜 𝓡 wired =
     use2 𝓛 (raw (G.pre z)) (id⊢ 𝓤 _) $
     calls_at ! (framed 𝓤 𝓛.H 𝓜 𝓣) G (met 𝓤 𝓛 𝓜 𝓡 (code.calls-eevdf_c::calls::reading::candidate 𝓡.env wired)) z (and_then ! (get ! refl) (no_more !)) (λ v.
     use1 𝓛 (later (some (λ (r : ℤ). ((‵ (flft κ0 full_share) ⊛ ‵ ftrue) ⊛ ‵ (i64.own_val r (v ∷ []))) ⊛
-    some (λ (ws : Unit {0} × Unit {0}). ‵ (lasts call.ended z.0.0 z.0.3 ws) ⊛ raw (fact 𝓤 (r ≡ readers.candidate q)))))) (id⊢ 𝓤 _) $ await ! tt $
+    some (λ (ws : Unit {0} × Unit {0}). ‵ (lasts call.ended z.0.0 z.0.3 ws) ⊛ (raw (fact 𝓤 (r ≡ readers.candidate q)) ⊛ (raw (fact 𝓤 ((t : ℕ) → r ≡ pos t → IsCandidate q.runnable q.running t)) ⊛ (raw (fact 𝓤 ((t : ℕ) → r ≡ pos t → (map.contains_key q.runnable t ≡ true) × (is_running q.running t ≡ false))) ⊛ raw (fact 𝓤 ((r ≡ answers.absent) ↔ NoneWaits q.runnable q.running))))))))) (id⊢ 𝓤 _) $ await ! tt $
     pick ! (λ r.
     split ! $ split ! $ split ! $ lft_end ! tt $ move ! (3 ∷ []) $
     pick ! (λ ws.
-    split ! $ move ! (1 ∷ []) $ heard ! _ (λ answer.
+    split ! $ move ! (1 ∷ []) $ split ! $ heard ! _ (λ answer.
+    split ! $ heard ! _ (λ last.
+    split ! $ heard ! _ (λ waiting.
+    heard ! _ (λ nobody.
     fsplit ! $ drop ! $
     move ! (1 ∷ 4 ∷ []) $ lent_back ! tt $
     move ! (3 ∷ []) $ peeks ! i64 (Is i64) (shows 𝓛 i64) r (v ∷ []) (λ is. lands_as ! refl refl ((sint_Lawful 𝓛 w64).typed r (v ∷ []) is).0 $
     returns ! (look_at ! 0 refl) $ free_all ! refl $
-    keep ! (0 ∷ 1 ∷ []) $ use0 𝓛 (raw (fact 𝓤 (r ≡ readers.candidate q))) (fact_i 𝓤 (r ≡ readers.candidate q) (emp 𝓤) answer) $
-    move ! (1 ∷ 2 ∷ []) $ suffices ! _ (ends_at 𝓛 export.ended stayed c (y (block_ptr b0 o0)) v r (tt, tt) (tt, tt)) $ nothing ! $ nothing ! $ join ! $ nothing ! $ group ! 3 $ done !)))))))))
+    keep ! (0 ∷ 1 ∷ []) $ use0 𝓛 (raw (fact 𝓤 ((r ≡ answers.absent) ↔ NoneWaits q.runnable q.running))) (fact_i 𝓤 ((r ≡ answers.absent) ↔ NoneWaits q.runnable q.running) (emp 𝓤) nobody) $
+    use0 𝓛 (raw (fact 𝓤 ((t : ℕ) → r ≡ pos t → (map.contains_key q.runnable t ≡ true) × (is_running q.running t ≡ false)))) (fact_i 𝓤 ((t : ℕ) → r ≡ pos t → (map.contains_key q.runnable t ≡ true) × (is_running q.running t ≡ false)) (emp 𝓤) waiting) $
+    use0 𝓛 (raw (fact 𝓤 ((t : ℕ) → r ≡ pos t → IsCandidate q.runnable q.running t))) (fact_i 𝓤 ((t : ℕ) → r ≡ pos t → IsCandidate q.runnable q.running t) (emp 𝓤) last) $
+    use0 𝓛 (raw (fact 𝓤 (r ≡ readers.candidate q))) (fact_i 𝓤 (r ≡ readers.candidate q) (emp 𝓤) answer) $
+    move ! (4 ∷ 5 ∷ []) $ suffices ! _ (ends_at 𝓛 export.ended stayed c (y (block_ptr b0 o0)) v r (tt, tt) (tt, tt)) $ nothing ! $ nothing ! $ join ! $ nothing ! $ group ! 3 $ done !))))))))))))

@@ -1,5 +1,6 @@
 -- Written by tools/export_proofs/write.py.
-use Rattle.eevdf_c.proofs.Steps.{◌≡◌, ℕ, ℤ, List, [], ◌∷◌, refl, w64, proved, full_share, id⊢, emp, Incl-refl, ftrue, flft, flent, fres, named, vptr, ⊑_static, fact, fact_i, tables, WpFn, use0, ‵, raw, keep, ◌⊛◌, some, later, prop, ◌$◌, ◌∵◌, !, qed, done, move, drop, use1, use2, use3, split, join, fsplit, rewrite, regoal, pick, await, suffices, group, enter, of_opd, addr, stop, no_more, and_then, returns, alloc_all, pass_all, free_all, look_at, get, through, sets, lands_as, Body, lft_new, lft_end, lent_back, i64, u64, yes, Is, shows, flat, lends_ref, ref_back, lends_shr, mem, part_at, Ptr, RawPtr, block_ptr, lies_at, in_a_block, rawptr_vals, rawptr_Tells, MutRef, ShrRef, plain, types_at, sint_Lawful, uint_Lawful, uint_Makes, uint_vals, uint_Tells, nothing, owned, heard, peeks, calls_at, lasts, on_entry, triple_of, framed, Stays, walk_of, stay_dropped, Goes-dropped, ends_at}
+use Rattle.eevdf_c.proofs.Steps.{◌≡◌, ℕ, ℤ, List, [], ◌∷◌, refl, subst, w64, proved, full_share, id⊢, emp, Incl-refl, ftrue, flft, flent, fres, named, vptr, ⊑_static, fact, fact_i, tables, WpFn, use0, ‵, raw, keep, ◌⊛◌, some, later, prop, ◌$◌, ◌∵◌, !, qed, done, move, drop, use1, use2, use3, split, join, fsplit, rewrite, regoal, pick, await, suffices, group, enter, of_opd, addr, stop, no_more, and_then, returns, alloc_all, pass_all, free_all, look_at, get, through, sets, lands_as, Body, lft_new, lft_end, lent_back, i64, u64, yes, Is, shows, flat, lends_ref, ref_back, lends_shr, mem, part_at, Ptr, RawPtr, block_ptr, lies_at, in_a_block, rawptr_vals, rawptr_Tells, MutRef, ShrRef, plain, types_at, sint_Lawful, uint_Lawful, uint_Makes, uint_vals, uint_Tells, nothing, owned, heard, peeks, calls_at, lasts, on_entry, triple_of, framed, Stays, walk_of, stay_dropped, Goes-dropped, ends_at}
+use Rattle.eevdf_c.specs.Errors.{KeepsOnError}
 use Rattle.eevdf_c.specs.EntryOut as entries
 use Rattle.eevdf_c.specs.contracts.opened.Opened.{the_row as Opened-row}
 use Rattle.eevdf_c.proofs.opened.Opened.TheLaws.{the_row_laws as Opened-laws}
@@ -37,16 +38,18 @@ eevdf_entry_of_spec 𝓤 𝓛 𝓜 𝓡 wired =
     use2 𝓛 (raw (G.pre z)) (id⊢ 𝓤 _) $
     calls_at ! (framed 𝓤 𝓛.H 𝓜 𝓣) G (met 𝓤 𝓛 𝓜 𝓡 (code.calls-eevdf_c::calls::reading::entry_of 𝓡.env wired)) z (and_then ! (get ! refl) (and_then ! (get ! refl) (and_then ! (get ! refl) (no_more !)))) (λ v.
     use1 𝓛 (later (some (λ (r : ℤ). ((‵ (flft κ0 full_share) ⊛ (‵ (flft κ1 full_share) ⊛ ‵ ftrue)) ⊛ ‵ (i64.own_val r (v ∷ []))) ⊛
-    some (λ (ws : Unit {0} × (Unit {0} × (EntryOut-row.Denot × Unit {0}))). ‵ (lasts call.ended z.0.0 z.0.3 ws) ⊛ (raw (fact 𝓤 (r ≡ entries.entry g.0 task)) ⊛ raw (fact 𝓤 (ws.1.1.0 ≡ (entries.told_entry g.0 g.1 task)))))))) (id⊢ 𝓤 _) $ await ! tt $
+    some (λ (ws : Unit {0} × (Unit {0} × (EntryOut-row.Denot × Unit {0}))). ‵ (lasts call.ended z.0.0 z.0.3 ws) ⊛ (raw (fact 𝓤 (r ≡ entries.entry g.0 task)) ⊛ (raw (fact 𝓤 (ws.1.1.0 ≡ (entries.told_entry g.0 g.1 task))) ⊛ raw (fact 𝓤 (KeepsOnError r g.1 ws.1.1.0)))))))) (id⊢ 𝓤 _) $ await ! tt $
     pick ! (λ r.
     split ! $ split ! $ split ! $ lft_end ! tt $ move ! (1 ∷ []) $ split ! $ lft_end ! tt $ move ! (4 ∷ []) $
     pick ! (λ ws.
     split ! $ move ! (1 ∷ []) $ split ! $ heard ! _ (λ answer.
-    heard ! _ (λ after1.
+    split ! $ heard ! _ (λ after1.
+    heard ! _ (λ kept.
     fsplit ! $ drop ! $ fsplit ! $ drop ! $ fsplit ! $ fsplit ! $ rewrite ! 0 (λ (m : EntryOut-row.Denot). ‵ (fres δ1 (EntryOut-row.coded.code m))) after1 refl $
     move ! (5 ∷ 8 ∷ []) $ lent_back ! tt $
     move ! (4 ∷ 7 ∷ 1 ∷ []) $ use3 𝓛 (later (‵ ((mem EntryOut-row).own_at (entries.told_entry g.0 g.1 task) b1 o1))) (ref_back 𝓛 EntryOut-row κ1 δ1 (entries.told_entry g.0 g.1 task) b1 o1) $ await ! tt $
     move ! (5 ∷ []) $ peeks ! i64 (Is i64) (shows 𝓛 i64) r (v ∷ []) (λ is. lands_as ! refl refl ((sint_Lawful 𝓛 w64).typed r (v ∷ []) is).0 $
     returns ! (look_at ! 0 refl) $ free_all ! refl $
-    keep ! (0 ∷ 2 ∷ 1 ∷ []) $ use0 𝓛 (raw (fact 𝓤 (r ≡ entries.entry g.0 task))) (fact_i 𝓤 (r ≡ entries.entry g.0 task) (emp 𝓤) answer) $
-    move ! (1 ∷ 2 ∷ 3 ∷ []) $ suffices ! _ (ends_at 𝓛 export.ended stayed c (y (block_ptr b0 o0) (block_ptr b1 o1)) v r (tt, (tt, (tt, tt))) (tt, (tt, (tt, tt)))) $ nothing ! $ nothing ! $ join ! $ nothing ! $ join ! $ nothing ! $ join ! $ nothing ! $ group ! 3 $ done !)))))))))))))
+    keep ! (0 ∷ 2 ∷ 1 ∷ []) $ use0 𝓛 (raw (fact 𝓤 (KeepsOnError r g.1 (entries.told_entry g.0 g.1 task)))) (fact_i 𝓤 (KeepsOnError r g.1 (entries.told_entry g.0 g.1 task)) (emp 𝓤) (subst (λ (m : EntryOut-row.Denot). KeepsOnError r g.1 m) after1 kept)) $
+    use0 𝓛 (raw (fact 𝓤 (r ≡ entries.entry g.0 task))) (fact_i 𝓤 (r ≡ entries.entry g.0 task) (emp 𝓤) answer) $
+    move ! (2 ∷ 3 ∷ 4 ∷ []) $ suffices ! _ (ends_at 𝓛 export.ended stayed c (y (block_ptr b0 o0) (block_ptr b1 o1)) v r (tt, (tt, (tt, tt))) (tt, (tt, (tt, tt)))) $ nothing ! $ nothing ! $ join ! $ nothing ! $ join ! $ nothing ! $ join ! $ nothing ! $ group ! 3 $ done !))))))))))))))

@@ -1,5 +1,5 @@
 -- Written by tools/export_proofs/write.py.
-use Rattle.eevdf_c.proofs.Steps.{◌≡◌, ℕ, ℤ, List, [], ◌∷◌, refl, w64, proved, full_share, id⊢, emp, ftrue, flft, flent, fres, named, vptr, fact, fact_i, tables, WpFn, use0, ‵, raw, keep, ◌⊛◌, some, later, prop, ◌$◌, ◌∵◌, !, qed, done, move, drop, use1, use2, use3, split, join, fsplit, rewrite, regoal, pick, await, suffices, group, enter, of_opd, addr, stop, no_more, and_then, returns, alloc_all, pass_all, free_all, look_at, get, through, sets, lands_as, Body, lft_new, lft_end, i64, u64, yes, Is, shows, flat, lends_ref, ref_back, mem, Ptr, RawPtr, block_ptr, lies_at, in_a_block, rawptr_vals, rawptr_Tells, MutRef, plain, types_at, sint_Lawful, sint_Makes, sint_vals, sint_Tells, uint_Lawful, uint_Makes, uint_vals, uint_Tells, nothing, owned, heard, peeks, calls_at, lasts, on_entry, triple_of, framed, Stays, walk_of, stay_dropped, Goes-dropped, ends_at}
+use Rattle.eevdf_c.proofs.Steps.{◌≡◌, ℕ, ℤ, List, [], ◌∷◌, refl, subst, w64, proved, full_share, id⊢, emp, ftrue, flft, flent, fres, named, vptr, fact, fact_i, tables, WpFn, use0, ‵, raw, keep, ◌⊛◌, some, later, prop, ◌$◌, ◌∵◌, !, qed, done, move, drop, use1, use2, use3, split, join, fsplit, rewrite, regoal, pick, await, suffices, group, enter, of_opd, addr, stop, no_more, and_then, returns, alloc_all, pass_all, free_all, look_at, get, through, sets, lands_as, Body, lft_new, lft_end, i64, u64, yes, Is, shows, flat, lends_ref, ref_back, mem, Ptr, RawPtr, block_ptr, lies_at, in_a_block, rawptr_vals, rawptr_Tells, MutRef, plain, types_at, sint_Lawful, sint_Makes, sint_vals, sint_Tells, uint_Lawful, uint_Makes, uint_vals, uint_Tells, nothing, owned, heard, peeks, calls_at, lasts, on_entry, triple_of, framed, Stays, walk_of, stay_dropped, Goes-dropped, ends_at}
 use Rattle.eevdf_c.specs.Errors.{KeepsOnError}
 use Rattle.eevdf_c.specs.Renice as renices
 use Rattle.eevdf_c.specs.contracts.opened.Opened.{the_row as Opened-row}
@@ -34,7 +34,7 @@ eevdf_renice_spec 𝓤 𝓛 𝓜 𝓡 wired =
     use2 𝓛 (raw (G.pre z)) (id⊢ 𝓤 _) $
     calls_at ! (framed 𝓤 𝓛.H 𝓜 𝓣) G (met 𝓤 𝓛 𝓜 𝓡 (code.calls-eevdf_c::calls::changing::renice 𝓡.env wired)) z (and_then ! (get ! refl) (and_then ! (get ! refl) (and_then ! (get ! refl) (no_more !)))) (λ v.
     use1 𝓛 (later (some (λ (r : ℤ). ((‵ (flft κ0 full_share) ⊛ ‵ ftrue) ⊛ ‵ (i64.own_val r (v ∷ []))) ⊛
-    some (λ (ws : Opened-row.Denot × (Unit {0} × (Unit {0} × Unit {0}))). ‵ (lasts call.ended z.0.0 z.0.3 ws) ⊛ (raw (fact 𝓤 (r ≡ (renices.renice q task nice).0)) ⊛ (raw (fact 𝓤 (ws.0 ≡ (renices.renice q task nice).1)) ⊛ raw (fact 𝓤 (KeepsOnError q (renices.renice q task nice))))))))) (id⊢ 𝓤 _) $ await ! tt $
+    some (λ (ws : Opened-row.Denot × (Unit {0} × (Unit {0} × Unit {0}))). ‵ (lasts call.ended z.0.0 z.0.3 ws) ⊛ (raw (fact 𝓤 (r ≡ (renices.renice q task nice).0)) ⊛ (raw (fact 𝓤 (ws.0 ≡ (renices.renice q task nice).1)) ⊛ raw (fact 𝓤 (KeepsOnError r q ws.0)))))))) (id⊢ 𝓤 _) $ await ! tt $
     pick ! (λ r.
     split ! $ split ! $ split ! $ lft_end ! tt $ move ! (3 ∷ []) $
     pick ! (λ ws.
@@ -45,6 +45,6 @@ eevdf_renice_spec 𝓤 𝓛 𝓜 𝓡 wired =
     move ! (3 ∷ 6 ∷ 1 ∷ []) $ use3 𝓛 (later (‵ ((mem Opened-row).own_at (renices.renice q task nice).1 b0 o0))) (ref_back 𝓛 Opened-row κ0 δ0 (renices.renice q task nice).1 b0 o0) $ await ! tt $
     move ! (4 ∷ []) $ peeks ! i64 (Is i64) (shows 𝓛 i64) r (v ∷ []) (λ is. lands_as ! refl refl ((sint_Lawful 𝓛 w64).typed r (v ∷ []) is).0 $
     returns ! (look_at ! 0 refl) $ free_all ! refl $
-    keep ! (0 ∷ 1 ∷ []) $ use0 𝓛 (raw (fact 𝓤 (KeepsOnError q (renices.renice q task nice)))) (fact_i 𝓤 (KeepsOnError q (renices.renice q task nice)) (emp 𝓤) kept) $
+    keep ! (0 ∷ 1 ∷ []) $ use0 𝓛 (raw (fact 𝓤 (KeepsOnError r q (renices.renice q task nice).1))) (fact_i 𝓤 (KeepsOnError r q (renices.renice q task nice).1) (emp 𝓤) (subst (λ (m : Opened-row.Denot). KeepsOnError r q m) after0 kept)) $
     use0 𝓛 (raw (fact 𝓤 (r ≡ (renices.renice q task nice).0))) (fact_i 𝓤 (r ≡ (renices.renice q task nice).0) (emp 𝓤) answer) $
     move ! (2 ∷ 3 ∷ []) $ suffices ! _ (ends_at 𝓛 export.ended stayed c (y (block_ptr b0 o0)) v r (tt, (tt, (tt, tt))) (tt, (tt, (tt, tt)))) $ nothing ! $ nothing ! $ join ! $ nothing ! $ join ! $ nothing ! $ join ! $ nothing ! $ group ! 3 $ done !))))))))))))

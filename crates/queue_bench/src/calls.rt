@@ -1,0 +1,60 @@
+//! Calls of a queue that standard input names, a line each, on two queues and two hands. Each line is answered by a line.
+//! `checks/c_library/` compares them with what the library for C answers; [`line`] says what stands in one.
+
+mod answers;
+mod fault;
+mod hand;
+mod line;
+mod moves;
+mod named_call;
+mod one_call;
+mod queues;
+mod task_numbers;
+
+use crate::calls::line::Line;
+use crate::calls::queues::Queues;
+use std::alloc::Global;
+use std::io::{self, BufRead, BufReader, BufWriter, Write};
+
+/// Makes the calls in turn, and prints what each answers. `false` where a line names none, at which it ends.
+pub fn make_calls(rt: &(impl Input + Print), alloc: Global) -> io::Result<bool> {
+    let mut out = BufWriter::new(alloc, io::writer(rt))?;
+    let are_calls = answer_all(rt, alloc, &mut out)?;
+    out.flush()?;
+    Ok(are_calls)
+}
+
+fn answer_all<W: Write>(rt: &impl Input, alloc: Global, out: &mut W) -> io::Result<bool> {
+    let mut queues = Queues::open();
+    answer_lines(rt, alloc, &mut queues, out)
+}
+
+fn answer_lines<W: Write>(
+    rt: &impl Input,
+    alloc: Global,
+    queues: &mut Queues,
+    out: &mut W,
+) -> io::Result<bool> {
+    for line in BufReader::new(alloc, rt.reader())?.lines(alloc) {
+        if !make_call(queues, alloc, &line?, out)? {
+            return Ok(false);
+        }
+    }
+    Ok(true)
+}
+
+fn make_call<W: Write>(
+    queues: &mut Queues,
+    alloc: Global,
+    text: &str,
+    out: &mut W,
+) -> io::Result<bool> {
+    let words: Vec<&str> = text.split_whitespace().collect(alloc)?;
+    match Line::of(&words) {
+        Some(line) => {
+            queues.make(alloc, &line, out)?;
+            Ok(true)
+        }
+        None => Ok(false),
+    }
+}

@@ -1,0 +1,139 @@
+//! What is printed of an answer: the answer or the code of its error, and what else the call gives. Where a call that writes answers an
+//! error, its caller's object is as it was before, as the end of the line says.
+
+use crate::calls::fault::Fault;
+use crate::calls::hand::Hand;
+use crate::calls::task_numbers::{number_of, task_of};
+use eevdf_queue::{Entry, Queue, Sleeper, TaskId};
+use std::io::{self, Write};
+
+pub fn write_answer<W: Write>(out: &mut W, answer: Result<u64, Fault>) -> io::Result<()> {
+    write_number(out, answer)?;
+    writeln!(out, "")
+}
+
+fn write_number<W: Write>(out: &mut W, answer: Result<u64, Fault>) -> io::Result<()> {
+    match answer {
+        Ok(number) => write!(out, "{number}"),
+        Err(fault) => write_code(out, fault),
+    }
+}
+
+fn write_code<W: Write>(out: &mut W, fault: Fault) -> io::Result<()> {
+    let code = fault.code();
+    write!(out, "{code}")
+}
+
+pub fn write_time<W: Write>(out: &mut W, queue: &Queue) -> io::Result<()> {
+    let time = queue.floor_time();
+    writeln!(out, "0 {time}")
+}
+
+pub fn write_rebase<W: Write>(out: &mut W, queue: &mut Queue) -> io::Result<()> {
+    let by = queue.rebase();
+    writeln!(out, "0 {by}")
+}
+
+pub fn write_lag<W: Write>(out: &mut W, queue: &Queue, task: u64) -> io::Result<()> {
+    match lag_of(queue, task) {
+        Ok(lag) => writeln!(out, "0 {lag}"),
+        Err(fault) => {
+            write_code(out, fault)?;
+            writeln!(out, " -1")
+        }
+    }
+}
+
+fn lag_of(queue: &Queue, task: u64) -> Result<i64, Fault> {
+    queue.lag_of(task_of(task)?).ok_or(Fault::Absent)
+}
+
+pub fn write_entry<W: Write>(out: &mut W, queue: &Queue, task: u64) -> io::Result<()> {
+    match entry_of(queue, task) {
+        Ok(entry) => {
+            let nice = entry.nice.get();
+            let slice = entry.slice.get();
+            writeln!(out, "0 {} {} {nice} {slice}", entry.v, entry.d)
+        }
+        Err(fault) => {
+            write_code(out, fault)?;
+            writeln!(out, " -1 -1 -1 1")
+        }
+    }
+}
+
+fn entry_of(queue: &Queue, task: u64) -> Result<Entry, Fault> {
+    queue.entry(task_of(task)?).ok_or(Fault::Absent)
+}
+
+pub fn write_sleeper<W: Write>(out: &mut W, queue: &Queue, task: u64) -> io::Result<()> {
+    match sleeper_of(queue, task) {
+        Ok(sleeper) => {
+            let nice = sleeper.nice.get();
+            let slice = sleeper.slice.get();
+            writeln!(out, "0 {} {nice} {slice}", sleeper.lag)
+        }
+        Err(fault) => {
+            write_code(out, fault)?;
+            writeln!(out, " -1 -1 1")
+        }
+    }
+}
+
+fn sleeper_of(queue: &Queue, task: u64) -> Result<Sleeper, Fault> {
+    queue.sleeper(task_of(task)?).ok_or(Fault::Absent)
+}
+
+pub fn write_parcel<W: Write>(out: &mut W, hand: &Hand) -> io::Result<()> {
+    match hand.held() {
+        Some(parcel) => {
+            let task = parcel.task().get();
+            let nice = parcel.nice().get();
+            let slice = parcel.slice().get();
+            let start = parcel.start();
+            let lag = parcel.lag();
+            writeln!(out, "0 {task} {nice} {slice} {start} {lag}")
+        }
+        None => {
+            write_code(out, Fault::Absent)?;
+            writeln!(out, " 1 -1 1 -1 -1")
+        }
+    }
+}
+
+/// How many tasks are runnable, their load, the virtual time, who runs and who may be pulled, and of each task below a number that is here
+/// its number, its lag and what is kept of it.
+pub fn write_state<W: Write>(out: &mut W, queue: &Queue, tasks: u64) -> io::Result<()> {
+    let len = queue.len();
+    let load = queue.load();
+    let time = queue.floor_time();
+    write!(out, "{len} {load} {time} ")?;
+    write_number(out, number_of(queue.running()))?;
+    write!(out, " ")?;
+    write_number(out, number_of(queue.candidate()))?;
+    for number in 0..tasks {
+        if let Some(task) = TaskId::new(number) {
+            write_task(out, queue, task)?;
+        }
+    }
+    writeln!(out, "")
+}
+
+fn write_task<W: Write>(out: &mut W, queue: &Queue, task: TaskId) -> io::Result<()> {
+    let Some(lag) = queue.lag_of(task) else {
+        return Ok(());
+    };
+    let number = task.get();
+    write!(out, " {number}:{lag}")?;
+    if let Some(entry) = queue.entry(task) {
+        let nice = entry.nice.get();
+        let slice = entry.slice.get();
+        write!(out, ",{},{},{nice},{slice}", entry.v, entry.d)?;
+    }
+    if let Some(sleeper) = queue.sleeper(task) {
+        let nice = sleeper.nice.get();
+        let slice = sleeper.slice.get();
+        write!(out, ",{nice},{slice}")?;
+    }
+    Ok(())
+}
