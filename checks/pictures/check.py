@@ -1,0 +1,201 @@
+#!/usr/bin/env python3
+"""check.py [SEED]: looks at what the built program `eevdf_timeline` draws and counts, beside a plain model of it (model.py), for the
+workloads of examples/, for small ones that are drawn from seeds, and for large ones, within bounds of time and memory; at the words and
+the workloads that it refuses; and whether the pictures of docs/images/ are those that it draws. With --make it draws these anew. The
+last line is 'N passed, M failed'."""
+
+import json
+import re
+import sys
+from pathlib import Path
+from random import Random
+
+sys.dont_write_bytecode = True
+HERE = Path(__file__).resolve().parent
+sys.path[:0] = [str(HERE), str(HERE.parent), str(HERE.parent / "drawn")]
+
+import made
+from draw import cases
+from events import check_trace, check_unknown_trace
+from figures import check_json, check_rows, check_table
+from large import check_large
+from model import Timeline
+from pictured import check_picture, check_unknown
+from plain.bench import replay
+from plain.fault import Fault
+from plain.made_order import made_order
+from plain.steps import play
+from plain.workload import read_workload
+from program import SOURCES, Pictures, is_well, stored_workloads
+from refusals import check_refusals
+from runner import TOP
+from svg import Wrong, expect
+
+# How many small workloads are drawn of each kind.
+DRAWN = 40
+
+# How many of the deeds of the longest workload are compared with the model, which is a scan.
+COMPARED = 2400
+
+# The pictures of docs/, and the workload and words of each.
+PICTURES = {"pull.svg": ("examples/pull.toml", ()), "interleaving.svg": ("examples/interleaving.toml", ("--replay",))}
+
+
+def check_all(checks, data, script, words=()):
+    """Looks at all outputs, and gives how many stretches the picture joins in boxes."""
+    timeline = Timeline(read_workload(data).setup, script)
+    joined = check_picture(checks.written(words, data), timeline)
+    check_trace(checks.written((*words, "--perfetto"), data), timeline)
+    figures = checks.written((*words, "--stats", "--json"), data)
+    check_json(figures, timeline)
+    check_table(checks.written((*words, "--stats"), data), json.loads(figures))
+    return joined
+
+
+def check_script(checks, data):
+    check_all(checks, data, read_workload(data).script)
+
+
+def script_of_replay(data):
+    return [(cpu, deed) for cpu, deed, _ in replay(read_workload(data)).lines]
+
+
+def check_stored_workloads(checks):
+    for path, data, command in stored_workloads("examples/*.toml"):
+        if not is_well(path):
+            continue
+        if command == "solo":
+            checks.attempt(path.name, check_script, checks, data)
+        elif command == "replay":
+            checks.attempt(path.name, check_all, checks, data, script_of_replay(data), SOURCES[command])
+        else:
+            checks.attempt(path.name, check_run, checks, data)
+    for path, data, command in stored_workloads("checks/cases/programs/*.toml"):
+        if is_well(path) and command == "run":
+            checks.attempt(path.name, check_run, checks, data)
+
+
+def check_run(checks, data):
+    """Programs that threads run. Where no CPU has anything of another, the threads' order changes nothing of a CPU. Else each output shows
+    a history of its own."""
+    words, setup = SOURCES["run"], read_workload(data).setup
+    if any(operation[0] in ("post", "drain", "pull") for program in setup.programs for operation in program):
+        check_unknown(checks.written(words, data), setup.cpus())
+        check_unknown_trace(checks.written((*words, "--perfetto"), data), setup.cpus())
+        check_rows(json.loads(checks.written((*words, "--stats", "--json"), data))["tasks"])
+    else:
+        outcome, _ = play(setup, made_order(setup, 0))
+        check_all(checks, data, [(cpu, deed) for cpu, deed, _ in outcome.lines], words)
+
+
+def check_drawn(checks, first):
+    for seed in range(first, first + DRAWN):
+        data = made.drawn(seed)
+        checks.attempt(f"seed {seed}", check_script, checks, data)
+        checks.attempt(f"a window of seed {seed}", check_window, checks, data)
+        checks.attempt(f"an order of seed {seed}", check_order, checks, cases.replay(Random(seed), 2).data)
+
+
+def check_window(checks, data):
+    """The middle third of the time, on every second CPU."""
+    timeline = Timeline(read_workload(data).setup, read_workload(data).script)
+    begin, end = timeline.end() // 3, max(2 * timeline.end() // 3, timeline.end() // 3 + 1)
+    cpus = list(range(0, timeline.setup.cpus(), 2))
+    words = ("--from", str(begin), "--to", str(end), "--cpu", ",".join(map(str, cpus)))
+    check_picture(checks.written(words, data), timeline, (begin, end), cpus)
+
+
+def check_order(checks, data):
+    try:
+        script = script_of_replay(data)
+    except Fault:
+        return
+    check_all(checks, data, script, SOURCES["replay"])
+
+
+def check_dense(checks):
+    """Of 3000 stretches most are joined, and so are those of most of the time."""
+    data = made.dense()
+    timeline = Timeline(read_workload(data).setup, read_workload(data).script)
+    begin, end = timeline.end() // 10, 9 * timeline.end() // 10
+    part = checks.written(("--from", str(begin), "--to", str(end)), data)
+    joined = check_all(checks, data, read_workload(data).script), check_picture(part, timeline, (begin, end))
+    if min(joined) < 2000:
+        raise Wrong(f"too few stretches are joined: {joined}")
+
+
+def check_choices(checks):
+    """What is chosen of a workload is drawn, and nothing else."""
+    data = (TOP / "examples/pull.toml").read_bytes()
+    whole, one = checks.written((), data), checks.written(("--cpu", "1", "--task", "2"), data)
+    if not (one.count(b"class=\"l\"") == 1 < whole.count(b"class=\"l\"")):
+        raise Wrong("the lanes of one CPU")
+    expect("the curve of one task", re.findall(rb"lag of task \d+", one), [b"lag of task 2"])
+    rows = json.loads(checks.written(("--stats", "--json", "--cpu", "1", "--task", "2,0"), data))
+    expect("the rows", ([row["task"] for row in rows["tasks"]], [row["cpu"] for row in rows["cpus"]]), ([0, 2], [1]))
+    timeline = Timeline(read_workload(data).setup, read_workload(data).script)
+    check_picture(checks.written(("--from", "500001", "--to", "600000"), data), timeline, (500001, 600000))
+    events = checks.events(("--cpu", "1"), data)
+    expect("the tracks of one CPU", {event["tid"] for event in events if event["ph"] == "X"}, {1})
+    expect("its arrows", [event for event in events if event["ph"] in "sf"], [])
+
+
+def check_yields(checks):
+    """A yield is of the task that ran."""
+    for task, count in ((0, 1), (1, 1)):
+        events = checks.events(("--task", str(task)), made.yields())
+        expect(f"the yields of task {task}", [event["name"] for event in events].count("0 yield: yielded"), count)
+
+
+def check_late_pull(checks):
+    """An arrow that begins before the time that is drawn isn't drawn."""
+    whole = checks.events((), made.late_pull())
+    part = checks.events(("--from", "2000"), made.late_pull())
+    expect("the ends of arrows", [len([event for event in events if event["ph"] in "sf"]) for events in (whole, part)], [2, 0])
+    expect("what is before the time", [event for event in part if event["ph"] != "M" and event["ts"] + event.get("dur", 0) < 2], [])
+
+
+def check_crowd(checks):
+    """Of more chosen tasks the first 16 have curves, and the picture says so."""
+    names = ",".join(map(str, range(5, 30)))
+    text = checks.written(("--task", names), made.crowd())
+    expect("the curves", re.findall(rb"lag of task (\d+)", text), [b"%d" % task for task in range(5, 21)])
+    if b"the first 16 of 25 tasks" not in text:
+        raise Wrong("no word of the tasks without a curve")
+
+
+def check_made(checks):
+    for name, check in (("choices", check_choices), ("yields of tasks", check_yields), ("an early arrow", check_late_pull),
+                        ("30 tasks", check_crowd), ("3000 stretches", check_dense)):
+        checks.attempt(name, check, checks)
+    checks.attempt("an empty machine", check_script, checks, made.empty())
+    checks.attempt(f"{COMPARED} deeds", check_script, checks, made.longest(COMPARED))
+
+
+def check_stored(checks, name):
+    path, words = PICTURES[name]
+    expect(f"docs/images/{name}", (TOP / "docs/images" / name).read_bytes(), checks.written(words, (TOP / path).read_bytes()))
+
+
+def make_pictures(checks):
+    for name, (path, words) in PICTURES.items():
+        (TOP / "docs/images" / name).write_bytes(checks.written(words, (TOP / path).read_bytes()))
+
+
+def main():
+    checks = Pictures()
+    if sys.argv[1:] == ["--make"]:
+        make_pictures(checks)
+        return 0
+    check_stored_workloads(checks)
+    check_drawn(checks, int(sys.argv[1]) if sys.argv[1:] else 1)
+    check_made(checks)
+    check_large(checks)
+    check_refusals(checks)
+    for name in PICTURES:
+        checks.attempt(name, check_stored, checks, name)
+    return checks.end()
+
+
+if __name__ == "__main__":
+    sys.exit(main())

@@ -1,0 +1,263 @@
+"""What a picture, a trace and a table have to show of a workload, worked out plainly: the deeds are done by the plain scheduler of
+checks/drawn/, and docs/pictures.md says what is made of them."""
+
+import sys
+from collections import defaultdict
+from dataclasses import dataclass, field
+from fractions import Fraction
+from pathlib import Path
+
+sys.path.insert(0, str(Path(__file__).resolve().parent.parent / "drawn"))
+
+from plain.machine import queues_at_start, whole
+from plain.numbers import weight_of
+from plain.report import text_of
+
+
+@dataclass(frozen=True)
+class Moment:
+    cpu: int
+    deed: tuple
+    answer: str
+    begin: int
+    end: int
+    # the clock of the other CPU that the deed names
+    other: int
+
+    def text(self):
+        return f"{self.cpu} {text_of(self.deed)}: {self.answer}"
+
+    def charged(self):
+        """The task that was charged, or None."""
+        return int(self.answer.split()[1]) if self.answer.startswith("charged") else None
+
+
+@dataclass
+class TaskFigures:
+    ran: int = 0
+    shared: int = 0
+    fair: Fraction = Fraction(0)
+    lags: list = field(default_factory=list)
+    picks: int = 0
+    preempted: int = 0
+    waits: list = field(default_factory=list)
+
+
+@dataclass
+class CpuFigures:
+    charged: int = 0
+    load: int = 0
+    idle_ticks: int = 0
+    idle: int = 0
+    pulls_in: int = 0
+    pulls_out: int = 0
+
+
+def lag_in_ns(queue, task):
+    """Rounded towards 0."""
+    service = queue.lag_of(task) * weight_of(queue.runnable[task].nice)
+    return service // 1024 if service >= 0 else -(-service // 1024)
+
+
+class Timeline:
+    """The deeds of a script with their times, and what is counted of them."""
+
+    def __init__(self, setup, script):
+        self.setup = setup
+        self.queues = queues_at_start(setup)
+        self.clocks = [0] * setup.cpus()
+        self.slept = {}
+        self.woken = {}
+        self.moments = []
+        # (CPU, task, begin, end)
+        self.stretches = []
+        self.open = {}
+        self.tasks = [TaskFigures() for _ in setup.tasks]
+        self.cpus = [CpuFigures() for _ in self.queues]
+        # (time, load) where the load of a CPU changes, and (time, lag) of each task as its CPU is looked at
+        self.loads = [[(0, 0)] for _ in self.queues]
+        self.points = [[] for _ in setup.tasks]
+        # the time of the last look at each CPU
+        self.looked = {}
+        for cpu in range(setup.cpus()):
+            self.note(cpu, 0, *self.state(cpu))
+        self.note_lags(range(setup.cpus()))
+        for cpu, deed in script:
+            self.do(cpu, deed)
+        for cpu, queue in enumerate(self.queues):
+            self.cpus[cpu].load = queue.load()
+
+    def end(self):
+        return max((moment.end for moment in self.moments), default=0)
+
+    def state(self, cpu):
+        """The load of a CPU, and the lag of each task there: one that sleeps keeps the lag with which it left."""
+        queue = self.queues[cpu]
+        lags = [(task, queue.lag_of(task)) for task in queue.runnable]
+        return queue.load(), lags + [(task, sleeper.lag) for task, sleeper in queue.asleep.items()]
+
+    def note(self, cpu, time, load, lags):
+        """Notes what a CPU has at a time. A lag of a time before the last one isn't noted, nor the same twice."""
+        self.looked[cpu] = time
+        if load != self.loads[cpu][-1][1]:
+            self.loads[cpu].append((time, load))
+        for task, lag in lags:
+            points = self.points[task]
+            if not points or time >= points[-1][0] and (time, lag) != points[-1]:
+                points.append((time, lag))
+
+    def note_lags(self, cpus):
+        for cpu in cpus:
+            for task in self.queues[cpu].runnable:
+                self.tasks[task].lags.append(lag_in_ns(self.queues[cpu], task))
+
+    def begin_of(self, cpu, deed):
+        """A pull isn't before what its source has done, and a wake isn't before the sleep."""
+        if deed[0] == "pull":
+            return max(self.clocks[cpu], self.clocks[deed[1]])
+        if deed[0] == "wake" and deed[1] in self.queues[cpu].asleep:
+            return max(self.clocks[cpu], self.slept.get(deed[1], 0))
+        return self.clocks[cpu]
+
+    def other_of(self, cpu, deed):
+        named = {"pull": 1, "wake": 2}.get(deed[0])
+        return self.clocks[cpu if named is None else deed[named]]
+
+    def do(self, cpu, deed):
+        begin, other = self.begin_of(cpu, deed), self.other_of(cpu, deed)
+        running = self.queues[cpu].running
+        before = self.state(cpu)
+        answer = whole(self.setup, self.queues, cpu, deed)
+        if deed[0] == "wake" and answer != "woken":
+            begin = self.clocks[cpu]
+        took = deed[1] if deed[0] == "tick" and answer != "range" else 0
+        moment = Moment(cpu, deed, answer, begin, begin + took, other)
+        self.moments.append(moment)
+        self.clocks[cpu] = moment.end
+        self.count(moment, running)
+        self.stretch(moment)
+        if self.looked[cpu] != begin:
+            self.note(cpu, begin, *before)
+        self.note(cpu, moment.end, *self.state(cpu))
+        if deed[0] == "pull":
+            self.note(deed[1], other, *self.state(deed[1]))
+        self.note_lags({cpu, deed[1]} if deed[0] == "pull" else {cpu})
+
+    def stretch(self, moment):
+        task = moment.charged()
+        if moment.answer.startswith("slept"):
+            self.open[moment.cpu] = None
+        if task is None:
+            return
+        at = self.open.get(moment.cpu)
+        if at is not None and self.stretches[at][1] == task and self.stretches[at][3] == moment.begin:
+            self.stretches[at] = (*self.stretches[at][:3], moment.end)
+            return
+        self.open[moment.cpu] = len(self.stretches)
+        self.stretches.append((moment.cpu, task, moment.begin, moment.end))
+
+    def count(self, moment, running):
+        words, cpu = moment.answer.split(), self.cpus[moment.cpu]
+        ns = moment.end - moment.begin
+        if words[0] == "charged":
+            self.count_charge(moment.cpu, int(words[1]), ns)
+        elif moment.deed[0] == "tick" and words[0] == "idle":
+            cpu.idle_ticks += 1
+            cpu.idle += ns
+        elif words[0] == "picked":
+            self.count_pick(int(words[1]), running, moment.begin)
+        elif words[0] == "pulled":
+            cpu.pulls_in += 1
+            self.cpus[moment.deed[1]].pulls_out += 1
+        elif words[0] == "slept":
+            self.slept[moment.deed[1]] = moment.begin
+        elif words[0] == "woken":
+            self.woken[moment.deed[1]] = moment.begin
+
+    def count_charge(self, cpu, charged, ns):
+        self.cpus[cpu].charged += ns
+        self.tasks[charged].ran += ns
+        load = self.queues[cpu].load()
+        for task, entry in self.queues[cpu].runnable.items():
+            self.tasks[task].shared += ns
+            self.tasks[task].fair += Fraction(ns * entry.weight(), load)
+
+    def count_pick(self, task, running, time):
+        self.tasks[task].picks += 1
+        if running is not None and running != task:
+            self.tasks[running].preempted += 1
+        if task in self.woken:
+            self.tasks[task].waits.append(time - self.woken.pop(task))
+
+
+def kept(points, begin, end):
+    """Of these points those that a curve of this time has: in each of 220 parts of the time the first, the least, the greatest and the
+    last."""
+    parts = defaultdict(list)
+    for time, lag in points:
+        if begin <= time <= end:
+            parts[220 * (time - begin) // (end - begin) if end > begin else 0].append((time, lag))
+    for part in parts.values():
+        if len(part) <= 4:
+            yield from part
+        else:
+            middle = part[1:-1]
+            least, greatest = min(middle, key=lambda point: point[1]), max(middle, key=lambda point: point[1])
+            yield from (part[0], *((greatest, least) if greatest[0] < least[0] else (least, greatest)), part[-1])
+
+
+def sign_of(moment, running):
+    """The shape of a deed's mark, or None of a tick that charged a task."""
+    word = moment.answer.split()[0]
+    if word == "picked":
+        return "same" if running == int(moment.answer.split()[1]) else "pick"
+    return {"charged": None, "yielded": "yield", "slept": "sleep", "woken": "wake", "pulled": "pull",
+            "reniced": "renice"}.get(word, "refused")
+
+
+def signs_of(moments):
+    """The shapes of the marks, in the order of the deeds."""
+    running = {}
+    for moment in moments:
+        yield sign_of(moment, running.get(moment.cpu))
+        if moment.answer.startswith("picked"):
+            running[moment.cpu] = int(moment.answer.split()[1])
+        if moment.answer.startswith("slept"):
+            running[moment.cpu] = None
+
+
+def percentile(waits):
+    """The least wait that 99 of 100 don't pass."""
+    return sorted(waits)[-(-99 * len(waits) // 100) - 1] if waits else None
+
+
+def permille(part, all_of_it):
+    return int(1000 * part / all_of_it) if all_of_it else None
+
+
+def figures_of(timeline):
+    """The rows of the table, of tasks and of CPUs. The share by weight is a fraction still."""
+    tasks = [{
+        "task": number,
+        "ran_ns": task.ran,
+        "share_permille": permille(Fraction(task.ran), task.shared),
+        "weight_share_permille": 1000 * task.fair / task.shared if task.shared else None,
+        "greatest_lag_ns": max(task.lags, default=None),
+        "least_lag_ns": min(task.lags, default=None),
+        "picks": task.picks,
+        "preempted": task.preempted,
+        "wakes_run": len(task.waits),
+        "wake_mean_ns": sum(task.waits) // len(task.waits) if task.waits else None,
+        "wake_p99_ns": percentile(task.waits),
+        "wake_greatest_ns": max(task.waits, default=None),
+    } for number, task in enumerate(timeline.tasks)]
+    cpus = [{
+        "cpu": number,
+        "charged_ns": cpu.charged,
+        "load": cpu.load,
+        "idle_ticks": cpu.idle_ticks,
+        "idle_ns": cpu.idle,
+        "pulls_in": cpu.pulls_in,
+        "pulls_out": cpu.pulls_out,
+    } for number, cpu in enumerate(timeline.cpus)]
+    return {"tasks": tasks, "cpus": cpus}

@@ -1,0 +1,42 @@
+"""Whether a picture shows a timeline, as docs/pictures.md says."""
+
+from lanes import boxes_of, check_boxes, check_marks, lanes_of
+from panels import check_axes, check_panels, panels_of
+from svg import Picture, Wrong, expect, title_of
+from view import View
+
+
+def check_picture(text, timeline, window=None, cpus=None):
+    """Raises Wrong where the picture of a timeline, or of a part of its time or some of its CPUs, shows anything else. Gives how many
+    stretches are joined in boxes."""
+    view = View(timeline, *(window or (0, timeline.end())), cpus or range(timeline.setup.cpus()))
+    picture = Picture(text, view.begin, view.end)
+    lanes = lanes_of(picture)
+    expect("the lanes", list(lanes), view.cpus)
+    axes = check_axes(picture)
+    expect("the number of axes", len(axes), 2 if view.curves else 1)
+    check_around("the lanes", axes[0], min(lanes.values()), max(lanes.values()))
+    joined = check_boxes(picture, view, lanes)
+    check_marks(picture, view, lanes, axes[0][1])
+    check_panels(picture, view, axes[0][1])
+    expect("whether a note says that lags are left out", "Curves keep 4 lags of each 1/220" in picture.notes, view.is_thinned)
+    if view.curves:
+        tops = panels_of(picture)
+        check_around("the panels", axes[1], tops[0], tops[-1])
+    return joined
+
+
+def check_around(what, axis, first, last):
+    if not axis[0] <= first <= last <= axis[1]:
+        raise Wrong(f"the axis of {what} goes from {axis[0]} to {axis[1]}")
+
+
+def check_unknown(text, cpus):
+    """What holds of the picture of a history that isn't known: of as many CPUs each has its lane, with boxes apart, and each arrow is
+    that of a pull."""
+    picture = Picture(text, 0, 1)
+    lanes = lanes_of(picture)
+    expect("the lanes", list(lanes), list(range(cpus)))
+    boxes_of(picture, lanes)
+    marks = [title_of(use) for use in picture.uses() if title_of(use) and use.get("href") == "#pull"]
+    expect("the arrows", sorted(title_of(path) for path in picture.named("path", "p") if title_of(path)), sorted(marks))

@@ -1,0 +1,122 @@
+"""A picture as it is read, with what holds of each, whatever it shows."""
+
+import re
+from xml.etree import ElementTree
+
+SVG = "{http://www.w3.org/2000/svg}"
+ELEMENTS = {"svg", "title", "style", "defs", "pattern", "marker", "rect", "path", "text", "use"}
+
+# How wide the page is, in units, and a letter of a note at most.
+PAGE, LETTER = 1000, 7
+
+# Lengths and places are in tenths of a unit: the left edge of the lanes, their width and the height of each.
+LEFT, WIDTH, HEIGHT = 900, 8900, 240
+FILLS = 28
+LEGEND = {"pick": "pick", "same": "pick of the same", "wake": "wake", "sleep": "sleep", "pull": "pull", "renice": "renice",
+          "yield": "yield", "refused": "refused or idle"}
+
+
+class Wrong(Exception):
+    """Something that isn't as it has to be."""
+
+
+def expect(what, said, wanted):
+    if said != wanted:
+        raise Wrong(f"{what}: {said!r}, and not {wanted!r}"[:2000])
+
+
+def tenths(number):
+    units, _, rest = number.partition(".")
+    return 10 * int(units) + int(rest or 0)
+
+
+def read(pattern, text):
+    found = pattern.fullmatch(text)
+    if not found:
+        raise Wrong(f"{text!r} isn't of the form {pattern.pattern}")
+    return found.groups()
+
+
+def title_of(element):
+    found = element.find(SVG + "title")
+    return None if found is None else found.text
+
+
+class Picture:
+    """The elements of a picture of the time from a beginning to an end."""
+
+    def __init__(self, text, begin, end):
+        self.root = ElementTree.fromstring(text)
+        self.begin, self.end = begin, end
+        expect("the root", self.root.tag, SVG + "svg")
+        check_alone(text, self.root)
+        self.parts = list(self.root)
+        self.notes = " ".join(part.text for part in self.named("text", "s"))
+        for part in self.named("text", "s"):
+            if int(part.get("x")) + LETTER * len(part.text.strip()) > PAGE:
+                raise Wrong(f"{part.text} hasn't room in a line")
+        self.check_legend()
+        check_fills(self.root)
+
+    def named(self, tag, kind):
+        """The elements of a class: the first word of the attribute."""
+        return [part for part in self.parts if part.tag == SVG + tag and (part.get("class") or "").split(" ")[0] == kind]
+
+    def uses(self):
+        return [part for part in self.parts if part.tag == SVG + "use"]
+
+    def place(self, time):
+        """Where a time stands: at an edge where it isn't drawn."""
+        since, length = max(0, min(time, self.end) - self.begin), self.end - self.begin
+        return LEFT + (since * WIDTH // length if length else 0)
+
+    def count(self, pattern):
+        found = re.search(pattern, self.notes)
+        return int(found[1]) if found else 0
+
+    def check_legend(self):
+        after = dict(zip(self.parts, self.parts[1:]))
+        expect("the legend", {use.get("href")[1:]: after[use].text for use in self.uses() if not title_of(use)}, LEGEND)
+
+
+def check_alone(text, root):
+    """Nothing in it runs, moves or comes from elsewhere, and no text is empty."""
+    if b"<!" in text or b"<?" in text:
+        raise Wrong("a declaration")
+    names = [element.get("id") for element in root.iter() if element.get("id")]
+    expect("the names that are there twice", len(names) - len(set(names)), 0)
+    for element in root.iter():
+        if element.tag.removeprefix(SVG) not in ELEMENTS:
+            raise Wrong(f"the element {element.tag}")
+        if element.tag in (SVG + "text", SVG + "title") and not element.text:
+            raise Wrong("a text without words")
+        for key, value in element.attrib.items():
+            if key.startswith("on") or key.endswith("href") and value not in ["#" + name for name in names]:
+                raise Wrong(f"the attribute {key}={value}")
+        check_style(" ".join([*element.attrib.values(), element.text or ""]), names)
+
+
+def check_style(text, names):
+    if "@import" in text or "@font-face" in text or "://" in text:
+        raise Wrong(f"something from elsewhere: {text[:200]}")
+    for named in re.findall(r"url\(([^)]*)\)", text):
+        if named[:1] != "#" or named[1:] not in names:
+            raise Wrong(f"url({named})")
+
+
+def fills_of(root):
+    """The colour of each fill, and the lines over it where there are some."""
+    patterns = {f"url(#{pattern.get('id')})": tuple(part.get("fill") or part.get("d") for part in pattern)
+                for pattern in root.iter(SVG + "pattern")}
+    rules = re.findall(r"\.t(\d+)\{fill:([^}]*)\}", root.find(SVG + "style").text)
+    return {int(number): patterns.get(fill, (fill,)) for number, fill in rules}
+
+
+def check_fills(root):
+    """All are there, no two are the same, and those of neighbours have different lines."""
+    fills = fills_of(root)
+    expect("the fills", sorted(fills), list(range(FILLS)))
+    expect("how many fills differ", len(set(fills.values())), FILLS)
+    for number, (_, *lines) in fills.items():
+        if lines == list(fills[(number + 1) % FILLS][1:]):
+            raise Wrong(f"fill {number} has the lines of the next one")

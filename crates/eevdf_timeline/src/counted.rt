@@ -1,0 +1,101 @@
+//! What is counted of one task, and of one CPU.
+
+use crate::service::Service;
+use crate::virtual_times::VirtualTimes;
+use eevdf_queue::{Entry, TaskId};
+use std::alloc::{AllocError, Global};
+
+/// What is counted of a task.
+#[derive(Drop)]
+pub struct TaskCounts {
+    /// The nanoseconds that it was charged.
+    pub ran: u64,
+    /// The nanoseconds that its CPU charged while it was runnable there.
+    pub shared: u64,
+    /// So many of these its weight gives it.
+    pub fair: u64,
+    /// Its greatest and its least lag after a deed on its CPU while it was runnable, in nanoseconds.
+    pub lags: Option<(i64, i64)>,
+    pub picks: u64,
+    /// How often another task was picked while it ran.
+    pub preempted: u64,
+    /// The nanoseconds from each wake to the next pick of it.
+    pub waits: Vec<u64>,
+    pub woken: Option<u64>,
+    pub since: Option<Since>,
+}
+
+/// Since when a runnable task is as it is.
+#[derive(Clone, Copy)]
+pub struct Since {
+    pub cpu: usize,
+    /// The place of the last deed that changed its entry.
+    pub place: usize,
+    pub entry: Entry,
+    /// What its CPU had charged, and given to each unit of weight, as the task came there with this weight.
+    pub charged: u64,
+    pub service: Service,
+}
+
+/// What is counted of a CPU.
+#[derive(Drop)]
+pub struct CpuCounts {
+    pub charged: u64,
+    pub load: u64,
+    pub idle_ticks: u64,
+    /// The nanoseconds of these ticks.
+    pub idle: u64,
+    pub pulls_in: u64,
+    pub pulls_out: u64,
+    pub service: Service,
+    pub running: Option<TaskId>,
+    pub times: VirtualTimes,
+}
+
+impl TaskCounts {
+    pub(crate) fn new(alloc: Global) -> TaskCounts {
+        TaskCounts {
+            ran: 0,
+            shared: 0,
+            fair: 0,
+            lags: None,
+            picks: 0,
+            preempted: 0,
+            waits: Vec::new(alloc),
+            woken: None,
+            since: None,
+        }
+    }
+
+    pub(crate) fn add_lags(&mut self, greatest: i64, least: i64) {
+        self.lags = Some(match self.lags {
+            None => (greatest, least),
+            Some((above, below)) => (above.max(greatest), below.min(least)),
+        });
+    }
+
+    pub(crate) fn pick(&mut self, time: u64) -> Result<(), AllocError> {
+        self.picks = self.picks.saturating_add(1);
+        if let Some(woken) = self.woken {
+            self.woken = None;
+            self.waits.push(time.saturating_sub(woken))?;
+        }
+        Ok(())
+    }
+}
+
+impl CpuCounts {
+    pub(crate) fn new(alloc: Global) -> CpuCounts {
+        CpuCounts {
+            charged: 0,
+            load: 0,
+            idle_ticks: 0,
+            idle: 0,
+            pulls_in: 0,
+            pulls_out: 0,
+            service: Service::NONE,
+            running: None,
+            times: VirtualTimes::new(alloc),
+        }
+    }
+}

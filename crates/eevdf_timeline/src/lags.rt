@@ -1,0 +1,240 @@
+//! How the lags of tasks and the loads of CPUs change, as the deeds are done once more.
+
+use crate::moments::{Moment, cpu_of, do_again};
+use crate::progress::Progress;
+use crate::scale::{Scale, part};
+use crate::words::Choice;
+use eevdf_ops::{CpuId, Deed, Setup, Solo};
+use eevdf_queue::TaskId;
+use std::alloc::{AllocError, Global};
+
+/// A curve has at most four points in each of so many columns.
+pub const COLUMNS: u64 = 220;
+
+/// So many curves are drawn at most: those of the first tasks that are chosen.
+pub const MOST_CURVES: usize = 16;
+
+/// A lag, in virtual time, at a moment, in nanoseconds.
+#[derive(Clone, Copy, PartialEq, Eq)]
+pub struct Point {
+    pub time: u64,
+    pub lag: i64,
+}
+
+/// The lags of a task, in order of time. Of many in one column the first, the least, the greatest and the last are kept.
+#[derive(Drop)]
+pub struct Curve {
+    pub task: TaskId,
+    pub points: Vec<Point>,
+    /// Whether some lags aren't kept.
+    thinned: bool,
+}
+
+/// The load of a CPU from a moment on.
+#[derive(Clone, Copy)]
+pub struct Load {
+    pub cpu: CpuId,
+    /// In nanoseconds.
+    pub time: u64,
+    pub load: u64,
+}
+
+/// What the curves of a picture or a trace are made of.
+#[derive(Drop)]
+pub struct Lags {
+    pub curves: Vec<Curve>,
+    pub loads: Vec<Load>,
+    last_loads: Vec<u64>,
+    // when each CPU was looked at last
+    looked: Vec<Option<u64>>,
+}
+
+/// Does the deeds of a history once more, and looks at the lags of the first `MOST_CURVES` of the chosen tasks, and at the loads of
+/// all CPUs.
+pub(crate) fn lags_of(
+    alloc: Global,
+    setup: &Setup,
+    moments: &[Moment],
+    scale: &Scale,
+    tasks: &Choice,
+    progress: &Progress,
+) -> Result<Lags, AllocError> {
+    let mut solo = Solo::open(alloc, setup)?;
+    let mut lags = Lags::open(alloc, setup, tasks)?;
+    for cpu in 0..setup.cpus() {
+        lags.look(&solo, CpuId::numbered(cpu), 0, scale)?;
+    }
+    let followed = lags.follow_all(&mut solo, moments, scale, progress);
+    progress.end(moments.len());
+    followed?;
+    Ok(lags)
+}
+
+impl Lags {
+    fn open(alloc: Global, setup: &Setup, tasks: &Choice) -> Result<Lags, AllocError> {
+        let mut curves = Vec::new(alloc);
+        for (task, _spec) in setup.each_task() {
+            if tasks.has(task.index()) && curves.len() < MOST_CURVES {
+                curves.push(Curve {
+                    task,
+                    points: Vec::new(alloc),
+                    thinned: false,
+                })?;
+            }
+        }
+        Ok(Lags {
+            curves,
+            loads: Vec::new(alloc),
+            last_loads: vec![in alloc; 0; setup.cpus()]?,
+            looked: vec![in alloc; None; setup.cpus()]?,
+        })
+    }
+
+    /// Whether a curve keeps only some of its lags.
+    pub(crate) fn are_thinned(&self) -> bool {
+        let mut thinned = false;
+        for curve in &self.curves {
+            thinned = thinned || curve.thinned;
+        }
+        thinned
+    }
+
+    fn follow_all(
+        &mut self,
+        solo: &mut Solo,
+        moments: &[Moment],
+        scale: &Scale,
+        progress: &Progress,
+    ) -> Result<(), AllocError> {
+        for (done, moment) in moments.iter().enumerate() {
+            self.follow(solo, moment, scale)?;
+            progress.tell(done, moments.len());
+        }
+        Ok(())
+    }
+
+    /// Does a deed, and looks at its CPU after it, and before it where time has gone by since the last look.
+    fn follow(
+        &mut self,
+        solo: &mut Solo,
+        moment: &Moment,
+        scale: &Scale,
+    ) -> Result<(), AllocError> {
+        let cpu = cpu_of(moment.line.deed);
+        if self.looked.get(cpu.index()).copied().flatten() != Some(moment.begin) {
+            self.look(solo, cpu, moment.begin, scale)?;
+        }
+        do_again(solo, &moment.line);
+        self.look(solo, cpu, moment.end, scale)?;
+        if let Deed::Pull { source, .. } = moment.line.deed {
+            self.look(solo, source, moment.other, scale)?;
+        }
+        Ok(())
+    }
+
+    fn look(
+        &mut self,
+        solo: &Solo,
+        cpu: CpuId,
+        time: u64,
+        scale: &Scale,
+    ) -> Result<(), AllocError> {
+        if !solo.has_cpu(cpu) {
+            return Ok(());
+        }
+        set_looked(&mut self.looked, cpu, time);
+        let queue = solo.queue(cpu);
+        self.note_load(cpu, time, queue.load())?;
+        if scale.shows(time, time) {
+            for curve in self.curves.iter_mut() {
+                if let Some(lag) = queue.lag_of(curve.task) {
+                    curve.add(Point { time, lag }, scale)?;
+                }
+            }
+        }
+        Ok(())
+    }
+
+    /// Notes the load of a CPU where it has changed.
+    fn note_load(&mut self, cpu: CpuId, time: u64, load: u64) -> Result<(), AllocError> {
+        let at = cpu.index();
+        if at < self.last_loads.len() && self.last_loads[at] != load {
+            self.last_loads[at] = load;
+            self.loads.push(Load { cpu, time, load })?;
+        }
+        Ok(())
+    }
+}
+
+impl Curve {
+    fn add(&mut self, point: Point, scale: &Scale) -> Result<(), AllocError> {
+        let count = self.points.len();
+        if count > 0 && !is_after(self.points[count - 1], point) {
+            return Ok(());
+        }
+        if count >= 4 && column(self.points[count - 4], scale) == column(point, scale) {
+            self.narrow(point);
+            Ok(())
+        } else {
+            self.points.push(point)?;
+            Ok(())
+        }
+    }
+
+    /// Makes the first, the least, the greatest and the last of the last four points and one more.
+    fn narrow(&mut self, point: Point) {
+        let count = self.points.len();
+        if count < 4 {
+            return;
+        }
+        let second = self.points[count - 3];
+        let third = self.points[count - 2];
+        let fourth = self.points[count - 1];
+        let least = lesser(lesser(second, third), fourth);
+        let greatest = greater(greater(second, third), fourth);
+        let is_falling = greatest.time < least.time;
+        self.points[count - 3] = if is_falling { greatest } else { least };
+        self.points[count - 2] = if is_falling { least } else { greatest };
+        self.points[count - 1] = point;
+        self.thinned = true;
+    }
+
+    /// The greatest distance of a lag from 0, at least 1.
+    pub(crate) fn height(&self) -> u64 {
+        let mut height = 1;
+        for point in &self.points {
+            height = point.lag.unsigned_abs().max(height);
+        }
+        height
+    }
+}
+
+fn set_looked(looked: &mut [Option<u64>], cpu: CpuId, time: u64) {
+    let cpu = cpu.index();
+    if cpu < looked.len() {
+        looked[cpu] = Some(time);
+    }
+}
+
+/// Whether a point says something that the one before it doesn't, and isn't earlier.
+fn is_after(last: Point, point: Point) -> bool {
+    point.time >= last.time && point != last
+}
+
+fn column(point: Point, scale: &Scale) -> u64 {
+    part(
+        point.time.saturating_sub(scale.from),
+        COLUMNS,
+        scale.length(),
+    )
+}
+
+/// The one of lesser lag.
+fn lesser(one: Point, other: Point) -> Point {
+    if other.lag < one.lag { other } else { one }
+}
+
+/// The one of greater lag.
+fn greater(one: Point, other: Point) -> Point {
+    if other.lag > one.lag { other } else { one }
+}

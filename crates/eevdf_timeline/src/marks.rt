@@ -1,0 +1,156 @@
+//! The marks of a lane: each deed but a tick that charged somebody, where there is room.
+
+use crate::moments::{Moment, named_task};
+use crate::scale::{Tenths, part};
+use crate::words::Words;
+use eevdf_ops::Answer;
+use eevdf_queue::TaskId;
+use std::fmt;
+
+/// What a mark shows.
+#[derive(Clone, Copy, PartialEq, Eq)]
+pub enum Sign {
+    /// A pick of another task than ran.
+    Pick,
+    /// A pick of the task that runs, which changes nothing.
+    SamePick,
+    Yield,
+    Sleep,
+    Wake,
+    Pull,
+    Renice,
+    /// A deed that was refused, or that found nothing to do.
+    Refused,
+}
+
+impl Sign {
+    /// The signs with their words, in the order of the legend.
+    pub const ALL: [(Sign, &'static str); 8] = [
+        (Sign::Pick, "pick"),
+        (Sign::SamePick, "pick of the same"),
+        (Sign::Wake, "wake"),
+        (Sign::Sleep, "sleep"),
+        (Sign::Pull, "pull"),
+        (Sign::Renice, "renice"),
+        (Sign::Yield, "yield"),
+        (Sign::Refused, "refused or idle"),
+    ];
+}
+
+/// The name of the sign's shape.
+impl fmt::Display for Sign {
+    fn fmt<W: fmt::Write>(&self, f: &mut fmt::Formatter<W>) -> fmt::Result {
+        f.write_str(match self {
+            Sign::Pick => "pick",
+            Sign::SamePick => "same",
+            Sign::Yield => "yield",
+            Sign::Sleep => "sleep",
+            Sign::Wake => "wake",
+            Sign::Pull => "pull",
+            Sign::Renice => "renice",
+            Sign::Refused => "refused",
+        })
+    }
+}
+
+/// The sign of a deed, after which this task runs on its CPU as before it. A tick that charged somebody has none.
+pub(crate) fn sign_of(moment: &Moment, running: Option<TaskId>) -> Option<Sign> {
+    Some(match moment.line.answer {
+        Answer::Charged { .. } => return None,
+        Answer::Picked(task) if running == Some(task) => Sign::SamePick,
+        Answer::Picked(_) => Sign::Pick,
+        Answer::Yielded => Sign::Yield,
+        Answer::Slept(_) => Sign::Sleep,
+        Answer::Woken => Sign::Wake,
+        Answer::Pulled(_) => Sign::Pull,
+        Answer::Reniced => Sign::Renice,
+        _ => Sign::Refused,
+    })
+}
+
+/// Who runs on a CPU after a line, where this task ran before it.
+pub(crate) fn running_after(moment: &Moment, running: Option<TaskId>) -> Option<TaskId> {
+    match moment.line.answer {
+        Answer::Picked(task) => Some(task),
+        Answer::Slept(_) => None,
+        _ => running,
+    }
+}
+
+/// The task that a line concerns, where it names one.
+fn task_of(moment: &Moment, running: Option<TaskId>) -> Option<TaskId> {
+    match moment.line.answer {
+        Answer::Charged { task, .. } | Answer::Picked(task) | Answer::Pulled(task) => Some(task),
+        Answer::Yielded => running,
+        _ => named_task(moment.line.deed),
+    }
+}
+
+/// Whether a deed is of a chosen task, or no tasks are named.
+pub(crate) fn is_chosen(moment: &Moment, running: Option<TaskId>, words: &Words) -> bool {
+    match task_of(moment, running) {
+        None => !words.tasks.is_named(),
+        Some(task) => words.tasks.has(task.index()),
+    }
+}
+
+/// At most so many rows of marks are below the boxes of a lane.
+pub const MOST_ROWS: usize = 8;
+
+/// Of more deeds the marks have two rows, since most have no room anyway.
+const MANY_DEEDS: usize = 2000;
+
+/// The rows of marks of so many deeds at most.
+const FEW_ROWS: usize = 2;
+
+/// All lanes have so many rows together, where they have more than `FEW_ROWS` each.
+const ROWS_OF_ALL: u64 = 24;
+
+/// How far a mark is at least from the next one in its row, in tenths.
+const LEAST_GAP: u64 = 115;
+
+/// How far it is for each row of all lanes, in tenths: so all rows have about 1100 marks together.
+const GAP_OF_ROW: u64 = 8;
+
+/// The rows of marks of a lane, by the place at which each is free again.
+#[derive(Clone, Copy)]
+pub struct Rows {
+    free: [u64; MOST_ROWS],
+    /// How many of them may be used.
+    most: usize,
+    /// How far a mark is from the next one in its row.
+    gap: u64,
+}
+
+impl Rows {
+    /// The rows of one of so many lanes that are shown, where so many deeds are: fewer ones, and wider gaps, where there are many of
+    /// either, so that a picture has about 1100 marks at most.
+    pub(crate) fn new(lanes: usize, deeds: usize) -> Rows {
+        let lanes = (lanes as u64).max(1);
+        let most = if deeds > MANY_DEEDS {
+            FEW_ROWS as u64
+        } else {
+            part(ROWS_OF_ALL, 1, lanes).clamp(FEW_ROWS as u64, MOST_ROWS as u64)
+        };
+        let gap = lanes
+            .saturating_mul(most)
+            .saturating_mul(GAP_OF_ROW)
+            .max(LEAST_GAP);
+        Rows {
+            free: [0; MOST_ROWS],
+            most: most as usize,
+            gap,
+        }
+    }
+
+    /// The first row that is free at a place, which it isn't from then on.
+    pub(crate) fn take(&mut self, place: Tenths) -> Option<usize> {
+        for row in 0..MOST_ROWS {
+            if row < self.most && self.free[row] <= place.0 {
+                self.free[row] = place.0.saturating_add(self.gap);
+                return Some(row);
+            }
+        }
+        None
+    }
+}

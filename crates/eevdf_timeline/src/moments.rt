@@ -1,0 +1,149 @@
+//! The time of each deed.
+
+ghost use Rattle.std.specs.Prelude.{◌≡◌, map, IfOk};
+
+use eevdf_ops::{Answer, CpuId, Deed, Line, Solo};
+use eevdf_queue::TaskId;
+use std::alloc::{AllocError, Global};
+
+/// A line of the history with its time, in nanoseconds.
+#[derive(Clone, Copy)]
+pub struct Moment {
+    pub line: Line,
+    /// The clock of the deed's CPU as the deed began, in nanoseconds as the other times.
+    pub begin: u64,
+    /// The same after it: only a tick takes time.
+    pub end: u64,
+    /// The clock of the other CPU that the deed names, the source of a pull or the sender of a wake, and else of its own.
+    pub other: u64,
+}
+
+/// The CPU on which a deed is done.
+pub(crate) fn cpu_of(deed: Deed) -> CpuId {
+    match deed {
+        Deed::Tick { cpu, .. }
+        | Deed::Pick { cpu }
+        | Deed::Yield { cpu }
+        | Deed::Sleep { cpu, .. }
+        | Deed::Wake { cpu, .. }
+        | Deed::Pull { cpu, .. }
+        | Deed::Renice { cpu, .. } => cpu,
+    }
+}
+
+/// Does a deed of a history on a machine that has done all before it. The answer is the line's: the history is that of the one thread
+/// that does its deeds from the start, and `try_apply` answers as that thread.
+pub(crate) fn do_again(solo: &mut Solo, line: &Line) {
+    let _ = solo.try_apply(line.deed);
+}
+
+/// The task that a deed names.
+pub(crate) fn named_task(deed: Deed) -> Option<TaskId> {
+    match deed {
+        Deed::Sleep { task, .. } | Deed::Wake { task, .. } | Deed::Renice { task, .. } => {
+            Some(task)
+        }
+        Deed::Tick { .. } | Deed::Pick { .. } | Deed::Yield { .. } | Deed::Pull { .. } => None,
+    }
+}
+
+/// The lines of a history with their times. Each CPU has a clock, which its ticks move on, charged or idle. Before a pull it moves on
+/// to the clock of the source, and before a wake to the moment at which the task fell asleep, where it is behind: the CPU has
+/// waited until then.
+pub fn timed(
+    alloc: Global,
+    cpus: usize,
+    tasks: usize,
+    lines: &[Line],
+) -> Result<Vec<Moment>, AllocError>
+    ensures { IfOk result (λ moments. map (λ m. m.line) moments.items ≡ lines.now) }
+{
+    let mut clocks = Clocks::open(alloc, cpus, tasks)?;
+    let mut moments = Vec::with_capacity(alloc, lines.len())?;
+    for line in lines {
+        moments.push(clocks.moment(*line))?;
+    }
+    Ok(moments)
+}
+
+/// The clock of each CPU, and when each task fell asleep last.
+#[derive(Drop)]
+struct Clocks {
+    cpus: Vec<u64>,
+    slept: Vec<u64>,
+}
+
+impl Clocks {
+    fn open(alloc: Global, cpus: usize, tasks: usize) -> Result<Clocks, AllocError> {
+        let cpus = vec![in alloc; 0; cpus]?;
+        let slept = vec![in alloc; 0; tasks]?;
+        Ok(Clocks { cpus, slept })
+    }
+
+    /// The line with its time, after which the clocks go on.
+    fn moment(&mut self, line: Line) -> Moment
+        ensures { result.line ≡ line }
+    {
+        let cpu = cpu_of(line.deed).index();
+        let begin = time_at(&self.cpus, cpu).max(self.earliest(&line));
+        let end = begin.saturating_add(length_of(&line));
+        let other = self.other(line.deed);
+        set_time(&mut self.cpus, cpu, end);
+        if let Some(task) = slept_task(&line) {
+            set_time(&mut self.slept, task.index(), begin);
+        }
+        Moment {
+            line,
+            begin,
+            end,
+            other,
+        }
+    }
+
+    /// What a deed can't have come before.
+    fn earliest(&self, line: &Line) -> u64 {
+        let is_woken = line.answer == Answer::Woken;
+        match line.deed {
+            Deed::Pull { source, .. } => time_at(&self.cpus, source.index()),
+            Deed::Wake { task, .. } if is_woken => time_at(&self.slept, task.index()),
+            _ => 0,
+        }
+    }
+
+    fn other(&self, deed: Deed) -> u64 {
+        match deed {
+            Deed::Pull { source, .. } => time_at(&self.cpus, source.index()),
+            Deed::Wake { sender, .. } => time_at(&self.cpus, sender.index()),
+            _ => time_at(&self.cpus, cpu_of(deed).index()),
+        }
+    }
+}
+
+/// The task that fell asleep by a line.
+fn slept_task(line: &Line) -> Option<TaskId> {
+    match line.answer {
+        Answer::Slept(_) => named_task(line.deed),
+        _ => None,
+    }
+}
+
+fn time_at(times: &[u64], place: usize) -> u64 {
+    times.get(place).copied().unwrap_or(0)
+}
+
+fn set_time(times: &mut [u64], place: usize, time: u64) {
+    if place < times.len() {
+        times[place] = time;
+    }
+}
+
+/// The nanoseconds that a line takes: those of a tick, unless it was refused.
+fn length_of(line: &Line) -> u64 {
+    if line.answer == Answer::Range {
+        return 0;
+    }
+    match line.deed {
+        Deed::Tick { ns, .. } => ns.get(),
+        _ => 0,
+    }
+}

@@ -1,0 +1,206 @@
+//! The picture of a schedule, as SVG.
+
+use crate::axis::push_axis;
+use crate::lags::{COLUMNS, Lags, MOST_CURVES};
+use crate::lanes::Lanes;
+use crate::marks::Sign;
+use crate::moments::Moment;
+use crate::panels::{PITCH, push_panel};
+use crate::scale::Scale;
+use crate::stretches::Stretch;
+use crate::style::push_style;
+use crate::words::Words;
+use eevdf_ops::Setup;
+use std::alloc::{AllocError, Global};
+
+/// The top of the first lane, in units of the picture.
+const TOP: u64 = 118;
+
+/// Where the notes stand of what is coarser: one, and one more below it, in units.
+const NOTE: u64 = 40;
+
+const NEXT_NOTE: u64 = 55;
+
+/// How wide a picture is, in units.
+const PAGE: u64 = 1000;
+
+/// From the bottom of the last lane to the axis, and from the top of the axis' lines to the first lane, in units.
+const MARGIN: u64 = 6;
+
+/// From the axis below the lanes to the first panel, where the panels' heading is, in units.
+const HEADING: u64 = 46;
+
+/// From the end of the panels to the bottom of the picture, where their axis has its numbers, in units.
+const FOOT: u64 = 30;
+
+/// How far an entry of the legend is from the next one, in units.
+const ENTRY: u64 = 122;
+
+/// The second row of the legend: the arrow, and the boxes that aren't of one chosen task.
+const KEYS: &str =
+    "<path class=\"p\" d=\"M8 90H26\"/><text class=\"s\" x=\"32\" y=\"94\">pulled from</text>
+<rect class=\"b m\" x=\"130\" y=\"84\" width=\"12\" height=\"12\"/><text class=\"s\" x=\"147\" y=\"94\">several stretches</text>
+<rect class=\"b o\" x=\"252\" y=\"84\" width=\"12\" height=\"12\"/><text class=\"s\" x=\"269\" y=\"94\">task not chosen</text>
+";
+
+/// What is drawn.
+#[derive(Clone, Copy)]
+pub struct Scene<'a> {
+    pub setup: &'a Setup,
+    pub moments: &'a [Moment],
+    pub stretches: &'a [Stretch],
+    pub lags: &'a Lags,
+    pub scale: Scale,
+    pub words: &'a Words,
+}
+
+/// The picture of a scene.
+pub(crate) fn picture_of(alloc: Global, scene: &Scene<'_>) -> Result<Vec<u8>, AllocError> {
+    let cpus = scene.setup.cpus();
+    let mut lanes = Lanes::of(alloc, cpus, scene.moments, &scene.scale, scene.words, TOP)?;
+    let bottom = lanes.bottom().max(TOP).saturating_add(MARGIN);
+    let panels = bottom.saturating_add(HEADING);
+    let count = scene.lags.curves.len() as u64;
+    let end = panels.saturating_add(count.saturating_mul(PITCH));
+    let mut text = String::new(alloc);
+    push_head(&mut text, scene, end.saturating_add(FOOT))?;
+    push_grid(&mut text, scene, bottom, end)?;
+    lanes.push_boxes(&mut text, scene.stretches, &scene.scale, scene.words)?;
+    lanes.push_marks(&mut text, &scene.scale)?;
+    push_panels(&mut text, scene, panels)?;
+    push_notes(&mut text, scene, &lanes)?;
+    text.push_str("</svg>\n")?;
+    Ok(text.into_bytes())
+}
+
+fn push_head(text: &mut String, scene: &Scene<'_>, height: u64) -> Result<(), AllocError> {
+    let (cpus, tasks, deeds) = (scene.setup.cpus(), scene.setup.tasks(), scene.moments.len());
+    write!(
+        text,
+        "<svg xmlns=\"http://www.w3.org/2000/svg\" viewBox=\"0 0 {PAGE} {height}\" width=\"{PAGE}\" height=\"{height}\" "
+    )?;
+    writeln!(
+        text,
+        "style=\"max-width:100%;height:auto\" font-family=\"sans-serif\">"
+    )?;
+    writeln!(
+        text,
+        "<title>A schedule of {cpus} CPUs and {tasks} tasks</title>"
+    )?;
+    push_style(text)?;
+    writeln!(
+        text,
+        "<rect class=\"w\" width=\"{PAGE}\" height=\"{height}\"/>"
+    )?;
+    writeln!(
+        text,
+        "<text class=\"h\" x=\"10\" y=\"22\">CPUs {cpus}, tasks {tasks}, deeds {deeds}: what ran when, by the time that ticks took</text>"
+    )?;
+    push_legend(text)
+}
+
+fn push_legend(text: &mut String) -> Result<(), AllocError> {
+    let mut place = 16u64;
+    for (sign, word) in Sign::ALL {
+        let after = place.saturating_add(9);
+        writeln!(
+            text,
+            "<use href=\"#{sign}\" x=\"{place}\" y=\"72\"/><text class=\"s\" x=\"{after}\" y=\"76\">{word}</text>"
+        )?;
+        place = place.saturating_add(ENTRY);
+    }
+    text.push_str(KEYS)
+}
+
+/// Writes the axis below the lanes, and one more below the panels.
+fn push_grid(
+    text: &mut String,
+    scene: &Scene<'_>,
+    bottom: u64,
+    end: u64,
+) -> Result<(), AllocError> {
+    push_axis(text, &scene.scale, TOP.saturating_sub(MARGIN), bottom)?;
+    if scene.lags.curves.is_empty() {
+        return Ok(());
+    }
+    push_axis(
+        text,
+        &scene.scale,
+        bottom.saturating_add(HEADING - MARGIN),
+        end,
+    )
+}
+
+fn push_panels(text: &mut String, scene: &Scene<'_>, top: u64) -> Result<(), AllocError> {
+    let head = top.saturating_sub(10);
+    let mut top = top;
+    if !scene.lags.curves.is_empty() {
+        writeln!(
+            text,
+            "<text class=\"s\" x=\"10\" y=\"{head}\">Lags in nanoseconds of virtual time: above 0 a task is eligible (shaded)</text>"
+        )?;
+    }
+    for curve in &scene.lags.curves {
+        push_panel(text, curve, &scene.scale, top)?;
+        top = top.saturating_add(PITCH);
+    }
+    Ok(())
+}
+
+/// How many tasks are chosen.
+fn chosen_tasks(scene: &Scene<'_>) -> usize {
+    let mut chosen = 0usize;
+    for task in 0..scene.setup.tasks() {
+        if scene.words.tasks.has(task) {
+            chosen = chosen.saturating_add(1);
+        }
+    }
+    chosen
+}
+
+/// Says what is left out or drawn coarser: in one line of lanes, and in one of lags.
+fn push_notes(text: &mut String, scene: &Scene<'_>, lanes: &Lanes) -> Result<(), AllocError> {
+    let is_whole = lanes.joined == 0 && lanes.left_out == 0;
+    if !is_whole {
+        push_lane_note(text, lanes)?;
+    }
+    let height = if is_whole { NOTE } else { NEXT_NOTE };
+    push_lag_note(text, scene, height)
+}
+
+fn push_lane_note(text: &mut String, lanes: &Lanes) -> Result<(), AllocError> {
+    write!(text, "<text class=\"s\" x=\"10\" y=\"{NOTE}\">")?;
+    if lanes.joined > 0 {
+        write!(
+            text,
+            "Drawn coarser: {} stretches are in grey boxes of several. ",
+            lanes.joined
+        )?;
+    }
+    if lanes.left_out > 0 {
+        write!(text, "{} marks have no room. ", lanes.left_out)?;
+    }
+    writeln!(text, "</text>")
+}
+
+fn push_lag_note(text: &mut String, scene: &Scene<'_>, height: u64) -> Result<(), AllocError> {
+    let chosen = chosen_tasks(scene);
+    let thinned = scene.lags.are_thinned();
+    if !thinned && chosen <= MOST_CURVES {
+        return Ok(());
+    }
+    write!(text, "<text class=\"s\" x=\"10\" y=\"{height}\">")?;
+    if thinned {
+        write!(
+            text,
+            "Curves keep 4 lags of each 1/{COLUMNS} of the width. "
+        )?;
+    }
+    if chosen > MOST_CURVES {
+        write!(
+            text,
+            "Lags are those of the first {MOST_CURVES} of {chosen} tasks; --task chooses others. "
+        )?;
+    }
+    writeln!(text, "</text>")
+}

@@ -1,0 +1,175 @@
+//! What the program's words ask for.
+
+use clap::{Arg, ArgAction, ArgMatches, Command};
+use eevdf_bench::{Kind, WordFault};
+use eevdf_ops::CpuId;
+use eevdf_queue::TaskId;
+use std::alloc::{AllocError, Global};
+use std::convert::AsStr;
+
+/// What is written.
+#[derive(Clone, Copy, PartialEq, Eq, Debug)]
+pub enum Output {
+    /// A picture, as SVG.
+    Picture,
+    /// A trace, as Trace Event JSON.
+    Trace,
+    /// Figures as text in columns.
+    Table,
+    /// The same figures as JSON.
+    Json,
+}
+
+/// The numbers that are chosen of CPUs or of tasks.
+#[derive(Drop)]
+pub struct Choice {
+    // whether a number is chosen, by number; all are where none is named
+    chosen: Option<Vec<bool>>,
+}
+
+impl Choice {
+    /// Whether the number is chosen.
+    pub(crate) fn has(&self, number: usize) -> bool {
+        match &self.chosen {
+            None => true,
+            Some(chosen) => chosen.get(number).copied().unwrap_or(false),
+        }
+    }
+
+    /// Whether numbers are named.
+    pub(crate) fn is_named(&self) -> bool {
+        self.chosen.is_some()
+    }
+}
+
+/// What is asked for.
+#[derive(Drop)]
+pub struct Words {
+    /// Whether the script is done, the order played or the programs run.
+    pub source: Kind,
+    pub output: Output,
+    /// The first nanosecond that is drawn.
+    pub from: u64,
+    /// The nanosecond after the last one that is drawn, where one is named.
+    pub to: Option<u64>,
+    pub cpus: Choice,
+    pub tasks: Choice,
+}
+
+/// Reads the program's words, of which the first is the program's name.
+pub(crate) fn words_of<S: AsStr>(alloc: Global, words: &[S]) -> Result<Words, WordFault> {
+    let matches = program(alloc)?.try_get_matches_from(words)?;
+    asked_by(alloc, &matches)
+}
+
+fn asked_by(alloc: Global, matches: &ArgMatches<'_>) -> Result<Words, WordFault> {
+    let source = source_of(matches.get_flag("replay"), matches.get_flag("run"))?;
+    let output = output_of(matches)?;
+    let from = number_of(matches.get_str("from"))?;
+    let to = number_of(matches.get_str("to"))?;
+    check_window(output, from, to)?;
+    let cpus = chosen(alloc, matches.get_str("cpu"), CpuId::COUNT)?;
+    let tasks = chosen(alloc, matches.get_str("task"), TaskId::COUNT)?;
+    Ok(Words {
+        source,
+        output,
+        from: from.unwrap_or(0),
+        to,
+        cpus: Choice { chosen: cpus },
+        tasks: Choice { chosen: tasks },
+    })
+}
+
+fn source_of(replay: bool, run: bool) -> Result<Kind, WordFault> {
+    match (replay, run) {
+        (false, false) => Ok(Kind::Solo),
+        (true, false) => Ok(Kind::Replay),
+        (false, true) => Ok(Kind::Run),
+        (true, true) => Err(WordFault::Words),
+    }
+}
+
+fn output_of(matches: &ArgMatches<'_>) -> Result<Output, WordFault> {
+    let stats = matches.get_flag("stats");
+    match (
+        matches.get_flag("perfetto"),
+        stats,
+        matches.get_flag("json"),
+    ) {
+        (false, false, false) => Ok(Output::Picture),
+        (true, false, false) => Ok(Output::Trace),
+        (false, true, false) => Ok(Output::Table),
+        (false, true, true) => Ok(Output::Json),
+        _ => Err(WordFault::Words),
+    }
+}
+
+/// Figures are of the whole schedule, and a window has some length.
+fn check_window(output: Output, from: Option<u64>, to: Option<u64>) -> Result<(), WordFault> {
+    let is_of_all = from.is_none() && to.is_none();
+    let is_empty = to.is_some_and(|end| end <= from.unwrap_or(0));
+    let counts = output == Output::Table || output == Output::Json;
+    if is_empty || counts && !is_of_all {
+        Err(WordFault::Words)
+    } else {
+        Ok(())
+    }
+}
+
+fn number_of(value: Option<&str>) -> Result<Option<u64>, WordFault> {
+    let Some(text) = value else {
+        return Ok(None);
+    };
+    match text.parse::<u64>() {
+        Ok(number) => Ok(Some(number)),
+        Err(_) => Err(WordFault::Words),
+    }
+}
+
+/// The numbers of a list with commas, each below a limit.
+fn chosen(
+    alloc: Global,
+    value: Option<&str>,
+    limit: usize,
+) -> Result<Option<Vec<bool>>, WordFault> {
+    let Some(text) = value else {
+        return Ok(None);
+    };
+    let mut chosen = vec![in alloc; false; limit]?;
+    for word in text.split(',') {
+        choose(&mut chosen, word)?;
+    }
+    Ok(Some(chosen))
+}
+
+fn choose(chosen: &mut [bool], word: &str) -> Result<(), WordFault> {
+    match word.parse::<usize>() {
+        Ok(number) if number < chosen.len() => {
+            chosen[number] = true;
+            Ok(())
+        }
+        _ => Err(WordFault::Words),
+    }
+}
+
+// The program as `clap` knows it: no flag is one for help.
+fn program<'a>(alloc: Global) -> Result<Command<'a>, AllocError> {
+    let bare = Command::new(alloc, "eevdf_timeline")
+        .disable_help_flag(true)
+        .disable_help_subcommand(true);
+    let source = bare.arg(flag(alloc, "replay"))?.arg(flag(alloc, "run"))?;
+    let output = source
+        .arg(flag(alloc, "perfetto"))?
+        .arg(flag(alloc, "stats"))?
+        .arg(flag(alloc, "json"))?;
+    let window = output.arg(value(alloc, "from"))?.arg(value(alloc, "to"))?;
+    window.arg(value(alloc, "cpu"))?.arg(value(alloc, "task"))
+}
+
+fn flag<'a>(alloc: Global, name: &'a str) -> Arg<'a> {
+    Arg::new(alloc, name).long(name).action(ArgAction::SetTrue)
+}
+
+fn value<'a>(alloc: Global, name: &'a str) -> Arg<'a> {
+    Arg::new(alloc, name).long(name).action(ArgAction::Set)
+}
