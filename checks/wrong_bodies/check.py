@@ -1,26 +1,26 @@
 #!/usr/bin/env -S python3 -B
-"""checks/wrong_bodies/check.py [CRATE | CRATE/NAME]..: tries the wrong bodies, of every crate or of those named.
+"""checks/wrong_bodies/check.py [--right] [CRATE | CRATE/NAME]..: tries the wrong bodies, of every crate or of those named.
 
-Each must be refused in the function that its line `refused:` names. Wrong bodies of different functions are planted together in
-one copy of the crate and tried by one check, since a function is proved from the contracts of those that it calls, and not from
-their bodies. One that such a check doesn't say enough of is tried once more by itself. They are tried over the libraries that
-`rt ci` makes in a copy of the repository, while it goes on there; none of a crate counts that isn't proved there as it stands. The
-last line is 'N passed, M failed'."""
+Each must be refused in the function that its line `refused:` names. Many are planted together in one copy of the crate and tried by
+one check, since a function is proved from the contracts of those that it calls, and not from their bodies. One that such a check
+doesn't say enough of is tried once more by itself. They are tried over the libraries that `rt ci` makes in a copy of the repository,
+while it goes on there; none of a crate counts that isn't proved there as it stands. With --right the right bodies are tried in their
+places, and each has to be proved. The last line is 'N passed, M failed'."""
 
 import argparse
 import contextlib
 import math
 import os
 import re
-import shutil
 import sys
 import tempfile
 import threading
 from pathlib import Path
 
-from edits import TOP, BadEdit, apply, are_apart, edits_of, is_of_bodies, names_of
+from edits import TOP, BadEdit, are_apart, edits_of, is_of_bodies, names_of
 from libraries import CRATES, Libraries
-from stand_ins import make_library, put_stand_ins
+from planting import ENDS, can_be_copied, plant
+from stand_ins import make_library
 
 sys.path.append(str(TOP / "tools"))
 
@@ -69,7 +69,8 @@ class Said:
                 wrong_proofs.setdefault(function_of(folder), error)
         for name, told in FUNCTION.findall(text):
             name = name.removeprefix(f"{crate}::")
-            if told == "proved":
+            # of one that may wait it says so too
+            if told.partition(",")[0] == "proved":
                 self.proved.add(name)
             elif not NOT_COVERED.search(told):
                 self.look(name, told, wrong_proofs)
@@ -92,30 +93,35 @@ def function_of(folder):
 class Tries:
     """The tries of one crate's edits over libraries."""
 
-    def __init__(self, crate, libraries):
+    def __init__(self, crate, libraries, is_right):
         self.crate = crate
         self.libraries = libraries
+        self.is_right = is_right
 
     def try_together(self, edits):
-        """What a check says of a copy of the crate with these edits in place, and with stand-ins for the functions that aren't
-        theirs."""
+        """The function that each of these edits is planted in, and what a check says of a copy of the crate with all of them."""
         (folder_of(self.crate) / "out").mkdir(exist_ok=True)
         with tempfile.TemporaryDirectory(prefix="wrong-bodies-", dir=folder_of(self.crate) / "out") as held:
             folder = Path(held)
             copy_parts(self.crate, SOURCES, folder)
-            put_stand_ins(folder, {name for edit in edits for name in names_of(edit, folder)})
-            for edit in edits:
-                apply(edit, folder)
+            names = plant(edits, folder, self.is_right)
             if all("main" not in names_of(edit, folder_of(self.crate)) for edit in edits):
                 make_library(folder)
-            return Said(self.crate, self.libraries.check(self.crate, folder, {edit.refused for edit in edits}))
+            return names, Said(self.crate, self.libraries.check(self.crate, folder, set(names.values())))
+
+    def try_right_bodies(self, edits):
+        """Each of the edits with whether its function is proved as it stands where the edit would be tried, and what is said of it."""
+        names, said = self.try_together(edits)
+        return [(edit, name in said.proved, said.refused.get(name, name)) for edit, name in names.items()]
 
     def try_group(self, edits):
         """Each of the edits with whether it is refused in its function, and what is said of it."""
-        said = self.try_together(edits)
-        told = [(edit, True, said.refused[edit.refused]) for edit in edits if edit.refused in said.refused]
-        told += [(edit, False, f"{edit.refused} is proved") for edit in edits if edit.refused in said.proved]
-        rest = [edit for edit in edits if edit.refused not in said.refused and edit.refused not in said.proved]
+        if self.is_right:
+            return self.try_right_bodies(edits)
+        names, said = self.try_together(edits)
+        told = [(edit, True, said.refused[name]) for edit, name in names.items() if name in said.refused]
+        told += [(edit, False, f"{edit.refused} is proved") for edit, name in names.items() if name in said.proved]
+        rest = [edit for edit, name in names.items() if name not in said.refused and name not in said.proved]
         if len(edits) == 1:
             return told or [(edit, False, f"not refused in {edit.refused}, but: {said.error}") for edit in rest]
         # a check that refuses none of them has ended before it reached any
@@ -125,19 +131,27 @@ class Tries:
         return told
 
 
+def fits(edit, group, folder):
+    """Whether an edit can be tried together with others: those of the same function leave it a copy of the function."""
+    same = [other for other in group if other.refused == edit.refused]
+    apart = all(are_apart(edit, other, folder) for other in group if other not in same)
+    return apart and (not same or len(same) <= len(ENDS) and can_be_copied(edit, folder))
+
+
 def groups_of(crate, edits):
-    """The edits in groups that are tried together: no two of them of one function, and by itself each that changes more than
-    bodies."""
+    """The edits in groups that are tried together, and by itself each that changes more than bodies."""
     folder = folder_of(crate)
     together = [edit for edit in edits if is_of_bodies(edit, folder)]
+    # those that can't stand in a copy come first, and so have the functions themselves
+    together.sort(key=lambda edit: can_be_copied(edit, folder))
     alone = [[edit] for edit in edits if edit not in together]
     groups = [[] for _ in range(math.ceil(len(together) / MOST))]
     for edit in together:
-        free = [group for group in groups if all(are_apart(edit, other, folder) for other in group)]
+        free = [group for group in groups if fits(edit, group, folder)]
         if not free:
             groups.append([])
             free = groups[-1:]
-        min(free, key=len).append(edit)
+        min(free, key=lambda group: (edit.refused in (it.refused for it in group), len(group))).append(edit)
     return groups + alone
 
 
@@ -146,13 +160,14 @@ def groups_of(crate, edits):
 class Run:
     """The crates whose edits can't be tried yet, and the groups of edits that can."""
 
-    def __init__(self, edits, libraries):
+    def __init__(self, edits, libraries, is_right):
         self.edits = edits
         self.libraries = libraries
+        self.is_right = is_right
         self.change = libraries.change
         self.waiting = list(edits)
         self.groups = []
-        self.refused = []
+        self.passed = []
         self.busy = 0
 
     def next_task(self):
@@ -167,13 +182,14 @@ class Run:
 
     def try_group(self, crate, group):
         try:
-            told = Tries(crate, self.libraries).try_group(group)
+            told = Tries(crate, self.libraries, self.is_right).try_group(group)
         except BadEdit as why:
             told = [(group[0], False, str(why))]
         with self.change:
-            for edit, is_refused, text in told:
-                print(f"{'refused' if is_refused else 'FAILED'}: {edit}: {text[:240]}", flush=True)
-                self.refused += [edit] * is_refused
+            for edit, is_passed, text in told:
+                word = "FAILED" if not is_passed else "proved" if self.is_right else "refused"
+                print(f"{word}: {edit}: {text[:240]}", flush=True)
+                self.passed += [edit] * is_passed
 
     def may_go_on(self):
         """Whether something is under way after which there may be more to do."""
@@ -206,11 +222,11 @@ class Run:
             thread.join()
 
     def count(self):
-        """How many edits are refused of crates that are proved as they stand."""
+        """How many edits have passed of crates that are proved as they stand."""
         for crate in self.edits:
             if crate not in self.libraries.proved:
                 print(f"rt ci doesn't prove {crate}, so its wrong bodies tell nothing", flush=True)
-        return sum(edit.crate in self.libraries.proved for edit in self.refused)
+        return sum(edit.crate in self.libraries.proved for edit in self.passed)
 
 
 @contextlib.contextmanager
@@ -235,6 +251,7 @@ def parse_words():
     words = argparse.ArgumentParser(description=__doc__, formatter_class=argparse.RawDescriptionHelpFormatter)
     words.add_argument("--copy", type=Path, help="a copy of the repository where `rt ci` runs, whose words are the standard input")
     words.add_argument("--jobs", type=int, default=len(os.sched_getaffinity(0)), help="how many checks run at a time")
+    words.add_argument("--right", action="store_true", help="tries the right bodies in the places of the wrong ones")
     words.add_argument("named", nargs="*", help="a crate, or CRATE/NAME of crates/CRATE/must-fail/NAME.edit")
     return words.parse_args()
 
@@ -256,7 +273,7 @@ def main():
     with open(TOP / "crates.txt") as held:
         wait_for_other_runs("wrong_bodies", held)
         with ci_of(edits, words.copy) as (top, said):
-            run = Run(edits, Libraries(top, said, threading.Condition()))
+            run = Run(edits, Libraries(top, said, threading.Condition()), words.right)
             run.go(words.jobs)
     passed = run.count()
     failed = sum(map(len, edits.values())) - passed

@@ -9,7 +9,9 @@ from pathlib import Path
 TOP = Path(__file__).resolve().parents[2]
 
 # The line that a function begins with.
-FUNCTION = re.compile(r"^( *)(?:pub(?:\([a-z]+\))? )?(?:const )?fn (\w+)")
+FUNCTION = re.compile(r'^( *)(?:pub(?:\([a-z]+\))? )?(?:const )?(?:unsafe )?(?:extern "C" )?fn (\w+)')
+# What may be written by hand of a function's proof, in a folder of its name.
+PROOF_FILES = ("Answers.antt", "Invariants.antt", "Proof.antt")
 
 
 @dataclass(frozen=True)
@@ -118,8 +120,12 @@ def function_at(text, place):
 
 
 def function_changed(text, change):
-    """The name of the function whose body a change of a file's text is of, if it is one's. A change that leaves the end of a signature as
-    it is, and puts another body after it, gives the body that stood there to a further function: it is of that function's body too."""
+    """The name of the function whose body or proof a change of a file's text is of, if it is one's. A change that leaves the end of a
+    signature as it is, and puts another body after it, gives the body that stood there to a further function: it is of that function's
+    body too."""
+    file = Path(change.file)
+    if file.name in PROOF_FILES:
+        return file.parent.name
     place = text.index(change.old)
     end = place + len(change.old)
     if not change.new.startswith(change.old + " {") or text[end] != "\n":

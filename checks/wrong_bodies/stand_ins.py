@@ -3,7 +3,7 @@ so a try needs the contracts of the other functions and not their proofs. A stan
 doesn't return, so it meets any contract, and its proof takes next to nothing. Nothing that is proved over stand-ins is kept as a proof
 of the crate, which `rt ci` proves as it stands."""
 
-from edits import functions_of
+from edits import PROOF_FILES, functions_of
 
 MODULE = """//! What stands in for the bodies that aren't tried.
 
@@ -19,14 +19,14 @@ pub fn stand_in() -> !
 }
 """
 BODY = "    crate::stand_in::stand_in()"
-# What may be written by hand of a function's proof.
-PROOF_FILES = ("Answers.antt", "Invariants.antt", "Proof.antt")
 
 
-def with_stand_ins(text, kept):
-    """The text of a file with stand-ins for all bodies but those of the functions that are kept."""
-    lines = text.split("\n")
+def with_stand_ins(text, kept, planted, copies):
+    """The text of a file with stand-ins for all bodies but those of the functions that are kept; in which some lines, by their numbers,
+    have others planted in their place, and after some functions, by the numbers of their first lines, there are copies of them."""
+    lines = [planted.get(number, line) for number, line in enumerate(text.split("\n"))]
     for function in reversed(functions_of(text)):
+        lines[function.end + 1 : function.end + 1] = copies.get(function.first, [])
         if function.name not in kept:
             signature = lines[function.begin].removesuffix("}")
             lines[function.begin : function.end + 1] = [signature, function.margin + BODY, function.margin + "}"]
@@ -39,10 +39,12 @@ def root_of(folder):
     return library if library.is_file() else folder / "src" / "main.rt"
 
 
-def put_stand_ins(folder, kept):
-    """Puts stand-ins into a crate's folder for the bodies of all functions but those of these names."""
+def put_stand_ins(folder, kept, planted, copies):
+    """Puts stand-ins into a crate's folder for the bodies of all functions but those of these names, and plants lines and copies of
+    functions, by their files."""
     for file in (folder / "src").rglob("*.rt"):
-        file.write_text(with_stand_ins(file.read_text(), kept))
+        name = str(file.relative_to(folder))
+        file.write_text(with_stand_ins(file.read_text(), kept, planted.get(name, {}), copies.get(name, {})))
     (folder / "src" / "stand_in.rt").write_text(MODULE)
     with open(root_of(folder), "a") as root:
         root.write("\nmod stand_in;\n")
