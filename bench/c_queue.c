@@ -1,5 +1,8 @@
-/* c_queue.c MIX TASKS TURNS: turns of calls of one queue through C, on the inputs of the program queue_bench, and the same checksum of the
- * answers (docs/speed.md has both). The mixes are tick-pick and tick-sleep-pick-wake. */
+/*
+ * c_queue.c MIX TASKS TURNS: turns of calls of one queue through C, on the inputs of the program
+ * queue_bench, and the same checksum of the answers (docs/speed.md has both). The mixes are
+ * tick-pick and tick-sleep-pick-wake.
+ */
 #include <eevdf.h>
 #include <inttypes.h>
 #include <stdio.h>
@@ -58,7 +61,7 @@ static inline void add(int64_t answer)
 	sum = sum * 31 + (uint32_t)answer;
 }
 
-/* 0 where nobody runs, 1 where the running task is charged, 2 where its request is used up, 3 where it can't be. */
+/* 0: nobody runs. 1: it is charged. 2: its request is used up too. 3: it can't be charged. */
 static inline void tick(uint64_t ns)
 {
 	int64_t answer = eevdf_tick(&queue, ns);
