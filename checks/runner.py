@@ -49,15 +49,16 @@ def limit(limits):
         resource.setrlimit(kind, (most, most))
 
 
-def run(words, data=b"", seconds=PATIENCE, limits=None, stdout=None, **more):
-    """Runs a program on these bytes to its end, or for so many seconds. Limits are those of the system, by their kind. The output goes
-    elsewhere where that is given, and isn't kept then."""
+def run(words, data=b"", seconds=PATIENCE, limits=None, stdin=None, stdout=None, stderr=None, **more):
+    """Runs a program on these bytes to its end, or for so many seconds. Limits are those of the system, by their kind. What is read comes
+    from elsewhere where that is given; so what is written goes there, and isn't kept then."""
     with tempfile.TemporaryFile() as given, tempfile.TemporaryFile() as out, tempfile.TemporaryFile() as errors:
         given.write(data)
         given.seek(0)
         begun = time.monotonic()
         process = subprocess.Popen(
-            words, stdin=given, stdout=stdout or out, stderr=errors, preexec_fn=partial(limit, limits) if limits else None, **more
+            words, stdin=stdin or given, stdout=stdout or out, stderr=stderr or errors,
+            preexec_fn=partial(limit, limits) if limits else None, **more
         )
         alarm = threading.Timer(seconds, process.kill)
         alarm.start()
