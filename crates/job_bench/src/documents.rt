@@ -1,0 +1,130 @@
+//! The texts of workloads.
+
+use eevdf_ops::{Deed, Op, TaskSpec};
+use itoa::Buffer;
+use std::alloc::AllocError;
+
+/// Writes the tasks of a machine.
+pub fn push_tasks(text: &mut Vec<u8>, tasks: &[TaskSpec]) -> Result<(), AllocError> {
+    for task in tasks {
+        text.extend_from_slice(b"[[task]]\nhome = ")?;
+        push_number(text, task.home.get())?;
+        text.extend_from_slice(b"\nnice = ")?;
+        push_signed(text, task.nice.get())?;
+        text.extend_from_slice(b"\nslice = ")?;
+        push_number(text, task.slice.get())?;
+        text.extend_from_slice(b"\nstart = ")?;
+        push_signed(text, task.start)?;
+        text.extend_from_slice(if task.asleep {
+            b"\nasleep = true\n"
+        } else {
+            b"\n"
+        })?;
+    }
+    Ok(())
+}
+
+/// Writes the version: 2 for machines and scripts that version 1 doesn't take.
+pub fn push_version(text: &mut Vec<u8>, wide: bool) -> Result<(), AllocError> {
+    text.extend_from_slice(if wide {
+        b"version = 2\n"
+    } else {
+        b"version = 1\n"
+    })
+}
+
+/// Writes the programs of the CPUs.
+pub fn push_programs(text: &mut Vec<u8>, programs: &[Vec<Op>]) -> Result<(), AllocError> {
+    text.extend_from_slice(b"program = [\n")?;
+    for program in programs {
+        push_program(text, program)?;
+    }
+    text.extend_from_slice(b"]\n")
+}
+
+fn push_program(text: &mut Vec<u8>, program: &[Op]) -> Result<(), AllocError> {
+    text.extend_from_slice(b"[")?;
+    for operation in program {
+        text.extend_from_slice(b"\"")?;
+        push_operation(text, operation)?;
+        text.extend_from_slice(b"\",\n")?;
+    }
+    text.extend_from_slice(b"],\n")
+}
+
+/// Writes programs without operations for so many CPUs.
+pub fn push_no_programs(text: &mut Vec<u8>, cpus: u64) -> Result<(), AllocError> {
+    text.extend_from_slice(b"program = [")?;
+    for _cpu in 0..cpus {
+        text.extend_from_slice(b"[],")?;
+    }
+    text.extend_from_slice(b"]\n")
+}
+
+/// Writes an order, 32 places on a line.
+pub fn push_order(text: &mut Vec<u8>, order: &[usize]) -> Result<(), AllocError> {
+    text.extend_from_slice(b"order = [")?;
+    for (at, caller) in order.iter().enumerate() {
+        text.extend_from_slice(if at % 32 == 0 { b"\n" } else { b" " })?;
+        push_number(text, *caller as u64)?;
+        text.extend_from_slice(b",")?;
+    }
+    text.extend_from_slice(b"\n]\n")
+}
+
+fn push_operation(text: &mut Vec<u8>, operation: &Op) -> Result<(), AllocError> {
+    match operation {
+        Op::Tick(ns) => push_with(text, b"tick ", ns.get()),
+        Op::Pick => text.extend_from_slice(b"pick"),
+        Op::Yield => text.extend_from_slice(b"yield"),
+        Op::Sleep(task) => push_with(text, b"sleep ", task.get()),
+        Op::Post(task) => push_with(text, b"post ", task.get()),
+        Op::Drain => text.extend_from_slice(b"drain"),
+        Op::Pull(source) => push_with(text, b"pull ", source.get()),
+        Op::Renice(task, nice) => {
+            push_with(text, b"renice ", task.get())?;
+            text.extend_from_slice(b" ")?;
+            push_signed(text, nice.get())
+        }
+    }
+}
+
+/// Writes a deed as a member of a script.
+pub fn push_deed(text: &mut Vec<u8>, deed: &Deed) -> Result<(), AllocError> {
+    text.extend_from_slice(b"\"")?;
+    match deed {
+        Deed::Tick { cpu, ns } => push_done(text, cpu.get(), &Op::Tick(*ns)),
+        Deed::Pick { cpu } => push_done(text, cpu.get(), &Op::Pick),
+        Deed::Yield { cpu } => push_done(text, cpu.get(), &Op::Yield),
+        Deed::Sleep { cpu, task } => push_done(text, cpu.get(), &Op::Sleep(*task)),
+        Deed::Pull { cpu, source } => push_done(text, cpu.get(), &Op::Pull(*source)),
+        Deed::Renice { cpu, task, nice } => {
+            push_done(text, cpu.get(), &Op::Renice(*task, *nice))
+        }
+        Deed::Wake { cpu, task, sender } => {
+            push_number(text, cpu.get())?;
+            push_with(text, b" wake ", task.get())?;
+            push_with(text, b" from ", sender.get())
+        }
+    }?;
+    text.extend_from_slice(b"\",\n")
+}
+
+fn push_done(text: &mut Vec<u8>, cpu: u64, operation: &Op) -> Result<(), AllocError> {
+    push_number(text, cpu)?;
+    text.extend_from_slice(b" ")?;
+    push_operation(text, operation)
+}
+
+fn push_with(text: &mut Vec<u8>, word: &[u8], number: u64) -> Result<(), AllocError> {
+    text.extend_from_slice(word)?;
+    push_number(text, number)
+}
+
+fn push_number(text: &mut Vec<u8>, number: u64) -> Result<(), AllocError> {
+    text.extend_from_slice(Buffer::new().format(number).as_bytes())
+}
+
+fn push_signed(text: &mut Vec<u8>, number: i64) -> Result<(), AllocError> {
+    text.extend_from_slice(Buffer::new().format(number).as_bytes())
+}

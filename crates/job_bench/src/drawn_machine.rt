@@ -1,0 +1,132 @@
+//! Machines whose tasks are drawn.
+
+ghost use Rattle.std.specs.Prelude.{◌<◌, ◌≤◌, IfOk, vec_len};
+
+use crate::job_fault::JobFault;
+use drawn_values::Draws;
+use eevdf_ops::{CpuId, Op, Setup, TaskSpec};
+use eevdf_queue::TaskId;
+use eevdf_weight::{Nice, Slice};
+use std::alloc::{AllocError, Global};
+
+/// How large a machine is, and of what kind its tasks are.
+#[derive(Clone, Copy)]
+pub struct Shape {
+    pub cpus: u64,
+    pub tasks: u64,
+    /// Whether all tasks are of one level, slice and start.
+    pub alike: bool,
+    pub ghost cpus_some: { 0 < cpus },
+    pub ghost cpus_few: { cpus ≤ 64 },
+    pub ghost tasks_some: { 0 < tasks },
+    pub ghost tasks_few: { tasks ≤ 1024 },
+}
+
+/// The lengths of slices, of which each task has one.
+const SLICES: [u64; 8] = [
+    100_000,
+    700_000,
+    1_000_000,
+    3_000_000,
+    3_000_000,
+    3_000_000,
+    10_000_000,
+    100_000_000,
+];
+
+/// The tasks of a machine, at home on the CPUs by turns. The first two of each CPU are heavy, so that they run often.
+pub fn drawn_tasks(
+    alloc: Global,
+    shape: &Shape,
+    draws: &mut Draws,
+) -> Result<Vec<TaskSpec>, AllocError> {
+    let mut tasks = Vec::new(alloc);
+    for number in 0..shape.tasks {
+        let home = CpuId::new(number % shape.cpus).unwrap();
+        tasks.push(if shape.alike {
+            plain_task(home)
+        } else if number < 2 * shape.cpus {
+            heavy_task(home, draws)
+        } else {
+            mixed_task(home, draws)
+        })?;
+    }
+    Ok(tasks)
+}
+
+/// Level 0 for half of the tasks, any from -20 to 19 for the others; an eighth begins asleep.
+fn mixed_task(home: CpuId, draws: &mut Draws) -> TaskSpec {
+    let nice = if draws.below(2) == 0 {
+        Nice::new(0).unwrap()
+    } else {
+        draws.nice()
+    };
+    TaskSpec {
+        home,
+        nice,
+        slice: drawn_slice(draws),
+        start: draws.start(),
+        asleep: draws.below(8) == 0,
+    }
+}
+
+/// One of level -20, which begins awake.
+fn heavy_task(home: CpuId, draws: &mut Draws) -> TaskSpec {
+    TaskSpec {
+        home,
+        nice: Nice::MIN,
+        slice: drawn_slice(draws),
+        start: draws.start(),
+        asleep: false,
+    }
+}
+
+fn plain_task(home: CpuId) -> TaskSpec {
+    TaskSpec {
+        home,
+        nice: Nice::new(0).unwrap(),
+        slice: Slice::new(3_000_000).unwrap(),
+        start: 0,
+        asleep: false,
+    }
+}
+
+/// One of the lengths of slices.
+pub fn drawn_slice(draws: &mut Draws) -> Slice {
+    match Slice::new(SLICES[draws.below(8) as usize]) {
+        Some(slice) => slice,
+        None => Slice::MAX,
+    }
+}
+
+/// The machine of these tasks, with a program without operations for each CPU.
+pub fn setup_without_programs(
+    alloc: Global,
+    shape: &Shape,
+    tasks: &[TaskSpec],
+) -> Result<Setup, JobFault> {
+    let mut programs: Vec<Vec<Op>> = Vec::new(alloc);
+    for _cpu in 0..shape.cpus {
+        programs.push(Vec::new(alloc))?;
+    }
+    setup_of(alloc, tasks, &programs)
+}
+
+/// The machine of these tasks and programs.
+pub fn setup_of(
+    alloc: Global,
+    tasks: &[TaskSpec],
+    programs: &[Vec<Op>],
+) -> Result<Setup, JobFault> {
+    Setup::make(alloc, tasks, programs).map_err(|_| JobFault::Machine)
+}
+
+/// One of the heavy tasks of a CPU, where there are such.
+pub fn heavy_task_at(shape: &Shape, cpu: CpuId, draws: &mut Draws) -> TaskId {
+    let number = cpu.get() % shape.cpus + shape.cpus * draws.below(2);
+    if number < shape.tasks {
+        TaskId::new(number).unwrap()
+    } else {
+        TaskId::new(cpu.get()).unwrap()
+    }
+}

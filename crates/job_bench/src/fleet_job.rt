@@ -1,0 +1,163 @@
+//! The operations of a fleet that keeps no history, and programs by threads.
+
+ghost use Rattle.std.specs.Prelude.{◌≡◌, ◌<◌, ◌≤◌};
+
+use crate::digest::Digest;
+use crate::documents::{push_programs, push_tasks, push_version};
+use crate::drawn_machine::{Shape, drawn_tasks, setup_without_programs};
+use crate::drawn_programs::{Programs, drawn_programs};
+use crate::fleet_seats::{DrawnOperations, FleetThread, HeldSeat, Mix, work};
+use crate::job_fault::JobFault;
+use crate::workbench::take_report;
+use drawn_values::Draws;
+use eevdf_bench::Kind;
+use eevdf_fleet::Names;
+use eevdf_fleet::endless::{Fleet, Kit, Seat};
+use std::alloc::{AllocError, Global};
+use std::marker::Brand;
+use std::sync::Wait;
+use std::thread;
+use std::thread::Threads;
+
+/// Does so many operations in each of these ways: two threads with two CPUs each, where no operation concerns the other thread;
+/// wakes and pulls among four CPUs of one thread; wakes from 64 CPUs of one thread to one of them; and programs of the workbench
+/// by threads.
+pub fn fleet_job<R: Threads + Wait + Sync>(
+    rt: &R,
+    alloc: Global,
+    size: u64,
+    draws: &mut Draws,
+    digest: &mut Digest,
+) -> Result<(), JobFault> {
+    let small = Shape {
+        cpus: 4,
+        tasks: 256,
+        alike: false,
+    };
+    let wide = Shape {
+        cpus: 64,
+        tasks: 512,
+        alike: false,
+    };
+    fleet_run(rt, alloc, &small, Mix::Own, 2, size, draws, digest)?;
+    fleet_run(rt, alloc, &small, Mix::Wakes, 1, size, draws, digest)?;
+    fleet_run(rt, alloc, &small, Mix::Pulls, 1, size, draws, digest)?;
+    fleet_run(rt, alloc, &wide, Mix::OneHome, 1, size / 2, draws, digest)?;
+    program_run(rt, alloc, &small, size / 64, draws, digest)
+}
+
+/// Opens a fleet, has threads do so many operations each, and takes in their answers.
+fn fleet_run<R: Threads + Wait + Sync>(
+    rt: &R,
+    alloc: Global,
+    shape: &Shape,
+    mix: Mix,
+    threads: u64,
+    operations: u64,
+    draws: &mut Draws,
+    digest: &mut Digest,
+) -> Result<(), JobFault>
+    requires some { 0 < threads }
+{
+    let tasks = drawn_tasks(alloc, shape, draws)?;
+    let setup = setup_without_programs(alloc, shape, &tasks)?;
+    let kit = Kit::make(alloc, &setup, 64)?;
+    let seed = draws.below(0x1_0000_0000);
+    let done = worked_out::<Brand, R>(rt, alloc, shape, mix, threads, operations, seed, kit)?;
+    digest.add(done.sum());
+    Ok(())
+}
+
+/// The digest of the answers of all threads, in the order of the threads.
+fn worked_out<N: Names + Send + Sync, R: Threads + Wait + Sync>(
+    rt: &R,
+    alloc: Global,
+    shape: &Shape,
+    mix: Mix,
+    threads: u64,
+    operations: u64,
+    seed: u64,
+    kit: Kit,
+) -> Result<Digest, JobFault>
+    requires kit { kit ≡ N.kit }
+    requires some { 0 < threads }
+{
+    let (fleet, seats) = Fleet::<N>::open(alloc, kit)?;
+    let threads = seats_by_thread(alloc, shape, mix, threads, seed, seats)?;
+    worked(rt, &fleet, operations, threads)
+}
+
+/// Has the threads do the operations.
+fn worked<N: Names + Send + Sync, R: Threads + Wait + Sync>(
+    rt: &R,
+    fleet: &Fleet<N>,
+    operations: u64,
+    threads: Vec<FleetThread<Seat<N>>>,
+) -> Result<Digest, JobFault> {
+    let threads = thread::map_vec(
+        rt,
+        threads,
+        &move |own| { work::<Seat<N>, R>(rt, fleet, operations, own) },
+    )?;
+    let mut digest = Digest::new();
+    for own in &threads {
+        if let Some(fault) = own.fault {
+            return Err(fault);
+        }
+        digest.add(own.digest.sum());
+    }
+    Ok(digest)
+}
+
+/// Hands the seats to the threads, as many to each.
+fn seats_by_thread<S: Drop>(
+    alloc: Global,
+    shape: &Shape,
+    mix: Mix,
+    threads: u64,
+    seed: u64,
+    seats: Vec<S>,
+) -> Result<Vec<FleetThread<S>>, AllocError>
+    requires some { 0 < threads }
+{
+    let each = shape.cpus / threads;
+    let mut others = seats.into_iter();
+    let mut owners = Vec::new(alloc);
+    for number in 0..threads {
+        let mut seats = Vec::new(alloc);
+        for _seat in 0..each {
+            if let Some(seat) = others.next() {
+                seats.push(HeldSeat::new(seat))?;
+            }
+        }
+        owners.push(FleetThread {
+            seats,
+            drawn: DrawnOperations {
+                shape: *shape,
+                mix,
+                draws: Draws::new(seed, number),
+            },
+            digest: Digest::new(),
+            fault: None,
+        })?;
+    }
+    Ok(owners)
+}
+
+/// Programs of which none concerns another CPU, run by threads.
+fn program_run<R: Threads + Wait + Sync>(
+    rt: &R,
+    alloc: Global,
+    shape: &Shape,
+    average: u64,
+    draws: &mut Draws,
+    digest: &mut Digest,
+) -> Result<(), JobFault> {
+    let tasks = drawn_tasks(alloc, shape, draws)?;
+    let programs = drawn_programs(alloc, shape, Programs::Apart, average, draws)?;
+    let mut text = Vec::new(alloc);
+    push_version(&mut text, false)?;
+    push_programs(&mut text, &programs)?;
+    push_tasks(&mut text, &tasks)?;
+    take_report(rt, alloc, &text, Kind::Run, digest)
+}

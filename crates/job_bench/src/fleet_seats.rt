@@ -1,0 +1,294 @@
+//! What a thread does with the seats of a fleet that keeps no history.
+
+ghost use Rattle.std.specs.Prelude.{◌≡◌, IfOk, true};
+ghost use Rattle.eevdf_fleet.specs.Fleets.{setup_of};
+ghost use Rattle.eevdf_ops.specs.Setup.{homes_of, is_task};
+
+use crate::digest::Digest;
+use crate::drawn_deeds::{drawn_task, other_cpu};
+use crate::drawn_machine::Shape;
+use crate::drawn_programs::task_at;
+use crate::job_fault::JobFault;
+use drawn_values::Draws;
+use eevdf_fleet::Names;
+use eevdf_fleet::endless::{Fleet, Seat};
+use eevdf_ops::{Answer, CpuId, Op};
+use eevdf_queue::TaskId;
+use std::sync::Wait;
+
+/// Of what kind the operations of a fleet are.
+#[derive(Clone, Copy, PartialEq, Eq, Debug)]
+pub enum Mix {
+    /// None concerns another CPU.
+    Own,
+    /// Wakes are posted to all CPUs, and drained.
+    Wakes,
+    /// Tasks are pulled from other CPUs.
+    Pulls,
+    /// Wakes are posted to one CPU.
+    OneHome,
+}
+
+/// A seat of a fleet.
+pub trait OperatedSeat {
+    /// The fleet that the seat is of.
+    type Fleet;
+
+    /// The seat's CPU.
+    fn own_cpu(&self) -> CpuId;
+
+    /// Does an operation of the seat's CPU, and takes in what comes of it.
+    fn operate<R: Wait>(
+        &mut self,
+        rt: &R,
+        fleet: &Self::Fleet,
+        operation: Op,
+        digest: &mut Digest,
+    ) -> Result<Option<Answer>, JobFault>;
+}
+
+/// A seat with the task that runs on its CPU. The unused bytes keep it off the cache lines of the seats of another thread.
+#[derive(Drop)]
+#[repr(C)]
+pub struct HeldSeat<S: Drop> {
+    pub seat: S,
+    pub running: Option<TaskId>,
+    unused: [u64; 8],
+}
+
+impl<S: Drop> HeldSeat<S> {
+    pub fn new(seat: S) -> HeldSeat<S> {
+        HeldSeat {
+            seat,
+            running: None,
+            unused: [0; 8],
+        }
+    }
+}
+
+/// What the operations of a thread are drawn from.
+#[derive(Drop)]
+pub struct DrawnOperations {
+    pub shape: Shape,
+    pub mix: Mix,
+    pub draws: Draws,
+}
+
+/// The seats of a thread, what their operations are drawn from, and the digest of the answers.
+#[derive(Drop)]
+pub struct FleetThread<S: Drop> {
+    pub seats: Vec<HeldSeat<S>>,
+    pub drawn: DrawnOperations,
+    pub digest: Digest,
+    /// Why an operation couldn't be done, if one couldn't.
+    pub fault: Option<JobFault>,
+}
+
+/// Does so many operations of each seat by turns.
+pub fn work<S: OperatedSeat + Drop, R: Wait>(
+    rt: &R,
+    fleet: &S::Fleet,
+    operations: u64,
+    mut own: FleetThread<S>,
+) -> FleetThread<S> {
+    for number in 0..operations {
+        if let Err(fault) = step(rt, fleet, &mut own, number) {
+            own.fault = Some(fault);
+        }
+    }
+    own
+}
+
+/// Does the operation of this number, of the seats in turn.
+#[inline(always)]
+fn step<S: OperatedSeat + Drop, R: Wait>(
+    rt: &R,
+    fleet: &S::Fleet,
+    own: &mut FleetThread<S>,
+    number: u64,
+) -> Result<(), JobFault> {
+    let count = own.seats.len() as u64;
+    if count == 0 {
+        return Err(JobFault::Seats);
+    }
+    let held = &mut own.seats[(number % count) as usize];
+    let operation = own.drawn.next(held.seat.own_cpu(), held.running);
+    let answer = held.seat.operate(rt, fleet, operation, &mut own.digest)?;
+    if let Some(answer) = answer {
+        held.running = running_after(held.running, answer);
+    }
+    Ok(())
+}
+
+/// The task that runs on a CPU after an answer.
+fn running_after(running: Option<TaskId>, answer: Answer) -> Option<TaskId> {
+    match answer {
+        Answer::Picked(task) => Some(task),
+        Answer::Slept(_) => None,
+        _ => running,
+    }
+}
+
+impl DrawnOperations {
+    /// The next operation, on a CPU with this running task.
+    fn next(&mut self, cpu: CpuId, running: Option<TaskId>) -> Op {
+        drawn_operation(&self.shape, self.mix, cpu, running, &mut self.draws)
+    }
+}
+
+fn drawn_operation(
+    shape: &Shape,
+    mix: Mix,
+    cpu: CpuId,
+    running: Option<TaskId>,
+    draws: &mut Draws,
+) -> Op {
+    let kind = draws.below(16);
+    match mix {
+        Mix::Own => own_operation(kind, shape, cpu, running, draws),
+        Mix::Wakes => waking(kind, shape, running, draws),
+        Mix::Pulls => pulling(kind, shape, cpu, running, draws),
+        Mix::OneHome => posting(kind, shape, cpu, running, draws),
+    }
+}
+
+fn own_operation(
+    kind: u64,
+    shape: &Shape,
+    cpu: CpuId,
+    running: Option<TaskId>,
+    draws: &mut Draws,
+) -> Op {
+    match (kind, running) {
+        (0, _) => Op::Yield,
+        (1, Some(task)) => Op::Renice(task, draws.nice()),
+        (2, Some(task)) => Op::Sleep(task),
+        (3..6, _) => Op::Post(task_at(shape, cpu, draws)),
+        (6..10, _) => Op::Drain,
+        _ => turn(kind, draws),
+    }
+}
+
+/// There are more drains than posts, so that the requests don't pile up.
+fn waking(kind: u64, shape: &Shape, running: Option<TaskId>, draws: &mut Draws) -> Op {
+    match (kind, running) {
+        (0..4, _) => Op::Drain,
+        (4..7, _) => Op::Post(drawn_task(shape, draws)),
+        (7, Some(task)) => Op::Sleep(task),
+        _ => turn(kind, draws),
+    }
+}
+
+/// Without the new levels the loads would soon be level, and no pull would move a task.
+fn pulling(kind: u64, shape: &Shape, cpu: CpuId, running: Option<TaskId>, draws: &mut Draws) -> Op {
+    match (kind, running) {
+        (0..3, _) if 1 < shape.cpus => Op::Pull(other_cpu(shape, cpu, draws)),
+        (3, Some(task)) => Op::Renice(task, draws.nice()),
+        _ => turn(kind, draws),
+    }
+}
+
+/// All wake the tasks of one CPU, whose tasks alone fall asleep. It takes more requests of each sender than are posted.
+fn posting(kind: u64, shape: &Shape, cpu: CpuId, running: Option<TaskId>, draws: &mut Draws) -> Op {
+    if cpu.get() != 0 {
+        return posting_or_turn(kind, shape, draws);
+    }
+    match (kind, running) {
+        (0..5, Some(task)) => Op::Sleep(task),
+        (5..10, _) => Op::Drain,
+        _ => turn(kind, draws),
+    }
+}
+
+/// Mostly a tick or a pick, and else a post to the first CPU.
+fn posting_or_turn(kind: u64, shape: &Shape, draws: &mut Draws) -> Op {
+    match kind {
+        0..2 => Op::Post(task_at(shape, CpuId::new(0).unwrap(), draws)),
+        _ => turn(kind, draws),
+    }
+}
+
+/// A tick or a pick.
+fn turn(kind: u64, draws: &mut Draws) -> Op {
+    if kind % 2 == 0 {
+        Op::Pick
+    } else {
+        Op::Tick(draws.tick())
+    }
+}
+
+impl<N: Names> OperatedSeat for Seat<N> {
+    type Fleet = Fleet<N>;
+
+    #[inline(always)]
+    fn own_cpu(&self) -> CpuId {
+        self.cpu()
+    }
+
+    #[inline(always)]
+    fn operate<R: Wait>(
+        &mut self,
+        rt: &R,
+        fleet: &Fleet<N>,
+        operation: Op,
+        digest: &mut Digest,
+    ) -> Result<Option<Answer>, JobFault> {
+        let answer = match operation {
+            Op::Tick(ns) => fleet.tick(rt, self, ns),
+            Op::Pick => fleet.pick(rt, self),
+            Op::Yield => fleet.yield_now(rt, self),
+            Op::Renice(task, nice) => fleet.renice(rt, self, known_task(fleet, task)?, nice),
+            Op::Sleep(task) => fleet.sleep(rt, self, known_task(fleet, task)?),
+            Op::Pull(source) => {
+                if !fleet.has_cpu(source) || source == self.cpu() {
+                    return Err(JobFault::Machine);
+                }
+                fleet.pull(rt, self, source)
+            }
+            Op::Post(task) => {
+                digest.add(u64::from(self.post(known_task(fleet, task)?).is_ok()));
+                return Ok(None);
+            }
+            Op::Drain => {
+                let drained = fleet.drain(rt, self);
+                digest.add(drained.taken as u64);
+                digest.add(drained.woken as u64);
+                return Ok(None);
+            }
+        };
+        digest.add(word_of(answer));
+        Ok(Some(answer))
+    }
+}
+
+/// The task, where the setup has it.
+#[inline(always)]
+fn known_task<N: Names>(fleet: &Fleet<N>, task: TaskId) -> Result<TaskId, JobFault>
+    ensures { IfOk result (λ known. is_task (homes_of (setup_of N.kit)) known ≡ true) }
+{
+    if fleet.has_task(task) {
+        Ok(task)
+    } else {
+        Err(JobFault::Machine)
+    }
+}
+
+/// A word for an answer.
+fn word_of(answer: Answer) -> u64 {
+    match answer {
+        Answer::Charged { task, resched } => 0x1_0000 + 2 * task.get() + u64::from(resched),
+        Answer::Picked(task) => 0x2_0000 + task.get(),
+        Answer::Pulled(task) => 0x3_0000 + task.get(),
+        Answer::Slept(lag) => 0x1000_0000_0000 + lag.unsigned_abs(),
+        Answer::Idle => 1,
+        Answer::Yielded => 2,
+        Answer::NotRunning => 3,
+        Answer::Woken => 4,
+        Answer::Awake => 5,
+        Answer::Balanced => 6,
+        Answer::Nothing => 7,
+        Answer::Range => 8,
+        Answer::Reniced => 9,
+        Answer::NotHere => 10,
+    }
+}

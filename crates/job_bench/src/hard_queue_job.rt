@@ -1,0 +1,114 @@
+//! Calls of single queues on tasks that are hard to tell apart, and far from 0.
+
+ghost use Rattle.std.specs.Prelude.{◌<◌, ◌≤◌};
+
+use crate::digest::Digest;
+use crate::job_fault::JobFault;
+use crate::queue_pair::QueuePair;
+use drawn_values::Draws;
+use eevdf_queue::{Parcel, TaskId};
+use eevdf_weight::{Nice, Ns, Slice};
+use std::alloc::{AllocError, Global};
+
+/// Makes so many turns on each of three queues of 1024 tasks.
+pub fn hard_queue_job(
+    alloc: Global,
+    size: u64,
+    draws: &mut Draws,
+    digest: &mut Digest,
+) -> Result<(), JobFault> {
+    equal_turns(alloc, size, draws, digest)?;
+    level_turns(alloc, size, draws, digest)?;
+    far_turns(alloc, size, draws, digest)?;
+    Ok(())
+}
+
+/// All tasks are alike, and each tick uses up a request: all deadlines are equal at first, and they ascend with each tick.
+fn equal_turns(
+    alloc: Global,
+    turns: u64,
+    draws: &mut Draws,
+    digest: &mut Digest,
+) -> Result<(), AllocError> {
+    let mut queues = QueuePair::new();
+    admit_all(alloc, &mut queues, 0, 0)?;
+    queues.pick(digest);
+    for turn in 0..turns {
+        queues.tick(Ns::new(3_000_000).unwrap(), digest);
+        queues.pick(digest);
+        if turn % 4 == 0 {
+            queues.sleep(digest);
+        }
+        if turn % 4 == 2 {
+            queues.wake(digest);
+        }
+        if turn % 8 == draws.below(8) {
+            queues.yield_now();
+        }
+    }
+    Ok(())
+}
+
+/// Each task gets another nice level, one after the other, and is looked at.
+fn level_turns(
+    alloc: Global,
+    turns: u64,
+    draws: &mut Draws,
+    digest: &mut Digest,
+) -> Result<(), AllocError> {
+    let mut queues = QueuePair::new();
+    admit_all(alloc, &mut queues, 0, 1000)?;
+    queues.pick(digest);
+    for turn in 0..turns {
+        let task = TaskId::new(turn % 1024).unwrap();
+        queues.renice(task, draws.nice(), digest);
+        queues.look(task, digest);
+        if turn % 8 == 0 {
+            queues.pick(digest);
+            queues.tick(draws.tick(), digest);
+        }
+    }
+    Ok(())
+}
+
+/// The virtual times are at half of their range, where sums need 128 bits.
+fn far_turns(
+    alloc: Global,
+    turns: u64,
+    draws: &mut Draws,
+    digest: &mut Digest,
+) -> Result<(), AllocError> {
+    let mut queues = QueuePair::new();
+    admit_all(alloc, &mut queues, 1 << 59, 5000)?;
+    queues.pick(digest);
+    for turn in 0..turns {
+        queues.tick(draws.tick(), digest);
+        queues.pick(digest);
+        match turn % 8 {
+            0 | 4 => queues.sleep(digest),
+            2 | 6 => queues.wake(digest),
+            1 => queues.push_away(digest),
+            5 => queues.pull_back(digest),
+            3 => queues.look(draws.task(1024), digest),
+            _ => queues.peek(digest),
+        }
+    }
+    Ok(())
+}
+
+/// Puts in 1024 tasks of level 0, of which each pair starts a step after the one before it.
+fn admit_all(
+    alloc: Global,
+    queues: &mut QueuePair,
+    start: i64,
+    step: i64,
+) -> Result<(), AllocError> {
+    for number in 0..1024u64 {
+        let task = TaskId::new(number).unwrap();
+        let nice = Nice::new(0).unwrap();
+        let slice = Slice::new(3_000_000).unwrap();
+        let v = start.wrapping_add(step.wrapping_mul((number / 2) as i64));
+        queues.admit(Parcel::make(alloc, task, nice, slice, v)?);
+    }
+    Ok(())
+}
