@@ -8,7 +8,7 @@ ghost use Rattle.eevdf_queue.specs.Renice as renices;
 ghost use Rattle.eevdf_queue.specs.SliceChange as slices;
 
 use crate::entry::Entry;
-use eevdf_weight::{Nice, Slice, lag_limit, weight};
+use eevdf_weight::{Nice, Slice, level_lag_limit, narrow_floor_quotient, weight};
 
 /// The virtual time less the task's virtual runtime, cut to plus or minus the limit of the task.
 #[tactic(auto, using(crate::proofs::Bounds::cut_small))]
@@ -20,7 +20,7 @@ pub fn kept_lag(time: i64, entry: &Entry) -> i64
 {
     cut(
         distance(time, entry),
-        lag_limit(entry.slice, weight(entry.nice)),
+        level_lag_limit(entry.slice, entry.nice),
     )
 }
 
@@ -45,7 +45,7 @@ pub fn rescaled_lag(lag: i64, entry: &Entry, nice: Nice) -> i64
     let newer = weight(nice);
     cut(
         quotient(product(lag, weight(entry.nice)), newer),
-        lag_limit(entry.slice, newer),
+        level_lag_limit(entry.slice, nice),
     )
 }
 
@@ -65,7 +65,7 @@ fn quotient(number: i64, weight: u64) -> i64
     requires light { weight ≤ 88761 }
     ensures { result ≡ floor_div number weight }
 {
-    number.div_euclid(weight as i64)
+    narrow_floor_quotient(number, weight)
 }
 
 /// A lag cut to plus or minus the limit of a task of this nice level and slice.
@@ -74,7 +74,7 @@ pub fn limited_lag(lag: i64, nice: Nice, slice: Slice) -> i64
     ensures value { result ≡ slices.limited_lag lag nice slice }
     ensures limited { lags.is_lag result nice slice ≡ true }
 {
-    cut(lag, lag_limit(slice, weight(nice)))
+    cut(lag, level_lag_limit(slice, nice))
 }
 
 fn cut(lag: i64, limit: i64) -> i64

@@ -9,7 +9,7 @@ ghost use Rattle.eevdf_queue.specs.Tick as ticks;
 ghost use Rattle.eevdf_queue.specs.Yield as yields;
 
 use crate::entry::Entry;
-use eevdf_weight::{Ns, charge, is_in_range, weight};
+use eevdf_weight::{Ns, is_in_range, level_charge};
 
 /// Whether the virtual deadline is in range.
 pub fn is_deadline_in_range(entry: &Entry) -> bool
@@ -60,7 +60,7 @@ fn cost(entry: &Entry, ns: u64) -> i64
     ensures value { result ≡ pos (charge_of ns (weight_of entry.now.nice)) }
     ensures small { charge_of ns (weight_of entry.now.nice) ≤ 2 ^ 40 }
 {
-    charge(ns, weight(entry.nice))
+    level_charge(ns, entry.nice)
 }
 
 /// The entry after the task has run for `ns`.

@@ -3,7 +3,7 @@ ghost use Rattle.eevdf_weight.specs.Limits as limits;
 ghost use Rattle.eevdf_weight.specs.Placement.{floor_div};
 ghost use Rattle.eevdf_queue.specs.Sums.{time_over};
 
-use eevdf_weight::floor_quotient;
+use eevdf_weight::{floor_quotient, narrow_floor_quotient};
 
 /// The sums over tasks: of their weights, and of weight times virtual runtime.
 #[derive(Clone, Copy)]
@@ -49,7 +49,7 @@ fn quotient(totals: &Totals) -> i128
     ensures small { unsigned_abs result ≤ 2 ^ 60 }
 {
     match i64::try_from(totals.moment) {
-        Ok(moment) => i128::from(moment.div_euclid(totals.weight as i64)),
+        Ok(moment) => i128::from(narrow_floor_quotient(moment, totals.weight)),
         Err(_) => floor_quotient(totals.moment, totals.weight),
     }
 }

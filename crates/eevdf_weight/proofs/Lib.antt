@@ -1,3 +1,4 @@
 pub mod Weighing
 mod Products
 mod Stretching
+pub mod Inverses

@@ -6,6 +6,7 @@
 #![tactic(auto)]
 
 mod charging;
+mod level_charging;
 mod nice;
 mod ns;
 mod placement;
@@ -15,10 +16,11 @@ mod slice;
 mod weight_table;
 
 pub use charging::{charge, lag_limit};
+pub use level_charging::{level_charge, level_lag_limit};
 pub use nice::{BadNice, Nice};
 pub use ns::{BadNs, Ns};
 pub use placement::{BOUND, is_in_range, placed};
 pub use product::wide_product;
-pub use quotient::floor_quotient;
+pub use quotient::{floor_quotient, narrow_floor_quotient};
 pub use slice::{BadSlice, Slice};
 pub use weight_table::weight;

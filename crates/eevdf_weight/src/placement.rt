@@ -3,7 +3,7 @@ ghost use Rattle.eevdf_weight.specs.Limits as limits;
 ghost use Rattle.eevdf_weight.specs.Placement.{floor_div, placement_of, within_range};
 
 use crate::product::wide_product;
-use crate::quotient::floor_quotient;
+use crate::quotient::{floor_quotient, narrow_floor_quotient};
 
 /// The greatest distance from 0 of a virtual time that a task or a queue may have.
 pub const BOUND: i64 = 1 << 60;
@@ -77,7 +77,7 @@ fn narrow_stretched(lag: i64, total: u64, w: u64) -> i64
     ensures value { result ≡ floor_div (lag *ℤ pos (total + w)) total }
     ensures small { unsigned_abs result ≤ 2 ^ 62 }
 {
-    narrow_product(lag, total + w).div_euclid(total as i64)
+    narrow_floor_quotient(narrow_product(lag, total + w), total)
 }
 
 #[tactic(auto, using(crate::proofs::Stretching::product_small))]

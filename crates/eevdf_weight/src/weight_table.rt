@@ -25,7 +25,7 @@ pub fn weight(nice: Nice) -> u64
 }
 
 /// The place of a level in the table.
-fn place(nice: Nice) -> usize
+pub(crate) fn place(nice: Nice) -> usize
     ensures place { result ≡ place_of nice }
     ensures within { result < 40 }
 {

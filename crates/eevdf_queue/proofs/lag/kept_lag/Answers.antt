@@ -1,4 +1,4 @@
-use Rattle.std.proofs.Common.{◌≡◌, ◌≤◌, ◌-ℤ◌, unsigned_abs, ℕ, ℤ, sym, ap, subst, ◌∙◌, to_z, of_z, arith}
+use Rattle.std.proofs.Common.{◌≡◌, ◌≤◌, ◌-ℤ◌, unsigned_abs, ℕ, ℤ, refl, sym, ap, subst, ◌∙◌, to_z, of_z, arith}
 use Rattle.std.specs.Prelude.{pos}
 use Rattle.std.proofs.lemmas.Int.{to_z-of_z}
 use mir.Syntax.{w64}
@@ -19,23 +19,20 @@ pub distance-requires : goal.distance-requires
 distance-requires c =
     record { time = ap is_in_range (to_z-of_z w64 c.args.time c.ranges.time) ∙ c.requires.time; placed = c.requires.placed }
 
-pub lag_limit-requires : goal.lag_limit-requires
-lag_limit-requires c = omega (arith, c.weight.ensures.least)
-
 pub cut-requires : goal.cut-requires
-cut-requires c = limit_read c.lag_limit.result _ (record { sfits = c.lag_limit.type_inv }) c.lag_limit.ensures
+cut-requires c = limit_read c.level_lag_limit.result _ (record { sfits = c.level_lag_limit.type_inv }) c.level_lag_limit.ensures
 
 pub returns-clause-value : goal.returns-clause-value
 returns-clause-value c =
-    kept c.args.time c.distance.result c.lag_limit.result c.cut.result c.args.entry.now c.weight.result
-    c.ranges.time (record { sfits = c.distance.type_inv }) (record { sfits = c.lag_limit.type_inv }) (record { sfits = c.cut.type_inv })
-    c.weight.ensures.value c.distance.ensures c.lag_limit.ensures c.cut.ensures
+    kept c.args.time c.distance.result c.level_lag_limit.result c.cut.result c.args.entry.now (weight_of c.args.entry.now.nice)
+    c.ranges.time (record { sfits = c.distance.type_inv }) (record { sfits = c.level_lag_limit.type_inv }) (record { sfits = c.cut.type_inv })
+    refl c.distance.ensures c.level_lag_limit.ensures c.cut.ensures
 
 pub returns-clause-limited : goal.returns-clause-limited
 returns-clause-limited c =
     let e = c.args.entry.now in
     subst (λ (z : ℤ). unsigned_abs z ≤ limit_of e)
-    (sym (kept c.args.time c.distance.result c.lag_limit.result c.cut.result e c.weight.result
-    c.ranges.time (record { sfits = c.distance.type_inv }) (record { sfits = c.lag_limit.type_inv }) (record { sfits = c.cut.type_inv })
-    c.weight.ensures.value c.distance.ensures c.lag_limit.ensures c.cut.ensures))
+    (sym (kept c.args.time c.distance.result c.level_lag_limit.result c.cut.result e (weight_of e.nice)
+    c.ranges.time (record { sfits = c.distance.type_inv }) (record { sfits = c.level_lag_limit.type_inv }) (record { sfits = c.cut.type_inv })
+    refl c.distance.ensures c.level_lag_limit.ensures c.cut.ensures))
     (cut_small (c.args.time -ℤ e.v) (limit_of e))

@@ -8,14 +8,14 @@ use Rattle.eevdf_queue.proofs.{Bounds.lag_small, Bounds.cut_small, Signed.limit_
 use Rattle.eevdf_queue.proofs.lag.rescaled_lag.Goals as goal
 
 rescaled : (lag nice p q l r : ℤ) (e : Entry) (older newer : ℕ) → SFits w64 lag → SFits w64 p → SFits w64 q → SFits w64 l → SFits w64 r → older ≡ weight_of e.nice → newer ≡ weight_of nice
-    → p ≡ to_z w64 (of_z w64 lag) *ℤ pos older → q ≡ floor_div (to_z w64 (of_z w64 p)) newer → l ≡ pos (lag_limit_of e.slice newer)
+    → p ≡ to_z w64 (of_z w64 lag) *ℤ pos older → q ≡ floor_div (to_z w64 (of_z w64 p)) newer → l ≡ pos (lag_limit_of e.slice (weight_of nice))
     → r ≡ cut (to_z w64 (of_z w64 q)) (unsigned_abs (to_z w64 (of_z w64 l))) → to_z w64 (of_z w64 r) ≡ rescaled_lag lag e nice
 rescaled lag nice p q l r e older newer f fp fq fl fr older_is newer_is p_is q_is l_is r_is =
-    cut_read r q l (lag_limit_of e.slice newer) fr fq fl r_is l_is
-    ∙ ap (λ (z : ℤ). cut z (lag_limit_of e.slice newer))
+    cut_read r q l (lag_limit_of e.slice (weight_of nice)) fr fq fl r_is l_is
+    ∙ ap (λ (z : ℤ). cut z (lag_limit_of e.slice (weight_of nice)))
     (q_is ∙ ap (λ (z : ℤ). floor_div z newer) (to_z-of_z w64 p fp ∙ p_is ∙ ap (λ (z : ℤ). z *ℤ pos older) (to_z-of_z w64 lag f)))
-    ∙ ap (λ (w : ℕ). cut (floor_div (lag *ℤ pos w) newer) (lag_limit_of e.slice newer)) older_is
-    ∙ ap (λ (w : ℕ). cut (floor_div (lag *ℤ pos (weight_of e.nice)) w) (lag_limit_of e.slice w)) newer_is
+    ∙ ap (λ (w : ℕ). cut (floor_div (lag *ℤ pos w) newer) (lag_limit_of e.slice (weight_of nice))) older_is
+    ∙ ap (λ (w : ℕ). cut (floor_div (lag *ℤ pos (weight_of e.nice)) w) (lag_limit_of e.slice (weight_of nice))) newer_is
 
 pub product-requires : goal.product-requires
 product-requires c =
@@ -31,23 +31,19 @@ pub quotient-requires : goal.quotient-requires
 quotient-requires c =
     record { weighs = omega (arith, c.weight-newer.ensures.least); light = c.weight-newer.ensures.greatest }
 
-pub lag_limit-requires : goal.lag_limit-requires
-lag_limit-requires c = omega (arith, c.weight-newer.ensures.least)
-
 pub cut-requires : goal.cut-requires
-cut-requires c = limit_read c.lag_limit.result _ (record { sfits = c.lag_limit.type_inv }) c.lag_limit.ensures
+cut-requires c = limit_read c.level_lag_limit.result _ (record { sfits = c.level_lag_limit.type_inv }) c.level_lag_limit.ensures
 
 pub returns-clause-value : goal.returns-clause-value
 returns-clause-value c =
-    rescaled c.args.lag c.args.nice c.product.result c.quotient.result c.lag_limit.result c.cut.result c.args.entry.now c.weight.result c.weight-newer.result
-    c.ranges.lag (record { sfits = c.product.type_inv }) (record { sfits = c.quotient.type_inv }) (record { sfits = c.lag_limit.type_inv }) (record { sfits = c.cut.type_inv })
-    c.weight.ensures.value c.weight-newer.ensures.value c.product.ensures c.quotient.ensures c.lag_limit.ensures c.cut.ensures
+    rescaled c.args.lag c.args.nice c.product.result c.quotient.result c.level_lag_limit.result c.cut.result c.args.entry.now c.weight.result c.weight-newer.result
+    c.ranges.lag (record { sfits = c.product.type_inv }) (record { sfits = c.quotient.type_inv }) (record { sfits = c.level_lag_limit.type_inv }) (record { sfits = c.cut.type_inv })
+    c.weight.ensures.value c.weight-newer.ensures.value c.product.ensures c.quotient.ensures c.level_lag_limit.ensures c.cut.ensures
 
 pub returns-clause-limited : goal.returns-clause-limited
 returns-clause-limited c =
     let e = c.args.entry.now in
     let q : ℤ = c.quotient.result in
     subst (λ (z : ℤ). unsigned_abs z ≤ lag_limit_of e.slice (weight_of c.args.nice))
-    (sym (cut_read c.cut.result q c.lag_limit.result (lag_limit_of e.slice c.weight-newer.result) (record { sfits = c.cut.type_inv }) (record { sfits = c.quotient.type_inv }) (record { sfits = c.lag_limit.type_inv }) c.cut.ensures c.lag_limit.ensures
-    ∙ ap (λ (w : ℕ). cut q (lag_limit_of e.slice w)) c.weight-newer.ensures.value))
+    (sym (cut_read c.cut.result q c.level_lag_limit.result (lag_limit_of e.slice (weight_of c.args.nice)) (record { sfits = c.cut.type_inv }) (record { sfits = c.quotient.type_inv }) (record { sfits = c.level_lag_limit.type_inv }) c.cut.ensures c.level_lag_limit.ensures))
     (cut_small q (lag_limit_of e.slice (weight_of c.args.nice)))
