@@ -1,11 +1,19 @@
 -- A list that grows by one element at a time.
-use Rattle.std.proofs.Common.{◌≡◌, ℕ, ◌+◌, ◌<◌, ◌++◌, List, [], ◌∷◌, length, get_or, map, take, replicate, sym, ap, ◌∙◌}
+use Rattle.std.proofs.Common.{◌≡◌, ℕ, ◌+◌, ◌<◌, ◌++◌, List, [], ◌∷◌, length, get_or, map, set, take, replicate, sym, ap, ◌∙◌}
+use Rattle.std.proofs.Math.Seq.{set-append_seam}
 use Rattle.std.proofs.lemmas.List.{length-map, length-replicate, map-append, replicate-append-replicate, take_more}
 
 -- what is seen of the list with one element more
 pub seen_more : {X Y : Type 0} (f : X → Y) (xs items : List X) (x : X) (y : Y) (ys : List Y) → items ≡ xs ++ x ∷ [] → f x ≡ y → map f xs ≡ ys → map f items ≡ ys ++ y ∷ []
 seen_more f xs items x y ys new at e =
     ap (λ (l : List _). map f l) new ∙ map-append f xs (x ∷ []) ∙ ap (λ (l : List _). l ++ f x ∷ []) e ∙ ap (λ (z : _). ys ++ z ∷ []) at
+
+-- the same where that element was changed where it stands
+pub seen_changed : {X Y : Type 0} (f : X → Y) (xs items changed : List X) (x z : X) (n : ℕ) (y : Y) (ys : List Y) → items ≡ xs ++ x ∷ [] → length xs ≡ n → changed ≡ set items n z → f z ≡ y
+    → map f xs ≡ ys → map f changed ≡ ys ++ y ∷ []
+seen_changed f xs items changed x z n y ys new count is at e =
+    seen_more f xs changed z y ys
+    (is ∙ ap (λ (l : List _). set l n z) new ∙ ap (λ (k : ℕ). set (xs ++ x ∷ []) k z) (sym count) ∙ set-append_seam xs x [] z) at e
 
 -- where all are seen alike
 pub alike_more : {X Y : Type 0} (f : X → Y) (xs items : List X) (x : X) (n : ℕ) (y : Y) → items ≡ xs ++ x ∷ [] → f x ≡ y → map f xs ≡ replicate n y → map f items ≡ replicate (n + 1) y

@@ -27,33 +27,35 @@ pub(crate) fn queues_at_start(
 {
     let mut queues = Vec::with_capacity(alloc, cpus)?;
     for cpu in 0..cpus {
-        let queue = queue_at_start(alloc, cpus, cpu, tasks)?;
-        queues.push(queue)?;
+        queues.push(Queue::open())?;
+        fill_queue(alloc, cpus, cpu, tasks, &mut queues[cpu])?;
     }
     Ok(queues)
 }
 
-/// The queue of a CPU, with the tasks whose home it is.
-fn queue_at_start(
+/// Puts the tasks whose home a CPU is into its queue. The queue is filled where it stands: a queue is so large that it would take
+/// longer to move it than to fill it.
+fn fill_queue(
     alloc: Global,
     cpus: usize,
     cpu: usize,
     tasks: &[TaskSpec],
-) -> Result<Queue, AllocError>
+    queue: &mut Queue,
+) -> Result<(), AllocError>
     requires few { length tasks.now ≤ most_tasks }
     requires well { tasks_fault cpus 0 tasks.now ≡ None }
     requires cpu { cpu < cpus }
-    ensures { IfOk result (λ queue. queue.state
+    requires empty { queue.old.state ≡ empty_state }
+    ensures { OnOk result (queue.new.state
         ≡ machine.queue_at (machine.begin_at_homes 0 tasks.now (replicate cpus empty_state)) cpu) }
 {
-    let mut queue = Queue::open();
     for place in (0..tasks.len()).rev() {
         let spec = tasks[place];
         if spec.home.index() == cpu {
-            begin(alloc, &mut queue, task_number(place), spec)?;
+            begin(alloc, queue, task_number(place), spec)?;
         }
     }
-    Ok(queue)
+    Ok(())
 }
 
 /// The number of the task at a place of the list of tasks.

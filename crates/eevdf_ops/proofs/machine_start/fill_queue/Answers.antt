@@ -3,11 +3,11 @@ use Rattle.eevdf_queue.specs.{Leaving.IsNowhere, State.State, State.View}
 use Rattle.eevdf_ops.specs.Machine.{begin}
 use Rattle.eevdf_ops.proofs.{OwnStarts.begun, OwnStarts.begun-here, OwnStarts.begun-none}
 use Rattle.eevdf_ops.proofs.Starting.{begins_well_at, absent_before}
-use Rattle.eevdf_ops.proofs.machine_start.queue_at_start.Goals as goal
+use Rattle.eevdf_ops.proofs.machine_start.fill_queue.Goals as goal
 
 pub loop-place-init : goal.loop-place-init
 loop-place-init c =
-    ap (λ (v : View). v.state) c.open-queue.ensures ∙ sym (begun-none c.args.cpus c.args.cpu c.args.tasks.now _ c.requires.cpu (omega arith))
+    c.requires.empty ∙ sym (begun-none c.args.cpus c.args.cpu c.args.tasks.now _ c.requires.cpu (omega arith))
 
 pub begin-requires-clause-in_range : goal.begin-requires-clause-in_range
 begin-requires-clause-in_range c =
