@@ -33,8 +33,8 @@ pub(crate) fn queues_at_start(
     Ok(queues)
 }
 
-/// Puts the tasks whose home a CPU is into its queue. The queue is filled where it stands: a queue is so large that it would take
-/// longer to move it than to fill it.
+/// Puts the tasks whose home a CPU is into its queue. The queue is filled where it stands: a queue is so large that a move of it
+/// takes longer than to fill it with a few tasks.
 fn fill_queue(
     alloc: Global,
     cpus: usize,

@@ -6,8 +6,8 @@ use Rattle.std.proofs.lemmas.{Bool.Decides.nat_tests, Int.ints}
 use Rattle.eevdf_queue.specs.{declared.task.Task.Task, Moves.is_entry_in_range, Rebase.lowered_entry}
 use Rattle.eevdf_queue.specs.{NodeDepths.deeper, NodeDepths.depth_at, TaskLists.find_task, TaskLists.AreRunnable}
 use Rattle.eevdf_queue.specs.TreeTasks.{precedes, PrecedesAll, AreOrdered, IsSorted}
-use Rattle.eevdf_queue.specs.TreeLowering.{lowered_task, lowered_list, are_tasks_in_range, IsNear, deadline_or}
-use Rattle.eevdf_queue.specs.TreeStores.{deadline_at, IsNoted}
+use Rattle.eevdf_queue.specs.TreeLowering.{lowered_task, lowered_list, are_tasks_in_range, IsNear, noted_or}
+use Rattle.eevdf_queue.specs.TreeStores.{kept_at, noted, IsNoted}
 use Rattle.eevdf_queue.proofs.{Bounds.within, Bounds.range_v, Bounds.range_d}
 
 pub length-lowered : (by : ℤ) (ts : List Task) → length (lowered_list by ts) ≡ length ts
@@ -53,24 +53,24 @@ depths_lowered by cs cs' ds ds' xs xs' ys ys' t t' h i k l m =
 turned : (a b : ℕ) → eqb a b ≡ eqb b a
 turned a b = grind (arith, nat_tests)
 
-by_number : (b : Bool) (d : ℤ) (t : Task) (o : Option Task) → cond b t.entry.d (deadline_or d o) ≡ deadline_or d (cond b (Some t) o)
+by_number : (b : Bool) (d : ℤ) (t : Task) (o : Option Task) → cond b (noted t.entry.d) (noted_or d o) ≡ noted_or d (cond b (Some t) o)
 by_number true d t o = refl
 by_number false d t o = refl
 
 found_around : (d : ℤ) (q : ℕ) (xs : List Task) (t : Task) (ys : List Task)
-    → deadline_or (cond (eqb q t.number) t.entry.d (deadline_or d (find_task q ys))) (find_task q xs) ≡ deadline_or d (find_task q (xs ++ t ∷ ys))
+    → noted_or (cond (eqb q t.number) (noted t.entry.d) (noted_or d (find_task q ys))) (find_task q xs) ≡ noted_or d (find_task q (xs ++ t ∷ ys))
 found_around d q [] t ys =
-    ap (λ (b : Bool). cond b t.entry.d (deadline_or d (find_task q ys))) (turned q t.number) ∙ by_number (eqb t.number q) d t (find_task q ys)
+    ap (λ (b : Bool). cond b (noted t.entry.d) (noted_or d (find_task q ys))) (turned q t.number) ∙ by_number (eqb t.number q) d t (find_task q ys)
 found_around d q (x ∷ xs) t ys =
-    elim (eqb x.number q) as (λ b. deadline_or (cond (eqb q t.number) t.entry.d (deadline_or d (find_task q ys))) (cond b (Some x) (find_task q xs)) ≡ deadline_or d (cond b (Some x) (find_task q (xs ++ t ∷ ys)))) [
+    elim (eqb x.number q) as (λ b. noted_or (cond (eqb q t.number) (noted t.entry.d) (noted_or d (find_task q ys))) (cond b (Some x) (find_task q xs)) ≡ noted_or d (cond b (Some x) (find_task q (xs ++ t ∷ ys)))) [
       | true ↦ refl
       | false ↦ found_around d q xs t ys
     ]
 
-pub noted_around : (q : ℕ) (d d' d'' d''' : ℤ) (xs : List Task) (t : Task) (ys : List Task) → d' ≡ deadline_or d (find_task q ys) → d'' ≡ cond (eqb q t.number) t.entry.d d'
-    → d''' ≡ deadline_or d'' (find_task q xs) → d''' ≡ deadline_or d (find_task q (xs ++ t ∷ ys))
+pub noted_around : (q : ℕ) (d d' d'' d''' : ℤ) (xs : List Task) (t : Task) (ys : List Task) → d' ≡ noted_or d (find_task q ys) → d'' ≡ cond (eqb q t.number) (noted t.entry.d) d'
+    → d''' ≡ noted_or d'' (find_task q xs) → d''' ≡ noted_or d (find_task q (xs ++ t ∷ ys))
 noted_around q d d' d'' d''' xs t ys h i k =
-    k ∙ ap (λ (z : ℤ). deadline_or z (find_task q xs)) (i ∙ ap (cond (eqb q t.number) t.entry.d) h) ∙ found_around d q xs t ys
+    k ∙ ap (λ (z : ℤ). noted_or z (find_task q xs)) (i ∙ ap (cond (eqb q t.number) (noted t.entry.d)) h) ∙ found_around d q xs t ys
 
 -- whether all are in range
 both : (a b c d : Bool) → ((a && b) && (c && d)) ≡ (a && (b && (c && d)))
@@ -135,8 +135,8 @@ noted_by table (t ∷ ts) r h = (
     behind : (t u : Task) (ts : List Task) → find_task t.number ts ≡ None → find_task u.number ts ≡ Some u → find_task u.number (t ∷ ts) ≡ Some u
     behind t u ts none f = grind (arith, nat_tests)
 
-pub noted_all : (table table' : List ℤ) (ts : List Task) → AreRunnable ts → ((q : ℕ) → deadline_at table' q ≡ deadline_or (deadline_at table q) (find_task q ts)) → AllByRecursion (IsNoted table') ts
-noted_all table table' ts r h = noted_by table' ts r (λ t f. h t.number ∙ ap (deadline_or (deadline_at table t.number)) f)
+pub noted_all : (table table' : List ℤ) (ts : List Task) → AreRunnable ts → ((q : ℕ) → kept_at table' q ≡ noted_or (kept_at table q) (find_task q ts)) → AllByRecursion (IsNoted table') ts
+noted_all table table' ts r h = noted_by table' ts r (λ t f. h t.number ∙ ap (noted_or (kept_at table t.number)) f)
 
 -- near enough to be lowered
 near_by : (v by : ℤ) → unsigned_abs v ≤ 2 ^ 60 → unsigned_abs by ≤ 2 ^ 60 → unsigned_abs (v -ℤ by) ≤ 2 ^ 61

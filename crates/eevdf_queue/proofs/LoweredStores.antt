@@ -4,8 +4,8 @@ use Rattle.std.specs.{Prelude.ℤ, Prelude.pos, Prelude.◌-ℤ◌, Prelude.◌*
 use Rattle.eevdf_queue.specs.{declared.task.Task.Task, declared.totals.Totals.Totals, declared.picked_task.PickedTask.PickedTask}
 use Rattle.eevdf_queue.specs.{Numbers.number_limit, Sums.sum_weights, Sums.sum_moments, Pick.pick_of, NodeDepths.depths_by_number, TreeShape.Tree, TreeShape.IsFull}
 use Rattle.eevdf_queue.specs.TaskLists.{has_number, find_task, entries_of, runnable_in, AreRunnable}
-use Rattle.eevdf_queue.specs.TreeStores.{deadline_at, timeless, AreTotals, IsKnown, IsPickAt, IsStillPick, IsRunnableTasks}
-use Rattle.eevdf_queue.specs.TreeLowering.{lowered_task, lowered_list, are_tasks_in_range, deadline_or}
+use Rattle.eevdf_queue.specs.TreeStores.{kept_at, timeless, AreTotals, IsKnown, IsPickAt, IsStillPick, IsRunnableTasks}
+use Rattle.eevdf_queue.specs.TreeLowering.{lowered_task, lowered_list, are_tasks_in_range, noted_or}
 use Rattle.eevdf_queue.proofs.LoweredLists.{find-lowered, length-lowered, runnable_lowered, noted_all, back_list}
 use Rattle.eevdf_queue.proofs.LoweredMaps.{weights-lowered, moments-lowered, entries_of-lowered, seen-lowered, pick-lowered}
 use Rattle.eevdf_queue.proofs.{Bounds.within, Bounds.range_v, AllTasks.all-found, TreeMaps.InRange, TreeMaps.all_in_range}
@@ -68,7 +68,7 @@ pick_lowered by p p' tree tree' k e d n t = λ below some.
 -- the whole store, where all stay in range
 pub store_lowered : (by : ℤ) (table table' : List ℤ) (s r : Totals) (p p' : PickedTask) (tree tree' : Tree) → IsRunnableTasks table s p tree
     → tree'.tasks ≡ lowered_list by tree.tasks → tree'.depths ≡ tree.depths → are_tasks_in_range tree'.tasks ≡ true
-    → ((q : ℕ) → deadline_at table' q ≡ deadline_or (deadline_at table q) (find_task q tree'.tasks))
+    → ((q : ℕ) → kept_at table' q ≡ noted_or (kept_at table q) (find_task q tree'.tasks))
     → r.weight ≡ s.weight → r.moment ≡ s.moment -ℤ (by *ℤ pos s.weight)
     → (p.number < number_limit → p'.runtime ≡ p.runtime -ℤ by) → p'.number ≡ p.number → p'.nice ≡ p.nice → p'.slice ≡ p.slice → p'.turns ≡ p.turns
     → IsRunnableTasks table' r p' tree'
@@ -87,7 +87,7 @@ pub tasks_back : (by : ℤ) (ts us vs : List Task) → us ≡ lowered_list by ts
 tasks_back by ts us vs e f = f ∙ ap (lowered_list (neg_ℤ by)) e ∙ back_list by ts
 
 pub store_back : (table table' : List ℤ) (s : Totals) (p : PickedTask) (tree tree' : Tree) → IsRunnableTasks table s p tree → tree'.tasks ≡ tree.tasks → tree'.depths ≡ tree.depths
-    → ((q : ℕ) → deadline_at table' q ≡ deadline_or (deadline_at table q) (find_task q tree'.tasks)) → IsRunnableTasks table' s p tree'
+    → ((q : ℕ) → kept_at table' q ≡ noted_or (kept_at table q) (find_task q tree'.tasks)) → IsRunnableTasks table' s p tree'
 store_back table table' s p tree tree' k e d noted =
     let runnable : AreRunnable tree'.tasks = subst AreRunnable (sym e) k.store.runnable in
     record {
@@ -104,15 +104,15 @@ store_back table table' s p tree tree' k e d noted =
     }
 
 -- the table after two walks
-twice_by : (d d' d'' : ℤ) (o o' : Option Task) → d' ≡ deadline_or d o → d'' ≡ deadline_or d' o' → (o' ≡ None → o ≡ None) → d'' ≡ deadline_or d o'
-twice_by d d' d'' o None h k missed = k ∙ h ∙ ap (deadline_or d) (missed refl)
+twice_by : (d d' d'' : ℤ) (o o' : Option Task) → d' ≡ noted_or d o → d'' ≡ noted_or d' o' → (o' ≡ None → o ≡ None) → d'' ≡ noted_or d o'
+twice_by d d' d'' o None h k missed = k ∙ h ∙ ap (noted_or d) (missed refl)
 twice_by d d' d'' o (Some t) h k missed = k
 
 missed_back : (by : ℤ) (q : ℕ) (ts : List Task) → find_task q ts ≡ None → find_task q (lowered_list by ts) ≡ None
 missed_back by q ts h = find-lowered by q ts ∙ ap (option_map (lowered_task by)) h
 
-pub noted_twice : (by : ℤ) (q : ℕ) (d d' d'' : ℤ) (ts us vs : List Task) → us ≡ lowered_list by ts → vs ≡ ts → d' ≡ deadline_or d (find_task q us) → d'' ≡ deadline_or d' (find_task q vs)
-    → d'' ≡ deadline_or d (find_task q vs)
+pub noted_twice : (by : ℤ) (q : ℕ) (d d' d'' : ℤ) (ts us vs : List Task) → us ≡ lowered_list by ts → vs ≡ ts → d' ≡ noted_or d (find_task q us) → d'' ≡ noted_or d' (find_task q vs)
+    → d'' ≡ noted_or d (find_task q vs)
 noted_twice by q d d' d'' ts us vs e f h k =
     twice_by d d' d'' (find_task q us) (find_task q vs) h k
     (λ none. ap (find_task q) e ∙ missed_back by q ts (ap (find_task q) (sym f) ∙ none))

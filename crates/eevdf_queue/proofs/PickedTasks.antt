@@ -3,13 +3,12 @@ use Rattle.std.proofs.Common.{◌≡◌, ◌<◌, ◌≤◌, ℕ, Bool, List, []
 use Rattle.std.specs.{Prelude.ℤ, Prelude.IfSome, Option.option_map, Ordering.nat_cmp, FinMap.FinMap, FinMap.get, FinMap.len, FinMap.find, FinMap.get-from_entries, Cmp.nat_cmp_total}
 use Rattle.std.proofs.lemmas.Bool.Decides.{nat_tests}
 use Rattle.eevdf_queue.specs.{declared.entry.Entry.Entry, declared.task.Task.Task, declared.totals.Totals.Totals}
-use Rattle.eevdf_queue.specs.{declared.picked_task.Pick.Pick, declared.picked_task.PickedTask.PickedTask}
+use Rattle.eevdf_queue.specs.{declared.picked_task.Pick.Pick, declared.picked_task.PickedTask.PickedTask, declared.tree_key.TreeKey.TreeKey}
 use Rattle.eevdf_queue.specs.{Pick.pick_of, State.TasksInTree, TreeShape.IsFull, TreeShape.Tree}
 use Rattle.eevdf_queue.specs.{Numbers.number_limit, NodeDepths.depth_at, NodeDepths.depths_by_number, TaskLists.find_task, TaskLists.runnable_in, TaskLists.AreRunnable}
 use Rattle.eevdf_queue.specs.TreeTasks.{insert_task, first_that, IsAtDeadline}
-use Rattle.eevdf_queue.specs.TreeStores.{deadline_at, timeless, picked_timeless, IsRunnableStore, IsSummedStore, IsKnown, IsPickAt, IsStillPick, IsRunnableTasks}
-use Rattle.eevdf_queue.proofs.{RunnableMaps.get-runnable_in, RunnableMaps.len-runnable_in, TreeLists.find-insert_task, TreeMaps.placed_by}
-use Rattle.eevdf_queue.proofs.{TreeMaps.noted_deadline, ListMaps.same_number}
+use Rattle.eevdf_queue.specs.TreeStores.{timeless, picked_timeless, IsSummedStore, IsKnown, IsPickAt, IsStillPick, IsRunnableTasks}
+use Rattle.eevdf_queue.proofs.{RunnableMaps.get-runnable_in, RunnableMaps.len-runnable_in, TreeLists.find-insert_task, ListMaps.same_number}
 
 pub sums_kept : (table : List ℤ) (s : Totals) (p : PickedTask) (tree : Tree) → IsRunnableTasks table s p tree → IsSummedStore table s tree.tasks
 sums_kept table s p tree h = record { store = h.store; totals = h.totals }
@@ -23,14 +22,12 @@ entry_of d p (Some t) h a =
     ap (λ (z : ℤ × ℤ × ℕ). Some (record { v = z.0; d = t.entry.d; nice = z.1; slice = z.2 })) same
     ∙ ap (λ (z : ℤ). Some (record { v = p.runtime; d = z; nice = p.nice; slice = p.slice })) a
 
-pub known_entry : (table : List ℤ) (p : PickedTask) (ts : List Task) (m : FinMap nat_cmp Entry) (q : ℕ) → IsRunnableStore table ts → runnable_in ts ≡ m → IsKnown p ts → p.number < number_limit → p.number ≡ q
-    → get m q ≡ Some (record { v = p.runtime; d = deadline_at table q; nice = p.nice; slice = p.slice })
-known_entry table p ts m q s v h k e =
-    ap (λ (z : FinMap nat_cmp Entry). get z q) (sym v)
-    ∙ get-runnable_in ts q
-    ∙ entry_of (deadline_at table q) p (find_task q ts)
-    (ap (λ (z : ℕ). option_map timeless (find_task z ts)) (sym e) ∙ h k)
-    (placed_by (deadline_at table q) (find_task q ts) (λ t f. noted_deadline table q ts t s.noted f))
+pub known_entry : (p : PickedTask) (ts : List Task) (m : FinMap nat_cmp Entry) (k : TreeKey) → runnable_in ts ≡ m → IsKnown p ts → p.number < number_limit → p.number ≡ k.number
+    → IsAtDeadline k.deadline (find_task k.number ts) → get m k.number ≡ Some (record { v = p.runtime; d = k.deadline; nice = p.nice; slice = p.slice })
+known_entry p ts m k v h l e at =
+    ap (λ (z : FinMap nat_cmp Entry). get z k.number) (sym v)
+    ∙ get-runnable_in ts k.number
+    ∙ entry_of k.deadline p (find_task k.number ts) (ap (λ (z : ℕ). option_map timeless (find_task z ts)) (sym e) ∙ h l) at
 
 -- of the entry of a task all of that is known
 pub known_of : (number : ℕ) (v nice : ℤ) (slice : ℕ) (ts : List Task) (m : FinMap nat_cmp Entry) (t : Task) → runnable_in ts ≡ m → get m t.number ≡ Some t.entry

@@ -1,7 +1,7 @@
 -- A queue in which a task gets another slice.
 use Rattle.std.proofs.Common.{◌≡◌, ℕ, true, false, ◌||◌, Option, Some, None, sym, ap, ◌∙◌}
 use Rattle.std.specs.{Prelude.is_some, FinMap.get, FinMap.insert, FinMap.remove, FinMap.contains_key}
-use Rattle.eevdf_queue.specs.{declared.entry.Entry.Entry, State.State, State.Sleeper, State.Contents, Sums.Tasks, Trying.is_here, Moves.sleeper_of}
+use Rattle.eevdf_queue.specs.{declared.entry.Entry.Entry, State.State, State.Sleeper, State.Contents, Trying.is_here, Moves.sleeper_of}
 use Rattle.eevdf_queue.specs.SliceChange.{sleeper_with_slice, contents_with_slice, set_sleeper_slice, set_entry_slice, set_slice}
 use Rattle.eevdf_queue.proofs.{Renicing.joined_again, Sound.Asleep}
 

@@ -6,7 +6,7 @@ use Rattle.eevdf_queue.specs.{declared.entry.Entry.Entry, declared.task.Task.Tas
 use Rattle.eevdf_queue.specs.{Moves.is_entry_in_range}
 use Rattle.eevdf_queue.specs.TaskLists.{find_task, set_entry, runnable_in, AreRunnable}
 use Rattle.eevdf_queue.specs.TreeTasks.{precedes, AreOrdered, IsSorted, IsAtDeadline}
-use Rattle.eevdf_queue.specs.TreeStores.{IsNoted, IsRunnableStore}
+use Rattle.eevdf_queue.specs.TreeStores.{noted, IsNoted, IsRunnableStore}
 use Rattle.eevdf_queue.proofs.AllTasks.{all-each, all-set}
 use Rattle.eevdf_queue.proofs.RunnableMaps.{runnable_after, runnable_in-set_entry}
 
@@ -36,7 +36,7 @@ pub stored-set : (table : List ℤ) (q : ℕ) (e : Entry) (ts rs : List Task) �
     → rs ≡ set_entry q e ts → IsRunnableStore table rs
 stored-set table q e ts rs s a r i = record {
   runnable = subst AreRunnable (sym i) (runnable_after q e ts r s.runnable);
-  noted = subst (AllByRecursion (IsNoted table)) (sym i) (all-set (IsNoted table) q e ts (λ t d p. p ∙ d) a s.noted);
+  noted = subst (AllByRecursion (IsNoted table)) (sym i) (all-set (IsNoted table) q e ts (λ t d p. p ∙ ap noted d) a s.noted);
 }
 
 pub set_seen : (q : ℕ) (e : Entry) (ts rs : List Task) (m : FinMap nat_cmp Entry) → runnable_in ts ≡ m → is_some (get m q) ≡ true → rs ≡ set_entry q e ts

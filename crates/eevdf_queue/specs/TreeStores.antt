@@ -1,18 +1,26 @@
 -- What the stores over trees keep.
-use Rattle.std.specs.Prelude.{◌≡◌, ◌<◌, ◌≤◌, ℕ, ℤ, pos, List, Some, length, slice_index_or}
+use Rattle.std.specs.Prelude.{◌≡◌, ◌<◌, ◌≤◌, ◌+ℤ◌, ◌*ℤ◌, ℕ, ℤ, pos, List, Some, length, slice_index_or}
 use Rattle.std.specs.{Option.option_map, List.AllByRecursion, FinMap.get}
-use Rattle.eevdf_queue.specs.{declared.picked_task.PickedTask.PickedTask, declared.task.Task.Task, declared.totals.Totals.Totals}
+use Rattle.eevdf_queue.specs.{declared.picked_task.PickedTask.PickedTask, declared.task.Task.Task, declared.totals.Totals.Totals, declared.tree_key.TreeKey.TreeKey}
 use Rattle.eevdf_queue.specs.{Numbers.number_limit, Sums.sum_weights, Sums.sum_moments}
 use Rattle.eevdf_queue.specs.TaskLists.{find_task, entries_of, runnable_in, AreRunnable}
 use Rattle.eevdf_queue.specs.{Pick.pick_of, NodeDepths.depths_by_number, TreeShape.IsFull, TreeShape.Tree}
 
--- what a table of deadlines says of a number
-abbrev pub deadline_at : List ℤ → ℕ → ℤ
-deadline_at table q = slice_index_or table q (pos 0)
+-- what a table of deadlines keeps of a number
+abbrev pub kept_at : List ℤ → ℕ → ℤ
+kept_at table q = slice_index_or table q (pos 0)
 
--- the table says the task's deadline
+-- as what it keeps a deadline: never as 0, which it keeps of a number without a task
+abbrev pub noted : ℤ → ℤ
+noted d = (d *ℤ pos 2) +ℤ pos 1
+
+-- the table keeps the task's deadline
 abbrev pub IsNoted : List ℤ → Task → Type 0
-IsNoted table t = deadline_at table t.number ≡ t.entry.d
+IsNoted table t = kept_at table t.number ≡ noted t.entry.d
+
+-- a key has the deadline that the table keeps of its number, where it keeps one
+abbrev pub IsKeyIn : List ℤ → TreeKey → Type 0
+IsKeyIn table k = (d : ℤ) → kept_at table k.number ≡ noted d → k.deadline ≡ d
 
 -- the tasks are runnable ones, and the table says where they stand
 pub record IsRunnableStore (table : List ℤ) (ts : List Task) : Type 0 where

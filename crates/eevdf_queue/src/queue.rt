@@ -92,7 +92,7 @@ impl Queue {
     pub fn entry(&self, task: TaskId) -> Option<Entry>
         ensures { result ≡ map.get self.now.state.runnable task }
     {
-        self.runnable.get(task)
+        self.runnable.look_up(task)
     }
 
     /// The virtual time: the weighted mean of the virtual runtimes, rounded down. Where nothing is runnable,
@@ -129,7 +129,7 @@ impl Queue {
     {
         self.runnable.keeps();
         self.asleep.keeps();
-        match self.runnable.get(task) {
+        match self.runnable.look_up(task) {
             Some(entry) => Some(kept_lag(self.floor_time(), &entry)),
             None => self.asleep.lag(task),
         }

@@ -1,4 +1,4 @@
-ghost use Rattle.std.specs.Prelude.{◌≡◌, ℕ, ◌==◌, ◌<◌, if◌then◌else◌, ◌*◌, ◌≤◌, ◌^◌, ◌-ℤ◌, ◌≤ℤ◌, None, Some, true, false, unsigned_abs, length, is_some, IfSome, IsNone, ◌↔◌};
+ghost use Rattle.std.specs.Prelude.{◌≡◌, ℕ, ◌==◌, ◌<◌, if◌then◌else◌, ◌*◌, ◌≤◌, ◌^◌, ◌-ℤ◌, ◌≤ℤ◌, None, Some, true, false, unsigned_abs, pos, length, is_some, IfSome, IsNone, ◌↔◌};
 ghost use Rattle.std.specs.{Option.option_map, List.AllByRecursion};
 ghost use Rattle.std.specs.FinMap as map;
 ghost use Rattle.eevdf_weight.specs.Limits as limits;
@@ -6,7 +6,7 @@ ghost use Rattle.eevdf_queue.specs.{Sums.total_weight, Sums.total_moment, Order.
 ghost use Rattle.eevdf_queue.specs.{Numbers.number_limit, Moves.is_entry_in_range, Kept.AreInRange, Laws.AreSumsSmall, TreeShape.IsAlone};
 ghost use Rattle.eevdf_queue.specs.{TreeShape.IsFull, Lag.is_lag, TreeTasks.insert_task, TreeTasks.without};
 ghost use Rattle.eevdf_queue.specs.{declared.task.Task.Task, TaskLists.runnable_in};
-ghost use Rattle.eevdf_queue.specs.TreeStores.{deadline_at, IsNoted, IsRunnableStore};
+ghost use Rattle.eevdf_queue.specs.TreeStores.{kept_at, noted, IsNoted, IsRunnableStore};
 ghost use Rattle.eevdf_queue.specs.Leaving.{leaving_at};
 ghost use Rattle.eevdf_queue.specs.Rebase.{can_lower, lowered_tasks};
 ghost use Rattle.eevdf_queue.specs.Pick.{IsPick, is_eligible_at, pick_of};
@@ -109,6 +109,18 @@ impl RunnableTasks {
         }
     }
 
+    /// Answers as `get` does. Of a task that isn't here this takes a look at the table and no search. `get` doesn't look, since it
+    /// is mostly asked for the task that runs.
+    #[inline(always)]
+    pub fn look_up(&self, task: TaskId) -> Option<Entry>
+        ensures { result ≡ map.get self.now.tasks task }
+    {
+        if self.deadlines.is_absent(task) {
+            return None;
+        }
+        self.get(task)
+    }
+
     /// Gives a task that is here with an older entry another one.
     #[inline(always)]
     pub fn set(&mut self, task: TaskId, older: &Entry, entry: Entry)
@@ -118,7 +130,7 @@ impl RunnableTasks {
     {
         self.picked.forget();
         self.totals = exchanged(&self.totals, older, &entry);
-        replace(&mut self.tree, &mut self.deadlines, task, entry);
+        replace(&mut self.tree, &mut self.deadlines, task, older, entry);
     }
 
     /// Gives a task that is here with an older entry one of another request, whose virtual runtime is near the older one.
@@ -132,7 +144,7 @@ impl RunnableTasks {
     {
         self.picked.forget();
         correct_moment(&mut self.totals, older, &newer);
-        replace(&mut self.tree, &mut self.deadlines, task, newer);
+        replace(&mut self.tree, &mut self.deadlines, task, older, newer);
     }
 
     /// Gives a task that is here with an older entry one of a later virtual runtime. The task keeps its place.
@@ -177,7 +189,7 @@ impl RunnableTasks {
     {
         self.keeps();
         self.picked.forget();
-        let node = take(&mut self.tree, &self.deadlines, task);
+        let node = take(&mut self.tree, &mut self.deadlines, task);
         let entry = node.task().entry;
         self.totals = without_share(&self.totals, &share(&entry));
         leave(node, kept_lag(time, &entry))
@@ -305,10 +317,16 @@ impl RunnableTasks {
     }
 }
 
-/// Gives the task of a number, which is here, another entry, with which it takes its place anew.
+/// Gives the task of a number, which is here with an older entry, another one, with which it takes its place anew.
 #[inline(always)]
-fn replace(tree: &mut TaskTree, deadlines: &mut DeadlineTable, task: TaskId, entry: Entry)
-    requires here { is_some (find_task task tree.old.tasks) ≡ true }
+fn replace(
+    tree: &mut TaskTree,
+    deadlines: &mut DeadlineTable,
+    task: TaskId,
+    older: &Entry,
+    entry: Entry,
+)
+    requires here { option_map (λ t. t.entry) (find_task task tree.old.tasks) ≡ Some older.now }
     requires stored { IsRunnableStore deadlines.old tree.old.tasks }
     requires in_range { is_entry_in_range entry ≡ true }
     ensures stored { IsRunnableStore deadlines.new tree.new.tasks }
@@ -316,20 +334,25 @@ fn replace(tree: &mut TaskTree, deadlines: &mut DeadlineTable, task: TaskId, ent
     ensures tree { (t : Task) → find_task task tree.old.tasks ≡ Some t
         → tree.new.tasks ≡ insert_task (record t { entry = entry }) (without task tree.old.tasks) }
 {
-    let node = take(tree, deadlines, task);
+    let key = TreeKey::of(task, older);
+    let node = tree.remove(&key);
     put(tree, deadlines, node, entry);
 }
 
-/// Takes the task of a number, which is here, out of the tree, in its node.
+/// Takes the task of a number, which is here, out of the tree, in its node, and has its deadline forgotten.
 #[inline(always)]
-fn take(tree: &mut TaskTree, deadlines: &DeadlineTable, task: TaskId) -> Box<TreeNode>
+fn take(tree: &mut TaskTree, deadlines: &mut DeadlineTable, task: TaskId) -> Box<TreeNode>
     requires here { is_some (find_task task tree.old.tasks) ≡ true }
-    requires noted { AllByRecursion (IsNoted deadlines.now) tree.old.tasks }
+    requires noted { AllByRecursion (IsNoted deadlines.old) tree.old.tasks }
     ensures alone { IsAlone result.value }
     ensures task { find_task task tree.old.tasks ≡ Some (first_task result.value.tasks) }
     ensures rest { tree.new.tasks ≡ without task tree.old.tasks }
+    ensures table { (q : ℕ)
+        → kept_at deadlines.new q ≡ (if q == task then pos 0 else kept_at deadlines.old q) }
 {
-    tree.remove(&deadlines.key(task))
+    let key = deadlines.key(task);
+    deadlines.forget(task);
+    tree.remove(&key)
 }
 
 /// Puts the task of a lone node into the tree with another entry, and notes its deadline.
@@ -337,12 +360,13 @@ fn put(tree: &mut TaskTree, deadlines: &mut DeadlineTable, mut node: Box<TreeNod
     requires alone { IsAlone node.value }
     requires absent { find_task (first_task node.value.tasks).number tree.old.tasks ≡ None }
     requires few { length tree.old.tasks < number_limit }
+    requires in_range { is_entry_in_range entry ≡ true }
     ensures tree { tree.new.tasks
         ≡ insert_task (record (first_task node.value.tasks) { entry = entry }) tree.old.tasks }
     ensures table { (q : ℕ)
-        → deadline_at deadlines.new q
+        → kept_at deadlines.new q
         ≡ (if q ==
-        (first_task node.value.tasks).number then entry.d else deadline_at deadlines.old q) }
+        (first_task node.value.tasks).number then noted entry.d else kept_at deadlines.old q) }
 {
     node.replace_entry(&entry);
     deadlines.note(node.task().number, &entry);

@@ -4,7 +4,7 @@ ghost use Rattle.eevdf_queue.specs.TaskLists.{first_task, find_task, set_entry, 
 ghost use Rattle.eevdf_queue.specs.{Order.earliest, Pick.is_eligible_at, Candidate.latest_waiting, TreeShape.IsAlone};
 ghost use Rattle.eevdf_queue.specs.{TreeShape.IsFull, TreeShape.empty_tree, Numbers.number_limit, NodeDepths.depth_at};
 ghost use Rattle.eevdf_queue.specs.TreeTasks.{IsAtDeadline, insert_task, without, first_that};
-ghost use Rattle.eevdf_queue.specs.{TreeStores.deadline_at, TreeLowering.IsNear, TreeLowering.lowered_list, TreeLowering.are_tasks_in_range, TreeLowering.deadline_or};
+ghost use Rattle.eevdf_queue.specs.{TreeStores.kept_at, TreeLowering.IsNear, TreeLowering.lowered_list, TreeLowering.are_tasks_in_range, TreeLowering.noted_or};
 
 use crate::deadline_table::DeadlineTable;
 use crate::entry::Entry;
@@ -97,8 +97,8 @@ impl TaskTree {
         requires small { unsigned_abs by ≤ 2 ^ 60 }
         ensures tasks { self.new.tasks ≡ lowered_list by self.old.tasks }
         ensures depths { self.new.depths ≡ self.old.depths }
-        ensures noted { (q : ℕ) → deadline_at deadlines.new q
-            ≡ deadline_or (deadline_at deadlines.old q) (find_task q self.new.tasks) }
+        ensures noted { (q : ℕ) → kept_at deadlines.new q
+            ≡ noted_or (kept_at deadlines.old q) (find_task q self.new.tasks) }
         ensures in_range { result ≡ are_tasks_in_range self.new.tasks }
     {
         lower(&mut self.root, deadlines, by)

@@ -13,8 +13,8 @@ pub fn floor_quotient(dividend: i128, divisor: u64) -> i128
     }
 }
 
-/// A quotient of numbers of 64 bits, rounded down. A division without signs takes less time than one with them, so a dividend
-/// below 0 is counted from -1 down, and so is its quotient.
+/// A quotient of numbers of 64 bits, rounded down. A division without signs takes less time than one with them, so of a dividend
+/// below 0 the complement, -1 less it, is divided, and the quotient is the complement of that.
 #[inline(always)]
 pub fn narrow_floor_quotient(dividend: i64, divisor: u64) -> i64
     requires { 1 ≤ divisor }
@@ -25,7 +25,7 @@ pub fn narrow_floor_quotient(dividend: i64, divisor: u64) -> i64
     counted(quotient as i64, below)
 }
 
-/// A number, or how far it is below -1; from -1 down it goes the same way back. No branch is taken.
+/// A number, or its complement where it is counted down from -1. The complement of that is the number again.
 #[inline(always)]
 fn counted(number: i64, down: bool) -> i64
     ensures { result ≡ (if down then negsuc 0 -ℤ number else number) }

@@ -2,9 +2,9 @@
 
 ghost use Rattle.std.specs.Prelude.{◌≡◌, ℕ, ◌≤◌, ◌^◌, unsigned_abs, ◌&&◌};
 ghost use Rattle.std.specs.List.{AllByRecursion};
-ghost use Rattle.eevdf_queue.specs.{Moves.is_entry_in_range, TaskLists.find_task, TreeStores.deadline_at};
+ghost use Rattle.eevdf_queue.specs.{Moves.is_entry_in_range, TaskLists.find_task, TreeStores.kept_at};
 ghost use Rattle.eevdf_queue.specs.{TreeShape.tasks_in, TreeShape.height_in, TreeShape.depths_in};
-ghost use Rattle.eevdf_queue.specs.TreeLowering.{IsNear, lowered_task, lowered_list, are_tasks_in_range, deadline_or};
+ghost use Rattle.eevdf_queue.specs.TreeLowering.{IsNear, lowered_task, lowered_list, are_tasks_in_range, noted_or};
 
 use super::TreeNode;
 use super::node_parts::look_around;
@@ -21,8 +21,8 @@ pub fn lower(link: &mut Option<Box<TreeNode>>, deadlines: &mut DeadlineTable, by
     ensures tasks { tasks_in link.new ≡ lowered_list by (tasks_in link.old) }
     ensures height { height_in link.new ≡ height_in link.old }
     ensures depths { depths_in link.new ≡ depths_in link.old }
-    ensures noted { (q : ℕ) → deadline_at deadlines.new q
-        ≡ deadline_or (deadline_at deadlines.old q) (find_task q (tasks_in link.new)) }
+    ensures noted { (q : ℕ) → kept_at deadlines.new q
+        ≡ noted_or (kept_at deadlines.old q) (find_task q (tasks_in link.new)) }
     ensures in_range { result ≡ are_tasks_in_range (tasks_in link.new) }
 {
     let Some(node) = link else { return true };

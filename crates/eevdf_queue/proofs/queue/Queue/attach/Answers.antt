@@ -1,4 +1,4 @@
-use Rattle.std.proofs.Common.{◌≡◌, Some, ap, ◌∙◌, sym}
+use Rattle.std.proofs.Common.{Some, ap, ◌∙◌, sym}
 use Rattle.std.specs.{Prelude.is_some, FinMap.get, FinMap.insert}
 use Rattle.eevdf_queue.specs.{State.State, State.View, Sums.Tasks, Moves.sleeper_of, Placing.placed_entry}
 use Rattle.eevdf_queue.proofs.{Sound.sound_admit, Joining.placed_in_range, Joining.joined}

@@ -1,5 +1,5 @@
 use Rattle.std.proofs.Common.{◌≡◌, ℕ, ◌+◌, ◌/◌, ◌^◌, ◌≤◌, suc, Option, Some, sym, ap, subst, ◌∙◌, unwrap_or, arith}
-use Rattle.std.specs.FinMap.{FinMap, get, len}
+use Rattle.std.specs.FinMap.{get, len}
 use Rattle.eevdf_queue.specs.{Pick.pick_of, Pick.view_picked_by, Pick.view_after_pick, State.State, State.View, Sums.Tasks}
 use Rattle.eevdf_queue.proofs.Picked.{none_picked}
 use Rattle.eevdf_queue.proofs.queue.Queue.pick.Goals as goal

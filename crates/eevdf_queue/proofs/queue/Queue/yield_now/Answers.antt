@@ -1,4 +1,4 @@
-use Rattle.std.proofs.Common.{◌≡◌, ℕ, Bool, true, cond, Option, Some, sym, ap, ◌∙◌}
+use Rattle.std.proofs.Common.{◌≡◌, ℕ, Bool, true, cond, Some, sym, ap, ◌∙◌}
 use Rattle.std.specs.{Prelude.is_some, FinMap.get, FinMap.insert, FinMap.contains_key}
 use Rattle.eevdf_queue.specs.{declared.answers.YieldAnswer.YieldAnswer, declared.entry.Entry.Entry, State.State, State.View, Sums.Tasks}
 use Rattle.eevdf_queue.specs.{Moves.is_entry_in_range, Yield.yielded, Yield.yield_now, Yield.yield_entry, Yield.yield_running}

@@ -2,7 +2,7 @@ use Rattle.std.proofs.Common.{◌≡◌, ◌∙◌, to_z, of_z, sym, subst, ap, 
 use Rattle.std.specs.{Prelude.ℤ, Prelude.pos, Prelude.◌-ℤ◌, Prelude.◌*ℤ◌, Prelude.neg_ℤ, List.AllByRecursion}
 use Rattle.std.proofs.lemmas.Int.{to_z-of_z}
 use mir.Syntax.{w64}
-use Rattle.eevdf_queue.specs.{State.TasksInTree, Rebase.can_lower, Rebase.lowered_tasks, TaskLists.runnable_in, TreeStores.deadline_at}
+use Rattle.eevdf_queue.specs.{State.TasksInTree, Rebase.can_lower, Rebase.lowered_tasks, TaskLists.runnable_in, TreeStores.kept_at}
 use Rattle.eevdf_queue.specs.TreeLowering.{IsNear, lowered_list, are_tasks_in_range}
 use Rattle.eevdf_queue.proofs.{LoweredLists.near_runnable, LoweredLists.near_lowered, LoweredMaps.can-lower, LoweredMaps.seen-lowered, PickedTasks.sums_kept}
 use Rattle.eevdf_queue.proofs.{LoweredStores.known_within, LoweredStores.store_lowered, LoweredStores.store_back, LoweredStores.tasks_back, LoweredStores.noted_twice}
@@ -47,7 +47,7 @@ invariant_of-self c =
     let is = back (goal.at.invariant_of-self c).After-lower-then-not-lower in
     store_back c.self.inside.deadlines c.lower-then-not-lower.new.deadlines c.self.inside.totals c.self.inside.picked c.self.inside.tree c.lower-then-not-lower.new.self c.self.invariant is
     (c.lower-then-not-lower.ensures.depths ∙ c.lower.ensures.depths)
-    (λ q. noted_twice c.args.by q (deadline_at c.self.inside.deadlines q) (deadline_at c.lower.new.deadlines q) (deadline_at c.lower-then-not-lower.new.deadlines q)
+    (λ q. noted_twice c.args.by q (kept_at c.self.inside.deadlines q) (kept_at c.lower.new.deadlines q) (kept_at c.lower-then-not-lower.new.deadlines q)
     c.self.inside.tree.tasks c.lower.new.self.tasks c.lower-then-not-lower.new.self.tasks (lowered (goal.at.invariant_of-self c).After-lower) is
     (c.lower.ensures.noted q) (c.lower-then-not-lower.ensures.noted q))
 

@@ -8,7 +8,7 @@ use Rattle.eevdf_queue.specs.{declared.entry.Entry.Entry, State.Contents, Lag.cu
 use Rattle.eevdf_queue.specs.Leaving.{leaving, leaving_at}
 use Rattle.eevdf_weight.specs.Limits.{is_in_range}
 use Rattle.eevdf_queue.proofs.{Bounds.range_v, TreeSearch.found_number, PickedTasks.sums_kept}
-use Rattle.eevdf_queue.proofs.TreeMaps.{find_present, taken_stored, taken_seen, found_entry}
+use Rattle.eevdf_queue.proofs.TreeMaps.{find_present, taken_stored, taken_missed, taken_seen, found_entry, forgotten_stored}
 use Rattle.eevdf_queue.proofs.TreeTotals.{totals-without, totals_part, totals_near}
 use Rattle.eevdf_queue.specs.State.{TasksInTree}
 use Rattle.eevdf_queue.proofs.runnable_tasks.RunnableTasks.remove.Goals as goal
@@ -30,7 +30,11 @@ pub invariant_of-self : goal.invariant_of-self
 invariant_of-self c =
     let x : (first_task c.take-node.result.value.tasks).entry ≡ c.task-entry.result.entry = cc in
     record {
-      store = taken_stored c.self.inside.deadlines c.args.task (first_task c.take-node.result.value.tasks) c.self.inside.tree.tasks c.take-node.new.tree.tasks c.self.invariant.store c.take-node.ensures.task c.take-node.ensures.rest;
+      store =
+          forgotten_stored c.self.inside.deadlines c.take-node.new.deadlines c.args.task c.take-node.new.tree.tasks
+          (taken_stored c.self.inside.deadlines c.args.task (first_task c.take-node.result.value.tasks) c.self.inside.tree.tasks c.take-node.new.tree.tasks c.self.invariant.store c.take-node.ensures.task c.take-node.ensures.rest)
+          (taken_missed c.self.inside.deadlines c.args.task (first_task c.take-node.result.value.tasks) c.self.inside.tree.tasks c.take-node.new.tree.tasks c.self.invariant.store c.take-node.ensures.task c.take-node.ensures.rest)
+          c.take-node.ensures.table;
       totals =
           totals-without c.args.task (first_task c.take-node.result.value.tasks) c.task-entry.result.entry c.self.inside.tree.tasks c.take-node.new.tree.tasks c.self.inside.totals c.without_share-self-inside.result
           c.share.result.weight c.share.result.moment c.self.invariant.totals c.take-node.ensures.task x c.take-node.ensures.rest c.share.ensures.weight c.share.ensures.moment

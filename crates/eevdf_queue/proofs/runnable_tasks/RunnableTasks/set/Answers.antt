@@ -1,14 +1,14 @@
 use Rattle.std.proofs.Common.{◌∙◌, ap, arith}
-use Rattle.std.specs.{Prelude.is_some, Ordering.nat_cmp, FinMap.FinMap, FinMap.insert}
+use Rattle.std.specs.{Ordering.nat_cmp, FinMap.FinMap, FinMap.insert}
 use Rattle.eevdf_queue.specs.{declared.entry.Entry.Entry, TaskLists.find_task}
 use Rattle.eevdf_queue.proofs.PickedTasks.{sums_kept}
-use Rattle.eevdf_queue.proofs.TreeMaps.{find_present, entry_here}
+use Rattle.eevdf_queue.proofs.TreeMaps.{entry_here}
 use Rattle.eevdf_queue.proofs.TreeTotals.{totals-moved, totals_part, totals_few, totals_small, entry_found}
 use Rattle.eevdf_queue.specs.State.{TasksInTree}
 use Rattle.eevdf_queue.proofs.runnable_tasks.RunnableTasks.set.Goals as goal
 
 pub replace-requires-clause-here : goal.replace-requires-clause-here
-replace-requires-clause-here c = find_present c.self.inside.tree.tasks c.args.self.now.tasks c.args.task (ap (λ (w : TasksInTree). w.tasks) c.self.view_is) (ap is_some c.requires.here)
+replace-requires-clause-here c = entry_here c.args.task c.args.older.now c.self.inside.tree.tasks c.args.self.now.tasks (ap (λ (w : TasksInTree). w.tasks) c.self.view_is) c.requires.here
 
 pub replace-requires-clause-stored : goal.replace-requires-clause-stored
 replace-requires-clause-stored c = c.self.invariant.store

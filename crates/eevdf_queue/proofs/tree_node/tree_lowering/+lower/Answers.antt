@@ -1,10 +1,10 @@
 use Rattle.std.proofs.Common.{◌≡◌, ◌∙◌, ◌<◌, ◌≤◌, ◌^◌, ◌∷◌, ◌++◌, ◌&&◌, Bool, List, length, to_z, of_z, ap, sym, subst, arith, length-append}
-use Rattle.std.specs.{Prelude.ℤ, Prelude.unsigned_abs, List.AllByRecursion}
-use Rattle.std.proofs.lemmas.Int.{to_z-of_z}
+use Rattle.std.specs.{Prelude.ℤ, Prelude.◌-ℤ◌, Prelude.unsigned_abs, List.AllByRecursion}
+use Rattle.std.proofs.lemmas.Int.{ints, to_z-of_z}
 use mir.Syntax.{w64}
 use Rattle.eevdf_queue.specs.{declared.task.Task.Task, Moves.is_entry_in_range, TreeShape.tasks_in, TreeShape.depths_in, TreeNodes.tasks_of, TreeNodes.depths_of}
 use Rattle.eevdf_queue.specs.TreeLowering.{IsNear, lowered_task, lowered_list, are_tasks_in_range}
-use Rattle.eevdf_queue.specs.TreeStores.{deadline_at}
+use Rattle.eevdf_queue.specs.TreeStores.{kept_at}
 use Rattle.eevdf_queue.proofs.{AllTasks.all-left, AllTasks.all-right}
 use Rattle.eevdf_queue.proofs.LoweredLists.{around_lowered, depths_lowered, noted_around, in_range-around}
 use Rattle.eevdf_queue.proofs.tree_node.tree_lowering.+lower.Goals as goal
@@ -39,6 +39,19 @@ pub lower_task-own-requires-clause-near : goal.lower_task-own-requires-clause-ne
 lower_task-own-requires-clause-near t c =
     let e : tasks_in c.args.link.now ≡ tasks_of c.node.inside = cc in
     (near_right (tasks_in c.args.link.now) (tasks_in c.node.inside.sides.left) c.node.inside.task (tasks_in c.node.inside.sides.right) e c.requires.near).0
+
+apart_by : (d by : ℤ) → unsigned_abs d ≤ 2 ^ 61 → unsigned_abs by ≤ 2 ^ 60 → unsigned_abs (d -ℤ by) < 2 ^ 62
+apart_by d by h k = omega (arith, ints)
+
+lowered_near : (t u : Task) (by : ℤ) → u ≡ lowered_task by t → IsNear t → unsigned_abs by ≤ 2 ^ 60 → unsigned_abs u.entry.d < 2 ^ 62
+lowered_near t u by e n h = subst (λ (z : Task). unsigned_abs z.entry.d < 2 ^ 62) (sym e) (apart_by t.entry.d by n.1 h)
+
+pub note-requires : goal.note-requires
+note-requires t c =
+    let e : tasks_in c.args.link.now ≡ tasks_of c.node.inside = cc in
+    lowered_near c.node.inside.task c.lower_task-own.new.task c.args.by
+    (c.lower_task-own.ensures.task ∙ ap (λ (z : ℤ). lowered_task z c.node.inside.task) (to_z-of_z w64 c.args.by c.ranges.by))
+    (near_right (tasks_in c.args.link.now) (tasks_in c.node.inside.sides.left) c.node.inside.task (tasks_in c.node.inside.sides.right) e c.requires.near).0 c.requires.small
 
 pub lower-left-requires : goal.lower-left-requires
 lower-left-requires t c =
@@ -76,7 +89,7 @@ returns-clause-depths t c =
 
 pub returns-clause-noted : goal.returns-clause-noted
 returns-clause-noted t c = λ q.
-    noted_around q (deadline_at c.args.deadlines.now q) (deadline_at c.lower-right.new.deadlines q) (deadline_at c.note.new.self q) (deadline_at c.lower-left.new.deadlines q)
+    noted_around q (kept_at c.args.deadlines.now q) (kept_at c.lower-right.new.deadlines q) (kept_at c.note.new.self q) (kept_at c.lower-left.new.deadlines q)
     (tasks_in c.lower-left.new.link) c.lower_task-own.new.task (tasks_in c.lower-right.new.link)
     (c.lower-right.ensures.noted q) (c.note.ensures q) (c.lower-left.ensures.noted q)
 
