@@ -1,10 +1,10 @@
 -- To look the numbers up in turn is to go over a map's entries.
-use Rattle.std.proofs.Common.{◌≡◌, ℕ, ◌+◌, ◌<◌, ◌≤◌, List, [], ◌∷◌, Option, Some, None, refl, sym, ap, ◌∙◌, arith}
+use Rattle.std.proofs.Common.{◌≡◌, ℕ, ◌+◌, ◌<◌, ◌≤◌, List, [], ◌∷◌, length, Option, Some, None, refl, sym, ap, ◌∙◌, arith}
 use Rattle.std.specs.Ordering.{nat_cmp}
 use lib.Dec.{T}
 use Rattle.std.specs.FinMap as finite
 use Rattle.std.specs.FinMap.Entries.{find, is_sorted, below_all}
-use Rattle.std.proofs.{lemmas.Bool.Decides.nat_tests}
+use Rattle.std.proofs.{lemmas.Bool.Decides.nat_tests, lemmas.List.length-map}
 use Rattle.std.specs.Prelude.{ℤ, map}
 use Rattle.eevdf_queue.proofs.{ListMaps.same_number, SortedEntries.first_above, SortedEntries.sorted_parts, SortedEntries.none_found}
 use Rattle.eevdf_queue.specs.{State.Sleeper, Numbers.checked_number, Lag.sleeping_lag, Ascending.from_number, Ascending.with_lag}
@@ -58,9 +58,17 @@ module _ {X : Type 0} where
   from_start [] = refl
   from_start (e ∷ es) = grind (arith, nat_tests)
 
+  -- at the start as many are left as the map has entries
+  pub all_left : (m : finite.FinMap nat_cmp X) → finite.len m ≡ length (from_number 0 (finite.entries m))
+  all_left m = finite.len-entries m ∙ ap length (sym (from_start (finite.entries m)))
+
 -- the number of a task that was made from a number
 pub numbered : (n t : ℕ) → checked_number n ≡ Some t → t ≡ n
 numbered n t h = grind (arith, nat_tests)
+
+-- at the start as many lags are left as tasks sleep
+pub all_lags_left : (m : finite.FinMap nat_cmp Sleeper) → finite.len m ≡ length (map with_lag (from_number 0 (finite.entries m)))
+all_lags_left m = all_left m ∙ sym (length-map (from_number 0 (finite.entries m)) with_lag)
 
 pub none_asleep : (o : Option Sleeper) → sleeping_lag o ≡ None → o ≡ None
 none_asleep None h = refl

@@ -46,6 +46,7 @@ mod OneSide
 mod ShortestTicks
 mod SliceChanging
 mod Closing
+mod AsleepCounts
 mod Floors
 mod LoweredLists
 mod LoweredMaps

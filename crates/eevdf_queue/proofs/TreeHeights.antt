@@ -21,3 +21,11 @@ pub full-node : (h m n : ℕ) (xs : List Task) (t : Task) (ys : List Task) → h
 full-node h m n xs t ys e d k l =
     subst (λ (z : ℕ). IsFull z (length (xs ++ t ∷ ys))) (sym e)
     (subst (λ (z : ℕ). IsFull (suc (max m n)) z) (sym (length-append xs (t ∷ ys))) (full-between m n (length xs) (length ys) d k l))
+
+below_power : (j : ℕ) → suc j ≤ 2 ^ j
+below_power zero = omega arith
+below_power (suc j) = omega (arith, pow-suc 2 j, below_power j)
+
+-- a tree of so few tasks is low
+pub low : (h n : ℕ) → IsFull h n → n ≤ 1024 → suc h ≤ 65536
+low h n full few = omega (arith, full, below_power (h / 2), few)

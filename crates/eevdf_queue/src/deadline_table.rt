@@ -11,7 +11,7 @@ use std::marker::Model;
 /// no memory.
 ///
 /// A deadline is kept as twice itself and one more, and 0 is kept of a number without a runnable task. So a new table is all zeros,
-/// which are filled in where it stands: any other number would first fill an array on the stack.
+/// which are filled in where it stands. One of -2^63 was seen to fill an array on the stack first.
 #[derive(Drop)]
 pub struct DeadlineTable {
     by_number: [i64; TaskId::COUNT],

@@ -23,11 +23,15 @@ pub struct Queue {
     pub(crate) asleep: Sleepers,
     pub(crate) base: i64,
     pub(crate) running: Option<TaskId>,
-    pub(crate) turns: u32,
+    /// The turns of the last pick. With 32 bits they would leave no room for the count, and a queue would have 16 bytes more.
+    pub(crate) turns: u16,
+    /// How many tasks sleep here.
+    pub(crate) asleep_count: u16,
 }
 
 impl Model for Queue {
-    ghost use Rattle.std.specs.Ordering.{nat_cmp};
+    ghost use Rattle.std.specs.{Ordering.nat_cmp, Prelude.◌≡◌};
+    ghost use Rattle.std.specs.FinMap as finite;
     ghost use Rattle.eevdf_queue.specs.{State.View, Codes.view_code};
 
     ghost Value = { View };
@@ -43,7 +47,8 @@ impl Model for Queue {
     } };
 
     ghost invariant = { λ a. IsSound
-        (record { runnable = a.runnable.tasks; running = a.running; asleep = a.asleep; base = a.base }) };
+        (record { runnable = a.runnable.tasks; running = a.running; asleep = a.asleep; base = a.base })
+        × (a.asleep_count ≡ finite.len a.asleep) };
 }
 
 impl Queue {
@@ -57,6 +62,7 @@ impl Queue {
             base: 0,
             running: None,
             turns: 0,
+            asleep_count: 0,
         }
     }
 
@@ -174,7 +180,7 @@ impl Queue {
     pub fn pick_steps(&self) -> u32
         ensures { result ≡ self.now.turns }
     {
-        self.turns
+        u32::from(self.turns)
     }
 
     /// Learns what every queue keeps.

@@ -47,7 +47,9 @@ impl Queue {
         ensures after { self.new.state ≡ moves.put_asleep self.old.state parcel }
         ensures turns { self.new.turns ≡ self.old.turns }
     {
+        self.asleep.keeps();
         self.asleep.add(parcel);
+        self.asleep_count += 1;
     }
 
     /// Takes out the running task, with the lag that it keeps, and nobody runs. Its virtual runtime is the time
@@ -95,6 +97,7 @@ impl Queue {
             return None;
         }
         let start = self.floor_time();
+        self.asleep_count -= 1;
         Some(self.asleep.remove(task).starting_at(start))
     }
 
@@ -169,6 +172,7 @@ impl Queue {
             return WakeAnswer::Range;
         };
         let parcel = self.asleep.remove(task);
+        self.asleep_count -= 1;
         self.runnable.add(parcel, entry);
         WakeAnswer::Woken
     }

@@ -15,15 +15,19 @@ use std::marker::Model;
 pub struct Runnable<'a> {
     queue: &'a Queue,
     next: u64,
+    /// How many are left: after the last task no further number is looked up.
+    left: usize,
 }
 
 impl<'a> Model for Runnable<'a> {
-    ghost use Rattle.std.specs.Prelude.{ℕ, List};
+    ghost use Rattle.std.specs.Prelude.{◌≡◌, ℕ, List, length};
     ghost use Rattle.eevdf_queue.specs.{declared.entry.Entry.Entry, Ascending.from_number, Ascending.runnable_tasks};
 
     ghost Value = { List (ℕ × Entry) };
 
     ghost view = { λ s. from_number s.next (runnable_tasks s.queue.now.state) };
+
+    ghost invariant = { λ s. s.left ≡ length (from_number s.next (runnable_tasks s.queue.now.state)) };
 }
 
 impl Iterator for Runnable<'_> {
@@ -34,8 +38,12 @@ impl Iterator for Runnable<'_> {
     ghost remaining = { item_count (λ s. s) };
 
     fn next(&mut self) -> Option<(TaskId, Entry)> {
+        if self.left == 0 {
+            return None;
+        }
         let (task, entry) = self.queue.runnable_from(self.next)?;
         self.next = task.get() + 1;
+        self.left -= 1;
         Some((task, entry))
     }
 }
@@ -45,10 +53,12 @@ impl Iterator for Runnable<'_> {
 pub struct Sleeping<'a> {
     queue: &'a Queue,
     next: u64,
+    /// How many are left.
+    left: u16,
 }
 
 impl<'a> Model for Sleeping<'a> {
-    ghost use Rattle.std.specs.Prelude.{ℕ, ℤ, List, map};
+    ghost use Rattle.std.specs.Prelude.{◌≡◌, ℕ, ℤ, List, map, length};
     ghost use Rattle.std.specs.FinMap as finite;
     ghost use Rattle.eevdf_queue.specs.Ascending.{from_number, with_lag};
 
@@ -56,6 +66,9 @@ impl<'a> Model for Sleeping<'a> {
 
     ghost view = { λ s. map with_lag
         (from_number s.next (finite.entries s.queue.now.state.asleep)) };
+
+    ghost invariant = { λ s. s.left ≡ length (map with_lag
+        (from_number s.next (finite.entries s.queue.now.state.asleep))) };
 }
 
 impl Iterator for Sleeping<'_> {
@@ -66,32 +79,38 @@ impl Iterator for Sleeping<'_> {
     ghost remaining = { item_count (λ s. s) };
 
     fn next(&mut self) -> Option<(TaskId, i64)> {
+        if self.left == 0 {
+            return None;
+        }
         let (task, lag) = self.queue.asleep_from(self.next)?;
         self.next = task.get() + 1;
+        self.left -= 1;
         Some((task, lag))
     }
 }
 
 impl Queue {
     /// The runnable tasks with their entries, in ascending number.
-    #[tactic(auto, using(crate::proofs::Ascending::from_start))]
+    #[tactic(auto, using(crate::proofs::Ascending::from_start, crate::proofs::Ascending::all_left))]
     pub fn runnable_tasks(&self) -> Runnable<'_>
         ensures { result ≡ runnable_tasks self.now.state }
     {
         Runnable {
             queue: self,
             next: 0,
+            left: self.len(),
         }
     }
 
     /// The sleeping tasks with the lags that they keep, in ascending number.
-    #[tactic(auto, using(crate::proofs::Ascending::from_start))]
+    #[tactic(auto, using(crate::proofs::Ascending::from_start, crate::proofs::Ascending::all_lags_left))]
     pub fn sleeping_tasks(&self) -> Sleeping<'_>
         ensures { result ≡ sleeping_tasks self.now.state }
     {
         Sleeping {
             queue: self,
             next: 0,
+            left: self.asleep_count,
         }
     }
 

@@ -1,6 +1,6 @@
 //! Which task of a queue runs, and what it is charged.
 
-ghost use Rattle.std.specs.Prelude.{◌≡◌, ◌≤◌, ◌↔◌, ◌+◌, ◌/◌, ◌^◌, true, Some, IfSome, IsNone};
+ghost use Rattle.std.specs.Prelude.{◌≡◌, ◌<◌, ◌≤◌, ◌↔◌, ◌+◌, ◌/◌, ◌^◌, true, Some, IfSome, IsNone};
 ghost use Rattle.std.specs.Option.{option_map};
 ghost use Rattle.std.specs.FinMap as map;
 ghost use Rattle.eevdf_queue.specs.Moves as moves;
@@ -43,6 +43,7 @@ impl Queue {
         ensures depth { IfSome result (λ t. map.get self.old.depths t ≡ Some self.new.turns) }
         ensures seen { self.new ≡ view_after_pick self.old }
     {
+        self.runnable.keeps();
         if let Some(known) = self.runnable.known_pick() {
             return Some(self.run(known));
         }
@@ -67,14 +68,15 @@ impl Queue {
     /// Lets the task of a pick run.
     #[inline(always)]
     fn run(&mut self, pick: Pick) -> TaskId
-        requires { map.contains_key self.old.state.runnable pick.task ≡ true }
+        requires here { map.contains_key self.old.state.runnable pick.task ≡ true }
+        requires few { pick.turns < 2 ^ 16 }
         ensures task { result ≡ pick.task }
         ensures after { self.new.state ≡ record self.old.state { running = Some pick.task } }
         ensures turns { self.new.turns ≡ pick.turns }
         ensures depths { self.new.depths ≡ self.old.depths }
     {
         self.running = Some(pick.task);
-        self.turns = pick.turns;
+        self.turns = pick.turns as u16;
         pick.task
     }
 

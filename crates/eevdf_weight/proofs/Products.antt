@@ -1,7 +1,7 @@
 -- A product of two signed numbers of 64 bits in the wider type.
-use Rattle.std.proofs.Common.{◌≡◌, ℕ, ◌^◌, ◌<◌, ◌≤◌, ℤ, ◌*ℤ◌, pos, unsigned_abs, FitsSigned, SFits, to_z, of_z, w64, ap, ◌∙◌, subst, sym, arith}
+use Rattle.std.proofs.Common.{◌≡◌, ℕ, ◌^◌, ◌<◌, ◌≤◌, ℤ, ◌*ℤ◌, pos, unsigned_abs, FitsSigned, SFits, w64, subst, sym, arith}
 use Rattle.std.specs.Int.{w128}
-use Rattle.std.proofs.lemmas.Int.{ints, fits_signed_mul, to_z-of_z}
+use Rattle.std.proofs.lemmas.Int.{ints, fits_signed_mul}
 
 magnitude : (z : ℤ) → SFits w64 z → unsigned_abs z ≤ 2 ^ 63
 magnitude z h = omega (arith, ints)

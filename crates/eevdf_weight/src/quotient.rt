@@ -21,14 +21,14 @@ pub fn narrow_floor_quotient(dividend: i64, divisor: u64) -> i64
     ensures { result ≡ floor_div dividend divisor }
 {
     let below = dividend < 0;
-    let quotient = counted(dividend, below) as u64 / divisor;
-    counted(quotient as i64, below)
+    let quotient = complement_if(below, dividend) as u64 / divisor;
+    complement_if(below, quotient as i64)
 }
 
-/// A number, or its complement where it is counted down from -1. The complement of that is the number again.
+/// A number, or its complement where that is wanted: -1 less the number. The complement of a complement is the number again.
 #[inline(always)]
-fn counted(number: i64, down: bool) -> i64
-    ensures { result ≡ (if down then negsuc 0 -ℤ number else number) }
+fn complement_if(wanted: bool, number: i64) -> i64
+    ensures { result ≡ (if wanted then negsuc 0 -ℤ number else number) }
 {
-    if down { -1 - number } else { number }
+    if wanted { -1 - number } else { number }
 }

@@ -1,4 +1,4 @@
-use Rattle.std.proofs.Common.{◌≡◌, ◌^◌, ◌*ℤ◌, ℤ, pos, rules, to_z, of_z, w64, SFits, ap, ◌∙◌}
+use Rattle.std.proofs.Common.{◌≡◌, ◌*ℤ◌, ℤ, pos, rules, to_z, of_z, w64, SFits, ap, ◌∙◌}
 use Rattle.std.specs.Int.{w128}
 use Rattle.std.proofs.lemmas.Int.{to_z-of_z, to_z_pos}
 use Rattle.eevdf_weight.proofs.Products.{product_fits}

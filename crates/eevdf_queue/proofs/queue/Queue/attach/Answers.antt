@@ -18,10 +18,12 @@ add-requires c = record {
 }
 
 pub invariant_of-self : goal.invariant_of-self
-invariant_of-self c =
-    sound_admit _ _ _ _ _ _ _ c.add.ensures
-    (ap (λ (w : View). get w.state.asleep c.args.parcel.task) c.self.view_is ∙ c.requires.not_asleep)
-    c.self.invariant
+invariant_of-self c = (
+  sound_admit _ _ _ _ _ _ _ c.add.ensures
+      (ap (λ (w : View). get w.state.asleep c.args.parcel.task) c.self.view_is ∙ c.requires.not_asleep)
+      c.self.invariant.0,
+  c.self.invariant.1,
+)
 
 pub returns-clause-after : goal.returns-clause-after
 returns-clause-after c =

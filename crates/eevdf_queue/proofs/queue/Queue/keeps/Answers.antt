@@ -7,7 +7,7 @@ use Rattle.eevdf_queue.proofs.queue.Queue.keeps.Goals as goal
 
 pub returns : goal.returns
 returns c = record {
-  sound = subst (λ (w : View). IsSound w.state) c.self.view_is c.self.invariant;
+  sound = subst (λ (w : View). IsSound w.state) c.self.view_is c.self.invariant.0;
   in_range = subst (λ (w : View). AreInRange w.state.runnable) c.self.view_is c.keeps.ensures;
   limited = subst (λ (w : View). AreLimited w.state.asleep) c.self.view_is c.keeps-2.ensures;
   timed = subst (λ (z : ℤ). is_in_range z ≡ true) c.floor_time-time.ensures.value c.floor_time-time.ensures.in_range;

@@ -1,7 +1,7 @@
 use Rattle.std.proofs.Common.{◌≡◌, ℕ, ◌+◌, ◌/◌, ◌^◌, ◌≤◌, suc, Option, Some, sym, ap, subst, ◌∙◌, unwrap_or, arith}
 use Rattle.std.specs.FinMap.{get, len}
 use Rattle.eevdf_queue.specs.{Pick.pick_of, Pick.view_picked_by, Pick.view_after_pick, State.State, State.View, Sums.Tasks}
-use Rattle.eevdf_queue.proofs.Picked.{none_picked}
+use Rattle.eevdf_queue.proofs.{Picked.none_picked, SortedEntries.few_entries, TreeHeights.low}
 use Rattle.eevdf_queue.proofs.queue.Queue.pick.Goals as goal
 
 few : (m n : Tasks) (j k : ℕ) → j ≡ k → m ≡ n → 2 ^ (k / 2) ≤ suc (len m) → 2 ^ (j / 2) ≤ len n + 1
@@ -17,6 +17,14 @@ seen v w t k state turns depths deep is =
     ∙ ap (λ (x : ℕ). record w { state = chosen; turns = x }) (turns ∙ ap (λ (o : Option ℕ). unwrap_or o 0) (sym deep))
     ∙ ap (λ d. record { state = chosen; turns = unwrap_or (get v.depths t) 0; depths = d }) depths
     ∙ ap (view_picked_by v) is
+
+pub run-requires-clause-few : goal.run-requires-clause-few
+run-requires-clause-few c =
+    low c.in-Some.known.turns (len c.self.inside.runnable.tasks) c.in-Some.ensures.turns (few_entries 1024 c.self.inside.runnable.tasks (λ t e h. (c.keeps.ensures t e h).0))
+
+pub run-requires-2-clause-few : goal.run-requires-2-clause-few
+run-requires-2-clause-few c =
+    low c.in-Some-pick.first.turns (len c.self.inside.runnable.tasks) c.in-Some-pick.ensures.turns (few_entries 1024 c.self.inside.runnable.tasks (λ t e h. (c.keeps.ensures t e h).0))
 
 pub returns-in-Some-clause-turns : goal.returns-in-Some-clause-turns
 returns-in-Some-clause-turns c = subst (λ (k : ℕ). 1 ≤ k) (sym c.run.ensures.turns) c.in-Some.ensures.positive

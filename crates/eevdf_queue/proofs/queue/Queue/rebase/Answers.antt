@@ -7,7 +7,7 @@ use Rattle.eevdf_queue.proofs.LoweredQueues.{rebased_time, sound_lowered}
 use Rattle.eevdf_queue.proofs.queue.Queue.rebase.Goals as goal
 
 pub invariant_of-self-2 : goal.invariant_of-self-2
-invariant_of-self-2 c = sound_lowered _ _ _ _ _ _ (c.lower.ensures.lowered c.if-not-lower.false) c.self.invariant
+invariant_of-self-2 c = (sound_lowered _ _ _ _ _ _ (c.lower.ensures.lowered c.if-not-lower.false) c.self.invariant.0, c.self.invariant.1)
 
 pub returns-clause-time : goal.returns-clause-time
 returns-clause-time c = λ can.

@@ -50,7 +50,7 @@ pub invariant_of-self : goal.invariant_of-self
 invariant_of-self c =
     let v : ℤ = c.in-Some.entry.v in
     let fits : SFits w64 v = search rules in
-    sound_renice _ _ _ _ _ _ c.args.task c.in-Some.entry c.in-Some-reniced.reniced c.set.ensures (sym c.in-Some.ensures) (ap is_in_range (to_z-of_z w64 v fits) ∙ c.keeps_in_range.ensures) c.self.invariant
+    (sound_renice _ _ _ _ _ _ c.args.task c.in-Some.entry c.in-Some-reniced.reniced c.set.ensures (sym c.in-Some.ensures) (ap is_in_range (to_z-of_z w64 v fits) ∙ c.keeps_in_range.ensures) c.self.invariant.0, c.self.invariant.1)
 
 pub returns-clause-answer : goal.returns-clause-answer
 returns-clause-answer c =

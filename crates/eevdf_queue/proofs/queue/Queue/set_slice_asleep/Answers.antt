@@ -1,8 +1,8 @@
 use Rattle.std.proofs.Common.{◌≡◌, ap, ◌∙◌}
-use Rattle.std.specs.FinMap.{get, insert}
+use Rattle.std.specs.{Prelude.is_some, FinMap.get, FinMap.insert}
 use Rattle.eevdf_queue.specs.{State.State, State.View, State.Contents, Moves.sleeper_of}
 use Rattle.eevdf_queue.specs.SliceChange.{sleeper_with_slice, set_sleeper_slice}
-use Rattle.eevdf_queue.proofs.{SliceChanging.put_back, SliceChanging.sleeper_set, Sound.Asleep, Sound.gone, Sound.sound_sleep}
+use Rattle.eevdf_queue.proofs.{SliceChanging.put_back, SliceChanging.sleeper_set, AsleepCounts.as_many, Sound.Asleep, Sound.gone, Sound.sound_sleep}
 use Rattle.eevdf_queue.proofs.queue.Queue.set_slice_asleep.Goals as goal
 use Rattle.eevdf_queue.proofs.queue.Queue.set_slice_asleep.Goals.{After-add}
 
@@ -19,8 +19,10 @@ asleep_after c =
 
 pub invariant_of-self : goal.invariant_of-self
 invariant_of-self c =
-    sound_sleep _ _ _ _ _ _ _ (asleep_after (goal.at.invariant_of-self c).After-add)
-    (ap (λ (w : View). get w.state.runnable c.args.task) c.self.view_is ∙ c.requires) c.self.invariant
+    let after = asleep_after (goal.at.invariant_of-self c).After-add in (
+      sound_sleep _ _ _ _ _ _ _ after (ap (λ (w : View). get w.state.runnable c.args.task) c.self.view_is ∙ c.requires) c.self.invariant.0,
+      as_many _ _ _ _ c.self.invariant.1 _ after (ap is_some c.remove-parcel.ensures.parcel),
+    )
 
 pub returns-clause-after : goal.returns-clause-after
 returns-clause-after c =

@@ -55,11 +55,11 @@ renew-requires-clause-in_range c =
 
 pub invariant_of-self : goal.invariant_of-self
 invariant_of-self c =
-    sound_change _ _ _ _ _ _ _ c.age.ensures (ap (λ (v : View). contains_key v.state.runnable c.in-Some.runner.task) c.self.view_is ∙ ap is_some c.in-Some.ensures.entry) c.self.invariant
+    (sound_change _ _ _ _ _ _ _ c.age.ensures (ap (λ (v : View). contains_key v.state.runnable c.in-Some.runner.task) c.self.view_is ∙ ap is_some c.in-Some.ensures.entry) c.self.invariant.0, c.self.invariant.1)
 
 pub invariant_of-self-2 : goal.invariant_of-self-2
 invariant_of-self-2 c =
-    sound_change _ _ _ _ _ _ _ c.renew.ensures (ap (λ (v : View). contains_key v.state.runnable c.in-Some.runner.task) c.self.view_is ∙ ap is_some c.in-Some.ensures.entry) c.self.invariant
+    (sound_change _ _ _ _ _ _ _ c.renew.ensures (ap (λ (v : View). contains_key v.state.runnable c.in-Some.runner.task) c.self.view_is ∙ ap is_some c.in-Some.ensures.entry) c.self.invariant.0, c.self.invariant.1)
 
 pub returns-clause-answer : goal.returns-clause-answer
 returns-clause-answer c =

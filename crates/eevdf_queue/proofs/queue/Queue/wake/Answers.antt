@@ -1,7 +1,7 @@
 use Rattle.std.proofs.Common.{◌≡◌, ℕ, Some, None, ap, ◌∙◌, sym}
 use Rattle.std.specs.{Prelude.is_some, FinMap.get, FinMap.insert, FinMap.remove}
 use Rattle.eevdf_queue.specs.{declared.answers.WakeAnswer.WakeAnswer, State.State, State.View, Sums.Tasks}
-use Rattle.eevdf_queue.proofs.Sound.{Asleep, sound_wake}
+use Rattle.eevdf_queue.proofs.{AsleepCounts.some_asleep, AsleepCounts.one_less, Sound.Asleep, Sound.sound_wake}
 use Rattle.eevdf_queue.proofs.Joining.{placed_in_range, asleep_alone, stays_awake, stays_asleep, woken}
 use Rattle.eevdf_queue.proofs.queue.Queue.wake.Goals as goal
 
@@ -32,19 +32,24 @@ returns-in_default-placed-clause-after c =
 pub remove-parcel-requires : goal.remove-parcel-requires
 remove-parcel-requires c = ap is_some (sym c.in-Some.ensures)
 
+pub overflow_sub-self : goal.overflow_sub-self
+overflow_sub-self c = some_asleep _ _ _ c.self.invariant.1 (ap is_some (sym c.in-Some.ensures))
+
 pub add-requires : goal.add-requires
 add-requires c = record {
   absent =
       ap (get c.self.inside.runnable.tasks) c.remove-parcel.ensures.task
-      ∙ asleep_alone c.self.inside.runnable.tasks c.self.inside.asleep c.args.task c.in-Some.sleeper (c.self.invariant.apart c.args.task) (sym c.in-Some.ensures);
+      ∙ asleep_alone c.self.inside.runnable.tasks c.self.inside.asleep c.args.task c.in-Some.sleeper (c.self.invariant.0.apart c.args.task) (sym c.in-Some.ensures);
   in_range = placed_in_range c.args.self.now.state c.in-Some.sleeper c.in-Some-placed.entry (sym c.in-Some-placed.ensures);
 }
 
 pub invariant_of-self : goal.invariant_of-self
-invariant_of-self c =
-    sound_wake _ _ _ _ _ _ c.args.task c.in-Some-placed.entry
-    (c.add.ensures ∙ ap (λ (q : ℕ). insert c.self.inside.runnable.tasks q c.in-Some-placed.entry) c.remove-parcel.ensures.task)
-    c.remove-parcel.ensures.rest c.self.invariant
+invariant_of-self c = (
+  sound_wake _ _ _ _ _ _ c.args.task c.in-Some-placed.entry
+      (c.add.ensures ∙ ap (λ (q : ℕ). insert c.self.inside.runnable.tasks q c.in-Some-placed.entry) c.remove-parcel.ensures.task)
+      c.remove-parcel.ensures.rest c.self.invariant.0,
+  one_less _ _ _ _ c.self.invariant.1 c.remove-parcel.ensures.rest (ap is_some c.remove-parcel.ensures.parcel),
+)
 
 pub returns-clause-answer : goal.returns-clause-answer
 returns-clause-answer c =
