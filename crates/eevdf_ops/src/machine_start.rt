@@ -27,7 +27,8 @@ pub(crate) fn queues_at_start(
 {
     let mut queues = Vec::with_capacity(alloc, cpus)?;
     for cpu in 0..cpus {
-        queues.push(Queue::open())?;
+        // with no way to fail between the two, a queue is made in its place in the vector, and not copied there
+        queues.push_reserved(Queue::open());
         fill_queue(alloc, cpus, cpu, tasks, &mut queues[cpu])?;
     }
     Ok(queues)

@@ -1,5 +1,5 @@
 use Rattle.std.proofs.Common.{◌≡◌, ◌+◌, ◌-◌, ℕ, drop, ap, sym, subst, ◌∙◌, arith}
-use Rattle.eevdf_queue.specs.{Leaving.IsNowhere, State.State, State.View}
+use Rattle.eevdf_queue.specs.{Leaving.IsNowhere, State.State}
 use Rattle.eevdf_ops.specs.Machine.{begin}
 use Rattle.eevdf_ops.proofs.{OwnStarts.begun, OwnStarts.begun-here, OwnStarts.begun-none}
 use Rattle.eevdf_ops.proofs.Starting.{begins_well_at, absent_before}
