@@ -17,6 +17,7 @@ use crate::totals::time_over;
 use std::marker::Model;
 
 /// The run queue of one CPU. It has 24672 bytes on x86-64, whatever it holds, and each of its tasks 152 more, in a node.
+#[derive(Drop)]
 pub struct Queue {
     pub(crate) runnable: RunnableTasks,
     pub(crate) asleep: Sleepers,
@@ -48,27 +49,6 @@ impl Model for Queue {
     ghost invariant = { λ a. IsSound
         (record { runnable = a.runnable.tasks; running = a.running; asleep = a.asleep; base = a.base })
         × (a.asleep_count ≡ finite.len a.asleep) };
-}
-
-impl Drop for Queue {
-    /// Frees the tasks that are here, the runnable ones first. Where none sleeps, no slot is looked at.
-    fn drop(self) {
-        let Queue {
-            runnable,
-            asleep,
-            base: _,
-            running: _,
-            turns: _,
-            asleep_count,
-        } = self;
-        if asleep_count == 0 {
-            asleep.forget_empty();
-            drop(runnable);
-        } else {
-            drop(runnable);
-            drop(asleep);
-        }
-    }
 }
 
 impl Queue {

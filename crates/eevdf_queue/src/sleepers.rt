@@ -8,8 +8,8 @@ use crate::sleeper::Sleeper;
 use crate::task::sleeper_of;
 use crate::task_id::TaskId;
 use crate::tree_node::TreeNode;
+use std::array;
 use std::marker::Model;
-use std::{array, mem};
 
 /// The sleeping tasks of a queue, seen as the map from their numbers to what is kept of them. Each stands in
 /// the slot of its number, in the node that carries it. The slots are in the queue itself and take no memory.
@@ -88,13 +88,6 @@ impl Sleepers {
         ensures parcel { map.get self.old task ≡ Some (sleeper_of result) }
     {
         Parcel::of(take(&mut self.slots, task))
-    }
-
-    /// Lets empty slots go without a look at them: none has a node to free.
-    pub fn forget_empty(self)
-        requires { self ≡ map.empty }
-    {
-        mem::forget(self);
     }
 
     /// Learns what every task here keeps.
