@@ -15,9 +15,10 @@ import re
 import sys
 import tempfile
 import threading
+from dataclasses import dataclass
 from pathlib import Path
 
-from edits import TOP, BadEdit, are_apart, edits_of, is_of_bodies, names_of
+from edits import TOP, BadEdit, are_apart, edits_of, functions_of, is_of_bodies, names_of
 from libraries import CRATES, Libraries
 from planting import ENDS, can_be_copied, plant
 from stand_ins import make_library
@@ -44,48 +45,102 @@ MEMORY = 5 << 30
 # What a check says.
 
 FUNCTION = re.compile(r"^(?:so far: )?fn (\S+): (.*)$", re.MULTILINE)
-# An error of a proof file, with its further lines, which are indented.
+# What is said of goals for which no proof was found, where none is written by hand.
+NOT_FOUND = re.compile(r"did not prove (.*)")
+# The same of one goal, with its place: all that is said of it where another of the function's goals is proved wrongly by hand.
+NOTE = re.compile(r"^note: (src/\S+):(\d+):\d+: (it is not proved that .*\(`([^`]+)`\).*)$", re.MULTILINE)
+# An error of a proof file, with its further lines, which are indented. Its first word is the goal that is answered there.
 PROOF_ERROR = re.compile(r"^(?:\./)?proofs/(\S+)/[^/]+\.antt:\d+:\d+: error: (.*(?:\n  .*)*)", re.MULTILINE)
+GOAL = re.compile(r"`([^`]+)`")
+# The goals whose proofs use one that is wrong.
+NOT_CHECKED = re.compile(r"were not checked: (.*)")
 # What it says where the file only names what isn't there or isn't proved. What is printed of a term may have names that can't be
 # written there; that is no such case.
 NAMES_ALONE = re.compile(r"has no field|has no `|was not admitted|\(nearest: |is not in scope(?! here, so what is shown)")
 # What is said of a function whose code the prover has no rules for: it is neither proved nor refused.
 NOT_COVERED = re.compile(r"does not cover|not covered")
 FIRST_ERROR = re.compile(r"^.*: error\b.*$", re.MULTILINE)
+# A goal that is of one of the clauses that a function ensures, or of its only one; and one of what a type or a loop keeps.
+ENSURED = re.compile(r"returns\b(?:.*-clause-(\w+))?")
+KEPT = re.compile(r"^invariant(?=_of-)|\bpreserved\b")
+
+
+@dataclass(frozen=True)
+class Unproved:
+    """A goal of a function that isn't proved, and what is said of it."""
+
+    goal: str
+    words: str
+
+    def clause(self):
+        """The name of the clause that it is of: `ensures` where the function has only one, `invariant` or `preserved` of what a type or a
+        loop keeps, and the goal's own name where it is of none."""
+        if ensured := ENSURED.match(self.goal):
+            return ensured[1] or "ensures"
+        kept = KEPT.search(self.goal)
+        return kept[0] if kept else self.goal
 
 
 class Said:
-    """What a check says: which functions it refuses for what they do themselves, with its words; which it proves; and the first
-    error that it finds."""
+    """What a check says of a crate's folder: which functions it refuses for what they do themselves, with the goals that aren't proved;
+    which it proves; and the first error that it finds."""
 
-    def __init__(self, crate, text):
+    def __init__(self, crate, folder, text):
         self.refused = {}
         self.proved = set()
         error = FIRST_ERROR.search(text)
         self.error = error[0] if error else text[-300:]
         wrong_proofs = {}
-        for folder, error in PROOF_ERROR.findall(text):
+        for proof, error in PROOF_ERROR.findall(text):
             if not NAMES_ALONE.search(error):
-                wrong_proofs.setdefault(function_of(folder), error)
+                wrong_proofs.setdefault(function_of(proof), []).extend(goals_of(error))
+        notes = {}
+        for file, line, words, goal in NOTE.findall(text):
+            notes.setdefault(name_at(folder / file, int(line)), []).append(Unproved(goal, words))
         for name, told in FUNCTION.findall(text):
             name = name.removeprefix(f"{crate}::")
             # of one that may wait it says so too
             if told.partition(",")[0] == "proved":
                 self.proved.add(name)
             elif not NOT_COVERED.search(told):
-                self.look(name, told, wrong_proofs)
+                self.look(name, told, wrong_proofs.get(name, []), notes.get(name.rpartition("::")[2], []))
 
-    def look(self, name, told, wrong_proofs):
-        unproved = [part for part in told.split("; ") if "did not prove" in part]
+    def look(self, name, told, wrong_proofs, notes):
+        parts = [part for part in told.split("; ") if NOT_FOUND.search(part)]
+        unproved = [Unproved(goal, part) for part in parts for goal in GOAL.findall(NOT_FOUND.search(part)[1])]
+        if told.startswith(("not proved", "no proof")) and wrong_proofs:
+            unproved += wrong_proofs + notes
         if unproved:
-            self.refused[name] = unproved[0]
-        elif told.startswith(("not proved", "no proof")) and name in wrong_proofs:
-            self.refused[name] = wrong_proofs[name]
+            self.refused[name] = unproved
+
+
+def goals_of(error):
+    """The goals that an error of a proof file is of."""
+    if others := NOT_CHECKED.search(error):
+        return [Unproved(goal, error) for goal in others[1].split(", ")]
+    goal = GOAL.match(error)
+    return [Unproved(goal[1] if goal else "", error)]
+
+
+def name_at(file, line):
+    """The name of the function, without its path, in whose lines this one is. The attributes above it are its own."""
+    return next((it.name for it in functions_of(file.read_text()) if line <= it.end + 1), "")
 
 
 def function_of(folder):
     """The function whose proof stands in this folder of proofs/. The folder of one that calls itself begins with a plus."""
     return folder.replace("/+", "/").removeprefix("+").replace("/", "::")
+
+
+def told_of(unproved):
+    """What is said of goals that aren't proved: their names, and the words on the first."""
+    return f"{', '.join(it.goal for it in unproved)}: {unproved[0].words}" if unproved else ""
+
+
+def judged(edit, unproved):
+    """Whether an edit is refused by the clause that it names, if it names one, and what is said of it."""
+    is_refused = not edit.clause or any(it.clause() == edit.clause for it in unproved)
+    return is_refused, ("" if is_refused else f"not by {edit.clause}, but by ") + told_of(unproved)
 
 
 # The tries.
@@ -107,19 +162,19 @@ class Tries:
             names = plant(edits, folder, self.is_right)
             if all("main" not in names_of(edit, folder_of(self.crate)) for edit in edits):
                 make_library(folder)
-            return names, Said(self.crate, self.libraries.check(self.crate, folder, set(names.values())))
+            return names, Said(self.crate, folder, self.libraries.check(self.crate, folder, set(names.values())))
 
     def try_right_bodies(self, edits):
         """Each of the edits with whether its function is proved as it stands where the edit would be tried, and what is said of it."""
         names, said = self.try_together(edits)
-        return [(edit, name in said.proved, said.refused.get(name, name)) for edit, name in names.items()]
+        return [(edit, name in said.proved, told_of(said.refused.get(name, [])) or name) for edit, name in names.items()]
 
     def try_group(self, edits):
         """Each of the edits with whether it is refused in its function, and what is said of it."""
         if self.is_right:
             return self.try_right_bodies(edits)
         names, said = self.try_together(edits)
-        told = [(edit, True, said.refused[name]) for edit, name in names.items() if name in said.refused]
+        told = [(edit, *judged(edit, said.refused[name])) for edit, name in names.items() if name in said.refused]
         told += [(edit, False, f"{edit.refused} is proved") for edit, name in names.items() if name in said.proved]
         rest = [edit for edit, name in names.items() if name not in said.refused and name not in said.proved]
         if len(edits) == 1:

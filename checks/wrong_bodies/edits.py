@@ -1,5 +1,6 @@
 """The wrong bodies of the crates. Each is an edit, a file crates/CRATE/must-fail/NAME.edit in the kit's form: the lines `file:`,
-`old:` and `new:` say what is put in place of what, and a line `refused:` names the function that the prover must not accept then."""
+`old:` and `new:` say what is put in place of what, and a line `refused:` names the function that the prover must not accept then, and
+behind `by`, where that stands there, the clause that refuses it."""
 
 import functools
 import re
@@ -10,6 +11,8 @@ TOP = Path(__file__).resolve().parents[2]
 
 # The line that a function begins with.
 FUNCTION = re.compile(r'^( *)(?:pub(?:\([a-z]+\))? )?(?:const )?(?:unsafe )?(?:extern "C" )?fn (\w+)')
+# The crates whose wrong bodies each name the clause that they are against.
+BY_CLAUSES = ("eevdf_weight", "eevdf_queue")
 # What may be written by hand of a function's proof, in a folder of its name.
 PROOF_FILES = ("Answers.antt", "Invariants.antt", "Proof.antt")
 
@@ -28,6 +31,7 @@ class Edit:
     crate: str
     name: str
     refused: str
+    clause: str
     changes: tuple[Change, ...]
 
     def __str__(self):
@@ -65,7 +69,10 @@ def read_edit(crate, name):
     changes, told = read_lines(file_of(crate, name))
     if not told.get("refused") or not changes:
         raise BadEdit(f"{crate}/{name}: a line `refused:`, `file:`, `old:` or `new:` is missing")
-    return Edit(crate, name, told["refused"], changes)
+    refused, _, clause = told["refused"].partition(" by ")
+    if crate in BY_CLAUSES and not clause:
+        raise BadEdit(f"{crate}/{name}: the line `refused:` names no clause")
+    return Edit(crate, name, refused, clause, changes)
 
 
 def edits_of(crate):

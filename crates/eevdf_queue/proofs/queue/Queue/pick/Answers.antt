@@ -1,13 +1,8 @@
-use Rattle.std.proofs.Common.{◌≡◌, ℕ, ◌+◌, ◌/◌, ◌^◌, ◌≤◌, suc, Option, Some, sym, ap, subst, ◌∙◌, unwrap_or, arith}
+use Rattle.std.proofs.Common.{◌≡◌, ℕ, ◌/◌, ◌^◌, ◌≤◌, ◌<◌, suc, Option, Some, sym, ap, subst, ◌∙◌, unwrap_or, arith}
 use Rattle.std.specs.FinMap.{get, len}
 use Rattle.eevdf_queue.specs.{Pick.pick_of, Pick.view_picked_by, Pick.view_after_pick, State.State, State.View, Sums.Tasks}
 use Rattle.eevdf_queue.proofs.{Picked.none_picked, SortedEntries.few_entries, TreeHeights.low}
 use Rattle.eevdf_queue.proofs.queue.Queue.pick.Goals as goal
-
-few : (m n : Tasks) (j k : ℕ) → j ≡ k → m ≡ n → 2 ^ (k / 2) ≤ suc (len m) → 2 ^ (j / 2) ≤ len n + 1
-few m n j k h i full =
-    let more : 2 ^ (k / 2) ≤ len m + 1 = omega arith in
-    subst (λ (x : ℕ). 2 ^ (x / 2) ≤ len n + 1) (sym h) (subst (λ (x : Tasks). 2 ^ (k / 2) ≤ len x + 1) i more)
 
 seen : (v w : View) (t k : ℕ) → w.state ≡ record v.state { running = Some t } → w.turns ≡ k → w.depths ≡ v.depths → get v.depths t ≡ Some k → Some t ≡ pick_of v.state.runnable
     → w ≡ view_after_pick v
@@ -20,19 +15,21 @@ seen v w t k state turns depths deep is =
 
 pub run-requires-clause-few : goal.run-requires-clause-few
 run-requires-clause-few c =
-    low c.in-Some.known.turns (len c.self.inside.runnable.tasks) c.in-Some.ensures.turns (few_entries 1024 c.self.inside.runnable.tasks (λ t e h. (c.keeps.ensures t e h).0))
+    let is_low : c.in-Some.known.turns < 2 ^ 16 = low c.in-Some.known.turns (len c.self.inside.runnable.tasks) c.in-Some.ensures.turns (few_entries 1024 c.self.inside.runnable.tasks (λ t e h. (c.keeps.ensures t e h).0)) in
+    omega (arith, is_low)
 
 pub run-requires-2-clause-few : goal.run-requires-2-clause-few
 run-requires-2-clause-few c =
     low c.in-Some-pick.first.turns (len c.self.inside.runnable.tasks) c.in-Some-pick.ensures.turns (few_entries 1024 c.self.inside.runnable.tasks (λ t e h. (c.keeps.ensures t e h).0))
 
 pub returns-in-Some-clause-turns : goal.returns-in-Some-clause-turns
-returns-in-Some-clause-turns c = subst (λ (k : ℕ). 1 ≤ k) (sym c.run.ensures.turns) c.in-Some.ensures.positive
+returns-in-Some-clause-turns c = omega (arith, c.run.ensures.turns, c.in-Some.ensures.positive)
 
 pub returns-in-Some-clause-few_turns : goal.returns-in-Some-clause-few_turns
 returns-in-Some-clause-few_turns c =
-    few c.self.inside.runnable.tasks c.args.self.now.state.runnable c.run.new.self.turns c.in-Some.known.turns c.run.ensures.turns
-    (ap (λ (q : View). q.state.runnable) c.self.view_is) c.in-Some.ensures.turns
+    let same : c.self.inside.runnable.tasks ≡ c.args.self.now.state.runnable = ap (λ (q : View). q.state.runnable) c.self.view_is in
+    let known : 2 ^ (c.in-Some.known.turns / 2) ≤ suc (len c.args.self.now.state.runnable) = subst (λ (m : Tasks). 2 ^ (c.in-Some.known.turns / 2) ≤ suc (len m)) same c.in-Some.ensures.turns in
+    grind (arith, c.run.ensures.turns, known)
 
 pub returns-in-Some-clause-depth : goal.returns-in-Some-clause-depth
 returns-in-Some-clause-depth c =

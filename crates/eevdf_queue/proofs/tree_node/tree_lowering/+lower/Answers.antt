@@ -1,7 +1,8 @@
-use Rattle.std.proofs.Common.{◌≡◌, ◌∙◌, ◌<◌, ◌≤◌, ◌^◌, ◌∷◌, ◌++◌, ◌&&◌, Bool, List, length, to_z, of_z, ap, sym, subst, arith, length-append}
+use Rattle.std.proofs.Common.{◌≡◌, ◌∙◌, ◌<◌, ◌≤◌, ◌^◌, ◌∷◌, ◌++◌, ◌&&◌, Bool, List, length, to_z, of_z, ap, sym, subst, arith, rules, length-append}
 use Rattle.std.specs.{Prelude.ℤ, Prelude.◌-ℤ◌, Prelude.unsigned_abs, List.AllByRecursion}
 use Rattle.std.proofs.lemmas.Int.{ints, to_z-of_z}
 use mir.Syntax.{w64}
+use mir.Val.{SFits}
 use Rattle.eevdf_queue.specs.{declared.task.Task.Task, Moves.is_entry_in_range, TreeShape.tasks_in, TreeShape.depths_in, TreeNodes.tasks_of, TreeNodes.depths_of}
 use Rattle.eevdf_queue.specs.TreeLowering.{IsNear, lowered_task, lowered_list, are_tasks_in_range}
 use Rattle.eevdf_queue.specs.TreeStores.{kept_at}
@@ -43,15 +44,19 @@ lower_task-own-requires-clause-near t c =
 apart_by : (d by : ℤ) → unsigned_abs d ≤ 2 ^ 61 → unsigned_abs by ≤ 2 ^ 60 → unsigned_abs (d -ℤ by) < 2 ^ 62
 apart_by d by h k = omega (arith, ints)
 
-lowered_near : (t u : Task) (by : ℤ) → u ≡ lowered_task by t → IsNear t → unsigned_abs by ≤ 2 ^ 60 → unsigned_abs u.entry.d < 2 ^ 62
-lowered_near t u by e n h = subst (λ (z : Task). unsigned_abs z.entry.d < 2 ^ 62) (sym e) (apart_by t.entry.d by n.1 h)
+lowered_near : (t u : Task) (by : ℤ) → u ≡ lowered_task by t → IsNear t → unsigned_abs by ≤ 2 ^ 60 → (unsigned_abs u.entry.v < 2 ^ 62) × (unsigned_abs u.entry.d < 2 ^ 62)
+lowered_near t u by e n h =
+    subst (λ (z : Task). (unsigned_abs z.entry.v < 2 ^ 62) × (unsigned_abs z.entry.d < 2 ^ 62)) (sym e) (apart_by t.entry.v by n.0 h, apart_by t.entry.d by n.1 h)
 
+-- with the bound of v too, so that where another deadline is noted it is what the function ensures that fails
 pub note-requires : goal.note-requires
 note-requires t c =
     let e : tasks_in c.args.link.now ≡ tasks_of c.node.inside = cc in
-    lowered_near c.node.inside.task c.lower_task-own.new.task c.args.by
+    let near = lowered_near c.node.inside.task c.lower_task-own.new.task c.args.by
     (c.lower_task-own.ensures.task ∙ ap (λ (z : ℤ). lowered_task z c.node.inside.task) (to_z-of_z w64 c.args.by c.ranges.by))
-    (near_right (tasks_in c.args.link.now) (tasks_in c.node.inside.sides.left) c.node.inside.task (tasks_in c.node.inside.sides.right) e c.requires.near).0 c.requires.small
+    (near_right (tasks_in c.args.link.now) (tasks_in c.node.inside.sides.left) c.node.inside.task (tasks_in c.node.inside.sides.right) e c.requires.near).0 c.requires.small in
+    let fits : SFits w64 c.lower_task-own.new.task.entry.v = search rules in
+    omega (arith, near.0, near.1, ap unsigned_abs (to_z-of_z w64 c.lower_task-own.new.task.entry.v fits))
 
 pub lower-left-requires : goal.lower-left-requires
 lower-left-requires t c =
