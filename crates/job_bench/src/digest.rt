@@ -27,6 +27,14 @@ impl Digest {
         self.add(u64::from(number < 0));
     }
 
+    /// Takes in words, one after the other.
+    #[inline(always)]
+    pub fn add_words(&mut self, words: &[u64]) {
+        for word in words {
+            self.add(*word);
+        }
+    }
+
     /// Takes in bytes, eight at a time.
     pub fn add_bytes(&mut self, bytes: &[u8]) {
         self.add(bytes.len() as u64);

@@ -24,7 +24,8 @@ pub fn drawn_cpu(shape: &Shape, draws: &mut Draws) -> CpuId {
     CpuId::new(draws.below(shape.cpus)).unwrap()
 }
 
-/// A deed of a CPU. The tasks that fall asleep and wake are heavy, so that most sleeps find their task running.
+/// A deed of a CPU. The tasks that are to fall asleep and to wake are heavy. Even so few sleeps find their task running, and few
+/// wakes find theirs asleep.
 pub fn drawn_deed(shape: &Shape, deeds: Deeds, cpu: CpuId, draws: &mut Draws) -> Deed {
     let kind = draws.below(100);
     if deeds == Deeds::Refused {

@@ -12,7 +12,7 @@ use crate::workbench::take_report;
 use drawn_values::Draws;
 use eevdf_bench::Kind;
 use eevdf_fleet::Names;
-use eevdf_fleet::endless::{Fleet, Kit, Seat};
+use eevdf_fleet::endless::{Closed, Fleet, Kit, Seat};
 use std::alloc::{AllocError, Global};
 use std::marker::Brand;
 use std::sync::Wait;
@@ -46,7 +46,7 @@ pub fn fleet_job<R: Threads + Wait + Sync>(
     program_run(rt, alloc, &small, size / 64, draws, digest)
 }
 
-/// Opens a fleet, has threads do so many operations each, and takes in their answers.
+/// Opens a fleet, has threads do so many operations each, closes it, and takes in what came of it.
 fn fleet_run<R: Threads + Wait + Sync>(
     rt: &R,
     alloc: Global,
@@ -68,7 +68,7 @@ fn fleet_run<R: Threads + Wait + Sync>(
     Ok(())
 }
 
-/// The digest of the answers of all threads, in the order of the threads.
+/// The digest of the answers of all threads, in the order of the threads, and of what the fleet is closed to.
 fn worked_out<N: Names + Send + Sync, R: Threads + Wait + Sync>(
     rt: &R,
     alloc: Global,
@@ -84,7 +84,11 @@ fn worked_out<N: Names + Send + Sync, R: Threads + Wait + Sync>(
 {
     let (fleet, seats) = Fleet::<N>::open(alloc, kit)?;
     let threads = seats_by_thread(alloc, shape, mix, threads, seed, seats)?;
-    worked(rt, &fleet, operations, threads)
+    let threads = worked(rt, &fleet, operations, threads)?;
+    let mut digest = Digest::new();
+    let seats = seats_of(alloc, threads, &mut digest)?;
+    close(fleet, seats, &mut digest)?;
+    Ok(digest)
 }
 
 /// Has the threads do the operations.
@@ -93,20 +97,54 @@ fn worked<N: Names + Send + Sync, R: Threads + Wait + Sync>(
     fleet: &Fleet<N>,
     operations: u64,
     threads: Vec<FleetThread<Seat<N>>>,
-) -> Result<Digest, JobFault> {
+) -> Result<Vec<FleetThread<Seat<N>>>, JobFault> {
     let threads = thread::map_vec(
         rt,
         threads,
         &move |own| { work::<Seat<N>, R>(rt, fleet, operations, own) },
     )?;
-    let mut digest = Digest::new();
-    for own in &threads {
+    Ok(threads)
+}
+
+/// Takes the seats back from the threads, and takes in what their operations were answered.
+fn seats_of<S: Drop>(
+    alloc: Global,
+    threads: Vec<FleetThread<S>>,
+    digest: &mut Digest,
+) -> Result<Vec<S>, JobFault> {
+    let mut seats = Vec::new(alloc);
+    for own in threads {
         if let Some(fault) = own.fault {
             return Err(fault);
         }
         digest.add(own.digest.sum());
+        take_seats(&mut seats, own.seats)?;
     }
-    Ok(digest)
+    Ok(seats)
+}
+
+fn take_seats<S: Drop>(seats: &mut Vec<S>, own: Vec<HeldSeat<S>>) -> Result<(), AllocError> {
+    for held in own {
+        seats.push(held.seat)?;
+    }
+    Ok(())
+}
+
+/// Closes a fleet, and takes in the queues and the requests that it leaves.
+fn close<N: Names>(
+    fleet: Fleet<N>,
+    seats: Vec<Seat<N>>,
+    digest: &mut Digest,
+) -> Result<(), JobFault> {
+    if !fleet.has_all_seats(&seats) {
+        return Err(JobFault::Seats);
+    }
+    let Closed { queues, left } = fleet.close(seats);
+    digest.add_queues(&queues);
+    for requests in &left {
+        digest.add_requests(requests);
+    }
+    Ok(())
 }
 
 /// Hands the seats to the threads, as many to each.

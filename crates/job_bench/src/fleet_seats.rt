@@ -246,7 +246,10 @@ impl<N: Names> OperatedSeat for Seat<N> {
                 fleet.pull(rt, self, source)
             }
             Op::Post(task) => {
-                digest.add(u64::from(self.post(known_task(fleet, task)?).is_ok()));
+                digest.add(match self.post(known_task(fleet, task)?) {
+                    Ok(()) => 1,
+                    Err(full) => 2 + full.task.get(),
+                });
                 return Ok(None);
             }
             Op::Drain => {
@@ -256,7 +259,7 @@ impl<N: Names> OperatedSeat for Seat<N> {
                 return Ok(None);
             }
         };
-        digest.add(word_of(answer));
+        digest.add_answer(&answer);
         Ok(Some(answer))
     }
 }
@@ -270,25 +273,5 @@ fn known_task<N: Names>(fleet: &Fleet<N>, task: TaskId) -> Result<TaskId, JobFau
         Ok(task)
     } else {
         Err(JobFault::Machine)
-    }
-}
-
-/// A word for an answer.
-fn word_of(answer: Answer) -> u64 {
-    match answer {
-        Answer::Charged { task, resched } => 0x1_0000 + 2 * task.get() + u64::from(resched),
-        Answer::Picked(task) => 0x2_0000 + task.get(),
-        Answer::Pulled(task) => 0x3_0000 + task.get(),
-        Answer::Slept(lag) => 0x1000_0000_0000 + lag.unsigned_abs(),
-        Answer::Idle => 1,
-        Answer::Yielded => 2,
-        Answer::NotRunning => 3,
-        Answer::Woken => 4,
-        Answer::Awake => 5,
-        Answer::Balanced => 6,
-        Answer::Nothing => 7,
-        Answer::Range => 8,
-        Answer::Reniced => 9,
-        Answer::NotHere => 10,
     }
 }

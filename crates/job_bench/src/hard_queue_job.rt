@@ -31,7 +31,7 @@ fn equal_turns(
     digest: &mut Digest,
 ) -> Result<(), AllocError> {
     let mut queues = QueuePair::new();
-    admit_all(alloc, &mut queues, 0, 0)?;
+    admit_all(alloc, &mut queues, 0, 0, digest)?;
     queues.pick(digest);
     for turn in 0..turns {
         queues.tick(Ns::new(3_000_000).unwrap(), digest);
@@ -43,9 +43,10 @@ fn equal_turns(
             queues.wake(digest);
         }
         if turn % 8 == draws.below(8) {
-            queues.yield_now();
+            queues.yield_now(digest);
         }
     }
+    queues.look_at_all(digest);
     Ok(())
 }
 
@@ -57,7 +58,7 @@ fn level_turns(
     digest: &mut Digest,
 ) -> Result<(), AllocError> {
     let mut queues = QueuePair::new();
-    admit_all(alloc, &mut queues, 0, 1000)?;
+    admit_all(alloc, &mut queues, 0, 1000, digest)?;
     queues.pick(digest);
     for turn in 0..turns {
         let task = TaskId::new(turn % 1024).unwrap();
@@ -68,6 +69,7 @@ fn level_turns(
             queues.tick(draws.tick(), digest);
         }
     }
+    queues.look_at_all(digest);
     Ok(())
 }
 
@@ -79,7 +81,7 @@ fn far_turns(
     digest: &mut Digest,
 ) -> Result<(), AllocError> {
     let mut queues = QueuePair::new();
-    admit_all(alloc, &mut queues, 1 << 59, 5000)?;
+    admit_all(alloc, &mut queues, 1 << 59, 5000, digest)?;
     queues.pick(digest);
     for turn in 0..turns {
         queues.tick(draws.tick(), digest);
@@ -93,6 +95,7 @@ fn far_turns(
             _ => queues.peek(digest),
         }
     }
+    queues.look_at_all(digest);
     Ok(())
 }
 
@@ -102,13 +105,14 @@ fn admit_all(
     queues: &mut QueuePair,
     start: i64,
     step: i64,
+    digest: &mut Digest,
 ) -> Result<(), AllocError> {
     for number in 0..1024u64 {
         let task = TaskId::new(number).unwrap();
         let nice = Nice::new(0).unwrap();
         let slice = Slice::new(3_000_000).unwrap();
         let v = start.wrapping_add(step.wrapping_mul((number / 2) as i64));
-        queues.admit(Parcel::make(alloc, task, nice, slice, v)?);
+        queues.admit(Parcel::make(alloc, task, nice, slice, v)?, digest);
     }
     Ok(())
 }

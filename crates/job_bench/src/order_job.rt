@@ -11,8 +11,8 @@ use crate::mixed_order::mixed_order;
 use crate::workbench::take_report;
 use drawn_values::Draws;
 use eevdf_bench::Kind;
-use eevdf_ops::{Op, Setup, TaskSpec};
-use eevdf_steps::{MOST_PLACES, Player};
+use eevdf_ops::{CpuId, Op, Setup, TaskSpec};
+use eevdf_steps::{MOST_PLACES, Player, StepFault};
 use std::alloc::{AllocError, Global};
 use std::sync::Wait;
 use std::thread::Threads;
@@ -38,11 +38,7 @@ pub fn order_job<R: Threads + Wait + Sync>(
     }?;
     if input % 2 == 0 {
         let setup = setup_of(alloc, &tasks, &programs)?;
-        let order = played_order(alloc, &shape, &setup, draws)?;
-        for caller in &order {
-            digest.add(*caller as u64);
-        }
-        return Ok(());
+        return play(alloc, &shape, &setup, draws, digest);
     }
     let text = order_text(alloc, &shape, &tasks, &programs)?;
     take_report(rt, alloc, &text, Kind::Replay, digest)
@@ -77,33 +73,84 @@ fn order_text(
     Ok(text)
 }
 
-/// An order in which the callers do all their steps: at each place the next that may step, from a drawn one on.
-fn played_order(
+/// Plays an order in which the callers do all their steps, and takes in the order and what it comes to.
+fn play(
     alloc: Global,
     shape: &Shape,
     setup: &Setup,
     draws: &mut Draws,
-) -> Result<Vec<usize>, AllocError> {
+    digest: &mut Digest,
+) -> Result<(), JobFault> {
     let mut player = Player::open(alloc, setup)?;
+    let order = played_order(alloc, shape, &mut player, draws, digest)?;
+    for caller in &order {
+        digest.add(*caller as u64);
+    }
+    match player.outcome() {
+        Ok(outcome) => digest.add_outcome(&outcome),
+        Err(player) => add_unfinished(&player, shape, digest),
+    }
+    Ok(())
+}
+
+/// At each place of an order the next caller that may step, from a drawn one on.
+fn played_order(
+    alloc: Global,
+    shape: &Shape,
+    player: &mut Player,
+    draws: &mut Draws,
+    digest: &mut Digest,
+) -> Result<Vec<usize>, AllocError> {
     let mut order = Vec::new(alloc);
     for _place in 0..MOST_PLACES {
         let Some(least) = player.ready() else {
             break;
         };
+        digest.add(least as u64);
         let first = draws.below(shape.cpus) as usize;
-        let caller = step_from(&mut player, shape.cpus as usize, first, least);
+        let caller = step_from(player, shape.cpus as usize, first, least, digest);
         order.push(caller)?;
     }
     Ok(order)
 }
 
 /// Does the next step of the next caller that may step, from one on, or of the least one.
-fn step_from(player: &mut Player, count: usize, first: usize, least: usize) -> usize {
+fn step_from(
+    player: &mut Player,
+    count: usize,
+    first: usize,
+    least: usize,
+    digest: &mut Digest,
+) -> usize {
     for caller in first..count {
-        if player.step(caller).is_ok() {
+        if is_done(player.step(caller), digest) {
             return caller;
         }
     }
-    let _ = player.step(least);
+    is_done(player.step(least), digest);
     least
+}
+
+/// Whether a step was done. A refusal is taken in.
+fn is_done(step: Result<(), StepFault>, digest: &mut Digest) -> bool {
+    let Err(fault) = step else {
+        return true;
+    };
+    match fault {
+        StepFault::NoCaller => digest.add(1),
+        StepFault::Done => digest.add(2),
+        StepFault::Blocked { cpu, holder } => digest.add_words(&[3, cpu.get(), holder as u64]),
+    }
+    false
+}
+
+/// Takes in what a player has come to whose callers aren't all done.
+fn add_unfinished(player: &Player, shape: &Shape, digest: &mut Digest) {
+    digest.add_history(player.history());
+    for number in 0..shape.cpus {
+        let cpu = CpuId::new(number).unwrap();
+        if player.has_cpu(cpu) {
+            digest.add_queue(player.queue(cpu));
+        }
+    }
 }

@@ -36,12 +36,13 @@ fn queue_turns(
 {
     let mut queues = QueuePair::new();
     for number in 0..tasks {
-        queues.admit(drawn_parcel(alloc, number, draws)?);
+        queues.admit(drawn_parcel(alloc, number, draws)?, digest);
     }
     queues.pick(digest);
     for turn in 0..turns {
         turn_of(&mut queues, turn, tasks, draws, digest);
     }
+    queues.look_at_all(digest);
     Ok(())
 }
 
@@ -69,7 +70,7 @@ fn turn_of(queues: &mut QueuePair, turn: u64, tasks: u64, draws: &mut Draws, dig
     match turn % 16 {
         0 | 3 | 6 | 9 => queues.sleep(digest),
         1 | 4 | 7 | 10 => queues.wake(digest),
-        2 | 8 => queues.yield_now(),
+        2 | 8 => queues.yield_now(digest),
         5 => queues.renice(draws.task(tasks), draws.nice(), digest),
         11 => queues.push_away(digest),
         12 => queues.pull_back(digest),

@@ -3,14 +3,15 @@
 ghost use Rattle.std.specs.Prelude.{◌<◌, ◌≤◌};
 
 use crate::digest::Digest;
-use eevdf_queue::{Parcel, Queue, Refused, ReniceAnswer, TaskId, TickAnswer, WakeAnswer};
+use crate::queue_calls::{admit, move_candidate, pick, sleep_running, tick};
+use eevdf_queue::{Parcel, Queue, TaskId};
 use eevdf_weight::{Nice, Ns};
 
 /// A queue whose calls are made, one to and from which tasks are pulled, and the tasks that sleep, first in first out.
 #[derive(Drop)]
 pub struct QueuePair {
-    pub own: Queue,
-    pub other: Queue,
+    own: Queue,
+    other: Queue,
     sleepers: [u16; 1024],
     first: u64,
     end: u64,
@@ -28,45 +29,30 @@ impl QueuePair {
     }
 
     /// Puts a task into the first queue, where it has room.
-    pub fn admit(&mut self, parcel: Parcel) {
-        if let Err(Refused { parcel, reason: _ }) = self.own.try_admit(parcel) {
-            parcel.retire();
-        }
+    pub fn admit(&mut self, parcel: Parcel, digest: &mut Digest) {
+        admit(&mut self.own, parcel, digest);
     }
 
     pub fn pick(&mut self, digest: &mut Digest) {
-        digest.add(number_of(self.own.pick()));
-        digest.add(u64::from(self.own.pick_steps()));
+        pick(&mut self.own, digest);
     }
 
     pub fn tick(&mut self, ns: Ns, digest: &mut Digest) {
-        digest.add(match self.own.tick(ns) {
-            TickAnswer::Idle => 1,
-            TickAnswer::Range => 2,
-            TickAnswer::Charged { task, resched } => 4 * task.get() + u64::from(resched) + 8,
-        });
+        tick(&mut self.own, ns, digest);
     }
 
-    pub fn yield_now(&mut self) {
-        let _ = self.own.yield_now();
+    pub fn yield_now(&mut self, digest: &mut Digest) {
+        digest.add_yield(self.own.yield_now());
     }
 
     /// Gives a task another nice level.
     pub fn renice(&mut self, task: TaskId, nice: Nice, digest: &mut Digest) {
-        digest.add(match self.own.renice(task, nice) {
-            ReniceAnswer::NotHere => 1,
-            ReniceAnswer::Range => 2,
-            ReniceAnswer::Reniced => 3,
-        });
+        digest.add_renice(self.own.renice(task, nice));
     }
 
     /// Lets the running task fall asleep, and picks.
     pub fn sleep(&mut self, digest: &mut Digest) {
-        if let Some(task) = self.own.running()
-            && let Some(parcel) = self.own.detach_running(task)
-        {
-            digest.add_signed(parcel.lag());
-            self.own.put_asleep(parcel);
+        if let Some(task) = sleep_running(&mut self.own, digest) {
             self.sleepers[(self.end % 1024) as usize] = task.get() as u16;
             self.end = self.end.wrapping_add(1);
         }
@@ -81,62 +67,37 @@ impl QueuePair {
         let number = u64::from(self.sleepers[(self.first % 1024) as usize]);
         self.first = self.first.wrapping_add(1);
         if let Some(task) = TaskId::new(number) {
-            digest.add(match self.own.wake(task) {
-                WakeAnswer::Awake => 1,
-                WakeAnswer::Range => 2,
-                WakeAnswer::Woken => 3,
-            });
+            digest.add_wake(self.own.wake(task));
         }
     }
 
     /// Pulls a task to the other queue.
     pub fn push_away(&mut self, digest: &mut Digest) {
-        digest.add(number_of(move_candidate(&mut self.own, &mut self.other)));
+        move_candidate(&mut self.own, &mut self.other, digest);
     }
 
     /// Pulls a task from the other queue.
     pub fn pull_back(&mut self, digest: &mut Digest) {
-        digest.add(number_of(move_candidate(&mut self.other, &mut self.own)));
+        move_candidate(&mut self.other, &mut self.own, digest);
     }
 
     /// Looks at a task: its entry, and the lag that it has.
     pub fn look(&self, task: TaskId, digest: &mut Digest) {
-        if let Some(entry) = self.own.entry(task) {
-            digest.add_signed(entry.v);
-            digest.add_signed(entry.d);
-        }
-        if let Some(lag) = self.own.lag_of(task) {
-            digest.add_signed(lag);
-        }
+        digest.add_entry(self.own.entry(task));
+        digest.add_lag(self.own.lag_of(task));
     }
 
     /// Asks what a timer asks, and who would be picked.
     pub fn peek(&self, digest: &mut Digest) {
-        digest.add(number_of(self.own.peek()));
-        if let Some(ns) = self.own.time_to_resched() {
-            digest.add(ns.get());
-        }
+        digest.add_task(self.own.peek());
+        digest.add_time(self.own.time_to_resched());
         digest.add_signed(self.own.floor_time());
         digest.add(self.own.load());
     }
-}
 
-/// Moves the candidate of a queue to another one, where it can be placed, and else back.
-fn move_candidate(from: &mut Queue, to: &mut Queue) -> Option<TaskId> {
-    let task = from.candidate()?;
-    let parcel = from.detach(task);
-    if let Err(Refused { parcel, reason: _ }) = to.try_attach(parcel)
-        && let Err(Refused { parcel, reason: _ }) = from.try_attach(parcel)
-    {
-        parcel.retire();
-    }
-    Some(task)
-}
-
-/// A task's number, and one that no task has.
-fn number_of(task: Option<TaskId>) -> u64 {
-    match task {
-        Some(task) => task.get(),
-        None => 0xffff,
+    /// Looks at both queues as they are after the calls.
+    pub fn look_at_all(&self, digest: &mut Digest) {
+        digest.add_queue(&self.own);
+        digest.add_queue(&self.other);
     }
 }
