@@ -17,6 +17,8 @@ pub enum Job {
     Fleet,
     /// Many short workloads.
     Openings,
+    /// Workloads with sleeping tasks, and queues and fleets from their opening to their end.
+    Lives,
     /// All of these.
     Each,
 }
@@ -40,7 +42,7 @@ pub enum WordFault {
     Unread,
     #[error("four words are wanted")]
     Count,
-    #[error("JOB is scripts, orders, queue, hard-queue, fleet, openings or each")]
+    #[error("JOB is scripts, orders, queue, hard-queue, fleet, openings, lives or each")]
     Job,
     #[error("INPUTS is a number")]
     Inputs,
@@ -60,6 +62,7 @@ impl Job {
             "hard-queue" => Some(Job::HardQueue),
             "fleet" => Some(Job::Fleet),
             "openings" => Some(Job::Openings),
+            "lives" => Some(Job::Lives),
             "each" => Some(Job::Each),
             _ => None,
         }

@@ -33,6 +33,19 @@ pub fn push_version(text: &mut Vec<u8>, wide: bool) -> Result<(), AllocError> {
     })
 }
 
+/// Begins a workload with a script for so many CPUs. Its deeds come next, and then its end.
+pub fn begin_script(text: &mut Vec<u8>, wide: bool, cpus: u64) -> Result<(), AllocError> {
+    push_version(text, wide)?;
+    push_no_programs(text, cpus)?;
+    text.extend_from_slice(b"script = [\n")
+}
+
+/// Ends a workload with a script.
+pub fn end_script(text: &mut Vec<u8>, tasks: &[TaskSpec]) -> Result<(), AllocError> {
+    text.extend_from_slice(b"]\n")?;
+    push_tasks(text, tasks)
+}
+
 /// Writes the programs of the CPUs.
 pub fn push_programs(text: &mut Vec<u8>, programs: &[Vec<Op>]) -> Result<(), AllocError> {
     text.extend_from_slice(b"program = [\n")?;
@@ -53,7 +66,7 @@ fn push_program(text: &mut Vec<u8>, program: &[Op]) -> Result<(), AllocError> {
 }
 
 /// Writes programs without operations for so many CPUs.
-pub fn push_no_programs(text: &mut Vec<u8>, cpus: u64) -> Result<(), AllocError> {
+fn push_no_programs(text: &mut Vec<u8>, cpus: u64) -> Result<(), AllocError> {
     text.extend_from_slice(b"program = [")?;
     for _cpu in 0..cpus {
         text.extend_from_slice(b"[],")?;

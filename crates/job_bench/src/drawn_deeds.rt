@@ -72,9 +72,14 @@ fn refused_deed(shape: &Shape, cpu: CpuId, kind: u64, draws: &mut Draws) -> Deed
     }
 }
 
-/// A wake of a task at its home.
+/// A wake of one of the tasks.
 fn wake_of(shape: &Shape, draws: &mut Draws) -> Deed {
     let task = drawn_task(shape, draws);
+    wake_at_home(shape, task, draws)
+}
+
+/// A wake of a task at its home.
+pub fn wake_at_home(shape: &Shape, task: TaskId, draws: &mut Draws) -> Deed {
     Deed::Wake {
         cpu: CpuId::new(task.get() % shape.cpus).unwrap(),
         task,

@@ -9,13 +9,23 @@ use eevdf_queue::TaskId;
 use eevdf_weight::{Nice, Slice};
 use std::alloc::{AllocError, Global};
 
+/// Of what kind the tasks of a machine are.
+#[derive(Clone, Copy, PartialEq, Eq, Debug)]
+pub enum TaskKind {
+    /// The first two of each CPU are heavy and begin awake, so that they run often. The others are mixed.
+    HeavyFirst,
+    /// All are mixed: of many levels, slices and starts, and an eighth begins asleep.
+    Mixed,
+    /// All are of one level, slice and start.
+    Alike,
+}
+
 /// How large a machine is, and of what kind its tasks are.
 #[derive(Clone, Copy)]
 pub struct Shape {
     pub cpus: u64,
     pub tasks: u64,
-    /// Whether all tasks are of one level, slice and start.
-    pub alike: bool,
+    pub kind: TaskKind,
     pub ghost cpus_some: { 0 < cpus },
     pub ghost cpus_few: { cpus ≤ 64 },
     pub ghost tasks_some: { 0 < tasks },
@@ -34,7 +44,7 @@ const SLICES: [u64; 8] = [
     100_000_000,
 ];
 
-/// The tasks of a machine, at home on the CPUs by turns. The first two of each CPU are heavy, so that they run often.
+/// The tasks of a machine, at home on the CPUs by turns.
 pub fn drawn_tasks(
     alloc: Global,
     shape: &Shape,
@@ -43,12 +53,10 @@ pub fn drawn_tasks(
     let mut tasks = Vec::new(alloc);
     for number in 0..shape.tasks {
         let home = CpuId::new(number % shape.cpus).unwrap();
-        tasks.push(if shape.alike {
-            plain_task(home)
-        } else if number < 2 * shape.cpus {
-            heavy_task(home, draws)
-        } else {
-            mixed_task(home, draws)
+        tasks.push(match shape.kind {
+            TaskKind::HeavyFirst if number < 2 * shape.cpus => heavy_task(home, draws),
+            TaskKind::HeavyFirst | TaskKind::Mixed => mixed_task(home, draws),
+            TaskKind::Alike => plain_task(home),
         })?;
     }
     Ok(tasks)

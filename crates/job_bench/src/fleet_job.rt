@@ -4,7 +4,7 @@ ghost use Rattle.std.specs.Prelude.{◌≡◌, ◌<◌, ◌≤◌};
 
 use crate::digest::Digest;
 use crate::documents::{push_programs, push_tasks, push_version};
-use crate::drawn_machine::{Shape, drawn_tasks, setup_without_programs};
+use crate::drawn_machine::{Shape, TaskKind, drawn_tasks, setup_without_programs};
 use crate::drawn_programs::{Programs, drawn_programs};
 use crate::fleet_seats::{DrawnOperations, FleetThread, HeldSeat, Mix, work};
 use crate::job_fault::JobFault;
@@ -32,12 +32,12 @@ pub fn fleet_job<R: Threads + Wait + Sync>(
     let small = Shape {
         cpus: 4,
         tasks: 256,
-        alike: false,
+        kind: TaskKind::HeavyFirst,
     };
     let wide = Shape {
         cpus: 64,
         tasks: 512,
-        alike: false,
+        kind: TaskKind::HeavyFirst,
     };
     fleet_run(rt, alloc, &small, Mix::Own, 2, size, draws, digest)?;
     fleet_run(rt, alloc, &small, Mix::Wakes, 1, size, draws, digest)?;
@@ -47,7 +47,7 @@ pub fn fleet_job<R: Threads + Wait + Sync>(
 }
 
 /// Opens a fleet, has threads do so many operations each, closes it, and takes in what came of it.
-fn fleet_run<R: Threads + Wait + Sync>(
+pub fn fleet_run<R: Threads + Wait + Sync>(
     rt: &R,
     alloc: Global,
     shape: &Shape,

@@ -13,22 +13,27 @@ mod fleet_job;
 mod fleet_seats;
 mod hard_queue_job;
 mod job_fault;
+mod life_job;
 mod machine_digest;
 mod mixed_order;
 mod opening_job;
 mod order_job;
+mod played_machine;
 mod queue_calls;
 mod queue_digest;
 mod queue_job;
+mod queue_lives;
 mod queue_pair;
 mod script_job;
 mod workbench;
 
 use crate::asked_job::{AskedJob, Job, WordFault};
 use crate::digest::Digest;
+use crate::drawn_machine::TaskKind;
 use crate::fleet_job::fleet_job;
 use crate::hard_queue_job::hard_queue_job;
 use crate::job_fault::JobFault;
+use crate::life_job::life_job;
 use crate::opening_job::opening_job;
 use crate::order_job::order_job;
 use crate::queue_job::queue_job;
@@ -69,7 +74,11 @@ fn digest_of<R: Threads + Wait + Sync>(
             Job::Queue => queue_job(alloc, asked.size, &mut draws, &mut digest)?,
             Job::HardQueue => hard_queue_job(alloc, asked.size, &mut draws, &mut digest)?,
             Job::Fleet => fleet_job(rt, alloc, asked.size, &mut draws, &mut digest)?,
-            Job::Openings => opening_job(rt, alloc, asked.size, &mut draws, &mut digest)?,
+            Job::Openings => {
+                let kind = TaskKind::HeavyFirst;
+                opening_job(rt, alloc, asked.size, kind, &mut draws, &mut digest)?
+            }
+            Job::Lives => life_job(rt, alloc, input, asked.size, &mut draws, &mut digest)?,
             Job::Each => each_job(rt, alloc, input, asked.size, &mut draws, &mut digest)?,
         }
     }
@@ -90,7 +99,8 @@ fn each_job<R: Threads + Wait + Sync>(
     queue_job(alloc, size, draws, digest)?;
     hard_queue_job(alloc, size, draws, digest)?;
     fleet_job(rt, alloc, size, draws, digest)?;
-    opening_job(rt, alloc, size, draws, digest)
+    opening_job(rt, alloc, size, TaskKind::HeavyFirst, draws, digest)?;
+    life_job(rt, alloc, input, size, draws, digest)
 }
 
 /// Prints the digest, and gives the exit status.

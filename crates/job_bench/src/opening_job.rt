@@ -4,10 +4,10 @@ ghost use Rattle.std.specs.Prelude.{◌<◌, ◌≤◌};
 
 use crate::digest::Digest;
 use crate::documents::{
-    push_deed, push_no_programs, push_order, push_programs, push_tasks, push_version,
+    begin_script, end_script, push_deed, push_order, push_programs, push_tasks, push_version,
 };
 use crate::drawn_deeds::{Deeds, drawn_cpu, drawn_deed};
-use crate::drawn_machine::{Shape, drawn_tasks};
+use crate::drawn_machine::{Shape, TaskKind, drawn_tasks};
 use crate::drawn_programs::{Programs, drawn_programs};
 use crate::job_fault::JobFault;
 use crate::workbench::take_report;
@@ -17,16 +17,17 @@ use std::alloc::{AllocError, Global};
 use std::sync::Wait;
 use std::thread::Threads;
 
-/// Has the workbench do so many short scripts, every eighth of them a replay, on machines of 1 to 64 CPUs.
+/// Has the workbench do so many short scripts, every eighth of them a replay, on machines of 1 to 64 CPUs with tasks of a kind.
 pub fn opening_job<R: Threads + Wait + Sync>(
     rt: &R,
     alloc: Global,
     size: u64,
+    kind: TaskKind,
     draws: &mut Draws,
     digest: &mut Digest,
 ) -> Result<(), JobFault> {
     for number in 0..size {
-        let shape = drawn_shape(draws);
+        let shape = drawn_shape(kind, draws);
         if number % 8 == 7 {
             short_replay(rt, alloc, &shape, draws, digest)?;
         } else {
@@ -37,7 +38,7 @@ pub fn opening_job<R: Threads + Wait + Sync>(
 }
 
 /// Mostly one CPU to four, and every sixteenth time 64, with two tasks for each.
-fn drawn_shape(draws: &mut Draws) -> Shape {
+fn drawn_shape(kind: TaskKind, draws: &mut Draws) -> Shape {
     let cpus = if draws.below(16) == 0 {
         64
     } else {
@@ -46,7 +47,7 @@ fn drawn_shape(draws: &mut Draws) -> Shape {
     Shape {
         cpus,
         tasks: 2 * cpus,
-        alike: false,
+        kind,
     }
 }
 
@@ -60,15 +61,12 @@ fn short_script<R: Threads + Wait + Sync>(
 ) -> Result<(), JobFault> {
     let tasks = drawn_tasks(alloc, shape, draws)?;
     let mut text = Vec::new(alloc);
-    push_version(&mut text, true)?;
-    push_no_programs(&mut text, shape.cpus)?;
-    text.extend_from_slice(b"script = [\n")?;
+    begin_script(&mut text, true, shape.cpus)?;
     for _deed in 0..8 {
         let cpu = drawn_cpu(shape, draws);
         push_deed(&mut text, &drawn_deed(shape, Deeds::Mixed, cpu, draws))?;
     }
-    text.extend_from_slice(b"]\n")?;
-    push_tasks(&mut text, &tasks)?;
+    end_script(&mut text, &tasks)?;
     take_report(rt, alloc, &text, Kind::Solo, digest)
 }
 

@@ -4,7 +4,7 @@ ghost use Rattle.std.specs.Prelude.{◌<◌, ◌≤◌};
 
 use crate::digest::Digest;
 use crate::documents::{push_order, push_programs, push_tasks, push_version};
-use crate::drawn_machine::{Shape, drawn_tasks, setup_of};
+use crate::drawn_machine::{Shape, TaskKind, drawn_tasks, setup_of};
 use crate::drawn_programs::{Programs, drawn_programs};
 use crate::job_fault::JobFault;
 use crate::mixed_order::mixed_order;
@@ -53,7 +53,7 @@ fn shape_of(kind: u64) -> Shape {
     Shape {
         cpus,
         tasks,
-        alike: false,
+        kind: TaskKind::HeavyFirst,
     }
 }
 

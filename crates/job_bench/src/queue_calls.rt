@@ -30,6 +30,17 @@ pub fn sleep_running(queue: &mut Queue, digest: &mut Digest) -> Option<TaskId> {
     running
 }
 
+/// Takes out all tasks and ends them.
+pub fn close(queue: &mut Queue, digest: &mut Digest) {
+    for _task in 0..TaskId::COUNT {
+        let Some(parcel) = queue.take_any() else {
+            break;
+        };
+        digest.add_parcel(&parcel);
+        parcel.retire();
+    }
+}
+
 /// Moves the candidate of a queue to another one, where it can be placed, and else back.
 pub fn move_candidate(from: &mut Queue, to: &mut Queue, digest: &mut Digest) {
     let Some(task) = from.candidate() else {

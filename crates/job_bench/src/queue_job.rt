@@ -47,7 +47,7 @@ fn queue_turns(
 }
 
 /// A task of level 0 or another, with one of the usual slices.
-fn drawn_parcel(alloc: Global, number: u64, draws: &mut Draws) -> Result<Parcel, AllocError>
+pub fn drawn_parcel(alloc: Global, number: u64, draws: &mut Draws) -> Result<Parcel, AllocError>
     requires { number < 1024 }
 {
     let nice = if draws.below(2) == 0 {

@@ -1,9 +1,9 @@
 //! Scripts for the workbench.
 
 use crate::digest::Digest;
-use crate::documents::{push_deed, push_no_programs, push_tasks, push_version};
+use crate::documents::{begin_script, end_script, push_deed};
 use crate::drawn_deeds::{Deeds, drawn_cpu, drawn_deed};
-use crate::drawn_machine::{Shape, drawn_tasks};
+use crate::drawn_machine::{Shape, TaskKind, drawn_tasks};
 use crate::job_fault::JobFault;
 use crate::workbench::take_report;
 use drawn_values::Draws;
@@ -30,15 +30,15 @@ pub fn script_job<R: Threads + Wait + Sync>(
 
 /// Sixteen CPUs, 64 of them, one with a thousand tasks that are alike, and sixteen.
 fn shape_of(input: u64) -> Shape {
-    let (cpus, alike) = match input % 4 {
-        1 => (64, false),
-        2 => (1, true),
-        _ => (16, false),
+    let (cpus, kind) = match input % 4 {
+        1 => (64, TaskKind::HeavyFirst),
+        2 => (1, TaskKind::Alike),
+        _ => (16, TaskKind::HeavyFirst),
     };
     Shape {
         cpus,
         tasks: 1024,
-        alike,
+        kind,
     }
 }
 
@@ -60,14 +60,11 @@ fn script_text(
     draws: &mut Draws,
 ) -> Result<Vec<u8>, AllocError> {
     let mut text = Vec::new(alloc);
-    push_version(&mut text, deeds == Deeds::Mixed)?;
-    push_no_programs(&mut text, shape.cpus)?;
-    text.extend_from_slice(b"script = [\n")?;
+    begin_script(&mut text, deeds == Deeds::Mixed, shape.cpus)?;
     for _deed in 0..size {
         let cpu = drawn_cpu(shape, draws);
         push_deed(&mut text, &drawn_deed(shape, deeds, cpu, draws))?;
     }
-    text.extend_from_slice(b"]\n")?;
-    push_tasks(&mut text, tasks)?;
+    end_script(&mut text, tasks)?;
     Ok(text)
 }
