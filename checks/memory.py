@@ -1,75 +1,98 @@
 #!/usr/bin/env -S python3 -B
-"""checks/memory.py: counts by valgrind how often the programs ask for memory, and what they give back.
-- fleet_bench opens a fleet of two CPUs with 1 to 8 tasks, does nothing and closes it. A task has one node, and no machine stands beside the queues;
-  so each task more may ask once more.
+"""checks/memory.py: counts how often the programs ask for memory, and which of the blocks they keep when they end.
+- fleet_bench opens a fleet of two CPUs with 1 to 8 tasks, does nothing and closes it. A task has one node, and no machine stands beside
+  the queues; so each task more may ask once more.
 - It opens a fleet that keeps no history, does few or many operations of all kinds and closes it. An operation asks for nothing.
-- eevdf ends with queues in which so many tasks are runnable and so many sleep, none, one or several. It has given back all that it asked
-  for.
+- dropped_queue drops a queue in which so many tasks are runnable and so many sleep: none, one, several, or all that it has room for. No
+  block is kept.
+- eevdf ends with such queues, and with those of an example, by each of its commands. No block is kept.
 No proof speaks of it. The last line is 'N passed, M failed'."""
 
-import re
-import shutil
 import sys
+import tempfile
+from itertools import product
 
-from runner import PATIENCE, Checks, built, run
+from blocks import Allocator
+from runner import TOP, Checks, built
 
-# Valgrind makes a program many times slower.
-SECONDS = 10 * PATIENCE
+# How many tasks one queue has room for.
+ALL = 1024
+# None, one and several.
+FEW = (0, 1, 5)
+DROPPED = (*product(FEW, FEW), *((ALL - few, few) for few in FEW), *((few, ALL - few) for few in FEW))
 
-
-def requests(programs, way, tasks, mix, operations):
-    """How often the program asks for memory, or None where valgrind doesn't say it."""
-    words = [way, "1", "2", str(tasks), mix, str(operations), "42"]
-    printed = run(["valgrind", programs.path("fleet_bench"), *words], seconds=SECONDS)
-    found = re.search(rb"total heap usage: ([\d,]+) allocs", printed.errors)
-    return int(found[1].replace(b",", b"")) if found and not printed.status else None
-
-
-def workload(runnable, asleep, deeds):
-    """A workload with so many tasks on each of two CPUs, the sleeping ones first, and with these deeds."""
-    tasks = [f"[[task]]\nhome = {cpu}\nasleep = {str(place < asleep).lower()}" for cpu in (0, 1) for place in range(asleep + runnable)]
-    return "\n".join(["version = 1", "program = [[], []]", f"script = {deeds}", *tasks])
+# An example with posts, pulls and tasks that sleep at the end.
+EXAMPLE = "examples/interleaving.toml"
 
 
-def kept(programs, text):
-    """How many blocks eevdf has asked for and not given back when it has run the script of a workload, or None where it can't be told."""
-    printed = run(["valgrind", programs.path("eevdf"), "solo"], text.encode(), seconds=SECONDS)
-    found = re.search(rb"total heap usage: ([\d,]+) allocs, ([\d,]+) frees", printed.errors)
-    if not found or printed.status:
-        return None
-    asked, given = (int(count.replace(b",", b"")) for count in found.groups())
-    return asked - given
+# How often the programs ask.
 
-
-def look_at_ends(checks, programs):
-    """Looks whether all is given back, whatever tasks the queues end with."""
-    ends = [(runnable, asleep, []) for runnable in (0, 1, 5) for asleep in (0, 1, 5) if runnable + asleep]
-    # the only sleeper of CPU 0 wakes, and its runnable task falls asleep
-    ends += [(1, 1, ["0 wake 0 from 0"]), (1, 0, ["0 pick", "0 sleep 0"])]
-    for runnable, asleep, deeds in ends:
-        count = kept(programs, workload(runnable, asleep, deeds))
-        name = f"memory that queues keep which end with {runnable} runnable and {asleep} sleeping tasks, and {len(deeds)} deeds"
-        checks.look(name, None if count == 0 else f"{count} blocks", "0 blocks")
-
-
-def look(checks, name, counts, most):
-    """Looks whether each count is at most so much above the one before it."""
+def look_at_requests(checks, allocator, what, runs, most):
+    """Looks whether each run of fleet_bench asks for memory at most so many times more than the one before it."""
+    told = [allocator.blocks("fleet_bench", words) for words in runs]
+    counts = [blocks and blocks.asked for blocks in told]
     said = ", ".join(map(str, counts))
     is_right = None not in counts and all(after - before <= most for before, after in zip(counts, counts[1:]))
-    checks.look(name, None if is_right else said, said)
+    checks.look(f"requests for memory of {what}", None if is_right else said, said)
+
+
+def fleet_words(way, tasks, mix, operations):
+    """The words of a run of fleet_bench by one thread, on two CPUs."""
+    return [way, "1", "2", str(tasks), mix, str(operations), "42"]
+
+
+def look_at_fleets(checks, allocator):
+    opened = [fleet_words("fleet", tasks, "own", 0) for tasks in range(1, 9)]
+    look_at_requests(checks, allocator, "a fleet with 1 to 8 tasks", opened, 1)
+    done = [fleet_words("endless", 8, "all", operations) for operations in (10, 1000, 20000)]
+    look_at_requests(checks, allocator, "10, 1000 and 20000 operations", done, 0)
+
+
+# What they keep.
+
+def look_at_kept(checks, by, blocks):
+    said = f"{blocks.kept} of {blocks.asked}" if blocks else "it doesn't end with status 0"
+    checks.look(f"blocks kept by {by}", None if blocks and blocks.kept == 0 else said, said)
+
+
+def look_at_drops(checks, allocator):
+    """Looks whether all is given back where a queue is dropped."""
+    for tasks in DROPPED:
+        words = list(map(str, tasks))
+        look_at_kept(checks, " ".join(["dropped_queue", *words]), allocator.blocks("dropped_queue", words))
+
+
+def workload(runnable, asleep, deeds=()):
+    """A workload with so many tasks on each of two CPUs, the sleeping ones first, with empty programs and with these deeds."""
+    tasks = [f"[[task]]\nhome = {cpu}\nasleep = {str(place < asleep).lower()}" for cpu in (0, 1) for place in range(asleep + runnable)]
+    return "\n".join(["version = 1", "program = [[], []]", "order = []", f"script = {list(deeds)}", *tasks]).encode()
+
+
+def workloads():
+    """Workloads by what queues they end with, each with the commands that run it."""
+    commands = ("solo", "replay", "run")
+    for runnable, asleep in product(FEW, FEW):
+        if runnable + asleep:
+            yield f"two queues, each with {runnable} runnable and {asleep} sleeping", commands, workload(runnable, asleep)
+    yield "a queue whose only sleeping task has woken", ("solo",), workload(1, 1, ["0 wake 0 from 0"])
+    yield "a queue whose only runnable task has fallen asleep", ("solo",), workload(1, 0, ["0 pick", "0 sleep 0"])
+    yield f"the queues of {EXAMPLE}", ("replay", "run"), (TOP / EXAMPLE).read_bytes()
+
+
+def look_at_ends(checks, allocator):
+    """Looks whether all is given back, whatever tasks the queues end with."""
+    for queues, commands, data in workloads():
+        for command in commands:
+            look_at_kept(checks, f"eevdf {command} of {queues}", allocator.blocks("eevdf", [command], data))
 
 
 def main():
-    checks = Checks()
-    if not shutil.which("valgrind"):
-        checks.skip("the requests for memory of a fleet", "valgrind", "valgrind")
-        return checks.end()
-    programs = built("fleet_bench", "eevdf")
-    opened = [requests(programs, "fleet", tasks, "own", 0) for tasks in range(1, 9)]
-    look(checks, "requests for memory of a fleet with 1 to 8 tasks", opened, 1)
-    done = [requests(programs, "endless", 8, "all", operations) for operations in (10, 1000, 20000)]
-    look(checks, "requests for memory of 10, 1000 and 20000 operations", done, 0)
-    look_at_ends(checks, programs)
+    programs, checks = built("fleet_bench", "dropped_queue", "eevdf"), Checks()
+    with tempfile.TemporaryDirectory(prefix="memory-") as folder:
+        allocator = Allocator(folder, programs)
+        look_at_fleets(checks, allocator)
+        look_at_drops(checks, allocator)
+        look_at_ends(checks, allocator)
     return checks.end()
 
 
