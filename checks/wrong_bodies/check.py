@@ -18,7 +18,8 @@ import threading
 from dataclasses import dataclass
 from pathlib import Path
 
-from edits import TOP, BadEdit, are_apart, edits_of, functions_of, is_of_bodies, names_of
+from edits import FUNCTION as SIGNATURE
+from edits import TOP, BadEdit, are_apart, edits_of, is_of_bodies, names_of
 from libraries import CRATES, Libraries
 from planting import ENDS, can_be_copied, plant
 from stand_ins import make_library
@@ -83,9 +84,10 @@ class Unproved:
 
 class Said:
     """What a check says of a crate's folder: which functions it refuses for what they do themselves, with the goals that aren't proved;
-    which it proves; and the first error that it finds."""
+    which it proves; and the first error that it finds. Some goals are told with a file alone, and not with their function, so `files` are
+    those of each function in which something is planted."""
 
-    def __init__(self, crate, folder, text):
+    def __init__(self, crate, folder, files, text):
         self.refused = {}
         self.proved = set()
         error = FIRST_ERROR.search(text)
@@ -96,14 +98,15 @@ class Said:
                 wrong_proofs.setdefault(function_of(proof), []).extend(goals_of(error))
         notes = {}
         for file, line, words, goal in NOTE.findall(text):
-            notes.setdefault(name_at(folder / file, int(line)), []).append(Unproved(goal, words))
+            notes.setdefault((file, name_at(folder / file, int(line))), []).append(Unproved(goal, words))
         for name, told in FUNCTION.findall(text):
             name = name.removeprefix(f"{crate}::")
             # of one that may wait it says so too
             if told.partition(",")[0] == "proved":
                 self.proved.add(name)
             elif not NOT_COVERED.search(told):
-                self.look(name, told, wrong_proofs.get(name, []), notes.get(name.rpartition("::")[2], []))
+                places = [(file, name.rpartition("::")[2]) for file in files.get(name, ())]
+                self.look(name, told, wrong_proofs.get(name, []), [note for place in places for note in notes.get(place, [])])
 
     def look(self, name, told, wrong_proofs, notes):
         parts = [part for part in told.split("; ") if NOT_FOUND.search(part)]
@@ -124,7 +127,10 @@ def goals_of(error):
 
 def name_at(file, line):
     """The name of the function, without its path, in whose lines this one is. The attributes above it are its own."""
-    return next((it.name for it in functions_of(file.read_text()) if line <= it.end + 1), "")
+    lines = file.read_text().split("\n")
+    is_above = lines[line - 1].lstrip().startswith("#[")
+    found = filter(None, map(SIGNATURE.match, lines[line - 1 :] if is_above else reversed(lines[:line])))
+    return next((begun[2] for begun in found), "")
 
 
 def function_of(folder):
@@ -139,7 +145,7 @@ def told_of(unproved):
 
 def judged(edit, unproved):
     """Whether an edit is refused by the clause that it names, if it names one, and what is said of it."""
-    is_refused = not edit.clause or any(it.clause() == edit.clause for it in unproved)
+    is_refused = not edit.clause or any(edit.clause in (it.clause(), it.goal) for it in unproved)
     return is_refused, ("" if is_refused else f"not by {edit.clause}, but by ") + told_of(unproved)
 
 
@@ -162,7 +168,8 @@ class Tries:
             names = plant(edits, folder, self.is_right)
             if all("main" not in names_of(edit, folder_of(self.crate)) for edit in edits):
                 make_library(folder)
-            return names, Said(self.crate, folder, self.libraries.check(self.crate, folder, set(names.values())))
+            files = {name: {change.file for change in edit.changes} for edit, name in names.items()}
+            return names, Said(self.crate, folder, files, self.libraries.check(self.crate, folder, set(names.values())))
 
     def try_right_bodies(self, edits):
         """Each of the edits with whether its function is proved as it stands where the edit would be tried, and what is said of it."""

@@ -1,6 +1,6 @@
 """The wrong bodies of the crates. Each is an edit, a file crates/CRATE/must-fail/NAME.edit in the kit's form: the lines `file:`,
 `old:` and `new:` say what is put in place of what, and a line `refused:` names the function that the prover must not accept then, and
-behind `by`, where that stands there, the clause that refuses it."""
+behind `by`, where that stands there, the clause that it is against."""
 
 import functools
 import re
