@@ -1,6 +1,6 @@
 // blocks.c: loaded before the C library (LD_PRELOAD), it counts the blocks that a program asks for and those that it gives back. Where
 // the program ends, the line 'ASKED GIVEN' comes into the file that the variable BLOCKS names. It includes no header, so that the kit's
-// own compiler, which has none, makes it too.
+// own compiler, which has none, makes it too. It takes the C library of GNU, whose malloc has a second name.
 
 typedef __SIZE_TYPE__ size_t;
 

@@ -1,4 +1,5 @@
-"""Counts the blocks of memory that a program asks for and gives back, by an allocator in the place of the C library's (blocks.c)."""
+"""Counts the blocks of memory that a program asks for and gives back, by an allocator in the place of the C library's (blocks.c). Where it
+can't be made or loaded, an OSError says why."""
 
 import os
 import shutil
@@ -13,10 +14,11 @@ FLAGS = ("-std=c11", "-O2", "-Wall", "-Wextra", "-Werror", "-shared", "-fPIC", "
 
 @dataclass(frozen=True)
 class Blocks:
-    """How many blocks a program asked for, and how many of them it kept."""
+    """How many blocks a program asked for, how many of them it kept, and what it printed."""
 
     asked: int
     kept: int
+    out: bytes
 
 
 def compiler():
@@ -46,7 +48,9 @@ class Allocator:
         self.counts.unlink(missing_ok=True)
         variables = {"LD_PRELOAD": str(self.library), "BLOCKS": str(self.counts)}
         printed = self.programs.run(name, words, data, env=os.environ | variables)
-        if printed.status or not self.counts.exists():
+        if printed.status:
             return None
+        if not self.counts.exists():
+            raise OSError(f"{name} was run without {self.library}")
         asked, given = map(int, self.counts.read_text().split())
-        return Blocks(asked, asked - given)
+        return Blocks(asked, asked - given, printed.out)

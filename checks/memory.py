@@ -32,7 +32,7 @@ def look_at_requests(checks, allocator, what, runs, most):
     told = [allocator.blocks("fleet_bench", words) for words in runs]
     counts = [blocks and blocks.asked for blocks in told]
     said = ", ".join(map(str, counts))
-    is_right = None not in counts and all(after - before <= most for before, after in zip(counts, counts[1:]))
+    is_right = all(counts) and all(after - before <= most for before, after in zip(counts, counts[1:]))
     checks.look(f"requests for memory of {what}", None if is_right else said, said)
 
 
@@ -50,16 +50,21 @@ def look_at_fleets(checks, allocator):
 
 # What they keep.
 
-def look_at_kept(checks, by, blocks):
+def look_at_kept(checks, by, blocks, least):
+    """Looks whether none is kept of the blocks that a program asked for, which were at least so many: one for each task."""
     said = f"{blocks.kept} of {blocks.asked}" if blocks else "it doesn't end with status 0"
-    checks.look(f"blocks kept by {by}", None if blocks and blocks.kept == 0 else said, said)
+    checks.look(f"blocks kept by {by}", None if blocks and blocks.kept == 0 and blocks.asked >= least else said, said)
 
 
 def look_at_drops(checks, allocator):
     """Looks whether all is given back where a queue is dropped."""
-    for tasks in DROPPED:
-        words = list(map(str, tasks))
-        look_at_kept(checks, " ".join(["dropped_queue", *words]), allocator.blocks("dropped_queue", words))
+    for runnable, asleep in DROPPED:
+        words = [str(runnable), str(asleep)]
+        blocks = allocator.blocks("dropped_queue", words)
+        name = " ".join(["dropped_queue", *words])
+        wanted = b"%d runnable, %d asleep\n" % (runnable, asleep)
+        checks.look(f"tasks of {name}", None if blocks and blocks.out == wanted else f"{blocks and blocks.out!r}")
+        look_at_kept(checks, name, blocks, runnable + asleep)
 
 
 def workload(runnable, asleep, deeds=()):
@@ -69,30 +74,34 @@ def workload(runnable, asleep, deeds=()):
 
 
 def workloads():
-    """Workloads by what queues they end with, each with the commands that run it."""
+    """Workloads by what queues they end with, each with the commands that run it and the number of its tasks."""
     commands = ("solo", "replay", "run")
     for runnable, asleep in product(FEW, FEW):
-        if runnable + asleep:
-            yield f"two queues, each with {runnable} runnable and {asleep} sleeping", commands, workload(runnable, asleep)
-    yield "a queue whose only sleeping task has woken", ("solo",), workload(1, 1, ["0 wake 0 from 0"])
-    yield "a queue whose only runnable task has fallen asleep", ("solo",), workload(1, 0, ["0 pick", "0 sleep 0"])
-    yield f"the queues of {EXAMPLE}", ("replay", "run"), (TOP / EXAMPLE).read_bytes()
+        if tasks := 2 * (runnable + asleep):
+            yield f"two queues, each with {runnable} runnable and {asleep} sleeping", commands, workload(runnable, asleep), tasks
+    yield "a queue whose only sleeping task has woken", ("solo",), workload(1, 1, ["0 wake 0 from 0"]), 4
+    yield "a queue whose only runnable task has fallen asleep", ("solo",), workload(1, 0, ["0 pick", "0 sleep 0"]), 2
+    example = (TOP / EXAMPLE).read_bytes()
+    yield f"the queues of {EXAMPLE}", ("replay", "run"), example, example.count(b"[[task]]")
 
 
 def look_at_ends(checks, allocator):
     """Looks whether all is given back, whatever tasks the queues end with."""
-    for queues, commands, data in workloads():
+    for queues, commands, data, tasks in workloads():
         for command in commands:
-            look_at_kept(checks, f"eevdf {command} of {queues}", allocator.blocks("eevdf", [command], data))
+            look_at_kept(checks, f"eevdf {command} of {queues}", allocator.blocks("eevdf", [command], data), tasks)
 
 
 def main():
     programs, checks = built("fleet_bench", "dropped_queue", "eevdf"), Checks()
     with tempfile.TemporaryDirectory(prefix="memory-") as folder:
-        allocator = Allocator(folder, programs)
-        look_at_fleets(checks, allocator)
-        look_at_drops(checks, allocator)
-        look_at_ends(checks, allocator)
+        try:
+            allocator = Allocator(folder, programs)
+            look_at_fleets(checks, allocator)
+            look_at_drops(checks, allocator)
+            look_at_ends(checks, allocator)
+        except OSError as why:
+            checks.look("blocks", why)
     return checks.end()
 
 

@@ -1,7 +1,8 @@
 #!/usr/bin/env -S python3 -B
-"""checks/stack.py: finds the least stack with which programs end with status 0, and print what they print with ample stack. It may be a
-page more than what they needed at the commit 86a9ae5. A queue has 24 KiB, of which its slots have 16, so a copy more of either is found.
-No proof speaks of it. The last line is 'N passed, M failed'."""
+"""checks/stack.py: finds the least stack with which programs end with status 0, and print what they print with ample stack. It may be at
+most a page more than what is stored here. A queue has 24 KiB, of which its slots have 16, so a copy more of either is found. The C library
+and the system have a part in it, so another machine may need another KiB or two. No proof speaks of it. The last line is
+'N passed, M failed'."""
 
 import ctypes
 import sys
@@ -27,7 +28,7 @@ TRIES = 16
 
 @dataclass(frozen=True)
 class Case:
-    """A run of a program, on an example or on nothing, and the least stack in KiB that it had at the commit 86a9ae5."""
+    """A run of a program, on an example or on nothing, and the least stack in KiB that it needs."""
 
     program: str
     words: tuple[str, ...]
@@ -38,12 +39,13 @@ class Case:
         return " ".join([self.program, *self.words]) + f" < {self.example}" * bool(self.example)
 
 
+# Over the libraries of the commit 86a9ae5, the first that were measured, they needed 64, and in the order below 88, 88, 100 and 72.
 DROPPED = Case("dropped_queue", ("512", "512"), 64)
 CASES = (
-    Case("eevdf", ("solo",), 88, "examples/pull.toml"),
-    Case("eevdf", ("replay",), 88, "examples/interleaving.toml"),
+    Case("eevdf", ("solo",), 40, "examples/pull.toml"),
+    Case("eevdf", ("replay",), 40, "examples/interleaving.toml"),
     Case("eevdf", ("run",), 100, "examples/programs-apart.toml"),
-    Case("job_bench", ("orders", "1", "10", "1"), 72),
+    Case("job_bench", ("orders", "1", "10", "1"), 24),
     DROPPED,
 )
 
@@ -78,7 +80,7 @@ def least_stack(programs, case, tries):
 
 
 def look_at_stack(checks, programs, case, tries):
-    """Looks whether a program needs no more than a page above what it needed."""
+    """Looks whether a program needs no more than a page above what is stored."""
     least, most = least_stack(programs, case, tries), case.least + PAGE
     said = f"{least} KiB, of at most {most}" if least else f"it doesn't end with status 0 on {AMPLE} KiB"
     checks.look(f"stack of {case}", None if least and least <= most else said, said)

@@ -95,7 +95,9 @@ def plant(body, top):
     """Plants a wrong body in copies of the crates, which are laid out then, as `rt ci` wants them."""
     apply(body, top)
     for crate in {Path(change.file).parts[1] for change in body.changes}:
-        subprocess.run(["rt", "fmt"], cwd=top / "crates" / crate, capture_output=True, check=True)
+        laid_out = subprocess.run(["rt", "fmt"], cwd=top / "crates" / crate, capture_output=True, text=True)
+        if laid_out.returncode:
+            raise NotBuilt(laid_out.stdout + laid_out.stderr)
 
 
 def build(top):
@@ -127,14 +129,17 @@ def first_of(faults):
 
 def try_right_body(checks):
     """Looks whether nothing is found where no wrong body is planted."""
-    checks.look("no wrong body", first_of([fault for found in faults_with(None).values() for fault in found]))
+    try:
+        checks.look("no wrong body", first_of([fault for found in faults_with(None).values() for fault in found]))
+    except (NotBuilt, OSError) as why:
+        checks.look("no wrong body", why)
 
 
 def try_body(checks, body):
     """Looks whether the prover accepts a wrong body, and its check finds it."""
     try:
         found = faults_with(body)[body.check]
-    except NotBuilt as why:
+    except (NotBuilt, BadEdit, OSError) as why:
         checks.look(body, f"it isn't proved or isn't built: {why}")
     else:
         checks.look(body, None if found else f"{body.check} passes", f"{body.check} fails: {first_of(found)}")
