@@ -2,7 +2,7 @@
 
 ghost use Rattle.std.specs.Prelude.{◌<◌, ◌≤◌, ◌≢◌};
 
-use crate::drawn_machine::{Shape, heavy_task_at};
+use crate::drawn_machine::{Shape, first_task_at};
 use crate::drawn_programs::task_at;
 use drawn_values::Draws;
 use eevdf_ops::{CpuId, Deed};
@@ -24,8 +24,8 @@ pub fn drawn_cpu(shape: &Shape, draws: &mut Draws) -> CpuId {
     CpuId::new(draws.below(shape.cpus)).unwrap()
 }
 
-/// A deed of a CPU. The tasks that are to fall asleep and to wake are heavy. Even so few sleeps find their task running, and few
-/// wakes find theirs asleep.
+/// A deed of a CPU. The tasks that are to fall asleep and to wake are the first two of each CPU, which are heavy on some machines.
+/// Even there few sleeps find their task running, and few wakes find theirs asleep.
 pub fn drawn_deed(shape: &Shape, deeds: Deeds, cpu: CpuId, draws: &mut Draws) -> Deed {
     let kind = draws.below(100);
     if deeds == Deeds::Refused {
@@ -40,11 +40,11 @@ pub fn drawn_deed(shape: &Shape, deeds: Deeds, cpu: CpuId, draws: &mut Draws) ->
         55..60 => Deed::Yield { cpu },
         60..75 => Deed::Sleep {
             cpu,
-            task: heavy_task_at(shape, cpu, draws),
+            task: first_task_at(shape, cpu, draws),
         },
         75..90 => Deed::Wake {
             cpu,
-            task: heavy_task_at(shape, cpu, draws),
+            task: first_task_at(shape, cpu, draws),
             sender: drawn_cpu(shape, draws),
         },
         90..95 if deeds == Deeds::Mixed => Deed::Renice {

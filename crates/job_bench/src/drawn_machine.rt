@@ -129,8 +129,8 @@ pub fn setup_of(
     Setup::make(alloc, tasks, programs).map_err(|_| JobFault::Machine)
 }
 
-/// One of the heavy tasks of a CPU, where there are such.
-pub fn heavy_task_at(shape: &Shape, cpu: CpuId, draws: &mut Draws) -> TaskId {
+/// One of the first two tasks of a CPU, where it has two.
+pub fn first_task_at(shape: &Shape, cpu: CpuId, draws: &mut Draws) -> TaskId {
     let number = cpu.get() % shape.cpus + shape.cpus * draws.below(2);
     if number < shape.tasks {
         TaskId::new(number).unwrap()

@@ -3,7 +3,7 @@
 ghost use Rattle.std.specs.Prelude.{◌<◌, ◌≤◌};
 
 use crate::drawn_deeds::{drawn_cpu, drawn_task, other_cpu};
-use crate::drawn_machine::{Shape, heavy_task_at};
+use crate::drawn_machine::{Shape, first_task_at};
 use drawn_values::Draws;
 use eevdf_ops::{CpuId, Op};
 use eevdf_queue::TaskId;
@@ -95,9 +95,9 @@ fn apart_operation(shape: &Shape, cpu: CpuId, draws: &mut Draws) -> Op {
         0..6 => Op::Pick,
         6..11 => Op::Tick(draws.tick()),
         11 => Op::Yield,
-        12 => Op::Post(heavy_task_at(shape, cpu, draws)),
+        12 => Op::Post(first_task_at(shape, cpu, draws)),
         13 => Op::Drain,
-        _ => Op::Sleep(heavy_task_at(shape, cpu, draws)),
+        _ => Op::Sleep(first_task_at(shape, cpu, draws)),
     }
 }
 
@@ -108,7 +108,7 @@ fn sleeper(shape: &Shape, cpu: CpuId, draws: &mut Draws) -> TaskId {
     } else {
         cpu
     };
-    heavy_task_at(shape, home, draws)
+    first_task_at(shape, home, draws)
 }
 
 /// A pull from another CPU, and a pick where there is no other.

@@ -29,10 +29,10 @@ pub fn life_job<R: Threads + Wait + Sync>(
     digest: &mut Digest,
 ) -> Result<(), JobFault> {
     let shape = shape_of(input);
-    let lives = 32 + size / 64;
-    opening_job(rt, alloc, lives, TaskKind::Mixed, draws, digest)?;
+    let count = 32 + size / 64;
+    opening_job(rt, alloc, count, TaskKind::Mixed, draws, digest)?;
     played_script(rt, alloc, &shape, size, draws, digest)?;
-    queue_lives(alloc, lives, draws, digest)?;
+    queue_lives(alloc, count, draws, digest)?;
     fleet_run(rt, alloc, &shape, Mix::Wakes, 1, size, draws, digest)
 }
 

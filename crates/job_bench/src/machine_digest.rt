@@ -8,15 +8,10 @@ impl Digest {
     /// Takes in what a deed is answered.
     #[inline(always)]
     pub fn add_answer(&mut self, answer: &Answer) {
-        match answer {
-            Answer::Slept(lag) => self.add_slept(*lag),
-            _ => self.add(word_of(answer)),
+        self.add(word_of(answer));
+        if let Answer::Slept(lag) = answer {
+            self.add_signed(*lag);
         }
-    }
-
-    fn add_slept(&mut self, lag: i64) {
-        self.add(11);
-        self.add_signed(lag);
     }
 
     /// Takes in deeds with their answers.

@@ -10,8 +10,8 @@ use eevdf_queue::{Queue, TaskId};
 use std::alloc::{AllocError, Global};
 use std::collections::VecDeque;
 
-/// The machine, and the tasks that fell asleep on it, first in first out. A task that woke by another wake than its own stays
-/// among them.
+/// The machine, and the tasks that slept at the start or fell asleep, first in first out. A task that was woken out of its turn stays
+/// among them, and one whose wake was refused doesn't.
 #[derive(Drop)]
 pub struct PlayedMachine {
     solo: Solo,
@@ -30,7 +30,8 @@ impl PlayedMachine {
         Ok(PlayedMachine { solo, sleepers })
     }
 
-    /// Draws a deed of a CPU. Most sleeps are of the task that runs there, and most wakes of the task that has slept longest.
+    /// Draws a deed: of this CPU, or a wake at another task's home. Most sleeps are of the task that runs there, and most wakes of the
+    /// task that comes first among those that fell asleep.
     pub fn draw(&mut self, shape: &Shape, cpu: CpuId, draws: &mut Draws) -> Deed {
         match draws.below(100) {
             0..32 => self.sleep_of_running(cpu),
@@ -55,7 +56,7 @@ impl PlayedMachine {
         }
     }
 
-    /// A wake of the task that has slept longest, and a pick where none sleeps.
+    /// A wake of the first task among those that fell asleep, and a pick where there is none.
     fn wake_of_first(&mut self, shape: &Shape, cpu: CpuId, draws: &mut Draws) -> Deed {
         match self.sleepers.pop_front() {
             Some(task) => wake_at_home(shape, task, draws),

@@ -30,7 +30,7 @@ pub fn sleep_running(queue: &mut Queue, digest: &mut Digest) -> Option<TaskId> {
     running
 }
 
-/// Takes out all tasks and ends them.
+/// Takes out all tasks and ends them, and takes in the queue that is left.
 pub fn close(queue: &mut Queue, digest: &mut Digest) {
     for _task in 0..TaskId::COUNT {
         let Some(parcel) = queue.take_any() else {
@@ -39,6 +39,7 @@ pub fn close(queue: &mut Queue, digest: &mut Digest) {
         digest.add_parcel(&parcel);
         parcel.retire();
     }
+    digest.add_queue(queue);
 }
 
 /// Moves the candidate of a queue to another one, where it can be placed, and else back.
