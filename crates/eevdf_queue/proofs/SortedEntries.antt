@@ -1,9 +1,11 @@
 -- The entries of a map rise by number.
-use Rattle.std.proofs.Common.{◌≡◌, ℕ, ◌+◌, ◌<◌, ◌≤◌, Bool, true, false, ◌&&◌, List, [], ◌∷◌, length, Some, None, T, refl, sym, subst, ◌∙◌, arith}
-use Rattle.std.specs.Ordering.{nat_cmp, is_lt}
-use Rattle.std.specs.FinMap.{FinMap, entries, entries_sorted, get, get-entries, len, len-entries, find, is_sorted}
+use Rattle.std.proofs.Common.{◌≡◌, ℕ, ◌<◌, ◌≤◌, Bool, true, false, ◌&&◌, List, [], ◌∷◌, length, map, Option, Some, None, T, refl, ◌∙◌, arith}
+use Rattle.std.specs.{Prelude.is_some, Ordering.nat_cmp, Ordering.is_lt, Cmp.nat_cmp_total, Cmp.eq_by_cmp_equiv}
+use Rattle.std.specs.declared.cmp.Ordering.TheVariants.{Less}
+use Rattle.std.specs.List.{All, AllByRecursion, Sorted.IsStrictlySortedBy}
+use Rattle.std.specs.FinMap.{FinMap, entries, entries_sorted, get, keys, contains_key-keys, len, len-entries, find, is_sorted}
 use Rattle.std.specs.FinMap.Entries.{below_all}
-use Rattle.std.proofs.lemmas.Bool.Decides.{nat_tests}
+use Rattle.std.proofs.lemmas.{Bool.Decides.nat_tests, List.length-map, Map.Views.All-from_any, Map.Views.length-le_from_below}
 use Rattle.eevdf_queue.proofs.{ListMaps.same_number, MapFolds.AreDistinct}
 
 both : (a b : Bool) → T (a && b) → T a × T b
@@ -31,35 +33,25 @@ module _ {X : Type 0} where
   none_found k x (e ∷ es) h l =
       let above = first_above x e es h in grind (arith, nat_tests, same_number k e.0, above.0, none_found k x es above.1 l)
 
-  head_found : (e : ℕ × X) (es : List (ℕ × X)) → find nat_cmp e.0 (e ∷ es) ≡ Some e.1
-  head_found e es = grind (arith, nat_tests, same_number e.0 e.0)
+  less_than_all : (x : ℕ) (es : List (ℕ × X)) → T (below_all nat_cmp x es) → AllByRecursion (λ y. nat_cmp x y ≡ Less) (map (λ e. e.0) es)
+  less_than_all x [] h = tt
+  less_than_all x (e ∷ es) h = let above = first_above x e es h in (grind (arith, nat_tests, above.0), less_than_all x es above.1)
 
-  -- an entry among those above is one of all
-  still_found : (k : ℕ) (y : X) (e : ℕ × X) (es : List (ℕ × X)) → T (below_all nat_cmp e.0 es) → find nat_cmp k es ≡ Some y → find nat_cmp k (e ∷ es) ≡ Some y
-  still_found k y e es above h = grind (arith, nat_tests, same_number k e.0, none_found k e.0 es above)
-
-  -- entries whose numbers are above one number and below another
-  few_between : (n x : ℕ) (es : List (ℕ × X)) → T (below_all nat_cmp x es) → T (is_sorted nat_cmp es) → ((k : ℕ) (y : X) → find nat_cmp k es ≡ Some y → k < n) → x < n
-      → length es + x < n
-  few_between n x [] above s below l = omega (arith, l)
-  few_between n x (e ∷ es) above s below l =
-      let first = first_above x e es above in
-      let parts = sorted_parts e es s in
-      let rest = few_between n e.0 es parts.0 parts.1 (λ k y h. below k y (still_found k y e es parts.0 h)) (below e.0 e.1 (head_found e es)) in
-      omega (arith, first.0, rest)
-
-  few_below : (n : ℕ) (es : List (ℕ × X)) → T (is_sorted nat_cmp es) → ((k : ℕ) (y : X) → find nat_cmp k es ≡ Some y → k < n) → length es ≤ n
-  few_below n [] s below = omega arith
-  few_below n (e ∷ es) s below =
-      let parts = sorted_parts e es s in
-      let rest = few_between n e.0 es parts.0 parts.1 (λ k y h. below k y (still_found k y e es parts.0 h)) (below e.0 e.1 (head_found e es)) in
-      omega (arith, rest)
+  sorted_keys : (es : List (ℕ × X)) → T (is_sorted nat_cmp es) → IsStrictlySortedBy nat_cmp (map (λ e. e.0) es)
+  unfolding IsStrictlySortedBy
+  sorted_keys [] h = tt
+  sorted_keys (e ∷ es) h = let parts = sorted_parts e es h in (less_than_all e.0 es parts.0, sorted_keys es parts.1)
 
   -- a map has no more entries than there are numbers
   pub few_entries : (n : ℕ) (m : FinMap nat_cmp X) → ((k : ℕ) (y : X) → get m k ≡ Some y → k < n) → len m ≤ n
   few_entries n m below =
-      subst (λ (l : ℕ). l ≤ n) (sym (len-entries m))
-      (few_below n (entries m) (entries_sorted m) (λ k y h. below k y (get-entries m k ∙ h)))
+      let each : All (λ k. k < n) (keys m) = All-from_any (eq_by_cmp_equiv nat_cmp_total) (λ k. k < n) (keys m) (λ k h. at k (get m k) refl (contains_key-keys m k ∙ h)) in
+      let few : length (keys m) ≤ n = length-le_from_below n (keys m) (sorted_keys (entries m) (entries_sorted m)) each in
+      omega (arith, few, len-entries m, length-map (entries m) (λ e. e.0))
+    where
+      at : (k : ℕ) (o : Option X) → get m k ≡ o → is_some o ≡ true → k < n
+      at k None is h = cc
+      at k (Some y) is h = below k y is
 
   sorted_distinct : (es : List (ℕ × X)) → T (is_sorted nat_cmp es) → AreDistinct es
   sorted_distinct [] h = tt
