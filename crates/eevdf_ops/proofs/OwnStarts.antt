@@ -1,6 +1,6 @@
 -- The queue of one CPU while the tasks begin at their homes.
-use Rattle.std.proofs.Common.{◌≡◌, ◌≢◌, ℕ, ◌+◌, ◌<◌, ◌≤◌, List, ◌∷◌, drop, length, get_or, replicate, sym, ap, ◌∙◌, arith}
-use Rattle.std.proofs.lemmas.List.{drop_all, drop_more, get_or-replicate, get_or-set_same, get_or-set_other, length-replicate}
+use Rattle.std.proofs.Common.{◌≡◌, ℕ, ◌+◌, ◌<◌, ◌≤◌, List, ◌∷◌, drop, length, get_or, replicate, sym, ap, ◌∙◌, arith}
+use Rattle.std.proofs.lemmas.List.{drop_all, drop_more, get_or-replicate, get_or-set_same, length-replicate}
 use Rattle.eevdf_queue.specs.State.{State, empty_state}
 use Rattle.eevdf_ops.specs.declared.task_spec.TaskSpec.{TaskSpec}
 use Rattle.eevdf_ops.specs.Machine.{Machine, queue_at, begin, begin_at_homes}
@@ -29,11 +29,3 @@ begun-here cpus cpu ts place t here h is home =
     ∙ ap (λ (k : ℕ). queue_at (begin_at_homes place (t ∷ drop (place + 1) ts) (replicate cpus empty_state)) k) (sym home)
     ∙ get_or-set_same rest t.home (begin place t (queue_at rest t.home)) empty_state (omega (arith, many, here, home))
     ∙ ap (λ (k : ℕ). begin place t (queue_at rest k)) home
-
--- one task more begins on another CPU
-pub begun-elsewhere : (cpus cpu : ℕ) (ts : List TaskSpec) (place : ℕ) (t : TaskSpec) → place < length ts → t ≡ get_or ts place t → cpu ≢ t.home
-    → begun cpus cpu ts place ≡ begun cpus cpu ts (place + 1)
-begun-elsewhere cpus cpu ts place t h is apart =
-    let rest : Machine = begin_at_homes (place + 1) (drop (place + 1) ts) (replicate cpus empty_state) in
-    ap (λ (us : List TaskSpec). queue_at (begin_at_homes place us (replicate cpus empty_state)) cpu) (from-place ts place t h is)
-    ∙ get_or-set_other rest t.home cpu (begin place t (queue_at rest t.home)) empty_state apart
