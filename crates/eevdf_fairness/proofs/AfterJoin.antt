@@ -7,10 +7,11 @@ use Rattle.std.proofs.{lemmas.Int.ints, lemmas.Int.by_lt_z, lemmas.Bool.Decides.
 use Rattle.eevdf_weight.specs.{Weight.weight_of, Charge.charge_of}
 use Rattle.eevdf_queue.specs.{declared.entry.Entry.Entry, declared.sleeper.Sleeper.Sleeper, State.State, Laws.PickIsFirst, Laws.PickOfNobody, Placing.placement, Moves.request_of}
 use Rattle.eevdf_queue.specs.Sums.{Tasks, total_weight, total_moment}
+use Rattle.eevdf_queue.proofs.Scaled.{scaled_sum, sum_scaled, scaled_le}
 use Rattle.eevdf_fairness.specs.{Leavings.Step, Leavings.HaveNoLongerTurns, Leavings.after_steps, Fair.NoneIsFarPast, Fair.IsNotLate, Fair.turns_of_others}
 use Rattle.eevdf_fairness.specs.{Joining.Joins, Joining.lag_limit, Joining.reach, Joining.most_late, Healing.HasNotYielded}
 use Rattle.eevdf_fairness.specs.Joining.{IsNotLateAfterJoin, IsNotBehindAfterJoin, JoinKeepsFair, HealedJoinKeepsFair}
-use Rattle.eevdf_fairness.proofs.{Scaled.scaled_sum, Scaled.sum_scaled, Scaled.scaled_le, Scaled.le_then, Growing.rounded_down}
+use Rattle.eevdf_fairness.proofs.{Inequalities.le_then, Growing.rounded_down}
 use Rattle.eevdf_fairness.proofs.{Growing.not_itself, Growing.itself, Growing.found_at_after, Growing.found_after, Rooms.has_room}
 use Rattle.eevdf_fairness.proofs.Removing.{none_removed, weight_removed, moment_removed, one_fewer, some_there}
 use Rattle.eevdf_fairness.proofs.Rules.{Rule, IsWithin, Keeps, NoneIsPastBy, rule_of, settled, After, Short, Nothing, keeps_after, keeps_short, keeps_nothing, Nobody, fresh_within}

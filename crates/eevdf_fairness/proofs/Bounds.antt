@@ -6,9 +6,10 @@ use Rattle.std.proofs.lemmas.Int.{ints}
 use Rattle.eevdf_weight.specs.{Weight.weight_of, Charge.charge_of}
 use Rattle.eevdf_queue.specs.{declared.entry.Entry.Entry, Moves.request_of}
 use Rattle.eevdf_queue.specs.Sums.{Tasks, total_weight, total_moment}
+use Rattle.eevdf_queue.proofs.Scaled.{scaled_sum, sum_scaled, scaled_le}
 use Rattle.eevdf_fairness.specs.Fair.{IsFair, IsNotLate, IsNotLateWithRest, IsNotAhead, turns_of_others, weight_of_others}
 use Rattle.eevdf_fairness.specs.Healing.{IsPunctual}
-use Rattle.eevdf_fairness.proofs.{Scaled.scaled_sum, Scaled.sum_scaled, Scaled.scaled_le, Scaled.fewer, EntrySums.no_heavier, Rooms.has_room, Owed.owed}
+use Rattle.eevdf_fairness.proofs.{Inequalities.fewer, EntrySums.no_heavier, Rooms.has_room, Owed.owed}
 use Rattle.eevdf_fairness.proofs.Rules.{IsWithin, Keeps, rule_of, settled, Everyone}
 
 pub rest_by : (v time S : ℤ) (w W n k : ℕ) → (pos k -ℤ ((v *ℤ pos w) -ℤ (time *ℤ pos w))) ≤ℤ (pos (n * k) -ℤ (S -ℤ (time *ℤ pos W)))

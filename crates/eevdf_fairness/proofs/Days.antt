@@ -1,6 +1,6 @@
 -- With a rebase each day no tick is out of range.
 use Rattle.std.proofs.Common.{◌≡◌, ℕ, ◌+◌, ◌-◌, ◌*◌, ◌^◌, ◌/◌, ◌≤◌, Bool, true, false, ◌&&◌, cond, List, [], ◌∷◌, Option, Some, None, refl, sym, ap, ◌∙◌, subst, arith}
-use Rattle.std.specs.Prelude.{ℤ, pos, negsuc, ◌==◌, ◌+ℤ◌, ◌-ℤ◌, ◌*ℤ◌, ◌≤ℤ◌, ◌<ℤ◌, int_le, is_some, unsigned_abs}
+use Rattle.std.specs.Prelude.{ℤ, pos, ◌==◌, ◌+ℤ◌, ◌-ℤ◌, ◌*ℤ◌, ◌≤ℤ◌, ◌<ℤ◌, int_le, is_some, unsigned_abs}
 use Rattle.std.specs.{Option.option_map, FinMap.get, FinMap.insert, FinMap.empty, FinMap.entries, FinMap.len}
 use Rattle.std.proofs.lemmas.{Int.ints, Int.unsigned_abs-mul, Bool.Decides.nat_tests}
 use Rattle.std.proofs.Math.Nat.{mul-le-mul_left, mul-le-mul_right, div-le_self}
@@ -14,10 +14,11 @@ use Rattle.eevdf_queue.specs.Pick.{IsPick, pick_of, picked_by}
 use Rattle.eevdf_queue.specs.Tick.{aged, is_used_up, charged, tick_to, tick_entry, tick_running}
 use Rattle.eevdf_queue.specs.Rebase.{lowered_entry, lowered_entries, are_entries_in_range, can_rebase, rebased, rebase}
 use Rattle.eevdf_queue.specs.LoweredQueues.{AnswerAlike, LoweredQueueAnswersAlike, RebasedIsLower}
+use Rattle.eevdf_queue.proofs.{Floors.not_above, Floors.below_next, Scaled.sum_scaled, Scaled.difference_scaled, Scaled.scaled_le}
 use Rattle.eevdf_fairness.specs.Turns.{Turn, turn_length, AreNoLonger, after_ticks, after_turn, after_turns}
 use Rattle.eevdf_fairness.specs.Fair.{NoneIsFarPast, turns_of_others, weight_of_others}
 use Rattle.eevdf_fairness.specs.Days.{total_length, IsDay, AreDays, after_days, IsNearStart, DaysStayInRange}
-use Rattle.eevdf_fairness.proofs.{Scaled.sum_scaled, Scaled.difference_scaled, Scaled.scaled_le, EntrySums.Each, EntrySums.each, EntrySums.no_heavier}
+use Rattle.eevdf_fairness.proofs.EntrySums.{Each, each, no_heavier}
 use Rattle.eevdf_fairness.proofs.{Growing.HasRun, Growing.has_run, Growing.found_after, Owed.owed, Passing.turns_passed}
 use Rattle.eevdf_fairness.proofs.Rules.{IsWithin, settled, Everyone, at_one_time, IsLittleAhead, fresh_within}
 use Rattle.eevdf_fairness.proofs.{Turning.moment_after, Steps.idle, Steps.turns_within, Bounds.itself}
@@ -230,14 +231,6 @@ module _ (q : State) (front : ℤ) (c : IsCalm (2 ^ 59) front q.runnable) (ns : 
   runner_by (Some t) h = entry_by t (get q.runnable t) refl h
 
 -- ---- the rebase
-not_above : (z : ℤ) (n : ℕ) → 1 ≤ n → (floor_div z n *ℤ pos n) ≤ℤ z
-not_above (pos a) n h = omega (arith, ints)
-not_above (negsuc a) n h = omega (arith, ints)
-
-below_next : (z : ℤ) (n : ℕ) → 1 ≤ n → z <ℤ ((floor_div z n *ℤ pos n) +ℤ pos n)
-below_next (pos a) n h = omega (arith, ints)
-below_next (negsuc a) n h = omega (arith, ints)
-
 some_is : (n : ℕ) → 1 ≤ n → (n == 0) ≡ false
 some_is n h = grind (arith, nat_tests)
 

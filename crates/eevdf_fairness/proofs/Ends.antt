@@ -6,9 +6,9 @@ use Rattle.std.proofs.{lemmas.Int.ints, Math.Nat.mul-le-mul_left}
 use Rattle.eevdf_weight.specs.{Weight.weight_of, Charge.charge_of}
 use Rattle.eevdf_queue.specs.{declared.entry.Entry.Entry, Moves.request_of}
 use Rattle.eevdf_queue.specs.Sums.{Tasks, total_weight, total_moment}
+use Rattle.eevdf_queue.proofs.Scaled.{sum_scaled, scaled_twice, scaled_le}
 use Rattle.eevdf_fairness.specs.Fair.{IsFair, turns_of_others, weight_of_others}
 use Rattle.eevdf_fairness.specs.Share.{swing, IsShare}
-use Rattle.eevdf_fairness.proofs.Scaled.{sum_scaled, scaled_twice, scaled_le}
 use Rattle.eevdf_fairness.proofs.{Passing.HasPassed, Passing.IsServed, Growing.rounded_down}
 
 -- two sides of an equation, times a number

@@ -1,55 +1,14 @@
 -- Sums over the entries of a map, and what another entry at a number does to them.
-use Rattle.std.proofs.Common.{◌≡◌, ℕ, ◌<◌, ◌≤◌, Bool, true, false, ◌&&◌, cond, List, [], ◌∷◌, Some, None, T, refl, sym, ap, ◌∙◌, arith}
+use Rattle.std.proofs.Common.{◌≡◌, ℕ, ◌<◌, ◌≤◌, Bool, true, false, cond, List, [], ◌∷◌, Some, None, T, refl, sym, ap, ◌∙◌, arith}
 use Rattle.std.specs.Prelude.{ℤ, pos, ◌+ℤ◌, ◌*ℤ◌, ◌≤ℤ◌}
-use Rattle.std.specs.{declared.cmp.Ordering.Ordering, Ordering.nat_cmp, Ordering.is_lt, Ordering.is_eq, Ordering.eq_by_cmp, Cmp.nat_cmp_total, Cmp.ranked}
+use Rattle.std.specs.{declared.cmp.Ordering.Ordering, Ordering.nat_cmp, Ordering.is_eq, Ordering.eq_by_cmp, Cmp.nat_cmp_total, Cmp.ranked}
 use Rattle.std.specs.declared.cmp.Ordering.TheVariants.{Less, Equal, Greater}
 use Rattle.std.specs.FinMap.{get, insert, entries, entries_sorted, find, put, is_sorted, get-entries, entries-insert}
-use Rattle.std.specs.FinMap.Entries.{by_order, below_all}
-use Rattle.std.proofs.{lemmas.Int.ints, lemmas.Bool.Decides.nat_tests}
+use Rattle.std.specs.FinMap.Entries.{by_order}
+use Rattle.std.proofs.lemmas.Int.{ints}
 use Rattle.eevdf_weight.specs.Weight.{weight_of}
 use Rattle.eevdf_queue.specs.{declared.entry.Entry.Entry, Sums.Tasks, Sums.sum_weights, Sums.sum_moments, Sums.total_weight, Sums.total_moment}
-
--- ---- the entries rise by number
-both : (a b : Bool) → T (a && b) → T a × T b
-both true b h = (tt, h)
-both false b h = absurd h
-
-holds : (b : Bool) → T b → b ≡ true
-holds true h = refl
-holds false h = absurd h
-
-less : (x y : ℕ) → is_lt (nat_cmp x y) ≡ true → x < y
-less x y h = grind (arith, nat_tests)
-
-none_found : (k x : ℕ) (es : List (ℕ × Entry)) → T (below_all nat_cmp x es) → k ≤ x → find nat_cmp k es ≡ None
-none_found k x [] h l = refl
-none_found k x (e ∷ es) h l =
-    let parts = both (is_lt (nat_cmp x e.0)) (below_all nat_cmp x es) h in
-    let above : x < e.0 = less x e.0 (holds (is_lt (nat_cmp x e.0)) parts.0) in
-    let rest : find nat_cmp k es ≡ None = none_found k x es parts.1 l in
-    grind (arith, nat_tests)
-
-first_absent : (e : ℕ × Entry) (es : List (ℕ × Entry)) → T (is_sorted nat_cmp (e ∷ es)) → find nat_cmp e.0 es ≡ None
-first_absent e es s = none_found e.0 e.0 es (both (below_all nat_cmp e.0 es) (is_sorted nat_cmp es) s).0 (omega arith)
-
-rest_sorted : (e : ℕ × Entry) (es : List (ℕ × Entry)) → T (is_sorted nat_cmp (e ∷ es)) → T (is_sorted nat_cmp es)
-rest_sorted e es s = (both (below_all nat_cmp e.0 es) (is_sorted nat_cmp es) s).1
-
-same_number : (u x : ℕ) → eq_by_cmp nat_cmp u x ≡ true → u ≡ x
-same_number u x h = grind (arith, nat_tests)
-
-head : (e : ℕ × Entry) (es : List (ℕ × Entry)) → find nat_cmp e.0 (e ∷ es) ≡ Some e.1
-head e es =
-    let same : eq_by_cmp nat_cmp e.0 e.0 ≡ true = grind (arith, nat_tests) in
-    ap (λ b. cond b (Some e.1) (find nat_cmp e.0 es)) same
-
-behind : (e : ℕ × Entry) (t : ℕ) (f : Entry) (es : List (ℕ × Entry)) → find nat_cmp e.0 es ≡ None → find nat_cmp t es ≡ Some f → find nat_cmp t (e ∷ es) ≡ Some f
-behind e t f es none here =
-    by (eq_by_cmp nat_cmp t e.0) refl
-  where
-    by : (b : Bool) → eq_by_cmp nat_cmp t e.0 ≡ b → cond b (Some e.1) (find nat_cmp t es) ≡ Some f
-    by true k = let same : find nat_cmp t es ≡ None = ap (λ n. find nat_cmp n es) (same_number t e.0 k) ∙ none in cc
-    by false k = here
+use Rattle.eevdf_queue.proofs.{Foremost.head, Foremost.behind, SortedEntries.none_found, SortedEntries.sorted_parts}
 
 -- ---- what holds of each entry
 abbrev pub Each : (Entry → Type 0) → List (ℕ × Entry) → Type 0
@@ -59,7 +18,9 @@ Each P (e ∷ es) = P e.1 × Each P es
 each_found : (P : Entry → Type 0) (es : List (ℕ × Entry)) → T (is_sorted nat_cmp es) → ((t : ℕ) (e : Entry) → find nat_cmp t es ≡ Some e → P e) → Each P es
 each_found P [] s h = tt
 each_found P (e ∷ es) s h =
-    (h e.0 e.1 (head e es), each_found P es (rest_sorted e es s) (λ t f found. h t f (behind e t f es (first_absent e es s) found)))
+    let parts = sorted_parts e es s in
+    let absent : find nat_cmp e.0 es ≡ None = none_found e.0 e.0 es parts.0 (omega arith) in
+    (h e.0 e.1 (head e es), each_found P es parts.1 (λ t f found. h t f (behind e (t, f) es absent found)))
 
 -- what holds of each task holds of each entry of the list
 pub each : (P : Entry → Type 0) (tasks : Tasks) → ((t : ℕ) (e : Entry) → get tasks t ≡ Some e → P e) → Each P (entries tasks)
@@ -102,7 +63,7 @@ replaced_by : (f : Entry → ℤ) (k : ℕ) (a b : Entry) (e : ℕ × Entry) (es
     → sum_of f (by_order o ((k, b) ∷ e ∷ es) ((e.0, b) ∷ es) (e ∷ put nat_cmp k b es)) +ℤ f a ≡ (f e.1 +ℤ sum_of f es) +ℤ f b
 replaced_by f k a b e es Less s o rest found =
     let lt : k < e.0 = ranked k e.0 Less (sym o) in
-    let none : find nat_cmp k es ≡ None = none_found k e.0 es (both (below_all nat_cmp e.0 es) (is_sorted nat_cmp es) s).0 (omega arith) in
+    let none : find nat_cmp k es ≡ None = none_found k e.0 es (sorted_parts e es s).0 (omega arith) in
     cc
 replaced_by f k a b e es Equal s o rest found =
     let same : f e.1 ≡ f a = ap f (the_same e.1 a found) in
@@ -113,7 +74,7 @@ replaced : (f : Entry → ℤ) (k : ℕ) (a b : Entry) (es : List (ℕ × Entry)
     → sum_of f (put nat_cmp k b es) +ℤ f a ≡ sum_of f es +ℤ f b
 replaced f k a b [] s found = cc
 replaced f k a b (e ∷ es) s found =
-    replaced_by f k a b e es (nat_cmp k e.0) s refl (replaced f k a b es (rest_sorted e es s)) found
+    replaced_by f k a b e es (nat_cmp k e.0) s refl (replaced f k a b es (sorted_parts e es s).1) found
 
 -- another entry at a number: the sum has the new summand in place of the old one
 pub sum_insert : (f : Entry → ℤ) (tasks : Tasks) (t : ℕ) (a b : Entry) → get tasks t ≡ Some a

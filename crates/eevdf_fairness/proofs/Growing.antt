@@ -10,7 +10,7 @@ use Rattle.eevdf_queue.specs.declared.answers.TickAnswer.TheVariants.{Charged, R
 use Rattle.eevdf_queue.specs.{Moves.fresh_entry, Moves.request_of, Moves.is_entry_in_range}
 use Rattle.eevdf_queue.specs.Tick.{aged, is_used_up, charged, tick, tick_to, tick_entry, tick_running}
 use Rattle.eevdf_fairness.specs.Turns.{Turn, turn_length, after_ticks}
-use Rattle.eevdf_fairness.proofs.Scaled.{le_then}
+use Rattle.eevdf_fairness.proofs.Inequalities.{le_then}
 
 -- the entry after ticks of so many nanoseconds in all
 pub record Grown (e : Entry) (ns : ℕ) (f : Entry) : Type 0 where

@@ -6,11 +6,12 @@ use Rattle.std.proofs.{lemmas.Int.ints, lemmas.Int.by_lt_z, Math.Nat.mul-le-mul_
 use Rattle.eevdf_weight.specs.{Weight.weight_of, Charge.charge_of}
 use Rattle.eevdf_queue.specs.{declared.entry.Entry.Entry, State.State, Laws.PickIsFirst, Laws.PickOfNobody}
 use Rattle.eevdf_queue.specs.Sums.{Tasks, total_weight, total_moment}
+use Rattle.eevdf_queue.proofs.Scaled.{scaled_le}
 use Rattle.eevdf_fairness.specs.{Turns.Turn, Turns.AreNoLonger, Turns.after_turns, Leavings.Step, Leavings.HaveNoLongerTurns, Leavings.after_steps, Fair.turns_of_others, Anywhere.NoneIsPast, Anywhere.HasPassedFront}
 use Rattle.eevdf_fairness.specs.Healing.{HasCaughtUp, TurnsHeal, HealedTurnsGiveShares, LeavingsHeal}
 use Rattle.eevdf_fairness.specs.Tallies.{cpu_time, cpu_rounding}
 use Rattle.eevdf_fairness.proofs.Rules.{IsWithin, IsLittleAhead, Keeps, rule_of, settled, After, keeps_after, Everyone, Nobody, Nothing, keeps_nothing, Short, keeps_short, anywhere_within}
-use Rattle.eevdf_fairness.proofs.{Scaled.scaled_le, EntrySums.no_heavier, Passing.turns_passed, Steps.turns_within, Steps.steps_within}
+use Rattle.eevdf_fairness.proofs.{EntrySums.no_heavier, Passing.turns_passed, Steps.turns_within, Steps.steps_within}
 use Rattle.eevdf_fairness.proofs.{Bounds.ahead_now, Bounds.punctual_now, Owed.owed, Fairness.healed, Shares.share_of}
 
 -- ---- once the virtual time has passed the front, no deadline lies before that

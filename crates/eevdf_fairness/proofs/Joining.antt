@@ -7,8 +7,9 @@ use Rattle.eevdf_weight.specs.{Weight.weight_of, Placement.floor_div, Placement.
 use Rattle.eevdf_queue.specs.{declared.entry.Entry.Entry, State.State, declared.sleeper.Sleeper.Sleeper, Placing.placement}
 use Rattle.eevdf_queue.specs.{Moves.fresh_entry, Moves.is_entry_in_range, Moves.with_runnable}
 use Rattle.eevdf_queue.specs.Sums.{Tasks, total_weight, total_moment, virtual_time}
+use Rattle.eevdf_queue.proofs.Scaled.{sum_scaled, scaled_sum, scaled_twice, difference_scaled, scaled_le}
 use Rattle.eevdf_fairness.specs.Joining.{Joins, lag_limit, IsNear, JoinIsNear, JoinIsLittleLater}
-use Rattle.eevdf_fairness.proofs.{Scaled.sum_scaled, Scaled.scaled_sum, Scaled.scaled_twice, Scaled.difference_scaled, Scaled.scaled_le, Growing.get_here}
+use Rattle.eevdf_fairness.proofs.Growing.{get_here}
 use Rattle.eevdf_fairness.proofs.Removing.{weight_added, moment_added}
 
 -- a quotient that is rounded down

@@ -1,4 +1,4 @@
-pub mod Scaled
+pub mod Inequalities
 pub mod EntrySums
 pub mod Growing
 pub mod Removing

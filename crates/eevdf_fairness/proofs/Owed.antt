@@ -6,8 +6,9 @@ use Rattle.std.proofs.lemmas.Int.{ints}
 use Rattle.eevdf_weight.specs.{Weight.weight_of, Charge.charge_of}
 use Rattle.eevdf_queue.specs.declared.entry.Entry.{Entry}
 use Rattle.eevdf_queue.specs.Sums.{Tasks, sum_weights, sum_moments, total_weight, total_moment}
+use Rattle.eevdf_queue.proofs.Scaled.{sum_scaled, scaled_sum, scaled_twice, scaled_le}
 use Rattle.eevdf_fairness.specs.Fair.{IsOwedOnlyTurns, weight_of_others}
-use Rattle.eevdf_fairness.proofs.{Scaled.sum_scaled, Scaled.scaled_sum, Scaled.scaled_twice, Scaled.scaled_le, Scaled.fewer, EntrySums.each, EntrySums.sum_of}
+use Rattle.eevdf_fairness.proofs.{Inequalities.fewer, EntrySums.each, EntrySums.sum_of}
 use Rattle.eevdf_fairness.proofs.{EntrySums.one_of, EntrySums.no_heavier, Growing.rounded_down, Rules.IsLittleAhead, Turning.crossed}
 
 -- what is left of the most that a task can be ahead

@@ -10,10 +10,11 @@ use Rattle.eevdf_queue.specs.{declared.entry.Entry.Entry, declared.answers.TickA
 use Rattle.eevdf_queue.specs.declared.answers.TickAnswer.TheVariants.{Charged, Range}
 use Rattle.eevdf_queue.specs.{Moves.is_entry_in_range, Moves.fresh_entry, Sums.Tasks, Sums.total_weight, Sums.total_moment, Pick.pick_of, Pick.picked_by, Pick.after_pick}
 use Rattle.eevdf_queue.specs.Tick.{aged, is_used_up, charged, tick, tick_entry, tick_running}
+use Rattle.eevdf_queue.proofs.Scaled.{sum_scaled}
 use Rattle.eevdf_fairness.specs.{Keeping.IsStillThere, Keeping.TurnsKeepTasks, Share.most_lost, Share.NoneLosesMore}
 use Rattle.eevdf_fairness.specs.Turns.{Turn, after_ticks, after_turn, after_turns}
 use Rattle.eevdf_fairness.specs.Tallies.{over_ticks, over_turns, if_charged, if_charged_to, remainder, remainder_of}
-use Rattle.eevdf_fairness.proofs.{Scaled.sum_scaled, EntrySums.sum_over, EntrySums.sum_insert, EntrySums.weight, EntrySums.moment, EntrySums.weights, EntrySums.moments}
+use Rattle.eevdf_fairness.proofs.EntrySums.{sum_over, sum_insert, weight, moment, weights, moments}
 use Rattle.eevdf_fairness.proofs.Growing.{get_here, found_after}
 
 -- the entry that a task has now: it was charged for so much time, less what rounding took, in so many charges

@@ -6,8 +6,9 @@ use Rattle.std.proofs.lemmas.Int.{ints}
 use Rattle.eevdf_weight.specs.{Weight.weight_of, Charge.charge_of}
 use Rattle.eevdf_queue.specs.declared.entry.Entry.{Entry}
 use Rattle.eevdf_queue.specs.Sums.{Tasks, sum_weights, sum_moments, total_weight, total_moment}
+use Rattle.eevdf_queue.proofs.Scaled.{sum_scaled, scaled_sum, scaled_le}
 use Rattle.eevdf_fairness.specs.Fair.{NoneIsFarPast}
-use Rattle.eevdf_fairness.proofs.{Scaled.sum_scaled, Scaled.scaled_sum, Scaled.scaled_le, EntrySums.each, EntrySums.sum_of, EntrySums.one_of}
+use Rattle.eevdf_fairness.proofs.EntrySums.{each, sum_of, one_of}
 use Rattle.eevdf_fairness.proofs.Growing.{rounded_down}
 
 -- what is left of a turn, in weight times virtual time, that a task may be past a time

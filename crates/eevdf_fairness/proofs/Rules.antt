@@ -6,8 +6,9 @@ use Rattle.std.proofs.{lemmas.Int.ints, Math.Nat.mul-le-mul_right}
 use Rattle.eevdf_weight.specs.{Weight.weight_of, Charge.charge_of}
 use Rattle.eevdf_queue.specs.{declared.entry.Entry.Entry, Moves.request_of}
 use Rattle.eevdf_queue.specs.Sums.{Tasks, sum_weights, sum_moments, total_weight, total_moment}
+use Rattle.eevdf_queue.proofs.Scaled.{scaled_sum}
 use Rattle.eevdf_fairness.specs.{Turns.IsFresh, Anywhere.NoneIsPast, Fair.NoneIsFarPast, Healing.HasNotYielded}
-use Rattle.eevdf_fairness.proofs.Scaled.{scaled_sum, le_then}
+use Rattle.eevdf_fairness.proofs.Inequalities.{le_then}
 use Rattle.eevdf_fairness.proofs.EntrySums.{Each, each, no_heavier}
 use Rattle.eevdf_fairness.proofs.Growing.{Grown}
 

@@ -8,7 +8,8 @@ use Rattle.eevdf_weight.specs.{Weight.weight_of, Charge.charge_of}
 use Rattle.eevdf_weight.proofs.Weighing.{weight_of-least}
 use Rattle.eevdf_queue.specs.{declared.entry.Entry.Entry, Sums.Tasks, Sums.total_weight, Sums.total_moment}
 use Rattle.eevdf_queue.specs.Pick.{Eligible, IsNoLater, is_eligible}
-use Rattle.eevdf_fairness.proofs.Scaled.{sum_scaled, scaled_le, le_then}
+use Rattle.eevdf_queue.proofs.Scaled.{sum_scaled, scaled_le}
+use Rattle.eevdf_fairness.proofs.Inequalities.{le_then}
 use Rattle.eevdf_fairness.proofs.EntrySums.{sum_over, sum_insert, weight, moment, weights, moments, no_heavier}
 use Rattle.eevdf_fairness.proofs.{Growing.Grown, Growing.found_after, Growing.found_at_after, Rules.Rule, Rules.IsWithin, Rules.IsLittleAhead, Rules.NoneIsPastBy}
 

@@ -5,11 +5,11 @@ use Rattle.std.proofs.lemmas.Int.{ints}
 use Rattle.eevdf_weight.specs.Placement.{floor_div}
 use Rattle.eevdf_queue.proofs.Scaled.{sum_scaled, scaled_le}
 
-not_above : (z : ℤ) (n : ℕ) → 1 ≤ n → (floor_div z n *ℤ pos n) ≤ℤ z
+pub not_above : (z : ℤ) (n : ℕ) → 1 ≤ n → (floor_div z n *ℤ pos n) ≤ℤ z
 not_above (pos a) n h = omega (arith, ints)
 not_above (negsuc a) n h = omega (arith, ints)
 
-below_next : (z : ℤ) (n : ℕ) → 1 ≤ n → z <ℤ ((floor_div z n *ℤ pos n) +ℤ pos n)
+pub below_next : (z : ℤ) (n : ℕ) → 1 ≤ n → z <ℤ ((floor_div z n *ℤ pos n) +ℤ pos n)
 below_next (pos a) n h = omega (arith, ints)
 below_next (negsuc a) n h = omega (arith, ints)
 

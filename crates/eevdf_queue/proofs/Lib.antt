@@ -2,9 +2,9 @@ mod Bounds
 mod Roomy
 mod MapFolds
 mod ListMaps
-mod SortedEntries
+pub mod SortedEntries
 mod AllTasks
-mod Foremost
+pub mod Foremost
 mod Earliest
 mod RunnableMaps
 mod TreeLeasts
@@ -20,7 +20,7 @@ mod TreeSorted
 mod AsleepMaps
 mod Sound
 mod Picking
-mod Scaled
+pub mod Scaled
 mod Signed
 mod Mean
 mod SomeEligible
@@ -47,7 +47,7 @@ mod ShortestTicks
 mod SliceChanging
 mod Closing
 mod AsleepCounts
-mod Floors
+pub mod Floors
 mod LoweredLists
 mod LoweredMaps
 mod LoweredQueues
