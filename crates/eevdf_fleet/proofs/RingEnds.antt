@@ -1,7 +1,7 @@
 -- The ends of the rings, where one of them moves on.
 use Rattle.std.proofs.Common.{◌≡◌, ℕ, zero, suc, ◌+◌, ◌<◌, ◌≤◌, min, List, [], ◌∷◌, ◌++◌, length, map, get_or, set, refl, sym, ap, ◌∙◌, arith, get_or-set_same}
 use Rattle.std.proofs.{Math.Seq.map-set_same, lemmas.Option.slice_get_read}
-use Rattle.std.proofs.lemmas.List.{length-map, map-set, get_or-map, set-get_or}
+use Rattle.std.proofs.lemmas.List.{length-map, map-set, get_or-map}
 use Rattle.std.specs.Prelude.{Option, Some, None, slice_get}
 use Rattle.std.specs.Option.{IsSomeAnd}
 use Rattle.rtrb.specs.Ring.{sent, known_free, producer_capacity, received, consumer_capacity, IsPair, SameConsumer, SameProducer, ProducerLooked}
@@ -126,13 +126,6 @@ pub none-fits : (capacity sender : ℕ) (es : List Pushing) (home : ℕ) → cap
 none-fits capacity sender [] home none = refl
 none-fits capacity sender (e ∷ es) zero none = omega (arith, none)
 none-fits capacity sender (e ∷ es) (suc home) none = none-fits capacity sender es home none
-
--- where nothing has changed, there is nothing new to know
-pub looked-none : (home : ℕ) (p : Posts) → HasLooked home p p
-looked-none home p = record {
-  posts = ap (λ (l : List ℕ). posts_of p.sender p.posted l) (sym (set-get_or p.free home 0));
-  free = omega arith;
-}
 
 -- the posts of a sender, one of whose ends has changed
 module _ (capacity sender : ℕ) (es : List Pushing) (k : ℕ) (e e' : Pushing) (within : k < length (map posted_into es)) (at : e ≡ get_or es k e) where

@@ -1,5 +1,5 @@
 -- How the rings are emptied, one pair after the other.
-use Rattle.std.proofs.Common.{◌≡◌, ◌≢◌, ℕ, zero, suc, ◌+◌, ◌*◌, ◌/◌, ◌%◌, ◌<◌, ◌≤◌, ◌⊎◌, inl, inr, ⊎_elim, List, [], ◌∷◌, ◌++◌, length, map, get_or, set, append_assoc, refl, sym, ap, subst, ◌∙◌, arith, get_or-set_same, get_or-set_other}
+use Rattle.std.proofs.Common.{◌≡◌, ◌≢◌, ℕ, zero, suc, ◌+◌, ◌*◌, ◌/◌, ◌%◌, ◌<◌, ◌≤◌, ◌⊎◌, inl, inr, ⊎_elim, List, [], ◌∷◌, ◌++◌, length, map, get_or, set, refl, sym, ap, subst, ◌∙◌, arith, get_or-set_same, get_or-set_other}
 use Rattle.std.proofs.lemmas.List.{get_or_default, length-set, length-map, map-set, set-get_or}
 use Rattle.std.proofs.{lemmas.Bool.cases_eq, lemmas.Option.slice_get_read}
 use Rattle.std.proofs.lemmas.Nat.{div-add-mod', div_below, div-mul-add, mod-mul-add, mul-add-lt}
@@ -204,12 +204,3 @@ all-left {capacity} {r} {now} {place} {left} h same_cpus all = record {
       ∙ ap (λ (x : List ℕ). x ++ get_or (lists_of left) (sender * r.cpus + home) [])
       (ap (λ (j : ℕ). taken_from (takes_at r j) ((sender * r.cpus + home) / r.cpus)) c ∙ ap (λ (q : ℕ). taken_from (takes_at r home) q) s);
 }
-
--- one task more is popped
-pub popped-more : (was got got' left left' : List ℕ) (task : ℕ) → got ≡ was ++ left → got' ≡ got ++ task ∷ [] → left' ≡ left ++ task ∷ [] → got' ≡ was ++ left'
-popped-more was got got' left left' task before more pushed =
-    let joined : (was ++ left) ++ (task ∷ []) ≡ was ++ (left ++ task ∷ []) = rw append_assoc in cc
-
-pub known-less : (all known known' left left' : List ℕ) (task : ℕ) → all ≡ left ++ known → known ≡ task ∷ known' → left' ≡ left ++ task ∷ [] → all ≡ left' ++ known'
-known-less all known known' left left' task before less pushed =
-    let joined : (left ++ task ∷ []) ++ known' ≡ left ++ (task ∷ known') = rw append_assoc in cc

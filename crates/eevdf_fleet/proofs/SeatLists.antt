@@ -6,14 +6,6 @@ use Rattle.std.specs.{List.range_with_len, Prelude.slice_get, Prelude.Some}
 use Rattle.eevdf_fleet.specs.{Fleets.AreSeats, Fleets.Parts, Fleets.Seat, Fleets.fresh, Fleets.fresh_parts, Fleets.fresh_seats, Fleets.seats_in, SeatWorks.AreDone}
 use Rattle.eevdf_fleet.proofs.RingPlaces.{got-read}
 
--- the first of the seats that are left, and the others
-pub next-seat : {X : Type 0} (f : ℕ → X) (k m n : ℕ) (xs rest : List X) (x : X) → xs ≡ map f (range_with_len k m) → xs ≡ x ∷ rest → n + 1 ≡ m
-    → (x ≡ f k) × (rest ≡ map f (range_with_len (k + 1) n))
-next-seat f k m n xs rest x is parted one =
-    let all : m ≡ suc n = omega arith in
-    let same : x ∷ rest ≡ f k ∷ map f (range_with_len (k + 1) n) = sym parted ∙ is ∙ ap (λ (j : ℕ). map f (range_with_len k j)) all in
-    (cc, cc)
-
 -- what holds at each place of a list, with one more
 pub each-pushed : {X : Type 0} (P : ℕ → X → Type 0) (n : ℕ) (xs ys : List X) (x : X) → ys ≡ xs ++ x ∷ [] → n ≡ length xs
     → ((k : ℕ) (d : X) → k < n → P k (get_or xs k d)) → P n x → (k : ℕ) (d : X) → k < n + 1 → P k (get_or ys k d)
