@@ -1,17 +1,17 @@
 -- Each step keeps the rule of the board.
-use Rattle.std.proofs.Common.{◌≡◌, ◌≢◌, ℕ, ◌+◌, ◌≤◌, List, [], ◌∷◌, ◌++◌, map, set, take, drop, refl, sym, ap, subst, ◌∙◌, ⊎_elim, arith}
+use Rattle.std.proofs.Common.{◌≡◌, ◌≢◌, ℕ, ◌+◌, List, [], ◌∷◌, ◌++◌, map, set, take, drop, refl, sym, subst, ◌∙◌, ⊎_elim, arith}
 use Rattle.std.specs.Prelude.{Option, Some, None, IfSome}
 use mathlib.Core.Option as option
 use lib.ListN.{get_elem?}
 use base.Growing.{prefix_refl}
-use Rattle.atomic_table.specs.Table.{Me, Step, step, keeps, Allows, Splits, Joins}
+use Rattle.atomic_table.specs.Table.{Step, step, keeps, Allows, Splits, Joins}
 use Rattle.atomic_table.proofs.Lists.{at_set, at_snoc, set_again, set_else}
-use Rattle.eevdf_ops.specs.{declared.deeds.Line.Line, Machine.Machine}
+use Rattle.eevdf_ops.specs.{declared.deeds.Line.Line}
 use Rattle.eevdf_fleet.specs.{declared.board.claims.Terms.Terms, declared.board.claims.Claim.Claim, declared.board.claims.View.View}
 use Rattle.eevdf_fleet.specs.declared.board.claims.Said.{Said}
 use Rattle.eevdf_fleet.specs.declared.board.claims.Claim.TheVariants.{Seat, Queue, Journal, Past}
-use Rattle.eevdf_fleet.specs.Claims.{Subject, times, told, homes, AllTell, Owes, advanced, knowing, nothing}
-use Rattle.eevdf_fleet.specs.Board.{ViewTells, IsOneHistory, Rule, Appended, HasAppended, HasLooked, Known, Looked, first_claims, joined, other_claims, recalled, shared, shared_claims}
+use Rattle.eevdf_fleet.specs.Claims.{Subject, times, told, AllTell, Owes, advanced, knowing, nothing}
+use Rattle.eevdf_fleet.specs.Board.{ViewTells, IsOneHistory, Rule, Appended, HasAppended, Known, Looked, first_claims, joined, other_claims, recalled, shared, shared_claims}
 use Rattle.eevdf_fleet.proofs.ClaimsTold.{all_advance, all_agree, all_stay, kept-more, suited, tell-append, tell-drop, tell-held, tell-take}
 use Rattle.eevdf_fleet.proofs.Totals.{total-set, total-append, times-append, times-at, times-two, times-advanced, times-parts, times-recalled, times-shared}
 

@@ -1,5 +1,5 @@
 -- Claims of a history, with one line more.
-use Rattle.std.proofs.Common.{◌≡◌, ℕ, zero, suc, ◌+◌, ◌<◌, ◌≤◌, Bool, true, false, cond, List, [], ◌∷◌, ◌++◌, length, map, take, drop, append-nil, eq-eqb, refl, sym, ap, subst, ◌∙◌, arith}
+use Rattle.std.proofs.Common.{◌≡◌, ℕ, zero, suc, ◌<◌, ◌≤◌, Bool, true, false, cond, List, [], ◌∷◌, ◌++◌, length, map, take, drop, append-nil, eq-eqb, refl, sym, ap, subst, ◌∙◌, arith}
 use Rattle.std.specs.{Prelude.◌==◌, Prelude.Option, Prelude.Some, Prelude.None, Prelude.IfSome, Prelude.is_some, List.list_all}
 use Rattle.std.proofs.{Math.ListN.length-append, lemmas.Bool.Decides.nat_tests, lemmas.List.append_assoc}
 use mathlib.Core.List.{IsPrefix}

@@ -1,16 +1,16 @@
 -- The queues that are gathered are those of the history.
-use Rattle.std.proofs.Common.{◌≡◌, ◌≢◌, ℕ, zero, suc, ◌+◌, ◌<◌, ◌≤◌, ◌⊎◌, Bool, true, false, List, [], ◌∷◌, ◌++◌, length, set, inl, inr, refl, sym, ap, subst, ◌∙◌, arith}
-use Rattle.std.specs.Prelude.{◌==◌, All, Option, Some, None, IfSome, is_some}
+use Rattle.std.proofs.Common.{◌≡◌, ◌≢◌, ℕ, zero, suc, ◌+◌, ◌<◌, ◌≤◌, ◌⊎◌, Bool, true, false, List, [], ◌∷◌, length, set, inl, inr, refl, sym, ap, subst, ◌∙◌, arith}
+use Rattle.std.specs.Prelude.{◌==◌, Option, Some, None, IfSome, is_some}
 use Rattle.std.specs.{declared.alloc.Global.Global, declared.vec.Vec.Vec}
 use Rattle.std.proofs.lemmas.List.{get_or_past, get_or-set_same, get_or-set_other}
 use Rattle.std.proofs.lemmas.Bool.Decides.{nat_tests}
-use Rattle.eevdf_queue.specs.State.{State, View, empty_state}
+use Rattle.eevdf_queue.specs.State.{View, empty_state}
 use Rattle.eevdf_ops.specs.{declared.deeds.Line.Line, Machine.Machine, Machine.queue_at, Outcome.machine_of, Setup.cpus_of}
 use Rattle.eevdf_ops.proofs.{Machines.length-machine_of, Machines.machine_with, PartsProofs.same_machine}
 use Rattle.eevdf_fleet.specs.{declared.board.claims.Terms.Terms, declared.board.claims.Claim.Claim, Board.Known}
 use Rattle.eevdf_fleet.specs.declared.board.claims.Claim.TheVariants.{Seat, Queue, Journal, Past}
 use Rattle.eevdf_fleet.specs.Claims.{Subject, queue, once, here, times, told, AllTell}
-use Rattle.eevdf_fleet.specs.Closings.{AllPut, IsPut, is_queue, queue_count, with_journal}
+use Rattle.eevdf_fleet.specs.Closings.{AllPut, queue_count, with_journal}
 use Rattle.eevdf_fleet.proofs.Told.{length-told}
 use Rattle.eevdf_fleet.proofs.Sums.{sum_below, sum-less, sum-none, sum-once, sum-same}
 

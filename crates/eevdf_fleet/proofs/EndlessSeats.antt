@@ -1,14 +1,14 @@
 -- What is seen of a seat that keeps no history, from what is seen of its parts.
-use Rattle.std.proofs.Common.{◌≡◌, ℕ, zero, suc, ◌+◌, ◌<◌, ◌≤◌, List, [], ◌∷◌, ◌++◌, length, map, refl, sym, ap, subst, ◌∙◌}
-use Rattle.std.specs.Prelude.{All, Option, Some, None, slice_get, option_map}
+use Rattle.std.proofs.Common.{◌≡◌, ℕ, zero, suc, List, [], ◌∷◌, map, refl, sym, ap, subst, ◌∙◌}
+use Rattle.std.specs.Prelude.{Option, Some, None, slice_get, option_map}
 use mathlib.Core.List.{IsPrefix}
 use Rattle.std.proofs.lemmas.List.{length-map}
 use Rattle.std.proofs.lemmas.List.Elements.{All-map}
 use Rattle.std.proofs.lemmas.Option.{none-some, slice_get-map}
 use Rattle.eevdf_ops.specs.{declared.deeds.Answer.Answer, declared.deeds.Deed.Deed, declared.deeds.Line.Line}
-use Rattle.eevdf_ops.specs.{Machine.Machine, Outcome.machine_of, Programs.lines_by, Setup.cpus_of}
+use Rattle.eevdf_ops.specs.{Outcome.machine_of, Programs.lines_by, Setup.cpus_of}
 use Rattle.eevdf_fleet.specs.{declared.board.claims.Terms.Terms, declared.closing.ClosedQueues.ClosedQueues, declared.drains.Drained.Drained}
-use Rattle.eevdf_fleet.specs.{Claims.IsKept, Closings.AreClosed, Closings.IsOfLines, Drains.ArePartsDrained}
+use Rattle.eevdf_fleet.specs.{Claims.IsKept, Closings.AreClosed, Drains.ArePartsDrained}
 use Rattle.eevdf_fleet.specs.Fleets as fleets
 use Rattle.eevdf_fleet.specs.Fleets.{AreKnown, HasCommitted, IsRoomFor, Parts, PartsLooked, PartsSeeMore, seats_in}
 use Rattle.eevdf_fleet.specs.Endless.{AllPostsTold, AreOfOneHistory, AreSeats, HasDone, HasDrained, HasFound, HasPosted, HasSeen, HasSeenMore, IsOneThread, Seat, posted_to, seat_of_parts}

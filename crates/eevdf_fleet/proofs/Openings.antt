@@ -9,7 +9,7 @@ use Rattle.eevdf_fleet.specs.{declared.board.claims.Terms.Terms, declared.board.
 use Rattle.eevdf_fleet.specs.declared.board.claims.Claim.TheVariants.{Seat, Queue, Journal, Past}
 use Rattle.eevdf_fleet.specs.Claims.{Subject, seat, queue, journal, once, times, IsKept, claims_from}
 use Rattle.eevdf_fleet.specs.SeatLogs.{IsRecord, KnowsOwn, own_in, seen_in}
-use Rattle.eevdf_fleet.specs.Fleets.{AreParts, Parts, SeatLog, fresh_log, fresh_logs, fresh_parts, parts_of, quota_in, takes_by}
+use Rattle.eevdf_fleet.specs.Fleets.{AreParts, SeatLog, fresh_log, fresh_logs, fresh_parts, parts_of, quota_in, takes_by}
 use Rattle.eevdf_fleet.specs.Rings.{Posts, Takes, no_posts, no_takes}
 use Rattle.eevdf_fleet.proofs.Takes.{no-takes}
 use Rattle.std.specs.List.{range_with_len}

@@ -1,5 +1,5 @@
 use Rattle.std.proofs.Common.{◌≡◌, ◌<◌, ◌++◌, ℕ, List, ◌∷◌, length, set, sym, ap, subst, ◌∙◌, arith}
-use Rattle.eevdf_ops.specs.{declared.deeds.Line.Line, Setup.cpus_of}
+use Rattle.eevdf_ops.specs.{Setup.cpus_of}
 use Rattle.eevdf_fleet.specs.{declared.board.claims.Claim.Claim, declared.board.claims.Claim.TheVariants.Queue}
 use Rattle.eevdf_fleet.specs.{Board.Known, Board.claims_of, Claims.AllTell, Closings.AllPut, Closings.queue_count, Fleets.setup_of}
 use Rattle.eevdf_fleet.proofs.Closings.{none-put, put-more}

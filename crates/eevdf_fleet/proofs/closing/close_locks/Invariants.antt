@@ -1,4 +1,4 @@
-use Rattle.std.proofs.Common.{◌≡◌, ◌+◌, List, length, vec_len}
+use Rattle.std.proofs.Common.{◌≡◌, ◌+◌, List, vec_len}
 use Rattle.eevdf_ops.specs.{declared.deeds.Line.Line, Setup.cpus_of}
 use Rattle.eevdf_fleet.specs.{Board.IsToken, Board.Known, Board.claims_of, Claims.AllTell, Closings.AllPut, Closings.queue_count, Fleets.setup_of}
 use Rattle.eevdf_fleet.proofs.closing.close_locks.Given as goal

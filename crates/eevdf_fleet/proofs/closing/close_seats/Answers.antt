@@ -1,9 +1,9 @@
-use Rattle.std.proofs.Common.{◌≡◌, ◌<◌, ℕ, List, [], ◌∷◌, ◌++◌, length, ap, sym, subst, ◌∙◌, arith}
+use Rattle.std.proofs.Common.{◌≡◌, ◌<◌, ℕ, List, [], ◌∷◌, length, ap, sym, subst, ◌∙◌, arith}
 use Rattle.std.specs.Prelude.{All}
 use Rattle.std.proofs.{lemmas.List.length-map, lemmas.List.map-append, lemmas.List.map-id, lemmas.List.Elements.All-nil, lemmas.List.Elements.All-push}
 use Rattle.std.proofs.{lemmas.Iterator.Adapters.YieldsList-from_vec, lemmas.Iterator.Consumers.YieldsList-end, lemmas.Iterator.Consumers.YieldsList-turn}
-use Rattle.eevdf_ops.specs.{declared.deeds.Line.Line, Setup.cpus_of}
-use Rattle.eevdf_fleet.specs.{declared.board.claims.Claim.Claim, Board.claims_of, Claims.AllTell, Closings.IsOfLines, Closings.queue_count, Rings.Returned}
+use Rattle.eevdf_ops.specs.{Setup.cpus_of}
+use Rattle.eevdf_fleet.specs.{declared.board.claims.Claim.Claim, Claims.AllTell, Closings.IsOfLines, Closings.queue_count, Rings.Returned}
 use Rattle.eevdf_fleet.specs.Fleets.{Parts, Seat, posts_by, returned, seats_in, setup_of, taken_by}
 use Rattle.eevdf_fleet.proofs.PostsTold.{returned-more}
 use Rattle.eevdf_fleet.proofs.closing.close_seats.Goals as goal

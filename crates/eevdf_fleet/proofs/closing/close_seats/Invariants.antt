@@ -1,4 +1,4 @@
-use Rattle.std.proofs.Common.{◌≡◌, ℕ, List, [], length}
+use Rattle.std.proofs.Common.{◌≡◌, List, length}
 use Rattle.std.specs.Prelude.{All}
 use Rattle.eevdf_ops.specs.{declared.deeds.Line.Line, Setup.cpus_of}
 use Rattle.eevdf_fleet.specs.{Board.IsToken, Board.claims_of, Claims.AllTell, Closings.IsOfLines, Closings.queue_count}

@@ -2,7 +2,7 @@ use Rattle.std.proofs.Common.{◌≡◌, ◌<◌, ℕ, length, map, reverse, vec
 use Rattle.std.specs.List.{range_with_len}
 use Rattle.std.proofs.{lemmas.List.map-id, lemmas.List.FromFn.length-map-range_with_len, lemmas.Option.MatchOption-at_none}
 use Rattle.std.proofs.lemmas.Slice.Zip.{AllZip-map}
-use Rattle.eevdf_ops.specs.Setup.{cpus_of, homes_of}
+use Rattle.eevdf_ops.specs.Setup.{cpus_of}
 use Rattle.eevdf_fleet.specs.Fleets.{capacity_of, fresh_log, fresh_parts, quota_of, setup_of}
 use Rattle.eevdf_fleet.specs.Rings.{no_posts, no_takes}
 use Rattle.eevdf_fleet.proofs.Openings.{fresh-parts, fresh-seat, front-more, popped}

@@ -1,5 +1,4 @@
-use denote.Param.Send.{param_send, sendable}
-use Rattle.eevdf_fleet.proofs.seat_threads.run_in_threads.Lts as lts
+use denote.Param.Send.{sendable}
 use Rattle.std.proofs.Common.{◌≡◌, ◌+◌, ◌<◌, ℕ, length, get_or, vec_items, vec_len, ap, subst, sym, ◌∙◌, arith}
 use Rattle.std.proofs.lemmas.Option.{get_or_from_slice_get, slice_get-get_or, slice_get_within}
 use Rattle.std.specs.Vec.Iter.{into_iter_items, into_iter_len}

@@ -1,9 +1,9 @@
 use denote.Param.Send.{sendable}
-use Rattle.std.proofs.Common.{ℕ, ◌<◌, ◌≡◌, length, sym, ap, subst, ◌∙◌, arith}
+use Rattle.std.proofs.Common.{ℕ, ◌<◌, ◌≡◌, length, sym, ap, subst, arith}
 use Rattle.std.specs.Prelude.{Some, slice_get, vec_len}
 use Rattle.std.proofs.lemmas.List.FromFn.{length-map-range_with_len}
 use Rattle.eevdf_ops.specs.Setup.{cpus_of}
-use Rattle.eevdf_fleet.specs.{Fleets.AreSeats, Fleets.Kit, Fleets.Seat, Fleets.fresh, Fleets.quota_of, Fleets.setup_of, SeatWorks.AreDone, Turns.HasItsTurns, Turns.HasTurned}
+use Rattle.eevdf_fleet.specs.{Fleets.AreSeats, Fleets.Kit, Fleets.fresh, Fleets.quota_of, Fleets.setup_of, SeatWorks.AreDone, Turns.HasItsTurns, Turns.HasTurned}
 use Rattle.eevdf_fleet.proofs.Crossing.{fleet_sync, seat_send}
 use Rattle.eevdf_fleet.proofs.{SeatLists.by-places-at, SeatLists.done-seats, SeatTurns.turns-told}
 use Rattle.eevdf_fleet.proofs.turn_threads.run_on_fleet.Goals as goal

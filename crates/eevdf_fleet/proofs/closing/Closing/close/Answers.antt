@@ -1,10 +1,10 @@
-use Rattle.std.proofs.Common.{◌≡◌, ◌*◌, ℕ, List, length, map, sym, ap, subst, ◌∙◌, arith}
+use Rattle.std.proofs.Common.{◌≡◌, ◌*◌, List, length, map, sym, ap, subst, ◌∙◌}
 use Rattle.std.proofs.{lemmas.List.length-map, lemmas.List.Elements.All-map}
 use Rattle.std.specs.Prelude.{All}
-use Rattle.eevdf_ops.specs.{declared.deeds.Line.Line, Programs.lines_by, Setup.cpus_of}
-use Rattle.eevdf_fleet.specs.{declared.board.claims.Claim.Claim, Board.Known, Board.claims_of, Claims.AllTell}
-use Rattle.eevdf_fleet.specs.Closings.{AllPut, IsOfLines, queue_count, with_journal}
-use Rattle.eevdf_fleet.specs.{Rings.AreLeft, Rings.Returned, Fleets.AllPostsTold, Fleets.Parts, Fleets.Seat, Fleets.seats_in, Fleets.setup_of}
+use Rattle.eevdf_ops.specs.{declared.deeds.Line.Line, Setup.cpus_of}
+use Rattle.eevdf_fleet.specs.{declared.board.claims.Claim.Claim, Board.Known, Board.claims_of}
+use Rattle.eevdf_fleet.specs.Closings.{IsOfLines, with_journal}
+use Rattle.eevdf_fleet.specs.{Rings.AreLeft, Rings.Returned, Fleets.Parts, Fleets.Seat, Fleets.seats_in, Fleets.setup_of}
 use Rattle.eevdf_fleet.proofs.{Closings.journal-has, Closings.whole-machine, Closings.without-journal, PostsTold.all-told, PostsTold.each-of, PostsTold.seats-returned}
 use Rattle.eevdf_fleet.proofs.closing.Closing.close.Goals as goal
 use Rattle.eevdf_fleet.proofs.closing.Closing.close.Goals.{After-look}

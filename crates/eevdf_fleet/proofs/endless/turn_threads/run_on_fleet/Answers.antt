@@ -1,9 +1,9 @@
 use denote.Param.Send.{sendable}
-use Rattle.std.proofs.Common.{◌≡◌, ℕ, List, length, map, ap, subst, sym, ◌∙◌, arith}
+use Rattle.std.proofs.Common.{◌≡◌, length, map, ap, subst, sym, ◌∙◌, arith}
 use Rattle.std.specs.Prelude.{Some, slice_get, vec_len}
 use Rattle.std.proofs.lemmas.List.FromFn.{length-map-range_with_len}
 use Rattle.eevdf_ops.specs.{Outcome.machine_of, Setup.cpus_of}
-use Rattle.eevdf_fleet.specs.{Endless.AreSeats, Endless.Seat, Endless.fresh, EndlessTurns.HasTurned, EndlessTurns.HaveTurned, Fleets.Kit, Fleets.setup_of, SeatWorks.AreDone}
+use Rattle.eevdf_fleet.specs.{Endless.fresh, EndlessTurns.HaveTurned, Fleets.Kit, Fleets.setup_of}
 use Rattle.eevdf_fleet.proofs.Crossing.{endless_seat_send, endless_fleet_sync}
 use Rattle.eevdf_fleet.proofs.SeatLists.{by-places-at}
 use Rattle.eevdf_fleet.proofs.endless.turn_threads.run_on_fleet.Goals as goal

@@ -4,7 +4,7 @@ use Rattle.eevdf_ops.specs.declared.deeds.Op.{Op}
 use Rattle.eevdf_ops.specs.Setup.{cpus_of, home_of, homes_of}
 use Rattle.eevdf_fleet.specs.Fleets.{HasPosted, Seat, setup_of, with_post}
 use Rattle.eevdf_fleet.specs.ProgramRuns.{HasOperated}
-use Rattle.eevdf_fleet.proofs.ProgramOperations.{post-done, posts-a-task, posts-known}
+use Rattle.eevdf_fleet.proofs.ProgramOperations.{post-done, posts-known}
 use Rattle.eevdf_fleet.proofs.fleet.Fleet.run_operation.Goals as goal
 
 pub returns-in-Post : goal.returns-in-Post

@@ -1,6 +1,6 @@
-use Rattle.std.proofs.Common.{◌≡◌, ◌≤◌, ℕ, ap, subst, ◌∙◌}
+use Rattle.std.proofs.Common.{◌≡◌, ◌≤◌, ap, subst, ◌∙◌}
 use Rattle.eevdf_ops.specs.{Places.AreCpus, Setup.cpus_of, Setup.homes_of}
-use Rattle.eevdf_fleet.specs.{declared.board.claims.Terms.Terms, Fleets.Kit, Fleets.fresh_logs, Fleets.setup_of}
+use Rattle.eevdf_fleet.specs.{declared.board.claims.Terms.Terms, Fleets.Kit, Fleets.setup_of}
 use Rattle.eevdf_fleet.proofs.run_queues.RunQueues.with_room.Goals as goal
 
 pub invariant_of-queues : goal.invariant_of-queues

@@ -1,4 +1,4 @@
-use Rattle.std.proofs.Common.{sym, ap, subst, ◌∙◌}
+use Rattle.std.proofs.Common.{subst}
 use Rattle.eevdf_fleet.specs.Endless.{HasDone, Seat, seat_of_parts}
 use Rattle.eevdf_fleet.specs.Fleets.{setup_of}
 use Rattle.eevdf_fleet.proofs.EndlessSeats.{any-room, has-done}

@@ -1,4 +1,4 @@
-use Rattle.std.proofs.Common.{ℕ, suc, sym, ap, subst, ◌∙◌, true, false}
+use Rattle.std.proofs.Common.{suc, sym, ap, subst, ◌∙◌, true, false}
 use Rattle.eevdf_fleet.specs.{Endless.Seat, EndlessTurns.HasTurned}
 use Rattle.eevdf_fleet.proofs.endless.turn_threads.TurnsSeatWorkSeat.work.Goals as goal
 
