@@ -3,10 +3,10 @@ use Rattle.std.proofs.Common.{◌≡◌, ℕ, zero, suc, ◌+◌, ◌-◌, ◌�
 use Rattle.std.specs.Prelude.{ℤ, map, is_some, ◌↔◌, IsNone}
 use Rattle.std.specs.{Ordering.nat_cmp, Cmp.nat_cmp_total}
 use Rattle.std.specs.FinMap.{FinMap, empty, get, remove, len, entries, find, contains_key, get-empty, get-entries, len-remove, len-entries, empty_of_len}
-use Rattle.eevdf_queue.specs.{declared.entry.Entry.Entry, State.State, State.Sleeper, State.Contents, Ascending.from_number, Ascending.with_lag, Ascending.sleeping_tasks}
+use Rattle.eevdf_queue.specs.{declared.entry.Entry.Entry, State.State, State.Sleeper, State.Contents, Ascending.with_lag, Ascending.sleeping_tasks}
 use Rattle.eevdf_queue.specs.Leaving.{leave, without_entry, leave_asleep, without_sleeper}
-use Rattle.eevdf_queue.specs.Closing.{first_number, task_count}
-use Rattle.eevdf_queue.proofs.{Ascending.from_start, Foremost.head}
+use Rattle.eevdf_queue.specs.Closing.{task_count}
+use Rattle.eevdf_queue.proofs.{Foremost.head}
 
 module _ {X : Type 0} (m : FinMap nat_cmp X) where
   some_of : (t n : ℕ) → len m ≡ n → contains_key m t ≡ true → 1 ≤ len m
@@ -40,27 +40,22 @@ fewer_asleep_by q r t (Some x) e h is =
 pub fewer_asleep : (q r : State) (t : ℕ) → contains_key q.asleep t ≡ true → r ≡ leave_asleep q t → task_count q ≡ suc (task_count r)
 fewer_asleep q r t h is = fewer_asleep_by q r t (get q.asleep t) refl h is
 
--- the sleeping task of lowest number
-pub first_is : (q : State) (f : ℕ × ℤ) (rest : List (ℕ × ℤ)) → map with_lag (from_number 0 (entries q.asleep)) ≡ f ∷ rest → first_number (sleeping_tasks q) ≡ Some f.0
-first_is q f rest h =
-    ap (λ (es : List (ℕ × Sleeper)). first_number (map with_lag es)) (sym (from_start (entries q.asleep))) ∙ ap first_number h
-
 there_by : (es : List (ℕ × Sleeper)) (f : ℕ × ℤ) (rest : List (ℕ × ℤ)) → map with_lag es ≡ f ∷ rest → is_some (find nat_cmp f.0 es) ≡ true
 there_by [] f rest h = cc
 there_by (e ∷ es) f rest h =
     let same : with_lag e ≡ f = cc in
     subst (λ (n : ℕ). is_some (find nat_cmp n (e ∷ es)) ≡ true) (ap (λ (z : ℕ × ℤ). z.0) same) (ap is_some (head e es))
 
-pub first_there : (q : State) (f : ℕ × ℤ) (rest : List (ℕ × ℤ)) → map with_lag (from_number 0 (entries q.asleep)) ≡ f ∷ rest → contains_key q.asleep f.0 ≡ true
-first_there q f rest h =
-    ap is_some (get-entries q.asleep f.0)
-    ∙ there_by (entries q.asleep) f rest (ap (map with_lag) (sym (from_start (entries q.asleep))) ∙ h)
+-- the sleeping task of lowest number
+pub first_there : (q : State) (f : ℕ × ℤ) (rest : List (ℕ × ℤ)) → sleeping_tasks q ≡ f ∷ rest → contains_key q.asleep f.0 ≡ true
+first_there q f rest h = ap is_some (get-entries q.asleep f.0) ∙ there_by (entries q.asleep) f rest h
 
-pub none_first : (q : State) → from_number 0 (entries q.asleep) ≡ [] → first_number (sleeping_tasks q) ≡ None
-none_first q h = ap (λ (es : List (ℕ × Sleeper)). first_number (map with_lag es)) (sym (from_start (entries q.asleep)) ∙ h)
+none_in : (es : List (ℕ × Sleeper)) → map with_lag es ≡ [] → length es ≡ 0
+none_in [] h = refl
+none_in (e ∷ es) h = cc
 
-pub none_asleep : (q : State) → from_number 0 (entries q.asleep) ≡ [] → q.asleep ≡ empty
-none_asleep q h = empty_of_len q.asleep (len-entries q.asleep ∙ ap length (sym (from_start (entries q.asleep)) ∙ h))
+pub none_asleep : (q : State) → sleeping_tasks q ≡ [] → q.asleep ≡ empty
+none_asleep q h = empty_of_len q.asleep (len-entries q.asleep ∙ none_in (entries q.asleep) h)
 
 -- no parcel comes exactly where none sleeps
 pub none_where : (q : State) (t : ℕ) (r : Option Contents) → contains_key q.asleep t ≡ true → IsNone r ↔ (contains_key q.asleep t ≡ false) → IsNone r ↔ (q.asleep ≡ empty)

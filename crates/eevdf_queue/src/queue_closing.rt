@@ -41,7 +41,7 @@ impl Queue {
             (λ _. closing.task_count self.old.state ≡ suc (closing.task_count self.new.state)) }
         ensures turns { self.new.turns ≡ self.old.turns }
     {
-        let Some(first) = self.asleep_from(0) else {
+        let Some(first) = self.sleeping_tasks().next() else {
             return None;
         };
         self.detach_asleep(first.0)
