@@ -15,7 +15,7 @@ deeds-lines_of : (homes : List ℕ) (m : Machine) (ds : List Deed) → deeds_of 
 deeds-lines_of homes m [] = refl
 deeds-lines_of homes m (d ∷ ds) = ap (λ (es : List Deed). d ∷ es) (deeds-lines_of homes (whole homes d m).1 ds)
 
-done : (homes : List ℕ) (m : Machine) (ds : List Deed) (o : Outcome) → o.lines ≡ lines_of homes m ds → machine_of o.queues ≡ machine_after homes m ds → IsOneThread homes m ds o
+pub done : (homes : List ℕ) (m : Machine) (ds : List Deed) (o : Outcome) → o.lines ≡ lines_of homes m ds → machine_of o.queues ≡ machine_after homes m ds → IsOneThread homes m ds o
 done homes m ds o lines machine = record {
   deeds_are = ap deeds_of lines ∙ deeds-lines_of homes m ds;
   lines = lines;

@@ -1,28 +1,16 @@
 -- From what a script, an order and a run come to, to the outcome that is drawn.
-use Rattle.std.proofs.Common.{◌≡◌, ℕ, true, List, [], ◌∷◌, refl, sym, ap, subst, ◌∙◌}
+use Rattle.std.proofs.Common.{◌≡◌, ℕ, true, List, sym, ap, subst, ◌∙◌}
 use Rattle.std.specs.List.{list_all}
 use Rattle.std.specs.Prelude.{Some}
-use Rattle.eevdf_ops.specs.{declared.deeds.Deed.Deed, Followed.FollowsPrograms, Histories.IsOneThread, Machine.Machine, Machine.start}
+use Rattle.eevdf_ops.specs.{declared.deeds.Deed.Deed, Followed.FollowsPrograms, Histories.IsOneThread, Machine.start}
 use Rattle.eevdf_ops.specs.{Outcome.Outcome, Outcome.machine_of, OwnRequests.TakesOwnRequests, Programs.deeds_of}
 use Rattle.eevdf_ops.specs.Setup.{Setup, allows, homes_of}
-use Rattle.eevdf_ops.specs.Whole.{lines_of, machine_after, whole}
+use Rattle.eevdf_ops.specs.Whole.{lines_of, machine_after}
 use Rattle.eevdf_steps.specs.{Commits.deeds_committed, Orders.IsWhole, Orders.counters_at_start, Plan.plan_of}
 use Rattle.eevdf_bench.specs.declared.command.Kind.TheVariants.{Solo, Replay, Run}
-use Rattle.eevdf_bench.proofs.OwnDeeds.{own_deeds}
+use Rattle.eevdf_bench.proofs.{OwnDeeds.own_deeds, SoloAnswers.done}
 use Rattle.eevdf_workload.specs.Meaning.{Workload}
 use Rattle.eevdf_timeline.specs.Histories.{IsOutcomeOf}
-
--- the lines of a list of deeds have these deeds
-deeds-lines_of : (homes : List ℕ) (m : Machine) (ds : List Deed) → deeds_of (lines_of homes m ds) ≡ ds
-deeds-lines_of homes m [] = refl
-deeds-lines_of homes m (d ∷ ds) = ap (λ (es : List Deed). d ∷ es) (deeds-lines_of homes (whole homes d m).1 ds)
-
-done : (homes : List ℕ) (m : Machine) (ds : List Deed) (o : Outcome) → o.lines ≡ lines_of homes m ds → machine_of o.queues ≡ machine_after homes m ds → IsOneThread homes m ds o
-done homes m ds o lines machine = record {
-  deeds_are = ap deeds_of lines ∙ deeds-lines_of homes m ds;
-  lines = lines;
-  machine = machine;
-}
 
 -- of the workload's setup, under whichever name
 of_setup : (w : Workload) (s : Setup) (ds : List Deed) (o : Outcome) → s ≡ w.setup → IsOneThread (homes_of s) (start s) ds o → IsOneThread (homes_of w.setup) (start w.setup) (deeds_of o.lines) o
