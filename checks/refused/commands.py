@@ -1,6 +1,8 @@
 """The built programs `eevdf` and `eevdf_orders`: what they print when a request is refused."""
 
+import tomllib
 from dataclasses import dataclass
+from math import ceil
 
 from runner import Printed, stored
 from sweep import first_of, sweep
@@ -61,6 +63,8 @@ class Case:
     workload: object
     reports: list
     faults: list
+    # how many requests for memory it makes then
+    memory: int = 0
 
     def __str__(self):
         return " ".join([self.name, *self.words, "<", self.workload.name])
@@ -80,17 +84,22 @@ class Case:
     def reports_success(self):
         return all(report.status == 0 for report in self.reports)
 
-    def kinds_asked(self):
-        """The kinds of request that the program makes, so that each sweep of these has to meet one."""
-        kinds = ["memory"]
-        # words that the program doesn't know have status 2, and nothing is read then
-        if all(report.status != 2 for report in self.reports):
-            kinds.append("reads")
-        if self.reports_success():
-            kinds.append("writes")
-            if self.words[:1] == ["run"]:
-                kinds.append("threads")
-        return kinds
+    def requests(self):
+        """How many requests of each kind the program makes where nothing is refused, from the least number to the greatest. Where its
+        threads may come in another order, its report is longer or shorter, and it may ask for memory once more or less."""
+        text = self.workload.read_bytes()
+        orders = len(self.reports) - 1
+        is_run = self.words[:1] == ["run"] and self.reports_success()
+        threads = len(tomllib.loads(text.decode())["program"]) if is_run else 0
+        # the last read finds the end; words that the program doesn't know have status 2, and nothing is read then
+        reads = ceil(len(text) / SHORT_READ) + 1 if all(report.status != 2 for report in self.reports) else 0
+        writes = [ceil(len(report.out) / SHORT_WRITE) for report in self.reports]
+        return {
+            "memory": (self.memory - orders, self.memory + orders),
+            "threads": (threads, threads),
+            "reads": (reads, reads),
+            "writes": (min(writes), max(writes)),
+        }
 
 
 def open_case(refusals, name, words, workload):
@@ -106,6 +115,8 @@ def open_case(refusals, name, words, workload):
         case.reports = [ample.printed]
     if ample.counts is None or ample.counts.memory == 0 or ample.printed.status not in (0, 1, 2):
         case.faults.append(f"{case}: nothing refused: {ample.printed}, {ample.counts}")
+    else:
+        case.memory = ample.counts.memory
     return case
 
 
@@ -148,10 +159,13 @@ def sweep_all(case, pool):
 
 
 def look_at_met(case, met):
-    """Each sweep has to meet a request where the program makes any of its kind."""
-    for sweep_name in SWEEPS:
-        if sweep_name.removesuffix("..") in case.kinds_asked() and not met.get(sweep_name):
-            case.faults.append(f"{case}: the sweep of {sweep_name} met no request")
+    """Each sweep has to meet each request that the program makes."""
+    requests = case.requests()
+    for sweep_name, count in met.items():
+        least, most = requests[sweep_name.removesuffix("..")]
+        if not least <= count <= most:
+            wanted = least if least == most else f"{least} to {most}"
+            case.faults.append(f"{case}: the sweep of {sweep_name} met {count} requests, and not {wanted}")
 
 
 def check(checks, refusals, pool, workloads):

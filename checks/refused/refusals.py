@@ -21,12 +21,13 @@ class Write:
 
 @dataclass(frozen=True)
 class Counts:
-    """How many requests of each kind a run made, refused ones too."""
+    """How many requests of each kind a run made, refused ones too, and how many requests for memory were refused."""
 
     memory: int
     threads: int
     reads: int
     writes: int
+    refused: int
 
 
 @dataclass(frozen=True)

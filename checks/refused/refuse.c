@@ -3,6 +3,8 @@
 //
 //   REFUSE_MEMORY=N       the N-th request for memory
 //   REFUSE_MEMORY_FROM=N  the N-th request for memory, and each one after it
+//   REFUSE_CALL=K         with REFUSE_MEMORY=N, the N-th request between the K-th call and the next. A write to standard
+//                         output that begins with "== " says a call
 //   REFUSE_THREAD=N       the N-th thread
 //   REFUSE_READ=N         the N-th read of standard input
 //   REFUSE_WRITE=N        the N-th write to standard output or standard error
@@ -12,7 +14,8 @@
 //   COUNTS=FILE           where the counts are written
 //
 // The file has a line 'at FD BYTES MEMORY' for each write that succeeded: where it went, how many bytes it took, and how
-// many requests for memory came before it. The last line is 'end MEMORY THREADS READS WRITES'.
+// many requests for memory came before it. The last line is 'end MEMORY THREADS READS WRITES REFUSED', where REFUSED is
+// how many of the requests for memory were refused.
 
 #define _GNU_SOURCE
 #include <dlfcn.h>
@@ -34,13 +37,15 @@ extern void *__libc_realloc(void *block, size_t size);
 extern void *__libc_memalign(size_t alignment, size_t size);
 
 struct limits {
-  unsigned long memory, memory_from, thread, read, write, write_from, short_read, short_write;
+  unsigned long memory, memory_from, call, thread, read, write, write_from, short_read, short_write;
 };
 
 static struct limits limits;
 static int counts = -1;
 static atomic_bool counting;
-static atomic_ulong memory, threads, reads, writes;
+static atomic_ulong memory, threads, reads, writes, refused;
+// the calls said so far, and the requests for memory since the last of them
+static atomic_ulong calls, since;
 static int (*start_thread)(pthread_t *, const pthread_attr_t *, void *(*)(void *), void *);
 
 static unsigned long number(const char *name) {
@@ -64,6 +69,7 @@ __attribute__((constructor)) static void begin(void) {
   limits = (struct limits){
       .memory = number("REFUSE_MEMORY"),
       .memory_from = number("REFUSE_MEMORY_FROM"),
+      .call = number("REFUSE_CALL"),
       .thread = number("REFUSE_THREAD"),
       .read = number("REFUSE_READ"),
       .write = number("REFUSE_WRITE"),
@@ -79,7 +85,8 @@ __attribute__((constructor)) static void begin(void) {
 // Where the program ends, which it does by a return of main or by _exit.
 __attribute__((destructor)) static void end(void) {
   if (!atomic_exchange(&counting, 0)) return;
-  tell("end %lu %lu %lu %lu\n", atomic_load(&memory), atomic_load(&threads), atomic_load(&reads), atomic_load(&writes));
+  tell("end %lu %lu %lu %lu %lu\n", atomic_load(&memory), atomic_load(&threads), atomic_load(&reads), atomic_load(&writes),
+       atomic_load(&refused));
 }
 
 // Whether the request of this number is the one that is refused, or comes after the first that is.
@@ -96,7 +103,10 @@ void _exit(int status) {
 static int no_memory(void) {
   if (!atomic_load(&counting)) return 0;
   unsigned long at = atomic_fetch_add(&memory, 1) + 1;
-  if (!is_refused(at, limits.memory, limits.memory_from)) return 0;
+  unsigned long at_call = atomic_fetch_add(&since, 1) + 1;
+  if (limits.call && atomic_load(&calls) != limits.call) return 0;
+  if (!is_refused(limits.call ? at_call : at, limits.memory, limits.memory_from)) return 0;
+  atomic_fetch_add(&refused, 1);
   errno = ENOMEM;
   return 1;
 }
@@ -135,6 +145,13 @@ ssize_t read(int fd, void *bytes, size_t length) {
   return syscall(SYS_read, fd, bytes, length);
 }
 
+// Counts the requests for memory anew from where a call is said.
+static void look_for_call(int fd, const void *bytes, size_t length) {
+  if (fd != 1 || length < 3 || memcmp(bytes, "== ", 3) != 0) return;
+  atomic_store(&since, 0);
+  atomic_fetch_add(&calls, 1);
+}
+
 ssize_t write(int fd, const void *bytes, size_t length) {
   if (fd != 1 && fd != 2) return syscall(SYS_write, fd, bytes, length);
   unsigned long at = atomic_fetch_add(&writes, 1) + 1;
@@ -143,6 +160,7 @@ ssize_t write(int fd, const void *bytes, size_t length) {
     return -1;
   }
   if (limits.short_write && length > limits.short_write) length = limits.short_write;
+  look_for_call(fd, bytes, length);
   unsigned long before = atomic_load(&memory);
   long taken = syscall(SYS_write, fd, bytes, length);
   if (taken >= 0) tell("at %d %ld %lu\n", fd, taken, before);

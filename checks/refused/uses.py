@@ -35,8 +35,10 @@ class Uses:
 def check(checks, refusals, pool):
     """Looks whether each refused request for memory comes to a good end."""
     uses = Uses(refusals, (refusals.programs.top / "crates" / NAME / "stdout").read_bytes())
+    ample = uses.run(0)
+    uses.look(0, ample)
     met = sweep(pool, uses.run, "memory", uses.look)
-    if not met:
-        uses.faults.append("the sweep of memory met no request")
+    if ample.counts is None or met != ample.counts.memory or not met:
+        uses.faults.append(f"the sweep of memory met {met} requests, and with nothing refused there are {ample.counts}")
     print(f"{met} requests for memory of {NAME} were refused", flush=True)
     checks.look(NAME, first_of(uses.faults))
