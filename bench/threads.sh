@@ -3,12 +3,10 @@
 # the fleet that keeps a history ("fleet") and of the one that keeps none ("endless"), and beside them the same operations in one
 # thread without a fleet ("solo"), and of as many programs of one thread each, side by side ("apart"), which share nothing: that is what
 # the machine gives to so many threads. With one thread "apart" is the same command as "endless", so the better of the two is the one to
-# compare both with. Prints three tables, with a row for each mix of operations and way:
-# - operations a second by wall clock, of all threads together: the best and the median of several runs, and how many times the best
-#   of one thread these bests are. The shortest time of a run with few operations is taken off each time, and its operations from
+# compare both with. Prints two tables, with a row for each mix of operations and way:
+# - operations a second by wall clock, in millions, of all threads together: the best and the median of several runs, and how many times
+#   the best of one thread these bests are. The shortest time of a run with few operations is taken off each time, and its operations from
 #   the operations, so that starting, setting up and closing drop out;
-# - instructions an operation in one thread, and how many times those of solo they are, by `valgrind --tool=callgrind` and by the
-#   same difference;
 # - the memory that is resident at most, in KiB, of the fleet that keeps no history, where four threads together do a million
 #   operations, and a hundred million.
 # Drawing the operations is part of it everywhere. The fleet with a history also keeps two lines of each operation, in memory that it
@@ -21,8 +19,6 @@ cd "$(dirname "$0")/.."
 runs=${RUNS:-10}
 program=${PROGRAM:-$PWD/crates/fleet_bench/out/fleet_bench}
 few=20000
-counted_few=2000
-counted_many=6000
 cpus_a_thread=2
 tasks_a_cpu=64
 threads=(1 2 4)
@@ -82,21 +78,6 @@ rates() {
       END { print rate[1], rate[int((NR + 1) / 2)] }'
 }
 
-# The instructions of a run.
-instructions() {
-  # shellcheck disable=SC2046 # the words are words of the program
-  valgrind --tool=callgrind --callgrind-out-file="$held" "$program" $(words "$@") >/dev/null 2>&1
-  awk '$1 == "summary:" || $1 == "totals:" { count = $2 } END { print count }' "$held"
-}
-
-# Instructions an operation, in one thread.
-cost() {
-  local less more
-  less=$(instructions "$1" 1 "$2" "$counted_few")
-  more=$(instructions "$1" 1 "$2" "$counted_many")
-  echo $(((more - less) / (counted_many - counted_few)))
-}
-
 # The memory that is resident at most where four threads together do so many operations of a mix.
 resident() {
   # shellcheck disable=SC2046 # the words are words of the program
@@ -108,51 +89,49 @@ load() {
   echo "load $1: $(cut -d ' ' -f 1-3 /proc/loadavg), on $(nproc) processors"
 }
 
-# The head of a table, whose first columns are words.
-head_of() {
-  printf '| %-5s | %-7s |' mix way
-  printf ' %10s |' "$@"
-  printf '\n|-------|---------|'
-  for _ in "$@"; do printf -- '-----------:|'; done
-  printf '\n'
+# What the tables call a way.
+named() {
+  case $1 in
+    solo) echo '`Solo`' ;;
+    fleet) echo 'the fleet with a history' ;;
+    endless) echo 'the fleet without one' ;;
+    apart) echo 'as many programs' ;;
+  esac
+}
+
+# The cells of so many threads: the best and the median in millions, and how many times the best of one thread that is.
+cells() {
+  local best median
+  read -r best median < <(rates "$2" "$1" "$3")
+  one=${one:-$best}
+  awk -v best="$best" -v median="$median" -v one="$one" -v threads="$1" 'BEGIN {
+    printf " %.1f, %.1f |", best / 1000000, median / 1000000
+    if (threads > 1) printf " %.2f |", one ? best / one : 0
+  }'
 }
 
 load before
-columns=()
-for count in "${threads[@]}"; do columns+=("$count, best" "median" "times"); done
-head_of "${columns[@]}"
+printf '\nMillions of operations a second, the best of %d runs and their median:\n\n' "$runs"
+printf '| mix | by | 1 thread | 2 threads | times | 4 threads | times |\n|---|---|--:|--:|--:|--:|--:|\n'
 for mix in "${mixes[@]}"; do
   for way in solo fleet endless apart; do
-    printf '| %-5s | %-7s |' "$mix" "$way"
+    printf '| %s | %s |' "$mix" "$(named "$way")"
     one=
     for count in "${threads[@]}"; do
       if [ "$way" = solo ] && [ "$count" -gt 1 ]; then
-        printf ' %10s |' '' '' ''
-        continue
+        printf ' | |'
+      else
+        cells "$count" "$way" "$mix"
       fi
-      read -r best median < <(rates "$way" "$count" "$mix")
-      one=${one:-$best}
-      awk -v best="$best" -v median="$median" -v one="$one" \
-        'BEGIN { printf " %10d | %10d | %10.2f |", best, median, one ? best / one : 0 }'
     done
     printf '\n'
   done
 done
+echo
 load after
 
-echo
-head_of ins. times
+printf '\nKiB resident at most, of the fleet without a history in four threads:\n\n'
+printf '| mix | a million operations | a hundred million |\n|---|--:|--:|\n'
 for mix in "${mixes[@]}"; do
-  solo=$(cost solo "$mix")
-  for way in solo fleet endless; do
-    count=$(cost "$way" "$mix")
-    awk -v mix="$mix" -v way="$way" -v count="$count" -v solo="$solo" \
-      'BEGIN { printf "| %-5s | %-7s | %10d | %10.2f |\n", mix, way, count, count / solo }'
-  done
-done
-
-echo
-head_of 1000000 100000000
-for mix in "${mixes[@]}"; do
-  printf '| %-5s | %-7s | %10d | %10d |\n' "$mix" endless "$(resident "$mix" 1000000)" "$(resident "$mix" 100000000)"
+  printf '| %s | %d | %d |\n' "$mix" "$(resident "$mix" 1000000)" "$(resident "$mix" 100000000)"
 done
