@@ -1,29 +1,46 @@
 #!/usr/bin/env -S python3 -B
-"""checks/wrong_bodies/dropped.py [--look] [NAME..]: tries the wrong bodies of dropped/, all or those named: drops of a queue that the
-prover accepts, since no contract says what a drop gives back, nor how much stack it takes.
+"""checks/wrong_bodies/accepted.py [--look] [NAME..]: tries the wrong bodies of accepted/, all or those named: those that the prover
+accepts, since no contract says what a drop gives back, how much stack is taken, or how long something takes.
 
-Each is planted in a copy of the crates, where `rt ci` proves and builds the program dropped_queue: some minutes for each. The check that
-its line `found by:` names has to fail on this program. Both checks have to pass where no wrong body is planted. With --look nothing is
-tried: it looks whether each wrong body has its place in the crates, and its check is there. The last line is 'N passed, M failed'."""
+Each is planted in a copy of the crates, where `rt ci` proves and builds the program that its check looks at: some minutes for each. The
+check that its line `found by:` names has to fail on this program, and to pass on the one in which no wrong body is planted. With --look
+nothing is tried: it looks whether each wrong body has its place in the crates, and its check is there. The last line is
+'N passed, M failed'."""
 
 import argparse
+import os
 import subprocess
 import sys
 import tempfile
+from collections.abc import Callable
 from dataclasses import dataclass, field
+from functools import partial
 from pathlib import Path
 
 from edits import TOP, BadEdit, Change, apply, changed, read_lines
 
-sys.path += [str(TOP / "checks"), str(TOP / "tools")]
+sys.path += [str(TOP / "bench"), str(TOP / "checks"), str(TOP / "tools")]
 
 from blocks import Allocator  # noqa: E402
+from counts import read_rows  # noqa: E402
 from crate_copies import copy_crates, read_crates, start_ci, with_all_below  # noqa: E402
 from memory import look_at_drops  # noqa: E402
 from runner import Checks, Programs  # noqa: E402
 from stack import DROPPED, fix_addresses, look_at_stack  # noqa: E402
 
-COPIED = with_all_below(read_crates(), [DROPPED.program])
+COUNT = "bench/count"
+
+
+@dataclass(frozen=True)
+class Check:
+    """What looks at a program."""
+
+    name: str
+    program: str
+    look: Callable[[Checks, Programs], None]
+
+    def __str__(self):
+        return self.name
 
 
 def look_at_blocks(checks, programs):
@@ -31,17 +48,29 @@ def look_at_blocks(checks, programs):
         look_at_drops(checks, Allocator(folder, programs))
 
 
-# What looks at the program.
-CHECKS = {
-    "checks/memory.py": look_at_blocks,
-    "checks/stack.py": lambda checks, programs: look_at_stack(checks, programs, DROPPED, fix_addresses()),
-}
+def look_at_count(row, checks, programs):
+    """Has a row counted."""
+    counted = subprocess.run([TOP / COUNT, str(row)], env={**os.environ, "TOP": str(programs.top)}, capture_output=True, text=True)
+    said = (counted.stdout + counted.stderr).strip()
+    checks.look(row, None if counted.returncode == 0 and "1 passed, 0 failed" in said else said)
+
+
+def check_named(name):
+    """The check that a line `found by:` names: bench/count with the row of bench/counts.txt, or one of this folder's neighbours."""
+    if name == "checks/memory.py":
+        return Check(name, DROPPED.program, look_at_blocks)
+    if name == "checks/stack.py":
+        return Check(name, DROPPED.program, lambda checks, programs: look_at_stack(checks, programs, DROPPED, fix_addresses()))
+    for row in read_rows():
+        if name == f"{COUNT} {row}":
+            return Check(name, row.program, partial(look_at_count, row))
+    return None
 
 
 @dataclass(frozen=True)
 class Body:
     name: str
-    check: str
+    check: Check
     changes: tuple[Change, ...]
 
     def __str__(self):
@@ -50,14 +79,15 @@ class Body:
 
 def read_body(file):
     changes, told = read_lines(file)
-    if told.get("found by") not in CHECKS or not changes:
+    check = check_named(told.get("found by"))
+    if not check or not changes:
         raise BadEdit(f"{file.stem}: a line `found by:`, `file:`, `old:` or `new:` is missing or names nothing")
-    return Body(file.stem, told["found by"], changes)
+    return Body(file.stem, check, changes)
 
 
 def bodies_named(names):
     """The wrong bodies of these names: all where no name is given."""
-    folder = TOP / "checks" / "wrong_bodies" / "dropped"
+    folder = TOP / "checks" / "wrong_bodies" / "accepted"
     files = [folder / f"{name}.edit" for name in names] or sorted(folder.glob("*.edit"))
     if not files:
         raise BadEdit("there are no wrong bodies")
@@ -108,18 +138,18 @@ def build(top):
         raise NotBuilt(said[-1000:])
 
 
-def faults_with(body):
-    """What each check finds wrong with the program that is built with a body in place, or without one."""
-    with tempfile.TemporaryDirectory(prefix="dropped-") as held:
+def faults_with(body, program, checks):
+    """What each of these checks finds wrong with the program that is built with a body in place, or without one."""
+    with tempfile.TemporaryDirectory(prefix="accepted-") as held:
         top = Path(held)
-        copy_crates(COPIED, top)
+        copy_crates(with_all_below(read_crates(), [program]), top)
         if body:
             plant(body, top)
         build(top)
-        faults = {name: Faults() for name in CHECKS}
-        for name, look in CHECKS.items():
-            look(faults[name], Programs(top))
-    return {name: told.found for name, told in faults.items()}
+        faults = {check: Faults() for check in checks}
+        for check, told in faults.items():
+            check.look(told, Programs(top))
+    return {check: told.found for check, told in faults.items()}
 
 
 def first_of(faults):
@@ -127,18 +157,22 @@ def first_of(faults):
     return faults[0] + f", and {len(faults) - 1} more" * (len(faults) > 1) if faults else ""
 
 
-def try_right_body(checks):
-    """Looks whether nothing is found where no wrong body is planted."""
-    try:
-        checks.look("no wrong body", first_of([fault for found in faults_with(None).values() for fault in found]))
-    except (NotBuilt, OSError) as why:
-        checks.look("no wrong body", why)
+def try_right_bodies(checks, bodies):
+    """Looks whether these bodies' checks find nothing where no wrong body is planted."""
+    used = {str(body.check): body.check for body in bodies}.values()
+    for program in dict.fromkeys(check.program for check in used):
+        name = f"{program} without a wrong body"
+        try:
+            faults = faults_with(None, program, [check for check in used if check.program == program])
+            checks.look(name, first_of([fault for found in faults.values() for fault in found]))
+        except (NotBuilt, OSError) as why:
+            checks.look(name, why)
 
 
 def try_body(checks, body):
     """Looks whether the prover accepts a wrong body, and its check finds it."""
     try:
-        found = faults_with(body)[body.check]
+        found = faults_with(body, body.check.program, [body.check])[body.check]
     except (NotBuilt, BadEdit, OSError) as why:
         checks.look(body, f"it isn't proved or isn't built: {why}")
     else:
@@ -148,7 +182,7 @@ def try_body(checks, body):
 def parse_words():
     words = argparse.ArgumentParser(description=__doc__, formatter_class=argparse.RawDescriptionHelpFormatter)
     words.add_argument("--look", action="store_true", help="tries nothing")
-    words.add_argument("names", nargs="*", metavar="NAME", help="checks/wrong_bodies/dropped/NAME.edit")
+    words.add_argument("names", nargs="*", metavar="NAME", help="checks/wrong_bodies/accepted/NAME.edit")
     return words.parse_args()
 
 
@@ -158,10 +192,10 @@ def main():
     try:
         bodies = bodies_named(words.names)
     except (BadEdit, OSError) as why:
-        checks.look("dropped/", why)
+        checks.look("accepted/", why)
         return checks.end()
     if not words.look:
-        try_right_body(checks)
+        try_right_bodies(checks, bodies)
     for body in bodies:
         (look_at_place if words.look else try_body)(checks, body)
     return checks.end()
