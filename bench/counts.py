@@ -24,8 +24,9 @@ ORDERED = ".ordered"
 TURNS = re.compile(r"(\d+)\.\.(\d+)")
 # A call of a few instructions may take so many more, whatever part of it they are.
 SPARE = 2
-# What counts are above the stored ones at most, in percent, where other tools count them.
-OTHER_TOOLS = 10
+KINDS = ("job", "call", "bytes")
+# The widest bound of a row, and what counts are above the stored ones at most where other tools count them, in percent.
+WIDEST = OTHER_TOOLS = 10
 COUNTED_WITH = "# counted with "
 # A function that took less than this part of a row isn't kept.
 LEAST_PART = 50
@@ -43,7 +44,10 @@ class Row:
     @staticmethod
     def read(line):
         kind, name, count, bound, program, *words = line.split()
-        return Row(kind, name, None if count == "-" else int(count), int(bound.rstrip("%")), program, tuple(words))
+        row = Row(kind, name, None if count == "-" else int(count), int(bound.rstrip("%")), program, tuple(words))
+        if kind not in KINDS or row.bound > WIDEST:
+            raise ValueError(f"bench/counts.txt: {row} is no {', '.join(KINDS)}, or has a bound above {WIDEST} %")
+        return row
 
     def __str__(self):
         return f"{self.kind} {self.name}"
@@ -119,11 +123,16 @@ def read_profiles():
     return profiles
 
 
+def has_part(took, count):
+    """Whether a function takes so much of a row that it is kept."""
+    return took * LEAST_PART > count
+
+
 def store_profiles(counted):
     """Stores the functions of rows, which are given with the count by the row's kind and name."""
     profiles = read_profiles()
     for name, (count, functions) in counted.items():
-        profiles[name] = {function: took for function, took in functions.most_common() if took * LEAST_PART > count}
+        profiles[name] = {function: took for function, took in functions.most_common() if has_part(took, count)}
     lines = []
     for name in filter(profiles.get, map(str, read_rows())):
         lines += [name, *(f"{count:>12}  {function}" for function, count in profiles[name].items())]

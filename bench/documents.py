@@ -1,6 +1,6 @@
 #!/usr/bin/env -S python3 -B
 """documents.py NAME [SIZE [CPUS]]: prints the workload of this name, which `bench/count` runs programs on. Each has tasks of mixed nice
-levels and slices, an eighth of them asleep at first. SIZE and CPUS ask for another size than the usual one.
+levels and slices, an eighth of them asleep at first. SIZE and CPUS, from 2 to 64, ask for another size than the usual one.
 - solo: 1024 tasks on 16 CPUs, and a script of 20000 deeds of all kinds;
 - replay: 1024 tasks on 16 CPUs, and programs of all kinds of operations that come to 20000 steps, without an order;
 - replay-many-cpus: the same on 64 CPUs with 80000 steps, where a drain alone has 130;
@@ -174,7 +174,8 @@ def document(name, *sizes):
 
 def main():
     name, *sizes = sys.argv[1:] or [""]
-    if name not in DOCUMENTS or len(sizes) > 2 or not all(size.isdecimal() and int(size) for size in sizes):
+    are_numbers = all(size.isdecimal() and int(size) for size in sizes)
+    if name not in DOCUMENTS or not are_numbers or len(sizes) > 2 or sizes[1:] and not 2 <= int(sizes[1]) <= 64:
         sys.exit(f"usage: documents.py {'|'.join(DOCUMENTS)} [SIZE [CPUS]]")
     print(document(name, *map(int, sizes)), end="")
 

@@ -25,6 +25,7 @@ threads=(1 2 4)
 mixes=("$@")
 [ $# -gt 0 ] || mixes=(own wakes pulls)
 
+type -P time >/dev/null || { echo "threads.sh: there is no program time (Debian package time)" >&2; exit 3; }
 [ -n "${PROGRAM:-}" ] || ./build fleet_bench
 
 held=$(mktemp)
@@ -81,7 +82,8 @@ rates() {
 # The memory that is resident at most where four threads together do so many operations of a mix.
 resident() {
   # shellcheck disable=SC2046 # the words are words of the program
-  /usr/bin/env time -f '%M' -o "$held" "$program" $(words endless 4 "$1" $(($2 / 4))) >/dev/null
+  /usr/bin/env time -f '%M' -o "$held" "$program" $(words endless 4 "$1" $(($2 / 4))) >/dev/null ||
+    { echo "threads.sh: a run failed: $(words endless 4 "$1" $(($2 / 4)))" >&2; kill $$; }
   tail -n 1 "$held"
 }
 

@@ -102,4 +102,5 @@ def main():
     print_table("Mispredicted branches in a hundred turns:", programs, mixes, branches)
 
 
-main()
+if __name__ == "__main__":
+    main()

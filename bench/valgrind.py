@@ -6,10 +6,11 @@ import tempfile
 from collections import Counter
 from dataclasses import dataclass
 from pathlib import Path
+from shutil import which
 
 # What a run has for an environment, so that what is counted is the same with another processor. valgrind shows a program the one that is
-# there, and the C library chooses how it copies memory by its features and by its caches: here by those that every x86-64 has, and by
-# fixed sizes. Its names are looked up at the start.
+# there, and the C library chooses how it copies memory by its features and by its caches: here by those that every processor has that the
+# programs run on (x86-64-v2), and by fixed sizes. Its names are looked up at the start.
 ENVIRONMENT = {
     "LD_BIND_NOW": "1",
     "GLIBC_TUNABLES": ":".join((
@@ -44,23 +45,28 @@ class Run:
 
     def output(self, *before):
         """Runs it by these words, and answers what it printed."""
-        done = subprocess.run([*before, f"./{self.program.name}", *self.words], cwd=self.program.parent, env=ENVIRONMENT,
-                              input=self.data, capture_output=True, timeout=PATIENCE)
+        name = " ".join((self.program.name, *self.words))
+        try:
+            done = subprocess.run([*before, f"./{self.program.name}", *self.words], cwd=self.program.parent, env=ENVIRONMENT,
+                                  input=self.data, capture_output=True, timeout=PATIENCE)
+        except subprocess.TimeoutExpired:
+            raise Uncounted(f"{name} doesn't end within {PATIENCE} seconds") from None
         if done.returncode:
             said = (done.stderr or done.stdout).decode(errors="replace").strip()
-            raise Uncounted(f"{self.program.name} {' '.join(self.words)} ends with {done.returncode}: {said[-1000:]}")
+            raise Uncounted(f"{name} ends with {done.returncode}: {said[-1000:]}")
         return done.stdout
 
 
 def instructions(run):
     """How many instructions each function took by itself, without those that it called."""
     with tempfile.NamedTemporaryFile() as profile:
-        run.output("valgrind", "--tool=callgrind", f"--callgrind-out-file={profile.name}", "--compress-strings=no", "--compress-pos=no")
+        run.output(which("valgrind"), "--tool=callgrind", f"--callgrind-out-file={profile.name}", "--compress-strings=no",
+                   "--compress-pos=no")
         return read_profile(Path(profile.name).read_text(errors="replace").splitlines())
 
 
 def read_profile(lines):
-    counts, function, is_called = Counter(), "", False
+    counts, function, is_called, total = Counter(), "", False, 0
     for line in lines:
         if line.startswith("fn="):
             function = PART_OF_NAME.sub("", line.removeprefix("fn="))
@@ -71,12 +77,16 @@ def read_profile(lines):
             if not is_called:
                 counts[function] += int(line.split()[1])
             is_called = False
+        elif line.startswith("totals:"):
+            total = int(line.split()[1])
+    if not total or counts.total() != total:
+        raise Uncounted(f"the functions of the profile come to {counts.total()} instructions, and the run to {total}")
     return counts
 
 
 def greatest_heap(run):
     """The greatest number of bytes that the program had asked for and not given back."""
     with tempfile.NamedTemporaryFile() as profile:
-        run.output("valgrind", "--tool=massif", f"--massif-out-file={profile.name}", "--peak-inaccuracy=0.0", "--depth=1",
+        run.output(which("valgrind"), "--tool=massif", f"--massif-out-file={profile.name}", "--peak-inaccuracy=0.0", "--depth=1",
                    "--max-snapshots=10")
         return max(map(int, re.findall(r"^mem_heap_B=(\d+)", Path(profile.name).read_text(), re.MULTILINE)))

@@ -13,7 +13,7 @@ def check_one(tools, name, label, *flags):
 
 
 def check_checksum(tools):
-    """The C program of bench/c-queue.sh takes the turns of queue_bench, and has to come to the checksum that this one is stored with."""
+    """The C program that bench/count counts takes the turns of queue_bench, and has to come to the checksum that this one is stored with."""
     bench = TOP / "crates" / "queue_bench"
     program, fault = tools.compile("c_queue", [TOP / "bench" / "c_queue.c", tools.malloc_library()])
     made = None if fault else run([program, *(bench / "args").read_text().split()])

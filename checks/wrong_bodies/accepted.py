@@ -9,6 +9,7 @@ nothing is tried: it looks whether each wrong body has its place in the crates, 
 
 import argparse
 import os
+import re
 import subprocess
 import sys
 import tempfile
@@ -31,6 +32,10 @@ from stack import DROPPED, fix_addresses, look_at_stack  # noqa: E402
 COUNT = "bench/count"
 
 
+class Untried(Exception):
+    """Why a program wasn't looked at: what `rt ci` says where it doesn't prove or build it, or the check where it can't look."""
+
+
 @dataclass(frozen=True)
 class Check:
     """What looks at a program."""
@@ -51,8 +56,11 @@ def look_at_blocks(checks, programs):
 def look_at_count(row, checks, programs):
     """Has a row counted."""
     counted = subprocess.run([TOP / COUNT, str(row)], env={**os.environ, "TOP": str(programs.top)}, capture_output=True, text=True)
-    said = (counted.stdout + counted.stderr).strip()
-    checks.look(row, None if counted.returncode == 0 and "1 passed, 0 failed" in said else said)
+    said = counted.stdout + counted.stderr
+    if risen := re.search(rf"^FAILED: {re.escape(str(row))}: (\d+ stored, \d+ now .*)$", said, re.MULTILINE):
+        checks.look(row, risen[1])
+    elif counted.returncode or "1 passed, 0 failed" not in said:
+        raise Untried(said.strip())
 
 
 def check_named(name):
@@ -106,10 +114,6 @@ def look_at_place(checks, body):
 
 # The tries.
 
-class NotBuilt(Exception):
-    """What `rt ci` says where it doesn't prove or build the program."""
-
-
 @dataclass
 class Faults(Checks):
     """Checks that say nothing, and keep what failed."""
@@ -127,7 +131,7 @@ def plant(body, top):
     for crate in {Path(change.file).parts[1] for change in body.changes}:
         laid_out = subprocess.run(["rt", "fmt"], cwd=top / "crates" / crate, capture_output=True, text=True)
         if laid_out.returncode:
-            raise NotBuilt(laid_out.stdout + laid_out.stderr)
+            raise Untried(laid_out.stdout + laid_out.stderr)
 
 
 def build(top):
@@ -135,7 +139,7 @@ def build(top):
     with start_ci(top) as rt:
         said = rt.stdout.read()
     if rt.returncode:
-        raise NotBuilt(said[-1000:])
+        raise Untried(said[-1000:])
 
 
 def faults_with(body, program, checks):
@@ -165,7 +169,7 @@ def try_right_bodies(checks, bodies):
         try:
             faults = faults_with(None, program, [check for check in used if check.program == program])
             checks.look(name, first_of([fault for found in faults.values() for fault in found]))
-        except (NotBuilt, OSError) as why:
+        except (Untried, OSError) as why:
             checks.look(name, why)
 
 
@@ -173,8 +177,8 @@ def try_body(checks, body):
     """Looks whether the prover accepts a wrong body, and its check finds it."""
     try:
         found = faults_with(body, body.check.program, [body.check])[body.check]
-    except (NotBuilt, BadEdit, OSError) as why:
-        checks.look(body, f"it isn't proved or isn't built: {why}")
+    except (Untried, BadEdit, OSError) as why:
+        checks.look(body, f"it isn't proved, isn't built or isn't looked at: {why}")
     else:
         checks.look(body, None if found else f"{body.check} passes", f"{body.check} fails: {first_of(found)}")
 
