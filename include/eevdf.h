@@ -1,5 +1,6 @@
 /*
- * eevdf.h: run queues under EEVDF (Earliest Eligible Virtual Deadline First) for C11 and C++17.
+ * eevdf.h: run queues under EEVDF (Earliest Eligible Virtual Deadline First) for C and C++, from
+ * C99 and C++11 on.
  *
  * A queue says which of its tasks runs next. The caller says which tasks there are, how long the
  * running one ran, and who sleeps, wakes and ends. docs/model.md has the rules, docs/embedding-c.md
@@ -34,8 +35,8 @@
  * LOCKS. "The queue's lock" is whatever makes sure that nobody else uses the queue during the call:
  * a lock that the caller has beside each queue, interrupts off on the queue's only CPU, or a single
  * thread. The library has no locks and no data of its own, so calls on different queues need
- * nothing of each other, and a task moves between two queues through a hand with never more than
- * one lock held. A hand belongs to whoever moves the task, and needs no lock as long as nobody else
+ * nothing of each other, and a task moves between two queues through a hand without a need to hold
+ * two locks. A hand belongs to whoever moves the task, and needs no lock as long as nobody else
  * uses it.
  *
  * INTERRUPTS. "Interrupts: yes" says that a handler may make the call, where what it interrupts
@@ -43,8 +44,16 @@
  * Such a call neither asks for memory nor gives it back. No call waits. "As memory" says the same
  * of one that does, where the functions for memory may be called from a handler too.
  *
- * WHAT THE OBJECT ASKS OF A KERNEL (x86-64). It uses the registers xmm0 and xmm1, and functions
- * that call no others use the red zone, the 128 bytes below the stack pointer. So
+ * WHAT THE OBJECT ASKS OF A KERNEL (x86-64). The archive for kernels, libeevdf_kernel.a, uses no
+ * registers but the general ones and nothing below the stack pointer, and needs no aligned stack.
+ * So interrupts may come during a call, and on its stack. It is linked into the highest 2 GiB of
+ * addresses, where a kernel is, or into the lowest. It wants these names, and no others: memcpy,
+ * memset, rattle_alloc and rattle_dealloc, and where it is made for Linux __x86_return_thunk, by
+ * which it returns then.
+ * The archive for programs, libeevdf.a, can be linked at any address, and wants __udivti3 besides,
+ * which compilers bring along in libgcc. It needs a stack that is aligned to 16 at the call, and
+ * uses the registers xmm0 and xmm1, and functions that call no others use the red zone, the 128
+ * bytes below the stack pointer. So in a kernel
  *   - a maskable interrupt that comes during a call runs on another stack (an entry of the
  *     interrupt stack table, IST), or interrupts are off during the call;
  *   - NMIs, machine checks, and exceptions whose handler returns have a stack of their own by the
@@ -52,26 +61,50 @@
  *   - who enters the kernel saves xmm0 and xmm1 before the first call, or all by fxsave, unless the
  *     interrupted code has none of them;
  *   - SSE is on: CR0.EM is 0 and CR4.OSFXSR is 1.
- * A call takes at most 1 KiB of stack, eevdf_rebase 1.5 KiB. These two registers and this stack are
- * of the object alone: what the kernel's memcpy and memset and the two functions for memory use
- * comes on top. The object has no thread-local storage, no threads, no unwind tables and no way to
- * end the program, and can be linked at any address. It wants these names, and no others: memcpy,
- * memset and __udivti3, which compilers bring along in libc and libgcc, rattle_alloc and
- * rattle_dealloc.
+ * Of either a call takes at most 1 KiB of stack, eevdf_rebase 1.5 KiB. These registers and this
+ * stack are of the object alone: what the kernel's memcpy and memset and the two functions for
+ * memory use comes on top. Neither has thread-local storage, threads or unwind tables, nor ends the
+ * program: its instructions ud2 stand where no call comes, as the proofs say, while C keeps what it
+ * must.
  */
 #ifndef EEVDF_H
 #define EEVDF_H
 
+/*
+ * size_t, int64_t and uint64_t come from the header that EEVDF_TYPES names, as "types.h"; in Linux
+ * from its own; else from the compiler's headers, or where there are none, as under -nostdinc, from
+ * the compiler itself.
+ */
+#if defined(EEVDF_TYPES)
+#include EEVDF_TYPES
+#elif defined(__KERNEL__) && defined(__LINUX_COMPILER_TYPES_H)
+#include <linux/types.h>
+#else
+#ifdef __has_include
+#if !__has_include(<stddef.h>) || !__has_include(<stdint.h>)
+#define EEVDF_HAS_NO_HEADERS
+#endif
+#endif
+#ifdef EEVDF_HAS_NO_HEADERS
+typedef __SIZE_TYPE__ size_t;
+typedef __INT64_TYPE__ int64_t;
+typedef __UINT64_TYPE__ uint64_t;
+#else
 #include <stddef.h>
 #include <stdint.h>
+#endif
+#endif
 
 #ifdef __cplusplus
 #define EEVDF_ALIGNED alignas(16)
 #define EEVDF_ASSERT static_assert
 extern "C" {
-#else
+#elif defined(__STDC_VERSION__) && __STDC_VERSION__ >= 201112L
 #define EEVDF_ALIGNED _Alignas(16)
 #define EEVDF_ASSERT _Static_assert
+#else
+#define EEVDF_ALIGNED __attribute__((aligned(16)))
+#define EEVDF_ASSERT __extension__ _Static_assert
 #endif
 
 /*
@@ -97,7 +130,11 @@ extern "C" {
 #define EEVDF_SLICE_MAX 100000000         /* the longest slice, ns */
 #define EEVDF_TICK_MIN 1                  /* the shortest time that a tick charges, ns */
 #define EEVDF_TICK_MAX 1000000000         /* the longest time that a tick charges, ns */
+#ifdef INT64_C
 #define EEVDF_TIME_MAX (INT64_C(1) << 60) /* virtual times lie between this and its negative */
+#else
+#define EEVDF_TIME_MAX ((int64_t)1 << 60)
+#endif
 
 /* The errors. */
 enum {
@@ -182,7 +219,8 @@ eevdf_memory rattle_alloc(size_t size, size_t align);
 void rattle_dealloc(void *block);
 
 /*
- * The version of the library: equal to EEVDF_VERSION where the two belong together.
+ * The version of the library, as EEVDF_VERSION is that of the header. The two belong together where
+ * MAJOR and MINOR are the same: eevdf_version() / 1000 == EEVDF_VERSION / 1000.
  * Lock: none. Interrupts: yes.
  */
 int64_t eevdf_version(void);

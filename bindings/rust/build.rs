@@ -6,6 +6,7 @@ use std::process::Command;
 fn main() {
     println!("cargo:rerun-if-env-changed=EEVDF_LIB_DIR");
     println!("cargo:rerun-if-env-changed=PKG_CONFIG_PATH");
+    tell_of_error();
     let folder = env::var("EEVDF_LIB_DIR").unwrap_or_else(|_| asked_of_pkg_config());
     println!("cargo:rustc-link-search=native={folder}");
     link(&folder, "eevdf");
@@ -18,6 +19,17 @@ fn main() {
 fn link(folder: &str, name: &str) {
     println!("cargo:rustc-link-lib=static={name}");
     println!("cargo:rerun-if-changed={folder}/lib{name}.a");
+}
+
+/// `core::error::Error` is there from Rust 1.81 on.
+fn tell_of_error() {
+    let compiler = env::var("RUSTC").unwrap_or_else(|_| "rustc".to_string());
+    let said = Command::new(compiler).arg("--version").output().map(|said| said.stdout).unwrap_or_default();
+    let minor = String::from_utf8_lossy(&said).split('.').nth(1).and_then(|minor| minor.parse::<u32>().ok());
+    if minor.map_or(false, |minor| minor >= 81) {
+        println!("cargo:rustc-check-cfg=cfg(has_core_error)");
+        println!("cargo:rustc-cfg=has_core_error");
+    }
 }
 
 fn asked_of_pkg_config() -> String {

@@ -1,28 +1,57 @@
-"""Looks at the library for C, part by part."""
+"""Looks at the library for C, part by part: at the archive for programs, or at the one for kernels."""
 
 import argparse
 import sys
+from pathlib import Path
 
 import callers
 import examples
 import header
+import installed
+import interrupted
 import kernel
+import kernel_object
+import linux
 import object_file
 import rust
 import sequences
-from tools import Tools
+from tools import TOP, Tools
+
+sys.path.append(str(TOP / "tools" / "c_archives"))
+
+from kernel_archive import KERNEL, LINUX, NotMade, kit_tools, make  # noqa: E402
+from kept_module import KeptModule  # noqa: E402
+
+
+def made_of(module, work):
+    """What the checks need over the archive for kernels, which is made from a module. Its addresses have 32 bits, so programs over it lie
+    below 2 GiB."""
+    tools = Tools(work / "libeevdf_kernel.a", work, ("-no-pie",), module, work / "libeevdf_thunks.a")
+    kept = KeptModule.read(module)
+    make(kit_tools(), kept, tools.archive, KERNEL)
+    make(kit_tools(), kept, tools.thunks, LINUX)
+    return tools
 
 
 def main():
     words = argparse.ArgumentParser()
-    words.add_argument("--archive", required=True)
-    words.add_argument("--work", required=True)
+    what = words.add_mutually_exclusive_group(required=True)
+    what.add_argument("--archive", type=Path)
+    what.add_argument("--module", type=Path)
+    words.add_argument("--work", type=Path, required=True)
     words.add_argument("--seed", default="1")
     asked = words.parse_args()
-    tools = Tools(asked.archive, asked.work)
-    for part in (header, object_file, callers, examples, rust, kernel):
+    try:
+        tools = made_of(asked.module, asked.work) if asked.module else Tools(asked.archive, asked.work)
+    except (NotMade, FileNotFoundError) as failed:
+        print(f"checks/c_library: there is no archive for kernels: {failed}", file=sys.stderr)
+        sys.exit(3)
+    for part in (header, kernel_object if asked.module else object_file, callers, examples, installed, rust, kernel):
         part.check(tools)
     sequences.check(tools, asked.seed)
+    if asked.module:
+        interrupted.check(tools, asked.seed)
+        linux.check(tools)
     sys.exit(tools.checks.end())
 
 

@@ -1,15 +1,16 @@
-"""The examples in C, and a program that is compiled by what is installed."""
+"""The examples in C."""
 
-import os
 import re
 import resource
-import shutil
 
 import exclusive
-from tools import C11, SANITIZED, TOP, WARNINGS, ending, fault_of, run
+from tools import C11, SANITIZED, TOP, ending, fault_of, run
 
 FIRST = TOP / "examples" / "c" / "first.c"
 RUNTIME = TOP / "examples" / "c" / "runtime"
+TWO_CPUS = TOP / "examples" / "c" / "two_cpus.c"
+# The functions for memory, compiled as the rest of a program is.
+BINDING = TOP / "bindings" / "c" / "eevdf_malloc.c"
 # A share of time may be off by so much of the weights' share, since which worker runs a fiber changes now and then.
 OFF = 0.15
 # The runtime's two workers run for a second. On a machine that gives them less than so much processor time, whoever runs on a worker that
@@ -82,24 +83,28 @@ def check_locks(tools):
     tools.checks.look("examples/c/runtime has each queue under a lock", fault or fault_of(made))
 
 
-def check_installed(tools):
-    """The command of README, with the flags before the file and behind it, and a program that has its own functions for memory."""
-    prefix = tools.work / "prefix"
-    made = run([TOP / "install", prefix], env={**os.environ, "ARCHIVE": str(tools.archive), "CC": tools.cc})
-    tools.checks.look("./install", fault_of(made), made.stdout.strip())
-    if not shutil.which("pkg-config"):
-        tools.checks.skip("programs by pkg-config", "pkg-config", "pkg-config")
-        return
-    asked = run(["pkg-config", "--cflags", "--libs", "eevdf"], env={**os.environ, "PKG_CONFIG_PATH": str(prefix / "lib" / "pkgconfig")})
-    flags = asked.stdout.split()
-    wanted = FIRST.with_suffix(".out").read_text()
-    for name, words in (("flags first", [*flags, FIRST]), ("flags last", [FIRST, *flags])):
-        program = tools.work / f"installed, {name}"
-        fault = fault_of(asked) or fault_of(run([tools.cc, "-std=c11", *WARNINGS, *words, "-o", program]))
-        tools.checks.look(f"a program by pkg-config, {name}", fault or other_output(run([program]), wanted))
-    program = tools.work / "installed, own memory"
-    fault = fault_of(asked) or fault_of(run([tools.cc, "-std=c11", *flags, tools.callers / "errors.c", "-o", program]))
-    tools.checks.look("a program by pkg-config with its own functions for memory", fault or fault_of(run([program])))
+def compile_two_cpus(tools, name, text, *flags):
+    """Builds the example on two CPUs with another C file."""
+    source = tools.work / f"{name}.c"
+    source.write_text(text)
+    return tools.compile(name, [TWO_CPUS, source, BINDING], "-pthread", *flags)
+
+
+def check_two_cpus(tools):
+    """The example prints what it should, has each queue under a lock, and ThreadSanitizer finds no calls that no lock orders."""
+    wanted = TWO_CPUS.with_suffix(".out").read_text()
+    text, linked = exclusive.source_and_flags()
+    for label, source, flags in (("", "#include <eevdf.h>\n", ()), (", its locks", text, linked)):
+        program, fault = compile_two_cpus(tools, f"two_cpus{label}", source, *flags)
+        tools.checks.look(f"examples/c/two_cpus.c{label}", fault or other_output(run([program]), wanted))
+    name = "examples/c/two_cpus.c, ThreadSanitizer"
+    text, linked = exclusive.told_source_and_flags()
+    program, fault = compile_two_cpus(tools, "two_cpus-threads", text, *linked, "-g", "-fsanitize=thread")
+    made = None if fault else run([program])
+    if made and "unexpected memory mapping" in made.stderr:
+        tools.checks.leave_out(name, "it doesn't run in this system's address space")
+    else:
+        tools.checks.look(name, fault or other_output(made, wanted))
 
 
 def block(page, beginning):
@@ -124,4 +129,4 @@ def check(tools):
     check_runtime(tools, "")
     check_runtime(tools, ", sanitized", *SANITIZED)
     check_locks(tools)
-    check_installed(tools)
+    check_two_cpus(tools)

@@ -1,5 +1,7 @@
 """Whether a program has two threads in calls on one queue or one hand at a time. Each call marks its queue and hand as in use, lets others
-run, and ends the program where one of them is in use already."""
+run, and ends the program where one of them is in use already. And the same for ThreadSanitizer, which doesn't see what the archive does:
+each call tells it that its queue and hand are written, or read where the header says `const`. So it finds calls that no lock orders, also
+where they don't meet."""
 
 from wrapped import arguments, declarations, flags, function
 
@@ -49,12 +51,40 @@ def body(kind, held):
     return f"{before}int64_t answer = RIGHT; {after}return answer;"
 
 
+def held_by(parameters):
+    return [name for name in arguments(parameters) if name in ("queue", "hand")]
+
+
 def source_and_flags():
     """A C file that marks what each call uses, and how it is linked."""
     text, calls = MARKS, []
     for call, (kind, parameters) in declarations().items():
-        held = [name for name in arguments(parameters) if name in ("queue", "hand")]
+        held = held_by(parameters)
         if held:
             text += function(call, body(kind, held))
+            calls.append(call)
+    return text, flags(calls)
+
+
+TOLD = """
+#include <eevdf.h>
+
+void __tsan_write1(void *at);
+void __tsan_read1(void *at);
+"""
+
+
+def told_body(kind, parameters, held):
+    told = "".join(f"__tsan_{'read' if f'const eevdf_{name} *' in parameters else 'write'}1((void *){name}); " for name in held)
+    return f"{told}{'RIGHT;' if kind == 'void' else 'return RIGHT;'}"
+
+
+def told_source_and_flags():
+    """A C file that tells ThreadSanitizer what each call uses, and how it is linked."""
+    text, calls = TOLD, []
+    for call, (kind, parameters) in declarations().items():
+        held = held_by(parameters)
+        if held:
+            text += function(call, told_body(kind, parameters, held))
             calls.append(call)
     return text, flags(calls)

@@ -1,5 +1,6 @@
-"""The header as C11 and as C++17, with all warnings, by each compiler that there is; a small program of each, linked and run; and the sizes
-and fields of the header, which have to be those of the crate."""
+"""The header as C99, C11, C++11 and C++17, with all warnings, by each compiler that there is; a small program of each, linked and run, and
+compiled without any other header, and for a kernel that isn't Linux; and the sizes and fields of the header, which have to be those of the
+crate."""
 
 import re
 import shutil
@@ -40,10 +41,10 @@ int main(void)
 }
 """
 COMPILERS = (
-    ("gcc", "c", "c11", "gcc"),
-    ("clang", "c", "c11", "clang"),
-    ("g++", "c++", "c++17", "g++"),
-    ("clang++", "c++", "c++17", "clang"),
+    ("gcc", "c", ("c99", "c11"), "gcc"),
+    ("clang", "c", ("c99", "c11"), "clang"),
+    ("g++", "c++", ("c++11", "c++17"), "g++"),
+    ("clang++", "c++", ("c++11", "c++17"), "clang"),
 )
 
 
@@ -90,17 +91,27 @@ def other_sizes():
             yield f"{macro} isn't {proved}"
 
 
+def check_compiled(tools, compiler, language, standard):
+    """By one compiler and one standard: the program runs, and is compiled without any header of the compiler's too, and with `__KERNEL__`,
+    which other kernels than Linux may define."""
+    # each has a program of its own, so that none is taken for another's
+    program = tools.work / f"header-{compiler}-{standard}"
+    words = [compiler, f"-std={standard}", *WARNINGS, f"-I{TOP / 'include'}", "-o", program]
+    source = ["-x", language, "-", "-x", "none"]
+    fault = fault_of(run([*words, *tools.flags, *source, tools.malloc_library(), tools.archive], input=PROGRAM))
+    tools.checks.look(f"eevdf.h as {standard} by {compiler}", fault or fault_of(run([program])))
+    for flag in ("-nostdinc", "-D__KERNEL__"):
+        fault = fault_of(run([*words, flag, "-ffreestanding", "-c", *source], input=PROGRAM))
+        tools.checks.look(f"eevdf.h as {standard} by {compiler} {flag}", fault)
+
+
 def check(tools):
     if SOURCES.exists():
         tools.checks.look("eevdf.h has the sizes that are proved", ", ".join(other_sizes()))
         tools.checks.look("eevdf.h has the fields of the crate", ", ".join(other_fields()))
-    for compiler, language, standard, package in COMPILERS:
-        name = f"eevdf.h as {standard} by {compiler}"
+    for compiler, language, standards, package in COMPILERS:
         if not shutil.which(compiler):
-            tools.checks.skip(name, compiler, package)
+            tools.checks.skip(f"eevdf.h by {compiler}", compiler, package)
             continue
-        # each has a program of its own, so that none is taken for another's
-        program = tools.work / f"header-{compiler}"
-        words = [compiler, f"-std={standard}", *WARNINGS, f"-I{TOP / 'include'}", "-o", program, "-x", language, "-", "-x", "none"]
-        fault = fault_of(run([*words, tools.malloc_library(), tools.archive], input=PROGRAM))
-        tools.checks.look(name, fault or fault_of(run([program])))
+        for standard in standards:
+            check_compiled(tools, compiler, language, standard)

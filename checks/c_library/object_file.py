@@ -3,15 +3,26 @@ storage, no unwind tables and no absolute relocations."""
 
 import re
 import shutil
+from dataclasses import dataclass
 
 from tools import TOP, fault_of, run
 
-# The names that the header says.
-WANTED = {"memcpy", "memset", "__udivti3", "rattle_alloc", "rattle_dealloc"}
-# The registers besides the general ones that the header says, and all that there are on x86-64.
-KEPT = {"xmm0", "xmm1"}
+# Registers of x86-64 besides the general ones.
 REGISTER = re.compile(r"%([xyz]mm\d+|mm\d|k[0-7]|st|fs|gs)\b")
+RELOCATION = re.compile(r"\bR_(?:X86_64|AARCH64)_\w+")
 ABSOLUTE = re.compile(r"\bR_X86_64_(64|32S?|16|8)\b|\bR_AARCH64_ABS\d+\b")
+
+
+@dataclass(frozen=True)
+class Asks:
+    """What an object asks for, as the header says it: names, registers besides the general ones, and relocations."""
+
+    names: set
+    registers: set
+    relocations: re.Pattern
+
+
+OF_PROGRAMS = Asks({"memcpy", "memset", "__udivti3", "rattle_alloc", "rattle_dealloc"}, {"xmm0", "xmm1"}, ABSOLUTE)
 
 
 def said_by(*words):
@@ -37,19 +48,19 @@ def declared():
     return set(re.findall(r"^(?:int64_t|void) (eevdf_\w+)\(", (TOP / "include" / "eevdf.h").read_text(), re.MULTILINE))
 
 
-def undocumented():
+def undocumented(wanted):
     text = (TOP / "include" / "eevdf.h").read_text()
-    return sorted(name for name in WANTED if not re.search(rf"\b{name}\b", text))
+    return sorted(name for name in wanted if not re.search(rf"\b{name}\b", text))
 
 
 def relocations(archive):
-    """The absolute relocations of what is loaded."""
+    """The relocations of what is loaded, each with its section."""
     section = ""
     for line in said_by("readelf", "-rW", archive).splitlines():
         if line.startswith("Relocation section"):
             section = line.split("'")[1]
-        elif ABSOLUTE.search(line) and not re.search(r"\.(debug|comment|note)", section):
-            yield f"{section}: {line.strip()}"
+        elif (kind := RELOCATION.search(line)) and not re.search(r"\.(debug|comment|note)", section):
+            yield kind[0], f"{section}: {line.strip()}"
 
 
 def has_thread_storage(archive):
@@ -69,23 +80,32 @@ def registers(archive):
     return set(REGISTER.findall(said_by("objdump", "-d", "--no-show-raw-insn", archive)))
 
 
-def check(tools):
-    if not all(map(shutil.which, ("nm", "readelf", "objdump"))):
+def is_readable(tools):
+    """Whether there are the tools that read an object, with a word where there aren't."""
+    found = all(map(shutil.which, ("nm", "readelf", "objdump")))
+    if not found:
         tools.checks.skip("the object", "nm, readelf or objdump", "binutils")
-        return
-    try:
-        look_at(tools.archive, tools.checks.look)
-    except RuntimeError as failed:
-        tools.checks.look("the object can be read", str(failed))
+    return found
 
 
-def look_at(archive, look):
-    look("the object wants the documented names", difference(undefined(archive), WANTED), ", ".join(sorted(WANTED)))
-    look("the header says these names", ", ".join(undocumented()))
+def check(tools):
+    if is_readable(tools):
+        try:
+            look_at(tools.archive, OF_PROGRAMS, tools.checks.look)
+        except RuntimeError as failed:
+            tools.checks.look("the object can be read", str(failed))
+
+
+def look_at(archive, asks, look):
+    look("the object wants the documented names", difference(undefined(archive), asks.names), ", ".join(sorted(asks.names)))
+    look("the header says these names", ", ".join(undocumented(asks.names)))
     missing = sorted(declared() - names(archive, "--defined-only"))
     look("the object defines what the header declares", f"not {missing}" if missing else None, f"{len(declared())} calls")
-    look("the registers are those that the header says", difference(registers(archive), KEPT), ", ".join(sorted(KEPT)))
+    kept = ", ".join(sorted(asks.registers)) or "none but the general ones"
+    look("the registers are those that the header says", difference(registers(archive), asks.registers), kept)
     look("no thread-local storage", "there is some" if has_thread_storage(archive) else None)
-    tables = re.findall(r"\.(?:eh_frame|gcc_except_table|ARM\.ex\w+)\S*", said_by("readelf", "-SW", archive))
-    look("no unwind tables", ", ".join(tables))
-    look("no absolute relocations", "; ".join(list(relocations(archive))[:5]))
+    sections = said_by("readelf", "-SW", archive)
+    look("no unwind tables", ", ".join(re.findall(r"\.(?:eh_frame|gcc_except_table|ARM\.ex\w+)\S*", sections)))
+    look("no constructors", ", ".join(re.findall(r"\.(?:init_array|fini_array|ctors|dtors)\S*", sections)))
+    others = [line for kind, line in relocations(archive) if asks.relocations.search(kind)]
+    look("no relocations that the header rules out", "; ".join(others[:5]))

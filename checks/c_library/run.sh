@@ -2,12 +2,22 @@
 # checks/c_library/run.sh [ARCHIVE [SEED]]: looks at the library for C, its header, its examples and what is built on it: README.md says at
 # what. Prints a line for each check; the last line is 'N passed, M failed'. Ends with 1 where something failed, and with 3 where there is
 # no library.
-# ARCHIVE is crates/eevdf_c/out/libeevdf_c.a where none is given, and SEED, from which the sequences of calls are drawn, 1.
+# checks/c_library/run.sh --kernel [MODULE [SEED]]: looks at the library for kernels, which is made from the LLVM module.
+# ARCHIVE is crates/eevdf_c/out/libeevdf_c.a where none is given, MODULE crates/eevdf_c/out/module, and SEED, from which the sequences of
+# calls are drawn, 1.
 set -u
 here=$(cd "$(dirname "$0")" && pwd)
-archive=${1:-$here/../../crates/eevdf_c/out/libeevdf_c.a}
+out=$here/../../crates/eevdf_c/out
+of=archive
+file=$out/libeevdf_c.a
+if [ "${1:-}" = --kernel ]; then
+  of=module
+  file=$out/module
+  shift
+fi
+file=${1:-$file}
 
-[ -f "$archive" ] || { echo "checks/c_library/run.sh: there is no $archive: build it by 'rt lib' in crates/eevdf_c" >&2; exit 3; }
+[ -e "$file" ] || { echo "checks/c_library/run.sh: there is no $file: build it by './build eevdf_c'" >&2; exit 3; }
 command -v gcc >/dev/null || command -v clang >/dev/null || {
   echo "skipped: the library for C: there is no C compiler (Debian package gcc)"
   echo "0 passed, 0 failed"
@@ -16,4 +26,4 @@ command -v gcc >/dev/null || command -v clang >/dev/null || {
 
 work=$(mktemp -d)
 trap 'rm -rf "$work"' EXIT
-python3 -B "$here/all.py" --archive "$archive" --work "$work" --seed "${2:-1}"
+python3 -B "$here/all.py" "--$of" "$file" --work "$work" --seed "${2:-1}"

@@ -1,5 +1,5 @@
-"""The crate for Rust: that its sizes, codes and calls are the header's, its tests and those of its pages with warnings as errors, and that
-it builds without the functions for memory."""
+"""The crate for Rust: that its sizes, codes, version and calls are the header's, its tests and those of its pages with warnings as errors,
+also without the functions for memory, and that it is formatted, has nothing that clippy warns of, and can be packed."""
 
 import os
 import re
@@ -10,6 +10,8 @@ from object_file import declared, difference
 from tools import TOP, fault_of, run
 
 FOLDER = TOP / "bindings" / "rust"
+# Flags of a program that lies below 2 GiB.
+STATIC = "-C relocation-model=static"
 # The structs with fields, by the file that has them, and their names in C.
 STRUCTS = (("queue.rs", "Entry", "eevdf_entry"), ("queue.rs", "Sleeper", "eevdf_sleeper"), ("hand.rs", "Parcel", "eevdf_parcel"))
 
@@ -38,18 +40,36 @@ def upper_name(variant):
     return re.sub(r"(?<=[a-z])(?=[A-Z])", "_", variant).upper()
 
 
+def version_of_header():
+    parts = re.findall(r"^#define EEVDF_VERSION_(?:MAJOR|MINOR|PATCH) (\d+)$", (TOP / "include" / "eevdf.h").read_text(), re.MULTILINE)
+    return sum(int(part) * unit for part, unit in zip(parts, (1000000, 1000, 1), strict=True))
+
+
+def other_version():
+    """What differs between the versions of the header, of the crate and of the library that the crate is written for."""
+    wanted = version_of_header()
+    written_for = int(re.search(r"^const VERSION: i64 = (\d+);$", source("lib.rs"), re.MULTILINE)[1])
+    own = re.search(r'^version = "(\d+)\.(\d+)\.(\d+)"$', (FOLDER / "Cargo.toml").read_text(), re.MULTILINE)
+    major, minor, patch = map(int, own.groups())
+    has = major * 1000000 + minor * 1000 + patch
+    return None if written_for == has == wanted else f"{has}, written for {written_for}, where the header has {wanted}"
+
+
 def check_names(tools):
     calls = set(re.findall(r"pub fn (eevdf_\w+)\(", source("calls.rs")))
     tools.checks.look("bindings/rust has the header's calls", difference(calls, declared()))
     tools.checks.look("bindings/rust has the header's sizes and codes", difference(numbers_of_crate(), numbers_of_header()))
+    tools.checks.look("bindings/rust has the header's version", other_version())
     other = [name for file, name, in_c in STRUCTS if fields_of_source(source(file), name) != fields_of_header(in_c)]
     tools.checks.look("bindings/rust has the header's fields", other and f"not those of {', '.join(other)}")
 
 
 def cargo(tools, *words):
+    flags = f"-D warnings {STATIC if tools.flags else ''}"
     env = {**os.environ, "EEVDF_LIB_DIR": str(tools.work / "prefix" / "lib"), "CARGO_TARGET_DIR": str(tools.work / "cargo"),
-           "RUSTFLAGS": "-D warnings", "RUSTDOCFLAGS": "-D warnings"}
-    made = run(["cargo", *words, "--offline", "--manifest-path", tools.work / "rust" / "Cargo.toml"], env=env)
+           "RUSTFLAGS": flags, "RUSTDOCFLAGS": flags}
+    offline = [] if words[0] == "fmt" else ["--offline"]
+    made = run(["cargo", *words, *offline, "--manifest-path", tools.work / "rust" / "Cargo.toml"], env=env)
     return made, fault_of(made)
 
 
@@ -61,8 +81,27 @@ def check(tools):
         return
     # a copy, so that the tree isn't written to
     shutil.copytree(FOLDER, tools.work / "rust", ignore=shutil.ignore_patterns("target", "Cargo.lock"))
+    check_tests(tools)
+    if not tools.flags:
+        check_form(tools)
+
+
+def check_form(tools):
+    for name, command, package, words in (
+        ("cargo fmt", "cargo-fmt", "rustfmt", ("fmt", "--check")),
+        ("cargo clippy", "cargo-clippy", "rust-clippy", ("clippy", "--all-targets")),
+    ):
+        # rustup puts each command in place, also where what it would run isn't installed
+        if run(["cargo", words[0], "--version"]).returncode:
+            tools.checks.skip(f"bindings/rust: {name}", command, package)
+        else:
+            tools.checks.look(f"bindings/rust: {name}", cargo(tools, *words)[1])
+    tools.checks.look("bindings/rust: cargo package", cargo(tools, "package", "--allow-dirty")[1])
+
+
+def check_tests(tools):
     made, fault = cargo(tools, "test")
     count = sum(int(line.split()[3]) for line in made.stdout.splitlines() if line.startswith("test result: ok."))
     tools.checks.look("bindings/rust: cargo test", fault or (None if count else "no test was run"), f"{count} tests")
     tools.checks.look("bindings/rust: cargo doc", cargo(tools, "doc", "--no-deps")[1])
-    tools.checks.look("bindings/rust without malloc: cargo build", cargo(tools, "build", "--no-default-features")[1])
+    tools.checks.look("bindings/rust without malloc: cargo test", cargo(tools, "test", "--no-default-features")[1])

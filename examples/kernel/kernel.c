@@ -1,5 +1,5 @@
 /* kernel.c: threads on one processor. All calls of the library are made with interrupts off. */
-#include <eevdf.h>
+#include "kernel.h"
 
 enum { TICK_NS = 1000000, STACK = 8192, END_OF_RUN = 2500 };
 
@@ -10,8 +10,7 @@ struct frame {
 	uint64_t rip, cs, rflags, rsp, ss;
 };
 
-/* A thread computes for `runs` ticks and sleeps for `sleeps`, so many rounds, and ends. */
-static const struct plan { int64_t nice; uint64_t slice_ns, runs, sleeps, rounds; } plans[] = {
+static const struct plan plans[] = {
 #include "threads.h"
 };
 enum { COUNT = sizeof plans / sizeof plans[0], IDLE = COUNT };
@@ -123,11 +122,13 @@ struct frame *on_timer(struct frame *frame)
 	return changed ? pick() : frame;
 }
 
-/* What a thread asks for by call(): to sleep for so many ticks, or with 0 to end. */
+/* Does what a thread asks for. */
 struct frame *on_call(struct frame *frame)
 {
 	threads[current].frame = frame;
-	if (frame->rdi > 0) {
+	if (frame->rdi == ASKS_FAULT)
+		end_qemu(3);
+	if (frame->rdi != ASKS_END) {
 		must(eevdf_sleep(&queue, current));
 		threads[current].wakes_at = ticks + frame->rdi;
 	} else {
@@ -137,27 +138,6 @@ struct frame *on_call(struct frame *frame)
 	return pick();
 }
 
-static void call(uint64_t sleeps)
-{
-	__asm__ volatile("int $48" : : "D"(sleeps) : "memory");
-}
-
-/* Where a thread begins. It computes its own number, in a register of SSE, over and over. */
-static void thread_main(uint64_t number)
-{
-	const struct plan *plan = &plans[number];
-	volatile double own = (double)number;
-
-	for (uint64_t round = 1; round <= plan->rounds; round++) {
-		for (double x = own; threads[number].ran < round * plan->runs; x = (x + own) * 0.5)
-			if (x != own)
-				end_qemu(3);
-		if (plan->sleeps)
-			call(plan->sleeps);
-	}
-	call(0);
-}
-
 static void start_thread(uint64_t number)
 {
 	struct thread *thread = admitted = &threads[number];
@@ -165,8 +145,10 @@ static void start_thread(uint64_t number)
 	thread->frame = (struct frame *)(thread->stack + STACK - 16) - 1;
 	*thread->frame = (struct frame){
 		.fx = { 0x7f, 0x03, [24] = 0x80, 0x1f },	/* control words: no exceptions */
-		.rip = (uint64_t)(uintptr_t)thread_main, .rdi = number, .cs = 8,
-		.rflags = 0x202, .rsp = (uint64_t)(uintptr_t)(thread->stack + STACK - 8),
+		.rip = (uint64_t)(uintptr_t)thread_main, .cs = 8, .rflags = 0x202,
+		.rdi = number, .rsi = (uint64_t)(uintptr_t)&plans[number],
+		.rdx = (uint64_t)(uintptr_t)&thread->ran,
+		.rsp = (uint64_t)(uintptr_t)(thread->stack + STACK - 8),
 	};
 	must(eevdf_admit(&queue, number, plans[number].nice, plans[number].slice_ns, 0));
 }

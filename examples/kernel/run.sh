@@ -15,16 +15,23 @@ needs() {
 needs "$cc" gcc
 needs qemu-system-x86_64 qemu-system-x86
 
-# what a kernel's code needs: no red zone, since interrupts come on the stack of whoever runs, and nothing of a C library
-flags=(-std=c11 -Wall -Wextra -Werror -pedantic -O2 "-I$top/include" -ffreestanding -mno-red-zone -fno-pic
-  -fno-stack-protector -fno-asynchronous-unwind-tables)
+# what all of it needs: no red zone, since interrupts come on the stack of whoever runs, and nothing of a C library
+flags=(-std=c11 -Wall -Wextra -Werror -pedantic -O2 "-I$top/include" "-I$here" "-DEEVDF_TYPES=\"types.h\"" -nostdinc -ffreestanding
+  -mno-red-zone -mcmodel=kernel -fno-pic -fno-stack-protector -fno-asynchronous-unwind-tables)
+# the kernel itself has no registers but the general ones, as Linux has it, and its threads have those of SSE too
+of_kernel=(-mno-sse -mno-sse2 -mno-mmx)
+
+# the archive for programs wants __udivti3, and the one for kernels doesn't
+libgcc=()
+[[ $archive == *_kernel.a ]] || libgcc=(-lgcc)
 
 work=$(mktemp -d)
 trap 'rm -rf "$work"' EXIT
-"$cc" "${flags[@]}" -c -o "$work/kernel.o" "$here/kernel.c"
+"$cc" "${flags[@]}" "${of_kernel[@]}" -c -o "$work/kernel.o" "$here/kernel.c"
+"$cc" "${flags[@]}" -c -o "$work/threads.o" "$here/threads.c"
 "$cc" -c -o "$work/boot.o" "$here/boot.S"
 "$cc" -nostdlib -static -Wl,--build-id=none,-z,noexecstack,--no-warn-rwx-segments -T "$here/kernel.ld" -o "$work/kernel" \
-  "$work/boot.o" "$work/kernel.o" "$archive" -lgcc
+  "$work/boot.o" "$work/kernel.o" "$work/threads.o" "$archive" "${libgcc[@]}"
 
 # the kernel ends qemu by its device for exits, with 33; one that hangs is ended after a minute
 status=0

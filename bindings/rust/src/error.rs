@@ -46,6 +46,9 @@ pub(crate) fn done(answer: i64) -> Result<()> {
     checked(answer).map(|_| ())
 }
 
+#[cfg(has_core_error)]
+impl core::error::Error for Error {}
+
 impl fmt::Display for Error {
     fn fmt(&self, f: &mut fmt::Formatter<'_>) -> fmt::Result {
         f.write_str(match self {

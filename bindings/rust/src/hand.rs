@@ -1,9 +1,11 @@
 //! A task on its way between two queues.
 
 use crate::calls;
+use crate::check_version;
 use crate::error::{checked, done};
 use crate::memory::HandMemory;
 use core::ffi::c_void;
+use core::fmt;
 use core::marker::PhantomData;
 use core::ptr::NonNull;
 
@@ -34,7 +36,12 @@ unsafe impl Send for Hand<'_> {}
 
 impl<'a> Hand<'a> {
     /// An empty hand.
+    ///
+    /// # Panics
+    ///
+    /// Where MAJOR or MINOR of the library that is linked isn't the crate's.
     pub fn open(memory: &'a mut HandMemory) -> Hand<'a> {
+        check_version();
         let at = NonNull::from(&mut memory.0).cast();
         // SAFETY: it points to the bytes of a hand, which are borrowed for as long as the hand lives
         unsafe { calls::eevdf_hand_open(at.as_ptr()) };
@@ -58,6 +65,12 @@ impl<'a> Hand<'a> {
     /// The place of the hand, for a call that changes it.
     pub(crate) fn place(&mut self) -> *mut c_void {
         self.at.as_ptr()
+    }
+}
+
+impl fmt::Debug for Hand<'_> {
+    fn fmt(&self, f: &mut fmt::Formatter<'_>) -> fmt::Result {
+        f.debug_struct("Hand").field("parcel", &self.parcel()).finish_non_exhaustive()
     }
 }
 

@@ -4,7 +4,8 @@
 //! A [`Queue`] says which of its tasks runs next. Its caller says which tasks there are, how long the running one ran, and who sleeps,
 //! wakes and ends:
 //!
-//! ```
+#![cfg_attr(feature = "malloc", doc = "```")]
+#![cfg_attr(not(feature = "malloc"), doc = "```no_run")]
 //! use eevdf::{Queue, QueueMemory};
 //!
 //! # fn main() -> eevdf::Result<()> {
@@ -24,6 +25,14 @@
 //! A queue stands in a [`QueueMemory`] of its caller's, and never moves. Each task takes one block of 152 bytes, in [`Queue::admit`],
 //! from the functions `rattle_alloc` and `rattle_dealloc`. With the feature `malloc`, which is on by default, they are over C's `malloc`
 //! and `free`. Without it the program defines them, as the header `eevdf.h` says.
+//!
+//! A function of one of these two names, without mangling, takes the place of that over `malloc` in either case. To define one is
+//! therefore an obligation, as to write `unsafe` is, though editions before 2024 take it without that word: it has to do what the header
+//! says.
+//!
+//! # Errors
+//!
+//! [`Error`] is a `core::error::Error` from Rust 1.81 on, where that is there.
 //!
 //! # Threads
 //!
@@ -60,6 +69,20 @@ pub use error::{Error, Result};
 pub use hand::{Hand, Parcel};
 pub use memory::{HandMemory, QueueMemory};
 pub use queue::{Entry, Queue, Sleeper};
+
+/// The version of the library that the crate is written for.
+const VERSION: i64 = 2000;
+
+/// Of a version, the two numbers that say which programs run over it.
+const fn series(version: i64) -> i64 {
+    version / 1000
+}
+
+/// Sees that the library which is linked has the two numbers of [`VERSION`], since the bytes of queues and hands and the structs are only
+/// of those.
+fn check_version() {
+    assert_eq!(series(version()), series(VERSION), "libeevdf.a is of another MAJOR or MINOR than the crate eevdf");
+}
 
 /// How many numbers there are for tasks, from 0 on.
 pub const TASKS: u64 = 1024;

@@ -1,10 +1,12 @@
 //! The run queue of one CPU.
 
 use crate::calls;
+use crate::check_version;
 use crate::error::{checked, done, Result};
 use crate::hand::Hand;
 use crate::memory::QueueMemory;
 use core::ffi::c_void;
+use core::fmt;
 use core::marker::PhantomData;
 use core::ptr::NonNull;
 
@@ -50,7 +52,12 @@ unsafe impl Send for Queue<'_> {}
 // calls has borrowed it: alone where the call changes it, and else shared with callers of the same thread, since it isn't `Sync`.
 impl<'a> Queue<'a> {
     /// A queue without tasks, at the virtual time 0.
+    ///
+    /// # Panics
+    ///
+    /// Where MAJOR or MINOR of the library that is linked isn't the crate's.
     pub fn open(memory: &'a mut QueueMemory) -> Queue<'a> {
+        check_version();
         let at = NonNull::from(&mut memory.0).cast();
         unsafe { calls::eevdf_open(at.as_ptr()) };
         Queue { at, memory: PhantomData }
@@ -247,6 +254,17 @@ impl<'a> Queue<'a> {
     /// `Invalid` where a number is out of its limits, or the lag is beyond the charge of two slices.
     pub fn can_place(&self, nice: i64, slice_ns: u64, lag: i64) -> Result<bool> {
         checked(unsafe { calls::eevdf_can_place(self.at.as_ptr(), nice, slice_ns, lag) }).map(|answer| answer == 1)
+    }
+}
+
+impl fmt::Debug for Queue<'_> {
+    fn fmt(&self, f: &mut fmt::Formatter<'_>) -> fmt::Result {
+        f.debug_struct("Queue")
+            .field("running", &self.running())
+            .field("len", &self.len())
+            .field("load", &self.load())
+            .field("floor_time", &self.floor_time())
+            .finish_non_exhaustive()
     }
 }
 

@@ -82,6 +82,24 @@ fn all_other_calls_do_what_they_say() {
 }
 
 #[test]
+fn a_queue_and_an_error_print() {
+    let mut memory = QueueMemory::new();
+    let mut queue = Queue::open(&mut memory);
+    queue.admit(7, 0, SLICE, 5).unwrap();
+    assert_eq!(format!("{queue:?}"), "Queue { running: None, len: 1, load: 1024, floor_time: 5, .. }");
+    let mut place = HandMemory::new();
+    assert_eq!(format!("{:?}", Hand::open(&mut place)), "Hand { parcel: None, .. }");
+    assert_eq!(Error::Absent.to_string(), "no such task here");
+}
+
+#[cfg(has_core_error)]
+#[test]
+fn an_error_is_one_of_the_language() {
+    let error: Box<dyn core::error::Error> = Error::Busy.into();
+    assert_eq!(error.to_string(), "the hand holds a task already");
+}
+
+#[test]
 fn a_timer_needs_no_ticks() {
     let mut memory = QueueMemory::new();
     let mut queue = Queue::open(&mut memory);

@@ -1,0 +1,129 @@
+/*
+ * calls.h: a drawn list of calls on two queues and a hand, and the checksum of their answers, the
+ * same in a program and in Linux.
+ */
+#ifndef CALLS_H
+#define CALLS_H
+
+#include <eevdf.h>
+
+enum { CALLS = 3000000, NUMBERS = 96 };
+
+struct game {
+	eevdf_queue queues[2];
+	eevdf_hand hand;
+	uint64_t word, checksum;
+};
+
+static inline uint64_t drawn(struct game *game, uint64_t below)
+{
+	game->word = game->word * 6364136223846793005u + 1442695040888963407u;
+	return (game->word >> 33) % below;
+}
+
+static inline void add(struct game *game, int64_t answer)
+{
+	game->checksum = (game->checksum ^ (uint64_t)answer) * 1099511628211u;
+}
+
+/* A call that lets time go by, or asks who is next. */
+static inline int64_t take_turn(struct game *game, eevdf_queue *queue)
+{
+	switch (drawn(game, 4)) {
+	case 0:
+		return eevdf_tick(queue, 1 + drawn(game, 4000000));
+	case 1:
+		return eevdf_yield(queue);
+	case 2:
+		return eevdf_time_to_resched(queue);
+	default:
+		return eevdf_peek(queue);
+	}
+}
+
+/* A call that changes what there is of a task. */
+static inline int64_t change_task(struct game *game, eevdf_queue *queue, uint64_t task)
+{
+	int64_t nice = (int64_t)drawn(game, 40) + EEVDF_NICE_MIN, start = 0;
+	uint64_t slice_ns = EEVDF_SLICE_MIN + drawn(game, 5000000);
+
+	switch (drawn(game, 6)) {
+	case 0:
+	case 1:
+		eevdf_floor_time(queue, &start);
+		return eevdf_admit(queue, task, nice, slice_ns, start);
+	case 2:
+		return eevdf_renice(queue, task, nice);
+	case 3:
+		return eevdf_set_slice(queue, task, slice_ns);
+	case 4:
+		return eevdf_wake(queue, task);
+	default:
+		return eevdf_sleep(queue, (uint64_t)eevdf_running(queue));
+	}
+}
+
+/* A call that moves a task, or ends it. */
+static inline int64_t move_task(struct game *game, eevdf_queue *queue, uint64_t task)
+{
+	switch (drawn(game, 8)) {
+	case 0:
+		return eevdf_take(queue, &game->hand, task);
+	case 1:
+		return eevdf_take_any(queue, &game->hand);
+	case 2:
+		return eevdf_put_asleep(queue, &game->hand);
+	case 3:
+		return eevdf_end(queue, task);
+	default:
+		return eevdf_put(queue, &game->hand);
+	}
+}
+
+static inline int64_t read_task(struct game *game, eevdf_queue *queue, uint64_t task)
+{
+	eevdf_entry entry = { 0, 0, 0, 0 };
+	int64_t number = 0;
+
+	switch (drawn(game, 3)) {
+	case 0:
+		eevdf_lag(queue, task, &number);
+		return number;
+	case 1:
+		eevdf_entry_of(queue, task, &entry);
+		return entry.deadline;
+	default:
+		return eevdf_candidate(queue);
+	}
+}
+
+/* All calls from a fresh start. Answers their checksum. */
+static inline uint64_t play(struct game *game)
+{
+	int64_t by = 0;
+
+	game->word = 1;
+	game->checksum = 14695981039346656037u;
+	eevdf_open(&game->queues[0]);
+	eevdf_open(&game->queues[1]);
+	eevdf_hand_open(&game->hand);
+	for (unsigned at = 0; at < CALLS; at++) {
+		eevdf_queue *queue = &game->queues[drawn(game, 2)];
+		uint64_t kind = drawn(game, 8), task = drawn(game, NUMBERS);
+
+		add(game, kind < 3 ? eevdf_pick(queue) :
+			  kind < 5 ? take_turn(game, queue) :
+			  kind == 5 ? change_task(game, queue, task) :
+			  kind == 6 ? move_task(game, queue, task) : read_task(game, queue, task));
+		if (at % 65536 == 0) {
+			eevdf_rebase(queue, &by);
+			add(game, by);
+		}
+	}
+	eevdf_hand_close(&game->hand);
+	eevdf_close(&game->queues[0]);
+	eevdf_close(&game->queues[1]);
+	return game->checksum;
+}
+
+#endif

@@ -1,0 +1,112 @@
+#!/usr/bin/env -S python3 -B
+"""kernel_archive.py [--thunks] MODULE ARCHIVE: makes the archive for kernels from the kept LLVM module of the library for C, by the kit's
+own clang and the words that it was given for the archive for programs, but for the attributes and flags that docs/embedding-c.md lists.
+Ends with 3 where there is no module, no kit, or a module that isn't understood."""
+
+import argparse
+import re
+import subprocess
+import sys
+import tempfile
+from dataclasses import dataclass
+from pathlib import Path
+
+from kept_module import KeptModule
+
+
+@dataclass(frozen=True)
+class Variant:
+    """What one of the archives is made by: attributes of each function that the module defines, the processor that these name, and flags
+    in the place of OF_POSITION."""
+
+    attributes: tuple
+    processor: str
+    flags: tuple
+
+
+OF_POSITION = "-fPIC"
+PROCESSOR = "x86-64-v2"
+PROGRAMS = Variant((), PROCESSOR, (OF_POSITION,))
+KERNEL = Variant(
+    ("noredzone",),  # nothing below the stack pointer
+    "x86-64",  # for each processor of 64 bits
+    (
+        "-mno-sse", "-mno-sse2", "-mno-avx", "-mno-mmx",  # no registers but the general ones
+        "-fno-pic", "-mcmodel=kernel",  # addresses in the highest or the lowest 2 GiB
+        "-mllvm", "-expand-div-rem-bits=64",  # the division of 128 bits in the code, so no __udivti3
+    ),
+)
+LINUX = Variant((*KERNEL.attributes, "fn_ret_thunk_extern"), KERNEL.processor, KERNEL.flags)  # returns by __x86_return_thunk
+
+OBJECT = "eevdf_kernel.o"
+DEFINITION = re.compile(r"^define .*?(?: #(\d+))? \{$", re.MULTILINE)
+
+
+class NotMade(Exception):
+    """Why there is no archive."""
+
+
+def with_attributes(text, variant):
+    """A module in words of LLVM, with the attributes of a variant on each function that it defines."""
+    groups = {found[1] for found in DEFINITION.finditer(text)}
+    named = f'"target-cpu"="{PROCESSOR}"'
+    for group in groups:
+        head = re.search(rf"^attributes #{group} = {{ (?=.*{named})", text, re.MULTILINE)
+        if not head:
+            raise NotMade(f"the module has a function of other attributes than for {PROCESSOR}")
+        text = text[: head.end()] + "".join(f"{name} " for name in variant.attributes) + text[head.end() :]
+    return text.replace(named, f'"target-cpu"="{variant.processor}"')
+
+
+def run(*words):
+    made = subprocess.run(list(map(str, words)), stdin=subprocess.DEVNULL, capture_output=True, text=True, errors="replace")
+    if made.returncode:
+        raise NotMade(f"{Path(words[0]).name}: {made.stdout}{made.stderr}")
+
+
+def compile_words(kept):
+    """The words by which the module was compiled, but for its name, that of the object, and where that may lie."""
+    words = list(kept.words)
+    for gone in ("-c", "-x", "ir", "-o", OF_POSITION, *(word for word in words if re.search(r"^--sysroot=|\.bc$|\.o$", word))):
+        if gone not in words:
+            raise NotMade(f"the module was compiled without {gone}: {' '.join(kept.words)}")
+        words.remove(gone)
+    return words
+
+
+def make(tools, kept, archive, variant):
+    """Makes an archive. The module is written in words of LLVM, in which attributes can be added, and nothing else is done to it."""
+    words = compile_words(kept)
+    with tempfile.TemporaryDirectory() as held:
+        text, made = Path(held) / "module.ll", Path(held) / OBJECT
+        run(tools / "clang", *words, "-x", "ir", "-S", "-emit-llvm", "-Xclang", "-disable-llvm-passes", "-o", text, kept.module)
+        text.write_text(with_attributes(text.read_text(), variant))
+        run(tools / "clang", *words, *variant.flags, "-c", "-x", "ir", "-o", made, text)
+        archive.unlink(missing_ok=True)
+        run(tools / "llvm-ar", "rcsD", archive, made)
+
+
+def kit_tools():
+    """The folder of the kit's clang."""
+    try:
+        page = subprocess.run(["rt", "doc"], capture_output=True, text=True, check=True).stdout.strip()
+    except (OSError, subprocess.CalledProcessError):
+        raise NotMade("there is no command rt: README.md names the kit that has it") from None
+    return Path(page).parent / "toolchain" / "bin"
+
+
+def main():
+    words = argparse.ArgumentParser()
+    words.add_argument("--thunks", action="store_true")
+    words.add_argument("module", type=Path)
+    words.add_argument("archive", type=Path)
+    asked = words.parse_args()
+    try:
+        make(kit_tools(), KeptModule.read(asked.module), asked.archive, LINUX if asked.thunks else KERNEL)
+    except (NotMade, FileNotFoundError) as failed:
+        print(f"{Path(__file__).name}: {failed}", file=sys.stderr)
+        sys.exit(3)
+
+
+if __name__ == "__main__":
+    main()
