@@ -1,23 +1,42 @@
 #!/usr/bin/env -S python3 -B
 """checks/refused_thread.py: runs 64 programs in an address space that hasn't room for the stacks of their threads: a thread is refused,
 which `eevdf` and `eevdf_timeline` say by their fault line and their status. The same workload runs to its report, or its picture, where
-there is room. It rests on the C library, which gives a thread a stack as large as the limit of stacks says. The last line is
-'N passed, M failed'."""
+there is room. Likewise `eevdf_uses` is run where its turns on two CPUs haven't room, by `run_turns` of the fleet that keeps its
+history, and where those have room and its turns on four CPUs haven't, by that of the other one. It rests on the C library, which gives
+a thread a stack as large as the limit of stacks says. The last line is 'N passed, M failed'."""
 
 import re
 import sys
 from resource import RLIMIT_AS, RLIMIT_STACK
 
-from runner import Checks, Printed, built
+from runner import TOP, Checks, Printed, built
 
 CPUS = 64
 WORKLOAD = b"version = 2\nprogram = [" + b'["pick"], ' * CPUS + b"]\n[[task]]\n"
 # Stacks of 8 MiB for each thread, and 256 MiB in all.
 LIMITS = {RLIMIT_STACK: 8 << 20, RLIMIT_AS: 256 << 20}
 
+# The stack of a thread of `eevdf_uses`, and how many have room beside the program where its turns are refused. What it prints ends then
+# with the line that begins what it does by them.
+USES_STACK = 256 << 20
+USES = {"turns with a history": (1, b"two threads\n"), "turns without a history": (2, b"idle pulls\n")}
+
+
+def look_at_uses(checks, programs):
+    """The two `run_turns`: a refused thread isn't said to be refused memory."""
+    wanted = (TOP / "crates" / "eevdf_uses" / "stdout").read_bytes()
+    for name, (threads, last) in USES.items():
+        limits = {RLIMIT_STACK: USES_STACK, RLIMIT_AS: threads * USES_STACK + USES_STACK // 2}
+        printed = programs.run("eevdf_uses", [], limits=limits)
+        before = wanted.partition(last)[0] + last
+        is_told = printed.status == 1 and printed.out == before and b"WouldBlock" in printed.errors
+        checks.expect(f"a refused thread of {name}", printed, is_told)
+    whole = programs.run("eevdf_uses", [])
+    checks.expect("turns whose threads have room", whole, (whole.out, whole.status) == (wanted, 0))
+
 
 def main():
-    programs, checks = built("eevdf", "eevdf_timeline"), Checks()
+    programs, checks = built("eevdf", "eevdf_timeline", "eevdf_uses"), Checks()
     refused = programs.run("eevdf", ["run"], WORKLOAD, limits=LIMITS)
     checks.expect("a refused thread", refused, refused == Printed(b"fault: thread\n", 3))
     whole = programs.run("eevdf", ["run"], WORKLOAD)
@@ -27,6 +46,7 @@ def main():
     checks.expect("a refused thread of a picture", undrawn, undrawn == Printed(b"", 3, b"fault: thread\n"))
     drawn = programs.run("eevdf_timeline", ["--run"], WORKLOAD)
     checks.expect(f"{CPUS} threads that are drawn", drawn, drawn.status == 0 and drawn.out.count(b'class="l"') == CPUS)
+    look_at_uses(checks, programs)
     return checks.end()
 
 

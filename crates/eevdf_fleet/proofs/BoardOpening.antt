@@ -1,12 +1,15 @@
 -- The claims at the start hold of the history that has no line yet.
-use Rattle.std.proofs.Common.{◌≡◌, ℕ, zero, suc, ◌+◌, ◌<◌, ◌≤◌, Bool, true, false, List, [], ◌∷◌, length, refl, sym, ap, subst, ◌∙◌, arith}
+use Rattle.std.proofs.Common.{◌≡◌, ℕ, zero, suc, ◌+◌, ◌<◌, ◌≤◌, Bool, true, false, cond, List, [], ◌∷◌, length, replicate, refl, sym, ap, subst, ◌∙◌, arith}
 use Rattle.std.specs.Prelude.{◌==◌, Option, Some, None, IfSome}
 use Rattle.std.proofs.lemmas.Bool.Decides.{nat_tests}
 use mathlib.Core.Option as option
 use lib.ListN.{get_elem?}
 use Rattle.eevdf_ops.specs.{declared.deeds.Line.Line, Machine.Machine, Machine.queue_at}
 use Rattle.eevdf_fleet.specs.{declared.board.claims.Terms.Terms, declared.board.claims.View.View}
-use Rattle.eevdf_fleet.specs.Claims.{Subject, seat, queue, journal, once, times, IsKept, AllTell, claims_from, knowing, opening, start}
+use Rattle.eevdf_fleet.specs.Claims.{Subject, seat, queue, journal, once, times, IsKept, AllTell, claims_from, knowing, no_posts, opening, start}
+use Rattle.eevdf_fleet.specs.declared.board.claims.PostClaim.TheVariants.{Posts}
+use Rattle.eevdf_fleet.specs.PostClaims.{AllSay, is_of, posts_from, posts_times, tasks_to}
+use Rattle.eevdf_ops.specs.Setup.{cpus_of}
 use Rattle.eevdf_fleet.specs.Board.{ViewTells, IsOneHistory}
 
 tell-journal : (quota : Option ℕ) → IfSome quota (λ (most : ℕ). ◌≡◌ {A = List Line} [] [])
@@ -54,10 +57,46 @@ once-from (q ∷ m) (seat cpu) from = omega (arith, seat-once m cpu from (from =
 once-from (q ∷ m) (queue cpu) from = omega (arith, queue-once m cpu from (from == cpu) refl (once-from m (queue cpu) (from + 1)))
 once-from (q ∷ m) journal from = omega (arith, once-from m journal (from + 1))
 
-opened_views : (t : Terms) (id : ℕ) (v : View) → get_elem? (knowing t (opening t) ∷ []) id ≡ option.some v → ViewTells t [] v
+opened_views : (t : Terms) (id : ℕ) (v : View) → get_elem? (knowing t (opening t) (no_posts t) ∷ []) id ≡ option.some v → ViewTells t [] v
 opened_views t zero v e =
     subst (λ (u : View). ViewTells t [] u) (option.some-injective _ _ e) (refl, tell-from t (start t) 0 (λ k less. ap (λ (c : ℕ). queue_at (start t) c) (let z : 0 + k ≡ k = omega arith in z)))
 opened_views t (suc id) v e = absurd (option.some-ne-none v (sym e))
 
-pub opens : (t : Terms) → IsKept t [] → IsOneHistory t (knowing t (opening t) ∷ [])
-opens t kept = record { lines = []; kept = kept; fits = opened_views t; once = λ k. omega (arith, once-from (start t) k 0) }
+-- nothing is posted
+none-posted : (cpus from count : ℕ) → AllSay (λ sender. replicate cpus []) (posts_from cpus from count)
+none-posted cpus from zero = tt
+none-posted cpus from (suc count) = (refl, none-posted cpus (from + 1) count)
+
+none-of : (cpus from count sender : ℕ) → sender < from → posts_times sender (posts_from cpus from count) ≡ 0
+none-of cpus from zero sender less = refl
+none-of cpus from (suc count) sender less =
+    let apart : is_of sender (Posts from (replicate cpus [])) ≡ 0 = ap (λ (b : Bool). cond b 1 0) (let e : (from == sender) ≡ false = grind (arith, nat_tests) in e) in
+    omega (arith, none-of cpus (from + 1) count sender (omega arith))
+
+posts-once : (cpus from count sender : ℕ) (b : Bool) → (from == sender) ≡ b → posts_times sender (posts_from cpus (from + 1) count) ≤ 1 → cond b 1 0 + posts_times sender (posts_from cpus (from + 1) count) ≤ 1
+posts-once cpus from count sender true e rest =
+    let same : from ≡ sender = grind (arith, nat_tests) in omega (arith, none-of cpus (from + 1) count sender (omega arith))
+posts-once cpus from count sender false e rest = omega arith
+
+once-posted : (cpus from count sender : ℕ) → posts_times sender (posts_from cpus from count) ≤ 1
+once-posted cpus from zero sender = omega arith
+once-posted cpus from (suc count) sender = posts-once cpus from count sender (from == sender) refl (once-posted cpus (from + 1) count sender)
+
+opened_posts : (t : Terms) (id : ℕ) (v : View) → get_elem? (knowing t (opening t) (no_posts t) ∷ []) id ≡ option.some v → AllSay (λ sender. replicate (cpus_of t.setup.value) []) v.posts
+opened_posts t zero v e =
+    subst (λ (u : View). AllSay (λ sender. replicate (cpus_of t.setup.value) []) u.posts) (option.some-injective _ _ e) (none-posted (cpus_of t.setup.value) 0 (cpus_of t.setup.value))
+opened_posts t (suc id) v e = absurd (option.some-ne-none v (sym e))
+
+pub opens : (t : Terms) → IsKept t [] → IsOneHistory t (knowing t (opening t) (no_posts t) ∷ [])
+opens t kept = record {
+  lines = [];
+  kept = kept;
+  fits = opened_views t;
+  once = λ k. omega (arith, once-from (start t) k 0);
+  posted = record {
+    posted = λ sender. replicate (cpus_of t.setup.value) [];
+    say = opened_posts t;
+    once = λ sender. omega (arith, once-posted (cpus_of t.setup.value) 0 (cpus_of t.setup.value) sender);
+    asked = λ sender home. (tasks_to (replicate (cpus_of t.setup.value) []) home, refl);
+  };
+}

@@ -7,17 +7,18 @@ use Rattle.std.proofs.lemmas.List.Elements.{All-map}
 use Rattle.std.proofs.lemmas.Option.{none-some, slice_get-map}
 use Rattle.eevdf_ops.specs.{declared.deeds.Answer.Answer, declared.deeds.Deed.Deed, declared.deeds.Line.Line}
 use Rattle.eevdf_ops.specs.{Outcome.machine_of, Programs.lines_by, Setup.cpus_of}
-use Rattle.eevdf_fleet.specs.{declared.board.claims.Terms.Terms, declared.closing.ClosedQueues.ClosedQueues, declared.drains.Drained.Drained}
+use Rattle.eevdf_fleet.specs.{declared.board.claims.Terms.Terms, declared.closing.ClosedQueues.ClosedQueues, declared.drains.Drained.Drained, declared.wake_list.DrainedWake.DrainedWake}
 use Rattle.eevdf_fleet.specs.{Claims.IsKept, Closings.AreClosed, Drains.ArePartsDrained}
+use Rattle.eevdf_fleet.specs.Drains as drains
 use Rattle.eevdf_fleet.specs.Fleets as fleets
 use Rattle.eevdf_fleet.specs.Fleets.{AreKnown, HasCommitted, IsRoomFor, Parts, PartsLooked, PartsSeeMore, seats_in}
-use Rattle.eevdf_fleet.specs.Endless.{AllPostsTold, AreOfOneHistory, AreSeats, HasDone, HasDrained, HasFound, HasPosted, HasSeen, HasSeenMore, IsOneThread, Seat, posted_to, seat_of_parts}
+use Rattle.eevdf_fleet.specs.Endless.{AllPostsTold, AreListed, AreOfOneHistory, AreSeats, HasDone, HasDrained, HasFound, HasPosted, HasSeen, HasSeenMore, IsOneThread, Seat, posted_to, seat_of_parts}
 
 -- no room is asked for where nothing is kept
 pub any-room : (quota : Option ℕ) (count room : ℕ) → quota ≡ None → IsRoomFor quota count room
 any-room quota count room none = subst (λ (q : Option ℕ). IsRoomFor q count room) (sym none) tt
 
-one-thread : (t : Terms) (lines : List Line) → IsKept t lines → IsOneThread t.setup.value lines
+pub one-thread : (t : Terms) (lines : List Line) → IsKept t lines → IsOneThread t.setup.value lines
 one-thread t lines kept = record { history = kept.history; allowed = kept.allowed; places = kept.placed }
 
 pub has-seen : (t : Terms) (p : Parts) → AreKnown t p → HasSeen t.setup.value (seat_of_parts p)
@@ -49,6 +50,9 @@ has-drained t drained before after done known = record {
   free = done.free;
   has_seen = has-seen t after known;
 }
+
+pub are-listed : (before after : Parts) (list list' : List DrainedWake) → drains.AreListed before.seat after.seat list list' → AreListed (seat_of_parts before) (seat_of_parts after) list list'
+are-listed before after list list' h = record { wakes = h.wakes; pushed = h.holds; lines = h.lines }
 
 pub has-posted : (home task : ℕ) (before after : Parts) → fleets.HasPosted before after home task → HasPosted home task (seat_of_parts before) (seat_of_parts after)
 has-posted home task before after done = record {

@@ -1,5 +1,6 @@
 pub mod Totals
 pub mod Told
+pub mod PostsClaimed
 pub mod ClaimsTold
 pub mod Boards
 pub mod BoardOpening
@@ -20,11 +21,13 @@ pub mod RingEnds
 pub mod RingRests
 pub mod RingOpenings
 pub mod RingNaming
+pub mod PostsOpened
 pub mod RingWords
 pub mod Takes
 pub mod SenderTurns
 pub mod SeatLists
 pub mod SeatParts
+pub mod SentTokens
 pub mod SeatTurns
 pub mod PostsTold
 pub mod Crossing
@@ -33,3 +36,5 @@ pub mod ProgramDrains
 pub mod ProgramOperations
 pub mod ProgramPlaces
 pub mod EndlessSeats
+pub mod PostsSeen
+pub mod SeenLines

@@ -1,13 +1,12 @@
 -- What is known of the items of a ring by its mark.
-use Rattle.std.proofs.Common.{◌≡◌, ℕ, ◌+◌, true, List, [], ◌∷◌, ◌++◌, length, append_assoc, refl, sym, ap, subst, ◌∙◌, arith}
+use Rattle.std.proofs.Common.{◌≡◌, ℕ, ◌+◌, List, [], ◌∷◌, ◌++◌, length, append_assoc, refl, sym, ap, subst, ◌∙◌, arith}
 use Rattle.std.proofs.lemmas.List.{append-nil, length-map, map-append}
 use Rattle.std.specs.Prelude.{slice_get, IfNone, IfSome, OnErr, OnOk, Option, Some, None, Result, Ok, Err}
-use Rattle.eevdf_ops.specs.Setup.{is_at_home}
 use Rattle.eevdf_fleet.specs.declared.rings.request.{Lead.Lead, Request.Request}
-use Rattle.eevdf_fleet.specs.Requests.{Grows, IsMark, IsMarked, MayFollow, tasks_after, tasks_of}
+use Rattle.eevdf_fleet.specs.Requests.{Allows, Follows, Grows, IsMark, IsMarked, Source, source_in, tasks_after, tasks_of}
 
 -- the items of a ring after requests more
-pub grows-marked : {homes : List ℕ} {home : ℕ} {before after : List Request} {tasks : List ℕ} → IsMarked homes home before → Grows before after tasks → IsMarked homes home after
+pub grows-marked : {source : Source} {home : ℕ} {before after : List Request} {tasks : List ℕ} → IsMarked source home before → Grows before after tasks → IsMarked source home after
 grows-marked m g = record {
   mark = m.mark;
   rest = m.rest ++ g.more;
@@ -15,10 +14,10 @@ grows-marked m g = record {
   leads = m.leads;
 }
 
-pub same-marked : {homes : List ℕ} {home : ℕ} {before after : List Request} → IsMarked homes home before → after ≡ before → IsMarked homes home after
-same-marked {homes} {home} m same = subst (λ (l : List Request). IsMarked homes home l) (sym same) m
+pub same-marked : {source : Source} {home : ℕ} {before after : List Request} → IsMarked source home before → after ≡ before → IsMarked source home after
+same-marked {source} {home} m same = subst (λ (l : List Request). IsMarked source home l) (sym same) m
 
-pub grows-tasks : {homes : List ℕ} {home : ℕ} {before after : List Request} {tasks : List ℕ} → IsMarked homes home before → Grows before after tasks
+pub grows-tasks : {source : Source} {home : ℕ} {before after : List Request} {tasks : List ℕ} → IsMarked source home before → Grows before after tasks
     → tasks_after after ≡ tasks_after before ++ tasks
 grows-tasks {tasks = tasks} m g =
     ap tasks_after (g.grown ∙ ap (λ (l : List Request). l ++ g.more) m.are)
@@ -27,39 +26,43 @@ grows-tasks {tasks = tasks} m g =
     ∙ ap (λ (l : List ℕ). l ++ tasks) (ap tasks_after (sym m.are))
 
 -- the same, where the items may be as they were
-pub popped-marked : {homes : List ℕ} {home : ℕ} {before after : List Request} (r : Option ℕ) → IfSome r (λ task. Grows before after (task ∷ [])) → IfNone r (after ≡ before)
-    → IsMarked homes home before → IsMarked homes home after
+pub popped-marked : {source : Source} {home : ℕ} {before after : List Request} (r : Option Request) → IfSome r (λ x. Grows before after (x.task ∷ [])) → IfNone r (after ≡ before)
+    → IsMarked source home before → IsMarked source home after
 popped-marked None some none m = same-marked m none
-popped-marked (Some task) some none m = grows-marked m some
+popped-marked (Some x) some none m = grows-marked m some
 
-pub pushed-marked : {homes : List ℕ} {home : ℕ} {before after : List Request} {T E : Type 0} (task : ℕ) (r : Result T E) → OnOk r (Grows before after (task ∷ []))
-    → OnErr r (after ≡ before) → IsMarked homes home before → IsMarked homes home after
+pub pushed-marked : {source : Source} {home : ℕ} {before after : List Request} {T E : Type 0} (task : ℕ) (r : Result T E) → OnOk r (Grows before after (task ∷ []))
+    → OnErr r (after ≡ before) → IsMarked source home before → IsMarked source home after
 pushed-marked task (Ok x) accepted refused m = grows-marked m accepted
 pushed-marked task (Err e) accepted refused m = same-marked m refused
 
 -- a ring of which only the mark is known
-pub only-mark : {homes : List ℕ} {home : ℕ} (mark : Request) (items : List Request) → items ≡ mark ∷ [] → IsMark homes home mark → IsMarked homes home items
+pub only-mark : {source : Source} {home : ℕ} (mark : Request) (items : List Request) → items ≡ mark ∷ [] → IsMark source home mark → IsMarked source home items
 only-mark mark items are leads = record { mark = mark; rest = []; are = are; leads = leads }
 
-pub marked-length : {homes : List ℕ} {home : ℕ} {items : List Request} → IsMarked homes home items → length items ≡ length (tasks_after items) + 1
+pub marked-length : {source : Source} {home : ℕ} {items : List Request} → IsMarked source home items → length items ≡ length (tasks_after items) + 1
 marked-length {items = items} m =
     omega (arith, ap length m.are, ap (λ (l : List Request). length (tasks_after l)) m.are, length-map m.rest (λ (r : Request). r.task))
 
--- a request may follow exactly if its task has its home there
-pub may-follow : {homes : List ℕ} {home : ℕ} {items : List Request} (task : ℕ) → IsMarked homes home items → is_at_home homes task home ≡ true → MayFollow items task
-may-follow {homes} task m h =
-    subst (λ (l : List Request). MayFollow l task) (sym m.are)
-    (subst (λ (o : Option Lead). IfSome o (λ (lead : Lead). is_at_home lead.homes.value.items task lead.home ≡ true)) (sym m.leads.says)
-    (ap (λ (hs : List ℕ). is_at_home hs task m.leads.lead.home) m.leads.homes_are ∙ ap (λ (c : ℕ). is_at_home homes task c) m.leads.home_is ∙ h))
+-- a request may follow exactly if it follows from the ring's source to its home
+pub may-follow : {source : Source} {home : ℕ} {items : List Request} (request : Request) → IsMarked source home items → Follows source home (tasks_after items) request → Allows items request
+may-follow {source} {home} request m h =
+    subst (λ (l : List Request). Allows l request) (sym m.are)
+    (subst (λ (o : Option Lead). IfSome o (λ (lead : Lead). Follows (source_in lead) lead.home (tasks_of m.rest) request)) (sym m.leads.says)
+    (subst (λ (s : Source). Follows s m.leads.lead.home (tasks_of m.rest) request) (sym m.leads.source_is)
+    (subst (λ (k : ℕ). Follows source k (tasks_of m.rest) request) (sym m.leads.home_is)
+    (subst (λ (l : List Request). Follows source home (tasks_after l) request) m.are h))))
 
-pub followed : {homes : List ℕ} {home : ℕ} {items : List Request} (task : ℕ) → IsMarked homes home items → MayFollow items task → is_at_home homes task home ≡ true
-followed {homes} task m h =
-    let said = subst (λ (o : Option Lead). IfSome o (λ (lead : Lead). is_at_home lead.homes.value.items task lead.home ≡ true)) m.leads.says
-    (subst (λ (l : List Request). MayFollow l task) m.are h) in
-    sym (ap (λ (hs : List ℕ). is_at_home hs task m.leads.lead.home) m.leads.homes_are ∙ ap (λ (c : ℕ). is_at_home homes task c) m.leads.home_is) ∙ said
+pub followed : {source : Source} {home : ℕ} {items : List Request} (request : Request) → IsMarked source home items → Allows items request → Follows source home (tasks_after items) request
+followed {source} {home} request m h =
+    subst (λ (l : List Request). Follows source home (tasks_after l) request) (sym m.are)
+    (subst (λ (k : ℕ). Follows source k (tasks_of m.rest) request) m.leads.home_is
+    (subst (λ (s : Source). Follows s m.leads.lead.home (tasks_of m.rest) request) m.leads.source_is
+    (subst (λ (o : Option Lead). IfSome o (λ (lead : Lead). Follows (source_in lead) lead.home (tasks_of m.rest) request)) m.leads.says
+    (subst (λ (l : List Request). Allows l request) m.are h))))
 
 -- the request after those that were popped, among the tasks without the mark
-pub next-task : {homes : List ℕ} {home : ℕ} {pushed popped : List Request} → IsMarked homes home pushed → IsMarked homes home popped
+pub next-task : {source : Source} {home : ℕ} {pushed popped : List Request} → IsMarked source home pushed → IsMarked source home popped
     → slice_get (tasks_of pushed) (length popped) ≡ slice_get (tasks_after pushed) (length (tasks_after popped))
 next-task {pushed = pushed} m n =
     ap (λ (l : List Request). slice_get (tasks_of pushed) (length l)) n.are

@@ -1,14 +1,21 @@
 -- The ends of the rings, where one of them moves on.
-use Rattle.std.proofs.Common.{◌≡◌, ℕ, zero, suc, ◌+◌, ◌<◌, ◌≤◌, min, List, [], ◌∷◌, ◌++◌, length, map, get_or, set, refl, sym, ap, ◌∙◌, arith, get_or-set_same}
+use Rattle.std.proofs.Common.{◌≡◌, ℕ, zero, suc, ◌+◌, ◌<◌, ◌≤◌, true, min, List, [], ◌∷◌, ◌++◌, length, map, get_or, set, refl, sym, ap, subst, ◌∙◌, arith, get_or-set_same}
 use Rattle.std.proofs.{Math.Seq.map-set_same, lemmas.Option.slice_get_read}
 use Rattle.std.proofs.lemmas.List.{length-map, map-set, get_or-map}
-use Rattle.std.specs.Prelude.{Option, Some, None, slice_get}
+use Rattle.std.specs.Prelude.{Option, Some, None, OnErr, OnOk, Result, Ok, Err, slice_get}
 use Rattle.std.specs.Option.{IsSomeAnd}
 use Rattle.rtrb.specs.Ring.{sent, known_free, producer_capacity, received, consumer_capacity, IsPair, SameConsumer, SameProducer, ProducerLooked}
-use Rattle.eevdf_fleet.specs.Requests.{Grows, IsMarked, tasks_after, tasks_of}
-use Rattle.eevdf_fleet.specs.Rings.{HasLooked, HasPosted, Ring, Rings, Posts, Takes, free_to, posted_to, ring_at, taken_from, taken_more}
+use Rattle.eevdf_fleet.specs.Requests.{Allows, Follows, Grows, IsMarked, Source, tasks_after, tasks_of}
+use Rattle.eevdf_fleet.specs.declared.board.claims.{Claim.Claim, PostClaim.PostClaim, Terms.Terms}
+use Rattle.eevdf_fleet.specs.declared.board.claims.PostClaim.TheVariants as claim
+use Rattle.eevdf_fleet.specs.declared.rings.request.Request.{Request}
+use Rattle.eevdf_fleet.specs.Board as tokens
+use Rattle.eevdf_fleet.specs.PostClaims.{sent_in, with_post, with_task}
+use Rattle.eevdf_ops.specs.Setup.{is_at_home}
+use Rattle.atomic_table.specs.Seated.{TableId}
+use Rattle.eevdf_fleet.specs.Rings.{HasLooked, HasPosted, Ring, Rings, Posts, Takes, free_to, posted_to, ring_at, source_of, taken_from, taken_more}
 use Rattle.eevdf_fleet.specs.RingEnds.{Pushing, Popping, PushesInto, PopsFrom, AreProducers, AreConsumers, free_in, posted_into, posts, slots_for, taken_out, takes}
-use Rattle.eevdf_fleet.proofs.{MarkedItems.grows-tasks, MarkedItems.marked-length, MarkedItems.next-task, MarkedItems.same-marked}
+use Rattle.eevdf_fleet.proofs.{MarkedItems.followed, MarkedItems.grows-tasks, MarkedItems.marked-length, MarkedItems.may-follow, MarkedItems.next-task, MarkedItems.same-marked}
 use Rattle.eevdf_fleet.proofs.RingPlaces.{each-set, got-read}
 
 abbrev pub takes_of : ℕ → List (List ℕ) → Takes
@@ -22,9 +29,9 @@ of_more P None e e' step h = h
 of_more P (Some r) e e' step h = step r h
 
 pub consumers-set : {r : Rings} {home : ℕ} {es : List Popping} (k : ℕ) (e e' : Popping) → AreConsumers r home es
-    → e ≡ get_or es k e → SameConsumer e e' → (IsMarked r.homes home (received e) → IsMarked r.homes home (received e')) → AreConsumers r home (set es k e')
+    → e ≡ get_or es k e → SameConsumer e e' → (IsMarked (source_of r k) home (received e) → IsMarked (source_of r k) home (received e')) → AreConsumers r home (set es k e')
 consumers-set {r} {home} {es} k e e' h at same marked = record {
-  each = each-set _ es k e' (λ x got. of_more (PopsFrom r.capacity r.homes home) (ring_at r k home) e e' (λ ring pops. record {
+  each = each-set _ es k e' (λ x got. of_more (PopsFrom r.capacity (source_of r k) home) (ring_at r k home) e e' (λ ring pops. record {
     pair = (same.0.0 ∙ pops.pair.0, same.0.1 ∙ pops.pair.1, same.0.2 ∙ pops.pair.2, same.0.3 ∙ pops.pair.3);
     capacity_is = same.1 ∙ pops.capacity_is;
     marked = marked pops.marked;
@@ -34,9 +41,9 @@ consumers-set {r} {home} {es} k e e' h at same marked = record {
 pub producers-set : {r : Rings} {sender : ℕ} {es : List Pushing} (k : ℕ) (e e' : Pushing) → AreProducers r sender es
     → e ≡ get_or es k e → SameProducer e e'
     → (r.capacity < known_free e + length (sent e) → r.capacity < known_free e' + length (sent e'))
-    → (IsMarked r.homes k (sent e) → IsMarked r.homes k (sent e')) → AreProducers r sender (set es k e')
+    → (IsMarked (source_of r sender) k (sent e) → IsMarked (source_of r sender) k (sent e')) → AreProducers r sender (set es k e')
 producers-set {r} {sender} {es} k e e' h at same room marked = record {
-  each = each-set _ es k e' (λ x got. of_more (PushesInto r.capacity r.homes k) (ring_at r sender k) e e' (λ ring pushes. record {
+  each = each-set _ es k e' (λ x got. of_more (PushesInto r.capacity (source_of r sender) k) (ring_at r sender k) e e' (λ ring pushes. record {
     same = ((same.0.0 ∙ pushes.same.0.0, same.0.1 ∙ pushes.same.0.1, same.0.2 ∙ pushes.same.0.2, same.0.3 ∙ pushes.same.0.3), same.1 ∙ pushes.same.1);
     capacity_is = same.1 ∙ pushes.capacity_is;
     room = room pushes.room;
@@ -54,43 +61,43 @@ producers-looked k e e' h at looked =
 within_shown : {E X : Type 0} (shown : E → X) (es : List E) (k : ℕ) → k < length (map shown es) → k < length es
 within_shown shown es k within = omega (arith, length-map es shown)
 
-some_pushes : (r : Rings) (home : ℕ) (o : Option Ring) (p : Pushing) → IsSomeAnd o (λ ring. PushesInto r.capacity r.homes home ring p)
-    → (r.capacity < known_free p + length (sent p)) × IsMarked r.homes home (sent p) × (producer_capacity p ≡ slots_for r.capacity)
-some_pushes r home None p h = absurd h
-some_pushes r home (Some ring) p h = (h.room, h.marked, h.capacity_is)
+some_pushes : (r : Rings) (sender home : ℕ) (o : Option Ring) (p : Pushing) → IsSomeAnd o (λ ring. PushesInto r.capacity (source_of r sender) home ring p)
+    → (r.capacity < known_free p + length (sent p)) × IsMarked (source_of r sender) home (sent p) × (producer_capacity p ≡ slots_for r.capacity)
+some_pushes r sender home None p h = absurd h
+some_pushes r sender home (Some ring) p h = (h.room, h.marked, h.capacity_is)
 
-some_pops : (r : Rings) (home : ℕ) (o : Option Ring) (e : Popping) → IsSomeAnd o (λ ring. PopsFrom r.capacity r.homes home ring e)
-    → (consumer_capacity e ≡ slots_for r.capacity) × IsMarked r.homes home (received e)
-some_pops r home None e h = absurd h
-some_pops r home (Some ring) e h = (h.capacity_is, h.marked)
+some_pops : (r : Rings) (sender home : ℕ) (o : Option Ring) (e : Popping) → IsSomeAnd o (λ ring. PopsFrom r.capacity (source_of r sender) home ring e)
+    → (consumer_capacity e ≡ slots_for r.capacity) × IsMarked (source_of r sender) home (received e)
+some_pops r sender home None e h = absurd h
+some_pops r sender home (Some ring) e h = (h.capacity_is, h.marked)
 
 module _ {r : Rings} {sender : ℕ} {ps : List Pushing} (home : ℕ) (p : Pushing) (h : AreProducers r sender ps) (within : home < length (map posted_into ps)) (at : p ≡ get_or ps home p) where
-  pub pushes-at : IsSomeAnd (ring_at r sender home) (λ ring. PushesInto r.capacity r.homes home ring p)
+  pub pushes-at : IsSomeAnd (ring_at r sender home) (λ ring. PushesInto r.capacity (source_of r sender) home ring p)
   pushes-at = h.each home p (slice_get_read ps (length (map posted_into ps)) home p (length-map ps posted_into) within at)
 
   pub room-at : r.capacity < known_free p + length (sent p)
-  room-at = (some_pushes r home (ring_at r sender home) p pushes-at).0
+  room-at = (some_pushes r sender home (ring_at r sender home) p pushes-at).0
 
-  pub pushed-mark : IsMarked r.homes home (sent p)
-  pushed-mark = (some_pushes r home (ring_at r sender home) p pushes-at).1
+  pub pushed-mark : IsMarked (source_of r sender) home (sent p)
+  pushed-mark = (some_pushes r sender home (ring_at r sender home) p pushes-at).1
 
   pub slots-at : producer_capacity p ≡ slots_for r.capacity
-  slots-at = (some_pushes r home (ring_at r sender home) p pushes-at).2
+  slots-at = (some_pushes r sender home (ring_at r sender home) p pushes-at).2
 
 module _ {r : Rings} {home : ℕ} {es : List Popping} (sender : ℕ) (e : Popping) (h : AreConsumers r home es) (within : sender < length (map taken_out es)) (at : e ≡ get_or es sender e) where
-  pub pops-at : IsSomeAnd (ring_at r sender home) (λ ring. PopsFrom r.capacity r.homes home ring e)
+  pub pops-at : IsSomeAnd (ring_at r sender home) (λ ring. PopsFrom r.capacity (source_of r sender) home ring e)
   pops-at = h.each sender e (slice_get_read es (length (map taken_out es)) sender e (length-map es taken_out) within at)
 
   pub capacity-at : consumer_capacity e ≡ slots_for r.capacity
-  capacity-at = (some_pops r home (ring_at r sender home) e pops-at).0
+  capacity-at = (some_pops r sender home (ring_at r sender home) e pops-at).0
 
-  pub popped-mark : IsMarked r.homes home (received e)
-  popped-mark = (some_pops r home (ring_at r sender home) e pops-at).1
+  pub popped-mark : IsMarked (source_of r sender) home (received e)
+  popped-mark = (some_pops r sender home (ring_at r sender home) e pops-at).1
 
-pair_of : (r : Rings) (home : ℕ) (o : Option Ring) (p : Pushing) (e : Popping) → IsSomeAnd o (λ ring. PushesInto r.capacity r.homes home ring p)
-    → IsSomeAnd o (λ ring. PopsFrom r.capacity r.homes home ring e) → IsPair p e
-pair_of r home None p e pushes pops = absurd pushes
-pair_of r home (Some ring) p e pushes pops =
+pair_of : (r : Rings) (sender home : ℕ) (o : Option Ring) (p : Pushing) (e : Popping) → IsSomeAnd o (λ ring. PushesInto r.capacity (source_of r sender) home ring p)
+    → IsSomeAnd o (λ ring. PopsFrom r.capacity (source_of r sender) home ring e) → IsPair p e
+pair_of r sender home None p e pushes pops = absurd pushes
+pair_of r sender home (Some ring) p e pushes pops =
     (pops.pair.0 ∙ sym pushes.same.0.0, pops.pair.1 ∙ sym pushes.same.0.1, pops.pair.2 ∙ sym pushes.same.0.2, pops.pair.3 ∙ sym pushes.same.0.3)
 
 -- the end of a sender's ring to a home and that of the home's ring from the sender are a pair
@@ -98,7 +105,7 @@ pub pair-at : {r : Rings} {sender home : ℕ} {ps : List Pushing} {es : List Pop
     → AreProducers r sender ps → AreConsumers r home es
     → home < length (map posted_into ps) → p ≡ get_or ps home p → sender < length (map taken_out es) → e ≡ get_or es sender e → IsPair p e
 pair-at {r} {sender} {home} p e producers consumers in_posts at_p in_takes at_e =
-    pair_of r home (ring_at r sender home) p e (pushes-at home p producers in_posts at_p) (pops-at sender e consumers in_takes at_e)
+    pair_of r sender home (ring_at r sender home) p e (pushes-at home p producers in_posts at_p) (pops-at sender e consumers in_takes at_e)
 
 -- an end that has posted fewer requests than its ring has room for knows a free slot
 pub free-at : {r : Rings} {sender : ℕ} {ps : List Pushing} (home : ℕ) (p : Pushing) → AreProducers r sender ps → home < length (map posted_into ps) → p ≡ get_or ps home p
@@ -181,6 +188,46 @@ takes-more home es k e e' tasks h within at grows =
 
 taken-at : (home : ℕ) (es : List Popping) (k : ℕ) (e : Popping) → k < length (map taken_out es) → e ≡ get_or es k e → taken_from (takes home es) k ≡ taken_out e
 taken-at home es k e within at = shown_at taken_out es k e [] (within_shown taken_out es k within) at
+
+-- a request that was popped follows those that the home had taken
+pub followed-taken : {r : Rings} (home : ℕ) (es : List Popping) (k : ℕ) (e : Popping) (x : Request) → AreConsumers r home es → k < length (map taken_out es) → e ≡ get_or es k e
+    → Allows (received e) x → Follows (source_of r k) home (taken_from (takes home es) k) x
+followed-taken {r} home es k e x h within at allowed =
+    subst (λ (l : List ℕ). Follows (source_of r k) home l x) (sym (taken-at home es k e within at)) (followed x (popped-mark k e h within at) allowed)
+
+-- a request may be pushed with a token of what its sender has posted with it
+pub post-follows : {r : Rings} {sender : ℕ} {ps : List Pushing} (home task : ℕ) (p : Pushing) → AreProducers r sender ps → home < length (map posted_into ps) → p ≡ get_or ps home p
+    → (board : TableId) (t : Terms) → r.board ≡ board → r.terms ≡ Some t → is_at_home r.homes task home ≡ true → (posts : List PostClaim) → posts ≡ claim.Posts sender (map posted_into ps) ∷ []
+    → (x : Request) → x.task ≡ task → tokens.IsToken board t x.token → tokens.claims_of x.token ≡ [] → tokens.posts_of x.token ≡ sent_in (with_post posts home task) → Allows (sent p) x
+post-follows {r} {sender} {ps} home task p h within at board t board_is terms_are at_home posts were x task_is token none sent_is =
+    let lists : List (List ℕ) = with_task (map posted_into ps) home task in
+    may-follow x (pushed-mark home p h within at) (record {
+      at_home = ap (λ (k : ℕ). is_at_home r.homes k home) task_is ∙ at_home;
+      sent = record {
+        lists = lists;
+        of = token.of ∙ sym board_is;
+        knows = token.knows ∙ ap (λ (cs : List Claim). record { terms = Some t; claims = cs; posts = tokens.posts_of x.token } ∷ []) none
+            ∙ ap (λ (cs : List PostClaim). record { terms = Some t; claims = []; posts = cs } ∷ []) (sent_is ∙ ap (λ (cs : List PostClaim). sent_in (with_post cs home task)) were)
+            ∙ ap (λ (o : Option Terms). record { terms = o; claims = []; posts = claim.Sent sender lists ∷ [] } ∷ []) (sym terms_are);
+        are = get_or-set_same (map posted_into ps) home (get_or (map posted_into ps) home [] ++ task ∷ []) [] within
+            ∙ ap (λ (l : List ℕ). l ++ task ∷ []) (shown_at posted_into ps home p [] (within_shown posted_into ps home within) at)
+            ∙ ap (λ (k : ℕ). posted_into p ++ k ∷ []) (sym task_is);
+      };
+    })
+
+-- what a sender claims to have posted is what went into its rings
+pub claimed-still : (sender : ℕ) (es : List Pushing) (k : ℕ) (e e' : Pushing) (claims : List PostClaim) → e ≡ get_or es k e → sent e' ≡ sent e → claims ≡ claim.Posts sender (map posted_into es) ∷ []
+    → claims ≡ claim.Posts sender (map posted_into (set es k e')) ∷ []
+claimed-still sender es k e e' claims at same were =
+    were ∙ ap (λ (l : List (List ℕ)). claim.Posts sender l ∷ []) (sym (shown_same posted_into es k e e' at (ap tasks_after same)))
+
+pub claimed-more : {source : Source} {T E : Type 0} (sender : ℕ) (es : List Pushing) (k task : ℕ) (e e' : Pushing) (res : Result T E) (was is : List PostClaim) → k < length (map posted_into es)
+    → e ≡ get_or es k e → IsMarked source k (sent e) → OnOk res (Grows (sent e) (sent e') (task ∷ [])) → OnErr res (sent e' ≡ sent e) → was ≡ claim.Posts sender (map posted_into es) ∷ []
+    → OnOk res (is ≡ with_post was k task) → OnErr res (is ≡ was) → is ≡ claim.Posts sender (map posted_into (set es k e')) ∷ []
+claimed-more sender es k task e e' (Ok x) was is within at marked grown same were more still =
+    more ∙ ap (λ (cs : List PostClaim). with_post cs k task) were
+    ∙ ap (λ (l : List (List ℕ)). claim.Posts sender l ∷ []) (sym (shown_more posted_into es k e e' (task ∷ []) (within_shown posted_into es k within) at (grows-tasks marked grown)))
+claimed-more sender es k task e e' (Err x) was is within at marked grown same were more still = claimed-still sender es k e e' is at same (still ∙ were)
 
 -- what a sender has posted and a home has taken, where both ends of their ring are here
 module _ {r : Rings} {sender home : ℕ} {ps : List Pushing} {es : List Popping} (capacity : ℕ) (p : Pushing) (e : Popping) (producers : AreProducers r sender ps) (consumers : AreConsumers r home es)

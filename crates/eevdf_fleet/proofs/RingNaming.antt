@@ -4,7 +4,9 @@ use Rattle.std.proofs.lemmas.List.{length-append, get_or-map}
 use Rattle.std.proofs.lemmas.List.FromFn.{length-map-range_with_len, map-range_with_len_more}
 use Rattle.std.specs.{List.range_with_len, Option.IsSomeAnd, declared.alloc.Global.Global, declared.vec.Vec.Vec}
 use Rattle.std.specs.Prelude.{slice_get, Option, Some, None}
-use Rattle.eevdf_fleet.specs.Rings.{Ring, Rings, ring_at, no_posts, no_takes}
+use Rattle.eevdf_fleet.specs.Rings.{Ring, Rings, ring_at, no_posts, no_takes, source_of}
+use Rattle.atomic_table.specs.Seated.{TableId}
+use Rattle.eevdf_fleet.specs.{declared.board.claims.Terms.Terms, Requests.Source, Requests.source_at}
 use Rattle.eevdf_fleet.specs.RingEnds.{Pushing, Popping, PushesInto, PopsFrom, Each, lists_of, AreProducers, AreConsumers, free_in, posted_into, posts, slots_for, taken_out, takes}
 use Rattle.eevdf_fleet.specs.OpenedRings.{IsFresh, Begins, AreOpened, ring_in, AreNewRows, AreNewColumns, list_at}
 use Rattle.rtrb.specs.Ring.{known_free}
@@ -57,28 +59,28 @@ all_shown shown x (e ∷ es) h =
 same_shown : {E X : Type 0} (shown : E → X) (x : X) (es : List E) (cpus : ℕ) → length es ≡ cpus → Each (λ k e. shown e ≡ x) es → map shown es ≡ replicate cpus x
 same_shown shown x es cpus is h = all_shown shown x es h ∙ ap (λ (n : ℕ). replicate n x) is
 
-begins_pops : (capacity : ℕ) (homes : List ℕ) (home : ℕ) (o : Option Ring) (end : Popping) → IsSomeAnd o (λ r. Begins capacity homes home r end)
-    → IsSomeAnd o (λ r. PopsFrom capacity homes home r end)
-begins_pops capacity homes home None end h = absurd h
-begins_pops capacity homes home (Some r) end h = h.pops
+begins_pops : (capacity : ℕ) (source : Source) (home : ℕ) (o : Option Ring) (end : Popping) → IsSomeAnd o (λ r. Begins capacity source home r end)
+    → IsSomeAnd o (λ r. PopsFrom capacity source home r end)
+begins_pops capacity source home None end h = absurd h
+begins_pops capacity source home (Some r) end h = h.pops
 
-begins_empty : (capacity : ℕ) (homes : List ℕ) (home : ℕ) (o : Option Ring) (end : Popping) → IsSomeAnd o (λ r. Begins capacity homes home r end) → taken_out end ≡ []
-begins_empty capacity homes home None end h = absurd h
-begins_empty capacity homes home (Some r) end h = h.none
+begins_empty : (capacity : ℕ) (source : Source) (home : ℕ) (o : Option Ring) (end : Popping) → IsSomeAnd o (λ r. Begins capacity source home r end) → taken_out end ≡ []
+begins_empty capacity source home None end h = absurd h
+begins_empty capacity source home (Some r) end h = h.none
 
 -- as many requests are known to fit as the ring has room for
 all_free : (capacity : ℕ) (end : Pushing) → known_free end ≡ slots_for capacity → free_in capacity end ≡ capacity
 all_free capacity end is = omega (arith, is)
 
 -- the ends of rings that were opened, under the rings' names
-module _ (r : Rings) (rows : List (List Pushing)) (columns : List (List Popping)) (is : rows ≡ r.rings) (h : AreOpened r.capacity r.homes (length rows) rows columns) where
+module _ (r : Rings) (rows : List (List Pushing)) (columns : List (List Popping)) (is : rows ≡ r.rings) (h : AreOpened r.capacity (source_of r) (length rows) rows columns) where
   ring_is : (sender home : ℕ) → ring_at r sender home ≡ ring_in rows sender home
   ring_is sender home = ap (λ (x : List (List Pushing)). ring_in x sender home) (sym is)
 
-  pushes_new : (sender home : ℕ) (end : Pushing) → IsFresh r.capacity r.homes home end → slice_get (list_at rows sender) home ≡ Some end
-      → IsSomeAnd (ring_at r sender home) (λ x. PushesInto r.capacity r.homes home x end)
+  pushes_new : (sender home : ℕ) (end : Pushing) → IsFresh r.capacity (source_of r sender) home end → slice_get (list_at rows sender) home ≡ Some end
+      → IsSomeAnd (ring_at r sender home) (λ x. PushesInto r.capacity (source_of r sender) home x end)
   pushes_new sender home end fresh got =
-      subst (λ (o : Option Ring). IsSomeAnd o (λ x. PushesInto r.capacity r.homes home x end)) (sym (ring_is sender home ∙ got))
+      subst (λ (o : Option Ring). IsSomeAnd o (λ x. PushesInto r.capacity (source_of r sender) home x end)) (sym (ring_is sender home ∙ got))
       (record { same = ((refl, refl, refl, refl), refl); capacity_is = fresh.capacity_is; room = omega (arith, fresh.free_is, ap length fresh.marked.are); marked = fresh.marked })
 
   pub new-rows : AreNewRows r rows
@@ -90,23 +92,24 @@ module _ (r : Rings) (rows : List (List Pushing)) (columns : List (List Popping)
         (same_shown (free_in r.capacity) r.capacity (list_at rows sender) (length rows) (h.to_all sender within) (λ home end got. all_free r.capacity end (h.fresh sender within home end got).free_is)),
   )
 
-  pops_new : (sender home : ℕ) (end : Popping) → IsSomeAnd (ring_in rows sender home) (λ x. Begins r.capacity r.homes home x end)
-      → IsSomeAnd (ring_at r sender home) (λ x. PopsFrom r.capacity r.homes home x end)
+  pops_new : (sender home : ℕ) (end : Popping) → IsSomeAnd (ring_in rows sender home) (λ x. Begins r.capacity (source_of r sender) home x end)
+      → IsSomeAnd (ring_at r sender home) (λ x. PopsFrom r.capacity (source_of r sender) home x end)
   pops_new sender home end begins =
-      subst (λ (o : Option Ring). IsSomeAnd o (λ x. PopsFrom r.capacity r.homes home x end)) (sym (ring_is sender home))
-      (begins_pops r.capacity r.homes home (ring_in rows sender home) end begins)
+      subst (λ (o : Option Ring). IsSomeAnd o (λ x. PopsFrom r.capacity (source_of r sender) home x end)) (sym (ring_is sender home))
+      (begins_pops r.capacity (source_of r sender) home (ring_in rows sender home) end begins)
 
   pub new-columns : AreNewColumns r columns
   new-columns home within = (
     record { each = λ sender end got. pops_new sender home end (h.pairs home (omega (arith, h.columns_are)) sender end got) },
     ap (λ (l : List (List ℕ)). takes_of home l) (same_shown taken_out [] (list_at columns home) (length columns) (h.from_all home (omega (arith, h.columns_are)) ∙ sym h.columns_are)
-        (λ sender end got. begins_empty r.capacity r.homes home (ring_in rows sender home) end (h.pairs home (omega (arith, h.columns_are)) sender end got))),
+        (λ sender end got. begins_empty r.capacity (source_of r sender) home (ring_in rows sender home) end (h.pairs home (omega (arith, h.columns_are)) sender end got))),
   )
 
 -- the same, of rings that are seen as these
-pub opened-as : (r : Rings) (capacity : ℕ) (homes : List ℕ) (rows : List (List Pushing)) (columns : List (List Popping)) → record { capacity = capacity; homes = homes; rings = rows } ≡ r
-    → AreOpened capacity homes (length rows) rows columns → AreNewRows r rows × AreNewColumns r columns
-opened-as r capacity homes rows columns named h =
-    let opened = subst (λ (x : Rings). AreOpened x.capacity x.homes (length rows) rows columns) named h in
+pub opened-as : (r : Rings) (board : TableId) (terms : Option Terms) (capacity : ℕ) (homes : List ℕ) (rows : List (List Pushing)) (columns : List (List Popping))
+    → record { board = board; terms = terms; capacity = capacity; homes = homes; rings = rows } ≡ r
+    → AreOpened capacity (source_at board terms homes) (length rows) rows columns → AreNewRows r rows × AreNewColumns r columns
+opened-as r board terms capacity homes rows columns named h =
+    let opened = subst (λ (x : Rings). AreOpened x.capacity (source_of x) (length rows) rows columns) named h in
     let is : rows ≡ r.rings = ap (λ (x : Rings). x.rings) named in
     (new-rows r rows columns is opened, new-columns r rows columns is opened)

@@ -9,8 +9,8 @@ use Rattle.eevdf_fleet.specs.Rings.{HasLooked, Posts, Takes, free_to, oldest, po
 use Rattle.eevdf_ops.specs.Programs.{wakes_from}
 use Rattle.eevdf_fleet.specs.Fleets as fleets
 use Rattle.eevdf_fleet.specs.Rings as rings
-use Rattle.eevdf_fleet.specs.{Drains.PartsTaken, Drains.oldest_own, TouchedQueues.IsNoWake, TouchedQueues.IsOfTwoQueues}
-use Rattle.eevdf_fleet.specs.Fleets.{AreParts, HasCommitted, HasPosted, HasWritten, IsNoLess, Parts, PartsLooked, Seat, SeatLog, free_at, logged, parts_of, seat_of, takes_by, written}
+use Rattle.eevdf_fleet.specs.{declared.wake_list.DrainedWake.DrainedWake, Drains.PartsTaken, Drains.line_of, Drains.oldest_own, TouchedQueues.IsNoWake, TouchedQueues.IsOfTwoQueues}
+use Rattle.eevdf_fleet.specs.Fleets.{AreParts, HasCommitted, HasLookedAt, HasPosted, HasWritten, IsNoLess, Parts, PartsLooked, Seat, SeatLog, free_at, logged, parts_of, seat_of, takes_by, written}
 use Rattle.eevdf_fleet.proofs.Takes.{same-takes, more-takes, taken-of}
 
 pub two-no-wake : (homes : List ℕ) (other : ℕ) (d : Deed) → IsOfTwoQueues homes other d → IsNoWake d
@@ -59,6 +59,16 @@ seat-looked log home p p' s looked view = subst (λ (x : Parts). PartsLooked x (
   free = no-less home p p' looked;
 })
 
+-- and nothing but what is known of the ring to that home
+pub seat-looked-at : (log : SeatLog) (at home : ℕ) (p p' : Posts) (s : Parts) → HasLooked at p p' → at ≡ home → parts_of log p ≡ s → HasLookedAt home s (parts_of log p')
+seat-looked-at log at home p p' s looked at_is view =
+    subst (λ (k : ℕ). HasLookedAt k s (parts_of log p')) at_is (subst (λ (x : Parts). HasLookedAt at x (parts_of log p')) view (record {
+      seat = ap (seat_of log) looked.posts;
+      seen = refl;
+      others = ap (λ (x : Posts). x.free) looked.posts;
+      free = looked.free;
+    }))
+
 -- a wake, whose request was taken
 pub parts-taken : (cpus : ℕ) (log log' : SeatLog) (home : ℕ) (p p' : Posts) (t t' : Takes) (on task at sender : ℕ) (answer : Answer) → AreParts cpus log p t → at ≡ sender → sender < cpus
     → HasLooked home p p' → t' ≡ taken_more t at (task ∷ []) → HasWritten log log' (record { deed = Wake on task sender; answer = answer }) → AreParts cpus log' p' t'
@@ -90,17 +100,16 @@ if_none None holds = holds
 if_none (Some x) holds = tt
 
 -- a seat whose request was taken and decided
-pub seat-taken : (log log' : SeatLog) (home : ℕ) (p p' : Posts) (s : Parts) (on task sender : ℕ) (answer : Answer) → HasWritten log log' (record { deed = Wake on task sender; answer = answer })
-    → HasLooked home p p' → parts_of log p ≡ s → on ≡ s.seat.cpu → (sender ≡ s.seat.cpu → oldest_own s.seat ≡ Some task) → PartsTaken s (parts_of log' p') sender answer
-seat-taken log log' home p p' s on task sender answer is looked view on_is own =
-    let l : ℕ → Line = λ n. record { deed = Wake n task sender; answer = answer } in
+pub seat-taken : (log log' : SeatLog) (home : ℕ) (p p' : Posts) (s : Parts) (on sender : ℕ) (wake : DrainedWake) → HasWritten log log' (line_of on wake)
+    → HasLooked home p p' → parts_of log p ≡ s → on ≡ s.seat.cpu → wake.sender ≡ sender → (sender ≡ s.seat.cpu → oldest_own s.seat ≡ Some wake.task) → PartsTaken s (parts_of log' p') sender wake
+seat-taken log log' home p p' s on sender wake is looked view on_is from own =
     record {
       taken = record {
-        task = task;
-        seat = ap (λ (x : SeatLog). seat_of x p') is.is ∙ ap (seat_of (written log is.others (l on))) looked.posts ∙ ap (λ (x : Parts). logged x.seat (l on)) view ∙ ap (λ (n : ℕ). logged s.seat (l n)) on_is;
+        sender_is = from;
+        seat = ap (λ (x : SeatLog). seat_of x p') is.is ∙ ap (seat_of (written log is.others (line_of on wake))) looked.posts ∙ ap (λ (x : Parts). logged x.seat (line_of on wake)) view ∙ ap (λ (n : ℕ). logged s.seat (line_of n wake)) on_is;
         own = own;
       };
-      seen = (is.others ++ l on ∷ [], ap (λ (x : Parts). x.seen ++ (is.others ++ l on ∷ [])) (sym view) ∙ ap (λ (x : SeatLog). x.seen) (sym is.is));
+      seen = (is.others ++ line_of on wake ∷ [], ap (λ (x : Parts). x.seen ++ (is.others ++ line_of on wake ∷ [])) (sym view) ∙ ap (λ (x : SeatLog). x.seen) (sym is.is));
       free = subst (λ (x : Parts). IsNoLess x.free p'.free) view (no-less home p p' looked);
     }
 

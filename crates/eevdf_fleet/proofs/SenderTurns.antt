@@ -1,15 +1,16 @@
 -- What a drain has done, sender by sender.
-use Rattle.std.proofs.Common.{◌≡◌, ℕ, suc, ◌+◌, ◌-◌, ◌<◌, ◌≤◌, Bool, true, false, ⊎_elim, List, [], ◌∷◌, ◌++◌, length, refl, sym, ap, subst, ◌∙◌, arith}
+use Rattle.std.proofs.Common.{◌≡◌, ℕ, suc, ◌+◌, ◌-◌, ◌<◌, ◌≤◌, Bool, true, false, ⊎_elim, List, [], ◌∷◌, ◌++◌, length, map, refl, sym, ap, subst, ◌∙◌, arith}
 use Rattle.std.specs.Prelude.{if◌then◌else◌, slice_get, Option, None, Some}
+use base.Growing.{prefix_trans}
 use Rattle.std.specs.{List.filter, Option.option_to_list}
 use Rattle.std.proofs.lemmas.Bool.{cases_eq}
 use Rattle.std.proofs.lemmas.List.{length_push, append-nil, append_assoc, map-append}
-use Rattle.eevdf_ops.specs.{declared.deeds.Answer.Answer, declared.deeds.Deed.Deed, declared.deeds.Line.Line}
+use Rattle.eevdf_ops.specs.{declared.deeds.Deed.Deed, declared.deeds.Line.Line}
 use Rattle.eevdf_ops.specs.declared.deeds.Deed.TheVariants.{Tick, Pick, Yield, Sleep, Wake, Pull, Renice}
 use Rattle.eevdf_ops.specs.Programs.{AreWakes, deeds_of, wakes_from}
-use Rattle.eevdf_fleet.specs.declared.drains.Drained.{Drained}
-use Rattle.eevdf_fleet.specs.Fleets.{IsRoomFor, Seat, logged, posted_to}
-use Rattle.eevdf_fleet.specs.Drains.{HasDrained, HasTaken, counted, is_woken, logged_all, oldest_own}
+use Rattle.eevdf_fleet.specs.{declared.drains.Drained.Drained, declared.wake_list.DrainedWake.DrainedWake}
+use Rattle.eevdf_fleet.specs.Fleets.{IsNoLess, IsRoomFor, Parts, PartsSeeMore, Seat, logged, posted_to}
+use Rattle.eevdf_fleet.specs.Drains.{ArePartsDrained, AreTakenBy, HasDrained, HasTaken, counted, is_woken, line_of, logged_all, oldest_own}
 use Rattle.eevdf_fleet.proofs.Takes.{wakes-append, wakes-one, wake-own, wake-other, wakes-unless}
 
 -- a wake on a CPU, asked for by a CPU from one on
@@ -135,24 +136,53 @@ module _ (sender : ℕ) (before now after : Seat) (drained : Drained) (h : Drain
   }
 
   -- and one of whom a request was
-  pub one-taken : (answer : Answer) → HasTaken now after sender answer → DrainedBelow (sender + 1) before after (counted drained answer)
-  one-taken answer taken =
+  pub one-taken : (wake : DrainedWake) → HasTaken now after sender wake → DrainedBelow (sender + 1) before after (counted drained wake.answer)
+  one-taken wake taken =
       let same_cpu : now.cpu ≡ before.cpu = ap (λ (s : Seat). s.cpu) h.seat in
-      let l : Line = record { deed = Wake before.cpu taken.task sender; answer = answer } in
+      let l : Line = record { deed = Wake before.cpu wake.task sender; answer = wake.answer } in
       record {
         lines = h.lines ++ l ∷ [];
-        seat = taken.seat ∙ ap (λ (n : ℕ). logged now (record { deed = Wake n taken.task sender; answer = answer })) same_cpu ∙ ap (λ (s : Seat). logged s l) h.seat
+        seat = taken.seat ∙ ap (λ (n : ℕ). logged now (record { deed = Wake n wake.task wake.sender; answer = wake.answer })) same_cpu
+            ∙ ap (λ (n : ℕ). logged now (record { deed = Wake before.cpu wake.task n; answer = wake.answer })) taken.sender_is ∙ ap (λ (s : Seat). logged s l) h.seat
             ∙ ap (λ (x : List Line). record before { log = x; room = before.room - length h.lines - 1 }) (append_assoc before.log h.lines (l ∷ []))
             ∙ ap (λ (n : ℕ). record before { log = before.log ++ (h.lines ++ l ∷ []); room = n }) (let e : before.room - length h.lines - 1 ≡ before.room - length (h.lines ++ l ∷ []) = omega (arith, length_push h.lines l) in e);
-        wakes = subst (λ (ds : List Deed). WakesTo before.cpu 0 (sender + 1) ds) (sym (map-append (λ (x : Line). x.deed) h.lines (l ∷ []))) (one-more before.cpu 0 sender taken.task (deeds_of h.lines) h.wakes);
+        wakes = subst (λ (ds : List Deed). WakesTo before.cpu 0 (sender + 1) ds) (sym (map-append (λ (x : Line). x.deed) h.lines (l ∷ []))) (one-more before.cpu 0 sender wake.task (deeds_of h.lines) h.wakes);
         taken = omega (arith, h.taken, length_push h.lines l);
         woken = omega (arith, h.woken, woken-more h.lines l);
         few = omega (arith, h.few, length_push h.lines l);
         own = λ late. ⊎_elim
             (λ is. wakes-append before.cpu h.lines (l ∷ []) ∙ ap (λ (x : List ℕ). x ++ wakes_from before.cpu (l ∷ [])) (h.not_yet (omega arith))
-            ∙ wakes-one before.cpu l ∙ wake-own before.cpu taken.task before.cpu sender is
+            ∙ wakes-one before.cpu l ∙ wake-own before.cpu wake.task before.cpu sender is
             ∙ ap option_to_list (sym (taken.own (is ∙ sym same_cpu)) ∙ oldest_still (omega arith)))
-            (λ away. wakes-unless before.cpu h.lines l (wake-other before.cpu taken.task before.cpu sender (λ e. away (sym e))) ∙ h.own (omega arith))
+            (λ away. wakes-unless before.cpu h.lines l (wake-other before.cpu wake.task before.cpu sender (λ e. away (sym e))) ∙ h.own (omega arith))
             (cases_eq sender before.cpu);
-        not_yet = λ early. wakes-unless before.cpu h.lines l (wake-other before.cpu taken.task before.cpu sender (λ e. omega arith)) ∙ h.not_yet (omega arith);
+        not_yet = λ early. wakes-unless before.cpu h.lines l (wake-other before.cpu wake.task before.cpu sender (λ e. omega arith)) ∙ h.not_yet (omega arith);
       }
+
+-- the lines tell of one wake more
+pub listed-more : (Holds Holds' : List DrainedWake → Type 0) (before now after : Seat) (sender : ℕ) (wake : DrainedWake) → AreTakenBy Holds before now → now.cpu ≡ before.cpu → HasTaken now after sender wake
+    → ((wakes : List DrainedWake) → Holds wakes → Holds' (wakes ++ wake ∷ [])) → AreTakenBy Holds' before after
+listed-more Holds Holds' before now after sender wake h same_cpu taken more = record {
+  wakes = h.wakes ++ wake ∷ [];
+  holds = more h.wakes h.holds;
+  lines = ap (λ (s : Seat). s.log) taken.seat ∙ ap (λ (l : List Line). l ++ line_of now.cpu wake ∷ []) h.lines ∙ append_assoc before.log (map (line_of before.cpu) h.wakes) (line_of now.cpu wake ∷ [])
+      ∙ ap (λ (n : ℕ). before.log ++ (map (line_of before.cpu) h.wakes ++ line_of n wake ∷ [])) same_cpu
+      ∙ ap (λ (l : List Line). before.log ++ l) (sym (map-append (line_of before.cpu) h.wakes (wake ∷ [])));
+}
+
+pub listed-same : (Holds : List DrainedWake → Type 0) (before now after : Seat) → AreTakenBy Holds before now → after ≡ now → AreTakenBy Holds before after
+listed-same Holds before now after h same = subst (λ (s : Seat). AreTakenBy Holds before s) (sym same) h
+
+pub listed-none : (Holds : List DrainedWake → Type 0) (s : Seat) → Holds [] → AreTakenBy Holds s s
+listed-none Holds s none = record { wakes = []; holds = none; lines = sym (append-nil s.log) }
+
+-- a seat that has drained and then seen more
+pub drained-seen : (before now after : Parts) (drained : Drained) → ArePartsDrained before now drained → PartsSeeMore now after → ArePartsDrained before after drained
+drained-seen before now after drained h more = record {
+  does = subst (λ (s : Seat). HasDrained before.seat s drained) (sym more.seat) h.does;
+  seen = prefix_trans _ _ _ h.seen more.seen;
+  free = subst (λ (f : List ℕ). IsNoLess before.free f) (sym more.free) h.free;
+}
+
+pub listed-weaker : (Holds Holds' : List DrainedWake → Type 0) (before after : Seat) → ((wakes : List DrainedWake) → Holds wakes → Holds' wakes) → AreTakenBy Holds before after → AreTakenBy Holds' before after
+listed-weaker Holds Holds' before after weaker h = record { wakes = h.wakes; holds = weaker h.wakes h.holds; lines = h.lines }

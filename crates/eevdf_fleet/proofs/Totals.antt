@@ -6,7 +6,7 @@ use Rattle.atomic_table.proofs.Lists.{set_else}
 use Rattle.eevdf_ops.specs.declared.deeds.Line.{Line}
 use Rattle.eevdf_fleet.specs.{declared.board.claims.Claim.Claim, declared.board.claims.View.View, declared.board.claims.Said.Said}
 use Rattle.eevdf_fleet.specs.declared.board.claims.Claim.TheVariants.{Seat, Queue, Journal, Past}
-use Rattle.eevdf_fleet.specs.Board.{held, recalled, shared}
+use Rattle.eevdf_fleet.specs.Board.{first_past, held, recalled, shared}
 use Rattle.eevdf_fleet.specs.Claims.{Subject, seat, queue, journal, here, times, total, nothing, advanced}
 
 pub total-set : (k : Subject) (views : List View) (id : ℕ) (v w : View) → get_elem? views id ≡ some v
@@ -82,3 +82,11 @@ times-shared k (Seat cpu own ∷ cs) = omega (arith, times-parts k 1 cs)
 times-shared k (Queue cpu q ∷ cs) = omega (arith, times-parts k 1 cs)
 times-shared k (Journal all ∷ cs) = omega (arith, times-parts k 1 cs)
 times-shared k (Past seen ∷ cs) = omega (arith, times-parts k 1 cs, here-past k seen)
+
+-- nothing that others could change is claimed by what is past
+pub times-past : (k : Subject) (cs : List Claim) → times k (first_past cs) ≡ 0
+times-past k [] = refl
+times-past k (Seat cpu own ∷ cs) = refl
+times-past k (Queue cpu q ∷ cs) = refl
+times-past k (Journal all ∷ cs) = refl
+times-past k (Past seen ∷ cs) = omega (arith, here-past k seen)

@@ -10,7 +10,8 @@ use Rattle.eevdf_ops.specs.Setup.{allows, cpus_of, homes_of}
 use Rattle.eevdf_ops.specs.Machine as machine
 use Rattle.eevdf_ops.specs.Parts as parts
 use Rattle.eevdf_fleet.specs.{declared.board.claims.Terms.Terms, declared.board.claims.Claim.Claim, declared.board.claims.View.View}
-use Rattle.eevdf_fleet.specs.{declared.board.claims.Change.Change, declared.board.claims.Said.Said}
+use Rattle.eevdf_fleet.specs.{declared.board.claims.Change.Change, declared.board.claims.PostClaim.PostClaim, declared.board.claims.Said.Said}
+use Rattle.eevdf_fleet.specs.PostClaims.{IsAsked, posts_from}
 use Rattle.eevdf_fleet.specs.declared.board.claims.Claim.TheVariants.{Seat, Queue, Journal, Past}
 
 -- the homes of the tasks, the machine at the start, and the machine that lines leave
@@ -89,11 +90,11 @@ AreTerms t None = Unit {0}
 AreTerms t (Some u) = u ≡ t
 
 -- what is known on terms, and nothing
-abbrev pub knowing : Terms → List Claim → View
-knowing t claims = record { terms = Some t; claims = claims }
+abbrev pub knowing : Terms → List Claim → List PostClaim → View
+knowing t claims posts = record { terms = Some t; claims = claims; posts = posts }
 
 abbrev pub nothing : View
-nothing = record { terms = None; claims = [] }
+nothing = record { terms = None; claims = []; posts = [] }
 
 -- the claims of each CPU in turn, from one on, and of the journal, before anything is done
 abbrev pub claims_from : ℕ → Machine → List Claim
@@ -102,6 +103,10 @@ claims_from cpu (q ∷ m) = Past [] ∷ Seat cpu [] ∷ Queue cpu q ∷ claims_f
 
 abbrev pub opening : Terms → List Claim
 opening t = claims_from 0 (start t)
+
+-- the same of what each CPU has posted
+abbrev pub no_posts : Terms → List PostClaim
+no_posts t = posts_from (cpus_of t.setup.value) 0 (cpus_of t.setup.value)
 
 -- a claim after a line is committed that changes these queues
 abbrev pub changed : Change → ℕ → State → State
@@ -141,6 +146,10 @@ pub record Owes (t : Terms) (claims : List Claim) (s : Said) : Type 0 where
   pub room : (lines : List Line) → AllTell t lines claims → HasRoom t.quota (length (lines_by (decider s.line.deed) lines))
   pub answers : (m : Machine) → Fits (homes t) s.line.deed m → AllAgree m claims → (whole (homes t) s.line.deed m).0 ≡ s.line.answer
   pub changes : (m : Machine) → Fits (homes t) s.line.deed m → AllAgree m claims → AllAgree (whole (homes t) s.line.deed m).1 (map (advanced s) claims)
+
+-- and wherever the claims hold, a wake was asked for
+abbrev pub OwesAsked : Terms → List Claim → List PostClaim → Said → Type 0
+OwesAsked t claims posts s = (lines : List Line) → AllTell t lines claims → IsAsked (lines_by (decider s.line.deed) lines) posts s.line.deed
 
 -- the same of the queues alone
 pub record OwesQueues (t : Terms) (claims : List Claim) (s : Said) : Type 0 where

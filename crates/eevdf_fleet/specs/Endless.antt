@@ -1,15 +1,16 @@
 -- What contracts see of a fleet that keeps no history.
-use Rattle.std.specs.Prelude.{◌≡◌, ℕ, ◌+◌, ◌*◌, ◌<◌, ◌≤◌, true, List, [], ◌∷◌, ◌++◌, All, length, map, replicate, slice_get, slice_index_or, slice_set, Some}
+use Rattle.std.specs.Prelude.{◌≡◌, ℕ, ◌+◌, ◌*◌, ◌<◌, ◌≤◌, true, List, [], ◌∷◌, ◌++◌, ◌⊎◌, All, length, map, replicate, slice_get, slice_index_or, slice_set, Some}
 use Rattle.std.specs.{List.filter, List.list_all, List.range_with_len, Option.option_to_list}
 use mathlib.Core.List.{IsPrefix}
+use Rattle.eevdf_queue.specs.State as states
 use Rattle.eevdf_ops.specs.{declared.deeds.Answer.Answer, declared.deeds.Deed.Deed, declared.deeds.Line.Line}
 use Rattle.eevdf_ops.specs.{Histories.AreHistory, Histories.machine_told, Machine.Machine, Machine.start, Places.IsPlaced}
 use Rattle.eevdf_ops.specs.Programs.{AreWakes, deeds_of, lines_by, wakes_from}
 use Rattle.eevdf_ops.specs.Setup.{Setup, allows, cpus_of, homes_of}
-use Rattle.eevdf_fleet.specs.declared.drains.Drained.{Drained}
-use Rattle.eevdf_fleet.specs.Drains.{is_woken}
+use Rattle.eevdf_fleet.specs.{declared.drains.Drained.Drained, declared.wake_list.DrainedWake.DrainedWake}
+use Rattle.eevdf_fleet.specs.Drains.{is_woken, line_of}
 use Rattle.eevdf_fleet.specs.Fleets.{IsNoLess, Kit, Parts, capacity_of, free_at, setup_of}
-use Rattle.eevdf_fleet.specs.Rings.{left_of}
+use Rattle.eevdf_fleet.specs.Rings.{Posted, given_to, left_of}
 
 -- a seat: its CPU, the lines of its operations in order, the first lines of the history, as far as the seat knows them, the
 -- tasks that it has posted, by homes, and how many requests more certainly fit into the ring to each home
@@ -79,6 +80,12 @@ pub record HasDrained (s : Setup) (drained : Drained) (before after : Seat) : Ty
   pub free : IsNoLess before.free after.free
   pub has_seen : HasSeen s after
 
+-- a list has got these wakes, and the seat's log their lines
+pub record AreListed (before after : Seat) (list list_after : List DrainedWake) : Type 0 where
+  pub wakes : List DrainedWake
+  pub pushed : list_after ≡ list ++ wakes
+  pub lines : after.log ≡ before.log ++ map (line_of before.cpu) wakes
+
 -- a seat has posted a request, which fills one place in the ring to the home
 pub record HasPosted (home task : ℕ) (before after : Seat) : Type 0 where
   pub cpu : after.cpu ≡ before.cpu
@@ -104,6 +111,34 @@ pub record HasSeenMore (s : Setup) (before after : Seat) : Type 0 where
   pub posted : after.posted ≡ before.posted
   pub free : after.free ≡ before.free
   pub has_seen : HasSeen s after
+
+-- lines end with this one: after some that were seen before, and others
+abbrev pub EndsWith : List Line → Line → Type 0
+EndsWith lines line = (before others : List Line) × (lines ≡ before ++ (others ++ line ∷ []))
+
+-- a line that is told, and what was seen when it was done
+pub record SeenLine : Type 0 where
+  pub line : Line
+  pub seen : List Line
+
+-- a look at the queue of a CPU, and the first lines of the history, as far as they were seen when it was looked at last
+pub record Look : Type 0 where
+  pub cpu : ℕ
+  pub queue : states.View
+  pub seen : List Line
+
+-- what was seen at two moments is of one history: one of the two begins the other, and the longer is what one thread comes to
+pub record Agree (s : Setup) (seen other : List Line) : Type 0 where
+  pub lines : List Line
+  pub one_thread : IsOneThread s lines
+  pub begins : IsPrefix seen lines
+  pub other_begins : IsPrefix other lines
+  pub longer : (lines ≡ seen) ⊎ (lines ≡ other)
+
+-- what a CPU had posted at some moment and what was seen at another are of one history: for each home, the wakes that the CPU asked for
+-- among the home's lines are a beginning of what it had posted to the home, or the other way about
+abbrev pub AgreeOnPosts : List Line → Posted → Type 0
+AgreeOnPosts seen posted = (home : ℕ) → IsPrefix (wakes_from posted.sender (lines_by home seen)) (given_to posted home) ⊎ IsPrefix (given_to posted home) (wakes_from posted.sender (lines_by home seen))
 
 -- what seats have posted to a home is the wakes that they asked for among the home's lines, whatever their answers, and then what is
 -- left; of `n` CPUs the list from sender `q` to home `c` stands at place `q * n + c`

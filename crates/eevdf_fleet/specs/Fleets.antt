@@ -137,6 +137,13 @@ pub record PartsLooked (before after : Parts) : Type 0 where
   pub seen : after.seen ≡ before.seen
   pub free : IsNoLess before.free after.free
 
+-- the same of the ring to one home alone
+pub record HasLookedAt (home : ℕ) (before after : Parts) : Type 0 where
+  pub seat : after.seat ≡ before.seat
+  pub seen : after.seen ≡ before.seen
+  pub others : after.free ≡ slice_set before.free home (free_at after.free home)
+  pub free : free_at before.free home ≤ free_at after.free home
+
 -- what the seat has seen is a history, in which its CPU has its lines
 pub record AreKnown (t : Terms) (p : Parts) : Type 0 where
   pub kept : IsKept t p.seen
@@ -204,4 +211,4 @@ abbrev pub no_table : TableId
 no_table = record { words = 0; slots = 0; views_name = 0; atom = 0; block = 0; offset = 0; slot_names = [] }
 
 abbrev pub no_kit : Kit
-no_kit = record { board = no_table; terms = record { setup = record { marker = record {}; value = record { tasks = []; programs = [] } }; quota = None }; rings = record { capacity = 0; homes = []; rings = [] } }
+no_kit = record { board = no_table; terms = record { setup = record { marker = record {}; value = record { tasks = []; programs = [] } }; quota = None }; rings = record { board = no_table; terms = None; capacity = 0; homes = []; rings = [] } }

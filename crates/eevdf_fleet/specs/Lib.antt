@@ -1,5 +1,6 @@
 pub mod Requests
 pub mod Rings
+pub mod PostClaims
 pub mod Claims
 pub mod Board
 pub mod SeatLogs

@@ -4,8 +4,8 @@ use Rattle.std.specs.{Option.IsSomeAnd, declared.alloc.Global.Global, declared.v
 use Rattle.rtrb.specs.declared.consumer.Consumer.{Consumer}
 use Rattle.rtrb.specs.Ring.{sent, known_free, producer_capacity, received, consumer_capacity, IsPair, SameProducer}
 use Rattle.eevdf_fleet.specs.declared.rings.request.{AtHome.AtHome, Request.Request}
-use Rattle.eevdf_fleet.specs.Requests.{IsMarked, tasks_after}
-use Rattle.eevdf_fleet.specs.Rings.{Ring, Rings, Posts, Takes, ring_at}
+use Rattle.eevdf_fleet.specs.Requests.{IsMarked, Source, tasks_after}
+use Rattle.eevdf_fleet.specs.Rings.{Ring, Rings, Posts, Takes, ring_at, source_of}
 
 abbrev pub Pushing : Type 0
 Pushing = Ring
@@ -29,17 +29,17 @@ abbrev pub free_in : ℕ → Pushing → ℕ
 free_in capacity end = min capacity (known_free end)
 
 -- an end that pushes into a ring to a home, which has room for what was never pushed
-pub record PushesInto (capacity : ℕ) (homes : List ℕ) (home : ℕ) (ring : Ring) (end : Pushing) : Type 0 where
+pub record PushesInto (capacity : ℕ) (source : Source) (home : ℕ) (ring : Ring) (end : Pushing) : Type 0 where
   pub same : SameProducer ring end
   pub capacity_is : producer_capacity end ≡ slots_for capacity
   pub room : capacity < known_free end + length (sent end)
-  pub marked : IsMarked homes home (sent end)
+  pub marked : IsMarked source home (sent end)
 
 -- an end that pops from a ring to a home
-pub record PopsFrom (capacity : ℕ) (homes : List ℕ) (home : ℕ) (ring : Ring) (end : Popping) : Type 0 where
+pub record PopsFrom (capacity : ℕ) (source : Source) (home : ℕ) (ring : Ring) (end : Popping) : Type 0 where
   pub pair : IsPair ring end
   pub capacity_is : consumer_capacity end ≡ slots_for capacity
-  pub marked : IsMarked homes home (received end)
+  pub marked : IsMarked source home (received end)
 
 -- each end belongs to its place
 abbrev pub Each : {E : Type 0} → (ℕ → E → Type 0) → List E → Type 0
@@ -50,11 +50,11 @@ lists_of {X} lists = map (λ (l : Vec X Global). l.items) lists
 
 -- the ends of a sender's rings to all homes
 pub record AreProducers (r : Rings) (sender : ℕ) (ends : List Pushing) : Type 0 where
-  pub each : Each (λ home end. IsSomeAnd (ring_at r sender home) (λ ring. PushesInto r.capacity r.homes home ring end)) ends
+  pub each : Each (λ home end. IsSomeAnd (ring_at r sender home) (λ ring. PushesInto r.capacity (source_of r sender) home ring end)) ends
 
 -- the ends of a home's rings from all senders
 pub record AreConsumers (r : Rings) (home : ℕ) (ends : List Popping) : Type 0 where
-  pub each : Each (λ sender end. IsSomeAnd (ring_at r sender home) (λ ring. PopsFrom r.capacity r.homes home ring end)) ends
+  pub each : Each (λ sender end. IsSomeAnd (ring_at r sender home) (λ ring. PopsFrom r.capacity (source_of r sender) home ring end)) ends
 
 abbrev pub posts : ℕ → ℕ → List Pushing → Posts
 posts capacity sender ends = record { sender = sender; posted = map posted_into ends; free = map (free_in capacity) ends }

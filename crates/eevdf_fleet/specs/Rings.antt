@@ -2,17 +2,25 @@
 use Rattle.std.specs.Prelude.{◌≡◌, ℕ, ◌+◌, ◌*◌, ◌<◌, ◌≤◌, List, [], ◌∷◌, ◌++◌, length, map, replicate, slice_get, slice_index_or, slice_set, Option}
 use Rattle.std.specs.{List.range_with_len, declared.alloc.Global.Global}
 use Rattle.rtrb.specs.declared.producer.Producer.{Producer}
+use Rattle.atomic_table.specs.Seated.{TableId}
+use Rattle.eevdf_fleet.specs.{declared.board.claims.Terms.Terms, Requests.Source, Requests.source_at}
 use Rattle.eevdf_fleet.specs.declared.rings.request.{AtHome.AtHome, Request.Request}
 
 -- a ring is named by its end that pushes, as it was opened
 abbrev pub Ring : Type 0
 Ring = Producer Request Global AtHome
 
--- rings that were opened, by senders and homes, how many requests each has room for, and the homes of the tasks
+-- rings that were opened, by senders and homes, how many requests each has room for, the homes of the tasks, and the board that the
+-- requests have tokens of, with its terms
 pub record Rings : Type 0 where
+  pub board : TableId
+  pub terms : Option Terms
   pub capacity : ℕ
   pub homes : List ℕ
   pub rings : List (List Ring)
+
+abbrev pub source_of : Rings → ℕ → Source
+source_of r = source_at r.board r.terms r.homes
 
 abbrev pub ring_at : Rings → ℕ → ℕ → Option Ring
 ring_at r sender home = slice_get (slice_index_or r.rings sender []) home

@@ -9,6 +9,7 @@ ghost use Rattle.eevdf_fleet.specs.Fleets.{AreSeats, given_back, returned, seats
 
 use crate::board::{NamedBoard, Token};
 use crate::journal::Journal;
+use crate::locks::{JournalLock, QueueLock};
 use crate::names::Names;
 use crate::reserve::Reserve;
 use crate::rings::ReturnedEnds;
@@ -16,18 +17,17 @@ use crate::run_queues::RunQueues;
 use crate::seat_log::SeatLog;
 use crate::seat_parts::SeatParts;
 use crate::slot::Slot;
-use crossbeam_utils::CachePadded;
 use eevdf_ops::Line;
 use eevdf_queue::{Queue, TaskId};
 use std::marker::Model;
-use std::sync::Mutex;
+use std::sync::Arc;
 
 /// Run queues that no thread shares any more, and room for what they are closed to. The token claims nothing.
 #[derive(Drop)]
 pub(crate) struct Closing<N: Names> {
-    pub(crate) board: NamedBoard<N>,
-    pub(crate) locks: Vec<CachePadded<Mutex<Slot<N>>>>,
-    pub(crate) journal: Option<CachePadded<Mutex<Journal<N>>>>,
+    pub(crate) board: Arc<NamedBoard<N>>,
+    pub(crate) locks: Vec<QueueLock<N>>,
+    pub(crate) journal: Option<JournalLock<N>>,
     pub(crate) queues: Vec<Queue>,
     pub(crate) ends: ReturnedEnds<N>,
     pub(crate) token: Token,
@@ -179,7 +179,7 @@ fn close_seat<N: Names>(
 fn close_locks<N: Names>(
     board: &NamedBoard<N>,
     mut token: Token,
-    mut locks: Vec<CachePadded<Mutex<Slot<N>>>>,
+    mut locks: Vec<QueueLock<N>>,
     mut queues: Vec<Queue>,
 ) -> (Token, Vec<Queue>)
     requires token { IsToken N.kit.board N.kit.terms token }
@@ -200,7 +200,7 @@ fn close_locks<N: Names>(
             queue,
             token: own,
             names: _,
-        } = lock.into_inner().into_inner();
+        } = lock.into_slot();
         token = board.join(token, own);
         queues[number.index()] = queue;
     }
@@ -211,7 +211,7 @@ fn close_locks<N: Names>(
 fn close_journal<N: Names>(
     board: &NamedBoard<N>,
     token: Token,
-    journal: Option<CachePadded<Mutex<Journal<N>>>>,
+    journal: Option<JournalLock<N>>,
 ) -> (Token, Option<Vec<Line>>)
     requires { IsToken N.kit.board N.kit.terms token }
     ensures token { IsToken N.kit.board N.kit.terms result.0 }
@@ -225,7 +225,7 @@ fn close_journal<N: Names>(
                 lines,
                 token: all,
                 names: _,
-            } = journal.into_inner().into_inner();
+            } = journal.into_journal();
             (board.join(token, all), Some(lines))
         }
     }

@@ -3,7 +3,8 @@
 ghost use Rattle.std.specs.Prelude.{◌≡◌, ◌≤◌, ◌++◌, ◌∷◌, [], is_some, map, true};
 ghost use Rattle.eevdf_ops.specs.Parts.{decider};
 ghost use Rattle.eevdf_fleet.specs.Claims.{OwesQueues, advanced, journal, times};
-ghost use Rattle.eevdf_fleet.specs.Board.{IsToken, Known, claims_of, held};
+ghost use Rattle.eevdf_fleet.specs.Board.{IsToken, Known, claims_of, held, posts_of};
+ghost use Rattle.eevdf_fleet.specs.PostClaims.{IsAsked};
 ghost use Rattle.eevdf_fleet.specs.Fleets.{HasWritten, IsRoomFor};
 
 use crate::board::{NamedBoard, Said, Token};
@@ -25,6 +26,7 @@ pub(crate) fn commit<N: Names>(
     requires room { IsRoomFor N.kit.terms.quota 1 log.old.room }
     requires own { decider said.now.line.deed ≡ log.old.cpu }
     requires owed { OwesQueues N.kit.terms (claims_of token) said.now }
+    requires asked { IsAsked log.old.lines (posts_of token) said.now.line.deed }
     requires journal { is_some N.kit.terms.quota ≡ true → 1 ≤ times journal (claims_of token) }
     ensures token { IsToken N.kit.board N.kit.terms result }
     ensures claims { claims_of result ≡ held (map (advanced said.now) (claims_of token)) }
@@ -54,6 +56,7 @@ pub(crate) fn commit_in_journal<N: Names>(
     requires room { IsRoomFor N.kit.terms.quota 1 log.old.room }
     requires own { decider said.line.deed ≡ log.old.cpu }
     requires owed { OwesQueues N.kit.terms (claims_of queues) said }
+    requires asked { IsAsked log.old.lines (posts_of queues) said.line.deed }
     ensures token { IsToken N.kit.board N.kit.terms result }
     ensures claims { claims_of result ≡ held (map (advanced said) (claims_of queues)) }
     ensures journal { journal.new ≡ journal.old ++ said.line ∷ [] }

@@ -3,15 +3,17 @@
 ghost use Rattle.std.specs.Prelude.{◌≡◌, ◌≤◌, ◌<◌, IfNone, IfSome, None};
 ghost use Rattle.eevdf_ops.specs.Numbers.{most_cpus};
 ghost use Rattle.eevdf_ops.specs.Setup.{cpus_of};
-ghost use Rattle.eevdf_fleet.specs.Drains.{ArePartsDrained, PartsTaken, counted, oldest_own};
+ghost use Rattle.eevdf_fleet.specs.Drains.{ArePartsDrained, AreTakenBy, PartsTaken, counted, oldest_own};
 ghost use Rattle.eevdf_fleet.specs.Fleets.{IsRoomFor, PartsLooked, setup_of};
 
-use crate::gate::{Gate, OpenGate};
-use crate::held_locks::HeldLocks;
+use crate::gate::Gate;
+use crate::locks::{HeldLocks, JournalLeave};
 use crate::names::Names;
+use crate::rings::Request;
 use crate::run_queues::RunQueues;
 use crate::seat_parts::SeatParts;
 use crate::slot::Slot;
+use crate::wake_list::{DrainedWake, Unlisted, WakeList};
 use eevdf_ops::{Answer, CpuId, Deed};
 use std::sync::Wait;
 
@@ -32,28 +34,43 @@ impl<N: Names> RunQueues<N> {
         gate: &G,
         n: usize,
         seat: &mut SeatParts<N>,
+        held: &mut HeldLocks,
     ) -> Drained
         requires { IsRoomFor N.kit.terms.quota (cpus_of (setup_of N.kit)) seat.old.seat.room }
         ensures drained { ArePartsDrained seat.old seat.new result }
         ensures few { result.taken ≤ cpus_of (setup_of N.kit) }
     {
-        let mut guard = self.hold(rt, &mut HeldLocks::none(), seat.cpu());
+        let (mut guard, mut leave) = self.hold(rt, held, seat.cpu());
         gate.inside(seat.cpu(), n);
-        self.drain_all(rt, seat, &mut guard)
+        // How many CPUs there may be is said by the type's invariant, of which a function knows that reads a field.
+        let _cpus = self.locks.len();
+        self.drain_all(rt, seat, &mut guard, &mut leave, &mut Unlisted)
     }
 
-    /// Goes through the senders in ascending order, and decides one request of each that is seen to have any.
-    fn drain_all<R: Wait>(&self, rt: &R, seat: &mut SeatParts<N>, slot: &mut Slot<N>) -> Drained
+    /// Goes through the senders in ascending order, and decides one request of each that is seen to have any. What it decided goes into
+    /// the list.
+    pub(crate) fn drain_all<R: Wait, L: WakeList>(
+        &self,
+        rt: &R,
+        seat: &mut SeatParts<N>,
+        slot: &mut Slot<N>,
+        leave: &mut JournalLeave<'_>,
+        wakes: &mut L,
+    ) -> Drained
         requires number { slot.old.number ≡ seat.old.seat.cpu }
         requires cpu { seat.old.seat.cpu < cpus_of (setup_of N.kit) }
         requires room { IsRoomFor N.kit.terms.quota (cpus_of (setup_of N.kit)) seat.old.seat.room }
+        requires list { cpus_of (setup_of N.kit) ≤ L.room wakes.old }
         ensures drained { ArePartsDrained seat.old seat.new result }
         ensures few { result.taken ≤ cpus_of (setup_of N.kit) }
+        ensures listed { AreTakenBy (λ wakes_of. L.has_taken wakes.old wakes_of wakes.new) seat.old.seat seat.new.seat }
+        ensures number { slot.new.number ≡ slot.old.number }
     {
         let mut drained = Drained { taken: 0, woken: 0 };
         for sender in 0..self.locks.len() {
-            if let Some(answer) = self.drain_one(rt, seat, slot, CpuId::numbered(sender)) {
-                drained = counted(drained, answer);
+            if let Some(wake) = self.drain_one(rt, seat, slot, leave, CpuId::numbered(sender)) {
+                drained = counted(drained, wake.answer);
+                wakes.take(wake);
             }
         }
         drained
@@ -65,20 +82,31 @@ impl<N: Names> RunQueues<N> {
         rt: &R,
         seat: &mut SeatParts<N>,
         slot: &mut Slot<N>,
+        leave: &mut JournalLeave<'_>,
         sender: CpuId,
-    ) -> Option<Answer>
+    ) -> Option<DrainedWake>
         requires number { slot.old.number ≡ seat.old.seat.cpu }
         requires sender { sender < cpus_of (setup_of N.kit) }
         requires room { IsRoomFor N.kit.terms.quota 1 seat.old.seat.room }
-        ensures some { IfSome result (λ answer. PartsTaken seat.old seat.new sender answer) }
+        ensures some { IfSome result (λ wake. PartsTaken seat.old seat.new sender wake) }
         ensures none { IfNone result (PartsLooked seat.old seat.new) }
         ensures none_own { IfNone result (sender ≡ seat.old.seat.cpu → oldest_own seat.old.seat ≡ None) }
         ensures number { slot.new.number ≡ slot.old.number }
     {
         let cpu = seat.cpu();
-        let task = seat.consumers.take(&mut seat.producers, sender.index())?;
-        let deed = Deed::Wake { cpu, task, sender };
-        Some(self.done_on_one(rt, &OpenGate, 0, &mut seat.log, slot, deed))
+        let request = seat.consumers.take(&mut seat.producers, sender.index())?;
+        let Request {
+            task,
+            token,
+            lead: _,
+        } = request;
+        let wake = Deed::Wake { cpu, task, sender };
+        let answer = self.wake_on_one(rt, &mut seat.log, slot, leave, wake, token);
+        Some(DrainedWake {
+            task,
+            sender,
+            answer,
+        })
     }
 }
 

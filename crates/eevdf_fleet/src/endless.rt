@@ -3,17 +3,25 @@
 //! only grows, in which the seat's CPU has the lines of its calls and no other.
 
 mod closed;
+mod exchange;
+mod exchange_turn;
 mod fleet;
 mod kit;
 mod queue_look;
 mod seat;
 mod seat_turn;
+mod seen_line;
 mod turn_threads;
 
+pub use crate::posted::Posted;
+pub use crate::seen::Seen;
 pub use closed::Closed;
+pub use exchange::Exchange;
+pub use exchange_turn::ExchangeTurn;
 pub use fleet::Fleet;
 pub use kit::Kit;
 pub use queue_look::QueueLook;
 pub use seat::Seat;
 pub use seat_turn::SeatTurn;
-pub use turn_threads::run_turns;
+pub use seen_line::SeenLine;
+pub use turn_threads::{run_exchange_turns, run_turns};

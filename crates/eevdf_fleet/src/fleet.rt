@@ -239,7 +239,10 @@ impl<N: Names> Fleet<N> {
         if seat.room() == 0 {
             return Err(SeatFull);
         }
-        Ok(self.queues.operate(rt, gate, n, &mut seat.parts, deed))
+        Ok(
+            self.queues
+                .operate(rt, gate, n, &mut seat.parts, &mut seat.held, deed),
+        )
     }
 
     /// The drain of a seat's CPU. The gate is told that it is operation `n` of the CPU's program.
@@ -259,6 +262,9 @@ impl<N: Names> Fleet<N> {
         if seat.room() < self.queues.cpus() {
             return Err(SeatFull);
         }
-        Ok(self.queues.drain(rt, gate, n, &mut seat.parts))
+        Ok(
+            self.queues
+                .drain(rt, gate, n, &mut seat.parts, &mut seat.held),
+        )
     }
 }

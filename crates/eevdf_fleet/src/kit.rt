@@ -15,10 +15,14 @@ pub struct Kit {
 }
 
 impl Model for Kit {
+    ghost use Rattle.std.specs.Coded.{codes};
+    ghost use Rattle.eevdf_queue.specs.Codes.{state_code};
     ghost use Rattle.std.specs.Prelude.{◌≡◌, is_some, true};
     ghost use Rattle.eevdf_fleet.specs.Fleets.{Kit};
 
     ghost Value = { Kit };
+
+    ghost coded = { Prim.hlevel (codes, state_code) };
 
     ghost view = { λ k. k.parts };
 

@@ -24,9 +24,13 @@ pub(crate) struct KitParts {
 }
 
 impl Model for KitParts {
+    ghost use Rattle.std.specs.Coded.{codes};
+    ghost use Rattle.eevdf_queue.specs.Codes.{state_code};
     ghost use Rattle.eevdf_fleet.specs.Fleets.{Kit};
 
     ghost Value = { Kit };
+
+    ghost coded = { Prim.hlevel (codes, state_code) };
 
     ghost view = { λ k. record {
       board = k.board.table.shared.table_id;
@@ -34,14 +38,16 @@ impl Model for KitParts {
       rings = k.rings;
     } };
 
-    ghost use Rattle.std.specs.Prelude.{◌≡◌, ◌≤◌, [], length, vec_len};
+    ghost use Rattle.std.specs.Prelude.{◌≡◌, ◌≤◌, [], length, vec_len, Some};
     ghost use Rattle.eevdf_ops.specs.{Numbers.most_cpus, Outcome.machine_of, Places.AreCpus};
     ghost use Rattle.eevdf_ops.specs.{Setup.cpus_of, Setup.homes_of};
-    ghost use Rattle.eevdf_fleet.specs.{Board.IsToken, Board.claims_of, Claims.IsKept, Claims.claims_from};
+    ghost use Rattle.eevdf_fleet.specs.{Board.IsToken, Board.claims_of, Board.posts_of, Claims.IsKept, Claims.claims_from};
+    ghost use Rattle.eevdf_fleet.specs.Claims.{no_posts};
     ghost use Rattle.eevdf_fleet.specs.Fleets.{HasLines};
 
     ghost invariant = { λ k. IsToken k.board.table.shared.table_id k.board.table.shared.key k.token
         × (claims_of k.token ≡ claims_from 0 (machine_of k.queues.items))
+        × (posts_of k.token ≡ no_posts k.board.table.shared.key)
         × (k.homes.items ≡ homes_of k.board.table.shared.key.setup.value)
         × (vec_len k.queues ≡ cpus_of k.board.table.shared.key.setup.value)
         × HasLines k.board.table.shared.key.quota (cpus_of k.board.table.shared.key.setup.value) k.lines
@@ -51,7 +57,9 @@ impl Model for KitParts {
         (homes_of k.board.table.shared.key.setup.value)
         × (cpus_of k.board.table.shared.key.setup.value ≤ most_cpus)
         × (length k.rings.rings ≡ cpus_of k.board.table.shared.key.setup.value)
-        × (k.rings.homes ≡ homes_of k.board.table.shared.key.setup.value) };
+        × (k.rings.homes ≡ homes_of k.board.table.shared.key.setup.value)
+        × (k.rings.board ≡ k.board.table.shared.table_id)
+        × (k.rings.terms ≡ Some k.board.table.shared.key) };
 }
 
 impl KitParts {
@@ -75,12 +83,12 @@ impl KitParts {
         };
         let homes = setup.homes(alloc)?;
         let queues = Solo::open(alloc, setup)?.into_queues();
-        let rings = Rings::open(alloc, setup.cpus(), rings, &homes)?;
         let lines = match quota {
             None => None,
             Some(most) => Some(Vec::with_capacity(alloc, setup.cpus() * most)?),
         };
         let (board, token) = Board::open(alloc, &terms)?;
+        let rings = Rings::open(alloc, setup.cpus(), rings, &homes, &token)?;
         Ok(KitParts {
             board,
             token,

@@ -13,7 +13,7 @@
 //! takes no memory and claims what the one history has of it.
 #![tactic(auto)]
 
-mod adaptive_lock;
+mod agreement;
 mod board;
 mod closing;
 mod commit;
@@ -21,19 +21,20 @@ mod drains;
 pub mod endless;
 mod fleet;
 mod gate;
-mod held_locks;
 mod journal;
 mod kit;
 mod kit_parts;
 mod line_commits;
+mod listed_drains;
 mod locked_deeds;
-mod looking;
+mod locks;
 mod names;
 mod opening;
 mod operations;
+mod post_agreement;
+mod posted;
 mod program_needs;
 mod program_threads;
-mod queue_locks;
 mod queue_work;
 mod reserve;
 mod rings;
@@ -46,14 +47,17 @@ mod seat_program;
 mod seat_threads;
 mod seat_turn;
 mod seat_work;
+mod seen;
 mod slot;
 mod texts;
 mod turn_threads;
+mod wake_list;
 
 pub use drains::Drained;
 pub use fleet::{Closed, Fleet, SeatFull};
 pub use gate::{Gate, OpenGate};
 pub use kit::Kit;
+pub use listed_drains::ListedDrain;
 pub use names::Names;
 pub use program_threads::run_all;
 pub use rings::RingFull;
@@ -61,3 +65,4 @@ pub use run_fault::RunFault;
 pub use seat::Seat;
 pub use seat_turn::SeatTurn;
 pub use turn_threads::run_turns;
+pub use wake_list::DrainedWake;

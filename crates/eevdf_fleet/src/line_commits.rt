@@ -3,7 +3,8 @@
 ghost use Rattle.std.specs.Prelude.{◌≡◌, ◌≢◌, [], ◌∷◌, map, true};
 ghost use Rattle.eevdf_ops.specs.{Parts.decider, Setup.allows, Setup.homes_of};
 ghost use Rattle.eevdf_fleet.specs.declared.board.claims.Claim.TheVariants as claim;
-ghost use Rattle.eevdf_fleet.specs.{Board.IsToken, Board.claims_of, Board.held};
+ghost use Rattle.eevdf_fleet.specs.{Board.IsToken, Board.claims_of, Board.held, Board.posts_of};
+ghost use Rattle.eevdf_fleet.specs.PostClaims.{IsAsked};
 ghost use Rattle.eevdf_fleet.specs.Claims.{OwesQueues, advanced};
 ghost use Rattle.eevdf_fleet.specs.Fleets.{HasWritten, IsRoomFor, setup_of};
 ghost use Rattle.eevdf_fleet.specs.TouchedQueues.{AreDoneFrom, IsDoneFrom, IsOfOneQueue};
@@ -11,6 +12,7 @@ ghost use Rattle.eevdf_fleet.specs.TouchedQueues.{IsOfTwoQueues};
 
 use crate::board::{Change, Said, Token};
 use crate::commit::{commit, commit_in_journal};
+use crate::locks::JournalLeave;
 use crate::names::Names;
 use crate::run_queues::RunQueues;
 use crate::seat_log::SeatLog;
@@ -25,6 +27,7 @@ impl<N: Names> RunQueues<N> {
     pub(crate) fn commit_one<R: Wait>(
         &self,
         rt: &R,
+        leave: &mut JournalLeave<'_>,
         log: &mut SeatLog<N>,
         token: Token,
         queue: &Queue,
@@ -36,12 +39,13 @@ impl<N: Names> RunQueues<N> {
         requires allowed { allows (setup_of N.kit) line.now.deed ≡ true }
         requires room { IsRoomFor N.kit.terms.quota 1 log.old.room }
         requires done { IsDoneFrom (claims_of token) log.old.cpu queue.now.state line.now }
+        requires asked { IsAsked log.old.lines (posts_of token) line.now.deed }
         ensures token { IsToken N.kit.board N.kit.terms result }
         ensures claims { claims_of result ≡ claim.Queue log.old.cpu queue.now.state ∷ [] }
         ensures log { HasWritten log.old log.new line.now }
     {
         let said = said(line, log.cpu(), queue);
-        self.commit_line(rt, log, token, said)
+        self.commit_line(rt, leave, log, token, said)
     }
 
     /// Commits a line that has changed the queues of the log's CPU and of another one, which the token claims as they
@@ -49,6 +53,7 @@ impl<N: Names> RunQueues<N> {
     pub(crate) fn commit_two<R: Wait>(
         &self,
         rt: &R,
+        leave: &mut JournalLeave<'_>,
         log: &mut SeatLog<N>,
         token: Token,
         queue: &Queue,
@@ -71,17 +76,25 @@ impl<N: Names> RunQueues<N> {
         ensures log { HasWritten log.old log.new line.now }
     {
         let said = said_both(line, change(log.cpu(), queue), change(other, other_queue));
-        let token = self.commit_line(rt, log, token, said);
+        let token = self.commit_line(rt, leave, log, token, said);
         self.board.split(token)
     }
 
     /// Commits a line of the log's CPU, in the journal too where there is one. The token claims the queues that it changes.
     #[inline(always)]
-    fn commit_line<R: Wait>(&self, rt: &R, log: &mut SeatLog<N>, queues: Token, said: Said) -> Token
+    fn commit_line<R: Wait>(
+        &self,
+        rt: &R,
+        leave: &mut JournalLeave<'_>,
+        log: &mut SeatLog<N>,
+        queues: Token,
+        said: Said,
+    ) -> Token
         requires token { IsToken N.kit.board N.kit.terms queues }
         requires room { IsRoomFor N.kit.terms.quota 1 log.old.room }
         requires own { decider said.line.deed ≡ log.old.cpu }
         requires owed { OwesQueues N.kit.terms (claims_of queues) said }
+        requires asked { IsAsked log.old.lines (posts_of queues) said.line.deed }
         ensures token { IsToken N.kit.board N.kit.terms result }
         ensures claims { claims_of result ≡ held (map (advanced said) (claims_of queues)) }
         ensures log { HasWritten log.old log.new said.line }
@@ -89,7 +102,7 @@ impl<N: Names> RunQueues<N> {
         match &self.journal {
             None => commit(&self.board, log, queues, &said),
             Some(journal) => {
-                let mut journal = journal.lock(rt);
+                let mut journal = journal.lock(rt, leave);
                 commit_in_journal(&self.board, &mut journal, log, queues, said)
             }
         }

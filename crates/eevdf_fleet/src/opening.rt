@@ -1,37 +1,38 @@
 //! How a fleet is opened from its kit.
 
 ghost use Rattle.std.specs.Prelude.{◌≡◌, ◌<◌, ◌≤◌, ◌+◌, ◌++◌, [], ◌∷◌, drop, vec_len};
-ghost use Rattle.std.specs.Prelude.{IfOk, OnOk, is_some, length};
+ghost use Rattle.std.specs.Prelude.{IfOk, OnOk, Some, is_some, length};
 ghost use Rattle.eevdf_ops.specs.Numbers.{most_cpus};
 ghost use Rattle.eevdf_ops.specs.{Outcome.machine_of, Places.AreCpus, Setup.cpus_of};
 ghost use Rattle.eevdf_ops.specs.{Setup.homes_of};
 ghost use Rattle.eevdf_fleet.specs.declared.board.claims.Claim.TheVariants as claim;
-ghost use Rattle.eevdf_fleet.specs.{Board.IsToken, Board.claims_of, Claims.IsKept, Claims.claims_from};
+ghost use Rattle.eevdf_fleet.specs.{Board.IsToken, Board.claims_of, Board.posts_of, Claims.IsKept, Claims.claims_from};
+ghost use Rattle.eevdf_fleet.specs.Claims.{no_posts};
 ghost use Rattle.eevdf_fleet.specs.Fleets.{HasLines, all_fresh_parts, capacity_of, fresh_log, fresh_logs};
 ghost use Rattle.eevdf_fleet.specs.Fleets.{quota_of, setup_of};
 ghost use Rattle.eevdf_fleet.specs.Rings.{all_no_posts, all_no_takes};
 
 use crate::board::{NamedBoard, Token};
 use crate::journal::Journal;
+use crate::locks::{JournalLock, QueueLock};
 use crate::names::Names;
 use crate::rings::{Consumers, Producers, Rings};
 use crate::seat_log::SeatLog;
 use crate::seat_parts::SeatParts;
 use crate::slot::Slot;
 use atomic_table::Badge;
-use crossbeam_utils::CachePadded;
 use eevdf_ops::{CpuId, Line};
 use eevdf_queue::Queue;
 use std::alloc::{AllocError, Global};
 use std::marker::PhantomData;
 use std::mem;
-use std::sync::Mutex;
+use std::sync::Arc;
 
 /// The logs of the seats and the locks of a fleet, the token of the journal, and room for as many queues.
 #[derive(Drop)]
 pub(crate) struct Opened<N: Names> {
     pub(crate) logs: Vec<SeatLog<N>>,
-    pub(crate) locks: Vec<CachePadded<Mutex<Slot<N>>>>,
+    pub(crate) locks: Vec<QueueLock<N>>,
     pub(crate) token: Token,
     pub(crate) queues: Vec<Queue>,
 }
@@ -114,7 +115,7 @@ fn open_next<N: Names>(
         token: kept,
         names: PhantomData,
     };
-    opened.locks.push(CachePadded::new(Mutex::new(slot)))?;
+    opened.locks.push(QueueLock::new(slot))?;
     Ok(())
 }
 
@@ -123,7 +124,7 @@ pub(crate) fn open_journal<N: Names>(
     board: &NamedBoard<N>,
     token: Token,
     lines: Option<Vec<Line>>,
-) -> (Option<CachePadded<Mutex<Journal<N>>>>, Token)
+) -> (Option<JournalLock<N>>, Token)
     requires token { IsToken N.kit.board N.kit.terms token }
     requires claims { claims_of token ≡ claim.Journal [] ∷ [] }
     requires lines { HasLines N.kit.terms.quota (cpus_of (setup_of N.kit)) lines }
@@ -134,32 +135,38 @@ pub(crate) fn open_journal<N: Names>(
     let (all, rest) = board.split(token);
     let journal = match lines {
         None => None,
-        Some(lines) => Some(CachePadded::new(Mutex::new(Journal {
+        Some(lines) => Some(JournalLock::new(Journal {
             lines,
             token: all,
             names: PhantomData,
-        }))),
+        })),
     };
     (journal, rest)
 }
 
-/// Gives each log the ends of its CPU's rings.
+/// Gives each log the ends of its CPU's rings, with the token of its posts.
 pub(crate) fn open_seats<N: Names>(
     alloc: Global,
     mut logs: Vec<SeatLog<N>>,
     rings: Rings,
     homes: &Vec<CpuId>,
+    board: &Arc<NamedBoard<N>>,
+    posts: Token,
 ) -> Result<Vec<SeatParts<N>>, AllocError>
     requires logs { logs.items ≡ fresh_logs (quota_of N.kit) (cpus_of (setup_of N.kit)) }
     requires rings { rings ≡ N.kit.rings }
     requires cpus { length rings.rings ≡ cpus_of (setup_of N.kit) }
     requires ring_homes { rings.homes ≡ homes_of (setup_of N.kit) }
+    requires ring_board { rings.board ≡ N.kit.board }
+    requires ring_terms { rings.terms ≡ Some N.kit.terms }
+    requires token { IsToken N.kit.board N.kit.terms posts }
+    requires posts { posts_of posts ≡ no_posts N.kit.terms }
     requires homes { homes.now.items ≡ homes_of (setup_of N.kit) }
     requires homes_below { AreCpus (cpus_of (setup_of N.kit)) (homes_of (setup_of N.kit)) }
     ensures { IfOk result (λ seats.
         seats.items ≡ all_fresh_parts N.kit) }
 {
-    let (mut producers, mut consumers) = rings.named::<N>(alloc)?;
+    let (mut producers, mut consumers) = rings.named::<N>(alloc, board, posts)?;
     let mut seats = Vec::with_capacity(alloc, logs.len())?;
     make_seats(&mut logs, &mut producers, &mut consumers, homes, &mut seats)?;
     Ok(seats)
@@ -180,6 +187,8 @@ fn make_seats<N: Names>(
     requires homes { homes.now.items ≡ homes_of (setup_of N.kit) }
     requires homes_below { AreCpus (cpus_of (setup_of N.kit)) (homes_of (setup_of N.kit)) }
     requires ring_homes { N.kit.rings.homes ≡ homes_of (setup_of N.kit) }
+    requires ring_board { N.kit.rings.board ≡ N.kit.board }
+    requires ring_terms { N.kit.rings.terms ≡ Some N.kit.terms }
     requires none { seats.old.items ≡ [] }
     ensures { OnOk result
         (seats.new.items ≡ all_fresh_parts N.kit) }

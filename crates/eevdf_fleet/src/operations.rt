@@ -7,6 +7,7 @@ ghost use Rattle.eevdf_fleet.specs.Fleets.{HasCommitted, IsRoomFor, setup_of};
 ghost use Rattle.eevdf_fleet.specs.TouchedQueues.{IsNoWake, IsOfOneQueue, IsOfTwoQueues};
 
 use crate::gate::Gate;
+use crate::locks::HeldLocks;
 use crate::names::Names;
 use crate::run_queues::RunQueues;
 use crate::seat_parts::SeatParts;
@@ -24,6 +25,7 @@ impl<N: Names> RunQueues<N> {
         gate: &G,
         n: usize,
         seat: &mut SeatParts<N>,
+        held: &mut HeldLocks,
         deed: Deed,
     ) -> Answer
         requires no_wake { IsNoWake deed }
@@ -33,8 +35,8 @@ impl<N: Names> RunQueues<N> {
         ensures { HasCommitted seat.old seat.new (record { deed = deed; answer = result }) }
     {
         match self.other_queue(&deed) {
-            Some(other) => self.across(rt, gate, n, seat, other, deed),
-            None => self.own(rt, gate, n, seat, deed),
+            Some(other) => self.across(rt, gate, n, seat, held, other, deed),
+            None => self.own(rt, gate, n, seat, held, deed),
         }
     }
 

@@ -14,4 +14,5 @@ pub(crate) use consumer_ends::Consumers;
 pub(crate) use opened_rings::Rings;
 pub(crate) use producer_ends::Producers;
 pub use producer_ends::RingFull;
+pub(crate) use request::Request;
 pub(crate) use returned_ends::ReturnedEnds;

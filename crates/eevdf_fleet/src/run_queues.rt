@@ -3,28 +3,26 @@ ghost use Rattle.eevdf_ops.specs.Setup.{cpus_of, homes_of, is_task};
 ghost use Rattle.eevdf_fleet.specs.Fleets.{all_fresh_parts, setup_of};
 
 use crate::board::NamedBoard;
-use crate::journal::Journal;
 use crate::kit_parts::{KitParts, room_of};
+use crate::locks::{JournalLock, QueueLock};
 use crate::names::Names;
 use crate::opening::{Opened, open_all, open_journal, open_seats};
 use crate::reserve::Reserve;
 use crate::rings::ReturnedEnds;
 use crate::seat_parts::SeatParts;
-use crate::slot::Slot;
-use crossbeam_utils::CachePadded;
 use eevdf_ops::CpuId;
 use eevdf_queue::TaskId;
 use std::alloc::{AllocError, Global};
 use std::marker::Model;
-use std::sync::Mutex;
+use std::sync::{Arc, Mutex};
 
 /// The run queues of all CPUs, each in a lock of its own, and the journal, where one is kept.
 #[derive(Drop)]
 pub(crate) struct RunQueues<N: Names> {
-    pub(crate) board: NamedBoard<N>,
+    pub(crate) board: Arc<NamedBoard<N>>,
     pub(crate) homes: Vec<CpuId>,
-    pub(crate) locks: Vec<CachePadded<Mutex<Slot<N>>>>,
-    pub(crate) journal: Option<CachePadded<Mutex<Journal<N>>>>,
+    pub(crate) locks: Vec<QueueLock<N>>,
+    pub(crate) journal: Option<JournalLock<N>>,
     // The ends of rings can't be shared by threads, not even room for them: hence the lock, which no operation takes.
     pub(crate) reserve: Mutex<Reserve<N>>,
 }
@@ -84,7 +82,8 @@ impl<N: Names> RunQueues<N> {
             lines,
             quota,
         } = kit;
-        let board = NamedBoard::new(board);
+        let board = Arc::new(alloc, NamedBoard::new(board))?;
+        let (posts, token) = board.split_all_posts(token);
         let opened = open_all(alloc, &board, token, queues, room_of(quota))?;
         let Opened {
             logs,
@@ -92,7 +91,7 @@ impl<N: Names> RunQueues<N> {
             token,
             queues,
         } = opened;
-        let seats = open_seats(alloc, logs, rings, &homes)?;
+        let seats = open_seats(alloc, logs, rings, &homes, &board, posts)?;
         let (journal, token) = open_journal(&board, token, lines);
         let queues = RunQueues {
             board,

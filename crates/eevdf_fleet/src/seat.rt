@@ -4,6 +4,7 @@ ghost use Rattle.eevdf_ops.specs.Setup.{cpus_of, home_of, homes_of, is_task};
 ghost use Rattle.eevdf_fleet.specs.Fleets.{capacity_of, posted_to, quota_of, seats_in, setup_of};
 ghost use Rattle.eevdf_fleet.specs.Fleets.{with_post};
 
+use crate::locks::HeldLocks;
 use crate::names::Names;
 use crate::rings::RingFull;
 use crate::seat_parts::SeatParts;
@@ -17,6 +18,7 @@ use std::marker::Model;
 #[derive(Drop)]
 pub struct Seat<N: Names> {
     pub(crate) parts: SeatParts<N>,
+    pub(crate) held: HeldLocks,
 }
 
 impl<N: Names> Model for Seat<N> {
@@ -79,8 +81,9 @@ pub(crate) fn seats_of<N: Names>(
     ensures { IfOk result (λ seats. seats.items ≡ seats_in parts.items) }
 {
     let mut seats = Vec::with_capacity(alloc, parts.len())?;
-    for parts in parts {
-        seats.push(Seat { parts })?;
+    for own in parts {
+        let (parts, held) = HeldLocks::beside(own);
+        seats.push(Seat { parts, held })?;
     }
     Ok(seats)
 }
@@ -95,7 +98,7 @@ pub(crate) fn parts_in<N: Names>(
     ensures { seats_in result.items ≡ seats.items }
 {
     for seat in seats {
-        let Seat { parts } = seat;
+        let Seat { parts, held: _ } = seat;
         room.push_reserved(parts);
     }
     room

@@ -1,13 +1,14 @@
-ghost use Rattle.std.specs.Prelude.{◌≡◌, ◌+◌, ◌<◌, is_some, length, OnOk, OnErr, IfErr, IsOk, true};
+ghost use Rattle.std.specs.Prelude.{◌≡◌, ◌+◌, ◌<◌, ◌↔◌, is_some, length, OnOk, OnErr, IfErr, IsOk, IsTrue, true};
 ghost use Rattle.eevdf_ops.specs.{Programs.wakes_from, Setup.cpus_of, Setup.home_of, Setup.homes_of, Setup.is_task};
-ghost use Rattle.eevdf_fleet.specs.Fleets.{AreKnown, HasPosted, PartsLooked, capacity_of, free_at, posted_to, quota_of, setup_of};
+ghost use Rattle.eevdf_fleet.specs.Fleets.{AreKnown, HasLookedAt, HasPosted, PartsLooked, capacity_of, free_at, posted_to, quota_of, setup_of};
 
 use crate::names::Names;
+use crate::posted::Posted;
 use crate::rings::{Consumers, Producers, RingFull};
 use crate::seat_log::SeatLog;
 use eevdf_ops::{CpuId, Line};
 use eevdf_queue::TaskId;
-use std::marker::Model;
+use std::marker::{Model, PhantomData};
 
 /// What a seat is made of: its CPU's lines and its ends of the rings. Contracts see besides how far it knows the history. The unused
 /// bytes keep it off the cache lines of what stands beside it, which another thread may write to.
@@ -29,14 +30,16 @@ impl<N: Names> Model for SeatParts<N> {
 
     ghost view = { λ s. parts_of s.log s.producers };
 
-    ghost use Rattle.std.specs.Prelude.{◌≡◌};
+    ghost use Rattle.std.specs.Prelude.{◌≡◌, Some};
     ghost use Rattle.eevdf_ops.specs.{Places.AreCpus, Setup.cpus_of, Setup.homes_of};
     ghost use Rattle.eevdf_fleet.specs.Fleets.{AreParts, setup_of};
 
     ghost invariant = { λ s. AreParts (cpus_of (setup_of N.kit)) s.log s.producers s.consumers
         × (s.homes.items ≡ homes_of (setup_of N.kit))
         × AreCpus (cpus_of (setup_of N.kit)) (homes_of (setup_of N.kit))
-        × (N.kit.rings.homes ≡ homes_of (setup_of N.kit)) };
+        × (N.kit.rings.homes ≡ homes_of (setup_of N.kit))
+        × (N.kit.rings.board ≡ N.kit.board)
+        × (N.kit.rings.terms ≡ Some N.kit.terms) };
 }
 
 impl<N: Names> SeatParts<N> {
@@ -79,8 +82,43 @@ impl<N: Names> SeatParts<N> {
         ensures room { length (posted_to self.old.seat (home_of (homes_of (setup_of N.kit)) task))
             < capacity_of N.kit → IsOk result }
     {
+        let home = self.home(task);
+        self.producers.post(home, task)
+    }
+
+    /// Looks whether exactly one request to a task's home is in its ring.
+    pub(crate) fn has_one(&mut self, task: TaskId) -> bool
+        requires { is_task (homes_of (setup_of N.kit)) task ≡ true }
+        ensures looked { HasLookedAt (home_of (homes_of (setup_of N.kit)) task) self.old self.new }
+        ensures one { IsTrue result
+            ↔ (free_at self.new.free (home_of (homes_of (setup_of N.kit)) task) + 1 ≡ capacity_of N.kit) }
+    {
+        let home = self.home(task);
+        self.producers.has_one(home)
+    }
+
+    /// The home of a task, as the number of a ring.
+    #[inline(always)]
+    fn home(&self, task: TaskId) -> usize
+        requires { is_task (homes_of (setup_of N.kit)) task ≡ true }
+        ensures home { result ≡ home_of (homes_of (setup_of N.kit)) task }
+        ensures below { result < cpus_of (setup_of N.kit) }
+    {
         let home = self.homes[task.index()];
-        self.producers.post(home.index(), task)
+        home.index()
+    }
+
+    /// What it has posted so far, as a value of its own.
+    pub(crate) fn posted(&mut self) -> Posted<N>
+        ensures seat { self.new ≡ self.old }
+        ensures sender { result.sender ≡ self.old.seat.cpu }
+        ensures posted { result.posted ≡ self.old.seat.posted }
+    {
+        let token = self.producers.sent();
+        Posted {
+            token,
+            names: PhantomData,
+        }
     }
 
     /// What it has seen is a history, in which its CPU has its lines. It does nothing.

@@ -1,8 +1,9 @@
 //! The calls of a fleet that keeps no history, and of its seats: tables of calls in one thread, each with what comes of it and the
 //! report of what the fleet is closed to, calls beyond the quota of a fleet that keeps one, and two threads.
 
-mod came;
+pub mod came;
 mod cases;
+mod listed;
 mod looks;
 mod no_quota;
 mod two_threads;
@@ -92,7 +93,7 @@ fn without_lines(alloc: Global, closed: Closed) -> Option<Outcome> {
 }
 
 /// A kit, whose rings are to be such as a kit may have.
-fn kit_of(rt: &impl Abort, alloc: Global, setup: &Setup, rings: usize) -> Kit
+pub fn kit_of(rt: &impl Abort, alloc: Global, setup: &Setup, rings: usize) -> Kit
     ensures { setup_of result ≡ setup.now }
 {
     assert!(rt; rings <= 1_000_000);

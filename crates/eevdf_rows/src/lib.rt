@@ -12,6 +12,8 @@ mod fixtures;
 #[cfg(test)]
 mod fleet_calls;
 #[cfg(test)]
+mod neighbours;
+#[cfg(test)]
 mod one_thread_again;
 #[cfg(test)]
 mod ready_callers;

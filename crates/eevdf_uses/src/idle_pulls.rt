@@ -149,7 +149,7 @@ pub fn three_at_one(alloc: Global) -> Result<Setup, SetupFault> {
 }
 
 /// A program without operations for each of so many CPUs: a fleet uses no programs.
-fn empty_programs(alloc: Global, cpus: usize) -> Result<Vec<Vec<Op>>, AllocError> {
+pub fn empty_programs(alloc: Global, cpus: usize) -> Result<Vec<Vec<Op>>, AllocError> {
     let mut programs = Vec::new(alloc);
     for _cpu in 0..cpus {
         programs.push(Vec::new(alloc))?;

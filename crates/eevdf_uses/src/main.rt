@@ -4,8 +4,10 @@
 mod checked_input;
 mod hundred_years;
 mod idle_pulls;
+mod one_history;
 mod one_queue;
 mod own_order;
+mod park;
 mod tickless;
 mod two_queues;
 mod two_threads;
@@ -13,8 +15,10 @@ mod two_threads;
 use crate::checked_input::{Order, answers, two_cpus};
 use crate::hundred_years::first_day_out_of_range;
 use crate::idle_pulls::{three_at_one, until_end};
+use crate::one_history::tell_picks;
 use crate::one_queue::{add, one_queue};
 use crate::own_order::{last_first, pull_and_picks};
+use crate::park::{four_cpus, units_taken};
 use crate::tickless::tickless;
 use crate::two_queues::pull;
 use crate::two_threads::sleep_and_wake;
@@ -26,6 +30,9 @@ use std::io;
 use std::sync::{Mutex, Wait};
 use std::thread::Threads;
 
+/// How many picks of all CPUs are told to another CPU.
+const PICKS_TOLD: u64 = 20_000;
+
 fn main(rt: HostRuntime) -> io::Result<()> {
     show_one_queue(&rt)?;
     show_tickless(&rt)?;
@@ -34,7 +41,9 @@ fn main(rt: HostRuntime) -> io::Result<()> {
     show_checked_input(&rt)?;
     show_own_order(&rt)?;
     show_two_threads(&rt)?;
-    show_idle_pulls(&rt)
+    show_idle_pulls(&rt)?;
+    show_one_history(&rt)?;
+    show_park(&rt)
 }
 
 fn show_one_queue(rt: &(impl Print + AllocGlobal)) -> io::Result<()> {
@@ -197,6 +206,31 @@ fn print_places(rt: &impl Print, closed: &endless::Closed) -> io::Result<()> {
         }
     }
     println!(rt; "{standing} tasks on {} CPUs", closed.queues.len())?;
+    Ok(())
+}
+
+fn show_one_history(rt: &(impl Print + AllocGlobal + Threads + Wait + Sync)) -> io::Result<()> {
+    println!(rt; "one history")?;
+    let Ok(setup) = three_at_one(rt.alloc()) else {
+        return Err(out_of_memory());
+    };
+    match tell_picks(rt, rt.alloc(), &setup, PICKS_TOLD) {
+        Ok(()) => println!(rt; "{PICKS_TOLD} picks told to other CPUs"),
+        Err(RunFault::Memory) => Err(out_of_memory()),
+        Err(RunFault::Start) => Err(io::Error::from(io::ErrorKind::WouldBlock)),
+    }
+}
+
+fn show_park(rt: &(impl Print + AllocGlobal + Threads + Wait + Sync)) -> io::Result<()> {
+    println!(rt; "park")?;
+    let Ok(setup) = four_cpus(rt.alloc()) else {
+        return Err(out_of_memory());
+    };
+    match units_taken(rt, rt.alloc(), &setup) {
+        Ok((taken, put)) => println!(rt; "{taken} of {put} units taken")?,
+        Err(RunFault::Memory) => return Err(out_of_memory()),
+        Err(RunFault::Start) => return Err(io::Error::from(io::ErrorKind::WouldBlock)),
+    }
     Ok(())
 }
 

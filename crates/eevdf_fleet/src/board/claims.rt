@@ -39,10 +39,19 @@ pub enum Claim {
     Past(LinkedList<Line>),
 }
 
+/// What is known of the requests that a CPU has posted: their tasks in order, by homes. No value of it is made.
+pub enum PostClaim {
+    /// All requests that this CPU has posted are these.
+    Posts(u64, LinkedList<LinkedList<u64>>),
+    /// The first requests that it has posted to each home are these. Nothing can change that, so any number of tokens may claim it.
+    Sent(u64, LinkedList<LinkedList<u64>>),
+}
+
 /// What the holder of a token knows. No value of it is made.
 pub struct View {
     pub terms: Option<Terms>,
     pub claims: LinkedList<Claim>,
+    pub posts: LinkedList<PostClaim>,
 }
 
 /// A CPU's queue as it is now.

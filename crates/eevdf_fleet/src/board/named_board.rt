@@ -1,20 +1,30 @@
-ghost use Rattle.std.specs.Prelude.{◌≡◌, ◌++◌, take, drop, Some};
-ghost use Rattle.eevdf_fleet.specs.Claims.{Owes};
-ghost use Rattle.eevdf_fleet.specs.Board.{HasAppended, HasLooked, IsToken, claims_of, shared};
+ghost use Rattle.std.specs.Prelude.{◌≡◌, ◌++◌, [], take, drop, Some};
+ghost use Rattle.eevdf_fleet.specs.Claims.{Owes, OwesAsked};
+ghost use Rattle.eevdf_fleet.specs.Board.{HasAppended, HasCompared, HasLooked, IsToken, claims_of, first_past};
+ghost use Rattle.eevdf_fleet.specs.Board.{posts_of, shared};
+ghost use Rattle.eevdf_fleet.specs.PostClaims.{sent_in, with_post, AreOnePosts};
 
 use crate::board::claims::{Said, Terms, View};
-use crate::board::rule::{Append, Both, First, FirstTwo, Look, OneHistory, Saying, SharedFirst};
+use crate::board::rule::{
+    Append, Both, Compare, First, FirstPast, FirstPosts, FirstTwo, Look, OneHistory, Post, Posting,
+    PostsAlone, Saying, SentByNow, SharedFirst,
+};
 use crate::board::{Board, Token};
 use crate::names::Names;
 use atomic_table::Table;
+use eevdf_queue::TaskId;
 use std::alloc::Global;
 use std::marker::{Brand, Model, PhantomData};
 
-/// The board of the fleet of this name.
+/// The board of the fleet of this name. All threads read where its table lies, so the unused bytes keep it off the cache lines of what
+/// stands beside it, which a thread may write to.
 #[derive(Drop)]
+#[repr(C)]
 pub(crate) struct NamedBoard<N: Names> {
+    unused_before: [u64; 8],
     table: Table<(), View, Terms, OneHistory, Global>,
     names: PhantomData<N>,
+    unused_after: [u64; 8],
 }
 
 impl<N: Names> Model for NamedBoard<N> {
@@ -36,8 +46,10 @@ impl<N: Names> NamedBoard<N> {
     {
         let Board { table } = board;
         NamedBoard {
+            unused_before: [0; 8],
             table,
             names: PhantomData,
+            unused_after: [0; 8],
         }
     }
 
@@ -47,6 +59,7 @@ impl<N: Names> NamedBoard<N> {
         requires other { IsToken N.kit.board N.kit.terms other }
         ensures token { IsToken N.kit.board N.kit.terms result }
         ensures claims { claims_of result ≡ claims_of other ++ claims_of token }
+        ensures posts { posts_of result ≡ posts_of other ++ posts_of token }
     {
         let mut seat = token.into_seat();
         self.table
@@ -66,6 +79,78 @@ impl<N: Names> NamedBoard<N> {
         let mut seat = token.into_seat();
         let first = self.table.shared.split_seat::<First>(&mut seat);
         (first.into_badge(), seat.into_badge())
+    }
+
+    /// A token of the claims of posts, and one of the others.
+    pub(crate) fn split_all_posts(&self, token: Token) -> (Token, Token)
+        requires { IsToken N.kit.board N.kit.terms token }
+        ensures posts { IsToken N.kit.board N.kit.terms result.0 }
+        ensures others { IsToken N.kit.board N.kit.terms result.1 }
+        ensures post_claims { posts_of result.0 ≡ posts_of token }
+        ensures claims { claims_of result.1 ≡ claims_of token }
+    {
+        let mut seat = token.into_seat();
+        let posts = self.table.shared.split_seat::<PostsAlone>(&mut seat);
+        (posts.into_badge(), seat.into_badge())
+    }
+
+    /// A token of the first claim of posts alone, and one of all else.
+    pub(crate) fn split_posts(&self, token: Token) -> (Token, Token)
+        requires { IsToken N.kit.board N.kit.terms token }
+        ensures first { IsToken N.kit.board N.kit.terms result.0 }
+        ensures others { IsToken N.kit.board N.kit.terms result.1 }
+        ensures first_posts { posts_of result.0 ≡ take 1 (posts_of token) }
+        ensures other_posts { posts_of result.1 ≡ drop 1 (posts_of token) }
+        ensures claims { claims_of result.1 ≡ claims_of token }
+    {
+        let mut seat = token.into_seat();
+        let first = self.table.shared.split_seat::<FirstPosts>(&mut seat);
+        (first.into_badge(), seat.into_badge())
+    }
+
+    /// Posts a request: gives a token of what its sender has posted by then, and that of all its posts.
+    pub(crate) fn post(&self, token: Token, home: usize, task: TaskId) -> (Token, Token)
+        requires token { IsToken N.kit.board N.kit.terms token }
+        requires posts { AreOnePosts (posts_of token) }
+        ensures sent { IsToken N.kit.board N.kit.terms result.0 }
+        ensures token { IsToken N.kit.board N.kit.terms result.1 }
+        ensures sent_claims { claims_of result.0 ≡ [] }
+        ensures sent_posts { posts_of result.0 ≡ sent_in (with_post (posts_of token) home task) }
+        ensures posts { posts_of result.1 ≡ with_post (posts_of token) home task }
+    {
+        self.post_as::<Brand>(token, home, task)
+    }
+
+    /// Posts the request that the type says.
+    fn post_as<P: Posting>(&self, token: Token, home: usize, task: TaskId) -> (Token, Token)
+        requires token { IsToken N.kit.board N.kit.terms token }
+        requires posts { AreOnePosts (posts_of token) }
+        requires home { P.home ≡ home }
+        requires task { P.task ≡ task }
+        ensures sent { IsToken N.kit.board N.kit.terms result.0 }
+        ensures token { IsToken N.kit.board N.kit.terms result.1 }
+        ensures sent_claims { claims_of result.0 ≡ [] }
+        ensures sent_posts { posts_of result.0 ≡ sent_in (with_post (posts_of token) home task) }
+        ensures posts { posts_of result.1 ≡ with_post (posts_of token) home task }
+    {
+        let mut seat = token.into_seat();
+        let sent = self.table.shared.split_seat::<Post<P>>(&mut seat);
+        (sent.into_badge(), seat.into_badge())
+    }
+
+    /// Gives a token of what a sender has posted by now, beside that of its posts or of what it had posted.
+    pub(crate) fn sent(&self, token: Token) -> (Token, Token)
+        requires { IsToken N.kit.board N.kit.terms token }
+        ensures sent { IsToken N.kit.board N.kit.terms result.0 }
+        ensures token { IsToken N.kit.board N.kit.terms result.1 }
+        ensures sent_claims { claims_of result.0 ≡ [] }
+        ensures sent_posts { posts_of result.0 ≡ sent_in (posts_of token) }
+        ensures posts { posts_of result.1 ≡ posts_of token }
+        ensures claims { claims_of result.1 ≡ claims_of token }
+    {
+        let mut seat = token.into_seat();
+        let sent = self.table.shared.split_seat::<SentByNow>(&mut seat);
+        (sent.into_badge(), seat.into_badge())
     }
 
     /// A token of the first two claims, and one of the others.
@@ -94,10 +179,24 @@ impl<N: Names> NamedBoard<N> {
         (first.into_badge(), seat.into_badge())
     }
 
+    /// The token, and one of its first claim alone, where that is of the past.
+    pub(crate) fn recall(&self, token: Token) -> (Token, Token)
+        requires { IsToken N.kit.board N.kit.terms token }
+        ensures token { IsToken N.kit.board N.kit.terms result.0 }
+        ensures past { IsToken N.kit.board N.kit.terms result.1 }
+        ensures claims { claims_of result.0 ≡ claims_of token }
+        ensures past_claims { claims_of result.1 ≡ first_past (claims_of token) }
+    {
+        let mut seat = token.into_seat();
+        let past = self.table.shared.split_seat::<FirstPast>(&mut seat);
+        (seat.into_badge(), past.into_badge())
+    }
+
     /// Commits a line, and learns the lines up to it. The token claims all that it changes.
     pub(crate) fn append(&self, token: Token, said: &Said) -> Token
         requires token { IsToken N.kit.board N.kit.terms token }
         requires owed { Owes N.kit.terms (claims_of token) said.now }
+        requires asked { OwesAsked N.kit.terms (claims_of token) (posts_of token) said.now }
         ensures token { IsToken N.kit.board N.kit.terms result }
         ensures appended { HasAppended N.kit.terms said.now (claims_of token) (claims_of result) }
     {
@@ -108,6 +207,7 @@ impl<N: Names> NamedBoard<N> {
     fn append_as<S: Saying>(&self, token: Token, said: &Said) -> Token
         requires token { IsToken N.kit.board N.kit.terms token }
         requires owed { Owes N.kit.terms (claims_of token) said.now }
+        requires asked { OwesAsked N.kit.terms (claims_of token) (posts_of token) said.now }
         requires same { S.said ≡ Some said.now }
         ensures token { IsToken N.kit.board N.kit.terms result }
         ensures appended { HasAppended N.kit.terms said.now (claims_of token) (claims_of result) }
@@ -126,5 +226,14 @@ impl<N: Names> NamedBoard<N> {
         let mut seat = token.into_seat();
         self.table.shared.load::<Look>(&mut seat, 0);
         seat.into_badge()
+    }
+
+    /// Compares what a token claims of posts with the lines so far, which its other claims hold of.
+    pub(crate) fn compare(&self, token: Token)
+        requires { IsToken N.kit.board N.kit.terms token }
+        ensures { HasCompared N.kit.terms (claims_of token) (posts_of token) }
+    {
+        let mut seat = token.into_seat();
+        self.table.shared.load::<Compare>(&mut seat, 0);
     }
 }

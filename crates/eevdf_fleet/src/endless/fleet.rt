@@ -1,7 +1,8 @@
-ghost use Rattle.std.specs.Prelude.{◌≡◌, ◌≢◌, ◌<◌, ◌≤◌, ◌↔◌, nat_lt, IfOk, IsTrue, map, true};
+ghost use Rattle.std.specs.Prelude.{◌≡◌, ◌≢◌, ◌<◌, ◌≤◌, ◌↔◌, ◌+◌, length, nat_lt, vec_capacity, IfOk, IsTrue, map, true};
 ghost use Rattle.eevdf_ops.specs.{Machine.queue_at, Outcome.machine_of, Parts.decider};
 ghost use Rattle.eevdf_ops.specs.Setup.{allows, cpus_of, homes_of, is_task};
-ghost use Rattle.eevdf_fleet.specs.Endless.{AreOfOneHistory, AreSeats, HasDone, HasDrained, HasSeenMore};
+ghost use Rattle.eevdf_fleet.specs.{Drains.IsPickedAnew, Endless.Agree, Endless.AgreeOnPosts, Endless.AreListed};
+ghost use Rattle.eevdf_fleet.specs.Endless.{AreOfOneHistory, AreSeats, HasDone, HasDrained, HasSeenMore, IsOneThread};
 ghost use Rattle.eevdf_fleet.specs.Endless.{fresh_seats, told_by};
 ghost use Rattle.eevdf_fleet.specs.Fleets.{setup_of};
 ghost use Rattle.eevdf_fleet.specs.TouchedQueues.{IsNoWake};
@@ -13,8 +14,12 @@ use crate::endless::kit::Kit;
 use crate::endless::queue_look::QueueLook;
 use crate::endless::seat::{Seat, parts_in, seats_of};
 use crate::gate::OpenGate;
+use crate::listed_drains::ListedDrain;
 use crate::names::Names;
+use crate::posted::Posted;
 use crate::run_queues::RunQueues;
+use crate::seen::Seen;
+use crate::wake_list::DrainedWake;
 use crossbeam_utils::CachePadded;
 use eevdf_ops::{Answer, CpuId, Deed};
 use eevdf_queue::TaskId;
@@ -121,9 +126,37 @@ impl<N: Names> Fleet<N> {
         ensures drained { HasDrained (setup_of N.kit) result seat.old seat.new }
         ensures few { result.taken ≤ cpus_of (setup_of N.kit) }
     {
-        let drained = self.queues.drain(rt, &OpenGate, 0, &mut seat.parts);
+        let drained = self
+            .queues
+            .drain(rt, &OpenGate, 0, &mut seat.parts, &mut seat.held);
         seat.parts.know();
         drained
+    }
+
+    /// Drains as `drain` does, and names the wakes: each is pushed onto the list, with its task, its sender and its answer, in the order in
+    /// which they were decided. So the caller sees a wake that came while its task was awake: it is there with the answer `Awake`.
+    /// `resched` is that of the queue after the last wake: whether a pick would let another task run than the one that runs, which is then
+    /// to be preempted, or a task where nobody runs. No memory is taken: the list has to have room for as many wakes as there are CPUs
+    /// (`cpus`), and its capacity stays.
+    pub fn drain_into<R: Wait>(
+        &self,
+        rt: &R,
+        seat: &mut Seat<N>,
+        wakes: &mut Vec<DrainedWake>,
+    ) -> ListedDrain
+        requires room { length wakes.old.items + cpus_of (setup_of N.kit) ≤ vec_capacity wakes.old }
+        ensures drained { HasDrained (setup_of N.kit) result.drained seat.old seat.new }
+        ensures few { result.drained.taken ≤ cpus_of (setup_of N.kit) }
+        ensures wakes { AreListed seat.old seat.new wakes.old.items wakes.new.items }
+        ensures capacity { vec_capacity wakes.new ≡ vec_capacity wakes.old }
+        ensures resched { IsTrue result.resched
+            ↔ IsPickedAnew (queue_at (told_by (setup_of N.kit) seat.new.seen) seat.old.cpu) }
+    {
+        let listed = self
+            .queues
+            .drain_into(rt, &mut seat.parts, &mut seat.held, wakes);
+        seat.parts.know();
+        listed
     }
 
     /// Does a deed of the seat's CPU that isn't a wake.
@@ -134,20 +167,28 @@ impl<N: Names> Fleet<N> {
         requires allowed { allows (setup_of N.kit) deed ≡ true }
         ensures { HasDone (setup_of N.kit) deed result seat.old seat.new }
     {
-        let answer = self.queues.operate(rt, &OpenGate, 0, &mut seat.parts, deed);
+        let answer = self
+            .queues
+            .operate(rt, &OpenGate, 0, &mut seat.parts, &mut seat.held, deed);
         seat.parts.know();
         answer
     }
 
     /// Locks a CPU's queue, and learns the history that leaves it as it is. So a seat can choose from whom to pull: what it sees is true
-    /// until the look ends.
+    /// until the look ends, as `QueueLook::seen` says of any moment before.
     pub fn look<R: Wait>(&self, rt: &R, seat: &mut Seat<N>, cpu: CpuId) -> QueueLook<'_, N>
         requires { cpu < cpus_of (setup_of N.kit) }
         ensures seat { HasSeenMore (setup_of N.kit) seat.old seat.new }
-        ensures queue { queue_at (told_by (setup_of N.kit) seat.new.seen) cpu ≡ result.state }
+        ensures cpu { result.cpu ≡ cpu }
+        ensures queue { queue_at (told_by (setup_of N.kit) seat.new.seen) cpu ≡ result.queue.state }
+        ensures seen { result.seen ≡ seat.new.seen }
     {
-        let guard = self.queues.look(rt, &mut seat.parts, cpu);
-        QueueLook { guard }
+        let (guard, seen) = self.queues.look(rt, &mut seat.parts, cpu);
+        QueueLook {
+            queues: &self.queues,
+            guard,
+            seen,
+        }
     }
 
     /// Makes what two seats have seen one history, that goes on from what each of them had seen. At run time it does nothing.
@@ -157,6 +198,61 @@ impl<N: Names> Fleet<N> {
         ensures same { seat.new.seen ≡ other.new.seen }
     {
         self.queues.meet(&mut seat.parts, &mut other.parts);
+    }
+
+    /// What a seat has seen of the history so far, as a value of its own. It neither waits nor takes memory.
+    pub fn seen(&self, seat: &mut Seat<N>) -> Seen<N>
+        ensures seat { seat.new ≡ seat.old }
+        ensures seen { result ≡ seat.old.seen }
+        ensures one_thread { IsOneThread (setup_of N.kit) result }
+    {
+        self.queues.seen(&mut seat.parts)
+    }
+
+    /// The same once more: one for another thread, say. It neither waits nor takes memory.
+    pub fn copy(&self, seen: &mut Seen<N>) -> Seen<N>
+        ensures seen { seen.new ≡ seen.old }
+        ensures copy { result ≡ seen.old }
+    {
+        self.queues.copy(seen)
+    }
+
+    /// What was seen at two moments, by whatever seats and looks of the fleet, is of one history: one of the two is the beginning of the
+    /// other. So the answers of any two calls are answers of one thread, while all go on. It takes no lock, neither waits nor takes
+    /// memory, and at run time it decides nothing.
+    pub fn agree(&self, seen: &mut Seen<N>, other: &mut Seen<N>)
+        ensures seen { seen.new ≡ seen.old }
+        ensures other { other.new ≡ other.old }
+        ensures agree { Agree (setup_of N.kit) seen.old other.old }
+    {
+        self.queues.agree(seen, other);
+    }
+
+    /// What a CPU had posted, once more: for another thread, say. It neither waits nor takes memory.
+    pub fn copy_posted(&self, posted: &mut Posted<N>) -> Posted<N>
+        ensures posted { posted.new ≡ posted.old }
+        ensures copy { result ≡ posted.old }
+    {
+        self.queues.copy_posted(posted)
+    }
+
+    /// What a CPU had posted at one moment and what was seen at another are of one history: for each home, the wakes that the CPU asked for
+    /// among the home's lines are the beginning of what it had posted to the home, or the other way about. So nobody is woken for whom
+    /// nobody has posted, and none before those posted earlier to the same home. It takes no lock, neither waits nor takes memory, and at
+    /// run time it decides nothing.
+    pub fn agree_on_posts(&self, seen: &mut Seen<N>, posted: &mut Posted<N>)
+        ensures seen { seen.new ≡ seen.old }
+        ensures posted { posted.new ≡ posted.old }
+        ensures agree { AgreeOnPosts seen.old posted.old }
+    {
+        self.queues.agree_on_posts(seen, posted);
+    }
+
+    /// How many CPUs there are: the room that `drain_into` needs in its list.
+    pub fn cpus(&self) -> usize
+        ensures { result ≡ cpus_of (setup_of N.kit) }
+    {
+        self.queues.cpus()
     }
 
     /// Whether the setup has a task: the condition of `sleep`, `renice` and `Seat::post`.

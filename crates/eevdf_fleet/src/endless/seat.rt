@@ -1,10 +1,12 @@
-ghost use Rattle.std.specs.Prelude.{◌≡◌, ◌+◌, ◌<◌, ◌≤◌, [], length, map, vec_capacity, vec_len, None, OnOk, OnErr, IfErr, IfOk, IsOk};
-ghost use Rattle.std.specs.Prelude.{true};
+ghost use Rattle.std.specs.Prelude.{◌≡◌, ◌+◌, ◌<◌, ◌≤◌, ◌↔◌, [], length, map, vec_capacity, vec_len, None, OnOk, OnErr, IfErr, IfOk, IsOk};
+ghost use Rattle.std.specs.Prelude.{IsTrue, true};
 ghost use Rattle.eevdf_ops.specs.{Programs.wakes_from, Setup.cpus_of, Setup.home_of, Setup.homes_of, Setup.is_task};
 ghost use Rattle.eevdf_fleet.specs.Fleets.{capacity_of, free_at, setup_of};
 ghost use Rattle.eevdf_fleet.specs.Endless.{HasFound, HasPosted, posted_to, seat_of_parts};
 
+use crate::locks::HeldLocks;
 use crate::names::Names;
+use crate::posted::Posted;
 use crate::rings::RingFull;
 use crate::seat_parts::SeatParts;
 use eevdf_ops::CpuId;
@@ -18,6 +20,7 @@ use std::marker::Model;
 #[derive(Drop)]
 pub struct Seat<N: Names> {
     pub(super) parts: SeatParts<N>,
+    pub(super) held: HeldLocks,
 }
 
 impl<N: Names> Model for Seat<N> {
@@ -55,6 +58,33 @@ impl<N: Names> Seat<N> {
         self.parts.post(task)
     }
 
+    /// Posts as `post` does, and then looks at the ring to that home. `true`: the request is alone there. So all that the seat posted to
+    /// the home before was taken out, and the home may be idle: it is to be sent an interrupt. `false` is a hint alone: an earlier request
+    /// is there too, as far as the look shows, or this one was taken out already.
+    pub fn post_and_look(&mut self, task: TaskId) -> Result<bool, RingFull>
+        requires { is_task (homes_of (setup_of N.kit)) task ≡ true }
+        ensures accepted { OnOk result
+            (HasPosted (home_of (homes_of (setup_of N.kit)) task) task self.old self.new) }
+        ensures alone { IfOk result (λ alone. IsTrue alone
+            ↔ (free_at self.new.free (home_of (homes_of (setup_of N.kit)) task) + 1 ≡ capacity_of N.kit)) }
+        ensures refused { OnErr result (self.new ≡ self.old) }
+        ensures given_back { IfErr result (λ full. full.task ≡ task) }
+        ensures full { OnErr result (free_at self.new.free (home_of (homes_of (setup_of N.kit)) task) ≡ 0) }
+        ensures free { 0 < free_at self.old.free (home_of (homes_of (setup_of N.kit)) task) → IsOk result }
+    {
+        self.post(task)?;
+        Ok(self.parts.has_one(task))
+    }
+
+    /// What the seat has posted so far, as a value of its own. It neither waits nor takes memory.
+    pub fn posted(&mut self) -> Posted<N>
+        ensures seat { self.new ≡ self.old }
+        ensures sender { result.sender ≡ self.old.cpu }
+        ensures posted { result.posted ≡ self.old.posted }
+    {
+        self.parts.posted()
+    }
+
     /// How many requests to a home certainly fit into its ring now: so many posts to it succeed, whoever drains in the meantime. The home's
     /// drains can only make it more. For the seat's own CPU it is the room of a ring less what the seat has posted to it and not drained.
     pub fn free(&mut self, home: CpuId) -> usize
@@ -77,8 +107,9 @@ pub(super) fn seats_of<N: Names>(
     ensures { IfOk result (λ seats. seats.items ≡ map seat_of_parts parts.items) }
 {
     let mut seats = Vec::with_capacity(alloc, parts.len())?;
-    for parts in parts {
-        seats.push(Seat { parts })?;
+    for own in parts {
+        let (parts, held) = HeldLocks::beside(own);
+        seats.push(Seat { parts, held })?;
     }
     Ok(seats)
 }
@@ -93,7 +124,7 @@ pub(super) fn parts_in<N: Names>(
     ensures { map seat_of_parts result.items ≡ seats.items }
 {
     for seat in seats {
-        let Seat { parts } = seat;
+        let Seat { parts, held: _ } = seat;
         room.push_reserved(parts);
     }
     room

@@ -6,6 +6,8 @@ ghost use Rattle.eevdf_fleet.specs.Endless.{fresh};
 ghost use Rattle.eevdf_fleet.specs.EndlessTurns.{HasTurned, HaveTurned};
 
 use crate::endless::closed::Closed;
+use crate::endless::exchange::Exchange;
+use crate::endless::exchange_turn::{Alone, ExchangeTurn};
 use crate::endless::fleet::Fleet;
 use crate::endless::kit::Kit;
 use crate::endless::seat::Seat;
@@ -14,6 +16,7 @@ use crate::names::Names;
 use crate::run_fault::RunFault;
 use crate::seat_threads::run_seats;
 use crate::seat_work::SeatWork;
+use eevdf_ops::CpuId;
 use std::alloc::Global;
 use std::marker::Brand;
 use std::sync::Wait;
@@ -36,14 +39,28 @@ pub fn run_turns<R: Threads + Wait + Sync, T: SeatTurn + Sync>(
     ensures { IfOk result (λ o. HaveTurned (T.turn_gives each.now kit) kit
         (machine_of o.queues.items) (map (λ l. l.items) o.left.items)) }
 {
-    run_on_fleet::<Brand, _, _>(rt, alloc, kit, each)
+    run_on_fleet::<Brand, _, _>(rt, alloc, kit, 0, &Alone { each })
 }
 
-/// Does the turns on the fleet of a kit.
-fn run_on_fleet<N: Names + Send + Sync, R: Threads + Wait + Sync, T: SeatTurn + Sync>(
+/// As `run_turns`, with a place for each CPU where the threads may leave lines for one another while they run.
+pub fn run_exchange_turns<R: Threads + Wait + Sync, T: ExchangeTurn + Sync>(
     rt: &R,
     alloc: Global,
     kit: Kit,
+    each: &T,
+) -> Result<Closed, RunFault>
+    ensures { IfOk result (λ o. HaveTurned (T.turn_gives each.now kit) kit
+        (machine_of o.queues.items) (map (λ l. l.items) o.left.items)) }
+{
+    run_on_fleet::<Brand, _, _>(rt, alloc, kit, CpuId::COUNT, each)
+}
+
+/// Does the turns on the fleet of a kit, with so many places where the threads may leave lines for one another.
+fn run_on_fleet<N: Names + Send + Sync, R: Threads + Wait + Sync, T: ExchangeTurn + Sync>(
+    rt: &R,
+    alloc: Global,
+    kit: Kit,
+    places: usize,
     each: &T,
 ) -> Result<Closed, RunFault>
     requires { kit ≡ N.kit }
@@ -51,9 +68,11 @@ fn run_on_fleet<N: Names + Send + Sync, R: Threads + Wait + Sync, T: SeatTurn + 
         (machine_of o.queues.items) (map (λ l. l.items) o.left.items)) }
 {
     let (fleet, seats) = Fleet::<N>::open(alloc, kit)?;
+    let exchange = Exchange::<N>::open(alloc, places)?;
     let work = Turns {
         fleet: &fleet,
         each,
+        exchange: &exchange,
     };
     let seats = run_seats(rt, alloc, seats, &work)?;
     Ok(fleet.close(seats))
@@ -64,9 +83,10 @@ fn run_on_fleet<N: Names + Send + Sync, R: Threads + Wait + Sync, T: SeatTurn + 
 struct Turns<'a, N: Names, T> {
     fleet: &'a Fleet<N>,
     each: &'a T,
+    exchange: &'a Exchange<N>,
 }
 
-impl<'a, N: Names, T: SeatTurn> SeatWork<Seat<N>> for Turns<'a, N, T> {
+impl<'a, N: Names, T: ExchangeTurn> SeatWork<Seat<N>> for Turns<'a, N, T> {
     ghost fits = { λ _ number seat. seat ≡ fresh N.kit number };
 
     ghost is_done = { λ work number seat. (seat.cpu ≡ number)
@@ -74,7 +94,8 @@ impl<'a, N: Names, T: SeatTurn> SeatWork<Seat<N>> for Turns<'a, N, T> {
 
     fn work<R: Wait>(&self, rt: &R, _number: usize, mut seat: Seat<N>) -> Seat<N> {
         for _ in rt.forever() {
-            if self.each.turn(rt, self.fleet, &mut seat).is_break() {
+            let turned = self.each.turn(rt, self.fleet, &mut seat, self.exchange);
+            if turned.is_break() {
                 return seat;
             }
         }

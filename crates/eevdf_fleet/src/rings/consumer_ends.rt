@@ -1,6 +1,6 @@
 use crate::names::Names;
 use crate::rings::producer_ends::Producers;
-use crate::rings::request::PopEnd;
+use crate::rings::request::{PopEnd, Request};
 use crate::rings::ring_ends::{free_beside, pop, pop_beside, pop_rest};
 use eevdf_queue::TaskId;
 use std::marker::{Model, PhantomData};
@@ -27,8 +27,8 @@ impl<N: Names> Model for Consumers<N> {
 
 impl<N: Names> Consumers<N> {
     ghost use Rattle.std.specs.Prelude.{◌≡◌, ◌+◌, ◌<◌, ◌≤◌, ◌++◌, [], ◌∷◌, length, vec_capacity, IfNone};
-    ghost use Rattle.std.specs.Prelude.{IfSome, true};
-    ghost use Rattle.eevdf_ops.specs.Setup.{is_at_home};
+    ghost use Rattle.std.specs.Prelude.{IfSome};
+    ghost use Rattle.eevdf_fleet.specs.Requests.{Follows, task_in};
     ghost use Rattle.eevdf_fleet.specs.Rings as rings;
     ghost use Rattle.eevdf_fleet.specs.RingEnds.{slots_for, takes, AreConsumers};
 
@@ -46,16 +46,16 @@ impl<N: Names> Consumers<N> {
 
     /// Takes the oldest request of a sender that wasn't taken yet: of those that the home posted to itself if there
     /// is one, of another sender's if one is seen. The producers are the home's own. It takes no memory.
-    pub(crate) fn take(&mut self, producers: &mut Producers<N>, sender: usize) -> Option<TaskId>
+    pub(crate) fn take(&mut self, producers: &mut Producers<N>, sender: usize) -> Option<Request>
         requires own { producers.old.sender ≡ self.old.home }
         requires home { self.old.home < length producers.old.posted }
         requires sender { sender < length self.old.taken }
-        ensures some { IfSome result (λ task. self.new
-            ≡ rings.taken_more self.old sender (task ∷ [])) }
+        ensures some { IfSome result (λ r. self.new
+            ≡ rings.taken_more self.old sender (r.task ∷ [])) }
         ensures none { IfNone result (self.new ≡ self.old) }
-        ensures at_home { IfSome result (λ task.
-            is_at_home N.kit.rings.homes task self.old.home ≡ true) }
-        ensures own { sender ≡ self.old.home → result ≡ rings.oldest producers.old self.old }
+        ensures follows { IfSome result (λ r. Follows (rings.source_of N.kit.rings sender)
+            self.old.home (rings.taken_from self.old sender) r) }
+        ensures own { sender ≡ self.old.home → task_in result ≡ rings.oldest producers.old self.old }
         ensures producers { rings.HasLooked self.old.home producers.old producers.new }
     {
         if sender == self.home {
@@ -66,28 +66,28 @@ impl<N: Names> Consumers<N> {
     }
 
     /// Takes the oldest request of a sender that wasn't taken yet, if one is seen.
-    fn take_seen(&mut self, sender: usize) -> Option<TaskId>
+    fn take_seen(&mut self, sender: usize) -> Option<Request>
         requires { sender < length self.old.taken }
-        ensures some { IfSome result (λ task. self.new
-            ≡ rings.taken_more self.old sender (task ∷ [])) }
+        ensures some { IfSome result (λ r. self.new
+            ≡ rings.taken_more self.old sender (r.task ∷ [])) }
         ensures none { IfNone result (self.new ≡ self.old) }
-        ensures at_home { IfSome result (λ task.
-            is_at_home N.kit.rings.homes task self.old.home ≡ true) }
+        ensures follows { IfSome result (λ r. Follows (rings.source_of N.kit.rings sender)
+            self.old.home (rings.taken_from self.old sender) r) }
     {
         pop(&mut self.ends[sender])
     }
 
     /// Takes the oldest request that the home posted to itself and that wasn't taken yet, if there is one.
-    fn take_own(&mut self, producers: &mut Producers<N>) -> Option<TaskId>
+    fn take_own(&mut self, producers: &mut Producers<N>) -> Option<Request>
         requires own { producers.old.sender ≡ self.old.home }
         requires home { self.old.home < length producers.old.posted }
         requires sender { self.old.home < length self.old.taken }
-        ensures some { IfSome result (λ task. self.new
-            ≡ rings.taken_more self.old self.old.home (task ∷ [])) }
+        ensures some { IfSome result (λ r. self.new
+            ≡ rings.taken_more self.old self.old.home (r.task ∷ [])) }
         ensures none { IfNone result (self.new ≡ self.old) }
-        ensures at_home { IfSome result (λ task.
-            is_at_home N.kit.rings.homes task self.old.home ≡ true) }
-        ensures oldest { result ≡ rings.oldest producers.old self.old }
+        ensures follows { IfSome result (λ r. Follows (rings.source_of N.kit.rings self.old.home)
+            self.old.home (rings.taken_from self.old self.old.home) r) }
+        ensures oldest { task_in result ≡ rings.oldest producers.old self.old }
         ensures producers { rings.HasLooked self.old.home producers.old producers.new }
     {
         let home = self.home;

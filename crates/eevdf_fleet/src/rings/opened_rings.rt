@@ -1,7 +1,10 @@
-ghost use Rattle.std.specs.Prelude.{◌≡◌, [], length, replicate, IfOk};
+ghost use Rattle.std.specs.Prelude.{◌≡◌, [], length, replicate, IfOk, Some};
+ghost use Rattle.eevdf_fleet.specs.{Board.IsToken, Board.posts_of, PostClaims.posts_from};
+ghost use Rattle.eevdf_fleet.specs.Requests.{source_at, terms_in};
 ghost use Rattle.eevdf_fleet.specs.Rings as rings;
 ghost use Rattle.eevdf_fleet.specs.{OpenedRings.AreRow, RingEnds.lists_of};
 
+use crate::board::{NamedBoard, Token};
 use crate::names::Names;
 use crate::rings::consumer_ends::Consumers;
 use crate::rings::named_ends::{consumers_by_home, producers_by_sender};
@@ -12,6 +15,7 @@ use eevdf_ops::CpuId;
 use std::alloc::{AllocError, Global};
 use std::marker::Model;
 use std::snapshot::Snapshot;
+use std::sync::Arc;
 
 /// Each list of ends has room for so many more than it needs. This keeps the ends that one thread writes to off the cache lines of those
 /// of another thread.
@@ -22,6 +26,7 @@ const UNUSED_ENDS: usize = 4;
 pub(crate) struct Rings {
     capacity: usize,
     homes: Snapshot<Vec<CpuId>>,
+    board: Snapshot<Token>,
     // by senders, then by homes
     producers: Vec<Vec<PushEnd>>,
     // by homes, then by senders
@@ -29,43 +34,55 @@ pub(crate) struct Rings {
 }
 
 impl Model for Rings {
+    ghost use Rattle.std.specs.Coded.{codes};
+    ghost use Rattle.eevdf_queue.specs.Codes.{state_code};
     ghost use Rattle.std.specs.Prelude.{length};
     ghost use Rattle.eevdf_fleet.specs.Rings as rings;
     ghost use Rattle.eevdf_fleet.specs.{OpenedRings.AreOpened, RingEnds.lists_of};
+    ghost use Rattle.eevdf_fleet.specs.Requests.{source_at, terms_in};
 
     ghost Value = { rings.Rings };
 
+    ghost coded = { Prim.hlevel (codes, state_code) };
+
     ghost view = { λ r. record {
+      board = r.board.value.table_id;
+      terms = terms_in r.board.value.views;
       capacity = r.capacity;
       homes = r.homes.value.items;
       rings = lists_of r.producers.items;
     } };
 
     ghost invariant = { λ r.
-        AreOpened r.capacity r.homes.value.items (length r.producers.items)
+        AreOpened r.capacity (source_at r.board.value.table_id (terms_in r.board.value.views) r.homes.value.items) (length r.producers.items)
         (lists_of r.producers.items) (lists_of r.consumers.items) };
 }
 
 impl Rings {
-    /// Opens a ring of this capacity for each pair of so many CPUs, for tasks with these homes.
+    /// Opens a ring of this capacity for each pair of so many CPUs, for tasks with these homes. Requests have tokens of the same board
+    /// as this one.
     pub(crate) fn open(
         alloc: Global,
         cpus: usize,
         capacity: usize,
         homes: &Vec<CpuId>,
+        board: &Token,
     ) -> Result<Rings, AllocError>
         ensures cpus { IfOk result (λ r. length r.rings ≡ cpus) }
         ensures capacity { IfOk result (λ r. r.capacity ≡ capacity) }
         ensures homes { IfOk result (λ r. r.homes ≡ homes.now.items) }
+        ensures board { IfOk result (λ r. r.board ≡ board.now.table_id) }
+        ensures terms { IfOk result (λ r. r.terms ≡ terms_in board.now.views) }
     {
         let mut consumers = no_consumers(alloc, cpus)?;
         let mut producers = Vec::with_capacity(alloc, cpus)?;
-        for _ in 0..cpus {
-            producers.push(open_row(alloc, capacity, homes, &mut consumers)?)?;
+        for sender in 0..cpus {
+            producers.push(open_row(alloc, capacity, sender, homes, board, &mut consumers)?)?;
         }
         Ok(Rings {
             capacity,
             homes: Snapshot::of(homes),
+            board: Snapshot::of(board),
             producers,
             consumers,
         })
@@ -82,8 +99,14 @@ impl Rings {
     pub(crate) fn named<N: Names>(
         self,
         alloc: Global,
+        board: &Arc<NamedBoard<N>>,
+        token: Token,
     ) -> Result<(Vec<Producers<N>>, Vec<Consumers<N>>), AllocError>
-        requires { self ≡ N.kit.rings }
+        requires rings { self ≡ N.kit.rings }
+        requires board { self.board ≡ N.kit.board }
+        requires terms { self.terms ≡ Some N.kit.terms }
+        requires token { IsToken N.kit.board N.kit.terms token }
+        requires posts { posts_of token ≡ posts_from (length self.rings) 0 (length self.rings) }
         ensures producers { IfOk result (λ ends.
             ends.0.items ≡ rings.all_no_posts self.capacity (length self.rings)) }
         ensures consumers { IfOk result (λ ends.
@@ -92,10 +115,11 @@ impl Rings {
         let Rings {
             capacity,
             homes: _,
+            board: _,
             producers,
             consumers,
         } = self;
-        let producers = producers_by_sender(alloc, capacity, producers)?;
+        let producers = producers_by_sender(alloc, capacity, producers, board, token)?;
         let consumers = consumers_by_home(alloc, consumers)?;
         Ok((producers, consumers))
     }
@@ -116,17 +140,20 @@ fn no_consumers(alloc: Global, cpus: usize) -> Result<Vec<Vec<PopEnd>>, AllocErr
 fn open_row(
     alloc: Global,
     capacity: usize,
+    sender: usize,
     homes: &Vec<CpuId>,
+    board: &Token,
     columns: &mut Vec<Vec<PopEnd>>,
 ) -> Result<Vec<PushEnd>, AllocError>
-    ensures { IfOk result (λ row. AreRow capacity homes.now.items
+    ensures { IfOk result (λ row. AreRow capacity
+        (source_at board.now.table_id (terms_in board.now.views) homes.now.items sender)
         (length (lists_of columns.old.items)) row.items
         (lists_of columns.old.items) (lists_of columns.new.items)) }
 {
     let slots = slots_for(capacity);
     let mut row = Vec::with_capacity(alloc, columns.len().saturating_add(UNUSED_ENDS))?;
     for home in 0..columns.len() {
-        let (producer, consumer) = open_ring(alloc, slots, home, homes)?;
+        let (producer, consumer) = open_ring(alloc, slots, sender, home, homes, board)?;
         row.push(producer)?;
         columns[home].push(consumer)?;
     }

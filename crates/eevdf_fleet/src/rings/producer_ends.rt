@@ -1,8 +1,12 @@
+use crate::board::{NamedBoard, Token};
 use crate::names::Names;
 use crate::rings::request::PushEnd;
 use crate::rings::ring_ends::{free, push};
+use atomic_table::Badge;
 use eevdf_queue::TaskId;
-use std::marker::{Model, PhantomData};
+use std::marker::Model;
+use std::mem;
+use std::sync::Arc;
 
 /// The answer to a post that was refused. It comes only where the seat has posted at least as many requests to the task's
 /// home, over all, as a ring has room for.
@@ -19,12 +23,16 @@ pub(crate) struct Producers<N: Names> {
     pub(super) sender: usize,
     pub(super) capacity: usize,
     pub(super) ends: Vec<PushEnd>,
-    of: PhantomData<N>,
+    board: Arc<NamedBoard<N>>,
+    // It claims what was posted.
+    token: Token,
 }
 
 impl<N: Names> Model for Producers<N> {
-    ghost use Rattle.std.specs.Prelude.{◌≡◌};
-    ghost use Rattle.eevdf_fleet.specs.RingEnds.{posts, AreProducers};
+    ghost use Rattle.std.specs.Prelude.{◌≡◌, [], ◌∷◌, Some, map};
+    ghost use Rattle.eevdf_fleet.specs.RingEnds.{posted_into, posts, AreProducers};
+    ghost use Rattle.eevdf_fleet.specs.{Board.IsToken, Board.posts_of};
+    ghost use Rattle.eevdf_fleet.specs.declared.board.claims.PostClaim.TheVariants as claim;
     ghost use Rattle.eevdf_fleet.specs.Rings as rings;
 
     ghost Value = { rings.Posts };
@@ -32,26 +40,43 @@ impl<N: Names> Model for Producers<N> {
     ghost view = { λ p. posts p.capacity p.sender p.ends.items };
 
     ghost invariant = { λ p. AreProducers N.kit.rings p.sender p.ends.items
-        × (p.capacity ≡ N.kit.rings.capacity) };
+        × (p.capacity ≡ N.kit.rings.capacity)
+        × IsToken N.kit.board N.kit.terms p.token
+        × (posts_of p.token ≡ claim.Posts p.sender (map posted_into p.ends.items) ∷ [])
+        × (N.kit.rings.board ≡ N.kit.board)
+        × (N.kit.rings.terms ≡ Some N.kit.terms) };
 }
 
 impl<N: Names> Producers<N> {
-    ghost use Rattle.std.specs.Prelude.{◌≡◌, ◌<◌, [], ◌∷◌, length, true, OnOk, OnErr, IfErr, IsOk};
+    ghost use Rattle.std.specs.Prelude.{◌≡◌, ◌<◌, ◌+◌, ◌↔◌, [], ◌∷◌, length, map, true, OnOk, OnErr, IfErr, IsOk, IsTrue, Some};
     ghost use Rattle.eevdf_ops.specs.Setup.{is_at_home};
     ghost use Rattle.eevdf_fleet.specs.Rings as rings;
-    ghost use Rattle.eevdf_fleet.specs.RingEnds.{posts, AreProducers};
+    ghost use Rattle.eevdf_fleet.specs.RingEnds.{posted_into, posts, AreProducers};
+    ghost use Rattle.eevdf_fleet.specs.{Board.IsToken, Board.claims_of, Board.posts_of};
+    ghost use Rattle.eevdf_fleet.specs.declared.board.claims.PostClaim.TheVariants as claim;
 
-    /// The ends of a sender's rings, each with room for so many requests.
-    pub(super) fn new(sender: usize, capacity: usize, ends: Vec<PushEnd>) -> Producers<N>
+    /// The ends of a sender's rings, each with room for so many requests, and the token of what was posted.
+    pub(super) fn new(
+        sender: usize,
+        capacity: usize,
+        ends: Vec<PushEnd>,
+        board: Arc<NamedBoard<N>>,
+        token: Token,
+    ) -> Producers<N>
         requires ends { AreProducers N.kit.rings sender ends.items }
         requires capacity { capacity ≡ N.kit.rings.capacity }
+        requires token { IsToken N.kit.board N.kit.terms token }
+        requires posts { posts_of token ≡ claim.Posts sender (map posted_into ends.items) ∷ [] }
+        requires board { N.kit.rings.board ≡ N.kit.board }
+        requires terms { N.kit.rings.terms ≡ Some N.kit.terms }
         ensures { result ≡ posts capacity sender ends.items }
     {
         Producers {
             sender,
             capacity,
             ends,
-            of: PhantomData,
+            board,
+            token,
         }
     }
 
@@ -71,7 +96,36 @@ impl<N: Names> Producers<N> {
         if self.capacity == 0 {
             return Err(RingFull { task });
         }
-        push(&mut self.ends[home], task)
+        push(
+            &mut self.ends[home],
+            &self.board,
+            &mut self.token,
+            home,
+            task,
+        )
+    }
+
+    /// A token of what was posted so far.
+    pub(crate) fn sent(&mut self) -> Token
+        ensures producers { self.new ≡ self.old }
+        ensures token { IsToken N.kit.board N.kit.terms result }
+        ensures claims { claims_of result ≡ [] }
+        ensures sent { posts_of result ≡ claim.Sent self.old.sender self.old.posted ∷ [] }
+    {
+        let all = mem::replace(&mut self.token, Badge::blank());
+        let (sent, all) = self.board.sent(all);
+        self.token = all;
+        sent
+    }
+
+    /// Looks whether exactly one request to a home is in its ring.
+    pub(crate) fn has_one(&mut self, home: usize) -> bool
+        requires { home < length self.old.posted }
+        ensures looked { rings.HasLooked home self.old self.new }
+        ensures one { IsTrue result ↔ (rings.free_to self.new home + 1 ≡ N.kit.rings.capacity) }
+    {
+        let free = self.free(home);
+        free < self.capacity && self.capacity - free == 1
     }
 
     /// Looks how many requests to a home certainly fit now. `Consumers::free_own` knows it of the sender's own.

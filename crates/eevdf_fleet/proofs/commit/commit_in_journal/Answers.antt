@@ -1,6 +1,8 @@
-use Rattle.std.proofs.Common.{◌≡◌, List, [], ◌∷◌, ◌++◌, map, ap, subst, ◌∙◌, arith}
+use Rattle.std.proofs.Common.{◌≡◌, List, [], ◌∷◌, ◌++◌, map, ap, sym, subst, ◌∙◌, arith}
 use Rattle.eevdf_fleet.specs.{declared.board.claims.Claim.Claim, declared.board.claims.Claim.TheVariants.Journal, Claims.advanced}
 use Rattle.eevdf_fleet.specs.Board.{Known, claims_of, held}
+use Rattle.eevdf_fleet.specs.{declared.board.claims.PostClaim.PostClaim, Board.posts_of, PostClaims.IsAsked}
+use Rattle.eevdf_fleet.proofs.SentTokens.{asked-right}
 use Rattle.eevdf_fleet.proofs.Rooms.{journal-room}
 use Rattle.eevdf_fleet.proofs.commit.commit_in_journal.Goals as goal
 
@@ -15,3 +17,8 @@ push_reserved-requires g c =
     let known : Known t c.commit-token.new.log.seen (Journal (all ++ l ∷ []) ∷ held (map (advanced c.args.said) (claims_of c.args.queues))) =
     subst (λ (cs : List Claim). Known t c.commit-token.new.log.seen cs) claims c.commit-token.ensures.known in
     omega (arith, journal-room t c.commit-token.new.log.seen all l _ known.kept c.journal.invariant.2 known.tell.0, c.journal.inside.lines.ok.0)
+
+pub commit-token-requires-clause-asked : goal.commit-token-requires-clause-asked
+commit-token-requires-clause-asked g c =
+    subst (λ (ps : List PostClaim). IsAsked c.args.log.now.lines ps c.args.said.line.deed) (sym c.join-token.ensures.posts)
+    (asked-right c.args.log.now.lines (posts_of c.replace-all.result) (posts_of c.args.queues) c.args.said.line.deed c.requires.asked)

@@ -34,6 +34,8 @@ invariant_of-push g c =
       AllZip-map (λ (n : ℕ). n) c.args.homes.now.items c.in_ok-homes.homes.items c.in_ok-homes.ensures.cases.0 ∙ map-id c.args.homes.now.items ∙ c.requires.homes,
       c.requires.homes_below,
       c.requires.ring_homes,
+      c.requires.ring_board,
+      c.requires.ring_terms,
     )
 
 pub unreachable-requires : goal.unreachable-requires

@@ -2,5 +2,5 @@ use Rattle.std.proofs.Common.{◌≡◌, map}
 use Rattle.eevdf_fleet.specs.Endless.{seat_of_parts}
 use Rattle.eevdf_fleet.proofs.endless.seat.seats_of.Given as goal
 
-abbrev pub invariant-loop-parts : goal.invariant-loop-parts
-invariant-loop-parts g l = l.seats.items ≡ map seat_of_parts l.yielded
+abbrev pub invariant-loop-own : goal.invariant-loop-own
+invariant-loop-own g l = l.seats.items ≡ map seat_of_parts l.yielded

@@ -4,13 +4,13 @@ use Rattle.std.specs.Prelude.{Some, slice_get, vec_len}
 use Rattle.std.proofs.lemmas.List.FromFn.{length-map-range_with_len}
 use Rattle.eevdf_ops.specs.{Outcome.machine_of, Setup.cpus_of}
 use Rattle.eevdf_fleet.specs.{Endless.fresh, EndlessTurns.HaveTurned, Fleets.Kit, Fleets.setup_of}
-use Rattle.eevdf_fleet.proofs.Crossing.{endless_seat_send, endless_fleet_sync}
+use Rattle.eevdf_fleet.proofs.Crossing.{endless_seat_send, endless_fleet_sync, exchange_sync}
 use Rattle.eevdf_fleet.proofs.SeatLists.{by-places-at}
 use Rattle.eevdf_fleet.proofs.endless.turn_threads.run_on_fleet.Goals as goal
 use Rattle.eevdf_fleet.proofs.endless.turn_threads.run_on_fleet.Goals.{After-run_seats}
 
 pub run_seats-requires-sync-W : goal.run_seats-requires-sync-W
-run_seats-requires-sync-W g c κs within = search (endless_fleet_sync, sendable) depth 20
+run_seats-requires-sync-W g c κs within = search (endless_fleet_sync, exchange_sync, sendable) depth 20
 
 pub run_seats-requires-send-S : goal.run_seats-requires-send-S
 run_seats-requires-send-S g c κs within = search (endless_seat_send, sendable) depth 20
@@ -31,7 +31,7 @@ close-requires g c = record {
 
 pub returns : goal.returns
 returns g c =
-    let kit = g.N.Names.kit in let o = c.close.result in let gives = g.T.SeatTurn.turn_gives c.args.each.now in
+    let kit = g.N.Names.kit in let o = c.close.result in let gives = g.T.ExchangeTurn.turn_gives c.args.each.now in
     let at : After-run_seats g = (goal.at.returns g c).After-run_seats in
     subst (λ (k : Kit). HaveTurned (gives k) k (machine_of o.queues.items) (map (λ l. l.items) o.left.items)) (sym c.requires) (record {
       seats = c.in_ok-seats.seats.items;

@@ -9,6 +9,8 @@ invariant_of-seat g c = (
   c.seat.invariant.1,
   c.seat.invariant.2,
   c.seat.invariant.3,
+  c.seat.invariant.4,
+  c.seat.invariant.5,
 )
 
 pub returns : goal.returns

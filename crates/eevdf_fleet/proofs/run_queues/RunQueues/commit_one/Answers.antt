@@ -1,8 +1,9 @@
-use Rattle.std.proofs.Common.{ap, map, subst, ◌∙◌}
+use Rattle.std.proofs.Common.{ap, map, sym, subst, ◌∙◌}
 use Rattle.eevdf_ops.specs.declared.deeds.Line.{Line}
 use Rattle.eevdf_queue.specs.declared.queue.Queue.{Queue}
 use Rattle.eevdf_fleet.specs.{Board.claims_of, Board.held, Claims.advanced, Fleets.HasWritten}
 use Rattle.eevdf_fleet.proofs.{Advances.one-advanced, OwedQueues.one-owes}
+use Rattle.eevdf_fleet.specs.{Board.posts_of, PostClaims.IsAsked}
 use Rattle.eevdf_fleet.proofs.run_queues.RunQueues.commit_one.Goals as goal
 
 pub returns-clause-claims : goal.returns-clause-claims
@@ -18,3 +19,6 @@ commit_line-requires-clause-owed g c =
 
 pub returns-clause-log : goal.returns-clause-log
 returns-clause-log g c = subst (λ (l : Line). HasWritten c.args.log.now c.commit_line.new.log l) c.said-said.ensures.line c.commit_line.ensures.log
+
+pub commit_line-requires-clause-asked : goal.commit_line-requires-clause-asked
+commit_line-requires-clause-asked g c = subst (λ (l : Line). IsAsked c.args.log.now.lines (posts_of c.args.token) l.deed) (sym c.said-said.ensures.line) c.requires.asked

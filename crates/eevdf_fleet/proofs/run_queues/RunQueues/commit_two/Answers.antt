@@ -1,9 +1,12 @@
-use Rattle.std.proofs.Common.{◌≡◌, List, [], ◌∷◌, map, take, drop, ap, subst, ◌∙◌}
+use Rattle.std.proofs.Common.{◌≡◌, List, [], ◌∷◌, map, take, drop, sym, ap, subst, ◌∙◌}
 use Rattle.eevdf_ops.specs.declared.deeds.Line.{Line}
 use Rattle.eevdf_queue.specs.declared.queue.Queue.{Queue}
 use Rattle.eevdf_fleet.specs.declared.board.claims.{Claim.Claim, Said.Said}
 use Rattle.eevdf_fleet.specs.declared.board.claims.Claim.TheVariants as claim
 use Rattle.eevdf_fleet.specs.{Board.claims_of, Board.held, Claims.advanced, Fleets.HasWritten}
+use Rattle.eevdf_ops.specs.Setup.{homes_of}
+use Rattle.eevdf_fleet.specs.{Board.posts_of, Fleets.setup_of, PostClaims.IsAsked}
+use Rattle.eevdf_fleet.proofs.{SeatParts.two-no-wake, SentTokens.no-wake-asked}
 use Rattle.eevdf_fleet.proofs.{Advances.two-advanced, OwedQueues.two-owes}
 use Rattle.eevdf_fleet.proofs.run_queues.RunQueues.commit_two.Goals as goal
 use Rattle.eevdf_fleet.proofs.run_queues.RunQueues.commit_two.Goals.{After-split}
@@ -36,3 +39,8 @@ commit_line-token-requires-clause-owed g c =
 
 pub returns-clause-log : goal.returns-clause-log
 returns-clause-log g c = subst (λ (l : Line). HasWritten c.args.log.now c.commit_line-token.new.log l) (ap (λ (s : Said). s.line) c.said_both-said.ensures) c.commit_line-token.ensures.log
+
+pub commit_line-token-requires-clause-asked : goal.commit_line-token-requires-clause-asked
+commit_line-token-requires-clause-asked g c =
+    subst (λ (s : Said). IsAsked c.args.log.now.lines (posts_of c.args.token) s.line.deed) (sym c.said_both-said.ensures)
+    (no-wake-asked c.args.log.now.lines (posts_of c.args.token) c.args.line.now.deed (two-no-wake (homes_of (setup_of g.N.Names.kit)) c.args.other c.args.line.now.deed c.requires.two))

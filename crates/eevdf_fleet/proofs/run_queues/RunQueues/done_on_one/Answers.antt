@@ -1,5 +1,7 @@
 use Rattle.std.proofs.Common.{◌≡◌, ℕ, [], ◌∷◌, ap, ◌∙◌}
 use Rattle.eevdf_fleet.specs.{declared.board.claims.Claim.TheVariants.Queue, Board.claims_of, Fleets.Slot}
+use Rattle.eevdf_fleet.specs.Board.{posts_of}
+use Rattle.eevdf_fleet.proofs.SentTokens.{no-wake-asked}
 use Rattle.eevdf_fleet.proofs.run_queues.RunQueues.done_on_one.Goals as goal
 
 pub commit_one-requires-clause-done : goal.commit_one-requires-clause-done
@@ -11,3 +13,6 @@ commit_one-requires-clause-done g c =
       answers = c.act-answer.ensures.answer;
       leaves = c.act-answer.ensures.after;
     }
+
+pub commit_one-requires-clause-asked : goal.commit_one-requires-clause-asked
+commit_one-requires-clause-asked g c = no-wake-asked c.args.log.now.lines (posts_of c.replace-token.result) c.args.deed c.requires.no_wake

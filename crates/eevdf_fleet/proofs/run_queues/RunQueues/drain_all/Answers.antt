@@ -1,10 +1,10 @@
-use Rattle.std.proofs.Common.{◌≡◌, ℕ, ◌+◌, List, refl, sym, subst, ◌∙◌, arith}
+use Rattle.std.proofs.Common.{◌≡◌, ℕ, ◌+◌, List, refl, sym, ap, subst, ◌∙◌, arith}
 use base.Growing.{prefix_refl, prefix_trans}
 use mathlib.Core.List.{IsPrefix}
 use Rattle.eevdf_ops.specs.Setup.{cpus_of}
-use Rattle.eevdf_fleet.specs.{declared.drains.Drained.Drained, Drains.HasTaken, Fleets.setup_of}
+use Rattle.eevdf_fleet.specs.{declared.drains.Drained.Drained, declared.wake_list.DrainedWake.DrainedWake, Drains.AreTakenBy, Drains.HasTaken, Fleets.Seat, Fleets.setup_of}
 use Rattle.eevdf_ops.specs.declared.deeds.Line.{Line}
-use Rattle.eevdf_fleet.proofs.SenderTurns.{DrainedBelow, drained-all, none-drained, none-taken, one-taken, room-left, woken-few}
+use Rattle.eevdf_fleet.proofs.SenderTurns.{DrainedBelow, drained-all, listed-more, listed-none, listed-same, none-drained, none-taken, one-taken, room-left, woken-few}
 use Rattle.eevdf_fleet.proofs.run_queues.RunQueues.drain_all.Goals as goal
 use Rattle.eevdf_fleet.proofs.run_queues.RunQueues.drain_all.Goals.{in-Some, in_default}
 
@@ -22,8 +22,8 @@ loop-sender-preserved g c =
       elim c.match-drain_one.branch [
         | in-Some w ↦
             subst (λ (d : Drained). DrainedBelow (k + 1) before c.drain_one.new.seat.seat d) (sym (w.drained-is ∙ w.counted-drained.ensures))
-            (one-taken k before c.loop-sender.seat.seat c.drain_one.new.seat.seat c.loop-sender.drained c.loop-sender.invariant.0 w.in-Some.answer
-            (subst (λ (n : ℕ). HasTaken c.loop-sender.seat.seat c.drain_one.new.seat.seat n w.in-Some.answer) c.numbered.ensures w.in-Some.ensures.some.taken))
+            (one-taken k before c.loop-sender.seat.seat c.drain_one.new.seat.seat c.loop-sender.drained c.loop-sender.invariant.0 w.in-Some.wake
+            (subst (λ (n : ℕ). HasTaken c.loop-sender.seat.seat c.drain_one.new.seat.seat n w.in-Some.wake) c.numbered.ensures w.in-Some.ensures.some.taken))
         | in_default w ↦
             subst (λ (d : Drained). DrainedBelow (k + 1) before c.drain_one.new.seat.seat d) (sym w.drained-is)
             (none-taken k before c.loop-sender.seat.seat c.drain_one.new.seat.seat c.loop-sender.drained c.loop-sender.invariant.0 w.in_default.ensures.none.seat (λ here. w.in_default.ensures.none_own (c.numbered.ensures ∙ here)))
@@ -37,6 +37,20 @@ loop-sender-preserved g c =
         | in_default w ↦ λ home. omega (arith, c.loop-sender.invariant.2 home, w.in_default.ensures.none.free home)
       ],
       c.drain_one.ensures.number ∙ c.loop-sender.invariant.3,
+      elim c.match-drain_one.branch [
+        | in-Some w ↦
+            subst (λ x. AreTakenBy (λ (wakes : List DrainedWake). g.L.WakeList.has_taken c.args.wakes.now wakes x) before c.drain_one.new.seat.seat) (sym w.wakes-is)
+            (listed-more _ _ before c.loop-sender.seat.seat c.drain_one.new.seat.seat k w.in-Some.wake c.loop-sender.invariant.4 (ap (λ (s : Seat). s.cpu) c.loop-sender.invariant.0.seat)
+            (subst (λ (n : ℕ). HasTaken c.loop-sender.seat.seat c.drain_one.new.seat.seat n w.in-Some.wake) c.numbered.ensures w.in-Some.ensures.some.taken)
+            (λ wakes holds. w.take.ensures.wake _ wakes holds))
+        | in_default w ↦
+            subst (λ x. AreTakenBy (λ (wakes : List DrainedWake). g.L.WakeList.has_taken c.args.wakes.now wakes x) before c.drain_one.new.seat.seat) (sym w.wakes-is)
+            (listed-same _ before c.loop-sender.seat.seat c.drain_one.new.seat.seat c.loop-sender.invariant.4 w.in_default.ensures.none.seat)
+      ],
+      elim c.match-drain_one.branch [
+        | in-Some w ↦ omega (arith, c.loop-sender.invariant.5, w.take.ensures.room, ap g.L.WakeList.room w.wakes-is)
+        | in_default w ↦ omega (arith, c.loop-sender.invariant.5, ap g.L.WakeList.room w.wakes-is)
+      ],
     )
 
 pub returns-clause-drained : goal.returns-clause-drained
@@ -56,8 +70,11 @@ drain_one-requires-clause-room g c =
     (omega (arith, c.loop-sender-test.true, c.len-sender-end.ensures, c.self.invariant.1)) c.requires.room
 
 pub loop-sender-init : goal.loop-sender-init
-loop-sender-init g c = (none-drained c.args.seat.now.seat, prefix_refl c.args.seat.now.seen, (λ home. omega arith), refl)
+loop-sender-init g c = (none-drained c.args.seat.now.seat, prefix_refl c.args.seat.now.seen, (λ home. omega arith), refl, listed-none _ c.args.seat.now.seat (g.met.L.WakeList.none c.args.wakes.now), omega (arith, c.requires.list))
 
 pub returns-clause-few : goal.returns-clause-few
 returns-clause-few g c =
     omega (arith, c.loop-sender.auto.sender-end, c.len-sender-end.ensures, c.self.invariant.1, c.loop-sender.invariant.0.taken, c.loop-sender.invariant.0.few)
+
+pub take-requires : goal.take-requires
+take-requires g c = omega (arith, c.loop-sender.invariant.5, c.loop-sender-test.true, c.len-sender-end.ensures, c.self.invariant.1)

@@ -21,10 +21,12 @@ invariant_of-self g c = (
   c.self.invariant.1,
   c.self.invariant.2,
   c.self.invariant.3,
+  c.self.invariant.4,
+  c.self.invariant.5,
 )
 
 pub invariant_of-self-else-get : goal.invariant_of-self-else-get
-invariant_of-self-else-get g c = (parts-looked _ _ _ _ _ _ c.free.ensures.looked c.self.invariant.0, c.self.invariant.1, c.self.invariant.2, c.self.invariant.3)
+invariant_of-self-else-get g c = (parts-looked _ _ _ _ _ _ c.free.ensures.looked c.self.invariant.0, c.self.invariant.1, c.self.invariant.2, c.self.invariant.3, c.self.invariant.4, c.self.invariant.5)
 
 pub returns-then-get-clause-looked : goal.returns-then-get-clause-looked
 returns-then-get-clause-looked g c = seat-looked _ _ _ _ _ c.free_own.ensures.producers c.self.view_is

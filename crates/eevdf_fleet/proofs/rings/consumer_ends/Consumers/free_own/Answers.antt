@@ -1,7 +1,7 @@
 use Rattle.std.proofs.Common.{◌≡◌, ap, sym, ◌∙◌}
 use Rattle.eevdf_fleet.specs.{Rings.Posts, Rings.Takes}
 use Rattle.eevdf_fleet.proofs.MarkedItems.{same-marked}
-use Rattle.eevdf_fleet.proofs.RingEnds.{consumers-set, free-after, free-beside, pair-at, posts-looked, producers-looked, takes-same}
+use Rattle.eevdf_fleet.proofs.RingEnds.{claimed-still, consumers-set, free-after, free-beside, pair-at, posts-looked, producers-looked, takes-same}
 use Rattle.eevdf_fleet.proofs.rings.consumer_ends.Consumers.free_own.Goals as goal
 use Rattle.eevdf_fleet.proofs.rings.consumer_ends.Consumers.free_own.Goals.{After-index_mut-2}
 
@@ -24,6 +24,10 @@ pub invariant_of-producers : goal.invariant_of-producers
 invariant_of-producers g c = (
   producers-looked _ _ _ c.producers.invariant.0 c.index_mut.ensures.value c.free_beside.ensures.looked,
   c.producers.invariant.1,
+  c.producers.invariant.2,
+  claimed-still _ _ _ _ _ _ c.index_mut.ensures.value c.free_beside.ensures.looked.1 c.producers.invariant.3,
+  c.producers.invariant.4,
+  c.producers.invariant.5,
 )
 
 pub returns-clause-takes : goal.returns-clause-takes

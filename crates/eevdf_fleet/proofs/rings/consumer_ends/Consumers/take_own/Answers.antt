@@ -2,8 +2,8 @@ use Rattle.std.proofs.Common.{◌≡◌, ℕ, length, ap, sym, ◌∙◌}
 use Rattle.std.specs.Prelude.{slice_get}
 use Rattle.std.proofs.lemmas.Option.{IfSome_then}
 use Rattle.eevdf_fleet.specs.{RingEnds.takes, Rings.Posts, Rings.Takes, Rings.posted_to, Rings.taken_from}
-use Rattle.eevdf_fleet.proofs.{MarkedItems.followed, MarkedItems.popped-marked}
-use Rattle.eevdf_fleet.proofs.RingEnds.{consumers-set, oldest-at, producers-looked, pair-at, popped-mark, takes-same, takes-more, posts-looked}
+use Rattle.eevdf_fleet.proofs.{MarkedItems.popped-marked}
+use Rattle.eevdf_fleet.proofs.RingEnds.{claimed-still, consumers-set, followed-taken, oldest-at, producers-looked, pair-at, takes-same, takes-more, posts-looked}
 use Rattle.eevdf_fleet.proofs.RingPlaces.{IfNone_then}
 use Rattle.eevdf_fleet.proofs.rings.consumer_ends.Consumers.take_own.Goals as goal
 use Rattle.eevdf_fleet.proofs.rings.consumer_ends.Consumers.take_own.Goals.{After-index_mut-2}
@@ -28,17 +28,21 @@ pub invariant_of-producers : goal.invariant_of-producers
 invariant_of-producers g c = (
   producers-looked _ _ _ c.producers.invariant.0 c.index_mut-2.ensures.value c.pop_beside.ensures.producer,
   c.producers.invariant.1,
+  c.producers.invariant.2,
+  claimed-still _ _ _ _ _ _ c.index_mut-2.ensures.value c.pop_beside.ensures.producer.1 c.producers.invariant.3,
+  c.producers.invariant.4,
+  c.producers.invariant.5,
 )
 
 pub returns-clause-some : goal.returns-clause-some
 returns-clause-some g c =
     rw (← c.self.view_is) (IfSome_then c.pop_beside.result c.pop_beside.ensures.some
-    (λ task more. takes-more _ _ _ _ _ _ c.self.invariant (rw (← c.self.view_is) at c.requires.sender) c.index_mut.ensures.value more))
+    (λ r more. takes-more _ _ _ _ _ _ c.self.invariant (rw (← c.self.view_is) at c.requires.sender) c.index_mut.ensures.value more))
 
-pub returns-clause-at_home : goal.returns-clause-at_home
-returns-clause-at_home g c =
+pub returns-clause-follows : goal.returns-clause-follows
+returns-clause-follows g c =
     rw (← c.self.view_is) (IfSome_then c.pop_beside.result c.pop_beside.ensures.allowed
-    (λ task allowed. followed task (popped-mark _ _ c.self.invariant (rw (← c.self.view_is) at c.requires.sender) c.index_mut.ensures.value) allowed))
+    (λ r allowed. followed-taken _ _ _ _ r c.self.invariant (rw (← c.self.view_is) at c.requires.sender) c.index_mut.ensures.value allowed))
 
 pub returns-clause-none : goal.returns-clause-none
 returns-clause-none g c =

@@ -1,6 +1,6 @@
 use Rattle.std.proofs.lemmas.Option.{IfSome_then}
-use Rattle.eevdf_fleet.proofs.{MarkedItems.followed, MarkedItems.popped-marked}
-use Rattle.eevdf_fleet.proofs.RingEnds.{consumers-set, popped-mark, takes-same, takes-more}
+use Rattle.eevdf_fleet.proofs.{MarkedItems.popped-marked}
+use Rattle.eevdf_fleet.proofs.RingEnds.{consumers-set, followed-taken, takes-same, takes-more}
 use Rattle.eevdf_fleet.proofs.RingPlaces.{IfNone_then}
 use Rattle.eevdf_fleet.proofs.rings.consumer_ends.Consumers.take_seen.Goals as goal
 
@@ -10,12 +10,12 @@ invariant_of-self g c =
 
 pub returns-clause-some : goal.returns-clause-some
 returns-clause-some g c =
-    rw (← c.self.view_is) (IfSome_then c.pop.result c.pop.ensures.some (λ task more. takes-more _ _ _ _ _ _ c.self.invariant (rw (← c.self.view_is) at c.requires) c.index_mut.ensures.value more))
+    rw (← c.self.view_is) (IfSome_then c.pop.result c.pop.ensures.some (λ r more. takes-more _ _ _ _ _ _ c.self.invariant (rw (← c.self.view_is) at c.requires) c.index_mut.ensures.value more))
 
-pub returns-clause-at_home : goal.returns-clause-at_home
-returns-clause-at_home g c =
+pub returns-clause-follows : goal.returns-clause-follows
+returns-clause-follows g c =
     rw (← c.self.view_is) (IfSome_then c.pop.result c.pop.ensures.allowed
-    (λ task allowed. followed task (popped-mark _ _ c.self.invariant (rw (← c.self.view_is) at c.requires) c.index_mut.ensures.value) allowed))
+    (λ r allowed. followed-taken _ _ _ _ r c.self.invariant (rw (← c.self.view_is) at c.requires) c.index_mut.ensures.value allowed))
 
 pub returns-clause-none : goal.returns-clause-none
 returns-clause-none g c =

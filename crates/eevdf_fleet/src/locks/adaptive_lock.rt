@@ -12,7 +12,7 @@ const PAUSES: u32 = 4;
 /// Takes a lock. Where it is held the thread tries again for some microseconds before it sleeps, since to sleep and to be woken takes
 /// both threads longer than that.
 #[inline(always)]
-pub(crate) fn lock_adaptively<'a, T, R: Wait>(rt: &R, lock: &'a Mutex<T>) -> MutexGuard<'a, T> {
+pub(super) fn lock_adaptively<'a, T, R: Wait>(rt: &R, lock: &'a Mutex<T>) -> MutexGuard<'a, T> {
     match lock.try_lock() {
         Some(guard) => guard,
         None => lock_when_free(rt, lock),

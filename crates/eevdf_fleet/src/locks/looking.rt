@@ -2,13 +2,15 @@
 
 ghost use Rattle.std.specs.{Prelude.◌≡◌, Prelude.◌<◌, Sync.Mutex.mutex_guard_value};
 ghost use Rattle.eevdf_ops.specs.{Machine.queue_at, Setup.cpus_of};
-ghost use Rattle.eevdf_fleet.specs.Claims.{told};
+ghost use mathlib.Core.List.{IsPrefix};
+ghost use Rattle.eevdf_fleet.specs.Claims.{IsKept, told};
 ghost use Rattle.eevdf_fleet.specs.Fleets.{AreKnown, PartsSeeMore, setup_of};
 
-use crate::held_locks::HeldLocks;
+use crate::locks::taken_locks::TakenLocks;
 use crate::names::Names;
 use crate::run_queues::RunQueues;
 use crate::seat_parts::SeatParts;
+use crate::seen::Seen;
 use crate::slot::Slot;
 use atomic_table::Badge;
 use eevdf_ops::CpuId;
@@ -16,26 +18,29 @@ use std::mem;
 use std::sync::{MutexGuard, Wait};
 
 impl<N: Names> RunQueues<N> {
-    /// Takes the lock of a CPU's queue, and learns the history that leaves it.
+    /// Takes the lock of a CPU's queue, and learns the history that leaves it. Gives what the seat has seen then, beside the lock.
     pub(crate) fn look<R: Wait>(
         &self,
         rt: &R,
         seat: &mut SeatParts<N>,
         cpu: CpuId,
-    ) -> MutexGuard<'_, Slot<N>>
+    ) -> (MutexGuard<'_, Slot<N>>, Seen<N>)
         requires { cpu < cpus_of (setup_of N.kit) }
         ensures seat { PartsSeeMore seat.old seat.new }
         ensures known { AreKnown N.kit.terms seat.new }
+        ensures cpu { (mutex_guard_value result.0).number ≡ cpu }
         ensures queue { queue_at (told N.kit.terms seat.new.seen) cpu
-            ≡ (mutex_guard_value result).queue.state }
+            ≡ (mutex_guard_value result.0).queue.state }
+        ensures seen { result.1 ≡ seat.new.seen }
     {
-        let mut guard = self.hold(rt, &mut HeldLocks::none(), cpu);
+        let mut guard = self.take(rt, &mut TakenLocks::none(), cpu);
         self.see(seat, &mut guard);
-        guard
+        let seen = self.seen(seat);
+        (guard, seen)
     }
 
     /// Learns the history that leaves a queue whose lock is held.
-    fn see(&self, seat: &mut SeatParts<N>, slot: &mut Slot<N>)
+    pub(crate) fn see(&self, seat: &mut SeatParts<N>, slot: &mut Slot<N>)
         ensures seat { PartsSeeMore seat.old seat.new }
         ensures known { AreKnown N.kit.terms seat.new }
         ensures queue { queue_at (told N.kit.terms seat.new.seen) slot.old.number
@@ -47,6 +52,22 @@ impl<N: Names> RunQueues<N> {
         let token = self.board.look(self.board.join(kept, own));
         let (own, kept) = self.board.split_two(token);
         seat.log.token = own;
+        slot.token = kept;
+    }
+
+    /// Learns the history as it is now, which goes on from what was seen, and leaves a queue whose lock is held as it is.
+    pub(crate) fn see_again(&self, seen: &mut Seen<N>, slot: &mut Slot<N>)
+        ensures more { IsPrefix seen.old seen.new }
+        ensures kept { IsKept N.kit.terms seen.new }
+        ensures queue { queue_at (told N.kit.terms seen.new) slot.old.number
+            ≡ slot.old.queue.state }
+        ensures slot { slot.new ≡ slot.old }
+    {
+        let past = mem::replace(&mut seen.token, Badge::blank());
+        let kept = mem::replace(&mut slot.token, Badge::blank());
+        let token = self.board.look(self.board.join(kept, past));
+        let (past, kept) = self.board.split(token);
+        seen.token = past;
         slot.token = kept;
     }
 

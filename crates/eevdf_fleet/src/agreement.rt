@@ -1,0 +1,59 @@
+//! How what was seen at different moments, by whatever threads, is told to be of one history.
+
+ghost use Rattle.std.specs.Prelude.{◌≡◌};
+ghost use Rattle.eevdf_fleet.specs.{Claims.IsKept, Endless.Agree};
+ghost use Rattle.eevdf_fleet.specs.Fleets.{setup_of};
+
+use crate::names::Names;
+use crate::run_queues::RunQueues;
+use crate::seat_parts::SeatParts;
+use crate::seen::Seen;
+use atomic_table::Badge;
+use std::marker::PhantomData;
+use std::mem;
+
+impl<N: Names> RunQueues<N> {
+    /// What a seat has seen.
+    pub(crate) fn seen(&self, seat: &mut SeatParts<N>) -> Seen<N>
+        ensures seat { seat.new ≡ seat.old }
+        ensures seen { result ≡ seat.old.seen }
+        ensures kept { IsKept N.kit.terms result }
+    {
+        seat.know();
+        let own = mem::replace(&mut seat.log.token, Badge::blank());
+        let (own, token) = self.board.recall(own);
+        seat.log.token = own;
+        Seen {
+            token,
+            names: PhantomData,
+        }
+    }
+
+    /// The same once more.
+    pub(crate) fn copy(&self, seen: &mut Seen<N>) -> Seen<N>
+        ensures seen { seen.new ≡ seen.old }
+        ensures copy { result ≡ seen.old }
+    {
+        let own = mem::replace(&mut seen.token, Badge::blank());
+        let (own, token) = self.board.recall(own);
+        seen.token = own;
+        Seen {
+            token,
+            names: PhantomData,
+        }
+    }
+
+    /// Learns that what was seen at two moments is of one history.
+    pub(crate) fn agree(&self, seen: &mut Seen<N>, other: &mut Seen<N>)
+        ensures seen { seen.new ≡ seen.old }
+        ensures other { other.new ≡ other.old }
+        ensures agree { Agree (setup_of N.kit) seen.old other.old }
+    {
+        let Seen { token, names: _ } = self.copy(seen);
+        let Seen {
+            token: others,
+            names: _,
+        } = self.copy(other);
+        self.board.look(self.board.join(others, token));
+    }
+}

@@ -1,0 +1,34 @@
+use crate::journal::Journal;
+use crate::locks::held_locks::JournalLeave;
+use crate::names::Names;
+use crossbeam_utils::CachePadded;
+use std::sync::{Mutex, MutexGuard, Wait};
+
+/// The journal in its lock.
+#[derive(Drop)]
+pub(crate) struct JournalLock<N: Names> {
+    journal: CachePadded<Mutex<Journal<N>>>,
+}
+
+impl<N: Names> JournalLock<N> {
+    pub(crate) fn new(journal: Journal<N>) -> JournalLock<N> {
+        JournalLock {
+            journal: CachePadded::new(Mutex::new(journal)),
+        }
+    }
+
+    /// Takes the lock.
+    #[inline(always)]
+    pub(crate) fn lock<'a, R: Wait>(
+        &'a self,
+        rt: &R,
+        _leave: &'a mut JournalLeave<'_>,
+    ) -> MutexGuard<'a, Journal<N>> {
+        self.journal.lock(rt)
+    }
+
+    /// The journal, when no thread shares it any more.
+    pub(crate) fn into_journal(self) -> Journal<N> {
+        self.journal.into_inner().into_inner()
+    }
+}

@@ -1,0 +1,103 @@
+//! Each call of both fleets on CPUs of a fleet of sixty-four, in one thread. What touches a second queue, or a ring between two CPUs,
+//! is tried with the CPU below and with the one above. A call that waits for ever for some CPU doesn't end here.
+
+mod with_history;
+mod without_history;
+
+use crate::fixtures::{cpu, task};
+use crate::fleet_calls::seat_call::Call;
+use eevdf_fleet::Drained;
+use eevdf_ops::{Answer, Setup, TaskSpec};
+use eevdf_weight::{Nice, Slice};
+use std::alloc::Global;
+use std::process::Abort;
+
+/// How many CPUs there are. Tasks c and `CPUS + c` have CPU c as their home.
+const CPUS: u64 = 64;
+
+/// The CPUs whose calls are tried.
+const TRIED: [u64; 8] = [0, 1, 2, 4, 8, 16, 32, 63];
+
+/// What is to come of a call.
+#[derive(Clone, Copy, PartialEq, Eq)]
+enum Wanted {
+    Answer(Answer),
+    Drained(Drained),
+    Posted,
+}
+
+/// The CPUs beside a CPU, without those that aren't there.
+fn neighbours(cpu: u64) -> [Option<u64>; 2] {
+    let above = cpu.saturating_add(1);
+    [
+        cpu.checked_sub(1),
+        if above < CPUS { Some(above) } else { None },
+    ]
+}
+
+/// A setup with two runnable tasks of nice level 0 on each CPU.
+fn two_tasks_each(rt: &impl Abort, alloc: Global) -> Setup {
+    let mut tasks = Vec::new(alloc);
+    let mut programs = Vec::new(alloc);
+    for number in 0..CPUS.saturating_mul(2) {
+        tasks
+            .push(TaskSpec {
+                home: cpu(rt, number % CPUS),
+                nice: Nice::default(),
+                slice: Slice::default(),
+                start: 0,
+                asleep: false,
+            })
+            .expect(rt, "memory");
+    }
+    for _cpu in 0..CPUS {
+        programs.push(Vec::new(alloc)).expect(rt, "memory");
+    }
+    Setup::make(alloc, &tasks, &programs).expect(rt, "setup")
+}
+
+fn picked(rt: &impl Abort, number: u64) -> Wanted {
+    Wanted::Answer(Answer::Picked(task(rt, number)))
+}
+
+/// A sleep of a task that keeps no lag.
+fn slept() -> Wanted {
+    Wanted::Answer(Answer::Slept(0))
+}
+
+/// A drain of one request, which wakes its task.
+fn woke_one() -> Wanted {
+    Wanted::Drained(Drained { taken: 1, woken: 1 })
+}
+
+/// Calls of a CPU and of a neighbour, with what comes of them. All tasks keep lag 0, so that each falls asleep with it, and of two that
+/// are runnable the one of the lower number is picked. The last three calls change what the task that runs has.
+fn calls(rt: &impl Abort, alloc: Global, cpu: u64, neighbour: u64) -> Vec<(u64, Call, Wanted)> {
+    let second = cpu.saturating_add(CPUS);
+    let third = neighbour.saturating_add(CPUS);
+    let pulled = Wanted::Answer(Answer::Pulled(task(rt, third)));
+    let charged = Wanted::Answer(Answer::Charged {
+        task: task(rt, cpu),
+        resched: false,
+    });
+    vec![in alloc;
+        (cpu, Call::Pick, picked(rt, cpu)),
+        (cpu, Call::Sleep(cpu), slept()),
+        (cpu, Call::Pick, picked(rt, second)),
+        (cpu, Call::Sleep(second), slept()),
+        (cpu, Call::Pull(neighbour), pulled),
+        (cpu, Call::Pick, picked(rt, third)),
+        (cpu, Call::Sleep(third), slept()),
+        (cpu, Call::Post(third), Wanted::Posted),
+        (neighbour, Call::Drain, woke_one()),
+        (neighbour, Call::Post(cpu), Wanted::Posted),
+        (cpu, Call::Drain, woke_one()),
+        (cpu, Call::Post(second), Wanted::Posted),
+        (cpu, Call::Drain, woke_one()),
+        (cpu, Call::Pick, picked(rt, cpu)),
+        (cpu, Call::Tick(1_000), charged),
+        (cpu, Call::Yield, Wanted::Answer(Answer::Yielded)),
+        (cpu, Call::Renice(cpu, 5), Wanted::Answer(Answer::Reniced)),
+    ]
+    .expect(rt, "memory")
+}

@@ -1,0 +1,128 @@
+//! The CPUs of a run are all under way at the same time: in each turn of a caller, and in each operation of a program, a token goes
+//! round all of them.
+
+use super::gate_call::Moment;
+use super::token::Token;
+use crate::fixtures::{one_task_each, picks_of_one_task_each};
+use crate::{endless_calls, fleet_calls};
+use eevdf_fleet::{Fleet, Gate, Names, Seat, SeatTurn, endless, run_all, run_turns};
+use eevdf_ops::CpuId;
+use std::ops::ControlFlow;
+use std::sync::Wait;
+
+/// So many CPUs there are in the tests.
+const CPUS: [usize; 3] = [2, 8, 64];
+
+/// How often the token goes round.
+const ROUNDS: usize = 2;
+
+/// A round of the token in each turn, between two operations.
+#[derive(Drop)]
+struct RoundsOfTurns {
+    token: Token,
+}
+
+impl SeatTurn for RoundsOfTurns {
+    fn turn<N: Names, R: Wait>(
+        &self,
+        rt: &R,
+        fleet: &Fleet<N>,
+        seat: &mut Seat<N>,
+        turn: usize,
+    ) -> ControlFlow<()> {
+        let _picked = fleet.pick(rt, seat);
+        self.token.go_round(turn, seat.cpu().index());
+        let _yielded = fleet.yield_now(rt, seat);
+        ControlFlow::Continue(())
+    }
+}
+
+#[test]
+fn turns_of_all_cpus_go_on_at_once(rt: HostRuntime) {
+    for cpus in CPUS {
+        let setup = one_task_each(&rt, rt.alloc(), cpus);
+        let kit = fleet_calls::kit_of(&rt, rt.alloc(), &setup, 2 * ROUNDS, 1);
+        let each = RoundsOfTurns {
+            token: Token::new(cpus),
+        };
+        let _closed = run_turns(&rt, rt.alloc(), kit, ROUNDS, &each).expect(&rt, "turns");
+        assert!(rt; each.token.has_gone(ROUNDS), "{cpus} CPUs");
+    }
+}
+
+/// A round of the token in the one turn of each CPU of a fleet that keeps no history.
+#[derive(Drop)]
+struct RoundOfTurns {
+    token: Token,
+}
+
+impl endless::SeatTurn for RoundOfTurns {
+    fn turn<N: Names, R: Wait>(
+        &self,
+        rt: &R,
+        fleet: &endless::Fleet<N>,
+        seat: &mut endless::Seat<N>,
+    ) -> ControlFlow<()> {
+        let _picked = fleet.pick(rt, seat);
+        self.token.go_round(0, seat.cpu().index());
+        let _yielded = fleet.yield_now(rt, seat);
+        ControlFlow::Break(())
+    }
+}
+
+#[test]
+fn turns_without_a_history_go_on_at_once(rt: HostRuntime) {
+    for cpus in CPUS {
+        let setup = one_task_each(&rt, rt.alloc(), cpus);
+        let kit = endless_calls::kit_of(&rt, rt.alloc(), &setup, 1);
+        let each = RoundOfTurns {
+            token: Token::new(cpus),
+        };
+        let _closed = endless::run_turns(&rt, rt.alloc(), kit, &each).expect(&rt, "turns");
+        assert!(rt; each.token.has_gone(1), "{cpus} CPUs");
+    }
+}
+
+/// A round of the token in each operation of a program, at one of its calls of the gate.
+#[derive(Drop)]
+struct RoundsOfOperations {
+    moment: Moment,
+    token: Token,
+}
+
+impl RoundsOfOperations {
+    fn pass(&self, moment: Moment, cpu: CpuId, n: usize) {
+        if moment == self.moment {
+            self.token.go_round(n, cpu.index());
+        }
+    }
+}
+
+impl Gate for RoundsOfOperations {
+    fn inside(&self, cpu: CpuId, n: usize) {
+        self.pass(Moment::Inside, cpu, n);
+    }
+
+    fn acted(&self, cpu: CpuId, n: usize) {
+        self.pass(Moment::Acted, cpu, n);
+    }
+
+    fn answered(&self, cpu: CpuId, n: usize) {
+        self.pass(Moment::Answered, cpu, n);
+    }
+}
+
+#[test]
+fn operations_of_all_cpus_go_on_at_once(rt: HostRuntime) {
+    for cpus in CPUS {
+        let setup = picks_of_one_task_each(&rt, rt.alloc(), cpus, ROUNDS);
+        for moment in [Moment::Inside, Moment::Acted, Moment::Answered] {
+            let gate = RoundsOfOperations {
+                moment,
+                token: Token::new(cpus),
+            };
+            let _closed = run_all(&rt, rt.alloc(), &setup, &gate).expect(&rt, "run");
+            assert!(rt; gate.token.has_gone(ROUNDS), "{cpus} CPUs");
+        }
+    }
+}
