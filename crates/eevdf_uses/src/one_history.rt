@@ -1,5 +1,5 @@
-//! CPUs that are operated each by a thread of its own, on a fleet that keeps no history. While they run the threads tell one another what they
-//! were answered, with what they had seen of the history then. Whoever compares two such answers knows that one history has both.
+//! CPUs that are operated each by a thread of its own, on a fleet that keeps no history. While they run the threads tell one another what
+//! they were answered, with what they had seen of the history then. Whoever compares two such answers knows that one history has both.
 
 ghost use Rattle.std.specs.Prelude.{◌≡◌};
 ghost use Rattle.eevdf_fleet.specs.Fleets.{setup_of};
@@ -42,8 +42,8 @@ fn copied<N: Names>(fleet: &Fleet<N>, told: &mut SeenLine<N>) -> SeenLine<N>
     }
 }
 
-/// Two answers, by whatever seats and from whatever moments, are answers of one history: each stands at the end of a beginning of it, and it
-/// is one thread's.
+/// Two answers, by whatever seats and from whatever moments, are answers of one history: each stands at the end of a beginning of it, and
+/// it is one thread's.
 fn compare<N: Names>(fleet: &Fleet<N>, told: SeenLine<N>, other: SeenLine<N>) -> (Line, Line)
     ensures { AreOfOneHistory (setup_of N.kit) result.0 result.1 }
 {

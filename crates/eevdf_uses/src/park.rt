@@ -36,8 +36,8 @@ const UNITS: u64 = 2_000;
 /// After so many turns without a unit that was taken the CPUs give up.
 const PATIENCE: u64 = 1_000_000;
 
-/// In each of so many turns a CPU lets the others run: there may be fewer processors than threads.
-const TURNS_TO_YIELD: u64 = 256;
+/// Once in so many turns a CPU lets the others run: there may be fewer processors than threads.
+const TURNS_TO_YIELD: u64 = 64;
 
 /// What the threads share of a task.
 #[derive(Drop)]
@@ -224,7 +224,7 @@ impl Parking {
         }
     }
 
-    /// Picks a task, which takes what was put down for it. Where none is runnable one is pulled, and the CPU's thread lets others run.
+    /// Picks a task, which takes what was put down for it. Where none is runnable one is pulled.
     fn start_next<N: Names, R: Wait>(
         &self,
         rt: &R,
