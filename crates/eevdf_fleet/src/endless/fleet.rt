@@ -5,7 +5,7 @@ ghost use Rattle.eevdf_fleet.specs.{Drains.IsPickedAnew, Endless.Agree, Endless.
 ghost use Rattle.eevdf_fleet.specs.Endless.{AreOfOneHistory, AreSeats, HasDone, HasDrained, HasSeenMore, IsOneThread};
 ghost use Rattle.eevdf_fleet.specs.Endless.{fresh_seats, told_by};
 ghost use Rattle.eevdf_fleet.specs.Fleets.{setup_of};
-ghost use Rattle.eevdf_fleet.specs.TouchedQueues.{IsNoWake};
+ghost use Rattle.eevdf_fleet.specs.TouchedQueues.{IsNoWake, IsOfOneQueue};
 
 use crate::closing::ClosedQueues;
 use crate::drains::Drained;
@@ -64,7 +64,7 @@ impl<N: Names> Fleet<N> {
         ensures { HasDone (setup_of N.kit) (Deed.Tick seat.old.cpu ns) result seat.old seat.new }
     {
         let cpu = seat.cpu();
-        self.operate(rt, seat, Deed::Tick { cpu, ns })
+        self.own(rt, seat, Deed::Tick { cpu, ns })
     }
 
     /// Makes the eligible task of earliest virtual deadline run on the seat's CPU, among equal deadlines that of lowest
@@ -73,7 +73,7 @@ impl<N: Names> Fleet<N> {
         ensures { HasDone (setup_of N.kit) (Deed.Pick seat.old.cpu) result seat.old seat.new }
     {
         let cpu = seat.cpu();
-        self.operate(rt, seat, Deed::Pick { cpu })
+        self.own(rt, seat, Deed::Pick { cpu })
     }
 
     /// Adds the charge of one slice to the virtual deadline of the task that runs on the seat's CPU, which runs until the
@@ -82,7 +82,7 @@ impl<N: Names> Fleet<N> {
         ensures { HasDone (setup_of N.kit) (Deed.Yield seat.old.cpu) result seat.old seat.new }
     {
         let cpu = seat.cpu();
-        self.operate(rt, seat, Deed::Yield { cpu })
+        self.own(rt, seat, Deed::Yield { cpu })
     }
 
     /// Gives a task another nice level, if it is runnable on the seat's CPU (`Deed::Renice`). `NotHere`: it isn't runnable
@@ -93,7 +93,7 @@ impl<N: Names> Fleet<N> {
             result seat.old seat.new }
     {
         let cpu = seat.cpu();
-        self.operate(rt, seat, Deed::Renice { cpu, task, nice })
+        self.own(rt, seat, Deed::Renice { cpu, task, nice })
     }
 
     /// Puts a task to sleep at its home, if it runs on the seat's CPU (`Deed::Sleep`). `Slept` has the lag that it keeps, in
@@ -157,6 +157,22 @@ impl<N: Names> Fleet<N> {
             .drain_into(rt, &mut seat.parts, &mut seat.held, wakes);
         seat.parts.know();
         listed
+    }
+
+    /// Does a deed of the seat's CPU that touches its queue alone, and isn't a wake.
+    #[inline(always)]
+    fn own<R: Wait>(&self, rt: &R, seat: &mut Seat<N>, deed: Deed) -> Answer
+        requires one { IsOfOneQueue (homes_of (setup_of N.kit)) deed }
+        requires no_wake { IsNoWake deed }
+        requires own { decider deed ≡ seat.old.cpu }
+        requires allowed { allows (setup_of N.kit) deed ≡ true }
+        ensures { HasDone (setup_of N.kit) deed result seat.old seat.new }
+    {
+        let answer = self
+            .queues
+            .own(rt, &OpenGate, 0, &mut seat.parts, &mut seat.held, deed);
+        seat.parts.know();
+        answer
     }
 
     /// Does a deed of the seat's CPU that isn't a wake.

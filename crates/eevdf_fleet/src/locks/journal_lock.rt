@@ -17,14 +17,17 @@ impl<N: Names> JournalLock<N> {
         }
     }
 
-    /// Takes the lock.
+    /// Takes the lock. It is mostly free, and then it is taken here, without a call.
     #[inline(always)]
     pub(crate) fn lock<'a, R: Wait>(
         &'a self,
         rt: &R,
         _leave: &'a mut JournalLeave<'_>,
     ) -> MutexGuard<'a, Journal<N>> {
-        self.journal.lock(rt)
+        match self.journal.try_lock() {
+            Some(guard) => guard,
+            None => self.journal.lock(rt),
+        }
     }
 
     /// The journal, when no thread shares it any more.

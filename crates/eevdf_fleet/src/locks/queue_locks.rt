@@ -5,7 +5,7 @@ ghost use Rattle.std.specs.Prelude.{IfSome, Some};
 ghost use Rattle.eevdf_ops.specs.Setup.{cpus_of};
 ghost use Rattle.eevdf_fleet.specs.Fleets.{setup_of};
 
-use crate::locks::adaptive_lock::lock_adaptively;
+use crate::locks::adaptive_lock::lock_when_free;
 use crate::locks::held_locks::{HeldLocks, JournalLeave};
 use crate::locks::taken_locks::TakenLocks;
 use crate::names::Names;
@@ -94,7 +94,11 @@ impl<N: Names> RunQueues<N> {
         ensures taken { taken.new.highest.value ≡ Some cpu }
     {
         taken.add(cpu);
-        let guard = lock_adaptively(rt, &self.locks[cpu.index()].slot);
+        let lock = &self.locks[cpu.index()].slot;
+        let guard = match lock.try_lock() {
+            Some(guard) => guard,
+            None => lock_when_free(rt, lock),
+        };
         // No type says which lock keeps which number. They stand in order from the opening on.
         if guard.number().get() == cpu.get() {
             return guard;

@@ -1,0 +1,13 @@
+use Rattle.std.proofs.Common.{subst}
+use Rattle.eevdf_fleet.specs.Endless.{HasDone, Seat, seat_of_parts}
+use Rattle.eevdf_fleet.specs.Fleets.{setup_of}
+use Rattle.eevdf_fleet.proofs.EndlessSeats.{any-room, has-done}
+use Rattle.eevdf_fleet.proofs.endless.fleet.Fleet.own.Goals as goal
+
+pub own-answer-requires-clause-room : goal.own-answer-requires-clause-room
+own-answer-requires-clause-room g c = any-room _ _ _ c.self.invariant
+
+pub returns : goal.returns
+returns g c =
+    subst (λ (s : Seat). HasDone (setup_of g.N.Names.kit) c.args.deed c.own-answer.result s (seat_of_parts c.own-answer.new.seat)) c.seat.view_is
+    (has-done g.N.Names.kit.terms c.args.deed c.own-answer.result c.seat.inside.parts c.own-answer.new.seat c.own-answer.ensures c.know.ensures)
