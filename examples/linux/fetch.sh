@@ -5,6 +5,11 @@ set -eu
 [ $# = 1 ] || { echo "examples/linux/fetch.sh: give a folder" >&2; exit 2; }
 mkdir -p "$1"
 cd "$1"
+case $PWD in
+*[[:space:]]*) echo "examples/linux/fetch.sh: $PWD has a space: the headers' makefiles take none" >&2; exit 2 ;;
+esac
+packages=$(mktemp -d "$PWD/packages-XXXXXX")
+trap 'rm -rf "$packages"' EXIT
 
 # Prints the first package that another depends on whose name begins so.
 needs() {
@@ -14,12 +19,11 @@ needs() {
 image=$(needs linux-image-amd64 linux-image)
 headers=${image/image/headers}
 headers=${headers/-unsigned/}
-apt-get download "$image" "$headers" "$(needs "$headers" linux-headers)" "$(needs "$headers" linux-kbuild)"
-for package in ./*.deb; do
+(cd "$packages" && apt-get download "$image" "$headers" "$(needs "$headers" linux-headers)" "$(needs "$headers" linux-kbuild)")
+for package in "$packages"/*.deb; do
   # tar tells of each pattern that nothing fits, and no package has all of them
   dpkg-deb --fsys-tarfile "$package" |
     tar --extract --wildcards './boot/vmlinuz-*' './usr/src/*' './usr/lib/linux-kbuild-*' 2>/dev/null || true
 done
-rm ./*.deb
 # the headers name the others by where Debian installs them
 sed -i "s|/usr/src/|$PWD/usr/src/|" usr/src/linux-headers-*/Makefile
