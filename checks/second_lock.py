@@ -41,6 +41,8 @@ ROUNDS = (
     ),
     (
         ("a second lock while one is held", "locked_deeds.rt", OWN, f"{OWN} {AGAIN}", "borrow-e0499"),
+        ("a look while a lock is held", "listed_drains.rt", OWN, f"{OWN} let cpu = seat.cpu(); let _look = self.look(rt, seat, held, cpu);",
+         "borrow-e0499"),
         ("a third lock while two are held", "locked_deeds.rt", f"{BOTH};", f"{BOTH}; {AGAIN}", "borrow-e0499"),
         ("the journal's lock twice", "line_commits.rt", JOURNAL, f"let _first = journal.lock(rt, leave); {JOURNAL}", "borrow-e0499"),
         ("a queue's lock while the journal's is held", "drains.rt", OWN,

@@ -1,6 +1,6 @@
 #!/usr/bin/env -S python3 -B
 """checks/wrong_bodies/accepted.py [--look] [NAME..]: tries the wrong bodies of accepted/, all or those named: those that the prover
-accepts, since no contract says what a drop gives back, how much stack is taken, or how long something takes.
+accepts, since no contract says what a drop gives back, how much stack is taken, how long something takes, or what was refused.
 
 Each is planted in a copy of the crates, where `rt ci` proves and builds the program that its check looks at: some minutes for each. The
 check that its line `found by:` names has to fail on this program, and to pass on the one in which no wrong body is planted. With --look
@@ -26,6 +26,7 @@ from blocks import Allocator  # noqa: E402
 from counts import read_rows  # noqa: E402
 from crate_copies import copy_crates, read_crates, start_ci, with_all_below  # noqa: E402
 from memory import look_at_drops  # noqa: E402
+from refused_thread import look_at_uses  # noqa: E402
 from runner import Checks, Programs  # noqa: E402
 from stack import DROPPED, fix_addresses, look_at_stack  # noqa: E402
 
@@ -69,6 +70,8 @@ def check_named(name):
         return Check(name, DROPPED.program, look_at_blocks)
     if name == "checks/stack.py":
         return Check(name, DROPPED.program, lambda checks, programs: look_at_stack(checks, programs, DROPPED, fix_addresses()))
+    if name == "checks/refused_thread.py":
+        return Check(name, "eevdf_uses", look_at_uses)
     for row in read_rows():
         if name == f"{COUNT} {row}":
             return Check(name, row.program, partial(look_at_count, row))

@@ -1,5 +1,5 @@
--- A fleet may be shared between threads, and a seat may go to another. A search that goes down through all fields runs out of steps, so what stands in
--- them has a fact of its own.
+-- A fleet may be shared between threads, and a seat may go to another. A search that goes down through all fields runs out of steps, so
+-- what stands in them has a fact of its own.
 use denote.RattleType.{RattleType}
 use denote.Param.Send.{IsSend, IsSync, sendable}
 use Rattle.std.proofs.Crossing.{crosses}

@@ -140,6 +140,10 @@ pub record Agree (s : Setup) (seen other : List Line) : Type 0 where
 abbrev pub AgreeOnPosts : List Line → Posted → Type 0
 AgreeOnPosts seen posted = (home : ℕ) → IsPrefix (wakes_from posted.sender (lines_by home seen)) (given_to posted home) ⊎ IsPrefix (given_to posted home) (wakes_from posted.sender (lines_by home seen))
 
+-- the wakes that a seat asked for, as lines tell, are requests that it has posted: for each home a beginning of these
+abbrev pub HasAskedFor : Seat → List Line → Type 0
+HasAskedFor seat lines = (home : ℕ) → IsPrefix (wakes_from seat.cpu (lines_by home lines)) (posted_to seat home)
+
 -- what seats have posted to a home is the wakes that they asked for among the home's lines, whatever their answers, and then what is
 -- left; of `n` CPUs the list from sender `q` to home `c` stands at place `q * n + c`
 abbrev pub AllPostsTold : ℕ → List Seat → List Line → List (List ℕ) → Type 0

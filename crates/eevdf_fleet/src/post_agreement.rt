@@ -37,6 +37,6 @@ impl<N: Names> RunQueues<N> {
             token: sent,
             names: _,
         } = self.copy_posted(posted);
-        self.board.compare(self.board.join(token, sent));
+        let _compared = self.board.compare(self.board.join(token, sent));
     }
 }

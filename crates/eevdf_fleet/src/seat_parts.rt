@@ -1,11 +1,14 @@
-ghost use Rattle.std.specs.Prelude.{◌≡◌, ◌+◌, ◌<◌, ◌↔◌, is_some, length, OnOk, OnErr, IfErr, IsOk, IsTrue, true};
-ghost use Rattle.eevdf_ops.specs.{Programs.wakes_from, Setup.cpus_of, Setup.home_of, Setup.homes_of, Setup.is_task};
+ghost use Rattle.std.specs.Prelude.{◌≡◌, ℕ, ◌+◌, ◌<◌, ◌↔◌, is_some, length, OnOk, OnErr, IfErr, IsOk, IsTrue, true};
+ghost use mathlib.Core.List.{IsPrefix};
+ghost use Rattle.eevdf_ops.specs.{Programs.lines_by, Programs.wakes_from};
+ghost use Rattle.eevdf_ops.specs.Setup.{cpus_of, home_of, homes_of, is_task};
 ghost use Rattle.eevdf_fleet.specs.Fleets.{AreKnown, HasLookedAt, HasPosted, PartsLooked, capacity_of, free_at, posted_to, quota_of, setup_of};
 
 use crate::names::Names;
 use crate::posted::Posted;
 use crate::rings::{Consumers, Producers, RingFull};
 use crate::seat_log::SeatLog;
+use crate::seen::Seen;
 use eevdf_ops::{CpuId, Line};
 use eevdf_queue::TaskId;
 use std::marker::{Model, PhantomData};
@@ -119,6 +122,16 @@ impl<N: Names> SeatParts<N> {
             token,
             names: PhantomData,
         }
+    }
+
+    /// Learns that what was seen tells of no other wakes that it asked for than of those that it has posted, in their order.
+    pub(crate) fn agree_on_posts(&mut self, seen: &mut Seen<N>)
+        ensures seat { self.new ≡ self.old }
+        ensures seen { seen.new ≡ seen.old }
+        ensures agree { (home : ℕ) → IsPrefix (wakes_from self.old.seat.cpu (lines_by home seen.old))
+            (posted_to self.old.seat home) }
+    {
+        self.producers.agree(seen);
     }
 
     /// What it has seen is a history, in which its CPU has its lines. It does nothing.

@@ -5,6 +5,7 @@ pub mod came;
 mod cases;
 mod listed;
 mod looks;
+mod moments;
 mod no_quota;
 mod two_threads;
 

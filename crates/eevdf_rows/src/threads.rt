@@ -10,3 +10,4 @@ mod holding_gate;
 mod one_holder;
 mod own_turns;
 mod token;
+mod told_lines;

@@ -186,6 +186,7 @@ impl<N: Names> NamedBoard<N> {
         ensures past { IsToken N.kit.board N.kit.terms result.1 }
         ensures claims { claims_of result.0 ≡ claims_of token }
         ensures past_claims { claims_of result.1 ≡ first_past (claims_of token) }
+        ensures past_posts { posts_of result.1 ≡ [] }
     {
         let mut seat = token.into_seat();
         let past = self.table.shared.split_seat::<FirstPast>(&mut seat);
@@ -229,11 +230,15 @@ impl<N: Names> NamedBoard<N> {
     }
 
     /// Compares what a token claims of posts with the lines so far, which its other claims hold of.
-    pub(crate) fn compare(&self, token: Token)
+    pub(crate) fn compare(&self, token: Token) -> Token
         requires { IsToken N.kit.board N.kit.terms token }
-        ensures { HasCompared N.kit.terms (claims_of token) (posts_of token) }
+        ensures token { IsToken N.kit.board N.kit.terms result }
+        ensures claims { claims_of result ≡ claims_of token }
+        ensures posts { posts_of result ≡ posts_of token }
+        ensures compared { HasCompared N.kit.terms (claims_of token) (posts_of token) }
     {
         let mut seat = token.into_seat();
         self.table.shared.load::<Compare>(&mut seat, 0);
+        seat.into_badge()
     }
 }

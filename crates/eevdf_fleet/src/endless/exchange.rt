@@ -6,8 +6,8 @@ use std::alloc::{AllocError, Global};
 use std::marker::Model;
 use std::sync::{Mutex, Wait};
 
-/// Where the threads of a run leave lines for one another, with what was seen of the history when they were done: a place for each CPU, each
-/// in a lock of its own, which is held for no longer than it takes to put a line there or to take it out.
+/// Where the threads of a run leave lines for one another, with what was seen of the history when they were done: a place for each CPU of
+/// the run, each in a lock of its own, which is held for no longer than it takes to put a line there or to take it out.
 #[derive(Drop)]
 pub struct Exchange<N: Names> {
     places: Vec<CachePadded<Mutex<Option<SeenLine<N>>>>>,

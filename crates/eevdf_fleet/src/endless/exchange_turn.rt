@@ -10,8 +10,8 @@ use crate::names::Names;
 use std::ops::ControlFlow;
 use std::sync::Wait;
 
-/// What each thread of `run_exchange_turns` does with the seat of its CPU, as `SeatTurn`, and in which the threads may tell one another what
-/// they have done and seen while they run.
+/// What each thread of `run_exchange_turns` does with the seat of its CPU, as `SeatTurn`; in a turn the threads may also tell one another
+/// what they have done and seen.
 pub trait ExchangeTurn {
     /// What holds of a turn, as `SeatTurn::turn_gives` says it.
     ghost turn_gives: { Self → Kit → Seat → Seat → Bool → Type 0 } = { λ _ _ _ _ _. Unit {0} };

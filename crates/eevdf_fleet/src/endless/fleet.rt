@@ -199,7 +199,7 @@ impl<N: Names> Fleet<N> {
         ensures queue { queue_at (told_by (setup_of N.kit) seat.new.seen) cpu ≡ result.queue.state }
         ensures seen { result.seen ≡ seat.new.seen }
     {
-        let (guard, seen) = self.queues.look(rt, &mut seat.parts, cpu);
+        let (guard, seen) = self.queues.look(rt, &mut seat.parts, &mut seat.held, cpu);
         QueueLook {
             queues: &self.queues,
             guard,
@@ -253,9 +253,9 @@ impl<N: Names> Fleet<N> {
     }
 
     /// What a CPU had posted at one moment and what was seen at another are of one history: for each home, the wakes that the CPU asked for
-    /// among the home's lines are the beginning of what it had posted to the home, or the other way about. So nobody is woken for whom
-    /// nobody has posted, and none before those posted earlier to the same home. It takes no lock, neither waits nor takes memory, and at
-    /// run time it decides nothing.
+    /// among the home's lines are the beginning of what it had posted to the home, or the other way about, where more was drained than it
+    /// had posted by then. `Seat::agree_on_posts` says of what a seat has posted by now that it is never the other way about. It takes no
+    /// lock, neither waits nor takes memory, and at run time it decides nothing.
     pub fn agree_on_posts(&self, seen: &mut Seen<N>, posted: &mut Posted<N>)
         ensures seen { seen.new ≡ seen.old }
         ensures posted { posted.new ≡ posted.old }

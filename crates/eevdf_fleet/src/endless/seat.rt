@@ -2,13 +2,14 @@ ghost use Rattle.std.specs.Prelude.{◌≡◌, ◌+◌, ◌<◌, ◌≤◌, ◌�
 ghost use Rattle.std.specs.Prelude.{IsTrue, true};
 ghost use Rattle.eevdf_ops.specs.{Programs.wakes_from, Setup.cpus_of, Setup.home_of, Setup.homes_of, Setup.is_task};
 ghost use Rattle.eevdf_fleet.specs.Fleets.{capacity_of, free_at, setup_of};
-ghost use Rattle.eevdf_fleet.specs.Endless.{HasFound, HasPosted, posted_to, seat_of_parts};
+ghost use Rattle.eevdf_fleet.specs.Endless.{HasAskedFor, HasFound, HasPosted, posted_to, seat_of_parts};
 
 use crate::locks::HeldLocks;
 use crate::names::Names;
 use crate::posted::Posted;
 use crate::rings::RingFull;
 use crate::seat_parts::SeatParts;
+use crate::seen::Seen;
 use eevdf_ops::CpuId;
 use eevdf_queue::TaskId;
 use std::alloc::{AllocError, Global};
@@ -83,6 +84,18 @@ impl<N: Names> Seat<N> {
         ensures posted { result.posted ≡ self.old.posted }
     {
         self.parts.posted()
+    }
+
+    /// Whatever was seen at whatever moment, by any seat or look of the fleet, tells of no other wakes that this seat asked for than of
+    /// those that it has posted by now: for each home, the wakes that the seat asked for among the home's lines are the beginning of what
+    /// it has posted to the home. So no wake stands there in its name that it hasn't posted, and none before those that it posted earlier to
+    /// the same home. It takes no lock, neither waits nor takes memory, and at run time it decides nothing.
+    pub fn agree_on_posts(&mut self, seen: &mut Seen<N>)
+        ensures seat { self.new ≡ self.old }
+        ensures seen { seen.new ≡ seen.old }
+        ensures agree { HasAskedFor self.old seen.old }
+    {
+        self.parts.agree_on_posts(seen);
     }
 
     /// How many requests to a home certainly fit into its ring now: so many posts to it succeed, whoever drains in the meantime. The home's

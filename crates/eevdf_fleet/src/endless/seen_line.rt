@@ -3,8 +3,8 @@ use crate::seen::Seen;
 use eevdf_ops::Line;
 use std::marker::Model;
 
-/// A line that a CPU has done, and what its seat had seen then, which ends with it. Whoever has it knows that the line stands in the history,
-/// and by `Fleet::agree` that it stands in one with what others have seen. It may go to other threads.
+/// A line that a CPU has done, and what its seat had seen then, which ends with it. Whoever has it knows that the line stands in the
+/// history, and by `Fleet::agree` that it stands in one with what others have seen. It may go to other threads.
 #[derive(Drop)]
 pub struct SeenLine<N: Names> {
     pub line: Line,

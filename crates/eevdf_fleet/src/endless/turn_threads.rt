@@ -16,7 +16,6 @@ use crate::names::Names;
 use crate::run_fault::RunFault;
 use crate::seat_threads::run_seats;
 use crate::seat_work::SeatWork;
-use eevdf_ops::CpuId;
 use std::alloc::Global;
 use std::marker::Brand;
 use std::sync::Wait;
@@ -52,7 +51,8 @@ pub fn run_exchange_turns<R: Threads + Wait + Sync, T: ExchangeTurn + Sync>(
     ensures { IfOk result (λ o. HaveTurned (T.turn_gives each.now kit) kit
         (machine_of o.queues.items) (map (λ l. l.items) o.left.items)) }
 {
-    run_on_fleet::<Brand, _, _>(rt, alloc, kit, CpuId::COUNT, each)
+    let places = kit.parts.queues.len();
+    run_on_fleet::<Brand, _, _>(rt, alloc, kit, places, each)
 }
 
 /// Does the turns on the fleet of a kit, with so many places where the threads may leave lines for one another.

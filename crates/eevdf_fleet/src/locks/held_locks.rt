@@ -26,8 +26,8 @@ impl HeldLocks {
     }
 }
 
-/// The leave to take the journal's lock, which comes with the locks of queues and lasts no longer than they are held. It is lent for as
-/// long as the journal's lock is held. It has no bytes.
+/// The leave to take the journal's lock, which comes with the locks of queues and lasts no longer than the seat's leave is lent. It is
+/// lent for as long as the journal's lock is held. It has no bytes.
 #[derive(Drop)]
 pub(crate) struct JournalLeave<'a> {
     held: PhantomData<&'a ()>,

@@ -6,6 +6,7 @@ ghost use mathlib.Core.List.{IsPrefix};
 ghost use Rattle.eevdf_fleet.specs.Claims.{IsKept, told};
 ghost use Rattle.eevdf_fleet.specs.Fleets.{AreKnown, PartsSeeMore, setup_of};
 
+use crate::locks::held_locks::HeldLocks;
 use crate::locks::taken_locks::TakenLocks;
 use crate::names::Names;
 use crate::run_queues::RunQueues;
@@ -18,11 +19,13 @@ use std::mem;
 use std::sync::{MutexGuard, Wait};
 
 impl<N: Names> RunQueues<N> {
-    /// Takes the lock of a CPU's queue, and learns the history that leaves it. Gives what the seat has seen then, beside the lock.
+    /// Takes the lock of a CPU's queue, and learns the history that leaves it. Gives what the seat has seen then, beside the lock. Its
+    /// caller holds no lock by `hold` or `hold_both`, since it lends the leave for that; what it gets may be kept for longer than that.
     pub(crate) fn look<R: Wait>(
         &self,
         rt: &R,
         seat: &mut SeatParts<N>,
+        _held: &mut HeldLocks,
         cpu: CpuId,
     ) -> (MutexGuard<'_, Slot<N>>, Seen<N>)
         requires { cpu < cpus_of (setup_of N.kit) }
@@ -55,17 +58,25 @@ impl<N: Names> RunQueues<N> {
         slot.token = kept;
     }
 
-    /// Learns the history as it is now, which goes on from what was seen, and leaves a queue whose lock is held as it is.
-    pub(crate) fn see_again(&self, seen: &mut Seen<N>, slot: &mut Slot<N>)
+    /// Learns more of the history, which goes on from what was seen, and from what another has seen, and leaves a queue whose lock is held
+    /// as it is.
+    pub(crate) fn see_again(&self, seen: &mut Seen<N>, other: &mut Seen<N>, slot: &mut Slot<N>)
         ensures more { IsPrefix seen.old seen.new }
+        ensures after { IsPrefix other.old seen.new }
+        ensures other { other.new ≡ other.old }
         ensures kept { IsKept N.kit.terms seen.new }
         ensures queue { queue_at (told N.kit.terms seen.new) slot.old.number
             ≡ slot.old.queue.state }
         ensures slot { slot.new ≡ slot.old }
     {
+        let Seen {
+            token: others,
+            names: _,
+        } = self.copy(other);
         let past = mem::replace(&mut seen.token, Badge::blank());
         let kept = mem::replace(&mut slot.token, Badge::blank());
-        let token = self.board.look(self.board.join(kept, past));
+        let pasts = self.board.join(past, others);
+        let token = self.board.look(self.board.join(kept, pasts));
         let (past, kept) = self.board.split(token);
         seen.token = past;
         slot.token = kept;

@@ -2,6 +2,7 @@ use crate::board::{NamedBoard, Token};
 use crate::names::Names;
 use crate::rings::request::PushEnd;
 use crate::rings::ring_ends::{free, push};
+use crate::seen::Seen;
 use atomic_table::Badge;
 use eevdf_queue::TaskId;
 use std::marker::Model;
@@ -48,8 +49,9 @@ impl<N: Names> Model for Producers<N> {
 }
 
 impl<N: Names> Producers<N> {
-    ghost use Rattle.std.specs.Prelude.{◌≡◌, ◌<◌, ◌+◌, ◌↔◌, [], ◌∷◌, length, map, true, OnOk, OnErr, IfErr, IsOk, IsTrue, Some};
-    ghost use Rattle.eevdf_ops.specs.Setup.{is_at_home};
+    ghost use Rattle.std.specs.Prelude.{◌≡◌, ℕ, ◌<◌, ◌+◌, ◌↔◌, [], ◌∷◌, length, map, true, OnOk, OnErr, IfErr, IsOk, IsTrue, Some};
+    ghost use mathlib.Core.List.{IsPrefix};
+    ghost use Rattle.eevdf_ops.specs.{Programs.lines_by, Programs.wakes_from, Setup.is_at_home};
     ghost use Rattle.eevdf_fleet.specs.Rings as rings;
     ghost use Rattle.eevdf_fleet.specs.RingEnds.{posted_into, posts, AreProducers};
     ghost use Rattle.eevdf_fleet.specs.{Board.IsToken, Board.claims_of, Board.posts_of};
@@ -116,6 +118,20 @@ impl<N: Names> Producers<N> {
         let (sent, all) = self.board.sent(all);
         self.token = all;
         sent
+    }
+
+    /// Learns that what was seen tells of no other wakes that the sender asked for than of those that it has posted, in their order.
+    pub(crate) fn agree(&mut self, seen: &mut Seen<N>)
+        ensures producers { self.new ≡ self.old }
+        ensures seen { seen.new ≡ seen.old }
+        ensures agree { (home : ℕ) → IsPrefix (wakes_from self.old.sender (lines_by home seen.old))
+            (rings.posted_to self.old home) }
+    {
+        let own = mem::replace(&mut seen.token, Badge::blank());
+        let (own, past) = self.board.recall(own);
+        seen.token = own;
+        let all = mem::replace(&mut self.token, Badge::blank());
+        self.token = self.board.compare(self.board.join(all, past));
     }
 
     /// Looks whether exactly one request to a home is in its ring.

@@ -42,6 +42,16 @@ fn setup_of_tasks(
     Setup::make(alloc, &specs, &programs).expect(rt, "setup")
 }
 
+/// Tasks that sleep on four CPUs, and the CPUs by the tasks.
+const AT_FOUR_HOMES: [(u64, u64, bool); 4] = [
+    (0, 3_000_000, true),
+    (1, 3_000_000, true),
+    (8, 3_000_000, true),
+    (63, 3_000_000, true),
+];
+
+const HOMES: [(u64, usize); 4] = [(0, 0), (1, 1), (2, 8), (3, 63)];
+
 /// Drains into a list, which is emptied before, and answers `resched`.
 fn drain<N: Names, R: Wait + Abort>(
     rt: &R,
@@ -108,14 +118,8 @@ fn all_ask_twice<N: Names, R: Wait + Abort>(
 
 #[test]
 fn a_drain_names_a_wake_of_each_of_sixty_four_seats(rt: HostRuntime) {
-    let tasks = [
-        (0, 3_000_000, true),
-        (1, 3_000_000, true),
-        (8, 3_000_000, true),
-        (63, 3_000_000, true),
-    ];
-    let setup = setup_of_tasks(&rt, rt.alloc(), 64, &tasks);
-    for (number, home) in [(0, 0), (1, 1), (2, 8), (3, 63)] {
+    let setup = setup_of_tasks(&rt, rt.alloc(), 64, &AT_FOUR_HOMES);
+    for (number, home) in HOMES {
         let kit = kit_of(&rt, rt.alloc(), &setup, 1);
         let holds = all_ask_twice::<Brand, _>(&rt, rt.alloc(), kit, number, home);
         assert!(rt; holds, "CPU {home}");
@@ -156,12 +160,19 @@ fn is_alone<N: Names>(seat: &mut Seat<N>, task: TaskId) -> Option<bool>
     seat.post_and_look(task).ok()
 }
 
-/// A seat posts to CPU 0 into rings with room for two requests.
-fn looks_at_its_ring<N: Names, R: Wait + Abort>(rt: &R, alloc: Global, kit: Kit, sender: usize)
+/// A seat posts a task to its home into rings with room for two requests.
+fn looks_at_its_ring<N: Names, R: Wait + Abort>(
+    rt: &R,
+    alloc: Global,
+    kit: Kit,
+    sender: usize,
+    number: u64,
+    home: usize,
+)
     requires { kit ≡ N.kit }
 {
     let (fleet, mut seats) = Fleet::<N>::open(alloc, kit).expect(rt, "memory");
-    let task = known_task(&fleet, 0).expect(rt, "task");
+    let task = known_task(&fleet, number).expect(rt, "task");
     for (drains, seen) in [
         (0, Some(true)),
         (0, Some(false)),
@@ -170,20 +181,22 @@ fn looks_at_its_ring<N: Names, R: Wait + Abort>(rt: &R, alloc: Global, kit: Kit,
         (2, Some(true)),
         (1, Some(true)),
     ] {
-        let home = seats.get_mut(0).expect(rt, "home");
+        let drained = seats.get_mut(home).expect(rt, "home");
         for _time in 0..drains {
-            let _ = fleet.drain(rt, home);
+            let _ = fleet.drain(rt, drained);
         }
         let seat = seats.get_mut(sender).expect(rt, "sender");
-        assert!(rt; is_alone(seat, task) == seen);
+        assert!(rt; is_alone(seat, task) == seen, "CPU {sender} to CPU {home}");
     }
 }
 
 #[test]
 fn a_post_sees_whether_it_is_alone(rt: HostRuntime) {
-    let setup = setup_of_tasks(&rt, rt.alloc(), 64, &[(0, 3_000_000, true)]);
+    let setup = setup_of_tasks(&rt, rt.alloc(), 64, &AT_FOUR_HOMES);
     for sender in [0, 1, 8, 63] {
-        let kit = kit_of(&rt, rt.alloc(), &setup, 2);
-        looks_at_its_ring::<Brand, _>(&rt, rt.alloc(), kit, sender);
+        for (number, home) in HOMES {
+            let kit = kit_of(&rt, rt.alloc(), &setup, 2);
+            looks_at_its_ring::<Brand, _>(&rt, rt.alloc(), kit, sender, number, home);
+        }
     }
 }

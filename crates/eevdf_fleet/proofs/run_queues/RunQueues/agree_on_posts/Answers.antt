@@ -16,4 +16,4 @@ returns-clause-agree g c =
     = c.join.ensures.posts ∙ ap (λ (qs : List PostClaim). qs ++ posts_of c.token.inside.token) c.sent.invariant.2 in
     subst (λ (ls : List Line). AgreeOnPosts ls c.args.posted.now) (c.token.view_is ∙ c.copy.ensures.copy)
     (subst (λ (p : Posted). AgreeOnPosts seen p) (c.sent.view_is ∙ c.copy_posted.ensures.copy)
-    (posts-agree g.N.Names.kit.terms seen (sender_in ps) (lists_in ps) (posts_of c.token.inside.token) (claims_of c.join.result) (posts_of c.join.result) claims posts c.compare.ensures))
+    (posts-agree g.N.Names.kit.terms seen (sender_in ps) (lists_in ps) (posts_of c.token.inside.token) (claims_of c.join.result) (posts_of c.join.result) claims posts c.compare-compared.ensures.compared))
