@@ -44,6 +44,8 @@ fn goes_on<N: Names, R: Wait + Abort>(rt: &R, alloc: Global, kit: Kit)
     let mut one = seats.pop().expect(rt, "seat 1");
     let mut zero = seats.pop().expect(rt, "seat 0");
     let task = known_task(&fleet, 0).expect(rt, "task");
+    let home = cpu(rt, 0);
+    assert!(rt; fleet.has_cpu(home));
     assert!(rt; fleet.pick(rt, &mut zero) == Answer::Picked(task));
     assert!(rt; fleet.sleep(rt, &mut zero, task) == Answer::Slept(0));
     for (taken, woken) in [(1, 1), (1, 0), (0, 0)] {
@@ -53,7 +55,7 @@ fn goes_on<N: Names, R: Wait + Abort>(rt: &R, alloc: Global, kit: Kit)
         compare(rt, &fleet, &mut one, &mut zero);
         assert!(rt; fleet.drain(rt, &mut zero) == Drained { taken, woken });
         compare(rt, &fleet, &mut one, &mut zero);
-        assert!(rt; one.free(cpu(rt, 0)) == 1);
+        assert!(rt; one.free(home) == 1);
     }
     assert!(rt; fleet.pick(rt, &mut zero) == Answer::Picked(task));
 }

@@ -20,7 +20,7 @@ const CPUS: [usize; 4] = [1, 4, 8, 64];
 struct RoundOfLines {
     cpus: usize,
     token: Token,
-    /// How many CPUs found the line of the CPU before, and how many of these found nothing more.
+    /// How many CPUs found the line of the CPU before, and how many then found nothing more.
     found: AtomicUsize,
     emptied: AtomicUsize,
 }
@@ -59,16 +59,25 @@ impl ExchangeTurn for RoundOfLines {
         let own = pick(rt, fleet, seat);
         exchange.leave(rt, next(cpu, self.cpus), own);
         self.token.go_round(0, cpu.index());
-        if let Some(told) = exchange.take(rt, cpu)
-            && let Deed::Pick { cpu: before } = told.line.deed
-            && next(before, self.cpus) == cpu
-        {
-            self.found.fetch_add(1, Ordering::SeqCst);
-            if exchange.take(rt, cpu).is_none() {
-                self.emptied.fetch_add(1, Ordering::SeqCst);
-            }
+        if let Some(told) = exchange.take(rt, cpu) {
+            self.note(&told.line, cpu);
+        }
+        if exchange.take(rt, cpu).is_none() {
+            self.emptied.fetch_add(1, Ordering::SeqCst);
         }
         ControlFlow::Break(())
+    }
+}
+
+impl RoundOfLines {
+    /// Counts a line that a CPU has found, if it is that of the CPU before.
+    fn note(&self, line: &Line, cpu: CpuId) {
+        match line.deed {
+            Deed::Pick { cpu: before } if next(before, self.cpus) == cpu => {
+                self.found.fetch_add(1, Ordering::SeqCst);
+            }
+            _ => (),
+        }
     }
 }
 
