@@ -37,6 +37,7 @@ mod ChargedRange
 mod TreeTotals
 mod PickedTasks
 mod Waiting
+mod Offering
 mod SmallSums
 mod Renicing
 mod Joining

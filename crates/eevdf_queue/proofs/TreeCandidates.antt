@@ -1,9 +1,9 @@
 -- The latest of the waiting tasks is the same, in whatever order they are asked.
 use Rattle.std.proofs.Common.{◌≡◌, ◌≢◌, ℕ, Bool, true, false, cond, List, ◌∷◌, Option, Some, refl, sym, ap, ◌∙◌}
-use Rattle.std.specs.{Prelude.not, Option.option_map, Ordering.nat_cmp, FinMap.FinMap, FinMap.entries}
+use Rattle.std.specs.{Prelude.not, Ordering.nat_cmp, FinMap.FinMap, FinMap.entries}
 use Rattle.eevdf_queue.specs.{declared.entry.Entry.Entry, declared.task.Task.Task, Order.is_before}
 use Rattle.eevdf_queue.specs.TaskLists.{entries_of, runnable_in, AreRunnable}
-use Rattle.eevdf_queue.specs.Candidate.{is_running, later, latest_waiting, candidate_of}
+use Rattle.eevdf_queue.specs.Candidate.{is_running, later, latest_waiting}
 use Rattle.eevdf_queue.proofs.{Earliest.later_first, MapFolds.fold-from_entries, ListMaps.numbered_runnable}
 use Rattle.eevdf_queue.proofs.ListMaps.{distinct_entries_of}
 use Rattle.eevdf_queue.proofs.Foremost as by
@@ -30,9 +30,7 @@ latest-runnable_in r ts h =
     (joined-swap r)
     (entries_of ts) (distinct_entries_of ts (numbered_runnable ts h))
 
-pub candidate_is : (r : Option ℕ) (ts : List Task) (m : FinMap nat_cmp Entry) (o : Option ℕ) → AreRunnable ts → runnable_in ts ≡ m
-    → o ≡ option_map (λ (a : ℕ × Entry). a.0) (latest_waiting r (entries_of ts)) → o ≡ candidate_of m r
-candidate_is r ts m o h v e =
-    e
-    ∙ ap (option_map (λ (a : ℕ × Entry). a.0)) (sym (latest-runnable_in r ts h))
-    ∙ ap (λ (z : FinMap nat_cmp Entry). candidate_of z r) v
+pub latest_is : (r : Option ℕ) (ts : List Task) (m : FinMap nat_cmp Entry) (o : Option (ℕ × Entry)) → AreRunnable ts → runnable_in ts ≡ m
+    → o ≡ latest_waiting r (entries_of ts) → o ≡ latest_waiting r (entries m)
+latest_is r ts m o h v e =
+    e ∙ sym (latest-runnable_in r ts h) ∙ ap (λ (z : FinMap nat_cmp Entry). latest_waiting r (entries z)) v

@@ -5,9 +5,9 @@ use Rattle.std.proofs.{Math.Pow.pow_mono, lemmas.Int.ints, lemmas.Bool.Decides.n
 use Rattle.eevdf_queue.specs.{declared.entry.Entry.Entry, declared.task.Task.Task, TaskLists.find_task, TaskLists.entries_of}
 use Rattle.eevdf_queue.specs.{Order.earlier, Order.earliest, TreeShape.IsFull}
 use Rattle.eevdf_queue.specs.Candidate.{is_running, later, latest_waiting}
-use Rattle.eevdf_queue.specs.TreeTasks.{precedes, PrecedesAll, AreOrdered, IsSorted, insert_task, without, first_that, last_waiting, last_or, last_number, numbered_entry}
+use Rattle.eevdf_queue.specs.TreeTasks.{precedes, PrecedesAll, AreOrdered, IsSorted, insert_task, without, first_that, last_waiting, last_or, numbered_entry}
 use Rattle.eevdf_queue.proofs.AllTasks.{apart, all-each, all-insert, all-without, all-found}
-use Rattle.eevdf_queue.proofs.{Earliest.told, TreeLast.number_of_last, TreeOrder.precedes-trans}
+use Rattle.eevdf_queue.proofs.{Earliest.told, TreeOrder.precedes-trans}
 
 other_way : (t u : Task) → precedes t u ≡ false → eqb u.number t.number ≡ false → precedes u t ≡ true
 other_way t u p n =
@@ -91,10 +91,14 @@ earliest_found passes ts vs e s =
     number_of (first_that passes ts)
     ∙ ap (option_map (λ (a : ℕ × Entry). a.0)) (sym (earliest-ordered passes ts s.ordered) ∙ ap (λ (z : List Task). earliest passes (entries_of z)) e)
 
-pub latest_found : (r : Option ℕ) (ts vs : List Task) (o : Option ℕ) → ts ≡ vs → IsSorted ts → o ≡ last_number None r ts
-    → o ≡ option_map (λ (a : ℕ × Entry). a.0) (latest_waiting r (entries_of vs))
-latest_found r ts vs o e s h =
-    h
-    ∙ number_of_last r ts
-    ∙ number_of (last_waiting r ts)
-    ∙ ap (option_map (λ (a : ℕ × Entry). a.0)) (sym (latest-ordered r ts s.ordered) ∙ ap (λ (z : List Task). latest_waiting r (entries_of z)) e)
+numbered : {X : Type 0} (read : X → Task) (o : Option X) → option_map (λ x. numbered_entry (read x)) o ≡ option_map numbered_entry (option_map read o)
+numbered read None = refl
+numbered read (Some x) = refl
+
+pub latest_found : {X : Type 0} (read : X → Task) (r : Option ℕ) (ts vs : List Task) (o : Option X) → ts ≡ vs → IsSorted ts → option_map read o ≡ last_waiting r ts
+    → option_map (λ x. numbered_entry (read x)) o ≡ latest_waiting r (entries_of vs)
+latest_found read r ts vs o e s h =
+    numbered read o
+    ∙ ap (option_map numbered_entry) h
+    ∙ sym (latest-ordered r ts s.ordered)
+    ∙ ap (λ (z : List Task). latest_waiting r (entries_of z)) e

@@ -2,7 +2,7 @@
 use Rattle.std.proofs.Common.{◌≡◌, ℕ, Bool, true, false, List, Option, Some, None, refl, sym, ap, subst, ◌∙◌}
 use Rattle.std.specs.Prelude.{◌↔◌, IfSome, IsNone, is_some, not}
 use Rattle.std.specs.Option.{option_map}
-use Rattle.std.specs.FinMap.{contains_key, entries, get-entries}
+use Rattle.std.specs.FinMap.{contains_key, entries, get, get-entries}
 use Rattle.eevdf_queue.specs.{declared.entry.Entry.Entry, Sums.Tasks, Order.is_before}
 use Rattle.eevdf_queue.specs.Candidate.{is_running, latest_waiting, candidate_of, IsCandidate, NoneWaits}
 use Rattle.eevdf_queue.proofs.{Earliest.told, Earliest.later_first, TreeCandidates.latest-joined}
@@ -27,6 +27,14 @@ last_by tasks r (Some a) h = record {
   waiting = record { here = get-entries tasks a.0 ∙ h.here; waits = waits_of (is_running r a.0) h.passed };
   last = λ u f k. later_by (is_before a (u, f)) f.d a.1.d u a.0 (h.first u f (sym (get-entries tasks u) ∙ k.here) (ap not k.waits)) (told a.1.d f.d a.0 u);
 }
+
+here_by : (tasks : Tasks) (r : Option ℕ) (o : Option (ℕ × Entry)) → IsLast r (entries tasks) o → IfSome o (λ a. get tasks a.0 ≡ Some a.1)
+here_by tasks r None h = tt
+here_by tasks r (Some a) h = get-entries tasks a.0 ∙ h.here
+
+-- the latest stands under its number
+pub latest_here : (tasks : Tasks) (r : Option ℕ) → IfSome (latest_waiting r (entries tasks)) (λ a. get tasks a.0 ≡ Some a.1)
+latest_here tasks r = here_by tasks r (latest_waiting r (entries tasks)) (last_of tasks r)
 
 pub candidate_last : (tasks : Tasks) (r : Option ℕ) (c : Option ℕ) → c ≡ candidate_of tasks r → IfSome c (IsCandidate tasks r)
 candidate_last tasks r c e =

@@ -11,6 +11,7 @@ pub mod TaskLists
 pub mod Codes
 pub mod Candidate
 pub mod Leaving
+pub mod Offers
 pub mod Placing
 pub mod Wake
 pub mod Renice

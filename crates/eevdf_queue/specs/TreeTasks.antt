@@ -40,12 +40,6 @@ abbrev pub last_waiting : Option ℕ → List Task → Option Task
 last_waiting running [] = None
 last_waiting running (t ∷ ts) = last_or t running (last_waiting running ts)
 
--- the number of the last that isn't the running one, or else the one that was seen before
-abbrev pub last_number : Option ℕ → Option ℕ → List Task → Option ℕ
-last_number before running [] = before
-last_number before running (t ∷ ts) =
-    last_number (if is_running running t.number then before else Some t.number) running ts
-
 -- the task, where there is one, has this deadline
 abbrev pub IsAtDeadline : ℤ → Option Task → Type 0
 IsAtDeadline d None = Unit {0}

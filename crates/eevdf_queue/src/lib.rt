@@ -2,8 +2,9 @@
 //! running one among them, the sleeping tasks with their kept lags, and the queue's virtual time.
 //!
 //! A task is eligible when its lag isn't negative, and the eligible task of earliest virtual deadline is
-//! picked (Stoica and Abdel-Wahab 1995; the Linux kernel's documentation of its EEVDF scheduler). Contracts
-//! see a queue as a record of two finite maps; the laws of that model are functions of [`laws`].
+//! picked (Stoica and Abdel-Wahab 1995; the Linux kernel's documentation of its EEVDF scheduler). To another
+//! CPU a queue offers the waiting task of latest deadline. Contracts see a queue as a record of two finite
+//! maps; the laws of that model are functions of [`laws`].
 #![tactic(auto)]
 
 mod answers;
@@ -12,6 +13,7 @@ mod entry;
 mod lag;
 pub mod laws;
 mod lowering;
+mod offer;
 mod parcel;
 mod picked_task;
 mod placing;
@@ -45,6 +47,7 @@ mod tried_moves;
 
 pub use answers::{ReniceAnswer, TickAnswer, WakeAnswer, YieldAnswer};
 pub use entry::Entry;
+pub use offer::Offer;
 pub use parcel::Parcel;
 pub use queue::Queue;
 pub use queue_tasks::{Runnable, Sleeping};

@@ -2,10 +2,10 @@ ghost use Rattle.std.specs.Prelude.{◌≡◌, ℕ, ◌==◌, ◌<◌, if◌then
 ghost use Rattle.std.specs.{Option.option_map, List.AllByRecursion};
 ghost use Rattle.std.specs.FinMap as map;
 ghost use Rattle.eevdf_weight.specs.Limits as limits;
-ghost use Rattle.eevdf_queue.specs.{Sums.total_weight, Sums.total_moment, Order.earliest, Candidate.candidate_of};
+ghost use Rattle.eevdf_queue.specs.{Sums.total_weight, Sums.total_moment, Order.earliest, Candidate.candidate_of, Candidate.latest_waiting};
 ghost use Rattle.eevdf_queue.specs.{Numbers.number_limit, Moves.is_entry_in_range, Kept.AreInRange, Laws.AreSumsSmall, TreeShape.IsAlone};
-ghost use Rattle.eevdf_queue.specs.{TreeShape.IsFull, Lag.is_lag, TreeTasks.insert_task, TreeTasks.without};
-ghost use Rattle.eevdf_queue.specs.{declared.task.Task.Task, TaskLists.runnable_in};
+ghost use Rattle.eevdf_queue.specs.{TreeShape.IsFull, Lag.is_lag, TreeTasks.insert_task, TreeTasks.without, TreeTasks.numbered_entry};
+ghost use Rattle.eevdf_queue.specs.TaskLists.{runnable_in};
 ghost use Rattle.eevdf_queue.specs.TreeStores.{kept_at, noted, IsNoted, IsRunnableStore};
 ghost use Rattle.eevdf_queue.specs.Leaving.{leaving_at};
 ghost use Rattle.eevdf_queue.specs.Rebase.{can_lower, lowered_tasks};
@@ -18,6 +18,7 @@ use crate::lag::kept_lag;
 use crate::lowering::{lower_moment, opposite};
 use crate::parcel::Parcel;
 use crate::picked_task::{Pick, PickedTask};
+use crate::task::Task;
 use crate::task_id::TaskId;
 use crate::task_tree::TaskTree;
 use crate::totals::Totals;
@@ -295,10 +296,21 @@ impl RunnableTasks {
     }
 
     /// The last task by deadline and number of those that don't run.
+    pub fn latest_waiting(&self, running: Option<TaskId>) -> Option<&Task>
+        ensures { option_map (λ t. numbered_entry t.now) result
+            ≡ latest_waiting running (map.entries self.now.tasks) }
+    {
+        self.tree.latest_waiting(running)
+    }
+
+    /// Its number.
     pub fn candidate(&self, running: Option<TaskId>) -> Option<TaskId>
         ensures { result ≡ candidate_of self.now.tasks running }
     {
-        self.tree.latest_waiting(running)
+        match self.latest_waiting(running) {
+            None => None,
+            Some(task) => Some(task.number),
+        }
     }
 
     /// Learns what every task here keeps.

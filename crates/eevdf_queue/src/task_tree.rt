@@ -3,7 +3,7 @@ ghost use Rattle.std.specs.{Option.option_map, List.AllByRecursion};
 ghost use Rattle.eevdf_queue.specs.TaskLists.{first_task, find_task, set_entry, entries_of, DifferInNumber};
 ghost use Rattle.eevdf_queue.specs.{Order.earliest, Pick.is_eligible_at, Candidate.latest_waiting, TreeShape.IsAlone};
 ghost use Rattle.eevdf_queue.specs.{TreeShape.IsFull, TreeShape.empty_tree, Numbers.number_limit, NodeDepths.depth_at};
-ghost use Rattle.eevdf_queue.specs.TreeTasks.{IsAtDeadline, insert_task, without, first_that};
+ghost use Rattle.eevdf_queue.specs.TreeTasks.{IsAtDeadline, insert_task, without, first_that, numbered_entry};
 ghost use Rattle.eevdf_queue.specs.{TreeStores.kept_at, TreeLowering.IsNear, TreeLowering.lowered_list, TreeLowering.are_tasks_in_range, TreeLowering.noted_or};
 
 use crate::deadline_table::DeadlineTable;
@@ -136,15 +136,22 @@ impl TaskTree {
         first_eligible(&self.root, totals)
     }
 
-    /// The number of the last by deadline and number of the tasks that don't run.
-    pub fn latest_waiting(&self, running: Option<TaskId>) -> Option<TaskId>
-        ensures { result ≡ option_map (λ a. a.0) (latest_waiting running (entries_of self.now.tasks)) }
+    /// The last by deadline and number of the tasks that don't run.
+    pub fn latest_waiting(&self, running: Option<TaskId>) -> Option<&Task>
+        ensures { option_map (λ t. numbered_entry t.now) result
+            ≡ latest_waiting running (entries_of self.now.tasks) }
     {
         let Some(last) = last_task(&self.root) else {
             return None;
         };
-        if is_running(&running, last) {
-            last_waiting(&self.root, &running, None)
+        if is_running(&running, last.number) {
+            // the running task itself where no other is here
+            let found = last_waiting(&self.root, last.number, last);
+            if found.number == last.number {
+                None
+            } else {
+                Some(found)
+            }
         } else {
             Some(last)
         }

@@ -2,10 +2,10 @@
 //! of a subtree, and keeps the height and the least virtual runtime of that subtree.
 
 ghost use Rattle.std.specs.Prelude.{◌≡◌, ◌≤◌, ◌^◌, [], ◌∷◌, ◌++◌, length, is_some, true, None, Some, IfSome};
-ghost use Rattle.std.specs.Option.{option_map};
+ghost use Rattle.std.specs.Option.{option_map, unwrap_or};
 ghost use Rattle.eevdf_queue.specs.{TaskLists.first_task, TaskLists.find_task, TaskLists.DifferInNumber, Pick.is_eligible_at};
 ghost use Rattle.eevdf_queue.specs.{TreeLeast.least_of, TreeLeast.AreLow, NodeDepths.depth_at};
-ghost use Rattle.eevdf_queue.specs.TreeTasks.{AreOrdered, IsAtDeadline, first_that, last_number};
+ghost use Rattle.eevdf_queue.specs.TreeTasks.{AreOrdered, IsAtDeadline, first_that, last_waiting};
 ghost use Rattle.eevdf_queue.specs.TreeShape.{tasks_in, height_in, depths_in, IsFull, IsAlone};
 
 mod node_parts;
@@ -15,7 +15,6 @@ mod tree_edit;
 mod tree_lowering;
 
 use crate::entry::Entry;
-use crate::running::is_running;
 use crate::sides::Sides;
 use crate::task::Task;
 use crate::task_id::TaskId;
@@ -273,36 +272,36 @@ fn first_under<'a>(root: &'a TreeNode, totals: &Threshold) -> Found<'a>
     }
 }
 
-/// The number of the last task below a link.
-pub fn last_task(link: &Option<Box<TreeNode>>) -> Option<TaskId>
-    ensures { result ≡ last_number None None (tasks_in link.now) }
+/// The last task below a link.
+pub fn last_task<'a>(link: &'a Option<Box<TreeNode>>) -> Option<&'a Task>
+    ensures { option_map (λ t. t.now) result ≡ last_waiting None (tasks_in link.now) }
 {
     let mut at = link;
     let mut last = None;
     'down: while let Some(node) = at {
         let node: &TreeNode = node;
-        last = Some(node.task.number);
+        last = Some(&node.task);
         at = &node.sides.right;
     }
     last
 }
 
-/// The number of the last task below a link that isn't the running one, or else the number that was seen before.
-pub fn last_waiting(
-    link: &Option<Box<TreeNode>>,
-    running: &Option<TaskId>,
-    before: Option<TaskId>,
-) -> Option<TaskId>
-    ensures { result ≡ last_number before running.now (tasks_in link.now) }
+/// The last task below a link that isn't the running one, or else the task that was seen before.
+pub fn last_waiting<'a>(
+    link: &'a Option<Box<TreeNode>>,
+    running: TaskId,
+    before: &'a Task,
+) -> &'a Task
+    ensures { result.now ≡ unwrap_or (last_waiting (Some running) (tasks_in link.now)) before.now }
 {
     let mut at = link;
     let mut last = before;
     'down: while let Some(node) = at {
         let node: &TreeNode = node;
-        if is_running(running, node.task.number) {
+        if node.task.number == running {
             last = last_waiting(&node.sides.left, running, last);
         } else {
-            last = Some(node.task.number);
+            last = &node.task;
         }
         at = &node.sides.right;
     }

@@ -1,5 +1,7 @@
-use Rattle.std.proofs.Common.{◌≡◌, ◌≤◌, length}
-use Rattle.eevdf_queue.specs.{TreeShape.tasks_in, TreeTasks.last_number}
+use Rattle.std.proofs.Common.{◌≡◌, ◌≤◌, Some, length}
+use Rattle.std.specs.Option.{unwrap_or}
+use Rattle.eevdf_queue.specs.{TreeShape.tasks_in, TreeTasks.last_waiting}
+use Rattle.eevdf_queue.proofs.TreeLast.{last_seen}
 use Rattle.eevdf_queue.proofs.tree_node.+last_waiting.Given as goal
 
 abbrev pub decreases-last_waiting : goal.decreases-last_waiting
@@ -7,7 +9,7 @@ decreases-last_waiting l = length (tasks_in l.link.now)
 
 abbrev pub invariant-down : goal.invariant-down
 invariant-down l =
-    (last_number l.fn.before l.running (tasks_in l.link) ≡ last_number l.last l.running (tasks_in l.at))
+    (Some (unwrap_or (last_waiting (Some l.running) (tasks_in l.link)) l.fn.before) ≡ last_seen (Some l.last) (Some l.running) (tasks_in l.at))
     × (length (tasks_in l.at) ≤ length (tasks_in l.link))
 
 abbrev pub decreases-down : goal.decreases-down
