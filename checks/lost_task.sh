@@ -50,10 +50,11 @@ put() {
 
 put eevdf_queue parcel.rt 'let Parcel { node: _ } = self;' 'let _parcel = self;'
 put eevdf_queue queue_moves.rt 'None => Err(parcel),' 'None => Ok(()),'
-put eevdf_ops whole_sleep.rt 'fall_asleep(queues, home, parcel);' 'let _parcel = parcel;'
-put eevdf_ops whole_pull.rt 'join(queues, cpu, parcel);' 'let _parcel = parcel;'
+put eevdf_ops local_acts.rt 'queue.put_asleep(parcel);' 'let _parcel = parcel;'
+put eevdf_ops transfers.rt 'home.put_asleep(parcel);' 'let _parcel = parcel;'
+put eevdf_ops transfers.rt 'queue.attach(parcel);' 'let _parcel = parcel;'
 put eevdf_steps hand.rt 'parcel.retire();' 'let _parcel = parcel;'
-put eevdf_steps work.rt 'join(&mut self.queues, cpu, parcel);' 'let _parcel = parcel;'
+put eevdf_steps work.rt 'self.queues[cpu.index()].attach(parcel);' 'let _parcel = parcel;'
 put mine lib.rt $'if let Some(parcel) = queue.detach_running(task) {\n        parcel.retire();\n    }' \
   'let _parcel = queue.detach_running(task);'
 

@@ -21,10 +21,11 @@ CRATE = "eevdf_fleet"
 # The function that is asked for. All are read before any is proved.
 ASKED = "own"
 
-OWN = "let (mut guard, mut leave) = self.hold(rt, held, seat.cpu());"
-BOTH = "self.hold_both(rt, held, seat.cpu(), other)"
+OWN = "let (mut guard, mut leave) = self.hold(call.rt, held, seat.cpu());"
+LISTED = OWN.replace("call.rt", "rt")
+BOTH = "self.hold_both(call.rt, held, seat.cpu(), other)"
 JOURNAL = "let mut journal = journal.lock(rt, leave);"
-AGAIN = "let (_second, _leave) = self.hold(rt, held, seat.cpu());"
+AGAIN = "let (_second, _leave) = self.hold(call.rt, held, seat.cpu());"
 
 # What a body does, its file, a text of it, what is put in its place, and the error. A round for what is out of reach, and one for what is
 # borrowed.
@@ -36,18 +37,18 @@ ROUNDS = (
          f"let (_parts, mut second) = HeldLocks::beside(*seat); {OWN.replace('held', '&mut second')}", "move-out-of-place"),
         ("a JournalLeave made by an operation", "line_commits.rt", JOURNAL,
          JOURNAL.replace("leave", "&mut JournalLeave { held: std::marker::PhantomData }"), "private-field"),
-        ("the lock of a queue reached by an operation", "operations.rt", "Deed::Pull { source, .. } => Some(source),",
-         "Deed::Pull { source, .. } => { let _raw = &self.locks[source.index()].slot; Some(source) }", "private-field"),
+        ("the lock of a queue reached by an operation", "operations.rt", "self.across(call, seat, held, other, transfer)",
+         "{ let _raw = &self.locks[other.index()].slot; self.across(call, seat, held, other, transfer) }", "private-field"),
     ),
     (
         ("a second lock while one is held", "locked_deeds.rt", OWN, f"{OWN} {AGAIN}", "borrow-e0499"),
-        ("a look while a lock is held", "listed_drains.rt", OWN, f"{OWN} let cpu = seat.cpu(); let _look = self.look(rt, seat, held, cpu);",
+        ("a look while a lock is held", "listed_drains.rt", LISTED, f"{LISTED} let cpu = seat.cpu(); let _look = self.look(rt, seat, held, cpu);",
          "borrow-e0499"),
         ("a third lock while two are held", "locked_deeds.rt", f"{BOTH};", f"{BOTH}; {AGAIN}", "borrow-e0499"),
         ("the journal's lock twice", "line_commits.rt", JOURNAL, f"let _first = journal.lock(rt, leave); {JOURNAL}", "borrow-e0499"),
         ("a queue's lock while the journal's is held", "drains.rt", OWN,
-         f"let (first, mut late) = self.hold(rt, held, seat.cpu()); drop(first); let _journal = match &self.journal {{ "
-         f"Some(journal) => Some(journal.lock(rt, &mut late)), None => None }}; {OWN} drop(_journal);", "borrow-e0499"),
+         f"let (first, mut late) = self.hold(call.rt, held, seat.cpu()); drop(first); let _journal = match &self.journal {{ "
+         f"Some(journal) => Some(journal.lock(call.rt, &mut late)), None => None }}; {OWN} drop(_journal);", "borrow-e0499"),
     ),
 )
 

@@ -34,7 +34,7 @@ WRONG_BODIES = (
     "eevdf_queue/mean_towards_zero",
     "eevdf_queue/lag_limited_above_only",
     "eevdf_queue/tick_without_range",
-    "eevdf_queue/candidate_may_run",
+    "eevdf_queue/offer_may_run",
     "eevdf_queue/base_kept_on_leaving",
     "eevdf_queue/reniced_task_stops_running",
     "eevdf_ops/pull_tries_the_range_first",

@@ -1,18 +1,20 @@
 -- Turns and leavings read the runnable tasks and who runs alone, and a sleep and a pull that are done leave both as a leaving does.
-use Rattle.std.proofs.Common.{◌≡◌, ℕ, ◌<◌, Bool, true, false, cond, List, [], ◌∷◌, length, Option, Some, None, refl, ap, ◌∙◌, subst}
+use Rattle.std.proofs.Common.{◌≡◌, ℕ, ◌<◌, Bool, true, false, cond, List, [], ◌∷◌, length, set, Option, Some, None, refl, sym, ap, ◌∙◌, subst}
 use Rattle.std.specs.Prelude.{ℤ, Result, Ok, Err}
 use Rattle.std.specs.FinMap.{get, insert, remove}
-use Rattle.std.proofs.lemmas.List.{get_or-set_same}
+use Rattle.std.proofs.{lemmas.List.get_or-set_same, Math.ListN.length-set}
 use Rattle.eevdf_queue.specs.{declared.entry.Entry.Entry, declared.answers.TickAnswer.TickAnswer, State.State, State.Contents, State.empty_state, Sums.Tasks}
 use Rattle.eevdf_queue.specs.declared.answers.TickAnswer.TheVariants.{Charged, Range as out_of_range}
-use Rattle.eevdf_queue.specs.{Leaving.leave, Leaving.without_entry, Leaving.stopped, Leaving.carried_running, Moves.put_asleep, Moves.sleeper_of, Moves.is_entry_in_range}
-use Rattle.eevdf_queue.specs.{Pick.pick_of, Pick.picked_by, Pick.after_pick, Placing.can_place}
+use Rattle.eevdf_queue.specs.{Leaving.leave, Leaving.without_entry, Leaving.stopped, Leaving.carried_running, Moves.is_entry_in_range}
+use Rattle.eevdf_queue.specs.Pick.{pick_of, picked_by, after_pick}
 use Rattle.eevdf_queue.specs.Tick.{is_used_up, charged, tick, tick_entry, tick_running}
 use Rattle.eevdf_ops.specs.{declared.deeds.Answer.Answer, Setup.home_of, Machine.Machine, Machine.queue_at}
-use Rattle.eevdf_ops.specs.declared.deeds.Answer.TheVariants.{Slept, Pulled, Balanced, Range}
-use Rattle.eevdf_ops.specs.WholeSleep.{task_leaves, falls_asleep, sleep_carrying}
-use Rattle.eevdf_ops.specs.WholePull.{load_of, offer, is_lighter, decision, with_task, pull_decision, pull_decided}
-use Rattle.eevdf_ops.proofs.{Carried.running-carries, MachinePlaces.other_queue, MachinePlaces.each-set}
+use Rattle.eevdf_ops.specs.declared.deeds.Deed.TheVariants.{Sleep, Pull}
+use Rattle.eevdf_ops.specs.declared.deeds.Answer.TheVariants.{Slept, Pulled}
+use Rattle.eevdf_ops.specs.declared.acts.Transfer.TheVariants as transfer
+use Rattle.eevdf_ops.specs.{LocalActs.slept_here, Transfers.slept_away, Transfers.pulled, Transfers.transferred, Whole.whole}
+use Rattle.eevdf_ops.specs.{Parts.after_leaving, Parts.answer_of_sleep, WholePull.load_of, WholePull.offer, WholePull.decision}
+use Rattle.eevdf_ops.proofs.{Carried.running-carries, LocalParts.whole-answer, MachinePlaces.other_queue, MachinePlaces.each-set, Pulling.unpulled, WholeActs.sleep_by_home}
 use Rattle.eevdf_fairness.specs.{Turns.Turn, Turns.after_ticks, Turns.after_turn, Turns.after_turns}
 use Rattle.eevdf_fairness.specs.Leavings.{Step, Takes, Leaves, after_steps, HaveSameRunnable, RunnableTasksDecide}
 use Rattle.eevdf_fairness.specs.LeavingDeeds.{DeedsLeave}
@@ -89,54 +91,57 @@ pub runnable_tasks_decide : RunnableTasksDecide
 runnable_tasks_decide = record { of_turns = of_turns; of_steps = of_steps }
 
 -- ---- a sleep
--- who falls asleep somewhere changes no runnable tasks
-asleep_somewhere : (m : Machine) (home : ℕ) (p : Contents) (k : ℕ) → HaveSameRunnable (queue_at (falls_asleep m home p) k) (queue_at m k)
-asleep_somewhere m home p k =
-    each-set (λ i q. HaveSameRunnable q (queue_at m i)) m home (put_asleep (queue_at m home) p) (record { runnable = refl; running = refl }) (λ i. alike (queue_at m i)) k
+-- who falls asleep changes no runnable tasks
+here_left : (o : Option Contents) (q : State) → HaveSameRunnable (slept_here o q).1 (after_leaving o q)
+here_left None q = alike q
+here_left (Some p) q = record { runnable = refl; running = refl }
 
-pub slept_by : (m : Machine) (cpu home task : ℕ) (lag : ℤ) (o : Option Contents) → carried_running (queue_at m cpu) task ≡ o → cpu < length m
-    → (sleep_carrying m cpu home o).0 ≡ Slept lag → HaveSameRunnable (queue_at (sleep_carrying m cpu home o).1 cpu) (leave (queue_at m cpu) task)
-slept_by m cpu home task lag None is h done = cc
-slept_by m cpu home task lag (Some p) is h done =
-    subst (λ (q : State). HaveSameRunnable (queue_at (falls_asleep (task_leaves m cpu p.task) home p) cpu) q)
-    (get_or-set_same m cpu (leave (queue_at m cpu) p.task) empty_state h ∙ ap (leave (queue_at m cpu)) (running-carries (queue_at m cpu) task p is).of_task)
-    (asleep_somewhere (task_leaves m cpu p.task) home p cpu)
+away_left : (o : Option Contents) (q r : State) → (slept_away o q r).1.0 ≡ after_leaving o q
+away_left None q r = refl
+away_left (Some p) q r = refl
 
-pub elsewhere_by : (m : Machine) (cpu home other : ℕ) (o : Option Contents) → (other ≡ cpu → ⊥)
-    → HaveSameRunnable (queue_at (sleep_carrying m cpu home o).1 other) (queue_at m other)
-elsewhere_by m cpu home other None apart = alike (queue_at m other)
-elsewhere_by m cpu home other (Some p) apart =
-    subst (λ (q : State). HaveSameRunnable (queue_at (falls_asleep (task_leaves m cpu p.task) home p) other) q)
-    (other_queue m cpu other (leave (queue_at m cpu) p.task) apart)
-    (asleep_somewhere (task_leaves m cpu p.task) home p other)
+away_stays : (o : Option Contents) (q r : State) → HaveSameRunnable (slept_away o q r).1.1 r
+away_stays None q r = alike r
+away_stays (Some p) q r = record { runnable = refl; running = refl }
+
+pub sleep_leaves : (homes : List ℕ) (m : Machine) (cpu task : ℕ) → cpu < length m
+    → HaveSameRunnable (queue_at (whole homes (Sleep cpu task) m).1 cpu) (after_leaving (carried_running (queue_at m cpu) task) (queue_at m cpu))
+sleep_leaves homes m cpu task h =
+    let o : Option Contents = carried_running (queue_at m cpu) task in
+    sleep_by_home (λ (r : Answer × Machine). HaveSameRunnable (queue_at r.1 cpu) (after_leaving o (queue_at m cpu))) homes cpu task m
+    (λ e. then _ _ _ (of_same _ _ (get_or-set_same m cpu _ empty_state h)) (here_left o (queue_at m cpu)))
+    (λ e. of_same _ _ (other_queue (set m cpu _) (home_of homes task) cpu _ (λ f. e (sym f)) ∙ get_or-set_same m cpu _ empty_state h
+    ∙ away_left o (queue_at m cpu) (queue_at m (home_of homes task))))
+
+pub sleep_stays : (homes : List ℕ) (m : Machine) (cpu task other : ℕ) → (other ≡ cpu → ⊥)
+    → HaveSameRunnable (queue_at (whole homes (Sleep cpu task) m).1 other) (queue_at m other)
+sleep_stays homes m cpu task other apart =
+    let IsKept : ℕ → State → Type 0 = λ i q. (i ≡ cpu → ⊥) → HaveSameRunnable q (queue_at m i) in
+    sleep_by_home (λ (r : Answer × Machine). HaveSameRunnable (queue_at r.1 other) (queue_at m other)) homes cpu task m
+    (λ e. of_same _ _ (other_queue m cpu other _ apart))
+    (λ e. each-set IsKept (set m cpu _) (home_of homes task) _ (λ f. away_stays (carried_running (queue_at m cpu) task) (queue_at m cpu) (queue_at m (home_of homes task)))
+    (each-set IsKept m cpu _ (λ f. absurd (f refl)) (λ i f. alike (queue_at m i))) other apart)
+
+pub left_by_sleep : (q : State) (task : ℕ) (lag : ℤ) (o : Option Contents) → carried_running q task ≡ o → answer_of_sleep o ≡ Slept lag → after_leaving o q ≡ leave q task
+left_by_sleep q task lag None is done = cc
+left_by_sleep q task lag (Some p) is done = ap (leave q) (running-carries q task p is).of_task
 
 -- ---- a pull
--- no refusal is an answer that a task was pulled
-refused_by : (q : State) (source_load task : ℕ) (p : Contents) (b c : Bool) (why : Answer) → cond b (cond c (Ok p) (Err Range)) (Err Balanced) ≡ Err why
-    → why ≡ Pulled task → ⊥
-refused_by q source_load task p true true why e f = cc
-refused_by q source_load task p true false why e f = cc
-refused_by q source_load task p false c why e f = cc
+pub pull_leaves : (homes : List ℕ) (m : Machine) (cpu source : ℕ) → source < length m
+    → queue_at (whole homes (Pull cpu source) m).1 source ≡ (transferred transfer.Pull (queue_at m cpu) (queue_at m source)).1.1
+pull_leaves homes m cpu source h = get_or-set_same (set m cpu _) source _ empty_state (subst (λ (n : ℕ). source < n) (sym (length-set m cpu _)) h)
 
-refused : (q : State) (source_load task : ℕ) (o : Option Contents) (why : Answer) → decision q source_load o ≡ Err why → why ≡ Pulled task → ⊥
-refused q source_load task None why e f = cc
-refused q source_load task (Some p) why e f =
-    refused_by q source_load task p (is_lighter (load_of q) p source_load) (can_place q (sleeper_of p)) why e f
-
-pub pulled_by : (m : Machine) (cpu source task : ℕ) (d : Result Contents Answer) → pull_decision m cpu source ≡ d → source < length m → (source ≡ cpu → ⊥)
-    → (pull_decided m cpu source d).0 ≡ Pulled task → HaveSameRunnable (queue_at (pull_decided m cpu source d).1 source) (leave (queue_at m source) task)
-pulled_by m cpu source task (Err why) is h apart done =
-    absurd (refused (queue_at m cpu) (load_of (queue_at m source)) task (offer (queue_at m source)) why is done)
-pulled_by m cpu source task (Ok p) is h apart done =
-    let same : p.task ≡ task = cc in
-    subst (λ (q : State). HaveSameRunnable (queue_at (pull_decided m cpu source (Ok p)).1 source) q)
-    (other_queue (task_leaves m source p.task) cpu source (with_task (queue_at (task_leaves m source p.task) cpu) p) apart
-    ∙ get_or-set_same m source (leave (queue_at m source) p.task) empty_state h ∙ ap (leave (queue_at m source)) same)
-    (alike (queue_at (pull_decided m cpu source (Ok p)).1 source))
+left_by_pull : (q r : State) (task : ℕ) (d : Result Contents Answer) → decision q (load_of r) (offer r) ≡ d → (pulled d q r).0 ≡ Pulled task → (pulled d q r).1.1 ≡ leave r task
+left_by_pull q r task (Err why) is done = absurd (unpulled q (load_of r) task (offer r) why is done)
+left_by_pull q r task (Ok p) is done = let same : p.task ≡ task = cc in ap (leave r) same
 
 pub deeds_leave : DeedsLeave
 deeds_leave = record {
-  sleeps = λ homes m cpu task lag h done. slept_by m cpu (home_of homes task) task lag (carried_running (queue_at m cpu) task) refl h done;
-  sleeps_elsewhere = λ homes m cpu task other apart. elsewhere_by m cpu (home_of homes task) other (carried_running (queue_at m cpu) task) apart;
-  pulls = λ homes m cpu source task h apart done. pulled_by m cpu source task (pull_decision m cpu source) refl h apart done;
+  sleeps = λ homes m cpu task lag h done.
+      then _ _ _ (sleep_leaves homes m cpu task h)
+      (of_same _ _ (left_by_sleep (queue_at m cpu) task lag (carried_running (queue_at m cpu) task) refl (sym (whole-answer homes (Sleep cpu task) m) ∙ done)));
+  sleeps_elsewhere = sleep_stays;
+  pulls = λ homes m cpu source task h apart done.
+      of_same _ _ (pull_leaves homes m cpu source h
+      ∙ left_by_pull (queue_at m cpu) (queue_at m source) task (decision (queue_at m cpu) (load_of (queue_at m source)) (offer (queue_at m source))) refl done);
 }

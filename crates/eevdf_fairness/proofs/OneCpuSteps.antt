@@ -1,21 +1,20 @@
 -- Turns and leavings of one CPU: whatever else is done, its runnable tasks are as these steps leave them.
-use Rattle.std.proofs.Common.{◌≡◌, ℕ, ◌<◌, Bool, true, false, cond, List, [], ◌∷◌, ◌++◌, length, map, slice_set, Option, Some, None, refl, sym, ap, ◌∙◌, subst, arith}
+use Rattle.std.proofs.Common.{◌≡◌, ℕ, ◌<◌, Bool, true, false, cond, List, [], ◌∷◌, ◌++◌, length, map, set, slice_set, Option, Some, None, refl, sym, ap, ◌∙◌, subst, arith}
 use Rattle.std.specs.Prelude.{◌==◌, Result, Ok, Err}
 use Rattle.std.proofs.lemmas.Bool.Decides.{nat_tests}
 use Rattle.std.specs.FinMap.{get}
-use Rattle.eevdf_queue.specs.{declared.entry.Entry.Entry, Sums.Tasks, State.State, State.Contents, Moves.sleeper_of, Leaving.carried_running, Leaving.leave, Pick.after_pick, Placing.can_place, Tick.tick}
-use Rattle.eevdf_ops.specs.{declared.deeds.Deed.Deed, declared.deeds.Answer.Answer, Setup.home_of, Machine.Machine, Machine.queue_at}
+use Rattle.eevdf_queue.specs.{declared.entry.Entry.Entry, Sums.Tasks, State.State, State.Contents, Leaving.carried_running, Leaving.leave, Pick.after_pick, Tick.tick}
+use Rattle.eevdf_ops.specs.{declared.deeds.Deed.Deed, declared.deeds.Answer.Answer, Machine.Machine, Machine.queue_at}
 use Rattle.eevdf_ops.specs.declared.deeds.Deed.TheVariants.{Tick, Pick, Yield, Sleep, Wake, Pull, Renice}
-use Rattle.eevdf_ops.specs.declared.deeds.Answer.TheVariants.{Balanced, Nothing, Range}
-use Rattle.eevdf_ops.specs.{WholeSleep.sleep, WholeSleep.sleep_carrying, WholeSleep.task_leaves, Whole.whole, Whole.lines_of, Whole.machine_after}
-use Rattle.eevdf_ops.specs.WholePull.{load_of, offer, is_lighter, decision, with_task, pull, pull_decision, pull_decided}
-use Rattle.eevdf_ops.proofs.{MachinePlaces.other_queue, WholePlaces.length-whole}
+use Rattle.eevdf_ops.specs.{Parts.after_leaving, Parts.answer_of_sleep, Transfers.pulled, Whole.whole, Whole.lines_of, Whole.machine_after}
+use Rattle.eevdf_ops.specs.WholePull.{load_of, offer, decision}
+use Rattle.eevdf_ops.proofs.{LocalParts.whole-answer, MachinePlaces.other_queue, Pulling.refusals, WholePlaces.length-whole}
 use Rattle.eevdf_fairness.specs.{Turns.Turn, Turns.after_ticks, Turns.after_turn, Leavings.Step, Leavings.Takes, Leavings.Leaves, Leavings.after_steps, Leavings.HaveSameRunnable}
 use Rattle.eevdf_fairness.specs.OneCpuSteps.{Change, Picks, Ticks, Loses, IsNoStep, change_of_sleep, change_of_pull, change_at, and_then, changes_at, after_ticks_of, leavings_last, changes_of}
 use Rattle.eevdf_fairness.specs.OneCpuSteps.{StepsOfOneCpu, OneCpuStaysFair, OneCpuJoinKeepsFair}
 use Rattle.eevdf_fairness.specs.{Leavings.IsStillFair, Leavings.LeavingsKeepFair, Joining.IsFairAfterJoin, Joining.JoinKeepsFair}
 use Rattle.eevdf_fairness.proofs.{OneCpu.one_done, LeavingDeeds.alike, LeavingDeeds.of_same, LeavingDeeds.then, LeavingLater.leaves_later, LeavingDeeds.ticked, LeavingDeeds.picked, LeavingDeeds.left}
-use Rattle.eevdf_fairness.proofs.LeavingDeeds.{slept_by, elsewhere_by, pulled_by}
+use Rattle.eevdf_fairness.proofs.LeavingDeeds.{sleep_leaves, sleep_stays, left_by_sleep, pull_leaves}
 
 -- ---- changes, and what they make of a queue
 abbrev changed : Change → State → State
@@ -117,52 +116,40 @@ module _ (homes : List ℕ) (m : Machine) (cpu : ℕ) (h : cpu < length m) where
   other_by at q true is steps = absurd steps
   other_by at q false is steps = of_same _ _ (other_queue m at cpu q (is_apart at cpu is))
 
-  sleep_here : (home task : ℕ) (o : Option Contents) → carried_running (queue_at m cpu) task ≡ o
-      → HaveSameRunnable (queue_at (sleep_carrying m cpu home o).1 cpu) (changed_by (change_of_sleep task (sleep_carrying m cpu home o).0) (queue_at m cpu))
-  sleep_here home task None is = alike (queue_at m cpu)
-  sleep_here home task (Some p) is = slept_by m cpu home task p.lag (Some p) is h refl
+  sleep_changes : (q : State) (task : ℕ) (o : Option Contents) → carried_running q task ≡ o → after_leaving o q ≡ changed_by (change_of_sleep task (answer_of_sleep o)) q
+  sleep_changes q task None is = refl
+  sleep_changes q task (Some p) is = left_by_sleep q task p.lag (Some p) is refl
+
+  sleep_here : (task : ℕ) → HaveSameRunnable (queue_at (whole homes (Sleep cpu task) m).1 cpu) (changed_by (change_of_sleep task (whole homes (Sleep cpu task) m).0) (queue_at m cpu))
+  sleep_here task =
+      then _ _ _ (sleep_leaves homes m cpu task h)
+      (of_same _ _ (sleep_changes (queue_at m cpu) task (carried_running (queue_at m cpu) task) refl
+      ∙ ap (λ (a : Answer). changed_by (change_of_sleep task a) (queue_at m cpu)) (sym (whole-answer homes (Sleep cpu task) m))))
 
   sleeps_by : (at task : ℕ) (b : Bool) → (at == cpu) ≡ b
-      → HaveSameRunnable (queue_at (sleep m at (home_of homes task) task).1 cpu)
-      (changed_by (cond b (change_of_sleep task (sleep m at (home_of homes task) task).0) None) (queue_at m cpu))
+      → HaveSameRunnable (queue_at (whole homes (Sleep at task) m).1 cpu) (changed_by (cond b (change_of_sleep task (whole homes (Sleep at task) m).0) None) (queue_at m cpu))
   sleeps_by at task true is =
-      subst (λ (a : ℕ). HaveSameRunnable (queue_at (sleep m a (home_of homes task) task).1 cpu) (changed_by (change_of_sleep task (sleep m a (home_of homes task) task).0) (queue_at m cpu)))
-      (sym (is_here at cpu is)) (sleep_here (home_of homes task) task (carried_running (queue_at m cpu) task) refl)
-  sleeps_by at task false is = elsewhere_by m at (home_of homes task) cpu (carried_running (queue_at m at) task) (is_apart at cpu is)
+      subst (λ (a : ℕ). HaveSameRunnable (queue_at (whole homes (Sleep a task) m).1 cpu) (changed_by (change_of_sleep task (whole homes (Sleep a task) m).0) (queue_at m cpu)))
+      (sym (is_here at cpu is)) (sleep_here task)
+  sleeps_by at task false is = sleep_stays homes m at task cpu (is_apart at cpu is)
 
   -- ---- pulls
-  refusal_by : (p : Contents) (b c : Bool) (why : Answer) → cond b (cond c (Ok p) (Err Range)) (Err Balanced) ≡ Err why → change_of_pull why ≡ None
-  refusal_by p true true why e = cc
-  refusal_by p true false why e = let is : Range ≡ why = cc in ap change_of_pull (sym is)
-  refusal_by p false c why e = let is : Balanced ≡ why = cc in ap change_of_pull (sym is)
-
-  refusal : (q : State) (load : ℕ) (o : Option Contents) (why : Answer) → decision q load o ≡ Err why → change_of_pull why ≡ None
-  refusal q load None why e = let is : Nothing ≡ why = cc in ap change_of_pull (sym is)
-  refusal q load (Some p) why e = refusal_by p (is_lighter (load_of q) p load) (can_place q (sleeper_of p)) why e
-
-  pull_from : (at : ℕ) (d : Result Contents Answer) → pull_decision m at cpu ≡ d → (cpu ≡ at → ⊥)
-      → HaveSameRunnable (queue_at (pull_decided m at cpu d).1 cpu) (changed_by (change_of_pull (pull_decided m at cpu d).0) (queue_at m cpu))
-  pull_from at (Err why) is apart =
-      subst (λ (o : Option Change). HaveSameRunnable (queue_at m cpu) (changed_by o (queue_at m cpu)))
-      (sym (refusal (queue_at m at) (load_of (queue_at m cpu)) (offer (queue_at m cpu)) why is)) (alike (queue_at m cpu))
-  pull_from at (Ok p) is apart = pulled_by m at cpu p.task (Ok p) is h apart refl
-
-  pull_apart : (at source : ℕ) (d : Result Contents Answer) → (cpu ≡ at → ⊥) → (cpu ≡ source → ⊥) → queue_at (pull_decided m at source d).1 cpu ≡ queue_at m cpu
-  pull_apart at source (Err why) one two = refl
-  pull_apart at source (Ok p) one two =
-      other_queue (task_leaves m source p.task) at cpu (with_task (queue_at (task_leaves m source p.task) at) p) one
-      ∙ other_queue m source cpu (leave (queue_at m source) p.task) two
+  pull_changes : (q r : State) (d : Result Contents Answer) → decision q (load_of r) (offer r) ≡ d → (pulled d q r).1.1 ≡ changed_by (change_of_pull (pulled d q r).0) r
+  pull_changes q r (Err why) is =
+      sym (ap (λ (o : Option Change). changed_by o r) (refusals (λ (a : Answer). change_of_pull a ≡ None) q (load_of r) (offer r) why is refl refl refl))
+  pull_changes q r (Ok p) is = refl
 
   pulls_by : (at source : ℕ) (b c : Bool) → (at == cpu) ≡ b → (source == cpu) ≡ c
-      → MayBeOfSteps (cond b (Some IsNoStep) (cond c (change_of_pull (pull m at source).0) None))
-      → HaveSameRunnable (queue_at (pull m at source).1 cpu)
-      (changed_by (cond b (Some IsNoStep) (cond c (change_of_pull (pull m at source).0) None)) (queue_at m cpu))
+      → MayBeOfSteps (cond b (Some IsNoStep) (cond c (change_of_pull (whole homes (Pull at source) m).0) None))
+      → HaveSameRunnable (queue_at (whole homes (Pull at source) m).1 cpu)
+      (changed_by (cond b (Some IsNoStep) (cond c (change_of_pull (whole homes (Pull at source) m).0) None)) (queue_at m cpu))
   pulls_by at source true c is at_source steps = absurd steps
   pulls_by at source false true is at_source steps =
-      subst (λ (s : ℕ). HaveSameRunnable (queue_at (pull m at s).1 cpu) (changed_by (change_of_pull (pull m at s).0) (queue_at m cpu)))
-      (sym (is_here source cpu at_source)) (pull_from at (pull_decision m at cpu) refl (is_apart at cpu is))
+      subst (λ (s : ℕ). HaveSameRunnable (queue_at (whole homes (Pull at s) m).1 cpu) (changed_by (change_of_pull (whole homes (Pull at s) m).0) (queue_at m cpu)))
+      (sym (is_here source cpu at_source))
+      (of_same _ _ (pull_leaves homes m at cpu h ∙ pull_changes (queue_at m at) (queue_at m cpu) (decision (queue_at m at) (load_of (queue_at m cpu)) (offer (queue_at m cpu))) refl))
   pulls_by at source false false is at_source steps =
-      of_same _ _ (pull_apart at source (pull_decision m at source) (is_apart at cpu is) (is_apart source cpu at_source))
+      of_same _ _ (other_queue (set m at _) source cpu _ (is_apart source cpu at_source) ∙ other_queue m at cpu _ (is_apart at cpu is))
 
   one_change : (d : Deed) → MayBeOfSteps (change_at cpu d (whole homes d m).0)
       → HaveSameRunnable (queue_at (whole homes d m).1 cpu) (changed_by (change_at cpu d (whole homes d m).0) (queue_at m cpu))

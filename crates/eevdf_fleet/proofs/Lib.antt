@@ -10,7 +10,6 @@ pub mod Rooms
 pub mod Commits
 pub mod Advances
 pub mod OwedQueues
-pub mod Pulled
 pub mod Placed
 pub mod Openings
 pub mod Closings

@@ -3,24 +3,21 @@ use Rattle.std.proofs.Common.{◌≡◌, ℕ, ◌+◌, ◌<◌, List, [], ◌∷
 use Rattle.std.specs.Prelude.{IfNone, slice_get, Option, Some, None, Result, Ok, Err, OnOk, OnErr}
 use Rattle.std.proofs.{lemmas.Bool.cases_eq, lemmas.List.get_or-set_other, lemmas.List.length-set}
 use Rattle.std.proofs.lemmas.List.FromFn.{length-map-range_with_len}
-use Rattle.eevdf_ops.specs.{declared.deeds.Answer.Answer, declared.deeds.Deed.Deed, declared.deeds.Line.Line}
-use Rattle.eevdf_ops.specs.declared.deeds.Deed.TheVariants.{Tick, Pick, Yield, Sleep, Wake, Pull, Renice}
+use Rattle.eevdf_ops.specs.{declared.acts.Transfer.Transfer, declared.deeds.Answer.Answer, declared.deeds.Line.Line, Acts.deed_across}
+use Rattle.eevdf_ops.specs.declared.acts.Transfer.TheVariants as transfer
+use Rattle.eevdf_ops.specs.declared.deeds.Deed.TheVariants.{Wake}
 use Rattle.eevdf_fleet.specs.Rings.{HasLooked, Posts, Takes, free_to, oldest, posted_to, taken_from, taken_more}
 use Rattle.eevdf_ops.specs.Programs.{wakes_from}
 use Rattle.eevdf_fleet.specs.Fleets as fleets
 use Rattle.eevdf_fleet.specs.Rings as rings
-use Rattle.eevdf_fleet.specs.{declared.wake_list.DrainedWake.DrainedWake, Drains.PartsTaken, Drains.line_of, Drains.oldest_own, TouchedQueues.IsNoWake, TouchedQueues.IsOfTwoQueues}
+use Rattle.eevdf_fleet.specs.{declared.wake_list.DrainedWake.DrainedWake, Drains.PartsTaken, Drains.line_of, Drains.oldest_own, TouchedQueues.IsNoWake}
 use Rattle.eevdf_fleet.specs.Fleets.{AreParts, HasCommitted, HasLookedAt, HasPosted, HasWritten, IsNoLess, Parts, PartsLooked, Seat, SeatLog, free_at, logged, parts_of, seat_of, takes_by, written}
 use Rattle.eevdf_fleet.proofs.Takes.{same-takes, more-takes, taken-of}
 
-pub two-no-wake : (homes : List ℕ) (other : ℕ) (d : Deed) → IsOfTwoQueues homes other d → IsNoWake d
-two-no-wake homes other (Tick cpu ns) h = absurd h
-two-no-wake homes other (Pick cpu) h = absurd h
-two-no-wake homes other (Yield cpu) h = absurd h
-two-no-wake homes other (Sleep cpu task) h = tt
-two-no-wake homes other (Wake cpu task sender) h = absurd h
-two-no-wake homes other (Pull cpu source) h = tt
-two-no-wake homes other (Renice cpu task nice) h = absurd h
+-- an act on two queues is no wake
+pub across-no-wake : (cpu other : ℕ) (t : Transfer) → IsNoWake (deed_across cpu other t)
+across-no-wake cpu other (transfer.Sleep task) = tt
+across-no-wake cpu other transfer.Pull = tt
 
 -- a line that is no wake
 pub parts-written : (cpus : ℕ) (log log' : SeatLog) (p : Posts) (t : Takes) (l : Line) → AreParts cpus log p t → IsNoWake l.deed → HasWritten log log' l → AreParts cpus log' p t

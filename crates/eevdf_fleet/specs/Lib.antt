@@ -11,6 +11,8 @@ pub mod Endless
 pub mod EndlessTurns
 pub mod ProgramRuns
 pub mod SeatWorks
+pub mod Tried
+pub mod EndlessTried
 pub mod Turns
 pub mod TouchedQueues
 pub mod RingEnds

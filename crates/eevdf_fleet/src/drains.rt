@@ -6,6 +6,7 @@ ghost use Rattle.eevdf_ops.specs.Setup.{cpus_of};
 ghost use Rattle.eevdf_fleet.specs.Drains.{ArePartsDrained, AreTakenBy, PartsTaken, counted, oldest_own};
 ghost use Rattle.eevdf_fleet.specs.Fleets.{IsRoomFor, PartsLooked, setup_of};
 
+use crate::call::Call;
 use crate::gate::Gate;
 use crate::locks::{HeldLocks, JournalLeave};
 use crate::names::Names;
@@ -14,7 +15,7 @@ use crate::run_queues::RunQueues;
 use crate::seat_parts::SeatParts;
 use crate::slot::Slot;
 use crate::wake_list::{DrainedWake, Unlisted, WakeList};
-use eevdf_ops::{Answer, CpuId, Deed};
+use eevdf_ops::{Answer, CpuId, LocalAct};
 use std::sync::Wait;
 
 /// What a drain did: how many requests it took, and how many of these woke their task.
@@ -27,12 +28,10 @@ pub struct Drained {
 }
 
 impl<N: Names> RunQueues<N> {
-    /// The drain of a seat's CPU. The gate is told that it is operation `n` of the CPU's program.
+    /// The drain of a seat's CPU.
     pub(crate) fn drain<R: Wait, G: Gate>(
         &self,
-        rt: &R,
-        gate: &G,
-        n: usize,
+        call: &Call<'_, R, G>,
         seat: &mut SeatParts<N>,
         held: &mut HeldLocks,
     ) -> Drained
@@ -40,11 +39,11 @@ impl<N: Names> RunQueues<N> {
         ensures drained { ArePartsDrained seat.old seat.new result }
         ensures few { result.taken ≤ cpus_of (setup_of N.kit) }
     {
-        let (mut guard, mut leave) = self.hold(rt, held, seat.cpu());
-        gate.inside(seat.cpu(), n);
+        let (mut guard, mut leave) = self.hold(call.rt, held, seat.cpu());
+        call.gate.inside(seat.cpu(), call.number);
         // How many CPUs there may be is said by the type's invariant, of which a function knows that reads a field.
         let _cpus = self.locks.len();
-        self.drain_all(rt, seat, &mut guard, &mut leave, &mut Unlisted)
+        self.drain_all(call.rt, seat, &mut guard, &mut leave, &mut Unlisted)
     }
 
     /// Goes through the senders in ascending order, and decides one request of each that is seen to have any. What it decided goes into
@@ -93,14 +92,13 @@ impl<N: Names> RunQueues<N> {
         ensures none_own { IfNone result (sender ≡ seat.old.seat.cpu → oldest_own seat.old.seat ≡ None) }
         ensures number { slot.new.number ≡ slot.old.number }
     {
-        let cpu = seat.cpu();
         let request = seat.consumers.take(&mut seat.producers, sender.index())?;
         let Request {
             task,
             token,
             lead: _,
         } = request;
-        let wake = Deed::Wake { cpu, task, sender };
+        let wake = LocalAct::Wake { task, sender };
         let answer = self.wake_on_one(rt, &mut seat.log, slot, leave, wake, token);
         Some(DrainedWake {
             task,

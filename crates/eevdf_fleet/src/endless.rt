@@ -11,6 +11,7 @@ mod queue_look;
 mod seat;
 mod seat_turn;
 mod seen_line;
+mod try_operate;
 mod turn_threads;
 
 pub use crate::posted::Posted;

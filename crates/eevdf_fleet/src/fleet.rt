@@ -10,9 +10,10 @@ ghost use Rattle.eevdf_fleet.specs.Fleets.{AllPostsTold, AreSeats, IsLogged, fre
 ghost use Rattle.eevdf_fleet.specs.Fleets.{setup_of};
 ghost use Rattle.eevdf_fleet.specs.TouchedQueues.{IsNoWake};
 
+use crate::call::Call;
 use crate::closing::ClosedQueues;
 use crate::drains::Drained;
-use crate::gate::{Gate, OpenGate};
+use crate::gate::Gate;
 use crate::kit::Kit;
 use crate::names::Names;
 use crate::run_queues::RunQueues;
@@ -73,7 +74,7 @@ impl<N: Names> Fleet<N> {
         ensures full { IsErr result ↔ (seat.old.room < 1) }
     {
         let cpu = seat.cpu();
-        self.operate(rt, &OpenGate, 0, seat, Deed::Tick { cpu, ns })
+        self.operate(&Call::alone(rt), seat, Deed::Tick { cpu, ns })
     }
 
     /// Makes the eligible task of earliest virtual deadline run on the seat's CPU, among equal deadlines that of lowest
@@ -84,7 +85,7 @@ impl<N: Names> Fleet<N> {
         ensures full { IsErr result ↔ (seat.old.room < 1) }
     {
         let cpu = seat.cpu();
-        self.operate(rt, &OpenGate, 0, seat, Deed::Pick { cpu })
+        self.operate(&Call::alone(rt), seat, Deed::Pick { cpu })
     }
 
     /// Adds the charge of one slice to the virtual deadline of the task that runs on the seat's CPU, which runs until the
@@ -95,7 +96,7 @@ impl<N: Names> Fleet<N> {
         ensures full { IsErr result ↔ (seat.old.room < 1) }
     {
         let cpu = seat.cpu();
-        self.operate(rt, &OpenGate, 0, seat, Deed::Yield { cpu })
+        self.operate(&Call::alone(rt), seat, Deed::Yield { cpu })
     }
 
     /// Gives a task another nice level, if it is runnable on the seat's CPU (`Deed::Renice`). `NotHere`: it isn't runnable
@@ -112,7 +113,7 @@ impl<N: Names> Fleet<N> {
         ensures full { IsErr result ↔ (seat.old.room < 1) }
     {
         let cpu = seat.cpu();
-        self.operate(rt, &OpenGate, 0, seat, Deed::Renice { cpu, task, nice })
+        self.operate(&Call::alone(rt), seat, Deed::Renice { cpu, task, nice })
     }
 
     /// Puts a task to sleep at its home, if it runs on the seat's CPU (`Deed::Sleep`). `Slept` has the lag that it keeps, in
@@ -128,7 +129,7 @@ impl<N: Names> Fleet<N> {
         ensures full { IsErr result ↔ (seat.old.room < 1) }
     {
         let cpu = seat.cpu();
-        self.operate(rt, &OpenGate, 0, seat, Deed::Sleep { cpu, task })
+        self.operate(&Call::alone(rt), seat, Deed::Sleep { cpu, task })
     }
 
     /// Moves the waiting task of latest virtual deadline, of equal ones that of highest number, from the source to the seat's
@@ -147,7 +148,7 @@ impl<N: Names> Fleet<N> {
         ensures full { IsErr result ↔ (seat.old.room < 1) }
     {
         let cpu = seat.cpu();
-        self.operate(rt, &OpenGate, 0, seat, Deed::Pull { cpu, source })
+        self.operate(&Call::alone(rt), seat, Deed::Pull { cpu, source })
     }
 
     /// Takes at most one of the requests that each CPU posted to the seat's CPU, senders in ascending order, and decides
@@ -160,7 +161,7 @@ impl<N: Names> Fleet<N> {
         ensures few { IfOk result (λ drained. drained.taken ≤ cpus_of (setup_of N.kit)) }
         ensures full { IsErr result ↔ (seat.old.room < cpus_of (setup_of N.kit)) }
     {
-        self.drain_by(rt, &OpenGate, 0, seat)
+        self.drain_by(&Call::alone(rt), seat)
     }
 
     /// Whether the setup has a task: the condition of `sleep`, `renice` and `Seat::post`.
@@ -219,14 +220,11 @@ impl<N: Names> Fleet<N> {
         }
     }
 
-    /// Does a deed of the seat's CPU that isn't a wake. The gate is told that it is operation `n` of the CPU's program; where
-    /// no program is run the gate is open, and `n` is 0.
+    /// Does a deed of the seat's CPU that isn't a wake.
     #[inline(always)]
     pub(crate) fn operate<R: Wait, G: Gate>(
         &self,
-        rt: &R,
-        gate: &G,
-        n: usize,
+        call: &Call<'_, R, G>,
         seat: &mut Seat<N>,
         deed: Deed,
     ) -> Result<Answer, SeatFull>
@@ -241,16 +239,14 @@ impl<N: Names> Fleet<N> {
         }
         Ok(
             self.queues
-                .operate(rt, gate, n, &mut seat.parts, &mut seat.held, deed),
+                .operate(call, &mut seat.parts, &mut seat.held, deed),
         )
     }
 
-    /// The drain of a seat's CPU. The gate is told that it is operation `n` of the CPU's program.
+    /// The drain of a seat's CPU.
     pub(crate) fn drain_by<R: Wait, G: Gate>(
         &self,
-        rt: &R,
-        gate: &G,
-        n: usize,
+        call: &Call<'_, R, G>,
         seat: &mut Seat<N>,
     ) -> Result<Drained, SeatFull>
         ensures cases { MatchResult result
@@ -262,9 +258,6 @@ impl<N: Names> Fleet<N> {
         if seat.room() < self.queues.cpus() {
             return Err(SeatFull);
         }
-        Ok(
-            self.queues
-                .drain(rt, gate, n, &mut seat.parts, &mut seat.held),
-        )
+        Ok(self.queues.drain(call, &mut seat.parts, &mut seat.held))
     }
 }

@@ -15,6 +15,7 @@
 
 mod agreement;
 mod board;
+mod call;
 mod closing;
 mod commit;
 mod drains;
@@ -30,12 +31,12 @@ mod locked_deeds;
 mod locks;
 mod names;
 mod opening;
+mod operated;
 mod operations;
 mod post_agreement;
 mod posted;
 mod program_needs;
 mod program_threads;
-mod queue_work;
 mod reserve;
 mod rings;
 mod run_fault;
@@ -50,6 +51,7 @@ mod seat_work;
 mod seen;
 mod slot;
 mod texts;
+mod try_operate;
 mod turn_threads;
 mod wake_list;
 
@@ -59,6 +61,7 @@ pub use gate::{Gate, OpenGate};
 pub use kit::Kit;
 pub use listed_drains::ListedDrain;
 pub use names::Names;
+pub use operated::{Operated, Refused};
 pub use program_threads::run_all;
 pub use rings::RingFull;
 pub use run_fault::RunFault;

@@ -7,8 +7,7 @@ ghost use Rattle.eevdf_fleet.specs.{Board.IsToken, Board.claims_of, Board.held, 
 ghost use Rattle.eevdf_fleet.specs.PostClaims.{IsAsked};
 ghost use Rattle.eevdf_fleet.specs.Claims.{OwesQueues, advanced};
 ghost use Rattle.eevdf_fleet.specs.Fleets.{HasWritten, IsRoomFor, setup_of};
-ghost use Rattle.eevdf_fleet.specs.TouchedQueues.{AreDoneFrom, IsDoneFrom, IsOfOneQueue};
-ghost use Rattle.eevdf_fleet.specs.TouchedQueues.{IsOfTwoQueues};
+ghost use Rattle.eevdf_fleet.specs.TouchedQueues.{AreDoneFrom, IsDoneFrom, IsNoWake};
 
 use crate::board::{Change, Said, Token};
 use crate::commit::{commit, commit_in_journal};
@@ -34,11 +33,11 @@ impl<N: Names> RunQueues<N> {
         line: &Line,
     ) -> Token
         requires token { IsToken N.kit.board N.kit.terms token }
-        requires one { IsOfOneQueue (homes_of (setup_of N.kit)) line.now.deed }
         requires own { decider line.now.deed ≡ log.old.cpu }
         requires allowed { allows (setup_of N.kit) line.now.deed ≡ true }
         requires room { IsRoomFor N.kit.terms.quota 1 log.old.room }
-        requires done { IsDoneFrom (claims_of token) log.old.cpu queue.now.state line.now }
+        requires done { IsDoneFrom (homes_of (setup_of N.kit)) (claims_of token)
+            log.old.cpu queue.now.state line.now }
         requires asked { IsAsked log.old.lines (posts_of token) line.now.deed }
         ensures token { IsToken N.kit.board N.kit.terms result }
         ensures claims { claims_of result ≡ claim.Queue log.old.cpu queue.now.state ∷ [] }
@@ -56,26 +55,24 @@ impl<N: Names> RunQueues<N> {
         leave: &mut JournalLeave<'_>,
         log: &mut SeatLog<N>,
         token: Token,
-        queue: &Queue,
-        other: CpuId,
-        other_queue: &Queue,
-        line: &Line,
+        said: Said,
     ) -> (Token, Token)
         requires token { IsToken N.kit.board N.kit.terms token }
-        requires two { IsOfTwoQueues (homes_of (setup_of N.kit)) other line.now.deed }
-        requires own { decider line.now.deed ≡ log.old.cpu }
-        requires apart { other ≢ log.old.cpu }
-        requires allowed { allows (setup_of N.kit) line.now.deed ≡ true }
+        requires own { decider said.line.deed ≡ log.old.cpu }
+        requires own_queue { said.first.cpu ≡ log.old.cpu }
+        requires apart { said.second.cpu ≢ log.old.cpu }
+        requires allowed { allows (setup_of N.kit) said.line.deed ≡ true }
+        requires no_wake { IsNoWake said.line.deed }
         requires room { IsRoomFor N.kit.terms.quota 1 log.old.room }
-        requires done { AreDoneFrom (claims_of token) log.old.cpu queue.now.state
-            other other_queue.now.state line.now }
+        requires done { AreDoneFrom (homes_of (setup_of N.kit)) (claims_of token) said }
         ensures first { IsToken N.kit.board N.kit.terms result.0 }
         ensures second { IsToken N.kit.board N.kit.terms result.1 }
-        ensures first_claim { claims_of result.0 ≡ claim.Queue log.old.cpu queue.now.state ∷ [] }
-        ensures second_claim { claims_of result.1 ≡ claim.Queue other other_queue.now.state ∷ [] }
-        ensures log { HasWritten log.old log.new line.now }
+        ensures first_claim { claims_of result.0
+            ≡ claim.Queue said.first.cpu said.first.queue.value.state ∷ [] }
+        ensures second_claim { claims_of result.1
+            ≡ claim.Queue said.second.cpu said.second.queue.value.state ∷ [] }
+        ensures log { HasWritten log.old log.new said.line }
     {
-        let said = said_both(line, change(log.cpu(), queue), change(other, other_queue));
         let token = self.commit_line(rt, leave, log, token, said);
         self.board.split(token)
     }
@@ -125,7 +122,7 @@ fn said(line: &Line, cpu: CpuId, queue: &Queue) -> Said
 
 /// The queue of a CPU as it is now.
 #[inline(always)]
-fn change(cpu: CpuId, queue: &Queue) -> Change
+pub(crate) fn change(cpu: CpuId, queue: &Queue) -> Change
     ensures cpu { result.cpu ≡ cpu }
     ensures queue { result.queue.value ≡ queue.now }
 {
@@ -136,7 +133,7 @@ fn change(cpu: CpuId, queue: &Queue) -> Change
 }
 
 /// A line, and the two queues that it has changed.
-fn said_both(line: &Line, first: Change, second: Change) -> Said
+pub(crate) fn said_both(line: &Line, first: Change, second: Change) -> Said
     ensures { result ≡ record { line = line.now; first = first; second = second } }
 {
     Said {

@@ -1,109 +1,105 @@
 //! How a deed is done on the queues whose locks are held, and its line committed before they are given back.
 
 ghost use Rattle.std.specs.Prelude.{◌≡◌, ◌≢◌, ◌<◌, [], true};
-ghost use Rattle.eevdf_ops.specs.Parts.{decider};
+ghost use Rattle.eevdf_ops.specs.{Acts.deed_across, Acts.deed_at};
 ghost use Rattle.eevdf_ops.specs.Setup.{allows, cpus_of, homes_of};
 ghost use Rattle.eevdf_fleet.specs.Fleets.{HasCommitted, HasWritten, IsRoomFor, setup_of};
 ghost use Rattle.eevdf_fleet.specs.{Board.IsToken, Board.claims_of, Board.posts_of, PostClaims.IsAsked};
-ghost use Rattle.eevdf_fleet.specs.TouchedQueues.{IsNoWake, IsOfOneQueue, IsOfTwoQueues};
+ghost use Rattle.eevdf_fleet.specs.TouchedQueues.{IsAcross, IsLocal, IsNoWake};
 
 use crate::board::Token;
+use crate::call::Call;
 use crate::gate::Gate;
+use crate::line_commits::{change, said_both};
 use crate::locks::{HeldLocks, JournalLeave};
 use crate::names::Names;
-use crate::queue_work::{act, act_across};
 use crate::run_queues::RunQueues;
 use crate::seat_log::SeatLog;
 use crate::seat_parts::SeatParts;
 use crate::slot::Slot;
 use atomic_table::Badge;
-use eevdf_ops::{Answer, CpuId, Deed, Line};
+use eevdf_ops::{Answer, CpuId, Line, LocalAct, Transfer};
 use std::mem;
 use std::sync::Wait;
 
 impl<N: Names> RunQueues<N> {
-    /// Does a deed of the seat's CPU that touches its queue alone, and isn't a wake.
+    /// Does an act of the seat's CPU that touches its queue alone, and isn't a wake.
     #[inline(always)]
     pub(crate) fn own<R: Wait, G: Gate>(
         &self,
-        rt: &R,
-        gate: &G,
-        n: usize,
+        call: &Call<'_, R, G>,
         seat: &mut SeatParts<N>,
         held: &mut HeldLocks,
-        deed: Deed,
+        act: LocalAct,
     ) -> Answer
-        requires one { IsOfOneQueue (homes_of (setup_of N.kit)) deed }
-        requires no_wake { IsNoWake deed }
-        requires own { decider deed ≡ seat.old.seat.cpu }
-        requires allowed { allows (setup_of N.kit) deed ≡ true }
+        requires local { IsLocal (homes_of (setup_of N.kit)) seat.old.seat.cpu act }
+        requires no_wake { IsNoWake (deed_at seat.old.seat.cpu act) }
+        requires allowed { seat.old.seat.cpu < cpus_of (setup_of N.kit)
+            → allows (setup_of N.kit) (deed_at seat.old.seat.cpu act) ≡ true }
         requires room { IsRoomFor N.kit.terms.quota 1 seat.old.seat.room }
-        ensures { HasCommitted seat.old seat.new (record { deed = deed; answer = result }) }
+        ensures { HasCommitted seat.old seat.new
+            (record { deed = deed_at seat.old.seat.cpu act; answer = result }) }
     {
-        let (mut guard, mut leave) = self.hold(rt, held, seat.cpu());
-        gate.inside(seat.cpu(), n);
-        self.done_on_one(rt, gate, n, &mut seat.log, &mut guard, &mut leave, deed)
+        let (mut guard, mut leave) = self.hold(call.rt, held, seat.cpu());
+        call.gate.inside(seat.cpu(), call.number);
+        self.done_on_one(call, &mut seat.log, &mut guard, &mut leave, act)
     }
 
-    /// Does a deed of the seat's CPU that touches its queue and that of another CPU.
+    /// Does an act of the seat's CPU that touches its queue and that of another CPU.
     pub(crate) fn across<R: Wait, G: Gate>(
         &self,
-        rt: &R,
-        gate: &G,
-        n: usize,
+        call: &Call<'_, R, G>,
         seat: &mut SeatParts<N>,
         held: &mut HeldLocks,
         other: CpuId,
-        deed: Deed,
+        transfer: Transfer,
     ) -> Answer
-        requires two { IsOfTwoQueues (homes_of (setup_of N.kit)) other deed }
-        requires own { decider deed ≡ seat.old.seat.cpu }
+        requires across { IsAcross (homes_of (setup_of N.kit)) seat.old.seat.cpu other transfer }
         requires apart { other ≢ seat.old.seat.cpu }
         requires there { other < cpus_of (setup_of N.kit) }
-        requires allowed { allows (setup_of N.kit) deed ≡ true }
+        requires allowed { allows (setup_of N.kit)
+            (deed_across seat.old.seat.cpu other transfer) ≡ true }
         requires room { IsRoomFor N.kit.terms.quota 1 seat.old.seat.room }
-        ensures { HasCommitted seat.old seat.new (record { deed = deed; answer = result }) }
+        ensures { HasCommitted seat.old seat.new
+            (record { deed = deed_across seat.old.seat.cpu other transfer; answer = result }) }
     {
-        let (mut guard, mut other_guard, mut leave) = self.hold_both(rt, held, seat.cpu(), other);
-        gate.inside(seat.cpu(), n);
+        let (mut guard, mut away, mut leave) = self.hold_both(call.rt, held, seat.cpu(), other);
+        call.gate.inside(seat.cpu(), call.number);
         self.done_on_two(
-            rt,
-            gate,
-            n,
+            call,
             &mut seat.log,
             &mut guard,
-            &mut other_guard,
+            &mut away,
             &mut leave,
-            deed,
+            transfer,
         )
     }
 
-    /// Does a deed on the one queue that it touches, whose lock is held, and commits its line.
+    /// Does an act on the one queue that it touches, whose lock is held, and commits its line.
     #[inline(always)]
     pub(crate) fn done_on_one<R: Wait, G: Gate>(
         &self,
-        rt: &R,
-        gate: &G,
-        n: usize,
+        call: &Call<'_, R, G>,
         log: &mut SeatLog<N>,
         slot: &mut Slot<N>,
         leave: &mut JournalLeave<'_>,
-        deed: Deed,
+        act: LocalAct,
     ) -> Answer
         requires number { slot.old.number ≡ log.old.cpu }
-        requires one { IsOfOneQueue (homes_of (setup_of N.kit)) deed }
-        requires no_wake { IsNoWake deed }
-        requires own { decider deed ≡ log.old.cpu }
-        requires allowed { allows (setup_of N.kit) deed ≡ true }
+        requires local { IsLocal (homes_of (setup_of N.kit)) log.old.cpu act }
+        requires no_wake { IsNoWake (deed_at log.old.cpu act) }
+        requires allowed { allows (setup_of N.kit) (deed_at log.old.cpu act) ≡ true }
         requires room { IsRoomFor N.kit.terms.quota 1 log.old.room }
-        ensures log { HasWritten log.old log.new (record { deed = deed; answer = result }) }
+        ensures log { HasWritten log.old log.new
+            (record { deed = deed_at log.old.cpu act; answer = result }) }
         ensures number { slot.new.number ≡ slot.old.number }
     {
-        let answer = act(&mut slot.queue, &deed);
-        gate.acted(log.cpu(), n);
+        let deed = act.on(log.cpu());
+        let answer = act.apply(&mut slot.queue);
+        call.gate.acted(log.cpu(), call.number);
         let line = Line { deed, answer };
         let token = mem::replace(&mut slot.token, Badge::blank());
-        slot.token = self.commit_one(rt, leave, log, token, &slot.queue, &line);
+        slot.token = self.commit_one(call.rt, leave, log, token, &slot.queue, &line);
         line.answer
     }
 
@@ -115,22 +111,23 @@ impl<N: Names> RunQueues<N> {
         log: &mut SeatLog<N>,
         slot: &mut Slot<N>,
         leave: &mut JournalLeave<'_>,
-        wake: Deed,
+        wake: LocalAct,
         request: Token,
     ) -> Answer
         requires number { slot.old.number ≡ log.old.cpu }
-        requires one { IsOfOneQueue (homes_of (setup_of N.kit)) wake }
-        requires own { decider wake ≡ log.old.cpu }
-        requires allowed { allows (setup_of N.kit) wake ≡ true }
+        requires local { IsLocal (homes_of (setup_of N.kit)) log.old.cpu wake }
+        requires allowed { allows (setup_of N.kit) (deed_at log.old.cpu wake) ≡ true }
         requires room { IsRoomFor N.kit.terms.quota 1 log.old.room }
         requires request { IsToken N.kit.board N.kit.terms request }
         requires alone { claims_of request ≡ [] }
-        requires asked { IsAsked log.old.lines (posts_of request) wake }
-        ensures log { HasWritten log.old log.new (record { deed = wake; answer = result }) }
+        requires asked { IsAsked log.old.lines (posts_of request) (deed_at log.old.cpu wake) }
+        ensures log { HasWritten log.old log.new
+            (record { deed = deed_at log.old.cpu wake; answer = result }) }
         ensures number { slot.new.number ≡ slot.old.number }
     {
-        let answer = act(&mut slot.queue, &wake);
-        let line = Line { deed: wake, answer };
+        let deed = wake.on(log.cpu());
+        let answer = wake.apply(&mut slot.queue);
+        let line = Line { deed, answer };
         let own = mem::replace(&mut slot.token, Badge::blank());
         let token = self.board.join(own, request);
         let kept = self.commit_one(rt, leave, log, token, &slot.queue, &line);
@@ -138,44 +135,37 @@ impl<N: Names> RunQueues<N> {
         line.answer
     }
 
-    /// Does a deed on the two queues that it touches, whose locks are held, and commits its line. The first is that of
+    /// Does an act on the two queues that it touches, whose locks are held, and commits its line. The first is that of
     /// the log's CPU.
     fn done_on_two<R: Wait, G: Gate>(
         &self,
-        rt: &R,
-        gate: &G,
-        n: usize,
+        call: &Call<'_, R, G>,
         log: &mut SeatLog<N>,
         slot: &mut Slot<N>,
         away: &mut Slot<N>,
         leave: &mut JournalLeave<'_>,
-        deed: Deed,
+        transfer: Transfer,
     ) -> Answer
         requires number { slot.old.number ≡ log.old.cpu }
-        requires two { IsOfTwoQueues (homes_of (setup_of N.kit)) away.old.number deed }
-        requires own { decider deed ≡ log.old.cpu }
+        requires across { IsAcross (homes_of (setup_of N.kit)) log.old.cpu away.old.number transfer }
         requires apart { away.old.number ≢ log.old.cpu }
-        requires allowed { allows (setup_of N.kit) deed ≡ true }
+        requires allowed { allows (setup_of N.kit)
+            (deed_across log.old.cpu away.old.number transfer) ≡ true }
         requires room { IsRoomFor N.kit.terms.quota 1 log.old.room }
-        ensures log { HasWritten log.old log.new (record { deed = deed; answer = result }) }
+        ensures log { HasWritten log.old log.new
+            (record { deed = deed_across log.old.cpu away.old.number transfer; answer = result }) }
     {
         let own = mem::replace(&mut slot.token, Badge::blank());
         let others = mem::replace(&mut away.token, Badge::blank());
         let token = self.board.look(self.board.join(others, own));
         let (_past, token) = self.board.split(token);
-        let answer = act_across(&mut slot.queue, &mut away.queue, &deed);
-        gate.acted(log.cpu(), n);
+        let deed = transfer.on(log.cpu(), away.number);
+        let answer = transfer.apply(&mut slot.queue, &mut away.queue);
+        call.gate.acted(log.cpu(), call.number);
         let line = Line { deed, answer };
-        let (own, others) = self.commit_two(
-            rt,
-            leave,
-            log,
-            token,
-            &slot.queue,
-            away.number,
-            &away.queue,
-            &line,
-        );
+        let own_change = change(log.cpu(), &slot.queue);
+        let said = said_both(&line, own_change, change(away.number, &away.queue));
+        let (own, others) = self.commit_two(call.rt, leave, log, token, said);
         slot.token = own;
         away.token = others;
         line.answer

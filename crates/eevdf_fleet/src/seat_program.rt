@@ -7,6 +7,7 @@ ghost use Rattle.eevdf_fleet.specs.Fleets.{fresh, posted_to, setup_of};
 ghost use Rattle.eevdf_fleet.specs.ProgramRuns.{HasOperated, HasRun, quota_for, rings_for};
 ghost use Rattle.eevdf_fleet.specs.ProgramRuns.{room_for};
 
+use crate::call::Call;
 use crate::fleet::Fleet;
 use crate::gate::Gate;
 use crate::names::Names;
@@ -32,23 +33,21 @@ impl<N: Names> Fleet<N> {
         prove!(cpu.index() < setup.cpus());
         let program = setup.program(cpu);
         for n in 0..program.len() {
-            self.run_operation(rt, gate, n, &mut seat, program[n]);
+            let call = Call {
+                rt,
+                gate,
+                number: n,
+            };
+            self.run_operation(&call, &mut seat, program[n]);
             gate.answered(cpu, n);
         }
         seat
     }
 
     /// Does an operation of a program on its seat. There is room for it.
-    fn run_operation<R: Wait, G: Gate>(
-        &self,
-        rt: &R,
-        gate: &G,
-        n: usize,
-        seat: &mut Seat<N>,
-        op: Op,
-    )
-        requires sound { operation_fault (length (homes_of (setup_of N.kit)))
-            (cpus_of (setup_of N.kit)) seat.old.cpu n op ≡ None }
+    fn run_operation<R: Wait, G: Gate>(&self, call: &Call<'_, R, G>, seat: &mut Seat<N>, op: Op)
+        requires sound { (n : ℕ) × (operation_fault (length (homes_of (setup_of N.kit)))
+            (cpus_of (setup_of N.kit)) seat.old.cpu n op ≡ None) }
         requires room { room_for (cpus_of (setup_of N.kit)) op ≤ seat.old.room }
         requires ring { (home : ℕ) → home < cpus_of (setup_of N.kit)
             → post_of (homes_of (setup_of N.kit)) home op ≢ []
@@ -59,11 +58,11 @@ impl<N: Names> Fleet<N> {
         match op {
             Op::Post(task) => seat.parts.post(task).unwrap(),
             Op::Drain => {
-                self.drain_by(rt, gate, n, seat).unwrap();
+                self.drain_by(call, seat).unwrap();
             }
             _ => {
                 if let Some(deed) = op.on(cpu) {
-                    self.operate(rt, gate, n, seat, deed).unwrap();
+                    self.operate(call, seat, deed).unwrap();
                 }
             }
         }

@@ -2,10 +2,11 @@
 
 ghost use Rattle.std.specs.Prelude.{Some};
 ghost use Rattle.eevdf_fleet.specs.Texts.{drained_text, ring_full_text, run_fault_text};
-ghost use Rattle.eevdf_fleet.specs.Texts.{seat_full_text};
+ghost use Rattle.eevdf_fleet.specs.Texts.{operated_text, refused_text, seat_full_text};
 
 use crate::drains::Drained;
 use crate::fleet::SeatFull;
+use crate::operated::{Operated, Refused};
 use crate::rings::RingFull;
 use crate::run_fault::RunFault;
 use std::error::Error;
@@ -40,6 +41,36 @@ impl fmt::Display for Drained {
         write!(f, "{} taken, {} woken", self.taken, self.woken)
     }
 }
+
+/// The answer, `posted`, or the counts of the drain.
+impl fmt::Display for Operated {
+    ghost output = { λ operated. Some (operated_text operated) };
+
+    fn fmt<W: fmt::Write>(&self, f: &mut fmt::Formatter<W>) -> fmt::Result {
+        match self {
+            Operated::Answer(answer) => write!(f, "{answer}"),
+            Operated::Posted => f.write_str("posted"),
+            Operated::Drained(drained) => write!(f, "{drained}"),
+        }
+    }
+}
+
+/// Why an operation was refused, with the number that it named, as `no task 3`.
+impl fmt::Display for Refused {
+    ghost output = { λ refused. Some (refused_text refused) };
+
+    fn fmt<W: fmt::Write>(&self, f: &mut fmt::Formatter<W>) -> fmt::Result {
+        match self {
+            Refused::NoTask(task) => write!(f, "no task {task}"),
+            Refused::NoCpu(cpu) => write!(f, "no cpu {cpu}"),
+            Refused::OwnCpu => f.write_str("own cpu"),
+            Refused::SeatFull => f.write_str("seat full"),
+            Refused::RingFull(full) => write!(f, "{full}"),
+        }
+    }
+}
+
+impl Error for Refused {}
 
 /// What was refused: `memory` or `thread`.
 impl fmt::Display for RunFault {

@@ -1,14 +1,14 @@
 -- What a task carries that leaves a queue.
-use Rattle.std.proofs.Common.{◌≡◌, ℕ, ◌<◌, ◌≤◌, Bool, true, false, cond, List, [], ◌∷◌, length, set, refl, sym, ap, subst, ◌∙◌, arith}
+use Rattle.std.proofs.Common.{◌≡◌, ℕ, ◌≤◌, Bool, true, false, cond, List, [], ◌∷◌, refl, sym, ap, subst, ◌∙◌, arith}
 use Rattle.std.specs.Prelude.{◌==◌, Option, Some, None}
 use Rattle.std.specs.{Option.option_map, Option.option_and_then, FinMap.get, FinMap.entries}
-use Rattle.std.proofs.{lemmas.Bool.Decides.nat_tests, Math.ListN.length-set}
+use Rattle.std.proofs.{lemmas.Bool.Decides.nat_tests}
 use Rattle.eevdf_queue.specs.{declared.entry.Entry.Entry, State.State, State.Contents, Lag.kept_lag, Order.is_before}
 use Rattle.eevdf_queue.specs.Leaving.{leaving, carried, carried_running, leave, leave_running, without_entry}
 use Rattle.eevdf_queue.specs.Candidate.{is_running, candidate_of, latest_waiting, later}
-use Rattle.eevdf_ops.specs.{Machine.Machine, Machine.queue_at, WholeSleep.task_leaves, WholePull.offer}
-use Rattle.eevdf_ops.specs.Places.{count, places_in, places}
-use Rattle.eevdf_ops.proofs.{QueuePlaces.IsWithout, QueuePlaces.leave-without, MachinePlaces.places-set, MachinePlaces.places-at}
+use Rattle.eevdf_ops.specs.{WholePull.offer}
+use Rattle.eevdf_ops.specs.Places.{count, places_in}
+use Rattle.eevdf_ops.proofs.{QueuePlaces.IsWithout, QueuePlaces.leave-without}
 
 -- what a task carries that is runnable in a queue
 pub record Carries (q : State) (task : ℕ) (p : Contents) : Type 0 where
@@ -44,6 +44,17 @@ offer-carries q p e = offered_by q (candidate_of q.runnable q.running) p e
 
 pub leaves-without : (q : State) (t : ℕ) (p : Contents) → Carries q t p → IsWithout q p.task (leave q p.task)
 leaves-without q t p c = subst (λ (o : Option Entry). IsWithout q p.task (without_entry q p.task o)) (sym c.here) (leave-without q p.task c.entry c.here)
+
+same_number : (t : ℕ) → count (t == t) ≡ 1
+same_number t = let same : (t == t) ≡ true = grind (arith, nat_tests) in ap count same
+
+-- it stands in the queue
+pub carried-stands : (q : State) (t : ℕ) (p : Contents) → Carries q t p → 1 ≤ places_in q p.task
+carried-stands q t p c = omega (arith, (leaves-without q t p c).places p.task, same_number p.task)
+
+-- and where it stands in one place at most, then it stands nowhere when it has left
+pub left-nowhere : (q : State) (t : ℕ) (p : Contents) → Carries q t p → places_in q p.task ≤ 1 → places_in (leave q p.task) p.task ≡ 0
+left-nowhere q t p c few = omega (arith, (leaves-without q t p c).places p.task, same_number p.task)
 
 -- where it runs, it leaves
 stopped_by : (q : State) (t : ℕ) (b : Bool) (p : Contents) → cond b (carried q t) None ≡ Some p → cond b (leave q t) q ≡ leave q t
@@ -91,23 +102,3 @@ pub offer-waits : (q : State) (p : Contents) → offer q ≡ Some p → is_runni
 offer-waits q p e =
     numbered_waits q.running (latest_waiting q.running (entries q.runnable)) p.task
     (λ b f. latest-waits q.running (entries q.runnable) b f) (offer-candidate q p e)
-
-same_number : (t : ℕ) → count (t == t) ≡ 1
-same_number t = let same : (t == t) ≡ true = grind (arith, nat_tests) in ap count same
-
--- a task that stands in one place at most, and leaves it, stands nowhere
-pub left-nowhere : (m : Machine) (cpu t k : ℕ) (p : Contents) → cpu < length m → k < length (task_leaves m cpu p.task) → Carries (queue_at m cpu) t p → places m p.task ≤ 1
-    → places_in (queue_at (task_leaves m cpu p.task) k) p.task ≡ 0
-left-nowhere m cpu t k p h g c few =
-    let q : State = leave (queue_at m cpu) p.task in
-    omega (arith, places-set m cpu p.task q h, (leaves-without (queue_at m cpu) t p c).places p.task, same_number p.task, places-at (task_leaves m cpu p.task) k p.task g)
-
--- so does one that leaves because it falls asleep
-pub slept-nowhere : (m left : Machine) (cpu task k : ℕ) (p : Contents) → cpu < length m → k < length m → carried_running (queue_at m cpu) task ≡ Some p → places m task ≤ 1
-    → left ≡ set m cpu (leave_running (queue_at m cpu) task) → places_in (queue_at left k) p.task ≡ 0
-slept-nowhere m left cpu task k p h g e few is =
-    let c : Carries (queue_at m cpu) task p = running-carries (queue_at m cpu) task p e in
-    let at : left ≡ task_leaves m cpu p.task = is ∙ ap (set m cpu) (running-leaves (queue_at m cpu) task p e) in
-    let one : places m p.task ≤ 1 = subst (λ (t : ℕ). places m t ≤ 1) (sym c.of_task) few in
-    ap (λ (n : Machine). places_in (queue_at n k) p.task) at
-    ∙ left-nowhere m cpu task k p h (omega (arith, length-set m cpu (leave (queue_at m cpu) p.task))) c one

@@ -1,13 +1,19 @@
 -- What is known of the CPUs that an allowed deed names.
-use Rattle.std.proofs.Common.{◌≡◌, ◌≢◌, ℕ, ◌<◌, true, not, List, length, arith}
+use Rattle.std.proofs.Common.{◌≡◌, ◌≢◌, ℕ, ◌<◌, Bool, true, false, cond, not, List, length, refl, sym, subst, ◌∙◌, arith}
 use Rattle.std.specs.Prelude.{◌==◌, nat_lt}
 use Rattle.std.proofs.{lemmas.Bool.and_parts, lemmas.Bool.Decides.nat_tests}
-use Rattle.eevdf_ops.specs.{declared.deeds.Deed.Deed, Setup.is_task, Setup.is_allowed, Machine.Machine, Places.AreCpus}
+use Rattle.eevdf_ops.specs.{Acts.act_of, declared.acts.Transfer.Transfer, declared.deeds.Deed.Deed, Setup.home_of, Setup.is_task, Setup.is_allowed, Places.AreCpus}
+use Rattle.eevdf_ops.specs.declared.acts.Act.TheVariants as act
+use Rattle.eevdf_ops.specs.declared.acts.LocalAct.TheVariants as local
+use Rattle.eevdf_ops.specs.declared.acts.Transfer.TheVariants as transfer
 use Rattle.eevdf_ops.specs.declared.deeds.Deed.TheVariants.{Tick, Pick, Yield, Sleep, Wake, Pull, Renice}
-use Rattle.eevdf_ops.specs.Parts.{decider, giver, taker}
+use Rattle.eevdf_ops.specs.Parts.{decider}
 
 below : (a b : ℕ) → nat_lt a b ≡ true → a < b
 below a b h = grind (arith, nat_tests)
+
+pub unequal : (k c : ℕ) → (k == c) ≡ false → k ≢ c
+unequal k c e = grind (arith, nat_tests)
 
 differs : (a b : ℕ) → not (b == a) ≡ true → a ≢ b
 differs a b h = grind (arith, nat_tests)
@@ -25,6 +31,12 @@ pull_names cpus homes cpu source ok = record {
   apart = differs cpu source (and_parts (nat_lt source cpus) _ (and_parts (nat_lt cpu cpus) _ ok).1).1;
 }
 
+slept_names : (cpus cpu task home other : ℕ) (t : Transfer) (b : Bool) → (home == cpu) ≡ b → cpu < cpus → home < cpus → cond b (act.Local (local.Sleep task)) (act.Transfer home (transfer.Sleep task)) ≡ act.Transfer other t → PullNames cpus cpu other
+slept_names cpus cpu task home other t true e h i is = cc
+slept_names cpus cpu task home other t false e h i is =
+    let to : home ≡ other = cc in
+    record { puller = h; from = omega (arith, to, i); apart = λ same. unequal home cpu e (to ∙ sym same) }
+
 pub decider_below : (cpus : ℕ) (homes : List ℕ) (deed : Deed) → is_allowed cpus homes deed ≡ true → decider deed < cpus
 decider_below cpus homes (Tick cpu ns) ok = below cpu cpus ok
 decider_below cpus homes (Pick cpu) ok = below cpu cpus ok
@@ -34,29 +46,18 @@ decider_below cpus homes (Wake cpu task sender) ok = below cpu cpus (and_parts _
 decider_below cpus homes (Pull cpu source) ok = below cpu cpus (and_parts _ _ ok).0
 decider_below cpus homes (Renice cpu task nice) ok = below cpu cpus (and_parts _ (is_task homes task) ok).0
 
-pub sleeper_below : (cpus : ℕ) (homes : List ℕ) (cpu task : ℕ) → is_allowed cpus homes (Sleep cpu task) ≡ true → task < length homes
-sleeper_below cpus homes cpu task ok = below task (length homes) (and_parts (nat_lt cpu cpus) _ ok).1
+pub home_below : (cpus : ℕ) (homes : List ℕ) (cpu task : ℕ) → is_allowed cpus homes (Sleep cpu task) ≡ true → AreCpus cpus homes → home_of homes task < cpus
+home_below cpus homes cpu task ok homed = homed task (below task (length homes) (and_parts (nat_lt cpu cpus) _ ok).1)
 
--- the CPUs whose queues are touched are CPUs of the machine
-pub record DeedNames (homes : List ℕ) (deed : Deed) (m : Machine) : Type 0 where
-  pub of_decider : decider deed < length m
-  pub of_giver : giver deed < length m
-  pub of_taker : taker homes deed < length m
-
-pub deed_names : (homes : List ℕ) (deed : Deed) (m : Machine) → is_allowed (length m) homes deed ≡ true → AreCpus (length m) homes → DeedNames homes deed m
-deed_names homes (Tick cpu ns) m ok cpus =
-    let h : cpu < length m = decider_below (length m) homes (Tick cpu ns) ok in record { of_decider = h; of_giver = h; of_taker = h }
-deed_names homes (Pick cpu) m ok cpus =
-    let h : cpu < length m = decider_below (length m) homes (Pick cpu) ok in record { of_decider = h; of_giver = h; of_taker = h }
-deed_names homes (Yield cpu) m ok cpus =
-    let h : cpu < length m = decider_below (length m) homes (Yield cpu) ok in record { of_decider = h; of_giver = h; of_taker = h }
-deed_names homes (Sleep cpu task) m ok cpus =
-    let h : cpu < length m = decider_below (length m) homes (Sleep cpu task) ok in
-    record { of_decider = h; of_giver = h; of_taker = cpus task (sleeper_below (length m) homes cpu task ok) }
-deed_names homes (Wake cpu task sender) m ok cpus =
-    let h : cpu < length m = decider_below (length m) homes (Wake cpu task sender) ok in record { of_decider = h; of_giver = h; of_taker = h }
-deed_names homes (Renice cpu task nice) m ok cpus =
-    let h : cpu < length m = decider_below (length m) homes (Renice cpu task nice) ok in record { of_decider = h; of_giver = h; of_taker = h }
-deed_names homes (Pull cpu source) m ok cpus =
-    let named : PullNames (length m) cpu source = pull_names (length m) homes cpu source ok in
-    record { of_decider = named.puller; of_giver = named.from; of_taker = named.puller }
+-- so it is known of any act on two queues
+pub transfer_names : (cpus : ℕ) (homes : List ℕ) (deed : Deed) (other : ℕ) (t : Transfer) → is_allowed cpus homes deed ≡ true → AreCpus cpus homes → act_of homes deed ≡ act.Transfer other t → PullNames cpus (decider deed) other
+transfer_names cpus homes (Tick cpu ns) other t ok homed is = cc
+transfer_names cpus homes (Pick cpu) other t ok homed is = cc
+transfer_names cpus homes (Yield cpu) other t ok homed is = cc
+transfer_names cpus homes (Sleep cpu task) other t ok homed is =
+    slept_names cpus cpu task (home_of homes task) other t (home_of homes task == cpu) refl (decider_below cpus homes (Sleep cpu task) ok) (home_below cpus homes cpu task ok homed) is
+transfer_names cpus homes (Wake cpu task sender) other t ok homed is = cc
+transfer_names cpus homes (Renice cpu task nice) other t ok homed is = cc
+transfer_names cpus homes (Pull cpu source) other t ok homed is =
+    let to : source ≡ other = cc in
+    subst (λ (n : ℕ). PullNames cpus cpu n) to (pull_names cpus homes cpu source ok)

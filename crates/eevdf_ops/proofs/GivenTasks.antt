@@ -3,17 +3,16 @@ use Rattle.std.proofs.Common.{◌≡◌, ℕ, zero, suc, ◌+◌, zero-add, Bool
 use Rattle.std.specs.Prelude.{◌==◌, ℤ, slice_get, Option, Some, None, Result, Ok, Err}
 use Rattle.std.proofs.{lemmas.Bool.false≢true, lemmas.Bool.Decides.nat_tests}
 use Rattle.eevdf_queue.specs.State.{State, Contents, empty_state}
-use Rattle.eevdf_queue.specs.{Moves.put_asleep, Tick.tick, Pick.after_pick, Yield.yield_now, Wake.wake, Renice.renice}
+use Rattle.eevdf_queue.specs.{Tick.tick, Pick.after_pick, Yield.yield_now, Wake.wake, Renice.renice}
 use Rattle.eevdf_queue.specs.{Leaving.carried_running, Leaving.leave}
 use Rattle.eevdf_ops.specs.{declared.task_spec.TaskSpec.TaskSpec, declared.deeds.Answer.Answer, declared.deeds.Deed.Deed}
-use Rattle.eevdf_ops.specs.{Whole.whole, Whole.machine_after}
+use Rattle.eevdf_ops.specs.{LocalActs.slept_here, Transfers.slept_away, Transfers.pulled, Whole.whole, Whole.machine_after}
 use Rattle.eevdf_ops.specs.declared.deeds.Deed.TheVariants.{Tick, Pick, Yield, Sleep, Wake, Pull, Renice}
 use Rattle.eevdf_ops.specs.Setup.{home_of, homes_of, cpus_of}
 use Rattle.eevdf_ops.specs.Machine.{Machine, queue_at, begin, beginner, begin_at_homes, start}
-use Rattle.eevdf_ops.specs.WholeSleep.{task_leaves, sleep_carrying}
-use Rattle.eevdf_ops.specs.WholePull.{offer, load_of, decision, with_task, pull_decided}
+use Rattle.eevdf_ops.specs.WholePull.{offer, load_of, decision}
 use Rattle.eevdf_ops.specs.Given.{renices, is_reniced, IsAsGiven, TasksStayAsGiven}
-use Rattle.eevdf_ops.proofs.{MachinePlaces.each-set, Pulling.decision-taken}
+use Rattle.eevdf_ops.proofs.{MachinePlaces.each-set, Pulling.decision-taken, WholeActs.sleep_by_home}
 use Rattle.eevdf_ops.proofs.QueueValues.{
   Each,
   asleep-each,
@@ -52,38 +51,38 @@ module _ (P : ℕ → ℤ → ℕ → Type 0) where
   set-each : (m : Machine) (c : ℕ) (q : State) → Each P q → Everywhere m → Everywhere (set m c q)
   set-each m c q each all = each-set (λ k r. Each P r) m c q each all
 
-  leaves-each : (m : Machine) (cpu t : ℕ) → Everywhere m → Everywhere (task_leaves m cpu t)
-  leaves-each m cpu t all = set-each m cpu (leave (queue_at m cpu) t) (leave-each P (queue_at m cpu) t (all cpu)) all
+  -- two queues are written
+  two-each : (m : Machine) (c d : ℕ) (two : State × State) → Each P two.0 × Each P two.1 → Everywhere m → Everywhere (set (set m c two.0) d two.1)
+  two-each m c d two each all = set-each (set m c two.0) d two.1 each.1 (set-each m c two.0 each.0 all)
 
-  sleep_carrying-each : (m : Machine) (cpu home : ℕ) (o : Option Contents) → Everywhere m → ((p : Contents) → o ≡ Some p → P p.task p.nice p.slice)
-      → Everywhere (sleep_carrying m cpu home o).1
-  sleep_carrying-each m cpu home None all given = all
-  sleep_carrying-each m cpu home (Some p) all given =
-      let left : Everywhere (task_leaves m cpu p.task) = leaves-each m cpu p.task all in
-      let q : State = queue_at (task_leaves m cpu p.task) home in
-      set-each (task_leaves m cpu p.task) home (put_asleep q p) (asleep-each P q p (left home) (given p refl)) left
+  here-each : (q : State) (o : Option Contents) → Each P q → ((p : Contents) → o ≡ Some p → P p.task p.nice p.slice) → Each P (slept_here o q).1
+  here-each q None each given = each
+  here-each q (Some p) each given = asleep-each P (leave q p.task) p (leave-each P q p.task each) (given p refl)
 
-  pull_decided-each : (m : Machine) (cpu source : ℕ) (d : Result Contents Answer) → Everywhere m → ((p : Contents) → d ≡ Ok p → P p.task p.nice p.slice)
-      → Everywhere (pull_decided m cpu source d).1
-  pull_decided-each m cpu source (Err refusal) all given = all
-  pull_decided-each m cpu source (Ok p) all given =
-      let left : Everywhere (task_leaves m source p.task) = leaves-each m source p.task all in
-      let q : State = queue_at (task_leaves m source p.task) cpu in
-      set-each (task_leaves m source p.task) cpu (with_task q p) (with_task-each P q p (left cpu) (given p refl)) left
+  away-each : (q r : State) (o : Option Contents) → Each P q → Each P r → ((p : Contents) → o ≡ Some p → P p.task p.nice p.slice) → Each P (slept_away o q r).1.0 × Each P (slept_away o q r).1.1
+  away-each q r None one two given = (one, two)
+  away-each q r (Some p) one two given = (leave-each P q p.task one, asleep-each P r p two (given p refl))
+
+  pulled-each : (q r : State) (d : Result Contents Answer) → Each P q → Each P r → ((p : Contents) → d ≡ Ok p → P p.task p.nice p.slice) → Each P (pulled d q r).1.0 × Each P (pulled d q r).1.1
+  pulled-each q r (Err refusal) one two given = (one, two)
+  pulled-each q r (Ok p) one two given = (with_task-each P q p one (given p refl), leave-each P r p.task two)
 
   whole-each : (homes : List ℕ) (deed : Deed) (m : Machine) → MayRenice (renices deed) → Everywhere m → Everywhere (whole homes deed m).1
   whole-each homes (Tick cpu ns) m may all = set-each m cpu (tick (queue_at m cpu) ns).1 (tick-each P (queue_at m cpu) ns (all cpu)) all
   whole-each homes (Pick cpu) m may all = set-each m cpu (after_pick (queue_at m cpu)) (pick-each P (queue_at m cpu) (all cpu)) all
   whole-each homes (Yield cpu) m may all = set-each m cpu (yield_now (queue_at m cpu)).1 (yield-each P (queue_at m cpu) (all cpu)) all
   whole-each homes (Sleep cpu task) m may all =
-      sleep_carrying-each m cpu (home_of homes task) (carried_running (queue_at m cpu) task) all (λ p e. running-given P (queue_at m cpu) task p (all cpu) e)
+      let o : Option Contents = carried_running (queue_at m cpu) task in
+      let given : (p : Contents) → o ≡ Some p → P p.task p.nice p.slice = λ p e. running-given P (queue_at m cpu) task p (all cpu) e in
+      sleep_by_home (λ (r : Answer × Machine). Everywhere r.1) homes cpu task m (λ e. set-each m cpu _ (here-each (queue_at m cpu) o (all cpu) given) all)
+      (λ e. two-each m cpu (home_of homes task) _ (away-each (queue_at m cpu) (queue_at m (home_of homes task)) o (all cpu) (all (home_of homes task)) given) all)
   whole-each homes (Wake cpu task sender) m may all = set-each m cpu (wake (queue_at m cpu) task).1 (wake-each P (queue_at m cpu) task (all cpu)) all
   whole-each homes (Renice cpu task nice) m may all =
       set-each m cpu (renice (queue_at m cpu) task nice).1
       (renice-each P (queue_at m cpu) task nice (λ older slice p. may task older nice slice (itself task) p) (all cpu)) all
   whole-each homes (Pull cpu source) m may all =
-      pull_decided-each m cpu source (decision (queue_at m cpu) (load_of (queue_at m source)) (offer (queue_at m source))) all
-      (λ p e. offer-given P (queue_at m source) p (all source) (decision-taken (queue_at m cpu) (load_of (queue_at m source)) (offer (queue_at m source)) p e).offered_it)
+      two-each m cpu source _ (pulled-each (queue_at m cpu) (queue_at m source) (decision (queue_at m cpu) (load_of (queue_at m source)) (offer (queue_at m source))) (all cpu) (all source)
+      (λ p e. offer-given P (queue_at m source) p (all source) (decision-taken (queue_at m cpu) (load_of (queue_at m source)) (offer (queue_at m source)) p e).offered_it)) all
 
   after-each : (homes : List ℕ) (deeds : List Deed) (m : Machine) → MayRenice (is_reniced deeds) → Everywhere m → Everywhere (machine_after homes m deeds)
   after-each homes [] m may all = all

@@ -18,10 +18,12 @@ pub mod SoloPlaces
 pub mod Loads
 pub mod PullLaws
 pub mod LocalParts
+pub mod WholeActs
+pub mod LentQueues
+pub mod ActDeeds
 pub mod PartsProofs
 pub mod PartsHistories
 pub mod MapValues
 pub mod QueueValues
 pub mod GivenTasks
-pub mod DeedsDone
 pub mod GrownLists

@@ -1,22 +1,18 @@
 -- Each deed as changes of single queues.
 use Rattle.std.proofs.Common.{◌≡◌, ◌≢◌, ℕ, ◌<◌, Bool, true, false, cond, ◌||◌, List, length, set, refl, sym, ap, ◌∙◌, arith}
 use Rattle.std.specs.Prelude.{◌==◌, Option, Some, None, Result, Ok, Err}
-use Rattle.std.proofs.{Math.ListN.length-set, lemmas.List.get_or-set_same, lemmas.Bool.Decides.nat_tests}
+use Rattle.std.proofs.{Math.ListN.length-set, lemmas.List.get_or-set_same}
 use Rattle.eevdf_queue.specs.State.{State, Contents, empty_state}
-use Rattle.eevdf_queue.specs.{Moves.sleeper_of, Moves.put_asleep, Placing.can_place, Leaving.carried_running, Leaving.leave}
+use Rattle.eevdf_queue.specs.{Moves.put_asleep, Leaving.carried_running, Leaving.leave}
 use Rattle.eevdf_ops.specs.{declared.deeds.Deed.Deed, declared.deeds.Answer.Answer, Setup.home_of, Machine.Machine}
-use Rattle.eevdf_ops.specs.{Machine.queue_at, Whole.whole, WholeSleep.sleep_carrying, WholeSleep.task_leaves}
+use Rattle.eevdf_ops.specs.{Machine.queue_at, Whole.whole, LocalActs.slept_here, Transfers.slept_away, Transfers.pulled, WholeSleep.sleep_carrying}
 use Rattle.eevdf_ops.specs.declared.deeds.Deed.TheVariants.{Tick, Pick, Yield, Sleep, Wake, Pull, Renice}
-use Rattle.eevdf_ops.specs.declared.deeds.Answer.TheVariants.{Nothing, Balanced, Range}
 use Rattle.eevdf_ops.specs.OneQueue.{one_tick, one_pick, one_yield, one_wake, one_renice}
 use Rattle.eevdf_ops.specs.Parts.{decider, giver, taker, Moved, given, answer_of_sleep, answer_of_pull, local_answer, taken, after_leaving, after_falling_asleep, after_joining, only_at, local_after}
 use Rattle.eevdf_ops.specs.PartsLaws as laws
-use Rattle.eevdf_ops.specs.WholePull.{offer, load_of, is_lighter, decision, with_task, pull_decided, pull_decision}
-use Rattle.eevdf_ops.proofs.{MapCounts.equal, MachinePlaces.other_queue, Pulling.decision-taken}
-use Rattle.eevdf_ops.proofs.{DeedNames.DeedNames, DeedNames.deed_names}
-
-unequal : (k c : ℕ) → (k == c) ≡ false → k ≢ c
-unequal k c e = grind (arith, nat_tests)
+use Rattle.eevdf_ops.specs.WholePull.{offer, load_of, decision, with_task, pull_decided, pull_decision}
+use Rattle.eevdf_ops.proofs.{MapCounts.equal, MachinePlaces.other_queue, Pulling.decision-taken, Pulling.refusals, WholeActs.sleep_by_home, WholeActs.whole-sleep, WholeActs.whole-pull}
+use Rattle.eevdf_ops.proofs.DeedNames.{PullNames, decider_below, home_below, pull_names, unequal}
 
 changed_by : (f : State → State) (m : Machine) (c k : ℕ) (b : Bool) → (k == c) ≡ b → c < length m → queue_at (set m c (f (queue_at m c))) k ≡ cond b (f (queue_at m k)) (queue_at m k)
 changed_by f m c k true e h =
@@ -46,14 +42,8 @@ sleep_after : (m : Machine) (cpu home k : ℕ) (o : Option Contents) → cpu < l
 sleep_after m cpu home k None h i = sym (nothing_moves cpu home k (queue_at m k))
 sleep_after m cpu home k (Some p) h i = changed_twice (λ q. leave q p.task) (λ q. put_asleep q p) m cpu home k h i
 
-untaken_by : (p : Contents) (b c : Bool) (why : Answer) (o : Option Contents) → cond b (cond c (Ok p) (Err Range)) (Err Balanced) ≡ Err why → taken why o ≡ None
-untaken_by p true true why o e = cc
-untaken_by p true false why o e = let is : Range ≡ why = cc in ap (λ (a : Answer). taken a o) (sym is)
-untaken_by p false c why o e = let is : Balanced ≡ why = cc in ap (λ (a : Answer). taken a o) (sym is)
-
 pub untaken : (q : State) (load : ℕ) (offered o : Option Contents) (why : Answer) → decision q load offered ≡ Err why → taken why o ≡ None
-untaken q load None o why e = let is : Nothing ≡ why = cc in ap (λ (a : Answer). taken a o) (sym is)
-untaken q load (Some p) o why e = untaken_by p (is_lighter (load_of q) p load) (can_place q (sleeper_of p)) why o e
+untaken q load offered o why e = refusals (λ (a : Answer). taken a o ≡ None) q load offered why e refl refl refl
 
 abbrev pulled_queue : Machine → ℕ → ℕ → ℕ → Option Contents → State
 pulled_queue m cpu source k o = only_at cpu k (after_joining o) (only_at source k (after_leaving o) (queue_at m k))
@@ -67,13 +57,18 @@ pull_after m cpu source k (Ok p) h i e =
     changed_twice (λ q. leave q p.task) (λ q. with_task q p) m source cpu k i h
     ∙ ap (pulled_queue m cpu source k) (sym (decision-taken (queue_at m cpu) (load_of (queue_at m source)) (offer (queue_at m source)) p e).offered_it)
 
-sleep_answer : (m : Machine) (cpu home : ℕ) (o : Option Contents) → (sleep_carrying m cpu home o).0 ≡ answer_of_sleep o
-sleep_answer m cpu home None = refl
-sleep_answer m cpu home (Some p) = refl
+-- what is answered needs nothing else of the queues
+here_answer : (o : Option Contents) (q : State) → (slept_here o q).0 ≡ answer_of_sleep o
+here_answer None q = refl
+here_answer (Some p) q = refl
 
-pull_answer : (m : Machine) (cpu source : ℕ) (d : Result Contents Answer) → (pull_decided m cpu source d).0 ≡ answer_of_pull d
-pull_answer m cpu source (Err why) = refl
-pull_answer m cpu source (Ok p) = refl
+away_answer : (o : Option Contents) (q r : State) → (slept_away o q r).0 ≡ answer_of_sleep o
+away_answer None q r = refl
+away_answer (Some p) q r = refl
+
+pull_answer : (d : Result Contents Answer) (q r : State) → (pulled d q r).0 ≡ answer_of_pull d
+pull_answer (Err why) q r = refl
+pull_answer (Ok p) q r = refl
 
 -- what the giver has for a deed
 abbrev pub moved_by : Machine → Deed → Moved
@@ -84,49 +79,44 @@ pub whole-answer : (homes : List ℕ) (deed : Deed) (m : Machine) → (whole hom
 whole-answer homes (Tick cpu ns) m = refl
 whole-answer homes (Pick cpu) m = refl
 whole-answer homes (Yield cpu) m = refl
-whole-answer homes (Sleep cpu task) m = sleep_answer m cpu (home_of homes task) (carried_running (queue_at m cpu) task)
+whole-answer homes (Sleep cpu task) m =
+    let o : Option Contents = carried_running (queue_at m cpu) task in
+    sleep_by_home (λ (r : Answer × Machine). r.0 ≡ answer_of_sleep o) homes cpu task m (λ e. here_answer o (queue_at m cpu)) (λ e. away_answer o (queue_at m cpu) (queue_at m (home_of homes task)))
 whole-answer homes (Wake cpu task sender) m = refl
 whole-answer homes (Renice cpu task nice) m = refl
-whole-answer homes (Pull cpu source) m = pull_answer m cpu source (pull_decision m cpu source)
+whole-answer homes (Pull cpu source) m = pull_answer (pull_decision m cpu source) (queue_at m cpu) (queue_at m source)
 
 -- and each queue changes by itself
 pub whole-after : (homes : List ℕ) (deed : Deed) (m : Machine) (k : ℕ) → laws.Fits homes deed m
     → queue_at (whole homes deed m).1 k ≡ local_after homes deed k (queue_at m k) (whole homes deed m).0 (moved_by m deed)
-whole-after homes (Tick cpu ns) m k fits = changed (λ q. (one_tick q ns).1) m cpu k (deed_names homes (Tick cpu ns) m fits.allowed fits.cpus).of_decider
-whole-after homes (Pick cpu) m k fits = changed (λ q. (one_pick q).1) m cpu k (deed_names homes (Pick cpu) m fits.allowed fits.cpus).of_decider
-whole-after homes (Yield cpu) m k fits = changed (λ q. (one_yield q).1) m cpu k (deed_names homes (Yield cpu) m fits.allowed fits.cpus).of_decider
+whole-after homes (Tick cpu ns) m k fits = changed (λ q. (one_tick q ns).1) m cpu k (decider_below _ homes (Tick cpu ns) fits.allowed)
+whole-after homes (Pick cpu) m k fits = changed (λ q. (one_pick q).1) m cpu k (decider_below _ homes (Pick cpu) fits.allowed)
+whole-after homes (Yield cpu) m k fits = changed (λ q. (one_yield q).1) m cpu k (decider_below _ homes (Yield cpu) fits.allowed)
 whole-after homes (Sleep cpu task) m k fits =
-    let named : DeedNames homes (Sleep cpu task) m = deed_names homes (Sleep cpu task) m fits.allowed fits.cpus in
-    sleep_after m cpu (home_of homes task) k (carried_running (queue_at m cpu) task) named.of_decider named.of_taker
-whole-after homes (Wake cpu task sender) m k fits =
-    changed (λ q. (one_wake q task).1) m cpu k (deed_names homes (Wake cpu task sender) m fits.allowed fits.cpus).of_decider
-whole-after homes (Renice cpu task nice) m k fits =
-    changed (λ q. (one_renice q task nice).1) m cpu k (deed_names homes (Renice cpu task nice) m fits.allowed fits.cpus).of_decider
+    ap (λ (r : Answer × Machine). queue_at r.1 k) (whole-sleep homes cpu task m fits.allowed)
+    ∙ sleep_after m cpu (home_of homes task) k (carried_running (queue_at m cpu) task) (decider_below _ homes (Sleep cpu task) fits.allowed) (home_below _ homes cpu task fits.allowed fits.cpus)
+whole-after homes (Wake cpu task sender) m k fits = changed (λ q. (one_wake q task).1) m cpu k (decider_below _ homes (Wake cpu task sender) fits.allowed)
+whole-after homes (Renice cpu task nice) m k fits = changed (λ q. (one_renice q task nice).1) m cpu k (decider_below _ homes (Renice cpu task nice) fits.allowed)
 whole-after homes (Pull cpu source) m k fits =
-    let named : DeedNames homes (Pull cpu source) m = deed_names homes (Pull cpu source) m fits.allowed fits.cpus in
-    pull_after m cpu source k (pull_decision m cpu source) named.of_decider named.of_giver refl
-    ∙ ap (λ (a : Answer). pulled_queue m cpu source k (taken a (offer (queue_at m source)))) (sym (pull_answer m cpu source (pull_decision m cpu source)))
+    let named : PullNames (length m) cpu source = pull_names (length m) homes cpu source fits.allowed in
+    ap (λ (r : Answer × Machine). queue_at r.1 k) (whole-pull homes cpu source m fits.allowed)
+    ∙ pull_after m cpu source k (pull_decision m cpu source) named.puller named.from refl
+    ∙ ap (λ (a : Answer). pulled_queue m cpu source k (taken a (offer (queue_at m source)))) (sym (whole-answer homes (Pull cpu source) m))
 
 or_false : (a b : Bool) → (a || b) ≡ false → (a ≡ false) × (b ≡ false)
 or_false true b e = cc
 or_false false b e = (refl, e)
 
-sleep_stays : (m : Machine) (cpu home k : ℕ) (o : Option Contents) → k ≢ cpu → k ≢ home → queue_at (sleep_carrying m cpu home o).1 k ≡ queue_at m k
-sleep_stays m cpu home k None h i = refl
-sleep_stays m cpu home k (Some p) h i = other_queue (task_leaves m cpu p.task) home k _ i ∙ other_queue m cpu k _ h
-
-pull_stays : (m : Machine) (cpu source k : ℕ) (d : Result Contents Answer) → k ≢ cpu → k ≢ source → queue_at (pull_decided m cpu source d).1 k ≡ queue_at m k
-pull_stays m cpu source k (Err why) h i = refl
-pull_stays m cpu source k (Ok p) h i = other_queue (task_leaves m source p.task) cpu k _ h ∙ other_queue m source k _ i
-
 stays : (homes : List ℕ) (deed : Deed) (m : Machine) (k : ℕ) → k ≢ decider deed → k ≢ giver deed → k ≢ taker homes deed → queue_at (whole homes deed m).1 k ≡ queue_at m k
 stays homes (Tick cpu ns) m k d g t = other_queue m cpu k _ d
 stays homes (Pick cpu) m k d g t = other_queue m cpu k _ d
 stays homes (Yield cpu) m k d g t = other_queue m cpu k _ d
-stays homes (Sleep cpu task) m k d g t = sleep_stays m cpu (home_of homes task) k (carried_running (queue_at m cpu) task) d t
+stays homes (Sleep cpu task) m k d g t =
+    sleep_by_home (λ (r : Answer × Machine). queue_at r.1 k ≡ queue_at m k) homes cpu task m (λ e. other_queue m cpu k _ d)
+    (λ e. other_queue (set m cpu _) (home_of homes task) k _ t ∙ other_queue m cpu k _ d)
 stays homes (Wake cpu task sender) m k d g t = other_queue m cpu k _ d
 stays homes (Renice cpu task nice) m k d g t = other_queue m cpu k _ d
-stays homes (Pull cpu source) m k d g t = pull_stays m cpu source k (pull_decision m cpu source) d g
+stays homes (Pull cpu source) m k d g t = other_queue (set m cpu _) source k _ g ∙ other_queue m cpu k _ d
 
 pub others_stay : laws.OthersStay
 others_stay homes deed m c e =

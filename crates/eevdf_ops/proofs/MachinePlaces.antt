@@ -1,11 +1,11 @@
 -- How a step on a queue of a machine changes where tasks stand.
-use Rattle.std.proofs.Common.{◌≡◌, ◌≢◌, ℕ, zero, suc, ◌+◌, ◌<◌, ◌≤◌, true, List, [], ◌∷◌, length, set, arith}
-use Rattle.std.specs.{Prelude.◌==◌, FinMap.contains_key}
-use Rattle.std.proofs.lemmas.List.{get_or-set_other}
+use Rattle.std.proofs.Common.{◌≡◌, ◌≢◌, ℕ, zero, suc, ◌+◌, ◌<◌, ◌≤◌, Bool, true, false, List, [], ◌∷◌, length, set, refl, sym, ap, arith}
+use Rattle.std.specs.{FinMap.contains_key}
+use Rattle.std.proofs.{lemmas.List.get_or-set_other, Math.ListN.length-set}
 use Rattle.eevdf_queue.specs.State.{State, empty_state}
 use Rattle.eevdf_ops.specs.{Setup.home_of, Setup.is_task, Machine.Machine, Machine.queue_at}
-use Rattle.eevdf_ops.specs.Places.{count, places_in, places, IsPlaced}
-use Rattle.eevdf_ops.proofs.QueuePlaces.{IsSame, IsWithout, IsWith}
+use Rattle.eevdf_ops.specs.{Places.count, Places.places_in, Places.places, Places.IsPlaced, Transfers.NoneTwice}
+use Rattle.eevdf_ops.proofs.QueuePlaces.{IsSame}
 
 -- a queue is written, and the places in it count anew
 pub places-set : (m : Machine) (c u : ℕ) (q : State) → c < length m → places (set m c q) u + places_in (queue_at m c) u ≡ places m u + places_in q u
@@ -17,6 +17,21 @@ pub places-at : (m : Machine) (c u : ℕ) → c < length m → places_in (queue_
 places-at [] c u h = absurd (omega arith)
 places-at (x ∷ m) zero u h = omega arith
 places-at (x ∷ m) (suc c) u h = omega (arith, places-at m c u (omega arith))
+
+pub places-two : (m : Machine) (a b task : ℕ) → a ≢ b → a < length m → b < length m → places_in (queue_at m a) task + places_in (queue_at m b) task ≤ places m task
+places-two [] a b task apart h g = absurd (omega arith)
+places-two (x ∷ m) zero zero task apart h g = absurd (apart refl)
+places-two (x ∷ m) zero (suc b) task apart h g = omega (arith, places-at m b task (omega arith))
+places-two (x ∷ m) (suc a) zero task apart h g = omega (arith, places-at m a task (omega arith))
+places-two (x ∷ m) (suc a) (suc b) task apart h g = omega (arith, places-two m a b task (λ e. apart (ap suc e)) (omega arith) (omega arith))
+
+pub at-most : (b : Bool) → count b ≤ 1
+at-most true = omega arith
+at-most false = omega arith
+
+-- no task stands in two queues
+pub none-twice : (homes : List ℕ) (m : Machine) (a b : ℕ) → IsPlaced homes m → a ≢ b → a < length m → b < length m → NoneTwice (queue_at m a) (queue_at m b)
+none-twice homes m a b placed apart h g task = omega (arith, placed.once task, at-most (is_task homes task), places-two m a b task apart h g)
 
 -- another queue is as it was
 pub other_queue : (m : Machine) (c k : ℕ) (q : State) → k ≢ c → queue_at (set m c q) k ≡ queue_at m k
@@ -34,28 +49,25 @@ each-set P (x ∷ m) (suc c) q p all (suc k) = each-set (λ i. P (suc i)) m c q 
 abbrev pub SleepsAtHome : List ℕ → ℕ → State → Type 0
 SleepsAtHome homes cpu q = (task : ℕ) → contains_key q.asleep task ≡ true → home_of homes task ≡ cpu
 
--- a step on one queue that moves nobody
-pub same-placed : (homes : List ℕ) (m : Machine) (c : ℕ) (q : State) → c < length m → IsSame (queue_at m c) q → IsPlaced homes m → IsPlaced homes (set m c q)
-same-placed homes m c q h same placed = record {
-  once = λ u. omega (arith, places-set m c u q h, same.places u, placed.once u);
-  at_home = each-set (SleepsAtHome homes) m c q (λ u a. placed.at_home c u (same.asleep u a)) placed.at_home;
-}
-
--- a machine in which a task stands nowhere, and all others as they should
-pub record IsPlacedBut (homes : List ℕ) (t : ℕ) (m : Machine) : Type 0 where
-  pub once : (task : ℕ) → places m task + count (task == t) ≡ count (is_task homes task)
-  pub at_home : (cpu task : ℕ) → contains_key (queue_at m cpu).asleep task ≡ true → home_of homes task ≡ cpu
-
--- a task leaves a queue
-pub without-placed : (homes : List ℕ) (m : Machine) (c t : ℕ) (q : State) → c < length m → IsWithout (queue_at m c) t q → IsPlaced homes m → IsPlacedBut homes t (set m c q)
-without-placed homes m c t q h less placed = record {
-  once = λ u. omega (arith, places-set m c u q h, less.places u, placed.once u);
-  at_home = each-set (SleepsAtHome homes) m c q (λ u a. placed.at_home c u (less.asleep u a)) placed.at_home;
-}
-
--- and joins another
-pub with-placed : (homes : List ℕ) (m : Machine) (c t : ℕ) (q : State) → c < length m → IsWith (queue_at m c) t q → SleepsAtHome homes c q → IsPlacedBut homes t m → IsPlaced homes (set m c q)
-with-placed homes m c t q h more asleep placed = record {
-  once = λ u. omega (arith, places-set m c u q h, more.places u, placed.once u);
+-- a queue is written in which tasks stand in as many places
+pub one-placed : (homes : List ℕ) (m : Machine) (c : ℕ) (q : State) → c < length m → ((u : ℕ) → places_in q u ≡ places_in (queue_at m c) u) → SleepsAtHome homes c q → IsPlaced homes m → IsPlaced homes (set m c q)
+one-placed homes m c q h same asleep placed = record {
+  once = λ u. omega (arith, places-set m c u q h, same u, placed.once u);
   at_home = each-set (SleepsAtHome homes) m c q asleep placed.at_home;
 }
+
+-- a step on one queue that moves nobody
+pub same-placed : (homes : List ℕ) (m : Machine) (c : ℕ) (q : State) → c < length m → IsSame (queue_at m c) q → IsPlaced homes m → IsPlaced homes (set m c q)
+same-placed homes m c q h same placed = one-placed homes m c q h same.places (λ u a. placed.at_home c u (same.asleep u a)) placed
+
+-- two queues are written in which tasks stand in as many places as before, taken together
+pub two-placed : (homes : List ℕ) (m : Machine) (a b : ℕ) (q r : State) → a ≢ b → a < length m → b < length m
+    → ((u : ℕ) → places_in q u + places_in r u ≡ places_in (queue_at m a) u + places_in (queue_at m b) u) → SleepsAtHome homes a q → SleepsAtHome homes b r → IsPlaced homes m
+    → IsPlaced homes (set (set m a q) b r)
+two-placed homes m a b q r apart h g same here there placed =
+    let n : Machine = set m a q in
+    let other : queue_at n b ≡ queue_at m b = other_queue m a b q (λ e. apart (sym e)) in
+    record {
+      once = λ u. omega (arith, places-set m a u q h, places-set n b u r (omega (arith, length-set m a q, g)), ap (λ (s : State). places_in s u) other, same u, placed.once u);
+      at_home = each-set (SleepsAtHome homes) n b r there (each-set (SleepsAtHome homes) m a q here placed.at_home);
+    }

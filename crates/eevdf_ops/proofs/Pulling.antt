@@ -1,17 +1,13 @@
 -- What a pull decides, and what it then does.
-use Rattle.std.proofs.Common.{◌≡◌, ◌≢◌, ℕ, ◌<◌, ◌≤◌, length, arith, Bool, true, false, cond, refl, sym, ap, subst, ◌∙◌}
+use Rattle.std.proofs.Common.{◌≡◌, ℕ, Bool, true, false, cond, refl, sym, ap, subst, ◌∙◌}
 use Rattle.std.specs.Prelude.{is_some, Option, Some, None, Result, Ok, Err}
-use Rattle.std.specs.{Option.unwrap_or, FinMap.contains_key}
+use Rattle.std.specs.{Option.unwrap_or, Result.result_ok}
 use Rattle.eevdf_queue.specs.{declared.entry.Entry.Entry, State.State, State.Contents, Moves.sleeper_of, Moves.with_runnable}
-use Rattle.eevdf_queue.specs.{Candidate.is_running, Leaving.carried, Leaving.leave}
-use Rattle.eevdf_queue.specs.Placing.{can_place, put, placed_entry}
-use Rattle.eevdf_ops.specs.{declared.deeds.Answer.Answer, declared.deeds.Answer.TheVariants.Balanced}
-use Rattle.eevdf_ops.specs.{declared.deeds.Answer.TheVariants.Range, Machine.Machine, Machine.queue_at, WholePull.task_of}
-use Rattle.eevdf_ops.specs.{Places.places, Places.places_in, WholeSleep.task_leaves}
-use Rattle.eevdf_ops.specs.WholePull.{offer, is_lighter, load_of, decision, with_task, pull_decision}
-use Rattle.std.proofs.Math.ListN.{length-set}
-use Rattle.eevdf_ops.proofs.MachinePlaces.{other_queue}
-use Rattle.eevdf_ops.proofs.Carried.{Carries, carried-carries, offer-carried, offer-waits, left-nowhere}
+use Rattle.eevdf_queue.specs.{Candidate.is_running, Placing.can_place, Placing.put, Placing.placed_entry}
+use Rattle.eevdf_ops.specs.declared.deeds.Answer.{Answer}
+use Rattle.eevdf_ops.specs.declared.deeds.Answer.TheVariants.{Balanced, Nothing, Pulled, Range}
+use Rattle.eevdf_ops.specs.WholePull.{offer, is_lighter, load_of, decision, task_of, with_task}
+use Rattle.eevdf_ops.proofs.Carried.{offer-waits}
 
 -- what a pull decides, where it takes a task
 pub record IsTaken (q : State) (source_load : ℕ) (offered : Option Contents) (p : Contents) : Type 0 where
@@ -31,6 +27,20 @@ pub decision-taken : (q : State) (source_load : ℕ) (o : Option Contents) (r : 
 decision-taken q source_load None r e = cc
 decision-taken q source_load (Some p) r e = taken_by q source_load p r (is_lighter (load_of q) p source_load) (can_place q (sleeper_of p)) refl refl e
 
+-- what holds of the three refusals holds of why none is taken
+refusal_by : (P : Answer → Type 0) (p : Contents) (b c : Bool) (why : Answer) → cond b (cond c (Ok p) (Err Range)) (Err Balanced) ≡ Err why → P Balanced → P Range → P why
+refusal_by P p true true why e balanced range = cc
+refusal_by P p true false why e balanced range = let is : Range ≡ why = cc in subst P is range
+refusal_by P p false c why e balanced range = let is : Balanced ≡ why = cc in subst P is balanced
+
+pub refusals : (P : Answer → Type 0) (q : State) (source_load : ℕ) (o : Option Contents) (why : Answer) → decision q source_load o ≡ Err why → P Nothing → P Balanced → P Range → P why
+refusals P q source_load None why e nothing balanced range = let is : Nothing ≡ why = cc in subst P is nothing
+refusals P q source_load (Some p) why e nothing balanced range = refusal_by P p (is_lighter (load_of q) p source_load) (can_place q (sleeper_of p)) why e balanced range
+
+-- none is the answer that a task was pulled
+pub unpulled : (q : State) (source_load task : ℕ) (o : Option Contents) (why : Answer) → decision q source_load o ≡ Err why → why ≡ Pulled task → ⊥
+unpulled q source_load task o why e = refusals (λ (a : Answer). a ≡ Pulled task → ⊥) q source_load o why e (λ f. cc) (λ f. cc) (λ f. cc)
+
 joined_by : (q : State) (p : Contents) (o : Option Entry) → is_some o ≡ true → with_runnable q p.task o ≡ Some (unwrap_or (with_runnable q p.task o) q)
 joined_by q p None e = cc
 joined_by q p (Some entry) e = refl
@@ -39,68 +49,22 @@ joined_by q p (Some entry) e = refl
 pub with_task-put : (q : State) (p : Contents) → can_place q (sleeper_of p) ≡ true → put q p.task (sleeper_of p) ≡ Some (with_task q p)
 with_task-put q p room = joined_by q p (placed_entry q (sleeper_of p)) room
 
-pub decided_of : (m : Machine) (cpu source : ℕ) (q s : State) (r : Result ℕ Answer) → q ≡ queue_at m cpu → s ≡ queue_at m source → r ≡ task_of (decision q (load_of s) (offer s)) → task_of (pull_decision m cpu source) ≡ r
-decided_of m cpu source q s r at_cpu at_source e =
-    ap (λ (x : State). task_of (decision x (load_of (queue_at m source)) (offer (queue_at m source)))) (sym at_cpu)
-    ∙ ap (λ (x : State). task_of (decision q (load_of x) (offer x))) (sym at_source) ∙ sym e
+-- where the decision is to take a task, it waits at the source
+waits_by : (q s : State) (task : ℕ) (d : Result Contents Answer) → decision q (load_of s) (offer s) ≡ d → Ok task ≡ task_of d → is_running s.running task ≡ false
+waits_by q s task (Err why) at e = cc
+waits_by q s task (Ok p) at e =
+    let of_task : p.task ≡ task = cc in
+    ap (is_running s.running) (sym of_task) ∙ offer-waits s p (decision-taken q (load_of s) (offer s) p at).offered_it
 
-pub refusal_decided : (decided : Result Contents Answer) (refusal : Answer) → task_of decided ≡ Err refusal → decided ≡ Err refusal
-refusal_decided decided refusal e = grind arith
+pub taken-waits : (q s : State) (task : ℕ) → Ok task ≡ task_of (decision q (load_of s) (offer s)) → is_running s.running task ≡ false
+taken-waits q s task e = waits_by q s task (decision q (load_of s) (offer s)) refl e
 
--- the CPU takes a task
-pub record Takes (m : Machine) (cpu source task : ℕ) : Type 0 where
-  pub contents : Contents
-  pub decides : pull_decision m cpu source ≡ Ok contents
-  pub of_task : contents.task ≡ task
+-- and the queue has room for it
+room_by : (q : State) (source_load : ℕ) (o : Option Contents) (p : Contents) (d : Result Contents Answer) → decision q source_load o ≡ d → result_ok d ≡ Some p → can_place q (sleeper_of p) ≡ true
+room_by q source_load o p (Err why) at e = cc
+room_by q source_load o p (Ok r) at e =
+    let is : r ≡ p = cc in
+    ap (λ (t : Contents). can_place q (sleeper_of t)) (sym is) ∙ (decision-taken q source_load o r at).room
 
-takes_by : (m : Machine) (cpu source task : ℕ) (d : Result Contents Answer) → pull_decision m cpu source ≡ d → task_of d ≡ Ok task → Takes m cpu source task
-takes_by m cpu source task (Ok p) at e = record { contents = p; decides = at; of_task = cc }
-takes_by m cpu source task (Err why) at e = cc
-
-pub takes : (m : Machine) (cpu source task : ℕ) → task_of (pull_decision m cpu source) ≡ Ok task → Takes m cpu source task
-takes m cpu source task e = takes_by m cpu source task (pull_decision m cpu source) refl e
-
--- what is taken is what the source offered
-taken-carried : (m : Machine) (cpu source : ℕ) (p : Contents) → pull_decision m cpu source ≡ Ok p → carried (queue_at m source) p.task ≡ Some p
-taken-carried m cpu source p e =
-    offer-carried (queue_at m source) p (decision-taken (queue_at m cpu) (load_of (queue_at m source)) (offer (queue_at m source)) p e).offered_it
-
-taken_contents : (m : Machine) (cpu source task : ℕ) (t : Takes m cpu source task) (p : Contents) → carried (queue_at m source) task ≡ Some p → t.contents ≡ p
-taken_contents m cpu source task t p e =
-    let same : Some t.contents ≡ Some p =
-    sym (taken-carried m cpu source t.contents t.decides) ∙ ap (carried (queue_at m source)) t.of_task ∙ e in
-    cc
-
--- the decision is to take what is then carried
-pub takes-carried : (m : Machine) (cpu source task : ℕ) (t : Takes m cpu source task) (p : Contents) → carried (queue_at m source) task ≡ Some p → pull_decision m cpu source ≡ Ok p
-takes-carried m cpu source task t p e = t.decides ∙ ap (λ (r : Contents). Ok r) (taken_contents m cpu source task t p e)
-
-pub takes-task : (m : Machine) (cpu source task : ℕ) (t : Takes m cpu source task) (p : Contents) → carried (queue_at m source) task ≡ Some p → task ≡ p.task
-takes-task m cpu source task t p e = sym t.of_task ∙ ap (λ (r : Contents). r.task) (taken_contents m cpu source task t p e)
-
-pub takes-here : (m : Machine) (cpu source task : ℕ) → Takes m cpu source task → contains_key (queue_at m source).runnable task ≡ true
-takes-here m cpu source task t =
-    ap (contains_key (queue_at m source).runnable) (sym t.of_task)
-    ∙ ap is_some (carried-carries (queue_at m source) t.contents.task t.contents (taken-carried m cpu source t.contents t.decides)).here
-
-takes-offer : (m : Machine) (cpu source task : ℕ) (t : Takes m cpu source task) → offer (queue_at m source) ≡ Some t.contents
-takes-offer m cpu source task t = (decision-taken (queue_at m cpu) (load_of (queue_at m source)) (offer (queue_at m source)) t.contents t.decides).offered_it
-
--- it waits at the source
-pub takes-waiting : (m : Machine) (cpu source task : ℕ) → Takes m cpu source task → is_running (queue_at m source).running task ≡ false
-takes-waiting m cpu source task t =
-    ap (is_running (queue_at m source).running) (sym t.of_task) ∙ offer-waits (queue_at m source) t.contents (takes-offer m cpu source task t)
-
-pub taken-nowhere : (m left : Machine) (cpu source : ℕ) (p : Contents) → cpu < length m → source < length m → places m p.task ≤ 1 → pull_decision m cpu source ≡ Ok p → left ≡ task_leaves m source p.task
-    → places_in (queue_at left cpu) p.task ≡ 0
-taken-nowhere m left cpu source p h g few e is =
-    let c : Carries (queue_at m source) p.task p = carried-carries (queue_at m source) p.task p (taken-carried m cpu source p e) in
-    ap (λ (n : Machine). places_in (queue_at n cpu) p.task) is
-    ∙ left-nowhere m source p.task cpu p g (omega (arith, length-set m source (leave (queue_at m source) p.task))) c few
-
-pub taken-room : (m left : Machine) (cpu source : ℕ) (p : Contents) → cpu ≢ source → pull_decision m cpu source ≡ Ok p → left ≡ task_leaves m source p.task
-    → can_place (queue_at left cpu) (sleeper_of p) ≡ true
-taken-room m left cpu source p apart e is =
-    ap (λ (n : Machine). can_place (queue_at n cpu) (sleeper_of p)) is
-    ∙ ap (λ (q : State). can_place q (sleeper_of p)) (other_queue m source cpu (leave (queue_at m source) p.task) apart)
-    ∙ (decision-taken (queue_at m cpu) (load_of (queue_at m source)) (offer (queue_at m source)) p e).room
+pub taken-room : (q : State) (source_load : ℕ) (o : Option Contents) (p : Contents) → result_ok (decision q source_load o) ≡ Some p → can_place q (sleeper_of p) ≡ true
+taken-room q source_load o p e = room_by q source_load o p (decision q source_load o) refl e

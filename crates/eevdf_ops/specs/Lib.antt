@@ -5,8 +5,11 @@ pub mod Machine
 pub mod OneQueue
 pub mod WholeSleep
 pub mod WholePull
-pub mod Whole
 pub mod Places
+pub mod Acts
+pub mod LocalActs
+pub mod Transfers
+pub mod Whole
 pub mod PickTurns
 pub mod Outcome
 pub mod Laws

@@ -2,13 +2,19 @@
 use Rattle.std.specs.Prelude.{◌≡◌, ℕ, ◌+◌, ◌/◌, ◌^◌, ◌≤◌, ⊤, List, map, slice_index_or, MatchOption}
 use Rattle.std.specs.FinMap as finite
 use Rattle.eevdf_queue.specs.{State.State, State.View, Pick.pick_of}
-use Rattle.eevdf_ops.specs.{declared.deeds.Deed.Deed, Machine.Machine, Machine.queue_at}
+use Rattle.eevdf_ops.specs.{declared.acts.LocalAct.LocalAct, declared.deeds.Deed.Deed, Machine.Machine, Machine.queue_at}
+use Rattle.eevdf_ops.specs.declared.acts.LocalAct.TheVariants as local
 use Rattle.eevdf_ops.specs.declared.deeds.Deed.TheVariants.{Tick, Pick, Yield, Sleep, Wake, Pull, Renice}
 
 -- none where nobody is runnable, else at least one, and with n runnable tasks k such that 2 ^ (k / 2) is at most n + 1
 abbrev pub ArePickTurns : State → ℕ → Type 0
 ArePickTurns q turns =
     MatchOption (pick_of q.runnable) (turns ≡ 0) (λ _. (1 ≤ turns) × (2 ^ (turns / 2) ≤ finite.len q.runnable + 1))
+
+-- an act that is a pick has set them; of another one nothing is said
+abbrev pub HasActTurns : LocalAct → State → ℕ → Type 0
+HasActTurns local.Pick q turns = ArePickTurns q turns
+HasActTurns other q turns = ⊤
 
 -- the turns of the last pick of each queue
 abbrev pub turns_of : List View → List ℕ

@@ -1,16 +1,14 @@
 -- A pull: the candidate of the source comes to the CPU, where that levels their loads.
 use Rattle.std.specs.Prelude.{ℕ, ◌+◌, nat_lt, Bool, if◌then◌else◌, Option, Some, None, Result, Ok, Err, slice_set}
-use Rattle.std.specs.{Option.option_and_then, Option.unwrap_or, Result.result_map_both}
+use Rattle.std.specs.{Option.unwrap_or, Result.result_map_both}
+pub use Rattle.eevdf_queue.specs.Offers.{offer}
 use Rattle.eevdf_weight.specs.Weight.{weight_of}
-use Rattle.eevdf_queue.specs.{State.State, State.Contents, Sums.total_weight, Moves.sleeper_of, Candidate.candidate_of}
-use Rattle.eevdf_queue.specs.{Leaving.carried, Placing.can_place, Placing.put}
+use Rattle.eevdf_queue.specs.{State.State, State.Contents, Sums.total_weight, Moves.sleeper_of}
+use Rattle.eevdf_queue.specs.{Placing.can_place, Placing.put}
 use Rattle.eevdf_ops.specs.{declared.deeds.Answer.Answer, Machine.Machine, Machine.queue_at, WholeSleep.task_leaves}
 use Rattle.eevdf_ops.specs.declared.deeds.Answer.TheVariants.{Pulled, Balanced, Nothing, Range}
 
--- what a pull reads of its source, beside the load: the candidate, with what it would carry
-abbrev pub offer : State → Option Contents
-offer q = option_and_then (carried q) (candidate_of q.runnable q.running)
-
+-- what a pull reads of its source, beside the offer
 abbrev pub load_of : State → ℕ
 load_of q = total_weight q.runnable
 
@@ -32,11 +30,6 @@ task_of decided = result_map_both (λ (p : Contents). p.task) (λ (a : Answer). 
 -- the same of two CPUs of a machine
 abbrev pub pull_decision : Machine → ℕ → ℕ → Result Contents Answer
 pull_decision m cpu source = decision (queue_at m cpu) (load_of (queue_at m source)) (offer (queue_at m source))
-
--- the machine when what was decided is taken from the source
-abbrev pub decided_leaves : Machine → ℕ → Result Contents Answer → Machine
-decided_leaves m source (Err refusal) = m
-decided_leaves m source (Ok p) = task_leaves m source p.task
 
 -- a queue with the task, where it can be placed there
 abbrev pub with_task : State → Contents → State

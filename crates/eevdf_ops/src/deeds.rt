@@ -1,3 +1,4 @@
+use crate::acts::LocalAct;
 use crate::cpu_id::CpuId;
 use eevdf_queue::TaskId;
 use eevdf_weight::{Nice, Ns};
@@ -25,7 +26,7 @@ pub enum Op {
 
 impl Op {
     ghost use Rattle.std.specs.Prelude.{◌≡◌};
-    ghost use Rattle.eevdf_ops.specs.Programs.{deed_of};
+    ghost use Rattle.eevdf_ops.specs.{Acts.local_of, Programs.deed_of};
 
     /// The deed of the operation on a CPU. `None` of a post and of a drain, which are no deeds: what comes of them are
     /// wakes.
@@ -40,6 +41,20 @@ impl Op {
             Op::Pull(source) => Some(Deed::Pull { cpu, source }),
             Op::Renice(task, nice) => Some(Deed::Renice { cpu, task, nice }),
             Op::Post(_) | Op::Drain => None,
+        }
+    }
+
+    /// What the operation does, where it touches its CPU's run queue alone, whatever homes the tasks have. `None` of a sleep, a post, a
+    /// drain and a pull.
+    pub fn local(self) -> Option<LocalAct>
+        ensures { result ≡ local_of self }
+    {
+        match self {
+            Op::Tick(ns) => Some(LocalAct::Tick(ns)),
+            Op::Pick => Some(LocalAct::Pick),
+            Op::Yield => Some(LocalAct::Yield),
+            Op::Renice(task, nice) => Some(LocalAct::Renice(task, nice)),
+            Op::Sleep(_) | Op::Post(_) | Op::Drain | Op::Pull(_) => None,
         }
     }
 }
@@ -86,7 +101,22 @@ pub enum Deed {
 
 impl Deed {
     ghost use Rattle.std.specs.Prelude.{◌≡◌};
-    ghost use Rattle.eevdf_ops.specs.Setup.{is_within};
+    ghost use Rattle.eevdf_ops.specs.{Parts.decider, Setup.is_within};
+
+    /// The CPU that does it.
+    pub fn cpu(self) -> CpuId
+        ensures { result ≡ decider self }
+    {
+        match self {
+            Deed::Tick { cpu, .. }
+            | Deed::Pick { cpu }
+            | Deed::Yield { cpu }
+            | Deed::Sleep { cpu, .. }
+            | Deed::Wake { cpu, .. }
+            | Deed::Pull { cpu, .. }
+            | Deed::Renice { cpu, .. } => cpu,
+        }
+    }
 
     /// Whether a machine of so many CPUs and tasks has those that the deed names, and a pull is from another CPU.
     pub(crate) fn is_within(&self, cpus: usize, tasks: usize) -> bool

@@ -5,29 +5,33 @@
 //! of deeds is the list of deeds with their answers, and the machine that they leave.
 #![tactic(auto)]
 
+mod acts;
 mod cpu_id;
 mod deeds;
 mod from_answers;
 pub mod laws;
+mod local_acts;
 mod machine_start;
-pub mod one_queue;
 pub mod one_thread;
 mod outcome;
-pub mod queue_deeds;
+mod parting;
+pub mod pull;
 mod setup;
 mod setup_check;
 mod setup_fault;
 mod setup_tasks;
+pub mod sleep;
 mod solo;
 mod task_spec;
 mod texts;
+mod transfers;
 mod whole_deeds;
-pub mod whole_pull;
-pub mod whole_sleep;
 
+pub use acts::{Act, LocalAct, Transfer};
 pub use cpu_id::{BadCpuId, CpuId};
 pub use deeds::{Answer, Deed, Line, Op};
 pub use outcome::Outcome;
+pub use parting::parted;
 pub use setup::Setup;
 pub use setup_fault::SetupFault;
 pub use setup_tasks::SetupTasks;

@@ -3,7 +3,6 @@
 ghost use Rattle.std.specs.Prelude.{◌≡◌, ℕ, ◌<◌, ◌++◌, [], length, map, IfOk, OnOk, slice_index_or};
 ghost use Rattle.eevdf_report.specs.TextSchedules.{own_line, schedules_of};
 
-use crate::text_deeds::cpu_of;
 use eevdf_ops::Line;
 use std::alloc::{AllocError, Global};
 use std::marker::Model;
@@ -65,7 +64,7 @@ impl<'a> Schedules<'a> {
         ensures each { OnOk result ((c : ℕ) → c < length self.old
             → slice_index_or self.new c [] ≡ slice_index_or self.old c [] ++ own_line c line.now) }
     {
-        let cpu = cpu_of(line.deed).index();
+        let cpu = line.deed.cpu().index();
         if let Some(lines) = self.lines.get_mut(cpu) {
             lines.push(line)?;
         }

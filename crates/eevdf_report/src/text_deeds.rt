@@ -1,25 +1,9 @@
 ghost use Rattle.std.specs.Prelude.{◌≡◌, ◌+◌, ◌≤◌, ◌++◌, length, decimal};
-ghost use Rattle.eevdf_ops.specs.Parts.{decider};
 ghost use Rattle.eevdf_report.specs.BlockText.{block_room, most_bytes};
 ghost use Rattle.eevdf_report.specs.TextDeed.{deed_text, answer_text, resched_text, schedule_line, script_line};
 
 use crate::block_text::BlockText;
-use eevdf_ops::{Answer, CpuId, Deed, Line};
-
-/// The CPU on which a deed is done.
-pub(crate) fn cpu_of(deed: Deed) -> CpuId
-    ensures { result ≡ decider deed }
-{
-    match deed {
-        Deed::Tick { cpu, .. }
-        | Deed::Pick { cpu }
-        | Deed::Yield { cpu }
-        | Deed::Sleep { cpu, .. }
-        | Deed::Wake { cpu, .. }
-        | Deed::Pull { cpu, .. }
-        | Deed::Renice { cpu, .. } => cpu,
-    }
-}
+use eevdf_ops::{Answer, Deed, Line};
 
 /// Writes a deed before the text of a line.
 fn prepend_deed(text: &mut BlockText, deed: Deed)
@@ -117,6 +101,6 @@ pub(crate) fn prepend_script_line(text: &mut BlockText, line: Line)
     text.prepend(b"\",\n");
     prepend_deed(text, line.deed);
     text.prepend(b" ");
-    text.prepend_number(cpu_of(line.deed).get());
+    text.prepend_number(line.deed.cpu().get());
     text.prepend(b"\"");
 }

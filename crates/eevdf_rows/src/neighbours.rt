@@ -6,7 +6,7 @@ mod without_history;
 
 use crate::fixtures::{cpu, task};
 use crate::fleet_calls::seat_call::Call;
-use eevdf_fleet::Drained;
+use eevdf_fleet::{Drained, Operated};
 use eevdf_ops::{Answer, Setup, TaskSpec};
 use eevdf_weight::{Nice, Slice};
 use std::alloc::Global;
@@ -17,14 +17,6 @@ const CPUS: u64 = 64;
 
 /// The CPUs whose calls are tried.
 const TRIED: [u64; 8] = [0, 1, 2, 4, 8, 16, 32, 63];
-
-/// What is to come of a call.
-#[derive(Clone, Copy, PartialEq, Eq)]
-enum Wanted {
-    Answer(Answer),
-    Drained(Drained),
-    Posted,
-}
 
 /// The CPUs beside a CPU, without those that aren't there.
 fn neighbours(cpu: u64) -> [Option<u64>; 2] {
@@ -56,27 +48,27 @@ fn two_tasks_each(rt: &impl Abort, alloc: Global) -> Setup {
     Setup::make(alloc, &tasks, &programs).expect(rt, "setup")
 }
 
-fn picked(rt: &impl Abort, number: u64) -> Wanted {
-    Wanted::Answer(Answer::Picked(task(rt, number)))
+fn picked(rt: &impl Abort, number: u64) -> Operated {
+    Operated::Answer(Answer::Picked(task(rt, number)))
 }
 
 /// A sleep of a task that keeps no lag.
-fn slept() -> Wanted {
-    Wanted::Answer(Answer::Slept(0))
+fn slept() -> Operated {
+    Operated::Answer(Answer::Slept(0))
 }
 
 /// A drain of one request, which wakes its task.
-fn woke_one() -> Wanted {
-    Wanted::Drained(Drained { taken: 1, woken: 1 })
+fn woke_one() -> Operated {
+    Operated::Drained(Drained { taken: 1, woken: 1 })
 }
 
 /// Calls of a CPU and of a neighbour, with what comes of them. All tasks keep lag 0, so that each falls asleep with it, and of two that
 /// are runnable the one of the lower number is picked. The last three calls change what the task that runs has.
-fn calls(rt: &impl Abort, alloc: Global, cpu: u64, neighbour: u64) -> Vec<(u64, Call, Wanted)> {
+fn calls(rt: &impl Abort, alloc: Global, cpu: u64, neighbour: u64) -> Vec<(u64, Call, Operated)> {
     let second = cpu.saturating_add(CPUS);
     let third = neighbour.saturating_add(CPUS);
-    let pulled = Wanted::Answer(Answer::Pulled(task(rt, third)));
-    let charged = Wanted::Answer(Answer::Charged {
+    let pulled = Operated::Answer(Answer::Pulled(task(rt, third)));
+    let charged = Operated::Answer(Answer::Charged {
         task: task(rt, cpu),
         resched: false,
     });
@@ -88,16 +80,16 @@ fn calls(rt: &impl Abort, alloc: Global, cpu: u64, neighbour: u64) -> Vec<(u64, 
         (cpu, Call::Pull(neighbour), pulled),
         (cpu, Call::Pick, picked(rt, third)),
         (cpu, Call::Sleep(third), slept()),
-        (cpu, Call::Post(third), Wanted::Posted),
+        (cpu, Call::Post(third), Operated::Posted),
         (neighbour, Call::Drain, woke_one()),
-        (neighbour, Call::Post(cpu), Wanted::Posted),
+        (neighbour, Call::Post(cpu), Operated::Posted),
         (cpu, Call::Drain, woke_one()),
-        (cpu, Call::Post(second), Wanted::Posted),
+        (cpu, Call::Post(second), Operated::Posted),
         (cpu, Call::Drain, woke_one()),
         (cpu, Call::Pick, picked(rt, cpu)),
         (cpu, Call::Tick(1_000), charged),
-        (cpu, Call::Yield, Wanted::Answer(Answer::Yielded)),
-        (cpu, Call::Renice(cpu, 5), Wanted::Answer(Answer::Reniced)),
+        (cpu, Call::Yield, Operated::Answer(Answer::Yielded)),
+        (cpu, Call::Renice(cpu, 5), Operated::Answer(Answer::Reniced)),
     ]
     .expect(rt, "memory")
 }

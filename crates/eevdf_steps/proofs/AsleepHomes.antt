@@ -1,22 +1,25 @@
 -- A task sleeps at its home alone, on the machines that deeds leave and while the callers work.
-use Rattle.std.proofs.Common.{◌≡◌, ℕ, Bool, true, false, cond, ◌||◌, List, [], ◌∷◌, set, refl, sym, ap, subst, ◌∙◌}
+use Rattle.std.proofs.Common.{◌≡◌, ℕ, Bool, true, false, cond, ◌||◌, List, [], ◌∷◌, length, set, refl, sym, ap, subst, ◌∙◌}
 use Rattle.std.specs.Prelude.{◌==◌, Option, Some, None, Result, Ok, Err}
-use Rattle.std.specs.{Option.unwrap_or, FinMap.contains_key, FinMap.get}
+use Rattle.std.proofs.lemmas.Bool.{and_parts}
+use Rattle.std.specs.{List.list_all, Option.unwrap_or, FinMap.contains_key, FinMap.get}
 use Rattle.eevdf_queue.specs.{declared.entry.Entry.Entry, Wake.wake_sleeper, Wake.wake_to, Moves.put_asleep, Moves.sleeper_of, Moves.with_runnable}
 use Rattle.eevdf_queue.specs.{declared.sleeper.Sleeper.Sleeper, Placing.placed_entry, State.State, State.Contents}
 use Rattle.eevdf_queue.specs.Leaving.{carried_running, leave, without_entry}
 use Rattle.eevdf_ops.specs.{declared.deeds.Answer.Answer, declared.deeds.Deed.Deed, declared.deeds.Line.Line}
 use Rattle.eevdf_ops.specs.{Histories.machine_told, Machine.Machine, Machine.queue_at, Programs.deeds_of, Setup.home_of}
 use Rattle.eevdf_ops.specs.{Whole.machine_after, Whole.whole, WholeSleep.sleep_carrying, WholeSleep.task_leaves}
+use Rattle.eevdf_ops.proofs.{WholeActs.whole-pull, WholeActs.whole-sleep, WholePlaces.length-whole}
 use Rattle.eevdf_ops.specs.declared.deeds.Deed.TheVariants.{Tick, Pick, Yield, Sleep, Wake, Pull, Renice}
 use Rattle.eevdf_ops.specs.Parts.{after_leaving, giver, only_at}
-use Rattle.eevdf_ops.specs.WholePull.{decision, load_of, offer, pull_decided}
+use Rattle.eevdf_ops.specs.WholePull.{pull_decided, pull_decision}
 use Rattle.eevdf_ops.proofs.{Carried.Carries, Carried.running-carries, MachinePlaces.SleepsAtHome, MachinePlaces.each-set}
 use Rattle.eevdf_ops.proofs.MapCounts.{contains-insert, contains-removed, equal}
 use Rattle.eevdf_ops.proofs.QueuePlaces.{pick-same, renice-same, tick-same, yield-same}
-use Rattle.eevdf_steps.specs.{Counters.Counters, Counters.holder, Counters.holds, Plan.Plan, Plan.callers, Work.Work, Serial.IsSerial, Serial.begun_by}
+use Rattle.eevdf_steps.specs.{Counters.Counters, Counters.holder, Counters.holds, Plan.IsSound, Plan.Plan, Plan.callers, Work.Work, Serial.IsSerial, Serial.begun_by, Serial.is_allowed_commit}
 use Rattle.eevdf_steps.specs.UnderWay.{UnderWay, leaves, queue_seen}
-use Rattle.eevdf_steps.proofs.{Ready.least_found, SerialSteps.free_queue}
+use Rattle.eevdf_steps.proofs.{Ready.least_found, SerialSteps.free_queue, SerialSteps.commit_allowed, OtherCallers.AreWalking}
+use Rattle.eevdf_steps.proofs.{OwnCommits.length-machine_after, SoundDeeds.are_walking}
 
 -- each sleeping task of a machine is at its home
 abbrev pub AllAtHome : List ℕ → Machine → Type 0
@@ -86,41 +89,50 @@ module _ (homes : List ℕ) where
       let left : Machine = task_leaves m source p.task in
       less_at_home left cpu _ (joined_less (queue_at left cpu) p.task (placed_entry (queue_at left cpu) (sleeper_of p))) (leaves_at_home m source p.task all)
 
-  whole_at_home : (deed : Deed) (m : Machine) → AllAtHome homes m → AllAtHome homes (whole homes deed m).1
-  whole_at_home (Tick cpu ns) m all = less_at_home m cpu _ (tick-same (queue_at m cpu) ns).asleep all
-  whole_at_home (Pick cpu) m all = less_at_home m cpu _ (pick-same (queue_at m cpu)).asleep all
-  whole_at_home (Yield cpu) m all = less_at_home m cpu _ (yield-same (queue_at m cpu)).asleep all
-  whole_at_home (Sleep cpu task) m all = sleep_at_home m cpu task (carried_running (queue_at m cpu) task) refl all
-  whole_at_home (Wake cpu task sender) m all = less_at_home m cpu _ (wake_sleeper_less (queue_at m cpu) task _) all
-  whole_at_home (Renice cpu task nice) m all = less_at_home m cpu _ (renice-same (queue_at m cpu) task nice).asleep all
-  whole_at_home (Pull cpu source) m all = pull_at_home m cpu source (decision (queue_at m cpu) (load_of (queue_at m source)) (offer (queue_at m source))) all
+  whole_at_home : (deed : Deed) (m : Machine) → is_allowed_commit (length m) homes deed ≡ true → AllAtHome homes m → AllAtHome homes (whole homes deed m).1
+  whole_at_home (Tick cpu ns) m ok all = less_at_home m cpu _ (tick-same (queue_at m cpu) ns).asleep all
+  whole_at_home (Pick cpu) m ok all = less_at_home m cpu _ (pick-same (queue_at m cpu)).asleep all
+  whole_at_home (Yield cpu) m ok all = less_at_home m cpu _ (yield-same (queue_at m cpu)).asleep all
+  whole_at_home (Sleep cpu task) m ok all =
+      subst (λ (r : Answer × Machine). AllAtHome homes r.1) (sym (whole-sleep homes cpu task m ok)) (sleep_at_home m cpu task (carried_running (queue_at m cpu) task) refl all)
+  whole_at_home (Wake cpu task sender) m ok all = less_at_home m cpu _ (wake_sleeper_less (queue_at m cpu) task _) all
+  whole_at_home (Renice cpu task nice) m ok all = less_at_home m cpu _ (renice-same (queue_at m cpu) task nice).asleep all
+  whole_at_home (Pull cpu source) m ok all =
+      subst (λ (r : Answer × Machine). AllAtHome homes r.1) (sym (whole-pull homes cpu source m ok)) (pull_at_home m cpu source (pull_decision m cpu source) all)
 
-  after_at_home : (ds : List Deed) (m : Machine) → AllAtHome homes m → AllAtHome homes (machine_after homes m ds)
-  after_at_home [] m all = all
-  after_at_home (d ∷ ds) m all = after_at_home ds (whole homes d m).1 (whole_at_home d m all)
+  after_at_home : (cpus : ℕ) (ds : List Deed) (m : Machine) → length m ≡ cpus → list_all (is_allowed_commit cpus homes) ds ≡ true → AllAtHome homes m → AllAtHome homes (machine_after homes m ds)
+  after_at_home cpus [] m many ok all = all
+  after_at_home cpus (d ∷ ds) m many ok all =
+      let parts = and_parts (is_allowed_commit cpus homes d) (list_all (is_allowed_commit cpus homes) ds) ok in
+      after_at_home cpus ds (whole homes d m).1 (length-whole homes d m ∙ many) parts.1 (whole_at_home d m (ap (λ (n : ℕ). is_allowed_commit n homes d) many ∙ parts.0) all)
 
-  begun_at_home : (m : Machine) (u : UnderWay) (cpu : ℕ) (b : Bool) → AllAtHome homes m
+  begun_at_home : (m : Machine) (u : UnderWay) (cpu : ℕ) (b : Bool) → is_allowed_commit (length m) homes u.deed ≡ true → AllAtHome homes m
       → SleepsAtHome homes cpu (cond b (queue_at (whole homes u.deed m).1 cpu) (only_at (giver u.deed) cpu (after_leaving (leaves homes m u.deed)) (queue_at m cpu)))
-  begun_at_home m u cpu true all = whole_at_home u.deed m all cpu
-  begun_at_home m u cpu false all =
+  begun_at_home m u cpu true ok all = whole_at_home u.deed m ok all cpu
+  begun_at_home m u cpu false ok all =
       still homes cpu (queue_at m cpu) (only_at (giver u.deed) cpu (after_leaving (leaves homes m u.deed)) (queue_at m cpu))
       (left_less (queue_at m cpu) (cpu == giver u.deed) (leaves homes m u.deed)) (all cpu)
 
-  seen_at_home : (m : Machine) (o : Option UnderWay) (cpu : ℕ) → AllAtHome homes m → SleepsAtHome homes cpu (queue_seen homes m o cpu)
-  seen_at_home m None cpu all = all cpu
-  seen_at_home m (Some u) cpu all = begun_at_home m u cpu u.done all
+  seen_at_home : (m : Machine) (o : Option UnderWay) (cpu : ℕ) → ((u : UnderWay) → o ≡ Some u → is_allowed_commit (length m) homes u.deed ≡ true) → AllAtHome homes m
+      → SleepsAtHome homes cpu (queue_seen homes m o cpu)
+  seen_at_home m None cpu ok all = all cpu
+  seen_at_home m (Some u) cpu ok all = begun_at_home m u cpu u.done (ok u refl) all
 
 -- a queue whose lock is held, and one whose lock is free
-at_home_by : (plan : Plan) (start : Machine) (counters : Counters) (w : Work) (lines : List Line) (cpu : ℕ) (o : Option ℕ) → holder plan counters cpu ≡ o
-    → IsSerial plan start counters w lines → AllAtHome plan.homes (machine_told plan.homes start lines) → SleepsAtHome plan.homes cpu (queue_at w.machine cpu)
-at_home_by plan start counters w lines cpu None e serial all =
+at_home_by : (plan : Plan) (start : Machine) (counters : Counters) (w : Work) (lines : List Line) (cpu : ℕ) (o : Option ℕ) → holder plan counters cpu ≡ o → AreWalking plan counters
+    → length (machine_told plan.homes start lines) ≡ callers plan → IsSerial plan start counters w lines → AllAtHome plan.homes (machine_told plan.homes start lines)
+    → SleepsAtHome plan.homes cpu (queue_at w.machine cpu)
+at_home_by plan start counters w lines cpu None e walks long serial all =
     subst (SleepsAtHome plan.homes cpu) (sym (free_queue plan start counters w lines cpu serial e)) (all cpu)
-at_home_by plan start counters w lines cpu (Some p) e serial all =
+at_home_by plan start counters w lines cpu (Some p) e walks long serial all =
+    let told : Machine = machine_told plan.homes start lines in
     subst (SleepsAtHome plan.homes cpu)
     (sym (serial.seen.held cpu p (least_found (holds plan counters cpu) 0 (callers plan) p e).passes))
-    (seen_at_home plan.homes (machine_told plan.homes start lines) (begun_by plan counters p) cpu all)
+    (seen_at_home plan.homes told (begun_by plan counters p) cpu (λ u b. commit_allowed (length told) plan.homes u.deed (walks.fits p u b told long).allowed) all)
 
-pub callers_at_home : (plan : Plan) (start : Machine) (counters : Counters) (w : Work) (lines : List Line) → IsSerial plan start counters w lines → AllAtHome plan.homes start
-    → AllAtHome plan.homes w.machine
-callers_at_home plan start counters w lines serial all cpu =
-    at_home_by plan start counters w lines cpu (holder plan counters cpu) refl serial (after_at_home plan.homes (deeds_of lines) start all)
+pub callers_at_home : (plan : Plan) (counters : Counters) (w : Work) (lines : List Line) → IsSound plan → length counters ≡ callers plan → IsSerial plan plan.start counters w lines
+    → AllAtHome plan.homes plan.start → AllAtHome plan.homes w.machine
+callers_at_home plan counters w lines sound each serial all cpu =
+    at_home_by plan plan.start counters w lines cpu (holder plan counters cpu) refl (are_walking plan counters sound each)
+    (length-machine_after plan.homes plan.start (deeds_of lines) ∙ sound.start) serial
+    (after_at_home plan.homes (length plan.start) (deeds_of lines) plan.start refl serial.allowed all)

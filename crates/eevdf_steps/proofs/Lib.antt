@@ -15,6 +15,7 @@ pub mod Ready
 -- work on queues and hands
 pub mod WorkPlaces
 pub mod WorkSteps
+pub mod WorkQueues
 -- requests
 pub mod Posting
 pub mod Progressing

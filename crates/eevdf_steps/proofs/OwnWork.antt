@@ -6,20 +6,20 @@ use Rattle.eevdf_queue.specs.State.{State, Contents, empty_state}
 use Rattle.eevdf_queue.specs.{Moves.put_asleep, Moves.sleeper_of, Leaving.carried_running, Leaving.leave, Placing.can_place}
 use Rattle.eevdf_ops.specs.{declared.deeds.Op.Op, declared.deeds.Deed.Deed, declared.deeds.Answer.Answer}
 use Rattle.eevdf_ops.specs.{declared.deeds.Answer.TheVariants.NotRunning, declared.deeds.Answer.TheVariants.Pulled, Machine.Machine}
-use Rattle.eevdf_ops.specs.{Machine.queue_at, Whole.whole, WholeSleep.sleep_carrying, WholeSleep.slept, Programs.deed_of}
+use Rattle.eevdf_ops.specs.{Machine.queue_at, Whole.whole, WholeSleep.slept, Programs.deed_of}
 use Rattle.eevdf_ops.specs.declared.deeds.Op.TheVariants as op
 use Rattle.eevdf_ops.specs.declared.deeds.Deed.TheVariants as deed
-use Rattle.eevdf_ops.specs.Parts.{after_leaving, after_falling_asleep, after_joining, giver, only_at, taken}
+use Rattle.eevdf_ops.specs.Parts.{after_leaving, after_falling_asleep, after_joining, answer_of_pull, answer_of_sleep, giver, only_at, taken}
 use Rattle.eevdf_ops.specs.PartsLaws as laws
-use Rattle.eevdf_ops.specs.WholePull.{load_of, offer, pull_decided, pull_decision, with_task}
-use Rattle.eevdf_ops.proofs.LocalParts.{changed, idle, untaken, whole-after}
+use Rattle.eevdf_ops.specs.WholePull.{load_of, offer, pull_decision, with_task}
+use Rattle.eevdf_ops.proofs.LocalParts.{changed, idle, untaken, whole-after, whole-answer}
 use Rattle.eevdf_ops.proofs.{MachinePlaces.other_queue, Pulling.decision-taken}
 use Rattle.eevdf_steps.specs.declared.micro.Micro.TheVariants.{Act, Detach, Attach}
 use Rattle.eevdf_steps.specs.Plan.{Plan, callers, home}
 use Rattle.eevdf_steps.specs.Counters.{Counters, counted, holds}
 use Rattle.eevdf_steps.specs.{declared.plan.Step.Step, Serial.begun_by}
 use Rattle.eevdf_steps.specs.UnderWay.{KeepsAnswer, UnderWay, begun, hand_seen, leaves, queue_seen, under_way}
-use Rattle.eevdf_steps.specs.Work.{Work, acted, answer, answered, attach_asleep, attach_pulled, detach_pulled, detach_running, detached, hand, put_down}
+use Rattle.eevdf_steps.specs.Work.{Work, acted, answer, answered, attach_asleep, attach_pulled, detach_pulled, detach_running, detached, emptied, hand, with_queue}
 use Rattle.eevdf_steps.proofs.OtherCallers.{IsStepOf}
 use Rattle.eevdf_steps.proofs.OwnSteps.{AtStep, begun_now, local_step, sees_history, hand_empty, other_held}
 
@@ -62,9 +62,9 @@ module _ {plan : Plan} {counters : Counters} {p : ℕ} {m : Machine} {w : Work} 
   -- a detach takes a task into the hand
   grasped_step : {o : Op} (d : Deed) (x : Contents) (a : Answer) → AtStep plan counters p m w o Detach
       → begun_by plan (counted counters p) p ≡ Some (record { deed = d; done = false }) → holds plan counters (giver d) p ≡ true → giver d < length w.machine
-      → (whole plan.homes d m).0 ≡ a → leaves plan.homes m d ≡ Some x → IsStepOf plan counters p m m w (detached w p (giver d) x a)
+      → (whole plan.homes d m).0 ≡ a → leaves plan.homes m d ≡ Some x → IsStepOf plan counters p m m w (detached w p (giver d) a (Some x))
   grasped_step d x a at now own below answers leaves_it =
-      local_step at m (detached w p (giver d) x a) (Some (record { deed = d; done = false })) (λ c b. refl) now at.long (λ c h. refl)
+      local_step at m (detached w p (giver d) a (Some x)) (Some (record { deed = d; done = false })) (λ c b. refl) now at.long (λ c h. refl)
       (λ c h. other_queue w.machine (giver d) c (leave (queue_at w.machine (giver d)) x.task) (other_held plan counters p (giver d) c own h))
       (λ c h. changed (λ q. leave q x.task) w.machine (giver d) c below
       ∙ ap (λ (q : State). only_at (giver d) c (λ r. leave r x.task) q) (sees_history at refl c h)
@@ -79,21 +79,21 @@ module _ {plan : Plan} {counters : Counters} {p : ℕ} {m : Machine} {w : Work} 
       → begun_by plan (counted counters p) p ≡ Some (record { deed = deed.Sleep p t; done = false }) → holds plan counters p p ≡ true
       → carried_running (queue_at m p) t ≡ r → IsStepOf plan counters p m m w (detach_running w p r)
   sleep_leaves t None at now own e =
-      refused_step (deed.Sleep p t) NotRunning at now (ap (λ (r : Option Contents). (sleep_carrying m p (home plan t) r).0) e) e
+      refused_step (deed.Sleep p t) NotRunning at now (whole-answer plan.homes (deed.Sleep p t) m ∙ ap answer_of_sleep e) e
   sleep_leaves t (Some x) at now own e =
-      grasped_step (deed.Sleep p t) x (slept x) at now own (omega (arith, at.caller, at.queues)) (ap (λ (r : Option Contents). (sleep_carrying m p (home plan t) r).0) e) e
+      grasped_step (deed.Sleep p t) x (slept x) at now own (omega (arith, at.caller, at.queues)) (whole-answer plan.homes (deed.Sleep p t) m ∙ ap answer_of_sleep e) e
 
   -- the task that is pulled
   pub pull_leaves : (s : ℕ) (r : Result Contents Answer) → AtStep plan counters p m w (op.Pull s) Detach
       → begun_by plan (counted counters p) p ≡ Some (record { deed = deed.Pull p s; done = false }) → holds plan counters s p ≡ true → s < callers plan
       → pull_decision m p s ≡ r → IsStepOf plan counters p m m w (detach_pulled w p s r)
   pull_leaves s (Err why) at now own below e =
-      let answers : (whole plan.homes (deed.Pull p s) m).0 ≡ why = ap (λ (r : Result Contents Answer). (pull_decided m p s r).0) e in
+      let answers : (whole plan.homes (deed.Pull p s) m).0 ≡ why = whole-answer plan.homes (deed.Pull p s) m ∙ ap answer_of_pull e in
       refused_step (deed.Pull p s) why at now answers
       (ap (λ (a : Answer). taken a (offer (queue_at m s))) answers
       ∙ untaken (queue_at m p) (load_of (queue_at m s)) (offer (queue_at m s)) (offer (queue_at m s)) why e)
   pull_leaves s (Ok x) at now own below e =
-      let answers : (whole plan.homes (deed.Pull p s) m).0 ≡ Pulled x.task = ap (λ (r : Result Contents Answer). (pull_decided m p s r).0) e in
+      let answers : (whole plan.homes (deed.Pull p s) m).0 ≡ Pulled x.task = whole-answer plan.homes (deed.Pull p s) m ∙ ap answer_of_pull e in
       grasped_step (deed.Pull p s) x (Pulled x.task) at now own (omega (arith, below, at.queues)) answers
       (ap (λ (a : Answer). taken a (offer (queue_at m s))) answers
       ∙ (decision-taken (queue_at m p) (load_of (queue_at m s)) (offer (queue_at m s)) x e).offered_it)
@@ -107,7 +107,7 @@ pub record AtAttach (plan : Plan) (counters : Counters) (p : ℕ) (m : Machine) 
   pub queues_are : (c : ℕ) → holds plan counters c p ≡ true → queue_at w.machine c ≡ only_at (giver d) c (after_leaving (leaves plan.homes m d)) (queue_at m c)
 
 -- a task that a pull takes has room at the CPU that pulls
-room_by : (m : Machine) (p s : ℕ) (x : Contents) (r : Result Contents Answer) → pull_decision m p s ≡ r → taken (pull_decided m p s r).0 (offer (queue_at m s)) ≡ Some x
+room_by : (m : Machine) (p s : ℕ) (x : Contents) (r : Result Contents Answer) → pull_decision m p s ≡ r → taken (answer_of_pull r) (offer (queue_at m s)) ≡ Some x
     → can_place (queue_at m p) (sleeper_of x) ≡ true
 room_by m p s x (Err why) e t =
     let none : None ≡ Some x = sym (untaken (queue_at m p) (load_of (queue_at m s)) (offer (queue_at m s)) (offer (queue_at m s)) why e) ∙ t in
@@ -145,9 +145,9 @@ module _ {plan : Plan} {counters : Counters} {p : ℕ} {m : Machine} {w : Work} 
   -- the task in hand is put down in a queue that the caller holds
   put_down_step : {o : Op} (k : ℕ) (d : Deed) (f : State → State) → AtAttach plan counters p m w o d → holds plan counters k p ≡ true → k < length w.machine
       → ((c : ℕ) → holds plan counters c p ≡ true → queue_at (whole plan.homes d m).1 c ≡ only_at k c f (queue_at w.machine c))
-      → IsStepOf plan counters p m m w (put_down w p (set w.machine k (f (queue_at w.machine k))))
+      → IsStepOf plan counters p m m w (with_queue (emptied w p) k (f (queue_at w.machine k)))
   put_down_step k d f a own below same =
-      local_step a.at m (put_down w p (set w.machine k (f (queue_at w.machine k)))) (Some (record { deed = d; done = true })) (λ c b. refl) a.now a.at.long
+      local_step a.at m (with_queue (emptied w p) k (f (queue_at w.machine k))) (Some (record { deed = d; done = true })) (λ c b. refl) a.now a.at.long
       (λ c h. refl) (λ c h. other_queue w.machine k c (f (queue_at w.machine k)) (other_held plan counters p k c own h))
       (λ c h. changed f w.machine k c below ∙ sym (same c h)) (λ q h. get_or-set_other w.hands p q None None h) (λ q h. refl)
       (get_or-set_same w.hands p None None (omega (arith, a.at.caller, a.at.hands))) a.answer_is
@@ -198,4 +198,5 @@ module _ {plan : Plan} {counters : Counters} {p : ℕ} {m : Machine} {w : Work} 
       let other : (p == s) ≡ false = ne_eqb p s (λ e. apart (sym e)) in
       let same : queue_at w.machine p ≡ queue_at m p =
       a.queues_are p own ∙ ap (λ b. cond b (after_leaving (leaves plan.homes m (deed.Pull p s)) (queue_at m p)) (queue_at m p)) other in
-      subst (λ (q : State). can_place q (sleeper_of x) ≡ true) (sym same) (room_by m p s x (pull_decision m p s) refl e)
+      subst (λ (q : State). can_place q (sleeper_of x) ≡ true) (sym same)
+      (room_by m p s x (pull_decision m p s) refl (ap (λ (a : Answer). taken a (offer (queue_at m s))) (sym (whole-answer plan.homes (deed.Pull p s) m)) ∙ e))

@@ -3,19 +3,17 @@
 ghost use Rattle.std.specs.Prelude.{◌≡◌, ◌<◌, ◌≤◌, length, replicate, vec_len, true, None, IfOk};
 ghost use Rattle.std.specs.Prelude.{IfSome};
 ghost use Rattle.eevdf_queue.specs.{Leaving.carried_running, Moves.sleeper_of, Placing.can_place};
-ghost use Rattle.eevdf_ops.specs.{Machine.queue_at, Numbers.most_cpus, Outcome.machine_of};
-ghost use Rattle.eevdf_ops.specs.{Places.places_in};
+ghost use Rattle.eevdf_ops.specs.{LocalActs.local_done, Machine.queue_at, Numbers.most_cpus};
+ghost use Rattle.eevdf_ops.specs.{Outcome.machine_of, Places.places_in, WholePull.pull_decision};
 ghost use Rattle.eevdf_ops.specs.Places.{places as machine_places};
-ghost use Rattle.eevdf_ops.specs.WholePull.{pull_decision};
 ghost use Rattle.eevdf_steps.specs.Places as places;
 ghost use Rattle.eevdf_steps.specs.Work as work;
 
 use crate::hand::Hand;
 use crate::place::Place;
-use eevdf_ops::one_queue::{pick, renice, tick, wake, yield_now};
-use eevdf_ops::whole_pull::{join, take_pulled};
-use eevdf_ops::whole_sleep::{fall_asleep, slept, take_running};
-use eevdf_ops::{Answer, CpuId, Op};
+use eevdf_ops::pull::decide;
+use eevdf_ops::sleep::leave_running;
+use eevdf_ops::{Answer, CpuId, LocalAct, Op};
 use eevdf_queue::{Parcel, Queue, TaskId};
 use std::alloc::{AllocError, Global};
 use std::marker::Model;
@@ -130,40 +128,26 @@ impl Work {
         self.answers[cpu.index()]
     }
 
-    /// Does the deed of an operation on the caller's own queue.
+    /// Does the act that an operation is on the caller's own queue, and keeps its answer. Other operations do nothing here.
     pub(crate) fn act(&mut self, cpu: CpuId, op: Op)
         requires queue { cpu < length self.old.machine }
         requires answer { cpu < length self.old.answers }
         ensures { self.new ≡ work.act self.old cpu op }
     {
-        match op {
-            Op::Tick(ns) => {
-                let answer = tick(&mut self.queues, cpu, ns);
-                self.keep(cpu, answer);
-            }
-            Op::Pick => {
-                let answer = pick(&mut self.queues, cpu);
-                self.keep(cpu, answer);
-            }
-            Op::Yield => {
-                let answer = yield_now(&mut self.queues, cpu);
-                self.keep(cpu, answer);
-            }
-            Op::Renice(task, nice) => {
-                let answer = renice(&mut self.queues, cpu, task, nice);
-                self.keep(cpu, answer);
-            }
-            _ => {}
+        if let Some(act) = op.local() {
+            let answer = self.apply(cpu, act);
+            self.keep(cpu, answer);
         }
     }
 
-    /// Wakes a task on the caller's own queue.
-    pub(crate) fn wake(&mut self, cpu: CpuId, task: TaskId) -> Answer
+    /// Does an act on the caller's own queue.
+    pub(crate) fn apply(&mut self, cpu: CpuId, act: LocalAct) -> Answer
         requires { cpu < length self.old.machine }
-        ensures answer { result ≡ work.wake_answer self.old cpu task }
-        ensures after { self.new ≡ work.woken self.old cpu task }
+        ensures answer { result ≡ (local_done act (queue_at self.old.machine cpu)).0 }
+        ensures after { self.new ≡ work.with_queue self.old cpu
+            (local_done act (queue_at self.old.machine cpu)).1 }
     {
-        wake(&mut self.queues, cpu, task)
+        act.apply(&mut self.queues[cpu.index()])
     }
 
     /// Takes the task of an operation into the caller's hand, which is empty, unless the operation is refused.
@@ -189,13 +173,8 @@ impl Work {
         ensures { self.new ≡ work.detach_running self.old cpu
             (carried_running (queue_at self.old.machine cpu) task) }
     {
-        match take_running(&mut self.queues, cpu, task) {
-            None => self.keep(cpu, Answer::NotRunning),
-            Some(parcel) => {
-                let answer = slept(&parcel);
-                self.grasp(cpu, parcel, answer);
-            }
-        }
+        let (answer, parcel) = leave_running(&mut self.queues[cpu.index()], task);
+        self.grasp(cpu, answer, parcel);
     }
 
     fn detach_pulled(&mut self, cpu: CpuId, source: CpuId)
@@ -206,11 +185,11 @@ impl Work {
         ensures { self.new ≡ work.detach_pulled self.old cpu source
             (pull_decision self.old.machine cpu source) }
     {
-        match take_pulled(&mut self.queues, cpu, source) {
+        match decide(self.queue(cpu), self.queue(source)) {
             Err(refusal) => self.keep(cpu, refusal),
-            Ok(parcel) => {
-                let task = parcel.task();
-                self.grasp(cpu, parcel, Answer::Pulled(task));
+            Ok(task) => {
+                let parcel = self.queues[source.index()].detach(task);
+                self.grasp(cpu, Answer::Pulled(task), Some(parcel));
             }
         }
     }
@@ -224,7 +203,7 @@ impl Work {
         ensures { self.new ≡ work.attach_asleep self.old cpu home (work.hand self.old cpu) }
     {
         if let Some(parcel) = self.let_go(cpu) {
-            fall_asleep(&mut self.queues, home, parcel);
+            self.queues[home.index()].put_asleep(parcel);
         }
     }
 
@@ -239,7 +218,7 @@ impl Work {
         ensures { self.new ≡ work.attach_pulled self.old cpu (work.hand self.old cpu) }
     {
         if let Some(parcel) = self.let_go(cpu) {
-            join(&mut self.queues, cpu, parcel);
+            self.queues[cpu.index()].attach(parcel);
         }
     }
 
@@ -252,13 +231,16 @@ impl Work {
         self.hands[cpu.index()].take()
     }
 
-    fn grasp(&mut self, cpu: CpuId, parcel: Parcel, answer: Answer)
+    /// Keeps the answer of a detach, and takes the task that has left into the caller's hand, where one has.
+    fn grasp(&mut self, cpu: CpuId, answer: Answer, parcel: Option<Parcel>)
         requires answer { cpu < length self.old.answers }
         requires hand { cpu < length self.old.hands }
-        ensures { self.new ≡ work.grasped self.old cpu parcel answer }
+        ensures { self.new ≡ work.grasped self.old cpu answer parcel }
     {
-        self.hands[cpu.index()] = Hand::with(parcel);
-        self.answers[cpu.index()] = Some(answer);
+        if let Some(parcel) = parcel {
+            self.hands[cpu.index()] = Hand::with(parcel);
+        }
+        self.keep(cpu, answer);
     }
 
     fn keep(&mut self, cpu: CpuId, answer: Answer)

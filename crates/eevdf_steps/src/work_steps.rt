@@ -15,7 +15,7 @@ use crate::micro::Micro;
 use crate::plan::{Plan, Step};
 use crate::requests::Requests;
 use crate::work::Work;
-use eevdf_ops::{Answer, CpuId, Deed, Op};
+use eevdf_ops::{Answer, CpuId, Deed, LocalAct, Op};
 use eevdf_queue::TaskId;
 
 /// Does a caller's micro-step on what it concerns: the queues, the history, the requests, or the request that the caller has
@@ -104,7 +104,7 @@ fn settle(
     ensures found { found.new ≡ None }
 {
     if let Some(task) = found.take() {
-        let answer = work.wake(cpu, task);
+        let answer = work.apply(cpu, LocalAct::Wake { task, sender });
         journal.add(Deed::Wake { cpu, task, sender }, answer);
     }
 }

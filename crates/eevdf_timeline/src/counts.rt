@@ -1,7 +1,7 @@
 //! What is counted of a history, as its deeds are done once more.
 
 use crate::counted::{CpuCounts, Since, TaskCounts};
-use crate::moments::{Moment, cpu_of, do_again, named_task};
+use crate::moments::{Moment, do_again, named_task};
 use crate::progress::Progress;
 use eevdf_ops::{Answer, CpuId, Deed, Setup, Solo};
 use eevdf_queue::{Entry, TaskId};
@@ -90,7 +90,7 @@ impl Counts {
 
     /// Begins what is so of it after the deed.
     fn begin_states(&mut self, solo: &Solo, moment: &Moment, place: usize) {
-        let cpu = cpu_of(moment.line.deed);
+        let cpu = moment.line.deed.cpu();
         if let Some(task) = charged_task(moment) {
             self.renew(solo, task, cpu, place);
         }
@@ -101,7 +101,7 @@ impl Counts {
 
     /// Notes the virtual times of the CPUs that a deed touches.
     fn note_times(&mut self, solo: &Solo, moment: &Moment, place: usize) -> Result<(), AllocError> {
-        self.note_time(solo, cpu_of(moment.line.deed), place)?;
+        self.note_time(solo, moment.line.deed.cpu(), place)?;
         match moment.line.deed {
             Deed::Pull { source, .. } => self.note_time(solo, source, place),
             _ => Ok(()),
@@ -217,7 +217,7 @@ impl Counts {
 
     fn count_tick(&mut self, solo: &Solo, moment: &Moment) {
         let ns = moment.end.saturating_sub(moment.begin);
-        let cpu = cpu_of(moment.line.deed);
+        let cpu = moment.line.deed.cpu();
         match moment.line.answer {
             Answer::Charged { task, .. } => self.count_charge(solo, cpu, task, ns),
             Answer::Idle if matches!(moment.line.deed, Deed::Tick { .. }) => self.count_idle(
@@ -250,7 +250,7 @@ impl Counts {
 
     /// Counts picks, and what they end: a turn of another task, and the time since a wake.
     fn count_turn(&mut self, moment: &Moment) -> Result<(), AllocError> {
-        let cpu = cpu_of(moment.line.deed);
+        let cpu = moment.line.deed.cpu();
         match moment.line.answer {
             Answer::Picked(task) => {
                 if let Some(other) = self.set_running(cpu, Some(task)) {

@@ -1,6 +1,6 @@
 //! How the lags of tasks and the loads of CPUs change, as the deeds are done once more.
 
-use crate::moments::{Moment, cpu_of, do_again};
+use crate::moments::{Moment, do_again};
 use crate::progress::Progress;
 use crate::scale::{Scale, part};
 use crate::words::Choice;
@@ -120,7 +120,7 @@ impl Lags {
         moment: &Moment,
         scale: &Scale,
     ) -> Result<(), AllocError> {
-        let cpu = cpu_of(moment.line.deed);
+        let cpu = moment.line.deed.cpu();
         if self.looked.get(cpu.index()).copied().flatten() != Some(moment.begin) {
             self.look(solo, cpu, moment.begin, scale)?;
         }

@@ -3,7 +3,7 @@
 use crate::arrows::Shifts;
 use crate::boxes::{BOX, Group};
 use crate::marks::{Rows, Sign, is_chosen, running_after, sign_of};
-use crate::moments::{Moment, cpu_of};
+use crate::moments::Moment;
 use crate::scale::{Scale, Tenths, part};
 use crate::stretches::Stretch;
 use crate::words::Words;
@@ -82,7 +82,7 @@ impl Lanes {
     }
 
     fn place(&mut self, moment: &Moment, scale: &Scale, words: &Words) -> Result<(), AllocError> {
-        let cpu = cpu_of(moment.line.deed);
+        let cpu = moment.line.deed.cpu();
         let Some(lane) = self.lanes.get_mut(cpu.index()) else {
             return Ok(());
         };
@@ -267,7 +267,7 @@ fn stretches_shown(stretches: &[Stretch], scale: &Scale, words: &Words) -> usize
 fn deeds_shown(moments: &[Moment], scale: &Scale, words: &Words) -> usize {
     let mut shown = 0usize;
     for moment in moments {
-        let is_shown = words.cpus.has(cpu_of(moment.line.deed).index());
+        let is_shown = words.cpus.has(moment.line.deed.cpu().index());
         if is_shown && scale.shows(moment.begin, moment.begin) {
             shown = shown.saturating_add(1);
         }

@@ -2,7 +2,7 @@
 
 ghost use Rattle.std.specs.Prelude.{◌≡◌, map, IfOk};
 
-use eevdf_ops::{Answer, CpuId, Deed, Line, Solo};
+use eevdf_ops::{Answer, Deed, Line, Solo};
 use eevdf_queue::TaskId;
 use std::alloc::{AllocError, Global};
 
@@ -16,19 +16,6 @@ pub struct Moment {
     pub end: u64,
     /// The clock of the other CPU that the deed names, the source of a pull or the sender of a wake, and else of its own.
     pub other: u64,
-}
-
-/// The CPU on which a deed is done.
-pub(crate) fn cpu_of(deed: Deed) -> CpuId {
-    match deed {
-        Deed::Tick { cpu, .. }
-        | Deed::Pick { cpu }
-        | Deed::Yield { cpu }
-        | Deed::Sleep { cpu, .. }
-        | Deed::Wake { cpu, .. }
-        | Deed::Pull { cpu, .. }
-        | Deed::Renice { cpu, .. } => cpu,
-    }
 }
 
 /// Does a deed of a history on a machine that has done all before it. The answer is the line's: the history is that of the one thread
@@ -84,7 +71,7 @@ impl Clocks {
     fn moment(&mut self, line: Line) -> Moment
         ensures { result.line ≡ line }
     {
-        let cpu = cpu_of(line.deed).index();
+        let cpu = line.deed.cpu().index();
         let begin = time_at(&self.cpus, cpu).max(self.earliest(&line));
         let end = begin.saturating_add(length_of(&line));
         let other = self.other(line.deed);
@@ -114,7 +101,7 @@ impl Clocks {
         match deed {
             Deed::Pull { source, .. } => time_at(&self.cpus, source.index()),
             Deed::Wake { sender, .. } => time_at(&self.cpus, sender.index()),
-            _ => time_at(&self.cpus, cpu_of(deed).index()),
+            _ => time_at(&self.cpus, deed.cpu().index()),
         }
     }
 }

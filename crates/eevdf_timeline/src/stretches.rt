@@ -1,6 +1,6 @@
 //! The stretches that tasks ran.
 
-use crate::moments::{Moment, cpu_of};
+use crate::moments::Moment;
 use eevdf_ops::{Answer, CpuId};
 use eevdf_queue::TaskId;
 use std::alloc::{AllocError, Global};
@@ -25,7 +25,7 @@ pub(crate) fn stretches_of(
     for moment in moments {
         match moment.line.answer {
             Answer::Charged { task, .. } => extend(&mut stretches, &mut open, task, moment)?,
-            Answer::Slept(_) => set_open(&mut open, cpu_of(moment.line.deed), None),
+            Answer::Slept(_) => set_open(&mut open, moment.line.deed.cpu(), None),
             _ => {}
         }
     }
@@ -39,7 +39,7 @@ fn extend(
     task: TaskId,
     moment: &Moment,
 ) -> Result<(), AllocError> {
-    let cpu = cpu_of(moment.line.deed);
+    let cpu = moment.line.deed.cpu();
     let (begin, end) = (moment.begin, moment.end);
     if let Some(at) = open.get(cpu.index()).copied().flatten() {
         if lengthen(stretches, at, task, begin, end) {

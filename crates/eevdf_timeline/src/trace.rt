@@ -2,7 +2,7 @@
 
 use crate::event::{CPUS, Head, LAGS, Phase, Values, head_of, push_event, push_plain};
 use crate::marks::{is_chosen, running_after};
-use crate::moments::{Moment, cpu_of};
+use crate::moments::Moment;
 use crate::picture::Scene;
 use crate::stretches::Stretch;
 use eevdf_ops::{Answer, CpuId, Deed};
@@ -82,7 +82,7 @@ fn turns_at_start(alloc: Global, cpus: usize) -> Result<Vec<Turn>, AllocError> {
 
 /// Who ran on a deed's CPU before it, after which the next one is noted.
 fn running_before(turns: &mut [Turn], moment: &Moment) -> Option<TaskId> {
-    match turns.get_mut(cpu_of(moment.line.deed).index()) {
+    match turns.get_mut(moment.line.deed.cpu().index()) {
         None => None,
         Some(turn) => {
             let after = running_after(moment, turn.running);
@@ -110,7 +110,7 @@ fn is_drawn(scene: &Scene<'_>, moment: &Moment, running: Option<TaskId>) -> bool
     if let Answer::Charged { .. } = moment.line.answer {
         return false;
     }
-    let cpu = cpu_of(moment.line.deed).index();
+    let cpu = moment.line.deed.cpu().index();
     is_chosen(moment, running, scene.words)
         && scene.words.cpus.has(cpu)
         && scene.scale.shows(moment.begin, moment.begin)
@@ -137,7 +137,7 @@ fn push_deed(
         push_at(
             dues,
             moment.begin,
-            What::Ends(cpu_of(moment.line.deed), number),
+            What::Ends(moment.line.deed.cpu(), number),
         )?;
     }
     Ok(())
@@ -242,7 +242,7 @@ fn push_due(alloc: Global, text: &mut Vec<u8>, due: &Due) -> Result<(), AllocErr
 }
 
 fn push_done(alloc: Global, text: &mut Vec<u8>, moment: &Moment) -> Result<(), AllocError> {
-    push_slice(alloc, text, moment.begin, cpu_of(moment.line.deed), moment)
+    push_slice(alloc, text, moment.begin, moment.line.deed.cpu(), moment)
 }
 
 fn push_load(

@@ -1,5 +1,5 @@
-use eevdf_fleet::{Drained, RingFull};
-use eevdf_ops::{Answer, CpuId, Op};
+use eevdf_fleet::{Operated, Refused};
+use eevdf_ops::{CpuId, Op};
 use std::sync::Wait;
 
 /// A seat of a fleet of either kind, with a history or without.
@@ -16,27 +16,5 @@ pub trait DrawnSeat {
         rt: &R,
         fleet: &Self::Fleet,
         operation: Op,
-    ) -> Result<Came, Refused>;
+    ) -> Result<Operated, Refused>;
 }
-
-/// What comes of an operation. A post is an operation too where the ring is full and the request is lost.
-#[derive(Clone, Copy, PartialEq, Eq, Debug, Drop)]
-pub enum Came {
-    Answer(Answer),
-    Posted(Result<(), RingFull>),
-    Drained(Drained),
-}
-
-impl Came {
-    /// The answer, where there is one.
-    pub fn answer(&self) -> Option<Answer> {
-        match self {
-            Came::Answer(answer) => Some(*answer),
-            _ => None,
-        }
-    }
-}
-
-/// The operation could not be done: it is no operation of the machine, or its CPU may have no more lines.
-#[derive(Clone, Copy, PartialEq, Eq, Debug, Drop)]
-pub struct Refused;

@@ -4,10 +4,13 @@ ghost use Rattle.std.specs.Prelude.{◌<◌};
 
 use crate::asked_run::AskedRun;
 use crate::drawn_operations::{DrawnOperations, running_after};
-use crate::drawn_seat::Refused;
 use eevdf_ops::{Answer, CpuId, Deed, Op, Setup, Solo};
 use eevdf_queue::TaskId;
 use std::alloc::{AllocError, Global};
+
+/// The operation is none of the machine.
+#[derive(Drop)]
+struct Refused;
 
 /// A CPU, and the task that runs on it.
 #[derive(Drop)]

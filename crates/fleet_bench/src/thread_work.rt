@@ -1,12 +1,21 @@
 //! What each thread does: its operations, on its CPUs in turn.
 
 use crate::drawn_operations::running_after;
-use crate::drawn_seat::{Came, DrawnSeat, Refused};
+use crate::drawn_seat::DrawnSeat;
 use crate::thread_seats::ThreadSeats;
+use eevdf_fleet::{Operated, Refused};
 use std::alloc::{AllocError, Global};
 use std::sync::Wait;
 
-/// Does so many operations, and counts those that weren't refused.
+/// What came of an operation. `None` where the thread has no CPU.
+pub type Came = Option<Result<Operated, Refused>>;
+
+/// Whether an operation was done. A post is done too where the ring is full and the request is lost.
+pub fn is_done(came: &Came) -> bool {
+    matches!(came, Some(Ok(_) | Err(Refused::RingFull(_))))
+}
+
+/// Does so many operations, and counts those that were done.
 pub fn work<S: DrawnSeat + Drop, R: Wait>(
     rt: &R,
     fleet: &S::Fleet,
@@ -14,7 +23,7 @@ pub fn work<S: DrawnSeat + Drop, R: Wait>(
     mut own: ThreadSeats<S>,
 ) -> ThreadSeats<S> {
     for number in 0..operations {
-        if step(rt, fleet, &mut own, number).is_ok() {
+        if is_done(&step(rt, fleet, &mut own, number)) {
             own.done = own.done.saturating_add(1);
         }
     }
@@ -28,7 +37,7 @@ pub fn work_in_turn<S: DrawnSeat + Drop, R: Wait>(
     fleet: &S::Fleet,
     operations: u64,
     threads: &mut [ThreadSeats<S>],
-) -> Result<Vec<Result<Came, Refused>>, AllocError> {
+) -> Result<Vec<Came>, AllocError> {
     let mut came = Vec::new(alloc);
     for number in 0..operations {
         for own in threads.iter_mut() {
@@ -45,16 +54,16 @@ fn step<S: DrawnSeat + Drop, R: Wait>(
     fleet: &S::Fleet,
     own: &mut ThreadSeats<S>,
     number: u64,
-) -> Result<Came, Refused> {
+) -> Came {
     let count = own.seats.len() as u64;
     if count == 0 {
-        return Err(Refused);
+        return None;
     }
     let held = &mut own.seats[(number % count) as usize];
     let operation = own.drawn.next(held.seat.own_cpu(), held.running);
-    let came = held.seat.operate(rt, fleet, operation)?;
-    if let Some(answer) = came.answer() {
-        held.running = running_after(held.running, answer);
+    let came = held.seat.operate(rt, fleet, operation);
+    if let Ok(Operated::Answer(answer)) = &came {
+        held.running = running_after(held.running, *answer);
     }
-    Ok(came)
+    Some(came)
 }

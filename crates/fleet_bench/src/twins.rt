@@ -4,14 +4,14 @@ ghost use Rattle.std.specs.Prelude.{◌≡◌, ◌*◌, length};
 
 use crate::agreement::same_queues;
 use crate::asked_run::AskedRun;
-use crate::drawn_seat::{Came, DrawnSeat, Refused};
+use crate::drawn_seat::DrawnSeat;
 use crate::endless_run::closed;
 use crate::fleet_run::{quota, rings};
 use crate::one_place::all_stand_once;
 use crate::run_fault::RunFault;
 use crate::run_report::Report;
 use crate::thread_seats::{seats_by_thread, seats_of};
-use crate::thread_work::work_in_turn;
+use crate::thread_work::{Came, is_done, work_in_turn};
 use eevdf_fleet::{Fleet, Kit, Names, endless};
 use eevdf_ops::{Outcome, Setup};
 use std::alloc::{AllocError, Global};
@@ -21,7 +21,7 @@ use std::sync::Wait;
 /// What came of each operation of a run, and what the fleet is closed to.
 #[derive(Drop)]
 struct Twin {
-    came: Vec<Result<Came, Refused>>,
+    came: Vec<Came>,
     outcome: Outcome,
 }
 
@@ -37,7 +37,7 @@ pub fn twins_report<R: Wait>(
     let kit = endless::Kit::make(alloc, setup, rings(run))?;
     let endless = endless_twin::<Brand, R>(rt, alloc, run, kit)?;
     let agrees = agree(&kept, &endless) && all_stand_once(&endless.outcome, run.tasks as u64);
-    let done = endless.came.iter().filter(|came| came.is_ok()).count();
+    let done = endless.came.iter().filter(|came| is_done(came)).count();
     Ok(Report::compared(done as u64, agrees, "its twin"))
 }
 
@@ -81,7 +81,7 @@ fn came_of<S: DrawnSeat + Drop, R: Wait>(
     run: &AskedRun,
     fleet: &S::Fleet,
     seats: Vec<S>,
-) -> Result<(Vec<Result<Came, Refused>>, Vec<S>), AllocError> {
+) -> Result<(Vec<Came>, Vec<S>), AllocError> {
     let mut threads = seats_by_thread(alloc, run, seats)?;
     let came = work_in_turn(rt, alloc, fleet, run.operations, threads.as_mut_slice())?;
     Ok((came, seats_of(alloc, threads)?))

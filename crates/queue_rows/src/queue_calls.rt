@@ -93,25 +93,72 @@ fn sleeps_and_wakes(rt: &impl Abort, alloc: Global, queue: &mut Queue) {
     stands_at(rt, queue, 0, &woken)
 }
 
+/// Asks that this task, which has nice level 0, is offered with this slice and lag.
+fn is_offered(rt: &impl Abort, queue: &Queue, number: u64, slice_ns: u64, lag: i64) {
+    let offer = queue.offer().expect(rt, "nobody waits");
+    assert_eq!(rt; offer.task().get(), number);
+    assert_eq!(rt; Some(offer.nice()), Nice::new(0));
+    assert_eq!(rt; Some(offer.slice()), Slice::new(slice_ns));
+    assert_eq!(rt; offer.lag(), lag);
+}
+
+/// Of two tasks of equal weight one has run for a million nanoseconds, so the other is owed half of them.
+fn offers_who_waits(rt: &impl Abort, alloc: Global, queue: &mut Queue) {
+    assert!(rt; queue.offer().is_none());
+    charge_first_of_two(rt, alloc, queue);
+    is_offered(rt, queue, 1, 3_000_000, 500_000);
+    let offered = queue.offer().expect(rt, "nobody waits").task();
+    queue.detach(offered).retire();
+    assert!(rt; queue.offer().is_none());
+}
+
+/// The same with short slices. The task that ran has the latest deadline, and isn't offered. The other one keeps of what it is
+/// owed two slices.
+fn offers_a_lag_at_its_limit(rt: &impl Abort, alloc: Global, queue: &mut Queue) {
+    admit(rt, queue, parcel(rt, alloc, 0, 100_000, 0));
+    admit(rt, queue, parcel(rt, alloc, 1, 200_000, 0));
+    let first = task(rt, 0);
+    assert_eq!(rt; queue.pick(), Some(first));
+    let charged = TickAnswer::Charged {
+        task: first,
+        resched: true,
+    };
+    assert_eq!(rt; queue.tick(ns(rt, 1_000_000)), charged);
+    assert_eq!(rt; queue.floor_time(), 500_000);
+    is_offered(rt, queue, 1, 200_000, 400_000);
+}
+
 /// What is told of an empty queue.
 #[derive(Clone, Copy)]
 enum Story {
     Sleeper,
     LeaveAndJoin,
     SleepAndWake,
+    Offer,
+    OfferAtTheLimit,
 }
+
+const STORIES: [Story; 5] = [
+    Story::Sleeper,
+    Story::LeaveAndJoin,
+    Story::SleepAndWake,
+    Story::Offer,
+    Story::OfferAtTheLimit,
+];
 
 fn tell(rt: &impl Abort, alloc: Global, queue: &mut Queue, story: Story) {
     match story {
         Story::Sleeper => sleeps(rt, alloc, queue),
         Story::LeaveAndJoin => leaves_and_joins(rt, alloc, queue),
         Story::SleepAndWake => sleeps_and_wakes(rt, alloc, queue),
+        Story::Offer => offers_who_waits(rt, alloc, queue),
+        Story::OfferAtTheLimit => offers_a_lag_at_its_limit(rt, alloc, queue),
     }
 }
 
 #[test]
 fn a_queue_comes_to_what_is_worked_out(rt: HostRuntime) {
-    for story in [Story::Sleeper, Story::LeaveAndJoin, Story::SleepAndWake] {
+    for story in STORIES {
         let mut queue = Queue::open();
         tell(&rt, rt.alloc(), &mut queue, story);
     }

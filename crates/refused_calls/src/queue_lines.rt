@@ -7,6 +7,9 @@ pub fn say_queue(rt: &impl Print, queue: &Queue) {
     say_sums(rt, queue);
     say_task(rt, "running", queue.running());
     say_task(rt, "candidate", queue.candidate());
+    if let Some(offer) = queue.offer() {
+        let _ = offer.lag();
+    }
     for (task, entry) in queue.runnable_tasks() {
         say_runnable(rt, queue, task, entry);
     }

@@ -1,19 +1,19 @@
 ghost use Rattle.std.specs.Prelude.{◌≡◌, ◌≢◌, ◌<◌, ◌≤◌, ◌↔◌, ◌+◌, length, nat_lt, vec_capacity, IfOk, IsTrue, map, true};
-ghost use Rattle.eevdf_ops.specs.{Machine.queue_at, Outcome.machine_of, Parts.decider};
+ghost use Rattle.eevdf_ops.specs.{Acts.deed_at, Machine.queue_at, Outcome.machine_of, Parts.decider};
 ghost use Rattle.eevdf_ops.specs.Setup.{allows, cpus_of, homes_of, is_task};
 ghost use Rattle.eevdf_fleet.specs.{Drains.IsPickedAnew, Endless.Agree, Endless.AgreeOnPosts, Endless.AreListed};
 ghost use Rattle.eevdf_fleet.specs.Endless.{AreOfOneHistory, AreSeats, HasDone, HasDrained, HasSeenMore, IsOneThread};
 ghost use Rattle.eevdf_fleet.specs.Endless.{fresh_seats, told_by};
 ghost use Rattle.eevdf_fleet.specs.Fleets.{setup_of};
-ghost use Rattle.eevdf_fleet.specs.TouchedQueues.{IsNoWake, IsOfOneQueue};
+ghost use Rattle.eevdf_fleet.specs.TouchedQueues.{IsLocal, IsNoWake};
 
+use crate::call::Call;
 use crate::closing::ClosedQueues;
 use crate::drains::Drained;
 use crate::endless::closed::Closed;
 use crate::endless::kit::Kit;
 use crate::endless::queue_look::QueueLook;
 use crate::endless::seat::{Seat, parts_in, seats_of};
-use crate::gate::OpenGate;
 use crate::listed_drains::ListedDrain;
 use crate::names::Names;
 use crate::posted::Posted;
@@ -21,7 +21,7 @@ use crate::run_queues::RunQueues;
 use crate::seen::Seen;
 use crate::wake_list::DrainedWake;
 use crossbeam_utils::CachePadded;
-use eevdf_ops::{Answer, CpuId, Deed};
+use eevdf_ops::{Answer, CpuId, Deed, LocalAct};
 use eevdf_queue::TaskId;
 use eevdf_weight::{Nice, Ns};
 use std::alloc::{AllocError, Global};
@@ -63,8 +63,7 @@ impl<N: Names> Fleet<N> {
     pub fn tick<R: Wait>(&self, rt: &R, seat: &mut Seat<N>, ns: Ns) -> Answer
         ensures { HasDone (setup_of N.kit) (Deed.Tick seat.old.cpu ns) result seat.old seat.new }
     {
-        let cpu = seat.cpu();
-        self.own(rt, seat, Deed::Tick { cpu, ns })
+        self.own(rt, seat, LocalAct::Tick(ns))
     }
 
     /// Makes the eligible task of earliest virtual deadline run on the seat's CPU, among equal deadlines that of lowest
@@ -72,8 +71,7 @@ impl<N: Names> Fleet<N> {
     pub fn pick<R: Wait>(&self, rt: &R, seat: &mut Seat<N>) -> Answer
         ensures { HasDone (setup_of N.kit) (Deed.Pick seat.old.cpu) result seat.old seat.new }
     {
-        let cpu = seat.cpu();
-        self.own(rt, seat, Deed::Pick { cpu })
+        self.own(rt, seat, LocalAct::Pick)
     }
 
     /// Adds the charge of one slice to the virtual deadline of the task that runs on the seat's CPU, which runs until the
@@ -81,8 +79,7 @@ impl<N: Names> Fleet<N> {
     pub fn yield_now<R: Wait>(&self, rt: &R, seat: &mut Seat<N>) -> Answer
         ensures { HasDone (setup_of N.kit) (Deed.Yield seat.old.cpu) result seat.old seat.new }
     {
-        let cpu = seat.cpu();
-        self.own(rt, seat, Deed::Yield { cpu })
+        self.own(rt, seat, LocalAct::Yield)
     }
 
     /// Gives a task another nice level, if it is runnable on the seat's CPU (`Deed::Renice`). `NotHere`: it isn't runnable
@@ -92,8 +89,7 @@ impl<N: Names> Fleet<N> {
         ensures { HasDone (setup_of N.kit) (Deed.Renice seat.old.cpu task nice)
             result seat.old seat.new }
     {
-        let cpu = seat.cpu();
-        self.own(rt, seat, Deed::Renice { cpu, task, nice })
+        self.own(rt, seat, LocalAct::Renice(task, nice))
     }
 
     /// Puts a task to sleep at its home, if it runs on the seat's CPU (`Deed::Sleep`). `Slept` has the lag that it keeps, in
@@ -128,7 +124,7 @@ impl<N: Names> Fleet<N> {
     {
         let drained = self
             .queues
-            .drain(rt, &OpenGate, 0, &mut seat.parts, &mut seat.held);
+            .drain(&Call::alone(rt), &mut seat.parts, &mut seat.held);
         seat.parts.know();
         drained
     }
@@ -159,18 +155,18 @@ impl<N: Names> Fleet<N> {
         listed
     }
 
-    /// Does a deed of the seat's CPU that touches its queue alone, and isn't a wake.
+    /// Does an act of the seat's CPU that touches its queue alone, and isn't a wake.
     #[inline(always)]
-    fn own<R: Wait>(&self, rt: &R, seat: &mut Seat<N>, deed: Deed) -> Answer
-        requires one { IsOfOneQueue (homes_of (setup_of N.kit)) deed }
-        requires no_wake { IsNoWake deed }
-        requires own { decider deed ≡ seat.old.cpu }
-        requires allowed { allows (setup_of N.kit) deed ≡ true }
-        ensures { HasDone (setup_of N.kit) deed result seat.old seat.new }
+    fn own<R: Wait>(&self, rt: &R, seat: &mut Seat<N>, act: LocalAct) -> Answer
+        requires local { IsLocal (homes_of (setup_of N.kit)) seat.old.cpu act }
+        requires no_wake { IsNoWake (deed_at seat.old.cpu act) }
+        requires allowed { seat.old.cpu < cpus_of (setup_of N.kit)
+            → allows (setup_of N.kit) (deed_at seat.old.cpu act) ≡ true }
+        ensures { HasDone (setup_of N.kit) (deed_at seat.old.cpu act) result seat.old seat.new }
     {
         let answer = self
             .queues
-            .own(rt, &OpenGate, 0, &mut seat.parts, &mut seat.held, deed);
+            .own(&Call::alone(rt), &mut seat.parts, &mut seat.held, act);
         seat.parts.know();
         answer
     }
@@ -185,7 +181,7 @@ impl<N: Names> Fleet<N> {
     {
         let answer = self
             .queues
-            .operate(rt, &OpenGate, 0, &mut seat.parts, &mut seat.held, deed);
+            .operate(&Call::alone(rt), &mut seat.parts, &mut seat.held, deed);
         seat.parts.know();
         answer
     }

@@ -3,7 +3,7 @@
 use super::Case;
 use crate::fleet_calls::seat_call::Call::{Drain, Pick, Post, Pull, Renice, Sleep, Tick, Yield};
 
-pub const CASES: [Case; 5] = [
+pub const CASES: [Case; 6] = [
     Case {
         name: "each operation of a running task",
         workload: b"version = 2\nprogram = [[]]\n[[task]]\n[[task]]\n",
@@ -64,6 +64,19 @@ pub const CASES: [Case; 5] = [
         calls: &[
             (0, Post(0), "ring full at task 0"),
             (0, Drain, "0 taken, 0 woken"),
+        ],
+        report: "cpu 0\nload 1024 floor 0\ntask 0 v 0 d 3000000 lag 0\n",
+    },
+    Case {
+        name: "what the setup hasn't is named",
+        workload: b"version = 1\nprogram = [[]]\n[[task]]\n",
+        rings: 1,
+        calls: &[
+            (0, Sleep(1), "no task 1"),
+            (0, Renice(1, 5), "no task 1"),
+            (0, Post(1), "no task 1"),
+            (0, Pull(1), "no cpu 1"),
+            (0, Pull(0), "own cpu"),
         ],
         report: "cpu 0\nload 1024 floor 0\ntask 0 v 0 d 3000000 lag 0\n",
     },

@@ -1,15 +1,13 @@
 //! What a drain names of the wakes, whether it says that the running task is to be preempted, and what a post sees of the ring.
 
-ghost use Rattle.std.specs.Prelude.{◌≡◌, true};
+ghost use Rattle.std.specs.Prelude.{◌≡◌};
 ghost use Rattle.eevdf_fleet.specs.Fleets.{setup_of};
-ghost use Rattle.eevdf_ops.specs.Setup.{homes_of, is_task};
 
-use super::came::known_task;
 use super::kit_of;
 use crate::fixtures::{cpu, task};
 use eevdf_fleet::endless::{Fleet, Kit, Seat};
 use eevdf_fleet::{DrainedWake, Names};
-use eevdf_ops::{Answer, Setup, TaskSpec};
+use eevdf_ops::{Answer, Op, Setup, TaskSpec};
 use eevdf_queue::TaskId;
 use eevdf_weight::{Nice, Slice};
 use std::alloc::Global;
@@ -99,11 +97,11 @@ fn all_ask_twice<N: Names, R: Wait + Abort>(
     requires { kit ≡ N.kit }
 {
     let (fleet, mut seats) = Fleet::<N>::open(alloc, kit).expect(rt, "memory");
-    let task = known_task(&fleet, number).expect(rt, "task");
+    let task = task(rt, number);
     let mut wakes = Vec::with_capacity(alloc, 64).expect(rt, "memory");
     for (first, is_picked_anew) in [(Answer::Woken, true), (Answer::Awake, false)] {
         for seat in seats.iter_mut() {
-            assert!(rt; seat.post(task).is_ok());
+            assert!(rt; fleet.try_operate(rt, seat, Op::Post(task)).is_ok());
         }
         let seat = seats.get_mut(home).expect(rt, "seat");
         if drain(rt, &fleet, seat, &mut wakes) != is_picked_anew
@@ -135,8 +133,8 @@ fn preempts<N: Names, R: Wait + Abort>(rt: &R, alloc: Global, kit: Kit) -> bool
     let mut wakes = Vec::with_capacity(alloc, 1).expect(rt, "memory");
     assert!(rt; fleet.pick(rt, &mut seat) == Answer::Picked(task(rt, 0)));
     assert!(rt; !drain(rt, &fleet, &mut seat, &mut wakes) && wakes.is_empty());
-    let task = known_task(&fleet, 1).expect(rt, "task");
-    assert!(rt; seat.post(task).is_ok());
+    let post = Op::Post(task(rt, 1));
+    assert!(rt; fleet.try_operate(rt, &mut seat, post).is_ok());
     drain(rt, &fleet, &mut seat, &mut wakes)
 }
 
@@ -153,11 +151,13 @@ fn a_woken_task_of_earlier_deadline_preempts(rt: HostRuntime) {
     }
 }
 
-/// What a post sees: `None` where the ring is full.
-fn is_alone<N: Names>(seat: &mut Seat<N>, task: TaskId) -> Option<bool>
-    requires { is_task (homes_of (setup_of N.kit)) task ≡ true }
-{
-    seat.post_and_look(task).ok()
+/// What a post sees: `None` where the ring is full, or the setup hasn't the task.
+fn is_alone<N: Names>(fleet: &Fleet<N>, seat: &mut Seat<N>, task: TaskId) -> Option<bool> {
+    if fleet.has_task(task) {
+        seat.post_and_look(task).ok()
+    } else {
+        None
+    }
 }
 
 /// A seat posts a task to its home into rings with room for two requests.
@@ -172,7 +172,7 @@ fn looks_at_its_ring<N: Names, R: Wait + Abort>(
     requires { kit ≡ N.kit }
 {
     let (fleet, mut seats) = Fleet::<N>::open(alloc, kit).expect(rt, "memory");
-    let task = known_task(&fleet, number).expect(rt, "task");
+    let task = task(rt, number);
     for (drains, seen) in [
         (0, Some(true)),
         (0, Some(false)),
@@ -186,7 +186,10 @@ fn looks_at_its_ring<N: Names, R: Wait + Abort>(
             let _ = fleet.drain(rt, drained);
         }
         let seat = seats.get_mut(sender).expect(rt, "sender");
-        assert!(rt; is_alone(seat, task) == seen, "CPU {sender} to CPU {home}");
+        assert!(rt;
+            is_alone(&fleet, seat, task) == seen,
+            "CPU {sender} to CPU {home}"
+        );
     }
 }
 

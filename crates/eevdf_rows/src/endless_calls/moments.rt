@@ -4,12 +4,11 @@
 ghost use Rattle.std.specs.Prelude.{◌≡◌};
 ghost use Rattle.eevdf_fleet.specs.Fleets.{setup_of};
 
-use super::came::known_task;
 use super::kit_of;
-use crate::fixtures::{cpu, one_task_each};
+use crate::fixtures::{cpu, one_task_each, task};
 use eevdf_fleet::endless::{Fleet, Kit, Seat};
-use eevdf_fleet::{Drained, Names};
-use eevdf_ops::Answer;
+use eevdf_fleet::{Drained, Names, Operated};
+use eevdf_ops::{Answer, Op};
 use std::alloc::Global;
 use std::marker::Brand;
 use std::process::Abort;
@@ -43,14 +42,15 @@ fn goes_on<N: Names, R: Wait + Abort>(rt: &R, alloc: Global, kit: Kit)
     let (fleet, mut seats) = Fleet::<N>::open(alloc, kit).expect(rt, "memory");
     let mut one = seats.pop().expect(rt, "seat 1");
     let mut zero = seats.pop().expect(rt, "seat 0");
-    let task = known_task(&fleet, 0).expect(rt, "task");
+    let task = task(rt, 0);
     let home = cpu(rt, 0);
     assert!(rt; fleet.has_cpu(home));
     assert!(rt; fleet.pick(rt, &mut zero) == Answer::Picked(task));
-    assert!(rt; fleet.sleep(rt, &mut zero, task) == Answer::Slept(0));
+    let slept = fleet.try_operate(rt, &mut zero, Op::Sleep(task));
+    assert!(rt; slept == Ok(Operated::Answer(Answer::Slept(0))));
     for (taken, woken) in [(1, 1), (1, 0), (0, 0)] {
         if taken == 1 {
-            assert!(rt; one.post(task).is_ok());
+            assert!(rt; fleet.try_operate(rt, &mut one, Op::Post(task)).is_ok());
         }
         compare(rt, &fleet, &mut one, &mut zero);
         assert!(rt; fleet.drain(rt, &mut zero) == Drained { taken, woken });

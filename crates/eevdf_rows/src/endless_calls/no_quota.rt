@@ -1,15 +1,13 @@
 //! A seat that goes on beyond the lines that a fleet with a history may keep, and a ring that goes on beyond its room.
 
-ghost use Rattle.std.specs.Prelude.{◌≡◌, true};
+ghost use Rattle.std.specs.Prelude.{◌≡◌};
 ghost use Rattle.eevdf_fleet.specs.Fleets.{setup_of};
-ghost use Rattle.eevdf_ops.specs.Setup.{cpus_of, homes_of, is_task};
 
-use super::came::known_task;
 use super::kit_of;
-use crate::fixtures::one_task_each;
+use crate::fixtures::{one_task_each, task};
 use eevdf_fleet::endless::{Fleet, Kit, Seat};
 use eevdf_fleet::{Drained, Names};
-use eevdf_ops::{Answer, CpuId};
+use eevdf_ops::{Answer, CpuId, Op};
 use eevdf_queue::TaskId;
 use std::alloc::Global;
 use std::marker::Brand;
@@ -20,13 +18,11 @@ use std::sync::Wait;
 const TIMES: usize = 1_000_001;
 
 /// Whether a pick, a post to the seat's own CPU and a drain succeed again and again, in a ring with room for one request.
-fn goes_on<N: Names, R: Wait>(rt: &R, fleet: &Fleet<N>, seat: &mut Seat<N>, own: TaskId) -> bool
-    requires { is_task (homes_of (setup_of N.kit)) own ≡ true }
-{
+fn goes_on<N: Names, R: Wait>(rt: &R, fleet: &Fleet<N>, seat: &mut Seat<N>, own: TaskId) -> bool {
     let awake = Drained { taken: 1, woken: 0 };
     for _time in 0..TIMES {
         if fleet.pick(rt, seat) != Answer::Picked(own)
-            || seat.post(own).is_err()
+            || fleet.try_operate(rt, seat, Op::Post(own)).is_err()
             || fleet.drain(rt, seat) != awake
         {
             return false;
@@ -40,9 +36,8 @@ fn seat_goes_on<N: Names, R: Wait + Abort>(rt: &R, alloc: Global, kit: Kit) -> b
     requires { kit ≡ N.kit }
 {
     let (fleet, mut seats) = Fleet::<N>::open(alloc, kit).expect(rt, "memory");
-    let task = known_task(&fleet, 0).expect(rt, "task");
     let mut seat = seats.pop().expect(rt, "seat");
-    goes_on(rt, &fleet, &mut seat, task)
+    goes_on(rt, &fleet, &mut seat, task(rt, 0))
 }
 
 #[test]
@@ -66,15 +61,15 @@ fn places_come_back<N: Names, R: Wait + Abort>(rt: &R, alloc: Global, kit: Kit)
     requires { kit ≡ N.kit }
 {
     let (fleet, mut seats) = Fleet::<N>::open(alloc, kit).expect(rt, "memory");
-    let task = known_task(&fleet, 0).expect(rt, "task");
+    let task = task(rt, 0);
     let mut seat = seats.pop().expect(rt, "seat");
     let home = seat.cpu();
     assert!(rt; free(&fleet, &mut seat, home) == Some(2));
-    assert!(rt; seat.post(task).is_ok());
+    assert!(rt; fleet.try_operate(rt, &mut seat, Op::Post(task)).is_ok());
     assert!(rt; free(&fleet, &mut seat, home) == Some(1));
-    assert!(rt; seat.post(task).is_ok());
+    assert!(rt; fleet.try_operate(rt, &mut seat, Op::Post(task)).is_ok());
     assert!(rt; free(&fleet, &mut seat, home) == Some(0));
-    assert!(rt; seat.post(task).is_err());
+    assert!(rt; fleet.try_operate(rt, &mut seat, Op::Post(task)).is_err());
     assert!(rt; fleet.drain(rt, &mut seat).taken == 1);
     assert!(rt; free(&fleet, &mut seat, home) == Some(1));
 }

@@ -1,11 +1,15 @@
 //! The calls of a fleet that keeps its history.
 
-ghost use Rattle.std.specs.Prelude.{◌≡◌};
+ghost use Rattle.std.specs.Prelude.{◌≡◌, true};
+ghost use Rattle.eevdf_fleet.specs.Fleets.{setup_of};
+ghost use Rattle.eevdf_ops.specs.Setup.{homes_of, is_task};
 
-use super::{TRIED, Wanted, calls, neighbours, two_tasks_each};
+use super::{TRIED, calls, neighbours, two_tasks_each};
 use crate::fleet_calls::kit_of;
-use crate::fleet_calls::seat_call::{Call, Done, call_on};
-use eevdf_fleet::{Drained, Fleet, Kit, Names, Seat};
+use crate::fleet_calls::seat_call::Call;
+use eevdf_fleet::{Fleet, Kit, Names, Operated, Seat};
+use eevdf_ops::{Answer, Op};
+use eevdf_queue::TaskId;
 use std::alloc::Global;
 use std::marker::Brand;
 use std::process::Abort;
@@ -14,18 +18,42 @@ use std::sync::Wait;
 /// Room for the lines of a seat, and for a drain once more.
 const QUOTA: usize = 100;
 
-/// Makes a call, and says what comes of it.
+/// Makes a call, and says what comes of it. The answer of a deed is that of the seat's last line too.
 fn came<N: Names, R: Wait>(
     rt: &R,
     fleet: &Fleet<N>,
     seat: &mut Seat<N>,
     call: Call,
-) -> Option<Wanted> {
-    match call_on(rt, fleet, seat, call)? {
-        Done::Line => Some(Wanted::Answer(seat.log().last()?.answer)),
-        Done::Drained { taken, woken } => Some(Wanted::Drained(Drained { taken, woken })),
-        Done::Posted => Some(Wanted::Posted),
-        Done::SeatFull | Done::RingFull => None,
+) -> Option<Operated> {
+    let operation = call.operation()?;
+    if let Op::Post(task) = operation {
+        if fleet.has_task(task) {
+            return posted(seat, task);
+        }
+    }
+    match fleet.try_operate(rt, seat, operation) {
+        Ok(Operated::Answer(answer)) => logged(seat, answer),
+        Ok(operated) => Some(operated),
+        Err(_) => None,
+    }
+}
+
+/// An answer, where it is that of the seat's last line.
+fn logged<N: Names>(seat: &Seat<N>, answer: Answer) -> Option<Operated> {
+    if seat.log().last()?.answer == answer {
+        Some(Operated::Answer(answer))
+    } else {
+        None
+    }
+}
+
+/// Posts a request. It has no handle `Wait`, so it compiles only as long as a post doesn't wait.
+fn posted<N: Names>(seat: &mut Seat<N>, task: TaskId) -> Option<Operated>
+    requires { is_task (homes_of (setup_of N.kit)) task ≡ true }
+{
+    match seat.post(task) {
+        Ok(()) => Some(Operated::Posted),
+        Err(_) => None,
     }
 }
 

@@ -1,14 +1,17 @@
 //! The calls of a fleet that keeps no history, with looks, and with how many requests more fit into a ring.
 
-ghost use Rattle.std.specs.Prelude.{◌≡◌};
+ghost use Rattle.std.specs.Prelude.{◌≡◌, true};
+ghost use Rattle.eevdf_fleet.specs.Fleets.{setup_of};
+ghost use Rattle.eevdf_ops.specs.Setup.{homes_of, is_task};
 
-use super::{TRIED, Wanted, calls, neighbours, two_tasks_each};
-use crate::endless_calls::came::{Came, call_on};
+use super::{TRIED, calls, neighbours, two_tasks_each};
 use crate::endless_calls::kit_of;
 use crate::fixtures::cpu;
 use crate::fleet_calls::seat_call::Call;
-use eevdf_fleet::Names;
 use eevdf_fleet::endless::{Fleet, Kit, Seat};
+use eevdf_fleet::{Names, Operated};
+use eevdf_ops::Op;
+use eevdf_queue::TaskId;
 use std::alloc::Global;
 use std::marker::Brand;
 use std::process::Abort;
@@ -25,12 +28,23 @@ fn came<N: Names, R: Wait>(
     fleet: &Fleet<N>,
     seat: &mut Seat<N>,
     call: Call,
-) -> Option<Wanted> {
-    match call_on(rt, fleet, seat, call)? {
-        Came::Answer(answer) => Some(Wanted::Answer(answer)),
-        Came::Drained(drained) => Some(Wanted::Drained(drained)),
-        Came::Posted => Some(Wanted::Posted),
-        Came::RingFull(_) => None,
+) -> Option<Operated> {
+    let operation = call.operation()?;
+    if let Op::Post(task) = operation {
+        if fleet.has_task(task) {
+            return posted(seat, task);
+        }
+    }
+    fleet.try_operate(rt, seat, operation).ok()
+}
+
+/// Posts a request. It has no handle `Wait`, so it compiles only as long as a post doesn't wait.
+fn posted<N: Names>(seat: &mut Seat<N>, task: TaskId) -> Option<Operated>
+    requires { is_task (homes_of (setup_of N.kit)) task ≡ true }
+{
+    match seat.post(task) {
+        Ok(()) => Some(Operated::Posted),
+        Err(_) => None,
     }
 }
 

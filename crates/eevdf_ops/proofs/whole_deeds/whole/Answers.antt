@@ -1,82 +1,47 @@
-use Rattle.std.proofs.Common.{length}
-use Rattle.eevdf_ops.specs.{Outcome.machine_of}
-use Rattle.eevdf_ops.proofs.DeedsDone.{decides_below, answered, left, turned, slept_answered, slept_left}
+use Rattle.std.proofs.Common.{length, sym, ap, ◌∙◌, arith}
+use Rattle.eevdf_queue.specs.State.{State}
+use Rattle.eevdf_ops.specs.{declared.deeds.Answer.Answer, Machine.Machine, Outcome.machine_of, LocalActs.local_done, Parts.decider}
+use Rattle.eevdf_ops.proofs.{Machines.length-machine_of, Machines.of_queue, Machines.queue_written, MachinePlaces.none-twice}
+use Rattle.eevdf_ops.proofs.DeedNames.{PullNames, decider_below, transfer_names}
+use Rattle.eevdf_ops.proofs.{PickDescents.turns_of_deed, WholeActs.whole-by}
 use Rattle.eevdf_ops.proofs.whole_deeds.whole.Goals as goal
 
-pub tick-requires : goal.tick-requires
-tick-requires c = decides_below (length c.args.queues.now) c.args.homes.now c.args.deed _ c.in-Tick.is c.requires.allowed
+pub across-requires-clause-once : goal.across-requires-clause-once
+across-requires-clause-once c =
+    let many = length-machine_of c.args.queues.now in
+    let named : PullNames (length c.args.queues.now) (decider c.args.deed) c.in-Transfer.other =
+    transfer_names (length c.args.queues.now) c.args.homes.now c.args.deed c.in-Transfer.other c.in-Transfer.transfer c.requires.allowed c.requires.cpus (sym c.parted-cpu.ensures.act ∙ c.in-Transfer.is) in
+    none-twice c.args.homes.now (machine_of c.args.queues.now) c.parted-cpu.result.0 c.in-Transfer.other c.requires.placed (λ e. named.apart (sym c.parted-cpu.ensures.cpu ∙ e))
+    (omega (arith, many, named.puller, c.parted-cpu.ensures.cpu)) (omega (arith, many, named.from))
 
-pub pick-requires : goal.pick-requires
-pick-requires c = decides_below (length c.args.queues.now) c.args.homes.now c.args.deed _ c.in-Pick.is c.requires.allowed
+pub returns-in-Local-clause-answer : goal.returns-in-Local-clause-answer
+returns-in-Local-clause-answer c =
+    of_queue c.args.queues.now c.parted-cpu.result.0 c.index.result c.index-queues-index.result (λ (q : State). (local_done c.in-Local.act q).0) c.apply.result c.index.ensures.number (omega (arith, c.parted-cpu.ensures.cpu, decider_below (length c.args.queues.now) c.args.homes.now c.args.deed c.requires.allowed))
+    c.apply.ensures.answer
+    ∙ ap (λ (r : Answer × Machine). r.0)
+    (whole-by c.args.homes.now c.args.deed c.args.queues.now _ c.parted-cpu.result.0 c.requires.allowed (sym c.in-Local.is ∙ c.parted-cpu.ensures.act) c.parted-cpu.ensures.cpu)
 
-pub yield_now-requires : goal.yield_now-requires
-yield_now-requires c = decides_below (length c.args.queues.now) c.args.homes.now c.args.deed _ c.in-Yield.is c.requires.allowed
+pub returns-in-Local-clause-machine : goal.returns-in-Local-clause-machine
+returns-in-Local-clause-machine c =
+    queue_written c.args.queues.now c.parted-cpu.result.0 c.index.result c.index-queues-index.result c.apply.new.queue (λ (q : State). (local_done c.in-Local.act q).1) c.index.ensures.number (omega (arith, c.parted-cpu.ensures.cpu, decider_below (length c.args.queues.now) c.args.homes.now c.args.deed c.requires.allowed))
+    c.apply.ensures.after
+    ∙ ap (λ (r : Answer × Machine). r.1)
+    (whole-by c.args.homes.now c.args.deed c.args.queues.now _ c.parted-cpu.result.0 c.requires.allowed (sym c.in-Local.is ∙ c.parted-cpu.ensures.act) c.parted-cpu.ensures.cpu)
 
-pub wake-requires : goal.wake-requires
-wake-requires c = decides_below (length c.args.queues.now) c.args.homes.now c.args.deed _ c.in-Wake.is c.requires.allowed
+pub returns-in-Local-clause-turns : goal.returns-in-Local-clause-turns
+returns-in-Local-clause-turns c =
+    turns_of_deed c.args.homes.now c.args.deed c.in-Local.act c.args.queues.now c.parted-cpu.result.0 c.index.result c.index-queues-index.result c.apply.new.queue
+    (sym c.parted-cpu.ensures.act ∙ c.in-Local.is) (sym c.parted-cpu.ensures.cpu) c.index.ensures.number
+    (omega (arith, c.index.ensures.number, c.parted-cpu.ensures.cpu, decider_below (length c.args.queues.now) c.args.homes.now c.args.deed c.requires.allowed)) c.apply.ensures.turns
 
-pub renice-requires : goal.renice-requires
-renice-requires c = decides_below (length c.args.queues.now) c.args.homes.now c.args.deed _ c.in-Renice.is c.requires.allowed
+pub returns-in-Transfer-clause-answer : goal.returns-in-Transfer-clause-answer
+returns-in-Transfer-clause-answer c =
+    c.across.ensures.answer
+    ∙ ap (λ (r : Answer × Machine). r.0)
+    (whole-by c.args.homes.now c.args.deed c.args.queues.now _ c.parted-cpu.result.0 c.requires.allowed (sym c.in-Transfer.is ∙ c.parted-cpu.ensures.act) c.parted-cpu.ensures.cpu)
 
-pub returns-in-Tick-clause-answer : goal.returns-in-Tick-clause-answer
-returns-in-Tick-clause-answer c = answered c.args.homes.now (machine_of c.args.queues.now) c.args.deed _ c.tick.result c.in-Tick.is c.tick.ensures.answer
-
-pub returns-in-Tick-clause-machine : goal.returns-in-Tick-clause-machine
-returns-in-Tick-clause-machine c = left c.args.homes.now (machine_of c.args.queues.now) (machine_of c.tick.new.queues) c.args.deed _ c.in-Tick.is c.tick.ensures.machine
-
-pub returns-in-Tick-clause-turns : goal.returns-in-Tick-clause-turns
-returns-in-Tick-clause-turns c = turned (machine_of c.args.queues.now) c.tick.new.queues c.args.deed _ c.in-Tick.is tt
-
-pub returns-in-Pick-clause-answer : goal.returns-in-Pick-clause-answer
-returns-in-Pick-clause-answer c = answered c.args.homes.now (machine_of c.args.queues.now) c.args.deed _ c.pick.result c.in-Pick.is c.pick.ensures.answer
-
-pub returns-in-Pick-clause-machine : goal.returns-in-Pick-clause-machine
-returns-in-Pick-clause-machine c = left c.args.homes.now (machine_of c.args.queues.now) (machine_of c.pick.new.queues) c.args.deed _ c.in-Pick.is c.pick.ensures.machine
-
-pub returns-in-Pick-clause-turns : goal.returns-in-Pick-clause-turns
-returns-in-Pick-clause-turns c = turned (machine_of c.args.queues.now) c.pick.new.queues c.args.deed _ c.in-Pick.is c.pick.ensures.turns
-
-pub returns-in-Yield-clause-answer : goal.returns-in-Yield-clause-answer
-returns-in-Yield-clause-answer c = answered c.args.homes.now (machine_of c.args.queues.now) c.args.deed _ c.yield_now.result c.in-Yield.is c.yield_now.ensures.answer
-
-pub returns-in-Yield-clause-machine : goal.returns-in-Yield-clause-machine
-returns-in-Yield-clause-machine c = left c.args.homes.now (machine_of c.args.queues.now) (machine_of c.yield_now.new.queues) c.args.deed _ c.in-Yield.is c.yield_now.ensures.machine
-
-pub returns-in-Yield-clause-turns : goal.returns-in-Yield-clause-turns
-returns-in-Yield-clause-turns c = turned (machine_of c.args.queues.now) c.yield_now.new.queues c.args.deed _ c.in-Yield.is tt
-
-pub returns-in-Wake-clause-answer : goal.returns-in-Wake-clause-answer
-returns-in-Wake-clause-answer c = answered c.args.homes.now (machine_of c.args.queues.now) c.args.deed _ c.wake.result c.in-Wake.is c.wake.ensures.answer
-
-pub returns-in-Wake-clause-machine : goal.returns-in-Wake-clause-machine
-returns-in-Wake-clause-machine c = left c.args.homes.now (machine_of c.args.queues.now) (machine_of c.wake.new.queues) c.args.deed _ c.in-Wake.is c.wake.ensures.machine
-
-pub returns-in-Wake-clause-turns : goal.returns-in-Wake-clause-turns
-returns-in-Wake-clause-turns c = turned (machine_of c.args.queues.now) c.wake.new.queues c.args.deed _ c.in-Wake.is tt
-
-pub returns-in-Pull-clause-answer : goal.returns-in-Pull-clause-answer
-returns-in-Pull-clause-answer c = answered c.args.homes.now (machine_of c.args.queues.now) c.args.deed _ c.pull.result c.in-Pull.is c.pull.ensures.answer
-
-pub returns-in-Pull-clause-machine : goal.returns-in-Pull-clause-machine
-returns-in-Pull-clause-machine c = left c.args.homes.now (machine_of c.args.queues.now) (machine_of c.pull.new.queues) c.args.deed _ c.in-Pull.is c.pull.ensures.machine
-
-pub returns-in-Pull-clause-turns : goal.returns-in-Pull-clause-turns
-returns-in-Pull-clause-turns c = turned (machine_of c.args.queues.now) c.pull.new.queues c.args.deed _ c.in-Pull.is tt
-
-pub returns-in-Renice-clause-answer : goal.returns-in-Renice-clause-answer
-returns-in-Renice-clause-answer c = answered c.args.homes.now (machine_of c.args.queues.now) c.args.deed _ c.renice.result c.in-Renice.is c.renice.ensures.answer
-
-pub returns-in-Renice-clause-machine : goal.returns-in-Renice-clause-machine
-returns-in-Renice-clause-machine c = left c.args.homes.now (machine_of c.args.queues.now) (machine_of c.renice.new.queues) c.args.deed _ c.in-Renice.is c.renice.ensures.machine
-
-pub returns-in-Renice-clause-turns : goal.returns-in-Renice-clause-turns
-returns-in-Renice-clause-turns c = turned (machine_of c.args.queues.now) c.renice.new.queues c.args.deed _ c.in-Renice.is tt
-
-pub returns-in-Sleep-clause-answer : goal.returns-in-Sleep-clause-answer
-returns-in-Sleep-clause-answer c = slept_answered (length c.args.queues.now) c.args.homes.now (machine_of c.args.queues.now) c.args.deed c.in-Sleep.cpu c.in-Sleep.task c.index.result c.index-homes-index.result c.sleep.result c.in-Sleep.is c.index.ensures.number c.index-homes-index.is c.requires.allowed c.sleep.ensures.answer
-
-pub returns-in-Sleep-clause-machine : goal.returns-in-Sleep-clause-machine
-returns-in-Sleep-clause-machine c = slept_left (length c.args.queues.now) c.args.homes.now (machine_of c.args.queues.now) (machine_of c.sleep.new.queues) c.args.deed c.in-Sleep.cpu c.in-Sleep.task c.index.result c.index-homes-index.result c.in-Sleep.is c.index.ensures.number c.index-homes-index.is c.requires.allowed c.sleep.ensures.machine
-
-pub returns-in-Sleep-clause-turns : goal.returns-in-Sleep-clause-turns
-returns-in-Sleep-clause-turns c = turned (machine_of c.args.queues.now) c.sleep.new.queues c.args.deed _ c.in-Sleep.is tt
+pub returns-in-Transfer-clause-machine : goal.returns-in-Transfer-clause-machine
+returns-in-Transfer-clause-machine c =
+    c.across.ensures.machine
+    ∙ ap (λ (r : Answer × Machine). r.1)
+    (whole-by c.args.homes.now c.args.deed c.args.queues.now _ c.parted-cpu.result.0 c.requires.allowed (sym c.in-Transfer.is ∙ c.parted-cpu.ensures.act) c.parted-cpu.ensures.cpu)

@@ -22,4 +22,4 @@ returns-in-Post g c =
 pub post-requires : goal.post-requires
 post-requires g c =
     let s = setup_of g.N.Names.kit in
-    posts-known (homes_of s) (cpus_of s) c.args.seat.now.cpu c.args.n c.in-Post.task c.args.op c.requires.sound c.in-Post.is
+    posts-known (homes_of s) (cpus_of s) c.args.seat.now.cpu c.requires.sound.0 c.in-Post.task c.args.op c.requires.sound.1 c.in-Post.is

@@ -14,7 +14,7 @@ returns-clause-claims g c =
 
 pub commit_line-requires-clause-owed : goal.commit_line-requires-clause-owed
 commit_line-requires-clause-owed g c =
-    one-owes g.N.Names.kit.terms c.args.log.now.cpu (claims_of c.args.token) c.args.queue.now.state c.args.line.now c.said-said.result c.requires.one c.requires.own c.requires.allowed c.requires.done
+    one-owes g.N.Names.kit.terms c.args.log.now.cpu (claims_of c.args.token) c.args.queue.now.state c.args.line.now c.said-said.result c.requires.own c.requires.allowed c.requires.done
     c.said-said.ensures.line (c.said-said.ensures.cpu ∙ c.cpu.ensures.cpu) (ap (λ (q : Queue). q.state) c.said-said.ensures.queue)
 
 pub returns-clause-log : goal.returns-clause-log

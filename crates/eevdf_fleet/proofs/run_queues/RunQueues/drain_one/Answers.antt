@@ -27,8 +27,9 @@ returns-in_err-request-clause-none g c = if_none c.from_residual.result (seat-lo
 pub wake_on_one-answer-requires-clause-allowed : goal.wake_on_one-answer-requires-clause-allowed
 wake_on_one-answer-requires-clause-allowed g c =
     let cpus = cpus_of (setup_of g.N.Names.kit) in
-    and_from _ _ (and_from _ _ (lt-ltb c.cpu-cpu.result cpus c.cpu-cpu.ensures.below) (lt-ltb c.args.sender cpus c.requires.sender))
-    (ap (λ hs. is_at_home hs c.in_ok-request.request.task c.cpu-cpu.result) (sym c.seat.invariant.3) ∙ ap (λ n. is_at_home g.N.Names.kit.rings.homes c.in_ok-request.request.task n) (c.cpu-cpu.ensures.cpu ∙ ap (λ (p : Parts). p.seat.cpu) (sym c.seat.view_is) ∙ ap (λ (t : Takes). t.home) (sym c.seat.invariant.0.takes))
+    and_from _ _ (and_from _ _ (lt-ltb c.seat.inside.log.cpu cpus c.seat.invariant.0.within) (lt-ltb c.args.sender cpus c.requires.sender))
+    (ap (λ hs. is_at_home hs c.in_ok-request.request.task c.seat.inside.log.cpu) (sym c.seat.invariant.3)
+    ∙ ap (λ n. is_at_home g.N.Names.kit.rings.homes c.in_ok-request.request.task n) (ap (λ (t : Takes). t.home) (sym c.seat.invariant.0.takes))
     ∙ c.in_ok-request.ensures.follows.at_home)
 
 pub returns-in_err-request-clause-none_own : goal.returns-in_err-request-clause-none_own
@@ -47,7 +48,7 @@ invariant_of-seat-2 g c = (
 
 pub returns-clause-some : goal.returns-clause-some
 returns-clause-some g c =
-    seat-taken _ _ _ _ _ _ _ _ _ c.wake_on_one-answer.ensures.log c.take.ensures.producers c.seat.view_is c.cpu-cpu.ensures.cpu refl
+    seat-taken _ _ _ _ _ _ _ _ _ c.wake_on_one-answer.ensures.log c.take.ensures.producers c.seat.view_is (ap (λ (p : Parts). p.seat.cpu) c.seat.view_is) refl
     (own-oldest _ _ _ _ _ _ c.index.result c.args.sender c.seat.invariant.0 (ap (λ (p : Parts). p.seat) c.seat.view_is) c.index.ensures.number c.in_ok-request.ensures.own)
 
 -- its token claims that it was posted
@@ -59,5 +60,5 @@ wake_on_one-answer-requires-clause-alone g c = sent-alone _ _ _ _ c.in_ok-reques
 
 pub wake_on_one-answer-requires-clause-asked : goal.wake_on_one-answer-requires-clause-asked
 wake_on_one-answer-requires-clause-asked g c =
-    asked-next _ _ _ _ g.N.Names.kit.rings c.index.result c.args.sender c.cpu-cpu.result c.in_ok-request.request c.seat.invariant.0 c.index.ensures.number c.requires.sender
-    (c.cpu-cpu.ensures.cpu ∙ ap (λ (p : Parts). p.seat.cpu) (sym c.seat.view_is)) c.in_ok-request.ensures.follows
+    asked-next _ _ _ _ g.N.Names.kit.rings c.index.result c.args.sender c.seat.inside.log.cpu c.in_ok-request.request c.seat.invariant.0 c.index.ensures.number c.requires.sender
+    refl c.in_ok-request.ensures.follows

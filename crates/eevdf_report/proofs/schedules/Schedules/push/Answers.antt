@@ -11,7 +11,7 @@ lines_in v = map (λ r. r.now) v.items
 pub returns-clause-each : goal.returns-clause-each
 returns-clause-each c =
     let rows = c.self.inside.lines in
-    let own : c.index-cpu.result ≡ decider c.args.line.now.deed = c.index-cpu.ensures.number ∙ c.cpu_of.ensures in
+    let own : c.index-cpu.result ≡ decider c.args.line.now.deed = c.index-cpu.ensures.number ∙ c.cpu.ensures in
     rw (← c.self.view_is) (elim c.match-get_mut.branch [
       | in-Some+in_ok-push w ↦
           let here : c.index-cpu.result < length rows.items = omega (arith, w.in-Some.ensures.variant.0 refl, rows.ok.0) in

@@ -1,0 +1,47 @@
+-- Deeds by the queues that they touch.
+use Rattle.std.specs.Prelude.{ℕ, ◌==◌, List, if◌then◌else◌, Option, Some, None}
+use Rattle.eevdf_ops.specs.{declared.deeds.Deed.Deed, declared.deeds.Op.Op, declared.acts.Act.Act, declared.acts.LocalAct.LocalAct, declared.acts.Transfer.Transfer, Setup.home_of}
+use Rattle.eevdf_ops.specs.declared.deeds.Deed.TheVariants.{Tick, Pick, Yield, Sleep, Wake, Pull, Renice}
+use Rattle.eevdf_ops.specs.declared.deeds.Op.TheVariants as op
+use Rattle.eevdf_ops.specs.declared.acts.LocalAct.TheVariants as local
+use Rattle.eevdf_ops.specs.declared.acts.Transfer.TheVariants as transfer
+use Rattle.eevdf_ops.specs.declared.acts.Act.TheVariants as act
+
+-- the deed that is an act of a CPU
+abbrev pub deed_at : ℕ → LocalAct → Deed
+deed_at cpu (local.Tick ns) = Tick cpu ns
+deed_at cpu local.Pick = Pick cpu
+deed_at cpu local.Yield = Yield cpu
+deed_at cpu (local.Sleep task) = Sleep cpu task
+deed_at cpu (local.Wake task sender) = Wake cpu task sender
+deed_at cpu (local.Renice task nice) = Renice cpu task nice
+
+-- and with another one
+abbrev pub deed_across : ℕ → ℕ → Transfer → Deed
+deed_across cpu other (transfer.Sleep task) = Sleep cpu task
+deed_across cpu other transfer.Pull = Pull cpu other
+
+-- a sleep on a CPU of a task with this home
+abbrev pub sleep_from : ℕ → ℕ → ℕ → Act
+sleep_from cpu task home = if home == cpu then act.Local (local.Sleep task) else act.Transfer home (transfer.Sleep task)
+
+-- what a deed does, where tasks have these homes
+abbrev pub act_of : List ℕ → Deed → Act
+act_of homes (Tick cpu ns) = act.Local (local.Tick ns)
+act_of homes (Pick cpu) = act.Local local.Pick
+act_of homes (Yield cpu) = act.Local local.Yield
+act_of homes (Sleep cpu task) = sleep_from cpu task (home_of homes task)
+act_of homes (Wake cpu task sender) = act.Local (local.Wake task sender)
+act_of homes (Pull cpu source) = act.Transfer source transfer.Pull
+act_of homes (Renice cpu task nice) = act.Local (local.Renice task nice)
+
+-- what an operation does that touches its CPU's queue alone, whatever the homes are
+abbrev pub local_of : Op → Option LocalAct
+local_of (op.Tick ns) = Some (local.Tick ns)
+local_of op.Pick = Some local.Pick
+local_of op.Yield = Some local.Yield
+local_of (op.Sleep task) = None
+local_of (op.Post task) = None
+local_of op.Drain = None
+local_of (op.Pull source) = None
+local_of (op.Renice task nice) = Some (local.Renice task nice)

@@ -1,0 +1,19 @@
+-- What an act on one queue answers and leaves.
+use Rattle.std.specs.Prelude.{Option, Some, None}
+use Rattle.eevdf_queue.specs.{State.State, State.Contents, Moves.put_asleep, Leaving.carried_running, Leaving.leave}
+use Rattle.eevdf_ops.specs.{declared.acts.LocalAct.LocalAct, declared.deeds.Answer.Answer, declared.deeds.Answer.TheVariants.NotRunning}
+use Rattle.eevdf_ops.specs.declared.acts.LocalAct.TheVariants.{Tick, Pick, Yield, Sleep, Wake, Renice}
+use Rattle.eevdf_ops.specs.{OneQueue.one_tick, OneQueue.one_pick, OneQueue.one_yield, OneQueue.one_wake, OneQueue.one_renice, WholeSleep.slept}
+
+-- a task falls asleep in the queue where it runs; what it carries, none where it doesn't run
+abbrev pub slept_here : Option Contents → State → Answer × State
+slept_here None q = (NotRunning, q)
+slept_here (Some p) q = (slept p, put_asleep (leave q p.task) p)
+
+abbrev pub local_done : LocalAct → State → Answer × State
+local_done (Tick ns) q = one_tick q ns
+local_done Pick q = one_pick q
+local_done Yield q = one_yield q
+local_done (Sleep task) q = slept_here (carried_running q task) q
+local_done (Wake task sender) q = one_wake q task
+local_done (Renice task nice) q = one_renice q task nice

@@ -1,0 +1,44 @@
+//! How an act is done on the one run queue that it touches.
+
+ghost use Rattle.std.specs.Prelude.{◌≡◌};
+ghost use Rattle.eevdf_queue.specs.Leaving.{carried_running};
+ghost use Rattle.eevdf_ops.specs.LocalActs.{local_done, slept_here};
+ghost use Rattle.eevdf_ops.specs.PickTurns.{HasActTurns};
+
+use crate::acts::LocalAct;
+use crate::deeds::Answer;
+use crate::sleep::leave_running;
+use eevdf_queue::{Queue, TaskId};
+
+impl LocalAct {
+    /// Does the act on the queue of its CPU, and answers it. It takes no memory. A pick takes no more turns than `Queue::pick` says.
+    #[inline(always)]
+    pub fn apply(self, queue: &mut Queue) -> Answer
+        ensures answer { result ≡ (local_done self queue.old.state).0 }
+        ensures after { queue.new.state ≡ (local_done self queue.old.state).1 }
+        ensures turns { HasActTurns self queue.old.state queue.new.turns }
+    {
+        match self {
+            LocalAct::Tick(ns) => Answer::from(queue.tick(ns)),
+            LocalAct::Pick => Answer::from(queue.pick()),
+            LocalAct::Yield => Answer::from(queue.yield_now()),
+            LocalAct::Sleep(task) => sleep_here(queue, task),
+            LocalAct::Wake { task, .. } => Answer::from(queue.wake(task)),
+            LocalAct::Renice(task, nice) => Answer::from(queue.renice(task, nice)),
+        }
+    }
+}
+
+/// Puts a task to sleep in the queue where it runs.
+fn sleep_here(queue: &mut Queue, task: TaskId) -> Answer
+    ensures answer { result
+        ≡ (slept_here (carried_running queue.old.state task) queue.old.state).0 }
+    ensures after { queue.new.state
+        ≡ (slept_here (carried_running queue.old.state task) queue.old.state).1 }
+{
+    let (answer, parcel) = leave_running(queue, task);
+    if let Some(parcel) = parcel {
+        queue.put_asleep(parcel);
+    }
+    answer
+}
