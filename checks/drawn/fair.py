@@ -2,8 +2,8 @@
 """fair.py [--seconds N] [--seed SEED] [--top TOP] [--model]: draws turns of one CPU, sends them to the built program `eevdf`, and looks
 whether what it prints keeps within the bounds that "Fairness" of docs/model.md gives, and how near it comes to them. A turn is a pick
 and then ticks of the task picked. Of the examples that are kept in checks/cases/fair one has to come near the bounds of `late`, `past`,
-`rest`, `behind` and `apart`, and others to meet those of `ahead`, `owed`, a share and a wait. With --model the plain model answers in place
-of the program. The last line is 'N passed, M failed'."""
+`rest`, `behind` and `apart`, another that of a late request after a join, and others to meet those of `ahead`, `owed`, a share and a wait.
+With --model the plain model answers in place of the program. The last line is 'N passed, M failed'."""
 
 import argparse
 import os
@@ -210,16 +210,18 @@ def look_at_examples(comparison):
     late = ("a-request-is-late-by-almost-two-turns-of-the-others", [(0, 100000), (0, 100000), (0, 100000000)], 10**9)
     ahead = ("a-task-is-ahead-by-a-whole-turn-of-the-others", [(0, 3000000)] * 2, 10**6)
     off = ("a-task-is-off-its-share-by-a-whole-turn", [(0, 1000000), (0, 1500000)], 10**6)
+    joined = ("a-request-is-late-after-a-join-by-almost-four-slices", [(0, 3000000)] * 2, 12 * 10**6)
     for (name, tasks, longest), looked_at, clause, least in (
         *((late, turns_alone, clause, Fraction(9999, 10000)) for clause in ("late", "past", "rest", "apart")),
         (late, turns_alone, "behind", Fraction(9998, 10000)),
         *((ahead, turns_alone, clause, Fraction(1)) for clause in ("ahead", "owed")),
         *((off, last_two_turns, clause, Fraction(1)) for clause in ("share", "wait")),
+        (joined, last_wake, "late after a join", Fraction(11999998, 12000001)),
     ):
         workload = (EXAMPLES / f"{name}.toml").read_text()
-        seen = Seen(comparison.report(workload), tasks)
-        nearest = max(Fraction(is_so, bound) for which, is_so, bound in looked_at(seen, longest) if which == clause)
-        print(f"{name}: {clause}: {float(nearest):.5f} of the bound")
+        clauses = looked_at(lambda text: Seen(comparison.report(text), tasks), workload, tasks, longest)
+        nearest = max(Fraction(is_so, bound) for which, is_so, bound in clauses if which == clause)
+        print(f"{name}: {clause}: {float(nearest):.7f} of the bound")
         if least <= nearest <= 1:
             comparison.passed += 1
         else:
@@ -227,12 +229,19 @@ def look_at_examples(comparison):
             print(f"FAILED: {name}: {clause}")
 
 
-def turns_alone(seen, longest):
+def turns_alone(seen_of, workload, tasks, longest):
+    seen = seen_of(workload)
     return [*fair(seen, longest), *apart(seen, longest)]
 
 
-def last_two_turns(seen, longest):
-    return shares(seen, longest, 1)
+def last_two_turns(seen_of, workload, tasks, longest):
+    return shares(seen_of(workload), longest, 1)
+
+
+def last_wake(seen_of, workload, tasks, longest):
+    """The bounds of the others after the last deed, a wake of task 0."""
+    before = seen_of(re.sub(r'  "[^"]*",\n\]', "]", workload))
+    return list(after_join(before, seen_of(workload), longest, 0, tasks[0]))
 
 
 def main():
