@@ -278,7 +278,9 @@ int64_t eevdf_tick(eevdf_queue *queue, uint64_t ns);
 /*
  * The shortest tick, in ns, that uses up the running task's request: eevdf_tick answers 1 to it, or
  * RANGE where the fresh request would be out of range, and 0 to each shorter one. A timer that is
- * set to it makes periodic ticks needless. Nothing changes.
+ * set to it makes periodic ticks needless. Set it after each pick, and again after each charge:
+ * charges round down, so two short ones can leave some of a request that a single one uses up.
+ * Nothing changes.
  * Lock: the queue's. Interrupts: yes. ABSENT: nobody runs, or a tick of EEVDF_TICK_MAX leaves some
  * of the request, as it may after ten yields; eevdf_running tells the two apart.
  */
@@ -287,6 +289,10 @@ int64_t eevdf_time_to_resched(const eevdf_queue *queue);
 /*
  * Makes the running task's deadline later by the charge of a slice. It runs on until the next pick.
  * Answers 0.
+ * Each yield makes it later, however little ran since, and a rebase takes none of that back. So a
+ * task of nice level 19 with slices of 100 ms that yields each microsecond comes to RANGE after
+ * 169 s. A yield of the only runnable task needn't be made; a task that sleeps and wakes gets a
+ * fresh request.
  * Lock: the queue's. Interrupts: yes. ABSENT: nobody runs. RANGE: its deadline would leave the
  * range.
  */
@@ -299,7 +305,11 @@ int64_t eevdf_yield(eevdf_queue *queue);
 int64_t eevdf_stop(eevdf_queue *queue);
 
 /*
- * The running task falls asleep here, and keeps the lag that it has. Nobody runs then. Answers 0.
+ * The running task falls asleep here, and keeps the lag that it has, of at most the charge of two
+ * slices to either side. Nobody runs then. Answers 0.
+ * So after a turn of at most two slices it owes all that it ran too much, and after a longer one
+ * the rest is let off: beside seven others of its nice level, with slices of 0.1 ms, a task that
+ * runs for 4 ms, sleeps and wakes at once gets 65.6 % of the CPU where 12.5 % is fair.
  * Lock: the queue's. Interrupts: yes. INVALID: no number of a task. ABSENT: the task doesn't run
  * here.
  */
@@ -343,7 +353,10 @@ int64_t eevdf_set_slice(eevdf_queue *queue, uint64_t task, uint64_t slice_ns);
  * the number to `by`. The queue then answers every call as it would have, but for that number in
  * virtual times and for RANGE, from which it is further away; lags stay as they are. Where a
  * virtual time would leave its range, as no task within 2^59 of the time 0 can make it, nothing
- * changes, and `by` gets 0. It looks at every runnable task. Answers 0.
+ * changes, and `by` gets 0. So it does where the virtual time was 0: eevdf_floor_time gives 0 then,
+ * and another number where nothing could be lowered. It looks at every runnable task. Answers 0.
+ * A start that was read before stays as it was, that of a task in a hand too: less `by` it is what
+ * it would be now. eevdf_put goes by the lag, and needs no start.
  * Lock: the queue's. Interrupts: yes.
  */
 int64_t eevdf_rebase(eevdf_queue *queue, int64_t *by);

@@ -7,6 +7,7 @@ import exclusive
 from tools import C11, SANITIZED, TOP, ending, fault_of, run
 
 FIRST = TOP / "examples" / "c" / "first.c"
+TICKLESS = TOP / "examples" / "c" / "tickless.c"
 RUNTIME = TOP / "examples" / "c" / "runtime"
 TWO_CPUS = TOP / "examples" / "c" / "two_cpus.c"
 # The functions for memory, compiled as the rest of a program is.
@@ -26,9 +27,11 @@ def other_output(made, wanted):
     return None
 
 
-def check_first(tools):
-    program, fault = tools.compile("first", [FIRST, tools.malloc_library()])
-    tools.checks.look("examples/c/first.c", fault or other_output(run([program]), FIRST.with_suffix(".out").read_text()))
+def check_one_thread(tools, source):
+    """An example that prints what stands beside it."""
+    program, fault = tools.compile(source.stem, [source, tools.malloc_library()])
+    wanted = source.with_suffix(".out").read_text()
+    tools.checks.look(f"examples/c/{source.name}", fault or other_output(run([program]), wanted))
 
 
 def shares_fault(made):
@@ -125,7 +128,8 @@ def check_pages(tools):
 
 def check(tools):
     check_pages(tools)
-    check_first(tools)
+    check_one_thread(tools, FIRST)
+    check_one_thread(tools, TICKLESS)
     check_runtime(tools, "")
     check_runtime(tools, ", sanitized", *SANITIZED)
     check_locks(tools)

@@ -90,12 +90,13 @@ impl<'a> Queue<'a> {
     }
 
     /// The shortest time in nanoseconds whose tick uses up the running task's request. `None` where nobody runs, or where the longest
-    /// tick, of a second, leaves some of the request.
+    /// tick, of a second, leaves some of the request. A timer is set to it after each pick and after each charge, since charges round down.
     pub fn time_to_resched(&self) -> Option<u64> {
         checked(unsafe { calls::eevdf_time_to_resched(self.at.as_ptr()) }).ok()
     }
 
-    /// Makes the running task's deadline later by the charge of a slice. It runs on until the next pick.
+    /// Makes the running task's deadline later by the charge of a slice. It runs on until the next pick. A rebase takes nothing of it back;
+    /// a task that sleeps and wakes gets a fresh request.
     ///
     /// `Absent` where nobody runs, or `Range`.
     pub fn yield_now(&mut self) -> Result<()> {
@@ -107,7 +108,7 @@ impl<'a> Queue<'a> {
         checked(unsafe { calls::eevdf_stop(self.at.as_ptr()) }).ok()
     }
 
-    /// The running task falls asleep here, with the lag that it has.
+    /// The running task falls asleep here, with the lag that it has, cut to the charge of two slices to either side.
     ///
     /// `Absent` where it doesn't run here.
     pub fn sleep(&mut self, task: u64) -> Result<()> {
@@ -144,7 +145,7 @@ impl<'a> Queue<'a> {
     }
 
     /// Lowers all virtual times by one number, so that the virtual time is 0, and gives the number. Where a virtual time would leave its
-    /// range, as no task within 2^59 of the time 0 can make it, nothing changes, and the number is 0.
+    /// range, as no task within 2^59 of the time 0 can make it, nothing changes, and the number is 0; [`Queue::floor_time`] isn't 0 then.
     pub fn rebase(&mut self) -> i64 {
         let mut by = 0;
         unsafe { calls::eevdf_rebase(self.at.as_ptr(), &mut by) };
