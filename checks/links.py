@@ -2,8 +2,8 @@
 """checks/links.py: whether README, the pages of docs/ and the README of each folder name what there is. Each link has to lead to a file,
 and to a heading of it where it names one. Each file that is named has to be there. An excerpt, which is a block of lines below "from
 [NAME](FILE):", has to stand in that file, indentation aside, or for a workload in what is stored beside it; two dots are lines left out,
-and what stands three blanks behind a line is a remark. A call of the library for C has to stand in its header. docs/embedding.md has to
-link each program of crates/eevdf_uses. The last line is 'N passed, M failed', of the pages."""
+and what stands three blanks behind a line is a remark. A call of the library for C has to stand in its header. docs/embedding.md and
+docs/fleets.md have to link each program of crates/eevdf_uses. The last line is 'N passed, M failed', of the pages."""
 
 import re
 import subprocess
@@ -17,6 +17,8 @@ EXCERPT = re.compile(r"[Ff]rom \[[^\]]*\]\(([^)]+)\)[^\n]*:\n\n((?: {4}.*\n|\n)+
 # A file by its name alone, and by a path from the top of the repository.
 NAME = re.compile(r"(?<![\w/.*-])([\w-]+\.(?:rt|antt|py|sh|toml))\b")
 PATH = r"(?<![\w/.-])(?:\./)?((?:{})/[\w./-]*[\w/])"
+# The pages that have to link each program of crates/eevdf_uses.
+EMBEDDING = (TOP / "docs/embedding.md", TOP / "docs/fleets.md")
 # What a page speaks of that a user, a build or a run makes, and words in capitals, which stand for any name.
 MADE = re.compile(r"crates/mine\b|crates/\w+/out\b|^workload\.toml$|(?:^|/)(?!README\.|DECISIONS\.)[A-Z]+\b")
 
@@ -88,17 +90,18 @@ def excerpt_faults(page, text):
                 yield f"has an excerpt that doesn't stand in {source.relative_to(TOP)}: {piece[0]} .."
 
 
-def use_faults(text):
-    """Which programs of crates/eevdf_uses docs/embedding.md doesn't link."""
+def use_faults():
+    """Which programs of crates/eevdf_uses the pages on embedding don't link."""
+    text = "".join(page.read_text() for page in EMBEDDING)
     for program in sorted((TOP / "crates/eevdf_uses/src").glob("*.rt")):
         if program.name != "main.rt" and f"(../crates/eevdf_uses/src/{program.name})" not in text:
-            yield f"doesn't link crates/eevdf_uses/src/{program.name}"
+            yield f"nor does another page on embedding link crates/eevdf_uses/src/{program.name}"
 
 
 def faults_of(page, files):
     text = page.read_text()
     found = [*link_faults(page, text), *name_faults(text, files), *call_faults(text), *excerpt_faults(page, text)]
-    return found + list(use_faults(text)) if page == TOP / "docs/embedding.md" else found
+    return found + list(use_faults()) if page == EMBEDDING[0] else found
 
 
 def main():
