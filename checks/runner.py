@@ -1,6 +1,7 @@
 """What the checks share: runs of programs with what they print, and a count of what is as it should be."""
 
 import os
+import re
 import resource
 import signal
 import subprocess
@@ -31,7 +32,7 @@ class Printed:
     memory: int = field(default=0, compare=False)
 
     def whole(self):
-        """All that was printed, and the status as the last line: the form of the files beside the workloads."""
+        """All that was printed, and the status as the last line: the form of the files beside the workloads of checks/."""
         return self.out + self.errors + b"status %d\n" % self.status
 
     def __str__(self):
@@ -39,7 +40,12 @@ class Printed:
 
 
 def stored(file):
-    """What a file beside a workload says that is printed, all of it on standard output."""
+    """What a file beside a workload says that is printed, all of it on standard output. The status is its last line; or, where the folder
+    has a list of statuses, what that says of the workload, and else 0."""
+    statuses = file.parent / "statuses"
+    if statuses.is_file():
+        known = dict(re.findall(r"^([^#\s]\S*) (\d+)$", statuses.read_text(), re.MULTILINE))
+        return Printed(file.read_bytes(), int(known.get(file.stem, 0)))
     *lines, status = file.read_bytes().splitlines(keepends=True)
     return Printed(b"".join(lines), int(status.removeprefix(b"status ")))
 

@@ -13,7 +13,7 @@ import made
 CASES = Path(__file__).resolve().parent
 sys.path.append(str(CASES.parent))
 
-from runner import TOP, Checks, Printed, built  # noqa: E402
+from runner import TOP, Checks, Printed, built, stored  # noqa: E402
 
 SOLO = ("eevdf", "solo")
 REPLAY = ("eevdf", "replay")
@@ -73,7 +73,7 @@ def in_version_two(text):
 
 
 def check_pair(checks, path):
-    workload, wanted = path.read_bytes(), path.with_suffix(".out").read_bytes()
+    workload, wanted = path.read_bytes(), stored(path.with_suffix(".out")).whole()
     name, command = path.relative_to(TOP), command_of(workload)
     checks.compare(name, command, workload, wanted)
     if is_of_both_versions(path, workload, wanted):

@@ -4,7 +4,7 @@ import json
 from xml.etree import ElementTree
 
 from plain.document import MARK
-from runner import TOP, Checks, built
+from runner import TOP, Checks, built, stored
 from svg import Wrong
 
 # The words that do what a command of `eevdf` does.
@@ -50,7 +50,7 @@ def command_of(data):
 
 
 def is_well(path):
-    return path.with_suffix(".out").read_bytes().endswith(b"status 0\n")
+    return stored(path.with_suffix(".out")).status == 0
 
 
 def stored_workloads(pattern):
