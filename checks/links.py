@@ -73,21 +73,20 @@ def pieces(block):
     return [part.split("\n") for part in re.split(r"(?:^|\n)\.\.(?:\n|$)", "\n".join(lines)) if part]
 
 
-def stands_in(piece, lines):
-    return any(lines[at:at + len(piece)] == piece for at in range(len(lines)))
+def stands_in(piece, sources):
+    lines = [[line.strip() for line in source.read_text().splitlines() if line.strip()] for source in sources]
+    return any(text[at:at + len(piece)] == piece for text in lines for at in range(len(text)))
 
 
 def excerpt_faults(page, text):
     for link, block in EXCERPT.findall(text):
         source = page.parent / link
-        if source.suffix == ".toml":
-            source = source.with_suffix(".out")
-        if not source.is_file():
-            continue
-        lines = [line.strip() for line in source.read_text().splitlines() if line.strip()]
-        for piece in pieces(block):
-            if not stands_in(piece, lines):
-                yield f"has an excerpt that doesn't stand in {source.relative_to(TOP)}: {piece[0]} .."
+        # what is printed for a workload stands beside it
+        sources = [source, source.with_suffix(".out")] if source.suffix == ".toml" else [source]
+        sources = [file for file in sources if file.is_file()]
+        for piece in pieces(block) if sources else ():
+            if not stands_in(piece, sources):
+                yield f"has an excerpt that doesn't stand in {link}: {piece[0]} .."
 
 
 def use_faults():
