@@ -109,7 +109,9 @@ extern "C" {
 
 /*
  * The version of this header. A program that is linked with another library than it was compiled
- * for can compare it with eevdf_version().
+ * for can compare it with eevdf_version(). PATCH rises with what no program can see but in how fast
+ * it is, MINOR where something is added or a size changes, so that a program is compiled again, and
+ * MAJOR where a program may have to be changed; as long as it is 0, MINOR stands for it too.
  */
 #define EEVDF_VERSION_MAJOR 0
 #define EEVDF_VERSION_MINOR 2
