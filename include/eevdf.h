@@ -311,7 +311,8 @@ int64_t eevdf_stop(eevdf_queue *queue);
  * slices to either side. Nobody runs then. Answers 0.
  * So after a turn of at most two slices it owes all that it ran too much, and after a longer one
  * the rest is let off: beside seven others of its nice level, with slices of 0.1 ms, a task that
- * runs for 4 ms, sleeps and wakes at once gets 65.6 % of the CPU where 12.5 % is fair.
+ * runs for 4 ms, sleeps and wakes at once gets 65.6 % of the CPU where 12.5 % is fair, and with
+ * turns of 100 ms 97.9 %. Linux keeps such a task in the queue until it owes nothing.
  * Lock: the queue's. Interrupts: yes. INVALID: no number of a task. ABSENT: the task doesn't run
  * here.
  */
