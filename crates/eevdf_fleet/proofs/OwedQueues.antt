@@ -1,23 +1,19 @@
 -- What who commits a line owes of the queues that it has changed, one or two.
-use Rattle.std.proofs.Common.{◌≡◌, ◌≢◌, ℕ, ◌+◌, ◌<◌, ◌≤◌, Bool, true, false, ◌||◌, List, [], ◌∷◌, length, map, set, eq-eqb, refl, sym, ap, subst, ◌∙◌, arith}
+use Rattle.std.proofs.Common.{◌≡◌, ◌≢◌, ℕ, ◌+◌, ◌<◌, ◌≤◌, Bool, true, false, ◌||◌, List, [], ◌∷◌, length, map, eq-eqb, refl, sym, ap, subst, ◌∙◌, arith}
 use Rattle.std.specs.Prelude.{◌==◌}
-use Rattle.std.proofs.{Math.ListN.length-set, lemmas.Bool.false≢true, lemmas.List.get_or-set_same, lemmas.List.get_or-set_other}
+use Rattle.std.proofs.{lemmas.Bool.false≢true, lemmas.List.get_or-set_same}
 use Rattle.eevdf_queue.specs.State.{State, empty_state}
-use Rattle.eevdf_ops.specs.{declared.acts.Act.Act, declared.acts.Transfer.Transfer, declared.deeds.Answer.Answer}
-use Rattle.eevdf_ops.specs.{declared.deeds.Deed.Deed, declared.deeds.Line.Line, Setup.allows, Setup.is_allowed}
+use Rattle.eevdf_ops.specs.{declared.deeds.Answer.Answer}
+use Rattle.eevdf_ops.specs.{declared.deeds.Deed.Deed, declared.deeds.Line.Line, Setup.allows}
 use Rattle.eevdf_ops.specs.declared.acts.Act.TheVariants as act
-use Rattle.eevdf_ops.specs.{Acts.act_of, LocalActs.local_done, Machine.Machine, Machine.queue_at, Parts.decider, Transfers.transferred, Whole.whole, Whole.done_at}
-use Rattle.eevdf_ops.proofs.{DeedNames.PullNames, DeedNames.transfer_names}
-use Rattle.eevdf_ops.proofs.{ActDeeds.across-touches, ActDeeds.local-touches, MapCounts.equal, WholeActs.whole-done}
+use Rattle.eevdf_ops.specs.{LocalActs.local_done, Machine.Machine, Machine.queue_at, Parts.decider, Transfers.transferred, Whole.whole, Whole.done_at}
+use Rattle.eevdf_ops.proofs.DeedNames.{PullNames, decider_below, transfer_names}
+use Rattle.eevdf_ops.proofs.{ActDeeds.across-touches, ActDeeds.local-touches, MapCounts.equal, WholeActs.two-left, WholeActs.whole-by}
 use Rattle.eevdf_fleet.specs.{declared.board.claims.Terms.Terms, declared.board.claims.Claim.Claim, declared.board.claims.Said.Said}
 use Rattle.eevdf_fleet.specs.declared.board.claims.Claim.TheVariants.{Queue}
 use Rattle.eevdf_fleet.specs.Claims.{queue, once, times, homes, AllAgree, OwesQueues, advanced}
 use Rattle.eevdf_fleet.specs.TouchedQueues.{AreDoneFrom, IsDoneFrom}
-use Rattle.eevdf_fleet.proofs.{Advances.one-advanced, Advances.two-advanced, Rooms.decider-below}
-
--- a deed of a CPU, by what it does
-done-by : (hs : List ℕ) (d : Deed) (m : Machine) (cpu : ℕ) (a : Act) → is_allowed (length m) hs d ≡ true → act_of hs d ≡ a → decider d ≡ cpu → whole hs d m ≡ done_at cpu a m
-done-by hs d m cpu a ok is own = whole-done hs d m ok ∙ ap (λ (x : Act). done_at (decider d) x m) is ∙ ap (λ (n : ℕ). done_at n a m) own
+use Rattle.eevdf_fleet.proofs.{Advances.one-advanced, Advances.two-advanced}
 
 owes-one : (t : Terms) (cpu : ℕ) (claims : List Claim) (after : State) (s : Said) → decider s.line.deed ≡ cpu → allows t.setup.value s.line.deed ≡ true
     → IsDoneFrom (homes t) claims cpu after s.line → s.second.cpu ≡ cpu → s.second.queue.value.state ≡ after → OwesQueues t claims s
@@ -31,13 +27,13 @@ owes-one t cpu claims after s own may done at is =
       allowed = may;
       answers = λ m fits agree.
           let held : AllAgree m (Queue cpu done.before ∷ []) = subst (λ (cs : List Claim). AllAgree m cs) done.claimed agree in
-          ap (λ (r : Answer × Machine). r.0) (done-by (homes t) d m cpu (act.Local done.by) fits.allowed done.local own)
+          ap (λ (r : Answer × Machine). r.0) (whole-by (homes t) d m cpu (act.Local done.by) done.local own)
           ∙ ap (λ (q : State). (local_done done.by q).0) held.0 ∙ sym done.answers;
       changes = λ m fits agree.
           let held : AllAgree m (Queue cpu done.before ∷ []) = subst (λ (cs : List Claim). AllAgree m cs) done.claimed agree in
-          let below : cpu < length m = subst (λ (n : ℕ). n < length m) own (decider-below (length m) (homes t) d fits.allowed) in
+          let below : cpu < length m = subst (λ (n : ℕ). n < length m) own (decider_below (length m) (homes t) d fits.allowed) in
           subst (λ (cs : List Claim). AllAgree (whole (homes t) d m).1 cs) (sym (ap (map (advanced s)) done.claimed ∙ one-advanced s cpu done.before after at is)) (
-            ap (λ (r : Answer × Machine). queue_at r.1 cpu) (done-by (homes t) d m cpu (act.Local done.by) fits.allowed done.local own)
+            ap (λ (r : Answer × Machine). queue_at r.1 cpu) (whole-by (homes t) d m cpu (act.Local done.by) done.local own)
                 ∙ get_or-set_same m cpu (local_done done.by (queue_at m cpu)).1 empty_state below
                 ∙ ap (λ (q : State). (local_done done.by q).1) held.0 ∙ sym done.leaves,
             tt,
@@ -56,16 +52,6 @@ claimed-either c cpu other true y e f some = let here : once (cpu == c) ≡ 1 = 
 claimed-either c cpu other false true e f some = let here : once (other == c) ≡ 1 = ap once (eq-eqb other c (sym (equal c other f))) in omega arith
 claimed-either c cpu other false false e f some = absurd (false≢true some)
 
--- both queues are left as the act leaves them
-two-leave : (m : Machine) (cpu other : ℕ) (t : Transfer) → other ≢ cpu → cpu < length m → other < length m
-    → (queue_at (done_at cpu (act.Transfer other t) m).1 cpu ≡ (transferred t (queue_at m cpu) (queue_at m other)).1.0)
-    × (queue_at (done_at cpu (act.Transfer other t) m).1 other ≡ (transferred t (queue_at m cpu) (queue_at m other)).1.1)
-two-leave m cpu other t apart h g =
-    let r : Answer × (State × State) = transferred t (queue_at m cpu) (queue_at m other) in (
-      get_or-set_other (set m cpu r.1.0) other cpu r.1.1 empty_state (λ e. apart (sym e)) ∙ get_or-set_same m cpu r.1.0 empty_state h,
-      get_or-set_same (set m cpu r.1.0) other r.1.1 empty_state (omega (arith, length-set m cpu r.1.0, g)),
-    )
-
 -- a line that has changed the queues of two CPUs
 pub two-owes : (t : Terms) (cpu : ℕ) (claims : List Claim) (s : Said) → decider s.line.deed ≡ cpu → s.first.cpu ≡ cpu → s.second.cpu ≢ cpu → allows t.setup.value s.line.deed ≡ true
     → AreDoneFrom (homes t) claims s → OwesQueues t claims s
@@ -82,13 +68,13 @@ two-owes t cpu claims s own own_queue apart' may done =
       allowed = may;
       answers = λ m fits agree.
           let held : AllAgree m (Queue one done.before ∷ Queue other done.other_before ∷ []) = subst (λ (cs : List Claim). AllAgree m cs) done.claimed agree in
-          ap (λ (r : Answer × Machine). r.0) (done-by (homes t) d m one (act.Transfer other done.by) fits.allowed done.across by_one)
+          ap (λ (r : Answer × Machine). r.0) (whole-by (homes t) d m one (act.Transfer other done.by) done.across by_one)
           ∙ ap (λ (q : State). (transferred done.by q (queue_at m other)).0) held.0 ∙ ap (λ (q : State). (transferred done.by done.before q).0) held.1.0 ∙ sym done.answers;
       changes = λ m fits agree.
           let held : AllAgree m (Queue one done.before ∷ Queue other done.other_before ∷ []) = subst (λ (cs : List Claim). AllAgree m cs) done.claimed agree in
           let named : PullNames (length m) (decider d) other = transfer_names (length m) (homes t) d other done.by fits.allowed fits.cpus done.across in
-          let left = two-leave m one other done.by apart (omega (arith, named.puller, by_one)) named.from in
-          let same : whole (homes t) d m ≡ done_at one (act.Transfer other done.by) m = done-by (homes t) d m one (act.Transfer other done.by) fits.allowed done.across by_one in
+          let left = two-left m one other (transferred done.by (queue_at m one) (queue_at m other)) (λ e. apart (sym e)) (omega (arith, named.puller, by_one)) named.from in
+          let same : whole (homes t) d m ≡ done_at one (act.Transfer other done.by) m = whole-by (homes t) d m one (act.Transfer other done.by) done.across by_one in
           subst (λ (cs : List Claim). AllAgree (whole (homes t) d m).1 cs)
           (sym (ap (map (advanced s)) done.claimed ∙ two-advanced s one other done.before done.other_before s.first.queue.value.state s.second.queue.value.state apart refl refl refl refl)) (
             ap (λ (r : Answer × Machine). queue_at r.1 one) same ∙ left.0

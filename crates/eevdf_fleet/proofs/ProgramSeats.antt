@@ -1,18 +1,18 @@
 -- The seats of programs that run, each by a thread of its own, and what their fleet is closed to.
 use Rattle.std.proofs.Common.{◌≡◌, ℕ, ◌+◌, ◌*◌, ◌<◌, ◌≤◌, Bool, true, false, cond, List, [], ◌∷◌, ◌++◌, length, get_or, inl, inr, refl, sym, ap, subst, ◌∙◌, arith}
-use Rattle.std.proofs.{Math.Nat.mul-le-mul_right, lemmas.Bool.cases_lt, lemmas.Bool.Decides.nat_tests, lemmas.List.get_or_past}
+use Rattle.std.proofs.{Math.Nat.mul-le-mul_right, lemmas.Bool.and_parts, lemmas.Bool.cases_lt, lemmas.Bool.ltb-true, lemmas.Bool.Decides.nat_tests, lemmas.List.get_or_past}
 use Rattle.std.proofs.{lemmas.List.Elements.All-get_or, lemmas.Option.slice_get-get_or}
 use Rattle.std.specs.Prelude.{◌==◌, All, Some, nat_lt, slice_get}
 use Rattle.std.specs.List.{list_all}
 use Rattle.eevdf_ops.specs.{declared.deeds.Deed.Deed, declared.deeds.Line.Line, declared.deeds.Op.Op, Followed.FollowsPrograms}
 use Rattle.eevdf_ops.specs.{Followed.program_of, Outcome.Outcome, OwnRequests.AllFitWaiting, OwnRequests.TakesOwnRequests}
 use Rattle.eevdf_ops.specs.Parts.{decider}
+use Rattle.eevdf_ops.proofs.DeedNames.{decider_below}
 use Rattle.eevdf_ops.specs.declared.deeds.Deed.TheVariants.{Tick, Pick, Yield, Sleep, Wake, Pull, Renice}
 use Rattle.eevdf_ops.specs.Programs.{FitsProgram, deeds_of, lines_by, posts_in, wake_from, wakes_from}
 use Rattle.eevdf_ops.specs.Setup.{Setup, allows, cpus_of, homes_of, is_allowed}
 use Rattle.eevdf_fleet.specs.Fleets.{AllPostsTold, Seat, fresh}
 use Rattle.eevdf_fleet.specs.{ProgramRuns.AreRun, ProgramRuns.HasRun, SeatWorks.AreDone}
-use Rattle.eevdf_fleet.proofs.Rooms.{below, decider-below, left, right}
 use Rattle.eevdf_fleet.proofs.Takes.{wake-other}
 
 -- where each thread's work is its CPU's program, the programs are run
@@ -27,14 +27,14 @@ line_of_another true l lines e = cc
 no_lines : (cpus : ℕ) (hs : List ℕ) (p : ℕ) (lines : List Line) → cpus ≤ p → list_all (is_allowed cpus hs) (deeds_of lines) ≡ true → lines_by p lines ≡ []
 no_lines cpus hs p [] past ok = refl
 no_lines cpus hs p (l ∷ lines) past ok =
-    let there : decider l.deed < cpus = decider-below cpus hs l.deed (left _ _ ok) in
+    let there : decider l.deed < cpus = decider_below cpus hs l.deed (and_parts _ _ ok).0 in
     let other : (decider l.deed == p) ≡ false = grind (arith, nat_tests) in
-    line_of_another (decider l.deed == p) l (lines_by p lines) other ∙ no_lines cpus hs p lines past (right (is_allowed cpus hs l.deed) _ ok)
+    line_of_another (decider l.deed == p) l (lines_by p lines) other ∙ no_lines cpus hs p lines past (and_parts (is_allowed cpus hs l.deed) _ ok).1
 
 -- and has asked for no wake
 no_wake : (cpus : ℕ) (hs : List ℕ) (q : ℕ) (d : Deed) → cpus ≤ q → is_allowed cpus hs d ≡ true → wake_from q d ≡ []
 no_wake cpus hs q (Wake cpu task sender) past ok =
-    let there : sender < cpus = below sender cpus (right (nat_lt cpu cpus) _ (left _ _ ok)) in
+    let there : sender < cpus = ltb-true sender cpus (and_parts (nat_lt cpu cpus) _ (and_parts _ _ ok).0).1 in
     wake-other cpu task q sender (λ same. absurd (omega (arith, same, there, past)))
 no_wake cpus hs q (Tick cpu ns) past ok = refl
 no_wake cpus hs q (Pick cpu) past ok = refl
@@ -46,7 +46,7 @@ no_wake cpus hs q (Renice cpu task nice) past ok = refl
 no_wakes : (cpus : ℕ) (hs : List ℕ) (q c : ℕ) (lines : List Line) → cpus ≤ q → list_all (is_allowed cpus hs) (deeds_of lines) ≡ true → wakes_from q (lines_by c lines) ≡ []
 no_wakes cpus hs q c [] past ok = refl
 no_wakes cpus hs q c (l ∷ lines) past ok =
-    with_line (decider l.deed == c) (no_wake cpus hs q l.deed past (left _ _ ok)) (no_wakes cpus hs q c lines past (right (is_allowed cpus hs l.deed) _ ok))
+    with_line (decider l.deed == c) (no_wake cpus hs q l.deed past (and_parts _ _ ok).0) (no_wakes cpus hs q c lines past (and_parts (is_allowed cpus hs l.deed) _ ok).1)
   where
     with_line : (b : Bool) → wake_from q l.deed ≡ [] → wakes_from q (lines_by c lines) ≡ [] → wakes_from q (cond b (l ∷ lines_by c lines) (lines_by c lines)) ≡ []
     with_line false none rest = rest

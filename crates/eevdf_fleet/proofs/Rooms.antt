@@ -1,33 +1,12 @@
 -- The journal has room for the lines of every CPU.
-use Rattle.std.proofs.Common.{◌≡◌, ℕ, suc, ◌+◌, ◌*◌, ◌<◌, ◌≤◌, Bool, true, false, cond, ◌&&◌, List, [], ◌∷◌, ◌++◌, length, refl, ap, ◌∙◌, arith}
-use Rattle.std.specs.{Prelude.◌==◌, Prelude.nat_lt, Prelude.Option, Prelude.Some, Prelude.None, Prelude.IfSome, List.list_all}
-use Rattle.std.proofs.{lemmas.Bool.false≢true, lemmas.Bool.Decides.nat_tests, lemmas.List.length_push}
-use Rattle.eevdf_ops.specs.{declared.deeds.Deed.Deed, declared.deeds.Line.Line, Parts.decider, Programs.deeds_of, Programs.lines_by}
-use Rattle.eevdf_ops.specs.declared.deeds.Deed.TheVariants.{Tick, Pick, Yield, Sleep, Wake, Pull, Renice}
-use Rattle.eevdf_ops.specs.Setup.{cpus_of, is_allowed, is_task}
+use Rattle.std.proofs.Common.{◌≡◌, ℕ, suc, ◌+◌, ◌*◌, ◌<◌, ◌≤◌, Bool, true, false, cond, List, [], ◌∷◌, ◌++◌, length, refl, ap, ◌∙◌, arith}
+use Rattle.std.specs.{Prelude.◌==◌, Prelude.Option, Prelude.Some, Prelude.None, Prelude.IfSome, List.list_all}
+use Rattle.std.proofs.{lemmas.Bool.and_parts, lemmas.List.length_push}
+use Rattle.eevdf_ops.specs.{declared.deeds.Line.Line, Parts.decider, Programs.deeds_of, Programs.lines_by}
+use Rattle.eevdf_ops.specs.Setup.{cpus_of, is_allowed}
+use Rattle.eevdf_ops.proofs.DeedNames.{decider_below}
 use Rattle.eevdf_fleet.specs.{declared.board.claims.Terms.Terms, Claims.once, Claims.homes, Claims.FitsQuota, Claims.HasAllRoom, Claims.IsKept}
 use Rattle.eevdf_fleet.proofs.Sums.{sum_below, sum-most, sum-none, sum-once}
-
-pub left : (a b : Bool) → (a && b) ≡ true → a ≡ true
-left true b e = refl
-left false b e = e
-
-pub right : (a b : Bool) → (a && b) ≡ true → b ≡ true
-right true b e = e
-right false b e = absurd (false≢true e)
-
-pub below : (a b : ℕ) → nat_lt a b ≡ true → a < b
-below a b h = grind (arith, nat_tests)
-
--- a deed that is allowed is of a CPU that there is
-pub decider-below : (cpus : ℕ) (hs : List ℕ) (d : Deed) → is_allowed cpus hs d ≡ true → decider d < cpus
-decider-below cpus hs (Tick cpu ns) ok = below cpu cpus ok
-decider-below cpus hs (Pick cpu) ok = below cpu cpus ok
-decider-below cpus hs (Yield cpu) ok = below cpu cpus ok
-decider-below cpus hs (Sleep cpu task) ok = below cpu cpus (left _ (is_task hs task) ok)
-decider-below cpus hs (Wake cpu task sender) ok = below cpu cpus (left _ _ (left _ _ ok))
-decider-below cpus hs (Pull cpu source) ok = below cpu cpus (left _ _ ok)
-decider-below cpus hs (Renice cpu task nice) ok = below cpu cpus (left _ (is_task hs task) ok)
 
 count_of : List Line → ℕ → ℕ
 count_of lines cpu = length (lines_by cpu lines)
@@ -45,9 +24,9 @@ none-counted cpu = refl
 all-counted : (cpus : ℕ) (hs : List ℕ) (lines : List Line) → list_all (is_allowed cpus hs) (deeds_of lines) ≡ true → sum_below (count_of lines) cpus ≡ length lines
 all-counted cpus hs [] ok = sum-none (count_of []) cpus none-counted
 all-counted cpus hs (l ∷ lines) ok =
-    let here : is_allowed cpus hs l.deed ≡ true = left _ _ ok in
-    let rest : list_all (is_allowed cpus hs) (deeds_of lines) ≡ true = right (is_allowed cpus hs l.deed) _ ok in
-    omega (arith, sum-once (count_of (l ∷ lines)) (count_of lines) (decider l.deed) cpus (λ k. counted-by l lines k (decider l.deed == k) refl) (decider-below cpus hs l.deed here), all-counted cpus hs lines rest)
+    let here : is_allowed cpus hs l.deed ≡ true = (and_parts _ _ ok).0 in
+    let rest : list_all (is_allowed cpus hs) (deeds_of lines) ≡ true = (and_parts (is_allowed cpus hs l.deed) _ ok).1 in
+    omega (arith, sum-once (count_of (l ∷ lines)) (count_of lines) (decider l.deed) cpus (λ k. counted-by l lines k (decider l.deed == k) refl) (decider_below cpus hs l.deed here), all-counted cpus hs lines rest)
 
 -- the lines of a history are no more than the quotas of all CPUs
 pub all-fit : (t : Terms) (lines : List Line) (most : ℕ) → IsKept t lines → FitsQuota (Some most) lines → length lines ≤ cpus_of t.setup.value * most

@@ -1,4 +1,4 @@
--- Acts by the queues that they touch, and what lines were done from.
+-- The queues that an act touches, and that a line of a history tells of an act done on them.
 use Rattle.std.specs.Prelude.{◌≡◌, ℕ, List, [], ◌∷◌}
 use Rattle.eevdf_queue.specs.State.{State}
 use Rattle.eevdf_ops.specs.{declared.acts.LocalAct.LocalAct, declared.acts.Transfer.Transfer, declared.deeds.Deed.Deed, declared.deeds.Line.Line}

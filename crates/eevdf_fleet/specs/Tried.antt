@@ -35,7 +35,7 @@ not_allowed s cpu op.Drain = None
 abbrev pub refusal : Setup → Seat → Op → Option Refused
 refusal s seat o = option_or (not_allowed s seat.cpu o) (unless (nat_le (room_for (cpus_of s) o) seat.room) SeatFull)
 
--- a post was refused since the seat had posted as many requests to the task's home, over all, as a ring has room for
+-- a post was refused because the seat had posted as many requests to the task's home, over all, as a ring has room for
 abbrev pub IsRingFull : Kit → Seat → Op → Refused → Type 0
 IsRingFull k seat (op.Post task) (RingFull full) = (full.task ≡ task) × (capacity_of k ≤ length (posted_to seat (home_of (homes_of (setup_of k)) task)))
 IsRingFull k seat other reason = ⊥

@@ -1,16 +1,13 @@
 -- What is known of the CPUs that an allowed deed names.
 use Rattle.std.proofs.Common.{◌≡◌, ◌≢◌, ℕ, ◌<◌, Bool, true, false, cond, not, List, length, refl, sym, subst, ◌∙◌, arith}
 use Rattle.std.specs.Prelude.{◌==◌, nat_lt}
-use Rattle.std.proofs.{lemmas.Bool.and_parts, lemmas.Bool.Decides.nat_tests}
+use Rattle.std.proofs.lemmas.Bool.{and_parts, ltb-true, Decides.nat_tests}
 use Rattle.eevdf_ops.specs.{Acts.act_of, declared.acts.Transfer.Transfer, declared.deeds.Deed.Deed, Setup.home_of, Setup.is_task, Setup.is_allowed, Places.AreCpus}
 use Rattle.eevdf_ops.specs.declared.acts.Act.TheVariants as act
 use Rattle.eevdf_ops.specs.declared.acts.LocalAct.TheVariants as local
 use Rattle.eevdf_ops.specs.declared.acts.Transfer.TheVariants as transfer
 use Rattle.eevdf_ops.specs.declared.deeds.Deed.TheVariants.{Tick, Pick, Yield, Sleep, Wake, Pull, Renice}
 use Rattle.eevdf_ops.specs.Parts.{decider}
-
-below : (a b : ℕ) → nat_lt a b ≡ true → a < b
-below a b h = grind (arith, nat_tests)
 
 pub unequal : (k c : ℕ) → (k == c) ≡ false → k ≢ c
 unequal k c e = grind (arith, nat_tests)
@@ -26,8 +23,8 @@ pub record PullNames (cpus cpu source : ℕ) : Type 0 where
 
 pub pull_names : (cpus : ℕ) (homes : List ℕ) (cpu source : ℕ) → is_allowed cpus homes (Pull cpu source) ≡ true → PullNames cpus cpu source
 pull_names cpus homes cpu source ok = record {
-  puller = below cpu cpus (and_parts _ _ ok).0;
-  from = below source cpus (and_parts _ _ (and_parts (nat_lt cpu cpus) _ ok).1).0;
+  puller = ltb-true cpu cpus (and_parts _ _ ok).0;
+  from = ltb-true source cpus (and_parts _ _ (and_parts (nat_lt cpu cpus) _ ok).1).0;
   apart = differs cpu source (and_parts (nat_lt source cpus) _ (and_parts (nat_lt cpu cpus) _ ok).1).1;
 }
 
@@ -38,16 +35,16 @@ slept_names cpus cpu task home other t false e h i is =
     record { puller = h; from = omega (arith, to, i); apart = λ same. unequal home cpu e (to ∙ sym same) }
 
 pub decider_below : (cpus : ℕ) (homes : List ℕ) (deed : Deed) → is_allowed cpus homes deed ≡ true → decider deed < cpus
-decider_below cpus homes (Tick cpu ns) ok = below cpu cpus ok
-decider_below cpus homes (Pick cpu) ok = below cpu cpus ok
-decider_below cpus homes (Yield cpu) ok = below cpu cpus ok
-decider_below cpus homes (Sleep cpu task) ok = below cpu cpus (and_parts _ (is_task homes task) ok).0
-decider_below cpus homes (Wake cpu task sender) ok = below cpu cpus (and_parts _ _ (and_parts _ _ ok).0).0
-decider_below cpus homes (Pull cpu source) ok = below cpu cpus (and_parts _ _ ok).0
-decider_below cpus homes (Renice cpu task nice) ok = below cpu cpus (and_parts _ (is_task homes task) ok).0
+decider_below cpus homes (Tick cpu ns) ok = ltb-true cpu cpus ok
+decider_below cpus homes (Pick cpu) ok = ltb-true cpu cpus ok
+decider_below cpus homes (Yield cpu) ok = ltb-true cpu cpus ok
+decider_below cpus homes (Sleep cpu task) ok = ltb-true cpu cpus (and_parts _ (is_task homes task) ok).0
+decider_below cpus homes (Wake cpu task sender) ok = ltb-true cpu cpus (and_parts _ _ (and_parts _ _ ok).0).0
+decider_below cpus homes (Pull cpu source) ok = ltb-true cpu cpus (and_parts _ _ ok).0
+decider_below cpus homes (Renice cpu task nice) ok = ltb-true cpu cpus (and_parts _ (is_task homes task) ok).0
 
 pub home_below : (cpus : ℕ) (homes : List ℕ) (cpu task : ℕ) → is_allowed cpus homes (Sleep cpu task) ≡ true → AreCpus cpus homes → home_of homes task < cpus
-home_below cpus homes cpu task ok homed = homed task (below task (length homes) (and_parts (nat_lt cpu cpus) _ ok).1)
+home_below cpus homes cpu task ok homed = homed task (ltb-true task (length homes) (and_parts (nat_lt cpu cpus) _ ok).1)
 
 -- so it is known of any act on two queues
 pub transfer_names : (cpus : ℕ) (homes : List ℕ) (deed : Deed) (other : ℕ) (t : Transfer) → is_allowed cpus homes deed ≡ true → AreCpus cpus homes → act_of homes deed ≡ act.Transfer other t → PullNames cpus (decider deed) other

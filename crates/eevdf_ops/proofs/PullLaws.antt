@@ -1,12 +1,12 @@
 -- A pull that takes a task levels the loads, and leaves a task at the source.
-use Rattle.std.proofs.Common.{◌≡◌, ℕ, ◌+◌, ◌<◌, ◌≤◌, true, List, length, set, refl, sym, ap, subst, ◌∙◌, arith}
-use Rattle.std.specs.Prelude.{nat_lt, is_some, Option, Some, None, Result, Ok, Err}
+use Rattle.std.proofs.Common.{◌≡◌, ℕ, ◌+◌, ◌<◌, ◌≤◌, List, length, refl, sym, ap, subst, ◌∙◌, arith}
+use Rattle.std.specs.Prelude.{is_some, Option, Some, None, Result, Ok, Err}
 use Rattle.std.specs.Int.{abs_diff}
 use Rattle.std.specs.FinMap as finite
-use Rattle.std.proofs.{Math.ListN.length-set, lemmas.List.get_or-set_same, lemmas.Bool.Decides.nat_tests}
+use Rattle.std.proofs.lemmas.Bool.{ltb-true}
 use Rattle.eevdf_weight.specs.Weight.{weight_of}
 use Rattle.eevdf_weight.proofs.Weighing.{weight_of-least}
-use Rattle.eevdf_queue.specs.State.{State, Contents, empty_state}
+use Rattle.eevdf_queue.specs.State.{State, Contents}
 use Rattle.eevdf_queue.specs.{Leaving.leave}
 use Rattle.eevdf_ops.specs.{declared.deeds.Answer.Answer, declared.deeds.Deed.TheVariants.Pull, Machine.Machine, Machine.queue_at}
 use Rattle.eevdf_ops.specs.declared.deeds.Answer.TheVariants.{Pulled}
@@ -14,7 +14,7 @@ use Rattle.eevdf_ops.specs.declared.acts.Transfer.TheVariants as transfer
 use Rattle.eevdf_ops.specs.{Places.count, Places.places_in, Transfers.NoneTwice, Transfers.pulled, Transfers.transferred, Whole.whole}
 use Rattle.eevdf_ops.specs.WholePull.{offer, load_of, decision, with_task}
 use Rattle.eevdf_ops.specs.Laws as laws
-use Rattle.eevdf_ops.proofs.{MachinePlaces.other_queue, MachinePlaces.none-twice, Carried.Carries, Carried.offer-carries, Carried.carried-stands}
+use Rattle.eevdf_ops.proofs.{WholeActs.two-left, MachinePlaces.none-twice, Carried.Carries, Carried.offer-carries, Carried.carried-stands}
 use Rattle.eevdf_ops.proofs.{DeedNames.PullNames, DeedNames.pull_names}
 use Rattle.eevdf_ops.proofs.Pulling.{IsTaken, decision-taken, unpulled}
 use Rattle.eevdf_ops.proofs.Loads.{load-leave, load-with, load-empty}
@@ -32,9 +32,6 @@ record IsLevelled (q r q' r' : State) (weight : ℕ) : Type 0 where
   source : weight + load_of r' ≡ load_of r
   lighter : load_of q + weight < load_of r
 
-below : (a b : ℕ) → nat_lt a b ≡ true → a < b
-below a b h = grind (arith, nat_tests)
-
 taken_levels : (q r : State) (p : Contents) → NoneTwice q r → decision q (load_of r) (offer r) ≡ Ok p → IsLevelled q r (with_task q p) (leave r p.task) (weight_of p.nice)
 taken_levels q r p once e =
     let taken : IsTaken q (load_of r) (offer r) p = decision-taken q (load_of r) (offer r) p e in
@@ -43,7 +40,7 @@ taken_levels q r p once e =
     record {
       puller = load-with q p (absent q p.task none) taken.room;
       source = ap (λ n. weight_of n + load_of (leave r p.task)) c.same_nice ∙ load-leave r p.task c.entry c.here;
-      lighter = below (load_of q + weight_of p.nice) (load_of r) taken.lighter;
+      lighter = ltb-true (load_of q + weight_of p.nice) (load_of r) taken.lighter;
     }
 
 -- a pull that is answered with a task
@@ -64,9 +61,9 @@ levels homes m cpu source task pulls =
     let q : State = queue_at m cpu in
     let r : State = queue_at m source in
     let done : Answer × (State × State) = transferred transfer.Pull q r in
-    let n : Machine = set m cpu done.1.0 in
-    subst (λ (q' : State). Levels q r q' (queue_at (set n source done.1.1) source)) (sym (other_queue n source cpu done.1.1 named.apart ∙ get_or-set_same m cpu done.1.0 empty_state named.puller))
-    (subst (λ (r' : State). Levels q r done.1.0 r') (sym (get_or-set_same n source done.1.1 empty_state (omega (arith, length-set m cpu done.1.0, named.from))))
+    let left = two-left m cpu source done named.apart named.puller named.from in
+    subst (λ (q' : State). Levels q r q' (queue_at (whole homes (Pull cpu source) m).1 source)) (sym left.0)
+    (subst (λ (r' : State). Levels q r done.1.0 r') (sym left.1)
     (levels_by q r task (decision q (load_of r) (offer r)) (none-twice homes m cpu source pulls.placed named.apart named.puller named.from) refl pulls.answered))
 
 nearer : (w a b c d : ℕ) → 15 ≤ w → c ≡ w + a → w + d ≡ b → a + w < b → abs_diff c d < abs_diff a b

@@ -16,7 +16,7 @@ deed_at cpu (local.Sleep task) = Sleep cpu task
 deed_at cpu (local.Wake task sender) = Wake cpu task sender
 deed_at cpu (local.Renice task nice) = Renice cpu task nice
 
--- and with another one
+-- the deed that is an act of a CPU together with another CPU
 abbrev pub deed_across : ℕ → ℕ → Transfer → Deed
 deed_across cpu other (transfer.Sleep task) = Sleep cpu task
 deed_across cpu other transfer.Pull = Pull cpu other

@@ -1,12 +1,12 @@
 -- A pull: the candidate of the source comes to the CPU, where that levels their loads.
-use Rattle.std.specs.Prelude.{ℕ, ◌+◌, nat_lt, Bool, if◌then◌else◌, Option, Some, None, Result, Ok, Err, slice_set}
+use Rattle.std.specs.Prelude.{ℕ, ◌+◌, nat_lt, Bool, if◌then◌else◌, Option, Some, None, Result, Ok, Err}
 use Rattle.std.specs.{Option.unwrap_or, Result.result_map_both}
 pub use Rattle.eevdf_queue.specs.Offers.{offer}
 use Rattle.eevdf_weight.specs.Weight.{weight_of}
 use Rattle.eevdf_queue.specs.{State.State, State.Contents, Sums.total_weight, Moves.sleeper_of}
 use Rattle.eevdf_queue.specs.{Placing.can_place, Placing.put}
-use Rattle.eevdf_ops.specs.{declared.deeds.Answer.Answer, Machine.Machine, Machine.queue_at, WholeSleep.task_leaves}
-use Rattle.eevdf_ops.specs.declared.deeds.Answer.TheVariants.{Pulled, Balanced, Nothing, Range}
+use Rattle.eevdf_ops.specs.{declared.deeds.Answer.Answer, Machine.Machine, Machine.queue_at}
+use Rattle.eevdf_ops.specs.declared.deeds.Answer.TheVariants.{Balanced, Nothing, Range}
 
 -- what a pull reads of its source, beside the offer
 abbrev pub load_of : State → ℕ
@@ -34,14 +34,3 @@ pull_decision m cpu source = decision (queue_at m cpu) (load_of (queue_at m sour
 -- a queue with the task, where it can be placed there
 abbrev pub with_task : State → Contents → State
 with_task q p = unwrap_or (put q p.task (sleeper_of p)) q
-
--- the machine with a task runnable at a CPU
-abbrev pub task_joins : Machine → ℕ → Contents → Machine
-task_joins m cpu p = slice_set m cpu (with_task (queue_at m cpu) p)
-
-abbrev pub pull_decided : Machine → ℕ → ℕ → Result Contents Answer → Answer × Machine
-pull_decided m cpu source (Err refusal) = (refusal, m)
-pull_decided m cpu source (Ok p) = (Pulled p.task, task_joins (task_leaves m source p.task) cpu p)
-
-abbrev pub pull : Machine → ℕ → ℕ → Answer × Machine
-pull m cpu source = pull_decided m cpu source (pull_decision m cpu source)

@@ -64,7 +64,7 @@ impl Transfer {
     ghost use Rattle.std.specs.Prelude.{◌≡◌};
     ghost use Rattle.eevdf_ops.specs.Acts.{deed_across};
 
-    /// The deed that is this act of a CPU, with another one.
+    /// The deed that is this act of a CPU together with another CPU.
     #[inline(always)]
     pub fn on(&self, cpu: CpuId, other: CpuId) -> Deed
         ensures { result ≡ deed_across cpu other self.now }

@@ -3,6 +3,10 @@
 //!
 //! A machine is the list of its CPUs' run queues. A deed is done at once and answered; the history of a list
 //! of deeds is the list of deeds with their answers, and the machine that they leave.
+//!
+//! A deed is parted into its CPU and an act ([`parted`]): a [`LocalAct`] on the queue of that CPU alone, or a
+//! [`Transfer`], by which a task goes from one queue to another. Acts are done here and nowhere else: [`Solo`]
+//! does them on the queues that it has, threads on those that they have locked.
 #![tactic(auto)]
 
 mod acts;

@@ -16,7 +16,7 @@ use eevdf_weight::{Nice, weight};
 /// Takes out of the source the task that the CPU decides to pull, and says what the pull is answered: `Pulled`, or why it takes none
 /// (`Nothing`, `Balanced` or `Range`), and then nothing has changed.
 #[inline(always)]
-pub fn leave_to(puller: &Queue, source: &mut Queue) -> (Answer, Option<Parcel>)
+pub(crate) fn leave_to(puller: &Queue, source: &mut Queue) -> (Answer, Option<Parcel>)
     ensures answer { result.0 ≡ answer_of_pull (whole.decision puller.now.state
         (whole.load_of source.old.state) (whole.offer source.old.state)) }
     ensures parcel { result.1 ≡ result_ok (whole.decision puller.now.state
@@ -50,7 +50,7 @@ fn is_surely_balanced(puller: &Queue, source: &Queue) -> bool
     source.len() > 1 && source.load() <= puller.load()
 }
 
-/// The same by the candidate of the source.
+/// The task that the CPU takes, or why it takes none, by what the source offers.
 fn weigh(puller: &Queue, source: &Queue) -> Result<TaskId, Answer>
     ensures { result ≡ task_of (whole.decision puller.now.state
         (whole.load_of source.now.state) (whole.offer source.now.state)) }

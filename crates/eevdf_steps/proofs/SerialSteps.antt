@@ -1,15 +1,15 @@
 -- Each micro-step keeps what the callers see a part of the history's whole operations.
-use Rattle.std.proofs.Common.{◌≡◌, ℕ, ◌<◌, Bool, true, not, ◌||◌, List, [], ◌∷◌, ◌++◌, length, sym, ap, subst, ◌∙◌, inl, inr, refl, arith}
-use Rattle.std.proofs.lemmas.Bool.{and_from, false≢true, cases_lt, ltb-true, eq-eqb, false_from_ne_true, or_left, or_right}
-use Rattle.std.proofs.lemmas.List.{append-nil, map-append}
+use Rattle.std.proofs.Common.{◌≡◌, ℕ, ◌<◌, true, not, ◌||◌, List, [], ◌∷◌, ◌++◌, length, sym, ap, subst, ◌∙◌, inl, inr, refl, arith}
+use Rattle.std.proofs.lemmas.Bool.{false≢true, cases_lt, ltb-true, eq-eqb, false_from_ne_true, or_left, or_right}
+use Rattle.std.proofs.lemmas.List.{append-nil}
 use Rattle.std.specs.Prelude.{◌==◌, MatchOption, Option, Some, None, is_none}
-use Rattle.std.specs.{List.list_all, Option.option_to_list}
+use Rattle.std.specs.{Option.option_to_list}
 use Rattle.eevdf_steps.specs.{Commits.committed, Working.FitsHand, Working.HasRoom, UnderWay.under_way, UnderWay.begun}
-use Rattle.eevdf_steps.specs.{declared.micro.Micro.Micro, declared.plan.Step.Step, Serial.FollowsHistory, Serial.IsFree, Serial.IsSerial, Serial.is_allowed_commit}
+use Rattle.eevdf_steps.specs.{declared.micro.Micro.Micro, declared.plan.Step.Step, Serial.FollowsHistory, Serial.IsFree, Serial.IsSerial}
 use Rattle.eevdf_queue.specs.{State.State, Leaving.carried_running}
 use Rattle.eevdf_ops.specs.{declared.deeds.Op.Op, declared.deeds.Deed.Deed, declared.deeds.Answer.Answer, declared.deeds.Line.Line}
 use Rattle.eevdf_ops.specs.{Machine.Machine, Machine.queue_at, Whole.whole, Programs.deed_of, Programs.deeds_of}
-use Rattle.eevdf_ops.specs.{Histories.machine_told, Setup.is_allowed}
+use Rattle.eevdf_ops.specs.{Histories.machine_told}
 use Rattle.eevdf_ops.specs.declared.deeds.Op.TheVariants as op
 use Rattle.eevdf_ops.specs.declared.deeds.Deed.TheVariants as deed
 use Rattle.eevdf_ops.specs.WholePull.{decision, load_of, offer, pull_decision}
@@ -20,7 +20,7 @@ use Rattle.eevdf_steps.specs.Counters.{Counters, counted, holder, holds, refused
 use Rattle.eevdf_steps.specs.MicroState.{appends, home_for, line_of, works}
 use Rattle.eevdf_steps.specs.Work.{Work, answer, hand, woken, acted}
 use Rattle.eevdf_steps.proofs.{Holders.nobody_past, Holders.not_blocked, Walking.walking, Positions.step_in, SoundSteps.home_below}
-use Rattle.eevdf_steps.proofs.{SoundSteps.all_joined, SoundSteps.is_caller, OtherCallers.IsStepOf, OtherCallers.followed_then, Ready.least_there}
+use Rattle.eevdf_steps.proofs.{SoundSteps.is_caller, OtherCallers.IsStepOf, OtherCallers.followed_then, Ready.least_there}
 use Rattle.eevdf_steps.proofs.Walks.{Covers, FitsWalk, Walk, touched, is_acting, is_moving}
 use Rattle.eevdf_steps.proofs.OwnSteps.{AtStep, acquire_step, fresh_begun, quiet_step, release_step, sees_history, hand_empty}
 use Rattle.eevdf_steps.proofs.OwnWork.{AtAttach, acted_step, at_attach, falls_asleep_step, joins_step, pull_leaves, room_then, sleep_leaves, ActsThere}
@@ -35,14 +35,6 @@ has_deed p _ e = (_, refl)
 
 line_is : (o : Option Deed) (kept : Option Answer) (d : Deed) (a : Answer) → o ≡ Some d → kept ≡ Some a → line_of o kept ≡ record { deed = d; answer = a } ∷ []
 line_is o kept d a e k = ap (λ (x : Option Deed). line_of x kept) e ∙ ap (λ (y : Option Answer). line_of (Some d) y) k
-
-allowed_more : (test : Deed → Bool) (lines : List Line) (d : Deed) (a : Answer) → list_all test (deeds_of lines) ≡ true → test d ≡ true
-    → list_all test (deeds_of (lines ++ record { deed = d; answer = a } ∷ [])) ≡ true
-allowed_more test lines d a all ok = grind (arith, all_joined, and_from, map-append)
-
-pub commit_allowed : (cpus : ℕ) (homes : List ℕ) (d : Deed) → is_allowed cpus homes d ≡ true → is_allowed_commit cpus homes d ≡ true
-commit_allowed cpus homes (deed.Wake cpu task sender) ok = refl
-commit_allowed cpus homes _ ok = ok
 
 -- a lock that has no holder is free
 free_lock : (plan : Plan) (counters : Counters) (c : ℕ) → holder plan counters c ≡ None → IsFree plan counters c
@@ -78,14 +70,13 @@ module _ (plan : Plan) (start : Machine) (counters : Counters) (p : ℕ) (w : Wo
   local_serial : (w' : Work) {o : Op} {micro : Micro} → Serial o micro → IsStepOf plan counters p told told w w' → Leaves w' []
   local_serial w' s step =
       subst (IsSerial plan start (counted counters p) w') (sym (append-nil lines))
-      (record { history = s.serial.history; allowed = s.serial.allowed; seen = followed_then s.serial.seen step (are_walking plan counters s.sound s.each) })
+      (record { history = s.serial.history; seen = followed_then s.serial.seen step (are_walking plan counters s.sound s.each) })
 
   -- a line is added
   line_serial : (w' : Work) (d : Deed) (a : Answer) {o : Op} {micro : Micro} → Serial o micro → IsStepOf plan counters p told (whole plan.homes d told).1 w w'
-      → is_allowed_commit (length start) plan.homes d ≡ true → a ≡ (whole plan.homes d told).0 → Leaves w' (record { deed = d; answer = a } ∷ [])
-  line_serial w' d a s step ok e = record {
+      → a ≡ (whole plan.homes d told).0 → Leaves w' (record { deed = d; answer = a } ∷ [])
+  line_serial w' d a s step e = record {
     history = history_more plan.homes start lines d a s.serial.history e;
-    allowed = allowed_more (is_allowed_commit (length start) plan.homes) lines d a s.serial.allowed ok;
     seen = subst (λ (m : Machine). FollowsHistory plan m (counted counters p) w') (sym (machine_more plan.homes start lines (record { deed = d; answer = a })))
         (followed_then s.serial.seen step (are_walking plan counters s.sound s.each));
   }
@@ -141,16 +132,14 @@ module _ (plan : Plan) (start : Machine) (counters : Counters) (p : ℕ) (w : Wo
   commit_serial o s =
       let (d, e) = has_deed p o s.at.fits.acting_or_moving in
       subst (Leaves w) (sym (line_is (deed_of p o) (answer w p) d (whole plan.homes d told).0 e (commit_answer d s.at e)))
-      (line_serial w d (whole plan.homes d told).0 s (commit_step d s.at e)
-      (commit_allowed (length start) plan.homes d (ap (λ (n : ℕ). is_allowed n plan.homes d) (sym (length-machine_after plan.homes start (deeds_of lines)))
-      ∙ (deed_fits plan counters p (step_in o Commit) d s.sound s.at.next e told s.at.long).allowed)) refl)
+      (line_serial w d (whole plan.homes d told).0 s (commit_step d s.at e) refl)
 
   settle_serial : (q h : ℕ) (o : Op) (f : Option ℕ) → Serial o (Settle q) → Leaves (works h w p o (Settle q) f) (appends w p o (Settle q) f)
   settle_serial q h o None s = local_serial w s (quiet_step s.at refl (λ c b. refl) (fresh_begun p (step_next plan (counted counters p) p) s.at.fits.fresh))
   settle_serial q h o (Some t) s =
       let covers : (c : ℕ) → holds plan counters c p ≡ (c == p)
       = λ c. holds_covered o s.at.walk s.at.fits.covers c ∙ ap (λ (x : Op). touched plan p x c) s.at.fits.drains in
-      line_serial (woken w p t) (deed.Wake p t q) _ s (settle_step t s.at covers) refl (settle_answer t s.at covers)
+      line_serial (woken w p t) (deed.Wake p t q) _ s (settle_step t s.at covers) (settle_answer t s.at covers)
 
   serial_by : (o : Op) (micro : Micro) (f : Option ℕ) → Serial o micro → Leaves (works (home_for plan p o) w p o micro f) (appends w p o micro f)
   serial_by o (Acquire c) f s = local_serial w s (acquire_step s.at (free_lock plan counters c (not_blocked c (holder plan counters c) s.free)))

@@ -1,9 +1,7 @@
 -- How the queues, the hands and the answers of all callers follow from the machine of the history.
-use Rattle.std.specs.Prelude.{◌≡◌, ℕ, Bool, true, false, List, length, Option}
-use Rattle.std.specs.List.{list_all}
-use Rattle.eevdf_ops.specs.declared.deeds.{Deed.Deed, Deed.TheVariants.Wake, Line.Line}
+use Rattle.std.specs.Prelude.{◌≡◌, ℕ, true, false, List, Option}
+use Rattle.eevdf_ops.specs.declared.deeds.{Line.Line}
 use Rattle.eevdf_ops.specs.{Machine.Machine, Machine.queue_at, Histories.AreHistory, Histories.machine_told}
-use Rattle.eevdf_ops.specs.{Programs.deeds_of, Setup.is_allowed}
 use Rattle.eevdf_steps.specs.{Plan.Plan, Counters.Counters, Counters.holds, Counters.step_next}
 use Rattle.eevdf_steps.specs.Work.{Work, answer, hand}
 use Rattle.eevdf_steps.specs.UnderWay.{KeepsAnswer, UnderWay, hand_seen, queue_seen, under_way}
@@ -25,13 +23,7 @@ pub record FollowsHistory (plan : Plan) (m : Machine) (counters : Counters) (w :
   pub hands : (p : ℕ) → hand w p ≡ hand_seen plan.homes m (begun_by plan counters p)
   pub answers : (p : ℕ) → KeepsAnswer plan.homes m (begun_by plan counters p) (answer w p)
 
--- whether a deed is allowed; a wake may be any, since it is committed by a drain and not for an operation
-abbrev pub is_allowed_commit : ℕ → List ℕ → Deed → Bool
-is_allowed_commit cpus homes (Wake cpu task sender) = true
-is_allowed_commit cpus homes d = is_allowed cpus homes d
-
 -- the lines are a history, and all that the callers see follows from the machine that it leaves
 pub record IsSerial (plan : Plan) (start : Machine) (counters : Counters) (w : Work) (lines : List Line) : Type 0 where
   pub history : AreHistory plan.homes start lines
-  pub allowed : list_all (is_allowed_commit (length start) plan.homes) (deeds_of lines) ≡ true
   pub seen : FollowsHistory plan (machine_told plan.homes start lines) counters w

@@ -31,6 +31,7 @@ with_queue w cpu q = record w { machine = slice_set w.machine cpu q }
 abbrev pub acted : Work → ℕ → Answer × State → Work
 acted w caller done = answered (with_queue w caller done.1) caller done.0
 
+-- an act of a caller on its own queue, where there is one
 abbrev pub local_act : Work → ℕ → Option LocalAct → Work
 local_act w caller None = w
 local_act w caller (Some a) = acted w caller (local_done a (queue_at w.machine caller))

@@ -128,7 +128,7 @@ impl Work {
         self.answers[cpu.index()]
     }
 
-    /// Does the act that an operation is on the caller's own queue, and keeps its answer. Other operations do nothing here.
+    /// Does an operation that touches the caller's own queue alone, and keeps its answer. Of any other nothing is done here.
     pub(crate) fn act(&mut self, cpu: CpuId, op: Op)
         requires queue { cpu < length self.old.machine }
         requires answer { cpu < length self.old.answers }

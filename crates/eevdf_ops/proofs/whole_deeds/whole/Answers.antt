@@ -19,14 +19,14 @@ returns-in-Local-clause-answer c =
     of_queue c.args.queues.now c.parted-cpu.result.0 c.index.result c.index-queues-index.result (λ (q : State). (local_done c.in-Local.act q).0) c.apply.result c.index.ensures.number (omega (arith, c.parted-cpu.ensures.cpu, decider_below (length c.args.queues.now) c.args.homes.now c.args.deed c.requires.allowed))
     c.apply.ensures.answer
     ∙ ap (λ (r : Answer × Machine). r.0)
-    (whole-by c.args.homes.now c.args.deed c.args.queues.now _ c.parted-cpu.result.0 c.requires.allowed (sym c.in-Local.is ∙ c.parted-cpu.ensures.act) c.parted-cpu.ensures.cpu)
+    (sym (whole-by c.args.homes.now c.args.deed (machine_of c.args.queues.now) c.parted-cpu.result.0 _ (sym c.parted-cpu.ensures.act ∙ c.in-Local.is) (sym c.parted-cpu.ensures.cpu)))
 
 pub returns-in-Local-clause-machine : goal.returns-in-Local-clause-machine
 returns-in-Local-clause-machine c =
     queue_written c.args.queues.now c.parted-cpu.result.0 c.index.result c.index-queues-index.result c.apply.new.queue (λ (q : State). (local_done c.in-Local.act q).1) c.index.ensures.number (omega (arith, c.parted-cpu.ensures.cpu, decider_below (length c.args.queues.now) c.args.homes.now c.args.deed c.requires.allowed))
     c.apply.ensures.after
     ∙ ap (λ (r : Answer × Machine). r.1)
-    (whole-by c.args.homes.now c.args.deed c.args.queues.now _ c.parted-cpu.result.0 c.requires.allowed (sym c.in-Local.is ∙ c.parted-cpu.ensures.act) c.parted-cpu.ensures.cpu)
+    (sym (whole-by c.args.homes.now c.args.deed (machine_of c.args.queues.now) c.parted-cpu.result.0 _ (sym c.parted-cpu.ensures.act ∙ c.in-Local.is) (sym c.parted-cpu.ensures.cpu)))
 
 pub returns-in-Local-clause-turns : goal.returns-in-Local-clause-turns
 returns-in-Local-clause-turns c =
@@ -38,10 +38,10 @@ pub returns-in-Transfer-clause-answer : goal.returns-in-Transfer-clause-answer
 returns-in-Transfer-clause-answer c =
     c.across.ensures.answer
     ∙ ap (λ (r : Answer × Machine). r.0)
-    (whole-by c.args.homes.now c.args.deed c.args.queues.now _ c.parted-cpu.result.0 c.requires.allowed (sym c.in-Transfer.is ∙ c.parted-cpu.ensures.act) c.parted-cpu.ensures.cpu)
+    (sym (whole-by c.args.homes.now c.args.deed (machine_of c.args.queues.now) c.parted-cpu.result.0 _ (sym c.parted-cpu.ensures.act ∙ c.in-Transfer.is) (sym c.parted-cpu.ensures.cpu)))
 
 pub returns-in-Transfer-clause-machine : goal.returns-in-Transfer-clause-machine
 returns-in-Transfer-clause-machine c =
     c.across.ensures.machine
     ∙ ap (λ (r : Answer × Machine). r.1)
-    (whole-by c.args.homes.now c.args.deed c.args.queues.now _ c.parted-cpu.result.0 c.requires.allowed (sym c.in-Transfer.is ∙ c.parted-cpu.ensures.act) c.parted-cpu.ensures.cpu)
+    (sym (whole-by c.args.homes.now c.args.deed (machine_of c.args.queues.now) c.parted-cpu.result.0 _ (sym c.parted-cpu.ensures.act ∙ c.in-Transfer.is) (sym c.parted-cpu.ensures.cpu)))
