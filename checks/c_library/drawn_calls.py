@@ -169,7 +169,7 @@ def first_difference(lines, all_wanted, played, other):
 def difference_in_rattle(in_rattle, lines, played):
     """The first line that the program in Rattle answers otherwise than the library, or None. What both print has to be the same bytes."""
     text = "\n".join(lines) + "\n"
-    made = run([in_rattle, "calls"], input=text)
+    made = run([in_rattle], input=text)
     if made.stdout == played.stdout and not made.returncode:
         return None
     said = [*played.stdout.splitlines(), *["nothing"] * len(lines)][: len(lines)]

@@ -30,13 +30,13 @@ def built_in_rattle(tools):
     """The program that makes the same calls in Rattle, on queues and parcels, or None where it isn't built. The checkout that the
     environment names as TOP, as the gate names its own, has to have it."""
     top = os.environ.get("TOP")
-    program = runner.Programs(top or TOP).path("queue_bench")
+    program = runner.Programs(top or TOP).path("queue_calls")
     if program.is_file():
         return program
     if top:
-        tools.checks.look("drawn calls in Rattle", f"{top} has no built program queue_bench")
+        tools.checks.look("drawn calls in Rattle", f"{top} has no built program queue_calls")
     else:
-        tools.checks.leave_out("drawn calls in Rattle", "crates/queue_bench isn't built: ./build queue_bench")
+        tools.checks.leave_out("drawn calls in Rattle", "crates/queue_calls isn't built: ./build queue_calls")
     return None
 
 

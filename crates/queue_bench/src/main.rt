@@ -1,12 +1,10 @@
 //! What the calls of one run queue cost: `queue_bench MIX TASKS TURNS` runs a mix of calls so many times on a
 //! queue of so many tasks, and prints a checksum of the answers. `bench/queue.sh` counts its instructions.
-//! And what they answer: `queue_bench calls` makes the calls that standard input names ([`calls`]).
 #![tactic(auto)]
 
 mod answer_words;
 mod asked_run;
 mod bench_queue;
-mod calls;
 mod checksum;
 mod mix;
 mod pull_queues;
@@ -17,7 +15,6 @@ mod turns;
 mod warm_up;
 
 use crate::asked_run::{AskedRun, WordFault};
-use crate::calls::make_calls;
 use crate::turns::checksum_of;
 use drawn_values::words_of;
 use std::alloc::Global;
@@ -27,27 +24,15 @@ use std::rt::Env;
 fn main(rt: HostRuntime) -> ExitCode {
     let alloc = rt.alloc();
     ExitCode::from(match asked(&rt, alloc) {
-        Ok(AskedWork::Run(run)) => print(&rt, alloc, &run),
-        Ok(AskedWork::Calls) => print_answers(&rt, alloc),
+        Ok(run) => print(&rt, alloc, &run),
         Err(fault) => refuse(&rt, &fault),
     })
 }
 
 /// What the process's words ask for.
-enum AskedWork {
-    /// Turns of a mix of calls.
-    Run(AskedRun),
-    /// The calls that standard input names.
-    Calls,
-}
-
-fn asked(rt: &(impl Env + AllocGlobal), alloc: Global) -> Result<AskedWork, WordFault> {
+fn asked(rt: &(impl Env + AllocGlobal), alloc: Global) -> Result<AskedRun, WordFault> {
     let words = words_of(rt, alloc).ok_or(WordFault::Unread)?;
-    if words.len() == 2 && words[1].as_str() == "calls" {
-        return Ok(AskedWork::Calls);
-    }
-    let run = AskedRun::of(words.as_slice())?;
-    Ok(AskedWork::Run(run))
+    AskedRun::of(words.as_slice())
 }
 
 /// Runs the turns and prints their checksum, and gives the exit status.
@@ -62,22 +47,8 @@ fn print(rt: &(impl Print + Eprint), alloc: Global, run: &AskedRun) -> u8 {
     }
 }
 
-/// Makes the calls of standard input and prints what they answer, and gives the exit status.
-fn print_answers(rt: &(impl Input + Print + Eprint), alloc: Global) -> u8 {
-    match make_calls(rt, alloc) {
-        Ok(true) => 0,
-        Ok(false) => {
-            let _ = rt.eprintln("queue_bench: a line names no call");
-            2
-        }
-        Err(_) => 3,
-    }
-}
-
 /// Says what is wrong with the words, and gives the exit status.
 fn refuse(rt: &impl Eprint, fault: &WordFault) -> u8 {
-    let _ = eprintln!(rt;
-        "queue_bench: {fault}; usage: queue_bench MIX TASKS TURNS, or queue_bench calls"
-    );
+    let _ = eprintln!(rt; "queue_bench: {fault}; usage: queue_bench MIX TASKS TURNS");
     2
 }

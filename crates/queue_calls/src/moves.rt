@@ -1,9 +1,9 @@
 //! What the calls do on a queue and a hand. Each tests its numbers in the order in which `eevdf.h` names its errors.
 
-use crate::calls::fault::Fault;
-use crate::calls::hand::Hand;
-use crate::calls::named_call::{NewTask, Placed};
-use crate::calls::task_numbers::{is_lag, nice_of, slice_of, task_of};
+use crate::fault::Fault;
+use crate::hand::Hand;
+use crate::named_call::{NewTask, Placed};
+use crate::task_numbers::{is_lag, nice_of, slice_of, task_of};
 use eevdf_queue::{
     Parcel, Queue, Refused, ReniceAnswer, TaskId, TickAnswer, WakeAnswer, YieldAnswer,
 };

@@ -1,7 +1,7 @@
 //! A line: the name of a call without `eevdf_`, the numbers of its queue and of its hand where it has them, and its numbers, as they
 //! stand in the call. Besides, `refuse 1` and `refuse 0`, and `state QUEUE TASKS`.
 
-use crate::calls::named_call::{NamedCall, NewTask, Placed};
+use crate::named_call::{NamedCall, NewTask, Placed};
 
 /// Which of two queues or of two hands.
 #[derive(Clone, Copy, PartialEq, Eq)]

@@ -3,7 +3,7 @@
 ghost use Rattle.std.specs.Prelude.{◌≡◌};
 ghost use Rattle.eevdf_queue.specs.Lag as lags;
 
-use crate::calls::fault::Fault;
+use crate::fault::Fault;
 use eevdf_queue::TaskId;
 use eevdf_weight::{Nice, Slice, lag_limit, weight};
 

@@ -1,12 +1,12 @@
-use crate::calls::answers::{
+use crate::answers::{
     write_answer, write_entry, write_lag, write_parcel, write_rebase, write_sleeper, write_state,
     write_time,
 };
-use crate::calls::fault::Fault;
-use crate::calls::hand::Hand;
-use crate::calls::moves::{self, Memory};
-use crate::calls::named_call::NamedCall;
-use crate::calls::task_numbers::number_of;
+use crate::fault::Fault;
+use crate::hand::Hand;
+use crate::moves::{self, Memory};
+use crate::named_call::NamedCall;
+use crate::task_numbers::number_of;
 use eevdf_queue::Queue;
 use std::io::{self, Write};
 

@@ -1,5 +1,7 @@
-//! Calls of a queue that standard input names, a line each, on two queues and two hands. Each line is answered by a line.
-//! `checks/c_library/` compares them with what the library for C answers; [`line`] says what stands in one.
+//! `queue_calls` makes calls of a run queue that standard input names, a line each, on two queues and two hands, and
+//! answers each line by a line. `checks/c_library/` compares them with what the library for C answers; [`line`] says
+//! what stands in one.
+#![tactic(auto)]
 
 mod answers;
 mod fault;
@@ -11,13 +13,26 @@ mod one_call;
 mod queues;
 mod task_numbers;
 
-use crate::calls::line::Line;
-use crate::calls::queues::Queues;
+use crate::line::Line;
+use crate::queues::Queues;
 use std::alloc::Global;
 use std::io::{self, BufRead, BufReader, BufWriter, Write};
+use std::process::ExitCode;
+
+fn main(rt: HostRuntime) -> ExitCode {
+    let alloc = rt.alloc();
+    ExitCode::from(match make_calls(&rt, alloc) {
+        Ok(true) => 0,
+        Ok(false) => {
+            let _ = rt.eprintln("queue_calls: a line names no call");
+            2
+        }
+        Err(_) => 3,
+    })
+}
 
 /// Makes the calls in turn, and prints what each answers. `false` where a line names none, at which it ends.
-pub fn make_calls(rt: &(impl Input + Print), alloc: Global) -> io::Result<bool> {
+fn make_calls(rt: &(impl Input + Print), alloc: Global) -> io::Result<bool> {
     let mut out = BufWriter::new(alloc, io::writer(rt))?;
     let are_calls = answer_all(rt, alloc, &mut out)?;
     out.flush()?;

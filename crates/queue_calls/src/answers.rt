@@ -1,9 +1,9 @@
 //! What is printed of an answer: the answer or the code of its error, and what else the call gives. Where a call that writes answers an
 //! error, its caller's object is as it was before, as the end of the line says.
 
-use crate::calls::fault::Fault;
-use crate::calls::hand::Hand;
-use crate::calls::task_numbers::{number_of, task_of};
+use crate::fault::Fault;
+use crate::hand::Hand;
+use crate::task_numbers::{number_of, task_of};
 use eevdf_queue::{Entry, Queue, Sleeper, TaskId};
 use std::io::{self, Write};
 

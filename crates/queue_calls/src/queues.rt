@@ -1,9 +1,9 @@
-use crate::calls::answers::write_answer;
-use crate::calls::hand::Hand;
-use crate::calls::line::{Line, Place};
-use crate::calls::moves::Memory;
-use crate::calls::named_call::NamedCall;
-use crate::calls::one_call::make_one;
+use crate::answers::write_answer;
+use crate::hand::Hand;
+use crate::line::{Line, Place};
+use crate::moves::Memory;
+use crate::named_call::NamedCall;
+use crate::one_call::make_one;
 use eevdf_queue::Queue;
 use std::alloc::Global;
 use std::io::{self, Write};
