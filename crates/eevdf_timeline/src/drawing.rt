@@ -2,16 +2,15 @@
 
 ghost use Rattle.std.specs.Prelude.{◌≡◌, false};
 
-use crate::counts::counts_of;
-use crate::figures::{Figures, figures_of};
+use crate::figures::{Figures, counts_of, figures_of, json_of, table_of};
 use crate::history::history_of;
 use crate::lags::lags_of;
 use crate::moments::Moment;
-use crate::picture::{Scene, picture_of};
+use crate::picture::picture_of;
 use crate::progress::Progress;
 use crate::scale::Scale;
+use crate::scene::Scene;
 use crate::stretches::stretches_of;
-use crate::table::{json_of, table_of};
 use crate::trace::trace_of;
 use crate::words::{Output, Words};
 use eevdf_bench::{BenchFault, Watched, read_input, read_workload, write_text};

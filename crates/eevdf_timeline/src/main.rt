@@ -1,33 +1,23 @@
 //! `eevdf_timeline` reads a workload from standard input, as `eevdf` does, and draws what the scheduler answered: a picture
 //! (SVG), a trace (Trace Event JSON) or a table of figures.
 //!
-//! `history` comes to the lines that the proved calls answer and gives each its time; all that is written is made of these.
-//! `lags` and `counts` do the same deeds once more on a machine of their own, and look at its queues between them.
+//! `history` comes to the lines that the proved calls answer, and `moments` gives each its time; all that is written is made of these.
+//! `picture` and `trace` draw a `scene` of them, `figures` counts them. `lags` and `figures::counts` do the same deeds once more on a
+//! machine of their own, and look at its queues between them.
 #![tactic(auto)]
 
-mod arrows;
-mod axis;
-mod boxes;
-mod counted;
-mod counts;
 mod drawing;
-mod event;
 mod figures;
 mod history;
 mod lags;
-mod lanes;
 mod marks;
 mod moments;
-mod panels;
 mod picture;
 mod progress;
 mod scale;
-mod service;
+mod scene;
 mod stretches;
-mod style;
-mod table;
 mod trace;
-mod virtual_times;
 mod words;
 
 use crate::drawing::draw;

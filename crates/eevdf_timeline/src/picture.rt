@@ -1,16 +1,19 @@
 //! The picture of a schedule, as SVG.
 
-use crate::axis::push_axis;
-use crate::lags::{COLUMNS, Lags, MOST_CURVES};
-use crate::lanes::Lanes;
+mod arrows;
+mod axis;
+mod boxes;
+mod lanes;
+mod panels;
+mod style;
+
+use crate::lags::{COLUMNS, MOST_CURVES};
 use crate::marks::Sign;
-use crate::moments::Moment;
-use crate::panels::{PITCH, push_panel};
-use crate::scale::Scale;
-use crate::stretches::Stretch;
-use crate::style::push_style;
-use crate::words::Words;
-use eevdf_ops::Setup;
+use crate::picture::axis::push_axis;
+use crate::picture::lanes::Lanes;
+use crate::picture::panels::{PITCH, push_panel};
+use crate::picture::style::push_style;
+use crate::scene::Scene;
 use std::alloc::{AllocError, Global};
 
 /// The top of the first lane, in units of the picture.
@@ -42,17 +45,6 @@ const KEYS: &str =
 <rect class=\"b m\" x=\"130\" y=\"84\" width=\"12\" height=\"12\"/><text class=\"s\" x=\"147\" y=\"94\">several stretches</text>
 <rect class=\"b o\" x=\"252\" y=\"84\" width=\"12\" height=\"12\"/><text class=\"s\" x=\"269\" y=\"94\">task not chosen</text>
 ";
-
-/// What is drawn.
-#[derive(Clone, Copy)]
-pub struct Scene<'a> {
-    pub setup: &'a Setup,
-    pub moments: &'a [Moment],
-    pub stretches: &'a [Stretch],
-    pub lags: &'a Lags,
-    pub scale: Scale,
-    pub words: &'a Words,
-}
 
 /// The picture of a scene.
 pub(crate) fn picture_of(alloc: Global, scene: &Scene<'_>) -> Result<Vec<u8>, AllocError> {

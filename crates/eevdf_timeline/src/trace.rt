@@ -1,10 +1,12 @@
 //! The trace of a schedule, as Trace Event JSON: a track for each CPU, and counters of loads and lags.
 
-use crate::event::{CPUS, Head, LAGS, Phase, Values, head_of, push_event, push_plain};
+mod event;
+
 use crate::marks::{is_chosen, running_after};
 use crate::moments::Moment;
-use crate::picture::Scene;
+use crate::scene::Scene;
 use crate::stretches::Stretch;
+use crate::trace::event::{CPUS, Head, LAGS, Phase, Values, head_of, push_event, push_plain};
 use eevdf_ops::{Answer, CpuId, Deed};
 use eevdf_queue::TaskId;
 use std::alloc::{AllocError, Global};

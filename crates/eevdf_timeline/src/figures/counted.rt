@@ -1,7 +1,7 @@
 //! What is counted of one task, and of one CPU.
 
-use crate::service::Service;
-use crate::virtual_times::VirtualTimes;
+use crate::figures::service::Service;
+use crate::figures::virtual_times::VirtualTimes;
 use eevdf_queue::{Entry, TaskId};
 use std::alloc::{AllocError, Global};
 

@@ -1,6 +1,6 @@
 //! What is counted of a history, as its deeds are done once more.
 
-use crate::counted::{CpuCounts, Since, TaskCounts};
+use crate::figures::counted::{CpuCounts, Since, TaskCounts};
 use crate::moments::{Moment, do_again, named_task};
 use crate::progress::Progress;
 use eevdf_ops::{Answer, CpuId, Deed, Setup, Solo};

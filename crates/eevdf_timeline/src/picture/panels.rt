@@ -1,7 +1,7 @@
 //! The panels of lags, one below the other.
 
-use crate::boxes::FILLS;
 use crate::lags::{Curve, Point};
+use crate::picture::boxes::FILLS;
 use crate::scale::{Scale, Tenths, part};
 use std::alloc::AllocError;
 

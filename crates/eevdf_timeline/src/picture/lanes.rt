@@ -1,9 +1,9 @@
 //! The lanes of CPUs: their boxes, their marks and the arrows between them.
 
-use crate::arrows::Shifts;
-use crate::boxes::{BOX, Group};
 use crate::marks::{Rows, Sign, is_chosen, running_after, sign_of};
 use crate::moments::Moment;
+use crate::picture::arrows::Shifts;
+use crate::picture::boxes::{BOX, Group};
 use crate::scale::{Scale, Tenths, part};
 use crate::stretches::Stretch;
 use crate::words::Words;

@@ -1,6 +1,6 @@
 //! The figures as text in columns, and as JSON.
 
-use crate::figures::{CpuRow, Figures, TaskRow};
+use crate::figures::rows::{CpuRow, Figures, TaskRow};
 use serde_json::to_vec_pretty;
 use std::alloc::{AllocError, Global};
 

@@ -1,6 +1,6 @@
 //! What is the same in all pictures: the fills of tasks and the shapes of marks.
 
-use crate::boxes::FILLS;
+use crate::picture::boxes::FILLS;
 use std::alloc::AllocError;
 
 /// Seven colours that the colour-blind tell apart, those of Okabe and Ito.

@@ -1,0 +1,19 @@
+//! What a picture and a trace are made of.
+
+use crate::lags::Lags;
+use crate::moments::Moment;
+use crate::scale::Scale;
+use crate::stretches::Stretch;
+use crate::words::Words;
+use eevdf_ops::Setup;
+
+/// What is drawn.
+#[derive(Clone, Copy)]
+pub struct Scene<'a> {
+    pub setup: &'a Setup,
+    pub moments: &'a [Moment],
+    pub stretches: &'a [Stretch],
+    pub lags: &'a Lags,
+    pub scale: Scale,
+    pub words: &'a Words,
+}
