@@ -44,23 +44,23 @@ lesser_none a ts h k =
 
 -- a node of which one side is another of the same height: what it keeps is right where its least virtual runtime is
 pub record IsSameHigh (b a : Inside) : Type 0 where
-  pub height : a.height ≡ b.height
-  pub left : height_in a.sides.left ≡ height_in b.sides.left
-  pub right : height_in a.sides.right ≡ height_in b.sides.right
+  pub height : a.kept.height ≡ b.kept.height
+  pub left : height_in a.parts.sides.left ≡ height_in b.parts.sides.left
+  pub right : height_in a.parts.sides.right ≡ height_in b.parts.sides.right
 
-pub still_high : (b a : Inside) → IsNode b.height b.least b.sides.left b.task b.sides.right → IsSameHigh b a → a.least ≡ least_of (tasks_of a)
-    → suc (max (height_in a.sides.left) (height_in a.sides.right)) ≤ length (tasks_of a)
-    → (DifferByAtMost 1 (height_in a.sides.left) (height_in a.sides.right) → IsFull (suc (max (height_in a.sides.left) (height_in a.sides.right))) (length (tasks_of a)))
-    → AreLow (tasks_of a) → IsNode a.height a.least a.sides.left a.task a.sides.right
+pub still_high : (b a : Inside) → IsNode b.kept b.parts → IsSameHigh b a → a.kept.least ≡ least_of (tasks_of a.parts)
+    → suc (max (height_in a.parts.sides.left) (height_in a.parts.sides.right)) ≤ length (tasks_of a.parts)
+    → (DifferByAtMost 1 (height_in a.parts.sides.left) (height_in a.parts.sides.right) → IsFull (suc (max (height_in a.parts.sides.left) (height_in a.parts.sides.right))) (length (tasks_of a.parts)))
+    → AreLow (tasks_of a.parts) → IsNode a.kept a.parts
 still_high b a n s least low full bounded =
-    let height : a.height ≡ suc (max (height_in a.sides.left) (height_in a.sides.right)) = omega (arith, n.height, s.height, s.left, s.right) in
-    let balanced : DifferByAtMost 1 (height_in a.sides.left) (height_in a.sides.right) =
+    let height : a.kept.height ≡ suc (max (height_in a.parts.sides.left) (height_in a.parts.sides.right)) = omega (arith, n.height, s.height, s.left, s.right) in
+    let balanced : DifferByAtMost 1 (height_in a.parts.sides.left) (height_in a.parts.sides.right) =
     (omega (arith, n.balanced.0, n.balanced.1, s.left, s.right), omega (arith, n.balanced.0, n.balanced.1, s.left, s.right)) in
     record {
       height = height;
       balanced = balanced;
       low = omega (arith, height, low);
-      full = subst (λ (z : ℕ). IsFull z (length (tasks_of a))) (sym height) (full balanced);
+      full = subst (λ (z : ℕ). IsFull z (length (tasks_of a.parts))) (sym height) (full balanced);
       least = least;
       bounded = bounded;
     }

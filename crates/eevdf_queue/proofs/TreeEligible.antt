@@ -37,8 +37,8 @@ pub low-around : (xs : List Task) (t : Task) (ys : List Task) → AreLow xs → 
 low-around xs t ys h k l = all-append _ xs (t ∷ ys) h (k.0, l)
 
 -- a node has an eligible task exactly where its least virtual runtime is eligible
-pub some-node : (w : ℕ) (s : ℤ) (a : Inside) → IsNode a.height a.least a.sides.left a.task a.sides.right
-    → int_le (a.least.runtime *ℤ pos w) s ≡ is_some (first_that (is_eligible_at w s) (tasks_of a))
+pub some-node : (w : ℕ) (s : ℤ) (a : Inside) → IsNode a.kept a.parts
+    → int_le (a.kept.least.runtime *ℤ pos w) s ≡ is_some (first_that (is_eligible_at w s) (tasks_of a.parts))
 some-node w s a h =
     ap (λ (z : Least). int_le (z.runtime *ℤ pos w) s) h.least
-    ∙ sym (some-least w s (tasks_of a) (tasks_in a.sides.left) a.task (tasks_in a.sides.right) refl h.bounded)
+    ∙ sym (some-least w s (tasks_of a.parts) (tasks_in a.parts.sides.left) a.parts.task (tasks_in a.parts.sides.right) refl h.bounded)

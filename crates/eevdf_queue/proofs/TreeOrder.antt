@@ -66,10 +66,6 @@ pub none_below : {Z : Type 0} (l : Option (Box Tree Z)) → is_some l ≡ false 
 none_below None h = refl
 none_below (Some b) h = cc
 
--- the node alone
-pub left_alone : (x t : Task) (us bs : List Task) → x ≡ first_task (us ++ t ∷ bs) → us ≡ [] → x ≡ t
-left_alone x t us bs k n = k ∙ ap (λ (z : List Task). first_task (z ++ t ∷ bs)) n
-
 -- the last of the left side between the two
 pub last_moved : (xs ws : List Task) (t : Task) (ys : List Task) → xs ≡ ws ++ t ∷ [] → ws ++ t ∷ ys ≡ xs ++ ys
 last_moved xs ws t ys e = sym (ap (λ (z : List Task). z ++ ys) e ∙ append_assoc ws (t ∷ []) ys)

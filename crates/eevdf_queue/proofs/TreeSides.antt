@@ -3,7 +3,7 @@ use Rattle.std.proofs.Common.{◌≡◌, ℕ, suc, ◌+◌, ◌<◌, Bool, true,
 use Rattle.std.specs.Prelude.{is_some}
 use Rattle.std.proofs.lemmas.Bool.Decides.{nat_tests}
 use Rattle.eevdf_queue.specs.{declared.entry.Entry.Entry, declared.task.Task.Task, declared.tree_key.TreeKey.TreeKey}
-use Rattle.eevdf_queue.specs.{declared.tree_node.TreeNode.TheInside.Inside, TreeShape.tasks_in, TreeNodes.tasks_of}
+use Rattle.eevdf_queue.specs.{TreeShape.tasks_in, TreeNodes.NodeParts, TreeNodes.tasks_of}
 use Rattle.eevdf_queue.specs.TaskLists.{find_task, set_entry}
 use Rattle.eevdf_queue.specs.TreeKeys.{is_under, Holds}
 use Rattle.eevdf_queue.specs.TreeTasks.{AreOrdered, without, IsAtDeadline}
@@ -16,7 +16,7 @@ pub record IsBelow (k : TreeKey) (ts xs : List Task) : Type 0 where
   pub holds : Holds k xs
   pub found : find_task k.number ts ≡ find_task k.number xs
 
-module _ (k : TreeKey) (a : Inside) (ts : List Task) (e : ts ≡ tasks_of a) (h : Holds k ts) where
+module _ {Z : Type 0} (k : TreeKey) (a : NodeParts Z) (ts : List Task) (e : ts ≡ tasks_of a) (h : Holds k ts) where
   longer : length ts ≡ length (tasks_in a.sides.left) + suc (length (tasks_in a.sides.right))
   longer = ap (λ (z : List Task). length z) e ∙ length-append (tasks_in a.sides.left) (a.task ∷ tasks_in a.sides.right)
 
@@ -41,7 +41,7 @@ module _ (k : TreeKey) (a : Inside) (ts : List Task) (e : ts ≡ tasks_of a) (h 
   found_here g = ap (find_task k.number) e ∙ find-here k (tasks_in a.sides.left) a.task (tasks_in a.sides.right) (subst AreOrdered e h.ordered) (subst (IsPlaced k) e h.placed) g
 
 -- a list in which something is done at the key's task, of a node: it is done on that side, or at the task
-pub record IsEdited (k : TreeKey) (a : Inside) (edit : List Task → List Task) (at : Task → List Task → List Task) (ts : List Task) : Type 0 where
+pub record IsEdited {Z : Type 0} (k : TreeKey) (a : NodeParts Z) (edit : List Task → List Task) (at : Task → List Task → List Task) (ts : List Task) : Type 0 where
   pub left : is_under k a.task ≡ true → (xs : List Task) → xs ≡ edit (tasks_in a.sides.left) → xs ++ a.task ∷ tasks_in a.sides.right ≡ edit ts
   pub right : is_over k a.task ≡ true → (ys : List Task) → ys ≡ edit (tasks_in a.sides.right) → tasks_in a.sides.left ++ a.task ∷ ys ≡ edit ts
   pub here : HasKey k a.task → tasks_in a.sides.left ++ at a.task (tasks_in a.sides.right) ≡ edit ts
@@ -64,7 +64,7 @@ module _ (k : TreeKey) (edit : List Task → List Task) (at : Task → List Task
       → edit (xs ++ u ∷ ys) ≡ xs ++ cond b (at u ys) (u ∷ edit ys)
   past xs u ys b n i = edit-missed xs (u ∷ ys) n ∙ ap (λ (z : List Task). xs ++ z) (more u ys ∙ ap (λ c. cond c (at u ys) (u ∷ edit ys)) i)
 
-  pub edited : (a : Inside) (ts : List Task) → ts ≡ tasks_of a → Holds k ts → IsEdited k a edit at ts
+  pub edited : {Z : Type 0} (a : NodeParts Z) (ts : List Task) → ts ≡ tasks_of a → Holds k ts → IsEdited k a edit at ts
   edited a ts e h =
       let o = subst AreOrdered e h.ordered in
       let d = subst (IsPlaced k) e h.placed in
@@ -83,10 +83,10 @@ module _ (k : TreeKey) (edit : List Task → List Task) (at : Task → List Task
       }
 
 -- the task taken out
-pub taken_out : (k : TreeKey) (a : Inside) (ts : List Task) → ts ≡ tasks_of a → Holds k ts → IsEdited k a (without k.number) (λ t ts. ts) ts
+pub taken_out : {Z : Type 0} (k : TreeKey) (a : NodeParts Z) (ts : List Task) → ts ≡ tasks_of a → Holds k ts → IsEdited k a (without k.number) (λ t ts. ts) ts
 taken_out k = edited k (without k.number) (λ t ts. ts) refl (λ t ts. refl) (λ t xs ys. refl)
 
 -- and with another entry
-pub entry_set : (e : Entry) (k : TreeKey) (a : Inside) (ts : List Task) → ts ≡ tasks_of a → Holds k ts
+pub entry_set : {Z : Type 0} (e : Entry) (k : TreeKey) (a : NodeParts Z) (ts : List Task) → ts ≡ tasks_of a → Holds k ts
     → IsEdited k a (set_entry k.number e) (λ t ts. record t { entry = e } ∷ ts) ts
 entry_set e k = edited k (set_entry k.number e) (λ t ts. record t { entry = e } ∷ ts) refl (λ t ts. refl) (λ t xs ys. refl)

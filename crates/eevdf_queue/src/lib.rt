@@ -15,6 +15,7 @@ pub mod laws;
 mod lowering;
 mod offer;
 mod parcel;
+mod parts;
 mod picked_task;
 mod placing;
 mod queue;

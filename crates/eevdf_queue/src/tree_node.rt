@@ -15,6 +15,7 @@ mod tree_edit;
 mod tree_lowering;
 
 use crate::entry::Entry;
+use crate::parts::{Kept, Parts};
 use crate::sides::Sides;
 use crate::task::Task;
 use crate::task_id::TaskId;
@@ -30,10 +31,8 @@ pub use tree_lowering::lower;
 #[derive(Drop)]
 #[repr(C)]
 pub struct TreeNode {
-    task: Task,
-    height: u32,
-    least: Least,
-    sides: Sides<Option<Box<TreeNode>>>,
+    parts: Parts<Option<Box<TreeNode>>>,
+    kept: Kept,
     /// Keeps two nodes from sharing a line of 64 bytes, at any address. Nodes of tasks on different CPUs can lie side by side,
     /// and each thread that writes to its own would else take the line from the other.
     unused: [u64; 8],
@@ -49,7 +48,7 @@ impl Model for TreeNode {
 
     ghost view = { tree_of };
 
-    ghost invariant = { λ a. IsNode a.height a.least a.sides.left a.task a.sides.right };
+    ghost invariant = { λ a. IsNode a.kept a.parts };
 
     ghost size = { λ a. length a.tasks };
 
@@ -94,12 +93,16 @@ impl TreeNode {
         ensures tasks { result.tasks ≡ task ∷ [] }
     {
         TreeNode {
-            task,
-            height: 1,
-            least: Least::of(&task),
-            sides: Sides {
-                left: None,
-                right: None,
+            parts: Parts {
+                task,
+                sides: Sides {
+                    left: None,
+                    right: None,
+                },
+            },
+            kept: Kept {
+                height: 1,
+                least: Least::of(&task),
             },
             unused: [0; 8],
         }
@@ -111,7 +114,7 @@ impl TreeNode {
         ensures full { IsFull self.now.height (length self.now.tasks) }
         ensures low { self.now.height ≤ length self.now.tasks }
     {
-        self.height
+        self.kept.height
     }
 
     /// The least virtual runtime of the tasks.
@@ -119,7 +122,7 @@ impl TreeNode {
         ensures value { result ≡ least_of self.now.tasks }
         ensures bounded { AreLow self.now.tasks }
     {
-        self.least
+        self.kept.least
     }
 
     /// The task of a node that is alone.
@@ -127,7 +130,7 @@ impl TreeNode {
         requires { IsAlone self.now }
         ensures { result ≡ first_task self.now.tasks }
     {
-        self.task
+        self.parts.task
     }
 
     /// Gives another task to a node that is alone.
@@ -136,8 +139,8 @@ impl TreeNode {
         requires { IsAlone self.old }
         ensures { self.new.tasks ≡ task ∷ [] }
     {
-        self.task = task;
-        self.least = Least::of(&self.task);
+        self.parts.task = task;
+        self.kept.least = Least::of(&self.parts.task);
     }
 
     /// Gives another entry to the task of a node that is alone.
@@ -145,8 +148,8 @@ impl TreeNode {
         requires { IsAlone self.old }
         ensures { self.new.tasks ≡ record (first_task self.old.tasks) { entry = entry.now } ∷ [] }
     {
-        self.task.entry = *entry;
-        self.least = Least::of(&self.task);
+        self.parts.task.entry = *entry;
+        self.kept.least = Least::of(&self.parts.task);
     }
 
     /// Gives another lag to the task of a node that is alone.
@@ -154,7 +157,7 @@ impl TreeNode {
         requires { IsAlone self.old }
         ensures { self.new.tasks ≡ record (first_task self.old.tasks) { lag = lag } ∷ [] }
     {
-        self.task.lag = lag;
+        self.parts.task.lag = lag;
     }
 
     /// Exchanges the task of a node that is alone for another.
@@ -170,14 +173,6 @@ impl TreeNode {
     }
 }
 
-/// The least virtual runtime of a task and of those below the links on either side of it.
-fn least_around(left: &Option<Box<TreeNode>>, task: &Task, right: &Option<Box<TreeNode>>) -> Least
-    ensures value { result ≡ least_of (tasks_in left.now ++ task.now ∷ tasks_in right.now) }
-    ensures bounded { AreLow (tasks_in left.now ++ task.now ∷ tasks_in right.now) }
-{
-    least(left).or(&Least::of(task).or(&least(right)))
-}
-
 /// The task of a key's number, which stands at the key where it is here.
 pub fn find(link: &Option<Box<TreeNode>>, key: &TreeKey) -> Option<Task>
     requires ordered { AreOrdered (tasks_in link.now) }
@@ -187,13 +182,13 @@ pub fn find(link: &Option<Box<TreeNode>>, key: &TreeKey) -> Option<Task>
     let mut at = link;
     'down: while let Some(node) = at {
         let node: &TreeNode = node;
-        if key.is_of(&node.task) {
-            return Some(node.task);
+        if key.is_of(&node.parts.task) {
+            return Some(node.parts.task);
         }
-        at = if key.is_under(&node.task) {
-            &node.sides.left
+        at = if key.is_under(&node.parts.task) {
+            &node.parts.sides.left
         } else {
-            &node.sides.right
+            &node.parts.sides.right
         };
     }
     None
@@ -227,7 +222,7 @@ pub fn first_eligible<'a>(link: &'a Option<Box<TreeNode>>, totals: &Threshold) -
     let Some(root) = link else { return None };
     let root: &TreeNode = root;
     // for the proof alone: a node has a task
-    let _task = &root.task;
+    let _task = &root.parts.task;
     Some(first_under(root, totals))
 }
 
@@ -249,22 +244,22 @@ fn first_under<'a>(root: &'a TreeNode, totals: &Threshold) -> Found<'a>
     let mut turns: u32 = 0;
     'down: loop {
         turns += 1;
-        if let Some(left) = &at.sides.left {
+        if let Some(left) = &at.parts.sides.left {
             let left: &TreeNode = left;
-            if is_least_eligible(totals, &left.least) {
+            if is_least_eligible(totals, &left.kept.least) {
                 at = left;
                 continue;
             }
         }
-        let Some(right) = &at.sides.right else {
+        let Some(right) = &at.parts.sides.right else {
             return Found {
-                task: &at.task,
+                task: &at.parts.task,
                 turns,
             };
         };
-        if is_task_eligible(totals, &at.task) {
+        if is_task_eligible(totals, &at.parts.task) {
             return Found {
-                task: &at.task,
+                task: &at.parts.task,
                 turns,
             };
         }
@@ -280,8 +275,8 @@ pub fn last_task<'a>(link: &'a Option<Box<TreeNode>>) -> Option<&'a Task>
     let mut last = None;
     'down: while let Some(node) = at {
         let node: &TreeNode = node;
-        last = Some(&node.task);
-        at = &node.sides.right;
+        last = Some(&node.parts.task);
+        at = &node.parts.sides.right;
     }
     last
 }
@@ -298,12 +293,12 @@ pub fn last_waiting<'a>(
     let mut last = before;
     'down: while let Some(node) = at {
         let node: &TreeNode = node;
-        if node.task.number == running {
-            last = last_waiting(&node.sides.left, running, last);
+        if node.parts.task.number == running {
+            last = last_waiting(&node.parts.sides.left, running, last);
         } else {
-            last = &node.task;
+            last = &node.parts.task;
         }
-        at = &node.sides.right;
+        at = &node.parts.sides.right;
     }
     last
 }

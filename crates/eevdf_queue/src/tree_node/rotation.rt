@@ -1,13 +1,13 @@
 //! Rotations of a balanced tree: where one side of a task is too high, a task of it takes the task's place.
 
 ghost use Rattle.std.specs.Prelude.{◌≡◌, suc, ◌+◌, ◌≤◌, ◌^◌, max, ◌∷◌, ◌++◌, length};
-ghost use Rattle.eevdf_queue.specs.TreeNodes.{IsNode};
-ghost use Rattle.eevdf_queue.specs.TreeShape.{tasks_in, height_in, DifferByAtMost, IsHeightOfBalanced};
+ghost use Rattle.eevdf_queue.specs.TreeNodes.{tasks_of, AreWithin, AreFew, IsNode, IsEvened};
+ghost use Rattle.eevdf_queue.specs.TreeShape.{tasks_in, height_in, DifferByAtMost};
 
 use super::node_parts::renew;
 use super::{TreeNode, height};
+use crate::parts::{Kept, Parts};
 use crate::task::Task;
-use crate::tree_least::Least;
 use std::mem;
 
 // What a rotation keeps. A side that is two levels higher than the other would make descents longer than the number of tasks
@@ -34,106 +34,80 @@ use std::mem;
 //        before  after
 
 /// Evens the two sides of a task, whose heights differ by at most two.
-pub fn even_out(
-    left: &mut Option<Box<TreeNode>>,
-    task: &mut Task,
-    right: &mut Option<Box<TreeNode>>,
-)
-    requires near { DifferByAtMost 2 (height_in left.old) (height_in right.old) }
-    requires few { length (tasks_in left.old) + length (tasks_in right.old) ≤ 2 ^ 20 }
-    ensures tasks { tasks_in left.new ++ task.new ∷ tasks_in right.new
-        ≡ tasks_in left.old ++ task.old ∷ tasks_in right.old }
-    ensures balanced { DifferByAtMost 1 (height_in left.new) (height_in right.new) }
-    ensures height { IsHeightOfBalanced (height_in left.old) (height_in right.old)
-        (suc (max (height_in left.new) (height_in right.new))) }
+pub fn even_out(parts: &mut Parts<Option<Box<TreeNode>>>)
+    requires near { AreWithin 2 parts.old }
+    requires few { AreFew parts.old }
+    ensures { IsEvened parts.old parts.new }
 {
-    let left_height = height(left);
-    let right_height = height(right);
+    let left_height = height(&parts.sides.left);
+    let right_height = height(&parts.sides.right);
     if left_height > right_height + 1 {
-        rotate_right(left, task, right);
+        rotate_right(parts);
         return;
     }
     if right_height > left_height + 1 {
-        rotate_left(right, task, left);
+        rotate_left(parts);
     }
 }
 
 /// Evens two sides of which the left is two higher: the task of its root, or of the root of its right side, comes between the
 /// two.
 #[inline(never)]
-fn rotate_right(
-    left: &mut Option<Box<TreeNode>>,
-    task: &mut Task,
-    right: &mut Option<Box<TreeNode>>,
-)
-    requires higher { height_in left.old ≡ height_in right.old + 2 }
-    requires few { length (tasks_in left.old) + length (tasks_in right.old) ≤ 2 ^ 20 }
-    ensures tasks { tasks_in left.new ++ task.new ∷ tasks_in right.new
-        ≡ tasks_in left.old ++ task.old ∷ tasks_in right.old }
-    ensures balanced { DifferByAtMost 1 (height_in left.new) (height_in right.new) }
-    ensures height { IsHeightOfBalanced (height_in left.old) (height_in right.old)
-        (suc (max (height_in left.new) (height_in right.new))) }
+fn rotate_right(parts: &mut Parts<Option<Box<TreeNode>>>)
+    requires higher { height_in parts.old.sides.left ≡ height_in parts.old.sides.right + 2 }
+    requires few { AreFew parts.old }
+    ensures { IsEvened parts.old parts.new }
 {
-    let Some(node) = left else { unreachable!() };
+    let Some(node) = &mut parts.sides.left else {
+        unreachable!()
+    };
     let node: &mut TreeNode = node;
-    if height(&node.sides.left) >= height(&node.sides.right) {
+    if height(&node.parts.sides.left) >= height(&node.parts.sides.right) {
         cross_right(
-            &mut node.height,
-            &mut node.least,
-            &mut node.sides.left,
-            &mut node.task,
-            &mut node.sides.right,
-            task,
-            right,
+            &mut node.kept,
+            &mut node.parts,
+            &mut parts.task,
+            &mut parts.sides.right,
         );
-        mem::swap(left, right);
+        mem::swap(&mut parts.sides.left, &mut parts.sides.right);
         return;
     }
-    lean_right(&mut node.sides.right, task, right);
-    renew(
-        &mut node.height,
-        &mut node.least,
-        &node.sides.left,
-        &node.task,
-        &node.sides.right,
+    lean_right(
+        &mut node.parts.sides.right,
+        &mut parts.task,
+        &mut parts.sides.right,
     );
+    renew(&mut node.kept, &node.parts);
 }
 
 /// Evens two sides of which the right is two higher: the task of its root, or of the root of its left side, comes between the
 /// two.
 #[inline(never)]
-fn rotate_left(right: &mut Option<Box<TreeNode>>, task: &mut Task, left: &mut Option<Box<TreeNode>>)
-    requires higher { height_in right.old ≡ height_in left.old + 2 }
-    requires few { length (tasks_in left.old) + length (tasks_in right.old) ≤ 2 ^ 20 }
-    ensures tasks { tasks_in left.new ++ task.new ∷ tasks_in right.new
-        ≡ tasks_in left.old ++ task.old ∷ tasks_in right.old }
-    ensures balanced { DifferByAtMost 1 (height_in left.new) (height_in right.new) }
-    ensures height { IsHeightOfBalanced (height_in left.old) (height_in right.old)
-        (suc (max (height_in left.new) (height_in right.new))) }
+fn rotate_left(parts: &mut Parts<Option<Box<TreeNode>>>)
+    requires higher { height_in parts.old.sides.right ≡ height_in parts.old.sides.left + 2 }
+    requires few { AreFew parts.old }
+    ensures { IsEvened parts.old parts.new }
 {
-    let Some(node) = right else { unreachable!() };
+    let Some(node) = &mut parts.sides.right else {
+        unreachable!()
+    };
     let node: &mut TreeNode = node;
-    if height(&node.sides.right) >= height(&node.sides.left) {
+    if height(&node.parts.sides.right) >= height(&node.parts.sides.left) {
         cross_left(
-            &mut node.height,
-            &mut node.least,
-            &mut node.sides.left,
-            &mut node.task,
-            &mut node.sides.right,
-            task,
-            left,
+            &mut node.kept,
+            &mut node.parts,
+            &mut parts.task,
+            &mut parts.sides.left,
         );
-        mem::swap(left, right);
+        mem::swap(&mut parts.sides.left, &mut parts.sides.right);
         return;
     }
-    lean_left(&mut node.sides.left, task, left);
-    renew(
-        &mut node.height,
-        &mut node.least,
-        &node.sides.left,
-        &node.task,
-        &node.sides.right,
+    lean_left(
+        &mut node.parts.sides.left,
+        &mut parts.task,
+        &mut parts.sides.left,
     );
+    renew(&mut node.kept, &node.parts);
 }
 
 /// Lets the task of the root of a left side, which is one higher, come between the two sides.
@@ -149,15 +123,7 @@ fn lean_right(left: &mut Option<Box<TreeNode>>, task: &mut Task, right: &mut Opt
 {
     let Some(node) = left else { unreachable!() };
     let node: &mut TreeNode = node;
-    cross_right(
-        &mut node.height,
-        &mut node.least,
-        &mut node.sides.left,
-        &mut node.task,
-        &mut node.sides.right,
-        task,
-        right,
-    );
+    cross_right(&mut node.kept, &mut node.parts, task, right);
     mem::swap(left, right);
 }
 
@@ -174,15 +140,7 @@ fn lean_left(right: &mut Option<Box<TreeNode>>, task: &mut Task, left: &mut Opti
 {
     let Some(node) = right else { unreachable!() };
     let node: &mut TreeNode = node;
-    cross_left(
-        &mut node.height,
-        &mut node.least,
-        &mut node.sides.left,
-        &mut node.task,
-        &mut node.sides.right,
-        task,
-        left,
-    );
+    cross_left(&mut node.kept, &mut node.parts, task, left);
     mem::swap(left, right);
 }
 
@@ -190,54 +148,46 @@ fn lean_left(right: &mut Option<Box<TreeNode>>, task: &mut Task, left: &mut Opti
 /// own task and its left side for them.
 #[inline(always)]
 fn cross_right(
-    node_height: &mut u32,
-    node_least: &mut Least,
-    node_left: &mut Option<Box<TreeNode>>,
-    node_task: &mut Task,
-    node_right: &mut Option<Box<TreeNode>>,
+    kept: &mut Kept,
+    node: &mut Parts<Option<Box<TreeNode>>>,
     task: &mut Task,
     right: &mut Option<Box<TreeNode>>,
 )
-    requires balanced { DifferByAtMost 1 (height_in node_right.old) (height_in right.old) }
-    requires low { max (height_in node_right.old) (height_in right.old) ≤ 2 ^ 20 }
-    ensures node { IsNode node_height.new node_least.new node_left.new node_task.new node_right.new }
-    ensures tasks { tasks_in node_left.new ++ node_task.new ∷ tasks_in node_right.new
-        ≡ tasks_in node_right.old ++ task.old ∷ tasks_in right.old }
-    ensures height { node_height.new ≡ suc (max (height_in node_right.old) (height_in right.old)) }
-    ensures own { task.new ≡ node_task.old }
-    ensures own_tasks { tasks_in right.new ≡ tasks_in node_left.old }
-    ensures own_height { height_in right.new ≡ height_in node_left.old }
+    requires balanced { DifferByAtMost 1 (height_in node.old.sides.right) (height_in right.old) }
+    requires low { max (height_in node.old.sides.right) (height_in right.old) ≤ 2 ^ 20 }
+    ensures node { IsNode kept.new node.new }
+    ensures tasks { tasks_of node.new
+        ≡ tasks_in node.old.sides.right ++ task.old ∷ tasks_in right.old }
+    ensures height { kept.new.height ≡ suc (max (height_in node.old.sides.right) (height_in right.old)) }
+    ensures own { task.new ≡ node.old.task }
+    ensures own_side { right.new ≡ node.old.sides.left }
 {
-    mem::swap(node_left, node_right);
-    mem::swap(node_right, right);
-    mem::swap(node_task, task);
-    renew(node_height, node_least, node_left, node_task, node_right);
+    mem::swap(&mut node.sides.left, &mut node.sides.right);
+    mem::swap(&mut node.sides.right, right);
+    mem::swap(&mut node.task, task);
+    renew(kept, node);
 }
 
 /// Makes a node on the right of a task ready to stand on its left: it takes over the task and what stands there, and gives its
 /// own task and its right side for them.
 #[inline(always)]
 fn cross_left(
-    node_height: &mut u32,
-    node_least: &mut Least,
-    node_left: &mut Option<Box<TreeNode>>,
-    node_task: &mut Task,
-    node_right: &mut Option<Box<TreeNode>>,
+    kept: &mut Kept,
+    node: &mut Parts<Option<Box<TreeNode>>>,
     task: &mut Task,
     left: &mut Option<Box<TreeNode>>,
 )
-    requires balanced { DifferByAtMost 1 (height_in node_left.old) (height_in left.old) }
-    requires low { max (height_in node_left.old) (height_in left.old) ≤ 2 ^ 20 }
-    ensures node { IsNode node_height.new node_least.new node_left.new node_task.new node_right.new }
-    ensures tasks { tasks_in node_left.new ++ node_task.new ∷ tasks_in node_right.new
-        ≡ tasks_in left.old ++ task.old ∷ tasks_in node_left.old }
-    ensures height { node_height.new ≡ suc (max (height_in node_left.old) (height_in left.old)) }
-    ensures own { task.new ≡ node_task.old }
-    ensures own_tasks { tasks_in left.new ≡ tasks_in node_right.old }
-    ensures own_height { height_in left.new ≡ height_in node_right.old }
+    requires balanced { DifferByAtMost 1 (height_in node.old.sides.left) (height_in left.old) }
+    requires low { max (height_in node.old.sides.left) (height_in left.old) ≤ 2 ^ 20 }
+    ensures node { IsNode kept.new node.new }
+    ensures tasks { tasks_of node.new
+        ≡ tasks_in left.old ++ task.old ∷ tasks_in node.old.sides.left }
+    ensures height { kept.new.height ≡ suc (max (height_in node.old.sides.left) (height_in left.old)) }
+    ensures own { task.new ≡ node.old.task }
+    ensures own_side { left.new ≡ node.old.sides.right }
 {
-    mem::swap(node_left, node_right);
-    mem::swap(node_left, left);
-    mem::swap(node_task, task);
-    renew(node_height, node_least, node_left, node_task, node_right);
+    mem::swap(&mut node.sides.left, &mut node.sides.right);
+    mem::swap(&mut node.sides.left, left);
+    mem::swap(&mut node.task, task);
+    renew(kept, node);
 }

@@ -59,19 +59,19 @@ pub fn age(link: &mut Option<Box<TreeNode>>, key: TreeKey, runtimes: Runtimes)
 {
     let Some(node) = link else { unreachable!() };
     let node: &mut TreeNode = node;
-    if !node.least.is_below(&runtimes.floor()) {
+    if !node.kept.least.is_below(&runtimes.floor()) {
         let _least = age_least(link, key, runtimes);
         return;
     }
-    if key.is_of(&node.task) {
-        set_runtime(&mut node.task, &runtimes);
-    } else if key.is_under(&node.task) {
-        age(&mut node.sides.left, key, runtimes);
+    if key.is_of(&node.parts.task) {
+        set_runtime(&mut node.parts.task, &runtimes);
+    } else if key.is_under(&node.parts.task) {
+        age(&mut node.parts.sides.left, key, runtimes);
     } else {
-        age(&mut node.sides.right, key, runtimes);
+        age(&mut node.parts.sides.right, key, runtimes);
     }
     // for the proof alone, as at an insertion
-    look_around(&node.sides.left, &node.task, &node.sides.right);
+    look_around(&node.parts);
 }
 
 /// The same where the least virtual runtimes may become others, which are made right on the way back. Answers the one below
@@ -89,22 +89,25 @@ fn age_least(link: &mut Option<Box<TreeNode>>, key: TreeKey, runtimes: Runtimes)
 {
     let Some(node) = link else { unreachable!() };
     let node: &mut TreeNode = node;
-    let renewed = if key.is_of(&node.task) {
-        set_runtime(&mut node.task, &runtimes);
+    let renewed = if key.is_of(&node.parts.task) {
+        set_runtime(&mut node.parts.task, &runtimes);
         with_below(
-            &with_below(&Least::of(&node.task), &node.sides.right),
-            &node.sides.left,
+            &with_below(&Least::of(&node.parts.task), &node.parts.sides.right),
+            &node.parts.sides.left,
         )
-    } else if key.is_under(&node.task) {
-        let left = age_least(&mut node.sides.left, key, runtimes);
-        left.or(&with_below(&Least::of(&node.task), &node.sides.right))
+    } else if key.is_under(&node.parts.task) {
+        let left = age_least(&mut node.parts.sides.left, key, runtimes);
+        left.or(&with_below(&Least::of(&node.parts.task), &node.parts.sides.right))
     } else {
-        let right = age_least(&mut node.sides.right, key, runtimes);
-        with_below(&Least::of(&node.task).or(&right), &node.sides.left)
+        let right = age_least(&mut node.parts.sides.right, key, runtimes);
+        with_below(
+            &Least::of(&node.parts.task).or(&right),
+            &node.parts.sides.left,
+        )
     };
-    node.least = renewed;
+    node.kept.least = renewed;
     // for the proof alone, as at an insertion
-    look_around(&node.sides.left, &node.task, &node.sides.right);
+    look_around(&node.parts);
     renewed
 }
 

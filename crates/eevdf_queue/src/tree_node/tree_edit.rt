@@ -33,19 +33,13 @@ pub fn insert(link: &mut Option<Box<TreeNode>>, node: Box<TreeNode>) -> bool
         return true;
     };
     let root: &mut TreeNode = root;
-    root.least = root.least.or(&node.least());
-    let grown = if precedes(&node.task(), &root.task) {
-        insert(&mut root.sides.left, node)
+    root.kept.least = root.kept.least.or(&node.least());
+    let grown = if precedes(&node.task(), &root.parts.task) {
+        insert(&mut root.parts.sides.left, node)
     } else {
-        insert(&mut root.sides.right, node)
+        insert(&mut root.parts.sides.right, node)
     };
-    raise(
-        grown,
-        &mut root.height,
-        &mut root.sides.left,
-        &mut root.task,
-        &mut root.sides.right,
-    )
+    raise(grown, &mut root.kept, &mut root.parts)
 }
 
 /// A node taken out of a tree, and what may have changed of the tree.
@@ -73,32 +67,22 @@ pub fn remove(link: &mut Option<Box<TreeNode>>, key: TreeKey) -> Taken
 {
     let Some(root) = link else { unreachable!() };
     let root: &mut TreeNode = root;
-    let taken = if key.is_of(&root.task) {
-        if root.sides.left.is_none() {
-            let sides = part_from(
-                &mut root.height,
-                &mut root.least,
-                &mut root.sides.left,
-                &root.task,
-                &mut root.sides.right,
-            );
+    let taken = if key.is_of(&root.parts.task) {
+        if root.parts.sides.left.is_none() {
+            let sides = part_from(&mut root.kept, &mut root.parts);
             return Taken {
                 node: replaced(link, sides.right),
                 change: TreeChange::Height,
             };
         }
-        exchanged(&mut root.task, &mut root.sides.left)
+        exchanged(&mut root.parts.task, &mut root.parts.sides.left)
     } else {
-        remove(root.sides.side_mut(key.side_of(&root.task)), key)
+        remove(
+            root.parts.sides.side_mut(key.side_of(&root.parts.task)),
+            key,
+        )
     };
-    let change = correct(
-        taken.change,
-        &mut root.height,
-        &mut root.least,
-        &mut root.sides.left,
-        &mut root.task,
-        &mut root.sides.right,
-    );
+    let change = correct(taken.change, &mut root.kept, &mut root.parts);
     Taken {
         node: taken.node,
         change,
@@ -122,28 +106,15 @@ fn remove_last(link: &mut Option<Box<TreeNode>>) -> Taken
 {
     let Some(root) = link else { unreachable!() };
     let root: &mut TreeNode = root;
-    if root.sides.right.is_none() {
-        let sides = part_from(
-            &mut root.height,
-            &mut root.least,
-            &mut root.sides.left,
-            &root.task,
-            &mut root.sides.right,
-        );
+    if root.parts.sides.right.is_none() {
+        let sides = part_from(&mut root.kept, &mut root.parts);
         return Taken {
             node: replaced(link, sides.left),
             change: TreeChange::Height,
         };
     }
-    let taken = remove_last(&mut root.sides.right);
-    let change = correct(
-        taken.change,
-        &mut root.height,
-        &mut root.least,
-        &mut root.sides.left,
-        &mut root.task,
-        &mut root.sides.right,
-    );
+    let taken = remove_last(&mut root.parts.sides.right);
+    let change = correct(taken.change, &mut root.kept, &mut root.parts);
     Taken {
         node: taken.node,
         change,

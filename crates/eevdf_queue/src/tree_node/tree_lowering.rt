@@ -27,11 +27,11 @@ pub fn lower(link: &mut Option<Box<TreeNode>>, deadlines: &mut DeadlineTable, by
 {
     let Some(node) = link else { return true };
     let node: &mut TreeNode = node;
-    let right = lower(&mut node.sides.right, deadlines, by);
-    let own = lower_task(&mut node.task, by);
-    deadlines.note(node.task.number, &node.task.entry);
-    let left = lower(&mut node.sides.left, deadlines, by);
-    node.least = look_around(&node.sides.left, &node.task, &node.sides.right).least;
+    let right = lower(&mut node.parts.sides.right, deadlines, by);
+    let own = lower_task(&mut node.parts.task, by);
+    deadlines.note(node.parts.task.number, &node.parts.task.entry);
+    let left = lower(&mut node.parts.sides.left, deadlines, by);
+    node.kept.least = look_around(&node.parts).least;
     all(left, own, right)
 }
 

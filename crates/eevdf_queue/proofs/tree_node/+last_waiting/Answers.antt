@@ -9,24 +9,24 @@ down-init t c = (sym (seen_after c.args.before.now (Some c.args.running) (tasks_
 
 pub last_waiting-last-requires : goal.last_waiting-last-requires
 last_waiting-last-requires t c =
-    let e : tasks_in c.down.at.now ≡ tasks_of c.node.inside = cc in
+    let e : tasks_in c.down.at.now ≡ tasks_of c.node.inside.parts = cc in
     let n = ap (λ (z : List Task). length z) e in
     omega (arith, n, c.down.invariant.1, length-append {A = Task})
 
 pub down-preserved : goal.down-preserved
 down-preserved t c =
     let r : Option ℕ = Some c.args.running in
-    let left = tasks_in c.node.inside.sides.left in
-    let right = tasks_in c.node.inside.sides.right in
-    let e : tasks_in c.down.at.now ≡ tasks_of c.node.inside = cc in
+    let left = tasks_in c.node.inside.parts.sides.left in
+    let right = tasks_in c.node.inside.parts.sides.right in
+    let e : tasks_in c.down.at.now ≡ tasks_of c.node.inside.parts = cc in
     let n = ap (λ (z : List Task). length z) e in
     let k : last_seen (Some c.down.last.now) r (tasks_in c.down.at.now) ≡ last_seen (Some c.if-eq.last.now) r right =
     elim c.if-eq.branch [
       | then-eq w ↦
-          past_running c.down.last.now r (tasks_in c.down.at.now) left c.node.inside.task right e (sym c.eq.ensures ∙ w.if-eq.true)
+          past_running c.down.last.now r (tasks_in c.down.at.now) left c.node.inside.parts.task right e (sym c.eq.ensures ∙ w.if-eq.true)
           ∙ ap (λ (z : Task). last_seen (Some z) r right) (sym w.last_waiting-last.ensures ∙ ap (λ (b : Bor Task). b.now) (sym w.last-is))
       | else-eq w ↦
-          past_waiting (Some c.down.last.now) r (tasks_in c.down.at.now) left c.node.inside.task right e (sym c.eq.ensures ∙ w.if-eq.false)
+          past_waiting (Some c.down.last.now) r (tasks_in c.down.at.now) left c.node.inside.parts.task right e (sym c.eq.ensures ∙ w.if-eq.false)
           ∙ ap (λ (b : Bor Task). last_seen (Some b.now) r right) (sym w.last-is)
     ] in
     (c.down.invariant.0 ∙ k, omega (arith, n, c.down.invariant.1, length-append {A = Task}))

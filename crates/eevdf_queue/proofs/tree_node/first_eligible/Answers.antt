@@ -7,7 +7,7 @@ use Rattle.eevdf_queue.proofs.tree_node.first_eligible.Goals as goal
 
 pub first_under-requires-clause-some : goal.first_under-requires-clause-some
 first_under-requires-clause-some c =
-    let e : tasks_in c.args.link.now ≡ tasks_of c.root.inside = cc in
+    let e : tasks_in c.args.link.now ≡ tasks_of c.root.inside.parts = cc in
     let d : tasks_in c.args.link.now ≡ c.deref-root.result.now.tasks = cc in
     ap (λ (z : List Task). is_some (first_that (is_eligible_at c.args.totals.now.weight c.args.totals.now.moment) z)) (sym d)
-    ∙ someone_there (is_eligible_at c.args.totals.now.weight c.args.totals.now.moment) (tasks_in c.args.link.now) (tasks_in c.root.inside.sides.left) c.root.inside.task (tasks_in c.root.inside.sides.right) e c.requires.some
+    ∙ someone_there (is_eligible_at c.args.totals.now.weight c.args.totals.now.moment) (tasks_in c.args.link.now) (tasks_in c.root.inside.parts.sides.left) c.root.inside.parts.task (tasks_in c.root.inside.parts.sides.right) e c.requires.some

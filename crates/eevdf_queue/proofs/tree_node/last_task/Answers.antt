@@ -9,5 +9,5 @@ down-init c = sym (seen_from_none None (tasks_in c.args.link.now))
 
 pub down-preserved : goal.down-preserved
 down-preserved c =
-    let e : tasks_in c.down.at.now ≡ tasks_of c.node.inside = cc in
-    c.down.invariant ∙ past_waiting (option_map (λ t. t.now) c.down.last) None (tasks_in c.down.at.now) (tasks_in c.node.inside.sides.left) c.node.inside.task (tasks_in c.node.inside.sides.right) e refl
+    let e : tasks_in c.down.at.now ≡ tasks_of c.node.inside.parts = cc in
+    c.down.invariant ∙ past_waiting (option_map (λ t. t.now) c.down.last) None (tasks_in c.down.at.now) (tasks_in c.node.inside.parts.sides.left) c.node.inside.parts.task (tasks_in c.node.inside.parts.sides.right) e refl

@@ -27,19 +27,19 @@ three a b c a' b' c' r h i j k = grind arith
 
 pub lower-right-requires : goal.lower-right-requires
 lower-right-requires t c =
-    let e : tasks_in c.args.link.now ≡ tasks_of c.node.inside = cc in
-    let f = fewer_right (tasks_in c.args.link.now) (tasks_in c.node.inside.sides.left) c.node.inside.task (tasks_in c.node.inside.sides.right) e in (
+    let e : tasks_in c.args.link.now ≡ tasks_of c.node.inside.parts = cc in
+    let f = fewer_right (tasks_in c.args.link.now) (tasks_in c.node.inside.parts.sides.left) c.node.inside.parts.task (tasks_in c.node.inside.parts.sides.right) e in (
       omega (arith, f),
       (
-        (near_right (tasks_in c.args.link.now) (tasks_in c.node.inside.sides.left) c.node.inside.task (tasks_in c.node.inside.sides.right) e c.requires.near).1,
+        (near_right (tasks_in c.args.link.now) (tasks_in c.node.inside.parts.sides.left) c.node.inside.parts.task (tasks_in c.node.inside.parts.sides.right) e c.requires.near).1,
         subst (λ (z : ℤ). unsigned_abs z ≤ 2 ^ 60) (sym (to_z-of_z w64 c.args.by c.ranges.by)) c.requires.small,
       ),
     )
 
 pub lower_task-own-requires-clause-near : goal.lower_task-own-requires-clause-near
 lower_task-own-requires-clause-near t c =
-    let e : tasks_in c.args.link.now ≡ tasks_of c.node.inside = cc in
-    (near_right (tasks_in c.args.link.now) (tasks_in c.node.inside.sides.left) c.node.inside.task (tasks_in c.node.inside.sides.right) e c.requires.near).0
+    let e : tasks_in c.args.link.now ≡ tasks_of c.node.inside.parts = cc in
+    (near_right (tasks_in c.args.link.now) (tasks_in c.node.inside.parts.sides.left) c.node.inside.parts.task (tasks_in c.node.inside.parts.sides.right) e c.requires.near).0
 
 apart_by : (d by : ℤ) → unsigned_abs d ≤ 2 ^ 61 → unsigned_abs by ≤ 2 ^ 60 → unsigned_abs (d -ℤ by) < 2 ^ 62
 apart_by d by h k = omega (arith, ints)
@@ -51,45 +51,45 @@ lowered_near t u by e n h =
 -- with the bound of v too, so that where another deadline is noted it is what the function ensures that fails
 pub note-requires : goal.note-requires
 note-requires t c =
-    let e : tasks_in c.args.link.now ≡ tasks_of c.node.inside = cc in
-    let near = lowered_near c.node.inside.task c.lower_task-own.new.task c.args.by
-    (c.lower_task-own.ensures.task ∙ ap (λ (z : ℤ). lowered_task z c.node.inside.task) (to_z-of_z w64 c.args.by c.ranges.by))
-    (near_right (tasks_in c.args.link.now) (tasks_in c.node.inside.sides.left) c.node.inside.task (tasks_in c.node.inside.sides.right) e c.requires.near).0 c.requires.small in
+    let e : tasks_in c.args.link.now ≡ tasks_of c.node.inside.parts = cc in
+    let near = lowered_near c.node.inside.parts.task c.lower_task-own.new.task c.args.by
+    (c.lower_task-own.ensures.task ∙ ap (λ (z : ℤ). lowered_task z c.node.inside.parts.task) (to_z-of_z w64 c.args.by c.ranges.by))
+    (near_right (tasks_in c.args.link.now) (tasks_in c.node.inside.parts.sides.left) c.node.inside.parts.task (tasks_in c.node.inside.parts.sides.right) e c.requires.near).0 c.requires.small in
     let fits : SFits w64 c.lower_task-own.new.task.entry.v = search rules in
     omega (arith, near.0, near.1, ap unsigned_abs (to_z-of_z w64 c.lower_task-own.new.task.entry.v fits))
 
 pub lower-left-requires : goal.lower-left-requires
 lower-left-requires t c =
-    let e : tasks_in c.args.link.now ≡ tasks_of c.node.inside = cc in
-    let f = fewer_left (tasks_in c.args.link.now) (tasks_in c.node.inside.sides.left) c.node.inside.task (tasks_in c.node.inside.sides.right) e in (
+    let e : tasks_in c.args.link.now ≡ tasks_of c.node.inside.parts = cc in
+    let f = fewer_left (tasks_in c.args.link.now) (tasks_in c.node.inside.parts.sides.left) c.node.inside.parts.task (tasks_in c.node.inside.parts.sides.right) e in (
       omega (arith, f),
       (
-        near_left (tasks_in c.args.link.now) (tasks_in c.node.inside.sides.left) c.node.inside.task (tasks_in c.node.inside.sides.right) e c.requires.near,
+        near_left (tasks_in c.args.link.now) (tasks_in c.node.inside.parts.sides.left) c.node.inside.parts.task (tasks_in c.node.inside.parts.sides.right) e c.requires.near,
         subst (λ (z : ℤ). unsigned_abs z ≤ 2 ^ 60) (sym (to_z-of_z w64 c.args.by c.ranges.by)) c.requires.small,
       ),
     )
 
 pub returns-clause-tasks : goal.returns-clause-tasks
 returns-clause-tasks t c =
-    let e : tasks_in c.args.link.now ≡ tasks_of c.node.inside = cc in
+    let e : tasks_in c.args.link.now ≡ tasks_of c.node.inside.parts = cc in
     let b : to_z w64 (of_z w64 c.args.by) ≡ c.args.by = to_z-of_z w64 c.args.by c.ranges.by in
-    around_lowered c.args.by (tasks_in c.args.link.now) (tasks_in c.node.inside.sides.left) (tasks_in c.node.inside.sides.right) (tasks_in c.lower-left.new.link) (tasks_in c.lower-right.new.link)
-    c.node.inside.task c.lower_task-own.new.task e
-    (c.lower-left.ensures.tasks ∙ ap (λ (z : ℤ). lowered_list z (tasks_in c.node.inside.sides.left)) b)
-    (c.lower_task-own.ensures.task ∙ ap (λ (z : ℤ). lowered_task z c.node.inside.task) b)
-    (c.lower-right.ensures.tasks ∙ ap (λ (z : ℤ). lowered_list z (tasks_in c.node.inside.sides.right)) b)
+    around_lowered c.args.by (tasks_in c.args.link.now) (tasks_in c.node.inside.parts.sides.left) (tasks_in c.node.inside.parts.sides.right) (tasks_in c.lower-left.new.link) (tasks_in c.lower-right.new.link)
+    c.node.inside.parts.task c.lower_task-own.new.task e
+    (c.lower-left.ensures.tasks ∙ ap (λ (z : ℤ). lowered_list z (tasks_in c.node.inside.parts.sides.left)) b)
+    (c.lower_task-own.ensures.task ∙ ap (λ (z : ℤ). lowered_task z c.node.inside.parts.task) b)
+    (c.lower-right.ensures.tasks ∙ ap (λ (z : ℤ). lowered_list z (tasks_in c.node.inside.parts.sides.right)) b)
 
 pub returns-clause-depths : goal.returns-clause-depths
 returns-clause-depths t c =
-    let e : depths_in c.args.link.now ≡ depths_of c.node.inside = cc in
+    let e : depths_in c.args.link.now ≡ depths_of c.node.inside.parts = cc in
     let b : to_z w64 (of_z w64 c.args.by) ≡ c.args.by = to_z-of_z w64 c.args.by c.ranges.by in
-    depths_lowered c.args.by (depths_in c.node.inside.sides.left) (depths_in c.lower-left.new.link) (depths_in c.node.inside.sides.right) (depths_in c.lower-right.new.link)
-    (tasks_in c.node.inside.sides.left) (tasks_in c.lower-left.new.link) (tasks_in c.node.inside.sides.right) (tasks_in c.lower-right.new.link) c.node.inside.task c.lower_task-own.new.task
+    depths_lowered c.args.by (depths_in c.node.inside.parts.sides.left) (depths_in c.lower-left.new.link) (depths_in c.node.inside.parts.sides.right) (depths_in c.lower-right.new.link)
+    (tasks_in c.node.inside.parts.sides.left) (tasks_in c.lower-left.new.link) (tasks_in c.node.inside.parts.sides.right) (tasks_in c.lower-right.new.link) c.node.inside.parts.task c.lower_task-own.new.task
     c.lower-left.ensures.depths
-    (c.lower-left.ensures.tasks ∙ ap (λ (z : ℤ). lowered_list z (tasks_in c.node.inside.sides.left)) b)
-    (c.lower_task-own.ensures.task ∙ ap (λ (z : ℤ). lowered_task z c.node.inside.task) b)
+    (c.lower-left.ensures.tasks ∙ ap (λ (z : ℤ). lowered_list z (tasks_in c.node.inside.parts.sides.left)) b)
+    (c.lower_task-own.ensures.task ∙ ap (λ (z : ℤ). lowered_task z c.node.inside.parts.task) b)
     c.lower-right.ensures.depths
-    (c.lower-right.ensures.tasks ∙ ap (λ (z : ℤ). lowered_list z (tasks_in c.node.inside.sides.right)) b)
+    (c.lower-right.ensures.tasks ∙ ap (λ (z : ℤ). lowered_list z (tasks_in c.node.inside.parts.sides.right)) b)
     ∙ sym e
 
 pub returns-clause-noted : goal.returns-clause-noted
