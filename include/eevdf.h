@@ -47,13 +47,14 @@
  * WHAT THE OBJECT ASKS OF A KERNEL (x86-64). The archive for kernels, libeevdf_kernel.a, uses no
  * registers but the general ones and nothing below the stack pointer, and needs no aligned stack.
  * So interrupts may come during a call, and on its stack. It is linked into the highest 2 GiB of
- * addresses, where a kernel is, or into the lowest. It wants these names, and no others: memcpy,
- * memset, rattle_alloc and rattle_dealloc, and where it is made for Linux __x86_return_thunk, by
- * which it returns then.
- * The archive for programs, libeevdf.a, can be linked at any address, and wants __udivti3 besides,
- * which compilers bring along in libgcc. It needs a stack that is aligned to 16 at the call, and
- * uses the registers xmm0 and xmm1, and functions that call no others use the red zone, the 128
- * bytes below the stack pointer. So in a kernel
+ * addresses, where a kernel is, or into the lowest. It wants these names, and no others: memcpy
+ * and memset, and where it is made for Linux __x86_return_thunk, by which it returns then. Of the
+ * two functions for memory (below) it has weak ones, which give none, until the kernel defines its
+ * own.
+ * The archive for programs, libeevdf.a, can be linked at any address, and wants memcpy, memset,
+ * eevdf_alloc, eevdf_dealloc, and __udivti3, which compilers bring along in libgcc. It needs a
+ * stack that is aligned to 16 at the call, and uses the registers xmm0 and xmm1, and functions that
+ * call no others use the red zone, the 128 bytes below the stack pointer. So in a kernel
  *   - a maskable interrupt that comes during a call runs on another stack (an entry of the
  *     interrupt stack table, IST), or interrupts are off during the call;
  *   - NMIs, machine checks, and exceptions whose handler returns have a stack of their own by the
@@ -114,7 +115,7 @@ extern "C" {
  * MAJOR where a program may have to be changed; as long as it is 0, MINOR stands for it too.
  */
 #define EEVDF_VERSION_MAJOR 0
-#define EEVDF_VERSION_MINOR 2
+#define EEVDF_VERSION_MINOR 3
 #define EEVDF_VERSION_PATCH 0
 #define EEVDF_VERSION \
 	(EEVDF_VERSION_MAJOR * 1000000 + EEVDF_VERSION_MINOR * 1000 + EEVDF_VERSION_PATCH)
@@ -212,10 +213,20 @@ typedef struct eevdf_memory {
  * libeevdf_malloc.a. The library asks for one block in eevdf_admit, of EEVDF_TASK_SIZE bytes
  * aligned to 8, and gives it back where the task ends; a block inside the caller's own struct of
  * the task will do. A block belongs to the library until it is given back.
- * rattle_alloc is called by eevdf_admit alone, and rattle_dealloc by eevdf_end, eevdf_close,
+ * eevdf_alloc is called by eevdf_admit alone, and eevdf_dealloc by eevdf_end, eevdf_close,
  * eevdf_hand_close, and eevdf_admit where it answers RANGE. They are called under whatever lock the
  * caller of these holds, of eevdf_hand_close perhaps none, and where there are several queues, on
  * several CPUs at once: what they share needs a lock of its own.
+ * Where a kernel defines neither, the archive for kernels has none to give, and eevdf_admit answers
+ * NO_MEMORY; over the archive for programs the linker says that they are missing.
+ */
+eevdf_memory eevdf_alloc(size_t size, size_t align);
+void eevdf_dealloc(void *block);
+
+/*
+ * The same two by the names that they had before version 0.3. The archives define these as weak
+ * functions that call the two above. A program that defines them itself is asked by them in the
+ * place of the others, and needs no change.
  */
 eevdf_memory rattle_alloc(size_t size, size_t align);
 void rattle_dealloc(void *block);

@@ -5,7 +5,7 @@
 #include <eevdf.h>
 #include <stdlib.h>
 
-__attribute__((weak)) eevdf_memory rattle_alloc(size_t size, size_t align)
+__attribute__((weak)) eevdf_memory eevdf_alloc(size_t size, size_t align)
 {
 	static unsigned char none;
 	void *block = malloc(size);
@@ -14,7 +14,7 @@ __attribute__((weak)) eevdf_memory rattle_alloc(size_t size, size_t align)
 	return block ? (eevdf_memory){ 1, block } : (eevdf_memory){ 0, &none };
 }
 
-__attribute__((weak)) void rattle_dealloc(void *block)
+__attribute__((weak)) void eevdf_dealloc(void *block)
 {
 	free(block);
 }

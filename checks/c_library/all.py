@@ -1,7 +1,9 @@
 """Looks at the library for C, part by part: at the archive for programs, or at the one for kernels."""
 
 import argparse
+import os
 import sys
+from dataclasses import replace
 from pathlib import Path
 
 import callers
@@ -12,24 +14,37 @@ import interrupted
 import kernel
 import kernel_object
 import linux
+import memory_names
 import object_file
 import rust
 import sequences
-from tools import TOP, Tools
+from tools import TOP, Tools, fault_of, run
 
-sys.path.append(str(TOP / "tools" / "c_archives"))
+C_ARCHIVES = TOP / "tools" / "c_archives"
+sys.path.append(str(C_ARCHIVES))
 
 from kernel_archive import KERNEL, LINUX, NotMade, kit_tools, make  # noqa: E402
 from kept_module import KeptModule  # noqa: E402
 
 
+def with_names(archive, work):
+    """What the checks need over an archive for programs, also over one that `rt lib` has made."""
+    tools = Tools(archive, work)
+    named = work / "libeevdf.a"
+    fault = fault_of(run([C_ARCHIVES / "with_names", archive, named], env={**os.environ, "CC": tools.cc}))
+    if fault:
+        raise NotMade(fault)
+    return Tools(named, work)
+
+
 def made_of(module, work):
     """What the checks need over the archive for kernels, which is made from a module. Its addresses have 32 bits, so programs over it lie
     below 2 GiB."""
-    tools = Tools(work / "libeevdf_kernel.a", work, ("-no-pie",), module, work / "libeevdf_thunks.a")
+    tools = Tools(work / "libeevdf_kernel.a", work, ("-no-pie",), module, work / "libeevdf_thunks.a", work / "for_programs.a")
     kept = KeptModule.read(module)
     make(kit_tools(), kept, tools.archive, KERNEL)
     make(kit_tools(), kept, tools.thunks, LINUX)
+    make(kit_tools(), kept, tools.for_programs, replace(KERNEL, sources=()))
     return tools
 
 
@@ -42,11 +57,11 @@ def main():
     words.add_argument("--seed", default="1")
     asked = words.parse_args()
     try:
-        tools = made_of(asked.module, asked.work) if asked.module else Tools(asked.archive, asked.work)
+        tools = made_of(asked.module, asked.work) if asked.module else with_names(asked.archive, asked.work)
     except (NotMade, FileNotFoundError) as failed:
-        print(f"checks/c_library: there is no archive for kernels: {failed}", file=sys.stderr)
+        print(f"checks/c_library: there is no archive to look at: {failed}", file=sys.stderr)
         sys.exit(3)
-    for part in (header, kernel_object if asked.module else object_file, callers, examples, installed, rust, kernel):
+    for part in (header, kernel_object if asked.module else object_file, callers, examples, installed, memory_names, rust, kernel):
         part.check(tools)
     sequences.check(tools, asked.seed)
     if asked.module:

@@ -5,7 +5,7 @@ import os
 import shutil
 
 from examples import FIRST, other_output
-from object_file import declared
+from object_file import MEMORY, declared
 from tools import TOP, WARNINGS, fault_of, run
 
 CMAKE = """
@@ -52,17 +52,17 @@ def check_cmake(tools, prefix):
         asked = run(["cmake", "-S", folder, "-B", folder / "out", f"-DCMAKE_PREFIX_PATH={prefix}"], env={**os.environ, "CC": tools.cc})
         return fault_of(asked) or fault_of(run(["cmake", "--build", folder / "out"]))
 
-    refused = built("0.1")
+    refused = built("0.2")
     is_found = refused and "eevdf-config.cmake, version:" in refused
     tools.checks.look("no program by CMake for another version", None if is_found else refused or "it is built")
-    fault = built("0.2")
+    fault = built("0.3")
     tools.checks.look(name, fault or other_output(run([folder / "out" / "first"]), FIRST.with_suffix(".out").read_text()))
 
 
 def check_pages(tools, prefix):
     """A manual page for each call, which troff prints without a word."""
     pages = sorted((prefix / "share" / "man" / "man3").glob("*.3"))
-    missing = {*declared(), "eevdf", "rattle_alloc", "rattle_dealloc"} ^ {page.stem for page in pages}
+    missing = {*declared(), *MEMORY, "eevdf", "rattle_alloc", "rattle_dealloc"} ^ {page.stem for page in pages}
     tools.checks.look("a manual page for each call", ", ".join(sorted(missing)), f"{len(pages)} pages")
     if not shutil.which("groff"):
         tools.checks.skip("the manual pages are printed", "groff", "groff")
@@ -73,7 +73,7 @@ def check_pages(tools, prefix):
 
 def check(tools):
     prefix = tools.work / "prefix"
-    made = install(tools, prefix, ARCHIVE=str(tools.archive))
+    made = install(tools, prefix, ARCHIVE=str(tools.for_programs))
     tools.checks.look("./install", fault_of(made), made.stdout.strip())
     check_pkg_config(tools, prefix)
     check_cmake(tools, prefix)

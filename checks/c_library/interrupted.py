@@ -6,12 +6,11 @@ import re
 from dataclasses import replace
 
 from drawn_calls import KINDS, compare
-from object_file import declared
+from object_file import MEMORY, declared
 from tools import fault_of, run
 
 # An interrupt takes some microseconds, so there are fewer calls, and fewer looks at the whole state, than without.
 CALLS, LOOKS = 1000, 97
-MEMORY = ("rattle_alloc", "rattle_dealloc")
 SAID = re.compile(r"^interrupts: (\d+)$", re.MULTILINE)
 
 # The bit of the flags by which the processor traps after each instruction.
@@ -44,10 +43,11 @@ __wrap_{name}:
 	popfq
 	ret
 """
-# The functions for memory are the C compiler's, which wants an aligned stack; and they aren't interrupted.
+# The functions for memory are the C compiler's, which wants an aligned stack; and they aren't interrupted. The caller has them by another
+# name, since the archive for kernels has weak ones, which the linker wraps nothing around.
 OWN = """
-	.globl __wrap_{name}
-__wrap_{name}:
+	.globl {name}
+{name}:
 	push %rbp
 	mov %rsp, %rbp
 	push %rbx
@@ -57,7 +57,7 @@ __wrap_{name}:
 	pushfq
 	andq $~{traps}, (%rsp)
 	popfq
-	call __real_{name}
+	call own_{name}
 	push %rbx
 	popfq
 	mov -8(%rbp), %rbx
@@ -70,9 +70,9 @@ def compile_interrupted(tools, caller):
     """Builds a caller whose calls are made so."""
     calls = sorted(declared())
     text = "".join(CALL.format(name=name, traps=TRAPS) for name in calls) + "".join(OWN.format(name=name, traps=TRAPS) for name in MEMORY)
-    source = tools.work / "interrupted.S"
+    source = tools.work / "interrupted.s"
     source.write_text(text + NO_STACK)
-    linked = [f"-Wl,--wrap={name}" for name in (*calls, *MEMORY)]
+    linked = [*(f"-Wl,--wrap={name}" for name in calls), *(f"-D{name}=own_{name}" for name in MEMORY)]
     sources = [tools.callers / f"{caller}.c", tools.callers / "interrupted.c", source]
     return tools.compile(f"{caller}-interrupted", sources, *linked, "-Wl,-z,now")
 

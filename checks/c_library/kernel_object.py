@@ -16,7 +16,7 @@ from kept_module import KeptModule  # noqa: E402
 
 # Addresses in the highest or the lowest 2 GiB, as Linux's loader of modules and any linker knows them.
 OTHER_RELOCATIONS = re.compile(r"^(?!R_X86_64_(?:PC32|PLT32|32S|64)$)")
-OF_KERNELS = Asks({"memcpy", "memset", "rattle_alloc", "rattle_dealloc"}, set(), OTHER_RELOCATIONS)
+OF_KERNELS = Asks({"memcpy", "memset"}, set(), OTHER_RELOCATIONS)
 OF_LINUX = Asks({*OF_KERNELS.names, "__x86_return_thunk"}, set(), OTHER_RELOCATIONS)
 
 # An instruction with its operands, and those that aren't to be found.
@@ -73,8 +73,9 @@ def look_at_jumps(code, look):
 
 
 def object_of(archive):
-    """The bytes of an archive's objects."""
-    return runner.run(["ar", "p", str(archive)]).out
+    """The bytes of an archive's first object, which is the one that is proved."""
+    first = said_by("ar", "t", archive).split()[0]
+    return runner.run(["ar", "p", str(archive), first]).out
 
 
 def for_programs(tools):

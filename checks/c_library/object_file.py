@@ -22,7 +22,9 @@ class Asks:
     relocations: re.Pattern
 
 
-OF_PROGRAMS = Asks({"memcpy", "memset", "__udivti3", "rattle_alloc", "rattle_dealloc"}, {"xmm0", "xmm1"}, ABSOLUTE)
+# The functions for memory, which the caller defines.
+MEMORY = {"eevdf_alloc", "eevdf_dealloc"}
+OF_PROGRAMS = Asks({"memcpy", "memset", "__udivti3", *MEMORY}, {"xmm0", "xmm1"}, ABSOLUTE)
 
 
 def said_by(*words):
@@ -45,7 +47,7 @@ def undefined(archive):
 
 def declared():
     """The calls that the header declares."""
-    return set(re.findall(r"^(?:int64_t|void) (eevdf_\w+)\(", (TOP / "include" / "eevdf.h").read_text(), re.MULTILINE))
+    return set(re.findall(r"^(?:int64_t|void) (eevdf_\w+)\(", (TOP / "include" / "eevdf.h").read_text(), re.MULTILINE)) - MEMORY
 
 
 def undocumented(wanted):

@@ -20,14 +20,14 @@ BODIES = {
     "an admit cuts the number to 32 bits": ("admit", "task &= 0xffffffff; return RIGHT;"),
     "an admit asks for memory first": ("admit", """
         if (eevdf_contains(queue, task) == 1) {
-            eevdf_memory memory = rattle_alloc(EEVDF_TASK_SIZE, 8);
+            eevdf_memory memory = eevdf_alloc(EEVDF_TASK_SIZE, 8);
             if (!memory.ok) return EEVDF_NO_MEMORY;
-            rattle_dealloc(memory.block);
+            eevdf_dealloc(memory.block);
         }
         return RIGHT;"""),
     "an admit that answers RANGE keeps its block": ("admit", """
         int64_t answer = RIGHT;
-        if (answer == EEVDF_RANGE) rattle_alloc(EEVDF_TASK_SIZE, 8);
+        if (answer == EEVDF_RANGE) eevdf_alloc(EEVDF_TASK_SIZE, 8);
         return answer;"""),
     "a tick charges a nanosecond more": ("tick", "if (ns < EEVDF_TICK_MAX && ns > 0) ns++; return RIGHT;"),
     "a tick that answers INVALID stops who runs": ("tick", "if (ns == 0) eevdf_stop(queue); return RIGHT;"),

@@ -40,14 +40,17 @@ class Tools:
     work: Path
     # flags that a program over the archive needs
     flags: tuple = ()
-    # of the archive for kernels: what it is made from, and the one with Linux's thunks
+    # of the archive for kernels: what it is made from, the one with Linux's thunks, and the one that is put in the place of that for
+    # programs, whose functions for memory are those of libeevdf_malloc.a
     module: Path | None = None
     thunks: Path | None = None
+    for_programs: Path | None = None
     checks: runner.Checks = field(default_factory=runner.Checks)
     callers: Path = TOP / "checks" / "c_library" / "callers"
 
     def __post_init__(self):
         self.archive = Path(self.archive).resolve()
+        self.for_programs = self.for_programs or self.archive
         self.work = Path(self.work)
         self.cc = shutil.which("gcc") or shutil.which("clang")
 

@@ -2,6 +2,7 @@
 
 import re
 
+from object_file import MEMORY
 from tools import TOP
 
 DECLARATION = re.compile(r"^(int64_t|void) eevdf_(\w+)\(([^;]*)\);$", re.MULTILINE)
@@ -10,7 +11,7 @@ DECLARATION = re.compile(r"^(int64_t|void) eevdf_(\w+)\(([^;]*)\);$", re.MULTILI
 def declarations():
     """What the header declares: each call with its result's type and its parameters."""
     found = DECLARATION.findall((TOP / "include" / "eevdf.h").read_text())
-    return {name: (kind, " ".join(parameters.split())) for kind, name, parameters in found}
+    return {name: (kind, " ".join(parameters.split())) for kind, name, parameters in found if f"eevdf_{name}" not in MEMORY}
 
 
 def arguments(parameters):

@@ -73,12 +73,12 @@ static int64_t must(int64_t answer)
 }
 
 /* The block for a task is a part of its thread. */
-eevdf_memory rattle_alloc(size_t size, size_t align)
+eevdf_memory eevdf_alloc(size_t size, size_t align)
 {
 	return (eevdf_memory){ size <= sizeof admitted->block && align <= 8, admitted->block };
 }
 
-void rattle_dealloc(void *block)
+void eevdf_dealloc(void *block)
 {
 	(void)block;
 }

@@ -14,7 +14,7 @@ static struct player {
 	struct completion done;
 } players[2];
 
-eevdf_memory rattle_alloc(size_t size, size_t align)
+eevdf_memory eevdf_alloc(size_t size, size_t align)
 {
 	static unsigned char none;
 	void *block = kmalloc(size, GFP_KERNEL);
@@ -22,7 +22,7 @@ eevdf_memory rattle_alloc(size_t size, size_t align)
 	return block ? (eevdf_memory){ 1, block } : (eevdf_memory){ 0, &none };
 }
 
-void rattle_dealloc(void *block)
+void eevdf_dealloc(void *block)
 {
 	kfree(block);
 }

@@ -1,14 +1,15 @@
 #!/usr/bin/env -S python3 -B
 """kernel_archive.py [--thunks] MODULE ARCHIVE: makes the archive for kernels from the kept LLVM module of the library for C, by the kit's
 own clang and the words that it was given for the archive for programs, but for the attributes and flags that docs/embedding-c.md lists.
-Ends with 3 where there is no module, no kit, or a module that isn't understood."""
+To that object it joins the functions for memory that a kernel may leave out or have by either name, as bindings/c has them. Ends with 3
+where there is no module, no kit, or a module that isn't understood."""
 
 import argparse
 import re
 import subprocess
 import sys
 import tempfile
-from dataclasses import dataclass
+from dataclasses import dataclass, replace
 from pathlib import Path
 
 from kept_module import KeptModule
@@ -16,12 +17,13 @@ from kept_module import KeptModule
 
 @dataclass(frozen=True)
 class Variant:
-    """What one of the archives is made by: attributes of each function that the module defines, the processor that these name, and flags
-    in the place of OF_POSITION."""
+    """What one of the archives is made by: attributes of each function that the module defines, the processor that these name, flags in
+    the place of OF_POSITION, and the C files whose functions are joined to it."""
 
     attributes: tuple
     processor: str
     flags: tuple
+    sources: tuple = ()
 
 
 OF_POSITION = "-fPIC"
@@ -35,9 +37,16 @@ KERNEL = Variant(
         "-fno-pic", "-mcmodel=kernel",  # addresses in the highest or the lowest 2 GiB
         "-mllvm", "-expand-div-rem-bits=64",  # the division of 128 bits in the code, so no __udivti3
     ),
+    ("eevdf_names.c", "eevdf_no_memory.c"),
 )
-LINUX = Variant((*KERNEL.attributes, "fn_ret_thunk_extern"), KERNEL.processor, KERNEL.flags)  # returns by __x86_return_thunk
+LINUX = replace(KERNEL, attributes=(*KERNEL.attributes, "fn_ret_thunk_extern"))  # returns by __x86_return_thunk
 
+# What the attributes are called where clang is given C, and how it compiles C for a place without an operating system.
+IN_C = {"noredzone": "-mno-red-zone", "fn_ret_thunk_extern": "-mfunction-return=thunk-extern"}
+BARE = ("-std=c11", "-O3", "-Wall", "-Wextra", "-Werror", "-ffreestanding", "-nostdinc", "-ffunction-sections",
+        "-fno-asynchronous-unwind-tables", "-fno-stack-protector")
+
+TOP = Path(__file__).resolve().parents[2]
 OBJECT = "eevdf_kernel.o"
 DEFINITION = re.compile(r"^define .*?(?: #(\d+))? \{$", re.MULTILINE)
 
@@ -74,14 +83,32 @@ def compile_words(kept):
     return words
 
 
+def compile_module(tools, kept, variant, made):
+    """The object of the module, which is written in words of LLVM, in which attributes can be added, and nothing else is done to it."""
+    words, text = compile_words(kept), made.with_suffix(".ll")
+    run(tools / "clang", *words, "-x", "ir", "-S", "-emit-llvm", "-Xclang", "-disable-llvm-passes", "-o", text, kept.module)
+    text.write_text(with_attributes(text.read_text(), variant))
+    run(tools / "clang", *words, *variant.flags, "-c", "-x", "ir", "-o", made, text)
+
+
+def compile_source(tools, kept, variant, source, made):
+    """The object of a C file of bindings/c, by flags that come to those of the module."""
+    target = [word for word in kept.words if word.startswith("--target=")]
+    flags = [*target, f"-march={variant.processor}", *BARE, *variant.flags, *(IN_C[name] for name in variant.attributes)]
+    run(tools / "clang", *flags, f"-I{TOP / 'include'}", "-c", "-o", made, TOP / "bindings" / "c" / source)
+
+
 def make(tools, kept, archive, variant):
-    """Makes an archive. The module is written in words of LLVM, in which attributes can be added, and nothing else is done to it."""
-    words = compile_words(kept)
+    """Makes an archive of one object."""
     with tempfile.TemporaryDirectory() as held:
-        text, made = Path(held) / "module.ll", Path(held) / OBJECT
-        run(tools / "clang", *words, "-x", "ir", "-S", "-emit-llvm", "-Xclang", "-disable-llvm-passes", "-o", text, kept.module)
-        text.write_text(with_attributes(text.read_text(), variant))
-        run(tools / "clang", *words, *variant.flags, "-c", "-x", "ir", "-o", made, text)
+        made = Path(held) / OBJECT
+        compile_module(tools, kept, variant, made)
+        if variant.sources:
+            parts = [made.rename(made.with_name("module.o"))]
+            for source in variant.sources:
+                parts.append(made.with_name(source).with_suffix(".o"))
+                compile_source(tools, kept, variant, source, parts[-1])
+            run(tools / "ld.lld", "-r", "-o", made, *parts)
         archive.unlink(missing_ok=True)
         run(tools / "llvm-ar", "rcsD", archive, made)
 

@@ -23,10 +23,11 @@
 //! # Memory
 //!
 //! A queue stands in a [`QueueMemory`] of its caller's, and never moves. Each task takes one block of 152 bytes, in [`Queue::admit`],
-//! from the functions `rattle_alloc` and `rattle_dealloc`. With the feature `malloc`, which is on by default, they are over C's `malloc`
-//! and `free`. Without it the program defines them, as the header `eevdf.h` says.
+//! from the functions `eevdf_alloc` and `eevdf_dealloc`. With the feature `malloc`, which is on by default, they are over C's `malloc`
+//! and `free`. Without it the program defines them, as the header `eevdf.h` says, or by the names `rattle_alloc` and `rattle_dealloc`,
+//! which they had before version 0.3.
 //!
-//! A function of one of these two names, without mangling, takes the place of that over `malloc` in either case. To define one is
+//! A function of one of these four names, without mangling, takes the place of that over `malloc` in either case. To define one is
 //! therefore an obligation, as to write `unsafe` is, though editions before 2024 take it without that word: it has to do what the header
 //! says.
 //!
@@ -71,7 +72,7 @@ pub use memory::{HandMemory, QueueMemory};
 pub use queue::{Entry, Queue, Sleeper};
 
 /// The version of the library that the crate is written for.
-const VERSION: i64 = 2000;
+const VERSION: i64 = 3000;
 
 /// Of a version, the two numbers that say which programs run over it.
 const fn series(version: i64) -> i64 {

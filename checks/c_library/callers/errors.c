@@ -15,7 +15,7 @@ static eevdf_hand hand, full;
 static bool refuses;
 static unsigned failed, looked_at;
 
-eevdf_memory rattle_alloc(size_t size, size_t align)
+eevdf_memory eevdf_alloc(size_t size, size_t align)
 {
 	static unsigned char none;
 	void *block = refuses ? NULL : malloc(size);
@@ -24,7 +24,7 @@ eevdf_memory rattle_alloc(size_t size, size_t align)
 	return block ? (eevdf_memory){ 1, block } : (eevdf_memory){ 0, &none };
 }
 
-void rattle_dealloc(void *block)
+void eevdf_dealloc(void *block)
 {
 	free(block);
 }

@@ -44,7 +44,7 @@ static bool is_marked(const unsigned char *edge)
 	return true;
 }
 
-eevdf_memory rattle_alloc(size_t size, size_t align)
+eevdf_memory eevdf_alloc(size_t size, size_t align)
 {
 	static unsigned char none;
 	unsigned char *room;
@@ -63,7 +63,7 @@ eevdf_memory rattle_alloc(size_t size, size_t align)
 	abort();
 }
 
-void rattle_dealloc(void *block)
+void eevdf_dealloc(void *block)
 {
 	unsigned char *room = (unsigned char *)block - EDGE;
 

@@ -31,7 +31,7 @@ static bool refuses;
 static int64_t written[5];
 static unsigned written_count;
 
-eevdf_memory rattle_alloc(size_t size, size_t align)
+eevdf_memory eevdf_alloc(size_t size, size_t align)
 {
 	static unsigned char none;
 	void *block = refuses ? NULL : malloc(size);
@@ -40,7 +40,7 @@ eevdf_memory rattle_alloc(size_t size, size_t align)
 	return block ? (eevdf_memory){ 1, block } : (eevdf_memory){ 0, &none };
 }
 
-void rattle_dealloc(void *block)
+void eevdf_dealloc(void *block)
 {
 	free(block);
 }

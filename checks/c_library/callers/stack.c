@@ -37,14 +37,14 @@ static const unsigned char *top;
 static uint64_t word = 1;
 static ucontext_t outside, inside;
 
-eevdf_memory rattle_alloc(size_t size, size_t align)
+eevdf_memory eevdf_alloc(size_t size, size_t align)
 {
 	if (size > EEVDF_TASK_SIZE || align > 8 || unused_count == 0)
 		return (eevdf_memory){ 0, pool };
 	return (eevdf_memory){ 1, unused[--unused_count] };
 }
 
-void rattle_dealloc(void *block)
+void eevdf_dealloc(void *block)
 {
 	unused[unused_count++] = block;
 }
@@ -276,7 +276,7 @@ int main(void)
 	int in_turns, in_turns_with_rebase, at_plans, at_plans_with_rebase;
 
 	for (unsigned at = 0; at < sizeof pool / sizeof *pool; at++)
-		rattle_dealloc(pool[at]);
+		eevdf_dealloc(pool[at]);
 	in_turns = depth_of(make_turns);
 	rebases = true;
 	in_turns_with_rebase = depth_of(make_turns);
