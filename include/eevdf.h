@@ -18,14 +18,19 @@
  * its tasks: close it before its bytes are used for anything else. No call keeps a pointer to them,
  * and none reads a queue's bytes but those that are given it.
  *
+ * MOVING. Between two calls a queue or a hand may be moved: its bytes are copied to others of the
+ * caller's own, aligned to 16. It is the same queue or hand there. The bytes that it left are the
+ * caller's again, for anything; no call is given them as a queue or a hand any more, until they are
+ * opened anew.
+ *
  * WHAT C MUST KEEP. Each call tests its numbers, and who is here and who runs. It can't test its
  * pointers, so these are left to C:
  *   - `queue` points to a queue that eevdf_open has opened, and `hand` to a hand that
  *     eevdf_hand_open has opened; each that is opened points to so many bytes of the caller's own,
  *     aligned to 16;
  *   - from eevdf_open to eevdf_close only these calls read or write the queue's bytes, one call at
- *     a time, and nobody copies or moves them; the same holds of a hand from eevdf_hand_open to
- *     eevdf_hand_close;
+ *     a time, but that it may be moved, and there are no two copies of which both are used; the
+ *     same holds of a hand from eevdf_hand_open to eevdf_hand_close;
  *   - `out`, `time`, `lag` and `by` point to an object of the caller's own that is no part of a
  *     queue or a hand, and that nobody else uses during the call. The proofs take it for
  *     initialised, whatever its bytes: write to it once, as by `int64_t time = 0;`, before the

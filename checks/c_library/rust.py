@@ -89,7 +89,7 @@ def check(tools):
 def check_form(tools):
     for name, command, package, words in (
         ("cargo fmt", "cargo-fmt", "rustfmt", ("fmt", "--check")),
-        ("cargo clippy", "cargo-clippy", "rust-clippy", ("clippy", "--all-targets")),
+        ("cargo clippy", "cargo-clippy", "rust-clippy", ("clippy", "--all-targets", "--all-features")),
     ):
         # rustup puts each command in place, also where what it would run isn't installed
         if run(["cargo", words[0], "--version"]).returncode:
@@ -100,8 +100,9 @@ def check_form(tools):
 
 
 def check_tests(tools):
-    made, fault = cargo(tools, "test")
+    made, fault = cargo(tools, "test", "--all-features")
     count = sum(int(line.split()[3]) for line in made.stdout.splitlines() if line.startswith("test result: ok."))
     tools.checks.look("bindings/rust: cargo test", fault or (None if count else "no test was run"), f"{count} tests")
-    tools.checks.look("bindings/rust: cargo doc", cargo(tools, "doc", "--no-deps")[1])
+    tools.checks.look("bindings/rust: cargo doc", cargo(tools, "doc", "--no-deps", "--all-features")[1])
+    tools.checks.look("bindings/rust by default: cargo test", cargo(tools, "test")[1])
     tools.checks.look("bindings/rust without malloc: cargo test", cargo(tools, "test", "--no-default-features")[1])

@@ -22,7 +22,8 @@
 //!
 //! # Memory
 //!
-//! A queue stands in a [`QueueMemory`] of its caller's, and never moves. Each task takes one block of 152 bytes, in [`Queue::admit`],
+//! A queue stands in a [`QueueMemory`] of its caller's, or with the feature `alloc` in a box of its own, by `Queue::boxed`. Where that lies
+//! doesn't matter to it, and it stays there for as long as the `Queue` lives. Each task takes one block of 152 bytes, in [`Queue::admit`],
 //! from the functions `eevdf_alloc` and `eevdf_dealloc`. With the feature `malloc`, which is on by default, they are over C's `malloc`
 //! and `free`. Without it the program defines them, as the header `eevdf.h` says, or by the names `rattle_alloc` and `rattle_dealloc`,
 //! which they had before version 0.3.
@@ -59,6 +60,9 @@
 #![no_std]
 #![deny(missing_docs)]
 #![deny(unsafe_op_in_unsafe_fn)]
+
+#[cfg(feature = "alloc")]
+extern crate alloc;
 
 mod calls;
 mod error;

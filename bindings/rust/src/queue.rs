@@ -10,6 +10,9 @@ use core::fmt;
 use core::marker::PhantomData;
 use core::ptr::NonNull;
 
+#[cfg(feature = "alloc")]
+use alloc::boxed::Box;
+
 /// What a queue knows of a runnable task.
 #[repr(C)]
 #[derive(Clone, Copy, PartialEq, Eq, Debug, Default)]
@@ -42,13 +45,37 @@ pub struct Sleeper {
 /// [`TASKS`](crate::TASKS) on; its comment names what else it may answer.
 pub struct Queue<'a> {
     at: NonNull<c_void>,
-    memory: PhantomData<&'a mut QueueMemory>,
+    memory: Memory<'a>,
+}
+
+/// Whose the bytes of a queue are.
+enum Memory<'a> {
+    Borrowed(PhantomData<&'a mut QueueMemory>),
+    /// They were in a box, which is made again where the queue is dropped: as long as there is a `Box`, no other pointer may lead there.
+    #[cfg(feature = "alloc")]
+    Boxed,
 }
 
 // SAFETY: the library has no data of its own, and no call keeps a pointer
 unsafe impl Send for Queue<'_> {}
 
-// SAFETY of all calls below: `at` points to a queue that `open` has opened in bytes that are borrowed for as long as it lives, and who
+#[cfg(feature = "alloc")]
+impl Queue<'static> {
+    /// A queue without tasks, at the virtual time 0, in memory of its own.
+    ///
+    /// # Panics
+    ///
+    /// Where MAJOR or MINOR of the library that is linked isn't the crate's.
+    pub fn boxed() -> Queue<'static> {
+        check_version();
+        let at = NonNull::from(Box::leak(Box::new(QueueMemory::new()))).cast();
+        // SAFETY: it points to the bytes of a queue, which are given back where the queue is dropped
+        unsafe { calls::eevdf_open(at.as_ptr()) };
+        Queue { at, memory: Memory::Boxed }
+    }
+}
+
+// SAFETY of all calls below: `at` points to a queue that was opened in bytes that are its own, or borrowed for as long as it lives, and who
 // calls has borrowed it: alone where the call changes it, and else shared with callers of the same thread, since it isn't `Sync`.
 impl<'a> Queue<'a> {
     /// A queue without tasks, at the virtual time 0.
@@ -60,7 +87,7 @@ impl<'a> Queue<'a> {
         check_version();
         let at = NonNull::from(&mut memory.0).cast();
         unsafe { calls::eevdf_open(at.as_ptr()) };
-        Queue { at, memory: PhantomData }
+        Queue { at, memory: Memory::Borrowed(PhantomData) }
     }
 
     /// Makes a new task runnable, with a fresh request, at the virtual runtime `start`; [`Queue::floor_time`] gives the start of one that
@@ -272,5 +299,11 @@ impl fmt::Debug for Queue<'_> {
 impl Drop for Queue<'_> {
     fn drop(&mut self) {
         unsafe { calls::eevdf_close(self.at.as_ptr()) };
+        match self.memory {
+            Memory::Borrowed(_) => {}
+            // SAFETY: `boxed` took them out of a box, and nothing leads there any more
+            #[cfg(feature = "alloc")]
+            Memory::Boxed => drop(unsafe { Box::from_raw(self.at.cast::<QueueMemory>().as_ptr()) }),
+        }
     }
 }

@@ -6,7 +6,8 @@
 //! exact code and the exact state afterwards, by the definitions that the queue's own contracts use. An error changes nothing.
 //!
 //! [`calls`] does the work on references, and is proved like any safe code. [`exports`] makes references of C's pointers; those
-//! proofs are uniform, and a script writes them: tools/export_proofs/README.md.
+//! proofs are uniform, and a script writes them: tools/export_proofs/README.md. [`moving`] is what C relies on where it moves the
+//! bytes of a queue or a hand.
 #![tactic(auto)]
 
 mod calls;
@@ -14,6 +15,7 @@ mod codes;
 mod entry_out;
 mod exports;
 mod hand;
+mod moving;
 mod opened;
 mod parcel_out;
 mod sleeper_out;

@@ -1,0 +1,34 @@
+//! That a queue and a hand may lie elsewhere from one call to the next.
+//!
+//! Nobody calls these: C copies the bytes itself. Their contracts say what C may rely on then. The bytes alone tell the queue, wherever
+//! they lie, so nothing that the library keeps leads back to where they lay; and where they lay is room of the caller's again.
+
+ghost use Rattle.std.specs.Prelude.{Option};
+ghost use Rattle.std.specs.Borrow.{sem};
+ghost use Rattle.eevdf_queue.specs.State.{State, Contents};
+ghost use Rattle.eevdf_c.specs.Memory.{hand_at, queue_at, room_for_hand, room_for_queue};
+
+use crate::hand::Hand;
+use crate::opened::Opened;
+
+/// Copies a queue's bytes to another place, where it is the same queue.
+pub unsafe fn move_queue(from: *mut u8, to: *mut u8)
+    ghost q: { State }
+    requires* here { sem 𝓛 (queue_at from q) }
+    requires* there { sem 𝓛 (room_for_queue to) }
+    ensures* moved { sem 𝓛 (queue_at to q) }
+    ensures* left { sem 𝓛 (room_for_queue from) }
+{
+    (to as *mut Opened).write((from as *mut Opened).read());
+}
+
+/// Copies a hand's bytes to another place, where it is the same hand.
+pub unsafe fn move_hand(from: *mut u8, to: *mut u8)
+    ghost h: { Option Contents }
+    requires* here { sem 𝓛 (hand_at from h) }
+    requires* there { sem 𝓛 (room_for_hand to) }
+    ensures* moved { sem 𝓛 (hand_at to h) }
+    ensures* left { sem 𝓛 (room_for_hand from) }
+{
+    (to as *mut Hand).write((from as *mut Hand).read());
+}
