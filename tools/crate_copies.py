@@ -1,12 +1,12 @@
 """The crates of the repository, copies of them, and what `rt ci` says in such a copy. A run of rt in a copy doesn't wait for those in
-the repository itself."""
+the repository itself. And how a tool says something on standard error."""
 
 import fcntl
 import os
 import re
 import shutil
 import subprocess
-import sys
+from contextlib import suppress
 from pathlib import Path
 
 TOP = Path(__file__).resolve().parents[1]
@@ -16,6 +16,12 @@ SOURCES = ("src", "specs", "proofs")
 RUN_WITH = ("args", "stdin", "stdout", "status", "data")
 # What `rt ci` says of a crate that it is done with.
 DONE = re.compile(r"rt: (\w+) (?:proved$|is kept:)")
+
+
+def say(program, *lines):
+    """Writes lines to standard error, of which the first names the program; nothing where that is closed or full."""
+    with suppress(OSError):
+        os.write(2, "".join(f"{line}\n" for line in (f"{program}: {lines[0]}", *lines[1:])).encode(errors="surrogateescape"))
 
 
 def folder_of(crate):
@@ -85,5 +91,5 @@ def wait_for_other_runs(name, held):
     try:
         fcntl.flock(held, fcntl.LOCK_EX | fcntl.LOCK_NB)
     except BlockingIOError:
-        print(f"{name}: waiting for another run in this folder", file=sys.stderr, flush=True)
+        say(name, "waiting for another run in this folder")
         fcntl.flock(held, fcntl.LOCK_EX)
