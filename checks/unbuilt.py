@@ -1,30 +1,39 @@
 #!/usr/bin/env -S python3 -B
-"""checks/unbuilt.py: what a user sees first. In a copy of the tree where nothing is built, `./eevdf` has to answer a workload of examples/
-with its stored answer on standard output, and to say in one line on standard error, which README has, that this isn't the proved program.
-That may take SECONDS of processor time. A run that is killed has to leave nothing behind. Then each workload of examples/ has to be
-answered unproved as it is stored, where the kit's `rt try` can run many. The last line is 'N passed, M failed'."""
+"""checks/unbuilt.py: what a user sees first. In a copy of the tree where nothing is built, two runs of `./eevdf` at the same time have to
+answer a workload of examples/ with its stored answer on standard output, and to say in one line on standard error, which README has, that
+this isn't the proved program. One of them compiles it, and may take SECONDS of processor time. The other waits for that, and takes what is
+kept, as each further run does: these may take SECONDS_WHERE_KEPT. All workloads of examples/ have to be answered so, and the streams and
+words of launched.py. A source that doesn't compile is told of, and a run that is killed leaves nothing behind. The last line is 'N passed,
+M failed'."""
 
 import os
-import re
 import shutil
+import signal
 import subprocess
 import sys
 import tempfile
 import time
+from concurrent.futures import ThreadPoolExecutor
+from contextlib import contextmanager
 from pathlib import Path
 
+from launched import WORKLOAD, look_at_streams, without_launcher
 from runner import TOP, Checks, run, stored
 
-FIRST = TOP / "examples" / "two-tasks.toml"
-SECONDS = 150
-# A run is killed after so many seconds, when it is under way, and has so many to be cleared away.
-KILLED, CLEARED = 4, 30
-
-# What `rt try --cases` says of a workload, and what it says where the kit has no such flag.
-CASE = re.compile(rb"^case=(\S+) run=ended status=(\d+) .*output=expected", re.MULTILINE)
-OLDER = b"older than --cases"
-# Which compiles the program first, and ends each case after a minute by itself.
+# Alone on its processor the first takes half of it; beside much other work a processor does less in a second.
+SECONDS, SECONDS_WHERE_KEPT = 400, 2
+# How long a run may take that compiles the program first, on a busy machine.
 PATIENCE = 3600
+# A run is ended after so many seconds, when it is under way, and has so many to be cleared away.
+ENDED_AFTER, CLEARED = 4, 30
+
+# A source of a crate below the program.
+SOURCE = "crates/eevdf_weight/src/lib.rt"
+# A script of so many ticks, whose report and history are longer than MOST_OF_A_TRY, which is what `rt try` prints at most.
+TICKS, MOST_OF_A_TRY = 20000, 2**20
+DEED = b'"0 tick 1000000000",\n'
+LINE = b"tick 1000000000: charged 0 resched\n"
+LONG = b'version = 1\nprogram = [[]]\nscript = [\n"0 pick",\n%s]\n[[task]]\n' % (DEED * TICKS)
 
 
 def words_of(workload):
@@ -32,55 +41,116 @@ def words_of(workload):
     return workload.partition(b"\n")[0].decode().split()[2:]
 
 
+def launch(copy, workload, **more):
+    """What the command of a workload's first line prints."""
+    text = workload.read_bytes()
+    return run([copy / "eevdf", *words_of(text)], text, **more)
+
+
+def is_stored(printed, workload):
+    wanted = stored(workload.with_suffix(".out"))
+    return (printed.out, printed.status) == (wanted.out, wanted.status)
+
+
+def kept_in(copy):
+    """The names of what is kept of the program."""
+    folder = copy / "crates" / "eevdf" / "out" / "unproved"
+    return sorted(file.name for file in folder.iterdir() if file.name != "lock")
+
+
 def look_at_first(checks, copy):
-    """The first answer."""
-    text = FIRST.read_bytes()
-    printed = run([copy / "eevdf", *words_of(text)], text, seconds=PATIENCE)
-    said = printed.errors.decode(errors="replace")
-    wanted = stored(FIRST.with_suffix(".out"))
-    checks.expect("answers the first workload", printed, (printed.out, printed.status) == (wanted.out, wanted.status))
-    is_said = said.count("\n") == 1 and said.startswith("eevdf: not the proved program") and "`./build eevdf`" in said
-    checks.expect("says that it isn't the proved program", said, is_said)
-    checks.expect("says so in the line that README.md has", said, f"\n    {said}" in (TOP / "README.md").read_text())
-    took = f"{printed.processor:.0f} seconds of processor time"
-    checks.look(f"takes at most {SECONDS} seconds of processor time", took if printed.processor > SECONDS else None, took)
+    """The first answers."""
+    with ThreadPoolExecutor() as pool:
+        runs = list(pool.map(lambda _: launch(copy, WORKLOAD, seconds=PATIENCE), range(2)))
+    page = (TOP / "README.md").read_text()
+    for name, printed in zip(("the first", "a second at the same time"), runs):
+        said = printed.errors.decode(errors="replace")
+        checks.expect(f"{name} answers", printed, is_stored(printed, WORKLOAD))
+        is_said = said.count("\n") == 1 and said.startswith("eevdf: not the proved program") and "`./build eevdf`" in said
+        checks.expect(f"{name} says that it isn't the proved program", said, is_said)
+        checks.expect(f"{name} says so in the line that README.md has", said, f"\n    {said}" in page)
+    waited, compiled = sorted(printed.processor for printed in runs)
+    took = f"{compiled:.0f} and {waited:.1f} seconds of processor time"
+    is_quick = compiled <= SECONDS and waited <= SECONDS_WHERE_KEPT
+    checks.look(f"the program is compiled once, in at most {SECONDS} seconds of processor time", None if is_quick else took, took)
+    checks.look("the program is kept", None if len(kept_in(copy)) == 1 else f"{kept_in(copy)}")
 
 
-def look_at_killed(checks, copy, folder):
-    """What a killed run leaves."""
-    folder.mkdir()
-    words = [copy / "eevdf", *words_of(FIRST.read_bytes())]
-    with open(FIRST, "rb") as given:
-        killed = subprocess.Popen(words, stdin=given, env={**os.environ, "TMPDIR": str(folder)}, stderr=subprocess.DEVNULL)
-    time.sleep(KILLED)
+def look_at_kept(checks, copy):
+    """The answers of the program that is kept."""
+    workloads = sorted((TOP / "examples").glob("*.toml"))
+    runs = {workload.stem: (launch(copy, workload), workload) for workload in workloads}
+    wrong = [f"{name}: {printed}" for name, (printed, workload) in runs.items() if not is_stored(printed, workload)]
+    checks.look(f"answers the {len(workloads)} workloads of examples/", "; ".join(wrong))
+    longest = max(printed.processor for printed, _ in runs.values())
+    took = f"{longest:.1f} seconds of processor time"
+    checks.look(f"takes at most {SECONDS_WHERE_KEPT} seconds where it is kept", took if longest > SECONDS_WHERE_KEPT else None, took)
+    printed, _ = runs[WORKLOAD.stem]
+    is_said = printed.errors.count(b"\n") == 1 and without_launcher(printed.errors) == b"" and b"compiled" not in printed.errors
+    checks.expect("says that it isn't the proved program, and compiles nothing", printed, is_said)
+
+
+def look_at_long_report(checks, copy):
+    printed = run([copy / "eevdf", "solo", "--history"], LONG)
+    lines = printed.out.count(LINE), printed.out.count(DEED)
+    is_whole = (printed.status, lines) == (0, (TICKS, TICKS)) and len(printed.out) > MOST_OF_A_TRY
+    why = f"status {printed.status}, {len(printed.out)} bytes, {lines} lines, errors {printed.errors[-1000:]!r}"
+    checks.look(f"prints {len(printed.out)} bytes", None if is_whole else why)
+
+
+@contextmanager
+def changed(copy, more):
+    """A source of the copy has more text at its end meanwhile."""
+    source = copy / SOURCE
+    text = source.read_bytes()
+    source.write_bytes(text + more)
+    try:
+        yield
+    finally:
+        source.write_bytes(text)
+
+
+def look_at_wrong_source(checks, copy):
+    with changed(copy, b"fn (\n"):
+        printed = launch(copy, WORKLOAD, seconds=PATIENCE)
+    is_told = f"{SOURCE}:".encode() in printed.errors and b"Traceback" not in printed.errors
+    checks.expect("says where a source doesn't compile", printed, (printed.status, printed.out) == (3, b"") and is_told)
+
+
+def end_run(copy, folder, number):
+    """Ends a run that compiles, by a signal: how it ended, what it had begun and what it left."""
+    with open(WORKLOAD, "rb") as given:
+        words = [copy / "eevdf", "solo"]
+        process = subprocess.Popen(words, stdin=given, env={**os.environ, "TMPDIR": str(folder)}, stderr=subprocess.DEVNULL)
+    time.sleep(ENDED_AFTER)
     begun = os.listdir(folder)
-    killed.kill()
-    killed.wait()
+    process.send_signal(number)
+    status = process.wait()
     deadline = time.monotonic() + CLEARED
     while os.listdir(folder) and time.monotonic() < deadline:
         time.sleep(0.1)
-    left = os.listdir(folder)
-    checks.look("leaves nothing where it is killed", f"{left} of {begun}" if left or not begun else None)
+    return status, begun, os.listdir(folder)
 
 
-def look_at_examples(checks, copy, cases):
-    """The answers to the workloads of examples/."""
-    cases.mkdir()
-    wanted = {}
-    for workload in sorted((TOP / "examples").glob("*.toml")):
-        case, text = cases / workload.stem, workload.read_bytes()
-        wanted[workload.stem] = stored(workload.with_suffix(".out"))
-        case.write_bytes(text)
-        case.with_suffix(".args").write_text("".join(f"{word}\n" for word in words_of(text)))
-        case.with_suffix(".stdout").write_bytes(wanted[workload.stem].out)
-    tried = run(["rt", "try", "--cases", cases], seconds=PATIENCE, cwd=copy / "crates" / "eevdf")
-    said = tried.out + tried.errors
-    if OLDER in said:
-        checks.leave_out("answers the workloads of examples/", "this kit's rt try takes no --cases")
-        return
-    answered = {name.decode(): int(status) for name, status in CASE.findall(said)}
-    wrong = [name for name, printed in wanted.items() if answered.get(name) != printed.status]
-    checks.look(f"answers the {len(wanted)} workloads of examples/", wrong and f"not {wrong}: {said[-3000:].decode(errors='replace')}")
+def look_at_ended(checks, copy, folder):
+    """What a run leaves that is ended while it compiles a source that was changed."""
+    folder.mkdir()
+    kept = kept_in(copy)
+    for number in (signal.SIGTERM, signal.SIGKILL):
+        with changed(copy, b"// changed\n"):
+            status, begun, left = end_run(copy, folder, number)
+        is_right = status == -number and begun and not left and kept_in(copy) == kept
+        checks.look(f"leaves nothing where {number.name} ends it", None if is_right else f"status {status}, {left} of {begun}")
+    printed = launch(copy, WORKLOAD)
+    checks.expect("answers as before where the source is as before", printed, is_stored(printed, WORKLOAD))
+
+
+def look_at_build(checks, copy):
+    """`./build` without a word, and with a wrong one where its input is a folder."""
+    for words, streams, status in (("", "", 2), ("nothing-like-it", "</", 3)):
+        printed = run(["bash", "-c", f'exec "$@" {streams}', "bash", copy / "build", *words.split()])
+        is_told = printed.errors.count(b"\n") == 1 and b"crates.txt" in printed.errors
+        checks.expect(f"./build {words} {streams}".strip(), printed, (printed.status, printed.out) == (status, b"") and is_told)
 
 
 def main():
@@ -89,8 +159,12 @@ def main():
         copy = Path(held) / "tree"
         shutil.copytree(TOP, copy, ignore=shutil.ignore_patterns(".git", "out", "must-fail"), symlinks=True)
         look_at_first(checks, copy)
-        look_at_killed(checks, copy, Path(held) / "killed")
-        look_at_examples(checks, copy, Path(held) / "cases")
+        look_at_kept(checks, copy)
+        look_at_long_report(checks, copy)
+        look_at_streams(checks, "./eevdf, unbuilt", copy / "eevdf")
+        look_at_wrong_source(checks, copy)
+        look_at_ended(checks, copy, Path(held) / "ended")
+        look_at_build(checks, copy)
     return checks.end()
 
 

@@ -1,0 +1,135 @@
+"""Compiles a program without a proof, by `rt try`. That compiles it with checks, runs it and removes it; so it is given a text that takes
+the program a second to read, and is opened meanwhile."""
+
+import os
+import re
+import shutil
+import signal
+import subprocess
+import tempfile
+import time
+from contextlib import contextmanager, suppress
+from pathlib import Path
+
+from crate_copies import folder_of
+
+# The program reads all of it before it refuses it.
+LONG_TEXT = b"\n" * 1000000
+# The first bytes of a file that can be run, and where they have its kind: a program at a fixed address, or at any.
+ELF, KIND_AT, KINDS = b"\x7fELF", 16, (2, 3)
+# How many seconds there are between two looks whether it is there.
+PAUSE = 0.02
+# `rt try` says in its last line how the program has run, or that none has.
+HAS_RUN = re.compile(r"^run=(?!none ).*\n\Z", re.MULTILINE)
+
+
+class NotCompiled(Exception):
+    """What `rt try` says where it has compiled no program."""
+
+
+class Ended(BaseException):
+    """This process is to end, by the signal of this number."""
+
+
+class Keeper:
+    """A process that ends `rt` and removes its folder where this process ends before it could do so itself."""
+
+    WAITS = 'cat >/dev/null; kill "$1" && while kill -0 "$1"; do sleep 0.1; done; rm -rf "$2"'
+
+    def __init__(self, rt, folder):
+        words = ["sh", "-c", self.WAITS, "keeper", str(rt.pid), folder]
+        quiet = {"stdout": subprocess.DEVNULL, "stderr": subprocess.DEVNULL}
+        self.process = subprocess.Popen(words, stdin=subprocess.PIPE, start_new_session=True, **quiet)
+
+    def dismiss(self):
+        self.process.kill()
+        self.process.wait()
+
+
+@contextmanager
+def ending_in_order():
+    """Signals that end this process are raised as Ended meanwhile, so that what was begun is ended first. One that is ignored stays so."""
+
+    def end(number, _):
+        raise Ended(number)
+
+    caught = [it for it in (signal.SIGINT, signal.SIGTERM, signal.SIGHUP) if signal.getsignal(it) != signal.SIG_IGN]
+    before = {it: signal.signal(it, end) for it in caught}
+    try:
+        yield
+    finally:
+        for it, handler in before.items():
+            signal.signal(it, handler)
+
+
+def words_of(program):
+    """The words with which the program reads a workload: those that the gate runs it with."""
+    file = folder_of(program) / "args"
+    return file.read_text().split() if file.is_file() else []
+
+
+def opened_program(path):
+    """The number of the open file, or None where it can't be run: `rt try` has other files beside the program."""
+    with suppress(OSError):
+        if path.is_file() and os.access(path, os.X_OK):
+            opened = os.open(path, os.O_RDONLY)
+            head = os.pread(opened, KIND_AT + 1, 0)
+            if head.startswith(ELF) and head[KIND_AT:] and head[KIND_AT] in KINDS:
+                return opened
+            os.close(opened)
+    return None
+
+
+def files_below(folder):
+    """What is below a folder, or nothing where a part of it goes meanwhile."""
+    try:
+        return sorted(Path(folder).rglob("*"))
+    except FileNotFoundError:
+        return []
+
+
+def wait_for_program(rt, folder):
+    """The open program, wherever below the folder `rt try` has it while it runs, or None where `rt` ends without one. It is whole once `rt`
+    has run it."""
+    while True:
+        has_ended = rt.poll() is not None
+        for path in files_below(folder):
+            opened = opened_program(path)
+            if opened is not None:
+                return opened
+        if has_ended:
+            return None
+        time.sleep(PAUSE)
+
+
+def try_program(program, folder, given, said):
+    """The open program, or None, after `rt try` has ended; what that says goes to a file."""
+    # the interpreter can't run these programs: its steps are few, and the run that is compiled with checks is awaited
+    rt = subprocess.Popen(["rt", "try", "--steps", "1", "--", *words_of(program)], cwd=folder_of(program), stdin=given,
+                          stdout=subprocess.DEVNULL, stderr=said, env={**os.environ, "TMPDIR": folder})
+    keeper = Keeper(rt, folder)
+    try:
+        compiled = wait_for_program(rt, folder)
+        rt.wait()
+        return compiled
+    finally:
+        rt.terminate()
+        rt.wait()
+        keeper.dismiss()
+
+
+def compile_program(program):
+    """The number of the open file of the program, which stands in no folder any more."""
+    with ending_in_order(), tempfile.TemporaryFile() as given, tempfile.TemporaryFile() as said:
+        given.write(LONG_TEXT)
+        given.seek(0)
+        folder = tempfile.mkdtemp(prefix=f"{program}-")
+        try:
+            compiled = try_program(program, folder, given, said)
+        finally:
+            shutil.rmtree(folder, ignore_errors=True)
+        said.seek(0)
+        text = said.read().decode(errors="replace")
+    if compiled is None or not HAS_RUN.search(text):
+        raise NotCompiled(text)
+    return compiled

@@ -1,0 +1,102 @@
+"""Programs that are compiled without a proof. Each is kept beside its sources, in crates/PROGRAM/out/unproved/ and under a name that is a
+digest of these, so it is taken as long as they stay as they are."""
+
+import fcntl
+import hashlib
+import os
+import shutil
+import subprocess
+from contextlib import contextmanager
+
+from crate_copies import TOP, folder_of, read_crates, read_lines, say, with_all_below
+from try_compiler import compile_program
+
+# Of 256 bits, in hexadecimal digits: enough for sources that nobody makes alike.
+DIGITS = 32
+
+
+def sources_of(crate):
+    """The files of a crate that `rt try` reads, in order: neither specs/ nor proofs/."""
+    return sorted(file for file in (folder_of(crate) / "src").rglob("*") if file.is_file())
+
+
+def digest_of(program):
+    """A digest of all that the program is compiled from: the kit, and of the program and each crate below it the line of crates.txt and
+    the files of src/."""
+    kit = subprocess.run(["rt", "version"], stdin=subprocess.DEVNULL, capture_output=True).stdout
+    lines = read_lines()
+    made_from = hashlib.sha256(kit)
+    for crate in with_all_below(read_crates(), [program]):
+        made_from.update(f"\n{crate}: {' '.join(lines[crate])}\n".encode())
+        for file in sources_of(crate):
+            text = file.read_bytes()
+            made_from.update(f"{file.relative_to(TOP)} {len(text)}\n".encode() + text)
+    return made_from.hexdigest()[:DIGITS]
+
+
+class Kept:
+    """Where a program is kept."""
+
+    def __init__(self, program):
+        self.program = program
+        self.folder = folder_of(program) / "out" / "unproved"
+
+    def open(self, digest):
+        """The number of the open file, or None where it isn't kept."""
+        try:
+            return os.open(self.folder / digest, os.O_RDONLY)
+        except OSError:
+            return None
+
+    @contextmanager
+    def alone(self):
+        """Waits until no other process compiles this program. Where nothing can be kept, there is nothing to wait for."""
+        try:
+            self.folder.mkdir(parents=True, exist_ok=True)
+            lock = os.open(self.folder / "lock", os.O_RDWR | os.O_CREAT, 0o644)
+        except OSError:
+            yield
+            return
+        try:
+            fcntl.flock(lock, fcntl.LOCK_EX)
+            yield
+        finally:
+            os.close(lock)
+
+    def keep(self, digest, compiled):
+        """Keeps an open program, in two steps, so that nobody takes half of it, and removes those of other sources."""
+        self.folder.mkdir(parents=True, exist_ok=True)
+        new = self.folder / "new"
+        try:
+            with open(compiled, "rb", closefd=False) as made, open(new, "wb") as copy:
+                shutil.copyfileobj(made, copy)
+            new.chmod(0o755)
+            os.replace(new, self.folder / digest)
+        finally:
+            for file in self.folder.iterdir():
+                if file.name not in ("lock", digest):
+                    file.unlink()
+
+
+def compile_and_keep(kept, digest):
+    """Compiles the program, and keeps it where that can be done. Sources that were changed meanwhile have another digest by now."""
+    compiled = compile_program(kept.program)
+    try:
+        if digest_of(kept.program) == digest:
+            kept.keep(digest, compiled)
+    except OSError as why:
+        say(kept.program, f"it isn't kept: {why.strerror}")
+    return compiled
+
+
+def open_program(program, before):
+    """The number of the open file of the program, compiled from the sources as they stand; `before` is called before it is compiled."""
+    kept, digest = Kept(program), digest_of(program)
+    compiled = kept.open(digest)
+    if compiled is not None:
+        return compiled
+    before()
+    with kept.alone():
+        # another process may have compiled it
+        compiled = kept.open(digest)
+        return compile_and_keep(kept, digest) if compiled is None else compiled
