@@ -49,7 +49,7 @@ put() {
 }
 
 put eevdf_queue parcel.rt 'let Parcel { node: _ } = self;' 'let _parcel = self;'
-put eevdf_queue queue_moves.rt 'None => Err(parcel),' 'None => Ok(()),'
+put eevdf_queue queue/moves.rt 'None => Err(parcel),' 'None => Ok(()),'
 put eevdf_ops local_acts.rt 'queue.put_asleep(parcel);' 'let _parcel = parcel;'
 put eevdf_ops transfers.rt 'home.put_asleep(parcel);' 'let _parcel = parcel;'
 put eevdf_ops transfers.rt 'queue.attach(parcel);' 'let _parcel = parcel;'

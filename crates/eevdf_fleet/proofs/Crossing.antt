@@ -8,7 +8,7 @@ use Rattle.std.proofs.marker.PhantomData.TheSendSync as phantom
 use Rattle.atomic_table.proofs.badge.Badge.TheSendSync as badge
 use Rattle.atomic_table.proofs.owned.Table.TheSendSync as table
 use Rattle.eevdf_queue.proofs.task_id.TaskId.TheSendSync as task
-use Rattle.eevdf_queue.proofs.tree_node.TreeNode.TheLaws.TheKnot as knot
+use Rattle.eevdf_queue.proofs.tree.node.TreeNode.TheLaws.TheKnot as knot
 use Rattle.eevdf_queue.specs.contracts.queue.Queue as Queue
 use Rattle.eevdf_ops.proofs.cpu_id.CpuId.TheSendSync as cpu
 use Rattle.eevdf_ops.proofs.deeds.Line.TheSendSync as line

@@ -2,7 +2,7 @@
 use Rattle.std.proofs.Common.{◌≡◌, ℕ, suc, ◌+◌, true, false, eqb, List, [], ◌∷◌, ◌++◌, None, refl, ap, ◌∙◌, sym, subst, arith}
 use Rattle.std.specs.Prelude.{is_some}
 use Rattle.std.proofs.lemmas.Bool.Decides.{nat_tests}
-use Rattle.eevdf_queue.specs.{declared.task.Task.Task, declared.tree_node.TreeNode.TheInside.Inside, NodeDepths.deeper, NodeDepths.depth_at}
+use Rattle.eevdf_queue.specs.{declared.task.Task.Task, declared.tree.node.TreeNode.TheInside.Inside, NodeDepths.deeper, NodeDepths.depth_at}
 use Rattle.eevdf_queue.specs.TaskLists.{has_number, find_task, DifferInNumber, AreRunnable}
 use Rattle.eevdf_queue.specs.TreeShape.{Tree, tasks_in, depths_in}
 use Rattle.eevdf_queue.specs.TreeNodes.{tasks_of, depths_of, tree_of}

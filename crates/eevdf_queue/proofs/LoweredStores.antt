@@ -1,7 +1,7 @@
 -- What the store of runnable tasks keeps when they are lowered by a number in virtual time.
 use Rattle.std.proofs.Common.{◌≡◌, ℕ, ◌<◌, ◌^◌, ◌≤◌, true, List, length, Option, Some, None, refl, sym, subst, ap, ◌∙◌}
 use Rattle.std.specs.{Prelude.ℤ, Prelude.pos, Prelude.◌-ℤ◌, Prelude.◌*ℤ◌, Prelude.unsigned_abs, Prelude.neg_ℤ, Option.option_map, FinMap.get}
-use Rattle.eevdf_queue.specs.{declared.task.Task.Task, declared.totals.Totals.Totals, declared.picked_task.PickedTask.PickedTask}
+use Rattle.eevdf_queue.specs.{declared.task.Task.Task, declared.tree.totals.Totals.Totals, declared.tree.picked_task.PickedTask.PickedTask}
 use Rattle.eevdf_queue.specs.{Numbers.number_limit, Sums.sum_weights, Sums.sum_moments, Pick.pick_of, NodeDepths.depths_by_number, TreeShape.Tree, TreeShape.IsFull}
 use Rattle.eevdf_queue.specs.TaskLists.{has_number, find_task, entries_of, runnable_in, AreRunnable}
 use Rattle.eevdf_queue.specs.TreeStores.{kept_at, timeless, AreTotals, IsKnown, IsPickAt, IsStillPick, IsRunnableTasks}

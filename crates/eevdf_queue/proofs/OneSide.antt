@@ -2,9 +2,9 @@
 use Rattle.std.proofs.Common.{◌≡◌, ℕ, suc, ◌+◌, ◌≤◌, true, false, cond, List, ◌∷◌, ◌++◌, length, refl, arith}
 use Rattle.std.specs.Prelude.{Option, Box}
 use Rattle.eevdf_queue.specs.{declared.task.Task.Task, TreeShape.Tree, TreeShape.tasks_in}
-use Rattle.eevdf_queue.specs.{declared.sides.Side.Side, declared.sides.Side.TheVariants.Left, declared.sides.Side.TheVariants.Right}
+use Rattle.eevdf_queue.specs.{declared.tree.sides.Side.Side, declared.tree.sides.Side.TheVariants.Left, declared.tree.sides.Side.TheVariants.Right}
 use Rattle.eevdf_queue.specs.{Sides.on_side, Sides.with_side}
-use Rattle.eevdf_queue.specs.{declared.tree_key.TreeKey.TreeKey, TreeNodes.NodeParts, TreeNodes.tasks_of}
+use Rattle.eevdf_queue.specs.{declared.tree.key.TreeKey.TreeKey, TreeNodes.NodeParts, TreeNodes.tasks_of}
 use Rattle.eevdf_queue.specs.{TreeLeast.least_of, TreeKeys.is_of, TreeKeys.is_under, TreeKeys.Holds}
 use Rattle.eevdf_queue.proofs.TreeSides.{IsBelow, IsEdited, below_left, below_right}
 use Rattle.eevdf_queue.proofs.TreeLengths.{few_left, few_right}

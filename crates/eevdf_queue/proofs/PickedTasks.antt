@@ -2,8 +2,8 @@
 use Rattle.std.proofs.Common.{◌≡◌, ◌<◌, ◌≤◌, ℕ, Bool, List, [], ◌∷◌, length, Option, Some, None, sym, ap, subst, ◌∙◌, arith}
 use Rattle.std.specs.{Prelude.ℤ, Prelude.IfSome, Option.option_map, Ordering.nat_cmp, FinMap.FinMap, FinMap.get, FinMap.len, FinMap.find, FinMap.get-from_entries, Cmp.nat_cmp_total}
 use Rattle.std.proofs.lemmas.Bool.Decides.{nat_tests}
-use Rattle.eevdf_queue.specs.{declared.entry.Entry.Entry, declared.task.Task.Task, declared.totals.Totals.Totals}
-use Rattle.eevdf_queue.specs.{declared.picked_task.Pick.Pick, declared.picked_task.PickedTask.PickedTask, declared.tree_key.TreeKey.TreeKey}
+use Rattle.eevdf_queue.specs.{declared.entry.Entry.Entry, declared.task.Task.Task, declared.tree.totals.Totals.Totals}
+use Rattle.eevdf_queue.specs.{declared.tree.picked_task.Pick.Pick, declared.tree.picked_task.PickedTask.PickedTask, declared.tree.key.TreeKey.TreeKey}
 use Rattle.eevdf_queue.specs.{Pick.pick_of, State.TasksInTree, TreeShape.IsFull, TreeShape.Tree}
 use Rattle.eevdf_queue.specs.{Numbers.number_limit, NodeDepths.depth_at, NodeDepths.depths_by_number, TaskLists.find_task, TaskLists.runnable_in, TaskLists.AreRunnable}
 use Rattle.eevdf_queue.specs.TreeTasks.{insert_task, first_that, IsAtDeadline}

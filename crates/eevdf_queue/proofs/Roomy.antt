@@ -5,7 +5,7 @@ use Rattle.std.proofs.Math.Nat.{mul-le-mul_right}
 use Rattle.std.proofs.{lemmas.Int.ints, lemmas.Int.unsigned_abs-mul, lemmas.Bool.Decides.nat_tests}
 use Rattle.eevdf_weight.specs.{Limits.is_in_range, Placement.floor_div, Placement.placement_of, Weight.weight_of}
 use Rattle.eevdf_weight.proofs.Weighing.{weight_of-greatest}
-use Rattle.eevdf_queue.specs.{declared.entry.Entry.Entry, declared.totals.Totals.Totals, State.State, State.Sleeper}
+use Rattle.eevdf_queue.specs.{declared.entry.Entry.Entry, declared.tree.totals.Totals.Totals, State.State, State.Sleeper}
 use Rattle.eevdf_queue.specs.{Sums.total_weight, Sums.total_moment, Lag.is_lag}
 use Rattle.eevdf_queue.specs.Moves.{request_of, fresh_entry, entry_in_range}
 use Rattle.eevdf_queue.specs.Placing.{placement, can_place, IsRoomy}

@@ -3,8 +3,8 @@ use Rattle.std.proofs.Common.{◌≡◌, ℕ, suc, ◌≤◌, true, List, [], le
 use Rattle.std.specs.{Prelude.ℤ, Prelude.max, Prelude.pos, Prelude.◌≤ℤ◌, Prelude.is_some, Option.option_map, Int.int_min}
 use Rattle.std.proofs.lemmas.Int.{ints, clamps}
 use Rattle.eevdf_queue.specs.{declared.entry.Entry.Entry, declared.task.Task.Task, TreeTasks.IsAtDeadline}
-use Rattle.eevdf_queue.specs.{declared.tree_least.Least.Least, TreeLeast.least_of, TreeLeast.lesser, TreeLeast.AreLow}
-use Rattle.eevdf_queue.specs.{declared.tree_node.TreeNode.TheInside.Inside, TreeNodes.IsNode, TreeNodes.tasks_of}
+use Rattle.eevdf_queue.specs.{declared.tree.least.Least.Least, TreeLeast.least_of, TreeLeast.lesser, TreeLeast.AreLow}
+use Rattle.eevdf_queue.specs.{declared.tree.node.TreeNode.TheInside.Inside, TreeNodes.IsNode, TreeNodes.tasks_of}
 use Rattle.eevdf_queue.specs.TreeShape.{height_in, DifferByAtMost, IsFull}
 
 abbrev pub aged_to : ℤ → Task → Entry

@@ -6,7 +6,7 @@ use Rattle.std.proofs.{lemmas.Int.ints, lemmas.Int.clamps}
 use Rattle.eevdf_queue.specs.{declared.task.Task.Task, Pick.is_eligible_at, TreeLeast.least_runtime, TreeLeast.AreLow}
 use Rattle.eevdf_queue.specs.{TreeTasks.first_that, TreeShape.tasks_in, TreeNodes.tasks_of, TreeNodes.IsNode}
 use Rattle.eevdf_queue.proofs.{AllTasks.all-append, Scaled.scaled_le}
-use Rattle.eevdf_queue.specs.{declared.tree_least.Least.Least, declared.tree_node.TreeNode.TheInside.Inside}
+use Rattle.eevdf_queue.specs.{declared.tree.least.Least.Least, declared.tree.node.TreeNode.TheInside.Inside}
 
 lower : (w : ℕ) (s a b : ℤ) → a ≤ℤ b → int_le (b *ℤ pos w) s ≡ true → int_le (a *ℤ pos w) s ≡ true
 lower w s a b h p = grind (arith, ints, scaled_le a b w h)

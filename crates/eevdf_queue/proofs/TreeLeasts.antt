@@ -3,7 +3,7 @@ use Rattle.std.proofs.Common.{◌≡◌, ℕ, true, false, cond, eqb, Option, So
 use Rattle.std.specs.Prelude.{ℤ, pos, ◌≤ℤ◌, ◌<ℤ◌, IfSome}
 use Rattle.std.specs.Int.{int_min}
 use Rattle.std.proofs.lemmas.Int.{ints, clamps}
-use Rattle.eevdf_queue.specs.{declared.entry.Entry.Entry, declared.task.Task.Task, declared.tree_least.Least.Least}
+use Rattle.eevdf_queue.specs.{declared.entry.Entry.Entry, declared.task.Task.Task, declared.tree.least.Least.Least}
 use Rattle.eevdf_queue.specs.{TaskLists.find_task, TaskLists.set_entry, TreeTasks.insert_task}
 use Rattle.eevdf_queue.specs.TreeLeast.{least_runtime, least_of, lesser}
 

@@ -3,7 +3,7 @@ use Rattle.std.proofs.Common.{◌≡◌, ℕ, ◌<◌, Bool, true, false, cond, 
 use Rattle.std.specs.{Prelude.ℤ, Prelude.pos, Prelude.is_some, Option.option_map, Ordering.nat_cmp, List.AllByRecursion}
 use Rattle.std.proofs.lemmas.Bool.Decides.{nat_tests}
 use Rattle.std.specs.FinMap.{FinMap, insert, remove, get}
-use Rattle.eevdf_queue.specs.{declared.entry.Entry.Entry, declared.task.Task.Task, declared.tree_key.TreeKey.TreeKey}
+use Rattle.eevdf_queue.specs.{declared.entry.Entry.Entry, declared.task.Task.Task, declared.tree.key.TreeKey.TreeKey}
 use Rattle.eevdf_queue.specs.Moves.{is_entry_in_range}
 use Rattle.eevdf_queue.specs.TaskLists.{has_number, find_task, runnable_in, AreRunnable}
 use Rattle.eevdf_queue.specs.TreeTasks.{insert_task, without, IsAtDeadline}

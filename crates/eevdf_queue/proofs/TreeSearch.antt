@@ -2,7 +2,7 @@
 use Rattle.std.proofs.Common.{◌≡◌, ℕ, Bool, true, false, cond, eqb, List, [], ◌∷◌, ◌++◌, Option, Some, None, refl, sym, subst, ap, ◌∙◌, arith}
 use Rattle.std.specs.Prelude.{is_some, nat_lt, int_lt, ◌&&◌, ◌||◌, not}
 use Rattle.std.proofs.{lemmas.Int.ints, lemmas.Bool.eqb-true, lemmas.Bool.Decides.nat_tests}
-use Rattle.eevdf_queue.specs.{declared.entry.Entry.Entry, declared.task.Task.Task, declared.tree_key.TreeKey.TreeKey}
+use Rattle.eevdf_queue.specs.{declared.entry.Entry.Entry, declared.task.Task.Task, declared.tree.key.TreeKey.TreeKey}
 use Rattle.eevdf_queue.specs.TaskLists.{first_with, has_number, find_task}
 use Rattle.eevdf_queue.specs.TreeKeys.{is_of, is_under}
 use Rattle.eevdf_queue.specs.TreeTasks.{precedes, AreOrdered, first_that, IsAtDeadline}

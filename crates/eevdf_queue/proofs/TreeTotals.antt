@@ -4,7 +4,7 @@ use Rattle.std.specs.Prelude.{ℤ, pos, ◌+ℤ◌, ◌*ℤ◌, unsigned_abs}
 use Rattle.std.specs.Option.{option_map}
 use Rattle.std.proofs.lemmas.Int.{ints}
 use Rattle.eevdf_weight.specs.Weight.{weight_of}
-use Rattle.eevdf_queue.specs.{declared.entry.Entry.Entry, declared.task.Task.Task, declared.totals.Totals.Totals}
+use Rattle.eevdf_queue.specs.{declared.entry.Entry.Entry, declared.task.Task.Task, declared.tree.totals.Totals.Totals}
 use Rattle.eevdf_queue.specs.{Sums.sum_weights, Sums.sum_moments, TreeStores.AreTotals, TreeStores.IsSummedStore}
 use Rattle.eevdf_queue.specs.TaskLists.{find_task, set_entry, entries_of}
 use Rattle.eevdf_queue.specs.TreeTasks.{insert_task, without}

@@ -1,7 +1,7 @@
 -- The two sides of a task, and what they are after one was lent and written to.
 use Rattle.std.specs.Borrow.{Lends, MutBor, Fml, RattleType}
-use Rattle.eevdf_queue.specs.{declared.sides.Side.Side, declared.sides.Side.TheVariants.Left, declared.sides.Side.TheVariants.Right}
-use Rattle.eevdf_queue.specs.{declared.sides.Sides.Sides, contracts.sides.Sides.the_row}
+use Rattle.eevdf_queue.specs.{declared.tree.sides.Side.Side, declared.tree.sides.Side.TheVariants.Left, declared.tree.sides.Side.TheVariants.Right}
+use Rattle.eevdf_queue.specs.{declared.tree.sides.Sides.Sides, contracts.tree.sides.Sides.the_row}
 
 module _ {L : Type 0} where
   -- what stands on a side

@@ -1,7 +1,7 @@
 -- What may have changed of a tree.
 use Rattle.std.specs.Prelude.{Bool, true, false}
-use Rattle.eevdf_queue.specs.declared.tree_change.TreeChange.{TreeChange}
-use Rattle.eevdf_queue.specs.declared.tree_change.TreeChange.TheVariants.{Nothing, LeastAlone, Height}
+use Rattle.eevdf_queue.specs.declared.tree.change.TreeChange.{TreeChange}
+use Rattle.eevdf_queue.specs.declared.tree.change.TreeChange.TheVariants.{Nothing, LeastAlone, Height}
 
 -- the height is what it was
 abbrev pub keeps_height : TreeChange → Bool

@@ -1,8 +1,8 @@
 -- Each side of a node has fewer tasks than the whole.
 use Rattle.std.specs.Prelude.{◌≤◌, ◌∷◌, ◌++◌, length, Some, None}
 use Rattle.std.proofs.Common.{arith, length-append}
-use Rattle.eevdf_queue.specs.{declared.task.Task.Task, declared.tree_node.TreeNode.TheInside.Inside}
-use Rattle.eevdf_queue.specs.{declared.tree_node.TreeNode.TheDeep.deep-TreeNode, TreeShape.tasks_in, TreeNodes.tasks_of}
+use Rattle.eevdf_queue.specs.{declared.task.Task.Task, declared.tree.node.TreeNode.TheInside.Inside}
+use Rattle.eevdf_queue.specs.{declared.tree.node.TreeNode.TheDeep.deep-TreeNode, TreeShape.tasks_in, TreeNodes.tasks_of}
 
 pub depth-le-length : (a : Inside) → deep-TreeNode a ≤ length (tasks_of a.parts)
 depth-le-length a =

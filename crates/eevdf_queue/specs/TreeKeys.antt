@@ -1,6 +1,6 @@
 -- Keys against tasks, and lists of tasks that hold a key.
 use Rattle.std.specs.Prelude.{◌≡◌, ◌≤◌, ◌^◌, true, List, length, is_some, nat_eq, nat_lt, int_lt, Bool, ◌&&◌, ◌||◌, not}
-use Rattle.eevdf_queue.specs.{declared.task.Task.Task, declared.tree_key.TreeKey.TreeKey}
+use Rattle.eevdf_queue.specs.{declared.task.Task.Task, declared.tree.key.TreeKey.TreeKey}
 use Rattle.eevdf_queue.specs.{TaskLists.find_task, TreeTasks.AreOrdered, TreeTasks.IsAtDeadline}
 
 -- the key is a task's own

@@ -1,7 +1,7 @@
 -- The least virtual runtime of some tasks.
 use Rattle.std.specs.Prelude.{ℤ, pos, ◌≤ℤ◌, List, [], ◌∷◌}
 use Rattle.std.specs.{Int.int_min, List.AllByRecursion}
-use Rattle.eevdf_queue.specs.{declared.task.Task.Task, declared.tree_least.Least.Least}
+use Rattle.eevdf_queue.specs.{declared.task.Task.Task, declared.tree.least.Least.Least}
 
 -- the least virtual runtime; of no task the greatest number of 64 bits
 abbrev pub least_runtime : List Task → ℤ

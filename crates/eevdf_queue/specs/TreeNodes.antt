@@ -1,7 +1,7 @@
 -- What holds of a node, and what it is seen as.
 use Rattle.std.specs.Prelude.{◌≡◌, ℕ, suc, ◌+◌, ◌≤◌, ◌^◌, max, List, ◌∷◌, ◌++◌, length, Option, Box}
-use Rattle.eevdf_queue.specs.{declared.tree_node.TreeNode.TheInside.Inside, NodeDepths.deeper}
-use Rattle.eevdf_queue.specs.{declared.task.Task.Task, declared.parts.Parts.Parts, declared.parts.Kept.Kept, TreeLeast.least_of, TreeLeast.AreLow}
+use Rattle.eevdf_queue.specs.{declared.tree.node.TreeNode.TheInside.Inside, NodeDepths.deeper}
+use Rattle.eevdf_queue.specs.{declared.task.Task.Task, declared.tree.parts.Parts.Parts, declared.tree.parts.Kept.Kept, TreeLeast.least_of, TreeLeast.AreLow}
 use Rattle.eevdf_queue.specs.TreeShape.{Tree, tasks_in, height_in, depths_in, DifferByAtMost, IsFull, IsHeightOfBalanced}
 
 -- a task and the links on either side of it

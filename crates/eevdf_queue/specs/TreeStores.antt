@@ -1,7 +1,7 @@
 -- What the stores over trees keep.
 use Rattle.std.specs.Prelude.{◌≡◌, ◌<◌, ◌≤◌, ◌+ℤ◌, ◌*ℤ◌, ℕ, ℤ, pos, List, Some, length, slice_index_or}
 use Rattle.std.specs.{Option.option_map, List.AllByRecursion, FinMap.get}
-use Rattle.eevdf_queue.specs.{declared.picked_task.PickedTask.PickedTask, declared.task.Task.Task, declared.totals.Totals.Totals, declared.tree_key.TreeKey.TreeKey}
+use Rattle.eevdf_queue.specs.{declared.tree.picked_task.PickedTask.PickedTask, declared.task.Task.Task, declared.tree.totals.Totals.Totals, declared.tree.key.TreeKey.TreeKey}
 use Rattle.eevdf_queue.specs.{Numbers.number_limit, Sums.sum_weights, Sums.sum_moments}
 use Rattle.eevdf_queue.specs.TaskLists.{find_task, entries_of, runnable_in, AreRunnable}
 use Rattle.eevdf_queue.specs.{Pick.pick_of, NodeDepths.depths_by_number, TreeShape.IsFull, TreeShape.Tree}

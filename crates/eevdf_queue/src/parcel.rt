@@ -6,7 +6,7 @@ use crate::entry::Entry;
 use crate::sleeper::Sleeper;
 use crate::task::{Task, sleeper_of, with_slice};
 use crate::task_id::TaskId;
-use crate::tree_node::TreeNode;
+use crate::tree::node::TreeNode;
 use eevdf_weight::{Nice, Slice};
 use std::alloc::{AllocError, Global};
 use std::fmt;

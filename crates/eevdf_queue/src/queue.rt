@@ -7,26 +7,40 @@ ghost use Rattle.eevdf_queue.specs.Leaving.{IsNowhere};
 ghost use Rattle.eevdf_queue.specs.Candidate as candidates;
 ghost use Rattle.eevdf_queue.specs.Lag as lags;
 
+mod closing;
+mod moves;
+mod offer;
+mod placing;
+mod rebase;
+mod renice;
+mod slice;
+mod tasks;
+mod time_to_use_up;
+mod tried_moves;
+mod turns;
+
 use crate::entry::Entry;
 use crate::lag::kept_lag;
-use crate::runnable_tasks::RunnableTasks;
 use crate::sleeper::Sleeper;
 use crate::sleepers::Sleepers;
 use crate::task_id::TaskId;
-use crate::totals::time_over;
+use crate::tree::runnable_tasks::RunnableTasks;
+use crate::tree::totals::time_over;
+pub use offer::Offer;
 use std::marker::Model;
+pub use tasks::{Runnable, Sleeping};
 
 /// The run queue of one CPU. It has 24672 bytes on x86-64, whatever it holds, and each of its tasks 152 more, in a node.
 #[derive(Drop)]
 pub struct Queue {
-    pub(crate) runnable: RunnableTasks,
-    pub(crate) asleep: Sleepers,
-    pub(crate) base: i64,
-    pub(crate) running: Option<TaskId>,
+    runnable: RunnableTasks,
+    asleep: Sleepers,
+    base: i64,
+    running: Option<TaskId>,
     /// The turns of the last pick. With 32 bits they would leave no room for the count, and a queue would have 16 bytes more.
-    pub(crate) turns: u16,
+    turns: u16,
     /// How many tasks sleep here.
-    pub(crate) asleep_count: u16,
+    asleep_count: u16,
 }
 
 impl Model for Queue {

@@ -7,7 +7,7 @@ use crate::parcel::Parcel;
 use crate::sleeper::Sleeper;
 use crate::task::sleeper_of;
 use crate::task_id::TaskId;
-use crate::tree_node::TreeNode;
+use crate::tree::node::TreeNode;
 use std::array;
 use std::marker::Model;
 

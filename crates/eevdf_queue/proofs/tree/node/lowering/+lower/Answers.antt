@@ -1,0 +1,106 @@
+use Rattle.std.proofs.Common.{◌≡◌, ◌∙◌, ◌<◌, ◌≤◌, ◌^◌, ◌∷◌, ◌++◌, ◌&&◌, Bool, List, length, to_z, of_z, ap, sym, subst, arith, rules, length-append}
+use Rattle.std.specs.{Prelude.ℤ, Prelude.◌-ℤ◌, Prelude.unsigned_abs, List.AllByRecursion}
+use Rattle.std.proofs.lemmas.Int.{ints, to_z-of_z}
+use mir.Syntax.{w64}
+use mir.Val.{SFits}
+use Rattle.eevdf_queue.specs.{declared.task.Task.Task, Moves.is_entry_in_range, TreeShape.tasks_in, TreeShape.depths_in, TreeNodes.tasks_of, TreeNodes.depths_of}
+use Rattle.eevdf_queue.specs.TreeLowering.{IsNear, lowered_task, lowered_list, are_tasks_in_range}
+use Rattle.eevdf_queue.specs.TreeStores.{kept_at}
+use Rattle.eevdf_queue.proofs.{AllTasks.all-left, AllTasks.all-right}
+use Rattle.eevdf_queue.proofs.LoweredLists.{around_lowered, depths_lowered, noted_around, in_range-around}
+use Rattle.eevdf_queue.proofs.tree.node.lowering.+lower.Goals as goal
+
+near_left : (ts xs : List Task) (t : Task) (ys : List Task) → ts ≡ xs ++ t ∷ ys → AllByRecursion IsNear ts → AllByRecursion IsNear xs
+near_left ts xs t ys e h = all-left IsNear xs (t ∷ ys) (subst (AllByRecursion IsNear) e h)
+
+near_right : (ts xs : List Task) (t : Task) (ys : List Task) → ts ≡ xs ++ t ∷ ys → AllByRecursion IsNear ts → AllByRecursion IsNear (t ∷ ys)
+near_right ts xs t ys e h = all-right IsNear xs (t ∷ ys) (subst (AllByRecursion IsNear) e h)
+
+fewer_left : (ts xs : List Task) (t : Task) (ys : List Task) → ts ≡ xs ++ t ∷ ys → length xs < length ts
+fewer_left ts xs t ys e = omega (arith, ap (λ (z : List Task). length z) e, length-append {A = Task})
+
+fewer_right : (ts xs : List Task) (t : Task) (ys : List Task) → ts ≡ xs ++ t ∷ ys → length ys < length ts
+fewer_right ts xs t ys e = omega (arith, ap (λ (z : List Task). length z) e, length-append {A = Task})
+
+three : (a b c a' b' c' r : Bool) → r ≡ (a && (b && c)) → a ≡ a' → b ≡ b' → c ≡ c' → r ≡ (a' && (b' && c'))
+three a b c a' b' c' r h i j k = grind arith
+
+pub lower-right-requires : goal.lower-right-requires
+lower-right-requires t c =
+    let e : tasks_in c.args.link.now ≡ tasks_of c.node.inside.parts = cc in
+    let f = fewer_right (tasks_in c.args.link.now) (tasks_in c.node.inside.parts.sides.left) c.node.inside.parts.task (tasks_in c.node.inside.parts.sides.right) e in (
+      omega (arith, f),
+      (
+        (near_right (tasks_in c.args.link.now) (tasks_in c.node.inside.parts.sides.left) c.node.inside.parts.task (tasks_in c.node.inside.parts.sides.right) e c.requires.near).1,
+        subst (λ (z : ℤ). unsigned_abs z ≤ 2 ^ 60) (sym (to_z-of_z w64 c.args.by c.ranges.by)) c.requires.small,
+      ),
+    )
+
+pub lower_task-own-requires-clause-near : goal.lower_task-own-requires-clause-near
+lower_task-own-requires-clause-near t c =
+    let e : tasks_in c.args.link.now ≡ tasks_of c.node.inside.parts = cc in
+    (near_right (tasks_in c.args.link.now) (tasks_in c.node.inside.parts.sides.left) c.node.inside.parts.task (tasks_in c.node.inside.parts.sides.right) e c.requires.near).0
+
+apart_by : (d by : ℤ) → unsigned_abs d ≤ 2 ^ 61 → unsigned_abs by ≤ 2 ^ 60 → unsigned_abs (d -ℤ by) < 2 ^ 62
+apart_by d by h k = omega (arith, ints)
+
+lowered_near : (t u : Task) (by : ℤ) → u ≡ lowered_task by t → IsNear t → unsigned_abs by ≤ 2 ^ 60 → (unsigned_abs u.entry.v < 2 ^ 62) × (unsigned_abs u.entry.d < 2 ^ 62)
+lowered_near t u by e n h =
+    subst (λ (z : Task). (unsigned_abs z.entry.v < 2 ^ 62) × (unsigned_abs z.entry.d < 2 ^ 62)) (sym e) (apart_by t.entry.v by n.0 h, apart_by t.entry.d by n.1 h)
+
+-- with the bound of v too, so that where another deadline is noted it is what the function ensures that fails
+pub note-requires : goal.note-requires
+note-requires t c =
+    let e : tasks_in c.args.link.now ≡ tasks_of c.node.inside.parts = cc in
+    let near = lowered_near c.node.inside.parts.task c.lower_task-own.new.task c.args.by
+    (c.lower_task-own.ensures.task ∙ ap (λ (z : ℤ). lowered_task z c.node.inside.parts.task) (to_z-of_z w64 c.args.by c.ranges.by))
+    (near_right (tasks_in c.args.link.now) (tasks_in c.node.inside.parts.sides.left) c.node.inside.parts.task (tasks_in c.node.inside.parts.sides.right) e c.requires.near).0 c.requires.small in
+    let fits : SFits w64 c.lower_task-own.new.task.entry.v = search rules in
+    omega (arith, near.0, near.1, ap unsigned_abs (to_z-of_z w64 c.lower_task-own.new.task.entry.v fits))
+
+pub lower-left-requires : goal.lower-left-requires
+lower-left-requires t c =
+    let e : tasks_in c.args.link.now ≡ tasks_of c.node.inside.parts = cc in
+    let f = fewer_left (tasks_in c.args.link.now) (tasks_in c.node.inside.parts.sides.left) c.node.inside.parts.task (tasks_in c.node.inside.parts.sides.right) e in (
+      omega (arith, f),
+      (
+        near_left (tasks_in c.args.link.now) (tasks_in c.node.inside.parts.sides.left) c.node.inside.parts.task (tasks_in c.node.inside.parts.sides.right) e c.requires.near,
+        subst (λ (z : ℤ). unsigned_abs z ≤ 2 ^ 60) (sym (to_z-of_z w64 c.args.by c.ranges.by)) c.requires.small,
+      ),
+    )
+
+pub returns-clause-tasks : goal.returns-clause-tasks
+returns-clause-tasks t c =
+    let e : tasks_in c.args.link.now ≡ tasks_of c.node.inside.parts = cc in
+    let b : to_z w64 (of_z w64 c.args.by) ≡ c.args.by = to_z-of_z w64 c.args.by c.ranges.by in
+    around_lowered c.args.by (tasks_in c.args.link.now) (tasks_in c.node.inside.parts.sides.left) (tasks_in c.node.inside.parts.sides.right) (tasks_in c.lower-left.new.link) (tasks_in c.lower-right.new.link)
+    c.node.inside.parts.task c.lower_task-own.new.task e
+    (c.lower-left.ensures.tasks ∙ ap (λ (z : ℤ). lowered_list z (tasks_in c.node.inside.parts.sides.left)) b)
+    (c.lower_task-own.ensures.task ∙ ap (λ (z : ℤ). lowered_task z c.node.inside.parts.task) b)
+    (c.lower-right.ensures.tasks ∙ ap (λ (z : ℤ). lowered_list z (tasks_in c.node.inside.parts.sides.right)) b)
+
+pub returns-clause-depths : goal.returns-clause-depths
+returns-clause-depths t c =
+    let e : depths_in c.args.link.now ≡ depths_of c.node.inside.parts = cc in
+    let b : to_z w64 (of_z w64 c.args.by) ≡ c.args.by = to_z-of_z w64 c.args.by c.ranges.by in
+    depths_lowered c.args.by (depths_in c.node.inside.parts.sides.left) (depths_in c.lower-left.new.link) (depths_in c.node.inside.parts.sides.right) (depths_in c.lower-right.new.link)
+    (tasks_in c.node.inside.parts.sides.left) (tasks_in c.lower-left.new.link) (tasks_in c.node.inside.parts.sides.right) (tasks_in c.lower-right.new.link) c.node.inside.parts.task c.lower_task-own.new.task
+    c.lower-left.ensures.depths
+    (c.lower-left.ensures.tasks ∙ ap (λ (z : ℤ). lowered_list z (tasks_in c.node.inside.parts.sides.left)) b)
+    (c.lower_task-own.ensures.task ∙ ap (λ (z : ℤ). lowered_task z c.node.inside.parts.task) b)
+    c.lower-right.ensures.depths
+    (c.lower-right.ensures.tasks ∙ ap (λ (z : ℤ). lowered_list z (tasks_in c.node.inside.parts.sides.right)) b)
+    ∙ sym e
+
+pub returns-clause-noted : goal.returns-clause-noted
+returns-clause-noted t c = λ q.
+    noted_around q (kept_at c.args.deadlines.now q) (kept_at c.lower-right.new.deadlines q) (kept_at c.note.new.self q) (kept_at c.lower-left.new.deadlines q)
+    (tasks_in c.lower-left.new.link) c.lower_task-own.new.task (tasks_in c.lower-right.new.link)
+    (c.lower-right.ensures.noted q) (c.note.ensures q) (c.lower-left.ensures.noted q)
+
+pub returns-clause-in_range : goal.returns-clause-in_range
+returns-clause-in_range t c =
+    three c.lower-left.result c.lower_task-own.result c.lower-right.result
+    (are_tasks_in_range (tasks_in c.lower-left.new.link)) (is_entry_in_range c.lower_task-own.new.task.entry) (are_tasks_in_range (tasks_in c.lower-right.new.link))
+    c.all.result c.all.ensures c.lower-left.ensures.in_range c.lower_task-own.ensures.in_range c.lower-right.ensures.in_range
+    ∙ sym (in_range-around (tasks_in c.lower-left.new.link) c.lower_task-own.new.task (tasks_in c.lower-right.new.link))

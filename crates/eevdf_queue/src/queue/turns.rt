@@ -1,0 +1,159 @@
+//! Which task of a queue runs, and what it is charged.
+
+ghost use Rattle.std.specs.Prelude.{◌≡◌, ◌<◌, ◌≤◌, ◌↔◌, ◌+◌, ◌/◌, ◌^◌, true, Some, IfSome, IsNone};
+ghost use Rattle.std.specs.Option.{option_map};
+ghost use Rattle.std.specs.FinMap as map;
+ghost use Rattle.eevdf_queue.specs.Moves as moves;
+ghost use Rattle.eevdf_queue.specs.Pick.{IsPick, pick_of, after_pick, view_after_pick};
+ghost use Rattle.eevdf_queue.specs.Tick as ticks;
+ghost use Rattle.eevdf_queue.specs.TimeToResched.{IsShortest, ends_request};
+ghost use Rattle.eevdf_queue.specs.Yield as yields;
+
+use crate::answers::{TickAnswer, YieldAnswer};
+use crate::entry::Entry;
+use crate::queue::Queue;
+use crate::queue::time_to_use_up::time_to_use_up;
+use crate::request::{charged, is_deadline_in_range, yielded};
+use crate::task_id::TaskId;
+use crate::tree::picked_task::Pick;
+use eevdf_weight::Ns;
+
+/// The task that runs, with its entry.
+#[derive(Clone, Copy)]
+struct Runner {
+    task: TaskId,
+    entry: Entry,
+}
+
+impl Queue {
+    /// Lets the eligible task of earliest virtual deadline run, the lower number where deadlines are equal.
+    /// `None` exactly when nothing is runnable. With `n` runnable tasks, the descent to it in the tree takes `k`
+    /// turns such that `2 ^ (k / 2) <= n + 1`: as many as its node is deep, where the root's depth is 1. Where no task was
+    /// put in, taken out, charged or given another entry since the last pick, its answer still holds, with its turns, and
+    /// no descent is made.
+    pub fn pick(&mut self) -> Option<TaskId>
+        ensures number { result ≡ pick_of self.old.state.runnable }
+        ensures picked { IfSome result (IsPick self.old.state.runnable) }
+        ensures none { IsNone result ↔ (self.old.state.runnable ≡ map.empty) }
+        ensures after { self.new.state ≡ after_pick self.old.state }
+        ensures no_turns { IsNone result → self.new.turns ≡ 0 }
+        ensures turns { IfSome result (λ _. 1 ≤ self.new.turns) }
+        ensures few_turns { IfSome result
+            (λ _. 2 ^ (self.new.turns / 2) ≤ map.len self.old.state.runnable + 1) }
+        ensures depth { IfSome result (λ t. map.get self.old.depths t ≡ Some self.new.turns) }
+        ensures seen { self.new ≡ view_after_pick self.old }
+    {
+        self.runnable.keeps();
+        if let Some(known) = self.runnable.known_pick() {
+            return Some(self.run(known));
+        }
+        let Some(first) = self.runnable.pick() else {
+            self.turns = 0;
+            return None;
+        };
+        Some(self.run(first))
+    }
+
+    /// The task that a pick would let run now; nothing changes. Where it isn't the running one, as it may be after a wake, that
+    /// one is to be preempted. `None` exactly when nothing is runnable. It takes no more than a pick, and no descent where a
+    /// pick would make none.
+    pub fn peek(&self) -> Option<TaskId>
+        ensures number { result ≡ pick_of self.now.state.runnable }
+        ensures picked { IfSome result (IsPick self.now.state.runnable) }
+        ensures none { IsNone result ↔ (self.now.state.runnable ≡ map.empty) }
+    {
+        self.runnable.peek()
+    }
+
+    /// Lets the task of a pick run.
+    #[inline(always)]
+    fn run(&mut self, pick: Pick) -> TaskId
+        requires here { map.contains_key self.old.state.runnable pick.task ≡ true }
+        requires few { pick.turns < 2 ^ 16 }
+        ensures task { result ≡ pick.task }
+        ensures after { self.new.state ≡ record self.old.state { running = Some pick.task } }
+        ensures turns { self.new.turns ≡ pick.turns }
+        ensures depths { self.new.depths ≡ self.old.depths }
+    {
+        self.running = Some(pick.task);
+        self.turns = pick.turns as u16;
+        pick.task
+    }
+
+    /// Charges the running task for `ns`, and gives it a fresh request where it has used up its own. Nobody
+    /// else is picked.
+    pub fn tick(&mut self, ns: Ns) -> TickAnswer
+        ensures answer { result ≡ (ticks.tick self.old.state ns).0 }
+        ensures after { self.new.state ≡ (ticks.tick self.old.state ns).1 }
+        ensures turns { self.new.turns ≡ self.old.turns }
+    {
+        let Some(runner) = self.runner() else {
+            return TickAnswer::Idle;
+        };
+        let charged = charged(&runner.entry, ns);
+        if !charged.resched {
+            self.runnable
+                .age(runner.task, &runner.entry, &charged.entry);
+            return TickAnswer::Charged {
+                task: runner.task,
+                resched: false,
+            };
+        }
+        if !is_deadline_in_range(&charged.entry) {
+            return TickAnswer::Range;
+        }
+        self.runnable
+            .renew(runner.task, &runner.entry, charged.entry);
+        TickAnswer::Charged {
+            task: runner.task,
+            resched: true,
+        }
+    }
+
+    /// The shortest tick that uses up the running task's request: one of that length answers that it is time to pick, and no
+    /// shorter one does. A timer that is set to it makes periodic ticks needless. `None` exactly where nobody runs, or where the
+    /// longest tick, of a second, leaves some of the request. Where the fresh request would be out of range, a tick of that
+    /// length answers `Range`.
+    pub fn time_to_resched(&self) -> Option<Ns>
+        ensures { IsShortest (λ ns. ends_request (ticks.tick self.now.state ns).0) result }
+    {
+        let Some(runner) = self.runner() else {
+            return None;
+        };
+        time_to_use_up(&runner.entry)
+    }
+
+    /// Makes the running task's deadline one request later: by its slice, charged to its weight. The task runs
+    /// on until the next pick. Nothing has changed where the answer isn't `Yielded`.
+    pub fn yield_now(&mut self) -> YieldAnswer
+        ensures answer { result ≡ (yields.yield_now self.old.state).0 }
+        ensures after { self.new.state ≡ (yields.yield_now self.old.state).1 }
+        ensures turns { self.new.turns ≡ self.old.turns }
+    {
+        let Some(runner) = self.runner() else {
+            return YieldAnswer::Idle;
+        };
+        let yielded = yielded(&runner.entry);
+        if !is_deadline_in_range(&yielded) {
+            return YieldAnswer::Range;
+        }
+        self.runnable.renew(runner.task, &runner.entry, yielded);
+        YieldAnswer::Yielded
+    }
+
+    /// The task that runs, with its entry.
+    fn runner(&self) -> Option<Runner>
+        ensures task { option_map (λ r. r.task) result ≡ self.now.state.running }
+        ensures entry { IfSome result (λ r. map.get self.now.state.runnable r.task ≡ Some r.entry) }
+        ensures in_range { IfSome result (λ r. moves.is_entry_in_range r.entry ≡ true) }
+    {
+        let Some(task) = self.running else {
+            return None;
+        };
+        self.runnable.keeps();
+        let Some(entry) = self.runnable.get(task) else {
+            return None;
+        };
+        Some(Runner { task, entry })
+    }
+}
