@@ -23,7 +23,7 @@ sys.path.append(str(TOP / "tools"))
 from crate_copies import copy_crates, folder_of, read_crates, with_all_below  # noqa: E402
 
 # The crates of the tests.
-TESTS = ("eevdf_rows", "workbench_rows")
+TESTS = ("eevdf_tests", "workbench_tests")
 # A test that has run for so many seconds is ended, and has failed. A right body takes a few.
 SECONDS = 30
 

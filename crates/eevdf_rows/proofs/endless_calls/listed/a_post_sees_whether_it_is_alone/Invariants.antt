@@ -1,4 +1,0 @@
-use Rattle.eevdf_rows.proofs.endless_calls.listed.a_post_sees_whether_it_is_alone.Given as goal
-
-abbrev pub ghosts-looks_at_its_ring : goal.ghosts-looks_at_its_ring
-ghosts-looks_at_its_ring g a = record { kit = a.kit }

@@ -1,4 +1,0 @@
-use Rattle.eevdf_rows.proofs.endless_calls.looks.a_look_shows_the_queue.Given as goal
-
-abbrev pub ghosts-looks_and_meets : goal.ghosts-looks_and_meets
-ghosts-looks_and_meets g a = record { kit = a.kit }
