@@ -13,7 +13,7 @@ use eevdf_weight::Ns;
 /// went down in the tree (`Queue::pick_steps`) is as that pick left it.
 pub fn take_turn(queue: &mut Queue, ticks: &[Ns])
     ensures state { queue.new.state ≡ after_turn queue.old.state ticks.now }
-    ensures turns { queue.new.turns ≡ (view_after_pick queue.old).turns }
+    ensures turns { queue.new.pick_depth ≡ (view_after_pick queue.old).pick_depth }
 {
     let _picked = queue.pick();
     for ns in ticks {

@@ -21,17 +21,17 @@ turns_of_pick q o turns e none some few =
     subst (λ (p : Option ℕ). MatchOption p (turns ≡ 0) (λ _. (1 ≤ turns) × (2 ^ (turns / 2) ≤ finite.len q.runnable + 1))) e
     (descent o (finite.len q.runnable) turns none some few)
 
-get_turns : (queues : List View) (k : ℕ) (q : View) → k < length queues → get_or (turns_of (set queues k q)) k 0 ≡ q.turns
+get_turns : (queues : List View) (k : ℕ) (q : View) → k < length queues → get_or (turns_of (set queues k q)) k 0 ≡ q.pick_depth
 get_turns [] k q h = absurd (omega arith)
 get_turns (x ∷ queues) zero q h = refl
 get_turns (x ∷ queues) (suc k) q h = get_turns queues k q (omega arith)
 
 -- what holds of the turns of a queue that was written
-turns_written : (P : State → ℕ → Type 0) (s s' : State) (queues : List View) (cpu k : ℕ) (q : View) → k ≡ cpu → k < length queues → s ≡ s' → P s q.turns → P s' (turns_at (set queues k q) cpu)
+turns_written : (P : State → ℕ → Type 0) (s s' : State) (queues : List View) (cpu k : ℕ) (q : View) → k ≡ cpu → k < length queues → s ≡ s' → P s q.pick_depth → P s' (turns_at (set queues k q) cpu)
 turns_written P s s' queues cpu k q at within e h =
-    let there : q.turns ≡ turns_at (set queues k q) cpu =
+    let there : q.pick_depth ≡ turns_at (set queues k q) cpu =
     sym (get_turns queues k q within) ∙ ap (λ (i : ℕ). turns_at (set queues k q) i) at in
-    subst (λ (n : ℕ). P s' n) there (subst (λ (r : State). P r q.turns) e h)
+    subst (λ (n : ℕ). P s' n) there (subst (λ (r : State). P r q.pick_depth) e h)
 
 abbrev HasTurnsOf : Act → State → ℕ → Type 0
 HasTurnsOf (act.Local a) q turns = HasActTurns a q turns
@@ -48,7 +48,7 @@ of_deed homes (Renice cpu task nice) m queues h = tt
 
 -- a deed on one queue sets its turns where it is a pick
 pub turns_of_deed : (homes : List ℕ) (deed : Deed) (a : LocalAct) (queues : List View) (cpu k : ℕ) (read written : View) → act_of homes deed ≡ act.Local a → decider deed ≡ cpu → k ≡ cpu → k < length queues
-    → HasActTurns a (get_or queues k read).state written.turns → HasPickTurns (machine_of queues) deed (set queues k written)
+    → HasActTurns a (get_or queues k read).state written.pick_depth → HasPickTurns (machine_of queues) deed (set queues k written)
 turns_of_deed homes deed a queues cpu k read written is own at within h =
     let there : HasActTurns a (queue_at (machine_of queues) cpu) (turns_at (set queues k written) cpu) =
     turns_written (HasActTurns a) (get_or queues k read).state (queue_at (machine_of queues) cpu) queues cpu k written at within (sym (queue_read queues cpu k read at within)) h in

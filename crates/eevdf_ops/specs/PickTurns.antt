@@ -18,7 +18,7 @@ HasActTurns other q turns = ⊤
 
 -- the turns of the last pick of each queue
 abbrev pub turns_of : List View → List ℕ
-turns_of queues = map (λ (q : View). q.turns) queues
+turns_of queues = map (λ (q : View). q.pick_depth) queues
 
 -- and of that of one CPU
 abbrev pub turns_at : List View → ℕ → ℕ

@@ -16,7 +16,7 @@ impl LocalAct {
     pub fn apply(self, queue: &mut Queue) -> Answer
         ensures answer { result ≡ (local_done self queue.old.state).0 }
         ensures after { queue.new.state ≡ (local_done self queue.old.state).1 }
-        ensures turns { HasActTurns self queue.old.state queue.new.turns }
+        ensures turns { HasActTurns self queue.old.state queue.new.pick_depth }
     {
         match self {
             LocalAct::Tick(ns) => Answer::from(queue.tick(ns)),

@@ -64,37 +64,37 @@ depth_first q rest = grind (arith, nat_tests)
 depth_rest : (q n : ℕ) (rest : List (ℕ × ℕ)) → eqb n q ≡ false → depth_at q ((n, 1) ∷ rest) ≡ depth_at q rest
 depth_rest q n rest h = grind (arith, nat_tests)
 
--- a part of a tree, to whose root so many turns lead from the tree's own
-pub record IsPart (turns : ℕ) (part : Tree) (whole : List (ℕ × ℕ)) : Type 0 where
+-- a part of a tree, to whose root so many levels lead from the tree's own
+pub record IsPart (levels : ℕ) (part : Tree) (whole : List (ℕ × ℕ)) : Type 0 where
   pub differ : DifferInNumber part.tasks
-  pub depths : (q : ℕ) → is_some (find_task q part.tasks) ≡ true → depth_at q whole ≡ turns + depth_at q part.depths
+  pub depths : (q : ℕ) → is_some (find_task q part.tasks) ≡ true → depth_at q whole ≡ levels + depth_at q part.depths
 
 pub itself : (tree : Tree) → DifferInNumber tree.tasks → IsPart 0 tree tree.depths
 itself tree d = record { differ = d; depths = λ q h. omega arith }
 
-one_more : (turns depth : ℕ) → turns + suc depth ≡ turns + 1 + depth
-one_more turns depth = omega arith
+one_more : (levels depth : ℕ) → levels + suc depth ≡ levels + 1 + depth
+one_more levels depth = omega arith
 
-module _ (a : Inside) (at : Tree) (v : tree_of a ≡ at) (turns : ℕ) (whole : List (ℕ × ℕ)) (p : IsPart turns at whole) where
+module _ (a : Inside) (at : Tree) (v : tree_of a ≡ at) (levels : ℕ) (whole : List (ℕ × ℕ)) (p : IsPart levels at whole) where
   parted : DifferInNumber (tasks_of a.parts)
   parted = subst (λ (z : Tree). DifferInNumber z.tasks) (sym v) p.differ
 
-  from_node : (q : ℕ) → is_some (find_task q (tasks_of a.parts)) ≡ true → depth_at q whole ≡ turns + depth_at q (depths_of a.parts)
-  from_node q h = subst (λ (z : Tree). is_some (find_task q z.tasks) ≡ true → depth_at q whole ≡ turns + depth_at q z.depths) (sym v) (p.depths q) h
+  from_node : (q : ℕ) → is_some (find_task q (tasks_of a.parts)) ≡ true → depth_at q whole ≡ levels + depth_at q (depths_of a.parts)
+  from_node q h = subst (λ (z : Tree). is_some (find_task q z.tasks) ≡ true → depth_at q whole ≡ levels + depth_at q z.depths) (sym v) (p.depths q) h
 
-  -- one turn more leads to each side
-  pub to_left : (side : Tree) → tasks_in a.parts.sides.left ≡ side.tasks → depths_in a.parts.sides.left ≡ side.depths → IsPart (turns + 1) side whole
+  -- one level more leads to each side
+  pub to_left : (side : Tree) → tasks_in a.parts.sides.left ≡ side.tasks → depths_in a.parts.sides.left ≡ side.depths → IsPart (levels + 1) side whole
   to_left side t e = record {
     differ = subst DifferInNumber t (differ_left (tasks_in a.parts.sides.left) (a.parts.task ∷ tasks_in a.parts.sides.right) parted);
     depths = λ q h.
         let here : is_some (find_task q (tasks_in a.parts.sides.left)) ≡ true = ap (λ (z : List Task). is_some (find_task q z)) t ∙ h in
         from_node q (present_left q (tasks_in a.parts.sides.left) (a.parts.task ∷ tasks_in a.parts.sides.right) here)
-        ∙ ap (λ (n : ℕ). turns + n) (deep_here q (depths_in a.parts.sides.left) (tasks_in a.parts.sides.left) ((a.parts.task.number, 1) ∷ deeper (depths_in a.parts.sides.right) (tasks_in a.parts.sides.right)) here)
-        ∙ one_more turns (depth_at q (depths_in a.parts.sides.left))
-        ∙ ap (λ (z : List (ℕ × ℕ)). turns + 1 + depth_at q z) e;
+        ∙ ap (λ (n : ℕ). levels + n) (deep_here q (depths_in a.parts.sides.left) (tasks_in a.parts.sides.left) ((a.parts.task.number, 1) ∷ deeper (depths_in a.parts.sides.right) (tasks_in a.parts.sides.right)) here)
+        ∙ one_more levels (depth_at q (depths_in a.parts.sides.left))
+        ∙ ap (λ (z : List (ℕ × ℕ)). levels + 1 + depth_at q z) e;
   }
 
-  pub to_right : (side : Tree) → tasks_in a.parts.sides.right ≡ side.tasks → depths_in a.parts.sides.right ≡ side.depths → IsPart (turns + 1) side whole
+  pub to_right : (side : Tree) → tasks_in a.parts.sides.right ≡ side.tasks → depths_in a.parts.sides.right ≡ side.depths → IsPart (levels + 1) side whole
   to_right side t e =
       let behind : DifferInNumber (a.parts.task ∷ tasks_in a.parts.sides.right) = differ_right (tasks_in a.parts.sides.left) (a.parts.task ∷ tasks_in a.parts.sides.right) parted in
       record {
@@ -103,21 +103,21 @@ module _ (a : Inside) (at : Tree) (v : tree_of a ≡ at) (turns : ℕ) (whole : 
             let here : is_some (find_task q (tasks_in a.parts.sides.right)) ≡ true = ap (λ (z : List Task). is_some (find_task q z)) t ∙ h in
             let there : is_some (find_task q (a.parts.task ∷ tasks_in a.parts.sides.right)) ≡ true = present_right q (a.parts.task ∷ []) (tasks_in a.parts.sides.right) here in
             from_node q (present_right q (tasks_in a.parts.sides.left) (a.parts.task ∷ tasks_in a.parts.sides.right) there)
-            ∙ ap (λ (n : ℕ). turns + n)
+            ∙ ap (λ (n : ℕ). levels + n)
             (deep_behind q (depths_in a.parts.sides.left) (tasks_in a.parts.sides.left) ((a.parts.task.number, 1) ∷ deeper (depths_in a.parts.sides.right) (tasks_in a.parts.sides.right))
             (not_left q (tasks_in a.parts.sides.left) (a.parts.task ∷ tasks_in a.parts.sides.right) parted there)
             ∙ depth_rest q a.parts.task.number (deeper (depths_in a.parts.sides.right) (tasks_in a.parts.sides.right)) (not_first q a.parts.task (tasks_in a.parts.sides.right) behind here)
             ∙ deep_last q (depths_in a.parts.sides.right) (tasks_in a.parts.sides.right) here)
-            ∙ one_more turns (depth_at q (depths_in a.parts.sides.right))
-            ∙ ap (λ (z : List (ℕ × ℕ)). turns + 1 + depth_at q z) e;
+            ∙ one_more levels (depth_at q (depths_in a.parts.sides.right))
+            ∙ ap (λ (z : List (ℕ × ℕ)). levels + 1 + depth_at q z) e;
       }
 
   -- and so deep is the node itself
-  pub at_root : depth_at a.parts.task.number whole ≡ turns + 1
+  pub at_root : depth_at a.parts.task.number whole ≡ levels + 1
   at_root =
       let here = present_first a.parts.task (tasks_in a.parts.sides.right) in
       from_node a.parts.task.number (present_right a.parts.task.number (tasks_in a.parts.sides.left) (a.parts.task ∷ tasks_in a.parts.sides.right) here)
-      ∙ ap (λ (n : ℕ). turns + n)
+      ∙ ap (λ (n : ℕ). levels + n)
       (deep_behind a.parts.task.number (depths_in a.parts.sides.left) (tasks_in a.parts.sides.left) ((a.parts.task.number, 1) ∷ deeper (depths_in a.parts.sides.right) (tasks_in a.parts.sides.right))
       (not_left a.parts.task.number (tasks_in a.parts.sides.left) (a.parts.task ∷ tasks_in a.parts.sides.right) parted here)
       ∙ depth_first a.parts.task.number (deeper (depths_in a.parts.sides.right) (tasks_in a.parts.sides.right)))

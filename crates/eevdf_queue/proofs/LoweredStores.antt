@@ -54,15 +54,15 @@ known_within table s p tree k below =
     runtime_within tree.tasks p.number p.runtime p.nice p.slice (find_task p.number tree.tasks) k.store.runnable refl (k.picked below)
 
 pick_lowered : (by : ℤ) (p p' : PickedTask) (tree tree' : Tree) → IsStillPick p tree → tree'.tasks ≡ lowered_list by tree.tasks → tree'.depths ≡ tree.depths
-    → p'.number ≡ p.number → p'.turns ≡ p.turns → IsStillPick p' tree'
+    → p'.number ≡ p.number → p'.depth ≡ p.depth → IsStillPick p' tree'
 pick_lowered by p p' tree tree' k e d n t = λ below some.
     let at = k (subst (λ (z : ℕ). z < number_limit) n below) (subst (λ (z : ℕ). 1 ≤ z) t some) in
-    subst (λ (z : ℕ). IsPickAt z p'.turns tree') (sym n)
+    subst (λ (z : ℕ). IsPickAt z p'.depth tree') (sym n)
     (subst (λ (z : ℕ). IsPickAt p.number z tree') (sym t)
     (record {
       pick = ap (λ (z : List Task). pick_of (runnable_in z)) e ∙ ap pick_of (seen-lowered by tree.tasks) ∙ pick-lowered by (runnable_in tree.tasks) ∙ at.pick;
       depth = ap (λ z. get (depths_by_number z) p.number) d ∙ at.depth;
-      low = subst (λ (z : ℕ). IsFull p.turns z) (sym (ap (λ (z : List Task). length z) e ∙ length-lowered by tree.tasks)) at.low;
+      low = subst (λ (z : ℕ). IsFull p.depth z) (sym (ap (λ (z : List Task). length z) e ∙ length-lowered by tree.tasks)) at.low;
     }))
 
 -- the whole store, where all stay in range
@@ -70,7 +70,7 @@ pub store_lowered : (by : ℤ) (table table' : List ℤ) (s r : Totals) (p p' : 
     → tree'.tasks ≡ lowered_list by tree.tasks → tree'.depths ≡ tree.depths → are_tasks_in_range tree'.tasks ≡ true
     → ((q : ℕ) → kept_at table' q ≡ noted_or (kept_at table q) (find_task q tree'.tasks))
     → r.weight ≡ s.weight → r.moment ≡ s.moment -ℤ (by *ℤ pos s.weight)
-    → (p.number < number_limit → p'.runtime ≡ p.runtime -ℤ by) → p'.number ≡ p.number → p'.nice ≡ p.nice → p'.slice ≡ p.slice → p'.turns ≡ p.turns
+    → (p.number < number_limit → p'.runtime ≡ p.runtime -ℤ by) → p'.number ≡ p.number → p'.nice ≡ p.nice → p'.slice ≡ p.slice → p'.depth ≡ p.depth
     → IsRunnableTasks table' r p' tree'
 store_lowered by table table' s r p p' tree tree' k e d range noted w m v n i l t =
     let runnable : AreRunnable tree'.tasks =
@@ -99,7 +99,7 @@ store_back table table' s p tree tree' k e d noted =
           record {
             pick = ap (λ (z : List Task). pick_of (runnable_in z)) e ∙ at.pick;
             depth = ap (λ z. get (depths_by_number z) p.number) d ∙ at.depth;
-            low = subst (λ (z : ℕ). IsFull p.turns z) (sym (ap (λ (z : List Task). length z) e)) at.low;
+            low = subst (λ (z : ℕ). IsFull p.depth z) (sym (ap (λ (z : List Task). length z) e)) at.low;
           };
     }
 

@@ -1,5 +1,5 @@
 -- A node after one of its sides has changed.
-use Rattle.std.proofs.Common.{◌≡◌, ℕ, suc, ◌+◌, ◌≤◌, true, false, cond, List, ◌∷◌, ◌++◌, length, refl, arith}
+use Rattle.std.proofs.Common.{◌≡◌, ℕ, suc, ◌+◌, ◌≤◌, true, false, cond, List, length, refl, arith}
 use Rattle.std.specs.Prelude.{Option, Box}
 use Rattle.eevdf_queue.specs.{declared.task.Task.Task, TreeShape.Tree, TreeShape.tasks_in}
 use Rattle.eevdf_queue.specs.{declared.tree.sides.Side.Side, declared.tree.sides.Side.TheVariants.Left, declared.tree.sides.Side.TheVariants.Right}

@@ -78,32 +78,32 @@ depth_seen : (tree : Tree) (w : TasksInTree) (t : ℕ) → IsSeen tree w → get
 depth_seen tree w t view = ap (λ (z : TasksInTree). get z.depths t) view
 
 -- the pick that a descent has found may be kept
-pub still_pick : (tree : Tree) (w : TasksInTree) (t turns : ℕ) → IsSeen tree w → AreRunnable tree.tasks → Some t ≡ pick_of w.tasks → IsFull turns (len w.tasks)
-    → get w.depths t ≡ Some turns → IsPickAt t turns tree
-still_pick tree w t turns view r pick full depth = record {
+pub still_pick : (tree : Tree) (w : TasksInTree) (t deep : ℕ) → IsSeen tree w → AreRunnable tree.tasks → Some t ≡ pick_of w.tasks → IsFull deep (len w.tasks)
+    → get w.depths t ≡ Some deep → IsPickAt t deep tree
+still_pick tree w t deep view r pick full depth = record {
   pick = ap pick_of (tasks_seen tree w view) ∙ sym pick;
   depth = depth_seen tree w t view ∙ depth;
-  low = subst (λ (z : ℕ). IsFull turns z) (len_seen tree w view r) full;
+  low = subst (λ (z : ℕ). IsFull deep z) (len_seen tree w view r) full;
 }
 
--- what is kept is the pick, and its turns are the depth of its node, and few
+-- what is kept is the pick, and its depth is that of its node, and low
 pub still_picked : (p : PickedTask) (tree : Tree) (w : TasksInTree) (q : Pick) → IsStillPick p tree → IsSeen tree w → AreRunnable tree.tasks
-    → (p.number < number_limit) × (1 ≤ p.turns) × (q.task ≡ p.number) × (q.turns ≡ p.turns)
-    → (Some q.task ≡ pick_of w.tasks) × IsFull q.turns (len w.tasks) × (get w.depths q.task ≡ Some q.turns)
-still_picked p tree w q h view r (known, positive, number, turns) =
+    → (p.number < number_limit) × (1 ≤ p.depth) × (q.task ≡ p.number) × (q.depth ≡ p.depth)
+    → (Some q.task ≡ pick_of w.tasks) × IsFull q.depth (len w.tasks) × (get w.depths q.task ≡ Some q.depth)
+still_picked p tree w q h view r (known, positive, number, deep) =
     let k = h known positive in (
       ap (λ (z : ℕ). Some z) number ∙ sym k.pick ∙ ap pick_of (tasks_seen tree w view),
-      subst (λ (z : ℕ). IsFull z (len w.tasks)) (sym turns) (subst (λ (z : ℕ). IsFull p.turns z) (sym (len_seen tree w view r)) k.low),
-      sym (depth_seen tree w q.task view) ∙ ap (get (depths_by_number tree.depths)) number ∙ k.depth ∙ ap (λ (z : ℕ). Some z) (sym turns),
+      subst (λ (z : ℕ). IsFull z (len w.tasks)) (sym deep) (subst (λ (z : ℕ). IsFull p.depth z) (sym (len_seen tree w view r)) k.low),
+      sym (depth_seen tree w q.task view) ∙ ap (get (depths_by_number tree.depths)) number ∙ k.depth ∙ ap (λ (z : ℕ). Some z) (sym deep),
     )
 
 -- a depth that isn't 0 is found under its number
-numbered_depth : (t turns : ℕ) (ds : List (ℕ × ℕ)) → turns ≡ depth_at t ds → 1 ≤ turns → find nat_cmp t ds ≡ Some turns
-numbered_depth t turns [] e p = absurd (omega arith)
-numbered_depth t turns (d ∷ ds) e p = grind (arith, nat_tests, same_number t d.0, numbered_depth t turns ds)
+numbered_depth : (t deep : ℕ) (ds : List (ℕ × ℕ)) → deep ≡ depth_at t ds → 1 ≤ deep → find nat_cmp t ds ≡ Some deep
+numbered_depth t deep [] e p = absurd (omega arith)
+numbered_depth t deep (d ∷ ds) e p = grind (arith, nat_tests, same_number t d.0, numbered_depth t deep ds)
 
-pub first_depth : {X : Type 0} (task turns : X → ℕ) (tree : Tree) (w : TasksInTree) (o : Option X) → IsSeen tree w → IfSome o (λ x. turns x ≡ depth_at (task x) tree.depths)
-    → IfSome o (λ x. 1 ≤ turns x) → IfSome o (λ x. get w.depths (task x) ≡ Some (turns x))
-first_depth task turns tree w None view e p = tt
-first_depth task turns tree w (Some x) view e p =
-    sym (depth_seen tree w (task x) view) ∙ get-from_entries nat_cmp_total tree.depths (task x) ∙ numbered_depth (task x) (turns x) tree.depths e p
+pub first_depth : {X : Type 0} (task deep : X → ℕ) (tree : Tree) (w : TasksInTree) (o : Option X) → IsSeen tree w → IfSome o (λ x. deep x ≡ depth_at (task x) tree.depths)
+    → IfSome o (λ x. 1 ≤ deep x) → IfSome o (λ x. get w.depths (task x) ≡ Some (deep x))
+first_depth task deep tree w None view e p = tt
+first_depth task deep tree w (Some x) view e p =
+    sym (depth_seen tree w (task x) view) ∙ get-from_entries nat_cmp_total tree.depths (task x) ∙ numbered_depth (task x) (deep x) tree.depths e p

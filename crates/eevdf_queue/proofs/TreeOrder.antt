@@ -2,7 +2,7 @@
 use Rattle.std.proofs.Common.{◌≡◌, append_assoc, true, false, cond, List, [], ◌∷◌, ◌++◌, Option, Some, None, Box, refl, sym, subst, ap, ◌∙◌, arith}
 use Rattle.std.specs.{Prelude.is_some, List.AllByRecursion}
 use Rattle.std.proofs.lemmas.Int.{ints}
-use Rattle.eevdf_queue.specs.{TaskLists.first_task, TreeShape.Tree, TreeShape.tasks_in, declared.task.Task.Task}
+use Rattle.eevdf_queue.specs.{TreeShape.Tree, TreeShape.tasks_in, declared.task.Task.Task}
 use Rattle.eevdf_queue.specs.TreeTasks.{precedes, PrecedesAll, AreOrdered, insert_task}
 use Rattle.eevdf_queue.proofs.{AllTasks.all-left, AllTasks.all-right, Earliest.told}
 

@@ -42,4 +42,4 @@ tasks_in_tree_code =
 abbrev pub view_code : Coded View
 view_code =
     code_by (State × (ℕ × DepthMap)) (coded× state_code (coded× coded_ℕ (map.code coded_ℕ coded_ℕ)))
-    (λ w. (w.state, (w.turns, w.depths))) (λ p. record { state = p.0; turns = p.1.0; depths = p.1.1 }) (λ _. refl)
+    (λ w. (w.state, (w.pick_depth, w.depths))) (λ p. record { state = p.0; pick_depth = p.1.0; depths = p.1.1 }) (λ _. refl)

@@ -9,7 +9,7 @@ abbrev pub depth_at : ℕ → List (ℕ × ℕ) → ℕ
 depth_at task [] = 0
 depth_at task (p ∷ ps) = if p.0 == task then p.1 else depth_at task ps
 
--- the nodes of the tasks of a side, each one turn further from the root than in that side
+-- the nodes of the tasks of a side, each one level further from the root than in that side
 abbrev pub deeper : List (ℕ × ℕ) → List Task → List (ℕ × ℕ)
 deeper side [] = []
 deeper side (t ∷ ts) = (t.number, suc (depth_at t.number side)) ∷ deeper side ts

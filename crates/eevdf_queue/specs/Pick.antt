@@ -39,11 +39,11 @@ picked_by q (Some t) = record q { running = Some t }
 abbrev pub after_pick : State → State
 after_pick q = picked_by q (pick_of q.runnable)
 
--- what is seen of the queue after it: the turns are how deep the pick's node stands, and 0 where there is no pick
+-- what is seen of the queue after it: the depth is that of the pick's node, and 0 where there is no pick
 abbrev pub view_picked_by : View → Option ℕ → View
 view_picked_by w pick = record {
   state = picked_by w.state pick;
-  turns = unwrap_or (option_and_then (map.get w.depths) pick) 0;
+  pick_depth = unwrap_or (option_and_then (map.get w.depths) pick) 0;
   depths = w.depths;
 }
 

@@ -20,11 +20,11 @@ pub record TasksInTree : Type 0 where
   pub tasks : map.FinMap nat_cmp Entry
   pub depths : map.FinMap nat_cmp ℕ
 
--- what is seen of a queue: its state, and beside it the turns that its last pick took and, of its tree, how deep the node
+-- what is seen of a queue: its state, and beside it how deep the node of its last pick stood and, of its tree, how deep the node
 -- of each runnable task stands
 pub record View : Type 0 where
   pub state : State
-  pub turns : ℕ
+  pub pick_depth : ℕ
   pub depths : map.FinMap nat_cmp ℕ
 
 abbrev pub empty_state : State

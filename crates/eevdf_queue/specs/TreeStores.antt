@@ -48,15 +48,15 @@ picked_timeless p = (p.runtime, p.nice, p.slice)
 abbrev pub IsKnown : PickedTask → List Task → Type 0
 IsKnown p ts = p.number < number_limit → option_map timeless (find_task p.number ts) ≡ Some (picked_timeless p)
 
--- while the turns of the descent to it are kept, the task that was picked last is the pick, and they are the depth of its
+-- while the depth of its node is kept, the task that was picked last is the pick, and this is the depth of its
 -- node, which is low
-pub record IsPickAt (task turns : ℕ) (tree : Tree) : Type 0 where
+pub record IsPickAt (task deep : ℕ) (tree : Tree) : Type 0 where
   pub pick : pick_of (runnable_in tree.tasks) ≡ Some task
-  pub depth : get (depths_by_number tree.depths) task ≡ Some turns
-  pub low : IsFull turns (length tree.tasks)
+  pub depth : get (depths_by_number tree.depths) task ≡ Some deep
+  pub low : IsFull deep (length tree.tasks)
 
 abbrev pub IsStillPick : PickedTask → Tree → Type 0
-IsStillPick p tree = p.number < number_limit → 1 ≤ p.turns → IsPickAt p.number p.turns tree
+IsStillPick p tree = p.number < number_limit → 1 ≤ p.depth → IsPickAt p.number p.depth tree
 
 -- all of it
 pub record IsRunnableTasks (table : List ℤ) (s : Totals) (p : PickedTask) (tree : Tree) : Type 0 where

@@ -49,14 +49,16 @@ pub fn rescaled_lag(lag: i64, entry: &Entry, nice: Nice) -> i64
     )
 }
 
-/// A lag times a weight, in 64 bits: a lag is at most 2^38, and a weight less than 2^17.
-#[tactic(auto, using(crate::proofs::Bounds::weighted_small))]
-fn product(lag: i64, weight: u64) -> i64
-    requires kept { unsigned_abs lag ≤ 2 ^ 38 }
+/// A distance in virtual time times a weight, in 64 bits: what a task ages at a time is at most 2^40, a lag at most 2^38, and a
+/// weight less than 2^17.
+#[tactic(auto, using(crate::proofs::Ageing::growth_small))]
+pub fn product(distance: i64, weight: u64) -> i64
+    requires near { unsigned_abs distance ≤ 2 ^ 40 }
     requires light { weight ≤ 88761 }
-    ensures { result ≡ lag *ℤ pos weight }
+    ensures value { result ≡ distance *ℤ pos weight }
+    ensures small { unsigned_abs result ≤ 2 ^ 57 }
 {
-    lag * weight as i64
+    distance * weight as i64
 }
 
 /// Such a product over a weight, rounded down, in 64 bits too: a division of wider numbers costs much more.

@@ -37,8 +37,9 @@ pub struct Queue {
     asleep: Sleepers,
     base: i64,
     running: Option<TaskId>,
-    /// The turns of the last pick. With 32 bits they would leave no room for the count, and a queue would have 16 bytes more.
-    turns: u16,
+    /// How deep the node of the last pick stood. With 32 bits it would leave no room for the count, and a queue would have 16
+    /// bytes more.
+    pick_depth: u16,
     /// How many tasks sleep here.
     asleep_count: u16,
 }
@@ -56,7 +57,7 @@ impl Model for Queue {
 
     ghost view = { λ a. record {
       state = record { runnable = a.runnable.tasks; running = a.running; asleep = a.asleep; base = a.base };
-      turns = a.turns;
+      pick_depth = a.pick_depth;
       depths = a.runnable.depths;
     } };
 
@@ -68,14 +69,14 @@ impl Model for Queue {
 impl Queue {
     /// A queue without tasks, at the virtual time 0. Takes no memory.
     pub fn open() -> Queue
-        ensures { result ≡ record { state = empty_state; turns = 0; depths = map.empty } }
+        ensures { result ≡ record { state = empty_state; pick_depth = 0; depths = map.empty } }
     {
         Queue {
             runnable: RunnableTasks::new(),
             asleep: Sleepers::new(),
             base: 0,
             running: None,
-            turns: 0,
+            pick_depth: 0,
             asleep_count: 0,
         }
     }
@@ -188,13 +189,13 @@ impl Queue {
         self.entry(task).is_some() || self.asleep(task)
     }
 
-    /// The turns of the descent to the task that the last pick answered: how deep its node stood in the tree, where the
+    /// The steps of the descent to the task that the last pick answered: how deep its node stood in the tree, where the
     /// root's depth is 1. They are `k` such that `2 ^ (k / 2) <= n + 1` with `n` tasks runnable at that pick. 0 where it
     /// answered none, and before the first pick.
     pub fn pick_steps(&self) -> u32
-        ensures { result ≡ self.now.turns }
+        ensures { result ≡ self.now.pick_depth }
     {
-        u32::from(self.turns)
+        u32::from(self.pick_depth)
     }
 
     /// Learns what every queue keeps.

@@ -21,7 +21,7 @@ impl Queue {
         ensures nowhere { IfSome result (λ parcel. IsNowhere self.new.state parcel.task) }
         ensures fewer { IfSome result
             (λ _. closing.task_count self.old.state ≡ suc (closing.task_count self.new.state)) }
-        ensures turns { self.new.turns ≡ self.old.turns }
+        ensures pick_depth { self.new.pick_depth ≡ self.old.pick_depth }
     {
         match self.peek() {
             Some(task) => Some(self.take(task)),
@@ -39,7 +39,7 @@ impl Queue {
         ensures nowhere { IfSome result (λ parcel. IsNowhere self.new.state parcel.task) }
         ensures fewer { IfSome result
             (λ _. closing.task_count self.old.state ≡ suc (closing.task_count self.new.state)) }
-        ensures turns { self.new.turns ≡ self.old.turns }
+        ensures pick_depth { self.new.pick_depth ≡ self.old.pick_depth }
     {
         let Some(first) = self.sleeping_tasks().next() else {
             return None;

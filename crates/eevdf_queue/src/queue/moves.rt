@@ -29,7 +29,7 @@ impl Queue {
             (λ _. moves.admit self.old.state parcel ≡ Some self.new.state)
             (λ back. (moves.admit self.old.state parcel ≡ None) × (back ≡ parcel)
             × (self.new.state ≡ self.old.state)) }
-        ensures turns { self.new.turns ≡ self.old.turns }
+        ensures pick_depth { self.new.pick_depth ≡ self.old.pick_depth }
     {
         match started(&parcel.entry()) {
             None => Err(parcel),
@@ -45,7 +45,7 @@ impl Queue {
         requires not_runnable { map.get self.old.state.runnable parcel.task ≡ None }
         requires not_asleep { map.get self.old.state.asleep parcel.task ≡ None }
         ensures after { self.new.state ≡ moves.put_asleep self.old.state parcel }
-        ensures turns { self.new.turns ≡ self.old.turns }
+        ensures pick_depth { self.new.pick_depth ≡ self.old.pick_depth }
     {
         self.asleep.keeps();
         self.asleep.add(parcel);
@@ -60,7 +60,7 @@ impl Queue {
         ensures none { IsNone result ↔ (is_running self.old.state.running task ≡ false) }
         ensures after { self.new.state ≡ leave_running self.old.state task }
         ensures nowhere { IfSome result (λ parcel. IsNowhere self.new.state parcel.task) }
-        ensures turns { self.new.turns ≡ self.old.turns }
+        ensures pick_depth { self.new.pick_depth ≡ self.old.pick_depth }
     {
         if is_running(&self.running, task) {
             Some(self.take(task))
@@ -78,7 +78,7 @@ impl Queue {
         ensures task { result.task ≡ task }
         ensures after { self.new.state ≡ leave self.old.state task }
         ensures nowhere { IsNowhere self.new.state result.task }
-        ensures turns { self.new.turns ≡ self.old.turns }
+        ensures pick_depth { self.new.pick_depth ≡ self.old.pick_depth }
     {
         self.take(task)
     }
@@ -91,7 +91,7 @@ impl Queue {
         ensures none { IsNone result ↔ (map.contains_key self.old.state.asleep task ≡ false) }
         ensures after { self.new.state ≡ leave_asleep self.old.state task }
         ensures nowhere { IfSome result (λ parcel. IsNowhere self.new.state parcel.task) }
-        ensures turns { self.new.turns ≡ self.old.turns }
+        ensures pick_depth { self.new.pick_depth ≡ self.old.pick_depth }
     {
         if !self.asleep.contains(task) {
             return None;
@@ -105,7 +105,7 @@ impl Queue {
     pub fn stop_running(&mut self) -> Option<TaskId>
         ensures stopped { result ≡ self.old.state.running }
         ensures after { self.new.state ≡ nobody_runs self.old.state }
-        ensures turns { self.new.turns ≡ self.old.turns }
+        ensures pick_depth { self.new.pick_depth ≡ self.old.pick_depth }
     {
         self.running.take()
     }
@@ -118,7 +118,7 @@ impl Queue {
         ensures task { result.task ≡ task }
         ensures after { self.new.state ≡ leave self.old.state task }
         ensures nowhere { IsNowhere self.new.state result.task }
-        ensures turns { self.new.turns ≡ self.old.turns }
+        ensures pick_depth { self.new.pick_depth ≡ self.old.pick_depth }
     {
         self.runnable.keeps();
         let time = self.floor_time();
@@ -151,7 +151,7 @@ impl Queue {
         requires room { placing.can_place self.old.state (moves.sleeper_of parcel) ≡ true }
         ensures after { placing.put self.old.state parcel.task (moves.sleeper_of parcel)
             ≡ Some self.new.state }
-        ensures turns { self.new.turns ≡ self.old.turns }
+        ensures pick_depth { self.new.pick_depth ≡ self.old.pick_depth }
     {
         let entry = self.placed(&parcel.sleeper()).unwrap();
         self.runnable.add(parcel, entry);
@@ -162,7 +162,7 @@ impl Queue {
     pub fn wake(&mut self, task: TaskId) -> WakeAnswer
         ensures answer { result ≡ (wakes.wake self.old.state task).0 }
         ensures after { self.new.state ≡ (wakes.wake self.old.state task).1 }
-        ensures turns { self.new.turns ≡ self.old.turns }
+        ensures pick_depth { self.new.pick_depth ≡ self.old.pick_depth }
     {
         let Some(sleeper) = self.asleep.get(task) else {
             return WakeAnswer::Awake;

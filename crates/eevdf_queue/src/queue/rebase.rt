@@ -17,7 +17,7 @@ impl Queue {
         ensures after { self.new.state ≡ (rebases.rebase self.old.state).1 }
         ensures time { rebases.can_rebase self.old.state ≡ true
             → virtual_time self.new.state ≡ pos 0 }
-        ensures turns { self.new.turns ≡ self.old.turns }
+        ensures pick_depth { self.new.pick_depth ≡ self.old.pick_depth }
         ensures depths { self.new.depths ≡ self.old.depths }
     {
         let time = self.floor_time();

@@ -26,7 +26,7 @@ impl Queue {
     pub fn renice(&mut self, task: TaskId, nice: Nice) -> ReniceAnswer
         ensures answer { result ≡ (renices.renice self.old.state task nice).0 }
         ensures after { self.new.state ≡ (renices.renice self.old.state task nice).1 }
-        ensures turns { self.new.turns ≡ self.old.turns }
+        ensures pick_depth { self.new.pick_depth ≡ self.old.pick_depth }
     {
         let Some(entry) = self.runnable.get(task) else {
             return ReniceAnswer::NotHere;

@@ -18,7 +18,7 @@ impl Queue {
     pub fn set_slice(&mut self, task: TaskId, slice: Slice) -> bool
         ensures here { result ≡ is_here self.old.state task }
         ensures after { self.new.state ≡ changes.set_slice self.old.state task slice }
-        ensures turns { self.new.turns ≡ self.old.turns }
+        ensures pick_depth { self.new.pick_depth ≡ self.old.pick_depth }
     {
         let Some(entry) = self.runnable.get(task) else {
             return self.set_slice_asleep(task, slice);
@@ -34,7 +34,7 @@ impl Queue {
         ensures here { result ≡ map.contains_key self.old.state.asleep task }
         ensures after { self.new.state
             ≡ changes.set_sleeper_slice self.old.state task slice (map.get self.old.state.asleep task) }
-        ensures turns { self.new.turns ≡ self.old.turns }
+        ensures pick_depth { self.new.pick_depth ≡ self.old.pick_depth }
     {
         if !self.asleep.contains(task) {
             return false;

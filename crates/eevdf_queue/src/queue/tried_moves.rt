@@ -19,7 +19,7 @@ impl Queue {
             (λ refused. (tried self.old.state parcel.task (moves.admit self.old.state parcel)
             ≡ Err refused.reason)
             × (refused.parcel ≡ parcel) × (self.new.state ≡ self.old.state)) }
-        ensures turns { self.new.turns ≡ self.old.turns }
+        ensures pick_depth { self.new.pick_depth ≡ self.old.pick_depth }
     {
         if self.contains(parcel.task()) {
             return Err(Refusal::Present.of(parcel));
@@ -40,7 +40,7 @@ impl Queue {
             (tried self.old.state parcel.task
             (put self.old.state parcel.task (moves.sleeper_of parcel)) ≡ Err refused.reason)
             × (refused.parcel ≡ parcel) × (self.new.state ≡ self.old.state)) }
-        ensures turns { self.new.turns ≡ self.old.turns }
+        ensures pick_depth { self.new.pick_depth ≡ self.old.pick_depth }
     {
         if self.contains(parcel.task()) {
             return Err(Refusal::Present.of(parcel));

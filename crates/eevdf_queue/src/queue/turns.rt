@@ -27,20 +27,20 @@ struct Runner {
 
 impl Queue {
     /// Lets the eligible task of earliest virtual deadline run, the lower number where deadlines are equal.
-    /// `None` exactly when nothing is runnable. With `n` runnable tasks, the descent to it in the tree takes `k`
-    /// turns such that `2 ^ (k / 2) <= n + 1`: as many as its node is deep, where the root's depth is 1. Where no task was
-    /// put in, taken out, charged or given another entry since the last pick, its answer still holds, with its turns, and
-    /// no descent is made.
+    /// `None` exactly when nothing is runnable. With `n` runnable tasks, its node in the tree has a depth
+    /// `k` such that `2 ^ (k / 2) <= n + 1`, where the root's depth is 1, and the descent to it goes over so many nodes. Where
+    /// no task was put in, taken out, charged or given another entry since the last pick, its answer still holds, with its
+    /// depth, and no descent is made.
     pub fn pick(&mut self) -> Option<TaskId>
         ensures number { result ≡ pick_of self.old.state.runnable }
         ensures picked { IfSome result (IsPick self.old.state.runnable) }
         ensures none { IsNone result ↔ (self.old.state.runnable ≡ map.empty) }
         ensures after { self.new.state ≡ after_pick self.old.state }
-        ensures no_turns { IsNone result → self.new.turns ≡ 0 }
-        ensures turns { IfSome result (λ _. 1 ≤ self.new.turns) }
-        ensures few_turns { IfSome result
-            (λ _. 2 ^ (self.new.turns / 2) ≤ map.len self.old.state.runnable + 1) }
-        ensures depth { IfSome result (λ t. map.get self.old.depths t ≡ Some self.new.turns) }
+        ensures no_pick_depth { IsNone result → self.new.pick_depth ≡ 0 }
+        ensures pick_depth { IfSome result (λ _. 1 ≤ self.new.pick_depth) }
+        ensures few_levels { IfSome result
+            (λ _. 2 ^ (self.new.pick_depth / 2) ≤ map.len self.old.state.runnable + 1) }
+        ensures depth { IfSome result (λ t. map.get self.old.depths t ≡ Some self.new.pick_depth) }
         ensures seen { self.new ≡ view_after_pick self.old }
     {
         self.runnable.keeps();
@@ -48,7 +48,7 @@ impl Queue {
             return Some(self.run(known));
         }
         let Some(first) = self.runnable.pick() else {
-            self.turns = 0;
+            self.pick_depth = 0;
             return None;
         };
         Some(self.run(first))
@@ -69,14 +69,14 @@ impl Queue {
     #[inline(always)]
     fn run(&mut self, pick: Pick) -> TaskId
         requires here { map.contains_key self.old.state.runnable pick.task ≡ true }
-        requires few { pick.turns < 2 ^ 16 }
+        requires few { pick.depth < 2 ^ 16 }
         ensures task { result ≡ pick.task }
         ensures after { self.new.state ≡ record self.old.state { running = Some pick.task } }
-        ensures turns { self.new.turns ≡ pick.turns }
+        ensures pick_depth { self.new.pick_depth ≡ pick.depth }
         ensures depths { self.new.depths ≡ self.old.depths }
     {
         self.running = Some(pick.task);
-        self.turns = pick.turns as u16;
+        self.pick_depth = pick.depth as u16;
         pick.task
     }
 
@@ -85,7 +85,7 @@ impl Queue {
     pub fn tick(&mut self, ns: Ns) -> TickAnswer
         ensures answer { result ≡ (ticks.tick self.old.state ns).0 }
         ensures after { self.new.state ≡ (ticks.tick self.old.state ns).1 }
-        ensures turns { self.new.turns ≡ self.old.turns }
+        ensures pick_depth { self.new.pick_depth ≡ self.old.pick_depth }
     {
         let Some(runner) = self.runner() else {
             return TickAnswer::Idle;
@@ -128,7 +128,7 @@ impl Queue {
     pub fn yield_now(&mut self) -> YieldAnswer
         ensures answer { result ≡ (yields.yield_now self.old.state).0 }
         ensures after { self.new.state ≡ (yields.yield_now self.old.state).1 }
-        ensures turns { self.new.turns ≡ self.old.turns }
+        ensures pick_depth { self.new.pick_depth ≡ self.old.pick_depth }
     {
         let Some(runner) = self.runner() else {
             return YieldAnswer::Idle;

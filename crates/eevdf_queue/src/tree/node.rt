@@ -57,11 +57,11 @@ impl Model for TreeNode {
     ghost size_decreases = { λ a h. depth-le-length a };
 }
 
-/// A task that a descent has found, and the turns that it took: the depth of the task's node, where the root's is 1.
+/// A task that a descent has found, and the depth of its node, where the root's is 1.
 #[derive(Clone, Copy)]
 pub struct Found<'a> {
     pub task: &'a Task,
-    pub turns: u32,
+    pub depth: u32,
 }
 
 /// The height below a link.
@@ -202,10 +202,10 @@ pub fn find(link: &Option<Box<TreeNode>>, key: &TreeKey) -> Option<Task>
 // - None is, but the node's own task is: then that is the first one.
 // - Neither: then it is on the right, since the descent is only ever at a node whose subtree has an eligible task.
 // So where no task on the left is eligible and none stands on the right, the own task is the first one, and isn't asked.
-// Each turn goes one level down, and nothing is looked at twice.
+// Each step goes one level down, and nothing is looked at twice.
 
-/// The first eligible task below a link, left before right, and the turns that lead to it. Where there is a task, some task
-/// is eligible.
+/// The first eligible task below a link, left before right, and the depth of its node. Where there is a task, some task is
+/// eligible.
 pub fn first_eligible<'a>(link: &'a Option<Box<TreeNode>>, totals: &Threshold) -> Option<Found<'a>>
     requires few { totals.now.weight ≤ 2 ^ 40 }
     requires small { length (tasks_in link.now) ≤ 2 ^ 20 }
@@ -214,10 +214,10 @@ pub fn first_eligible<'a>(link: &'a Option<Box<TreeNode>>, totals: &Threshold) -
         (tasks_in link.now) ≡ None → tasks_in link.now ≡ [] }
     ensures task { option_map (λ f. f.task.now) result
         ≡ first_that (is_eligible_at totals.now.weight totals.now.moment) (tasks_in link.now) }
-    ensures positive { IfSome result (λ f. 1 ≤ f.turns) }
-    ensures few_turns { IfSome result (λ f. IsFull f.turns (length (tasks_in link.now))) }
+    ensures positive { IfSome result (λ f. 1 ≤ f.depth) }
+    ensures low { IfSome result (λ f. IsFull f.depth (length (tasks_in link.now))) }
     ensures depth { IfSome result
-        (λ f. f.turns ≡ depth_at f.task.now.number (depths_in link.now)) }
+        (λ f. f.depth ≡ depth_at f.task.now.number (depths_in link.now)) }
 {
     let Some(root) = link else { return None };
     let root: &TreeNode = root;
@@ -226,7 +226,7 @@ pub fn first_eligible<'a>(link: &'a Option<Box<TreeNode>>, totals: &Threshold) -
     Some(first_under(root, totals))
 }
 
-/// The first eligible task of a node that has one, left before right, and the turns that lead to it.
+/// The first eligible task of a node that has one, left before right, and the depth of its node.
 fn first_under<'a>(root: &'a TreeNode, totals: &Threshold) -> Found<'a>
     requires few { totals.now.weight ≤ 2 ^ 40 }
     requires small { length root.now.tasks ≤ 2 ^ 20 }
@@ -235,15 +235,15 @@ fn first_under<'a>(root: &'a TreeNode, totals: &Threshold) -> Found<'a>
         (first_that (is_eligible_at totals.now.weight totals.now.moment) root.now.tasks) ≡ true }
     ensures task { first_that (is_eligible_at totals.now.weight totals.now.moment) root.now.tasks
         ≡ Some result.task.now }
-    ensures positive { 1 ≤ result.turns }
-    ensures turns { IsFull result.turns (length root.now.tasks) }
-    ensures depth { result.turns ≡ depth_at result.task.now.number root.now.depths }
+    ensures positive { 1 ≤ result.depth }
+    ensures low { IsFull result.depth (length root.now.tasks) }
+    ensures depth { result.depth ≡ depth_at result.task.now.number root.now.depths }
 {
     let _height = root.height();
     let mut at = root;
-    let mut turns: u32 = 0;
+    let mut depth: u32 = 0;
     'down: loop {
-        turns += 1;
+        depth += 1;
         if let Some(left) = &at.parts.sides.left {
             let left: &TreeNode = left;
             if is_least_eligible(totals, &left.kept.least) {
@@ -254,13 +254,13 @@ fn first_under<'a>(root: &'a TreeNode, totals: &Threshold) -> Found<'a>
         let Some(right) = &at.parts.sides.right else {
             return Found {
                 task: &at.parts.task,
-                turns,
+                depth,
             };
         };
         if is_task_eligible(totals, &at.parts.task) {
             return Found {
                 task: &at.parts.task,
-                turns,
+                depth,
             };
         }
         at = right;

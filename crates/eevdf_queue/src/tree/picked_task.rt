@@ -8,11 +8,11 @@ use crate::tree::key::TreeKey;
 use crate::tree::lowering::earlier;
 use eevdf_weight::{Nice, Slice};
 
-/// The number of the task that is picked, and the turns of the descent to it.
+/// The number of the task that is picked, and the depth of its node.
 #[derive(Clone, Copy)]
 pub struct Pick {
     pub task: TaskId,
-    pub turns: u32,
+    pub depth: u32,
 }
 
 /// What is kept of the task that was picked last, so that no descent to it is needed: its entry but for the deadline, which
@@ -26,8 +26,8 @@ pub struct PickedTask {
     pub slice: Slice,
     /// The task's number, and `NO_TASK` where nothing is known.
     pub number: u32,
-    /// The turns of the descent to it where it is known to be the pick, else 0.
-    pub turns: u32,
+    /// The depth of its node where it is known to be the pick, else 0.
+    pub depth: u32,
 }
 
 impl PickedTask {
@@ -43,24 +43,24 @@ impl PickedTask {
             nice: Nice::MIN,
             slice: Slice::MIN,
             number: PickedTask::NO_TASK,
-            turns: 0,
+            depth: 0,
         }
     }
 
-    /// What is known of a task that a descent of so many turns has found.
-    pub fn of(task: &Task, turns: u32) -> PickedTask
+    /// What is known of a task that a descent has found, whose node is so deep.
+    pub fn of(task: &Task, depth: u32) -> PickedTask
         ensures number { result.number ≡ task.now.number }
         ensures runtime { result.runtime ≡ task.now.entry.v }
         ensures nice { result.nice ≡ task.now.entry.nice }
         ensures slice { result.slice ≡ task.now.entry.slice }
-        ensures turns { result.turns ≡ turns }
+        ensures depth { result.depth ≡ depth }
     {
         PickedTask {
             runtime: task.entry.v,
             nice: task.entry.nice,
             slice: task.entry.slice,
             number: task.number.get() as u32,
-            turns,
+            depth,
         }
     }
 
@@ -77,10 +77,10 @@ impl PickedTask {
     #[inline(always)]
     pub fn forget(&mut self)
         ensures number { self.new.number ≡ number_limit }
-        ensures turns { self.new.turns ≡ 0 }
+        ensures depth { self.new.depth ≡ 0 }
     {
         self.number = PickedTask::NO_TASK;
-        self.turns = 0;
+        self.depth = 0;
     }
 
     /// Lowers the virtual runtime by a number, where the task is known.
@@ -92,7 +92,7 @@ impl PickedTask {
         ensures number { self.new.number ≡ self.old.number }
         ensures nice { self.new.nice ≡ self.old.nice }
         ensures slice { self.new.slice ≡ self.old.slice }
-        ensures turns { self.new.turns ≡ self.old.turns }
+        ensures depth { self.new.depth ≡ self.old.depth }
     {
         if self.number < PickedTask::NO_TASK {
             self.runtime = earlier(self.runtime, by);
@@ -102,18 +102,18 @@ impl PickedTask {
     /// The pick, where it is known.
     #[inline(always)]
     pub fn known_pick(&self) -> Option<Pick>
-        ensures known { IfSome result (λ p. (self.now.number < number_limit) × (1 ≤ self.now.turns)
-            × (p.task ≡ self.now.number) × (p.turns ≡ self.now.turns)) }
+        ensures known { IfSome result (λ p. (self.now.number < number_limit) × (1 ≤ self.now.depth)
+            × (p.task ≡ self.now.number) × (p.depth ≡ self.now.depth)) }
         ensures unknown { IsNone result
-            → (self.now.turns ≡ 0) ⊎ (number_limit ≤ self.now.number) }
+            → (self.now.depth ≡ 0) ⊎ (number_limit ≤ self.now.number) }
     {
-        if self.turns == 0 {
+        if self.depth == 0 {
             return None;
         }
         let task = TaskId::new(u64::from(self.number))?;
         Some(Pick {
             task,
-            turns: self.turns,
+            depth: self.depth,
         })
     }
 

@@ -171,7 +171,7 @@ impl RunnableTasks {
         ensures { self.new.tasks ≡ map.insert self.old.tasks parcel.task entry }
     {
         // the picked task keeps its entry, but another one may be picked next
-        self.picked.turns = 0;
+        self.picked.depth = 0;
         self.totals = with_share(&self.totals, &share(&entry));
         put(
             &mut self.tree,
@@ -196,8 +196,8 @@ impl RunnableTasks {
         leave(node, kept_lag(time, &entry))
     }
 
-    /// The first task, by deadline and number, of those that are eligible at the sums over the tasks, and the turns of
-    /// the descent to it.
+    /// The first task, by deadline and number, of those that are eligible at the sums over the tasks, and the depth of
+    /// its node.
     #[tactic(auto, using(crate::proofs::RunnableMaps::firsts))]
     fn first(&self, totals: &Threshold) -> Option<Found<'_>>
         requires few { totals.now.weight ≤ 2 ^ 40 }
@@ -208,38 +208,38 @@ impl RunnableTasks {
         ensures number { option_map (λ f. f.task.now.number) result
             ≡ option_map (λ a. a.0)
             (earliest (is_eligible_at totals.now.weight totals.now.moment) (map.entries self.now.tasks)) }
-        ensures positive { IfSome result (λ f. 1 ≤ f.turns) }
-        ensures turns { IfSome result (λ f. IsFull f.turns (map.len self.now.tasks)) }
+        ensures positive { IfSome result (λ f. 1 ≤ f.depth) }
+        ensures low { IfSome result (λ f. IsFull f.depth (map.len self.now.tasks)) }
         ensures depth { IfSome result
-            (λ f. map.get self.now.depths f.task.now.number ≡ Some f.turns) }
+            (λ f. map.get self.now.depths f.task.now.number ≡ Some f.depth) }
     {
         self.tree.earliest(totals)
     }
 
-    /// The eligible task of earliest virtual deadline, and the turns of the descent to it, where both are known from the
-    /// last descent. `None` says nothing.
+    /// The eligible task of earliest virtual deadline, and the depth of its node, where both are known from the last
+    /// descent. `None` says nothing.
     #[inline(always)]
     pub fn known_pick(&self) -> Option<Pick>
         ensures number { IfSome result (λ f. Some f.task ≡ pick_of self.now.tasks) }
         ensures picked { IfSome result (λ f. IsPick self.now.tasks f.task) }
         ensures here { IfSome result (λ f. map.contains_key self.now.tasks f.task ≡ true) }
-        ensures positive { IfSome result (λ f. 1 ≤ f.turns) }
-        ensures turns { IfSome result (λ f. IsFull f.turns (map.len self.now.tasks)) }
-        ensures depth { IfSome result (λ f. map.get self.now.depths f.task ≡ Some f.turns) }
+        ensures positive { IfSome result (λ f. 1 ≤ f.depth) }
+        ensures low { IfSome result (λ f. IsFull f.depth (map.len self.now.tasks)) }
+        ensures depth { IfSome result (λ f. map.get self.now.depths f.task ≡ Some f.depth) }
     {
         self.picked.known_pick()
     }
 
-    /// The eligible task of earliest virtual deadline, and the turns of the descent to it. `None` exactly where
-    /// there is no task.
+    /// The eligible task of earliest virtual deadline, and the depth of its node. `None` exactly where there is no
+    /// task.
     pub fn pick(&mut self) -> Option<Pick>
         ensures number { option_map (λ f. f.task) result ≡ pick_of self.old.tasks }
         ensures picked { IfSome result (λ f. IsPick self.old.tasks f.task) }
         ensures none { IsNone result ↔ (self.old.tasks ≡ map.empty) }
         ensures here { IfSome result (λ f. map.contains_key self.old.tasks f.task ≡ true) }
-        ensures positive { IfSome result (λ f. 1 ≤ f.turns) }
-        ensures turns { IfSome result (λ f. IsFull f.turns (map.len self.old.tasks)) }
-        ensures depth { IfSome result (λ f. map.get self.old.depths f.task ≡ Some f.turns) }
+        ensures positive { IfSome result (λ f. 1 ≤ f.depth) }
+        ensures low { IfSome result (λ f. IsFull f.depth (map.len self.old.tasks)) }
+        ensures depth { IfSome result (λ f. map.get self.old.depths f.task ≡ Some f.depth) }
         ensures same { self.new ≡ self.old }
     {
         let totals = self.totals();
@@ -249,15 +249,15 @@ impl RunnableTasks {
         };
         let pick = Pick {
             task: first.task.number,
-            turns: first.turns,
+            depth: first.depth,
         };
-        let picked = PickedTask::of(first.task, first.turns);
+        let picked = PickedTask::of(first.task, first.depth);
         // field by field, so that no padding is written
         self.picked.runtime = picked.runtime;
         self.picked.nice = picked.nice;
         self.picked.slice = picked.slice;
         self.picked.number = picked.number;
-        self.picked.turns = picked.turns;
+        self.picked.depth = picked.depth;
         Some(pick)
     }
 

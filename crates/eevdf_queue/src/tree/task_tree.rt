@@ -117,8 +117,8 @@ impl TaskTree {
         taken.node
     }
 
-    /// The first by deadline and number of the tasks that are eligible at these sums, and the turns of the
-    /// descent to it, which are the depth of its node. Where there is a task, some task is eligible.
+    /// The first by deadline and number of the tasks that are eligible at these sums, and the depth of its
+    /// node. Where there is a task, some task is eligible.
     pub fn earliest(&self, totals: &Threshold) -> Option<Found<'_>>
         requires few { totals.now.weight ≤ 2 ^ 40 }
         requires differ { DifferInNumber self.now.tasks }
@@ -129,9 +129,9 @@ impl TaskTree {
         ensures number { option_map (λ f. f.task.now.number) result
             ≡ option_map (λ a. a.0)
             (earliest (is_eligible_at totals.now.weight totals.now.moment) (entries_of self.now.tasks)) }
-        ensures positive { IfSome result (λ f. 1 ≤ f.turns) }
-        ensures turns { IfSome result (λ f. IsFull f.turns (length self.now.tasks)) }
-        ensures depth { IfSome result (λ f. f.turns ≡ depth_at f.task.now.number self.now.depths) }
+        ensures positive { IfSome result (λ f. 1 ≤ f.depth) }
+        ensures low { IfSome result (λ f. IsFull f.depth (length self.now.tasks)) }
+        ensures depth { IfSome result (λ f. f.depth ≡ depth_at f.task.now.number self.now.depths) }
     {
         first_eligible(&self.root, totals)
     }

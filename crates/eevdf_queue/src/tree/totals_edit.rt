@@ -5,6 +5,7 @@ ghost use Rattle.eevdf_weight.specs.Weight.{weight_of};
 ghost use Rattle.eevdf_queue.specs.Numbers.{number_limit};
 
 use crate::entry::Entry;
+use crate::lag::product;
 use crate::tree::totals::Totals;
 use eevdf_weight::{weight, wide_product};
 
@@ -86,7 +87,7 @@ fn aged_moment(totals: &Totals, older: &Entry, newer: &Entry) -> i128
     ensures { (older.now.v *ℤ pos (weight_of older.now.nice)) +ℤ result
         ≡ (newer.now.v *ℤ pos (weight_of older.now.nice)) +ℤ totals.now.moment }
 {
-    grown(totals, growth(distance(older, newer), weight(older.nice)))
+    grown(totals, product(distance(older, newer), weight(older.nice)))
 }
 
 /// The sum with so much more.
@@ -103,17 +104,6 @@ fn distance(older: &Entry, newer: &Entry) -> i64
     ensures { result ≡ newer.now.v -ℤ older.now.v }
 {
     newer.v - older.v
-}
-
-/// That times a weight, in 64 bits.
-#[tactic(auto, using(crate::proofs::Ageing::growth_small))]
-fn growth(distance: i64, weight: u64) -> i64
-    requires near { unsigned_abs distance ≤ 2 ^ 40 }
-    requires light { weight ≤ 88761 }
-    ensures value { result ≡ distance *ℤ pos weight }
-    ensures small { unsigned_abs result ≤ 2 ^ 57 }
-{
-    distance * weight as i64
 }
 
 /// The sum of two moments.

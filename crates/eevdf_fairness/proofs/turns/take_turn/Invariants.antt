@@ -6,4 +6,4 @@ use Rattle.eevdf_fairness.proofs.turns.take_turn.Given as goal
 abbrev pub invariant-loop-ns : goal.invariant-loop-ns
 invariant-loop-ns l =
     (after_ticks l.queue.state (drop l.ns-index l.ticks) ≡ after_turn l.fn.queue.state l.ticks)
-    × (l.queue.turns ≡ (view_after_pick l.fn.queue).turns)
+    × (l.queue.pick_depth ≡ (view_after_pick l.fn.queue).pick_depth)

@@ -22,8 +22,9 @@ product-requires c =
     let l = c.args.lag in
     let short : c.args.entry.now.slice ≤ 100000000 = omega arith in
     let kept : unsigned_abs l ≤ 2 ^ 38 = lag_small l c.args.entry.now.nice c.args.entry.now.slice short c.requires in
+    let near : unsigned_abs l ≤ 2 ^ 40 = omega (arith, kept) in
     record {
-      kept = subst (λ (z : ℤ). unsigned_abs z ≤ 2 ^ 38) (sym (to_z-of_z w64 l c.ranges.lag)) kept;
+      near = subst (λ (z : ℤ). unsigned_abs z ≤ 2 ^ 40) (sym (to_z-of_z w64 l c.ranges.lag)) near;
       light = c.weight.ensures.greatest;
     }
 
@@ -38,7 +39,7 @@ pub returns-clause-value : goal.returns-clause-value
 returns-clause-value c =
     rescaled c.args.lag c.args.nice c.product.result c.quotient.result c.level_lag_limit.result c.cut.result c.args.entry.now c.weight.result c.weight-newer.result
     c.ranges.lag (record { sfits = c.product.type_inv }) (record { sfits = c.quotient.type_inv }) (record { sfits = c.level_lag_limit.type_inv }) (record { sfits = c.cut.type_inv })
-    c.weight.ensures.value c.weight-newer.ensures.value c.product.ensures c.quotient.ensures c.level_lag_limit.ensures c.cut.ensures
+    c.weight.ensures.value c.weight-newer.ensures.value c.product.ensures.value c.quotient.ensures c.level_lag_limit.ensures c.cut.ensures
 
 pub returns-clause-limited : goal.returns-clause-limited
 returns-clause-limited c =

@@ -1,9 +1,7 @@
 //! Tasks that age where they stand: the virtual runtime of one grows, and nothing else of it changes.
 
-ghost use Rattle.std.specs.Prelude.{◌≡◌, pos, ◌≤ℤ◌, length, Some, IfSome};
-ghost use Rattle.std.specs.Option.{option_map};
-ghost use Rattle.eevdf_queue.specs.TaskLists.{find_task, set_entry};
-ghost use Rattle.eevdf_queue.specs.{TreeKeys.Holds, TreeLeast.least_of, TreeLeast.lesser, TreeShape.tasks_in, TreeShape.height_in};
+ghost use Rattle.std.specs.Prelude.{◌≡◌, pos, ◌≤ℤ◌, length, IfSome};
+ghost use Rattle.eevdf_queue.specs.{TaskLists.find_task, TreeKeys.Holds, TreeKeys.IsAged, TreeLeast.least_of, TreeLeast.lesser, TreeShape.tasks_in, TreeShape.height_in};
 
 use super::TreeNode;
 use super::mending::look_around;
@@ -49,11 +47,7 @@ pub fn age(link: &mut Option<Box<TreeNode>>, key: TreeKey, runtimes: Runtimes)
     requires above { IfSome (find_task key.number (tasks_in link.old))
         (λ t. runtimes.older ≤ℤ t.entry.v) }
     requires later { runtimes.older ≤ℤ runtimes.newer }
-    ensures tasks { (e : Entry)
-        → option_map (λ t. record t.entry { v = runtimes.newer })
-        (find_task key.number (tasks_in link.old))
-        ≡ Some e
-        → tasks_in link.new ≡ set_entry key.number e (tasks_in link.old) }
+    ensures tasks { IsAged key runtimes.newer (tasks_in link.old) (tasks_in link.new) }
     ensures height { height_in link.new ≡ height_in link.old }
     ensures length { length (tasks_in link.new) ≡ length (tasks_in link.old) }
 {
@@ -78,11 +72,7 @@ pub fn age(link: &mut Option<Box<TreeNode>>, key: TreeKey, runtimes: Runtimes)
 /// the link.
 fn age_least(link: &mut Option<Box<TreeNode>>, key: TreeKey, runtimes: Runtimes) -> Least
     requires { Holds key (tasks_in link.old) }
-    ensures tasks { (e : Entry)
-        → option_map (λ t. record t.entry { v = runtimes.newer })
-        (find_task key.number (tasks_in link.old))
-        ≡ Some e
-        → tasks_in link.new ≡ set_entry key.number e (tasks_in link.old) }
+    ensures tasks { IsAged key runtimes.newer (tasks_in link.old) (tasks_in link.new) }
     ensures height { height_in link.new ≡ height_in link.old }
     ensures length { length (tasks_in link.new) ≡ length (tasks_in link.old) }
     ensures least { result ≡ least_of (tasks_in link.new) }

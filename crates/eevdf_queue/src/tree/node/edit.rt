@@ -4,7 +4,7 @@
 ghost use Rattle.std.specs.Prelude.{◌≡◌, suc, ◌+◌, ◌<◌, ◌≤◌, ◌^◌, [], ◌∷◌, ◌++◌, length, is_some, true, false, Some};
 ghost use Rattle.eevdf_queue.specs.TaskLists.{first_task, find_task};
 ghost use Rattle.eevdf_queue.specs.TreeTasks.{AreOrdered, insert_task, without};
-ghost use Rattle.eevdf_queue.specs.{TreeChanges.keeps_height, TreeChanges.keeps_least, TreeLeast.least_of};
+ghost use Rattle.eevdf_queue.specs.{TreeChanges.keeps_least, TreeChanges.IsChangedAs};
 ghost use Rattle.eevdf_queue.specs.{TreeKeys.Holds, TreeShape.tasks_in, TreeShape.height_in, TreeShape.IsAlone};
 
 use super::TreeNode;
@@ -58,12 +58,7 @@ pub fn remove(link: &mut Option<Box<TreeNode>>, key: TreeKey) -> Taken
         ≡ Some (first_task result.node.value.tasks) }
     ensures rest { tasks_in link.new ≡ without key.number (tasks_in link.old) }
     ensures length { length (tasks_in link.old) ≡ suc (length (tasks_in link.new)) }
-    ensures not_higher { height_in link.new ≤ height_in link.old }
-    ensures at_most_one_lower { height_in link.old ≤ suc (height_in link.new) }
-    ensures same_height { keeps_height result.change ≡ true
-        → height_in link.new ≡ height_in link.old }
-    ensures same_least { keeps_least result.change ≡ true
-        → least_of (tasks_in link.new) ≡ least_of (tasks_in link.old) }
+    ensures changed { IsChangedAs result.change link.old link.new }
 {
     let Some(root) = link else { unreachable!() };
     let root: &mut TreeNode = root;
@@ -97,12 +92,7 @@ fn remove_last(link: &mut Option<Box<TreeNode>>) -> Taken
     ensures tasks { tasks_in link.old
         ≡ tasks_in link.new ++ first_task result.node.value.tasks ∷ [] }
     ensures length { length (tasks_in link.old) ≡ suc (length (tasks_in link.new)) }
-    ensures not_higher { height_in link.new ≤ height_in link.old }
-    ensures at_most_one_lower { height_in link.old ≤ suc (height_in link.new) }
-    ensures same_height { keeps_height result.change ≡ true
-        → height_in link.new ≡ height_in link.old }
-    ensures same_least { keeps_least result.change ≡ true
-        → least_of (tasks_in link.new) ≡ least_of (tasks_in link.old) }
+    ensures changed { IsChangedAs result.change link.old link.new }
 {
     let Some(root) = link else { unreachable!() };
     let root: &mut TreeNode = root;
@@ -131,10 +121,7 @@ fn exchanged(task: &mut Task, left: &mut Option<Box<TreeNode>>) -> Taken
     ensures own { first_task result.node.value.tasks ≡ task.old }
     ensures tasks { tasks_in left.old ≡ tasks_in left.new ++ task.new ∷ [] }
     ensures length { length (tasks_in left.old) ≡ suc (length (tasks_in left.new)) }
-    ensures not_higher { height_in left.new ≤ height_in left.old }
-    ensures at_most_one_lower { height_in left.old ≤ suc (height_in left.new) }
-    ensures same_height { keeps_height result.change ≡ true
-        → height_in left.new ≡ height_in left.old }
+    ensures changed { IsChangedAs result.change left.old left.new }
     ensures other_least { keeps_least result.change ≡ false }
 {
     let Taken { mut node, change } = remove_last(left);

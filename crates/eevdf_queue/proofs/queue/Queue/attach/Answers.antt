@@ -36,5 +36,5 @@ returns-clause-after c =
     ∙ ap (λ (w : View). Some (record w.state { runnable = insert w.state.runnable t e })) (sym c.self.view_is)
     ∙ ap (λ (m : Tasks). Some (record q { runnable = m })) (sym c.add.ensures)
 
-pub returns-clause-turns : goal.returns-clause-turns
-returns-clause-turns c = ap (λ (w : View). w.turns) c.self.view_is
+pub returns-clause-pick_depth : goal.returns-clause-pick_depth
+returns-clause-pick_depth c = ap (λ (w : View). w.pick_depth) c.self.view_is

@@ -69,5 +69,5 @@ returns-clause-after c =
     (ap (λ (w : View). placed_entry (leave w.state c.args.task) (renices.reniced w.state e c.args.nice)) c.self.view_is ∙ sym c.in-Some-reniced.ensures) c.set.ensures
     ∙ ap (λ (w : View). (renices.renice w.state c.args.task c.args.nice).1) c.self.view_is
 
-pub returns-clause-turns : goal.returns-clause-turns
-returns-clause-turns c = ap (λ (w : View). w.turns) c.self.view_is
+pub returns-clause-pick_depth : goal.returns-clause-pick_depth
+returns-clause-pick_depth c = ap (λ (w : View). w.pick_depth) c.self.view_is

@@ -67,5 +67,5 @@ returns-clause-after c =
     ∙ ap (λ (w : View). record w.state { runnable = insert w.state.runnable c.args.task e; asleep = remove w.state.asleep c.args.task }) c.self.view_is
     ∙ sym (ap (λ (p : WakeAnswer × State). p.1) (woken c.args.self.now.state c.args.task c.in-Some.sleeper e sleeps (sym c.in-Some-placed.ensures)))
 
-pub returns-clause-turns : goal.returns-clause-turns
-returns-clause-turns c = ap (λ (w : View). w.turns) c.self.view_is
+pub returns-clause-pick_depth : goal.returns-clause-pick_depth
+returns-clause-pick_depth c = ap (λ (w : View). w.pick_depth) c.self.view_is

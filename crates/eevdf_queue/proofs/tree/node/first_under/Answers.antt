@@ -28,7 +28,7 @@ down-preserved-then-is_least_eligible c =
             ∙ ap (first_that (is_eligible_at c.args.totals.now.weight c.args.totals.now.moment)) l,
         (
           omega (arith, h, k, c.at.invariant.height, c.down.invariant.1.1.0),
-          to_left c.at.inside c.down.at.now c.at.view_is c.down.turns c.args.root.now.depths c.down.invariant.1.1.1 c.deref-left.result.now l (cc),
+          to_left c.at.inside c.down.at.now c.at.view_is c.down.depth c.args.root.now.depths c.down.invariant.1.1.1 c.deref-left.result.now l (cc),
         ),
       ),
     )
@@ -51,14 +51,14 @@ returns-then-is_task_eligible-clause-task c =
     let e : c.down.at.now.tasks ≡ tasks_of c.at.inside.parts = cc in
     c.down.invariant.1.0 ∙ first_here (is_eligible_at c.args.totals.now.weight c.args.totals.now.moment) c.down.at.now.tasks (tasks_in c.at.inside.parts.sides.left) c.at.inside.parts.task (tasks_in c.at.inside.parts.sides.right) e (missed (goal.at.returns-then-is_task_eligible-clause-task c).Joined-at) (sym c.is_task_eligible.ensures ∙ c.if-is_task_eligible.true)
 
-pub returns-then-is_task_eligible-clause-turns : goal.returns-then-is_task_eligible-clause-turns
-returns-then-is_task_eligible-clause-turns c =
+pub returns-then-is_task_eligible-clause-low : goal.returns-then-is_task_eligible-clause-low
+returns-then-is_task_eligible-clause-low c =
     let h : c.down.at.now.height ≡ c.at.inside.kept.height = cc in
-    full-lower (c.down.turns + 1) c.args.root.now.height (length c.args.root.now.tasks) (omega (arith, h, c.at.invariant.height, c.down.invariant.1.1.0)) c.height-height.ensures.full
+    full-lower (c.down.depth + 1) c.args.root.now.height (length c.args.root.now.tasks) (omega (arith, h, c.at.invariant.height, c.down.invariant.1.1.0)) c.height-height.ensures.full
 
 pub returns-then-is_task_eligible-clause-depth : goal.returns-then-is_task_eligible-clause-depth
 returns-then-is_task_eligible-clause-depth c =
-    sym (at_root c.at.inside c.down.at.now c.at.view_is c.down.turns c.args.root.now.depths c.down.invariant.1.1.1)
+    sym (at_root c.at.inside c.down.at.now c.at.view_is c.down.depth c.args.root.now.depths c.down.invariant.1.1.1)
 
 -- nothing stands on the right: then it is the own task
 pub returns-in_default-right-clause-task : goal.returns-in_default-right-clause-task
@@ -67,14 +67,14 @@ returns-in_default-right-clause-task c =
     let r : tasks_in c.at.inside.parts.sides.right ≡ [] = ap tasks_in c.in_default-right.is in
     c.down.invariant.1.0 ∙ first_only (is_eligible_at c.args.totals.now.weight c.args.totals.now.moment) c.down.at.now.tasks (tasks_in c.at.inside.parts.sides.left) c.at.inside.parts.task (tasks_in c.at.inside.parts.sides.right) e (missed (goal.at.returns-in_default-right-clause-task c).Joined-at) r c.down.invariant.0
 
-pub returns-in_default-right-clause-turns : goal.returns-in_default-right-clause-turns
-returns-in_default-right-clause-turns c =
+pub returns-in_default-right-clause-low : goal.returns-in_default-right-clause-low
+returns-in_default-right-clause-low c =
     let h : c.down.at.now.height ≡ c.at.inside.kept.height = cc in
-    full-lower (c.down.turns + 1) c.args.root.now.height (length c.args.root.now.tasks) (omega (arith, h, c.at.invariant.height, c.down.invariant.1.1.0)) c.height-height.ensures.full
+    full-lower (c.down.depth + 1) c.args.root.now.height (length c.args.root.now.tasks) (omega (arith, h, c.at.invariant.height, c.down.invariant.1.1.0)) c.height-height.ensures.full
 
 pub returns-in_default-right-clause-depth : goal.returns-in_default-right-clause-depth
 returns-in_default-right-clause-depth c =
-    sym (at_root c.at.inside c.down.at.now c.at.view_is c.down.turns c.args.root.now.depths c.down.invariant.1.1.1)
+    sym (at_root c.at.inside c.down.at.now c.at.view_is c.down.depth c.args.root.now.depths c.down.invariant.1.1.1)
 
 pub down-preserved : goal.down-preserved
 down-preserved c =
@@ -89,7 +89,7 @@ down-preserved c =
         c.down.invariant.1.0 ∙ f,
         (
           omega (arith, h, k, c.at.invariant.height, c.down.invariant.1.1.0),
-          to_right c.at.inside c.down.at.now c.at.view_is c.down.turns c.args.root.now.depths c.down.invariant.1.1.1 c.deref-at.result.now r (cc),
+          to_right c.at.inside c.down.at.now c.at.view_is c.down.depth c.args.root.now.depths c.down.invariant.1.1.1 c.deref-at.result.now r (cc),
         ),
       ),
     )

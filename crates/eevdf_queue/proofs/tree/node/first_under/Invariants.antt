@@ -8,8 +8,8 @@ abbrev pub invariant-down : goal.invariant-down
 invariant-down l =
     (is_some (first_that (is_eligible_at l.totals.weight l.totals.moment) l.at.tasks) ≡ true)
     × ((first_that (is_eligible_at l.totals.weight l.totals.moment) l.root.tasks ≡ first_that (is_eligible_at l.totals.weight l.totals.moment) l.at.tasks)
-    × ((l.turns + l.at.height ≤ l.root.height)
-    × IsPart l.turns l.at l.root.depths))
+    × ((l.depth + l.at.height ≤ l.root.height)
+    × IsPart l.depth l.at l.root.depths))
 
 abbrev pub decreases-down : goal.decreases-down
 decreases-down l = length l.at.tasks

@@ -39,7 +39,7 @@ correct-change-requires-clause-kept_least t c = λ h.
       | else-is_of w ↦
           let k = sym (ap (λ z. keeps_least z.change) w.taken-is) ∙ h in
           subst (λ (a : Inside). a.kept.least ≡ least_of (tasks_of a.parts)) (sym w.root-inside-is)
-          (c.root.invariant.least ∙ sym (least_on c.root.inside.parts w.remove-taken.new.link w.side_of.result (w.remove-taken.ensures.same_least k ∙ ap (λ z. least_of (tasks_in z)) w.side_mut.ensures.value)))
+          (c.root.invariant.least ∙ sym (least_on c.root.inside.parts w.remove-taken.new.link w.side_of.result (w.remove-taken.ensures.changed.same_least k ∙ ap (λ z. least_of (tasks_in z)) w.side_mut.ensures.value)))
       | then-is_of+else-is_none w ↦
           let k = sym (ap (λ z. keeps_least z.change) w.taken-is) ∙ h in
           absurd (let n : false ≡ true = sym w.exchanged-taken.ensures.other_least ∙ k in cc)

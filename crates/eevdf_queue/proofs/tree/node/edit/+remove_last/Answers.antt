@@ -7,7 +7,7 @@ use Rattle.eevdf_queue.proofs.tree.node.edit.+remove_last.Goals as goal
 pub correct-change-requires-clause-kept_least : goal.correct-change-requires-clause-kept_least
 correct-change-requires-clause-kept_least t c = λ h.
     c.root.invariant.least
-    ∙ sym (least-same_right (tasks_in c.root.inside.parts.sides.left) c.root.inside.parts.task (tasks_in c.root.inside.parts.sides.right) (tasks_in c.remove_last-taken.new.link) (c.remove_last-taken.ensures.same_least h))
+    ∙ sym (least-same_right (tasks_in c.root.inside.parts.sides.left) c.root.inside.parts.task (tasks_in c.root.inside.parts.sides.right) (tasks_in c.remove_last-taken.new.link) (c.remove_last-taken.ensures.changed.same_least h))
 
 pub remove_last-taken-requires : goal.remove_last-taken-requires
 remove_last-taken-requires t c =

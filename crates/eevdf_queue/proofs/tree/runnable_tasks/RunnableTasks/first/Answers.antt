@@ -6,9 +6,9 @@ use Rattle.eevdf_queue.proofs.{Descending.differ_runnable, PickedTasks.first_ent
 use Rattle.eevdf_queue.specs.State.{TasksInTree}
 use Rattle.eevdf_queue.proofs.tree.runnable_tasks.RunnableTasks.first.Goals as goal
 
-pub returns-clause-turns : goal.returns-clause-turns
-returns-clause-turns c =
-    subst (λ (z : ℕ). IfSome c.earliest.result (λ f. IsFull f.turns z)) (sym (len-runnable_in c.self.inside.tree.tasks c.self.invariant.store.runnable) ∙ ap (λ m. map.len m) (ap (λ (w : TasksInTree). w.tasks) c.self.view_is)) c.earliest.ensures.turns
+pub returns-clause-low : goal.returns-clause-low
+returns-clause-low c =
+    subst (λ (z : ℕ). IfSome c.earliest.result (λ f. IsFull f.depth z)) (sym (len-runnable_in c.self.inside.tree.tasks c.self.invariant.store.runnable) ∙ ap (λ m. map.len m) (ap (λ (w : TasksInTree). w.tasks) c.self.view_is)) c.earliest.ensures.low
 
 pub returns-clause-here : goal.returns-clause-here
 returns-clause-here c =
@@ -24,4 +24,4 @@ earliest-requires-clause-differ c = differ_runnable c.self.inside.tree.tasks c.s
 
 pub returns-clause-depth : goal.returns-clause-depth
 returns-clause-depth c =
-    first_depth (λ f. f.task.now.number) (λ f. f.turns) c.self.inside.tree c.args.self.now c.earliest.result c.self.view_is c.earliest.ensures.depth c.earliest.ensures.positive
+    first_depth (λ f. f.task.now.number) (λ f. f.depth) c.self.inside.tree c.args.self.now c.earliest.result c.self.view_is c.earliest.ensures.depth c.earliest.ensures.positive

@@ -7,7 +7,7 @@ use Rattle.eevdf_queue.proofs.{Picked.picked, PickedTasks.still_picked}
 use Rattle.eevdf_queue.proofs.tree.runnable_tasks.RunnableTasks.known_pick.Goals as goal
 use Rattle.eevdf_queue.proofs.tree.runnable_tasks.RunnableTasks.known_pick.Goals.{After-known_pick}
 
-known : (c : After-known_pick) → IfSome c.known_pick.result (λ q. (Some q.task ≡ pick_of c.args.self.now.tasks) × IsFull q.turns (map.len c.args.self.now.tasks) × (map.get c.args.self.now.depths q.task ≡ Some q.turns))
+known : (c : After-known_pick) → IfSome c.known_pick.result (λ q. (Some q.task ≡ pick_of c.args.self.now.tasks) × IsFull q.depth (map.len c.args.self.now.tasks) × (map.get c.args.self.now.depths q.task ≡ Some q.depth))
 known c =
     IfSome_then c.known_pick.result c.known_pick.ensures.known
     (λ q h. still_picked c.self.inside.picked c.self.inside.tree c.args.self.now q c.self.invariant.pick c.self.view_is c.self.invariant.store.runnable h)
@@ -23,8 +23,8 @@ pub returns-clause-here : goal.returns-clause-here
 returns-clause-here c =
     IfSome_then c.known_pick.result (known (goal.at.returns-clause-here c).After-known_pick) (λ q h. ap is_some (picked c.args.self.now.tasks (Some q.task) h.0).eligible.here)
 
-pub returns-clause-turns : goal.returns-clause-turns
-returns-clause-turns c = IfSome_then c.known_pick.result (known (goal.at.returns-clause-turns c).After-known_pick) (λ q h. h.1)
+pub returns-clause-low : goal.returns-clause-low
+returns-clause-low c = IfSome_then c.known_pick.result (known (goal.at.returns-clause-low c).After-known_pick) (λ q h. h.1)
 
 pub returns-clause-depth : goal.returns-clause-depth
 returns-clause-depth c = IfSome_then c.known_pick.result (known (goal.at.returns-clause-depth c).After-known_pick) (λ q h. h.2)

@@ -76,7 +76,7 @@ invariant_of-self-2 c =
     (sym c.lower.ensures.in_range ∙ c.if-not-lower.false) c.lower.ensures.noted c.lower_moment.ensures.weight
     (c.lower_moment.ensures.moment ∙ ap (λ (z : ℤ). c.self.inside.totals.moment -ℤ (z *ℤ pos c.self.inside.totals.weight)) b)
     (λ k. c.lower-2.ensures.runtime k ∙ ap (λ (z : ℤ). c.self.inside.picked.runtime -ℤ z) b)
-    c.lower-2.ensures.number c.lower-2.ensures.nice c.lower-2.ensures.slice c.lower-2.ensures.turns
+    c.lower-2.ensures.number c.lower-2.ensures.nice c.lower-2.ensures.slice c.lower-2.ensures.depth
 
 pub returns-clause-in_range : goal.returns-clause-in_range
 returns-clause-in_range c = sym c.if-not-lower.false ∙ ranged (goal.at.returns-clause-in_range c).After-lower

@@ -36,11 +36,11 @@ invariant_of-self c =
           known_of _ _ _ _ c.self.inside.tree.tasks c.args.self.now.tasks c.in-Some.first.task.now (ap (λ (w : TasksInTree). w.tasks) c.self.view_is) c.in-Some.ensures.here
           c.of-picked.ensures.number (to_z-of_z w64 v fits ∙ c.of-picked.ensures.runtime) c.of-picked.ensures.nice c.of-picked.ensures.slice;
       pick = λ _ _.
-          still_pick c.self.inside.tree c.args.self.now c.of-picked.result.number c.of-picked.result.turns c.self.view_is c.self.invariant.store.runnable
+          still_pick c.self.inside.tree c.args.self.now c.of-picked.result.number c.of-picked.result.depth c.self.view_is c.self.invariant.store.runnable
           (ap (λ (q : ℕ). Some q) c.of-picked.ensures.number
           ∙ subst (λ (o : Option Found). option_map number_of o ≡ pick_of c.args.self.now.tasks) c.in-Some.is (is_pick (goal.at.invariant_of-self c).After-first))
-          (subst (λ (z : ℕ). IsFull z (map.len c.args.self.now.tasks)) (sym c.of-picked.ensures.turns) c.in-Some.ensures.turns)
-          (ap (map.get c.args.self.now.depths) c.of-picked.ensures.number ∙ c.in-Some.ensures.depth ∙ ap (λ (z : ℕ). Some z) (sym c.of-picked.ensures.turns));
+          (subst (λ (z : ℕ). IsFull z (map.len c.args.self.now.tasks)) (sym c.of-picked.ensures.depth) c.in-Some.ensures.low)
+          (ap (map.get c.args.self.now.depths) c.of-picked.ensures.number ∙ c.in-Some.ensures.depth ∙ ap (λ (z : ℕ). Some z) (sym c.of-picked.ensures.depth));
     }
 
 pub returns-clause-picked : goal.returns-clause-picked
