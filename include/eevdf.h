@@ -244,6 +244,20 @@ void rattle_dealloc(void *block);
 int64_t eevdf_version(void);
 
 /*
+ * The bytes of a queue in the library, as EEVDF_QUEUE_SIZE is that of the header. A program that
+ * may meet another library than it was compiled for, as a shared one, can compare the two before
+ * it opens a queue.
+ * Lock: none. Interrupts: yes.
+ */
+int64_t eevdf_queue_size(void);
+
+/*
+ * The bytes of a hand in the library, as EEVDF_HAND_SIZE is that of the header.
+ * Lock: none. Interrupts: yes.
+ */
+int64_t eevdf_hand_size(void);
+
+/*
  * Opens a queue in the caller's bytes: empty, at the virtual time 0. Takes no memory. Opening one
  * that has tasks loses their memory.
  * Lock: nobody else may know of the queue yet. Interrupts: yes.

@@ -66,6 +66,8 @@ BODIES = {
     "an entry is written on an error": ("entry_of", "if (eevdf_contains(queue, task) != 1) out->nice = 0; return RIGHT;"),
     "a virtual time takes 1100 bytes of stack": ("floor_time", "volatile char deep[1100]; deep[0] = 0; return RIGHT + deep[0];"),
     "the version is another": ("version", "return RIGHT + 1;"),
+    "a queue is larger": ("queue_size", "return RIGHT + 16;"),
+    "a hand is larger": ("hand_size", "return RIGHT + 16;"),
 }
 
 

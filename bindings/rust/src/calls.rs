@@ -6,6 +6,8 @@ use core::ffi::c_void;
 
 extern "C" {
     pub fn eevdf_version() -> i64;
+    pub fn eevdf_queue_size() -> i64;
+    pub fn eevdf_hand_size() -> i64;
     pub fn eevdf_open(queue: *mut c_void);
     pub fn eevdf_close(queue: *mut c_void);
     pub fn eevdf_admit(queue: *mut c_void, task: u64, nice: i64, slice_ns: u64, start: i64) -> i64;

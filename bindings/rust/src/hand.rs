@@ -1,7 +1,7 @@
 //! A task on its way between two queues.
 
 use crate::calls;
-use crate::check_version;
+use crate::check_library;
 use crate::error::{checked, done};
 use crate::memory::HandMemory;
 use core::ffi::c_void;
@@ -39,9 +39,9 @@ impl<'a> Hand<'a> {
     ///
     /// # Panics
     ///
-    /// Where MAJOR or MINOR of the library that is linked isn't the crate's.
+    /// Where MAJOR or MINOR of the library that is linked, or the size of its queues or hands, isn't the crate's.
     pub fn open(memory: &'a mut HandMemory) -> Hand<'a> {
-        check_version();
+        check_library();
         let at = NonNull::from(&mut memory.0).cast();
         // SAFETY: it points to the bytes of a hand, which are borrowed for as long as the hand lives
         unsafe { calls::eevdf_hand_open(at.as_ptr()) };

@@ -64,6 +64,8 @@
 #[cfg(feature = "alloc")]
 extern crate alloc;
 
+use core::mem::size_of;
+
 mod calls;
 mod error;
 mod hand;
@@ -83,10 +85,13 @@ const fn series(version: i64) -> i64 {
     version / 1000
 }
 
-/// Sees that the library which is linked has the two numbers of [`VERSION`], since the bytes of queues and hands and the structs are only
-/// of those.
-fn check_version() {
+/// Sees that the library which is linked has the two numbers of [`VERSION`], since the structs are only of those, and that its queues and
+/// hands take as many bytes as they are given.
+fn check_library() {
     assert_eq!(series(version()), series(VERSION), "libeevdf.a is of another MAJOR or MINOR than the crate eevdf");
+    // SAFETY: the calls have no condition
+    let sizes = unsafe { [calls::eevdf_queue_size(), calls::eevdf_hand_size()] };
+    assert_eq!(sizes, [size_of::<QueueMemory>() as i64, size_of::<HandMemory>() as i64], "libeevdf.a has queues or hands of other sizes");
 }
 
 /// How many numbers there are for tasks, from 0 on.

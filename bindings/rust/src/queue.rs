@@ -1,7 +1,7 @@
 //! The run queue of one CPU.
 
 use crate::calls;
-use crate::check_version;
+use crate::check_library;
 use crate::error::{checked, done, Result};
 use crate::hand::Hand;
 use crate::memory::QueueMemory;
@@ -65,9 +65,9 @@ impl Queue<'static> {
     ///
     /// # Panics
     ///
-    /// Where MAJOR or MINOR of the library that is linked isn't the crate's.
+    /// Where MAJOR or MINOR of the library that is linked, or the size of its queues or hands, isn't the crate's.
     pub fn boxed() -> Queue<'static> {
-        check_version();
+        check_library();
         let at = NonNull::from(Box::leak(Box::new(QueueMemory::new()))).cast();
         // SAFETY: it points to the bytes of a queue, which are given back where the queue is dropped
         unsafe { calls::eevdf_open(at.as_ptr()) };
@@ -82,9 +82,9 @@ impl<'a> Queue<'a> {
     ///
     /// # Panics
     ///
-    /// Where MAJOR or MINOR of the library that is linked isn't the crate's.
+    /// Where MAJOR or MINOR of the library that is linked, or the size of its queues or hands, isn't the crate's.
     pub fn open(memory: &'a mut QueueMemory) -> Queue<'a> {
-        check_version();
+        check_library();
         let at = NonNull::from(&mut memory.0).cast();
         unsafe { calls::eevdf_open(at.as_ptr()) };
         Queue { at, memory: Memory::Borrowed(PhantomData) }

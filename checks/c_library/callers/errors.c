@@ -1,6 +1,7 @@
 /*
  * errors.c: each error of each call once, in the order in which the header names them, and that it
- * has changed nothing. Ends with 1 where an answer or a state is another.
+ * has changed nothing; and that the library is of the header's version and sizes. Ends with 1 where
+ * an answer or a state is another.
  */
 #include "state.h"
 
@@ -234,6 +235,10 @@ int main(void)
 {
 	if (eevdf_version() != EEVDF_VERSION)
 		fail("eevdf_version", eevdf_version());
+	if (eevdf_queue_size() != EEVDF_QUEUE_SIZE)
+		fail("eevdf_queue_size", eevdf_queue_size());
+	if (eevdf_hand_size() != EEVDF_HAND_SIZE)
+		fail("eevdf_hand_size", eevdf_hand_size());
 	eevdf_open(&queue);
 	eevdf_open(&other);
 	eevdf_hand_open(&hand);

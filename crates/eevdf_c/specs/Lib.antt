@@ -16,3 +16,4 @@ pub mod SleeperOut
 pub mod ParcelOut
 pub mod Errors
 pub mod Memory
+pub mod Sizes

@@ -3,6 +3,7 @@
 pub mod hands;
 pub mod opening;
 pub mod readers;
+pub mod sizes;
 pub mod tasks;
 pub mod turns;
 pub mod version;

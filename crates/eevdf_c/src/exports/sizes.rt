@@ -1,0 +1,24 @@
+//! How many bytes the caller gives to a queue and to a hand.
+
+ghost use Rattle.std.specs.Prelude.{◌≡◌};
+ghost use Rattle.eevdf_c.specs.Sizes.{hand_size, queue_size};
+
+use crate::hand::Hand;
+use crate::opened::Opened;
+use std::mem::size_of;
+
+/// The bytes of a queue, as `EEVDF_QUEUE_SIZE` of the header has them.
+#[unsafe(no_mangle)]
+pub extern "C" fn eevdf_queue_size() -> i64
+    ensures { result ≡ queue_size }
+{
+    size_of::<Opened>() as i64
+}
+
+/// The bytes of a hand, as `EEVDF_HAND_SIZE` of the header has them.
+#[unsafe(no_mangle)]
+pub extern "C" fn eevdf_hand_size() -> i64
+    ensures { result ≡ hand_size }
+{
+    size_of::<Hand>() as i64
+}
