@@ -52,11 +52,10 @@
  * WHAT THE OBJECT ASKS OF A KERNEL (x86-64). The archive for kernels, libeevdf_kernel.a, uses no
  * registers but the general ones and nothing below the stack pointer, and needs no aligned stack.
  * So interrupts may come during a call, and on its stack. It is linked into the highest 2 GiB of
- * addresses, where a kernel is, or into the lowest. It wants these names, and no others: memcpy
- * and memset, and where it is made for Linux __x86_return_thunk, by which it returns then. Of the
- * two functions for memory (below) it has weak ones, which give none, until the kernel defines its
- * own.
- * The archive for programs, libeevdf.a, can be linked at any address, and wants memcpy, memset,
+ * addresses, where a kernel is, or into the lowest. It wants the name memset, and where it is made
+ * for Linux __x86_return_thunk, by which it returns then, and no others. Of the two functions for
+ * memory (below) it has weak ones, which give none, until the kernel defines its own.
+ * The archive for programs, libeevdf.a, can be linked at any address, and wants memset,
  * eevdf_alloc, eevdf_dealloc, and __udivti3, which compilers bring along in libgcc. It needs a
  * stack that is aligned to 16 at the call, and uses the registers xmm0 and xmm1, and functions that
  * call no others use the red zone, the 128 bytes below the stack pointer. So in a kernel
@@ -68,8 +67,8 @@
  *     interrupted code has none of them;
  *   - SSE is on: CR0.EM is 0 and CR4.OSFXSR is 1.
  * Of either a call takes at most 1 KiB of stack, eevdf_rebase 1.5 KiB. These registers and this
- * stack are of the object alone: what the kernel's memcpy and memset and the two functions for
- * memory use comes on top. Neither has thread-local storage, threads or unwind tables, nor ends the
+ * stack are of the object alone: what the kernel's memset and the two functions for memory use
+ * comes on top. Neither has thread-local storage, threads or unwind tables, nor ends the
  * program: its instructions ud2 stand where no call comes, as the proofs say, while C keeps what it
  * must.
  */

@@ -16,7 +16,7 @@ from kept_module import KeptModule  # noqa: E402
 
 # Addresses in the highest or the lowest 2 GiB, as Linux's loader of modules and any linker knows them.
 OTHER_RELOCATIONS = re.compile(r"^(?!R_X86_64_(?:PC32|PLT32|32S|64)$)")
-OF_KERNELS = Asks({"memcpy", "memset"}, set(), OTHER_RELOCATIONS)
+OF_KERNELS = Asks({"memset"}, set(), OTHER_RELOCATIONS)
 OF_LINUX = Asks({*OF_KERNELS.names, "__x86_return_thunk"}, set(), OTHER_RELOCATIONS)
 
 # An instruction with its operands, and those that aren't to be found.

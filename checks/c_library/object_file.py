@@ -24,7 +24,7 @@ class Asks:
 
 # The functions for memory, which the caller defines.
 MEMORY = {"eevdf_alloc", "eevdf_dealloc"}
-OF_PROGRAMS = Asks({"memcpy", "memset", "__udivti3", *MEMORY}, {"xmm0", "xmm1"}, ABSOLUTE)
+OF_PROGRAMS = Asks({"memset", "__udivti3", *MEMORY}, {"xmm0", "xmm1"}, ABSOLUTE)
 
 
 def said_by(*words):
