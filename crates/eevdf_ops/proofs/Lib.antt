@@ -10,7 +10,6 @@ pub mod MachinePlaces
 pub mod Carried
 pub mod Pulling
 pub mod SurelyBalanced
-pub mod AllowedDeeds
 pub mod DeedNames
 pub mod WholePlaces
 pub mod StartingPlaces

@@ -1,5 +1,6 @@
 pub mod Numbers
 pub mod Setup
+pub mod Homes
 pub mod Faults
 pub mod Machine
 pub mod OneQueue
@@ -10,7 +11,7 @@ pub mod Acts
 pub mod LocalActs
 pub mod Transfers
 pub mod Whole
-pub mod PickTurns
+pub mod PickDepths
 pub mod Outcome
 pub mod Laws
 pub mod Parts

@@ -41,20 +41,5 @@ is_allowed cpus homes (Wake cpu task sender) = nat_lt cpu cpus && nat_lt sender 
 is_allowed cpus homes (Pull cpu source) = nat_lt cpu cpus && is_source cpus cpu source
 is_allowed cpus homes (Renice cpu task nice) = nat_lt cpu cpus && is_task homes task
 
--- whether a machine of so many CPUs and tasks has those that a deed names, and a pull is from another CPU
-abbrev pub is_within : ℕ → ℕ → Deed → Bool
-is_within cpus tasks (Tick cpu ns) = nat_lt cpu cpus
-is_within cpus tasks (Pick cpu) = nat_lt cpu cpus
-is_within cpus tasks (Yield cpu) = nat_lt cpu cpus
-is_within cpus tasks (Sleep cpu task) = nat_lt cpu cpus && nat_lt task tasks
-is_within cpus tasks (Wake cpu task sender) = nat_lt cpu cpus && nat_lt sender cpus && nat_lt task tasks
-is_within cpus tasks (Pull cpu source) = nat_lt cpu cpus && is_source cpus cpu source
-is_within cpus tasks (Renice cpu task nice) = nat_lt cpu cpus && nat_lt task tasks
-
--- whether a deed, if it is a wake, is one at the task's home
-abbrev pub wakes_at_home : List ℕ → Deed → Bool
-wakes_at_home homes (Wake cpu task sender) = is_at_home homes task cpu
-wakes_at_home homes deed = true
-
 abbrev pub allows : Setup → Deed → Bool
 allows s deed = is_allowed (cpus_of s) (homes_of s) deed

@@ -101,7 +101,7 @@ pub enum Deed {
 
 impl Deed {
     ghost use Rattle.std.specs.Prelude.{◌≡◌};
-    ghost use Rattle.eevdf_ops.specs.{Parts.decider, Setup.is_within};
+    ghost use Rattle.eevdf_ops.specs.Parts.{decider};
 
     /// The CPU that does it.
     pub fn cpu(self) -> CpuId
@@ -115,24 +115,6 @@ impl Deed {
             | Deed::Wake { cpu, .. }
             | Deed::Pull { cpu, .. }
             | Deed::Renice { cpu, .. } => cpu,
-        }
-    }
-
-    /// Whether a machine of so many CPUs and tasks has those that the deed names, and a pull is from another CPU.
-    pub(crate) fn is_within(&self, cpus: usize, tasks: usize) -> bool
-        ensures { result ≡ is_within cpus tasks self.now }
-    {
-        match *self {
-            Deed::Tick { cpu, .. } | Deed::Pick { cpu } | Deed::Yield { cpu } => cpu.index() < cpus,
-            Deed::Sleep { cpu, task } | Deed::Renice { cpu, task, .. } => {
-                cpu.index() < cpus && task.index() < tasks
-            }
-            Deed::Wake { cpu, task, sender } => {
-                cpu.index() < cpus && sender.index() < cpus && task.index() < tasks
-            }
-            Deed::Pull { cpu, source } => {
-                cpu.index() < cpus && source.index() < cpus && source.get() != cpu.get()
-            }
         }
     }
 }

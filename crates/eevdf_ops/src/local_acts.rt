@@ -3,7 +3,7 @@
 ghost use Rattle.std.specs.Prelude.{◌≡◌};
 ghost use Rattle.eevdf_queue.specs.Leaving.{carried_running};
 ghost use Rattle.eevdf_ops.specs.LocalActs.{local_done, slept_here};
-ghost use Rattle.eevdf_ops.specs.PickTurns.{HasActTurns};
+ghost use Rattle.eevdf_ops.specs.PickDepths.{HasActDepth};
 
 use crate::acts::LocalAct;
 use crate::deeds::Answer;
@@ -11,12 +11,12 @@ use crate::sleep::leave_running;
 use eevdf_queue::{Queue, TaskId};
 
 impl LocalAct {
-    /// Does the act on the queue of its CPU, and answers it. It takes no memory. A pick takes no more turns than `Queue::pick` says.
+    /// Does the act on the queue of its CPU, and answers it. It takes no memory. A pick goes no deeper than `Queue::pick` says.
     #[inline(always)]
     pub fn apply(self, queue: &mut Queue) -> Answer
         ensures answer { result ≡ (local_done self queue.old.state).0 }
         ensures after { queue.new.state ≡ (local_done self queue.old.state).1 }
-        ensures turns { HasActTurns self queue.old.state queue.new.pick_depth }
+        ensures depth { HasActDepth self queue.old.state queue.new.pick_depth }
     {
         match self {
             LocalAct::Tick(ns) => Answer::from(queue.tick(ns)),

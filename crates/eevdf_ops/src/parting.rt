@@ -6,6 +6,7 @@ ghost use Rattle.eevdf_ops.specs.{Acts.act_of, Acts.sleep_from, Parts.decider, S
 use crate::acts::{Act, LocalAct, Transfer};
 use crate::cpu_id::CpuId;
 use crate::deeds::Deed;
+use crate::homes::Homes;
 use eevdf_queue::TaskId;
 
 /// The CPU that does a deed, and what it does, where tasks have these homes.
@@ -19,7 +20,7 @@ pub fn parted(homes: &[CpuId], deed: Deed) -> (CpuId, Act)
         Deed::Tick { cpu, ns } => (cpu, Act::Local(LocalAct::Tick(ns))),
         Deed::Pick { cpu } => (cpu, Act::Local(LocalAct::Pick)),
         Deed::Yield { cpu } => (cpu, Act::Local(LocalAct::Yield)),
-        Deed::Sleep { cpu, task } => (cpu, sleep_from(cpu, task, homes[task.index()])),
+        Deed::Sleep { cpu, task } => (cpu, sleep_from(cpu, task, Homes::Alone(homes).home(task))),
         Deed::Wake { cpu, task, sender } => (cpu, Act::Local(LocalAct::Wake { task, sender })),
         Deed::Pull { cpu, source } => (cpu, Act::Transfer(source, Transfer::Pull)),
         Deed::Renice { cpu, task, nice } => (cpu, Act::Local(LocalAct::Renice(task, nice))),

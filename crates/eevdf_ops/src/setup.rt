@@ -8,6 +8,7 @@ ghost use Rattle.std.specs.List.{enumerate_from};
 
 use crate::cpu_id::CpuId;
 use crate::deeds::{Deed, Op};
+use crate::homes::Homes;
 use crate::setup_check::setup_fault;
 use crate::setup_fault::SetupFault;
 use crate::setup_tasks::SetupTasks;
@@ -130,20 +131,10 @@ impl Setup {
 
     /// Whether the setup has the CPU, the task, the sender and the source that a deed names, a wake is at the
     /// task's home, and a pull is from another CPU.
-    #[tactic(auto, using(crate::proofs::AllowedDeeds::allowed_by_parts))]
     pub fn allows(&self, deed: &Deed) -> bool
         ensures { result ≡ setup.allows self.now deed.now }
     {
-        deed.is_within(self.cpus(), self.tasks()) && self.wakes_at_home(deed)
-    }
-
-    fn wakes_at_home(&self, deed: &Deed) -> bool
-        ensures { result ≡ setup.wakes_at_home (setup.homes_of self.now) deed.now }
-    {
-        match *deed {
-            Deed::Wake { cpu, task, .. } => self.is_at_home(task, cpu),
-            _ => true,
-        }
+        Homes::Of(&self.tasks).allows(self.cpus(), deed)
     }
 
     /// Whether the setup has a CPU.
@@ -157,13 +148,7 @@ impl Setup {
     pub fn has_task(&self, task: TaskId) -> bool
         ensures { result ≡ setup.is_task (setup.homes_of self.now) task }
     {
-        task.index() < self.tasks()
-    }
-
-    fn is_at_home(&self, task: TaskId, cpu: CpuId) -> bool
-        ensures { result ≡ setup.is_at_home (setup.homes_of self.now) task cpu }
-    {
-        self.has_task(task) && self.spec(task).home.get() == cpu.get()
+        Homes::Of(&self.tasks).has_task(task)
     }
 }
 

@@ -1,13 +1,13 @@
 ghost use Rattle.std.specs.Prelude.{◌≡◌, ◌<◌, ◌↔◌, nat_lt, length, true, false, IfOk, IfSome};
 ghost use Rattle.std.specs.Prelude.{IfNone, IsNone, OnSome, slice_index_or};
-ghost use Rattle.eevdf_ops.specs.Setup.{cpus_of, homes_of, is_allowed, is_at_home, is_task};
-ghost use Rattle.eevdf_ops.specs.Setup.{wakes_at_home};
+ghost use Rattle.eevdf_ops.specs.Setup.{cpus_of, homes_of, is_allowed, is_task};
 ghost use Rattle.eevdf_ops.specs.Machine as machine;
-ghost use Rattle.eevdf_ops.specs.{Outcome.machine_of, PickTurns.HasPickTurns, Places.IsPlaced};
+ghost use Rattle.eevdf_ops.specs.{Outcome.machine_of, PickDepths.HasPickDepth, Places.IsPlaced};
 ghost use Rattle.eevdf_ops.specs.Whole as operation;
 
 use crate::cpu_id::CpuId;
 use crate::deeds::{Answer, Deed};
+use crate::homes::Homes;
 use crate::machine_start::queues_at_start;
 use crate::setup::Setup;
 use crate::whole_deeds::whole;
@@ -52,14 +52,14 @@ impl Solo {
         Ok(Solo { homes, queues })
     }
 
-    /// Does a deed at once, and answers it. It takes no memory. A pick takes no more turns than `Queue::pick` says.
+    /// Does a deed at once, and answers it. It takes no memory. A pick goes no deeper than `Queue::pick` says.
     pub fn apply(&mut self, deed: Deed) -> Answer
         requires { is_allowed (length self.old.queues) self.old.homes deed ≡ true }
         ensures answer { result
             ≡ (operation.whole self.old.homes deed (machine_of self.old.queues)).0 }
         ensures machine { machine_of self.new.queues
             ≡ (operation.whole self.old.homes deed (machine_of self.old.queues)).1 }
-        ensures turns { HasPickTurns (machine_of self.old.queues) deed self.new.queues }
+        ensures depth { HasPickDepth (machine_of self.old.queues) deed self.new.queues }
         ensures homes { self.new.homes ≡ self.old.homes }
         ensures cpus { length self.new.queues ≡ length self.old.queues }
     {
@@ -75,8 +75,8 @@ impl Solo {
             ≡ (operation.whole self.old.homes deed (machine_of self.old.queues)).0) }
         ensures machine { OnSome result (machine_of self.new.queues
             ≡ (operation.whole self.old.homes deed (machine_of self.old.queues)).1) }
-        ensures turns { OnSome result
-            (HasPickTurns (machine_of self.old.queues) deed self.new.queues) }
+        ensures depth { OnSome result
+            (HasPickDepth (machine_of self.old.queues) deed self.new.queues) }
         ensures homes { self.new.homes ≡ self.old.homes }
         ensures cpus { length self.new.queues ≡ length self.old.queues }
     {
@@ -89,20 +89,10 @@ impl Solo {
 
     /// Whether the machine has the CPU, the task, the sender and the source that a deed names, a wake is at the task's
     /// home, and a pull is from another CPU: the condition of `apply`.
-    #[tactic(auto, using(crate::proofs::AllowedDeeds::allowed_by_parts))]
     pub fn allows(&self, deed: &Deed) -> bool
         ensures { result ≡ is_allowed (length self.now.queues) self.now.homes deed.now }
     {
-        deed.is_within(self.queues.len(), self.homes.len()) && self.wakes_at_home(deed)
-    }
-
-    fn wakes_at_home(&self, deed: &Deed) -> bool
-        ensures { result ≡ wakes_at_home self.now.homes deed.now }
-    {
-        match *deed {
-            Deed::Wake { cpu, task, .. } => self.is_at_home(task, cpu),
-            _ => true,
-        }
+        Homes::Alone(&self.homes).allows(self.queues.len(), deed)
     }
 
     /// Whether the machine has a CPU.
@@ -116,13 +106,7 @@ impl Solo {
     pub fn has_task(&self, task: TaskId) -> bool
         ensures { result ≡ is_task self.now.homes task }
     {
-        task.index() < self.homes.len()
-    }
-
-    fn is_at_home(&self, task: TaskId, cpu: CpuId) -> bool
-        ensures { result ≡ is_at_home self.now.homes task cpu }
-    {
-        self.has_task(task) && self.homes[task.index()].get() == cpu.get()
+        Homes::Alone(&self.homes).has_task(task)
     }
 
     /// The queue of a CPU.

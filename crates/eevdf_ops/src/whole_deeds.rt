@@ -2,7 +2,7 @@
 
 ghost use Rattle.std.specs.Prelude.{◌≡◌, ◌≢◌, ◌<◌, length, true};
 ghost use Rattle.eevdf_ops.specs.{Machine.queue_at, Outcome.machine_of};
-ghost use Rattle.eevdf_ops.specs.{PickTurns.HasPickTurns, Places.AreCpus, Places.IsPlaced};
+ghost use Rattle.eevdf_ops.specs.{PickDepths.HasPickDepth, Places.AreCpus, Places.IsPlaced};
 ghost use Rattle.eevdf_ops.specs.{Setup.is_allowed, Transfers.NoneTwice};
 ghost use Rattle.eevdf_ops.specs.declared.acts.Act.TheVariants as act;
 ghost use Rattle.eevdf_ops.specs.Whole as operation;
@@ -21,7 +21,7 @@ pub(crate) fn whole(homes: &[CpuId], deed: Deed, queues: &mut [Queue]) -> Answer
     ensures answer { result ≡ (operation.whole homes.now deed (machine_of queues.old)).0 }
     ensures machine { machine_of queues.new
         ≡ (operation.whole homes.now deed (machine_of queues.old)).1 }
-    ensures turns { HasPickTurns (machine_of queues.old) deed queues.new }
+    ensures depth { HasPickDepth (machine_of queues.old) deed queues.new }
 {
     let (cpu, act) = parted(homes, deed);
     match act {

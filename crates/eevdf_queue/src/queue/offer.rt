@@ -1,9 +1,9 @@
 //! What a queue offers to another CPU.
 
-ghost use Rattle.std.specs.Prelude.{◌≡◌, ◌↔◌, IfSome, IsNone, true, false};
+ghost use Rattle.std.specs.Prelude.{◌≡◌, ◌↔◌, IfSome, IsNone, Some, true, false};
 ghost use Rattle.std.specs.FinMap as map;
 ghost use Rattle.eevdf_queue.specs.Candidate as candidates;
-ghost use Rattle.eevdf_queue.specs.{Lag.is_lag, Offers.offer};
+ghost use Rattle.eevdf_queue.specs.{Lag.is_lag, Leaving.carried, Offers.offer};
 
 use crate::lag::kept_lag;
 use crate::queue::Queue;
@@ -74,6 +74,7 @@ impl Queue {
     /// task waits.
     pub fn offer(&self) -> Option<Offer<'_>>
         ensures value { result ≡ offer self.now.state }
+        ensures carried { IfSome result (λ o. carried self.now.state o.task ≡ Some o) }
         ensures last { IfSome result
             (λ o. candidates.IsCandidate self.now.state.runnable self.now.state.running o.task) }
         ensures waiting { IfSome result (λ o. (map.contains_key self.now.state.runnable o.task ≡ true)

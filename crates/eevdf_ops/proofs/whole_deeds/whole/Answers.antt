@@ -3,7 +3,7 @@ use Rattle.eevdf_queue.specs.State.{State}
 use Rattle.eevdf_ops.specs.{declared.deeds.Answer.Answer, Machine.Machine, Outcome.machine_of, LocalActs.local_done, Parts.decider}
 use Rattle.eevdf_ops.proofs.{Machines.length-machine_of, Machines.of_queue, Machines.queue_written, MachinePlaces.none-twice}
 use Rattle.eevdf_ops.proofs.DeedNames.{PullNames, decider_below, transfer_names}
-use Rattle.eevdf_ops.proofs.{PickDescents.turns_of_deed, WholeActs.whole-by}
+use Rattle.eevdf_ops.proofs.{PickDescents.depth_of_deed, WholeActs.whole-by}
 use Rattle.eevdf_ops.proofs.whole_deeds.whole.Goals as goal
 
 pub across-requires-clause-once : goal.across-requires-clause-once
@@ -28,11 +28,11 @@ returns-in-Local-clause-machine c =
     ∙ ap (λ (r : Answer × Machine). r.1)
     (sym (whole-by c.args.homes.now c.args.deed (machine_of c.args.queues.now) c.parted-cpu.result.0 _ (sym c.parted-cpu.ensures.act ∙ c.in-Local.is) (sym c.parted-cpu.ensures.cpu)))
 
-pub returns-in-Local-clause-turns : goal.returns-in-Local-clause-turns
-returns-in-Local-clause-turns c =
-    turns_of_deed c.args.homes.now c.args.deed c.in-Local.act c.args.queues.now c.parted-cpu.result.0 c.index.result c.index-queues-index.result c.apply.new.queue
+pub returns-in-Local-clause-depth : goal.returns-in-Local-clause-depth
+returns-in-Local-clause-depth c =
+    depth_of_deed c.args.homes.now c.args.deed c.in-Local.act c.args.queues.now c.parted-cpu.result.0 c.index.result c.index-queues-index.result c.apply.new.queue
     (sym c.parted-cpu.ensures.act ∙ c.in-Local.is) (sym c.parted-cpu.ensures.cpu) c.index.ensures.number
-    (omega (arith, c.index.ensures.number, c.parted-cpu.ensures.cpu, decider_below (length c.args.queues.now) c.args.homes.now c.args.deed c.requires.allowed)) c.apply.ensures.turns
+    (omega (arith, c.index.ensures.number, c.parted-cpu.ensures.cpu, decider_below (length c.args.queues.now) c.args.homes.now c.args.deed c.requires.allowed)) c.apply.ensures.depth
 
 pub returns-in-Transfer-clause-answer : goal.returns-in-Transfer-clause-answer
 returns-in-Transfer-clause-answer c =
