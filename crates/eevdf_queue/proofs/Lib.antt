@@ -1,4 +1,4 @@
-mod Bounds
+pub mod Bounds
 mod Roomy
 mod MapFolds
 mod ListMaps
@@ -8,48 +8,48 @@ pub mod Foremost
 mod Earliest
 mod RunnableMaps
 mod TreeLeasts
-mod TreeHeights
+pub mod TreeHeights
 mod TreeOrder
-mod TreeLengths
+pub mod TreeLengths
 mod TreeSearch
 mod TreeSides
 mod TreeEligible
-mod TreeLast
+pub mod TreeLast
 mod LastOfAll
 mod TreeSorted
-mod AsleepMaps
-mod Sound
+pub mod AsleepMaps
+pub mod Sound
 mod Picking
 pub mod Scaled
-mod Signed
+pub mod Signed
 mod Mean
-mod SomeEligible
+pub mod SomeEligible
 mod Picked
 mod SleepingLag
 mod TreeLists
 mod TreeSeen
-mod TreeMaps
-mod TreeCandidates
-mod TreeChange
-mod TreeAge
+pub mod TreeMaps
+pub mod TreeCandidates
+pub mod TreeChange
+pub mod TreeAge
 mod Ageing
 mod ChargedRange
-mod TreeTotals
-mod PickedTasks
+pub mod TreeTotals
+pub mod PickedTasks
 mod Waiting
-mod Offering
-mod SmallSums
-mod Renicing
-mod Joining
-mod Ascending
+pub mod Offering
+pub mod SmallSums
+pub mod Renicing
+pub mod Joining
+pub mod Ascending
 mod Descending
 mod OneSide
-mod ShortestTicks
-mod SliceChanging
-mod Closing
+pub mod ShortestTicks
+pub mod SliceChanging
+pub mod Closing
 mod AsleepCounts
 pub mod Floors
-mod LoweredLists
+pub mod LoweredLists
 mod LoweredMaps
 mod LoweredQueues
 mod LoweredStores

@@ -143,6 +143,7 @@ impl Queue {
 
     /// The lag that a runnable task would keep if it left now, the kept lag of a sleeping one, and `None` of
     /// any other.
+    #[tactic(auto, using(crate::proofs::Bounds::range_v))]
     pub fn lag_of(&self, task: TaskId) -> Option<i64>
         ensures value { result ≡ lags.lag_of self.now.state task }
         ensures limited { IfSome result

@@ -64,6 +64,7 @@ fn cost(entry: &Entry, ns: u64) -> i64
 }
 
 /// The entry after the task has run for `ns`.
+#[tactic(auto, using(crate::proofs::Bounds::within, crate::proofs::Signed::sum_fits, crate::proofs::Signed::sum_kept))]
 fn aged(entry: &Entry, ns: Ns) -> Entry
     requires { limits.is_in_range entry.now.v ≡ true }
     ensures value { result ≡ record entry.now { v = ticks.aged entry.now ns } }

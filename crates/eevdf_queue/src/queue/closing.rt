@@ -30,6 +30,7 @@ impl Queue {
     }
 
     /// Takes out the sleeping task of lowest number.
+    #[tactic(auto, using(crate::proofs::Closing::fewer_asleep, crate::proofs::Closing::first_there, crate::proofs::Closing::none_asleep, crate::proofs::Closing::none_where))]
     fn take_sleeper(&mut self) -> Option<Parcel>
         ensures parcel { result
             ≡ (closing.take_sleeper self.old.state (closing.first_number (sleeping_tasks self.old.state))).0 }

@@ -72,6 +72,7 @@ impl Queue {
     /// The task that another CPU may pull, which `candidate` names, with what it would carry. It takes the search of
     /// `candidate` and no other: a descent of the tree, and a second one where the last task runs. `None` exactly where no
     /// task waits.
+    #[tactic(auto, using(crate::proofs::Offering::carried_of, crate::proofs::Offering::offer_of))]
     pub fn offer(&self) -> Option<Offer<'_>>
         ensures value { result ≡ offer self.now.state }
         ensures carried { IfSome result (λ o. carried self.now.state o.task ≡ Some o) }

@@ -115,6 +115,7 @@ impl Queue {
     }
 
     /// The first runnable task from a number on, with its entry.
+    #[tactic(auto, using(crate::proofs::Ascending::numbered, crate::proofs::Ascending::none_here, crate::proofs::Ascending::one_here))]
     fn runnable_from(&self, first: u64) -> Option<(TaskId, Entry)>
         ensures { MatchOption result (from_number first (runnable_tasks self.now.state) ≡ [])
             (λ found. from_number first (runnable_tasks self.now.state)
@@ -131,6 +132,7 @@ impl Queue {
     }
 
     /// The first sleeping task from a number on, with the lag that it keeps.
+    #[tactic(auto, using(crate::proofs::Ascending::numbered, crate::proofs::Ascending::none_asleep, crate::proofs::Ascending::none_here))]
     pub(crate) fn asleep_from(&self, first: u64) -> Option<(TaskId, i64)>
         ensures { MatchOption result (from_number first (finite.entries self.now.state.asleep) ≡ [])
             (λ found. map with_lag (from_number first (finite.entries self.now.state.asleep))

@@ -8,6 +8,7 @@ use crate::entry::Entry;
 use eevdf_weight::{Ns, weight};
 
 /// The shortest tick that uses up the request of a task with this entry. `None` where no tick does.
+#[tactic(auto, using(crate::proofs::ShortestTicks::by_left))]
 pub fn time_to_use_up(entry: &Entry) -> Option<Ns>
     requires { is_entry_in_range entry.now ≡ true }
     ensures { IsShortest (is_used_up entry.now) result }
@@ -38,6 +39,7 @@ fn distance(entry: &Entry) -> i64
 const FURTHEST: u64 = 1 << 40;
 
 /// The shortest tick by which a weight ages so far. `None` where no tick suffices.
+#[tactic(auto, using(crate::proofs::ShortestTicks::too_far))]
 fn time_to_age(distance: u64, weight: u64) -> Option<Ns>
     requires weighs { 1 ≤ weight }
     requires light { weight ≤ 88761 }

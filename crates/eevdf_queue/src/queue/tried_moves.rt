@@ -32,6 +32,7 @@ impl Queue {
 
     /// Makes a task runnable with the lag of its parcel, as `attach` does. Where the task is here already, or else where
     /// it can't be placed in range, the parcel comes back with that reason, and nothing has changed.
+    #[tactic(auto, using(crate::proofs::Joining::not_joined, crate::proofs::Joining::sleeper_read))]
     pub fn try_attach(&mut self, parcel: Parcel) -> Result<(), Refused>
         ensures cases { MatchResult result
             (λ _. tried self.old.state parcel.task

@@ -31,6 +31,7 @@ impl Queue {
     /// `k` such that `2 ^ (k / 2) <= n + 1`, where the root's depth is 1, and the descent to it goes over so many nodes. Where
     /// no task was put in, taken out, charged or given another entry since the last pick, its answer still holds, with its
     /// depth, and no descent is made.
+    #[tactic(auto, using(crate::proofs::TreeHeights::low))]
     pub fn pick(&mut self) -> Option<TaskId>
         ensures number { result ≡ pick_of self.old.state.runnable }
         ensures picked { IfSome result (IsPick self.old.state.runnable) }
@@ -114,6 +115,7 @@ impl Queue {
     /// shorter one does. A timer that is set to it makes periodic ticks needless. `None` exactly where nobody runs, or where the
     /// longest tick, of a second, leaves some of the request. Where the fresh request would be out of range, a tick of that
     /// length answers `Range`.
+    #[tactic(auto, using(crate::proofs::ShortestTicks::running_shortest, crate::proofs::ShortestTicks::nobody_ends))]
     pub fn time_to_resched(&self) -> Option<Ns>
         ensures { IsShortest (λ ns. ends_request (ticks.tick self.now.state ns).0) result }
     {

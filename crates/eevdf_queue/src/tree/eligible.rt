@@ -32,6 +32,7 @@ impl Threshold {
 }
 
 /// Whether a task is eligible among tasks with these sums.
+#[tactic(auto, using(crate::proofs::Signed::moment_compared))]
 pub fn is_task_eligible(totals: &Threshold, task: &Task) -> bool
     requires { totals.now.weight ≤ 2 ^ 40 }
     ensures { result ≡ is_eligible_at totals.now.weight totals.now.moment task.now.entry }
@@ -40,6 +41,7 @@ pub fn is_task_eligible(totals: &Threshold, task: &Task) -> bool
 }
 
 /// Whether the least virtual runtime is eligible among tasks with these sums.
+#[tactic(auto, using(crate::proofs::Signed::moment_compared))]
 pub fn is_least_eligible(totals: &Threshold, least: &Least) -> bool
     requires { totals.now.weight ≤ 2 ^ 40 }
     ensures { result ≡ int_le (least.now.runtime *ℤ pos totals.now.weight) totals.now.moment }

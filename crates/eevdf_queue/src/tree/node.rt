@@ -206,6 +206,7 @@ pub fn find(link: &Option<Box<TreeNode>>, key: &TreeKey) -> Option<Task>
 
 /// The first eligible task below a link, left before right, and the depth of its node. Where there is a task, some task is
 /// eligible.
+#[tactic(auto, using(crate::proofs::SomeEligible::someone_there))]
 pub fn first_eligible<'a>(link: &'a Option<Box<TreeNode>>, totals: &Threshold) -> Option<Found<'a>>
     requires few { totals.now.weight ≤ 2 ^ 40 }
     requires small { length (tasks_in link.now) ≤ 2 ^ 20 }
@@ -268,6 +269,7 @@ fn first_under<'a>(root: &'a TreeNode, totals: &Threshold) -> Found<'a>
 }
 
 /// The last task below a link.
+#[tactic(auto, using(crate::proofs::TreeLast::past_waiting, crate::proofs::TreeLast::seen_from_none))]
 pub fn last_task<'a>(link: &'a Option<Box<TreeNode>>) -> Option<&'a Task>
     ensures { option_map (λ t. t.now) result ≡ last_waiting None (tasks_in link.now) }
 {
@@ -282,6 +284,7 @@ pub fn last_task<'a>(link: &'a Option<Box<TreeNode>>) -> Option<&'a Task>
 }
 
 /// The last task below a link that isn't the running one, or else the task that was seen before.
+#[tactic(auto, using(crate::proofs::TreeLast::last_seen, crate::proofs::TreeLast::past_running, crate::proofs::TreeLast::past_waiting, crate::proofs::TreeLast::seen_after))]
 pub fn last_waiting<'a>(
     link: &'a Option<Box<TreeNode>>,
     running: TaskId,

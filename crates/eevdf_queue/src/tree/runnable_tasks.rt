@@ -112,6 +112,7 @@ impl RunnableTasks {
 
     /// Answers as `get` does. Of a task that isn't here this takes a look at the table and no search. `get` doesn't look, since it
     /// is mostly asked for the task that runs.
+    #[tactic(auto, using(crate::proofs::TreeMaps::unkept))]
     #[inline(always)]
     pub fn look_up(&self, task: TaskId) -> Option<Entry>
         ensures { result ≡ map.get self.now.tasks task }
@@ -123,6 +124,7 @@ impl RunnableTasks {
     }
 
     /// Gives a task that is here with an older entry another one.
+    #[tactic(auto, using(crate::proofs::PickedTasks::sums_kept, crate::proofs::TreeMaps::entry_here, crate::proofs::TreeTotals::totals_small))]
     #[inline(always)]
     pub fn set(&mut self, task: TaskId, older: &Entry, entry: Entry)
         requires here { map.get self.old.tasks task ≡ Some older.now }
@@ -135,6 +137,7 @@ impl RunnableTasks {
     }
 
     /// Gives a task that is here with an older entry one of another request, whose virtual runtime is near the older one.
+    #[tactic(auto, using(crate::proofs::PickedTasks::sums_kept, crate::proofs::TreeMaps::entry_here, crate::proofs::TreeTotals::totals_near))]
     #[inline(always)]
     pub fn renew(&mut self, task: TaskId, older: &Entry, newer: Entry)
         requires here { map.get self.old.tasks task ≡ Some older.now }
@@ -149,6 +152,7 @@ impl RunnableTasks {
     }
 
     /// Gives a task that is here with an older entry one of a later virtual runtime. The task keeps its place.
+    #[tactic(auto, using(crate::proofs::TreeTotals::totals_near, crate::proofs::TreeMaps::entry_here, crate::proofs::TreeChange::set_seen, crate::proofs::PickedTasks::sums_kept))]
     #[inline(always)]
     pub fn age(&mut self, task: TaskId, older: &Entry, newer: &Entry)
         requires here { map.get self.old.tasks task ≡ Some older.now }
@@ -165,6 +169,7 @@ impl RunnableTasks {
     }
 
     /// Adds a task that isn't here, in the node of its parcel.
+    #[tactic(auto, using(crate::proofs::TreeMaps::find_absent, crate::proofs::TreeMaps::added_room, crate::proofs::PickedTasks::sums_kept, crate::proofs::TreeTotals::totals_near))]
     pub fn add(&mut self, parcel: Parcel, entry: Entry)
         requires absent { map.get self.old.tasks parcel.task ≡ None }
         requires in_range { is_entry_in_range entry ≡ true }
@@ -182,6 +187,7 @@ impl RunnableTasks {
     }
 
     /// Takes out a task that is here, in a parcel with the lag that it keeps at this virtual time.
+    #[tactic(auto, using(crate::proofs::TreeMaps::find_present, crate::proofs::TreeTotals::totals_near, crate::proofs::PickedTasks::sums_kept))]
     pub fn remove(&mut self, task: TaskId, time: i64) -> Parcel
         requires here { map.contains_key self.old.tasks task ≡ true }
         requires time { limits.is_in_range time ≡ true }
@@ -279,6 +285,7 @@ impl RunnableTasks {
 
     /// Lowers the virtual runtimes and the deadlines of all tasks, in one walk over them, and answers whether all stay in range;
     /// where they don't, they stay as they are, by a second walk. The pick that is kept stays so.
+    #[tactic(auto, using(crate::proofs::TreeTotals::totals_near, crate::proofs::LoweredLists::near_runnable, crate::proofs::LoweredLists::near_lowered, crate::proofs::PickedTasks::sums_kept))]
     pub fn lower(&mut self, by: i64) -> bool
         requires { unsigned_abs by ≤ 2 ^ 60 }
         ensures in_range { result ≡ can_lower by self.old.tasks }
@@ -296,6 +303,7 @@ impl RunnableTasks {
     }
 
     /// The last task by deadline and number of those that don't run.
+    #[tactic(auto, using(crate::proofs::TreeCandidates::latest_is))]
     pub fn latest_waiting(&self, running: Option<TaskId>) -> Option<&Task>
         ensures { option_map (λ t. numbered_entry t.now) result
             ≡ latest_waiting running (map.entries self.now.tasks) }
@@ -321,6 +329,7 @@ impl RunnableTasks {
     }
 
     /// Learns how large the sums over the tasks can be.
+    #[tactic(auto, using(crate::proofs::SmallSums::sums_small))]
     pub fn sums_are_small(&self)
         ensures { AreSumsSmall self.now.tasks }
     {
@@ -330,6 +339,7 @@ impl RunnableTasks {
 }
 
 /// Gives the task of a number, which is here with an older entry, another one, with which it takes its place anew.
+#[tactic(auto, using(crate::proofs::TreeAge::at_deadline, crate::proofs::TreeTotals::entry_found, crate::proofs::TreeMaps::taken_absent, crate::proofs::TreeMaps::taken_room))]
 #[inline(always)]
 fn replace(
     tree: &mut TaskTree,
@@ -352,6 +362,7 @@ fn replace(
 }
 
 /// Takes the task of a number, which is here, out of the tree, in its node, and has its deadline forgotten.
+#[tactic(auto, using(crate::proofs::TreeMaps::placed))]
 #[inline(always)]
 fn take(tree: &mut TaskTree, deadlines: &mut DeadlineTable, task: TaskId) -> Box<TreeNode>
     requires here { is_some (find_task task tree.old.tasks) ≡ true }

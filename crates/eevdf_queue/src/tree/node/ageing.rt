@@ -102,6 +102,7 @@ fn age_least(link: &mut Option<Box<TreeNode>>, key: TreeKey, runtimes: Runtimes)
 }
 
 /// The lesser of a least virtual runtime and the one below a link.
+#[tactic(auto, using(crate::proofs::TreeAge::lesser_none, crate::proofs::TreeAge::lesser_swapped))]
 fn with_below(least: &Least, link: &Option<Box<TreeNode>>) -> Least
     ensures behind { result ≡ lesser least.now (least_of (tasks_in link.now)) }
     ensures before { result ≡ lesser (least_of (tasks_in link.now)) least.now }

@@ -85,6 +85,7 @@ pub fn remove(link: &mut Option<Box<TreeNode>>, key: TreeKey) -> Taken
 }
 
 /// Takes the last task below a link out, in its node.
+#[tactic(auto, using(crate::proofs::TreeLengths::right_shorter, crate::proofs::TreeLengths::few_right, crate::proofs::TreeLengths::last_taken, crate::proofs::TreeLengths::one_fewer))]
 fn remove_last(link: &mut Option<Box<TreeNode>>) -> Taken
     requires some { is_some link.old ≡ true }
     requires few { length (tasks_in link.old) ≤ 2 ^ 20 }

@@ -15,6 +15,7 @@ use crate::tree::lowering::lowered;
 
 /// Lowers the virtual runtimes and the deadlines of the tasks below a link, notes these in the table, and answers whether all
 /// are in range afterwards.
+#[tactic(auto, using(crate::proofs::LoweredLists::depths_lowered, crate::proofs::LoweredLists::noted_around))]
 pub fn lower(link: &mut Option<Box<TreeNode>>, deadlines: &mut DeadlineTable, by: i64) -> bool
     requires near { AllByRecursion IsNear (tasks_in link.old) }
     requires small { unsigned_abs by ≤ 2 ^ 60 }

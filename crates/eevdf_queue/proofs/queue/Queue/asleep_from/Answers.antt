@@ -4,16 +4,8 @@ use Rattle.std.proofs.lemmas.Int.{to_z-of_z}
 use mir.Syntax.{w64}
 use mir.Val.{SFits}
 use Rattle.eevdf_queue.specs.Ascending.{from_number, with_lag}
-use Rattle.eevdf_queue.proofs.Ascending.{numbered, none_asleep, one_asleep, none_here, at_end}
+use Rattle.eevdf_queue.proofs.Ascending.{numbered, one_asleep, at_end}
 use Rattle.eevdf_queue.proofs.queue.Queue.asleep_from.Goals as goal
-
-pub loop-number-preserved : goal.loop-number-preserved
-loop-number-preserved c =
-    let is : c.in_ok-task.task ≡ c.loop-number.number = numbered _ _ (sym c.new.ensures ∙ c.in_ok-task.was) in
-    c.loop-number.invariant
-    ∙ none_here c.loop-number.number c.args.self.now.state.asleep
-    (ap (get c.args.self.now.state.asleep) (sym is)
-    ∙ none_asleep (get c.args.self.now.state.asleep c.in_ok-task.task) (sym c.kept_asleep.ensures ∙ c.in_default.is))
 
 pub returns-in-Some : goal.returns-in-Some
 returns-in-Some c =

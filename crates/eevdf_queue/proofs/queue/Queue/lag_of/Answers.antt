@@ -1,12 +1,8 @@
 use Rattle.std.proofs.Common.{◌≤◌, sym, subst}
 use Rattle.std.specs.Prelude.{IfSome, unsigned_abs}
 use Rattle.eevdf_queue.specs.{State.State, State.View, Lag.limit_at}
-use Rattle.eevdf_queue.proofs.{Bounds.range_v, SleepingLag.sleeping_limited}
+use Rattle.eevdf_queue.proofs.{SleepingLag.sleeping_limited}
 use Rattle.eevdf_queue.proofs.queue.Queue.lag_of.Goals as goal
-
-pub kept_lag-requires-clause-placed : goal.kept_lag-requires-clause-placed
-kept_lag-requires-clause-placed c =
-    range_v c.in-Some.entry (c.keeps.ensures c.args.task c.in-Some.entry (sym c.in-Some.ensures)).1
 
 pub returns-in-None-clause-limited : goal.returns-in-None-clause-limited
 returns-in-None-clause-limited c =

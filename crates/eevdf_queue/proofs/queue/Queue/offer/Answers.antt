@@ -1,7 +1,7 @@
 use Rattle.std.proofs.Common.{◌≡◌, ◌∙◌, ℕ, Option, Some, None, ap}
 use Rattle.std.specs.{Option.option_map, FinMap.entries, FinMap.get}
 use Rattle.eevdf_queue.specs.{declared.entry.Entry.Entry, State.View, Candidate.latest_waiting, TreeTasks.numbered_entry}
-use Rattle.eevdf_queue.proofs.{Bounds.range_v, Offering.carried_of, Offering.found_here, Offering.offer_of, Waiting.candidate_last, Waiting.candidate_none, Waiting.candidate_waits}
+use Rattle.eevdf_queue.proofs.{Bounds.range_v, Offering.found_here, Waiting.candidate_last, Waiting.candidate_none, Waiting.candidate_waits}
 use Rattle.eevdf_queue.proofs.queue.Queue.offer.Goals as goal
 use Rattle.eevdf_queue.proofs.queue.Queue.offer.Goals.{In-Some}
 
@@ -23,14 +23,6 @@ inside_here c =
 pub invariant_of-result : goal.invariant_of-result
 invariant_of-result c =
     range_v c.in-Some.task.now.entry (c.keeps.ensures c.in-Some.task.now.number c.in-Some.task.now.entry (inside_here c)).1
-
-pub returns-in-Some-clause-value : goal.returns-in-Some-clause-value
-returns-in-Some-clause-value c =
-    offer_of c.args.self.now.state c.in-Some.task.now.number c.in-Some.task.now.entry (found c)
-
-pub returns-in-Some-clause-carried : goal.returns-in-Some-clause-carried
-returns-in-Some-clause-carried c =
-    carried_of c.args.self.now.state c.in-Some.task.now.number c.in-Some.task.now.entry (found c)
 
 pub returns-in-Some-clause-last : goal.returns-in-Some-clause-last
 returns-in-Some-clause-last c =

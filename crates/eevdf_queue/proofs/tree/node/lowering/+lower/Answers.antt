@@ -3,11 +3,10 @@ use Rattle.std.specs.{Prelude.ℤ, Prelude.◌-ℤ◌, Prelude.unsigned_abs, Lis
 use Rattle.std.proofs.lemmas.Int.{ints, to_z-of_z}
 use mir.Syntax.{w64}
 use mir.Val.{SFits}
-use Rattle.eevdf_queue.specs.{declared.task.Task.Task, Moves.is_entry_in_range, TreeShape.tasks_in, TreeShape.depths_in, TreeNodes.tasks_of, TreeNodes.depths_of}
+use Rattle.eevdf_queue.specs.{declared.task.Task.Task, Moves.is_entry_in_range, TreeShape.tasks_in, TreeNodes.tasks_of}
 use Rattle.eevdf_queue.specs.TreeLowering.{IsNear, lowered_task, lowered_list, are_tasks_in_range}
-use Rattle.eevdf_queue.specs.TreeStores.{kept_at}
 use Rattle.eevdf_queue.proofs.{AllTasks.all-left, AllTasks.all-right}
-use Rattle.eevdf_queue.proofs.LoweredLists.{around_lowered, depths_lowered, noted_around, in_range-around}
+use Rattle.eevdf_queue.proofs.LoweredLists.{around_lowered, in_range-around}
 use Rattle.eevdf_queue.proofs.tree.node.lowering.+lower.Goals as goal
 
 near_left : (ts xs : List Task) (t : Task) (ys : List Task) → ts ≡ xs ++ t ∷ ys → AllByRecursion IsNear ts → AllByRecursion IsNear xs
@@ -78,25 +77,6 @@ returns-clause-tasks t c =
     (c.lower-left.ensures.tasks ∙ ap (λ (z : ℤ). lowered_list z (tasks_in c.node.inside.parts.sides.left)) b)
     (c.lower_task-own.ensures.task ∙ ap (λ (z : ℤ). lowered_task z c.node.inside.parts.task) b)
     (c.lower-right.ensures.tasks ∙ ap (λ (z : ℤ). lowered_list z (tasks_in c.node.inside.parts.sides.right)) b)
-
-pub returns-clause-depths : goal.returns-clause-depths
-returns-clause-depths t c =
-    let e : depths_in c.args.link.now ≡ depths_of c.node.inside.parts = cc in
-    let b : to_z w64 (of_z w64 c.args.by) ≡ c.args.by = to_z-of_z w64 c.args.by c.ranges.by in
-    depths_lowered c.args.by (depths_in c.node.inside.parts.sides.left) (depths_in c.lower-left.new.link) (depths_in c.node.inside.parts.sides.right) (depths_in c.lower-right.new.link)
-    (tasks_in c.node.inside.parts.sides.left) (tasks_in c.lower-left.new.link) (tasks_in c.node.inside.parts.sides.right) (tasks_in c.lower-right.new.link) c.node.inside.parts.task c.lower_task-own.new.task
-    c.lower-left.ensures.depths
-    (c.lower-left.ensures.tasks ∙ ap (λ (z : ℤ). lowered_list z (tasks_in c.node.inside.parts.sides.left)) b)
-    (c.lower_task-own.ensures.task ∙ ap (λ (z : ℤ). lowered_task z c.node.inside.parts.task) b)
-    c.lower-right.ensures.depths
-    (c.lower-right.ensures.tasks ∙ ap (λ (z : ℤ). lowered_list z (tasks_in c.node.inside.parts.sides.right)) b)
-    ∙ sym e
-
-pub returns-clause-noted : goal.returns-clause-noted
-returns-clause-noted t c = λ q.
-    noted_around q (kept_at c.args.deadlines.now q) (kept_at c.lower-right.new.deadlines q) (kept_at c.note.new.self q) (kept_at c.lower-left.new.deadlines q)
-    (tasks_in c.lower-left.new.link) c.lower_task-own.new.task (tasks_in c.lower-right.new.link)
-    (c.lower-right.ensures.noted q) (c.note.ensures q) (c.lower-left.ensures.noted q)
 
 pub returns-clause-in_range : goal.returns-clause-in_range
 returns-clause-in_range t c =

@@ -1,7 +1,7 @@
 use Rattle.std.proofs.Common.{suc, refl, subst, ℕ, length}
 use Rattle.std.specs.Prelude.{max}
 use Rattle.eevdf_queue.specs.TreeShape.{tasks_in, height_in, IsFull}
-use Rattle.eevdf_queue.proofs.{TreeEligible.low-around, TreeHeights.full-node, TreeLeasts.least-node}
+use Rattle.eevdf_queue.proofs.{TreeHeights.full-node, TreeLeasts.least-node}
 use Rattle.eevdf_queue.proofs.tree.node.mending.look_around.Goals as goal
 
 pub returns-clause-least : goal.returns-clause-least
@@ -9,11 +9,6 @@ returns-clause-least c =
     least-node c.or-2.result c.least.result c.or.result c.of.result c.least-2.result
     (tasks_in c.args.parts.now.sides.left) c.args.parts.now.task (tasks_in c.args.parts.now.sides.right)
     c.or-2.ensures c.or.ensures c.least.ensures.value c.of.ensures.value c.least-2.ensures.value
-
-pub returns-clause-bounded : goal.returns-clause-bounded
-returns-clause-bounded c =
-    low-around (tasks_in c.args.parts.now.sides.left) c.args.parts.now.task (tasks_in c.args.parts.now.sides.right)
-    c.least.ensures.bounded c.of.ensures.low c.least-2.ensures.bounded
 
 pub returns-clause-full : goal.returns-clause-full
 returns-clause-full c = λ near.

@@ -1,22 +1,11 @@
 use Rattle.std.proofs.Common.{◌≡◌, ◌∙◌, ℕ, ◌<◌, ap, sym, subst, arith}
 use Rattle.std.specs.FinMap as map
 use Rattle.eevdf_queue.specs.{declared.task.Task.Task, State.Contents, TaskLists.first_task}
-use Rattle.eevdf_queue.proofs.TreeMaps.{find_absent, added_stored, added_seen, added_room}
+use Rattle.eevdf_queue.proofs.TreeMaps.{find_absent, added_stored, added_seen}
 use Rattle.eevdf_queue.proofs.PickedTasks.{sums_kept, still_known}
-use Rattle.eevdf_queue.proofs.TreeTotals.{totals-insert, totals_few, totals_near}
+use Rattle.eevdf_queue.proofs.TreeTotals.{totals-insert, totals_few}
 use Rattle.eevdf_queue.specs.State.{TasksInTree}
 use Rattle.eevdf_queue.proofs.tree.runnable_tasks.RunnableTasks.add.Goals as goal
-
-pub put-requires-clause-absent : goal.put-requires-clause-absent
-put-requires-clause-absent c =
-    let k : (first_task c.into_node.result.value.tasks).number ≡ c.args.parcel.task = ap (λ (p : Contents). p.task) c.into_node.ensures.contents in
-    find_absent c.self.inside.tree.tasks c.args.self.now.tasks (first_task c.into_node.result.value.tasks).number (ap (λ (w : TasksInTree). w.tasks) c.self.view_is) (ap (map.get c.args.self.now.tasks) k ∙ c.requires.absent)
-
-pub put-requires-clause-few : goal.put-requires-clause-few
-put-requires-clause-few c =
-    let k : (first_task c.into_node.result.value.tasks).number ≡ c.args.parcel.task = ap (λ (p : Contents). p.task) c.into_node.ensures.contents in
-    added_room c.self.inside.deadlines c.self.inside.tree.tasks c.args.self.now.tasks (first_task c.into_node.result.value.tasks) c.self.invariant.store (ap (λ (w : TasksInTree). w.tasks) c.self.view_is)
-    (ap (map.get c.args.self.now.tasks) k ∙ c.requires.absent) (subst (λ (z : ℕ). z < 1024) (sym k) c.into_node.ensures.below)
 
 pub invariant_of-self : goal.invariant_of-self
 invariant_of-self c =
@@ -45,6 +34,3 @@ returns c =
 
 pub with_share-self-inside-requires-clause-few : goal.with_share-self-inside-requires-clause-few
 with_share-self-inside-requires-clause-few c = omega (arith, totals_few c.self.inside.deadlines c.self.inside.totals c.self.inside.tree.tasks (sums_kept _ _ _ _ c.self.invariant))
-
-pub with_share-self-inside-requires-clause-small : goal.with_share-self-inside-requires-clause-small
-with_share-self-inside-requires-clause-small c = totals_near c.self.inside.deadlines c.self.inside.totals c.self.inside.tree.tasks (sums_kept _ _ _ _ c.self.invariant)

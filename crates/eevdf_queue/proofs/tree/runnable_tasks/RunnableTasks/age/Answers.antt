@@ -1,20 +1,13 @@
 use Rattle.std.proofs.Common.{◌≡◌, ◌∙◌, ◌+◌, ℕ, refl, ap, sym, subst, arith}
-use Rattle.std.specs.{Prelude.ℤ, Prelude.pos, Prelude.◌+ℤ◌, Prelude.◌*ℤ◌, Prelude.is_some, Option.option_map}
+use Rattle.std.specs.{Prelude.ℤ, Prelude.pos, Prelude.◌+ℤ◌, Prelude.◌*ℤ◌}
 use Rattle.eevdf_weight.specs.Weight.{weight_of}
-use Rattle.eevdf_queue.specs.{declared.entry.Entry.Entry, declared.task.Task.Task, declared.tree.key.TreeKey.TreeKey, TreeTasks.IsAtDeadline}
+use Rattle.eevdf_queue.specs.{declared.entry.Entry.Entry, declared.tree.key.TreeKey.TreeKey, TreeTasks.IsAtDeadline}
 use Rattle.eevdf_queue.specs.TaskLists.{find_task, set_entry}
-use Rattle.eevdf_queue.proofs.{TreeMaps.entry_here, TreeAge.at_deadline, TreeChange.stored-set, TreeChange.set_seen, PickedTasks.sums_kept}
-use Rattle.eevdf_queue.proofs.TreeTotals.{totals-set, totals_near, entry_found}
+use Rattle.eevdf_queue.proofs.{TreeMaps.entry_here, TreeAge.at_deadline, TreeChange.stored-set}
+use Rattle.eevdf_queue.proofs.TreeTotals.{totals-set, entry_found}
 use Rattle.eevdf_queue.specs.State.{TasksInTree}
 use Rattle.eevdf_queue.proofs.tree.runnable_tasks.RunnableTasks.age.Goals as goal
 use Rattle.eevdf_queue.proofs.tree.runnable_tasks.RunnableTasks.age.Goals.{After-age}
-
-pub correct_moment-requires-clause-small : goal.correct_moment-requires-clause-small
-correct_moment-requires-clause-small c = totals_near c.self.inside.deadlines c.self.inside.totals c.self.inside.tree.tasks (sums_kept _ _ _ _ c.self.invariant)
-
-pub age-requires-clause-here : goal.age-requires-clause-here
-age-requires-clause-here c =
-    ap (λ (k : TreeKey). option_map (λ (t : Task). t.entry) (find_task k.number c.self.inside.tree.tasks)) c.of-key.ensures ∙ entry_here c.args.task c.args.older.now c.self.inside.tree.tasks c.args.self.now.tasks (ap (λ (w : TasksInTree). w.tasks) c.self.view_is) c.requires.here
 
 pub age-requires-clause-placed : goal.age-requires-clause-placed
 age-requires-clause-placed c =
@@ -43,7 +36,3 @@ invariant_of-self c =
       picked = λ k. absurd (omega (arith, c.forget.ensures.number));
       pick = λ k. absurd (omega (arith, c.forget.ensures.number));
     }
-
-pub returns : goal.returns
-returns c =
-    set_seen c.args.task c.args.newer.now c.self.inside.tree.tasks c.age.new.self.tasks c.args.self.now.tasks (ap (λ (w : TasksInTree). w.tasks) c.self.view_is) (ap is_some c.requires.here) (changed (goal.at.returns c).After-age)

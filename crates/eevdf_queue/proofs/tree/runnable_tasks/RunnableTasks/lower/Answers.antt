@@ -1,12 +1,12 @@
-use Rattle.std.proofs.Common.{◌≡◌, ◌∙◌, to_z, of_z, sym, subst, ap, arith}
-use Rattle.std.specs.{Prelude.ℤ, Prelude.pos, Prelude.◌-ℤ◌, Prelude.◌*ℤ◌, Prelude.neg_ℤ, List.AllByRecursion}
+use Rattle.std.proofs.Common.{◌≡◌, ◌∙◌, to_z, of_z, sym, ap, arith}
+use Rattle.std.specs.{Prelude.ℤ, Prelude.pos, Prelude.◌-ℤ◌, Prelude.◌*ℤ◌, Prelude.neg_ℤ}
 use Rattle.std.proofs.lemmas.Int.{to_z-of_z}
 use mir.Syntax.{w64}
 use Rattle.eevdf_queue.specs.{State.TasksInTree, Rebase.can_lower, Rebase.lowered_tasks, TaskLists.runnable_in, TreeStores.kept_at}
-use Rattle.eevdf_queue.specs.TreeLowering.{IsNear, lowered_list, are_tasks_in_range}
-use Rattle.eevdf_queue.proofs.{LoweredLists.near_runnable, LoweredLists.near_lowered, LoweredMaps.can-lower, LoweredMaps.seen-lowered, PickedTasks.sums_kept}
+use Rattle.eevdf_queue.specs.TreeLowering.{lowered_list, are_tasks_in_range}
+use Rattle.eevdf_queue.proofs.{LoweredMaps.can-lower, LoweredMaps.seen-lowered, PickedTasks.sums_kept}
 use Rattle.eevdf_queue.proofs.{LoweredStores.known_within, LoweredStores.store_lowered, LoweredStores.store_back, LoweredStores.tasks_back, LoweredStores.noted_twice}
-use Rattle.eevdf_queue.proofs.TreeTotals.{totals_few, totals_near}
+use Rattle.eevdf_queue.proofs.TreeTotals.{totals_few}
 use Rattle.eevdf_queue.proofs.tree.runnable_tasks.RunnableTasks.lower.Goals as goal
 use Rattle.eevdf_queue.proofs.tree.runnable_tasks.RunnableTasks.lower.Goals.{After-lower, After-lower-then-not-lower}
 
@@ -34,14 +34,6 @@ back c =
     (c.lower.ensures.tasks ∙ ap (λ (z : ℤ). lowered_list z c.self.inside.tree.tasks) (to_z-of_z w64 c.args.by c.ranges.by))
     (c.lower-then-not-lower.ensures.tasks ∙ ap (λ (z : ℤ). lowered_list z c.lower.new.self.tasks) n)
 
-pub lower-requires-clause-near : goal.lower-requires-clause-near
-lower-requires-clause-near c = near_runnable c.self.inside.tree.tasks c.self.invariant.store.runnable
-
-pub lower-requires-then-not-lower-clause-near : goal.lower-requires-then-not-lower-clause-near
-lower-requires-then-not-lower-clause-near c =
-    subst (AllByRecursion IsNear) (sym (lowered (goal.at.lower-requires-then-not-lower-clause-near c).After-lower))
-    (near_lowered c.args.by c.self.inside.tree.tasks c.requires c.self.invariant.store.runnable)
-
 pub invariant_of-self : goal.invariant_of-self
 invariant_of-self c =
     let is = back (goal.at.invariant_of-self c).After-lower-then-not-lower in
@@ -61,9 +53,6 @@ returns-then-not-lower-clause-stayed c = λ _.
 pub lower_moment-requires-clause-few : goal.lower_moment-requires-clause-few
 lower_moment-requires-clause-few c =
     omega (arith, totals_few c.self.inside.deadlines c.self.inside.totals c.self.inside.tree.tasks (sums_kept _ _ _ _ c.self.invariant))
-
-pub lower_moment-requires-clause-near : goal.lower_moment-requires-clause-near
-lower_moment-requires-clause-near c = totals_near c.self.inside.deadlines c.self.inside.totals c.self.inside.tree.tasks (sums_kept _ _ _ _ c.self.invariant)
 
 pub lower-requires-2-clause-near : goal.lower-requires-2-clause-near
 lower-requires-2-clause-near c = known_within c.self.inside.deadlines c.self.inside.totals c.self.inside.picked c.self.inside.tree c.self.invariant

@@ -7,17 +7,11 @@ use mir.Val.{SFits}
 use Rattle.eevdf_queue.specs.{declared.entry.Entry.Entry, State.Contents, Lag.cut, Lag.limit_of, TaskLists.first_task}
 use Rattle.eevdf_queue.specs.Leaving.{leaving, leaving_at}
 use Rattle.eevdf_weight.specs.Limits.{is_in_range}
-use Rattle.eevdf_queue.proofs.{Bounds.range_v, TreeSearch.found_number, PickedTasks.sums_kept}
-use Rattle.eevdf_queue.proofs.TreeMaps.{find_present, taken_stored, taken_missed, taken_seen, found_entry, forgotten_stored}
-use Rattle.eevdf_queue.proofs.TreeTotals.{totals-without, totals_part, totals_near}
+use Rattle.eevdf_queue.proofs.{Bounds.range_v, TreeSearch.found_number}
+use Rattle.eevdf_queue.proofs.TreeMaps.{taken_stored, taken_missed, taken_seen, found_entry, forgotten_stored}
+use Rattle.eevdf_queue.proofs.TreeTotals.{totals-without, totals_part}
 use Rattle.eevdf_queue.specs.State.{TasksInTree}
 use Rattle.eevdf_queue.proofs.tree.runnable_tasks.RunnableTasks.remove.Goals as goal
-
-pub take-node-requires-clause-here : goal.take-node-requires-clause-here
-take-node-requires-clause-here c = find_present c.self.inside.tree.tasks c.args.self.now.tasks c.args.task (ap (λ (w : TasksInTree). w.tasks) c.self.view_is) c.requires.here
-
-pub take-node-requires-clause-noted : goal.take-node-requires-clause-noted
-take-node-requires-clause-noted c = c.self.invariant.store.noted
 
 pub kept_lag-requires-clause-placed : goal.kept_lag-requires-clause-placed
 kept_lag-requires-clause-placed c =
@@ -66,9 +60,6 @@ without_share-self-inside-requires-clause-part c =
     let x : (first_task c.take-node.result.value.tasks).entry ≡ c.task-entry.result.entry = cc in
     subst (λ (z : ℕ). z ≤ c.self.inside.totals.weight) (sym c.share.ensures.weight)
     (totals_part c.args.task (first_task c.take-node.result.value.tasks) c.task-entry.result.entry c.self.inside.totals c.self.inside.tree.tasks c.self.invariant.totals c.take-node.ensures.task x)
-
-pub without_share-self-inside-requires-clause-small : goal.without_share-self-inside-requires-clause-small
-without_share-self-inside-requires-clause-small c = totals_near c.self.inside.deadlines c.self.inside.totals c.self.inside.tree.tasks (sums_kept _ _ _ _ c.self.invariant)
 
 pub leave-requires-clause-limited : goal.leave-requires-clause-limited
 leave-requires-clause-limited c = search rules

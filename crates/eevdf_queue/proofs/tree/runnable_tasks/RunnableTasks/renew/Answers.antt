@@ -1,18 +1,11 @@
 use Rattle.std.proofs.Common.{◌≡◌, ◌∙◌, ◌+◌, ℕ, ap, arith}
-use Rattle.std.specs.{Prelude.ℤ, Prelude.pos, Prelude.◌+ℤ◌, Prelude.◌*ℤ◌, Ordering.nat_cmp, FinMap.FinMap, FinMap.insert}
+use Rattle.std.specs.{Prelude.ℤ, Prelude.pos, Prelude.◌+ℤ◌, Prelude.◌*ℤ◌}
 use Rattle.eevdf_weight.specs.Weight.{weight_of}
 use Rattle.eevdf_queue.specs.{declared.entry.Entry.Entry, TaskLists.find_task}
-use Rattle.eevdf_queue.proofs.PickedTasks.{sums_kept}
 use Rattle.eevdf_queue.proofs.TreeMaps.{entry_here}
-use Rattle.eevdf_queue.proofs.TreeTotals.{totals-moved, totals_near, entry_found}
+use Rattle.eevdf_queue.proofs.TreeTotals.{totals-moved, entry_found}
 use Rattle.eevdf_queue.specs.State.{TasksInTree}
 use Rattle.eevdf_queue.proofs.tree.runnable_tasks.RunnableTasks.renew.Goals as goal
-
-pub replace-requires-clause-here : goal.replace-requires-clause-here
-replace-requires-clause-here c = entry_here c.args.task c.args.older.now c.self.inside.tree.tasks c.args.self.now.tasks (ap (λ (w : TasksInTree). w.tasks) c.self.view_is) c.requires.here
-
-pub replace-requires-clause-stored : goal.replace-requires-clause-stored
-replace-requires-clause-stored c = c.self.invariant.store
 
 pub invariant_of-self : goal.invariant_of-self
 invariant_of-self c =
@@ -29,9 +22,3 @@ invariant_of-self c =
       picked = λ k. absurd (omega (arith, c.forget.ensures.number));
       pick = λ k. absurd (omega (arith, c.forget.ensures.number));
     }
-
-pub returns : goal.returns
-returns c = c.replace.ensures.seen ∙ ap (λ (m : FinMap nat_cmp Entry). insert m c.args.task c.args.newer) (ap (λ (w : TasksInTree). w.tasks) c.self.view_is)
-
-pub correct_moment-requires-clause-small : goal.correct_moment-requires-clause-small
-correct_moment-requires-clause-small c = totals_near c.self.inside.deadlines c.self.inside.totals c.self.inside.tree.tasks (sums_kept _ _ _ _ c.self.invariant)
