@@ -45,11 +45,11 @@ pub mod Ascending
 mod Descending
 mod OneSide
 pub mod ShortestTicks
-pub mod SliceChanging
+mod KeptAsleep
 pub mod Closing
 mod AsleepCounts
 pub mod Floors
 pub mod LoweredLists
-mod LoweredMaps
+pub mod LoweredMaps
 mod LoweredQueues
 mod LoweredStores

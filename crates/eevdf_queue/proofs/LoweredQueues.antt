@@ -16,6 +16,7 @@ use Rattle.eevdf_queue.specs.Wake.{wake, wake_to, wake_sleeper}
 use Rattle.eevdf_queue.specs.Renice.{reniced, renice, renice_to, renice_entry, rescaled_lag}
 use Rattle.eevdf_queue.specs.Leaving.{leaving, carried, stopped, without_entry, leave, leaving_asleep, without_sleeper, leave_asleep}
 use Rattle.eevdf_queue.specs.{SliceChange.set_slice, SliceChange.set_entry_slice, SliceChange.set_sleeper_slice, SliceChange.sleeper_with_slice}
+use Rattle.eevdf_queue.specs.Attributes.{set_reniced, set_sleeper, sleeper_with, begin, begin_sleeper, fresh_sleeper}
 use Rattle.eevdf_queue.specs.{Kept.RunnerIsHere, Kept.IsSound}
 use Rattle.eevdf_queue.specs.Rebase.{lowered_entry, lowered_tasks, rebased}
 use Rattle.eevdf_queue.specs.{Kept.AreInRange, TimeToResched.ends_request, Ascending.sleeping_tasks, Ascending.with_lag}
@@ -25,7 +26,8 @@ use Rattle.eevdf_queue.specs.declared.answers.TickAnswer.TheVariants as ticks
 use Rattle.eevdf_queue.specs.declared.answers.YieldAnswer.TheVariants as yields
 use Rattle.eevdf_queue.specs.declared.answers.WakeAnswer.TheVariants as wakes
 use Rattle.eevdf_queue.specs.declared.answers.ReniceAnswer.TheVariants as renices
-use Rattle.eevdf_queue.specs.{declared.answers.TickAnswer.TickAnswer, declared.answers.YieldAnswer.YieldAnswer}
+use Rattle.eevdf_queue.specs.declared.answers.SetAnswer.TheVariants as sets
+use Rattle.eevdf_queue.specs.{declared.answers.TickAnswer.TickAnswer, declared.answers.YieldAnswer.YieldAnswer, declared.answers.ReniceAnswer.ReniceAnswer}
 use Rattle.eevdf_queue.proofs.{Floors.floor_lowered, MapFolds.entries-empty, Mean.without_weight, ListMaps.same_number, Sound.Asleep}
 use Rattle.eevdf_queue.proofs.ShortestTicks.{ends_where, absent_ends}
 use Rattle.eevdf_queue.proofs.LoweredMaps.{get-lowered, len-lowered, weight-lowered, moment-lowered, pick-lowered, candidate-lowered, insert-lowered, remove-lowered}
@@ -232,6 +234,14 @@ module _ (by : ℤ) (q r : State) (h : IsLower by q r) where
   slice_of t slice None = subst (λ n. IsLower by (set_sleeper_slice q t slice (get q.asleep t)) (set_sleeper_slice r t slice (get n t))) (sym h.asleep) (sleeper_of t slice (get q.asleep t))
   slice_of t slice (Some e) = changed t (record e { slice = slice })
 
+  slice_lower : (t slice : ℕ) → IsLower by (set_slice q t slice) (set_slice r t slice)
+  slice_lower t slice = subst (λ (o : Option Entry). IsLower by (set_slice q t slice) (set_entry_slice r t slice o)) (sym (entry_lower t)) (slice_of t slice (get q.runnable t))
+
+  -- a sleeping task that begins anew
+  begin_of : (t : ℕ) (nice : ℤ) (slice : ℕ) (o : Option Sleeper) → IsLower by (begin_sleeper q t nice slice o) (begin_sleeper r t nice slice o)
+  begin_of t nice slice None = h
+  begin_of t nice slice (Some s) = record { runnable = h.runnable; running = h.running; asleep = ap (λ n. insert n t (fresh_sleeper nice slice)) h.asleep; base = h.base }
+
   -- another nice level
   renice_to_lower : (x y : Option State) → JoinAlike by x y → AreAlike renices.Range by (renice_to q x) (renice_to r y)
   renice_to_lower None y k = inl refl
@@ -250,6 +260,29 @@ module _ (by : ℤ) (q r : State) (h : IsLower by q r) where
   renice_of t nice (Some e) =
       put_left by q r (leave q t) (leave r t) h (leave_lower by q r h t) t (reniced q e nice) (reniced r (lowered_entry by e) nice)
       (ap (λ (z : ℤ). record { lag = rescaled_lag z e nice; nice = nice; slice = e.slice }) (lag_lower by q r h e))
+
+  renice_lower : (t : ℕ) (nice : ℤ) → AreAlike renices.Range by (renice q t nice) (renice r t nice)
+  renice_lower t nice = subst (λ (o : Option Entry). AreAlike renices.Range by (renice q t nice) (renice_entry r t nice o)) (sym (entry_lower by q r h t)) (renice_of t nice (get q.runnable t))
+
+  -- another nice level and slice
+  sleeper_set : (t : ℕ) (nice : ℤ) (slice : ℕ) (o : Option Sleeper) → AreAlike sets.Range by (set_sleeper q t nice slice o) (set_sleeper r t nice slice o)
+  sleeper_set t nice slice None = inr (inr (refl, h))
+  sleeper_set t nice slice (Some s) =
+      inr (inr (refl, record { runnable = h.runnable; running = h.running; asleep = ap (λ n. insert n t (sleeper_with s nice slice)) h.asleep; base = h.base }))
+
+  set_by : (t : ℕ) (nice : ℤ) (slice : ℕ) (x : ReniceAnswer) (a b : State) → IsLower by a b
+      → AreAlike sets.Range by (set_reniced q t nice slice x a) (set_reniced r t nice slice x b)
+  set_by t nice slice renices.Reniced a b k = inr (inr (refl, slice_lower by a b k t slice))
+  set_by t nice slice renices.NotHere a b k =
+      subst (λ n. AreAlike sets.Range by (set_sleeper q t nice slice (get q.asleep t)) (set_sleeper r t nice slice (get n t))) (sym h.asleep) (sleeper_set t nice slice (get q.asleep t))
+  set_by t nice slice renices.Range a b k = inl refl
+
+  set_alike : (t : ℕ) (nice : ℤ) (slice : ℕ) (x y : ReniceAnswer) (a b : State) → AreAlike renices.Range by (x, a) (y, b)
+      → AreAlike sets.Range by (set_reniced q t nice slice x a) (set_reniced r t nice slice y b)
+  set_alike t nice slice x y a b (inl e) = inl (ap (λ (z : ReniceAnswer). (set_reniced q t nice slice z a).0) e)
+  set_alike t nice slice x y a b (inr (inl e)) = inr (inl (ap (λ (z : ReniceAnswer). (set_reniced r t nice slice z b).0) e))
+  set_alike t nice slice x y a b (inr (inr k)) =
+      subst (λ (z : ReniceAnswer). AreAlike sets.Range by (set_reniced q t nice slice x a) (set_reniced r t nice slice z b)) k.0 (set_by t nice slice x a b k.1)
 
 -- the ticks that use the running task's request up
 ends_alike : (by : ℤ) (q r : State) → IsLower by q r → AreInRange q.runnable → AreInRange r.runnable → (ns t : ℕ) (o : Option Entry)
@@ -303,8 +336,10 @@ lowered_queue_answers_alike by q r h = record {
   tick = λ ns. subst (λ (o : Option ℕ). AreAlike ticks.Range by (tick q ns) (tick_running r o ns)) (sym h.running) (tick_run by q r h ns q.running);
   yields = subst (λ (o : Option ℕ). AreAlike yields.Range by (yield_now q) (yield_running r o)) (sym h.running) (yield_run by q r h q.running);
   wake = λ t. subst (λ n. AreAlike wakes.Range by (wake q t) (wake_sleeper r t (get n t))) (sym h.asleep) (wake_of by q r h t (get q.asleep t));
-  renice = λ t nice. subst (λ (o : Option Entry). AreAlike renices.Range by (renice q t nice) (renice_entry r t nice o)) (sym (entry_lower by q r h t)) (renice_of by q r h t nice (get q.runnable t));
-  set_slice = λ t slice. subst (λ (o : Option Entry). IsLower by (set_slice q t slice) (set_entry_slice r t slice o)) (sym (entry_lower by q r h t)) (slice_of by q r h t slice (get q.runnable t));
+  renice = renice_lower by q r h;
+  set_slice = slice_lower by q r h;
+  set = λ t nice slice. set_alike by q r h t nice slice (renice q t nice).0 (renice r t nice).0 (renice q t nice).1 (renice r t nice).1 (renice_lower by q r h t nice);
+  begin = λ t nice slice. subst (λ n. IsLower by (begin q t nice slice) (begin_sleeper r t nice slice (get n t))) (sym h.asleep) (begin_of by q r h t nice slice (get q.asleep t));
   stopped = record { runnable = h.runnable; running = refl; asleep = h.asleep; base = h.base };
   put = put_lower by q r h;
   admit = λ p. join_at by q r h p.task p.start (p.start -ℤ by) p.nice p.slice refl;

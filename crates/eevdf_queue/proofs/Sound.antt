@@ -134,6 +134,11 @@ sound_sleeper_leaves m r n n' b t out h = record {
 not_runnable_of : (m : Tasks) (n : Asleep) (t : ℕ) → (contains_key m t ≡ true → get n t ≡ None) → contains_key n t ≡ true → get m t ≡ None
 not_runnable_of m n t h here = grind (arith, nat_tests)
 
+-- a sleeping task of which something else is kept
+pub sound_kept : (m : Tasks) (r : Option ℕ) (n n' : Asleep) (b : ℤ) (t : ℕ) (s : Sleeper) → n' ≡ insert n t s → contains_key n t ≡ true
+    → IsSound (record { runnable = m; running = r; asleep = n; base = b }) → IsSound (record { runnable = m; running = r; asleep = n'; base = b })
+sound_kept m r n n' b t s is here h = sound_sleep m r n n' b t s is (not_runnable_of m n t (h.apart t) here) h
+
 pub nowhere_woken : (m : Tasks) (r : Option ℕ) (n n' : Asleep) (b : ℤ) (t u : ℕ) → n' ≡ remove n t → contains_key n t ≡ true → u ≡ t
     → IsSound (record { runnable = m; running = r; asleep = n; base = b })
     → IsNowhere (record { runnable = m; running = r; asleep = n'; base = b }) u

@@ -32,6 +32,7 @@ pub mod Trying
 pub mod Ascending
 pub mod TimeToResched
 pub mod SliceChange
+pub mod Attributes
 pub mod Closing
 pub mod Rebase
 pub mod TreeLowering

@@ -3,7 +3,7 @@ use Rattle.std.specs.Prelude.{◌≡◌, ℕ, ℤ, pos, ◌-ℤ◌, ◌*ℤ◌, 
 use Rattle.std.specs.Option.{option_map}
 use Rattle.std.specs.FinMap as map
 use Rattle.eevdf_queue.specs.{State.State, State.Sleeper, State.Contents, Sums.total_weight, Sums.total_moment, Sums.virtual_time, Lag.lag_of, Pick.pick_of, Pick.after_pick}
-use Rattle.eevdf_queue.specs.{Candidate.candidate_of, Tick.tick, Yield.yield_now, Wake.wake, Renice.renice, SliceChange.set_slice}
+use Rattle.eevdf_queue.specs.{Candidate.candidate_of, Tick.tick, Yield.yield_now, Wake.wake, Renice.renice, SliceChange.set_slice, Attributes.set, Attributes.begin}
 use Rattle.eevdf_queue.specs.{Kept.AreInRange, TimeToResched.ends_request, Closing.take_any}
 use Rattle.eevdf_queue.specs.{Moves.admit, Moves.put_asleep, Placing.put, Rebase.lowered_entry, Rebase.lowered_tasks, Rebase.rebased}
 use Rattle.eevdf_queue.specs.Leaving.{carried, leave, carried_asleep, leave_asleep, nobody_runs}
@@ -11,6 +11,7 @@ use Rattle.eevdf_queue.specs.declared.answers.TickAnswer.TheVariants as ticks
 use Rattle.eevdf_queue.specs.declared.answers.YieldAnswer.TheVariants as yields
 use Rattle.eevdf_queue.specs.declared.answers.WakeAnswer.TheVariants as wakes
 use Rattle.eevdf_queue.specs.declared.answers.ReniceAnswer.TheVariants as renices
+use Rattle.eevdf_queue.specs.declared.answers.SetAnswer.TheVariants as sets
 
 -- the queue `r` is the queue `q`, lower by a number. The time that stands counts where nothing is runnable: before it is
 -- looked at again, a task that leaves makes it anew
@@ -54,6 +55,8 @@ pub record AnswerAlike (by : ℤ) (q r : State) : Type 0 where
   pub wake : (t : ℕ) → AreAlike wakes.Range by (wake q t) (wake r t)
   pub renice : (t : ℕ) (nice : ℤ) → AreAlike renices.Range by (renice q t nice) (renice r t nice)
   pub set_slice : (t slice : ℕ) → IsLower by (set_slice q t slice) (set_slice r t slice)
+  pub set : (t : ℕ) (nice : ℤ) (slice : ℕ) → AreAlike sets.Range by (set q t nice slice) (set r t nice slice)
+  pub begin : (t : ℕ) (nice : ℤ) (slice : ℕ) → IsLower by (begin q t nice slice) (begin r t nice slice)
   pub stopped : IsLower by (nobody_runs q) (nobody_runs r)
   pub put : (t : ℕ) (s : Sleeper) → JoinAlike by (put q t s) (put r t s)
   pub admit : (p : Contents) → JoinAlike by (admit q p) (admit r (lowered_contents by p))

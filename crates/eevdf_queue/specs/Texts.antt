@@ -3,11 +3,12 @@ use Rattle.std.specs.Prelude.{ℕ, Bool, true, false, List, [], ◌++◌, codes,
 use Rattle.std.specs.Fmt.{signed_decimal}
 use Rattle.eevdf_queue.specs.{declared.entry.Entry.Entry, declared.sleeper.Sleeper.Sleeper, declared.answers.TickAnswer.TickAnswer}
 use Rattle.eevdf_queue.specs.{declared.answers.YieldAnswer.YieldAnswer, declared.answers.WakeAnswer.WakeAnswer}
-use Rattle.eevdf_queue.specs.{declared.answers.ReniceAnswer.ReniceAnswer, declared.refusal.Refusal.Refusal}
+use Rattle.eevdf_queue.specs.{declared.answers.ReniceAnswer.ReniceAnswer, declared.answers.SetAnswer.SetAnswer, declared.refusal.Refusal.Refusal}
 use Rattle.eevdf_queue.specs.declared.answers.TickAnswer.TheVariants as tick
 use Rattle.eevdf_queue.specs.declared.answers.YieldAnswer.TheVariants as yield
 use Rattle.eevdf_queue.specs.declared.answers.WakeAnswer.TheVariants as wake
 use Rattle.eevdf_queue.specs.declared.answers.ReniceAnswer.TheVariants as renice
+use Rattle.eevdf_queue.specs.declared.answers.SetAnswer.TheVariants as set
 use Rattle.eevdf_queue.specs.declared.refusal.Refusal.TheVariants as refusal
 
 -- a runnable task's virtual runtime and deadline, nice level and slice
@@ -46,6 +47,11 @@ abbrev pub renice_text : ReniceAnswer → List ℕ
 renice_text renice.Reniced = codes "reniced"
 renice_text renice.NotHere = codes "not here"
 renice_text renice.Range = codes "range"
+
+abbrev pub set_text : SetAnswer → List ℕ
+set_text set.Set = codes "set"
+set_text set.NotHere = codes "not here"
+set_text set.Range = codes "range"
 
 abbrev pub refusal_text : Refusal → List ℕ
 refusal_text refusal.Present = codes "present"

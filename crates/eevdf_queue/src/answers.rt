@@ -45,6 +45,17 @@ pub enum ReniceAnswer {
     Range,
 }
 
+/// What a change of nice level and slice answers.
+#[derive(Clone, Copy, PartialEq, Eq, Debug)]
+pub enum SetAnswer {
+    /// The task has the nice level and the slice.
+    Set,
+    /// The task isn't here, neither runnable nor asleep.
+    NotHere,
+    /// The virtual runtime or deadline would have been out of range, and the task keeps its nice level and its slice.
+    Range,
+}
+
 /// The words `charged`, with the task and `resched` where it is so, `idle` and `range`.
 impl fmt::Display for TickAnswer {
     ghost use Rattle.std.specs.Prelude.{Some};
@@ -115,6 +126,23 @@ impl fmt::Display for ReniceAnswer {
             ReniceAnswer::Reniced => "reniced",
             ReniceAnswer::NotHere => "not here",
             ReniceAnswer::Range => "range",
+        };
+        f.write_str(word)
+    }
+}
+
+/// One of the texts `set`, `not here` and `range`.
+impl fmt::Display for SetAnswer {
+    ghost use Rattle.std.specs.Prelude.{Some};
+    ghost use Rattle.eevdf_queue.specs.Texts.{set_text};
+
+    ghost output = { λ answer. Some (set_text answer) };
+
+    fn fmt<W: fmt::Write>(&self, f: &mut fmt::Formatter<W>) -> fmt::Result {
+        let word = match self {
+            SetAnswer::Set => "set",
+            SetAnswer::NotHere => "not here",
+            SetAnswer::Range => "range",
         };
         f.write_str(word)
     }

@@ -35,18 +35,23 @@ fn distance(time: i64, entry: &Entry) -> i64
 
 /// A lag that is kept, under another nice level: times the old weight over the new one, rounded down, and cut to
 /// plus or minus the limit of the new weight.
-#[tactic(auto, using(crate::proofs::Bounds::lag_small, crate::proofs::Bounds::cut_small))]
 pub fn rescaled_lag(lag: i64, entry: &Entry, nice: Nice) -> i64
     requires { lags.is_lag lag entry.now.nice entry.now.slice ≡ true }
     ensures value { result ≡ renices.rescaled_lag lag entry.now nice }
     ensures limited { unsigned_abs result ≤ lag_limit_of entry.now.slice (weight_of nice) }
 {
-    prove!(entry.slice.get() <= Slice::MAX.get());
-    let newer = weight(nice);
-    cut(
-        quotient(product(lag, weight(entry.nice)), newer),
-        level_lag_limit(entry.slice, nice),
-    )
+    let lag = reweighed_lag(lag, entry.nice, entry.slice, nice);
+    limited_lag(lag, nice, entry.slice)
+}
+
+/// The lag of a task of this nice level and slice in the virtual time of another nice level, rounded down.
+#[tactic(auto, using(crate::proofs::Bounds::lag_small))]
+pub fn reweighed_lag(lag: i64, older: Nice, slice: Slice, nice: Nice) -> i64
+    requires { lags.is_lag lag older slice ≡ true }
+    ensures { result ≡ floor_div (lag *ℤ pos (weight_of older)) (weight_of nice) }
+{
+    prove!(slice.get() <= Slice::MAX.get());
+    quotient(product(lag, weight(older)), weight(nice))
 }
 
 /// A distance in virtual time times a weight, in 64 bits: what a task ages at a time is at most 2^40, a lag at most 2^38, and a

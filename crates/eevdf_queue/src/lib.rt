@@ -22,7 +22,7 @@ mod task;
 mod task_id;
 mod tree;
 
-pub use answers::{ReniceAnswer, TickAnswer, WakeAnswer, YieldAnswer};
+pub use answers::{ReniceAnswer, SetAnswer, TickAnswer, WakeAnswer, YieldAnswer};
 pub use entry::Entry;
 pub use parcel::Parcel;
 pub use queue::{Offer, Queue, Runnable, Sleeping};

@@ -1,10 +1,11 @@
 ghost use Rattle.std.specs.Prelude.{◌≡◌, ◌<◌, IfOk, pos, true};
 ghost use Rattle.eevdf_queue.specs.{Lag.is_lag, Moves.sleeper_of, Numbers.number_limit, SliceChange.contents_with_slice};
+ghost use Rattle.eevdf_queue.specs.Attributes as attributes;
 ghost use Rattle.eevdf_queue.specs.TaskLists.{first_task, contents_of, IsLone};
 
 use crate::entry::Entry;
 use crate::sleeper::Sleeper;
-use crate::task::{Task, sleeper_of, with_slice};
+use crate::task::{Task, sleeper_of};
 use crate::task_id::TaskId;
 use crate::tree::node::TreeNode;
 use eevdf_weight::{Nice, Slice};
@@ -130,11 +131,46 @@ impl Parcel {
     }
 
     /// The same task with another slice, and with its lag cut to the limit that it then has.
-    pub fn with_slice(mut self, slice: Slice) -> Parcel
+    pub fn with_slice(self, slice: Slice) -> Parcel
         ensures { result ≡ contents_with_slice self slice }
     {
+        let sleeper = self.sleeper().with_slice(slice);
+        self.bringing(&sleeper)
+    }
+
+    /// The same task with another nice level and slice: its lag is that of the same service under the new weight, rounded down,
+    /// and cut to the limit that it then has.
+    pub fn with_attributes(self, nice: Nice, slice: Slice) -> Parcel
+        ensures { result ≡ attributes.contents_with self nice slice }
+    {
+        let sleeper = self.sleeper().with(nice, slice);
+        self.bringing(&sleeper)
+    }
+
+    /// The same task with the lag 0.
+    pub fn without_lag(self) -> Parcel
+        ensures { result ≡ attributes.without_lag self }
+    {
+        let mut sleeper = self.sleeper();
+        sleeper.lag = 0;
+        self.bringing(&sleeper)
+    }
+
+    /// The same task, which brings this along.
+    pub(crate) fn bringing(mut self, sleeper: &Sleeper) -> Parcel
+        requires { is_lag sleeper.now.lag sleeper.now.nice sleeper.now.slice ≡ true }
+        ensures { result ≡ attributes.bringing self sleeper.now }
+    {
         let task = self.node.task();
-        self.node.replace(with_slice(&task, slice));
+        self.node.replace(Task {
+            number: task.number,
+            entry: Entry {
+                nice: sleeper.nice,
+                slice: sleeper.slice,
+                ..task.entry
+            },
+            lag: sleeper.lag,
+        });
         self
     }
 

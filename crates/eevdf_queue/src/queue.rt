@@ -7,6 +7,7 @@ ghost use Rattle.eevdf_queue.specs.Leaving.{IsNowhere};
 ghost use Rattle.eevdf_queue.specs.Candidate as candidates;
 ghost use Rattle.eevdf_queue.specs.Lag as lags;
 
+mod attributes;
 mod closing;
 mod moves;
 mod offer;

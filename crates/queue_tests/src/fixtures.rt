@@ -1,6 +1,6 @@
 //! Tasks and times for tests, by their numbers, and tasks on their way into a queue.
 
-use eevdf_queue::{Parcel, Queue, TaskId};
+use eevdf_queue::{Parcel, Queue, TaskId, TickAnswer};
 use eevdf_weight::{Nice, Ns, Slice};
 use std::alloc::Global;
 use std::process::Abort;
@@ -46,4 +46,18 @@ pub fn put_asleep(rt: &impl Abort, queue: &mut Queue, parcel: Parcel) {
     let task = parcel.task();
     assert!(rt; !queue.contains(task));
     queue.put_asleep(parcel);
+}
+
+/// Makes an empty queue one of two tasks of equal weight, of which the first runs and has been charged for a million
+/// nanoseconds.
+pub fn charge_first_of_two(rt: &impl Abort, alloc: Global, queue: &mut Queue) {
+    admit(rt, queue, parcel(rt, alloc, 0, 3_000_000, 0));
+    admit(rt, queue, parcel(rt, alloc, 1, 3_000_000, 0));
+    let first = task(rt, 0);
+    assert_eq!(rt; queue.pick(), Some(first));
+    let charged = TickAnswer::Charged {
+        task: first,
+        resched: false,
+    };
+    assert_eq!(rt; queue.tick(ns(rt, 1_000_000)), charged);
 }

@@ -1,6 +1,6 @@
 //! Worked values of the calls of one queue.
 
-use crate::fixtures::{admit, attach, ns, parcel, put_asleep, task};
+use crate::fixtures::{admit, attach, charge_first_of_two, ns, parcel, put_asleep, task};
 use eevdf_queue::{Queue, TickAnswer, WakeAnswer, YieldAnswer};
 use eevdf_weight::{Nice, Slice};
 use std::alloc::Global;
@@ -36,20 +36,6 @@ fn sleeps(rt: &impl Abort, alloc: Global, queue: &mut Queue) {
     assert_eq!(rt; queue.lag_of(task(rt, 8)), None);
     assert_eq!(rt; queue.pick(), None);
     assert_eq!(rt; queue.floor_time(), 0);
-}
-
-/// Makes an empty queue one of two tasks of equal weight, of which the first runs and has been charged for a million
-/// nanoseconds.
-fn charge_first_of_two(rt: &impl Abort, alloc: Global, queue: &mut Queue) {
-    admit(rt, queue, parcel(rt, alloc, 0, 3_000_000, 0));
-    admit(rt, queue, parcel(rt, alloc, 1, 3_000_000, 0));
-    let first = task(rt, 0);
-    assert_eq!(rt; queue.pick(), Some(first));
-    let charged = TickAnswer::Charged {
-        task: first,
-        resched: false,
-    };
-    assert_eq!(rt; queue.tick(ns(rt, 1_000_000)), charged);
 }
 
 /// Takes the waiting one of two tasks out and puts it back, and then the running one yields.

@@ -83,6 +83,23 @@ impl Queue {
         self.take(task)
     }
 
+    /// Takes out a runnable task, whether it runs or waits, with the lag that it keeps. Its virtual runtime is the time that stands.
+    /// `None` exactly where the task isn't runnable here, and then nothing has changed.
+    pub fn detach_runnable(&mut self, task: TaskId) -> Option<Parcel>
+        ensures parcel { result ≡ carried self.old.state task }
+        ensures task { IfSome result (λ parcel. parcel.task ≡ task) }
+        ensures none { IsNone result ↔ (map.contains_key self.old.state.runnable task ≡ false) }
+        ensures after { self.new.state ≡ leave self.old.state task }
+        ensures nowhere { IfSome result (λ parcel. IsNowhere self.new.state parcel.task) }
+        ensures pick_depth { self.new.pick_depth ≡ self.old.pick_depth }
+    {
+        if self.entry(task).is_some() {
+            Some(self.take(task))
+        } else {
+            None
+        }
+    }
+
     /// Takes out a sleeping task, with the lag that it kept, to start at the queue's virtual time. `None` exactly where the
     /// task doesn't sleep here, and then nothing has changed.
     pub fn detach_asleep(&mut self, task: TaskId) -> Option<Parcel>

@@ -1,6 +1,6 @@
 //! How the slice of a task changes.
 
-ghost use Rattle.std.specs.Prelude.{◌≡◌, None};
+ghost use Rattle.std.specs.Prelude.{◌≡◌};
 ghost use Rattle.std.specs.FinMap as map;
 ghost use Rattle.eevdf_queue.specs.SliceChange as changes;
 ghost use Rattle.eevdf_queue.specs.Trying.{is_here};
@@ -30,17 +30,15 @@ impl Queue {
 
     /// The same of a task that isn't runnable here.
     fn set_slice_asleep(&mut self, task: TaskId, slice: Slice) -> bool
-        requires { map.get self.old.state.runnable task ≡ None }
         ensures here { result ≡ map.contains_key self.old.state.asleep task }
         ensures after { self.new.state
             ≡ changes.set_sleeper_slice self.old.state task slice (map.get self.old.state.asleep task) }
         ensures pick_depth { self.new.pick_depth ≡ self.old.pick_depth }
     {
-        if !self.asleep.contains(task) {
+        let Some(sleeper) = self.sleeper(task) else {
             return false;
-        }
-        let parcel = self.asleep.remove(task);
-        self.asleep.add(parcel.with_slice(slice));
+        };
+        self.keep_asleep(task, &sleeper.with_slice(slice));
         true
     }
 }
