@@ -119,7 +119,7 @@ extern "C" {
  * MAJOR where a program may have to be changed; as long as it is 0, MINOR stands for it too.
  */
 #define EEVDF_VERSION_MAJOR 0
-#define EEVDF_VERSION_MINOR 3
+#define EEVDF_VERSION_MINOR 4
 #define EEVDF_VERSION_PATCH 0
 #define EEVDF_VERSION \
 	(EEVDF_VERSION_MAJOR * 1000000 + EEVDF_VERSION_MINOR * 1000 + EEVDF_VERSION_PATCH)
@@ -379,6 +379,26 @@ int64_t eevdf_renice(eevdf_queue *queue, uint64_t task, int64_t nice);
  * INVALID: no number of a task, or slice_ns is out of its limits. ABSENT: the task isn't here.
  */
 int64_t eevdf_set_slice(eevdf_queue *queue, uint64_t task, uint64_t slice_ns);
+
+/*
+ * Gives a task another nice level and slice at once, runnable or asleep. A runnable one is placed
+ * anew as by eevdf_renice, with a fresh request of the slice that it had, and the next one is of
+ * the new slice. The lag that a sleeping one keeps is rescaled by its weights, rounded down, and
+ * cut to the charge of two new slices. Whoever ran runs on. Answers 0.
+ * Lock: the queue's. Interrupts: yes.
+ * INVALID: task, nice or slice_ns is out of its limits. ABSENT: the task isn't here. RANGE: it is
+ * runnable and couldn't be placed; it keeps its nice level and its slice.
+ */
+int64_t eevdf_set(eevdf_queue *queue, uint64_t task, int64_t nice, uint64_t slice_ns);
+
+/*
+ * A task that sleeps here begins anew: it sleeps on with this nice level and slice, and with the
+ * lag 0, as one that has just been made. Its block is that which it has. Answers 0.
+ * Lock: the queue's. Interrupts: yes.
+ * INVALID: task, nice or slice_ns is out of its limits. PRESENT: it is runnable here. ABSENT: it
+ * isn't here.
+ */
+int64_t eevdf_begin(eevdf_queue *queue, uint64_t task, int64_t nice, uint64_t slice_ns);
 
 /*
  * Lowers all virtual times of the queue by one number, so that the virtual time is 0, and writes

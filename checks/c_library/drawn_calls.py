@@ -100,6 +100,8 @@ class Sequence:
             "end": (4, lambda: (queue, self.task_here(queue))),
             "renice": (5, lambda: (queue, self.task_here(queue), self.nice())),
             "set_slice": (3, lambda: (queue, self.task_here(queue), self.slice())),
+            "set": (5, lambda: (queue, self.task_here(queue), self.nice(), self.slice())),
+            "begin": (3, lambda: (queue, self.sleeper(queue), self.nice(), self.slice())),
             "rebase": (0.2, lambda: (queue,)),
             "take": (8, lambda: (queue, hand, self.task_here(queue))),
             "take_any": (2, lambda: (queue, hand)),

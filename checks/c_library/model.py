@@ -139,6 +139,18 @@ class Model:
             return INVALID
         return 0 if self.queues[queue].set_slice(task, length) else ABSENT
 
+    def set(self, queue, task, nice, length):
+        if not (is_task(task) and is_nice(nice) and is_slice(length)):
+            return INVALID
+        return {"not here": ABSENT, "range": RANGE, "set": 0}[self.queues[queue].set(task, nice, length)]
+
+    def begin(self, queue, task, nice, length):
+        if not (is_task(task) and is_nice(nice) and is_slice(length)):
+            return INVALID
+        if task in self.queues[queue].runnable:
+            return PRESENT
+        return 0 if self.queues[queue].begin(task, nice, length) else ABSENT
+
     def rebase(self, queue):
         return [0, self.queues[queue].rebase()]
 

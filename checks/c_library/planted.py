@@ -44,6 +44,20 @@ BODIES = {
         int64_t answer = RIGHT;
         if (answer == 0 && eevdf_running(queue) == (int64_t)task) eevdf_yield(queue);
         return answer;"""),
+    "a set begins a request of the new slice": ("set", """
+        if (nice >= EEVDF_NICE_MIN && nice <= EEVDF_NICE_MAX) eevdf_set_slice(queue, task, slice_ns);
+        return RIGHT;"""),
+    "a set of a task that sleeps begins it anew": ("set", """
+        return eevdf_is_asleep(queue, task) == 1 ? eevdf_begin(queue, task, nice, slice_ns) : RIGHT;"""),
+    "a set that answers RANGE changes the slice": ("set", """
+        int64_t answer = RIGHT;
+        if (answer == EEVDF_RANGE) eevdf_set_slice(queue, task, slice_ns);
+        return answer;"""),
+    "a task that begins anew keeps its lag": ("begin", """
+        return eevdf_is_asleep(queue, task) == 1 ? eevdf_set(queue, task, nice, slice_ns) : RIGHT;"""),
+    "a begin of a runnable task answers ABSENT": ("begin", """
+        int64_t answer = RIGHT;
+        return answer == EEVDF_PRESENT ? EEVDF_ABSENT : answer;"""),
     "a rebase tells 0": ("rebase", "int64_t answer = RIGHT; *by = 0; return answer;"),
     "a take of any task answers 0": ("take_any", "int64_t answer = RIGHT; return answer > 0 ? 0 : answer;"),
     "a take asks for the hand last": ("take", "return eevdf_contains(queue, task) == 0 ? EEVDF_ABSENT : RIGHT;"),

@@ -22,6 +22,8 @@ extern "C" {
     pub fn eevdf_end(queue: *mut c_void, task: u64) -> i64;
     pub fn eevdf_renice(queue: *mut c_void, task: u64, nice: i64) -> i64;
     pub fn eevdf_set_slice(queue: *mut c_void, task: u64, slice_ns: u64) -> i64;
+    pub fn eevdf_set(queue: *mut c_void, task: u64, nice: i64, slice_ns: u64) -> i64;
+    pub fn eevdf_begin(queue: *mut c_void, task: u64, nice: i64, slice_ns: u64) -> i64;
     pub fn eevdf_rebase(queue: *mut c_void, by: *mut i64) -> i64;
     pub fn eevdf_hand_open(hand: *mut c_void);
     pub fn eevdf_hand_task(hand: *const c_void) -> i64;

@@ -78,7 +78,7 @@ pub use memory::{HandMemory, QueueMemory};
 pub use queue::{Entry, Queue, Sleeper};
 
 /// The version of the library that the crate is written for.
-const VERSION: i64 = 3000;
+const VERSION: i64 = 4000;
 
 /// Of a version, the two numbers that say which programs run over it.
 const fn series(version: i64) -> i64 {

@@ -171,6 +171,21 @@ impl<'a> Queue<'a> {
         done(unsafe { calls::eevdf_set_slice(self.at.as_ptr(), task, slice_ns) })
     }
 
+    /// Gives a task another nice level and slice at once, runnable or asleep. A runnable one is placed anew as by [`Queue::renice`], and
+    /// the request after the fresh one is of the new slice. The lag that a sleeping one keeps is rescaled, and cut to its new limit.
+    ///
+    /// `Invalid`, `Absent` where it isn't here, or `Range`, and then it keeps its nice level and its slice.
+    pub fn set(&mut self, task: u64, nice: i64, slice_ns: u64) -> Result<()> {
+        done(unsafe { calls::eevdf_set(self.at.as_ptr(), task, nice, slice_ns) })
+    }
+
+    /// A task that sleeps here begins anew: it sleeps on with this nice level and slice, and with the lag 0.
+    ///
+    /// `Invalid`, `Present` where it is runnable here, or `Absent` where it isn't here.
+    pub fn begin(&mut self, task: u64, nice: i64, slice_ns: u64) -> Result<()> {
+        done(unsafe { calls::eevdf_begin(self.at.as_ptr(), task, nice, slice_ns) })
+    }
+
     /// Lowers all virtual times by one number, so that the virtual time is 0, and gives the number. Where a virtual time would leave its
     /// range, as no task within 2^59 of the time 0 can make it, nothing changes, and the number is 0; [`Queue::floor_time`] isn't 0 then.
     pub fn rebase(&mut self) -> i64 {

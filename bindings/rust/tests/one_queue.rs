@@ -78,7 +78,7 @@ fn all_other_calls_do_what_they_say() {
     assert_eq!(queue.load(), 1024 + 335);
     queue.end(7).unwrap();
     assert_eq!(queue.len(), 1);
-    assert_eq!(eevdf::version(), 3000);
+    assert_eq!(eevdf::version(), 4000);
 }
 
 #[test]
@@ -124,6 +124,43 @@ fn a_slice_is_that_of_the_next_request() {
     assert_eq!(queue.pick(), Some(0));
     assert!(queue.tick(SLICE).unwrap());
     assert_eq!(queue.entry(0).unwrap().deadline, 4_000_000);
+}
+
+#[test]
+fn a_level_and_a_slice_change_together() {
+    let mut memory = QueueMemory::new();
+    let mut queue = Queue::open(&mut memory);
+    queue.admit(0, 0, SLICE, 0).unwrap();
+    assert_eq!(queue.set(0, 20, SLICE), Err(Error::Invalid));
+    assert_eq!(queue.set(1, 5, SLICE), Err(Error::Absent));
+    queue.set(0, 5, 1_000_000).unwrap();
+    // the charge of 3 ms to the weight 335
+    assert_eq!(queue.entry(0), Ok(Entry { vruntime: 0, deadline: 9_170_149, nice: 5, slice_ns: 1_000_000 }));
+    queue.end(0).unwrap();
+    queue.admit(2, 0, SLICE, (1 << 60) - SLICE as i64).unwrap();
+    assert_eq!(queue.set(2, 19, 100_000), Err(Error::Range));
+    assert_eq!((queue.entry(2).unwrap().nice, queue.entry(2).unwrap().slice_ns), (0, SLICE));
+}
+
+#[test]
+fn a_sleeping_task_changes_and_begins_anew() {
+    let mut memory = QueueMemory::new();
+    let mut queue = Queue::open(&mut memory);
+    queue.admit(0, 0, SLICE, 0).unwrap();
+    queue.admit(1, 0, SLICE, 0).unwrap();
+    assert_eq!(queue.pick(), Some(0));
+    assert!(!queue.tick(2_000_000).unwrap());
+    queue.sleep(0).unwrap();
+    queue.set(0, 5, SLICE).unwrap();
+    // -1000000 * 1024 / 335, rounded down
+    assert_eq!(queue.sleeper(0), Ok(Sleeper { lag: -3_056_717, nice: 5, slice_ns: SLICE }));
+    queue.set(0, 0, 100_000).unwrap();
+    assert_eq!(queue.sleeper(0), Ok(Sleeper { lag: -200_000, nice: 0, slice_ns: 100_000 }));
+    assert_eq!(queue.begin(0, 0, 0), Err(Error::Invalid));
+    assert_eq!(queue.begin(1, 3, SLICE), Err(Error::Present));
+    assert_eq!(queue.begin(2, 3, SLICE), Err(Error::Absent));
+    queue.begin(0, 3, SLICE).unwrap();
+    assert_eq!(queue.sleeper(0), Ok(Sleeper { lag: 0, nice: 3, slice_ns: SLICE }));
 }
 
 #[test]

@@ -87,6 +87,8 @@ static void look_at_empty(void)
 	ANSWERS(EEVDF_ABSENT, eevdf_end(&queue, 0));
 	ANSWERS(EEVDF_ABSENT, eevdf_renice(&queue, 0, 0));
 	ANSWERS(EEVDF_ABSENT, eevdf_set_slice(&queue, 0, SLICE));
+	ANSWERS(EEVDF_ABSENT, eevdf_set(&queue, 0, 0, SLICE));
+	ANSWERS(EEVDF_ABSENT, eevdf_begin(&queue, 0, 0, SLICE));
 	ANSWERS(0, eevdf_rebase(&queue, &number));
 	if (number != 0)
 		fail("an empty queue at the time 0 is moved", number);
@@ -131,6 +133,8 @@ static void look_at_numbers(void)
 		ANSWERS(EEVDF_INVALID, eevdf_end(&queue, tasks[at]));
 		ANSWERS(EEVDF_INVALID, eevdf_renice(&queue, tasks[at], 0));
 		ANSWERS(EEVDF_INVALID, eevdf_set_slice(&queue, tasks[at], SLICE));
+		ANSWERS(EEVDF_INVALID, eevdf_set(&queue, tasks[at], 0, SLICE));
+		ANSWERS(EEVDF_INVALID, eevdf_begin(&queue, tasks[at], 0, SLICE));
 		ANSWERS(EEVDF_INVALID, eevdf_take(&queue, &full, tasks[at]));
 		ANSWERS(EEVDF_INVALID, eevdf_entry_of(&queue, tasks[at], &entry));
 		ANSWERS(EEVDF_INVALID, eevdf_sleeper_of(&queue, tasks[at], &sleeper));
@@ -141,11 +145,19 @@ static void look_at_numbers(void)
 	for (size_t at = 0; at < sizeof levels / sizeof *levels; at++) {
 		ANSWERS(EEVDF_INVALID, eevdf_admit(&queue, 1, levels[at], SLICE, 0));
 		ANSWERS(EEVDF_INVALID, eevdf_renice(&queue, 15, levels[at]));
+		ANSWERS(EEVDF_INVALID, eevdf_set(&queue, 15, levels[at], SLICE));
+		ANSWERS(EEVDF_INVALID, eevdf_set(&queue, 3, levels[at], SLICE));
+		ANSWERS(EEVDF_INVALID, eevdf_begin(&queue, 1, levels[at], SLICE));
+		ANSWERS(EEVDF_INVALID, eevdf_begin(&queue, 3, levels[at], SLICE));
 		ANSWERS(EEVDF_INVALID, eevdf_can_place(&queue, levels[at], SLICE, 0));
 	}
 	for (size_t at = 0; at < sizeof slices / sizeof *slices; at++) {
 		ANSWERS(EEVDF_INVALID, eevdf_admit(&queue, 1, 0, slices[at], 0));
 		ANSWERS(EEVDF_INVALID, eevdf_set_slice(&queue, 15, slices[at]));
+		ANSWERS(EEVDF_INVALID, eevdf_set(&queue, 15, 0, slices[at]));
+		ANSWERS(EEVDF_INVALID, eevdf_set(&queue, 3, 0, slices[at]));
+		ANSWERS(EEVDF_INVALID, eevdf_begin(&queue, 1, 0, slices[at]));
+		ANSWERS(EEVDF_INVALID, eevdf_begin(&queue, 3, 0, slices[at]));
 		ANSWERS(EEVDF_INVALID, eevdf_can_place(&queue, 0, slices[at], 0));
 	}
 	for (size_t at = 0; at < sizeof starts / sizeof *starts; at++)
@@ -172,6 +184,9 @@ static void look_at_places(void)
 	ANSWERS(EEVDF_PRESENT, eevdf_wake(&queue, 1));
 	ANSWERS(EEVDF_ABSENT, eevdf_sleep(&queue, 3));
 	ANSWERS(EEVDF_ABSENT, eevdf_renice(&queue, 3, 1));
+	ANSWERS(EEVDF_ABSENT, eevdf_set(&queue, 4, 1, SLICE));
+	ANSWERS(EEVDF_PRESENT, eevdf_begin(&queue, 1, 1, SLICE));
+	ANSWERS(EEVDF_ABSENT, eevdf_begin(&queue, 4, 1, SLICE));
 	ANSWERS(EEVDF_ABSENT, eevdf_entry_of(&queue, 3, &entry));
 	ANSWERS(EEVDF_ABSENT, eevdf_sleeper_of(&queue, 1, &sleeper));
 	ANSWERS(0, eevdf_sleeper_of(&queue, 3, &sleeper));
@@ -221,6 +236,7 @@ static void look_at_range(void)
 	ANSWERS(SLICE, eevdf_time_to_resched(&queue));
 	ANSWERS(EEVDF_RANGE, eevdf_yield(&queue));
 	ANSWERS(EEVDF_RANGE, eevdf_renice(&queue, 5, 19));
+	ANSWERS(EEVDF_RANGE, eevdf_set(&queue, 5, 19, EEVDF_SLICE_MIN));
 	DONE(eevdf_sleep(&queue, 5));
 	DONE(eevdf_admit(&queue, 6, 0, SLICE, last));
 	DONE(eevdf_admit(&queue, 7, 0, EEVDF_SLICE_MIN, EEVDF_TIME_MAX - EEVDF_SLICE_MIN));

@@ -119,6 +119,10 @@ static void move(eevdf_queue *from, eevdf_queue *to, uint64_t task)
 	eevdf_sleep(from, (uint64_t)running);
 	eevdf_set_slice(from, (uint64_t)running, SLICE / 2);
 	eevdf_set_slice(from, task, 2 * SLICE);
+	eevdf_set(from, (uint64_t)running, 1, SLICE);
+	eevdf_set(from, task, -1, SLICE);
+	if (task % 3 == 0)
+		eevdf_begin(from, (uint64_t)running, 2, SLICE);
 	eevdf_take(from, &between.hand, task);
 	if (task % 2 == 0)
 		eevdf_put(to, &between.hand);

@@ -14,7 +14,8 @@ enum { TURNS = 1000, TASKS = STATE_TASKS, MARK = 0xa5, PLACES = 3 };
 /* The calls that change a queue or a hand; the first ones are drawn more often. */
 enum {
 	ADMIT, PICK, TICK, OFTEN,
-	YIELD = OFTEN, STOP, SLEEP, WAKE, END, RENICE, SET_SLICE, REBASE, TAKE, TAKE_ANY, PUT, PUT_ASLEEP,
+	YIELD = OFTEN, STOP, SLEEP, WAKE, END, RENICE, SET_SLICE, SET, BEGIN, REBASE, TAKE, TAKE_ANY, PUT,
+	PUT_ASLEEP,
 	CALLS
 };
 
@@ -93,6 +94,10 @@ static int64_t answer_to(struct side *side, const struct call *call)
 		return eevdf_renice(queue, call->task, call->nice);
 	case SET_SLICE:
 		return eevdf_set_slice(queue, call->task, call->slice_ns);
+	case SET:
+		return eevdf_set(queue, call->task, call->nice, call->slice_ns);
+	case BEGIN:
+		return eevdf_begin(queue, call->task, call->nice, call->slice_ns);
 	case REBASE:
 		return eevdf_rebase(queue, &number) + number;
 	case TAKE:

@@ -122,6 +122,20 @@ static int64_t play_set_slice(const struct line *line)
 	return eevdf_set_slice(queue_of(line), line->number[1], line->number[2]);
 }
 
+static int64_t play_set(const struct line *line)
+{
+	const uint64_t *number = line->number;
+
+	return eevdf_set(queue_of(line), number[1], (int64_t)number[2], number[3]);
+}
+
+static int64_t play_begin(const struct line *line)
+{
+	const uint64_t *number = line->number;
+
+	return eevdf_begin(queue_of(line), number[1], (int64_t)number[2], number[3]);
+}
+
 static int64_t play_rebase(const struct line *line)
 {
 	written_count = 1;
@@ -231,6 +245,8 @@ static const struct {
 	{ .name = "admit", .play = play_admit },
 	{ .name = "renice", .play = play_renice },
 	{ .name = "set_slice", .play = play_set_slice },
+	{ .name = "set", .play = play_set },
+	{ .name = "begin", .play = play_begin },
 	{ .name = "rebase", .play = play_rebase },
 	{ .name = "take", .play = play_take },
 	{ .name = "take_any", .play = play_take_any },

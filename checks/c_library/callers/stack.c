@@ -22,7 +22,7 @@ enum { STACK = 65536, PAINT = 0xa5, LIMIT = 1024, REBASE_LIMIT = 1536, TURNS = 1
 enum { GAP = EEVDF_SLICE_MIN, EARLY = -2 * GAP, VISITOR = EEVDF_TASKS - 1, NOBODY = EEVDF_TASKS };
 
 /* The calls by which a task leaves its place in the tree, at once for another one or not. */
-enum { TICK, YIELD, SET_SLICE, RENICE, SLEEP, TAKE, TAKE_ANY, END, WAYS };
+enum { TICK, YIELD, SET_SLICE, RENICE, SET, SLEEP, TAKE, TAKE_ANY, END, WAYS };
 
 static _Alignas(16) unsigned char stack[STACK];
 static _Alignas(16) unsigned char pool[EEVDF_TASKS + 8][EEVDF_TASK_SIZE];
@@ -72,6 +72,9 @@ static inline void turn(void)
 	eevdf_renice(&queue, task, (int64_t)drawn(40) - 20);
 	eevdf_set_slice(&queue, task, 100000 + drawn(1000000));
 	eevdf_set_slice(&queue, (uint64_t)running, 3000000);
+	eevdf_set(&queue, task, (int64_t)drawn(40) - 20, 100000 + drawn(1000000));
+	eevdf_set(&queue, (uint64_t)running, (int64_t)drawn(40) - 20, 3000000);
+	eevdf_begin(&queue, task, (int64_t)drawn(40) - 20, 3000000);
 	eevdf_take(&queue, &hand, task);
 	eevdf_hand_parcel(&hand, &parcel);
 	eevdf_put(&other, &hand);
@@ -166,6 +169,9 @@ static inline void leave(int way, uint64_t task)
 		break;
 	case RENICE:
 		eevdf_renice(&queue, task, 0);
+		break;
+	case SET:
+		eevdf_set(&queue, task, 0, entry.slice_ns);
 		break;
 	case SLEEP:
 		eevdf_sleep(&queue, task);

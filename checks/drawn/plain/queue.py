@@ -156,6 +156,26 @@ class Queue:
             return False
         return True
 
+    def set(self, task, nice, length):
+        """Another nice level and slice at once, of a runnable or a sleeping task."""
+        if task in self.asleep:
+            sleeper = self.asleep[task]
+            lag = sleeper.lag * weight_of(sleeper.nice) // weight_of(nice)
+            self.asleep[task] = Sleeper(limited(lag, length, weight_of(nice)), nice, length)
+            return "set"
+        answer = self.renice(task, nice)
+        if answer != "reniced":
+            return answer
+        self.runnable[task] = replace(self.runnable[task], length=length)
+        return "set"
+
+    def begin(self, task, nice, length):
+        """A sleeping task begins anew. Whether it sleeps here."""
+        if task not in self.asleep:
+            return False
+        self.asleep[task] = Sleeper(0, nice, length)
+        return True
+
     def rebase(self):
         """The number by which all virtual times are lower."""
         by = self.virtual_time()

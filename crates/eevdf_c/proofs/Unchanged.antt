@@ -9,6 +9,7 @@ use Rattle.eevdf_c.specs.Yield as yields
 use Rattle.eevdf_c.specs.Wake as wakes
 use Rattle.eevdf_c.specs.Renice as renices
 use Rattle.eevdf_c.specs.SetSlice as slices
+use Rattle.eevdf_c.specs.Attributes as attributes
 use Rattle.eevdf_c.specs.Leaving as leaving
 use Rattle.eevdf_c.specs.Admit as admits
 use Rattle.eevdf_c.specs.Hands as hands
@@ -40,6 +41,14 @@ renice_keeps q number level = keeps (λ e. grind arith)
 
 pub set_slice_keeps : (q : State) (number : ℕ) (ns : ℕ) → Keeps q (slices.set_slice q number ns).0 (slices.set_slice q number ns).1
 set_slice_keeps q number ns = keeps (λ e. grind arith)
+
+pub set_keeps : (q : State) (number : ℕ) (level : ℤ) (ns : ℕ)
+    → Keeps q (attributes.set q number level ns).0 (attributes.set q number level ns).1
+set_keeps q number level ns = keeps (λ e. grind arith)
+
+pub begin_keeps : (q : State) (number : ℕ) (level : ℤ) (ns : ℕ)
+    → Keeps q (attributes.begin q number level ns).0 (attributes.begin q number level ns).1
+begin_keeps q number level ns = keeps (λ e. grind arith)
 
 pub sleep_keeps : (q : State) (number : ℕ) → Keeps q (leaving.sleep q number).0 (leaving.sleep q number).1
 sleep_keeps q number = keeps (λ e. grind arith)

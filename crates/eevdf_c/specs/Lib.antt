@@ -6,6 +6,7 @@ pub mod Yield
 pub mod Wake
 pub mod Renice
 pub mod SetSlice
+pub mod Attributes
 pub mod Admit
 pub mod Leaving
 pub mod Hands

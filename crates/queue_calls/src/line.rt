@@ -1,7 +1,7 @@
 //! A line: the name of a call without `eevdf_`, the numbers of its queue and of its hand where it has them, and its numbers, as they
 //! stand in the call. Besides, `refuse 1` and `refuse 0`, and `state QUEUE TASKS`.
 
-use crate::named_call::{NamedCall, NewTask, Placed};
+use crate::named_call::{Changed, NamedCall, NewTask, Placed};
 
 /// Which of two queues or of two hands.
 #[derive(Clone, Copy, PartialEq, Eq)]
@@ -52,6 +52,12 @@ impl Line {
                     "0",
                 )
             }
+            ["set", queue, task, nice, slice] => {
+                Line::at(NamedCall::Set(changed(task, nice, slice)?), queue, "0")
+            }
+            ["begin", queue, task, nice, slice] => {
+                Line::at(NamedCall::Begin(changed(task, nice, slice)?), queue, "0")
+            }
             ["can_place", queue, nice, slice, lag] => Line::at(
                 placed(nice, slice, lag)?,
                 queue,
@@ -79,6 +85,14 @@ impl Line {
             hand: Place::of(hand)?,
         })
     }
+}
+
+fn changed(task: &str, nice: &str, slice: &str) -> Option<Changed> {
+    Some(Changed {
+        task: unsigned(task)?,
+        nice: signed(nice)?,
+        slice: unsigned(slice)?,
+    })
 }
 
 fn placed(nice: &str, slice: &str, lag: &str) -> Option<NamedCall> {

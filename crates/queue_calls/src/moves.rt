@@ -2,10 +2,10 @@
 
 use crate::fault::Fault;
 use crate::hand::Hand;
-use crate::named_call::{NewTask, Placed};
+use crate::named_call::{Changed, NewTask, Placed};
 use crate::task_numbers::{is_lag, nice_of, slice_of, task_of};
 use eevdf_queue::{
-    Parcel, Queue, Refused, ReniceAnswer, TaskId, TickAnswer, WakeAnswer, YieldAnswer,
+    Parcel, Queue, Refused, ReniceAnswer, SetAnswer, TaskId, TickAnswer, WakeAnswer, YieldAnswer,
 };
 use eevdf_weight::{Ns, is_in_range};
 use std::alloc::Global;
@@ -125,6 +125,26 @@ pub fn set_slice(queue: &mut Queue, task: u64, length: u64) -> Result<u64, Fault
     }
 }
 
+pub fn set(queue: &mut Queue, change: &Changed) -> Result<u64, Fault> {
+    let task = task_of(change.task)?;
+    match queue.set(task, nice_of(change.nice)?, slice_of(change.slice)?) {
+        SetAnswer::Set => Ok(0),
+        SetAnswer::NotHere => Err(Fault::Absent),
+        SetAnswer::Range => Err(Fault::Range),
+    }
+}
+
+pub fn begin(queue: &mut Queue, change: &Changed) -> Result<u64, Fault> {
+    let task = task_of(change.task)?;
+    if queue.begin(task, nice_of(change.nice)?, slice_of(change.slice)?) {
+        Ok(0)
+    } else if queue.contains(task) {
+        Err(Fault::Present)
+    } else {
+        Err(Fault::Absent)
+    }
+}
+
 pub fn take(queue: &mut Queue, hand: &mut Hand, task: u64) -> Result<u64, Fault> {
     let task = task_of(task)?;
     if hand.held().is_some() {
@@ -155,13 +175,10 @@ pub fn take_any(queue: &mut Queue, hand: &mut Hand) -> Result<u64, Fault> {
 
 /// Takes a task out, whether it runs, waits or sleeps.
 fn taken_out(queue: &mut Queue, task: TaskId) -> Option<Parcel> {
-    if let Some(parcel) = queue.detach_running(task) {
-        return Some(parcel);
+    match queue.detach_runnable(task) {
+        Some(parcel) => Some(parcel),
+        None => queue.detach_asleep(task),
     }
-    if queue.entry(task).is_some() {
-        return Some(queue.detach(task));
-    }
-    queue.detach_asleep(task)
 }
 
 pub fn put(queue: &mut Queue, hand: &mut Hand) -> Result<u64, Fault> {

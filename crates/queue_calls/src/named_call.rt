@@ -15,6 +15,8 @@ pub enum NamedCall {
     Admit(NewTask),
     Renice(u64, i64),
     SetSlice(u64, u64),
+    Set(Changed),
+    Begin(Changed),
     Rebase,
     Take(u64),
     TakeAny,
@@ -48,6 +50,14 @@ pub struct NewTask {
     pub nice: i64,
     pub slice: u64,
     pub start: i64,
+}
+
+/// A task that gets another nice level and slice.
+#[derive(Clone, Copy)]
+pub struct Changed {
+    pub task: u64,
+    pub nice: i64,
+    pub slice: u64,
 }
 
 /// A task that may be placed.

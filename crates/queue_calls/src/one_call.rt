@@ -49,6 +49,8 @@ fn answer(
         NamedCall::Admit(new) => moves::admit(queue, memory, &new),
         NamedCall::Renice(task, nice) => moves::renice(queue, task, nice),
         NamedCall::SetSlice(task, length) => moves::set_slice(queue, task, length),
+        NamedCall::Set(change) => moves::set(queue, &change),
+        NamedCall::Begin(change) => moves::begin(queue, &change),
         NamedCall::Take(task) => moves::take(queue, hand, task),
         NamedCall::TakeAny => moves::take_any(queue, hand),
         NamedCall::Put => moves::put(queue, hand),

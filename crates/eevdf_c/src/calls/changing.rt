@@ -1,4 +1,5 @@
-//! How a task wakes, and how it gets another nice level or another slice; and how the virtual times of all become smaller.
+//! How a task wakes, how it gets another nice level, another slice or both, and how it begins anew; and how the virtual times of all become
+//! smaller.
 
 ghost use Rattle.std.specs.Prelude.{◌≡◌, pos, true};
 ghost use Rattle.eevdf_queue.specs.Rebase as rebases;
@@ -8,10 +9,11 @@ ghost use Rattle.eevdf_c.specs.Errors.{KeepsOnError};
 ghost use Rattle.eevdf_c.specs.Wake as wakes;
 ghost use Rattle.eevdf_c.specs.Renice as renices;
 ghost use Rattle.eevdf_c.specs.SetSlice as slices;
+ghost use Rattle.eevdf_c.specs.Attributes as attributes;
 
 use crate::codes::{ABSENT, DONE, INVALID, PRESENT, RANGE};
 use crate::opened::Opened;
-use eevdf_queue::{ReniceAnswer, TaskId, WakeAnswer};
+use eevdf_queue::{ReniceAnswer, SetAnswer, TaskId, WakeAnswer};
 use eevdf_weight::{Nice, Slice};
 
 /// Makes a task runnable that sleeps here, with the lag that it kept.
@@ -74,6 +76,54 @@ pub fn set_slice(opened: &mut Opened, number: u64, slice_ns: u64) -> i64
     };
     if opened.queue.set_slice(task, slice) {
         DONE
+    } else {
+        ABSENT
+    }
+}
+
+/// Gives a task another nice level and slice, runnable or asleep.
+#[tactic(auto, using(crate::proofs::Unchanged::set_keeps))]
+pub fn set(opened: &mut Opened, number: u64, level: i64, slice_ns: u64) -> i64
+    ensures answer { result ≡ (attributes.set opened.old number level slice_ns).0 }
+    ensures after { opened.new ≡ (attributes.set opened.old number level slice_ns).1 }
+    ensures kept { KeepsOnError result opened.old opened.new }
+{
+    let Some(task) = TaskId::new(number) else {
+        return INVALID;
+    };
+    let Some(nice) = Nice::new(level) else {
+        return INVALID;
+    };
+    let Some(slice) = Slice::new(slice_ns) else {
+        return INVALID;
+    };
+    match opened.queue.set(task, nice, slice) {
+        SetAnswer::Set => DONE,
+        SetAnswer::NotHere => ABSENT,
+        SetAnswer::Range => RANGE,
+    }
+}
+
+/// Lets a task that sleeps here begin anew, with the lag 0.
+#[tactic(auto, using(crate::proofs::Unchanged::begin_keeps))]
+pub fn begin(opened: &mut Opened, number: u64, level: i64, slice_ns: u64) -> i64
+    ensures answer { result ≡ (attributes.begin opened.old number level slice_ns).0 }
+    ensures after { opened.new ≡ (attributes.begin opened.old number level slice_ns).1 }
+    ensures kept { KeepsOnError result opened.old opened.new }
+{
+    let Some(task) = TaskId::new(number) else {
+        return INVALID;
+    };
+    let Some(nice) = Nice::new(level) else {
+        return INVALID;
+    };
+    let Some(slice) = Slice::new(slice_ns) else {
+        return INVALID;
+    };
+    if opened.queue.begin(task, nice, slice) {
+        DONE
+    } else if opened.queue.contains(task) {
+        PRESENT
     } else {
         ABSENT
     }

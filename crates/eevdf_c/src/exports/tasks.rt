@@ -8,6 +8,7 @@ ghost use Rattle.eevdf_c.specs.Memory.{number_at, queue_at};
 ghost use Rattle.eevdf_c.specs.Codes as answers;
 ghost use Rattle.eevdf_c.specs.Errors.{KeepsOnError};
 ghost use Rattle.eevdf_c.specs.Admit as admits;
+ghost use Rattle.eevdf_c.specs.Attributes as attributes;
 ghost use Rattle.eevdf_c.specs.Leaving as leaving;
 ghost use Rattle.eevdf_c.specs.Renice as renices;
 ghost use Rattle.eevdf_c.specs.SetSlice as slices;
@@ -100,6 +101,33 @@ pub unsafe extern "C" fn eevdf_set_slice(queue: *mut u8, task: u64, slice_ns: u6
     ensures kept { KeepsOnError result q (slices.set_slice q task slice_ns).1 }
 {
     calls::changing::set_slice(&mut *(queue as *mut Opened), task, slice_ns)
+}
+
+/// Gives a task another nice level and slice, runnable or asleep. A runnable one's next request is of the new slice; the lag that a
+/// sleeping one keeps is rescaled by its weights, and cut to its new limit. Answers 0. `INVALID`: a number is out of its range; `ABSENT`:
+/// the task isn't here; `RANGE`: a runnable one's runtime or deadline would be out of range, and it keeps its level and its slice.
+#[unsafe(no_mangle)]
+pub unsafe extern "C" fn eevdf_set(queue: *mut u8, task: u64, nice: i64, slice_ns: u64) -> i64
+    ghost q: { State }
+    requires* { sem 𝓛 (queue_at queue q) }
+    ensures* after { sem 𝓛 (queue_at queue (attributes.set q task nice slice_ns).1) }
+    ensures answer { result ≡ (attributes.set q task nice slice_ns).0 }
+    ensures kept { KeepsOnError result q (attributes.set q task nice slice_ns).1 }
+{
+    calls::changing::set(&mut *(queue as *mut Opened), task, nice, slice_ns)
+}
+
+/// A task that sleeps here begins anew: it sleeps on with this nice level and slice, and the lag 0. Answers 0. `INVALID`: a number is
+/// out of its range; `PRESENT`: the task is runnable here; `ABSENT`: it isn't here.
+#[unsafe(no_mangle)]
+pub unsafe extern "C" fn eevdf_begin(queue: *mut u8, task: u64, nice: i64, slice_ns: u64) -> i64
+    ghost q: { State }
+    requires* { sem 𝓛 (queue_at queue q) }
+    ensures* after { sem 𝓛 (queue_at queue (attributes.begin q task nice slice_ns).1) }
+    ensures answer { result ≡ (attributes.begin q task nice slice_ns).0 }
+    ensures kept { KeepsOnError result q (attributes.begin q task nice slice_ns).1 }
+{
+    calls::changing::begin(&mut *(queue as *mut Opened), task, nice, slice_ns)
 }
 
 /// Lowers all virtual times by one number, which `by` gets, so that the virtual time is 0. Where one of them would leave its range all
