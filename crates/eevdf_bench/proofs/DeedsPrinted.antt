@@ -1,12 +1,12 @@
 -- Printed deeds are read back, and nothing else is read as them.
 use Rattle.std.proofs.Common.{◌≡◌, ◌↔◌, ℕ, codes, ◌<◌, true, ltb, List, [], ◌∷◌, ◌++◌, Some, option_map, option_and_then, refl, ap, ap₂, sym, subst, append_assoc, ◌∙◌, arith}
 use Rattle.std.specs.{Prelude.IfSome, Fmt.decimal, List.join_with_byte}
-use Rattle.std.proofs.{lemmas.Bool.and_parts, lemmas.Option.none-some, lemmas.Option.option_and_then_some}
+use Rattle.std.proofs.{lemmas.Bool.and_parts, lemmas.Bool.false≢true, lemmas.Option.none-some, lemmas.Option.option_and_then_some}
 use Rattle.eevdf_queue.specs.Numbers.{checked_number}
 use Rattle.eevdf_ops.specs.{Numbers.cpu_limit, Parts.decider, Programs.deed_of, Texts.deed_text}
 use Rattle.eevdf_ops.specs.{declared.deeds.Op.Op, declared.deeds.Deed.Deed}
 use Rattle.eevdf_ops.specs.declared.deeds.Op.TheVariants as op
-use Rattle.eevdf_ops.specs.declared.deeds.Deed.TheVariants.{Tick, Sleep, Wake, Pull, Renice}
+use Rattle.eevdf_ops.specs.declared.deeds.Deed.TheVariants.{Tick, Sleep, Wake, Pull, Renice, Begin, End, Set, Rebase}
 use Rattle.eevdf_workload.specs.{declared.version.Version.Version, Versions.cpu_within, Versions.limits_of}
 use Rattle.eevdf_workload.specs.Words.{words, operation, operation_of, sender_of, wake_of, task_in, cpu_in, deed_on, deed_in}
 use Rattle.eevdf_bench.specs.WordsPrinted.{IsActInRange, knows_act, knows_deed, knows_operation, numbered_deed_text, operation_text}
@@ -101,6 +101,10 @@ act-read version (Wake cpu task sender) h known =
     ap (λ t. deed_on (limits_of version) cpu (words t)) (wake_text cpu task sender)
     ∙ ap (wake_of (limits_of version) cpu) (words-after_decimal task (codes "from " ++ decimal sender) (omega (arith, h.0)))
     ∙ rw (words-decimal sender (omega (arith, h.1)), number-decimal task (omega (arith, h.0)), task_passes task h.0, number-decimal sender (omega (arith, h.1)), cpu_passes version sender h.1 known)
+act-read version (Begin cpu task nice slice) h known = absurd (false≢true known)
+act-read version (End cpu task) h known = absurd (false≢true known)
+act-read version (Set cpu task nice slice) h known = absurd (false≢true known)
+act-read version (Rebase cpu) h known = absurd (false≢true known)
 act-read version _ h known = refl
 
 deed-read : (version : Version) (d : Deed) → decider d < cpu_limit → IsActInRange d → knows_deed version d ≡ true → deed_in (limits_of version) (words (numbered_deed_text d)) ≡ Some d

@@ -1,5 +1,5 @@
 -- The texts that are read as operations and deeds, and which of them are within the limits of a version.
-use Rattle.std.specs.Prelude.{◌≡◌, ◌<◌, nat_lt, Bool, true, ◌&&◌}
+use Rattle.std.specs.Prelude.{◌≡◌, ◌<◌, nat_lt, Bool, true, false, ◌&&◌}
 use Rattle.eevdf_weight.specs.Limits.{is_nice_level, is_tick}
 use Rattle.eevdf_ops.specs.{Numbers.cpu_limit, declared.deeds.Op.Op, declared.deeds.Deed.Deed, Parts.decider}
 use Rattle.eevdf_ops.specs.declared.deeds.Op.TheVariants.{Tick, Sleep, Post, Pull, Renice}
@@ -18,6 +18,10 @@ abbrev pub knows_act : Version → Deed → Bool
 knows_act version (deed.Wake cpu task sender) = nat_lt sender (limits_of version).cpus
 knows_act version (deed.Pull cpu source) = nat_lt source (limits_of version).cpus
 knows_act version (deed.Renice cpu task nice) = (limits_of version).renice
+knows_act version (deed.Begin cpu task nice slice) = false
+knows_act version (deed.End cpu task) = false
+knows_act version (deed.Set cpu task nice slice) = false
+knows_act version (deed.Rebase cpu) = false
 knows_act version other = true
 
 -- and of a deed with the CPU that does it

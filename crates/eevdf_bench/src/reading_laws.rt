@@ -59,7 +59,12 @@ fn deed_is_in_range(deed: Deed)
             let _below = cpu.get();
             let _within = ns.get();
         }
-        Deed::Pick { cpu } | Deed::Yield { cpu } => {
+        Deed::Pick { cpu }
+        | Deed::Yield { cpu }
+        | Deed::Begin { cpu, .. }
+        | Deed::End { cpu, .. }
+        | Deed::Set { cpu, .. }
+        | Deed::Rebase { cpu } => {
             let _below = cpu.get();
         }
         Deed::Sleep { cpu, task } => {

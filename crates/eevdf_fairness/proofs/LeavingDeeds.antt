@@ -9,12 +9,12 @@ use Rattle.eevdf_queue.specs.{Leaving.leave, Leaving.without_entry, Leaving.stop
 use Rattle.eevdf_queue.specs.Pick.{pick_of, picked_by, after_pick}
 use Rattle.eevdf_queue.specs.Tick.{is_used_up, charged, tick, tick_entry, tick_running}
 use Rattle.eevdf_ops.specs.{declared.deeds.Answer.Answer, Setup.home_of, Machine.Machine, Machine.queue_at}
-use Rattle.eevdf_ops.specs.declared.deeds.Deed.TheVariants.{Sleep, Pull}
-use Rattle.eevdf_ops.specs.declared.deeds.Answer.TheVariants.{Slept, Pulled}
+use Rattle.eevdf_ops.specs.declared.deeds.Deed.TheVariants.{Sleep, Pull, End}
+use Rattle.eevdf_ops.specs.declared.deeds.Answer.TheVariants.{Slept, Pulled, Ended}
 use Rattle.eevdf_ops.specs.declared.acts.Transfer.TheVariants as transfer
 use Rattle.eevdf_ops.specs.{LocalActs.slept_here, Transfers.slept_away, Transfers.pulled, Transfers.transferred, Whole.whole}
-use Rattle.eevdf_ops.specs.{Parts.after_leaving, Parts.answer_of_sleep, WholePull.load_of, WholePull.offer, WholePull.decision}
-use Rattle.eevdf_ops.proofs.{Carried.running-carries, LocalParts.whole-answer, MachinePlaces.other_queue, MachinePlaces.each-set, Pulling.unpulled, WholeActs.sleep_by_home}
+use Rattle.eevdf_ops.specs.{Parts.after_leaving, Parts.answer_of_sleep, Parts.answer_of_end, WholeEnd.ending, WholePull.load_of, WholePull.offer, WholePull.decision}
+use Rattle.eevdf_ops.proofs.{Carried.running-carries, Carried.ending-carries, LocalParts.whole-answer, MachinePlaces.other_queue, MachinePlaces.each-set, Pulling.unpulled, WholeActs.sleep_by_home, WholeActs.end_by_home, WholeActs.ended-here, WholeActs.ended-away}
 use Rattle.eevdf_fairness.specs.{Turns.Turn, Turns.after_ticks, Turns.after_turn, Turns.after_turns}
 use Rattle.eevdf_fairness.specs.Leavings.{Step, Takes, Leaves, after_steps, HaveSameRunnable, RunnableTasksDecide}
 use Rattle.eevdf_fairness.specs.LeavingDeeds.{DeedsLeave}
@@ -126,6 +126,33 @@ pub left_by_sleep : (q : State) (task : ℕ) (lag : ℤ) (o : Option Contents) �
 left_by_sleep q task lag None is done = cc
 left_by_sleep q task lag (Some p) is done = ap (leave q) (running-carries q task p is).of_task
 
+-- ---- an end
+pub end_leaves : (homes : List ℕ) (m : Machine) (cpu task : ℕ) → cpu < length m
+    → HaveSameRunnable (queue_at (whole homes (End cpu task) m).1 cpu) (after_leaving (ending (queue_at m cpu) task) (queue_at m cpu))
+end_leaves homes m cpu task h =
+    let o : Option Contents = ending (queue_at m cpu) task in
+    let r : State = queue_at m (home_of homes task) in
+    end_by_home (λ (r : Answer × Machine). HaveSameRunnable (queue_at r.1 cpu) (after_leaving o (queue_at m cpu))) homes cpu task m
+    (λ e. then _ _ _ (of_same _ _ (get_or-set_same m cpu _ empty_state h ∙ ended-here o (queue_at m cpu))) (here_left o (queue_at m cpu)))
+    (λ e. of_same _ _ (other_queue (set m cpu _) (home_of homes task) cpu _ (λ f. e (sym f)) ∙ get_or-set_same m cpu _ empty_state h
+    ∙ ap (λ (two : State × State). two.0) (ended-away o (queue_at m cpu) r) ∙ away_left o (queue_at m cpu) r))
+
+pub end_stays : (homes : List ℕ) (m : Machine) (cpu task other : ℕ) → (other ≡ cpu → ⊥)
+    → HaveSameRunnable (queue_at (whole homes (End cpu task) m).1 other) (queue_at m other)
+end_stays homes m cpu task other apart =
+    let IsKept : ℕ → State → Type 0 = λ i q. (i ≡ cpu → ⊥) → HaveSameRunnable q (queue_at m i) in
+    let o : Option Contents = ending (queue_at m cpu) task in
+    let r : State = queue_at m (home_of homes task) in
+    end_by_home (λ (r : Answer × Machine). HaveSameRunnable (queue_at r.1 other) (queue_at m other)) homes cpu task m
+    (λ e. of_same _ _ (other_queue m cpu other _ apart))
+    (λ e. each-set IsKept (set m cpu _) (home_of homes task) _
+    (λ f. subst (λ (two : State × State). HaveSameRunnable two.1 r) (sym (ended-away o (queue_at m cpu) r)) (away_stays o (queue_at m cpu) r))
+    (each-set IsKept m cpu _ (λ f. absurd (f refl)) (λ i f. alike (queue_at m i))) other apart)
+
+pub left_by_end : (q : State) (task : ℕ) (o : Option Contents) → ending q task ≡ o → answer_of_end o ≡ Ended → after_leaving o q ≡ leave q task
+left_by_end q task None is done = cc
+left_by_end q task (Some p) is done = ap (leave q) (ending-carries q task p is).of_task
+
 -- ---- a pull
 pub pull_leaves : (homes : List ℕ) (m : Machine) (cpu source : ℕ) → source < length m
     → queue_at (whole homes (Pull cpu source) m).1 source ≡ (transferred transfer.Pull (queue_at m cpu) (queue_at m source)).1.1
@@ -141,6 +168,10 @@ deeds_leave = record {
       then _ _ _ (sleep_leaves homes m cpu task h)
       (of_same _ _ (left_by_sleep (queue_at m cpu) task lag (carried_running (queue_at m cpu) task) refl (sym (whole-answer homes (Sleep cpu task) m) ∙ done)));
   sleeps_elsewhere = sleep_stays;
+  ends = λ homes m cpu task h done.
+      then _ _ _ (end_leaves homes m cpu task h)
+      (of_same _ _ (left_by_end (queue_at m cpu) task (ending (queue_at m cpu) task) refl (sym (whole-answer homes (End cpu task) m) ∙ done)));
+  ends_elsewhere = end_stays;
   pulls = λ homes m cpu source task h apart done.
       of_same _ _ (pull_leaves homes m cpu source h
       ∙ left_by_pull (queue_at m cpu) (queue_at m source) task (decision (queue_at m cpu) (load_of (queue_at m source)) (offer (queue_at m source))) refl done);

@@ -8,7 +8,7 @@ use Rattle.eevdf_queue.specs.{declared.entry.Entry.Entry, declared.answers.TickA
 use Rattle.eevdf_queue.specs.declared.answers.TickAnswer.TheVariants as ticked
 use Rattle.eevdf_ops.specs.{declared.deeds.Deed.Deed, declared.deeds.Answer.Answer, Machine.Machine, Machine.queue_at, Parts.touches, PartsLaws.OthersStay}
 use Rattle.eevdf_ops.specs.{Whole.whole, Whole.lines_of, Whole.machine_after, OneQueue.answer_of_tick}
-use Rattle.eevdf_ops.specs.declared.deeds.Deed.TheVariants.{Tick, Pick, Yield, Sleep, Wake, Pull, Renice}
+use Rattle.eevdf_ops.specs.declared.deeds.Deed.TheVariants.{Tick, Pick, Yield, Sleep, Wake, Pull, Renice, Begin, End, Set, Rebase}
 use Rattle.eevdf_ops.specs.declared.deeds.Answer.TheVariants as answered
 use Rattle.eevdf_ops.proofs.WholePlaces.{length-whole}
 use Rattle.eevdf_fairness.specs.{Turns.Turn, Turns.after_ticks, Turns.after_turn, Tallies.Measure, Tallies.over_ticks, Tallies.over_turns}
@@ -47,6 +47,10 @@ module _ (stay : OthersStay) (homes : List ℕ) (cpu : ℕ) (f : Answer → ℕ 
   added (Wake at task sender) q = 0
   added (Pull at source) q = 0
   added (Renice at task nice) q = 0
+  added (Begin at task nice slice) q = 0
+  added (End at task) q = 0
+  added (Set at task nice slice) q = 0
+  added (Rebase at) q = 0
 
   abbrev all_added : List Deed → State → ℕ
   all_added [] q = 0
@@ -60,6 +64,10 @@ module _ (stay : OthersStay) (homes : List ℕ) (cpu : ℕ) (f : Answer → ℕ 
   no_tick (Wake at task sender) a apart = none a
   no_tick (Pull at source) a apart = none a
   no_tick (Renice at task nice) a apart = none a
+  no_tick (Begin at task nice slice) a apart = none a
+  no_tick (End at task) a apart = none a
+  no_tick (Set at task nice slice) a apart = none a
+  no_tick (Rebase at) a apart = none a
 
   one_added : (m : Machine) (d : Deed) → IsOfTurns cpu d → f (whole homes d m).0 (ticked_on cpu d) ≡ added d (queue_at m cpu)
   one_added m (Tick at ns) is =
@@ -71,6 +79,10 @@ module _ (stay : OthersStay) (homes : List ℕ) (cpu : ℕ) (f : Answer → ℕ 
   one_added m (Wake at task sender) is = absurd is
   one_added m (Pull at source) is = absurd is
   one_added m (Renice at task nice) is = absurd is
+  one_added m (Begin at task nice slice) is = absurd is
+  one_added m (End at task) is = absurd is
+  one_added m (Set at task nice slice) is = absurd is
+  one_added m (Rebase at) is = absurd is
 
   one_line : (m : Machine) (d : Deed) (ds : List Deed) (b : Bool) → touches homes d cpu ≡ b → cpu < length m
       → (AreOfTurns cpu (touching homes cpu ds) → over_lines f cpu (lines_of homes (whole homes d m).1 ds) ≡ all_added (touching homes cpu ds) (queue_at (whole homes d m).1 cpu))
@@ -128,6 +140,10 @@ none_charged answered.Nothing = refl
 none_charged answered.Range = refl
 none_charged answered.Reniced = refl
 none_charged answered.NotHere = refl
+none_charged answered.Begun = refl
+none_charged answered.Ended = refl
+none_charged answered.Set = refl
+none_charged (answered.Rebased by) = refl
 
 either : (n : ℕ) (b : Bool) → cond b n n ≡ n
 either n true = refl
@@ -148,6 +164,10 @@ none_charged_to t answered.Nothing = refl
 none_charged_to t answered.Range = refl
 none_charged_to t answered.Reniced = refl
 none_charged_to t answered.NotHere = refl
+none_charged_to t answered.Begun = refl
+none_charged_to t answered.Ended = refl
+none_charged_to t answered.Set = refl
+none_charged_to t (answered.Rebased by) = refl
 
 charged_alike : (a : TickAnswer) (ns : ℕ) → charged (answer_of_tick a) ns ≡ if_charged a ns
 charged_alike (ticked.Charged task resched) ns = refl

@@ -3,7 +3,7 @@ use Rattle.std.proofs.Common.{◌≡◌, ℕ, ◌<◌, Bool, true, false, cond, 
 use Rattle.std.proofs.{lemmas.List.get_or-set_same}
 use Rattle.eevdf_queue.specs.{State.State, State.empty_state, Pick.after_pick, Tick.tick}
 use Rattle.eevdf_ops.specs.{declared.deeds.Deed.Deed, Machine.Machine, Machine.queue_at, Parts.touches, PartsLaws.OthersStay, Whole.whole, Whole.machine_after}
-use Rattle.eevdf_ops.specs.declared.deeds.Deed.TheVariants.{Tick, Pick, Yield, Sleep, Wake, Pull, Renice}
+use Rattle.eevdf_ops.specs.declared.deeds.Deed.TheVariants.{Tick, Pick, Yield, Sleep, Wake, Pull, Renice, Begin, End, Set, Rebase}
 use Rattle.eevdf_ops.proofs.WholePlaces.{length-whole}
 use Rattle.eevdf_fairness.specs.{Turns.Turn, Turns.after_ticks, Turns.after_turns, Fair.AllAreFair, Fair.TurnsAreFair}
 use Rattle.eevdf_fairness.specs.OneCpu.{ticks_on, turns_on, touching, TurnsOfOneCpu, OneCpuIsFair, OneCpuIsFairAnywhere}
@@ -18,6 +18,10 @@ IsOfTurns cpu (Sleep at task) = ⊥
 IsOfTurns cpu (Wake at task sender) = ⊥
 IsOfTurns cpu (Pull at source) = ⊥
 IsOfTurns cpu (Renice at task nice) = ⊥
+IsOfTurns cpu (Begin at task nice slice) = ⊥
+IsOfTurns cpu (End at task) = ⊥
+IsOfTurns cpu (Set at task nice slice) = ⊥
+IsOfTurns cpu (Rebase at) = ⊥
 
 abbrev pub AreOfTurns : ℕ → List Deed → Type 0
 AreOfTurns cpu [] = Unit {0}
@@ -32,6 +36,10 @@ done (Sleep at task) q = q
 done (Wake at task sender) q = q
 done (Pull at source) q = q
 done (Renice at task nice) q = q
+done (Begin at task nice slice) q = q
+done (End at task) q = q
+done (Set at task nice slice) q = q
+done (Rebase at) q = q
 
 abbrev pub all_done : List Deed → State → State
 all_done [] q = q
@@ -49,6 +57,10 @@ one_done homes m cpu (Sleep at task) h is = absurd is
 one_done homes m cpu (Wake at task sender) h is = absurd is
 one_done homes m cpu (Pull at source) h is = absurd is
 one_done homes m cpu (Renice at task nice) h is = absurd is
+one_done homes m cpu (Begin at task nice slice) h is = absurd is
+one_done homes m cpu (End at task) h is = absurd is
+one_done homes m cpu (Set at task nice slice) h is = absurd is
+one_done homes m cpu (Rebase at) h is = absurd is
 
 module _ (stay : OthersStay) (homes : List ℕ) (cpu : ℕ) where
   one_more : (m : Machine) (d : Deed) (ds : List Deed) (b : Bool) → touches homes d cpu ≡ b → cpu < length m

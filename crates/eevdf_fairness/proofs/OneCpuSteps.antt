@@ -5,16 +5,16 @@ use Rattle.std.proofs.lemmas.Bool.Decides.{nat_tests}
 use Rattle.std.specs.FinMap.{get}
 use Rattle.eevdf_queue.specs.{declared.entry.Entry.Entry, Sums.Tasks, State.State, State.Contents, Leaving.carried_running, Leaving.leave, Pick.after_pick, Tick.tick}
 use Rattle.eevdf_ops.specs.{declared.deeds.Deed.Deed, declared.deeds.Answer.Answer, Machine.Machine, Machine.queue_at}
-use Rattle.eevdf_ops.specs.declared.deeds.Deed.TheVariants.{Tick, Pick, Yield, Sleep, Wake, Pull, Renice}
-use Rattle.eevdf_ops.specs.{Parts.after_leaving, Parts.answer_of_sleep, Transfers.pulled, Whole.whole, Whole.lines_of, Whole.machine_after}
+use Rattle.eevdf_ops.specs.declared.deeds.Deed.TheVariants.{Tick, Pick, Yield, Sleep, Wake, Pull, Renice, Begin, End, Set, Rebase}
+use Rattle.eevdf_ops.specs.{Parts.after_leaving, Parts.answer_of_sleep, Parts.answer_of_end, WholeEnd.ending, Transfers.pulled, Whole.whole, Whole.lines_of, Whole.machine_after}
 use Rattle.eevdf_ops.specs.WholePull.{load_of, offer, decision}
 use Rattle.eevdf_ops.proofs.{LocalParts.whole-answer, MachinePlaces.other_queue, Pulling.refusals, WholePlaces.length-whole}
 use Rattle.eevdf_fairness.specs.{Turns.Turn, Turns.after_ticks, Turns.after_turn, Leavings.Step, Leavings.Takes, Leavings.Leaves, Leavings.after_steps, Leavings.HaveSameRunnable}
-use Rattle.eevdf_fairness.specs.OneCpuSteps.{Change, Picks, Ticks, Loses, IsNoStep, change_of_sleep, change_of_pull, change_at, and_then, changes_at, after_ticks_of, leavings_last, changes_of}
+use Rattle.eevdf_fairness.specs.OneCpuSteps.{Change, Picks, Ticks, Loses, IsNoStep, change_of_sleep, change_of_end, change_of_pull, change_at, and_then, changes_at, after_ticks_of, leavings_last, changes_of}
 use Rattle.eevdf_fairness.specs.OneCpuSteps.{StepsOfOneCpu, OneCpuStaysFair, OneCpuJoinKeepsFair}
 use Rattle.eevdf_fairness.specs.{Leavings.IsStillFair, Leavings.LeavingsKeepFair, Joining.IsFairAfterJoin, Joining.JoinKeepsFair}
 use Rattle.eevdf_fairness.proofs.{OneCpu.one_done, LeavingDeeds.alike, LeavingDeeds.of_same, LeavingDeeds.then, LeavingLater.leaves_later, LeavingDeeds.ticked, LeavingDeeds.picked, LeavingDeeds.left}
-use Rattle.eevdf_fairness.proofs.LeavingDeeds.{sleep_leaves, sleep_stays, left_by_sleep, pull_leaves}
+use Rattle.eevdf_fairness.proofs.LeavingDeeds.{sleep_leaves, sleep_stays, left_by_sleep, end_leaves, end_stays, left_by_end, pull_leaves}
 
 -- ---- changes, and what they make of a queue
 abbrev changed : Change → State → State
@@ -133,6 +133,24 @@ module _ (homes : List ℕ) (m : Machine) (cpu : ℕ) (h : cpu < length m) where
       (sym (is_here at cpu is)) (sleep_here task)
   sleeps_by at task false is = sleep_stays homes m at task cpu (is_apart at cpu is)
 
+  -- ---- ends
+  end_changes : (q : State) (task : ℕ) (o : Option Contents) → ending q task ≡ o → after_leaving o q ≡ changed_by (change_of_end task (answer_of_end o)) q
+  end_changes q task None is = refl
+  end_changes q task (Some p) is = left_by_end q task (Some p) is refl
+
+  end_here : (task : ℕ) → HaveSameRunnable (queue_at (whole homes (End cpu task) m).1 cpu) (changed_by (change_of_end task (whole homes (End cpu task) m).0) (queue_at m cpu))
+  end_here task =
+      then _ _ _ (end_leaves homes m cpu task h)
+      (of_same _ _ (end_changes (queue_at m cpu) task (ending (queue_at m cpu) task) refl
+      ∙ ap (λ (a : Answer). changed_by (change_of_end task a) (queue_at m cpu)) (sym (whole-answer homes (End cpu task) m))))
+
+  ends_by : (at task : ℕ) (b : Bool) → (at == cpu) ≡ b
+      → HaveSameRunnable (queue_at (whole homes (End at task) m).1 cpu) (changed_by (cond b (change_of_end task (whole homes (End at task) m).0) None) (queue_at m cpu))
+  ends_by at task true is =
+      subst (λ (a : ℕ). HaveSameRunnable (queue_at (whole homes (End a task) m).1 cpu) (changed_by (change_of_end task (whole homes (End a task) m).0) (queue_at m cpu)))
+      (sym (is_here at cpu is)) (end_here task)
+  ends_by at task false is = end_stays homes m at task cpu (is_apart at cpu is)
+
   -- ---- pulls
   pull_changes : (q r : State) (d : Result Contents Answer) → decision q (load_of r) (offer r) ≡ d → (pulled d q r).1.1 ≡ changed_by (change_of_pull (pulled d q r).0) r
   pull_changes q r (Err why) is =
@@ -160,6 +178,10 @@ module _ (homes : List ℕ) (m : Machine) (cpu : ℕ) (h : cpu < length m) where
   one_change (Wake at task sender) steps = other_by at _ (at == cpu) refl steps
   one_change (Pull at source) steps = pulls_by at source (at == cpu) (source == cpu) refl refl steps
   one_change (Renice at task nice) steps = other_by at _ (at == cpu) refl steps
+  one_change (Begin at task nice slice) steps = other_by at _ (at == cpu) refl steps
+  one_change (End at task) steps = ends_by at task (at == cpu) refl
+  one_change (Set at task nice slice) steps = other_by at _ (at == cpu) refl steps
+  one_change (Rebase at) steps = other_by at _ (at == cpu) refl steps
 
 -- ---- all deeds
 first_of : (o : Option Change) (rest : List Change) → AreOfSteps (and_then o rest) → MayBeOfSteps o

@@ -3,23 +3,28 @@ use Rattle.std.specs.Prelude.{◌≡◌, ℕ, ◌<◌, ◌==◌, if◌then◌els
 use Rattle.std.specs.FinMap.{get}
 use Rattle.eevdf_queue.specs.{declared.entry.Entry.Entry, declared.sleeper.Sleeper.Sleeper}
 use Rattle.eevdf_ops.specs.{declared.deeds.Deed.Deed, declared.deeds.Line.Line, declared.deeds.Answer.Answer}
-use Rattle.eevdf_ops.specs.declared.deeds.Deed.TheVariants.{Tick, Pick, Sleep, Pull}
-use Rattle.eevdf_ops.specs.declared.deeds.Answer.TheVariants.{Slept, Pulled}
+use Rattle.eevdf_ops.specs.declared.deeds.Deed.TheVariants.{Tick, Pick, Sleep, Pull, End}
+use Rattle.eevdf_ops.specs.declared.deeds.Answer.TheVariants.{Slept, Pulled, Ended}
 use Rattle.eevdf_ops.specs.{Machine.Machine, Machine.queue_at, Parts.decider, Whole.lines_of, Whole.machine_after}
 use Rattle.eevdf_fairness.specs.{Turns.IsFresh, Joining.Joins, Joining.IsFairAfterJoin}
 use Rattle.eevdf_fairness.specs.Leavings.{Step, Takes, Leaves, after_steps, HaveNoLongerTurns, HaveSameRunnable, IsStillFair}
 
--- what a deed does to the runnable tasks of a CPU and to who runs there; a yield, a wake, a renice and a pull to there are no steps
+-- what a deed does to the runnable tasks of a CPU and to who runs there; a yield, a wake, a renice, a begin, a set, a rebase and a pull
+-- to there are no steps
 pub data Change : Type 0 where
   Picks : Change
   Ticks : ℕ → Change
   Loses : ℕ → Change
   IsNoStep : Change
 
--- by a sleep there, and by a pull from there, a task leaves where it is done
+-- by a sleep there, by an end there, and by a pull from there, a task leaves where it is done
 abbrev pub change_of_sleep : ℕ → Answer → Option Change
 change_of_sleep task (Slept lag) = Some (Loses task)
 change_of_sleep task answer = None
+
+abbrev pub change_of_end : ℕ → Answer → Option Change
+change_of_end task Ended = Some (Loses task)
+change_of_end task answer = None
 
 abbrev pub change_of_pull : Answer → Option Change
 change_of_pull (Pulled task) = Some (Loses task)
@@ -30,6 +35,7 @@ abbrev pub change_at : ℕ → Deed → Answer → Option Change
 change_at cpu (Tick at ns) answer = if at == cpu then Some (Ticks ns) else None
 change_at cpu (Pick at) answer = if at == cpu then Some Picks else None
 change_at cpu (Sleep at task) answer = if at == cpu then change_of_sleep task answer else None
+change_at cpu (End at task) answer = if at == cpu then change_of_end task answer else None
 change_at cpu (Pull at source) answer = if at == cpu then Some IsNoStep else (if source == cpu then change_of_pull answer else None)
 change_at cpu deed answer = if decider deed == cpu then Some IsNoStep else None
 

@@ -6,7 +6,8 @@ use Rattle.std.proofs.{lemmas.Bool.Decides.nat_tests}
 use Rattle.eevdf_queue.specs.{declared.entry.Entry.Entry, State.State, State.Contents, Lag.kept_lag, Order.is_before}
 use Rattle.eevdf_queue.specs.Leaving.{leaving, carried, carried_running, leave, leave_running, without_entry}
 use Rattle.eevdf_queue.specs.Candidate.{is_running, candidate_of, latest_waiting, later}
-use Rattle.eevdf_ops.specs.{WholePull.offer}
+use Rattle.eevdf_queue.specs.Attributes.{without_lag}
+use Rattle.eevdf_ops.specs.{WholePull.offer, WholeEnd.ending}
 use Rattle.eevdf_ops.specs.Places.{count, places_in}
 use Rattle.eevdf_ops.proofs.{QueuePlaces.IsWithout, QueuePlaces.leave-without}
 
@@ -32,6 +33,16 @@ running_by q t false p e = cc
 
 pub running-carries : (q : State) (t : ℕ) (p : Contents) → carried_running q t ≡ Some p → Carries q t p
 running-carries q t p e = running_by q t (is_running q.running t) p e
+
+ending_by : (q : State) (t : ℕ) (o : Option Contents) (p : Contents) → ((r : Contents) → o ≡ Some r → Carries q t r) → option_map without_lag o ≡ Some p → Carries q t p
+ending_by q t None p each e = cc
+ending_by q t (Some r) p each e =
+    let same : without_lag r ≡ p = cc in
+    let c : Carries q t r = each r refl in
+    subst (λ (s : Contents). Carries q t s) same (record { entry = c.entry; here = c.here; of_task = c.of_task; same_nice = c.same_nice })
+
+pub ending-carries : (q : State) (t : ℕ) (p : Contents) → ending q t ≡ Some p → Carries q t p
+ending-carries q t p e = ending_by q t (carried q t) p (λ r h. carried-carries q t r h) e
 
 offered_by : (q : State) (o : Option ℕ) (p : Contents) → option_and_then (carried q) o ≡ Some p → Carries q p.task p
 offered_by q None p e = cc

@@ -2,11 +2,11 @@
 use Rattle.std.proofs.Common.{◌≡◌, ◌≢◌, ℕ, ◌<◌, Bool, true, false, cond, not, List, length, refl, sym, subst, ◌∙◌, arith}
 use Rattle.std.specs.Prelude.{◌==◌, nat_lt}
 use Rattle.std.proofs.lemmas.Bool.{and_parts, ltb-true, Decides.nat_tests}
-use Rattle.eevdf_ops.specs.{Acts.act_of, declared.acts.Transfer.Transfer, declared.deeds.Deed.Deed, Setup.home_of, Setup.is_task, Setup.is_allowed, Places.AreCpus}
+use Rattle.eevdf_ops.specs.{Acts.act_of, declared.acts.LocalAct.LocalAct, declared.acts.Transfer.Transfer, declared.deeds.Deed.Deed, Setup.home_of, Setup.is_task, Setup.is_allowed, Places.AreCpus}
 use Rattle.eevdf_ops.specs.declared.acts.Act.TheVariants as act
 use Rattle.eevdf_ops.specs.declared.acts.LocalAct.TheVariants as local
 use Rattle.eevdf_ops.specs.declared.acts.Transfer.TheVariants as transfer
-use Rattle.eevdf_ops.specs.declared.deeds.Deed.TheVariants.{Tick, Pick, Yield, Sleep, Wake, Pull, Renice}
+use Rattle.eevdf_ops.specs.declared.deeds.Deed.TheVariants.{Tick, Pick, Yield, Sleep, Wake, Pull, Renice, Begin, End, Set, Rebase}
 use Rattle.eevdf_ops.specs.Parts.{decider}
 
 pub unequal : (k c : ℕ) → (k == c) ≡ false → k ≢ c
@@ -28,9 +28,9 @@ pull_names cpus homes cpu source ok = record {
   apart = differs cpu source (and_parts (nat_lt source cpus) _ (and_parts (nat_lt cpu cpus) _ ok).1).1;
 }
 
-slept_names : (cpus cpu task home other : ℕ) (t : Transfer) (b : Bool) → (home == cpu) ≡ b → cpu < cpus → home < cpus → cond b (act.Local (local.Sleep task)) (act.Transfer home (transfer.Sleep task)) ≡ act.Transfer other t → PullNames cpus cpu other
-slept_names cpus cpu task home other t true e h i is = cc
-slept_names cpus cpu task home other t false e h i is =
+other_names : (cpus cpu home other : ℕ) (a : LocalAct) (s t : Transfer) (b : Bool) → (home == cpu) ≡ b → cpu < cpus → home < cpus → cond b (act.Local a) (act.Transfer home s) ≡ act.Transfer other t → PullNames cpus cpu other
+other_names cpus cpu home other a s t true e h i is = cc
+other_names cpus cpu home other a s t false e h i is =
     let to : home ≡ other = cc in
     record { puller = h; from = omega (arith, to, i); apart = λ same. unequal home cpu e (to ∙ sym same) }
 
@@ -42,6 +42,10 @@ decider_below cpus homes (Sleep cpu task) ok = ltb-true cpu cpus (and_parts _ (i
 decider_below cpus homes (Wake cpu task sender) ok = ltb-true cpu cpus (and_parts _ _ (and_parts _ _ ok).0).0
 decider_below cpus homes (Pull cpu source) ok = ltb-true cpu cpus (and_parts _ _ ok).0
 decider_below cpus homes (Renice cpu task nice) ok = ltb-true cpu cpus (and_parts _ (is_task homes task) ok).0
+decider_below cpus homes (Begin cpu task nice slice) ok = ltb-true cpu cpus (and_parts _ _ ok).0
+decider_below cpus homes (End cpu task) ok = ltb-true cpu cpus (and_parts _ (is_task homes task) ok).0
+decider_below cpus homes (Set cpu task nice slice) ok = ltb-true cpu cpus (and_parts _ (is_task homes task) ok).0
+decider_below cpus homes (Rebase cpu) ok = ltb-true cpu cpus ok
 
 pub home_below : (cpus : ℕ) (homes : List ℕ) (cpu task : ℕ) → is_allowed cpus homes (Sleep cpu task) ≡ true → AreCpus cpus homes → home_of homes task < cpus
 home_below cpus homes cpu task ok homed = homed task (ltb-true task (length homes) (and_parts (nat_lt cpu cpus) _ ok).1)
@@ -52,9 +56,14 @@ transfer_names cpus homes (Tick cpu ns) other t ok homed is = cc
 transfer_names cpus homes (Pick cpu) other t ok homed is = cc
 transfer_names cpus homes (Yield cpu) other t ok homed is = cc
 transfer_names cpus homes (Sleep cpu task) other t ok homed is =
-    slept_names cpus cpu task (home_of homes task) other t (home_of homes task == cpu) refl (decider_below cpus homes (Sleep cpu task) ok) (home_below cpus homes cpu task ok homed) is
+    other_names cpus cpu (home_of homes task) other (local.Sleep task) (transfer.Sleep task) t (home_of homes task == cpu) refl (decider_below cpus homes (Sleep cpu task) ok) (home_below cpus homes cpu task ok homed) is
 transfer_names cpus homes (Wake cpu task sender) other t ok homed is = cc
 transfer_names cpus homes (Renice cpu task nice) other t ok homed is = cc
+transfer_names cpus homes (Begin cpu task nice slice) other t ok homed is = cc
+transfer_names cpus homes (End cpu task) other t ok homed is =
+    other_names cpus cpu (home_of homes task) other (local.End task) (transfer.End task) t (home_of homes task == cpu) refl (decider_below cpus homes (End cpu task) ok) (home_below cpus homes cpu task ok homed) is
+transfer_names cpus homes (Set cpu task nice slice) other t ok homed is = cc
+transfer_names cpus homes (Rebase cpu) other t ok homed is = cc
 transfer_names cpus homes (Pull cpu source) other t ok homed is =
     let to : source ≡ other = cc in
     subst (λ (n : ℕ). PullNames cpus cpu n) to (pull_names cpus homes cpu source ok)

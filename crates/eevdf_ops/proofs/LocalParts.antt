@@ -5,13 +5,13 @@ use Rattle.std.proofs.{Math.ListN.length-set, lemmas.List.get_or-set_same, lemma
 use Rattle.eevdf_queue.specs.State.{State, Contents, empty_state}
 use Rattle.eevdf_queue.specs.{Moves.put_asleep, Leaving.carried_running, Leaving.leave}
 use Rattle.eevdf_ops.specs.{declared.deeds.Deed.Deed, declared.deeds.Answer.Answer, Setup.home_of, Machine.Machine}
-use Rattle.eevdf_ops.specs.{Machine.queue_at, Whole.whole, Whole.at_cpu, Whole.at_two, LocalActs.slept_here, Transfers.slept_away, Transfers.pulled}
-use Rattle.eevdf_ops.specs.declared.deeds.Deed.TheVariants.{Tick, Pick, Yield, Sleep, Wake, Pull, Renice}
-use Rattle.eevdf_ops.specs.OneQueue.{one_tick, one_pick, one_yield, one_wake, one_renice}
-use Rattle.eevdf_ops.specs.Parts.{decider, giver, taker, Moved, given, answer_of_sleep, answer_of_pull, local_answer, taken, after_leaving, after_falling_asleep, after_joining, only_at, local_after}
+use Rattle.eevdf_ops.specs.{Machine.queue_at, Whole.whole, Whole.at_cpu, Whole.at_two, LocalActs.slept_here, LocalActs.ended_here, Transfers.slept_away, Transfers.ended_away, WholeEnd.ending, Transfers.pulled}
+use Rattle.eevdf_ops.specs.declared.deeds.Deed.TheVariants.{Tick, Pick, Yield, Sleep, Wake, Pull, Renice, Begin, End, Set, Rebase}
+use Rattle.eevdf_ops.specs.OneQueue.{one_tick, one_pick, one_yield, one_wake, one_renice, one_begin, one_set, one_rebase}
+use Rattle.eevdf_ops.specs.Parts.{decider, giver, taker, Moved, given, answer_of_sleep, answer_of_end, answer_of_pull, local_answer, taken, after_leaving, after_falling_asleep, after_joining, only_at, local_after}
 use Rattle.eevdf_ops.specs.PartsLaws as laws
 use Rattle.eevdf_ops.specs.WholePull.{offer, load_of, decision, with_task, pull_decision}
-use Rattle.eevdf_ops.proofs.{MapCounts.equal, MachinePlaces.other_queue, Pulling.decision-taken, Pulling.refusals, WholeActs.sleep_by_home}
+use Rattle.eevdf_ops.proofs.{MapCounts.equal, MachinePlaces.other_queue, Pulling.decision-taken, Pulling.refusals, WholeActs.sleep_by_home, WholeActs.end_by_home, WholeActs.ended-here, WholeActs.ended-away}
 use Rattle.eevdf_ops.proofs.DeedNames.{PullNames, decider_below, home_below, pull_names, unequal}
 
 changed_by : (f : State → State) (m : Machine) (c k : ℕ) (b : Bool) → (k == c) ≡ b → c < length m → queue_at (set m c (f (queue_at m c))) k ≡ cond b (f (queue_at m k)) (queue_at m k)
@@ -88,6 +88,14 @@ away_answer : (o : Option Contents) (q r : State) → (slept_away o q r).0 ≡ a
 away_answer None q r = refl
 away_answer (Some p) q r = refl
 
+end_here_answer : (o : Option Contents) (q : State) → (ended_here o q).0 ≡ answer_of_end o
+end_here_answer None q = refl
+end_here_answer (Some p) q = refl
+
+end_away_answer : (o : Option Contents) (q r : State) → (ended_away o q r).0 ≡ answer_of_end o
+end_away_answer None q r = refl
+end_away_answer (Some p) q r = refl
+
 pull_answer : (d : Result Contents Answer) (q r : State) → (pulled d q r).0 ≡ answer_of_pull d
 pull_answer (Err why) q r = refl
 pull_answer (Ok p) q r = refl
@@ -106,6 +114,12 @@ whole-answer homes (Sleep cpu task) m =
     sleep_by_home (λ (r : Answer × Machine). r.0 ≡ answer_of_sleep o) homes cpu task m (λ e. here_answer o (queue_at m cpu)) (λ e. away_answer o (queue_at m cpu) (queue_at m (home_of homes task)))
 whole-answer homes (Wake cpu task sender) m = refl
 whole-answer homes (Renice cpu task nice) m = refl
+whole-answer homes (Begin cpu task nice slice) m = refl
+whole-answer homes (End cpu task) m =
+    let o : Option Contents = ending (queue_at m cpu) task in
+    end_by_home (λ (r : Answer × Machine). r.0 ≡ answer_of_end o) homes cpu task m (λ e. end_here_answer o (queue_at m cpu)) (λ e. end_away_answer o (queue_at m cpu) (queue_at m (home_of homes task)))
+whole-answer homes (Set cpu task nice slice) m = refl
+whole-answer homes (Rebase cpu) m = refl
 whole-answer homes (Pull cpu source) m = pull_answer (pull_decision m cpu source) (queue_at m cpu) (queue_at m source)
 
 -- and each queue changes by itself
@@ -123,6 +137,16 @@ whole-after homes (Sleep cpu task) m k fits =
     (λ apart. away_after m cpu (home_of homes task) k o h (home_below _ homes cpu task fits.allowed fits.cpus) apart)
 whole-after homes (Wake cpu task sender) m k fits = changed (λ q. (one_wake q task).1) m cpu k (decider_below _ homes (Wake cpu task sender) fits.allowed)
 whole-after homes (Renice cpu task nice) m k fits = changed (λ q. (one_renice q task nice).1) m cpu k (decider_below _ homes (Renice cpu task nice) fits.allowed)
+whole-after homes (Begin cpu task nice slice) m k fits = changed (λ q. (one_begin q task nice slice).1) m cpu k (decider_below _ homes (Begin cpu task nice slice) fits.allowed)
+whole-after homes (Set cpu task nice slice) m k fits = changed (λ q. (one_set q task nice slice).1) m cpu k (decider_below _ homes (Set cpu task nice slice) fits.allowed)
+whole-after homes (Rebase cpu) m k fits = changed (λ q. (one_rebase q).1) m cpu k (decider_below _ homes (Rebase cpu) fits.allowed)
+whole-after homes (End cpu task) m k fits =
+    let o : Option Contents = ending (queue_at m cpu) task in
+    let h : cpu < length m = decider_below _ homes (End cpu task) fits.allowed in
+    end_by_home (λ (r : Answer × Machine). queue_at r.1 k ≡ slept_queue cpu (home_of homes task) k o (queue_at m k)) homes cpu task m
+    (λ e. ap (λ (q : State). queue_at (set m cpu q) k) (ended-here o (queue_at m cpu)) ∙ here_after m cpu k o h ∙ ap (λ (n : ℕ). slept_queue cpu n k o (queue_at m k)) (sym e))
+    (λ apart. ap (λ (two : State × State). queue_at (set (set m cpu two.0) (home_of homes task) two.1) k) (ended-away o (queue_at m cpu) (queue_at m (home_of homes task)))
+    ∙ away_after m cpu (home_of homes task) k o h (home_below _ homes cpu task fits.allowed fits.cpus) apart)
 whole-after homes (Pull cpu source) m k fits =
     pull_after m cpu source k (pull_decision m cpu source) (pull_names (length m) homes cpu source fits.allowed) refl
     ∙ ap (λ (a : Answer). pulled_queue m cpu source k (taken a (offer (queue_at m source)))) (sym (whole-answer homes (Pull cpu source) m))
@@ -140,6 +164,12 @@ stays homes (Sleep cpu task) m k d g t =
     (λ e. other_queue (set m cpu _) (home_of homes task) k _ t ∙ other_queue m cpu k _ d)
 stays homes (Wake cpu task sender) m k d g t = other_queue m cpu k _ d
 stays homes (Renice cpu task nice) m k d g t = other_queue m cpu k _ d
+stays homes (Begin cpu task nice slice) m k d g t = other_queue m cpu k _ d
+stays homes (End cpu task) m k d g t =
+    end_by_home (λ (r : Answer × Machine). queue_at r.1 k ≡ queue_at m k) homes cpu task m (λ e. other_queue m cpu k _ d)
+    (λ e. other_queue (set m cpu _) (home_of homes task) k _ t ∙ other_queue m cpu k _ d)
+stays homes (Set cpu task nice slice) m k d g t = other_queue m cpu k _ d
+stays homes (Rebase cpu) m k d g t = other_queue m cpu k _ d
 stays homes (Pull cpu source) m k d g t = other_queue (set m cpu _) source k _ g ∙ other_queue m cpu k _ d
 
 pub others_stay : laws.OthersStay

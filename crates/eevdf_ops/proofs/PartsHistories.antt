@@ -6,7 +6,7 @@ use Rattle.eevdf_queue.specs.State.{State}
 use Rattle.eevdf_ops.specs.{declared.deeds.Deed.Deed, declared.deeds.Answer.Answer, declared.deeds.Line.Line, Setup.is_allowed}
 use Rattle.eevdf_ops.specs.{Machine.Machine, Places.AreCpus, Whole.whole, Whole.lines_of}
 use Rattle.eevdf_ops.specs.PartsHistory as history
-use Rattle.eevdf_ops.specs.PartsHistory.{Step, deeds_in, replayed, AgreesAlong, IsHistory}
+use Rattle.eevdf_ops.specs.PartsHistory.{deeds_in, replayed, AgreesAlong, IsHistory}
 use Rattle.eevdf_ops.specs.PartsLaws as laws
 use Rattle.eevdf_ops.proofs.{PartsProofs.parts_make_the_whole, WholePlaces.length-whole}
 

@@ -7,7 +7,7 @@ use Rattle.eevdf_ops.specs.PickDepths.{IsPickDepth, HasActDepth, HasPickDepth, d
 use Rattle.eevdf_ops.specs.{declared.acts.Act.Act, declared.acts.LocalAct.LocalAct, declared.acts.Transfer.Transfer, declared.deeds.Deed.Deed}
 use Rattle.eevdf_ops.specs.{Acts.act_of, Machine.Machine, Machine.queue_at, Outcome.machine_of, Parts.decider}
 use Rattle.eevdf_ops.specs.declared.acts.Act.TheVariants as act
-use Rattle.eevdf_ops.specs.declared.deeds.Deed.TheVariants.{Tick, Pick, Yield, Sleep, Wake, Pull, Renice}
+use Rattle.eevdf_ops.specs.declared.deeds.Deed.TheVariants.{Tick, Pick, Yield, Sleep, Wake, Pull, Renice, Begin, End, Set, Rebase}
 use Rattle.eevdf_ops.proofs.Machines.{queue_read}
 
 descent : (o : Option ℕ) (n depth : ℕ) → (IsNone o → depth ≡ 0) → IfSome o (λ _. 1 ≤ depth) → IfSome o (λ _. 2 ^ (depth / 2) ≤ n + 1)
@@ -45,6 +45,10 @@ of_deed homes (Sleep cpu task) m queues h = tt
 of_deed homes (Wake cpu task sender) m queues h = tt
 of_deed homes (Pull cpu source) m queues h = tt
 of_deed homes (Renice cpu task nice) m queues h = tt
+of_deed homes (Begin cpu task nice slice) m queues h = tt
+of_deed homes (End cpu task) m queues h = tt
+of_deed homes (Set cpu task nice slice) m queues h = tt
+of_deed homes (Rebase cpu) m queues h = tt
 
 -- a deed on one queue sets its depth where it is a pick
 pub depth_of_deed : (homes : List ℕ) (deed : Deed) (a : LocalAct) (queues : List View) (cpu k : ℕ) (read written : View) → act_of homes deed ≡ act.Local a → decider deed ≡ cpu → k ≡ cpu → k < length queues

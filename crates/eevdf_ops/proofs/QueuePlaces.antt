@@ -1,6 +1,7 @@
 -- How a step on one queue changes where tasks stand.
-use Rattle.std.proofs.Common.{◌≡◌, ℕ, ◌+◌, ◌≤◌, Bool, true, false, cond, refl, sym, ap, subst, arith}
-use Rattle.std.specs.Prelude.{◌==◌, ℤ, is_some, Option, Some, None}
+use Rattle.std.proofs.Common.{◌≡◌, ℕ, ◌+◌, ◌≤◌, Bool, true, false, cond, refl, sym, ap, subst, ◌∙◌, arith}
+use Rattle.std.specs.Prelude.{◌==◌, ℤ, pos, is_some, Option, Some, None}
+use Rattle.std.specs.Option.{option_map}
 use Rattle.std.specs.FinMap.{get, contains_key, insert, remove}
 use Rattle.std.proofs.lemmas.Bool.{false≢true}
 use Rattle.eevdf_weight.specs.Limits.{is_in_range}
@@ -14,6 +15,12 @@ use Rattle.eevdf_queue.specs.Pick.{after_pick, picked_by, pick_of}
 use Rattle.eevdf_queue.specs.Yield.{yield_now, yield_running, yield_entry, yield_to, yielded}
 use Rattle.eevdf_queue.specs.Wake.{wake, wake_sleeper, wake_to}
 use Rattle.eevdf_queue.specs.Renice.{reniced, renice, renice_entry, renice_to}
+use Rattle.eevdf_queue.specs.SliceChange.{set_slice, set_entry_slice, set_sleeper_slice, sleeper_with_slice}
+use Rattle.eevdf_queue.specs.Attributes.{set, set_reniced, set_sleeper, sleeper_with, begin, begin_sleeper, fresh_sleeper}
+use Rattle.eevdf_queue.specs.{Rebase.rebase, Rebase.rebased, Rebase.can_rebase, Rebase.lowered_entry, Sums.virtual_time}
+use Rattle.eevdf_queue.specs.declared.answers.ReniceAnswer.{ReniceAnswer}
+use Rattle.eevdf_queue.specs.declared.answers.ReniceAnswer.TheVariants as renice_answer
+use Rattle.eevdf_queue.proofs.LoweredMaps.{get-lowered}
 use Rattle.eevdf_ops.specs.Places.{count, places_in}
 use Rattle.eevdf_ops.proofs.Loads.{gone}
 use Rattle.eevdf_ops.proofs.MapCounts.{count-insert, count-remove, contains-change, contains-removed}
@@ -118,6 +125,63 @@ renice_entry-same q t nice (Some e) is =
 -- a task that leaves and joins again
 pub renice-same : (q : State) (t : ℕ) (nice : ℤ) → IsSame q (renice q t nice).1
 renice-same q t nice = renice_entry-same q t nice (get q.runnable t) refl
+
+-- a sleeping task of which other things are kept
+kept-same : (q : State) (t : ℕ) (s : Sleeper) → contains_key q.asleep t ≡ true → IsSame q (record q { asleep = insert q.asleep t s })
+kept-same q t s present = record {
+  places = λ u. ap (λ (b : Bool). count (contains_key q.runnable u) + count b) (contains-change q.asleep t u s present);
+  asleep = λ u a. sym (contains-change q.asleep t u s present) ∙ a;
+}
+
+after-same : (q r s : State) → IsSame q r → IsSame r s → IsSame q s
+after-same q r s h k = record { places = λ u. k.places u ∙ h.places u; asleep = λ u a. h.asleep u (k.asleep u a) }
+
+sleeper_slice-same : (q : State) (t slice : ℕ) (o : Option Sleeper) → get q.asleep t ≡ o → IsSame q (set_sleeper_slice q t slice o)
+sleeper_slice-same q t slice None e = itself q
+sleeper_slice-same q t slice (Some s) e = kept-same q t (sleeper_with_slice s slice) (ap is_some e)
+
+entry_slice-same : (q : State) (t slice : ℕ) (o : Option Entry) → get q.runnable t ≡ o → IsSame q (set_entry_slice q t slice o)
+entry_slice-same q t slice None e = sleeper_slice-same q t slice (get q.asleep t) refl
+entry_slice-same q t slice (Some f) e = changed q t (record f { slice = slice }) (ap is_some e)
+
+slice-same : (q : State) (t slice : ℕ) → IsSame q (set_slice q t slice)
+slice-same q t slice = entry_slice-same q t slice (get q.runnable t) refl
+
+set_sleeper-same : (q : State) (t : ℕ) (nice : ℤ) (slice : ℕ) (o : Option Sleeper) → get q.asleep t ≡ o → IsSame q (set_sleeper q t nice slice o).1
+set_sleeper-same q t nice slice None e = itself q
+set_sleeper-same q t nice slice (Some s) e = kept-same q t (sleeper_with s nice slice) (ap is_some e)
+
+set_reniced-same : (q : State) (t : ℕ) (nice : ℤ) (slice : ℕ) (a : ReniceAnswer) (r : State) → IsSame q r → IsSame q (set_reniced q t nice slice a r).1
+set_reniced-same q t nice slice renice_answer.Reniced r h = after-same q r (set_slice r t slice) h (slice-same r t slice)
+set_reniced-same q t nice slice renice_answer.NotHere r h = set_sleeper-same q t nice slice (get q.asleep t) refl
+set_reniced-same q t nice slice renice_answer.Range r h = itself q
+
+-- a task that gets another nice level and slice
+pub set-same : (q : State) (t : ℕ) (nice : ℤ) (slice : ℕ) → IsSame q (set q t nice slice).1
+set-same q t nice slice = set_reniced-same q t nice slice (renice q t nice).0 (renice q t nice).1 (renice-same q t nice)
+
+begin_sleeper-same : (q : State) (t : ℕ) (nice : ℤ) (slice : ℕ) (o : Option Sleeper) → get q.asleep t ≡ o → IsSame q (begin_sleeper q t nice slice o)
+begin_sleeper-same q t nice slice None e = itself q
+begin_sleeper-same q t nice slice (Some s) e = kept-same q t (fresh_sleeper nice slice) (ap is_some e)
+
+-- a sleeping task that begins anew
+pub begin-same : (q : State) (t : ℕ) (nice : ℤ) (slice : ℕ) → IsSame q (begin q t nice slice)
+begin-same q t nice slice = begin_sleeper-same q t nice slice (get q.asleep t) refl
+
+still_here : (o : Option Entry) (by : ℤ) → is_some (option_map (lowered_entry by) o) ≡ is_some o
+still_here None by = refl
+still_here (Some e) by = refl
+
+rebased-same : (q : State) → IsSame q (rebased q)
+rebased-same q = record {
+  places = λ u. ap (λ (b : Bool). count b + count (contains_key q.asleep u))
+      (ap is_some (get-lowered (virtual_time q) q.runnable u) ∙ still_here (get q.runnable u) (virtual_time q));
+  asleep = λ u a. a;
+}
+
+-- virtual times that are all lowered
+pub rebase-same : (q : State) → IsSame q (rebase q).1
+rebase-same q = either q (can_rebase q) (virtual_time q, rebased q) (pos 0, q) (rebased-same q) (itself q)
 
 -- a runnable task leaves
 pub leave-without : (q : State) (t : ℕ) (e : Entry) → get q.runnable t ≡ Some e → IsWithout q t (without_entry q t (Some e))

@@ -1,6 +1,6 @@
 -- What holds of the nice level and the slice of each task of a queue, after a step on the queue.
-use Rattle.std.proofs.Common.{◌≡◌, ℕ, Bool, true, false, cond, refl, subst}
-use Rattle.std.specs.Prelude.{ℤ, Option, Some, None}
+use Rattle.std.proofs.Common.{◌≡◌, ℕ, Bool, true, false, cond, refl, sym, subst, ◌∙◌}
+use Rattle.std.specs.Prelude.{ℤ, pos, Option, Some, None}
 use Rattle.std.specs.Option.{option_map, option_and_then, unwrap_or}
 use Rattle.std.specs.Ordering.{nat_cmp}
 use Rattle.std.specs.FinMap.{get, insert, get-empty}
@@ -16,9 +16,15 @@ use Rattle.eevdf_queue.specs.Pick.{after_pick, picked_by, pick_of}
 use Rattle.eevdf_queue.specs.Yield.{yield_now, yield_running, yield_entry, yield_to, yielded}
 use Rattle.eevdf_queue.specs.Wake.{wake, wake_sleeper, wake_to}
 use Rattle.eevdf_queue.specs.Renice.{reniced, renice, renice_entry, renice_to}
+use Rattle.eevdf_queue.specs.SliceChange.{set_entry_slice, set_sleeper_slice, sleeper_with_slice}
+use Rattle.eevdf_queue.specs.Attributes.{set, set_reniced, set_sleeper, sleeper_with, begin, begin_sleeper, fresh_sleeper, without_lag}
+use Rattle.eevdf_queue.specs.{Rebase.rebase, Rebase.rebased, Rebase.can_rebase, Rebase.lowered_entry, Sums.virtual_time}
+use Rattle.eevdf_queue.specs.declared.answers.ReniceAnswer.{ReniceAnswer}
+use Rattle.eevdf_queue.specs.declared.answers.ReniceAnswer.TheVariants as renice_answer
+use Rattle.eevdf_queue.proofs.LoweredMaps.{get-lowered}
 use Rattle.eevdf_queue.specs.Placing.{placement, placed_entry, put}
 use Rattle.eevdf_queue.specs.Leaving.{leaving, carried, carried_running, leave, without_entry}
-use Rattle.eevdf_ops.specs.{Machine.joined, WholePull.offer, WholePull.with_task}
+use Rattle.eevdf_ops.specs.{Machine.joined, WholePull.offer, WholePull.with_task, WholeEnd.ending}
 use Rattle.eevdf_ops.proofs.MapValues.{each-insert, each-remove}
 
 -- something holds of each task, runnable and asleep, with its nice level and slice
@@ -152,6 +158,55 @@ module _ (P : ℕ → ℤ → ℕ → Type 0) where
   pub renice-each : (q : State) (t : ℕ) (nice : ℤ) → ((older : ℤ) (slice : ℕ) → P t older slice → P t nice slice) → Each P q → Each P (renice q t nice).1
   renice-each q t nice may each = renice_entry-each q t nice (get q.runnable t) may refl each
 
+  kept-each : (q : State) (t : ℕ) (s : Sleeper) → Each P q → P t s.nice s.slice → Each P (record q { asleep = insert q.asleep t s })
+  kept-each q t s each h = record {
+    runnable = each.runnable;
+    asleep = each-insert (λ (k : ℕ) (r : Sleeper). P k r.nice r.slice) q.asleep t s each.asleep h;
+  }
+
+  -- a task that may have any nice level and slice
+  module _ (t : ℕ) (may : (older nice : ℤ) (slice newer : ℕ) → P t older slice → P t nice newer) where
+    sleeper_slice-each : (q : State) (slice : ℕ) (o : Option Sleeper) → get q.asleep t ≡ o → Each P q → Each P (set_sleeper_slice q t slice o)
+    sleeper_slice-each q slice None is each = each
+    sleeper_slice-each q slice (Some s) is each = kept-each q t (sleeper_with_slice s slice) each (may s.nice s.nice s.slice slice (each.asleep t s is))
+
+    entry_slice-each : (q : State) (slice : ℕ) (o : Option Entry) → get q.runnable t ≡ o → Each P q → Each P (set_entry_slice q t slice o)
+    entry_slice-each q slice None is each = sleeper_slice-each q slice (get q.asleep t) refl each
+    entry_slice-each q slice (Some e) is each = runnable-each q t (record e { slice = slice }) each (may e.nice e.nice e.slice slice (each.runnable t e is))
+
+    set_sleeper-each : (q : State) (nice : ℤ) (slice : ℕ) (o : Option Sleeper) → get q.asleep t ≡ o → Each P q → Each P (set_sleeper q t nice slice o).1
+    set_sleeper-each q nice slice None is each = each
+    set_sleeper-each q nice slice (Some s) is each = kept-each q t (sleeper_with s nice slice) each (may s.nice nice s.slice slice (each.asleep t s is))
+
+    set_reniced-each : (q : State) (nice : ℤ) (slice : ℕ) (a : ReniceAnswer) (r : State) → Each P q → Each P r → Each P (set_reniced q t nice slice a r).1
+    set_reniced-each q nice slice renice_answer.Reniced r each after = entry_slice-each r slice (get r.runnable t) refl after
+    set_reniced-each q nice slice renice_answer.NotHere r each after = set_sleeper-each q nice slice (get q.asleep t) refl each
+    set_reniced-each q nice slice renice_answer.Range r each after = each
+
+    pub set-each : (q : State) (nice : ℤ) (slice : ℕ) → Each P q → Each P (set q t nice slice).1
+    set-each q nice slice each =
+        set_reniced-each q nice slice (renice q t nice).0 (renice q t nice).1 each (renice-each q t nice (λ older kept p. may older nice kept kept p) each)
+
+    begin_sleeper-each : (q : State) (nice : ℤ) (slice : ℕ) (o : Option Sleeper) → get q.asleep t ≡ o → Each P q → Each P (begin_sleeper q t nice slice o)
+    begin_sleeper-each q nice slice None is each = each
+    begin_sleeper-each q nice slice (Some s) is each = kept-each q t (fresh_sleeper nice slice) each (may s.nice nice s.slice slice (each.asleep t s is))
+
+    pub begin-each : (q : State) (nice : ℤ) (slice : ℕ) → Each P q → Each P (begin q t nice slice)
+    begin-each q nice slice each = begin_sleeper-each q nice slice (get q.asleep t) refl each
+
+  lowered_by : (by : ℤ) (t : ℕ) (o : Option Entry) (e : Entry) → ((f : Entry) → o ≡ Some f → P t f.nice f.slice) → option_map (lowered_entry by) o ≡ Some e → P t e.nice e.slice
+  lowered_by by t None e each h = cc
+  lowered_by by t (Some f) e each h = let same : lowered_entry by f ≡ e = cc in subst (λ (g : Entry). P t g.nice g.slice) same (each f refl)
+
+  rebased-each : (q : State) → Each P q → Each P (rebased q)
+  rebased-each q each = record {
+    runnable = λ t e h. lowered_by (virtual_time q) t (get q.runnable t) e (each.runnable t) (sym (get-lowered (virtual_time q) q.runnable t) ∙ h);
+    asleep = each.asleep;
+  }
+
+  pub rebase-each : (q : State) → Each P q → Each P (rebase q).1
+  rebase-each q each = either (can_rebase q) (virtual_time q, rebased q) (pos 0, q) (rebased-each q each) each
+
   carried_by : (q : State) (t : ℕ) (o : Option Entry) (p : Contents) → get q.runnable t ≡ o → Each P q → option_map (λ (e : Entry). leaving t (kept_lag q e) e) o ≡ Some p
       → P p.task p.nice p.slice
   carried_by q t None p is each h = cc
@@ -167,6 +222,13 @@ module _ (P : ℕ → ℤ → ℕ → Type 0) where
 
   pub running-given : (q : State) (t : ℕ) (p : Contents) → Each P q → carried_running q t ≡ Some p → P p.task p.nice p.slice
   running-given q t p each h = running_by q t (is_running q.running t) p each h
+
+  ending_by : (q : State) (t : ℕ) (o : Option Contents) (p : Contents) → ((r : Contents) → o ≡ Some r → P r.task r.nice r.slice) → option_map without_lag o ≡ Some p → P p.task p.nice p.slice
+  ending_by q t None p each h = cc
+  ending_by q t (Some r) p each h = let same : without_lag r ≡ p = cc in subst (λ (c : Contents). P c.task c.nice c.slice) same (each r refl)
+
+  pub ending-given : (q : State) (t : ℕ) (p : Contents) → Each P q → ending q t ≡ Some p → P p.task p.nice p.slice
+  ending-given q t p each h = ending_by q t (carried q t) p (λ r e. carried-given q t r each e) h
 
   offered_by : (q : State) (o : Option ℕ) (p : Contents) → Each P q → option_and_then (carried q) o ≡ Some p → P p.task p.nice p.slice
   offered_by q None p each h = cc

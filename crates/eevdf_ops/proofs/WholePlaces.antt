@@ -1,5 +1,5 @@
 -- Deeds that are allowed keep each task in one place, and a sleeping one at its home.
-use Rattle.std.proofs.Common.{◌≡◌, ℕ, ◌<◌, ◌≤◌, Bool, true, false, ◌||◌, List, length, set, refl, sym, ap, ◌∙◌, arith}
+use Rattle.std.proofs.Common.{◌≡◌, ℕ, ◌<◌, ◌≤◌, Bool, true, false, ◌||◌, List, length, set, refl, sym, ap, subst, ◌∙◌, arith}
 use Rattle.std.specs.Prelude.{◌==◌, Option, Some, None, Result, Ok, Err}
 use Rattle.std.specs.{Option.unwrap_or, FinMap.contains_key}
 use Rattle.std.proofs.Math.ListN.{length-set}
@@ -8,16 +8,16 @@ use Rattle.eevdf_queue.specs.Moves.{put_asleep, sleeper_of, with_runnable}
 use Rattle.eevdf_ops.specs.{declared.acts.Act.Act, declared.deeds.Answer.Answer, declared.deeds.Deed.Deed, Machine.Machine, Machine.queue_at}
 use Rattle.eevdf_ops.specs.{Acts.act_of, LocalActs.slept_here, Transfers.slept_away, Transfers.pulled, Parts.decider}
 use Rattle.eevdf_ops.specs.Whole.{at_two, done_at, whole}
-use Rattle.eevdf_ops.specs.declared.deeds.Deed.TheVariants.{Tick, Pick, Yield, Sleep, Wake, Pull, Renice}
+use Rattle.eevdf_ops.specs.declared.deeds.Deed.TheVariants.{Tick, Pick, Yield, Sleep, Wake, Pull, Renice, Begin, End, Set, Rebase}
 use Rattle.eevdf_ops.specs.declared.acts.Act.TheVariants as act
 use Rattle.eevdf_ops.specs.Setup.{home_of, is_task, is_allowed}
 use Rattle.eevdf_ops.specs.Places.{places_in, IsPlaced, AreCpus}
-use Rattle.eevdf_ops.specs.WholePull.{offer, load_of, decision, with_task}
-use Rattle.eevdf_ops.proofs.Carried.{Carries, running-carries, offer-carries, leaves-without, carried-stands, left-nowhere}
+use Rattle.eevdf_ops.specs.{WholePull.offer, WholePull.load_of, WholePull.decision, WholePull.with_task, WholeEnd.ending}
+use Rattle.eevdf_ops.proofs.Carried.{Carries, running-carries, ending-carries, offer-carries, leaves-without, carried-stands, left-nowhere}
 use Rattle.eevdf_ops.proofs.Pulling.{IsTaken, decision-taken, with_task-put}
-use Rattle.eevdf_ops.proofs.{DeedNames.PullNames, DeedNames.decider_below, DeedNames.home_below, DeedNames.pull_names, WholeActs.sleep_by_home}
+use Rattle.eevdf_ops.proofs.{DeedNames.PullNames, DeedNames.decider_below, DeedNames.home_below, DeedNames.pull_names, WholeActs.sleep_by_home, WholeActs.end_by_home, WholeActs.ended-here, WholeActs.ended-away}
 use Rattle.eevdf_ops.proofs.MapCounts.{equal, contains-insert}
-use Rattle.eevdf_ops.proofs.QueuePlaces.{IsWith, IsWithout, tick-same, pick-same, yield-same, wake-same, renice-same, asleep-with, runnable-with}
+use Rattle.eevdf_ops.proofs.QueuePlaces.{IsWith, IsWithout, tick-same, pick-same, yield-same, wake-same, renice-same, begin-same, set-same, rebase-same, asleep-with, runnable-with}
 use Rattle.eevdf_ops.proofs.MachinePlaces.{at-most, none-twice, places-at, SleepsAtHome, one-placed, same-placed, two-placed}
 
 few_places : (homes : List ℕ) (m : Machine) (cpu t : ℕ) → cpu < length m → IsPlaced homes m → places_in (queue_at m cpu) t ≤ 1
@@ -33,26 +33,26 @@ asleep_home homes cpu q p home asleep u e =
     (sym (contains-insert q.asleep p.task u (sleeper_of p)) ∙ e)
 
 -- a task falls asleep in the queue that it leaves
-here-placed : (homes : List ℕ) (m : Machine) (cpu task : ℕ) (o : Option Contents) → cpu < length m → home_of homes task ≡ cpu → carried_running (queue_at m cpu) task ≡ o → IsPlaced homes m
+here-placed : (homes : List ℕ) (m : Machine) (cpu task : ℕ) (o : Option Contents) → cpu < length m → home_of homes task ≡ cpu → ((p : Contents) → o ≡ Some p → Carries (queue_at m cpu) task p) → IsPlaced homes m
     → IsPlaced homes (set m cpu (slept_here o (queue_at m cpu)).1)
-here-placed homes m cpu task None h home e placed = one-placed homes m cpu (queue_at m cpu) h (λ u. refl) (placed.at_home cpu) placed
-here-placed homes m cpu task (Some p) h home e placed =
+here-placed homes m cpu task None h home carries placed = one-placed homes m cpu (queue_at m cpu) h (λ u. refl) (placed.at_home cpu) placed
+here-placed homes m cpu task (Some p) h home carries placed =
     let q : State = queue_at m cpu in
-    let c : Carries q task p = running-carries q task p e in
+    let c : Carries q task p = carries p refl in
     let less : IsWithout q p.task (leave q p.task) = leaves-without q task p c in
     let more : IsWith (leave q p.task) p.task (put_asleep (leave q p.task) p) = asleep-with (leave q p.task) p (left-nowhere q task p c (few_places homes m cpu p.task h placed)) in
     one-placed homes m cpu (put_asleep (leave q p.task) p) h (λ u. omega (arith, less.places u, more.places u))
     (asleep_home homes cpu (leave q p.task) p (ap (home_of homes) c.of_task ∙ home) (λ u a. placed.at_home cpu u (less.asleep u a))) placed
 
 -- or in another one
-away-placed : (homes : List ℕ) (m : Machine) (cpu task home : ℕ) (o : Option Contents) → PullNames (length m) cpu home → home_of homes task ≡ home → carried_running (queue_at m cpu) task ≡ o → IsPlaced homes m
+away-placed : (homes : List ℕ) (m : Machine) (cpu task home : ℕ) (o : Option Contents) → PullNames (length m) cpu home → home_of homes task ≡ home → ((p : Contents) → o ≡ Some p → Carries (queue_at m cpu) task p) → IsPlaced homes m
     → IsPlaced homes (at_two m cpu home (slept_away o (queue_at m cpu) (queue_at m home))).1
-away-placed homes m cpu task home None named at e placed =
+away-placed homes m cpu task home None named at carries placed =
     two-placed homes m cpu home (queue_at m cpu) (queue_at m home) named.apart named.puller named.from (λ u. refl) (placed.at_home cpu) (placed.at_home home) placed
-away-placed homes m cpu task home (Some p) named at e placed =
+away-placed homes m cpu task home (Some p) named at carries placed =
     let q : State = queue_at m cpu in
     let r : State = queue_at m home in
-    let c : Carries q task p = running-carries q task p e in
+    let c : Carries q task p = carries p refl in
     let less : IsWithout q p.task (leave q p.task) = leaves-without q task p c in
     let more : IsWith r p.task (put_asleep r p) = asleep-with r p (omega (arith, none-twice homes m cpu home placed named.apart named.puller named.from p.task, carried-stands q task p c)) in
     two-placed homes m cpu home (leave q p.task) (put_asleep r p) named.apart named.puller named.from (λ u. omega (arith, less.places u, more.places u))
@@ -86,12 +86,24 @@ whole-placed homes (Yield cpu) m ok cpus placed = same-placed homes m cpu _ (dec
 whole-placed homes (Sleep cpu task) m ok cpus placed =
     let o : Option Contents = carried_running (queue_at m cpu) task in
     let h : cpu < length m = decider_below _ homes (Sleep cpu task) ok in
-    sleep_by_home (λ (r : Answer × Machine). IsPlaced homes r.1) homes cpu task m (λ home. here-placed homes m cpu task o h home refl placed)
-    (λ away. away-placed homes m cpu task (home_of homes task) o (record { puller = h; from = home_below _ homes cpu task ok cpus; apart = λ same. away (sym same) }) refl refl placed)
+    let carries : (p : Contents) → o ≡ Some p → Carries (queue_at m cpu) task p = λ p e. running-carries (queue_at m cpu) task p e in
+    sleep_by_home (λ (r : Answer × Machine). IsPlaced homes r.1) homes cpu task m (λ home. here-placed homes m cpu task o h home carries placed)
+    (λ away. away-placed homes m cpu task (home_of homes task) o (record { puller = h; from = home_below _ homes cpu task ok cpus; apart = λ same. away (sym same) }) refl carries placed)
 whole-placed homes (Wake cpu task sender) m ok cpus placed =
     let h : cpu < length m = decider_below _ homes (Wake cpu task sender) ok in
     same-placed homes m cpu _ h (wake-same (queue_at m cpu) task (few_places homes m cpu task h placed)) placed
 whole-placed homes (Renice cpu task nice) m ok cpus placed = same-placed homes m cpu _ (decider_below _ homes (Renice cpu task nice) ok) (renice-same (queue_at m cpu) task nice) placed
+whole-placed homes (Begin cpu task nice slice) m ok cpus placed = same-placed homes m cpu _ (decider_below _ homes (Begin cpu task nice slice) ok) (begin-same (queue_at m cpu) task nice slice) placed
+whole-placed homes (End cpu task) m ok cpus placed =
+    let o : Option Contents = ending (queue_at m cpu) task in
+    let h : cpu < length m = decider_below _ homes (End cpu task) ok in
+    let carries : (p : Contents) → o ≡ Some p → Carries (queue_at m cpu) task p = λ p e. ending-carries (queue_at m cpu) task p e in
+    end_by_home (λ (r : Answer × Machine). IsPlaced homes r.1) homes cpu task m
+    (λ home. subst (λ (q : State). IsPlaced homes (set m cpu q)) (sym (ended-here o (queue_at m cpu))) (here-placed homes m cpu task o h home carries placed))
+    (λ away. subst (λ (two : State × State). IsPlaced homes (set (set m cpu two.0) (home_of homes task) two.1)) (sym (ended-away o (queue_at m cpu) (queue_at m (home_of homes task))))
+    (away-placed homes m cpu task (home_of homes task) o (record { puller = h; from = home_below _ homes cpu task ok cpus; apart = λ same. away (sym same) }) refl carries placed))
+whole-placed homes (Set cpu task nice slice) m ok cpus placed = same-placed homes m cpu _ (decider_below _ homes (Set cpu task nice slice) ok) (set-same (queue_at m cpu) task nice slice) placed
+whole-placed homes (Rebase cpu) m ok cpus placed = same-placed homes m cpu _ (decider_below _ homes (Rebase cpu) ok) (rebase-same (queue_at m cpu)) placed
 whole-placed homes (Pull cpu source) m ok cpus placed =
     pulled-placed homes m cpu source (decision (queue_at m cpu) (load_of (queue_at m source)) (offer (queue_at m source))) (pull_names (length m) homes cpu source ok) refl placed
 

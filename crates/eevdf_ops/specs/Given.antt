@@ -4,11 +4,34 @@ use Rattle.std.specs.FinMap as map
 use Rattle.eevdf_queue.specs.{declared.entry.Entry.Entry, declared.sleeper.Sleeper.Sleeper, State.State}
 use Rattle.eevdf_ops.specs.{declared.task_spec.TaskSpec.TaskSpec, declared.deeds.Deed.Deed, Setup.Setup, Setup.homes_of}
 use Rattle.eevdf_ops.specs.{Machine.queue_at, Machine.start, Whole.machine_after}
-use Rattle.eevdf_ops.specs.declared.deeds.Deed.TheVariants.{Tick, Pick, Yield, Sleep, Wake, Pull, Renice}
+use Rattle.eevdf_ops.specs.declared.deeds.Deed.TheVariants.{Tick, Pick, Yield, Sleep, Wake, Pull, Renice, Begin, End, Set, Rebase}
+
+-- whether a deed is to give a task another nice level and slice
+abbrev pub sets : Deed → ℕ → Bool
+sets (Begin cpu begun nice slice) task = task == begun
+sets (Set cpu given nice slice) task = task == given
+sets (Tick cpu ns) task = false
+sets (Pick cpu) task = false
+sets (Yield cpu) task = false
+sets (Sleep cpu sleeper) task = false
+sets (Wake cpu sleeper sender) task = false
+sets (Pull cpu source) task = false
+sets (Renice cpu reniced nice) task = false
+sets (End cpu ended) task = false
+sets (Rebase cpu) task = false
+
+-- whether one of the deeds is
+abbrev pub is_set : List Deed → ℕ → Bool
+is_set [] task = false
+is_set (d ∷ ds) task = sets d task || is_set ds task
 
 -- whether a deed is to give a task another nice level
 abbrev pub renices : Deed → ℕ → Bool
 renices (Renice cpu reniced nice) task = task == reniced
+renices (Begin cpu begun nice slice) task = task == begun
+renices (Set cpu given nice slice) task = task == given
+renices (End cpu ended) task = false
+renices (Rebase cpu) task = false
 renices (Tick cpu ns) task = false
 renices (Pick cpu) task = false
 renices (Yield cpu) task = false
@@ -21,11 +44,11 @@ abbrev pub is_reniced : List Deed → ℕ → Bool
 is_reniced [] task = false
 is_reniced (d ∷ ds) task = renices d task || is_reniced ds task
 
--- a task has the slice that it was given, and its nice level too unless one of the deeds is to give it another
+-- a task has the slice and the nice level that it was given, each unless one of the deeds is to give it another
 pub record IsAsGiven (tasks : List TaskSpec) (deeds : List Deed) (task : ℕ) (nice : ℤ) (slice : ℕ) : Type 0 where
   pub spec : TaskSpec
   pub given : slice_get tasks task ≡ Some spec
-  pub same_slice : slice ≡ spec.slice
+  pub same_slice : is_set deeds task ≡ false → slice ≡ spec.slice
   pub same_nice : is_reniced deeds task ≡ false → nice ≡ spec.nice
 
 -- so have the tasks of a queue, runnable and asleep

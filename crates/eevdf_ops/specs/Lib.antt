@@ -5,6 +5,7 @@ pub mod Faults
 pub mod Machine
 pub mod OneQueue
 pub mod WholeSleep
+pub mod WholeEnd
 pub mod WholePull
 pub mod Places
 pub mod Acts

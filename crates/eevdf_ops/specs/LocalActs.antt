@@ -1,14 +1,20 @@
 -- What an act on one queue answers and leaves.
 use Rattle.std.specs.Prelude.{Option, Some, None}
 use Rattle.eevdf_queue.specs.{State.State, State.Contents, Moves.put_asleep, Leaving.carried_running, Leaving.leave}
-use Rattle.eevdf_ops.specs.{declared.acts.LocalAct.LocalAct, declared.deeds.Answer.Answer, declared.deeds.Answer.TheVariants.NotRunning}
-use Rattle.eevdf_ops.specs.declared.acts.LocalAct.TheVariants.{Tick, Pick, Yield, Sleep, Wake, Renice}
+use Rattle.eevdf_ops.specs.{declared.acts.LocalAct.LocalAct, declared.deeds.Answer.Answer, declared.deeds.Answer.TheVariants.NotRunning, declared.deeds.Answer.TheVariants.NotHere, declared.deeds.Answer.TheVariants.Ended}
+use Rattle.eevdf_ops.specs.declared.acts.LocalAct.TheVariants.{Tick, Pick, Yield, Sleep, Wake, Renice, Begin, End, Set, Rebase}
 use Rattle.eevdf_ops.specs.{OneQueue.one_tick, OneQueue.one_pick, OneQueue.one_yield, OneQueue.one_wake, OneQueue.one_renice, WholeSleep.slept}
+use Rattle.eevdf_ops.specs.{OneQueue.one_begin, OneQueue.one_set, OneQueue.one_rebase, WholeEnd.ending}
 
 -- a task falls asleep in the queue where it runs; what it carries, none where it doesn't run
 abbrev pub slept_here : Option Contents → State → Answer × State
 slept_here None q = (NotRunning, q)
 slept_here (Some p) q = (slept p, put_asleep (leave q p.task) p)
+
+-- a task ends in the queue that is its home; what it takes along, none where it isn't runnable
+abbrev pub ended_here : Option Contents → State → Answer × State
+ended_here None q = (NotHere, q)
+ended_here (Some p) q = (Ended, put_asleep (leave q p.task) p)
 
 abbrev pub local_done : LocalAct → State → Answer × State
 local_done (Tick ns) q = one_tick q ns
@@ -17,3 +23,7 @@ local_done Yield q = one_yield q
 local_done (Sleep task) q = slept_here (carried_running q task) q
 local_done (Wake task sender) q = one_wake q task
 local_done (Renice task nice) q = one_renice q task nice
+local_done (Begin task nice slice) q = one_begin q task nice slice
+local_done (End task) q = ended_here (ending q task) q
+local_done (Set task nice slice) q = one_set q task nice slice
+local_done Rebase q = one_rebase q

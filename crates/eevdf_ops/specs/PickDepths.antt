@@ -4,7 +4,7 @@ use Rattle.std.specs.FinMap as finite
 use Rattle.eevdf_queue.specs.{State.State, State.View, Pick.pick_of}
 use Rattle.eevdf_ops.specs.{declared.acts.LocalAct.LocalAct, declared.deeds.Deed.Deed, Machine.Machine, Machine.queue_at}
 use Rattle.eevdf_ops.specs.declared.acts.LocalAct.TheVariants as local
-use Rattle.eevdf_ops.specs.declared.deeds.Deed.TheVariants.{Tick, Pick, Yield, Sleep, Wake, Pull, Renice}
+use Rattle.eevdf_ops.specs.declared.deeds.Deed.TheVariants.{Tick, Pick, Yield, Sleep, Wake, Pull, Renice, Begin, End, Set, Rebase}
 
 -- none where nobody is runnable, else at least one, and with n runnable tasks k such that 2 ^ (k / 2) is at most n + 1
 abbrev pub IsPickDepth : State → ℕ → Type 0
@@ -33,3 +33,7 @@ HasPickDepth m (Sleep cpu task) queues = ⊤
 HasPickDepth m (Wake cpu task sender) queues = ⊤
 HasPickDepth m (Pull cpu source) queues = ⊤
 HasPickDepth m (Renice cpu task nice) queues = ⊤
+HasPickDepth m (Begin cpu task nice slice) queues = ⊤
+HasPickDepth m (End cpu task) queues = ⊤
+HasPickDepth m (Set cpu task nice slice) queues = ⊤
+HasPickDepth m (Rebase cpu) queues = ⊤

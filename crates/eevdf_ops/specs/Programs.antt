@@ -35,6 +35,10 @@ wake_from sender (deed.Yield cpu) = []
 wake_from sender (deed.Sleep cpu task) = []
 wake_from sender (deed.Pull cpu source) = []
 wake_from sender (deed.Renice cpu task nice) = []
+wake_from sender (deed.Begin cpu task nice slice) = []
+wake_from sender (deed.End cpu task) = []
+wake_from sender (deed.Set cpu task nice slice) = []
+wake_from sender (deed.Rebase cpu) = []
 
 -- the tasks of the wakes that a CPU asked for, in order
 abbrev pub wakes_in : ℕ → List Deed → List ℕ

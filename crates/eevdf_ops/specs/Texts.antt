@@ -5,8 +5,9 @@ use Rattle.eevdf_queue.specs.Texts.{charged_text}
 use Rattle.eevdf_ops.specs.{declared.deeds.Op.Op, declared.deeds.Deed.Deed, declared.deeds.Answer.Answer, declared.deeds.Line.Line}
 use Rattle.eevdf_ops.specs.Parts.{decider}
 use Rattle.eevdf_ops.specs.declared.deeds.Op.TheVariants as op
-use Rattle.eevdf_ops.specs.declared.deeds.Deed.TheVariants.{Tick, Pick, Yield, Sleep, Wake, Pull, Renice}
-use Rattle.eevdf_ops.specs.declared.deeds.Answer.TheVariants.{Charged, Picked, Idle, Yielded, Slept, NotRunning, Woken, Awake, Pulled, Balanced, Nothing, Range, Reniced, NotHere}
+use Rattle.eevdf_ops.specs.declared.deeds.Deed.TheVariants.{Tick, Pick, Yield, Sleep, Wake, Pull, Renice, Begin, End, Set, Rebase}
+use Rattle.eevdf_ops.specs.declared.deeds.Answer.TheVariants.{Charged, Picked, Idle, Yielded, Slept, NotRunning, Woken, Awake, Pulled, Balanced, Nothing, Range, Reniced, NotHere, Begun, Ended, Rebased}
+use Rattle.eevdf_ops.specs.declared.deeds.Answer.TheVariants as answer
 
 -- an operation as a program lists it
 abbrev pub operation_text : Op → List ℕ
@@ -28,6 +29,10 @@ deed_text (Sleep cpu task) = codes "sleep " ++ decimal task
 deed_text (Wake cpu task sender) = codes "wake " ++ decimal task ++ codes " from " ++ decimal sender
 deed_text (Pull cpu source) = codes "pull " ++ decimal source
 deed_text (Renice cpu task nice) = codes "renice " ++ decimal task ++ codes " " ++ signed_decimal nice
+deed_text (Begin cpu task nice slice) = codes "begin " ++ decimal task ++ codes " " ++ signed_decimal nice ++ codes " " ++ decimal slice
+deed_text (End cpu task) = codes "end " ++ decimal task
+deed_text (Set cpu task nice slice) = codes "set " ++ decimal task ++ codes " " ++ signed_decimal nice ++ codes " " ++ decimal slice
+deed_text (Rebase cpu) = codes "rebase"
 
 -- a deed with the CPU that does it, as a script lists it
 abbrev pub numbered_deed_text : Deed → List ℕ
@@ -48,6 +53,10 @@ answer_text Nothing = codes "nothing"
 answer_text Range = codes "range"
 answer_text Reniced = codes "reniced"
 answer_text NotHere = codes "not here"
+answer_text Begun = codes "begun"
+answer_text Ended = codes "ended"
+answer_text answer.Set = codes "set"
+answer_text (Rebased by) = codes "rebased " ++ signed_decimal by
 
 -- a deed with its CPU and its answer
 abbrev pub line_text : Line → List ℕ

@@ -3,7 +3,7 @@
 use crate::cpu_id::CpuId;
 use crate::deeds::Deed;
 use eevdf_queue::TaskId;
-use eevdf_weight::{Nice, Ns};
+use eevdf_weight::{Nice, Ns, Slice};
 
 /// What is done to the run queue of one CPU alone.
 #[derive(Clone, Copy, PartialEq, Eq, Debug)]
@@ -20,6 +20,14 @@ pub enum LocalAct {
     Wake { task: TaskId, sender: CpuId },
     /// The task, if it is runnable here, gets this nice level.
     Renice(TaskId, Nice),
+    /// The task, if it sleeps here, begins anew with this nice level and slice.
+    Begin(TaskId, Nice, Slice),
+    /// The task, if it is runnable here, where it has its home, ends: it falls asleep without a lag.
+    End(TaskId),
+    /// The task, if it is here, gets this nice level and slice.
+    Set(TaskId, Nice, Slice),
+    /// All virtual times are lowered by one number.
+    Rebase,
 }
 
 /// How a task comes from the run queue of one CPU to that of another. It is done by one of the two.
@@ -29,6 +37,8 @@ pub enum Transfer {
     Sleep(TaskId),
     /// A task that waits at the other CPU becomes runnable here, where that levels the loads.
     Pull,
+    /// The task, if it is runnable here, ends: it falls asleep without a lag at its home, which is the other CPU.
+    End(TaskId),
 }
 
 /// What a deed does, without the CPU that does it.
@@ -56,6 +66,20 @@ impl LocalAct {
             LocalAct::Sleep(task) => Deed::Sleep { cpu, task },
             LocalAct::Wake { task, sender } => Deed::Wake { cpu, task, sender },
             LocalAct::Renice(task, nice) => Deed::Renice { cpu, task, nice },
+            LocalAct::Begin(task, nice, slice) => Deed::Begin {
+                cpu,
+                task,
+                nice,
+                slice,
+            },
+            LocalAct::End(task) => Deed::End { cpu, task },
+            LocalAct::Set(task, nice, slice) => Deed::Set {
+                cpu,
+                task,
+                nice,
+                slice,
+            },
+            LocalAct::Rebase => Deed::Rebase { cpu },
         }
     }
 }
@@ -72,6 +96,7 @@ impl Transfer {
         match *self {
             Transfer::Sleep(task) => Deed::Sleep { cpu, task },
             Transfer::Pull => Deed::Pull { cpu, source: other },
+            Transfer::End(task) => Deed::End { cpu, task },
         }
     }
 }

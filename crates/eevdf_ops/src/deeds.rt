@@ -1,7 +1,7 @@
 use crate::acts::LocalAct;
 use crate::cpu_id::CpuId;
 use eevdf_queue::TaskId;
-use eevdf_weight::{Nice, Ns};
+use eevdf_weight::{Nice, Ns, Slice};
 
 /// An operation of a CPU's program.
 #[derive(Clone, Copy, PartialEq, Eq, Debug)]
@@ -97,6 +97,32 @@ pub enum Deed {
         task: TaskId,
         nice: Nice,
     },
+    /// The task, if it sleeps on the CPU, its home, begins anew: it sleeps on as one that has just been made, with the nice level,
+    /// the slice and the lag 0.
+    Begin {
+        cpu: CpuId,
+        task: TaskId,
+        nice: Nice,
+        slice: Slice,
+    },
+    /// The task, if it is runnable on the CPU, running or waiting, ends: it falls asleep at its home with the lag 0.
+    End {
+        cpu: CpuId,
+        task: TaskId,
+    },
+    /// The task, if it is runnable on the CPU or sleeps there, gets the nice level and the slice. A runnable one joins again as at
+    /// a renice, and the request after the one that then stands is of the new slice; the lag that a sleeping one keeps is rescaled,
+    /// and cut to the limit that it then has.
+    Set {
+        cpu: CpuId,
+        task: TaskId,
+        nice: Nice,
+        slice: Slice,
+    },
+    /// All virtual times of the CPU's queue are lowered by one number, so that its virtual time is 0.
+    Rebase {
+        cpu: CpuId,
+    },
 }
 
 impl Deed {
@@ -114,7 +140,11 @@ impl Deed {
             | Deed::Sleep { cpu, .. }
             | Deed::Wake { cpu, .. }
             | Deed::Pull { cpu, .. }
-            | Deed::Renice { cpu, .. } => cpu,
+            | Deed::Renice { cpu, .. }
+            | Deed::Begin { cpu, .. }
+            | Deed::End { cpu, .. }
+            | Deed::Set { cpu, .. }
+            | Deed::Rebase { cpu } => cpu,
         }
     }
 }
@@ -137,7 +167,7 @@ pub enum Answer {
     NotRunning,
     /// The task woke.
     Woken,
-    /// The task that was to wake doesn't sleep on the CPU.
+    /// The task that was to wake or to begin doesn't sleep on the CPU.
     Awake,
     /// This task was pulled.
     Pulled(TaskId),
@@ -149,8 +179,17 @@ pub enum Answer {
     Range,
     /// The task has the nice level.
     Reniced,
-    /// The task that was to get a nice level isn't runnable on the CPU.
+    /// The task that was to get a nice level, or to end, isn't runnable on the CPU; one that was to get a slice besides doesn't
+    /// sleep there either.
     NotHere,
+    /// The task has begun, and sleeps.
+    Begun,
+    /// The task has ended, and its number sleeps at its home.
+    Ended,
+    /// The task has the nice level and the slice.
+    Set,
+    /// All virtual times of the queue are lower by this number: 0 where one of them would have left the range.
+    Rebased(i64),
 }
 
 /// A deed with its answer.

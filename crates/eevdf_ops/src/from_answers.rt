@@ -2,10 +2,10 @@
 
 ghost use Rattle.std.specs.Prelude.{◌≡◌};
 ghost use Rattle.eevdf_ops.specs.OneQueue.{answer_of_pick, answer_of_renice, answer_of_tick};
-ghost use Rattle.eevdf_ops.specs.OneQueue.{answer_of_wake, answer_of_yield};
+ghost use Rattle.eevdf_ops.specs.OneQueue.{answer_of_set, answer_of_wake, answer_of_yield};
 
 use crate::deeds::Answer;
-use eevdf_queue::{ReniceAnswer, TaskId, TickAnswer, WakeAnswer, YieldAnswer};
+use eevdf_queue::{ReniceAnswer, SetAnswer, TaskId, TickAnswer, WakeAnswer, YieldAnswer};
 
 /// The answer of a pick: who was picked, and `Idle` where nothing is runnable.
 impl From<Option<TaskId>> for Answer {
@@ -63,6 +63,18 @@ impl From<ReniceAnswer> for Answer {
             ReniceAnswer::Reniced => Answer::Reniced,
             ReniceAnswer::NotHere => Answer::NotHere,
             ReniceAnswer::Range => Answer::Range,
+        }
+    }
+}
+
+impl From<SetAnswer> for Answer {
+    ghost from_gives = { λ set answer. answer ≡ answer_of_set set };
+
+    fn from(set: SetAnswer) -> Answer {
+        match set {
+            SetAnswer::Set => Answer::Set,
+            SetAnswer::NotHere => Answer::NotHere,
+            SetAnswer::Range => Answer::Range,
         }
     }
 }

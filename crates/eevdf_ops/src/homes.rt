@@ -49,16 +49,21 @@ impl Homes<'_> {
         self.has_task(task) && self.home(task).get() == cpu.get()
     }
 
-    /// Whether a machine of so many CPUs has the CPU, the task, the sender and the source that a deed names, a wake is at the task's
-    /// home, and a pull is from another CPU.
+    /// Whether a machine of so many CPUs has the CPU, the task, the sender and the source that a deed names, a wake or a begin is at
+    /// the task's home, and a pull is from another CPU.
     pub fn allows(&self, cpus: usize, deed: &Deed) -> bool
         ensures { result ≡ is_allowed cpus (homes_in self.now) deed.now }
     {
         match *deed {
-            Deed::Tick { cpu, .. } | Deed::Pick { cpu } | Deed::Yield { cpu } => cpu.index() < cpus,
-            Deed::Sleep { cpu, task } | Deed::Renice { cpu, task, .. } => {
-                cpu.index() < cpus && self.has_task(task)
-            }
+            Deed::Tick { cpu, .. }
+            | Deed::Pick { cpu }
+            | Deed::Yield { cpu }
+            | Deed::Rebase { cpu } => cpu.index() < cpus,
+            Deed::Sleep { cpu, task }
+            | Deed::Renice { cpu, task, .. }
+            | Deed::End { cpu, task }
+            | Deed::Set { cpu, task, .. } => cpu.index() < cpus && self.has_task(task),
+            Deed::Begin { cpu, task, .. } => cpu.index() < cpus && self.is_at_home(task, cpu),
             Deed::Wake { cpu, task, sender } => {
                 cpu.index() < cpus && sender.index() < cpus && self.is_at_home(task, cpu)
             }

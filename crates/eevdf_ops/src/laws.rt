@@ -38,8 +38,8 @@ pub fn deeds_keep_places()
     ensures { DeedsKeepPlaces }
 {}
 
-/// On each machine that deeds lead to from the start, a task, runnable or asleep, has the slice that the setup gives it, and
-/// its nice level too unless one of the deeds is to give it another.
+/// On each machine that deeds lead to from the start, a task, runnable or asleep, has the nice level and the slice that the setup
+/// gives it, each unless one of the deeds is to give it another: a begin and a set are to give both, a renice the level.
 pub fn tasks_stay_as_given()
     ensures { TasksStayAsGiven }
 {}

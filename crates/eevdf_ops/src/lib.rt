@@ -12,6 +12,7 @@
 mod acts;
 mod cpu_id;
 mod deeds;
+pub mod end;
 mod from_answers;
 mod homes;
 pub mod laws;

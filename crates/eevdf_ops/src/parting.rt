@@ -1,7 +1,7 @@
 //! A deed, parted into its CPU and what it does.
 
 ghost use Rattle.std.specs.Prelude.{◌≡◌, ℕ, true};
-ghost use Rattle.eevdf_ops.specs.{Acts.act_of, Acts.sleep_from, Parts.decider, Setup.is_allowed};
+ghost use Rattle.eevdf_ops.specs.{Acts.act_of, Acts.end_from, Acts.sleep_from, Parts.decider, Setup.is_allowed};
 
 use crate::acts::{Act, LocalAct, Transfer};
 use crate::cpu_id::CpuId;
@@ -24,6 +24,20 @@ pub fn parted(homes: &[CpuId], deed: Deed) -> (CpuId, Act)
         Deed::Wake { cpu, task, sender } => (cpu, Act::Local(LocalAct::Wake { task, sender })),
         Deed::Pull { cpu, source } => (cpu, Act::Transfer(source, Transfer::Pull)),
         Deed::Renice { cpu, task, nice } => (cpu, Act::Local(LocalAct::Renice(task, nice))),
+        Deed::Begin {
+            cpu,
+            task,
+            nice,
+            slice,
+        } => (cpu, Act::Local(LocalAct::Begin(task, nice, slice))),
+        Deed::End { cpu, task } => (cpu, end_from(cpu, task, homes[task.index()])),
+        Deed::Set {
+            cpu,
+            task,
+            nice,
+            slice,
+        } => (cpu, Act::Local(LocalAct::Set(task, nice, slice))),
+        Deed::Rebase { cpu } => (cpu, Act::Local(LocalAct::Rebase)),
     }
 }
 
@@ -36,5 +50,17 @@ fn sleep_from(cpu: CpuId, task: TaskId, home: CpuId) -> Act
         Act::Local(LocalAct::Sleep(task))
     } else {
         Act::Transfer(home, Transfer::Sleep(task))
+    }
+}
+
+/// An end on a CPU of a task with this home.
+#[inline(always)]
+fn end_from(cpu: CpuId, task: TaskId, home: CpuId) -> Act
+    ensures { result ≡ end_from cpu task home }
+{
+    if home.get() == cpu.get() {
+        Act::Local(LocalAct::End(task))
+    } else {
+        Act::Transfer(home, Transfer::End(task))
     }
 }

@@ -33,6 +33,20 @@ impl fmt::Display for Deed {
             Deed::Wake { cpu, task, sender } => {
                 return write!(f, "{cpu} wake {task} from {sender}");
             }
+            Deed::Begin {
+                cpu,
+                task,
+                nice,
+                slice,
+            } => return write!(f, "{cpu} begin {task} {nice} {slice}"),
+            Deed::End { cpu, task } => return write!(f, "{cpu} end {task}"),
+            Deed::Set {
+                cpu,
+                task,
+                nice,
+                slice,
+            } => return write!(f, "{cpu} set {task} {nice} {slice}"),
+            Deed::Rebase { cpu } => return write!(f, "{cpu} rebase"),
             Deed::Tick { cpu, ns } => (cpu, Op::Tick(ns)),
             Deed::Pick { cpu } => (cpu, Op::Pick),
             Deed::Yield { cpu } => (cpu, Op::Yield),
@@ -61,6 +75,7 @@ impl fmt::Display for Answer {
             Answer::Picked(task) => return write!(f, "picked {task}"),
             Answer::Slept(lag) => return write!(f, "slept {lag}"),
             Answer::Pulled(task) => return write!(f, "pulled {task}"),
+            Answer::Rebased(by) => return write!(f, "rebased {by}"),
             Answer::Idle => "idle",
             Answer::Yielded => "yielded",
             Answer::NotRunning => "not running",
@@ -71,6 +86,9 @@ impl fmt::Display for Answer {
             Answer::Range => "range",
             Answer::Reniced => "reniced",
             Answer::NotHere => "not here",
+            Answer::Begun => "begun",
+            Answer::Ended => "ended",
+            Answer::Set => "set",
         };
         f.write_str(word)
     }

@@ -2,11 +2,13 @@
 
 ghost use Rattle.std.specs.Prelude.{◌≡◌};
 ghost use Rattle.eevdf_queue.specs.Leaving.{carried_running};
-ghost use Rattle.eevdf_ops.specs.Transfers.{NoneTwice, pulled, slept_away, transferred};
+ghost use Rattle.eevdf_ops.specs.Transfers.{NoneTwice, ended_away, pulled, slept_away, transferred};
+ghost use Rattle.eevdf_ops.specs.WholeEnd.{ending};
 ghost use Rattle.eevdf_ops.specs.WholePull.{decision, load_of, offer};
 
 use crate::acts::Transfer;
 use crate::deeds::Answer;
+use crate::end::leave_for_good;
 use crate::pull::leave_to;
 use crate::sleep::leave_running;
 use eevdf_queue::{Queue, TaskId};
@@ -24,6 +26,7 @@ impl Transfer {
         match self {
             Transfer::Sleep(task) => sleep_away(queue, other, task),
             Transfer::Pull => pull(queue, other),
+            Transfer::End(task) => end_away(queue, other, task),
         }
     }
 }
@@ -58,6 +61,23 @@ fn pull(queue: &mut Queue, source: &mut Queue) -> Answer
     let (answer, parcel) = leave_to(queue, source);
     if let Some(parcel) = parcel {
         queue.attach(parcel);
+    }
+    answer
+}
+
+/// Ends a task in another queue than that of its home.
+fn end_away(queue: &mut Queue, home: &mut Queue, task: TaskId) -> Answer
+    requires { NoneTwice queue.old.state home.old.state }
+    ensures answer { result ≡ (ended_away
+        (ending queue.old.state task) queue.old.state home.old.state).0 }
+    ensures queue { queue.new.state ≡ (ended_away
+        (ending queue.old.state task) queue.old.state home.old.state).1.0 }
+    ensures home { home.new.state ≡ (ended_away
+        (ending queue.old.state task) queue.old.state home.old.state).1.1 }
+{
+    let (answer, parcel) = leave_for_good(queue, task);
+    if let Some(ended) = parcel {
+        home.put_asleep(ended);
     }
     answer
 }

@@ -3,11 +3,11 @@ use Rattle.std.specs.Prelude.{ℕ, ◌*◌}
 
 -- how many lines a block has at most
 abbrev pub block_lines : ℕ
-block_lines = 32
+block_lines = 27
 
 -- how many bytes a line of the history has at most
 abbrev pub most_bytes : ℕ
-most_bytes = 96
+most_bytes = 112
 
 -- how many bytes a block may have
 abbrev pub block_room : ℕ

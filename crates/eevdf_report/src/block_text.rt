@@ -28,10 +28,10 @@ impl Model for BlockText {
 
 impl BlockText {
     /// How many lines a block has at most.
-    pub(crate) const LINES: usize = 32;
+    pub(crate) const LINES: usize = 27;
 
-    /// As many bytes as so many lines of the history may have, each of 96 at most.
-    const ROOM: usize = BlockText::LINES * 96;
+    /// As many bytes as so many lines of the history may have, each of 112 at most.
+    const ROOM: usize = BlockText::LINES * 112;
 
     pub(crate) fn new() -> BlockText
         ensures { result ≡ [] }

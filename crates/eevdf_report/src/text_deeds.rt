@@ -1,15 +1,17 @@
-ghost use Rattle.std.specs.Prelude.{◌≡◌, ◌+◌, ◌≤◌, ◌++◌, length, decimal};
+ghost use Rattle.std.specs.Prelude.{◌≡◌, ◌+◌, ◌≤◌, ◌++◌, length, codes, decimal};
+ghost use Rattle.std.specs.Fmt.{signed_decimal};
 ghost use Rattle.eevdf_report.specs.BlockText.{block_room, most_bytes};
 ghost use Rattle.eevdf_report.specs.TextDeed.{deed_text, answer_text, resched_text, schedule_line, script_line};
 
 use crate::block_text::BlockText;
 use eevdf_ops::{Answer, Deed, Line};
+use eevdf_weight::{Nice, Slice};
 
 /// Writes a deed before the text of a line.
 fn prepend_deed(text: &mut BlockText, deed: Deed)
-    requires { 51 + length text.old ≤ block_room }
+    requires { 69 + length text.old ≤ block_room }
     ensures text { text.new ≡ deed_text deed ++ text.old }
-    ensures len { length text.new ≤ 51 + length text.old }
+    ensures len { length text.new ≤ 69 + length text.old }
 {
     match deed {
         Deed::Tick { ns, .. } => prepend_with_number(text, b"tick ", ns.get()),
@@ -26,7 +28,38 @@ fn prepend_deed(text: &mut BlockText, deed: Deed)
             text.prepend(b" ");
             prepend_with_number(text, b"renice ", task.get());
         }
+        Deed::Begin {
+            task,
+            nice,
+            slice,
+            ..
+        } => {
+            prepend_attributes(text, nice, slice);
+            prepend_with_number(text, b"begin ", task.get());
+        }
+        Deed::End { task, .. } => prepend_with_number(text, b"end ", task.get()),
+        Deed::Set {
+            task,
+            nice,
+            slice,
+            ..
+        } => {
+            prepend_attributes(text, nice, slice);
+            prepend_with_number(text, b"set ", task.get());
+        }
+        Deed::Rebase { .. } => text.prepend(b"rebase"),
     }
+}
+
+/// Writes a nice level and a slice, each after a space.
+fn prepend_attributes(text: &mut BlockText, level: Nice, slice: Slice)
+    requires { 43 + length text.old ≤ block_room }
+    ensures text { text.new ≡ codes " " ++ (signed_decimal level ++ (codes " " ++ (decimal slice ++ text.old))) }
+    ensures len { length text.new ≤ 43 + length text.old }
+{
+    prepend_with_number(text, b" ", slice.get());
+    text.prepend_signed(level.get());
+    text.prepend(b" ");
 }
 
 /// Writes a word with a number after it.
@@ -77,6 +110,13 @@ fn prepend_answer(text: &mut BlockText, answer: Answer)
         Answer::Range => text.prepend(b"range"),
         Answer::Reniced => text.prepend(b"reniced"),
         Answer::NotHere => text.prepend(b"not here"),
+        Answer::Begun => text.prepend(b"begun"),
+        Answer::Ended => text.prepend(b"ended"),
+        Answer::Set => text.prepend(b"set"),
+        Answer::Rebased(by) => {
+            text.prepend_signed(by);
+            text.prepend(b"rebased ");
+        }
     }
 }
 

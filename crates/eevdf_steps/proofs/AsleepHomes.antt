@@ -7,14 +7,14 @@ use Rattle.eevdf_queue.specs.{declared.sleeper.Sleeper.Sleeper, Placing.placed_e
 use Rattle.eevdf_queue.specs.Leaving.{carried_running, leave, without_entry}
 use Rattle.eevdf_ops.specs.{declared.deeds.Answer.Answer, declared.deeds.Deed.Deed, declared.deeds.Line.Line}
 use Rattle.eevdf_ops.specs.{Histories.machine_told, Machine.Machine, Machine.queue_at, Programs.deeds_of, Setup.home_of}
-use Rattle.eevdf_ops.specs.{LocalActs.slept_here, Transfers.pulled, Transfers.slept_away, Whole.at_two, Whole.machine_after, Whole.whole}
-use Rattle.eevdf_ops.proofs.WholeActs.{sleep_by_home}
-use Rattle.eevdf_ops.specs.declared.deeds.Deed.TheVariants.{Tick, Pick, Yield, Sleep, Wake, Pull, Renice}
+use Rattle.eevdf_ops.specs.{LocalActs.slept_here, Transfers.pulled, Transfers.slept_away, Transfers.ended_away, WholeEnd.ending, Whole.at_two, Whole.machine_after, Whole.whole}
+use Rattle.eevdf_ops.proofs.WholeActs.{sleep_by_home, end_by_home, ended-here, ended-away}
+use Rattle.eevdf_ops.specs.declared.deeds.Deed.TheVariants.{Tick, Pick, Yield, Sleep, Wake, Pull, Renice, Begin, End, Set, Rebase}
 use Rattle.eevdf_ops.specs.Parts.{after_leaving, giver, only_at}
 use Rattle.eevdf_ops.specs.WholePull.{pull_decision, with_task}
-use Rattle.eevdf_ops.proofs.{Carried.running-carries, MachinePlaces.SleepsAtHome, MachinePlaces.each-set}
+use Rattle.eevdf_ops.proofs.{Carried.running-carries, Carried.ending-carries, MachinePlaces.SleepsAtHome, MachinePlaces.each-set}
 use Rattle.eevdf_ops.proofs.MapCounts.{contains-insert, contains-removed, equal}
-use Rattle.eevdf_ops.proofs.QueuePlaces.{pick-same, renice-same, tick-same, yield-same}
+use Rattle.eevdf_ops.proofs.QueuePlaces.{pick-same, renice-same, begin-same, set-same, rebase-same, tick-same, yield-same}
 use Rattle.eevdf_steps.specs.{Counters.Counters, Counters.holder, Counters.holds, Plan.Plan, Plan.callers, Work.Work, Serial.IsSerial, Serial.begun_by}
 use Rattle.eevdf_steps.specs.UnderWay.{UnderWay, leaves, queue_seen}
 use Rattle.eevdf_steps.proofs.{Ready.least_found, SerialSteps.free_queue}
@@ -68,21 +68,21 @@ module _ (homes : List ℕ) where
   less_at_home : (m : Machine) (c : ℕ) (r : State) → IsNoMore (queue_at m c) r → AllAtHome homes m → AllAtHome homes (set m c r)
   less_at_home m c r less all = set_at_home m c r (still homes c (queue_at m c) r less (all c)) all
 
-  here_at_home : (cpu task : ℕ) (q : State) (o : Option Contents) → carried_running q task ≡ o → home_of homes task ≡ cpu → SleepsAtHome homes cpu q → SleepsAtHome homes cpu (slept_here o q).1
-  here_at_home cpu task q None e home here = here
-  here_at_home cpu task q (Some p) e home here =
-      falls_at_home homes cpu (leave q p.task) p (ap (home_of homes) (running-carries q task p e).of_task ∙ home) (still homes cpu q (leave q p.task) (leave_less q p.task _) here)
+  here_at_home : (cpu task : ℕ) (q : State) (o : Option Contents) → ((p : Contents) → o ≡ Some p → p.task ≡ task) → home_of homes task ≡ cpu → SleepsAtHome homes cpu q → SleepsAtHome homes cpu (slept_here o q).1
+  here_at_home cpu task q None of home here = here
+  here_at_home cpu task q (Some p) of home here =
+      falls_at_home homes cpu (leave q p.task) p (ap (home_of homes) (of p refl) ∙ home) (still homes cpu q (leave q p.task) (leave_less q p.task _) here)
 
   -- two queues, each with the sleepers of its own
   abbrev BothAtHome : ℕ → ℕ → State × State → Type 0
   BothAtHome cpu other qs = SleepsAtHome homes cpu qs.0 × SleepsAtHome homes other qs.1
 
-  away_at_home : (cpu task : ℕ) (q r : State) (o : Option Contents) → carried_running q task ≡ o → BothAtHome cpu (home_of homes task) (q, r)
+  away_at_home : (cpu task : ℕ) (q r : State) (o : Option Contents) → ((p : Contents) → o ≡ Some p → p.task ≡ task) → BothAtHome cpu (home_of homes task) (q, r)
       → BothAtHome cpu (home_of homes task) (slept_away o q r).1
-  away_at_home cpu task q r None e both = both
-  away_at_home cpu task q r (Some p) e both = (
+  away_at_home cpu task q r None of both = both
+  away_at_home cpu task q r (Some p) of both = (
     still homes cpu q (leave q p.task) (leave_less q p.task _) both.0,
-    falls_at_home homes (home_of homes task) r p (ap (home_of homes) (running-carries q task p e).of_task) both.1,
+    falls_at_home homes (home_of homes task) r p (ap (home_of homes) (of p refl)) both.1,
   )
 
   pulled_at_home : (cpu source : ℕ) (q r : State) (d : Result Contents Answer) → BothAtHome cpu source (q, r) → BothAtHome cpu source (pulled d q r).1
@@ -101,11 +101,24 @@ module _ (homes : List ℕ) where
   whole_at_home (Yield cpu) m all = less_at_home m cpu _ (yield-same (queue_at m cpu)).asleep all
   whole_at_home (Sleep cpu task) m all =
       let o : Option Contents = carried_running (queue_at m cpu) task in
+      let of : (p : Contents) → o ≡ Some p → p.task ≡ task = λ p e. (running-carries (queue_at m cpu) task p e).of_task in
       sleep_by_home (λ (r : Answer × Machine). AllAtHome homes r.1) homes cpu task m
-      (λ home. set_at_home m cpu _ (here_at_home cpu task (queue_at m cpu) o refl home (all cpu)) all)
-      (λ apart. two_at_home m cpu (home_of homes task) (slept_away o (queue_at m cpu) (queue_at m (home_of homes task))) (away_at_home cpu task (queue_at m cpu) (queue_at m (home_of homes task)) o refl (all cpu, all (home_of homes task))) all)
+      (λ home. set_at_home m cpu _ (here_at_home cpu task (queue_at m cpu) o of home (all cpu)) all)
+      (λ apart. two_at_home m cpu (home_of homes task) (slept_away o (queue_at m cpu) (queue_at m (home_of homes task))) (away_at_home cpu task (queue_at m cpu) (queue_at m (home_of homes task)) o of (all cpu, all (home_of homes task))) all)
+  whole_at_home (End cpu task) m all =
+      let q : State = queue_at m cpu in
+      let r : State = queue_at m (home_of homes task) in
+      let o : Option Contents = ending q task in
+      let of : (p : Contents) → o ≡ Some p → p.task ≡ task = λ p e. (ending-carries q task p e).of_task in
+      end_by_home (λ (r : Answer × Machine). AllAtHome homes r.1) homes cpu task m
+      (λ home. set_at_home m cpu _ (subst (SleepsAtHome homes cpu) (sym (ended-here o q)) (here_at_home cpu task q o of home (all cpu))) all)
+      (λ apart. two_at_home m cpu (home_of homes task) (ended_away o q r)
+      (subst (BothAtHome cpu (home_of homes task)) (sym (ended-away o q r)) (away_at_home cpu task q r o of (all cpu, all (home_of homes task)))) all)
   whole_at_home (Wake cpu task sender) m all = less_at_home m cpu _ (wake_sleeper_less (queue_at m cpu) task _) all
   whole_at_home (Renice cpu task nice) m all = less_at_home m cpu _ (renice-same (queue_at m cpu) task nice).asleep all
+  whole_at_home (Begin cpu task nice slice) m all = less_at_home m cpu _ (begin-same (queue_at m cpu) task nice slice).asleep all
+  whole_at_home (Set cpu task nice slice) m all = less_at_home m cpu _ (set-same (queue_at m cpu) task nice slice).asleep all
+  whole_at_home (Rebase cpu) m all = less_at_home m cpu _ (rebase-same (queue_at m cpu)).asleep all
   whole_at_home (Pull cpu source) m all =
       two_at_home m cpu source (pulled (pull_decision m cpu source) (queue_at m cpu) (queue_at m source)) (pulled_at_home cpu source (queue_at m cpu) (queue_at m source) (pull_decision m cpu source) (all cpu, all source)) all
 

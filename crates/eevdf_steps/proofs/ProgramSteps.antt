@@ -62,6 +62,10 @@ wakes_from_less p from more (deed.Tick cpu ns ∷ deeds) h wakes = wakes
 wakes_from_less p from more (deed.Pick cpu ∷ deeds) h wakes = wakes
 wakes_from_less p from more (deed.Yield cpu ∷ deeds) h wakes = wakes
 wakes_from_less p from more (deed.Renice cpu task nice ∷ deeds) h wakes = wakes
+wakes_from_less p from more (deed.Begin cpu task nice slice ∷ deeds) h wakes = wakes
+wakes_from_less p from more (deed.End cpu task ∷ deeds) h wakes = wakes
+wakes_from_less p from more (deed.Set cpu task nice slice ∷ deeds) h wakes = wakes
+wakes_from_less p from more (deed.Rebase cpu ∷ deeds) h wakes = wakes
 wakes_from_less p from more (deed.Sleep cpu task ∷ deeds) h wakes = wakes
 wakes_from_less p from more (deed.Pull cpu source ∷ deeds) h wakes = wakes
 

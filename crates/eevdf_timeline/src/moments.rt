@@ -27,10 +27,17 @@ pub(crate) fn do_again(solo: &mut Solo, line: &Line) {
 /// The task that a deed names.
 pub(crate) fn named_task(deed: Deed) -> Option<TaskId> {
     match deed {
-        Deed::Sleep { task, .. } | Deed::Wake { task, .. } | Deed::Renice { task, .. } => {
-            Some(task)
-        }
-        Deed::Tick { .. } | Deed::Pick { .. } | Deed::Yield { .. } | Deed::Pull { .. } => None,
+        Deed::Sleep { task, .. }
+        | Deed::Wake { task, .. }
+        | Deed::Renice { task, .. }
+        | Deed::Begin { task, .. }
+        | Deed::End { task, .. }
+        | Deed::Set { task, .. } => Some(task),
+        Deed::Tick { .. }
+        | Deed::Pick { .. }
+        | Deed::Yield { .. }
+        | Deed::Pull { .. }
+        | Deed::Rebase { .. } => None,
     }
 }
 

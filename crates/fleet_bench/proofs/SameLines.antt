@@ -3,7 +3,7 @@ use Rattle.std.proofs.Common.{◌≡◌, List, [], ◌∷◌, true, refl, rules}
 use Rattle.std.specs.Cmp.Lexicographic.{pointwise}
 use Rattle.eevdf_ops.specs.declared.deeds.Line.{Line}
 use Rattle.eevdf_ops.specs.declared.deeds.Deed.{Deed}
-use Rattle.eevdf_ops.specs.declared.deeds.Deed.TheVariants.{Tick, Pick, Yield, Sleep, Wake, Pull, Renice}
+use Rattle.eevdf_ops.specs.declared.deeds.Deed.TheVariants.{Tick, Pick, Yield, Sleep, Wake, Pull, Renice, Begin, End, Set, Rebase}
 use Rattle.eevdf_ops.specs.declared.deeds.Answer.{Answer}
 use Rattle.eevdf_ops.specs.declared.deeds.Answer.TheVariants as answers
 use Rattle.eevdf_ops.specs.contracts.deeds.DeedPartialEq.TheImpl as deed
@@ -18,6 +18,10 @@ deed_itself (Sleep cpu task) = search rules
 deed_itself (Wake cpu task sender) = search rules
 deed_itself (Pull cpu source) = search rules
 deed_itself (Renice cpu task nice) = search rules
+deed_itself (Begin cpu task nice slice) = search rules
+deed_itself (End cpu task) = search rules
+deed_itself (Set cpu task nice slice) = search rules
+deed_itself (Rebase cpu) = search rules
 
 answer_itself : (a : Answer) → answer.eq-value.it a a ≡ true
 answer_itself (answers.Charged task resched) = search rules
@@ -34,6 +38,10 @@ answer_itself answers.Nothing = refl
 answer_itself answers.Range = refl
 answer_itself answers.Reniced = refl
 answer_itself answers.NotHere = refl
+answer_itself answers.Begun = refl
+answer_itself answers.Ended = refl
+answer_itself answers.Set = refl
+answer_itself (answers.Rebased by) = search rules
 
 line_itself : (l : Line) → line.eq-value.it l l ≡ true
 line_itself l = rw (deed_itself l.deed, answer_itself l.answer) refl

@@ -114,6 +114,8 @@ pub fn push_deed(text: &mut Vec<u8>, deed: &Deed) -> Result<(), AllocError> {
         Deed::Renice { cpu, task, nice } => {
             push_done(text, cpu.get(), &Op::Renice(*task, *nice))
         }
+        // No version of a workload has these.
+        Deed::Begin { .. } | Deed::End { .. } | Deed::Set { .. } | Deed::Rebase { .. } => Ok(()),
         Deed::Wake { cpu, task, sender } => {
             push_number(text, cpu.get())?;
             push_with(text, b" wake ", task.get())?;

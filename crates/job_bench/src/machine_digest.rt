@@ -9,8 +9,8 @@ impl Digest {
     #[inline(always)]
     pub fn add_answer(&mut self, answer: &Answer) {
         self.add(word_of(answer));
-        if let Answer::Slept(lag) = answer {
-            self.add_signed(*lag);
+        if let Answer::Slept(number) | Answer::Rebased(number) = answer {
+            self.add_signed(*number);
         }
     }
 
@@ -37,6 +37,26 @@ impl Digest {
                 self.add_words(&[7, cpu.get(), task.get()]);
                 self.add_signed(nice.get());
             }
+            Deed::Begin {
+                cpu,
+                task,
+                nice,
+                slice,
+            } => {
+                self.add_words(&[8, cpu.get(), task.get(), slice.get()]);
+                self.add_signed(nice.get());
+            }
+            Deed::End { cpu, task } => self.add_words(&[9, cpu.get(), task.get()]),
+            Deed::Set {
+                cpu,
+                task,
+                nice,
+                slice,
+            } => {
+                self.add_words(&[10, cpu.get(), task.get(), slice.get()]);
+                self.add_signed(nice.get());
+            }
+            Deed::Rebase { cpu } => self.add_words(&[11, cpu.get()]),
         }
     }
 
@@ -67,7 +87,7 @@ impl Digest {
     }
 }
 
-/// A word for an answer, without the lag of a task that fell asleep.
+/// A word for an answer, without the lag of a task that fell asleep and the number by which virtual times are lower.
 #[inline(always)]
 fn word_of(answer: &Answer) -> u64 {
     match answer {
@@ -85,5 +105,9 @@ fn word_of(answer: &Answer) -> u64 {
         Answer::Reniced => 9,
         Answer::NotHere => 10,
         Answer::Slept(_) => 11,
+        Answer::Begun => 12,
+        Answer::Ended => 13,
+        Answer::Set => 14,
+        Answer::Rebased(_) => 15,
     }
 }
