@@ -9,7 +9,7 @@ use lib.ListN.{get_elem?}
 use base.Growing.{prefix_refl, prefix_trans}
 use Rattle.atomic_table.proofs.Lists.{at_set, at_snoc, set_else}
 use Rattle.eevdf_ops.specs.{declared.deeds.Deed.Deed, declared.deeds.Line.Line, Parts.decider, Programs.lines_by, Programs.wake_from, Programs.wakes_from}
-use Rattle.eevdf_ops.specs.declared.deeds.Deed.TheVariants.{Tick, Pick, Yield, Sleep, Wake, Pull, Renice}
+use Rattle.eevdf_ops.specs.declared.deeds.Deed.TheVariants.{Tick, Pick, Yield, Sleep, Wake, Pull, Renice, Begin, End, Set, Rebase}
 use Rattle.eevdf_fleet.specs.declared.board.claims.{PostClaim.PostClaim, View.View}
 use Rattle.eevdf_fleet.specs.declared.board.claims.PostClaim.TheVariants.{Posts, Sent}
 use Rattle.eevdf_fleet.specs.Claims.{nothing}
@@ -201,6 +201,10 @@ module _ (posted : ℕ → List (List ℕ)) (lines : List Line) (cs : List PostC
   next (Sleep cpu task) sender asked = none-more sender cpu [] refl
   next (Pull cpu source) sender asked = none-more sender cpu [] refl
   next (Renice cpu task nice) sender asked = none-more sender cpu [] refl
+  next (Begin cpu task nice slice) sender asked = none-more sender cpu [] refl
+  next (End cpu task) sender asked = none-more sender cpu [] refl
+  next (Set cpu task nice slice) sender asked = none-more sender cpu [] refl
+  next (Rebase cpu) sender asked = none-more sender cpu [] refl
   next (Wake cpu task by) sender asked =
       ⊎_elim
       (λ (same : sender ≡ by).

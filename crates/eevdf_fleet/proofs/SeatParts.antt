@@ -18,6 +18,7 @@ use Rattle.eevdf_fleet.proofs.Takes.{same-takes, more-takes, taken-of}
 pub across-no-wake : (cpu other : ℕ) (t : Transfer) → IsNoWake (deed_across cpu other t)
 across-no-wake cpu other (transfer.Sleep task) = tt
 across-no-wake cpu other transfer.Pull = tt
+across-no-wake cpu other (transfer.End task) = tt
 
 -- a line that is no wake
 pub parts-written : (cpus : ℕ) (log log' : SeatLog) (p : Posts) (t : Takes) (l : Line) → AreParts cpus log p t → IsNoWake l.deed → HasWritten log log' l → AreParts cpus log' p t

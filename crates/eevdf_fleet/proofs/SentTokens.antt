@@ -3,7 +3,7 @@ use Rattle.std.proofs.Common.{◌≡◌, inl, inr, ℕ, ◌<◌, List, [], ◌�
 use Rattle.std.specs.Prelude.{Option, Some}
 use Rattle.atomic_table.specs.{Seated.TableId, declared.badge.Badge.Badge}
 use Rattle.eevdf_ops.specs.{declared.deeds.Deed.Deed, declared.deeds.Line.Line, Parts.decider, Programs.lines_by, Programs.wakes_from}
-use Rattle.eevdf_ops.specs.declared.deeds.Deed.TheVariants.{Tick, Pick, Yield, Sleep, Wake, Pull, Renice}
+use Rattle.eevdf_ops.specs.declared.deeds.Deed.TheVariants.{Tick, Pick, Yield, Sleep, Wake, Pull, Renice, Begin, End, Set, Rebase}
 use Rattle.eevdf_fleet.specs.declared.board.claims.{Claim.Claim, PostClaim.PostClaim, Said.Said, Terms.Terms, View.View}
 use Rattle.eevdf_fleet.specs.declared.board.claims.Claim.TheVariants as claim
 use Rattle.eevdf_fleet.specs.declared.board.claims.PostClaim.TheVariants.{Sent}
@@ -62,6 +62,10 @@ asked-left own cs ds (Sleep cpu task) h = tt
 asked-left own cs ds (Wake cpu task sender) h = record { lists = h.lists; claimed = among-left _ cs ds h.claimed; are = h.are }
 asked-left own cs ds (Pull cpu source) h = tt
 asked-left own cs ds (Renice cpu task nice) h = tt
+asked-left own cs ds (Begin cpu task nice slice) h = tt
+asked-left own cs ds (End cpu task) h = tt
+asked-left own cs ds (Set cpu task nice slice) h = tt
+asked-left own cs ds (Rebase cpu) h = tt
 
 pub asked-right : (own : List Line) (cs ds : List PostClaim) (d : Deed) → IsAsked own ds d → IsAsked own (cs ++ ds) d
 asked-right own cs ds (Tick cpu ns) h = tt
@@ -71,6 +75,10 @@ asked-right own cs ds (Sleep cpu task) h = tt
 asked-right own cs ds (Wake cpu task sender) h = record { lists = h.lists; claimed = among-right _ cs ds h.claimed; are = h.are }
 asked-right own cs ds (Pull cpu source) h = tt
 asked-right own cs ds (Renice cpu task nice) h = tt
+asked-right own cs ds (Begin cpu task nice slice) h = tt
+asked-right own cs ds (End cpu task) h = tt
+asked-right own cs ds (Set cpu task nice slice) h = tt
+asked-right own cs ds (Rebase cpu) h = tt
 
 pub no-wake-asked : (own : List Line) (cs : List PostClaim) (d : Deed) → IsNoWake d → IsAsked own cs d
 no-wake-asked own cs (Tick cpu ns) h = tt
@@ -80,6 +88,10 @@ no-wake-asked own cs (Sleep cpu task) h = tt
 no-wake-asked own cs (Wake cpu task sender) h = absurd h
 no-wake-asked own cs (Pull cpu source) h = tt
 no-wake-asked own cs (Renice cpu task nice) h = tt
+no-wake-asked own cs (Begin cpu task nice slice) h = tt
+no-wake-asked own cs (End cpu task) h = tt
+no-wake-asked own cs (Set cpu task nice slice) h = tt
+no-wake-asked own cs (Rebase cpu) h = tt
 
 -- a line of the log's CPU was asked for, by a token that has the log's claims in front
 pub owes-asked : (t : Terms) (cpu : ℕ) (own queues both : List Claim) (mine asking all : List PostClaim) (s : Said) → KnowsOwn t cpu own → decider s.line.deed ≡ cpu → both ≡ own ++ queues → all ≡ mine ++ asking

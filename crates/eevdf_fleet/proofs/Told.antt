@@ -5,7 +5,7 @@ use Rattle.std.proofs.{Math.ListN.length-replicate, lemmas.List.map-append, lemm
 use Rattle.std.proofs.lemmas.List.Folds.{list_all-append}
 use Rattle.eevdf_queue.specs.State.{empty_state}
 use Rattle.eevdf_ops.specs.{declared.deeds.Deed.Deed, declared.deeds.Answer.Answer, declared.deeds.Line.Line, Setup.Setup}
-use Rattle.eevdf_ops.specs.{Setup.cpus_of, Machine.Machine, Machine.queue_at, Histories.AreHistory, Parts.decider}
+use Rattle.eevdf_ops.specs.{Setup.cpus_of, Machine.Machine, Histories.AreHistory, Parts.decider}
 use Rattle.eevdf_ops.specs.{Programs.deeds_of, Programs.lines_by}
 use Rattle.eevdf_ops.specs.Machine as machine
 use Rattle.eevdf_ops.specs.Whole.{whole, lines_of, machine_after}

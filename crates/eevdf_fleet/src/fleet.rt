@@ -4,7 +4,7 @@ ghost use Rattle.std.specs.List.{list_all};
 ghost use Rattle.eevdf_ops.specs.{Histories.IsOneThread, Machine.start, Outcome.machine_of};
 ghost use Rattle.eevdf_ops.specs.{Parts.decider, Places.IsPlaced, Programs.deeds_of};
 ghost use Rattle.eevdf_ops.specs.Programs.{lines_by};
-ghost use Rattle.eevdf_ops.specs.Setup.{allows, cpus_of, homes_of, is_task};
+ghost use Rattle.eevdf_ops.specs.Setup.{allows, cpus_of, homes_of, is_at_home, is_task};
 ghost use Rattle.eevdf_fleet.specs.Drains.{HasDrained};
 ghost use Rattle.eevdf_fleet.specs.Fleets.{AllPostsTold, AreSeats, IsLogged, fresh_seats, quota_of};
 ghost use Rattle.eevdf_fleet.specs.Fleets.{setup_of};
@@ -21,7 +21,7 @@ use crate::seat::{Seat, parts_in, seats_of};
 use crossbeam_utils::CachePadded;
 use eevdf_ops::{Answer, CpuId, Deed, Outcome};
 use eevdf_queue::TaskId;
-use eevdf_weight::{Nice, Ns};
+use eevdf_weight::{Nice, Ns, Slice};
 use std::alloc::{AllocError, Global};
 use std::marker::Model;
 use std::sync::Wait;
@@ -151,6 +151,80 @@ impl<N: Names> Fleet<N> {
         self.operate(&Call::alone(rt), seat, Deed::Pull { cpu, source })
     }
 
+    /// Lets a task that sleeps at its home, the seat's CPU, begin anew (`Deed::Begin`): it sleeps on as one that has just been
+    /// made, with the nice level, the slice and the lag 0, until a wake makes it runnable. `Awake` where it doesn't sleep there,
+    /// and nothing changes. `SeatFull` where the seat has no room.
+    pub fn begin<R: Wait>(
+        &self,
+        rt: &R,
+        seat: &mut Seat<N>,
+        task: TaskId,
+        nice: Nice,
+        slice: Slice,
+    ) -> Result<Answer, SeatFull>
+        requires { is_at_home (homes_of (setup_of N.kit)) task seat.old.cpu ≡ true }
+        ensures cases { IsLogged (Deed.Begin seat.old.cpu task nice slice)
+            seat.old seat.new result }
+        ensures full { IsErr result ↔ (seat.old.room < 1) }
+    {
+        let cpu = seat.cpu();
+        let deed = Deed::Begin {
+            cpu,
+            task,
+            nice,
+            slice,
+        };
+        self.operate(&Call::alone(rt), seat, deed)
+    }
+
+    /// Ends a task, if it is runnable on the seat's CPU, running or waiting (`Deed::End`): it is put to sleep at its home with the
+    /// lag 0, and its number may begin there again. `NotHere` changes nothing. `SeatFull` where the seat has no room.
+    pub fn end<R: Wait>(&self, rt: &R, seat: &mut Seat<N>, task: TaskId) -> Result<Answer, SeatFull>
+        requires { is_task (homes_of (setup_of N.kit)) task ≡ true }
+        ensures cases { IsLogged (Deed.End seat.old.cpu task) seat.old seat.new result }
+        ensures full { IsErr result ↔ (seat.old.room < 1) }
+    {
+        let cpu = seat.cpu();
+        self.operate(&Call::alone(rt), seat, Deed::End { cpu, task })
+    }
+
+    /// Gives a task another nice level and slice, if it is runnable on the seat's CPU or sleeps there (`Deed::Set`). A runnable one
+    /// joins again as at `renice`, and the request after the one that then stands is of the new slice; the lag that a sleeping one
+    /// keeps is rescaled, and cut to its new limit. `NotHere`: it is neither; `Range`: it couldn't be placed in range. Both change
+    /// nothing. `SeatFull` where the seat has no room.
+    pub fn set<R: Wait>(
+        &self,
+        rt: &R,
+        seat: &mut Seat<N>,
+        task: TaskId,
+        nice: Nice,
+        slice: Slice,
+    ) -> Result<Answer, SeatFull>
+        requires { is_task (homes_of (setup_of N.kit)) task ≡ true }
+        ensures cases { IsLogged (Deed.Set seat.old.cpu task nice slice) seat.old seat.new result }
+        ensures full { IsErr result ↔ (seat.old.room < 1) }
+    {
+        let cpu = seat.cpu();
+        let deed = Deed::Set {
+            cpu,
+            task,
+            nice,
+            slice,
+        };
+        self.operate(&Call::alone(rt), seat, deed)
+    }
+
+    /// Lowers all virtual times of the seat's CPU by one number, so that its virtual time is 0 (`Deed::Rebase`). `Rebased` has
+    /// the number; where one of them would leave the range it is 0, and nothing changes. `SeatFull` where the seat has no
+    /// room.
+    pub fn rebase<R: Wait>(&self, rt: &R, seat: &mut Seat<N>) -> Result<Answer, SeatFull>
+        ensures cases { IsLogged (Deed.Rebase seat.old.cpu) seat.old seat.new result }
+        ensures full { IsErr result ↔ (seat.old.room < 1) }
+    {
+        let cpu = seat.cpu();
+        self.operate(&Call::alone(rt), seat, Deed::Rebase { cpu })
+    }
+
     /// Takes at most one of the requests that each CPU posted to the seat's CPU, senders in ascending order, and decides
     /// each by `Deed::Wake`. Of the seat's own requests it takes the oldest; it may miss requests of other seats. `SeatFull`
     /// where the room is less than the number of CPUs, however many requests there are.
@@ -164,7 +238,7 @@ impl<N: Names> Fleet<N> {
         self.drain_by(&Call::alone(rt), seat)
     }
 
-    /// Whether the setup has a task: the condition of `sleep`, `renice` and `Seat::post`.
+    /// Whether the setup has a task: the condition of `sleep`, `renice`, `end`, `set` and `Seat::post`.
     pub fn has_task(&self, task: TaskId) -> bool
         ensures { result ≡ is_task (homes_of (setup_of N.kit)) task }
     {
@@ -176,6 +250,13 @@ impl<N: Names> Fleet<N> {
         ensures { result ≡ nat_lt cpu (cpus_of (setup_of N.kit)) }
     {
         self.queues.has_cpu(cpu)
+    }
+
+    /// Whether the setup has a task that has its home at a CPU. At that of the seat it may begin.
+    pub fn is_at_home(&self, task: TaskId, cpu: CpuId) -> bool
+        ensures { result ≡ is_at_home (homes_of (setup_of N.kit)) task cpu }
+    {
+        self.queues.is_at_home(task, cpu)
     }
 
     /// Whether the list has the seats of all CPUs, in order: the condition of `close`.

@@ -1,5 +1,5 @@
 ghost use Rattle.std.specs.Prelude.{◌≡◌, ◌≤◌, [], nat_lt, vec_capacity, IfOk};
-ghost use Rattle.eevdf_ops.specs.Setup.{cpus_of, homes_of, is_task};
+ghost use Rattle.eevdf_ops.specs.Setup.{cpus_of, homes_of, is_at_home, is_task};
 ghost use Rattle.eevdf_fleet.specs.Fleets.{all_fresh_parts, setup_of};
 
 use crate::board::NamedBoard;
@@ -10,7 +10,7 @@ use crate::opening::{Opened, open_all, open_journal, open_seats};
 use crate::reserve::Reserve;
 use crate::rings::ReturnedEnds;
 use crate::seat_parts::SeatParts;
-use eevdf_ops::CpuId;
+use eevdf_ops::{CpuId, Homes};
 use eevdf_queue::TaskId;
 use std::alloc::{AllocError, Global};
 use std::marker::Model;
@@ -127,5 +127,12 @@ impl<N: Names> RunQueues<N> {
         ensures { result ≡ nat_lt cpu (cpus_of (setup_of N.kit)) }
     {
         cpu.index() < self.locks.len()
+    }
+
+    /// Whether the setup has a task that has its home at a CPU.
+    pub(crate) fn is_at_home(&self, task: TaskId, cpu: CpuId) -> bool
+        ensures { result ≡ is_at_home (homes_of (setup_of N.kit)) task cpu }
+    {
+        Homes::Alone(&self.homes).is_at_home(task, cpu)
     }
 }

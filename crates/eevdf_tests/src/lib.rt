@@ -4,6 +4,8 @@
 #![tactic(auto)]
 
 #[cfg(test)]
+mod comings;
+#[cfg(test)]
 mod endless_calls;
 #[cfg(test)]
 mod every_interleaving;
@@ -19,5 +21,7 @@ mod one_thread_again;
 mod ready_callers;
 #[cfg(test)]
 mod same_end;
+#[cfg(test)]
+mod tasks_come_and_go;
 #[cfg(test)]
 mod threads;

@@ -1,6 +1,6 @@
 ghost use Rattle.std.specs.Prelude.{◌≡◌, ◌≢◌, ◌<◌, ◌≤◌, ◌↔◌, ◌+◌, length, nat_lt, vec_capacity, IfOk, IsTrue, map, true};
 ghost use Rattle.eevdf_ops.specs.{Acts.deed_at, Machine.queue_at, Outcome.machine_of, Parts.decider};
-ghost use Rattle.eevdf_ops.specs.Setup.{allows, cpus_of, homes_of, is_task};
+ghost use Rattle.eevdf_ops.specs.Setup.{allows, cpus_of, homes_of, is_at_home, is_task};
 ghost use Rattle.eevdf_fleet.specs.{Drains.IsPickedAnew, Endless.Agree, Endless.AgreeOnPosts, Endless.AreListed};
 ghost use Rattle.eevdf_fleet.specs.Endless.{AreOfOneHistory, AreSeats, HasDone, HasDrained, HasSeenMore, IsOneThread};
 ghost use Rattle.eevdf_fleet.specs.Endless.{fresh_seats, told_by};
@@ -23,7 +23,7 @@ use crate::wake_list::DrainedWake;
 use crossbeam_utils::CachePadded;
 use eevdf_ops::{Answer, CpuId, Deed, LocalAct};
 use eevdf_queue::TaskId;
-use eevdf_weight::{Nice, Ns};
+use eevdf_weight::{Nice, Ns, Slice};
 use std::alloc::{AllocError, Global};
 use std::marker::Model;
 use std::sync::Wait;
@@ -114,6 +114,61 @@ impl<N: Names> Fleet<N> {
     {
         let cpu = seat.cpu();
         self.operate(rt, seat, Deed::Pull { cpu, source })
+    }
+
+    /// Lets a task that sleeps at its home, the seat's CPU, begin anew (`Deed::Begin`): it sleeps on as one that has just been
+    /// made, with the nice level, the slice and the lag 0, until a wake makes it runnable. `Awake` where it doesn't sleep there,
+    /// and nothing changes.
+    pub fn begin<R: Wait>(
+        &self,
+        rt: &R,
+        seat: &mut Seat<N>,
+        task: TaskId,
+        nice: Nice,
+        slice: Slice,
+    ) -> Answer
+        requires { is_at_home (homes_of (setup_of N.kit)) task seat.old.cpu ≡ true }
+        ensures { HasDone (setup_of N.kit) (Deed.Begin seat.old.cpu task nice slice)
+            result seat.old seat.new }
+    {
+        self.own(rt, seat, LocalAct::Begin(task, nice, slice))
+    }
+
+    /// Ends a task, if it is runnable on the seat's CPU, running or waiting (`Deed::End`): it is put to sleep at its home with the
+    /// lag 0, and its number may begin there again. `NotHere` changes nothing.
+    pub fn end<R: Wait>(&self, rt: &R, seat: &mut Seat<N>, task: TaskId) -> Answer
+        requires { is_task (homes_of (setup_of N.kit)) task ≡ true }
+        ensures { HasDone (setup_of N.kit) (Deed.End seat.old.cpu task) result seat.old seat.new }
+    {
+        let cpu = seat.cpu();
+        self.operate(rt, seat, Deed::End { cpu, task })
+    }
+
+    /// Gives a task another nice level and slice, if it is runnable on the seat's CPU or sleeps there (`Deed::Set`). A runnable one
+    /// joins again as at `renice`, and the request after the one that then stands is of the new slice; the lag that a sleeping one
+    /// keeps is rescaled, and cut to its new limit. `NotHere`: it is neither; `Range`: it couldn't be placed in range. Both change
+    /// nothing.
+    pub fn set<R: Wait>(
+        &self,
+        rt: &R,
+        seat: &mut Seat<N>,
+        task: TaskId,
+        nice: Nice,
+        slice: Slice,
+    ) -> Answer
+        requires { is_task (homes_of (setup_of N.kit)) task ≡ true }
+        ensures { HasDone (setup_of N.kit) (Deed.Set seat.old.cpu task nice slice)
+            result seat.old seat.new }
+    {
+        self.own(rt, seat, LocalAct::Set(task, nice, slice))
+    }
+
+    /// Lowers all virtual times of the seat's CPU by one number, so that its virtual time is 0 (`Deed::Rebase`). `Rebased` has
+    /// the number; where one of them would leave the range it is 0, and nothing changes.
+    pub fn rebase<R: Wait>(&self, rt: &R, seat: &mut Seat<N>) -> Answer
+        ensures { HasDone (setup_of N.kit) (Deed.Rebase seat.old.cpu) result seat.old seat.new }
+    {
+        self.own(rt, seat, LocalAct::Rebase)
     }
 
     /// Takes at most one of the requests that each CPU posted to the seat's CPU, senders in ascending order, and decides
@@ -267,7 +322,7 @@ impl<N: Names> Fleet<N> {
         self.queues.cpus()
     }
 
-    /// Whether the setup has a task: the condition of `sleep`, `renice` and `Seat::post`.
+    /// Whether the setup has a task: the condition of `sleep`, `renice`, `end`, `set` and `Seat::post`.
     pub fn has_task(&self, task: TaskId) -> bool
         ensures { result ≡ is_task (homes_of (setup_of N.kit)) task }
     {
@@ -279,6 +334,13 @@ impl<N: Names> Fleet<N> {
         ensures { result ≡ nat_lt cpu (cpus_of (setup_of N.kit)) }
     {
         self.queues.has_cpu(cpu)
+    }
+
+    /// Whether the setup has a task that has its home at a CPU. At that of the seat it may begin.
+    pub fn is_at_home(&self, task: TaskId, cpu: CpuId) -> bool
+        ensures { result ≡ is_at_home (homes_of (setup_of N.kit)) task cpu }
+    {
+        self.queues.is_at_home(task, cpu)
     }
 
     /// Whether the list has the seats of all CPUs, in order: the condition of `close`.

@@ -1,0 +1,126 @@
+//! The calls of a fleet that keeps its history.
+
+ghost use Rattle.std.specs.Prelude.{◌≡◌};
+
+use super::cases::CASES;
+use super::{Case, Coming, stands_in, three_tasks};
+use crate::endless_calls::came::{Came, text_of};
+use crate::fixtures::{cpu, task};
+use crate::fleet_calls::kit_of;
+use eevdf_fleet::{Fleet, Kit, Names, Operated, Refused, Seat, SeatFull};
+use eevdf_queue::TaskId;
+use eevdf_weight::{Nice, Slice};
+use std::alloc::Global;
+use std::marker::Brand;
+use std::process::Abort;
+use std::sync::Wait;
+
+/// Makes a call. `None` where its numbers are out of range, or the setup has no such task there.
+fn came<N: Names, R: Wait>(
+    rt: &R,
+    fleet: &Fleet<N>,
+    seat: &mut Seat<N>,
+    coming: Coming,
+) -> Option<Came> {
+    let answered = match coming {
+        Coming::Begin(number, level, ns) => {
+            let task = TaskId::new(number)?;
+            if !fleet.is_at_home(task, seat.cpu()) {
+                return None;
+            }
+            fleet.begin(rt, seat, task, Nice::new(level)?, Slice::new(ns)?)
+        }
+        Coming::End(number) => {
+            let task = TaskId::new(number)?;
+            if !fleet.has_task(task) {
+                return None;
+            }
+            fleet.end(rt, seat, task)
+        }
+        Coming::Set(number, level, ns) => {
+            let task = TaskId::new(number)?;
+            if !fleet.has_task(task) {
+                return None;
+            }
+            fleet.set(rt, seat, task, Nice::new(level)?, Slice::new(ns)?)
+        }
+        Coming::Rebase => fleet.rebase(rt, seat),
+        Coming::Other(call) => return Some(fleet.try_operate(rt, seat, call.operation()?)),
+    };
+    Some(match answered {
+        Ok(answer) => Ok(Operated::Answer(answer)),
+        Err(SeatFull) => Err(Refused::SeatFull),
+    })
+}
+
+/// Whether an answer is that of the seat's last line.
+fn is_logged<N: Names>(seat: &Seat<N>, came: &Came) -> bool {
+    match came {
+        Ok(Operated::Answer(answer)) => match seat.log().last() {
+            Some(line) => line.answer == *answer,
+            None => false,
+        },
+        _ => true,
+    }
+}
+
+/// Makes the calls of a case on a fleet of this kit, and closes it.
+fn make_calls<N: Names, R: Wait + Abort>(rt: &R, alloc: Global, kit: Kit, case: &Case)
+    requires { kit ≡ N.kit }
+{
+    let (fleet, mut seats) = Fleet::<N>::open(alloc, kit).expect(rt, "memory");
+    for (caller, coming, text) in case.calls {
+        let seat = seats.get_mut(*caller).expect(rt, "seat");
+        let came = came(rt, &fleet, seat, *coming).expect(rt, "call");
+        let printed = text_of(rt, alloc, &came);
+        assert!(rt;
+            printed.as_str() == *text && is_logged(seat, &came),
+            "{}: {text}",
+            case.name
+        );
+    }
+    assert!(rt; fleet.has_all_seats(&seats));
+    let closed = fleet.close(seats);
+    for (cpu, wanted) in case.queues.iter().enumerate() {
+        assert!(rt;
+            cpu < closed.cpus() && stands_in(rt, closed.queue(cpu)) == *wanted,
+            "{}: CPU {cpu}",
+            case.name
+        );
+    }
+}
+
+#[test]
+fn tasks_come_and_go(rt: HostRuntime) {
+    let setup = three_tasks(&rt, rt.alloc());
+    for case in &CASES {
+        let kit = kit_of(&rt, rt.alloc(), &setup, 20, 1);
+        make_calls::<Brand, _>(&rt, rt.alloc(), kit, case);
+    }
+}
+
+/// Makes each of the calls on a seat without room.
+fn are_refused<N: Names, R: Wait + Abort>(rt: &R, alloc: Global, kit: Kit) -> bool
+    requires { kit ≡ N.kit }
+{
+    let (fleet, mut seats) = Fleet::<N>::open(alloc, kit).expect(rt, "memory");
+    let seat = seats.get_mut(0).expect(rt, "seat");
+    for coming in [
+        Coming::Begin(2, 5, 1_000_000),
+        Coming::End(0),
+        Coming::Set(2, 5, 1_000_000),
+        Coming::Rebase,
+    ] {
+        if came(rt, &fleet, seat, coming) != Some(Err(Refused::SeatFull)) {
+            return false;
+        }
+    }
+    !fleet.is_at_home(task(rt, 2), cpu(rt, 1)) && !fleet.is_at_home(task(rt, 3), cpu(rt, 0))
+}
+
+#[test]
+fn a_seat_without_room_lets_none_come_or_go(rt: HostRuntime) {
+    let setup = three_tasks(&rt, rt.alloc());
+    let kit = kit_of(&rt, rt.alloc(), &setup, 0, 1);
+    assert!(rt; are_refused::<Brand, _>(&rt, rt.alloc(), kit));
+}
