@@ -4,3 +4,4 @@ pub mod MeaningSteps
 pub mod Meaning
 pub mod MeaningLaws
 pub mod FaultTexts
+pub mod Places

@@ -6,19 +6,21 @@ ghost use Rattle.toml.specs.View.{table_view};
 
 mod argument_words;
 mod deed_text;
-mod document_keys;
-mod level_text;
+pub(crate) mod document_keys;
+pub(crate) mod level_text;
 mod lists;
-mod number_text;
+pub(crate) mod number_text;
 mod operation_text;
 mod task_table;
-mod verb_text;
+pub(crate) mod unread;
+pub(crate) mod verb_text;
 mod word_list;
 
 use crate::load_fault::{Key, LoadFault};
 use crate::reading::document_keys::version;
 use crate::reading::lists::{order, programs, script};
 use crate::reading::task_table::tasks;
+use crate::reading::unread::has_unread_keys;
 use crate::version::Limits;
 use crate::workload::Workload;
 use eevdf_ops::{Deed, Op, Setup, SetupFault, TaskSpec};
@@ -39,7 +41,7 @@ pub fn read_workload(alloc: Global, bytes: &[u8]) -> Result<Workload, LoadFault>
 }
 
 #[tactic(auto, unfolding(crate::specs::Meaning::document_of))]
-fn document_of(alloc: Global, bytes: &[u8]) -> Result<Table, LoadFault>
+pub(crate) fn document_of(alloc: Global, bytes: &[u8]) -> Result<Table, LoadFault>
     ensures { Reads (λ t. table_view t) (document_of bytes.now) result }
 {
     match toml::table_from_slice(alloc, bytes) {
@@ -66,11 +68,12 @@ fn workload_in(alloc: Global, limits: Limits, document: Table) -> Result<Workloa
     let tasks = tasks(alloc, limits, &document)?;
     let programs = programs(alloc, limits, &document)?;
     let script = script(alloc, limits, &document);
+    let has_unread_keys = has_unread_keys(&document);
     let order = order(alloc, document)?;
     let script = script?;
     let setup = setup_of(alloc, limits, &tasks, &programs)?;
     check_script(&setup, &script)?;
-    Ok(Workload::new(setup, order, script))
+    Ok(Workload::new(setup, order, script, has_unread_keys))
 }
 
 #[tactic(auto, unfolding(crate::specs::Meaning::setup_of))]

@@ -11,6 +11,7 @@ pub struct Workload {
     setup: Setup,
     order: Option<Vec<usize>>,
     script: Option<Vec<Deed>>,
+    has_unread_keys: bool,
 }
 
 impl Model for Workload {
@@ -44,11 +45,12 @@ impl Workload {
     /// A script has at most so many deeds, in version 1.
     pub const MOST_DEEDS_IN_VERSION_ONE: usize = 160_000;
 
-    /// A workload of this setup, this order and this script.
+    /// A workload of this setup, this order and this script. Whether its text had other keys, too, is no part of what it means.
     pub(crate) fn new(
         setup: Setup,
         order: Option<Vec<usize>>,
         script: Option<Vec<Deed>>,
+        has_unread_keys: bool,
     ) -> Workload
         requires { allowed setup (option_map (λ ds. ds.items) script) ≡ Ok tt }
         ensures { result ≡ record {
@@ -61,6 +63,7 @@ impl Workload {
             setup,
             order,
             script,
+            has_unread_keys,
         }
     }
 
@@ -84,5 +87,10 @@ impl Workload {
         ensures allowed { allowed self.now.setup self.now.script ≡ Ok tt }
     {
         self.script.as_deref()
+    }
+
+    /// Whether its text has a key that nothing reads, which `unread_keys` tells.
+    pub fn has_unread_keys(&self) -> bool {
+        self.has_unread_keys
     }
 }
