@@ -3,7 +3,6 @@
 import re
 from dataclasses import dataclass
 
-from plain.bench import answer, fault_line, order_refusal
 from plain.fault import Fault
 from plain.limits import BYTES, VERSIONS
 from plain.machine import is_allowed
@@ -11,6 +10,7 @@ from plain.made_order import made_order, ordered_text
 from plain.report import report
 from plain.runs import run
 from plain.words import deed_of
+from plain.workbench import answer, fault_line, order_refusal
 from plain.workload import read_workload
 from put_back import with_script, without_requests
 from runner import Printed
@@ -97,10 +97,10 @@ BENCH_USAGE = Printed(b"usage: eevdf solo|replay|run [--history]\n", 2)
 ORDERS_USAGE = Printed(b"usage: eevdf_orders [--seed N]\n", 2)
 OTHER_WORDS = (
     ("eevdf", ()), ("eevdf", ("stop",)), ("eevdf", ("Solo",)), ("eevdf", ("",)), ("eevdf", ("help",)),
-    ("eevdf", ("--help",)), ("eevdf", ("solo", "--help")), ("eevdf", ("--history",)), ("eevdf", ("--history", "solo")),
+    ("eevdf", ("--helps",)), ("eevdf", ("solo", "--helps")), ("eevdf", ("--history",)), ("eevdf", ("--history", "solo")),
     ("eevdf", ("solo", "replay")), ("eevdf", ("solo", "--histories")),
     ("eevdf", ("solo", b"\xff")), ("eevdf", ("replay", "file")), ("eevdf", ("run", "1")),
-    ("eevdf_orders", ("7",)), ("eevdf_orders", ("--help",)), ("eevdf_orders", ("--seed",)), ("eevdf_orders", ("--seed", "")),
+    ("eevdf_orders", ("7",)), ("eevdf_orders", ("--helps",)), ("eevdf_orders", ("--seed",)), ("eevdf_orders", ("--seed", "")),
     ("eevdf_orders", ("--seed", "-1")), ("eevdf_orders", ("--seed", "1.0")), ("eevdf_orders", ("--seed", "x")),
     ("eevdf_orders", ("--seed", "++1")), ("eevdf_orders", ("--seed", "18446744073709551616")),
 )

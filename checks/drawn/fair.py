@@ -18,8 +18,8 @@ sys.dont_write_bytecode = True
 sys.path.append(str(Path(__file__).resolve().parents[1]))
 from bounds import NEVER_MET, Seen, after_join, ahead, apart, behind, fair, has_passed, healed, joins, punctual, shares
 from draw.machines import level, slice_length
-from plain.bench import answer
 from plain.numbers import BOUND, charge_of, weight_of
+from plain.workbench import answer
 from runner import Programs
 
 EXAMPLES = Path(__file__).resolve().parent.parent / "cases/fair"

@@ -18,7 +18,7 @@ from functools import partial
 from pathlib import Path
 
 from draw.cases import draw
-from plain.bench import answer
+from plain.workbench import answer
 
 CHECKS = Path(__file__).resolve().parents[1]
 sys.path += [str(CHECKS), str(CHECKS / "wrong_bodies"), str(CHECKS.parent / "tools")]

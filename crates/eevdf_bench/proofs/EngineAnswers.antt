@@ -7,9 +7,9 @@ use Rattle.eevdf_ops.specs.{Setup.Setup, Setup.allows, declared.deeds.Deed.Deed}
 use Rattle.eevdf_workload.specs.{declared.load_fault.LoadFault.LoadFault, MeaningSteps.Reads}
 use Rattle.eevdf_workload.specs.declared.load_fault.LoadFault.TheVariants as fault
 use Rattle.eevdf_workload.specs.declared.load_fault.Key.TheVariants as key
-use Rattle.eevdf_bench.specs.{declared.bench_fault.BenchFault.BenchFault, declared.command.Command.Command}
+use Rattle.eevdf_bench.specs.{declared.workbench_fault.BenchFault.BenchFault, declared.command.Command.Command}
 use Rattle.eevdf_bench.specs.{Streams.HasBegun}
-use Rattle.eevdf_bench.specs.declared.bench_fault.BenchFault.TheVariants as bench
+use Rattle.eevdf_bench.specs.declared.workbench_fault.BenchFault.TheVariants as bench
 use Rattle.eevdf_workload.specs.Meaning.{Workload, meaning, read_limit, allowed, allowed_from}
 use Rattle.eevdf_steps.specs.declared.play_fault.PlayFault.{PlayFault}
 use Rattle.eevdf_bench.specs.Runs.{TextOrFault, Answers, Begins, IsAnswer, IsAnswerOf, IsAnswerTo, IsInside, Makes, Refuses, Writes}

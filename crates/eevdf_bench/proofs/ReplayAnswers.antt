@@ -9,13 +9,13 @@ use Rattle.eevdf_steps.specs.{Commits.deeds_committed, declared.step_fault.StepF
 use Rattle.eevdf_steps.specs.{declared.play_fault.PlayFault.PlayFault, Plan.Plan, Plan.plan_of, MicroState.micro, Plays.IsOutcome}
 use Rattle.eevdf_steps.specs.Plays.{IsPlay}
 use Rattle.eevdf_bench.specs.{declared.command.Kind.TheVariants.Replay, Reports.IsReport}
-use Rattle.eevdf_bench.specs.declared.bench_fault.BenchFault.{BenchFault}
+use Rattle.eevdf_bench.specs.declared.workbench_fault.BenchFault.{BenchFault}
 use Rattle.eevdf_bench.proofs.{OwnDeeds.own_deeds, LeftLists.all_left}
 use Rattle.eevdf_steps.specs.declared.step_fault.StepFault.TheVariants as step
 use Rattle.eevdf_steps.specs.declared.play_fault.PlayFault.TheVariants.{TooLong, Memory, Short}
 use Rattle.eevdf_steps.specs.Counters.{Counters, counted, refusal, unfinished}
 use Rattle.eevdf_steps.specs.Orders.{IsWhole, counters_at_start, fault_or, most_places, order_fault, play_fault}
-use Rattle.eevdf_bench.specs.declared.bench_fault.BenchFault.TheVariants as bench
+use Rattle.eevdf_bench.specs.declared.workbench_fault.BenchFault.TheVariants as bench
 use Rattle.eevdf_workload.specs.Meaning.{Workload}
 use Rattle.eevdf_bench.specs.Runs.{IsFault, Makes, order_report, play_refusal, replay_report, state_report, text_unless}
 use Rattle.eevdf_report.specs.TextReport.{report_text}

@@ -5,3 +5,4 @@ pub mod Command
 pub mod WordsPrinted
 pub mod Reports
 pub mod Runs
+pub mod ProgramWords

@@ -9,12 +9,12 @@ use Rattle.eevdf_steps.specs.{declared.play_fault.PlayFault.PlayFault, Plan.plan
 use Rattle.eevdf_steps.specs.{MicroState.MicroState, MicroState.micro}
 use Rattle.eevdf_steps.specs.declared.play_fault.PlayFault.TheVariants.{TooLong, Memory as NoRoom}
 use Rattle.eevdf_bench.specs.{declared.command.Command.Command, declared.command.Kind.Kind}
-use Rattle.eevdf_bench.specs.{declared.bench_fault.BenchFault.BenchFault, Reports.IsReport, Streams.HasBegun}
+use Rattle.eevdf_bench.specs.{declared.workbench_fault.BenchFault.BenchFault, Reports.IsReport, Streams.HasBegun}
 use Rattle.eevdf_bench.specs.declared.command.Kind.TheVariants.{Solo, Replay, Run}
 use Rattle.eevdf_workload.specs.{declared.load_fault.Key.TheVariants.Orders, declared.load_fault.Key.TheVariants.Scripts}
 use Rattle.eevdf_workload.specs.{declared.load_fault.LoadFault.LoadFault, Meaning.Workload, Meaning.meaning}
 use Rattle.eevdf_workload.specs.declared.load_fault.LoadFault.TheVariants.{Missing, Memory as NoMemory}
-use Rattle.eevdf_bench.specs.declared.bench_fault.BenchFault.TheVariants.{Load, Play, Run as NotRun, Read, Write, Memory}
+use Rattle.eevdf_bench.specs.declared.workbench_fault.BenchFault.TheVariants.{Load, Play, Run as NotRun, Read, Write, Memory}
 use Rattle.eevdf_report.specs.TextReport.{report_text}
 
 -- a text, or why there is none

@@ -3,7 +3,7 @@ use Rattle.std.specs.Prelude.{◌≡◌, ◌≢◌, ◌<◌, ◌≤◌, ◌-◌,
 use Rattle.std.specs.Prelude.{Result, Err, IfOk, OnOk, IfErr}
 use Rattle.std.specs.Io.KnownBytes.{Appends, Consumes, IsAtEnd}
 use Rattle.eevdf_workload.specs.Meaning.{read_limit}
-use Rattle.eevdf_bench.specs.declared.bench_fault.BenchFault.{BenchFault, TheVariants.Read, TheVariants.Memory}
+use Rattle.eevdf_bench.specs.declared.workbench_fault.BenchFault.{BenchFault, TheVariants.Read, TheVariants.Memory}
 
 -- a piece of n bytes went from the reader onto the input, an empty one only at the end
 pub record ReadsOn (left left' : Option (List ℕ)) (input input' : List ℕ) (n : ℕ) : Type 0 where

@@ -4,8 +4,8 @@ use Rattle.eevdf_ops.specs.declared.setup_fault.SetupFault.{SetupFault}
 use Rattle.eevdf_ops.specs.declared.setup_fault.SetupFault.TheVariants as setup
 use Rattle.eevdf_workload.specs.{FaultTexts.load_fault_text, declared.load_fault.LoadFault.LoadFault}
 use Rattle.eevdf_workload.specs.declared.load_fault.LoadFault.TheVariants as load
-use Rattle.eevdf_bench.specs.declared.bench_fault.BenchFault.{BenchFault}
-use Rattle.eevdf_bench.specs.declared.bench_fault.BenchFault.TheVariants as bench
+use Rattle.eevdf_bench.specs.declared.workbench_fault.BenchFault.{BenchFault}
+use Rattle.eevdf_bench.specs.declared.workbench_fault.BenchFault.TheVariants as bench
 use Rattle.eevdf_steps.specs.{Texts.play_fault_text, declared.play_fault.PlayFault.PlayFault}
 use Rattle.eevdf_steps.specs.declared.play_fault.PlayFault.TheVariants as play
 use Rattle.eevdf_fleet.specs.Texts.{run_fault_text}

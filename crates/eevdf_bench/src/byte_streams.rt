@@ -5,8 +5,8 @@ ghost use Rattle.std.specs.Io.KnownBytes.{Appends, Keeps};
 ghost use Rattle.eevdf_bench.specs.Streams.{ReadsPiece, ReadsTo, ReadsWithin, HasBegun};
 ghost use Rattle.eevdf_workload.specs.Meaning.{read_limit};
 
-use crate::bench_fault::BenchFault;
 use crate::watched::Watched;
+use crate::workbench_fault::BenchFault;
 use eevdf_workload::Workload;
 use std::alloc::Global;
 use std::io::{Read, Write};

@@ -2,7 +2,7 @@ ghost use Rattle.std.specs.Prelude.{◌≡◌, IfOk, string_bytes};
 ghost use Rattle.eevdf_workload.specs.FaultTexts as workload_texts;
 ghost use Rattle.eevdf_bench.specs.TextFault as texts;
 
-use crate::bench_fault::BenchFault;
+use crate::workbench_fault::BenchFault;
 use eevdf_ops::SetupFault;
 use eevdf_steps::PlayFault;
 use eevdf_workload::{LoadFault, Workload};

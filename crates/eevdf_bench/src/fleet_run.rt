@@ -3,8 +3,8 @@
 ghost use Rattle.std.specs.Prelude.{◌≡◌, ◌⊎◌, IfOk, IfErr};
 ghost use Rattle.eevdf_bench.specs.Reports.{IsReport};
 
-use crate::bench_fault::BenchFault;
 use crate::command::Kind;
+use crate::workbench_fault::BenchFault;
 use eevdf_fleet::{OpenGate, RunFault, run_all};
 use eevdf_report::report;
 use eevdf_workload::Workload;

@@ -4,25 +4,33 @@
 //! them is exported here too.
 #![tactic(auto)]
 
-mod bench_engine;
-mod bench_fault;
 mod byte_streams;
 mod command;
+mod explained_faults;
 mod fault_texts;
 mod fleet_run;
+mod piped;
+mod program_words;
 pub mod reading_laws;
 mod replay_run;
 mod solo_run;
 mod watched;
+mod workbench_engine;
+mod workbench_fault;
+mod workload_text;
 
-pub use bench_engine::engine;
-pub use bench_fault::BenchFault;
 pub use byte_streams::{read_input, write_text};
 pub use command::{Command, Kind, WordFault, command_of};
 pub use eevdf_report::report;
-pub use eevdf_workload::{Key, LoadFault, Version, Workload, read_workload};
+pub use eevdf_workload::{Key, LoadFault, Version, Workload, read_workload, told_word};
+pub use explained_faults::{fault_explanation, unread_keys_text};
 pub use fault_texts::{fault_text, status_of};
 pub use fleet_run::run_text;
+pub use piped::Piped;
+pub use program_words::{asks_for, may_name_file};
 pub use replay_run::replay_text;
 pub use solo_run::solo_text;
 pub use watched::Watched;
+pub use workbench_engine::{engine, engine_with_input};
+pub use workbench_fault::BenchFault;
+pub use workload_text::WorkloadText;

@@ -4,8 +4,8 @@ ghost use Rattle.std.specs.Prelude.{IfOk};
 ghost use Rattle.eevdf_bench.specs.Reports.{IsReport};
 ghost use Rattle.eevdf_bench.specs.Runs.{Makes, replay_report};
 
-use crate::bench_fault::BenchFault;
 use crate::command::Kind;
+use crate::workbench_fault::BenchFault;
 use eevdf_report::report;
 use eevdf_steps::play;
 use eevdf_workload::{Key, LoadFault, Workload};

@@ -3,8 +3,8 @@
 ghost use Rattle.std.specs.Prelude.{IfOk};
 ghost use Rattle.eevdf_bench.specs.{Reports.IsReport, Runs.Makes, Runs.solo_report};
 
-use crate::bench_fault::BenchFault;
 use crate::command::Kind;
+use crate::workbench_fault::BenchFault;
 use eevdf_ops::one_thread::solo;
 use eevdf_report::report;
 use eevdf_workload::{Key, LoadFault, Workload};

@@ -1,18 +1,19 @@
 //! From the bytes of a workload to the bytes of its report.
 
-ghost use Rattle.std.specs.Prelude.{◌≡◌, ◌≢◌, true, false, IfOk, IfErr, IfSome, OnOk, Err};
+ghost use Rattle.std.specs.Prelude.{◌≡◌, ◌≢◌, true, false, IfOk, IfErr, IfSome, OnOk, Err, take};
 ghost use Rattle.eevdf_bench.specs.Reports.{IsReport, IsReportOf, WritesReport};
 ghost use Rattle.eevdf_bench.specs.Runs.{Answers, Begins, IsAnswer, IsAnswerOf, Refuses, Writes};
 ghost use Rattle.eevdf_bench.specs.Streams.{ReadsTo, ReadsWithin};
 ghost use Rattle.eevdf_workload.specs.Meaning.{read_limit};
 
-use crate::bench_fault::BenchFault;
 use crate::byte_streams::{read_input, write_text};
 use crate::command::{Command, Kind};
 use crate::fleet_run::run_text;
 use crate::replay_run::replay_text;
 use crate::solo_run::solo_text;
 use crate::watched::Watched;
+use crate::workbench_fault::BenchFault;
+use crate::workload_text::WorkloadText;
 use eevdf_fleet::RunFault;
 use eevdf_workload::{Workload, read_workload};
 use std::alloc::Global;
@@ -62,20 +63,62 @@ pub fn engine<T: Threads + Wait + Sync, R: Read, W: Write>(
     ensures write { result ≡ Err BenchFault.Write → writer.new.failed ≡ true }
     ensures unwritten { IfErr result (λ f. f ≢ BenchFault.Write → writer.new ≡ writer.old) }
 {
-    let input = read_input(alloc, reader)?;
-    let text = match answer(rt, alloc, &input, command) {
+    let mut input = WorkloadText::new(alloc);
+    engine_with_input(rt, alloc, reader, writer, command, &mut input)
+}
+
+/// As `engine`, and leaves in `input` the bytes that it has read. After `Read` and `Memory` they may be others. Where the workload isn't
+/// refused, `input` also says whether it has a key that nothing reads, which follows from no clause.
+pub fn engine_with_input<T: Threads + Wait + Sync, R: Read, W: Write>(
+    rt: &T,
+    alloc: Global,
+    reader: &mut Watched<R>,
+    writer: &mut Watched<W>,
+    command: Command,
+    input: &mut WorkloadText,
+) -> Result<(), BenchFault>
+    requires reader { reader.old.failed ≡ false }
+    requires writer { writer.old.failed ≡ false }
+    ensures report { OnOk result (IfSome (R.remaining reader.old.end) (λ input.
+        Writes (IsAnswerOf command input) (W.contents writer.old.end) (W.contents writer.new.end))) }
+    ensures one_thread { OnOk result (IfSome (R.remaining reader.old.end) (λ input.
+        WritesReport command input (W.contents writer.old.end) (W.contents writer.new.end))) }
+    ensures refused { IfErr result (λ f. IfSome (R.remaining reader.old.end) (λ input.
+        Refuses (IsAnswerOf command input) f)) }
+    ensures thread { result ≡ Err (BenchFault.Run RunFault.Start) → command.kind ≡ Kind.Run }
+    ensures begun { result ≡ Err BenchFault.Write → IfSome (R.remaining reader.old.end) (λ input.
+        Begins (IsAnswerOf command input) writer.new.flush_failed (W.contents writer.old.end) (W.contents writer.new.end)) }
+    ensures consumed { result ≢ Err BenchFault.Read → result ≢ Err BenchFault.Memory →
+        ReadsTo read_limit (R.remaining reader.old.end) (R.remaining reader.new.end) }
+    ensures limit { ReadsWithin read_limit
+        (R.remaining reader.old.end) (R.remaining reader.new.end) }
+    ensures read_whole { OnOk result (reader.new.failed ≡ false) }
+    ensures written_whole { OnOk result (writer.new.failed ≡ false) }
+    ensures flushed { OnOk result (writer.new.flushed ≡ true) }
+    ensures read { result ≡ Err BenchFault.Read → reader.new.failed ≡ true }
+    ensures unfailed { IfErr result (λ f. f ≢ BenchFault.Read → reader.new.failed ≡ false) }
+    ensures write { result ≡ Err BenchFault.Write → writer.new.failed ≡ true }
+    ensures unwritten { IfErr result (λ f. f ≢ BenchFault.Write → writer.new ≡ writer.old) }
+    ensures kept { result ≢ Err BenchFault.Read → result ≢ Err BenchFault.Memory →
+        IfSome (R.remaining reader.old.end) (λ all. input.new.bytes.items ≡ take read_limit all) }
+{
+    let bytes = read_input(alloc, reader)?;
+    let answer = answer(rt, alloc, &bytes, command, &mut input.has_unread_keys);
+    input.bytes = bytes;
+    let text = match answer {
         Ok(text) => text,
         Err(fault) => return Err(fault),
     };
     write_text(writer, &text)
 }
 
-/// The text of the report that a command makes of the bytes of a workload.
+/// The text of the report that a command makes of the bytes of a workload. It tells whether they have a key that nothing reads.
 fn answer<T: Threads + Wait + Sync>(
     rt: &T,
     alloc: Global,
     input: &[u8],
     command: Command,
+    has_unread_keys: &mut bool,
 ) -> Result<Vec<u8>, BenchFault>
     ensures answer { Answers (IsAnswerOf command input.now) result }
     ensures thread { result ≡ Err (BenchFault.Run RunFault.Start) → command.kind ≡ Kind.Run }
@@ -85,6 +128,7 @@ fn answer<T: Threads + Wait + Sync>(
         Ok(workload) => workload,
         Err(fault) => return Err(BenchFault::Load(fault)),
     };
+    *has_unread_keys = workload.has_unread_keys();
     text_of(rt, alloc, &workload, command)
 }
 

@@ -1,5 +1,5 @@
 ghost use Rattle.std.specs.Prelude.{◌≡◌};
-ghost use Rattle.eevdf_bench.specs.declared.bench_fault.BenchFault.TheVariants.{Memory};
+ghost use Rattle.eevdf_bench.specs.declared.workbench_fault.BenchFault.TheVariants.{Memory};
 ghost use Rattle.eevdf_bench.specs.Runs.{play_refusal, run_refusal};
 
 use eevdf_fleet::RunFault;

@@ -1,5 +1,5 @@
 use Rattle.eevdf_bench.proofs.EngineAnswers.{refused, answered, reported}
-use Rattle.eevdf_bench.proofs.bench_engine.answer.Goals as goal
+use Rattle.eevdf_bench.proofs.workbench_engine.answer.Goals as goal
 
 pub returns-in-Err-clause-answer : goal.returns-in-Err-clause-answer
 returns-in-Err-clause-answer g c = refused c.args.command c.args.input.now c.in-Err.fault c.in-Err.ensures
