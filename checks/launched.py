@@ -18,7 +18,7 @@ WORKLOAD = TOP / "examples" / "two-tasks.toml"
 REPORT = stored(WORKLOAD.with_suffix(".out")).out
 USAGE = re.search(r"`(usage: eevdf [^`]*)`", (TOP / "docs" / "formats.md").read_text())[1].encode()
 FIRST_LINE = REPORT.partition(b"\n")[0]
-CANT_READ = b"fault: reading"
+CANT_READ, CANT_WRITE = b"fault: reading", b"fault: writing\n"
 
 # What ./eevdf consists of where it is built.
 LAUNCHER = ("crates.txt", "eevdf", "tools/launch", "tools/current")
@@ -40,8 +40,8 @@ CASES = (
     Case("solo", "", 0, FIRST_LINE, b""),
     Case("solo", "</", 3, CANT_READ),
     Case("solo", "<&-", 3, CANT_READ),
-    Case("solo", ">/dev/full", 3, b""),
-    Case("solo", ">&-", 3, b""),
+    Case("solo", ">/dev/full", 3, b"", CANT_WRITE),
+    Case("solo", ">&-", 3, b"", CANT_WRITE),
     Case("solo", "2>&-", 0, FIRST_LINE),
     Case("solo", "2>/dev/full", 0, FIRST_LINE),
     Case("solo", "<&- 2>&-", 3, CANT_READ),

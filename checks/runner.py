@@ -9,7 +9,7 @@ import sys
 import tempfile
 import threading
 import time
-from dataclasses import dataclass, field
+from dataclasses import dataclass, field, replace
 from functools import partial
 from pathlib import Path
 
@@ -80,6 +80,20 @@ def run(words, data=b"", seconds=PATIENCE, limits=None, stdin=None, stdout=None,
         return Printed(out.read(), status, said, wall, used.ru_utime + used.ru_stime, used.ru_maxrss * 1024)
 
 
+# The programs that explain a fault on standard error, behind its line, and whether that line stands there too. Where there is no fault they
+# tell of keys that nothing reads. checks/faults/ looks at what they say; elsewhere it is left out.
+EXPLAINING = {"eevdf": False, "eevdf_orders": True, "eevdf_timeline": True}
+
+
+def without_explanation(name, printed):
+    """What a program printed, but for what it said beside the line of a fault."""
+    if name not in EXPLAINING or printed.status not in (0, 1, 2, 3):
+        return printed
+    has_line = EXPLAINING[name] and printed.status != 0
+    line = b"".join(printed.errors.partition(b"\n")[:2])
+    return replace(printed, errors=line if has_line else b"")
+
+
 class Programs:
     """The built programs of a checkout."""
 
@@ -90,7 +104,8 @@ class Programs:
         return self.top / "crates" / name / "out" / name
 
     def run(self, name, words, data=b"", **more):
-        return run([self.path(name), *words], data, **more)
+        """Runs a program, and leaves out what it says beside the line of a fault."""
+        return without_explanation(name, run([self.path(name), *words], data, **more))
 
 
 def built(*names):

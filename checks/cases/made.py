@@ -150,7 +150,7 @@ asleep = true
 
 # Words that eevdf_orders doesn't take. The first number is one past the greatest seed.
 NO_SEEDS = (
-    "--seed 18446744073709551616", "7", "--seed", "--seed x", "--seed -1", "--seed 1.5", "--seed 1 --seed 2", "--help", "help",
+    "--seed 18446744073709551616", "7", "--seed", "--seed x", "--seed -1", "--seed 1.5", "--seed 1 --seed 2", "--helps", "help",
 )
 
 

@@ -21,10 +21,10 @@ from figures import check_json, check_rows, check_table
 from large import check_large
 from model import Timeline
 from pictured import check_picture, check_unknown
-from plain.bench import replay
 from plain.fault import Fault
 from plain.made_order import made_order
 from plain.steps import play
+from plain.workbench import replay
 from plain.workload import read_workload
 from program import SOURCES, Pictures, is_well, stored_workloads
 from refusals import check_refusals

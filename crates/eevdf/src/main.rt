@@ -1,63 +1,197 @@
-//! The workbench as a program: `eevdf solo`, `eevdf replay` and `eevdf run` read a workload from standard input and print
-//! each CPU's schedule, or one line that says why not.
+//! The workbench as a program: `eevdf solo`, `eevdf replay` and `eevdf run` read a workload from a file or from standard input and
+//! print each CPU's schedule, or one line that says why not. Standard error says more of that: where in the workload, and what was
+//! expected.
 #![tactic(auto)]
 
+mod help;
+
+use crate::help::{HELP, USAGE, VERSION};
 use eevdf_bench::{
-    BenchFault, Command, Watched, WordFault, command_of, engine, fault_text, status_of,
+    BenchFault, Command, Watched, WordFault, WorkloadText, asks_for, command_of, engine_with_input,
+    fault_explanation, fault_text, may_name_file, status_of, told_word, unread_keys_text,
 };
 use std::alloc::Global;
-use std::io::{ErrorKind, Write};
+use std::fs::Files;
+use std::io::{ErrorKind, Read, Write};
 use std::process::ExitCode;
 use std::rt::Env;
 use std::sync::Wait;
 use std::thread::Threads;
-use std::{env, io};
-
-/// What is printed where the words aren't known.
-const USAGE: &[u8] = b"usage: eevdf solo|replay|run [--history]\n";
+use std::{env, fs, io};
 
 /// What is printed where there is no memory for another line.
 const NO_MEMORY: &[u8] = b"fault: memory\n";
 
+/// The words for commands, which come first, and those that may come behind.
+const COMMANDS: [&str; 3] = ["solo", "replay", "run"];
+
+const FLAGS: [&str; 1] = ["--history"];
+
 fn main(rt: HostRuntime) -> ExitCode {
     let alloc = rt.alloc();
-    ExitCode::from(match command(&rt, alloc) {
-        Ok(command) => run(&rt, alloc, command),
+    let errors = rt.stderr();
+    ExitCode::from(match given_words(&rt, alloc) {
+        Ok(words) => answer(&rt, &errors, alloc, words.as_slice()),
         Err(WordFault::Words) => print(&rt, USAGE, 2),
         Err(WordFault::Memory) => print(&rt, NO_MEMORY, 3),
     })
 }
 
-/// The command that the process's words ask for.
-fn command(rt: &(impl Env + AllocGlobal), alloc: Global) -> Result<Command, WordFault> {
+/// The process's words, of which the first is the program's name.
+fn given_words(rt: &(impl Env + AllocGlobal), alloc: Global) -> Result<Vec<String>, WordFault> {
     let arguments = match env::args(rt) {
         Ok(arguments) => arguments,
         Err(error) if error.kind() == ErrorKind::OutOfMemory => return Err(WordFault::Memory),
         Err(_) => return Err(WordFault::Words),
     };
     let words: Vec<String> = arguments.collect(alloc)?;
-    command_of(alloc, words.as_slice())
+    Ok(words)
 }
 
-/// Runs the command on standard input and output, and gives the exit status.
-fn run<R: Input + Print + Threads + Wait + Sync>(rt: &R, alloc: Global, command: Command) -> u8 {
-    let mut reader = Watched::new(rt.reader());
+/// Does what the words ask for, and gives the exit status.
+fn answer<R: Files + Input + Print + Threads + Wait + Sync>(
+    rt: &R,
+    errors: &impl Print,
+    alloc: Global,
+    words: &[String],
+) -> u8 {
+    if asks_for(words, "--help") || asks_for(words, "-h") {
+        return print(rt, HELP, 0);
+    }
+    if asks_for(words, "--version") {
+        return print(rt, VERSION, 0);
+    }
+    let (own, file) = with_file(words);
+    match command_of(alloc, own) {
+        Ok(command) => match file {
+            Some(name) => run_file(rt, errors, alloc, command, name),
+            None => run(rt, errors, alloc, command, rt.reader()),
+        },
+        Err(WordFault::Words) => refuse(rt, errors, alloc, own),
+        Err(WordFault::Memory) => print(rt, NO_MEMORY, 3),
+    }
+}
+
+/// The words, with the name of a file apart, which may be the last one behind the command.
+fn with_file(words: &[String]) -> (&[String], Option<&str>) {
+    match words {
+        [_, _, .., last] if words.len() > 2 && may_name_file(last.as_str()) => {
+            (&words[..words.len() - 1], Some(last.as_str()))
+        }
+        _ => (words, None),
+    }
+}
+
+/// Runs the command on the workload in a file.
+fn run_file<R: Files + Input + Print + Threads + Wait + Sync>(
+    rt: &R,
+    errors: &impl Print,
+    alloc: Global,
+    command: Command,
+    name: &str,
+) -> u8 {
+    match fs::open(rt, name) {
+        Ok(file) => run(rt, errors, alloc, command, file),
+        Err(error) => {
+            let status = print(rt, USAGE, 2);
+            let _ = println!(errors; "{name}: {error}");
+            status
+        }
+    }
+}
+
+/// Runs the command on the workload that a reader gives, and gives the exit status.
+fn run<R: Print + Threads + Wait + Sync, W: Read + Drop>(
+    rt: &R,
+    errors: &impl Print,
+    alloc: Global,
+    command: Command,
+    workload: W,
+) -> u8 {
+    let mut reader = Watched::new(workload);
     let mut writer = Watched::new(io::writer(rt));
-    match engine(rt, alloc, &mut reader, &mut writer, command) {
-        Ok(()) => 0,
-        Err(fault) => print_fault(rt, alloc, &fault),
+    let mut input = WorkloadText::new(alloc);
+    match engine_with_input(rt, alloc, &mut reader, &mut writer, command, &mut input) {
+        Ok(()) => {
+            tell_unread_keys(errors, alloc, &input);
+            0
+        }
+        Err(fault) => print_fault(rt, errors, alloc, &input.bytes, &fault),
     }
 }
 
-fn print_fault(rt: &impl Print, alloc: Global, fault: &BenchFault) -> u8 {
-    match fault_text(alloc, fault) {
-        Ok(line) => print(rt, line.as_slice(), status_of(fault)),
-        Err(_) => print(rt, NO_MEMORY, 3),
+/// Says which keys of the workload nothing reads, where it has any.
+fn tell_unread_keys(errors: &impl Print, alloc: Global, input: &WorkloadText) {
+    if input.has_unread_keys {
+        if let Some(text) = unread_keys_text(alloc, &input.bytes) {
+            tell(errors, text.as_bytes());
+        }
     }
 }
 
-/// Prints a line, as far as that succeeds, and gives the status.
-fn print(rt: &impl Print, line: &[u8], status: u8) -> u8 {
-    let _ = io::writer(rt).write_all(line);
+/// Prints the line of a fault, and on standard error where it stands in the workload. Where standard output takes no line, standard
+/// error has it, but for a pipe that nobody reads any more.
+fn print_fault(
+    rt: &impl Print,
+    errors: &impl Print,
+    alloc: Global,
+    input: &[u8],
+    fault: &BenchFault,
+) -> u8 {
+    let Ok(line) = fault_text(alloc, fault) else {
+        return print(rt, NO_MEMORY, 3);
+    };
+    match (io::writer(rt).write_all(&line), fault) {
+        (Err(error), _) if error.kind() == ErrorKind::BrokenPipe => {}
+        (Err(_), _) | (Ok(()), BenchFault::Write) => tell(errors, &line),
+        (Ok(()), _) => {
+            if let Some(text) = fault_explanation(alloc, input, fault) {
+                tell(errors, text.as_bytes());
+            }
+        }
+    }
+    status_of(fault)
+}
+
+/// Says which word isn't known, and how the program is called.
+fn refuse(rt: &impl Print, errors: &impl Print, alloc: Global, words: &[String]) -> u8 {
+    let status = print(rt, USAGE, 2);
+    if let Some(text) = unknown_word(alloc, words) {
+        tell(errors, text.as_bytes());
+    }
     status
+}
+
+/// Which word isn't known, where there is memory to say it.
+fn unknown_word(alloc: Global, words: &[String]) -> Option<String> {
+    let Some(command) = words.get(1) else {
+        return "no command; commands are solo, replay, run\n"
+            .to_string(alloc)
+            .ok();
+    };
+    if !COMMANDS.contains(&command.as_str()) {
+        let told = told_word(alloc, command.as_str()).ok()?;
+        return format!(in alloc; "unknown command {told}; commands are solo, replay, run\n").ok();
+    }
+    for at in 2..words.len() {
+        let word = words[at].as_str();
+        if !FLAGS.contains(&word) {
+            let told = told_word(alloc, word).ok()?;
+            return format!(in alloc;
+                "unknown word {told}; behind a command stand --history and the name of a file\n"
+            ).ok();
+        }
+    }
+    "--history stands once\n".to_string(alloc).ok()
+}
+
+/// Prints a text on standard output, as far as that succeeds, and gives the status.
+fn print(rt: &impl Print, text: &[u8], status: u8) -> u8 {
+    let _ = io::writer(rt).write_all(text);
+    status
+}
+
+/// Prints a text on standard error, as far as that succeeds.
+fn tell(errors: &impl Print, text: &[u8]) {
+    let _ = io::writer(errors).write_all(text);
 }

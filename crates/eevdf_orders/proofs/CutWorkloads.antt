@@ -5,8 +5,8 @@ use Rattle.std.specs.Prelude.{nat_lt, Option, Some, None, IfSome, Result, Ok, Er
 use Rattle.std.specs.Io.KnownBytes.{Appends}
 use Rattle.eevdf_workload.specs.{declared.load_fault.LoadFault.LoadFault, declared.load_fault.LoadFault.TheVariants.TooLarge}
 use Rattle.eevdf_workload.specs.MeaningSteps.{◌>>=◌}
-use Rattle.eevdf_bench.specs.{declared.bench_fault.BenchFault.BenchFault, Streams.HasBegun}
-use Rattle.eevdf_bench.specs.declared.bench_fault.BenchFault.TheVariants.{Load, Memory, Play, Read, Run, Write}
+use Rattle.eevdf_bench.specs.{declared.workbench_fault.BenchFault.BenchFault, Streams.HasBegun}
+use Rattle.eevdf_bench.specs.declared.workbench_fault.BenchFault.TheVariants.{Load, Memory, Play, Read, Run, Write}
 use Rattle.eevdf_workload.specs.Meaning.{Workload, document_of, meaning, most_bytes, read_limit, workload_of}
 use Rattle.eevdf_workload.proofs.InputLimit.{meaning_cut}
 use Rattle.eevdf_orders.specs.declared.print_fault.PrintFault.{PrintFault}

@@ -3,8 +3,8 @@ use Rattle.std.specs.Prelude.{◌≡◌, ◌⊎◌, ℕ, Bool, true, is_some, Li
 use Rattle.std.specs.Io.KnownBytes.{Appends}
 use Rattle.eevdf_steps.specs.{declared.play_fault.PlayFault.TheVariants.TooLong, Plan.plan_of, Orders.play_fault}
 use Rattle.eevdf_workload.specs.declared.load_fault.LoadFault.TheVariants.{Memory as NoMemory}
-use Rattle.eevdf_bench.specs.{declared.bench_fault.BenchFault.BenchFault, Streams.HasBegun}
-use Rattle.eevdf_bench.specs.declared.bench_fault.BenchFault.TheVariants.{Load, Memory, Play, Read, Run, Write}
+use Rattle.eevdf_bench.specs.{declared.workbench_fault.BenchFault.BenchFault, Streams.HasBegun}
+use Rattle.eevdf_bench.specs.declared.workbench_fault.BenchFault.TheVariants.{Load, Memory, Play, Read, Run, Write}
 use Rattle.eevdf_workload.specs.Meaning.{Workload, meaning}
 use Rattle.eevdf_orders.specs.{declared.print_fault.PrintFault.PrintFault, declared.print_fault.PrintFault.TheVariants.Bench}
 use Rattle.eevdf_orders.specs.{declared.print_fault.PrintFault.TheVariants.Ordered, CallerChoice.choice_of, ChosenOrders.IsChosen}

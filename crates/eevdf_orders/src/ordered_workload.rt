@@ -9,7 +9,7 @@ use crate::caller_choice::Choice;
 use crate::order_making::{OrderFault, order_of};
 use crate::order_text::ordered;
 use crate::print_fault::PrintFault;
-use eevdf_bench::{BenchFault, Watched, read_input, read_workload, write_text};
+use eevdf_bench::{BenchFault, Watched, WorkloadText, read_input, read_workload, write_text};
 use eevdf_steps::PlayFault;
 use eevdf_workload::Workload;
 use std::alloc::Global;
@@ -19,6 +19,8 @@ use std::io::{Read, Write};
 /// gives, or with the one in which they take turns where there is no seed. A workload that can't be read is refused with its
 /// fault, one that has an order already with `Ordered`, and one of which every order has a fault with `Play(TooLong)`.
 ///
+/// The bytes that were read are left in `input`, and whether they have a key that nothing reads.
+///
 /// No more than `Workload::MOST_BYTES + 1` bytes are read. The fault `Read` comes exactly where the reader failed, `Write`
 /// exactly where the writer did. The writer isn't called before the whole order is made: after `Write` a beginning was written,
 /// the whole where it was the flush that failed, and after any other fault the writer is as it was.
@@ -27,6 +29,7 @@ pub fn print_ordered<R: Read, W: Write>(
     reader: &mut Watched<R>,
     writer: &mut Watched<W>,
     seed: Option<u64>,
+    input: &mut WorkloadText,
 ) -> Result<(), PrintFault>
     requires reader { reader.old.failed ≡ false }
     requires writer { writer.old.failed ≡ false }
@@ -49,11 +52,13 @@ pub fn print_ordered<R: Read, W: Write>(
     ensures unwritten { IfErr result (λ f. f ≢ PrintFault.Bench BenchFault.Write →
         writer.new ≡ writer.old) }
 {
-    let input = match read_input(alloc, reader) {
-        Ok(input) => input,
+    let bytes = match read_input(alloc, reader) {
+        Ok(bytes) => bytes,
         Err(fault) => return Err(PrintFault::Bench(fault)),
     };
-    let text = match ordered_text(alloc, &input, seed) {
+    let ordered = ordered_text(alloc, &bytes, seed, &mut input.has_unread_keys);
+    input.bytes = bytes;
+    let text = match ordered {
         Ok(text) => text,
         Err(fault) => return Err(fault),
     };
@@ -63,15 +68,23 @@ pub fn print_ordered<R: Read, W: Write>(
     }
 }
 
-/// The bytes of a workload with the order of its callers' steps that the seed gives.
-fn ordered_text(alloc: Global, input: &[u8], seed: Option<u64>) -> Result<Vec<u8>, PrintFault>
+/// The bytes of a workload with the order of its callers' steps that the seed gives. It tells whether they have a key that nothing reads.
+fn ordered_text(
+    alloc: Global,
+    input: &[u8],
+    seed: Option<u64>,
+    has_unread_keys: &mut bool,
+) -> Result<Vec<u8>, PrintFault>
     ensures ordered { IfOk result (λ text. texts.IsOrdered seed input.now text.items) }
     ensures refused { IfErr result (λ f. texts.RefusesAs input.now f) }
     ensures read { result ≢ Err (PrintFault.Bench BenchFault.Read) }
     ensures write { result ≢ Err (PrintFault.Bench BenchFault.Write) }
 {
     match read_workload(alloc, input) {
-        Ok(workload) => with_order(alloc, &workload, input, seed),
+        Ok(workload) => {
+            *has_unread_keys = workload.has_unread_keys();
+            with_order(alloc, &workload, input, seed)
+        }
         Err(fault) => Err(PrintFault::Bench(BenchFault::Load(fault))),
     }
 }

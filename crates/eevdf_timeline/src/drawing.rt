@@ -13,15 +13,37 @@ use crate::scene::Scene;
 use crate::stretches::stretches_of;
 use crate::trace::trace_of;
 use crate::words::{Output, Words};
-use eevdf_bench::{BenchFault, Watched, read_input, read_workload, write_text};
+use eevdf_bench::{BenchFault, Watched, WorkloadText, read_input, read_workload, write_text};
 use eevdf_ops::Setup;
 use std::alloc::{AllocError, Global};
 use std::io::{Read, Write};
 use std::sync::Wait;
 use std::thread::Threads;
 
-/// Reads a workload to its end, makes all of what the words ask for, and writes it. Faults are those of `eevdf`; nothing is written
-/// before all is made.
+/// Why nothing, or not all, is drawn.
+#[derive(Clone, Copy, PartialEq, Eq, Debug)]
+pub(crate) enum DrawFault {
+    Bench(BenchFault),
+    /// The words choose this CPU or this task, which the workload hasn't.
+    NoCpu(usize),
+    NoTask(usize),
+}
+
+impl From<BenchFault> for DrawFault {
+    fn from(fault: BenchFault) -> DrawFault {
+        DrawFault::Bench(fault)
+    }
+}
+
+impl From<AllocError> for DrawFault {
+    fn from(_out_of_memory: AllocError) -> DrawFault {
+        DrawFault::Bench(BenchFault::Memory)
+    }
+}
+
+/// Reads a workload to its end, makes all of what the words ask for, and writes it. Faults are those of `eevdf`, and that the words choose
+/// what the workload hasn't; nothing is written before all is made. The bytes that were read are left in `input`, and whether they have a key
+/// that nothing reads.
 pub(crate) fn draw<T: Threads + Wait + Sync, R: Read, W: Write>(
     rt: &T,
     alloc: Global,
@@ -29,26 +51,35 @@ pub(crate) fn draw<T: Threads + Wait + Sync, R: Read, W: Write>(
     writer: &mut Watched<W>,
     words: &Words,
     progress: &Progress,
-) -> Result<(), BenchFault>
+    input: &mut WorkloadText,
+) -> Result<(), DrawFault>
     requires reader { reader.old.failed ≡ false }
     requires writer { writer.old.failed ≡ false }
 {
-    let input = read_input(alloc, reader)?;
-    let text = text_of(rt, alloc, &input, words, progress)?;
-    write_text(writer, &text)
+    input.bytes = read_input(alloc, reader)?;
+    let text = text_of(rt, alloc, input, words, progress)?;
+    write_text(writer, &text)?;
+    Ok(())
 }
 
 fn text_of<T: Threads + Wait + Sync>(
     rt: &T,
     alloc: Global,
-    input: &[u8],
+    input: &mut WorkloadText,
     words: &Words,
     progress: &Progress,
-) -> Result<Vec<u8>, BenchFault> {
-    let workload = match read_workload(alloc, input) {
+) -> Result<Vec<u8>, DrawFault> {
+    let workload = match read_workload(alloc, &input.bytes) {
         Ok(workload) => workload,
-        Err(fault) => return Err(BenchFault::Load(fault)),
+        Err(fault) => return Err(DrawFault::Bench(BenchFault::Load(fault))),
     };
+    input.has_unread_keys = workload.has_unread_keys();
+    if let Some(cpu) = words.cpus.beyond(workload.setup().cpus()) {
+        return Err(DrawFault::NoCpu(cpu));
+    }
+    if let Some(task) = words.tasks.beyond(workload.setup().tasks()) {
+        return Err(DrawFault::NoTask(task));
+    }
     let moments = history_of(rt, alloc, &workload, words.source)?;
     let text = output_of(alloc, workload.setup(), &moments, words, progress)?;
     Ok(text)

@@ -36,6 +36,19 @@ impl Choice {
         }
     }
 
+    /// The first number that is named of those from a count on.
+    pub(crate) fn beyond(&self, count: usize) -> Option<usize> {
+        let Some(chosen) = &self.chosen else {
+            return None;
+        };
+        for number in count..chosen.len() {
+            if chosen[number] {
+                return Some(number);
+            }
+        }
+        None
+    }
+
     /// Whether numbers are named.
     pub(crate) fn is_named(&self) -> bool {
         self.chosen.is_some()

@@ -1,0 +1,49 @@
+"""Words that the programs don't take, and what each says of itself."""
+
+from marked import Case
+
+USAGE = {
+    "eevdf": "usage: eevdf solo|replay|run [--history]\n",
+    "eevdf_orders": "usage: eevdf_orders [--seed N]\n",
+    "eevdf_timeline": "usage: eevdf_timeline [--replay|--run] [--perfetto|--stats [--json]] [--from NS] [--to NS] [--cpu N,..] [--task N,..]\n",
+}
+COMMANDS = "commands are solo, replay, run\n"
+BEHIND = "behind a command stand --history and the name of a file\n"
+NO_SEED = "--seed takes a whole number below 2^64, and"
+NOT_THERE = "no-such-folder/workload.toml"
+TEXT = b'version = 1\nprogram = [[]]\nscript = ["0 pick"]\n[[task]]\n'
+
+
+def words(program, given, said):
+    """What is said of words: of `eevdf` the usage line stands on standard output."""
+    first = USAGE[program]
+    on_output = program == "eevdf"
+    return Case(f"{program} {given}", TEXT, first if on_output else "", ("" if on_output else first) + said, tuple(given.split()), program, 2)
+
+
+WORDS = (
+    words("eevdf", "", f"no command; {COMMANDS}"),
+    words("eevdf", "sol", f'unknown command "sol"; {COMMANDS}'),
+    words("eevdf", "--history solo", f'unknown command "--history"; {COMMANDS}'),
+    words("eevdf", "solo --histories", f'unknown word "--histories"; {BEHIND}'),
+    words("eevdf", "solo a --history", f'unknown word "a"; {BEHIND}'),
+    words("eevdf", "solo --history --history", "--history stands once\n"),
+    words("eevdf", f"solo {NOT_THERE}", f"{NOT_THERE}: No such file or directory (os error 2)\n"),
+    words("eevdf_orders", "--seed", "--seed stands once, and takes a whole number below 2^64\n"),
+    words("eevdf_orders", "--seed x", f'{NO_SEED} "x" is none\n'),
+    words("eevdf_orders", "--seed -1", f'{NO_SEED} "-1" is none\n'),
+    words("eevdf_orders", "--sed 1", 'unknown word "--sed"; words are --seed with a number, and the name of a file\n'),
+    words("eevdf_orders", "--seed 1 --seed 2", "--seed stands once, and takes a whole number below 2^64\n"),
+    words("eevdf_timeline", "--replay --run", "--replay and --run exclude each other\n"),
+    words("eevdf_timeline", "--json", "--json stands with --stats\n"),
+    words("eevdf_timeline", "--perfetto --stats", "--perfetto excludes --stats and --json\n"),
+    words("eevdf_timeline", "--stats --from 1", "figures are of the whole schedule: --stats excludes --from and --to\n"),
+    words("eevdf_timeline", "--from 5 --to 3", "the time of --to is after that of --from, which is 0 where it isn't given; each stands once\n"),
+    words("eevdf_timeline", "--from x", '--from takes a whole number of nanoseconds below 2^64, and "x" is none\n'),
+    words("eevdf_timeline", "--to", "--to takes a value, and none stands behind it\n"),
+    words("eevdf_timeline", "--cpu 64", '--cpu takes numbers from 0 to 63 with commas between them, and "64" is none\n'),
+    words("eevdf_timeline", "--task 5000", '--task takes numbers from 0 to 1023 with commas between them, and "5000" is none\n'),
+    words("eevdf_timeline", "--cpu 9", "--cpu 9: the workload has no CPU 9\n"),
+    words("eevdf_timeline", "--task 0,8", "--task 8: the workload has no task 8\n"),
+    words("eevdf_timeline", "--rerun", 'unknown word "--rerun"; --help names those that are known\n'),
+)

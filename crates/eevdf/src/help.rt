@@ -1,0 +1,27 @@
+//! What the program says of itself.
+
+/// What is printed where the words aren't known.
+pub(crate) const USAGE: &[u8] = b"usage: eevdf solo|replay|run [--history]\n";
+
+/// What `--version` prints.
+pub(crate) const VERSION: &[u8] = b"eevdf 0.2.0\n";
+
+/// What `--help` prints.
+pub(crate) const HELP: &[u8] = b"\
+eevdf runs a workload of tasks on the scheduler and prints each CPU's schedule.
+
+usage: eevdf solo|replay|run [--history] [FILE]
+
+  solo         does the deeds of the workload's script, one after the other
+  replay       plays the programs of the CPUs step by step, in the workload's order
+  run          runs the programs at the same time, each by a thread of its own
+  --history    prints the deeds of all CPUs too, in the order in which they were done
+  FILE         the workload; without it, standard input is read
+  --help, -h   prints this
+  --version    prints the version
+
+example: eevdf solo examples/two-tasks.toml
+
+The format of a workload and of what is printed: docs/formats.md. The status is 0 where all went well, 1 where the workload is
+refused, 2 where the words aren't known, and 3 where memory, a thread, reading or writing failed.
+";

@@ -1,0 +1,33 @@
+//! What the program says of itself.
+
+/// What is printed where the words aren't known.
+pub(crate) const USAGE: &[u8] =
+    b"usage: eevdf_timeline [--replay|--run] [--perfetto|--stats [--json]] [--from NS] [--to NS] [--cpu N,..] [--task N,..]\n";
+
+/// What `--version` prints.
+pub(crate) const VERSION: &[u8] = b"eevdf_timeline 0.2.0\n";
+
+/// What `--help` prints.
+pub(crate) const HELP: &[u8] = b"\
+eevdf_timeline draws what the scheduler answers to a workload: a picture (SVG), a trace or a table of figures.
+
+usage: eevdf_timeline [--replay|--run] [--perfetto|--stats [--json]] [--from NS] [--to NS] [--cpu N,..] [--task N,..] [FILE]
+
+  --replay     draws the workload's order, in place of its script
+  --run        draws the programs, each run by a thread of its own
+  --perfetto   writes a trace, in the format that Perfetto and chrome://tracing read
+  --stats      writes a table of figures
+  --json       with --stats, writes the figures as JSON
+  --from NS    leaves out what is before this time, in nanoseconds; not with --stats
+  --to NS      leaves out what is after this time; not with --stats
+  --cpu N,..   these CPUs alone
+  --task N,..  these tasks alone; others are light grey in a picture
+  FILE         the workload; without it, standard input is read
+  --help, -h   prints this
+  --version    prints the version
+
+example: eevdf_timeline examples/pull.toml >schedule.svg
+
+What is drawn: docs/pictures.md; the format of a workload: docs/formats.md. The status is 0 where all went well, 1 where the workload is
+refused, 2 where the words aren't known, and 3 where memory, a thread, reading or writing failed.
+";
