@@ -1,7 +1,7 @@
 -- Printed deeds are read back, and nothing else is read as them.
 use Rattle.std.proofs.Common.{◌≡◌, ◌↔◌, ℕ, codes, ◌<◌, true, ltb, List, [], ◌∷◌, ◌++◌, Some, option_map, option_and_then, refl, ap, ap₂, sym, subst, append_assoc, ◌∙◌, arith}
 use Rattle.std.specs.{Prelude.IfSome, Fmt.decimal, List.join_with_byte}
-use Rattle.std.proofs.{lemmas.Bool.and_parts, lemmas.Bool.false≢true, lemmas.Option.none-some, lemmas.Option.option_and_then_some}
+use Rattle.std.proofs.{lemmas.Bool.and_parts, lemmas.Option.none-some, lemmas.Option.option_and_then_some}
 use Rattle.eevdf_queue.specs.Numbers.{checked_number}
 use Rattle.eevdf_ops.specs.{Numbers.cpu_limit, Parts.decider, Programs.deed_of, Texts.deed_text}
 use Rattle.eevdf_ops.specs.{declared.deeds.Op.Op, declared.deeds.Deed.Deed}
@@ -97,14 +97,14 @@ act-read version (Tick cpu ns) h known = ap (option_and_then (deed_of cpu)) (ope
 act-read version (Sleep cpu task) h known = ap (option_and_then (deed_of cpu)) (operation-read version (op.Sleep task) h known)
 act-read version (Pull cpu source) h known = ap (option_and_then (deed_of cpu)) (operation-read version (op.Pull source) h known)
 act-read version (Renice cpu task nice) h known = ap (option_and_then (deed_of cpu)) (operation-read version (op.Renice task nice) h known)
+act-read version (Begin cpu task nice slice) h known = ap (option_and_then (deed_of cpu)) (operation-read version (op.Begin task nice slice) h known)
+act-read version (End cpu task) h known = ap (option_and_then (deed_of cpu)) (operation-read version (op.End task) h known)
+act-read version (Set cpu task nice slice) h known = ap (option_and_then (deed_of cpu)) (operation-read version (op.Set task nice slice) h known)
+act-read version (Rebase cpu) h known = ap (option_and_then (deed_of cpu)) (operation-read version op.Rebase h known)
 act-read version (Wake cpu task sender) h known =
     ap (λ t. deed_on (limits_of version) cpu (words t)) (wake_text cpu task sender)
     ∙ ap (wake_of (limits_of version) cpu) (words-after_decimal task (codes "from " ++ decimal sender) (omega (arith, h.0)))
     ∙ rw (words-decimal sender (omega (arith, h.1)), number-decimal task (omega (arith, h.0)), task_passes task h.0, number-decimal sender (omega (arith, h.1)), cpu_passes version sender h.1 known)
-act-read version (Begin cpu task nice slice) h known = absurd (false≢true known)
-act-read version (End cpu task) h known = absurd (false≢true known)
-act-read version (Set cpu task nice slice) h known = absurd (false≢true known)
-act-read version (Rebase cpu) h known = absurd (false≢true known)
 act-read version _ h known = refl
 
 deed-read : (version : Version) (d : Deed) → decider d < cpu_limit → IsActInRange d → knows_deed version d ≡ true → deed_in (limits_of version) (words (numbered_deed_text d)) ≡ Some d

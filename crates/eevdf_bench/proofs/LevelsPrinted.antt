@@ -1,5 +1,5 @@
 -- Printed nice levels are read back, and nothing else is read as them.
-use Rattle.std.proofs.Common.{◌≡◌, ℕ, zero, suc, ◌<◌, ◌^◌, true, false, eqb, List, [], ◌∷◌, length, Option, Some, None, option_map, option_and_then, refl, ap, ◌∙◌, inl, inr, arith}
+use Rattle.std.proofs.Common.{◌≡◌, ℕ, zero, suc, ◌<◌, ◌^◌, true, false, eqb, List, [], ◌∷◌, ◌++◌, length, Option, Some, None, option_map, option_and_then, refl, ap, ◌∙◌, inl, inr, arith}
 use Rattle.std.specs.Prelude.{ℤ, pos, negsuc}
 use Rattle.std.specs.{Char.is_ascii_digit, Fmt.decimal, Fmt.signed_decimal, List.list_all}
 use Rattle.std.proofs.{lemmas.Bool.and_parts, lemmas.Bool.cases_Bool, lemmas.Bool.Decides.nat_tests, lemmas.Fmt.decimal_nonempty}
@@ -7,7 +7,7 @@ use Rattle.std.proofs.{lemmas.Fmt.digits_decimal, lemmas.Int.ints, lemmas.Option
 use Rattle.eevdf_weight.specs.Limits.{checked_level, is_nice_level}
 use Rattle.eevdf_workload.specs.Words.{words, number, below_zero, signed_number, level_in}
 use Rattle.eevdf_workload.proofs.ReadingLevels.{is_sign}
-use Rattle.eevdf_bench.proofs.ReadingPrinted.{digits, number-decimal, decimal-number, words-decimal}
+use Rattle.eevdf_bench.proofs.ReadingPrinted.{digits, number-decimal, decimal-number, words-decimal, words-after_decimal}
 
 few_above : (n : ℕ) → is_nice_level (pos n) ≡ true → n < 2 ^ 64
 few_above n h = grind (arith, ints, nat_tests)
@@ -33,6 +33,11 @@ level-printed (negsuc n) h = rw (number-decimal (suc n) (few_below n h), h)
 pub words-printed : (z : ℤ) → is_nice_level z ≡ true → words (signed_decimal z) ≡ signed_decimal z ∷ []
 words-printed (pos n) h = words-decimal n (few_above n h)
 words-printed (negsuc n) h = rw (words-decimal (suc n) (few_below n h))
+
+-- a printed level, and the words behind it
+pub words-after_level : (z : ℤ) (text : List ℕ) → is_nice_level z ≡ true → words (signed_decimal z ++ 32 ∷ text) ≡ signed_decimal z ∷ words text
+words-after_level (pos n) text h = words-after_decimal n text (few_above n h)
+words-after_level (negsuc n) text h = rw (words-after_decimal (suc n) text (few_below n h))
 
 -- a word that is read as a level is that level as it is printed
 read_above : (word : List ℕ) (z : ℤ) → option_and_then checked_level (option_map pos (number word)) ≡ Some z → word ≡ signed_decimal z

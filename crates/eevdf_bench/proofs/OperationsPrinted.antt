@@ -1,17 +1,17 @@
 -- Printed operations are read back, and nothing else is read as them.
-use Rattle.std.proofs.Common.{◌≡◌, ◌↔◌, ℕ, codes, ◌<◌, ◌^◌, true, ltb, List, [], ◌∷◌, ◌++◌, append_assoc, Option, Some, None, option_map, option_and_then, if◌then◌else◌, refl, ap, ap₂, sym, subst, ◌∙◌, inl, inr, arith}
+use Rattle.std.proofs.Common.{◌≡◌, ◌↔◌, ℕ, codes, ◌<◌, ◌^◌, true, false, ltb, List, [], ◌∷◌, ◌++◌, append_assoc, Option, Some, None, option_map, option_and_then, if◌then◌else◌, refl, ap, ap₂, sym, subst, ◌∙◌, Bool, inl, inr, arith}
 use Rattle.std.specs.{Prelude.ℤ, Fmt.decimal, Fmt.signed_decimal, List.join_with_byte, Str.bytes_eq}
 use Rattle.std.proofs.{lemmas.Bool.cases_Bool, lemmas.Bool.Decides.nat_tests, lemmas.Slice.Eq.bytes_eq-Decides}
 use Rattle.std.proofs.lemmas.Option.{same_Some, none-some, cond_some, option_and_then_some}
-use Rattle.eevdf_weight.specs.Limits.{checked_tick, is_tick}
+use Rattle.eevdf_weight.specs.Limits.{checked_slice, checked_tick, is_slice, is_tick}
 use Rattle.eevdf_queue.specs.Numbers.{checked_number}
 use Rattle.eevdf_ops.specs.{Numbers.cpu_limit, declared.deeds.Op.Op}
-use Rattle.eevdf_ops.specs.declared.deeds.Op.TheVariants.{Tick, Pick, Yield, Sleep, Post, Drain, Pull, Renice}
+use Rattle.eevdf_ops.specs.declared.deeds.Op.TheVariants.{Tick, Pick, Yield, Sleep, Post, Drain, Pull, Renice, Begin, End, Set, Rebase}
 use Rattle.eevdf_workload.specs.{declared.version.Version.Version, Versions.cpu_within, Versions.limits_of}
-use Rattle.eevdf_workload.specs.Words.{words, number, only_word, only_number, only_level, level_in, task_in, alone, renice_of, operation, operation_of}
-use Rattle.eevdf_bench.specs.WordsPrinted.{IsInRange, knows_operation, operation_text}
+use Rattle.eevdf_workload.specs.Words.{words, number, only_word, only_number, only_level, only_slice, level_in, task_in, alone, level_and_slice, task_level_slice, renice_of, operation, operation_by, operation_of}
+use Rattle.eevdf_bench.specs.WordsPrinted.{AreInRange, IsInRange, knows_operation, operation_text}
 use Rattle.eevdf_bench.proofs.ReadingPrinted.{number-decimal, decimal-number, words-decimal, words-after_decimal, joined_words}
-use Rattle.eevdf_bench.proofs.LevelsPrinted.{level-printed, printed-level, words-printed}
+use Rattle.eevdf_bench.proofs.LevelsPrinted.{level-printed, printed-level, words-after_level, words-printed}
 
 -- ---- the limits of numbers
 
@@ -24,6 +24,12 @@ small_tick n h = grind (arith, nat_tests)
 
 pub tick_check : IsCheck checked_tick
 tick_check n m h = let (passes, same) = cond_some (is_tick n) n m h in (same, small_tick n passes)
+
+small_slice : (n : ℕ) → is_slice n ≡ true → n < 2 ^ 64
+small_slice n h = grind (arith, nat_tests)
+
+slice_check : IsCheck checked_slice
+slice_check n m h = let (passes, same) = cond_some (is_slice n) n m h in (same, small_slice n passes)
 
 pub task_check : IsCheck checked_number
 task_check n m h = let (passes, same) = cond_some (ltb n 1024) n m h in (same, grind (arith, nat_tests))
@@ -110,6 +116,44 @@ text-renice version (word ∷ ws) op known h =
     let behind : ws ≡ signed_decimal nice ∷ [] = alone ∙ ap (λ w. w ∷ []) (printed-level last nice level) in
     (ap₂ (λ w rest. join_with_byte 32 (codes "renice" ∷ w ∷ rest)) printed behind ∙ sym (renice_text task nice) ∙ ap operation_text same, ap (knows_operation version) (sym same) ∙ known))
 
+-- a printed task with its level and its slice, as their words follow each other
+three_texts : (task : ℕ) (nice : ℤ) (slice : ℕ) → decimal task ++ codes " " ++ signed_decimal nice ++ codes " " ++ decimal slice ≡ decimal task ++ (32 ∷ (signed_decimal nice ++ (32 ∷ decimal slice)))
+three_texts task nice slice =
+    append_assoc (decimal task ++ codes " " ++ signed_decimal nice) (codes " ") (decimal slice)
+    ∙ append_assoc (decimal task ++ codes " ") (signed_decimal nice) (32 ∷ decimal slice)
+    ∙ append_assoc (decimal task) (codes " ") (signed_decimal nice ++ (32 ∷ decimal slice))
+
+begin_text : (task : ℕ) (nice : ℤ) (slice : ℕ) → operation_text (Begin task nice slice) ≡ codes "begin " ++ (decimal task ++ (32 ∷ (signed_decimal nice ++ (32 ∷ decimal slice))))
+begin_text task nice slice = ap (λ (t : List ℕ). codes "begin " ++ t) (three_texts task nice slice)
+
+set_text : (task : ℕ) (nice : ℤ) (slice : ℕ) → operation_text (Set task nice slice) ≡ codes "set " ++ (decimal task ++ (32 ∷ (signed_decimal nice ++ (32 ∷ decimal slice))))
+set_text task nice slice = ap (λ (t : List ℕ). codes "set " ++ t) (three_texts task nice slice)
+
+text-level_and_slice : (ws : List (List ℕ)) (both : ℤ × ℕ) → level_and_slice ws ≡ Some both → ws ≡ signed_decimal both.0 ∷ decimal both.1 ∷ []
+text-level_and_slice [] both h = absurd (none-some both h)
+text-level_and_slice (word ∷ ws) both h =
+    option_and_then_some (λ nice. option_map (λ slice. (nice, slice)) (only_slice ws)) (level_in word) both h
+    (λ nice read made.
+    let (slice, found, same) = mapped_parts (λ (slice : ℕ). (nice, slice)) (only_slice ws) both made in
+    ap₂ (λ w rest. w ∷ rest) (printed-level word nice read) (one_number checked_slice ws slice slice_check found).0
+    ∙ ap (λ (b : ℤ × ℕ). signed_decimal b.0 ∷ decimal b.1 ∷ []) same)
+
+text-task_level_slice : (ws : List (List ℕ)) (all : ℕ × ℤ × ℕ) → task_level_slice ws ≡ Some all → ws ≡ decimal all.0 ∷ signed_decimal all.1 ∷ decimal all.2 ∷ []
+text-task_level_slice [] all h = absurd (none-some all h)
+text-task_level_slice (word ∷ ws) all h =
+    option_and_then_some (λ task. option_map (λ others. (task, others.0, others.1)) (level_and_slice ws)) (task_in word) all h
+    (λ task read made.
+    let (others, found, same) = mapped_parts (λ (others : ℤ × ℕ). (task, others.0, others.1)) (level_and_slice ws) all made in
+    ap₂ (λ w rest. w ∷ rest) (checked_word checked_number word task task_check read).0 (text-level_and_slice ws others found)
+    ∙ ap (λ (a : ℕ × ℤ × ℕ). decimal a.0 ∷ signed_decimal a.1 ∷ decimal a.2 ∷ []) same)
+
+text-three : (version : Version) (verb : List ℕ) (make : ℕ × ℤ × ℕ → Op) (ws : List (List ℕ)) (op : Op)
+    → ((all : ℕ × ℤ × ℕ) → operation_text (make all) ≡ join_with_byte 32 (verb ∷ decimal all.0 ∷ signed_decimal all.1 ∷ decimal all.2 ∷ [])) → ((all : ℕ × ℤ × ℕ) → knows_operation version (make all) ≡ true)
+    → option_map make (task_level_slice ws) ≡ Some op → IsPrinted version op (verb ∷ ws)
+text-three version verb make ws op printed known h =
+    let (all, found, made) = mapped_parts make (task_level_slice ws) op h in
+    (ap (λ rest. join_with_byte 32 (verb ∷ rest)) (text-task_level_slice ws all found) ∙ sym (printed all) ∙ ap operation_text made, ap (knows_operation version) (sym made) ∙ known all)
+
 -- ---- operations that are read
 
 -- what is read after a word, which is that of the first case or of the others
@@ -121,22 +165,36 @@ named word verb ws x y a P h first others =
       | inr other ↦ others (rw other at h)
     ]
 
+-- the same where a verb is read of the word, of which something is made
+named_verb : {V : Type 0} (word verb : List ℕ) (ws : List (List ℕ)) (make : V → Option Op) (v : V) (others : Option V) (op : Op) (P : List (List ℕ) → Type 0)
+    → option_and_then make (if bytes_eq verb word then Some v else others) ≡ Some op → (make v ≡ Some op → P (word ∷ ws)) → (option_and_then make others ≡ Some op → P (verb ∷ ws)) → P (verb ∷ ws)
+named_verb word verb ws make v others op P h first later =
+    elim (cases_Bool (bytes_eq verb word)) [
+      | inl same ↦ subst (λ w. P (w ∷ ws)) (sym ((bytes_eq-Decides verb word).0 same)) (first (rw same at h))
+      | inr other ↦ later (rw other at h)
+    ]
+
+-- an operation that only some versions know
+of_version : (version : Version) (word : List ℕ) (ws : List (List ℕ)) (known : Bool) (o : Option Op) (op : Op) → (if known then o else None) ≡ Some op
+    → (known ≡ true → o ≡ Some op → IsPrinted version op (word ∷ ws)) → IsPrinted version op (word ∷ ws)
+of_version version word ws true o op h printed = printed refl h
+of_version version word ws false o op h printed = absurd (none-some op h)
+
 pub text-operation_of : (version : Version) (verb : List ℕ) (ws : List (List ℕ)) (op : Op) → operation_of (limits_of version) verb ws ≡ Some op → IsPrinted version op (verb ∷ ws)
 text-operation_of version verb ws op h =
-    named (codes "tick") verb ws _ _ op (IsPrinted version op) h (text-numbered version (codes "tick") Tick checked_tick ws op tick_check (λ n. refl) (λ n passes. refl)) (λ h.
-    named (codes "pick") verb ws _ _ op (IsPrinted version op) h (text-alone version (codes "pick") Pick ws op refl refl) (λ h.
-    named (codes "yield") verb ws _ _ op (IsPrinted version op) h (text-alone version (codes "yield") Yield ws op refl refl) (λ h.
-    named (codes "sleep") verb ws _ _ op (IsPrinted version op) h (text-numbered version (codes "sleep") Sleep checked_number ws op task_check (λ n. refl) (λ n passes. refl)) (λ h.
-    named (codes "post") verb ws _ _ op (IsPrinted version op) h (text-numbered version (codes "post") Post checked_number ws op task_check (λ n. refl) (λ n passes. refl)) (λ h.
-    named (codes "drain") verb ws _ _ op (IsPrinted version op) h (text-alone version (codes "drain") Drain ws op refl refl) (λ h.
-    named (codes "pull") verb ws _ _ op (IsPrinted version op) h (text-numbered version (codes "pull") Pull (cpu_within (limits_of version)) ws op (cpu_check version) (λ n. refl) (cpu_known version)) (λ h.
-    named (codes "renice") verb ws _ _ op (IsPrinted version op) h
-    (λ h.
-    elim (cases_Bool (limits_of version).renice) [
-      | inl known ↦ text-renice version ws op known (rw known at h)
-      | inr unknown ↦ absurd (none-some op (rw unknown at h))
-    ]) (λ h.
-    absurd (none-some op h)))))))))
+    named_verb (codes "tick") verb ws (operation_by (limits_of version) ws) _ _ op (IsPrinted version op) h (text-numbered version (codes "tick") Tick checked_tick ws op tick_check (λ n. refl) (λ n passes. refl)) (λ h.
+    named_verb (codes "pick") verb ws (operation_by (limits_of version) ws) _ _ op (IsPrinted version op) h (text-alone version (codes "pick") Pick ws op refl refl) (λ h.
+    named_verb (codes "yield") verb ws (operation_by (limits_of version) ws) _ _ op (IsPrinted version op) h (text-alone version (codes "yield") Yield ws op refl refl) (λ h.
+    named_verb (codes "sleep") verb ws (operation_by (limits_of version) ws) _ _ op (IsPrinted version op) h (text-numbered version (codes "sleep") Sleep checked_number ws op task_check (λ n. refl) (λ n passes. refl)) (λ h.
+    named_verb (codes "post") verb ws (operation_by (limits_of version) ws) _ _ op (IsPrinted version op) h (text-numbered version (codes "post") Post checked_number ws op task_check (λ n. refl) (λ n passes. refl)) (λ h.
+    named_verb (codes "drain") verb ws (operation_by (limits_of version) ws) _ _ op (IsPrinted version op) h (text-alone version (codes "drain") Drain ws op refl refl) (λ h.
+    named_verb (codes "pull") verb ws (operation_by (limits_of version) ws) _ _ op (IsPrinted version op) h (text-numbered version (codes "pull") Pull (cpu_within (limits_of version)) ws op (cpu_check version) (λ n. refl) (cpu_known version)) (λ h.
+    named_verb (codes "renice") verb ws (operation_by (limits_of version) ws) _ _ op (IsPrinted version op) h (λ h. of_version version (codes "renice") ws _ _ op h (text-renice version ws op)) (λ h.
+    named_verb (codes "begin") verb ws (operation_by (limits_of version) ws) _ _ op (IsPrinted version op) h (λ h. of_version version (codes "begin") ws _ _ op h (λ known. text-three version (codes "begin") (λ all. Begin all.0 all.1 all.2) ws op (λ all. begin_text all.0 all.1 all.2) (λ all. known))) (λ h.
+    named_verb (codes "end") verb ws (operation_by (limits_of version) ws) _ _ op (IsPrinted version op) h (λ h. of_version version (codes "end") ws _ _ op h (λ known. text-numbered version (codes "end") End checked_number ws op task_check (λ n. refl) (λ n passes. known))) (λ h.
+    named_verb (codes "set") verb ws (operation_by (limits_of version) ws) _ _ op (IsPrinted version op) h (λ h. of_version version (codes "set") ws _ _ op h (λ known. text-three version (codes "set") (λ all. Set all.0 all.1 all.2) ws op (λ all. set_text all.0 all.1 all.2) (λ all. known))) (λ h.
+    named_verb (codes "rebase") verb ws (operation_by (limits_of version) ws) _ None op (IsPrinted version op) h (λ h. of_version version (codes "rebase") ws _ _ op h (λ known. text-alone version (codes "rebase") Rebase ws op refl known)) (λ h.
+    absurd (none-some op h)))))))))))))
 
 text-words : (version : Version) (ws : List (List ℕ)) (op : Op) → operation (limits_of version) ws ≡ Some op → IsPrinted version op ws
 unfolding operation
@@ -144,6 +202,12 @@ text-words version [] op h = absurd (none-some op h)
 text-words version (verb ∷ ws) op h = text-operation_of version verb ws op h
 
 -- ---- operations that are printed
+
+three-read : (task : ℕ) (nice : ℤ) (slice : ℕ) → AreInRange task nice slice
+    → task_level_slice (words (decimal task ++ (32 ∷ (signed_decimal nice ++ (32 ∷ decimal slice))))) ≡ Some (task, nice, slice)
+three-read task nice slice (few, level, fits) =
+    ap task_level_slice (words-after_decimal task (signed_decimal nice ++ (32 ∷ decimal slice)) (omega (arith, few)))
+    ∙ rw (words-after_level nice (decimal slice) level, words-decimal slice (small_slice slice fits), number-decimal task (omega (arith, few)), task_passes task few, level-printed nice level, number-decimal slice (small_slice slice fits), fits)
 
 -- an operation within the limits of a version is read back where it is printed
 pub operation-read : (version : Version) (op : Op) → IsInRange op → knows_operation version op ≡ true → operation (limits_of version) (words (operation_text op)) ≡ Some op
@@ -156,6 +220,12 @@ operation-read version (Renice n nice) h known =
     ap (λ t. operation (limits_of version) (words t)) (renice_text n nice)
     ∙ ap (operation_of (limits_of version) (codes "renice")) (words-after_decimal n (signed_decimal nice) (omega (arith, h.0)))
     ∙ rw (known, words-printed nice h.1, number-decimal n (omega (arith, h.0)), task_passes n h.0, level-printed nice h.1)
+operation-read version (Begin n nice slice) h known =
+    ap (λ t. operation (limits_of version) (words t)) (begin_text n nice slice) ∙ rw known (ap (option_map (λ all. Begin all.0 all.1 all.2)) (three-read n nice slice h))
+operation-read version (End n) h known = rw (known, words-decimal n (omega arith), number-decimal n (omega arith), task_passes n h)
+operation-read version (Set n nice slice) h known =
+    ap (λ t. operation (limits_of version) (words t)) (set_text n nice slice) ∙ rw known (ap (option_map (λ all. Set all.0 all.1 all.2)) (three-read n nice slice h))
+operation-read version Rebase h known = rw known
 operation-read version _ h known = refl
 
 -- a text is read as an operation whose numbers are in range exactly where it is that operation as it is printed

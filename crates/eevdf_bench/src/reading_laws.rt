@@ -7,7 +7,7 @@ ghost use Rattle.eevdf_bench.specs.WordsPrinted.{IsInRange, IsActInRange, knows_
 
 use eevdf_ops::{Deed, Op};
 use eevdf_workload::Version;
-pub use eevdf_workload::laws::version_two_keeps_meaning;
+pub use eevdf_workload::laws::{version_three_keeps_meaning, version_two_keeps_meaning};
 
 /// A text is read in a version as an operation exactly where it is that operation as it is printed and the
 /// version knows the operation.
@@ -35,7 +35,7 @@ fn operation_is_in_range(op: Op)
         Op::Tick(ns) => {
             let _within = ns.get();
         }
-        Op::Sleep(task) | Op::Post(task) => {
+        Op::Sleep(task) | Op::Post(task) | Op::End(task) => {
             let _below = task.get();
         }
         Op::Pull(source) => {
@@ -45,7 +45,12 @@ fn operation_is_in_range(op: Op)
             let _below = task.get();
             let _level = nice.get();
         }
-        Op::Pick | Op::Yield | Op::Drain => {}
+        Op::Begin(task, nice, slice) | Op::Set(task, nice, slice) => {
+            let _below = task.get();
+            let _level = nice.get();
+            let _length = slice.get();
+        }
+        Op::Pick | Op::Yield | Op::Drain | Op::Rebase => {}
     }
 }
 
@@ -59,15 +64,10 @@ fn deed_is_in_range(deed: Deed)
             let _below = cpu.get();
             let _within = ns.get();
         }
-        Deed::Pick { cpu }
-        | Deed::Yield { cpu }
-        | Deed::Begin { cpu, .. }
-        | Deed::End { cpu, .. }
-        | Deed::Set { cpu, .. }
-        | Deed::Rebase { cpu } => {
+        Deed::Pick { cpu } | Deed::Yield { cpu } | Deed::Rebase { cpu } => {
             let _below = cpu.get();
         }
-        Deed::Sleep { cpu, task } => {
+        Deed::Sleep { cpu, task } | Deed::End { cpu, task } => {
             let _below = cpu.get();
             let _known = task.get();
         }
@@ -84,6 +84,23 @@ fn deed_is_in_range(deed: Deed)
             let _below = cpu.get();
             let _known = task.get();
             let _level = nice.get();
+        }
+        Deed::Begin {
+            cpu,
+            task,
+            nice,
+            slice,
+        }
+        | Deed::Set {
+            cpu,
+            task,
+            nice,
+            slice,
+        } => {
+            let _below = cpu.get();
+            let _known = task.get();
+            let _level = nice.get();
+            let _length = slice.get();
         }
     }
 }

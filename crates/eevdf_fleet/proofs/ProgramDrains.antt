@@ -48,6 +48,10 @@ taken-and-waiting homes cpu waiting (op.Sleep task) = refl
 taken-and-waiting homes cpu waiting (op.Post task) = refl
 taken-and-waiting homes cpu waiting (op.Pull source) = refl
 taken-and-waiting homes cpu waiting (op.Renice task nice) = refl
+taken-and-waiting homes cpu waiting (op.Begin task nice slice) = refl
+taken-and-waiting homes cpu waiting (op.End task) = refl
+taken-and-waiting homes cpu waiting (op.Set task nice slice) = refl
+taken-and-waiting homes cpu waiting op.Rebase = refl
 
 -- an operation on the seat of a CPU that has posted to itself what its drains have taken and then what waits
 module _ (cpu : ℕ) (seat : Seat) (waiting : List ℕ) (stands : posted_to seat cpu ≡ wakes_from cpu seat.log ++ waiting) (lines : List Line) where
@@ -63,6 +67,10 @@ module _ (cpu : ℕ) (seat : Seat) (waiting : List ℕ) (stands : posted_to seat
   takes-own (op.Post task) own fits takes = ap (wakes_in cpu) fits
   takes-own (op.Pull source) own fits takes = ap (wakes_in cpu) fits
   takes-own (op.Renice task nice) own fits takes = ap (wakes_in cpu) fits
+  takes-own (op.Begin task nice slice) own fits takes = ap (wakes_in cpu) fits
+  takes-own (op.End task) own fits takes = ap (wakes_in cpu) fits
+  takes-own (op.Set task nice slice) own fits takes = ap (wakes_in cpu) fits
+  takes-own op.Rebase own fits takes = ap (wakes_in cpu) fits
 
   pub waits-after : (homes : List ℕ) (o : Op) → wakes_from cpu lines ≡ own_taken waiting o
       → posted_to seat cpu ++ post_of homes cpu o ≡ wakes_from cpu (seat.log ++ lines) ++ own_after homes cpu waiting o

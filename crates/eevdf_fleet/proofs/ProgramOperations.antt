@@ -7,17 +7,17 @@ use Rattle.eevdf_ops.specs.{declared.deeds.Deed.Deed, declared.deeds.Line.Line, 
 use Rattle.eevdf_ops.specs.declared.deeds.Op.TheVariants as op
 use Rattle.eevdf_ops.specs.OwnRequests.{AllFitWaiting, own_after, own_taken, own_waiting}
 use Rattle.eevdf_ops.specs.Programs.{FitsOperation, FitsOperations, deeds_of, post_of, wakes_from}
-use Rattle.eevdf_ops.specs.Setup.{Setup, cpus_of, home_of, homes_of}
+use Rattle.eevdf_ops.specs.Setup.{Setup, cpus_of, home_of, homes_of, is_task}
 use Rattle.eevdf_ops.proofs.SetupFaults.{passes}
 use Rattle.eevdf_fleet.specs.Fleets.{Seat, posted_to, with_post}
 use Rattle.eevdf_fleet.specs.ProgramRuns.{HasOperated, HasRun}
 use Rattle.eevdf_fleet.proofs.ProgramDrains.{fits-waiting-more, takes-own, waiting-more, waits-after}
 
 -- a task that is posted is one of the setup
-pub posts-known : (homes : List ℕ) (cpus cpu n task : ℕ) (o : Op) → operation_fault (length homes) cpus cpu n o ≡ None → o ≡ op.Post task → nat_lt task (length homes) ≡ true
-posts-known homes cpus cpu n task o e is = passes (nat_lt task (length homes)) _ (subst (λ (x : Op). operation_fault (length homes) cpus cpu n x ≡ None) is e)
+pub posts-known : (homes : List ℕ) (cpus cpu n task : ℕ) (o : Op) → operation_fault homes cpus cpu n o ≡ None → o ≡ op.Post task → nat_lt task (length homes) ≡ true
+posts-known homes cpus cpu n task o e is = passes (is_task homes task) _ (subst (λ (x : Op). operation_fault homes cpus cpu n x ≡ None) is e)
 
-pub posts-a-task : (homes : List ℕ) (cpus cpu n task : ℕ) (o : Op) → operation_fault (length homes) cpus cpu n o ≡ None → o ≡ op.Post task → task < length homes
+pub posts-a-task : (homes : List ℕ) (cpus cpu n task : ℕ) (o : Op) → operation_fault homes cpus cpu n o ≡ None → o ≡ op.Post task → task < length homes
 posts-a-task homes cpus cpu n task o e is = ltb-true task (length homes) (posts-known homes cpus cpu n task o e is)
 
 posted-next : (posted : List (List ℕ)) (at home task : ℕ) (b : Bool) → (at == home) ≡ b → at < length posted

@@ -22,11 +22,11 @@ pub record StandsAt (s : Setup) (cpu n : ℕ) (program : List Op) (o : Op) : Typ
   pub found : o ≡ get_or program n o
 
 pub placed-sound : (s : Setup) (cpu n : ℕ) (program : List Op) (o : Op) → StandsAt s cpu n program o
-    → operation_fault (length (homes_of s)) (cpus_of s) cpu n o ≡ None
+    → operation_fault (homes_of s) (cpus_of s) cpu n o ≡ None
 placed-sound s cpu n program o h =
     let found : o ≡ get_or (program_of s cpu) n o = h.found ∙ ap (λ (ops : List Op). get_or ops n o) h.program_is in
     let within : n < length (program_of s cpu) = subst (λ (ops : List Op). n < length ops) h.program_is h.within in
-    subst (λ (x : Op). operation_fault (length (homes_of s)) (cpus_of s) cpu n x ≡ None) (sym found) (operation_sound s cpu n o h.sound h.below within)
+    subst (λ (x : Op). operation_fault (homes_of s) (cpus_of s) cpu n x ≡ None) (sym found) (operation_sound s cpu n o h.sound h.below within)
 
 placed-asks : (s : Setup) (cpu n : ℕ) (program : List Op) (o : Op) → StandsAt s cpu n program o
     → program_room (cpus_of s) (take n program) + room_for (cpus_of s) o ≤ quota_for s

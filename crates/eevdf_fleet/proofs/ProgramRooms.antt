@@ -60,6 +60,10 @@ posts-counted homes home op.Yield = omega arith
 posts-counted homes home (op.Sleep task) = omega arith
 posts-counted homes home (op.Pull source) = omega arith
 posts-counted homes home (op.Renice task nice) = omega arith
+posts-counted homes home (op.Begin task nice slice) = omega arith
+posts-counted homes home (op.End task) = omega arith
+posts-counted homes home (op.Set task nice slice) = omega arith
+posts-counted homes home op.Rebase = omega arith
 posts-counted homes home op.Drain = omega arith
 
 pub all-posts-counted : (homes : List ℕ) (home : ℕ) (ops : List Op) → length (posts_in homes home ops) ≤ program_posts ops
@@ -75,4 +79,8 @@ posts-one homes home op.Yield some = absurd (some refl)
 posts-one homes home (op.Sleep task) some = absurd (some refl)
 posts-one homes home (op.Pull source) some = absurd (some refl)
 posts-one homes home (op.Renice task nice) some = absurd (some refl)
+posts-one homes home (op.Begin task nice slice) some = absurd (some refl)
+posts-one homes home (op.End task) some = absurd (some refl)
+posts-one homes home (op.Set task nice slice) some = absurd (some refl)
+posts-one homes home op.Rebase some = absurd (some refl)
 posts-one homes home op.Drain some = absurd (some refl)

@@ -3,7 +3,7 @@ use Rattle.std.specs.Prelude.{◌≡◌, ◌≤◌, ◌<◌, ◌+◌, ℕ, List,
 use Rattle.std.specs.{List.sum_by, Option.option_to_list}
 use Rattle.eevdf_ops.specs.{declared.deeds.Op.Op, declared.deeds.Line.Line, Followed.program_of, OwnRequests.AllFitWaiting}
 use Rattle.eevdf_ops.specs.OwnRequests.{own_waiting}
-use Rattle.eevdf_ops.specs.declared.deeds.Op.TheVariants.{Tick, Pick, Yield, Sleep, Post, Drain, Pull, Renice}
+use Rattle.eevdf_ops.specs.declared.deeds.Op.TheVariants.{Tick, Pick, Yield, Sleep, Post, Drain, Pull, Renice, Begin, End, Set, Rebase}
 use Rattle.eevdf_ops.specs.Programs.{FitsOperation, FitsProgram, deeds_of, post_of, posts_in, wakes_from}
 use Rattle.eevdf_ops.specs.Setup.{Setup, cpus_of, homes_of}
 use Rattle.eevdf_fleet.specs.{Drains.oldest_own, Fleets.Seat, Fleets.posted_to}
@@ -18,6 +18,10 @@ room_for cpus Yield = 1
 room_for cpus (Sleep task) = 1
 room_for cpus (Pull source) = 1
 room_for cpus (Renice task nice) = 1
+room_for cpus (Begin task nice slice) = 1
+room_for cpus (End task) = 1
+room_for cpus (Set task nice slice) = 1
+room_for cpus Rebase = 1
 
 abbrev pub program_room : ℕ → List Op → ℕ
 program_room cpus ops = sum_by (room_for cpus) ops
@@ -32,6 +36,10 @@ posts_of Yield = 0
 posts_of (Sleep task) = 0
 posts_of (Pull source) = 0
 posts_of (Renice task nice) = 0
+posts_of (Begin task nice slice) = 0
+posts_of (End task) = 0
+posts_of (Set task nice slice) = 0
+posts_of Rebase = 0
 
 abbrev pub program_posts : List Op → ℕ
 program_posts ops = sum_by posts_of ops

@@ -31,5 +31,6 @@ abbrev pub refused_text : Refused → List ℕ
 refused_text (refused.NoTask task) = codes "no task " ++ decimal task
 refused_text (refused.NoCpu cpu) = codes "no cpu " ++ decimal cpu
 refused_text refused.OwnCpu = codes "own cpu"
+refused_text (refused.OtherHome task) = codes "other home of task " ++ decimal task
 refused_text refused.SeatFull = seat_full_text
 refused_text (refused.RingFull full) = ring_full_text full

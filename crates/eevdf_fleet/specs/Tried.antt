@@ -3,11 +3,11 @@ use Rattle.std.specs.Prelude.{◌≡◌, ℕ, ◌≤◌, nat_lt, nat_le, ◌==�
 use Rattle.std.specs.Option.{option_or}
 use Rattle.eevdf_ops.specs.{declared.deeds.Op.Op, Programs.deed_of}
 use Rattle.eevdf_ops.specs.declared.deeds.Op.TheVariants as op
-use Rattle.eevdf_ops.specs.Setup.{Setup, cpus_of, home_of, homes_of, is_task}
+use Rattle.eevdf_ops.specs.Setup.{Setup, cpus_of, home_of, homes_of, is_at_home, is_task}
 use Rattle.eevdf_fleet.specs.declared.operated.Operated.{Operated}
 use Rattle.eevdf_fleet.specs.declared.operated.Operated.TheVariants.{Answer, Posted, Drained}
 use Rattle.eevdf_fleet.specs.declared.operated.Refused.{Refused}
-use Rattle.eevdf_fleet.specs.declared.operated.Refused.TheVariants.{NoTask, NoCpu, OwnCpu, SeatFull, RingFull}
+use Rattle.eevdf_fleet.specs.declared.operated.Refused.TheVariants.{NoTask, NoCpu, OwnCpu, OtherHome, SeatFull, RingFull}
 use Rattle.eevdf_fleet.specs.{Drains.HasDrained, ProgramRuns.room_for}
 use Rattle.eevdf_fleet.specs.Fleets.{Kit, Seat, capacity_of, logged, posted_to, setup_of, with_post}
 
@@ -18,18 +18,22 @@ unless passes reason = if passes then None else Some reason
 abbrev pub no_task : Setup → ℕ → Option Refused
 no_task s task = unless (is_task (homes_of s) task) (NoTask task)
 
--- why the setup doesn't allow an operation of a CPU: it hasn't the task that the operation names, or not the CPU to pull from, or that is
--- the CPU itself
+-- why the setup doesn't allow an operation of a CPU: it hasn't the task that the operation names, or the task to begin has its home at
+-- another CPU; or it hasn't the CPU to pull from, or that is the CPU itself
 abbrev pub not_allowed : Setup → ℕ → Op → Option Refused
 not_allowed s cpu (op.Sleep task) = no_task s task
 not_allowed s cpu (op.Post task) = no_task s task
 not_allowed s cpu (op.Renice task nice) = no_task s task
+not_allowed s cpu (op.End task) = no_task s task
+not_allowed s cpu (op.Set task nice slice) = no_task s task
+not_allowed s cpu (op.Begin task nice slice) = option_or (no_task s task) (unless (is_at_home (homes_of s) task cpu) (OtherHome task))
 not_allowed s cpu (op.Pull source) =
     option_or (unless (nat_lt source (cpus_of s)) (NoCpu source)) (unless (not (source == cpu)) OwnCpu)
 not_allowed s cpu (op.Tick ns) = None
 not_allowed s cpu op.Pick = None
 not_allowed s cpu op.Yield = None
 not_allowed s cpu op.Drain = None
+not_allowed s cpu op.Rebase = None
 
 -- why a fleet that keeps its history doesn't begin an operation: the setup doesn't allow it, or else the seat has too little room
 abbrev pub refusal : Setup → Seat → Op → Option Refused

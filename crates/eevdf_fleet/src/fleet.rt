@@ -67,8 +67,8 @@ impl<N: Names> Fleet<N> {
     }
 
     /// Charges `ns` nanoseconds to the task that runs on the seat's CPU (`Deed::Tick`). `Charged` says whether its request
-    /// was used up; `Idle`: nobody runs; `Range`: a virtual time would leave its range, and nothing changes. `SeatFull`
-    /// where the seat has no room.
+    /// was used up; `Idle`: nobody runs; `Range`: a virtual time would leave its range, and nothing changes.
+    /// `SeatFull` where the seat has no room.
     pub fn tick<R: Wait>(&self, rt: &R, seat: &mut Seat<N>, ns: Ns) -> Result<Answer, SeatFull>
         ensures cases { IsLogged (Deed.Tick seat.old.cpu ns) seat.old seat.new result }
         ensures full { IsErr result ↔ (seat.old.room < 1) }
@@ -78,8 +78,8 @@ impl<N: Names> Fleet<N> {
     }
 
     /// Makes the eligible task of earliest virtual deadline run on the seat's CPU, among equal deadlines that of lowest
-    /// number (`Deed::Pick`; Stoica and Abdel-Wahab 1995). `Idle`: no task is runnable there. `SeatFull` where the seat has
-    /// no room.
+    /// number (`Deed::Pick`; Stoica and Abdel-Wahab 1995). `Idle`: no task is runnable there.
+    /// `SeatFull` where the seat has no room.
     pub fn pick<R: Wait>(&self, rt: &R, seat: &mut Seat<N>) -> Result<Answer, SeatFull>
         ensures cases { IsLogged (Deed.Pick seat.old.cpu) seat.old seat.new result }
         ensures full { IsErr result ↔ (seat.old.room < 1) }
@@ -215,8 +215,8 @@ impl<N: Names> Fleet<N> {
     }
 
     /// Lowers all virtual times of the seat's CPU by one number, so that its virtual time is 0 (`Deed::Rebase`). `Rebased` has
-    /// the number; where one of them would leave the range it is 0, and nothing changes. `SeatFull` where the seat has no
-    /// room.
+    /// the number; where one of them would leave the range it is 0, and nothing changes.
+    /// `SeatFull` where the seat has no room.
     pub fn rebase<R: Wait>(&self, rt: &R, seat: &mut Seat<N>) -> Result<Answer, SeatFull>
         ensures cases { IsLogged (Deed.Rebase seat.old.cpu) seat.old seat.new result }
         ensures full { IsErr result ↔ (seat.old.room < 1) }
@@ -226,8 +226,8 @@ impl<N: Names> Fleet<N> {
     }
 
     /// Takes at most one of the requests that each CPU posted to the seat's CPU, senders in ascending order, and decides
-    /// each by `Deed::Wake`. Of the seat's own requests it takes the oldest; it may miss requests of other seats. `SeatFull`
-    /// where the room is less than the number of CPUs, however many requests there are.
+    /// each by `Deed::Wake`. Of the seat's own requests it takes the oldest; it may miss requests of other seats.
+    /// `SeatFull` where the room is less than the number of CPUs, however many requests there are.
     pub fn drain<R: Wait>(&self, rt: &R, seat: &mut Seat<N>) -> Result<Drained, SeatFull>
         ensures cases { MatchResult result
             (λ drained. HasDrained seat.old seat.new drained)

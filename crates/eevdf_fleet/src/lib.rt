@@ -14,6 +14,7 @@
 #![tactic(auto)]
 
 mod agreement;
+mod allowed_operations;
 mod board;
 mod call;
 mod closing;

@@ -23,6 +23,8 @@ pub enum Refused {
     NoCpu(CpuId),
     /// A pull was to be from the seat's own CPU.
     OwnCpu,
+    /// The task that was to begin has its home at another CPU than the seat's.
+    OtherHome(TaskId),
     /// The seat has room for fewer lines than the operation may need: one, or for a drain one for each CPU. A fleet that keeps no history
     /// never says so.
     SeatFull,

@@ -119,7 +119,7 @@ impl<N: Names> RunQueues<N> {
     pub(crate) fn has_task(&self, task: TaskId) -> bool
         ensures { result ≡ is_task (homes_of (setup_of N.kit)) task }
     {
-        task.index() < self.homes.len()
+        Homes::Alone(&self.homes).has_task(task)
     }
 
     /// Whether the setup has a CPU.

@@ -46,7 +46,7 @@ impl<N: Names> Fleet<N> {
 
     /// Does an operation of a program on its seat. There is room for it.
     fn run_operation<R: Wait, G: Gate>(&self, call: &Call<'_, R, G>, seat: &mut Seat<N>, op: Op)
-        requires sound { (n : ℕ) × (operation_fault (length (homes_of (setup_of N.kit)))
+        requires sound { (n : ℕ) × (operation_fault (homes_of (setup_of N.kit))
             (cpus_of (setup_of N.kit)) seat.old.cpu n op ≡ None) }
         requires room { room_for (cpus_of (setup_of N.kit)) op ≤ seat.old.room }
         requires ring { (home : ℕ) → home < cpus_of (setup_of N.kit)

@@ -64,6 +64,7 @@ impl fmt::Display for Refused {
             Refused::NoTask(task) => write!(f, "no task {task}"),
             Refused::NoCpu(cpu) => write!(f, "no cpu {cpu}"),
             Refused::OwnCpu => f.write_str("own cpu"),
+            Refused::OtherHome(task) => write!(f, "other home of task {task}"),
             Refused::SeatFull => f.write_str("seat full"),
             Refused::RingFull(full) => write!(f, "{full}"),
         }

@@ -1,6 +1,6 @@
 //! An operation that may name what the setup hasn't.
 
-ghost use Rattle.std.specs.Prelude.{◌≡◌, true, false, MatchOption, MatchResult, IfErr, Err};
+ghost use Rattle.std.specs.Prelude.{◌≡◌, MatchOption, MatchResult, IfErr, Err};
 ghost use Rattle.eevdf_fleet.specs.{Fleets.setup_of, Tried.IsOperated, Tried.IsRingFull, Tried.refusal};
 
 use crate::fleet::{Fleet, SeatFull};
@@ -12,9 +12,10 @@ use std::sync::Wait;
 
 impl<N: Names> Fleet<N> {
     /// Does an operation of a program with the seat where the setup allows it, and gives what the call of its own for it gives. Else the
-    /// answer is `NoTask` where the setup hasn't the task of a `Sleep`, a `Renice` or a `Post`, `NoCpu` where it hasn't the CPU that a
-    /// `Pull` is from, and `OwnCpu` where that is the seat's own. `SeatFull` where the setup allows the operation and the seat hasn't the
-    /// room, and `RingFull` where the ring doesn't take a post. A refusal changes nothing.
+    /// answer is `NoTask` where the setup hasn't the task that the operation names, `OtherHome` where a task that is to begin has its home
+    /// at another CPU, `NoCpu` where the setup hasn't the CPU that a `Pull` is from, and `OwnCpu` where that is the seat's own.
+    /// `SeatFull` where the setup allows the operation and the seat hasn't the room, and `RingFull` where the ring doesn't take a post. A
+    /// refusal changes nothing.
     #[inline(always)]
     pub fn try_operate<R: Wait>(
         &self,
@@ -30,26 +31,22 @@ impl<N: Names> Fleet<N> {
             (λ _. seat.new ≡ seat.old) }
         ensures cpu { seat.new.cpu ≡ seat.old.cpu }
     {
+        if let Some(reason) = self.queues.not_allowed(seat.cpu(), &op) {
+            return Err(reason);
+        }
         // One place for all answers costs less than one for each.
         let answer = match op {
             Op::Tick(ns) => self.tick(rt, seat, ns),
             Op::Pick => self.pick(rt, seat),
             Op::Yield => self.yield_now(rt, seat),
-            Op::Sleep(task) => {
-                unless(self.has_task(task), Refused::NoTask(task))?;
-                self.sleep(rt, seat, task)
-            }
-            Op::Renice(task, nice) => {
-                unless(self.has_task(task), Refused::NoTask(task))?;
-                self.renice(rt, seat, task, nice)
-            }
-            Op::Pull(source) => {
-                unless(self.has_cpu(source), Refused::NoCpu(source))?;
-                unless(source != seat.cpu(), Refused::OwnCpu)?;
-                self.pull(rt, seat, source)
-            }
+            Op::Sleep(task) => self.sleep(rt, seat, task),
+            Op::Renice(task, nice) => self.renice(rt, seat, task, nice),
+            Op::Pull(source) => self.pull(rt, seat, source),
+            Op::Begin(task, nice, slice) => self.begin(rt, seat, task, nice, slice),
+            Op::End(task) => self.end(rt, seat, task),
+            Op::Set(task, nice, slice) => self.set(rt, seat, task, nice, slice),
+            Op::Rebase => self.rebase(rt, seat),
             Op::Post(task) => {
-                unless(self.has_task(task), Refused::NoTask(task))?;
                 return match seat.post(task) {
                     Ok(()) => Ok(Operated::Posted),
                     Err(full) => Err(Refused::RingFull(full)),
@@ -67,12 +64,4 @@ impl<N: Names> Fleet<N> {
             Err(SeatFull) => Err(Refused::SeatFull),
         }
     }
-}
-
-/// `Err` with the reason, unless the test passes.
-#[inline(always)]
-pub(crate) fn unless(passes: bool, reason: Refused) -> Result<(), Refused>
-    ensures { MatchResult result (λ _. passes ≡ true) (λ given. (passes ≡ false) × (given ≡ reason)) }
-{
-    if passes { Ok(()) } else { Err(reason) }
 }

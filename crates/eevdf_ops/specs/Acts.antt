@@ -58,3 +58,7 @@ local_of (op.Post task) = None
 local_of op.Drain = None
 local_of (op.Pull source) = None
 local_of (op.Renice task nice) = Some (local.Renice task nice)
+local_of (op.Begin task nice slice) = Some (local.Begin task nice slice)
+local_of (op.End task) = None
+local_of (op.Set task nice slice) = Some (local.Set task nice slice)
+local_of op.Rebase = Some local.Rebase

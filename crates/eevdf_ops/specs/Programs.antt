@@ -13,6 +13,10 @@ deed_of cpu op.Yield = Some (deed.Yield cpu)
 deed_of cpu (op.Sleep task) = Some (deed.Sleep cpu task)
 deed_of cpu (op.Pull source) = Some (deed.Pull cpu source)
 deed_of cpu (op.Renice task nice) = Some (deed.Renice cpu task nice)
+deed_of cpu (op.Begin task nice slice) = Some (deed.Begin cpu task nice slice)
+deed_of cpu (op.End task) = Some (deed.End cpu task)
+deed_of cpu (op.Set task nice slice) = Some (deed.Set cpu task nice slice)
+deed_of cpu op.Rebase = Some (deed.Rebase cpu)
 deed_of cpu (op.Post task) = None
 deed_of cpu op.Drain = None
 
@@ -56,6 +60,10 @@ post_of homes home op.Yield = []
 post_of homes home (op.Sleep task) = []
 post_of homes home (op.Pull source) = []
 post_of homes home (op.Renice task nice) = []
+post_of homes home (op.Begin task nice slice) = []
+post_of homes home (op.End task) = []
+post_of homes home (op.Set task nice slice) = []
+post_of homes home op.Rebase = []
 post_of homes home op.Drain = []
 
 abbrev pub posts_in : List ℕ → ℕ → List Op → List ℕ

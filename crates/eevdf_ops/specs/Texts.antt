@@ -19,6 +19,10 @@ operation_text (op.Post task) = codes "post " ++ decimal task
 operation_text op.Drain = codes "drain"
 operation_text (op.Pull source) = codes "pull " ++ decimal source
 operation_text (op.Renice task nice) = codes "renice " ++ decimal task ++ codes " " ++ signed_decimal nice
+operation_text (op.Begin task nice slice) = codes "begin " ++ decimal task ++ codes " " ++ signed_decimal nice ++ codes " " ++ decimal slice
+operation_text (op.End task) = codes "end " ++ decimal task
+operation_text (op.Set task nice slice) = codes "set " ++ decimal task ++ codes " " ++ signed_decimal nice ++ codes " " ++ decimal slice
+operation_text op.Rebase = codes "rebase"
 
 -- a deed as a schedule lists it, without its CPU
 abbrev pub deed_text : Deed → List ℕ

@@ -22,6 +22,14 @@ pub enum Op {
     Pull(CpuId),
     /// This task, if it is runnable here, gets this nice level.
     Renice(TaskId, Nice),
+    /// This task, if it sleeps here, its home, begins anew with this nice level and slice.
+    Begin(TaskId, Nice, Slice),
+    /// This task, if it is runnable here, running or waiting, ends: it falls asleep at its home without a lag.
+    End(TaskId),
+    /// This task, if it is runnable here or sleeps here, gets this nice level and slice.
+    Set(TaskId, Nice, Slice),
+    /// All virtual times here are lowered by one number.
+    Rebase,
 }
 
 impl Op {
@@ -40,12 +48,26 @@ impl Op {
             Op::Sleep(task) => Some(Deed::Sleep { cpu, task }),
             Op::Pull(source) => Some(Deed::Pull { cpu, source }),
             Op::Renice(task, nice) => Some(Deed::Renice { cpu, task, nice }),
+            Op::Begin(task, nice, slice) => Some(Deed::Begin {
+                cpu,
+                task,
+                nice,
+                slice,
+            }),
+            Op::End(task) => Some(Deed::End { cpu, task }),
+            Op::Set(task, nice, slice) => Some(Deed::Set {
+                cpu,
+                task,
+                nice,
+                slice,
+            }),
+            Op::Rebase => Some(Deed::Rebase { cpu }),
             Op::Post(_) | Op::Drain => None,
         }
     }
 
-    /// What the operation does, where it touches its CPU's run queue alone, whatever homes the tasks have. `None` of a sleep, a post, a
-    /// drain and a pull.
+    /// What the operation does, where it touches its CPU's run queue alone, whatever homes the tasks have. `None` of a sleep, an end, a
+    /// post, a drain and a pull.
     pub fn local(self) -> Option<LocalAct>
         ensures { result ≡ local_of self }
     {
@@ -54,7 +76,10 @@ impl Op {
             Op::Pick => Some(LocalAct::Pick),
             Op::Yield => Some(LocalAct::Yield),
             Op::Renice(task, nice) => Some(LocalAct::Renice(task, nice)),
-            Op::Sleep(_) | Op::Post(_) | Op::Drain | Op::Pull(_) => None,
+            Op::Begin(task, nice, slice) => Some(LocalAct::Begin(task, nice, slice)),
+            Op::Set(task, nice, slice) => Some(LocalAct::Set(task, nice, slice)),
+            Op::Rebase => Some(LocalAct::Rebase),
+            Op::Sleep(_) | Op::End(_) | Op::Post(_) | Op::Drain | Op::Pull(_) => None,
         }
     }
 }

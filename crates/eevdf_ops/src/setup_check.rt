@@ -4,10 +4,12 @@ ghost use Rattle.std.specs.Prelude.{◌≡◌, ◌+ℤ◌, pos, true, length, ma
 ghost use Rattle.eevdf_weight.specs.Limits as limits;
 ghost use Rattle.eevdf_queue.specs.Moves.{request_of};
 ghost use Rattle.eevdf_ops.specs.Faults as faults;
-ghost use Rattle.eevdf_ops.specs.Setup.{is_source};
+ghost use Rattle.eevdf_ops.specs.Homes.{homes_in};
+ghost use Rattle.eevdf_ops.specs.Setup.{is_at_home, is_source};
 
 use crate::cpu_id::CpuId;
 use crate::deeds::Op;
+use crate::homes::Homes;
 use crate::setup::Setup;
 use crate::setup_fault::SetupFault;
 use crate::task_spec::TaskSpec;
@@ -21,7 +23,7 @@ pub(crate) fn setup_fault(tasks: &[TaskSpec], programs: &[Vec<Op>]) -> Option<Se
     unless(is_count(programs.len(), CpuId::COUNT), SetupFault::BadCpus)
         .or(unless(is_count(tasks.len(), TaskId::COUNT), SetupFault::BadTasks))
         .or(tasks_fault(programs.len(), tasks))
-        .or(programs_fault(tasks.len(), programs.len(), programs))
+        .or(programs_fault(Homes::Of(tasks), programs.len(), programs))
 }
 
 fn tasks_fault(cpus: usize, tasks: &[TaskSpec]) -> Option<SetupFault>
@@ -59,11 +61,11 @@ fn first_deadline(task: TaskSpec) -> i64
     task.start + charge(task.slice.get(), weight(task.nice))
 }
 
-fn programs_fault(tasks: usize, cpus: usize, programs: &[Vec<Op>]) -> Option<SetupFault>
-    ensures { result ≡ faults.programs_fault tasks cpus 0 (map (λ p. p.items) programs.now) }
+fn programs_fault(homes: Homes<'_>, cpus: usize, programs: &[Vec<Op>]) -> Option<SetupFault>
+    ensures { result ≡ faults.programs_fault (homes_in homes.entry) cpus 0 (map (λ p. p.items) programs.now) }
 {
     for (cpu, program) in programs.iter().enumerate() {
-        let fault = program_fault(tasks, cpus, cpu, program);
+        let fault = program_fault(homes, cpus, cpu, program);
         if fault.is_some() {
             return fault;
         }
@@ -71,21 +73,21 @@ fn programs_fault(tasks: usize, cpus: usize, programs: &[Vec<Op>]) -> Option<Set
     None
 }
 
-fn program_fault(tasks: usize, cpus: usize, cpu: usize, program: &[Op]) -> Option<SetupFault>
-    ensures { result ≡ faults.program_fault tasks cpus cpu program.now }
+fn program_fault(homes: Homes<'_>, cpus: usize, cpu: usize, program: &[Op]) -> Option<SetupFault>
+    ensures { result ≡ faults.program_fault (homes_in homes.entry) cpus cpu program.now }
 {
     unless(
         program.len() <= Setup::MOST_OPERATIONS,
         SetupFault::TooLong { cpu },
     )
-    .or(operations_fault(tasks, cpus, cpu, program))
+    .or(operations_fault(homes, cpus, cpu, program))
 }
 
-fn operations_fault(tasks: usize, cpus: usize, cpu: usize, program: &[Op]) -> Option<SetupFault>
-    ensures { result ≡ faults.operations_fault tasks cpus cpu 0 program.now }
+fn operations_fault(homes: Homes<'_>, cpus: usize, cpu: usize, program: &[Op]) -> Option<SetupFault>
+    ensures { result ≡ faults.operations_fault (homes_in homes.entry) cpus cpu 0 program.now }
 {
     for (at, operation) in program.iter().enumerate() {
-        let fault = operation_fault(tasks, cpus, cpu, at, *operation);
+        let fault = operation_fault(homes, cpus, cpu, at, *operation);
         if fault.is_some() {
             return fault;
         }
@@ -94,25 +96,38 @@ fn operations_fault(tasks: usize, cpus: usize, cpu: usize, program: &[Op]) -> Op
 }
 
 fn operation_fault(
-    tasks: usize,
+    homes: Homes<'_>,
     cpus: usize,
     cpu: usize,
     at: usize,
     operation: Op,
 ) -> Option<SetupFault>
-    ensures { result ≡ faults.operation_fault tasks cpus cpu at operation }
+    ensures { result ≡ faults.operation_fault (homes_in homes.entry) cpus cpu at operation }
 {
+    let unknown_task = SetupFault::UnknownTask { cpu, at };
     match operation {
-        Op::Tick(_) | Op::Pick | Op::Yield | Op::Drain => None,
-        Op::Sleep(task) | Op::Post(task) | Op::Renice(task, _) => unless(
-            task.index() < tasks,
-            SetupFault::UnknownTask { cpu, at },
-        ),
+        Op::Tick(_) | Op::Pick | Op::Yield | Op::Drain | Op::Rebase => None,
+        Op::Sleep(task)
+        | Op::Post(task)
+        | Op::Renice(task, _)
+        | Op::End(task)
+        | Op::Set(task, _, _) => unless(homes.has_task(task), unknown_task),
+        Op::Begin(task, _, _) => unless(homes.has_task(task), unknown_task).or(unless(
+            is_at_home(homes, task, cpu),
+            SetupFault::BadBegin { cpu, at },
+        )),
         Op::Pull(source) => unless(
             is_source(cpus, cpu, source),
             SetupFault::BadPull { cpu, at },
         ),
     }
+}
+
+/// Whether a task has its home at this CPU.
+fn is_at_home(homes: Homes<'_>, task: TaskId, cpu: usize) -> bool
+    ensures { result ≡ is_at_home (homes_in homes.entry) task cpu }
+{
+    homes.has_task(task) && homes.home(task).index() == cpu
 }
 
 /// Whether a CPU may pull from this one.

@@ -20,6 +20,8 @@ pub enum SetupFault {
     /// The operation at this place of the program of this CPU pulls from its own CPU, or from none of the
     /// setup.
     BadPull { cpu: usize, at: usize },
+    /// The operation at this place of the program of this CPU begins a task that has its home at another CPU.
+    BadBegin { cpu: usize, at: usize },
     /// Out of memory.
     Memory,
 }
@@ -42,6 +44,7 @@ impl fmt::Display for SetupFault {
                 write!(f, "unknown task at program {cpu} at {at}")
             }
             SetupFault::BadPull { cpu, at } => write!(f, "bad pull at program {cpu} at {at}"),
+            SetupFault::BadBegin { cpu, at } => write!(f, "bad begin at program {cpu} at {at}"),
             SetupFault::Memory => f.write_str("memory"),
         }
     }

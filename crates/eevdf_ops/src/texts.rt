@@ -20,6 +20,10 @@ impl fmt::Display for Op {
             Op::Drain => f.write_str("drain"),
             Op::Pull(source) => write!(f, "pull {source}"),
             Op::Renice(task, nice) => write!(f, "renice {task} {nice}"),
+            Op::Begin(task, nice, slice) => write!(f, "begin {task} {nice} {slice}"),
+            Op::End(task) => write!(f, "end {task}"),
+            Op::Set(task, nice, slice) => write!(f, "set {task} {nice} {slice}"),
+            Op::Rebase => f.write_str("rebase"),
         }
     }
 }
@@ -33,26 +37,26 @@ impl fmt::Display for Deed {
             Deed::Wake { cpu, task, sender } => {
                 return write!(f, "{cpu} wake {task} from {sender}");
             }
-            Deed::Begin {
-                cpu,
-                task,
-                nice,
-                slice,
-            } => return write!(f, "{cpu} begin {task} {nice} {slice}"),
-            Deed::End { cpu, task } => return write!(f, "{cpu} end {task}"),
-            Deed::Set {
-                cpu,
-                task,
-                nice,
-                slice,
-            } => return write!(f, "{cpu} set {task} {nice} {slice}"),
-            Deed::Rebase { cpu } => return write!(f, "{cpu} rebase"),
             Deed::Tick { cpu, ns } => (cpu, Op::Tick(ns)),
             Deed::Pick { cpu } => (cpu, Op::Pick),
             Deed::Yield { cpu } => (cpu, Op::Yield),
             Deed::Sleep { cpu, task } => (cpu, Op::Sleep(task)),
             Deed::Pull { cpu, source } => (cpu, Op::Pull(source)),
             Deed::Renice { cpu, task, nice } => (cpu, Op::Renice(task, nice)),
+            Deed::Begin {
+                cpu,
+                task,
+                nice,
+                slice,
+            } => (cpu, Op::Begin(task, nice, slice)),
+            Deed::End { cpu, task } => (cpu, Op::End(task)),
+            Deed::Set {
+                cpu,
+                task,
+                nice,
+                slice,
+            } => (cpu, Op::Set(task, nice, slice)),
+            Deed::Rebase { cpu } => (cpu, Op::Rebase),
         };
         write!(f, "{cpu} {operation}")
     }

@@ -12,10 +12,10 @@ use Rattle.eevdf_steps.specs.{declared.micro.Micro.Micro, declared.plan.Step.Ste
 use Rattle.eevdf_steps.specs.{SoundSteps.is_sound_step, declared.micro.Micro.TheVariants.Take}
 use Rattle.eevdf_steps.specs.declared.micro.Micro.TheVariants.{Commit, Settle, Post}
 use Rattle.eevdf_steps.specs.Counters.{count_of, done_by, step_next}
-use Rattle.eevdf_steps.specs.Plan.{IsSound, Plan, callers, home, is_sound_op, plan_of, pulls_elsewhere}
+use Rattle.eevdf_steps.specs.Plan.{IsSound, Plan, callers, fits_cpu, home, is_sound_op, plan_of}
 use Rattle.eevdf_steps.specs.Requests.{Progress, found_by, oldest, post_to, posted, posts_to, progress_at_start, progress_by, progress_step, requested, taken_of, takes}
 use Rattle.eevdf_steps.specs.Commits.{commits, committed, committed_by, deeds_committed}
-use Rattle.eevdf_steps.proofs.{Holders.none_first, SoundDeeds.next_pulls_elsewhere}
+use Rattle.eevdf_steps.proofs.{Holders.none_first, SoundDeeds.next_fits_cpu}
 use Rattle.eevdf_steps.proofs.SoundSteps.{all_joined, all_steps_sound, is_caller, some_all, step_sound}
 
 all_taken : {A : Type 0} (test : A → Bool) (xs : List A) (k : ℕ) → list_all test xs ≡ true → list_all test (take k xs) ≡ true
@@ -88,34 +88,38 @@ record SoundStep (plan : Plan) (g : Progress) (x : ℕ) (s : Step) : Type 0 wher
   caller : x < callers plan
   op : is_sound_op plan s.op ≡ true
   micro : is_sound_micro plan s.micro ≡ true
-  pulls : pulls_elsewhere x s.op ≡ true
+  fits : fits_cpu plan.homes x s.op ≡ true
 
 sound_step : (plan : Plan) (g : Progress) (x : ℕ) (s : Step) → IsSound plan → step_next plan g.counters x ≡ Some s → SoundStep plan g x s
 sound_step plan g x s sound e =
     let caller : x < callers plan = is_caller plan g.counters x s e in
     let parts = and_parts (is_sound_op plan s.op) (is_sound_micro plan s.micro) (step_sound plan g.counters x s sound caller e) in
-    record { caller = caller; op = parts.0; micro = parts.1; pulls = next_pulls_elsewhere plan g.counters x s sound e }
+    record { caller = caller; op = parts.0; micro = parts.1; fits = next_fits_cpu plan g.counters x s sound e }
 
 abbrev AllAllowed : Plan → List Deed → Type 0
 AllAllowed plan deeds = list_all (is_allowed (callers plan) plan.homes) deeds ≡ true
 
-deed_allowed : (plan : Plan) (x : ℕ) (o : Op) → nat_lt x (callers plan) ≡ true → is_sound_op plan o ≡ true → pulls_elsewhere x o ≡ true
+deed_allowed : (plan : Plan) (x : ℕ) (o : Op) → nat_lt x (callers plan) ≡ true → is_sound_op plan o ≡ true → fits_cpu plan.homes x o ≡ true
     → AllAllowed plan (option_to_list (deed_of x o))
-deed_allowed plan x (op.Tick ns) h sound pulls = and_from _ true h refl
-deed_allowed plan x op.Pick h sound pulls = and_from _ true h refl
-deed_allowed plan x op.Yield h sound pulls = and_from _ true h refl
-deed_allowed plan x (op.Sleep task) h sound pulls = and_from _ true (and_from _ _ h sound) refl
-deed_allowed plan x (op.Renice task nice) h sound pulls = and_from _ true (and_from _ _ h sound) refl
-deed_allowed plan x (op.Pull source) h sound pulls = and_from _ true (and_from _ _ h (and_from _ _ sound pulls)) refl
-deed_allowed plan x (op.Post task) h sound pulls = refl
-deed_allowed plan x op.Drain h sound pulls = refl
+deed_allowed plan x (op.Tick ns) h sound fits = and_from _ true h refl
+deed_allowed plan x op.Pick h sound fits = and_from _ true h refl
+deed_allowed plan x op.Yield h sound fits = and_from _ true h refl
+deed_allowed plan x (op.Sleep task) h sound fits = and_from _ true (and_from _ _ h sound) refl
+deed_allowed plan x (op.Renice task nice) h sound fits = and_from _ true (and_from _ _ h sound) refl
+deed_allowed plan x (op.Begin task nice slice) h sound fits = and_from _ true (and_from _ _ h fits) refl
+deed_allowed plan x (op.End task) h sound fits = and_from _ true (and_from _ _ h sound) refl
+deed_allowed plan x (op.Set task nice slice) h sound fits = and_from _ true (and_from _ _ h sound) refl
+deed_allowed plan x op.Rebase h sound fits = and_from _ true h refl
+deed_allowed plan x (op.Pull source) h sound fits = and_from _ true (and_from _ _ h (and_from _ _ sound fits)) refl
+deed_allowed plan x (op.Post task) h sound fits = refl
+deed_allowed plan x op.Drain h sound fits = refl
 
-micro_allowed : (plan : Plan) (found : Option ℕ) (x : ℕ) (o : Op) (m : Micro) → x < callers plan → is_sound_op plan o ≡ true → pulls_elsewhere x o ≡ true
+micro_allowed : (plan : Plan) (found : Option ℕ) (x : ℕ) (o : Op) (m : Micro) → x < callers plan → is_sound_op plan o ≡ true → fits_cpu plan.homes x o ≡ true
     → is_sound_micro plan m ≡ true → IsForHome plan x found → AllAllowed plan (option_to_list (committed found x o m))
-micro_allowed plan found x o Commit h sound pulls well own = deed_allowed plan x o (lt-ltb x (callers plan) h) sound pulls
-micro_allowed plan None x o (Settle s) h sound pulls well own = refl
-micro_allowed plan (Some task) x o (Settle s) h sound pulls well own = and_from _ true (and_from _ _ (and_from _ _ (lt-ltb x (callers plan) h) well) own) refl
-micro_allowed plan found x o _ h sound pulls well own = refl
+micro_allowed plan found x o Commit h sound fits well own = deed_allowed plan x o (lt-ltb x (callers plan) h) sound fits
+micro_allowed plan None x o (Settle s) h sound fits well own = refl
+micro_allowed plan (Some task) x o (Settle s) h sound fits well own = and_from _ true (and_from _ _ (and_from _ _ (lt-ltb x (callers plan) h) well) own) refl
+micro_allowed plan found x o _ h sound fits well own = refl
 
 -- a step commits what is allowed, and leaves each caller with requests of its own
 step_allowed : (plan : Plan) (g : Progress) (x : ℕ) (r : Option Step) → IsSound plan → FindTheirOwn plan g → step_next plan g.counters x ≡ r
@@ -123,7 +127,7 @@ step_allowed : (plan : Plan) (g : Progress) (x : ℕ) (r : Option Step) → IsSo
 step_allowed plan g x None sound own e = (refl, own)
 step_allowed plan g x (Some s) sound own e =
     let st : SoundStep plan g x s = sound_step plan g x s sound e in
-    (micro_allowed plan (found_by g x) x s.op s.micro st.caller st.op st.pulls st.micro (own x), requested_own plan g x s.micro sound st.micro own)
+    (micro_allowed plan (found_by g x) x s.op s.micro st.caller st.op st.fits st.micro (own x), requested_own plan g x s.micro sound st.micro own)
 
 allowed_from : (plan : Plan) (g : Progress) (order : List ℕ) → IsSound plan → FindTheirOwn plan g → AllAllowed plan (commits plan g order)
 allowed_from plan g [] sound own = refl

@@ -6,10 +6,11 @@ use Rattle.eevdf_queue.specs.State.{State, Contents, empty_state}
 use Rattle.eevdf_queue.specs.{Moves.put_asleep, Moves.sleeper_of, Leaving.carried_running, Leaving.leave, Placing.can_place}
 use Rattle.eevdf_ops.specs.{declared.deeds.Op.Op, declared.deeds.Deed.Deed, declared.deeds.Answer.Answer}
 use Rattle.eevdf_ops.specs.{declared.deeds.Answer.TheVariants.NotRunning, declared.deeds.Answer.TheVariants.Pulled, Machine.Machine}
+use Rattle.eevdf_ops.specs.{declared.deeds.Answer.TheVariants.Ended, declared.deeds.Answer.TheVariants.NotHere, WholeEnd.ending}
 use Rattle.eevdf_ops.specs.{Machine.queue_at, Whole.whole, WholeSleep.slept, Programs.deed_of}
 use Rattle.eevdf_ops.specs.declared.deeds.Op.TheVariants as op
 use Rattle.eevdf_ops.specs.declared.deeds.Deed.TheVariants as deed
-use Rattle.eevdf_ops.specs.Parts.{after_leaving, after_falling_asleep, after_joining, answer_of_pull, answer_of_sleep, giver, only_at, taken}
+use Rattle.eevdf_ops.specs.Parts.{after_leaving, after_falling_asleep, after_joining, answer_of_end, answer_of_pull, answer_of_sleep, giver, only_at, taken}
 use Rattle.eevdf_ops.specs.PartsLaws as laws
 use Rattle.eevdf_ops.specs.WholePull.{load_of, offer, pull_decision, with_task}
 use Rattle.eevdf_ops.proofs.LocalParts.{changed, idle, untaken, whole-after, whole-answer}
@@ -19,7 +20,7 @@ use Rattle.eevdf_steps.specs.Plan.{Plan, callers, home}
 use Rattle.eevdf_steps.specs.Counters.{Counters, counted, holds}
 use Rattle.eevdf_steps.specs.{declared.plan.Step.Step, Serial.begun_by}
 use Rattle.eevdf_steps.specs.UnderWay.{KeepsAnswer, UnderWay, begun, hand_seen, leaves, queue_seen, under_way}
-use Rattle.eevdf_steps.specs.Work.{Work, acted, answer, answered, attach_asleep, attach_pulled, detach_pulled, detach_running, detached, emptied, hand, with_queue}
+use Rattle.eevdf_steps.specs.Work.{Work, acted, answer, answered, attach_asleep, attach_pulled, detach_ending, detach_pulled, detach_running, detached, emptied, hand, with_queue}
 use Rattle.eevdf_steps.proofs.OtherCallers.{IsStepOf}
 use Rattle.eevdf_steps.proofs.OwnSteps.{AtStep, begun_now, local_step, sees_history, hand_empty, other_held}
 
@@ -82,6 +83,15 @@ module _ {plan : Plan} {counters : Counters} {p : ℕ} {m : Machine} {w : Work} 
       refused_step (deed.Sleep p t) NotRunning at now (whole-answer plan.homes (deed.Sleep p t) m ∙ ap answer_of_sleep e) e
   sleep_leaves t (Some x) at now own e =
       grasped_step (deed.Sleep p t) x (slept x) at now own (omega (arith, at.caller, at.queues)) (whole-answer plan.homes (deed.Sleep p t) m ∙ ap answer_of_sleep e) e
+
+  -- the runnable task that is to end
+  pub end_leaves : (t : ℕ) (r : Option Contents) → AtStep plan counters p m w (op.End t) Detach
+      → begun_by plan (counted counters p) p ≡ Some (record { deed = deed.End p t; done = false }) → holds plan counters p p ≡ true
+      → ending (queue_at m p) t ≡ r → IsStepOf plan counters p m m w (detach_ending w p r)
+  end_leaves t None at now own e =
+      refused_step (deed.End p t) NotHere at now (whole-answer plan.homes (deed.End p t) m ∙ ap answer_of_end e) e
+  end_leaves t (Some x) at now own e =
+      grasped_step (deed.End p t) x Ended at now own (omega (arith, at.caller, at.queues)) (whole-answer plan.homes (deed.End p t) m ∙ ap answer_of_end e) e
 
   -- the task that is pulled
   pub pull_leaves : (s : ℕ) (r : Result Contents Answer) → AtStep plan counters p m w (op.Pull s) Detach
@@ -152,24 +162,31 @@ module _ {plan : Plan} {counters : Counters} {p : ℕ} {m : Machine} {w : Work} 
       (λ c h. changed f w.machine k c below ∙ sym (same c h)) (λ q h. get_or-set_other w.hands p q None None h) (λ q h. refl)
       (get_or-set_same w.hands p None None (omega (arith, a.at.caller, a.at.hands))) a.answer_is
 
-  asleep_by : (t : ℕ) (h : Option Contents) → AtAttach plan counters p m w (op.Sleep t) (deed.Sleep p t) → holds plan counters (home plan t) p ≡ true
-      → home plan t < callers plan → PutsDown plan counters p m w (deed.Sleep p t) (home plan t) after_falling_asleep → leaves plan.homes m (deed.Sleep p t) ≡ h
-      → IsStepOf plan counters p m m w (attach_asleep w p (home plan t) h)
-  asleep_by t None a own below puts e =
-      empty_step (deed.Sleep p t) a e
-      (λ c held. puts c held ∙ ap (λ (x : Option Contents). only_at (home plan t) c (after_falling_asleep x) (queue_at w.machine c)) e
-      ∙ idle (c == home plan t) (queue_at w.machine c))
-  asleep_by t (Some x) a own below puts e =
-      put_down_step (home plan t) (deed.Sleep p t) (λ q. put_asleep q x) a own (omega (arith, below, a.at.queues))
-      (λ c held. puts c held ∙ ap (λ (y : Option Contents). only_at (home plan t) c (after_falling_asleep y) (queue_at w.machine c)) e)
+  asleep_by : {o : Op} (k : ℕ) (d : Deed) (h : Option Contents) → AtAttach plan counters p m w o d → holds plan counters k p ≡ true → k < callers plan
+      → PutsDown plan counters p m w d k after_falling_asleep → leaves plan.homes m d ≡ h → IsStepOf plan counters p m m w (attach_asleep w p k h)
+  asleep_by k d None a own below puts e =
+      empty_step d a e
+      (λ c held. puts c held ∙ ap (λ (x : Option Contents). only_at k c (after_falling_asleep x) (queue_at w.machine c)) e ∙ idle (c == k) (queue_at w.machine c))
+  asleep_by k d (Some x) a own below puts e =
+      put_down_step k d (λ q. put_asleep q x) a own (omega (arith, below, a.at.queues))
+      (λ c held. puts c held ∙ ap (λ (y : Option Contents). only_at k c (after_falling_asleep y) (queue_at w.machine c)) e)
 
   -- the task in hand falls asleep at its home
   pub falls_asleep_step : (t : ℕ) → AtAttach plan counters p m w (op.Sleep t) (deed.Sleep p t) → laws.Fits plan.homes (deed.Sleep p t) m
       → holds plan counters (home plan t) p ≡ true → home plan t < callers plan → IsStepOf plan counters p m m w (attach_asleep w p (home plan t) (hand w p))
   falls_asleep_step t a fits own below =
-      asleep_by t (hand w p) a own below
+      asleep_by (home plan t) (deed.Sleep p t) (hand w p) a own below
       (λ c held. whole-after plan.homes (deed.Sleep p t) m c fits
       ∙ ap (λ (q : State). only_at (home plan t) c (after_falling_asleep (leaves plan.homes m (deed.Sleep p t))) q) (sym (a.queues_are c held)))
+      (sym a.hand_is)
+
+  -- and so does one that ends
+  pub ends_step : (t : ℕ) → AtAttach plan counters p m w (op.End t) (deed.End p t) → laws.Fits plan.homes (deed.End p t) m
+      → holds plan counters (home plan t) p ≡ true → home plan t < callers plan → IsStepOf plan counters p m m w (attach_asleep w p (home plan t) (hand w p))
+  ends_step t a fits own below =
+      asleep_by (home plan t) (deed.End p t) (hand w p) a own below
+      (λ c held. whole-after plan.homes (deed.End p t) m c fits
+      ∙ ap (λ (q : State). only_at (home plan t) c (after_falling_asleep (leaves plan.homes m (deed.End p t))) q) (sym (a.queues_are c held)))
       (sym a.hand_is)
 
   joins_by : (s : ℕ) (h : Option Contents) → AtAttach plan counters p m w (op.Pull s) (deed.Pull p s) → holds plan counters p p ≡ true

@@ -9,9 +9,9 @@ use Rattle.eevdf_steps.specs.Counters.{Counters, step_next}
 use Rattle.eevdf_steps.specs.MicroSteps.{draining, moving, steps_of, under_lock}
 use Rattle.eevdf_steps.proofs.{Lists.got_past, Positions.micros_in, Positions.step_in, Posting.posts_joined}
 
-sleep_posts : (plan : Plan) (p a b c t : ℕ) (here : Bool)
-    → posts_to plan c (map (step_in (op.Sleep t)) (cond here (under_lock p moving) (under_lock a (under_lock b moving)))) ≡ []
-sleep_posts plan p a b c t here = grind arith
+sleep_posts : (plan : Plan) (p a b c : ℕ) (o : Op) (here : Bool)
+    → posts_to plan c (map (step_in o) (cond here (under_lock p moving) (under_lock a (under_lock b moving)))) ≡ []
+sleep_posts plan p a b c o here = grind arith
 
 drain_posts : (plan : Plan) (p c n s : ℕ) → posts_to plan c (map (step_in op.Drain) (draining n s ++ Release p ∷ [])) ≡ []
 drain_posts plan p c zero s = refl

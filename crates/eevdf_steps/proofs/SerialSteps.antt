@@ -12,8 +12,9 @@ use Rattle.eevdf_ops.specs.{Machine.Machine, Machine.queue_at, Whole.whole, Prog
 use Rattle.eevdf_ops.specs.{Histories.machine_told}
 use Rattle.eevdf_ops.specs.declared.deeds.Op.TheVariants as op
 use Rattle.eevdf_ops.specs.declared.deeds.Deed.TheVariants as deed
+use Rattle.eevdf_ops.specs.{WholeEnd.ending}
 use Rattle.eevdf_ops.specs.WholePull.{decision, load_of, offer, pull_decision}
-use Rattle.eevdf_ops.specs.OneQueue.{one_tick, one_pick, one_yield, one_renice}
+use Rattle.eevdf_ops.specs.OneQueue.{one_tick, one_pick, one_yield, one_renice, one_begin, one_set, one_rebase}
 use Rattle.eevdf_steps.specs.declared.micro.Micro.TheVariants.{Acquire, Act, Detach, Attach, Commit, Take, Settle, Release, Post}
 use Rattle.eevdf_steps.specs.Plan.{IsSound, Plan, callers, home}
 use Rattle.eevdf_steps.specs.Counters.{Counters, counted, holder, holds, refused, step_next}
@@ -23,9 +24,9 @@ use Rattle.eevdf_steps.proofs.{Holders.nobody_past, Holders.not_blocked, Walking
 use Rattle.eevdf_steps.proofs.{SoundSteps.is_caller, OtherCallers.IsStepOf, OtherCallers.followed_then, Ready.least_there}
 use Rattle.eevdf_steps.proofs.Walks.{Covers, FitsWalk, Walk, touched, is_acting, is_moving}
 use Rattle.eevdf_steps.proofs.OwnSteps.{AtStep, acquire_step, fresh_begun, quiet_step, release_step, sees_history, hand_empty}
-use Rattle.eevdf_steps.proofs.OwnWork.{AtAttach, acted_step, at_attach, falls_asleep_step, joins_step, pull_leaves, room_then, sleep_leaves, ActsThere}
+use Rattle.eevdf_steps.proofs.OwnWork.{AtAttach, acted_step, at_attach, end_leaves, ends_step, falls_asleep_step, joins_step, pull_leaves, room_then, sleep_leaves, ActsThere}
 use Rattle.eevdf_steps.proofs.OwnCommits.{commit_answer, commit_step, history_more, length-machine_after, machine_more, settle_answer, settle_step}
-use Rattle.eevdf_steps.proofs.SoundDeeds.{are_walking, deed_fits, next_pulls_elsewhere, next_sound_op}
+use Rattle.eevdf_steps.proofs.SoundDeeds.{are_walking, deed_fits, next_fits_cpu, next_sound_op}
 
 -- an operation that acts or moves does a deed
 has_deed : (p : ℕ) (o : Op) → (is_acting o || is_moving o) ≡ true → (d : Deed) × (deed_of p o ≡ Some d)
@@ -96,6 +97,11 @@ module _ (plan : Plan) (start : Machine) (counters : Counters) (p : ℕ) (w : Wo
   act_serial h op.Pick f s = act_by op.Pick (deed.Pick p) one_pick s refl (λ c. refl) (refl, refl)
   act_serial h op.Yield f s = act_by op.Yield (deed.Yield p) one_yield s refl (λ c. refl) (refl, refl)
   act_serial h (op.Renice task nice) f s = act_by (op.Renice task nice) (deed.Renice p task nice) (λ q. one_renice q task nice) s refl (λ c. refl) (refl, refl)
+  act_serial h (op.Begin task nice slice) f s =
+      act_by (op.Begin task nice slice) (deed.Begin p task nice slice) (λ q. one_begin q task nice slice) s refl (λ c. refl) (refl, refl)
+  act_serial h (op.Set task nice slice) f s =
+      act_by (op.Set task nice slice) (deed.Set p task nice slice) (λ q. one_set q task nice slice) s refl (λ c. refl) (refl, refl)
+  act_serial h op.Rebase f s = act_by op.Rebase (deed.Rebase p) one_rebase s refl (λ c. refl) (refl, refl)
   act_serial h _ f s = absurd (false≢true s.at.fits.acting)
 
   detach_serial : (h : ℕ) (o : Op) (f : Option ℕ) → Serial o Detach → Leaves (works h w p o Detach f) []
@@ -103,6 +109,10 @@ module _ (plan : Plan) (start : Machine) (counters : Counters) (p : ℕ) (w : Wo
       let own : holds plan counters p p ≡ true = holds_covered (op.Sleep t) s.at.walk s.at.fits.covers p ∙ or_left (p == p) (p == home plan t) (eq-eqb p p refl) in
       local_serial _ s (sleep_leaves t (carried_running (queue_at w.machine p) t) s.at (ap (λ (n : Option Step). under_way p n) s.at.fits.follows) own
       (ap (λ (q : State). carried_running q t) (sym (sees_history s.at refl p own))))
+  detach_serial h (op.End t) f s =
+      let own : holds plan counters p p ≡ true = holds_covered (op.End t) s.at.walk s.at.fits.covers p ∙ or_left (p == p) (p == home plan t) (eq-eqb p p refl) in
+      local_serial _ s (end_leaves t (ending (queue_at w.machine p) t) s.at (ap (λ (n : Option Step). under_way p n) s.at.fits.follows) own
+      (ap (λ (q : State). ending q t) (sym (sees_history s.at refl p own))))
   detach_serial h (op.Pull q) f s =
       let covered : (c : ℕ) → holds plan counters c p ≡ touched plan p (op.Pull q) c = holds_covered (op.Pull q) s.at.walk s.at.fits.covers in
       let own : holds plan counters p p ≡ true = covered p ∙ or_left (p == p) (p == q) (eq-eqb p p refl) in
@@ -122,6 +132,12 @@ module _ (plan : Plan) (start : Machine) (counters : Counters) (p : ℕ) (w : Wo
       local_serial _ s (falls_asleep_step t (at_attach (deed.Sleep p t) s.at refl)
       (deed_fits plan counters p (step_in (op.Sleep t) Attach) (deed.Sleep p t) s.sound s.at.next refl told s.at.long)
       (holds_covered (op.Sleep t) s.at.walk s.at.fits.covers (home plan t)
+      ∙ or_right (home plan t == p) (home plan t == home plan t) (eq-eqb (home plan t) (home plan t) refl)) (home_below plan t s.sound task))
+  attach_serial (op.End t) f s =
+      let task : t < length plan.homes = ltb-true t (length plan.homes) (next_sound_op plan counters p (step_in (op.End t) Attach) s.sound s.at.next) in
+      local_serial _ s (ends_step t (at_attach (deed.End p t) s.at refl)
+      (deed_fits plan counters p (step_in (op.End t) Attach) (deed.End p t) s.sound s.at.next refl told s.at.long)
+      (holds_covered (op.End t) s.at.walk s.at.fits.covers (home plan t)
       ∙ or_right (home plan t == p) (home plan t == home plan t) (eq-eqb (home plan t) (home plan t) refl)) (home_below plan t s.sound task))
   attach_serial (op.Pull q) f s =
       local_serial _ s (joins_step q (at_attach (deed.Pull p q) s.at refl)
@@ -164,7 +180,7 @@ module _ (plan : Plan) (start : Machine) (counters : Counters) (p : ℕ) (w : Wo
   room_in_hand (op.Pull q) s =
       let a : AtAttach plan counters p told w (op.Pull q) (deed.Pull p q) = at_attach (deed.Pull p q) s.at refl in
       room_then q (hand w p) a (holds_own_queue q s)
-      (λ same. false≢true (sym (ap not (eq-eqb q p same)) ∙ next_pulls_elsewhere plan counters p (step_in (op.Pull q) Attach) s.sound s.at.next)) (sym a.hand_is)
+      (λ same. false≢true (sym (ap not (eq-eqb q p same)) ∙ next_fits_cpu plan counters p (step_in (op.Pull q) Attach) s.sound s.at.next)) (sym a.hand_is)
   room_in_hand _ s = tt
 
   hand_fits : (o : Op) (micro : Micro) → Serial o micro → FitsHand w p o micro

@@ -7,42 +7,46 @@ use Rattle.eevdf_steps.specs.{declared.micro.Micro.Micro, declared.plan.Step.Ste
 use Rattle.eevdf_steps.specs.{UnderWay.under_way, Serial.begun_by}
 use Rattle.eevdf_steps.specs.MicroSteps.{micros_of, steps_by, steps_of}
 use Rattle.eevdf_steps.specs.Counters.{Counters, count_of, step_next}
-use Rattle.eevdf_steps.specs.Plan.{IsSound, Plan, callers, is_sound_op, program, pulls_elsewhere}
-use Rattle.eevdf_steps.proofs.{Positions.step_in, Walks.Walk, Walking.program_pulls, Walking.walking, OtherCallers.AreWalking}
+use Rattle.eevdf_steps.specs.Plan.{IsSound, Plan, callers, fits_cpu, is_sound_op, program}
+use Rattle.eevdf_steps.proofs.{Positions.step_in, Walks.Walk, Walking.program_fits_cpu, Walking.walking, OtherCallers.AreWalking}
 use Rattle.eevdf_steps.proofs.Begun.{FitsAll, Standing, standing}
 use Rattle.eevdf_steps.proofs.SoundSteps.{all_joined, home_below, is_caller, some_all, step_sound}
 use Rattle.std.proofs.lemmas.Bool.{and_parts, and_from}
 
-abbrev step_pulls_elsewhere : ℕ → Step → Bool
-step_pulls_elsewhere p s = pulls_elsewhere p s.op
+abbrev step_fits_cpu : List ℕ → ℕ → Step → Bool
+step_fits_cpu homes p s = fits_cpu homes p s.op
 
-of_op : (p : ℕ) (o : Op) (ms : List Micro) → pulls_elsewhere p o ≡ true → list_all (step_pulls_elsewhere p) (map (step_in o) ms) ≡ true
-of_op p o [] h = refl
-of_op p o (m ∷ ms) h = and_from (pulls_elsewhere p o) _ h (of_op p o ms h)
+of_op : (homes : List ℕ) (p : ℕ) (o : Op) (ms : List Micro) → fits_cpu homes p o ≡ true → list_all (step_fits_cpu homes p) (map (step_in o) ms) ≡ true
+of_op homes p o [] h = refl
+of_op homes p o (m ∷ ms) h = and_from (fits_cpu homes p o) _ h (of_op homes p o ms h)
 
-of_ops : (plan : Plan) (p : ℕ) (os : List Op) → list_all (pulls_elsewhere p) os ≡ true → list_all (step_pulls_elsewhere p) (steps_of plan p os) ≡ true
+of_ops : (plan : Plan) (p : ℕ) (os : List Op) → list_all (fits_cpu plan.homes p) os ≡ true → list_all (step_fits_cpu plan.homes p) (steps_of plan p os) ≡ true
 of_ops plan p [] h = refl
 of_ops plan p (o ∷ os) h =
-    let parts = and_parts (pulls_elsewhere p o) (list_all (pulls_elsewhere p) os) h in
-    all_joined (step_pulls_elsewhere p) (map (step_in o) (micros_of plan p o)) (steps_of plan p os) (of_op p o (micros_of plan p o) parts.0) (of_ops plan p os parts.1)
+    let parts = and_parts (fits_cpu plan.homes p o) (list_all (fits_cpu plan.homes p) os) h in
+    all_joined (step_fits_cpu plan.homes p) (map (step_in o) (micros_of plan p o)) (steps_of plan p os) (of_op plan.homes p o (micros_of plan p o) parts.0) (of_ops plan p os parts.1)
 
--- the operation of a step pulls from no queue but another's
-pub next_pulls_elsewhere : (plan : Plan) (counters : Counters) (p : ℕ) (s : Step) → IsSound plan → step_next plan counters p ≡ Some s → pulls_elsewhere p s.op ≡ true
-next_pulls_elsewhere plan counters p s sound e =
-    some_all (step_pulls_elsewhere p) (steps_by plan p) (count_of counters p) s (of_ops plan p (program plan p)
-    (subst (λ (k : ℕ). list_all (pulls_elsewhere k) (program plan p) ≡ true) (let z : 0 + p ≡ p = omega arith in z) (program_pulls 0 p plan.programs sound.pulls))) e
+-- the operation of a step pulls from no queue but another's, and begins at home
+pub next_fits_cpu : (plan : Plan) (counters : Counters) (p : ℕ) (s : Step) → IsSound plan → step_next plan counters p ≡ Some s → fits_cpu plan.homes p s.op ≡ true
+next_fits_cpu plan counters p s sound e =
+    some_all (step_fits_cpu plan.homes p) (steps_by plan p) (count_of counters p) s (of_ops plan p (program plan p)
+    (subst (λ (k : ℕ). list_all (fits_cpu plan.homes k) (program plan p) ≡ true) (let z : 0 + p ≡ p = omega arith in z) (program_fits_cpu plan.homes 0 p plan.programs sound.fits))) e
 
 pub next_sound_op : (plan : Plan) (counters : Counters) (p : ℕ) (s : Step) → IsSound plan → step_next plan counters p ≡ Some s → is_sound_op plan s.op ≡ true
 next_sound_op plan counters p s sound e =
     (and_parts (is_sound_op plan s.op) (is_sound_micro plan s.micro) (step_sound plan counters p s sound (is_caller plan counters p s e) e)).0
 
-pub allowed_op : (plan : Plan) (p : ℕ) (o : Op) (d : Deed) → p < callers plan → is_sound_op plan o ≡ true → pulls_elsewhere p o ≡ true → deed_of p o ≡ Some d
+pub allowed_op : (plan : Plan) (p : ℕ) (o : Op) (d : Deed) → p < callers plan → is_sound_op plan o ≡ true → fits_cpu plan.homes p o ≡ true → deed_of p o ≡ Some d
     → is_allowed (callers plan) plan.homes d ≡ true
 allowed_op plan p (op.Tick ns) d h s k e = grind arith
 allowed_op plan p op.Pick d h s k e = grind arith
 allowed_op plan p op.Yield d h s k e = grind arith
 allowed_op plan p (op.Renice t nice) d h s k e = grind arith
 allowed_op plan p (op.Sleep t) d h s k e = grind arith
+allowed_op plan p (op.Begin t nice slice) d h s k e = grind arith
+allowed_op plan p (op.End t) d h s k e = grind arith
+allowed_op plan p (op.Set t nice slice) d h s k e = grind arith
+allowed_op plan p op.Rebase d h s k e = grind arith
 allowed_op plan p (op.Pull q) d h s k e = grind arith
 allowed_op plan p (op.Post t) d h s k e = cc
 allowed_op plan p op.Drain d h s k e = cc
@@ -50,7 +54,7 @@ allowed_op plan p op.Drain d h s k e = cc
 pub deed_fits : (plan : Plan) (counters : Counters) (p : ℕ) (s : Step) (d : Deed) → IsSound plan → step_next plan counters p ≡ Some s → deed_of p s.op ≡ Some d → FitsAll plan d
 deed_fits plan counters p s d sound e is = λ m long. record {
   allowed = ap (λ (n : ℕ). is_allowed n plan.homes d) long
-      ∙ allowed_op plan p s.op d (is_caller plan counters p s e) (next_sound_op plan counters p s sound e) (next_pulls_elsewhere plan counters p s sound e) is;
+      ∙ allowed_op plan p s.op d (is_caller plan counters p s e) (next_sound_op plan counters p s sound e) (next_fits_cpu plan counters p s sound e) is;
   cpus = subst (λ (n : ℕ). AreCpus n plan.homes) (sym long) (λ t h. home_below plan t sound h);
 }
 

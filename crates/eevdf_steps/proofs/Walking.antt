@@ -1,6 +1,6 @@
 -- Each caller walks through its program with its locks as its steps need them.
 use Rattle.std.proofs.Common.{◌≡◌, ◌≢◌, ℕ, zero, suc, ◌+◌, ◌<◌, ◌≤◌, Bool, true, false, cond, not, ◌||◌, List, [], ◌∷◌, ◌++◌, length, map, take, drop, get_or, sym, ap, subst, ◌∙◌, arith, refl}
-use Rattle.std.proofs.lemmas.Bool.{cases_lt, and_parts, ltb-true}
+use Rattle.std.proofs.lemmas.Bool.{false≢true, cases_lt, and_parts, eq-eqb, ltb-true}
 use Rattle.std.proofs.lemmas.List.{get_or-replicate, get_or-set_same}
 use Rattle.std.specs.List.{list_all}
 use Rattle.std.specs.Prelude.{slice_get, ◌==◌, MatchOption, Option}
@@ -8,7 +8,7 @@ use Rattle.eevdf_ops.specs.declared.deeds.Op.{Op}
 use Rattle.eevdf_ops.specs.declared.deeds.Op.TheVariants as op
 use Rattle.eevdf_steps.specs.{declared.micro.Micro.Micro, declared.plan.Step.Step, Orders.counters_at_start}
 use Rattle.eevdf_steps.specs.declared.micro.Micro.TheVariants.{Release}
-use Rattle.eevdf_steps.specs.Plan.{IsSound, Plan, all_pull_elsewhere, callers, home, is_sound_op, program, pulls_elsewhere}
+use Rattle.eevdf_steps.specs.Plan.{IsSound, Plan, all_fit_cpus, callers, fits_cpu, home, is_sound_op, program}
 use Rattle.eevdf_steps.specs.MicroSteps.{acting, draining, micros_of, moving, steps_by, steps_of, under_lock, under_locks}
 use Rattle.eevdf_steps.specs.Counters.{Counters, count_of, counted, held_after, held_by_steps, step_next}
 use Rattle.eevdf_steps.proofs.{Plans.no_step, Plans.program_ops_sound, SoundSteps.home_below, Positions.step_in}
@@ -55,16 +55,30 @@ drains_walk plan p (suc n) q rest h r = (
   ),
 )
 
-sleep_walks : (plan : Plan) (p t : ℕ) (rest : List Step) (x : Bool) → p < callers plan → home plan t < callers plan → (p == home plan t) ≡ x → Rest plan p rest
-    → Walks plan p [] (map (step_in (op.Sleep t)) (cond x (under_lock p moving) (under_locks p (home plan t) moving)) ++ rest)
-sleep_walks plan p t rest x h k e r = grind arith
+move_walks : (plan : Plan) (p : ℕ) (o : Op) (rest : List Step) → p < callers plan → is_moving o ≡ true → is_locking o ≡ true → Covers plan p o (p ∷ [])
+    → Rest plan p rest → Walks plan p [] (map (step_in o) (under_lock p moving) ++ rest)
+move_walks plan p o rest h moves locks covers r = grind arith
+
+at_home : (p home c : ℕ) → (p == home) ≡ true → ((c == p) || (c == home)) ≡ (c == p)
+at_home p home c e = grind arith
+
+sleep_walks : (plan : Plan) (p t : ℕ) (o : Op) (rest : List Step) (x : Bool) → p < callers plan → home plan t < callers plan → is_moving o ≡ true → is_locking o ≡ true
+    → ((c : ℕ) → touched plan p o c ≡ ((c == p) || (c == home plan t))) → (p == home plan t) ≡ x → Rest plan p rest
+    → Walks plan p [] (map (step_in o) (cond x (under_lock p moving) (under_locks p (home plan t) moving)) ++ rest)
+sleep_walks plan p t o rest true h k moves locks touches e r =
+    move_walks plan p o rest h moves locks (λ c. one_lock p c ∙ sym (at_home p (home plan t) c e) ∙ sym (touches c)) r
+sleep_walks plan p t o rest false h k moves locks touches e r =
+    both_walk plan p (home plan t) o rest h k (λ same. false≢true (sym e ∙ eq-eqb p (home plan t) same)) moves locks touches r
 
 other_source : (q p : ℕ) → not (q == p) ≡ true → p ≢ q
 other_source q p h same = grind arith
 
-op_walks : (plan : Plan) (p : ℕ) (o : Op) (rest : List Step) → IsSound plan → p < callers plan → is_sound_op plan o ≡ true → pulls_elsewhere p o ≡ true → Rest plan p rest
+op_walks : (plan : Plan) (p : ℕ) (o : Op) (rest : List Step) → IsSound plan → p < callers plan → is_sound_op plan o ≡ true → fits_cpu plan.homes p o ≡ true → Rest plan p rest
     → Walks plan p [] (map (step_in o) (micros_of plan p o) ++ rest)
-op_walks plan p (op.Sleep t) rest s h k e r = sleep_walks plan p t rest (p == home plan t) h (home_below plan t s (ltb-true t (length plan.homes) k)) refl r
+op_walks plan p (op.Sleep t) rest s h k e r =
+    sleep_walks plan p t (op.Sleep t) rest (p == home plan t) h (home_below plan t s (ltb-true t (length plan.homes) k)) refl refl (λ c. refl) refl r
+op_walks plan p (op.End t) rest s h k e r =
+    sleep_walks plan p t (op.End t) rest (p == home plan t) h (home_below plan t s (ltb-true t (length plan.homes) k)) refl refl (λ c. refl) refl r
 op_walks plan p (op.Pull q) rest s h k e r = both_walk plan p q (op.Pull q) rest h (ltb-true q (callers plan) k) (other_source q p e) refl refl (λ c. refl) r
 op_walks plan p op.Drain rest s h k e r = (
   record { above = refl; below = h; locking = refl; fresh = drained_fresh plan p (callers plan) 0 rest },
@@ -80,24 +94,24 @@ steps_fresh : (plan : Plan) (p : ℕ) (os : List Op) → is_fresh (slice_get (st
 steps_fresh plan p [] = refl
 steps_fresh plan p (o ∷ os) = op_fresh plan p o (steps_of plan p os)
 
-ops_walk : (plan : Plan) (p : ℕ) (os : List Op) → IsSound plan → p < callers plan → list_all (is_sound_op plan) os ≡ true → list_all (pulls_elsewhere p) os ≡ true
+ops_walk : (plan : Plan) (p : ℕ) (os : List Op) → IsSound plan → p < callers plan → list_all (is_sound_op plan) os ≡ true → list_all (fits_cpu plan.homes p) os ≡ true
     → Walks plan p [] (steps_of plan p os)
 ops_walk plan p [] s h all elsewhere = refl
 ops_walk plan p (o ∷ os) s h all elsewhere =
     let sounds = and_parts (is_sound_op plan o) (list_all (is_sound_op plan) os) all in
-    let pulls = and_parts (pulls_elsewhere p o) (list_all (pulls_elsewhere p) os) elsewhere in
-    op_walks plan p o (steps_of plan p os) s h sounds.0 pulls.0
-    (record { fresh = steps_fresh plan p os; walks = ops_walk plan p os s h sounds.1 pulls.1 })
+    let fits = and_parts (fits_cpu plan.homes p o) (list_all (fits_cpu plan.homes p) os) elsewhere in
+    op_walks plan p o (steps_of plan p os) s h sounds.0 fits.0
+    (record { fresh = steps_fresh plan p os; walks = ops_walk plan p os s h sounds.1 fits.1 })
 
-pub program_pulls : (cpu p : ℕ) (programs : List (List Op)) → all_pull_elsewhere cpu programs ≡ true → list_all (pulls_elsewhere (cpu + p)) (get_or programs p []) ≡ true
-program_pulls cpu p [] all = refl
-program_pulls cpu zero (os ∷ programs) all = grind arith
-program_pulls cpu (suc p) (os ∷ programs) all = grind (arith, program_pulls (cpu + 1) p programs)
+pub program_fits_cpu : (homes : List ℕ) (cpu p : ℕ) (programs : List (List Op)) → all_fit_cpus homes cpu programs ≡ true → list_all (fits_cpu homes (cpu + p)) (get_or programs p []) ≡ true
+program_fits_cpu homes cpu p [] all = refl
+program_fits_cpu homes cpu zero (os ∷ programs) all = grind arith
+program_fits_cpu homes cpu (suc p) (os ∷ programs) all = grind (arith, program_fits_cpu homes (cpu + 1) p programs)
 
 program_walks : (plan : Plan) (p : ℕ) → IsSound plan → p < callers plan → Walks plan p [] (steps_by plan p)
 program_walks plan p s h =
     ops_walk plan p (program plan p) s h (program_ops_sound plan p s)
-    (subst (λ (k : ℕ). list_all (pulls_elsewhere k) (program plan p) ≡ true) (let e : 0 + p ≡ p = omega arith in e) (program_pulls 0 p plan.programs s.pulls))
+    (subst (λ (k : ℕ). list_all (fits_cpu plan.homes k) (program plan p) ≡ true) (let e : 0 + p ≡ p = omega arith in e) (program_fits_cpu plan.homes 0 p plan.programs s.fits))
 
 -- a number that is above all of a list isn't in it
 pub above_apart : (c : ℕ) (held : List ℕ) → is_above c held ≡ true → is_in c held ≡ false

@@ -5,19 +5,20 @@ use Rattle.std.specs.Prelude.{IfSome, Option, Some, None, Result, Ok, Err}
 use Rattle.eevdf_queue.specs.{State.State, State.Contents, Moves.sleeper_of, Leaving.carried_running, Leaving.leave}
 use Rattle.eevdf_queue.specs.Placing.{can_place}
 use Rattle.eevdf_ops.specs.{declared.deeds.Op.Op, declared.deeds.Answer.Answer, declared.deeds.Answer.TheVariants.NotRunning}
+use Rattle.eevdf_ops.specs.{declared.deeds.Answer.TheVariants.NotHere, WholeEnd.ending}
 use Rattle.eevdf_ops.specs.{declared.deeds.Answer.TheVariants.Pulled, Machine.queue_at, Setup.is_task, OneQueue.one_wake}
 use Rattle.eevdf_ops.specs.WholePull.{load_of, offer, pull_decision}
 use Rattle.eevdf_ops.specs.declared.deeds.Op.TheVariants as op
 use Rattle.eevdf_ops.specs.Places.{count, places, places_in}
 use Rattle.eevdf_ops.proofs.MachinePlaces.{places-set, places-at}
-use Rattle.eevdf_ops.proofs.QueuePlaces.{IsSame, IsWith, IsWithout, tick-same, pick-same, yield-same, wake-same, renice-same, asleep-with, runnable-with}
-use Rattle.eevdf_ops.proofs.Carried.{running-carries, offer-carries, leaves-without}
+use Rattle.eevdf_ops.proofs.QueuePlaces.{IsSame, IsWith, IsWithout, tick-same, pick-same, yield-same, wake-same, renice-same, begin-same, set-same, rebase-same, asleep-with, runnable-with}
+use Rattle.eevdf_ops.proofs.Carried.{running-carries, ending-carries, offer-carries, leaves-without}
 use Rattle.eevdf_ops.proofs.Pulling.{IsTaken, decision-taken, with_task-put}
 use Rattle.eevdf_steps.specs.{declared.micro.Micro.Micro, Plan.Plan, Plan.callers, Playing.IsWork, Working.FitsHand}
 use Rattle.eevdf_steps.specs.{Working.HasRoom, MicroState.settled, MicroState.works}
 use Rattle.eevdf_steps.specs.Places.{hands_with, is_in_hand, places_of}
 use Rattle.eevdf_steps.specs.declared.micro.Micro.TheVariants.{Act, Detach, Attach, Settle}
-use Rattle.eevdf_steps.specs.Work.{Work, act, answered, attach, attach_asleep, attach_pulled, detach, detach_pulled, detach_running, hand, pulls_from}
+use Rattle.eevdf_steps.specs.Work.{Work, act, answered, attach, attach_asleep, attach_pulled, detach, detach_ending, detach_pulled, detach_running, hand, pulls_from}
 use Rattle.eevdf_steps.proofs.WorkPlaces.{held_nowhere, count-le}
 use Rattle.std.proofs.lemmas.Bool.{ltb-true}
 
@@ -49,12 +50,20 @@ act_kept plan w p (op.Tick ns) works below = grind (arith, same_queue, tick-same
 act_kept plan w p op.Pick works below = grind (arith, same_queue, pick-same, length-set)
 act_kept plan w p op.Yield works below = grind (arith, same_queue, yield-same, length-set)
 act_kept plan w p (op.Renice task nice) works below = grind (arith, same_queue, renice-same, length-set)
+act_kept plan w p (op.Begin task nice slice) works below = grind (arith, same_queue, begin-same, length-set)
+act_kept plan w p (op.Set task nice slice) works below = grind (arith, same_queue, set-same, length-set)
+act_kept plan w p op.Rebase works below = grind (arith, same_queue, rebase-same, length-set)
 act_kept plan w p _ works below = works
 
 running_kept : (plan : Plan) (w : Work) (p task : ℕ) (r : Option Contents) → IsWork plan w → p < callers plan → hand w p ≡ None
     → carried_running (queue_at w.machine p) task ≡ r → IsWork plan (detach_running w p r)
 running_kept plan w p task None works below empty e = kept_answer plan w p NotRunning works
 running_kept plan w p task (Some t) works below empty e = search (taken_out, leaves-without, running-carries)
+
+ending_kept : (plan : Plan) (w : Work) (p task : ℕ) (r : Option Contents) → IsWork plan w → p < callers plan → hand w p ≡ None
+    → ending (queue_at w.machine p) task ≡ r → IsWork plan (detach_ending w p r)
+ending_kept plan w p task None works below empty e = kept_answer plan w p NotHere works
+ending_kept plan w p task (Some t) works below empty e = search (taken_out, leaves-without, ending-carries)
 
 pulled_kept : (plan : Plan) (w : Work) (p d : ℕ) (r : Result Contents Answer) → IsWork plan w → p < callers plan → d < callers plan → hand w p ≡ None
     → pull_decision w.machine p d ≡ r → IsWork plan (detach_pulled w p d r)
@@ -68,6 +77,8 @@ pulled_kept plan w p d (Ok t) works below source empty e =
 detach_kept : (plan : Plan) (w : Work) (p : ℕ) (o : Op) → IsWork plan w → p < callers plan → pulls_from (callers plan) o ≡ true → hand w p ≡ None → IsWork plan (detach w p o)
 detach_kept plan w p (op.Sleep task) works below from empty =
     running_kept plan w p task (carried_running (queue_at w.machine p) task) works below empty refl
+detach_kept plan w p (op.End task) works below from empty =
+    ending_kept plan w p task (ending (queue_at w.machine p) task) works below empty refl
 detach_kept plan w p (op.Pull source) works below from empty = search (pulled_kept, ltb-true)
 detach_kept plan w p _ works below from empty = works
 
@@ -82,6 +93,7 @@ joins_kept plan w p (Some t) works below e room = search (put_in, runnable-with,
 
 attach_kept : (plan : Plan) (w : Work) (p c : ℕ) (o : Op) → IsWork plan w → p < callers plan → c < callers plan → HasRoom w p o → IsWork plan (attach c w p o)
 attach_kept plan w p c (op.Sleep task) works below home room = asleep_kept plan w p c (hand w p) works below home refl
+attach_kept plan w p c (op.End task) works below home room = asleep_kept plan w p c (hand w p) works below home refl
 attach_kept plan w p c (op.Pull source) works below home room = joins_kept plan w p (hand w p) works below refl room
 attach_kept plan w p c _ works below home room = works
 

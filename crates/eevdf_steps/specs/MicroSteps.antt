@@ -22,6 +22,7 @@ acting = Act ∷ Commit ∷ []
 abbrev pub moving : List Micro
 moving = Detach ∷ Attach ∷ Commit ∷ []
 
+-- a task goes to sleep at its home
 abbrev pub sleeping : ℕ → ℕ → List Micro
 sleeping cpu home = if cpu == home then under_lock cpu moving else under_locks cpu home moving
 
@@ -36,7 +37,11 @@ micros_of plan cpu (op.Tick ns) = under_lock cpu acting
 micros_of plan cpu op.Pick = under_lock cpu acting
 micros_of plan cpu op.Yield = under_lock cpu acting
 micros_of plan cpu (op.Renice task nice) = under_lock cpu acting
+micros_of plan cpu (op.Begin task nice slice) = under_lock cpu acting
+micros_of plan cpu (op.Set task nice slice) = under_lock cpu acting
+micros_of plan cpu op.Rebase = under_lock cpu acting
 micros_of plan cpu (op.Sleep task) = sleeping cpu (home plan task)
+micros_of plan cpu (op.End task) = sleeping cpu (home plan task)
 micros_of plan cpu (op.Pull source) = under_locks cpu source moving
 micros_of plan cpu op.Drain = under_lock cpu (draining (callers plan) 0)
 micros_of plan cpu (op.Post task) = Post task ∷ []

@@ -1,7 +1,7 @@
 -- What the callers are to do.
 use Rattle.std.specs.Prelude.{◌≡◌, ℕ, ◌*◌, ◌+◌, ◌≤◌, ◌==◌, nat_lt, nat_le, Bool, ◌&&◌, not, true, List, [], ◌∷◌, length, slice_index_or}
 use Rattle.std.specs.List.{list_all}
-use Rattle.eevdf_ops.specs.{declared.deeds.Op.Op, Numbers.most_cpus, Numbers.most_operations, Setup.Setup, Setup.homes_of}
+use Rattle.eevdf_ops.specs.{declared.deeds.Op.Op, Numbers.most_cpus, Numbers.most_operations, Setup.Setup, Setup.homes_of, Setup.is_at_home}
 use Rattle.eevdf_ops.specs.{Machine.Machine, Machine.start}
 use Rattle.eevdf_ops.specs.declared.deeds.Op.TheVariants as op
 
@@ -34,26 +34,29 @@ abbrev pub is_sound_op : Plan → Op → Bool
 is_sound_op plan (op.Sleep task) = nat_lt task (length plan.homes)
 is_sound_op plan (op.Post task) = nat_lt task (length plan.homes)
 is_sound_op plan (op.Renice task nice) = nat_lt task (length plan.homes)
+is_sound_op plan (op.End task) = nat_lt task (length plan.homes)
+is_sound_op plan (op.Set task nice slice) = nat_lt task (length plan.homes)
 is_sound_op plan (op.Pull source) = nat_lt source (callers plan)
 is_sound_op plan _ = true
 
 abbrev pub is_sound_program : Plan → List Op → Bool
 is_sound_program plan ops = nat_le (length ops) most_operations && list_all (is_sound_op plan) ops
 
--- an operation of a CPU pulls from no queue but another's
-abbrev pub pulls_elsewhere : ℕ → Op → Bool
-pulls_elsewhere cpu (op.Pull source) = not (source == cpu)
-pulls_elsewhere cpu _ = true
+-- an operation of a CPU pulls from no queue but another's, and begins a task that has its home there
+abbrev pub fits_cpu : List ℕ → ℕ → Op → Bool
+fits_cpu homes cpu (op.Pull source) = not (source == cpu)
+fits_cpu homes cpu (op.Begin task nice slice) = is_at_home homes task cpu
+fits_cpu homes cpu _ = true
 
 -- the same of the programs of the CPUs from one on
-abbrev pub all_pull_elsewhere : ℕ → List (List Op) → Bool
-all_pull_elsewhere cpu [] = true
-all_pull_elsewhere cpu (ops ∷ programs) = list_all (pulls_elsewhere cpu) ops && all_pull_elsewhere (cpu + 1) programs
+abbrev pub all_fit_cpus : List ℕ → ℕ → List (List Op) → Bool
+all_fit_cpus homes cpu [] = true
+all_fit_cpus homes cpu (ops ∷ programs) = list_all (fits_cpu homes cpu) ops && all_fit_cpus homes (cpu + 1) programs
 
 -- what a setup without faults makes sure of
 pub record IsSound (plan : Plan) : Type 0 where
   pub few : callers plan ≤ most_cpus
   pub homes : list_all (λ (h : ℕ). nat_lt h (callers plan)) plan.homes ≡ true
   pub programs : list_all (is_sound_program plan) plan.programs ≡ true
-  pub pulls : all_pull_elsewhere 0 plan.programs ≡ true
+  pub fits : all_fit_cpus plan.homes 0 plan.programs ≡ true
   pub start : length plan.start ≡ callers plan

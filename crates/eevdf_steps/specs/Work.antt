@@ -5,7 +5,7 @@ use Rattle.eevdf_queue.specs.{State.State, State.Contents, Leaving.carried_runni
 use Rattle.eevdf_ops.specs.{declared.acts.LocalAct.LocalAct, declared.deeds.Op.Op, declared.deeds.Answer.Answer}
 use Rattle.eevdf_ops.specs.declared.deeds.Op.TheVariants as op
 use Rattle.eevdf_ops.specs.{Acts.local_of, LocalActs.local_done, Machine.Machine, Machine.queue_at, OneQueue.one_wake}
-use Rattle.eevdf_ops.specs.{Parts.answer_of_pull, Parts.answer_of_sleep, WholePull.pull_decision, WholePull.with_task}
+use Rattle.eevdf_ops.specs.{Parts.answer_of_end, Parts.answer_of_pull, Parts.answer_of_sleep, WholeEnd.ending, WholePull.pull_decision, WholePull.with_task}
 
 -- the queues, the task in each caller's hand, and the answer that each caller keeps
 pub record Work : Type 0 where
@@ -53,6 +53,10 @@ detached w caller cpu a (Some p) = grasped (with_queue w cpu (leave (queue_at w.
 abbrev pub detach_running : Work → ℕ → Option Contents → Work
 detach_running w caller r = detached w caller caller (answer_of_sleep r) r
 
+-- the task that is to end leaves, where it is runnable
+abbrev pub detach_ending : Work → ℕ → Option Contents → Work
+detach_ending w caller r = detached w caller caller (answer_of_end r) r
+
 -- the task that is pulled leaves its source, unless the pull is refused
 abbrev pub detach_pulled : Work → ℕ → ℕ → Result Contents Answer → Work
 detach_pulled w caller source r = detached w caller source (answer_of_pull r) (result_ok r)
@@ -60,6 +64,7 @@ detach_pulled w caller source r = detached w caller source (answer_of_pull r) (r
 -- the task of an operation leaves into the caller's hand
 abbrev pub detach : Work → ℕ → Op → Work
 detach w caller (op.Sleep task) = detach_running w caller (carried_running (queue_at w.machine caller) task)
+detach w caller (op.End task) = detach_ending w caller (ending (queue_at w.machine caller) task)
 detach w caller (op.Pull source) = detach_pulled w caller source (pull_decision w.machine caller source)
 detach w caller _ = w
 
@@ -84,6 +89,7 @@ attach_pulled w caller (Some p) = with_queue (emptied w caller) caller (with_tas
 -- the home of the task is given
 abbrev pub attach : ℕ → Work → ℕ → Op → Work
 attach home w caller (op.Sleep task) = attach_asleep w caller home (hand w caller)
+attach home w caller (op.End task) = attach_asleep w caller home (hand w caller)
 attach home w caller (op.Pull source) = attach_pulled w caller (hand w caller)
 attach home w caller _ = w
 

@@ -17,6 +17,7 @@ use eevdf_queue::TaskId;
 use std::alloc::{AllocError, Global};
 
 /// For each pair of a sender and a home an empty list with room for what the sender's program posts to the home.
+#[tactic(auto, using(std::proofs::lemmas::Grind::common_steps))]
 pub(crate) fn empty_posts(alloc: Global, plan: &Plan) -> Result<Vec<PostList>, AllocError>
     ensures { IfOk result (λ lists. openings.AreEmpty plan.now lists.items) }
 {
@@ -32,6 +33,7 @@ pub(crate) fn empty_posts(alloc: Global, plan: &Plan) -> Result<Vec<PostList>, A
 }
 
 /// For each home how many requests a caller's program posts to it.
+#[tactic(auto, using(std::proofs::lemmas::Grind::common_steps))]
 fn post_counts(alloc: Global, plan: &Plan, caller: CpuId) -> Result<Vec<usize>, AllocError>
     requires { caller < number plan.now }
     ensures { IfOk result (λ counts.
@@ -59,6 +61,7 @@ fn count_post(plan: &Plan, op: Op, counts: &mut [usize])
 
 /// The most lines that the programs can come to: one for each operation. A post has none of its own, and each line of
 /// a drain is the wake of a post.
+#[tactic(auto, using(std::proofs::lemmas::Grind::common_steps))]
 pub(crate) fn lines(plan: &Plan) -> usize
     ensures { result ≡ openings.most_lines plan.now }
 {

@@ -56,6 +56,7 @@ fn play_with(mut player: Player, order: &[usize]) -> Result<Outcome, PlayFault>
 
 /// Does the steps of an order up to its first faulty place, whose fault is the answer. Where no place is faulty it is
 /// that of an order which ends before all callers are done.
+#[tactic(auto, using(std::proofs::lemmas::Grind::common_steps))]
 fn play_order(player: &mut Player, order: &[usize]) -> Option<PlayFault>
     ensures { IsPlayed player.old order.now result player.new }
 {

@@ -149,6 +149,7 @@ impl Player {
     }
 
     /// Does the next step of a caller, where nothing refuses it. A refusal changes nothing. It takes no memory.
+    #[tactic(auto, using(std::proofs::lemmas::Grind::common_steps))]
     pub fn step(&mut self, caller: usize) -> Result<(), StepFault>
         ensures step { player.IsStep self.old caller result self.new }
         ensures commits { OnOk result (player.Appends self.old caller self.new) }

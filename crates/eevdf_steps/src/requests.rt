@@ -62,6 +62,7 @@ impl Requests {
     }
 
     /// What is left of each list. It takes no memory.
+    #[tactic(auto, using(std::proofs::lemmas::Grind::common_steps))]
     pub(crate) fn into_left(self) -> Vec<Vec<TaskId>>
         ensures { map (λ (l : _). l.items) result.items
             ≡ map (λ (l : _). drop l.taken l.posted) self }

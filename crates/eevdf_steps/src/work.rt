@@ -4,13 +4,14 @@ ghost use Rattle.std.specs.Prelude.{◌≡◌, ◌<◌, ◌≤◌, length, repli
 ghost use Rattle.std.specs.Prelude.{IfSome};
 ghost use Rattle.eevdf_queue.specs.{Leaving.carried_running, Moves.sleeper_of, Placing.can_place};
 ghost use Rattle.eevdf_ops.specs.{LocalActs.local_done, Machine.queue_at, Numbers.most_cpus};
-ghost use Rattle.eevdf_ops.specs.{Outcome.machine_of, Places.places_in, WholePull.pull_decision};
+ghost use Rattle.eevdf_ops.specs.{Outcome.machine_of, Places.places_in, WholeEnd.ending, WholePull.pull_decision};
 ghost use Rattle.eevdf_ops.specs.Places.{places as machine_places};
 ghost use Rattle.eevdf_steps.specs.Places as places;
 ghost use Rattle.eevdf_steps.specs.Work as work;
 
 use crate::hand::Hand;
 use crate::place::Place;
+use eevdf_ops::end::leave_for_good;
 use eevdf_ops::pull::decide;
 use eevdf_ops::sleep::leave_running;
 use eevdf_ops::{Answer, CpuId, LocalAct, Op};
@@ -92,6 +93,7 @@ impl Work {
         }
     }
 
+    #[tactic(auto, using(std::proofs::lemmas::Grind::common_steps))]
     fn queue_place(&self, task: TaskId) -> Option<Place>
         requires { length self.now.machine ≤ most_cpus }
         ensures { places.IsPlaceOf self.now task (machine_places self.now.machine task) result }
@@ -161,6 +163,7 @@ impl Work {
     {
         match op {
             Op::Sleep(task) => self.detach_running(cpu, task),
+            Op::End(task) => self.detach_ending(cpu, task),
             Op::Pull(source) => self.detach_pulled(cpu, source),
             _ => {}
         }
@@ -174,6 +177,17 @@ impl Work {
             (carried_running (queue_at self.old.machine cpu) task) }
     {
         let (answer, parcel) = leave_running(&mut self.queues[cpu.index()], task);
+        self.grasp(cpu, answer, parcel);
+    }
+
+    fn detach_ending(&mut self, cpu: CpuId, task: TaskId)
+        requires queue { cpu < length self.old.machine }
+        requires answer { cpu < length self.old.answers }
+        requires hand { cpu < length self.old.hands }
+        ensures { self.new ≡ work.detach_ending self.old cpu
+            (ending (queue_at self.old.machine cpu) task) }
+    {
+        let (answer, parcel) = leave_for_good(&mut self.queues[cpu.index()], task);
         self.grasp(cpu, answer, parcel);
     }
 
@@ -251,6 +265,7 @@ impl Work {
     }
 }
 
+#[tactic(auto, using(std::proofs::lemmas::Grind::common_steps))]
 fn empty_hands(alloc: Global, callers: usize) -> Result<Vec<Hand>, AllocError>
     ensures { IfOk result (λ hands. hands.items ≡ replicate callers None) }
 {

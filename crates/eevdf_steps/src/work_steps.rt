@@ -20,6 +20,7 @@ use eevdf_queue::TaskId;
 
 /// Does a caller's micro-step on what it concerns: the queues, the history, the requests, or the request that the caller has
 /// found. The locks are noted where the step is counted (`Callers::advance`).
+#[tactic(auto, using(std::proofs::lemmas::Grind::common_steps))]
 pub(crate) fn do_micro(
     work: &mut Work,
     journal: &mut Journal,
@@ -63,6 +64,7 @@ pub(crate) fn do_micro(
 }
 
 /// Puts down the task in the caller's hand where its operation puts it.
+#[tactic(auto, using(std::proofs::lemmas::Grind::common_steps))]
 fn attach(work: &mut Work, plan: &Plan, cpu: CpuId, op: Op)
     requires op { is_sound_op plan.now op ≡ true }
     requires work { IsWorking work.old cpu (state.home_for plan.now cpu op) }
@@ -70,7 +72,7 @@ fn attach(work: &mut Work, plan: &Plan, cpu: CpuId, op: Op)
     ensures { work.new ≡ steps.attach (state.home_for plan.now cpu op) work.old cpu op }
 {
     match op {
-        Op::Sleep(task) => work.attach_asleep(cpu, plan.home(task)),
+        Op::Sleep(task) | Op::End(task) => work.attach_asleep(cpu, plan.home(task)),
         Op::Pull(_) => work.attach_pulled(cpu),
         _ => {}
     }

@@ -1,5 +1,5 @@
 //! Tasks that come and go, are set to another nice level and slice, and CPUs that are rebased: calls of both fleets in one thread, with
-//! what comes of each, and what stands in the queues afterwards. No program has operations for them.
+//! what comes of each, and what stands in the queues afterwards; and what the fleets refuse.
 
 mod cases;
 mod with_history;
@@ -12,16 +12,6 @@ use eevdf_queue::Queue;
 use eevdf_weight::{Nice, Slice};
 use std::alloc::Global;
 use std::process::Abort;
-
-/// What a seat is asked to do. Tasks are told by their numbers, levels and slices by theirs.
-#[derive(Clone, Copy)]
-enum Coming {
-    Begin(u64, i64, u64),
-    End(u64),
-    Set(u64, i64, u64),
-    Rebase,
-    Other(Call),
-}
 
 /// How a task stands in a queue: runnable with a virtual runtime and a virtual deadline, or asleep with a lag, and either with a nice
 /// level and a slice.
@@ -43,7 +33,7 @@ struct Stands {
 /// Calls of the seats of CPUs, each with what comes of it as it is printed, and what they leave in the queues of both CPUs.
 struct Case {
     name: &'static str,
-    calls: &'static [(usize, Coming, &'static str)],
+    calls: &'static [(usize, Call, &'static str)],
     queues: [Stands; 2],
 }
 

@@ -25,7 +25,7 @@ struct Case {
     orders: usize,
 }
 
-const CASES: [Case; 17] = [
+const CASES: [Case; 22] = [
     // The one step of caller 1 stands anywhere among the 7 of caller 0.
     Case {
         name: "a drain may come before or after another CPU's post",
@@ -127,6 +127,36 @@ const CASES: [Case; 17] = [
         name: "a task gets another level where it was pulled to",
         workload: b"version = 2\nprogram = [[\"pick\"], [\"pull 0\", \"renice 2 5\"]]\n[[task]]\n[[task]]\n[[task]]\n",
         orders: 71,
+    },
+    // Each operation holds the lock of CPU 0 from its first step to its last: the begin comes before, between or after.
+    Case {
+        name: "a task ends where it was pulled to, and begins anew at its home",
+        workload: b"version = 3\nprogram = [[\"begin 2 5 6000000\"], [\"pull 0\", \"end 2\"]]\n[[task]]\n[[task]]\n[[task]]\n",
+        orders: 3,
+    },
+    // Each operation holds the lock of CPU 0 from its first step to its last: the pull comes before, between or after.
+    Case {
+        name: "the running task ends at its home beside a pull",
+        workload: b"version = 3\nprogram = [[\"pick\", \"end 0\"], [\"pull 0\"]]\n[[task]]\n[[task]]\n[[task]]\n",
+        orders: 3,
+    },
+    // The post stands anywhere among the 4 steps of the set and the 6 of the drain.
+    Case {
+        name: "a task is set anew in its sleep beside a post of its wake",
+        workload: b"version = 3\nprogram = [[\"set 0 5 6000000\", \"drain\"], [\"post 0\"]]\n[[task]]\nasleep = true\n",
+        orders: 11,
+    },
+    // 8! / (4! 4!)
+    Case {
+        name: "a rebase beside another CPU's pick",
+        workload: b"version = 3\nprogram = [[\"rebase\"], [\"pick\"]]\n[[task]]\nstart = 5000000\n[[task]]\nhome = 1\n",
+        orders: 70,
+    },
+    // Each holds the lock of CPU 0 from its first step to its last.
+    Case {
+        name: "a pull before or after the rebase of its source",
+        workload: b"version = 3\nprogram = [[\"rebase\"], [\"pull 0\"]]\n[[task]]\nstart = 5000000\n[[task]]\nstart = 5000000\n[[task]]\nstart = 5000000\n",
+        orders: 2,
     },
 ];
 

@@ -14,6 +14,8 @@ mod fixtures;
 #[cfg(test)]
 mod fleet_calls;
 #[cfg(test)]
+mod free_numbers;
+#[cfg(test)]
 mod neighbours;
 #[cfg(test)]
 mod one_thread_again;

@@ -1,6 +1,8 @@
 //! The texts of workloads.
 
 use eevdf_ops::{Deed, Op, TaskSpec};
+use eevdf_queue::TaskId;
+use eevdf_weight::Nice;
 use itoa::Buffer;
 use std::alloc::AllocError;
 
@@ -94,11 +96,17 @@ fn push_operation(text: &mut Vec<u8>, operation: &Op) -> Result<(), AllocError> 
         Op::Post(task) => push_with(text, b"post ", task.get()),
         Op::Drain => text.extend_from_slice(b"drain"),
         Op::Pull(source) => push_with(text, b"pull ", source.get()),
-        Op::Renice(task, nice) => {
-            push_with(text, b"renice ", task.get())?;
-            text.extend_from_slice(b" ")?;
-            push_signed(text, nice.get())
+        Op::Renice(task, nice) => push_leveled(text, b"renice ", *task, *nice),
+        Op::Begin(task, nice, slice) => {
+            push_leveled(text, b"begin ", *task, *nice)?;
+            push_with(text, b" ", slice.get())
         }
+        Op::End(task) => push_with(text, b"end ", task.get()),
+        Op::Set(task, nice, slice) => {
+            push_leveled(text, b"set ", *task, *nice)?;
+            push_with(text, b" ", slice.get())
+        }
+        Op::Rebase => text.extend_from_slice(b"rebase"),
     }
 }
 
@@ -114,8 +122,20 @@ pub fn push_deed(text: &mut Vec<u8>, deed: &Deed) -> Result<(), AllocError> {
         Deed::Renice { cpu, task, nice } => {
             push_done(text, cpu.get(), &Op::Renice(*task, *nice))
         }
-        // No version of a workload has these.
-        Deed::Begin { .. } | Deed::End { .. } | Deed::Set { .. } | Deed::Rebase { .. } => Ok(()),
+        Deed::Begin {
+            cpu,
+            task,
+            nice,
+            slice,
+        } => push_done(text, cpu.get(), &Op::Begin(*task, *nice, *slice)),
+        Deed::End { cpu, task } => push_done(text, cpu.get(), &Op::End(*task)),
+        Deed::Set {
+            cpu,
+            task,
+            nice,
+            slice,
+        } => push_done(text, cpu.get(), &Op::Set(*task, *nice, *slice)),
+        Deed::Rebase { cpu } => push_done(text, cpu.get(), &Op::Rebase),
         Deed::Wake { cpu, task, sender } => {
             push_number(text, cpu.get())?;
             push_with(text, b" wake ", task.get())?;
@@ -129,6 +149,18 @@ fn push_done(text: &mut Vec<u8>, cpu: u64, operation: &Op) -> Result<(), AllocEr
     push_number(text, cpu)?;
     text.extend_from_slice(b" ")?;
     push_operation(text, operation)
+}
+
+/// Writes a word, a task and a nice level.
+fn push_leveled(
+    text: &mut Vec<u8>,
+    word: &[u8],
+    task: TaskId,
+    nice: Nice,
+) -> Result<(), AllocError> {
+    push_with(text, word, task.get())?;
+    text.extend_from_slice(b" ")?;
+    push_signed(text, nice.get())
 }
 
 fn push_with(text: &mut Vec<u8>, word: &[u8], number: u64) -> Result<(), AllocError> {

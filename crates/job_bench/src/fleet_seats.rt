@@ -245,6 +245,17 @@ impl<N: Names> OperatedSeat for Seat<N> {
                 }
                 fleet.pull(rt, self, source)
             }
+            Op::Begin(task, nice, slice) => {
+                if !fleet.is_at_home(task, self.cpu()) {
+                    return Err(JobFault::Machine);
+                }
+                fleet.begin(rt, self, task, nice, slice)
+            }
+            Op::End(task) => fleet.end(rt, self, known_task(fleet, task)?),
+            Op::Set(task, nice, slice) => {
+                fleet.set(rt, self, known_task(fleet, task)?, nice, slice)
+            }
+            Op::Rebase => fleet.rebase(rt, self),
             Op::Post(task) => {
                 digest.add(match self.post(known_task(fleet, task)?) {
                     Ok(()) => 1,

@@ -32,7 +32,7 @@ use std::sync::Wait;
 /// write.
 #[derive(Drop)]
 pub struct Fleet<N: Names> {
-    queues: CachePadded<RunQueues<N>>,
+    pub(crate) queues: CachePadded<RunQueues<N>>,
 }
 
 impl<N: Names> Model for Fleet<N> {

@@ -8,15 +8,14 @@ use crate::endless::fleet::Fleet;
 use crate::endless::seat::Seat;
 use crate::names::Names;
 use crate::operated::{Operated, Refused};
-use crate::try_operate::unless;
 use eevdf_ops::Op;
 use std::sync::Wait;
 
 impl<N: Names> Fleet<N> {
     /// Does an operation of a program with the seat where the setup allows it, and gives what the call of its own for it gives. Else the
-    /// answer is `NoTask` where the setup hasn't the task of a `Sleep`, a `Renice` or a `Post`, `NoCpu` where it hasn't the CPU that a
-    /// `Pull` is from, and `OwnCpu` where that is the seat's own. `RingFull` where the setup allows a post and the ring doesn't take it. A
-    /// refusal changes nothing.
+    /// answer is `NoTask` where the setup hasn't the task that the operation names, `OtherHome` where a task that is to begin has its home
+    /// at another CPU, `NoCpu` where the setup hasn't the CPU that a `Pull` is from, and `OwnCpu` where that is the seat's own.
+    /// `RingFull` where the setup allows a post and the ring doesn't take it. A refusal changes nothing.
     #[inline(always)]
     pub fn try_operate<R: Wait>(
         &self,
@@ -32,31 +31,28 @@ impl<N: Names> Fleet<N> {
             (λ _. seat.new ≡ seat.old) }
         ensures cpu { seat.new.cpu ≡ seat.old.cpu }
     {
-        match op {
-            Op::Tick(ns) => Ok(Operated::Answer(self.tick(rt, seat, ns))),
-            Op::Pick => Ok(Operated::Answer(self.pick(rt, seat))),
-            Op::Yield => Ok(Operated::Answer(self.yield_now(rt, seat))),
-            Op::Sleep(task) => {
-                unless(self.has_task(task), Refused::NoTask(task))?;
-                Ok(Operated::Answer(self.sleep(rt, seat, task)))
-            }
-            Op::Renice(task, nice) => {
-                unless(self.has_task(task), Refused::NoTask(task))?;
-                Ok(Operated::Answer(self.renice(rt, seat, task, nice)))
-            }
-            Op::Pull(source) => {
-                unless(self.has_cpu(source), Refused::NoCpu(source))?;
-                unless(source != seat.cpu(), Refused::OwnCpu)?;
-                Ok(Operated::Answer(self.pull(rt, seat, source)))
-            }
+        if let Some(reason) = self.queues.not_allowed(seat.cpu(), &op) {
+            return Err(reason);
+        }
+        let answer = match op {
+            Op::Tick(ns) => self.tick(rt, seat, ns),
+            Op::Pick => self.pick(rt, seat),
+            Op::Yield => self.yield_now(rt, seat),
+            Op::Sleep(task) => self.sleep(rt, seat, task),
+            Op::Renice(task, nice) => self.renice(rt, seat, task, nice),
+            Op::Pull(source) => self.pull(rt, seat, source),
+            Op::Begin(task, nice, slice) => self.begin(rt, seat, task, nice, slice),
+            Op::End(task) => self.end(rt, seat, task),
+            Op::Set(task, nice, slice) => self.set(rt, seat, task, nice, slice),
+            Op::Rebase => self.rebase(rt, seat),
             Op::Post(task) => {
-                unless(self.has_task(task), Refused::NoTask(task))?;
-                match seat.post(task) {
+                return match seat.post(task) {
                     Ok(()) => Ok(Operated::Posted),
                     Err(full) => Err(Refused::RingFull(full)),
-                }
+                };
             }
-            Op::Drain => Ok(Operated::Drained(self.drain(rt, seat))),
-        }
+            Op::Drain => return Ok(Operated::Drained(self.drain(rt, seat))),
+        };
+        Ok(Operated::Answer(answer))
     }
 }

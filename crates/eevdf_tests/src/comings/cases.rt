@@ -1,9 +1,10 @@
 //! Calls by which tasks come and go, with what comes of them. The values are those of docs/model.md's rules: level 5 weighs 335.
 
-use super::Coming::{Begin, End, Other, Rebase, Set};
 use super::Stand::{Asleep, Elsewhere, Runnable};
 use super::{Case, Stand, Stands};
-use crate::fleet_calls::seat_call::Call::{Drain, Pick, Post, Pull, Sleep, Tick};
+use crate::fleet_calls::seat_call::Call::{
+    Begin, Drain, End, Pick, Post, Pull, Rebase, Renice, Set, Sleep, Tick,
+};
 
 /// A task as the setup gives it, runnable and asleep.
 const WAITS: Stand = Runnable(0, 3_000_000, 0, 3_000_000);
@@ -17,15 +18,15 @@ const NOBODY: Stands = Stands {
     tasks: [Elsewhere; 3],
 };
 
-pub const CASES: [Case; 8] = [
+pub const CASES: [Case; 9] = [
     // A slice of 1000000 ns charges 3056716 to level 5.
     Case {
         name: "a task that sleeps begins anew, and is woken by a drain",
         calls: &[
             (0, Begin(0, 5, 1_000_000), "awake"),
             (0, Begin(2, 5, 1_000_000), "begun"),
-            (1, Other(Post(2)), "posted"),
-            (0, Other(Drain), "1 taken, 1 woken"),
+            (1, Post(2), "posted"),
+            (0, Drain, "1 taken, 1 woken"),
             (0, Begin(2, 0, 1_000_000), "awake"),
         ],
         queues: [
@@ -40,9 +41,9 @@ pub const CASES: [Case; 8] = [
     Case {
         name: "a task that begins anew loses its lag",
         calls: &[
-            (0, Other(Pick), "picked 0"),
-            (0, Other(Tick(1_000_000)), "charged 0"),
-            (0, Other(Sleep(0)), "slept -500000"),
+            (0, Pick, "picked 0"),
+            (0, Tick(1_000_000), "charged 0"),
+            (0, Sleep(0), "slept -500000"),
             (0, Begin(0, 5, 1_000_000), "begun"),
         ],
         queues: [
@@ -58,12 +59,12 @@ pub const CASES: [Case; 8] = [
     Case {
         name: "a task ends where it waits and where it runs",
         calls: &[
-            (0, Other(Pick), "picked 0"),
-            (0, Other(Tick(1_000_000)), "charged 0"),
+            (0, Pick, "picked 0"),
+            (0, Tick(1_000_000), "charged 0"),
             (0, End(1), "ended"),
             (0, End(1), "not here"),
             (0, End(0), "ended"),
-            (0, Other(Pick), "idle"),
+            (0, Pick, "idle"),
         ],
         queues: [
             Stands {
@@ -78,15 +79,15 @@ pub const CASES: [Case; 8] = [
     Case {
         name: "a task ends away from its home",
         calls: &[
-            (1, Other(Pull(0)), "pulled 1"),
+            (1, Pull(0), "pulled 1"),
             (0, End(1), "not here"),
             (0, Begin(1, 5, 1_000_000), "awake"),
-            (1, Other(Pick), "picked 1"),
-            (1, Other(Tick(1_000_000)), "charged 1"),
+            (1, Pick, "picked 1"),
+            (1, Tick(1_000_000), "charged 1"),
             (1, End(1), "ended"),
-            (1, Other(Post(1)), "posted"),
-            (0, Other(Drain), "1 taken, 1 woken"),
-            (1, Other(Pull(0)), "pulled 1"),
+            (1, Post(1), "posted"),
+            (0, Drain, "1 taken, 1 woken"),
+            (1, Pull(0), "pulled 1"),
             (1, End(1), "ended"),
         ],
         queues: [
@@ -106,9 +107,9 @@ pub const CASES: [Case; 8] = [
     Case {
         name: "a sleeping task is set to another level and slice",
         calls: &[
-            (0, Other(Pick), "picked 0"),
-            (0, Other(Tick(1_000_000)), "charged 0"),
-            (0, Other(Sleep(0)), "slept -500000"),
+            (0, Pick, "picked 0"),
+            (0, Tick(1_000_000), "charged 0"),
+            (0, Sleep(0), "slept -500000"),
             (0, Set(0, 5, 1_000_000), "set"),
             (1, Set(0, 0, 3_000_000), "not here"),
         ],
@@ -125,9 +126,9 @@ pub const CASES: [Case; 8] = [
     Case {
         name: "the lag of a sleeping task is cut to its new limit",
         calls: &[
-            (0, Other(Pick), "picked 0"),
-            (0, Other(Tick(1_000_000)), "charged 0"),
-            (0, Other(Sleep(0)), "slept -500000"),
+            (0, Pick, "picked 0"),
+            (0, Tick(1_000_000), "charged 0"),
+            (0, Sleep(0), "slept -500000"),
             (0, Set(0, 5, 100_000), "set"),
         ],
         queues: [
@@ -143,8 +144,8 @@ pub const CASES: [Case; 8] = [
     Case {
         name: "a running task is set to another level and slice",
         calls: &[
-            (0, Other(Pick), "picked 0"),
-            (0, Other(Tick(3_000_000)), "charged 0 resched"),
+            (0, Pick, "picked 0"),
+            (0, Tick(3_000_000), "charged 0 resched"),
             (1, Set(0, 5, 1_000_000), "not here"),
             (0, Set(0, 5, 1_000_000), "set"),
         ],
@@ -160,11 +161,11 @@ pub const CASES: [Case; 8] = [
     Case {
         name: "a rebase lowers the virtual times of its CPU",
         calls: &[
-            (0, Other(Pick), "picked 0"),
-            (0, Other(Tick(3_000_000)), "charged 0 resched"),
+            (0, Pick, "picked 0"),
+            (0, Tick(3_000_000), "charged 0 resched"),
             (1, Rebase, "rebased 0"),
             (0, Rebase, "rebased 1500000"),
-            (0, Other(Pick), "picked 1"),
+            (0, Pick, "picked 1"),
         ],
         queues: [
             Stands {
@@ -175,6 +176,29 @@ pub const CASES: [Case; 8] = [
                     Runnable(-1_500_000, 1_500_000, 0, 3_000_000),
                     SLEEPS,
                 ],
+            },
+            NOBODY,
+        ],
+    },
+    // Task 2 has its home at CPU 0, and sleeps there.
+    Case {
+        name: "what the setup hasn't is named, and nothing changes",
+        calls: &[
+            (0, Sleep(3), "no task 3"),
+            (0, Renice(3, 5), "no task 3"),
+            (0, Post(3), "no task 3"),
+            (0, End(3), "no task 3"),
+            (0, Set(3, 5, 1_000_000), "no task 3"),
+            (0, Begin(3, 5, 1_000_000), "no task 3"),
+            (1, Begin(2, 5, 1_000_000), "other home of task 2"),
+            (0, Pull(2), "no cpu 2"),
+            (0, Pull(0), "own cpu"),
+        ],
+        queues: [
+            Stands {
+                time: 0,
+                running: None,
+                tasks: [WAITS, WAITS, SLEEPS],
             },
             NOBODY,
         ],

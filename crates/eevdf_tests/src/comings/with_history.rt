@@ -3,54 +3,25 @@
 ghost use Rattle.std.specs.Prelude.{◌≡◌};
 
 use super::cases::CASES;
-use super::{Case, Coming, stands_in, three_tasks};
+use super::{Case, stands_in, three_tasks};
 use crate::endless_calls::came::{Came, text_of};
 use crate::fixtures::{cpu, task};
 use crate::fleet_calls::kit_of;
-use eevdf_fleet::{Fleet, Kit, Names, Operated, Refused, Seat, SeatFull};
-use eevdf_queue::TaskId;
-use eevdf_weight::{Nice, Slice};
+use crate::fleet_calls::seat_call::Call;
+use eevdf_fleet::{Fleet, Kit, Names, Operated, Refused, Seat};
 use std::alloc::Global;
 use std::marker::Brand;
 use std::process::Abort;
 use std::sync::Wait;
 
-/// Makes a call. `None` where its numbers are out of range, or the setup has no such task there.
+/// Makes a call. `None` where its numbers are out of range.
 fn came<N: Names, R: Wait>(
     rt: &R,
     fleet: &Fleet<N>,
     seat: &mut Seat<N>,
-    coming: Coming,
+    call: Call,
 ) -> Option<Came> {
-    let answered = match coming {
-        Coming::Begin(number, level, ns) => {
-            let task = TaskId::new(number)?;
-            if !fleet.is_at_home(task, seat.cpu()) {
-                return None;
-            }
-            fleet.begin(rt, seat, task, Nice::new(level)?, Slice::new(ns)?)
-        }
-        Coming::End(number) => {
-            let task = TaskId::new(number)?;
-            if !fleet.has_task(task) {
-                return None;
-            }
-            fleet.end(rt, seat, task)
-        }
-        Coming::Set(number, level, ns) => {
-            let task = TaskId::new(number)?;
-            if !fleet.has_task(task) {
-                return None;
-            }
-            fleet.set(rt, seat, task, Nice::new(level)?, Slice::new(ns)?)
-        }
-        Coming::Rebase => fleet.rebase(rt, seat),
-        Coming::Other(call) => return Some(fleet.try_operate(rt, seat, call.operation()?)),
-    };
-    Some(match answered {
-        Ok(answer) => Ok(Operated::Answer(answer)),
-        Err(SeatFull) => Err(Refused::SeatFull),
-    })
+    Some(fleet.try_operate(rt, seat, call.operation()?))
 }
 
 /// Whether an answer is that of the seat's last line.
@@ -69,9 +40,9 @@ fn make_calls<N: Names, R: Wait + Abort>(rt: &R, alloc: Global, kit: Kit, case: 
     requires { kit ≡ N.kit }
 {
     let (fleet, mut seats) = Fleet::<N>::open(alloc, kit).expect(rt, "memory");
-    for (caller, coming, text) in case.calls {
+    for (caller, call, text) in case.calls {
         let seat = seats.get_mut(*caller).expect(rt, "seat");
-        let came = came(rt, &fleet, seat, *coming).expect(rt, "call");
+        let came = came(rt, &fleet, seat, *call).expect(rt, "call");
         let printed = text_of(rt, alloc, &came);
         assert!(rt;
             printed.as_str() == *text && is_logged(seat, &came),
@@ -105,13 +76,13 @@ fn are_refused<N: Names, R: Wait + Abort>(rt: &R, alloc: Global, kit: Kit) -> bo
 {
     let (fleet, mut seats) = Fleet::<N>::open(alloc, kit).expect(rt, "memory");
     let seat = seats.get_mut(0).expect(rt, "seat");
-    for coming in [
-        Coming::Begin(2, 5, 1_000_000),
-        Coming::End(0),
-        Coming::Set(2, 5, 1_000_000),
-        Coming::Rebase,
+    for call in [
+        Call::Begin(2, 5, 1_000_000),
+        Call::End(0),
+        Call::Set(2, 5, 1_000_000),
+        Call::Rebase,
     ] {
-        if came(rt, &fleet, seat, coming) != Some(Err(Refused::SeatFull)) {
+        if came(rt, &fleet, seat, call) != Some(Err(Refused::SeatFull)) {
             return false;
         }
     }

@@ -3,62 +3,25 @@
 ghost use Rattle.std.specs.Prelude.{◌≡◌};
 
 use super::cases::CASES;
-use super::{Case, Coming, stands_in, three_tasks};
-use crate::endless_calls::came::{Came, text_of};
+use super::{Case, stands_in, three_tasks};
+use crate::endless_calls::came::{call_on, text_of};
 use crate::endless_calls::kit_of;
 use crate::fixtures::{cpu, task};
-use eevdf_fleet::endless::{Fleet, Kit, Seat};
-use eevdf_fleet::{Names, Operated};
-use eevdf_queue::TaskId;
-use eevdf_weight::{Nice, Slice};
+use eevdf_fleet::Names;
+use eevdf_fleet::endless::{Fleet, Kit};
 use std::alloc::Global;
 use std::marker::Brand;
 use std::process::Abort;
 use std::sync::Wait;
-
-/// Makes a call. `None` where its numbers are out of range, or the setup has no such task there.
-fn came<N: Names, R: Wait>(
-    rt: &R,
-    fleet: &Fleet<N>,
-    seat: &mut Seat<N>,
-    coming: Coming,
-) -> Option<Came> {
-    let answer = match coming {
-        Coming::Begin(number, level, ns) => {
-            let task = TaskId::new(number)?;
-            if !fleet.is_at_home(task, seat.cpu()) {
-                return None;
-            }
-            fleet.begin(rt, seat, task, Nice::new(level)?, Slice::new(ns)?)
-        }
-        Coming::End(number) => {
-            let task = TaskId::new(number)?;
-            if !fleet.has_task(task) {
-                return None;
-            }
-            fleet.end(rt, seat, task)
-        }
-        Coming::Set(number, level, ns) => {
-            let task = TaskId::new(number)?;
-            if !fleet.has_task(task) {
-                return None;
-            }
-            fleet.set(rt, seat, task, Nice::new(level)?, Slice::new(ns)?)
-        }
-        Coming::Rebase => fleet.rebase(rt, seat),
-        Coming::Other(call) => return Some(fleet.try_operate(rt, seat, call.operation()?)),
-    };
-    Some(Ok(Operated::Answer(answer)))
-}
 
 /// Makes the calls of a case on a fleet of this kit, and closes it.
 fn make_calls<N: Names, R: Wait + Abort>(rt: &R, alloc: Global, kit: Kit, case: &Case)
     requires { kit ≡ N.kit }
 {
     let (fleet, mut seats) = Fleet::<N>::open(alloc, kit).expect(rt, "memory");
-    for (caller, coming, text) in case.calls {
+    for (caller, call, text) in case.calls {
         let seat = seats.get_mut(*caller).expect(rt, "seat");
-        let came = came(rt, &fleet, seat, *coming).expect(rt, "call");
+        let came = call_on(rt, &fleet, seat, *call).expect(rt, "call");
         assert!(rt;
             text_of(rt, alloc, &came).as_str() == *text,
             "{}: {text}",

@@ -1,7 +1,9 @@
 //! Calls of seats, with what comes of them.
 
 use super::Case;
-use super::seat_call::Call::{Drain, Pick, Post, Pull, Renice, Sleep, Tick, Yield};
+use super::seat_call::Call::{
+    Begin, Drain, End, Pick, Post, Pull, Rebase, Renice, Set, Sleep, Tick, Yield,
+};
 use super::seat_call::Done::{Drained, Line, Posted, RingFull, SeatFull};
 
 /// Two CPUs with a task that is runnable on CPU 0.
@@ -14,7 +16,7 @@ const ONE_ASLEEP: &[u8] = b"version = 1\nprogram = [[], []]\n[[task]]\nasleep = 
 const THREE_ASLEEP: &[u8] =
     b"version = 1\nprogram = [[], []]\n[[task]]\nasleep = true\n[[task]]\nasleep = true\n[[task]]\nasleep = true\n";
 
-pub const CASES: [Case; 11] = [
+pub const CASES: [Case; 12] = [
     Case {
         name: "each answer of a running task is a line",
         workload: b"version = 2\nprogram = [[]]\n[[task]]\n[[task]]\n",
@@ -151,6 +153,23 @@ pub const CASES: [Case; 11] = [
             (1, Sleep(2), Line),
         ],
         report: "cpu 0\nload 2048 floor 0\ntask 0 v 0 d 3000000 lag 0\ntask 1 v 0 d 3000000 lag 0\nasleep 2 lag 0\ncpu 1\npull 0: pulled 2\npick: picked 2\ntick 500000: charged 2\nsleep 2: slept 0\nload 0 floor 500000\nscript = [\n\"1 pull 0\",\n\"1 pick\",\n\"1 tick 500000\",\n\"1 sleep 2\",\n]\n",
+    },
+    Case {
+        name: "a task begins anew, and another is set to another level and ends",
+        workload: b"version = 1\nprogram = [[], []]\n[[task]]\n[[task]]\nasleep = true\n",
+        quota: 6,
+        rings: 1,
+        calls: &[
+            (0, Begin(1, 5, 1_000_000), Line),
+            (0, Pick, Line),
+            (0, Tick(1_000_000), Line),
+            (0, Rebase, Line),
+            (0, Set(0, 5, 1_000_000), Line),
+            (0, End(0), Line),
+            (0, End(0), SeatFull),
+            (1, End(0), Line),
+        ],
+        report: "cpu 0\nbegin 1 5 1000000: begun\npick: picked 0\ntick 1000000: charged 0\nrebase: rebased 1000000\nset 0 5 1000000: set\nend 0: ended\nload 0 floor 0\nasleep 0 lag 0\nasleep 1 lag 0\ncpu 1\nend 0: not here\nload 0 floor 0\nscript = [\n\"0 begin 1 5 1000000\",\n\"0 pick\",\n\"0 tick 1000000\",\n\"0 rebase\",\n\"0 set 0 5 1000000\",\n\"0 end 0\",\n\"1 end 0\",\n]\n",
     },
     Case {
         name: "nothing is done",

@@ -5,10 +5,10 @@ ghost use Rattle.std.specs.Prelude.{◌≡◌};
 use eevdf_fleet::{Drained, Fleet, Names, Operated, Refused, Seat};
 use eevdf_ops::{CpuId, Op};
 use eevdf_queue::TaskId;
-use eevdf_weight::{Nice, Ns};
+use eevdf_weight::{Nice, Ns, Slice};
 use std::sync::Wait;
 
-/// What a seat is asked to do. Tasks and CPUs are told by their numbers.
+/// What a seat is asked to do. Tasks and CPUs, levels and slices are told by their numbers.
 #[derive(Clone, Copy)]
 pub enum Call {
     Tick(u64),
@@ -19,6 +19,10 @@ pub enum Call {
     Pull(u64),
     Post(u64),
     Drain,
+    Begin(u64, i64, u64),
+    End(u64),
+    Set(u64, i64, u64),
+    Rebase,
 }
 
 impl Call {
@@ -33,6 +37,18 @@ impl Call {
             Call::Pull(source) => Op::Pull(CpuId::new(source)?),
             Call::Post(task) => Op::Post(TaskId::new(task)?),
             Call::Drain => Op::Drain,
+            Call::Begin(task, level, slice) => Op::Begin(
+                TaskId::new(task)?,
+                Nice::new(level)?,
+                Slice::new(slice)?,
+            ),
+            Call::End(task) => Op::End(TaskId::new(task)?),
+            Call::Set(task, level, slice) => Op::Set(
+                TaskId::new(task)?,
+                Nice::new(level)?,
+                Slice::new(slice)?,
+            ),
+            Call::Rebase => Op::Rebase,
         })
     }
 }

@@ -1,7 +1,6 @@
 use Rattle.std.proofs.Common.{◌≡◌, ℕ, ◌<◌, List, [], ◌∷◌, ◌++◌, length, sym, ap, subst, ◌∙◌, arith}
 use Rattle.std.proofs.Math.ListN.{length-append}
 use Rattle.std.specs.Prelude.{slice_index}
-use Rattle.std.proofs.lemmas.Grind.{common_steps}
 use Rattle.eevdf_steps.specs.{Plan.callers, Plan.program, PostLists.PostList, PostLists.list_at, Openings.CountPosts, Openings.empty_at}
 use Rattle.eevdf_steps.proofs.Reserving.{empty_next}
 use Rattle.eevdf_steps.proofs.openings.empty_posts.Goals as goal
@@ -21,15 +20,3 @@ loop-room-preserved c =
           (c.in_ok-open.ensures ∙ ap (λ (rs : List ℕ). record { posted = []; taken = 0; room = slice_index rs c.loop-room.room-index }) rooms)
           c.loop-room.invariant.each c.loop-room.invariant.empty k below);
     }
-
-pub loop-sender-init : goal.loop-sender-init
-loop-sender-init c = grind (arith, common_steps)
-
-pub loop-room-init : goal.loop-room-init
-loop-room-init c = grind (arith, common_steps)
-
-pub loop-sender-preserved : goal.loop-sender-preserved
-loop-sender-preserved c = grind (arith, common_steps)
-
-pub returns : goal.returns
-returns c = grind (arith, common_steps)

@@ -1,7 +1,6 @@
 use Rattle.std.proofs.Common.{◌≡◌, ℕ, ◌+◌, ◌<◌, List, ◌++◌, length, drop, take, get_or, sym, ap, subst, ◌∙◌, arith}
 use Rattle.std.proofs.Math.Seq.{take-append_seam}
 use Rattle.eevdf_ops.specs.declared.deeds.Op.{Op}
-use Rattle.std.proofs.lemmas.Grind.{common_steps}
 use Rattle.eevdf_steps.specs.{Plan.program, Openings.CountPosts, Openings.post_counted}
 use Rattle.eevdf_steps.proofs.Reserving.{counted_next, counts_below}
 use Rattle.eevdf_steps.proofs.openings.post_counts.Goals as goal
@@ -27,15 +26,3 @@ loop-op-preserved c =
     subst (λ (counts : List ℕ). CountPosts plan (take (c.loop-op.op-index + 1) (program plan c.args.caller)) counts) counted
     (counted_next plan c.args.caller c.loop-op.op-index c.op-item.result c.loop-op.counts.items c.keeps.ensures within
     (c.op-item.is ∙ ap (λ (ops : List Op). get_or ops c.loop-op.op-index c.op-item.result) c.program-op-items.ensures.program) c.loop-op.invariant)
-
-pub count_post-requires-clause-sound : goal.count_post-requires-clause-sound
-count_post-requires-clause-sound c = grind (arith, common_steps)
-
-pub count_post-requires-clause-each : goal.count_post-requires-clause-each
-count_post-requires-clause-each c = grind (arith, common_steps)
-
-pub loop-op-init : goal.loop-op-init
-loop-op-init c = grind (arith, common_steps)
-
-pub returns : goal.returns
-returns c = grind (arith, common_steps)

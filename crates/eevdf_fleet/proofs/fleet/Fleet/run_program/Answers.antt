@@ -31,8 +31,8 @@ loop-n-init g c = record {
 pub run_operation-requires-clause-sound : goal.run_operation-requires-clause-sound
 run_operation-requires-clause-sound g c = (
   c.loop-n.n,
-  subst (λ (s : Setup). operation_fault (length (homes_of s)) (cpus_of s) c.loop-n.seat.cpu c.loop-n.n c.index-program-n.result ≡ None) (sym c.requires.setup)
-      (subst (λ (cpu : ℕ). operation_fault (length (homes_of c.args.setup.now)) (cpus_of c.args.setup.now) cpu c.loop-n.n c.index-program-n.result ≡ None) (sym c.loop-n.invariant.run.own)
+  subst (λ (s : Setup). operation_fault (homes_of s) (cpus_of s) c.loop-n.seat.cpu c.loop-n.n c.index-program-n.result ≡ None) (sym c.requires.setup)
+      (subst (λ (cpu : ℕ). operation_fault (homes_of c.args.setup.now) (cpus_of c.args.setup.now) cpu c.loop-n.n c.index-program-n.result ≡ None) (sym c.loop-n.invariant.run.own)
       (placed-sound c.args.setup.now c.cpu-cpu.result c.loop-n.n c.program-program.result.now c.index-program-n.result (stands g c))),
 )
 
