@@ -5,18 +5,19 @@ use Rattle.std.specs.{Ordering.nat_cmp, Ordering.eq_by_cmp, Cmp.nat_cmp_total}
 use Rattle.std.specs.FinMap.{get, insert, remove, len, get-insert, get-remove}
 use Rattle.std.proofs.{lemmas.Int.ints, lemmas.Int.by_lt_z, lemmas.Bool.Decides.nat_tests}
 use Rattle.eevdf_weight.specs.{Weight.weight_of, Charge.charge_of}
-use Rattle.eevdf_queue.specs.{declared.entry.Entry.Entry, declared.sleeper.Sleeper.Sleeper, State.State, Laws.PickIsFirst, Laws.PickOfNobody, Placing.placement, Moves.request_of}
+use Rattle.eevdf_queue.specs.{declared.entry.Entry.Entry, declared.sleeper.Sleeper.Sleeper, State.State, Laws.PickIsFirst, Laws.PickOfNobody, Placing.placement, Moves.request_of, Rebase.lowered_entry}
 use Rattle.eevdf_queue.specs.Sums.{Tasks, total_weight, total_moment}
 use Rattle.eevdf_queue.proofs.Scaled.{scaled_sum, sum_scaled, scaled_le}
-use Rattle.eevdf_fairness.specs.{Leavings.Step, Leavings.HaveNoLongerTurns, Leavings.after_steps, Fair.NoneIsFarPast, Fair.IsNotLate, Fair.turns_of_others}
+use Rattle.eevdf_fairness.specs.{Leavings.Step, Leavings.HaveNoLongerTurns, Leavings.after_steps, Leavings.lowered_by, Fair.NoneIsFarPast, Fair.IsNotLate, Fair.turns_of_others}
 use Rattle.eevdf_fairness.specs.{Joining.Joins, Joining.lag_limit, Joining.reach, Joining.most_late, Healing.HasNotYielded}
 use Rattle.eevdf_fairness.specs.Joining.{IsNotLateAfterJoin, IsNotBehindAfterJoin, JoinKeepsFair, HealedJoinKeepsFair}
 use Rattle.eevdf_fairness.proofs.{Inequalities.le_then, Growing.rounded_down}
 use Rattle.eevdf_fairness.proofs.{Growing.not_itself, Growing.itself, Growing.found_at_after, Growing.found_after, Rooms.has_room}
 use Rattle.eevdf_fairness.proofs.Removing.{none_removed, weight_removed, moment_removed, one_fewer, some_there}
 use Rattle.eevdf_fairness.proofs.Rules.{Rule, IsWithin, Keeps, NoneIsPastBy, rule_of, settled, After, Short, Nothing, keeps_after, keeps_short, keeps_nothing, Nobody, fresh_within}
-use Rattle.eevdf_fairness.proofs.{Turning.found_before, Steps.steps_within, Bounds.itself as no_later, Bounds.rest_by, Bounds.late_by, Bounds.late_after}
-use Rattle.eevdf_fairness.proofs.{Healing.healed_steps, Joining.joiner, Joining.joined_tasks, Joining.joiner_near}
+use Rattle.eevdf_fairness.proofs.{Turning.found_before, Steps.IsRuleOfSteps, Steps.steps_within, Steps.settled_steps, Bounds.itself as no_later, Bounds.rest_by, Bounds.late_by, Bounds.late_after}
+use Rattle.eevdf_fairness.proofs.Falling.{Falls, falls_nothing, falls_short, front_down}
+use Rattle.eevdf_fairness.proofs.{Healing.healed_rule, Healing.healed_steps, Joining.joiner, Joining.joined_tasks, Joining.joiner_near}
 
 -- ---- how far past a deadline a task joins
 quotient : (x W : ℕ) → 1 ≤ W → x + 1 ≤ (x / W + 1) * W
@@ -199,6 +200,26 @@ module _ (ns : ℕ) (front : ℤ) (Kept : ℕ → Entry → Type 0) (keeps : Kee
           → a.v ≤ℤ (e.d +ℤ pos (charge_of ns (weight_of a.nice) + (most - charge_of ns (weight_of a.nice))))
       joiner_past h = subst (λ (b : Bool). a.v ≤ℤ (e.d +ℤ pos (charge_of ns (weight_of a.nice) + (cond b most 0 - charge_of ns (weight_of a.nice))))) (itself task) h
 
+-- ---- rebases
+stays_lower : (front : ℤ) (Kept : ℕ → Entry → Type 0) (falls : Falls Kept) (task : ℕ) (nice : ℤ) (by : ℤ) (t : ℕ) (e : Entry)
+    → Stays front Kept task nice t e → Stays (front -ℤ by) Kept task nice t (lowered_entry by e)
+stays_lower front Kept falls task nice by t e k = ((λ other. front_down front e.d by (k.0.0 other), k.0.1), falls by t e k.1)
+
+joined_steps : (ns : ℕ) (Kept : ℕ → Entry → Type 0) (keeps : Keeps Kept) → Falls Kept → (task : ℕ) (nice : ℤ) (most : ℕ)
+    → IsRuleOfSteps ns (λ front. joined ns front Kept keeps task nice most)
+joined_steps ns Kept keeps falls task nice most = record {
+  same_ns = λ front. refl;
+  guarded = λ front e so. so;
+  falls = λ front by. record {
+    ns = refl;
+    front = refl;
+    allowed = λ u level. refl;
+    counts = λ t counts. counts;
+    guard = λ e so. so;
+    kept = stays_lower front Kept falls task nice by;
+  };
+}
+
 -- ---- after a join
 behind_by : (v d S : ℤ) (W c x : ℕ) → d ≤ℤ (v +ℤ pos c) → S ≤ℤ ((d *ℤ pos W) +ℤ pos x) → S ≤ℤ ((v *ℤ pos W) +ℤ pos (W * c + x))
 behind_by v d S W c x short late = omega (arith, ints, late, scaled_le d (v +ℤ pos c) W short, sum_scaled v (pos c) W)
@@ -210,7 +231,7 @@ not_behind ns before s tasks e late short =
 
 module _ (first : PickIsFirst) (nobody : PickOfNobody) (m r : State) (front : ℤ) (ns : ℕ) (Kept : ℕ → Entry → Type 0) (keeps : Keeps Kept)
     (w : IsWithin (rule_of ns front Nobody (After front Kept) (keeps_after front Kept keeps)) m.runnable) (task : ℕ) (s : Sleeper) (j : Joins m task s r)
-    (fresh : Kept task (joiner m s)) (steps : List Step) (short : HaveNoLongerTurns ns steps) where
+    (falls : Falls Kept) (fresh : Kept task (joiner m s)) (steps : List Step) (short : HaveNoLongerTurns ns steps) where
   near_each : (u : ℕ) (f : Entry) → get m.runnable u ≡ Some f → (placement m s) ≤ℤ (f.d +ℤ pos (reach ns m.runnable s))
   near_each u f found =
       near_by (placement m s) f.d (total_moment m.runnable) (total_weight m.runnable) (turns_of_others ns m.runnable)
@@ -222,8 +243,10 @@ module _ (first : PickIsFirst) (nobody : PickOfNobody) (m r : State) (front : �
       subst (IsWithin (joined ns front Kept keeps task s.nice (reach ns m.runnable s))) (sym (joined_tasks m r task s j))
       (joined_within ns front Kept keeps task (reach ns m.runnable s) m.runnable (joiner m s) w (request_of s.nice s.slice) refl fresh j.absent near_each)
 
-  stays : IsWithin (joined ns front Kept keeps task s.nice (reach ns m.runnable s)) (after_steps r steps).runnable
-  stays = steps_within first nobody (joined ns front Kept keeps task s.nice (reach ns m.runnable s)) (λ e so. so) r steps short start
+  stays : IsWithin (joined ns (front -ℤ lowered_by r steps) Kept keeps task s.nice (reach ns m.runnable s)) (after_steps r steps).runnable
+  stays =
+      steps_within first nobody ns (λ time. joined ns time Kept keeps task s.nice (reach ns m.runnable s))
+      (joined_steps ns Kept keeps falls task s.nice (reach ns m.runnable s)) r front steps short start
 
   kept_then : (t : ℕ) (e : Entry) → get (after_steps r steps).runnable t ≡ Some e → Kept t e
   kept_then t e here = (stays.kept t e here).1
@@ -231,30 +254,32 @@ module _ (first : PickIsFirst) (nobody : PickOfNobody) (m r : State) (front : �
   late_then : (t : ℕ) (e : Entry) → (t ≡ task → ⊥) → get (after_steps r steps).runnable t ≡ Some e
       → IsNotLateAfterJoin ns m.runnable s (after_steps r steps).runnable e
   late_then t e other here =
-      bound_by ns front Kept keeps task s.nice (reach ns m.runnable s) (after_steps r steps).runnable stays t e other here (get (after_steps r steps).runnable task) refl
+      bound_by ns (front -ℤ lowered_by r steps) Kept keeps task s.nice (reach ns m.runnable s) (after_steps r steps).runnable stays t e other here (get (after_steps r steps).runnable task) refl
 
 whole_request : (v : ℤ) (c : ℕ) → (v +ℤ pos c) ≤ℤ (v +ℤ pos c)
 whole_request v c = omega (arith, ints)
 
 pub join_keeps_fair : PickIsFirst → PickOfNobody → JoinKeepsFair
 join_keeps_fair first nobody q m r v ns before steps task s fresh short more same j t e other here =
-    let w : IsWithin (settled ns v Nobody) m.runnable =
-    subst (IsWithin (settled ns v Nobody)) (sym same)
-    (steps_within first nobody (settled ns v Nobody) (λ e so. so) q before short (fresh_within v ns Nobody q.runnable fresh)) in
+    let now : ℤ = v -ℤ lowered_by q before in
+    let w : IsWithin (settled ns now Nobody) m.runnable =
+    subst (IsWithin (settled ns now Nobody)) (sym same)
+    (steps_within first nobody ns (λ front. settled ns front Nobody) (settled_steps ns Short keeps_short falls_short) q v before short (fresh_within v ns Nobody q.runnable fresh)) in
     let asked : HasNotYielded (joiner m s) = whole_request (placement m s) (request_of s.nice s.slice) in
     let late : IsNotLateAfterJoin ns m.runnable s (after_steps r steps).runnable e =
-    late_then first nobody m r v ns Short keeps_short w task s j asked steps more t e other here in
+    late_then first nobody m r now ns Short keeps_short w task s j falls_short asked steps more t e other here in
     record {
       late = late;
       behind = not_behind ns m.runnable s (after_steps r steps).runnable e late
-          (kept_then first nobody m r v ns Short keeps_short w task s j asked steps more t e here);
+          (kept_then first nobody m r now ns Short keeps_short w task s j falls_short asked steps more t e here);
     }
 
 pub healed_join_keeps_fair : PickIsFirst → PickOfNobody → HealedJoinKeepsFair
 healed_join_keeps_fair first nobody q m r front ns before more steps task s none short further last passed same j t e other here =
-    let w : IsWithin (rule_of ns front Nobody (After front Nothing) (keeps_after front Nothing keeps_nothing)) m.runnable =
-    subst (IsWithin (rule_of ns front Nobody (After front Nothing) (keeps_after front Nothing keeps_nothing))) (sym same)
+    let now : ℤ = (front -ℤ lowered_by q before) -ℤ lowered_by (after_steps q before) more in
+    let w : IsWithin (healed_rule ns now) m.runnable =
+    subst (IsWithin (healed_rule ns now)) (sym same)
     (healed_steps first nobody q front ns before more none short further passed) in
     let late : IsNotLateAfterJoin ns m.runnable s (after_steps r steps).runnable e =
-    late_then first nobody m r front ns Nothing keeps_nothing w task s j tt steps last t e other here in
+    late_then first nobody m r now ns Nothing keeps_nothing w task s j falls_nothing tt steps last t e other here in
     record { late = late; behind = not_behind ns m.runnable s (after_steps r steps).runnable e late }

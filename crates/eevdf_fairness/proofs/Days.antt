@@ -16,11 +16,12 @@ use Rattle.eevdf_queue.specs.Rebase.{lowered_entry, lowered_entries, are_entries
 use Rattle.eevdf_queue.specs.LoweredQueues.{AnswerAlike, LoweredQueueAnswersAlike, RebasedIsLower}
 use Rattle.eevdf_queue.proofs.{Floors.not_above, Floors.below_next, Scaled.sum_scaled, Scaled.difference_scaled, Scaled.scaled_le}
 use Rattle.eevdf_fairness.specs.Turns.{Turn, turn_length, AreNoLonger, after_ticks, after_turn, after_turns}
-use Rattle.eevdf_fairness.specs.Fair.{NoneIsFarPast, turns_of_others, weight_of_others}
+use Rattle.eevdf_fairness.specs.Fair.{turns_of_others, weight_of_others}
 use Rattle.eevdf_fairness.specs.Days.{total_length, IsDay, AreDays, after_days, IsNearStart, DaysStayInRange}
 use Rattle.eevdf_fairness.proofs.EntrySums.{Each, each, no_heavier}
 use Rattle.eevdf_fairness.proofs.{Growing.HasRun, Growing.has_run, Growing.found_after, Owed.owed, Passing.turns_passed}
-use Rattle.eevdf_fairness.proofs.Rules.{IsWithin, settled, Everyone, at_one_time, IsLittleAhead, fresh_within}
+use Rattle.eevdf_fairness.proofs.Rules.{IsWithin, settled, Everyone, After, Short, keeps_after, keeps_short, at_one_time, IsLittleAhead, fresh_within}
+use Rattle.eevdf_fairness.proofs.Falling.{front_down, short_down, lowered_within, lower_rule_of, falls_after, falls_short}
 use Rattle.eevdf_fairness.proofs.{Turning.moment_after, Steps.idle, Steps.turns_within, Bounds.itself}
 
 abbrev second : ℕ
@@ -248,24 +249,6 @@ found_lower P by (Some e) f h k = let same : lowered_entry by e ≡ f = cc in su
 mean_lower : (S T time : ℤ) (W : ℕ) → (time *ℤ pos W) ≤ℤ S → S <ℤ ((time *ℤ pos W) +ℤ pos W) → T ≡ S -ℤ (time *ℤ pos W) → unsigned_abs T ≤ 2 ^ 58 * W
 mean_lower S T time W h k e = omega (arith, ints, h, k, e)
 
-up_again : (d time by : ℤ) → (d -ℤ by) ≤ℤ time → d ≤ℤ (time +ℤ by)
-up_again d time by h = omega (arith, ints, h)
-
-down_again : (v time by : ℤ) → v ≤ℤ (time +ℤ by) → (v -ℤ by) ≤ℤ time
-down_again v time by h = omega (arith, ints, h)
-
-past_down : (v time by : ℤ) (c : ℕ) → v ≤ℤ ((time +ℤ by) +ℤ pos c) → (v -ℤ by) ≤ℤ (time +ℤ pos c)
-past_down v time by c h = omega (arith, ints, h)
-
-front_down : (front d by : ℤ) → front ≤ℤ d → (front -ℤ by) ≤ℤ (d -ℤ by)
-front_down front d by h = omega (arith, ints, h)
-
-short_down : (d v by : ℤ) (c : ℕ) → d ≤ℤ (v +ℤ pos c) → (d -ℤ by) ≤ℤ ((v -ℤ by) +ℤ pos c)
-short_down d v by c h = omega (arith, ints, h)
-
-ahead_down : (v S T by : ℤ) (W x y : ℕ) → T ≡ S -ℤ (by *ℤ pos W) → ((v *ℤ pos W) +ℤ pos x) ≤ℤ (S +ℤ pos y) → (((v -ℤ by) *ℤ pos W) +ℤ pos x) ≤ℤ (T +ℤ pos y)
-ahead_down v S T by W x y e h = omega (arith, ints, h, e, difference_scaled v by W)
-
 module _ (alike : LoweredQueueAnswersAlike) (lower : RebasedIsLower) (q : State) (front : ℤ) (c : IsCalm (2 ^ 59) front q.runnable) where
   near_mean : (t : ℕ) (e : Entry) → get q.runnable t ≡ Some e → unsigned_abs (e.v -ℤ virtual_time q) ≤ 2 ^ 51
   near_mean t e here =
@@ -296,20 +279,10 @@ module _ (alike : LoweredQueueAnswersAlike) (lower : RebasedIsLower) (q : State)
   found P h t f here = found_lower P (virtual_time q) (get q.runnable t) f (sym (answers.entry t) ∙ here) (h t)
 
   rebased_within : IsWithinFresh (front -ℤ virtual_time q) (rebased q).runnable
-  rebased_within = record {
-    within = λ time later. found (λ x. x.d ≤ℤ time → x.v ≤ℤ time)
-        (λ t e here d. down_again e.v time (virtual_time q) (c.within.within (time +ℤ virtual_time q) (up_again front time (virtual_time q) later) t e here (up_again e.d time (virtual_time q) d)));
-    past = λ time later. found (λ x. Unit {0} → x.d ≤ℤ time → NoneIsFarPast second (rebased q).runnable time)
-        (λ t e here counts d. found (λ x. x.v ≤ℤ (time +ℤ pos (charge_of second (weight_of x.nice))))
-        (λ u f there. past_down f.v time (virtual_time q) (charge_of second (weight_of f.nice))
-        (c.within.past (time +ℤ virtual_time q) (up_again front time (virtual_time q) later) t e here counts (up_again e.d time (virtual_time q) d) u f there)));
-    ahead = λ t f here so. found (λ x. IsLittleAhead second (total_weight (rebased q).runnable) (total_moment (rebased q).runnable) x)
-        (λ t e here. subst (λ (n : ℕ). IsLittleAhead second n (total_moment (rebased q).runnable) (lowered_entry (virtual_time q) e)) (sym answers.load)
-        (ahead_down e.v (total_moment q.runnable) (total_moment (rebased q).runnable) (virtual_time q) (total_weight q.runnable)
-        (weight_of e.nice * charge_of second (weight_of e.nice)) (total_weight q.runnable * charge_of second (weight_of e.nice)) answers.moment (c.within.ahead t e here tt))) t f here;
-    kept = found (λ x. ((front -ℤ virtual_time q) ≤ℤ x.d) × (x.d ≤ℤ (x.v +ℤ pos (request_of x.nice x.slice))))
-        (λ t e here. (front_down front e.d (virtual_time q) (c.within.kept t e here).0, short_down e.d e.v (virtual_time q) (request_of e.nice e.slice) (c.within.kept t e here).1));
-  }
+  rebased_within =
+      lowered_within (virtual_time q) (settled second front Everyone) (settled second (front -ℤ virtual_time q) Everyone)
+      (lower_rule_of second front (virtual_time q) Everyone Everyone (After front Short) (After (front -ℤ virtual_time q) Short) (keeps_after front Short keeps_short)
+      (keeps_after (front -ℤ virtual_time q) Short keeps_short) (λ e so. tt) (falls_after front Short falls_short (virtual_time q))) q.runnable c.within
 
   rebased_calm : IsCalm (2 ^ 58) (front -ℤ virtual_time q) (rebased q).runnable
   rebased_calm = record {

@@ -1,6 +1,6 @@
 -- From a fresh start every list of turns keeps each task fair, and from any state counted from a front.
 use Rattle.std.proofs.Common.{◌≡◌, ℕ, ◌+◌, Bool, true, false, List, Some, refl, arith}
-use Rattle.std.specs.Prelude.{ℤ, pos, ◌+ℤ◌, ◌*ℤ◌, ◌≤ℤ◌, ◌<ℤ◌, int_lt}
+use Rattle.std.specs.Prelude.{ℤ, pos, ◌+ℤ◌, ◌-ℤ◌, ◌*ℤ◌, ◌≤ℤ◌, ◌<ℤ◌, int_lt}
 use Rattle.std.specs.{FinMap.get, Int.int_max}
 use Rattle.std.proofs.lemmas.Int.{ints, clamps}
 use Rattle.eevdf_weight.specs.{Weight.weight_of, Charge.charge_of}
@@ -8,9 +8,9 @@ use Rattle.eevdf_queue.specs.{declared.entry.Entry.Entry, State.State, Moves.req
 use Rattle.eevdf_queue.specs.Sums.{Tasks, total_weight, total_moment}
 use Rattle.eevdf_fairness.specs.Turns.{Turn, AreNoLonger, IsFresh, after_turns}
 use Rattle.eevdf_fairness.specs.Anywhere.{HasPassedFront, IsStillFairPast, TurnsAreFairAnywhere, LeavingsKeepFairAnywhere}
-use Rattle.eevdf_fairness.specs.{Fair.TurnsAreFair, Fair.turns_of_others, Healing.IsPunctual, Leavings.after_steps, Leavings.LeavingsKeepFair}
-use Rattle.eevdf_fairness.proofs.Rules.{IsWithin, Keeps, rule_of, settled, Everyone, Nobody, Nothing, keeps_nothing, fresh_within, anywhere_within}
-use Rattle.eevdf_fairness.proofs.{Steps.turns_within, Steps.steps_within, Bounds.itself, Bounds.rest_after, Bounds.late_after, Bounds.ahead_now, Bounds.punctual_now, Bounds.fair}
+use Rattle.eevdf_fairness.specs.{Fair.TurnsAreFair, Fair.turns_of_others, Healing.IsPunctual, Leavings.after_steps, Leavings.lowered_by, Leavings.LeavingsKeepFair}
+use Rattle.eevdf_fairness.proofs.Rules.{IsWithin, Keeps, rule_of, settled, Everyone, Nobody, Nothing, Short, keeps_nothing, keeps_short, fresh_within, anywhere_within}
+use Rattle.eevdf_fairness.proofs.{Steps.turns_within, Steps.steps_within, Steps.settled_steps, Steps.nothing_steps, Falling.falls_short, Bounds.itself, Bounds.rest_after, Bounds.late_after, Bounds.ahead_now, Bounds.punctual_now, Bounds.fair}
 
 -- ---- from a fresh start
 pub fresh_turns : PickIsFirst → PickOfNobody → (q : State) (v : ℤ) (ns : ℕ) (turns : List Turn) → IsFresh v q.runnable → AreNoLonger ns turns
@@ -28,10 +28,10 @@ apart_by v u d a c h k = omega (arith, ints, h, k)
 
 pub leavings_keep_fair : PickIsFirst → PickOfNobody → LeavingsKeepFair
 leavings_keep_fair first nobody q v ns steps fresh short t e here =
-    let w : IsWithin (settled ns v Nobody) (after_steps q steps).runnable =
-    steps_within first nobody (settled ns v Nobody) (λ e so. so) q steps short (fresh_within v ns Nobody q.runnable fresh) in
+    let w : IsWithin (settled ns (v -ℤ lowered_by q steps) Nobody) (after_steps q steps).runnable =
+    steps_within first nobody ns (λ front. settled ns front Nobody) (settled_steps ns Short keeps_short falls_short) q v steps short (fresh_within v ns Nobody q.runnable fresh) in
     let kept = w.kept t e here in
-    let punctual : IsPunctual ns (after_steps q steps).runnable e = punctual_now ns v Nobody _ _ (after_steps q steps).runnable w t e here kept.0 in
+    let punctual : IsPunctual ns (after_steps q steps).runnable e = punctual_now ns (v -ℤ lowered_by q steps) Nobody _ _ (after_steps q steps).runnable w t e here kept.0 in
     record {
       past = punctual.past;
       late = punctual.late;
@@ -69,7 +69,7 @@ module _ (ns : ℕ) (front : ℤ) (Guard : Entry → Type 0) (Kept : ℕ → Ent
       healed_by e.d front (total_moment tasks) ((front *ℤ pos (total_weight tasks)) +ℤ pos (turns_of_others ns tasks))
       (late_after ns front Guard Kept keeps tasks w t e here front (itself front))
 
-  still : IsStillFairPast front ns tasks e
+  pub still : IsStillFairPast front ns tasks e
   still = record {
     past = w.past (int_max e.d front) (max_second e.d front) t e here tt (max_first e.d front);
     late = late_after ns front Guard Kept keeps tasks w t e here (int_max e.d front) (max_second e.d front) (max_first e.d front);
@@ -89,6 +89,6 @@ turns_are_fair_anywhere first nobody q front ns turns none short t e here =
 
 pub leavings_keep_fair_anywhere : PickIsFirst → PickOfNobody → LeavingsKeepFairAnywhere
 leavings_keep_fair_anywhere first nobody q front ns steps none short t e here =
-    still ns front Nobody Nothing keeps_nothing (after_steps q steps).runnable
-    (steps_within first nobody (rule_of ns front Nobody Nothing keeps_nothing) (λ e so. so) q steps short
+    still ns (front -ℤ lowered_by q steps) Nobody Nothing keeps_nothing (after_steps q steps).runnable
+    (steps_within first nobody ns (λ time. rule_of ns time Nobody Nothing keeps_nothing) (nothing_steps ns) q front steps short
     (anywhere_within ns front Nobody Nothing keeps_nothing q.runnable (λ e so. absurd so) none (λ t e here. tt))) t e here

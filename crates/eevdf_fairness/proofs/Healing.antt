@@ -1,17 +1,17 @@
 -- When the state that turns began in counts no more.
 use Rattle.std.proofs.Common.{◌≡◌, ℕ, ◌+◌, ◌-◌, ◌*◌, ◌≤◌, List, Some, sym, subst, arith}
-use Rattle.std.specs.Prelude.{ℤ, pos, ◌+ℤ◌, ◌*ℤ◌, ◌≤ℤ◌, ◌<ℤ◌}
+use Rattle.std.specs.Prelude.{ℤ, pos, ◌+ℤ◌, ◌-ℤ◌, ◌*ℤ◌, ◌≤ℤ◌, ◌<ℤ◌}
 use Rattle.std.specs.FinMap.{get}
 use Rattle.std.proofs.{lemmas.Int.ints, lemmas.Int.by_lt_z, Math.Nat.mul-le-mul_right}
 use Rattle.eevdf_weight.specs.{Weight.weight_of, Charge.charge_of}
 use Rattle.eevdf_queue.specs.{declared.entry.Entry.Entry, State.State, Laws.PickIsFirst, Laws.PickOfNobody}
 use Rattle.eevdf_queue.specs.Sums.{Tasks, total_weight, total_moment}
 use Rattle.eevdf_queue.proofs.Scaled.{scaled_le}
-use Rattle.eevdf_fairness.specs.{Turns.Turn, Turns.AreNoLonger, Turns.after_turns, Leavings.Step, Leavings.HaveNoLongerTurns, Leavings.after_steps, Fair.turns_of_others, Anywhere.NoneIsPast, Anywhere.HasPassedFront}
+use Rattle.eevdf_fairness.specs.{Turns.Turn, Turns.AreNoLonger, Turns.after_turns, Leavings.Step, Leavings.HaveNoLongerTurns, Leavings.after_steps, Leavings.lowered_by, Fair.turns_of_others, Anywhere.NoneIsPast, Anywhere.HasPassedFront}
 use Rattle.eevdf_fairness.specs.Healing.{HasCaughtUp, TurnsHeal, HealedTurnsGiveShares, LeavingsHeal}
 use Rattle.eevdf_fairness.specs.Tallies.{cpu_time, cpu_rounding}
-use Rattle.eevdf_fairness.proofs.Rules.{IsWithin, IsLittleAhead, Keeps, rule_of, settled, After, keeps_after, Everyone, Nobody, Nothing, keeps_nothing, Short, keeps_short, anywhere_within}
-use Rattle.eevdf_fairness.proofs.{EntrySums.no_heavier, Passing.turns_passed, Steps.turns_within, Steps.steps_within}
+use Rattle.eevdf_fairness.proofs.Rules.{Rule, IsWithin, IsLittleAhead, Keeps, rule_of, settled, After, keeps_after, Everyone, Nobody, Nothing, keeps_nothing, Short, keeps_short, anywhere_within}
+use Rattle.eevdf_fairness.proofs.{EntrySums.no_heavier, Passing.turns_passed, Steps.turns_within, Steps.steps_within, Steps.settled_steps, Steps.nothing_steps, Falling.falls_nothing}
 use Rattle.eevdf_fairness.proofs.{Bounds.ahead_now, Bounds.punctual_now, Owed.owed, Fairness.healed, Shares.share_of}
 
 -- ---- once the virtual time has passed the front, no deadline lies before that
@@ -87,19 +87,24 @@ healed_turns_give_shares first nobody q front ns before turns none kept short mo
     (turns_within first nobody (settled ns front Everyone) (after_turns q before) turns more start)
 
 -- ---- while tasks leave
+abbrev pub healed_rule : ℕ → ℤ → Rule
+healed_rule ns front = rule_of ns front Nobody (After front Nothing) (keeps_after front Nothing keeps_nothing)
+
 pub healed_steps : PickIsFirst → PickOfNobody → (q : State) (front : ℤ) (ns : ℕ) (before steps : List Step) → NoneIsPast front q.runnable
-    → HaveNoLongerTurns ns before → HaveNoLongerTurns ns steps → HasPassedFront front ns (after_steps q before).runnable
-    → IsWithin (rule_of ns front Nobody (After front Nothing) (keeps_after front Nothing keeps_nothing)) (after_steps (after_steps q before) steps).runnable
+    → HaveNoLongerTurns ns before → HaveNoLongerTurns ns steps → HasPassedFront (front -ℤ lowered_by q before) ns (after_steps q before).runnable
+    → IsWithin (healed_rule ns ((front -ℤ lowered_by q before) -ℤ lowered_by (after_steps q before) steps)) (after_steps (after_steps q before) steps).runnable
 healed_steps first nobody q front ns before steps none short more passed =
-    let middle : IsWithin (rule_of ns front Nobody Nothing keeps_nothing) (after_steps q before).runnable =
-    steps_within first nobody (rule_of ns front Nobody Nothing keeps_nothing) (λ e so. so) q before short
+    let now : ℤ = front -ℤ lowered_by q before in
+    let middle : IsWithin (rule_of ns now Nobody Nothing keeps_nothing) (after_steps q before).runnable =
+    steps_within first nobody ns (λ time. rule_of ns time Nobody Nothing keeps_nothing) (nothing_steps ns) q front before short
     (anywhere_within ns front Nobody Nothing keeps_nothing q.runnable (λ e so. absurd so) none (λ t e here. tt)) in
-    steps_within first nobody (rule_of ns front Nobody (After front Nothing) (keeps_after front Nothing keeps_nothing)) (λ e so. so) (after_steps q before) steps more
-    (settled_within ns front Nobody Nobody Nothing keeps_nothing (after_steps q before).runnable middle passed (λ t e here so. absurd so))
+    steps_within first nobody ns (healed_rule ns) (settled_steps ns Nothing keeps_nothing falls_nothing) (after_steps q before) now steps more
+    (settled_within ns now Nobody Nobody Nothing keeps_nothing (after_steps q before).runnable middle passed (λ t e here so. absurd so))
 
 pub leavings_heal : PickIsFirst → PickOfNobody → LeavingsHeal
 leavings_heal first nobody q front ns before steps none short more passed t e here =
-    let w : IsWithin (rule_of ns front Nobody (After front Nothing) (keeps_after front Nothing keeps_nothing)) (after_steps (after_steps q before) steps).runnable =
+    let now : ℤ = (front -ℤ lowered_by q before) -ℤ lowered_by (after_steps q before) steps in
+    let w : IsWithin (healed_rule ns now) (after_steps (after_steps q before) steps).runnable =
     healed_steps first nobody q front ns before steps none short more passed in
     let kept = w.kept t e here in
-    punctual_now ns front Nobody _ _ (after_steps (after_steps q before) steps).runnable w t e here kept.0
+    punctual_now ns now Nobody _ _ (after_steps (after_steps q before) steps).runnable w t e here kept.0

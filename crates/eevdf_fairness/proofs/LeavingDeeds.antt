@@ -1,4 +1,4 @@
--- Turns and leavings read the runnable tasks and who runs alone, and a sleep and a pull that are done leave both as a leaving does.
+-- Turns, leavings and rebases read the runnable tasks and who runs alone, and a sleep and a pull that are done leave both as a leaving does.
 use Rattle.std.proofs.Common.{◌≡◌, ℕ, ◌<◌, Bool, true, false, cond, List, [], ◌∷◌, length, set, Option, Some, None, refl, sym, ap, ◌∙◌, subst}
 use Rattle.std.specs.Prelude.{ℤ, Result, Ok, Err}
 use Rattle.std.specs.FinMap.{get, insert, remove}
@@ -6,7 +6,7 @@ use Rattle.std.proofs.{lemmas.List.get_or-set_same, Math.ListN.length-set}
 use Rattle.eevdf_queue.specs.{declared.entry.Entry.Entry, declared.answers.TickAnswer.TickAnswer, State.State, State.Contents, State.empty_state, Sums.Tasks}
 use Rattle.eevdf_queue.specs.declared.answers.TickAnswer.TheVariants.{Charged, Range as out_of_range}
 use Rattle.eevdf_queue.specs.{Leaving.leave, Leaving.without_entry, Leaving.stopped, Leaving.carried_running, Moves.is_entry_in_range}
-use Rattle.eevdf_queue.specs.Pick.{pick_of, picked_by, after_pick}
+use Rattle.eevdf_queue.specs.{Pick.pick_of, Pick.picked_by, Pick.after_pick, Rebase.rebase}
 use Rattle.eevdf_queue.specs.Tick.{is_used_up, charged, tick, tick_entry, tick_running}
 use Rattle.eevdf_ops.specs.{declared.deeds.Answer.Answer, Setup.home_of, Machine.Machine, Machine.queue_at}
 use Rattle.eevdf_ops.specs.declared.deeds.Deed.TheVariants.{Sleep, Pull, End}
@@ -16,8 +16,9 @@ use Rattle.eevdf_ops.specs.{LocalActs.slept_here, Transfers.slept_away, Transfer
 use Rattle.eevdf_ops.specs.{Parts.after_leaving, Parts.answer_of_sleep, Parts.answer_of_end, WholeEnd.ending, WholePull.load_of, WholePull.offer, WholePull.decision}
 use Rattle.eevdf_ops.proofs.{Carried.running-carries, Carried.ending-carries, LocalParts.whole-answer, MachinePlaces.other_queue, MachinePlaces.each-set, Pulling.unpulled, WholeActs.sleep_by_home, WholeActs.end_by_home, WholeActs.ended-here, WholeActs.ended-away}
 use Rattle.eevdf_fairness.specs.{Turns.Turn, Turns.after_ticks, Turns.after_turn, Turns.after_turns}
-use Rattle.eevdf_fairness.specs.Leavings.{Step, Takes, Leaves, after_steps, HaveSameRunnable, RunnableTasksDecide}
+use Rattle.eevdf_fairness.specs.Leavings.{Step, Takes, Leaves, Rebases, after_steps, HaveSameRunnable, RunnableTasksDecide}
 use Rattle.eevdf_fairness.specs.LeavingDeeds.{DeedsLeave}
+use Rattle.eevdf_fairness.proofs.RebasedAlike.{rebased_alike}
 
 -- ---- queues with the same runnable tasks
 pub alike : (q : State) → HaveSameRunnable q q
@@ -86,6 +87,7 @@ of_steps : (q r : State) (steps : List Step) → HaveSameRunnable q r → HaveSa
 of_steps q r [] same = same
 of_steps q r (Takes turn ∷ steps) same = of_steps (after_turn q turn) (after_turn r turn) steps (taken q r turn same)
 of_steps q r (Leaves task ∷ steps) same = of_steps (leave q task) (leave r task) steps (left q r task same)
+of_steps q r (Rebases ∷ steps) same = of_steps (rebase q).1 (rebase r).1 steps (rebased_alike q r same)
 
 pub runnable_tasks_decide : RunnableTasksDecide
 runnable_tasks_decide = record { of_turns = of_turns; of_steps = of_steps }

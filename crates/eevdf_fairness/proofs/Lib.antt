@@ -4,8 +4,11 @@ pub mod Growing
 pub mod Removing
 pub mod Rooms
 pub mod Rules
+pub mod LoweredAgain
+pub mod Falling
 pub mod Turning
 pub mod Steps
+pub mod RebasedAlike
 pub mod LeavingDeeds
 pub mod LeavingLater
 pub mod Owed
@@ -24,3 +27,10 @@ pub mod OneCpuSteps
 pub mod Lines
 pub mod Opening
 pub mod Days
+pub mod RebasedTurns
+pub mod RangeStays
+pub mod LoweredMachines
+pub mod RebasedHistories
+pub mod DailyTurns
+pub mod MachineDays
+pub mod SetupDays

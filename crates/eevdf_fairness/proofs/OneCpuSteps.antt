@@ -1,19 +1,19 @@
--- Turns and leavings of one CPU: whatever else is done, its runnable tasks are as these steps leave them.
+-- Turns, leavings and rebases of one CPU: whatever else is done, its runnable tasks are as these steps leave them.
 use Rattle.std.proofs.Common.{◌≡◌, ℕ, ◌<◌, Bool, true, false, cond, List, [], ◌∷◌, ◌++◌, length, map, set, slice_set, Option, Some, None, refl, sym, ap, ◌∙◌, subst, arith}
 use Rattle.std.specs.Prelude.{◌==◌, Result, Ok, Err}
-use Rattle.std.proofs.lemmas.Bool.Decides.{nat_tests}
+use Rattle.std.proofs.lemmas.{Bool.Decides.nat_tests, List.get_or-set_same}
 use Rattle.std.specs.FinMap.{get}
-use Rattle.eevdf_queue.specs.{declared.entry.Entry.Entry, Sums.Tasks, State.State, State.Contents, Leaving.carried_running, Leaving.leave, Pick.after_pick, Tick.tick}
+use Rattle.eevdf_queue.specs.{declared.entry.Entry.Entry, Sums.Tasks, State.State, State.Contents, State.empty_state, Leaving.carried_running, Leaving.leave, Pick.after_pick, Tick.tick, Rebase.rebase}
 use Rattle.eevdf_ops.specs.{declared.deeds.Deed.Deed, declared.deeds.Answer.Answer, Machine.Machine, Machine.queue_at}
 use Rattle.eevdf_ops.specs.declared.deeds.Deed.TheVariants.{Tick, Pick, Yield, Sleep, Wake, Pull, Renice, Begin, End, Set, Rebase}
 use Rattle.eevdf_ops.specs.{Parts.after_leaving, Parts.answer_of_sleep, Parts.answer_of_end, WholeEnd.ending, Transfers.pulled, Whole.whole, Whole.lines_of, Whole.machine_after}
 use Rattle.eevdf_ops.specs.WholePull.{load_of, offer, decision}
 use Rattle.eevdf_ops.proofs.{LocalParts.whole-answer, MachinePlaces.other_queue, Pulling.refusals, WholePlaces.length-whole}
-use Rattle.eevdf_fairness.specs.{Turns.Turn, Turns.after_ticks, Turns.after_turn, Leavings.Step, Leavings.Takes, Leavings.Leaves, Leavings.after_steps, Leavings.HaveSameRunnable}
-use Rattle.eevdf_fairness.specs.OneCpuSteps.{Change, Picks, Ticks, Loses, IsNoStep, change_of_sleep, change_of_end, change_of_pull, change_at, and_then, changes_at, after_ticks_of, leavings_last, changes_of}
+use Rattle.eevdf_fairness.specs.{Turns.Turn, Turns.after_ticks, Turns.after_turn, Leavings.Step, Leavings.Takes, Leavings.Leaves, Leavings.Rebases, Leavings.after_steps, Leavings.HaveSameRunnable}
+use Rattle.eevdf_fairness.specs.OneCpuSteps.{Change, Picks, Ticks, Loses, Lowers, IsNoStep, change_of_sleep, change_of_end, change_of_pull, change_at, and_then, changes_at, after_ticks_of, leavings_last, changes_of}
 use Rattle.eevdf_fairness.specs.OneCpuSteps.{StepsOfOneCpu, OneCpuStaysFair, OneCpuJoinKeepsFair}
 use Rattle.eevdf_fairness.specs.{Leavings.IsStillFair, Leavings.LeavingsKeepFair, Joining.IsFairAfterJoin, Joining.JoinKeepsFair}
-use Rattle.eevdf_fairness.proofs.{OneCpu.one_done, LeavingDeeds.alike, LeavingDeeds.of_same, LeavingDeeds.then, LeavingLater.leaves_later, LeavingDeeds.ticked, LeavingDeeds.picked, LeavingDeeds.left}
+use Rattle.eevdf_fairness.proofs.{RebasedAlike.rebased_alike, OneCpu.one_done, LeavingDeeds.alike, LeavingDeeds.of_same, LeavingDeeds.then, LeavingLater.leaves_later, LeavingDeeds.ticked, LeavingDeeds.picked, LeavingDeeds.left}
 use Rattle.eevdf_fairness.proofs.LeavingDeeds.{sleep_leaves, sleep_stays, left_by_sleep, end_leaves, end_stays, left_by_end, pull_leaves}
 
 -- ---- changes, and what they make of a queue
@@ -21,6 +21,7 @@ abbrev changed : Change → State → State
 changed Picks q = after_pick q
 changed (Ticks ns) q = (tick q ns).1
 changed (Loses task) q = leave q task
+changed Lowers q = (rebase q).1
 changed IsNoStep q = q
 
 abbrev changed_by : Option Change → State → State
@@ -35,6 +36,7 @@ abbrev IsOfSteps : Change → Type 0
 IsOfSteps Picks = Unit {0}
 IsOfSteps (Ticks ns) = Unit {0}
 IsOfSteps (Loses task) = Unit {0}
+IsOfSteps Lowers = Unit {0}
 IsOfSteps IsNoStep = ⊥
 
 abbrev MayBeOfSteps : Option Change → Type 0
@@ -50,6 +52,7 @@ changed_alike : (change : Change) (q r : State) → HaveSameRunnable q r → Hav
 changed_alike Picks q r same = picked q r same
 changed_alike (Ticks ns) q r same = ticked q r ns same
 changed_alike (Loses task) q r same = left q r task same
+changed_alike Lowers q r same = rebased_alike q r same
 changed_alike IsNoStep q r same = same
 
 changed_by_alike : (o : Option Change) (q r : State) → HaveSameRunnable q r → HaveSameRunnable (changed_by o q) (changed_by o r)
@@ -68,6 +71,7 @@ after_ticks_alike task (Ticks ns ∷ changes) q =
     (after_ticks_alike task changes ((tick q ns).1))
 after_ticks_alike task (Picks ∷ changes) q = alike (all_changed changes (after_pick (leave q task)))
 after_ticks_alike task (Loses other ∷ changes) q = alike (all_changed changes (leave (leave q task) other))
+after_ticks_alike task (Lowers ∷ changes) q = alike (all_changed changes (rebase (leave q task)).1)
 after_ticks_alike task (IsNoStep ∷ changes) q = alike (all_changed changes (leave q task))
 
 leavings_last_alike : (changes : List Change) (q : State) → HaveSameRunnable (all_changed changes q) (all_changed (leavings_last changes) q)
@@ -76,6 +80,7 @@ leavings_last_alike (Ticks ns ∷ changes) q = leavings_last_alike changes ((tic
 leavings_last_alike (Picks ∷ changes) q = leavings_last_alike changes (after_pick q)
 leavings_last_alike (Loses task ∷ changes) q =
     then _ _ _ (leavings_last_alike changes (leave q task)) (after_ticks_alike task (leavings_last changes) q)
+leavings_last_alike (Lowers ∷ changes) q = leavings_last_alike changes (rebase q).1
 leavings_last_alike (IsNoStep ∷ changes) q = leavings_last_alike changes q
 
 before_ticks_of : (task : ℕ) (changes : List Change) → AreOfSteps (after_ticks_of task changes) → AreOfSteps changes
@@ -83,6 +88,7 @@ before_ticks_of task [] these = tt
 before_ticks_of task (Ticks ns ∷ changes) these = (tt, before_ticks_of task changes these.1)
 before_ticks_of task (Picks ∷ changes) these = these.1
 before_ticks_of task (Loses other ∷ changes) these = these.1
+before_ticks_of task (Lowers ∷ changes) these = these.1
 before_ticks_of task (IsNoStep ∷ changes) these = these.1
 
 leavings_not_last : (changes : List Change) → AreOfSteps (leavings_last changes) → AreOfSteps changes
@@ -90,6 +96,7 @@ leavings_not_last [] these = tt
 leavings_not_last (Ticks ns ∷ changes) these = (tt, leavings_not_last changes these.1)
 leavings_not_last (Picks ∷ changes) these = (tt, leavings_not_last changes these.1)
 leavings_not_last (Loses task ∷ changes) these = (tt, leavings_not_last changes (before_ticks_of task (leavings_last changes) these))
+leavings_not_last (Lowers ∷ changes) these = (tt, leavings_not_last changes these.1)
 leavings_not_last (IsNoStep ∷ changes) these = absurd these.0
 
 -- ---- what one deed changes
@@ -109,6 +116,13 @@ module _ (homes : List ℕ) (m : Machine) (cpu : ℕ) (h : cpu < length m) where
       → HaveSameRunnable (queue_at (whole homes (Pick at) m).1 cpu) (changed_by (cond b (Some Picks) None) (queue_at m cpu))
   picks_by at true is = of_same _ _ (one_done homes m cpu (Pick at) h (is_here at cpu is))
   picks_by at false is = of_same _ _ (other_queue m at cpu (after_pick (queue_at m at)) (is_apart at cpu is))
+
+  lowers_by : (at : ℕ) (b : Bool) → (at == cpu) ≡ b
+      → HaveSameRunnable (queue_at (whole homes (Rebase at) m).1 cpu) (changed_by (cond b (Some Lowers) None) (queue_at m cpu))
+  lowers_by at true is =
+      of_same _ _ (subst (λ (c : ℕ). queue_at (whole homes (Rebase at) m).1 c ≡ (rebase (queue_at m c)).1) (is_here at cpu is)
+      (get_or-set_same m at (rebase (queue_at m at)).1 empty_state (subst (λ (c : ℕ). c < length m) (sym (is_here at cpu is)) h)))
+  lowers_by at false is = of_same _ _ (other_queue m at cpu (rebase (queue_at m at)).1 (is_apart at cpu is))
 
   -- a deed of which no step is made
   other_by : (at : ℕ) (q : State) (b : Bool) → (at == cpu) ≡ b → MayBeOfSteps (cond b (Some IsNoStep) None)
@@ -181,7 +195,7 @@ module _ (homes : List ℕ) (m : Machine) (cpu : ℕ) (h : cpu < length m) where
   one_change (Begin at task nice slice) steps = other_by at _ (at == cpu) refl steps
   one_change (End at task) steps = ends_by at task (at == cpu) refl
   one_change (Set at task nice slice) steps = other_by at _ (at == cpu) refl steps
-  one_change (Rebase at) steps = other_by at _ (at == cpu) refl steps
+  one_change (Rebase at) steps = lowers_by at (at == cpu) refl
 
 -- ---- all deeds
 first_of : (o : Option Change) (rest : List Change) → AreOfSteps (and_then o rest) → MayBeOfSteps o
@@ -217,6 +231,7 @@ steps_changed : (steps : List Step) (q : State) → all_changed (changes_of step
 steps_changed [] q = refl
 steps_changed (Takes turn ∷ steps) q = ticks_changed turn (changes_of steps) (after_pick q) ∙ steps_changed steps (after_turn q turn)
 steps_changed (Leaves task ∷ steps) q = steps_changed steps (leave q task)
+steps_changed (Rebases ∷ steps) q = steps_changed steps (rebase q).1
 
 ticks_of_steps : (turn : Turn) (more : List Change) → AreOfSteps more → AreOfSteps (map Ticks turn ++ more)
 ticks_of_steps [] more these = these
@@ -226,6 +241,7 @@ are_of_steps : (steps : List Step) → AreOfSteps (changes_of steps)
 are_of_steps [] = tt
 are_of_steps (Takes turn ∷ steps) = (tt, ticks_of_steps turn (changes_of steps) (are_of_steps steps))
 are_of_steps (Leaves task ∷ steps) = (tt, are_of_steps steps)
+are_of_steps (Rebases ∷ steps) = (tt, are_of_steps steps)
 
 pub steps_of_one_cpu : StepsOfOneCpu
 steps_of_one_cpu homes m cpu deeds steps h only =

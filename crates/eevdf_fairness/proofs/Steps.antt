@@ -1,12 +1,15 @@
--- Turns and leavings, one after the other, keep what is asked of the tasks.
-use Rattle.std.proofs.Common.{◌≡◌, ℕ, ◌≤◌, List, [], ◌∷◌, Option, Some, None, refl, sym, ap, ◌∙◌, subst}
-use Rattle.std.specs.Prelude.{is_some}
+-- Turns, leavings and rebases, one after the other, keep what is asked of the tasks.
+use Rattle.std.proofs.Common.{◌≡◌, ℕ, ◌≤◌, List, [], ◌∷◌, Option, Some, None, refl, sym, ap, ◌∙◌, subst, arith}
+use Rattle.std.proofs.lemmas.Int.{ints}
+use Rattle.std.specs.Prelude.{ℤ, pos, ◌+ℤ◌, ◌-ℤ◌, is_some}
 use Rattle.std.specs.{Ordering.nat_cmp, FinMap.get, FinMap.empty, FinMap.get-empty}
-use Rattle.eevdf_queue.specs.{declared.entry.Entry.Entry, State.State, Laws.PickIsFirst, Laws.PickOfNobody, Leaving.leave, Leaving.without_entry}
+use Rattle.eevdf_queue.specs.{declared.entry.Entry.Entry, State.State, Laws.PickIsFirst, Laws.PickOfNobody, Leaving.leave, Leaving.without_entry, Rebase.rebase}
 use Rattle.eevdf_queue.specs.{Sums.Tasks, Pick.IsPick, Pick.pick_of, Pick.picked_by, Tick.tick, Tick.tick_running, Tick.tick_entry}
 use Rattle.eevdf_fairness.specs.{Turns.Turn, Turns.turn_length, Turns.AreNoLonger, Turns.after_ticks, Turns.after_turn, Turns.after_turns}
-use Rattle.eevdf_fairness.specs.Leavings.{Step, Takes, Leaves, after_steps, HaveNoLongerTurns}
-use Rattle.eevdf_fairness.proofs.{Growing.HasRun, Growing.has_run, Rules.Rule, Rules.IsWithin, Turning.turn_within, Turning.leaving_within}
+use Rattle.eevdf_fairness.specs.Leavings.{Step, Takes, Leaves, Rebases, after_steps, lowered_by, HaveNoLongerTurns}
+use Rattle.eevdf_fairness.proofs.{Growing.HasRun, Growing.has_run, Turning.turn_within, Turning.leaving_within}
+use Rattle.eevdf_fairness.proofs.Rules.{Rule, IsWithin, Keeps, After, Nobody, Nothing, rule_of, keeps_after, keeps_nothing}
+use Rattle.eevdf_fairness.proofs.Falling.{IsLowerRule, Falls, falls_nothing, falls_after, lower_rule_of, rebase_within}
 
 -- ---- ticks of nobody
 idle_by : (q : State) (ns : ℕ) (o : Option ℕ) → q.runnable ≡ empty → ((tick_running q o ns).1).runnable ≡ empty
@@ -44,10 +47,45 @@ leave_by : (r : Rule) (q : State) (task : ℕ) (o : Option Entry) → ((e : Entr
 leave_by r q task None guarded w = w
 leave_by r q task (Some e) guarded w = leaving_within r q.runnable task guarded w
 
-module _ (first : PickIsFirst) (nobody : PickOfNobody) (r : Rule) (guarded : (e : Entry) → r.Guard e → ⊥) where
-  pub steps_within : (q : State) (steps : List Step) → HaveNoLongerTurns r.ns steps → IsWithin r q.runnable → IsWithin r (after_steps q steps).runnable
-  steps_within q [] h w = w
-  steps_within q (Takes turn ∷ steps) h w =
-      steps_within (after_turn q turn) steps h.1 (turn_by first nobody r q turn (pick_of q.runnable) refl h.0 w)
-  steps_within q (Leaves task ∷ steps) h w =
-      steps_within (leave q task) steps h (leave_by r q task (get q.runnable task) guarded w)
+-- a rule for each front, by which a task may be ahead, and which holds of lowered tasks from a lower front on
+pub record IsRuleOfSteps (ns : ℕ) (by_front : ℤ → Rule) : Type 0 where
+  pub same_ns : (front : ℤ) → (by_front front).ns ≡ ns
+  pub guarded : (front : ℤ) (e : Entry) → (by_front front).Guard e → ⊥
+  pub falls : (front by : ℤ) → IsLowerRule by (by_front front) (by_front (front -ℤ by))
+
+pub lower_again : (front a b : ℤ) → (front -ℤ a) -ℤ b ≡ front -ℤ (a +ℤ b)
+lower_again front a b = omega (arith, ints)
+
+pub no_lower : (front : ℤ) → front ≡ front -ℤ pos 0
+no_lower front = omega (arith, ints)
+
+module _ (first : PickIsFirst) (nobody : PickOfNobody) (ns : ℕ) (by_front : ℤ → Rule) (rule : IsRuleOfSteps ns by_front) where
+  pub steps_within : (q : State) (front : ℤ) (steps : List Step) → HaveNoLongerTurns ns steps → IsWithin (by_front front) q.runnable
+      → IsWithin (by_front (front -ℤ lowered_by q steps)) (after_steps q steps).runnable
+  steps_within q front [] h w = subst (λ (z : ℤ). IsWithin (by_front z) q.runnable) (no_lower front) w
+  steps_within q front (Takes turn ∷ steps) h w =
+      steps_within (after_turn q turn) front steps h.1
+      (turn_by first nobody (by_front front) q turn (pick_of q.runnable) refl (subst (λ (n : ℕ). turn_length turn ≤ n) (sym (rule.same_ns front)) h.0) w)
+  steps_within q front (Leaves task ∷ steps) h w =
+      steps_within (leave q task) front steps h (leave_by (by_front front) q task (get q.runnable task) (rule.guarded front) w)
+  steps_within q front (Rebases ∷ steps) h w =
+      subst (λ (z : ℤ). IsWithin (by_front z) (after_steps (rebase q).1 steps).runnable) (lower_again front ((rebase q).0) (lowered_by (rebase q).1 steps))
+      (steps_within (rebase q).1 (front -ℤ (rebase q).0) steps h
+      (rebase_within q (by_front front) (by_front (front -ℤ (rebase q).0)) (rule.falls front ((rebase q).0)) w))
+
+-- the rules that are asked while tasks leave
+pub nothing_steps : (ns : ℕ) → IsRuleOfSteps ns (λ front. rule_of ns front Nobody Nothing keeps_nothing)
+nothing_steps ns = record {
+  same_ns = λ front. refl;
+  guarded = λ front e so. so;
+  falls = λ front by. lower_rule_of ns front by Nobody Nobody Nothing Nothing keeps_nothing keeps_nothing (λ e so. so) (falls_nothing by);
+}
+
+pub settled_steps : (ns : ℕ) (Kept : ℕ → Entry → Type 0) (keeps : Keeps Kept) → Falls Kept
+    → IsRuleOfSteps ns (λ front. rule_of ns front Nobody (After front Kept) (keeps_after front Kept keeps))
+settled_steps ns Kept keeps falls = record {
+  same_ns = λ front. refl;
+  guarded = λ front e so. so;
+  falls = λ front by. lower_rule_of ns front by Nobody Nobody (After front Kept) (After (front -ℤ by) Kept) (keeps_after front Kept keeps)
+      (keeps_after (front -ℤ by) Kept keeps) (λ e so. so) (falls_after front Kept falls by);
+}

@@ -1,11 +1,11 @@
 -- What turns come to from any state of a queue, whatever was done to it before.
-use Rattle.std.specs.Prelude.{◌≡◌, ℕ, ℤ, pos, ◌+ℤ◌, ◌*ℤ◌, ◌≤ℤ◌, ◌<ℤ◌, List, Some}
+use Rattle.std.specs.Prelude.{◌≡◌, ℕ, ℤ, pos, ◌+ℤ◌, ◌-ℤ◌, ◌*ℤ◌, ◌≤ℤ◌, ◌<ℤ◌, List, Some}
 use Rattle.std.specs.{Int.int_max, FinMap.get}
 use Rattle.eevdf_queue.specs.{declared.entry.Entry.Entry, State.State}
 use Rattle.eevdf_queue.specs.Sums.{Tasks, total_weight, total_moment}
 use Rattle.eevdf_fairness.specs.Turns.{AreNoLonger, Turn, after_turns}
 use Rattle.eevdf_fairness.specs.Fair.{NoneIsFarPast, IsNotLate, IsNotLateWithRest, IsNotAhead, turns_of_others}
-use Rattle.eevdf_fairness.specs.Leavings.{Step, HaveNoLongerTurns, after_steps}
+use Rattle.eevdf_fairness.specs.Leavings.{Step, HaveNoLongerTurns, after_steps, lowered_by}
 
 -- no virtual runtime is past the front
 abbrev pub NoneIsPast : ℤ → Tasks → Type 0
@@ -38,8 +38,8 @@ TurnsAreFairAnywhere =
     (q : State) (front : ℤ) (ns : ℕ) (turns : List Turn) → NoneIsPast front q.runnable → AreNoLonger ns turns
     → AllAreFairPast front ns (after_turns q turns).runnable
 
--- and so it is where tasks leave between the turns, but for who is ahead
+-- and so it is where tasks leave between the turns, but for who is ahead; a rebase lowers the front as well
 abbrev pub LeavingsKeepFairAnywhere : Type 0
 LeavingsKeepFairAnywhere =
     (q : State) (front : ℤ) (ns : ℕ) (steps : List Step) → NoneIsPast front q.runnable → HaveNoLongerTurns ns steps
-    → (t : ℕ) (e : Entry) → get (after_steps q steps).runnable t ≡ Some e → IsStillFairPast front ns (after_steps q steps).runnable e
+    → (t : ℕ) (e : Entry) → get (after_steps q steps).runnable t ≡ Some e → IsStillFairPast (front -ℤ lowered_by q steps) ns (after_steps q steps).runnable e

@@ -1,11 +1,11 @@
 -- How long a queue remembers the state that it was in.
-use Rattle.std.specs.Prelude.{◌≡◌, ℕ, ◌+◌, ◌*◌, ℤ, pos, ◌+ℤ◌, ◌*ℤ◌, ◌≤ℤ◌, ◌<ℤ◌, List, Some}
+use Rattle.std.specs.Prelude.{◌≡◌, ℕ, ◌+◌, ◌*◌, ℤ, pos, ◌+ℤ◌, ◌-ℤ◌, ◌*ℤ◌, ◌≤ℤ◌, ◌<ℤ◌, List, Some}
 use Rattle.std.specs.FinMap.{get}
 use Rattle.eevdf_queue.specs.{declared.entry.Entry.Entry, State.State, Moves.request_of}
 use Rattle.eevdf_queue.specs.Sums.{Tasks, total_weight, total_moment}
 use Rattle.eevdf_fairness.specs.{Turns.Turn, Turns.AreNoLonger, Turns.after_turns, Fair.turns_of_others}
 use Rattle.eevdf_fairness.specs.Fair.{NoneIsFarPast, IsNotLate, IsNotLateWithRest, IsNotBehind, IsOwedOnlyTurns, IsNotAhead}
-use Rattle.eevdf_fairness.specs.Leavings.{Step, HaveNoLongerTurns, after_steps}
+use Rattle.eevdf_fairness.specs.Leavings.{Step, HaveNoLongerTurns, after_steps, lowered_by}
 use Rattle.eevdf_fairness.specs.{Anywhere.NoneIsPast, Anywhere.HasPassedFront, Tallies.cpu_time, Tallies.cpu_rounding, Share.HasItsShare}
 
 -- what is left of the request is no more than the task's slice, as it is unless a yield has made it longer
@@ -45,10 +45,11 @@ HealedTurnsGiveShares =
     → HasCaughtUp front ns q before
     → (t : ℕ) (e : Entry) → get (after_turns q before).runnable t ≡ Some e → HasItsShare ns (after_turns q before) turns t e
 
--- where tasks leave between turns, every request is punctual from the moment on in which the virtual time has passed the front
+-- where tasks leave between turns, every request is punctual from the moment on in which the virtual time has passed the front, which a
+-- rebase lowers
 abbrev pub LeavingsHeal : Type 0
 LeavingsHeal =
     (q : State) (front : ℤ) (ns : ℕ) (before steps : List Step) → NoneIsPast front q.runnable
-    → HaveNoLongerTurns ns before → HaveNoLongerTurns ns steps → HasPassedFront front ns (after_steps q before).runnable
+    → HaveNoLongerTurns ns before → HaveNoLongerTurns ns steps → HasPassedFront (front -ℤ lowered_by q before) ns (after_steps q before).runnable
     → (t : ℕ) (e : Entry) → get (after_steps (after_steps q before) steps).runnable t ≡ Some e
     → IsPunctual ns (after_steps (after_steps q before) steps).runnable e

@@ -1,11 +1,11 @@
 -- What a task that joins others does to them.
-use Rattle.std.specs.Prelude.{◌≡◌, ℕ, ◌+◌, ◌-◌, ◌*◌, ◌/◌, ◌≤◌, true, ℤ, pos, ◌+ℤ◌, ◌*ℤ◌, ◌≤ℤ◌, List, Some, None}
+use Rattle.std.specs.Prelude.{◌≡◌, ℕ, ◌+◌, ◌-◌, ◌*◌, ◌/◌, ◌≤◌, true, ℤ, pos, ◌+ℤ◌, ◌-ℤ◌, ◌*ℤ◌, ◌≤ℤ◌, List, Some, None}
 use Rattle.std.specs.FinMap.{get}
 use Rattle.eevdf_weight.specs.{Weight.weight_of, Charge.lag_limit_of}
 use Rattle.eevdf_queue.specs.{declared.entry.Entry.Entry, State.State, declared.sleeper.Sleeper.Sleeper, Lag.is_lag, Placing.put, Moves.request_of}
 use Rattle.eevdf_queue.specs.Sums.{Tasks, total_weight, total_moment}
 use Rattle.eevdf_fairness.specs.{Anywhere.NoneIsPast, Anywhere.HasPassedFront, Healing.HasNotYielded}
-use Rattle.eevdf_fairness.specs.{Turns.IsFresh, Fair.turns_of_others, Leavings.Step, Leavings.HaveNoLongerTurns, Leavings.after_steps}
+use Rattle.eevdf_fairness.specs.{Turns.IsFresh, Fair.turns_of_others, Leavings.Step, Leavings.HaveNoLongerTurns, Leavings.after_steps, Leavings.lowered_by}
 
 -- a task joins others with a lag within its limit, as by a wake, a pull or a renice, and `r` has the runnable tasks that there are then
 pub record Joins (q : State) (task : ℕ) (s : Sleeper) (r : State) : Type 0 where
@@ -75,8 +75,8 @@ pub record IsPunctualAfterJoin (ns : ℕ) (before : Tasks) (s : Sleeper) (tasks 
   pub late : IsNotLateAfterJoin ns before s tasks e
   pub behind : HasNotYielded e → IsNotBehindAfterJoin ns before s tasks e
 
--- After a fresh start, turns and leavings a task joins a queue `m` with the runnable tasks that there are then. After any turns and
--- leavings more no request of the others is later, and none of the others is further behind.
+-- After a fresh start, turns, leavings and rebases a task joins a queue `m` with the runnable tasks that there are then. After any turns,
+-- leavings and rebases more no request of the others is later, and none of the others is further behind.
 abbrev pub JoinKeepsFair : Type 0
 JoinKeepsFair =
     (q m r : State) (v : ℤ) (ns : ℕ) (before steps : List Step) (task : ℕ) (s : Sleeper) → IsFresh v q.runnable
@@ -89,6 +89,6 @@ abbrev pub HealedJoinKeepsFair : Type 0
 HealedJoinKeepsFair =
     (q m r : State) (front : ℤ) (ns : ℕ) (before more steps : List Step) (task : ℕ) (s : Sleeper) → NoneIsPast front q.runnable
     → HaveNoLongerTurns ns before → HaveNoLongerTurns ns more → HaveNoLongerTurns ns steps
-    → HasPassedFront front ns (after_steps q before).runnable → m.runnable ≡ (after_steps (after_steps q before) more).runnable
+    → HasPassedFront (front -ℤ lowered_by q before) ns (after_steps q before).runnable → m.runnable ≡ (after_steps (after_steps q before) more).runnable
     → Joins m task s r → (t : ℕ) (e : Entry) → (t ≡ task → ⊥) → get (after_steps r steps).runnable t ≡ Some e
     → IsPunctualAfterJoin ns m.runnable s (after_steps r steps).runnable e

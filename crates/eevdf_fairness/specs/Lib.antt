@@ -14,3 +14,7 @@ pub mod OneCpu
 pub mod OneCpuSteps
 pub mod Lines
 pub mod Days
+pub mod RebasedTurns
+pub mod LoweredMachines
+pub mod MachineDays
+pub mod SetupDays

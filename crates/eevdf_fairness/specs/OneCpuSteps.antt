@@ -1,20 +1,21 @@
--- Turns and leavings of one CPU of a machine, among whatever the other CPUs do.
+-- Turns, leavings and rebases of one CPU of a machine, among whatever the other CPUs do.
 use Rattle.std.specs.Prelude.{◌≡◌, ℕ, ◌<◌, ◌==◌, if◌then◌else◌, ℤ, List, [], ◌∷◌, ◌++◌, length, map, Option, Some, None}
 use Rattle.std.specs.FinMap.{get}
 use Rattle.eevdf_queue.specs.{declared.entry.Entry.Entry, declared.sleeper.Sleeper.Sleeper}
 use Rattle.eevdf_ops.specs.{declared.deeds.Deed.Deed, declared.deeds.Line.Line, declared.deeds.Answer.Answer}
-use Rattle.eevdf_ops.specs.declared.deeds.Deed.TheVariants.{Tick, Pick, Sleep, Pull, End}
+use Rattle.eevdf_ops.specs.declared.deeds.Deed.TheVariants.{Tick, Pick, Sleep, Pull, End, Rebase}
 use Rattle.eevdf_ops.specs.declared.deeds.Answer.TheVariants.{Slept, Pulled, Ended}
 use Rattle.eevdf_ops.specs.{Machine.Machine, Machine.queue_at, Parts.decider, Whole.lines_of, Whole.machine_after}
 use Rattle.eevdf_fairness.specs.{Turns.IsFresh, Joining.Joins, Joining.IsFairAfterJoin}
-use Rattle.eevdf_fairness.specs.Leavings.{Step, Takes, Leaves, after_steps, HaveNoLongerTurns, HaveSameRunnable, IsStillFair}
+use Rattle.eevdf_fairness.specs.Leavings.{Step, Takes, Leaves, Rebases, after_steps, HaveNoLongerTurns, HaveSameRunnable, IsStillFair}
 
--- what a deed does to the runnable tasks of a CPU and to who runs there; a yield, a wake, a renice, a begin, a set, a rebase and a pull
--- to there are no steps
+-- what a deed does to the runnable tasks of a CPU and to who runs there; a yield, a wake, a renice, a begin, a set and a pull to there are
+-- no steps
 pub data Change : Type 0 where
   Picks : Change
   Ticks : ℕ → Change
   Loses : ℕ → Change
+  Lowers : Change
   IsNoStep : Change
 
 -- by a sleep there, by an end there, and by a pull from there, a task leaves where it is done
@@ -34,6 +35,7 @@ change_of_pull answer = None
 abbrev pub change_at : ℕ → Deed → Answer → Option Change
 change_at cpu (Tick at ns) answer = if at == cpu then Some (Ticks ns) else None
 change_at cpu (Pick at) answer = if at == cpu then Some Picks else None
+change_at cpu (Rebase at) answer = if at == cpu then Some Lowers else None
 change_at cpu (Sleep at task) answer = if at == cpu then change_of_sleep task answer else None
 change_at cpu (End at task) answer = if at == cpu then change_of_end task answer else None
 change_at cpu (Pull at source) answer = if at == cpu then Some IsNoStep else (if source == cpu then change_of_pull answer else None)
@@ -48,7 +50,8 @@ abbrev pub changes_at : ℕ → List Line → List Change
 changes_at cpu [] = []
 changes_at cpu (line ∷ lines) = and_then (change_at cpu line.deed line.answer) (changes_at cpu lines)
 
--- a task that leaves in the middle of a turn may as well leave after it: a leaving counts as after the ticks that follow it
+-- a task that leaves in the middle of a turn may as well leave after it: a leaving counts as after the ticks that follow it. A rebase ends
+-- a turn: the next tick is one of the next turn
 abbrev pub after_ticks_of : ℕ → List Change → List Change
 after_ticks_of task (Ticks ns ∷ changes) = Ticks ns ∷ after_ticks_of task changes
 after_ticks_of task changes = Loses task ∷ changes
@@ -63,6 +66,7 @@ abbrev pub changes_of : List Step → List Change
 changes_of [] = []
 changes_of (Takes turn ∷ steps) = Picks ∷ (map Ticks turn ++ changes_of steps)
 changes_of (Leaves task ∷ steps) = Loses task ∷ changes_of steps
+changes_of (Rebases ∷ steps) = Lowers ∷ changes_of steps
 
 -- deeds of all CPUs, of which those that change the runnable tasks of this CPU, or who runs there, are these steps
 abbrev pub OnlyStepsChange : List ℕ → ℕ → Machine → List Deed → List Step → Type 0

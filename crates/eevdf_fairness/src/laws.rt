@@ -31,7 +31,8 @@ pub fn turns_are_fair()
     eevdf_queue::laws::pick_of_nobody();
 }
 
-/// Tasks may leave meanwhile: of those that are left no request is late by more than the same constant, and no task behind by more.
+/// Tasks may leave meanwhile: of those that are left no request is late by more than the same constant, and no task behind by more. Rebases
+/// may stand among the turns and leavings, here and in the laws below.
 pub fn leavings_keep_fair()
     ensures { LeavingsKeepFair }
 {
@@ -45,8 +46,8 @@ pub fn deeds_leave()
     ensures { DeedsLeave }
 {}
 
-/// Turns and leavings read of a queue the runnable tasks and who runs, and no more: from two queues that have the same ones they come to
-/// two that have the same ones. So it doesn't matter to them who sleeps there.
+/// Turns, leavings and rebases read of a queue the runnable tasks and who runs, and no more: from two queues that have the same ones they
+/// come to two that have the same ones. So it doesn't matter to them who sleeps there.
 pub fn runnable_tasks_decide()
     ensures { RunnableTasksDecide }
 {}
@@ -60,7 +61,7 @@ pub fn turns_are_fair_anywhere()
     eevdf_queue::laws::pick_of_nobody();
 }
 
-/// And from any state tasks may leave meanwhile.
+/// And from any state tasks may leave meanwhile. A rebase lowers the front as it lowers the virtual times.
 pub fn leavings_keep_fair_anywhere()
     ensures { LeavingsKeepFairAnywhere }
 {
@@ -178,8 +179,8 @@ pub fn one_cpu_is_fair_anywhere()
     turns_are_fair_anywhere();
 }
 
-/// And deeds of all CPUs, of which those that change one CPU's runnable tasks or who runs there are its turns, sleeps of who runs there and
-/// pulls from there, leave both as these turns and leavings do by themselves. A task that leaves in the middle of a turn counts as one that
+/// And deeds of all CPUs, of which those that change one CPU's runnable tasks or who runs there are its turns, sleeps of who runs there,
+/// pulls from there and rebases, leave both as these steps do by themselves. A task that leaves in the middle of a turn counts as one that
 /// leaves after it.
 pub fn steps_of_one_cpu()
     ensures { StepsOfOneCpu }
