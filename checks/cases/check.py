@@ -63,22 +63,42 @@ class Cases(Checks):
         self.expect(name, printed, printed == wanted)
 
 
-def is_of_both_versions(path, workload, wanted):
-    """Reports and orders are alike in both versions, and so are the bounds of the numbers that numbers/ has."""
-    return b"\nversion = 1\n" in workload and (wanted.endswith(DONE) or path.parent.name == "numbers")
+def with_front(workload):
+    """The same with the line of its version and its order in front of all else."""
+    found = [re.search(rb"^version = .*\n", workload, re.MULTILINE), re.search(rb"^order = \[[^\]]*\]\n", workload, re.MULTILINE)]
+    members = [member[0] for member in found if member]
+    for member in members:
+        workload = workload.replace(member, b"", 1)
+    return b"".join(members) + workload
 
 
-def in_version_two(text):
-    return text.replace(b"\nversion = 1\n", b"\nversion = 2\n")
+def check_front(checks, name, command, workload):
+    """A version and an order in front are read by themselves, but behind a byte order mark with all else: that comes to the same."""
+    moved = with_front(workload.removeprefix(codecs.BOM_UTF8))
+    checks.compare(f"{name}, by its front and as a whole", command, moved, checks.whole(command, codecs.BOM_UTF8 + moved))
+
+
+def versions_after(path, workload, wanted):
+    """The later versions in which a workload is sent once more: reports and orders are alike there, and so are the bounds of the numbers
+    that numbers/ has."""
+    if not wanted.endswith(DONE) and path.parent.name != "numbers":
+        return []
+    return [version for version in made.CPUS if any(b"\nversion = %d\n" % before in workload for before in range(1, version))]
+
+
+def in_version(version, text):
+    return re.sub(rb"\nversion = \d\n", b"\nversion = %d\n" % version, text, count=1)
 
 
 def check_pair(checks, path):
     workload, wanted = path.read_bytes(), stored(path.with_suffix(".out")).whole()
     name, command = path.relative_to(TOP), command_of(workload)
     checks.compare(name, command, workload, wanted)
-    if is_of_both_versions(path, workload, wanted):
+    for version in versions_after(path, workload, wanted):
         # a report has no version, and what eevdf_orders prints has that of the workload
-        checks.compare(f"{name} in version 2", command, in_version_two(workload), in_version_two(wanted))
+        checks.compare(f"{name} in version {version}", command, in_version(version, workload), in_version(version, wanted))
+    if command[0] == "eevdf":
+        check_front(checks, name, command, workload)
     if command[0] == "eevdf_orders" and wanted.endswith(DONE):
         check_ordered(checks, name, command, workload)
         check_places(checks, name, wanted)
@@ -142,12 +162,14 @@ def check_deeds(checks):
                 checks.expect(f"the deed '{deed}' in version {version}", printed, is_right)
 
 
-def check_other_operations(checks):
-    for operation in made.NO_OPERATIONS:
-        for version in made.CPUS:
-            name = f"the operation '{operation}' in version {version}"
-            workload = made.whole_machine(version, program=f'["{operation}"]')
-            checks.compare(name, REPLAY, workload, refusal("bad value at program 0 at 0"))
+def check_operations(checks):
+    """A program of an operation that the version has waits for its order, and one of another is refused for its first member."""
+    for versions, operations in made.SINGLE_OPERATIONS.items():
+        for operation in operations:
+            for version in made.CPUS:
+                workload = made.whole_machine(version, program=f'["{operation}"]', script="order = []\n")
+                fault = "order short at 0" if version in versions else "bad value at program 0 at 0"
+                checks.compare(f"the operation '{operation}' in version {version}", REPLAY, workload, refusal(fault))
 
 
 def check_longest_orders(checks):
@@ -243,7 +265,7 @@ def check_failed_write(checks):
 
 def check_made(checks):
     check_deeds(checks)
-    check_other_operations(checks)
+    check_operations(checks)
     check_longest_orders(checks)
     check_runs(checks)
     check_ordered_workloads(checks)

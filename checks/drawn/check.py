@@ -16,10 +16,12 @@ sys.path.append(str(Path(__file__).resolve().parents[1]))
 
 from differences import OTHER_WORDS, check, check_words  # noqa: E402
 from draw.cases import NAMES, Case, draw  # noqa: E402
+from plain.limits import OF_VERSION_THREE  # noqa: E402
 from runner import Checks, Printed, built  # noqa: E402
 
-# Who draws for so long comes to each kind of workload.
+# Who draws for so long comes to each kind of workload, and goes on until each deed of version 3 was done so many times.
 SECONDS_FOR_EACH_KIND = 30
+LEAST_OF_EACH_DEED = 10000
 
 
 def parse_words():
@@ -47,9 +49,11 @@ class Comparison(Checks):
         self.seed = seed
         self.folder = folder
         self.alike = Counter()
+        self.done = Counter()
 
     def count(self, number, case, difference):
         self.alike[case.kind] += difference is None
+        self.done.update(deed[0] for deed in case.deeds)
         if difference is None:
             self.look(case.kind, None)
         else:
@@ -69,6 +73,11 @@ class Comparison(Checks):
     def add(self, other):
         super().add(other)
         self.alike.update(other.alike)
+        self.done.update(other.done)
+
+    def has_done(self, least):
+        """Whether each deed of version 3 was done so often."""
+        return all(self.done[name] >= least for name in OF_VERSION_THREE)
 
     def look_for_each_kind(self):
         """A kind that never came has failed."""
@@ -78,6 +87,7 @@ class Comparison(Checks):
 
     def end(self):
         print(f"compared alike: {', '.join(f'{count} {kind}' for kind, count in sorted(self.alike.items()))}")
+        print(f"done of version 3: {', '.join(f'{self.done[name]} {name}' for name in OF_VERSION_THREE)}")
         return super().end()
 
 
@@ -91,20 +101,21 @@ def compare_one(comparison, programs, number):
     comparison.count(number, case, check(programs, case))
 
 
-def compare_share(seed, folder, programs, end, numbers):
-    """Compares the workloads of a share's numbers, until the time is over."""
+def compare_share(seed, folder, programs, end, least, numbers):
+    """Compares the workloads of a share's numbers, until the time is over and each deed of version 3 was done so often."""
     comparison = Comparison(seed, folder)
     for number in numbers:
-        if time.monotonic() >= end:
+        if time.monotonic() >= end and comparison.has_done(least):
             return comparison
         compare_one(comparison, programs, number)
 
 
 def compare_drawn(comparison, programs, words):
     end = time.monotonic() + words.seconds
-    shares = [range(share, sys.maxsize, words.jobs) for share in range(words.jobs)]
+    least = -(-LEAST_OF_EACH_DEED // words.jobs) if words.seconds >= SECONDS_FOR_EACH_KIND else 0
+    shares = [(words.seed, comparison.folder, programs, end, least, range(share, sys.maxsize, words.jobs)) for share in range(words.jobs)]
     with multiprocessing.Pool(words.jobs) as pool:
-        for other in pool.starmap(compare_share, [(words.seed, comparison.folder, programs, end, share) for share in shares]):
+        for other in pool.starmap(compare_share, shares):
             comparison.add(other)
 
 

@@ -4,7 +4,7 @@ import re
 from dataclasses import dataclass
 
 from plain.fault import Fault
-from plain.limits import BYTES, VERSIONS
+from plain.limits import BYTES, NEWEST, VERSIONS
 from plain.machine import is_allowed
 from plain.made_order import made_order, ordered_text
 from plain.report import report
@@ -34,7 +34,7 @@ def history_of(setup, text):
     found = REPORT.fullmatch(text)
     if found is None:
         return None
-    deeds = [deed_of(VERSIONS[2], line[1:-2]) for line in found[3].decode().splitlines()]
+    deeds = [deed_of(VERSIONS[NEWEST], line[1:-2]) for line in found[3].decode().splitlines()]
     if not all(deed is not None and is_allowed(setup, *deed) for deed in deeds):
         return None
     return deeds

@@ -24,6 +24,8 @@ from runner import Programs
 
 EXAMPLES = Path(__file__).resolve().parent.parent / "cases/fair"
 ASLEEP = re.compile(r"^asleep (\d+) ", re.M)
+# A deed that has given a task a nice level, and a slice where it gives one.
+GIVEN = re.compile(r"^(?:renice|begin|set) (\d+) (-?\d+)(?: (\d+))?: (?:reniced|begun|set)$", re.M)
 
 
 class Comparison:
@@ -53,7 +55,7 @@ class Comparison:
 
 
 def workload_of(tasks, start, script):
-    rows = ["version = 2", "program = [[]]", f"script = [{', '.join(f'{chr(34)}0 {deed}{chr(34)}' for deed in script)}]"]
+    rows = ["version = 3", "program = [[]]", f"script = [{', '.join(f'{chr(34)}0 {deed}{chr(34)}' for deed in script)}]"]
     for nice, length in tasks:
         rows += ["[[task]]", f"nice = {nice}", f"slice = {length}", f"start = {start}"]
     return "\n".join(rows) + "\n"
@@ -81,25 +83,28 @@ def drawn_start(dice, tasks):
     return dice.choice((0, 0, -(10**9), 10**12, last, last - 10**7))
 
 
-def sleeps(dice, tasks, share):
-    """A pick, and then a try to send asleep some of the tasks, of which the one that runs falls asleep."""
-    return ["pick", *(f"sleep {task}" for task in range(len(tasks)) if dice.random() < share)]
+def leavings(dice, tasks, share):
+    """A pick, and then a try to send asleep some of the tasks, of which the one that runs falls asleep; now and then some end besides."""
+    ends = share / 4 if dice.random() < 0.3 else 0
+    return ["pick", *(f"sleep {task}" for task in range(len(tasks)) if dice.random() < share),
+            *(f"end {task}" for task in range(len(tasks)) if dice.random() < ends)]
 
 
 def steps(dice, tasks, longest, most):
-    """Turns, between which tasks fall asleep."""
+    """Turns, between which tasks fall asleep or end."""
     script = []
     for _ in range(dice.randint(0, most)):
         script += turn(dice, longest)
         if dice.random() < 0.2:
-            script += sleeps(dice, tasks, 0.5)
+            script += leavings(dice, tasks, 0.5)
     return script
 
 
 def draw_fresh(dice, comparison, tasks, longest, start):
-    """Turns from a fresh start: each task's share is looked at from one of the stages on."""
+    """Turns from a fresh start, and rebases: each task's share is looked at from one of the stages on."""
     script, begun = [], [0]
     for _ in range(dice.randint(1, 12)):
+        script += ["rebase"] * (dice.random() < 0.2)
         for _ in range(dice.randint(1, 8)):
             script += turn(dice, longest)
         workload = workload_of(tasks, start, script)
@@ -109,7 +114,7 @@ def draw_fresh(dice, comparison, tasks, longest, start):
 
 
 def draw_leaving(dice, comparison, tasks, longest, start):
-    """Turns from a fresh start, between which tasks fall asleep."""
+    """Turns from a fresh start, between which tasks fall asleep or end."""
     workload = workload_of(tasks, start, steps(dice, tasks, longest, 40))
     seen = Seen(comparison.report(workload), tasks)
     comparison.look([*punctual(seen, longest), *behind(seen, longest), *apart(seen, longest)], workload)
@@ -117,7 +122,7 @@ def draw_leaving(dice, comparison, tasks, longest, start):
 
 def draw_joining(dice, comparison, tasks, longest, start):
     """Turns and leavings from a fresh start, then a wake, and turns and leavings again."""
-    script = steps(dice, tasks, longest, 20) + turn(dice, longest) + sleeps(dice, tasks, 0.7) + steps(dice, tasks, longest, 3)
+    script = steps(dice, tasks, longest, 20) + turn(dice, longest) + leavings(dice, tasks, 0.7) + steps(dice, tasks, longest, 3)
     text = comparison.report(workload_of(tasks, start, script))
     before, asleep = Seen(text, tasks), ASLEEP.findall(text)
     if not before.entries or not asleep:
@@ -126,8 +131,13 @@ def draw_joining(dice, comparison, tasks, longest, start):
 
 
 def look_at_join(dice, comparison, workload_with, tasks, longest, before, number):
-    """A wake, and turns and leavings after it."""
-    more = [f"wake {number} from 0"]
+    """A wake, now and then of a task that has begun or was set meanwhile, and turns and leavings after it."""
+    more = []
+    if dice.random() < 0.4:
+        given = (level(dice), slice_length(dice))
+        more = [f"{dice.choice(('begin', 'set'))} {number} {given[0]} {given[1]}"]
+        tasks = [*tasks[:number], given, *tasks[number + 1:]]
+    more += [f"wake {number} from 0"]
     workload = workload_with(more)
     after = Seen(comparison.report(workload), tasks)
     if number not in after.entries:
@@ -140,15 +150,17 @@ def look_at_join(dice, comparison, workload_with, tasks, longest, before, number
 
 def other_deed(dice, tasks):
     task = dice.randrange(len(tasks))
-    return dice.choice((f"sleep {task}", f"wake {task} from 0", f"wake {task} from 0", "yield", f"renice {task} {level(dice)}"))
+    given = f"{task} {level(dice)} {slice_length(dice)}"
+    return dice.choice((f"sleep {task}", f"end {task}", f"begin {given}", *[f"wake {task} from 0"] * 3, "yield", "rebase",
+                        f"renice {task} {level(dice)}", f"set {given}"))
 
 
-def levels_after(tasks, text):
-    """The nice levels after the renices of a script that were done."""
-    levels = [nice for nice, _ in tasks]
-    for task, nice in re.findall(r"^renice (\d+) (-?\d+): reniced", text, re.M):
-        levels[int(task)] = int(nice)
-    return [(nice, length) for nice, (_, length) in zip(levels, tasks)]
+def tasks_after(tasks, text):
+    """The nice levels and slices after the deeds of a script that were done."""
+    tasks = list(tasks)
+    for task, nice, length in GIVEN.findall(text):
+        tasks[int(task)] = (int(nice), int(length or tasks[int(task)][1]))
+    return tasks
 
 
 def has_caught_up(before, after, longest, front):
@@ -158,12 +170,12 @@ def has_caught_up(before, after, longest, front):
 
 
 def draw_anywhere(dice, comparison, tasks, longest, start):
-    """Any deeds, and then turns alone, or turns between which tasks fall asleep."""
+    """Any deeds, and then turns alone, or turns between which tasks fall asleep or end."""
     script = []
     for _ in range(dice.randint(1, 20)):
         script += turn(dice, 10 * longest if longest < 10**8 else longest) if dice.random() < 0.6 else [other_deed(dice, tasks)]
     text = comparison.report(workload_of(tasks, start, script))
-    now = levels_after(tasks, text)
+    now = tasks_after(tasks, text)
     before = Seen(text, now)
     if not before.entries:
         return

@@ -1,6 +1,6 @@
 #!/usr/bin/env -S python3 -B
 """checks/drawn/planted.py [CRATE/NAME..]: plants wrong bodies into copies of the crates, one at a time, and looks whether the comparison
-finds each. It takes a quarter of an hour; with --look it tries nothing, but looks whether each has its place in its crate. The last line is
+finds each. It takes half an hour; with --look it tries nothing, but looks whether each has its place in its crate. The last line is
 'N passed, M failed'.
 
 A wrong body can't be built, since only proved crates are. `rt try` runs a program without its proofs, on files with words
@@ -37,9 +37,16 @@ WRONG_BODIES = (
     "eevdf_queue/offer_may_run",
     "eevdf_queue/base_kept_on_leaving",
     "eevdf_queue/reniced_task_stops_running",
+    "eevdf_queue/begin_keeps_the_lag",
+    "eevdf_queue/set_slice_before_the_level",
+    "eevdf_queue/set_keeps_a_sleeping_lag",
+    "eevdf_queue/rebase_keeps_the_base",
     "eevdf_ops/pull_tries_the_range_first",
     "eevdf_ops/sleep_where_it_ran",
     "eevdf_ops/start_wakes_everybody",
+    "eevdf_ops/end_keeps_the_lag",
+    "eevdf_ops/end_of_the_running_alone",
+    "eevdf_ops/end_away_where_it_ran",
 )
 
 

@@ -6,6 +6,9 @@ NO_TOML = "not a TOML document"
 TASKS = "[[task]]\n[[task]]\nhome = 1\n"
 IN_SCRIPTS = "operations are tick, pick, yield, sleep, pull, renice, wake"
 IN_PROGRAMS = "operations are tick, pick, yield, sleep, pull, renice, post, drain"
+IN_SCRIPTS_OF_THREE = "operations are tick, pick, yield, sleep, pull, renice, begin, end, set, rebase, wake"
+IN_PROGRAMS_OF_THREE = "operations are tick, pick, yield, sleep, pull, renice, begin, end, set, rebase, post, drain"
+NO_SLICE = "a slice is a number of nanoseconds from 100000 to 100000000, and"
 NO_SCRIPT = 'a script is done, and the workload has none: `script = ["0 pick", ..]` before the first [[task]]'
 
 
@@ -65,7 +68,25 @@ OF_DEEDS = (
     script("a wake without a sender", 'a wake names the CPU that asks for it, as "0 wake 3 from 1"', '"1 wake 1«»"'),
     script("a wake by an unknown sender", "CPU 5 is not in the workload, which has CPUs 0 to 1", '"1 wake 1 from «5»"'),
     script("a nice level too high", 'a nice level is a number from -20 to 19, and "20" is none', '"0 renice 0 «20»"'),
-    script("a renice in version 1", '"renice" is known in version 2 alone', '"0 «renice» 0 5"', version=1),
+    script("a renice in version 1", '"renice" is known from version 2 on', '"0 «renice» 0 5"', version=1),
+    script("a begin in version 2", f'unknown operation "begin"; {IN_SCRIPTS}', '"0 «begin» 0 5 3000000"'),
+    script("an end in version 1", f'unknown operation "end"; {IN_SCRIPTS}', '"0 «end» 0"', version=1),
+    script("a set in version 2", f'unknown operation "set"; {IN_SCRIPTS}', '"0 «set» 0 5 3000000"'),
+    script("a rebase in version 2", f'unknown operation "rebase"; {IN_SCRIPTS}', '"0 «rebase»"'),
+    script("an unknown operation in version 3", f'unknown operation "slep"; {IN_SCRIPTS_OF_THREE}', '"0 «slep» 1"', version=3),
+    script("a post in a script of version 3",
+           f'"post" stands in programs alone; operations of a script are {IN_SCRIPTS_OF_THREE.split(" are ")[1]}', '"0 «post» 1"', version=3),
+    script("a begin away from home", "task 1 begins at its home, CPU 1", '"«0» begin 1 0 3000000"', version=3),
+    script("a begin of an unknown task", "task 2 is not in the workload, which has tasks 0 to 1", '"0 begin «2» 0 3000000"', version=3),
+    script("a begin without a level", 'a nice level is a number from -20 to 19, and the end is none', '"0 begin 0«»"', version=3),
+    script("a begin without a slice", f"{NO_SLICE} the end is none", '"0 begin 0 5«»"', version=3),
+    script("a slice too short", f'{NO_SLICE} "99999" is none', '"0 begin 0 5 «99999»"', version=3),
+    script("a slice too long", f'{NO_SLICE} "100000001" is none', '"0 set 0 5 «100000001»"', version=3),
+    script("a slice with a zero in front", 'a number has no 0 in front, as "0100000" has', '"0 set 0 5 «0100000»"', version=3),
+    script("a word behind a slice", 'nothing is expected any more, and "0" stands here', '"0 set 0 5 3000000 «0»"', version=3),
+    script("an end of two tasks", 'nothing is expected any more, and "1" stands here', '"0 end 0 «1»"', version=3),
+    script("an end of an unknown task", "task 9 is not in the workload, which has tasks 0 to 1", '"0 end «9»"', version=3),
+    script("a rebase by a number", 'nothing is expected any more, and "5" stands here', '"0 rebase «5»"', version=3),
     script("a number for a deed", 'a deed is a string, as "0 tick 1000000", and this is of type integer', "«7»"),
     script("a deed between other quotes", f'unknown operation "slep"; {IN_SCRIPTS}', "'0 «slep» 1'"),
     script("a deed with an escape", f'unknown operation "slep"; {IN_SCRIPTS}', '«"0 sl\\u0065p 1"»'),
@@ -85,6 +106,15 @@ OF_OPERATIONS = (
     operation("a program that pulls from its own CPU", "CPU 0 pulls from itself", '"pull «0»"', "bad pull at program 0 at 0"),
     operation("a program that pulls from nowhere", "CPU 7 is not in the workload, which has CPUs 0 to 1", '"pull «7»"',
               "bad pull at program 0 at 0"),
+    operation("an unknown operation of a program in version 3", f'unknown operation "nap"; {IN_PROGRAMS_OF_THREE}', '"«nap»"', version=3),
+    operation("a begin of a program in version 2", f'unknown operation "begin"; {IN_PROGRAMS}', '"«begin» 0 0 3000000"'),
+    operation("a program that begins a task of another home", "task 1 begins at its home, CPU 1", '"pick", "begin «1» 0 3000000"',
+              "bad begin at program 0 at 1", version=3),
+    operation("a program that begins a task that the workload hasn't", "task 2 is not in the workload, which has tasks 0 to 1",
+              '"begin «2» 0 3000000"', "unknown task at program 0 at 0", version=3),
+    operation("a program that ends a task that the workload hasn't", "task 5 is not in the workload, which has tasks 0 to 1",
+              '"end «5»"', "unknown task at program 0 at 0", version=3),
+    operation("a program that sets a level alone", f"{NO_SLICE} the end is none", '"set 0 5«»"', version=3),
     operation("an operation too long to be told", f'unknown operation "{"x" * 40}"..; {IN_PROGRAMS}', '"«' + "x" * 300 + '»"'),
     operation("an operation far to the right", f'unknown operation "nap"; {IN_PROGRAMS}', " " * 500 + '"«nap»"'),
     document("a program that is no list", "bad value at program 1", "the program of a CPU is an array of strings, and this is of type string",
@@ -92,10 +122,10 @@ OF_OPERATIONS = (
 )
 
 OF_KEYS = (
-    document("no version", "missing version", "a workload has a line `version = 1` or `version = 2`, before the first [[task]]",
+    document("no version", "missing version", "a workload has a line `version = 1`, `version = 2` or `version = 3`, before the first [[task]]",
              "program = [[]]\n[[task]]\n"),
-    document("an unknown version", "bad value at version", "the version is the integer 1 or 2", "version = «3» # three\n"),
-    document("a version in quotes", "bad value at version", "the version is the integer 1 or 2", 'version = «"1"»\n'),
+    document("an unknown version", "bad value at version", "the version is the integer 1, 2 or 3", "version = «4» # four\n"),
+    document("a version in quotes", "bad value at version", "the version is the integer 1, 2 or 3", 'version = «"1"»\n'),
     document("no task", "missing task", "a workload has a table [[task]] for each task", "version = 1\nprogram = [[]]\n"),
     document("a task that is a table", "bad value at task", "task is an array of tables, written [[task]], and this is of type table",
              "version = 1\nprogram = [[]]\n«[task]»\n"),

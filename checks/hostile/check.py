@@ -12,13 +12,14 @@ sys.path.append(str(Path(__file__).resolve().parents[1]))
 
 from beyond import BEYOND  # noqa: E402
 from bounds import MOST_MEMORY, MOST_SECONDS, is_within, seconds, slowness_now  # noqa: E402
+from coming import COMING  # noqa: E402
 from documents import DOCUMENTS  # noqa: E402
 from ordered import ORDERED  # noqa: E402
 from runner import Checks, built  # noqa: E402
 from words import WORDS  # noqa: E402
 from workloads import WORKLOADS  # noqa: E402
 
-TEXTS = (*DOCUMENTS, *WORKLOADS, *ORDERED, *WORDS)
+TEXTS = (*DOCUMENTS, *WORKLOADS, *COMING, *ORDERED, *WORDS)
 
 # How often a text is sent whose answer is right but late.
 TRIES = 5

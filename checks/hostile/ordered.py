@@ -7,6 +7,7 @@ from workloads import OPERATIONS, TASK, programs
 LONGEST = programs(b"pick", OPERATIONS, 25) + TASK
 # the same, and a CPU that posts once, which is one step
 LONGER = programs(b"pick", OPERATIONS, 25).replace(b"],]\n", b"],['post 0']]\n") + TASK
+REBASES = programs(b"rebase", OPERATIONS, 25, 3) + TASK
 SHORT = b"version = 1\nprogram = [[]]" + TASK
 
 
@@ -35,5 +36,10 @@ ORDERED = (
          refused(fault("order longer than 1000000"))),
     sent("programs of one place more than an order has", given(LONGER), refused(fault("order longer than 1000000"))),
     sent("programs of the longest order", given(LONGEST), Printed(put_in(LONGEST, list(range(25)) * (4 * OPERATIONS)))),
+    sent("ends of more steps than an order has places", given(programs(b"end 0", OPERATIONS, 64, 3) + TASK),
+         refused(fault("order longer than 1000000"))),
+    sent("rebases of the longest order", given(REBASES), Printed(put_in(REBASES, list(range(25)) * (4 * OPERATIONS)))),
+    sent("a begin away from home to be ordered", given(programs(b"begin 0 0 100000", OPERATIONS, 2, 3) + TASK),
+         refused(fault("bad begin at program 1 at 0"))),
     sent("a workload up to the limit to be ordered", padded(SHORT), Printed(put_in(padded(SHORT)(), []))),
 )

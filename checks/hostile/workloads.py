@@ -20,13 +20,15 @@ def listed(item, count):
     return b"[" + item * count + b"]"
 
 
-def programs(operation, count, cpus):
-    """A workload of version 2 whose CPUs all have the same program of one operation again and again."""
-    return b"version = 2\nprogram = " + listed(listed(b'"%s",' % operation, count) + b",", cpus) + b"\n"
+def programs(operation, count, cpus, version=2):
+    """A workload whose CPUs all have the same program of one operation again and again."""
+    return b"version = %d\nprogram = " % version + listed(listed(b'"%s",' % operation, count) + b",", cpus) + b"\n"
 
 
-def scripted(version, count):
-    return given(b"version = %d\nprogram = [[]]\nscript = " % version + listed(b'"0 pick",', count) + TASK)
+def scripted(version, count, deed=b"pick", last=b"", tasks=TASK):
+    """A script of one deed again and again, and behind it another one."""
+    items = b'"0 %s",' % deed * count + (b'"0 %s"' % last if last else b"")
+    return given(b"version = %d\nprogram = [[]]\nscript = [" % version + items + b"]" + tasks)
 
 
 def after_picks(count):

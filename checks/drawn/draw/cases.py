@@ -11,16 +11,22 @@ from plain.limits import VERSIONS
 
 @dataclass(frozen=True)
 class Case:
-    """`program` is eevdf, or eevdf_orders with eevdf behind it."""
+    """`program` is eevdf, or eevdf_orders with eevdf behind it. `deeds` are those that are done, and those of a drain aside."""
 
     kind: str
     program: str
     words: tuple
     data: bytes
+    deeds: tuple = ()
 
 
 def with_mark(dice, data):
     return MARK + data if dice.random() < 0.03 else data
+
+
+def deeds_of(setup):
+    """The operations of all programs."""
+    return tuple(operation for program in setup.programs for operation in program)
 
 
 def text_of(dice, document):
@@ -44,28 +50,30 @@ def solo(dice, version):
     setup, script = machines.setup(dice, version)
     order = orders.whole_order(dice, setup) if dice.random() < 0.1 else None
     document = documents.document(dice, version, setup, order, script)
-    return Case("solo", "eevdf", command(dice, "solo"), text_of(dice, document))
+    return Case("solo", "eevdf", command(dice, "solo"), text_of(dice, document), tuple(deed for _, deed in script))
 
 
-def replay_of(dice, version, kind, draw_order):
-    setup, script = machines.setup(dice, version)
-    document = documents.document(dice, version, setup, draw_order(dice, setup), script if dice.random() < 0.1 else None)
-    return Case(kind, "eevdf", command(dice, "replay"), text_of(dice, document))
+def document_in_order(dice, version, setup, order, script):
+    return documents.document(dice, version, setup, order, script if dice.random() < 0.1 else None)
 
 
 def replay(dice, version):
-    return replay_of(dice, version, "replay", orders.whole_order)
+    setup, script = machines.setup(dice, version)
+    document = document_in_order(dice, version, setup, orders.whole_order(dice, setup), script)
+    return Case("replay", "eevdf", command(dice, "replay"), text_of(dice, document), deeds_of(setup))
 
 
 def run(dice, version):
     setup, script = machines.setup(dice, version)
     order = orders.whole_order(dice, setup) if dice.random() < 0.1 else None
     document = documents.document(dice, version, setup, order, script if dice.random() < 0.1 else None)
-    return Case("run", "eevdf", RUN, text_of(dice, document))
+    return Case("run", "eevdf", RUN, text_of(dice, document), deeds_of(setup))
 
 
 def broken(dice, version):
-    return replay_of(dice, version, "broken order", orders.broken_order)
+    setup, script = machines.setup(dice, version)
+    document = document_in_order(dice, version, setup, orders.broken_order(dice, setup), script)
+    return Case("broken order", "eevdf", command(dice, "replay"), text_of(dice, document))
 
 
 def any_document(dice, version):
@@ -78,7 +86,7 @@ def any_document(dice, version):
 def values(dice, version):
     document = any_document(dice, version)
     if dice.random() < 0.2:
-        document["version"] = 3 - version
+        document["version"] = dice.choice([other for other in VERSIONS if other != version])
     documents.spoil(dice, document)
     data = with_mark(dice, text_of_document(dice, documents.shuffled(dice, document)))
     return Case("values", "eevdf", any_command(dice), data)
@@ -111,7 +119,7 @@ def ordered(dice, version):
     """A workload into which an order is put."""
     setup, script = machines.setup(dice, version)
     document = documents.document(dice, version, setup, None, script if dice.random() < 0.1 else None)
-    return Case("ordered", "eevdf_orders", seed_words(dice), text_of(dice, document))
+    return Case("ordered", "eevdf_orders", seed_words(dice), text_of(dice, document), deeds_of(setup))
 
 
 def refused(dice, version):
@@ -127,6 +135,9 @@ def limits(dice, version):
 
 KINDS = {solo: 26, replay: 18, run: 18, broken: 10, values: 22, damage: 14, ordered: 12, refused: 5, limits: 0.6}
 
+# How often each version is drawn.
+SHARES = {1: 1, 2: 1, 3: 2}
+
 # What the cases of these kinds are called.
 NAMES = ("solo", "replay", "run", "broken order", "values", "bytes", "ordered", "ordered or refused", "limits")
 
@@ -135,4 +146,4 @@ def draw(dice, number):
     """The case of a number from 0 on. The first ones are one of each kind, so that none stays away."""
     kinds = list(KINDS)
     kind = kinds[number] if number < len(kinds) else dice.choices(kinds, list(KINDS.values()))[0]
-    return kind(dice, dice.choice(list(VERSIONS)))
+    return kind(dice, dice.choices(list(SHARES), list(SHARES.values()))[0])

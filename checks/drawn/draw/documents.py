@@ -35,7 +35,7 @@ def document(dice, version, setup, order=None, script=None):
 
 # What can be wrong in it.
 
-ODD_NUMBERS = (-1, 0, 1, 2, 3, 15, 16, 17, 18, 19, 20, 21, -19, -20, -21, 63, 64, 65, 1023, 1024, 99999, 100000,
+ODD_NUMBERS = (-1, 0, 1, 2, 3, 4, 15, 16, 17, 18, 19, 20, 21, -19, -20, -21, 63, 64, 65, 1023, 1024, 99999, 100000,
                100000000, 100000001, BOUND - 1, BOUND, BOUND + 1, -BOUND, -BOUND - 1, 2**63 - 1, -(2**63), 2**63, 2**64)
 DATES = (datetime.date(1979, 5, 27), datetime.time(7, 32, 0), datetime.datetime(1979, 5, 27, 7, 32, 0))
 ODD_VALUES = (True, False, 0.0, 1.0, -2.5, "", "0", "1", "pick", "0 pick", [], [0], ["pick"], [[]], {}, {"home": 0},
@@ -53,10 +53,18 @@ ODD_WORDS = (
     "renice 0 0", "renice 0 19", "renice 0 20", "renice 0 -0", "renice 0 -1", "renice 0 -20", "renice 0 -21", "renice 0 +1",
     "renice 0", "renice 1023 1", "renice 1024 1", "renice 0 01", "renice 0 -01", "renice 0 --1", "renice -1 1",
     "renice 0 18446744073709551615", "renice 0 -18446744073709551615",
+    "begin", "begin 0", "begin 0 0", "begin 0 0 100000", "begin 0 -20 100000000", "begin 0 19 99999", "begin 0 0 100000001",
+    "begin 0 0 0100000", "begin 0 -0 100000", "begin 1023 0 100000", "begin 1024 0 100000", "begin 0 0 100000 0", "begin 0 20 100000",
+    "begin 0 0 -100000", "begin 0 0 18446744073709551616", "end", "end 0", "end 1023", "end 1024", "end 00", "end -1", "end 0 0",
+    "set", "set 0", "set 0 0", "set 0 0 100000", "set 0 -20 100000000", "set 0 19 99999", "set 0 -21 100000", "set 0 0 100000001",
+    "set 0  0 100000", "set 0 0  100000", "set 0 +1 100000", "set 1023 0 100000", "set 1024 0 100000", "set 0 100000 0",
+    "rebase", "rebase ", " rebase", "rebase 0", "rebased", "Rebase", "reset", "ends",
     "0 pick", "1 pick", "15 pick", "16 pick", "63 pick", "64 pick", "00 pick", "+0 pick", "-0 pick", "0  pick", "0\tpick",
     "0pick", "pick 0", "0 tick 1", "0 tick 0", "0 tick 1000000000", "0 tick 1000000001", "0 pull 0", "0 pull 1", "1 pull 0",
     "1 pull 1", "0 sleep 0", "0 sleep 1023", "0 sleep 1024", "1 wake 0 from 0", "0 renice 0 5", "0 renice 0 -0",
-    "0 renice 0 20", "0 renice 0 -20", "15 renice 0 -21", "18446744073709551616 pick", "0 0 pick", "0 pick 0",
+    "0 renice 0 20", "0 renice 0 -20", "15 renice 0 -21", "0 begin 0 0 100000", "1 begin 0 0 100000", "0 begin 1 0 100000",
+    "0 end 0", "15 end 1023", "0 end 1024", "0 set 0 0 100000", "1 set 0 19 100000000", "0 set 0 0 99999", "0 rebase", "63 rebase",
+    "64 rebase", "0 rebase 0", "18446744073709551616 pick", "0 0 pick", "0 pick 0",
 )
 
 

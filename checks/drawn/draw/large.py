@@ -47,11 +47,21 @@ def too_many_steps(dice, version):
     return "eevdf_orders", (), workload(version, drains)
 
 
+def words_of(version):
+    """Operations of a program of CPU 0, whose task 0 is the only one."""
+    return ("pick",) if version < 3 else ("pick", "rebase", "end 0", "set 0 5 100000", "begin 0 0 3000000")
+
+
 def long_order(dice, version):
     """An order of many places, now and then of as many as there may be: 25 programs of 40000 steps."""
-    if version == 2 and dice.random() < 0.1:
+    if version > 1 and dice.random() < 0.1:
         return "eevdf_orders", (), workload(version, programs_of(*[OPERATIONS] * 25))
     return "eevdf_orders", (), workload(version, programs_of(OPERATIONS, OPERATIONS // 2))
+
+
+def long_program(dice, version):
+    """A program of one operation as often as there may be."""
+    return "eevdf_orders", (), workload(version, programs_of(OPERATIONS, operation=dice.choice(words_of(version))))
 
 
 def too_many_places(dice, version):
@@ -62,7 +72,7 @@ def too_many_places(dice, version):
 
 def deeds(dice, version):
     count = limit_or_past(dice, dice.choice((160000, VERSIONS[version].deeds)))
-    return "eevdf", ("solo",), workload(version, empty_programs(1) + "\n" + script(count))
+    return "eevdf", ("solo",), workload(version, empty_programs(1) + "\n" + script(count, f"0 {dice.choice(words_of(version))}"))
 
 
 def many_bytes(dice, version):
@@ -78,7 +88,7 @@ def many_bytes_through_orders(dice, version):
 
 
 SMALL = (cpus, tasks, operations)
-LARGE = (too_many_steps, long_order, too_many_places, deeds, many_bytes, many_bytes_through_orders)
+LARGE = (too_many_steps, long_order, long_program, too_many_places, deeds, many_bytes, many_bytes_through_orders)
 
 
 def draw(dice, version):

@@ -107,11 +107,27 @@ def task(dice, cpus, manner):
     return Task(dice.randrange(cpus), nice, length, manner.start(dice, nice, length), dice.random() < 0.2)
 
 
+# How often each deed is drawn. Where tasks come and go they are woken and picked more often, so that some run.
+SHARES = {"tick": 30, "pick": 24, "yield": 8, "wake": 14, "sleep": 12, "pull": 12, "renice": 14}
+COMING = {"tick": 36, "pick": 36, "wake": 32, "sleep": 16, "begin": 20, "end": 20, "set": 20}
+# Of a script that rebases often no virtual time comes to the end of the range.
+REBASES = (0, 8, 56)
+# The deeds that name nothing.
+ALONE = ("pick", "yield", "rebase")
+
+
+def shares_of(dice, version):
+    """How often a script has each deed of its version."""
+    shares = SHARES | COMING | {"rebase": dice.choice(REBASES)} if version == 3 else SHARES
+    return {name: share for name, share in shares.items() if name not in VERSIONS[version].unknown}
+
+
 class Script:
     """Draws deeds one after the other, by the state that those before them leave."""
 
     def __init__(self, dice, version, setup, manner):
-        self.dice, self.version, self.setup, self.manner = dice, version, setup, manner
+        self.dice, self.setup, self.manner = dice, setup, manner
+        self.shares = shares_of(dice, version)
         self.queues = queues_at_start(setup)
         self.deeds = []
 
@@ -130,6 +146,25 @@ class Script:
     def renice(self, cpu):
         return cpu, ("renice", self.task_among(self.queues[cpu].runnable), self.manner.level(self.dice))
 
+    def asleep_among(self, queues):
+        """The tasks that sleep there, half of the time only those that keep a lag, where there are any."""
+        tasks = {task: sleeper.lag for queue in queues for task, sleeper in queue.asleep.items()}
+        kept = [task for task, lag in tasks.items() if lag != 0]
+        return kept if kept and self.dice.random() < 0.5 else list(tasks)
+
+    def set(self, cpu):
+        queue = self.queues[cpu]
+        asleep = self.asleep_among([queue])
+        chosen = self.task_among(asleep if asleep and self.dice.random() < 0.5 else queue.runnable)
+        return cpu, ("set", chosen, self.manner.level(self.dice), slice_length(self.dice))
+
+    def end(self, cpu):
+        return cpu, ("end", self.task_among(self.queues[cpu].runnable))
+
+    def begin(self, _cpu):
+        chosen = self.task_among(self.asleep_among(self.queues))
+        return self.setup.tasks[chosen].home, ("begin", chosen, self.manner.level(self.dice), slice_length(self.dice))
+
     def wake(self, _cpu):
         chosen = self.task_among(task for queue in self.queues for task in queue.asleep)
         return self.setup.tasks[chosen].home, ("wake", chosen, self.dice.randrange(self.setup.cpus()))
@@ -145,16 +180,10 @@ class Script:
     def tick(self, cpu):
         return cpu, ("tick", self.manner.tick(self.dice))
 
-    def kind(self):
-        shares = {self.tick: 30, self.wake: 14, self.sleep: 12, self.pull: 12}
-        shares |= {"pick": 24, "yield": 8}
-        if self.version == 2:
-            shares[self.renice] = 14
-        return self.dice.choices(list(shares), list(shares.values()))[0]
-
     def deed(self):
-        cpu, kind = self.dice.randrange(self.setup.cpus()), self.kind()
-        return (cpu, (kind,)) if isinstance(kind, str) else kind(cpu)
+        cpu = self.dice.randrange(self.setup.cpus())
+        kind = self.dice.choices(list(self.shares), list(self.shares.values()))[0]
+        return (cpu, (kind,)) if kind in ALONE else getattr(self, kind)(cpu)
 
     def draw(self, count):
         for _ in range(count):

@@ -8,11 +8,27 @@ OPERATIONS = 10000
 PLACES = 1000000
 
 
+# The slices of a task, in nanoseconds.
+SHORTEST = 100000
+LONGEST = 100000000
+
+# The words that a version has and those before it haven't.
+OF_VERSION_TWO = ("renice",)
+OF_VERSION_THREE = ("begin", "end", "set", "rebase")
+
+
 @dataclass(frozen=True)
 class Limits:
+    """What a version allows. `unknown` are the words of later versions."""
+
     cpus: int
     deeds: int
-    renice: bool
+    unknown: tuple
 
 
-VERSIONS = {1: Limits(16, 160000, False), 2: Limits(64, 640000, True)}
+VERSIONS = {
+    1: Limits(16, 160000, OF_VERSION_TWO + OF_VERSION_THREE),
+    2: Limits(64, 640000, OF_VERSION_THREE),
+    3: Limits(64, 640000, ()),
+}
+NEWEST = 3

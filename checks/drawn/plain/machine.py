@@ -1,7 +1,8 @@
 """Setups, deeds and whole operations: "The machine" of docs/model.md.
 
 An operation and a deed are tuples: ("tick", N), ("pick",), ("yield",), ("sleep", T), ("pull", S), ("renice", T, N),
-("post", T), ("drain",), and of deeds alone ("wake", T, Q). A deed stands beside the number of its CPU.
+("begin", T, N, S), ("end", T), ("set", T, N, S), ("rebase",), ("post", T), ("drain",), and of deeds alone ("wake", T, Q). A deed
+stands beside the number of its CPU.
 """
 
 from dataclasses import dataclass
@@ -38,15 +39,21 @@ def queues_at_start(setup):
     return queues
 
 
+def is_at_home(setup, cpu, task):
+    return task < len(setup.tasks) and setup.tasks[task].home == cpu
+
+
 def is_allowed(setup, cpu, deed):
     if cpu >= setup.cpus():
         return False
     name, operands = deed[0], deed[1:]
-    if name in ("sleep", "renice"):
+    if name in ("sleep", "renice", "end", "set"):
         return operands[0] < len(setup.tasks)
+    if name == "begin":
+        return is_at_home(setup, cpu, operands[0])
     if name == "wake":
         task, sender = operands
-        return task < len(setup.tasks) and sender < setup.cpus() and setup.tasks[task].home == cpu
+        return is_at_home(setup, cpu, task) and sender < setup.cpus()
     if name == "pull":
         return operands[0] < setup.cpus() and operands[0] != cpu
     return True
@@ -73,6 +80,14 @@ def sleep(setup, queues, cpu, task):
     return f"slept {carried.lag}"
 
 
+def end(setup, queues, cpu, task):
+    if task not in queues[cpu].runnable:
+        return "not here"
+    carried = queues[cpu].leave(task)
+    queues[setup.tasks[task].home].put_asleep(task, carried.nice, carried.length, 0)
+    return "ended"
+
+
 def pull(queues, cpu, source):
     refusal = pull_refusal(queues, cpu, source)
     if refusal is not None:
@@ -93,6 +108,12 @@ def own_deed(queue, deed):
         return queue.yield_now()
     if name == "renice":
         return queue.renice(*operands)
+    if name == "begin":
+        return "begun" if queue.begin(*operands) else "awake"
+    if name == "set":
+        return queue.set(*operands)
+    if name == "rebase":
+        return f"rebased {queue.rebase()}"
     task, _sender = operands
     return queue.wake(task)
 
@@ -101,6 +122,8 @@ def whole(setup, queues, cpu, deed):
     """Does a deed at once, and gives its answer."""
     if deed[0] == "sleep":
         return sleep(setup, queues, cpu, deed[1])
+    if deed[0] == "end":
+        return end(setup, queues, cpu, deed[1])
     if deed[0] == "pull":
         return pull(queues, cpu, deed[1])
     return own_deed(queues[cpu], deed)

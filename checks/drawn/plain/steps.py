@@ -1,5 +1,7 @@
 """Micro-steps and orders: "Micro-steps" of docs/model.md."""
 
+from dataclasses import replace
+
 from plain.machine import Outcome, own_deed, pull_refusal, queues_at_start
 
 
@@ -23,7 +25,7 @@ def steps_of(setup, cpu, operation):
     if name == "drain":
         found = [step for sender in range(setup.cpus()) for step in (("take", sender), ("settle", sender))]
         return [("acquire", cpu), *found, ("release", cpu)]
-    if name == "sleep":
+    if name in ("sleep", "end"):
         return moving_steps(cpu, setup.tasks[operation[1]].home, operation)
     if name == "pull":
         return moving_steps(cpu, operation[1], operation)
@@ -83,10 +85,8 @@ class Player:
         self.answers[caller] = own_deed(self.queues[caller], operation)
 
     def detach(self, caller, operation):
-        if operation[0] == "sleep":
-            self.detach_running(caller, operation[1])
-        else:
-            self.detach_candidate(caller, operation[1])
+        by_name = {"sleep": self.detach_running, "end": self.detach_ending, "pull": self.detach_candidate}
+        by_name[operation[0]](caller, operation[1])
 
     def detach_running(self, caller, task):
         if self.queues[caller].running != task:
@@ -94,6 +94,13 @@ class Player:
             return
         self.hands[caller] = self.queues[caller].leave(task)
         self.answers[caller] = f"slept {self.hands[caller].lag}"
+
+    def detach_ending(self, caller, task):
+        if task not in self.queues[caller].runnable:
+            self.answers[caller] = "not here"
+            return
+        self.hands[caller] = replace(self.queues[caller].leave(task), lag=0)
+        self.answers[caller] = "ended"
 
     def detach_candidate(self, caller, source):
         refusal = pull_refusal(self.queues, caller, source)
@@ -107,7 +114,7 @@ class Player:
         carried, self.hands[caller] = self.hands[caller], None
         if carried is None:
             return
-        if operation[0] == "sleep":
+        if operation[0] in ("sleep", "end"):
             home = self.setup.tasks[carried.task].home
             self.queues[home].put_asleep(carried.task, carried.nice, carried.length, carried.lag)
         else:

@@ -2,7 +2,7 @@
 
 import re
 
-from plain.limits import TASKS
+from plain.limits import LONGEST, SHORTEST, TASKS
 
 NUMBER = "(0|[1-9][0-9]*)"
 LEVEL = "(0|[1-9][0-9]*|-[1-9][0-9]*)"
@@ -15,23 +15,31 @@ SHARED = {
     "sleep": re.compile(f"sleep {NUMBER}"),
     "pull": re.compile(f"pull {NUMBER}"),
     "renice": re.compile(f"renice {NUMBER} {LEVEL}"),
+    "begin": re.compile(f"begin {NUMBER} {LEVEL} {NUMBER}"),
+    "end": re.compile(f"end {NUMBER}"),
+    "set": re.compile(f"set {NUMBER} {LEVEL} {NUMBER}"),
+    "rebase": re.compile("rebase"),
 }
 OPERATIONS = SHARED | {"post": re.compile(f"post {NUMBER}"), "drain": re.compile("drain")}
 DEEDS = SHARED | {"wake": re.compile(f"wake {NUMBER} from {NUMBER}")}
 
 
 def is_within(limits, name, numbers):
-    """Whether the numbers of an operation or a deed are within their limits."""
+    """Whether a version knows an operation or a deed, and its numbers are within their limits."""
+    if name in limits.unknown:
+        return False
     if name == "tick":
         return 1 <= numbers[0] <= 1000000000
-    if name in ("sleep", "post"):
+    if name in ("sleep", "post", "end"):
         return numbers[0] < TASKS
     if name == "pull":
         return numbers[0] < limits.cpus
     if name == "wake":
         return numbers[0] < TASKS and numbers[1] < limits.cpus
     if name == "renice":
-        return limits.renice and numbers[0] < TASKS and -20 <= numbers[1] <= 19
+        return numbers[0] < TASKS and -20 <= numbers[1] <= 19
+    if name in ("begin", "set"):
+        return numbers[0] < TASKS and -20 <= numbers[1] <= 19 and SHORTEST <= numbers[2] <= LONGEST
     return True
 
 

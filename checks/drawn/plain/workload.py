@@ -4,8 +4,8 @@ from dataclasses import dataclass
 
 from plain.document import document_of
 from plain.fault import Fault, bad_value, missing
-from plain.limits import BYTES, OPERATIONS, TASKS, VERSIONS
-from plain.machine import Setup, Task, is_allowed
+from plain.limits import BYTES, LONGEST, OPERATIONS, SHORTEST, TASKS, VERSIONS
+from plain.machine import Setup, Task, is_allowed, is_at_home
 from plain.numbers import charge_of, is_in_range, weight_of
 from plain.words import deed_of, operation_of
 
@@ -59,7 +59,7 @@ def task_of(limits, table, number):
     return Task(
         home=integer_at(table, "home", 0, limits.cpus - 1, 0, place),
         nice=integer_at(table, "nice", -20, 19, 0, place),
-        length=integer_at(table, "slice", 100000, 100000000, 3000000, place),
+        length=integer_at(table, "slice", SHORTEST, LONGEST, 3000000, place),
         start=integer_at(table, "start", -(2**63), 2**63 - 1, 0, place),
         asleep=boolean_at(table, "asleep", place),
     )
@@ -119,8 +119,10 @@ def check_task(setup, number, task):
 
 
 def check_operation(setup, cpu, at, operation):
-    if operation[0] in ("sleep", "post", "renice") and operation[1] >= len(setup.tasks):
+    if operation[0] in ("sleep", "post", "renice", "begin", "end", "set") and operation[1] >= len(setup.tasks):
         raise Fault(f"unknown task at program {cpu} at {at}")
+    if operation[0] == "begin" and not is_at_home(setup, cpu, operation[1]):
+        raise Fault(f"bad begin at program {cpu} at {at}")
     if operation[0] == "pull" and (operation[1] >= setup.cpus() or operation[1] == cpu):
         raise Fault(f"bad pull at program {cpu} at {at}")
 

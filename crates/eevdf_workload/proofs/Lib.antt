@@ -1,6 +1,5 @@
 pub mod ReadingWords
 mod ReadingLists
-mod ReadingVerbs
 mod ReadingWorkloads
 mod ReadingDocuments
 pub mod ReadingLevels
@@ -8,3 +7,7 @@ pub mod InputLimit
 mod KeptResults
 mod WiderLimits
 mod VersionMeanings
+mod ReadingBesides
+mod ReadingFronts
+mod ReadingPlainValues
+mod ReadingOrders

@@ -9,9 +9,11 @@ use Rattle.eevdf_ops.specs.{declared.setup_fault.SetupFault.SetupFault, declared
 use Rattle.eevdf_ops.specs.declared.deeds.Op.TheVariants as op
 use Rattle.eevdf_ops.specs.declared.deeds.Deed.TheVariants as deed
 use Rattle.eevdf_workload.specs.{declared.version.Limits.Limits, declared.load_fault.Key.Key, Versions.cpu_within}
+use Rattle.eevdf_workload.specs.declared.reading.verb_text.Verb.{Verb}
+use Rattle.eevdf_workload.specs.declared.reading.verb_text.Verb.TheVariants as verb
 use Rattle.eevdf_workload.specs.declared.load_fault.Key.TheVariants as key
 use Rattle.eevdf_workload.specs.MeaningSteps.{array_at, at_most, count, natural, integer_or}
-use Rattle.eevdf_workload.specs.Words.{words, number, only_number, only_cpu, renice_of, task_in, operation_of, operation, sender_of, wake_of, deed_on, deed_in}
+use Rattle.eevdf_workload.specs.Words.{words, number, only_number, only_cpu, only_task, alone, renice_of, begin_of, set_of, verb_of, task_in, operation_by, operation_of, operation, sender_of, wake_of, deed_on, deed_in}
 use Rattle.eevdf_workload.specs.Meaning as meant
 use Rattle.eevdf_workload.proofs.KeptResults.{KeepsSome, KeepsOk, kept_cond, kept_then, kept_after, kept_map, kept_good, kept_bind, kept_behind, kept_each, kept_required, kept_present}
 
@@ -20,6 +22,7 @@ pub record AreWider (narrow wide : Limits) : Type 0 where
   pub cpus : narrow.cpus ≤ wide.cpus
   pub deeds : narrow.deeds ≤ wide.deeds
   pub renice : narrow.renice ≡ true → wide.renice ≡ true
+  pub begin : narrow.begin ≡ true → wide.begin ≡ true
 
 below_too : (n a b : ℕ) → a ≤ b → ltb n a ≡ true → ltb n b ≡ true
 below_too n a b wider h = grind (arith, nat_tests)
@@ -40,10 +43,6 @@ set_up_kept : (a b : Bool) (f : Option SetupFault) (s : Setup) → (a ≡ true �
 set_up_kept true b f s too t h = rw (too refl) h
 set_up_kept false b f s too t h = cc
 
--- an operation that isn't named by the first word is named by a later one
-later : (word verb : List ℕ) (x y z : Option Op) → KeepsSome Op y z → KeepsSome Op (cond (bytes_eq verb word) x y) (cond (bytes_eq verb word) x z)
-later word verb x y z = kept_cond Op (bytes_eq verb word) x x y z (λ o h. h)
-
 known_kept : (a b : Bool) (o : Option Op) → (a ≡ true → b ≡ true) → KeepsSome Op (cond a o None) (cond b o None)
 known_kept true b o too p h = rw (too refl) h
 known_kept false b o too p h = absurd (none-some p h)
@@ -61,18 +60,17 @@ module _ (narrow wide : Limits) (wider : AreWider narrow wide) where
   only_cpu_kept : (ws : List (List ℕ)) → KeepsSome ℕ (only_cpu narrow ws) (only_cpu wide ws)
   only_cpu_kept ws = kept_after ℕ ℕ (only_number ws) _ _ cpu_kept
 
+  operation_by_kept : (ws : List (List ℕ)) (v : Verb) → KeepsSome Op (operation_by narrow ws v) (operation_by wide ws v)
+  operation_by_kept ws verb.Pull = kept_map ℕ Op op.Pull _ _ (only_cpu_kept ws)
+  operation_by_kept ws verb.Renice = known_kept narrow.renice wide.renice (renice_of ws) wider.renice
+  operation_by_kept ws verb.Begin = known_kept narrow.begin wide.begin (begin_of ws) wider.begin
+  operation_by_kept ws verb.End = known_kept narrow.begin wide.begin (option_map op.End (only_task ws)) wider.begin
+  operation_by_kept ws verb.Set = known_kept narrow.begin wide.begin (set_of ws) wider.begin
+  operation_by_kept ws verb.Rebase = known_kept narrow.begin wide.begin (alone op.Rebase ws) wider.begin
+  operation_by_kept ws _ = λ o h. h
+
   operation_of_kept : (verb : List ℕ) (ws : List (List ℕ)) → KeepsSome Op (operation_of narrow verb ws) (operation_of wide verb ws)
-  operation_of_kept verb ws =
-      later (codes "tick") verb _ _ _
-      (later (codes "pick") verb _ _ _
-      (later (codes "yield") verb _ _ _
-      (later (codes "sleep") verb _ _ _
-      (later (codes "post") verb _ _ _
-      (later (codes "drain") verb _ _ _
-      (kept_cond Op (bytes_eq verb (codes "pull")) (option_map op.Pull (only_cpu narrow ws)) (option_map op.Pull (only_cpu wide ws)) _ _
-      (kept_map ℕ Op op.Pull _ _ (only_cpu_kept ws))
-      (kept_cond Op (bytes_eq verb (codes "renice")) (cond narrow.renice (renice_of ws) None) (cond wide.renice (renice_of ws) None) None None
-      (known_kept narrow.renice wide.renice (renice_of ws) wider.renice) (λ o h. h))))))))
+  operation_of_kept verb ws = kept_after Verb Op (verb_of verb) _ _ (operation_by_kept ws)
 
   operation_kept : (ws : List (List ℕ)) → KeepsSome Op (operation narrow ws) (operation wide ws)
   unfolding operation

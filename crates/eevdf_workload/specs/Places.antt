@@ -96,6 +96,7 @@ key_of (fault.Setup (setup.BadStart task)) = Some (key.Start task)
 key_of (fault.Setup (setup.TooLong cpu)) = Some (key.Program cpu)
 key_of (fault.Setup (setup.UnknownTask cpu i)) = Some (key.Op cpu i)
 key_of (fault.Setup (setup.BadPull cpu i)) = Some (key.Op cpu i)
+key_of (fault.Setup (setup.BadBegin cpu i)) = Some (key.Op cpu i)
 key_of _ = None
 
 -- whether a header may make what stands at a key, in place of a value

@@ -1,7 +1,7 @@
 -- The words of a string, and the operation or the deed that they name.
 use Rattle.std.specs.Prelude.{codes, ◌≡◌, MatchOption, ℕ, zero, suc, ◌==◌, ◌^◌, nat_lt, ℤ, pos, negsuc, Bool, false, if◌then◌else◌, List, [], ◌∷◌, length, Option, Some, None, option_map, option_and_then}
 use Rattle.std.specs.{Borrow.Bor, List.slice_split, List.list_all, Str.bytes_eq, Char.is_ascii_digit, Str.Parse.digits_value, Str.Parse.digits_value_after}
-use Rattle.eevdf_weight.specs.Limits.{checked_level, checked_tick}
+use Rattle.eevdf_weight.specs.Limits.{checked_level, checked_slice, checked_tick}
 use Rattle.eevdf_queue.specs.Numbers.{checked_number}
 use Rattle.eevdf_ops.specs.{declared.deeds.Op.Op, Programs.deed_of, declared.deeds.Deed.Deed}
 use Rattle.eevdf_ops.specs.declared.deeds.Op.TheVariants as op
@@ -68,7 +68,7 @@ only_word _ = None
 abbrev pub only_number : List (List ℕ) → Option ℕ
 only_number ws = option_and_then number (only_word ws)
 
--- the time, the task, the CPU and the level that the only word gives
+-- the time, the task, the CPU, the level and the slice that the only word gives
 abbrev pub only_time : List (List ℕ) → Option ℕ
 only_time ws = option_and_then checked_tick (only_number ws)
 
@@ -80,6 +80,9 @@ only_cpu limits ws = option_and_then (cpu_within limits) (only_number ws)
 
 abbrev pub only_level : List (List ℕ) → Option ℤ
 only_level ws = option_and_then level_in (only_word ws)
+
+abbrev pub only_slice : List (List ℕ) → Option ℕ
+only_slice ws = option_and_then checked_slice (only_number ws)
 
 -- the CPU and the task that a word numbers
 abbrev pub cpu_in : Limits → List ℕ → Option ℕ
@@ -98,31 +101,57 @@ abbrev pub renice_of : List (List ℕ) → Option Op
 renice_of [] = None
 renice_of (word ∷ ws) = option_and_then (λ task. option_map (op.Renice task) (only_level ws)) (task_in word)
 
+-- the level that the first word writes, and the slice that follows it
+abbrev pub level_and_slice : List (List ℕ) → Option (ℤ × ℕ)
+level_and_slice [] = None
+level_and_slice (word ∷ ws) = option_and_then (λ nice. option_map (λ slice. (nice, slice)) (only_slice ws)) (level_in word)
+
+-- the task that the first word numbers, and the level and the slice that follow it
+abbrev pub task_level_slice : List (List ℕ) → Option (ℕ × ℤ × ℕ)
+task_level_slice [] = None
+task_level_slice (word ∷ ws) = option_and_then (λ task. option_map (λ others. (task, others.0, others.1)) (level_and_slice ws)) (task_in word)
+
+abbrev pub begin_of : List (List ℕ) → Option Op
+begin_of ws = option_map (λ new. op.Begin new.0 new.1 new.2) (task_level_slice ws)
+
+abbrev pub set_of : List (List ℕ) → Option Op
+set_of ws = option_map (λ new. op.Set new.0 new.1 new.2) (task_level_slice ws)
+
 -- what a word says that is done
 abbrev pub verb_of : List ℕ → Option Verb
 verb_of word =
-    if bytes_eq word (codes "renice") then Some verb.Renice
-    else if bytes_eq word (codes "tick") then Some verb.Tick
+    if bytes_eq word (codes "tick") then Some verb.Tick
     else if bytes_eq word (codes "pick") then Some verb.Pick
     else if bytes_eq word (codes "yield") then Some verb.Yield
     else if bytes_eq word (codes "sleep") then Some verb.Sleep
     else if bytes_eq word (codes "post") then Some verb.Post
     else if bytes_eq word (codes "drain") then Some verb.Drain
     else if bytes_eq word (codes "pull") then Some verb.Pull
+    else if bytes_eq word (codes "renice") then Some verb.Renice
+    else if bytes_eq word (codes "begin") then Some verb.Begin
+    else if bytes_eq word (codes "end") then Some verb.End
+    else if bytes_eq word (codes "set") then Some verb.Set
+    else if bytes_eq word (codes "rebase") then Some verb.Rebase
     else None
+
+-- the operation of a verb, with these words as its arguments
+abbrev pub operation_by : Limits → List (List ℕ) → Verb → Option Op
+operation_by limits arguments verb.Tick = option_map op.Tick (only_time arguments)
+operation_by limits arguments verb.Pick = alone op.Pick arguments
+operation_by limits arguments verb.Yield = alone op.Yield arguments
+operation_by limits arguments verb.Sleep = option_map op.Sleep (only_task arguments)
+operation_by limits arguments verb.Post = option_map op.Post (only_task arguments)
+operation_by limits arguments verb.Drain = alone op.Drain arguments
+operation_by limits arguments verb.Pull = option_map op.Pull (only_cpu limits arguments)
+operation_by limits arguments verb.Renice = if limits.renice then renice_of arguments else None
+operation_by limits arguments verb.Begin = if limits.begin then begin_of arguments else None
+operation_by limits arguments verb.End = if limits.begin then option_map op.End (only_task arguments) else None
+operation_by limits arguments verb.Set = if limits.begin then set_of arguments else None
+operation_by limits arguments verb.Rebase = if limits.begin then alone op.Rebase arguments else None
 
 -- the operation that the first word names, with the other words as its arguments
 abbrev pub operation_of : Limits → List ℕ → List (List ℕ) → Option Op
-operation_of limits verb arguments =
-    if bytes_eq verb (codes "tick") then option_map op.Tick (only_time arguments)
-    else if bytes_eq verb (codes "pick") then alone op.Pick arguments
-    else if bytes_eq verb (codes "yield") then alone op.Yield arguments
-    else if bytes_eq verb (codes "sleep") then option_map op.Sleep (only_task arguments)
-    else if bytes_eq verb (codes "post") then option_map op.Post (only_task arguments)
-    else if bytes_eq verb (codes "drain") then alone op.Drain arguments
-    else if bytes_eq verb (codes "pull") then option_map op.Pull (only_cpu limits arguments)
-    else if bytes_eq verb (codes "renice") then (if limits.renice then renice_of arguments else None)
-    else None
+operation_of limits word arguments = option_and_then (operation_by limits arguments) (verb_of word)
 
 unfoldable pub operation : Limits → List (List ℕ) → Option Op
 operation limits [] = None

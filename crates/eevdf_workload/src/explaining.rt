@@ -105,6 +105,7 @@ fn key_of(fault: &LoadFault) -> Option<Key>
         LoadFault::Setup(SetupFault::TooLong { cpu }) => Some(Key::Program(*cpu)),
         LoadFault::Setup(SetupFault::UnknownTask { cpu, at }) => Some(Key::Op(*cpu, *at)),
         LoadFault::Setup(SetupFault::BadPull { cpu, at }) => Some(Key::Op(*cpu, *at)),
+        LoadFault::Setup(SetupFault::BadBegin { cpu, at }) => Some(Key::Op(*cpu, *at)),
         LoadFault::TooLarge
         | LoadFault::NotToml
         | LoadFault::Missing { .. }

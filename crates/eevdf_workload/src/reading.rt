@@ -7,10 +7,13 @@ ghost use Rattle.toml.specs.View.{table_view};
 mod argument_words;
 mod deed_text;
 pub(crate) mod document_keys;
+mod front;
 pub(crate) mod level_text;
 mod lists;
 pub(crate) mod number_text;
 mod operation_text;
+mod order_in_front;
+mod plain_values;
 mod task_table;
 pub(crate) mod unread;
 pub(crate) mod verb_text;
@@ -19,6 +22,7 @@ mod word_list;
 use crate::load_fault::{Key, LoadFault};
 use crate::reading::document_keys::version;
 use crate::reading::lists::{order, programs, script};
+use crate::reading::order_in_front::workload_by_front;
 use crate::reading::task_table::tasks;
 use crate::reading::unread::has_unread_keys;
 use crate::version::Limits;
@@ -35,6 +39,9 @@ pub fn read_workload(alloc: Global, bytes: &[u8]) -> Result<Workload, LoadFault>
 {
     if bytes.len() > Workload::MOST_BYTES {
         return Err(LoadFault::TooLarge);
+    }
+    if let Some(workload) = workload_by_front(alloc, bytes)? {
+        return Ok(workload);
     }
     let document = document_of(alloc, bytes)?;
     workload_of(alloc, document)

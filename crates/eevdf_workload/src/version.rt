@@ -10,6 +10,7 @@ use std::fmt;
 pub enum Version {
     One,
     Two,
+    Three,
 }
 
 /// The version's number, as a workload gives it.
@@ -20,6 +21,7 @@ impl fmt::Display for Version {
         match self {
             Version::One => f.write_str("1"),
             Version::Two => f.write_str("2"),
+            Version::Three => f.write_str("3"),
         }
     }
 }
@@ -33,6 +35,8 @@ pub(crate) struct Limits {
     pub(crate) deeds: usize,
     /// Whether the word `renice` is known.
     pub(crate) renice: bool,
+    /// Whether the word `begin` is known, and with it `end`, `set` and `rebase`.
+    pub(crate) begin: bool,
 }
 
 impl Version {
@@ -45,11 +49,19 @@ impl Version {
                 cpus: Workload::MOST_CPUS_IN_VERSION_ONE,
                 deeds: Workload::MOST_DEEDS_IN_VERSION_ONE,
                 renice: false,
+                begin: false,
             },
             Version::Two => Limits {
                 cpus: CpuId::COUNT as u64,
                 deeds: Workload::MOST_DEEDS,
                 renice: true,
+                begin: false,
+            },
+            Version::Three => Limits {
+                cpus: CpuId::COUNT as u64,
+                deeds: Workload::MOST_DEEDS,
+                renice: true,
+                begin: true,
             },
         }
     }

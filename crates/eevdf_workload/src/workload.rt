@@ -32,14 +32,14 @@ impl Model for Workload {
 impl Workload {
     ghost use Rattle.std.specs.Prelude.{option_map};
 
-    /// A workload has at most so many bytes, in either version.
+    /// A workload has at most so many bytes, in each version.
     pub const MOST_BYTES: usize = 16_777_216;
 
-    /// There are at most so many programs, and the numbers of CPUs are below this, in version 1. In version 2 both are
-    /// `CpuId::COUNT`.
+    /// There are at most so many programs, and the numbers of CPUs are below this, in version 1. In later versions both
+    /// are `CpuId::COUNT`.
     pub const MOST_CPUS_IN_VERSION_ONE: u64 = 16;
 
-    /// A script has at most so many deeds, in version 2.
+    /// A script has at most so many deeds, from version 2 on.
     pub const MOST_DEEDS: usize = 640_000;
 
     /// A script has at most so many deeds, in version 1.

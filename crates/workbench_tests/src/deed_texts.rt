@@ -1,6 +1,6 @@
 //! Which texts are deeds in which version, and of which meaning.
 
-use crate::fixtures::{cpu, nice, ns, task, wake};
+use crate::fixtures::{cpu, nice, ns, slice, task, wake};
 use crate::whole_machines::with_deed;
 use eevdf_ops::Deed;
 use eevdf_workload::{Key, LoadFault, Version, read_workload};
@@ -28,7 +28,7 @@ fn first_deed(rt: &impl Abort, alloc: Global, workload: &[u8]) -> Option<Deed> {
 }
 
 #[test]
-fn both_versions_know_these_deeds(rt: HostRuntime) {
+fn all_versions_know_these_deeds(rt: HostRuntime) {
     let first = cpu(&rt, 0);
     let last = cpu(&rt, 15);
     let tick = Deed::Tick {
@@ -51,13 +51,14 @@ fn both_versions_know_these_deeds(rt: HostRuntime) {
         ("0 wake 1023 from 15", wake(&rt, first, 1023, last)),
         ("0 pull 15", pull),
     ] {
-        check(&rt, rt.alloc(), Version::One, text, Some(&meant));
-        check(&rt, rt.alloc(), Version::Two, text, Some(&meant));
+        for version in [Version::One, Version::Two, Version::Three] {
+            check(&rt, rt.alloc(), version, text, Some(&meant));
+        }
     }
 }
 
 #[test]
-fn version_two_knows_more_deeds(rt: HostRuntime) {
+fn later_versions_know_more_deeds(rt: HostRuntime) {
     let first = cpu(&rt, 0);
     let last = cpu(&rt, 63);
     let next = cpu(&rt, 16);
@@ -77,7 +78,51 @@ fn version_two_knows_more_deeds(rt: HostRuntime) {
         ("0 pull 63", pull),
         ("0 renice 1023 -5", renice),
     ] {
+        check(&rt, rt.alloc(), Version::Three, text, Some(&meant));
         check(&rt, rt.alloc(), Version::Two, text, Some(&meant));
         check(&rt, rt.alloc(), Version::One, text, None);
     }
+}
+
+#[test]
+fn version_three_knows_more_deeds(rt: HostRuntime) {
+    let home = cpu(&rt, 0);
+    let other = cpu(&rt, 63);
+    let task = task(&rt, 1023);
+    let nice = nice(&rt, -5);
+    let slice = slice(&rt, 100_000);
+    let begin = Deed::Begin {
+        cpu: home,
+        task,
+        nice,
+        slice,
+    };
+    let set = Deed::Set {
+        cpu: other,
+        task,
+        nice,
+        slice,
+    };
+    for (text, meant) in [
+        ("0 begin 1023 -5 100000", begin),
+        ("63 end 1023", Deed::End { cpu: other, task }),
+        ("63 set 1023 -5 100000", set),
+        ("63 rebase", Deed::Rebase { cpu: other }),
+    ] {
+        check(&rt, rt.alloc(), Version::Three, text, Some(&meant));
+        check(&rt, rt.alloc(), Version::Two, text, None);
+        check(&rt, rt.alloc(), Version::One, text, None);
+    }
+}
+
+/// Every task has its home at CPU 0.
+#[test]
+fn a_task_begins_at_its_home_alone(rt: HostRuntime) {
+    check(
+        &rt,
+        rt.alloc(),
+        Version::Three,
+        "1 begin 1023 -5 100000",
+        None,
+    )
 }

@@ -48,7 +48,7 @@ fn each_key_has_its_text(rt: HostRuntime) {
 }
 
 /// Of the faults that name no CPU, those of a workload and of an order, and then those of the machine.
-const FAULTS: [(BenchFault, &str, u8); 21] = [
+const FAULTS: [(BenchFault, &str, u8); 22] = [
     (
         BenchFault::Load(LoadFault::TooLarge),
         "fault: workload longer than 16777216 bytes\n",
@@ -92,6 +92,11 @@ const FAULTS: [(BenchFault, &str, u8); 21] = [
     (
         BenchFault::Load(LoadFault::Setup(SetupFault::BadPull { cpu: 15, at: 0 })),
         "fault: bad pull at program 15 at 0\n",
+        1,
+    ),
+    (
+        BenchFault::Load(LoadFault::Setup(SetupFault::BadBegin { cpu: 63, at: 9999 })),
+        "fault: bad begin at program 63 at 9999\n",
         1,
     ),
     (

@@ -2,7 +2,7 @@
 
 use eevdf_ops::{CpuId, Deed};
 use eevdf_queue::TaskId;
-use eevdf_weight::{Nice, Ns};
+use eevdf_weight::{Nice, Ns, Slice};
 use std::process::Abort;
 
 pub fn cpu(rt: &impl Abort, number: u64) -> CpuId {
@@ -19,6 +19,10 @@ pub fn nice(rt: &impl Abort, level: i64) -> Nice {
 
 pub fn ns(rt: &impl Abort, number: u64) -> Ns {
     Ns::new(number).expect(rt, "ns")
+}
+
+pub fn slice(rt: &impl Abort, length: u64) -> Slice {
+    Slice::new(length).expect(rt, "slice")
 }
 
 /// The wake of the task of a number, for a sender.

@@ -1,6 +1,6 @@
 //! Which texts are operations in which version, and of which meaning.
 
-use crate::fixtures::{cpu, nice, ns, task};
+use crate::fixtures::{cpu, nice, ns, slice, task};
 use crate::whole_machines::with_operation;
 use eevdf_ops::{Op, Setup};
 use eevdf_workload::{Key, LoadFault, Version, read_workload};
@@ -34,7 +34,7 @@ fn first_operation(rt: &impl Abort, setup: &Setup) -> Option<Op> {
 }
 
 #[test]
-fn both_versions_know_these_operations(rt: HostRuntime) {
+fn all_versions_know_these_operations(rt: HostRuntime) {
     for (text, meant) in [
         ("tick 1", Op::Tick(ns(&rt, 1))),
         ("tick 1000000000", Op::Tick(ns(&rt, 1_000_000_000))),
@@ -46,13 +46,14 @@ fn both_versions_know_these_operations(rt: HostRuntime) {
         ("drain", Op::Drain),
         ("pull 15", Op::Pull(cpu(&rt, 15))),
     ] {
-        check(&rt, rt.alloc(), Version::One, text, Some(&meant));
-        check(&rt, rt.alloc(), Version::Two, text, Some(&meant));
+        for version in [Version::One, Version::Two, Version::Three] {
+            check(&rt, rt.alloc(), version, text, Some(&meant));
+        }
     }
 }
 
 #[test]
-fn version_two_knows_more_operations(rt: HostRuntime) {
+fn later_versions_know_more_operations(rt: HostRuntime) {
     for (text, meant) in [
         ("pull 16", Op::Pull(cpu(&rt, 16))),
         ("pull 63", Op::Pull(cpu(&rt, 63))),
@@ -64,7 +65,65 @@ fn version_two_knows_more_operations(rt: HostRuntime) {
         ("renice 0 0", Op::Renice(task(&rt, 0), nice(&rt, 0))),
         ("renice 0 19", Op::Renice(task(&rt, 0), nice(&rt, 19))),
     ] {
+        check(&rt, rt.alloc(), Version::Three, text, Some(&meant));
         check(&rt, rt.alloc(), Version::Two, text, Some(&meant));
         check(&rt, rt.alloc(), Version::One, text, None);
+    }
+}
+
+#[test]
+fn version_three_knows_more_operations(rt: HostRuntime) {
+    let first = task(&rt, 0);
+    let last = task(&rt, 1023);
+    let (heaviest, middle, lightest) = (nice(&rt, -20), nice(&rt, 0), nice(&rt, 19));
+    let (shortest, longest) = (slice(&rt, 100_000), slice(&rt, 100_000_000));
+    for (text, meant) in [
+        ("begin 0 0 100000", Op::Begin(first, middle, shortest)),
+        (
+            "begin 1023 -20 100000000",
+            Op::Begin(last, heaviest, longest),
+        ),
+        ("end 0", Op::End(first)),
+        ("end 1023", Op::End(last)),
+        ("set 0 19 100000", Op::Set(first, lightest, shortest)),
+        ("set 1023 -20 100000000", Op::Set(last, heaviest, longest)),
+        ("rebase", Op::Rebase),
+    ] {
+        check(&rt, rt.alloc(), Version::Three, text, Some(&meant));
+        check(&rt, rt.alloc(), Version::Two, text, None);
+        check(&rt, rt.alloc(), Version::One, text, None);
+    }
+}
+
+#[test]
+fn version_three_refuses_these_texts(rt: HostRuntime) {
+    for text in [
+        "begin",
+        "begin 0",
+        "begin 0 0",
+        "begin 0 0 99999",
+        "begin 0 0 100000001",
+        "begin 0 0 0100000",
+        "begin 0 0 100000 0",
+        "begin 0 -0 100000",
+        "begin 0 +1 100000",
+        "begin 0 20 100000",
+        "begin 0 100000 0",
+        "begin 1024 0 100000",
+        "begin  0 0 100000",
+        "end",
+        "end 1024",
+        "end 0 0",
+        "set",
+        "set 0 0",
+        "set 0 -21 100000",
+        "set 0 0 -100000",
+        "set 0 0 100000 ",
+        "rebase 0",
+        "Rebase",
+        "begins 0 0 100000",
+        "slice 0 100000",
+    ] {
+        check(&rt, rt.alloc(), Version::Three, text, None);
     }
 }

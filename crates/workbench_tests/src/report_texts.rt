@@ -1,7 +1,7 @@
 //! How the report prints lines of all kinds, requests that are left, and times below 0.
 
-use crate::fixtures::{cpu, nice, ns, task};
-use eevdf_ops::{Answer, Deed, Line, Outcome, Solo};
+use crate::fixtures::{cpu, nice, ns, slice, task};
+use eevdf_ops::{Answer, CpuId, Deed, Line, Outcome, Solo};
 use eevdf_queue::{Queue, TaskId};
 use eevdf_report::report;
 use eevdf_workload::read_workload;
@@ -47,6 +47,15 @@ pull 2: nothing
 pull 2: range
 renice 1023 -20: reniced
 renice 1023 -20: not here
+begin 1023 19 100000000: begun
+begin 1023 19 100000000: awake
+end 1023: ended
+end 1023: not here
+set 1023 0 100000: set
+set 1023 0 100000: not here
+set 1023 0 100000: range
+rebase: rebased -1
+rebase: rebased 0
 load 0 floor 0
 script = [
 \"11 tick 3000000\",
@@ -64,6 +73,15 @@ script = [
 \"11 pull 2\",
 \"11 renice 1023 -20\",
 \"11 renice 1023 -20\",
+\"11 begin 1023 19 100000000\",
+\"11 begin 1023 19 100000000\",
+\"11 end 1023\",
+\"11 end 1023\",
+\"11 set 1023 0 100000\",
+\"11 set 1023 0 100000\",
+\"11 set 1023 0 100000\",
+\"11 rebase\",
+\"11 rebase\",
 ]
 ";
 
@@ -111,7 +129,31 @@ fn lines_of_all_kinds(rt: &impl Abort, alloc: Global) -> Vec<Line> {
         nice: nice(rt, -20),
     };
     push_lines(rt, &mut lines, &renice, &[Answer::Reniced, Answer::NotHere]);
+    push_later_lines(rt, &mut lines, cpu, task);
     lines
+}
+
+/// Adds those of the deeds by which tasks come and go.
+fn push_later_lines(rt: &impl Abort, lines: &mut Vec<Line>, cpu: CpuId, task: TaskId) {
+    let begin = Deed::Begin {
+        cpu,
+        task,
+        nice: nice(rt, 19),
+        slice: slice(rt, 100_000_000),
+    };
+    push_lines(rt, lines, &begin, &[Answer::Begun, Answer::Awake]);
+    let end = Deed::End { cpu, task };
+    push_lines(rt, lines, &end, &[Answer::Ended, Answer::NotHere]);
+    let set = Deed::Set {
+        cpu,
+        task,
+        nice: nice(rt, 0),
+        slice: slice(rt, 100_000),
+    };
+    let sets = [Answer::Set, Answer::NotHere, Answer::Range];
+    push_lines(rt, lines, &set, &sets);
+    let rebases = [Answer::Rebased(-1), Answer::Rebased(0)];
+    push_lines(rt, lines, &Deed::Rebase { cpu }, &rebases);
 }
 
 /// Adds a line of a deed for each of these answers.

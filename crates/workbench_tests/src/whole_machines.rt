@@ -30,6 +30,7 @@ fn workload(
     let (number, cpus) = match version {
         Version::One => (1, 16),
         Version::Two => (2, 64),
+        Version::Three => (3, 64),
     };
     let mut text = format!(in alloc; "version = {number}\nprogram = [{program}").expect(
         rt, "memory",

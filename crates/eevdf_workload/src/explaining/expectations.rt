@@ -12,7 +12,7 @@ use toml::Value;
 pub(crate) fn missing(alloc: Global, key: &Key) -> Result<String, AllocError> {
     match key {
         Key::Version => {
-            "a workload has a line `version = 1` or `version = 2`, before the first [[task]]".to_string(
+            "a workload has a line `version = 1`, `version = 2` or `version = 3`, before the first [[task]]".to_string(
                 alloc,
             )
         }
@@ -67,7 +67,7 @@ fn expected(
     let version = machine.version;
     let limits = version.limits();
     match key {
-        Key::Version => "the version is the integer 1 or 2".to_string(alloc),
+        Key::Version => "the version is the integer 1, 2 or 3".to_string(alloc),
         Key::Tasks => format!(in alloc;
             "task is an array of tables, written [[task]], and this is of type {kind}"
         ),
@@ -121,7 +121,9 @@ pub(crate) fn refused<'a>(
     value: &'a Value,
 ) -> Result<WordFault, AllocError> {
     let message = match fault {
-        SetupFault::UnknownTask { cpu, at } | SetupFault::BadPull { cpu, at } => {
+        SetupFault::UnknownTask { cpu, at }
+        | SetupFault::BadPull { cpu, at }
+        | SetupFault::BadBegin { cpu, at } => {
             return wrong(alloc, machine, &Key::Op(*cpu, *at), value);
         }
         SetupFault::BadCpus => {

@@ -17,7 +17,7 @@ impl<'a> Machine<'a> {
     pub(crate) fn of(document: &'a Table) -> Machine<'a> {
         Machine {
             document,
-            version: version(document).unwrap_or(Version::Two),
+            version: version(document).unwrap_or(Version::Three),
             cpus: count(document.get("program")),
             tasks: count(document.get("task")),
         }
@@ -25,6 +25,10 @@ impl<'a> Machine<'a> {
 
     pub(crate) fn knows_renice(&self) -> bool {
         self.version.limits().renice
+    }
+
+    pub(crate) fn knows_begin(&self) -> bool {
+        self.version.limits().begin
     }
 
     /// The home of a task.

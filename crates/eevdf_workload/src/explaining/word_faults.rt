@@ -6,7 +6,7 @@ use crate::explaining::word_texts::{is_of_digits, shortened, told_word, word_at}
 use crate::reading::level_text::level;
 use crate::reading::number_text::number;
 use crate::reading::verb_text::Verb;
-use eevdf_weight::Ns;
+use eevdf_weight::{Ns, Slice};
 use std::alloc::{AllocError, Global};
 
 /// What is wrong, and the bytes of the word that is meant.
@@ -33,9 +33,17 @@ pub(crate) struct Work<'a> {
     pub(crate) cpu: Option<usize>,
 }
 
-const IN_PROGRAMS: &str = "tick, pick, yield, sleep, pull, renice, post, drain";
-
-const IN_SCRIPTS: &str = "tick, pick, yield, sleep, pull, renice, wake";
+/// The words of an operation, of a script or of a program, as far as they are told.
+fn known_words(work: Work) -> &'static str {
+    match (work.cpu, work.machine.knows_begin()) {
+        (None, false) => "tick, pick, yield, sleep, pull, renice, wake",
+        (Some(_), false) => "tick, pick, yield, sleep, pull, renice, post, drain",
+        (None, true) => "tick, pick, yield, sleep, pull, renice, begin, end, set, rebase, wake",
+        (Some(_), true) => {
+            "tick, pick, yield, sleep, pull, renice, begin, end, set, rebase, post, drain"
+        }
+    }
+}
 
 type Found = Result<Option<WordFault>, AllocError>;
 
@@ -92,21 +100,27 @@ fn operation_fault(alloc: Global, work: Work, cpu: usize, first: usize) -> Found
     let after = first.saturating_add(2);
     match Verb::of(word.as_bytes()) {
         Some(Verb::Post | Verb::Drain) if is_deed => {
+            let known = known_words(work);
             let message = format!(in alloc;
-                "\"{word}\" stands in programs alone; operations of a script are {IN_SCRIPTS}"
+                "\"{word}\" stands in programs alone; operations of a script are {known}"
             )?;
             found(message, place_of(start, word))
         }
         Some(Verb::Renice) if !work.machine.knows_renice() => {
-            let message = "\"renice\" is known in version 2 alone".to_string(alloc)?;
+            let message = "\"renice\" is known from version 2 on".to_string(alloc)?;
             found(message, place_of(start, word))
         }
-        Some(Verb::Pick | Verb::Yield | Verb::Drain) => more_fault(alloc, work, next),
+        Some(Verb::Begin | Verb::End | Verb::Set | Verb::Rebase) if !work.machine.knows_begin() => {
+            unknown_fault(alloc, work, first)
+        }
+        Some(Verb::Pick | Verb::Yield | Verb::Drain | Verb::Rebase) => {
+            more_fault(alloc, work, next)
+        }
         Some(Verb::Tick) => first_of(
             time_fault(alloc, work, next)?,
             more_fault(alloc, work, after),
         ),
-        Some(Verb::Sleep | Verb::Post) => {
+        Some(Verb::Sleep | Verb::Post | Verb::End) => {
             first_of(
                 task_fault(alloc, work, next)?,
                 more_fault(alloc, work, after),
@@ -126,15 +140,54 @@ fn operation_fault(alloc: Global, work: Work, cpu: usize, first: usize) -> Found
             )?,
             more_fault(alloc, work, after.saturating_add(1)),
         ),
-        None => {
-            let known = if is_deed { IN_SCRIPTS } else { IN_PROGRAMS };
-            let word_text = told_word(alloc, word)?;
-            let message = format!(in alloc;
-                "unknown operation {word_text}; operations are {known}"
-            )?;
-            found(message, place_of(start, word))
-        }
+        Some(Verb::Set) => task_level_slice_fault(alloc, work, next),
+        Some(Verb::Begin) => first_of(
+            task_level_slice_fault(alloc, work, next)?,
+            begin_fault(alloc, work, cpu, next),
+        ),
+        None => unknown_fault(alloc, work, first),
     }
+}
+
+/// A word that no operation begins with.
+fn unknown_fault(alloc: Global, work: Work, index: usize) -> Found {
+    let (start, word) = word_at(work.text, index);
+    let known = known_words(work);
+    let word_text = told_word(alloc, word)?;
+    let message = format!(in alloc; "unknown operation {word_text}; operations are {known}")?;
+    found(message, place_of(start, word))
+}
+
+/// The fault of a task, a level and a slice, and of what follows them.
+fn task_level_slice_fault(alloc: Global, work: Work, index: usize) -> Found {
+    let level = index.saturating_add(1);
+    let slice = index.saturating_add(2);
+    let behind = index.saturating_add(3);
+    first_of(
+        first_of(
+            first_of(
+                task_fault(alloc, work, index)?,
+                level_fault(alloc, work, level),
+            )?,
+            slice_fault(alloc, work, slice),
+        )?,
+        more_fault(alloc, work, behind),
+    )
+}
+
+/// A task begins at its home alone. Elsewhere the CPU of a deed is meant, and the task of an operation.
+fn begin_fault(alloc: Global, work: Work, cpu: usize, index: usize) -> Found {
+    let (start, task) = word_at(work.text, index);
+    let home = work.machine.home(number(task.as_bytes()).unwrap_or(0));
+    if home == cpu as u64 {
+        return Ok(None);
+    }
+    let message = format!(in alloc; "task {task} begins at its home, CPU {home}")?;
+    let (start, word) = match work.cpu {
+        Some(_) => (start, task),
+        None => word_at(work.text, 0),
+    };
+    found(message, place_of(start, word))
 }
 
 /// The fault of a wake, as `0 wake 3 from 1`.
@@ -259,6 +312,24 @@ fn level_fault(alloc: Global, work: Work, index: usize) -> Found {
     let word_text = told_word(alloc, word)?;
     let message = format!(in alloc;
         "a nice level is a number from -20 to 19, and {word_text} is none"
+    )?;
+    found(message, place_of(start, word))
+}
+
+fn slice_fault(alloc: Global, work: Work, index: usize) -> Found {
+    let (start, word) = word_at(work.text, index);
+    match number(word.as_bytes()) {
+        Some(slice) if Slice::new(slice).is_some() => return Ok(None),
+        None if word.starts_with("0") && is_of_digits(word) => return zero_fault(
+            alloc, start, word,
+        ),
+        _ => {}
+    }
+    let least = Slice::MIN.get();
+    let most = Slice::MAX.get();
+    let word_text = told_word(alloc, word)?;
+    let message = format!(in alloc;
+        "a slice is a number of nanoseconds from {least} to {most}, and {word_text} is none"
     )?;
     found(message, place_of(start, word))
 }

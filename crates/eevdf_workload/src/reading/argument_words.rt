@@ -1,12 +1,12 @@
 ghost use Rattle.std.specs.Prelude.{◌≡◌, option_and_then, option_map};
-ghost use Rattle.eevdf_workload.specs.Words.{fitting, only_cpu, only_level, only_number, only_task, only_time, only_word};
+ghost use Rattle.eevdf_workload.specs.Words.{fitting, only_cpu, only_level, only_number, only_slice, only_task, only_time, only_word};
 
 use crate::reading::level_text::level;
 use crate::reading::word_list::Words;
 use crate::version::Limits;
 use eevdf_ops::CpuId;
 use eevdf_queue::TaskId;
-use eevdf_weight::{Nice, Ns};
+use eevdf_weight::{Nice, Ns, Slice};
 
 /// The CPU that the only word numbers.
 pub(crate) fn only_cpu(limits: Limits, words: Words) -> Option<CpuId>
@@ -34,6 +34,13 @@ pub(crate) fn only_level(words: Words) -> Option<Nice>
     ensures { result ≡ only_level words.entry }
 {
     level(only_word(words)?)
+}
+
+/// The slice that the only word numbers.
+pub(crate) fn only_slice(words: Words) -> Option<Slice>
+    ensures { result ≡ only_slice words.entry }
+{
+    Slice::new(only_number(words)?)
 }
 
 // The number that is the only word.

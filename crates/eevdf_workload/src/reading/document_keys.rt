@@ -23,6 +23,7 @@ fn version_of(value: &Value) -> Result<Version, LoadFault>
     match value.as_integer() {
         Some(1) => Ok(Version::One),
         Some(2) => Ok(Version::Two),
+        Some(3) => Ok(Version::Three),
         _ => Err(LoadFault::BadValue { key: Key::Version }),
     }
 }

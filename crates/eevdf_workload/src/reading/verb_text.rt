@@ -12,6 +12,10 @@ pub(crate) enum Verb {
     Drain,
     Pull,
     Renice,
+    Begin,
+    End,
+    Set,
+    Rebase,
 }
 
 impl Verb {
@@ -28,6 +32,10 @@ impl Verb {
             b"drain" => Some(Verb::Drain),
             b"pull" => Some(Verb::Pull),
             b"renice" => Some(Verb::Renice),
+            b"begin" => Some(Verb::Begin),
+            b"end" => Some(Verb::End),
+            b"set" => Some(Verb::Set),
+            b"rebase" => Some(Verb::Rebase),
             _ => None,
         }
     }

@@ -31,3 +31,15 @@ returns-in-drain c = as_read c.args.word.now (codes "drain") (omega arith) (sear
 
 pub returns-in-renice : goal.returns-in-renice
 returns-in-renice c = as_read c.args.word.now (codes "renice") (omega arith) (search rules)
+
+pub returns-in-begin : goal.returns-in-begin
+returns-in-begin c = as_read c.args.word.now (codes "begin") (omega arith) (search rules)
+
+pub returns-in-end : goal.returns-in-end
+returns-in-end c = as_read c.args.word.now (codes "end") (omega arith) (search rules)
+
+pub returns-in-set : goal.returns-in-set
+returns-in-set c = as_read c.args.word.now (codes "set") (omega arith) (search rules)
+
+pub returns-in-rebase : goal.returns-in-rebase
+returns-in-rebase c = as_read c.args.word.now (codes "rebase") (omega arith) (search rules)

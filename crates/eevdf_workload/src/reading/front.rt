@@ -1,0 +1,169 @@
+//! The front of a document: the members `version` and `order` that stand before all else in it. Each is read by itself, so that
+//! no tree is made of them.
+
+ghost use Rattle.std.specs.Prelude.{◌≡◌, ◌<◌, ◌==◌, false, [], Some, length, slice_index, string_bytes, IfErr, IfOk, IfSome};
+ghost use Rattle.eevdf_workload.specs.Fronts.{member_key, member_value, value_in, version_value, BeginsWith};
+ghost use Rattle.eevdf_workload.specs.declared.load_fault.LoadFault.TheVariants.{Memory};
+ghost use Rattle.toml.specs.Parse as parse;
+ghost use Rattle.toml.specs.Tables.{key_value};
+
+use crate::load_fault::LoadFault;
+use crate::reading::plain_values::{number_at, order_at, plain};
+use crate::version::Version;
+use std::alloc::Global;
+use toml_parser::text::{first, skip, skip_blank, skip_ws};
+use toml_parser::{Key, dotted_key};
+
+/// What the front of a document has, and what stands behind it.
+#[derive(Drop)]
+pub(crate) struct Front<'a> {
+    pub(crate) version: Option<Version>,
+    pub(crate) order: Option<Vec<usize>>,
+    pub(crate) left: &'a str,
+}
+
+/// A member of the front.
+#[derive(Drop)]
+pub(crate) enum Member {
+    Version(Version),
+    Order(Vec<usize>),
+}
+
+/// The front of a document. It ends where no member of it stands, or one that it has already. `None` where a byte order mark may
+/// stand before it or behind it.
+pub(crate) fn front_of(alloc: Global, text: &str) -> Result<Option<Front>, LoadFault>
+    ensures value { IfOk result (λ found. IfSome found (λ f.
+        BeginsWith (value_in f.version f.order) f.left.now text.now)) }
+    ensures memory { IfErr result (λ e. e ≡ Memory) }
+{
+    let mut version = None;
+    let mut order = None;
+    let mut left = text;
+    'members: loop {
+        let Some((member, after)) = member_at(alloc, skip_blank(left, true))? else {
+            break;
+        };
+        match member {
+            Member::Version(found) => {
+                if version.is_some() {
+                    break;
+                }
+                version = Some(found);
+            }
+            Member::Order(found) => {
+                if order.is_some() {
+                    break;
+                }
+                order = Some(found);
+            }
+        }
+        left = after;
+    }
+    if is_mark(first(text)) || is_mark(first(left)) {
+        return Ok(None);
+    }
+    Ok(Some(Front {
+        version,
+        order,
+        left,
+    }))
+}
+
+/// Whether a byte order mark may begin with a byte.
+fn is_mark(byte: u8) -> bool
+    ensures { result ≡ byte == 0xEF }
+{
+    byte == 0xEF
+}
+
+/// The member at the front of a text, on a line of its own, and what stands behind it.
+fn member_at(alloc: Global, text: &str) -> Result<Option<(Member, &str)>, LoadFault>
+    ensures value { IfOk result (λ found. IfSome found (λ p.
+        parse.line text.now ≡ Some ((([], member_key p.0), key_value (member_value p.0)), p.1.now))) }
+    ensures shorter { IfOk result (λ found. IfSome found (λ p. length p.1.now < length text.now)) }
+    ensures memory { IfErr result (λ e. e ≡ Memory) }
+{
+    let Some((key, value)) = key_at(alloc, text)? else {
+        return Ok(None);
+    };
+    let Some((member, after)) = member_of(alloc, key.as_str(), value)? else {
+        return Ok(None);
+    };
+    if ends_line(skip_ws(after)) {
+        Ok(Some((member, after)))
+    } else {
+        Ok(None)
+    }
+}
+
+/// Whether a line may end at the front of a text.
+fn ends_line(text: &str) -> bool
+    ensures { result ≡ parse.ends_line text.now }
+{
+    text.is_empty() || matches!(first(text), b'#' | b'\n' | b'\r')
+}
+
+/// A key without dots at the front of a text, which is no header, and where its value stands.
+fn key_at(alloc: Global, text: &str) -> Result<Option<(String, &str)>, LoadFault>
+    ensures value { IfOk result (λ found. IfSome found (λ p.
+        parse.key_equals text.now ≡ Some (([], string_bytes p.0), p.1.now))) }
+    ensures pair { IfOk result (λ found. IfSome found (λ _. (slice_index text.now 0 == 91) ≡ false)) }
+    ensures shorter { IfOk result (λ found. IfSome found (λ p. length p.1.now < length text.now)) }
+    ensures memory { IfErr result (λ e. e ≡ Memory) }
+{
+    if first(text) == b'[' {
+        return Ok(None);
+    }
+    let Some((key, after)) = plain(dotted_key(alloc, text))? else {
+        return Ok(None);
+    };
+    let Key { path, last } = key;
+    if !path.is_empty() || first(after) != b'=' {
+        return Ok(None);
+    }
+    Ok(Some((last, skip_ws(skip(after, 1)))))
+}
+
+/// The member of this key, of which the value stands at the front of a text, and what stands behind it.
+fn member_of<'a>(
+    alloc: Global,
+    key: &str,
+    text: &'a str,
+) -> Result<Option<(Member, &'a str)>, LoadFault>
+    ensures key { IfOk result (λ found. IfSome found (λ p. key.now ≡ member_key p.0)) }
+    ensures value { IfOk result (λ found. IfSome found (λ p.
+        parse.val 80 text.now ≡ Some (member_value p.0, p.1.now))) }
+    ensures shorter { IfOk result (λ found. IfSome found (λ p. length p.1.now < length text.now)) }
+    ensures memory { IfErr result (λ e. e ≡ Memory) }
+{
+    match key {
+        "version" => {
+            let Some((version, after)) = version_at(alloc, text)? else {
+                return Ok(None);
+            };
+            Ok(Some((Member::Version(version), after)))
+        }
+        "order" => {
+            let Some((order, after)) = order_at(alloc, text)? else {
+                return Ok(None);
+            };
+            Ok(Some((Member::Order(order), after)))
+        }
+        _ => Ok(None),
+    }
+}
+
+/// The version at the front of a text, and what stands behind it.
+fn version_at(alloc: Global, text: &str) -> Result<Option<(Version, &str)>, LoadFault>
+    ensures value { IfOk result (λ found. IfSome found (λ p.
+        parse.val 80 text.now ≡ Some (version_value p.0, p.1.now))) }
+    ensures shorter { IfOk result (λ found. IfSome found (λ p. length p.1.now < length text.now)) }
+    ensures memory { IfErr result (λ e. e ≡ Memory) }
+{
+    match number_at(alloc, text)? {
+        Some((1, after)) => Ok(Some((Version::One, after))),
+        Some((2, after)) => Ok(Some((Version::Two, after))),
+        Some((3, after)) => Ok(Some((Version::Three, after))),
+        _ => Ok(None),
+    }
+}
