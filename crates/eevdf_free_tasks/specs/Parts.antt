@@ -1,0 +1,82 @@
+-- The parts of the free numbers, one for each CPU, and what goes from one part to another.
+use Rattle.std.specs.Prelude.{◌≡◌, ◌≢◌, ◌<◌, ◌++◌, ℕ, true, List, [], ◌∷◌, length, slice_index_or, slice_set}
+use Rattle.std.specs.List.{All}
+use Rattle.eevdf_ops.specs.Setup.{Setup, homes_of, home_of, is_task}
+use Rattle.eevdf_free_tasks.specs.Slots.{slot_of, first_slots, given_back, with_taken, NoneFree}
+use Rattle.eevdf_free_tasks.specs.declared.slot.Slot.{Slot}
+use Rattle.eevdf_free_tasks.specs.declared.slot.Slot.TheVariants.{Free, Taken}
+
+-- the part of a CPU: the homes of all numbers, its own numbers, what it has sent to each home, and what it has received from each sender
+pub record Part : Type 0 where
+  pub cpu : ℕ
+  pub homes : List ℕ
+  pub own : List Slot
+  pub sent : List (List ℕ)
+  pub received : List (List ℕ)
+
+-- a home's numbers after several are given back, one after the other
+abbrev pub all_given_back : List Slot → List ℕ → List Slot
+all_given_back slots [] = slots
+all_given_back slots (task ∷ tasks) = all_given_back (given_back slots task) tasks
+
+-- numbers more were received from one sender, and each was given back
+pub record HasCome (before after : List ℕ) (own own_after : List Slot) : Type 0 where
+  pub came : List ℕ
+  pub received : after ≡ before ++ came
+  pub own_is : own_after ≡ all_given_back own came
+
+-- each of the first lists goes on with one of the others
+abbrev pub appended : List (List ℕ) → List (List ℕ) → List (List ℕ)
+appended lists [] = lists
+appended [] (more ∷ mores) = []
+appended (list ∷ lists) (more ∷ mores) = (list ++ more) ∷ appended lists mores
+
+abbrev pub concatenated : List (List ℕ) → List ℕ
+concatenated [] = []
+concatenated (list ∷ lists) = list ++ concatenated lists
+
+-- numbers more were received from each of the first so many senders, one sender after the other, and each was given back
+pub record HaveCome (senders : ℕ) (before after : List (List ℕ)) (own own_after : List Slot) : Type 0 where
+  pub came : List (List ℕ)
+  pub each : length came ≡ senders
+  pub received : after ≡ appended before came
+  pub own_is : own_after ≡ all_given_back own (concatenated came)
+
+-- a number is taken from a part, after those that came back from so many senders if none was free before
+pub record HasTaken (task : ℕ) (before after : Part) : Type 0 where
+  pub senders : ℕ
+  pub now : List Slot
+  pub come : HaveCome senders before.received after.received before.own now
+  pub was_free : slot_of now task ≡ Free
+  pub after_is : after ≡ record before { own = with_taken now task; received = after.received }
+
+-- all that was seen of what came back was given back, and no number is free
+pub record HasNone (before after : Part) : Type 0 where
+  pub come : HaveCome (length before.received) before.received after.received before.own after.own
+  pub none : NoneFree after.own
+  pub after_is : after ≡ record before { own = after.own; received = after.received }
+
+-- a number is given back at its home, or sent there
+abbrev pub sent_to : Part → ℕ → List ℕ
+sent_to part home = slice_index_or part.sent home []
+
+abbrev pub with_sent : Part → ℕ → ℕ → Part
+with_sent part home task = record part { sent = slice_set part.sent home (sent_to part home ++ task ∷ []) }
+
+pub record HasGiven (task : ℕ) (before after : Part) : Type 0 where
+  pub task_is : is_task before.homes task ≡ true
+  pub own : home_of before.homes task ≡ before.cpu → (slot_of before.own task ≡ Taken) × (after ≡ record before { own = given_back before.own task })
+  pub away : home_of before.homes task ≢ before.cpu → after ≡ with_sent before (home_of before.homes task) task
+
+-- the part of a CPU that has neither sent nor received
+pub record IsFresh (setup : Setup) (cpu : ℕ) (part : Part) : Type 0 where
+  pub cpu_is : part.cpu ≡ cpu
+  pub homes_are : part.homes ≡ homes_of setup
+  pub own_is : part.own ≡ first_slots cpu setup
+  pub none_sent : All (λ l. l ≡ []) part.sent
+  pub none_received : All (λ l. l ≡ []) part.received
+
+-- the parts of so many CPUs, in order
+pub record AreFresh (setup : Setup) (cpus : ℕ) (parts : List Part) : Type 0 where
+  pub count : length parts ≡ cpus
+  pub each : (cpu : ℕ) (part : Part) → cpu < cpus → slice_index_or parts cpu part ≡ part → IsFresh setup cpu part
