@@ -99,7 +99,7 @@ fn sleep_and_ask<N: Names, R: Wait>(rt: &R, fleet: &Fleet<N>, seat: &mut Seat<N>
 
 /// Pulls a task from the most loaded of the other CPUs. The load may have changed since the look; the pull decides anew, under the locks
 /// of both queues, and answers `Nothing` or `Balanced` where no task comes.
-fn pull_from_most_loaded<N: Names, R: Wait>(rt: &R, fleet: &Fleet<N>, seat: &mut Seat<N>)
+pub fn pull_from_most_loaded<N: Names, R: Wait>(rt: &R, fleet: &Fleet<N>, seat: &mut Seat<N>)
     ensures { seat.new.cpu ≡ seat.old.cpu }
 {
     if let Some(source) = most_loaded(rt, fleet, seat)

@@ -8,6 +8,8 @@ mod one_history;
 mod one_queue;
 mod own_order;
 mod park;
+mod pool;
+mod start_line;
 mod tickless;
 mod two_queues;
 mod two_threads;
@@ -19,6 +21,7 @@ use crate::one_history::tell_picks;
 use crate::one_queue::{add, one_queue};
 use crate::own_order::{last_first, pull_and_picks};
 use crate::park::{four_cpus, units_taken};
+use crate::pool::{four_pool_cpus, served};
 use crate::tickless::tickless;
 use crate::two_queues::pull;
 use crate::two_threads::sleep_and_wake;
@@ -43,7 +46,8 @@ fn main(rt: HostRuntime) -> io::Result<()> {
     show_two_threads(&rt)?;
     show_idle_pulls(&rt)?;
     show_one_history(&rt)?;
-    show_park(&rt)
+    show_park(&rt)?;
+    show_pool(&rt)
 }
 
 fn show_one_queue(rt: &(impl Print + AllocGlobal)) -> io::Result<()> {
@@ -232,6 +236,27 @@ fn show_park(rt: &(impl Print + AllocGlobal + Threads + Wait + Sync)) -> io::Res
         Err(RunFault::Start) => return Err(io::Error::from(io::ErrorKind::WouldBlock)),
     }
     Ok(())
+}
+
+fn show_pool(rt: &(impl Print + AllocGlobal + Threads + Wait + Sync)) -> io::Result<()> {
+    println!(rt; "pool of work")?;
+    let Ok(setup) = four_pool_cpus(rt.alloc()) else {
+        return Err(out_of_memory());
+    };
+    let count = match served(rt, rt.alloc(), &setup) {
+        Ok(count) => count,
+        Err(RunFault::Memory) => return Err(out_of_memory()),
+        Err(RunFault::Start) => return Err(io::Error::from(io::ErrorKind::WouldBlock)),
+    };
+    println!(rt; "{} of {} requests came", count.came, count.requests)?;
+    println!(rt;
+        "{} of their tasks have ended or stand in a queue",
+        count.found
+    )?;
+    println!(rt;
+        "{} of {} numbers are free or in use",
+        count.kept, count.numbers
+    )
 }
 
 /// Of the setups of these programs nothing but memory can be refused.

@@ -16,6 +16,7 @@ ghost use Rattle.eevdf_ops.specs.Setup.{homes_of, is_task};
 ghost use Rattle.eevdf_fleet.specs.Fleets.{setup_of};
 
 use crate::idle_pulls::empty_programs;
+use crate::start_line::StartLine;
 use eevdf_fleet::endless::{Fleet, Kit, Seat, SeatTurn, run_turns};
 use eevdf_fleet::{DrainedWake, Names, RunFault};
 use eevdf_ops::{Answer, CpuId, Setup, SetupFault, TaskSpec};
@@ -57,11 +58,14 @@ struct OnCpu {
     /// The task that works, and for how many turns more. Meanwhile the next unit is put down, and its wake comes too early.
     worker: Option<TaskId>,
     turns_left: u64,
+    /// How many turns it has had, with those in which it waited for the other CPUs to start.
+    all_turns: u64,
 }
 
 /// The turns of CPUs whose tasks park, and what the threads share.
 #[derive(Drop)]
 pub struct Parking {
+    start_line: StartLine,
     tasks: Vec<Parked>,
     /// What each CPU has of its own. No other CPU takes its lock.
     on_cpus: Vec<Mutex<OnCpu>>,
@@ -81,6 +85,9 @@ impl SeatTurn for Parking {
             return ControlFlow::Break(());
         };
         let mut own = own.lock(rt);
+        if let Some(flow) = self.start_line.wait(&mut own.all_turns) {
+            return flow;
+        }
         self.settle_next(rt, fleet, seat, &mut own.wakes);
         self.put_unit_down(fleet, seat, seat.cpu().get());
         self.put_unit_down(fleet, seat, seat.cpu().get() + 4);
@@ -113,9 +120,11 @@ impl Parking {
                 wakes: Vec::with_capacity(alloc, cpus)?,
                 worker: None,
                 turns_left: 0,
+                all_turns: 0,
             }))?;
         }
         Ok(Parking {
+            start_line: StartLine::new(cpus as u64),
             tasks,
             on_cpus,
             taken: AtomicU64::new(0),

@@ -1,0 +1,80 @@
+use crate::pool::task_list::TaskList;
+use eevdf_free_tasks::FreePart;
+use eevdf_ops::CpuId;
+use eevdf_queue::TaskId;
+use std::alloc::{AllocError, Global};
+use std::sync::Mutex;
+use std::sync::atomic::AtomicU64;
+
+/// How many CPUs there are. The homes of the numbers are the CPUs in turn.
+pub const CPUS: usize = 4;
+
+/// How many numbers there are.
+pub const NUMBERS: usize = 128;
+
+/// What the threads share of a CPU.
+#[derive(Drop)]
+pub struct PoolCpu {
+    /// How many requests were handed to it and wait.
+    pub handed: AtomicU64,
+    /// The tasks of its home that have fallen asleep.
+    pub fallen: TaskList,
+    /// Those of these that have got another level, which other tasks may wake.
+    pub waiting: TaskList,
+    /// What no other CPU takes the lock of.
+    pub own: Mutex<OnCpu>,
+}
+
+/// What a CPU has of its own.
+#[derive(Drop)]
+pub struct OnCpu {
+    /// Its part of the free numbers.
+    pub free: FreePart,
+    /// How many turns it has had, which are the seconds on its clock.
+    pub turns: u64,
+    /// How many requests it has seen come to all CPUs, and how many turns it has had since the last of them.
+    requests: u64,
+    pub quiet_turns: u64,
+    /// How many turns it has had, with those in which it waited for the other CPUs to start.
+    pub all_turns: u64,
+}
+
+impl OnCpu {
+    /// Sees that so many requests have come to all CPUs.
+    pub fn look_for_requests(&mut self, requests: u64) {
+        if requests == self.requests {
+            self.quiet_turns = self.quiet_turns.saturating_add(1);
+        } else {
+            self.requests = requests;
+            self.quiet_turns = 0;
+        }
+    }
+}
+
+impl PoolCpu {
+    /// A CPU with this part of the free numbers, to which nothing has come yet.
+    pub fn new(alloc: Global, free: FreePart) -> Result<PoolCpu, AllocError> {
+        Ok(PoolCpu {
+            handed: AtomicU64::new(0),
+            fallen: TaskList::new(alloc, NUMBERS)?,
+            waiting: TaskList::new(alloc, NUMBERS)?,
+            own: Mutex::new(OnCpu {
+                free,
+                turns: 0,
+                requests: 0,
+                quiet_turns: 0,
+                all_turns: 0,
+            }),
+        })
+    }
+}
+
+/// The place of the CPU after this one.
+pub fn next_index(cpu: CpuId) -> usize {
+    (cpu.index() + 1) % CPUS
+}
+
+/// The place of a task's home.
+pub fn home_index(task: TaskId) -> usize {
+    task.index() % CPUS
+}
