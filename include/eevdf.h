@@ -31,6 +31,8 @@
  *   - from eevdf_open to eevdf_close only these calls read or write the queue's bytes, one call at
  *     a time, but that it may be moved, and there are no two copies of which both are used; the
  *     same holds of a hand from eevdf_hand_open to eevdf_hand_close;
+ *   - `block` points to an eevdf_block of the caller's own that nobody else uses during the call;
+ *     its `at` is NULL, or leads to EEVDF_TASK_SIZE bytes of the caller's own, aligned to 8;
  *   - `out`, `time`, `lag` and `by` point to an object of the caller's own that is no part of a
  *     queue or a hand, and that nobody else uses during the call. The proofs take it for
  *     initialised, whatever its bytes: write to it once, as by `int64_t time = 0;`, before the
@@ -119,7 +121,7 @@ extern "C" {
  * MAJOR where a program may have to be changed; as long as it is 0, MINOR stands for it too.
  */
 #define EEVDF_VERSION_MAJOR 0
-#define EEVDF_VERSION_MINOR 4
+#define EEVDF_VERSION_MINOR 5
 #define EEVDF_VERSION_PATCH 0
 #define EEVDF_VERSION \
 	(EEVDF_VERSION_MAJOR * 1000000 + EEVDF_VERSION_MINOR * 1000 + EEVDF_VERSION_PATCH)
@@ -146,8 +148,8 @@ extern "C" {
 /* The errors. */
 enum {
 	EEVDF_ABSENT = -2,     /* there is no such task here, nobody runs, or the hand is empty */
-	EEVDF_NO_MEMORY = -12, /* the caller's function for memory gave none */
-	EEVDF_BUSY = -16,      /* the hand holds a task */
+	EEVDF_NO_MEMORY = -12, /* the caller's function for memory gave none, or `at` is NULL */
+	EEVDF_BUSY = -16,      /* the hand holds a task, or `at` of the block isn't NULL */
 	EEVDF_PRESENT = -17,   /* the task is here already */
 	EEVDF_INVALID = -22,   /* a number is out of its limits */
 	EEVDF_RANGE = -34      /* a virtual time would leave its range */
@@ -162,6 +164,11 @@ typedef struct eevdf_queue {
 typedef struct eevdf_hand {
 	EEVDF_ALIGNED unsigned char bytes[EEVDF_HAND_SIZE];
 } eevdf_hand;
+
+/* A block of memory for one task, which `at` leads to, or none, where it is NULL. */
+typedef struct eevdf_block {
+	void *at;
+} eevdf_block;
 
 /*
  * What a queue knows of a runnable task: its virtual runtime and deadline, its nice level, and its
@@ -198,6 +205,7 @@ typedef struct eevdf_parcel {
 
 EEVDF_ASSERT(sizeof(eevdf_queue) == EEVDF_QUEUE_SIZE, "a queue has padding");
 EEVDF_ASSERT(sizeof(eevdf_hand) == EEVDF_HAND_SIZE, "a hand has padding");
+EEVDF_ASSERT(sizeof(eevdf_block) == 8, "a block has padding");
 EEVDF_ASSERT(sizeof(eevdf_entry) == 32, "an entry has padding");
 EEVDF_ASSERT(sizeof(eevdf_sleeper) == 24, "what is kept of a sleeping task has padding");
 EEVDF_ASSERT(sizeof(eevdf_parcel) == 40, "what a task in a hand has has padding");
@@ -215,8 +223,9 @@ typedef struct eevdf_memory {
 /*
  * The two functions for memory, which the caller defines, or takes over malloc and free from
  * libeevdf_malloc.a. The library asks for one block in eevdf_admit, of EEVDF_TASK_SIZE bytes
- * aligned to 8, and gives it back where the task ends; a block inside the caller's own struct of
- * the task will do. A block belongs to the library until it is given back.
+ * aligned to 8, and gives one back where a task ends. That need not be this task's: tasks of a queue
+ * change places in their blocks. A block belongs to the library until it is given back itself, so
+ * one inside the caller's own struct of a task will do where that struct stays as long.
  * eevdf_alloc is called by eevdf_admit alone, and eevdf_dealloc by eevdf_end, eevdf_close,
  * eevdf_hand_close, and eevdf_admit where it answers RANGE. They are called under whatever lock the
  * caller of these holds, of eevdf_hand_close perhaps none, and where there are several queues, on
@@ -282,6 +291,18 @@ void eevdf_close(eevdf_queue *queue);
  */
 int64_t eevdf_admit(eevdf_queue *queue, uint64_t task, int64_t nice, uint64_t slice_ns,
 		    int64_t start);
+
+/*
+ * A new task as by eevdf_admit, in the block that `block` leads to: the library asks for none. The
+ * block is the library's then, and `at` is NULL. Answers 0. On an error the caller has the block as
+ * before. Such a task may be ended by eevdf_end_out, and also by the calls that give memory back by
+ * eevdf_dealloc, which is then called for a block that eevdf_alloc hasn't given.
+ * Lock: the queue's. Interrupts: yes.
+ * INVALID: task, nice, slice_ns or start is out of its limits. PRESENT: the task is here, runnable
+ * or asleep. NO_MEMORY: `at` is NULL. RANGE: its deadline would leave the range.
+ */
+int64_t eevdf_admit_in(eevdf_queue *queue, eevdf_block *block, uint64_t task, int64_t nice,
+		       uint64_t slice_ns, int64_t start);
 
 /*
  * Lets the eligible task of earliest deadline run, the lower number of equal ones, and answers it.
@@ -362,6 +383,17 @@ int64_t eevdf_wake(eevdf_queue *queue, uint64_t task);
  * Lock: the queue's. Interrupts: as memory. INVALID: no number of a task. ABSENT: it isn't here.
  */
 int64_t eevdf_end(eevdf_queue *queue, uint64_t task);
+
+/*
+ * Ends a task as by eevdf_end, and gives a block of memory to the caller, to which `at` of `block`
+ * leads then: the library calls no eevdf_dealloc. Answers 0.
+ * It need not be the block that the task came in: tasks of a queue change places in the blocks that
+ * they came in, and a hand takes along the block that the task is in. So a block inside the
+ * caller's struct of a task stays in use until it is given back itself, at whichever task's end.
+ * Lock: the queue's. Interrupts: yes.
+ * INVALID: no number of a task. BUSY: `at` isn't NULL. ABSENT: it isn't here.
+ */
+int64_t eevdf_end_out(eevdf_queue *queue, eevdf_block *block, uint64_t task);
 
 /*
  * Gives a runnable task another nice level, and rescales its lag. Whoever ran runs on. Answers 0.

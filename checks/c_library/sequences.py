@@ -12,6 +12,8 @@ from tools import SANITIZED, TOP, runner
 
 CALLS, SANITIZED_CALLS = 100000, 10000
 ERRORS = "ABSENT", "NO_MEMORY", "BUSY", "PRESENT", "INVALID", "RANGE"
+# The calls that no sequence names: callers/play.c makes them in the place of `admit` and `end`, and callers/blocks.c comes to their errors.
+UNNAMED = {"admit_in", "end_out"}
 # A comment of the header with the call that it belongs to.
 DECLARED = re.compile(r"/\*((?:(?!\*/).)*)\*/\nint64_t eevdf_(\w+)\(", re.DOTALL)
 
@@ -19,7 +21,8 @@ DECLARED = re.compile(r"/\*((?:(?!\*/).)*)\*/\nint64_t eevdf_(\w+)\(", re.DOTALL
 def documented():
     """Which calls can answer which errors, as the header says."""
     header = (TOP / "include" / "eevdf.h").read_text()
-    return {(name, error) for text, name in DECLARED.findall(header) for error in ERRORS if re.search(rf"\b{error}:", text)}
+    declared = [(text, name) for text, name in DECLARED.findall(header) if name not in UNNAMED]
+    return {(name, error) for text, name in declared for error in ERRORS if re.search(rf"\b{error}:", text)}
 
 
 def named(errors):

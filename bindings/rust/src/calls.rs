@@ -4,6 +4,12 @@ use crate::hand::Parcel;
 use crate::queue::{Entry, Sleeper};
 use core::ffi::c_void;
 
+/// Memory for a task, or none, where it is null.
+#[repr(C)]
+pub struct Block {
+    pub at: *mut c_void,
+}
+
 extern "C" {
     pub fn eevdf_version() -> i64;
     pub fn eevdf_queue_size() -> i64;
@@ -11,6 +17,7 @@ extern "C" {
     pub fn eevdf_open(queue: *mut c_void);
     pub fn eevdf_close(queue: *mut c_void);
     pub fn eevdf_admit(queue: *mut c_void, task: u64, nice: i64, slice_ns: u64, start: i64) -> i64;
+    pub fn eevdf_admit_in(queue: *mut c_void, block: *mut Block, task: u64, nice: i64, slice_ns: u64, start: i64) -> i64;
     pub fn eevdf_pick(queue: *mut c_void) -> i64;
     pub fn eevdf_peek(queue: *const c_void) -> i64;
     pub fn eevdf_tick(queue: *mut c_void, ns: u64) -> i64;
@@ -20,6 +27,7 @@ extern "C" {
     pub fn eevdf_sleep(queue: *mut c_void, task: u64) -> i64;
     pub fn eevdf_wake(queue: *mut c_void, task: u64) -> i64;
     pub fn eevdf_end(queue: *mut c_void, task: u64) -> i64;
+    pub fn eevdf_end_out(queue: *mut c_void, block: *mut Block, task: u64) -> i64;
     pub fn eevdf_renice(queue: *mut c_void, task: u64, nice: i64) -> i64;
     pub fn eevdf_set_slice(queue: *mut c_void, task: u64, slice_ns: u64) -> i64;
     pub fn eevdf_set(queue: *mut c_void, task: u64, nice: i64, slice_ns: u64) -> i64;

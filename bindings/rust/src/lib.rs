@@ -74,11 +74,11 @@ mod queue;
 
 pub use error::{Error, Result};
 pub use hand::{Hand, Parcel};
-pub use memory::{HandMemory, QueueMemory};
+pub use memory::{HandMemory, QueueMemory, TaskMemory};
 pub use queue::{Entry, Queue, Sleeper};
 
 /// The version of the library that the crate is written for.
-const VERSION: i64 = 4000;
+const VERSION: i64 = 5000;
 
 /// Of a version, the two numbers that say which programs run over it.
 const fn series(version: i64) -> i64 {

@@ -4,11 +4,11 @@ use crate::calls;
 use crate::check_library;
 use crate::error::{checked, done, Result};
 use crate::hand::Hand;
-use crate::memory::QueueMemory;
+use crate::memory::{QueueMemory, TaskMemory};
 use core::ffi::c_void;
 use core::fmt;
 use core::marker::PhantomData;
-use core::ptr::NonNull;
+use core::ptr::{null_mut, NonNull};
 
 #[cfg(feature = "alloc")]
 use alloc::boxed::Box;
@@ -98,6 +98,21 @@ impl<'a> Queue<'a> {
         done(unsafe { calls::eevdf_admit(self.at.as_ptr(), task, nice, slice_ns, start) })
     }
 
+    /// Makes a new task runnable as [`Queue::admit`] does, in memory of the caller's, so that none is asked for. On an error the caller has
+    /// it as before.
+    ///
+    /// `Invalid`, `Present`, or `Range`.
+    ///
+    /// # Safety
+    ///
+    /// Until [`Queue::end_out`] gives it back, of whichever task and whichever queue to which tasks of this one may go, nobody else uses the
+    /// memory. Where a task ends otherwise, as by [`Queue::end`] or where a queue or a hand is dropped with tasks in it, `eevdf_dealloc` gets
+    /// such memory, and has to take it; that of the feature `malloc` doesn't.
+    pub unsafe fn admit_in(&mut self, memory: NonNull<TaskMemory>, task: u64, nice: i64, slice_ns: u64, start: i64) -> Result<()> {
+        let mut block = calls::Block { at: memory.as_ptr().cast() };
+        done(unsafe { calls::eevdf_admit_in(self.at.as_ptr(), &mut block, task, nice, slice_ns, start) })
+    }
+
     /// Lets the eligible task of earliest deadline run. `None` where nothing is runnable.
     pub fn pick(&mut self) -> Option<u64> {
         checked(unsafe { calls::eevdf_pick(self.at.as_ptr()) }).ok()
@@ -154,6 +169,16 @@ impl<'a> Queue<'a> {
     /// `Absent` where it isn't here.
     pub fn end(&mut self, task: u64) -> Result<()> {
         done(unsafe { calls::eevdf_end(self.at.as_ptr(), task) })
+    }
+
+    /// Ends a task as [`Queue::end`] does, and gives the caller memory in which a task was, which need not be that in which this one came.
+    ///
+    /// `Absent` where it isn't here.
+    pub fn end_out(&mut self, task: u64) -> Result<NonNull<TaskMemory>> {
+        let mut block = calls::Block { at: null_mut() };
+        done(unsafe { calls::eevdf_end_out(self.at.as_ptr(), &mut block, task) })?;
+        // SAFETY: where the call has ended a task it has given its memory
+        Ok(unsafe { NonNull::new_unchecked(block.at.cast()) })
     }
 
     /// Gives a runnable task another nice level, and rescales its lag.

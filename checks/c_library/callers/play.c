@@ -4,6 +4,8 @@
  * its hand where it has them, and its numbers. Besides,
  *   state QUEUE TASKS   prints all that can be read of a queue and its tasks below a number,
  *   refuse 1, refuse 0  let every request for memory be refused from there on, or none.
+ * Every other admit gives the task a block, by eevdf_admit_in, and every other end gets one back, by
+ * eevdf_end_out: they answer as eevdf_admit and eevdf_end, and leave the same state.
  * A changed byte around a queue or a hand ends it with 1.
  */
 #include <eevdf.h>
@@ -99,12 +101,45 @@ static int64_t play_refuse(const struct line *line)
 	return 0;
 }
 
+/* Whether a call is to use blocks that are given: every other time. */
+static bool is_given(void)
+{
+	static unsigned calls_made;
+
+	return calls_made++ % 2 != 0;
+}
+
+static int64_t play_admit_in(const struct line *line)
+{
+	const uint64_t *number = line->number;
+	eevdf_block block = { refuses ? NULL : malloc(EEVDF_TASK_SIZE) };
+	int64_t answer = eevdf_admit_in(queue_of(line), &block, number[1], (int64_t)number[2],
+					number[3], (int64_t)number[4]);
+
+	free(block.at);
+	return answer;
+}
+
 static int64_t play_admit(const struct line *line)
 {
 	const uint64_t *number = line->number;
 
+	if (is_given())
+		return play_admit_in(line);
 	return eevdf_admit(queue_of(line), number[1], (int64_t)number[2], number[3],
 			   (int64_t)number[4]);
+}
+
+static int64_t play_end(const struct line *line)
+{
+	eevdf_block block = { NULL };
+	int64_t answer;
+
+	if (!is_given())
+		return eevdf_end(queue_of(line), line->number[1]);
+	answer = eevdf_end_out(queue_of(line), &block, line->number[1]);
+	free(block.at);
+	return answer;
 }
 
 static int64_t play_tick(const struct line *line)
@@ -241,7 +276,7 @@ static const struct {
 	{ .name = "stop", .change = eevdf_stop },
 	{ .name = "sleep", .change_task = eevdf_sleep },
 	{ .name = "wake", .change_task = eevdf_wake },
-	{ .name = "end", .change_task = eevdf_end },
+	{ .name = "end", .play = play_end },
 	{ .name = "admit", .play = play_admit },
 	{ .name = "renice", .play = play_renice },
 	{ .name = "set_slice", .play = play_set_slice },

@@ -1,6 +1,6 @@
 -- An error of a call leaves what it is lent as it was.
 use Rattle.std.proofs.Common.{◌≡◌, ℕ, subst, ◌∙◌, arith}
-use Rattle.std.specs.Prelude.{ℤ, pos, ◌<ℤ◌, Option}
+use Rattle.std.specs.Prelude.{ℤ, pos, ◌<ℤ◌, Bool, Option}
 use Rattle.eevdf_queue.specs.{State.State, State.Contents}
 use Rattle.eevdf_c.specs.Errors.{KeepsOnError}
 use Rattle.eevdf_c.specs.Turns as turns
@@ -13,6 +13,7 @@ use Rattle.eevdf_c.specs.Attributes as attributes
 use Rattle.eevdf_c.specs.Leaving as leaving
 use Rattle.eevdf_c.specs.Admit as admits
 use Rattle.eevdf_c.specs.Hands as hands
+use Rattle.eevdf_c.specs.Blocks as blocks
 
 -- a call that answers this code and leaves this of what it was lent
 abbrev Keeps : {A : Type 0} → A → ℤ → A → Type 0
@@ -89,3 +90,17 @@ take_any_keeps_queue q h = keeps (λ e. grind arith)
 
 pub take_any_keeps_hand : (q : State) (h : Option Contents) → Keeps h (hands.take_any q h).answer (hands.take_any q h).hand
 take_any_keeps_hand q h = keeps (λ e. grind arith)
+
+pub admit_in_keeps_queue : (q : State) (has : Bool) (number : ℕ) (level : ℤ) (ns : ℕ) (start : ℤ)
+    → Keeps q (blocks.admit q has number level ns start).answer (blocks.admit q has number level ns start).queue
+admit_in_keeps_queue q has number level ns start = keeps (λ e. grind arith)
+
+pub admit_in_keeps_block : (q : State) (has : Bool) (number : ℕ) (level : ℤ) (ns : ℕ) (start : ℤ)
+    → Keeps has (blocks.admit q has number level ns start).answer (blocks.admit q has number level ns start).block
+admit_in_keeps_block q has number level ns start = keeps (λ e. grind arith)
+
+pub end_out_keeps_queue : (q : State) (has : Bool) (number : ℕ) → Keeps q (blocks.end q has number).answer (blocks.end q has number).queue
+end_out_keeps_queue q has number = keeps (λ e. grind arith)
+
+pub end_out_keeps_block : (q : State) (has : Bool) (number : ℕ) → Keeps has (blocks.end q has number).answer (blocks.end q has number).block
+end_out_keeps_block q has number = keeps (λ e. grind arith)

@@ -16,5 +16,6 @@ pub mod EntryOut
 pub mod SleeperOut
 pub mod ParcelOut
 pub mod Errors
+pub mod Blocks
 pub mod Memory
 pub mod Sizes

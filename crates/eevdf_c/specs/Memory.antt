@@ -1,5 +1,5 @@
 -- What lies at the pointers that C hands over.
-use Rattle.std.specs.Prelude.{ℤ, Option}
+use Rattle.std.specs.Prelude.{ℤ, Bool, Option}
 use Rattle.std.specs.Borrow.{Fml, full_share}
 use Rattle.std.specs.Ptr.{Ptr, lies_at, room_at}
 use Rattle.eevdf_queue.specs.State.{State, Contents}
@@ -12,6 +12,7 @@ use Rattle.eevdf_c.specs.contracts.parcel_out.ParcelOut as parcel_type
 use Rattle.eevdf_c.specs.declared.parcel_out.ParcelOut.{ParcelOut}
 use Rattle.eevdf_c.specs.contracts.opened.Opened as opened_type
 use Rattle.eevdf_c.specs.contracts.hand.Hand as hand_type
+use Rattle.eevdf_c.specs.contracts.given_block.GivenBlock as block_type
 
 -- an opened queue, which nobody else uses
 abbrev pub queue_at : Ptr → State → Fml
@@ -28,6 +29,10 @@ hand_at at h = lies_at hand_type.the_row full_share at h
 -- the room of a hand
 abbrev pub room_for_hand : Ptr → Fml
 room_for_hand at = room_at hand_type.the_row at
+
+-- a pointer, which nobody else uses: to memory for a task, with the right to free it, or, where there is no block, null
+abbrev pub block_at : Ptr → Bool → Fml
+block_at at has = lies_at block_type.the_row full_share at has
 
 -- a number of 64 bits, which nobody else uses
 abbrev pub number_at : Ptr → ℤ → Fml

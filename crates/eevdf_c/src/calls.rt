@@ -1,5 +1,6 @@
 //! What each call does, on the queue or the hand itself: its contract gives the code that is answered and the state afterwards.
 
+pub mod blocks;
 pub mod carrying;
 pub mod changing;
 pub mod closing;

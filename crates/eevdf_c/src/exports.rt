@@ -1,5 +1,6 @@
 //! What C calls, one line each: the pointers become references, and the work is done by [`crate::calls`].
 
+pub mod blocks;
 pub mod hands;
 pub mod opening;
 pub mod readers;

@@ -14,6 +14,7 @@ mod calls;
 mod codes;
 mod entry_out;
 mod exports;
+mod given_block;
 mod hand;
 mod moving;
 mod opened;

@@ -53,3 +53,5 @@ pub mod LoweredLists
 pub mod LoweredMaps
 mod LoweredQueues
 mod LoweredStores
+mod Rooms
+mod Spots

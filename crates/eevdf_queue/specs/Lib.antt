@@ -38,3 +38,4 @@ pub mod Rebase
 pub mod TreeLowering
 pub mod LoweredQueues
 pub mod Texts
+pub mod Spare

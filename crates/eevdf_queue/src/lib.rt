@@ -8,6 +8,7 @@
 #![tactic(auto)]
 
 mod answers;
+mod block;
 mod entry;
 mod lag;
 pub mod laws;
@@ -15,14 +16,17 @@ mod parcel;
 mod queue;
 mod refusal;
 mod request;
+mod room;
 mod running;
 mod sleeper;
 mod sleepers;
+mod spot;
 mod task;
 mod task_id;
 mod tree;
 
 pub use answers::{ReniceAnswer, SetAnswer, TickAnswer, WakeAnswer, YieldAnswer};
+pub use block::Block;
 pub use entry::Entry;
 pub use parcel::Parcel;
 pub use queue::{Offer, Queue, Runnable, Sleeping};

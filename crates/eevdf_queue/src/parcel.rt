@@ -1,9 +1,11 @@
-ghost use Rattle.std.specs.Prelude.{◌≡◌, ◌<◌, IfOk, pos, true};
+ghost use Rattle.std.specs.Prelude.{◌≡◌, ◌<◌, IfOk, IfSome, is_some, pos, true, false};
 ghost use Rattle.eevdf_queue.specs.{Lag.is_lag, Moves.sleeper_of, Numbers.number_limit, SliceChange.contents_with_slice};
 ghost use Rattle.eevdf_queue.specs.Attributes as attributes;
 ghost use Rattle.eevdf_queue.specs.TaskLists.{first_task, contents_of, IsLone};
 
+use crate::block::Block;
 use crate::entry::Entry;
+use crate::room::Room;
 use crate::sleeper::Sleeper;
 use crate::task::{Task, sleeper_of};
 use crate::task_id::TaskId;
@@ -62,21 +64,32 @@ impl Parcel {
         ensures { IfOk result
             (λ p. p ≡ record { task = task; nice = nice; slice = slice; start = v; lag = pos 0 }) }
     {
-        let entry = Entry {
-            v,
-            d: v,
-            nice,
-            slice,
-        };
-        let node = Box::new(
-            alloc,
-            TreeNode::new(Task {
-                number: task,
-                entry,
-                lag: 0,
-            }),
-        )?;
+        let node = Box::new(alloc, TreeNode::new(beginning(task, nice, slice, v)))?;
         Ok(Parcel { node })
+    }
+
+    /// The same in a block of the caller's, which is gone then. `None` where there is none. Takes no memory besides.
+    ///
+    /// The allocator is that to which [`Parcel::retire`] gives the block back; [`Parcel::retire_into`] gives it to the caller.
+    pub fn make_in(
+        alloc: Global,
+        block: &mut Block,
+        task: TaskId,
+        nice: Nice,
+        slice: Slice,
+        v: i64,
+    ) -> Option<Parcel>
+        ensures some { is_some result ≡ block.old }
+        ensures parcel { IfSome result
+            (λ p. p ≡ record { task = task; nice = nice; slice = slice; start = v; lag = pos 0 }) }
+        ensures block { block.new ≡ false }
+    {
+        match block.take(alloc) {
+            Some(room) => Some(Parcel {
+                node: room.fill(TreeNode::new(beginning(task, nice, slice, v))),
+            }),
+            None => None,
+        }
     }
 
     /// The number of the task.
@@ -118,6 +131,16 @@ impl Parcel {
     /// Ends the task, and frees its node.
     pub fn retire(self) {
         let Parcel { node: _ } = self;
+    }
+
+    /// Ends the task, and gives its node's memory to the caller. It need not be the block that the task came in: a task may leave
+    /// in a node that came with another.
+    pub fn retire_into(self, block: &mut Block)
+        requires { block.old ≡ false }
+        ensures { block.new ≡ true }
+    {
+        let Parcel { node } = self;
+        block.put(Room::of(node));
     }
 
     /// The same task, to start at the virtual runtime `v`.
@@ -208,5 +231,25 @@ impl Parcel {
         ensures { result ≡ contents_of (first_task node.value.tasks) }
     {
         Parcel { node }
+    }
+}
+
+/// A task that starts at the virtual runtime `v` with the lag 0.
+fn beginning(task: TaskId, nice: Nice, slice: Slice, v: i64) -> Task
+    ensures number { result.number ≡ task }
+    ensures v { result.entry.v ≡ v }
+    ensures nice { result.entry.nice ≡ nice }
+    ensures slice { result.entry.slice ≡ slice }
+    ensures lag { result.lag ≡ pos 0 }
+{
+    Task {
+        number: task,
+        entry: Entry {
+            v,
+            d: v,
+            nice,
+            slice,
+        },
+        lag: 0,
     }
 }

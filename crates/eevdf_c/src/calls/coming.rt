@@ -12,11 +12,11 @@ use eevdf_weight::{Nice, Slice, is_in_range};
 
 /// A task as its numbers give it.
 #[derive(Clone, Copy)]
-struct NewTask {
-    task: TaskId,
-    nice: Nice,
-    slice: Slice,
-    start: i64,
+pub struct NewTask {
+    pub(crate) task: TaskId,
+    pub(crate) nice: Nice,
+    pub(crate) slice: Slice,
+    pub(crate) start: i64,
 }
 
 /// Makes a task runnable that starts at a virtual runtime, with a fresh request.
@@ -35,7 +35,7 @@ pub fn admit(opened: &mut Opened, number: u64, level: i64, slice_ns: u64, start:
 }
 
 /// The task that the numbers give, where each is in its range.
-fn checked(number: u64, level: i64, slice_ns: u64, start: i64) -> Option<NewTask>
+pub fn checked(number: u64, level: i64, slice_ns: u64, start: i64) -> Option<NewTask>
     ensures { option_map (λ n. admits.contents n.task n.nice n.slice n.start) result
         ≡ admits.checked_contents number level slice_ns start }
 {
