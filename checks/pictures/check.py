@@ -93,7 +93,7 @@ def check_drawn(checks, first):
         data = made.drawn(seed)
         checks.attempt(f"seed {seed}", check_script, checks, data)
         checks.attempt(f"a window of seed {seed}", check_window, checks, data)
-        checks.attempt(f"an order of seed {seed}", check_order, checks, cases.replay(Random(seed), 2).data)
+        checks.attempt(f"an order of seed {seed}", check_order, checks, cases.replay(Random(seed), 3).data)
 
 
 def check_window(checks, data):

@@ -8,26 +8,32 @@ def task_text(home, nice, length, start, asleep):
 
 
 def workload(cpus, tasks, script):
-    """A workload of version 2 without programs."""
+    """A workload of version 3 without programs."""
     deeds = "".join(f'"{deed}",\n' for deed in script)
-    return f"version = 2\nprogram = [{'[], ' * cpus}]\nscript = [\n{deeds}]\n{''.join(tasks)}".encode()
+    return f"version = 3\nprogram = [{'[], ' * cpus}]\nscript = [\n{deeds}]\n{''.join(tasks)}".encode()
 
 
 def drawn_deed(dice, cpus, homes):
-    """Picks and ticks come more often; sleeps and wakes name any task, so some of them are refused."""
+    """Picks and ticks come more often; deeds that name a task name any, so some of them are refused."""
     cpu, task = dice.randrange(cpus), dice.randrange(len(homes))
-    kind = dice.choice(("pick", "pick", "tick", "tick", "tick", "sleep", "wake", "wake", "pull", "renice", "yield"))
+    kind = dice.choice(("pick", "pick", "pick", "tick", "tick", "tick", "tick", "sleep", "wake", "wake", "wake", "pull", "renice", "yield",
+                        "begin", "end", "set", "rebase"))
+    given = f"{task} {dice.randrange(-20, 20)} {dice.randrange(100000, 9000000)}"
     if kind == "tick":
         return f"{cpu} tick {dice.choice((1, 1000, 250000, dice.randrange(1, 5000000)))}"
-    if kind == "sleep":
-        return f"{cpu} sleep {task}"
+    if kind in ("sleep", "end"):
+        return f"{cpu} {kind} {task}"
+    if kind == "begin":
+        return f"{homes[task]} begin {given}"
+    if kind == "set":
+        return f"{cpu} set {given}"
     if kind == "wake":
         return f"{homes[task]} wake {task} from {dice.randrange(cpus)}"
     if kind == "renice":
         return f"{cpu} renice {task} {dice.randrange(-20, 20)}"
     if kind == "pull" and cpus > 1:
         return f"{cpu} pull {dice.choice([other for other in range(cpus) if other != cpu])}"
-    return f"{cpu} yield" if kind == "yield" else f"{cpu} pick"
+    return f"{cpu} {kind}" if kind in ("yield", "rebase") else f"{cpu} pick"
 
 
 def drawn(seed):

@@ -53,6 +53,10 @@ class CpuFigures:
     pulls_out: int = 0
 
 
+# The deeds that find a task asleep, and their answers then.
+FINDS = {"wake": "woken", "begin": "begun", "set": "set"}
+
+
 def lag_in_ns(queue, task):
     """Rounded towards 0."""
     service = queue.lag_of(task) * weight_of(queue.runnable[task].nice)
@@ -97,14 +101,12 @@ class Timeline:
         return queue.load(), lags + [(task, sleeper.lag) for task, sleeper in queue.asleep.items()]
 
     def note(self, cpu, time, load, lags):
-        """Notes what a CPU has at a time. A lag of a time before the last one isn't noted, nor the same twice."""
+        """Notes what a CPU has at a time."""
         self.looked[cpu] = time
         if load != self.loads[cpu][-1][1]:
             self.loads[cpu].append((time, load))
         for task, lag in lags:
-            points = self.points[task]
-            if not points or time >= points[-1][0] and (time, lag) != points[-1]:
-                points.append((time, lag))
+            self.points[task].append((time, lag))
 
     def note_lags(self, cpus):
         for cpu in cpus:
@@ -112,10 +114,10 @@ class Timeline:
                 self.tasks[task].lags.append(lag_in_ns(self.queues[cpu], task))
 
     def begin_of(self, cpu, deed):
-        """A pull isn't before what its source has done, and a wake isn't before the sleep."""
+        """A pull isn't before what its source has done, and what finds a task asleep isn't before the task fell asleep or ended."""
         if deed[0] == "pull":
             return max(self.clocks[cpu], self.clocks[deed[1]])
-        if deed[0] == "wake" and deed[1] in self.queues[cpu].asleep:
+        if deed[0] in FINDS and deed[1] in self.queues[cpu].asleep:
             return max(self.clocks[cpu], self.slept.get(deed[1], 0))
         return self.clocks[cpu]
 
@@ -128,7 +130,7 @@ class Timeline:
         running = self.queues[cpu].running
         before = self.state(cpu)
         answer = whole(self.setup, self.queues, cpu, deed)
-        if deed[0] == "wake" and answer != "woken":
+        if answer != FINDS.get(deed[0], answer):
             begin = self.clocks[cpu]
         took = deed[1] if deed[0] == "tick" and answer != "range" else 0
         moment = Moment(cpu, deed, answer, begin, begin + took, other)
@@ -144,12 +146,12 @@ class Timeline:
         self.note_lags({cpu, deed[1]} if deed[0] == "pull" else {cpu})
 
     def stretch(self, moment):
-        task = moment.charged()
-        if moment.answer.startswith("slept"):
+        task, at = moment.charged(), self.open.get(moment.cpu)
+        has_ended = moment.answer == "ended" and at is not None and self.stretches[at][1] == moment.deed[1]
+        if moment.answer.startswith("slept") or has_ended:
             self.open[moment.cpu] = None
         if task is None:
             return
-        at = self.open.get(moment.cpu)
         if at is not None and self.stretches[at][1] == task and self.stretches[at][3] == moment.begin:
             self.stretches[at] = (*self.stretches[at][:3], moment.end)
             return
@@ -169,7 +171,7 @@ class Timeline:
         elif words[0] == "pulled":
             cpu.pulls_in += 1
             self.cpus[moment.deed[1]].pulls_out += 1
-        elif words[0] == "slept":
+        elif words[0] in ("slept", "ended"):
             self.slept[moment.deed[1]] = moment.begin
         elif words[0] == "woken":
             self.woken[moment.deed[1]] = moment.begin
@@ -190,13 +192,21 @@ class Timeline:
             self.tasks[task].waits.append(time - self.woken.pop(task))
 
 
+def shown(points, begin, end):
+    """Of these points those of this time. One before the last of them isn't shown, nor is the same twice."""
+    last = None
+    for point in points:
+        if begin <= point[0] <= end and (last is None or point[0] >= last[0] and point != last):
+            last = point
+            yield point
+
+
 def kept(points, begin, end):
     """Of these points those that a curve of this time has: in each of 220 parts of the time the first, the least, the greatest and the
     last."""
     parts = defaultdict(list)
-    for time, lag in points:
-        if begin <= time <= end:
-            parts[220 * (time - begin) // (end - begin) if end > begin else 0].append((time, lag))
+    for time, lag in shown(points, begin, end):
+        parts[220 * (time - begin) // (end - begin) if end > begin else 0].append((time, lag))
     for part in parts.values():
         if len(part) <= 4:
             yield from part
@@ -212,7 +222,7 @@ def sign_of(moment, running):
     if word == "picked":
         return "same" if running == int(moment.answer.split()[1]) else "pick"
     return {"charged": None, "yielded": "yield", "slept": "sleep", "woken": "wake", "pulled": "pull",
-            "reniced": "renice"}.get(word, "refused")
+            "reniced": "renice", "begun": "begin", "ended": "end", "set": "set", "rebased": "rebase"}.get(word, "refused")
 
 
 def signs_of(moments):
@@ -222,7 +232,7 @@ def signs_of(moments):
         yield sign_of(moment, running.get(moment.cpu))
         if moment.answer.startswith("picked"):
             running[moment.cpu] = int(moment.answer.split()[1])
-        if moment.answer.startswith("slept"):
+        if moment.answer.startswith("slept") or moment.answer == "ended" and running.get(moment.cpu) == moment.deed[1]:
             running[moment.cpu] = None
 
 

@@ -3,7 +3,7 @@
 from dataclasses import dataclass
 from itertools import groupby
 
-from model import Moment, kept, signs_of
+from model import Moment, kept, shown, signs_of
 
 MOST_CURVES = 16
 # Of more stretches than these those are joined that begin in one part of a lane.
@@ -29,7 +29,7 @@ class View:
                                 key=lambda stretch: (stretch[0], stretch[2]))
         self.moments = [(moment, sign) for moment, sign in zip(timeline.moments, signs_of(timeline.moments))
                         if moment.cpu in self.cpus and begin <= moment.begin <= end]
-        looks = [[time for time, _ in points if begin <= time <= end] for points in timeline.points[:MOST_CURVES]]
+        looks = [list(shown(points, begin, end)) for points in timeline.points[:MOST_CURVES]]
         self.curves = {task: list(kept(points, begin, end)) for task, points in enumerate(timeline.points[:MOST_CURVES])}
         self.is_thinned = any(len(curve) < len(times) for curve, times in zip(self.curves.values(), looks))
 

@@ -19,13 +19,21 @@ pub enum Sign {
     Wake,
     Pull,
     Renice,
+    /// A task begins.
+    Begin,
+    /// A task ends.
+    End,
+    /// A task gets a nice level and a slice.
+    Set,
+    /// All virtual times of the CPU are lowered by one number, which may be 0.
+    Rebase,
     /// A deed that was refused, or that found nothing to do.
     Refused,
 }
 
 impl Sign {
     /// The signs with their words, in the order of the legend.
-    pub const ALL: [(Sign, &'static str); 8] = [
+    pub const ALL: [(Sign, &'static str); 12] = [
         (Sign::Pick, "pick"),
         (Sign::SamePick, "pick of the same"),
         (Sign::Wake, "wake"),
@@ -34,6 +42,10 @@ impl Sign {
         (Sign::Renice, "renice"),
         (Sign::Yield, "yield"),
         (Sign::Refused, "refused or idle"),
+        (Sign::Begin, "begin"),
+        (Sign::End, "end"),
+        (Sign::Set, "set"),
+        (Sign::Rebase, "rebase"),
     ];
 }
 
@@ -48,6 +60,10 @@ impl fmt::Display for Sign {
             Sign::Wake => "wake",
             Sign::Pull => "pull",
             Sign::Renice => "renice",
+            Sign::Begin => "begin",
+            Sign::End => "end",
+            Sign::Set => "set",
+            Sign::Rebase => "rebase",
             Sign::Refused => "refused",
         })
     }
@@ -64,7 +80,17 @@ pub(crate) fn sign_of(moment: &Moment, running: Option<TaskId>) -> Option<Sign> 
         Answer::Woken => Sign::Wake,
         Answer::Pulled(_) => Sign::Pull,
         Answer::Reniced => Sign::Renice,
-        _ => Sign::Refused,
+        Answer::Begun => Sign::Begin,
+        Answer::Ended => Sign::End,
+        Answer::Set => Sign::Set,
+        Answer::Rebased(_) => Sign::Rebase,
+        Answer::Idle
+        | Answer::NotRunning
+        | Answer::Awake
+        | Answer::Balanced
+        | Answer::Nothing
+        | Answer::Range
+        | Answer::NotHere => Sign::Refused,
     })
 }
 
@@ -73,6 +99,7 @@ pub(crate) fn running_after(moment: &Moment, running: Option<TaskId>) -> Option<
     match moment.line.answer {
         Answer::Picked(task) => Some(task),
         Answer::Slept(_) => None,
+        Answer::Ended if running == named_task(moment.line.deed) => None,
         _ => running,
     }
 }

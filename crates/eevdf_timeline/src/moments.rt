@@ -41,9 +41,32 @@ pub(crate) fn named_task(deed: Deed) -> Option<TaskId> {
     }
 }
 
+/// The task that a deed charges.
+pub(crate) fn charged_task(moment: &Moment) -> Option<TaskId> {
+    match moment.line.answer {
+        Answer::Charged { task, .. } => Some(task),
+        _ => None,
+    }
+}
+
+/// Whether a deed lowers the virtual times of its CPU.
+pub(crate) fn is_rebase(moment: &Moment) -> bool {
+    matches!(moment.line.answer, Answer::Rebased(_))
+}
+
+/// The task that a deed takes from its queue or puts into one, or that joins its queue again.
+pub(crate) fn moved_task(moment: &Moment) -> Option<TaskId> {
+    match moment.line.answer {
+        Answer::Pulled(task) => Some(task),
+        Answer::Slept(_) | Answer::Woken | Answer::Reniced | Answer::Ended | Answer::Set =>
+            named_task(moment.line.deed),
+        _ => None,
+    }
+}
+
 /// The lines of a history with their times. Each CPU has a clock, which its ticks move on, charged or idle. Before a pull it moves on
-/// to the clock of the source, and before a wake to the moment at which the task fell asleep, where it is behind: the CPU has
-/// waited until then.
+/// to the clock of the source, and before a deed that finds a task asleep to the moment at which it fell asleep or ended, where it is
+/// behind: the CPU has waited until then.
 pub fn timed(
     alloc: Global,
     cpus: usize,
@@ -60,7 +83,7 @@ pub fn timed(
     Ok(moments)
 }
 
-/// The clock of each CPU, and when each task fell asleep last.
+/// The clock of each CPU, and when each task fell asleep or ended last.
 #[derive(Drop)]
 struct Clocks {
     cpus: Vec<u64>,
@@ -96,11 +119,12 @@ impl Clocks {
 
     /// What a deed can't have come before.
     fn earliest(&self, line: &Line) -> u64 {
-        let is_woken = line.answer == Answer::Woken;
-        match line.deed {
-            Deed::Pull { source, .. } => time_at(&self.cpus, source.index()),
-            Deed::Wake { task, .. } if is_woken => time_at(&self.slept, task.index()),
-            _ => 0,
+        if let Deed::Pull { source, .. } = line.deed {
+            return time_at(&self.cpus, source.index());
+        }
+        match found_task(line) {
+            Some(task) => time_at(&self.slept, task.index()),
+            None => 0,
         }
     }
 
@@ -113,10 +137,18 @@ impl Clocks {
     }
 }
 
-/// The task that fell asleep by a line.
+/// The task that fell asleep or ended by a line.
 fn slept_task(line: &Line) -> Option<TaskId> {
     match line.answer {
-        Answer::Slept(_) => named_task(line.deed),
+        Answer::Slept(_) | Answer::Ended => named_task(line.deed),
+        _ => None,
+    }
+}
+
+/// The task that a line found asleep, or may have: one that is set can be runnable, and then its CPU is no earlier anyway.
+fn found_task(line: &Line) -> Option<TaskId> {
+    match line.answer {
+        Answer::Woken | Answer::Begun | Answer::Set => named_task(line.deed),
         _ => None,
     }
 }

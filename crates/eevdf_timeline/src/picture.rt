@@ -39,7 +39,16 @@ const FOOT: u64 = 30;
 /// How far an entry of the legend is from the next one, in units.
 const ENTRY: u64 = 122;
 
-/// The second row of the legend: the arrow, and the boxes that aren't of one chosen task.
+/// So many signs stand in the first row of the legend.
+const IN_FIRST_ROW: usize = 8;
+
+/// So many entries of the second row of the legend are taken by `KEYS`.
+const OF_KEYS: u64 = 3;
+
+/// How far the second row is below the first one, in units.
+const SECOND_ROW: u64 = 18;
+
+/// The beginning of the second row of the legend: the arrow, and the boxes that aren't of one chosen task.
 const KEYS: &str =
     "<path class=\"p\" d=\"M8 90H26\"/><text class=\"s\" x=\"32\" y=\"94\">pulled from</text>
 <rect class=\"b m\" x=\"130\" y=\"84\" width=\"12\" height=\"12\"/><text class=\"s\" x=\"147\" y=\"94\">several stretches</text>
@@ -92,14 +101,23 @@ fn push_head(text: &mut String, scene: &Scene<'_>, height: u64) -> Result<(), Al
 }
 
 fn push_legend(text: &mut String) -> Result<(), AllocError> {
-    let mut place = 16u64;
-    for (sign, word) in Sign::ALL {
+    for (number, (sign, word)) in Sign::ALL.iter().enumerate() {
+        let (row, entry) = if number < IN_FIRST_ROW {
+            (0, number as u64)
+        } else {
+            (
+                SECOND_ROW,
+                OF_KEYS.saturating_add((number - IN_FIRST_ROW) as u64),
+            )
+        };
+        let place = entry.saturating_mul(ENTRY).saturating_add(16);
         let after = place.saturating_add(9);
+        let middle = row.saturating_add(72);
+        let base = row.saturating_add(76);
         writeln!(
             text,
-            "<use href=\"#{sign}\" x=\"{place}\" y=\"72\"/><text class=\"s\" x=\"{after}\" y=\"76\">{word}</text>"
+            "<use href=\"#{sign}\" x=\"{place}\" y=\"{middle}\"/><text class=\"s\" x=\"{after}\" y=\"{base}\">{word}</text>"
         )?;
-        place = place.saturating_add(ENTRY);
     }
     text.push_str(KEYS)
 }

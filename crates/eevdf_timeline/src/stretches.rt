@@ -1,11 +1,11 @@
 //! The stretches that tasks ran.
 
-use crate::moments::Moment;
+use crate::moments::{Moment, named_task};
 use eevdf_ops::{Answer, CpuId};
 use eevdf_queue::TaskId;
 use std::alloc::{AllocError, Global};
 
-/// Ticks of one task on one CPU with no time between them, in which it didn't sleep. Times are in nanoseconds.
+/// Ticks of one task on one CPU with no time between them, in which it neither slept nor ended. Times are in nanoseconds.
 #[derive(Clone, Copy)]
 pub struct Stretch {
     pub cpu: CpuId,
@@ -26,6 +26,7 @@ pub(crate) fn stretches_of(
         match moment.line.answer {
             Answer::Charged { task, .. } => extend(&mut stretches, &mut open, task, moment)?,
             Answer::Slept(_) => set_open(&mut open, moment.line.deed.cpu(), None),
+            Answer::Ended => close(&stretches, &mut open, moment),
             _ => {}
         }
     }
@@ -54,6 +55,18 @@ fn extend(
         end,
     })?;
     Ok(())
+}
+
+/// Ends the last stretch of a CPU where it is that of the task that ended.
+fn close(stretches: &[Stretch], open: &mut [Option<usize>], moment: &Moment) {
+    let cpu = moment.line.deed.cpu();
+    let last = open.get(cpu.index()).copied().flatten();
+    let ran = last
+        .and_then(|at| stretches.get(at))
+        .map(|stretch| stretch.task);
+    if ran.is_some() && ran == named_task(moment.line.deed) {
+        set_open(open, cpu, None);
+    }
 }
 
 /// Makes a stretch longer where it is the task's and ends as the tick begins, and says whether it is.

@@ -1,7 +1,7 @@
 //! What is counted of a history, as its deeds are done once more.
 
 use crate::figures::counted::{CpuCounts, Since, TaskCounts};
-use crate::moments::{Moment, do_again, named_task};
+use crate::moments::{Moment, charged_task, do_again, is_rebase, moved_task, named_task};
 use crate::progress::Progress;
 use eevdf_ops::{Answer, CpuId, Deed, Setup, Solo};
 use eevdf_queue::{Entry, TaskId};
@@ -78,8 +78,11 @@ impl Counts {
         Ok(())
     }
 
-    /// Ends what was so of the task that a deed charges or moves.
+    /// Ends what was so of the task that a deed charges or moves, and at a rebase of all tasks of its CPU.
     fn end_states(&mut self, moment: &Moment) {
+        if is_rebase(moment) {
+            self.note_lags(moment.line.deed.cpu());
+        }
         if let Some(task) = charged_task(moment) {
             self.note_lag(task);
         }
@@ -91,6 +94,9 @@ impl Counts {
     /// Begins what is so of it after the deed.
     fn begin_states(&mut self, solo: &Solo, moment: &Moment, place: usize) {
         let cpu = moment.line.deed.cpu();
+        if is_rebase(moment) {
+            self.renew_all(solo, cpu, place);
+        }
         if let Some(task) = charged_task(moment) {
             self.renew(solo, task, cpu, place);
         }
@@ -151,6 +157,25 @@ impl Counts {
         }
     }
 
+    /// Does so for all tasks of a CPU.
+    fn note_lags(&mut self, cpu: CpuId) {
+        for place in 0..self.tasks.len() {
+            if let Some(task) = self.task_on(place, cpu) {
+                self.note_lag(task);
+            }
+        }
+    }
+
+    /// The task at a place of the list, where it is runnable on a CPU.
+    fn task_on(&self, place: usize, cpu: CpuId) -> Option<TaskId> {
+        let since = self.tasks.get(place)?.since?;
+        if since.cpu == cpu.index() {
+            TaskId::new(place as u64)
+        } else {
+            None
+        }
+    }
+
     /// Ends the time in which a task, where it is runnable, has its weight on its CPU.
     fn leave(&mut self, task: TaskId) {
         self.note_lag(task);
@@ -192,7 +217,7 @@ impl Counts {
         }
     }
 
-    /// Gives a task the entry that it has after a tick.
+    /// Gives a task the entry that it has after a tick or a rebase.
     fn renew(&mut self, solo: &Solo, task: TaskId, cpu: CpuId, place: usize) {
         let Some(since) = self.since(task) else {
             return;
@@ -206,6 +231,15 @@ impl Counts {
                     ..since
                 },
             );
+        }
+    }
+
+    /// Does so for all tasks of a CPU, after a rebase.
+    fn renew_all(&mut self, solo: &Solo, cpu: CpuId, place: usize) {
+        for number in 0..self.tasks.len() {
+            if let Some(task) = self.task_on(number, cpu) {
+                self.renew(solo, task, cpu, place);
+            }
         }
     }
 
@@ -261,6 +295,9 @@ impl Counts {
             Answer::Slept(_) => {
                 let _ = self.set_running(cpu, None);
             }
+            Answer::Ended if self.running(cpu) == named_task(moment.line.deed) => {
+                let _ = self.set_running(cpu, None);
+            }
             Answer::Woken => self.note_wake(moment),
             _ => {}
         }
@@ -273,6 +310,10 @@ impl Counts {
                 counts.woken = Some(moment.begin);
             }
         }
+    }
+
+    fn running(&self, cpu: CpuId) -> Option<TaskId> {
+        self.cpus.get(cpu.index())?.running
     }
 
     /// Who runs on a CPU from now on; gives who ran before.
@@ -332,20 +373,4 @@ fn lag_in_ns(time: i64, entry: &Entry) -> i64 {
     let lag = time.saturating_sub(entry.v);
     let lag = lag.min(limit).max(0i64.saturating_sub(limit));
     lag.saturating_mul(weight as i64) / 1024
-}
-
-fn charged_task(moment: &Moment) -> Option<TaskId> {
-    match moment.line.answer {
-        Answer::Charged { task, .. } => Some(task),
-        _ => None,
-    }
-}
-
-/// The task that a deed takes from its queue or puts into one.
-fn moved_task(moment: &Moment) -> Option<TaskId> {
-    match moment.line.answer {
-        Answer::Pulled(task) => Some(task),
-        Answer::Slept(_) | Answer::Woken | Answer::Reniced => named_task(moment.line.deed),
-        _ => None,
-    }
 }

@@ -40,6 +40,10 @@ const SHAPES: &str =
 <path id=\"sleep\" d=\"M-4 -3.5L4 -3.5L0 4Z\" fill=\"#0072b2\"/>
 <path id=\"pull\" d=\"M0 -4.5L4.5 0L0 4.5L-4.5 0Z\" fill=\"#d55e00\"/>
 <path id=\"renice\" d=\"M-3.5 -3.5H3.5V3.5H-3.5Z\" fill=\"#cc79a7\" stroke=\"#000\" stroke-width=\".5\"/>
+<path id=\"begin\" d=\"M-1.5 -4H1.5V-1.5H4V1.5H1.5V4H-1.5V1.5H-4V-1.5H-1.5Z\" fill=\"#009e73\"/>
+<path id=\"end\" d=\"M-4 -1.5H4V1.5H-4Z\" fill=\"#0072b2\"/>
+<path id=\"set\" d=\"M-3.5 -3.5H3.5V3.5H-3.5ZM-1.5 -1.5V1.5H1.5V-1.5Z\" fill=\"#cc79a7\" stroke=\"#000\" stroke-width=\".5\"/>
+<path id=\"rebase\" d=\"M-4 3.5H4M0 -4V2M-3 -1L0 2L3 -1\" fill=\"none\" stroke=\"#000\" stroke-width=\"1.6\"/>
 <path id=\"yield\" d=\"M-2.5 -4V4M2.5 -4V4\" fill=\"none\" stroke=\"#000\" stroke-width=\"2\"/>
 <path id=\"refused\" d=\"M-3.5 -3.5L3.5 3.5M-3.5 3.5L3.5 -3.5\" fill=\"none\" stroke=\"#b00\" stroke-width=\"1.6\"/>
 </defs>
