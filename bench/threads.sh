@@ -23,7 +23,7 @@ cpus_a_thread=2
 tasks_a_cpu=64
 threads=(1 2 4)
 mixes=("$@")
-[ $# -gt 0 ] || mixes=(own wakes pulls)
+[ $# -gt 0 ] || mixes=(own wakes pulls comes)
 
 type -P time >/dev/null || { echo "threads.sh: there is no program time (Debian package time)" >&2; exit 3; }
 [ -n "${PROGRAM:-}" ] || ./build fleet_bench

@@ -42,7 +42,7 @@ pub enum WordFault {
     Cpus,
     #[error("TASKS is a number from 1 to 1024")]
     Tasks,
-    #[error("MIX is own, wakes, pulls or all")]
+    #[error("MIX is own, wakes, pulls, comes or all")]
     Mix,
     #[error("OPERATIONS is a number, up to 400000 where a history is kept")]
     Operations,

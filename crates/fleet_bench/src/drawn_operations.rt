@@ -13,6 +13,10 @@ pub struct DrawnOperations {
     mix: Mix,
     cpus: usize,
     tasks: usize,
+    // a task that has begun, and that a post is to wake; whether it is given another level and slice first
+    coming: Option<TaskId>,
+    is_to_set: bool,
+    ghost cpus_some: { 0 < cpus },
     ghost cpus_few: { cpus ≤ 64 },
     ghost tasks_some: { 0 < tasks },
     ghost tasks_few: { tasks ≤ 1024 },
@@ -28,6 +32,8 @@ impl DrawnOperations {
             mix: run.mix,
             cpus: run.cpus(),
             tasks: run.tasks,
+            coming: None,
+            is_to_set: false,
         }
     }
 
@@ -38,6 +44,7 @@ impl DrawnOperations {
             Mix::Own => self.own(kind < 8),
             Mix::Wakes => self.waking(kind, running),
             Mix::Pulls => self.pulling(kind, cpu, running),
+            Mix::Comes => self.coming_and_going(kind, cpu, running),
             Mix::All => self.any(kind, cpu, running),
         }
     }
@@ -67,6 +74,51 @@ impl DrawnOperations {
             (2, Some(task)) => Op::Renice(task, self.draws.nice()),
             _ => self.own(kind < 9),
         }
+    }
+
+    /// As many tasks come as go: of those that begin and are woken, half are runnable already. There are more drains than posts.
+    fn coming_and_going(&mut self, kind: u64, cpu: CpuId, running: Option<TaskId>) -> Op {
+        match kind {
+            0..4 => self.next_of_coming(cpu),
+            4..7 => Op::Drain,
+            7 => running.map_or(Op::Pick, |task| Op::End(task)),
+            _ => self.own(kind < 12),
+        }
+    }
+
+    /// A task begins, one in ten is given another level and slice, and a post wakes it.
+    fn next_of_coming(&mut self, cpu: CpuId) -> Op {
+        let Some(task) = self.coming else {
+            return self.begin(cpu);
+        };
+        if !self.is_to_set {
+            self.coming = None;
+            return Op::Post(task);
+        }
+        if !self.is_home(task, cpu) {
+            return Op::Pick;
+        }
+        self.is_to_set = false;
+        Op::Set(task, self.draws.nice(), self.draws.slice())
+    }
+
+    fn begin(&mut self, cpu: CpuId) -> Op {
+        let task = self.task_at(cpu);
+        self.coming = Some(task);
+        self.is_to_set = self.draws.below(10) == 0;
+        Op::Begin(task, self.draws.nice(), self.draws.slice())
+    }
+
+    /// Whether a task has its home at the CPU, as `drawn_setup` has it: all CPUs have tasks in turn.
+    fn is_home(&self, task: TaskId, cpu: CpuId) -> bool {
+        task.get() % self.cpus as u64 == cpu.get()
+    }
+
+    /// One of the tasks whose home is the CPU.
+    fn task_at(&mut self, cpu: CpuId) -> TaskId {
+        let drawn = self.task();
+        let first = drawn.get().saturating_sub(drawn.get() % self.cpus as u64);
+        TaskId::new(first + cpu.get()).unwrap_or(drawn)
     }
 
     /// There are more posts than sleeps, since most of them find their task awake.
@@ -108,7 +160,7 @@ impl DrawnOperations {
 pub fn running_after(running: Option<TaskId>, answer: Answer) -> Option<TaskId> {
     match answer {
         Answer::Picked(task) => Some(task),
-        Answer::Slept(_) => None,
+        Answer::Slept(_) | Answer::Ended => None,
         _ => running,
     }
 }

@@ -38,6 +38,10 @@ fn drawn_task(draws: &mut Draws, mix: Mix, home: CpuId) -> TaskSpec {
         nice: draws.nice(),
         slice: draws.slice(),
         start: draws.start(),
-        asleep: mix == Mix::All && draws.below(4) == 0,
+        asleep: match mix {
+            Mix::All => draws.below(4) == 0,
+            Mix::Comes => draws.below(2) == 0,
+            Mix::Own | Mix::Wakes | Mix::Pulls => false,
+        },
     }
 }

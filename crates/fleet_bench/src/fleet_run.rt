@@ -103,7 +103,7 @@ pub fn quota(run: &AskedRun) -> usize
     let own = (operations / run.cpus_a_thread as u64) as usize + 1;
     match run.mix {
         Mix::Own | Mix::Pulls => own,
-        Mix::Wakes => 2 * own + 128,
+        Mix::Wakes | Mix::Comes => 2 * own + 128,
         // a drain may take a line for each CPU
         Mix::All => (own * run.cpus()).min(1_000_000),
     }
