@@ -1,10 +1,10 @@
 use eevdf_ops::{CpuId, Op};
 use eevdf_queue::TaskId;
-use eevdf_weight::{Nice, Ns};
+use eevdf_weight::{Nice, Ns, Slice};
 
-/// An operation of each kind on task 0, but for those by which tasks come and go. The pull is from CPU 1 or from CPU 0, and the post comes
-/// twice. It isn't `None`.
-pub fn every_operation(cpu: CpuId) -> Option<[Op; 10]> {
+/// An operation of each kind on task 0. The pull is from CPU 1 or from CPU 0, and a post comes twice where its task sleeps, and once where
+/// it has begun. It isn't `None`.
+pub fn every_operation(cpu: CpuId) -> Option<[Op; 16]> {
     let task = TaskId::new(0)?;
     let source = CpuId::new(if cpu.get() == 0 { 1 } else { 0 })?;
     Some([
@@ -18,5 +18,11 @@ pub fn every_operation(cpu: CpuId) -> Option<[Op; 10]> {
         Op::Post(task),
         Op::Drain,
         Op::Pick,
+        Op::Rebase,
+        Op::Set(task, Nice::new(-5)?, Slice::new(1_000_000)?),
+        Op::End(task),
+        Op::Begin(task, Nice::new(3)?, Slice::new(2_000_000)?),
+        Op::Post(task),
+        Op::Drain,
     ])
 }
