@@ -198,50 +198,16 @@ fn changes_a_parcel(rt: &impl Abort, alloc: Global, queue: &mut Queue) {
     is_asleep(rt, queue, 1, 0, 5, 100_000);
 }
 
-/// What is told of an empty queue.
-#[derive(Clone, Copy)]
-enum Story {
-    SetAlone,
-    SetWaiting,
-    SetRunning,
-    SetAsleep,
-    SetAsleepOwing,
-    SetRefused,
-    Begin,
-    DetachRunnable,
-    Parcel,
-}
-
-const STORIES: [Story; 9] = [
-    Story::SetAlone,
-    Story::SetWaiting,
-    Story::SetRunning,
-    Story::SetAsleep,
-    Story::SetAsleepOwing,
-    Story::SetRefused,
-    Story::Begin,
-    Story::DetachRunnable,
-    Story::Parcel,
-];
-
-fn tell(rt: &impl Abort, alloc: Global, queue: &mut Queue, story: Story) {
-    match story {
-        Story::SetAlone => sets_who_is_alone(rt, alloc, queue),
-        Story::SetWaiting => sets_who_waits(rt, alloc, queue),
-        Story::SetRunning => sets_who_runs(rt, alloc, queue),
-        Story::SetAsleep => sets_who_sleeps(rt, alloc, queue),
-        Story::SetAsleepOwing => sets_who_sleeps_and_owes(rt, alloc, queue),
-        Story::SetRefused => refuses_to_set(rt, alloc, queue),
-        Story::Begin => begins_anew(rt, alloc, queue),
-        Story::DetachRunnable => takes_who_is_runnable(rt, alloc, queue),
-        Story::Parcel => changes_a_parcel(rt, alloc, queue),
-    }
-}
-
 #[test]
 fn a_task_changes_as_is_worked_out(rt: HostRuntime) {
-    for story in STORIES {
-        let mut queue = Queue::open();
-        tell(&rt, rt.alloc(), &mut queue, story);
-    }
+    let (rt, alloc) = (&rt, rt.alloc());
+    sets_who_is_alone(rt, alloc, &mut Queue::open());
+    sets_who_waits(rt, alloc, &mut Queue::open());
+    sets_who_runs(rt, alloc, &mut Queue::open());
+    sets_who_sleeps(rt, alloc, &mut Queue::open());
+    sets_who_sleeps_and_owes(rt, alloc, &mut Queue::open());
+    refuses_to_set(rt, alloc, &mut Queue::open());
+    begins_anew(rt, alloc, &mut Queue::open());
+    takes_who_is_runnable(rt, alloc, &mut Queue::open());
+    changes_a_parcel(rt, alloc, &mut Queue::open());
 }

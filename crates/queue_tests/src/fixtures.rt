@@ -53,11 +53,16 @@ pub fn put_asleep(rt: &impl Abort, queue: &mut Queue, parcel: Parcel) {
 pub fn charge_first_of_two(rt: &impl Abort, alloc: Global, queue: &mut Queue) {
     admit(rt, queue, parcel(rt, alloc, 0, 3_000_000, 0));
     admit(rt, queue, parcel(rt, alloc, 1, 3_000_000, 0));
+    charge_first(rt, queue, false);
+}
+
+/// Picks task 0 and charges it for a million nanoseconds, after which it is to be preempted or not.
+pub fn charge_first(rt: &impl Abort, queue: &mut Queue, resched: bool) {
     let first = task(rt, 0);
     assert_eq!(rt; queue.pick(), Some(first));
     let charged = TickAnswer::Charged {
         task: first,
-        resched: false,
+        resched,
     };
     assert_eq!(rt; queue.tick(ns(rt, 1_000_000)), charged);
 }

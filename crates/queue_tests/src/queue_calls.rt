@@ -1,7 +1,7 @@
 //! Worked values of the calls of one queue.
 
-use crate::fixtures::{admit, attach, charge_first_of_two, ns, parcel, put_asleep, task};
-use eevdf_queue::{Queue, TickAnswer, WakeAnswer, YieldAnswer};
+use crate::fixtures::{admit, attach, charge_first, charge_first_of_two, parcel, put_asleep, task};
+use eevdf_queue::{Queue, WakeAnswer, YieldAnswer};
 use eevdf_weight::{Nice, Slice};
 use std::alloc::Global;
 use std::process::Abort;
@@ -103,49 +103,17 @@ fn offers_who_waits(rt: &impl Abort, alloc: Global, queue: &mut Queue) {
 fn offers_a_lag_at_its_limit(rt: &impl Abort, alloc: Global, queue: &mut Queue) {
     admit(rt, queue, parcel(rt, alloc, 0, 100_000, 0));
     admit(rt, queue, parcel(rt, alloc, 1, 200_000, 0));
-    let first = task(rt, 0);
-    assert_eq!(rt; queue.pick(), Some(first));
-    let charged = TickAnswer::Charged {
-        task: first,
-        resched: true,
-    };
-    assert_eq!(rt; queue.tick(ns(rt, 1_000_000)), charged);
+    charge_first(rt, queue, true);
     assert_eq!(rt; queue.floor_time(), 500_000);
     is_offered(rt, queue, 1, 200_000, 400_000);
 }
 
-/// What is told of an empty queue.
-#[derive(Clone, Copy)]
-enum Story {
-    Sleeper,
-    LeaveAndJoin,
-    SleepAndWake,
-    Offer,
-    OfferAtTheLimit,
-}
-
-const STORIES: [Story; 5] = [
-    Story::Sleeper,
-    Story::LeaveAndJoin,
-    Story::SleepAndWake,
-    Story::Offer,
-    Story::OfferAtTheLimit,
-];
-
-fn tell(rt: &impl Abort, alloc: Global, queue: &mut Queue, story: Story) {
-    match story {
-        Story::Sleeper => sleeps(rt, alloc, queue),
-        Story::LeaveAndJoin => leaves_and_joins(rt, alloc, queue),
-        Story::SleepAndWake => sleeps_and_wakes(rt, alloc, queue),
-        Story::Offer => offers_who_waits(rt, alloc, queue),
-        Story::OfferAtTheLimit => offers_a_lag_at_its_limit(rt, alloc, queue),
-    }
-}
-
 #[test]
 fn a_queue_comes_to_what_is_worked_out(rt: HostRuntime) {
-    for story in STORIES {
-        let mut queue = Queue::open();
-        tell(&rt, rt.alloc(), &mut queue, story);
-    }
+    let (rt, alloc) = (&rt, rt.alloc());
+    sleeps(rt, alloc, &mut Queue::open());
+    leaves_and_joins(rt, alloc, &mut Queue::open());
+    sleeps_and_wakes(rt, alloc, &mut Queue::open());
+    offers_who_waits(rt, alloc, &mut Queue::open());
+    offers_a_lag_at_its_limit(rt, alloc, &mut Queue::open());
 }

@@ -167,40 +167,14 @@ fn takes_long_turn(rt: &impl Abort, queue: &mut Queue, number: u32) {
     assert_eq!(rt; times(rt, queue, u64::from(number)), (1_001_000, deadline));
 }
 
-/// What is told of an empty queue.
-#[derive(Clone, Copy)]
-enum Story {
-    One,
-    ToTheRight,
-    Arrivals(Arrival),
-    Sleepers,
-    Turns,
-}
-
-const STORIES: [Story; 7] = [
-    Story::One,
-    Story::ToTheRight,
-    Story::Arrivals(Arrival::Ascending),
-    Story::Arrivals(Arrival::Descending),
-    Story::Arrivals(Arrival::Alternating),
-    Story::Sleepers,
-    Story::Turns,
-];
-
-fn tell(rt: &impl Abort, alloc: Global, queue: &mut Queue, story: Story) {
-    match story {
-        Story::One => picks_one(rt, alloc, queue),
-        Story::ToTheRight => picks_to_the_right(rt, alloc, queue),
-        Story::Arrivals(arrival) => fills_and_empties(rt, alloc, queue, arrival),
-        Story::Sleepers => sleep_and_wake(rt, alloc, queue),
-        Story::Turns => take_turns(rt, alloc, queue),
-    }
-}
-
 #[test]
 fn tasks_are_picked_in_their_turns(rt: HostRuntime) {
-    for story in STORIES {
-        let mut queue = Queue::open();
-        tell(&rt, rt.alloc(), &mut queue, story);
-    }
+    let (rt, alloc) = (&rt, rt.alloc());
+    picks_one(rt, alloc, &mut Queue::open());
+    picks_to_the_right(rt, alloc, &mut Queue::open());
+    fills_and_empties(rt, alloc, &mut Queue::open(), Arrival::Ascending);
+    fills_and_empties(rt, alloc, &mut Queue::open(), Arrival::Descending);
+    fills_and_empties(rt, alloc, &mut Queue::open(), Arrival::Alternating);
+    sleep_and_wake(rt, alloc, &mut Queue::open());
+    take_turns(rt, alloc, &mut Queue::open());
 }
