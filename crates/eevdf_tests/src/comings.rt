@@ -5,11 +5,10 @@ mod cases;
 mod with_history;
 mod without_history;
 
-use crate::fixtures::{cpu, task};
+use crate::fixtures::{on_two_cpus, task};
 use crate::fleet_calls::seat_call::Call;
-use eevdf_ops::{Setup, TaskSpec};
+use eevdf_ops::Setup;
 use eevdf_queue::Queue;
-use eevdf_weight::{Nice, Slice};
 use std::alloc::Global;
 use std::process::Abort;
 
@@ -39,20 +38,7 @@ struct Case {
 
 /// Two CPUs and three tasks of CPU 0, of nice level 0 and with slices of 3000000 ns. Tasks 0 and 1 begin runnable, task 2 sleeps.
 fn three_tasks(rt: &impl Abort, alloc: Global) -> Setup {
-    let mut tasks = Vec::new(alloc);
-    for number in 0..3 {
-        tasks
-            .push(TaskSpec {
-                home: cpu(rt, 0),
-                nice: Nice::default(),
-                slice: Slice::default(),
-                start: 0,
-                asleep: number == 2,
-            })
-            .expect(rt, "memory");
-    }
-    let programs = vec![in alloc; Vec::new(alloc), Vec::new(alloc)].expect(rt, "memory");
-    Setup::make(alloc, &tasks, &programs).expect(rt, "setup")
+    on_two_cpus(rt, alloc, &[(0, false), (0, false), (0, true)])
 }
 
 /// How the task of a number stands in a queue.

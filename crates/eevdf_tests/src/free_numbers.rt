@@ -1,33 +1,15 @@
 //! Numbers of tasks that are taken and given back, by one home and by parts of several CPUs.
 
-use crate::fixtures::{cpu, task};
+use crate::fixtures::{cpu, on_two_cpus, task};
 use eevdf_free_tasks::{FreeTasks, free_parts};
-use eevdf_ops::{Setup, TaskSpec};
-use eevdf_weight::{Nice, Slice};
-use std::alloc::Global;
-use std::process::Abort;
 
 /// Two CPUs. The even numbers have the first as their home, the odd ones the second, and task 0 is runnable at first.
-fn setup(rt: &impl Abort, alloc: Global) -> Setup {
-    let mut tasks = Vec::new(alloc);
-    for (home, asleep) in [(0, false), (1, true), (0, true), (1, true), (0, true)] {
-        let spec = TaskSpec {
-            home: cpu(rt, home),
-            nice: Nice::default(),
-            slice: Slice::default(),
-            start: 0,
-            asleep,
-        };
-        tasks.push(spec).expect(rt, "memory");
-    }
-    let programs = [Vec::new(alloc), Vec::new(alloc)];
-    Setup::make(alloc, &tasks, &programs).expect(rt, "setup")
-}
+const HOMES: [(u64, bool); 5] = [(0, false), (1, true), (0, true), (1, true), (0, true)];
 
 #[test]
 fn each_number_of_a_home_is_handed_out_once(rt: HostRuntime) {
     let rt = &rt;
-    let setup = setup(rt, rt.alloc());
+    let setup = on_two_cpus(rt, rt.alloc(), &HOMES);
     let mut free = FreeTasks::of_home(rt.alloc(), &setup, cpu(rt, 0)).expect(rt, "memory");
     assert!(rt; free.take() == Some(task(rt, 4)));
     assert!(rt; free.take() == Some(task(rt, 2)));
@@ -46,7 +28,7 @@ fn each_number_of_a_home_is_handed_out_once(rt: HostRuntime) {
 #[test]
 fn a_number_comes_back_from_another_cpu(rt: HostRuntime) {
     let rt = &rt;
-    let setup = setup(rt, rt.alloc());
+    let setup = on_two_cpus(rt, rt.alloc(), &HOMES);
     let mut parts = free_parts(rt.alloc(), &setup).expect(rt, "memory");
     let mut second = parts.pop().expect(rt, "two parts");
     let mut first = parts.pop().expect(rt, "two parts");

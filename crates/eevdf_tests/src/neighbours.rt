@@ -4,11 +4,10 @@
 mod with_history;
 mod without_history;
 
-use crate::fixtures::{cpu, task};
+use crate::fixtures::{setup_of, task, task_at};
 use crate::fleet_calls::seat_call::Call;
 use eevdf_fleet::{Drained, Operated};
-use eevdf_ops::{Answer, Setup, TaskSpec};
-use eevdf_weight::{Nice, Slice};
+use eevdf_ops::{Answer, Setup};
 use std::alloc::Global;
 use std::process::Abort;
 
@@ -18,34 +17,30 @@ const CPUS: u64 = 64;
 /// The CPUs whose calls are tried.
 const TRIED: [u64; 8] = [0, 1, 2, 4, 8, 16, 32, 63];
 
-/// The CPUs beside a CPU, without those that aren't there.
-fn neighbours(cpu: u64) -> [Option<u64>; 2] {
-    let above = cpu.saturating_add(1);
-    [
-        cpu.checked_sub(1),
-        if above < CPUS { Some(above) } else { None },
-    ]
+/// Each CPU whose calls are tried, with each of the CPUs beside it.
+fn pairs(rt: &impl Abort, alloc: Global) -> Vec<(u64, u64)> {
+    let mut pairs = Vec::new(alloc);
+    for cpu in TRIED {
+        let above = cpu.saturating_add(1);
+        if let Some(below) = cpu.checked_sub(1) {
+            pairs.push((cpu, below)).expect(rt, "memory");
+        }
+        if above < CPUS {
+            pairs.push((cpu, above)).expect(rt, "memory");
+        }
+    }
+    pairs
 }
 
 /// A setup with two runnable tasks of nice level 0 on each CPU.
 fn two_tasks_each(rt: &impl Abort, alloc: Global) -> Setup {
     let mut tasks = Vec::new(alloc);
-    let mut programs = Vec::new(alloc);
     for number in 0..CPUS.saturating_mul(2) {
         tasks
-            .push(TaskSpec {
-                home: cpu(rt, number % CPUS),
-                nice: Nice::default(),
-                slice: Slice::default(),
-                start: 0,
-                asleep: false,
-            })
+            .push(task_at(rt, number % CPUS, false))
             .expect(rt, "memory");
     }
-    for _cpu in 0..CPUS {
-        programs.push(Vec::new(alloc)).expect(rt, "memory");
-    }
-    Setup::make(alloc, &tasks, &programs).expect(rt, "setup")
+    setup_of(rt, alloc, &tasks, CPUS as usize, 0)
 }
 
 fn picked(rt: &impl Abort, number: u64) -> Operated {

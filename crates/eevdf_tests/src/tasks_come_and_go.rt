@@ -1,27 +1,15 @@
 //! Tasks that begin and end under the numbers of a machine, get other levels and slices, and virtual times that are lowered.
 
-use crate::fixtures::{cpu, task};
-use eevdf_ops::{Answer, CpuId, Deed, Setup, Solo, TaskSpec};
-use eevdf_queue::{Entry, Sleeper, TaskId};
+use crate::fixtures::{cpu, on_two_cpus, task};
+use eevdf_ops::{Answer, CpuId, Deed, Solo};
+use eevdf_queue::{Entry, Queue, Sleeper};
 use eevdf_weight::{Nice, Ns, Slice};
 use std::alloc::Global;
 use std::process::Abort;
 
 /// Two CPUs and three tasks with the first as their home: task 0 is runnable, tasks 1 and 2 sleep.
 fn machine(rt: &impl Abort, alloc: Global) -> Solo {
-    let mut tasks = Vec::new(alloc);
-    for asleep in [false, true, true] {
-        let spec = TaskSpec {
-            home: cpu(rt, 0),
-            nice: Nice::default(),
-            slice: Slice::default(),
-            start: 0,
-            asleep,
-        };
-        tasks.push(spec).expect(rt, "memory");
-    }
-    let programs = [Vec::new(alloc), Vec::new(alloc)];
-    let setup = Setup::make(alloc, &tasks, &programs).expect(rt, "setup");
+    let setup = on_two_cpus(rt, alloc, &[(0, false), (0, true), (0, true)]);
     Solo::open(alloc, &setup).expect(rt, "memory")
 }
 
@@ -65,32 +53,16 @@ fn tick(rt: &impl Abort, ns: u64) -> Deed {
     }
 }
 
-/// What is kept of a task that sleeps on a CPU.
-fn sleeper(solo: &Solo, cpu: CpuId, task: TaskId) -> Option<Sleeper> {
-    if solo.has_cpu(cpu) {
-        solo.queue(cpu).sleeper(task)
-    } else {
-        None
-    }
-}
-
-/// The entry of a task that is runnable on a CPU.
-fn entry_on(solo: &Solo, cpu: CpuId, task: TaskId) -> Option<Entry> {
-    if solo.has_cpu(cpu) {
-        solo.queue(cpu).entry(task)
-    } else {
-        None
-    }
+/// The queue of a CPU.
+fn queue_of<'a>(rt: &impl Abort, solo: &'a Solo, cpu: CpuId) -> &'a Queue {
+    assert!(rt; solo.has_cpu(cpu));
+    solo.queue(cpu)
 }
 
 /// Whether nobody runs on a CPU, and how many tasks are runnable there.
-fn idle_with(solo: &Solo, cpu: CpuId) -> Option<(bool, usize)> {
-    if solo.has_cpu(cpu) {
-        let queue = solo.queue(cpu);
-        Some((queue.running().is_none(), queue.len()))
-    } else {
-        None
-    }
+fn idle_with(rt: &impl Abort, solo: &Solo, cpu: CpuId) -> (bool, usize) {
+    let queue = queue_of(rt, solo, cpu);
+    (queue.running().is_none(), queue.len())
 }
 
 fn entry(rt: &impl Abort, v: i64, d: i64, nice: i64, slice: u64) -> Entry {
@@ -120,11 +92,15 @@ fn a_number_begins_wakes_and_ends(rt: HostRuntime) {
     assert!(rt; solo.try_apply(begin(rt, 0, 1, 5, 6_000_000)) == Some(Answer::Begun));
     assert!(rt; solo.try_apply(begin(rt, 0, 0, 5, 6_000_000)) == Some(Answer::Awake));
     assert!(rt; solo.try_apply(begin(rt, 1, 2, 5, 6_000_000)).is_none());
-    assert!(rt; sleeper(&solo, home, task(rt, 1)) == Some(asleep(rt, 0, 5, 6_000_000)));
+    assert!(rt;
+        queue_of(rt, &solo, home).sleeper(task(rt, 1)) == Some(asleep(rt, 0, 5, 6_000_000))
+    );
 
     // 6000000 ns at the weight 335 of level 5 are 18340298 units.
     assert!(rt; solo.try_apply(wake(rt, 1)) == Some(Answer::Woken));
-    assert!(rt; entry_on(&solo, home, task(rt, 1)) == Some(entry(rt, 0, 18_340_298, 5, 6_000_000)));
+    assert!(rt;
+        queue_of(rt, &solo, home).entry(task(rt, 1)) == Some(entry(rt, 0, 18_340_298, 5, 6_000_000))
+    );
 
     // The running task ends, and its number keeps its level and slice, without a lag.
     assert!(rt; solo.try_apply(Deed::Pick { cpu: home }) == Some(Answer::Picked(task(rt, 0))));
@@ -137,8 +113,10 @@ fn a_number_begins_wakes_and_ends(rt: HostRuntime) {
     );
     assert!(rt; solo.try_apply(end(rt, 0, 0)) == Some(Answer::Ended));
     assert!(rt; solo.try_apply(end(rt, 0, 0)) == Some(Answer::NotHere));
-    assert!(rt; idle_with(&solo, home) == Some((true, 1)));
-    assert!(rt; sleeper(&solo, home, task(rt, 0)) == Some(asleep(rt, 0, 0, 3_000_000)));
+    assert!(rt; idle_with(rt, &solo, home) == (true, 1));
+    assert!(rt;
+        queue_of(rt, &solo, home).sleeper(task(rt, 0)) == Some(asleep(rt, 0, 0, 3_000_000))
+    );
 }
 
 #[test]
@@ -157,8 +135,10 @@ fn a_task_that_was_pulled_ends_at_its_home(rt: HostRuntime) {
     // It waits on the other CPU, and no deed of its home ends it.
     assert!(rt; solo.try_apply(end(rt, 0, 2)) == Some(Answer::NotHere));
     assert!(rt; solo.try_apply(end(rt, 1, 2)) == Some(Answer::Ended));
-    assert!(rt; idle_with(&solo, other) == Some((true, 0)));
-    assert!(rt; sleeper(&solo, home, task(rt, 2)) == Some(asleep(rt, 0, 0, 3_000_000)));
+    assert!(rt; idle_with(rt, &solo, other) == (true, 0));
+    assert!(rt;
+        queue_of(rt, &solo, home).sleeper(task(rt, 2)) == Some(asleep(rt, 0, 0, 3_000_000))
+    );
 }
 
 #[test]
@@ -169,10 +149,12 @@ fn a_task_gets_another_level_and_slice_where_it_is(rt: HostRuntime) {
 
     // A sleeping one keeps them for its wake; a runnable one's next request is of the new slice, and not the one that it joins with.
     assert!(rt; solo.try_apply(set(rt, 0, 1, 5, 100_000)) == Some(Answer::Set));
-    assert!(rt; sleeper(&solo, home, task(rt, 1)) == Some(asleep(rt, 0, 5, 100_000)));
+    assert!(rt; queue_of(rt, &solo, home).sleeper(task(rt, 1)) == Some(asleep(rt, 0, 5, 100_000)));
     assert!(rt; solo.try_apply(set(rt, 1, 1, 5, 100_000)) == Some(Answer::NotHere));
     assert!(rt; solo.try_apply(set(rt, 0, 0, 0, 1_000_000)) == Some(Answer::Set));
-    assert!(rt; entry_on(&solo, home, task(rt, 0)) == Some(entry(rt, 0, 3_000_000, 0, 1_000_000)));
+    assert!(rt;
+        queue_of(rt, &solo, home).entry(task(rt, 0)) == Some(entry(rt, 0, 3_000_000, 0, 1_000_000))
+    );
     assert!(rt; solo.try_apply(Deed::Pick { cpu: home }) == Some(Answer::Picked(task(rt, 0))));
     assert!(rt;
         solo.try_apply(tick(rt, 3_000_000))
@@ -182,11 +164,14 @@ fn a_task_gets_another_level_and_slice_where_it_is(rt: HostRuntime) {
             })
     );
     assert!(rt;
-        entry_on(&solo, home, task(rt, 0)) == Some(entry(rt, 3_000_000, 4_000_000, 0, 1_000_000))
+        queue_of(rt, &solo, home).entry(task(rt, 0))
+            == Some(entry(rt, 3_000_000, 4_000_000, 0, 1_000_000))
     );
 
     // Alone it stands at the virtual time, which becomes 0.
     assert!(rt; solo.try_apply(Deed::Rebase { cpu: home }) == Some(Answer::Rebased(3_000_000)));
-    assert!(rt; entry_on(&solo, home, task(rt, 0)) == Some(entry(rt, 0, 1_000_000, 0, 1_000_000)));
+    assert!(rt;
+        queue_of(rt, &solo, home).entry(task(rt, 0)) == Some(entry(rt, 0, 1_000_000, 0, 1_000_000))
+    );
     assert!(rt; solo.try_apply(Deed::Rebase { cpu: cpu(rt, 1) }) == Some(Answer::Rebased(0)));
 }

@@ -4,12 +4,12 @@ ghost use Rattle.std.specs.Prelude.{◌≡◌};
 ghost use Rattle.eevdf_fleet.specs.Fleets.{setup_of};
 
 use super::kit_of;
-use crate::fixtures::{cpu, task};
+use crate::fixtures::{cpu, setup_of, task, task_at};
 use eevdf_fleet::endless::{Fleet, Kit, Seat};
 use eevdf_fleet::{DrainedWake, Names};
 use eevdf_ops::{Answer, Op, Setup, TaskSpec};
 use eevdf_queue::TaskId;
-use eevdf_weight::{Nice, Slice};
+use eevdf_weight::Slice;
 use std::alloc::Global;
 use std::marker::Brand;
 use std::process::Abort;
@@ -25,19 +25,12 @@ fn setup_of_tasks(
     let mut specs = Vec::new(alloc);
     for (home, slice, asleep) in tasks {
         let spec = TaskSpec {
-            home: cpu(rt, *home),
-            nice: Nice::default(),
             slice: Slice::new(*slice).expect(rt, "slice"),
-            start: 0,
-            asleep: *asleep,
+            ..task_at(rt, *home, *asleep)
         };
         specs.push(spec).expect(rt, "memory");
     }
-    let mut programs = Vec::new(alloc);
-    for _cpu in 0..cpus {
-        programs.push(Vec::new(alloc)).expect(rt, "memory");
-    }
-    Setup::make(alloc, &specs, &programs).expect(rt, "setup")
+    setup_of(rt, alloc, &specs, cpus, 0)
 }
 
 /// Tasks that sleep on four CPUs, and the CPUs by the tasks.

@@ -5,7 +5,7 @@ ghost use Rattle.eevdf_fleet.specs.Fleets.{setup_of};
 
 use super::came::call_on;
 use super::{closed, kit_of};
-use crate::fixtures::one_task_each;
+use crate::fixtures::{give_back, one_task_each, take_pair};
 use crate::fleet_calls::seat_call::Call;
 use eevdf_fleet::Names;
 use eevdf_fleet::endless::{Fleet, Kit, Seat};
@@ -90,16 +90,14 @@ fn one_holds<N: Names + Send + Sync, R: Threads + Wait + Abort + Sync>(
     requires { kit ≡ N.kit }
 {
     let (fleet, mut seats) = Fleet::<N>::open(alloc, kit).expect(rt, "memory");
-    let one = seats.pop().expect(rt, "seat 1");
-    let zero = seats.pop().expect(rt, "seat 0");
+    let (zero, one) = take_pair(rt, &mut seats);
     let shared = &fleet;
     let (zero, one) = join(
         rt,
         move || hold(rt, shared, zero, signals),
         move || work_beside(rt, shared, one, signals),
     );
-    seats.push(zero).expect(rt, "memory");
-    seats.push(one).expect(rt, "memory");
+    give_back(rt, &mut seats, (zero, one));
     closed(alloc, fleet, seats)
 }
 

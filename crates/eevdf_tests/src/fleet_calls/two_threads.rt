@@ -8,6 +8,7 @@ ghost use Rattle.eevdf_ops.specs.Setup.{allows};
 
 use super::kit_of;
 use super::seat_call::{Call, call_on};
+use crate::fixtures::{give_back, take_pair};
 use crate::one_thread_again::done_alone;
 use crate::same_end::end_alike;
 use eevdf_fleet::{Fleet, Kit, Names, Seat};
@@ -45,16 +46,14 @@ fn two_operate<N: Names + Send + Sync, R: Threads + Wait + Abort + Sync>(
         (λ outcome. list_all (allows setup.now) (deeds_of outcome.lines) ≡ true) }
 {
     let (fleet, mut seats) = Fleet::<N>::open(alloc, kit).expect(rt, "memory");
-    let one = seats.pop().expect(rt, "seat 1");
-    let zero = seats.pop().expect(rt, "seat 0");
+    let (zero, one) = take_pair(rt, &mut seats);
     let shared = &fleet;
     let (zero, one) = join(
         rt,
         move || operate(rt, shared, zero, 1),
         move || operate(rt, shared, one, 0),
     );
-    seats.push(zero).expect(rt, "memory");
-    seats.push(one).expect(rt, "memory");
+    give_back(rt, &mut seats, (zero, one));
     if fleet.has_all_seats(&seats) {
         Some(fleet.close(seats))
     } else {

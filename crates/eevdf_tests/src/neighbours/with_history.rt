@@ -4,7 +4,7 @@ ghost use Rattle.std.specs.Prelude.{◌≡◌, true};
 ghost use Rattle.eevdf_fleet.specs.Fleets.{setup_of};
 ghost use Rattle.eevdf_ops.specs.Setup.{homes_of, is_task};
 
-use super::{TRIED, calls, neighbours, two_tasks_each};
+use super::{calls, pairs, two_tasks_each};
 use crate::fleet_calls::kit_of;
 use crate::fleet_calls::seat_call::Call;
 use eevdf_fleet::{Fleet, Kit, Names, Operated, Seat};
@@ -72,12 +72,8 @@ fn make_calls<N: Names, R: Wait + Abort>(rt: &R, alloc: Global, kit: Kit, cpu: u
 #[test]
 fn each_cpu_makes_each_call(rt: HostRuntime) {
     let setup = two_tasks_each(&rt, rt.alloc());
-    for cpu in TRIED {
-        for neighbour in neighbours(cpu) {
-            if let Some(neighbour) = neighbour {
-                let kit = kit_of(&rt, rt.alloc(), &setup, QUOTA, 1);
-                make_calls::<Brand, _>(&rt, rt.alloc(), kit, cpu, neighbour);
-            }
-        }
+    for (cpu, neighbour) in pairs(&rt, rt.alloc()) {
+        let kit = kit_of(&rt, rt.alloc(), &setup, QUOTA, 1);
+        make_calls::<Brand, _>(&rt, rt.alloc(), kit, cpu, neighbour);
     }
 }
