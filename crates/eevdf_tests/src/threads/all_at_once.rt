@@ -1,12 +1,11 @@
 //! The CPUs of a run are all under way at the same time: in each turn of a caller, and in each operation of a program, a token goes
 //! round all of them.
 
-use super::gate_call::Moment;
+use super::gate_call::{GateCall, Moment, Passing, PassingGate};
 use super::token::Token;
 use crate::fixtures::{one_task_each, picks_of_one_task_each};
 use crate::{endless_calls, fleet_calls};
-use eevdf_fleet::{Fleet, Gate, Names, Seat, SeatTurn, endless, run_all, run_turns};
-use eevdf_ops::CpuId;
+use eevdf_fleet::{Fleet, Names, Seat, SeatTurn, endless, run_all, run_turns};
 use std::ops::ControlFlow;
 use std::sync::Wait;
 
@@ -90,25 +89,11 @@ struct RoundsOfOperations {
     token: Token,
 }
 
-impl RoundsOfOperations {
-    fn pass(&self, moment: Moment, cpu: CpuId, n: usize) {
-        if moment == self.moment {
-            self.token.go_round(n, cpu.index());
+impl Passing for RoundsOfOperations {
+    fn pass(&self, call: GateCall) {
+        if call.moment == self.moment {
+            self.token.go_round(call.n, call.cpu as usize);
         }
-    }
-}
-
-impl Gate for RoundsOfOperations {
-    fn inside(&self, cpu: CpuId, n: usize) {
-        self.pass(Moment::Inside, cpu, n);
-    }
-
-    fn acted(&self, cpu: CpuId, n: usize) {
-        self.pass(Moment::Acted, cpu, n);
-    }
-
-    fn answered(&self, cpu: CpuId, n: usize) {
-        self.pass(Moment::Answered, cpu, n);
     }
 }
 
@@ -117,12 +102,14 @@ fn operations_of_all_cpus_go_on_at_once(rt: HostRuntime) {
     for cpus in CPUS {
         let setup = picks_of_one_task_each(&rt, rt.alloc(), cpus, ROUNDS);
         for moment in [Moment::Inside, Moment::Acted, Moment::Answered] {
-            let gate = RoundsOfOperations {
-                moment,
-                token: Token::new(cpus),
+            let gate = PassingGate {
+                passing: RoundsOfOperations {
+                    moment,
+                    token: Token::new(cpus),
+                },
             };
             let _closed = run_all(&rt, rt.alloc(), &setup, &gate).expect(&rt, "run");
-            assert!(rt; gate.token.has_gone(ROUNDS), "{cpus} CPUs");
+            assert!(rt; gate.passing.token.has_gone(ROUNDS), "{cpus} CPUs");
         }
     }
 }

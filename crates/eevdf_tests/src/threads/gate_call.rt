@@ -1,3 +1,8 @@
+//! The calls of a gate as values.
+
+use eevdf_fleet::Gate;
+use eevdf_ops::CpuId;
+
 /// Which call of a gate it is.
 #[derive(Clone, Copy, PartialEq, Eq)]
 pub enum Moment {
@@ -40,5 +45,30 @@ impl GateCall {
             cpu,
             n,
         }
+    }
+}
+
+/// What is done at each call of a gate.
+pub trait Passing {
+    fn pass(&self, call: GateCall);
+}
+
+/// A gate whose calls are passed on as values.
+#[derive(Drop)]
+pub struct PassingGate<P: Passing + Drop> {
+    pub passing: P,
+}
+
+impl<P: Passing + Drop> Gate for PassingGate<P> {
+    fn inside(&self, cpu: CpuId, n: usize) {
+        self.passing.pass(GateCall::inside(cpu.get(), n));
+    }
+
+    fn acted(&self, cpu: CpuId, n: usize) {
+        self.passing.pass(GateCall::acted(cpu.get(), n));
+    }
+
+    fn answered(&self, cpu: CpuId, n: usize) {
+        self.passing.pass(GateCall::answered(cpu.get(), n));
     }
 }

@@ -1,8 +1,7 @@
 //! Which calls of the gate come at each kind of operation, and in which order.
 
-use super::gate_call::GateCall;
-use eevdf_fleet::{Gate, run_all};
-use eevdf_ops::CpuId;
+use super::gate_call::{GateCall, Passing, PassingGate};
+use eevdf_fleet::run_all;
 use eevdf_workload::read_workload;
 use std::sync::atomic::{AtomicBool, AtomicUsize, Ordering};
 
@@ -43,14 +42,14 @@ fn calls() -> [GateCall; 24] {
 
 /// Compares the calls with those that are expected.
 #[derive(Drop)]
-struct ComparingGate {
+struct Comparing {
     expected: [GateCall; 24],
     calls: AtomicUsize,
     differs: AtomicBool,
 }
 
-impl ComparingGate {
-    fn compare(&self, call: GateCall) {
+impl Passing for Comparing {
+    fn pass(&self, call: GateCall) {
         let place = self.calls.fetch_add(1, Ordering::SeqCst);
         if self.expected.get(place) != Some(&call) {
             self.differs.store(true, Ordering::SeqCst);
@@ -58,31 +57,20 @@ impl ComparingGate {
     }
 }
 
-impl Gate for ComparingGate {
-    fn inside(&self, cpu: CpuId, n: usize) {
-        self.compare(GateCall::inside(cpu.get(), n));
-    }
-
-    fn acted(&self, cpu: CpuId, n: usize) {
-        self.compare(GateCall::acted(cpu.get(), n));
-    }
-
-    fn answered(&self, cpu: CpuId, n: usize) {
-        self.compare(GateCall::answered(cpu.get(), n));
-    }
-}
-
 #[test]
 fn each_kind_of_operation_has_its_calls(rt: HostRuntime) {
     let workload = read_workload(rt.alloc(), WORKLOAD).expect(&rt, "workload");
-    let gate = ComparingGate {
-        expected: calls(),
-        calls: AtomicUsize::new(0),
-        differs: AtomicBool::new(false),
+    let gate = PassingGate {
+        passing: Comparing {
+            expected: calls(),
+            calls: AtomicUsize::new(0),
+            differs: AtomicBool::new(false),
+        },
     };
     let outcome = run_all(&rt, rt.alloc(), workload.setup(), &gate).expect(&rt, "run");
-    assert!(rt; !gate.differs.load(Ordering::SeqCst));
-    assert!(rt; gate.calls.load(Ordering::SeqCst) == gate.expected.len());
+    let compared = &gate.passing;
+    assert!(rt; !compared.differs.load(Ordering::SeqCst));
+    assert!(rt; compared.calls.load(Ordering::SeqCst) == compared.expected.len());
     // Eight of the nine have a line: the drain that of the wake, and the post none.
     assert!(rt; outcome.history().len() == 8);
 }

@@ -2,7 +2,7 @@
 //! they can't reach where a lock is held for too long, or which they come to too late where the gate is called at another moment.
 
 use super::gate_call::GateCall;
-use super::holding_gate::HoldingGate;
+use super::holding_gate::Holding;
 use eevdf_fleet::{Closed, run_all};
 use eevdf_report::report;
 use eevdf_workload::read_workload;
@@ -105,9 +105,9 @@ fn cases() -> [Case; 7] {
 /// Runs the programs of a case by threads that its gate holds.
 fn check_case<R: Threads + Wait + Abort + Sync>(rt: &R, alloc: Global, case: &Case) {
     let workload = read_workload(alloc, case.workload).expect(rt, "workload");
-    let gate = HoldingGate::new(case.holds[0], case.holds[1]);
+    let gate = Holding::gate(case.holds[0], case.holds[1]);
     let closed = run_all(rt, alloc, workload.setup(), &gate).expect(rt, "run");
-    assert!(rt; !gate.has_given_up(), "{}", case.name);
+    assert!(rt; !gate.passing.has_given_up(), "{}", case.name);
     is_reported(rt, alloc, &closed, case);
 }
 

@@ -1,8 +1,6 @@
 //! A gate that holds threads until others have come to a place.
 
-use super::gate_call::GateCall;
-use eevdf_fleet::Gate;
-use eevdf_ops::CpuId;
+use super::gate_call::{GateCall, Passing, PassingGate};
 use std::hint::spin_loop;
 use std::sync::atomic::{AtomicBool, Ordering};
 
@@ -52,17 +50,19 @@ impl Hold {
     }
 }
 
-/// A gate that holds two calls, each until another one is made.
+/// Two calls that are held, each until another one is made.
 #[derive(Drop)]
-pub struct HoldingGate {
+pub struct Holding {
     holds: [Hold; 2],
 }
 
-impl HoldingGate {
+impl Holding {
     /// A gate that holds the first of each pair of calls until the second is made.
-    pub fn new(first: (GateCall, GateCall), second: (GateCall, GateCall)) -> HoldingGate {
-        HoldingGate {
-            holds: [Hold::new(first.0, first.1), Hold::new(second.0, second.1)],
+    pub fn gate(first: (GateCall, GateCall), second: (GateCall, GateCall)) -> PassingGate<Holding> {
+        PassingGate {
+            passing: Holding {
+                holds: [Hold::new(first.0, first.1), Hold::new(second.0, second.1)],
+            },
         }
     }
 
@@ -72,7 +72,9 @@ impl HoldingGate {
             .iter()
             .any(|hold| hold.is_given_up.load(Ordering::SeqCst))
     }
+}
 
+impl Passing for Holding {
     fn pass(&self, call: GateCall) {
         for hold in &self.holds {
             hold.see(call);
@@ -80,19 +82,5 @@ impl HoldingGate {
         for hold in &self.holds {
             hold.hold(call);
         }
-    }
-}
-
-impl Gate for HoldingGate {
-    fn inside(&self, cpu: CpuId, n: usize) {
-        self.pass(GateCall::inside(cpu.get(), n));
-    }
-
-    fn acted(&self, cpu: CpuId, n: usize) {
-        self.pass(GateCall::acted(cpu.get(), n));
-    }
-
-    fn answered(&self, cpu: CpuId, n: usize) {
-        self.pass(GateCall::answered(cpu.get(), n));
     }
 }
