@@ -1,19 +1,20 @@
 //! Which words the program takes for which command.
 
-use crate::commands::{
-    REPLAY, REPLAY_WITH_HISTORY, RUN, RUN_WITH_HISTORY, SOLO, SOLO_WITH_HISTORY,
-};
-use eevdf_bench::{Command, WordFault, command_of};
+use eevdf_bench::{Kind, WordFault, command_of};
 use std::alloc::Global;
+use std::convert::AsStr;
 use std::process::Abort;
 
-const ROWS: [(&[&str], Result<Command, WordFault>); 22] = [
-    (&["eevdf", "solo"], Ok(SOLO)),
-    (&["eevdf", "solo", "--history"], Ok(SOLO_WITH_HISTORY)),
-    (&["eevdf", "replay"], Ok(REPLAY)),
-    (&["eevdf", "replay", "--history"], Ok(REPLAY_WITH_HISTORY)),
-    (&["eevdf", "run"], Ok(RUN)),
-    (&["eevdf", "run", "--history"], Ok(RUN_WITH_HISTORY)),
+/// What the words ask for, and whether the history is to be printed too.
+type Asked = Result<(Kind, bool), WordFault>;
+
+const ROWS: [(&[&str], Asked); 22] = [
+    (&["eevdf", "solo"], Ok((Kind::Solo, false))),
+    (&["eevdf", "solo", "--history"], Ok((Kind::Solo, true))),
+    (&["eevdf", "replay"], Ok((Kind::Replay, false))),
+    (&["eevdf", "replay", "--history"], Ok((Kind::Replay, true))),
+    (&["eevdf", "run"], Ok((Kind::Run, false))),
+    (&["eevdf", "run", "--history"], Ok((Kind::Run, true))),
     (&[], Err(WordFault::Words)),
     (&["eevdf"], Err(WordFault::Words)),
     (&["eevdf", "stop"], Err(WordFault::Words)),
@@ -41,8 +42,13 @@ const ROWS: [(&[&str], Result<Command, WordFault>); 22] = [
 #[test]
 fn words_are_taken_for_a_command_or_refused(rt: HostRuntime) {
     for (place, (words, wanted)) in ROWS.iter().enumerate() {
-        assert!(rt; command_of(rt.alloc(), *words) == *wanted, "row {place}");
+        assert!(rt; asked(rt.alloc(), *words) == *wanted, "row {place}");
     }
+}
+
+fn asked<S: AsStr>(alloc: Global, words: &[S]) -> Asked {
+    let command = command_of(alloc, words)?;
+    Ok((command.kind, command.history))
 }
 
 /// These words as strings.
@@ -58,5 +64,5 @@ fn strings(rt: &impl Abort, alloc: Global, words: &[&str]) -> Vec<String> {
 #[test]
 fn words_may_be_strings(rt: HostRuntime) {
     let words = strings(&rt, rt.alloc(), &["eevdf", "solo"]);
-    assert!(rt; command_of(rt.alloc(), words.as_slice()) == Ok(SOLO));
+    assert!(rt; asked(rt.alloc(), words.as_slice()) == Ok((Kind::Solo, false)));
 }

@@ -7,8 +7,6 @@ mod broken_ends;
 #[cfg(test)]
 mod command_words;
 #[cfg(test)]
-mod commands;
-#[cfg(test)]
 mod deed_texts;
 #[cfg(test)]
 mod fault_lines;

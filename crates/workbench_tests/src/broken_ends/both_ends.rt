@@ -8,8 +8,7 @@ use super::pieces::Pieces;
 use super::reads::broken_reads;
 use super::workloads::{ROWS, Row};
 use super::writes::broken_writes;
-use crate::commands::SOLO;
-use eevdf_bench::{BenchFault, Key, LoadFault};
+use eevdf_bench::{BenchFault, Key, Kind, LoadFault};
 use std::alloc::Global;
 use std::process::Abort;
 use std::sync::Wait;
@@ -51,7 +50,8 @@ fn check_broken_writer<R: Threads + Wait + Abort + Sync>(rt: &R, alloc: Global, 
 /// No bytes, which are refused.
 const NO_TEXT: Row<'static> = Row {
     name: "no text",
-    command: SOLO,
+    kind: Kind::Solo,
+    history: false,
     workload: b"",
     printed: "",
 };

@@ -5,7 +5,7 @@ use super::piece_reader::PieceReader;
 use super::piece_writer::PieceWriter;
 use super::pieces::{ALL, Pieces};
 use super::workloads::Row;
-use eevdf_bench::{BenchFault, Watched, engine};
+use eevdf_bench::{BenchFault, Command, Watched, engine};
 use std::alloc::Global;
 use std::process::Abort;
 use std::sync::Wait;
@@ -96,7 +96,11 @@ fn run_between<'a, R: Threads + Wait + Sync>(
     let writer = PieceWriter::new(alloc, ends.taken, ends.write, ends.flush);
     let mut reader = Watched::new(reader);
     let mut writer = Watched::new(writer);
-    let result = engine(rt, alloc, &mut reader, &mut writer, row.command);
+    let command = Command {
+        kind: row.kind,
+        history: row.history,
+    };
+    let result = engine(rt, alloc, &mut reader, &mut writer, command);
     EngineRun {
         result,
         reader_failed: reader.failed(),

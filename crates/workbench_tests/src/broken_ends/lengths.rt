@@ -2,8 +2,7 @@
 
 use super::engine_run::{FAILED_READ, WHOLE, Wanted, check};
 use super::workloads::Row;
-use crate::commands::SOLO;
-use eevdf_bench::{BenchFault, LoadFault, read_workload};
+use eevdf_bench::{BenchFault, Kind, LoadFault, read_workload};
 
 /// So many bytes a workload may have.
 const MOST: usize = 16_777_216;
@@ -19,7 +18,8 @@ fn a_longer_workload_is_refused(rt: HostRuntime) {
     newlines.resize(MOST + 100_000, b'\n').expect(&rt, "memory");
     let row = Row {
         name: "newlines",
-        command: SOLO,
+        kind: Kind::Solo,
+        history: false,
         workload: &newlines,
         printed: "",
     };
