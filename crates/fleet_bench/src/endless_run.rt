@@ -7,15 +7,13 @@ use crate::mix::Mix;
 use crate::one_place::all_stand_once;
 use crate::run_fault::RunFault;
 use crate::run_report::Report;
-use crate::thread_seats::{done_by, seats_by_thread, seats_of};
-use crate::thread_work::work;
+use crate::thread_work::worked;
 use eevdf_fleet::Names;
 use eevdf_fleet::endless::{Closed, Fleet, Kit, Seat};
 use eevdf_ops::{Outcome, Setup};
 use std::alloc::Global;
 use std::marker::Brand;
 use std::sync::Wait;
-use std::thread;
 use std::thread::Threads;
 
 /// Does the operations of a run, and tells how many were done, where each task stands in one place afterwards.
@@ -56,25 +54,6 @@ fn worked_out<N: Names + Send + Sync, R: Threads + Wait + Sync>(
     let (fleet, seats) = Fleet::<N>::open(alloc, kit)?;
     let (done, seats) = worked(rt, alloc, run, &fleet, seats)?;
     Ok((done, closed(alloc, fleet, seats)?))
-}
-
-/// Has the threads do the operations, and gives how many were done, and the seats back.
-fn worked<N: Names + Send + Sync, R: Threads + Wait + Sync>(
-    rt: &R,
-    alloc: Global,
-    run: &AskedRun,
-    fleet: &Fleet<N>,
-    seats: Vec<Seat<N>>,
-) -> Result<(u64, Vec<Seat<N>>), RunFault> {
-    let threads = seats_by_thread(alloc, run, seats)?;
-    let operations = run.operations;
-    let threads = thread::map_vec(
-        rt,
-        threads,
-        &move |own| { work::<Seat<N>, R>(rt, fleet, operations, own) },
-    )?;
-    let done = done_by(threads.as_slice());
-    Ok((done, seats_of(alloc, threads)?))
 }
 
 /// Closes a fleet, and gives its queues and requests as an outcome without lines.

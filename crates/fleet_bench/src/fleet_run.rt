@@ -1,6 +1,6 @@
 //! A run by a fleet: each thread does the operations of its own CPUs.
 
-ghost use Rattle.std.specs.Prelude.{◌≡◌, ◌≤◌, true};
+ghost use Rattle.std.specs.Prelude.{◌≡◌, ◌≤◌, true, IfOk};
 ghost use Rattle.std.specs.List.{list_all};
 ghost use Rattle.eevdf_fleet.specs.Fleets.{setup_of};
 ghost use Rattle.eevdf_ops.specs.Histories.{IsOneThread};
@@ -14,15 +14,13 @@ use crate::mix::Mix;
 use crate::one_place::all_stand_once;
 use crate::run_fault::RunFault;
 use crate::run_report::Report;
-use crate::thread_seats::{done_by, seats_by_thread, seats_of};
-use crate::thread_work::work;
+use crate::thread_work::worked;
 use crate::way::Way;
-use eevdf_fleet::{Fleet, Kit, Names, Seat};
+use eevdf_fleet::{Fleet, Kit, Names};
 use eevdf_ops::{Outcome, Setup};
-use std::alloc::Global;
+use std::alloc::{AllocError, Global};
 use std::marker::Brand;
 use std::sync::Wait;
-use std::thread;
 use std::thread::Threads;
 
 /// Does the operations of a run, and tells what came of it.
@@ -32,7 +30,7 @@ pub fn fleet_report<R: Threads + Wait + Sync>(
     run: &AskedRun,
     setup: &Setup,
 ) -> Result<Report, RunFault> {
-    let kit = Kit::make(alloc, setup, quota(run), rings(run))?;
+    let kit = kit_of(alloc, run, setup)?;
     report_of::<Brand, R>(rt, alloc, run, setup, kit)
 }
 
@@ -55,25 +53,6 @@ fn report_of<N: Names + Send + Sync, R: Threads + Wait + Sync>(
     report(alloc, run, setup, done, &outcome)
 }
 
-/// Has the threads do the operations, and gives how many were done, and the seats back.
-fn worked<N: Names + Send + Sync, R: Threads + Wait + Sync>(
-    rt: &R,
-    alloc: Global,
-    run: &AskedRun,
-    fleet: &Fleet<N>,
-    seats: Vec<Seat<N>>,
-) -> Result<(u64, Vec<Seat<N>>), RunFault> {
-    let threads = seats_by_thread(alloc, run, seats)?;
-    let operations = run.operations;
-    let threads = thread::map_vec(
-        rt,
-        threads,
-        &move |own| { work::<Seat<N>, R>(rt, fleet, operations, own) },
-    )?;
-    let done = done_by(threads.as_slice());
-    Ok((done, seats_of(alloc, threads)?))
-}
-
 /// What is told of a run, and of its comparison with one thread where that is asked for.
 fn report(
     alloc: Global,
@@ -93,9 +72,16 @@ fn report(
     Ok(Report::compared(done, agrees, "one thread"))
 }
 
+/// The kit of a fleet that has room for a run.
+pub fn kit_of(alloc: Global, run: &AskedRun, setup: &Setup) -> Result<Kit, AllocError>
+    ensures { IfOk result (λ kit. setup_of kit ≡ setup.now) }
+{
+    Kit::make(alloc, setup, quota(run), rings(run))
+}
+
 /// How many lines a CPU may have: one for each of its operations, and room for the wakes that others ask for. No run with a history
 /// has more operations than `MOST_KEPT`.
-pub fn quota(run: &AskedRun) -> usize
+fn quota(run: &AskedRun) -> usize
     ensures some { 1 ≤ result }
     ensures few { result ≤ 1000000 }
 {

@@ -1,11 +1,15 @@
 //! What each thread does: its operations, on its CPUs in turn.
 
+use crate::asked_run::AskedRun;
 use crate::drawn_operations::running_after;
 use crate::drawn_seat::DrawnSeat;
-use crate::thread_seats::ThreadSeats;
+use crate::run_fault::RunFault;
+use crate::thread_seats::{ThreadSeats, done_by, seats_by_thread, seats_of};
 use eevdf_fleet::{Operated, Refused};
 use std::alloc::{AllocError, Global};
 use std::sync::Wait;
+use std::thread;
+use std::thread::Threads;
 
 /// What came of an operation. `None` where the thread has no CPU.
 pub type Came = Option<Result<Operated, Refused>>;
@@ -15,8 +19,27 @@ pub fn is_done(came: &Came) -> bool {
     matches!(came, Some(Ok(_) | Err(Refused::RingFull(_))))
 }
 
+/// Has the threads of a run do its operations with a fleet's seats, and gives how many were done, and the seats back.
+pub fn worked<F: Sync, S: DrawnSeat<Fleet = F> + Drop + Send, R: Threads + Wait + Sync>(
+    rt: &R,
+    alloc: Global,
+    run: &AskedRun,
+    fleet: &F,
+    seats: Vec<S>,
+) -> Result<(u64, Vec<S>), RunFault> {
+    let threads = seats_by_thread(alloc, run, seats)?;
+    let operations = run.operations;
+    let threads = thread::map_vec(
+        rt,
+        threads,
+        &move |own| { work::<S, R>(rt, fleet, operations, own) },
+    )?;
+    let done = done_by(threads.as_slice());
+    Ok((done, seats_of(alloc, threads)?))
+}
+
 /// Does so many operations, and counts those that were done.
-pub fn work<S: DrawnSeat + Drop, R: Wait>(
+fn work<S: DrawnSeat + Drop, R: Wait>(
     rt: &R,
     fleet: &S::Fleet,
     operations: u64,

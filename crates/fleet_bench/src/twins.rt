@@ -6,7 +6,7 @@ use crate::agreement::same_queues;
 use crate::asked_run::AskedRun;
 use crate::drawn_seat::DrawnSeat;
 use crate::endless_run::closed;
-use crate::fleet_run::{quota, rings};
+use crate::fleet_run::{kit_of, rings};
 use crate::one_place::all_stand_once;
 use crate::run_fault::RunFault;
 use crate::run_report::Report;
@@ -32,8 +32,7 @@ pub fn twins_report<R: Wait>(
     run: &AskedRun,
     setup: &Setup,
 ) -> Result<Report, RunFault> {
-    let kit = Kit::make(alloc, setup, quota(run), rings(run))?;
-    let kept = kept_twin::<Brand, R>(rt, alloc, run, kit)?;
+    let kept = kept_twin::<Brand, R>(rt, alloc, run, kit_of(alloc, run, setup)?)?;
     let kit = endless::Kit::make(alloc, setup, rings(run))?;
     let endless = endless_twin::<Brand, R>(rt, alloc, run, kit)?;
     let agrees = agree(&kept, &endless) && all_stand_once(&endless.outcome, run.tasks as u64);
