@@ -8,7 +8,7 @@ use Rattle.eevdf_ops.specs.{Machine.Machine, Machine.start, Places.IsPlaced, Out
 use Rattle.eevdf_steps.specs.{Commits.deeds_committed, declared.step_fault.StepFault.StepFault}
 use Rattle.eevdf_steps.specs.{declared.play_fault.PlayFault.PlayFault, Plan.Plan, Plan.plan_of, MicroState.micro, Plays.IsOutcome}
 use Rattle.eevdf_steps.specs.Plays.{IsPlay}
-use Rattle.eevdf_bench.specs.{declared.command.Kind.TheVariants.Replay, Reports.IsReport}
+use Rattle.eevdf_bench.specs.{declared.command.Kind.TheVariants.Replay, Reports.IsPlayed, Reports.IsReport}
 use Rattle.eevdf_bench.specs.declared.workbench_fault.BenchFault.{BenchFault}
 use Rattle.eevdf_bench.proofs.{OwnDeeds.own_deeds, LeftLists.all_left}
 use Rattle.eevdf_steps.specs.declared.step_fault.StepFault.TheVariants as step
@@ -88,6 +88,17 @@ replayed w history s order text o there same is t =
     ∙ ap (λ (u : Setup). order_report u (Some order) history) (sym same)
     ∙ played s order text history o is t
 
+-- a workload's order is played, under whichever name of its setup
+pub is_played : (w : Workload) (s : Setup) (order : List ℕ) (o : Outcome) → Some order ≡ w.order → s ≡ w.setup → IsWhole (plan_of s) (counters_at_start (plan_of s)) order
+    → deeds_of o.lines ≡ deeds_committed s order → FollowsPrograms s o → IsPlayed w o
+is_played w s order o there same whole deeds follows = record {
+  order = order;
+  listed = sym there;
+  whole = subst (λ (u : Setup). IsWhole (plan_of u) (counters_at_start (plan_of u)) order) same whole;
+  deeds = subst (λ (u : Setup). deeds_of o.lines ≡ deeds_committed u order) same deeds;
+  programs = subst (λ (u : Setup). FollowsPrograms u o) same follows;
+}
+
 -- and is that of one thread, of what the order commits
 pub played_report : (w : Workload) (history : Bool) (s : Setup) (order text : List ℕ) (o : Outcome) → Some order ≡ w.order → s ≡ w.setup
     → IsWhole (plan_of s) (counters_at_start (plan_of s)) order → IsOneThread (homes_of s) (start s) (deeds_committed s order) o → list_all (allows s) (deeds_of o.lines) ≡ true
@@ -97,12 +108,6 @@ played_report w history s order text o there same whole one allowed follows plac
   one_thread = subst (λ (u : Setup). IsOneThread (homes_of u) (start u) (deeds_of o.lines) o) same (own_deeds (homes_of s) (start s) (deeds_committed s order) o one);
   allowed = subst (λ (u : Setup). list_all (allows u) (deeds_of o.lines) ≡ true) same allowed;
   places = subst (λ (u : Setup). IsPlaced (homes_of u) (machine_of o.queues)) same placed;
-  does = record {
-    order = order;
-    listed = sym there;
-    whole = subst (λ (u : Setup). IsWhole (plan_of u) (counters_at_start (plan_of u)) order) same whole;
-    deeds = subst (λ (u : Setup). deeds_of o.lines ≡ deeds_committed u order) same one.deeds_are;
-    programs = subst (λ (u : Setup). FollowsPrograms u o) same follows;
-  };
+  does = is_played w s order o there same whole one.deeds_are follows;
   says = t;
 }

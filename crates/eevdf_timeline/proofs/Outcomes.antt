@@ -8,7 +8,7 @@ use Rattle.eevdf_ops.specs.Setup.{Setup, allows, homes_of}
 use Rattle.eevdf_ops.specs.Whole.{lines_of, machine_after}
 use Rattle.eevdf_steps.specs.{Commits.deeds_committed, Orders.IsWhole, Orders.counters_at_start, Plan.plan_of}
 use Rattle.eevdf_bench.specs.declared.command.Kind.TheVariants.{Solo, Replay, Run}
-use Rattle.eevdf_bench.proofs.{OwnDeeds.own_deeds, SoloAnswers.done}
+use Rattle.eevdf_bench.proofs.{OwnDeeds.own_deeds, ReplayAnswers.is_played, SoloAnswers.done}
 use Rattle.eevdf_workload.specs.Meaning.{Workload}
 use Rattle.eevdf_timeline.specs.Histories.{IsOutcomeOf}
 
@@ -30,13 +30,7 @@ pub order_done : (w : Workload) (s : Setup) (order : List ℕ) (o : Outcome) →
 order_done w s order o there same whole one allowed follows = record {
   one_thread = of_setup w s (deeds_committed s order) o same one;
   allowed = subst (λ (u : Setup). list_all (allows u) (deeds_of o.lines) ≡ true) same allowed;
-  does = record {
-    order = order;
-    listed = sym there;
-    whole = subst (λ (u : Setup). IsWhole (plan_of u) (counters_at_start (plan_of u)) order) same whole;
-    deeds = subst (λ (u : Setup). deeds_of o.lines ≡ deeds_committed u order) same one.deeds_are;
-    programs = subst (λ (u : Setup). FollowsPrograms u o) same follows;
-  };
+  does = is_played w s order o there same whole one.deeds_are follows;
 }
 
 pub run_done : (w : Workload) (s : Setup) (o : Outcome) → s ≡ w.setup → IsOneThread (homes_of s) (start s) (deeds_of o.lines) o → list_all (allows s) (deeds_of o.lines) ≡ true → FollowsPrograms s o → TakesOwnRequests s o → IsOutcomeOf Run w o
