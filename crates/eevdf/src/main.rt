@@ -7,20 +7,25 @@ mod help;
 
 use crate::help::{HELP, USAGE, VERSION};
 use eevdf_bench::{
-    BenchFault, Command, Watched, WordFault, WorkloadText, asks_for, command_of, engine_with_input,
-    fault_explanation, fault_text, may_name_file, status_of, told_word, unread_keys_text,
+    BenchFault, Command, NO_MEMORY, ProgramTexts, Watched, WorkloadText, command_of,
+    engine_with_input, fault_explanation, fault_text, may_name_file, print, status_of,
+    tell_unread_keys, told_word,
 };
 use std::alloc::Global;
 use std::fs::Files;
+use std::io;
 use std::io::{ErrorKind, Read, Write};
 use std::process::ExitCode;
 use std::rt::Env;
 use std::sync::Wait;
 use std::thread::Threads;
-use std::{env, fs, io};
 
-/// What is printed where there is no memory for another line.
-const NO_MEMORY: &[u8] = b"fault: memory\n";
+/// What the program says of itself.
+const TEXTS: ProgramTexts = ProgramTexts {
+    usage: USAGE,
+    help: HELP,
+    version: VERSION,
+};
 
 /// The words for commands, which come first, and those that may come behind.
 const COMMANDS: [&str; 3] = ["solo", "replay", "run"];
@@ -28,48 +33,35 @@ const COMMANDS: [&str; 3] = ["solo", "replay", "run"];
 const FLAGS: [&str; 1] = ["--history"];
 
 fn main(rt: HostRuntime) -> ExitCode {
-    let alloc = rt.alloc();
-    let errors = rt.stderr();
-    ExitCode::from(match given_words(&rt, alloc) {
-        Ok(words) => answer(&rt, &errors, alloc, words.as_slice()),
-        Err(WordFault::Words) => print(&rt, USAGE, 2),
-        Err(WordFault::Memory) => print(&rt, NO_MEMORY, 3),
-    })
+    let (Ok(status) | Err(status)) = answer(&rt, &rt.stderr(), rt.alloc());
+    ExitCode::from(status)
 }
 
-/// The process's words, of which the first is the program's name.
-fn given_words(rt: &(impl Env + AllocGlobal), alloc: Global) -> Result<Vec<String>, WordFault> {
-    let arguments = match env::args(rt) {
-        Ok(arguments) => arguments,
-        Err(error) if error.kind() == ErrorKind::OutOfMemory => return Err(WordFault::Memory),
-        Err(_) => return Err(WordFault::Words),
-    };
-    let words: Vec<String> = arguments.collect(alloc)?;
-    Ok(words)
-}
-
-/// Does what the words ask for, and gives the exit status.
-fn answer<R: Files + Input + Print + Threads + Wait + Sync>(
+/// Does what the process's words ask for, and gives the exit status.
+fn answer<R: Env + AllocGlobal + Files + Input + Print + Threads + Wait + Sync>(
     rt: &R,
     errors: &impl Print,
     alloc: Global,
-    words: &[String],
-) -> u8 {
-    if asks_for(words, "--help") || asks_for(words, "-h") {
-        return print(rt, HELP, 0);
-    }
-    if asks_for(words, "--version") {
-        return print(rt, VERSION, 0);
-    }
-    let (own, file) = with_file(words);
-    match command_of(alloc, own) {
-        Ok(command) => match file {
-            Some(name) => run_file(rt, errors, alloc, command, name),
-            None => run(rt, errors, alloc, command, rt.reader()),
-        },
-        Err(WordFault::Words) => refuse(rt, errors, alloc, own),
-        Err(WordFault::Memory) => print(rt, NO_MEMORY, 3),
-    }
+) -> Result<u8, u8> {
+    let words = TEXTS.words(rt, rt, errors, alloc)?;
+    let (own, file) = with_file(&words);
+    let command = match command_of(alloc, own) {
+        Ok(command) => command,
+        Err(fault) => {
+            let unknown = unknown_word(alloc, own);
+            return Err(TEXTS.refuse(rt, errors, fault, unknown));
+        }
+    };
+    Ok(match file {
+        Some(name) => run(
+            rt,
+            errors,
+            alloc,
+            command,
+            TEXTS.open(rt, rt, errors, name)?,
+        ),
+        None => run(rt, errors, alloc, command, rt.reader()),
+    })
 }
 
 /// The words, with the name of a file apart, which may be the last one behind the command.
@@ -79,24 +71,6 @@ fn with_file(words: &[String]) -> (&[String], Option<&str>) {
             (&words[..words.len() - 1], Some(last.as_str()))
         }
         _ => (words, None),
-    }
-}
-
-/// Runs the command on the workload in a file.
-fn run_file<R: Files + Input + Print + Threads + Wait + Sync>(
-    rt: &R,
-    errors: &impl Print,
-    alloc: Global,
-    command: Command,
-    name: &str,
-) -> u8 {
-    match fs::open(rt, name) {
-        Ok(file) => run(rt, errors, alloc, command, file),
-        Err(error) => {
-            let status = print(rt, USAGE, 2);
-            let _ = println!(errors; "{name}: {error}");
-            status
-        }
     }
 }
 
@@ -112,20 +86,8 @@ fn run<R: Print + Threads + Wait + Sync, W: Read + Drop>(
     let mut writer = Watched::new(io::writer(rt));
     let mut input = WorkloadText::new(alloc);
     match engine_with_input(rt, alloc, &mut reader, &mut writer, command, &mut input) {
-        Ok(()) => {
-            tell_unread_keys(errors, alloc, &input);
-            0
-        }
+        Ok(()) => tell_unread_keys(errors, alloc, &input),
         Err(fault) => print_fault(rt, errors, alloc, &input.bytes, &fault),
-    }
-}
-
-/// Says which keys of the workload nothing reads, where it has any.
-fn tell_unread_keys(errors: &impl Print, alloc: Global, input: &WorkloadText) {
-    if input.has_unread_keys {
-        if let Some(text) = unread_keys_text(alloc, &input.bytes) {
-            tell(errors, text.as_bytes());
-        }
     }
 }
 
@@ -153,15 +115,6 @@ fn print_fault(
     status_of(fault)
 }
 
-/// Says which word isn't known, and how the program is called.
-fn refuse(rt: &impl Print, errors: &impl Print, alloc: Global, words: &[String]) -> u8 {
-    let status = print(rt, USAGE, 2);
-    if let Some(text) = unknown_word(alloc, words) {
-        tell(errors, text.as_bytes());
-    }
-    status
-}
-
 /// Which word isn't known, where there is memory to say it.
 fn unknown_word(alloc: Global, words: &[String]) -> Option<String> {
     let Some(command) = words.get(1) else {
@@ -183,12 +136,6 @@ fn unknown_word(alloc: Global, words: &[String]) -> Option<String> {
         }
     }
     "--history stands once\n".to_string(alloc).ok()
-}
-
-/// Prints a text on standard output, as far as that succeeds, and gives the status.
-fn print(rt: &impl Print, text: &[u8], status: u8) -> u8 {
-    let _ = io::writer(rt).write_all(text);
-    status
 }
 
 /// Prints a text on standard error, as far as that succeeds.

@@ -28,95 +28,59 @@ use crate::progress::Progress;
 use crate::unknown_words::{beyond, unknown_word, with_file};
 use crate::words::{Words, words_of};
 use eevdf_bench::{
-    BenchFault, Key, Kind, LoadFault, Piped, Watched, WordFault, WorkloadText, asks_for,
-    fault_explanation, fault_text, status_of, unread_keys_text,
+    BenchFault, Key, Kind, LoadFault, NO_MEMORY, Piped, ProgramTexts, Watched, WorkloadText,
+    fault_explanation, fault_text, print, status_of, tell_unread_keys,
 };
 use std::alloc::Global;
 use std::fs::Files;
-use std::io::{ErrorKind, IsTerminal, Read, Write};
+use std::io;
+use std::io::{IsTerminal, Read};
 use std::process::ExitCode;
 use std::rt::Env;
 use std::sync::Wait;
 use std::thread::Threads;
-use std::{env, fs, io};
 
-/// What is printed where there is no memory for another line.
-const NO_MEMORY: &[u8] = b"fault: memory\n";
+/// What the program says of itself.
+const TEXTS: ProgramTexts = ProgramTexts {
+    usage: USAGE,
+    help: HELP,
+    version: VERSION,
+};
 
 /// What is said where there is no script to be drawn.
 const OTHER_SOURCES: &[u8] =
     b"a workload with an order is drawn with --replay, and one of programs alone with --run\n";
 
 fn main(rt: HostRuntime) -> ExitCode {
-    let alloc = rt.alloc();
     let errors = rt.stderr();
     let progress = Progress::new(rt.stderr(), errors.is_terminal());
-    ExitCode::from(match given_words(&rt, alloc) {
-        Ok(words) => answer(&rt, &errors, alloc, &progress, words.as_slice()),
-        Err(WordFault::Words) => print(&errors, USAGE, 2),
-        Err(WordFault::Memory) => print(&errors, NO_MEMORY, 3),
-    })
+    let (Ok(status) | Err(status)) = answer(&rt, &errors, rt.alloc(), &progress);
+    ExitCode::from(status)
 }
 
-/// The process's words, of which the first is the program's name.
-fn given_words(rt: &(impl Env + AllocGlobal), alloc: Global) -> Result<Vec<String>, WordFault> {
-    let arguments = match env::args(rt) {
-        Ok(arguments) => arguments,
-        Err(error) if error.kind() == ErrorKind::OutOfMemory => return Err(WordFault::Memory),
-        Err(_) => return Err(WordFault::Words),
+/// Does what the process's words ask for, and gives the exit status.
+fn answer<R: Env + AllocGlobal + Files + Input + Print + Threads + Wait + Sync>(
+    rt: &R,
+    errors: &impl Print,
+    alloc: Global,
+    progress: &Progress,
+) -> Result<u8, u8> {
+    let words = TEXTS.words(rt, errors, errors, alloc)?;
+    let (own, file) = with_file(&words);
+    let asked = match words_of(alloc, own) {
+        Ok(asked) => asked,
+        Err(fault) => {
+            let unknown = unknown_word(alloc, own).ok();
+            return Err(TEXTS.refuse(errors, errors, fault, unknown));
+        }
     };
-    let words: Vec<String> = arguments.collect(alloc)?;
-    Ok(words)
-}
-
-/// Does what the words ask for, and gives the exit status.
-fn answer<R: Files + Input + Print + Threads + Wait + Sync>(
-    rt: &R,
-    errors: &impl Print,
-    alloc: Global,
-    progress: &Progress,
-    words: &[String],
-) -> u8 {
-    if asks_for(words, "--help") || asks_for(words, "-h") {
-        return print(rt, HELP, 0);
-    }
-    if asks_for(words, "--version") {
-        return print(rt, VERSION, 0);
-    }
-    let (own, file) = with_file(words);
-    match words_of(alloc, own) {
-        Ok(asked) => match file {
-            Some(name) => run_file(rt, errors, alloc, progress, &asked, name),
-            None => run(rt, errors, alloc, progress, &asked, rt.reader()),
-        },
-        Err(WordFault::Words) => {
-            let status = print(errors, USAGE, 2);
-            match unknown_word(alloc, own) {
-                Ok(text) => print(errors, text.as_bytes(), status),
-                Err(_) => status,
-            }
+    Ok(match file {
+        Some(name) => {
+            let file = TEXTS.open(rt, errors, errors, name)?;
+            run(rt, errors, alloc, progress, &asked, file)
         }
-        Err(WordFault::Memory) => print(errors, NO_MEMORY, 3),
-    }
-}
-
-/// Reads the workload in a file and writes what is asked for, and gives the exit status.
-fn run_file<R: Files + Print + Threads + Wait + Sync>(
-    rt: &R,
-    errors: &impl Print,
-    alloc: Global,
-    progress: &Progress,
-    words: &Words,
-    name: &str,
-) -> u8 {
-    match fs::open(rt, name) {
-        Ok(file) => run(rt, errors, alloc, progress, words, file),
-        Err(error) => {
-            let status = print(errors, USAGE, 2);
-            let _ = println!(errors; "{name}: {error}");
-            status
-        }
-    }
+        None => run(rt, errors, alloc, progress, &asked, rt.reader()),
+    })
 }
 
 /// Reads the workload from a reader and writes what is asked for, and gives the exit status.
@@ -146,16 +110,6 @@ fn run<R: Print + Threads + Wait + Sync, W: Read + Drop>(
         Err(DrawFault::NoCpu(cpu)) => refuse_choice(errors, alloc, "--cpu", cpu),
         Err(DrawFault::NoTask(task)) => refuse_choice(errors, alloc, "--task", task),
     }
-}
-
-/// Says which keys of the workload nothing reads, where it has any, and gives the status.
-fn tell_unread_keys(errors: &impl Print, alloc: Global, input: &WorkloadText) -> u8 {
-    if input.has_unread_keys {
-        if let Some(text) = unread_keys_text(alloc, &input.bytes) {
-            return print(errors, text.as_bytes(), 0);
-        }
-    }
-    0
 }
 
 /// Says that the workload hasn't what the words choose.
@@ -188,10 +142,4 @@ fn print_fault(
         }
         _ => status,
     }
-}
-
-/// Prints a text, as far as that succeeds, and gives the status.
-fn print(rt: &impl Print, text: &[u8], status: u8) -> u8 {
-    let _ = io::writer(rt).write_all(text);
-    status
 }
