@@ -81,56 +81,61 @@ fn text_of<T: Threads + Wait + Sync>(
         return Err(DrawFault::NoTask(task));
     }
     let moments = history_of(rt, alloc, &workload, words.source)?;
-    let text = output_of(alloc, workload.setup(), &moments, words, progress)?;
+    let schedule = Schedule {
+        setup: workload.setup(),
+        moments: &moments,
+        words,
+        progress,
+    };
+    let text = schedule.output(alloc)?;
     Ok(text)
 }
 
-fn output_of(
-    alloc: Global,
-    setup: &Setup,
-    moments: &[Moment],
-    words: &Words,
-    progress: &Progress,
-) -> Result<Vec<u8>, AllocError> {
-    match words.output {
-        Output::Table => table_of(alloc, &counted(alloc, setup, moments, words, progress)?),
-        Output::Json => json_of(alloc, &counted(alloc, setup, moments, words, progress)?),
-        Output::Picture | Output::Trace => drawn(alloc, setup, moments, words, progress),
+/// The moments of a workload that are drawn, and how.
+#[derive(Clone, Copy)]
+struct Schedule<'a> {
+    setup: &'a Setup,
+    moments: &'a [Moment],
+    words: &'a Words,
+    progress: &'a Progress,
+}
+
+impl Schedule<'_> {
+    fn output(&self, alloc: Global) -> Result<Vec<u8>, AllocError> {
+        match self.words.output {
+            Output::Table => table_of(alloc, &self.counted(alloc)?),
+            Output::Json => json_of(alloc, &self.counted(alloc)?),
+            Output::Picture | Output::Trace => self.drawn(alloc),
+        }
     }
-}
 
-fn counted(
-    alloc: Global,
-    setup: &Setup,
-    moments: &[Moment],
-    words: &Words,
-    progress: &Progress,
-) -> Result<Figures, AllocError> {
-    let mut counts = counts_of(alloc, setup, moments, progress)?;
-    figures_of(alloc, &mut counts, words)
-}
+    fn counted(&self, alloc: Global) -> Result<Figures, AllocError> {
+        let mut counts = counts_of(alloc, self.setup, self.moments, self.progress)?;
+        figures_of(alloc, &mut counts, self.words)
+    }
 
-fn drawn(
-    alloc: Global,
-    setup: &Setup,
-    moments: &[Moment],
-    words: &Words,
-    progress: &Progress,
-) -> Result<Vec<u8>, AllocError> {
-    let scale = scale_of(moments, words);
-    let stretches = stretches_of(alloc, setup.cpus(), moments)?;
-    let lags = lags_of(alloc, setup, moments, &scale, &words.tasks, progress)?;
-    let scene = Scene {
-        setup,
-        moments,
-        stretches: &stretches,
-        lags: &lags,
-        scale,
-        words,
-    };
-    match words.output {
-        Output::Trace => trace_of(alloc, &scene),
-        _ => picture_of(alloc, &scene),
+    fn drawn(&self, alloc: Global) -> Result<Vec<u8>, AllocError> {
+        let Schedule {
+            setup,
+            moments,
+            words,
+            progress,
+        } = *self;
+        let scale = scale_of(moments, words);
+        let stretches = stretches_of(alloc, setup.cpus(), moments)?;
+        let lags = lags_of(alloc, setup, moments, &scale, &words.tasks, progress)?;
+        let scene = Scene {
+            setup,
+            moments,
+            stretches: &stretches,
+            lags: &lags,
+            scale,
+            words,
+        };
+        match words.output {
+            Output::Trace => trace_of(alloc, &scene),
+            _ => picture_of(alloc, &scene),
+        }
     }
 }
 
