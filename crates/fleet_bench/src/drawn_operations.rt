@@ -38,6 +38,7 @@ impl DrawnOperations {
     }
 
     /// The next operation, on a CPU with this running task.
+    #[inline(always)]
     pub fn next(&mut self, cpu: CpuId, running: Option<TaskId>) -> Op {
         let kind = self.draws.below(16);
         match self.mix {
