@@ -434,11 +434,12 @@ int64_t eevdf_begin(eevdf_queue *queue, uint64_t task, int64_t nice, uint64_t sl
 
 /*
  * Lowers all virtual times of the queue by one number, so that the virtual time is 0, and writes
- * the number to `by`. The queue then answers every call as it would have, but for that number in
- * virtual times and for RANGE, from which it is further away; lags stay as they are. Where a
- * virtual time would leave its range, as no task within 2^59 of the time 0 can make it, nothing
- * changes, and `by` gets 0. So it does where the virtual time was 0: eevdf_floor_time gives 0 then,
- * and another number where nothing could be lowered. It looks at every runnable task. Answers 0.
+ * the number to `by`; below 0 it has raised them. The queue then answers every call as it would
+ * have, but for that number in virtual times and for when RANGE comes: later as virtual times rise,
+ * or where `by` is below 0 sooner. Lags stay as they are. Where a virtual time would leave its
+ * range, as no task within 2^59 of the time 0 can make it, nothing changes, and `by` gets 0. So it
+ * does where the virtual time was 0: eevdf_floor_time gives 0 then, and another number where
+ * nothing could be lowered. It looks at every runnable task. Answers 0.
  * A start that was read before stays as it was, that of a task in a hand too: less `by` it is what
  * it would be now. eevdf_put goes by the lag, and needs no start.
  * Lock: the queue's. Interrupts: yes.
