@@ -22,13 +22,13 @@ enum { STACK = 65536, PAINT = 0xa5, LIMIT = 1024, REBASE_LIMIT = 1536, TURNS = 1
 enum { GAP = EEVDF_SLICE_MIN, EARLY = -2 * GAP, VISITOR = EEVDF_TASKS - 1, NOBODY = EEVDF_TASKS };
 
 /* The calls by which a task leaves its place in the tree, at once for another one or not. */
-enum { TICK, YIELD, SET_SLICE, RENICE, SET, SLEEP, TAKE, TAKE_ANY, END, WAYS };
+enum { TICK, YIELD, SET_SLICE, RENICE, SET, SLEEP, TAKE, TAKE_ANY, END, END_OUT, WAYS };
 
 static _Alignas(16) unsigned char stack[STACK];
 static _Alignas(16) unsigned char pool[EEVDF_TASKS + 8][EEVDF_TASK_SIZE];
 static void *unused[EEVDF_TASKS + 8];
 static unsigned unused_count;
-static bool rebases;
+static bool rebases, gives_blocks;
 static struct plan plan;
 static unsigned other_picks;
 static eevdf_queue queue, other;
@@ -53,6 +53,25 @@ static inline uint64_t drawn(uint64_t below)
 {
 	word = word * 6364136223846793005u + 1442695040888963407u;
 	return (word >> 33) % below;
+}
+
+/* A task comes in a block of the caller's. Where it can't, the block goes back. */
+static inline void admit_in(uint64_t task, int64_t nice, uint64_t slice_ns, int64_t start)
+{
+	eevdf_block block = { unused[--unused_count] };
+
+	eevdf_admit_in(&queue, &block, task, nice, slice_ns, start);
+	if (block.at)
+		eevdf_dealloc(block.at);
+}
+
+static inline void end_out(uint64_t task)
+{
+	eevdf_block block = { NULL };
+
+	eevdf_end_out(&queue, &block, task);
+	if (block.at)
+		eevdf_dealloc(block.at);
 }
 
 /* A turn of each call that a queue has in its life. */
@@ -100,6 +119,8 @@ static inline void turn(void)
 	eevdf_can_place(&queue, 0, 3000000, 5999999);
 	eevdf_hand_task(&hand);
 	eevdf_stop(&queue);
+	end_out(task);
+	admit_in(task, (int64_t)drawn(40) - 20, 3000000, number);
 	eevdf_end(&queue, task);
 	eevdf_admit(&queue, task, (int64_t)drawn(40) - 20, 100000 + drawn(1000000), number);
 }
@@ -124,7 +145,10 @@ static void make_turns(void)
 
 static inline void admit(uint64_t task, int64_t start, int64_t deadline)
 {
-	eevdf_admit(&queue, task, 0, (uint64_t)(deadline - start), start);
+	if (gives_blocks)
+		admit_in(task, 0, (uint64_t)(deadline - start), start);
+	else
+		eevdf_admit(&queue, task, 0, (uint64_t)(deadline - start), start);
 }
 
 /*
@@ -188,6 +212,9 @@ static inline void leave(int way, uint64_t task)
 	case END:
 		eevdf_end(&queue, task);
 		break;
+	case END_OUT:
+		end_out(task);
+		break;
 	}
 }
 
@@ -195,6 +222,7 @@ static inline void leave(int way, uint64_t task)
 static inline void leave_place(unsigned place)
 {
 	for (int way = 0; way < WAYS; way++) {
+		gives_blocks = way == END_OUT;
 		grow(place);
 		leave(way, place);
 		eevdf_close(&queue);
@@ -213,6 +241,7 @@ static inline void visit_place(unsigned place)
 	for (int way = 0; way < WAYS; way++) {
 		bool comes_later = way == TICK || way == YIELD;
 
+		gives_blocks = way == END_OUT;
 		admit(VISITOR, EARLY, comes_later ? (EARLY + deadline) / 2 : deadline);
 		leave(way, VISITOR);
 		eevdf_end(&queue, VISITOR);
