@@ -29,6 +29,11 @@ BODIES = {
         int64_t answer = RIGHT;
         if (answer == EEVDF_RANGE) eevdf_alloc(EEVDF_TASK_SIZE, 8);
         return answer;"""),
+    "an admit without a block asks for one": ("admit_in", """
+        return block->at ? RIGHT : eevdf_admit(queue, task, nice, slice_ns, start);"""),
+    "an end with a block already there answers ABSENT": ("end_out", """
+        int64_t answer = RIGHT;
+        return answer == EEVDF_BUSY ? EEVDF_ABSENT : answer;"""),
     "a tick charges a nanosecond more": ("tick", "if (ns < EEVDF_TICK_MAX && ns > 0) ns++; return RIGHT;"),
     "a tick that answers INVALID stops who runs": ("tick", "if (ns == 0) eevdf_stop(queue); return RIGHT;"),
     "a peek asks who runs": ("peek", "int64_t running = eevdf_running(queue); return running >= 0 ? running : RIGHT;"),
@@ -97,7 +102,7 @@ def found_by(job):
 
 
 def finders(tools, planted, *linked):
-    for name in ("errors", "memory", "stack", "play"):
+    for name in ("errors", "memory", "blocks", "stack", "play"):
         program, fault = tools.compile(name, [tools.callers / f"{name}.c", planted], *linked)
         if fault:
             raise RuntimeError(fault)
