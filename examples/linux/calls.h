@@ -41,22 +41,56 @@ static inline int64_t take_turn(struct game *game, eevdf_queue *queue)
 	}
 }
 
+/*
+ * Gives back the block that a call has given, or hasn't taken. What the call answered, and 1 more
+ * where there is a block.
+ */
+static inline int64_t with_block(int64_t answer, eevdf_block block)
+{
+	if (!block.at)
+		return answer;
+	eevdf_dealloc(block.at);
+	return answer + 1;
+}
+
+static inline int64_t time_of(const eevdf_queue *queue)
+{
+	int64_t time = 0;
+
+	eevdf_floor_time(queue, &time);
+	return time;
+}
+
+/* A new task in a block of the caller's. */
+static inline int64_t admit_in(eevdf_queue *queue, uint64_t task, int64_t nice, uint64_t slice_ns)
+{
+	eevdf_memory memory = eevdf_alloc(EEVDF_TASK_SIZE, 8);
+	eevdf_block block = { memory.ok ? memory.block : NULL };
+	int64_t answer = eevdf_admit_in(queue, &block, task, nice, slice_ns, time_of(queue));
+
+	return with_block(answer, block);
+}
+
 /* A call that changes what there is of a task. */
 static inline int64_t change_task(struct game *game, eevdf_queue *queue, uint64_t task)
 {
-	int64_t nice = (int64_t)drawn(game, 40) + EEVDF_NICE_MIN, start = 0;
+	int64_t nice = (int64_t)drawn(game, 40) + EEVDF_NICE_MIN;
 	uint64_t slice_ns = EEVDF_SLICE_MIN + drawn(game, 5000000);
 
-	switch (drawn(game, 6)) {
+	switch (drawn(game, 8)) {
 	case 0:
+		return eevdf_admit(queue, task, nice, slice_ns, time_of(queue));
 	case 1:
-		eevdf_floor_time(queue, &start);
-		return eevdf_admit(queue, task, nice, slice_ns, start);
+		return admit_in(queue, task, nice, slice_ns);
 	case 2:
 		return eevdf_renice(queue, task, nice);
 	case 3:
 		return eevdf_set_slice(queue, task, slice_ns);
 	case 4:
+		return eevdf_set(queue, task, nice, slice_ns);
+	case 5:
+		return eevdf_begin(queue, task, nice, slice_ns);
+	case 6:
 		return eevdf_wake(queue, task);
 	default:
 		return eevdf_sleep(queue, (uint64_t)eevdf_running(queue));
@@ -66,7 +100,10 @@ static inline int64_t change_task(struct game *game, eevdf_queue *queue, uint64_
 /* A call that moves a task, or ends it. */
 static inline int64_t move_task(struct game *game, eevdf_queue *queue, uint64_t task)
 {
-	switch (drawn(game, 8)) {
+	eevdf_block block = { NULL };
+	int64_t answer;
+
+	switch (drawn(game, 10)) {
 	case 0:
 		return eevdf_take(queue, &game->hand, task);
 	case 1:
@@ -75,6 +112,9 @@ static inline int64_t move_task(struct game *game, eevdf_queue *queue, uint64_t 
 		return eevdf_put_asleep(queue, &game->hand);
 	case 3:
 		return eevdf_end(queue, task);
+	case 4:
+		answer = eevdf_end_out(queue, &block, task);
+		return with_block(answer, block);
 	default:
 		return eevdf_put(queue, &game->hand);
 	}
