@@ -295,8 +295,9 @@ int64_t eevdf_admit(eevdf_queue *queue, uint64_t task, int64_t nice, uint64_t sl
 /*
  * A new task as by eevdf_admit, in the block that `block` leads to: the library asks for none. The
  * block is the library's then, and `at` is NULL. Answers 0. On an error the caller has the block as
- * before. Such a task may be ended by eevdf_end_out, and also by the calls that give memory back by
- * eevdf_dealloc, which is then called for a block that eevdf_alloc hasn't given.
+ * before. Such a task may be ended by eevdf_end_out and eevdf_hand_end_out, and also by the calls
+ * that give memory back by eevdf_dealloc, which is then called for a block that eevdf_alloc hasn't
+ * given.
  * Lock: the queue's. Interrupts: yes.
  * INVALID: task, nice, slice_ns or start is out of its limits. PRESENT: the task is here, runnable
  * or asleep. NO_MEMORY: `at` is NULL. RANGE: its deadline would leave the range.
@@ -468,6 +469,14 @@ int64_t eevdf_hand_parcel(const eevdf_hand *hand, eevdf_parcel *out);
  * Lock: none. Interrupts: as memory.
  */
 void eevdf_hand_close(eevdf_hand *hand);
+
+/*
+ * Ends the task in the hand, and gives a block of memory to the caller, to which `at` of `block`
+ * leads then, as eevdf_end_out does: the library calls no eevdf_dealloc. The hand is then as newly
+ * opened. Answers 0. On an error the hand keeps the task.
+ * Lock: none. Interrupts: yes. BUSY: `at` isn't NULL. ABSENT: the hand is empty.
+ */
+int64_t eevdf_hand_end_out(eevdf_hand *hand, eevdf_block *block);
 
 /*
  * Takes a task out of the queue into the hand, with its lag, whether it runs, waits or sleeps. If

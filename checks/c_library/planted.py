@@ -34,6 +34,17 @@ BODIES = {
     "an end with a block already there answers ABSENT": ("end_out", """
         int64_t answer = RIGHT;
         return answer == EEVDF_BUSY ? EEVDF_ABSENT : answer;"""),
+    "a task in a hand ends without giving its block": ("hand_end_out", """
+        if (block->at || eevdf_hand_task(hand) < 0) return RIGHT;
+        eevdf_hand_close(hand);
+        return 0;"""),
+    "a task in a hand ends with a block already there": ("hand_end_out", """
+        int64_t answer = RIGHT;
+        if (answer == EEVDF_BUSY) eevdf_hand_close(hand);
+        return answer;"""),
+    "an end of a task in a hand answers its number": ("hand_end_out", """
+        int64_t task = eevdf_hand_task(hand), answer = RIGHT;
+        return answer == 0 ? task : answer;"""),
     "a tick charges a nanosecond more": ("tick", "if (ns < EEVDF_TICK_MAX && ns > 0) ns++; return RIGHT;"),
     "a tick that answers INVALID stops who runs": ("tick", "if (ns == 0) eevdf_stop(queue); return RIGHT;"),
     "a peek asks who runs": ("peek", "int64_t running = eevdf_running(queue); return running >= 0 ? running : RIGHT;"),

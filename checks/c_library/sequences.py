@@ -12,8 +12,9 @@ from tools import SANITIZED, TOP, runner
 
 CALLS, SANITIZED_CALLS = 100000, 10000
 ERRORS = "ABSENT", "NO_MEMORY", "BUSY", "PRESENT", "INVALID", "RANGE"
-# The calls that no sequence names: callers/play.c makes them in the place of `admit` and `end`, and callers/blocks.c comes to their errors.
-UNNAMED = {"admit_in", "end_out"}
+# The calls that no sequence names: callers/play.c makes them in the place of `admit`, `end` and `hand_close`, and callers/blocks.c comes to
+# their errors.
+UNNAMED = {"admit_in", "end_out", "hand_end_out"}
 # A comment of the header with the call that it belongs to.
 DECLARED = re.compile(r"/\*((?:(?!\*/).)*)\*/\nint64_t eevdf_(\w+)\(", re.DOTALL)
 

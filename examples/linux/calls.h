@@ -103,7 +103,7 @@ static inline int64_t move_task(struct game *game, eevdf_queue *queue, uint64_t 
 	eevdf_block block = { NULL };
 	int64_t answer;
 
-	switch (drawn(game, 10)) {
+	switch (drawn(game, 12)) {
 	case 0:
 		return eevdf_take(queue, &game->hand, task);
 	case 1:
@@ -114,6 +114,9 @@ static inline int64_t move_task(struct game *game, eevdf_queue *queue, uint64_t 
 		return eevdf_end(queue, task);
 	case 4:
 		answer = eevdf_end_out(queue, &block, task);
+		return with_block(answer, block);
+	case 5:
+		answer = eevdf_hand_end_out(&game->hand, &block);
 		return with_block(answer, block);
 	default:
 		return eevdf_put(queue, &game->hand);

@@ -37,6 +37,7 @@ extern "C" {
     pub fn eevdf_hand_task(hand: *const c_void) -> i64;
     pub fn eevdf_hand_parcel(hand: *const c_void, out: *mut Parcel) -> i64;
     pub fn eevdf_hand_close(hand: *mut c_void);
+    pub fn eevdf_hand_end_out(hand: *mut c_void, block: *mut Block) -> i64;
     pub fn eevdf_take(queue: *mut c_void, hand: *mut c_void, task: u64) -> i64;
     pub fn eevdf_take_any(queue: *mut c_void, hand: *mut c_void) -> i64;
     pub fn eevdf_put(queue: *mut c_void, hand: *mut c_void) -> i64;

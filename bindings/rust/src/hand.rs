@@ -3,11 +3,11 @@
 use crate::calls;
 use crate::check_library;
 use crate::error::{checked, done};
-use crate::memory::HandMemory;
+use crate::memory::{HandMemory, TaskMemory};
 use core::ffi::c_void;
 use core::fmt;
 use core::marker::PhantomData;
-use core::ptr::NonNull;
+use core::ptr::{null_mut, NonNull};
 
 /// What a task in a hand has.
 #[repr(C)]
@@ -60,6 +60,16 @@ impl<'a> Hand<'a> {
         // SAFETY: it points to an opened hand that is borrowed, and the parcel is written to alone
         done(unsafe { calls::eevdf_hand_parcel(self.at.as_ptr(), &mut parcel) }).ok()?;
         Some(parcel)
+    }
+
+    /// Ends the task in the hand, and gives the caller memory in which a task was, as [`Queue::end_out`](crate::Queue::end_out) does.
+    /// `None` where the hand is empty.
+    pub fn end_out(&mut self) -> Option<NonNull<TaskMemory>> {
+        let mut block = calls::Block { at: null_mut() };
+        // SAFETY: it points to an opened hand that is borrowed alone, and the block is none
+        done(unsafe { calls::eevdf_hand_end_out(self.at.as_ptr(), &mut block) }).ok()?;
+        // where the call has ended a task it has given its memory
+        NonNull::new(block.at.cast())
     }
 
     /// The place of the hand, for a call that changes it.

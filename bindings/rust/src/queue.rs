@@ -105,9 +105,9 @@ impl<'a> Queue<'a> {
     ///
     /// # Safety
     ///
-    /// Until [`Queue::end_out`] gives it back, of whichever task and whichever queue to which tasks of this one may go, nobody else uses the
-    /// memory. Where a task ends otherwise, as by [`Queue::end`] or where a queue or a hand is dropped with tasks in it, `eevdf_dealloc` gets
-    /// such memory, and has to take it; that of the feature `malloc` doesn't.
+    /// Until [`Queue::end_out`] or [`Hand::end_out`] gives it back, of whichever task and whichever queue or hand to which tasks of this
+    /// one may go, nobody else uses the memory. Where a task ends otherwise, as by [`Queue::end`] or where a queue or a hand is dropped
+    /// with tasks in it, `eevdf_dealloc` gets such memory, and has to take it; that of the feature `malloc` doesn't.
     pub unsafe fn admit_in(&mut self, memory: NonNull<TaskMemory>, task: u64, nice: i64, slice_ns: u64, start: i64) -> Result<()> {
         let mut block = calls::Block { at: memory.as_ptr().cast() };
         done(unsafe { calls::eevdf_admit_in(self.at.as_ptr(), &mut block, task, nice, slice_ns, start) })

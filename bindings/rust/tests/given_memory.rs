@@ -1,6 +1,6 @@
 //! Tasks in memory that the caller gives: the functions for memory are never called.
 
-use eevdf::{Error, Queue, QueueMemory, TaskMemory};
+use eevdf::{Error, Hand, HandMemory, Queue, QueueMemory, TaskMemory};
 use std::collections::BTreeSet;
 use std::ffi::c_void;
 use std::process::abort;
@@ -32,7 +32,7 @@ fn each_task_gives_its_memory_back() {
     let mut tasks: Vec<TaskMemory> = (0..TASKS).map(|_| TaskMemory::new()).collect();
     let blocks: Vec<NonNull<TaskMemory>> = tasks.iter_mut().map(NonNull::from).collect();
     for (task, &block) in (0..TASKS).zip(&blocks) {
-        // SAFETY: nobody else uses it, and the task ends by `end_out`
+        // SAFETY: nobody else uses it, and the task ends by `end_out`, of the queue or of a hand
         unsafe { queue.admit_in(block, task, task as i64 - 10, SLICE, 0) }.unwrap();
     }
     // SAFETY: it isn't taken, since the task is here
@@ -41,8 +41,14 @@ fn each_task_gives_its_memory_back() {
         queue.pick().unwrap();
         queue.tick(SLICE).unwrap();
     }
-    let given_back: BTreeSet<_> = (0..TASKS).map(|task| queue.end_out(task).unwrap()).collect();
+    let mut hand_memory = HandMemory::new();
+    let mut hand = Hand::open(&mut hand_memory);
+    queue.take(&mut hand, 0).unwrap();
+    let mut given_back: BTreeSet<_> = (1..TASKS).map(|task| queue.end_out(task).unwrap()).collect();
+    given_back.insert(hand.end_out().unwrap());
     assert_eq!(given_back, blocks.into_iter().collect());
     assert_eq!(queue.end_out(0), Err(Error::Absent));
+    assert_eq!(hand.end_out(), None);
+    assert_eq!(hand.task(), None);
     assert!(queue.is_empty());
 }

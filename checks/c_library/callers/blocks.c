@@ -1,10 +1,11 @@
 /*
  * blocks.c: makes the same drawn calls on a queue whose tasks have blocks that the library asks for,
  * and on another whose tasks come in blocks of the caller's and leave them: eevdf_admit_in in the
- * place of eevdf_admit, eevdf_end_out in that of eevdf_end. Both answer alike and are in the same
- * state. On the other queue the library asks for nothing and gives nothing back but by `block`; the
- * bytes around each block stay as they are, and each comes back. Without a block, and where there
- * is one already, the two say so and change nothing. Ends with 1 where it isn't so.
+ * place of eevdf_admit, eevdf_end_out in that of eevdf_end, eevdf_hand_end_out in that of
+ * eevdf_hand_close. Both answer alike and are in the same state. On the other queue the library asks
+ * for nothing and gives nothing back but by `block`; the bytes around each block stay as they are,
+ * and each comes back. Without a block, and where there is one already, these calls say so and
+ * change nothing. Ends with 1 where it isn't so.
  */
 #include "state.h"
 
@@ -18,7 +19,7 @@ enum { TURNS = 4000, TASKS = STATE_TASKS, EDGE = 64, MARK = 0xa5, BLOCK = EEVDF_
 enum {
 	ADMIT, END, PICK, TICK, OFTEN,
 	YIELD = OFTEN, STOP, SLEEP, WAKE, RENICE, SET_SLICE, SET, BEGIN, REBASE, TAKE, TAKE_ANY, PUT,
-	PUT_ASLEEP,
+	PUT_ASLEEP, END_HELD,
 	CALLS
 };
 
@@ -145,6 +146,36 @@ static int64_t end(struct side *side, uint64_t task)
 	return answer;
 }
 
+/* Where there is a block already the task of a hand isn't ended, and nothing changes. */
+static void hand_end_out_full(struct side *side)
+{
+	eevdf_block block = new_block(), full = block;
+	struct state before = state_of(&side->queue, &side->hand), after;
+	int64_t answer = eevdf_hand_end_out(&side->hand, &full);
+
+	after = state_of(&side->queue, &side->hand);
+	failed += answer != EEVDF_BUSY || full.at != block.at || !is_same(&before, &after);
+	free_block(block);
+}
+
+/* Ends the task of a hand, if there is one. */
+static int64_t end_held(struct side *side)
+{
+	const int64_t task = eevdf_hand_task(&side->hand), wanted = task < 0 ? EEVDF_ABSENT : 0;
+	eevdf_block block = { NULL };
+
+	if (!side->is_given) {
+		eevdf_hand_close(&side->hand);
+		return wanted;
+	}
+	hand_end_out_full(side);
+	failed += eevdf_hand_end_out(&side->hand, &block) != wanted;
+	failed += (block.at != NULL) != (wanted == 0) || eevdf_hand_task(&side->hand) != EEVDF_ABSENT;
+	if (block.at)
+		free_block(block);
+	return wanted;
+}
+
 static int64_t answer_to(struct side *side, const struct call *call)
 {
 	eevdf_queue *queue = &side->queue;
@@ -184,8 +215,10 @@ static int64_t answer_to(struct side *side, const struct call *call)
 		return eevdf_take_any(queue, hand);
 	case PUT:
 		return eevdf_put(queue, hand);
-	default:
+	case PUT_ASLEEP:
 		return eevdf_put_asleep(queue, hand);
+	default:
+		return end_held(side);
 	}
 }
 
@@ -207,16 +240,12 @@ static struct call drawn_call(void)
 	return call;
 }
 
-/* Ends the tasks one by one, first those of the queue, and then that of the hand, if there is one. */
+/* Ends the tasks one by one, and that of the hand, if there is one. */
 static void end_all(struct side *side)
 {
-	for (unsigned turn = 0; turn < 2; turn++) {
-		for (uint64_t task = 0; task < TASKS; task++)
-			end(side, task);
-		eevdf_put_asleep(&side->queue, &side->hand);
-	}
 	for (uint64_t task = 0; task < TASKS; task++)
 		end(side, task);
+	end_held(side);
 	eevdf_close(&side->queue);
 	eevdf_hand_close(&side->hand);
 }

@@ -5,7 +5,8 @@
  *   state QUEUE TASKS   prints all that can be read of a queue and its tasks below a number,
  *   refuse 1, refuse 0  let every request for memory be refused from there on, or none.
  * Every other admit gives the task a block, by eevdf_admit_in, and every other end gets one back, by
- * eevdf_end_out: they answer as eevdf_admit and eevdf_end, and leave the same state.
+ * eevdf_end_out; and every other hand that is closed gives one back by eevdf_hand_end_out. They
+ * answer as eevdf_admit and eevdf_end, and leave the same state.
  * A changed byte around a queue or a hand ends it with 1.
  */
 #include <eevdf.h>
@@ -84,12 +85,6 @@ static int64_t play_hand_open(const struct line *line)
 	return 0;
 }
 
-static int64_t play_hand_close(const struct line *line)
-{
-	eevdf_hand_close(hand_of(line, 0));
-	return 0;
-}
-
 static int64_t play_hand_task(const struct line *line)
 {
 	return eevdf_hand_task(hand_of(line, 0));
@@ -140,6 +135,22 @@ static int64_t play_end(const struct line *line)
 	answer = eevdf_end_out(queue_of(line), &block, line->number[1]);
 	free(block.at);
 	return answer;
+}
+
+/* Closing answers nothing: an answer of the other call is printed where it isn't the right one. */
+static int64_t play_hand_close(const struct line *line)
+{
+	eevdf_hand *hand = hand_of(line, 0);
+	const int64_t wanted = eevdf_hand_task(hand) < 0 ? EEVDF_ABSENT : 0;
+	eevdf_block block = { NULL };
+	int64_t answer = wanted;
+
+	if (is_given())
+		answer = eevdf_hand_end_out(hand, &block);
+	else
+		eevdf_hand_close(hand);
+	free(block.at);
+	return answer == wanted ? 0 : answer;
 }
 
 static int64_t play_tick(const struct line *line)

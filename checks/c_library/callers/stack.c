@@ -74,6 +74,15 @@ static inline void end_out(uint64_t task)
 		eevdf_dealloc(block.at);
 }
 
+static inline void hand_end_out(void)
+{
+	eevdf_block block = { NULL };
+
+	eevdf_hand_end_out(&hand, &block);
+	if (block.at)
+		eevdf_dealloc(block.at);
+}
+
 /* A turn of each call that a queue has in its life. */
 static inline void turn(void)
 {
@@ -120,6 +129,9 @@ static inline void turn(void)
 	eevdf_hand_task(&hand);
 	eevdf_stop(&queue);
 	end_out(task);
+	admit_in(task, (int64_t)drawn(40) - 20, 3000000, number);
+	eevdf_take(&queue, &hand, task);
+	hand_end_out();
 	admit_in(task, (int64_t)drawn(40) - 20, 3000000, number);
 	eevdf_end(&queue, task);
 	eevdf_admit(&queue, task, (int64_t)drawn(40) - 20, 100000 + drawn(1000000), number);

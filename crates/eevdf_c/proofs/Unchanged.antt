@@ -104,3 +104,9 @@ end_out_keeps_queue q has number = keeps (λ e. grind arith)
 
 pub end_out_keeps_block : (q : State) (has : Bool) (number : ℕ) → Keeps has (blocks.end q has number).answer (blocks.end q has number).block
 end_out_keeps_block q has number = keeps (λ e. grind arith)
+
+pub hand_end_out_keeps_hand : (h : Option Contents) (has : Bool) → Keeps h (blocks.end_held h has).answer (blocks.end_held h has).hand
+hand_end_out_keeps_hand h has = keeps (λ e. grind arith)
+
+pub hand_end_out_keeps_block : (h : Option Contents) (has : Bool) → Keeps has (blocks.end_held h has).answer (blocks.end_held h has).block
+hand_end_out_keeps_block h has = keeps (λ e. grind arith)

@@ -46,3 +46,18 @@ end_by q false (Some task) = end_with q (carried_out q task) (gone q task)
 -- a task ends, and the caller has its block
 abbrev pub end : State → Bool → ℕ → Outcome
 end q has number = end_by q has (checked_number number)
+
+-- what a call answers that ends the task of a hand, the hand afterwards, and whether the caller has a block then
+pub record HandOutcome : Type 0 where
+  pub answer : ℤ
+  pub hand : Option Contents
+  pub block : Bool
+
+abbrev pub end_held_with : Option Contents → HandOutcome
+end_held_with None = record { answer = absent; hand = None; block = false }
+end_held_with (Some p) = record { answer = done; hand = None; block = true }
+
+-- the task of a hand ends, and the caller has its block
+abbrev pub end_held : Option Contents → Bool → HandOutcome
+end_held h true = record { answer = busy; hand = h; block = true }
+end_held h false = end_held_with h

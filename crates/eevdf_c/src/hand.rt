@@ -1,12 +1,15 @@
 use eevdf_queue::Parcel;
+use std::alloc::Global;
 use std::marker::Model;
 use std::mem::{align_of, size_of};
 
-/// A task on its way between two queues, or nothing, as it lies in the caller's memory. Contracts see what it carries.
+/// A task on its way between two queues, or nothing, as it lies in the caller's memory, and the allocator of its node. That takes no
+/// bytes, and is kept so that a call which gives the node's memory to the caller needs none of its own. Contracts see the task.
 ///
 /// A hand isn't `Drop`, as a parcel isn't: a task in it goes into a queue or ends.
 pub struct Hand {
     pub(crate) parcel: Option<Parcel>,
+    pub(crate) alloc: Global,
 }
 
 impl Model for Hand {
@@ -22,10 +25,13 @@ impl Hand {
     ghost use Rattle.std.specs.Prelude.{◌≡◌, Some, None};
 
     /// An empty hand. Takes no memory.
-    pub fn open() -> Hand
+    pub fn open(alloc: Global) -> Hand
         ensures { result ≡ None }
     {
-        Hand { parcel: None }
+        Hand {
+            parcel: None,
+            alloc,
+        }
     }
     /// Puts a task into the hand. One that it held ends.
     pub fn fill(&mut self, parcel: Parcel)

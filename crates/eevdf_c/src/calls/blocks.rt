@@ -9,6 +9,7 @@ use crate::calls::coming::{NewTask, checked, refusal_code};
 use crate::calls::leaving::taken_out;
 use crate::codes::{ABSENT, BUSY, DONE, INVALID, NO_MEMORY, PRESENT};
 use crate::given_block::GivenBlock;
+use crate::hand::Hand;
 use crate::opened::Opened;
 use eevdf_queue::{Block, Parcel, Queue, Refused, TaskId};
 
@@ -106,6 +107,27 @@ fn end_task_out(queue: &mut Queue, block: &mut Block, task: TaskId) -> i64
     match taken_out(queue, task) {
         Some(parcel) => {
             parcel.retire_into(block);
+            DONE
+        }
+        None => ABSENT,
+    }
+}
+
+/// The task of a hand ends, and the caller gets a block back.
+#[tactic(auto, using(crate::proofs::Unchanged::hand_end_out_keeps_hand, crate::proofs::Unchanged::hand_end_out_keeps_block))]
+pub fn hand_end_out(hand: &mut Hand, block: &mut GivenBlock) -> i64
+    ensures answer { result ≡ (blocks.end_held hand.old block.old).answer }
+    ensures hand { hand.new ≡ (blocks.end_held hand.old block.old).hand }
+    ensures block { block.new ≡ (blocks.end_held hand.old block.old).block }
+    ensures kept { KeepsOnError result hand.old hand.new }
+    ensures held { KeepsOnError result block.old block.new }
+{
+    if block.block.is_some(hand.alloc) {
+        return BUSY;
+    }
+    match hand.parcel.take() {
+        Some(parcel) => {
+            parcel.retire_into(&mut block.block);
             DONE
         }
         None => ABSENT,

@@ -1,14 +1,15 @@
 //! How a task comes in a block of memory that the caller gives, and how one ends whose block the caller gets back.
 
-ghost use Rattle.std.specs.Prelude.{◌≡◌, Bool};
+ghost use Rattle.std.specs.Prelude.{◌≡◌, Bool, Option};
 ghost use Rattle.std.specs.Borrow.{sem};
-ghost use Rattle.eevdf_queue.specs.State.{State};
-ghost use Rattle.eevdf_c.specs.Memory.{block_at, queue_at};
+ghost use Rattle.eevdf_queue.specs.State.{State, Contents};
+ghost use Rattle.eevdf_c.specs.Memory.{block_at, hand_at, queue_at};
 ghost use Rattle.eevdf_c.specs.Errors.{KeepsOnError};
 ghost use Rattle.eevdf_c.specs.Blocks as blocks;
 
 use crate::calls;
 use crate::given_block::GivenBlock;
+use crate::hand::Hand;
 use crate::opened::Opened;
 
 /// Makes a task runnable that starts at a virtual runtime, with a fresh request, in the memory of `block`, which is the queue's then.
@@ -60,4 +61,20 @@ pub unsafe extern "C" fn eevdf_end_out(queue: *mut u8, block: *mut u8, task: u64
         &mut *(block as *mut GivenBlock),
         task,
     )
+}
+
+/// The task of a hand ends, and `block` gets memory back in which a task was. Answers 0, and the hand is empty. `BUSY`: there is a block
+/// already; `ABSENT`: the hand is empty.
+#[unsafe(no_mangle)]
+pub unsafe extern "C" fn eevdf_hand_end_out(hand: *mut u8, block: *mut u8) -> i64
+    ghost g: { Option Contents × Bool }
+    requires* hand { sem 𝓛 (hand_at hand g.0) }
+    requires* block { sem 𝓛 (block_at block g.1) }
+    ensures* after { sem 𝓛 (hand_at hand (blocks.end_held g.0 g.1).hand) }
+    ensures* left { sem 𝓛 (block_at block (blocks.end_held g.0 g.1).block) }
+    ensures answer { result ≡ (blocks.end_held g.0 g.1).answer }
+    ensures kept { KeepsOnError result g.0 (blocks.end_held g.0 g.1).hand }
+    ensures held { KeepsOnError result g.1 (blocks.end_held g.0 g.1).block }
+{
+    calls::blocks::hand_end_out(&mut *(hand as *mut Hand), &mut *(block as *mut GivenBlock))
 }

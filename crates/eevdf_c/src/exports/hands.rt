@@ -15,14 +15,15 @@ use crate::calls;
 use crate::hand::Hand;
 use crate::opened::Opened;
 use crate::parcel_out::ParcelOut;
+use std::alloc::Global;
 
 /// Opens an empty hand in memory of the caller's. Takes no memory.
 #[unsafe(no_mangle)]
-pub unsafe extern "C" fn eevdf_hand_open(hand: *mut u8)
+pub unsafe extern "C" fn eevdf_hand_open(alloc: Global, hand: *mut u8)
     requires* { sem 𝓛 (room_for_hand hand) }
     ensures* { sem 𝓛 (hand_at hand None) }
 {
-    (hand as *mut Hand).write(Hand::open());
+    (hand as *mut Hand).write(Hand::open(alloc));
 }
 
 /// The task in a hand. `ABSENT`: it is empty.
