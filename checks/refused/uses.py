@@ -10,6 +10,8 @@ from sweep import first_of, sweep
 NAME = "eevdf_uses"
 # What a run may say that was refused a request: starting a thread takes memory too.
 REFUSED = (b"OutOfMemory", b"WouldBlock")
+# A run takes two seconds of four processors, and in the gate it shares them with other runs, whose threads wait for each other too.
+SECONDS = 180
 
 
 @dataclass
@@ -21,7 +23,7 @@ class Uses:
     faults: list = field(default_factory=list)
 
     def run(self, number):
-        return self.refusals.run(NAME, [], Path(os.devnull), refuse_memory=number)
+        return self.refusals.run(NAME, [], Path(os.devnull), seconds=SECONDS, refuse_memory=number)
 
     def look(self, number, run):
         """A run that is refused a request prints a beginning of the output and says so, or does without and prints it whole."""
