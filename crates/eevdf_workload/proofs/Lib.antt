@@ -10,4 +10,5 @@ mod VersionMeanings
 mod ReadingBesides
 mod ReadingFronts
 mod ReadingPlainValues
-mod ReadingOrders
+mod ReadingPlainPrograms
+mod ReadingByFronts

@@ -1,5 +1,5 @@
 -- The front of a document, a member at a time.
-use Rattle.std.proofs.Common.{◌≡◌, ℕ, suc, ◌-◌, ◌<◌, ◌≤◌, true, false, cond, ◌==◌, List, [], length, codes, Option, Some, None, is_some, option_map, refl, sym, ap, ◌∙◌, inl, inr, arith, nat_cmp, is_eq, Vec, Global}
+use Rattle.std.proofs.Common.{◌≡◌, ℕ, suc, ◌-◌, ◌<◌, ◌≤◌, true, false, cond, ◌==◌, List, [], length, codes, Option, Some, None, is_some, option_map, Result, Ok, refl, sym, ap, ◌∙◌, inl, inr, arith, nat_cmp, is_eq, Vec, Global}
 use Rattle.std.proofs.lemmas.Bool.{cases_Bool, true≢false}
 use Rattle.std.proofs.lemmas.Bool.Decides.{nat_tests}
 use Rattle.std.proofs.lemmas.Cmp.{nat_list_cmp_total}
@@ -12,8 +12,10 @@ use Rattle.toml.specs.Tables.{Node, Nodes, no_nodes, value, get_node, insert, cl
 use Rattle.toml.specs.Parse.{ends_line, expression, key_equals, line, lines, skip_bom, parse_document, val}
 use Rattle.toml.proofs.NodeLaws.{get_node-insert}
 use Rattle.toml.proofs.Turns.{document_some, lines_more}
-use Rattle.eevdf_workload.specs.declared.version.Version.{Version}
-use Rattle.eevdf_workload.specs.Fronts.{version_value, order_value, value_in, BeginsWith}
+use Rattle.eevdf_ops.specs.declared.deeds.{Deed.Deed, Op.Op}
+use Rattle.eevdf_workload.specs.{declared.version.Version.Version, declared.load_fault.LoadFault.LoadFault, Versions.limits_of}
+use Rattle.eevdf_workload.specs.Meaning.{order_of, programs_of, script_of, version_of}
+use Rattle.eevdf_workload.specs.Fronts.{limits_in, programs_in, BeginsWith, Holds, IsReadAs}
 use Rattle.eevdf_workload.proofs.ReadingBesides.{over, Adds, Lacks, equal_from, same_found, get_node-insert-other, lines_beside, lines_longer, member_of_node}
 
 -- the text is read up to what is left, and these values were found
@@ -34,19 +36,14 @@ absent (Some a) none = absurd (true≢false none)
 
 -- ---- nothing is found yet
 
-none_in : (l : List ℕ) → value_in None None l ≡ None
-none_in l =
-    elim (cases_Bool (same_key l (codes "version"))) [
-      | inl version ↦ rw version refl
-      | inr other ↦
-          elim (cases_Bool (same_key l (codes "order"))) [
-            | inl order ↦ rw (other, order) refl
-            | inr neither ↦ rw (other, neither) refl
-          ]
-    ]
+abbrev pub nothing : List ℕ → Option Data
+nothing l = None
 
-pub unread : (text : List ℕ) → IsReadUpTo (value_in None None) text text
-unread text = (no_nodes, suc (length text), omega arith, λ l. ap (λ v. over v None) (sym (none_in l)), refl)
+pub unread : (text : List ℕ) → IsReadUpTo nothing text text
+unread text = (no_nodes, suc (length text), omega arith, λ l. refl, refl)
+
+pub holds_nothing : Holds nothing None None None None
+holds_nothing = record { version_is = tt; order_is = tt; programs_is = tt; script_is = tt; others = λ key a b c d. refl }
 
 -- ---- one more member
 
@@ -55,64 +52,78 @@ unfolding define along_header along_dots at_key
 put_new root k d none = rw none refl
 
 -- the values, and one more at a key
-abbrev IsWith : List ℕ → Data → (List ℕ → Option Data) → (List ℕ → Option Data) → Type 0
-IsWith k d values more = (l : List ℕ) → more l ≡ cond (same_key l k) (Some d) (values l)
+abbrev pub with : List ℕ → Data → (List ℕ → Option Data) → List ℕ → Option Data
+with k d values l = cond (same_key l k) (Some d) (values l)
 
-with_more : (k : List ℕ) (d : Data) (values more : List ℕ → Option Data) (root : Nodes) → IsWith k d values more → Adds values no_nodes root → Adds more no_nodes (insert k (value d) root)
-with_more k d values more root is adds l =
+with_more : (k : List ℕ) (d : Data) (values : List ℕ → Option Data) (root : Nodes) → Adds values no_nodes root → Adds (with k d values) no_nodes (insert k (value d) root)
+with_more k d values root adds l =
     elim (cases_Bool (same_key l k)) [
       | inl same ↦
           let found = same_found l k (insert k (value d) root) (equal_from (slice_cmp nat_cmp l k) same) ∙ get_node-insert k (value d) root in
-          let here : more l ≡ Some d = is l ∙ ap (λ t. cond t (Some d) (values l)) same in
-          found ∙ sym (ap (λ v. over v None) here)
+          found ∙ sym (ap (λ t. over (cond t (Some d) (values l)) None) same)
       | inr apart ↦
           let kept = get_node-insert-other l k (value d) root apart ∙ adds l in
-          let here : more l ≡ values l = is l ∙ ap (λ t. cond t (Some d) (values l)) apart in
-          kept ∙ sym (ap (λ v. over v None) here)
+          kept ∙ sym (ap (λ t. over (cond t (Some d) (values l)) None) apart)
     ]
 
-next_member : (values more : List ℕ → Option Data) (text left after : List ℕ) (k : List ℕ) (d : Data) → IsReadUpTo values text left → IsWith k d values more → values k ≡ None
-    → line (skip_blank left) ≡ Some ((([], k), key_value d), after) → length after < length (skip_blank left) → length (skip_blank left) ≤ length left → IsReadUpTo more text after
-next_member values more text left after k d so is new read shorter within =
+pub next_member : (values : List ℕ → Option Data) (text left after : List ℕ) (k : List ℕ) (d : Data) → IsReadUpTo values text left → values k ≡ None → line (skip_blank left) ≡ Some ((([], k), key_value d), after)
+    → length after < length (skip_blank left) → length (skip_blank left) ≤ length left → IsReadUpTo (with k d values) text after
+next_member values text left after k d so new read shorter within =
     let (root, m, room, adds, loop) = so in
     let none : get_node k root ≡ None = adds k ∙ ap (λ v. over v None) new in
     let some : (length (skip_blank left) == 0) ≡ false = grind (arith, nat_tests) in (
       insert k (value d) root,
       m - 1,
       omega arith,
-      with_more k d values more root is adds,
+      with_more k d values root adds,
       loop ∙ lines_more m (root, []) (insert k (value d) root, []) left _ after (omega arith) some read (put_new root k d none),
     )
 
-pub next_version : (order : Option (Vec ℕ Global)) (v : Version) (text left after : List ℕ) → IsReadUpTo (value_in None order) text left
-    → line (skip_blank left) ≡ Some ((([], codes "version"), key_value (version_value v)), after) → length after < length (skip_blank left) → length (skip_blank left) ≤ length left → IsReadUpTo (value_in (Some v) order) text after
-next_version order v text left after so read shorter within =
-    next_member (value_in None order) (value_in (Some v) order) text left after (codes "version") (version_value v) so is refl read shorter within
-  where
-    is : IsWith (codes "version") (version_value v) (value_in None order) (value_in (Some v) order)
-    is l =
-        elim (cases_Bool (same_key l (codes "version"))) [
-          | inl same ↦ rw same refl
-          | inr apart ↦ rw apart refl
-        ]
+-- what isn't found has no value
+pub no_value_at : {A : Type 0} (read : Data → Result A LoadFault) (v : Option Data) → IsReadAs read v None → v ≡ None
+no_value_at read None is = refl
+no_value_at read (Some d) is = absurd is
 
-pub next_order : (version : Option Version) (callers : Vec ℕ Global) (text left after : List ℕ) → IsReadUpTo (value_in version None) text left
-    → line (skip_blank left) ≡ Some ((([], codes "order"), key_value (order_value callers.items)), after) → length after < length (skip_blank left) → length (skip_blank left) ≤ length left → IsReadUpTo (value_in version (Some callers)) text after
-next_order version callers text left after so read shorter within =
-    next_member (value_in version None) (value_in version (Some callers)) text left after (codes "order") (order_value callers.items) so is refl read shorter within
-  where
-    is : IsWith (codes "order") (order_value callers.items) (value_in version None) (value_in version (Some callers))
-    is l =
-        elim (cases_Bool (same_key l (codes "order"))) [
-          | inl same ↦
-              let other : same_key l (codes "version") ≡ false = ap is_eq (nat_list_cmp_total.congr l (codes "order") (codes "version") (equal_from (slice_cmp nat_cmp l (codes "order")) same)) in
-              rw (other, same) refl
-          | inr apart ↦
-              elim (cases_Bool (same_key l (codes "version"))) [
-                | inl version_key ↦ rw (version_key, apart) refl
-                | inr neither ↦ rw (neither, apart) refl
-              ]
-        ]
+as_none : {A B : Type 0} (one : Data → Result A LoadFault) (other : Data → Result B LoadFault) (v : Option Data) → IsReadAs one v None → IsReadAs other v None
+as_none one other None is = tt
+as_none one other (Some d) is = absurd is
+
+module _ (values : List ℕ → Option Data) (d : Data) where
+  pub holds_version : (order : Option (Vec ℕ Global)) (v : Version) → Holds values None order None None → version_of d ≡ Ok v → Holds (with (codes "version") d values) (Some v) order None None
+  holds_version order v h read = record {
+    version_is = read;
+    order_is = h.order_is;
+    programs_is = as_none (programs_of (limits_in None)) (programs_of (limits_of v)) (values (codes "program")) h.programs_is;
+    script_is = as_none (script_of (limits_in None)) (script_of (limits_of v)) (values (codes "script")) h.script_is;
+    others = λ key a b c e. ap (λ t. cond t (Some d) (values key)) a ∙ h.others key a b c e;
+  }
+
+  pub holds_order : (version : Option Version) (callers : Vec ℕ Global) (programs : Option (Vec (Vec Op Global) Global)) (script : Option (Vec Deed Global)) → Holds values version None programs script → order_of d ≡ Ok callers.items → Holds (with (codes "order") d values) version (Some callers) programs script
+  holds_order version callers programs script h read = record {
+    version_is = h.version_is;
+    order_is = read;
+    programs_is = h.programs_is;
+    script_is = h.script_is;
+    others = λ key a b c e. ap (λ t. cond t (Some d) (values key)) b ∙ h.others key a b c e;
+  }
+
+  pub holds_programs : (version : Option Version) (order : Option (Vec ℕ Global)) (programs : Vec (Vec Op Global) Global) (script : Option (Vec Deed Global)) → Holds values version order None script → programs_of (limits_in version) d ≡ Ok (programs_in programs) → Holds (with (codes "program") d values) version order (Some programs) script
+  holds_programs version order programs script h read = record {
+    version_is = h.version_is;
+    order_is = h.order_is;
+    programs_is = read;
+    script_is = h.script_is;
+    others = λ key a b c e. ap (λ t. cond t (Some d) (values key)) c ∙ h.others key a b c e;
+  }
+
+  pub holds_script : (version : Option Version) (order : Option (Vec ℕ Global)) (programs : Option (Vec (Vec Op Global) Global)) (deeds : Vec Deed Global) → Holds values version order programs None → script_of (limits_in version) d ≡ Ok deeds.items → Holds (with (codes "script") d values) version order programs (Some deeds)
+  holds_script version order programs deeds h read = record {
+    version_is = h.version_is;
+    order_is = h.order_is;
+    programs_is = h.programs_is;
+    script_is = read;
+    others = λ key a b c e. ap (λ t. cond t (Some d) (values key)) e ∙ h.others key a b c e;
+  }
 
 -- ---- the document behind the front
 

@@ -1,14 +1,16 @@
 -- The front of a document, of which no tree is made, and the document behind it.
-use Rattle.std.specs.Prelude.{◌≡◌, codes, ℕ, if◌then◌else◌, pos, List, [], ◌∷◌, Vec, Option, Some, None, option_map, Result}
+use Rattle.std.specs.Prelude.{◌≡◌, codes, ℕ, false, pos, map, List, [], ◌∷◌, Vec, Option, Some, None, option_map, Result, Ok}
 use Rattle.std.specs.{Option.option_or, declared.alloc.Global.Global}
-use Rattle.toml.specs.Data.{Data, integer, array, Items, no_items, item, Members, member, get_member, same_key}
+use Rattle.toml.specs.Data.{Data, integer, array, Items, no_items, item, Members, get_member, same_key}
 use Rattle.toml.specs.Parse.{parse_document}
+use Rattle.eevdf_ops.specs.declared.deeds.{Deed.Deed, Op.Op}
 use Rattle.eevdf_workload.specs.declared.load_fault.LoadFault.{LoadFault}
-use Rattle.eevdf_workload.specs.declared.version.Version.{Version}
+use Rattle.eevdf_workload.specs.declared.version.{Version.Version, Limits.Limits}
 use Rattle.eevdf_workload.specs.declared.version.Version.TheVariants.{One, Two, Three}
 use Rattle.eevdf_workload.specs.declared.reading.front.Member as kind
 use Rattle.eevdf_workload.specs.MeaningSteps.{◌>>=◌}
-use Rattle.eevdf_workload.specs.Meaning.{Workload, document_of, workload_of}
+use Rattle.eevdf_workload.specs.Meaning.{Workload, document_of, order_of, programs_of, script_of, version_of, workload_of}
+use Rattle.eevdf_workload.specs.Versions.{limits_of}
 
 -- the numbers as the members of an array
 abbrev pub integers : List ℕ → Items
@@ -24,21 +26,41 @@ version_value Three = integer (pos 3)
 abbrev pub order_value : List ℕ → Data
 order_value callers = array (integers callers)
 
--- the key and the value of a member
+-- the operations of programs
+abbrev pub programs_in : Vec (Vec Op Global) Global → List (List Op)
+programs_in programs = map (λ p. p.items) programs.items
+
+-- the limits of the version that was found, if one was
+abbrev pub limits_in : Option Version → Limits
+limits_in (Some v) = limits_of v
+limits_in None = limits_of One
+
+-- the key of a member, and what its value is read as within limits
 abbrev pub member_key : kind.Member → List ℕ
 member_key (kind.TheVariants.Version v) = codes "version"
 member_key (kind.TheVariants.Order callers) = codes "order"
+member_key (kind.TheVariants.Programs programs) = codes "program"
+member_key (kind.TheVariants.Script deeds) = codes "script"
 
-abbrev pub member_value : kind.Member → Data
-member_value (kind.TheVariants.Version v) = version_value v
-member_value (kind.TheVariants.Order callers) = order_value callers.items
+abbrev pub IsMember : Limits → kind.Member → Data → Type 0
+IsMember limits (kind.TheVariants.Version v) d = version_of d ≡ Ok v
+IsMember limits (kind.TheVariants.Order callers) d = order_of d ≡ Ok callers.items
+IsMember limits (kind.TheVariants.Programs programs) d = programs_of limits d ≡ Ok (programs_in programs)
+IsMember limits (kind.TheVariants.Script deeds) d = script_of limits d ≡ Ok deeds.items
 
--- what a front with this version and this order has at a key
-abbrev pub value_in : Option Version → Option (Vec ℕ Global) → List ℕ → Option Data
-value_in version order key =
-    if same_key key (codes "version") then option_map version_value version
-    else if same_key key (codes "order") then option_map (λ v. order_value v.items) order
-    else None
+-- a value is read as what was found, or neither is there
+abbrev pub IsReadAs : {A : Type 0} → (Data → Result A LoadFault) → Option Data → Option A → Type 0
+IsReadAs read (Some d) (Some a) = read d ≡ Ok a
+IsReadAs read None None = Unit {0}
+IsReadAs read _ _ = ⊥
+
+-- what a front has: its values are read as what was found, and stand at no other key
+pub record Holds (values : List ℕ → Option Data) (version : Option Version) (order : Option (Vec ℕ Global)) (programs : Option (Vec (Vec Op Global) Global)) (script : Option (Vec Deed Global)) : Type 0 where
+  pub version_is : IsReadAs version_of (values (codes "version")) version
+  pub order_is : IsReadAs order_of (values (codes "order")) (option_map (λ v. v.items) order)
+  pub programs_is : IsReadAs (programs_of (limits_in version)) (values (codes "program")) (option_map (λ v. programs_in v) programs)
+  pub script_is : IsReadAs (script_of (limits_in version)) (values (codes "script")) (option_map (λ v. v.items) script)
+  pub others : (key : List ℕ) → same_key key (codes "version") ≡ false → same_key key (codes "order") ≡ false → same_key key (codes "program") ≡ false → same_key key (codes "script") ≡ false → values key ≡ None
 
 -- a document has none of the keys at which there are values
 abbrev pub HasNone : (List ℕ → Option Data) → Members → Type 0
@@ -54,10 +76,6 @@ abbrev pub BeginsWith : (List ℕ → Option Data) → List ℕ → List ℕ →
 BeginsWith values left text =
     (other : Members) → parse_document left ≡ Some other → HasNone values other
     → (document : Members) × (parse_document text ≡ Some document) × HasBesides values other document
-
--- a document, and an order besides
-abbrev pub with_order : List ℕ → Members → Members
-with_order callers document = member (codes "order") (order_value callers) document
 
 -- what the bytes describe as a document, however many they are
 abbrev pub described : List ℕ → Result Workload LoadFault

@@ -5,6 +5,7 @@ ghost use Rattle.eevdf_workload.specs.MeaningSteps.{Reads};
 ghost use Rattle.toml.specs.View.{table_view};
 
 mod argument_words;
+mod by_front;
 mod deed_text;
 pub(crate) mod document_keys;
 mod front;
@@ -12,7 +13,7 @@ pub(crate) mod level_text;
 mod lists;
 pub(crate) mod number_text;
 mod operation_text;
-mod order_in_front;
+mod plain_programs;
 mod plain_values;
 mod task_table;
 pub(crate) mod unread;
@@ -20,9 +21,9 @@ pub(crate) mod verb_text;
 mod word_list;
 
 use crate::load_fault::{Key, LoadFault};
+use crate::reading::by_front::workload_by_front;
 use crate::reading::document_keys::version;
 use crate::reading::lists::{order, programs, script};
-use crate::reading::order_in_front::workload_by_front;
 use crate::reading::task_table::tasks;
 use crate::reading::unread::has_unread_keys;
 use crate::version::Limits;

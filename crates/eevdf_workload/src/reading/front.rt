@@ -1,15 +1,18 @@
-//! The front of a document: the members `version` and `order` that stand before all else in it. Each is read by itself, so that
-//! no tree is made of them.
+//! The front of a document: the members `version`, `order`, `program` and `script` that stand before all else in it. Each is read
+//! by itself, so that no tree is made of them.
 
-ghost use Rattle.std.specs.Prelude.{◌≡◌, ◌<◌, ◌==◌, false, [], Some, length, slice_index, string_bytes, IfErr, IfOk, IfSome};
-ghost use Rattle.eevdf_workload.specs.Fronts.{member_key, member_value, value_in, version_value, BeginsWith};
+ghost use Rattle.std.specs.Prelude.{◌≡◌, ◌<◌, ◌==◌, ℕ, List, Option, false, [], Some, length, slice_index, string_bytes, IfErr, IfOk, IfSome};
+ghost use Rattle.eevdf_workload.specs.Fronts.{limits_in, member_key, version_value, BeginsWith, Holds, IsMember};
 ghost use Rattle.eevdf_workload.specs.declared.load_fault.LoadFault.TheVariants.{Memory};
+ghost use Rattle.toml.specs.Data.{Data};
 ghost use Rattle.toml.specs.Parse as parse;
 ghost use Rattle.toml.specs.Tables.{key_value};
 
 use crate::load_fault::LoadFault;
-use crate::reading::plain_values::{number_at, order_at, plain};
+use crate::reading::plain_programs::programs_at;
+use crate::reading::plain_values::{number_at, order_at, plain, script_at};
 use crate::version::Version;
+use eevdf_ops::{Deed, Op};
 use std::alloc::Global;
 use toml_parser::text::{first, skip, skip_blank, skip_ws};
 use toml_parser::{Key, dotted_key};
@@ -19,6 +22,8 @@ use toml_parser::{Key, dotted_key};
 pub(crate) struct Front<'a> {
     pub(crate) version: Option<Version>,
     pub(crate) order: Option<Vec<usize>>,
+    pub(crate) programs: Option<Vec<Vec<Op>>>,
+    pub(crate) script: Option<Vec<Deed>>,
     pub(crate) left: &'a str,
 }
 
@@ -27,25 +32,29 @@ pub(crate) struct Front<'a> {
 pub(crate) enum Member {
     Version(Version),
     Order(Vec<usize>),
+    Programs(Vec<Vec<Op>>),
+    Script(Vec<Deed>),
 }
 
-/// The front of a document. It ends where no member of it stands, or one that it has already. `None` where a byte order mark may
-/// stand before it or behind it.
+/// The front of a document. It ends where no member of it stands, or one that it has already; the programs and the script have to
+/// stand behind the version. `None` where a byte order mark may stand before it or behind it.
 pub(crate) fn front_of(alloc: Global, text: &str) -> Result<Option<Front>, LoadFault>
     ensures value { IfOk result (λ found. IfSome found (λ f.
-        BeginsWith (value_in f.version f.order) f.left.now text.now)) }
+        (values : List ℕ → Option Data) × Holds values f.version f.order f.programs f.script × BeginsWith values f.left.now text.now)) }
     ensures memory { IfErr result (λ e. e ≡ Memory) }
 {
     let mut version = None;
     let mut order = None;
+    let mut programs = None;
+    let mut script = None;
     let mut left = text;
     'members: loop {
-        let Some((member, after)) = member_at(alloc, skip_blank(left, true))? else {
+        let Some((member, after)) = member_at(alloc, version, skip_blank(left, true))? else {
             break;
         };
         match member {
             Member::Version(found) => {
-                if version.is_some() {
+                if version.is_some() || programs.is_some() || script.is_some() {
                     break;
                 }
                 version = Some(found);
@@ -56,6 +65,18 @@ pub(crate) fn front_of(alloc: Global, text: &str) -> Result<Option<Front>, LoadF
                 }
                 order = Some(found);
             }
+            Member::Programs(found) => {
+                if programs.is_some() {
+                    break;
+                }
+                programs = Some(found);
+            }
+            Member::Script(found) => {
+                if script.is_some() {
+                    break;
+                }
+                script = Some(found);
+            }
         }
         left = after;
     }
@@ -65,6 +86,8 @@ pub(crate) fn front_of(alloc: Global, text: &str) -> Result<Option<Front>, LoadF
     Ok(Some(Front {
         version,
         order,
+        programs,
+        script,
         left,
     }))
 }
@@ -77,16 +100,21 @@ fn is_mark(byte: u8) -> bool
 }
 
 /// The member at the front of a text, on a line of its own, and what stands behind it.
-fn member_at(alloc: Global, text: &str) -> Result<Option<(Member, &str)>, LoadFault>
-    ensures value { IfOk result (λ found. IfSome found (λ p.
-        parse.line text.now ≡ Some ((([], member_key p.0), key_value (member_value p.0)), p.1.now))) }
+fn member_at(
+    alloc: Global,
+    version: Option<Version>,
+    text: &str,
+) -> Result<Option<(Member, &str)>, LoadFault>
+    ensures value { IfOk result (λ found. IfSome found (λ p. (d : Data)
+        × (parse.line text.now ≡ Some ((([], member_key p.0), key_value d), p.1.now))
+        × IsMember (limits_in version) p.0 d)) }
     ensures shorter { IfOk result (λ found. IfSome found (λ p. length p.1.now < length text.now)) }
     ensures memory { IfErr result (λ e. e ≡ Memory) }
 {
     let Some((key, value)) = key_at(alloc, text)? else {
         return Ok(None);
     };
-    let Some((member, after)) = member_of(alloc, key.as_str(), value)? else {
+    let Some((member, after)) = member_of(alloc, version, key.as_str(), value)? else {
         return Ok(None);
     };
     if ends_line(skip_ws(after)) {
@@ -127,12 +155,13 @@ fn key_at(alloc: Global, text: &str) -> Result<Option<(String, &str)>, LoadFault
 /// The member of this key, of which the value stands at the front of a text, and what stands behind it.
 fn member_of<'a>(
     alloc: Global,
+    version: Option<Version>,
     key: &str,
     text: &'a str,
 ) -> Result<Option<(Member, &'a str)>, LoadFault>
     ensures key { IfOk result (λ found. IfSome found (λ p. key.now ≡ member_key p.0)) }
-    ensures value { IfOk result (λ found. IfSome found (λ p.
-        parse.val 80 text.now ≡ Some (member_value p.0, p.1.now))) }
+    ensures value { IfOk result (λ found. IfSome found (λ p. (d : Data)
+        × (parse.val 80 text.now ≡ Some (d, p.1.now)) × IsMember (limits_in version) p.0 d)) }
     ensures shorter { IfOk result (λ found. IfSome found (λ p. length p.1.now < length text.now)) }
     ensures memory { IfErr result (λ e. e ≡ Memory) }
 {
@@ -148,6 +177,24 @@ fn member_of<'a>(
                 return Ok(None);
             };
             Ok(Some((Member::Order(order), after)))
+        }
+        "program" => {
+            let Some(version) = version else {
+                return Ok(None);
+            };
+            let Some((programs, after)) = programs_at(alloc, version.limits(), text)? else {
+                return Ok(None);
+            };
+            Ok(Some((Member::Programs(programs), after)))
+        }
+        "script" => {
+            let Some(version) = version else {
+                return Ok(None);
+            };
+            let Some((script, after)) = script_at(alloc, version.limits(), text)? else {
+                return Ok(None);
+            };
+            Ok(Some((Member::Script(script), after)))
         }
         _ => Ok(None),
     }

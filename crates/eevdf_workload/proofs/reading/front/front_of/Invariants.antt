@@ -1,12 +1,14 @@
 use Rattle.std.proofs.Common.{length}
 use denote.Text.{Utf8}
 use denote.Shadow.{shadow}
-use Rattle.eevdf_workload.specs.Fronts.{value_in}
+use Rattle.std.proofs.Common.{ℕ, List, Option}
+use Rattle.toml.specs.Data.{Data}
+use Rattle.eevdf_workload.specs.Fronts.{Holds}
 use Rattle.eevdf_workload.proofs.ReadingFronts.{IsReadUpTo}
 use Rattle.eevdf_workload.proofs.reading.front.front_of.Given as goal
 
 abbrev pub invariant-members : goal.invariant-members
-invariant-members l = shadow (Utf8 l.left) × IsReadUpTo (value_in l.version l.order) l.text l.left
+invariant-members l = shadow (Utf8 l.left) × (values : List ℕ → Option Data) × Holds values l.version l.order l.programs l.script × IsReadUpTo values l.text l.left
 
 abbrev pub decreases-members : goal.decreases-members
 decreases-members l = length l.left
