@@ -6,15 +6,15 @@ use Rattle.std.specs.Prelude.{Option, Some, None, OnErr, OnOk, Result, Ok, Err, 
 use Rattle.std.specs.Option.{IsSomeAnd}
 use Rattle.rtrb.specs.Ring.{sent, known_free, producer_capacity, received, consumer_capacity, IsPair, SameConsumer, SameProducer, ProducerLooked}
 use Rattle.eevdf_fleet.specs.Requests.{Allows, Follows, Grows, IsMarked, Source, tasks_after, tasks_of}
-use Rattle.eevdf_fleet.specs.declared.board.claims.{Claim.Claim, PostClaim.PostClaim, Terms.Terms}
+use Rattle.eevdf_fleet.specs.{Fleets.Kit, declared.board.claims.Claim.Claim, declared.board.claims.PostClaim.PostClaim, declared.board.claims.Terms.Terms, declared.board.claims.View.View}
 use Rattle.eevdf_fleet.specs.declared.board.claims.PostClaim.TheVariants as claim
 use Rattle.eevdf_fleet.specs.declared.rings.request.Request.{Request}
 use Rattle.eevdf_fleet.specs.Board as tokens
 use Rattle.eevdf_fleet.specs.PostClaims.{sent_in, with_post, with_task}
 use Rattle.eevdf_ops.specs.Setup.{is_at_home}
-use Rattle.atomic_table.specs.Seated.{TableId}
+use Rattle.atomic_table.specs.{Seated.TableId, declared.badge.Badge.Badge}
 use Rattle.eevdf_fleet.specs.Rings.{HasLooked, HasPosted, Ring, Rings, Posts, Takes, free_to, posted_to, ring_at, source_of, taken_from, taken_more}
-use Rattle.eevdf_fleet.specs.RingEnds.{Pushing, Popping, PushesInto, PopsFrom, AreProducers, AreConsumers, free_in, posted_into, posts, slots_for, taken_out, takes}
+use Rattle.eevdf_fleet.specs.RingEnds.{Pushing, Popping, PushesInto, PopsFrom, AreProducers, AreConsumers, ArePosting, free_in, posted_into, posts, slots_for, taken_out, takes}
 use Rattle.eevdf_fleet.proofs.{MarkedItems.followed, MarkedItems.grows-tasks, MarkedItems.marked-length, MarkedItems.may-follow, MarkedItems.next-task, MarkedItems.same-marked}
 use Rattle.eevdf_fleet.proofs.RingPlaces.{each-set, got-read}
 
@@ -220,6 +220,16 @@ pub claimed-still : (sender : ℕ) (es : List Pushing) (k : ℕ) (e e' : Pushing
     → claims ≡ claim.Posts sender (map posted_into (set es k e')) ∷ []
 claimed-still sender es k e e' claims at same were =
     were ∙ ap (λ (l : List (List ℕ)). claim.Posts sender l ∷ []) (sym (shown_same posted_into es k e e' at (ap tasks_after same)))
+
+-- the ends at which a CPU posts, one of which has looked at its ring
+pub posting-looked : (kit : Kit) (capacity sender : ℕ) (es : List Pushing) (token : Badge View) (k : ℕ) (e e' : Pushing) → ArePosting kit capacity sender es token
+    → e ≡ get_or es k e → ProducerLooked e e' → ArePosting kit capacity sender (set es k e') token
+posting-looked kit capacity sender es token k e e' h at looked =
+    (producers-looked k e e' h.0 at looked, h.1, h.2, claimed-still sender es k e e' (tokens.posts_of token) at looked.1 h.3, h.4, h.5)
+
+-- the sender of the posts that a home takes of its own is the home
+pub own-sender : (capacity sender : ℕ) (ps : List Pushing) (home : ℕ) (es : List Popping) (p : Posts) (t : Takes) → posts capacity sender ps ≡ p → takes home es ≡ t → p.sender ≡ t.home → sender ≡ home
+own-sender capacity sender ps home es p t posts_are takes_are own = ap (λ (x : Posts). x.sender) posts_are ∙ own ∙ ap (λ (x : Takes). x.home) (sym takes_are)
 
 pub claimed-more : {source : Source} {T E : Type 0} (sender : ℕ) (es : List Pushing) (k task : ℕ) (e e' : Pushing) (res : Result T E) (was is : List PostClaim) → k < length (map posted_into es)
     → e ≡ get_or es k e → IsMarked source k (sent e) → OnOk res (Grows (sent e) (sent e') (task ∷ [])) → OnErr res (sent e' ≡ sent e) → was ≡ claim.Posts sender (map posted_into es) ∷ []

@@ -43,6 +43,14 @@ by-places-at f n k x at =
     let within : k < n = omega (arith, slice_get_within (map f (range_with_len 0 n)) k x at, length-map-range_with_len f 0 n) in
     sym (get_or_from_slice_get (map f (range_with_len 0 n)) k x x at) ∙ get_or-map-range_with_len f 0 n k k x within (omega arith)
 
+-- a list by places has as many elements as there are places
+pub counted : {X : Type 0} (f : ℕ → X) (n count : ℕ) (xs : List X) → count ≡ length xs → xs ≡ map f (range_with_len 0 n) → count ≡ n
+counted f n count xs count_is is = omega (arith, count_is, ap length is, length-map-range_with_len f 0 n)
+
+-- of fresh seats there are as many as there are CPUs
+pub fresh-counted : (quota cpus count : ℕ) (seats : List Seat) → count ≡ length seats → seats ≡ fresh_seats quota cpus → count ≡ cpus
+fresh-counted quota cpus count seats count_is is = counted (fresh quota cpus) cpus count seats count_is is
+
 -- one seat more stands at its number
 pub in-order-more : {X : Type 0} (cpu_in : X → ℕ) (seats : List X) (number : ℕ) (s : X) → ((cpu : ℕ) (x : X) → slice_get seats cpu ≡ Some x → cpu < number → cpu_in x ≡ cpu)
     → s ≡ get_or seats number s → cpu_in s ≡ number → (cpu : ℕ) (x : X) → slice_get seats cpu ≡ Some x → cpu < number + 1 → cpu_in x ≡ cpu

@@ -7,11 +7,11 @@ use Rattle.eevdf_ops.specs.{declared.acts.Transfer.Transfer, declared.deeds.Answ
 use Rattle.eevdf_ops.specs.declared.acts.Transfer.TheVariants as transfer
 use Rattle.eevdf_ops.specs.declared.deeds.Deed.TheVariants.{Wake}
 use Rattle.eevdf_fleet.specs.Rings.{HasLooked, Posts, Takes, free_to, oldest, posted_to, taken_from, taken_more}
-use Rattle.eevdf_ops.specs.Programs.{wakes_from}
+use Rattle.eevdf_ops.specs.{Programs.wakes_from, Setup.cpus_of}
 use Rattle.eevdf_fleet.specs.Fleets as fleets
 use Rattle.eevdf_fleet.specs.Rings as rings
 use Rattle.eevdf_fleet.specs.{declared.wake_list.DrainedWake.DrainedWake, Drains.PartsTaken, Drains.line_of, Drains.oldest_own, TouchedQueues.IsNoWake}
-use Rattle.eevdf_fleet.specs.Fleets.{AreParts, HasCommitted, HasLookedAt, HasPosted, HasWritten, IsNoLess, Parts, PartsLooked, Seat, SeatLog, free_at, logged, parts_of, seat_of, takes_by, written}
+use Rattle.eevdf_fleet.specs.Fleets.{AreParts, ArePartsOf, HasCommitted, HasLookedAt, HasPosted, HasWritten, IsNoLess, Kit, Parts, PartsLooked, Seat, SeatLog, free_at, logged, parts_of, seat_of, setup_of, takes_by, written}
 use Rattle.eevdf_fleet.proofs.Takes.{same-takes, more-takes, taken-of}
 
 -- an act on two queues is no wake
@@ -36,6 +36,10 @@ parts-looked cpus log home p p' t looked h = record {
   takes = h.takes;
   within = h.within;
 }
+
+-- they go on to belong to their kit
+pub parts-of : (k : Kit) (log log' : SeatLog) (p p' : Posts) (t t' : Takes) (homes : List ℕ) → AreParts (cpus_of (setup_of k)) log' p' t' → ArePartsOf k log p t homes → ArePartsOf k log' p' t' homes
+parts-of k log log' p p' t t' homes parts h = (parts, h.1, h.2, h.3, h.4, h.5)
 
 -- nothing was taken
 pub parts-untaken : (cpus : ℕ) (log : SeatLog) (home : ℕ) (p p' : Posts) (t t' : Takes) → HasLooked home p p' → t' ≡ t → AreParts cpus log p t → AreParts cpus log p' t'

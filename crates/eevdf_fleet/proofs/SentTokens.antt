@@ -54,31 +54,25 @@ among-right : (c : PostClaim) (cs ds : List PostClaim) → IsAmong c ds → IsAm
 among-right c [] ds among = among
 among-right c (d ∷ cs) ds among = inr (among-right c cs ds among)
 
+-- a wake that claims ask for is asked for by others that have as much
+asked-more : (own : List Line) (cs ds : List PostClaim) (d : Deed) → ((c : PostClaim) → IsAmong c cs → IsAmong c ds) → IsAsked own cs d → IsAsked own ds d
+asked-more own cs ds (Tick cpu ns) more h = tt
+asked-more own cs ds (Pick cpu) more h = tt
+asked-more own cs ds (Yield cpu) more h = tt
+asked-more own cs ds (Sleep cpu task) more h = tt
+asked-more own cs ds (Wake cpu task sender) more h = record { lists = h.lists; claimed = more (Sent sender h.lists) h.claimed; are = h.are }
+asked-more own cs ds (Pull cpu source) more h = tt
+asked-more own cs ds (Renice cpu task nice) more h = tt
+asked-more own cs ds (Begin cpu task nice slice) more h = tt
+asked-more own cs ds (End cpu task) more h = tt
+asked-more own cs ds (Set cpu task nice slice) more h = tt
+asked-more own cs ds (Rebase cpu) more h = tt
+
 pub asked-left : (own : List Line) (cs ds : List PostClaim) (d : Deed) → IsAsked own cs d → IsAsked own (cs ++ ds) d
-asked-left own cs ds (Tick cpu ns) h = tt
-asked-left own cs ds (Pick cpu) h = tt
-asked-left own cs ds (Yield cpu) h = tt
-asked-left own cs ds (Sleep cpu task) h = tt
-asked-left own cs ds (Wake cpu task sender) h = record { lists = h.lists; claimed = among-left _ cs ds h.claimed; are = h.are }
-asked-left own cs ds (Pull cpu source) h = tt
-asked-left own cs ds (Renice cpu task nice) h = tt
-asked-left own cs ds (Begin cpu task nice slice) h = tt
-asked-left own cs ds (End cpu task) h = tt
-asked-left own cs ds (Set cpu task nice slice) h = tt
-asked-left own cs ds (Rebase cpu) h = tt
+asked-left own cs ds d h = asked-more own cs (cs ++ ds) d (λ c among. among-left c cs ds among) h
 
 pub asked-right : (own : List Line) (cs ds : List PostClaim) (d : Deed) → IsAsked own ds d → IsAsked own (cs ++ ds) d
-asked-right own cs ds (Tick cpu ns) h = tt
-asked-right own cs ds (Pick cpu) h = tt
-asked-right own cs ds (Yield cpu) h = tt
-asked-right own cs ds (Sleep cpu task) h = tt
-asked-right own cs ds (Wake cpu task sender) h = record { lists = h.lists; claimed = among-right _ cs ds h.claimed; are = h.are }
-asked-right own cs ds (Pull cpu source) h = tt
-asked-right own cs ds (Renice cpu task nice) h = tt
-asked-right own cs ds (Begin cpu task nice slice) h = tt
-asked-right own cs ds (End cpu task) h = tt
-asked-right own cs ds (Set cpu task nice slice) h = tt
-asked-right own cs ds (Rebase cpu) h = tt
+asked-right own cs ds d h = asked-more own ds (cs ++ ds) d (λ c among. among-right c cs ds among) h
 
 pub no-wake-asked : (own : List Line) (cs : List PostClaim) (d : Deed) → IsNoWake d → IsAsked own cs d
 no-wake-asked own cs (Tick cpu ns) h = tt

@@ -3,7 +3,7 @@ use Rattle.std.specs.Prelude.{◌≡◌, ℕ, ◌+◌, ◌-◌, ◌*◌, ◌<◌
 use Rattle.std.specs.{declared.alloc.Global.Global, declared.vec.Vec.Vec, List.range_with_len}
 use Rattle.atomic_table.specs.Seated.{TableId}
 use Rattle.eevdf_queue.specs.State as states
-use Rattle.eevdf_ops.specs.{declared.deeds.Answer.Answer, declared.deeds.Deed.Deed, declared.deeds.Line.Line, Programs.lines_by, Programs.wakes_from, Setup.Setup, Setup.cpus_of}
+use Rattle.eevdf_ops.specs.{declared.deeds.Answer.Answer, declared.deeds.Deed.Deed, declared.deeds.Line.Line, Places.AreCpus, Programs.lines_by, Programs.wakes_from, Setup.Setup, Setup.cpus_of, Setup.homes_of}
 use Rattle.eevdf_fleet.specs.{declared.board.claims.Terms.Terms, Claims.IsKept}
 use mathlib.Core.List.{IsPrefix}
 use Rattle.eevdf_fleet.specs.Rings.{Rings, Posts, Posted, Takes, Returned, ArePostsOf, left_of}
@@ -188,6 +188,15 @@ pub record AreParts (cpus : ℕ) (log : SeatLog) (p : Posts) (t : Takes) : Type 
   pub posts : ArePostsOf cpus log.cpu p
   pub takes : t ≡ takes_by cpus log.cpu log.lines
   pub within : log.cpu < cpus
+
+-- the parts of a seat belong together, and to their kit
+abbrev pub ArePartsOf : Kit → SeatLog → Posts → Takes → List ℕ → Type 0
+ArePartsOf k log p t homes = AreParts (cpus_of (setup_of k)) log p t
+    × (homes ≡ homes_of (setup_of k))
+    × AreCpus (cpus_of (setup_of k)) (homes_of (setup_of k))
+    × (k.rings.homes ≡ homes_of (setup_of k))
+    × (k.rings.board ≡ k.board)
+    × (k.rings.terms ≡ Some k.terms)
 
 -- the ends that seats give back, one CPU's after the other's, and with those of a seat more
 abbrev pub posts_by : Seat → Posted

@@ -1,9 +1,13 @@
 -- The ends of the rings, and what is seen of them.
-use Rattle.std.specs.Prelude.{◌≡◌, ℕ, ◌+◌, ◌<◌, List, length, map, min, max, slice_get, Some}
+use Rattle.std.specs.Prelude.{◌≡◌, ℕ, ◌+◌, ◌<◌, List, [], ◌∷◌, length, map, min, max, slice_get, Some}
 use Rattle.std.specs.{Option.IsSomeAnd, declared.alloc.Global.Global, declared.vec.Vec.Vec}
 use Rattle.rtrb.specs.declared.consumer.Consumer.{Consumer}
 use Rattle.rtrb.specs.Ring.{sent, known_free, producer_capacity, received, consumer_capacity, IsPair, SameProducer}
 use Rattle.eevdf_fleet.specs.declared.rings.request.{AtHome.AtHome, Request.Request}
+use Rattle.atomic_table.specs.declared.badge.Badge.{Badge}
+use Rattle.eevdf_fleet.specs.declared.board.claims.View.{View}
+use Rattle.eevdf_fleet.specs.declared.board.claims.PostClaim.TheVariants as claim
+use Rattle.eevdf_fleet.specs.{Board.IsToken, Board.posts_of, Fleets.Kit}
 use Rattle.eevdf_fleet.specs.Requests.{IsMarked, Source, tasks_after}
 use Rattle.eevdf_fleet.specs.Rings.{Ring, Rings, Posts, Takes, ring_at, source_of}
 
@@ -51,6 +55,15 @@ lists_of {X} lists = map (λ (l : Vec X Global). l.items) lists
 -- the ends of a sender's rings to all homes
 pub record AreProducers (r : Rings) (sender : ℕ) (ends : List Pushing) : Type 0 where
   pub each : Each (λ home end. IsSomeAnd (ring_at r sender home) (λ ring. PushesInto r.capacity (source_of r sender) home ring end)) ends
+
+-- the ends at which a CPU posts are those of its kit's rings, and the token claims what was posted
+abbrev pub ArePosting : Kit → ℕ → ℕ → List Pushing → Badge View → Type 0
+ArePosting k capacity sender ends token = AreProducers k.rings sender ends
+    × (capacity ≡ k.rings.capacity)
+    × IsToken k.board k.terms token
+    × (posts_of token ≡ claim.Posts sender (map posted_into ends) ∷ [])
+    × (k.rings.board ≡ k.board)
+    × (k.rings.terms ≡ Some k.terms)
 
 -- the ends of a home's rings from all senders
 pub record AreConsumers (r : Rings) (home : ℕ) (ends : List Popping) : Type 0 where

@@ -8,9 +8,7 @@ use crate::names::Names;
 use crate::run_queues::RunQueues;
 use crate::seat_parts::SeatParts;
 use crate::seen::Seen;
-use atomic_table::Badge;
 use std::marker::PhantomData;
-use std::mem;
 
 impl<N: Names> RunQueues<N> {
     /// What a seat has seen.
@@ -20,9 +18,7 @@ impl<N: Names> RunQueues<N> {
         ensures kept { IsKept N.kit.terms result }
     {
         seat.know();
-        let own = mem::replace(&mut seat.log.token, Badge::blank());
-        let (own, token) = self.board.recall(own);
-        seat.log.token = own;
+        let token = self.board.recall(&mut seat.log.token);
         Seen {
             token,
             names: PhantomData,
@@ -34,9 +30,7 @@ impl<N: Names> RunQueues<N> {
         ensures seen { seen.new ≡ seen.old }
         ensures copy { result ≡ seen.old }
     {
-        let own = mem::replace(&mut seen.token, Badge::blank());
-        let (own, token) = self.board.recall(own);
-        seen.token = own;
+        let token = self.board.recall(&mut seen.token);
         Seen {
             token,
             names: PhantomData,

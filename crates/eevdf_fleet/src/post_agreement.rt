@@ -7,9 +7,7 @@ use crate::names::Names;
 use crate::posted::Posted;
 use crate::run_queues::RunQueues;
 use crate::seen::Seen;
-use atomic_table::Badge;
 use std::marker::PhantomData;
-use std::mem;
 
 impl<N: Names> RunQueues<N> {
     /// The same once more.
@@ -17,9 +15,7 @@ impl<N: Names> RunQueues<N> {
         ensures posted { posted.new ≡ posted.old }
         ensures copy { result ≡ posted.old }
     {
-        let own = mem::replace(&mut posted.token, Badge::blank());
-        let (token, own) = self.board.sent(own);
-        posted.token = own;
+        let token = self.board.sent(&mut posted.token);
         Posted {
             token,
             names: PhantomData,

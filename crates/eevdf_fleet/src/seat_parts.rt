@@ -9,7 +9,7 @@ use crate::posted::Posted;
 use crate::rings::{Consumers, Producers, RingFull};
 use crate::seat_log::SeatLog;
 use crate::seen::Seen;
-use eevdf_ops::{CpuId, Line};
+use eevdf_ops::{CpuId, Homes, Line};
 use eevdf_queue::TaskId;
 use std::marker::{Model, PhantomData};
 
@@ -33,16 +33,9 @@ impl<N: Names> Model for SeatParts<N> {
 
     ghost view = { λ s. parts_of s.log s.producers };
 
-    ghost use Rattle.std.specs.Prelude.{◌≡◌, Some};
-    ghost use Rattle.eevdf_ops.specs.{Places.AreCpus, Setup.cpus_of, Setup.homes_of};
-    ghost use Rattle.eevdf_fleet.specs.Fleets.{AreParts, setup_of};
+    ghost use Rattle.eevdf_fleet.specs.Fleets.{ArePartsOf};
 
-    ghost invariant = { λ s. AreParts (cpus_of (setup_of N.kit)) s.log s.producers s.consumers
-        × (s.homes.items ≡ homes_of (setup_of N.kit))
-        × AreCpus (cpus_of (setup_of N.kit)) (homes_of (setup_of N.kit))
-        × (N.kit.rings.homes ≡ homes_of (setup_of N.kit))
-        × (N.kit.rings.board ≡ N.kit.board)
-        × (N.kit.rings.terms ≡ Some N.kit.terms) };
+    ghost invariant = { λ s. ArePartsOf N.kit s.log s.producers s.consumers s.homes.items };
 }
 
 impl<N: Names> SeatParts<N> {
@@ -107,8 +100,7 @@ impl<N: Names> SeatParts<N> {
         ensures home { result ≡ home_of (homes_of (setup_of N.kit)) task }
         ensures below { result < cpus_of (setup_of N.kit) }
     {
-        let home = self.homes[task.index()];
-        home.index()
+        Homes::Alone(&self.homes).home(task).index()
     }
 
     /// What it has posted so far, as a value of its own.

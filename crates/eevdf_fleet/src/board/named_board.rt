@@ -11,10 +11,11 @@ use crate::board::rule::{
 };
 use crate::board::{Board, Token};
 use crate::names::Names;
-use atomic_table::Table;
+use atomic_table::{Badge, Table};
 use eevdf_queue::TaskId;
 use std::alloc::Global;
 use std::marker::{Brand, Model, PhantomData};
+use std::mem;
 
 /// The board of the fleet of this name. All threads read where its table lies, so the unused bytes keep it off the cache lines of what
 /// stands beside it, which a thread may write to.
@@ -139,18 +140,19 @@ impl<N: Names> NamedBoard<N> {
     }
 
     /// Gives a token of what a sender has posted by now, beside that of its posts or of what it had posted.
-    pub(crate) fn sent(&self, token: Token) -> (Token, Token)
-        requires { IsToken N.kit.board N.kit.terms token }
-        ensures sent { IsToken N.kit.board N.kit.terms result.0 }
-        ensures token { IsToken N.kit.board N.kit.terms result.1 }
-        ensures sent_claims { claims_of result.0 ≡ [] }
-        ensures sent_posts { posts_of result.0 ≡ sent_in (posts_of token) }
-        ensures posts { posts_of result.1 ≡ posts_of token }
-        ensures claims { claims_of result.1 ≡ claims_of token }
+    pub(crate) fn sent(&self, token: &mut Token) -> Token
+        requires { IsToken N.kit.board N.kit.terms token.old }
+        ensures sent { IsToken N.kit.board N.kit.terms result }
+        ensures token { IsToken N.kit.board N.kit.terms token.new }
+        ensures sent_claims { claims_of result ≡ [] }
+        ensures sent_posts { posts_of result ≡ sent_in (posts_of token.old) }
+        ensures posts { posts_of token.new ≡ posts_of token.old }
+        ensures claims { claims_of token.new ≡ claims_of token.old }
     {
-        let mut seat = token.into_seat();
+        let mut seat = mem::replace(token, Badge::blank()).into_seat();
         let sent = self.table.shared.split_seat::<SentByNow>(&mut seat);
-        (sent.into_badge(), seat.into_badge())
+        *token = seat.into_badge();
+        sent.into_badge()
     }
 
     /// A token of the first two claims, and one of the others.
@@ -179,18 +181,19 @@ impl<N: Names> NamedBoard<N> {
         (first.into_badge(), seat.into_badge())
     }
 
-    /// The token, and one of its first claim alone, where that is of the past.
-    pub(crate) fn recall(&self, token: Token) -> (Token, Token)
-        requires { IsToken N.kit.board N.kit.terms token }
-        ensures token { IsToken N.kit.board N.kit.terms result.0 }
-        ensures past { IsToken N.kit.board N.kit.terms result.1 }
-        ensures claims { claims_of result.0 ≡ claims_of token }
-        ensures past_claims { claims_of result.1 ≡ first_past (claims_of token) }
-        ensures past_posts { posts_of result.1 ≡ [] }
+    /// Gives a token of the first claim alone, where that is of the past, beside that of all claims.
+    pub(crate) fn recall(&self, token: &mut Token) -> Token
+        requires { IsToken N.kit.board N.kit.terms token.old }
+        ensures token { IsToken N.kit.board N.kit.terms token.new }
+        ensures past { IsToken N.kit.board N.kit.terms result }
+        ensures claims { claims_of token.new ≡ claims_of token.old }
+        ensures past_claims { claims_of result ≡ first_past (claims_of token.old) }
+        ensures past_posts { posts_of result ≡ [] }
     {
-        let mut seat = token.into_seat();
+        let mut seat = mem::replace(token, Badge::blank()).into_seat();
         let past = self.table.shared.split_seat::<FirstPast>(&mut seat);
-        (seat.into_badge(), past.into_badge())
+        *token = seat.into_badge();
+        past.into_badge()
     }
 
     /// Commits a line, and learns the lines up to it. The token claims all that it changes.

@@ -30,22 +30,14 @@ pub(crate) struct Producers<N: Names> {
 }
 
 impl<N: Names> Model for Producers<N> {
-    ghost use Rattle.std.specs.Prelude.{◌≡◌, [], ◌∷◌, Some, map};
-    ghost use Rattle.eevdf_fleet.specs.RingEnds.{posted_into, posts, AreProducers};
-    ghost use Rattle.eevdf_fleet.specs.{Board.IsToken, Board.posts_of};
-    ghost use Rattle.eevdf_fleet.specs.declared.board.claims.PostClaim.TheVariants as claim;
+    ghost use Rattle.eevdf_fleet.specs.RingEnds.{posts, ArePosting};
     ghost use Rattle.eevdf_fleet.specs.Rings as rings;
 
     ghost Value = { rings.Posts };
 
     ghost view = { λ p. posts p.capacity p.sender p.ends.items };
 
-    ghost invariant = { λ p. AreProducers N.kit.rings p.sender p.ends.items
-        × (p.capacity ≡ N.kit.rings.capacity)
-        × IsToken N.kit.board N.kit.terms p.token
-        × (posts_of p.token ≡ claim.Posts p.sender (map posted_into p.ends.items) ∷ [])
-        × (N.kit.rings.board ≡ N.kit.board)
-        × (N.kit.rings.terms ≡ Some N.kit.terms) };
+    ghost invariant = { λ p. ArePosting N.kit p.capacity p.sender p.ends.items p.token };
 }
 
 impl<N: Names> Producers<N> {
@@ -114,10 +106,7 @@ impl<N: Names> Producers<N> {
         ensures claims { claims_of result ≡ [] }
         ensures sent { posts_of result ≡ claim.Sent self.old.sender self.old.posted ∷ [] }
     {
-        let all = mem::replace(&mut self.token, Badge::blank());
-        let (sent, all) = self.board.sent(all);
-        self.token = all;
-        sent
+        self.board.sent(&mut self.token)
     }
 
     /// Learns that what was seen tells of no other wakes that the sender asked for than of those that it has posted, in their order.
@@ -127,9 +116,7 @@ impl<N: Names> Producers<N> {
         ensures agree { (home : ℕ) → IsPrefix (wakes_from self.old.sender (lines_by home seen.old))
             (rings.posted_to self.old home) }
     {
-        let own = mem::replace(&mut seen.token, Badge::blank());
-        let (own, past) = self.board.recall(own);
-        seen.token = own;
+        let past = self.board.recall(&mut seen.token);
         let all = mem::replace(&mut self.token, Badge::blank());
         self.token = self.board.compare(self.board.join(all, past));
     }

@@ -1,13 +1,12 @@
 use denote.Param.Send.{sendable}
-use Rattle.std.proofs.Common.{◌≡◌, ℕ, List, length, ap, subst, sym, ◌∙◌, arith}
+use Rattle.std.proofs.Common.{◌≡◌, ℕ, List, ap, subst, sym, ◌∙◌}
 use Rattle.std.specs.Prelude.{Some, slice_get, vec_len}
-use Rattle.std.proofs.lemmas.List.FromFn.{length-map-range_with_len}
 use Rattle.eevdf_ops.proofs.setup.Setup.TheSendSync as setup
 use Rattle.eevdf_ops.specs.{Followed.FollowsPrograms, Followed.program_of, OwnRequests.TakesOwnRequests, Setup.Setup, Setup.cpus_of}
 use Rattle.eevdf_fleet.specs.{Fleets.AreSeats, Fleets.Seat, Fleets.capacity_of, Fleets.fresh, Fleets.quota_of, Fleets.setup_of, ProgramRuns.AreRun, ProgramRuns.HasRun, SeatWorks.AreDone}
 use Rattle.eevdf_fleet.proofs.Crossing.{fleet_sync, seat_send}
 use Rattle.eevdf_fleet.proofs.ProgramSeats.{done-run, runs-follow, runs-take-own}
-use Rattle.eevdf_fleet.proofs.SeatLists.{by-places-at, done-seats}
+use Rattle.eevdf_fleet.proofs.SeatLists.{by-places-at, fresh-counted, done-seats}
 use Rattle.eevdf_fleet.proofs.program_threads.run_on_fleet.Goals as goal
 use Rattle.eevdf_fleet.proofs.program_threads.run_on_fleet.Goals.{After-run_seats}
 
@@ -19,9 +18,7 @@ run_seats-requires-send-S g c κs within = search (seat_send, sendable) depth 20
 
 -- as many seats as there are CPUs
 count : (g : _) (c : After-run_seats g) → vec_len c.in_ok-fleet.seats ≡ cpus_of (setup_of g.N.Names.kit)
-count g c =
-    let kit = g.N.Names.kit in
-    omega (arith, c.in_ok-fleet.seats.ok.0, ap length c.in_ok-fleet.ensures, length-map-range_with_len (fresh (quota_of kit) (cpus_of (setup_of kit))) 0 (cpus_of (setup_of kit)))
+count g c = fresh-counted _ _ _ _ c.in_ok-fleet.seats.ok.0 c.in_ok-fleet.ensures
 
 -- on each CPU's seat its program was run
 run : (g : _) (c : After-run_seats g) (seats : List Seat) → AreDone (vec_len c.in_ok-fleet.seats) (λ cpu seat. HasRun (setup_of g.N.Names.kit) cpu (program_of (setup_of g.N.Names.kit) cpu) seat) seats

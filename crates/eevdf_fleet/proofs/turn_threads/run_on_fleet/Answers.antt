@@ -1,11 +1,10 @@
 use denote.Param.Send.{sendable}
-use Rattle.std.proofs.Common.{ℕ, ◌<◌, ◌≡◌, length, sym, ap, subst, arith}
+use Rattle.std.proofs.Common.{ℕ, ◌<◌, ◌≡◌, sym, subst}
 use Rattle.std.specs.Prelude.{Some, slice_get, vec_len}
-use Rattle.std.proofs.lemmas.List.FromFn.{length-map-range_with_len}
 use Rattle.eevdf_ops.specs.Setup.{cpus_of}
 use Rattle.eevdf_fleet.specs.{Fleets.AreSeats, Fleets.Kit, Fleets.fresh, Fleets.quota_of, Fleets.setup_of, SeatWorks.AreDone, Turns.HasItsTurns, Turns.HasTurned}
 use Rattle.eevdf_fleet.proofs.Crossing.{fleet_sync, seat_send}
-use Rattle.eevdf_fleet.proofs.{SeatLists.by-places-at, SeatLists.done-seats, SeatTurns.turns-told}
+use Rattle.eevdf_fleet.proofs.{SeatLists.by-places-at, SeatLists.fresh-counted, SeatLists.done-seats, SeatTurns.turns-told}
 use Rattle.eevdf_fleet.proofs.turn_threads.run_on_fleet.Goals as goal
 use Rattle.eevdf_fleet.proofs.turn_threads.run_on_fleet.Goals.{After-run_seats}
 
@@ -17,9 +16,7 @@ run_seats-requires-send-S g c κs within = search (seat_send, sendable) depth 20
 
 -- as many seats as there are CPUs
 count : (g : _) (c : After-run_seats g) → vec_len c.in_ok-fleet.seats ≡ cpus_of (setup_of g.N.Names.kit)
-count g c =
-    let kit = g.N.Names.kit in
-    omega (arith, c.in_ok-fleet.seats.ok.0, ap length c.in_ok-fleet.ensures, length-map-range_with_len (fresh (quota_of kit) (cpus_of (setup_of kit))) 0 (cpus_of (setup_of kit)))
+count g c = fresh-counted _ _ _ _ c.in_ok-fleet.seats.ok.0 c.in_ok-fleet.ensures
 
 pub run_seats-requires-after_bounds : goal.run_seats-requires-after_bounds
 run_seats-requires-after_bounds g c = λ κs within k seat at.

@@ -1,11 +1,10 @@
 use denote.Param.Send.{sendable}
-use Rattle.std.proofs.Common.{◌≡◌, length, map, ap, subst, sym, ◌∙◌, arith}
+use Rattle.std.proofs.Common.{◌≡◌, map, subst, sym, ◌∙◌}
 use Rattle.std.specs.Prelude.{Some, slice_get, vec_len}
-use Rattle.std.proofs.lemmas.List.FromFn.{length-map-range_with_len}
 use Rattle.eevdf_ops.specs.{Outcome.machine_of, Setup.cpus_of}
 use Rattle.eevdf_fleet.specs.{Endless.fresh, EndlessTurns.HaveTurned, Fleets.Kit, Fleets.setup_of}
 use Rattle.eevdf_fleet.proofs.Crossing.{endless_seat_send, endless_fleet_sync, exchange_sync}
-use Rattle.eevdf_fleet.proofs.SeatLists.{by-places-at}
+use Rattle.eevdf_fleet.proofs.SeatLists.{by-places-at, counted}
 use Rattle.eevdf_fleet.proofs.endless.turn_threads.run_on_fleet.Goals as goal
 use Rattle.eevdf_fleet.proofs.endless.turn_threads.run_on_fleet.Goals.{After-run_seats}
 
@@ -17,7 +16,7 @@ run_seats-requires-send-S g c κs within = search (endless_seat_send, sendable) 
 
 -- as many seats as there are CPUs
 count : (g : _) (c : After-run_seats g) → vec_len c.in_ok-fleet.seats ≡ cpus_of (setup_of g.N.Names.kit)
-count g c = omega (arith, c.in_ok-fleet.seats.ok.0, ap length c.in_ok-fleet.ensures, length-map-range_with_len (fresh g.N.Names.kit) 0 (cpus_of (setup_of g.N.Names.kit)))
+count g c = counted (fresh g.N.Names.kit) (cpus_of (setup_of g.N.Names.kit)) _ _ c.in_ok-fleet.seats.ok.0 c.in_ok-fleet.ensures
 
 pub run_seats-requires-after_bounds : goal.run_seats-requires-after_bounds
 run_seats-requires-after_bounds g c = λ κs within k seat at.

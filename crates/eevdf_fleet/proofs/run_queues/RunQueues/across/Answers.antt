@@ -1,18 +1,14 @@
 use Rattle.std.proofs.Common.{◌≡◌, ℕ, refl, ap, subst, ◌∙◌}
 use Rattle.eevdf_ops.specs.{Acts.deed_across, declared.deeds.Line.Line}
 use Rattle.eevdf_fleet.specs.Fleets.{HasCommitted, Parts, Slot, parts_of}
-use Rattle.eevdf_fleet.proofs.SeatParts.{across-no-wake, parts-committed, parts-written}
+use Rattle.eevdf_fleet.proofs.SeatParts.{across-no-wake, parts-committed, parts-of, parts-written}
 use Rattle.eevdf_fleet.proofs.run_queues.RunQueues.across.Goals as goal
 
 pub invariant_of-seat : goal.invariant_of-seat
-invariant_of-seat g c = (
-  parts-written _ _ _ _ _ _ c.seat.invariant.0 (across-no-wake _ _ c.args.transfer) c.done_on_two.ensures.log,
-  c.seat.invariant.1,
-  c.seat.invariant.2,
-  c.seat.invariant.3,
-  c.seat.invariant.4,
-  c.seat.invariant.5,
-)
+invariant_of-seat g c =
+    parts-of g.N.Names.kit _ _ _ _ _ _ _
+    (parts-written _ _ _ _ _ _ c.seat.invariant.0 (across-no-wake _ _ c.args.transfer) c.done_on_two.ensures.log)
+    c.seat.invariant
 
 pub returns : goal.returns
 returns g c =

@@ -6,8 +6,8 @@ use Rattle.eevdf_fleet.proofs.run_queues.RunQueues.copy_posted.Goals as goal
 use Rattle.eevdf_fleet.proofs.run_queues.RunQueues.copy_posted.Goals.{After-sent-token}
 
 -- what the copy claims
-copied : (g : _) (c : After-sent-token g) → posts_of c.sent-token.result.0 ≡ Sent (sender_in (posts_of c.posted.inside.token)) (lists_in (posts_of c.posted.inside.token)) ∷ []
-copied g c = c.sent-token.ensures.sent_posts ∙ ap sent_in (ap posts_of c.replace-own.ensures.value ∙ c.posted.invariant.2)
+copied : (g : _) (c : After-sent-token g) → posts_of c.sent-token.result ≡ Sent (sender_in (posts_of c.posted.inside.token)) (lists_in (posts_of c.posted.inside.token)) ∷ []
+copied g c = c.sent-token.ensures.sent_posts ∙ ap sent_in c.posted.invariant.2
 
 pub invariant_of-result : goal.invariant_of-result
 invariant_of-result g c =

@@ -2,7 +2,7 @@ use Rattle.std.proofs.Common.{refl, sym, ap, ◌∙◌, arith}
 use Rattle.std.proofs.lemmas.Bool.{and_from, lt-ltb}
 use Rattle.eevdf_ops.specs.Setup.{cpus_of, is_at_home}
 use Rattle.eevdf_fleet.specs.{Rings.Takes, Fleets.Parts, Fleets.setup_of}
-use Rattle.eevdf_fleet.proofs.SeatParts.{if_none, own-oldest, parts-taken, parts-untaken, parts-width, seat-looked, seat-taken}
+use Rattle.eevdf_fleet.proofs.SeatParts.{if_none, own-oldest, parts-of, parts-taken, parts-untaken, parts-width, seat-looked, seat-taken}
 use Rattle.eevdf_fleet.proofs.SentTokens.{asked-next, sent-alone, sent-token}
 use Rattle.eevdf_fleet.proofs.run_queues.RunQueues.drain_one.Goals as goal
 
@@ -11,14 +11,10 @@ take-requires-clause-sender g c = omega (arith, parts-width _ _ _ _ c.seat.invar
 
 -- a seat from which nothing was taken is as it was
 pub invariant_of-seat : goal.invariant_of-seat
-invariant_of-seat g c = (
-  parts-untaken _ _ _ _ _ _ _ c.take.ensures.producers c.in_err-request.ensures.none c.seat.invariant.0,
-  c.seat.invariant.1,
-  c.seat.invariant.2,
-  c.seat.invariant.3,
-  c.seat.invariant.4,
-  c.seat.invariant.5,
-)
+invariant_of-seat g c =
+    parts-of g.N.Names.kit _ _ _ _ _ _ _
+    (parts-untaken _ _ _ _ _ _ _ c.take.ensures.producers c.in_err-request.ensures.none c.seat.invariant.0)
+    c.seat.invariant
 
 pub returns-in_err-request-clause-none : goal.returns-in_err-request-clause-none
 returns-in_err-request-clause-none g c = if_none c.from_residual.result (seat-looked _ _ _ _ _ c.take.ensures.producers c.seat.view_is)
@@ -37,14 +33,10 @@ returns-in_err-request-clause-none_own g c =
     if_none c.from_residual.result (own-oldest _ _ _ _ _ _ c.index.result c.args.sender c.seat.invariant.0 (ap (λ (p : Parts). p.seat) c.seat.view_is) c.index.ensures.number c.in_err-request.ensures.own)
 
 pub invariant_of-seat-2 : goal.invariant_of-seat-2
-invariant_of-seat-2 g c = (
-  parts-taken _ _ _ _ _ _ _ _ _ _ _ _ _ c.seat.invariant.0 c.index.ensures.number c.requires.sender c.take.ensures.producers c.in_ok-request.ensures.some c.wake_on_one-answer.ensures.log,
-  c.seat.invariant.1,
-  c.seat.invariant.2,
-  c.seat.invariant.3,
-  c.seat.invariant.4,
-  c.seat.invariant.5,
-)
+invariant_of-seat-2 g c =
+    parts-of g.N.Names.kit _ _ _ _ _ _ _
+    (parts-taken _ _ _ _ _ _ _ _ _ _ _ _ _ c.seat.invariant.0 c.index.ensures.number c.requires.sender c.take.ensures.producers c.in_ok-request.ensures.some c.wake_on_one-answer.ensures.log)
+    c.seat.invariant
 
 pub returns-clause-some : goal.returns-clause-some
 returns-clause-some g c =

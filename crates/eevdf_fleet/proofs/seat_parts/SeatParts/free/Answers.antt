@@ -1,6 +1,6 @@
 use Rattle.std.proofs.Common.{◌≡◌, ℕ, ap, ◌∙◌, arith}
 use Rattle.eevdf_fleet.specs.{Fleets.capacity_of, Fleets.free_at, Rings.Takes, Rings.free_to}
-use Rattle.eevdf_fleet.proofs.SeatParts.{own-free, parts-looked, parts-untaken, parts-width, seat-looked}
+use Rattle.eevdf_fleet.proofs.SeatParts.{own-free, parts-looked, parts-of, parts-untaken, parts-width, seat-looked}
 use Rattle.eevdf_fleet.proofs.seat_parts.SeatParts.free.Goals as goal
 use Rattle.eevdf_fleet.proofs.seat_parts.SeatParts.free.Goals.{After-free_own}
 
@@ -16,17 +16,14 @@ pub free-requires : goal.free-requires
 free-requires g c = omega (arith, c.index.ensures.number, c.requires, c.self.invariant.0.posts.to_all)
 
 pub invariant_of-self : goal.invariant_of-self
-invariant_of-self g c = (
-  parts-untaken _ _ _ _ _ _ _ c.free_own.ensures.producers c.free_own.ensures.takes c.self.invariant.0,
-  c.self.invariant.1,
-  c.self.invariant.2,
-  c.self.invariant.3,
-  c.self.invariant.4,
-  c.self.invariant.5,
-)
+invariant_of-self g c =
+    parts-of g.N.Names.kit _ _ _ _ _ _ _
+    (parts-untaken _ _ _ _ _ _ _ c.free_own.ensures.producers c.free_own.ensures.takes c.self.invariant.0)
+    c.self.invariant
 
 pub invariant_of-self-else-get : goal.invariant_of-self-else-get
-invariant_of-self-else-get g c = (parts-looked _ _ _ _ _ _ c.free.ensures.looked c.self.invariant.0, c.self.invariant.1, c.self.invariant.2, c.self.invariant.3, c.self.invariant.4, c.self.invariant.5)
+invariant_of-self-else-get g c =
+    parts-of g.N.Names.kit _ _ _ _ _ _ _ (parts-looked _ _ _ _ _ _ c.free.ensures.looked c.self.invariant.0) c.self.invariant
 
 pub returns-then-get-clause-looked : goal.returns-then-get-clause-looked
 returns-then-get-clause-looked g c = seat-looked _ _ _ _ _ c.free_own.ensures.producers c.self.view_is

@@ -4,7 +4,7 @@ use Rattle.std.proofs.lemmas.Result.{on_ok_weaker, on_err_weaker}
 use Rattle.eevdf_ops.specs.Setup.{cpus_of, home_of, homes_of, is_at_home}
 use Rattle.eevdf_fleet.specs.Fleets.{Parts, free_at, parts_of, posted_to, setup_of}
 use Rattle.eevdf_fleet.specs.Rings as rings
-use Rattle.eevdf_fleet.proofs.SeatParts.{parts-posted, seat-posted}
+use Rattle.eevdf_fleet.proofs.SeatParts.{parts-of, parts-posted, seat-posted}
 use Rattle.eevdf_fleet.proofs.seat_parts.SeatParts.post.Goals as goal
 
 pub post-requires-clause-home : goal.post-requires-clause-home
@@ -17,15 +17,11 @@ post-requires-clause-at_home g c =
     ∙ and_from _ _ c.requires (eq-eqb (home_of (homes_of (setup_of g.N.Names.kit)) c.args.task) c.home-home.result (sym c.home-home.ensures.home))
 
 pub invariant_of-self : goal.invariant_of-self
-invariant_of-self g c = (
-  parts-posted c.post.result (cpus_of (setup_of g.N.Names.kit)) c.self.inside.log c.self.inside.consumers c.self.inside.producers c.post.new.self c.home-home.result c.args.task
-      c.post.ensures.accepted c.post.ensures.refused c.self.invariant.0,
-  c.self.invariant.1,
-  c.self.invariant.2,
-  c.self.invariant.3,
-  c.self.invariant.4,
-  c.self.invariant.5,
-)
+invariant_of-self g c =
+    parts-of g.N.Names.kit _ _ _ _ _ _ _
+    (parts-posted c.post.result (cpus_of (setup_of g.N.Names.kit)) c.self.inside.log c.self.inside.consumers c.self.inside.producers c.post.new.self c.home-home.result c.args.task
+    c.post.ensures.accepted c.post.ensures.refused c.self.invariant.0)
+    c.self.invariant
 
 pub returns-clause-accepted : goal.returns-clause-accepted
 returns-clause-accepted g c =

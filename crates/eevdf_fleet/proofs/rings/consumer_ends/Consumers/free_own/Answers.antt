@@ -1,17 +1,11 @@
-use Rattle.std.proofs.Common.{◌≡◌, ap, sym, ◌∙◌}
-use Rattle.eevdf_fleet.specs.{Rings.Posts, Rings.Takes}
+use Rattle.std.proofs.Common.{sym, ◌∙◌}
 use Rattle.eevdf_fleet.proofs.MarkedItems.{same-marked}
-use Rattle.eevdf_fleet.proofs.RingEnds.{claimed-still, consumers-set, free-after, free-beside, pair-at, posts-looked, producers-looked, takes-same}
+use Rattle.eevdf_fleet.proofs.RingEnds.{consumers-set, free-after, free-beside, pair-at, own-sender, posting-looked, posts-looked, takes-same}
 use Rattle.eevdf_fleet.proofs.rings.consumer_ends.Consumers.free_own.Goals as goal
-use Rattle.eevdf_fleet.proofs.rings.consumer_ends.Consumers.free_own.Goals.{After-index_mut-2}
-
--- the producers are the home's own
-own : (g : _) (c : After-index_mut-2 g) → c.producers.inside.sender ≡ c.self.inside.home
-own g c = ap (λ (p : Posts). p.sender) c.producers.view_is ∙ c.requires.own ∙ ap (λ (t : Takes). t.home) (sym c.self.view_is)
 
 pub free_beside-requires : goal.free_beside-requires
 free_beside-requires g c =
-    let own = own g (goal.at.free_beside-requires g c).After-index_mut-2 in
+    let own = own-sender _ _ _ _ _ _ _ c.producers.view_is c.self.view_is c.requires.own in
     pair-at _ _ (rw own at c.producers.invariant.0) c.self.invariant
     (rw (← c.self.view_is, ← c.producers.view_is) at c.requires.home) c.index_mut.ensures.value
     (rw (← c.self.view_is) at c.requires.sender) c.index_mut-2.ensures.value
@@ -21,14 +15,7 @@ invariant_of-self g c =
     consumers-set _ _ _ c.self.invariant c.index_mut-2.ensures.value c.free_beside.ensures.consumer.0 (λ marked. same-marked marked c.free_beside.ensures.consumer.1)
 
 pub invariant_of-producers : goal.invariant_of-producers
-invariant_of-producers g c = (
-  producers-looked _ _ _ c.producers.invariant.0 c.index_mut.ensures.value c.free_beside.ensures.looked,
-  c.producers.invariant.1,
-  c.producers.invariant.2,
-  claimed-still _ _ _ _ _ _ c.index_mut.ensures.value c.free_beside.ensures.looked.1 c.producers.invariant.3,
-  c.producers.invariant.4,
-  c.producers.invariant.5,
-)
+invariant_of-producers g c = posting-looked g.N.Names.kit _ _ _ _ _ _ _ c.producers.invariant c.index_mut.ensures.value c.free_beside.ensures.looked
 
 pub returns-clause-takes : goal.returns-clause-takes
 returns-clause-takes g c = rw (← c.self.view_is) (takes-same _ _ _ _ _ c.index_mut-2.ensures.value c.free_beside.ensures.consumer.1)
@@ -48,7 +35,7 @@ returns-clause-free g c =
 
 pub returns-clause-all : goal.returns-clause-all
 returns-clause-all g c =
-    let own = own g (goal.at.returns-clause-all g c).After-index_mut-2 in
+    let own = own-sender _ _ _ _ _ _ _ c.producers.view_is c.self.view_is c.requires.own in
     rw (← c.self.view_is, ← c.producers.view_is) (
     free-beside c.producers.inside.capacity _ _ (rw own at c.producers.invariant.0) c.self.invariant
     (rw (← c.self.view_is, ← c.producers.view_is) at c.requires.home) c.index_mut.ensures.value

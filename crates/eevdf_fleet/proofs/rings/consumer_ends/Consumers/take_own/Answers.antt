@@ -1,20 +1,15 @@
-use Rattle.std.proofs.Common.{◌≡◌, ℕ, length, ap, sym, ◌∙◌}
+use Rattle.std.proofs.Common.{ℕ, length, ap, sym, ◌∙◌}
 use Rattle.std.specs.Prelude.{slice_get}
 use Rattle.std.proofs.lemmas.Option.{IfSome_then}
 use Rattle.eevdf_fleet.specs.{RingEnds.takes, Rings.Posts, Rings.Takes, Rings.posted_to, Rings.taken_from}
 use Rattle.eevdf_fleet.proofs.{MarkedItems.popped-marked}
-use Rattle.eevdf_fleet.proofs.RingEnds.{claimed-still, consumers-set, followed-taken, oldest-at, producers-looked, pair-at, takes-same, takes-more, posts-looked}
+use Rattle.eevdf_fleet.proofs.RingEnds.{consumers-set, followed-taken, oldest-at, pair-at, takes-same, takes-more, own-sender, posting-looked, posts-looked}
 use Rattle.eevdf_fleet.proofs.RingPlaces.{IfNone_then}
 use Rattle.eevdf_fleet.proofs.rings.consumer_ends.Consumers.take_own.Goals as goal
-use Rattle.eevdf_fleet.proofs.rings.consumer_ends.Consumers.take_own.Goals.{After-index_mut-2}
-
--- the producers are the home's own
-own : (g : _) (c : After-index_mut-2 g) → c.producers.inside.sender ≡ c.self.inside.home
-own g c = ap (λ (p : Posts). p.sender) c.producers.view_is ∙ c.requires.own ∙ ap (λ (t : Takes). t.home) (sym c.self.view_is)
 
 pub pop_beside-requires : goal.pop_beside-requires
 pop_beside-requires g c =
-    let own = own g (goal.at.pop_beside-requires g c).After-index_mut-2 in
+    let own = own-sender _ _ _ _ _ _ _ c.producers.view_is c.self.view_is c.requires.own in
     pair-at _ _ (rw own at c.producers.invariant.0) c.self.invariant
     (rw (← c.self.view_is, ← c.producers.view_is) at c.requires.home) c.index_mut-2.ensures.value
     (rw (← c.self.view_is) at c.requires.sender) c.index_mut.ensures.value
@@ -25,14 +20,7 @@ invariant_of-self g c =
     (λ marked. popped-marked c.pop_beside.result c.pop_beside.ensures.some c.pop_beside.ensures.none marked)
 
 pub invariant_of-producers : goal.invariant_of-producers
-invariant_of-producers g c = (
-  producers-looked _ _ _ c.producers.invariant.0 c.index_mut-2.ensures.value c.pop_beside.ensures.producer,
-  c.producers.invariant.1,
-  c.producers.invariant.2,
-  claimed-still _ _ _ _ _ _ c.index_mut-2.ensures.value c.pop_beside.ensures.producer.1 c.producers.invariant.3,
-  c.producers.invariant.4,
-  c.producers.invariant.5,
-)
+invariant_of-producers g c = posting-looked g.N.Names.kit _ _ _ _ _ _ _ c.producers.invariant c.index_mut-2.ensures.value c.pop_beside.ensures.producer
 
 pub returns-clause-some : goal.returns-clause-some
 returns-clause-some g c =
@@ -50,7 +38,7 @@ returns-clause-none g c =
 
 pub returns-clause-oldest : goal.returns-clause-oldest
 returns-clause-oldest g c =
-    let own = own g (goal.at.returns-clause-oldest g c).After-index_mut-2 in
+    let own = own-sender _ _ _ _ _ _ _ c.producers.view_is c.self.view_is c.requires.own in
     c.pop_beside.ensures.oldest
     ∙ oldest-at c.producers.inside.capacity _ _ (rw own at c.producers.invariant.0) c.self.invariant
     (rw (← c.self.view_is, ← c.producers.view_is) at c.requires.home) c.index_mut-2.ensures.value

@@ -1,5 +1,5 @@
 use Rattle.eevdf_fleet.proofs.MarkedItems.{grows-marked}
-use Rattle.eevdf_fleet.proofs.RingEnds.{claimed-still, consumers-set, producers-looked, pair-at, capacity-at, left-at, takes-more, posts-looked}
+use Rattle.eevdf_fleet.proofs.RingEnds.{consumers-set, pair-at, capacity-at, left-at, takes-more, posting-looked, posts-looked}
 use Rattle.eevdf_fleet.proofs.rings.consumer_ends.Consumers.take_rest.Goals as goal
 
 pub pop_rest-requires-clause-pair : goal.pop_rest-requires-clause-pair
@@ -17,14 +17,7 @@ invariant_of-self g c =
     consumers-set _ _ _ c.self.invariant c.index_mut.ensures.value c.pop_rest.ensures.ring (λ marked. grows-marked marked c.pop_rest.ensures.received)
 
 pub invariant_of-producers : goal.invariant_of-producers
-invariant_of-producers g c = (
-  producers-looked _ _ _ c.producers.invariant.0 c.index_mut-2.ensures.value c.pop_rest.ensures.producer,
-  c.producers.invariant.1,
-  c.producers.invariant.2,
-  claimed-still _ _ _ _ _ _ c.index_mut-2.ensures.value c.pop_rest.ensures.producer.1 c.producers.invariant.3,
-  c.producers.invariant.4,
-  c.producers.invariant.5,
-)
+invariant_of-producers g c = posting-looked g.N.Names.kit _ _ _ _ _ _ _ c.producers.invariant c.index_mut-2.ensures.value c.pop_rest.ensures.producer
 
 pub returns-clause-taken : goal.returns-clause-taken
 returns-clause-taken g c =

@@ -16,9 +16,9 @@ returns-clause-agree g c =
     let lists : List (List ℕ) = map posted_into c.self.inside.ends.items in
     let more : List Claim = claims_of c.replace-all.result in
     let claims : claims_of c.join.result ≡ Past seen ∷ more
-    = c.join.ensures.claims ∙ ap (λ (cs : List Claim). cs ++ more) (c.recall-own.ensures.past_claims ∙ ap first_past (ap claims_of c.replace-own.ensures.value ∙ c.seen.invariant.1)) in
+    = c.join.ensures.claims ∙ ap (λ (cs : List Claim). cs ++ more) (c.recall-past.ensures.past_claims ∙ ap first_past c.seen.invariant.1) in
     let posts : posts_of c.join.result ≡ Posts sender lists ∷ []
-    = c.join.ensures.posts ∙ ap (λ (ps : List PostClaim). ps ++ posts_of c.replace-all.result) c.recall-own.ensures.past_posts ∙ ap posts_of c.replace-all.ensures.value ∙ c.self.invariant.3 in
+    = c.join.ensures.posts ∙ ap (λ (ps : List PostClaim). ps ++ posts_of c.replace-all.result) c.recall-past.ensures.past_posts ∙ ap posts_of c.replace-all.ensures.value ∙ c.self.invariant.3 in
     subst (λ (ls : List Line). (home : ℕ) → IsPrefix (wakes_from c.args.self.now.sender (lines_by home ls)) (rings.posted_to c.args.self.now home)) c.seen.view_is
     (subst (λ (p : rings.Posts). (home : ℕ) → IsPrefix (wakes_from p.sender (lines_by home seen)) (rings.posted_to p home)) c.self.view_is
     (own-posts-agree g.N.Names.kit.terms seen sender lists more (claims_of c.join.result) (posts_of c.join.result) claims posts c.compare.ensures.compared))

@@ -1,16 +1,9 @@
 use Rattle.std.proofs.Common.{sym, ◌∙◌}
-use Rattle.eevdf_fleet.proofs.RingEnds.{claimed-still, free-after, posts-looked, producers-looked}
+use Rattle.eevdf_fleet.proofs.RingEnds.{free-after, posting-looked, posts-looked}
 use Rattle.eevdf_fleet.proofs.rings.producer_ends.Producers.free.Goals as goal
 
 pub invariant_of-self : goal.invariant_of-self
-invariant_of-self g c = (
-  producers-looked _ _ _ c.self.invariant.0 c.index_mut.ensures.value c.free.ensures.looked,
-  c.self.invariant.1,
-  c.self.invariant.2,
-  claimed-still _ _ _ _ _ _ c.index_mut.ensures.value c.free.ensures.looked.1 c.self.invariant.3,
-  c.self.invariant.4,
-  c.self.invariant.5,
-)
+invariant_of-self g c = posting-looked g.N.Names.kit _ _ _ _ _ _ _ c.self.invariant c.index_mut.ensures.value c.free.ensures.looked
 
 pub returns-clause-looked : goal.returns-clause-looked
 returns-clause-looked g c =
