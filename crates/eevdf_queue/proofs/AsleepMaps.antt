@@ -1,17 +1,14 @@
 -- What is asked of the map of sleeping tasks, answered from their slots.
-use Rattle.std.proofs.Common.{◌≡◌, ℕ, zero, suc, ◌+◌, ◌<◌, true, cond, eqb, List, [], ◌∷◌, length, get_or, Option, Some, None, refl, sym, subst, ap, ◌∙◌, arith}
+use Rattle.std.proofs.Common.{◌≡◌, ℕ, zero, suc, ◌+◌, ◌<◌, true, cond, List, [], ◌∷◌, length, get_or, Option, Some, None, refl, sym, subst, ap, ◌∙◌, arith}
 use Rattle.std.specs.{Prelude.is_some, Prelude.Box, Ordering.nat_cmp, Ordering.eq_by_cmp, Cmp.nat_cmp_total}
 use Rattle.std.specs.FinMap.{FinMap, find, empty, insert, remove, get, nat_cmp-IsAntisymmetric, get-from_entries, get-insert, get-remove, get-empty, same_map}
 use Rattle.std.proofs.lemmas.Bool.Decides.{nat_tests}
-use Rattle.eevdf_queue.proofs.ListMaps.{same_number}
+use Rattle.eevdf_queue.proofs.ListMaps.{same_number, turned}
 use Rattle.eevdf_queue.specs.{State.Sleeper, Lag.is_lag, Kept.AreLimited, TreeShape.Tree}
 use Rattle.eevdf_queue.specs.Slots.{sleeper_of_node, sleeper_in_slot, sleepers_from, asleep_in, slot_at, IsSlot, AreSlots, IsWith}
 
 abbrev Slot : Type 0 → Type 0
 Slot Z = Option (Box Tree Z)
-
-other : (x y : ℕ) → eqb x y ≡ eqb y x
-other x y = grind (arith, nat_tests)
 
 module _ {Z : Type 0} where
   -- no slot from a number on is of a lower number
@@ -58,7 +55,7 @@ module _ {Z : Type 0} where
     sleeper_is q = ap (λ (z : FinMap nat_cmp Sleeper). get z q) (sym v) ∙ get-asleep_in ss q
 
     get-changed : (rs : List (Slot Z)) (q x : ℕ) (o : Slot Z) → IsWith q o ss rs → get (asleep_in rs) x ≡ cond (eq_by_cmp nat_cmp x q) (sleeper_in_slot o) (get m x)
-    get-changed rs q x o w = grind (arith, nat_tests, get-asleep_in rs x, w x, sleeper_is x, same_number x q, other x q)
+    get-changed rs q x o w = grind (arith, nat_tests, get-asleep_in rs x, w x, sleeper_is x, same_number x q, turned x q)
 
     pub filled : (rs : List (Slot Z)) (q : ℕ) (b : Box Tree Z) → IsWith q (Some b) ss rs → asleep_in rs ≡ insert m q (sleeper_of_node b.value)
     filled rs q b w =

@@ -1,7 +1,7 @@
 -- How large the sums over tasks can be.
 use Rattle.std.proofs.Common.{◌≡◌, ℕ, suc, List, [], ◌∷◌, length, ◌+◌, ◌*◌, ◌/◌, ◌^◌, ◌≤◌, true, arith}
 use Rattle.std.specs.Prelude.{ℤ, pos, negsuc, ◌+ℤ◌, ◌*ℤ◌, unsigned_abs}
-use Rattle.std.proofs.Math.Nat.{mul-le-mul_left, mul-le-mul_right, div-le_self, div-lt_iff_lt-mul, div-le_of_le-mul}
+use Rattle.std.proofs.Math.Nat.{mul-le-mul_right, div-le_self, div-lt_iff_lt-mul, div-le_of_le-mul}
 use Rattle.std.proofs.lemmas.Int.{ints, clamps, unsigned_abs-mul}
 use Rattle.std.proofs.lemmas.Bool.Decides.{nat_tests}
 use Rattle.eevdf_weight.specs.{Limits.is_in_range, Weight.weight_of, Charge.charge_of, Placement.floor_div}
@@ -72,7 +72,3 @@ lag_small lag nice slice h k =
     let l : unsigned_abs lag ≤ charge_of (2 * slice) (weight_of nice) = grind (arith, nat_tests) in
     let q : 2 * slice * 1024 / weight_of nice ≤ 2 * slice * 1024 = div-le_self (2 * slice * 1024) (weight_of nice) in
     omega arith
-
--- a lag times a weight
-pub weighted_small : (lag : ℤ) (w : ℕ) → unsigned_abs lag ≤ 2 ^ 38 → w ≤ 88761 → unsigned_abs (lag *ℤ pos w) ≤ 2 ^ 38 * 88761
-weighted_small lag w h k = omega (arith, unsigned_abs-mul lag (pos w), mul-le-mul_right w h, mul-le-mul_left (2 ^ 38) k)

@@ -32,12 +32,15 @@ abbrev pub IsForemost : (ℕ × Entry → ℕ × Entry → Bool) → (ℕ × Ent
 IsForemost before passes es None = (u : ℕ) (f : Entry) → find nat_cmp u es ≡ Some f → passes (u, f) ≡ false
 IsForemost before passes es (Some a) = IsFirst before passes es a
 
-equal_number : (u x : ℕ) → eq_by_cmp nat_cmp u x ≡ true → u ≡ x
+pub equal_number : (u x : ℕ) → eq_by_cmp nat_cmp u x ≡ true → u ≡ x
 equal_number u x h = grind (arith, nat_tests, same_number u x)
+
+pub itself : (x : ℕ) → eq_by_cmp nat_cmp x x ≡ true
+itself x = grind (arith, nat_tests, same_number x x)
 
 -- the head of a list is found there
 pub head : {X : Type 0} (e : ℕ × X) (es : List (ℕ × X)) → find nat_cmp e.0 (e ∷ es) ≡ Some e.1
-head e es = ap (λ b. cond b (Some e.1) (find nat_cmp e.0 es)) (let same : eq_by_cmp nat_cmp e.0 e.0 ≡ true = grind (arith, nat_tests, same_number e.0 e.0) in same)
+head e es = ap (λ b. cond b (Some e.1) (find nat_cmp e.0 es)) (itself e.0)
 
 -- what is found in a list is its head or stands behind it
 found_by : {X : Type 0} (P : ℕ × X → Type 0) (e : ℕ × X) (es : List (ℕ × X)) (u : ℕ) (f : X) → P e → (find nat_cmp u es ≡ Some f → P (u, f))

@@ -1,6 +1,6 @@
 pub mod Bounds
 mod Roomy
-mod MapFolds
+pub mod MapFolds
 mod ListMaps
 pub mod SortedEntries
 mod AllTasks
@@ -22,7 +22,7 @@ pub mod Sound
 mod Picking
 pub mod Scaled
 pub mod Signed
-mod Mean
+pub mod Mean
 pub mod SomeEligible
 mod Picked
 mod SleepingLag

@@ -10,6 +10,9 @@ use Rattle.eevdf_queue.proofs.{AllTasks.apart, MapFolds.AreDistinct}
 pub same_number : (q x : ℕ) → eq_by_cmp nat_cmp q x ≡ eqb x q
 same_number q x = grind (arith, nat_tests)
 
+pub turned : (a b : ℕ) → eqb a b ≡ eqb b a
+turned a b = grind (arith, nat_tests)
+
 pub find-entries_of : (ts : List Task) (q : ℕ) → find nat_cmp q (entries_of ts) ≡ option_map (λ t. t.entry) (find_task q ts)
 find-entries_of [] q = refl
 find-entries_of (t ∷ ts) q = grind (arith, nat_tests, same_number q t.number, find-entries_of ts q)

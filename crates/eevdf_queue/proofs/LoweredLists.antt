@@ -8,7 +8,7 @@ use Rattle.eevdf_queue.specs.{NodeDepths.deeper, NodeDepths.depth_at, TaskLists.
 use Rattle.eevdf_queue.specs.TreeTasks.{precedes, PrecedesAll, AreOrdered, IsSorted}
 use Rattle.eevdf_queue.specs.TreeLowering.{lowered_task, lowered_list, are_tasks_in_range, IsNear, noted_or}
 use Rattle.eevdf_queue.specs.TreeStores.{kept_at, noted, IsNoted}
-use Rattle.eevdf_queue.proofs.{Bounds.within, Bounds.range_v, Bounds.range_d}
+use Rattle.eevdf_queue.proofs.{Bounds.within, Bounds.range_v, Bounds.range_d, ListMaps.turned}
 
 pub length-lowered : (by : ℤ) (ts : List Task) → length (lowered_list by ts) ≡ length ts
 length-lowered by [] = refl
@@ -50,9 +50,6 @@ depths_lowered by cs cs' ds ds' xs xs' ys ys' t t' h i k l m =
     ∙ ap (λ (z : List (ℕ × ℕ)). deeper cs xs ++ (t.number, 1) ∷ z) (side_lowered by ds ds' ys ys' l m)
 
 -- the deadlines that are noted, from those of the two sides and of the task between them
-turned : (a b : ℕ) → eqb a b ≡ eqb b a
-turned a b = grind (arith, nat_tests)
-
 by_number : (b : Bool) (d : ℤ) (t : Task) (o : Option Task) → cond b (noted t.entry.d) (noted_or d o) ≡ noted_or d (cond b (Some t) o)
 by_number true d t o = refl
 by_number false d t o = refl
@@ -88,7 +85,7 @@ and_first a b h = grind arith
 and_second : (a b : Bool) → (a && b) ≡ true → b ≡ true
 and_second a b h = grind arith
 
-missed : (by : ℤ) (q : ℕ) (ts : List Task) → find_task q ts ≡ None → find_task q (lowered_list by ts) ≡ None
+pub missed : (by : ℤ) (q : ℕ) (ts : List Task) → find_task q ts ≡ None → find_task q (lowered_list by ts) ≡ None
 missed by q ts h = find-lowered by q ts ∙ ap (option_map (lowered_task by)) h
 
 pub runnable_lowered : (by : ℤ) (ts : List Task) → AreRunnable ts → are_tasks_in_range (lowered_list by ts) ≡ true → AreRunnable (lowered_list by ts)
@@ -101,7 +98,7 @@ runnable_lowered by (t ∷ ts) h r = (
 )
 
 -- the order stays
-lower_lt : (by a b : ℤ) → int_lt (a -ℤ by) (b -ℤ by) ≡ int_lt a b
+pub lower_lt : (by a b : ℤ) → int_lt (a -ℤ by) (b -ℤ by) ≡ int_lt a b
 lower_lt by a b = grind (arith, ints)
 
 pub same_order : (by : ℤ) (t u : Task) → precedes (lowered_task by t) (lowered_task by u) ≡ precedes t u

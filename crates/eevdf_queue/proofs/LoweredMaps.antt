@@ -1,8 +1,8 @@
 -- Maps of runnable tasks that are lowered by a number in virtual time.
 use Rattle.std.proofs.Common.{◌≡◌, ◌≢◌, ℕ, ◌+◌, Bool, true, false, ◌&&◌, cond, List, [], ◌∷◌, Option, Some, None, refl, sym, ap, ◌∙◌, length, suc, arith}
-use Rattle.std.specs.Prelude.{ℤ, pos, ◌+ℤ◌, ◌-ℤ◌, ◌*ℤ◌, int_le, int_lt}
+use Rattle.std.specs.Prelude.{ℤ, pos, is_some, ◌+ℤ◌, ◌-ℤ◌, ◌*ℤ◌, int_le}
 use Rattle.std.specs.{Option.option_map, Ordering.nat_cmp, Ordering.eq_by_cmp, Cmp.nat_cmp_total}
-use Rattle.std.specs.FinMap.{get, insert, remove, entries, find, len, same_map, nat_cmp-IsAntisymmetric, get-from_entries, get-entries, get-insert, get-remove, len-entries}
+use Rattle.std.specs.FinMap.{get, contains_key, insert, remove, entries, find, len, same_map, nat_cmp-IsAntisymmetric, get-from_entries, get-entries, get-insert, get-remove, len-entries}
 use Rattle.std.proofs.lemmas.{Bool.Decides.nat_tests, Int.ints}
 use Rattle.eevdf_weight.specs.Weight.{weight_of}
 use Rattle.eevdf_queue.specs.{declared.entry.Entry.Entry, declared.task.Task.Task, Moves.is_entry_in_range}
@@ -14,7 +14,7 @@ use Rattle.eevdf_queue.specs.{TaskLists.entries_of, TaskLists.find_task, TaskLis
 use Rattle.eevdf_queue.specs.TreeLowering.{lowered_task, lowered_list, are_tasks_in_range}
 use Rattle.eevdf_queue.proofs.{MapFolds.AreDistinct, MapFolds.fold-from_entries, SortedEntries.distinct_entries, Scaled.difference_scaled, Scaled.scaled_sum}
 use Rattle.eevdf_queue.proofs.{Earliest.taken, Earliest.taken-swap, TreeCandidates.joined, TreeCandidates.latest-joined, TreeCandidates.joined-swap}
-use Rattle.eevdf_queue.proofs.{RunnableMaps.folded, RunnableMaps.seen_as, RunnableMaps.get-runnable_in, LoweredLists.find-lowered}
+use Rattle.eevdf_queue.proofs.{RunnableMaps.folded, RunnableMaps.seen_as, RunnableMaps.get-runnable_in, LoweredLists.find-lowered, LoweredLists.lower_lt}
 
 find-lowered_entries : (by : ℤ) (es : List (ℕ × Entry)) (q : ℕ) → find nat_cmp q (lowered_entries by es) ≡ option_map (lowered_entry by) (find nat_cmp q es)
 find-lowered_entries by [] q = refl
@@ -29,6 +29,13 @@ get-lowered by m q =
     get-from_entries nat_cmp_total (lowered_entries by (entries m)) q
     ∙ find-lowered_entries by (entries m) q
     ∙ ap (option_map (lowered_entry by)) (sym (get-entries m q))
+
+still_here : (by : ℤ) (o : Option Entry) → is_some (option_map (lowered_entry by) o) ≡ is_some o
+still_here by None = refl
+still_here by (Some e) = refl
+
+pub contains-lowered : (by : ℤ) (m : Tasks) (q : ℕ) → contains_key (lowered_tasks by m) q ≡ contains_key m q
+contains-lowered by m q = ap is_some (get-lowered by m q) ∙ still_here by (get m q)
 
 distinct_lowered : (by : ℤ) (es : List (ℕ × Entry)) → AreDistinct es → AreDistinct (lowered_entries by es)
 distinct_lowered by [] h = tt
@@ -77,9 +84,6 @@ moment-lowered by m =
     ∙ moments-lowered by (entries m)
 
 -- who is first and who is last
-lower_lt : (by a b : ℤ) → int_lt (a -ℤ by) (b -ℤ by) ≡ int_lt a b
-lower_lt by a b = grind (arith, ints)
-
 abbrev lowered_pair : ℤ → ℕ × Entry → ℕ × Entry
 lowered_pair by a = (a.0, lowered_entry by a.1)
 

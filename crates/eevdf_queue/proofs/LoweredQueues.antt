@@ -1,8 +1,8 @@
 -- A queue and the same queue lowered by a number answer alike.
 use Rattle.std.proofs.Common.{◌≡◌, ℕ, ◌+◌, ◌≤◌, ◌==◌, Bool, true, false, cond, Option, Some, None, refl, sym, ap, subst, ◌∙◌, inl, inr, arith}
-use Rattle.std.specs.Prelude.{ℤ, pos, ◌+ℤ◌, ◌-ℤ◌, ◌*ℤ◌, int_le, is_some, map}
+use Rattle.std.specs.Prelude.{ℤ, pos, ◌+ℤ◌, ◌-ℤ◌, ◌*ℤ◌, int_le, map}
 use Rattle.std.specs.{Option.option_map, Ordering.nat_cmp, Ordering.eq_by_cmp, Cmp.nat_cmp_total}
-use Rattle.std.specs.FinMap.{empty, entries, get, contains_key, insert, remove, len, len-entries, empty_of_len, get-empty, get-insert}
+use Rattle.std.specs.FinMap.{empty, entries, get, insert, remove, len, get-empty, get-insert}
 use Rattle.std.proofs.lemmas.{Bool.Decides.nat_tests, Int.ints}
 use Rattle.eevdf_weight.specs.{Limits.is_in_range, Weight.weight_of, Charge.charge_of, Placement.placement_of, Placement.floor_div}
 use Rattle.eevdf_queue.specs.{declared.entry.Entry.Entry, State.State, State.Sleeper, Lag.kept_lag, Lag.cut, Lag.limit_of, Lag.lag_by}
@@ -28,14 +28,11 @@ use Rattle.eevdf_queue.specs.declared.answers.WakeAnswer.TheVariants as wakes
 use Rattle.eevdf_queue.specs.declared.answers.ReniceAnswer.TheVariants as renices
 use Rattle.eevdf_queue.specs.declared.answers.SetAnswer.TheVariants as sets
 use Rattle.eevdf_queue.specs.{declared.answers.TickAnswer.TickAnswer, declared.answers.YieldAnswer.YieldAnswer, declared.answers.ReniceAnswer.ReniceAnswer}
-use Rattle.eevdf_queue.proofs.{Floors.floor_lowered, MapFolds.entries-empty, Mean.without_weight, ListMaps.same_number, Sound.Asleep}
+use Rattle.eevdf_queue.proofs.{Floors.floor_lowered, MapFolds.entries-empty, Mean.no_tasks, ListMaps.same_number, Sound.Asleep}
 use Rattle.eevdf_queue.proofs.ShortestTicks.{ends_where, absent_ends}
-use Rattle.eevdf_queue.proofs.LoweredMaps.{get-lowered, len-lowered, weight-lowered, moment-lowered, pick-lowered, candidate-lowered, insert-lowered, remove-lowered}
+use Rattle.eevdf_queue.proofs.LoweredMaps.{get-lowered, contains-lowered, len-lowered, weight-lowered, moment-lowered, pick-lowered, candidate-lowered, insert-lowered, remove-lowered}
 
 -- ---- virtual time
-nothing : (m : Tasks) → total_weight m ≡ 0 → m ≡ empty
-nothing m h = empty_of_len m (len-entries m ∙ without_weight (entries m) h)
-
 zero_is : (n : ℕ) → (n == 0) ≡ true → n ≡ 0
 zero_is n h = grind (arith, nat_tests)
 
@@ -100,7 +97,7 @@ module _ (by : ℤ) (q r : State) (h : IsLower by q r) where
       ∙ ap (λ (w : ℕ). time_over w (total_moment (lowered_tasks by q.runnable)) r.base) (weight-lowered by q.runnable)
       ∙ ap (λ (s : ℤ). time_over (total_weight q.runnable) s r.base) (moment-lowered by q.runnable)
       ∙ time_by by (total_moment q.runnable) q.base r.base (total_weight q.runnable) (total_weight q.runnable == 0) refl
-      (λ z. h.base (nothing q.runnable (zero_is (total_weight q.runnable) z)))
+      (λ z. h.base (no_tasks q.runnable (zero_is (total_weight q.runnable) z)))
 
   load_lower : total_weight r.runnable ≡ total_weight q.runnable
   load_lower = ap total_weight h.runnable ∙ weight-lowered by q.runnable
@@ -373,22 +370,15 @@ pub rebased_time : (q : State) → virtual_time (rebased q) ≡ pos 0
 rebased_time q = time_lower (virtual_time q) q (rebased q) (rebased_is_lower q) ∙ itself_less (virtual_time q)
 
 -- ---- what a queue keeps
-still_here : (o : Option Entry) (by : ℤ) → is_some (option_map (lowered_entry by) o) ≡ is_some o
-still_here None by = refl
-still_here (Some e) by = refl
-
-contains_lowered : (by : ℤ) (m : Tasks) (t : ℕ) → contains_key (lowered_tasks by m) t ≡ contains_key m t
-contains_lowered by m t = ap is_some (get-lowered by m t) ∙ still_here (get m t) by
-
 runs_lowered : (by : ℤ) (m : Tasks) (r : Option ℕ) → RunnerIsHere m r → RunnerIsHere (lowered_tasks by m) r
 runs_lowered by m None h = tt
-runs_lowered by m (Some t) h = contains_lowered by m t ∙ h
+runs_lowered by m (Some t) h = contains-lowered by m t ∙ h
 
 pub sound_lowered : (m m' : Tasks) (r : Option ℕ) (n : Asleep) (b by : ℤ) → m' ≡ lowered_tasks by m → IsSound (record { runnable = m; running = r; asleep = n; base = b })
     → IsSound (record { runnable = m'; running = r; asleep = n; base = pos 0 })
 sound_lowered m m' r n b by is h =
     subst (λ (x : Tasks). IsSound (record { runnable = x; running = r; asleep = n; base = pos 0 })) (sym is) (record {
       runs = runs_lowered by m r h.runs;
-      apart = λ t here. h.apart t (sym (contains_lowered by m t) ∙ here);
+      apart = λ t here. h.apart t (sym (contains-lowered by m t) ∙ here);
       based = refl;
     })

@@ -6,7 +6,7 @@ use Rattle.eevdf_queue.specs.{Numbers.number_limit, Sums.sum_weights, Sums.sum_m
 use Rattle.eevdf_queue.specs.TaskLists.{has_number, find_task, entries_of, runnable_in, AreRunnable}
 use Rattle.eevdf_queue.specs.TreeStores.{kept_at, timeless, AreTotals, IsKnown, IsPickAt, IsStillPick, IsRunnableTasks}
 use Rattle.eevdf_queue.specs.TreeLowering.{lowered_task, lowered_list, are_tasks_in_range, noted_or}
-use Rattle.eevdf_queue.proofs.LoweredLists.{find-lowered, length-lowered, runnable_lowered, noted_all, back_list}
+use Rattle.eevdf_queue.proofs.LoweredLists.{find-lowered, length-lowered, runnable_lowered, noted_all, back_list, missed}
 use Rattle.eevdf_queue.proofs.LoweredMaps.{weights-lowered, moments-lowered, entries_of-lowered, seen-lowered, pick-lowered}
 use Rattle.eevdf_queue.proofs.{Bounds.within, Bounds.range_v, AllTasks.all-found, TreeMaps.InRange, TreeMaps.all_in_range}
 
@@ -108,11 +108,8 @@ twice_by : (d d' d'' : ℤ) (o o' : Option Task) → d' ≡ noted_or d o → d''
 twice_by d d' d'' o None h k missed = k ∙ h ∙ ap (noted_or d) (missed refl)
 twice_by d d' d'' o (Some t) h k missed = k
 
-missed_back : (by : ℤ) (q : ℕ) (ts : List Task) → find_task q ts ≡ None → find_task q (lowered_list by ts) ≡ None
-missed_back by q ts h = find-lowered by q ts ∙ ap (option_map (lowered_task by)) h
-
 pub noted_twice : (by : ℤ) (q : ℕ) (d d' d'' : ℤ) (ts us vs : List Task) → us ≡ lowered_list by ts → vs ≡ ts → d' ≡ noted_or d (find_task q us) → d'' ≡ noted_or d' (find_task q vs)
     → d'' ≡ noted_or d (find_task q vs)
 noted_twice by q d d' d'' ts us vs e f h k =
     twice_by d d' d'' (find_task q us) (find_task q vs) h k
-    (λ none. ap (find_task q) e ∙ missed_back by q ts (ap (find_task q) (sym f) ∙ none))
+    (λ none. ap (find_task q) e ∙ missed by q ts (ap (find_task q) (sym f) ∙ none))

@@ -56,16 +56,18 @@ all_past W S (e ∷ es) h =
 weightless : (S : ℤ) (W : ℕ) → ((S +ℤ pos 1) *ℤ pos W) ≤ℤ (S *ℤ pos W) → W ≡ 0
 weightless S W h = omega (arith, ints, sum_scaled S (pos 1) W)
 
-pub without_weight : (es : List (ℕ × Entry)) → sum_weights es ≡ 0 → length es ≡ 0
+without_weight : (es : List (ℕ × Entry)) → sum_weights es ≡ 0 → length es ≡ 0
 without_weight [] h = refl
 without_weight (e ∷ es) h = let k = weight_of-least e.1.nice in absurd (omega arith)
+
+pub no_tasks : (tasks : Tasks) → total_weight tasks ≡ 0 → tasks ≡ empty
+no_tasks tasks none = empty_of_len tasks (len-entries tasks ∙ without_weight (entries tasks) none)
 
 -- where nobody is eligible, nobody is there
 pub nobody : (tasks : Tasks) → NonePasses (is_eligible tasks) (entries tasks) → tasks ≡ empty
 nobody tasks h =
     let failing = all_fail (is_eligible tasks) (entries tasks) (distinct_entries tasks) h in
-    let none : total_weight tasks ≡ 0 = weightless (total_moment tasks) (total_weight tasks) (all_past (total_weight tasks) (total_moment tasks) (entries tasks) failing) in
-    empty_of_len tasks (len-entries tasks ∙ without_weight (entries tasks) none)
+    no_tasks tasks (weightless (total_moment tasks) (total_weight tasks) (all_past (total_weight tasks) (total_moment tasks) (entries tasks) failing))
 
 someone : (tasks : Tasks) (o : Option (ℕ × Entry)) → IsEarliest (is_eligible tasks) (entries tasks) o → (tasks ≡ empty → ⊥) → (t : ℕ) × ((e : Entry) × Eligible tasks t e)
 someone tasks None h filled = absurd (filled (nobody tasks h))

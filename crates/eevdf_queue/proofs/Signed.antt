@@ -1,10 +1,9 @@
 -- Sums and products of signed numbers that fit 64 bits, or 128.
 use Rattle.std.proofs.Common.{◌≡◌, ℕ, ◌^◌, ◌≤◌, Bool, sym, ap, subst, ◌∙◌, arith, to_z, of_z}
-use Rattle.std.specs.Prelude.{ℤ, pos, negsuc, ◌+ℤ◌, ◌*ℤ◌, ◌≤ℤ◌, int_le, int_lt, unsigned_abs}
+use Rattle.std.specs.Prelude.{ℤ, pos, negsuc, ◌+ℤ◌, ◌*ℤ◌, int_le, int_lt, unsigned_abs}
 use Rattle.std.proofs.lemmas.Int.{ints, to_z-of_z}
 use mir.Syntax.{w64, w128}
 use mir.Val.{SFits}
-use Rattle.eevdf_queue.specs.Lag.{cut}
 
 pub fits_small : (z : ℤ) → unsigned_abs z ≤ 2 ^ 62 → SFits w64 z
 fits_small (pos n) h = record { sfits = omega arith }
@@ -20,11 +19,6 @@ product_read z w f h =
 
 pub product_fits : (z : ℤ) (w : ℕ) → SFits w64 z → w ≤ 88761 → unsigned_abs (z *ℤ pos w) ≤ 2 ^ 62 → SFits w64 (to_z w64 (of_z w64 z) *ℤ to_z w64 w)
 product_fits z w f h k = subst (λ (a : ℤ). SFits w64 a) (sym (product_read z w f h)) (fits_small (z *ℤ pos w) k)
-
-pub product_kept : (z : ℤ) (w : ℕ) → SFits w64 z → w ≤ 88761 → unsigned_abs (z *ℤ pos w) ≤ 2 ^ 62
-    → to_z w64 (of_z w64 (to_z w64 (of_z w64 z) *ℤ to_z w64 w)) ≡ z *ℤ pos w
-product_kept z w f h k =
-    ap (λ (a : ℤ). to_z w64 (of_z w64 a)) (product_read z w f h) ∙ to_z-of_z w64 (z *ℤ pos w) (fits_small (z *ℤ pos w) k)
 
 sum_read : (a b : ℤ) → SFits w64 a → SFits w64 b → to_z w64 (of_z w64 a) +ℤ to_z w64 (of_z w64 b) ≡ a +ℤ b
 sum_read a b f g =
@@ -43,18 +37,6 @@ pub compared : (a b z : ℤ) (t : Bool) → SFits w64 a → SFits w64 b → b �
 compared a b z t f g h k =
     ap (λ (x : ℤ). int_le x z) (sym (to_z-of_z w64 a f))
     ∙ ap (λ (x : ℤ). int_le (to_z w64 (of_z w64 a)) x) (sym (to_z-of_z w64 b g ∙ h)) ∙ k
-
-pub limit_read : (r : ℤ) (n : ℕ) → SFits w64 r → r ≡ pos n → pos 0 ≤ℤ to_z w64 (of_z w64 r)
-limit_read r n f h =
-    let natural : pos 0 ≤ℤ pos n = omega (arith, ints) in subst (λ (z : ℤ). pos 0 ≤ℤ z) (sym (to_z-of_z w64 r f ∙ h)) natural
-
--- a number cut to a limit
-pub cut_read : (r d l : ℤ) (n : ℕ) → SFits w64 r → SFits w64 d → SFits w64 l → r ≡ cut (to_z w64 (of_z w64 d)) (unsigned_abs (to_z w64 (of_z w64 l))) → l ≡ pos n
-    → to_z w64 (of_z w64 r) ≡ cut d n
-cut_read r d l n f g i h k =
-    to_z-of_z w64 r f ∙ h
-    ∙ ap (λ (z : ℤ). cut z (unsigned_abs (to_z w64 (of_z w64 l)))) (to_z-of_z w64 d g)
-    ∙ ap (λ (z : ℤ). cut d (unsigned_abs z)) (to_z-of_z w64 l i ∙ k)
 
 -- a wide product
 pub moment_read : (v r : ℤ) (w : ℕ) → SFits w64 v → SFits w128 r → r ≡ to_z w64 (of_z w64 v) *ℤ pos w → to_z w128 (of_z w128 r) ≡ v *ℤ pos w

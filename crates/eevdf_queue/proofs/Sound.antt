@@ -6,12 +6,21 @@ use Rattle.std.proofs.lemmas.Bool.Decides.{nat_tests}
 use Rattle.eevdf_queue.proofs.ListMaps.{same_number}
 use Rattle.eevdf_weight.specs.Limits.{is_in_range}
 use Rattle.eevdf_queue.specs.{declared.entry.Entry.Entry, Sums.Tasks}
-use Rattle.eevdf_queue.specs.State.{Sleeper, Contents}
+use Rattle.eevdf_queue.specs.State.{State, Sleeper, Contents}
 use Rattle.eevdf_queue.specs.Leaving.{stopped, leaving_at, IsNowhere}
 use Rattle.eevdf_queue.specs.Kept.{RunnerIsHere, IsSound}
 
 abbrev pub Asleep : Type 0
 Asleep = FinMap nat_cmp Sleeper
+
+-- a queue by its parts, and by what is seen of it, with another entry of one task
+abbrev of_parts : Tasks → Option ℕ → Asleep → ℤ → State
+of_parts m r n b = record { runnable = m; running = r; asleep = n; base = b }
+
+pub entry_written : (m m' : Tasks) (r : Option ℕ) (n : Asleep) (b : ℤ) (t : ℕ) (e f : Entry) (q : State) → m' ≡ insert m t f → f ≡ e → of_parts m r n b ≡ q
+    → of_parts m' r n b ≡ record q { runnable = insert q.runnable t e }
+entry_written m m' r n b t e f q is same seen =
+    ap (λ (x : Tasks). of_parts x r n b) (is ∙ ap (insert m t) same) ∙ ap (λ (s : State). record s { runnable = insert s.runnable t e }) seen
 
 pub sound_open : (m : Tasks) (n : Asleep) (b : ℤ) → m ≡ empty → n ≡ empty → is_in_range b ≡ true → IsSound (record { runnable = m; running = None; asleep = n; base = b })
 sound_open m n b e f h = record {

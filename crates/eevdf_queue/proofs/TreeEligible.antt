@@ -5,7 +5,7 @@ use Rattle.std.specs.Int.{int_min}
 use Rattle.std.proofs.{lemmas.Int.ints, lemmas.Int.clamps}
 use Rattle.eevdf_queue.specs.{declared.task.Task.Task, Pick.is_eligible_at, TreeLeast.least_runtime, TreeLeast.AreLow}
 use Rattle.eevdf_queue.specs.{TreeTasks.first_that, TreeShape.tasks_in, TreeNodes.tasks_of, TreeNodes.IsNode}
-use Rattle.eevdf_queue.proofs.{AllTasks.all-append, Scaled.scaled_le}
+use Rattle.eevdf_queue.proofs.{Scaled.scaled_le}
 use Rattle.eevdf_queue.specs.{declared.tree.least.Least.Least, declared.tree.node.TreeNode.TheInside.Inside}
 
 lower : (w : ℕ) (s a b : ℤ) → a ≤ℤ b → int_le (b *ℤ pos w) s ≡ true → int_le (a *ℤ pos w) s ≡ true
@@ -32,9 +32,6 @@ pub some-least : (w : ℕ) (s : ℤ) (ts xs : List Task) (t : Task) (ys : List T
 some-least w s [] [] t ys e h = cc
 some-least w s [] (x ∷ xs) t ys e h = cc
 some-least w s (u ∷ us) xs t ys e h = some-least_by w s u us h
-
-pub low-around : (xs : List Task) (t : Task) (ys : List Task) → AreLow xs → AreLow (t ∷ []) → AreLow ys → AreLow (xs ++ t ∷ ys)
-low-around xs t ys h k l = all-append _ xs (t ∷ ys) h (k.0, l)
 
 -- a node has an eligible task exactly where its least virtual runtime is eligible
 pub some-node : (w : ℕ) (s : ℤ) (a : Inside) → IsNode a.kept a.parts

@@ -5,9 +5,6 @@ use Rattle.eevdf_queue.proofs.Sound.{sound_admit}
 use Rattle.eevdf_queue.proofs.queue.Queue.admit.Goals as goal
 
 pub invariant_of-self : goal.invariant_of-self
-invariant_of-self c = (
-  sound_admit _ _ _ _ _ _ _ c.add.ensures
-      (ap (λ (w : View). get w.state.asleep c.args.parcel.task) c.self.view_is ∙ c.requires.not_asleep)
-      c.self.invariant.0,
-  c.self.invariant.1,
-)
+invariant_of-self c =
+    let awake = ap (λ (w : View). get w.state.asleep c.args.parcel.task) c.self.view_is ∙ c.requires.not_asleep in
+    (sound_admit _ _ _ _ _ _ _ c.add.ensures awake c.self.invariant.0, c.self.invariant.1)

@@ -1,7 +1,7 @@
-use Rattle.std.proofs.Common.{Some, ap, ◌∙◌, sym}
-use Rattle.std.specs.{Prelude.is_some, FinMap.get, FinMap.insert}
-use Rattle.eevdf_queue.specs.{State.State, State.View, Sums.Tasks, Moves.sleeper_of, Placing.placed_entry}
-use Rattle.eevdf_queue.proofs.{Sound.sound_admit, Joining.placed_in_range, Joining.joined}
+use Rattle.std.proofs.Common.{Some, refl, ap, ◌∙◌, sym}
+use Rattle.std.specs.{Prelude.is_some, FinMap.get}
+use Rattle.eevdf_queue.specs.{State.View, Moves.sleeper_of, Placing.placed_entry}
+use Rattle.eevdf_queue.proofs.{Sound.entry_written, Sound.sound_admit, Joining.placed_in_range, Joining.joined}
 use Rattle.eevdf_queue.proofs.queue.Queue.attach.Goals as goal
 
 pub placed-requires : goal.placed-requires
@@ -18,23 +18,16 @@ add-requires c = record {
 }
 
 pub invariant_of-self : goal.invariant_of-self
-invariant_of-self c = (
-  sound_admit _ _ _ _ _ _ _ c.add.ensures
-      (ap (λ (w : View). get w.state.asleep c.args.parcel.task) c.self.view_is ∙ c.requires.not_asleep)
-      c.self.invariant.0,
-  c.self.invariant.1,
-)
+invariant_of-self c =
+    let awake = ap (λ (w : View). get w.state.asleep c.args.parcel.task) c.self.view_is ∙ c.requires.not_asleep in
+    (sound_admit _ _ _ _ _ _ _ c.add.ensures awake c.self.invariant.0, c.self.invariant.1)
 
 pub returns-clause-after : goal.returns-clause-after
 returns-clause-after c =
-    let a = c.self.inside in
-    let q : State = record { runnable = a.runnable.tasks; running = a.running; asleep = a.asleep; base = a.base } in
-    let t = c.args.parcel.task in
     let e = c.unwrap-entry.result in
-    joined c.args.self.now.state t (sleeper_of c.args.parcel) e
+    joined c.args.self.now.state c.args.parcel.task (sleeper_of c.args.parcel) e
     (ap (placed_entry c.args.self.now.state) (sym c.sleeper.ensures.value) ∙ sym c.placed.ensures ∙ c.unwrap-entry.ensures)
-    ∙ ap (λ (w : View). Some (record w.state { runnable = insert w.state.runnable t e })) (sym c.self.view_is)
-    ∙ ap (λ (m : Tasks). Some (record q { runnable = m })) (sym c.add.ensures)
+    ∙ ap Some (sym (entry_written _ _ _ _ _ c.args.parcel.task e e _ c.add.ensures refl (ap (λ (w : View). w.state) c.self.view_is)))
 
 pub returns-clause-pick_depth : goal.returns-clause-pick_depth
 returns-clause-pick_depth c = ap (λ (w : View). w.pick_depth) c.self.view_is

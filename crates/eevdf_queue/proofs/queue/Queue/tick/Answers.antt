@@ -1,10 +1,10 @@
 use Rattle.std.proofs.Common.{◌≡◌, ℕ, Bool, true, false, cond, Option, Some, sym, ap, ◌∙◌}
 use Rattle.std.specs.{Prelude.is_some, FinMap.get, FinMap.insert, FinMap.contains_key}
 use Rattle.eevdf_queue.specs.{declared.answers.TickAnswer.TickAnswer, declared.entry.Entry.Entry, State.State, State.View}
-use Rattle.eevdf_queue.specs.{Moves.is_entry_in_range, Sums.Tasks}
+use Rattle.eevdf_queue.specs.{Moves.is_entry_in_range}
 use Rattle.eevdf_queue.specs.Tick.{charged, is_used_up, tick, tick_entry, tick_running}
 use Rattle.eevdf_queue.specs.declared.answers.TickAnswer.TheVariants.{Charged, Range}
-use Rattle.eevdf_queue.proofs.Sound.{sound_change}
+use Rattle.eevdf_queue.proofs.Sound.{entry_written, sound_change}
 use Rattle.eevdf_queue.proofs.queue.Queue.tick.Goals as goal
 
 -- what comes of a charge, by whether it leads out of range
@@ -25,14 +25,11 @@ returns-then-not-charged-clause-answer c =
 
 pub returns-then-not-charged-clause-after : goal.returns-then-not-charged-clause-after
 returns-then-not-charged-clause-after c =
-    let a = c.self.inside in
-    let q : State = record { runnable = a.runnable.tasks; running = a.running; asleep = a.asleep; base = a.base } in
     let task = c.in-Some.runner.task in
     let e = c.in-Some.runner.entry in
     let is : is_entry_in_range (charged e c.args.ns) ≡ true =
     ap is_entry_in_range (sym c.charged-charged.ensures.entry) ∙ c.charged-charged.ensures.kept c.if-not-charged.true in
-    ap (λ (m : Tasks). record q { runnable = m }) (c.age.ensures ∙ ap (insert a.runnable.tasks task) c.charged-charged.ensures.entry)
-    ∙ ap (λ (w : View). record w.state { runnable = insert w.state.runnable task (charged e c.args.ns) }) c.self.view_is
+    entry_written _ _ _ _ _ task (charged e c.args.ns) _ _ c.age.ensures c.charged-charged.ensures.entry (ap (λ (w : View). w.state) c.self.view_is)
     ∙ sym (ap (λ (p : TickAnswer × State). p.1) (ticked c.args.self.now.state task c.args.ns e true c.in-Some.ensures.task c.in-Some.ensures.entry is))
 
 pub returns-then-not-is_deadline_in_range-clause-answer : goal.returns-then-not-is_deadline_in_range-clause-answer
@@ -71,12 +68,9 @@ returns-clause-answer c =
 
 pub returns-clause-after : goal.returns-clause-after
 returns-clause-after c =
-    let a = c.self.inside in
-    let q : State = record { runnable = a.runnable.tasks; running = a.running; asleep = a.asleep; base = a.base } in
     let task = c.in-Some.runner.task in
     let e = c.in-Some.runner.entry in
     let is : is_entry_in_range (charged e c.args.ns) ≡ true =
     ap is_entry_in_range (sym c.charged-charged.ensures.entry) ∙ sym (c.charged-charged.ensures.renewed c.if-not-charged.false) ∙ sym c.is_deadline_in_range.ensures ∙ c.if-not-is_deadline_in_range.false in
-    ap (λ (m : Tasks). record q { runnable = m }) (c.renew.ensures ∙ ap (insert a.runnable.tasks task) c.charged-charged.ensures.entry)
-    ∙ ap (λ (w : View). record w.state { runnable = insert w.state.runnable task (charged e c.args.ns) }) c.self.view_is
+    entry_written _ _ _ _ _ task (charged e c.args.ns) _ _ c.renew.ensures c.charged-charged.ensures.entry (ap (λ (w : View). w.state) c.self.view_is)
     ∙ sym (ap (λ (p : TickAnswer × State). p.1) (ticked c.args.self.now.state task c.args.ns e true c.in-Some.ensures.task c.in-Some.ensures.entry is))

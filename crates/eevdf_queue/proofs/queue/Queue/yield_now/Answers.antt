@@ -1,10 +1,10 @@
 use Rattle.std.proofs.Common.{◌≡◌, ℕ, Bool, true, cond, Some, sym, ap, ◌∙◌}
 use Rattle.std.specs.{Prelude.is_some, FinMap.get, FinMap.insert, FinMap.contains_key}
-use Rattle.eevdf_queue.specs.{declared.answers.YieldAnswer.YieldAnswer, declared.entry.Entry.Entry, State.State, State.View, Sums.Tasks}
+use Rattle.eevdf_queue.specs.{declared.answers.YieldAnswer.YieldAnswer, declared.entry.Entry.Entry, State.State, State.View}
 use Rattle.eevdf_queue.specs.{Moves.is_entry_in_range, Yield.yielded, Yield.yield_now, Yield.yield_entry, Yield.yield_running}
 use Rattle.eevdf_queue.specs.declared.answers.YieldAnswer.TheVariants.{Yielded, Range}
 use Rattle.eevdf_weight.specs.Limits.{is_in_range}
-use Rattle.eevdf_queue.proofs.{Bounds.range_d, Bounds.range_with, Sound.sound_change}
+use Rattle.eevdf_queue.proofs.{Bounds.range_d, Bounds.range_with, Sound.entry_written, Sound.sound_change}
 use Rattle.eevdf_queue.proofs.queue.Queue.yield_now.Goals as goal
 
 later : (q : State) (task : ℕ) (e : Entry) → Some task ≡ q.running → get q.runnable task ≡ Some e → is_in_range (yielded e).d ≡ true
@@ -29,12 +29,9 @@ invariant_of-self c =
 
 pub returns-clause-after : goal.returns-clause-after
 returns-clause-after c =
-    let a = c.self.inside in
-    let q : State = record { runnable = a.runnable.tasks; running = a.running; asleep = a.asleep; base = a.base } in
     let task = c.in-Some.runner.task in
     let e = c.in-Some.runner.entry in
     let is : is_in_range (yielded e).d ≡ true =
     ap (λ (x : Entry). is_in_range x.d) (sym c.yielded-yielded.ensures) ∙ sym c.is_deadline_in_range.ensures ∙ c.if-not-is_deadline_in_range.false in
-    ap (λ (m : Tasks). record q { runnable = m }) (c.renew.ensures ∙ ap (insert a.runnable.tasks task) c.yielded-yielded.ensures)
-    ∙ ap (λ (w : View). record w.state { runnable = insert w.state.runnable task (yielded e) }) c.self.view_is
+    entry_written _ _ _ _ _ task (yielded e) _ _ c.renew.ensures c.yielded-yielded.ensures (ap (λ (w : View). w.state) c.self.view_is)
     ∙ sym (ap (λ (p : YieldAnswer × State). p.1) (later c.args.self.now.state task e c.in-Some.ensures.task c.in-Some.ensures.entry is))

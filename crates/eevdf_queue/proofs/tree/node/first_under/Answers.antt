@@ -1,7 +1,7 @@
-use Rattle.std.proofs.Common.{◌≡◌, ◌∙◌, ◌+◌, false, refl, [], ap, sym, arith, List, length}
+use Rattle.std.proofs.Common.{◌≡◌, ◌∙◌, ◌+◌, ◌≤◌, false, refl, [], ap, sym, arith, List, length}
 use Rattle.std.specs.Prelude.{is_some}
 use Rattle.eevdf_queue.specs.{declared.task.Task.Task, Pick.is_eligible_at, TreeShape.tasks_in, TreeShape.height_in}
-use Rattle.eevdf_queue.specs.{TreeNodes.tasks_of, TreeTasks.first_that}
+use Rattle.eevdf_queue.specs.{NodeDepths.depth_at, TreeNodes.tasks_of, TreeTasks.first_that}
 use Rattle.eevdf_queue.proofs.Descending.{itself, to_left, to_right, at_root}
 use Rattle.eevdf_queue.proofs.{TreeEligible.some-node, TreeSorted.full-lower}
 use Rattle.eevdf_queue.proofs.TreeSearch.{first_left_same, first_here, first_only, first_right}
@@ -46,19 +46,23 @@ missed c =
           ap (λ (z : List Task). is_some (first_that (is_eligible_at c.args.totals.now.weight c.args.totals.now.moment) z)) l
     ]
 
+-- what is answered of the node that is reached
+lower : (c : Joined-at) → c.down.depth + 1 ≤ c.args.root.now.height
+lower c = let h : c.down.at.now.height ≡ c.at.inside.kept.height = cc in omega (arith, h, c.at.invariant.height, c.down.invariant.1.1.0)
+
+stands : (c : Joined-at) → c.down.depth + 1 ≡ depth_at c.at.inside.parts.task.number c.args.root.now.depths
+stands c = sym (at_root c.at.inside c.down.at.now c.at.view_is c.down.depth c.args.root.now.depths c.down.invariant.1.1.1)
+
 pub returns-then-is_task_eligible-clause-task : goal.returns-then-is_task_eligible-clause-task
 returns-then-is_task_eligible-clause-task c =
     let e : c.down.at.now.tasks ≡ tasks_of c.at.inside.parts = cc in
     c.down.invariant.1.0 ∙ first_here (is_eligible_at c.args.totals.now.weight c.args.totals.now.moment) c.down.at.now.tasks (tasks_in c.at.inside.parts.sides.left) c.at.inside.parts.task (tasks_in c.at.inside.parts.sides.right) e (missed (goal.at.returns-then-is_task_eligible-clause-task c).Joined-at) (sym c.is_task_eligible.ensures ∙ c.if-is_task_eligible.true)
 
 pub returns-then-is_task_eligible-clause-low : goal.returns-then-is_task_eligible-clause-low
-returns-then-is_task_eligible-clause-low c =
-    let h : c.down.at.now.height ≡ c.at.inside.kept.height = cc in
-    full-lower (c.down.depth + 1) c.args.root.now.height (length c.args.root.now.tasks) (omega (arith, h, c.at.invariant.height, c.down.invariant.1.1.0)) c.height-height.ensures.full
+returns-then-is_task_eligible-clause-low c = full-lower (c.down.depth + 1) c.args.root.now.height (length c.args.root.now.tasks) (lower (goal.at.returns-then-is_task_eligible-clause-low c).Joined-at) c.height-height.ensures.full
 
 pub returns-then-is_task_eligible-clause-depth : goal.returns-then-is_task_eligible-clause-depth
-returns-then-is_task_eligible-clause-depth c =
-    sym (at_root c.at.inside c.down.at.now c.at.view_is c.down.depth c.args.root.now.depths c.down.invariant.1.1.1)
+returns-then-is_task_eligible-clause-depth c = stands (goal.at.returns-then-is_task_eligible-clause-depth c).Joined-at
 
 -- nothing stands on the right: then it is the own task
 pub returns-in_default-right-clause-task : goal.returns-in_default-right-clause-task
@@ -68,13 +72,10 @@ returns-in_default-right-clause-task c =
     c.down.invariant.1.0 ∙ first_only (is_eligible_at c.args.totals.now.weight c.args.totals.now.moment) c.down.at.now.tasks (tasks_in c.at.inside.parts.sides.left) c.at.inside.parts.task (tasks_in c.at.inside.parts.sides.right) e (missed (goal.at.returns-in_default-right-clause-task c).Joined-at) r c.down.invariant.0
 
 pub returns-in_default-right-clause-low : goal.returns-in_default-right-clause-low
-returns-in_default-right-clause-low c =
-    let h : c.down.at.now.height ≡ c.at.inside.kept.height = cc in
-    full-lower (c.down.depth + 1) c.args.root.now.height (length c.args.root.now.tasks) (omega (arith, h, c.at.invariant.height, c.down.invariant.1.1.0)) c.height-height.ensures.full
+returns-in_default-right-clause-low c = full-lower (c.down.depth + 1) c.args.root.now.height (length c.args.root.now.tasks) (lower (goal.at.returns-in_default-right-clause-low c).Joined-at) c.height-height.ensures.full
 
 pub returns-in_default-right-clause-depth : goal.returns-in_default-right-clause-depth
-returns-in_default-right-clause-depth c =
-    sym (at_root c.at.inside c.down.at.now c.at.view_is c.down.depth c.args.root.now.depths c.down.invariant.1.1.1)
+returns-in_default-right-clause-depth c = stands (goal.at.returns-in_default-right-clause-depth c).Joined-at
 
 pub down-preserved : goal.down-preserved
 down-preserved c =

@@ -1,4 +1,4 @@
-use Rattle.std.proofs.Common.{◌≡◌, ◌∙◌, ◌<◌, ◌≤◌, ◌^◌, ◌∷◌, ◌++◌, ◌&&◌, Bool, List, length, to_z, of_z, ap, sym, subst, arith, rules, length-append}
+use Rattle.std.proofs.Common.{◌≡◌, ◌∙◌, ◌<◌, ◌≤◌, ◌^◌, ◌∷◌, ◌++◌, ◌&&◌, Bool, List, to_z, of_z, ap, sym, subst, arith, rules}
 use Rattle.std.specs.{Prelude.ℤ, Prelude.◌-ℤ◌, Prelude.unsigned_abs, List.AllByRecursion}
 use Rattle.std.proofs.lemmas.Int.{ints, to_z-of_z}
 use mir.Syntax.{w64}
@@ -7,6 +7,7 @@ use Rattle.eevdf_queue.specs.{declared.task.Task.Task, Moves.is_entry_in_range, 
 use Rattle.eevdf_queue.specs.TreeLowering.{IsNear, lowered_task, lowered_list, are_tasks_in_range}
 use Rattle.eevdf_queue.proofs.{AllTasks.all-left, AllTasks.all-right}
 use Rattle.eevdf_queue.proofs.LoweredLists.{around_lowered, in_range-around}
+use Rattle.eevdf_queue.proofs.TreeLengths.{left_shorter, right_shorter}
 use Rattle.eevdf_queue.proofs.tree.node.lowering.+lower.Goals as goal
 
 near_left : (ts xs : List Task) (t : Task) (ys : List Task) → ts ≡ xs ++ t ∷ ys → AllByRecursion IsNear ts → AllByRecursion IsNear xs
@@ -15,19 +16,13 @@ near_left ts xs t ys e h = all-left IsNear xs (t ∷ ys) (subst (AllByRecursion 
 near_right : (ts xs : List Task) (t : Task) (ys : List Task) → ts ≡ xs ++ t ∷ ys → AllByRecursion IsNear ts → AllByRecursion IsNear (t ∷ ys)
 near_right ts xs t ys e h = all-right IsNear xs (t ∷ ys) (subst (AllByRecursion IsNear) e h)
 
-fewer_left : (ts xs : List Task) (t : Task) (ys : List Task) → ts ≡ xs ++ t ∷ ys → length xs < length ts
-fewer_left ts xs t ys e = omega (arith, ap (λ (z : List Task). length z) e, length-append {A = Task})
-
-fewer_right : (ts xs : List Task) (t : Task) (ys : List Task) → ts ≡ xs ++ t ∷ ys → length ys < length ts
-fewer_right ts xs t ys e = omega (arith, ap (λ (z : List Task). length z) e, length-append {A = Task})
-
 three : (a b c a' b' c' r : Bool) → r ≡ (a && (b && c)) → a ≡ a' → b ≡ b' → c ≡ c' → r ≡ (a' && (b' && c'))
 three a b c a' b' c' r h i j k = grind arith
 
 pub lower-right-requires : goal.lower-right-requires
 lower-right-requires t c =
     let e : tasks_in c.args.link.now ≡ tasks_of c.node.inside.parts = cc in
-    let f = fewer_right (tasks_in c.args.link.now) (tasks_in c.node.inside.parts.sides.left) c.node.inside.parts.task (tasks_in c.node.inside.parts.sides.right) e in (
+    let f = right_shorter (tasks_in c.args.link.now) (tasks_in c.node.inside.parts.sides.left) c.node.inside.parts.task (tasks_in c.node.inside.parts.sides.right) e in (
       omega (arith, f),
       (
         (near_right (tasks_in c.args.link.now) (tasks_in c.node.inside.parts.sides.left) c.node.inside.parts.task (tasks_in c.node.inside.parts.sides.right) e c.requires.near).1,
@@ -60,7 +55,7 @@ note-requires t c =
 pub lower-left-requires : goal.lower-left-requires
 lower-left-requires t c =
     let e : tasks_in c.args.link.now ≡ tasks_of c.node.inside.parts = cc in
-    let f = fewer_left (tasks_in c.args.link.now) (tasks_in c.node.inside.parts.sides.left) c.node.inside.parts.task (tasks_in c.node.inside.parts.sides.right) e in (
+    let f = left_shorter (tasks_in c.args.link.now) (tasks_in c.node.inside.parts.sides.left) c.node.inside.parts.task (tasks_in c.node.inside.parts.sides.right) e in (
       omega (arith, f),
       (
         near_left (tasks_in c.args.link.now) (tasks_in c.node.inside.parts.sides.left) c.node.inside.parts.task (tasks_in c.node.inside.parts.sides.right) e c.requires.near,
