@@ -2,11 +2,11 @@
 use Rattle.std.proofs.Common.{◌≡◌, ◌≢◌, ℕ, ◌<◌, Bool, true, false, cond, not, List, length, refl, sym, subst, ◌∙◌, arith}
 use Rattle.std.specs.Prelude.{◌==◌, nat_lt}
 use Rattle.std.proofs.lemmas.Bool.{and_parts, ltb-true, Decides.nat_tests}
-use Rattle.eevdf_ops.specs.{Acts.act_of, declared.acts.LocalAct.LocalAct, declared.acts.Transfer.Transfer, declared.deeds.Deed.Deed, Setup.home_of, Setup.is_task, Setup.is_allowed, Places.AreCpus}
+use Rattle.eevdf_ops.specs.{Acts.act_of, declared.acts.LocalAct.LocalAct, declared.acts.Transfer.Transfer, declared.deeds.Deed.Deed, Setup.home_of, Setup.is_allowed, Places.AreCpus}
 use Rattle.eevdf_ops.specs.declared.acts.Act.TheVariants as act
 use Rattle.eevdf_ops.specs.declared.acts.LocalAct.TheVariants as local
 use Rattle.eevdf_ops.specs.declared.acts.Transfer.TheVariants as transfer
-use Rattle.eevdf_ops.specs.declared.deeds.Deed.TheVariants.{Tick, Pick, Yield, Sleep, Wake, Pull, Renice, Begin, End, Set, Rebase}
+use Rattle.eevdf_ops.specs.declared.deeds.Deed.TheVariants.{Tick, Pick, Yield, Sleep, Wake, Pull, End, Rebase}
 use Rattle.eevdf_ops.specs.Parts.{decider}
 
 pub unequal : (k c : ℕ) → (k == c) ≡ false → k ≢ c
@@ -38,32 +38,20 @@ pub decider_below : (cpus : ℕ) (homes : List ℕ) (deed : Deed) → is_allowed
 decider_below cpus homes (Tick cpu ns) ok = ltb-true cpu cpus ok
 decider_below cpus homes (Pick cpu) ok = ltb-true cpu cpus ok
 decider_below cpus homes (Yield cpu) ok = ltb-true cpu cpus ok
-decider_below cpus homes (Sleep cpu task) ok = ltb-true cpu cpus (and_parts _ (is_task homes task) ok).0
-decider_below cpus homes (Wake cpu task sender) ok = ltb-true cpu cpus (and_parts _ _ (and_parts _ _ ok).0).0
-decider_below cpus homes (Pull cpu source) ok = ltb-true cpu cpus (and_parts _ _ ok).0
-decider_below cpus homes (Renice cpu task nice) ok = ltb-true cpu cpus (and_parts _ (is_task homes task) ok).0
-decider_below cpus homes (Begin cpu task nice slice) ok = ltb-true cpu cpus (and_parts _ _ ok).0
-decider_below cpus homes (End cpu task) ok = ltb-true cpu cpus (and_parts _ (is_task homes task) ok).0
-decider_below cpus homes (Set cpu task nice slice) ok = ltb-true cpu cpus (and_parts _ (is_task homes task) ok).0
 decider_below cpus homes (Rebase cpu) ok = ltb-true cpu cpus ok
+decider_below cpus homes (Wake cpu task sender) ok = ltb-true cpu cpus (and_parts _ _ (and_parts _ _ ok).0).0
+decider_below cpus homes deed ok = ltb-true (decider deed) cpus (and_parts _ _ ok).0
 
 pub home_below : (cpus : ℕ) (homes : List ℕ) (cpu task : ℕ) → is_allowed cpus homes (Sleep cpu task) ≡ true → AreCpus cpus homes → home_of homes task < cpus
 home_below cpus homes cpu task ok homed = homed task (ltb-true task (length homes) (and_parts (nat_lt cpu cpus) _ ok).1)
 
 -- so it is known of any act on two queues
 pub transfer_names : (cpus : ℕ) (homes : List ℕ) (deed : Deed) (other : ℕ) (t : Transfer) → is_allowed cpus homes deed ≡ true → AreCpus cpus homes → act_of homes deed ≡ act.Transfer other t → PullNames cpus (decider deed) other
-transfer_names cpus homes (Tick cpu ns) other t ok homed is = cc
-transfer_names cpus homes (Pick cpu) other t ok homed is = cc
-transfer_names cpus homes (Yield cpu) other t ok homed is = cc
 transfer_names cpus homes (Sleep cpu task) other t ok homed is =
     other_names cpus cpu (home_of homes task) other (local.Sleep task) (transfer.Sleep task) t (home_of homes task == cpu) refl (decider_below cpus homes (Sleep cpu task) ok) (home_below cpus homes cpu task ok homed) is
-transfer_names cpus homes (Wake cpu task sender) other t ok homed is = cc
-transfer_names cpus homes (Renice cpu task nice) other t ok homed is = cc
-transfer_names cpus homes (Begin cpu task nice slice) other t ok homed is = cc
 transfer_names cpus homes (End cpu task) other t ok homed is =
     other_names cpus cpu (home_of homes task) other (local.End task) (transfer.End task) t (home_of homes task == cpu) refl (decider_below cpus homes (End cpu task) ok) (home_below cpus homes cpu task ok homed) is
-transfer_names cpus homes (Set cpu task nice slice) other t ok homed is = cc
-transfer_names cpus homes (Rebase cpu) other t ok homed is = cc
 transfer_names cpus homes (Pull cpu source) other t ok homed is =
     let to : source ≡ other = cc in
     subst (λ (n : ℕ). PullNames cpus cpu n) to (pull_names cpus homes cpu source ok)
+transfer_names cpus homes deed other t ok homed is = cc

@@ -1,7 +1,7 @@
 -- Each task of the machine stays as the setup gives it.
 use Rattle.std.proofs.Common.{◌≡◌, ℕ, zero, suc, ◌+◌, zero-add, Bool, true, false, ◌||◌, List, [], ◌∷◌, set, replicate, refl, sym, ap, subst, ◌∙◌, arith}
-use Rattle.std.specs.Prelude.{◌==◌, ℤ, slice_get, Option, Some, None, Result, Ok, Err}
-use Rattle.std.proofs.{lemmas.Bool.false≢true, lemmas.Bool.Decides.nat_tests}
+use Rattle.std.specs.Prelude.{ℤ, slice_get, Option, Some, None, Result, Ok, Err}
+use Rattle.std.proofs.{lemmas.Bool.false≢true}
 use Rattle.eevdf_queue.specs.State.{State, Contents, empty_state}
 use Rattle.eevdf_queue.specs.{Tick.tick, Pick.after_pick, Yield.yield_now, Wake.wake, Renice.renice, Rebase.rebase}
 use Rattle.eevdf_queue.specs.Attributes as attributes
@@ -13,7 +13,7 @@ use Rattle.eevdf_ops.specs.Setup.{home_of, homes_of, cpus_of}
 use Rattle.eevdf_ops.specs.Machine.{Machine, queue_at, begin, beginner, begin_at_homes, start}
 use Rattle.eevdf_ops.specs.{WholePull.offer, WholePull.load_of, WholePull.decision, WholeEnd.ending}
 use Rattle.eevdf_ops.specs.Given.{renices, is_reniced, sets, is_set, IsAsGiven, TasksStayAsGiven}
-use Rattle.eevdf_ops.proofs.{MachinePlaces.each-set, Pulling.decision-taken, WholeActs.sleep_by_home, WholeActs.end_by_home, WholeActs.ended-here, WholeActs.ended-away}
+use Rattle.eevdf_ops.proofs.{MapCounts.itself, MachinePlaces.each-set, Pulling.decision-taken, WholeActs.sleep_by_home, WholeActs.end_by_home, WholeActs.ended-here, WholeActs.ended-away}
 use Rattle.eevdf_ops.proofs.QueueValues.{
   Each,
   asleep-each,
@@ -33,9 +33,6 @@ use Rattle.eevdf_ops.proofs.QueueValues.{
   with_task-each,
   joined-each,
 }
-
-itself : (t : ℕ) → (t == t) ≡ true
-itself t = grind (arith, nat_tests)
 
 or_left : (b c : Bool) → b ≡ true → (b || c) ≡ true
 or_left true c h = refl
@@ -161,15 +158,7 @@ set_reniced (d ∷ ds) t h = one_set (sets d t) (renices d t) (is_set ds t) (is_
     by_deed : (d : Deed) (t : ℕ) → sets d t ≡ true → renices d t ≡ true
     by_deed (Begin cpu task nice slice) t h = h
     by_deed (Set cpu task nice slice) t h = h
-    by_deed (Tick cpu ns) t h = absurd (false≢true h)
-    by_deed (Pick cpu) t h = absurd (false≢true h)
-    by_deed (Yield cpu) t h = absurd (false≢true h)
-    by_deed (Sleep cpu task) t h = absurd (false≢true h)
-    by_deed (Wake cpu task sender) t h = absurd (false≢true h)
-    by_deed (Pull cpu source) t h = absurd (false≢true h)
-    by_deed (Renice cpu task nice) t h = absurd (false≢true h)
-    by_deed (End cpu task) t h = absurd (false≢true h)
-    by_deed (Rebase cpu) t h = absurd (false≢true h)
+    by_deed deed t h = absurd (false≢true h)
 
 may_set : (ts : List TaskSpec) (deeds : List Deed) (t : ℕ) (older nice : ℤ) (slice newer : ℕ) → is_set deeds t ≡ true → IsAsGiven ts deeds t older slice → IsAsGiven ts deeds t nice newer
 may_set ts deeds t older nice slice newer r h = record {

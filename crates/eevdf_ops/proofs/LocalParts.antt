@@ -80,21 +80,9 @@ pull_after m cpu source k (Ok p) named e =
     ∙ ap (pulled_queue m cpu source k) (sym (decision-taken (queue_at m cpu) (load_of (queue_at m source)) (offer (queue_at m source)) p e).offered_it)
 
 -- what is answered needs nothing else of the queues
-here_answer : (o : Option Contents) (q : State) → (slept_here o q).0 ≡ answer_of_sleep o
-here_answer None q = refl
-here_answer (Some p) q = refl
-
-away_answer : (o : Option Contents) (q r : State) → (slept_away o q r).0 ≡ answer_of_sleep o
-away_answer None q r = refl
-away_answer (Some p) q r = refl
-
-end_here_answer : (o : Option Contents) (q : State) → (ended_here o q).0 ≡ answer_of_end o
-end_here_answer None q = refl
-end_here_answer (Some p) q = refl
-
-end_away_answer : (o : Option Contents) (q r : State) → (ended_away o q r).0 ≡ answer_of_end o
-end_away_answer None q r = refl
-end_away_answer (Some p) q r = refl
+answered : {X : Type 0} (f : Option Contents → Answer × X) (g : Option Contents → Answer) → (f None).0 ≡ g None → ((p : Contents) → (f (Some p)).0 ≡ g (Some p)) → (o : Option Contents) → (f o).0 ≡ g o
+answered f g none some None = none
+answered f g none some (Some p) = some p
 
 pull_answer : (d : Result Contents Answer) (q r : State) → (pulled d q r).0 ≡ answer_of_pull d
 pull_answer (Err why) q r = refl
@@ -106,21 +94,18 @@ moved_by m deed = given deed (queue_at m (giver deed))
 
 -- the decider answers
 pub whole-answer : (homes : List ℕ) (deed : Deed) (m : Machine) → (whole homes deed m).0 ≡ local_answer deed (queue_at m (decider deed)) (moved_by m deed)
-whole-answer homes (Tick cpu ns) m = refl
-whole-answer homes (Pick cpu) m = refl
-whole-answer homes (Yield cpu) m = refl
 whole-answer homes (Sleep cpu task) m =
     let o : Option Contents = carried_running (queue_at m cpu) task in
-    sleep_by_home (λ (r : Answer × Machine). r.0 ≡ answer_of_sleep o) homes cpu task m (λ e. here_answer o (queue_at m cpu)) (λ e. away_answer o (queue_at m cpu) (queue_at m (home_of homes task)))
-whole-answer homes (Wake cpu task sender) m = refl
-whole-answer homes (Renice cpu task nice) m = refl
-whole-answer homes (Begin cpu task nice slice) m = refl
+    sleep_by_home (λ (r : Answer × Machine). r.0 ≡ answer_of_sleep o) homes cpu task m
+    (λ e. answered (λ (x : Option Contents). slept_here x (queue_at m cpu)) answer_of_sleep refl (λ p. refl) o)
+    (λ e. answered (λ (x : Option Contents). slept_away x (queue_at m cpu) (queue_at m (home_of homes task))) answer_of_sleep refl (λ p. refl) o)
 whole-answer homes (End cpu task) m =
     let o : Option Contents = ending (queue_at m cpu) task in
-    end_by_home (λ (r : Answer × Machine). r.0 ≡ answer_of_end o) homes cpu task m (λ e. end_here_answer o (queue_at m cpu)) (λ e. end_away_answer o (queue_at m cpu) (queue_at m (home_of homes task)))
-whole-answer homes (Set cpu task nice slice) m = refl
-whole-answer homes (Rebase cpu) m = refl
+    end_by_home (λ (r : Answer × Machine). r.0 ≡ answer_of_end o) homes cpu task m
+    (λ e. answered (λ (x : Option Contents). ended_here x (queue_at m cpu)) answer_of_end refl (λ p. refl) o)
+    (λ e. answered (λ (x : Option Contents). ended_away x (queue_at m cpu) (queue_at m (home_of homes task))) answer_of_end refl (λ p. refl) o)
 whole-answer homes (Pull cpu source) m = pull_answer (pull_decision m cpu source) (queue_at m cpu) (queue_at m source)
+whole-answer homes deed m = refl
 
 -- and each queue changes by itself
 pub whole-after : (homes : List ℕ) (deed : Deed) (m : Machine) (k : ℕ) → laws.Fits homes deed m
@@ -156,21 +141,14 @@ or_false true b e = cc
 or_false false b e = (refl, e)
 
 stays : (homes : List ℕ) (deed : Deed) (m : Machine) (k : ℕ) → k ≢ decider deed → k ≢ giver deed → k ≢ taker homes deed → queue_at (whole homes deed m).1 k ≡ queue_at m k
-stays homes (Tick cpu ns) m k d g t = other_queue m cpu k _ d
-stays homes (Pick cpu) m k d g t = other_queue m cpu k _ d
-stays homes (Yield cpu) m k d g t = other_queue m cpu k _ d
 stays homes (Sleep cpu task) m k d g t =
     sleep_by_home (λ (r : Answer × Machine). queue_at r.1 k ≡ queue_at m k) homes cpu task m (λ e. other_queue m cpu k _ d)
     (λ e. other_queue (set m cpu _) (home_of homes task) k _ t ∙ other_queue m cpu k _ d)
-stays homes (Wake cpu task sender) m k d g t = other_queue m cpu k _ d
-stays homes (Renice cpu task nice) m k d g t = other_queue m cpu k _ d
-stays homes (Begin cpu task nice slice) m k d g t = other_queue m cpu k _ d
 stays homes (End cpu task) m k d g t =
     end_by_home (λ (r : Answer × Machine). queue_at r.1 k ≡ queue_at m k) homes cpu task m (λ e. other_queue m cpu k _ d)
     (λ e. other_queue (set m cpu _) (home_of homes task) k _ t ∙ other_queue m cpu k _ d)
-stays homes (Set cpu task nice slice) m k d g t = other_queue m cpu k _ d
-stays homes (Rebase cpu) m k d g t = other_queue m cpu k _ d
 stays homes (Pull cpu source) m k d g t = other_queue (set m cpu _) source k _ g ∙ other_queue m cpu k _ d
+stays homes deed m k d g t = other_queue m (decider deed) k _ d
 
 pub others_stay : laws.OthersStay
 others_stay homes deed m c e =

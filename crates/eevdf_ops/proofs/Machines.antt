@@ -50,6 +50,9 @@ pub length-begin_at_homes : (task : ℕ) (ts : List TaskSpec) (m : Machine) → 
 length-begin_at_homes task [] m = refl
 length-begin_at_homes task (t ∷ ts) m = length-set (begin_at_homes (task + 1) ts m) t.home _ ∙ length-begin_at_homes (task + 1) ts m
 
+pub length-begun : (cpus task : ℕ) (ts : List TaskSpec) → length (begin_at_homes task ts (replicate cpus empty_state)) ≡ cpus
+length-begun cpus task ts = length-begin_at_homes task ts (replicate cpus empty_state) ∙ length-replicate cpus empty_state
+
 -- a task that joins by its parcel begins
 pub joins_as_it_begins : (task : ℕ) (t : TaskSpec) (p : Contents) (q : State) → p ≡ beginner task t → joined t.asleep p q ≡ begin task t q
 joins_as_it_begins task t p q e = ap (λ (r : Contents). joined t.asleep r q) e
@@ -57,7 +60,7 @@ joins_as_it_begins task t p q e = ap (λ (r : Contents). joined t.asleep r q) e
 -- a machine that has this start has so many queues
 pub start_has : (queues : List View) (task n : ℕ) (ts : List TaskSpec) → machine_of queues ≡ begin_at_homes task ts (replicate n empty_state) → length queues ≡ n
 start_has queues task n ts e =
-    sym (length-machine_of queues) ∙ ap (λ (m : Machine). length m) e ∙ length-begin_at_homes task ts (replicate n empty_state) ∙ length-replicate n empty_state
+    sym (length-machine_of queues) ∙ ap (λ (m : Machine). length m) e ∙ length-begun n task ts
 
 drop_step : (ds : List Deed) (i : ℕ) (d : Deed) → i < length ds → d ≡ get_or ds i d → drop i ds ≡ d ∷ drop (i + 1) ds
 drop_step ds i d h e =

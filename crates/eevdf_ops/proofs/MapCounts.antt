@@ -9,6 +9,9 @@ use Rattle.eevdf_ops.specs.Places.{count}
 pub equal : (u t : ℕ) → (u == t) ≡ true → u ≡ t
 equal u t e = grind (arith, nat_tests)
 
+pub itself : (t : ℕ) → (t == t) ≡ true
+itself t = grind (arith, nat_tests)
+
 added : (b c : Bool) → (b ≡ true → c ≡ false) → count (b || c) ≡ count c + count b
 added true true h = absurd (false≢true (sym (h refl)))
 added true false h = refl

@@ -1,17 +1,14 @@
 -- The laws of the deeds by parts.
 use Rattle.std.proofs.Common.{◌≡◌, ℕ, zero, suc, Bool, true, false, ◌||◌, List, [], ◌∷◌, length, refl, sym, ap, subst, ◌∙◌, arith}
 use Rattle.std.specs.Prelude.{◌==◌, ◌&&◌}
-use Rattle.std.proofs.{lemmas.List.get_or-set_same, lemmas.Bool.Decides.nat_tests}
+use Rattle.std.proofs.{lemmas.List.get_or-set_same}
 use Rattle.eevdf_queue.specs.State.{State, empty_state}
 use Rattle.eevdf_ops.specs.{declared.deeds.Deed.Deed, declared.deeds.Answer.Answer, Setup.is_allowed, Machine.Machine}
 use Rattle.eevdf_ops.specs.{Machine.queue_at, OneQueue.one_wake, Places.AreCpus, Whole.whole}
 use Rattle.eevdf_ops.specs.Parts.{decider, giver, taker, touches, Moved, given, Agrees, local_answer, local_after}
 use Rattle.eevdf_ops.specs.PartsLaws as laws
-use Rattle.eevdf_ops.proofs.{MachinePlaces.other_queue, WholePlaces.length-whole}
+use Rattle.eevdf_ops.proofs.{MapCounts.itself, MachinePlaces.other_queue, WholePlaces.length-whole}
 use Rattle.eevdf_ops.proofs.LocalParts.{moved_by, whole-answer, whole-after, others_stay}
-
-same : (c : ℕ) → (c == c) ≡ true
-same c = grind (arith, nat_tests)
 
 any_first : (a b c : Bool) → a ≡ true → (a || (b || c)) ≡ true
 any_first a b c e = ap (λ (x : Bool). x || (b || c)) e
@@ -23,9 +20,9 @@ any_second false b c e = ap (λ (x : Bool). x || c) e
 pub parts_make_the_whole : laws.PartsMakeTheWhole
 parts_make_the_whole homes deed m answer moved fits agrees =
     let at_giver : Agrees deed (giver deed) (queue_at m (giver deed)) answer moved =
-    agrees (giver deed) (any_second (giver deed == decider deed) (giver deed == giver deed) (giver deed == taker homes deed) (same (giver deed))) in
+    agrees (giver deed) (any_second (giver deed == decider deed) (giver deed == giver deed) (giver deed == taker homes deed) (itself (giver deed))) in
     let at_decider : Agrees deed (decider deed) (queue_at m (decider deed)) answer moved =
-    agrees (decider deed) (any_first (decider deed == decider deed) (decider deed == giver deed) (decider deed == taker homes deed) (same (decider deed))) in
+    agrees (decider deed) (any_first (decider deed == decider deed) (decider deed == giver deed) (decider deed == taker homes deed) (itself (decider deed))) in
     let moves : moved ≡ moved_by m deed = at_giver.gives refl in
     let answers : (whole homes deed m).0 ≡ answer =
     whole-answer homes deed m ∙ ap (λ (v : Moved). local_answer deed (queue_at m (decider deed)) v) (sym moves) ∙ sym (at_decider.answers refl) in

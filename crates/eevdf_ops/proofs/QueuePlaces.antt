@@ -1,7 +1,6 @@
 -- How a step on one queue changes where tasks stand.
 use Rattle.std.proofs.Common.{◌≡◌, ℕ, ◌+◌, ◌≤◌, Bool, true, false, cond, refl, sym, ap, subst, ◌∙◌, arith}
 use Rattle.std.specs.Prelude.{◌==◌, ℤ, pos, is_some, Option, Some, None}
-use Rattle.std.specs.Option.{option_map}
 use Rattle.std.specs.FinMap.{get, contains_key, insert, remove}
 use Rattle.std.proofs.lemmas.Bool.{false≢true}
 use Rattle.eevdf_weight.specs.Limits.{is_in_range}
@@ -17,12 +16,12 @@ use Rattle.eevdf_queue.specs.Wake.{wake, wake_sleeper, wake_to}
 use Rattle.eevdf_queue.specs.Renice.{reniced, renice, renice_entry, renice_to}
 use Rattle.eevdf_queue.specs.SliceChange.{set_slice, set_entry_slice, set_sleeper_slice, sleeper_with_slice}
 use Rattle.eevdf_queue.specs.Attributes.{set, set_reniced, set_sleeper, sleeper_with, begin, begin_sleeper, fresh_sleeper}
-use Rattle.eevdf_queue.specs.{Rebase.rebase, Rebase.rebased, Rebase.can_rebase, Rebase.lowered_entry, Sums.virtual_time}
+use Rattle.eevdf_queue.specs.{Rebase.rebase, Rebase.rebased, Rebase.can_rebase, Sums.virtual_time}
 use Rattle.eevdf_queue.specs.declared.answers.ReniceAnswer.{ReniceAnswer}
 use Rattle.eevdf_queue.specs.declared.answers.ReniceAnswer.TheVariants as renice_answer
-use Rattle.eevdf_queue.proofs.LoweredMaps.{get-lowered}
+use Rattle.eevdf_queue.proofs.LoweredMaps.{contains-lowered}
 use Rattle.eevdf_ops.specs.Places.{count, places_in}
-use Rattle.eevdf_ops.proofs.Loads.{gone}
+use Rattle.eevdf_queue.proofs.Sound.{gone}
 use Rattle.eevdf_ops.proofs.MapCounts.{count-insert, count-remove, contains-change, contains-removed}
 
 -- every task stands in as many places as before, and nobody new sleeps
@@ -168,14 +167,9 @@ begin_sleeper-same q t nice slice (Some s) e = kept-same q t (fresh_sleeper nice
 pub begin-same : (q : State) (t : ℕ) (nice : ℤ) (slice : ℕ) → IsSame q (begin q t nice slice)
 begin-same q t nice slice = begin_sleeper-same q t nice slice (get q.asleep t) refl
 
-still_here : (o : Option Entry) (by : ℤ) → is_some (option_map (lowered_entry by) o) ≡ is_some o
-still_here None by = refl
-still_here (Some e) by = refl
-
 rebased-same : (q : State) → IsSame q (rebased q)
 rebased-same q = record {
-  places = λ u. ap (λ (b : Bool). count b + count (contains_key q.asleep u))
-      (ap is_some (get-lowered (virtual_time q) q.runnable u) ∙ still_here (get q.runnable u) (virtual_time q));
+  places = λ u. ap (λ (b : Bool). count b + count (contains_key q.asleep u)) (contains-lowered (virtual_time q) q.runnable u);
   asleep = λ u a. a;
 }
 

@@ -32,6 +32,10 @@ pub record Each (P : ℕ → ℤ → ℕ → Type 0) (q : State) : Type 0 where
   pub runnable : (t : ℕ) (e : Entry) → get q.runnable t ≡ Some e → P t e.nice e.slice
   pub asleep : (t : ℕ) (s : Sleeper) → get q.asleep t ≡ Some s → P t s.nice s.slice
 
+pub in_range_only : (x e : Entry) (b : Bool) → cond b (Some x) None ≡ Some e → x ≡ e
+in_range_only x e true h = cc
+in_range_only x e false h = cc
+
 module _ (P : ℕ → ℤ → ℕ → Type 0) where
   either : {A : Type 0} (b : Bool) (x y : A × State) → Each P x.1 → Each P y.1 → Each P (cond b x y).1
   either true x y s t = s
@@ -100,10 +104,6 @@ module _ (P : ℕ → ℤ → ℕ → Type 0) where
 
   pub yield-each : (q : State) → Each P q → Each P (yield_now q).1
   yield-each q each = yield_running-each q q.running each
-
-  in_range_only : (x e : Entry) (b : Bool) → cond b (Some x) None ≡ Some e → x ≡ e
-  in_range_only x e true h = cc
-  in_range_only x e false h = cc
 
   -- a task that joins keeps both
   placed-given : (q : State) (t : ℕ) (s : Sleeper) (e : Entry) → P t s.nice s.slice → placed_entry q s ≡ Some e → P t e.nice e.slice

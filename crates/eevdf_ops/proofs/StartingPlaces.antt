@@ -2,13 +2,13 @@
 use Rattle.std.proofs.Common.{◌≡◌, ℕ, zero, suc, ◌+◌, ◌-◌, ◌<◌, ◌≤◌, Bool, true, false, ◌&&◌, ◌||◌, List, [], ◌∷◌, length, map, replicate, refl, sym, ap, ◌∙◌, arith}
 use Rattle.std.specs.Prelude.{nat_lt, nat_le, ◌==◌, is_some, None}
 use Rattle.std.specs.FinMap.{contains_key}
-use Rattle.std.proofs.{Math.ListN.length-replicate, lemmas.List.length-map, lemmas.Bool.false≢true, lemmas.Bool.Decides.nat_tests}
+use Rattle.std.proofs.{lemmas.List.length-map, lemmas.Bool.false≢true, lemmas.Bool.Decides.nat_tests}
 use Rattle.eevdf_queue.specs.{Leaving.IsNowhere, Moves.fresh_entry, Moves.sleeper_of}
 use Rattle.eevdf_queue.specs.State.{State, Contents, empty_state}
 use Rattle.eevdf_ops.specs.{declared.task_spec.TaskSpec.TaskSpec, Faults.tasks_fault, Faults.task_fault, Setup.home_of}
 use Rattle.eevdf_ops.specs.Machine.{Machine, queue_at, joined, beginner, begin, begin_at_homes}
 use Rattle.eevdf_ops.specs.Places.{count, places, IsPlaced, AreCpus}
-use Rattle.eevdf_ops.proofs.{Machines.length-begin_at_homes, MachinePlaces.places-set, MachinePlaces.each-set}
+use Rattle.eevdf_ops.proofs.{Machines.length-begun, MachinePlaces.places-set, MachinePlaces.each-set}
 use Rattle.eevdf_ops.proofs.{SetupFaults.or_none_left, SetupFaults.or_none_right, QueuePlaces.IsWith}
 use Rattle.eevdf_ops.proofs.MapCounts.{equal, count-insert, contains-insert}
 use Rattle.eevdf_ops.proofs.Starting.{absent_before, absent_nowhere, absent_empty, begins_well}
@@ -50,7 +50,7 @@ places_begun n place task u (t ∷ ts) well =
     let rest : Machine = begun n (task + 1) ts in
     let q : State = begin task t (queue_at rest t.home) in
     let within : t.home < length rest = home_within n place t (length rest) (or_none_left _ _ well)
-    (length-begin_at_homes (task + 1) ts (replicate n empty_state) ∙ length-replicate n empty_state) in
+    (length-begun n (task + 1) ts) in
     let more : IsWith (queue_at rest t.home) task q = join-with t.asleep (beginner task t) (queue_at rest t.home) (absent_before n (task + 1) ts t.home task (omega arith)) in
     omega (
       arith,

@@ -1,20 +1,18 @@
 -- Where two tasks are runnable one of them waits, so a source that is no heavier than who pulls is balanced.
-use Rattle.std.proofs.Common.{◌≡◌, ℕ, ◌+◌, ◌<◌, ◌≤◌, Bool, true, false, cond, ◌&&◌, List, [], ◌∷◌, length, T, refl, sym, ap, subst, ◌∙◌, arith}
-use Rattle.std.specs.Prelude.{◌==◌, is_some, nat_lt, Option, Some, None, Ok, Err}
+use Rattle.std.proofs.Common.{◌≡◌, ℕ, ◌+◌, ◌<◌, ◌≤◌, Bool, true, false, cond, List, [], ◌∷◌, length, T, refl, sym, ap, subst, ◌∙◌, arith}
+use Rattle.std.specs.Prelude.{is_some, nat_lt, Option, Some, None, Ok, Err}
 use Rattle.std.specs.Option.{option_map, option_and_then}
-use Rattle.std.specs.{Ordering.nat_cmp, Ordering.eq_by_cmp, Ordering.is_lt, Cmp.unsigned_tied}
+use Rattle.std.specs.{Ordering.nat_cmp, Ordering.eq_by_cmp, Cmp.unsigned_tied}
 use Rattle.std.specs.FinMap.{entries, entries_sorted, find, get, get-entries, is_sorted, len, len-entries}
-use Rattle.std.specs.FinMap.Entries.{below_all}
 use Rattle.std.proofs.lemmas.Bool.Decides.{nat_tests}
 use Rattle.eevdf_weight.specs.Weight.{weight_of}
 use Rattle.eevdf_queue.specs.{declared.entry.Entry.Entry, State.State, State.Contents, Lag.kept_lag, Leaving.carried, Leaving.leaving}
 use Rattle.eevdf_queue.specs.Candidate.{is_running, later, latest_waiting}
 use Rattle.eevdf_queue.specs.{Moves.sleeper_of, Order.is_before, Placing.can_place}
 use Rattle.eevdf_ops.specs.{declared.deeds.Answer.TheVariants.Balanced, declared.deeds.Answer.TheVariants.Range}
+use Rattle.eevdf_queue.proofs.SortedEntries.{first_above, sorted_parts}
 use Rattle.eevdf_ops.specs.WholePull.{decision, load_of, offer}
-
-equal : (j k : ℕ) → (j == k) ≡ true → j ≡ k
-equal j k e = grind (arith, nat_tests)
+use Rattle.eevdf_ops.proofs.MapCounts.{equal, itself}
 
 -- at most one number is the running task's
 one-runs : (r : Option ℕ) (j k : ℕ) → is_running r j ≡ true → is_running r k ≡ true → j < k → ⊥
@@ -26,25 +24,14 @@ one-waits true true rest first second never a b = absurd (never refl refl)
 one-waits true false rest first second never a b = b
 one-waits false y rest first second never a b = a
 
-front : (x y : Bool) → T (x && y) → T x
-front true y h = tt
-front false y h = absurd h
-
-holds : (b : Bool) → T b → b ≡ true
-holds true h = refl
-holds false h = absurd h
-
-less : (j k : ℕ) → is_lt (nat_cmp j k) ≡ true → j < k
-less j k h = grind (arith, nat_tests)
-
 -- of two entries one waits
 of-two : (r : Option ℕ) (es : List (ℕ × Entry)) → T (is_sorted nat_cmp es) → 1 < length es → is_some (latest_waiting r es) ≡ true
 of-two r [] sorted many = absurd (omega (arith, many))
 of-two r (a ∷ []) sorted many = absurd (omega (arith, many))
 of-two r (a ∷ b ∷ es) sorted many =
-    let rises : T (is_lt (nat_cmp a.0 b.0)) = front _ (below_all nat_cmp a.0 es) (front _ (is_sorted nat_cmp (b ∷ es)) sorted) in
+    let rises : a.0 < b.0 = (first_above a.0 b es (sorted_parts a (b ∷ es) sorted).0).0 in
     one-waits (is_running r a.0) (is_running r b.0) (latest_waiting r es) (Some (later a (latest_waiting r (b ∷ es)))) (Some (later b (latest_waiting r es)))
-    (λ x y. one-runs r a.0 b.0 x y (less a.0 b.0 (holds _ rises))) refl refl
+    (λ x y. one-runs r a.0 b.0 x y rises) refl refl
 
 -- the entry that is found among others is found with one more in front
 found-behind : (b : Bool) (e : Entry) (o : Option Entry) → is_some o ≡ true → is_some (cond b (Some e) o) ≡ true
@@ -53,8 +40,7 @@ found-behind false e o h = h
 
 found-first : (a : ℕ × Entry) (es : List (ℕ × Entry)) → is_some (find nat_cmp a.0 (a ∷ es)) ≡ true
 found-first a es =
-    let same : (a.0 == a.0) ≡ true = grind (arith, nat_tests) in
-    ap (λ (b : Bool). is_some (cond b (Some a.1) (find nat_cmp a.0 es))) (unsigned_tied a.0 a.0 ∙ same)
+    ap (λ (b : Bool). is_some (cond b (Some a.1) (find nat_cmp a.0 es))) (unsigned_tied a.0 a.0 ∙ itself a.0)
 
 found-later : (a b w : ℕ × Entry) (es : List (ℕ × Entry)) (c : Bool) → is_some (find nat_cmp b.0 es) ≡ true → cond c b a ≡ w → is_some (find nat_cmp w.0 (a ∷ es)) ≡ true
 found-later a b w es true h e =

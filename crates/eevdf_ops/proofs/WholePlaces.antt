@@ -1,5 +1,5 @@
 -- Deeds that are allowed keep each task in one place, and a sleeping one at its home.
-use Rattle.std.proofs.Common.{◌≡◌, ℕ, ◌<◌, ◌≤◌, Bool, true, false, ◌||◌, List, length, set, refl, sym, ap, subst, ◌∙◌, arith}
+use Rattle.std.proofs.Common.{◌≡◌, ℕ, ◌<◌, ◌≤◌, Bool, true, false, ◌||◌, List, [], ◌∷◌, length, set, refl, sym, ap, subst, ◌∙◌, arith}
 use Rattle.std.specs.Prelude.{◌==◌, Option, Some, None, Result, Ok, Err}
 use Rattle.std.specs.{Option.unwrap_or, FinMap.contains_key}
 use Rattle.std.proofs.Math.ListN.{length-set}
@@ -7,7 +7,7 @@ use Rattle.eevdf_queue.specs.{declared.entry.Entry.Entry, State.State, State.Con
 use Rattle.eevdf_queue.specs.Moves.{put_asleep, sleeper_of, with_runnable}
 use Rattle.eevdf_ops.specs.{declared.acts.Act.Act, declared.deeds.Answer.Answer, declared.deeds.Deed.Deed, Machine.Machine, Machine.queue_at}
 use Rattle.eevdf_ops.specs.{Acts.act_of, LocalActs.slept_here, Transfers.slept_away, Transfers.pulled, Parts.decider}
-use Rattle.eevdf_ops.specs.Whole.{at_two, done_at, whole}
+use Rattle.eevdf_ops.specs.Whole.{at_two, done_at, whole, machine_after}
 use Rattle.eevdf_ops.specs.declared.deeds.Deed.TheVariants.{Tick, Pick, Yield, Sleep, Wake, Pull, Renice, Begin, End, Set, Rebase}
 use Rattle.eevdf_ops.specs.declared.acts.Act.TheVariants as act
 use Rattle.eevdf_ops.specs.Setup.{home_of, is_task, is_allowed}
@@ -27,7 +27,7 @@ fallen : (homes : List ℕ) (cpu u : ℕ) (b c : Bool) → (b ≡ true → home_
 fallen homes cpu u true c f g e = f refl
 fallen homes cpu u false c f g e = g e
 
-asleep_home : (homes : List ℕ) (cpu : ℕ) (q : State) (p : Contents) → home_of homes p.task ≡ cpu → SleepsAtHome homes cpu q → SleepsAtHome homes cpu (put_asleep q p)
+pub asleep_home : (homes : List ℕ) (cpu : ℕ) (q : State) (p : Contents) → home_of homes p.task ≡ cpu → SleepsAtHome homes cpu q → SleepsAtHome homes cpu (put_asleep q p)
 asleep_home homes cpu q p home asleep u e =
     fallen homes cpu u (u == p.task) (contains_key q.asleep u) (λ same. ap (home_of homes) (equal u p.task same) ∙ home) (asleep u)
     (sym (contains-insert q.asleep p.task u (sleeper_of p)) ∙ e)
@@ -114,3 +114,7 @@ length-done cpu (act.Transfer other t) m = length-set (set m cpu _) other _ ∙ 
 -- no deed changes the number of CPUs
 pub length-whole : (homes : List ℕ) (deed : Deed) (m : Machine) → length (whole homes deed m).1 ≡ length m
 length-whole homes deed m = length-done (decider deed) (act_of homes deed) m
+
+pub length-after : (homes : List ℕ) (m : Machine) (ds : List Deed) → length (machine_after homes m ds) ≡ length m
+length-after homes m [] = refl
+length-after homes m (d ∷ ds) = length-after homes (whole homes d m).1 ds ∙ length-whole homes d m
