@@ -8,12 +8,13 @@ use Rattle.eevdf_weight.specs.{Weight.weight_of, Charge.charge_of}
 use Rattle.eevdf_queue.specs.{declared.entry.Entry.Entry, declared.sleeper.Sleeper.Sleeper, State.State, Laws.PickIsFirst, Laws.PickOfNobody, Placing.placement, Moves.request_of, Rebase.lowered_entry}
 use Rattle.eevdf_queue.specs.Sums.{Tasks, total_weight, total_moment}
 use Rattle.eevdf_queue.proofs.Scaled.{scaled_sum, sum_scaled, scaled_le}
+use Rattle.eevdf_queue.proofs.{Foremost.itself, Sound.gone}
 use Rattle.eevdf_fairness.specs.{Leavings.Step, Leavings.HaveNoLongerTurns, Leavings.after_steps, Leavings.lowered_by, Fair.NoneIsFarPast, Fair.IsNotLate, Fair.turns_of_others}
 use Rattle.eevdf_fairness.specs.{Joining.Joins, Joining.lag_limit, Joining.reach, Joining.most_late, Healing.HasNotYielded}
 use Rattle.eevdf_fairness.specs.Joining.{IsNotLateAfterJoin, IsNotBehindAfterJoin, JoinKeepsFair, HealedJoinKeepsFair}
 use Rattle.eevdf_fairness.proofs.{Inequalities.le_then, Growing.rounded_down}
-use Rattle.eevdf_fairness.proofs.{Growing.not_itself, Growing.itself, Growing.found_at_after, Growing.found_after, Rooms.has_room}
-use Rattle.eevdf_fairness.proofs.Removing.{none_removed, weight_removed, moment_removed, one_fewer, some_there}
+use Rattle.eevdf_fairness.proofs.{Growing.not_itself, Growing.found_at_after, Growing.found_after, Rooms.has_room}
+use Rattle.eevdf_fairness.proofs.Removing.{weight_removed, moment_removed, one_fewer, some_there}
 use Rattle.eevdf_fairness.proofs.Rules.{Rule, IsWithin, Keeps, NoneIsPastBy, rule_of, settled, After, Short, Nothing, keeps_after, keeps_short, keeps_nothing, Nobody, fresh_within}
 use Rattle.eevdf_fairness.proofs.{Turning.found_before, Steps.IsRuleOfSteps, Steps.steps_within, Steps.settled_steps, Bounds.itself as no_later, Bounds.rest_by, Bounds.late_by, Bounds.late_after}
 use Rattle.eevdf_fairness.proofs.Falling.{Falls, falls_nothing, falls_short, front_down}
@@ -189,7 +190,7 @@ module _ (ns : ℕ) (front : ℤ) (Kept : ℕ → Entry → Type 0) (keeps : Kee
       let rest : IsNotLate ns (remove tasks task) e.d =
       room_bound (remove tasks task) still_found
       (λ u f found. found_before (λ y x. (y ≡ task → ⊥) → x.v ≤ℤ (e.d +ℤ pos (charge_of ns (weight_of x.nice)))) tasks task u f (λ y x at another. usual y x another at) found
-      (λ same. no_entry (remove tasks task) task u f (none_removed tasks task) same found)) in
+      (λ same. no_entry (remove tasks task) task u f (gone tasks task) same found)) in
       subst (λ (x : ℕ). total_moment tasks ≤ℤ ((e.d *ℤ pos (total_weight tasks)) +ℤ pos (turns_of_others ns tasks + (x * most - 1024 * ns)))) level
       (with_it (total_moment tasks) (total_moment (remove tasks task)) a.v e.d (total_weight tasks) (total_weight (remove tasks task)) (weight_of a.nice)
       (len (remove tasks task)) (len tasks) (1024 * ns) (charge_of ns (weight_of a.nice)) most

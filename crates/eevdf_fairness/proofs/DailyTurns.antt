@@ -4,46 +4,18 @@ use Rattle.std.specs.Prelude.{ℤ}
 use Rattle.std.proofs.lemmas.List.{append-nil}
 use Rattle.eevdf_queue.specs.{State.State, Pick.pick_of, Pick.after_pick, Tick.tick, Rebase.rebase, declared.answers.TickAnswer.TickAnswer}
 use Rattle.eevdf_queue.specs.declared.answers.TickAnswer.TheVariants as ticks
-use Rattle.eevdf_ops.specs.{declared.deeds.Deed.Deed, declared.deeds.Answer.Answer, declared.deeds.Answer.TheVariants.Range, declared.deeds.Answer.TheVariants.Idle}
-use Rattle.eevdf_ops.specs.declared.deeds.Deed.TheVariants.{Tick, Pick, Rebase}
-use Rattle.eevdf_ops.specs.OneQueue.{answer_of_tick, answer_of_pick, one_tick, one_pick, one_rebase}
+use Rattle.eevdf_ops.specs.{declared.deeds.Deed.Deed, declared.deeds.Answer.TheVariants.Range}
+use Rattle.eevdf_ops.specs.declared.deeds.Deed.TheVariants.{Rebase}
+use Rattle.eevdf_ops.specs.OneQueue.{answer_of_tick, answer_of_pick, one_rebase}
 use Rattle.eevdf_fairness.specs.Turns.{Turn, turn_length, AreNoLonger, after_ticks, after_turns}
 use Rattle.eevdf_fairness.specs.{OneCpu.ticks_on, OneCpu.turns_on, MachineDays.days_on}
+use Rattle.eevdf_fairness.proofs.OwnDeeds.{own_after, AreFine, turns_done, turns_alone}
 use Rattle.eevdf_fairness.specs.Days.{total_length, IsDay, AreDays, after_days, IsNearStart, IsFarFromRange, DaysStayInRange}
 
--- ---- deeds by themselves
--- what a pick, a tick and a rebase of its CPU do to a queue
-abbrev pub own : Deed → State → Answer × State
-own (Tick at ns) q = one_tick q ns
-own (Pick at) q = one_pick q
-own (Rebase at) q = one_rebase q
-own deed q = (Idle, q)
-
-abbrev pub own_after : List Deed → State → State
-own_after [] q = q
-own_after (d ∷ ds) q = own_after ds (own d q).1
-
--- none of them is out of range
-abbrev pub AreFine : List Deed → State → Type 0
-AreFine [] q = Unit {0}
-AreFine (d ∷ ds) q = ((own d q).0 ≡ Range → ⊥) × AreFine ds (own d q).1
-
 -- ---- what they leave
-ticks_done : (cpu : ℕ) (turn : Turn) (more : List Deed) (q : State) → own_after (ticks_on cpu turn ++ more) q ≡ own_after more (after_ticks q turn)
-ticks_done cpu [] more q = refl
-ticks_done cpu (ns ∷ turn) more q = ticks_done cpu turn more ((tick q ns).1)
-
-turns_done : (cpu : ℕ) (turns : List Turn) (more : List Deed) (q : State) → own_after (turns_on cpu turns ++ more) q ≡ own_after more (after_turns q turns)
-turns_done cpu [] more q = refl
-turns_done cpu (turn ∷ turns) more q =
-    ap (λ (ds : List Deed). own_after ds (after_pick q)) (append_assoc (ticks_on cpu turn) (turns_on cpu turns) more)
-    ∙ ticks_done cpu turn (turns_on cpu turns ++ more) (after_pick q)
-    ∙ turns_done cpu turns more (after_ticks (after_pick q) turn)
-
 pub days_done : (cpu : ℕ) (days : List (List Turn)) (today : List Turn) (q : State)
     → own_after (days_on cpu days ++ turns_on cpu today) q ≡ after_turns (after_days q days) today
-days_done cpu [] today q =
-    ap (λ (ds : List Deed). own_after ds q) (sym (append-nil (turns_on cpu today))) ∙ turns_done cpu today [] q
+days_done cpu [] today q = turns_alone cpu today q
 days_done cpu (day ∷ days) today q =
     ap (λ (ds : List Deed). own_after ds q) (append_assoc (turns_on cpu day) (Rebase cpu ∷ days_on cpu days) (turns_on cpu today))
     ∙ turns_done cpu day (Rebase cpu ∷ (days_on cpu days ++ turns_on cpu today)) q

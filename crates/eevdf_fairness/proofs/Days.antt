@@ -1,9 +1,9 @@
 -- With a rebase each day no tick is out of range.
-use Rattle.std.proofs.Common.{◌≡◌, ℕ, ◌+◌, ◌-◌, ◌*◌, ◌^◌, ◌/◌, ◌≤◌, Bool, true, false, ◌&&◌, cond, List, [], ◌∷◌, Option, Some, None, refl, sym, ap, ◌∙◌, subst, arith}
-use Rattle.std.specs.Prelude.{ℤ, pos, ◌==◌, ◌+ℤ◌, ◌-ℤ◌, ◌*ℤ◌, ◌≤ℤ◌, ◌<ℤ◌, int_le, is_some, unsigned_abs}
-use Rattle.std.specs.{Option.option_map, FinMap.get, FinMap.insert, FinMap.empty, FinMap.entries, FinMap.len}
+use Rattle.std.proofs.Common.{◌≡◌, ℕ, ◌+◌, ◌-◌, ◌*◌, ◌^◌, ◌≤◌, Bool, true, false, ◌&&◌, cond, List, [], ◌∷◌, Option, Some, None, refl, sym, ap, ◌∙◌, subst, arith}
+use Rattle.std.specs.Prelude.{ℤ, pos, ◌+ℤ◌, ◌-ℤ◌, ◌*ℤ◌, ◌≤ℤ◌, ◌<ℤ◌, int_le, is_some, unsigned_abs}
+use Rattle.std.specs.{FinMap.get, FinMap.insert, FinMap.empty, FinMap.entries, FinMap.len}
 use Rattle.std.proofs.lemmas.{Int.ints, Int.unsigned_abs-mul, Bool.Decides.nat_tests}
-use Rattle.std.proofs.Math.Nat.{mul-le-mul_left, mul-le-mul_right, div-le_self}
+use Rattle.std.proofs.Math.Nat.{mul-le-mul_left, mul-le-mul_right}
 use Rattle.eevdf_weight.specs.{Weight.weight_of, Charge.charge_of, Placement.floor_div}
 use Rattle.eevdf_weight.proofs.Weighing.{weight_of-least}
 use Rattle.eevdf_queue.specs.{declared.entry.Entry.Entry, declared.answers.TickAnswer.TickAnswer, State.State, Moves.request_of, Moves.fresh_entry, Moves.is_entry_in_range}
@@ -14,14 +14,15 @@ use Rattle.eevdf_queue.specs.Pick.{IsPick, pick_of, picked_by}
 use Rattle.eevdf_queue.specs.Tick.{aged, is_used_up, charged, tick_to, tick_entry, tick_running}
 use Rattle.eevdf_queue.specs.Rebase.{lowered_entry, lowered_entries, are_entries_in_range, can_rebase, rebased, rebase}
 use Rattle.eevdf_queue.specs.LoweredQueues.{AnswerAlike, LoweredQueueAnswersAlike, RebasedIsLower}
-use Rattle.eevdf_queue.proofs.{Floors.not_above, Floors.below_next, Scaled.sum_scaled, Scaled.difference_scaled, Scaled.scaled_le}
+use Rattle.eevdf_queue.proofs.{Bounds.charge_of_small, Floors.not_above, Floors.below_next, Scaled.sum_scaled, Scaled.difference_scaled, Scaled.scaled_le}
 use Rattle.eevdf_fairness.specs.Turns.{Turn, turn_length, AreNoLonger, after_ticks, after_turn, after_turns}
 use Rattle.eevdf_fairness.specs.Fair.{turns_of_others, weight_of_others}
 use Rattle.eevdf_fairness.specs.Days.{total_length, IsDay, AreDays, after_days, IsNearStart, DaysStayInRange}
 use Rattle.eevdf_fairness.proofs.EntrySums.{Each, each, no_heavier}
 use Rattle.eevdf_fairness.proofs.{Growing.HasRun, Growing.has_run, Growing.found_after, Owed.owed, Passing.turns_passed}
 use Rattle.eevdf_fairness.proofs.Rules.{IsWithin, settled, Everyone, After, Short, keeps_after, keeps_short, at_one_time, IsLittleAhead, fresh_within}
-use Rattle.eevdf_fairness.proofs.Falling.{front_down, short_down, lowered_within, lower_rule_of, falls_after, falls_short}
+use Rattle.eevdf_fairness.proofs.Inequalities.{not_zero}
+use Rattle.eevdf_fairness.proofs.Falling.{found_lower, front_down, short_down, lowered_within, lower_rule_of, falls_after, falls_short}
 use Rattle.eevdf_fairness.proofs.{Turning.moment_after, Steps.idle, Steps.turns_within, Bounds.itself}
 
 abbrev second : ℕ
@@ -129,10 +130,6 @@ cancel_more a b x n some h =
 others_small : (n : ℕ) → n ≤ 1024 → (n - 1) * (1024 * second) ≤ 2 ^ 50
 others_small n h = omega (arith, h)
 
-charge_small : (ns w : ℕ) → ns ≤ 1000000000 → charge_of ns w ≤ 2 ^ 40
-unfolding charge_of
-charge_small ns w h = let k : ns * 1024 / w ≤ ns * 1024 = div-le_self (ns * 1024) w in omega (arith, h, k)
-
 low_by : (v S : ℤ) (w m W X : ℕ) → 15 ≤ w → X ≤ 2 ^ 50 → ((S *ℤ pos w) +ℤ pos m) ≤ℤ (((v *ℤ pos W) *ℤ pos w) +ℤ pos (W * X)) → S ≤ℤ ((v *ℤ pos W) +ℤ pos (2 ^ 50 * W))
 low_by v S w m W X some few h =
     let drop : (S *ℤ pos w) ≤ℤ (((v *ℤ pos W) *ℤ pos w) +ℤ pos (W * X)) = omega (arith, ints, h) in
@@ -157,7 +154,7 @@ calm_near bound front tasks c t e here =
       low = low_by e.v (total_moment tasks) (weight_of e.nice) (weight_of_others tasks e * (1024 * second)) (total_weight tasks) (turns_of_others second tasks) (weight_of-least e.nice)
           (others_small (len tasks) c.few) (owed second tasks ahead t e here);
       high = high_by (e.v *ℤ pos (total_weight tasks)) (total_moment tasks) (weight_of e.nice * charge_of second (weight_of e.nice)) (total_weight tasks) (charge_of second (weight_of e.nice))
-          (charge_small second (weight_of e.nice) (omega arith)) (ahead t e here);
+          (charge_of_small second (weight_of e.nice) (omega arith)) (ahead t e here);
     }
 
 from_zero : (v S : ℤ) (W : ℕ) → 1 ≤ W → unsigned_abs S ≤ 2 ^ 59 * W → IsNear W S v → unsigned_abs v ≤ 2 ^ 59 + 2 ^ 51
@@ -186,7 +183,7 @@ module _ (bound : ℕ) (front : ℤ) (tasks : Tasks) (c : IsCalm bound front tas
   soon = (c.within.kept t e here).1
 
   request_small : request_of e.nice e.slice ≤ 2 ^ 40
-  request_small = let k = c.slices t e here in charge_small e.slice (weight_of e.nice) (omega (arith, k))
+  request_small = let k = c.slices t e here in charge_of_small e.slice (weight_of e.nice) (omega (arith, k))
 
   some_weight : 1 ≤ total_weight tasks
   some_weight = let k = no_heavier tasks t e here in let l = weight_of-least e.nice in omega (arith, k, l)
@@ -204,13 +201,13 @@ below n m h k = omega (arith, h, k)
 charged_in_range : (e : Entry) (ns : ℕ) (b : Bool) → ns ≤ 1000000000 → e.slice ≤ 100000000 → unsigned_abs e.v ≤ 2 ^ 59 + 2 ^ 51 → unsigned_abs e.d ≤ 2 ^ 59 + 2 ^ 51 + 2 ^ 40
     → is_entry_in_range (cond b (fresh_entry (aged e ns) e.nice e.slice) (record e { v = aged e ns })) ≡ true
 charged_in_range e ns true short slice v d =
-    let aged_near = more_by e.v (charge_of ns (weight_of e.nice)) (2 ^ 59 + 2 ^ 51) (2 ^ 40) v (charge_small ns (weight_of e.nice) short) in
-    let request : request_of e.nice e.slice ≤ 2 ^ 40 = charge_small e.slice (weight_of e.nice) (omega (arith, slice)) in
+    let aged_near = more_by e.v (charge_of ns (weight_of e.nice)) (2 ^ 59 + 2 ^ 51) (2 ^ 40) v (charge_of_small ns (weight_of e.nice) short) in
+    let request : request_of e.nice e.slice ≤ 2 ^ 40 = charge_of_small e.slice (weight_of e.nice) (omega (arith, slice)) in
     let due_near = more_by (aged e ns) (request_of e.nice e.slice) (2 ^ 59 + 2 ^ 51 + 2 ^ 40) (2 ^ 40) aged_near request in
     in_range_of (fresh_entry (aged e ns) e.nice e.slice) (below (unsigned_abs (aged e ns)) (2 ^ 59 + 2 ^ 51 + 2 ^ 40) aged_near (omega arith))
     (below (unsigned_abs (aged e ns +ℤ pos (request_of e.nice e.slice))) (2 ^ 59 + 2 ^ 51 + 2 ^ 40 + 2 ^ 40) due_near (omega arith))
 charged_in_range e ns false short slice v d =
-    let aged_near = more_by e.v (charge_of ns (weight_of e.nice)) (2 ^ 59 + 2 ^ 51) (2 ^ 40) v (charge_small ns (weight_of e.nice) short) in
+    let aged_near = more_by e.v (charge_of ns (weight_of e.nice)) (2 ^ 59 + 2 ^ 51) (2 ^ 40) v (charge_of_small ns (weight_of e.nice) short) in
     in_range_of (record e { v = aged e ns }) (below (unsigned_abs (aged e ns)) (2 ^ 59 + 2 ^ 51 + 2 ^ 40) aged_near (omega arith)) (below (unsigned_abs e.d) (2 ^ 59 + 2 ^ 51 + 2 ^ 40) d (omega arith))
 
 module _ (q : State) (front : ℤ) (c : IsCalm (2 ^ 59) front q.runnable) (ns : ℕ) (short : ns ≤ 1000000000) where
@@ -232,19 +229,12 @@ module _ (q : State) (front : ℤ) (c : IsCalm (2 ^ 59) front q.runnable) (ns : 
   runner_by (Some t) h = entry_by t (get q.runnable t) refl h
 
 -- ---- the rebase
-some_is : (n : ℕ) → 1 ≤ n → (n == 0) ≡ false
-some_is n h = grind (arith, nat_tests)
-
 mean_is : (q : State) → 1 ≤ total_weight q.runnable → virtual_time q ≡ floor_div (total_moment q.runnable) (total_weight q.runnable)
-mean_is q some = ap (λ (b : Bool). cond b q.base (floor_div (total_moment q.runnable) (total_weight q.runnable))) (some_is (total_weight q.runnable) some)
+mean_is q some = ap (λ (b : Bool). cond b q.base (floor_div (total_moment q.runnable) (total_weight q.runnable))) (not_zero (total_weight q.runnable) some)
 
 all_in_range : (by : ℤ) (es : List (ℕ × Entry)) → Each (λ e. is_entry_in_range (lowered_entry by e) ≡ true) es → are_entries_in_range (lowered_entries by es) ≡ true
 all_in_range by [] h = refl
 all_in_range by (e ∷ es) h = ap (λ (b : Bool). b && are_entries_in_range (lowered_entries by es)) h.0 ∙ all_in_range by es h.1
-
-found_lower : (P : Entry → Type 0) (by : ℤ) (o : Option Entry) (f : Entry) → option_map (lowered_entry by) o ≡ Some f → ((e : Entry) → o ≡ Some e → P (lowered_entry by e)) → P f
-found_lower P by None f h k = cc
-found_lower P by (Some e) f h k = let same : lowered_entry by e ≡ f = cc in subst P same (k e refl)
 
 mean_lower : (S T time : ℤ) (W : ℕ) → (time *ℤ pos W) ≤ℤ S → S <ℤ ((time *ℤ pos W) +ℤ pos W) → T ≡ S -ℤ (time *ℤ pos W) → unsigned_abs T ≤ 2 ^ 58 * W
 mean_lower S T time W h k e = omega (arith, ints, h, k, e)

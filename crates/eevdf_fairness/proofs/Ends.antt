@@ -1,5 +1,5 @@
 -- What a task is behind and ahead at the ends of a stretch of turns bounds how far it is off its share.
-use Rattle.std.proofs.Common.{◌≡◌, ℕ, ◌+◌, ◌-◌, ◌*◌, ◌≤◌, min, ap, subst, arith}
+use Rattle.std.proofs.Common.{◌≡◌, ℕ, ◌+◌, ◌-◌, ◌*◌, ◌≤◌, min, sym, ap, subst, arith}
 use Rattle.std.specs.Prelude.{ℤ, pos, ◌+ℤ◌, ◌*ℤ◌, ◌≤ℤ◌}
 use Rattle.std.specs.FinMap.{get, len}
 use Rattle.std.proofs.{lemmas.Int.ints, Math.Nat.mul-le-mul_left}
@@ -35,19 +35,11 @@ share_most v u S Z w W s r T R x y runtime moment behind ahead =
       scaled_twice v w W,
     )
 
+-- from the later end back to the earlier one
 share_least : (v u S Z : ℤ) (w W s r T R x y : ℕ) → (u *ℤ pos w) +ℤ pos r ≡ (v *ℤ pos w) +ℤ pos s → Z +ℤ pos R ≡ S +ℤ pos T
     → Z ≤ℤ ((u *ℤ pos W) +ℤ pos x) → (v *ℤ pos W) ≤ℤ (S +ℤ pos y) → w * T + W * r ≤ W * s + w * R + w * (y + x)
 share_least v u S Z w W s r T R x y runtime moment behind ahead =
-    omega (
-      arith,
-      ints,
-      scaled_sides (u *ℤ pos w) (v *ℤ pos w) r s W runtime,
-      scaled_sides Z S R T w moment,
-      scaled_bound Z (u *ℤ pos W) x w behind,
-      scaled_bound (v *ℤ pos W) S y w ahead,
-      scaled_twice u w W,
-      scaled_twice v w W,
-    )
+    omega (arith, share_most u v Z S w W r s R T x y (sym runtime) (sym moment) behind ahead)
 
 -- the same by what a task is owed, times its weight: what it is ahead at the other end takes the part `k` off again
 owed_most : (v u S Z : ℤ) (w W s r T R x k : ℕ) → (u *ℤ pos w) +ℤ pos r ≡ (v *ℤ pos w) +ℤ pos s → Z +ℤ pos R ≡ S +ℤ pos T
@@ -69,16 +61,7 @@ owed_least : (v u S Z : ℤ) (w W s r T R x k : ℕ) → (u *ℤ pos w) +ℤ pos
     → ((Z *ℤ pos w) +ℤ pos k) ≤ℤ (((u *ℤ pos W) *ℤ pos w) +ℤ pos x) → ((v *ℤ pos W) *ℤ pos w) ≤ℤ ((S *ℤ pos w) +ℤ pos k)
     → w * T + W * r ≤ W * s + w * R + x
 owed_least v u S Z w W s r T R x k runtime moment owed ahead =
-    omega (
-      arith,
-      ints,
-      owed,
-      ahead,
-      scaled_sides (u *ℤ pos w) (v *ℤ pos w) r s W runtime,
-      scaled_sides Z S R T w moment,
-      scaled_twice u W w,
-      scaled_twice v W w,
-    )
+    omega (arith, owed_most u v Z S w W r s R T x k (sym runtime) (sym moment) owed ahead)
 
 ahead_scaled : (a S : ℤ) (m c w k : ℕ) → a ≤ℤ (S +ℤ pos (m * c)) → c * w ≤ k → (a *ℤ pos w) ≤ℤ ((S *ℤ pos w) +ℤ pos (m * k))
 ahead_scaled a S m c w k ahead turn =

@@ -38,7 +38,7 @@ at_least_none : (f : Entry → ℤ) (es : List (ℕ × Entry)) → Each (λ e. p
 at_least_none f [] h = omega (arith, ints)
 at_least_none f (e ∷ es) h = let rest = at_least_none f es h.1 in omega (arith, ints, h.0)
 
-the_same : (a b : Entry) → Some a ≡ Some b → a ≡ b
+pub the_same : (a b : Entry) → Some a ≡ Some b → a ≡ b
 the_same a b h = cc
 
 member_by : (f : Entry → ℤ) (k : ℕ) (a : Entry) (e : ℕ × Entry) (es : List (ℕ × Entry)) (b : Bool) → Each (λ e. pos 0 ≤ℤ f e) (e ∷ es)
@@ -130,3 +130,7 @@ pub no_heavier : (tasks : Tasks) (t : ℕ) (e : Entry) → get tasks t ≡ Some 
 no_heavier tasks t e here =
     let one = one_of weight tasks t e (none_negative (entries tasks)) here in
     omega (arith, ints, one, weights tasks)
+
+-- the weight of all stays where that of one does
+pub same_weight : (m n w x : ℕ) (A B : ℤ) → A ≡ pos m → B ≡ pos n → A +ℤ pos w ≡ B +ℤ pos x → x ≡ w → m ≡ n
+same_weight m n w x A B h k l e = omega (arith, ints, h, k, l, e)

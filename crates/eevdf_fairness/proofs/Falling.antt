@@ -31,7 +31,7 @@ ahead_down : (v S T by : ℤ) (W x y : ℕ) → T ≡ S -ℤ (by *ℤ pos W) →
 ahead_down v S T by W x y e h = omega (arith, ints, h, e, difference_scaled v by W)
 
 -- ---- entries that are lower
-found_lower : (P : Entry → Type 0) (by : ℤ) (o : Option Entry) (f : Entry) → option_map (lowered_entry by) o ≡ Some f → ((e : Entry) → o ≡ Some e → P (lowered_entry by e)) → P f
+pub found_lower : (P : Entry → Type 0) (by : ℤ) (o : Option Entry) (f : Entry) → option_map (lowered_entry by) o ≡ Some f → ((e : Entry) → o ≡ Some e → P (lowered_entry by e)) → P f
 found_lower P by None f h k = cc
 found_lower P by (Some e) f h k = let same : lowered_entry by e ≡ f = cc in subst P same (k e refl)
 

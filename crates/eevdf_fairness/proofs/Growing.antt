@@ -3,12 +3,13 @@ use Rattle.std.proofs.Common.{◌≡◌, ℕ, ◌+◌, ◌*◌, ◌≤◌, Bool,
 use Rattle.std.specs.Prelude.{ℤ, pos, ◌+ℤ◌, ◌≤ℤ◌}
 use Rattle.std.specs.{Ordering.nat_cmp, Ordering.eq_by_cmp, Cmp.nat_cmp_total}
 use Rattle.std.specs.FinMap.{get, insert, get-insert, same_map, nat_cmp-IsAntisymmetric}
-use Rattle.std.proofs.{lemmas.Int.ints, lemmas.Bool.Decides.nat_tests}
+use Rattle.std.proofs.{lemmas.Int.ints}
 use Rattle.eevdf_weight.specs.{Weight.weight_of, Charge.charge_of}
 use Rattle.eevdf_queue.specs.{declared.entry.Entry.Entry, declared.answers.TickAnswer.TickAnswer, State.State, Sums.Tasks}
 use Rattle.eevdf_queue.specs.declared.answers.TickAnswer.TheVariants.{Charged, Range}
 use Rattle.eevdf_queue.specs.{Moves.fresh_entry, Moves.request_of, Moves.is_entry_in_range}
 use Rattle.eevdf_queue.specs.Tick.{aged, is_used_up, charged, tick, tick_to, tick_entry, tick_running}
+use Rattle.eevdf_queue.proofs.Foremost.{equal_number, itself}
 use Rattle.eevdf_fairness.specs.Turns.{Turn, turn_length, after_ticks}
 use Rattle.eevdf_fairness.proofs.Inequalities.{le_then}
 
@@ -85,14 +86,8 @@ one_then e f g m n a b = record {
 }
 
 -- ---- entries in maps
-pub same_number : (u x : ℕ) → eq_by_cmp nat_cmp u x ≡ true → u ≡ x
-same_number u x h = grind (arith, nat_tests)
-
-pub itself : (t : ℕ) → eq_by_cmp nat_cmp t t ≡ true
-itself t = grind (arith, nat_tests)
-
 pub not_itself : (t task : ℕ) (b : Bool) → (t ≡ task → ⊥) → eq_by_cmp nat_cmp t task ≡ b → b ≡ false
-not_itself t task true other is = absurd (other (same_number t task is))
+not_itself t task true other is = absurd (other (equal_number t task is))
 not_itself t task false other is = refl
 
 -- the entry that is there, put there again
@@ -101,7 +96,7 @@ insert_same tasks t e here =
     same_map nat_cmp_total nat_cmp-IsAntisymmetric _ _ (λ x. get-insert nat_cmp_total tasks t e x ∙ by x (eq_by_cmp nat_cmp x t) refl)
   where
     by : (x : ℕ) (b : Bool) → eq_by_cmp nat_cmp x t ≡ b → cond b (Some e) (get tasks x) ≡ get tasks x
-    by x true k = sym here ∙ ap (get tasks) (sym (same_number x t k))
+    by x true k = sym here ∙ ap (get tasks) (sym (equal_number x t k))
     by x false k = refl
 
 pub hidden : {X : Type 0} (b : Bool) (x y z : X) → cond b x (cond b y z) ≡ cond b x z
@@ -123,7 +118,7 @@ found_by : (P : ℕ → Entry → Type 0) (u t : ℕ) (b : Bool) (e f : Entry) (
     → cond b (Some e) o ≡ Some f → P u f
 found_by P u t true e f o is new old found =
     let entry : e ≡ f = cc in
-    subst (λ (x : Entry). P u x) entry (subst (λ (n : ℕ). P n e) (sym (same_number u t is)) new)
+    subst (λ (x : Entry). P u x) entry (subst (λ (n : ℕ). P n e) (sym (equal_number u t is)) new)
 found_by P u t false e f o is new old found = old found
 
 -- what holds of the new entry and of each task before holds of each task

@@ -1,25 +1,21 @@
 -- A task joins no further from the virtual time than its lag limit says, and so makes the others little later.
 use Rattle.std.proofs.Common.{◌≡◌, ℕ, suc, ◌+◌, ◌*◌, ◌≤◌, Bool, true, false, cond, Some, None, sym, ap, ◌∙◌, subst, arith, leb-true}
-use Rattle.std.specs.Prelude.{ℤ, pos, negsuc, ◌+ℤ◌, ◌-ℤ◌, ◌*ℤ◌, ◌≤ℤ◌, ◌==◌, unsigned_abs, nat_le}
+use Rattle.std.specs.Prelude.{ℤ, pos, negsuc, ◌+ℤ◌, ◌-ℤ◌, ◌*ℤ◌, ◌≤ℤ◌, unsigned_abs, nat_le}
 use Rattle.std.specs.FinMap.{get, insert}
-use Rattle.std.proofs.{lemmas.Int.ints, lemmas.Bool.Decides.nat_tests}
+use Rattle.std.proofs.{lemmas.Int.ints}
 use Rattle.eevdf_weight.specs.{Weight.weight_of, Placement.floor_div, Placement.placement_of}
 use Rattle.eevdf_queue.specs.{declared.entry.Entry.Entry, State.State, declared.sleeper.Sleeper.Sleeper, Placing.placement}
 use Rattle.eevdf_queue.specs.{Moves.fresh_entry, Moves.is_entry_in_range, Moves.with_runnable}
 use Rattle.eevdf_queue.specs.Sums.{Tasks, total_weight, total_moment, virtual_time}
+use Rattle.eevdf_queue.proofs.Floors.{not_above, below_next}
 use Rattle.eevdf_queue.proofs.Scaled.{sum_scaled, scaled_sum, scaled_twice, difference_scaled, scaled_le}
 use Rattle.eevdf_fairness.specs.Joining.{Joins, lag_limit, IsNear, JoinIsNear, JoinIsLittleLater}
-use Rattle.eevdf_fairness.proofs.Growing.{get_here}
+use Rattle.eevdf_fairness.proofs.{EntrySums.the_same, Growing.get_here, Inequalities.not_zero}
 use Rattle.eevdf_fairness.proofs.Removing.{weight_added, moment_added}
 
 -- a quotient that is rounded down
-not_above : (z : ℤ) (n : ℕ) → 1 ≤ n → (floor_div z n *ℤ pos n) ≤ℤ z
-not_above (pos a) n h = omega (arith, ints)
-not_above (negsuc a) n h = omega (arith, ints)
-
 not_below : (z : ℤ) (n : ℕ) → 1 ≤ n → z ≤ℤ ((floor_div z n *ℤ pos n) +ℤ pos n)
-not_below (pos a) n h = omega (arith, ints)
-not_below (negsuc a) n h = omega (arith, ints)
+not_below z n h = omega (arith, ints, below_next z n h)
 
 limited : (lag : ℤ) (limit : ℕ) → nat_le (unsigned_abs lag) limit ≡ true → pos 0 ≤ℤ (lag +ℤ pos limit)
 limited (pos a) limit h = omega (arith, ints)
@@ -34,15 +30,12 @@ near : (time f lag S : ℤ) (W w limit : ℕ) → (time *ℤ pos W) ≤ℤ S →
 near time f lag S W w limit h k l =
     omega (arith, ints, h, k, scaled_le (pos 0) (lag +ℤ pos limit) (W + w) l, sum_scaled lag (pos limit) (W + w), difference_scaled time f W)
 
-some_weight : (n : ℕ) → 1 ≤ n → (n == 0) ≡ false
-some_weight n h = grind (arith, nat_tests)
-
 placed_at : (q : State) (s : Sleeper) → 1 ≤ total_weight q.runnable
     → placement q s ≡ placement_of (floor_div (total_moment q.runnable) (total_weight q.runnable)) (total_weight q.runnable) s.lag (weight_of s.nice)
 placed_at q s some =
-    ap (λ (b : Bool). cond b (virtual_time q) (placement_of (virtual_time q) (total_weight q.runnable) s.lag (weight_of s.nice))) (some_weight (total_weight q.runnable) some)
+    ap (λ (b : Bool). cond b (virtual_time q) (placement_of (virtual_time q) (total_weight q.runnable) s.lag (weight_of s.nice))) (not_zero (total_weight q.runnable) some)
     ∙ ap (λ (b : Bool). placement_of (cond b q.base (floor_div (total_moment q.runnable) (total_weight q.runnable))) (total_weight q.runnable) s.lag (weight_of s.nice))
-    (some_weight (total_weight q.runnable) some)
+    (not_zero (total_weight q.runnable) some)
 
 joined_by : (q r : State) (task : ℕ) (f : Entry) (b : Bool) → with_runnable q task (cond b (Some f) None) ≡ Some r → r.runnable ≡ insert q.runnable task f
 joined_by q r task f false is = cc
@@ -61,9 +54,6 @@ joiner q s = fresh_entry (placement q s) s.nice s.slice
 
 pub joined_tasks : (q r : State) (task : ℕ) (s : Sleeper) → Joins q task s r → r.runnable ≡ insert q.runnable task (joiner q s)
 joined_tasks q r task s j = j.runnable ∙ joined_by q j.placed task (joiner q s) (is_entry_in_range (joiner q s)) j.is_put
-
-the_same : (a b : Entry) → Some a ≡ Some b → a ≡ b
-the_same a b h = cc
 
 joined_entry : (q r : State) (task : ℕ) (s : Sleeper) (e : Entry) → Joins q task s r → get r.runnable task ≡ Some e → joiner q s ≡ e
 joined_entry q r task s e j found =

@@ -2,15 +2,13 @@
 use Rattle.std.proofs.Common.{◌≡◌, ℕ, ◌≤◌, true, Option, Some, None, refl, sym, ap, subst, arith}
 use Rattle.std.specs.Prelude.{ℤ, pos, nat_le, is_some, unsigned_abs, ◌*ℤ◌}
 use Rattle.std.specs.{FinMap.get, Option.unwrap_or}
-use Rattle.std.proofs.{lemmas.Int.ints, lemmas.Int.clamps, lemmas.Bool.Decides.nat_tests}
+use Rattle.std.proofs.{lemmas.Bool.Decides.nat_tests}
 use Rattle.eevdf_weight.specs.{Weight.weight_of, Charge.lag_limit_of, Placement.floor_div}
 use Rattle.eevdf_queue.specs.{declared.entry.Entry.Entry, declared.answers.WakeAnswer.TheVariants.Woken, declared.answers.ReniceAnswer.TheVariants.Reniced}
-use Rattle.eevdf_queue.specs.{State.State, declared.sleeper.Sleeper.Sleeper, Lag.is_lag, Lag.cut, Lag.kept_lag, Leaving.leave, Moves.sleeper_of, Moves.with_runnable}
+use Rattle.eevdf_queue.specs.{State.State, declared.sleeper.Sleeper.Sleeper, Lag.is_lag, Lag.kept_lag, Leaving.leave, Moves.sleeper_of, Moves.with_runnable}
 use Rattle.eevdf_queue.specs.{Placing.put, Placing.placed_entry, Wake.wake, Wake.wake_to, Wake.wake_sleeper, Renice.renice, Renice.renice_to, Renice.renice_entry, Renice.reniced}
+use Rattle.eevdf_queue.proofs.Bounds.{cut_small}
 use Rattle.eevdf_fairness.specs.{Joining.Joins, JoiningDeeds.HasOthers, JoiningDeeds.DeedsJoin}
-
-cut_small : (z : ℤ) (limit : ℕ) → unsigned_abs (cut z limit) ≤ limit
-cut_small z limit = omega (arith, ints, clamps)
 
 fits : (a b : ℕ) → a ≤ b → nat_le a b ≡ true
 fits a b h = grind (arith, nat_tests)

@@ -1,15 +1,16 @@
 -- A task that leaves between two ticks may as well leave after both.
-use Rattle.std.proofs.Common.{◌≡◌, ℕ, Bool, true, false, cond, Option, Some, None, refl, sym, ap, ◌∙◌, subst, arith}
+use Rattle.std.proofs.Common.{◌≡◌, ℕ, Bool, true, false, cond, Option, Some, None, refl, sym, ap, ◌∙◌, subst}
 use Rattle.std.specs.Prelude.{◌==◌}
 use Rattle.std.specs.{Ordering.nat_cmp, Ordering.eq_by_cmp, Cmp.nat_cmp_total}
 use Rattle.std.specs.FinMap.{get, insert, remove, get-insert, get-remove, same_map, nat_cmp-IsAntisymmetric}
-use Rattle.std.proofs.lemmas.Bool.Decides.{nat_tests}
 use Rattle.eevdf_queue.specs.{declared.entry.Entry.Entry, declared.answers.TickAnswer.TickAnswer, State.State, Sums.Tasks}
 use Rattle.eevdf_queue.specs.declared.answers.TickAnswer.TheVariants.{Charged, Range}
 use Rattle.eevdf_queue.specs.{Leaving.leave, Leaving.without_entry, Leaving.stopped, Moves.is_entry_in_range}
 use Rattle.eevdf_queue.specs.Tick.{is_used_up, charged, tick, tick_to, tick_entry, tick_running}
+use Rattle.eevdf_queue.proofs.Foremost.{equal_number}
+use Rattle.eevdf_ops.proofs.{DeedNames.unequal, MapCounts.equal, MapCounts.itself}
 use Rattle.eevdf_fairness.specs.Leavings.{HaveSameRunnable}
-use Rattle.eevdf_fairness.proofs.Growing.{same_number, not_itself, hidden, get_here}
+use Rattle.eevdf_fairness.proofs.Growing.{not_itself, hidden, get_here}
 use Rattle.eevdf_fairness.proofs.LeavingDeeds.{alike, of_same, then}
 
 -- ---- entries in maps
@@ -31,7 +32,7 @@ removed_apart m t p f apart =
     same_map nat_cmp_total nat_cmp-IsAntisymmetric _ _ (λ x.
     get-insert nat_cmp_total (remove m t) p f x
     ∙ ap (cond (eq_by_cmp nat_cmp x p) (Some f)) (get-remove nat_cmp_total m t x)
-    ∙ swapped (eq_by_cmp nat_cmp x p) (eq_by_cmp nat_cmp x t) (Some f) (get m x) (λ h k. apart (sym (same_number x t k) ∙ same_number x p h))
+    ∙ swapped (eq_by_cmp nat_cmp x p) (eq_by_cmp nat_cmp x t) (Some f) (get m x) (λ h k. apart (sym (equal_number x t k) ∙ equal_number x p h))
     ∙ sym (ap (cond (eq_by_cmp nat_cmp x t) None) (get-insert nat_cmp_total m p f x))
     ∙ sym (get-remove nat_cmp_total (insert m p f) t x))
 
@@ -44,15 +45,6 @@ get_left m p t apart =
     get-remove nat_cmp_total m t p ∙ ap (λ (b : Bool). cond b None (get m p)) (not_itself p t (eq_by_cmp nat_cmp p t) (λ same. apart (sym same)) refl)
 
 -- ---- who runs, and whether a tick finds it
-is_same : (t p : ℕ) → (t == p) ≡ true → t ≡ p
-is_same t p is = grind (arith, nat_tests)
-
-is_other : (t p : ℕ) → (t == p) ≡ false → t ≡ p → ⊥
-is_other t p is same = grind (arith, nat_tests)
-
-itself_runs : (t : ℕ) → (t == t) ≡ true
-itself_runs t = grind (arith, nat_tests)
-
 nobody_ticks : (q : State) (ns : ℕ) → q.running ≡ None → (tick q ns).1 ≡ q
 nobody_ticks q ns is = ap (λ (o : Option ℕ). (tick_running q o ns).1) is
 
@@ -68,7 +60,7 @@ still_nobody q t None is = is
 still_nobody q t (Some e) is = ap (λ (r : Option ℕ). stopped r t) is
 
 stops : (q : State) (t : ℕ) (e : Entry) → q.running ≡ Some t → (without_entry q t (Some e)).running ≡ None
-stops q t e is = ap (λ (r : Option ℕ). stopped r t) is ∙ ap (λ (b : Bool). cond {A = Option ℕ} b None (Some t)) (itself_runs t)
+stops q t e is = ap (λ (r : Option ℕ). stopped r t) is ∙ ap (λ (b : Bool). cond {A = Option ℕ} b None (Some t)) (itself t)
 
 still_runs : (q : State) (t p : ℕ) (o : Option Entry) → q.running ≡ Some p → (t == p) ≡ false → (without_entry q t o).running ≡ Some p
 still_runs q t p None is other = is
@@ -107,30 +99,30 @@ other_by q t p f resched false apart = alike (leave q t)
 module _ (q : State) (t ns : ℕ) where
   absent_by : (p : ℕ) (b : Bool) → q.running ≡ Some p → get q.runnable p ≡ None → (t == p) ≡ b → (tick (leave q t) ns).1 ≡ leave q t
   absent_by p true is none same =
-      let gone : get q.runnable t ≡ None = ap (get q.runnable) (is_same t p same) ∙ none in
+      let gone : get q.runnable t ≡ None = ap (get q.runnable) (equal t p same) ∙ none in
       let stays : leave q t ≡ q = ap (without_entry q t) gone in
       ap (λ (x : State). (tick x ns).1) stays ∙ absent_ticks q p ns is none ∙ sym stays
   absent_by p false is none other =
       absent_ticks (leave q t) p ns (still_runs q t p (get q.runnable t) is other)
-      (still_there q t p (get q.runnable t) (is_other t p other) ∙ none)
+      (still_there q t p (get q.runnable t) (unequal t p other) ∙ none)
 
   there_by : (p : ℕ) (g : Entry) (b : Bool) → q.running ≡ Some p → get q.runnable p ≡ Some g → (t == p) ≡ b
       → HaveSameRunnable ((tick (leave q t) ns).1) (leave ((tick_to q p (is_used_up g ns) (charged g ns)).1) t)
   there_by p g true is here same =
-      subst (λ (k : ℕ). HaveSameRunnable ((tick (leave q t) ns).1) (leave ((tick_to q k (is_used_up g ns) (charged g ns)).1) t)) (is_same t p same)
+      subst (λ (k : ℕ). HaveSameRunnable ((tick (leave q t) ns).1) (leave ((tick_to q k (is_used_up g ns) (charged g ns)).1) t)) (equal t p same)
       (then _ (leave q t) _ (of_same _ _ (nobody_ticks (leave q t) ns stopped_there))
       (ran_by q t g (charged g ns) (is_used_up g ns) (is_entry_in_range (charged g ns)) found))
     where
       found : get q.runnable t ≡ Some g
-      found = ap (get q.runnable) (is_same t p same) ∙ here
+      found = ap (get q.runnable) (equal t p same) ∙ here
 
       stopped_there : (leave q t).running ≡ None
-      stopped_there = ap (λ (o : Option Entry). (without_entry q t o).running) found ∙ stops q t g (is ∙ ap (λ (k : ℕ). Some k) (sym (is_same t p same)))
+      stopped_there = ap (λ (o : Option Entry). (without_entry q t o).running) found ∙ stops q t g (is ∙ ap (λ (k : ℕ). Some k) (sym (equal t p same)))
   there_by p g false is here other =
       then _ ((tick_to (leave q t) p (is_used_up g ns) (charged g ns)).1) _
       (of_same _ _ (ticks_there (leave q t) p ns g (still_runs q t p (get q.runnable t) is other)
-      (still_there q t p (get q.runnable t) (is_other t p other) ∙ here)))
-      (other_by q t p (charged g ns) (is_used_up g ns) (is_entry_in_range (charged g ns)) (is_other t p other))
+      (still_there q t p (get q.runnable t) (unequal t p other) ∙ here)))
+      (other_by q t p (charged g ns) (is_used_up g ns) (is_entry_in_range (charged g ns)) (unequal t p other))
 
   entry_by : (p : ℕ) (o : Option Entry) → q.running ≡ Some p → get q.runnable p ≡ o → HaveSameRunnable ((tick (leave q t) ns).1) (leave ((tick q ns).1) t)
   entry_by p None is none =

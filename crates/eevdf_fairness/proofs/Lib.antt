@@ -22,6 +22,7 @@ pub mod Healing
 pub mod Joining
 pub mod JoiningDeeds
 pub mod AfterJoin
+pub mod OwnDeeds
 pub mod OneCpu
 pub mod OneCpuSteps
 pub mod Lines

@@ -8,17 +8,14 @@ use Rattle.eevdf_queue.specs.{declared.entry.Entry.Entry, declared.answers.TickA
 use Rattle.eevdf_queue.specs.declared.answers.TickAnswer.TheVariants as ticked
 use Rattle.eevdf_ops.specs.{declared.deeds.Deed.Deed, declared.deeds.Answer.Answer, Machine.Machine, Machine.queue_at, Parts.touches, PartsLaws.OthersStay}
 use Rattle.eevdf_ops.specs.{Whole.whole, Whole.lines_of, Whole.machine_after, OneQueue.answer_of_tick}
-use Rattle.eevdf_ops.specs.declared.deeds.Deed.TheVariants.{Tick, Pick, Yield, Sleep, Wake, Pull, Renice, Begin, End, Set, Rebase}
+use Rattle.eevdf_ops.specs.declared.deeds.Deed.TheVariants.{Tick, Pick}
 use Rattle.eevdf_ops.specs.declared.deeds.Answer.TheVariants as answered
-use Rattle.eevdf_ops.proofs.WholePlaces.{length-whole}
+use Rattle.eevdf_ops.proofs.{MapCounts.itself, WholePlaces.length-after, WholePlaces.length-whole}
 use Rattle.eevdf_fairness.specs.{Turns.Turn, Turns.after_ticks, Turns.after_turn, Tallies.Measure, Tallies.over_ticks, Tallies.over_turns}
 use Rattle.eevdf_fairness.specs.{Tallies.if_charged, Tallies.if_charged_to, Tallies.task_time, Share.HasItsShare, Share.TurnsGiveShares}
 use Rattle.eevdf_fairness.specs.{Share.swing, Share.IsShareOfTime, OneCpu.ticks_on, OneCpu.turns_on, OneCpu.touching, OneCpu.OnlyTurnsTouch}
 use Rattle.eevdf_fairness.specs.Lines.{ticked_on, charged, charged_to, over_lines, TellTime, LinesTellTime, OneCpuGivesShares}
-use Rattle.eevdf_fairness.proofs.OneCpu.{IsOfTurns, AreOfTurns, done, one_done, all_of_turns, turns_of_one_cpu}
-
-same_cpu : (cpu : ℕ) → (cpu == cpu) ≡ true
-same_cpu cpu = grind (arith, nat_tests)
+use Rattle.eevdf_fairness.proofs.{OneCpu.turns_of_one_cpu, OwnDeeds.AreOwn, OwnDeeds.own, OwnDeeds.turns_own, OwnDeeds.answer_own, OwnDeeds.queue_own}
 
 other_way : (a b : ℕ) → (a == b) ≡ false → (b == a) ≡ false
 other_way a b h = grind (arith, nat_tests)
@@ -38,66 +35,32 @@ three a b c d e h k = omega (arith, h, k)
 
 -- a number for each answer of a tick, by its nanoseconds
 module _ (stay : OthersStay) (homes : List ℕ) (cpu : ℕ) (f : Answer → ℕ → ℕ) (none : (a : Answer) → f a 0 ≡ 0) where
-  -- what a pick or a tick of the CPU adds
+  -- what a deed of the CPU adds
   abbrev added : Deed → State → ℕ
-  added (Tick at ns) q = f (answer_of_tick (tick q ns).0) ns
-  added (Pick at) q = 0
-  added (Yield at) q = 0
-  added (Sleep at task) q = 0
-  added (Wake at task sender) q = 0
-  added (Pull at source) q = 0
-  added (Renice at task nice) q = 0
-  added (Begin at task nice slice) q = 0
-  added (End at task) q = 0
-  added (Set at task nice slice) q = 0
-  added (Rebase at) q = 0
+  added d q = f (own d q).0 (ticked_on cpu d)
 
   abbrev all_added : List Deed → State → ℕ
   all_added [] q = 0
-  all_added (d ∷ ds) q = added d q + all_added ds (done d q)
+  all_added (d ∷ ds) q = added d q + all_added ds (own d q).1
 
   no_tick : (d : Deed) (a : Answer) → touches homes d cpu ≡ false → f a (ticked_on cpu d) ≡ 0
   no_tick (Tick at ns) a apart = ap (λ (b : Bool). f a (cond b ns 0)) (other_way cpu at (neither (cpu == at) apart)) ∙ none a
-  no_tick (Pick at) a apart = none a
-  no_tick (Yield at) a apart = none a
-  no_tick (Sleep at task) a apart = none a
-  no_tick (Wake at task sender) a apart = none a
-  no_tick (Pull at source) a apart = none a
-  no_tick (Renice at task nice) a apart = none a
-  no_tick (Begin at task nice slice) a apart = none a
-  no_tick (End at task) a apart = none a
-  no_tick (Set at task nice slice) a apart = none a
-  no_tick (Rebase at) a apart = none a
-
-  one_added : (m : Machine) (d : Deed) → IsOfTurns cpu d → f (whole homes d m).0 (ticked_on cpu d) ≡ added d (queue_at m cpu)
-  one_added m (Tick at ns) is =
-      subst (λ (c : ℕ). f (answer_of_tick (tick (queue_at m at) ns).0) (cond (at == c) ns 0) ≡ f (answer_of_tick (tick (queue_at m c) ns).0) ns) is
-      (ap (λ (b : Bool). f (answer_of_tick (tick (queue_at m at) ns).0) (cond b ns 0)) (same_cpu at))
-  one_added m (Pick at) is = none (whole homes (Pick at) m).0
-  one_added m (Yield at) is = absurd is
-  one_added m (Sleep at task) is = absurd is
-  one_added m (Wake at task sender) is = absurd is
-  one_added m (Pull at source) is = absurd is
-  one_added m (Renice at task nice) is = absurd is
-  one_added m (Begin at task nice slice) is = absurd is
-  one_added m (End at task) is = absurd is
-  one_added m (Set at task nice slice) is = absurd is
-  one_added m (Rebase at) is = absurd is
+  no_tick deed a apart = none a
 
   one_line : (m : Machine) (d : Deed) (ds : List Deed) (b : Bool) → touches homes d cpu ≡ b → cpu < length m
-      → (AreOfTurns cpu (touching homes cpu ds) → over_lines f cpu (lines_of homes (whole homes d m).1 ds) ≡ all_added (touching homes cpu ds) (queue_at (whole homes d m).1 cpu))
-      → AreOfTurns cpu (cond b (d ∷ touching homes cpu ds) (touching homes cpu ds))
+      → (AreOwn cpu (touching homes cpu ds) → over_lines f cpu (lines_of homes (whole homes d m).1 ds) ≡ all_added (touching homes cpu ds) (queue_at (whole homes d m).1 cpu))
+      → AreOwn cpu (cond b (d ∷ touching homes cpu ds) (touching homes cpu ds))
       → f (whole homes d m).0 (ticked_on cpu d) + over_lines f cpu (lines_of homes (whole homes d m).1 ds)
       ≡ all_added (cond b (d ∷ touching homes cpu ds) (touching homes cpu ds)) (queue_at m cpu)
   one_line m d ds true is h rest these =
       sums (f (whole homes d m).0 (ticked_on cpu d)) (over_lines f cpu (lines_of homes (whole homes d m).1 ds)) (added d (queue_at m cpu))
-      (all_added (touching homes cpu ds) (done d (queue_at m cpu))) (one_added m d these.0)
-      (rest these.1 ∙ ap (all_added (touching homes cpu ds)) (one_done homes m cpu d h these.0))
+      (all_added (touching homes cpu ds) (own d (queue_at m cpu)).1) (ap (λ (a : Answer). f a (ticked_on cpu d)) (answer_own homes cpu m d these.0))
+      (rest these.1 ∙ ap (all_added (touching homes cpu ds)) (queue_own homes cpu m d h these.0))
   one_line m d ds false is h rest these =
       first_none (f (whole homes d m).0 (ticked_on cpu d)) (over_lines f cpu (lines_of homes (whole homes d m).1 ds)) (all_added (touching homes cpu ds) (queue_at m cpu))
       (no_tick d (whole homes d m).0 is) (rest these ∙ ap (all_added (touching homes cpu ds)) (stay homes d m cpu is))
 
-  in_lines : (m : Machine) (deeds : List Deed) → cpu < length m → AreOfTurns cpu (touching homes cpu deeds)
+  in_lines : (m : Machine) (deeds : List Deed) → cpu < length m → AreOwn cpu (touching homes cpu deeds)
       → over_lines f cpu (lines_of homes m deeds) ≡ all_added (touching homes cpu deeds) (queue_at m cpu)
   in_lines m [] h these = refl
   in_lines m (d ∷ ds) h these =
@@ -108,42 +71,26 @@ module _ (stay : OthersStay) (homes : List ℕ) (cpu : ℕ) (f : Answer → ℕ 
     in_ticks : (turn : Turn) (more : List Deed) (q : State) → all_added (ticks_on cpu turn ++ more) q ≡ over_ticks g q turn + all_added more (after_ticks q turn)
     in_ticks [] more q = omega arith
     in_ticks (ns ∷ turn) more q =
-        three (f (answer_of_tick (tick q ns).0) ns) (all_added (ticks_on cpu turn ++ more) ((tick q ns).1)) (g q ns) (over_ticks g ((tick q ns).1) turn)
-        (all_added more (after_ticks ((tick q ns).1) turn)) (alike q ns) (in_ticks turn more ((tick q ns).1))
+        three (added (Tick cpu ns) q) (all_added (ticks_on cpu turn ++ more) ((tick q ns).1)) (g q ns) (over_ticks g ((tick q ns).1) turn)
+        (all_added more (after_ticks ((tick q ns).1) turn)) (ap (λ (b : Bool). f (answer_of_tick (tick q ns).0) (cond b ns 0)) (itself cpu) ∙ alike q ns) (in_ticks turn more ((tick q ns).1))
 
     in_turns : (turns : List Turn) (q : State) → all_added (turns_on cpu turns) q ≡ over_turns g q turns
     in_turns [] q = refl
     in_turns (turn ∷ turns) q =
-        first_none 0 (all_added (ticks_on cpu turn ++ turns_on cpu turns) (after_pick q)) (over_turns g q (turn ∷ turns)) refl
+        first_none (added (Pick cpu) q) (all_added (ticks_on cpu turn ++ turns_on cpu turns) (after_pick q)) (over_turns g q (turn ∷ turns)) (none (own (Pick cpu) q).0)
         (in_ticks turn (turns_on cpu turns) (after_pick q) ∙ ap (λ (x : ℕ). over_ticks g (after_pick q) turn + x) (in_turns turns (after_turn q turn)))
 
     told : (m : Machine) (deeds : List Deed) (turns : List Turn) → cpu < length m → OnlyTurnsTouch homes cpu deeds turns
         → over_lines f cpu (lines_of homes m deeds) ≡ over_turns g (queue_at m cpu) turns
     told m deeds turns h only =
-        in_lines m deeds h (subst (AreOfTurns cpu) (sym only) (all_of_turns cpu turns))
+        in_lines m deeds h (subst (AreOwn cpu) (sym only) (turns_own cpu turns))
         ∙ ap (λ (ds : List Deed). all_added ds (queue_at m cpu)) only
         ∙ in_turns turns (queue_at m cpu)
 
 -- ---- the time of all, and of one task
 none_charged : (a : Answer) → charged a 0 ≡ 0
 none_charged (answered.Charged task resched) = refl
-none_charged (answered.Picked task) = refl
-none_charged answered.Idle = refl
-none_charged answered.Yielded = refl
-none_charged (answered.Slept lag) = refl
-none_charged answered.NotRunning = refl
-none_charged answered.Woken = refl
-none_charged answered.Awake = refl
-none_charged (answered.Pulled task) = refl
-none_charged answered.Balanced = refl
-none_charged answered.Nothing = refl
-none_charged answered.Range = refl
-none_charged answered.Reniced = refl
-none_charged answered.NotHere = refl
-none_charged answered.Begun = refl
-none_charged answered.Ended = refl
-none_charged answered.Set = refl
-none_charged (answered.Rebased by) = refl
+none_charged answer = refl
 
 either : (n : ℕ) (b : Bool) → cond b n n ≡ n
 either n true = refl
@@ -151,23 +98,7 @@ either n false = refl
 
 none_charged_to : (t : ℕ) (a : Answer) → charged_to t a 0 ≡ 0
 none_charged_to t (answered.Charged task resched) = either 0 (task == t)
-none_charged_to t (answered.Picked task) = refl
-none_charged_to t answered.Idle = refl
-none_charged_to t answered.Yielded = refl
-none_charged_to t (answered.Slept lag) = refl
-none_charged_to t answered.NotRunning = refl
-none_charged_to t answered.Woken = refl
-none_charged_to t answered.Awake = refl
-none_charged_to t (answered.Pulled task) = refl
-none_charged_to t answered.Balanced = refl
-none_charged_to t answered.Nothing = refl
-none_charged_to t answered.Range = refl
-none_charged_to t answered.Reniced = refl
-none_charged_to t answered.NotHere = refl
-none_charged_to t answered.Begun = refl
-none_charged_to t answered.Ended = refl
-none_charged_to t answered.Set = refl
-none_charged_to t (answered.Rebased by) = refl
+none_charged_to t answer = refl
 
 charged_alike : (a : TickAnswer) (ns : ℕ) → charged (answer_of_tick a) ns ≡ if_charged a ns
 charged_alike (ticked.Charged task resched) ns = refl
@@ -186,11 +117,6 @@ lines_tell_time stay homes m cpu deeds turns h only = record {
 }
 
 -- ---- shares
-still_there : (homes : List ℕ) (m : Machine) (cpu : ℕ) (deeds : List Deed) → cpu < length m → cpu < length (machine_after homes m deeds)
-still_there homes m cpu [] h = h
-still_there homes m cpu (d ∷ ds) h =
-    still_there homes (whole homes d m).1 cpu ds (subst (λ (n : ℕ). cpu < n) (sym (length-whole homes d m)) h)
-
 pub one_cpu_gives_shares : OthersStay → TurnsGiveShares → OneCpuGivesShares
 one_cpu_gives_shares stay shares homes m cpu earlier deeds v ns before turns h only these fresh short more t e here =
     let n : Machine = machine_after homes m earlier in
@@ -198,7 +124,7 @@ one_cpu_gives_shares stay shares homes m cpu earlier deeds v ns before turns h o
     subst (λ (q : State). (u : ℕ) (f : Entry) → get q.runnable u ≡ Some f → HasItsShare ns q turns u f)
     (sym (turns_of_one_cpu stay homes m cpu earlier before h only)) (shares (queue_at m cpu) v ns before turns fresh short more) t e here in
     let tell : TellTime cpu (lines_of homes n deeds) (queue_at n cpu) turns =
-    lines_tell_time stay homes n cpu deeds turns (still_there homes m cpu earlier h) these in
+    lines_tell_time stay homes n cpu deeds turns (subst (λ (n : ℕ). cpu < n) (sym (length-after homes m earlier)) h) these in
     record {
       share = share;
       told = tell;

@@ -1,14 +1,15 @@
 -- Queues and machines that are lowered twice, back, or by nothing.
-use Rattle.std.proofs.Common.{◌≡◌, ℕ, zero, suc, Bool, true, false, cond, List, [], ◌∷◌, length, set, Option, Some, None, refl, sym, ap, ◌∙◌, subst, arith}
+use Rattle.std.proofs.Common.{◌≡◌, ℕ, zero, suc, Bool, true, false, cond, [], ◌∷◌, length, set, Option, Some, None, refl, sym, ap, ◌∙◌, subst, arith}
 use Rattle.std.specs.Prelude.{ℤ, pos, ◌+ℤ◌, ◌-ℤ◌}
 use Rattle.std.specs.{Option.option_map, Ordering.nat_cmp, Cmp.nat_cmp_total}
-use Rattle.std.specs.FinMap.{get, empty, entries, same_map, nat_cmp-IsAntisymmetric, get-empty, len-entries, len-empty}
+use Rattle.std.specs.FinMap.{get, empty, entries, same_map, nat_cmp-IsAntisymmetric, get-empty}
 use Rattle.std.proofs.{lemmas.Int.ints, Math.ListN.length-set}
 use Rattle.eevdf_queue.specs.{declared.entry.Entry.Entry, State.State, State.empty_state, Sums.Tasks, Sums.virtual_time, Sums.sum_weights, Sums.sum_moments, Sums.time_over}
 use Rattle.eevdf_queue.specs.Rebase.{lowered_entry, lowered_tasks, can_rebase, rebased, rebase}
 use Rattle.eevdf_queue.specs.LoweredQueues.{IsLower, RebasedIsLower}
 use Rattle.eevdf_queue.proofs.LoweredMaps.{get-lowered}
 use Rattle.eevdf_ops.specs.Machine.{Machine, queue_at}
+use Rattle.eevdf_queue.proofs.MapFolds.{entries-empty}
 use Rattle.eevdf_fairness.specs.LoweredMachines.{IsLowerMachine}
 
 -- ---- tasks
@@ -94,13 +95,6 @@ rebase_lowers lower q = by_can (can_rebase q)
     by_can : (b : Bool) → IsLower ((cond {A = ℤ × State} b (virtual_time q, rebased q) (pos 0, q)).0) q ((cond {A = ℤ × State} b (virtual_time q, rebased q) (pos 0, q)).1)
     by_can true = lower q
     by_can false = lower_same q
-
-no_entries : (es : List (ℕ × Entry)) → length es ≡ 0 → es ≡ []
-no_entries [] h = refl
-no_entries (e ∷ es) h = absurd (omega arith)
-
-entries-empty : entries {R = nat_cmp} (empty {X = Entry}) ≡ []
-entries-empty = no_entries (entries empty) (sym (len-entries empty) ∙ len-empty nat_cmp Entry)
 
 -- of a queue of no CPU it answers 0
 pub rebase_of_nobody : (rebase empty_state).0 ≡ pos 0

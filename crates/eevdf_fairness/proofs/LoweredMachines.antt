@@ -1,5 +1,5 @@
 -- A lowered machine does each deed alike.
-use Rattle.std.proofs.Common.{◌≡◌, ℕ, ◌==◌, Bool, true, false, cond, List, Option, Some, None, refl, sym, ap, ◌∙◌, subst, inl, inr}
+use Rattle.std.proofs.Common.{◌≡◌, ℕ, ◌==◌, Bool, true, false, cond, List, Option, Some, None, refl, sym, ap, ◌∙◌, subst, inl, inr, arith}
 use Rattle.std.specs.Prelude.{ℤ, Ok, Err, is_some, nat_lt, ◌+◌, unwrap_or, option_and_then}
 use Rattle.std.specs.{Option.option_map, FinMap.contains_key}
 use Rattle.eevdf_weight.specs.Weight.{weight_of}
@@ -8,8 +8,6 @@ use Rattle.eevdf_queue.specs.{Moves.sleeper_of, Moves.with_runnable, Placing.pla
 use Rattle.eevdf_queue.specs.Leaving.{carried, carried_running, leave}
 use Rattle.eevdf_queue.specs.LoweredQueues.{IsLower, AnswerAlike, JoinAlike, LoweredQueueAnswersAlike, lowered_contents}
 use Rattle.eevdf_queue.specs.LoweredQueues as queues
-use Rattle.eevdf_queue.specs.{declared.answers.TickAnswer.TickAnswer, declared.answers.YieldAnswer.YieldAnswer, declared.answers.WakeAnswer.WakeAnswer}
-use Rattle.eevdf_queue.specs.{declared.answers.ReniceAnswer.ReniceAnswer, declared.answers.SetAnswer.SetAnswer}
 use Rattle.eevdf_queue.specs.declared.answers.TickAnswer.TheVariants as ticks
 use Rattle.eevdf_queue.specs.declared.answers.YieldAnswer.TheVariants as yields
 use Rattle.eevdf_queue.specs.declared.answers.WakeAnswer.TheVariants as wakes
@@ -49,31 +47,6 @@ told_alike f range by q r x y t h stays too (inr (inl k)) same =
     let other : x.0 ≡ range = t.alone x.0 (same ∙ ap is_range (ap f k ∙ t.told)) in
     (ap f (other ∙ sym k), subst (IsLower by x.1) (sym (too k)) (subst (λ (z : State). IsLower by z r) (sym (stays other)) h))
 told_alike f range by q r x y t h stays too (inr (inr k)) same = (ap f k.0, k.1)
-
-tick_alone : (a : TickAnswer) → is_range (answer_of_tick a) ≡ true → a ≡ ticks.Range
-tick_alone (ticks.Charged task resched) is = cc
-tick_alone ticks.Idle is = cc
-tick_alone ticks.Range is = refl
-
-yield_alone : (a : YieldAnswer) → is_range (answer_of_yield a) ≡ true → a ≡ yields.Range
-yield_alone yields.Yielded is = cc
-yield_alone yields.Idle is = cc
-yield_alone yields.Range is = refl
-
-wake_alone : (a : WakeAnswer) → is_range (answer_of_wake a) ≡ true → a ≡ wakes.Range
-wake_alone wakes.Woken is = cc
-wake_alone wakes.Awake is = cc
-wake_alone wakes.Range is = refl
-
-renice_alone : (a : ReniceAnswer) → is_range (answer_of_renice a) ≡ true → a ≡ renices.Range
-renice_alone renices.Reniced is = cc
-renice_alone renices.NotHere is = cc
-renice_alone renices.Range is = refl
-
-set_alone : (a : SetAnswer) → is_range (answer_of_set a) ≡ true → a ≡ sets.Range
-set_alone sets.Set is = cc
-set_alone sets.NotHere is = cc
-set_alone sets.Range is = refl
 
 module _ (by : ℕ → ℤ) (m n : Machine) (h : IsLowerMachine by m n) where
   at_one : (cpu : ℕ) (x y : Answer × State) → OneAlike (by cpu) x y → AreAlike by (at_cpu m cpu x) (at_cpu n cpu y)
@@ -207,6 +180,11 @@ module _ (alike : LoweredQueueAnswersAlike) (homes : List ℕ) (by : ℕ → ℤ
   at_here : (cpu : ℕ) (x y : Answer × State) → OneAlike (by cpu) x y → AreAlike by (at_cpu m cpu x) (at_cpu n cpu y)
   at_here = at_one by m n h
 
+  told : {A : Type 0} (cpu : ℕ) (f : A → Answer) (range : A) (x y : A × State) → IsTold f range → (x.0 ≡ range → x.1 ≡ queue_at m cpu) → (y.0 ≡ range → y.1 ≡ queue_at n cpu)
+      → queues.AreAlike range (by cpu) x y → AreAlike by (at_cpu m cpu (f x.0, x.1)) (at_cpu n cpu (f y.0, y.1))
+  told cpu f range x y t stays too alike =
+      at_here cpu _ _ (told_alike f range (by cpu) (queue_at m cpu) (queue_at n cpu) x y t (h.queues cpu) stays too alike)
+
   sleeps : (cpu task home : ℕ) (b : Bool) → Alike cpu (cond b (act.Local (local.Sleep task)) (act.Transfer home (transfer.Sleep task)))
   sleeps cpu task home true = at_here cpu _ _ (sleep_one alike (by cpu) (queue_at m cpu) (queue_at n cpu) (h.queues cpu) task)
   sleeps cpu task home false =
@@ -221,33 +199,22 @@ module _ (alike : LoweredQueueAnswersAlike) (homes : List ℕ) (by : ℕ → ℤ
 
   done_alike : (deed : Deed) → is_rebase deed ≡ false → AreAlike by (whole homes deed m) (whole homes deed n)
   done_alike (Tick cpu ns) e =
-      at_here cpu _ _
-      (told_alike answer_of_tick ticks.Range (by cpu) (queue_at m cpu) (queue_at n cpu) _ _ (record { told = refl; alone = tick_alone }) (h.queues cpu) (tick_stays (queue_at m cpu) ns) (tick_stays (queue_at n cpu) ns)
-      ((there cpu).tick ns))
+      told cpu answer_of_tick ticks.Range _ _ (record { told = refl; alone = λ a is. grind arith }) (tick_stays (queue_at m cpu) ns) (tick_stays (queue_at n cpu) ns) ((there cpu).tick ns)
   done_alike (Pick cpu) e = at_here cpu _ _ (λ same. (ap answer_of_pick (sym (there cpu).pick), (there cpu).picked))
-  done_alike (Yield cpu) e =
-      at_here cpu _ _
-      (told_alike answer_of_yield yields.Range (by cpu) (queue_at m cpu) (queue_at n cpu) _ _ (record { told = refl; alone = yield_alone }) (h.queues cpu) (yield_stays (queue_at m cpu)) (yield_stays (queue_at n cpu))
-      ((there cpu).yields))
+  done_alike (Yield cpu) e = told cpu answer_of_yield yields.Range _ _ (record { told = refl; alone = λ a is. grind arith }) (yield_stays (queue_at m cpu)) (yield_stays (queue_at n cpu)) (there cpu).yields
   done_alike (Sleep cpu task) e = sleeps cpu task (home_of homes task) (home_of homes task == cpu)
   done_alike (Wake cpu task sender) e =
-      at_here cpu _ _
-      (told_alike answer_of_wake wakes.Range (by cpu) (queue_at m cpu) (queue_at n cpu) _ _ (record { told = refl; alone = wake_alone }) (h.queues cpu) (wake_stays (queue_at m cpu) task) (wake_stays (queue_at n cpu) task)
-      ((there cpu).wake task))
+      told cpu answer_of_wake wakes.Range _ _ (record { told = refl; alone = λ a is. grind arith }) (wake_stays (queue_at m cpu) task) (wake_stays (queue_at n cpu) task) ((there cpu).wake task)
   done_alike (Pull cpu source) e =
       at_both by m n h cpu source _ _
       (pulled_two alike (by cpu) (by source) (queue_at m cpu) (queue_at n cpu) (queue_at m source) (queue_at n source) (h.queues cpu) (h.queues source))
   done_alike (Renice cpu task nice) e =
-      at_here cpu _ _
-      (told_alike answer_of_renice renices.Range (by cpu) (queue_at m cpu) (queue_at n cpu) _ _ (record { told = refl; alone = renice_alone }) (h.queues cpu) (renice_stays (queue_at m cpu) task nice) (renice_stays (queue_at n cpu) task nice)
-      ((there cpu).renice task nice))
+      told cpu answer_of_renice renices.Range _ _ (record { told = refl; alone = λ a is. grind arith }) (renice_stays (queue_at m cpu) task nice) (renice_stays (queue_at n cpu) task nice) ((there cpu).renice task nice)
   done_alike (Begin cpu task nice slice) e =
       at_here cpu _ _ (λ same. (ap (λ asleep. answer_of_begin (contains_key asleep task)) (sym (h.queues cpu).asleep), (there cpu).begin task nice slice))
   done_alike (End cpu task) e = ends cpu task (home_of homes task) (home_of homes task == cpu)
   done_alike (Set cpu task nice slice) e =
-      at_here cpu _ _
-      (told_alike answer_of_set sets.Range (by cpu) (queue_at m cpu) (queue_at n cpu) _ _ (record { told = refl; alone = set_alone }) (h.queues cpu) (set_stays (queue_at m cpu) task nice slice) (set_stays (queue_at n cpu) task nice slice)
-      ((there cpu).set task nice slice))
+      told cpu answer_of_set sets.Range _ _ (record { told = refl; alone = λ a is. grind arith }) (set_stays (queue_at m cpu) task nice slice) (set_stays (queue_at n cpu) task nice slice) ((there cpu).set task nice slice)
   done_alike (Rebase cpu) e = cc
 
 pub lowered_machine_answers_alike : LoweredQueueAnswersAlike → LoweredMachineAnswersAlike

@@ -1,19 +1,18 @@
 -- Turns, leavings and rebases of one CPU: whatever else is done, its runnable tasks are as these steps leave them.
-use Rattle.std.proofs.Common.{◌≡◌, ℕ, ◌<◌, Bool, true, false, cond, List, [], ◌∷◌, ◌++◌, length, map, set, slice_set, Option, Some, None, refl, sym, ap, ◌∙◌, subst, arith}
+use Rattle.std.proofs.Common.{◌≡◌, ℕ, ◌<◌, Bool, true, false, cond, List, [], ◌∷◌, ◌++◌, length, map, set, slice_set, Option, Some, None, refl, sym, ap, ◌∙◌, subst}
 use Rattle.std.specs.Prelude.{◌==◌, Result, Ok, Err}
-use Rattle.std.proofs.lemmas.{Bool.Decides.nat_tests, List.get_or-set_same}
 use Rattle.std.specs.FinMap.{get}
-use Rattle.eevdf_queue.specs.{declared.entry.Entry.Entry, Sums.Tasks, State.State, State.Contents, State.empty_state, Leaving.carried_running, Leaving.leave, Pick.after_pick, Tick.tick, Rebase.rebase}
+use Rattle.eevdf_queue.specs.{declared.entry.Entry.Entry, Sums.Tasks, State.State, State.Contents, Leaving.carried_running, Leaving.leave, Pick.after_pick, Tick.tick, Rebase.rebase}
 use Rattle.eevdf_ops.specs.{declared.deeds.Deed.Deed, declared.deeds.Answer.Answer, Machine.Machine, Machine.queue_at}
 use Rattle.eevdf_ops.specs.declared.deeds.Deed.TheVariants.{Tick, Pick, Yield, Sleep, Wake, Pull, Renice, Begin, End, Set, Rebase}
 use Rattle.eevdf_ops.specs.{Parts.after_leaving, Parts.answer_of_sleep, Parts.answer_of_end, WholeEnd.ending, Transfers.pulled, Whole.whole, Whole.lines_of, Whole.machine_after}
 use Rattle.eevdf_ops.specs.WholePull.{load_of, offer, decision}
-use Rattle.eevdf_ops.proofs.{LocalParts.whole-answer, MachinePlaces.other_queue, Pulling.refusals, WholePlaces.length-whole}
+use Rattle.eevdf_ops.proofs.{LocalParts.whole-answer, MapCounts.equal, MachinePlaces.other_queue, Pulling.refusals, WholePlaces.length-whole}
 use Rattle.eevdf_fairness.specs.{Turns.Turn, Turns.after_ticks, Turns.after_turn, Leavings.Step, Leavings.Takes, Leavings.Leaves, Leavings.Rebases, Leavings.after_steps, Leavings.HaveSameRunnable}
 use Rattle.eevdf_fairness.specs.OneCpuSteps.{Change, Picks, Ticks, Loses, Lowers, IsNoStep, change_of_sleep, change_of_end, change_of_pull, change_at, and_then, changes_at, after_ticks_of, leavings_last, changes_of}
 use Rattle.eevdf_fairness.specs.OneCpuSteps.{StepsOfOneCpu, OneCpuStaysFair, OneCpuJoinKeepsFair}
 use Rattle.eevdf_fairness.specs.{Leavings.IsStillFair, Leavings.LeavingsKeepFair, Joining.IsFairAfterJoin, Joining.JoinKeepsFair}
-use Rattle.eevdf_fairness.proofs.{RebasedAlike.rebased_alike, OneCpu.one_done, LeavingDeeds.alike, LeavingDeeds.of_same, LeavingDeeds.then, LeavingLater.leaves_later, LeavingDeeds.ticked, LeavingDeeds.picked, LeavingDeeds.left}
+use Rattle.eevdf_fairness.proofs.{RebasedAlike.rebased_alike, OwnDeeds.is_apart, OwnDeeds.queue_own, LeavingDeeds.alike, LeavingDeeds.of_same, LeavingDeeds.then, LeavingLater.leaves_later, LeavingDeeds.ticked, LeavingDeeds.picked, LeavingDeeds.left}
 use Rattle.eevdf_fairness.proofs.LeavingDeeds.{sleep_leaves, sleep_stays, left_by_sleep, end_leaves, end_stays, left_by_end, pull_leaves}
 
 -- ---- changes, and what they make of a queue
@@ -100,28 +99,20 @@ leavings_not_last (Lowers ∷ changes) these = (tt, leavings_not_last changes th
 leavings_not_last (IsNoStep ∷ changes) these = absurd these.0
 
 -- ---- what one deed changes
-is_here : (at cpu : ℕ) → (at == cpu) ≡ true → at ≡ cpu
-is_here at cpu is = grind (arith, nat_tests)
-
-is_apart : (at cpu : ℕ) → (at == cpu) ≡ false → cpu ≡ at → ⊥
-is_apart at cpu is same = grind (arith, nat_tests)
-
 module _ (homes : List ℕ) (m : Machine) (cpu : ℕ) (h : cpu < length m) where
   ticks_by : (at ns : ℕ) (b : Bool) → (at == cpu) ≡ b
       → HaveSameRunnable (queue_at (whole homes (Tick at ns) m).1 cpu) (changed_by (cond b (Some (Ticks ns)) None) (queue_at m cpu))
-  ticks_by at ns true is = of_same _ _ (one_done homes m cpu (Tick at ns) h (is_here at cpu is))
+  ticks_by at ns true is = of_same _ _ (queue_own homes cpu m (Tick at ns) h (equal at cpu is))
   ticks_by at ns false is = of_same _ _ (other_queue m at cpu ((tick (queue_at m at) ns).1) (is_apart at cpu is))
 
   picks_by : (at : ℕ) (b : Bool) → (at == cpu) ≡ b
       → HaveSameRunnable (queue_at (whole homes (Pick at) m).1 cpu) (changed_by (cond b (Some Picks) None) (queue_at m cpu))
-  picks_by at true is = of_same _ _ (one_done homes m cpu (Pick at) h (is_here at cpu is))
+  picks_by at true is = of_same _ _ (queue_own homes cpu m (Pick at) h (equal at cpu is))
   picks_by at false is = of_same _ _ (other_queue m at cpu (after_pick (queue_at m at)) (is_apart at cpu is))
 
   lowers_by : (at : ℕ) (b : Bool) → (at == cpu) ≡ b
       → HaveSameRunnable (queue_at (whole homes (Rebase at) m).1 cpu) (changed_by (cond b (Some Lowers) None) (queue_at m cpu))
-  lowers_by at true is =
-      of_same _ _ (subst (λ (c : ℕ). queue_at (whole homes (Rebase at) m).1 c ≡ (rebase (queue_at m c)).1) (is_here at cpu is)
-      (get_or-set_same m at (rebase (queue_at m at)).1 empty_state (subst (λ (c : ℕ). c < length m) (sym (is_here at cpu is)) h)))
+  lowers_by at true is = of_same _ _ (queue_own homes cpu m (Rebase at) h (equal at cpu is))
   lowers_by at false is = of_same _ _ (other_queue m at cpu (rebase (queue_at m at)).1 (is_apart at cpu is))
 
   -- a deed of which no step is made
@@ -130,40 +121,26 @@ module _ (homes : List ℕ) (m : Machine) (cpu : ℕ) (h : cpu < length m) where
   other_by at q true is steps = absurd steps
   other_by at q false is steps = of_same _ _ (other_queue m at cpu q (is_apart at cpu is))
 
+  -- ---- sleeps and ends
   sleep_changes : (q : State) (task : ℕ) (o : Option Contents) → carried_running q task ≡ o → after_leaving o q ≡ changed_by (change_of_sleep task (answer_of_sleep o)) q
   sleep_changes q task None is = refl
   sleep_changes q task (Some p) is = left_by_sleep q task p.lag (Some p) is refl
 
-  sleep_here : (task : ℕ) → HaveSameRunnable (queue_at (whole homes (Sleep cpu task) m).1 cpu) (changed_by (change_of_sleep task (whole homes (Sleep cpu task) m).0) (queue_at m cpu))
-  sleep_here task =
-      then _ _ _ (sleep_leaves homes m cpu task h)
-      (of_same _ _ (sleep_changes (queue_at m cpu) task (carried_running (queue_at m cpu) task) refl
-      ∙ ap (λ (a : Answer). changed_by (change_of_sleep task a) (queue_at m cpu)) (sym (whole-answer homes (Sleep cpu task) m))))
-
-  sleeps_by : (at task : ℕ) (b : Bool) → (at == cpu) ≡ b
-      → HaveSameRunnable (queue_at (whole homes (Sleep at task) m).1 cpu) (changed_by (cond b (change_of_sleep task (whole homes (Sleep at task) m).0) None) (queue_at m cpu))
-  sleeps_by at task true is =
-      subst (λ (a : ℕ). HaveSameRunnable (queue_at (whole homes (Sleep a task) m).1 cpu) (changed_by (change_of_sleep task (whole homes (Sleep a task) m).0) (queue_at m cpu)))
-      (sym (is_here at cpu is)) (sleep_here task)
-  sleeps_by at task false is = sleep_stays homes m at task cpu (is_apart at cpu is)
-
-  -- ---- ends
   end_changes : (q : State) (task : ℕ) (o : Option Contents) → ending q task ≡ o → after_leaving o q ≡ changed_by (change_of_end task (answer_of_end o)) q
   end_changes q task None is = refl
   end_changes q task (Some p) is = left_by_end q task (Some p) is refl
 
-  end_here : (task : ℕ) → HaveSameRunnable (queue_at (whole homes (End cpu task) m).1 cpu) (changed_by (change_of_end task (whole homes (End cpu task) m).0) (queue_at m cpu))
-  end_here task =
-      then _ _ _ (end_leaves homes m cpu task h)
-      (of_same _ _ (end_changes (queue_at m cpu) task (ending (queue_at m cpu) task) refl
-      ∙ ap (λ (a : Answer). changed_by (change_of_end task a) (queue_at m cpu)) (sym (whole-answer homes (End cpu task) m))))
-
-  ends_by : (at task : ℕ) (b : Bool) → (at == cpu) ≡ b
-      → HaveSameRunnable (queue_at (whole homes (End at task) m).1 cpu) (changed_by (cond b (change_of_end task (whole homes (End at task) m).0) None) (queue_at m cpu))
-  ends_by at task true is =
-      subst (λ (a : ℕ). HaveSameRunnable (queue_at (whole homes (End a task) m).1 cpu) (changed_by (change_of_end task (whole homes (End a task) m).0) (queue_at m cpu)))
-      (sym (is_here at cpu is)) (end_here task)
-  ends_by at task false is = end_stays homes m at task cpu (is_apart at cpu is)
+  -- a deed by which a task leaves its CPU
+  leaves_by : (deed : ℕ → Deed) (change : Answer → Option Change) (answer : Option Contents → Answer) (o : Option Contents) (at : ℕ) (b : Bool) → (at == cpu) ≡ b
+      → (whole homes (deed cpu) m).0 ≡ answer o → HaveSameRunnable (queue_at (whole homes (deed cpu) m).1 cpu) (after_leaving o (queue_at m cpu))
+      → after_leaving o (queue_at m cpu) ≡ changed_by (change (answer o)) (queue_at m cpu)
+      → ((cpu ≡ at → ⊥) → HaveSameRunnable (queue_at (whole homes (deed at) m).1 cpu) (queue_at m cpu))
+      → HaveSameRunnable (queue_at (whole homes (deed at) m).1 cpu) (changed_by (cond b (change (whole homes (deed at) m).0) None) (queue_at m cpu))
+  leaves_by deed change answer o at true is answers leaves changes stays =
+      subst (λ (a : ℕ). HaveSameRunnable (queue_at (whole homes (deed a) m).1 cpu) (changed_by (change (whole homes (deed a) m).0) (queue_at m cpu)))
+      (sym (equal at cpu is))
+      (then _ _ _ leaves (of_same _ _ (changes ∙ ap (λ (a : Answer). changed_by (change a) (queue_at m cpu)) (sym answers))))
+  leaves_by deed change answer o at false is answers leaves changes stays = stays (is_apart at cpu is)
 
   -- ---- pulls
   pull_changes : (q r : State) (d : Result Contents Answer) → decision q (load_of r) (offer r) ≡ d → (pulled d q r).1.1 ≡ changed_by (change_of_pull (pulled d q r).0) r
@@ -178,7 +155,7 @@ module _ (homes : List ℕ) (m : Machine) (cpu : ℕ) (h : cpu < length m) where
   pulls_by at source true c is at_source steps = absurd steps
   pulls_by at source false true is at_source steps =
       subst (λ (s : ℕ). HaveSameRunnable (queue_at (whole homes (Pull at s) m).1 cpu) (changed_by (change_of_pull (whole homes (Pull at s) m).0) (queue_at m cpu)))
-      (sym (is_here source cpu at_source))
+      (sym (equal source cpu at_source))
       (of_same _ _ (pull_leaves homes m at cpu h ∙ pull_changes (queue_at m at) (queue_at m cpu) (decision (queue_at m at) (load_of (queue_at m cpu)) (offer (queue_at m cpu))) refl))
   pulls_by at source false false is at_source steps =
       of_same _ _ (other_queue (set m at _) source cpu _ (is_apart source cpu at_source) ∙ other_queue m at cpu _ (is_apart at cpu is))
@@ -188,12 +165,16 @@ module _ (homes : List ℕ) (m : Machine) (cpu : ℕ) (h : cpu < length m) where
   one_change (Tick at ns) steps = ticks_by at ns (at == cpu) refl
   one_change (Pick at) steps = picks_by at (at == cpu) refl
   one_change (Yield at) steps = other_by at _ (at == cpu) refl steps
-  one_change (Sleep at task) steps = sleeps_by at task (at == cpu) refl
+  one_change (Sleep at task) steps =
+      leaves_by (λ (a : ℕ). Sleep a task) (change_of_sleep task) answer_of_sleep (carried_running (queue_at m cpu) task) at (at == cpu) refl
+      (whole-answer homes (Sleep cpu task) m) (sleep_leaves homes m cpu task h) (sleep_changes (queue_at m cpu) task _ refl) (sleep_stays homes m at task cpu)
   one_change (Wake at task sender) steps = other_by at _ (at == cpu) refl steps
   one_change (Pull at source) steps = pulls_by at source (at == cpu) (source == cpu) refl refl steps
   one_change (Renice at task nice) steps = other_by at _ (at == cpu) refl steps
   one_change (Begin at task nice slice) steps = other_by at _ (at == cpu) refl steps
-  one_change (End at task) steps = ends_by at task (at == cpu) refl
+  one_change (End at task) steps =
+      leaves_by (λ (a : ℕ). End a task) (change_of_end task) answer_of_end (ending (queue_at m cpu) task) at (at == cpu) refl
+      (whole-answer homes (End cpu task) m) (end_leaves homes m cpu task h) (end_changes (queue_at m cpu) task _ refl) (end_stays homes m at task cpu)
   one_change (Set at task nice slice) steps = other_by at _ (at == cpu) refl steps
   one_change (Rebase at) steps = lowers_by at (at == cpu) refl
 

@@ -14,7 +14,8 @@ use Rattle.eevdf_queue.proofs.Scaled.{sum_scaled}
 use Rattle.eevdf_fairness.specs.{Keeping.IsStillThere, Keeping.TurnsKeepTasks, Share.most_lost, Share.NoneLosesMore}
 use Rattle.eevdf_fairness.specs.Turns.{Turn, after_ticks, after_turn, after_turns}
 use Rattle.eevdf_fairness.specs.Tallies.{over_ticks, over_turns, if_charged, if_charged_to, remainder, remainder_of}
-use Rattle.eevdf_fairness.proofs.EntrySums.{sum_over, sum_insert, weight, moment, weights, moments}
+use Rattle.eevdf_ops.proofs.MapCounts.{equal}
+use Rattle.eevdf_fairness.proofs.EntrySums.{sum_over, sum_insert, weight, moment, weights, moments, the_same, same_weight}
 use Rattle.eevdf_fairness.proofs.Growing.{get_here, found_after}
 
 -- the entry that a task has now: it was charged for so much time, less what rounding took, in so many charges
@@ -102,20 +103,14 @@ charged_moment a b i x w y n h k l =
     let is : b *ℤ pos y ≡ (a *ℤ pos w) +ℤ pos (i * w) = ap (λ (m : ℕ). b *ℤ pos m) l ∙ ap (λ (z : ℤ). z *ℤ pos w) h ∙ sum_scaled a (pos i) w in
     omega (arith, ints, is, k)
 
-weight_kept : (m n w x : ℕ) (A B : ℤ) → A ≡ pos m → B ≡ pos n → A +ℤ pos w ≡ B +ℤ pos x → x ≡ w → m ≡ n
-weight_kept m n w x A B h k l e = omega (arith, ints, h, k, l, e)
-
 moment_grows : (A B S T a b : ℤ) (x n : ℕ) → A ≡ S → B ≡ T → A +ℤ a ≡ B +ℤ b → b +ℤ pos x ≡ a +ℤ pos (1024 * n) → S +ℤ pos x ≡ T +ℤ pos (1024 * n)
 moment_grows A B S T a b x n h k l e = omega (arith, ints, h, k, l, e)
 
 small : (x l most : ℕ) → x ≤ l * 1 → l ≤ most → x ≤ most * 1
 small x l most h k = omega (arith, h, k)
 
-same_number : (u x : ℕ) → (u == x) ≡ true → u ≡ x
-same_number u x h = grind (arith, nat_tests)
-
 lost_by : (ns w : ℕ) (b : Bool) → (w == 1024) ≡ b → 15 ≤ w → (ns * 1024) % w ≤ cond b 0 (w - 1) * 1
-lost_by ns w true is h = subst (λ (x : ℕ). (ns * 1024) % x ≤ 0 * 1) (sym (same_number w 1024 is)) (omega arith)
+lost_by ns w true is h = subst (λ (x : ℕ). (ns * 1024) % x ≤ 0 * 1) (sym (equal w 1024 is)) (omega arith)
 lost_by ns w false is h = remainder_below (ns * 1024) w h
 
 remainder_lost : (ns w : ℕ) → 15 ≤ w → (ns * 1024) % w ≤ most_lost w * 1
@@ -123,9 +118,6 @@ remainder_lost ns w h = lost_by ns w (w == 1024) refl h
 
 other_number : (u x : ℕ) → (u == x) ≡ false → eq_by_cmp nat_cmp x u ≡ false
 other_number u x h = grind (arith, nat_tests)
-
-same_entry : (a b : Entry) → Some a ≡ Some b → a ≡ b
-same_entry a b h = cc
 
 module _ (tasks : Tasks) (p : ℕ) (e : Entry) (ns : ℕ) (here : get tasks p ≡ Some e) where
   charged_runtime : (moment (charged e ns)) +ℤ pos ((ns * 1024) % weight_of e.nice) ≡ moment e +ℤ pos (1024 * ns)
@@ -150,8 +142,8 @@ module _ (tasks : Tasks) (p : ℕ) (e : Entry) (ns : ℕ) (here : get tasks p �
   served_by : (t : ℕ) (b : Bool) → (p == t) ≡ b → (g : Entry) → get tasks t ≡ Some g
       → IsServed g (cond b ns 0) (cond b ((ns * 1024) % weight_of e.nice) 0) (cond b 1 0) (get (insert tasks p (charged e ns)) t)
   served_by t true is g found =
-      let same : p ≡ t = same_number p t is in
-      let itself : e ≡ g = same_entry e g (sym here ∙ ap (get tasks) same ∙ found) in
+      let same : p ≡ t = equal p t is in
+      let itself : e ≡ g = the_same e g (sym here ∙ ap (get tasks) same ∙ found) in
       subst (λ (x : Entry). IsServed x ns ((ns * 1024) % weight_of e.nice) 1 (get (insert tasks p (charged e ns)) t)) itself
       (subst (λ (u : ℕ). IsServed e ns ((ns * 1024) % weight_of e.nice) 1 (get (insert tasks p (charged e ns)) u)) same served_itself)
   served_by t false is g found =
@@ -161,7 +153,7 @@ module _ (tasks : Tasks) (p : ℕ) (e : Entry) (ns : ℕ) (here : get tasks p �
   pub charge_passed : (t : ℕ) → HasPassed t tasks (insert tasks p (charged e ns)) ns ((ns * 1024) % weight_of e.nice) 1
       (cond (p == t) ns 0) (cond (p == t) ((ns * 1024) % weight_of e.nice) 0) (cond (p == t) 1 0)
   charge_passed t = record {
-    weight = weight_kept (total_weight (insert tasks p (charged e ns))) (total_weight tasks) (weight_of e.nice) (weight_of (charged e ns).nice)
+    weight = same_weight (total_weight (insert tasks p (charged e ns))) (total_weight tasks) (weight_of e.nice) (weight_of (charged e ns).nice)
         (sum_over weight (insert tasks p (charged e ns))) (sum_over weight tasks) (weights (insert tasks p (charged e ns))) (weights tasks)
         (sum_insert weight tasks p e (charged e ns) here) (ap weight_of (charged_fields e ns).1);
     count = len-insert nat_cmp_total tasks p (charged e ns) ∙ ap (λ (o : Option Entry). cond (is_some o) (len tasks) (len tasks + 1)) here;

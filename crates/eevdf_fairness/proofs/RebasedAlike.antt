@@ -1,35 +1,19 @@
 -- A rebase reads the runnable tasks alone, where there are any, and leaves who runs.
-use Rattle.std.proofs.Common.{◌≡◌, ℕ, ◌≤◌, ◌==◌, Bool, true, false, cond, Option, Some, None, refl, sym, ap, ◌∙◌, inl, inr, arith}
+use Rattle.std.proofs.Common.{◌≡◌, ◌==◌, Bool, true, false, cond, refl, sym, ap, ◌∙◌, inl, inr}
 use Rattle.std.specs.Prelude.{ℤ, pos, ◌⊎◌}
-use Rattle.std.specs.{Ordering.nat_cmp, Cmp.nat_cmp_total}
-use Rattle.std.specs.FinMap.{get, empty, same_map, nat_cmp-IsAntisymmetric, get-empty}
-use Rattle.std.proofs.lemmas.Bool.Decides.{nat_tests}
-use Rattle.eevdf_weight.specs.{Weight.weight_of, Placement.floor_div}
-use Rattle.eevdf_weight.proofs.Weighing.{weight_of-least}
-use Rattle.eevdf_queue.specs.{declared.entry.Entry.Entry, State.State, Rebase.lowered_tasks, Rebase.can_lower, Rebase.can_rebase, Rebase.rebased, Rebase.rebase}
+use Rattle.std.specs.FinMap.{empty}
+use Rattle.eevdf_weight.specs.{Placement.floor_div}
+use Rattle.eevdf_queue.specs.{State.State, Rebase.lowered_tasks, Rebase.can_lower, Rebase.can_rebase, Rebase.rebased, Rebase.rebase}
 use Rattle.eevdf_queue.specs.Sums.{Tasks, total_weight, total_moment, time_over, virtual_time}
+use Rattle.eevdf_queue.proofs.Mean.{no_tasks}
+use Rattle.eevdf_ops.proofs.MapCounts.{equal}
 use Rattle.eevdf_fairness.specs.Leavings.{HaveSameRunnable}
-use Rattle.eevdf_fairness.proofs.{EntrySums.no_heavier, LoweredAgain.none_lowered, Falling.rebase_running}
-
--- where the weight is 0 there is no task
-no_weight : (n : ℕ) → (n == 0) ≡ true → n ≡ 0
-no_weight n is = grind (arith, nat_tests)
-
-weightless : (w n : ℕ) → 15 ≤ w → w ≤ n → n ≡ 0 → ⊥
-weightless w n some least none = absurd (omega (arith, some, least, none))
-
-none_by : (tasks : Tasks) (t : ℕ) (o : Option Entry) → get tasks t ≡ o → total_weight tasks ≡ 0 → o ≡ None
-none_by tasks t None here none = refl
-none_by tasks t (Some e) here none = absurd (weightless (weight_of e.nice) (total_weight tasks) (weight_of-least e.nice) (no_heavier tasks t e here) none)
-
-nobody : (tasks : Tasks) → total_weight tasks ≡ 0 → tasks ≡ empty
-nobody tasks none =
-    same_map nat_cmp_total nat_cmp-IsAntisymmetric _ _ (λ t. none_by tasks t (get tasks t) refl none ∙ sym (get-empty nat_cmp t))
+use Rattle.eevdf_fairness.proofs.{LoweredAgain.none_lowered, Falling.rebase_running}
 
 -- the virtual time is that of the tasks, if there are any
 time_by : (tasks : Tasks) (base other : ℤ) (b : Bool) → (total_weight tasks == 0) ≡ b
     → (cond b base (floor_div (total_moment tasks) (total_weight tasks)) ≡ cond b other (floor_div (total_moment tasks) (total_weight tasks))) ⊎ (tasks ≡ empty)
-time_by tasks base other true is = inr (nobody tasks (no_weight (total_weight tasks) is))
+time_by tasks base other true is = inr (no_tasks tasks (equal (total_weight tasks) 0 is))
 time_by tasks base other false is = inl refl
 
 -- so what a rebase leaves is the same

@@ -1,25 +1,20 @@
 -- Histories that are the same but for rebases.
 use Rattle.std.proofs.Common.{◌≡◌, ℕ, ◌==◌, Bool, true, false, cond, not, List, [], ◌∷◌, map, set, refl, sym, ap, ◌∙◌, subst, arith}
 use Rattle.std.specs.Prelude.{ℤ, pos, ◌+ℤ◌, ◌-ℤ◌}
-use Rattle.std.proofs.{lemmas.Int.ints, lemmas.Bool.Decides.nat_tests, Math.ListN.length-set}
+use Rattle.std.proofs.{lemmas.Int.ints, Math.ListN.length-set}
 use Rattle.eevdf_queue.specs.{State.State, State.empty_state, Rebase.rebase}
 use Rattle.eevdf_queue.specs.LoweredQueues.{IsLower, RebasedIsLower}
 use Rattle.eevdf_ops.specs.{declared.deeds.Deed.Deed, declared.deeds.Answer.Answer, declared.deeds.Line.Line}
-use Rattle.eevdf_ops.specs.declared.deeds.Deed.TheVariants.{Tick, Pick, Yield, Sleep, Wake, Pull, Renice, Begin, End, Set, Rebase}
+use Rattle.eevdf_ops.specs.declared.deeds.Deed.TheVariants.{Rebase}
 use Rattle.eevdf_ops.specs.{Machine.Machine, Machine.queue_at, Programs.deeds_of, Whole.whole, Whole.lines_of, Whole.machine_after}
 use Rattle.eevdf_ops.specs.Histories.{machine_told}
-use Rattle.eevdf_ops.proofs.MachinePlaces.{other_queue}
+use Rattle.eevdf_ops.proofs.{MachinePlaces.other_queue, MapCounts.equal}
 use Rattle.eevdf_fairness.specs.LoweredMachines.{IsLowerMachine, is_rebase, LoweredMachineAnswersAlike, without_rebases, lines_without_rebases, is_range, ranges_in, AreOutTogether}
 use Rattle.eevdf_fairness.specs.LoweredMachines.{number_at, lowered_at, AreAlikeButForRebases, RebasesChangeNoAnswer, RebasesCanBeLeftOut, RebasedHistoriesAreAlike}
+use Rattle.eevdf_fairness.proofs.OwnDeeds.{is_apart}
 use Rattle.eevdf_fairness.proofs.LoweredAgain.{lower_same, lower_again, lower_back, lower_by, rebase_lowers, rebase_of_nobody, machine_same, machine_by, written}
 
 -- ---- a rebase of one machine
-is_at : (at cpu : ℕ) → (at == cpu) ≡ true → at ≡ cpu
-is_at at cpu is = grind (arith, nat_tests)
-
-is_apart : (at cpu : ℕ) → (at == cpu) ≡ false → cpu ≡ at → ⊥
-is_apart at cpu is same = grind (arith, nat_tests)
-
 -- the machine is lower by what the rebase answers
 module _ (lower : RebasedIsLower) (at : ℕ) (m : Machine) where
   there : IsLower ((rebase (queue_at m at)).0) (queue_at m at) (queue_at (set m at (rebase (queue_at m at)).1) at)
@@ -31,7 +26,7 @@ module _ (lower : RebasedIsLower) (at : ℕ) (m : Machine) where
   at_each : (cpu : ℕ) (b : Bool) → (at == cpu) ≡ b
       → IsLower (cond b (rebase (queue_at m at)).0 (pos 0)) (queue_at m cpu) (queue_at (set m at (rebase (queue_at m at)).1) cpu)
   at_each cpu true is =
-      subst (λ (c : ℕ). IsLower ((rebase (queue_at m at)).0) (queue_at m c) (queue_at (set m at (rebase (queue_at m at)).1) c)) (is_at at cpu is) there
+      subst (λ (c : ℕ). IsLower ((rebase (queue_at m at)).0) (queue_at m c) (queue_at (set m at (rebase (queue_at m at)).1) c)) (equal at cpu is) there
   at_each cpu false is =
       subst (λ (q : State). IsLower (pos 0) (queue_at m cpu) q) (sym (other_queue m at cpu (rebase (queue_at m at)).1 (is_apart at cpu is))) (lower_same (queue_at m cpu))
 
@@ -40,30 +35,12 @@ module _ (lower : RebasedIsLower) (at : ℕ) (m : Machine) where
 
 a_rebase : RebasedIsLower → (homes : List ℕ) (d : Deed) (m : Machine) → is_rebase d ≡ true
     → IsLowerMachine (λ (cpu : ℕ). number_at cpu d (whole homes d m).0) m (whole homes d m).1
-a_rebase lower homes (Tick cpu ns) m e = cc
-a_rebase lower homes (Pick cpu) m e = cc
-a_rebase lower homes (Yield cpu) m e = cc
-a_rebase lower homes (Sleep cpu task) m e = cc
-a_rebase lower homes (Wake cpu task sender) m e = cc
-a_rebase lower homes (Pull cpu source) m e = cc
-a_rebase lower homes (Renice cpu task nice) m e = cc
-a_rebase lower homes (Begin cpu task nice slice) m e = cc
-a_rebase lower homes (End cpu task) m e = cc
-a_rebase lower homes (Set cpu task nice slice) m e = cc
 a_rebase lower homes (Rebase cpu) m e = rebased_machine lower cpu m homes
+a_rebase lower homes deed m e = cc
 
 no_number : (cpu : ℕ) (d : Deed) (a : Answer) → is_rebase d ≡ false → number_at cpu d a ≡ pos 0
-no_number cpu (Tick at ns) a e = refl
-no_number cpu (Pick at) a e = refl
-no_number cpu (Yield at) a e = refl
-no_number cpu (Sleep at task) a e = refl
-no_number cpu (Wake at task sender) a e = refl
-no_number cpu (Pull at source) a e = refl
-no_number cpu (Renice at task nice) a e = refl
-no_number cpu (Begin at task nice slice) a e = refl
-no_number cpu (End at task) a e = refl
-no_number cpu (Set at task nice slice) a e = refl
 no_number cpu (Rebase at) a e = cc
+no_number cpu deed a e = refl
 
 -- the second machine goes on by a rebase, and the first
 machine_then : (by number : ℕ → ℤ) (m n o : Machine) → IsLowerMachine by m n → IsLowerMachine number n o → IsLowerMachine (λ (cpu : ℕ). by cpu +ℤ number cpu) m o

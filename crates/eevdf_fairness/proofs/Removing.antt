@@ -1,13 +1,14 @@
 -- The tasks without one of them, and with another: their number and their sums.
-use Rattle.std.proofs.Common.{◌≡◌, ℕ, ◌+◌, ◌-◌, ◌≤◌, suc, zero, Bool, true, false, cond, Option, Some, None, refl, sym, ap, ◌∙◌, arith}
+use Rattle.std.proofs.Common.{◌≡◌, ℕ, ◌+◌, ◌-◌, ◌≤◌, suc, zero, cond, Option, Some, None, refl, sym, ap, ◌∙◌, arith}
 use Rattle.std.specs.Prelude.{ℤ, pos, ◌+ℤ◌, ◌*ℤ◌, is_some}
-use Rattle.std.specs.{Ordering.nat_cmp, Ordering.eq_by_cmp, Cmp.nat_cmp_total}
-use Rattle.std.specs.FinMap.{get, insert, remove, len, get-empty, get-insert, get-remove, len-remove, empty_of_len, same_map, nat_cmp-IsAntisymmetric}
+use Rattle.std.specs.{Ordering.nat_cmp, Cmp.nat_cmp_total}
+use Rattle.std.specs.FinMap.{get, insert, remove, len, get-empty, len-remove, empty_of_len}
 use Rattle.std.proofs.lemmas.Int.{ints}
 use Rattle.eevdf_weight.specs.Weight.{weight_of}
 use Rattle.eevdf_queue.specs.{declared.entry.Entry.Entry, Sums.Tasks, Sums.total_weight, Sums.total_moment}
+use Rattle.eevdf_queue.proofs.Sound.{gone}
+use Rattle.eevdf_ops.proofs.Loads.{restored}
 use Rattle.eevdf_fairness.proofs.{EntrySums.sum_over, EntrySums.sum_added, EntrySums.weight, EntrySums.moment, EntrySums.weights, EntrySums.moments}
-use Rattle.eevdf_fairness.proofs.Growing.{same_number, itself}
 
 -- ---- one more
 one_weight : (m n w : ℕ) (A B : ℤ) → A ≡ pos m → B ≡ pos n → A ≡ B +ℤ pos w → m ≡ n + w
@@ -24,25 +25,14 @@ moment_added tasks t e none =
     sym (moments (insert tasks t e)) ∙ sum_added moment tasks t e none ∙ ap (λ (z : ℤ). z +ℤ moment e) (moments tasks)
 
 -- ---- one fewer
-pub none_removed : (tasks : Tasks) (t : ℕ) → get (remove tasks t) t ≡ None
-none_removed tasks t = get-remove nat_cmp_total tasks t t ∙ ap (λ (b : Bool). cond b None (get tasks t)) (itself t)
-
-pub put_back : (tasks : Tasks) (t : ℕ) (e : Entry) → get tasks t ≡ Some e → insert (remove tasks t) t e ≡ tasks
-put_back tasks t e here =
-    same_map nat_cmp_total nat_cmp-IsAntisymmetric _ _ (λ x. get-insert nat_cmp_total (remove tasks t) t e x ∙ by x (eq_by_cmp nat_cmp x t) refl)
-  where
-    by : (x : ℕ) (b : Bool) → eq_by_cmp nat_cmp x t ≡ b → cond b (Some e) (get (remove tasks t) x) ≡ get tasks x
-    by x true k = sym here ∙ ap (get tasks) (sym (same_number x t k))
-    by x false k = get-remove nat_cmp_total tasks t x ∙ ap (λ (b : Bool). cond b None (get tasks x)) k
-
 pub weight_removed : (tasks : Tasks) (t : ℕ) (e : Entry) → get tasks t ≡ Some e → total_weight tasks ≡ total_weight (remove tasks t) + weight_of e.nice
 weight_removed tasks t e here =
-    ap total_weight (sym (put_back tasks t e here)) ∙ weight_added (remove tasks t) t e (none_removed tasks t)
+    ap total_weight (sym (restored tasks t e here)) ∙ weight_added (remove tasks t) t e (gone tasks t)
 
 pub moment_removed : (tasks : Tasks) (t : ℕ) (e : Entry) → get tasks t ≡ Some e
     → total_moment tasks ≡ total_moment (remove tasks t) +ℤ (e.v *ℤ pos (weight_of e.nice))
 moment_removed tasks t e here =
-    ap total_moment (sym (put_back tasks t e here)) ∙ moment_added (remove tasks t) t e (none_removed tasks t)
+    ap total_moment (sym (restored tasks t e here)) ∙ moment_added (remove tasks t) t e (gone tasks t)
 
 pub one_fewer : (tasks : Tasks) (t : ℕ) (e : Entry) → get tasks t ≡ Some e → len (remove tasks t) ≡ len tasks - 1
 one_fewer tasks t e here =

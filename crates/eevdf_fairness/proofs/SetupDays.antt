@@ -3,16 +3,16 @@ use Rattle.std.proofs.Common.{◌≡◌, ℕ, zero, suc, ◌+◌, ◌<◌, ◌�
 use Rattle.std.specs.List.{AllByRecursion, list_all}
 use Rattle.std.specs.{Ordering.nat_cmp, Cmp.nat_cmp_total}
 use Rattle.std.specs.FinMap.{get, empty, contains_key, len, len-insert, len-empty, get-empty}
-use Rattle.std.proofs.Math.ListN.{length-replicate}
 use Rattle.eevdf_queue.specs.{declared.entry.Entry.Entry, State.State, State.Contents, State.empty_state, Moves.fresh_entry}
 use Rattle.eevdf_ops.specs.{declared.deeds.Deed.Deed, declared.deeds.Line.Line, declared.deeds.Answer.Answer}
-use Rattle.eevdf_ops.specs.declared.deeds.Answer.TheVariants.{Charged, Picked, Idle, Yielded, Slept, NotRunning, Woken, Awake, Pulled, Balanced, Nothing, Range, Reniced, NotHere, Begun, Ended, Set, Rebased}
-use Rattle.eevdf_ops.specs.{declared.task_spec.TaskSpec.TaskSpec, Setup.Setup, Setup.is_allowed, Setup.cpus_of, Setup.homes_of, Programs.deeds_of}
+use Rattle.eevdf_ops.specs.declared.deeds.Answer.TheVariants.{Range}
+use Rattle.eevdf_ops.specs.{declared.task_spec.TaskSpec.TaskSpec, Setup.is_allowed, Setup.cpus_of, Setup.homes_of, Programs.deeds_of}
 use Rattle.eevdf_ops.specs.Machine.{Machine, queue_at, joined, beginner, begin, begin_at_homes, start}
-use Rattle.eevdf_ops.proofs.{MachinePlaces.each-set, Machines.length-begin_at_homes}
+use Rattle.eevdf_ops.proofs.{MachinePlaces.each-set, Machines.length-begun}
 use Rattle.eevdf_fairness.specs.{Opening.OpeningIsFresh, MachineDays.MachinesStayInRange, MachineDays.NoneIsRange}
 use Rattle.eevdf_fairness.specs.SetupDays.{OpeningIsNear, SetupsStayInRange, DailyHistoriesAreAlike}
 use Rattle.eevdf_fairness.specs.LoweredMachines.{is_range, is_rebase, without_rebases, lines_without_rebases, ranges_in, RebasedHistoriesAreAlike}
+use Rattle.eevdf_fairness.proofs.Inequalities.{no_more}
 use Rattle.eevdf_fairness.proofs.Growing.{found_after}
 
 -- ---- how many tasks there are
@@ -75,9 +75,6 @@ short_begun n task (t ∷ ts) cpu short =
     (λ k. short_begun n (task + 1) ts k short.1) cpu
 
 -- ---- the opening, and a history from there
-not_more : (a b n : ℕ) → a ≤ b → b ≤ n → a ≤ n
-not_more a b n h k = omega (arith, h, k)
-
 pub opening_is_near : OpeningIsFresh → OpeningIsNear
 opening_is_near law s near cpu below =
     let here = near.near cpu below in
@@ -86,17 +83,14 @@ opening_is_near law s near cpu below =
       near = record {
         fresh = law s cpu here.time here.together;
         near = here.near;
-        few = not_more (len (queue_at (start s) cpu).runnable) (length s.tasks) 1024 (few_begun (cpus_of s) 0 s.tasks cpu) near.few;
+        few = no_more (len (queue_at (start s) cpu).runnable) (length s.tasks) 1024 (few_begun (cpus_of s) 0 s.tasks cpu) near.few;
         slices = short_begun (cpus_of s) 0 s.tasks cpu near.slices;
       };
     }
 
-cpus_at_start : (s : Setup) → length (start s) ≡ cpus_of s
-cpus_at_start s = length-begin_at_homes 0 s.tasks (replicate (cpus_of s) empty_state) ∙ length-replicate (cpus_of s) empty_state
-
 pub setups_stay_in_range : OpeningIsNear → MachinesStayInRange → SetupsStayInRange
 setups_stay_in_range opening law s lines near daily =
-    let cpus : length (start s) ≡ cpus_of s = cpus_at_start s in
+    let cpus : length (start s) ≡ cpus_of s = length-begun (cpus_of s) 0 s.tasks in
     law (homes_of s) (start s) lines daily.history
     (subst (λ (n : ℕ). list_all (is_allowed n (homes_of s)) (deeds_of lines) ≡ true) (sym cpus) daily.allowed)
     (λ cpu below. opening s near cpu (subst (λ (n : ℕ). cpu < n) cpus below))
@@ -105,24 +99,8 @@ setups_stay_in_range opening law s lines near daily =
 -- ---- two histories
 -- where nothing is out of range, it is so of each deed but rebases
 not_range : (a : Answer) → (a ≡ Range → ⊥) → is_range a ≡ false
-not_range (Charged task resched) fine = refl
-not_range (Picked task) fine = refl
-not_range Idle fine = refl
-not_range Yielded fine = refl
-not_range (Slept lag) fine = refl
-not_range NotRunning fine = refl
-not_range Woken fine = refl
-not_range Awake fine = refl
-not_range (Pulled task) fine = refl
-not_range Balanced fine = refl
-not_range Nothing fine = refl
 not_range Range fine = absurd (fine refl)
-not_range Reniced fine = refl
-not_range NotHere fine = refl
-not_range Begun fine = refl
-not_range Ended fine = refl
-not_range Set fine = refl
-not_range (Rebased by) fine = refl
+not_range answer fine = refl
 
 quiet_by : (l : Line) (lines : List Line) (b : Bool) → (l.answer ≡ Range → ⊥)
     → map (λ (x : Line). is_range x.answer) (lines_without_rebases lines) ≡ map (λ (d : Deed). false) (without_rebases (deeds_of lines))

@@ -9,8 +9,8 @@ use Rattle.eevdf_weight.proofs.Weighing.{weight_of-least}
 use Rattle.eevdf_queue.specs.{declared.entry.Entry.Entry, Sums.Tasks, Sums.total_weight, Sums.total_moment}
 use Rattle.eevdf_queue.specs.Pick.{Eligible, IsNoLater, is_eligible}
 use Rattle.eevdf_queue.proofs.Scaled.{sum_scaled, scaled_le}
-use Rattle.eevdf_fairness.proofs.Inequalities.{le_then}
-use Rattle.eevdf_fairness.proofs.EntrySums.{sum_over, sum_insert, weight, moment, weights, moments, no_heavier}
+use Rattle.eevdf_fairness.proofs.Inequalities.{le_then, no_more}
+use Rattle.eevdf_fairness.proofs.EntrySums.{same_weight, sum_over, sum_insert, weight, moment, weights, moments, no_heavier}
 use Rattle.eevdf_fairness.proofs.{Growing.Grown, Growing.found_after, Growing.found_at_after, Rules.Rule, Rules.IsWithin, Rules.IsLittleAhead, Rules.NoneIsPastBy}
 
 -- ---- who is picked isn't past a time that some task is due by
@@ -41,9 +41,6 @@ grown_moment : (a b : ℤ) (i w x : ℕ) → b ≡ a +ℤ pos i → x ≡ w → 
 grown_moment a b i w x h k =
     ap (λ (n : ℕ). b *ℤ pos n) k ∙ ap (λ (z : ℤ). z *ℤ pos w) h ∙ sum_scaled a (pos i) w
 
-same_weight : (m n w x : ℕ) (A B : ℤ) → A ≡ pos m → B ≡ pos n → A +ℤ pos w ≡ B +ℤ pos x → x ≡ w → m ≡ n
-same_weight m n w x A B h k l e = omega (arith, ints, h, k, l, e)
-
 same_moment : (A B S T a b : ℤ) (i : ℕ) → A ≡ S → B ≡ T → A +ℤ a ≡ B +ℤ b → b ≡ a +ℤ pos i → S ≡ T +ℤ pos i
 same_moment A B S T a b i h k l e = omega (arith, ints, h, k, l, e)
 
@@ -73,9 +70,6 @@ eligible v S W h = omega (arith, ints, h)
 little_charge : (i w m ns : ℕ) → 15 ≤ w → i * w ≤ 1024 * m → m ≤ ns → i ≤ charge_of ns w
 unfolding charge_of
 little_charge i w m ns some h l = le-div i (ns * 1024) w (omega arith) (omega arith)
-
-no_more : (a b c : ℕ) → a ≤ b → b ≤ c → a ≤ c
-no_more a b c h k = omega (arith, h, k)
 
 runner_past : (v u time : ℤ) (i c : ℕ) → v ≤ℤ time → u ≡ v +ℤ pos i → i ≤ c → u ≤ℤ (time +ℤ pos c)
 runner_past v u time i c h grown l = omega (arith, ints, h, grown, l)
