@@ -4,7 +4,7 @@ use Rattle.std.specs.Prelude.{ℤ, Ok, Err, is_some, nat_lt, ◌+◌, unwrap_or,
 use Rattle.std.specs.{Option.option_map, FinMap.contains_key}
 use Rattle.eevdf_weight.specs.Weight.{weight_of}
 use Rattle.eevdf_queue.specs.{declared.entry.Entry.Entry, State.State, State.Contents, Candidate.is_running, Candidate.candidate_of}
-use Rattle.eevdf_queue.specs.{Moves.sleeper_of, Moves.with_runnable, Placing.placed_entry, Placing.can_place, Placing.put, Attributes.without_lag}
+use Rattle.eevdf_queue.specs.{Moves.put_asleep, Moves.sleeper_of, Moves.with_runnable, Placing.placed_entry, Placing.can_place, Placing.put, Attributes.without_lag}
 use Rattle.eevdf_queue.specs.Leaving.{carried, carried_running, leave}
 use Rattle.eevdf_queue.specs.LoweredQueues.{IsLower, AnswerAlike, JoinAlike, LoweredQueueAnswersAlike, lowered_contents}
 use Rattle.eevdf_queue.specs.LoweredQueues as queues
@@ -86,43 +86,36 @@ module _ (alike : LoweredQueueAnswersAlike) (by : ℤ) (q r : State) (h : IsLowe
   offer_lower = ap (option_and_then (carried r)) answers.candidate ∙ offered (candidate_of q.runnable q.running)
 
   -- ---- sleeps and ends where the home is
-  slept_one : (o : Option Contents) → OneAlike by (slept_here o q) (slept_here (option_map (lowered_contents by) o) r)
-  slept_one None same = (refl, h)
-  slept_one (Some p) same = (refl, (alike by (leave q p.task) (leave r p.task) (answers.left p.task)).put_asleep p)
+  left_one : (f : Option Contents → State → Answer × State) (o low : Option Contents) → low ≡ option_map (lowered_contents by) o → OneAlike by (f None q) (f None r)
+      → ((p : Contents) → OneAlike by (f (Some p) q) (f (Some (lowered_contents by p)) r)) → OneAlike by (f o q) (f low r)
+  left_one f None low e none some = subst (λ (x : Option Contents). OneAlike by (f None q) (f x r)) (sym e) none
+  left_one f (Some p) low e none some = subst (λ (x : Option Contents). OneAlike by (f (Some p) q) (f x r)) (sym e) (some p)
 
-  ended_one : (o : Option Contents) → OneAlike by (ended_here o q) (ended_here (option_map (lowered_contents by) o) r)
-  ended_one None same = (refl, h)
-  ended_one (Some p) same = (refl, (alike by (leave q p.task) (leave r p.task) (answers.left p.task)).put_asleep p)
+  asleep_one : (p : Contents) → IsLower by (put_asleep (leave q p.task) p) (put_asleep (leave r p.task) (lowered_contents by p))
+  asleep_one p = (alike by (leave q p.task) (leave r p.task) (answers.left p.task)).put_asleep p
 
   sleep_one : (task : ℕ) → OneAlike by (slept_here (carried_running q task) q) (slept_here (carried_running r task) r)
-  sleep_one task =
-      subst (λ (o : Option Contents). OneAlike by (slept_here (carried_running q task) q) (slept_here o r)) (sym (running_lower task))
-      (slept_one (carried_running q task))
+  sleep_one task = left_one slept_here (carried_running q task) (carried_running r task) (running_lower task) (λ same. (refl, h)) (λ p same. (refl, asleep_one p))
 
   end_one : (task : ℕ) → OneAlike by (ended_here (ending q task) q) (ended_here (ending r task) r)
-  end_one task =
-      subst (λ (o : Option Contents). OneAlike by (ended_here (ending q task) q) (ended_here o r)) (sym (ending_lower task))
-      (ended_one (ending q task))
+  end_one task = left_one ended_here (ending q task) (ending r task) (ending_lower task) (λ same. (refl, h)) (λ p same. (refl, asleep_one p))
 
 -- ---- two queues
 module _ (alike : LoweredQueueAnswersAlike) (a b : ℤ) (q r s u : State) (h : IsLower a q r) (k : IsLower b s u) where
-  slept_two : (o : Option Contents) → TwoAlike a b (slept_away o q s) (slept_away (option_map (lowered_contents a) o) r u)
-  slept_two None same = (refl, (h, k))
-  slept_two (Some p) same = (refl, ((alike a q r h).left p.task, (alike b s u k).put_asleep p))
+  left_two : (f : Option Contents → State → State → Answer × (State × State)) (o low : Option Contents) → low ≡ option_map (lowered_contents a) o
+      → TwoAlike a b (f None q s) (f None r u) → ((p : Contents) → TwoAlike a b (f (Some p) q s) (f (Some (lowered_contents a p)) r u)) → TwoAlike a b (f o q s) (f low r u)
+  left_two f None low e none some = subst (λ (x : Option Contents). TwoAlike a b (f None q s) (f x r u)) (sym e) none
+  left_two f (Some p) low e none some = subst (λ (x : Option Contents). TwoAlike a b (f (Some p) q s) (f x r u)) (sym e) (some p)
 
-  ended_two : (o : Option Contents) → TwoAlike a b (ended_away o q s) (ended_away (option_map (lowered_contents a) o) r u)
-  ended_two None same = (refl, (h, k))
-  ended_two (Some p) same = (refl, ((alike a q r h).left p.task, (alike b s u k).put_asleep p))
+  moved_two : (p : Contents) → IsLower a (leave q p.task) (leave r p.task) × IsLower b (put_asleep s p) (put_asleep u (lowered_contents a p))
+  moved_two p = ((alike a q r h).left p.task, (alike b s u k).put_asleep p)
 
   sleep_two : (task : ℕ) → TwoAlike a b (slept_away (carried_running q task) q s) (slept_away (carried_running r task) r u)
   sleep_two task =
-      subst (λ (o : Option Contents). TwoAlike a b (slept_away (carried_running q task) q s) (slept_away o r u)) (sym (running_lower alike a q r h task))
-      (slept_two (carried_running q task))
+      left_two slept_away (carried_running q task) (carried_running r task) (running_lower alike a q r h task) (λ same. (refl, (h, k))) (λ p same. (refl, moved_two p))
 
   end_two : (task : ℕ) → TwoAlike a b (ended_away (ending q task) q s) (ended_away (ending r task) r u)
-  end_two task =
-      subst (λ (o : Option Contents). TwoAlike a b (ended_away (ending q task) q s) (ended_away o r u)) (sym (ending_lower alike a q r h task))
-      (ended_two (ending q task))
+  end_two task = left_two ended_away (ending q task) (ending r task) (ending_lower alike a q r h task) (λ same. (refl, (h, k))) (λ p same. (refl, moved_two p))
 
   -- ---- pulls
   here : (v : State) (task : ℕ) (o : Option Entry) → is_some (with_runnable v task o) ≡ is_some o
