@@ -6,6 +6,7 @@ use Rattle.std.specs.FinMap.{FinMap, remove, get, get-empty, get-remove, same_ma
 use Rattle.std.proofs.lemmas.Bool.Decides.{nat_tests}
 use Rattle.eevdf_queue.specs.{declared.entry.Entry.Entry, State.State, declared.sleeper.Sleeper.Sleeper, Numbers.number_limit, Numbers.checked_number}
 use Rattle.eevdf_queue.specs.{Kept.IsKept, Kept.AreApart, Kept.RunnerIsHere}
+use Rattle.eevdf_queue.proofs.Ascending.{numbered}
 use Rattle.eevdf_c.specs.Leaving.{carried_by, gone_by, end_with, end_by, ended_below, AreGone, IsEmptied}
 
 earlier : (t k : ℕ) → (t == k) ≡ false → t < k + 1 → t < k
@@ -52,14 +53,11 @@ module _ (q : State) (k : ℕ) (apart : AreApart q.runnable q.asleep) (gone : Ar
 gone_next : (q : State) (k : ℕ) → IsKept q → AreGone q k → AreGone (end_by q (Some k)).1 (k + 1)
 gone_next q k kept gone = step q k kept.sound.apart gone (get q.runnable k) (get q.asleep k) refl refl
 
-number_of : (n t : ℕ) → checked_number n ≡ Some t → t ≡ n
-number_of n t e = grind arith
-
 -- the same of a queue that a call has left so
 pub gone_after : (q after : State) (n t : ℕ) (number : Option ℕ) → number ≡ checked_number n → number ≡ Some t → after ≡ (end_by q (Some t)).1
     → IsKept q → AreGone q n → AreGone after (n + 1)
 gone_after q after n t number given is left kept gone =
-    let same : t ≡ n = number_of n t (sym given ∙ is) in
+    let same : t ≡ n = numbered n t (sym given ∙ is) in
     rw (left, same) (gone_next q n kept gone)
 
 none_of : {X : Type 0} (o : Option X) → ((x : X) → o ≡ Some x → ⊥) → o ≡ None

@@ -2,4 +2,3 @@ pub mod Steps
 mod Emptied
 mod Few
 mod TaskCodes
-mod Unchanged

@@ -14,7 +14,6 @@ use crate::opened::Opened;
 use eevdf_queue::{Block, Parcel, Queue, Refused, TaskId};
 
 /// Makes a task runnable that starts at a virtual runtime, with a fresh request, in a block that the caller gives.
-#[tactic(auto, using(crate::proofs::Unchanged::admit_in_keeps_queue, crate::proofs::Unchanged::admit_in_keeps_block))]
 pub fn admit_in(
     opened: &mut Opened,
     block: &mut GivenBlock,
@@ -80,7 +79,6 @@ fn admit_parcel_in(queue: &mut Queue, block: &mut Block, parcel: Parcel) -> i64
 }
 
 /// A task ends, runnable or asleep, and the caller gets a block back.
-#[tactic(auto, using(crate::proofs::Unchanged::end_out_keeps_queue, crate::proofs::Unchanged::end_out_keeps_block))]
 pub fn end_out(opened: &mut Opened, block: &mut GivenBlock, number: u64) -> i64
     ensures answer { result ≡ (blocks.end opened.old block.old number).answer }
     ensures queue { opened.new ≡ (blocks.end opened.old block.old number).queue }
@@ -114,7 +112,6 @@ fn end_task_out(queue: &mut Queue, block: &mut Block, task: TaskId) -> i64
 }
 
 /// The task of a hand ends, and the caller gets a block back.
-#[tactic(auto, using(crate::proofs::Unchanged::hand_end_out_keeps_hand, crate::proofs::Unchanged::hand_end_out_keeps_block))]
 pub fn hand_end_out(hand: &mut Hand, block: &mut GivenBlock) -> i64
     ensures answer { result ≡ (blocks.end_held hand.old block.old).answer }
     ensures hand { hand.new ≡ (blocks.end_held hand.old block.old).hand }

@@ -49,7 +49,6 @@ pub fn hand_close(hand: &mut Hand)
 }
 
 /// A task goes from a queue into an empty hand, with its lag.
-#[tactic(auto, using(crate::proofs::Unchanged::take_keeps_queue, crate::proofs::Unchanged::take_keeps_hand))]
 pub fn take(opened: &mut Opened, hand: &mut Hand, number: u64) -> i64
     ensures answer { result ≡ (hands.take opened.old hand.old number).answer }
     ensures queue { opened.new ≡ (hands.take opened.old hand.old number).queue }
@@ -73,7 +72,6 @@ pub fn take(opened: &mut Opened, hand: &mut Hand, number: u64) -> i64
 }
 
 /// The task of a hand becomes runnable, placed with its lag.
-#[tactic(auto, using(crate::proofs::Unchanged::put_keeps_queue, crate::proofs::Unchanged::put_keeps_hand))]
 pub fn put(opened: &mut Opened, hand: &mut Hand) -> i64
     ensures answer { result ≡ (hands.put opened.old hand.old).answer }
     ensures queue { opened.new ≡ (hands.put opened.old hand.old).queue }
@@ -94,7 +92,6 @@ pub fn put(opened: &mut Opened, hand: &mut Hand) -> i64
 }
 
 /// The task of a hand falls asleep, with its lag.
-#[tactic(auto, using(crate::proofs::Unchanged::put_asleep_keeps_queue, crate::proofs::Unchanged::put_asleep_keeps_hand))]
 pub fn put_asleep(opened: &mut Opened, hand: &mut Hand) -> i64
     ensures answer { result ≡ (hands.put_asleep opened.old hand.old).answer }
     ensures queue { opened.new ≡ (hands.put_asleep opened.old hand.old).queue }

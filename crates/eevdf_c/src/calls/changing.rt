@@ -17,7 +17,6 @@ use eevdf_queue::{ReniceAnswer, SetAnswer, TaskId, WakeAnswer};
 use eevdf_weight::{Nice, Slice};
 
 /// Makes a task runnable that sleeps here, with the lag that it kept.
-#[tactic(auto, using(crate::proofs::Unchanged::wake_keeps))]
 pub fn wake(opened: &mut Opened, number: u64) -> i64
     ensures answer { result ≡ (wakes.wake opened.old number).0 }
     ensures after { opened.new ≡ (wakes.wake opened.old number).1 }
@@ -42,7 +41,6 @@ fn wake_code(answer: WakeAnswer, is_runnable: bool) -> i64
 }
 
 /// Gives a runnable task another nice level.
-#[tactic(auto, using(crate::proofs::Unchanged::renice_keeps))]
 pub fn renice(opened: &mut Opened, number: u64, level: i64) -> i64
     ensures answer { result ≡ (renices.renice opened.old number level).0 }
     ensures after { opened.new ≡ (renices.renice opened.old number level).1 }
@@ -62,7 +60,6 @@ pub fn renice(opened: &mut Opened, number: u64, level: i64) -> i64
 }
 
 /// Gives a task another slice, runnable or asleep.
-#[tactic(auto, using(crate::proofs::Unchanged::set_slice_keeps))]
 pub fn set_slice(opened: &mut Opened, number: u64, slice_ns: u64) -> i64
     ensures answer { result ≡ (slices.set_slice opened.old number slice_ns).0 }
     ensures after { opened.new ≡ (slices.set_slice opened.old number slice_ns).1 }
@@ -82,7 +79,6 @@ pub fn set_slice(opened: &mut Opened, number: u64, slice_ns: u64) -> i64
 }
 
 /// Gives a task another nice level and slice, runnable or asleep.
-#[tactic(auto, using(crate::proofs::Unchanged::set_keeps))]
 pub fn set(opened: &mut Opened, number: u64, level: i64, slice_ns: u64) -> i64
     ensures answer { result ≡ (attributes.set opened.old number level slice_ns).0 }
     ensures after { opened.new ≡ (attributes.set opened.old number level slice_ns).1 }
@@ -105,7 +101,6 @@ pub fn set(opened: &mut Opened, number: u64, level: i64, slice_ns: u64) -> i64
 }
 
 /// Lets a task that sleeps here begin anew, with the lag 0.
-#[tactic(auto, using(crate::proofs::Unchanged::begin_keeps))]
 pub fn begin(opened: &mut Opened, number: u64, level: i64, slice_ns: u64) -> i64
     ensures answer { result ≡ (attributes.begin opened.old number level slice_ns).0 }
     ensures after { opened.new ≡ (attributes.begin opened.old number level slice_ns).1 }

@@ -46,7 +46,6 @@ fn end_number(queue: &mut Queue, number: u64)
 }
 
 /// Some task goes from a queue into an empty hand, with its lag.
-#[tactic(auto, using(crate::proofs::Unchanged::take_any_keeps_queue, crate::proofs::Unchanged::take_any_keeps_hand))]
 pub fn take_any(opened: &mut Opened, hand: &mut Hand) -> i64
     ensures answer { result ≡ (hands.take_any opened.old hand.old).answer }
     ensures queue { opened.new ≡ (hands.take_any opened.old hand.old).queue }

@@ -20,7 +20,6 @@ pub struct NewTask {
 }
 
 /// Makes a task runnable that starts at a virtual runtime, with a fresh request.
-#[tactic(auto, using(crate::proofs::Unchanged::admit_keeps))]
 pub fn admit(opened: &mut Opened, number: u64, level: i64, slice_ns: u64, start: i64) -> i64
     ensures answer { admits.IsAnswer
         (admits.admit opened.old number level slice_ns start).0 result }

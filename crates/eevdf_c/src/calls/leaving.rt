@@ -9,7 +9,6 @@ use crate::opened::Opened;
 use eevdf_queue::{Parcel, Queue, TaskId};
 
 /// The running task falls asleep, with the lag that it keeps.
-#[tactic(auto, using(crate::proofs::Unchanged::sleep_keeps))]
 pub fn sleep(opened: &mut Opened, number: u64) -> i64
     ensures answer { result ≡ (leaving.sleep opened.old number).0 }
     ensures after { opened.new ≡ (leaving.sleep opened.old number).1 }
@@ -35,7 +34,6 @@ fn sleep_task(queue: &mut Queue, task: TaskId) -> i64
 }
 
 /// A task ends, runnable or asleep.
-#[tactic(auto, using(crate::proofs::Unchanged::end_keeps))]
 pub fn end(opened: &mut Opened, number: u64) -> i64
     ensures answer { result ≡ (leaving.end opened.old number).0 }
     ensures after { opened.new ≡ (leaving.end opened.old number).1 }

@@ -26,7 +26,7 @@ pub fn task_or_absent(task: Option<TaskId>) -> i64
 }
 
 /// Lets the eligible task of earliest virtual deadline run.
-#[tactic(auto, using(crate::proofs::Unchanged::pick_keeps, crate::proofs::TaskCodes::absent_of_none, crate::proofs::TaskCodes::said_of_code))]
+#[tactic(auto, using(crate::proofs::TaskCodes::absent_of_none, crate::proofs::TaskCodes::said_of_code))]
 pub fn pick(opened: &mut Opened) -> i64
     ensures answer { result ≡ (turns.pick opened.old).0 }
     ensures after { opened.new ≡ (turns.pick opened.old).1 }
@@ -48,7 +48,6 @@ pub fn peek(opened: &Opened) -> i64
 }
 
 /// Lets nobody run.
-#[tactic(auto, using(crate::proofs::Unchanged::stop_keeps))]
 pub fn stop(opened: &mut Opened) -> i64
     ensures answer { result ≡ (turns.stop opened.old).0 }
     ensures after { opened.new ≡ (turns.stop opened.old).1 }
@@ -58,7 +57,6 @@ pub fn stop(opened: &mut Opened) -> i64
 }
 
 /// Charges the running task for `ns` nanoseconds.
-#[tactic(auto, using(crate::proofs::Unchanged::tick_keeps))]
 pub fn tick(opened: &mut Opened, ns: u64) -> i64
     ensures answer { result ≡ (ticks.tick opened.old ns).0 }
     ensures after { opened.new ≡ (ticks.tick opened.old ns).1 }
@@ -93,7 +91,6 @@ pub fn time_to_resched(opened: &Opened) -> i64
 }
 
 /// Makes the running task's deadline one request later.
-#[tactic(auto, using(crate::proofs::Unchanged::yield_keeps))]
 pub fn yield_now(opened: &mut Opened) -> i64
     ensures answer { result ≡ (yields.yield_now opened.old).0 }
     ensures after { opened.new ≡ (yields.yield_now opened.old).1 }
