@@ -1,8 +1,8 @@
 //! A machine of two CPUs, driven by orders from outside that may be wrong.
 
-use eevdf_ops::{Answer, CpuId, Deed, Setup, SetupFault, Solo, TaskSpec};
+use crate::machines::task_at;
+use eevdf_ops::{Answer, CpuId, Deed, Setup, SetupFault, Solo};
 use eevdf_queue::TaskId;
-use eevdf_weight::{Nice, Slice};
 use std::alloc::{AllocError, Global};
 
 /// What is asked for: CPU `cpu` runs its next task, or puts this task to sleep. No number has been tested.
@@ -44,13 +44,9 @@ fn deed_of(order: &Order) -> Option<Deed> {
 
 /// Two CPUs, with a task on each.
 pub fn two_cpus(alloc: Global) -> Result<Setup, SetupFault> {
-    let task = |home| TaskSpec {
-        home,
-        nice: Nice::new(0).unwrap(),
-        slice: Slice::new(3_000_000).unwrap(),
-        start: 0,
-        asleep: false,
-    };
-    let tasks = [task(CpuId::new(0).unwrap()), task(CpuId::new(1).unwrap())];
+    let tasks = [
+        task_at(CpuId::new(0).unwrap(), false),
+        task_at(CpuId::new(1).unwrap(), false),
+    ];
     Setup::make(alloc, &tasks, &[Vec::new(alloc), Vec::new(alloc)])
 }

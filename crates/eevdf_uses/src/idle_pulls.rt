@@ -3,12 +3,13 @@
 
 ghost use Rattle.std.specs.Prelude.{◌≡◌};
 
+use crate::machines::{empty_programs, task_at};
 use eevdf_fleet::endless::{Closed, Fleet, Kit, Seat, SeatTurn, run_turns};
 use eevdf_fleet::{Names, RunFault};
-use eevdf_ops::{Answer, CpuId, Op, Setup, SetupFault, TaskSpec};
+use eevdf_ops::{Answer, CpuId, Setup, SetupFault};
 use eevdf_queue::TaskId;
-use eevdf_weight::{Nice, Ns, Slice};
-use std::alloc::{AllocError, Global};
+use eevdf_weight::Ns;
+use std::alloc::Global;
 use std::ops::ControlFlow;
 use std::sync::Wait;
 use std::sync::atomic::{AtomicU64, Ordering};
@@ -102,7 +103,20 @@ fn sleep_and_ask<N: Names, R: Wait>(rt: &R, fleet: &Fleet<N>, seat: &mut Seat<N>
 pub fn pull_from_most_loaded<N: Names, R: Wait>(rt: &R, fleet: &Fleet<N>, seat: &mut Seat<N>)
     ensures { seat.new.cpu ≡ seat.old.cpu }
 {
-    if let Some(source) = most_loaded(rt, fleet, seat)
+    let source = most_loaded(rt, fleet, seat);
+    pull_from(rt, fleet, seat, source);
+}
+
+/// Pulls a task from a CPU, where there is such a CPU and it is another one.
+pub fn pull_from<N: Names, R: Wait>(
+    rt: &R,
+    fleet: &Fleet<N>,
+    seat: &mut Seat<N>,
+    source: Option<CpuId>,
+)
+    ensures { seat.new.cpu ≡ seat.old.cpu }
+{
+    if let Some(source) = source
         && fleet.has_cpu(source)
         && source != seat.cpu()
     {
@@ -145,24 +159,6 @@ pub fn until_end<R: Threads + Wait + Sync>(
 /// Four CPUs, of which the first has three tasks and the others none.
 pub fn three_at_one(alloc: Global) -> Result<Setup, SetupFault> {
     let programs = empty_programs(alloc, 4)?;
+    let task = || task_at(CpuId::new(0).unwrap(), false);
     Setup::make(alloc, &[task(), task(), task()], &programs)
-}
-
-/// A program without operations for each of so many CPUs: a fleet uses no programs.
-pub fn empty_programs(alloc: Global, cpus: usize) -> Result<Vec<Vec<Op>>, AllocError> {
-    let mut programs = Vec::new(alloc);
-    for _cpu in 0..cpus {
-        programs.push(Vec::new(alloc))?;
-    }
-    Ok(programs)
-}
-
-fn task() -> TaskSpec {
-    TaskSpec {
-        home: CpuId::new(0).unwrap(),
-        nice: Nice::new(0).unwrap(),
-        slice: Slice::new(3_000_000).unwrap(),
-        start: 0,
-        asleep: false,
-    }
 }

@@ -4,6 +4,7 @@
 mod checked_input;
 mod hundred_years;
 mod idle_pulls;
+mod machines;
 mod one_history;
 mod one_queue;
 mod own_order;
@@ -119,9 +120,7 @@ fn show_checked_input(rt: &(impl Print + AllocGlobal)) -> io::Result<()> {
         Order::Sleep { cpu: 1, task: 9 },
         Order::Run { cpu: 1 },
     ];
-    let Ok(setup) = two_cpus(rt.alloc()) else {
-        return Err(out_of_memory());
-    };
+    let setup = two_cpus(rt.alloc()).map_err(|_| out_of_memory())?;
     let answers = answers(rt.alloc(), &setup, &orders)?;
     print_answers(rt, &answers)
 }
@@ -138,9 +137,7 @@ fn print_answers(rt: &impl Print, answers: &[Option<Answer>]) -> io::Result<()> 
 
 fn show_own_order(rt: &(impl Print + AllocGlobal)) -> io::Result<()> {
     println!(rt; "own order")?;
-    let Ok(setup) = pull_and_picks(rt.alloc()) else {
-        return Err(out_of_memory());
-    };
+    let setup = pull_and_picks(rt.alloc()).map_err(|_| out_of_memory())?;
     match last_first(rt.alloc(), &setup, 100)? {
         Some(outcome) => print_lines(rt, outcome.history()),
         None => Ok(()),
@@ -156,15 +153,10 @@ fn print_lines(rt: &impl Print, lines: &[Line]) -> io::Result<()> {
 
 fn show_two_threads(rt: &(impl Print + AllocGlobal + Threads + Wait + Sync)) -> io::Result<()> {
     println!(rt; "two threads")?;
-    let Ok(setup) = two_cpus(rt.alloc()) else {
-        return Err(out_of_memory());
-    };
+    let setup = two_cpus(rt.alloc()).map_err(|_| out_of_memory())?;
     let sleeper = TaskId::new(1).unwrap();
-    match sleep_and_wake(rt, rt.alloc(), &setup, sleeper) {
-        Ok(closed) => print_closed(rt, &closed),
-        Err(RunFault::Memory) => Err(out_of_memory()),
-        Err(RunFault::Start) => Err(io::Error::from(io::ErrorKind::WouldBlock)),
-    }
+    let closed = sleep_and_wake(rt, rt.alloc(), &setup, sleeper).map_err(no_run)?;
+    print_closed(rt, &closed)
 }
 
 /// Prints what is the same in whatever order the threads come: the lines of CPU 0, and how many requests there were.
@@ -188,14 +180,9 @@ fn print_closed(rt: &impl Print, closed: &Closed) -> io::Result<()> {
 
 fn show_idle_pulls(rt: &(impl Print + AllocGlobal + Threads + Wait + Sync)) -> io::Result<()> {
     println!(rt; "idle pulls")?;
-    let Ok(setup) = three_at_one(rt.alloc()) else {
-        return Err(out_of_memory());
-    };
-    match until_end(rt, rt.alloc(), &setup, 1000) {
-        Ok(closed) => print_places(rt, &closed),
-        Err(RunFault::Memory) => Err(out_of_memory()),
-        Err(RunFault::Start) => Err(io::Error::from(io::ErrorKind::WouldBlock)),
-    }
+    let setup = three_at_one(rt.alloc()).map_err(|_| out_of_memory())?;
+    let closed = until_end(rt, rt.alloc(), &setup, 1000).map_err(no_run)?;
+    print_places(rt, &closed)
 }
 
 /// Prints what is the same in whatever order the threads come: how many tasks stand on how many CPUs.
@@ -215,39 +202,22 @@ fn print_places(rt: &impl Print, closed: &endless::Closed) -> io::Result<()> {
 
 fn show_one_history(rt: &(impl Print + AllocGlobal + Threads + Wait + Sync)) -> io::Result<()> {
     println!(rt; "one history")?;
-    let Ok(setup) = three_at_one(rt.alloc()) else {
-        return Err(out_of_memory());
-    };
-    match tell_picks(rt, rt.alloc(), &setup, PICKS_TOLD) {
-        Ok(()) => println!(rt; "{PICKS_TOLD} picks told to other CPUs"),
-        Err(RunFault::Memory) => Err(out_of_memory()),
-        Err(RunFault::Start) => Err(io::Error::from(io::ErrorKind::WouldBlock)),
-    }
+    let setup = three_at_one(rt.alloc()).map_err(|_| out_of_memory())?;
+    tell_picks(rt, rt.alloc(), &setup, PICKS_TOLD).map_err(no_run)?;
+    println!(rt; "{PICKS_TOLD} picks told to other CPUs")
 }
 
 fn show_park(rt: &(impl Print + AllocGlobal + Threads + Wait + Sync)) -> io::Result<()> {
     println!(rt; "park")?;
-    let Ok(setup) = four_cpus(rt.alloc()) else {
-        return Err(out_of_memory());
-    };
-    match units_taken(rt, rt.alloc(), &setup) {
-        Ok((taken, put)) => println!(rt; "{taken} of {put} units taken")?,
-        Err(RunFault::Memory) => return Err(out_of_memory()),
-        Err(RunFault::Start) => return Err(io::Error::from(io::ErrorKind::WouldBlock)),
-    }
-    Ok(())
+    let setup = four_cpus(rt.alloc()).map_err(|_| out_of_memory())?;
+    let (taken, put) = units_taken(rt, rt.alloc(), &setup).map_err(no_run)?;
+    println!(rt; "{taken} of {put} units taken")
 }
 
 fn show_pool(rt: &(impl Print + AllocGlobal + Threads + Wait + Sync)) -> io::Result<()> {
     println!(rt; "pool of work")?;
-    let Ok(setup) = four_pool_cpus(rt.alloc()) else {
-        return Err(out_of_memory());
-    };
-    let count = match served(rt, rt.alloc(), &setup) {
-        Ok(count) => count,
-        Err(RunFault::Memory) => return Err(out_of_memory()),
-        Err(RunFault::Start) => return Err(io::Error::from(io::ErrorKind::WouldBlock)),
-    };
+    let setup = four_pool_cpus(rt.alloc()).map_err(|_| out_of_memory())?;
+    let count = served(rt, rt.alloc(), &setup).map_err(no_run)?;
     println!(rt; "{} of {} requests came", count.came, count.requests)?;
     println!(rt;
         "{} of their tasks have ended or stand in a queue",
@@ -257,6 +227,14 @@ fn show_pool(rt: &(impl Print + AllocGlobal + Threads + Wait + Sync)) -> io::Res
         "{} of {} numbers are free or in use",
         count.kept, count.numbers
     )
+}
+
+/// Why threads did no run.
+fn no_run(fault: RunFault) -> io::Error {
+    match fault {
+        RunFault::Memory => out_of_memory(),
+        RunFault::Start => io::Error::from(io::ErrorKind::WouldBlock),
+    }
 }
 
 /// Of the setups of these programs nothing but memory can be refused.

@@ -1,8 +1,8 @@
 //! A player whose callers are stepped by a rule of one's own: the last caller that can take its step goes first.
 
-use eevdf_ops::{CpuId, Op, Outcome, Setup, SetupFault, TaskSpec};
+use crate::machines::task_at;
+use eevdf_ops::{CpuId, Op, Outcome, Setup, SetupFault};
 use eevdf_steps::Player;
-use eevdf_weight::{Nice, Slice};
 use std::alloc::{AllocError, Global};
 
 /// Plays the programs of a setup, in at most so many steps. `None` where these didn't suffice.
@@ -34,19 +34,10 @@ fn step_last(player: &mut Player, callers: usize) -> bool {
 pub fn pull_and_picks(alloc: Global) -> Result<Setup, SetupFault> {
     let picks = program(alloc, &[Op::Pick])?;
     let pulls = program(alloc, &[Op::Pull(CpuId::new(0).unwrap()), Op::Pick])?;
+    let task = || task_at(CpuId::new(0).unwrap(), false);
     Setup::make(alloc, &[task(), task(), task()], &[picks, pulls])
 }
 
 fn program(alloc: Global, operations: &[Op]) -> Result<Vec<Op>, SetupFault> {
     Ok(Vec::from_slice(alloc, operations)?)
-}
-
-fn task() -> TaskSpec {
-    TaskSpec {
-        home: CpuId::new(0).unwrap(),
-        nice: Nice::new(0).unwrap(),
-        slice: Slice::new(3_000_000).unwrap(),
-        start: 0,
-        asleep: false,
-    }
 }

@@ -15,18 +15,18 @@ ghost use Rattle.std.specs.Prelude.{◌≡◌, true};
 ghost use Rattle.eevdf_ops.specs.Setup.{homes_of, is_task};
 ghost use Rattle.eevdf_fleet.specs.Fleets.{setup_of};
 
-use crate::idle_pulls::empty_programs;
-use crate::start_line::StartLine;
-use eevdf_fleet::endless::{Fleet, Kit, Seat, SeatTurn, run_turns};
+use crate::idle_pulls::pull_from;
+use crate::machines::{empty_programs, task_at};
+use crate::start_line::{Running, StartLine, Work, let_others_run};
+use eevdf_fleet::endless::{Kit, Seat, run_turns};
 use eevdf_fleet::{DrainedWake, Names, RunFault};
 use eevdf_ops::{Answer, CpuId, Setup, SetupFault, TaskSpec};
 use eevdf_queue::TaskId;
-use eevdf_weight::{Nice, Ns, Slice};
+use eevdf_weight::Ns;
 use std::alloc::{AllocError, Global};
-use std::ops::ControlFlow;
 use std::sync::atomic::{AtomicBool, AtomicU64, Ordering};
 use std::sync::{Mutex, Wait};
-use std::thread::{self, Threads};
+use std::thread::Threads;
 
 /// How many tasks there are.
 const TASKS: u64 = 8;
@@ -36,9 +36,6 @@ const UNITS: u64 = 2_000;
 
 /// After so many turns without a unit that was taken the CPUs give up.
 const PATIENCE: u64 = 1_000_000;
-
-/// Once in so many turns a CPU lets the others run: there may be fewer processors than threads.
-const TURNS_TO_YIELD: u64 = 64;
 
 /// What the threads share of a task.
 #[derive(Drop)]
@@ -58,14 +55,11 @@ struct OnCpu {
     /// The task that works, and for how many turns more. Meanwhile the next unit is put down, and its wake comes too early.
     worker: Option<TaskId>,
     turns_left: u64,
-    /// How many turns it has had, with those in which it waited for the other CPUs to start.
-    all_turns: u64,
 }
 
 /// The turns of CPUs whose tasks park, and what the threads share.
 #[derive(Drop)]
 pub struct Parking {
-    start_line: StartLine,
     tasks: Vec<Parked>,
     /// What each CPU has of its own. No other CPU takes its lock.
     on_cpus: Vec<Mutex<OnCpu>>,
@@ -74,33 +68,20 @@ pub struct Parking {
     turns: AtomicU64,
 }
 
-impl SeatTurn for Parking {
-    fn turn<N: Names, R: Wait>(
-        &self,
-        rt: &R,
-        fleet: &Fleet<N>,
-        seat: &mut Seat<N>,
-    ) -> ControlFlow<()> {
-        let Some(own) = self.on_cpus.get(seat.cpu().index()) else {
-            return ControlFlow::Break(());
+impl Work for Parking {
+    fn turn<N: Names, R: Wait>(running: &Running<'_, Parking, N, R>, seat: &mut Seat<N>) -> bool {
+        let parking = running.work;
+        let Some(own) = parking.on_cpus.get(seat.cpu().index()) else {
+            return false;
         };
-        let mut own = own.lock(rt);
-        if let Some(flow) = self.start_line.wait(&mut own.all_turns) {
-            return flow;
-        }
-        self.settle_next(rt, fleet, seat, &mut own.wakes);
-        self.put_unit_down(fleet, seat, seat.cpu().get());
-        self.put_unit_down(fleet, seat, seat.cpu().get() + 4);
-        self.work(rt, fleet, seat, &mut own);
-        let turns = self.turns.fetch_add(1, Ordering::SeqCst);
-        if turns % TURNS_TO_YIELD == 0 {
-            thread::yield_now();
-        }
-        if self.taken.load(Ordering::SeqCst) < TASKS * UNITS && turns < PATIENCE {
-            ControlFlow::Continue(())
-        } else {
-            ControlFlow::Break(())
-        }
+        let mut own = own.lock(running.rt);
+        running.settle_next(seat, &mut own.wakes);
+        running.put_unit_down(seat, seat.cpu().get());
+        running.put_unit_down(seat, seat.cpu().get() + 4);
+        running.work_on(seat, &mut own);
+        let turns = parking.turns.fetch_add(1, Ordering::SeqCst);
+        let_others_run(turns);
+        parking.taken.load(Ordering::SeqCst) < TASKS * UNITS && turns < PATIENCE
     }
 }
 
@@ -120,11 +101,9 @@ impl Parking {
                 wakes: Vec::with_capacity(alloc, cpus)?,
                 worker: None,
                 turns_left: 0,
-                all_turns: 0,
             }))?;
         }
         Ok(Parking {
-            start_line: StartLine::new(cpus as u64),
             tasks,
             on_cpus,
             taken: AtomicU64::new(0),
@@ -132,73 +111,11 @@ impl Parking {
         })
     }
 
-    /// Leaves a token for the next of the drained wakes, where it wasn't answered `Woken`; or drains, where no wake is left.
-    fn settle_next<N: Names, R: Wait>(
-        &self,
-        rt: &R,
-        fleet: &Fleet<N>,
-        seat: &mut Seat<N>,
-        wakes: &mut Vec<DrainedWake>,
-    )
-        ensures { seat.new.cpu ≡ seat.old.cpu }
-    {
-        match wakes.pop() {
-            Some(wake) if wake.answer != Answer::Woken => {
-                self.leave_token(rt, fleet, seat, wake.task);
-            }
-            Some(_) => (),
-            None => drain(rt, fleet, seat, wakes),
-        }
-    }
-
-    /// Leaves a token for a task of this home. If the task sleeps here by now, its park may have looked for the token too early.
-    fn leave_token<N: Names, R: Wait>(
-        &self,
-        rt: &R,
-        fleet: &Fleet<N>,
-        seat: &mut Seat<N>,
-        task: TaskId,
-    )
-        ensures { seat.new.cpu ≡ seat.old.cpu }
-    {
-        if let Some(parked) = self.tasks.get(task.index()) {
-            parked.token.store(true, Ordering::SeqCst);
-        }
-        if sleeps_here(rt, fleet, seat, task) && self.take_token(task) {
-            unpark(fleet, seat, task);
-        }
-    }
-
-    /// Parks the task that runs: it sleeps until it is unparked, unless there is a token. A park may also end without an unpark.
-    fn park<N: Names, R: Wait>(&self, rt: &R, fleet: &Fleet<N>, seat: &mut Seat<N>, task: TaskId)
-        ensures { seat.new.cpu ≡ seat.old.cpu }
-    {
-        if self.take_token(task) || !fleet.has_task(task) {
-            return;
-        }
-        let _ = fleet.sleep(rt, seat, task);
-        if self.take_token(task) {
-            unpark(fleet, seat, task);
-        }
-    }
-
     /// Takes a task's token, and says whether there was one.
     fn take_token(&self, task: TaskId) -> bool {
         match self.tasks.get(task.index()) {
             Some(parked) => parked.token.swap(false, Ordering::SeqCst),
             None => false,
-        }
-    }
-
-    /// Puts a unit of work down for a task, where that has taken all that it was given before, and unparks the task. So each unpark
-    /// counts: without it the task would sleep for good. Each task is given its units by one CPU.
-    fn put_unit_down<N: Names>(&self, fleet: &Fleet<N>, seat: &mut Seat<N>, number: u64)
-        ensures { seat.new.cpu ≡ seat.old.cpu }
-    {
-        if let Some(task) = TaskId::new(number)
-            && self.puts_down(task)
-        {
-            unpark(fleet, seat, task);
         }
     }
 
@@ -215,42 +132,6 @@ impl Parking {
         is_next
     }
 
-    /// Lets the task that works go on, and park in the end. Where none does, the next one takes what was put down for it.
-    fn work<N: Names, R: Wait>(&self, rt: &R, fleet: &Fleet<N>, seat: &mut Seat<N>, own: &mut OnCpu)
-        ensures { seat.new.cpu ≡ seat.old.cpu }
-    {
-        match own.worker {
-            None => {
-                own.worker = self.start_next(rt, fleet, seat);
-                own.turns_left = 3;
-            }
-            Some(_) if own.turns_left > 0 => own.turns_left -= 1,
-            Some(task) => {
-                own.worker = None;
-                let _ = fleet.tick(rt, seat, Ns::new(1_000).unwrap());
-                self.park(rt, fleet, seat, task);
-            }
-        }
-    }
-
-    /// Picks a task, which takes what was put down for it. Where none is runnable one is pulled.
-    fn start_next<N: Names, R: Wait>(
-        &self,
-        rt: &R,
-        fleet: &Fleet<N>,
-        seat: &mut Seat<N>,
-    ) -> Option<TaskId>
-        ensures { seat.new.cpu ≡ seat.old.cpu }
-    {
-        let Answer::Picked(task) = fleet.pick(rt, seat) else {
-            let turns = self.turns.load(Ordering::SeqCst);
-            pull_from(rt, fleet, seat, turns % 4);
-            return None;
-        };
-        self.take_units(task);
-        Some(task)
-    }
-
     /// Takes all that was put down for a task, and counts it.
     fn take_units(&self, task: TaskId) {
         if let Some(parked) = self.tasks.get(task.index()) {
@@ -264,53 +145,112 @@ impl Parking {
     }
 }
 
-/// Takes the requests that were posted to the CPU, and lists the wakes.
-fn drain<N: Names, R: Wait>(
-    rt: &R,
-    fleet: &Fleet<N>,
-    seat: &mut Seat<N>,
-    wakes: &mut Vec<DrainedWake>,
-)
-    ensures { seat.new.cpu ≡ seat.old.cpu }
-{
-    wakes.clear();
-    if fleet.cpus() <= wakes.capacity() {
-        let _ = fleet.drain_into(rt, seat, wakes);
-    }
-}
-
-/// Posts a request to wake a task. There are never more requests than units: each is posted for a unit, or for a token that one left. So
-/// in rings with room for all units none is refused.
-fn unpark<N: Names>(fleet: &Fleet<N>, seat: &mut Seat<N>, task: TaskId)
-    ensures { seat.new.cpu ≡ seat.old.cpu }
-{
-    if fleet.has_task(task) {
-        let _ = seat.post(task);
-    }
-}
-
-/// Whether a task sleeps on this CPU.
-fn sleeps_here<N: Names, R: Wait>(
-    rt: &R,
-    fleet: &Fleet<N>,
-    seat: &mut Seat<N>,
-    task: TaskId,
-) -> bool
-    ensures { seat.new.cpu ≡ seat.old.cpu }
-{
-    let cpu = seat.cpu();
-    fleet.look(rt, seat, cpu).queue().asleep(task)
-}
-
-/// Pulls a task from a CPU, where that is another one.
-fn pull_from<N: Names, R: Wait>(rt: &R, fleet: &Fleet<N>, seat: &mut Seat<N>, number: u64)
-    ensures { seat.new.cpu ≡ seat.old.cpu }
-{
-    if let Some(source) = CpuId::new(number)
-        && fleet.has_cpu(source)
-        && source != seat.cpu()
+impl<'a, N: Names, R: Wait> Running<'a, Parking, N, R> {
+    /// Leaves a token for the next of the drained wakes, where it wasn't answered `Woken`; or drains, where no wake is left.
+    fn settle_next(&self, seat: &mut Seat<N>, wakes: &mut Vec<DrainedWake>)
+        ensures { seat.new.cpu ≡ seat.old.cpu }
     {
-        let _ = fleet.pull(rt, seat, source);
+        match wakes.pop() {
+            Some(wake) if wake.answer != Answer::Woken => self.leave_token(seat, wake.task),
+            Some(_) => (),
+            None => self.drain(seat, wakes),
+        }
+    }
+
+    /// Takes the requests that were posted to the CPU, and lists the wakes.
+    fn drain(&self, seat: &mut Seat<N>, wakes: &mut Vec<DrainedWake>)
+        ensures { seat.new.cpu ≡ seat.old.cpu }
+    {
+        wakes.clear();
+        if self.fleet.cpus() <= wakes.capacity() {
+            let _ = self.fleet.drain_into(self.rt, seat, wakes);
+        }
+    }
+
+    /// Leaves a token for a task of this home. If the task sleeps here by now, its park may have looked for the token too early.
+    fn leave_token(&self, seat: &mut Seat<N>, task: TaskId)
+        ensures { seat.new.cpu ≡ seat.old.cpu }
+    {
+        if let Some(parked) = self.work.tasks.get(task.index()) {
+            parked.token.store(true, Ordering::SeqCst);
+        }
+        if self.sleeps_here(seat, task) && self.work.take_token(task) {
+            self.unpark(seat, task);
+        }
+    }
+
+    /// Whether a task sleeps on this CPU.
+    fn sleeps_here(&self, seat: &mut Seat<N>, task: TaskId) -> bool
+        ensures { seat.new.cpu ≡ seat.old.cpu }
+    {
+        let cpu = seat.cpu();
+        self.fleet.look(self.rt, seat, cpu).queue().asleep(task)
+    }
+
+    /// Parks the task that runs: it sleeps until it is unparked, unless there is a token. A park may also end without an unpark.
+    fn park(&self, seat: &mut Seat<N>, task: TaskId)
+        ensures { seat.new.cpu ≡ seat.old.cpu }
+    {
+        if self.work.take_token(task) || !self.fleet.has_task(task) {
+            return;
+        }
+        let _ = self.fleet.sleep(self.rt, seat, task);
+        if self.work.take_token(task) {
+            self.unpark(seat, task);
+        }
+    }
+
+    /// Posts a request to wake a task. There are never more requests than units: each is posted for a unit, or for a token that one left.
+    /// So in rings with room for all units none is refused.
+    fn unpark(&self, seat: &mut Seat<N>, task: TaskId)
+        ensures { seat.new.cpu ≡ seat.old.cpu }
+    {
+        if self.fleet.has_task(task) {
+            let _ = seat.post(task);
+        }
+    }
+
+    /// Puts a unit of work down for a task, where that has taken all that it was given before, and unparks the task. So each unpark
+    /// counts: without it the task would sleep for good. Each task is given its units by one CPU.
+    fn put_unit_down(&self, seat: &mut Seat<N>, number: u64)
+        ensures { seat.new.cpu ≡ seat.old.cpu }
+    {
+        if let Some(task) = TaskId::new(number)
+            && self.work.puts_down(task)
+        {
+            self.unpark(seat, task);
+        }
+    }
+
+    /// Lets the task that works go on, and park in the end. Where none does, the next one takes what was put down for it.
+    fn work_on(&self, seat: &mut Seat<N>, own: &mut OnCpu)
+        ensures { seat.new.cpu ≡ seat.old.cpu }
+    {
+        match own.worker {
+            None => {
+                own.worker = self.start_next(seat);
+                own.turns_left = 3;
+            }
+            Some(_) if own.turns_left > 0 => own.turns_left -= 1,
+            Some(task) => {
+                own.worker = None;
+                let _ = self.fleet.tick(self.rt, seat, Ns::new(1_000).unwrap());
+                self.park(seat, task);
+            }
+        }
+    }
+
+    /// Picks a task, which takes what was put down for it. Where none is runnable one is pulled.
+    fn start_next(&self, seat: &mut Seat<N>) -> Option<TaskId>
+        ensures { seat.new.cpu ≡ seat.old.cpu }
+    {
+        let Answer::Picked(task) = self.fleet.pick(self.rt, seat) else {
+            let turns = self.work.turns.load(Ordering::SeqCst);
+            pull_from(self.rt, self.fleet, seat, CpuId::new(turns % 4));
+            return None;
+        };
+        self.work.take_units(task);
+        Some(task)
     }
 }
 
@@ -321,9 +261,9 @@ pub fn units_taken<R: Threads + Wait + Sync>(
     setup: &Setup,
 ) -> Result<(u64, u64), RunFault> {
     let kit = Kit::make(alloc, setup, (TASKS * UNITS) as usize)?;
-    let parking = Parking::new(alloc, 4)?;
-    let _ = run_turns(rt, alloc, kit, &parking)?;
-    Ok((parking.taken.load(Ordering::SeqCst), TASKS * UNITS))
+    let line = StartLine::new(alloc, 4, Parking::new(alloc, 4)?)?;
+    let _ = run_turns(rt, alloc, kit, &line)?;
+    Ok((line.work.taken.load(Ordering::SeqCst), TASKS * UNITS))
 }
 
 /// Four CPUs, of which the first two have four sleeping tasks each and the others none.
@@ -337,18 +277,8 @@ pub fn four_cpus(alloc: Global) -> Result<Setup, SetupFault> {
 fn sleepers(alloc: Global) -> Result<Vec<TaskSpec>, AllocError> {
     let mut tasks = Vec::new(alloc);
     for _pair in 0..TASKS / 2 {
-        tasks.push(sleeper(CpuId::new(0).unwrap()))?;
-        tasks.push(sleeper(CpuId::new(1).unwrap()))?;
+        tasks.push(task_at(CpuId::new(0).unwrap(), true))?;
+        tasks.push(task_at(CpuId::new(1).unwrap(), true))?;
     }
     Ok(tasks)
-}
-
-fn sleeper(home: CpuId) -> TaskSpec {
-    TaskSpec {
-        home,
-        nice: Nice::new(0).unwrap(),
-        slice: Slice::new(3_000_000).unwrap(),
-        start: 0,
-        asleep: true,
-    }
 }

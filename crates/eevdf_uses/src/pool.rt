@@ -19,18 +19,16 @@ mod task_list;
 use crate::idle_pulls::pull_from_most_loaded;
 use crate::pool::lives::{Lives, Next};
 use crate::pool::pool_cpu::{OnCpu, PoolCpu, home_index, next_index};
-use crate::start_line::StartLine;
+use crate::start_line::{Running, Work, let_others_run};
 pub use counts::{PoolCount, four_pool_cpus, served};
 use eevdf_fleet::Names;
-use eevdf_fleet::endless::{Fleet, Seat, SeatTurn};
+use eevdf_fleet::endless::Seat;
 use eevdf_free_tasks::FreePart;
 use eevdf_ops::{Answer, CpuId};
 use eevdf_queue::TaskId;
 use eevdf_weight::{Nice, Ns, Slice};
-use std::ops::ControlFlow;
 use std::sync::Wait;
 use std::sync::atomic::{AtomicU64, Ordering};
-use std::thread;
 
 /// At most so many requests that were handed to a CPU wait there.
 const MOST_HANDED: u64 = 32;
@@ -43,85 +41,31 @@ const SECONDS_A_DAY: u64 = 86_400;
 /// After so many turns in a row in which no request has come to any CPU, a CPU gives up.
 const MOST_QUIET_TURNS: u64 = 1_000_000;
 
-/// Once in so many turns a CPU lets the others run: there may be fewer processors than threads.
-const TURNS_TO_YIELD: u64 = 64;
-
-/// The turns of the CPUs, and what the threads share.
+/// What the threads share.
 #[derive(Drop)]
 struct Pool {
-    start_line: StartLine,
     cpus: Vec<PoolCpu>,
     lives: Lives,
 }
 
-impl SeatTurn for Pool {
-    fn turn<N: Names, R: Wait>(
-        &self,
-        rt: &R,
-        fleet: &Fleet<N>,
-        seat: &mut Seat<N>,
-    ) -> ControlFlow<()> {
-        let Some(cpu) = self.cpus.get(seat.cpu().index()) else {
-            return ControlFlow::Break(());
+impl Work for Pool {
+    fn turn<N: Names, R: Wait>(running: &Running<'_, Pool, N, R>, seat: &mut Seat<N>) -> bool {
+        let pool = running.work;
+        let Some(cpu) = pool.cpus.get(seat.cpu().index()) else {
+            return false;
         };
-        let mut own = cpu.own.lock(rt);
-        if let Some(flow) = self.start_line.wait(&mut own.all_turns) {
-            return flow;
-        }
-        self.pass_time(rt, fleet, seat, &mut own);
-        let _ = fleet.drain(rt, seat);
-        self.accept(rt, fleet, seat, &mut own.free);
-        self.accept(rt, fleet, seat, &mut own.free);
-        self.set_fallen(rt, fleet, seat);
-        self.run_next(rt, fleet, seat, &mut own.free);
-        if self.lives.have_all_come() || own.quiet_turns > MOST_QUIET_TURNS {
-            ControlFlow::Break(())
-        } else {
-            ControlFlow::Continue(())
-        }
+        let mut own = cpu.own.lock(running.rt);
+        running.pass_time(seat, &mut own);
+        let _ = running.fleet.drain(running.rt, seat);
+        running.accept(seat, &mut own.free);
+        running.accept(seat, &mut own.free);
+        running.set_fallen(seat);
+        running.run_next(seat, &mut own.free);
+        !pool.lives.have_all_come() && own.quiet_turns <= MOST_QUIET_TURNS
     }
 }
 
 impl Pool {
-    /// A second passes on the CPU's clock, and at the end of a day it rebases.
-    fn pass_time<N: Names, R: Wait>(
-        &self,
-        rt: &R,
-        fleet: &Fleet<N>,
-        seat: &mut Seat<N>,
-        own: &mut OnCpu,
-    )
-        ensures { seat.new.cpu ≡ seat.old.cpu }
-    {
-        own.turns = own.turns.saturating_add(1);
-        own.look_for_requests(self.lives.requests());
-        if own.turns % SECONDS_A_DAY == 0 {
-            let _ = fleet.rebase(rt, seat);
-        }
-        if own.turns % TURNS_TO_YIELD == 0 {
-            thread::yield_now();
-        }
-    }
-
-    /// Begins a task for a request, where one has come to the CPU or was handed to it, or hands it to the next CPU.
-    fn accept<N: Names, R: Wait>(
-        &self,
-        rt: &R,
-        fleet: &Fleet<N>,
-        seat: &mut Seat<N>,
-        free: &mut FreePart,
-    )
-        ensures { seat.new.cpu ≡ seat.old.cpu }
-    {
-        if !self.has_request(seat.cpu()) {
-            return;
-        }
-        match free.take() {
-            Some(task) => self.begin(rt, fleet, seat, free, task),
-            None => self.hand_on(seat.cpu()),
-        }
-    }
-
     /// Whether a request has come to the CPU or was handed to it, which is taken then.
     fn has_request(&self, cpu: CpuId) -> bool {
         let was_handed = match self.cpus.get(cpu.index()) {
@@ -139,19 +83,40 @@ impl Pool {
             next.handed.fetch_add(1, Ordering::SeqCst);
         }
     }
+}
 
-    /// Begins a task with this number, if another request may come, and asks to wake it.
-    fn begin<N: Names, R: Wait>(
-        &self,
-        rt: &R,
-        fleet: &Fleet<N>,
-        seat: &mut Seat<N>,
-        free: &mut FreePart,
-        task: TaskId,
-    )
+impl<'a, N: Names, R: Wait> Running<'a, Pool, N, R> {
+    /// A second passes on the CPU's clock, and at the end of a day it rebases.
+    fn pass_time(&self, seat: &mut Seat<N>, own: &mut OnCpu)
         ensures { seat.new.cpu ≡ seat.old.cpu }
     {
-        let Some(request) = self.lives.next_request() else {
+        own.turns = own.turns.saturating_add(1);
+        own.look_for_requests(self.work.lives.requests());
+        if own.turns % SECONDS_A_DAY == 0 {
+            let _ = self.fleet.rebase(self.rt, seat);
+        }
+        let_others_run(own.turns);
+    }
+
+    /// Begins a task for a request, where one has come to the CPU or was handed to it, or hands it to the next CPU.
+    fn accept(&self, seat: &mut Seat<N>, free: &mut FreePart)
+        ensures { seat.new.cpu ≡ seat.old.cpu }
+    {
+        if !self.work.has_request(seat.cpu()) {
+            return;
+        }
+        match free.take() {
+            Some(task) => self.begin(seat, free, task),
+            None => self.work.hand_on(seat.cpu()),
+        }
+    }
+
+    /// Begins a task with this number, if another request may come, and asks to wake it.
+    fn begin(&self, seat: &mut Seat<N>, free: &mut FreePart, task: TaskId)
+        ensures { seat.new.cpu ≡ seat.old.cpu }
+    {
+        let (rt, fleet) = (self.rt, self.fleet);
+        let Some(request) = self.work.lives.next_request() else {
             let _ = free.give_back(task);
             return;
         };
@@ -159,16 +124,17 @@ impl Pool {
             return;
         }
         if fleet.begin(rt, seat, task, nice_of(request), Slice::default()) == Answer::Begun {
-            self.lives.come(task, request);
+            self.work.lives.come(task, request);
             let _ = seat.post(task);
         }
     }
 
     /// Gives a task that has fallen asleep another level, and lets others wake it.
-    fn set_fallen<N: Names, R: Wait>(&self, rt: &R, fleet: &Fleet<N>, seat: &mut Seat<N>)
+    fn set_fallen(&self, seat: &mut Seat<N>)
         ensures { seat.new.cpu ≡ seat.old.cpu }
     {
-        let Some(cpu) = self.cpus.get(seat.cpu().index()) else {
+        let (rt, fleet) = (self.rt, self.fleet);
+        let Some(cpu) = self.work.cpus.get(seat.cpu().index()) else {
             return;
         };
         let Some(task) = cpu.fallen.take(rt) else {
@@ -181,83 +147,64 @@ impl Pool {
     }
 
     /// Wakes a task, and lets the next one run for a step. Where there is none, the CPU pulls one for the next turn.
-    fn run_next<N: Names, R: Wait>(
-        &self,
-        rt: &R,
-        fleet: &Fleet<N>,
-        seat: &mut Seat<N>,
-        free: &mut FreePart,
-    )
+    fn run_next(&self, seat: &mut Seat<N>, free: &mut FreePart)
         ensures { seat.new.cpu ≡ seat.old.cpu }
     {
-        self.wake_other(rt, fleet, seat);
-        match fleet.pick(rt, seat) {
-            Answer::Picked(task) => self.step(rt, fleet, seat, free, task),
-            _ => pull_from_most_loaded(rt, fleet, seat),
+        self.wake_other(seat);
+        match self.fleet.pick(self.rt, seat) {
+            Answer::Picked(task) => self.step(seat, free, task),
+            _ => pull_from_most_loaded(self.rt, self.fleet, seat),
         }
     }
 
     /// Asks to wake a task whose home is the next CPU, if one waits for it.
-    fn wake_other<N: Names, R: Wait>(&self, rt: &R, fleet: &Fleet<N>, seat: &mut Seat<N>)
+    fn wake_other(&self, seat: &mut Seat<N>)
         ensures { seat.new.cpu ≡ seat.old.cpu }
     {
-        if let Some(next) = self.cpus.get(next_index(seat.cpu()))
-            && let Some(task) = next.waiting.take(rt)
-            && fleet.has_task(task)
+        if let Some(next) = self.work.cpus.get(next_index(seat.cpu()))
+            && let Some(task) = next.waiting.take(self.rt)
+            && self.fleet.has_task(task)
         {
             let _ = seat.post(task);
         }
     }
 
     /// A step of the task that runs: it is charged, and goes on, falls asleep or ends.
-    fn step<N: Names, R: Wait>(
-        &self,
-        rt: &R,
-        fleet: &Fleet<N>,
-        seat: &mut Seat<N>,
-        free: &mut FreePart,
-        task: TaskId,
-    )
+    fn step(&self, seat: &mut Seat<N>, free: &mut FreePart, task: TaskId)
         ensures { seat.new.cpu ≡ seat.old.cpu }
     {
-        let _ = fleet.tick(rt, seat, Ns::new(STEP).unwrap());
-        match self.lives.after_step(task) {
+        let _ = self.fleet.tick(self.rt, seat, Ns::new(STEP).unwrap());
+        match self.work.lives.after_step(task) {
             Next::GoOn => (),
-            Next::Sleep => self.sleep(rt, fleet, seat, task),
-            Next::End => self.end(rt, fleet, seat, free, task),
+            Next::Sleep => self.sleep(seat, task),
+            Next::End => self.end(seat, free, task),
         }
     }
 
     /// Puts the task that runs to sleep, until another task wakes it.
-    fn sleep<N: Names, R: Wait>(&self, rt: &R, fleet: &Fleet<N>, seat: &mut Seat<N>, task: TaskId)
+    fn sleep(&self, seat: &mut Seat<N>, task: TaskId)
         ensures { seat.new.cpu ≡ seat.old.cpu }
     {
+        let (rt, fleet) = (self.rt, self.fleet);
         if !fleet.has_task(task) {
             return;
         }
         if let Answer::Slept(_) = fleet.sleep(rt, seat, task)
-            && let Some(home) = self.cpus.get(home_index(task))
+            && let Some(home) = self.work.cpus.get(home_index(task))
         {
             home.fallen.add(rt, task);
         }
     }
 
     /// Ends the task that runs, and gives its number back.
-    fn end<N: Names, R: Wait>(
-        &self,
-        rt: &R,
-        fleet: &Fleet<N>,
-        seat: &mut Seat<N>,
-        free: &mut FreePart,
-        task: TaskId,
-    )
+    fn end(&self, seat: &mut Seat<N>, free: &mut FreePart, task: TaskId)
         ensures { seat.new.cpu ≡ seat.old.cpu }
     {
-        if !fleet.has_task(task) {
+        if !self.fleet.has_task(task) {
             return;
         }
-        if fleet.end(rt, seat, task) == Answer::Ended {
-            self.lives.go(task);
+        if self.fleet.end(self.rt, seat, task) == Answer::Ended {
+            self.work.lives.go(task);
             let _ = free.give_back(task);
         }
     }

@@ -1,6 +1,6 @@
 //! The machine of the pool, its run, and what came of it.
 
-use crate::idle_pulls::empty_programs;
+use crate::machines::{empty_programs, task_at};
 use crate::pool::Pool;
 use crate::pool::lives::{Lives, REQUESTS};
 use crate::pool::pool_cpu::{CPUS, NUMBERS, PoolCpu};
@@ -10,7 +10,6 @@ use eevdf_fleet::endless::{Closed, Kit, run_turns};
 use eevdf_free_tasks::free_parts;
 use eevdf_ops::{CpuId, Setup, SetupFault, TaskSpec};
 use eevdf_queue::{Queue, TaskId};
-use eevdf_weight::{Nice, Slice};
 use std::alloc::{AllocError, Global};
 use std::sync::Wait;
 use std::thread::Threads;
@@ -35,10 +34,10 @@ pub fn served<R: Threads + Wait + Sync>(
     setup: &Setup,
 ) -> Result<PoolCount, RunFault> {
     let kit = Kit::make(alloc, setup, NUMBERS)?;
-    let pool = open_pool(alloc, setup)?;
-    let closed = run_turns(rt, alloc, kit, &pool)?;
-    let free = free_numbers(rt, alloc, &pool)?;
-    Ok(count(&pool, &closed, &free))
+    let line = StartLine::new(alloc, CPUS, open_pool(alloc, setup)?)?;
+    let closed = run_turns(rt, alloc, kit, &line)?;
+    let free = free_numbers(rt, alloc, &line.work)?;
+    Ok(count(&line.work, &closed, &free))
 }
 
 fn open_pool(alloc: Global, setup: &Setup) -> Result<Pool, AllocError> {
@@ -47,7 +46,6 @@ fn open_pool(alloc: Global, setup: &Setup) -> Result<Pool, AllocError> {
         cpus.push(PoolCpu::new(alloc, free)?)?;
     }
     Ok(Pool {
-        start_line: StartLine::new(CPUS as u64),
         cpus,
         lives: Lives::new(alloc, NUMBERS)?,
     })
@@ -121,13 +119,8 @@ pub fn four_pool_cpus(alloc: Global) -> Result<Setup, SetupFault> {
 fn sleepers(alloc: Global) -> Result<Vec<TaskSpec>, AllocError> {
     let mut tasks = Vec::new(alloc);
     for number in 0..NUMBERS {
-        tasks.push(TaskSpec {
-            home: CpuId::new((number % CPUS) as u64).unwrap(),
-            nice: Nice::default(),
-            slice: Slice::default(),
-            start: 0,
-            asleep: true,
-        })?;
+        let home = CpuId::new((number % CPUS) as u64).unwrap();
+        tasks.push(task_at(home, true))?;
     }
     Ok(tasks)
 }

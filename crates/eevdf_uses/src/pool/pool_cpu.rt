@@ -35,8 +35,6 @@ pub struct OnCpu {
     /// How many requests it has seen come to all CPUs, and how many turns it has had since the last of them.
     requests: u64,
     pub quiet_turns: u64,
-    /// How many turns it has had, with those in which it waited for the other CPUs to start.
-    pub all_turns: u64,
 }
 
 impl OnCpu {
@@ -63,7 +61,6 @@ impl PoolCpu {
                 turns: 0,
                 requests: 0,
                 quiet_turns: 0,
-                all_turns: 0,
             }),
         })
     }
