@@ -3,10 +3,10 @@ ghost use Rattle.std.specs.Prelude.{◌<◌, ◌≤◌};
 use crate::answer_words::{of_renice, of_task, of_tick, of_time};
 use crate::checksum::Checksum;
 use crate::sleep_ring::SleepRing;
-use crate::task_values::{drawn_task, words_for};
+use crate::task_values::{admit, drawn_task, words_for};
 use crate::turn_values::TurnValues;
 use crate::warm_up::warm_up;
-use eevdf_queue::{Queue, Refused, TaskId};
+use eevdf_queue::{Queue, TaskId};
 use std::alloc::{AllocError, Global};
 
 /// A queue of runnable tasks, of which one runs, and the checksum of its answers.
@@ -29,10 +29,7 @@ impl BenchQueue {
         let mut words = words_for(tasks);
         let mut queue = Queue::open();
         for number in 0..tasks {
-            let parcel = drawn_task(alloc, &mut words, number, tasks)?;
-            if let Err(Refused { parcel, reason: _ }) = queue.try_admit(parcel) {
-                parcel.retire();
-            }
+            admit(&mut queue, drawn_task(alloc, &mut words, number, tasks)?);
         }
         let values = TurnValues::draw(&mut words, tasks);
         let mut checksum = Checksum::new();

@@ -4,11 +4,11 @@ ghost use Rattle.queue_bench.specs.SharedTasks.{ShareNoTask};
 
 use crate::answer_words::of_task;
 use crate::checksum::Checksum;
-use crate::task_values::{drawn_task, words_for};
+use crate::task_values::{admit, drawn_task, words_for};
 use crate::turn_values::TurnValues;
 use crate::warm_up::warm_up;
 use eevdf_queue::laws::every_queue;
-use eevdf_queue::{Parcel, Queue, Refused, TaskId};
+use eevdf_queue::{Parcel, Queue, TaskId};
 use std::alloc::{AllocError, Global};
 
 /// Two queues that share the tasks, and the checksum of their answers.
@@ -76,12 +76,6 @@ impl PullQueues {
     {
         let pulled = pull(&mut self.second, &mut self.first);
         self.checksum.add(of_task(pulled));
-    }
-}
-
-fn admit(queue: &mut Queue, parcel: Parcel) {
-    if let Err(Refused { parcel, reason: _ }) = queue.try_admit(parcel) {
-        parcel.retire();
     }
 }
 

@@ -2,7 +2,7 @@
 
 ghost use Rattle.std.specs.Prelude.{◌<◌};
 
-use eevdf_queue::{Parcel, TaskId};
+use eevdf_queue::{Parcel, Queue, Refused, TaskId};
 use eevdf_weight::{Nice, Slice};
 use rand_core::{Rng, SeedableRng};
 use rand_xoshiro::SplitMix64;
@@ -46,6 +46,13 @@ pub fn drawn_task(
         Parcel::make(alloc, task, zero(), Slice::new(3_000_000).unwrap(), start)
     } else {
         Parcel::make(alloc, task, nice, slice, start)
+    }
+}
+
+/// Puts a task into a queue, where it has room.
+pub fn admit(queue: &mut Queue, parcel: Parcel) {
+    if let Err(Refused { parcel, reason: _ }) = queue.try_admit(parcel) {
+        parcel.retire();
     }
 }
 

@@ -1,4 +1,4 @@
-//! The turns of a run. Each mix has a loop of its own, so that a turn is its calls and nothing else.
+//! The turns of a run. Each mix has a loop of its own, made of `repeat`, so that a turn is its calls and nothing else.
 
 ghost use Rattle.queue_bench.specs.SharedTasks.{ShareNoTask};
 
@@ -15,24 +15,64 @@ pub fn checksum_of(alloc: Global, run: &AskedRun) -> Result<u64, AllocError> {
     }
     let mut bench = BenchQueue::open(alloc, run.tasks)?;
     if run.mix == Mix::SleepPickWake || run.mix == Mix::TickSleepPickWake {
-        let_sleep(&mut bench, run.tasks / 8);
+        repeat(&mut bench, run.tasks / 8, |bench| bench.sleep_pick());
     }
-    match run.mix {
-        Mix::Pick => picks(&mut bench, run.turns),
-        Mix::TickPick => ticks(&mut bench, run.turns),
-        Mix::SleepPickWake => sleeps(&mut bench, run.turns),
-        Mix::YieldPick => yields(&mut bench, run.turns),
-        Mix::TickSleepPickWake => ticks_and_sleeps(&mut bench, run.turns),
-        Mix::Renice => renices(&mut bench, run.turns),
-        Mix::PickPeek => peeks_known(&mut bench, run.turns),
-        Mix::TickPeekPick => peeks(&mut bench, run.turns),
-        Mix::TickPickTimer => timers_known(&mut bench, run.turns),
-        Mix::TickTimerPick => timers(&mut bench, run.turns),
-        Mix::TickRebasePick => rebases(&mut bench, run.turns),
-        Mix::TickPickRebasePick => rebases_known(&mut bench, run.turns),
+    make_turns(&mut bench, run.mix, run.turns);
+    Ok(bench.sum())
+}
+
+fn make_turns(bench: &mut BenchQueue, mix: Mix, turns: u64) {
+    match mix {
+        Mix::Pick => repeat(bench, turns, |bench| bench.pick_with_rare_ticks()),
+        Mix::TickPick => repeat(bench, turns, |bench| {
+            bench.tick();
+            bench.pick();
+        }),
+        Mix::SleepPickWake => repeat(bench, turns, |bench| bench.sleep_pick_wake()),
+        Mix::YieldPick => repeat(bench, turns, |bench| {
+            bench.yield_now();
+            bench.pick();
+        }),
+        Mix::TickSleepPickWake => repeat(bench, turns, |bench| {
+            bench.tick();
+            bench.sleep_pick_wake();
+        }),
+        Mix::Renice => repeat(bench, turns, |bench| bench.renice()),
+        // The pick is known.
+        Mix::PickPeek => repeat(bench, turns, |bench| {
+            bench.pick_with_rare_ticks();
+            bench.peek();
+        }),
+        Mix::TickPeekPick => repeat(bench, turns, |bench| {
+            bench.tick();
+            bench.peek();
+            bench.pick();
+        }),
+        // The running task's entry is known.
+        Mix::TickPickTimer => repeat(bench, turns, |bench| {
+            bench.tick();
+            bench.pick();
+            bench.timer();
+        }),
+        Mix::TickTimerPick => repeat(bench, turns, |bench| {
+            bench.tick();
+            bench.timer();
+            bench.pick();
+        }),
+        Mix::TickRebasePick => repeat(bench, turns, |bench| {
+            bench.tick();
+            bench.rebase();
+            bench.pick();
+        }),
+        // The pick is known.
+        Mix::TickPickRebasePick => repeat(bench, turns, |bench| {
+            bench.tick();
+            bench.pick();
+            bench.rebase();
+            bench.pick();
+        }),
         Mix::Pull => {}
     }
-    Ok(bench.sum())
 }
 
 fn pulled_sum(alloc: Global, run: &AskedRun) -> Result<u64, AllocError> {
@@ -43,100 +83,12 @@ fn pulled_sum(alloc: Global, run: &AskedRun) -> Result<u64, AllocError> {
     Ok(queues.sum())
 }
 
-/// Lets so many tasks fall asleep, each as it runs.
-fn let_sleep(bench: &mut BenchQueue, count: u64) {
-    for _ in 0..count {
-        bench.sleep_pick();
-    }
-}
-
-fn picks(bench: &mut BenchQueue, turns: u64) {
+/// Makes so many turns, each of these calls.
+fn repeat<F: Fn(&mut BenchQueue)>(bench: &mut BenchQueue, turns: u64, turn: F)
+    requires { F.IsAlwaysCallable turn }
+{
     for _ in 0..turns {
-        bench.pick_with_rare_ticks();
-    }
-}
-
-fn ticks(bench: &mut BenchQueue, turns: u64) {
-    for _ in 0..turns {
-        bench.tick();
-        bench.pick();
-    }
-}
-
-fn sleeps(bench: &mut BenchQueue, turns: u64) {
-    for _ in 0..turns {
-        bench.sleep_pick_wake();
-    }
-}
-
-fn yields(bench: &mut BenchQueue, turns: u64) {
-    for _ in 0..turns {
-        bench.yield_now();
-        bench.pick();
-    }
-}
-
-fn ticks_and_sleeps(bench: &mut BenchQueue, turns: u64) {
-    for _ in 0..turns {
-        bench.tick();
-        bench.sleep_pick_wake();
-    }
-}
-
-fn renices(bench: &mut BenchQueue, turns: u64) {
-    for _ in 0..turns {
-        bench.renice();
-    }
-}
-
-/// Peeks where the pick is known.
-fn peeks_known(bench: &mut BenchQueue, turns: u64) {
-    for _ in 0..turns {
-        bench.pick_with_rare_ticks();
-        bench.peek();
-    }
-}
-
-fn peeks(bench: &mut BenchQueue, turns: u64) {
-    for _ in 0..turns {
-        bench.tick();
-        bench.peek();
-        bench.pick();
-    }
-}
-
-/// Timers where the running task's entry is known.
-fn timers_known(bench: &mut BenchQueue, turns: u64) {
-    for _ in 0..turns {
-        bench.tick();
-        bench.pick();
-        bench.timer();
-    }
-}
-
-fn timers(bench: &mut BenchQueue, turns: u64) {
-    for _ in 0..turns {
-        bench.tick();
-        bench.timer();
-        bench.pick();
-    }
-}
-
-fn rebases(bench: &mut BenchQueue, turns: u64) {
-    for _ in 0..turns {
-        bench.tick();
-        bench.rebase();
-        bench.pick();
-    }
-}
-
-/// Rebases where the pick is known.
-fn rebases_known(bench: &mut BenchQueue, turns: u64) {
-    for _ in 0..turns {
-        bench.tick();
-        bench.pick();
-        bench.rebase();
-        bench.pick();
+        turn(bench);
     }
 }
 
