@@ -1,5 +1,5 @@
 -- What calls make of a part, and the parts of all CPUs as they are opened.
-use Rattle.std.proofs.Common.{◌≡◌, ℕ, ◌+◌, ◌-◌, ◌<◌, List, [], ◌∷◌, ◌++◌, get_or, set, ap, sym, subst, ◌∙◌, arith, Option, Some, None, IfSome, Bool, true, false, ◌==◌}
+use Rattle.std.proofs.Common.{◌≡◌, ℕ, ◌+◌, ◌-◌, ◌<◌, List, [], ◌∷◌, ◌++◌, get_or, set, ap, sym, subst, ◌∙◌, arith, Option, Some, None, IfSome, All, Bool, true, false, ◌==◌}
 use Rattle.std.proofs.Math.Path.{refl}
 use Rattle.std.proofs.lemmas.List.{length-append, length-set, get_or_append_left, get_or-append_right, get_or-set_same, get_or-set_other}
 use Rattle.std.proofs.lemmas.Bool.{eqb-true, eqb-false}
@@ -58,25 +58,24 @@ fresh-set {setup = setup} {n = n} {parts = parts} k after fresh within one = rec
   each = λ cpu part below at. set-at setup n k parts after fresh within one cpu part (cpu == k) refl below at;
 }
 
+-- a part with other ends, in none of which anything stands
+fresh-with : {setup : Setup} {cpu : ℕ} {before after : Part} (sent received : List (List ℕ)) → IsFresh setup cpu before → All (λ l. l ≡ []) sent → All (λ l. l ≡ []) received
+    → after ≡ record before { sent = sent; received = received } → IsFresh setup cpu after
+fresh-with {setup = setup} {cpu = cpu} sent received fresh none_sent none_received is = subst (λ (p : Part). IsFresh setup cpu p) (sym is) (record {
+  cpu_is = fresh.cpu_is;
+  homes_are = fresh.homes_are;
+  own_is = fresh.own_is;
+  none_sent = none_sent;
+  none_received = none_received;
+})
+
 pub fresh-sending : {setup : Setup} {cpu : ℕ} {before after : Part} → IsFresh setup cpu before → after ≡ record before { sent = before.sent ++ [] ∷ [] } → IsFresh setup cpu after
-fresh-sending {setup = setup} {cpu = cpu} {before = before} {after = after} fresh is =
-    subst (λ (p : Part). IsFresh setup cpu p) (sym is) (record {
-      cpu_is = fresh.cpu_is;
-      homes_are = fresh.homes_are;
-      own_is = fresh.own_is;
-      none_sent = All-push (λ l. l ≡ []) before.sent [] fresh.none_sent refl;
-      none_received = fresh.none_received;
-    })
+fresh-sending {before = before} fresh is =
+    fresh-with (before.sent ++ [] ∷ []) before.received fresh (All-push (λ l. l ≡ []) before.sent [] fresh.none_sent refl) fresh.none_received is
 
 pub fresh-receiving : {setup : Setup} {cpu : ℕ} {before after : Part} → IsFresh setup cpu before → after ≡ record before { received = before.received ++ [] ∷ [] } → IsFresh setup cpu after
-fresh-receiving {setup = setup} {cpu = cpu} {before = before} {after = after} fresh is =
-    subst (λ (p : Part). IsFresh setup cpu p) (sym is) (record {
-      cpu_is = fresh.cpu_is;
-      homes_are = fresh.homes_are;
-      own_is = fresh.own_is;
-      none_sent = fresh.none_sent;
-      none_received = All-push (λ l. l ≡ []) before.received [] fresh.none_received refl;
-    })
+fresh-receiving {before = before} fresh is =
+    fresh-with before.sent (before.received ++ [] ∷ []) fresh fresh.none_sent (All-push (λ l. l ≡ []) before.received [] fresh.none_received refl) is
 
 -- both ends of a ring are given
 pub fresh-joined : {setup : Setup} {n : ℕ} {parts : List Part} (sender home : ℕ) (from with_end to with_ends : Part) → AreFresh setup n parts → sender < n → home < n
