@@ -8,6 +8,7 @@ use crate::drawn_machine::{Shape, TaskKind, drawn_tasks, setup_without_programs}
 use crate::drawn_programs::{Programs, drawn_programs};
 use crate::fleet_seats::{DrawnOperations, FleetThread, HeldSeat, Mix, work};
 use crate::job_fault::JobFault;
+use crate::job_run::JobRun;
 use crate::workbench::take_report;
 use drawn_values::Draws;
 use eevdf_bench::Kind;
@@ -22,13 +23,7 @@ use std::thread::Threads;
 /// Does so many operations in each of these ways: two threads with two CPUs each, where no operation concerns the other thread;
 /// wakes and pulls among four CPUs of one thread; wakes from 64 CPUs of one thread to one of them; and programs of the workbench
 /// by threads.
-pub fn fleet_job<R: Threads + Wait + Sync>(
-    rt: &R,
-    alloc: Global,
-    size: u64,
-    draws: &mut Draws,
-    digest: &mut Digest,
-) -> Result<(), JobFault> {
+pub fn fleet_job<R: Threads + Wait + Sync>(run: &mut JobRun<'_, R>) -> Result<(), JobFault> {
     let small = Shape {
         cpus: 4,
         tasks: 256,
@@ -39,32 +34,31 @@ pub fn fleet_job<R: Threads + Wait + Sync>(
         tasks: 512,
         kind: TaskKind::HeavyFirst,
     };
-    fleet_run(rt, alloc, &small, Mix::Own, 2, size, draws, digest)?;
-    fleet_run(rt, alloc, &small, Mix::Wakes, 1, size, draws, digest)?;
-    fleet_run(rt, alloc, &small, Mix::Pulls, 1, size, draws, digest)?;
-    fleet_run(rt, alloc, &wide, Mix::OneHome, 1, size / 2, draws, digest)?;
-    program_run(rt, alloc, &small, size / 64, draws, digest)
+    let size = run.size;
+    fleet_run(run, &small, Mix::Own, 2, size)?;
+    fleet_run(run, &small, Mix::Wakes, 1, size)?;
+    fleet_run(run, &small, Mix::Pulls, 1, size)?;
+    fleet_run(run, &wide, Mix::OneHome, 1, size / 2)?;
+    program_run(run, &small, size / 64)
 }
 
 /// Opens a fleet, has threads do so many operations each, closes it, and takes in what came of it.
 pub fn fleet_run<R: Threads + Wait + Sync>(
-    rt: &R,
-    alloc: Global,
+    run: &mut JobRun<'_, R>,
     shape: &Shape,
     mix: Mix,
     threads: u64,
     operations: u64,
-    draws: &mut Draws,
-    digest: &mut Digest,
 ) -> Result<(), JobFault>
     requires some { 0 < threads }
 {
-    let tasks = drawn_tasks(alloc, shape, draws)?;
+    let (rt, alloc) = (run.rt, run.alloc);
+    let tasks = drawn_tasks(alloc, shape, &mut run.draws)?;
     let setup = setup_without_programs(alloc, shape, &tasks)?;
     let kit = Kit::make(alloc, &setup, 64)?;
-    let seed = draws.below(0x1_0000_0000);
+    let seed = run.draws.below(0x1_0000_0000);
     let done = worked_out::<Brand, R>(rt, alloc, shape, mix, threads, operations, seed, kit)?;
-    digest.add(done.sum());
+    run.digest.add(done.sum());
     Ok(())
 }
 
@@ -184,18 +178,15 @@ fn seats_by_thread<S: Drop>(
 
 /// Programs of which none concerns another CPU, run by threads.
 fn program_run<R: Threads + Wait + Sync>(
-    rt: &R,
-    alloc: Global,
+    run: &mut JobRun<'_, R>,
     shape: &Shape,
     average: u64,
-    draws: &mut Draws,
-    digest: &mut Digest,
 ) -> Result<(), JobFault> {
-    let tasks = drawn_tasks(alloc, shape, draws)?;
-    let programs = drawn_programs(alloc, shape, Programs::Apart, average, draws)?;
-    let mut text = Vec::new(alloc);
+    let tasks = drawn_tasks(run.alloc, shape, &mut run.draws)?;
+    let programs = drawn_programs(run.alloc, shape, Programs::Apart, average, &mut run.draws)?;
+    let mut text = Vec::new(run.alloc);
     push_version(&mut text, false)?;
     push_programs(&mut text, &programs)?;
     push_tasks(&mut text, &tasks)?;
-    take_report(rt, alloc, &text, Kind::Run, digest)
+    take_report(run, &text, Kind::Run)
 }

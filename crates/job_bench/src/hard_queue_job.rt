@@ -4,6 +4,7 @@ ghost use Rattle.std.specs.Prelude.{◌<◌, ◌≤◌};
 
 use crate::digest::Digest;
 use crate::job_fault::JobFault;
+use crate::job_run::JobRun;
 use crate::queue_pair::QueuePair;
 use drawn_values::Draws;
 use eevdf_queue::{Parcel, TaskId};
@@ -11,28 +12,21 @@ use eevdf_weight::{Nice, Ns, Slice};
 use std::alloc::{AllocError, Global};
 
 /// Makes so many turns on each of three queues of 1024 tasks.
-pub fn hard_queue_job(
-    alloc: Global,
-    size: u64,
-    draws: &mut Draws,
-    digest: &mut Digest,
-) -> Result<(), JobFault> {
-    equal_turns(alloc, size, draws, digest)?;
-    level_turns(alloc, size, draws, digest)?;
-    far_turns(alloc, size, draws, digest)?;
+pub fn hard_queue_job<R>(run: &mut JobRun<'_, R>) -> Result<(), JobFault> {
+    let (alloc, turns, draws, digest) = (run.alloc, run.size, &mut run.draws, &mut run.digest);
+    equal_turns(full_queues(alloc, 0, 0, digest)?, turns, draws, digest);
+    level_turns(full_queues(alloc, 0, 1000, digest)?, turns, draws, digest);
+    far_turns(
+        full_queues(alloc, 1 << 59, 5000, digest)?,
+        turns,
+        draws,
+        digest,
+    );
     Ok(())
 }
 
 /// All tasks are alike, and each tick uses up a request: all deadlines are equal at first, and they ascend with each tick.
-fn equal_turns(
-    alloc: Global,
-    turns: u64,
-    draws: &mut Draws,
-    digest: &mut Digest,
-) -> Result<(), AllocError> {
-    let mut queues = QueuePair::new();
-    admit_all(alloc, &mut queues, 0, 0, digest)?;
-    queues.pick(digest);
+fn equal_turns(mut queues: QueuePair, turns: u64, draws: &mut Draws, digest: &mut Digest) {
     for turn in 0..turns {
         queues.tick(Ns::new(3_000_000).unwrap(), digest);
         queues.pick(digest);
@@ -47,19 +41,10 @@ fn equal_turns(
         }
     }
     queues.look_at_all(digest);
-    Ok(())
 }
 
 /// Each task gets another nice level, one after the other, and is looked at.
-fn level_turns(
-    alloc: Global,
-    turns: u64,
-    draws: &mut Draws,
-    digest: &mut Digest,
-) -> Result<(), AllocError> {
-    let mut queues = QueuePair::new();
-    admit_all(alloc, &mut queues, 0, 1000, digest)?;
-    queues.pick(digest);
+fn level_turns(mut queues: QueuePair, turns: u64, draws: &mut Draws, digest: &mut Digest) {
     for turn in 0..turns {
         let task = TaskId::new(turn % 1024).unwrap();
         queues.renice(task, draws.nice(), digest);
@@ -70,19 +55,10 @@ fn level_turns(
         }
     }
     queues.look_at_all(digest);
-    Ok(())
 }
 
 /// The virtual times are at half of their range, where sums need 128 bits.
-fn far_turns(
-    alloc: Global,
-    turns: u64,
-    draws: &mut Draws,
-    digest: &mut Digest,
-) -> Result<(), AllocError> {
-    let mut queues = QueuePair::new();
-    admit_all(alloc, &mut queues, 1 << 59, 5000, digest)?;
-    queues.pick(digest);
+fn far_turns(mut queues: QueuePair, turns: u64, draws: &mut Draws, digest: &mut Digest) {
     for turn in 0..turns {
         queues.tick(draws.tick(), digest);
         queues.pick(digest);
@@ -96,17 +72,16 @@ fn far_turns(
         }
     }
     queues.look_at_all(digest);
-    Ok(())
 }
 
-/// Puts in 1024 tasks of level 0, of which each pair starts a step after the one before it.
-fn admit_all(
+/// Queues with 1024 tasks of level 0, of which each pair starts a step after the one before it. One of them runs.
+fn full_queues(
     alloc: Global,
-    queues: &mut QueuePair,
     start: i64,
     step: i64,
     digest: &mut Digest,
-) -> Result<(), AllocError> {
+) -> Result<QueuePair, AllocError> {
+    let mut queues = QueuePair::new();
     for number in 0..1024u64 {
         let task = TaskId::new(number).unwrap();
         let nice = Nice::new(0).unwrap();
@@ -114,5 +89,6 @@ fn admit_all(
         let v = start.wrapping_add(step.wrapping_mul((number / 2) as i64));
         queues.admit(Parcel::make(alloc, task, nice, slice, v)?, digest);
     }
-    Ok(())
+    queues.pick(digest);
+    Ok(queues)
 }

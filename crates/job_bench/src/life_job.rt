@@ -1,39 +1,31 @@
 //! Workloads whose tasks begin asleep, scripts whose sleeps and wakes are mostly done, and queues and fleets from their opening to
 //! their end.
 
-use crate::digest::Digest;
 use crate::documents::{begin_script, end_script, push_deed};
 use crate::drawn_deeds::drawn_cpu;
 use crate::drawn_machine::{Shape, TaskKind, drawn_tasks, setup_without_programs};
 use crate::fleet_job::fleet_run;
 use crate::fleet_seats::Mix;
 use crate::job_fault::JobFault;
+use crate::job_run::JobRun;
 use crate::opening_job::opening_job;
 use crate::played_machine::PlayedMachine;
 use crate::queue_lives::queue_lives;
 use crate::workbench::take_report;
-use drawn_values::Draws;
 use eevdf_bench::Kind;
-use std::alloc::Global;
 use std::sync::Wait;
 use std::thread::Threads;
 
 /// Does all of these: short workloads, a script of so many deeds, lives of single queues, and so many operations of a fleet. Machines
 /// of 64 CPUs, of 16, of 4 and of one take turns.
-pub fn life_job<R: Threads + Wait + Sync>(
-    rt: &R,
-    alloc: Global,
-    input: u64,
-    size: u64,
-    draws: &mut Draws,
-    digest: &mut Digest,
-) -> Result<(), JobFault> {
-    let shape = shape_of(input);
-    let count = 32 + size / 64;
-    opening_job(rt, alloc, count, TaskKind::Mixed, draws, digest)?;
-    played_script(rt, alloc, &shape, size, draws, digest)?;
-    queue_lives(alloc, count, draws, digest)?;
-    fleet_run(rt, alloc, &shape, Mix::Wakes, 1, size, draws, digest)
+pub fn life_job<R: Threads + Wait + Sync>(run: &mut JobRun<'_, R>) -> Result<(), JobFault> {
+    let shape = shape_of(run.input);
+    let count = 32 + run.size / 64;
+    opening_job(run, count, TaskKind::Mixed)?;
+    played_script(run, &shape)?;
+    queue_lives(run, count)?;
+    let operations = run.size;
+    fleet_run(run, &shape, Mix::Wakes, 1, operations)
 }
 
 fn shape_of(input: u64) -> Shape {
@@ -52,25 +44,21 @@ fn shape_of(input: u64) -> Shape {
 
 /// Draws a script by a machine that does it, and has the workbench do it again.
 fn played_script<R: Threads + Wait + Sync>(
-    rt: &R,
-    alloc: Global,
+    run: &mut JobRun<'_, R>,
     shape: &Shape,
-    size: u64,
-    draws: &mut Draws,
-    digest: &mut Digest,
 ) -> Result<(), JobFault> {
-    let tasks = drawn_tasks(alloc, shape, draws)?;
-    let setup = setup_without_programs(alloc, shape, &tasks)?;
-    let mut machine = PlayedMachine::open(alloc, &setup)?;
-    let mut text = Vec::new(alloc);
+    let tasks = drawn_tasks(run.alloc, shape, &mut run.draws)?;
+    let setup = setup_without_programs(run.alloc, shape, &tasks)?;
+    let mut machine = PlayedMachine::open(run.alloc, &setup)?;
+    let mut text = Vec::new(run.alloc);
     begin_script(&mut text, true, shape.cpus)?;
-    for _deed in 0..size {
-        let cpu = drawn_cpu(shape, draws);
-        let deed = machine.draw(shape, cpu, draws);
-        machine.apply(deed, digest)?;
+    for _deed in 0..run.size {
+        let cpu = drawn_cpu(shape, &mut run.draws);
+        let deed = machine.draw(shape, cpu, &mut run.draws);
+        machine.apply(deed, &mut run.digest)?;
         push_deed(&mut text, &deed)?;
     }
     end_script(&mut text, &tasks)?;
-    digest.add_queues(&machine.into_queues());
-    take_report(rt, alloc, &text, Kind::Solo, digest)
+    run.digest.add_queues(&machine.into_queues());
+    take_report(run, &text, Kind::Solo)
 }

@@ -13,6 +13,7 @@ mod fleet_job;
 mod fleet_seats;
 mod hard_queue_job;
 mod job_fault;
+mod job_run;
 mod life_job;
 mod machine_digest;
 mod mixed_order;
@@ -33,6 +34,7 @@ use crate::drawn_machine::TaskKind;
 use crate::fleet_job::fleet_job;
 use crate::hard_queue_job::hard_queue_job;
 use crate::job_fault::JobFault;
+use crate::job_run::JobRun;
 use crate::life_job::life_job;
 use crate::opening_job::opening_job;
 use crate::order_job::order_job;
@@ -67,40 +69,46 @@ fn digest_of<R: Threads + Wait + Sync>(
 ) -> Result<Digest, JobFault> {
     let mut digest = Digest::new();
     for input in 0..asked.inputs {
-        let mut draws = Draws::new(asked.seed, input);
-        match asked.job {
-            Job::Scripts => script_job(rt, alloc, input, asked.size, &mut draws, &mut digest)?,
-            Job::Orders => order_job(rt, alloc, input, asked.size, &mut draws, &mut digest)?,
-            Job::Queue => queue_job(alloc, asked.size, &mut draws, &mut digest)?,
-            Job::HardQueue => hard_queue_job(alloc, asked.size, &mut draws, &mut digest)?,
-            Job::Fleet => fleet_job(rt, alloc, asked.size, &mut draws, &mut digest)?,
-            Job::Openings => {
-                let kind = TaskKind::HeavyFirst;
-                opening_job(rt, alloc, asked.size, kind, &mut draws, &mut digest)?
-            }
-            Job::Lives => life_job(rt, alloc, input, asked.size, &mut draws, &mut digest)?,
-            Job::Each => each_job(rt, alloc, input, asked.size, &mut draws, &mut digest)?,
-        }
+        let mut run = JobRun {
+            rt,
+            alloc,
+            input,
+            size: asked.size,
+            draws: Draws::new(asked.seed, input),
+            digest,
+        };
+        do_job(&mut run, asked.job)?;
+        digest = run.digest;
     }
     Ok(digest)
 }
 
+fn do_job<R: Threads + Wait + Sync>(run: &mut JobRun<'_, R>, job: Job) -> Result<(), JobFault> {
+    match job {
+        Job::Scripts => script_job(run),
+        Job::Orders => order_job(run),
+        Job::Queue => queue_job(run),
+        Job::HardQueue => hard_queue_job(run),
+        Job::Fleet => fleet_job(run),
+        Job::Openings => {
+            let count = run.size;
+            opening_job(run, count, TaskKind::HeavyFirst)
+        }
+        Job::Lives => life_job(run),
+        Job::Each => each_job(run),
+    }
+}
+
 /// Does every job on one input.
-fn each_job<R: Threads + Wait + Sync>(
-    rt: &R,
-    alloc: Global,
-    input: u64,
-    size: u64,
-    draws: &mut Draws,
-    digest: &mut Digest,
-) -> Result<(), JobFault> {
-    script_job(rt, alloc, input, size, draws, digest)?;
-    order_job(rt, alloc, input, size, draws, digest)?;
-    queue_job(alloc, size, draws, digest)?;
-    hard_queue_job(alloc, size, draws, digest)?;
-    fleet_job(rt, alloc, size, draws, digest)?;
-    opening_job(rt, alloc, size, TaskKind::HeavyFirst, draws, digest)?;
-    life_job(rt, alloc, input, size, draws, digest)
+fn each_job<R: Threads + Wait + Sync>(run: &mut JobRun<'_, R>) -> Result<(), JobFault> {
+    script_job(run)?;
+    order_job(run)?;
+    queue_job(run)?;
+    hard_queue_job(run)?;
+    fleet_job(run)?;
+    let count = run.size;
+    opening_job(run, count, TaskKind::HeavyFirst)?;
+    life_job(run)
 }
 
 /// Prints the digest, and gives the exit status.

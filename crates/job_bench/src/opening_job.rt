@@ -2,14 +2,13 @@
 
 ghost use Rattle.std.specs.Prelude.{◌<◌, ◌≤◌};
 
-use crate::digest::Digest;
-use crate::documents::{
-    begin_script, end_script, push_deed, push_order, push_programs, push_tasks, push_version,
-};
-use crate::drawn_deeds::{Deeds, drawn_cpu, drawn_deed};
+use crate::documents::{push_order, push_programs, push_tasks, push_version};
+use crate::drawn_deeds::Deeds;
 use crate::drawn_machine::{Shape, TaskKind, drawn_tasks};
 use crate::drawn_programs::{Programs, drawn_programs};
 use crate::job_fault::JobFault;
+use crate::job_run::JobRun;
+use crate::script_job::script_run;
 use crate::workbench::take_report;
 use drawn_values::Draws;
 use eevdf_bench::Kind;
@@ -19,19 +18,16 @@ use std::thread::Threads;
 
 /// Has the workbench do so many short scripts, every eighth of them a replay, on machines of 1 to 64 CPUs with tasks of a kind.
 pub fn opening_job<R: Threads + Wait + Sync>(
-    rt: &R,
-    alloc: Global,
-    size: u64,
+    run: &mut JobRun<'_, R>,
+    count: u64,
     kind: TaskKind,
-    draws: &mut Draws,
-    digest: &mut Digest,
 ) -> Result<(), JobFault> {
-    for number in 0..size {
-        let shape = drawn_shape(kind, draws);
+    for number in 0..count {
+        let shape = drawn_shape(kind, &mut run.draws);
         if number % 8 == 7 {
-            short_replay(rt, alloc, &shape, draws, digest)?;
+            short_replay(run, &shape)?;
         } else {
-            short_script(rt, alloc, &shape, draws, digest)?;
+            script_run(run, &shape, Deeds::Mixed, 8)?;
         }
     }
     Ok(())
@@ -51,41 +47,19 @@ fn drawn_shape(kind: TaskKind, draws: &mut Draws) -> Shape {
     }
 }
 
-/// A script of eight deeds.
-fn short_script<R: Threads + Wait + Sync>(
-    rt: &R,
-    alloc: Global,
-    shape: &Shape,
-    draws: &mut Draws,
-    digest: &mut Digest,
-) -> Result<(), JobFault> {
-    let tasks = drawn_tasks(alloc, shape, draws)?;
-    let mut text = Vec::new(alloc);
-    begin_script(&mut text, true, shape.cpus)?;
-    for _deed in 0..8 {
-        let cpu = drawn_cpu(shape, draws);
-        push_deed(&mut text, &drawn_deed(shape, Deeds::Mixed, cpu, draws))?;
-    }
-    end_script(&mut text, &tasks)?;
-    take_report(rt, alloc, &text, Kind::Solo, digest)
-}
-
 /// Programs of one pick each, whose steps the callers do one after the other.
 fn short_replay<R: Threads + Wait + Sync>(
-    rt: &R,
-    alloc: Global,
+    run: &mut JobRun<'_, R>,
     shape: &Shape,
-    draws: &mut Draws,
-    digest: &mut Digest,
 ) -> Result<(), JobFault> {
-    let tasks = drawn_tasks(alloc, shape, draws)?;
-    let programs = drawn_programs(alloc, shape, Programs::Picks, 1, draws)?;
-    let mut text = Vec::new(alloc);
+    let tasks = drawn_tasks(run.alloc, shape, &mut run.draws)?;
+    let programs = drawn_programs(run.alloc, shape, Programs::Picks, 1, &mut run.draws)?;
+    let mut text = Vec::new(run.alloc);
     push_version(&mut text, true)?;
-    push_order(&mut text, &one_by_one(alloc, shape)?)?;
+    push_order(&mut text, &one_by_one(run.alloc, shape)?)?;
     push_programs(&mut text, &programs)?;
     push_tasks(&mut text, &tasks)?;
-    take_report(rt, alloc, &text, Kind::Replay, digest)
+    take_report(run, &text, Kind::Replay)
 }
 
 /// Each caller four times: the steps of a pick.

@@ -7,6 +7,7 @@ use crate::documents::{push_order, push_programs, push_tasks, push_version};
 use crate::drawn_machine::{Shape, TaskKind, drawn_tasks, setup_of};
 use crate::drawn_programs::{Programs, drawn_programs};
 use crate::job_fault::JobFault;
+use crate::job_run::JobRun;
 use crate::mixed_order::mixed_order;
 use crate::workbench::take_report;
 use drawn_values::Draws;
@@ -20,28 +21,22 @@ use std::thread::Threads;
 /// Draws programs of so many operations on average. Of one half of the inputs an order of their steps is made by playing it, and
 /// the other half is replayed by the workbench, in an order that needs no player. Machines of 16 CPUs with 1024 tasks and with 64,
 /// and of 64 CPUs, where one has many more operations than each other, take turns.
-pub fn order_job<R: Threads + Wait + Sync>(
-    rt: &R,
-    alloc: Global,
-    input: u64,
-    size: u64,
-    draws: &mut Draws,
-    digest: &mut Digest,
-) -> Result<(), JobFault> {
-    let kind = input / 2 % 3;
+pub fn order_job<R: Threads + Wait + Sync>(run: &mut JobRun<'_, R>) -> Result<(), JobFault> {
+    let (alloc, kind) = (run.alloc, run.input / 2 % 3);
     let shape = shape_of(kind);
-    let tasks = drawn_tasks(alloc, &shape, draws)?;
-    let programs = if kind == 2 {
-        drawn_programs(alloc, &shape, Programs::Uneven, size / 4, draws)
+    let tasks = drawn_tasks(alloc, &shape, &mut run.draws)?;
+    let (programs, average) = if kind == 2 {
+        (Programs::Uneven, run.size / 4)
     } else {
-        drawn_programs(alloc, &shape, Programs::Even, size, draws)
-    }?;
-    if input % 2 == 0 {
+        (Programs::Even, run.size)
+    };
+    let programs = drawn_programs(alloc, &shape, programs, average, &mut run.draws)?;
+    if run.input % 2 == 0 {
         let setup = setup_of(alloc, &tasks, &programs)?;
-        return play(alloc, &shape, &setup, draws, digest);
+        return play(alloc, &shape, &setup, &mut run.draws, &mut run.digest);
     }
     let text = order_text(alloc, &shape, &tasks, &programs)?;
-    take_report(rt, alloc, &text, Kind::Replay, digest)
+    take_report(run, &text, Kind::Replay)
 }
 
 fn shape_of(kind: u64) -> Shape {

@@ -5,6 +5,7 @@ ghost use Rattle.std.specs.Prelude.{◌<◌, ◌≤◌};
 use crate::digest::Digest;
 use crate::drawn_machine::drawn_slice;
 use crate::job_fault::JobFault;
+use crate::job_run::JobRun;
 use crate::queue_pair::QueuePair;
 use drawn_values::Draws;
 use eevdf_queue::{Parcel, TaskId};
@@ -12,34 +13,25 @@ use eevdf_weight::Nice;
 use std::alloc::{AllocError, Global};
 
 /// Makes so many turns of calls on queues of 8, of 64 and of 1024 tasks.
-pub fn queue_job(
-    alloc: Global,
-    size: u64,
-    draws: &mut Draws,
-    digest: &mut Digest,
-) -> Result<(), JobFault> {
-    queue_turns(alloc, 8, size, draws, digest)?;
-    queue_turns(alloc, 64, size, draws, digest)?;
-    queue_turns(alloc, 1024, size, draws, digest)?;
+pub fn queue_job<R>(run: &mut JobRun<'_, R>) -> Result<(), JobFault> {
+    queue_turns(run, 8)?;
+    queue_turns(run, 64)?;
+    queue_turns(run, 1024)?;
     Ok(())
 }
 
-fn queue_turns(
-    alloc: Global,
-    tasks: u64,
-    turns: u64,
-    draws: &mut Draws,
-    digest: &mut Digest,
-) -> Result<(), AllocError>
+fn queue_turns<R>(run: &mut JobRun<'_, R>, tasks: u64) -> Result<(), AllocError>
     requires some { 0 < tasks }
     requires few { tasks ≤ 1024 }
 {
+    let draws = &mut run.draws;
+    let digest = &mut run.digest;
     let mut queues = QueuePair::new();
     for number in 0..tasks {
-        queues.admit(drawn_parcel(alloc, number, draws)?, digest);
+        queues.admit(drawn_parcel(run.alloc, number, draws)?, digest);
     }
     queues.pick(digest);
-    for turn in 0..turns {
+    for turn in 0..run.size {
         turn_of(&mut queues, turn, tasks, draws, digest);
     }
     queues.look_at_all(digest);

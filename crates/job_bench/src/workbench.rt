@@ -1,7 +1,7 @@
 //! What the workbench makes of a text.
 
-use crate::digest::Digest;
 use crate::job_fault::JobFault;
+use crate::job_run::JobRun;
 use eevdf_bench::{BenchFault, Command, Kind, Watched, engine};
 use std::alloc::Global;
 use std::sync::Wait;
@@ -9,14 +9,12 @@ use std::thread::Threads;
 
 /// Has the workbench do what a command says with a workload, and takes in the report.
 pub fn take_report<R: Threads + Wait + Sync>(
-    rt: &R,
-    alloc: Global,
+    run: &mut JobRun<'_, R>,
     text: &[u8],
     kind: Kind,
-    digest: &mut Digest,
 ) -> Result<(), JobFault> {
-    let report = report_of(rt, alloc, text, kind)?;
-    digest.add_bytes(&report);
+    let report = report_of(run.rt, run.alloc, text, kind)?;
+    run.digest.add_bytes(&report);
     Ok(())
 }
 
