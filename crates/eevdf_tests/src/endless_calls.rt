@@ -1,7 +1,6 @@
 //! The calls of a fleet that keeps no history, and of its seats: tables of calls in one thread, each with what comes of it and the
 //! report of what the fleet is closed to, calls beyond the quota of a fleet that keeps one, and two threads.
 
-pub mod came;
 mod cases;
 mod listed;
 mod looks;
@@ -13,7 +12,7 @@ ghost use Rattle.std.specs.Prelude.{◌≡◌};
 ghost use Rattle.eevdf_fleet.specs.Fleets.{setup_of};
 
 use crate::fleet_calls::seat_call::Call;
-use came::{call_on, text_of};
+use crate::seats::first_wrong;
 use eevdf_fleet::Names;
 use eevdf_fleet::endless::{Closed, Fleet, Kit, Seat};
 use eevdf_ops::{Outcome, Setup};
@@ -34,28 +33,6 @@ struct Case {
     report: &'static str,
 }
 
-/// Makes the calls, up to the first of which something else comes than is told, and says whether there is none.
-fn make_calls<N: Names, R: Wait + Abort>(
-    rt: &R,
-    alloc: Global,
-    fleet: &Fleet<N>,
-    seats: &mut [Seat<N>],
-    calls: &[(usize, Call, &'static str)],
-) -> bool {
-    for (cpu, call, text) in calls {
-        let Some(seat) = seats.get_mut(*cpu) else {
-            return false;
-        };
-        let Some(came) = call_on(rt, fleet, seat, *call) else {
-            return false;
-        };
-        if text_of(rt, alloc, &came).as_str() != *text {
-            return false;
-        }
-    }
-    true
-}
-
 /// What a fleet is closed to after these calls, where each comes to what is told.
 fn outcome_of<N: Names, R: Wait + Abort>(
     rt: &R,
@@ -66,10 +43,9 @@ fn outcome_of<N: Names, R: Wait + Abort>(
     requires { kit ≡ N.kit }
 {
     let (fleet, mut seats) = Fleet::<N>::open(alloc, kit).expect(rt, "memory");
-    if make_calls(rt, alloc, &fleet, &mut seats, calls) {
-        closed(alloc, fleet, seats)
-    } else {
-        None
+    match first_wrong(rt, alloc, &fleet, &mut seats, calls) {
+        None => closed(alloc, fleet, seats),
+        Some(_) => None,
     }
 }
 

@@ -24,6 +24,8 @@ mod ready_callers;
 #[cfg(test)]
 mod same_end;
 #[cfg(test)]
+mod seats;
+#[cfg(test)]
 mod tasks_come_and_go;
 #[cfg(test)]
 mod threads;

@@ -6,10 +6,12 @@ mod without_history;
 
 use crate::fixtures::{setup_of, task, task_at};
 use crate::fleet_calls::seat_call::Call;
+use crate::seats::CallingSeat;
 use eevdf_fleet::{Drained, Operated};
-use eevdf_ops::{Answer, Setup};
+use eevdf_ops::{Answer, Op, Setup};
 use std::alloc::Global;
 use std::process::Abort;
+use std::sync::Wait;
 
 /// How many CPUs there are. Tasks c and `CPUS + c` have CPU c as their home.
 const CPUS: u64 = 64;
@@ -87,4 +89,33 @@ fn calls(rt: &impl Abort, alloc: Global, cpu: u64, neighbour: u64) -> Vec<(u64, 
         (cpu, Call::Renice(cpu, 5), Operated::Answer(Answer::Reniced)),
     ]
     .expect(rt, "memory")
+}
+
+/// Makes a call, and says what comes of it.
+fn came<S: CallingSeat, R: Wait>(
+    rt: &R,
+    fleet: &S::Fleet,
+    seat: &mut S,
+    call: Call,
+) -> Option<Operated> {
+    match call.operation()? {
+        Op::Post(task) => seat.posted(fleet, task),
+        _ => seat.call(rt, fleet, call)?.ok(),
+    }
+}
+
+/// Makes the calls of a CPU and of a neighbour on the seats of a fleet.
+fn call_both<S: CallingSeat, R: Wait + Abort>(
+    rt: &R,
+    alloc: Global,
+    fleet: &S::Fleet,
+    seats: &mut [S],
+    cpu: u64,
+    neighbour: u64,
+) {
+    for (caller, call, wanted) in calls(rt, alloc, cpu, neighbour) {
+        let seat = seats.get_mut(caller as usize).expect(rt, "seat");
+        let came = came(rt, fleet, seat, call);
+        assert!(rt; came == Some(wanted), "CPU {cpu} beside {neighbour}");
+    }
 }

@@ -4,52 +4,23 @@ ghost use Rattle.std.specs.Prelude.{◌≡◌};
 
 use super::cases::CASES;
 use super::{Case, stands_in, three_tasks};
-use crate::endless_calls::came::{Came, text_of};
 use crate::fixtures::{cpu, task};
 use crate::fleet_calls::kit_of;
 use crate::fleet_calls::seat_call::Call;
-use eevdf_fleet::{Fleet, Kit, Names, Operated, Refused, Seat};
+use crate::seats::{CallingSeat, first_wrong};
+use eevdf_fleet::{Fleet, Kit, Names, Refused};
 use std::alloc::Global;
 use std::marker::Brand;
 use std::process::Abort;
 use std::sync::Wait;
-
-/// Makes a call. `None` where its numbers are out of range.
-fn came<N: Names, R: Wait>(
-    rt: &R,
-    fleet: &Fleet<N>,
-    seat: &mut Seat<N>,
-    call: Call,
-) -> Option<Came> {
-    Some(fleet.try_operate(rt, seat, call.operation()?))
-}
-
-/// Whether an answer is that of the seat's last line.
-fn is_logged<N: Names>(seat: &Seat<N>, came: &Came) -> bool {
-    match came {
-        Ok(Operated::Answer(answer)) => match seat.log().last() {
-            Some(line) => line.answer == *answer,
-            None => false,
-        },
-        _ => true,
-    }
-}
 
 /// Makes the calls of a case on a fleet of this kit, and closes it.
 fn make_calls<N: Names, R: Wait + Abort>(rt: &R, alloc: Global, kit: Kit, case: &Case)
     requires { kit ≡ N.kit }
 {
     let (fleet, mut seats) = Fleet::<N>::open(alloc, kit).expect(rt, "memory");
-    for (caller, call, text) in case.calls {
-        let seat = seats.get_mut(*caller).expect(rt, "seat");
-        let came = came(rt, &fleet, seat, *call).expect(rt, "call");
-        let printed = text_of(rt, alloc, &came);
-        assert!(rt;
-            printed.as_str() == *text && is_logged(seat, &came),
-            "{}: {text}",
-            case.name
-        );
-    }
+    let wrong = first_wrong(rt, alloc, &fleet, &mut seats, case.calls);
+    assert!(rt; wrong.is_none(), "{}: {wrong:?}", case.name);
     assert!(rt; fleet.has_all_seats(&seats));
     let closed = fleet.close(seats);
     for (cpu, wanted) in case.queues.iter().enumerate() {
@@ -82,7 +53,7 @@ fn are_refused<N: Names, R: Wait + Abort>(rt: &R, alloc: Global, kit: Kit) -> bo
         Call::Set(2, 5, 1_000_000),
         Call::Rebase,
     ] {
-        if came(rt, &fleet, seat, call) != Some(Err(Refused::SeatFull)) {
+        if seat.call(rt, &fleet, call) != Some(Err(Refused::SeatFull)) {
             return false;
         }
     }

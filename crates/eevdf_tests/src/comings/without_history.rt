@@ -4,9 +4,9 @@ ghost use Rattle.std.specs.Prelude.{◌≡◌};
 
 use super::cases::CASES;
 use super::{Case, stands_in, three_tasks};
-use crate::endless_calls::came::{call_on, text_of};
 use crate::endless_calls::kit_of;
 use crate::fixtures::{cpu, task};
+use crate::seats::first_wrong;
 use eevdf_fleet::Names;
 use eevdf_fleet::endless::{Fleet, Kit};
 use std::alloc::Global;
@@ -19,15 +19,8 @@ fn make_calls<N: Names, R: Wait + Abort>(rt: &R, alloc: Global, kit: Kit, case: 
     requires { kit ≡ N.kit }
 {
     let (fleet, mut seats) = Fleet::<N>::open(alloc, kit).expect(rt, "memory");
-    for (caller, call, text) in case.calls {
-        let seat = seats.get_mut(*caller).expect(rt, "seat");
-        let came = call_on(rt, &fleet, seat, *call).expect(rt, "call");
-        assert!(rt;
-            text_of(rt, alloc, &came).as_str() == *text,
-            "{}: {text}",
-            case.name
-        );
-    }
+    let wrong = first_wrong(rt, alloc, &fleet, &mut seats, case.calls);
+    assert!(rt; wrong.is_none(), "{}: {wrong:?}", case.name);
     assert!(rt; !fleet.is_at_home(task(rt, 2), cpu(rt, 1)));
     assert!(rt; !fleet.is_at_home(task(rt, 3), cpu(rt, 0)));
     assert!(rt; fleet.has_all_seats(&seats));

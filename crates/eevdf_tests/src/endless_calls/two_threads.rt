@@ -3,10 +3,10 @@
 ghost use Rattle.std.specs.Prelude.{◌≡◌};
 ghost use Rattle.eevdf_fleet.specs.Fleets.{setup_of};
 
-use super::came::call_on;
 use super::{closed, kit_of};
 use crate::fixtures::{give_back, one_task_each, take_pair};
 use crate::fleet_calls::seat_call::Call;
+use crate::seats::CallingSeat;
 use eevdf_fleet::Names;
 use eevdf_fleet::endless::{Fleet, Kit, Seat};
 use eevdf_ops::Outcome;
@@ -74,7 +74,7 @@ fn work_beside<N: Names, R: Wait>(
 ) -> Seat<N> {
     signals.await_signal(&signals.is_looking);
     for call in [Call::Pick, Call::Tick(1_000), Call::Post(0), Call::Drain] {
-        let _came = call_on(rt, fleet, &mut seat, call);
+        let _came = seat.call(rt, fleet, call);
     }
     signals.is_done.store(true, Ordering::SeqCst);
     seat

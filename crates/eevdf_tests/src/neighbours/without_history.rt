@@ -1,17 +1,13 @@
 //! The calls of a fleet that keeps no history, with looks, and with how many requests more fit into a ring.
 
-ghost use Rattle.std.specs.Prelude.{◌≡◌, true};
+ghost use Rattle.std.specs.Prelude.{◌≡◌};
 ghost use Rattle.eevdf_fleet.specs.Fleets.{setup_of};
-ghost use Rattle.eevdf_ops.specs.Setup.{homes_of, is_task};
 
-use super::{calls, pairs, two_tasks_each};
+use super::{call_both, pairs, two_tasks_each};
 use crate::endless_calls::kit_of;
 use crate::fixtures::cpu;
-use crate::fleet_calls::seat_call::Call;
+use eevdf_fleet::Names;
 use eevdf_fleet::endless::{Fleet, Kit, Seat};
-use eevdf_fleet::{Names, Operated};
-use eevdf_ops::Op;
-use eevdf_queue::TaskId;
 use std::alloc::Global;
 use std::marker::Brand;
 use std::process::Abort;
@@ -21,32 +17,6 @@ use std::sync::Wait;
 const LEVEL_0: u64 = 1024;
 
 const LEVEL_5: u64 = 335;
-
-/// Makes a call, and says what comes of it.
-fn came<N: Names, R: Wait>(
-    rt: &R,
-    fleet: &Fleet<N>,
-    seat: &mut Seat<N>,
-    call: Call,
-) -> Option<Operated> {
-    let operation = call.operation()?;
-    if let Op::Post(task) = operation {
-        if fleet.has_task(task) {
-            return posted(seat, task);
-        }
-    }
-    fleet.try_operate(rt, seat, operation).ok()
-}
-
-/// Posts a request. It has no handle `Wait`, so it compiles only as long as a post doesn't wait.
-fn posted<N: Names>(seat: &mut Seat<N>, task: TaskId) -> Option<Operated>
-    requires { is_task (homes_of (setup_of N.kit)) task ≡ true }
-{
-    match seat.post(task) {
-        Ok(()) => Some(Operated::Posted),
-        Err(_) => None,
-    }
-}
 
 /// What a seat sees of a CPU: the load there, and how many requests more fit into its ring to it.
 fn seen<N: Names, R: Wait + Abort>(
@@ -69,11 +39,7 @@ fn make_calls<N: Names, R: Wait + Abort>(rt: &R, alloc: Global, kit: Kit, cpu: u
     requires { kit ≡ N.kit }
 {
     let (fleet, mut seats) = Fleet::<N>::open(alloc, kit).expect(rt, "memory");
-    for (caller, call, wanted) in calls(rt, alloc, cpu, neighbour) {
-        let seat = seats.get_mut(caller as usize).expect(rt, "seat");
-        let came = came(rt, &fleet, seat, call);
-        assert!(rt; came == Some(wanted), "CPU {cpu} beside {neighbour}");
-    }
+    call_both(rt, alloc, &fleet, &mut seats, cpu, neighbour);
     for caller in [cpu, neighbour] {
         let seat = seats.get_mut(caller as usize).expect(rt, "seat");
         let own = seen(rt, &fleet, seat, cpu);

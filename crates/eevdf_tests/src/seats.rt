@@ -1,0 +1,99 @@
+//! Seats of fleets of both kinds, with a history and without, on which tests make the same calls.
+
+use crate::fleet_calls::seat_call::Call;
+use eevdf_fleet::{Fleet, Names, Operated, Refused, Seat, endless};
+use eevdf_queue::TaskId;
+use std::alloc::Global;
+use std::process::Abort;
+use std::sync::Wait;
+
+/// What comes of a call.
+pub type Came = Result<Operated, Refused>;
+
+/// A seat that makes calls.
+pub trait CallingSeat {
+    /// The fleet that the seat is of.
+    type Fleet;
+
+    /// Makes a call. `None` where its numbers are out of range.
+    fn call<R: Wait>(&mut self, rt: &R, fleet: &Self::Fleet, call: Call) -> Option<Came>;
+
+    /// Posts a request, where the setup has the task. It has no handle `Wait`, so it compiles only as long as a post doesn't wait.
+    fn posted(&mut self, fleet: &Self::Fleet, task: TaskId) -> Option<Operated>;
+}
+
+impl<N: Names> CallingSeat for Seat<N> {
+    type Fleet = Fleet<N>;
+
+    /// The answer of a deed is that of the seat's last line too: else the call comes to nothing.
+    fn call<R: Wait>(&mut self, rt: &R, fleet: &Fleet<N>, call: Call) -> Option<Came> {
+        let came = fleet.try_operate(rt, self, call.operation()?);
+        if is_logged(self, &came) {
+            Some(came)
+        } else {
+            None
+        }
+    }
+
+    fn posted(&mut self, fleet: &Fleet<N>, task: TaskId) -> Option<Operated> {
+        if fleet.has_task(task) && self.post(task).is_ok() {
+            Some(Operated::Posted)
+        } else {
+            None
+        }
+    }
+}
+
+/// Whether an answer is that of the seat's last line.
+fn is_logged<N: Names>(seat: &Seat<N>, came: &Came) -> bool {
+    match came {
+        Ok(Operated::Answer(answer)) => match seat.log().last() {
+            Some(line) => line.answer == *answer,
+            None => false,
+        },
+        _ => true,
+    }
+}
+
+impl<N: Names> CallingSeat for endless::Seat<N> {
+    type Fleet = endless::Fleet<N>;
+
+    fn call<R: Wait>(&mut self, rt: &R, fleet: &endless::Fleet<N>, call: Call) -> Option<Came> {
+        Some(fleet.try_operate(rt, self, call.operation()?))
+    }
+
+    fn posted(&mut self, fleet: &endless::Fleet<N>, task: TaskId) -> Option<Operated> {
+        if fleet.has_task(task) && self.post(task).is_ok() {
+            Some(Operated::Posted)
+        } else {
+            None
+        }
+    }
+}
+
+/// What came of a call, as it is printed.
+pub fn text_of(rt: &impl Abort, alloc: Global, came: &Came) -> String {
+    let text = match came {
+        Ok(operated) => format!(in alloc; "{operated}"),
+        Err(refused) => format!(in alloc; "{refused}"),
+    };
+    text.expect(rt, "memory")
+}
+
+/// Makes calls, each on the seat of a CPU, and gives the text of the first of which something else comes than that is printed.
+pub fn first_wrong<S: CallingSeat, R: Wait + Abort>(
+    rt: &R,
+    alloc: Global,
+    fleet: &S::Fleet,
+    seats: &mut [S],
+    calls: &[(usize, Call, &'static str)],
+) -> Option<&'static str> {
+    for (cpu, call, text) in calls {
+        let seat = seats.get_mut(*cpu).expect(rt, "seat");
+        let came = seat.call(rt, fleet, *call).expect(rt, "call");
+        if text_of(rt, alloc, &came).as_str() != *text {
+            return Some(text);
+        }
+    }
+    None
+}
