@@ -217,8 +217,7 @@ fn push_name(
     };
     let args = Values {
         name: Some(name),
-        lag: None,
-        load: None,
+        ..Values::none()
     };
     push_event(alloc, text, &head, kind, args)
 }
@@ -238,49 +237,31 @@ fn push_due(alloc: Global, text: &mut Vec<u8>, due: &Due) -> Result<(), AllocErr
             *number,
         ),
         What::Ends(cpu, number) => push_arrow(alloc, text, Phase::ArrowEnds, time, *cpu, *number),
-        What::Load(cpu, load) => push_load(alloc, text, time, *cpu, *load),
-        What::Lag(task, lag) => push_lag(alloc, text, time, *task, *lag),
+        What::Load(cpu, load) => {
+            let name = format!(in alloc; "load of CPU {cpu}")?;
+            let args = Values {
+                load: Some(*load),
+                ..Values::none()
+            };
+            push_event(alloc, text, &head_of(Phase::Counter, time, 0), &name, args)
+        }
+        What::Lag(task, lag) => {
+            let name = format!(in alloc; "lag of task {task}")?;
+            let head = Head {
+                process: LAGS,
+                ..head_of(Phase::Counter, time, 0)
+            };
+            let args = Values {
+                lag: Some(*lag),
+                ..Values::none()
+            };
+            push_event(alloc, text, &head, &name, args)
+        }
     }
 }
 
 fn push_done(alloc: Global, text: &mut Vec<u8>, moment: &Moment) -> Result<(), AllocError> {
     push_slice(alloc, text, moment.begin, moment.line.deed.cpu(), moment)
-}
-
-fn push_load(
-    alloc: Global,
-    text: &mut Vec<u8>,
-    time: u64,
-    cpu: CpuId,
-    load: u64,
-) -> Result<(), AllocError> {
-    let name = format!(in alloc; "load of CPU {cpu}")?;
-    let args = Values {
-        name: None,
-        lag: None,
-        load: Some(load),
-    };
-    push_event(alloc, text, &head_of(Phase::Counter, time, 0), &name, args)
-}
-
-fn push_lag(
-    alloc: Global,
-    text: &mut Vec<u8>,
-    time: u64,
-    task: TaskId,
-    lag: i64,
-) -> Result<(), AllocError> {
-    let name = format!(in alloc; "lag of task {task}")?;
-    let head = Head {
-        process: LAGS,
-        ..head_of(Phase::Counter, time, 0)
-    };
-    let args = Values {
-        name: None,
-        lag: Some(lag),
-        load: None,
-    };
-    push_event(alloc, text, &head, &name, args)
 }
 
 fn push_run(alloc: Global, text: &mut Vec<u8>, stretch: &Stretch) -> Result<(), AllocError> {

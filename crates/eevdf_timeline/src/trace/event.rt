@@ -66,6 +66,16 @@ pub struct Values {
     pub load: Option<u64>,
 }
 
+impl Values {
+    pub(crate) fn none() -> Values {
+        Values {
+            name: None,
+            lag: None,
+            load: None,
+        }
+    }
+}
+
 /// What an event has beside its name and its arguments.
 #[derive(Clone, Copy)]
 pub struct Head {
@@ -97,12 +107,7 @@ pub(crate) fn push_plain(
     head: &Head,
     name: &str,
 ) -> Result<(), AllocError> {
-    let args = Values {
-        name: None,
-        lag: None,
-        load: None,
-    };
-    push_event(alloc, text, head, name, args)
+    push_event(alloc, text, head, name, Values::none())
 }
 
 pub(crate) fn push_event(
