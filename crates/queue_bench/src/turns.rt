@@ -8,6 +8,15 @@ use crate::mix::Mix;
 use crate::pull_queues::PullQueues;
 use std::alloc::{AllocError, Global};
 
+/// Turns that make these calls, one after the other.
+macro_rules! turns_of {
+    ($bench:expr, $turns:expr, $($call:ident),+) => {
+        repeat($bench, $turns, |bench| {
+            $(bench.$call();)+
+        })
+    };
+}
+
 /// The checksum of the answers of a run.
 pub fn checksum_of(alloc: Global, run: &AskedRun) -> Result<u64, AllocError> {
     if run.mix == Mix::Pull {
@@ -23,54 +32,21 @@ pub fn checksum_of(alloc: Global, run: &AskedRun) -> Result<u64, AllocError> {
 
 fn make_turns(bench: &mut BenchQueue, mix: Mix, turns: u64) {
     match mix {
-        Mix::Pick => repeat(bench, turns, |bench| bench.pick_with_rare_ticks()),
-        Mix::TickPick => repeat(bench, turns, |bench| {
-            bench.tick();
-            bench.pick();
-        }),
-        Mix::SleepPickWake => repeat(bench, turns, |bench| bench.sleep_pick_wake()),
-        Mix::YieldPick => repeat(bench, turns, |bench| {
-            bench.yield_now();
-            bench.pick();
-        }),
-        Mix::TickSleepPickWake => repeat(bench, turns, |bench| {
-            bench.tick();
-            bench.sleep_pick_wake();
-        }),
-        Mix::Renice => repeat(bench, turns, |bench| bench.renice()),
+        Mix::Pick => turns_of!(bench, turns, pick_with_rare_ticks),
+        Mix::TickPick => turns_of!(bench, turns, tick, pick),
+        Mix::SleepPickWake => turns_of!(bench, turns, sleep_pick_wake),
+        Mix::YieldPick => turns_of!(bench, turns, yield_now, pick),
+        Mix::TickSleepPickWake => turns_of!(bench, turns, tick, sleep_pick_wake),
+        Mix::Renice => turns_of!(bench, turns, renice),
         // The pick is known.
-        Mix::PickPeek => repeat(bench, turns, |bench| {
-            bench.pick_with_rare_ticks();
-            bench.peek();
-        }),
-        Mix::TickPeekPick => repeat(bench, turns, |bench| {
-            bench.tick();
-            bench.peek();
-            bench.pick();
-        }),
+        Mix::PickPeek => turns_of!(bench, turns, pick_with_rare_ticks, peek),
+        Mix::TickPeekPick => turns_of!(bench, turns, tick, peek, pick),
         // The running task's entry is known.
-        Mix::TickPickTimer => repeat(bench, turns, |bench| {
-            bench.tick();
-            bench.pick();
-            bench.timer();
-        }),
-        Mix::TickTimerPick => repeat(bench, turns, |bench| {
-            bench.tick();
-            bench.timer();
-            bench.pick();
-        }),
-        Mix::TickRebasePick => repeat(bench, turns, |bench| {
-            bench.tick();
-            bench.rebase();
-            bench.pick();
-        }),
+        Mix::TickPickTimer => turns_of!(bench, turns, tick, pick, timer),
+        Mix::TickTimerPick => turns_of!(bench, turns, tick, timer, pick),
+        Mix::TickRebasePick => turns_of!(bench, turns, tick, rebase, pick),
         // The pick is known.
-        Mix::TickPickRebasePick => repeat(bench, turns, |bench| {
-            bench.tick();
-            bench.pick();
-            bench.rebase();
-            bench.pick();
-        }),
+        Mix::TickPickRebasePick => turns_of!(bench, turns, tick, pick, rebase, pick),
         Mix::Pull => {}
     }
 }
