@@ -12,7 +12,7 @@ ghost use Rattle.std.specs.Prelude.{◌≡◌};
 ghost use Rattle.eevdf_fleet.specs.Fleets.{setup_of};
 
 use crate::fleet_calls::seat_call::Call;
-use crate::seats::first_wrong;
+use crate::seats::make_told_calls;
 use eevdf_fleet::Names;
 use eevdf_fleet::endless::{Closed, Fleet, Kit, Seat};
 use eevdf_ops::{Outcome, Setup};
@@ -33,20 +33,18 @@ struct Case {
     report: &'static str,
 }
 
-/// What a fleet is closed to after these calls, where each comes to what is told.
+/// What a fleet is closed to after the calls of a case, of which each comes to what is told.
 fn outcome_of<N: Names, R: Wait + Abort>(
     rt: &R,
     alloc: Global,
     kit: Kit,
-    calls: &[(usize, Call, &'static str)],
+    case: &Case,
 ) -> Option<Outcome>
     requires { kit ≡ N.kit }
 {
     let (fleet, mut seats) = Fleet::<N>::open(alloc, kit).expect(rt, "memory");
-    match first_wrong(rt, alloc, &fleet, &mut seats, calls) {
-        None => closed(alloc, fleet, seats),
-        Some(_) => None,
-    }
+    make_told_calls(rt, alloc, &fleet, &mut seats, case.name, case.calls);
+    closed(alloc, fleet, seats)
 }
 
 /// Closes a fleet, where these are its seats. It has no handle `Wait`, so it compiles only as long as `close` doesn't wait.
@@ -81,7 +79,7 @@ pub fn kit_of(rt: &impl Abort, alloc: Global, setup: &Setup, rings: usize) -> Ki
 fn holds<R: Wait + Abort>(rt: &R, alloc: Global, case: &Case) -> Option<bool> {
     let workload = read_workload(alloc, case.workload).expect(rt, "workload");
     let kit = kit_of(rt, alloc, workload.setup(), case.rings);
-    let outcome = outcome_of::<Brand, _>(rt, alloc, kit, case.calls)?;
+    let outcome = outcome_of::<Brand, _>(rt, alloc, kit, case)?;
     let text = report(alloc, &outcome, false).expect(rt, "memory");
     Some(text.as_slice() == case.report.as_bytes())
 }

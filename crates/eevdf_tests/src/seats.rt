@@ -72,7 +72,7 @@ impl<N: Names> CallingSeat for endless::Seat<N> {
 }
 
 /// What came of a call, as it is printed.
-pub fn text_of(rt: &impl Abort, alloc: Global, came: &Came) -> String {
+fn text_of(rt: &impl Abort, alloc: Global, came: &Came) -> String {
     let text = match came {
         Ok(operated) => format!(in alloc; "{operated}"),
         Err(refused) => format!(in alloc; "{refused}"),
@@ -80,20 +80,21 @@ pub fn text_of(rt: &impl Abort, alloc: Global, came: &Came) -> String {
     text.expect(rt, "memory")
 }
 
-/// Makes calls, each on the seat of a CPU, and gives the text of the first of which something else comes than that is printed.
-pub fn first_wrong<S: CallingSeat, R: Wait + Abort>(
+/// Makes the calls of a case, each on the seat of a CPU, and asks that what comes of each is printed as is told.
+pub fn make_told_calls<S: CallingSeat, R: Wait + Abort>(
     rt: &R,
     alloc: Global,
     fleet: &S::Fleet,
     seats: &mut [S],
+    case: &str,
     calls: &[(usize, Call, &'static str)],
-) -> Option<&'static str> {
+) {
     for (cpu, call, text) in calls {
         let seat = seats.get_mut(*cpu).expect(rt, "seat");
         let came = seat.call(rt, fleet, *call).expect(rt, "call");
-        if text_of(rt, alloc, &came).as_str() != *text {
-            return Some(text);
-        }
+        assert!(rt;
+            text_of(rt, alloc, &came).as_str() == *text,
+            "{case}: {text}"
+        );
     }
-    None
 }

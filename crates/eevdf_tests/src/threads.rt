@@ -2,6 +2,7 @@
 //! operations, and give up after a bounded number of turns. A test of turns has no gate: it ends if all threads do.
 
 mod all_at_once;
+mod call_turns;
 mod every_cpu;
 mod gate_call;
 mod gate_calls;

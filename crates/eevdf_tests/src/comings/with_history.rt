@@ -7,7 +7,7 @@ use super::{Case, stands_in, three_tasks};
 use crate::fixtures::{cpu, task};
 use crate::fleet_calls::kit_of;
 use crate::fleet_calls::seat_call::Call;
-use crate::seats::{CallingSeat, first_wrong};
+use crate::seats::{CallingSeat, make_told_calls};
 use eevdf_fleet::{Fleet, Kit, Names, Refused};
 use std::alloc::Global;
 use std::marker::Brand;
@@ -19,8 +19,7 @@ fn make_calls<N: Names, R: Wait + Abort>(rt: &R, alloc: Global, kit: Kit, case: 
     requires { kit ≡ N.kit }
 {
     let (fleet, mut seats) = Fleet::<N>::open(alloc, kit).expect(rt, "memory");
-    let wrong = first_wrong(rt, alloc, &fleet, &mut seats, case.calls);
-    assert!(rt; wrong.is_none(), "{}: {wrong:?}", case.name);
+    make_told_calls(rt, alloc, &fleet, &mut seats, case.name, case.calls);
     assert!(rt; fleet.has_all_seats(&seats));
     let closed = fleet.close(seats);
     for (cpu, wanted) in case.queues.iter().enumerate() {

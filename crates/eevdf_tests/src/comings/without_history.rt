@@ -6,7 +6,7 @@ use super::cases::CASES;
 use super::{Case, stands_in, three_tasks};
 use crate::endless_calls::kit_of;
 use crate::fixtures::{cpu, task};
-use crate::seats::first_wrong;
+use crate::seats::make_told_calls;
 use eevdf_fleet::Names;
 use eevdf_fleet::endless::{Fleet, Kit};
 use std::alloc::Global;
@@ -19,8 +19,7 @@ fn make_calls<N: Names, R: Wait + Abort>(rt: &R, alloc: Global, kit: Kit, case: 
     requires { kit ≡ N.kit }
 {
     let (fleet, mut seats) = Fleet::<N>::open(alloc, kit).expect(rt, "memory");
-    let wrong = first_wrong(rt, alloc, &fleet, &mut seats, case.calls);
-    assert!(rt; wrong.is_none(), "{}: {wrong:?}", case.name);
+    make_told_calls(rt, alloc, &fleet, &mut seats, case.name, case.calls);
     assert!(rt; !fleet.is_at_home(task(rt, 2), cpu(rt, 1)));
     assert!(rt; !fleet.is_at_home(task(rt, 3), cpu(rt, 0)));
     assert!(rt; fleet.has_all_seats(&seats));

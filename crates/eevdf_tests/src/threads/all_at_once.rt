@@ -1,13 +1,13 @@
 //! The CPUs of a run are all under way at the same time: in each turn of a caller, and in each operation of a program, a token goes
 //! round all of them.
 
+use super::call_turns::{CallTurns, TurnCalls};
 use super::gate_call::{GateCall, Moment, Passing, PassingGate};
 use super::token::Token;
 use crate::fixtures::{one_task_each, picks_of_one_task_each};
+use crate::fleet_calls::seat_call::Call;
 use crate::{endless_calls, fleet_calls};
-use eevdf_fleet::{Fleet, Names, Seat, SeatTurn, endless, run_all, run_turns};
-use std::ops::ControlFlow;
-use std::sync::Wait;
+use eevdf_fleet::{endless, run_all, run_turns};
 
 /// So many CPUs there are in the tests.
 const CPUS: [usize; 3] = [2, 8, 64];
@@ -21,18 +21,25 @@ struct RoundsOfTurns {
     token: Token,
 }
 
-impl SeatTurn for RoundsOfTurns {
-    fn turn<N: Names, R: Wait>(
-        &self,
-        rt: &R,
-        fleet: &Fleet<N>,
-        seat: &mut Seat<N>,
-        turn: usize,
-    ) -> ControlFlow<()> {
-        let _picked = fleet.pick(rt, seat);
-        self.token.go_round(turn, seat.cpu().index());
-        let _yielded = fleet.yield_now(rt, seat);
-        ControlFlow::Continue(())
+impl TurnCalls for RoundsOfTurns {
+    fn call_at(&self, cpu: u64, turn: usize, at: usize) -> Option<Call> {
+        match at {
+            0 => Some(Call::Pick),
+            1 => {
+                self.token.go_round(turn, cpu as usize);
+                Some(Call::Yield)
+            }
+            _ => None,
+        }
+    }
+}
+
+impl RoundsOfTurns {
+    fn of(cpus: usize) -> CallTurns<RoundsOfTurns> {
+        let token = Token::new(cpus);
+        CallTurns {
+            each: RoundsOfTurns { token },
+        }
     }
 }
 
@@ -41,31 +48,9 @@ fn turns_of_all_cpus_go_on_at_once(rt: HostRuntime) {
     for cpus in CPUS {
         let setup = one_task_each(&rt, rt.alloc(), cpus);
         let kit = fleet_calls::kit_of(&rt, rt.alloc(), &setup, 2 * ROUNDS, 1);
-        let each = RoundsOfTurns {
-            token: Token::new(cpus),
-        };
-        let _closed = run_turns(&rt, rt.alloc(), kit, ROUNDS, &each).expect(&rt, "turns");
-        assert!(rt; each.token.has_gone(ROUNDS), "{cpus} CPUs");
-    }
-}
-
-/// A round of the token in the one turn of each CPU of a fleet that keeps no history.
-#[derive(Drop)]
-struct RoundOfTurns {
-    token: Token,
-}
-
-impl endless::SeatTurn for RoundOfTurns {
-    fn turn<N: Names, R: Wait>(
-        &self,
-        rt: &R,
-        fleet: &endless::Fleet<N>,
-        seat: &mut endless::Seat<N>,
-    ) -> ControlFlow<()> {
-        let _picked = fleet.pick(rt, seat);
-        self.token.go_round(0, seat.cpu().index());
-        let _yielded = fleet.yield_now(rt, seat);
-        ControlFlow::Break(())
+        let turns = RoundsOfTurns::of(cpus);
+        let _closed = run_turns(&rt, rt.alloc(), kit, ROUNDS, &turns).expect(&rt, "turns");
+        assert!(rt; turns.each.token.has_gone(ROUNDS), "{cpus} CPUs");
     }
 }
 
@@ -74,11 +59,9 @@ fn turns_without_a_history_go_on_at_once(rt: HostRuntime) {
     for cpus in CPUS {
         let setup = one_task_each(&rt, rt.alloc(), cpus);
         let kit = endless_calls::kit_of(&rt, rt.alloc(), &setup, 1);
-        let each = RoundOfTurns {
-            token: Token::new(cpus),
-        };
-        let _closed = endless::run_turns(&rt, rt.alloc(), kit, &each).expect(&rt, "turns");
-        assert!(rt; each.token.has_gone(1), "{cpus} CPUs");
+        let turns = RoundsOfTurns::of(cpus);
+        let _closed = endless::run_turns(&rt, rt.alloc(), kit, &turns).expect(&rt, "turns");
+        assert!(rt; turns.each.token.has_gone(1), "{cpus} CPUs");
     }
 }
 

@@ -1,14 +1,13 @@
 //! Each CPU does each kind of operation, beside all others. Two CPUs post to one another, and pull from one another, for which a
 //! thread takes the locks of both: if two threads took them in different orders, they could wait for one another for ever.
 
+use super::call_turns::{CallTurns, TurnCalls};
 use crate::fixtures::one_task_each;
 use crate::fleet_calls::kit_of;
-use crate::fleet_calls::seat_call::{Call, call_on};
-use eevdf_fleet::{Closed, Fleet, Names, Seat, SeatTurn, run_turns};
+use crate::fleet_calls::seat_call::Call;
+use eevdf_fleet::{Closed, run_turns};
 use eevdf_ops::Deed;
-use std::ops::ControlFlow;
 use std::process::Abort;
-use std::sync::Wait;
 
 /// Each operation once in each turn. CPU c pulls from CPU `cpus - 1 - c` and posts to it.
 #[derive(Drop)]
@@ -16,25 +15,20 @@ struct EachOperation {
     cpus: u64,
 }
 
-impl SeatTurn for EachOperation {
-    fn turn<N: Names, R: Wait>(
-        &self,
-        rt: &R,
-        fleet: &Fleet<N>,
-        seat: &mut Seat<N>,
-        _turn: usize,
-    ) -> ControlFlow<()> {
-        let own = seat.cpu().get();
+impl TurnCalls for EachOperation {
+    fn call_at(&self, own: u64, _turn: usize, at: usize) -> Option<Call> {
         let other = self.cpus.saturating_sub(own).saturating_sub(1);
-        let _done = call_on(rt, fleet, seat, Call::Pick);
-        let _done = call_on(rt, fleet, seat, Call::Tick(1_000));
-        let _done = call_on(rt, fleet, seat, Call::Yield);
-        let _done = call_on(rt, fleet, seat, Call::Renice(own, 5));
-        let _done = call_on(rt, fleet, seat, Call::Pull(other));
-        let _done = call_on(rt, fleet, seat, Call::Post(other));
-        let _done = call_on(rt, fleet, seat, Call::Drain);
-        let _done = call_on(rt, fleet, seat, Call::Sleep(own));
-        ControlFlow::Continue(())
+        let calls = [
+            Call::Pick,
+            Call::Tick(1_000),
+            Call::Yield,
+            Call::Renice(own, 5),
+            Call::Pull(other),
+            Call::Post(other),
+            Call::Drain,
+            Call::Sleep(own),
+        ];
+        calls.get(at).copied()
     }
 }
 
@@ -77,7 +71,8 @@ fn every_cpu_does_each_operation(rt: HostRuntime) {
         let setup = one_task_each(&rt, rt.alloc(), cpus);
         let kit = kit_of(&rt, rt.alloc(), &setup, quota, turns);
         let each = EachOperation { cpus: cpus as u64 };
-        let closed = run_turns(&rt, rt.alloc(), kit, turns, &each).expect(&rt, "turns");
+        let calls = CallTurns { each };
+        let closed = run_turns(&rt, rt.alloc(), kit, turns, &calls).expect(&rt, "turns");
         have_done_each(&rt, &closed, cpus, turns);
     }
 }

@@ -1,11 +1,11 @@
 //! A caller's own turns are done by a thread for each CPU, until it has had them all or ends them.
 
+use super::call_turns::{CallTurns, TurnCalls};
 use crate::fixtures::one_task_each;
-use eevdf_fleet::{Fleet, Kit, Names, Seat, SeatTurn, run_turns};
+use crate::fleet_calls::seat_call::Call;
+use eevdf_fleet::{Kit, run_turns};
 use std::alloc::Global;
-use std::ops::ControlFlow;
 use std::process::Abort;
-use std::sync::Wait;
 use std::sync::atomic::{AtomicBool, AtomicUsize, Ordering};
 
 const CPUS: usize = 64;
@@ -49,20 +49,17 @@ impl CountedPicks {
     }
 }
 
-impl SeatTurn for CountedPicks {
-    fn turn<N: Names, R: Wait>(
-        &self,
-        rt: &R,
-        fleet: &Fleet<N>,
-        seat: &mut Seat<N>,
-        turn: usize,
-    ) -> ControlFlow<()> {
-        self.count(seat.cpu().index(), turn);
-        let _ = fleet.pick(rt, seat);
-        if turn == 1 && seat.cpu().get() % 2 == 1 {
-            return ControlFlow::Break(());
+impl TurnCalls for CountedPicks {
+    fn call_at(&self, cpu: u64, turn: usize, at: usize) -> Option<Call> {
+        if at > 0 {
+            return None;
         }
-        ControlFlow::Continue(())
+        self.count(cpu as usize, turn);
+        Some(Call::Pick)
+    }
+
+    fn ends(&self, cpu: u64, turn: usize) -> bool {
+        turn == 1 && cpu % 2 == 1
     }
 }
 
@@ -71,9 +68,10 @@ impl SeatTurn for CountedPicks {
 fn each_cpu_has_its_turns_until_it_ends_them(rt: HostRuntime) {
     let setup = one_task_each(&rt, rt.alloc(), CPUS);
     let kit = Kit::make(rt.alloc(), &setup, 3, 1).expect(&rt, "memory");
-    let picks = CountedPicks::new(&rt, rt.alloc());
-    let closed = run_turns(&rt, rt.alloc(), kit, 5, &picks).expect(&rt, "turns");
-    assert!(rt; picks.has_counted(5));
-    assert!(rt; !picks.is_misnumbered.load(Ordering::SeqCst));
+    let each = CountedPicks::new(&rt, rt.alloc());
+    let turns = CallTurns { each };
+    let closed = run_turns(&rt, rt.alloc(), kit, 5, &turns).expect(&rt, "turns");
+    assert!(rt; turns.each.has_counted(5));
+    assert!(rt; !turns.each.is_misnumbered.load(Ordering::SeqCst));
     assert!(rt; closed.history().len() == CPUS / 2 * 3 + CPUS / 2 * 2);
 }
