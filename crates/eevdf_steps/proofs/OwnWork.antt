@@ -3,13 +3,13 @@ use Rattle.std.proofs.Common.{◌≡◌, ◌≢◌, ℕ, ◌<◌, true, false, c
 use Rattle.std.proofs.lemmas.{Bool.eqb-true, Bool.eq-eqb, Bool.ne_eqb, List.get_or-set_same, List.get_or-set_other}
 use Rattle.std.specs.Prelude.{◌==◌, IfSome, Option, Some, None, Result, Ok, Err}
 use Rattle.eevdf_queue.specs.State.{State, Contents, empty_state}
-use Rattle.eevdf_queue.specs.{Moves.put_asleep, Moves.sleeper_of, Leaving.carried_running, Leaving.leave, Placing.can_place}
+use Rattle.eevdf_queue.specs.{Moves.put_asleep, Moves.sleeper_of, Leaving.leave, Placing.can_place}
 use Rattle.eevdf_ops.specs.{declared.deeds.Op.Op, declared.deeds.Deed.Deed, declared.deeds.Answer.Answer}
 use Rattle.eevdf_ops.specs.{declared.deeds.Answer.TheVariants.Pulled, Machine.Machine}
-use Rattle.eevdf_ops.specs.{Machine.queue_at, Programs.deed_of, Whole.whole, WholeEnd.ending}
+use Rattle.eevdf_ops.specs.{Machine.queue_at, Programs.deed_of, Whole.whole}
 use Rattle.eevdf_ops.specs.declared.deeds.Op.TheVariants as op
 use Rattle.eevdf_ops.specs.declared.deeds.Deed.TheVariants as deed
-use Rattle.eevdf_ops.specs.Parts.{after_leaving, after_falling_asleep, after_joining, answer_of_end, answer_of_pull, answer_of_sleep, giver, only_at, taken}
+use Rattle.eevdf_ops.specs.Parts.{after_leaving, after_falling_asleep, after_joining, answer_of_pull, giver, only_at, taken}
 use Rattle.eevdf_ops.specs.PartsLaws as laws
 use Rattle.eevdf_ops.specs.WholePull.{load_of, offer, pull_decision, with_task}
 use Rattle.eevdf_ops.proofs.LocalParts.{changed, idle, untaken, whole-after, whole-answer}
@@ -19,7 +19,7 @@ use Rattle.eevdf_steps.specs.Plan.{Plan, callers, home}
 use Rattle.eevdf_steps.specs.Counters.{Counters, counted, holds}
 use Rattle.eevdf_steps.specs.{declared.plan.Step.Step, Serial.begun_by}
 use Rattle.eevdf_steps.specs.UnderWay.{KeepsAnswer, UnderWay, begun, hand_seen, leaves, queue_seen, under_way}
-use Rattle.eevdf_steps.specs.Work.{Work, acted, answer, answered, attach_asleep, attach_pulled, detach_ending, detach_pulled, detach_running, detached, emptied, hand, with_queue}
+use Rattle.eevdf_steps.specs.Work.{Work, acted, answer, answered, attach_asleep, attach_pulled, detach_pulled, detached, emptied, hand, with_queue}
 use Rattle.eevdf_steps.proofs.OtherCallers.{IsStepOf}
 use Rattle.eevdf_steps.proofs.OwnSteps.{AtStep, begun_now, local_step, sees_history, hand_empty, other_held}
 
@@ -81,19 +81,12 @@ module _ {plan : Plan} {counters : Counters} {p : ℕ} {m : Machine} {w : Work} 
   left_step d None a at now own below answers leaves_it = refused_step d a at now answers leaves_it
   left_step d (Some x) a at now own below answers leaves_it = grasped_step d x a at now own below answers leaves_it
 
-  -- the running task that is to sleep
-  pub sleep_leaves : (t : ℕ) (r : Option Contents) → AtStep plan counters p m w (op.Sleep t) Detach
-      → begun_by plan (counted counters p) p ≡ Some (record { deed = deed.Sleep p t; done = false }) → holds plan counters p p ≡ true
-      → carried_running (queue_at m p) t ≡ r → IsStepOf plan counters p m m w (detach_running w p r)
-  sleep_leaves t r at now own e =
-      left_step (deed.Sleep p t) r (answer_of_sleep r) at now own (omega (arith, at.caller, at.queues)) (whole-answer plan.homes (deed.Sleep p t) m ∙ ap answer_of_sleep e) e
-
-  -- the runnable task that is to end
-  pub end_leaves : (t : ℕ) (r : Option Contents) → AtStep plan counters p m w (op.End t) Detach
-      → begun_by plan (counted counters p) p ≡ Some (record { deed = deed.End p t; done = false }) → holds plan counters p p ≡ true
-      → ending (queue_at m p) t ≡ r → IsStepOf plan counters p m m w (detach_ending w p r)
-  end_leaves t r at now own e =
-      left_step (deed.End p t) r (answer_of_end r) at now own (omega (arith, at.caller, at.queues)) (whole-answer plan.homes (deed.End p t) m ∙ ap answer_of_end e) e
+  -- the task of a sleep or of an end, which leaves the caller's own queue
+  pub own_leaves : {o : Op} (d : Deed) (r : Option Contents) (says : Option Contents → Answer) → AtStep plan counters p m w o Detach
+      → begun_by plan (counted counters p) p ≡ Some (record { deed = d; done = false }) → giver d ≡ p → holds plan counters p p ≡ true
+      → (whole plan.homes d m).0 ≡ says (leaves plan.homes m d) → leaves plan.homes m d ≡ r → IsStepOf plan counters p m m w (detached w p (giver d) (says r) r)
+  own_leaves d r says at now is own answers e =
+      left_step d r (says r) at now (ap (λ (c : ℕ). holds plan counters c p) is ∙ own) (omega (arith, at.caller, at.queues, is)) (answers ∙ ap says e) e
 
   -- the task that is pulled
   pub pull_leaves : (s : ℕ) (r : Result Contents Answer) → AtStep plan counters p m w (op.Pull s) Detach
@@ -174,23 +167,13 @@ module _ {plan : Plan} {counters : Counters} {p : ℕ} {m : Machine} {w : Work} 
       (λ c held. puts c held ∙ ap (λ (y : Option Contents). only_at k c (after_falling_asleep y) (queue_at w.machine c)) e)
 
   -- a deed puts the task in hand to sleep in a queue that the caller holds
-  home_step : {o : Op} (k : ℕ) (d : Deed) → AtAttach plan counters p m w o d → holds plan counters k p ≡ true → k < callers plan
+  pub home_step : {o : Op} (k : ℕ) (d : Deed) → AtAttach plan counters p m w o d → holds plan counters k p ≡ true → k < callers plan
       → ((c : ℕ) → queue_at (whole plan.homes d m).1 c
       ≡ only_at k c (after_falling_asleep (leaves plan.homes m d)) (only_at (giver d) c (after_leaving (leaves plan.homes m d)) (queue_at m c)))
       → IsStepOf plan counters p m m w (attach_asleep w p k (hand w p))
   home_step k d a own below whole_is =
       asleep_by k d (hand w p) a own below
       (λ c held. whole_is c ∙ ap (λ (q : State). only_at k c (after_falling_asleep (leaves plan.homes m d)) q) (sym (a.queues_are c held))) (sym a.hand_is)
-
-  -- the task in hand falls asleep at its home
-  pub falls_asleep_step : (t : ℕ) → AtAttach plan counters p m w (op.Sleep t) (deed.Sleep p t) → laws.Fits plan.homes (deed.Sleep p t) m
-      → holds plan counters (home plan t) p ≡ true → home plan t < callers plan → IsStepOf plan counters p m m w (attach_asleep w p (home plan t) (hand w p))
-  falls_asleep_step t a fits own below = home_step (home plan t) (deed.Sleep p t) a own below (λ c. whole-after plan.homes (deed.Sleep p t) m c fits)
-
-  -- and so does one that ends
-  pub ends_step : (t : ℕ) → AtAttach plan counters p m w (op.End t) (deed.End p t) → laws.Fits plan.homes (deed.End p t) m
-      → holds plan counters (home plan t) p ≡ true → home plan t < callers plan → IsStepOf plan counters p m m w (attach_asleep w p (home plan t) (hand w p))
-  ends_step t a fits own below = home_step (home plan t) (deed.End p t) a own below (λ c. whole-after plan.homes (deed.End p t) m c fits)
 
   joins_by : (s : ℕ) (h : Option Contents) → AtAttach plan counters p m w (op.Pull s) (deed.Pull p s) → holds plan counters p p ≡ true
       → PutsDown plan counters p m w (deed.Pull p s) p after_joining → leaves plan.homes m (deed.Pull p s) ≡ h → IsStepOf plan counters p m m w (attach_pulled w p h)

@@ -4,7 +4,7 @@ use Rattle.std.proofs.lemmas.Bool.{false≢true, cases_lt, ltb-true, eq-eqb, fal
 use Rattle.std.proofs.lemmas.List.{append-nil}
 use Rattle.std.specs.Prelude.{◌==◌, MatchOption, Option, Some, None, is_none}
 use Rattle.std.specs.{Option.option_to_list}
-use Rattle.eevdf_steps.specs.{Commits.committed, Working.FitsHand, Working.HasRoom, UnderWay.under_way, UnderWay.begun}
+use Rattle.eevdf_steps.specs.{Commits.committed, Working.FitsHand, Working.HasRoom, UnderWay.under_way, UnderWay.begun, UnderWay.leaves}
 use Rattle.eevdf_steps.specs.{declared.micro.Micro.Micro, declared.plan.Step.Step, Serial.FollowsHistory, Serial.IsFree, Serial.IsSerial}
 use Rattle.eevdf_queue.specs.{State.State, Leaving.carried_running}
 use Rattle.eevdf_ops.specs.{declared.deeds.Op.Op, declared.deeds.Deed.Deed, declared.deeds.Answer.Answer, declared.deeds.Line.Line}
@@ -13,18 +13,21 @@ use Rattle.eevdf_ops.specs.{Histories.machine_told}
 use Rattle.eevdf_ops.specs.declared.deeds.Op.TheVariants as op
 use Rattle.eevdf_ops.specs.declared.deeds.Deed.TheVariants as deed
 use Rattle.eevdf_ops.specs.{WholeEnd.ending}
+use Rattle.eevdf_ops.specs.Parts.{after_falling_asleep, after_leaving, answer_of_end, answer_of_sleep, giver, only_at}
+use Rattle.eevdf_ops.specs.PartsLaws as laws
+use Rattle.eevdf_ops.proofs.LocalParts.{whole-after, whole-answer}
 use Rattle.eevdf_ops.specs.WholePull.{decision, load_of, offer, pull_decision}
 use Rattle.eevdf_ops.specs.OneQueue.{one_tick, one_pick, one_yield, one_renice, one_begin, one_set, one_rebase}
 use Rattle.eevdf_steps.specs.declared.micro.Micro.TheVariants.{Acquire, Act, Detach, Attach, Commit, Take, Settle, Release, Post}
-use Rattle.eevdf_steps.specs.Plan.{IsSound, Plan, callers, home}
+use Rattle.eevdf_steps.specs.Plan.{IsSound, Plan, callers, home, is_sound_op}
 use Rattle.eevdf_steps.specs.Counters.{Counters, counted, holder, holds, refused, step_next}
 use Rattle.eevdf_steps.specs.MicroState.{appends, home_for, line_of, works}
-use Rattle.eevdf_steps.specs.Work.{Work, answer, hand, woken, acted}
+use Rattle.eevdf_steps.specs.Work.{Work, answer, attach_asleep, hand, woken, acted}
 use Rattle.eevdf_steps.proofs.{Holders.nobody_past, Holders.not_blocked, Walking.walking, Positions.step_in, SoundSteps.home_below}
 use Rattle.eevdf_steps.proofs.{SoundSteps.is_caller, OtherCallers.IsStepOf, OtherCallers.followed_then, Ready.least_there}
 use Rattle.eevdf_steps.proofs.Walks.{Covers, FitsWalk, Walk, touched, is_acting, is_moving}
 use Rattle.eevdf_steps.proofs.OwnSteps.{AtStep, acquire_step, fresh_begun, quiet_step, release_step, sees_history, hand_empty}
-use Rattle.eevdf_steps.proofs.OwnWork.{AtAttach, acted_step, at_attach, end_leaves, ends_step, falls_asleep_step, joins_step, pull_leaves, room_then, sleep_leaves, ActsThere}
+use Rattle.eevdf_steps.proofs.OwnWork.{AtAttach, acted_step, at_attach, home_step, joins_step, own_leaves, pull_leaves, room_then, ActsThere}
 use Rattle.eevdf_steps.proofs.OwnCommits.{commit_answer, commit_step, history_more, length-machine_after, machine_more, settle_answer, settle_step}
 use Rattle.eevdf_steps.proofs.SoundDeeds.{are_walking, deed_fits, next_fits_cpu, next_sound_op}
 
@@ -107,12 +110,12 @@ module _ (plan : Plan) (start : Machine) (counters : Counters) (p : ℕ) (w : Wo
   detach_serial : (h : ℕ) (o : Op) (f : Option ℕ) → Serial o Detach → Leaves (works h w p o Detach f) []
   detach_serial h (op.Sleep t) f s =
       let own : holds plan counters p p ≡ true = holds_covered (op.Sleep t) s.at.walk s.at.fits.covers p ∙ or_left (p == p) (p == home plan t) (eq-eqb p p refl) in
-      local_serial _ s (sleep_leaves t (carried_running (queue_at w.machine p) t) s.at (ap (λ (n : Option Step). under_way p n) s.at.fits.follows) own
-      (ap (λ (q : State). carried_running q t) (sym (sees_history s.at refl p own))))
+      local_serial _ s (own_leaves (deed.Sleep p t) (carried_running (queue_at w.machine p) t) answer_of_sleep s.at (ap (λ (n : Option Step). under_way p n) s.at.fits.follows) refl own
+      (whole-answer plan.homes (deed.Sleep p t) told) (ap (λ (q : State). carried_running q t) (sym (sees_history s.at refl p own))))
   detach_serial h (op.End t) f s =
       let own : holds plan counters p p ≡ true = holds_covered (op.End t) s.at.walk s.at.fits.covers p ∙ or_left (p == p) (p == home plan t) (eq-eqb p p refl) in
-      local_serial _ s (end_leaves t (ending (queue_at w.machine p) t) s.at (ap (λ (n : Option Step). under_way p n) s.at.fits.follows) own
-      (ap (λ (q : State). ending q t) (sym (sees_history s.at refl p own))))
+      local_serial _ s (own_leaves (deed.End p t) (ending (queue_at w.machine p) t) answer_of_end s.at (ap (λ (n : Option Step). under_way p n) s.at.fits.follows) refl own
+      (whole-answer plan.homes (deed.End p t) told) (ap (λ (q : State). ending q t) (sym (sees_history s.at refl p own))))
   detach_serial h (op.Pull q) f s =
       let covered : (c : ℕ) → holds plan counters c p ≡ touched plan p (op.Pull q) c = holds_covered (op.Pull q) s.at.walk s.at.fits.covers in
       let own : holds plan counters p p ≡ true = covered p ∙ or_left (p == p) (p == q) (eq-eqb p p refl) in
@@ -126,19 +129,22 @@ module _ (plan : Plan) (start : Machine) (counters : Counters) (p : ℕ) (w : Wo
   holds_own_queue : (q : ℕ) → Serial (op.Pull q) Attach → holds plan counters p p ≡ true
   holds_own_queue q s = holds_covered (op.Pull q) s.at.walk s.at.fits.covers p ∙ or_left (p == p) (p == q) (eq-eqb p p refl)
 
+  -- the task in hand, of a sleep or of an end, is put to sleep at its home
+  home_serial : (o : Op) (d : Deed) (t : ℕ) → Serial o Attach → deed_of p o ≡ Some d → (is_sound_op plan o ≡ true → t < length plan.homes)
+      → ((c : ℕ) → touched plan p o c ≡ ((c == p) || (c == home plan t)))
+      → (laws.Fits plan.homes d told → (c : ℕ) → queue_at (whole plan.homes d told).1 c
+      ≡ only_at (home plan t) c (after_falling_asleep (leaves plan.homes told d)) (only_at (giver d) c (after_leaving (leaves plan.homes told d)) (queue_at told c)))
+      → Leaves (attach_asleep w p (home plan t) (hand w p)) []
+  home_serial o d t s is task covers after =
+      local_serial _ s (home_step (home plan t) d (at_attach d s.at is)
+      (holds_covered o s.at.walk s.at.fits.covers (home plan t) ∙ covers (home plan t)
+      ∙ or_right (home plan t == p) (home plan t == home plan t) (eq-eqb (home plan t) (home plan t) refl))
+      (home_below plan t s.sound (task (next_sound_op plan counters p (step_in o Attach) s.sound s.at.next)))
+      (after (deed_fits plan counters p (step_in o Attach) d s.sound s.at.next is told s.at.long)))
+
   attach_serial : (o : Op) (f : Option ℕ) → Serial o Attach → Leaves (works (home_for plan p o) w p o Attach f) []
-  attach_serial (op.Sleep t) f s =
-      let task : t < length plan.homes = ltb-true t (length plan.homes) (next_sound_op plan counters p (step_in (op.Sleep t) Attach) s.sound s.at.next) in
-      local_serial _ s (falls_asleep_step t (at_attach (deed.Sleep p t) s.at refl)
-      (deed_fits plan counters p (step_in (op.Sleep t) Attach) (deed.Sleep p t) s.sound s.at.next refl told s.at.long)
-      (holds_covered (op.Sleep t) s.at.walk s.at.fits.covers (home plan t)
-      ∙ or_right (home plan t == p) (home plan t == home plan t) (eq-eqb (home plan t) (home plan t) refl)) (home_below plan t s.sound task))
-  attach_serial (op.End t) f s =
-      let task : t < length plan.homes = ltb-true t (length plan.homes) (next_sound_op plan counters p (step_in (op.End t) Attach) s.sound s.at.next) in
-      local_serial _ s (ends_step t (at_attach (deed.End p t) s.at refl)
-      (deed_fits plan counters p (step_in (op.End t) Attach) (deed.End p t) s.sound s.at.next refl told s.at.long)
-      (holds_covered (op.End t) s.at.walk s.at.fits.covers (home plan t)
-      ∙ or_right (home plan t == p) (home plan t == home plan t) (eq-eqb (home plan t) (home plan t) refl)) (home_below plan t s.sound task))
+  attach_serial (op.Sleep t) f s = home_serial (op.Sleep t) (deed.Sleep p t) t s refl (ltb-true t (length plan.homes)) (λ c. refl) (λ fits c. whole-after plan.homes (deed.Sleep p t) told c fits)
+  attach_serial (op.End t) f s = home_serial (op.End t) (deed.End p t) t s refl (ltb-true t (length plan.homes)) (λ c. refl) (λ fits c. whole-after plan.homes (deed.End p t) told c fits)
   attach_serial (op.Pull q) f s =
       local_serial _ s (joins_step q (at_attach (deed.Pull p q) s.at refl)
       (deed_fits plan counters p (step_in (op.Pull q) Attach) (deed.Pull p q) s.sound s.at.next refl told s.at.long) (holds_own_queue q s))
