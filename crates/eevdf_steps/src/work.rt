@@ -162,33 +162,17 @@ impl Work {
         ensures { self.new ≡ work.detach self.old cpu op }
     {
         match op {
-            Op::Sleep(task) => self.detach_running(cpu, task),
-            Op::End(task) => self.detach_ending(cpu, task),
+            Op::Sleep(task) => {
+                let (answer, parcel) = leave_running(&mut self.queues[cpu.index()], task);
+                self.grasp(cpu, answer, parcel);
+            }
+            Op::End(task) => {
+                let (answer, parcel) = leave_for_good(&mut self.queues[cpu.index()], task);
+                self.grasp(cpu, answer, parcel);
+            }
             Op::Pull(source) => self.detach_pulled(cpu, source),
             _ => {}
         }
-    }
-
-    fn detach_running(&mut self, cpu: CpuId, task: TaskId)
-        requires queue { cpu < length self.old.machine }
-        requires answer { cpu < length self.old.answers }
-        requires hand { cpu < length self.old.hands }
-        ensures { self.new ≡ work.detach_running self.old cpu
-            (carried_running (queue_at self.old.machine cpu) task) }
-    {
-        let (answer, parcel) = leave_running(&mut self.queues[cpu.index()], task);
-        self.grasp(cpu, answer, parcel);
-    }
-
-    fn detach_ending(&mut self, cpu: CpuId, task: TaskId)
-        requires queue { cpu < length self.old.machine }
-        requires answer { cpu < length self.old.answers }
-        requires hand { cpu < length self.old.hands }
-        ensures { self.new ≡ work.detach_ending self.old cpu
-            (ending (queue_at self.old.machine cpu) task) }
-    {
-        let (answer, parcel) = leave_for_good(&mut self.queues[cpu.index()], task);
-        self.grasp(cpu, answer, parcel);
     }
 
     fn detach_pulled(&mut self, cpu: CpuId, source: CpuId)
