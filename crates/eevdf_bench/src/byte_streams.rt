@@ -36,6 +36,8 @@ pub fn read_input<R: Read>(alloc: Global, reader: &mut Watched<R>) -> Result<Vec
             break;
         }
     }
+    // what is spare would stay as long as the bytes
+    input.shrink_to_fit();
     Ok(input)
 }
 

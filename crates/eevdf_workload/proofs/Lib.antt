@@ -10,5 +10,6 @@ mod VersionMeanings
 mod ReadingBesides
 mod ReadingFronts
 mod ReadingPlainValues
-mod ReadingPlainPrograms
+mod ReadingPlainArrays
+mod ReadingPlainLists
 mod ReadingByFronts

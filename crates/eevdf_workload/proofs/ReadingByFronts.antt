@@ -1,5 +1,5 @@
 -- A workload of which lists stand in front of its document.
-use Rattle.std.proofs.Common.{◌≡◌, ◌∙◌, ℕ, ◌+◌, List, [], ◌∷◌, true, is_some, Option, Some, None, Result, Ok, Err, codes, refl, sym, ap, option_map, inl, inr, Vec, Global}
+use Rattle.std.proofs.Common.{◌≡◌, ◌∙◌, ℕ, List, true, is_some, Option, Some, None, Result, Ok, Err, codes, refl, sym, ap, option_map, inl, inr, Vec, Global}
 use Rattle.std.proofs.lemmas.Bool.{cases_Bool}
 use Rattle.std.proofs.lemmas.Option.{none-some}
 use Rattle.std.proofs.lemmas.Map.Text.{is_eq-slice_cmp}
@@ -14,21 +14,11 @@ use Rattle.eevdf_workload.specs.{declared.version.Limits.Limits, declared.versio
 use Rattle.eevdf_workload.specs.declared.load_fault.Key.{Key}
 use Rattle.eevdf_workload.specs.declared.load_fault.Key.TheVariants as keys
 use Rattle.eevdf_workload.specs.declared.version.Version.TheVariants.{One, Two, Three}
-use Rattle.eevdf_workload.specs.MeaningSteps.{◌>>=◌, each, if_present, required, Reads}
-use Rattle.eevdf_workload.specs.Meaning.{caller_at, order, order_of, programs, programs_of, script, script_of, tasks, version, version_of, workload_in, workload_of, Workload}
-use Rattle.eevdf_workload.specs.Fronts.{integers, order_value, programs_in, version_value, described, BeginsWith, HasBesides, HasNone, Holds, IsReadAs}
+use Rattle.eevdf_workload.specs.MeaningSteps.{◌>>=◌, if_present, required, Reads}
+use Rattle.eevdf_workload.specs.Meaning.{order, order_of, programs, programs_of, script, script_of, tasks, version, version_of, workload_in, workload_of, Workload}
+use Rattle.eevdf_workload.specs.Fronts.{programs_in, version_value, described, BeginsWith, HasBesides, HasNone, Holds, IsReadAs}
 use Rattle.eevdf_workload.proofs.ReadingDocuments.{document_of-read}
 use Rattle.eevdf_workload.proofs.VersionMeanings.{in_version}
-
--- ---- the lists
-
-callers_read : (place : ℕ) (ns : List ℕ) → each caller_at place (integers ns) ≡ Ok ns
-unfolding caller_at
-callers_read place [] = refl
-callers_read place (n ∷ ns) = ap (λ (r : Result (List ℕ) LoadFault). r >>= (λ rest. Ok (n ∷ rest))) (callers_read (place + 1) ns)
-
-pub order_read : (ns : List ℕ) → order_of (order_value ns) ≡ Ok ns
-order_read ns = callers_read 0 ns
 
 pub version_read : (v : Version) → version_of (version_value v) ≡ Ok v
 version_read One = refl

@@ -1,21 +1,24 @@
 -- The front of a document, a member at a time.
-use Rattle.std.proofs.Common.{◌≡◌, ℕ, suc, ◌-◌, ◌<◌, ◌≤◌, true, false, cond, ◌==◌, List, [], length, codes, Option, Some, None, is_some, option_map, Result, Ok, refl, sym, ap, ◌∙◌, inl, inr, arith, nat_cmp, is_eq, Vec, Global}
-use Rattle.std.proofs.lemmas.Bool.{cases_Bool, true≢false}
+use Rattle.std.proofs.Common.{◌≡◌, ℕ, suc, ◌-◌, ◌<◌, ◌≤◌, true, false, cond, ◌==◌, List, [], length, codes, Option, Some, None, option_map, Result, refl, sym, ap, ◌∙◌, inl, inr, arith, nat_cmp, is_eq}
+use Rattle.std.proofs.lemmas.Bool.{cases_Bool}
 use Rattle.std.proofs.lemmas.Bool.Decides.{nat_tests}
 use Rattle.std.proofs.lemmas.Cmp.{nat_list_cmp_total}
 use Rattle.std.proofs.lemmas.Option.{none-some, same_Some}
+use Rattle.std.proofs.lemmas.Iterator.Adapters.{option_map_id}
 use Rattle.std.specs.Cmp.Lexicographic.{slice_cmp}
 use Rattle.std.specs.Option.{option_or}
+use Rattle.std.specs.Prelude.{IfSome}
 use Rattle.toml_parser.specs.Lexical.{first, skip_blank, skip_ws}
 use Rattle.toml.specs.Data.{Data, same_key, Members, get_member}
 use Rattle.toml.specs.Tables.{Node, Nodes, no_nodes, value, get_node, insert, close, close_node, key_value, Document, define, along_header, along_dots, at_key}
 use Rattle.toml.specs.Parse.{ends_line, expression, key_equals, line, lines, skip_bom, parse_document, val}
 use Rattle.toml.proofs.NodeLaws.{get_node-insert}
 use Rattle.toml.proofs.Turns.{document_some, lines_more}
-use Rattle.eevdf_ops.specs.declared.deeds.{Deed.Deed, Op.Op}
 use Rattle.eevdf_workload.specs.{declared.version.Version.Version, declared.load_fault.LoadFault.LoadFault, Versions.limits_of}
 use Rattle.eevdf_workload.specs.Meaning.{order_of, programs_of, script_of, version_of}
-use Rattle.eevdf_workload.specs.Fronts.{limits_in, programs_in, BeginsWith, Holds, IsReadAs}
+use Rattle.eevdf_workload.specs.declared.reading.front.Front.{Front}
+use Rattle.eevdf_workload.specs.declared.reading.front.Member as kind
+use Rattle.eevdf_workload.specs.Fronts.{is_mark, limits_in, member_key, programs_in, BeginsWith, HasTaken, Holds, IsMember, IsReadAs}
 use Rattle.eevdf_workload.proofs.ReadingBesides.{over, Adds, Lacks, equal_from, same_found, get_node-insert-other, lines_beside, lines_longer, member_of_node}
 
 -- the text is read up to what is left, and these values were found
@@ -29,10 +32,6 @@ pub line_read : (text at_value after k : List ℕ) (d : Data) → (first text ==
     → line text ≡ Some ((([], k), key_value d), after)
 unfolding line expression
 line_read text at_value after k d other read_key read_value ends = rw (other, read_key, read_value, ends) refl
-
-pub absent : {A : Type 0} (o : Option A) → is_some o ≡ false → o ≡ None
-absent None none = refl
-absent (Some a) none = absurd (true≢false none)
 
 -- ---- nothing is found yet
 
@@ -79,51 +78,59 @@ next_member values text left after k d so new read shorter within =
       loop ∙ lines_more m (root, []) (insert k (value d) root, []) left _ after (omega arith) some read (put_new root k d none),
     )
 
--- what isn't found has no value
-pub no_value_at : {A : Type 0} (read : Data → Result A LoadFault) (v : Option Data) → IsReadAs read v None → v ≡ None
-no_value_at read None is = refl
-no_value_at read (Some d) is = absurd is
+-- what isn't found has no value, whatever it would be read as
+no_value_at : {A B : Type 0} (read : Data → Result B LoadFault) (f : A → B) (v : Option Data) (found : Option A) → found ≡ None → IsReadAs read v (option_map f found) → v ≡ None
+no_value_at read f None found none is = refl
+no_value_at read f (Some d) None none is = absurd is
+no_value_at read f (Some d) (Some a) none is = absurd (none-some a (sym none))
 
-as_none : {A B : Type 0} (one : Data → Result A LoadFault) (other : Data → Result B LoadFault) (v : Option Data) → IsReadAs one v None → IsReadAs other v None
-as_none one other None is = tt
-as_none one other (Some d) is = absurd is
+still_absent : {A B : Type 0} (one other : Data → Result B LoadFault) (f : A → B) (v : Option Data) (found : Option A) → found ≡ None → IsReadAs one v (option_map f found) → IsReadAs other v (option_map f found)
+still_absent one other f None None none is = tt
+still_absent one other f (Some d) None none is = absurd is
+still_absent one other f v (Some a) none is = absurd (none-some a (sym none))
 
-module _ (values : List ℕ → Option Data) (d : Data) where
-  pub holds_version : (order : Option (Vec ℕ Global)) (v : Version) → Holds values None order None None → version_of d ≡ Ok v → Holds (with (codes "version") d values) (Some v) order None None
-  holds_version order v h read = record {
+module _ (values : List ℕ → Option Data) (d : Data) (before after : Front) where
+  -- no value stood at the key of a member that was taken
+  pub taken_alone : (m : kind.Member) → HasTaken m before after → Holds values before.version before.order before.programs before.script → values (member_key m) ≡ None
+  taken_alone (kind.TheVariants.Version v) taken h = no_value_at version_of (λ v. v) (values (codes "version")) before.version taken.0 (rw (option_map_id before.version) h.version_is)
+  taken_alone (kind.TheVariants.Order callers) taken h = no_value_at order_of (λ v. v.items) (values (codes "order")) before.order taken.0 h.order_is
+  taken_alone (kind.TheVariants.Programs programs) taken h = no_value_at (programs_of (limits_in before.version)) (λ v. programs_in v) (values (codes "program")) before.programs taken.0 h.programs_is
+  taken_alone (kind.TheVariants.Script deeds) taken h = no_value_at (script_of (limits_in before.version)) (λ v. v.items) (values (codes "script")) before.script taken.0 h.script_is
+
+  -- another key than that of the member has the value that it had
+  other_key : (k key : List ℕ) → same_key key k ≡ false → values key ≡ None → with k d values key ≡ None
+  other_key k key apart none = ap (λ t. cond t (Some d) (values key)) apart ∙ none
+
+  -- a front that has taken a member holds its value besides
+  pub holds_taken : (m : kind.Member) → HasTaken m before after → Holds values before.version before.order before.programs before.script → IsMember (limits_in before.version) m d → Holds (with (member_key m) d values) after.version after.order after.programs after.script
+  holds_taken (kind.TheVariants.Version v) taken h read = rw taken.3 (record {
     version_is = read;
     order_is = h.order_is;
-    programs_is = as_none (programs_of (limits_in None)) (programs_of (limits_of v)) (values (codes "program")) h.programs_is;
-    script_is = as_none (script_of (limits_in None)) (script_of (limits_of v)) (values (codes "script")) h.script_is;
-    others = λ key a b c e. ap (λ t. cond t (Some d) (values key)) a ∙ h.others key a b c e;
-  }
-
-  pub holds_order : (version : Option Version) (callers : Vec ℕ Global) (programs : Option (Vec (Vec Op Global) Global)) (script : Option (Vec Deed Global)) → Holds values version None programs script → order_of d ≡ Ok callers.items → Holds (with (codes "order") d values) version (Some callers) programs script
-  holds_order version callers programs script h read = record {
+    programs_is = still_absent (programs_of (limits_in before.version)) (programs_of (limits_of v)) (λ v. programs_in v) (values (codes "program")) before.programs taken.1 h.programs_is;
+    script_is = still_absent (script_of (limits_in before.version)) (script_of (limits_of v)) (λ v. v.items) (values (codes "script")) before.script taken.2 h.script_is;
+    others = λ key a b c e. other_key (codes "version") key a (h.others key a b c e);
+  })
+  holds_taken (kind.TheVariants.Order callers) taken h read = rw taken.1 (record {
     version_is = h.version_is;
     order_is = read;
     programs_is = h.programs_is;
     script_is = h.script_is;
-    others = λ key a b c e. ap (λ t. cond t (Some d) (values key)) b ∙ h.others key a b c e;
-  }
-
-  pub holds_programs : (version : Option Version) (order : Option (Vec ℕ Global)) (programs : Vec (Vec Op Global) Global) (script : Option (Vec Deed Global)) → Holds values version order None script → programs_of (limits_in version) d ≡ Ok (programs_in programs) → Holds (with (codes "program") d values) version order (Some programs) script
-  holds_programs version order programs script h read = record {
+    others = λ key a b c e. other_key (codes "order") key b (h.others key a b c e);
+  })
+  holds_taken (kind.TheVariants.Programs programs) taken h read = rw taken.1 (record {
     version_is = h.version_is;
     order_is = h.order_is;
     programs_is = read;
     script_is = h.script_is;
-    others = λ key a b c e. ap (λ t. cond t (Some d) (values key)) c ∙ h.others key a b c e;
-  }
-
-  pub holds_script : (version : Option Version) (order : Option (Vec ℕ Global)) (programs : Option (Vec (Vec Op Global) Global)) (deeds : Vec Deed Global) → Holds values version order programs None → script_of (limits_in version) d ≡ Ok deeds.items → Holds (with (codes "script") d values) version order programs (Some deeds)
-  holds_script version order programs deeds h read = record {
+    others = λ key a b c e. other_key (codes "program") key c (h.others key a b c e);
+  })
+  holds_taken (kind.TheVariants.Script deeds) taken h read = rw taken.1 (record {
     version_is = h.version_is;
     order_is = h.order_is;
     programs_is = h.programs_is;
     script_is = read;
-    others = λ key a b c e. ap (λ t. cond t (Some d) (values key)) e ∙ h.others key a b c e;
-  }
+    others = λ key a b c e. other_key (codes "script") key e (h.others key a b c e);
+  })
 
 -- ---- the document behind the front
 
@@ -162,3 +169,9 @@ front_read values text left so unmarked left_unmarked other parsed lacks =
       λ key. member_of_node key both.root ∙ ap (option_map close_node) (both.adds key) ∙ closed (values key) (get_node key end.0)
           ∙ ap (option_or (values key)) (sym (member_of_node key end.0) ∙ ap (get_member key) is),
     )
+
+-- what is found where no mark may stand
+pub front_found : (values : List ℕ → Option Data) (text : List ℕ) (front : Front) (found : Option Front) → Holds values front.version front.order front.programs front.script → IsReadUpTo values text front.left.now → IfSome found (λ f. f ≡ front) → IfSome found (λ f. is_mark (first text) ≡ false)
+    → IfSome found (λ f. is_mark (first front.left.now) ≡ false) → IfSome found (λ f. (at : List ℕ → Option Data) × Holds at f.version f.order f.programs f.script × BeginsWith at f.left.now text)
+front_found values text front None holds so same unmarked left_unmarked = tt
+front_found values text front (Some f) holds so same unmarked left_unmarked = rw same (values, holds, front_read values text front.left.now so unmarked left_unmarked)

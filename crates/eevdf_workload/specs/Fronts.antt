@@ -1,30 +1,33 @@
 -- The front of a document, of which no tree is made, and the document behind it.
-use Rattle.std.specs.Prelude.{◌≡◌, codes, ℕ, false, pos, map, List, [], ◌∷◌, Vec, Option, Some, None, option_map, Result, Ok}
+use Rattle.std.specs.Prelude.{◌≡◌, ◌==◌, codes, ℕ, Bool, false, pos, map, List, [], ◌∷◌, Vec, Option, Some, None, option_map, Result, Ok}
 use Rattle.std.specs.{Option.option_or, declared.alloc.Global.Global}
-use Rattle.toml.specs.Data.{Data, integer, array, Items, no_items, item, Members, get_member, same_key}
+use Rattle.toml.specs.Data.{Data, integer, Items, no_items, item, Members, get_member, same_key}
 use Rattle.toml.specs.Parse.{parse_document}
 use Rattle.eevdf_ops.specs.declared.deeds.{Deed.Deed, Op.Op}
 use Rattle.eevdf_workload.specs.declared.load_fault.LoadFault.{LoadFault}
 use Rattle.eevdf_workload.specs.declared.version.{Version.Version, Limits.Limits}
 use Rattle.eevdf_workload.specs.declared.version.Version.TheVariants.{One, Two, Three}
+use Rattle.eevdf_workload.specs.declared.reading.front.Front.{Front}
 use Rattle.eevdf_workload.specs.declared.reading.front.Member as kind
 use Rattle.eevdf_workload.specs.MeaningSteps.{◌>>=◌}
 use Rattle.eevdf_workload.specs.Meaning.{Workload, document_of, order_of, programs_of, script_of, version_of, workload_of}
 use Rattle.eevdf_workload.specs.Versions.{limits_of}
 
--- the numbers as the members of an array
-abbrev pub integers : List ℕ → Items
-integers [] = no_items
-integers (n ∷ ns) = item (integer (pos n)) (integers ns)
+-- the elements of an array are read as these values, in order
+abbrev pub AreRead : {A : Type 0} → (Data → A → Type 0) → Items → List A → Type 0
+AreRead reads no_items [] = Unit {0}
+AreRead reads (item d ds) (a ∷ rest) = reads d a × AreRead reads ds rest
+AreRead reads _ _ = ⊥
 
--- the values of a version and of an order
+-- a byte order mark may begin with this byte
+abbrev pub is_mark : ℕ → Bool
+is_mark byte = byte == 0xEF
+
+-- the value of a version
 abbrev pub version_value : Version → Data
 version_value One = integer (pos 1)
 version_value Two = integer (pos 2)
 version_value Three = integer (pos 3)
-
-abbrev pub order_value : List ℕ → Data
-order_value callers = array (integers callers)
 
 -- the operations of programs
 abbrev pub programs_in : Vec (Vec Op Global) Global → List (List Op)
@@ -47,6 +50,13 @@ IsMember limits (kind.TheVariants.Version v) d = version_of d ≡ Ok v
 IsMember limits (kind.TheVariants.Order callers) d = order_of d ≡ Ok callers.items
 IsMember limits (kind.TheVariants.Programs programs) d = programs_of limits d ≡ Ok (programs_in programs)
 IsMember limits (kind.TheVariants.Script deeds) d = script_of limits d ≡ Ok deeds.items
+
+-- A front that had no member of this kind has this one, and else what it had; what is read within the limits of a version comes behind it.
+abbrev pub HasTaken : kind.Member → Front → Front → Type 0
+HasTaken (kind.TheVariants.Version v) before after = (before.version ≡ None) × (before.programs ≡ None) × (before.script ≡ None) × (after ≡ record before { version = Some v })
+HasTaken (kind.TheVariants.Order callers) before after = (before.order ≡ None) × (after ≡ record before { order = Some callers })
+HasTaken (kind.TheVariants.Programs programs) before after = (before.programs ≡ None) × (after ≡ record before { programs = Some programs })
+HasTaken (kind.TheVariants.Script deeds) before after = (before.script ≡ None) × (after ≡ record before { script = Some deeds })
 
 -- a value is read as what was found, or neither is there
 abbrev pub IsReadAs : {A : Type 0} → (Data → Result A LoadFault) → Option Data → Option A → Type 0

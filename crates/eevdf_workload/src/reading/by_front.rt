@@ -1,6 +1,6 @@
 //! Reading a workload of which lists stand in front: no tree is made of them.
 
-ghost use Rattle.std.specs.Prelude.{◌≡◌, List, ℕ, Option, true, Ok, Some, None, codes, option_map, IfErr, IfOk, IfSome};
+ghost use Rattle.std.specs.Prelude.{◌≡◌, List, ℕ, Option, true, is_some, Ok, Some, None, codes, option_map, IfErr, IfOk, IfSome};
 ghost use Rattle.std.specs.Option.{option_or};
 ghost use Rattle.eevdf_workload.specs.Fronts.{described, programs_in, HasBesides, Holds, IsReadAs};
 ghost use Rattle.eevdf_workload.specs.Meaning as meant;
@@ -35,26 +35,16 @@ pub(crate) fn workload_by_front(alloc: Global, bytes: &[u8]) -> Result<Option<Wo
     let Some(front) = front_of(alloc, text)? else {
         return Ok(None);
     };
-    let Front {
-        version,
-        order,
-        programs,
-        script,
-        left,
-    } = front;
-    let Some(version) = version else {
+    let Some(version) = front.version else {
         return Ok(None);
     };
-    if order.is_none() && programs.is_none() && script.is_none() {
+    if front.order.is_none() && front.programs.is_none() && front.script.is_none() {
         return Ok(None);
     }
-    let has_order = order.is_some();
-    let has_programs = programs.is_some();
-    let has_script = script.is_some();
-    let Some(document) = document_behind(alloc, left, has_order, has_programs, has_script)? else {
+    let Some(document) = document_behind(alloc, &front)? else {
         return Ok(None);
     };
-    match workload_beside(alloc, version, order, programs, script, document) {
+    match workload_beside(alloc, version, front, document) {
         Ok(workload) => Ok(Some(workload)),
         Err(LoadFault::Memory) => Err(LoadFault::Memory),
         Err(_) => Ok(None),
@@ -62,31 +52,25 @@ pub(crate) fn workload_by_front(alloc: Global, bytes: &[u8]) -> Result<Option<Wo
 }
 
 /// The document behind a front, or `None` where it is none, or has a version, or a list that the front has.
-fn document_behind(
-    alloc: Global,
-    text: &str,
-    has_order: bool,
-    has_programs: bool,
-    has_script: bool,
-) -> Result<Option<Table>, LoadFault>
+fn document_behind(alloc: Global, front: &Front) -> Result<Option<Table>, LoadFault>
     ensures value { IfOk result (λ found. IfSome found (λ t.
-        parse_document text.now ≡ Some (table_view t))) }
+        parse_document front.now.left.now ≡ Some (table_view t))) }
     ensures version { IfOk result (λ found. IfSome found (λ t.
         get_member (codes "version") (table_view t) ≡ None)) }
     ensures order { IfOk result (λ found. IfSome found (λ t.
-        has_order ≡ true → get_member (codes "order") (table_view t) ≡ None)) }
+        is_some front.now.order ≡ true → get_member (codes "order") (table_view t) ≡ None)) }
     ensures programs { IfOk result (λ found. IfSome found (λ t.
-        has_programs ≡ true → get_member (codes "program") (table_view t) ≡ None)) }
+        is_some front.now.programs ≡ true → get_member (codes "program") (table_view t) ≡ None)) }
     ensures script { IfOk result (λ found. IfSome found (λ t.
-        has_script ≡ true → get_member (codes "script") (table_view t) ≡ None)) }
+        is_some front.now.script ≡ true → get_member (codes "script") (table_view t) ≡ None)) }
     ensures memory { IfErr result (λ e. e ≡ Memory) }
 {
-    match toml::table_from_str(alloc, text) {
+    match toml::table_from_str(alloc, front.left) {
         Ok(document) => {
             if lacks(&document, "version", true)
-                && lacks(&document, "order", has_order)
-                && lacks(&document, "program", has_programs)
-                && lacks(&document, "script", has_script)
+                && lacks(&document, "order", front.order.is_some())
+                && lacks(&document, "program", front.programs.is_some())
+                && lacks(&document, "script", front.script.is_some())
             {
                 Ok(Some(document))
             } else {
@@ -113,15 +97,21 @@ fn lacks(document: &Table, name: &str, in_front: bool) -> bool
 fn workload_beside(
     alloc: Global,
     version: Version,
-    order: Option<Vec<usize>>,
-    programs: Option<Vec<Vec<Op>>>,
-    script: Option<Vec<Deed>>,
+    front: Front,
     document: Table,
 ) -> Result<Workload, LoadFault>
     ensures { IfOk result (λ w. (values : List ℕ → Option Data) (whole : Members)
-        → Holds values (Some version) order programs script → HasBesides values (table_view document) whole
+        → Holds values (Some version) front.entry.order front.entry.programs front.entry.script
+        → HasBesides values (table_view document) whole
         → meant.workload_in (limits_of version) whole ≡ Ok w) }
 {
+    let Front {
+        version: _,
+        order,
+        programs,
+        script,
+        left: _,
+    } = front;
     let limits = version.limits();
     let tasks = tasks(alloc, limits, &document)?;
     let programs = programs_beside(alloc, limits, programs, &document)?;

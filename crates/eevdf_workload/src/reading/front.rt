@@ -1,16 +1,16 @@
 //! The front of a document: the members `version`, `order`, `program` and `script` that stand before all else in it. Each is read
 //! by itself, so that no tree is made of them.
 
-ghost use Rattle.std.specs.Prelude.{◌≡◌, ◌<◌, ◌==◌, ℕ, List, Option, false, [], Some, length, slice_index, string_bytes, IfErr, IfOk, IfSome};
-ghost use Rattle.eevdf_workload.specs.Fronts.{limits_in, member_key, version_value, BeginsWith, Holds, IsMember};
+ghost use Rattle.std.specs.Prelude.{◌≡◌, ◌<◌, ◌==◌, ℕ, List, Option, true, false, [], None, Some, length, slice_index, string_bytes, IfErr, IfOk, IfSome};
+ghost use Rattle.eevdf_workload.specs.Fronts.{limits_in, is_mark, member_key, version_value, BeginsWith, HasTaken, Holds, IsMember};
 ghost use Rattle.eevdf_workload.specs.declared.load_fault.LoadFault.TheVariants.{Memory};
 ghost use Rattle.toml.specs.Data.{Data};
 ghost use Rattle.toml.specs.Parse as parse;
 ghost use Rattle.toml.specs.Tables.{key_value};
 
 use crate::load_fault::LoadFault;
-use crate::reading::plain_programs::programs_at;
-use crate::reading::plain_values::{number_at, order_at, plain, script_at};
+use crate::reading::plain_lists::{order_at, programs_at, script_at};
+use crate::reading::plain_values::{number_at, plain};
 use crate::version::Version;
 use eevdf_ops::{Deed, Op};
 use std::alloc::Global;
@@ -36,65 +36,87 @@ pub(crate) enum Member {
     Script(Vec<Deed>),
 }
 
-/// The front of a document. It ends where no member of it stands, or one that it has already; the programs and the script have to
-/// stand behind the version. `None` where a byte order mark may stand before it or behind it.
+impl<'a> Front<'a> {
+    /// Takes a member, and says whether it had none of its kind. A version has to come before what is read within its limits.
+    fn takes(&mut self, member: Member) -> bool
+        ensures { result ≡ true → HasTaken member self.old self.new }
+    {
+        match member {
+            Member::Version(found) => {
+                let is_first = self.programs.is_none() && self.script.is_none();
+                is_first && put(&mut self.version, found)
+            }
+            Member::Order(found) => put(&mut self.order, found),
+            Member::Programs(found) => put(&mut self.programs, found),
+            Member::Script(found) => put(&mut self.script, found),
+        }
+    }
+}
+
+/// Puts a value where none is, and says whether there was none.
+fn put<T: Drop>(place: &mut Option<T>, value: T) -> bool
+    ensures { result ≡ true → (place.old ≡ None) × (place.new ≡ Some value) }
+{
+    if place.is_some() {
+        return false;
+    }
+    *place = Some(value);
+    true
+}
+
+/// The front of a document, which ends where no member of it stands; the programs and the script have to stand behind the version. `None`
+/// where a member isn't plain, or stands there again, so that such a document is read once more at the most, and where a byte order mark may
+/// stand before the front or behind it.
 pub(crate) fn front_of(alloc: Global, text: &str) -> Result<Option<Front>, LoadFault>
     ensures value { IfOk result (λ found. IfSome found (λ f.
         (values : List ℕ → Option Data) × Holds values f.version f.order f.programs f.script × BeginsWith values f.left.now text.now)) }
     ensures memory { IfErr result (λ e. e ≡ Memory) }
 {
-    let mut version = None;
-    let mut order = None;
-    let mut programs = None;
-    let mut script = None;
-    let mut left = text;
+    let mut front = Front {
+        version: None,
+        order: None,
+        programs: None,
+        script: None,
+        left: text,
+    };
     'members: loop {
-        let Some((member, after)) = member_at(alloc, version, skip_blank(left, true))? else {
-            break;
+        let start = skip_blank(front.left, true);
+        let Some((member, after)) = member_at(alloc, front.version, start)? else {
+            if names_member(start) {
+                return Ok(None);
+            }
+            return Ok(unmarked(text, front));
         };
-        match member {
-            Member::Version(found) => {
-                if version.is_some() || programs.is_some() || script.is_some() {
-                    break;
-                }
-                version = Some(found);
-            }
-            Member::Order(found) => {
-                if order.is_some() {
-                    break;
-                }
-                order = Some(found);
-            }
-            Member::Programs(found) => {
-                if programs.is_some() {
-                    break;
-                }
-                programs = Some(found);
-            }
-            Member::Script(found) => {
-                if script.is_some() {
-                    break;
-                }
-                script = Some(found);
-            }
+        if !front.takes(member) {
+            return Ok(None);
         }
-        left = after;
+        front.left = after;
     }
-    if is_mark(first(text)) || is_mark(first(left)) {
-        return Ok(None);
+}
+
+/// Whether the name of a member stands at the front of a text.
+fn names_member(text: &str) -> bool {
+    text.starts_with("version")
+        || text.starts_with("order")
+        || text.starts_with("program")
+        || text.starts_with("script")
+}
+
+/// The front of a text. `None` where a byte order mark may stand before it or behind it.
+fn unmarked<'a>(text: &str, front: Front<'a>) -> Option<Front<'a>>
+    ensures same { IfSome result (λ f. f ≡ front.entry) }
+    ensures text { IfSome result (λ _. is_mark (slice_index text.now 0) ≡ false) }
+    ensures left { IfSome result (λ _. is_mark (slice_index front.entry.left.now 0) ≡ false) }
+{
+    if is_mark(first(text)) || is_mark(first(front.left)) {
+        return None;
     }
-    Ok(Some(Front {
-        version,
-        order,
-        programs,
-        script,
-        left,
-    }))
+    Some(front)
 }
 
 /// Whether a byte order mark may begin with a byte.
 fn is_mark(byte: u8) -> bool
-    ensures { result ≡ byte == 0xEF }
+    ensures { result ≡ is_mark byte }
 {
     byte == 0xEF
 }

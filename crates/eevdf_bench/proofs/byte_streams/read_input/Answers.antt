@@ -3,9 +3,9 @@ use Rattle.eevdf_workload.specs.Meaning.{read_limit}
 use Rattle.eevdf_bench.proofs.KnownBytes.{IsReadUpTo, read_front, read_end, within_both}
 use Rattle.eevdf_bench.proofs.byte_streams.read_input.Given.{Over}
 use Rattle.eevdf_bench.proofs.byte_streams.read_input.Goals as goal
-use Rattle.eevdf_bench.proofs.byte_streams.read_input.Goals.{else-loop-reader-test, then-loop-reader-test+in_ok-count+then-count-eq0}
+use Rattle.eevdf_bench.proofs.byte_streams.read_input.Goals.{Left-loop-reader, else-loop-reader-test, then-loop-reader-test+in_ok-count+then-count-eq0}
 
-read : (g : Over) (c : goal.Left-loop-reader g)
+read : (g : Over) (c : Left-loop-reader g)
     → IsReadUpTo read_limit (g.R.Read.remaining c.args.reader.now.end) (g.R.Read.remaining c.loop-reader-test.reader.end) c.loop-reader-test.input.items
 read g c =
     elim c.loop-reader-test.branch [
@@ -18,10 +18,10 @@ read g c =
     ]
 
 pub returns-clause-bytes : goal.returns-clause-bytes
-returns-clause-bytes g c = (read g c).0
+returns-clause-bytes g c = rw c.shrink_to_fit.ensures.items (read g (goal.at.returns-clause-bytes g c).Left-loop-reader).0
 
 pub returns-clause-consumed : goal.returns-clause-consumed
-returns-clause-consumed g c = (read g c).1
+returns-clause-consumed g c = (read g (goal.at.returns-clause-consumed g c).Left-loop-reader).1
 
 pub returns-in_err-count-clause-limit : goal.returns-in_err-count-clause-limit
 returns-in_err-count-clause-limit g c =

@@ -16,8 +16,8 @@ returns-in-Ok-workload_beside-clause-value c =
     let (values, holds, begins) = rw (c.in-Some-version.is, same) at (rw c.in-Some.is at c.in_ok-front.ensures.value) in
     let parsed = rw c.in-Some-2.is at c.in_ok-document.ensures.value in
     let no_version = rw c.in-Some-2.is at c.in_ok-document.ensures.version in
-    let no_order = rw c.is_some-has_order.ensures at (rw c.in-Some-2.is at c.in_ok-document.ensures.order) in
-    let no_programs = rw c.is_some-has_programs.ensures at (rw c.in-Some-2.is at c.in_ok-document.ensures.programs) in
-    let no_script = rw c.is_some-has_script.ensures at (rw c.in-Some-2.is at c.in_ok-document.ensures.script) in
+    let no_order = rw c.in-Some-2.is at c.in_ok-document.ensures.order in
+    let no_programs = rw c.in-Some-2.is at c.in_ok-document.ensures.programs in
+    let no_script = rw c.in-Some-2.is at c.in_ok-document.ensures.script in
     read_by_front values bytes front.left.now version front.order front.programs front.script document c.in-Ok-workload_beside.workload utf8 holds begins parsed no_version no_order no_programs no_script
     (λ whole has. c.in-Ok-workload_beside.ensures values whole holds has)

@@ -8,7 +8,7 @@ use Rattle.eevdf_workload.proofs.ReadingFronts.{IsReadUpTo}
 use Rattle.eevdf_workload.proofs.reading.front.front_of.Given as goal
 
 abbrev pub invariant-members : goal.invariant-members
-invariant-members l = shadow (Utf8 l.left) × (values : List ℕ → Option Data) × Holds values l.version l.order l.programs l.script × IsReadUpTo values l.text l.left
+invariant-members l = shadow (Utf8 l.front.left.now) × (values : List ℕ → Option Data) × Holds values l.front.version l.front.order l.front.programs l.front.script × IsReadUpTo values l.text l.front.left.now
 
 abbrev pub decreases-members : goal.decreases-members
-decreases-members l = length l.left
+decreases-members l = length l.front.left.now

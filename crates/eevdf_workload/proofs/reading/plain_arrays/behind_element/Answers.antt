@@ -1,6 +1,6 @@
 use Rattle.std.proofs.Common.{rules}
 use Rattle.toml.specs.Parse.{after_element}
-use Rattle.eevdf_workload.proofs.reading.plain_values.behind_element.Goals as goal
+use Rattle.eevdf_workload.proofs.reading.plain_arrays.behind_element.Goals as goal
 
 pub returns-in-44-clause-value : goal.returns-in-44-clause-value
 unfolding after_element

@@ -1,0 +1,6 @@
+use Rattle.toml.specs.Data.{array}
+use Rattle.eevdf_workload.proofs.ReadingPlainLists.{found_so, programs_read}
+use Rattle.eevdf_workload.proofs.reading.plain_lists.programs_at.Goals as goal
+
+pub returns-clause-value : goal.returns-clause-value
+returns-clause-value c = found_so _ _ (λ p is. (array is.0, is.1, programs_read c.args.limits is.0 p.0 is.2)) c.array_at.result c.array_at.ensures.value
