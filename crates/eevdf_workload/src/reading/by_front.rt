@@ -41,6 +41,10 @@ pub(crate) fn workload_by_front(alloc: Global, bytes: &[u8]) -> Result<Option<Wo
     if front.order.is_none() && front.programs.is_none() && front.script.is_none() {
         return Ok(None);
     }
+    // where nearly all stands behind the front, it saves next to nothing, and a fault there would have all read twice
+    if front.left.len() > text.len() / 16 * 15 {
+        return Ok(None);
+    }
     let Some(document) = document_behind(alloc, &front)? else {
         return Ok(None);
     };
