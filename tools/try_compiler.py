@@ -1,5 +1,6 @@
 """Compiles a program without a proof, by `rt try`. That compiles it with checks, runs it and removes it; so it is given a text that takes
-the program a second to read, and is opened meanwhile."""
+the program half a second to read, and is opened meanwhile. Beside the compiler `rt try` looks for names that a check would refuse, a hint for
+who writes sources: that look is ended, since both read much memory, and the compiler takes a quarter longer beside it."""
 
 import os
 import re
@@ -14,7 +15,7 @@ from pathlib import Path
 from crate_copies import folder_of
 
 # The program reads all of it before it refuses it.
-LONG_TEXT = b"\n" * 1000000
+LONG_TEXT = b"\n" * 100000
 # The first bytes of a file that can be run, and where they have its kind: a program at a fixed address, or at any.
 ELF, KIND_AT, KINDS = b"\x7fELF", 16, (2, 3)
 # How many seconds there are between two looks whether it is there.
@@ -88,11 +89,37 @@ def files_below(folder):
         return []
 
 
+def children_of(process):
+    """The numbers of the processes that this one has begun, or none where the system doesn't list them."""
+    try:
+        return [int(it) for it in Path(f"/proc/{process.pid}/task/{process.pid}/children").read_text().split()]
+    except OSError:
+        return []
+
+
+def is_look_at_names(number):
+    """Whether the process of this number is a check by the prover, which is all that `rt try` has it do."""
+    try:
+        command = Path(f"/proc/{number}/cmdline").read_bytes().split(b"\0")
+    except OSError:
+        return False
+    return os.path.basename(command[0]) == b"rattle" and command[1:2] == [b"check"]
+
+
+def end_look_at_names(rt):
+    """Ends it where it has begun. Its number stays its own until `rt` ends."""
+    for number in children_of(rt):
+        if is_look_at_names(number):
+            with suppress(ProcessLookupError):
+                os.kill(number, signal.SIGTERM)
+
+
 def wait_for_program(rt, folder):
     """The open program, wherever below the folder `rt try` has it while it runs, or None where `rt` ends without one. It is whole once `rt`
     has run it."""
     while True:
         has_ended = rt.poll() is not None
+        end_look_at_names(rt)
         for path in files_below(folder):
             opened = opened_program(path)
             if opened is not None:
