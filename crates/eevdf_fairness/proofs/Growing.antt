@@ -42,27 +42,24 @@ pub rounded_down : (ns w : ℕ) → charge_of ns w * w ≤ 1024 * ns
 unfolding charge_of
 rounded_down ns w = omega arith
 
+-- the entry whose runtime has grown by the charge of this time, with another deadline
+charged_to : (e : Entry) (ns : ℕ) (d : ℤ) → e.d ≤ℤ d → ((time : ℤ) → (e.d ≤ℤ time → e.v ≤ℤ time) → d ≤ℤ time → aged e ns ≤ℤ time)
+    → (e.d ≤ℤ (e.v +ℤ pos (request_of e.nice e.slice)) → d ≤ℤ (aged e ns +ℤ pos (request_of e.nice e.slice))) → Grown e ns (record e { v = aged e ns; d = d })
+charged_to e ns d later within short = record {
+  same_nice = refl;
+  same_slice = refl;
+  by = charge_of ns (weight_of e.nice);
+  grown = refl;
+  little = rounded_down ns (weight_of e.nice);
+  later = later;
+  within = within;
+  short = short;
+}
+
 charged_by : (e : Entry) (ns : ℕ) (b : Bool) → is_used_up e ns ≡ b → Grown e ns (cond b (fresh_entry (aged e ns) e.nice e.slice) (record e { v = aged e ns }))
-charged_by e ns true is = record {
-  same_nice = refl;
-  same_slice = refl;
-  by = charge_of ns (weight_of e.nice);
-  grown = refl;
-  little = rounded_down ns (weight_of e.nice);
-  later = omega (arith, ints, is);
-  within = λ time h due. omega (arith, ints, due);
-  short = λ h. omega (arith, ints);
-}
-charged_by e ns false is = record {
-  same_nice = refl;
-  same_slice = refl;
-  by = charge_of ns (weight_of e.nice);
-  grown = refl;
-  little = rounded_down ns (weight_of e.nice);
-  later = omega (arith, ints);
-  within = λ time h due. omega (arith, ints, is, due);
-  short = λ h. omega (arith, ints, h);
-}
+charged_by e ns true is =
+    charged_to e ns (aged e ns +ℤ pos (request_of e.nice e.slice)) (omega (arith, ints, is)) (λ time h due. omega (arith, ints, due)) (λ h. omega (arith, ints))
+charged_by e ns false is = charged_to e ns e.d (omega (arith, ints)) (λ time h due. omega (arith, ints, is, due)) (λ h. omega (arith, ints, h))
 
 pub charged_grown : (e : Entry) (ns : ℕ) → Grown e ns (charged e ns)
 charged_grown e ns = charged_by e ns (is_used_up e ns) refl

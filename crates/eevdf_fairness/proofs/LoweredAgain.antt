@@ -2,7 +2,7 @@
 use Rattle.std.proofs.Common.{◌≡◌, ℕ, zero, suc, Bool, true, false, cond, [], ◌∷◌, length, set, Option, Some, None, refl, sym, ap, ◌∙◌, subst, arith}
 use Rattle.std.specs.Prelude.{ℤ, pos, ◌+ℤ◌, ◌-ℤ◌}
 use Rattle.std.specs.{Option.option_map, Ordering.nat_cmp, Cmp.nat_cmp_total}
-use Rattle.std.specs.FinMap.{get, empty, entries, same_map, nat_cmp-IsAntisymmetric, get-empty}
+use Rattle.std.specs.FinMap.{get, empty, same_map, nat_cmp-IsAntisymmetric, get-empty}
 use Rattle.std.proofs.{lemmas.Int.ints, Math.ListN.length-set}
 use Rattle.eevdf_queue.specs.{declared.entry.Entry.Entry, State.State, State.empty_state, Sums.Tasks, Sums.virtual_time, Sums.sum_weights, Sums.sum_moments, Sums.time_over}
 use Rattle.eevdf_queue.specs.Rebase.{lowered_entry, lowered_tasks, can_rebase, rebased, rebase}
