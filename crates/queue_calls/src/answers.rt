@@ -24,6 +24,12 @@ fn write_code<W: Write>(out: &mut W, fault: Fault) -> io::Result<()> {
     write!(out, "{code}")
 }
 
+/// An error, and what stays in its caller's object.
+fn write_fault<W: Write>(out: &mut W, fault: Fault, kept: &str) -> io::Result<()> {
+    write_code(out, fault)?;
+    writeln!(out, " {kept}")
+}
+
 pub fn write_time<W: Write>(out: &mut W, queue: &Queue) -> io::Result<()> {
     let time = queue.floor_time();
     writeln!(out, "0 {time}")
@@ -37,10 +43,7 @@ pub fn write_rebase<W: Write>(out: &mut W, queue: &mut Queue) -> io::Result<()> 
 pub fn write_lag<W: Write>(out: &mut W, queue: &Queue, task: u64) -> io::Result<()> {
     match lag_of(queue, task) {
         Ok(lag) => writeln!(out, "0 {lag}"),
-        Err(fault) => {
-            write_code(out, fault)?;
-            writeln!(out, " -1")
-        }
+        Err(fault) => write_fault(out, fault, "-1"),
     }
 }
 
@@ -50,15 +53,8 @@ fn lag_of(queue: &Queue, task: u64) -> Result<i64, Fault> {
 
 pub fn write_entry<W: Write>(out: &mut W, queue: &Queue, task: u64) -> io::Result<()> {
     match entry_of(queue, task) {
-        Ok(entry) => {
-            let nice = entry.nice.get();
-            let slice = entry.slice.get();
-            writeln!(out, "0 {} {} {nice} {slice}", entry.v, entry.d)
-        }
-        Err(fault) => {
-            write_code(out, fault)?;
-            writeln!(out, " -1 -1 -1 1")
-        }
+        Ok(Entry { v, d, nice, slice }) => writeln!(out, "0 {v} {d} {nice} {slice}"),
+        Err(fault) => write_fault(out, fault, "-1 -1 -1 1"),
     }
 }
 
@@ -68,15 +64,8 @@ fn entry_of(queue: &Queue, task: u64) -> Result<Entry, Fault> {
 
 pub fn write_sleeper<W: Write>(out: &mut W, queue: &Queue, task: u64) -> io::Result<()> {
     match sleeper_of(queue, task) {
-        Ok(sleeper) => {
-            let nice = sleeper.nice.get();
-            let slice = sleeper.slice.get();
-            writeln!(out, "0 {} {nice} {slice}", sleeper.lag)
-        }
-        Err(fault) => {
-            write_code(out, fault)?;
-            writeln!(out, " -1 -1 1")
-        }
+        Ok(Sleeper { lag, nice, slice }) => writeln!(out, "0 {lag} {nice} {slice}"),
+        Err(fault) => write_fault(out, fault, "-1 -1 1"),
     }
 }
 
@@ -87,17 +76,14 @@ fn sleeper_of(queue: &Queue, task: u64) -> Result<Sleeper, Fault> {
 pub fn write_parcel<W: Write>(out: &mut W, hand: &Hand) -> io::Result<()> {
     match hand.held() {
         Some(parcel) => {
-            let task = parcel.task().get();
-            let nice = parcel.nice().get();
-            let slice = parcel.slice().get();
+            let task = parcel.task();
+            let nice = parcel.nice();
+            let slice = parcel.slice();
             let start = parcel.start();
             let lag = parcel.lag();
             writeln!(out, "0 {task} {nice} {slice} {start} {lag}")
         }
-        None => {
-            write_code(out, Fault::Absent)?;
-            writeln!(out, " 1 -1 1 -1 -1")
-        }
+        None => write_fault(out, Fault::Absent, "1 -1 1 -1 -1"),
     }
 }
 
@@ -123,16 +109,11 @@ fn write_task<W: Write>(out: &mut W, queue: &Queue, task: TaskId) -> io::Result<
     let Some(lag) = queue.lag_of(task) else {
         return Ok(());
     };
-    let number = task.get();
-    write!(out, " {number}:{lag}")?;
-    if let Some(entry) = queue.entry(task) {
-        let nice = entry.nice.get();
-        let slice = entry.slice.get();
-        write!(out, ",{},{},{nice},{slice}", entry.v, entry.d)?;
+    write!(out, " {task}:{lag}")?;
+    if let Some(Entry { v, d, nice, slice }) = queue.entry(task) {
+        write!(out, ",{v},{d},{nice},{slice}")?;
     }
-    if let Some(sleeper) = queue.sleeper(task) {
-        let nice = sleeper.nice.get();
-        let slice = sleeper.slice.get();
+    if let Some(Sleeper { nice, slice, .. }) = queue.sleeper(task) {
         write!(out, ",{nice},{slice}")?;
     }
     Ok(())

@@ -8,9 +8,14 @@ pub struct Hand {
 impl Drop for Hand {
     fn drop(self) {
         let Hand { parcel } = self;
-        if let Some(parcel) = parcel {
-            parcel.retire();
-        }
+        end(parcel);
+    }
+}
+
+/// Ends a task, where there is one.
+fn end(parcel: Option<Parcel>) {
+    if let Some(parcel) = parcel {
+        parcel.retire();
     }
 }
 
@@ -26,9 +31,7 @@ impl Hand {
 
     /// Puts a task into the hand. One that it held ends.
     pub fn fill(&mut self, parcel: Parcel) {
-        if let Some(other) = self.parcel.replace(parcel) {
-            other.retire();
-        }
+        end(self.parcel.replace(parcel));
     }
 
     /// Takes the task out, and leaves the hand empty.
