@@ -41,30 +41,21 @@ pub fn turn_calls<R: Print + Threads + Wait + Sync>(
     alloc: Global,
     setup: &Setup,
 ) -> Result<(), Stopped> {
-    let kit = called!(rt, "Kit::make", Err(_), kit(alloc, setup))?;
+    let kit = called!(rt, "Kit::make", Err(_), kit_of(alloc, setup))?;
     say(rt, "== run_turns");
     let closed = match turns(rt, alloc, kit) {
         Ok(closed) => closed,
         Err(_) => {
             say(rt, "-- refused");
-            turns_of(rt, alloc, setup).map_err(|_| Stopped)?
+            turns(rt, alloc, kit_of(alloc, setup)?).map_err(|_| Stopped)?
         }
     };
     say_report(rt, alloc, &closed, false)
 }
 
 /// A kit of the setup with room for the turns.
-fn kit(alloc: Global, setup: &Setup) -> Result<Kit, AllocError> {
+fn kit_of(alloc: Global, setup: &Setup) -> Result<Kit, AllocError> {
     Kit::make(alloc, setup, 2 * TURNS, 0)
-}
-
-fn turns_of<R: Threads + Wait + Sync>(
-    rt: &R,
-    alloc: Global,
-    setup: &Setup,
-) -> Result<Closed, RunFault> {
-    let kit = kit(alloc, setup)?;
-    turns(rt, alloc, kit)
 }
 
 fn turns<R: Threads + Wait + Sync>(rt: &R, alloc: Global, kit: Kit) -> Result<Closed, RunFault> {
