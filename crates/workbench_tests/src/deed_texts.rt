@@ -1,36 +1,32 @@
 //! Which texts are deeds in which version, and of which meaning.
 
 use crate::fixtures::{cpu, nice, ns, slice, task, wake};
+use crate::known_texts::{ALL, LATER, Meaning, THREE, check};
 use crate::whole_machines::with_deed;
 use eevdf_ops::Deed;
 use eevdf_workload::{Key, LoadFault, Version, read_workload};
 use std::alloc::Global;
 use std::process::Abort;
 
-/// Asks that a text is this deed in a version, or that the workload is refused for it.
-fn check(rt: &impl Abort, alloc: Global, version: Version, text: &str, meant: Option<&Deed>) {
-    let workload = with_deed(rt, alloc, version, text);
-    let read = first_deed(rt, alloc, workload.as_bytes());
-    assert!(rt; read.as_ref() == meant, "{text}");
-}
-
-/// The first deed of a workload's script. `None` where the workload is refused for its text.
-fn first_deed(rt: &impl Abort, alloc: Global, workload: &[u8]) -> Option<Deed> {
-    match read_workload(alloc, workload) {
-        Ok(workload) => workload.script().and_then(|deeds| deeds.first().copied()),
-        Err(
-            LoadFault::BadValue {
-                key: Key::Script(0),
-            },
-        ) => None,
-        Err(_) => panic!(rt; "another fault"),
+impl Meaning for Deed {
+    /// The first deed of the script is the text.
+    fn read<A: Abort>(rt: &A, alloc: Global, version: Version, text: &str) -> Option<Deed> {
+        let workload = with_deed(rt, alloc, version, text);
+        match read_workload(alloc, workload.as_bytes()) {
+            Ok(workload) => workload.script().and_then(|deeds| deeds.first().copied()),
+            Err(
+                LoadFault::BadValue {
+                    key: Key::Script(0),
+                },
+            ) => None,
+            Err(_) => panic!(rt; "another fault"),
+        }
     }
 }
 
 #[test]
 fn all_versions_know_these_deeds(rt: HostRuntime) {
-    let first = cpu(&rt, 0);
-    let last = cpu(&rt, 15);
+    let (first, last) = (cpu(&rt, 0), cpu(&rt, 15));
     let tick = Deed::Tick {
         cpu: last,
         ns: ns(&rt, 1_000_000_000),
@@ -51,17 +47,13 @@ fn all_versions_know_these_deeds(rt: HostRuntime) {
         ("0 wake 1023 from 15", wake(&rt, first, 1023, last)),
         ("0 pull 15", pull),
     ] {
-        for version in [Version::One, Version::Two, Version::Three] {
-            check(&rt, rt.alloc(), version, text, Some(&meant));
-        }
+        check(&rt, rt.alloc(), ALL, text, &meant);
     }
 }
 
 #[test]
 fn later_versions_know_more_deeds(rt: HostRuntime) {
-    let first = cpu(&rt, 0);
-    let last = cpu(&rt, 63);
-    let next = cpu(&rt, 16);
+    let (first, next, last) = (cpu(&rt, 0), cpu(&rt, 16), cpu(&rt, 63));
     let renice = Deed::Renice {
         cpu: first,
         task: task(&rt, 1023),
@@ -78,16 +70,13 @@ fn later_versions_know_more_deeds(rt: HostRuntime) {
         ("0 pull 63", pull),
         ("0 renice 1023 -5", renice),
     ] {
-        check(&rt, rt.alloc(), Version::Three, text, Some(&meant));
-        check(&rt, rt.alloc(), Version::Two, text, Some(&meant));
-        check(&rt, rt.alloc(), Version::One, text, None);
+        check(&rt, rt.alloc(), LATER, text, &meant);
     }
 }
 
 #[test]
 fn version_three_knows_more_deeds(rt: HostRuntime) {
-    let home = cpu(&rt, 0);
-    let other = cpu(&rt, 63);
+    let (home, other) = (cpu(&rt, 0), cpu(&rt, 63));
     let task = task(&rt, 1023);
     let nice = nice(&rt, -5);
     let slice = slice(&rt, 100_000);
@@ -109,20 +98,13 @@ fn version_three_knows_more_deeds(rt: HostRuntime) {
         ("63 set 1023 -5 100000", set),
         ("63 rebase", Deed::Rebase { cpu: other }),
     ] {
-        check(&rt, rt.alloc(), Version::Three, text, Some(&meant));
-        check(&rt, rt.alloc(), Version::Two, text, None);
-        check(&rt, rt.alloc(), Version::One, text, None);
+        check(&rt, rt.alloc(), THREE, text, &meant);
     }
 }
 
 /// Every task has its home at CPU 0.
 #[test]
 fn a_task_begins_at_its_home_alone(rt: HostRuntime) {
-    check(
-        &rt,
-        rt.alloc(),
-        Version::Three,
-        "1 begin 1023 -5 100000",
-        None,
-    )
+    let read = Deed::read(&rt, rt.alloc(), Version::Three, "1 begin 1023 -5 100000");
+    assert!(rt; read.is_none());
 }

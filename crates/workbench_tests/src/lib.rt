@@ -13,6 +13,8 @@ mod fault_lines;
 #[cfg(test)]
 mod fixtures;
 #[cfg(test)]
+mod known_texts;
+#[cfg(test)]
 mod operation_texts;
 #[cfg(test)]
 mod report_texts;

@@ -1,25 +1,22 @@
 //! Which texts are operations in which version, and of which meaning.
 
 use crate::fixtures::{cpu, nice, ns, slice, task};
+use crate::known_texts::{ALL, LATER, Meaning, THREE, check};
 use crate::whole_machines::with_operation;
 use eevdf_ops::{Op, Setup};
 use eevdf_workload::{Key, LoadFault, Version, read_workload};
 use std::alloc::Global;
 use std::process::Abort;
 
-/// Asks that a text is this operation in a version, or that the workload is refused for it.
-fn check(rt: &impl Abort, alloc: Global, version: Version, text: &str, meant: Option<&Op>) {
-    let workload = with_operation(rt, alloc, version, text);
-    let read = operation(rt, alloc, workload.as_bytes());
-    assert!(rt; read.as_ref() == meant, "{text}");
-}
-
-/// The first operation of CPU 0 in a workload. `None` where the workload is refused for its text.
-fn operation(rt: &impl Abort, alloc: Global, workload: &[u8]) -> Option<Op> {
-    match read_workload(alloc, workload) {
-        Ok(workload) => first_operation(rt, workload.setup()),
-        Err(LoadFault::BadValue { key: Key::Op(0, 0) }) => None,
-        Err(_) => panic!(rt; "another fault"),
+impl Meaning for Op {
+    /// The first operation of CPU 0 is the text.
+    fn read<A: Abort>(rt: &A, alloc: Global, version: Version, text: &str) -> Option<Op> {
+        let workload = with_operation(rt, alloc, version, text);
+        match read_workload(alloc, workload.as_bytes()) {
+            Ok(workload) => first_operation(rt, workload.setup()),
+            Err(LoadFault::BadValue { key: Key::Op(0, 0) }) => None,
+            Err(_) => panic!(rt; "another fault"),
+        }
     }
 }
 
@@ -46,9 +43,7 @@ fn all_versions_know_these_operations(rt: HostRuntime) {
         ("drain", Op::Drain),
         ("pull 15", Op::Pull(cpu(&rt, 15))),
     ] {
-        for version in [Version::One, Version::Two, Version::Three] {
-            check(&rt, rt.alloc(), version, text, Some(&meant));
-        }
+        check(&rt, rt.alloc(), ALL, text, &meant);
     }
 }
 
@@ -65,9 +60,7 @@ fn later_versions_know_more_operations(rt: HostRuntime) {
         ("renice 0 0", Op::Renice(task(&rt, 0), nice(&rt, 0))),
         ("renice 0 19", Op::Renice(task(&rt, 0), nice(&rt, 19))),
     ] {
-        check(&rt, rt.alloc(), Version::Three, text, Some(&meant));
-        check(&rt, rt.alloc(), Version::Two, text, Some(&meant));
-        check(&rt, rt.alloc(), Version::One, text, None);
+        check(&rt, rt.alloc(), LATER, text, &meant);
     }
 }
 
@@ -89,9 +82,7 @@ fn version_three_knows_more_operations(rt: HostRuntime) {
         ("set 1023 -20 100000000", Op::Set(last, heaviest, longest)),
         ("rebase", Op::Rebase),
     ] {
-        check(&rt, rt.alloc(), Version::Three, text, Some(&meant));
-        check(&rt, rt.alloc(), Version::Two, text, None);
-        check(&rt, rt.alloc(), Version::One, text, None);
+        check(&rt, rt.alloc(), THREE, text, &meant);
     }
 }
 
@@ -124,6 +115,7 @@ fn version_three_refuses_these_texts(rt: HostRuntime) {
         "begins 0 0 100000",
         "slice 0 100000",
     ] {
-        check(&rt, rt.alloc(), Version::Three, text, None);
+        let read = Op::read(&rt, rt.alloc(), Version::Three, text);
+        assert!(rt; read.is_none(), "{text}");
     }
 }
