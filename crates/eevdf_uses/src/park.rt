@@ -49,7 +49,7 @@ struct Parked {
 
 /// What a CPU has of its own.
 #[derive(Drop)]
-struct OnCpu {
+pub struct OnCpu {
     /// The wakes that its drains decided and that aren't settled.
     wakes: Vec<DrainedWake>,
     /// The task that works, and for how many turns more. Meanwhile the next unit is put down, and its wake comes too early.
@@ -69,16 +69,22 @@ pub struct Parking {
 }
 
 impl Work for Parking {
-    fn turn<N: Names, R: Wait>(running: &Running<'_, Parking, N, R>, seat: &mut Seat<N>) -> bool {
+    type Own = OnCpu;
+
+    fn own(&self, cpu: CpuId) -> Option<&Mutex<OnCpu>> {
+        self.on_cpus.get(cpu.index())
+    }
+
+    fn turn<N: Names, R: Wait>(
+        running: &Running<'_, Parking, N, R>,
+        seat: &mut Seat<N>,
+        own: &mut OnCpu,
+    ) -> bool {
         let parking = running.work;
-        let Some(own) = parking.on_cpus.get(seat.cpu().index()) else {
-            return false;
-        };
-        let mut own = own.lock(running.rt);
         running.settle_next(seat, &mut own.wakes);
         running.put_unit_down(seat, seat.cpu().get());
         running.put_unit_down(seat, seat.cpu().get() + 4);
-        running.work_on(seat, &mut own);
+        running.work_on(seat, own);
         let turns = parking.turns.fetch_add(1, Ordering::SeqCst);
         let_others_run(turns);
         parking.taken.load(Ordering::SeqCst) < TASKS * UNITS && turns < PATIENCE

@@ -27,8 +27,8 @@ use eevdf_free_tasks::FreePart;
 use eevdf_ops::{Answer, CpuId};
 use eevdf_queue::TaskId;
 use eevdf_weight::{Nice, Ns, Slice};
-use std::sync::Wait;
 use std::sync::atomic::{AtomicU64, Ordering};
+use std::sync::{Mutex, Wait};
 
 /// At most so many requests that were handed to a CPU wait there.
 const MOST_HANDED: u64 = 32;
@@ -49,19 +49,24 @@ struct Pool {
 }
 
 impl Work for Pool {
-    fn turn<N: Names, R: Wait>(running: &Running<'_, Pool, N, R>, seat: &mut Seat<N>) -> bool {
-        let pool = running.work;
-        let Some(cpu) = pool.cpus.get(seat.cpu().index()) else {
-            return false;
-        };
-        let mut own = cpu.own.lock(running.rt);
-        running.pass_time(seat, &mut own);
+    type Own = OnCpu;
+
+    fn own(&self, cpu: CpuId) -> Option<&Mutex<OnCpu>> {
+        Some(&self.cpus.get(cpu.index())?.own)
+    }
+
+    fn turn<N: Names, R: Wait>(
+        running: &Running<'_, Pool, N, R>,
+        seat: &mut Seat<N>,
+        own: &mut OnCpu,
+    ) -> bool {
+        running.pass_time(seat, own);
         let _ = running.fleet.drain(running.rt, seat);
         running.accept(seat, &mut own.free);
         running.accept(seat, &mut own.free);
         running.set_fallen(seat);
         running.run_next(seat, &mut own.free);
-        !pool.lives.have_all_come() && own.quiet_turns <= MOST_QUIET_TURNS
+        !running.work.lives.have_all_come() && own.quiet_turns <= MOST_QUIET_TURNS
     }
 }
 

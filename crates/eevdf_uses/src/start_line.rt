@@ -4,10 +4,11 @@ ghost use Rattle.std.specs.Prelude.{◌≡◌};
 
 use eevdf_fleet::Names;
 use eevdf_fleet::endless::{Fleet, Seat, SeatTurn};
+use eevdf_ops::CpuId;
 use std::alloc::{AllocError, Global};
 use std::ops::ControlFlow;
-use std::sync::Wait;
 use std::sync::atomic::{AtomicU64, Ordering};
+use std::sync::{Mutex, Wait};
 use std::thread;
 
 /// After so many turns of waiting a thread gives up. In each of them it lets others run, so one that is only slow to start comes before.
@@ -33,8 +34,18 @@ pub struct Running<'a, W, N: Names, R> {
 
 /// What the threads do when all have come.
 pub trait Work: Drop + Sized {
+    /// What a CPU has of its own.
+    type Own;
+
+    /// What this CPU has of its own. No other CPU takes its lock.
+    fn own(&self, cpu: CpuId) -> Option<&Mutex<Self::Own>>;
+
     /// Does a turn of the seat's CPU, and says whether it has another one.
-    fn turn<N: Names, R: Wait>(running: &Running<'_, Self, N, R>, seat: &mut Seat<N>) -> bool
+    fn turn<N: Names, R: Wait>(
+        running: &Running<'_, Self, N, R>,
+        seat: &mut Seat<N>,
+        own: &mut Self::Own,
+    ) -> bool
         ensures { seat.new.cpu ≡ seat.old.cpu };
 }
 
@@ -96,7 +107,10 @@ impl<W: Work> SeatTurn for StartLine<W> {
             rt,
             fleet,
         };
-        if W::turn(&running, seat) {
+        let Some(own) = self.work.own(seat.cpu()) else {
+            return ControlFlow::Break(());
+        };
+        if W::turn(&running, seat, &mut own.lock(rt)) {
             ControlFlow::Continue(())
         } else {
             ControlFlow::Break(())
