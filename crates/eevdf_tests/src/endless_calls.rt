@@ -9,13 +9,13 @@ mod no_quota;
 mod two_threads;
 
 ghost use Rattle.std.specs.Prelude.{◌≡◌};
-ghost use Rattle.eevdf_fleet.specs.Fleets.{setup_of};
 
 use crate::fleet_calls::seat_call::Call;
+use crate::kits::endless_kit_of;
 use crate::seats::make_told_calls;
 use eevdf_fleet::Names;
 use eevdf_fleet::endless::{Closed, Fleet, Kit, Seat};
-use eevdf_ops::{Outcome, Setup};
+use eevdf_ops::Outcome;
 use eevdf_report::report;
 use eevdf_workload::read_workload;
 use std::alloc::Global;
@@ -33,18 +33,16 @@ struct Case {
     report: &'static str,
 }
 
-/// What a fleet is closed to after the calls of a case, of which each comes to what is told.
-fn outcome_of<N: Names, R: Wait + Abort>(
-    rt: &R,
-    alloc: Global,
-    kit: Kit,
-    case: &Case,
-) -> Option<Outcome>
+/// Makes the calls of a case on a fleet of this kit, of which each is to come to what is told, and asks that what the fleet is closed to is
+/// reported as is told.
+fn check_case<N: Names, R: Wait + Abort>(rt: &R, alloc: Global, kit: Kit, case: &Case)
     requires { kit ≡ N.kit }
 {
     let (fleet, mut seats) = Fleet::<N>::open(alloc, kit).expect(rt, "memory");
     make_told_calls(rt, alloc, &fleet, &mut seats, case.name, case.calls);
-    closed(alloc, fleet, seats)
+    let outcome = closed(alloc, fleet, seats).expect(rt, "outcome");
+    let text = report(alloc, &outcome, false).expect(rt, "memory");
+    assert!(rt; text.as_slice() == case.report.as_bytes(), "{}", case.name);
 }
 
 /// Closes a fleet, where these are its seats. It has no handle `Wait`, so it compiles only as long as `close` doesn't wait.
@@ -67,26 +65,11 @@ fn without_lines(alloc: Global, closed: Closed) -> Option<Outcome> {
     }
 }
 
-/// A kit, whose rings are to be such as a kit may have.
-pub fn kit_of(rt: &impl Abort, alloc: Global, setup: &Setup, rings: usize) -> Kit
-    ensures { setup_of result ≡ setup.now }
-{
-    assert!(rt; rings <= 1_000_000);
-    Kit::make(alloc, setup, rings).expect(rt, "memory")
-}
-
-/// Whether a case comes to what it tells.
-fn holds<R: Wait + Abort>(rt: &R, alloc: Global, case: &Case) -> Option<bool> {
-    let workload = read_workload(alloc, case.workload).expect(rt, "workload");
-    let kit = kit_of(rt, alloc, workload.setup(), case.rings);
-    let outcome = outcome_of::<Brand, _>(rt, alloc, kit, case)?;
-    let text = report(alloc, &outcome, false).expect(rt, "memory");
-    Some(text.as_slice() == case.report.as_bytes())
-}
-
 #[test]
 fn seats_do_what_the_cases_tell(rt: HostRuntime) {
     for case in &cases::CASES {
-        assert!(rt; holds(&rt, rt.alloc(), case) == Some(true), "{}", case.name);
+        let workload = read_workload(rt.alloc(), case.workload).expect(&rt, "workload");
+        let kit = endless_kit_of(&rt, rt.alloc(), workload.setup(), case.rings);
+        check_case::<Brand, _>(&rt, rt.alloc(), kit, case);
     }
 }

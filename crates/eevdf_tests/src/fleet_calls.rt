@@ -7,10 +7,10 @@ pub mod seat_call;
 mod two_threads;
 
 ghost use Rattle.std.specs.Prelude.{◌≡◌};
-ghost use Rattle.eevdf_fleet.specs.Fleets.{setup_of};
 
+use crate::kits::kit_of;
 use eevdf_fleet::{Fleet, Kit, Names, Seat};
-use eevdf_ops::{Outcome, Setup};
+use eevdf_ops::Outcome;
 use eevdf_report::report;
 use eevdf_workload::read_workload;
 use seat_call::{Call, Done, call_on};
@@ -72,14 +72,6 @@ fn closed<N: Names>(fleet: Fleet<N>, seats: Vec<Seat<N>>) -> Option<Outcome> {
     } else {
         None
     }
-}
-
-/// A kit, whose quota and rings are to be such as a kit may have.
-pub fn kit_of(rt: &impl Abort, alloc: Global, setup: &Setup, quota: usize, rings: usize) -> Kit
-    ensures { setup_of result ≡ setup.now }
-{
-    assert!(rt; quota <= 1_000_000 && rings <= 1_000_000);
-    Kit::make(alloc, setup, quota, rings).expect(rt, "memory")
 }
 
 /// The same of a fleet of the setup of a workload.

@@ -16,6 +16,8 @@ mod fleet_calls;
 #[cfg(test)]
 mod free_numbers;
 #[cfg(test)]
+mod kits;
+#[cfg(test)]
 mod neighbours;
 #[cfg(test)]
 mod one_thread_again;
@@ -25,6 +27,8 @@ mod ready_callers;
 mod same_end;
 #[cfg(test)]
 mod seats;
+#[cfg(test)]
+mod stand;
 #[cfg(test)]
 mod tasks_come_and_go;
 #[cfg(test)]

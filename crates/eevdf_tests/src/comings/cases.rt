@@ -1,10 +1,11 @@
 //! Calls by which tasks come and go, with what comes of them. The values are those of docs/model.md's rules: level 5 weighs 335.
 
-use super::Stand::{Asleep, Elsewhere, Runnable};
-use super::{Case, Stand, Stands};
+use super::{Case, Stands};
 use crate::fleet_calls::seat_call::Call::{
     Begin, Drain, End, Pick, Post, Pull, Rebase, Renice, Set, Sleep, Tick,
 };
+use crate::stand::Stand;
+use crate::stand::Stand::{Asleep, Elsewhere, Runnable};
 
 /// A task as the setup gives it, runnable and asleep.
 const WAITS: Stand = Runnable(0, 3_000_000, 0, 3_000_000);

@@ -4,8 +4,8 @@ ghost use Rattle.std.specs.Prelude.{◌≡◌};
 
 use super::cases::CASES;
 use super::{Case, stands_in, three_tasks};
-use crate::endless_calls::kit_of;
 use crate::fixtures::{cpu, task};
+use crate::kits::endless_kit_of;
 use crate::seats::make_told_calls;
 use eevdf_fleet::Names;
 use eevdf_fleet::endless::{Fleet, Kit};
@@ -34,7 +34,7 @@ fn make_calls<N: Names, R: Wait + Abort>(rt: &R, alloc: Global, kit: Kit, case: 
 fn tasks_come_and_go(rt: HostRuntime) {
     let setup = three_tasks(&rt, rt.alloc());
     for case in &CASES {
-        let kit = kit_of(&rt, rt.alloc(), &setup, 1);
+        let kit = endless_kit_of(&rt, rt.alloc(), &setup, 1);
         make_calls::<Brand, _>(&rt, rt.alloc(), kit, case);
     }
 }

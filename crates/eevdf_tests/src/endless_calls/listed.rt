@@ -3,8 +3,8 @@
 ghost use Rattle.std.specs.Prelude.{◌≡◌};
 ghost use Rattle.eevdf_fleet.specs.Fleets.{setup_of};
 
-use super::kit_of;
 use crate::fixtures::{cpu, setup_of, task, task_at};
+use crate::kits::endless_kit_of;
 use eevdf_fleet::endless::{Fleet, Kit, Seat};
 use eevdf_fleet::{DrainedWake, Names};
 use eevdf_ops::{Answer, Op, Setup, TaskSpec};
@@ -111,7 +111,7 @@ fn all_ask_twice<N: Names, R: Wait + Abort>(
 fn a_drain_names_a_wake_of_each_of_sixty_four_seats(rt: HostRuntime) {
     let setup = setup_of_tasks(&rt, rt.alloc(), 64, &AT_FOUR_HOMES);
     for (number, home) in HOMES {
-        let kit = kit_of(&rt, rt.alloc(), &setup, 1);
+        let kit = endless_kit_of(&rt, rt.alloc(), &setup, 1);
         let holds = all_ask_twice::<Brand, _>(&rt, rt.alloc(), kit, number, home);
         assert!(rt; holds, "CPU {home}");
     }
@@ -138,7 +138,7 @@ fn a_woken_task_of_earlier_deadline_preempts(rt: HostRuntime) {
     for (slice, is_preempted) in [(1_000_000, true), (3_000_000, false)] {
         let tasks = [(0, 3_000_000, false), (0, slice, true)];
         let setup = setup_of_tasks(&rt, rt.alloc(), 1, &tasks);
-        let kit = kit_of(&rt, rt.alloc(), &setup, 1);
+        let kit = endless_kit_of(&rt, rt.alloc(), &setup, 1);
         let preempts = preempts::<Brand, _>(&rt, rt.alloc(), kit);
         assert!(rt; preempts == is_preempted, "slice {slice}");
     }
@@ -191,7 +191,7 @@ fn a_post_sees_whether_it_is_alone(rt: HostRuntime) {
     let setup = setup_of_tasks(&rt, rt.alloc(), 64, &AT_FOUR_HOMES);
     for sender in [0, 1, 8, 63] {
         for (number, home) in HOMES {
-            let kit = kit_of(&rt, rt.alloc(), &setup, 2);
+            let kit = endless_kit_of(&rt, rt.alloc(), &setup, 2);
             looks_at_its_ring::<Brand, _>(&rt, rt.alloc(), kit, sender, number, home);
         }
     }

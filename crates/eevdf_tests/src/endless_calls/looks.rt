@@ -3,8 +3,8 @@
 ghost use Rattle.std.specs.Prelude.{◌≡◌};
 ghost use Rattle.eevdf_fleet.specs.Fleets.{setup_of};
 
-use super::kit_of;
 use crate::fixtures::{cpu, one_task_each, task};
+use crate::kits::endless_kit_of;
 use eevdf_fleet::Names;
 use eevdf_fleet::endless::{Fleet, Kit, Seat};
 use eevdf_ops::CpuId;
@@ -51,6 +51,6 @@ fn looks_and_meets<N: Names, R: Wait + Abort>(rt: &R, alloc: Global, kit: Kit)
 #[test]
 fn a_look_shows_the_queue(rt: HostRuntime) {
     let setup = one_task_each(&rt, rt.alloc(), 2);
-    let kit = kit_of(&rt, rt.alloc(), &setup, 1);
+    let kit = endless_kit_of(&rt, rt.alloc(), &setup, 1);
     looks_and_meets::<Brand, _>(&rt, rt.alloc(), kit);
 }

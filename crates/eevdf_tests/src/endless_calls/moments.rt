@@ -4,8 +4,8 @@
 ghost use Rattle.std.specs.Prelude.{◌≡◌};
 ghost use Rattle.eevdf_fleet.specs.Fleets.{setup_of};
 
-use super::kit_of;
 use crate::fixtures::{cpu, one_task_each, task};
+use crate::kits::endless_kit_of;
 use eevdf_fleet::endless::{Fleet, Kit, Seat};
 use eevdf_fleet::{Drained, Names, Operated};
 use eevdf_ops::{Answer, Op};
@@ -63,6 +63,6 @@ fn goes_on<N: Names, R: Wait + Abort>(rt: &R, alloc: Global, kit: Kit)
 #[test]
 fn comparing_moments_changes_nothing(rt: HostRuntime) {
     let setup = one_task_each(&rt, rt.alloc(), 2);
-    let kit = kit_of(&rt, rt.alloc(), &setup, 1);
+    let kit = endless_kit_of(&rt, rt.alloc(), &setup, 1);
     goes_on::<Brand, _>(&rt, rt.alloc(), kit);
 }

@@ -3,8 +3,8 @@
 ghost use Rattle.std.specs.Prelude.{◌≡◌};
 ghost use Rattle.eevdf_fleet.specs.Fleets.{setup_of};
 
-use super::kit_of;
 use crate::fixtures::{one_task_each, task};
+use crate::kits::endless_kit_of;
 use eevdf_fleet::endless::{Fleet, Kit, Seat};
 use eevdf_fleet::{Drained, Names};
 use eevdf_ops::{Answer, CpuId, Op};
@@ -43,7 +43,7 @@ fn seat_goes_on<N: Names, R: Wait + Abort>(rt: &R, alloc: Global, kit: Kit) -> b
 #[test]
 fn a_seat_goes_on_without_a_quota(rt: HostRuntime) {
     let setup = one_task_each(&rt, rt.alloc(), 1);
-    let kit = kit_of(&rt, rt.alloc(), &setup, 1);
+    let kit = endless_kit_of(&rt, rt.alloc(), &setup, 1);
     assert!(rt; seat_goes_on::<Brand, _>(&rt, rt.alloc(), kit));
 }
 
@@ -77,6 +77,6 @@ fn places_come_back<N: Names, R: Wait + Abort>(rt: &R, alloc: Global, kit: Kit)
 #[test]
 fn places_of_a_ring_come_back(rt: HostRuntime) {
     let setup = one_task_each(&rt, rt.alloc(), 1);
-    let kit = kit_of(&rt, rt.alloc(), &setup, 2);
+    let kit = endless_kit_of(&rt, rt.alloc(), &setup, 2);
     places_come_back::<Brand, _>(&rt, rt.alloc(), kit);
 }

@@ -3,9 +3,10 @@
 ghost use Rattle.std.specs.Prelude.{◌≡◌};
 ghost use Rattle.eevdf_fleet.specs.Fleets.{setup_of};
 
-use super::{closed, kit_of};
+use super::closed;
 use crate::fixtures::{give_back, one_task_each, take_pair};
 use crate::fleet_calls::seat_call::Call;
+use crate::kits::endless_kit_of;
 use crate::seats::CallingSeat;
 use eevdf_fleet::Names;
 use eevdf_fleet::endless::{Fleet, Kit, Seat};
@@ -21,7 +22,7 @@ use std::thread::{Threads, join};
 /// So many turns a thread waits at most for the other.
 const TURNS: u64 = 100_000_000;
 
-/// What two threads tell one another.
+/// What two threads tell one another, of which one holds a lock and the other works beside it.
 #[derive(Drop)]
 struct Signals {
     is_looking: AtomicBool,
@@ -48,36 +49,26 @@ impl Signals {
         }
         self.is_given_up.store(true, Ordering::SeqCst);
     }
-}
 
-/// Looks at the seat's own queue, whose lock it holds until the other thread has done its calls.
-fn hold<N: Names, R: Wait>(
-    rt: &R,
-    fleet: &Fleet<N>,
-    mut seat: Seat<N>,
-    signals: &Signals,
-) -> Seat<N> {
-    let cpu = seat.cpu();
-    let look = fleet.look(rt, &mut seat, cpu);
-    signals.is_looking.store(true, Ordering::SeqCst);
-    signals.await_signal(&signals.is_done);
-    drop(look);
-    seat
-}
-
-/// Calls of the other CPU, and a post to the one whose lock is held.
-fn work_beside<N: Names, R: Wait>(
-    rt: &R,
-    fleet: &Fleet<N>,
-    mut seat: Seat<N>,
-    signals: &Signals,
-) -> Seat<N> {
-    signals.await_signal(&signals.is_looking);
-    for call in [Call::Pick, Call::Tick(1_000), Call::Post(0), Call::Drain] {
-        let _came = seat.call(rt, fleet, call);
+    /// Looks at the seat's own queue, whose lock it holds until the other thread has done its calls.
+    fn hold<N: Names, R: Wait>(&self, rt: &R, fleet: &Fleet<N>, mut seat: Seat<N>) -> Seat<N> {
+        let cpu = seat.cpu();
+        let look = fleet.look(rt, &mut seat, cpu);
+        self.is_looking.store(true, Ordering::SeqCst);
+        self.await_signal(&self.is_done);
+        drop(look);
+        seat
     }
-    signals.is_done.store(true, Ordering::SeqCst);
-    seat
+
+    /// Calls of the other CPU, and a post to the one whose lock is held.
+    fn work<N: Names, R: Wait>(&self, rt: &R, fleet: &Fleet<N>, mut seat: Seat<N>) -> Seat<N> {
+        self.await_signal(&self.is_looking);
+        for call in [Call::Pick, Call::Tick(1_000), Call::Post(0), Call::Drain] {
+            let _came = seat.call(rt, fleet, call);
+        }
+        self.is_done.store(true, Ordering::SeqCst);
+        seat
+    }
 }
 
 /// What a fleet is closed to when one thread held the lock of CPU 0 while another did the calls of CPU 1.
@@ -94,8 +85,8 @@ fn one_holds<N: Names + Send + Sync, R: Threads + Wait + Abort + Sync>(
     let shared = &fleet;
     let (zero, one) = join(
         rt,
-        move || hold(rt, shared, zero, signals),
-        move || work_beside(rt, shared, one, signals),
+        move || signals.hold(rt, shared, zero),
+        move || signals.work(rt, shared, one),
     );
     give_back(rt, &mut seats, (zero, one));
     closed(alloc, fleet, seats)
@@ -105,7 +96,7 @@ fn one_holds<N: Names + Send + Sync, R: Threads + Wait + Abort + Sync>(
 #[test]
 fn a_cpu_goes_on_while_another_is_locked(rt: HostRuntime) {
     let setup = one_task_each(&rt, rt.alloc(), 2);
-    let kit = kit_of(&rt, rt.alloc(), &setup, 1);
+    let kit = endless_kit_of(&rt, rt.alloc(), &setup, 1);
     let signals = Signals::new();
     let outcome = one_holds::<Brand, _>(&rt, rt.alloc(), kit, &signals).expect(&rt, "outcome");
     assert!(rt; !signals.is_given_up.load(Ordering::SeqCst));

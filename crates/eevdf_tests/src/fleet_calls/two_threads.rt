@@ -6,9 +6,9 @@ ghost use Rattle.eevdf_fleet.specs.Fleets.{setup_of};
 ghost use Rattle.eevdf_ops.specs.Programs.{deeds_of};
 ghost use Rattle.eevdf_ops.specs.Setup.{allows};
 
-use super::kit_of;
 use super::seat_call::{Call, call_on};
 use crate::fixtures::{give_back, take_pair};
+use crate::kits::kit_of;
 use crate::one_thread_again::done_alone;
 use crate::same_end::end_alike;
 use eevdf_fleet::{Fleet, Kit, Names, Seat};

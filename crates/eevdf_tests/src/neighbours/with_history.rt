@@ -4,7 +4,7 @@ ghost use Rattle.std.specs.Prelude.{◌≡◌};
 ghost use Rattle.eevdf_fleet.specs.Fleets.{setup_of};
 
 use super::{call_both, pairs, two_tasks_each};
-use crate::fleet_calls::kit_of;
+use crate::kits::kit_of;
 use eevdf_fleet::{Fleet, Kit, Names};
 use std::alloc::Global;
 use std::marker::Brand;

@@ -4,8 +4,8 @@ ghost use Rattle.std.specs.Prelude.{◌≡◌};
 ghost use Rattle.eevdf_fleet.specs.Fleets.{setup_of};
 
 use super::{call_both, pairs, two_tasks_each};
-use crate::endless_calls::kit_of;
 use crate::fixtures::cpu;
+use crate::kits::endless_kit_of;
 use eevdf_fleet::Names;
 use eevdf_fleet::endless::{Fleet, Kit, Seat};
 use std::alloc::Global;
@@ -59,7 +59,7 @@ fn make_calls<N: Names, R: Wait + Abort>(rt: &R, alloc: Global, kit: Kit, cpu: u
 fn each_cpu_makes_each_call(rt: HostRuntime) {
     let setup = two_tasks_each(&rt, rt.alloc());
     for (cpu, neighbour) in pairs(&rt, rt.alloc()) {
-        let kit = kit_of(&rt, rt.alloc(), &setup, 2);
+        let kit = endless_kit_of(&rt, rt.alloc(), &setup, 2);
         make_calls::<Brand, _>(&rt, rt.alloc(), kit, cpu, neighbour);
     }
 }

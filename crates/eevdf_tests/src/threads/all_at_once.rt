@@ -6,7 +6,7 @@ use super::gate_call::{GateCall, Moment, Passing, PassingGate};
 use super::token::Token;
 use crate::fixtures::{one_task_each, picks_of_one_task_each};
 use crate::fleet_calls::seat_call::Call;
-use crate::{endless_calls, fleet_calls};
+use crate::kits::{endless_kit_of, kit_of};
 use eevdf_fleet::{endless, run_all, run_turns};
 
 /// So many CPUs there are in the tests.
@@ -47,7 +47,7 @@ impl RoundsOfTurns {
 fn turns_of_all_cpus_go_on_at_once(rt: HostRuntime) {
     for cpus in CPUS {
         let setup = one_task_each(&rt, rt.alloc(), cpus);
-        let kit = fleet_calls::kit_of(&rt, rt.alloc(), &setup, 2 * ROUNDS, 1);
+        let kit = kit_of(&rt, rt.alloc(), &setup, 2 * ROUNDS, 1);
         let turns = RoundsOfTurns::of(cpus);
         let _closed = run_turns(&rt, rt.alloc(), kit, ROUNDS, &turns).expect(&rt, "turns");
         assert!(rt; turns.each.token.has_gone(ROUNDS), "{cpus} CPUs");
@@ -58,7 +58,7 @@ fn turns_of_all_cpus_go_on_at_once(rt: HostRuntime) {
 fn turns_without_a_history_go_on_at_once(rt: HostRuntime) {
     for cpus in CPUS {
         let setup = one_task_each(&rt, rt.alloc(), cpus);
-        let kit = endless_calls::kit_of(&rt, rt.alloc(), &setup, 1);
+        let kit = endless_kit_of(&rt, rt.alloc(), &setup, 1);
         let turns = RoundsOfTurns::of(cpus);
         let _closed = endless::run_turns(&rt, rt.alloc(), kit, &turns).expect(&rt, "turns");
         assert!(rt; turns.each.token.has_gone(1), "{cpus} CPUs");

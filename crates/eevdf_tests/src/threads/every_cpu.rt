@@ -3,8 +3,8 @@
 
 use super::call_turns::{CallTurns, TurnCalls};
 use crate::fixtures::one_task_each;
-use crate::fleet_calls::kit_of;
 use crate::fleet_calls::seat_call::Call;
+use crate::kits::kit_of;
 use eevdf_fleet::{Closed, run_turns};
 use eevdf_ops::Deed;
 use std::process::Abort;

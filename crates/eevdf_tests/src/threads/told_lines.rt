@@ -3,8 +3,8 @@
 ghost use Rattle.std.specs.Prelude.{◌≡◌};
 
 use super::token::Token;
-use crate::endless_calls::kit_of;
 use crate::fixtures::one_task_each;
+use crate::kits::endless_kit_of;
 use eevdf_fleet::Names;
 use eevdf_fleet::endless::{Exchange, ExchangeTurn, Fleet, Seat, SeenLine, run_exchange_turns};
 use eevdf_ops::{CpuId, Deed, Line};
@@ -85,7 +85,7 @@ impl RoundOfLines {
 fn each_cpu_is_told_what_was_left_for_it(rt: HostRuntime) {
     for cpus in CPUS {
         let setup = one_task_each(&rt, rt.alloc(), cpus);
-        let kit = kit_of(&rt, rt.alloc(), &setup, 1);
+        let kit = endless_kit_of(&rt, rt.alloc(), &setup, 1);
         let each = RoundOfLines {
             cpus,
             token: Token::new(cpus),
