@@ -45,13 +45,10 @@ fn answer<R: Env + AllocGlobal + Files + Input + Print>(
 ) -> Result<u8, u8> {
     let words = TEXTS.words(rt, errors, errors, alloc)?;
     let (own, file) = with_file(&words);
-    let seed = match seed_of(alloc, own) {
-        Ok(seed) => seed,
-        Err(fault) => {
-            let unknown = unknown_word(alloc, own);
-            return Err(TEXTS.refuse(errors, errors, fault, unknown));
-        }
-    };
+    let seed = seed_of(alloc, own).map_err(|fault| {
+        let unknown = unknown_word(alloc, own);
+        TEXTS.refuse(errors, errors, fault, unknown)
+    })?;
     Ok(match file {
         Some(name) => run(
             rt,
