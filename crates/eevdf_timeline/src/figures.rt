@@ -6,6 +6,7 @@ mod rows;
 mod service;
 mod table;
 mod virtual_times;
+mod waits;
 
 pub(crate) use counts::counts_of;
 pub(crate) use rows::{Figures, figures_of};

@@ -67,13 +67,10 @@ fn answer<R: Env + AllocGlobal + Files + Input + Print + Threads + Wait + Sync>(
 ) -> Result<u8, u8> {
     let words = TEXTS.words(rt, errors, errors, alloc)?;
     let (own, file) = with_file(&words);
-    let asked = match words_of(alloc, own) {
-        Ok(asked) => asked,
-        Err(fault) => {
-            let unknown = unknown_word(alloc, own).ok();
-            return Err(TEXTS.refuse(errors, errors, fault, unknown));
-        }
-    };
+    let asked = words_of(alloc, own).map_err(|fault| {
+        let unknown = unknown_word(alloc, own).ok();
+        TEXTS.refuse(errors, errors, fault, unknown)
+    })?;
     Ok(match file {
         Some(name) => {
             let file = TEXTS.open(rt, errors, errors, name)?;

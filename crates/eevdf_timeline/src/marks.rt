@@ -7,18 +7,20 @@ use eevdf_ops::Answer;
 use eevdf_queue::TaskId;
 use std::fmt;
 
-/// What a mark shows.
+/// What a mark shows, in the order of the legend.
 #[derive(Clone, Copy, PartialEq, Eq)]
 pub enum Sign {
     /// A pick of another task than ran.
     Pick,
     /// A pick of the task that runs, which changes nothing.
     SamePick,
-    Yield,
-    Sleep,
     Wake,
+    Sleep,
     Pull,
     Renice,
+    Yield,
+    /// A deed that was refused, or that found nothing to do.
+    Refused,
     /// A task begins.
     Begin,
     /// A task ends.
@@ -27,13 +29,11 @@ pub enum Sign {
     Set,
     /// All virtual times of the CPU are lowered by one number, which may be 0.
     Rebase,
-    /// A deed that was refused, or that found nothing to do.
-    Refused,
 }
 
 impl Sign {
-    /// The signs with their words, in the order of the legend.
-    pub const ALL: [(Sign, &'static str); 12] = [
+    /// The signs in the first row of the legend, with their words.
+    pub const FIRST_ROW: [(Sign, &'static str); 8] = [
         (Sign::Pick, "pick"),
         (Sign::SamePick, "pick of the same"),
         (Sign::Wake, "wake"),
@@ -42,6 +42,10 @@ impl Sign {
         (Sign::Renice, "renice"),
         (Sign::Yield, "yield"),
         (Sign::Refused, "refused or idle"),
+    ];
+
+    /// Those in the second row.
+    pub const SECOND_ROW: [(Sign, &'static str); 4] = [
         (Sign::Begin, "begin"),
         (Sign::End, "end"),
         (Sign::Set, "set"),

@@ -39,9 +39,6 @@ const FOOT: u64 = 30;
 /// How far an entry of the legend is from the next one, in units.
 const ENTRY: u64 = 122;
 
-/// So many signs stand in the first row of the legend.
-const IN_FIRST_ROW: usize = 8;
-
 /// So many entries of the second row of the legend are taken by `KEYS`.
 const OF_KEYS: u64 = 3;
 
@@ -101,25 +98,29 @@ fn push_head(text: &mut String, scene: &Scene<'_>, height: u64) -> Result<(), Al
 }
 
 fn push_legend(text: &mut String) -> Result<(), AllocError> {
-    for (number, (sign, word)) in Sign::ALL.iter().enumerate() {
-        let (row, entry) = if number < IN_FIRST_ROW {
-            (0, number as u64)
-        } else {
-            (
-                SECOND_ROW,
-                OF_KEYS.saturating_add((number - IN_FIRST_ROW) as u64),
-            )
-        };
+    push_signs(text, &Sign::FIRST_ROW, 0, 0)?;
+    push_signs(text, &Sign::SECOND_ROW, OF_KEYS, SECOND_ROW)?;
+    text.push_str(KEYS)
+}
+
+/// Writes the signs of a row of the legend that is so far below the first one, from an entry on.
+fn push_signs(
+    text: &mut String,
+    signs: &[(Sign, &'static str)],
+    first: u64,
+    row: u64,
+) -> Result<(), AllocError> {
+    let (middle, base) = (row.saturating_add(72), row.saturating_add(76));
+    for (number, (sign, word)) in signs.iter().enumerate() {
+        let entry = first.saturating_add(number as u64);
         let place = entry.saturating_mul(ENTRY).saturating_add(16);
         let after = place.saturating_add(9);
-        let middle = row.saturating_add(72);
-        let base = row.saturating_add(76);
         writeln!(
             text,
             "<use href=\"#{sign}\" x=\"{place}\" y=\"{middle}\"/><text class=\"s\" x=\"{after}\" y=\"{base}\">{word}</text>"
         )?;
     }
-    text.push_str(KEYS)
+    Ok(())
 }
 
 /// Writes the axis below the lanes, and one more below the panels.

@@ -226,8 +226,8 @@ fn push_due(alloc: Global, text: &mut Vec<u8>, due: &Due) -> Result<(), AllocErr
     let time = due.time;
     match &due.what {
         What::Ran(stretch) => push_run(alloc, text, stretch),
-        What::Done(moment) => push_done(alloc, text, moment),
-        What::Gave(cpu, moment) => push_slice(alloc, text, time, *cpu, moment),
+        What::Done(moment) => push_done(alloc, text, moment.line.deed.cpu(), time, moment),
+        What::Gave(cpu, moment) => push_done(alloc, text, *cpu, time, moment),
         What::Begins(cpu, number) => push_arrow(
             alloc,
             text,
@@ -260,33 +260,38 @@ fn push_due(alloc: Global, text: &mut Vec<u8>, due: &Due) -> Result<(), AllocErr
     }
 }
 
-fn push_done(alloc: Global, text: &mut Vec<u8>, moment: &Moment) -> Result<(), AllocError> {
-    push_slice(alloc, text, moment.begin, moment.line.deed.cpu(), moment)
-}
-
 fn push_run(alloc: Global, text: &mut Vec<u8>, stretch: &Stretch) -> Result<(), AllocError> {
     let name = format!(in alloc; "task {}", stretch.task)?;
-    let head = Head {
-        length: Some(stretch.end.saturating_sub(stretch.begin)),
-        ..head_of(Phase::Slice, stretch.begin, stretch.cpu.get())
-    };
-    push_plain(alloc, text, &head, &name)
+    let length = stretch.end.saturating_sub(stretch.begin);
+    push_slice(alloc, text, stretch.cpu, stretch.begin, length, &name)
 }
 
 /// Writes a deed as a slice of no length.
-fn push_slice(
+fn push_done(
     alloc: Global,
     text: &mut Vec<u8>,
-    time: u64,
     cpu: CpuId,
+    time: u64,
     moment: &Moment,
 ) -> Result<(), AllocError> {
     let name = format!(in alloc; "{}", moment.line)?;
+    push_slice(alloc, text, cpu, time, 0, &name)
+}
+
+/// Writes a slice on the track of a CPU.
+fn push_slice(
+    alloc: Global,
+    text: &mut Vec<u8>,
+    cpu: CpuId,
+    begin: u64,
+    length: u64,
+    name: &str,
+) -> Result<(), AllocError> {
     let head = Head {
-        length: Some(0),
-        ..head_of(Phase::Slice, time, cpu.get())
+        length: Some(length),
+        ..head_of(Phase::Slice, begin, cpu.get())
     };
-    push_plain(alloc, text, &head, &name)
+    push_plain(alloc, text, &head, name)
 }
 
 fn push_arrow(

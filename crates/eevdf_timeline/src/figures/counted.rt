@@ -2,6 +2,7 @@
 
 use crate::figures::service::Service;
 use crate::figures::virtual_times::VirtualTimes;
+use crate::figures::waits::Waits;
 use eevdf_queue::{Entry, TaskId};
 use std::alloc::{AllocError, Global};
 
@@ -19,9 +20,7 @@ pub struct TaskCounts {
     pub picks: u64,
     /// How often another task was picked while it ran.
     pub preempted: u64,
-    /// The nanoseconds from each wake to the next pick of it.
-    pub waits: Vec<u64>,
-    pub woken: Option<u64>,
+    pub waits: Waits,
     pub since: Option<Since>,
 }
 
@@ -61,8 +60,7 @@ impl TaskCounts {
             lags: None,
             picks: 0,
             preempted: 0,
-            waits: Vec::new(alloc),
-            woken: None,
+            waits: Waits::new(alloc),
             since: None,
         }
     }
@@ -76,11 +74,7 @@ impl TaskCounts {
 
     pub(crate) fn pick(&mut self, time: u64) -> Result<(), AllocError> {
         self.picks = self.picks.saturating_add(1);
-        if let Some(woken) = self.woken {
-            self.woken = None;
-            self.waits.push(time.saturating_sub(woken))?;
-        }
-        Ok(())
+        self.waits.pick(time)
     }
 }
 

@@ -307,7 +307,7 @@ impl Counts {
     fn note_wake(&mut self, moment: &Moment) {
         if let Some(task) = named_task(moment.line.deed) {
             if let Some(counts) = self.tasks.get_mut(task.index()) {
-                counts.woken = Some(moment.begin);
+                counts.waits.wake(moment.begin);
             }
         }
     }

@@ -55,7 +55,7 @@ pub(crate) fn figures_of(
     };
     for (number, task) in counts.tasks.iter_mut().enumerate() {
         if words.tasks.has(number) {
-            task.waits.sort()?;
+            task.waits.lengths.sort()?;
             figures.tasks.push(row_of(number as u64, task))?;
         }
     }
@@ -77,7 +77,7 @@ pub(crate) fn figures_of(
 
 /// The row of a task whose waits are in ascending order.
 fn row_of(task: u64, counts: &TaskCounts) -> TaskRow {
-    let waits = counts.waits.as_slice();
+    let waits = counts.waits.lengths.as_slice();
     TaskRow {
         task,
         ran_ns: counts.ran,
