@@ -146,10 +146,12 @@ fn wrong_in<'a>(
     key: &Key,
     value: &'a Value,
 ) -> Result<WordFault, AllocError> {
-    match fault {
-        LoadFault::Setup(fault) => refused(alloc, machine, fault, value),
-        _ => wrong(alloc, machine, key, value),
+    if let LoadFault::Setup(fault) = fault {
+        if let Some(message) = refused(alloc, machine, fault, value)? {
+            return Ok(WordFault::of_all(message));
+        }
     }
+    wrong(alloc, machine, key, value)
 }
 
 /// The place of a word of the value at a key, or of a whole list.

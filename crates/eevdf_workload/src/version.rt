@@ -18,11 +18,11 @@ impl fmt::Display for Version {
     ghost output = { λ version. Some (version_text version) };
 
     fn fmt<W: fmt::Write>(&self, f: &mut fmt::Formatter<W>) -> fmt::Result {
-        match self {
-            Version::One => f.write_str("1"),
-            Version::Two => f.write_str("2"),
-            Version::Three => f.write_str("3"),
-        }
+        f.write_str(match self {
+            Version::One => "1",
+            Version::Two => "2",
+            Version::Three => "3",
+        })
     }
 }
 

@@ -113,19 +113,16 @@ fn expected(
     }
 }
 
-/// Why a setup is refused.
-pub(crate) fn refused<'a>(
+/// Why a setup is refused, for anything but an operation.
+pub(crate) fn refused(
     alloc: Global,
-    machine: &'a Machine<'a>,
+    machine: &Machine,
     fault: &SetupFault,
-    value: &'a Value,
-) -> Result<WordFault, AllocError> {
+    value: &Value,
+) -> Result<Option<String>, AllocError> {
     let message = match fault {
-        SetupFault::UnknownTask { cpu, at }
-        | SetupFault::BadPull { cpu, at }
-        | SetupFault::BadBegin { cpu, at } => {
-            return wrong(alloc, machine, &Key::Op(*cpu, *at), value);
-        }
+        SetupFault::UnknownTask { .. } | SetupFault::BadPull { .. } | SetupFault::BadBegin { .. } =>
+            return Ok(None),
         SetupFault::BadCpus => {
             let count = machine.cpus;
             let most = machine.version.limits().cpus;
@@ -165,5 +162,5 @@ pub(crate) fn refused<'a>(
         }
         SetupFault::Memory => return Err(AllocError),
     };
-    Ok(WordFault::of_all(message))
+    Ok(Some(message))
 }

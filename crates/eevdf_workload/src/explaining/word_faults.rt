@@ -224,11 +224,8 @@ fn time_fault(alloc: Global, work: Work, index: usize) -> Found {
     let (start, word) = word_at(work.text, index);
     let most = Ns::MAX.get();
     if !is_of_digits(word) {
-        let word_text = told_word(alloc, word)?;
-        let message = format!(in alloc;
-            "a tick takes a time in nanoseconds, 1 to {most}, and {word_text} is none"
-        )?;
-        return found(message, place_of(start, word));
+        let expected = format!(in alloc; "a tick takes a time in nanoseconds, 1 to {most}")?;
+        return other_fault(alloc, start, word, &expected);
     }
     match number(word.as_bytes()) {
         Some(time) if Ns::new(time).is_some() => Ok(None),
@@ -267,11 +264,8 @@ fn numbered_fault(
 ) -> Found {
     let (start, word) = word_at(work.text, index);
     if !is_of_digits(word) {
-        let word_text = told_word(alloc, word)?;
-        let message = format!(in alloc;
-            "the number of a {one} is expected, and {word_text} is none"
-        )?;
-        return found(message, place_of(start, word));
+        let expected = format!(in alloc; "the number of a {one} is expected")?;
+        return other_fault(alloc, start, word, &expected);
     }
     match number(word.as_bytes()) {
         Some(number) if number < count as u64 => return Ok(None),
@@ -309,11 +303,12 @@ fn level_fault(alloc: Global, work: Work, index: usize) -> Found {
     if level(word.as_bytes()).is_some() {
         return Ok(None);
     }
-    let word_text = told_word(alloc, word)?;
-    let message = format!(in alloc;
-        "a nice level is a number from -20 to 19, and {word_text} is none"
-    )?;
-    found(message, place_of(start, word))
+    other_fault(
+        alloc,
+        start,
+        word,
+        "a nice level is a number from -20 to 19",
+    )
 }
 
 fn slice_fault(alloc: Global, work: Work, index: usize) -> Found {
@@ -327,10 +322,14 @@ fn slice_fault(alloc: Global, work: Work, index: usize) -> Found {
     }
     let least = Slice::MIN.get();
     let most = Slice::MAX.get();
+    let expected = format!(in alloc; "a slice is a number of nanoseconds from {least} to {most}")?;
+    other_fault(alloc, start, word, &expected)
+}
+
+/// A word that isn't what is expected.
+fn other_fault(alloc: Global, start: usize, word: &str, expected: &str) -> Found {
     let word_text = told_word(alloc, word)?;
-    let message = format!(in alloc;
-        "a slice is a number of nanoseconds from {least} to {most}, and {word_text} is none"
-    )?;
+    let message = format!(in alloc; "{expected}, and {word_text} is none")?;
     found(message, place_of(start, word))
 }
 
