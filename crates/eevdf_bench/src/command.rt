@@ -23,16 +23,24 @@ pub enum Kind {
     Run,
 }
 
+impl Kind {
+    fn word(self) -> &'static str
+        ensures { result.now ≡ spec.word_of self }
+    {
+        match self {
+            Kind::Solo => "solo",
+            Kind::Replay => "replay",
+            Kind::Run => "run",
+        }
+    }
+}
+
 /// The subcommand's word.
 impl fmt::Display for Kind {
     ghost output = { λ kind. Some (spec.word_of kind) };
 
     fn fmt<W: fmt::Write>(&self, f: &mut fmt::Formatter<W>) -> fmt::Result {
-        match self {
-            Kind::Solo => f.write_str("solo"),
-            Kind::Replay => f.write_str("replay"),
-            Kind::Run => f.write_str("run"),
-        }
+        f.write_str(self.word())
     }
 }
 
@@ -131,9 +139,9 @@ fn whole_program<'a>(alloc: Global) -> Result<clap::Command<'a>, AllocError>
     ensures model { IfOk result (λ c. app_of c ≡ spec.program) }
     ensures local { IfOk result (λ c. (fields_of c).has_globals ≡ false) }
 {
-    let one = with_command(alloc, program(alloc), "solo")?;
-    let two = with_command(alloc, one, "replay")?;
-    with_command(alloc, two, "run")
+    let one = with_command(alloc, program(alloc), Kind::Solo.word())?;
+    let two = with_command(alloc, one, Kind::Replay.word())?;
+    with_command(alloc, two, Kind::Run.word())
 }
 
 // The program without its subcommands.

@@ -60,47 +60,40 @@ fn deed_is_in_range(deed: Deed)
     ensures act { IsActInRange deed }
 {
     match deed {
-        Deed::Tick { cpu, ns } => {
-            let _below = cpu.get();
+        Deed::Pick { .. } | Deed::Yield { .. } | Deed::Rebase { .. } => {}
+        Deed::Tick { ns, .. } => {
             let _within = ns.get();
         }
-        Deed::Pick { cpu } | Deed::Yield { cpu } | Deed::Rebase { cpu } => {
-            let _below = cpu.get();
-        }
-        Deed::Sleep { cpu, task } | Deed::End { cpu, task } => {
-            let _below = cpu.get();
+        Deed::Sleep { task, .. } | Deed::End { task, .. } => {
             let _known = task.get();
         }
-        Deed::Wake { cpu, task, sender } => {
-            let _below = cpu.get();
+        Deed::Wake { task, sender, .. } => {
             let _known = task.get();
             let _sends = sender.get();
         }
-        Deed::Pull { cpu, source } => {
-            let _below = cpu.get();
+        Deed::Pull { source, .. } => {
             let _pulled = source.get();
         }
-        Deed::Renice { cpu, task, nice } => {
-            let _below = cpu.get();
+        Deed::Renice { task, nice, .. } => {
             let _known = task.get();
             let _level = nice.get();
         }
         Deed::Begin {
-            cpu,
             task,
             nice,
             slice,
+            ..
         }
         | Deed::Set {
-            cpu,
             task,
             nice,
             slice,
+            ..
         } => {
-            let _below = cpu.get();
             let _known = task.get();
             let _level = nice.get();
             let _length = slice.get();
         }
     }
+    let _below = deed.cpu().get();
 }
