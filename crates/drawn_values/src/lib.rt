@@ -6,4 +6,4 @@ mod draws;
 mod words;
 
 pub use draws::Draws;
-pub use words::words_of;
+pub use words::{count_of, words_of};

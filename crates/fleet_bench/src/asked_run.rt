@@ -2,7 +2,9 @@ ghost use Rattle.std.specs.Prelude.{◌*◌, ◌<◌, ◌≤◌, IfSome, ◌+◌
 
 use crate::mix::Mix;
 use crate::way::Way;
+use drawn_values::{count_of, words_of};
 use eevdf_ops::CpuId;
+use std::rt::Env;
 use thiserror::Error;
 
 /// What the program's words ask for.
@@ -51,37 +53,22 @@ pub enum WordFault {
 }
 
 impl AskedRun {
-    /// The run that the words ask for, of which the first is the program's name.
-    pub fn of(words: &[String]) -> Result<AskedRun, WordFault> {
-        if words.len() != 8 {
+    /// The run that the process's words ask for, of which the first is the program's name.
+    pub fn read(rt: &(impl Env + AllocGlobal)) -> Result<AskedRun, WordFault> {
+        let words = words_of(rt, rt.alloc()).ok_or(WordFault::Unread)?;
+        let [_, way, threads, cpus_a_thread, tasks, mix, operations, seed] = words.as_slice() else {
             return Err(WordFault::Count);
-        }
-        let Some(way) = Way::of(words[1].as_str()) else {
-            return Err(WordFault::Way);
         };
-        let Some((threads, cpus_a_thread)) = cpus_of(words[2].as_str(), words[3].as_str()) else {
-            return Err(WordFault::Cpus);
-        };
-        let Some(tasks) = count_of(words[4].as_str(), 1024) else {
-            return Err(WordFault::Tasks);
-        };
-        let Some(mix) = Mix::of(words[5].as_str()) else {
-            return Err(WordFault::Mix);
-        };
-        let Some(operations) = operations_of(words[6].as_str(), way) else {
-            return Err(WordFault::Operations);
-        };
-        let Ok(seed) = words[7].as_str().parse::<u64>() else {
-            return Err(WordFault::Seed);
-        };
+        let way = Way::of(way).ok_or(WordFault::Way)?;
+        let (threads, cpus_a_thread) = cpus_of(threads, cpus_a_thread).ok_or(WordFault::Cpus)?;
         Ok(AskedRun {
             way,
             threads,
             cpus_a_thread,
-            tasks,
-            mix,
-            operations,
-            seed,
+            tasks: count_of(tasks, 1024).ok_or(WordFault::Tasks)? as usize,
+            mix: Mix::of(mix).ok_or(WordFault::Mix)?,
+            operations: operations_of(operations, way).ok_or(WordFault::Operations)?,
+            seed: seed.parse().map_err(|_| WordFault::Seed)?,
         })
     }
 
@@ -108,46 +95,16 @@ fn cpus_of(threads: &str, cpus_a_thread: &str) -> Option<(usize, usize)>
     ensures threads { IfSome result (λ n. n.0 ≤ 64) }
     ensures few { IfSome result (λ n. n.0 * n.1 ≤ 64) }
 {
-    let threads = count_of(threads, 64)?;
-    let cpus_a_thread = count_of(cpus_a_thread, 64)?;
-    if threads * cpus_a_thread <= 64 {
-        Some((threads, cpus_a_thread))
-    } else {
-        None
-    }
-}
-
-/// The number from 1 to `most` that a word gives.
-fn count_of(word: &str, most: usize) -> Option<usize>
-    ensures some { IfSome result (λ n. 0 < n) }
-    ensures few { IfSome result (λ n. n ≤ most) }
-{
-    let Ok(number) = word.parse::<usize>() else {
-        return None;
-    };
-    if 0 < number && number <= most {
-        Some(number)
-    } else {
-        None
-    }
+    let threads = count_of(threads, 64)? as usize;
+    let cpus_a_thread = count_of(cpus_a_thread, 64)? as usize;
+    (threads * cpus_a_thread <= 64).then_some((threads, cpus_a_thread))
 }
 
 /// The number of operations that a word gives. Where a history is kept, it needs memory for each.
 fn operations_of(word: &str, way: Way) -> Option<u64> {
-    let Ok(number) = word.parse::<u64>() else {
-        return None;
-    };
+    let number = word.parse::<u64>().ok()?;
     match way {
         Way::Solo | Way::Endless => Some(number),
-        Way::Fleet | Way::Check | Way::Twins => kept_number(number),
-    }
-}
-
-/// A number of operations of which a history can be kept.
-fn kept_number(number: u64) -> Option<u64> {
-    if number <= MOST_KEPT {
-        Some(number)
-    } else {
-        None
+        Way::Fleet | Way::Check | Way::Twins => (number <= MOST_KEPT).then_some(number),
     }
 }

@@ -29,25 +29,16 @@ use crate::run_report::Report;
 use crate::solo_run::solo_count;
 use crate::twins::twins_report;
 use crate::way::Way;
-use drawn_values::words_of;
 use std::alloc::Global;
 use std::process::ExitCode;
-use std::rt::Env;
 use std::sync::Wait;
 use std::thread::Threads;
 
 fn main(rt: HostRuntime) -> ExitCode {
-    let alloc = rt.alloc();
-    ExitCode::from(match asked(&rt, alloc) {
-        Ok(run) => print(&rt, &outcome_of(&rt, alloc, &run)),
+    ExitCode::from(match AskedRun::read(&rt) {
+        Ok(run) => print(&rt, &outcome_of(&rt, rt.alloc(), &run)),
         Err(fault) => refuse(&rt, &fault),
     })
-}
-
-/// The run that the process's words ask for.
-fn asked(rt: &(impl Env + AllocGlobal), alloc: Global) -> Result<AskedRun, WordFault> {
-    let words = words_of(rt, alloc).ok_or(WordFault::Unread)?;
-    AskedRun::of(words.as_slice())
 }
 
 /// Does the operations that are asked for.

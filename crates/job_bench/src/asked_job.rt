@@ -1,5 +1,5 @@
-ghost use Rattle.std.specs.Prelude.{◌<◌, ◌≤◌, IfSome};
-
+use drawn_values::words_of;
+use std::rt::Env;
 use thiserror::Error;
 
 /// What is done on each input.
@@ -70,36 +70,23 @@ impl Job {
 }
 
 impl AskedJob {
-    /// The job that the words ask for, of which the first is the program's name.
-    pub fn of(words: &[String]) -> Result<AskedJob, WordFault> {
-        if words.len() != 5 {
+    /// The job that the process's words ask for, of which the first is the program's name.
+    pub fn read(rt: &(impl Env + AllocGlobal)) -> Result<AskedJob, WordFault> {
+        let words = words_of(rt, rt.alloc()).ok_or(WordFault::Unread)?;
+        let [_, job, inputs, size, seed] = words.as_slice() else {
             return Err(WordFault::Count);
-        }
-        let Some(job) = Job::of(words[1].as_str()) else {
-            return Err(WordFault::Job);
-        };
-        let Ok(inputs) = words[2].as_str().parse::<u64>() else {
-            return Err(WordFault::Inputs);
-        };
-        let Some(size) = size_of(words[3].as_str()) else {
-            return Err(WordFault::Size);
-        };
-        let Ok(seed) = words[4].as_str().parse::<u64>() else {
-            return Err(WordFault::Seed);
         };
         Ok(AskedJob {
-            job,
-            inputs,
-            size,
-            seed,
+            job: Job::of(job).ok_or(WordFault::Job)?,
+            inputs: inputs.parse().map_err(|_| WordFault::Inputs)?,
+            size: size_of(size).ok_or(WordFault::Size)?,
+            seed: seed.parse().map_err(|_| WordFault::Seed)?,
         })
     }
 }
 
-/// The size that a word gives.
+/// The size that a word gives. It stands here, and not in drawn_values, so that this crate can be laid over earlier commits.
 fn size_of(word: &str) -> Option<u64> {
-    match word.parse::<u64>() {
-        Ok(size) if 0 < size && size <= 1_000_000 => Some(size),
-        _ => None,
-    }
+    let size = word.parse::<u64>().ok()?;
+    (1..=1_000_000).contains(&size).then_some(size)
 }

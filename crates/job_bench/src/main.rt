@@ -40,25 +40,17 @@ use crate::opening_job::opening_job;
 use crate::order_job::order_job;
 use crate::queue_job::queue_job;
 use crate::script_job::script_job;
-use drawn_values::{Draws, words_of};
+use drawn_values::Draws;
 use std::alloc::Global;
 use std::process::ExitCode;
-use std::rt::Env;
 use std::sync::Wait;
 use std::thread::Threads;
 
 fn main(rt: HostRuntime) -> ExitCode {
-    let alloc = rt.alloc();
-    ExitCode::from(match asked(&rt, alloc) {
-        Ok(asked) => print(&rt, &digest_of(&rt, alloc, &asked)),
+    ExitCode::from(match AskedJob::read(&rt) {
+        Ok(asked) => print(&rt, &digest_of(&rt, rt.alloc(), &asked)),
         Err(fault) => refuse(&rt, &fault),
     })
-}
-
-/// The job that the process's words ask for.
-fn asked(rt: &(impl Env + AllocGlobal), alloc: Global) -> Result<AskedJob, WordFault> {
-    let words = words_of(rt, alloc).ok_or(WordFault::Unread)?;
-    AskedJob::of(words.as_slice())
 }
 
 /// Does the job on each input.

@@ -1,6 +1,8 @@
 ghost use Rattle.std.specs.Prelude.{◌<◌, ◌≤◌};
 
 use crate::mix::Mix;
+use drawn_values::{count_of, words_of};
+use std::rt::Env;
 use thiserror::Error;
 
 /// What the program's words ask for.
@@ -31,23 +33,18 @@ pub enum WordFault {
 }
 
 impl AskedRun {
-    /// The run that the words ask for, of which the first is the program's name.
-    pub fn of(words: &[String]) -> Result<AskedRun, WordFault> {
-        if words.len() != 4 {
+    /// The run that the process's words ask for, of which the first is the program's name.
+    // apart from the turns, so that the words change nothing in what is counted
+    #[inline(never)]
+    pub fn read(rt: &(impl Env + AllocGlobal)) -> Result<AskedRun, WordFault> {
+        let words = words_of(rt, rt.alloc()).ok_or(WordFault::Unread)?;
+        let [_, mix, tasks, turns] = words.as_slice() else {
             return Err(WordFault::Count);
-        }
-        let Some(mix) = Mix::of(words[1].as_str()) else {
-            return Err(WordFault::Mix);
         };
-        let Ok(tasks) = words[2].as_str().parse::<u64>() else {
-            return Err(WordFault::Tasks);
-        };
-        if tasks < 1 || 1024 < tasks {
-            return Err(WordFault::Tasks);
-        }
-        let Ok(turns) = words[3].as_str().parse::<u64>() else {
-            return Err(WordFault::Turns);
-        };
-        Ok(AskedRun { mix, tasks, turns })
+        Ok(AskedRun {
+            mix: Mix::of(mix).ok_or(WordFault::Mix)?,
+            tasks: count_of(tasks, 1024).ok_or(WordFault::Tasks)?,
+            turns: turns.parse().map_err(|_| WordFault::Turns)?,
+        })
     }
 }

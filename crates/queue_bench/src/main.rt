@@ -16,23 +16,14 @@ mod warm_up;
 
 use crate::asked_run::{AskedRun, WordFault};
 use crate::turns::checksum_of;
-use drawn_values::words_of;
 use std::alloc::Global;
 use std::process::ExitCode;
-use std::rt::Env;
 
 fn main(rt: HostRuntime) -> ExitCode {
-    let alloc = rt.alloc();
-    ExitCode::from(match asked(&rt, alloc) {
-        Ok(run) => print(&rt, alloc, &run),
+    ExitCode::from(match AskedRun::read(&rt) {
+        Ok(run) => print(&rt, rt.alloc(), &run),
         Err(fault) => refuse(&rt, &fault),
     })
-}
-
-/// What the process's words ask for.
-fn asked(rt: &(impl Env + AllocGlobal), alloc: Global) -> Result<AskedRun, WordFault> {
-    let words = words_of(rt, alloc).ok_or(WordFault::Unread)?;
-    AskedRun::of(words.as_slice())
 }
 
 /// Runs the turns and prints their checksum, and gives the exit status.
