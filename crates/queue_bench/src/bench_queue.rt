@@ -1,6 +1,5 @@
-ghost use Rattle.std.specs.Prelude.{◌<◌, ◌≤◌};
-
 use crate::answer_words::{of_renice, of_task, of_tick, of_time};
+use crate::asked_run::AskedRun;
 use crate::checksum::Checksum;
 use crate::sleep_ring::SleepRing;
 use crate::task_values::{admit, drawn_task, words_for};
@@ -21,17 +20,17 @@ pub struct BenchQueue {
 }
 
 impl BenchQueue {
-    /// A queue of so many tasks after the warm-up.
-    pub fn open(alloc: Global, tasks: u64) -> Result<BenchQueue, AllocError>
-        requires some { 0 < tasks }
-        requires few { tasks ≤ 1024 }
-    {
-        let mut words = words_for(tasks);
+    /// A queue of the tasks of a run after the warm-up.
+    pub fn open(alloc: Global, run: &AskedRun) -> Result<BenchQueue, AllocError> {
+        let mut words = words_for(run.tasks);
         let mut queue = Queue::open();
-        for number in 0..tasks {
-            admit(&mut queue, drawn_task(alloc, &mut words, number, tasks)?);
+        for number in 0..run.tasks {
+            admit(
+                &mut queue,
+                drawn_task(alloc, &mut words, number, run.tasks)?,
+            );
         }
-        let values = TurnValues::draw(&mut words, tasks);
+        let values = TurnValues::draw(&mut words, run.tasks);
         let mut checksum = Checksum::new();
         warm_up(&mut queue, &values, &mut checksum);
         let running = queue.running();

@@ -1,8 +1,9 @@
-ghost use Rattle.std.specs.Prelude.{◌≡◌, ◌<◌, ◌≤◌, IsTrue};
+ghost use Rattle.std.specs.Prelude.{IsTrue};
 ghost use Rattle.eevdf_queue.specs.Leaving.{IsNowhere};
 ghost use Rattle.queue_bench.specs.SharedTasks.{ShareNoTask};
 
 use crate::answer_words::of_task;
+use crate::asked_run::AskedRun;
 use crate::checksum::Checksum;
 use crate::task_values::{admit, drawn_task, words_for};
 use crate::turn_values::TurnValues;
@@ -20,27 +21,24 @@ pub struct PullQueues {
 }
 
 impl PullQueues {
-    /// Two queues with half of the tasks each, by turns, after the warm-up of each. A task that is alone isn't warmed up.
-    pub fn open(alloc: Global, tasks: u64) -> Result<PullQueues, AllocError>
-        requires some { 0 < tasks }
-        requires few { tasks ≤ 1024 }
-    {
-        let mut words = words_for(tasks);
+    /// Two queues with half of the tasks of a run each, by turns, after the warm-up of each. A task that is alone isn't warmed up.
+    pub fn open(alloc: Global, run: &AskedRun) -> Result<PullQueues, AllocError> {
+        let mut words = words_for(run.tasks);
         let mut queues = PullQueues {
             first: Queue::open(),
             second: Queue::open(),
             checksum: Checksum::new(),
         };
-        for number in 0..tasks {
-            let parcel = drawn_task(alloc, &mut words, number, tasks)?;
+        for number in 0..run.tasks {
+            let parcel = drawn_task(alloc, &mut words, number, run.tasks)?;
             if number % 2 == 0 {
                 admit(&mut queues.first, parcel);
             } else {
                 admit(&mut queues.second, parcel);
             }
         }
-        if tasks > 1 {
-            let values = TurnValues::draw(&mut words, tasks);
+        if run.tasks > 1 {
+            let values = TurnValues::draw(&mut words, run.tasks);
             warm_up(&mut queues.first, &values, &mut queues.checksum);
             warm_up(&mut queues.second, &values, &mut queues.checksum);
         }

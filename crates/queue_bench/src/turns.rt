@@ -22,7 +22,7 @@ pub fn checksum_of(alloc: Global, run: &AskedRun) -> Result<u64, AllocError> {
     if run.mix == Mix::Pull {
         return pulled_sum(alloc, run);
     }
-    let mut bench = BenchQueue::open(alloc, run.tasks)?;
+    let mut bench = BenchQueue::open(alloc, run)?;
     if run.mix == Mix::SleepPickWake || run.mix == Mix::TickSleepPickWake {
         repeat(&mut bench, run.tasks / 8, |bench| bench.sleep_pick());
     }
@@ -52,7 +52,7 @@ fn make_turns(bench: &mut BenchQueue, mix: Mix, turns: u64) {
 }
 
 fn pulled_sum(alloc: Global, run: &AskedRun) -> Result<u64, AllocError> {
-    let mut queues = PullQueues::open(alloc, run.tasks)?;
+    let mut queues = PullQueues::open(alloc, run)?;
     if queues.share_no_task() {
         pulls(&mut queues, burst_of(run.tasks), run.turns);
     }
