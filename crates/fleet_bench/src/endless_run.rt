@@ -3,6 +3,7 @@
 ghost use Rattle.std.specs.Prelude.{◌≡◌, ◌≤◌};
 
 use crate::asked_run::AskedRun;
+use crate::drawn_run::DrawnRun;
 use crate::mix::Mix;
 use crate::one_place::all_stand_once;
 use crate::run_fault::RunFault;
@@ -10,22 +11,17 @@ use crate::run_report::Report;
 use crate::thread_work::worked;
 use eevdf_fleet::Names;
 use eevdf_fleet::endless::{Closed, Fleet, Kit, Seat};
-use eevdf_ops::{Outcome, Setup};
+use eevdf_ops::Outcome;
 use std::alloc::Global;
 use std::marker::Brand;
 use std::sync::Wait;
 use std::thread::Threads;
 
 /// Does the operations of a run, and tells how many were done, where each task stands in one place afterwards.
-pub fn endless_report<R: Threads + Wait + Sync>(
-    rt: &R,
-    alloc: Global,
-    run: &AskedRun,
-    setup: &Setup,
-) -> Result<Report, RunFault> {
-    let kit = Kit::make(alloc, setup, rings(run))?;
-    let (done, outcome) = worked_out::<Brand, R>(rt, alloc, run, kit)?;
-    if !all_stand_once(&outcome, run.tasks as u64) {
+pub fn endless_report<R: Threads + Wait + Sync>(run: &DrawnRun<'_, R>) -> Result<Report, RunFault> {
+    let kit = Kit::make(run.alloc, &run.setup, rings(&run.asked))?;
+    let (done, outcome) = worked_out::<Brand, R>(run, kit)?;
+    if !all_stand_once(&outcome, run.asked.tasks as u64) {
         return Err(RunFault::Places);
     }
     Ok(Report::of(done))
@@ -44,16 +40,14 @@ fn rings(run: &AskedRun) -> usize
 
 /// How many operations were done, and what the fleet is closed to.
 fn worked_out<N: Names + Send + Sync, R: Threads + Wait + Sync>(
-    rt: &R,
-    alloc: Global,
-    run: &AskedRun,
+    run: &DrawnRun<'_, R>,
     kit: Kit,
 ) -> Result<(u64, Outcome), RunFault>
     requires { kit ≡ N.kit }
 {
-    let (fleet, seats) = Fleet::<N>::open(alloc, kit)?;
-    let (done, seats) = worked(rt, alloc, run, &fleet, seats)?;
-    Ok((done, closed(alloc, fleet, seats)?))
+    let (fleet, seats) = Fleet::<N>::open(run.alloc, kit)?;
+    let (done, seats) = worked(run, &fleet, seats)?;
+    Ok((done, closed(run.alloc, fleet, seats)?))
 }
 
 /// Closes a fleet, and gives its queues and requests as an outcome without lines.

@@ -1,15 +1,11 @@
 //! A run by a fleet: each thread does the operations of its own CPUs.
 
-ghost use Rattle.std.specs.Prelude.{◌≡◌, ◌≤◌, true, IfOk};
-ghost use Rattle.std.specs.List.{list_all};
+ghost use Rattle.std.specs.Prelude.{◌≡◌, ◌≤◌, IfOk};
 ghost use Rattle.eevdf_fleet.specs.Fleets.{setup_of};
-ghost use Rattle.eevdf_ops.specs.Histories.{IsOneThread};
-ghost use Rattle.eevdf_ops.specs.Machine.{start};
-ghost use Rattle.eevdf_ops.specs.Programs.{deeds_of};
-ghost use Rattle.eevdf_ops.specs.Setup.{allows, homes_of};
 
 use crate::agreement::agrees;
 use crate::asked_run::{AskedRun, MOST_KEPT};
+use crate::drawn_run::DrawnRun;
 use crate::mix::Mix;
 use crate::one_place::all_stand_once;
 use crate::run_fault::RunFault;
@@ -17,66 +13,43 @@ use crate::run_report::Report;
 use crate::thread_work::worked;
 use crate::way::Way;
 use eevdf_fleet::{Fleet, Kit, Names};
-use eevdf_ops::{Outcome, Setup};
-use std::alloc::{AllocError, Global};
+use std::alloc::AllocError;
 use std::marker::Brand;
 use std::sync::Wait;
 use std::thread::Threads;
 
 /// Does the operations of a run, and tells what came of it.
-pub fn fleet_report<R: Threads + Wait + Sync>(
-    rt: &R,
-    alloc: Global,
-    run: &AskedRun,
-    setup: &Setup,
-) -> Result<Report, RunFault> {
-    let kit = kit_of(alloc, run, setup)?;
-    report_of::<Brand, R>(rt, alloc, run, setup, kit)
+pub fn fleet_report<R: Threads + Wait + Sync>(run: &DrawnRun<'_, R>) -> Result<Report, RunFault> {
+    report_of::<Brand, R>(run, kit_of(run)?)
 }
 
+/// What is told of a run, and of its comparison with one thread where that is asked for.
 fn report_of<N: Names + Send + Sync, R: Threads + Wait + Sync>(
-    rt: &R,
-    alloc: Global,
-    run: &AskedRun,
-    setup: &Setup,
+    run: &DrawnRun<'_, R>,
     kit: Kit,
 ) -> Result<Report, RunFault>
     requires kit { kit ≡ N.kit }
-    requires setup { setup_of kit ≡ setup.now }
+    requires setup { setup_of kit ≡ run.now.setup }
 {
-    let (fleet, seats) = Fleet::<N>::open(alloc, kit)?;
-    let (done, seats) = worked(rt, alloc, run, &fleet, seats)?;
+    let (fleet, seats) = Fleet::<N>::open(run.alloc, kit)?;
+    let (done, seats) = worked(run, &fleet, seats)?;
     if !fleet.has_all_seats(&seats) {
         return Err(RunFault::Seats);
     }
     let outcome = fleet.close(seats);
-    report(alloc, run, setup, done, &outcome)
-}
-
-/// What is told of a run, and of its comparison with one thread where that is asked for.
-fn report(
-    alloc: Global,
-    run: &AskedRun,
-    setup: &Setup,
-    done: u64,
-    outcome: &Outcome,
-) -> Result<Report, RunFault>
-    requires allowed { list_all (allows setup.now) (deeds_of outcome.now.lines) ≡ true }
-    requires one_thread { IsOneThread (homes_of setup.now) (start setup.now)
-        (deeds_of outcome.now.lines) outcome.now }
-{
-    if run.way != Way::Check {
+    if run.asked.way != Way::Check {
         return Ok(Report::of(done));
     }
-    let agrees = agrees(alloc, setup, outcome)? && all_stand_once(outcome, run.tasks as u64);
+    let agrees = agrees(run.alloc, &run.setup, &outcome)?
+        && all_stand_once(&outcome, run.asked.tasks as u64);
     Ok(Report::compared(done, agrees, "one thread"))
 }
 
 /// The kit of a fleet that has room for a run.
-pub fn kit_of(alloc: Global, run: &AskedRun, setup: &Setup) -> Result<Kit, AllocError>
-    ensures { IfOk result (λ kit. setup_of kit ≡ setup.now) }
+pub fn kit_of<R>(run: &DrawnRun<'_, R>) -> Result<Kit, AllocError>
+    ensures { IfOk result (λ kit. setup_of kit ≡ run.now.setup) }
 {
-    Kit::make(alloc, setup, quota(run), rings(run))
+    Kit::make(run.alloc, &run.setup, quota(&run.asked), rings(&run.asked))
 }
 
 /// How many lines a CPU may have: one for each of its operations, and room for the wakes that others ask for. No run with a history

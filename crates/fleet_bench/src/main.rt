@@ -6,8 +6,8 @@
 mod agreement;
 mod asked_run;
 mod drawn_operations;
+mod drawn_run;
 mod drawn_seat;
-mod drawn_setup;
 mod endless_run;
 mod fleet_run;
 mod mix;
@@ -21,7 +21,7 @@ mod twins;
 mod way;
 
 use crate::asked_run::{AskedRun, WordFault};
-use crate::drawn_setup::drawn_setup;
+use crate::drawn_run::DrawnRun;
 use crate::endless_run::endless_report;
 use crate::fleet_run::fleet_report;
 use crate::run_fault::RunFault;
@@ -36,7 +36,7 @@ use std::thread::Threads;
 
 fn main(rt: HostRuntime) -> ExitCode {
     ExitCode::from(match AskedRun::read(&rt) {
-        Ok(run) => print(&rt, &outcome_of(&rt, rt.alloc(), &run)),
+        Ok(asked) => print(&rt, &outcome_of(&rt, rt.alloc(), &asked)),
         Err(fault) => refuse(&rt, &fault),
     })
 }
@@ -45,14 +45,14 @@ fn main(rt: HostRuntime) -> ExitCode {
 fn outcome_of<R: Threads + Wait + Sync>(
     rt: &R,
     alloc: Global,
-    run: &AskedRun,
+    asked: &AskedRun,
 ) -> Result<Report, RunFault> {
-    let setup = drawn_setup(alloc, run)?;
-    match run.way {
-        Way::Fleet | Way::Check => fleet_report(rt, alloc, run, &setup),
-        Way::Solo => Ok(Report::of(solo_count(alloc, run, &setup)?)),
-        Way::Endless => endless_report(rt, alloc, run, &setup),
-        Way::Twins => twins_report(rt, alloc, run, &setup),
+    let run = DrawnRun::draw(rt, alloc, asked)?;
+    match asked.way {
+        Way::Fleet | Way::Check => fleet_report(&run),
+        Way::Solo => Ok(Report::of(solo_count(&run)?)),
+        Way::Endless => endless_report(&run),
+        Way::Twins => twins_report(&run),
     }
 }
 

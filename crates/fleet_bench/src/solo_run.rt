@@ -4,6 +4,7 @@ ghost use Rattle.std.specs.Prelude.{◌<◌};
 
 use crate::asked_run::AskedRun;
 use crate::drawn_operations::{DrawnOperations, running_after};
+use crate::drawn_run::DrawnRun;
 use eevdf_ops::{Answer, CpuId, Deed, Op, Setup, Solo};
 use eevdf_queue::TaskId;
 use std::alloc::{AllocError, Global};
@@ -27,11 +28,12 @@ struct Part {
 }
 
 /// Does the operations of a run, and gives how many were done.
-pub fn solo_count(alloc: Global, run: &AskedRun, setup: &Setup) -> Result<u64, AllocError> {
+pub fn solo_count<R>(run: &DrawnRun<'_, R>) -> Result<u64, AllocError> {
+    let (alloc, asked, setup) = (run.alloc, &run.asked, &run.setup);
     let mut solo = Solo::open(alloc, setup)?;
-    let mut parts = parts_of(alloc, run)?;
+    let mut parts = parts_of(alloc, asked)?;
     let mut done = 0u64;
-    for number in 0..run.operations {
+    for number in 0..asked.operations {
         for part in parts.iter_mut() {
             if step(setup, &mut solo, part, number).is_ok() {
                 done = done.saturating_add(1);

@@ -73,16 +73,9 @@ pub fn seats_of<S: Drop>(
 ) -> Result<Vec<S>, AllocError> {
     let mut seats = Vec::with_capacity(alloc, 64)?;
     for own in threads {
-        take_seats(&mut seats, own.seats)?;
+        seats.extend(own.seats.into_iter().map(|held| held.seat))?;
     }
     Ok(seats)
-}
-
-fn take_seats<S: Drop>(seats: &mut Vec<S>, own: Vec<HeldSeat<S>>) -> Result<(), AllocError> {
-    for held in own {
-        seats.push(held.seat)?;
-    }
-    Ok(())
 }
 
 /// How many operations all threads have done.

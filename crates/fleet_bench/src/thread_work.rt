@@ -1,7 +1,7 @@
 //! What each thread does: its operations, on its CPUs in turn.
 
-use crate::asked_run::AskedRun;
 use crate::drawn_operations::running_after;
+use crate::drawn_run::DrawnRun;
 use crate::drawn_seat::DrawnSeat;
 use crate::run_fault::RunFault;
 use crate::thread_seats::{ThreadSeats, done_by, seats_by_thread, seats_of};
@@ -21,21 +21,19 @@ pub fn is_done(came: &Came) -> bool {
 
 /// Has the threads of a run do its operations with a fleet's seats, and gives how many were done, and the seats back.
 pub fn worked<F: Sync, S: DrawnSeat<Fleet = F> + Drop + Send, R: Threads + Wait + Sync>(
-    rt: &R,
-    alloc: Global,
-    run: &AskedRun,
+    run: &DrawnRun<'_, R>,
     fleet: &F,
     seats: Vec<S>,
 ) -> Result<(u64, Vec<S>), RunFault> {
-    let threads = seats_by_thread(alloc, run, seats)?;
-    let operations = run.operations;
+    let threads = seats_by_thread(run.alloc, &run.asked, seats)?;
+    let (rt, operations) = (run.rt, run.asked.operations);
     let threads = thread::map_vec(
         rt,
         threads,
         &move |own| { work::<S, R>(rt, fleet, operations, own) },
     )?;
     let done = done_by(threads.as_slice());
-    Ok((done, seats_of(alloc, threads)?))
+    Ok((done, seats_of(run.alloc, threads)?))
 }
 
 /// Does so many operations, and counts those that were done.

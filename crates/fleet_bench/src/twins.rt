@@ -3,7 +3,7 @@
 ghost use Rattle.std.specs.Prelude.{◌≡◌, ◌*◌, length};
 
 use crate::agreement::same_queues;
-use crate::asked_run::AskedRun;
+use crate::drawn_run::DrawnRun;
 use crate::drawn_seat::DrawnSeat;
 use crate::endless_run::closed;
 use crate::fleet_run::{kit_of, rings};
@@ -13,8 +13,8 @@ use crate::run_report::Report;
 use crate::thread_seats::{seats_by_thread, seats_of};
 use crate::thread_work::{Came, is_done, work_in_turn};
 use eevdf_fleet::{Fleet, Kit, Names, endless};
-use eevdf_ops::{Outcome, Setup};
-use std::alloc::{AllocError, Global};
+use eevdf_ops::Outcome;
+use std::alloc::AllocError;
 use std::marker::Brand;
 use std::sync::Wait;
 
@@ -26,31 +26,21 @@ struct Twin {
 }
 
 /// Does the operations of a run by both fleets, and tells whether they agree.
-pub fn twins_report<R: Wait>(
-    rt: &R,
-    alloc: Global,
-    run: &AskedRun,
-    setup: &Setup,
-) -> Result<Report, RunFault> {
-    let kept = kept_twin::<Brand, R>(rt, alloc, run, kit_of(alloc, run, setup)?)?;
-    let kit = endless::Kit::make(alloc, setup, rings(run))?;
-    let endless = endless_twin::<Brand, R>(rt, alloc, run, kit)?;
-    let agrees = agree(&kept, &endless) && all_stand_once(&endless.outcome, run.tasks as u64);
+pub fn twins_report<R: Wait>(run: &DrawnRun<'_, R>) -> Result<Report, RunFault> {
+    let kept = kept_twin::<Brand, R>(run, kit_of(run)?)?;
+    let kit = endless::Kit::make(run.alloc, &run.setup, rings(&run.asked))?;
+    let endless = endless_twin::<Brand, R>(run, kit)?;
+    let agrees = agree(&kept, &endless) && all_stand_once(&endless.outcome, run.asked.tasks as u64);
     let done = endless.came.iter().filter(|came| is_done(came)).count();
     Ok(Report::compared(done as u64, agrees, "its twin"))
 }
 
 /// The run by a fleet that keeps its history.
-fn kept_twin<N: Names, R: Wait>(
-    rt: &R,
-    alloc: Global,
-    run: &AskedRun,
-    kit: Kit,
-) -> Result<Twin, RunFault>
+fn kept_twin<N: Names, R: Wait>(run: &DrawnRun<'_, R>, kit: Kit) -> Result<Twin, RunFault>
     requires { kit ≡ N.kit }
 {
-    let (fleet, seats) = Fleet::<N>::open(alloc, kit)?;
-    let (came, seats) = came_of(rt, alloc, run, &fleet, seats)?;
+    let (fleet, seats) = Fleet::<N>::open(run.alloc, kit)?;
+    let (came, seats) = came_of(run, &fleet, seats)?;
     if !fleet.has_all_seats(&seats) {
         return Err(RunFault::Seats);
     }
@@ -60,29 +50,26 @@ fn kept_twin<N: Names, R: Wait>(
 
 /// The run by a fleet that keeps no history.
 fn endless_twin<N: Names, R: Wait>(
-    rt: &R,
-    alloc: Global,
-    run: &AskedRun,
+    run: &DrawnRun<'_, R>,
     kit: endless::Kit,
 ) -> Result<Twin, RunFault>
     requires { kit ≡ N.kit }
 {
-    let (fleet, seats) = endless::Fleet::<N>::open(alloc, kit)?;
-    let (came, seats) = came_of(rt, alloc, run, &fleet, seats)?;
-    let outcome = closed(alloc, fleet, seats)?;
+    let (fleet, seats) = endless::Fleet::<N>::open(run.alloc, kit)?;
+    let (came, seats) = came_of(run, &fleet, seats)?;
+    let outcome = closed(run.alloc, fleet, seats)?;
     Ok(Twin { came, outcome })
 }
 
 /// Does the operations of a run with a fleet's seats, and gives what came of each, and the seats back.
 fn came_of<S: DrawnSeat + Drop, R: Wait>(
-    rt: &R,
-    alloc: Global,
-    run: &AskedRun,
+    run: &DrawnRun<'_, R>,
     fleet: &S::Fleet,
     seats: Vec<S>,
 ) -> Result<(Vec<Came>, Vec<S>), AllocError> {
-    let mut threads = seats_by_thread(alloc, run, seats)?;
-    let came = work_in_turn(rt, alloc, fleet, run.operations, threads.as_mut_slice())?;
+    let (rt, alloc, asked) = (run.rt, run.alloc, &run.asked);
+    let mut threads = seats_by_thread(alloc, asked, seats)?;
+    let came = work_in_turn(rt, alloc, fleet, asked.operations, threads.as_mut_slice())?;
     Ok((came, seats_of(alloc, threads)?))
 }
 

@@ -1,4 +1,4 @@
-//! The machine of a run: its tasks spread over the CPUs in turn, with drawn levels, slices and starts.
+//! A run with its machine: its tasks spread over the CPUs in turn, with drawn levels, slices and starts.
 
 use crate::asked_run::AskedRun;
 use crate::mix::Mix;
@@ -6,8 +6,28 @@ use drawn_values::Draws;
 use eevdf_ops::{CpuId, Op, Setup, TaskSpec};
 use std::alloc::{AllocError, Global};
 
-/// The setup of a run. It fails only when out of memory.
-pub fn drawn_setup(alloc: Global, run: &AskedRun) -> Result<Setup, AllocError> {
+/// A run that is asked for, the machine that is drawn for it, and what it is done with.
+#[derive(Drop)]
+pub struct DrawnRun<'a, R> {
+    pub rt: &'a R,
+    pub alloc: Global,
+    pub asked: AskedRun,
+    pub setup: Setup,
+}
+
+impl<'a, R> DrawnRun<'a, R> {
+    /// The run with its machine. It fails only when out of memory.
+    pub fn draw(rt: &'a R, alloc: Global, asked: &AskedRun) -> Result<DrawnRun<'a, R>, AllocError> {
+        Ok(DrawnRun {
+            rt,
+            alloc,
+            asked: *asked,
+            setup: drawn_setup(alloc, asked)?,
+        })
+    }
+}
+
+fn drawn_setup(alloc: Global, run: &AskedRun) -> Result<Setup, AllocError> {
     let tasks = drawn_tasks(alloc, run)?;
     let programs = empty_programs(alloc, run.cpus())?;
     Setup::make(alloc, &tasks, &programs).map_err(|_| AllocError)
