@@ -1,6 +1,6 @@
 """Compiles a program without a proof, by `rt try`. That compiles it with checks, runs it and removes it; so it is given a text that takes
 the program half a second to read, and is opened meanwhile. Beside the compiler `rt try` looks for names that a check would refuse, a hint for
-who writes sources: that look is ended, since both read much memory, and the compiler takes a quarter longer beside it."""
+who writes sources: that look is ended, since both read much memory, and the compiler takes longer beside it."""
 
 import os
 import re
