@@ -9,7 +9,6 @@ line is 'N passed, M failed'."""
 
 import argparse
 import re
-import subprocess
 import sys
 import tempfile
 from concurrent.futures import ThreadPoolExecutor
@@ -21,6 +20,7 @@ from edits import TOP, BadEdit, Change, apply, changed, read_lines
 sys.path.append(str(TOP / "tools"))
 
 from crate_copies import copy_crates, folder_of, read_crates, with_all_below  # noqa: E402
+from try_tests import try_tests  # noqa: E402
 
 # The crates of the tests.
 TESTS = ("eevdf_tests", "workbench_tests")
@@ -29,8 +29,6 @@ SECONDS = 30
 
 CRATES = read_crates()
 COPIED = with_all_below(CRATES, TESTS)
-
-RESULT = re.compile(r"^test (\S+) \.\.\. (ok|FAILED)$(?=\n(.*))", re.MULTILINE)
 
 
 @dataclass(frozen=True)
@@ -89,10 +87,7 @@ def run_tests(crate, body, words):
         copy_crates(COPIED, top)
         if body:
             apply(body, top)
-        run = subprocess.run(["rt", "try", "--test", "--seconds", str(SECONDS), "--", *words], cwd=top / "crates" / crate,
-                             capture_output=True, text=True, errors="replace")
-    said = run.stdout + run.stderr
-    results = {name: (result, line.strip()) for name, result, line in RESULT.findall(said)}
+        results, said = try_tests(top / "crates" / crate, SECONDS, words)
     return results, said[-500:]
 
 

@@ -1,6 +1,6 @@
 -- What comes back, number by number and sender by sender.
-use Rattle.std.proofs.Common.{◌≡◌, ℕ, zero, suc, ◌+◌, ◌<◌, List, [], ◌∷◌, ◌++◌, length, map, get_or, set, ap, sym, subst, ◌∙◌, arith}
-use Rattle.std.proofs.lemmas.List.{append-nil, append_assoc, length-append, map-set, get_or-map}
+use Rattle.std.proofs.Common.{◌≡◌, ℕ, zero, suc, ◌+◌, ◌<◌, ◌≤◌, List, [], ◌∷◌, ◌++◌, length, map, get_or, set, ap, sym, subst, ◌∙◌, arith}
+use Rattle.std.proofs.lemmas.List.{append-nil, append_assoc, length-append, length-set, map-set, get_or-map, get_or-set_same}
 use Rattle.std.proofs.Math.Path.{refl}
 use Rattle.std.proofs.Math.Seq.{map-set_same}
 use Rattle.eevdf_free_tasks.specs.Slots.{given_back}
@@ -75,5 +75,22 @@ end_more f k ends end after more is within grown =
     map-set f ends k after ∙ ap (λ (l : List ℕ). set (map f ends) k l) (grown ∙ ap (λ (l : List ℕ). l ++ more) (ap f is ∙ sym (get_or-map f ends k end [] within)))
 
 -- none does
-pub end_same : {C : Type 0} (f : C → List ℕ) (k : ℕ) (ends : List C) (end after : C) → end ≡ get_or ends k end → f after ≡ f end → map f (set ends k after) ≡ map f ends
+pub end_same : {C Y : Type 0} (f : C → Y) (k : ℕ) (ends : List C) (end after : C) → end ≡ get_or ends k end → f after ≡ f end → map f (set ends k after) ≡ map f ends
 end_same f k ends end after is same = map-set_same f ends k after end (same ∙ ap f is)
+
+-- the other rings have as many places as before
+at_end : {C : Type 0} (f : C → ℕ) (k : ℕ) (ends : List C) (after : C) → k < length ends → get_or (map f (set ends k after)) k 0 ≡ f after
+at_end f k ends after within =
+    let inside : k < length (set ends k after) = omega (arith, within, length-set ends k after) in
+    get_or-map f (set ends k after) k after 0 inside ∙ ap f (get_or-set_same ends k after after within)
+
+pub others_same : {C : Type 0} (f : C → ℕ) (k : ℕ) (ends : List C) (after : C) → k < length ends → map f (set ends k after) ≡ set (map f ends) k (get_or (map f (set ends k after)) k 0)
+others_same f k ends after within = map-set f ends k after ∙ ap (λ (n : ℕ). set (map f ends) k n) (sym (at_end f k ends after within))
+
+-- and that one has at most one less
+pub one_less : {C : Type 0} (f : C → ℕ) (k : ℕ) (ends : List C) (end after : C) → end ≡ get_or ends k end → k < length ends → f end ≤ f after + 1
+    → get_or (map f ends) k 0 ≤ get_or (map f (set ends k after)) k 0 + 1
+one_less f k ends end after is within less =
+    let before : get_or (map f ends) k 0 ≡ f end = get_or-map f ends k end 0 within ∙ ap f (sym is) in
+    let now = at_end f k ends after within in
+    omega (arith, before, now, less)

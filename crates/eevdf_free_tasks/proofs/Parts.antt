@@ -59,9 +59,9 @@ fresh-set {setup = setup} {n = n} {parts = parts} k after fresh within one = rec
 }
 
 -- a part with other ends, in none of which anything stands
-fresh-with : {setup : Setup} {cpu : ℕ} {before after : Part} (sent received : List (List ℕ)) → IsFresh setup cpu before → All (λ l. l ≡ []) sent → All (λ l. l ≡ []) received
-    → after ≡ record before { sent = sent; received = received } → IsFresh setup cpu after
-fresh-with {setup = setup} {cpu = cpu} sent received fresh none_sent none_received is = subst (λ (p : Part). IsFresh setup cpu p) (sym is) (record {
+fresh-with : {setup : Setup} {cpu : ℕ} {before after : Part} (sent received : List (List ℕ)) (free : List ℕ) → IsFresh setup cpu before → All (λ l. l ≡ []) sent → All (λ l. l ≡ []) received
+    → after ≡ record before { sent = sent; free = free; received = received } → IsFresh setup cpu after
+fresh-with {setup = setup} {cpu = cpu} sent received free fresh none_sent none_received is = subst (λ (p : Part). IsFresh setup cpu p) (sym is) (record {
   cpu_is = fresh.cpu_is;
   homes_are = fresh.homes_are;
   own_is = fresh.own_is;
@@ -69,19 +69,20 @@ fresh-with {setup = setup} {cpu = cpu} sent received fresh none_sent none_receiv
   none_received = none_received;
 })
 
-pub fresh-sending : {setup : Setup} {cpu : ℕ} {before after : Part} → IsFresh setup cpu before → after ≡ record before { sent = before.sent ++ [] ∷ [] } → IsFresh setup cpu after
-fresh-sending {before = before} fresh is =
-    fresh-with (before.sent ++ [] ∷ []) before.received fresh (All-push (λ l. l ≡ []) before.sent [] fresh.none_sent refl) fresh.none_received is
+pub fresh-sending : {setup : Setup} {cpu : ℕ} {before after : Part} (k : ℕ) → IsFresh setup cpu before → after ≡ record before { sent = before.sent ++ [] ∷ []; free = before.free ++ k ∷ [] }
+    → IsFresh setup cpu after
+fresh-sending {before = before} k fresh is =
+    fresh-with (before.sent ++ [] ∷ []) before.received (before.free ++ k ∷ []) fresh (All-push (λ l. l ≡ []) before.sent [] fresh.none_sent refl) fresh.none_received is
 
 pub fresh-receiving : {setup : Setup} {cpu : ℕ} {before after : Part} → IsFresh setup cpu before → after ≡ record before { received = before.received ++ [] ∷ [] } → IsFresh setup cpu after
 fresh-receiving {before = before} fresh is =
-    fresh-with before.sent (before.received ++ [] ∷ []) fresh fresh.none_sent (All-push (λ l. l ≡ []) before.received [] fresh.none_received refl) is
+    fresh-with before.sent (before.received ++ [] ∷ []) before.free fresh fresh.none_sent (All-push (λ l. l ≡ []) before.received [] fresh.none_received refl) is
 
 -- both ends of a ring are given
-pub fresh-joined : {setup : Setup} {n : ℕ} {parts : List Part} (sender home : ℕ) (from with_end to with_ends : Part) → AreFresh setup n parts → sender < n → home < n
-    → from ≡ get_or parts sender from → with_end ≡ record from { sent = from.sent ++ [] ∷ [] }
+pub fresh-joined : {setup : Setup} {n : ℕ} {parts : List Part} (sender home k : ℕ) (from with_end to with_ends : Part) → AreFresh setup n parts → sender < n → home < n
+    → from ≡ get_or parts sender from → with_end ≡ record from { sent = from.sent ++ [] ∷ []; free = from.free ++ k ∷ [] }
     → to ≡ get_or (set parts sender with_end) home to → with_ends ≡ record to { received = to.received ++ [] ∷ [] }
     → AreFresh setup n (set (set parts sender with_end) home with_ends)
-fresh-joined {parts = parts} sender home from with_end to with_ends fresh sends receives at sending at_home receiving =
-    let once = fresh-set sender with_end fresh sends (fresh-sending (fresh.each sender from sends (sym at)) sending) in
+fresh-joined {parts = parts} sender home k from with_end to with_ends fresh sends receives at sending at_home receiving =
+    let once = fresh-set sender with_end fresh sends (fresh-sending k (fresh.each sender from sends (sym at)) sending) in
     fresh-set home with_ends once receives (fresh-receiving (once.each home to receives (sym at_home)) receiving)

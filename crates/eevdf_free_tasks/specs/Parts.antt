@@ -1,17 +1,19 @@
 -- The parts of the free numbers, one for each CPU, and what goes from one part to another.
-use Rattle.std.specs.Prelude.{◌≡◌, ◌≢◌, ◌<◌, ◌++◌, ℕ, true, List, [], ◌∷◌, length, slice_index_or, slice_set}
+use Rattle.std.specs.Prelude.{◌≡◌, ◌≢◌, ◌<◌, ◌≤◌, ◌+◌, ◌++◌, ℕ, true, List, [], ◌∷◌, length, slice_index_or, slice_set}
 use Rattle.std.specs.List.{All}
 use Rattle.eevdf_ops.specs.Setup.{Setup, homes_of, home_of, is_task}
 use Rattle.eevdf_free_tasks.specs.Slots.{slot_of, first_slots, given_back, with_taken, NoneFree}
 use Rattle.eevdf_free_tasks.specs.declared.slot.Slot.{Slot}
 use Rattle.eevdf_free_tasks.specs.declared.slot.Slot.TheVariants.{Free, Taken}
 
--- the part of a CPU: the homes of all numbers, its own numbers, what it has sent to each home, and what it has received from each sender
+-- the part of a CPU: the homes of all numbers, its own numbers, what it has sent to each home, how many numbers more certainly fit into the
+-- ring to each home, and what it has received from each sender
 pub record Part : Type 0 where
   pub cpu : ℕ
   pub homes : List ℕ
   pub own : List Slot
   pub sent : List (List ℕ)
+  pub free : List ℕ
   pub received : List (List ℕ)
 
 -- a home's numbers after several are given back, one after the other
@@ -56,17 +58,27 @@ pub record HasNone (before after : Part) : Type 0 where
   pub none : NoneFree after.own
   pub after_is : after ≡ record before { own = after.own; received = after.received }
 
--- a number is given back at its home, or sent there
 abbrev pub sent_to : Part → ℕ → List ℕ
 sent_to part home = slice_index_or part.sent home []
 
-abbrev pub with_sent : Part → ℕ → ℕ → Part
-with_sent part home task = record part { sent = slice_set part.sent home (sent_to part home ++ task ∷ []) }
+abbrev pub free_to : Part → ℕ → ℕ
+free_to part home = slice_index_or part.free home 0
 
+-- a number is sent to its home, which fills one place in the ring there
+pub record HasSent (home task : ℕ) (before after : Part) : Type 0 where
+  pub sent : after ≡ record before { sent = slice_set before.sent home (sent_to before home ++ task ∷ []); free = slice_set before.free home (free_to after home) }
+  pub free : free_to before home ≤ free_to after home + 1
+
+-- a number is given back at its home, or sent there
 pub record HasGiven (task : ℕ) (before after : Part) : Type 0 where
   pub task_is : is_task before.homes task ≡ true
   pub own : home_of before.homes task ≡ before.cpu → (slot_of before.own task ≡ Taken) × (after ≡ record before { own = given_back before.own task })
-  pub away : home_of before.homes task ≢ before.cpu → after ≡ with_sent before (home_of before.homes task) task
+  pub away : home_of before.homes task ≢ before.cpu → HasSent (home_of before.homes task) task before after
+
+-- a number is refused: the machine hasn't its task, or it is one of the part's own that wasn't taken, or the ring to its home is full
+pub record IsRefused (task : ℕ) (part : Part) : Type 0 where
+  pub own : is_task part.homes task ≡ true → home_of part.homes task ≡ part.cpu → slot_of part.own task ≢ Taken
+  pub away : is_task part.homes task ≡ true → home_of part.homes task ≢ part.cpu → free_to part (home_of part.homes task) ≡ 0
 
 -- the part of a CPU that has neither sent nor received
 pub record IsFresh (setup : Setup) (cpu : ℕ) (part : Part) : Type 0 where

@@ -5,6 +5,8 @@ pub enum Slot {
     Elsewhere,
     /// No task has it.
     Free,
-    /// A task has it, until it is given back.
+    /// A task that the setup has awake has it, and its value wasn't taken.
+    Begun,
+    /// Its value was taken, and hasn't come back.
     Taken,
 }

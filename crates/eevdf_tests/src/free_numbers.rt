@@ -1,54 +1,158 @@
 //! Numbers of tasks that are taken and given back, by one home and by parts of several CPUs.
 
-use crate::fixtures::{cpu, on_two_cpus, task};
-use eevdf_free_tasks::{FreeTasks, free_parts};
+use crate::fixtures::{cpu, on_two_cpus, setup_of, task, task_at};
+use eevdf_free_tasks::{FreePart, FreeTasks, TakenTask, TakenTasks, free_parts};
+use eevdf_ops::Setup;
+use std::alloc::Global;
+use std::process::Abort;
 
 /// Two CPUs. The even numbers have the first as their home, the odd ones the second, and task 0 is runnable at first.
 const HOMES: [(u64, bool); 5] = [(0, false), (1, true), (0, true), (1, true), (0, true)];
+
+/// Asks that a number was taken, which has to be this one, or that none was.
+fn is_number(rt: &impl Abort, taken: Option<TakenTask>, number: Option<u64>) {
+    let found = taken.map(|taken| taken.retire().get());
+    assert!(rt; found == number);
+}
+
+/// A number that was taken, which has to be this one.
+fn number_of(rt: &impl Abort, taken: Option<TakenTask>, number: u64) -> TakenTask {
+    let taken = taken.expect(rt, "a number");
+    assert!(rt; taken.task() == task(rt, number));
+    taken
+}
+
+/// Asks that a number was given back, or that this one was refused.
+fn is_refused(rt: &impl Abort, given: Result<(), TakenTask>, number: Option<u64>) {
+    is_number(rt, given.err(), number);
+}
 
 #[test]
 fn each_number_of_a_home_is_handed_out_once(rt: HostRuntime) {
     let rt = &rt;
     let setup = on_two_cpus(rt, rt.alloc(), &HOMES);
     let mut free = FreeTasks::of_home(rt.alloc(), &setup, cpu(rt, 0)).expect(rt, "memory");
-    assert!(rt; free.take() == Some(task(rt, 4)));
-    assert!(rt; free.take() == Some(task(rt, 2)));
-    assert!(rt; free.take().is_none());
+    let two = number_of(rt, free.take(), 2);
+    let four = number_of(rt, free.take(), 4);
+    is_number(rt, free.take(), None);
 
-    // Task 0 is runnable at first, so its number comes back once it has ended, once alone. Task 1 has another home, task 9 none.
+    // Task 0 is runnable at first, and its number is taken once. Task 1 has another home, task 9 none; task 2 isn't awake.
+    assert!(rt; !free.is_taken(task(rt, 0)));
+    let zero = number_of(rt, free.take_begun(task(rt, 0)), 0);
     assert!(rt; free.is_taken(task(rt, 0)));
-    assert!(rt; free.give_back(task(rt, 0)));
-    assert!(rt; !free.give_back(task(rt, 0)));
-    assert!(rt; !free.give_back(task(rt, 1)));
-    assert!(rt; !free.give_back(task(rt, 9)));
-    assert!(rt; free.take() == Some(task(rt, 0)));
-    assert!(rt; free.take().is_none());
+    for number in [0, 1, 2, 9] {
+        is_number(rt, free.take_begun(task(rt, number)), None);
+    }
+
+    // What was free longest is handed out next.
+    is_refused(rt, free.give_back(four), None);
+    is_refused(rt, free.give_back(zero), None);
+    is_refused(rt, free.give_back(two), None);
+    for number in [4, 0, 2] {
+        is_number(rt, free.take(), Some(number));
+    }
+    is_number(rt, free.take(), None);
 }
 
 #[test]
-fn a_number_comes_back_from_another_cpu(rt: HostRuntime) {
+fn a_number_of_another_home_or_machine_is_refused(rt: HostRuntime) {
     let rt = &rt;
     let setup = on_two_cpus(rt, rt.alloc(), &HOMES);
+    let mut free = FreeTasks::of_home(rt.alloc(), &setup, cpu(rt, 0)).expect(rt, "memory");
+    let mut second = FreeTasks::of_home(rt.alloc(), &setup, cpu(rt, 1)).expect(rt, "memory");
+    let mut again = FreeTasks::of_home(rt.alloc(), &setup, cpu(rt, 0)).expect(rt, "memory");
+    is_refused(rt, free.give_back(number_of(rt, second.take(), 1)), Some(1));
+    is_refused(rt, free.give_back(number_of(rt, again.take(), 2)), Some(2));
+
+    // Of the parts of a machine each takes the numbers that the machine has, as far as there is room in the ring.
     let mut parts = free_parts(rt.alloc(), &setup).expect(rt, "memory");
-    let mut second = parts.pop().expect(rt, "two parts");
-    let mut first = parts.pop().expect(rt, "two parts");
-    assert!(rt; parts.is_empty());
-    assert!(rt; first.cpu() == cpu(rt, 0) && second.cpu() == cpu(rt, 1));
+    let part = parts.get_mut(0).expect(rt, "part");
+    is_refused(rt, part.give_back(number_of(rt, again.take(), 4)), Some(4));
+    let small = on_two_cpus(rt, rt.alloc(), &[(0, true)]);
+    let mut small_parts = free_parts(rt.alloc(), &small).expect(rt, "memory");
+    let small_part = small_parts.get_mut(0).expect(rt, "part");
+    is_refused(
+        rt,
+        small_part.give_back(number_of(rt, second.take(), 3)),
+        Some(3),
+    );
+}
 
-    assert!(rt; second.take() == Some(task(rt, 3)));
-    assert!(rt; second.take() == Some(task(rt, 1)));
-    assert!(rt; second.take().is_none());
-    assert!(rt; first.give_back(task(rt, 3)));
-    assert!(rt; second.take() == Some(task(rt, 3)));
+/// So many CPUs, with three numbers each that sleep there: those of CPU `c` are `c`, `c` and the number of CPUs, and so on.
+fn three_asleep_at_each(rt: &impl Abort, alloc: Global, cpus: usize) -> Setup {
+    let mut tasks = Vec::new(alloc);
+    for _round in 0..3 {
+        for home in 0..cpus {
+            let spec = task_at(rt, home as u64, true);
+            tasks.push(spec).expect(rt, "memory");
+        }
+    }
+    setup_of(rt, alloc, &tasks, cpus, 0)
+}
 
-    // What its home doesn't miss changes nothing there, and the ring has a place for each of the home's two numbers.
-    assert!(rt; first.give_back(task(rt, 3)));
-    assert!(rt; first.give_back(task(rt, 3)));
-    assert!(rt; !first.give_back(task(rt, 1)));
-    assert!(rt; second.give_back(task(rt, 1)));
-    assert!(rt; !second.give_back(task(rt, 1)));
-    assert!(rt; !second.give_back(task(rt, 9)));
-    assert!(rt; second.take() == Some(task(rt, 1)));
-    assert!(rt; second.take() == Some(task(rt, 3)));
-    assert!(rt; second.take().is_none());
+/// Takes all numbers of a home, asks that there are no more, and gives them back at another CPU, in the order in which they came.
+fn all_go_and_come_back(rt: &impl Abort, parts: &mut Vec<FreePart>, home: usize, at: usize) {
+    let cpus = parts.len();
+    let part = parts.get_mut(home).expect(rt, "part");
+    let first = number_of(rt, part.take(), home as u64);
+    let second = number_of(rt, part.take(), home.saturating_add(cpus) as u64);
+    let third = number_of(
+        rt,
+        part.take(),
+        home.saturating_add(cpus).saturating_add(cpus) as u64,
+    );
+    is_number(rt, part.take(), None);
+    let other = parts.get_mut(at).expect(rt, "part");
+    is_refused(rt, other.give_back(first), None);
+    is_refused(rt, other.give_back(second), None);
+    is_refused(rt, other.give_back(third), None);
+}
+
+/// All numbers of each home go round: they are given back at each CPU in turn, and come home before the next turn.
+fn numbers_go_round(rt: &impl Abort, alloc: Global, cpus: usize) {
+    let setup = three_asleep_at_each(rt, alloc, cpus);
+    let mut parts = free_parts(alloc, &setup).expect(rt, "memory");
+    assert!(rt; parts.len() == cpus);
+    for at in 0..cpus {
+        let part = parts.get_mut(at).expect(rt, "part");
+        assert!(rt; part.cpu() == cpu(rt, at as u64));
+        for home in 0..cpus {
+            all_go_and_come_back(rt, &mut parts, home, at);
+        }
+    }
+    for home in 0..cpus {
+        all_go_and_come_back(rt, &mut parts, home, home);
+    }
+}
+
+#[test]
+fn each_cpu_gives_back_the_numbers_of_each_home(rt: HostRuntime) {
+    for cpus in [1, 2, 8, 64] {
+        numbers_go_round(&rt, rt.alloc(), cpus);
+    }
+}
+
+#[test]
+fn a_number_is_in_its_place_once(rt: HostRuntime) {
+    let rt = &rt;
+    let setup = on_two_cpus(rt, rt.alloc(), &HOMES);
+    let mut free = FreeTasks::of_home(rt.alloc(), &setup, cpu(rt, 0)).expect(rt, "memory");
+    let mut again = FreeTasks::of_home(rt.alloc(), &setup, cpu(rt, 0)).expect(rt, "memory");
+    let places = TakenTasks::new(rt.alloc(), &setup).expect(rt, "memory");
+    let two = task(rt, 2);
+    assert!(rt; !places.has(two));
+    is_number(rt, places.take(two), None);
+    is_refused(rt, places.put(number_of(rt, free.take(), 2)), None);
+    assert!(rt; places.has(two) && !places.has(task(rt, 4)));
+
+    // One of another machine finds the place full, or no place.
+    is_refused(rt, places.put(number_of(rt, again.take(), 2)), Some(2));
+    let small = on_two_cpus(rt, rt.alloc(), &[(0, true)]);
+    let one_place = TakenTasks::new(rt.alloc(), &small).expect(rt, "memory");
+    is_refused(rt, one_place.put(number_of(rt, again.take(), 4)), Some(4));
+    is_number(rt, one_place.take(task(rt, 4)), None);
+
+    is_refused(rt, free.give_back(number_of(rt, places.take(two), 2)), None);
+    assert!(rt; !places.has(two));
+    is_number(rt, places.take(two), None);
 }

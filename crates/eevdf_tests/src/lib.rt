@@ -18,6 +18,8 @@ mod free_numbers;
 #[cfg(test)]
 mod kits;
 #[cfg(test)]
+mod late_wakes;
+#[cfg(test)]
 mod neighbours;
 #[cfg(test)]
 mod one_thread_again;

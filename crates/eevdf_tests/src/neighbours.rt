@@ -19,6 +19,9 @@ const CPUS: u64 = 64;
 /// The CPUs whose calls are tried.
 const TRIED: [u64; 8] = [0, 1, 2, 4, 8, 16, 32, 63];
 
+/// The slice of a task that begins anew.
+const SLICE: u64 = 3_000_000;
+
 /// Each CPU whose calls are tried, with each of the CPUs beside it.
 fn pairs(rt: &impl Abort, alloc: Global) -> Vec<(u64, u64)> {
     let mut pairs = Vec::new(alloc);
@@ -49,6 +52,14 @@ fn picked(rt: &impl Abort, number: u64) -> Operated {
     Operated::Answer(Answer::Picked(task(rt, number)))
 }
 
+fn pulled(rt: &impl Abort, number: u64) -> Operated {
+    Operated::Answer(Answer::Pulled(task(rt, number)))
+}
+
+fn begun() -> Operated {
+    Operated::Answer(Answer::Begun)
+}
+
 /// A sleep of a task that keeps no lag.
 fn slept() -> Operated {
     Operated::Answer(Answer::Slept(0))
@@ -60,11 +71,11 @@ fn woke_one() -> Operated {
 }
 
 /// Calls of a CPU and of a neighbour, with what comes of them. All tasks keep lag 0, so that each falls asleep with it, and of two that
-/// are runnable the one of the lower number is picked. The last three calls change what the task that runs has.
+/// are runnable the one of the lower number is picked. The neighbour's second task is pulled twice: it falls asleep, and then ends. The
+/// task that is ticked is alone when its CPU is rebased.
 fn calls(rt: &impl Abort, alloc: Global, cpu: u64, neighbour: u64) -> Vec<(u64, Call, Operated)> {
     let second = cpu.saturating_add(CPUS);
     let third = neighbour.saturating_add(CPUS);
-    let pulled = Operated::Answer(Answer::Pulled(task(rt, third)));
     let charged = Operated::Answer(Answer::Charged {
         task: task(rt, cpu),
         resched: false,
@@ -74,9 +85,14 @@ fn calls(rt: &impl Abort, alloc: Global, cpu: u64, neighbour: u64) -> Vec<(u64, 
         (cpu, Call::Sleep(cpu), slept()),
         (cpu, Call::Pick, picked(rt, second)),
         (cpu, Call::Sleep(second), slept()),
-        (cpu, Call::Pull(neighbour), pulled),
+        (cpu, Call::Pull(neighbour), pulled(rt, third)),
         (cpu, Call::Pick, picked(rt, third)),
         (cpu, Call::Sleep(third), slept()),
+        (cpu, Call::Post(third), Operated::Posted),
+        (neighbour, Call::Drain, woke_one()),
+        (cpu, Call::Pull(neighbour), pulled(rt, third)),
+        (cpu, Call::End(third), Operated::Answer(Answer::Ended)),
+        (neighbour, Call::Begin(third, 0, SLICE), begun()),
         (cpu, Call::Post(third), Operated::Posted),
         (neighbour, Call::Drain, woke_one()),
         (neighbour, Call::Post(cpu), Operated::Posted),
@@ -85,6 +101,16 @@ fn calls(rt: &impl Abort, alloc: Global, cpu: u64, neighbour: u64) -> Vec<(u64, 
         (cpu, Call::Drain, woke_one()),
         (cpu, Call::Pick, picked(rt, cpu)),
         (cpu, Call::Tick(1_000), charged),
+        (cpu, Call::End(second), Operated::Answer(Answer::Ended)),
+        (cpu, Call::Rebase, Operated::Answer(Answer::Rebased(1_000))),
+        (cpu, Call::Begin(second, 5, SLICE), begun()),
+        (cpu, Call::Post(second), Operated::Posted),
+        (cpu, Call::Drain, woke_one()),
+        (
+            cpu,
+            Call::Set(second, 0, 1_000_000),
+            Operated::Answer(Answer::Set)
+        ),
         (cpu, Call::Yield, Operated::Answer(Answer::Yielded)),
         (cpu, Call::Renice(cpu, 5), Operated::Answer(Answer::Reniced)),
     ]

@@ -27,9 +27,10 @@ fn seen<N: Names, R: Wait>(
     if !fleet.has_cpu(cpu) {
         return None;
     }
-    let look = fleet.look(rt, seat, cpu);
-    let queue = look.queue();
-    Some((queue.load(), queue.running(), queue.candidate()))
+    let seen = fleet.look(rt, seat, cpu, |queue| {
+        (queue.load(), queue.running(), queue.candidate())
+    });
+    Some(seen)
 }
 
 /// CPU 1 looks at CPU 0 before and after the task there runs, and then the two meet.

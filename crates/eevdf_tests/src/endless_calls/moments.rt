@@ -28,11 +28,10 @@ fn compare<N: Names, R: Wait>(rt: &R, fleet: &Fleet<N>, seat: &mut Seat<N>, othe
     fleet.agree_on_posts(&mut copy, &mut posted_once_more);
     seat.agree_on_posts(&mut others);
     let number = other.cpu();
-    let mut look = fleet.look(rt, seat, number);
-    let mut now = look.seen_after(&mut others);
+    fleet.learn(seat, &mut others);
+    let _load = fleet.look(rt, seat, number, |queue| queue.load());
+    let mut now = fleet.seen(seat);
     fleet.agree(&mut now, &mut seen);
-    let mut still = look.seen();
-    fleet.agree(&mut still, &mut now);
 }
 
 /// CPU 1 posts twice to CPU 0, which drains three times. All is compared before each drain and after it.

@@ -53,10 +53,10 @@ impl Signals {
     /// Looks at the seat's own queue, whose lock it holds until the other thread has done its calls.
     fn hold<N: Names, R: Wait>(&self, rt: &R, fleet: &Fleet<N>, mut seat: Seat<N>) -> Seat<N> {
         let cpu = seat.cpu();
-        let look = fleet.look(rt, &mut seat, cpu);
-        self.is_looking.store(true, Ordering::SeqCst);
-        self.await_signal(&self.is_done);
-        drop(look);
+        fleet.look(rt, &mut seat, cpu, |_queue| {
+            self.is_looking.store(true, Ordering::SeqCst);
+            self.await_signal(&self.is_done);
+        });
         seat
     }
 

@@ -29,7 +29,7 @@ fn seen<N: Names, R: Wait + Abort>(
     if !fleet.has_cpu(cpu) {
         return None;
     }
-    let load = fleet.look(rt, seat, cpu).queue().load();
+    let load = fleet.look(rt, seat, cpu, |queue| queue.load());
     Some((load, seat.free(cpu)))
 }
 

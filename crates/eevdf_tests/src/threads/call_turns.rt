@@ -24,7 +24,7 @@ pub struct CallTurns<T: TurnCalls + Drop> {
     pub each: T,
 }
 
-const MOST_CALLS: usize = 8;
+const MOST_CALLS: usize = 12;
 
 impl<T: TurnCalls + Drop> SeatTurn for CallTurns<T> {
     fn turn<N: Names, R: Wait>(

@@ -4,8 +4,8 @@
 use super::call_turns::{CallTurns, TurnCalls};
 use crate::fixtures::one_task_each;
 use crate::fleet_calls::seat_call::Call;
-use crate::kits::kit_of;
-use eevdf_fleet::{Closed, run_turns};
+use crate::kits::{endless_kit_of, kit_of};
+use eevdf_fleet::{Closed, endless, run_turns};
 use eevdf_ops::Deed;
 use std::process::Abort;
 
@@ -27,13 +27,17 @@ impl TurnCalls for EachOperation {
             Call::Post(other),
             Call::Drain,
             Call::Sleep(own),
+            Call::Set(own, 0, 3_000_000),
+            Call::End(own),
+            Call::Begin(own, 0, 1_000_000),
+            Call::Rebase,
         ];
         calls.get(at).copied()
     }
 }
 
 /// So many lines each turn has besides those of its drain.
-const LINES: usize = 6;
+const LINES: usize = 10;
 
 /// How many requests were taken.
 fn taken(closed: &Closed) -> usize {
@@ -67,12 +71,24 @@ fn have_done_each(rt: &impl Abort, closed: &Closed, cpus: usize, turns: usize) {
 
 #[test]
 fn every_cpu_does_each_operation(rt: HostRuntime) {
-    for (cpus, turns, quota) in [(2, 10_000, 70_002), (64, 10, 134)] {
+    for (cpus, turns, quota) in [(2, 10_000, 110_002), (64, 10, 174)] {
         let setup = one_task_each(&rt, rt.alloc(), cpus);
         let kit = kit_of(&rt, rt.alloc(), &setup, quota, turns);
         let each = EachOperation { cpus: cpus as u64 };
         let calls = CallTurns { each };
         let closed = run_turns(&rt, rt.alloc(), kit, turns, &calls).expect(&rt, "turns");
         have_done_each(&rt, &closed, cpus, turns);
+    }
+}
+
+#[test]
+fn every_cpu_does_each_operation_without_a_history(rt: HostRuntime) {
+    for cpus in [2, 64] {
+        let setup = one_task_each(&rt, rt.alloc(), cpus);
+        let kit = endless_kit_of(&rt, rt.alloc(), &setup, 1);
+        let each = EachOperation { cpus: cpus as u64 };
+        let calls = CallTurns { each };
+        let closed = endless::run_turns(&rt, rt.alloc(), kit, &calls).expect(&rt, "turns");
+        assert!(rt; closed.queues.len() == cpus, "{cpus} CPUs");
     }
 }

@@ -1,5 +1,5 @@
 use Rattle.std.proofs.Common.{map}
-use Rattle.rtrb.specs.Ring.{received, sent}
+use Rattle.rtrb.specs.Ring.{known_free, received, sent}
 use Rattle.eevdf_free_tasks.specs.Parts.{Part}
 use Rattle.eevdf_free_tasks.proofs.Parts.{taken-after}
 use Rattle.eevdf_free_tasks.proofs.free_part.FreePart.take.Goals as goal
@@ -11,6 +11,7 @@ returns-clause-some c =
       homes = c.self.inside.homes.items;
       own = c.self.inside.own;
       sent = map sent c.self.inside.producers.items;
+      free = map known_free c.self.inside.producers.items;
       received = map received c.self.inside.consumers.items;
     } in
     rw (← c.self.view_is) (taken-after before c.take-2.new.self c.take-2.result c.receive_all.ensures c.in_default.ensures.unchanged c.take-2.ensures.was_free c.take-2.ensures.taken)
