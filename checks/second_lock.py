@@ -1,9 +1,9 @@
 #!/usr/bin/env -S python3 -B
-"""checks/second_lock.py: tries bodies of eevdf_fleet in which an operation takes locks so that threads could wait for each other for ever.
-The compiler has to refuse each where it stands: it makes a second `HeldLocks` or `JournalLeave`, reaches a lock by itself, or borrows
-what is lent for as long as a lock is held. No file of must-fail/ can ask this, because what stands there has to compile. The bodies of a
-round are put into one copy of the crates, since the compiler tells of each; what is borrowed it looks at only where all else is right. The
-last line is 'N passed, M failed'."""
+"""checks/second_lock.py: tries bodies of eevdf_fleet in which an operation takes locks so that threads could wait for each other for ever,
+or a caller operates its seat while it looks. The compiler has to refuse each where it stands: it makes a second `HeldLocks` or
+`JournalLeave`, reaches a lock by itself, or borrows what is lent for as long as a lock is held. No file of must-fail/ can ask this, because
+what stands there has to compile. The bodies of a round are put into one copy of the crates, since the compiler tells of each; what is
+borrowed it looks at only where all else is right. The last line is 'N passed, M failed'."""
 
 import re
 import subprocess
@@ -25,7 +25,14 @@ OWN = "let (mut guard, mut leave) = self.hold(call.rt, held, seat.cpu());"
 LISTED = OWN.replace("call.rt", "rt")
 BOTH = "self.hold_both(call.rt, held, seat.cpu(), other)"
 JOURNAL = "let mut journal = journal.lock(rt, leave);"
+LOOKED = "        observe(&guard.queue)\n"
 AGAIN = "let (_second, _leave) = self.hold(call.rt, held, seat.cpu());"
+
+
+def in_a_look(call):
+    """A call that a caller makes while it looks at its own queue."""
+    return f"{{ let cpu = seat.cpu(); self.look(rt, seat, cpu, |_queue| {call}) }}"
+
 
 # What a body does, its file, a text of it, what is put in its place, and the error. A round for what is out of reach, and one for what is
 # borrowed.
@@ -42,8 +49,14 @@ ROUNDS = (
     ),
     (
         ("a second lock while one is held", "locked_deeds.rt", OWN, f"{OWN} {AGAIN}", "borrow-e0499"),
-        ("a look while a lock is held", "listed_drains.rt", LISTED, f"{LISTED} let cpu = seat.cpu(); let _look = self.look(rt, seat, held, cpu);",
+        ("a look while a lock is held", "listed_drains.rt", LISTED,
+         f"{LISTED} let cpu = seat.cpu(); self.look(rt, seat, held, cpu, |_queue| ());", "borrow-e0499"),
+        ("a second lock while a look lasts", "locks/looking.rt", LOOKED,
+         f"{{ let (_second, _again) = self.hold(rt, held, cpu); {LOOKED.strip()} }}", "borrow-e0499"),
+        ("an operation of the seat in its look", "endless/try_operate.rt", "self.pick(rt, seat)", in_a_look("self.pick(rt, seat)"),
          "borrow-e0499"),
+        ("a look of the seat in its look", "endless/fleet.rt", "self.own(rt, seat, LocalAct::Pick)",
+         in_a_look("{ let _seen = self.look(rt, seat, cpu, |_queue| ()); Answer::Idle }"), "borrow-e0499"),
         ("a third lock while two are held", "locked_deeds.rt", f"{BOTH};", f"{BOTH}; {AGAIN}", "borrow-e0499"),
         ("the journal's lock twice", "line_commits.rt", JOURNAL, f"let _first = journal.lock(rt, leave); {JOURNAL}", "borrow-e0499"),
         ("a queue's lock while the journal's is held", "drains.rt", OWN,

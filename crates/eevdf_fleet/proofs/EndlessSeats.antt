@@ -1,12 +1,12 @@
 -- What is seen of a seat that keeps no history, from what is seen of its parts.
-use Rattle.std.proofs.Common.{◌≡◌, ℕ, zero, suc, List, [], ◌∷◌, map, refl, sym, ap, subst, ◌∙◌}
+use Rattle.std.proofs.Common.{◌≡◌, ◌==◌, ℕ, zero, suc, List, [], ◌∷◌, map, refl, sym, ap, subst, ◌∙◌}
 use Rattle.std.specs.Prelude.{Option, Some, None, slice_get, option_map}
 use mathlib.Core.List.{IsPrefix}
 use Rattle.std.proofs.lemmas.List.{length-map}
-use Rattle.std.proofs.lemmas.List.Elements.{All-map}
+use Rattle.std.proofs.lemmas.List.Elements.{All-map, filter-append}
 use Rattle.std.proofs.lemmas.Option.{none-some, slice_get-map}
 use Rattle.eevdf_ops.specs.{declared.deeds.Answer.Answer, declared.deeds.Deed.Deed, declared.deeds.Line.Line}
-use Rattle.eevdf_ops.specs.{Outcome.machine_of, Programs.lines_by, Setup.cpus_of}
+use Rattle.eevdf_ops.specs.{Outcome.machine_of, Parts.decider, Programs.lines_by, Setup.cpus_of}
 use Rattle.eevdf_fleet.specs.{declared.board.claims.Terms.Terms, declared.closing.ClosedQueues.ClosedQueues, declared.drains.Drained.Drained, declared.wake_list.DrainedWake.DrainedWake}
 use Rattle.eevdf_fleet.specs.{Claims.IsKept, Closings.AreClosed, Drains.ArePartsDrained}
 use Rattle.eevdf_fleet.specs.Drains as drains
@@ -82,6 +82,16 @@ has-seen-more t before after more known = record {
   free = more.free;
   has_seen = has-seen t after known;
 }
+
+-- fewer lines have the first of a CPU's lines
+lines-begin : (cpu : ℕ) (seen lines : List Line) → IsPrefix seen lines → IsPrefix (lines_by cpu seen) (lines_by cpu lines)
+lines-begin cpu seen lines h = (lines_by cpu h.0, sym (filter-append (λ (l : Line). decider l.deed == cpu) seen h.0) ∙ ap (lines_by cpu) h.1)
+
+-- of what a seat has learnt the lines of its CPU are the first of its own
+pub own-lines-begin : (t : Terms) (seen : List Line) (before after : Parts) → PartsSeeMore before after → AreKnown t after → IsPrefix seen after.seen → IsPrefix (lines_by before.seat.cpu seen) before.seat.log
+own-lines-begin t seen before after more known begins =
+    subst (λ (s : fleets.Seat). IsPrefix (lines_by s.cpu seen) s.log) more.seat
+    (subst (λ (own : List Line). IsPrefix (lines_by after.seat.cpu seen) own) known.own (lines-begin after.seat.cpu seen after.seen begins))
 
 -- an element of a list of which something is read, and what is read of it
 read-at : {X Y : Type 0} (f : X → Y) (xs : List X) (k : ℕ) (y : Y) → slice_get (map f xs) k ≡ Some y → (x : X) × (slice_get xs k ≡ Some x) × (f x ≡ y)

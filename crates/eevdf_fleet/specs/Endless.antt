@@ -4,7 +4,7 @@ use Rattle.std.specs.{List.filter, List.list_all, List.range_with_len, Option.op
 use mathlib.Core.List.{IsPrefix}
 use Rattle.eevdf_queue.specs.State as states
 use Rattle.eevdf_ops.specs.{declared.deeds.Answer.Answer, declared.deeds.Deed.Deed, declared.deeds.Line.Line}
-use Rattle.eevdf_ops.specs.{Histories.AreHistory, Histories.machine_told, Machine.Machine, Machine.start, Places.IsPlaced}
+use Rattle.eevdf_ops.specs.{Histories.AreHistory, Histories.machine_told, Machine.Machine, Machine.queue_at, Machine.start, Places.IsPlaced}
 use Rattle.eevdf_ops.specs.Programs.{AreWakes, deeds_of, lines_by, wakes_from}
 use Rattle.eevdf_ops.specs.Setup.{Setup, allows, cpus_of, homes_of}
 use Rattle.eevdf_fleet.specs.{declared.drains.Drained.Drained, declared.wake_list.DrainedWake.DrainedWake}
@@ -121,11 +121,11 @@ pub record SeenLine : Type 0 where
   pub line : Line
   pub seen : List Line
 
--- a look at the queue of a CPU, and the first lines of the history, as far as they were seen when it was looked at last
-pub record Look : Type 0 where
-  pub cpu : ℕ
+-- a queue was shown that is in the state in which these lines leave that of a CPU, and `Gives` holds of it
+pub record HasShown (s : Setup) (lines : List Line) (cpu : ℕ) (Gives : states.View → Type 0) : Type 0 where
   pub queue : states.View
-  pub seen : List Line
+  pub state : queue_at (told_by s lines) cpu ≡ queue.state
+  pub gives : Gives queue
 
 -- what was seen at two moments is of one history: one of the two begins the other, and the longer is what one thread comes to
 pub record Agree (s : Setup) (seen other : List Line) : Type 0 where

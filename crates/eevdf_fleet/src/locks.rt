@@ -4,7 +4,7 @@
 //! who takes the journal's lock borrows for as long as that is held. Neither can be made anywhere else. So an operation can't be written
 //! that takes a queue's lock while it holds one, but for the two that are taken together, in ascending order; nor one that takes the
 //! journal's lock before those of its queues, or twice, or takes a queue's lock while it holds that of the journal. A look borrows the
-//! value only until it has its lock, which its caller may keep for longer.
+//! value until its closure has returned.
 
 mod adaptive_lock;
 mod held_locks;

@@ -3,7 +3,7 @@ use crate::names::Names;
 use std::marker::{Model, PhantomData};
 
 /// What had been seen of the history at some moment: contracts see its first lines. It has no bytes, may go to other threads, and stays
-/// true whatever they do. A fleet gives it of a seat or a look, copies it, and tells that any two are of one history.
+/// true whatever they do. A fleet gives it of a seat, copies it, and tells that any two are of one history.
 #[derive(Drop)]
 pub struct Seen<N: Names> {
     pub(crate) token: Token,

@@ -2,7 +2,7 @@ ghost use Rattle.std.specs.Prelude.{◌≡◌, ◌≢◌, ◌<◌, ◌≤◌, �
 ghost use Rattle.eevdf_ops.specs.{Acts.deed_at, Machine.queue_at, Outcome.machine_of, Parts.decider};
 ghost use Rattle.eevdf_ops.specs.Setup.{allows, cpus_of, homes_of, is_at_home, is_task};
 ghost use Rattle.eevdf_fleet.specs.{Drains.IsPickedAnew, Endless.Agree, Endless.AgreeOnPosts, Endless.AreListed};
-ghost use Rattle.eevdf_fleet.specs.Endless.{AreOfOneHistory, AreSeats, HasDone, HasDrained, HasSeenMore, IsOneThread};
+ghost use Rattle.eevdf_fleet.specs.Endless.{AreOfOneHistory, AreSeats, HasDone, HasDrained, IsOneThread};
 ghost use Rattle.eevdf_fleet.specs.Endless.{fresh_seats, told_by};
 ghost use Rattle.eevdf_fleet.specs.Fleets.{setup_of};
 ghost use Rattle.eevdf_fleet.specs.TouchedQueues.{IsLocal, IsNoWake};
@@ -12,7 +12,6 @@ use crate::closing::ClosedQueues;
 use crate::drains::Drained;
 use crate::endless::closed::Closed;
 use crate::endless::kit::Kit;
-use crate::endless::queue_look::QueueLook;
 use crate::endless::seat::{Seat, parts_in, seats_of};
 use crate::listed_drains::ListedDrain;
 use crate::names::Names;
@@ -241,32 +240,6 @@ impl<N: Names> Fleet<N> {
         answer
     }
 
-    /// Locks a CPU's queue, and learns the history that leaves it as it is. So a seat can choose from whom to pull: what it sees is true
-    /// until the look ends, as `QueueLook::seen` says of any moment before.
-    pub fn look<R: Wait>(&self, rt: &R, seat: &mut Seat<N>, cpu: CpuId) -> QueueLook<'_, N>
-        requires { cpu < cpus_of (setup_of N.kit) }
-        ensures seat { HasSeenMore (setup_of N.kit) seat.old seat.new }
-        ensures cpu { result.cpu ≡ cpu }
-        ensures queue { queue_at (told_by (setup_of N.kit) seat.new.seen) cpu ≡ result.queue.state }
-        ensures seen { result.seen ≡ seat.new.seen }
-    {
-        let (guard, seen) = self.queues.look(rt, &mut seat.parts, &mut seat.held, cpu);
-        QueueLook {
-            queues: &self.queues,
-            guard,
-            seen,
-        }
-    }
-
-    /// Makes what two seats have seen one history, that goes on from what each of them had seen. At run time it does nothing.
-    pub fn meet(&self, seat: &mut Seat<N>, other: &mut Seat<N>)
-        ensures seat { HasSeenMore (setup_of N.kit) seat.old seat.new }
-        ensures other { HasSeenMore (setup_of N.kit) other.old other.new }
-        ensures same { seat.new.seen ≡ other.new.seen }
-    {
-        self.queues.meet(&mut seat.parts, &mut other.parts);
-    }
-
     /// What a seat has seen of the history so far, as a value of its own. It neither waits nor takes memory.
     pub fn seen(&self, seat: &mut Seat<N>) -> Seen<N>
         ensures seat { seat.new ≡ seat.old }
@@ -284,7 +257,7 @@ impl<N: Names> Fleet<N> {
         self.queues.copy(seen)
     }
 
-    /// What was seen at two moments, by whatever seats and looks of the fleet, is of one history: one of the two is the beginning of the
+    /// What was seen at two moments, by whatever seats of the fleet, is of one history: one of the two is the beginning of the
     /// other. So the answers of any two calls are answers of one thread, while all go on. It takes no lock, neither waits nor takes
     /// memory, and at run time it decides nothing.
     pub fn agree(&self, seen: &mut Seen<N>, other: &mut Seen<N>)

@@ -86,7 +86,7 @@ impl<N: Names> Seat<N> {
         self.parts.posted()
     }
 
-    /// Whatever was seen at whatever moment, by any seat or look of the fleet, tells of no other wakes that this seat asked for than of
+    /// Whatever was seen at whatever moment, by any seat of the fleet, tells of no other wakes that this seat asked for than of
     /// those that it has posted by now: for each home, the wakes that the seat asked for among the home's lines are the beginning of what
     /// it has posted to the home. So no wake stands there in its name that it hasn't posted, and none before those that it posted earlier to
     /// the same home. It takes no lock, neither waits nor takes memory, and at run time it decides nothing.

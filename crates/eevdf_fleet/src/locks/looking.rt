@@ -1,13 +1,13 @@
 //! How a seat comes to know more of the history than its own operations show it.
 
-ghost use Rattle.std.specs.{Prelude.◌≡◌, Prelude.◌<◌, Sync.Mutex.mutex_guard_value};
-ghost use Rattle.eevdf_ops.specs.{Machine.queue_at, Setup.cpus_of};
+ghost use Rattle.std.specs.Prelude.{◌≡◌, ◌<◌};
+ghost use Rattle.std.specs.Fn.{FnOnceReturnsAt};
 ghost use mathlib.Core.List.{IsPrefix};
-ghost use Rattle.eevdf_fleet.specs.Claims.{IsKept, told};
+ghost use Rattle.eevdf_ops.specs.{Machine.queue_at, Setup.cpus_of};
+ghost use Rattle.eevdf_fleet.specs.{Claims.told, Endless.HasShown};
 ghost use Rattle.eevdf_fleet.specs.Fleets.{AreKnown, PartsSeeMore, setup_of};
 
 use crate::locks::held_locks::HeldLocks;
-use crate::locks::taken_locks::TakenLocks;
 use crate::names::Names;
 use crate::run_queues::RunQueues;
 use crate::seat_parts::SeatParts;
@@ -15,31 +15,30 @@ use crate::seen::Seen;
 use crate::slot::Slot;
 use atomic_table::Badge;
 use eevdf_ops::CpuId;
+use eevdf_queue::Queue;
 use std::mem;
-use std::sync::{MutexGuard, Wait};
+use std::sync::Wait;
 
 impl<N: Names> RunQueues<N> {
-    /// Takes the lock of a CPU's queue, and learns the history that leaves it. Gives what the seat has seen then, beside the lock. Its
-    /// caller holds no lock by `hold` or `hold_both`, since it lends the leave for that; what it gets may be kept for longer than that.
-    pub(crate) fn look<R: Wait>(
+    /// Takes the lock of a CPU's queue, learns the history that leaves it, and gives what `observe` gives of it.
+    pub(crate) fn look<R: Wait, T, F: FnOnce(&Queue) -> T>(
         &self,
         rt: &R,
         seat: &mut SeatParts<N>,
-        _held: &mut HeldLocks,
+        held: &mut HeldLocks,
         cpu: CpuId,
-    ) -> (MutexGuard<'_, Slot<N>>, Seen<N>)
-        requires { cpu < cpus_of (setup_of N.kit) }
+        observe: F,
+    ) -> T
+        requires cpu { cpu < cpus_of (setup_of N.kit) }
+        requires callable { F.IsAlwaysCallable observe }
         ensures seat { PartsSeeMore seat.old seat.new }
         ensures known { AreKnown N.kit.terms seat.new }
-        ensures cpu { (mutex_guard_value result.0).number ≡ cpu }
-        ensures queue { queue_at (told N.kit.terms seat.new.seen) cpu
-            ≡ (mutex_guard_value result.0).queue.state }
-        ensures seen { result.1 ≡ seat.new.seen }
+        ensures shown { HasShown (setup_of N.kit) seat.new.seen cpu
+            (λ queue. FnOnceReturnsAt F.FnOnce observe queue result) }
     {
-        let mut guard = self.take(rt, &mut TakenLocks::none(), cpu);
+        let (mut guard, _leave) = self.hold(rt, held, cpu);
         self.see(seat, &mut guard);
-        let seen = self.seen(seat);
-        (guard, seen)
+        observe(&guard.queue)
     }
 
     /// Learns the history that leaves a queue whose lock is held.
@@ -58,30 +57,6 @@ impl<N: Names> RunQueues<N> {
         slot.token = kept;
     }
 
-    /// Learns more of the history, which goes on from what was seen, and from what another has seen, and leaves a queue whose lock is held
-    /// as it is.
-    pub(crate) fn see_again(&self, seen: &mut Seen<N>, other: &mut Seen<N>, slot: &mut Slot<N>)
-        ensures more { IsPrefix seen.old seen.new }
-        ensures after { IsPrefix other.old seen.new }
-        ensures other { other.new ≡ other.old }
-        ensures kept { IsKept N.kit.terms seen.new }
-        ensures queue { queue_at (told N.kit.terms seen.new) slot.old.number
-            ≡ slot.old.queue.state }
-        ensures slot { slot.new ≡ slot.old }
-    {
-        let Seen {
-            token: others,
-            names: _,
-        } = self.copy(other);
-        let past = mem::replace(&mut seen.token, Badge::blank());
-        let kept = mem::replace(&mut slot.token, Badge::blank());
-        let pasts = self.board.join(past, others);
-        let token = self.board.look(self.board.join(kept, pasts));
-        let (past, kept) = self.board.split(token);
-        seen.token = past;
-        slot.token = kept;
-    }
-
     /// Makes what two seats have seen one history, that goes on from what each of them had seen.
     pub(crate) fn meet(&self, seat: &mut SeatParts<N>, other: &mut SeatParts<N>)
         ensures seat { PartsSeeMore seat.old seat.new }
@@ -96,5 +71,20 @@ impl<N: Names> RunQueues<N> {
         let (own, others) = self.board.split_shared(token);
         seat.log.token = own;
         other.log.token = others;
+    }
+
+    /// Makes what a seat has seen go on from what another has seen, too.
+    pub(crate) fn learn(&self, seat: &mut SeatParts<N>, seen: &mut Seen<N>)
+        ensures seat { PartsSeeMore seat.old seat.new }
+        ensures known { AreKnown N.kit.terms seat.new }
+        ensures seen { seen.new ≡ seen.old }
+        ensures after { IsPrefix seen.old seat.new.seen }
+    {
+        let Seen {
+            token: others,
+            names: _,
+        } = self.copy(seen);
+        let own = mem::replace(&mut seat.log.token, Badge::blank());
+        seat.log.token = self.board.look(self.board.join(others, own));
     }
 }

@@ -6,5 +6,5 @@ use Rattle.eevdf_fleet.proofs.endless.fleet.Fleet.look.Goals as goal
 
 pub returns-clause-seat : goal.returns-clause-seat
 returns-clause-seat g c =
-    subst (λ (s : Seat). HasSeenMore (setup_of g.N.Names.kit) s (seat_of_parts c.look-guard.new.seat)) c.seat.view_is
-    (has-seen-more g.N.Names.kit.terms c.seat.inside.parts c.look-guard.new.seat c.look-guard.ensures.seat c.look-guard.ensures.known)
+    subst (λ (s : Seat). HasSeenMore (setup_of g.N.Names.kit) s (seat_of_parts c.look.new.seat)) c.seat.view_is
+    (has-seen-more g.N.Names.kit.terms c.seat.inside.parts c.look.new.seat c.look.ensures.seat c.look.ensures.known)
