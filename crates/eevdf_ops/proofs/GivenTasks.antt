@@ -43,7 +43,7 @@ or_right true c h = refl
 or_right false c h = h
 
 module _ (P : ℕ → ℤ → ℕ → Type 0) where
-  abbrev Everywhere : Machine → Type 0
+  abbrev pub Everywhere : Machine → Type 0
   Everywhere m = (k : ℕ) → Each P (queue_at m k)
 
   -- a task that a deed is to give another nice level may have any
@@ -54,7 +54,7 @@ module _ (P : ℕ → ℤ → ℕ → Type 0) where
   abbrev MaySet : (ℕ → Bool) → Type 0
   MaySet test = (t : ℕ) (older nice : ℤ) (slice newer : ℕ) → test t ≡ true → P t older slice → P t nice newer
 
-  set-each : (m : Machine) (c : ℕ) (q : State) → Each P q → Everywhere m → Everywhere (set m c q)
+  pub set-each : (m : Machine) (c : ℕ) (q : State) → Each P q → Everywhere m → Everywhere (set m c q)
   set-each m c q each all = each-set (λ k r. Each P r) m c q each all
 
   -- two queues are written
@@ -73,7 +73,7 @@ module _ (P : ℕ → ℤ → ℕ → Type 0) where
   pulled-each q r (Err refusal) one two given = (one, two)
   pulled-each q r (Ok p) one two given = (with_task-each P q p one (given p refl), leave-each P r p.task two)
 
-  whole-each : (homes : List ℕ) (deed : Deed) (m : Machine) → MayRenice (renices deed) → MaySet (sets deed) → Everywhere m → Everywhere (whole homes deed m).1
+  pub whole-each : (homes : List ℕ) (deed : Deed) (m : Machine) → MayRenice (renices deed) → MaySet (sets deed) → Everywhere m → Everywhere (whole homes deed m).1
   whole-each homes (Tick cpu ns) m may set all = set-each m cpu (tick (queue_at m cpu) ns).1 (tick-each P (queue_at m cpu) ns (all cpu)) all
   whole-each homes (Pick cpu) m may set all = set-each m cpu (after_pick (queue_at m cpu)) (pick-each P (queue_at m cpu) (all cpu)) all
   whole-each homes (Yield cpu) m may set all = set-each m cpu (yield_now (queue_at m cpu)).1 (yield-each P (queue_at m cpu) (all cpu)) all
@@ -111,7 +111,7 @@ module _ (P : ℕ → ℤ → ℕ → Type 0) where
       (whole-each homes d m (λ t older nice slice r p. may t older nice slice (or_left (renices d t) (is_reniced ds t) r) p)
       (λ t older nice slice newer r p. set t older nice slice newer (or_left (sets d t) (is_set ds t) r) p) all)
 
-  nobody-each : (n : ℕ) → Everywhere (replicate n empty_state)
+  pub nobody-each : (n : ℕ) → Everywhere (replicate n empty_state)
   nobody-each zero k = empty-each P
   nobody-each (suc n) zero = empty-each P
   nobody-each (suc n) (suc k) = nobody-each n k
@@ -126,7 +126,7 @@ module _ (P : ℕ → ℤ → ℕ → Type 0) where
   first : (task : ℕ) (t : TaskSpec) (ts : List TaskSpec) → BeginAs task (t ∷ ts) → P task t.nice t.slice
   first task t ts given = let same : task + 0 ≡ task = omega arith in subst (λ (k : ℕ). P k t.nice t.slice) same (given 0 t refl)
 
-  begun-each : (task : ℕ) (ts : List TaskSpec) (m : Machine) → BeginAs task ts → Everywhere m → Everywhere (begin_at_homes task ts m)
+  pub begun-each : (task : ℕ) (ts : List TaskSpec) (m : Machine) → BeginAs task ts → Everywhere m → Everywhere (begin_at_homes task ts m)
   begun-each task [] m given all = all
   begun-each task (t ∷ ts) m given all =
       let rest : Everywhere (begin_at_homes (task + 1) ts m) = begun-each (task + 1) ts m (later task t ts given) all in

@@ -25,4 +25,6 @@ pub mod PartsHistories
 pub mod MapValues
 pub mod QueueValues
 pub mod GivenTasks
+pub mod NewlyGiven
+pub mod LastGiven
 pub mod GrownLists

@@ -1,6 +1,6 @@
 -- How a step on a queue of a machine changes where tasks stand.
 use Rattle.std.proofs.Common.{◌≡◌, ◌≢◌, ℕ, zero, suc, ◌+◌, ◌<◌, ◌≤◌, Bool, true, false, List, [], ◌∷◌, length, set, refl, sym, ap, arith}
-use Rattle.std.specs.{FinMap.contains_key}
+use Rattle.std.specs.{Prelude.is_some, Ordering.nat_cmp, FinMap.contains_key, FinMap.get-empty}
 use Rattle.std.proofs.{lemmas.List.get_or-set_other, Math.ListN.length-set}
 use Rattle.eevdf_queue.specs.State.{State, empty_state}
 use Rattle.eevdf_ops.specs.{Setup.home_of, Setup.is_task, Machine.Machine, Machine.queue_at}
@@ -13,17 +13,27 @@ places-set [] c u q h = absurd (omega arith)
 places-set (x ∷ m) zero u q h = omega arith
 places-set (x ∷ m) (suc c) u q h = omega (arith, places-set m c u q (omega arith))
 
-pub places-at : (m : Machine) (c u : ℕ) → c < length m → places_in (queue_at m c) u ≤ places m u
-places-at [] c u h = absurd (omega arith)
-places-at (x ∷ m) zero u h = omega arith
-places-at (x ∷ m) (suc c) u h = omega (arith, places-at m c u (omega arith))
+-- nobody stands in an empty queue
+pub places-none : (u : ℕ) → places_in empty_state u ≡ 0
+places-none u =
+    let runnable : count (contains_key empty_state.runnable u) ≡ 0 = ap (λ o. count (is_some o)) (get-empty nat_cmp u) in
+    let asleep : count (contains_key empty_state.asleep u) ≡ 0 = ap (λ o. count (is_some o)) (get-empty nat_cmp u) in
+    omega (arith, runnable, asleep)
 
-pub places-two : (m : Machine) (a b task : ℕ) → a ≢ b → a < length m → b < length m → places_in (queue_at m a) task + places_in (queue_at m b) task ≤ places m task
-places-two [] a b task apart h g = absurd (omega arith)
-places-two (x ∷ m) zero zero task apart h g = absurd (apart refl)
-places-two (x ∷ m) zero (suc b) task apart h g = omega (arith, places-at m b task (omega arith))
-places-two (x ∷ m) (suc a) zero task apart h g = omega (arith, places-at m a task (omega arith))
-places-two (x ∷ m) (suc a) (suc b) task apart h g = omega (arith, places-two m a b task (λ e. apart (ap suc e)) (omega arith) (omega arith))
+places-any : (m : Machine) (c u : ℕ) → places_in (queue_at m c) u ≤ places m u
+places-any [] c u = omega (arith, places-none u)
+places-any (x ∷ m) zero u = omega arith
+places-any (x ∷ m) (suc c) u = omega (arith, places-any m c u)
+
+pub places-at : (m : Machine) (c u : ℕ) → c < length m → places_in (queue_at m c) u ≤ places m u
+places-at m c u h = places-any m c u
+
+pub places-two : (m : Machine) (a b task : ℕ) → a ≢ b → places_in (queue_at m a) task + places_in (queue_at m b) task ≤ places m task
+places-two [] a b task apart = omega (arith, places-none task)
+places-two (x ∷ m) zero zero task apart = absurd (apart refl)
+places-two (x ∷ m) zero (suc b) task apart = omega (arith, places-any m b task)
+places-two (x ∷ m) (suc a) zero task apart = omega (arith, places-any m a task)
+places-two (x ∷ m) (suc a) (suc b) task apart = omega (arith, places-two m a b task (λ e. apart (ap suc e)))
 
 pub at-most : (b : Bool) → count b ≤ 1
 at-most true = omega arith
@@ -31,7 +41,7 @@ at-most false = omega arith
 
 -- no task stands in two queues
 pub none-twice : (homes : List ℕ) (m : Machine) (a b : ℕ) → IsPlaced homes m → a ≢ b → a < length m → b < length m → NoneTwice (queue_at m a) (queue_at m b)
-none-twice homes m a b placed apart h g task = omega (arith, placed.once task, at-most (is_task homes task), places-two m a b task apart h g)
+none-twice homes m a b placed apart h g task = omega (arith, placed.once task, at-most (is_task homes task), places-two m a b task apart)
 
 -- another queue is as it was
 pub other_queue : (m : Machine) (c k : ℕ) (q : State) → k ≢ c → queue_at (set m c q) k ≡ queue_at m k

@@ -8,10 +8,10 @@ use Rattle.eevdf_queue.specs.State.{State, Contents, empty_state}
 use Rattle.eevdf_ops.specs.{declared.task_spec.TaskSpec.TaskSpec, Faults.tasks_fault, Faults.task_fault, Setup.home_of}
 use Rattle.eevdf_ops.specs.Machine.{Machine, queue_at, joined, beginner, begin, begin_at_homes}
 use Rattle.eevdf_ops.specs.Places.{count, places, IsPlaced, AreCpus}
-use Rattle.eevdf_ops.proofs.{Machines.length-begun, MachinePlaces.places-set, MachinePlaces.each-set}
+use Rattle.eevdf_ops.proofs.{Machines.length-begun, MachinePlaces.places-none, MachinePlaces.places-set, MachinePlaces.each-set}
 use Rattle.eevdf_ops.proofs.{SetupFaults.or_none_left, SetupFaults.or_none_right, QueuePlaces.IsWith}
 use Rattle.eevdf_ops.proofs.MapCounts.{equal, count-insert, contains-insert}
-use Rattle.eevdf_ops.proofs.Starting.{absent_before, absent_nowhere, absent_empty, begins_well}
+use Rattle.eevdf_ops.proofs.Starting.{absent_before, absent_empty, begins_well}
 
 abbrev homes : List TaskSpec → List ℕ
 homes ts = map (λ (t : TaskSpec). t.home) ts
@@ -36,10 +36,7 @@ one_from task n u = grind (arith, nat_tests)
 
 places_empty : (n u : ℕ) → places (replicate n empty_state) u ≡ 0
 places_empty zero u = refl
-places_empty (suc n) u =
-    let runnable : count (contains_key empty_state.runnable u) ≡ 0 = ap (λ o. count (is_some o)) (absent_nowhere u).not_runnable in
-    let asleep : count (contains_key empty_state.asleep u) ≡ 0 = ap (λ o. count (is_some o)) (absent_nowhere u).not_asleep in
-    omega (arith, places_empty n u)
+places_empty (suc n) u = omega (arith, places-none u, places_empty n u)
 
 home_within : (n place : ℕ) (t : TaskSpec) (l : ℕ) → task_fault n place t ≡ None → l ≡ n → t.home < l
 home_within n place t l well e = let below : nat_lt t.home n ≡ true = (begins_well n place t well).at_home in grind (arith, nat_tests)

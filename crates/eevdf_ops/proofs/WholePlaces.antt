@@ -20,7 +20,7 @@ use Rattle.eevdf_ops.proofs.MapCounts.{equal, contains-insert}
 use Rattle.eevdf_ops.proofs.QueuePlaces.{IsWith, IsWithout, tick-same, pick-same, yield-same, wake-same, renice-same, begin-same, set-same, rebase-same, asleep-with, runnable-with}
 use Rattle.eevdf_ops.proofs.MachinePlaces.{at-most, none-twice, places-at, SleepsAtHome, one-placed, same-placed, two-placed}
 
-few_places : (homes : List ℕ) (m : Machine) (cpu t : ℕ) → cpu < length m → IsPlaced homes m → places_in (queue_at m cpu) t ≤ 1
+pub few_places : (homes : List ℕ) (m : Machine) (cpu t : ℕ) → cpu < length m → IsPlaced homes m → places_in (queue_at m cpu) t ≤ 1
 few_places homes m cpu t h placed = omega (arith, places-at m cpu t h, placed.once t, at-most (is_task homes t))
 
 fallen : (homes : List ℕ) (cpu u : ℕ) (b c : Bool) → (b ≡ true → home_of homes u ≡ cpu) → (c ≡ true → home_of homes u ≡ cpu) → (b || c) ≡ true → home_of homes u ≡ cpu

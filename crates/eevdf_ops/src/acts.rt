@@ -5,7 +5,7 @@ use crate::deeds::Deed;
 use eevdf_queue::TaskId;
 use eevdf_weight::{Nice, Ns, Slice};
 
-/// What is done to the run queue of one CPU alone.
+/// What is done to the run queue of one CPU alone, by `LocalAct::apply`.
 #[derive(Clone, Copy, PartialEq, Eq, Debug)]
 pub enum LocalAct {
     /// The running task is charged so many nanoseconds.
@@ -30,7 +30,7 @@ pub enum LocalAct {
     Rebase,
 }
 
-/// How a task comes from the run queue of one CPU to that of another. It is done by one of the two.
+/// How a task comes from the run queue of one CPU to that of another. One of the two does it, by `Transfer::apply`.
 #[derive(Clone, Copy, PartialEq, Eq, Debug)]
 pub enum Transfer {
     /// The task, if it runs here, falls asleep at its home, which is the other CPU.
@@ -41,7 +41,7 @@ pub enum Transfer {
     End(TaskId),
 }
 
-/// What a deed does, without the CPU that does it.
+/// What a deed does, without the CPU that does it. It is done by `LocalAct::apply` or `Transfer::apply`.
 #[derive(Clone, Copy, PartialEq, Eq, Debug)]
 pub enum Act {
     /// It touches the run queue of its CPU alone.

@@ -3,7 +3,7 @@ use crate::cpu_id::CpuId;
 use eevdf_queue::TaskId;
 use eevdf_weight::{Nice, Ns, Slice};
 
-/// An operation of a CPU's program.
+/// An operation of a CPU's program. On a CPU it becomes a `Deed`, by `Op::on`.
 #[derive(Clone, Copy, PartialEq, Eq, Debug)]
 pub enum Op {
     /// The running task is charged so many nanoseconds.
@@ -37,7 +37,7 @@ impl Op {
     ghost use Rattle.eevdf_ops.specs.{Acts.local_of, Programs.deed_of};
 
     /// The deed of the operation on a CPU. `None` of a post and of a drain, which are no deeds: what comes of them are
-    /// wakes.
+    /// wakes. The deed becomes its CPU and an act, by `parted`.
     pub fn on(self, cpu: CpuId) -> Option<Deed>
         ensures { result ≡ deed_of cpu self }
     {
@@ -67,7 +67,7 @@ impl Op {
     }
 
     /// What the operation does, where it touches its CPU's run queue alone, whatever homes the tasks have. `None` of a sleep, an end, a
-    /// post, a drain and a pull.
+    /// post, a drain and a pull. Of a deed `parted` says the same, and by the homes what a sleep and an end do.
     pub fn local(self) -> Option<LocalAct>
         ensures { result ≡ local_of self }
     {
@@ -84,7 +84,7 @@ impl Op {
     }
 }
 
-/// What is done on the machine at once.
+/// What is done on the machine at once. It becomes its CPU and an `Act`, by `parted`.
 #[derive(Clone, Copy, PartialEq, Eq, Debug)]
 pub enum Deed {
     /// The CPU's running task is charged so many nanoseconds.

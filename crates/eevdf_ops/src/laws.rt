@@ -1,6 +1,6 @@
 //! Laws of the machine and its deeds, each the contract of a function that does nothing.
 
-ghost use Rattle.eevdf_ops.specs.{Given.TasksStayAsGiven, Outcome.machine_of};
+ghost use Rattle.eevdf_ops.specs.{Given.TasksAreAsLastGiven, Given.TasksStayAsGiven, Outcome.machine_of};
 ghost use Rattle.eevdf_ops.specs.{PartsHistory.HistoryByParts};
 ghost use Rattle.eevdf_ops.specs.Laws.{DeedsKeepPlaces, PullLevels, PullLeavesSome};
 ghost use Rattle.eevdf_ops.specs.Machine as machine;
@@ -43,6 +43,14 @@ pub fn deeds_keep_places()
 pub fn tasks_stay_as_given()
     ensures { TasksStayAsGiven }
 {}
+
+/// On each machine that allowed deeds lead to from the start, a task, runnable or asleep, has the nice level and the slice that it was
+/// given last: by the setup, or by a deed that was done, as its answer says. A begin and a set gave both, a renice the level.
+pub fn tasks_are_as_last_given(setup: &Setup)
+    ensures { TasksAreAsLastGiven setup.now }
+{
+    let _tasks = setup.task_specs();
+}
 
 /// A pull that takes a task lowers the absolute difference of the two CPUs' loads.
 pub fn pull_levels()

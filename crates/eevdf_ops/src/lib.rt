@@ -5,8 +5,10 @@
 //! of deeds is the list of deeds with their answers, and the machine that they leave.
 //!
 //! A deed is parted into its CPU and an act ([`parted`]): a [`LocalAct`] on the queue of that CPU alone, or a
-//! [`Transfer`], by which a task goes from one queue to another. Acts are done here and nowhere else: [`Solo`]
-//! does them on the queues that it has, threads on those that they have locked.
+//! [`Transfer`], by which a task goes from one queue to another. [`Solo`] does acts on the queues that it has,
+//! threads on those that they have locked, by [`LocalAct::apply`] and [`Transfer::apply`]. A player does a sleep,
+//! an end and a pull by halves, between which others may do steps: [`sleep`], [`end`] and [`pull`] have the first
+//! half of each.
 #![tactic(auto)]
 
 mod acts;

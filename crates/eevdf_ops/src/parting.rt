@@ -9,7 +9,8 @@ use crate::deeds::Deed;
 use crate::homes::Homes;
 use eevdf_queue::TaskId;
 
-/// The CPU that does a deed, and what it does, where tasks have these homes.
+/// The CPU that does a deed, and what it does, where tasks have these homes. The act is done by `LocalAct::apply` or
+/// `Transfer::apply`.
 #[inline(always)]
 pub fn parted(homes: &[CpuId], deed: Deed) -> (CpuId, Act)
     requires { (cpus : ℕ) × (is_allowed cpus homes.now deed ≡ true) }

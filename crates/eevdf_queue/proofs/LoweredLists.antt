@@ -1,6 +1,6 @@
 -- Lists of tasks that are lowered by a number in virtual time.
 use Rattle.std.proofs.Common.{◌≡◌, ℕ, suc, ◌^◌, ◌≤◌, Bool, true, false, ◌&&◌, cond, eqb, List, [], ◌∷◌, ◌++◌, length, Option, Some, None, refl, sym, subst, ap, ◌∙◌, arith}
-use Rattle.std.specs.Prelude.{ℤ, ◌-ℤ◌, neg_ℤ, int_lt, unsigned_abs}
+use Rattle.std.specs.Prelude.{ℤ, pos, ◌-ℤ◌, neg_ℤ, int_lt, unsigned_abs}
 use Rattle.std.specs.{Option.option_map, List.AllByRecursion}
 use Rattle.std.proofs.lemmas.{Bool.Decides.nat_tests, Int.ints}
 use Rattle.eevdf_queue.specs.{declared.task.Task.Task, Moves.is_entry_in_range, Rebase.lowered_entry}
@@ -165,3 +165,21 @@ back_task by t =
 pub back_list : (by : ℤ) (ts : List Task) → lowered_list (neg_ℤ by) (lowered_list by ts) ≡ ts
 back_list by [] = refl
 back_list by (t ∷ ts) = ap (λ (z : Task). z ∷ lowered_list (neg_ℤ by) (lowered_list by ts)) (back_task by t) ∙ ap (λ (z : List Task). t ∷ z) (back_list by ts)
+
+-- lowered by nothing
+same_task : (t : Task) → lowered_task (pos 0) t ≡ t
+same_task t =
+    ap (λ (z : ℤ). record t { entry = record t.entry { v = z; d = t.entry.d -ℤ pos 0 } }) (same_time t.entry.v)
+    ∙ ap (λ (z : ℤ). record t { entry = record t.entry { d = z } }) (same_time t.entry.d)
+  where
+    same_time : (v : ℤ) → v -ℤ pos 0 ≡ v
+    same_time v = omega (arith, ints)
+
+pub same_list : (ts : List Task) → lowered_list (pos 0) ts ≡ ts
+same_list [] = refl
+same_list (t ∷ ts) = ap (λ (z : Task). z ∷ lowered_list (pos 0) ts) (same_task t) ∙ ap (λ (z : List Task). t ∷ z) (same_list ts)
+
+-- runnable tasks are in range
+pub all_in_range : (ts : List Task) → AreRunnable ts → are_tasks_in_range ts ≡ true
+all_in_range [] h = refl
+all_in_range (t ∷ ts) h = ap (λ (b : Bool). b && are_tasks_in_range ts) h.2 ∙ all_in_range ts h.3

@@ -14,7 +14,7 @@ use Rattle.eevdf_queue.specs.{TaskLists.entries_of, TaskLists.find_task, TaskLis
 use Rattle.eevdf_queue.specs.TreeLowering.{lowered_task, lowered_list, are_tasks_in_range}
 use Rattle.eevdf_queue.proofs.{MapFolds.AreDistinct, MapFolds.fold-from_entries, SortedEntries.distinct_entries, Scaled.difference_scaled, Scaled.scaled_sum}
 use Rattle.eevdf_queue.proofs.{Earliest.taken, Earliest.taken-swap, TreeCandidates.joined, TreeCandidates.latest-joined, TreeCandidates.joined-swap}
-use Rattle.eevdf_queue.proofs.{RunnableMaps.folded, RunnableMaps.seen_as, RunnableMaps.get-runnable_in, LoweredLists.find-lowered, LoweredLists.lower_lt}
+use Rattle.eevdf_queue.proofs.{RunnableMaps.folded, RunnableMaps.seen_as, RunnableMaps.get-runnable_in, LoweredLists.find-lowered, LoweredLists.lower_lt, LoweredLists.same_list, LoweredLists.all_in_range}
 
 find-lowered_entries : (by : ℤ) (es : List (ℕ × Entry)) (q : ℕ) → find nat_cmp q (lowered_entries by es) ≡ option_map (lowered_entry by) (find nat_cmp q es)
 find-lowered_entries by [] q = refl
@@ -209,3 +209,10 @@ can-lower by ts h =
     (λ a b x ne. and_swapped (is_entry_in_range (lowered_entry by a.1)) (is_entry_in_range (lowered_entry by b.1)) x) ts h
     ∙ ap are_entries_in_range (sym (entries_of-lowered by ts))
     ∙ tasks_by_entries (lowered_list by ts)
+
+-- tasks that are lowered by nothing
+pub can_stay : (ts : List Task) → AreRunnable ts → can_lower (pos 0) (runnable_in ts) ≡ true
+can_stay ts h = can-lower (pos 0) ts h ∙ ap are_tasks_in_range (same_list ts) ∙ all_in_range ts h
+
+pub stays_lowered : (ts : List Task) → lowered_tasks (pos 0) (runnable_in ts) ≡ runnable_in ts
+stays_lowered ts = sym (seen-lowered (pos 0) ts) ∙ ap runnable_in (same_list ts)

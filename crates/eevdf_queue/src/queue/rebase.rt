@@ -11,7 +11,7 @@ impl Queue {
     /// call as it would have, but for that number in virtual times and for `Range`
     /// ([`laws::lowered_queue_answers_alike`](crate::laws::lowered_queue_answers_alike)). Lags stay as they are. Where a virtual
     /// runtime or a deadline would leave the range, all stays as it is and the answer is 0. It takes one walk over the runnable
-    /// tasks, and a second one where it is refused. The pick that is known stays known.
+    /// tasks, a second one where it is refused, and none where the virtual time is 0 already. The pick that is known stays known.
     pub fn rebase(&mut self) -> i64
         ensures by { result ≡ (rebases.rebase self.old.state).0 }
         ensures after { self.new.state ≡ (rebases.rebase self.old.state).1 }

@@ -8,9 +8,10 @@ ghost use Rattle.eevdf_queue.specs.{TreeShape.IsFull, Lag.is_lag, TreeTasks.inse
 ghost use Rattle.eevdf_queue.specs.TaskLists.{runnable_in};
 ghost use Rattle.eevdf_queue.specs.TreeStores.{kept_at, noted, IsNoted, IsRunnableStore};
 ghost use Rattle.eevdf_queue.specs.Leaving.{leaving_at};
-ghost use Rattle.eevdf_queue.specs.Rebase.{can_lower, lowered_tasks};
 ghost use Rattle.eevdf_queue.specs.Pick.{IsPick, is_eligible_at, pick_of};
 ghost use Rattle.eevdf_queue.specs.TaskLists.{first_task, find_task, contents_of};
+
+mod lowering;
 
 use crate::entry::Entry;
 use crate::lag::kept_lag;
@@ -20,7 +21,6 @@ use crate::task_id::TaskId;
 use crate::tree::deadline_table::DeadlineTable;
 use crate::tree::eligible::Threshold;
 use crate::tree::key::TreeKey;
-use crate::tree::lowering::{lower_moment, opposite};
 use crate::tree::node::{Found, TreeNode};
 use crate::tree::picked_task::{Pick, PickedTask};
 use crate::tree::task_tree::TaskTree;
@@ -281,25 +281,6 @@ impl RunnableTasks {
             return None;
         };
         Some(first.task.number)
-    }
-
-    /// Lowers the virtual runtimes and the deadlines of all tasks, in one walk over them, and answers whether all stay in range;
-    /// where they don't, they stay as they are, by a second walk. The pick that is kept stays so.
-    #[tactic(auto, using(crate::proofs::TreeTotals::totals_near, crate::proofs::LoweredLists::near_runnable, crate::proofs::LoweredLists::near_lowered, crate::proofs::PickedTasks::sums_kept))]
-    pub fn lower(&mut self, by: i64) -> bool
-        requires { unsigned_abs by ≤ 2 ^ 60 }
-        ensures in_range { result ≡ can_lower by self.old.tasks }
-        ensures lowered { result ≡ true → self.new.tasks ≡ lowered_tasks by self.old.tasks }
-        ensures stayed { result ≡ false → self.new.tasks ≡ self.old.tasks }
-        ensures depths { self.new.depths ≡ self.old.depths }
-    {
-        if !self.tree.lower(&mut self.deadlines, by) {
-            let _ = self.tree.lower(&mut self.deadlines, opposite(by));
-            return false;
-        }
-        lower_moment(&mut self.totals, by);
-        self.picked.lower(by);
-        true
     }
 
     /// The last task by deadline and number of those that don't run.
