@@ -1,6 +1,6 @@
 #!/usr/bin/env -S python3 -B
 """checks/launched.py: what the built program `eevdf` answers where a standard stream is closed, full or a folder, or its words are wrong;
-and that `./eevdf` answers so where it is built. `unbuilt.py` asks the same where it isn't. The last line is 'N passed, M failed'. TOP names
+and that `./eevdf` answers so where it is built, and a symbolic link to it. `unbuilt.py` asks the same where it isn't. The last line is 'N passed, M failed'. TOP names
 another checkout whose program is tried."""
 
 import os
@@ -19,6 +19,8 @@ REPORT = stored(WORKLOAD.with_suffix(".out")).out
 USAGE = re.search(r"`(usage: eevdf [^`]*)`", (TOP / "docs" / "formats.md").read_text())[1].encode()
 FIRST_LINE = REPORT.partition(b"\n")[0]
 CANT_READ, CANT_WRITE = b"fault: reading", b"fault: writing\n"
+A_FOLDER = b"standard input: Is a directory (os error 21)\n"
+CLOSED = b"standard input: Bad file descriptor (os error 9)\n"
 
 # What ./eevdf consists of where it is built.
 LAUNCHER = ("crates.txt", "eevdf", "tools/launch", "tools/current")
@@ -38,8 +40,8 @@ class Case:
 
 CASES = (
     Case("solo", "", 0, FIRST_LINE, b""),
-    Case("solo", "</", 3, CANT_READ),
-    Case("solo", "<&-", 3, CANT_READ),
+    Case("solo", "</", 3, CANT_READ, A_FOLDER),
+    Case("solo", "<&-", 3, CANT_READ, CLOSED),
     Case("solo", ">/dev/full", 3, b"", CANT_WRITE),
     Case("solo", ">&-", 3, b"", CANT_WRITE),
     Case("solo", "2>&-", 0, FIRST_LINE),
@@ -50,6 +52,12 @@ CASES = (
     Case("", "", 2, USAGE),
     Case("nothing-like-it", "", 2, USAGE),
     Case("nothing-like-it", "<&-", 2, USAGE),
+    Case("--help", "", 0, b"eevdf runs a workload of tasks on the scheduler and prints each CPU's schedule.", b""),
+    Case("--help", ">/dev/full", 3, b"", CANT_WRITE),
+    Case("--help", ">&-", 3, b"", CANT_WRITE),
+    Case("-h", ">&- 2>&-", 3, b""),
+    Case("--version", ">/dev/full", 3, b"", CANT_WRITE),
+    Case("solo --version", ">&-", 3, b"", CANT_WRITE),
 )
 
 
@@ -80,10 +88,11 @@ def look_at_streams(checks, what, program):
     """Looks at each case, and at a pipe that nobody reads, where the program ends without a word."""
     for case in CASES:
         look_at_case(checks, what, program, case)
-    with pipe_that_nobody_reads() as pipe:
-        printed = run([program, "solo"], WORKLOAD.read_bytes(), stdout=pipe)
-    is_quiet = (printed.status, without_launcher(printed.errors)) == (3, b"")
-    checks.expect(f"{what} solo, into a pipe that nobody reads", printed, is_quiet)
+    for word in ("solo", "--help", "--version"):
+        with pipe_that_nobody_reads() as pipe:
+            printed = run([program, word], WORKLOAD.read_bytes(), stdout=pipe)
+        is_quiet = (printed.status, without_launcher(printed.errors)) == (3, b"")
+        checks.expect(f"{what} {word}, into a pipe that nobody reads", printed, is_quiet)
 
 
 def copy_launcher(program, copy):
@@ -96,13 +105,26 @@ def copy_launcher(program, copy):
     shutil.copy(program, out)
 
 
+def look_at_link(checks, launcher, folder):
+    """A symbolic link to the launcher, of whatever name and wherever it is, does what the launcher does."""
+    link = folder / "scheduler"
+    link.symlink_to(launcher)
+    again = folder / "again"
+    again.symlink_to(link.name)
+    for name in (link, again):
+        printed = run([name, "solo"], WORKLOAD.read_bytes())
+        checks.expect(f"a link to ./eevdf, {name.name}", printed, (printed.out, printed.status) == (REPORT, 0))
+
+
 def main():
     checks = Checks()
     program = built("eevdf").path("eevdf")
     look_at_streams(checks, "the built program", program)
     with tempfile.TemporaryDirectory(prefix="launched-") as held:
-        copy_launcher(program, Path(held))
-        look_at_streams(checks, "./eevdf, built", Path(held) / "eevdf")
+        copy = Path(held) / "tree"
+        copy_launcher(program, copy)
+        look_at_streams(checks, "./eevdf, built", copy / "eevdf")
+        look_at_link(checks, copy / "eevdf", Path(held))
     return checks.end()
 
 

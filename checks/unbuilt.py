@@ -3,7 +3,8 @@
 answer a workload of examples/ with its stored answer on standard output, and to say in one line on standard error, which README has, that
 this isn't the proved program. One of them compiles it, and may take SECONDS of processor time. The other waits for that, and takes what is
 kept, as each further run does: these may take SECONDS_WHERE_KEPT. All workloads of examples/ have to be answered so, and the streams and
-words of launched.py. A source that doesn't compile is told of, and a run that is killed leaves nothing behind. The last line is 'N passed,
+words of launched.py. A source that doesn't compile is told of, and a run that is ended leaves nothing behind, no file and no process. The scripts say
+how they are used. The last line is 'N passed,
 M failed'."""
 
 import os
@@ -14,7 +15,7 @@ import sys
 import tempfile
 import time
 from concurrent.futures import ThreadPoolExecutor
-from contextlib import contextmanager
+from contextlib import contextmanager, suppress
 from pathlib import Path
 
 from launched import WORKLOAD, look_at_streams, without_launcher
@@ -26,6 +27,10 @@ SECONDS, SECONDS_WHERE_KEPT = 400, 2
 PATIENCE = 3600
 # A run is ended after so many seconds, when it is under way, and has so many to be cleared away.
 ENDED_AFTER, CLEARED = 4, 30
+# By Ctrl-C or the end of the session it may be ended at any time: these are the seconds after which it is tried.
+MOMENTS = (0.2, 0.5, 0.8, 1.1, 1.5, 2, 3, 5)
+# How long a script may take to say how it is used.
+SAID_AFTER = 20
 
 # A source of a crate below the program.
 SOURCE = "crates/eevdf_weight/src/lib.rt"
@@ -132,6 +137,48 @@ def end_run(copy, folder, number):
     return status, begun, os.listdir(folder)
 
 
+def processes_of(folder):
+    """The processes that have the folder for that of their temporary files, which all that a run begins are told."""
+    found = []
+    for file in Path("/proc").glob("[0-9]*/environ"):
+        with suppress(OSError):
+            if f"\0TMPDIR={folder}".encode() in b"\0" + file.read_bytes():
+                found.append(int(file.parent.name))
+    return found
+
+
+def end_whole_run(copy, folder, number, seconds):
+    """Ends a run that compiles after some seconds, and gives the processes that it leaves: a terminal sends Ctrl-C to all that are in its
+    foreground, and a session that ends SIGTERM to one."""
+    with open(WORKLOAD, "rb") as given:
+        process = subprocess.Popen([copy / "eevdf", "solo"], stdin=given, env={**os.environ, "TMPDIR": str(folder)},
+                                   stdout=subprocess.DEVNULL, stderr=subprocess.DEVNULL, start_new_session=True)
+    time.sleep(seconds)
+    if number == signal.SIGINT:
+        os.killpg(process.pid, number)
+    else:
+        process.send_signal(number)
+    process.wait()
+    deadline = time.monotonic() + CLEARED
+    while (left := processes_of(folder)) and time.monotonic() < deadline:
+        time.sleep(0.1)
+    for it in left:
+        with suppress(ProcessLookupError):
+            os.kill(it, signal.SIGKILL)
+    return left
+
+
+def look_at_interrupted(checks, copy, folder):
+    """Nothing is left, no process either, of a run that is ended at any time while it compiles a source that was changed."""
+    folder.mkdir()
+    for number in (signal.SIGINT, signal.SIGTERM):
+        for seconds in MOMENTS:
+            with changed(copy, b"// changed\n"):
+                processes = end_whole_run(copy, folder, number, seconds)
+            left = processes + os.listdir(folder)
+            checks.look(f"leaves nothing where {number.name} ends it after {seconds} seconds", f"{left} left" if left else None)
+
+
 def look_at_ended(checks, copy, folder):
     """What a run leaves that is ended while it compiles a source that was changed."""
     folder.mkdir()
@@ -153,6 +200,18 @@ def look_at_build(checks, copy):
         checks.expect(f"./build {words} {streams}".strip(), printed, (printed.status, printed.out) == (status, b"") and is_told)
 
 
+def look_at_usage(checks, copy):
+    """The scripts say how they are used, and do nothing else then."""
+    for script in ("test", "build", "install"):
+        for word in ("--help", "-h"):
+            printed = run([copy / script, word], seconds=SAID_AFTER)
+            is_usage = (printed.status, printed.errors) == (0, b"") and printed.out.startswith(f"usage: ./{script} ".encode())
+            checks.expect(f"./{script} {word}", printed, is_usage)
+    printed = run([copy / "test", "faults"], seconds=SAID_AFTER)
+    is_usage = (printed.status, printed.out) == (2, b"") and printed.errors.startswith(b"usage: ./test ")
+    checks.expect("./test with a word", printed, is_usage)
+
+
 def main():
     checks = Checks()
     with tempfile.TemporaryDirectory(prefix="unbuilt-") as held:
@@ -164,7 +223,9 @@ def main():
         look_at_streams(checks, "./eevdf, unbuilt", copy / "eevdf")
         look_at_wrong_source(checks, copy)
         look_at_ended(checks, copy, Path(held) / "ended")
+        look_at_interrupted(checks, copy, Path(held) / "interrupted")
         look_at_build(checks, copy)
+        look_at_usage(checks, copy)
     return checks.end()
 
 

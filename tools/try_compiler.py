@@ -7,11 +7,13 @@ import re
 import shutil
 import signal
 import subprocess
+import sys
 import tempfile
 import time
 from contextlib import contextmanager, suppress
 from pathlib import Path
 
+import process_trees
 from crate_copies import folder_of
 
 # The program reads all of it before it refuses it.
@@ -35,10 +37,8 @@ class Ended(BaseException):
 class Keeper:
     """A process that ends `rt` and removes its folder where this process ends before it could do so itself."""
 
-    WAITS = 'cat >/dev/null; kill "$1" && while kill -0 "$1"; do sleep 0.1; done; rm -rf "$2"'
-
     def __init__(self, rt, folder):
-        words = ["sh", "-c", self.WAITS, "keeper", str(rt.pid), folder]
+        words = [sys.executable, "-ISB", process_trees.__file__, str(rt.pid), folder]
         quiet = {"stdout": subprocess.DEVNULL, "stderr": subprocess.DEVNULL}
         self.process = subprocess.Popen(words, stdin=subprocess.PIPE, start_new_session=True, **quiet)
 
@@ -49,18 +49,22 @@ class Keeper:
 
 @contextmanager
 def ending_in_order():
-    """Signals that end this process are raised as Ended meanwhile, so that what was begun is ended first. One that is ignored stays so."""
+    """Signals that end this process are kept meanwhile, and raised as Ended by what this gives, so that what was begun is ended first. One
+    that is ignored stays so."""
+    kept = []
 
-    def end(number, _):
-        raise Ended(number)
+    def look():
+        if kept:
+            raise Ended(kept[0])
 
     caught = [it for it in (signal.SIGINT, signal.SIGTERM, signal.SIGHUP) if signal.getsignal(it) != signal.SIG_IGN]
-    before = {it: signal.signal(it, end) for it in caught}
+    before = {it: signal.signal(it, lambda number, _: kept.append(number)) for it in caught}
     try:
-        yield
+        yield look
     finally:
         for it, handler in before.items():
             signal.signal(it, handler)
+    look()
 
 
 def words_of(program):
@@ -114,10 +118,11 @@ def end_look_at_names(rt):
                 os.kill(number, signal.SIGTERM)
 
 
-def wait_for_program(rt, folder):
+def wait_for_program(rt, folder, look):
     """The open program, wherever below the folder `rt try` has it while it runs, or None where `rt` ends without one. It is whole once `rt`
     has run it."""
     while True:
+        look()
         has_ended = rt.poll() is not None
         end_look_at_names(rt)
         for path in files_below(folder):
@@ -129,30 +134,38 @@ def wait_for_program(rt, folder):
         time.sleep(PAUSE)
 
 
-def try_program(program, folder, given, said):
+def wait_for_end(rt, look):
+    while rt.poll() is None:
+        look()
+        time.sleep(PAUSE)
+
+
+def try_program(program, folder, given, said, look):
     """The open program, or None, after `rt try` has ended; what that says goes to a file."""
     # the interpreter can't run these programs: its steps are few, and the run that is compiled with checks is awaited
     rt = subprocess.Popen(["rt", "try", "--steps", "1", "--", *words_of(program)], cwd=folder_of(program), stdin=given,
-                          stdout=subprocess.DEVNULL, stderr=said, env={**os.environ, "TMPDIR": folder})
+                          stdout=subprocess.DEVNULL, stderr=said, env={**os.environ, "TMPDIR": folder}, start_new_session=True)
     keeper = Keeper(rt, folder)
     try:
-        compiled = wait_for_program(rt, folder)
-        rt.wait()
+        compiled = wait_for_program(rt, folder, look)
+        wait_for_end(rt, look)
         return compiled
     finally:
-        rt.terminate()
+        # the number of one that has ended is its own until it is waited for
+        if rt.poll() is None:
+            process_trees.end_tree(rt.pid)
         rt.wait()
         keeper.dismiss()
 
 
 def compile_program(program):
     """The number of the open file of the program, which stands in no folder any more."""
-    with ending_in_order(), tempfile.TemporaryFile() as given, tempfile.TemporaryFile() as said:
+    with ending_in_order() as look, tempfile.TemporaryFile() as given, tempfile.TemporaryFile() as said:
         given.write(LONG_TEXT)
         given.seek(0)
         folder = tempfile.mkdtemp(prefix=f"{program}-")
         try:
-            compiled = try_program(program, folder, given, said)
+            compiled = try_program(program, folder, given, said, look)
         finally:
             shutil.rmtree(folder, ignore_errors=True)
         said.seek(0)

@@ -248,7 +248,7 @@ def check_drains(checks):
 
 def check_other_words(checks):
     """Words that eevdf_orders doesn't take get one line on standard error, and nothing is ordered."""
-    usage = Printed(b"", 2, b"usage: eevdf_orders [--seed N]\n")
+    usage = Printed(b"", 2, b"usage: eevdf_orders [--seed N] [FILE]\n")
     for words in made.NO_SEEDS:
         checks.compare_errors(f"the words '{words}'", (*ORDERS, *words.split()), made.TO_BE_ORDERED[0], usage)
 

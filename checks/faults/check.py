@@ -4,6 +4,7 @@ output and on standard error, with what stands beside each; with words only thos
 'N passed, M failed'. TOP names another checkout whose programs are tried."""
 
 import os
+import re
 import sys
 import tempfile
 from pathlib import Path
@@ -12,14 +13,20 @@ sys.path.append(str(Path(__file__).resolve().parents[1]))
 
 from documents import DOCUMENTS, NO_SCRIPT  # noqa: E402
 from marked import said_of  # noqa: E402
-from runner import Checks, Printed, built, run  # noqa: E402
+from refused import NOT_ORDERED, OF_SCRIPTS, UNDONE, with_parts  # noqa: E402
+from runner import TOP, Checks, Printed, built, run  # noqa: E402
 from unread import OF_MISSING, PLAIN, UNREAD  # noqa: E402
 from words import TEXT, WORDS  # noqa: E402
 
 PROGRAMS = ("eevdf", "eevdf_orders", "eevdf_timeline")
 
+HEADER = (TOP / "include" / "eevdf.h").read_text()
+# The version of the library, which the programs have too.
+VERSION = ".".join(re.search(rf"^#define EEVDF_VERSION_{part} (\d+)$", HEADER, re.MULTILINE)[1] for part in ("MAJOR", "MINOR", "PATCH"))
+
 # A workload for each program alone, with what comes on standard error behind the line of the fault.
 WITH_ORDER = b'version = 1\nprogram = [["pick"]]\norder = [0]\n[[task]]\n'
+ORDERED = "this order is there already, and `eevdf replay` plays it"
 OTHER_SOURCES = "a workload with an order is drawn with --replay, and one of programs alone with --run\n"
 
 
@@ -42,32 +49,95 @@ def check_others(checks, programs):
     said = f"fault: missing script\n{said_of('', NO_SCRIPT)}{OTHER_SOURCES}"
     look(checks, "eevdf_timeline without a script", run([programs.path("eevdf_timeline")], WITH_ORDER), Printed(b"", 1, said.encode()))
     ordered = run([programs.path("eevdf_orders")], WITH_ORDER)
-    look(checks, "eevdf_orders of an order", ordered, Printed(b"", 1, b"fault: workload has an order already\n"))
+    order = said_of(WITH_ORDER.decode().replace("order = [0]", "order = «[0]»"), ORDERED)
+    look(checks, "eevdf_orders of an order", ordered, Printed(b"", 1, f"fault: workload has an order already\n{order}".encode()))
 
 
 def check_unread(checks, programs):
     """Keys that nothing reads are told, and all else is as without them."""
     for program, words in (("eevdf", ["solo"]), ("eevdf_orders", []), ("eevdf_timeline", ["--stats"])):
         command = [programs.path(program), *words]
+        # their script isn't ordered
+        behind = NOT_ORDERED if program == "eevdf_orders" else ""
         plain = run(command, PLAIN.encode())
-        look(checks, f"{program}: no key that nothing reads", plain, Printed(plain.out))
+        look(checks, f"{program}: no key that nothing reads", plain, Printed(plain.out, 0, behind.encode()))
         for case in UNREAD:
             printed = run(command, case.text)
-            told = Printed(printed.out if program == "eevdf_orders" else plain.out, 0, case.said.encode())
+            told = Printed(printed.out if program == "eevdf_orders" else plain.out, 0, (case.said + behind).encode())
             look(checks, f"{program}: {case.name}", printed, told)
 
 
+def check_refused(checks, programs):
+    """Deeds that are refused are told, and all else is as it is."""
+    eevdf = programs.path("eevdf")
+    for case in OF_SCRIPTS:
+        for words in ([], ["--history"]):
+            report = run([eevdf, "solo", *words], case.text)
+            is_report = (report.status, report.errors) == (0, case.said.encode()) and report.out.startswith(b"cpu 0\n")
+            checks.expect(f"eevdf solo {words}: {case.name}", report, is_report)
+        drawn = run([programs.path("eevdf_timeline"), "--stats"], case.text)
+        checks.expect(f"eevdf_timeline: {case.name}", drawn, (drawn.status, drawn.errors) == (0, case.said.encode()))
+
+
+def check_undone(checks, programs):
+    """What a command doesn't do of a workload is told in a line."""
+    for command, parts, said in UNDONE:
+        text = with_parts(parts)
+        printed = run([programs.path("eevdf"), command], text)
+        is_told = (printed.status, printed.errors) == (0, said.encode()) and printed.out.startswith(b"cpu 0\n")
+        checks.expect(f"eevdf {command} of {parts!r}", printed, is_told)
+    for parts, said in ((parts, NOT_ORDERED if "script" in parts else "") for _, parts, _ in UNDONE if "order" not in parts):
+        printed = run([programs.path("eevdf_orders")], with_parts(parts))
+        checks.expect(f"eevdf_orders of {parts!r}", printed, (printed.status, printed.errors) == (0, said.encode()))
+
+
+def of_file(name, said):
+    """What is said of a workload, as it is said of a file: each line with a place begins with the name."""
+    return re.sub(r"^line (\d+), column (\d+): ", rf"{name}:\1:\2: ", said, flags=re.MULTILINE)
+
+
 def check_files(checks, programs, folder):
-    """A file as the last word is read in place of standard input."""
+    """A file in any place behind the command is read in place of standard input, and `-` stands for that."""
     file = Path(folder) / "workload.toml"
     file.write_bytes(TEXT)
-    for program, words in (("eevdf", ["solo"]), ("eevdf", ["solo", "--history"]), ("eevdf_orders", []), ("eevdf_orders", ["--seed", "7"]),
-                           ("eevdf_timeline", ["--stats"]), ("eevdf_timeline", [])):
-        given = run([programs.path(program), *words], TEXT)
-        named = run([programs.path(program), *words, file], b"")
-        checks.expect(f"{program} {' '.join(words)} of a file", named, given.status == 0 and named == given)
-    # a folder can be opened and not read
-    look(checks, "eevdf solo of a folder", run([programs.path("eevdf"), "solo", folder]), Printed(b"fault: reading\n", 3))
+    for program, command, words in (("eevdf", ["solo"], []), ("eevdf", ["solo"], ["--history"]),
+                                    ("eevdf_orders", [], []), ("eevdf_orders", [], ["--seed", "7"]), ("eevdf_timeline", [], []),
+                                    ("eevdf_timeline", [], ["--stats"]), ("eevdf_timeline", [], ["--cpu", "0", "--perfetto"])):
+        given = run([programs.path(program), *command, *words], TEXT)
+        for name, data in ((str(file), b""), ("-", TEXT)):
+            for order in ([*words, name], [name, *words]):
+                named = run([programs.path(program), *command, *order], data)
+                checks.expect(f"{program} {' '.join((*command, *order))}", named, given.status == 0 and named == given)
+
+
+def check_file_names(checks, programs, folder):
+    """What is said of a file begins with its name."""
+    eevdf, file = programs.path("eevdf"), Path(folder) / "faulty.toml"
+    for case in (*DOCUMENTS, OF_MISSING):
+        file.write_bytes(case.text)
+        said = of_file(file, case.said)
+        wanted = said if case.said.startswith("line ") else f"{file}: {said}"
+        look(checks, f"{case.name}, in a file", run([eevdf, *case.words, file]), Printed(case.line.encode(), case.status, wanted.encode()))
+    for case in (*UNREAD, *OF_SCRIPTS):
+        file.write_bytes(case.text)
+        said = of_file(file, case.said)
+        wanted = f"{file}: {said}" if said.startswith("script at ") else said
+        printed = run([eevdf, "solo", file])
+        checks.expect(f"{case.name}, in a file", printed, (printed.status, printed.errors) == (0, wanted.encode()))
+    named = Path(folder) / "a\x1b[31mb.toml"
+    named.write_bytes(b"version = 4\n")
+    printed = run([eevdf, "solo", named])
+    shown = f"{folder}/a\\u{{1b}}[31mb.toml:1:11: ".encode()
+    checks.expect("a name with what a terminal would obey", printed, printed.errors.startswith(shown) and b"\x1b" not in printed.errors)
+
+
+def check_unreadable(checks, programs, folder):
+    """A folder can be opened and not read: its name is said, and why."""
+    said = f"{folder}: Is a directory (os error 21)\n"
+    look(checks, "eevdf solo of a folder", run([programs.path("eevdf"), "solo", folder]), Printed(b"fault: reading\n", 3, said.encode()))
+    for program in ("eevdf_orders", "eevdf_timeline"):
+        printed = run([programs.path(program), folder])
+        look(checks, f"{program} of a folder", printed, Printed(b"", 3, f"fault: reading\n{said}".encode()))
 
 
 def check_help(checks, programs):
@@ -78,25 +148,25 @@ def check_help(checks, programs):
             is_help = (printed.status, printed.errors) == (0, b"") and len(lines) > 8 and lines[2].startswith(f"usage: {program} ")
             told = all(any(line.lstrip().startswith(word) for line in lines) for word in ("FILE", "--help", "--version", "example: "))
             checks.expect(f"{program} {' '.join(words)}", printed, is_help and told and "docs/formats.md" in printed.out.decode())
-        look(checks, f"{program} --version", run([programs.path(program), "--version"]), Printed(f"{program} 0.2.0\n".encode()))
+        look(checks, f"{program} --version", run([programs.path(program), "--version"]), Printed(f"{program} {VERSION}\n".encode()))
 
 
 def check_writes(checks, programs):
     """A write that fails is told on standard error, and a pipe that nobody reads isn't."""
     words = {"eevdf": ["solo"], "eevdf_orders": [], "eevdf_timeline": []}
-    for program in PROGRAMS:
-        command = [programs.path(program), *words[program]]
+    for program, asked in ((program, asked) for program in PROGRAMS for asked in (words[program], ["--help"], ["--version"])):
+        command = [programs.path(program), *asked]
         if Path("/dev/full").is_char_device():
             with open("/dev/full", "wb") as full:
-                look(checks, f"{program} into a full device", run(command, TEXT, stdout=full), Printed(b"", 3, b"fault: writing\n"))
+                look(checks, f"{program} {asked} into a full device", run(command, TEXT, stdout=full), Printed(b"", 3, b"fault: writing\n"))
         else:
-            checks.leave_out(f"{program} into a full device", "there is no /dev/full")
+            checks.leave_out(f"{program} {asked} into a full device", "there is no /dev/full")
         reading, writing = os.pipe()
         os.close(reading)
         with open(writing, "wb") as pipe:
-            look(checks, f"{program} into a pipe that nobody reads", run(command, TEXT, stdout=pipe), Printed(b"", 3))
+            look(checks, f"{program} {asked} into a pipe that nobody reads", run(command, TEXT, stdout=pipe), Printed(b"", 3))
         closed = run(["sh", "-c", '"$@" >&-', "sh", *map(str, command)], TEXT)
-        look(checks, f"{program} without a standard output", closed, Printed(b"", 3, b"fault: writing\n"))
+        look(checks, f"{program} {asked} without a standard output", closed, Printed(b"", 3, b"fault: writing\n"))
 
 
 def main():
@@ -108,8 +178,12 @@ def main():
     if not chosen:
         check_others(checks, programs)
         check_unread(checks, programs)
+        check_refused(checks, programs)
+        check_undone(checks, programs)
         with tempfile.TemporaryDirectory() as folder:
             check_files(checks, programs, folder)
+            check_file_names(checks, programs, folder)
+            check_unreadable(checks, programs, folder)
         check_help(checks, programs)
         check_writes(checks, programs)
     return checks.end()

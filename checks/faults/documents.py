@@ -4,10 +4,16 @@ from marked import Case, document
 
 NO_TOML = "not a TOML document"
 TASKS = "[[task]]\n[[task]]\nhome = 1\n"
+# The words that are known, by version.
+IN_SCRIPTS_OF_ONE = "operations are tick, pick, yield, sleep, pull, wake"
+IN_PROGRAMS_OF_ONE = "operations are tick, pick, yield, sleep, pull, post, drain"
 IN_SCRIPTS = "operations are tick, pick, yield, sleep, pull, renice, wake"
 IN_PROGRAMS = "operations are tick, pick, yield, sleep, pull, renice, post, drain"
 IN_SCRIPTS_OF_THREE = "operations are tick, pick, yield, sleep, pull, renice, begin, end, set, rebase, wake"
 IN_PROGRAMS_OF_THREE = "operations are tick, pick, yield, sleep, pull, renice, begin, end, set, rebase, post, drain"
+NEAREST = "the nearest that is known is"
+NO_NUMBER = 'the number of a CPU stands in scripts alone; an operation of a program begins with its word, as "pick"'
+NO_WAKE = '"wake" stands in scripts alone; in programs "post" asks for a wake, and "drain" does it'
 NO_SLICE = "a slice is a number of nanoseconds from 100000 to 100000000, and"
 NO_SCRIPT = 'a script is done, and the workload has none: `script = ["0 pick", ..]` before the first [[task]]'
 
@@ -45,8 +51,13 @@ OF_TOML = (
 )
 
 OF_DEEDS = (
-    script("an unknown operation", f'unknown operation "slep"; {IN_SCRIPTS}', '"0 «slep» 1"'),
-    script("the second of two equal deeds that differ in a word", f'unknown operation "pic"; {IN_SCRIPTS}', '"0 «pic»"', "2"),
+    script("an unknown operation", f'unknown operation "slep"; {NEAREST} sleep', '"0 «slep» 1"'),
+    script("two letters of an operation in the other order", f'unknown operation "pcik"; {NEAREST} pick', '"0 «pcik»"', version=1),
+    script("an unknown operation like none", f'unknown operation "nap"; {IN_SCRIPTS}', '"0 «nap» 1"'),
+    script("an unknown operation like none in version 1", f'unknown operation "nap"; {IN_SCRIPTS_OF_ONE}', '"0 «nap» 1"', version=1),
+    script("an operation like one of a later version", f'unknown operation "renise"; {IN_SCRIPTS_OF_ONE}', '"0 «renise» 0 5"', version=1),
+    script("an operation like one of programs", f'unknown operation "drian"; {IN_SCRIPTS}', '"0 «drian»"'),
+    script("the second of two equal deeds that differ in a word", f'unknown operation "pic"; {NEAREST} pick', '"0 «pic»"', "2"),
     script("two spaces", "one space stands between two words, and none before or after", '"0 « »pick"'),
     script("a space in front", "one space stands between two words, and none before or after", '"« »0 pick"'),
     script("a space at the end", "one space stands between two words, and none before or after", '"0 pick« »"'),
@@ -64,16 +75,19 @@ OF_DEEDS = (
     script("a pull from itself", "CPU 1 pulls from itself", '"1 pull «1»"'),
     script("a post in a script", f'"post" stands in programs alone; operations of a script are {IN_SCRIPTS.split(" are ")[1]}',
            '"0 «post» 1"'),
+    script("a drain in a script of version 1",
+           f'"drain" stands in programs alone; operations of a script are {IN_SCRIPTS_OF_ONE.split(" are ")[1]}', '"0 «drain»"', version=1),
     script("a word too many", 'nothing is expected any more, and "now" stands here', '"0 pick «now»"'),
     script("a wake without a sender", 'a wake names the CPU that asks for it, as "0 wake 3 from 1"', '"1 wake 1«»"'),
     script("a wake by an unknown sender", "CPU 5 is not in the workload, which has CPUs 0 to 1", '"1 wake 1 from «5»"'),
     script("a nice level too high", 'a nice level is a number from -20 to 19, and "20" is none', '"0 renice 0 «20»"'),
     script("a renice in version 1", '"renice" is known from version 2 on', '"0 «renice» 0 5"', version=1),
-    script("a begin in version 2", f'unknown operation "begin"; {IN_SCRIPTS}', '"0 «begin» 0 5 3000000"'),
-    script("an end in version 1", f'unknown operation "end"; {IN_SCRIPTS}', '"0 «end» 0"', version=1),
-    script("a set in version 2", f'unknown operation "set"; {IN_SCRIPTS}', '"0 «set» 0 5 3000000"'),
-    script("a rebase in version 2", f'unknown operation "rebase"; {IN_SCRIPTS}', '"0 «rebase»"'),
-    script("an unknown operation in version 3", f'unknown operation "slep"; {IN_SCRIPTS_OF_THREE}', '"0 «slep» 1"', version=3),
+    script("a begin in version 2", '"begin" is known from version 3 on', '"0 «begin» 0 5 3000000"'),
+    script("an end in version 1", '"end" is known from version 3 on', '"0 «end» 0"', version=1),
+    script("a set in version 2", '"set" is known from version 3 on', '"0 «set» 0 5 3000000"'),
+    script("a rebase in version 2", '"rebase" is known from version 3 on', '"0 «rebase»"'),
+    script("an unknown operation in version 3", f'unknown operation "nap"; {IN_SCRIPTS_OF_THREE}', '"0 «nap» 1"', version=3),
+    script("an unknown operation like one of version 3", f'unknown operation "rebaes"; {NEAREST} rebase', '"0 «rebaes»"', version=3),
     script("a post in a script of version 3",
            f'"post" stands in programs alone; operations of a script are {IN_SCRIPTS_OF_THREE.split(" are ")[1]}', '"0 «post» 1"', version=3),
     script("a begin away from home", "task 1 begins at its home, CPU 1", '"«0» begin 1 0 3000000"', version=3),
@@ -88,18 +102,25 @@ OF_DEEDS = (
     script("an end of an unknown task", "task 9 is not in the workload, which has tasks 0 to 1", '"0 end «9»"', version=3),
     script("a rebase by a number", 'nothing is expected any more, and "5" stands here', '"0 rebase «5»"', version=3),
     script("a number for a deed", 'a deed is a string, as "0 tick 1000000", and this is of type integer', "«7»"),
-    script("a deed between other quotes", f'unknown operation "slep"; {IN_SCRIPTS}', "'0 «slep» 1'"),
-    script("a deed with an escape", f'unknown operation "slep"; {IN_SCRIPTS}', '«"0 sl\\u0065p 1"»'),
+    script("a deed between other quotes", f'unknown operation "slep"; {NEAREST} sleep', "'0 «slep» 1'"),
+    script("a deed with an escape", f'unknown operation "slep"; {NEAREST} sleep', '«"0 sl\\u0065p 1"»'),
     script("a word that a terminal would obey", f'unknown operation "\\u{{1b}}[31m"; {IN_SCRIPTS}', '«"0 \\u001b[31m"»'),
-    document("a deed behind a comment with quotes", "bad value at script at 1", f'unknown operation "slep"; {IN_SCRIPTS}',
+    document("a deed behind a comment with quotes", "bad value at script at 1", f'unknown operation "slep"; {NEAREST} sleep',
              'version = 1\nprogram = [[], []]\nscript = [ # "0 slep", ]\n  "0 pick", # [\n  "0 «slep»",\n]\n' + TASKS),
-    document("a deed behind letters of two bytes", "bad value at script at 0", f'unknown operation "slep"; {IN_SCRIPTS}',
+    document("a deed behind letters of two bytes", "bad value at script at 0", f'unknown operation "slep"; {NEAREST} sleep',
              'version = 1\nprogram = [[], []]\n"script" = [ "0 «slep» äöü" ] # äöü\n' + TASKS),
 )
 
 OF_OPERATIONS = (
     operation("an unknown operation of a program", f'unknown operation "nap"; {IN_PROGRAMS}', '"«nap»"'),
-    operation("a wake in a program", f'unknown operation "wake"; {IN_PROGRAMS}', '"«wake» 1 from 0"'),
+    operation("a wake in a program", NO_WAKE, '"«wake» 1 from 0"'),
+    operation("an operation with the number of a CPU", NO_NUMBER, '"«0» pick"'),
+    operation("an operation with the number of a CPU that isn't there", NO_NUMBER, '"pick", "«12» wake 1 from 0"',
+              "bad value at program 0 at 1"),
+    operation("an operation of a program with a letter too few", f'unknown operation "drin"; {NEAREST} drain', '"«drin»"'),
+    operation("an operation of a program like one of scripts", f'unknown operation "waek"; {IN_PROGRAMS}', '"«waek» 1"'),
+    operation("an operation of a program that is like none in version 1", f'unknown operation "nap"; {IN_PROGRAMS_OF_ONE}', '"«nap»"',
+              version=1),
     operation("a boolean for an operation", 'an operation is a string, as "tick 1000000", and this is of type boolean', "«true»"),
     operation("a task of a program that the workload hasn't", "task 5 is not in the workload, which has tasks 0 to 1",
               '"pick", "sleep «5»"', "unknown task at program 0 at 1"),
@@ -107,7 +128,7 @@ OF_OPERATIONS = (
     operation("a program that pulls from nowhere", "CPU 7 is not in the workload, which has CPUs 0 to 1", '"pull «7»"',
               "bad pull at program 0 at 0"),
     operation("an unknown operation of a program in version 3", f'unknown operation "nap"; {IN_PROGRAMS_OF_THREE}', '"«nap»"', version=3),
-    operation("a begin of a program in version 2", f'unknown operation "begin"; {IN_PROGRAMS}', '"«begin» 0 0 3000000"'),
+    operation("a begin of a program in version 2", '"begin" is known from version 3 on', '"«begin» 0 0 3000000"'),
     operation("a program that begins a task of another home", "task 1 begins at its home, CPU 1", '"pick", "begin «1» 0 3000000"',
               "bad begin at program 0 at 1", version=3),
     operation("a program that begins a task that the workload hasn't", "task 2 is not in the workload, which has tasks 0 to 1",
@@ -154,6 +175,37 @@ OF_KEYS = (
     key("a number for asleep", "asleep", "asleep is true or false, and this is of type integer", "asleep = «1»"),
     document("a key of an inline task", "bad value at task 1 nice", "nice is an integer from -20 to 19",
              "version = 1\nprogram = [[]]\ntask = [{home = 0, nice = 3}, {nice = «-21», home = 0}]\n"),
+    document("a key of an inline task with a dot", "bad value at task 1 slice",
+             "slice is an integer from 100000 to 100000000, in nanoseconds",
+             "version = 1\nprogram = [[]]\ntask = [{slice = 100000}, {home = 0, «slice» . ns = 100000}]\n"),
+    key("a nice level with a dot behind it", "nice", "nice is an integer from -20 to 19", "home = 0\n«nice».x = 3"),
+    key("a nice level in quotes with a dot behind it", "nice", "nice is an integer from -20 to 19", '"«nice»".x.y = 3'),
+    key("a table for a nice level", "nice", "nice is an integer from -20 to 19", "home = 0\n[task.«nice»]\nnice = 3"),
+    key("tables for a start", "start", "start is an integer, and this is of type array", "[[task.«start»]]\n[[task.start]]"),
+    key("a table in a table for asleep", "asleep", "asleep is true or false, and this is of type table", "[ task . «asleep» . x ]"),
+    document("a table for a nice level of the first task", "bad value at task 0 nice", "nice is an integer from -20 to 19",
+             "version = 1\nprogram = [[]]\n[[task]]\n[task.home2]\nnice = 3\n[task.«nice»]\n[[task]]\nnice = 3\n[[task]]\n[task.nice2]\n"),
+    document("a program with a dot behind it", "bad value at program",
+             "program is an array with a list for each CPU, and this is of type table", "version = 1\n«program».a = 1\n[[task]]\n"),
+    document("a table that is the program", "bad value at program",
+             "program is an array with a list for each CPU, and this is of type table", "version = 1\n[[task]]\n«[program]»\n"),
+    document("a table in the program", "bad value at program",
+             "program is an array with a list for each CPU, and this is of type table", "version = 1\n[[task]]\n[«program».a]\n"),
+    document("a script with a dot behind it", "bad value at script",
+             "script is an array of strings, each a deed, and this is of type table",
+             "version = 1\nprogram = [[]]\n«script».x = 1\n[[task]]\n"),
+    document("tables that are the script", "bad value at script at 0",
+             'a deed is a string, as "0 tick 1000000", and this is of type table', "version = 1\nprogram = [[]]\n[[task]]\n[[«script»]]\n"),
+    document("an order with a dot behind it", "bad value at order",
+             "order is an array of the numbers of callers, and this is of type table",
+             "version = 1\nprogram = [[]]\n«order».first = 0\n[[task]]\n"),
+    document("tables that are the order", "bad value at order at 0", "a caller is an integer from 0 on",
+             "version = 1\nprogram = [[]]\n[[task]]\n[[«order»]]\n[[order]]\n"),
+    document("a version with a dot in it", "bad value at version", "the version is the integer 1, 2 or 3", "«version».major = 1\n"),
+    document("a version that is a table", "bad value at version", "the version is the integer 1, 2 or 3",
+             "[[task]]\n[«version»]\nmajor = 1\n"),
+    document("a task with a dot behind it", "bad value at task", "task is an array of tables, written [[task]], and this is of type table",
+             "version = 1\nprogram = [[]]\n«task».home = 0\n"),
 )
 
 OF_SETUPS = (

@@ -11,8 +11,9 @@ PLAIN = f"{TOP}[[task]]\n"
 OF_WORKLOADS = "keys of a workload are version, program, order, script, task"
 OF_TASKS = "keys of a task are home, nice, slice, start, asleep"
 NEAREST = "the nearest that is known is"
-# The keys that are told at most.
+# The keys that are told at most, and what is said of the one after them.
 MOST = 10
+NOT_TOLD = "nothing reads this key either; ten are told at most, and there may be more"
 
 
 @dataclass(frozen=True)
@@ -57,8 +58,15 @@ UNREAD = (
            f'nothing reads the key "note" of a task; {OF_TASKS}'),
     unread("two keys", f"«version2» = 2\n{PLAIN}«Home» = 0\n", f'nothing reads the key "version2"; {NEAREST} version',
            f'nothing reads the key "Home" of a task; {NEAREST} home'),
-    unread("more keys than are told", PLAIN + "".join(f"«key{place}» = 1\n" for place in range(MOST)) + "more = 1\n",
+    unread("ten keys", PLAIN + "".join(f"«key{place}» = 1\n" for place in range(MOST)),
            *(f'nothing reads the key "key{place}" of a task; {OF_TASKS}' for place in range(MOST))),
+    unread("more keys than are told", PLAIN + "".join(f"«key{place}» = 1\n" for place in range(MOST)) + "«more» = 1\nand_more = 1\n",
+           *(f'nothing reads the key "key{place}" of a task; {OF_TASKS}' for place in range(MOST)), NOT_TOLD),
+    unread("more keys of inline tasks than are told",
+           f"{TOP}task = [{{ {', '.join(f'«key{place}» = 1' for place in range(MOST))}, «more» = 1, and_more = 1 }}]\n",
+           *(f'nothing reads the key "key{place}" of a task; {OF_TASKS}' for place in range(MOST)), NOT_TOLD),
+    unread("a key with a dot in it", f"{PLAIN}«cpus».first = 0\n", f'nothing reads the key "cpus" of a task; {OF_TASKS}'),
+    unread("a table in a task", f"{PLAIN}[task.«niec»]\nnice = 5\n", f'nothing reads the key "niec" of a task; {NEAREST} nice'),
 )
 
 # A key that is missing, and one that nothing reads and that may be it.

@@ -3,9 +3,10 @@
 from marked import Case
 
 USAGE = {
-    "eevdf": "usage: eevdf solo|replay|run [--history]\n",
-    "eevdf_orders": "usage: eevdf_orders [--seed N]\n",
-    "eevdf_timeline": "usage: eevdf_timeline [--replay|--run] [--perfetto|--stats [--json]] [--from NS] [--to NS] [--cpu N,..] [--task N,..]\n",
+    "eevdf": "usage: eevdf solo|replay|run [--history] [FILE]\n",
+    "eevdf_orders": "usage: eevdf_orders [--seed N] [FILE]\n",
+    "eevdf_timeline": "usage: eevdf_timeline [--replay|--run] [--perfetto|--stats [--json]] [--from NS] [--to NS] [--cpu N,..] [--task N,..]"
+                      " [FILE]\n",
 }
 COMMANDS = "commands are solo, replay, run\n"
 BEHIND = "behind a command stand --history and the name of a file\n"
@@ -26,12 +27,19 @@ WORDS = (
     words("eevdf", "sol", f'unknown command "sol"; {COMMANDS}'),
     words("eevdf", "--history solo", f'unknown command "--history"; {COMMANDS}'),
     words("eevdf", "solo --histories", f'unknown word "--histories"; {BEHIND}'),
-    words("eevdf", "solo a --history", f'unknown word "a"; {BEHIND}'),
+    words("eevdf", "solo a b", 'one file is read, "a", and "b" is another\n'),
+    words("eevdf", "solo --history a - b", 'one file is read, "a", and "-" is another\n'),
+    words("eevdf", f"solo {NOT_THERE} --histories", f'unknown word "--histories"; {BEHIND}'),
     words("eevdf", "solo --history --history", "--history stands once\n"),
+    words("eevdf", f"solo {NOT_THERE} --history", f"{NOT_THERE}: No such file or directory (os error 2)\n"),
+    words("eevdf", "solo no\x1b[31mfile", "no\\u{1b}[31mfile: No such file or directory (os error 2)\n"),
     words("eevdf", f"solo {NOT_THERE}", f"{NOT_THERE}: No such file or directory (os error 2)\n"),
     words("eevdf_orders", "--seed", "--seed stands once, and takes a whole number below 2^64\n"),
     words("eevdf_orders", "--seed x", f'{NO_SEED} "x" is none\n'),
     words("eevdf_orders", "--seed -1", f'{NO_SEED} "-1" is none\n'),
+    words("eevdf_orders", "a b", 'one file is read, and "b" is another\n'),
+    words("eevdf_orders", f"{NOT_THERE} --seed 1", f"{NOT_THERE}: No such file or directory (os error 2)\n"),
+    words("eevdf_orders", "--seeds 1", 'unknown word "--seeds"; words are --seed with a number, and the name of a file\n'),
     words("eevdf_orders", "--sed 1", 'unknown word "--sed"; words are --seed with a number, and the name of a file\n'),
     words("eevdf_orders", "--seed 1 --seed 2", "--seed stands once, and takes a whole number below 2^64\n"),
     words("eevdf_timeline", "--replay --run", "--replay and --run exclude each other\n"),
@@ -45,5 +53,11 @@ WORDS = (
     words("eevdf_timeline", "--task 5000", '--task takes numbers from 0 to 1023 with commas between them, and "5000" is none\n'),
     words("eevdf_timeline", "--cpu 9", "--cpu 9: the workload has no CPU 9\n"),
     words("eevdf_timeline", "--task 0,8", "--task 8: the workload has no task 8\n"),
+    words("eevdf_timeline", "--cpu=", '--cpu takes numbers from 0 to 63 with commas between them, and the end is none\n'),
+    words("eevdf_timeline", "--cpu=64 --run", '--cpu takes numbers from 0 to 63 with commas between them, and "64" is none\n'),
+    words("eevdf_timeline", "--from=x", '--from takes a whole number of nanoseconds below 2^64, and "x" is none\n'),
+    words("eevdf_timeline", "--stats --from=1", "figures are of the whole schedule: --stats excludes --from and --to\n"),
+    words("eevdf_timeline", "a --cpu 0 b", 'one file is read, and "b" is another\n'),
+    words("eevdf_timeline", f"{NOT_THERE} --stats", f"{NOT_THERE}: No such file or directory (os error 2)\n"),
     words("eevdf_timeline", "--rerun", 'unknown word "--rerun"; --help names those that are known\n'),
 )

@@ -85,6 +85,9 @@ SCRIPTS_OF_THREE = (
          said("set 0 -20 100000000: set", DEEDS, "load 0 floor 0", "asleep 0 lag 0")),
     Text("the longest script of rebases", sent(b"rebase"),
          said("rebase: rebased 0", DEEDS, "load 1024 floor 0", "task 0 v 0 d 3000000 lag 0")),
+    # a walk over all tasks at each of them took 11 seconds
+    Text("the longest script of rebases of all tasks", sent(b"rebase", tasks=TASK * 1024),
+         said("rebase: rebased 0", DEEDS, "load 1048576 floor 0", *[f"task {task} v 0 d 3000000 lag 0" for task in range(1024)])),
     Text("a script of version 3 of one deed more", sent(b"rebase", DEEDS + 1), fault("bad value at script")),
     Text("rebases", filled(b'"0 rebase",', HEAD, b"]" + TASK), fault("bad value at script")),
     Text("a slice too short behind the longest script", sent(b"rebase", DEEDS - 1, last=b"set 0 0 99999"),

@@ -155,6 +155,13 @@ def check_late_pull(checks):
     expect("what is before the time", [event for event in part if event["ph"] != "M" and event["ts"] + event.get("dur", 0) < 2], [])
 
 
+def check_alone(checks):
+    """A task that is alone has all of the time, and its weight gives it all, if that is one nanosecond too."""
+    rows = json.loads(checks.written(("--stats", "--json"), made.alone()))["tasks"]
+    expect("the shares", {(row["share_permille"], row["weight_share_permille"]) for row in rows}, {(1000, 1000)})
+    check_script(checks, made.alone())
+
+
 def check_crowd(checks):
     """Of more chosen tasks the first 16 have curves, and the picture says so."""
     names = ",".join(map(str, range(5, 30)))
@@ -166,7 +173,7 @@ def check_crowd(checks):
 
 def check_made(checks):
     for name, check in (("choices", check_choices), ("yields of tasks", check_yields), ("an early arrow", check_late_pull),
-                        ("30 tasks", check_crowd), ("3000 stretches", check_dense)):
+                        ("a task alone of each level", check_alone), ("30 tasks", check_crowd), ("3000 stretches", check_dense)):
         checks.attempt(name, check, checks)
     checks.attempt("an empty machine", check_script, checks, made.empty())
     checks.attempt(f"{COMPARED} deeds", check_script, checks, made.longest(COMPARED))

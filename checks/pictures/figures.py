@@ -11,18 +11,16 @@ TASK_HEADINGS = ("task", "ran ns", "share", "weight", "greatest lag ns", "least 
 CPU_HEADINGS = ("cpu", "charged ns", "load", "idle ticks", "idle ns", "pulls in", "pulls out")
 
 
-def is_share_of(said, exact, shared, deeds):
-    """A share is cut to thousandths, of nanoseconds that were cut too, at each deed at most."""
-    return said == exact or None not in (said, exact) and -1.01 - 1000 * (1 + deeds) / shared <= said - exact <= 0.01
+def is_within(share, least, greatest):
+    return share == least or None not in (share, least) and least <= share <= greatest
 
 
 def check_json(text, timeline):
     said, wanted = json.loads(text), figures_of(timeline)
-    for row, right, task in zip(said["tasks"], wanted["tasks"], timeline.tasks, strict=True):
-        if not is_share_of(row["weight_share_permille"], right["weight_share_permille"], task.shared, len(timeline.moments)):
-            raise Wrong(f"the weight's share of {row}, and not {float(right['weight_share_permille'])}")
-        row.pop("weight_share_permille")
-        right.pop("weight_share_permille")
+    for row, right in zip(said["tasks"], wanted["tasks"], strict=True):
+        share, bounds = row.pop("weight_share_permille"), right.pop("weight_share_permille")
+        if not is_within(share, *bounds):
+            raise Wrong(f"the weight's share {share} of {row}, and not {bounds}")
     expect("the figures", said, wanted)
 
 

@@ -51,6 +51,12 @@ def empty():
     return workload(1, [task_text(0, 0, 3000000, 0, True)], [])
 
 
+def alone():
+    """40 CPUs, each with one task, of each level, which runs for a nanosecond."""
+    tasks = [task_text(cpu, cpu - 20, 3000000, 0, False) for cpu in range(40)]
+    return workload(40, tasks, [deed for cpu in range(40) for deed in (f"{cpu} pick", f"{cpu} tick 1")])
+
+
 def widest():
     """64 CPUs with 1024 tasks, each of which is picked and runs."""
     tasks = [task_text(task % 64, task % 40 - 20, 3000000, 0, False) for task in range(1024)]

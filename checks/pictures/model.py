@@ -32,15 +32,28 @@ class Moment:
         return int(self.answer.split()[1]) if self.answer.startswith("charged") else None
 
 
+# What is too little by less than this may be a whole nanosecond.
+LACKING = Fraction(1, 10**6)
+
+
 @dataclass
 class TaskFigures:
     ran: int = 0
     shared: int = 0
+    # what the weight gives since the task came or changed, and the least and the greatest number of nanoseconds that it gave before
     fair: Fraction = Fraction(0)
+    least_fair: int = 0
+    greatest_fair: int = 0
     lags: list = field(default_factory=list)
     picks: int = 0
     preempted: int = 0
     waits: list = field(default_factory=list)
+
+    def end_stay(self):
+        """What the weight gives is cut where the task leaves a queue or joins it anew."""
+        self.least_fair += int(self.fair)
+        self.greatest_fair += int(self.fair + LACKING)
+        self.fair = Fraction(0)
 
 
 @dataclass
@@ -90,6 +103,8 @@ class Timeline:
             self.do(cpu, deed)
         for cpu, queue in enumerate(self.queues):
             self.cpus[cpu].load = queue.load()
+        for task in self.tasks:
+            task.end_stay()
 
     def end(self):
         return max((moment.end for moment in self.moments), default=0)
@@ -161,6 +176,10 @@ class Timeline:
     def count(self, moment, running):
         words, cpu = moment.answer.split(), self.cpus[moment.cpu]
         ns = moment.end - moment.begin
+        if words[0] == "pulled":
+            self.tasks[int(words[1])].end_stay()
+        elif words[0] in ("slept", "ended", "reniced", "set"):
+            self.tasks[moment.deed[1]].end_stay()
         if words[0] == "charged":
             self.count_charge(moment.cpu, int(words[1]), ns)
         elif moment.deed[0] == "tick" and words[0] == "idle":
@@ -242,16 +261,16 @@ def percentile(waits):
 
 
 def permille(part, all_of_it):
-    return int(1000 * part / all_of_it) if all_of_it else None
+    return 1000 * part // all_of_it if all_of_it else None
 
 
 def figures_of(timeline):
-    """The rows of the table, of tasks and of CPUs. The share by weight is a fraction still."""
+    """The rows of the table, of tasks and of CPUs. The share by weight is the least and the greatest that it may be."""
     tasks = [{
         "task": number,
         "ran_ns": task.ran,
-        "share_permille": permille(Fraction(task.ran), task.shared),
-        "weight_share_permille": 1000 * task.fair / task.shared if task.shared else None,
+        "share_permille": permille(task.ran, task.shared),
+        "weight_share_permille": (permille(task.least_fair, task.shared), permille(task.greatest_fair, task.shared)),
         "greatest_lag_ns": max(task.lags, default=None),
         "least_lag_ns": min(task.lags, default=None),
         "picks": task.picks,

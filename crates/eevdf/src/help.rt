@@ -1,10 +1,7 @@
 //! What the program says of itself.
 
 /// What is printed where the words aren't known.
-pub(crate) const USAGE: &[u8] = b"usage: eevdf solo|replay|run [--history]\n";
-
-/// What `--version` prints.
-pub(crate) const VERSION: &[u8] = b"eevdf 0.2.0\n";
+pub(crate) const USAGE: &[u8] = b"usage: eevdf solo|replay|run [--history] [FILE]\n";
 
 /// What `--help` prints.
 pub(crate) const HELP: &[u8] = b"\
@@ -16,7 +13,7 @@ usage: eevdf solo|replay|run [--history] [FILE]
   replay       plays the programs of the CPUs step by step, in the workload's order
   run          runs the programs at the same time, each by a thread of its own
   --history    prints the deeds of all CPUs too, in the order in which they were done
-  FILE         the workload; without it, standard input is read
+  FILE         the workload; without it, or where it is -, standard input is read
   --help, -h   prints this
   --version    prints the version
 

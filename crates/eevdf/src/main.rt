@@ -4,12 +4,14 @@
 #![tactic(auto)]
 
 mod help;
+mod words;
 
-use crate::help::{HELP, USAGE, VERSION};
+use crate::help::{HELP, USAGE};
+use crate::words::{Asked, unknown_word, words_of};
 use eevdf_bench::{
-    BenchFault, Command, NO_MEMORY, ProgramTexts, Watched, WorkloadText, command_of,
-    engine_with_input, fault_explanation, fault_text, may_name_file, print, status_of,
-    tell_unread_keys, told_word,
+    BenchFault, NO_MEMORY, ProgramTexts, Reasoned, Watched, WorkloadText, engine_with_input,
+    fault_explanation, fault_text, named_file, print, status_of, tell, tell_notes, tell_reason,
+    tell_text, undone_text,
 };
 use std::alloc::Global;
 use std::fs::Files;
@@ -22,15 +24,10 @@ use std::thread::Threads;
 
 /// What the program says of itself.
 const TEXTS: ProgramTexts = ProgramTexts {
+    name: "eevdf",
     usage: USAGE,
     help: HELP,
-    version: VERSION,
 };
-
-/// The words for commands, which come first, and those that may come behind.
-const COMMANDS: [&str; 3] = ["solo", "replay", "run"];
-
-const FLAGS: [&str; 1] = ["--history"];
 
 fn main(rt: HostRuntime) -> ExitCode {
     let (Ok(status) | Err(status)) = answer(&rt, &rt.stderr(), rt.alloc());
@@ -43,35 +40,21 @@ fn answer<R: Env + AllocGlobal + Files + Input + Print + Threads + Wait + Sync>(
     errors: &impl Print,
     alloc: Global,
 ) -> Result<u8, u8> {
-    let words = TEXTS.words(rt, rt, errors, alloc)?;
-    let (own, file) = with_file(&words);
-    let command = match command_of(alloc, own) {
-        Ok(command) => command,
-        Err(fault) => {
-            let unknown = unknown_word(alloc, own);
-            return Err(TEXTS.refuse(rt, errors, fault, unknown));
+    let mut words = TEXTS.words(rt, rt, errors, alloc)?;
+    let asked = match words_of(alloc, &mut words) {
+        Ok(asked) => asked,
+        Err(refused) => {
+            let unknown = unknown_word(alloc, &words, &refused);
+            return Err(TEXTS.refuse(rt, errors, refused.fault, unknown));
         }
     };
-    Ok(match file {
-        Some(name) => run(
-            rt,
-            errors,
-            alloc,
-            command,
-            TEXTS.open(rt, rt, errors, name)?,
-        ),
-        None => run(rt, errors, alloc, command, rt.reader()),
-    })
-}
-
-/// The words, with the name of a file apart, which may be the last one behind the command.
-fn with_file(words: &[String]) -> (&[String], Option<&str>) {
-    match words {
-        [_, _, .., last] if words.len() > 2 && may_name_file(last.as_str()) => {
-            (&words[..words.len() - 1], Some(last.as_str()))
+    Ok(match named_file(&asked.file) {
+        Some(name) => {
+            let file = TEXTS.open(rt, rt, errors, alloc, name)?;
+            run(rt, errors, alloc, &asked, file)
         }
-        _ => (words, None),
-    }
+        None => run(rt, errors, alloc, &asked, rt.reader()),
+    })
 }
 
 /// Runs the command on the workload that a reader gives, and gives the exit status.
@@ -79,26 +62,40 @@ fn run<R: Print + Threads + Wait + Sync, W: Read + Drop>(
     rt: &R,
     errors: &impl Print,
     alloc: Global,
-    command: Command,
+    asked: &Asked,
     workload: W,
 ) -> u8 {
-    let mut reader = Watched::new(workload);
+    let mut reader = Watched::new(Reasoned::new(workload));
     let mut writer = Watched::new(io::writer(rt));
     let mut input = WorkloadText::new(alloc);
-    match engine_with_input(rt, alloc, &mut reader, &mut writer, command, &mut input) {
-        Ok(()) => tell_unread_keys(errors, alloc, &input),
-        Err(fault) => print_fault(rt, errors, alloc, &input.bytes, &fault),
+    let command = asked.command;
+    let done = engine_with_input(rt, alloc, &mut reader, &mut writer, command, &mut input);
+    let file = named_file(&asked.file);
+    match done {
+        Ok(()) => {
+            tell_notes(errors, alloc, file, &input);
+            if let Some(undone) = undone_text(command.kind, input.notes.parts) {
+                tell(errors, undone.as_bytes());
+            }
+            0
+        }
+        Err(fault) => {
+            let reason = reader.into_inner().reason();
+            print_fault(rt, errors, alloc, file, &input, &fault, reason)
+        }
     }
 }
 
-/// Prints the line of a fault, and on standard error where it stands in the workload. Where standard output takes no line, standard
-/// error has it, but for a pipe that nobody reads any more.
+/// Prints the line of a fault, and on standard error where it stands in the workload, or why that can't be read. Where standard output takes
+/// no line, standard error has it, but for a pipe that nobody reads any more.
 fn print_fault(
     rt: &impl Print,
     errors: &impl Print,
     alloc: Global,
-    input: &[u8],
+    file: Option<&str>,
+    input: &WorkloadText,
     fault: &BenchFault,
+    reason: Option<io::Error>,
 ) -> u8 {
     let Ok(line) = fault_text(alloc, fault) else {
         return print(rt, NO_MEMORY, 3);
@@ -106,39 +103,10 @@ fn print_fault(
     match (io::writer(rt).write_all(&line), fault) {
         (Err(error), _) if error.kind() == ErrorKind::BrokenPipe => {}
         (Err(_), _) | (Ok(()), BenchFault::Write) => tell(errors, &line),
+        (Ok(()), BenchFault::Read) => tell_reason(errors, alloc, file, reason),
         (Ok(()), _) => {
-            if let Some(text) = fault_explanation(alloc, input, fault) {
-                tell(errors, text.as_bytes());
-            }
+            tell_text(errors, fault_explanation(alloc, file, &input.bytes, fault));
         }
     }
     status_of(fault)
-}
-
-/// Which word isn't known, where there is memory to say it.
-fn unknown_word(alloc: Global, words: &[String]) -> Option<String> {
-    let Some(command) = words.get(1) else {
-        return "no command; commands are solo, replay, run\n"
-            .to_string(alloc)
-            .ok();
-    };
-    if !COMMANDS.contains(&command.as_str()) {
-        let told = told_word(alloc, command.as_str()).ok()?;
-        return format!(in alloc; "unknown command {told}; commands are solo, replay, run\n").ok();
-    }
-    for at in 2..words.len() {
-        let word = words[at].as_str();
-        if !FLAGS.contains(&word) {
-            let told = told_word(alloc, word).ok()?;
-            return format!(in alloc;
-                "unknown word {told}; behind a command stand --history and the name of a file\n"
-            ).ok();
-        }
-    }
-    "--history stands once\n".to_string(alloc).ok()
-}
-
-/// Prints a text on standard error, as far as that succeeds.
-fn tell(errors: &impl Print, text: &[u8]) {
-    let _ = io::writer(errors).write_all(text);
 }

@@ -1,13 +1,15 @@
 -- From what a script comes to, to what is answered.
 use Rattle.std.proofs.Common.{◌≡◌, ℕ, Bool, true, List, [], ◌∷◌, refl, sym, ap, subst, ◌∙◌}
-use Rattle.std.specs.{Prelude.Some, List.list_all}
-use Rattle.eevdf_ops.specs.{declared.deeds.Deed.Deed, Histories.IsOneThread, Machine.Machine, Machine.start, Outcome.Outcome}
+use Rattle.std.specs.{Prelude.Option, Prelude.Some, List.list_all}
+use Rattle.eevdf_ops.specs.{declared.deeds.Deed.Deed, declared.deeds.Line.Line, Histories.IsOneThread, Machine.Machine, Machine.start, Outcome.Outcome}
 use Rattle.eevdf_ops.specs.{Outcome.machine_of, Places.IsPlaced, Programs.deeds_of}
 use Rattle.eevdf_ops.specs.Setup.{Setup, allows, homes_of}
 use Rattle.eevdf_ops.specs.Whole.{lines_of, machine_after, whole}
 use Rattle.eevdf_bench.specs.{declared.command.Kind.TheVariants.Solo, Reports.IsReport}
 use Rattle.eevdf_workload.specs.Meaning.{Workload}
 use Rattle.eevdf_report.specs.TextReport.{report_text}
+use Rattle.eevdf_bench.specs.RefusedDeeds.{first_refused, refused_in, refused_of}
+use Rattle.eevdf_bench.specs.declared.refused_deeds.RefusedDeed.{RefusedDeed}
 use Rattle.eevdf_bench.proofs.OwnDeeds.{own_deeds}
 
 -- the lines of a list of deeds have these deeds
@@ -34,3 +36,9 @@ script_report w history s ds text o there same allowed lines machine placed t =
       does = sym there ∙ ap (λ (es : List Deed). Some es) (sym one.deeds_are);
       says = t;
     }
+
+-- the first deed that is refused of the lines of a script is that of the workload
+pub script_refused : (w : Workload) (s : Setup) (ds : List Deed) (lines : List Line) (first : Option RefusedDeed) → Some ds ≡ w.script → s ≡ w.setup
+    → lines ≡ lines_of (homes_of s) (start s) ds → first ≡ first_refused 0 lines → first ≡ refused_of w
+script_refused w s ds lines first there same l f =
+    f ∙ ap (λ (ls : List Line). first_refused 0 ls) l ∙ ap (λ (u : Setup). refused_in u (Some ds)) same ∙ ap (refused_in w.setup) there

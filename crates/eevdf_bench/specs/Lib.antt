@@ -6,3 +6,4 @@ pub mod WordsPrinted
 pub mod Reports
 pub mod Runs
 pub mod ProgramWords
+pub mod RefusedDeeds

@@ -9,12 +9,17 @@ mod command;
 mod explained_faults;
 mod fault_texts;
 mod fleet_run;
+mod parts;
 mod piped;
 mod program_ends;
 mod program_words;
 pub mod reading_laws;
+mod reasoned;
+mod refused_deeds;
 mod replay_run;
 mod solo_run;
+mod told_places;
+mod undone_parts;
 mod watched;
 mod workbench_engine;
 mod workbench_fault;
@@ -24,15 +29,23 @@ pub use byte_streams::{read_input, write_text};
 pub use command::{Command, Kind, WordFault, command_of};
 pub use eevdf_report::report;
 pub use eevdf_workload::{Key, LoadFault, Version, Workload, read_workload, told_word};
-pub use explained_faults::{fault_explanation, unread_keys_text};
+pub use explained_faults::{
+    fault_explanation, place_explanation, refused_deeds_text, unread_keys_text,
+};
 pub use fault_texts::{fault_text, status_of};
 pub use fleet_run::run_text;
+pub use parts::Parts;
 pub use piped::Piped;
-pub use program_ends::{NO_MEMORY, ProgramTexts, print, tell_unread_keys};
-pub use program_words::{asks_for, may_name_file};
+pub use program_ends::{
+    NO_MEMORY, NO_WRITE, ProgramTexts, VERSION, print, tell, tell_notes, tell_reason, tell_text,
+};
+pub use program_words::{asks_for, is_flag, may_name_file, named_file, take_file};
+pub use reasoned::Reasoned;
+pub use refused_deeds::{RefusedDeed, RefusedDeeds, is_refused};
 pub use replay_run::replay_text;
 pub use solo_run::solo_text;
+pub use undone_parts::undone_text;
 pub use watched::Watched;
 pub use workbench_engine::{engine, engine_with_input};
 pub use workbench_fault::BenchFault;
-pub use workload_text::WorkloadText;
+pub use workload_text::{Notes, WorkloadText};

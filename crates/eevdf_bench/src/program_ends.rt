@@ -2,10 +2,11 @@
 //! that they print of themselves. A status that comes as an error ends the program.
 
 use crate::command::WordFault;
-use crate::explained_faults::unread_keys_text;
+use crate::explained_faults::{refused_deeds_text, unread_keys_text};
 use crate::program_words::asks_for;
+use crate::told_places::told_name;
 use crate::workload_text::WorkloadText;
-use std::alloc::Global;
+use std::alloc::{AllocError, Global};
 use std::fs::Files;
 use std::io::{ErrorKind, Write};
 use std::rt::Env;
@@ -14,12 +15,18 @@ use std::{env, fs, io};
 /// What is printed where there is no memory for another line.
 pub const NO_MEMORY: &[u8] = b"fault: memory\n";
 
+/// What is printed where a text can't be written.
+pub const NO_WRITE: &[u8] = b"fault: writing\n";
+
+/// The version of the programs and of the library, MAJOR.MINOR.PATCH.
+pub const VERSION: &str = "0.5.0";
+
 /// What a program says of itself.
 #[derive(Clone, Copy)]
 pub struct ProgramTexts {
+    pub name: &'static str,
     pub usage: &'static [u8],
     pub help: &'static [u8],
-    pub version: &'static [u8],
 }
 
 impl ProgramTexts {
@@ -37,12 +44,21 @@ impl ProgramTexts {
             Err(fault) => return Err(self.refuse(refusals, errors, fault, None)),
         };
         if asks_for(&words, "--help") || asks_for(&words, "-h") {
-            return Err(print(rt, self.help, 0));
+            return Err(print_whole(rt, errors, self.help));
         }
         if asks_for(&words, "--version") {
-            return Err(print(rt, self.version, 0));
+            return Err(match self.version(alloc) {
+                Ok(text) => print_whole(rt, errors, text.as_bytes()),
+                Err(_) => print(refusals, NO_MEMORY, 3),
+            });
         }
         Ok(words)
+    }
+
+    /// The name of the program and its version, in a line.
+    fn version(&self, alloc: Global) -> Result<String, AllocError> {
+        let name = self.name;
+        format!(in alloc; "{name} {VERSION}\n")
     }
 
     /// Says that the words aren't known, and which, where that is told, or that there is no memory for them, and gives the status.
@@ -69,13 +85,14 @@ impl ProgramTexts {
         rt: &R,
         refusals: &impl Print,
         errors: &impl Print,
+        alloc: Global,
         name: &str,
     ) -> Result<R::File, u8> {
         match fs::open(rt, name) {
             Ok(file) => Ok(file),
             Err(error) => {
                 let status = print(refusals, self.usage, 2);
-                let _ = println!(errors; "{name}: {error}");
+                tell_reason(errors, alloc, Some(name), Some(error));
                 Err(status)
             }
         }
@@ -92,18 +109,66 @@ fn given_words(rt: &(impl Env + AllocGlobal), alloc: Global) -> Result<Vec<Strin
     Ok(words)
 }
 
-/// Says which keys of the workload nothing reads, where it has any, and gives the status.
-pub fn tell_unread_keys(errors: &impl Print, alloc: Global, input: &WorkloadText) -> u8 {
-    if input.has_unread_keys {
-        if let Some(text) = unread_keys_text(alloc, &input.bytes) {
-            return print(errors, text.as_bytes(), 0);
-        }
+/// Says why a workload can't be read, where that is known: with the name of its file, if it has one.
+pub fn tell_reason(
+    errors: &impl Print,
+    alloc: Global,
+    file: Option<&str>,
+    reason: Option<io::Error>,
+) {
+    let Some(error) = reason else {
+        return;
+    };
+    if let Ok(name) = told_name(alloc, file.unwrap_or("standard input")) {
+        let _ = println!(errors; "{name}: {error}");
     }
-    0
+}
+
+/// Says which keys of the workload nothing reads, and which deeds of its script were refused, where there are any.
+pub fn tell_notes(errors: &impl Print, alloc: Global, file: Option<&str>, input: &WorkloadText) {
+    if input.notes.has_unread_keys {
+        tell_text(errors, unread_keys_text(alloc, file, &input.bytes));
+    }
+    tell_refused_deeds(errors, alloc, file, input);
+}
+
+/// Says which deeds of the workload's script were refused.
+fn tell_refused_deeds(
+    errors: &impl Print,
+    alloc: Global,
+    file: Option<&str>,
+    input: &WorkloadText,
+) {
+    if input.notes.refused.count > 0 {
+        let text = refused_deeds_text(alloc, file, &input.bytes, &input.notes.refused);
+        tell_text(errors, text);
+    }
+}
+
+/// Says a text, where there is memory for it, as far as that succeeds.
+pub fn tell_text(errors: &impl Print, text: Option<String>) {
+    if let Some(text) = text {
+        tell(errors, text.as_bytes());
+    }
+}
+
+/// Says a text, as far as that succeeds.
+pub fn tell(errors: &impl Print, text: &[u8]) {
+    let _ = io::writer(errors).write_all(text);
 }
 
 /// Prints a text, as far as that succeeds, and gives the status.
 pub fn print(rt: &impl Print, text: &[u8], status: u8) -> u8 {
-    let _ = io::writer(rt).write_all(text);
+    tell(rt, text);
     status
+}
+
+/// Prints all of a text that a program was asked for, and gives the status. Where that fails, `errors` is told, but of a pipe that nobody reads
+/// any more.
+fn print_whole(rt: &impl Print, errors: &impl Print, text: &[u8]) -> u8 {
+    match io::writer(rt).write_all(text) {
+        Ok(()) => 0,
+        Err(error) if error.kind() == ErrorKind::BrokenPipe => 3,
+        Err(_) => print(errors, NO_WRITE, 3),
+    }
 }

@@ -1,9 +1,10 @@
 //! Running a workload's script in one thread.
 
-ghost use Rattle.std.specs.Prelude.{IfOk};
-ghost use Rattle.eevdf_bench.specs.{Reports.IsReport, Runs.Makes, Runs.solo_report};
+ghost use Rattle.std.specs.Prelude.{◌≡◌, IfOk, OnOk};
+ghost use Rattle.eevdf_bench.specs.{RefusedDeeds.refused_of, Reports.IsReport, Runs.Makes, Runs.solo_report};
 
 use crate::command::Kind;
+use crate::refused_deeds::RefusedDeeds;
 use crate::workbench_fault::BenchFault;
 use eevdf_ops::one_thread::solo;
 use eevdf_report::report;
@@ -16,10 +17,26 @@ pub fn solo_text(alloc: Global, workload: &Workload, history: bool) -> Result<Ve
     ensures report { Makes (solo_report workload.now history) result }
     ensures one_thread { IfOk result (λ t. IsReport Kind.Solo workload.now history t.items) }
 {
+    let mut refused = RefusedDeeds::none(alloc);
+    noted_solo_text(alloc, workload, history, &mut refused)
+}
+
+/// The same, and where it is made also the deeds that were refused.
+pub(crate) fn noted_solo_text(
+    alloc: Global,
+    workload: &Workload,
+    history: bool,
+    refused: &mut RefusedDeeds,
+) -> Result<Vec<u8>, BenchFault>
+    ensures report { Makes (solo_report workload.now history) result }
+    ensures one_thread { IfOk result (λ t. IsReport Kind.Solo workload.now history t.items) }
+    ensures refused { OnOk result (refused.new.first ≡ refused_of workload.now) }
+{
     let Some(deeds) = workload.script() else {
         return Err(BenchFault::Load(LoadFault::Missing { key: Key::Scripts }));
     };
     let outcome = solo(alloc, workload.setup(), deeds)?;
+    *refused = RefusedDeeds::of(alloc, outcome.history());
     let text = report(alloc, &outcome, history)?;
     Ok(text)
 }

@@ -9,11 +9,13 @@ ghost use Rattle.eevdf_workload.specs.Meaning.{read_limit};
 use crate::byte_streams::{read_input, write_text};
 use crate::command::{Command, Kind};
 use crate::fleet_run::run_text;
+use crate::parts::Parts;
+use crate::refused_deeds::RefusedDeeds;
 use crate::replay_run::replay_text;
-use crate::solo_run::solo_text;
+use crate::solo_run::noted_solo_text;
 use crate::watched::Watched;
 use crate::workbench_fault::BenchFault;
-use crate::workload_text::WorkloadText;
+use crate::workload_text::{Notes, WorkloadText};
 use eevdf_fleet::RunFault;
 use eevdf_workload::{Workload, read_workload};
 use std::alloc::Global;
@@ -68,7 +70,7 @@ pub fn engine<T: Threads + Wait + Sync, R: Read, W: Write>(
 }
 
 /// As `engine`, and leaves in `input` the bytes that it has read. After `Read` and `Memory` they may be others. Where the workload isn't
-/// refused, `input` also says whether it has a key that nothing reads, which follows from no clause.
+/// refused, `input` also has what is told of it beside the report, which follows from no clause.
 pub fn engine_with_input<T: Threads + Wait + Sync, R: Read, W: Write>(
     rt: &T,
     alloc: Global,
@@ -103,7 +105,7 @@ pub fn engine_with_input<T: Threads + Wait + Sync, R: Read, W: Write>(
         IfSome (R.remaining reader.old.end) (λ all. input.new.bytes.items ≡ take read_limit all) }
 {
     let bytes = read_input(alloc, reader)?;
-    let answer = answer(rt, alloc, &bytes, command, &mut input.has_unread_keys);
+    let answer = answer(rt, alloc, &bytes, command, &mut input.notes);
     input.bytes = bytes;
     let text = match answer {
         Ok(text) => text,
@@ -112,13 +114,13 @@ pub fn engine_with_input<T: Threads + Wait + Sync, R: Read, W: Write>(
     write_text(writer, &text)
 }
 
-/// The text of the report that a command makes of the bytes of a workload. It tells whether they have a key that nothing reads.
+/// The text of the report that a command makes of the bytes of a workload, and what is told beside it.
 fn answer<T: Threads + Wait + Sync>(
     rt: &T,
     alloc: Global,
     input: &[u8],
     command: Command,
-    has_unread_keys: &mut bool,
+    notes: &mut Notes,
 ) -> Result<Vec<u8>, BenchFault>
     ensures answer { Answers (IsAnswerOf command input.now) result }
     ensures thread { result ≡ Err (BenchFault.Run RunFault.Start) → command.kind ≡ Kind.Run }
@@ -128,16 +130,18 @@ fn answer<T: Threads + Wait + Sync>(
         Ok(workload) => workload,
         Err(fault) => return Err(BenchFault::Load(fault)),
     };
-    *has_unread_keys = workload.has_unread_keys();
-    text_of(rt, alloc, &workload, command)
+    notes.has_unread_keys = workload.has_unread_keys();
+    notes.parts = Parts::of(&workload);
+    text_of(rt, alloc, &workload, command, &mut notes.refused)
 }
 
-/// The text of the report that a command makes of a workload.
+/// The text of the report that a command makes of a workload, and of a script the deeds that were refused.
 fn text_of<T: Threads + Wait + Sync>(
     rt: &T,
     alloc: Global,
     workload: &Workload,
     command: Command,
+    refused: &mut RefusedDeeds,
 ) -> Result<Vec<u8>, BenchFault>
     ensures answer { Answers (IsAnswer command.kind workload.now command.history) result }
     ensures thread { result ≡ Err (BenchFault.Run RunFault.Start) → command.kind ≡ Kind.Run }
@@ -145,7 +149,7 @@ fn text_of<T: Threads + Wait + Sync>(
         IsReport command.kind workload.now command.history t.items) }
 {
     match command.kind {
-        Kind::Solo => solo_text(alloc, workload, command.history),
+        Kind::Solo => noted_solo_text(alloc, workload, command.history, refused),
         Kind::Replay => replay_text(alloc, workload, command.history),
         Kind::Run => run_text(rt, alloc, workload, command.history),
     }

@@ -1,10 +1,7 @@
 //! What the program says of itself.
 
 /// What is printed where the words aren't known.
-pub(crate) const USAGE: &[u8] = b"usage: eevdf_orders [--seed N]\n";
-
-/// What `--version` prints.
-pub(crate) const VERSION: &[u8] = b"eevdf_orders 0.2.0\n";
+pub(crate) const USAGE: &[u8] = b"usage: eevdf_orders [--seed N] [FILE]\n";
 
 /// What `--help` prints.
 pub(crate) const HELP: &[u8] = b"\
@@ -13,7 +10,7 @@ eevdf_orders prints a workload with an order of the callers' steps in front, whi
 usage: eevdf_orders [--seed N] [FILE]
 
   --seed N     draws the order from a seed, a whole number below 2^64; without it the callers take turns
-  FILE         the workload; without it, standard input is read
+  FILE         the workload; without it, or where it is -, standard input is read
   --help, -h   prints this
   --version    prints the version
 

@@ -10,13 +10,14 @@ mod ordered_workload;
 mod print_fault;
 mod word_seed;
 
-use crate::help::{HELP, USAGE, VERSION};
+use crate::help::{HELP, USAGE};
 use crate::ordered_workload::print_ordered;
-use crate::print_fault::{PrintFault, fault_line, status_of};
+use crate::print_fault::{PrintFault, explanation, fault_line, status_of};
 use crate::word_seed::seed_of;
 use eevdf_bench::{
-    NO_MEMORY, Piped, ProgramTexts, Watched, WorkloadText, fault_explanation, may_name_file, print,
-    tell_unread_keys, told_word,
+    BenchFault, NO_MEMORY, Piped, ProgramTexts, Reasoned, Watched, WorkloadText, is_flag,
+    may_name_file, named_file, print, take_file, tell, tell_notes, tell_reason, tell_text,
+    told_word,
 };
 use std::alloc::Global;
 use std::fs::Files;
@@ -27,10 +28,14 @@ use std::rt::Env;
 
 /// What the program says of itself.
 const TEXTS: ProgramTexts = ProgramTexts {
+    name: "eevdf_orders",
     usage: USAGE,
     help: HELP,
-    version: VERSION,
 };
+
+/// What is said of a workload with a script.
+const NOT_ORDERED: &[u8] =
+    b"not ordered: the script, which `eevdf solo` does as it stands; the order is of the programs\n";
 
 fn main(rt: HostRuntime) -> ExitCode {
     let (Ok(status) | Err(status)) = answer(&rt, &rt.stderr(), rt.alloc());
@@ -43,37 +48,24 @@ fn answer<R: Env + AllocGlobal + Files + Input + Print>(
     errors: &impl Print,
     alloc: Global,
 ) -> Result<u8, u8> {
-    let words = TEXTS.words(rt, errors, errors, alloc)?;
-    let (own, file) = with_file(&words);
-    let seed = seed_of(alloc, own).map_err(|fault| {
-        let unknown = unknown_word(alloc, own);
+    let mut words = TEXTS.words(rt, errors, errors, alloc)?;
+    let file = take_file(&mut words, 1, &["--seed"]);
+    let seed = seed_of(alloc, words.as_slice()).map_err(|fault| {
+        let unknown = unknown_word(alloc, &words, file.is_some());
         TEXTS.refuse(errors, errors, fault, unknown)
     })?;
-    Ok(match file {
-        Some(name) => run(
-            rt,
-            errors,
-            alloc,
-            seed,
-            TEXTS.open(rt, errors, errors, name)?,
-        ),
-        None => run(rt, errors, alloc, seed, rt.reader()),
+    let name = named_file(&file);
+    Ok(match name {
+        Some(path) => {
+            let opened = TEXTS.open(rt, errors, errors, alloc, path)?;
+            run(rt, errors, alloc, seed, name, opened)
+        }
+        None => run(rt, errors, alloc, seed, name, rt.reader()),
     })
 }
 
-/// The words, with the name of a file apart, which may be the last one where it isn't the seed.
-fn with_file(words: &[String]) -> (&[String], Option<&str>) {
-    match words {
-        [_, .., before, last] if may_name_file(last.as_str()) && before.as_str() != "--seed" => {
-            (&words[..words.len() - 1], Some(last.as_str()))
-        }
-        [_, last] if may_name_file(last.as_str()) => (&words[..1], Some(last.as_str())),
-        _ => (words, None),
-    }
-}
-
 /// The word that isn't known, where there is memory to say it.
-fn unknown_word(alloc: Global, words: &[String]) -> Option<String> {
+fn unknown_word(alloc: Global, words: &[String], has_file: bool) -> Option<String> {
     for at in 1..words.len() {
         let word = words[at].as_str();
         let is_seed = at > 1 && words[at - 1].as_str() == "--seed";
@@ -83,7 +75,10 @@ fn unknown_word(alloc: Global, words: &[String]) -> Option<String> {
                 "--seed takes a whole number below 2^64, and {told} is none\n"
             ).ok();
         }
-        if !is_seed && !word.starts_with("--seed") {
+        if !is_seed && has_file && (word == "-" || may_name_file(word)) {
+            return format!(in alloc; "one file is read, and {told} is another\n").ok();
+        }
+        if !is_seed && !is_flag(word, "--seed") {
             return format!(in alloc;
                 "unknown word {told}; words are --seed with a number, and the name of a file\n"
             ).ok();
@@ -100,28 +95,43 @@ fn run<W: Read + Drop>(
     errors: &impl Print,
     alloc: Global,
     seed: Option<u64>,
+    file: Option<&str>,
     workload: W,
 ) -> u8 {
-    let mut reader = Watched::new(workload);
+    let mut reader = Watched::new(Reasoned::new(workload));
     let mut writer = Watched::new(Piped::new(io::writer(rt)));
     let mut input = WorkloadText::new(alloc);
     match print_ordered(alloc, &mut reader, &mut writer, seed, &mut input) {
-        Ok(()) => tell_unread_keys(errors, alloc, &input),
+        Ok(()) => {
+            tell_notes(errors, alloc, file, &input);
+            if input.notes.parts.script {
+                tell(errors, NOT_ORDERED);
+            }
+            0
+        }
         Err(fault) if writer.into_inner().is_unread() => status_of(&fault),
-        Err(fault) => refuse_fault(errors, alloc, &input.bytes, &fault),
+        Err(fault) => {
+            let status = refuse_fault(errors, alloc, file, &input.bytes, &fault);
+            if let PrintFault::Bench(BenchFault::Read) = fault {
+                tell_reason(errors, alloc, file, reader.into_inner().reason());
+            }
+            status
+        }
     }
 }
 
 /// Prints the line of a fault, and then where it stands in the workload.
-fn refuse_fault(errors: &impl Print, alloc: Global, input: &[u8], fault: &PrintFault) -> u8 {
+fn refuse_fault(
+    errors: &impl Print,
+    alloc: Global,
+    file: Option<&str>,
+    input: &[u8],
+    fault: &PrintFault,
+) -> u8 {
     let Ok(line) = fault_line(alloc, fault) else {
         return print(errors, NO_MEMORY, 3);
     };
-    let status = print(errors, line.as_slice(), status_of(fault));
-    if let PrintFault::Bench(fault) = fault {
-        if let Some(text) = fault_explanation(alloc, input, fault) {
-            return print(errors, text.as_bytes(), status);
-        }
-    }
-    status
+    tell(errors, line.as_slice());
+    tell_text(errors, explanation(alloc, file, input, fault));
+    status_of(fault)
 }

@@ -9,7 +9,9 @@ use crate::caller_choice::Choice;
 use crate::order_making::{OrderFault, order_of};
 use crate::order_text::ordered;
 use crate::print_fault::PrintFault;
-use eevdf_bench::{BenchFault, Watched, WorkloadText, read_input, read_workload, write_text};
+use eevdf_bench::{
+    BenchFault, Notes, Parts, Watched, WorkloadText, read_input, read_workload, write_text,
+};
 use eevdf_steps::PlayFault;
 use eevdf_workload::Workload;
 use std::alloc::Global;
@@ -19,7 +21,7 @@ use std::io::{Read, Write};
 /// gives, or with the one in which they take turns where there is no seed. A workload that can't be read is refused with its
 /// fault, one that has an order already with `Ordered`, and one of which every order has a fault with `Play(TooLong)`.
 ///
-/// The bytes that were read are left in `input`, and whether they have a key that nothing reads.
+/// The bytes that were read are left in `input`, and what is told of them.
 ///
 /// No more than `Workload::MOST_BYTES + 1` bytes are read. The fault `Read` comes exactly where the reader failed, `Write`
 /// exactly where the writer did. The writer isn't called before the whole order is made: after `Write` a beginning was written,
@@ -56,7 +58,7 @@ pub fn print_ordered<R: Read, W: Write>(
         Ok(bytes) => bytes,
         Err(fault) => return Err(PrintFault::Bench(fault)),
     };
-    let ordered = ordered_text(alloc, &bytes, seed, &mut input.has_unread_keys);
+    let ordered = ordered_text(alloc, &bytes, seed, &mut input.notes);
     input.bytes = bytes;
     let text = match ordered {
         Ok(text) => text,
@@ -68,12 +70,12 @@ pub fn print_ordered<R: Read, W: Write>(
     }
 }
 
-/// The bytes of a workload with the order of its callers' steps that the seed gives. It tells whether they have a key that nothing reads.
+/// The bytes of a workload with the order of its callers' steps that the seed gives, and what is told of them.
 fn ordered_text(
     alloc: Global,
     input: &[u8],
     seed: Option<u64>,
-    has_unread_keys: &mut bool,
+    notes: &mut Notes,
 ) -> Result<Vec<u8>, PrintFault>
     ensures ordered { IfOk result (λ text. texts.IsOrdered seed input.now text.items) }
     ensures refused { IfErr result (λ f. texts.RefusesAs input.now f) }
@@ -82,7 +84,8 @@ fn ordered_text(
 {
     match read_workload(alloc, input) {
         Ok(workload) => {
-            *has_unread_keys = workload.has_unread_keys();
+            notes.has_unread_keys = workload.has_unread_keys();
+            notes.parts = Parts::of(&workload);
             with_order(alloc, &workload, input, seed)
         }
         Err(fault) => Err(PrintFault::Bench(BenchFault::Load(fault))),

@@ -1,7 +1,9 @@
 ghost use Rattle.std.specs.Prelude.{◌≡◌, IfOk};
 ghost use Rattle.eevdf_orders.specs.FaultLines as lines;
 
-use eevdf_bench::{BenchFault, fault_text, status_of as bench_status_of};
+use eevdf_bench::{
+    BenchFault, Key, fault_explanation, fault_text, place_explanation, status_of as bench_status_of,
+};
 use std::alloc::{AllocError, Global};
 
 /// Why no workload was printed.
@@ -33,5 +35,24 @@ pub fn status_of(fault: &PrintFault) -> u8
     match fault {
         PrintFault::Bench(fault) => bench_status_of(fault),
         PrintFault::Ordered => 1,
+    }
+}
+
+/// What is wrong, and where in the workload that these bytes are, in lines; as `fault_explanation`.
+pub fn explanation(
+    alloc: Global,
+    file: Option<&str>,
+    input: &[u8],
+    fault: &PrintFault,
+) -> Option<String> {
+    match fault {
+        PrintFault::Bench(fault) => fault_explanation(alloc, file, input, fault),
+        PrintFault::Ordered => place_explanation(
+            alloc,
+            file,
+            input,
+            Key::Orders,
+            "this order is there already, and `eevdf replay` plays it",
+        ),
     }
 }

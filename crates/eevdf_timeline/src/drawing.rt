@@ -42,8 +42,8 @@ impl From<AllocError> for DrawFault {
 }
 
 /// Reads a workload to its end, makes all of what the words ask for, and writes it. Faults are those of `eevdf`, and that the words choose
-/// what the workload hasn't; nothing is written before all is made. The bytes that were read are left in `input`, and whether they have a key
-/// that nothing reads.
+/// what the workload hasn't; nothing is written before all is made. The bytes that were read are left in `input`, and what is
+/// told of them.
 pub(crate) fn draw<T: Threads + Wait + Sync, R: Read, W: Write>(
     rt: &T,
     alloc: Global,
@@ -73,14 +73,14 @@ fn text_of<T: Threads + Wait + Sync>(
         Ok(workload) => workload,
         Err(fault) => return Err(DrawFault::Bench(BenchFault::Load(fault))),
     };
-    input.has_unread_keys = workload.has_unread_keys();
+    input.notes.has_unread_keys = workload.has_unread_keys();
     if let Some(cpu) = words.cpus.beyond(workload.setup().cpus()) {
         return Err(DrawFault::NoCpu(cpu));
     }
     if let Some(task) = words.tasks.beyond(workload.setup().tasks()) {
         return Err(DrawFault::NoTask(task));
     }
-    let moments = history_of(rt, alloc, &workload, words.source)?;
+    let moments = history_of(rt, alloc, &workload, words.source, &mut input.notes.refused)?;
     let schedule = Schedule {
         setup: workload.setup(),
         moments: &moments,

@@ -2,10 +2,7 @@
 
 /// What is printed where the words aren't known.
 pub(crate) const USAGE: &[u8] =
-    b"usage: eevdf_timeline [--replay|--run] [--perfetto|--stats [--json]] [--from NS] [--to NS] [--cpu N,..] [--task N,..]\n";
-
-/// What `--version` prints.
-pub(crate) const VERSION: &[u8] = b"eevdf_timeline 0.2.0\n";
+    b"usage: eevdf_timeline [--replay|--run] [--perfetto|--stats [--json]] [--from NS] [--to NS] [--cpu N,..] [--task N,..] [FILE]\n";
 
 /// What `--help` prints.
 pub(crate) const HELP: &[u8] = b"\
@@ -22,7 +19,7 @@ usage: eevdf_timeline [--replay|--run] [--perfetto|--stats [--json]] [--from NS]
   --to NS      leaves out what is after this time; not with --stats
   --cpu N,..   these CPUs alone
   --task N,..  these tasks alone; others are light grey in a picture
-  FILE         the workload; without it, standard input is read
+  FILE         the workload; without it, or where it is -, standard input is read
   --help, -h   prints this
   --version    prints the version
 

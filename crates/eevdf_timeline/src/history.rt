@@ -4,10 +4,10 @@ ghost use Rattle.std.specs.Prelude.{map, IfOk};
 ghost use Rattle.eevdf_timeline.specs.Histories.{IsHistoryOf, IsOutcomeOf};
 
 use crate::moments::{Moment, timed};
-use eevdf_bench::{BenchFault, Kind};
+use eevdf_bench::{BenchFault, Kind, RefusedDeeds};
 use eevdf_fleet::{OpenGate, run_all};
-use eevdf_ops::Outcome;
 use eevdf_ops::one_thread::solo;
+use eevdf_ops::{Line, Outcome};
 use eevdf_steps::play;
 use eevdf_workload::{Key, LoadFault, Workload};
 use std::alloc::Global;
@@ -16,12 +16,14 @@ use std::thread::Threads;
 
 /// The lines of a workload's script, of its order or of its programs run by threads, each with its time: the deeds with the answers
 /// of the one thread that does them one after the other. A workload that lacks the part is refused as by `eevdf`, an order
-/// with its fault; the only other refusals are `Memory`, and of a run that a thread was refused.
+/// with its fault; the only other refusals are `Memory`, and of a run that a thread was refused. The deeds of a script that were refused are
+/// left in `refused`.
 pub fn history_of<T: Threads + Wait + Sync>(
     rt: &T,
     alloc: Global,
     workload: &Workload,
     source: Kind,
+    refused: &mut RefusedDeeds,
 ) -> Result<Vec<Moment>, BenchFault>
     ensures { IfOk result (λ moments.
         IsHistoryOf source workload.now (map (λ m. m.line) moments.items)) }
@@ -29,7 +31,15 @@ pub fn history_of<T: Threads + Wait + Sync>(
     let outcome = outcome_of(rt, alloc, workload, source)?;
     let setup = workload.setup();
     let moments = timed(alloc, setup.cpus(), setup.tasks(), outcome.history())?;
+    note_refused(alloc, source, outcome.history(), refused);
     Ok(moments)
+}
+
+/// Leaves the deeds that were refused of these lines, where they are a script's.
+fn note_refused(alloc: Global, source: Kind, lines: &[Line], refused: &mut RefusedDeeds) {
+    if source == Kind::Solo {
+        *refused = RefusedDeeds::of(alloc, lines);
+    }
 }
 
 fn outcome_of<T: Threads + Wait + Sync>(

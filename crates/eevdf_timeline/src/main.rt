@@ -23,13 +23,14 @@ mod unknown_words;
 mod words;
 
 use crate::drawing::{DrawFault, draw};
-use crate::help::{HELP, USAGE, VERSION};
+use crate::help::{HELP, USAGE};
 use crate::progress::Progress;
-use crate::unknown_words::{beyond, unknown_word, with_file};
+use crate::unknown_words::{WITH_VALUE, beyond, unknown_word};
 use crate::words::{Words, words_of};
 use eevdf_bench::{
-    BenchFault, Key, Kind, LoadFault, NO_MEMORY, Piped, ProgramTexts, Watched, WorkloadText,
-    fault_explanation, fault_text, print, status_of, tell_unread_keys,
+    BenchFault, Key, Kind, LoadFault, NO_MEMORY, Piped, ProgramTexts, Reasoned, Watched,
+    WorkloadText, fault_explanation, fault_text, named_file, print, status_of, take_file, tell,
+    tell_notes, tell_reason, tell_text,
 };
 use std::alloc::Global;
 use std::fs::Files;
@@ -42,9 +43,9 @@ use std::thread::Threads;
 
 /// What the program says of itself.
 const TEXTS: ProgramTexts = ProgramTexts {
+    name: "eevdf_timeline",
     usage: USAGE,
     help: HELP,
-    version: VERSION,
 };
 
 /// What is said where there is no script to be drawn.
@@ -65,18 +66,19 @@ fn answer<R: Env + AllocGlobal + Files + Input + Print + Threads + Wait + Sync>(
     alloc: Global,
     progress: &Progress,
 ) -> Result<u8, u8> {
-    let words = TEXTS.words(rt, errors, errors, alloc)?;
-    let (own, file) = with_file(&words);
-    let asked = words_of(alloc, own).map_err(|fault| {
-        let unknown = unknown_word(alloc, own).ok();
+    let mut words = TEXTS.words(rt, errors, errors, alloc)?;
+    let file = take_file(&mut words, 1, &WITH_VALUE);
+    let asked = words_of(alloc, words.as_slice()).map_err(|fault| {
+        let unknown = unknown_word(alloc, &words, file.is_some()).ok();
         TEXTS.refuse(errors, errors, fault, unknown)
     })?;
-    Ok(match file {
-        Some(name) => {
-            let file = TEXTS.open(rt, errors, errors, name)?;
-            run(rt, errors, alloc, progress, &asked, file)
+    let name = named_file(&file);
+    Ok(match name {
+        Some(path) => {
+            let opened = TEXTS.open(rt, errors, errors, alloc, path)?;
+            run(rt, errors, alloc, progress, &asked, name, opened)
         }
-        None => run(rt, errors, alloc, progress, &asked, rt.reader()),
+        None => run(rt, errors, alloc, progress, &asked, name, rt.reader()),
     })
 }
 
@@ -87,9 +89,10 @@ fn run<R: Print + Threads + Wait + Sync, W: Read + Drop>(
     alloc: Global,
     progress: &Progress,
     words: &Words,
+    file: Option<&str>,
     workload: W,
 ) -> u8 {
-    let mut reader = Watched::new(workload);
+    let mut reader = Watched::new(Reasoned::new(workload));
     let mut writer = Watched::new(Piped::new(io::writer(rt)));
     let mut input = WorkloadText::new(alloc);
     match draw(
@@ -101,9 +104,18 @@ fn run<R: Print + Threads + Wait + Sync, W: Read + Drop>(
         progress,
         &mut input,
     ) {
-        Ok(()) => tell_unread_keys(errors, alloc, &input),
+        Ok(()) => {
+            tell_notes(errors, alloc, file, &input);
+            0
+        }
         Err(DrawFault::Bench(fault)) if writer.into_inner().is_unread() => status_of(&fault),
-        Err(DrawFault::Bench(fault)) => print_fault(errors, alloc, &input.bytes, words, &fault),
+        Err(DrawFault::Bench(fault)) => {
+            let status = print_fault(errors, alloc, file, &input.bytes, words, &fault);
+            if fault == BenchFault::Read {
+                tell_reason(errors, alloc, file, reader.into_inner().reason());
+            }
+            status
+        }
         Err(DrawFault::NoCpu(cpu)) => refuse_choice(errors, alloc, "--cpu", cpu),
         Err(DrawFault::NoTask(task)) => refuse_choice(errors, alloc, "--task", task),
     }
@@ -111,17 +123,16 @@ fn run<R: Print + Threads + Wait + Sync, W: Read + Drop>(
 
 /// Says that the workload hasn't what the words choose.
 fn refuse_choice(errors: &impl Print, alloc: Global, flag: &str, number: usize) -> u8 {
-    let status = print(errors, USAGE, 2);
-    match beyond(alloc, flag, number) {
-        Ok(text) => print(errors, text.as_bytes(), status),
-        Err(_) => status,
-    }
+    tell(errors, USAGE);
+    tell_text(errors, beyond(alloc, flag, number).ok());
+    2
 }
 
 /// Prints the line of a fault, and then where it stands in the workload.
 fn print_fault(
     errors: &impl Print,
     alloc: Global,
+    file: Option<&str>,
     input: &[u8],
     words: &Words,
     fault: &BenchFault,
@@ -129,14 +140,13 @@ fn print_fault(
     let Ok(line) = fault_text(alloc, fault) else {
         return print(errors, NO_MEMORY, 3);
     };
-    let status = print(errors, line.as_slice(), status_of(fault));
-    if let Some(text) = fault_explanation(alloc, input, fault) {
-        print(errors, text.as_bytes(), status);
+    tell(errors, line.as_slice());
+    tell_text(errors, fault_explanation(alloc, file, input, fault));
+    if let (BenchFault::Load(LoadFault::Missing { key: Key::Scripts }), Kind::Solo) = (
+        fault,
+        words.source,
+    ) {
+        tell(errors, OTHER_SOURCES);
     }
-    match (fault, words.source) {
-        (BenchFault::Load(LoadFault::Missing { key: Key::Scripts }), Kind::Solo) => {
-            print(errors, OTHER_SOURCES, status)
-        }
-        _ => status,
-    }
+    status_of(fault)
 }

@@ -1,6 +1,6 @@
 //! What is said of words that aren't known.
 
-use eevdf_bench::{may_name_file, told_word};
+use eevdf_bench::{is_flag, may_name_file, told_word};
 use eevdf_ops::CpuId;
 use eevdf_queue::TaskId;
 use std::alloc::{AllocError, Global};
@@ -9,25 +9,19 @@ const FLAGS: [&str; 5] = ["--replay", "--run", "--perfetto", "--stats", "--json"
 
 const WITH_TIME: [&str; 2] = ["--from", "--to"];
 
-const WITH_NUMBERS: [&str; 2] = ["--cpu", "--task"];
-
-/// The words, with the name of a file apart, which may be the last one where it isn't the value of a flag.
-pub(crate) fn with_file(words: &[String]) -> (&[String], Option<&str>) {
-    match words {
-        [_, .., before, last] if may_name_file(last.as_str()) && !takes_value(before.as_str()) => {
-            (&words[..words.len() - 1], Some(last.as_str()))
-        }
-        [_, last] if may_name_file(last.as_str()) => (&words[..1], Some(last.as_str())),
-        _ => (words, None),
-    }
-}
+/// The flags that have a value behind them.
+pub(crate) const WITH_VALUE: [&str; 4] = ["--from", "--to", "--cpu", "--task"];
 
 fn takes_value(word: &str) -> bool {
-    WITH_TIME.contains(&word) || WITH_NUMBERS.contains(&word)
+    WITH_VALUE.contains(&word)
 }
 
 /// Which word isn't known, or what doesn't stand together.
-pub(crate) fn unknown_word(alloc: Global, words: &[String]) -> Result<String, AllocError> {
+pub(crate) fn unknown_word(
+    alloc: Global,
+    words: &[String],
+    has_file: bool,
+) -> Result<String, AllocError> {
     for at in 1..words.len() {
         let before = if at > 1 { words[at - 1].as_str() } else { "" };
         let word = words[at].as_str();
@@ -35,8 +29,15 @@ pub(crate) fn unknown_word(alloc: Global, words: &[String]) -> Result<String, Al
             if let Some(text) = bad_value(alloc, before, word)? {
                 return Ok(text);
             }
-        } else if !is_known(word) {
+        } else if let Some((flag, value)) = with_own_value(word) {
+            if let Some(text) = bad_value(alloc, flag, value)? {
+                return Ok(text);
+            }
+        } else if !FLAGS.contains(&word) && !takes_value(word) {
             let told = told_word(alloc, word)?;
+            if has_file && (word == "-" || may_name_file(word)) {
+                return format!(in alloc; "one file is read, and {told} is another\n");
+            }
             return format!(in alloc; "unknown word {told}; --help names those that are known\n");
         }
     }
@@ -48,15 +49,16 @@ pub(crate) fn unknown_word(alloc: Global, words: &[String]) -> Result<String, Al
     }
 }
 
-/// Whether a word is a flag, or one with its value.
-fn is_known(word: &str) -> bool {
-    let is_with_value = |flag: &&str| match word.strip_prefix(*flag) {
-        Some(left) => left.is_empty() || left.starts_with("="),
-        None => false,
-    };
-    FLAGS.contains(&word)
-        || WITH_TIME.iter().any(is_with_value)
-        || WITH_NUMBERS.iter().any(is_with_value)
+/// The flag and the value of a word that has both, as `--cpu=0`.
+fn with_own_value(word: &str) -> Option<(&'static str, &str)> {
+    for flag in WITH_VALUE.iter() {
+        if let Some(left) = word.strip_prefix(*flag) {
+            if let Some(value) = left.strip_prefix("=") {
+                return Some((*flag, value));
+            }
+        }
+    }
+    None
 }
 
 fn bad_value(alloc: Global, flag: &str, value: &str) -> Result<Option<String>, AllocError> {
@@ -99,7 +101,7 @@ fn greatest_of(flag: &str) -> usize {
 
 /// What doesn't stand together, of words that are known.
 fn together(alloc: Global, words: &[String]) -> Result<String, AllocError> {
-    let has = |flag: &str| words.iter().any(|word| word.as_str() == flag);
+    let has = |flag: &str| words.iter().any(|word| is_flag(word.as_str(), flag));
     let text = if has("--replay") && has("--run") {
         "--replay and --run exclude each other\n"
     } else if has("--perfetto") && (has("--stats") || has("--json")) {

@@ -63,21 +63,18 @@ programs_left : (limits : Limits) (d : Option Data) (document whole : Members) �
 unfolding programs
 programs_left limits d document whole is at = ap (required keys.Programs (programs_of limits)) (list_behind (programs_of limits) d _ _ is at)
 
--- what the readers of the document behind find, where nothing was found in front
-pub script_behind : (limits : Limits) (document : Members) (r : Result (Option (Vec Deed Global)) LoadFault) → Reads (λ found. option_map (λ ds. ds.items) found) (script limits document) r → IfOk r (λ found. (d : Option Data) (whole : Members) → IsReadAs (script_of limits) d None
-    → get_member (codes "script") whole ≡ option_or d (get_member (codes "script") document) → script limits whole ≡ Ok (option_map (λ ds. ds.items) found))
-script_behind limits document (Ok found) read = λ d whole is at. script_left limits d document whole is at ∙ read
-script_behind limits document (Err e) read = tt
+-- what the readers of the document behind find, or their fault, where nothing was found in front
+pub script_behind : (limits : Limits) (document : Members) (r : Result (Option (Vec Deed Global)) LoadFault) → Reads (λ found. option_map (λ ds. ds.items) found) (script limits document) r → (d : Option Data) (whole : Members) → IsReadAs (script_of limits) d None
+    → get_member (codes "script") whole ≡ option_or d (get_member (codes "script") document) → Reads (λ found. option_map (λ ds. ds.items) found) (script limits whole) r
+script_behind limits document r read d whole is at = rw (script_left limits d document whole is at) read
 
-pub programs_behind : (limits : Limits) (document : Members) (r : Result (Vec (Vec Op Global) Global) LoadFault) → Reads (λ ps. programs_in ps) (programs limits document) r → IfOk r (λ found. (d : Option Data) (whole : Members) → IsReadAs (programs_of limits) d None
-    → get_member (codes "program") whole ≡ option_or d (get_member (codes "program") document) → programs limits whole ≡ Ok (programs_in found))
-programs_behind limits document (Ok found) read = λ d whole is at. programs_left limits d document whole is at ∙ read
-programs_behind limits document (Err e) read = tt
+pub programs_behind : (limits : Limits) (document : Members) (r : Result (Vec (Vec Op Global) Global) LoadFault) → Reads (λ ps. programs_in ps) (programs limits document) r → (d : Option Data) (whole : Members) → IsReadAs (programs_of limits) d None
+    → get_member (codes "program") whole ≡ option_or d (get_member (codes "program") document) → Reads (λ ps. programs_in ps) (programs limits whole) r
+programs_behind limits document r read d whole is at = rw (programs_left limits d document whole is at) read
 
-pub order_behind : (document : Members) (r : Result (Option (Vec ℕ Global)) LoadFault) → Reads (λ found. option_map (λ ps. ps.items) found) (order document) r → IfOk r (λ found. (d : Option Data) (whole : Members) → IsReadAs order_of d None
-    → get_member (codes "order") whole ≡ option_or d (get_member (codes "order") document) → order whole ≡ Ok (option_map (λ ps. ps.items) found))
-order_behind document (Ok found) read = λ d whole is at. order_left d document whole is at ∙ read
-order_behind document (Err e) read = tt
+pub order_behind : (document : Members) (r : Result (Option (Vec ℕ Global)) LoadFault) → Reads (λ found. option_map (λ ps. ps.items) found) (order document) r → (d : Option Data) (whole : Members) → IsReadAs order_of d None
+    → get_member (codes "order") whole ≡ option_or d (get_member (codes "order") document) → Reads (λ found. option_map (λ ps. ps.items) found) (order whole) r
+order_behind document r read d whole is at = rw (order_left d document whole is at) read
 
 pub tasks_left : (limits : Limits) (document whole : Members) (v : Option Data) → v ≡ None → get_member (codes "task") whole ≡ option_or v (get_member (codes "task") document) → tasks limits whole ≡ tasks limits document
 unfolding tasks
@@ -124,10 +121,11 @@ version_found : (v : Version) (d other : Option Data) (document : Members) → I
 unfolding version
 version_found v d other document is at = needed_list keys.Version version_of v d (get_member (codes "version") document) other is at
 
-pub read_by_front : (values : List ℕ → Option Data) (bytes left : List ℕ) (v : Version) (callers : Option (Vec ℕ Global)) (programs : Option (Vec (Vec Op Global) Global)) (deeds : Option (Vec Deed Global)) (other : Members) (w : Workload) → IsUtf8 bytes
+-- the whole document is what stands behind the front, with the values there besides
+pub read_by_front : (values : List ℕ → Option Data) (bytes left : List ℕ) (v : Version) (callers : Option (Vec ℕ Global)) (programs : Option (Vec (Vec Op Global) Global)) (deeds : Option (Vec Deed Global)) (other : Members) → IsUtf8 bytes
     → Holds values (Some v) callers programs deeds → BeginsWith values left bytes → parse_document left ≡ Some other → get_member (codes "version") other ≡ None → (is_some callers ≡ true → get_member (codes "order") other ≡ None)
-    → (is_some programs ≡ true → get_member (codes "program") other ≡ None) → (is_some deeds ≡ true → get_member (codes "script") other ≡ None) → ((whole : Members) → HasBesides values other whole → workload_in (limits_of v) whole ≡ Ok w) → described bytes ≡ Ok w
-read_by_front values bytes left v callers programs deeds other w utf8 holds begins parsed no_version no_order no_programs no_script describes =
+    → (is_some programs ≡ true → get_member (codes "program") other ≡ None) → (is_some deeds ≡ true → get_member (codes "script") other ≡ None) → (whole : Members) × HasBesides values other whole × (described bytes ≡ workload_in (limits_of v) whole)
+read_by_front values bytes left v callers programs deeds other utf8 holds begins parsed no_version no_order no_programs no_script =
     let (document, whole, has) = begins other parsed (lacks_all values v callers programs deeds other holds no_version no_order no_programs no_script) in
     let versioned = version_found v (values (codes "version")) (get_member (codes "version") other) document holds.version_is (has (codes "version")) in
-    ap (λ (r : Result Members LoadFault). r >>= workload_of) (document_of-read bytes document utf8 whole) ∙ in_version document v versioned ∙ describes document has
+    (document, has, ap (λ (r : Result Members LoadFault). r >>= workload_of) (document_of-read bytes document utf8 whole) ∙ in_version document v versioned)

@@ -14,6 +14,10 @@ found {A} {B} m f a r is on = ap (λ (s : Result A LoadFault). s >>= f) is ∙ o
 failed : {A B : Type 0} (m : Result A LoadFault) (f : A → Result B LoadFault) (e : LoadFault) → m ≡ Err e → (m >>= f) ≡ Err e
 failed {A} {B} m f e is = ap (λ (s : Result A LoadFault). s >>= f) is
 
+-- a fault of the other is one, where both are the same
+pub same_fault : {A : Type 0} (m other : Result A LoadFault) (e : LoadFault) → m ≡ other → (e ≡ Memory) ⊎ (other ≡ Err e) → (e ≡ Memory) ⊎ (m ≡ Err e)
+same_fault m other e same h = ⊎_elim inl (λ f. inr (same ∙ f)) h
+
 module _ (limits : Limits) (document : Members) where
   -- out of memory, or the fault of the document
   abbrev IsFault : LoadFault → Type 0
@@ -23,10 +27,30 @@ module _ (limits : Limits) (document : Members) where
   unfolding workload_in
   tasks_fault e h = ⊎_elim inl (λ f. inr (failed _ _ e f)) h
 
+  pub programs_fault : (specs : List TaskSpec) → tasks limits document ≡ Ok specs → (e : LoadFault) → (e ≡ Memory) ⊎ (programs limits document ≡ Err e) → IsFault e
+  unfolding workload_in
+  programs_fault specs has_specs e h = ⊎_elim inl (λ f. inr (found _ _ specs _ has_specs (failed _ _ e f))) h
+
   module _ (specs : List TaskSpec) (has_specs : tasks limits document ≡ Ok specs) (operations : List (List Op)) (has_operations : programs limits document ≡ Ok operations) where
     pub order_fault : (e : LoadFault) → (e ≡ Memory) ⊎ (order document ≡ Err e) → IsFault e
     unfolding workload_in
     order_fault e h = ⊎_elim inl (λ f. inr (found _ _ specs _ has_specs (found _ _ operations _ has_operations (failed _ _ e f)))) h
+
+    pub script_fault : (callers : Option (List ℕ)) → order document ≡ Ok callers → (e : LoadFault) → (e ≡ Memory) ⊎ (script limits document ≡ Err e) → IsFault e
+    unfolding workload_in
+    script_fault callers has_callers e h =
+        ⊎_elim inl (λ f. inr (found _ _ specs _ has_specs (found _ _ operations _ has_operations (found _ _ callers _ has_callers (failed _ _ e f))))) h
+
+    module _ (callers : Option (List ℕ)) (has_callers : order document ≡ Ok callers) (deeds : Option (List Deed)) (has_deeds : script limits document ≡ Ok deeds) where
+      pub setup_fault : (e : LoadFault) → (e ≡ Memory) ⊎ (setup_of limits specs operations ≡ Err e) → IsFault e
+      unfolding workload_in
+      setup_fault e h =
+          ⊎_elim inl (λ f. inr (found _ _ specs _ has_specs (found _ _ operations _ has_operations (found _ _ callers _ has_callers (found _ _ deeds _ has_deeds (failed _ _ e f)))))) h
+
+      pub deed_fault : (setup : Setup) → setup_of limits specs operations ≡ Ok setup → (e : LoadFault) → allowed setup deeds ≡ Err e → IsFault e
+      unfolding workload_in
+      deed_fault setup has_setup e f =
+          inr (found _ _ specs _ has_specs (found _ _ operations _ has_operations (found _ _ callers _ has_callers (found _ _ deeds _ has_deeds (found _ _ setup _ has_setup (failed _ _ e f))))))
 
     pub whole : (callers : Option (List ℕ)) (deeds : Option (List Deed)) (setup : Setup) → order document ≡ Ok callers → script limits document ≡ Ok deeds → setup_of limits specs operations ≡ Ok setup → allowed setup deeds ≡ Ok tt
         → workload_in limits document ≡ Ok (record { setup = setup; order = callers; script = deeds })

@@ -1,6 +1,6 @@
 -- Where a fault stands in the text of a workload.
 use Rattle.std.specs.Prelude.{◌≡◌, ◌≤◌, ◌⊎◌, false, ◌==◌, ℕ, ◌+◌, ◌-◌, ◌||◌, nat_lt, nat_le, if◌then◌else◌, Bool, true, List, [], ◌∷◌, length, take, drop, codes, Option, Some, None, option_and_then, Ok}
-use Rattle.toml.specs.Data.{Data, Members, get_member, get, at, as_str, as_integer, as_bool, type_of}
+use Rattle.toml.specs.Data.{Data, table, array, Members, get_member, get, at, as_str, as_integer, as_bool, type_of}
 use Rattle.toml.specs.Parse.{parse_value}
 use Rattle.eevdf_ops.specs.declared.setup_fault.SetupFault.TheVariants as setup
 use Rattle.eevdf_workload.specs.declared.load_fault.Key.{Key}
@@ -62,6 +62,30 @@ pub record Writes (text : List ℕ) (value : Data) : Type 0 where
   pub parsed : parse_value text ≡ Some written
   pub alike : Alike written value
 
+-- a value of which lines of their own may make the parts
+abbrev pub has_parts : Data → Bool
+has_parts (table _) = true
+has_parts (array _) = true
+has_parts _ = false
+
+-- the name of a key in its table; of a member of a list that of the list
+abbrev pub name_of : Key → List ℕ
+name_of key.Version = codes "version"
+name_of key.Tasks = codes "task"
+name_of (key.Task i) = codes "task"
+name_of (key.Home i) = codes "home"
+name_of (key.Nice i) = codes "nice"
+name_of (key.Slice i) = codes "slice"
+name_of (key.Start i) = codes "start"
+name_of (key.Asleep i) = codes "asleep"
+name_of key.Programs = codes "program"
+name_of (key.Program cpu) = codes "program"
+name_of (key.Op cpu i) = codes "program"
+name_of key.Orders = codes "order"
+name_of (key.Order i) = codes "order"
+name_of key.Scripts = codes "script"
+name_of (key.Script i) = codes "script"
+
 -- ---- places
 
 abbrev pub at_place : Place → List ℕ → List ℕ
@@ -78,13 +102,23 @@ pub record IsInWritten (text : List ℕ) (value : Data) (place : Place) : Type 0
   pub after : member.start ≤ place.start
   pub before : place.end ≤ member.end
 
+-- the place of a key's name, where lines of their own may make the parts of the value
+pub record IsNamed (text : List ℕ) (k : Key) (value : Data) (place : Place) : Type 0 where
+  pub parted : has_parts value ≡ true
+  pub within : LiesIn text place
+  pub name : at_place place text ≡ name_of k
+
+-- a place in what writes the value at a key, or of the key's name
+abbrev pub IsOfValue : List ℕ → Key → Data → Place → Type 0
+IsOfValue text k value place = IsInWritten text value place ⊎ IsNamed text k value place
+
 -- a place in the text of what the document has at a key
 pub record IsOfMember (text : List ℕ) (k : Key) (place : Place) : Type 0 where
   pub document : Members
   pub read : document_of text ≡ Ok document
   pub value : Data
   pub found : value_at k document ≡ Some value
-  pub written : IsInWritten text value place
+  pub placed : IsOfValue text k value place
 
 -- the key that a fault names, if it names one
 abbrev pub key_of : LoadFault → Option Key
@@ -114,7 +148,7 @@ abbrev pub IsPlaced : List ℕ → Key → Place → Type 0
 IsPlaced text k place = (may_be_header k ≡ true) ⊎ IsOfMember text k place
 
 abbrev pub IsPlacedAt : List ℕ → Key → Data → Place → Type 0
-IsPlacedAt text k value place = (may_be_header k ≡ true) ⊎ IsInWritten text value place
+IsPlacedAt text k value place = (may_be_header k ≡ true) ⊎ IsOfValue text k value place
 
 -- a place with its line and its column
 pub record IsMark (text : List ℕ) (mark : Mark) : Type 0 where

@@ -6,8 +6,11 @@ ghost use Rattle.eevdf_workload.specs.Places as spec;
 ghost use Rattle.toml.specs.View.{view};
 
 mod expectations;
+mod first_words;
+mod known_words;
 mod machine;
 mod member_places;
+mod name_places;
 mod parts;
 mod positions;
 pub mod shown;
@@ -20,6 +23,7 @@ mod written;
 use crate::explaining::expectations::{missing, refused, wrong};
 use crate::explaining::machine::Machine;
 use crate::explaining::member_places::{behind_header, header_of, place_of};
+use crate::explaining::name_places::{name_of, name_place};
 use crate::explaining::positions::position;
 use crate::explaining::tokens::Place;
 use crate::explaining::word_faults::WordFault;
@@ -52,8 +56,9 @@ pub struct Explanation {
 ///
 /// A mark lies in the bytes. Where the fault names a member that no header makes, as a deed, an operation or a key of a task, the mark
 /// lies in bytes that write such a value as the document has there: one of its type, and where that is a string, an integer or a
-/// boolean, the same. Of a whole list it lies in the bytes. A text that is no TOML document is marked where `toml`'s own error says.
-/// The words of the message follow from no clause.
+/// boolean, the same. Where that is a table or an array that lines of their own make, part by part, as `nice.x = 3` does, the mark is the
+/// name of the key. Of a whole list it lies in the bytes. A text that is no TOML document is marked where `toml`'s own error says. The words
+/// of the message follow from no clause.
 pub fn explain(alloc: Global, bytes: &[u8], fault: &LoadFault) -> Option<Explanation>
     ensures marked { IfSome result (λ e. IfSome e.mark (spec.IsMark bytes.now)) }
     ensures member { IfSome result (λ e. IfSome e.mark (λ m.
@@ -171,7 +176,36 @@ fn place_in(
     }
     match member_place(alloc, bytes, key, value)? {
         Some(member) => Ok(Some(word_in(bytes, member, value, word))),
-        None => Ok(None),
+        None => Ok(named_place(bytes, key, value)),
+    }
+}
+
+/// The name of a key at which lines of their own may make the value, part by part, where it is found.
+fn named_place(bytes: &[u8], key: &Key, value: &Value) -> Option<Place>
+    ensures lies { IfSome result (spec.LiesIn bytes.now) }
+    ensures named { IfSome result (spec.IsNamed bytes.now key.now (view value.now)) }
+{
+    if !has_parts(value) {
+        return None;
+    }
+    let place = name_place(bytes, key)?.within(bytes)?;
+    let Some(text) = bytes.get(place.start..place.end) else {
+        return None;
+    };
+    if text == name_of(key).as_bytes() {
+        Some(place)
+    } else {
+        None
+    }
+}
+
+/// Whether a value is a table or an array, which lines of their own may make.
+fn has_parts(value: &Value) -> bool
+    ensures { result ≡ spec.has_parts (view value.now) }
+{
+    match value {
+        Value::Table(_) | Value::Array(_) => true,
+        _ => false,
     }
 }
 
@@ -241,13 +275,16 @@ fn may_be_header(key: &Key) -> bool
     }
 }
 
-/// The value at such a key, or its header. Of too many tasks it is the header of the first one too many.
+/// The value at such a key, its header or its name. Of too many tasks it is the header of the first one too many.
 fn list_place(bytes: &[u8], key: &Key) -> Option<Place>
     ensures { IfSome result (spec.LiesIn bytes.now) }
 {
     let place = match place_of(bytes, key) {
         Some(place) => place,
-        None => header_at(bytes, key)?,
+        None => match header_at(bytes, key) {
+            Some(header) => header,
+            None => name_place(bytes, key)?,
+        },
     };
     place.within(bytes)
 }

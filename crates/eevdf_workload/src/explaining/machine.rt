@@ -1,7 +1,7 @@
 //! What a document says of the machine, for what is told of a fault.
 
 use crate::reading::document_keys::version;
-use crate::version::Version;
+use crate::version::{Limits, Version};
 use toml::{Table, Value};
 
 /// What a document has, as far as it can be read.
@@ -23,12 +23,9 @@ impl<'a> Machine<'a> {
         }
     }
 
-    pub(crate) fn knows_renice(&self) -> bool {
-        self.version.limits().renice
-    }
-
-    pub(crate) fn knows_begin(&self) -> bool {
-        self.version.limits().begin
+    /// What a workload of its version may hold.
+    pub(crate) fn limits(&self) -> Limits {
+        self.version.limits()
     }
 
     /// The home of a task.

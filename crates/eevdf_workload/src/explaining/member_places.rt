@@ -1,7 +1,7 @@
 //! Where the members of a workload stand in its text, which is a TOML document. A place that is found isn't proved to be the
 //! right one: `member_at` compares what stands there with the value that the document has.
 
-use crate::explaining::parts::{Elements, Lines};
+use crate::explaining::parts::{Elements, Lines, Names};
 use crate::explaining::tokens::{Kind, Place, Tokens};
 use crate::load_fault::Key;
 
@@ -69,7 +69,7 @@ fn task_value(text: &[u8], task: usize, name: &str) -> Option<Place> {
 }
 
 /// The value at a key before the first header.
-fn value_of(text: &[u8], name: &str) -> Option<Place> {
+pub(crate) fn value_of(text: &[u8], name: &str) -> Option<Place> {
     value_before_header(text, &mut Lines::of(text), name)
 }
 
@@ -104,7 +104,7 @@ fn value_before_header(text: &[u8], lines: &mut Lines, name: &str) -> Option<Pla
 }
 
 /// The element with this index of the array at a place.
-fn element(text: &[u8], array: Place, index: usize) -> Option<Place> {
+pub(crate) fn element(text: &[u8], array: Place, index: usize) -> Option<Place> {
     let mut elements = Elements::of(text, array);
     for _element in 0..index.min(elements.most()) {
         elements.next()?;
@@ -139,30 +139,24 @@ fn value_in(text: &[u8], pair: Place, name: &str) -> Option<Place> {
     }
 }
 
-fn is_header(text: &[u8], line: Place) -> bool {
+pub(crate) fn is_header(text: &[u8], line: Place) -> bool {
     text.get(line.start) == Some(&b'[')
 }
 
 /// Whether a line is the header of a table, or of one more in an array of tables, with this name.
-fn is_header_of(text: &[u8], line: Place, name: &str) -> bool {
+pub(crate) fn is_header_of(text: &[u8], line: Place, name: &str) -> bool {
     if !is_header(text, line) {
         return false;
     }
-    let mut tokens = Tokens::within(text, line);
-    for _token in 0..tokens.most() {
-        match tokens.next() {
-            Some(token) => match token.kind {
-                Kind::Open => {}
-                _ => return is_name(text, token.place, name),
-            },
-            None => return false,
-        }
+    let mut names = Names::of(text, line);
+    match names.next() {
+        Some(place) => is_name(text, place, name) && names.next().is_none(),
+        None => false,
     }
-    false
 }
 
 /// Whether a name stands at a place, with quotes or without.
-fn is_name(text: &[u8], place: Place, name: &str) -> bool {
+pub(crate) fn is_name(text: &[u8], place: Place, name: &str) -> bool {
     let Some(word) = text.get(place.start..place.end) else {
         return false;
     };

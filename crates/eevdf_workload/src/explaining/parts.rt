@@ -1,4 +1,4 @@
-//! The parts of a document, one after the other: its lines, and what commas part in an array or an inline table.
+//! The parts of a document, one after the other: its lines, what commas part in an array or an inline table, and what dots part in a key.
 
 use crate::explaining::tokens::{Kind, Place, Token, Tokens};
 
@@ -97,6 +97,39 @@ impl<'a> Elements<'a> {
         }
         self.is_over = true;
         element
+    }
+}
+
+/// The names of the key or the header that a line begins with, which dots part.
+#[derive(Drop)]
+pub(crate) struct Names<'a> {
+    tokens: Tokens<'a>,
+    is_over: bool,
+}
+
+impl<'a> Names<'a> {
+    /// The names at the front of a line.
+    pub(crate) fn of(text: &'a [u8], line: Place) -> Names<'a> {
+        Names {
+            tokens: Tokens::within(text, line),
+            is_over: false,
+        }
+    }
+
+    /// The place of the next name, with its quotes.
+    pub(crate) fn next(&mut self) -> Option<Place> {
+        for _token in 0..self.tokens.most() {
+            if self.is_over {
+                return None;
+            }
+            let token = self.tokens.next()?;
+            match token.kind {
+                Kind::Open | Kind::Dot => {}
+                Kind::Word => return Some(token.place),
+                _ => self.is_over = true,
+            }
+        }
+        None
     }
 }
 

@@ -40,6 +40,8 @@ pub(crate) enum Kind {
     Close,
     Comma,
     Equals,
+    /// It parts the names of a key; one in a number or a date parts that too.
+    Dot,
     /// A string with its quotes, or whatever stands between two of the others.
     Word,
 }
@@ -80,6 +82,7 @@ impl<'a> Tokens<'a> {
             b']' | b'}' => (Kind::Close, start + 1),
             b',' => (Kind::Comma, start + 1),
             b'=' => (Kind::Equals, start + 1),
+            b'.' => (Kind::Dot, start + 1),
             b'"' | b'\'' => (Kind::Word, quoted_end(self.text, start, byte)),
             _ => (Kind::Word, bare_end(self.text, start)),
         };
@@ -110,9 +113,10 @@ fn blank_end(text: &[u8], from: usize) -> usize {
 fn bare_end(text: &[u8], from: usize) -> usize {
     for at in from..text.len() {
         match text[at] {
-            b' ' | b'\t' | b'\r' | b'\n' | b'#' | b',' | b'=' | b'[' | b']' | b'{' | b'}' => {
-                return at;
-            }
+            b' ' | b'\t' | b'\r' | b'\n' | b'#' | b',' | b'=' | b'.' | b'[' | b']' | b'{' | b'}' =>
+                {
+                    return at;
+                }
             _ => {}
         }
     }

@@ -3,19 +3,19 @@
 ghost use Rattle.std.specs.Prelude.{IfOk, IfSome};
 ghost use Rattle.eevdf_workload.specs.Places as spec;
 
-use crate::explaining::parts::{Elements, Lines};
+use crate::explaining::known_words::nearest;
+use crate::explaining::parts::{Elements, Lines, Names};
 use crate::explaining::tokens::{Kind, Place, Tokens};
 use crate::explaining::word_texts::told_word;
 use crate::explaining::{Explanation, mark_of};
 use crate::reading::unread::{IN_DOCUMENT, IN_TASK};
 use std::alloc::{AllocError, Global};
-use strsim::osa_distance;
 
 /// So many keys are told at most.
 const MOST_TOLD: usize = 10;
 
-/// A longer word is like none that is known.
-const MOST_ALIKE: usize = 32;
+/// What is told of the one after them.
+const NOT_TOLD: &str = "nothing reads this key either; ten are told at most, and there may be more";
 
 /// What a key belongs to.
 #[derive(Clone, Copy)]
@@ -26,8 +26,9 @@ enum Owner {
     Unread,
 }
 
-/// The first ten keys of a workload that nothing reads, each with its place and the nearest known key. They are found in the text of the
-/// workload alone, which isn't read as a document for it. A mark lies in the bytes. `None` where there is no memory.
+/// The first ten keys of a workload that nothing reads, each with its place and the nearest known key, and where there are more, the place
+/// of the next one. They are found in the text of the workload alone, which isn't read as a document for it. A mark lies in the bytes.
+/// `None` where there is no memory.
 pub fn unread_keys(alloc: Global, bytes: &[u8]) -> Option<Vec<Explanation>> {
     match in_lines(alloc, bytes) {
         Ok(told) => Some(told),
@@ -51,7 +52,7 @@ fn in_lines(alloc: Global, bytes: &[u8]) -> Result<Vec<Explanation>, AllocError>
                 of_tables(alloc, bytes, line, &mut told)?;
             }
         }
-        if told.len() >= MOST_TOLD {
+        if told.len() > MOST_TOLD {
             return Ok(told);
         }
     }
@@ -65,31 +66,28 @@ fn of_header(
     line: Place,
     told: &mut Vec<Explanation>,
 ) -> Result<Owner, AllocError> {
-    let mut tokens = Tokens::within(bytes, line);
-    for _token in 0..tokens.most() {
-        let Some(token) = tokens.next() else {
-            return Ok(Owner::Unread);
-        };
-        match token.kind {
-            Kind::Open => {}
-            Kind::Word => {
-                let Some(name) = name_at(bytes, token.place) else {
-                    return Ok(Owner::Unread);
-                };
-                if name == "task" {
-                    return Ok(Owner::Task);
-                }
-                if !IN_DOCUMENT.contains(&name) {
-                    let word = told_word(alloc, name)?;
-                    let message = format!(in alloc;
-                        "nothing reads the table {word}; each table of a workload is a [[task]]"
-                    )?;
-                    push(bytes, token.place, message, told)?;
-                }
-                return Ok(Owner::Unread);
+    let mut names = Names::of(bytes, line);
+    let Some(place) = names.next() else {
+        return Ok(Owner::Unread);
+    };
+    let Some(name) = name_at(bytes, place) else {
+        return Ok(Owner::Unread);
+    };
+    if name == "task" {
+        return match names.next() {
+            Some(part) => {
+                of_key(alloc, bytes, part, Owner::Task, told)?;
+                Ok(Owner::Unread)
             }
-            _ => return Ok(Owner::Unread),
-        }
+            None => Ok(Owner::Task),
+        };
+    }
+    if !IN_DOCUMENT.contains(&name) {
+        let word = told_word(alloc, name)?;
+        let message = format!(in alloc;
+            "nothing reads the table {word}; each table of a workload is a [[task]]"
+        )?;
+        push(alloc, bytes, place, message, told)?;
     }
     Ok(Owner::Unread)
 }
@@ -118,7 +116,7 @@ fn of_tables(
                 break;
             };
             of_pair(alloc, bytes, pair, Owner::Task, told)?;
-            if told.len() >= MOST_TOLD {
+            if told.len() > MOST_TOLD {
                 return Ok(());
             }
         }
@@ -134,9 +132,20 @@ fn of_pair(
     owner: Owner,
     told: &mut Vec<Explanation>,
 ) -> Result<(), AllocError> {
-    let Some((key, _)) = pair_at(bytes, pair) else {
-        return Ok(());
-    };
+    match pair_at(bytes, pair) {
+        Some((key, _)) => of_key(alloc, bytes, key, owner, told),
+        None => Ok(()),
+    }
+}
+
+/// The first name of a key, if nothing reads it.
+fn of_key(
+    alloc: Global,
+    bytes: &[u8],
+    key: Place,
+    owner: Owner,
+    told: &mut Vec<Explanation>,
+) -> Result<(), AllocError> {
     let Some(name) = name_at(bytes, key) else {
         return Ok(());
     };
@@ -145,7 +154,7 @@ fn of_pair(
         Owner::Task if !IN_TASK.contains(&name) => unread_of_task(alloc, name)?,
         _ => return Ok(()),
     };
-    push(bytes, key, message, told)
+    push(alloc, bytes, key, message, told)
 }
 
 fn unread_of_workload(alloc: Global, name: &str) -> Result<String, AllocError> {
@@ -183,36 +192,21 @@ fn unread_of_task(alloc: Global, name: &str) -> Result<String, AllocError> {
     }
 }
 
-/// The known word that is the fewest edits away, if a third of the letters may differ.
-fn nearest<'a>(
-    alloc: Global,
-    word: &str,
-    known: &[&'a str],
-) -> Result<Option<&'a str>, AllocError> {
-    if word.len() > MOST_ALIKE {
-        return Ok(None);
-    }
-    let mut least = word.len().max(3) / 3;
-    let mut found = None;
-    for name in known.iter() {
-        let distance = osa_distance(alloc, word, *name)?;
-        if distance < least || (distance == least && found.is_none()) {
-            least = distance;
-            found = Some(*name);
-        }
-    }
-    Ok(found)
-}
-
-/// The key and the value of the pair at a place.
+/// The first name of the key and the value of the pair at a place.
 fn pair_at(bytes: &[u8], pair: Place) -> Option<(Place, Place)> {
     let mut tokens = Tokens::within(bytes, pair);
     let key = tokens.next()?;
-    let Kind::Equals = tokens.next()?.kind else {
-        return None;
-    };
-    let value = tokens.next()?;
-    Some((key.place, value.place.up_to(pair)))
+    for _token in 0..tokens.most() {
+        match tokens.next()?.kind {
+            Kind::Equals => {
+                let value = tokens.next()?;
+                return Some((key.place, value.place.up_to(pair)));
+            }
+            Kind::Dot | Kind::Word => {}
+            _ => return None,
+        }
+    }
+    None
 }
 
 /// The name at a place, without its quotes. One that is written with an escape isn't looked at.
@@ -229,13 +223,20 @@ fn name_at(bytes: &[u8], place: Place) -> Option<&str> {
     std::str::from_utf8(inner).ok()
 }
 
+/// Tells a key, or that there are more than are told.
 fn push(
+    alloc: Global,
     bytes: &[u8],
     place: Place,
     message: String,
     told: &mut Vec<Explanation>,
 ) -> Result<(), AllocError> {
     let mark = mark_of(bytes, place.within(bytes));
+    let message = if told.len() < MOST_TOLD {
+        message
+    } else {
+        NOT_TOLD.to_string(alloc)?
+    };
     told.push(Explanation { mark, message })?;
     Ok(())
 }

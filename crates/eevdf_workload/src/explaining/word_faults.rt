@@ -1,5 +1,6 @@
 //! What is wrong with the text of an operation or a deed, from its first word to its last.
 
+use crate::explaining::first_words::{misplaced_fault, unknown_fault};
 use crate::explaining::machine::Machine;
 use crate::explaining::tokens::Place;
 use crate::explaining::word_texts::{is_of_digits, shortened, told_word, word_at};
@@ -33,19 +34,8 @@ pub(crate) struct Work<'a> {
     pub(crate) cpu: Option<usize>,
 }
 
-/// The words of an operation, of a script or of a program, as far as they are told.
-fn known_words(work: Work) -> &'static str {
-    match (work.cpu, work.machine.knows_begin()) {
-        (None, false) => "tick, pick, yield, sleep, pull, renice, wake",
-        (Some(_), false) => "tick, pick, yield, sleep, pull, renice, post, drain",
-        (None, true) => "tick, pick, yield, sleep, pull, renice, begin, end, set, rebase, wake",
-        (Some(_), true) => {
-            "tick, pick, yield, sleep, pull, renice, begin, end, set, rebase, post, drain"
-        }
-    }
-}
-
-type Found = Result<Option<WordFault>, AllocError>;
+/// The first fault, if there is one.
+pub(crate) type Found = Result<Option<WordFault>, AllocError>;
 
 /// The first word that can't be read or that the machine doesn't allow, if there is one.
 pub(crate) fn word_fault(alloc: Global, work: Work) -> Found {
@@ -91,28 +81,16 @@ fn deed_fault(alloc: Global, work: Work) -> Found {
 
 /// The fault of the operation of a CPU whose first word has this index.
 fn operation_fault(alloc: Global, work: Work, cpu: usize, first: usize) -> Found {
-    let (start, word) = word_at(work.text, first);
-    let is_deed = work.cpu.is_none();
-    if is_deed && word == "wake" {
+    let (_, word) = word_at(work.text, first);
+    if work.cpu.is_none() && word == "wake" {
         return wake_fault(alloc, work, cpu);
     }
     let next = first.saturating_add(1);
     let after = first.saturating_add(2);
+    if let Some(fault) = misplaced_fault(alloc, work, first)? {
+        return Ok(Some(fault));
+    }
     match Verb::of(word.as_bytes()) {
-        Some(Verb::Post | Verb::Drain) if is_deed => {
-            let known = known_words(work);
-            let message = format!(in alloc;
-                "\"{word}\" stands in programs alone; operations of a script are {known}"
-            )?;
-            found(message, place_of(start, word))
-        }
-        Some(Verb::Renice) if !work.machine.knows_renice() => {
-            let message = "\"renice\" is known from version 2 on".to_string(alloc)?;
-            found(message, place_of(start, word))
-        }
-        Some(Verb::Begin | Verb::End | Verb::Set | Verb::Rebase) if !work.machine.knows_begin() => {
-            unknown_fault(alloc, work, first)
-        }
         Some(Verb::Pick | Verb::Yield | Verb::Drain | Verb::Rebase) => {
             more_fault(alloc, work, next)
         }
@@ -147,15 +125,6 @@ fn operation_fault(alloc: Global, work: Work, cpu: usize, first: usize) -> Found
         ),
         None => unknown_fault(alloc, work, first),
     }
-}
-
-/// A word that no operation begins with.
-fn unknown_fault(alloc: Global, work: Work, index: usize) -> Found {
-    let (start, word) = word_at(work.text, index);
-    let known = known_words(work);
-    let word_text = told_word(alloc, word)?;
-    let message = format!(in alloc; "unknown operation {word_text}; operations are {known}")?;
-    found(message, place_of(start, word))
 }
 
 /// The fault of a task, a level and a slice, and of what follows them.
@@ -358,11 +327,11 @@ fn first_of(first: Option<WordFault>, second: Found) -> Found {
     }
 }
 
-fn found(message: String, word: Place) -> Found {
+pub(crate) fn found(message: String, word: Place) -> Found {
     Ok(Some(WordFault { word, message }))
 }
 
-fn place_of(start: usize, word: &str) -> Place {
+pub(crate) fn place_of(start: usize, word: &str) -> Place {
     Place {
         start,
         end: start.saturating_add(word.len()),

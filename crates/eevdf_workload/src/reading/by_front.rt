@@ -1,9 +1,10 @@
 //! Reading a workload of which lists stand in front: no tree is made of them.
 
-ghost use Rattle.std.specs.Prelude.{◌≡◌, List, ℕ, Option, true, is_some, Ok, Some, None, codes, option_map, IfErr, IfOk, IfSome};
+ghost use Rattle.std.specs.Prelude.{◌≡◌, ◌⊎◌, List, ℕ, Option, true, is_some, Ok, Err, Some, None, codes, option_map, IfErr, IfOk, IfSome};
 ghost use Rattle.std.specs.Option.{option_or};
 ghost use Rattle.eevdf_workload.specs.Fronts.{described, programs_in, HasBesides, Holds, IsReadAs};
 ghost use Rattle.eevdf_workload.specs.Meaning as meant;
+ghost use Rattle.eevdf_workload.specs.MeaningSteps.{Reads};
 ghost use Rattle.eevdf_workload.specs.Versions.{limits_of};
 ghost use Rattle.eevdf_workload.specs.declared.load_fault.LoadFault.TheVariants.{Memory};
 ghost use Rattle.toml.specs.Data.{Data, Members, get_member};
@@ -23,11 +24,11 @@ use eevdf_ops::{Deed, Op};
 use std::alloc::Global;
 use toml::Table;
 
-/// The workload that the bytes of a document describe, if its version and one of its lists stand in front of all else. `None` where
-/// they don't, and where anything is wrong: the whole document then tells what.
+/// The workload that the bytes of a document describe, or the first fault in it, if its version and one of its lists stand in front of all
+/// else. `None` where they don't, and where what is wrong is in the front or makes what stands behind it no document: the whole then tells.
 pub(crate) fn workload_by_front(alloc: Global, bytes: &[u8]) -> Result<Option<Workload>, LoadFault>
     ensures value { IfOk result (λ found. IfSome found (λ w. described bytes.now ≡ Ok w)) }
-    ensures memory { IfErr result (λ e. e ≡ Memory) }
+    ensures fault { IfErr result (λ e. (e ≡ Memory) ⊎ (described bytes.now ≡ Err e)) }
 {
     let Ok(text) = std::str::from_utf8(bytes) else {
         return Ok(None);
@@ -41,7 +42,7 @@ pub(crate) fn workload_by_front(alloc: Global, bytes: &[u8]) -> Result<Option<Wo
     if front.order.is_none() && front.programs.is_none() && front.script.is_none() {
         return Ok(None);
     }
-    // where nearly all stands behind the front, it saves next to nothing, and a fault there would have all read twice
+    // where nearly all stands behind the front, it saves next to nothing, and what is no document there would be read twice
     if front.left.len() > text.len() / 16 * 15 {
         return Ok(None);
     }
@@ -50,8 +51,7 @@ pub(crate) fn workload_by_front(alloc: Global, bytes: &[u8]) -> Result<Option<Wo
     };
     match workload_beside(alloc, version, front, document) {
         Ok(workload) => Ok(Some(workload)),
-        Err(LoadFault::Memory) => Err(LoadFault::Memory),
-        Err(_) => Ok(None),
+        Err(fault) => Err(fault),
     }
 }
 
@@ -97,17 +97,18 @@ fn lacks(document: &Table, name: &str, in_front: bool) -> bool
     }
 }
 
-/// The workload that a document describes with what its front has besides. Which fault comes where it describes none is left open.
+/// The workload that a document describes with what its front has besides, or the first fault in the whole. The front has none, so it is
+/// behind it, or between the two. The script is read before the order, which takes the document, but a fault of the order comes first.
 fn workload_beside(
     alloc: Global,
     version: Version,
     front: Front,
     document: Table,
 ) -> Result<Workload, LoadFault>
-    ensures { IfOk result (λ w. (values : List ℕ → Option Data) (whole : Members)
+    ensures { (values : List ℕ → Option Data) (whole : Members)
         → Holds values (Some version) front.entry.order front.entry.programs front.entry.script
         → HasBesides values (table_view document) whole
-        → meant.workload_in (limits_of version) whole ≡ Ok w) }
+        → Reads (λ w. w) (meant.workload_in (limits_of version) whole) result }
 {
     let Front {
         version: _,
@@ -119,9 +120,10 @@ fn workload_beside(
     let limits = version.limits();
     let tasks = tasks(alloc, limits, &document)?;
     let programs = programs_beside(alloc, limits, programs, &document)?;
-    let script = script_beside(alloc, limits, script, &document)?;
+    let script = script_beside(alloc, limits, script, &document);
     let has_unread_keys = has_unread_keys(&document);
     let order = order_beside(alloc, order, document)?;
+    let script = script?;
     let setup = setup_of(alloc, limits, &tasks, &programs)?;
     check_script(&setup, &script)?;
     Ok(Workload::new(setup, order, script, has_unread_keys))
@@ -134,10 +136,10 @@ fn programs_beside(
     found: Option<Vec<Vec<Op>>>,
     document: &Table,
 ) -> Result<Vec<Vec<Op>>, LoadFault>
-    ensures { IfOk result (λ r. (d : Option Data) (whole : Members)
+    ensures { (d : Option Data) (whole : Members)
         → IsReadAs (meant.programs_of limits) d (option_map (λ v. programs_in v) found)
         → get_member (codes "program") whole ≡ option_or d (get_member (codes "program") (table_view document.now))
-        → meant.programs limits whole ≡ Ok (programs_in r)) }
+        → Reads (λ v. programs_in v) (meant.programs limits whole) result }
 {
     match found {
         Some(programs) => Ok(programs),
@@ -152,10 +154,10 @@ fn script_beside(
     found: Option<Vec<Deed>>,
     document: &Table,
 ) -> Result<Option<Vec<Deed>>, LoadFault>
-    ensures { IfOk result (λ r. (d : Option Data) (whole : Members)
+    ensures { (d : Option Data) (whole : Members)
         → IsReadAs (meant.script_of limits) d (option_map (λ v. v.items) found)
         → get_member (codes "script") whole ≡ option_or d (get_member (codes "script") (table_view document.now))
-        → meant.script limits whole ≡ Ok (option_map (λ v. v.items) r)) }
+        → Reads (λ r. option_map (λ v. v.items) r) (meant.script limits whole) result }
 {
     match found {
         Some(script) => Ok(Some(script)),
@@ -169,10 +171,10 @@ fn order_beside(
     found: Option<Vec<usize>>,
     document: Table,
 ) -> Result<Option<Vec<usize>>, LoadFault>
-    ensures { IfOk result (λ r. (d : Option Data) (whole : Members)
+    ensures { (d : Option Data) (whole : Members)
         → IsReadAs meant.order_of d (option_map (λ v. v.items) found)
         → get_member (codes "order") whole ≡ option_or d (get_member (codes "order") (table_view document))
-        → meant.order whole ≡ Ok (option_map (λ v. v.items) r)) }
+        → Reads (λ r. option_map (λ v. v.items) r) (meant.order whole) result }
 {
     match found {
         Some(order) => Ok(Some(order)),

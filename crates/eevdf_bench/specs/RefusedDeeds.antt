@@ -1,0 +1,37 @@
+-- The deeds of a script that are refused: what a person who wrote it takes for a mistake of the script.
+use Rattle.std.specs.Prelude.{ℕ, suc, Bool, false, true, if◌then◌else◌, List, [], ◌∷◌, Option, None, Some}
+use Rattle.eevdf_ops.specs.{declared.deeds.Answer.Answer, declared.deeds.Deed.Deed, declared.deeds.Line.Line}
+use Rattle.eevdf_ops.specs.declared.deeds.Answer.TheVariants.{Awake, Idle, NotHere, NotRunning, Range}
+use Rattle.eevdf_ops.specs.declared.deeds.Deed.TheVariants.{Yield}
+use Rattle.eevdf_ops.specs.{Machine.start, Setup.Setup, Setup.homes_of, Whole.lines_of}
+use Rattle.eevdf_bench.specs.declared.refused_deeds.RefusedDeed.{RefusedDeed}
+use Rattle.eevdf_workload.specs.Meaning.{Workload}
+
+abbrev pub is_yield : Deed → Bool
+is_yield (Yield cpu) = true
+is_yield _ = false
+
+-- the machine isn't as the deed takes it to be; that there is nothing to pick, to charge or to pull is no refusal
+abbrev pub is_refusal : Answer → Deed → Bool
+is_refusal NotRunning d = true
+is_refusal Awake d = true
+is_refusal NotHere d = true
+is_refusal Range d = true
+is_refusal Idle d = is_yield d
+is_refusal _ d = false
+
+abbrev pub is_refused : Line → Bool
+is_refused line = is_refusal line.answer line.deed
+
+-- the first of these lines that is refused, where the first of them stands at a place of the script
+abbrev pub first_refused : ℕ → List Line → Option RefusedDeed
+first_refused at [] = None
+first_refused at (l ∷ ls) = if is_refused l then Some (record { at = at; line = l }) else first_refused (suc at) ls
+
+-- the same of a script, done by one thread
+abbrev pub refused_in : Setup → Option (List Deed) → Option RefusedDeed
+refused_in s (Some deeds) = first_refused 0 (lines_of (homes_of s) (start s) deeds)
+refused_in s None = None
+
+abbrev pub refused_of : Workload → Option RefusedDeed
+refused_of w = refused_in w.setup w.script
