@@ -1,5 +1,5 @@
 //! Threads that share a fleet which keeps no history, one for each CPU, until a clock says stop. Tasks sleep and are woken by requests of
-//! other CPUs, and a CPU that has nothing to run looks at the loads of the others and pulls from the most loaded one.
+//! other CPUs, and a CPU that has nothing to run looks at the others and pulls from the most loaded one of those that have a second task.
 
 ghost use Rattle.std.specs.Prelude.{◌≡◌};
 
@@ -7,7 +7,7 @@ use crate::machines::{empty_programs, task_at};
 use eevdf_fleet::endless::{Closed, Fleet, Kit, Seat, SeatTurn, run_turns};
 use eevdf_fleet::{Names, RunFault};
 use eevdf_ops::{Answer, CpuId, Setup, SetupFault};
-use eevdf_queue::TaskId;
+use eevdf_queue::{Queue, TaskId};
 use eevdf_weight::Ns;
 use std::alloc::Global;
 use std::ops::ControlFlow;
@@ -66,7 +66,7 @@ fn has_next<N: Names, R: Wait>(rt: &R, fleet: &Fleet<N>, seat: &mut Seat<N>) -> 
     if !fleet.has_cpu(cpu) {
         return false;
     }
-    let first = fleet.look(rt, seat, cpu).queue().peek();
+    let first = fleet.look(rt, seat, cpu, |queue| queue.peek());
     first.is_some()
 }
 
@@ -79,7 +79,7 @@ fn time_to_run<N: Names, R: Wait>(rt: &R, fleet: &Fleet<N>, seat: &mut Seat<N>) 
     if !fleet.has_cpu(cpu) {
         return most;
     }
-    let left = fleet.look(rt, seat, cpu).queue().time_to_resched();
+    let left = fleet.look(rt, seat, cpu, |queue| queue.time_to_resched());
     match left {
         Some(left) if left < most => left,
         _ => most,
@@ -98,8 +98,8 @@ fn sleep_and_ask<N: Names, R: Wait>(rt: &R, fleet: &Fleet<N>, seat: &mut Seat<N>
     }
 }
 
-/// Pulls a task from the most loaded of the other CPUs. The load may have changed since the look; the pull decides anew, under the locks
-/// of both queues, and answers `Nothing` or `Balanced` where no task comes.
+/// Pulls a task from the most loaded of the other CPUs that have two tasks or more. That may have changed since the look; the pull
+/// decides anew, under the locks of both queues, and answers `Nothing` or `Balanced` where no task comes.
 pub fn pull_from_most_loaded<N: Names, R: Wait>(rt: &R, fleet: &Fleet<N>, seat: &mut Seat<N>)
     ensures { seat.new.cpu ≡ seat.old.cpu }
 {
@@ -124,8 +124,9 @@ pub fn pull_from<N: Names, R: Wait>(
     }
 }
 
-/// The most loaded of the other CPUs, of equal ones the lowest; `None` where all are empty. Each look ends before the next one, since two
-/// CPUs that each held a look and asked for the other's could wait for ever.
+/// The most loaded of the other CPUs that have two tasks or more, of equal ones the lowest; `None` where there is none. One that has a
+/// single task gives none, whatever that weighs. Each look ends before the next one: two CPUs that each held a look and asked for the
+/// other's would wait for ever, and so the seat is lent for as long as a look lasts.
 fn most_loaded<N: Names, R: Wait>(rt: &R, fleet: &Fleet<N>, seat: &mut Seat<N>) -> Option<CpuId>
     ensures { seat.new.cpu ≡ seat.old.cpu }
 {
@@ -134,7 +135,7 @@ fn most_loaded<N: Names, R: Wait>(rt: &R, fleet: &Fleet<N>, seat: &mut Seat<N>) 
     for number in 0..64 {
         let cpu = CpuId::new(number)?;
         if fleet.has_cpu(cpu) && cpu != seat.cpu() {
-            let load = fleet.look(rt, seat, cpu).queue().load();
+            let load = fleet.look(rt, seat, cpu, |queue| load_to_share(queue));
             if most_load < load {
                 most_load = load;
                 most = Some(cpu);
@@ -142,6 +143,11 @@ fn most_loaded<N: Names, R: Wait>(rt: &R, fleet: &Fleet<N>, seat: &mut Seat<N>) 
         }
     }
     most
+}
+
+/// The load of a CPU that has a task which another one could run, and 0 of any other.
+fn load_to_share(queue: &Queue) -> u64 {
+    if queue.len() < 2 { 0 } else { queue.load() }
 }
 
 /// Runs the CPUs of a setup, each by a thread of its own, for so many turns, all together.

@@ -226,6 +226,10 @@ fn show_pool(rt: &(impl Print + AllocGlobal + Threads + Wait + Sync)) -> io::Res
     println!(rt;
         "{} of {} numbers are free or in use",
         count.kept, count.numbers
+    )?;
+    println!(rt;
+        "{} steps were taken under numbers that no task had",
+        count.steps_of_nobody
     )
 }
 

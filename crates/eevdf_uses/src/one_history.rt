@@ -3,7 +3,7 @@
 
 ghost use Rattle.std.specs.Prelude.{◌≡◌};
 ghost use Rattle.eevdf_fleet.specs.Fleets.{setup_of};
-ghost use Rattle.eevdf_uses.specs.TwoAnswers.{AreOfOneHistory};
+ghost use Rattle.eevdf_fleet.specs.Endless.{Agree, EndsWith};
 
 use eevdf_fleet::endless::{
     Exchange, ExchangeTurn, Fleet, Kit, Seat, SeenLine, run_exchange_turns,
@@ -18,7 +18,8 @@ use std::thread::Threads;
 
 /// Picks the task that the seat's CPU runs next, and tells what was answered, with what the seat has seen then.
 fn pick<N: Names, R: Wait>(rt: &R, fleet: &Fleet<N>, seat: &mut Seat<N>) -> SeenLine<N>
-    ensures { seat.new.cpu ≡ seat.old.cpu }
+    ensures cpu { seat.new.cpu ≡ seat.old.cpu }
+    ensures seen { result.seen ≡ seat.new.seen }
 {
     let cpu = seat.cpu();
     let answer = fleet.pick(rt, seat);
@@ -32,8 +33,8 @@ fn pick<N: Names, R: Wait>(rt: &R, fleet: &Fleet<N>, seat: &mut Seat<N>) -> Seen
 
 /// The same once more.
 fn copied<N: Names>(fleet: &Fleet<N>, told: &mut SeenLine<N>) -> SeenLine<N>
-    ensures told { told.new.line ≡ told.old.line }
-    ensures copy { result.line ≡ told.old.line }
+    ensures told { told.new ≡ told.old }
+    ensures copy { result ≡ told.old }
 {
     let seen = fleet.copy(&mut told.seen);
     SeenLine {
@@ -42,18 +43,16 @@ fn copied<N: Names>(fleet: &Fleet<N>, told: &mut SeenLine<N>) -> SeenLine<N>
     }
 }
 
-/// Two answers, by whatever seats and from whatever moments, are answers of one history: each stands at the end of a beginning of it, and
-/// it is one thread's.
-fn compare<N: Names>(fleet: &Fleet<N>, told: SeenLine<N>, other: SeenLine<N>) -> (Line, Line)
-    ensures { AreOfOneHistory (setup_of N.kit) result.0 result.1 }
+/// Two answers, by whatever seats and from whatever moments, are answers of one history: of what was seen with them one is the beginning of
+/// the other, the longer is one thread's, and each answer is the last line of what was seen with it.
+fn compare<N: Names>(fleet: &Fleet<N>, told: &mut SeenLine<N>, other: &mut SeenLine<N>)
+    ensures told { told.new ≡ told.old }
+    ensures other { other.new ≡ other.old }
+    ensures agree { Agree (setup_of N.kit) told.old.seen other.old.seen }
+    ensures last { EndsWith told.old.seen told.old.line }
+    ensures others_last { EndsWith other.old.seen other.old.line }
 {
-    let SeenLine { line, mut seen } = told;
-    let SeenLine {
-        line: others_line,
-        seen: mut others_seen,
-    } = other;
-    fleet.agree(&mut seen, &mut others_seen);
-    (line, others_line)
+    fleet.agree(&mut told.seen, &mut other.seen);
 }
 
 /// Turns of so many CPUs: in each a CPU picks its next task, tells the next CPU of it, and compares it with what the CPU before has told by
@@ -78,8 +77,9 @@ impl ExchangeTurn for Comparisons {
         }
         let mut own = pick(rt, fleet, seat);
         exchange.leave(rt, self.next(seat.cpu()), copied(fleet, &mut own));
-        if let Some(other) = exchange.take(rt, seat.cpu()) {
-            let _lines = compare(fleet, own, other);
+        if let Some(mut other) = exchange.take(rt, seat.cpu()) {
+            fleet.learn(seat, &mut other.seen);
+            compare(fleet, &mut own, &mut other);
         }
         ControlFlow::Continue(())
     }

@@ -10,6 +10,9 @@
 //!
 //! A token is taken by a swap, so by one of the two alone, and that one posts the wake once more. A park that finds a token before it
 //! sleeps goes on. So after an unpark the task runs once more, and sees what was put down for it before.
+//!
+//! No task ends here. Where tasks do, an unpark may come when its task has ended, and then its number wakes though no task has it: the
+//! threads drain, pick and end by `LiveTasks` there, as in `pool.rt`.
 
 ghost use Rattle.std.specs.Prelude.{◌≡◌, true};
 ghost use Rattle.eevdf_ops.specs.Setup.{homes_of, is_task};
@@ -190,7 +193,8 @@ impl<'a, N: Names, R: Wait> Running<'a, Parking, N, R> {
         ensures { seat.new.cpu ≡ seat.old.cpu }
     {
         let cpu = seat.cpu();
-        self.fleet.look(self.rt, seat, cpu).queue().asleep(task)
+        self.fleet
+            .look(self.rt, seat, cpu, |queue| queue.asleep(task))
     }
 
     /// Parks the task that runs: it sleeps until it is unparked, unless there is a token. A park may also end without an unpark.

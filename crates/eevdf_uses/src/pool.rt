@@ -2,12 +2,15 @@
 //! until another task wakes it, and ends.
 //!
 //! A task that comes takes a number that sleeps at its home, from the home's part of the free numbers (`FreePart`). Whoever ends it gives
-//! the number back, through the part of the CPU that it ended on. Requests come to every other CPU. Where all numbers of a CPU are taken,
-//! it hands the request to the next one. A task that falls asleep is given another level by its home, and is then there for others to wake.
-//! A CPU that has nothing to run pulls from the most loaded one, and each rebases at the end of its day.
+//! the number back, through the part of the CPU that it ended on. Requests come to every other CPU. Where none of a CPU's numbers can
+//! begin, it hands the request to the next one. A task that falls asleep is given another level by its home, and is then there for others
+//! to wake. A CPU with nothing to run pulls from the most loaded of those with a second task, and each rebases at the end of its day.
 //!
-//! In the end all is counted (`counts.rt`): each task that came has ended or stands in one of the queues, and each number is free or a task
-//! has it.
+//! Wakes come twice, and once more when their task has ended or another one has its number. So a number may wake though no task has it. The
+//! threads begin, drain, pick and end by `LiveTasks`, which ends such a number before anybody is handed it.
+//!
+//! In the end all is counted (`counts.rt`): each task that came has ended or stands in one of the queues, each number is free or a task has
+//! it, and no step was taken under a number that no task had.
 
 ghost use Rattle.std.specs.Prelude.{◌≡◌};
 
@@ -23,7 +26,7 @@ use crate::start_line::{Running, Work, let_others_run};
 pub use counts::{PoolCount, four_pool_cpus, served};
 use eevdf_fleet::Names;
 use eevdf_fleet::endless::Seat;
-use eevdf_free_tasks::FreePart;
+use eevdf_live_tasks::LiveTasks;
 use eevdf_ops::{Answer, CpuId};
 use eevdf_queue::TaskId;
 use eevdf_weight::{Nice, Ns, Slice};
@@ -45,6 +48,7 @@ const MOST_QUIET_TURNS: u64 = 1_000_000;
 #[derive(Drop)]
 struct Pool {
     cpus: Vec<PoolCpu>,
+    live: LiveTasks,
     lives: Lives,
 }
 
@@ -61,11 +65,11 @@ impl Work for Pool {
         own: &mut OnCpu,
     ) -> bool {
         running.pass_time(seat, own);
-        let _ = running.fleet.drain(running.rt, seat);
-        running.accept(seat, &mut own.free);
-        running.accept(seat, &mut own.free);
+        running.drain(seat, own);
+        running.accept(seat, own);
+        running.accept(seat, own);
         running.set_fallen(seat);
-        running.run_next(seat, &mut own.free);
+        running.run_next(seat, own);
         !running.work.lives.have_all_come() && own.quiet_turns <= MOST_QUIET_TURNS
     }
 }
@@ -103,35 +107,64 @@ impl<'a, N: Names, R: Wait> Running<'a, Pool, N, R> {
         let_others_run(own.turns);
     }
 
+    /// Takes the requests to wake that were posted to the CPU, and ends the numbers that woke without a task.
+    fn drain(&self, seat: &mut Seat<N>, own: &mut OnCpu)
+        ensures { seat.new.cpu ≡ seat.old.cpu }
+    {
+        own.wakes.clear();
+        if self.fleet.cpus() <= own.wakes.capacity() {
+            let live = &self.work.live;
+            let _ = live.drain(self.rt, self.fleet, seat, &mut own.wakes);
+        }
+    }
+
     /// Begins a task for a request, where one has come to the CPU or was handed to it, or hands it to the next CPU.
-    fn accept(&self, seat: &mut Seat<N>, free: &mut FreePart)
+    fn accept(&self, seat: &mut Seat<N>, own: &mut OnCpu)
         ensures { seat.new.cpu ≡ seat.old.cpu }
     {
         if !self.work.has_request(seat.cpu()) {
             return;
         }
-        match free.take() {
-            Some(task) => self.begin(seat, free, task),
+        let (nice, slice) = (nice_of(own.turns), Slice::default());
+        let live = &self.work.live;
+        match live.begin(self.rt, self.fleet, seat, &mut own.free, nice, slice) {
+            Some(task) => self.serve(seat, own, task),
             None => self.work.hand_on(seat.cpu()),
         }
     }
 
-    /// Begins a task with this number, if another request may come, and asks to wake it.
-    fn begin(&self, seat: &mut Seat<N>, free: &mut FreePart, task: TaskId)
+    /// Asks to wake the task that has begun, for the next request. Where no other one may come, the task ends.
+    fn serve(&self, seat: &mut Seat<N>, own: &mut OnCpu, task: TaskId)
         ensures { seat.new.cpu ≡ seat.old.cpu }
     {
-        let (rt, fleet) = (self.rt, self.fleet);
-        let Some(request) = self.work.lives.next_request() else {
-            let _ = free.give_back(task);
-            return;
-        };
-        if !fleet.has_task(task) || !fleet.is_at_home(task, seat.cpu()) {
-            return;
+        match self.work.lives.next_request() {
+            Some(request) => {
+                self.work.lives.come(task, request);
+                self.wake_own(seat, task);
+            }
+            None => {
+                let live = &self.work.live;
+                let _ = live.end(self.rt, self.fleet, seat, &mut own.free, task);
+            }
         }
-        if fleet.begin(rt, seat, task, nice_of(request), Slice::default()) == Answer::Begun {
-            self.work.lives.come(task, request);
-            let _ = seat.post(task);
+    }
+
+    /// Asks to wake a task of this home. Where late wakes have filled the ring, another CPU wakes it.
+    fn wake_own(&self, seat: &mut Seat<N>, task: TaskId)
+        ensures { seat.new.cpu ≡ seat.old.cpu }
+    {
+        if !self.post(seat, task)
+            && let Some(cpu) = self.work.cpus.get(seat.cpu().index())
+        {
+            cpu.waiting.add(self.rt, task);
         }
+    }
+
+    /// Asks to wake a task, and says whether there was room for that.
+    fn post(&self, seat: &mut Seat<N>, task: TaskId) -> bool
+        ensures { seat.new.cpu ≡ seat.old.cpu }
+    {
+        self.fleet.has_task(task) && seat.post(task).is_ok()
     }
 
     /// Gives a task that has fallen asleep another level, and lets others wake it.
@@ -152,37 +185,46 @@ impl<'a, N: Names, R: Wait> Running<'a, Pool, N, R> {
     }
 
     /// Wakes a task, and lets the next one run for a step. Where there is none, the CPU pulls one for the next turn.
-    fn run_next(&self, seat: &mut Seat<N>, free: &mut FreePart)
+    fn run_next(&self, seat: &mut Seat<N>, own: &mut OnCpu)
         ensures { seat.new.cpu ≡ seat.old.cpu }
     {
-        self.wake_other(seat);
-        match self.fleet.pick(self.rt, seat) {
-            Answer::Picked(task) => self.step(seat, free, task),
-            _ => pull_from_most_loaded(self.rt, self.fleet, seat),
+        self.wake_other(seat, own);
+        match self.work.live.pick(self.rt, self.fleet, seat) {
+            Some(task) => self.step(seat, own, task),
+            None => pull_from_most_loaded(self.rt, self.fleet, seat),
         }
     }
 
-    /// Asks to wake a task whose home is the next CPU, if one waits for it.
-    fn wake_other(&self, seat: &mut Seat<N>)
+    /// Asks to wake a task whose home is the next CPU, if one waits for it: twice, and then asks once more for one that it has woken some
+    /// time ago, which has ended meanwhile or not.
+    fn wake_other(&self, seat: &mut Seat<N>, own: &mut OnCpu)
         ensures { seat.new.cpu ≡ seat.old.cpu }
     {
-        if let Some(next) = self.work.cpus.get(next_index(seat.cpu()))
-            && let Some(task) = next.waiting.take(self.rt)
-            && self.fleet.has_task(task)
-        {
-            let _ = seat.post(task);
+        let Some(next) = self.work.cpus.get(next_index(seat.cpu())) else {
+            return;
+        };
+        let Some(task) = next.waiting.take(self.rt) else {
+            return;
+        };
+        if !self.post(seat, task) {
+            next.waiting.add(self.rt, task);
+            return;
+        }
+        self.post(seat, task);
+        if let Some(former) = own.woken_before(task) {
+            self.post(seat, former);
         }
     }
 
     /// A step of the task that runs: it is charged, and goes on, falls asleep or ends.
-    fn step(&self, seat: &mut Seat<N>, free: &mut FreePart, task: TaskId)
+    fn step(&self, seat: &mut Seat<N>, own: &mut OnCpu, task: TaskId)
         ensures { seat.new.cpu ≡ seat.old.cpu }
     {
         let _ = self.fleet.tick(self.rt, seat, Ns::new(STEP).unwrap());
         match self.work.lives.after_step(task) {
             Next::GoOn => (),
             Next::Sleep => self.sleep(seat, task),
-            Next::End => self.end(seat, free, task),
+            Next::End => self.end(seat, own, task),
         }
     }
 
@@ -202,16 +244,12 @@ impl<'a, N: Names, R: Wait> Running<'a, Pool, N, R> {
     }
 
     /// Ends the task that runs, and gives its number back.
-    fn end(&self, seat: &mut Seat<N>, free: &mut FreePart, task: TaskId)
+    fn end(&self, seat: &mut Seat<N>, own: &mut OnCpu, task: TaskId)
         ensures { seat.new.cpu ≡ seat.old.cpu }
     {
-        if !self.fleet.has_task(task) {
-            return;
-        }
-        if self.fleet.end(self.rt, seat, task) == Answer::Ended {
-            self.work.lives.go(task);
-            let _ = free.give_back(task);
-        }
+        self.work.lives.go(task);
+        let live = &self.work.live;
+        let _ = live.end(self.rt, self.fleet, seat, &mut own.free, task);
     }
 }
 
@@ -224,8 +262,8 @@ fn took_one(count: &AtomicU64) -> bool {
     is_some
 }
 
-/// The nice level of the task of a request.
-fn nice_of(request: u64) -> Nice {
-    let level = (request % 40) as i64 - 20;
+/// The nice level of a task that comes in this turn of its CPU.
+fn nice_of(turn: u64) -> Nice {
+    let level = (turn % 40) as i64 - 20;
     Nice::new(level).unwrap_or_default()
 }

@@ -8,6 +8,7 @@ use crate::start_line::StartLine;
 use eevdf_fleet::RunFault;
 use eevdf_fleet::endless::{Closed, Kit, run_turns};
 use eevdf_free_tasks::free_parts;
+use eevdf_live_tasks::LiveTasks;
 use eevdf_ops::{CpuId, Setup, SetupFault, TaskSpec};
 use eevdf_queue::{Queue, TaskId};
 use std::alloc::{AllocError, Global};
@@ -25,6 +26,8 @@ pub struct PoolCount {
     /// How many numbers there are, and of these how many are free, with nobody under them, or in use.
     pub numbers: u64,
     pub kept: u64,
+    /// How many steps were taken under numbers that no task had.
+    pub steps_of_nobody: u64,
 }
 
 /// Runs the pool until all requests have come, and counts.
@@ -42,11 +45,14 @@ pub fn served<R: Threads + Wait + Sync>(
 
 fn open_pool(alloc: Global, setup: &Setup) -> Result<Pool, AllocError> {
     let mut cpus = Vec::new(alloc);
-    for free in free_parts(alloc, setup)? {
+    let mut parts = free_parts(alloc, setup)?;
+    let live = LiveTasks::open(alloc, setup, &mut parts)?;
+    for free in parts {
         cpus.push(PoolCpu::new(alloc, free)?)?;
     }
     Ok(Pool {
         cpus,
+        live,
         lives: Lives::new(alloc, NUMBERS)?,
     })
 }
@@ -58,7 +64,7 @@ fn free_numbers<R: Wait>(rt: &R, alloc: Global, pool: &Pool) -> Result<Vec<TaskI
         let mut own = cpu.own.lock(rt);
         for _number in 0..NUMBERS {
             match own.free.take() {
-                Some(task) => free.push(task)?,
+                Some(taken) => free.push(taken.retire())?,
                 None => break,
             }
         }
@@ -73,6 +79,7 @@ fn count(pool: &Pool, closed: &Closed, free: &[TaskId]) -> PoolCount {
         found: 0,
         numbers: NUMBERS as u64,
         kept: 0,
+        steps_of_nobody: pool.lives.steps_of_nobody(),
     };
     for number in 0..NUMBERS {
         if let Some(task) = TaskId::new(number as u64) {

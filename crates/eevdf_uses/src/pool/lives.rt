@@ -9,6 +9,8 @@ pub const REQUESTS: u64 = 1_050_000;
 #[derive(Drop)]
 pub struct Lives {
     requests: AtomicU64,
+    /// How many steps were taken under numbers that no task had.
+    steps_of_nobody: AtomicU64,
     lives: Vec<Life>,
 }
 
@@ -42,6 +44,7 @@ impl Lives {
         }
         Ok(Lives {
             requests: AtomicU64::new(0),
+            steps_of_nobody: AtomicU64::new(0),
             lives,
         })
     }
@@ -82,11 +85,16 @@ impl Lives {
         }
     }
 
-    /// A task has taken a step. With two steps left it sleeps, and it ends after the last one.
+    /// A task has taken a step. With two steps left it sleeps, and it ends after the last one. Where the last one that had the number has
+    /// gone, nobody takes the step, which is counted.
     pub fn after_step(&self, task: TaskId) -> Next {
         let Some(life) = self.lives.get(task.index()) else {
             return Next::GoOn;
         };
+        if life.came.load(Ordering::SeqCst) == life.gone.load(Ordering::SeqCst) {
+            self.steps_of_nobody.fetch_add(1, Ordering::SeqCst);
+            return Next::GoOn;
+        }
         let left = life.steps.load(Ordering::SeqCst).saturating_sub(1);
         life.steps.store(left, Ordering::SeqCst);
         match left {
@@ -94,6 +102,11 @@ impl Lives {
             2 => Next::Sleep,
             _ => Next::GoOn,
         }
+    }
+
+    /// How many steps were taken under numbers that no task had.
+    pub fn steps_of_nobody(&self) -> u64 {
+        self.steps_of_nobody.load(Ordering::SeqCst)
     }
 
     /// How many tasks came and how many went under a number.

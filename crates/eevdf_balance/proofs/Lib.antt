@@ -1,0 +1,9 @@
+pub mod Kept
+pub mod Counts
+pub mod Steps
+pub mod Crowds
+pub mod IdlePulls
+pub mod Excuses
+pub mod Sweeps
+pub mod Runs
+pub mod Tries

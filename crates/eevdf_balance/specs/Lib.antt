@@ -1,0 +1,5 @@
+pub mod Crowds
+pub mod Refusals
+pub mod Excuses
+pub mod Sweeps
+pub mod Runs
