@@ -44,7 +44,15 @@
  * thread. The library has no locks and no data of its own, so calls on different queues need
  * nothing of each other, and a task moves between two queues through a hand without a need to hold
  * two locks. A hand belongs to whoever moves the task, and needs no lock as long as nobody else
- * uses it.
+ * uses it. A task's number goes with it, so the 1024 numbers are of all queues that exchange tasks.
+ *
+ * SEVERAL CPUS. eevdf_pick makes who ran before a task that another CPU may take, and eevdf_sleep
+ * makes it one that can be woken, while its CPU is still on its stack. So hold the queue's lock
+ * until the switch has saved it; or keep a flag that it is on a CPU, which the switch clears and
+ * whoever runs it elsewhere awaits. A wake is done on the queue where the task sleeps, so keep with
+ * each task which queue that is. A wake that comes before the sleep is answered PRESENT and leaves
+ * nothing here: the caller remembers it, and lets the task not sleep. docs/embedding-c.md has these
+ * rules, and when to pull; examples/c/four_cpus.c keeps them.
  *
  * INTERRUPTS. "Interrupts: yes" says that a handler may make the call, where what it interrupts
  * can't hold the queue's lock nor be in a call on the same hand: take the lock with interrupts off.
@@ -53,10 +61,10 @@
  *
  * WHAT THE OBJECT ASKS OF A KERNEL (x86-64). The archive for kernels, libeevdf_kernel.a, uses no
  * registers but the general ones and nothing below the stack pointer, and needs no aligned stack.
- * So interrupts may come during a call, and on its stack. It is linked into the highest 2 GiB of
- * addresses, where a kernel is, or into the lowest. It wants the name memset, and where it is made
- * for Linux __x86_return_thunk, by which it returns then, and no others. Of the two functions for
- * memory (below) it has weak ones, which give none, until the kernel defines its own.
+ * So interrupts may come during a call, and on its stack. It can be linked at any address, and its
+ * code is in the section .text. Each call begins with endbr64. It wants the name memset, and where
+ * it is made for Linux __x86_return_thunk, by which it returns then, and no others. Of the two
+ * functions for memory (below) it has weak ones, which give none, until the kernel defines its own.
  * The archive for programs, libeevdf.a, can be linked at any address, and wants memset,
  * eevdf_alloc, eevdf_dealloc, and __udivti3, which compilers bring along in libgcc. It needs a
  * stack that is aligned to 16 at the call, and uses the registers xmm0 and xmm1, and functions that
@@ -321,7 +329,9 @@ int64_t eevdf_peek(const eevdf_queue *queue);
 
 /*
  * Charges the running task for `ns`. 0: its request stands. 1: its request is used up, and it has a
- * fresh one: time to pick.
+ * fresh one: time to pick. A charge is rounded down, and the rest isn't kept: at nice level -20 a
+ * tick of fewer than 87 ns charges nothing. A time above EEVDF_TICK_MAX is charged in several
+ * ticks, and one of 0 in none.
  * Lock: the queue's. Interrupts: yes.
  * INVALID: ns is 0 or above EEVDF_TICK_MAX. ABSENT: nobody runs. RANGE: its deadline would leave
  * the range.
@@ -359,11 +369,14 @@ int64_t eevdf_stop(eevdf_queue *queue);
 
 /*
  * The running task falls asleep here, and keeps the lag that it has, of at most the charge of two
- * slices to either side. Nobody runs then. Answers 0.
- * So after a turn of at most two slices it owes all that it ran too much, and after a longer one
- * the rest is let off: beside seven others of its nice level, with slices of 0.1 ms, a task that
- * runs for 4 ms, sleeps and wakes at once gets 65.6 % of the CPU where 12.5 % is fair, and with
- * turns of 100 ms 97.9 %. Linux keeps such a task in the queue until it owes nothing.
+ * slices to either side. Nobody runs then. Answers 0. One that waits is put to sleep by eevdf_take
+ * and eevdf_put_asleep.
+ * So after a turn of at most two slices in which no task came or left it owes all that it ran too
+ * much, and after a longer one the rest is let off: beside seven others of its nice level, with
+ * slices of 0.1 ms, a task that runs for 4 ms, sleeps and wakes at once gets 65.6 % of the CPU
+ * where 12.5 % is fair, and with turns of 100 ms 97.9 %. And tasks that sleep while time is owed to
+ * them can keep one that never sleeps from the CPU, for ever. Linux keeps a task that owes time in
+ * the queue until it owes nothing.
  * Lock: the queue's. Interrupts: yes. INVALID: no number of a task. ABSENT: the task doesn't run
  * here.
  */
@@ -480,7 +493,8 @@ int64_t eevdf_hand_end_out(eevdf_hand *hand, eevdf_block *block);
 
 /*
  * Takes a task out of the queue into the hand, with its lag, whether it runs, waits or sleeps. If
- * it ran, nobody runs then. Answers 0.
+ * it ran, nobody runs then. Answers 0. Who wants it only if it waits, as another CPU does, asks
+ * eevdf_running and eevdf_is_asleep first, under the same lock.
  * Lock: the queue's. Interrupts: yes.
  * INVALID: no number of a task. BUSY: the hand holds a task. ABSENT: the task isn't here.
  */

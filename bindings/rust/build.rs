@@ -1,4 +1,4 @@
-//! Finds the library: in the folder that EEVDF_LIB_DIR names, or else by pkg-config.
+//! Finds the library, or with the feature `kernel` that for kernels: in the folder that EEVDF_LIB_DIR names, or else by pkg-config.
 
 use std::env;
 use std::process::Command;
@@ -7,12 +7,18 @@ fn main() {
     println!("cargo:rerun-if-env-changed=EEVDF_LIB_DIR");
     println!("cargo:rerun-if-env-changed=PKG_CONFIG_PATH");
     tell_of_error();
-    let folder = env::var("EEVDF_LIB_DIR").unwrap_or_else(|_| asked_of_pkg_config());
+    let name = if has_feature("KERNEL") { "eevdf_kernel" } else { "eevdf" };
+    let folder = env::var("EEVDF_LIB_DIR").unwrap_or_else(|_| asked_of_pkg_config(name));
     println!("cargo:rustc-link-search=native={folder}");
-    link(&folder, "eevdf");
-    if env::var_os("CARGO_FEATURE_MALLOC").is_some() {
-        link(&folder, "eevdf_malloc");
+    link(&folder, name);
+    if !has_feature("KERNEL") {
+        // the names that the library asks memory by; the crate makes no call that does
+        link(&folder, if has_feature("MALLOC") { "eevdf_malloc" } else { "eevdf_no_memory" });
     }
+}
+
+fn has_feature(name: &str) -> bool {
+    env::var_os(format!("CARGO_FEATURE_{name}")).is_some()
 }
 
 /// Links an archive, and builds the crate anew where it has changed.
@@ -32,10 +38,10 @@ fn tell_of_error() {
     }
 }
 
-fn asked_of_pkg_config() -> String {
-    let asked = Command::new("pkg-config").args(["--variable=libdir", "eevdf"]).output();
+fn asked_of_pkg_config(name: &str) -> String {
+    let asked = Command::new("pkg-config").args(["--variable=libdir", name]).output();
     match asked {
         Ok(said) if said.status.success() => String::from_utf8_lossy(&said.stdout).trim().to_string(),
-        _ => panic!("eevdf: set EEVDF_LIB_DIR to the folder of libeevdf.a, or let pkg-config find eevdf.pc"),
+        _ => panic!("eevdf: set EEVDF_LIB_DIR to the folder of lib{name}.a, or let pkg-config find {name}.pc"),
     }
 }

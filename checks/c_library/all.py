@@ -13,6 +13,7 @@ import installed
 import interrupted
 import kernel
 import kernel_object
+import linked
 import linux
 import memory_names
 import object_file
@@ -38,9 +39,8 @@ def with_names(archive, work):
 
 
 def made_of(module, work):
-    """What the checks need over the archive for kernels, which is made from a module. Its addresses have 32 bits, so programs over it lie
-    below 2 GiB."""
-    tools = Tools(work / "libeevdf_kernel.a", work, ("-no-pie",), module, work / "libeevdf_thunks.a", work / "for_programs.a")
+    """What the checks need over the archive for kernels, which is made from a module."""
+    tools = Tools(work / "libeevdf_kernel.a", work, module, work / "libeevdf_thunks.a", work / "for_programs.a")
     kept = KeptModule.read(module)
     make(kit_tools(), kept, tools.archive, KERNEL)
     make(kit_tools(), kept, tools.thunks, LINUX)
@@ -65,6 +65,7 @@ def main():
         part.check(tools)
     sequences.check(tools, asked.seed)
     if asked.module:
+        linked.check(tools)
         interrupted.check(tools, asked.seed)
         linux.check(tools)
     sys.exit(tools.checks.end())

@@ -4,12 +4,34 @@ import re
 import resource
 
 import exclusive
+import levelling
 from tools import C11, SANITIZED, TOP, ending, fault_of, run
 
 FIRST = TOP / "examples" / "c" / "first.c"
 TICKLESS = TOP / "examples" / "c" / "tickless.c"
 RUNTIME = TOP / "examples" / "c" / "runtime"
 TWO_CPUS = TOP / "examples" / "c" / "two_cpus.c"
+FOUR_CPUS = TOP / "examples" / "c" / "four_cpus.c"
+# What the example on four CPUs keeps, each with what stands there in one that doesn't, and what the example itself says of that.
+OTHER_FORMS = {
+    "the lock isn't held over the switch": (
+        "\tswitch_to(own, task < 0 ? NULL : &tasks[task]);\n\tpthread_mutex_unlock(&own->lock);\n",
+        "\tpthread_mutex_unlock(&own->lock);\n\tthrd_yield();\n\tswitch_to(own, task < 0 ? NULL : &tasks[task]);\n",
+        "two CPUs are on one stack",
+    ),
+    "a CPU looks for work before it says so": (
+        "\t\tatomic_store(&own->does, LOOKS);\n\t\tif (atomic_load(&turns_left) <= 0 || find_work(own))\n",
+        "\t\tif (find_work(own))\n\t\t\tbreak;\n\t\tthrd_sleep(&(struct timespec){ .tv_nsec = 20000 }, NULL);\n"
+        "\t\tatomic_store(&own->does, LOOKS);\n"
+        "\t\ttake_turn(own, false);\n\t\tif (atomic_load(&turns_left) <= 0 || own->current)\n",
+        "a CPU waits beside one that has two tasks",
+    ),
+    "no CPU is rung for another's task": (
+        "\tif (eevdf_len(&own->queue) >= 2)\n\t\tfor (unsigned at = 0; at < CPUS; at++)\n\t\t\tring(&cpus[at]);\n",
+        "",
+        "a CPU waits beside one that has two tasks",
+    ),
+}
 # The functions for memory, compiled as the rest of a program is.
 BINDING = TOP / "bindings" / "c" / "eevdf_malloc.c"
 # A share of time may be off by so much of the weights' share, since which worker runs a fiber changes now and then.
@@ -86,28 +108,42 @@ def check_locks(tools):
     tools.checks.look("examples/c/runtime has each queue under a lock", fault or fault_of(made))
 
 
-def compile_two_cpus(tools, name, text, *flags):
-    """Builds the example on two CPUs with another C file."""
+def compile_cpus(tools, example, name, text, *flags):
+    """Builds an example on several CPUs with another C file."""
     source = tools.work / f"{name}.c"
     source.write_text(text)
-    return tools.compile(name, [TWO_CPUS, source, BINDING], "-pthread", *flags)
+    return tools.compile(name, [example, source, BINDING], "-pthread", *flags)
 
 
-def check_two_cpus(tools):
-    """The example prints what it should, has each queue under a lock, and ThreadSanitizer finds no calls that no lock orders."""
-    wanted = TWO_CPUS.with_suffix(".out").read_text()
-    text, linked = exclusive.source_and_flags()
-    for label, source, flags in (("", "#include <eevdf.h>\n", ()), (", its locks", text, linked)):
-        program, fault = compile_two_cpus(tools, f"two_cpus{label}", source, *flags)
-        tools.checks.look(f"examples/c/two_cpus.c{label}", fault or other_output(run([program]), wanted))
-    name = "examples/c/two_cpus.c, ThreadSanitizer"
+def check_cpus(tools, example):
+    """An example on several CPUs prints what it should, has each queue under a lock, levels the loads by each pull, and ThreadSanitizer
+    finds no calls, and nothing of its own, that no lock orders."""
+    wanted = example.with_suffix(".out").read_text()
+    locks, pulls = exclusive.source_and_flags(), levelling.source_and_flags()
+    for label, source, flags in (("", "#include <eevdf.h>\n", ()), (", its locks", *locks), (", its pulls", *pulls)):
+        program, fault = compile_cpus(tools, example, f"{example.stem}{label}", source, *flags)
+        tools.checks.look(f"examples/c/{example.name}{label}", fault or other_output(run([program]), wanted))
+    name = f"examples/c/{example.name}, ThreadSanitizer"
     text, linked = exclusive.told_source_and_flags()
-    program, fault = compile_two_cpus(tools, "two_cpus-threads", text, *linked, "-g", "-fsanitize=thread")
+    program, fault = compile_cpus(tools, example, f"{example.stem}-threads", text, *linked, "-g", "-fsanitize=thread")
     made = None if fault else run([program])
     if made and "unexpected memory mapping" in made.stderr:
         tools.checks.leave_out(name, "it doesn't run in this system's address space")
     else:
         tools.checks.look(name, fault or other_output(made, wanted))
+
+
+def check_other_forms(tools):
+    """The example on four CPUs finds the mistake where one of its rules isn't kept: in one run of some, as threads go."""
+    text = FOUR_CPUS.read_text()
+    for name, (kept, other, said) in OTHER_FORMS.items():
+        if text.count(kept) != 1:
+            raise RuntimeError(f"{FOUR_CPUS.name} isn't written so that {name} could stand there")
+        source = tools.work / "other_form.c"
+        source.write_text(text.replace(kept, other))
+        program, fault = tools.compile("other_form", [source, BINDING], "-pthread")
+        is_found = not fault and any(said in run([program]).stdout for _ in range(RUNS))
+        tools.checks.look(f"examples/c/{FOUR_CPUS.name} finds that {name}", fault or (None if is_found else f"in {RUNS} runs it doesn't"))
 
 
 def block(page, beginning):
@@ -133,4 +169,6 @@ def check(tools):
     check_runtime(tools, "")
     check_runtime(tools, ", sanitized", *SANITIZED)
     check_locks(tools)
-    check_two_cpus(tools)
+    check_cpus(tools, TWO_CPUS)
+    check_cpus(tools, FOUR_CPUS)
+    check_other_forms(tools)

@@ -1,7 +1,7 @@
 """Whether a program has two threads in calls on one queue or one hand at a time. Each call marks its queue and hand as in use, lets others
-run, and ends the program where one of them is in use already. And the same for ThreadSanitizer, which doesn't see what the archive does:
-each call tells it that its queue and hand are written, or read where the header says `const`. So it finds calls that no lock orders, also
-where they don't meet."""
+run now and then, and ends the program where one of them is in use already. And the same for ThreadSanitizer, which doesn't see what the
+archive does: each call tells it that its queue and hand are written, or read where the header says `const`. So it finds calls that no lock
+orders, also where they don't meet."""
 
 from wrapped import arguments, declarations, flags, function
 
@@ -17,6 +17,15 @@ static struct {
 	_Atomic(const void *) at;
 	atomic_int is_used;
 } marks[64];
+
+/* Lets others run in one call of sixteen: beside other work each time costs a whole turn of the processor. */
+static void let_others_run(void)
+{
+	static _Thread_local unsigned calls;
+
+	if (++calls % 16 == 0)
+		sched_yield();
+}
 
 static void use(const void *at)
 {
@@ -44,7 +53,7 @@ static void leave(const void *at)
 
 def body(kind, held):
     """The body of a call that is given these queues and hands."""
-    before = "".join(f"use({name}); " for name in held) + "sched_yield(); "
+    before = "".join(f"use({name}); " for name in held) + "let_others_run(); "
     after = "".join(f"leave({name}); " for name in held)
     if kind == "void":
         return f"{before}RIGHT; {after}"

@@ -98,7 +98,7 @@ def check_compiled(tools, compiler, language, standard):
     program = tools.work / f"header-{compiler}-{standard}"
     words = [compiler, f"-std={standard}", *WARNINGS, f"-I{TOP / 'include'}", "-o", program]
     source = ["-x", language, "-", "-x", "none"]
-    fault = fault_of(run([*words, *tools.flags, *source, tools.malloc_library(), tools.archive], input=PROGRAM))
+    fault = fault_of(run([*words, *source, tools.malloc_library(), tools.archive], input=PROGRAM))
     tools.checks.look(f"eevdf.h as {standard} by {compiler}", fault or fault_of(run([program])))
     for flag in ("-nostdinc", "-D__KERNEL__"):
         fault = fault_of(run([*words, flag, "-ffreestanding", "-c", *source], input=PROGRAM))

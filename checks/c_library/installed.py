@@ -13,7 +13,7 @@ cmake_minimum_required(VERSION 3.13)
 project(first C)
 find_package(eevdf {version} REQUIRED)
 add_executable(first "{source}")
-target_link_libraries(first eevdf::eevdf {flags})
+target_link_libraries(first eevdf::eevdf)
 """
 
 
@@ -31,11 +31,27 @@ def check_pkg_config(tools, prefix):
     wanted = FIRST.with_suffix(".out").read_text()
     for name, words in (("flags first", [*flags, FIRST]), ("flags last", [FIRST, *flags]), ("flags twice", [*flags, FIRST, *flags])):
         program = tools.work / f"installed, {name}"
-        fault = fault_of(asked) or fault_of(run([tools.cc, "-std=c11", *tools.flags, *WARNINGS, *words, "-o", program]))
+        fault = fault_of(asked) or fault_of(run([tools.cc, "-std=c11", *WARNINGS, *words, "-o", program]))
         tools.checks.look(f"a program by pkg-config, {name}", fault or other_output(run([program]), wanted))
     program = tools.work / "installed, own memory"
-    fault = fault_of(asked) or fault_of(run([tools.cc, "-std=c11", *tools.flags, *flags, tools.callers / "errors.c", "-o", program]))
+    fault = fault_of(asked) or fault_of(run([tools.cc, "-std=c11", *flags, tools.callers / "errors.c", "-o", program]))
     tools.checks.look("a program by pkg-config with its own functions for memory", fault or fault_of(run([program])))
+
+
+def check_blank(tools):
+    """Below a folder with a blank in its name pkg-config gives words of the shell's, by which a program is built."""
+    if not shutil.which("pkg-config"):
+        return
+    prefix, program = tools.work / "a prefix", tools.work / "below a blank"
+    made = install(tools, prefix, ARCHIVE=str(tools.for_programs))
+    command = r'eval "$0 -std=c11 $(pkg-config --cflags --libs eevdf) \"\$1\" -o \"\$2\""'
+    built = run(["sh", "-c", command, tools.cc, FIRST, program], env={**os.environ, "PKG_CONFIG_PATH": str(prefix / "lib" / "pkgconfig")})
+    fault = fault_of(made) or fault_of(built)
+    wanted = FIRST.with_suffix(".out").read_text()
+    tools.checks.look("a program by pkg-config, a blank in the folder", fault or other_output(run([program]), wanted))
+    left = install(tools, "--uninstall", prefix)
+    files = ", ".join(file.name for file in prefix.rglob("*") if file.is_file())
+    tools.checks.look("./install --uninstall, a blank in the folder", fault_of(left) or files)
 
 
 def check_cmake(tools, prefix):
@@ -48,7 +64,7 @@ def check_cmake(tools, prefix):
     folder.mkdir()
 
     def built(version):
-        (folder / "CMakeLists.txt").write_text(CMAKE.format(version=version, source=FIRST, flags=" ".join(tools.flags)))
+        (folder / "CMakeLists.txt").write_text(CMAKE.format(version=version, source=FIRST))
         asked = run(["cmake", "-S", folder, "-B", folder / "out", f"-DCMAKE_PREFIX_PATH={prefix}"], env={**os.environ, "CC": tools.cc})
         return fault_of(asked) or fault_of(run(["cmake", "--build", folder / "out"]))
 
@@ -76,6 +92,7 @@ def check(tools):
     made = install(tools, prefix, ARCHIVE=str(tools.for_programs))
     tools.checks.look("./install", fault_of(made), made.stdout.strip())
     check_pkg_config(tools, prefix)
+    check_blank(tools)
     check_cmake(tools, prefix)
     check_pages(tools, prefix)
     if tools.module and shutil.which("pkg-config"):
@@ -101,13 +118,13 @@ def check_shared(tools):
 
 
 def check_kernel_package(tools):
-    """A program, which is linked as a kernel is, below 2 GiB, takes the library for kernels by pkg-config too."""
+    """A program takes the library for kernels by pkg-config too."""
     prefix, name = tools.work / "kernel", "a program by pkg-config over the library for kernels"
     made = install(tools, "--kernel", prefix, MODULE=str(tools.module))
     asked = run(["pkg-config", "--cflags", "--libs", "eevdf_kernel"],
                 env={**os.environ, "PKG_CONFIG_PATH": str(prefix / "lib" / "pkgconfig")})
     words = [*asked.stdout.split(), tools.callers / "errors.c", "-o", tools.work / "kernel-package"]
-    fault = fault_of(made) or fault_of(asked) or fault_of(run([tools.cc, "-std=c11", *tools.flags, *words]))
+    fault = fault_of(made) or fault_of(asked) or fault_of(run([tools.cc, "-std=c11", *words]))
     tools.checks.look(name, fault or fault_of(run([tools.work / "kernel-package"])), made.stdout.strip())
 
 

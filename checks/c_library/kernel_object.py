@@ -1,12 +1,13 @@
 """The object for kernels: that it is made from what the archive for programs is made from, what it asks for, and that it leaves alone what
-a kernel doesn't give: the bytes below the stack pointer, indirect jumps, and with thunks plain returns. What it is made by, and how many
-traps it has, are what docs/embedding-c.md says."""
+a kernel doesn't give: the bytes below the stack pointer, indirect jumps, and with thunks plain returns; that its code is in one section and
+that each call begins as one that may come through a pointer. What it is made by, and how many traps it has, are what docs/embedding-c.md
+says."""
 
 import re
 import sys
 
 import object_file
-from object_file import Asks, difference, is_readable, said_by
+from object_file import Asks, declared, difference, is_readable, said_by
 from tools import TOP, runner
 
 sys.path.append(str(TOP / "tools" / "c_archives"))
@@ -14,17 +15,25 @@ sys.path.append(str(TOP / "tools" / "c_archives"))
 import kernel_archive  # noqa: E402
 from kept_module import KeptModule  # noqa: E402
 
-# Addresses in the highest or the lowest 2 GiB, as Linux's loader of modules and any linker knows them.
-OTHER_RELOCATIONS = re.compile(r"^(?!R_X86_64_(?:PC32|PLT32|32S|64)$)")
+# Distances alone, so that it can lie anywhere, as Linux's loader of modules and any linker knows them.
+OTHER_RELOCATIONS = re.compile(r"^(?!R_X86_64_(?:PC32|PLT32)$)")
 OF_KERNELS = Asks({"memset"}, set(), OTHER_RELOCATIONS)
 OF_LINUX = Asks({*OF_KERNELS.names, "__x86_return_thunk"}, set(), OTHER_RELOCATIONS)
 
 # An instruction with its operands, and those that aren't to be found.
 INSTRUCTION = re.compile(r"^ +[0-9a-f]+:\t(.*)$", re.MULTILINE)
 BELOW_STACK = re.compile(r"^(?!lea).*-0x[0-9a-f]+\((?:%rsp|.*,%rsp)")
-INDIRECT = re.compile(r"^(?:\w+ )?(?:jmp|call)\w* +\*|^endbr64")
+INDIRECT = re.compile(r"^(?:\w+ )?(?:jmp|call)\w* +\*")
+ENTRY = re.compile(r"^endbr64")
 RETURN = re.compile(r"^(?:\w+ )?ret")
 TRAP = re.compile(r"^ud2")
+# A function, and its first instruction.
+BEGINNING = re.compile(r"^[0-9a-f]+ <(\w+)>:\n +[0-9a-f]+:\t(.*)$", re.MULTILINE)
+# A section that is loaded, and the symbol of a file that an object was made from.
+LOADED = re.compile(r"^ +\[ *\d+\] (\S+) .* W?AX?M?S? +\d+ +\d+ +\d+$", re.MULTILINE)
+FILE = re.compile(r"\bFILE +LOCAL\b")
+# The sections that the linker scripts of kernels name.
+NAMED = re.compile(r"^\.(?:text|data|bss|rodata(?:\..*)?)$")
 
 
 def instructions(archive):
@@ -51,8 +60,8 @@ def undocumented_words():
     first = [row.split("|")[1] for row in table.splitlines() if row.startswith("| ")]
     named = {word for cell in first for quoted in re.findall(r"`([^`]+)`", cell) for word in quoted.split()}
     used = {*kernel_archive.LINUX.attributes, *kernel_archive.LINUX.flags, kernel_archive.LINUX.processor}
-    # what the table says that they stand in the place of
-    aside = {"--thunks", "target-cpu", kernel_archive.PROCESSOR, kernel_archive.OF_POSITION}
+    # what the table says besides
+    aside = {"--thunks", "target-cpu", kernel_archive.PROCESSOR}
     return difference(named - aside, used)
 
 
@@ -62,12 +71,28 @@ def look_at(archive, asks, look):
     look("nothing is read or written below the stack pointer", found(code, BELOW_STACK), f"{len(code)} instructions")
     if asks is OF_LINUX:
         look("no plain returns", found(code, RETURN))
+    look_at_sections(archive, look)
+    look("each call begins with endbr64", ", ".join(sorted(declared() - entries(archive))))
     look_at_jumps(code, look)
+
+
+def entries(archive):
+    """The functions that may be called through a pointer where the processor looks at that."""
+    return {name for name, first in BEGINNING.findall(said_by("objdump", "-d", "--no-show-raw-insn", archive)) if ENTRY.match(first)}
+
+
+def look_at_sections(archive, look):
+    """A linker script of a kernel's names each section, and Linux's build says a word of an object that was linked of several."""
+    loaded = LOADED.findall(said_by("readelf", "-SW", archive))
+    others = [name for name in loaded if not NAMED.match(name)]
+    look("no section that a kernel's linker script doesn't name", ", ".join(others) or (None if ".text" in loaded else "no .text"))
+    files = len(FILE.findall(said_by("readelf", "-sW", archive)))
+    look("it isn't linked of several objects", None if files <= 1 else f"{files} symbols of files")
 
 
 def look_at_jumps(code, look):
     """What holds of the archive for programs too."""
-    look("no indirect jumps or calls, and no places for them", found(code, INDIRECT))
+    look("no indirect jumps or calls", found(code, INDIRECT))
     traps = sum(bool(TRAP.match(text)) for text in code)
     look("as many traps as the page says", None if traps == documented_traps() else f"{traps}, and not {documented_traps()}", str(traps))
 

@@ -21,18 +21,26 @@ def without(*flags):
     return replace(KERNEL, flags=tuple(flag for flag in KERNEL.flags if flag not in flags))
 
 
+def without_option(option):
+    """Without an option of LLVM's, which stands behind the word -mllvm."""
+    at = KERNEL.flags.index(option)
+    return replace(KERNEL, flags=KERNEL.flags[: at - 1] + KERNEL.flags[at + 1 :])
+
+
 VARIANTS = {
     "without noredzone": replace(KERNEL, attributes=()),
     "without -mno-sse and -mno-sse2": without("-mno-sse", "-mno-sse2"),
-    "without -expand-div-rem-bits": without("-mllvm", "-expand-div-rem-bits=64"),
-    "with -mcmodel=large": replace(KERNEL, flags=("-mcmodel=large", *without("-mcmodel=kernel").flags)),
+    "without -expand-div-rem-bits": without_option("-expand-div-rem-bits=64"),
+    "without -x86-indirect-branch-tracking": without_option("-x86-indirect-branch-tracking"),
+    "with -ffunction-sections": without("-fno-function-sections"),
+    "with -mcmodel=kernel": replace(KERNEL, flags=("-fno-pic", "-mcmodel=kernel", *KERNEL.flags)),
 }
 
 
 def finders(module, variant):
     """The checks that fail on an archive of a variant."""
     with tempfile.TemporaryDirectory() as held:
-        tools = Tools(Path(held) / "libeevdf_kernel.a", Path(held), ("-no-pie",), module)
+        tools = Tools(Path(held) / "libeevdf_kernel.a", Path(held), module)
         make(kit_tools(), KeptModule.read(module), tools.archive, variant)
         failed = []
         kernel_object.look_at(tools.archive, kernel_object.OF_KERNELS, lambda name, fault, *_: fault and failed.append(name))

@@ -1,5 +1,5 @@
 """The crate for Rust: that its sizes, codes, version and calls are the header's, its tests and those of its pages with warnings as errors,
-also without the functions for memory, and that it is formatted, has nothing that clippy warns of, and can be packed."""
+also without boxes and over the library for kernels, and that it is formatted, has nothing that clippy warns of, and can be packed."""
 
 import os
 import re
@@ -10,8 +10,8 @@ from object_file import declared, difference
 from tools import TOP, fault_of, run
 
 FOLDER = TOP / "bindings" / "rust"
-# Flags of a program that lies below 2 GiB.
-STATIC = "-C relocation-model=static"
+# The calls that it makes others in the place of: they ask for memory, or give it back, by a name of the linker's.
+BY_NAMES = {"eevdf_admit", "eevdf_end"}
 # The structs with fields, by the file that has them, and their names in C.
 STRUCTS = (("queue.rs", "Entry", "eevdf_entry"), ("queue.rs", "Sleeper", "eevdf_sleeper"), ("hand.rs", "Parcel", "eevdf_parcel"))
 
@@ -57,16 +57,16 @@ def other_version():
 
 def check_names(tools):
     calls = set(re.findall(r"pub fn (eevdf_\w+)\(", source("calls.rs")))
-    tools.checks.look("bindings/rust has the header's calls", difference(calls, declared()))
+    tools.checks.look("bindings/rust has the header's calls", difference(calls, declared() - BY_NAMES))
     tools.checks.look("bindings/rust has the header's sizes and codes", difference(numbers_of_crate(), numbers_of_header()))
     tools.checks.look("bindings/rust has the header's version", other_version())
     other = [name for file, name, in_c in STRUCTS if fields_of_source(source(file), name) != fields_of_header(in_c)]
     tools.checks.look("bindings/rust has the header's fields", other and f"not those of {', '.join(other)}")
 
 
-def cargo(tools, *words):
-    flags = f"-D warnings {STATIC if tools.flags else ''}"
-    env = {**os.environ, "EEVDF_LIB_DIR": str(tools.work / "prefix" / "lib"), "CARGO_TARGET_DIR": str(tools.work / "cargo"),
+def cargo(tools, *words, prefix="prefix"):
+    flags = "-D warnings"
+    env = {**os.environ, "EEVDF_LIB_DIR": str(tools.work / prefix / "lib"), "CARGO_TARGET_DIR": str(tools.work / "cargo"),
            "RUSTFLAGS": flags, "RUSTDOCFLAGS": flags}
     offline = [] if words[0] == "fmt" else ["--offline"]
     made = run(["cargo", *words, *offline, "--manifest-path", tools.work / "rust" / "Cargo.toml"], env=env)
@@ -82,14 +82,14 @@ def check(tools):
     # a copy, so that the tree isn't written to
     shutil.copytree(FOLDER, tools.work / "rust", ignore=shutil.ignore_patterns("target", "Cargo.lock"))
     check_tests(tools)
-    if not tools.flags:
+    if not tools.module:
         check_form(tools)
 
 
 def check_form(tools):
     for name, command, package, words in (
         ("cargo fmt", "cargo-fmt", "rustfmt", ("fmt", "--check")),
-        ("cargo clippy", "cargo-clippy", "rust-clippy", ("clippy", "--all-targets", "--all-features")),
+        ("cargo clippy", "cargo-clippy", "rust-clippy", ("clippy", "--all-targets", "--features", "malloc")),
     ):
         # rustup puts each command in place, also where what it would run isn't installed
         if run(["cargo", words[0], "--version"]).returncode:
@@ -100,9 +100,12 @@ def check_form(tools):
 
 
 def check_tests(tools):
-    made, fault = cargo(tools, "test", "--all-features")
+    made, fault = cargo(tools, "test")
     count = sum(int(line.split()[3]) for line in made.stdout.splitlines() if line.startswith("test result: ok."))
     tools.checks.look("bindings/rust: cargo test", fault or (None if count else "no test was run"), f"{count} tests")
-    tools.checks.look("bindings/rust: cargo doc", cargo(tools, "doc", "--no-deps", "--all-features")[1])
-    tools.checks.look("bindings/rust by default: cargo test", cargo(tools, "test")[1])
-    tools.checks.look("bindings/rust without malloc: cargo test", cargo(tools, "test", "--no-default-features")[1])
+    tools.checks.look("bindings/rust: cargo doc", cargo(tools, "doc", "--no-deps")[1])
+    tools.checks.look("bindings/rust with malloc: cargo test", cargo(tools, "test", "--features", "malloc")[1])
+    tools.checks.look("bindings/rust without boxes: cargo test", cargo(tools, "test", "--no-default-features")[1])
+    if tools.module:
+        made, fault = cargo(tools, "test", "--features", "kernel", prefix="kernel")
+        tools.checks.look("bindings/rust over the library for kernels: cargo test", fault)

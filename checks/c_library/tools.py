@@ -38,8 +38,6 @@ def fault_of(made):
 class Tools:
     archive: Path
     work: Path
-    # flags that a program over the archive needs
-    flags: tuple = ()
     # of the archive for kernels: what it is made from, the one with Linux's thunks, and the one that is put in the place of that for
     # programs, whose functions for memory are those of libeevdf_malloc.a
     module: Path | None = None
@@ -58,7 +56,7 @@ class Tools:
         """Builds a program of C11 over the library. Gives its path and what is wrong."""
         program = self.work / name
         over = [self.archive] if libraries is None else libraries
-        return program, fault_of(run([self.cc, *C11, *self.flags, *flags, "-o", program, *sources, *over]))
+        return program, fault_of(run([self.cc, *C11, *flags, "-o", program, *sources, *over]))
 
     def malloc_library(self):
         """The functions for memory over malloc and free, as an object."""

@@ -1,7 +1,7 @@
 /*
  * two_cpus.c: two CPUs, each a thread with a queue and a lock of its own. Each picks, charges and
- * lets tasks sleep on its own queue, wakes tasks on either, and pulls a waiting task where it has
- * less load than the other. The end of it is the same whatever the threads do.
+ * lets tasks sleep on its own queue, wakes tasks on either, and pulls a waiting task of the other
+ * where that brings their loads closer. The end of it is the same whatever the threads do.
  */
 #include <eevdf.h>
 #include <pthread.h>
@@ -14,6 +14,9 @@ static struct cpu {
 	eevdf_queue queue;
 	uint64_t word, sleeps, wakes, pulls;
 } cpus[CPUS];
+
+/* What each task adds to the load of a queue where it is runnable. Nobody changes it. */
+static int64_t weights[TASKS];
 
 /* A number that is drawn for a CPU. Only its own thread draws it. */
 static uint64_t drawn(struct cpu *cpu, uint64_t below)
@@ -64,7 +67,11 @@ static void unlock_all(void)
 		pthread_mutex_unlock(&cpus[at].lock);
 }
 
-/* Pulls a waiting task of the other CPU. With both locks held nobody sees it in neither queue. */
+/*
+ * Pulls a waiting task of the other CPU, where this one's load with the task is below the one that
+ * the other has now: so the two come closer, and no task is pulled to and fro for ever. With both
+ * locks held nobody sees it in neither queue.
+ */
 static void pull(struct cpu *own, struct cpu *other)
 {
 	eevdf_hand hand;
@@ -73,7 +80,7 @@ static void pull(struct cpu *own, struct cpu *other)
 	eevdf_hand_open(&hand);
 	lock_all();
 	task = eevdf_candidate(&other->queue);
-	if (task >= 0 && eevdf_load(&own->queue) < eevdf_load(&other->queue)) {
+	if (task >= 0 && eevdf_load(&own->queue) + weights[task] < eevdf_load(&other->queue)) {
 		eevdf_take(&other->queue, &hand, (uint64_t)task);
 		if (eevdf_put(&own->queue, &hand) == 0)
 			own->pulls++;
@@ -119,8 +126,11 @@ int main(void)
 		pthread_mutex_init(&cpus[at].lock, NULL);
 		eevdf_open(&cpus[at].queue);
 	}
-	for (uint64_t task = 0; task < TASKS; task++)
+	for (uint64_t task = 0; task < TASKS; task++) {
+		weights[task] = -eevdf_load(&cpus[0].queue);
 		eevdf_admit(&cpus[0].queue, task, (int64_t)(task % 4), SLICE, 0);
+		weights[task] += eevdf_load(&cpus[0].queue);
+	}
 	for (unsigned at = 0; at < CPUS; at++)
 		if (pthread_create(&threads[at], NULL, run, &cpus[at]) != 0)
 			return 1;

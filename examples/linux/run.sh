@@ -32,8 +32,8 @@ make -C "$headers" M="$work/module" PREFIX="$work/prefix" modules >"$work/said" 
   fail "the module isn't built" 1
 }
 # make says that without the image's own vmlinux there are no types for BPF, and that another build of the compiler made the image
-if grep -vE "^Skipping BTF generation|the compiler differs from" "$work/said" | grep -i warning; then
-  fail "Linux's build warns of the module" 1
+if grep -vE "^Skipping BTF generation|the compiler differs from" "$work/said" | grep -iE "warning|objtool:"; then
+  fail "Linux's build says something of the module" 1
 fi
 
 flags=(-std=c11 -O2 -Wall -Wextra -Werror -pedantic "-I$top/include")
@@ -56,5 +56,8 @@ if grep -qE "^(BUG|Oops|WARNING|general)|NOT LOADED|LOST" "$work/found"; then
   fail "Linux or init finds a fault" 1
 fi
 for stack in 0 8; do
-  grep -qx "Linux: stack off by $stack, $wanted" "$work/found" || fail "no thread with its stack off by $stack comes to the checksum" 1
+  grep -qx "Linux: stack off by $stack, $wanted" "$work/found" || {
+    tail -n 20 "$work/log"
+    fail "no thread with its stack off by $stack comes to the checksum" 1
+  }
 done

@@ -1,8 +1,8 @@
 #!/usr/bin/env -S python3 -B
 """kernel_archive.py [--thunks] MODULE ARCHIVE: makes the archive for kernels from the kept LLVM module of the library for C, by the kit's
-own clang and the words that it was given for the archive for programs, but for the attributes and flags that docs/embedding-c.md lists.
-To that object it joins the functions for memory that a kernel may leave out or have by either name, as bindings/c has them. Ends with 3
-where there is no module, no kit, or a module that isn't understood."""
+own clang and the words that it was given for the archive for programs, with the attributes and flags besides that docs/embedding-c.md
+lists. To the module it joins the functions for memory that a kernel may leave out or have by either name, as bindings/c has them. Ends
+with 3 where there is no module, no kit, or a module that isn't understood."""
 
 import argparse
 import re
@@ -17,8 +17,8 @@ from kept_module import KeptModule
 
 @dataclass(frozen=True)
 class Variant:
-    """What one of the archives is made by: attributes of each function that the module defines, the processor that these name, flags in
-    the place of OF_POSITION, and the C files whose functions are joined to it."""
+    """What one of the archives is made by: attributes of each function that the module defines, the processor that these name, flags
+    that come to those of the module, and the C files whose functions are joined to it."""
 
     attributes: tuple
     processor: str
@@ -26,15 +26,16 @@ class Variant:
     sources: tuple = ()
 
 
-OF_POSITION = "-fPIC"
 PROCESSOR = "x86-64-v2"
-PROGRAMS = Variant((), PROCESSOR, (OF_POSITION,))
+PROGRAMS = Variant((), PROCESSOR, ())
 KERNEL = Variant(
     ("noredzone",),  # nothing below the stack pointer
     "x86-64",  # for each processor of 64 bits
     (
         "-mno-sse", "-mno-sse2", "-mno-avx", "-mno-mmx",  # no registers but the general ones
-        "-fno-pic", "-mcmodel=kernel",  # addresses in the highest or the lowest 2 GiB
+        "-fno-function-sections", "-fno-data-sections",  # all code in .text, as a kernel's linker script takes it
+        "-fno-addrsig",  # no section that such a script doesn't name
+        "-mllvm", "-x86-indirect-branch-tracking",  # endbr64 where a call may come through a pointer
         "-mllvm", "-expand-div-rem-bits=64",  # the division of 128 bits in the code, so no __udivti3
     ),
     ("eevdf_names.c", "eevdf_no_memory.c"),
@@ -43,8 +44,8 @@ LINUX = replace(KERNEL, attributes=(*KERNEL.attributes, "fn_ret_thunk_extern")) 
 
 # What the attributes are called where clang is given C, and how it compiles C for a place without an operating system.
 IN_C = {"noredzone": "-mno-red-zone", "fn_ret_thunk_extern": "-mfunction-return=thunk-extern"}
-BARE = ("-std=c11", "-O3", "-Wall", "-Wextra", "-Werror", "-ffreestanding", "-nostdinc", "-ffunction-sections",
-        "-fno-asynchronous-unwind-tables", "-fno-stack-protector")
+BARE = ("-std=c11", "-O3", "-fPIC", "-Wall", "-Wextra", "-Werror", "-ffreestanding", "-nostdinc", "-fno-asynchronous-unwind-tables",
+        "-fno-stack-protector")
 
 TOP = Path(__file__).resolve().parents[2]
 OBJECT = "eevdf_kernel.o"
@@ -74,28 +75,34 @@ def run(*words):
 
 
 def compile_words(kept):
-    """The words by which the module was compiled, but for its name, that of the object, and where that may lie."""
+    """The words by which the module was compiled, but for its name and that of the object."""
     words = list(kept.words)
-    for gone in ("-c", "-x", "ir", "-o", OF_POSITION, *(word for word in words if re.search(r"^--sysroot=|\.bc$|\.o$", word))):
+    for gone in ("-c", "-x", "ir", "-o", *(word for word in words if re.search(r"^--sysroot=|\.bc$|\.o$", word))):
         if gone not in words:
             raise NotMade(f"the module was compiled without {gone}: {' '.join(kept.words)}")
         words.remove(gone)
     return words
 
 
-def compile_module(tools, kept, variant, made):
-    """The object of the module, which is written in words of LLVM, in which attributes can be added, and nothing else is done to it."""
-    words, text = compile_words(kept), made.with_suffix(".ll")
-    run(tools / "clang", *words, "-x", "ir", "-S", "-emit-llvm", "-Xclang", "-disable-llvm-passes", "-o", text, kept.module)
-    text.write_text(with_attributes(text.read_text(), variant))
-    run(tools / "clang", *words, *variant.flags, "-c", "-x", "ir", "-o", made, text)
-
-
 def compile_source(tools, kept, variant, source, made):
-    """The object of a C file of bindings/c, by flags that come to those of the module."""
+    """The module of a C file of bindings/c, by flags that come to those of the library's."""
     target = [word for word in kept.words if word.startswith("--target=")]
     flags = [*target, f"-march={variant.processor}", *BARE, *variant.flags, *(IN_C[name] for name in variant.attributes)]
-    run(tools / "clang", *flags, f"-I{TOP / 'include'}", "-c", "-o", made, TOP / "bindings" / "c" / source)
+    run(tools / "clang", *flags, f"-I{TOP / 'include'}", "-c", "-emit-llvm", "-o", made, TOP / "bindings" / "c" / source)
+
+
+def compile_module(tools, kept, variant, made):
+    """The object of the module, which is written in words of LLVM, in which attributes can be added, and nothing else is done to it but
+    that those of the C files are joined to it. One module makes one symbol of a file, by which Linux's objtool knows an object that
+    isn't linked of several."""
+    words, text, joined = compile_words(kept), made.with_suffix(".ll"), []
+    run(tools / "clang", *words, "-x", "ir", "-S", "-emit-llvm", "-Xclang", "-disable-llvm-passes", "-o", text, kept.module)
+    text.write_text(with_attributes(text.read_text(), variant))
+    for source in variant.sources:
+        module = made.with_name(source).with_suffix(".bc")
+        compile_source(tools, kept, variant, source, module)
+        joined += ["-Xclang", "-mlink-bitcode-file", "-Xclang", module]
+    run(tools / "clang", *words, *variant.flags, *joined, "-c", "-x", "ir", "-o", made, text)
 
 
 def make(tools, kept, archive, variant):
@@ -103,12 +110,6 @@ def make(tools, kept, archive, variant):
     with tempfile.TemporaryDirectory() as held:
         made = Path(held) / OBJECT
         compile_module(tools, kept, variant, made)
-        if variant.sources:
-            parts = [made.rename(made.with_name("module.o"))]
-            for source in variant.sources:
-                parts.append(made.with_name(source).with_suffix(".o"))
-                compile_source(tools, kept, variant, source, parts[-1])
-            run(tools / "ld.lld", "-r", "-o", made, *parts)
         archive.unlink(missing_ok=True)
         run(tools / "llvm-ar", "rcsD", archive, made)
 

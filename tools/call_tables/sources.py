@@ -9,8 +9,10 @@ CRATES = Path(__file__).resolve().parents[2] / "crates"
 
 # The calls of a type, up to the end of the block.
 IMPL = re.compile(r"^impl(?:<[^{]*?>)? (\w+)(?:<[^{]*>)? \{\n(.*?)^\}", re.MULTILINE | re.DOTALL)
-# A call up to its contract or its body.
-CALL = r"^{margin}pub fn (\w+)(.*?)(?=\s*(?:\{{|requires\b|ensures\b))"
+# The calls of a trait, likewise.
+TRAIT = re.compile(r"^pub trait (\w+)[^{]* \{\n(.*?)^\}", re.MULTILINE | re.DOTALL)
+# A call up to its contract, its body or its end.
+CALL = r"^{margin}fn (\w+)(.*?)(?=\s*(?:\{{|;\n|requires\b|ensures\b))"
 DECLARED = r"^pub (enum|struct) {name}\b[^{{;]*\{{\n(.*?)^\}}"
 REMARK = re.compile(r"^\s*(?://|#\[|ghost\b).*\n", re.MULTILINE)
 
@@ -36,21 +38,23 @@ def files_of(path):
 
 
 def calls_in(text, margin):
+    """The calls behind a margin, each with what stands behind its name."""
     return {name: on_one_line(rest) for name, rest in re.findall(CALL.format(margin=margin), text, re.MULTILINE | re.DOTALL)}
 
 
 @cache
 def functions_of(path):
     """The public functions of a crate or of a module of it, each with what stands behind its name."""
-    return {name: rest for text in files_of(path) for name, rest in calls_in(text, "").items()}
+    return {name: rest for text in files_of(path) for name, rest in calls_in(text, "pub ").items()}
 
 
 @cache
 def calls_of(path):
-    """The public calls of a type, crate::module::Type, each with what stands behind its name."""
+    """The public calls of a type or a trait, crate::module::Type, each with what stands behind its name."""
     module, _, wanted = path.rpartition("::")
-    blocks = [block for text in files_of(module) for name, block in IMPL.findall(text) if name == wanted]
-    return {name: rest for block in blocks for name, rest in calls_in(block, "    ").items()}
+    blocks = [(block, margin) for text in files_of(module) for form, margin in ((IMPL, "    pub "), (TRAIT, "    "))
+              for name, block in form.findall(text) if name == wanted]
+    return {name: rest for block, margin in blocks for name, rest in calls_in(block, margin).items()}
 
 
 @cache

@@ -1,4 +1,4 @@
-//! The calls of eevdf.h.
+//! The calls of eevdf.h, but for those that take memory by a name of the linker's.
 
 use crate::hand::Parcel;
 use crate::queue::{Entry, Sleeper};
@@ -16,7 +16,6 @@ extern "C" {
     pub fn eevdf_hand_size() -> i64;
     pub fn eevdf_open(queue: *mut c_void);
     pub fn eevdf_close(queue: *mut c_void);
-    pub fn eevdf_admit(queue: *mut c_void, task: u64, nice: i64, slice_ns: u64, start: i64) -> i64;
     pub fn eevdf_admit_in(queue: *mut c_void, block: *mut Block, task: u64, nice: i64, slice_ns: u64, start: i64) -> i64;
     pub fn eevdf_pick(queue: *mut c_void) -> i64;
     pub fn eevdf_peek(queue: *const c_void) -> i64;
@@ -26,7 +25,6 @@ extern "C" {
     pub fn eevdf_stop(queue: *mut c_void) -> i64;
     pub fn eevdf_sleep(queue: *mut c_void, task: u64) -> i64;
     pub fn eevdf_wake(queue: *mut c_void, task: u64) -> i64;
-    pub fn eevdf_end(queue: *mut c_void, task: u64) -> i64;
     pub fn eevdf_end_out(queue: *mut c_void, block: *mut Block, task: u64) -> i64;
     pub fn eevdf_renice(queue: *mut c_void, task: u64, nice: i64) -> i64;
     pub fn eevdf_set_slice(queue: *mut c_void, task: u64, slice_ns: u64) -> i64;

@@ -2,12 +2,28 @@
 
 use core::fmt;
 
-/// Why a call didn't do what it says. It has then changed nothing.
+/// Why a call didn't do what it says. It has then changed nothing. There may be more reasons in another version:
+///
+/// ```compile_fail,E0004
+/// use eevdf::Error::*;
+///
+/// fn code(error: eevdf::Error) -> i64 {
+///     match error {
+///         Absent => -2,
+///         NoMemory => -12,
+///         Busy => -16,
+///         Present => -17,
+///         Invalid => -22,
+///         Range => -34,
+///     }
+/// }
+/// ```
+#[non_exhaustive]
 #[derive(Clone, Copy, PartialEq, Eq, Hash, Debug)]
 pub enum Error {
     /// There is no such task here, or nobody runs, or the hand is empty.
     Absent,
-    /// The function for memory gave none.
+    /// The allocator gave none.
     NoMemory,
     /// The hand holds a task already.
     Busy,

@@ -10,6 +10,7 @@ use core::marker::PhantomData;
 use core::ptr::{null_mut, NonNull};
 
 /// What a task in a hand has.
+#[non_exhaustive]
 #[repr(C)]
 #[derive(Clone, Copy, PartialEq, Eq, Debug, Default)]
 pub struct Parcel {
@@ -86,6 +87,10 @@ impl fmt::Debug for Hand<'_> {
 
 impl Drop for Hand<'_> {
     fn drop(&mut self) {
+        if let Some(memory) = self.end_out() {
+            // SAFETY: it came in a box or was lent, and no task is in it
+            unsafe { TaskMemory::let_go(memory) };
+        }
         // SAFETY: it points to an opened hand that nobody uses any more
         unsafe { calls::eevdf_hand_close(self.at.as_ptr()) };
     }

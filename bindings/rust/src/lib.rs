@@ -4,8 +4,8 @@
 //! A [`Queue`] says which of its tasks runs next. Its caller says which tasks there are, how long the running one ran, and who sleeps,
 //! wakes and ends:
 //!
-#![cfg_attr(feature = "malloc", doc = "```")]
-#![cfg_attr(not(feature = "malloc"), doc = "```no_run")]
+#![cfg_attr(feature = "alloc", doc = "```")]
+#![cfg_attr(not(feature = "alloc"), doc = "```ignore")]
 //! use eevdf::{Queue, QueueMemory};
 //!
 //! # fn main() -> eevdf::Result<()> {
@@ -23,14 +23,18 @@
 //! # Memory
 //!
 //! A queue stands in a [`QueueMemory`] of its caller's, or with the feature `alloc` in a box of its own, by `Queue::boxed`. Where that lies
-//! doesn't matter to it, and it stays there for as long as the `Queue` lives. Each task takes one block of 152 bytes, in [`Queue::admit`],
-//! from the functions `eevdf_alloc` and `eevdf_dealloc`. With the feature `malloc`, which is on by default, they are over C's `malloc`
-//! and `free`. Without it the program defines them, as the header `eevdf.h` says, or by the names `rattle_alloc` and `rattle_dealloc`,
-//! which they had before version 0.3.
+//! doesn't matter to it, and it stays there for as long as the `Queue` lives. Each task takes one block of memory, in `Queue::admit`. That
+//! is a box of the program's allocator, which the feature `alloc` has, and which is on by default. Without the feature a caller lends the
+//! memory of each task, by [`Queue::admit_in`].
 //!
-//! A function of one of these four names, without mangling, takes the place of that over `malloc` in either case. To define one is
-//! therefore an obligation, as to write `unsafe` is, though editions before 2024 take it without that word: it has to do what the header
-//! says.
+//! The library for C has calls that ask for memory by the names `eevdf_alloc` and `eevdf_dealloc`. The crate makes none of them, so nothing
+//! depends on what a program calls so. With the feature `malloc` the two are over C's `malloc` and `free`, for C in the same program; else
+//! they give none.
+//!
+//! # In a kernel
+//!
+//! With the feature `kernel` the crate links the library for kernels, `libeevdf_kernel.a`, which uses no registers of floating point, in
+//! the place of that for programs. It stands alone, so the feature `malloc` does nothing beside it.
 //!
 //! # Errors
 //!
@@ -39,8 +43,7 @@
 //! # Threads
 //!
 //! A queue can be sent to another thread, and not be used by two: `Queue` is `Send` and not `Sync`. Queues of several CPUs stand each in
-//! a lock, and a task moves from one to the other in a [`Hand`], with one lock held at a time. The functions for memory are then called
-//! by several threads.
+//! a lock, and a task moves from one to the other in a [`Hand`], with one lock held at a time.
 //!
 //! ```
 //! fn is_send<T: Send>() {}
@@ -55,7 +58,7 @@
 //!
 //! # Units
 //!
-//! Times are nanoseconds. Virtual times and lags are in units of which a task of nice level 0 ages one a nanosecond.
+//! Times are nanoseconds, given as such or as a `Duration` ([`Nanoseconds`]). Virtual times and lags are in units of which a task of nice level 0 ages one a nanosecond.
 
 #![no_std]
 #![deny(missing_docs)]
@@ -70,11 +73,13 @@ mod calls;
 mod error;
 mod hand;
 mod memory;
+mod nanoseconds;
 mod queue;
 
 pub use error::{Error, Result};
 pub use hand::{Hand, Parcel};
 pub use memory::{HandMemory, QueueMemory, TaskMemory};
+pub use nanoseconds::Nanoseconds;
 pub use queue::{Entry, Queue, Sleeper};
 
 /// The version of the library that the crate is written for.

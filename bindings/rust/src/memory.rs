@@ -1,6 +1,14 @@
 //! The bytes that queues, hands and tasks stand in.
 
+use core::ffi::c_void;
 use core::mem::MaybeUninit;
+use core::ptr::NonNull;
+
+#[cfg(feature = "alloc")]
+use alloc::{
+    alloc::{alloc, Layout},
+    boxed::Box,
+};
 
 /// The bytes of a queue, whatever it holds: 24672.
 #[repr(C, align(16))]
@@ -10,14 +18,48 @@ pub struct QueueMemory(pub(crate) MaybeUninit<[u8; 24672]>);
 #[repr(C, align(16))]
 pub struct HandMemory(pub(crate) MaybeUninit<[u8; 16]>);
 
-/// The bytes of a task that comes by [`Queue::admit_in`](crate::Queue::admit_in): 152.
+/// The bytes of a task that comes by [`Queue::admit_in`](crate::Queue::admit_in): 152 for the library, and a word of the crate's that says
+/// whether they are in a box of its own.
 #[repr(C, align(8))]
-pub struct TaskMemory(MaybeUninit<[u8; 152]>);
+pub struct TaskMemory {
+    bytes: MaybeUninit<[u8; 152]>,
+    is_boxed: bool,
+}
 
 impl TaskMemory {
     /// Bytes in which no task is.
     pub const fn new() -> TaskMemory {
-        TaskMemory(MaybeUninit::uninit())
+        TaskMemory { bytes: MaybeUninit::uninit(), is_boxed: false }
+    }
+
+    /// Bytes in a box, or none where the allocator gives none. `let_go` frees them.
+    #[cfg(feature = "alloc")]
+    pub(crate) fn boxed() -> Option<NonNull<TaskMemory>> {
+        // SAFETY: the layout isn't of no bytes
+        let at = NonNull::new(unsafe { alloc(Layout::new::<TaskMemory>()) })?.cast::<TaskMemory>();
+        // SAFETY: they are as large and as aligned as such memory, and nobody else's
+        unsafe { at.as_ptr().write(TaskMemory { is_boxed: true, ..TaskMemory::new() }) };
+        Some(at)
+    }
+
+    /// What the library calls the memory of a task.
+    pub(crate) fn block(at: NonNull<TaskMemory>) -> *mut c_void {
+        at.as_ptr().cast()
+    }
+
+    /// Frees memory that the library has given back, where it is in a box. Other memory is its owner's.
+    ///
+    /// # Safety
+    ///
+    /// `at` came from [`TaskMemory::boxed`] or from who lent it, and no task is in it.
+    pub(crate) unsafe fn let_go(at: NonNull<TaskMemory>) {
+        #[cfg(feature = "alloc")]
+        // SAFETY: the library writes to the bytes alone, and whose word is set came out of a box
+        if unsafe { (*at.as_ptr()).is_boxed } {
+            drop(unsafe { Box::from_raw(at.as_ptr()) });
+        }
+        #[cfg(not(feature = "alloc"))]
+        let _ = at;
     }
 }
 

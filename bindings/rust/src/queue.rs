@@ -5,15 +5,19 @@ use crate::check_library;
 use crate::error::{checked, done, Result};
 use crate::hand::Hand;
 use crate::memory::{QueueMemory, TaskMemory};
+use crate::nanoseconds::Nanoseconds;
+use crate::TASKS;
 use core::ffi::c_void;
 use core::fmt;
 use core::marker::PhantomData;
 use core::ptr::{null_mut, NonNull};
+use core::time::Duration;
 
 #[cfg(feature = "alloc")]
 use alloc::boxed::Box;
 
 /// What a queue knows of a runnable task.
+#[non_exhaustive]
 #[repr(C)]
 #[derive(Clone, Copy, PartialEq, Eq, Debug, Default)]
 pub struct Entry {
@@ -28,6 +32,7 @@ pub struct Entry {
 }
 
 /// What a queue keeps of a sleeping task.
+#[non_exhaustive]
 #[repr(C)]
 #[derive(Clone, Copy, PartialEq, Eq, Debug, Default)]
 pub struct Sleeper {
@@ -91,26 +96,55 @@ impl<'a> Queue<'a> {
     }
 
     /// Makes a new task runnable, with a fresh request, at the virtual runtime `start`; [`Queue::floor_time`] gives the start of one that
-    /// comes later. `nice` is from -20 to 19, `slice_ns` from 100000 to 100000000.
+    /// comes later. `nice` is from -20 to 19, `slice` from 0.1 to 100 ms. Its memory is a box of its own.
     ///
-    /// `Invalid`, `Present`, `NoMemory`, or `Range` where its deadline would leave the range.
-    pub fn admit(&mut self, task: u64, nice: i64, slice_ns: u64, start: i64) -> Result<()> {
-        done(unsafe { calls::eevdf_admit(self.at.as_ptr(), task, nice, slice_ns, start) })
+    /// `Invalid`, `Present`, `NoMemory` where the allocator gives none, or `Range` where its deadline would leave the range.
+    #[cfg(feature = "alloc")]
+    pub fn admit(&mut self, task: u64, nice: i64, slice: impl Into<Nanoseconds>, start: i64) -> Result<()> {
+        let memory = TaskMemory::boxed();
+        // SAFETY: nobody else has it; where there is none the call says so, or what it says first
+        let admitted = unsafe { self.admit_block(memory, task, nice, slice.into(), start) };
+        if let (Err(_), Some(memory)) = (admitted, memory) {
+            // SAFETY: it came out of a box, and the call hasn't taken it
+            unsafe { TaskMemory::let_go(memory) };
+        }
+        admitted
     }
 
-    /// Makes a new task runnable as [`Queue::admit`] does, in memory of the caller's, so that none is asked for. On an error the caller has
-    /// it as before.
+    /// Makes a new task runnable as `admit` does, in memory that the caller lends. On an error the caller has it as before.
     ///
     /// `Invalid`, `Present`, or `Range`.
     ///
     /// # Safety
     ///
-    /// Until [`Queue::end_out`] or [`Hand::end_out`] gives it back, of whichever task and whichever queue or hand to which tasks of this
-    /// one may go, nobody else uses the memory. Where a task ends otherwise, as by [`Queue::end`] or where a queue or a hand is dropped
-    /// with tasks in it, `eevdf_dealloc` gets such memory, and has to take it; that of the feature `malloc` doesn't.
-    pub unsafe fn admit_in(&mut self, memory: NonNull<TaskMemory>, task: u64, nice: i64, slice_ns: u64, start: i64) -> Result<()> {
-        let mut block = calls::Block { at: memory.as_ptr().cast() };
-        done(unsafe { calls::eevdf_admit_in(self.at.as_ptr(), &mut block, task, nice, slice_ns, start) })
+    /// Nobody else uses the memory until [`Queue::end_out`] or [`Hand::end_out`] gives it back, of whichever task and whichever queue or
+    /// hand to which tasks of this one may go; or until all of these queues and hands are dropped. Where a task ends otherwise, as by
+    /// [`Queue::end`], nobody is told whose memory isn't used any more.
+    pub unsafe fn admit_in(
+        &mut self,
+        memory: NonNull<TaskMemory>,
+        task: u64,
+        nice: i64,
+        slice: impl Into<Nanoseconds>,
+        start: i64,
+    ) -> Result<()> {
+        // SAFETY: the caller lends it
+        unsafe { self.admit_block(Some(memory), task, nice, slice.into(), start) }
+    }
+
+    /// # Safety
+    ///
+    /// As that of [`Queue::admit_in`], where there is memory.
+    unsafe fn admit_block(
+        &mut self,
+        memory: Option<NonNull<TaskMemory>>,
+        task: u64,
+        nice: i64,
+        slice: Nanoseconds,
+        start: i64,
+    ) -> Result<()> {
+        let mut block = calls::Block { at: memory.map_or(null_mut(), TaskMemory::block) };
+        done(unsafe { calls::eevdf_admit_in(self.at.as_ptr(), &mut block, task, nice, slice.0, start) })
     }
 
     /// Lets the eligible task of earliest deadline run. `None` where nothing is runnable.
@@ -124,17 +158,22 @@ impl<'a> Queue<'a> {
         checked(unsafe { calls::eevdf_peek(self.at.as_ptr()) }).ok()
     }
 
-    /// Charges the running task for 1 to 1000000000 nanoseconds. Whether its request is used up, so that it is time to pick.
+    /// Charges the running task for 1 ns to 1 s. Whether its request is used up, so that it is time to pick.
     ///
     /// `Invalid`, `Absent` where nobody runs, or `Range`.
-    pub fn tick(&mut self, ns: u64) -> Result<bool> {
-        checked(unsafe { calls::eevdf_tick(self.at.as_ptr(), ns) }).map(|answer| answer == 1)
+    pub fn tick(&mut self, time: impl Into<Nanoseconds>) -> Result<bool> {
+        checked(unsafe { calls::eevdf_tick(self.at.as_ptr(), time.into().0) }).map(|answer| answer == 1)
     }
 
     /// The shortest time in nanoseconds whose tick uses up the running task's request. `None` where nobody runs, or where the longest
     /// tick, of a second, leaves some of the request. A timer is set to it after each pick and after each charge, since charges round down.
     pub fn time_to_resched(&self) -> Option<u64> {
         checked(unsafe { calls::eevdf_time_to_resched(self.at.as_ptr()) }).ok()
+    }
+
+    /// [`Queue::time_to_resched`] as a duration.
+    pub fn duration_to_resched(&self) -> Option<Duration> {
+        self.time_to_resched().map(Duration::from_nanos)
     }
 
     /// Makes the running task's deadline later by the charge of a slice. It runs on until the next pick. A rebase takes nothing of it back;
@@ -164,14 +203,19 @@ impl<'a> Queue<'a> {
         done(unsafe { calls::eevdf_wake(self.at.as_ptr(), task) })
     }
 
-    /// Ends a task, whether it runs, waits or sleeps.
+    /// Ends a task, whether it runs, waits or sleeps. Where its memory was lent, the caller isn't told whose is free now.
     ///
     /// `Absent` where it isn't here.
     pub fn end(&mut self, task: u64) -> Result<()> {
-        done(unsafe { calls::eevdf_end(self.at.as_ptr(), task) })
+        let memory = self.end_out(task)?;
+        // SAFETY: it came in a box or was lent, and no task is in it
+        unsafe { TaskMemory::let_go(memory) };
+        Ok(())
     }
 
     /// Ends a task as [`Queue::end`] does, and gives the caller memory in which a task was, which need not be that in which this one came.
+    /// Where tasks have come both by `admit` and by [`Queue::admit_in`], it may be that of a box: it is freed where it is lent again and
+    /// its task ends otherwise.
     ///
     /// `Absent` where it isn't here.
     pub fn end_out(&mut self, task: u64) -> Result<NonNull<TaskMemory>> {
@@ -188,27 +232,27 @@ impl<'a> Queue<'a> {
         done(unsafe { calls::eevdf_renice(self.at.as_ptr(), task, nice) })
     }
 
-    /// Gives a task another slice, from 100000 to 100000000 nanoseconds, runnable or asleep. The request that stands keeps its deadline,
+    /// Gives a task another slice, from 0.1 to 100 ms, runnable or asleep. The request that stands keeps its deadline,
     /// and the lag that a sleeping task keeps is cut to its new limit.
     ///
     /// `Invalid`, or `Absent` where it isn't here.
-    pub fn set_slice(&mut self, task: u64, slice_ns: u64) -> Result<()> {
-        done(unsafe { calls::eevdf_set_slice(self.at.as_ptr(), task, slice_ns) })
+    pub fn set_slice(&mut self, task: u64, slice: impl Into<Nanoseconds>) -> Result<()> {
+        done(unsafe { calls::eevdf_set_slice(self.at.as_ptr(), task, slice.into().0) })
     }
 
     /// Gives a task another nice level and slice at once, runnable or asleep. A runnable one is placed anew as by [`Queue::renice`], and
     /// the request after the fresh one is of the new slice. The lag that a sleeping one keeps is rescaled, and cut to its new limit.
     ///
     /// `Invalid`, `Absent` where it isn't here, or `Range`, and then it keeps its nice level and its slice.
-    pub fn set(&mut self, task: u64, nice: i64, slice_ns: u64) -> Result<()> {
-        done(unsafe { calls::eevdf_set(self.at.as_ptr(), task, nice, slice_ns) })
+    pub fn set(&mut self, task: u64, nice: i64, slice: impl Into<Nanoseconds>) -> Result<()> {
+        done(unsafe { calls::eevdf_set(self.at.as_ptr(), task, nice, slice.into().0) })
     }
 
     /// A task that sleeps here begins anew: it sleeps on with this nice level and slice, and with the lag 0.
     ///
     /// `Invalid`, `Present` where it is runnable here, or `Absent` where it isn't here.
-    pub fn begin(&mut self, task: u64, nice: i64, slice_ns: u64) -> Result<()> {
-        done(unsafe { calls::eevdf_begin(self.at.as_ptr(), task, nice, slice_ns) })
+    pub fn begin(&mut self, task: u64, nice: i64, slice: impl Into<Nanoseconds>) -> Result<()> {
+        done(unsafe { calls::eevdf_begin(self.at.as_ptr(), task, nice, slice.into().0) })
     }
 
     /// Lowers all virtual times by one number, so that the virtual time is 0, and gives the number. Where a virtual time would leave its
@@ -320,8 +364,8 @@ impl<'a> Queue<'a> {
     /// Whether a task of this nice level, slice and lag can be put here.
     ///
     /// `Invalid` where a number is out of its limits, or the lag is beyond the charge of two slices.
-    pub fn can_place(&self, nice: i64, slice_ns: u64, lag: i64) -> Result<bool> {
-        checked(unsafe { calls::eevdf_can_place(self.at.as_ptr(), nice, slice_ns, lag) }).map(|answer| answer == 1)
+    pub fn can_place(&self, nice: i64, slice: impl Into<Nanoseconds>, lag: i64) -> Result<bool> {
+        checked(unsafe { calls::eevdf_can_place(self.at.as_ptr(), nice, slice.into().0, lag) }).map(|answer| answer == 1)
     }
 }
 
@@ -338,6 +382,10 @@ impl fmt::Debug for Queue<'_> {
 
 impl Drop for Queue<'_> {
     fn drop(&mut self) {
+        // task by task, so that the library gives back nothing by itself
+        for task in 0..TASKS {
+            let _ = self.end(task);
+        }
         unsafe { calls::eevdf_close(self.at.as_ptr()) };
         match self.memory {
             Memory::Borrowed(_) => {}

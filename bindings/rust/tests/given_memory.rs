@@ -1,4 +1,4 @@
-//! Tasks in memory that the caller gives: the functions for memory are never called.
+//! Tasks in memory that the caller lends: the functions for memory are never called.
 
 use eevdf::{Error, Hand, HandMemory, Queue, QueueMemory, TaskMemory};
 use std::collections::BTreeSet;
@@ -51,4 +51,17 @@ fn each_task_gives_its_memory_back() {
     assert_eq!(hand.end_out(), None);
     assert_eq!(hand.task(), None);
     assert!(queue.is_empty());
+}
+
+#[test]
+fn a_queue_is_dropped_with_tasks_in_lent_memory() {
+    let mut tasks: Vec<TaskMemory> = (0..TASKS).map(|_| TaskMemory::new()).collect();
+    let mut memory = QueueMemory::new();
+    let mut queue = Queue::open(&mut memory);
+    for (task, lent) in (0..TASKS).zip(&mut tasks) {
+        // SAFETY: nobody else uses it while the queue lives
+        unsafe { queue.admit_in(NonNull::from(lent), task, 0, SLICE, 0) }.unwrap();
+    }
+    queue.end(3).unwrap();
+    assert_eq!(queue.len(), TASKS - 1);
 }

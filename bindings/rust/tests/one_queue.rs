@@ -1,8 +1,19 @@
 //! One queue: turns, sleeps, errors.
 
-use eevdf::{Entry, Error, Hand, HandMemory, Queue, QueueMemory, Sleeper};
+use eevdf::{Entry, Error, Hand, HandMemory, Queue, QueueMemory, Result, Sleeper};
+use std::time::Duration;
 
 const SLICE: u64 = 3_000_000;
+
+/// The virtual runtime and the deadline, the nice level and the slice.
+fn entry(entry: Result<Entry>) -> Result<(i64, i64, i64, u64)> {
+    entry.map(|it| (it.vruntime, it.deadline, it.nice, it.slice_ns))
+}
+
+/// The lag, the nice level and the slice.
+fn sleeper(sleeper: Result<Sleeper>) -> Result<(i64, i64, u64)> {
+    sleeper.map(|it| (it.lag, it.nice, it.slice_ns))
+}
 
 #[test]
 fn tasks_take_turns() {
@@ -32,10 +43,10 @@ fn a_sleeper_keeps_its_lag() {
     assert!(!queue.tick(2_000_000).unwrap());
     queue.sleep(0).unwrap();
     assert_eq!((queue.lag(0), queue.is_asleep(0), queue.running()), (Ok(-1_000_000), Ok(true), None));
-    assert_eq!(queue.sleeper(0), Ok(Sleeper { lag: -1_000_000, nice: 0, slice_ns: SLICE }));
-    assert_eq!(queue.sleeper(1), Err(Error::Absent));
+    assert_eq!(sleeper(queue.sleeper(0)), Ok((-1_000_000, 0, SLICE)));
+    assert_eq!(sleeper(queue.sleeper(1)), Err(Error::Absent));
     queue.wake(0).unwrap();
-    assert_eq!(queue.entry(0), Ok(Entry { vruntime: 2_000_000, deadline: 5_000_000, nice: 0, slice_ns: SLICE }));
+    assert_eq!(entry(queue.entry(0)), Ok((2_000_000, 5_000_000, 0, SLICE)));
     assert_eq!(queue.lag(0), Ok(-1_000_000));
 }
 
@@ -120,7 +131,7 @@ fn a_slice_is_that_of_the_next_request() {
     assert_eq!(queue.set_slice(0, 0), Err(Error::Invalid));
     assert_eq!(queue.set_slice(1, SLICE), Err(Error::Absent));
     queue.set_slice(0, 1_000_000).unwrap();
-    assert_eq!(queue.entry(0), Ok(Entry { vruntime: 0, deadline: 3_000_000, nice: 0, slice_ns: 1_000_000 }));
+    assert_eq!(entry(queue.entry(0)), Ok((0, 3_000_000, 0, 1_000_000)));
     assert_eq!(queue.pick(), Some(0));
     assert!(queue.tick(SLICE).unwrap());
     assert_eq!(queue.entry(0).unwrap().deadline, 4_000_000);
@@ -135,7 +146,7 @@ fn a_level_and_a_slice_change_together() {
     assert_eq!(queue.set(1, 5, SLICE), Err(Error::Absent));
     queue.set(0, 5, 1_000_000).unwrap();
     // the charge of 3 ms to the weight 335
-    assert_eq!(queue.entry(0), Ok(Entry { vruntime: 0, deadline: 9_170_149, nice: 5, slice_ns: 1_000_000 }));
+    assert_eq!(entry(queue.entry(0)), Ok((0, 9_170_149, 5, 1_000_000)));
     queue.end(0).unwrap();
     queue.admit(2, 0, SLICE, (1 << 60) - SLICE as i64).unwrap();
     assert_eq!(queue.set(2, 19, 100_000), Err(Error::Range));
@@ -153,14 +164,14 @@ fn a_sleeping_task_changes_and_begins_anew() {
     queue.sleep(0).unwrap();
     queue.set(0, 5, SLICE).unwrap();
     // -1000000 * 1024 / 335, rounded down
-    assert_eq!(queue.sleeper(0), Ok(Sleeper { lag: -3_056_717, nice: 5, slice_ns: SLICE }));
+    assert_eq!(sleeper(queue.sleeper(0)), Ok((-3_056_717, 5, SLICE)));
     queue.set(0, 0, 100_000).unwrap();
-    assert_eq!(queue.sleeper(0), Ok(Sleeper { lag: -200_000, nice: 0, slice_ns: 100_000 }));
+    assert_eq!(sleeper(queue.sleeper(0)), Ok((-200_000, 0, 100_000)));
     assert_eq!(queue.begin(0, 0, 0), Err(Error::Invalid));
     assert_eq!(queue.begin(1, 3, SLICE), Err(Error::Present));
     assert_eq!(queue.begin(2, 3, SLICE), Err(Error::Absent));
     queue.begin(0, 3, SLICE).unwrap();
-    assert_eq!(queue.sleeper(0), Ok(Sleeper { lag: 0, nice: 3, slice_ns: SLICE }));
+    assert_eq!(sleeper(queue.sleeper(0)), Ok((0, 3, SLICE)));
 }
 
 #[test]
@@ -169,7 +180,7 @@ fn a_queue_starts_from_time_zero_again() {
     let mut queue = Queue::open(&mut memory);
     queue.admit(0, 0, SLICE, -5).unwrap();
     assert_eq!((queue.rebase(), queue.floor_time(), queue.rebase()), (-5, 0, 0));
-    assert_eq!(queue.entry(0), Ok(Entry { vruntime: 0, deadline: 3_000_000, nice: 0, slice_ns: SLICE }));
+    assert_eq!(entry(queue.entry(0)), Ok((0, 3_000_000, 0, SLICE)));
 }
 
 #[test]
@@ -194,4 +205,35 @@ fn a_queue_is_emptied_task_by_task() {
         })
         .collect();
     assert_eq!(taken, [Ok(5), Ok(6), Ok(4), Err(Error::Absent)]);
+}
+
+#[test]
+fn a_time_is_a_number_or_a_duration() {
+    let mut memory = QueueMemory::new();
+    let mut queue = Queue::open(&mut memory);
+    queue.admit(0, 0, Duration::from_millis(3), 0).unwrap();
+    assert_eq!(queue.entry(0).unwrap().slice_ns, SLICE);
+    assert_eq!(queue.can_place(0, Duration::from_millis(101), 0), Err(Error::Invalid));
+    assert_eq!((queue.pick(), queue.duration_to_resched()), (Some(0), Some(Duration::from_millis(3))));
+    assert_eq!(queue.tick(Duration::from_millis(2)), Ok(false));
+    assert_eq!(queue.tick(Duration::MAX), Err(Error::Invalid));
+    queue.set_slice(0, Duration::from_millis(1)).unwrap();
+    queue.set(0, 0, Duration::from_millis(2)).unwrap();
+    queue.sleep(0).unwrap();
+    queue.begin(0, 0, Duration::from_millis(1)).unwrap();
+    assert_eq!(queue.sleeper(0).unwrap().slice_ns, 1_000_000);
+}
+
+#[test]
+fn a_charge_is_rounded_down() {
+    let mut memory = QueueMemory::new();
+    let mut queue = Queue::open(&mut memory);
+    queue.admit(0, -20, SLICE, 0).unwrap();
+    assert_eq!(queue.pick(), Some(0));
+    for _ in 0..100 {
+        assert_eq!(queue.tick(86), Ok(false));
+    }
+    assert_eq!(queue.entry(0).unwrap().vruntime, 0);
+    assert_eq!(queue.tick(87), Ok(false));
+    assert_eq!(queue.entry(0).unwrap().vruntime, 1);
 }

@@ -1,6 +1,6 @@
 //! Two queues in locks of their own, and a task that moves between them in a hand.
 
-use eevdf::{Error, Hand, HandMemory, Parcel, Queue, QueueMemory};
+use eevdf::{Error, Hand, HandMemory, Queue, QueueMemory};
 use std::sync::Mutex;
 use std::thread;
 
@@ -18,7 +18,8 @@ fn a_task_moves_in_a_hand() {
     from.take(&mut hand, 1).unwrap();
     assert_eq!(from.take(&mut hand, 0), Err(Error::Busy));
     assert_eq!((hand.task(), from.contains(1)), (Some(1), Ok(false)));
-    assert_eq!(hand.parcel(), Some(Parcel { task: 1, nice: 0, slice_ns: SLICE, start: 0, lag: 0 }));
+    let parcel = hand.parcel().unwrap();
+    assert_eq!((parcel.task, parcel.nice, parcel.slice_ns, parcel.start, parcel.lag), (1, 0, SLICE, 0, 0));
     to.put(&mut hand).unwrap();
     assert_eq!((hand.task(), hand.parcel(), to.pick()), (None, None, Some(1)));
     to.take(&mut hand, 1).unwrap();
