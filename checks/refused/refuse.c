@@ -7,8 +7,8 @@
 //                         output that begins with "== " says a call
 //   REFUSE_THREAD=N       the N-th thread
 //   REFUSE_READ=N         the N-th read of standard input
-//   REFUSE_WRITE=N        the N-th write to standard output or standard error
-//   REFUSE_WRITE_FROM=N   the N-th such write, and each one after it
+//   REFUSE_WRITE=N        the N-th write to standard output
+//   REFUSE_WRITE_FROM=N   the N-th such write, and each write to standard output or standard error after it
 //   SHORT_READ=N          each read takes at most N bytes
 //   SHORT_WRITE=N         each write takes at most N bytes
 //   COUNTS=FILE           where the counts are written
@@ -152,10 +152,15 @@ static void look_for_call(int fd, const void *bytes, size_t length) {
   atomic_fetch_add(&calls, 1);
 }
 
+// Whether a write is refused. Those to standard output are counted.
+static int no_write(int fd) {
+  if (fd == 1) return is_refused(atomic_fetch_add(&writes, 1) + 1, limits.write, limits.write_from);
+  return limits.write_from && atomic_load(&writes) >= limits.write_from;
+}
+
 ssize_t write(int fd, const void *bytes, size_t length) {
   if (fd != 1 && fd != 2) return syscall(SYS_write, fd, bytes, length);
-  unsigned long at = atomic_fetch_add(&writes, 1) + 1;
-  if (is_refused(at, limits.write, limits.write_from)) {
+  if (no_write(fd)) {
     errno = EIO;
     return -1;
   }

@@ -1,11 +1,12 @@
 #!/usr/bin/env -S python3 -B
-"""checks/wrong_bodies/check.py [--right] [CRATE | CRATE/NAME]..: tries the wrong bodies, of every crate or of those named.
+"""checks/wrong_bodies/check.py [--anew] [--right] [CRATE | CRATE/NAME]..: tries the wrong bodies, of every crate or of those named.
 
 Each must be refused in the function that its line `refused:` names. Many are planted together in one copy of the crate and tried by
 one check, since a function is proved from the contracts of those that it calls, and not from their bodies. One that such a check
 doesn't say enough of is tried once more by itself. They are tried over the libraries that `rt ci` makes in a copy of the repository,
-while it goes on there; none of a crate counts that isn't proved there as it stands. With --right the right bodies are tried in their
-places, and each has to be proved. The last line is 'N passed, M failed'."""
+while it goes on there; none of a crate counts that isn't proved there as it stands. One that an earlier run has seen refused isn't tried
+again while all stays the same that its refusal stands on; with --anew each is. With --right the right bodies are tried in their places,
+and each has to be proved. The last line is 'N passed, M failed'."""
 
 import argparse
 import contextlib
@@ -20,6 +21,7 @@ from pathlib import Path
 
 from edits import FUNCTION as SIGNATURE
 from edits import TOP, BadEdit, are_apart, edits_of, is_of_bodies, names_of
+from kept import Grounds, Refusals
 from libraries import CRATES, Libraries
 from planting import ENDS, can_be_copied, plant
 from stand_ins import make_library
@@ -220,24 +222,53 @@ def groups_of(crate, edits):
 # The run.
 
 class Run:
-    """The crates whose edits can't be tried yet, and the groups of edits that can."""
+    """The crates whose edits can't be tried yet, and the groups of edits that can. Of right bodies nothing is kept."""
 
-    def __init__(self, edits, libraries, is_right):
+    def __init__(self, edits, libraries, refusals, is_right):
         self.edits = edits
         self.libraries = libraries
+        self.refusals = refusals
         self.is_right = is_right
         self.change = libraries.change
         self.waiting = list(edits)
         self.groups = []
+        self.names = {}
         self.passed = []
+        self.kept = 0
         self.busy = 0
+
+    def without_kept(self, crate):
+        """The edits of a crate whose refusals aren't kept. The others have passed."""
+        if self.is_right:
+            return self.edits[crate]
+        grounds = Grounds(crate, self.libraries.top)
+        left = []
+        for edit in self.edits[crate]:
+            self.names[edit] = grounds.of(edit)
+            said = self.refusals.found(self.names[edit], edit)
+            if said is None:
+                left.append(edit)
+            else:
+                print(f"kept: {edit}: {said[:240]}", flush=True)
+                self.passed.append(edit)
+                self.kept += 1
+        return left
+
+    def keep(self, crate, told):
+        """Keeps those that are refused, unless what their refusals stand on was changed meanwhile, and no others."""
+        grounds = Grounds(crate, self.libraries.top)
+        for edit, is_passed, text in told:
+            if not is_passed:
+                self.refusals.forget(self.names[edit])
+            elif grounds.of(edit) == self.names[edit]:
+                self.refusals.keep(self.names[edit], edit, text)
 
     def next_task(self):
         """A crate and a group of its edits that can be tried now."""
         for crate in list(self.waiting):
             if self.libraries.proved.issuperset(all_below(CRATES, crate)):
                 self.waiting.remove(crate)
-                self.groups += [(crate, group) for group in groups_of(crate, self.edits[crate])]
+                self.groups += [(crate, group) for group in groups_of(crate, self.without_kept(crate))]
         if not self.groups or self.busy and free_memory() < MEMORY:
             return None
         return self.groups.pop(0)
@@ -252,6 +283,8 @@ class Run:
                 word = "FAILED" if not is_passed else "proved" if self.is_right else "refused"
                 print(f"{word}: {edit}: {text[:240]}", flush=True)
                 self.passed += [edit] * is_passed
+        if not self.is_right:
+            self.keep(crate, told)
 
     def may_go_on(self):
         """Whether something is under way after which there may be more to do."""
@@ -288,6 +321,8 @@ class Run:
         for crate in self.edits:
             if crate not in self.libraries.proved:
                 print(f"rt ci doesn't prove {crate}, so its wrong bodies tell nothing", flush=True)
+        if self.kept:
+            print(f"{self.kept} were refused in earlier runs, and nothing that this stands on has changed; --anew tries all", flush=True)
         return sum(edit.crate in self.libraries.proved for edit in self.passed)
 
 
@@ -313,6 +348,7 @@ def parse_words():
     words = argparse.ArgumentParser(description=__doc__, formatter_class=argparse.RawDescriptionHelpFormatter)
     words.add_argument("--copy", type=Path, help="a copy of the repository where `rt ci` runs, whose words are the standard input")
     words.add_argument("--jobs", type=int, default=len(os.sched_getaffinity(0)), help="how many checks run at a time")
+    words.add_argument("--anew", action="store_true", help="tries those too whose refusals are kept from earlier runs")
     words.add_argument("--right", action="store_true", help="tries the right bodies in the places of the wrong ones")
     words.add_argument("named", nargs="*", help="a crate, or CRATE/NAME of crates/CRATE/must-fail/NAME.edit")
     return words.parse_args()
@@ -334,9 +370,11 @@ def main():
         return 1
     with open(TOP / "crates.txt") as held:
         wait_for_other_runs("wrong_bodies", held)
+        refusals = Refusals(words.anew)
         with ci_of(edits, words.copy) as (top, said):
-            run = Run(edits, Libraries(top, said, threading.Condition()), words.right)
+            run = Run(edits, Libraries(top, said, threading.Condition()), refusals, words.right)
             run.go(words.jobs)
+    refusals.remove_unused()
     passed = run.count()
     failed = sum(map(len, edits.values())) - passed
     print(f"{passed} passed, {failed} failed")

@@ -1,0 +1,181 @@
+#!/usr/bin/env -S python3 -B
+"""checks/wrong_bodies/kept_check.py: looks which refusals check.py keeps, and when it tries a wrong body again. It runs over two small
+crates and a kit that are made for that: what stands for the prover refuses the functions that a file names, and writes down which it was
+asked for. The last line is 'N passed, M failed'."""
+
+import os
+import shutil
+import subprocess
+import sys
+import tempfile
+from pathlib import Path
+
+from edits import TOP
+
+sys.path.append(str(TOP / "checks"))
+
+from runner import Checks  # noqa: E402
+
+LOW = """/// Twice a number.
+pub fn twice(number: u32) -> u32
+    ensures { result ≡ number + number }
+{
+    number + number
+}
+"""
+HIGH = """use low::twice;
+
+/// Four times a number.
+pub fn four_times(number: u32) -> u32
+    ensures { result ≡ 4 * number }
+{
+    twice(twice(number))
+}
+
+/// A number.
+pub fn same(number: u32) -> u32
+    ensures { result ≡ number }
+{
+    number
+}
+"""
+EDIT = "refused: {}\nfile: src/lib.rt\nold: {}\nnew: {}\n"
+# What stands for `rt` and for the prover: both are run in other folders, so they are told where the kit is.
+RT = """#!/bin/sh
+case $1 in doc) echo {kit}/START-HERE.md ;; version) cat {kit}/version ;; esac
+"""
+PROVER = """#!/usr/bin/env python3
+import re, sys
+from pathlib import Path
+kit = Path("{kit}")
+asked = [after for word, after in zip(sys.argv, sys.argv[1:]) if word == "--only"]
+with open(kit / "asked", "a") as it:
+    it.write("".join(name + "\\n" for name in asked))
+refused = (kit / "refused").read_text().split()
+for name in asked:
+    print(f"fn high::{{name}}: " + ("no proof; `search` did not prove `returns`" if name in refused else "proved"))
+"""
+
+
+def write(file, text, mode=0o644):
+    file.parent.mkdir(parents=True, exist_ok=True)
+    file.write_text(text)
+    file.chmod(mode)
+
+
+class World:
+    """A repository of two crates, with the code of the tries, a kit, and a folder for what is kept."""
+
+    def __init__(self, top):
+        self.top, self.kit, self.caches = top / "tree", top / "kit", top / "caches"
+        self.high = self.top / "crates" / "high"
+        shutil.copytree(TOP / "checks" / "wrong_bodies", self.top / "checks" / "wrong_bodies")
+        shutil.copytree(TOP / "tools", self.top / "tools", symlinks=True)
+        write(self.top / "crates.txt", "low:\nhigh: low\n")
+        write(self.top / "crates" / "low" / "src" / "lib.rt", LOW)
+        write(self.high / "src" / "lib.rt", HIGH)
+        write(self.high / "must-fail" / "adds.edit", EDIT.format("four_times", "twice(twice(number))", "twice(number)"))
+        write(self.high / "must-fail" / "is_one_more.edit", EDIT.format("same", "    number", "    number + 1"))
+        write(self.kit / "rlibs" / "std.rlib" / "format", "sum 1\n")
+        write(self.kit / "version", "1\n")
+        write(self.kit / "bin" / "rattle", PROVER.format(kit=self.kit), 0o755)
+        write(self.kit / "path" / "rt", RT.format(kit=self.kit), 0o755)
+        self.refuse("four_times")
+
+    def refuse(self, *names):
+        write(self.kit / "refused", " ".join(names))
+
+    def change(self, file, old, new):
+        path = self.top / file
+        path.write_text(path.read_text().replace(old, new))
+
+    def run(self, *words, proved=("low", "high")):
+        """The functions that the prover is asked for, and the last line."""
+        (self.kit / "asked").unlink(missing_ok=True)
+        environment = {**os.environ, "PATH": f"{self.kit}/path:{os.environ['PATH']}", "XDG_CACHE_HOME": str(self.caches)}
+        tried = subprocess.run([self.top / "checks" / "wrong_bodies" / "check.py", "--copy", self.top, "--jobs", "1", *words],
+                               input="".join(f"rt: {crate} proved\n" for crate in proved), env=environment, capture_output=True, text=True)
+        asked = self.kit / "asked"
+        return sorted(asked.read_text().split() if asked.exists() else []), (tried.stdout or tried.stderr).splitlines()[-1]
+
+    def kept(self):
+        return self.caches / "yisumbek" / "refusals"
+
+
+BOTH = ["four_times", "same"]
+# What is changed, and the functions whose wrong bodies are tried again then. That of `same` is accepted, and tried by each run.
+CHANGES = (
+    ("nothing", [], ["same"]),
+    ("a comment", [("crates/high/src/lib.rt", "/// A number.", "/// The same number.")], ["same"]),
+    ("the body of another function", [("crates/high/src/lib.rt", "{\n    number\n}", "{\n    number + 0\n}")], ["same"]),
+    ("a body of the crate below", [("crates/low/src/lib.rt", "    number + number\n", "    2 * number\n")], ["same"]),
+    ("the function's contract", [("crates/high/src/lib.rt", "4 * number", "number * 4")], BOTH),
+    ("another function's contract", [("crates/high/src/lib.rt", "result ≡ number }", "number ≡ result }")], BOTH),
+    ("a contract of the crate below", [("crates/low/src/lib.rt", "result ≡ number + number", "result ≡ 2 * number")], BOTH),
+    ("the function's body", [("crates/high/src/lib.rt", "{\n    twice(", "{\n    let _ = number;\n    twice(")], BOTH),
+    ("the wrong body", [("crates/high/must-fail/adds.edit", "new: twice(number)", "new: number")], BOTH),
+    ("what the crate stands on", [("crates.txt", "high: low", "high: low core")], BOTH),
+    ("the code of the tries", [("checks/wrong_bodies/check.py", "MOST = 60", "MOST = 61")], BOTH),
+)
+
+
+def look(checks, world, name, wanted, last, *words, **more):
+    found = world.run(*words, **more)
+    checks.look(name, None if found == (wanted, last) else f"{found} in place of {(wanted, last)}")
+
+
+def look_at_changes(checks, world):
+    one = "1 passed, 1 failed"
+    look(checks, world, "at first each is tried", BOTH, one)
+    for name, changes, wanted in CHANGES:
+        for change in changes:
+            world.change(*change)
+        look(checks, world, f"{name} is changed: {' and '.join(wanted)} tried", wanted, one)
+        look(checks, world, f"{name} was changed: what is refused isn't tried", ["same"], one)
+    write(world.high / "specs" / "Lib.antt", "pub mod Fours\n")
+    look(checks, world, "a definition is new: both are tried", BOTH, one)
+    write(world.high / "proofs" / "four_times" / "Answers.antt", "returns = refl\n")
+    look(checks, world, "what is written of the proof is new: both are tried", BOTH, one)
+    write(world.high / "proofs" / "same" / "Answers.antt", "returns = refl\n")
+    look(checks, world, "what is written of another proof is new: what is refused isn't tried", ["same"], one)
+    for file in ("version", "rlibs/std.rlib/format"):
+        write(world.kit / file, "2\n")
+        look(checks, world, f"the kit has another {file}: both are tried", BOTH, one)
+
+
+def look_at_words(checks, world):
+    look(checks, world, "--anew tries all", BOTH, "1 passed, 1 failed", "--anew")
+    look(checks, world, "a kept refusal doesn't count where the crate isn't proved", ["same"], "0 passed, 2 failed", proved=("low",))
+    look(checks, world, "--right takes no kept refusal", BOTH, "1 passed, 1 failed", "--right")
+    world.refuse()
+    look(checks, world, "--anew finds what is accepted now", BOTH, "0 passed, 2 failed", "--anew")
+    look(checks, world, "what is accepted is tried by each run", BOTH, "0 passed, 2 failed")
+
+
+def look_at_trust(checks, world):
+    world.refuse(*BOTH)
+    world.change("crates/high/src/lib.rt", "{\n    number + 0\n}", "{\n    number\n}")
+    look(checks, world, "a body that is refused later is kept then", BOTH, "2 passed, 0 failed", "--anew")
+    look(checks, world, "both are kept", [], "2 passed, 0 failed")
+    for file in world.kept().iterdir():
+        file.write_text(file.read_text()[:-1])
+    look(checks, world, "half of a file counts for nothing", BOTH, "2 passed, 0 failed")
+    is_private = world.kept().stat().st_mode & 0o077 == 0
+    checks.look("the folder is the user's alone", None if is_private else oct(world.kept().stat().st_mode))
+    if os.geteuid() == 0:
+        os.chown(world.kept(), 65534, 65534)
+        look(checks, world, "nothing is taken from a folder of another user", BOTH, "2 passed, 0 failed")
+
+
+def main():
+    checks = Checks()
+    with tempfile.TemporaryDirectory(prefix="kept-") as held:
+        world = World(Path(held))
+        look_at_changes(checks, world)
+        look_at_words(checks, world)
+        look_at_trust(checks, world)
+    return checks.end()
+
+
+if __name__ == "__main__":
+    sys.exit(main())
