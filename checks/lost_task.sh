@@ -98,11 +98,11 @@ printf '%s\n' "$right" >"$copy/crates/mine/src/lib.rt"
 
 put eevdf_queue parcel.rt 'let Parcel { node: _ } = self;' 'let _parcel = self;'
 put eevdf_queue queue/moves.rt 'None => Err(parcel),' 'None => Ok(()),'
-put eevdf_ops local_acts.rt 'queue.put_asleep(parcel);' 'let _parcel = parcel;'
-put eevdf_ops transfers.rt 'home.put_asleep(parcel);' 'let _parcel = parcel;'
-put eevdf_ops transfers.rt 'queue.attach(parcel);' 'let _parcel = parcel;'
+put eevdf_ops halves.rt 'Putting::Runnable => taker.attach(parcel),' $'Putting::Runnable => {\n let _parcel = parcel;\n }'
+put eevdf_ops local_acts.rt 'Putting::Asleep.put(queue, parcel);' 'let _parcel = parcel;'
+put eevdf_ops transfers.rt 'putting.put(taker, parcel);' 'let _parcel = parcel;'
 put eevdf_steps hand.rt 'parcel.retire();' 'let _parcel = parcel;'
-put eevdf_steps work.rt 'self.queues[cpu.index()].attach(parcel);' 'let _parcel = parcel;'
+put eevdf_steps work.rt 'putting.put(&mut self.queues[taker.index()], parcel);' 'let _parcel = parcel;'
 put mine lib.rt $'if let Some(parcel) = queue.detach_running(task) {\n        parcel.retire();\n    }' \
   'let _parcel = queue.detach_running(task);'
 

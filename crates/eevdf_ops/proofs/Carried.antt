@@ -1,13 +1,14 @@
 -- What a task carries that leaves a queue.
 use Rattle.std.proofs.Common.{◌≡◌, ℕ, ◌≤◌, Bool, true, false, cond, List, [], ◌∷◌, refl, sym, ap, subst, ◌∙◌, arith}
-use Rattle.std.specs.Prelude.{◌==◌, Option, Some, None}
+use Rattle.std.specs.Prelude.{◌==◌, Option, Some, None, Ok, Err}
 use Rattle.std.specs.{Option.option_map, Option.option_and_then, FinMap.get, FinMap.entries}
 use Rattle.std.proofs.{lemmas.Bool.Decides.nat_tests}
 use Rattle.eevdf_queue.specs.{declared.entry.Entry.Entry, State.State, State.Contents, Lag.kept_lag, Order.is_before}
 use Rattle.eevdf_queue.specs.Leaving.{leaving, carried, carried_running, leave, leave_running, without_entry}
 use Rattle.eevdf_queue.specs.Candidate.{is_running, candidate_of, latest_waiting, later}
 use Rattle.eevdf_queue.specs.Attributes.{without_lag}
-use Rattle.eevdf_ops.specs.{WholePull.offer, WholeEnd.ending}
+use Rattle.eevdf_ops.specs.{WholePull.offer, WholeEnd.ending, Halves.taken_out, declared.halves.Taking.Taking}
+use Rattle.eevdf_ops.specs.declared.halves.Taking.TheVariants.{Sleep, End, Pull}
 use Rattle.eevdf_ops.specs.Places.{count, places_in}
 use Rattle.eevdf_ops.proofs.{QueuePlaces.IsWithout, QueuePlaces.leave-without}
 
@@ -44,11 +45,19 @@ ending_by q t (Some r) p each e =
 pub ending-carries : (q : State) (t : ℕ) (p : Contents) → ending q t ≡ Some p → Carries q t p
 ending-carries q t p e = ending_by q t (carried q t) p (λ r h. carried-carries q t r h) e
 
+itself : (q : State) (t : ℕ) (p : Contents) → Carries q t p → Carries q p.task p
+itself q t p c = record { entry = c.entry; here = c.here; of_task = refl; same_nice = c.same_nice }
+
+-- whichever task is taken out
+pub taken-carries : (t : Taking) (q : State) (p : Contents) → taken_out t q ≡ Some p → Carries q p.task p
+taken-carries (Sleep task) q p e = itself q task p (running-carries q task p e)
+taken-carries (End task) q p e = itself q task p (ending-carries q task p e)
+taken-carries (Pull (Ok task)) q p e = itself q task p (carried-carries q task p e)
+taken-carries (Pull (Err why)) q p e = cc
+
 offered_by : (q : State) (o : Option ℕ) (p : Contents) → option_and_then (carried q) o ≡ Some p → Carries q p.task p
 offered_by q None p e = cc
-offered_by q (Some t) p e =
-    let it : Carries q t p = carried-carries q t p e in
-    record { entry = it.entry; here = it.here; of_task = refl; same_nice = it.same_nice }
+offered_by q (Some t) p e = itself q t p (carried-carries q t p e)
 
 pub offer-carries : (q : State) (p : Contents) → offer q ≡ Some p → Carries q p.task p
 offer-carries q p e = offered_by q (candidate_of q.runnable q.running) p e

@@ -13,7 +13,7 @@ use Rattle.eevdf_ops.specs.Setup.{home_of, homes_of, cpus_of}
 use Rattle.eevdf_ops.specs.Machine.{Machine, queue_at, begin, beginner, begin_at_homes, start}
 use Rattle.eevdf_ops.specs.{WholePull.offer, WholePull.load_of, WholePull.decision, WholeEnd.ending}
 use Rattle.eevdf_ops.specs.Given.{renices, is_reniced, sets, is_set, IsAsGiven, TasksStayAsGiven}
-use Rattle.eevdf_ops.proofs.{MapCounts.itself, MachinePlaces.each-set, Pulling.decision-taken, WholeActs.sleep_by_home, WholeActs.end_by_home, WholeActs.ended-here, WholeActs.ended-away}
+use Rattle.eevdf_ops.proofs.{MapCounts.itself, MachinePlaces.each-set, Pulling.decision-taken, WholeActs.sleep_by_home, WholeActs.end_by_home}
 use Rattle.eevdf_ops.proofs.QueueValues.{
   Each,
   asleep-each,
@@ -92,9 +92,8 @@ module _ (P : ℕ → ℤ → ℕ → Type 0) where
       let o : Option Contents = ending (queue_at m cpu) task in
       let given : (p : Contents) → o ≡ Some p → P p.task p.nice p.slice = λ p e. ending-given P (queue_at m cpu) task p (all cpu) e in
       end_by_home (λ (r : Answer × Machine). Everywhere r.1) homes cpu task m
-      (λ e. set-each m cpu _ (subst (λ (q : State). Each P q) (sym (ended-here o (queue_at m cpu))) (here-each (queue_at m cpu) o (all cpu) given)) all)
-      (λ e. two-each m cpu (home_of homes task) _ (subst (λ (two : State × State). Each P two.0 × Each P two.1) (sym (ended-away o (queue_at m cpu) (queue_at m (home_of homes task))))
-      (away-each (queue_at m cpu) (queue_at m (home_of homes task)) o (all cpu) (all (home_of homes task)) given)) all)
+      (λ e. set-each m cpu _ (here-each (queue_at m cpu) o (all cpu) given) all)
+      (λ e. two-each m cpu (home_of homes task) _ (away-each (queue_at m cpu) (queue_at m (home_of homes task)) o (all cpu) (all (home_of homes task)) given) all)
   whole-each homes (Set cpu task nice slice) m may set all =
       set-each m cpu (attributes.set (queue_at m cpu) task nice slice).1
       (set-given P task (λ older newer kept given p. set task older newer kept given (itself task) p) (queue_at m cpu) nice slice (all cpu)) all

@@ -1,17 +1,17 @@
 -- Each deed as changes of single queues.
-use Rattle.std.proofs.Common.{◌≡◌, ◌≢◌, ℕ, ◌<◌, Bool, true, false, cond, ◌||◌, List, length, set, refl, sym, ap, ◌∙◌, arith}
-use Rattle.std.specs.Prelude.{◌==◌, Option, Some, None, Result, Ok, Err}
+use Rattle.std.proofs.Common.{◌≡◌, ◌≢◌, ℕ, ◌<◌, Bool, true, false, cond, ◌||◌, List, [], length, set, refl, sym, ap, subst, ◌∙◌, arith}
+use Rattle.std.specs.Prelude.{◌==◌, Option, None, Result, Ok, Err}
+use Rattle.std.specs.Result.{result_ok}
 use Rattle.std.proofs.{Math.ListN.length-set, lemmas.List.get_or-set_same, lemmas.List.set_comm}
 use Rattle.eevdf_queue.specs.State.{State, Contents, empty_state}
-use Rattle.eevdf_queue.specs.{Moves.put_asleep, Leaving.carried_running, Leaving.leave}
+use Rattle.eevdf_queue.specs.{Leaving.carried_running}
 use Rattle.eevdf_ops.specs.{declared.deeds.Deed.Deed, declared.deeds.Answer.Answer, Setup.home_of, Machine.Machine}
-use Rattle.eevdf_ops.specs.{Machine.queue_at, Whole.whole, Whole.at_cpu, Whole.at_two, LocalActs.slept_here, LocalActs.ended_here, Transfers.slept_away, Transfers.ended_away, WholeEnd.ending, Transfers.pulled}
-use Rattle.eevdf_ops.specs.declared.deeds.Deed.TheVariants.{Tick, Pick, Yield, Sleep, Wake, Pull, Renice, Begin, End, Set, Rebase}
-use Rattle.eevdf_ops.specs.OneQueue.{one_tick, one_pick, one_yield, one_wake, one_renice, one_begin, one_set, one_rebase}
-use Rattle.eevdf_ops.specs.Parts.{decider, giver, taker, Moved, given, answer_of_sleep, answer_of_end, answer_of_pull, local_answer, taken, after_leaving, after_falling_asleep, after_joining, only_at, local_after}
+use Rattle.eevdf_ops.specs.{Acts.act_of, Machine.queue_at, Whole.whole, Whole.at_cpu, Whole.at_two, LocalActs.slept_here, Transfers.slept_away, WholeEnd.ending}
+use Rattle.eevdf_ops.specs.declared.deeds.Deed.TheVariants.{Sleep, Pull, End}
+use Rattle.eevdf_ops.specs.Parts.{decider, done_alone, giver, taker, Moved, given, answer_of_sleep, answer_of_end, answer_of_pull, local_answer, taken, after_leaving, after_falling_asleep, after_joining, only_at, local_after}
 use Rattle.eevdf_ops.specs.PartsLaws as laws
-use Rattle.eevdf_ops.specs.WholePull.{offer, load_of, decision, with_task, pull_decision}
-use Rattle.eevdf_ops.proofs.{MapCounts.equal, MachinePlaces.other_queue, Pulling.decision-taken, Pulling.refusals, WholeActs.sleep_by_home, WholeActs.end_by_home, WholeActs.ended-here, WholeActs.ended-away}
+use Rattle.eevdf_ops.specs.WholePull.{offer, load_of, decision, pull_decision}
+use Rattle.eevdf_ops.proofs.{MapCounts.equal, MachinePlaces.other_queue, Pulling.decision-taken, Pulling.refusals, WholeActs.sleep_by_home, WholeActs.end_by_home}
 use Rattle.eevdf_ops.proofs.DeedNames.{PullNames, decider_below, home_below, pull_names, unequal}
 
 changed_by : (f : State → State) (m : Machine) (c k : ℕ) (b : Bool) → (k == c) ≡ b → c < length m → queue_at (set m c (f (queue_at m c))) k ≡ cond b (f (queue_at m k)) (queue_at m k)
@@ -34,9 +34,6 @@ pub idle : (b : Bool) (q : State) → cond b q q ≡ q
 idle true q = refl
 idle false q = refl
 
-nothing_moves : (c d k : ℕ) (q : State) → only_at d k (λ r. r) (only_at c k (λ r. r) q) ≡ q
-nothing_moves c d k q = idle (k == d) (only_at c k (λ r. r) q) ∙ idle (k == c) q
-
 -- two that aren't the same
 changed_apart : (f g : State → State) (m : Machine) (c d k : ℕ) → c < length m → d < length m → d ≢ c
     → queue_at (set (set m c (f (queue_at m c))) d (g (queue_at m d))) k ≡ only_at d k g (only_at c k f (queue_at m k))
@@ -53,40 +50,27 @@ slept_queue cpu home k o q = only_at home k (after_falling_asleep o) (only_at cp
 
 here_after : (m : Machine) (cpu k : ℕ) (o : Option Contents) → cpu < length m → queue_at (at_cpu m cpu (slept_here o (queue_at m cpu))).1 k ≡ slept_queue cpu cpu k o (queue_at m k)
 unfolding slept_queue
-here_after m cpu k None h = changed (λ q. q) m cpu k h ∙ at_once (λ q. q) (λ q. q) (k == cpu) (queue_at m k)
-here_after m cpu k (Some p) h = changed (λ q. put_asleep (leave q p.task) p) m cpu k h ∙ at_once (λ q. leave q p.task) (λ q. put_asleep q p) (k == cpu) (queue_at m k)
+here_after m cpu k o h =
+    changed (λ q. after_falling_asleep o (after_leaving o q)) m cpu k h ∙ at_once (after_leaving o) (after_falling_asleep o) (k == cpu) (queue_at m k)
 
 away_after : (m : Machine) (cpu home k : ℕ) (o : Option Contents) → cpu < length m → home < length m → home ≢ cpu
     → queue_at (at_two m cpu home (slept_away o (queue_at m cpu) (queue_at m home))).1 k ≡ slept_queue cpu home k o (queue_at m k)
 unfolding slept_queue
-away_after m cpu home k None h i apart = changed_apart (λ q. q) (λ q. q) m cpu home k h i apart
-away_after m cpu home k (Some p) h i apart = changed_apart (λ q. leave q p.task) (λ q. put_asleep q p) m cpu home k h i apart
+away_after m cpu home k o h i apart = changed_apart (after_leaving o) (after_falling_asleep o) m cpu home k h i apart
 
 pub untaken : (q : State) (load : ℕ) (offered o : Option Contents) (why : Answer) → decision q load offered ≡ Err why → taken why o ≡ None
 untaken q load offered o why e = refusals (λ (a : Answer). taken a o ≡ None) q load offered why e refl refl refl
 
-abbrev pulled_queue : Machine → ℕ → ℕ → ℕ → Option Contents → State
-pulled_queue m cpu source k o = only_at cpu k (after_joining o) (only_at source k (after_leaving o) (queue_at m k))
+-- what a pull takes is the candidate or none
+pub taken_ok : (q s : State) (d : Result Contents Answer) → decision q (load_of s) (offer s) ≡ d → taken (answer_of_pull d) (offer s) ≡ result_ok d
+taken_ok q s (Err why) e = untaken q (load_of s) (offer s) (offer s) why e
+taken_ok q s (Ok p) e = (decision-taken q (load_of s) (offer s) p e).offered_it
 
-pull_after : (m : Machine) (cpu source k : ℕ) (d : Result Contents Answer) → PullNames (length m) cpu source → pull_decision m cpu source ≡ d
-    → queue_at (at_two m cpu source (pulled d (queue_at m cpu) (queue_at m source))).1 k ≡ pulled_queue m cpu source k (taken (answer_of_pull d) (offer (queue_at m source)))
-pull_after m cpu source k (Err why) named e =
-    changed_apart (λ q. q) (λ q. q) m cpu source k named.puller named.from (λ same. named.apart (sym same)) ∙ nothing_moves cpu source k (queue_at m k)
-    ∙ sym (ap (pulled_queue m cpu source k) (untaken (queue_at m cpu) (load_of (queue_at m source)) (offer (queue_at m source)) (offer (queue_at m source)) why e)
-    ∙ nothing_moves source cpu k (queue_at m k))
-pull_after m cpu source k (Ok p) named e =
-    ap (λ (n : Machine). queue_at n k) (set_comm m cpu source (with_task (queue_at m cpu) p) (leave (queue_at m source) p.task) named.apart)
-    ∙ changed_apart (λ q. leave q p.task) (λ q. with_task q p) m source cpu k named.from named.puller named.apart
-    ∙ ap (pulled_queue m cpu source k) (sym (decision-taken (queue_at m cpu) (load_of (queue_at m source)) (offer (queue_at m source)) p e).offered_it)
-
--- what is answered needs nothing else of the queues
-answered : {X : Type 0} (f : Option Contents → Answer × X) (g : Option Contents → Answer) → (f None).0 ≡ g None → ((p : Contents) → (f (Some p)).0 ≡ g (Some p)) → (o : Option Contents) → (f o).0 ≡ g o
-answered f g none some None = none
-answered f g none some (Some p) = some p
-
-pull_answer : (d : Result Contents Answer) (q r : State) → (pulled d q r).0 ≡ answer_of_pull d
-pull_answer (Err why) q r = refl
-pull_answer (Ok p) q r = refl
+pull_after : (m : Machine) (cpu source k : ℕ) (o : Option Contents) → PullNames (length m) cpu source
+    → queue_at (set (set m cpu (after_joining o (queue_at m cpu))) source (after_leaving o (queue_at m source))) k ≡ only_at cpu k (after_joining o) (only_at source k (after_leaving o) (queue_at m k))
+pull_after m cpu source k o named =
+    ap (λ (n : Machine). queue_at n k) (set_comm m cpu source (after_joining o (queue_at m cpu)) (after_leaving o (queue_at m source)) named.apart)
+    ∙ changed_apart (after_leaving o) (after_joining o) m source cpu k named.from named.puller named.apart
 
 -- what the giver has for a deed
 abbrev pub moved_by : Machine → Deed → Moved
@@ -94,47 +78,32 @@ moved_by m deed = given deed (queue_at m (giver deed))
 
 -- the decider answers
 pub whole-answer : (homes : List ℕ) (deed : Deed) (m : Machine) → (whole homes deed m).0 ≡ local_answer deed (queue_at m (decider deed)) (moved_by m deed)
-whole-answer homes (Sleep cpu task) m =
-    let o : Option Contents = carried_running (queue_at m cpu) task in
-    sleep_by_home (λ (r : Answer × Machine). r.0 ≡ answer_of_sleep o) homes cpu task m
-    (λ e. answered (λ (x : Option Contents). slept_here x (queue_at m cpu)) answer_of_sleep refl (λ p. refl) o)
-    (λ e. answered (λ (x : Option Contents). slept_away x (queue_at m cpu) (queue_at m (home_of homes task))) answer_of_sleep refl (λ p. refl) o)
-whole-answer homes (End cpu task) m =
-    let o : Option Contents = ending (queue_at m cpu) task in
-    end_by_home (λ (r : Answer × Machine). r.0 ≡ answer_of_end o) homes cpu task m
-    (λ e. answered (λ (x : Option Contents). ended_here x (queue_at m cpu)) answer_of_end refl (λ p. refl) o)
-    (λ e. answered (λ (x : Option Contents). ended_away x (queue_at m cpu) (queue_at m (home_of homes task))) answer_of_end refl (λ p. refl) o)
-whole-answer homes (Pull cpu source) m = pull_answer (pull_decision m cpu source) (queue_at m cpu) (queue_at m source)
+whole-answer homes (Sleep cpu task) m = sleep_by_home (λ (r : Answer × Machine). r.0 ≡ answer_of_sleep (carried_running (queue_at m cpu) task)) homes cpu task m (λ e. refl) (λ e. refl)
+whole-answer homes (End cpu task) m = end_by_home (λ (r : Answer × Machine). r.0 ≡ answer_of_end (ending (queue_at m cpu) task)) homes cpu task m (λ e. refl) (λ e. refl)
 whole-answer homes deed m = refl
 
 -- and each queue changes by itself
 pub whole-after : (homes : List ℕ) (deed : Deed) (m : Machine) (k : ℕ) → laws.Fits homes deed m
     → queue_at (whole homes deed m).1 k ≡ local_after homes deed k (queue_at m k) (whole homes deed m).0 (moved_by m deed)
 unfolding slept_queue
-whole-after homes (Tick cpu ns) m k fits = changed (λ q. (one_tick q ns).1) m cpu k (decider_below _ homes (Tick cpu ns) fits.allowed)
-whole-after homes (Pick cpu) m k fits = changed (λ q. (one_pick q).1) m cpu k (decider_below _ homes (Pick cpu) fits.allowed)
-whole-after homes (Yield cpu) m k fits = changed (λ q. (one_yield q).1) m cpu k (decider_below _ homes (Yield cpu) fits.allowed)
 whole-after homes (Sleep cpu task) m k fits =
     let o : Option Contents = carried_running (queue_at m cpu) task in
     let h : cpu < length m = decider_below _ homes (Sleep cpu task) fits.allowed in
     sleep_by_home (λ (r : Answer × Machine). queue_at r.1 k ≡ slept_queue cpu (home_of homes task) k o (queue_at m k)) homes cpu task m
     (λ e. here_after m cpu k o h ∙ ap (λ (n : ℕ). slept_queue cpu n k o (queue_at m k)) (sym e))
     (λ apart. away_after m cpu (home_of homes task) k o h (home_below _ homes cpu task fits.allowed fits.cpus) apart)
-whole-after homes (Wake cpu task sender) m k fits = changed (λ q. (one_wake q task).1) m cpu k (decider_below _ homes (Wake cpu task sender) fits.allowed)
-whole-after homes (Renice cpu task nice) m k fits = changed (λ q. (one_renice q task nice).1) m cpu k (decider_below _ homes (Renice cpu task nice) fits.allowed)
-whole-after homes (Begin cpu task nice slice) m k fits = changed (λ q. (one_begin q task nice slice).1) m cpu k (decider_below _ homes (Begin cpu task nice slice) fits.allowed)
-whole-after homes (Set cpu task nice slice) m k fits = changed (λ q. (one_set q task nice slice).1) m cpu k (decider_below _ homes (Set cpu task nice slice) fits.allowed)
-whole-after homes (Rebase cpu) m k fits = changed (λ q. (one_rebase q).1) m cpu k (decider_below _ homes (Rebase cpu) fits.allowed)
 whole-after homes (End cpu task) m k fits =
     let o : Option Contents = ending (queue_at m cpu) task in
     let h : cpu < length m = decider_below _ homes (End cpu task) fits.allowed in
     end_by_home (λ (r : Answer × Machine). queue_at r.1 k ≡ slept_queue cpu (home_of homes task) k o (queue_at m k)) homes cpu task m
-    (λ e. ap (λ (q : State). queue_at (set m cpu q) k) (ended-here o (queue_at m cpu)) ∙ here_after m cpu k o h ∙ ap (λ (n : ℕ). slept_queue cpu n k o (queue_at m k)) (sym e))
-    (λ apart. ap (λ (two : State × State). queue_at (set (set m cpu two.0) (home_of homes task) two.1) k) (ended-away o (queue_at m cpu) (queue_at m (home_of homes task)))
-    ∙ away_after m cpu (home_of homes task) k o h (home_below _ homes cpu task fits.allowed fits.cpus) apart)
+    (λ e. here_after m cpu k o h ∙ ap (λ (n : ℕ). slept_queue cpu n k o (queue_at m k)) (sym e))
+    (λ apart. away_after m cpu (home_of homes task) k o h (home_below _ homes cpu task fits.allowed fits.cpus) apart)
 whole-after homes (Pull cpu source) m k fits =
-    pull_after m cpu source k (pull_decision m cpu source) (pull_names (length m) homes cpu source fits.allowed) refl
-    ∙ ap (λ (a : Answer). pulled_queue m cpu source k (taken a (offer (queue_at m source)))) (sym (whole-answer homes (Pull cpu source) m))
+    let q : State = queue_at m cpu in
+    let s : State = queue_at m source in
+    subst (λ (x : Option Contents). queue_at (whole homes (Pull cpu source) m).1 k ≡ only_at cpu k (after_joining x) (only_at source k (after_leaving x) (queue_at m k)))
+    (sym (taken_ok q s (pull_decision m cpu source) refl)) (pull_after m cpu source k (result_ok (pull_decision m cpu source)) (pull_names (length m) homes cpu source fits.allowed))
+whole-after homes deed m k fits = changed (λ q. (done_alone (act_of [] deed) q).1) m (decider deed) k (decider_below _ homes deed fits.allowed)
 
 or_false : (a b : Bool) → (a || b) ≡ false → (a ≡ false) × (b ≡ false)
 or_false true b e = cc

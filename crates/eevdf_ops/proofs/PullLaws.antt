@@ -27,12 +27,12 @@ absent : (q : State) (t : ℕ) → places_in q t ≡ 0 → finite.get q.runnable
 absent q t h = absent_by (finite.get q.runnable t) (count (finite.contains_key q.asleep t)) h
 
 -- what a pull does to the loads of the two queues
-record IsLevelled (q r q' r' : State) (weight : ℕ) : Type 0 where
-  puller : load_of q' ≡ weight + load_of q
-  source : weight + load_of r' ≡ load_of r
-  lighter : load_of q + weight < load_of r
+pub record IsLevelled (q r q' r' : State) (weight : ℕ) : Type 0 where
+  pub puller : load_of q' ≡ weight + load_of q
+  pub source : weight + load_of r' ≡ load_of r
+  pub lighter : load_of q + weight < load_of r
 
-taken_levels : (q r : State) (p : Contents) → NoneTwice q r → decision q (load_of r) (offer r) ≡ Ok p → IsLevelled q r (with_task q p) (leave r p.task) (weight_of p.nice)
+pub taken_levels : (q r : State) (p : Contents) → NoneTwice q r → decision q (load_of r) (offer r) ≡ Ok p → IsLevelled q r (with_task q p) (leave r p.task) (weight_of p.nice)
 taken_levels q r p once e =
     let taken : IsTaken q (load_of r) (offer r) p = decision-taken q (load_of r) (offer r) p e in
     let c : Carries r p.task p = offer-carries r p taken.offered_it in
@@ -44,17 +44,17 @@ taken_levels q r p once e =
     }
 
 -- a pull that is answered with a task
-record Levels (q r q' r' : State) : Type 0 where
-  weight : ℕ
-  some_weight : 15 ≤ weight
-  is : IsLevelled q r q' r' weight
+pub record Levels (q r q' r' : State) : Type 0 where
+  pub weight : ℕ
+  pub some_weight : 15 ≤ weight
+  pub is : IsLevelled q r q' r' weight
 
 levels_by : (q r : State) (task : ℕ) (d : Result Contents Answer) → NoneTwice q r → decision q (load_of r) (offer r) ≡ d → (pulled d q r).0 ≡ Pulled task
     → Levels q r (pulled d q r).1.0 (pulled d q r).1.1
 levels_by q r task (Err why) once e answered = absurd (unpulled q (load_of r) task (offer r) why e answered)
 levels_by q r task (Ok p) once e answered = record { weight = weight_of p.nice; some_weight = weight_of-least p.nice; is = taken_levels q r p once e }
 
-levels : (homes : List ℕ) (m : Machine) (cpu source task : ℕ) → laws.Pulls homes m cpu source task
+pub levels : (homes : List ℕ) (m : Machine) (cpu source task : ℕ) → laws.Pulls homes m cpu source task
     → Levels (queue_at m cpu) (queue_at m source) (queue_at (whole homes (Pull cpu source) m).1 cpu) (queue_at (whole homes (Pull cpu source) m).1 source)
 levels homes m cpu source task pulls =
     let named : PullNames (length m) cpu source = pull_names (length m) homes cpu source pulls.allowed in

@@ -1,13 +1,14 @@
 -- What a pull decides, and what it then does.
-use Rattle.std.proofs.Common.{◌≡◌, ℕ, Bool, true, false, cond, refl, sym, ap, subst, ◌∙◌}
-use Rattle.std.specs.Prelude.{is_some, Option, Some, None, Result, Ok, Err}
+use Rattle.std.proofs.Common.{◌≡◌, ℕ, Bool, true, false, cond, refl, ap, subst}
+use Rattle.std.specs.Prelude.{is_some, IfSome, Option, Some, None, Result, Ok, Err}
 use Rattle.std.specs.{Option.unwrap_or, Result.result_ok}
 use Rattle.eevdf_queue.specs.{declared.entry.Entry.Entry, State.State, State.Contents, Moves.sleeper_of, Moves.with_runnable}
-use Rattle.eevdf_queue.specs.{Candidate.is_running, Placing.can_place, Placing.put, Placing.placed_entry}
+use Rattle.eevdf_queue.specs.{Placing.can_place, Placing.put, Placing.placed_entry}
 use Rattle.eevdf_ops.specs.declared.deeds.Answer.{Answer}
 use Rattle.eevdf_ops.specs.declared.deeds.Answer.TheVariants.{Balanced, Nothing, Pulled, Range}
 use Rattle.eevdf_ops.specs.WholePull.{offer, is_lighter, load_of, decision, task_of, with_task}
-use Rattle.eevdf_ops.proofs.Carried.{offer-waits}
+use Rattle.eevdf_ops.specs.{declared.halves.Taking.TheVariants.Pull, Halves.CanTake, Halves.answer_of_taking, Halves.taken_out, Parts.answer_of_pull}
+use Rattle.eevdf_ops.proofs.Carried.{offer-carried, offer-carries, offer-waits}
 
 -- what a pull decides, where it takes a task
 pub record IsTaken (q : State) (source_load : ℕ) (offered : Option Contents) (p : Contents) : Type 0 where
@@ -49,22 +50,23 @@ joined_by q p (Some entry) e = refl
 pub with_task-put : (q : State) (p : Contents) → can_place q (sleeper_of p) ≡ true → put q p.task (sleeper_of p) ≡ Some (with_task q p)
 with_task-put q p room = joined_by q p (placed_entry q (sleeper_of p)) room
 
--- where the decision is to take a task, it waits at the source
-waits_by : (q s : State) (task : ℕ) (d : Result Contents Answer) → decision q (load_of s) (offer s) ≡ d → Ok task ≡ task_of d → is_running s.running task ≡ false
-waits_by q s task (Err why) at e = cc
-waits_by q s task (Ok p) at e =
-    let of_task : p.task ≡ task = cc in
-    ap (is_running s.running) (sym of_task) ∙ offer-waits s p (decision-taken q (load_of s) (offer s) p at).offered_it
+-- a decision, as what is taken out of the source
+pub record IsDecided (q s : State) (d : Result Contents Answer) : Type 0 where
+  pub waits : CanTake (Pull (task_of d)) s
+  pub parcel : taken_out (Pull (task_of d)) s ≡ result_ok d
+  pub answer : (taken : Option Contents) → answer_of_taking (Pull (task_of d)) taken ≡ answer_of_pull d
+  pub room : IfSome (result_ok d) (λ (p : Contents). can_place q (sleeper_of p) ≡ true)
 
-pub taken-waits : (q s : State) (task : ℕ) → Ok task ≡ task_of (decision q (load_of s) (offer s)) → is_running s.running task ≡ false
-taken-waits q s task e = waits_by q s task (decision q (load_of s) (offer s)) refl e
+decided_by : (q s : State) (d : Result Contents Answer) → decision q (load_of s) (offer s) ≡ d → IsDecided q s d
+decided_by q s (Err why) e = record { waits = tt; parcel = refl; answer = λ taken. refl; room = tt }
+decided_by q s (Ok p) e =
+    let taken : IsTaken q (load_of s) (offer s) p = decision-taken q (load_of s) (offer s) p e in
+    record {
+      waits = (ap (λ (o : Option Entry). is_some o) (offer-carries s p taken.offered_it).here, offer-waits s p taken.offered_it);
+      parcel = offer-carried s p taken.offered_it;
+      answer = λ o. refl;
+      room = taken.room;
+    }
 
--- and the queue has room for it
-room_by : (q : State) (source_load : ℕ) (o : Option Contents) (p : Contents) (d : Result Contents Answer) → decision q source_load o ≡ d → result_ok d ≡ Some p → can_place q (sleeper_of p) ≡ true
-room_by q source_load o p (Err why) at e = cc
-room_by q source_load o p (Ok r) at e =
-    let is : r ≡ p = cc in
-    ap (λ (t : Contents). can_place q (sleeper_of t)) (sym is) ∙ (decision-taken q source_load o r at).room
-
-pub taken-room : (q : State) (source_load : ℕ) (o : Option Contents) (p : Contents) → result_ok (decision q source_load o) ≡ Some p → can_place q (sleeper_of p) ≡ true
-taken-room q source_load o p e = room_by q source_load o p (decision q source_load o) refl e
+pub decided : (q s : State) → IsDecided q s (decision q (load_of s) (offer s))
+decided q s = decided_by q s (decision q (load_of s) (offer s)) refl

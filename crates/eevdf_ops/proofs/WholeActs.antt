@@ -1,11 +1,11 @@
 -- A deed done at once is what its CPU does, done at once.
 use Rattle.std.proofs.Common.{◌≡◌, ◌≢◌, ℕ, ◌<◌, Bool, true, false, cond, List, length, set, refl, ap, ◌∙◌, arith}
-use Rattle.std.specs.Prelude.{◌==◌, Option, Some, None}
+use Rattle.std.specs.Prelude.{◌==◌}
 use Rattle.std.proofs.{Math.ListN.length-set, lemmas.List.get_or-set_same, lemmas.List.get_or-set_other}
-use Rattle.eevdf_queue.specs.State.{State, Contents, empty_state}
+use Rattle.eevdf_queue.specs.State.{State, empty_state}
 use Rattle.eevdf_ops.specs.{declared.acts.Act.Act, declared.deeds.Deed.Deed, declared.deeds.Answer.Answer, Setup.home_of, Machine.Machine}
 use Rattle.eevdf_ops.specs.{Machine.queue_at, Acts.act_of, Parts.decider, Whole.whole, Whole.at_two, Whole.done_at}
-use Rattle.eevdf_ops.specs.{declared.acts.LocalAct.LocalAct, declared.acts.Transfer.Transfer, LocalActs.slept_here, LocalActs.ended_here, Transfers.slept_away, Transfers.ended_away}
+use Rattle.eevdf_ops.specs.{declared.acts.LocalAct.LocalAct, declared.acts.Transfer.Transfer}
 use Rattle.eevdf_ops.specs.declared.deeds.Deed.TheVariants.{Sleep, End}
 use Rattle.eevdf_ops.specs.declared.acts.Act.TheVariants as act
 use Rattle.eevdf_ops.specs.declared.acts.LocalAct.TheVariants as local
@@ -30,15 +30,6 @@ sleep_by_home P homes cpu task m here away = by_home P m cpu (home_of homes task
 pub end_by_home : (P : Answer × Machine → Type 0) (homes : List ℕ) (cpu task : ℕ) (m : Machine) → (home_of homes task ≡ cpu → P (done_at cpu (act.Local (local.End task)) m))
     → (home_of homes task ≢ cpu → P (done_at cpu (act.Transfer (home_of homes task) (transfer.End task)) m)) → P (whole homes (End cpu task) m)
 end_by_home P homes cpu task m here away = by_home P m cpu (home_of homes task) (local.End task) (transfer.End task) (home_of homes task == cpu) refl here away
-
--- of an end a task leaves and falls asleep as of a sleep
-pub ended-here : (o : Option Contents) (q : State) → (ended_here o q).1 ≡ (slept_here o q).1
-ended-here None q = refl
-ended-here (Some p) q = refl
-
-pub ended-away : (o : Option Contents) (q r : State) → (ended_away o q r).1 ≡ (slept_away o q r).1
-ended-away None q r = refl
-ended-away (Some p) q r = refl
 
 -- where two queues are left, each is found as it was left
 pub two-left : (m : Machine) (cpu other : ℕ) (r : Answer × (State × State)) → cpu ≢ other → cpu < length m → other < length m

@@ -1,5 +1,5 @@
 -- Deeds that are allowed keep each task in one place, and a sleeping one at its home.
-use Rattle.std.proofs.Common.{◌≡◌, ℕ, ◌<◌, ◌≤◌, Bool, true, false, ◌||◌, List, [], ◌∷◌, length, set, refl, sym, ap, subst, ◌∙◌, arith}
+use Rattle.std.proofs.Common.{◌≡◌, ℕ, ◌<◌, ◌≤◌, Bool, true, false, ◌||◌, List, [], ◌∷◌, length, set, refl, sym, ap, ◌∙◌, arith}
 use Rattle.std.specs.Prelude.{◌==◌, Option, Some, None, Result, Ok, Err}
 use Rattle.std.specs.{Option.unwrap_or, FinMap.contains_key}
 use Rattle.std.proofs.Math.ListN.{length-set}
@@ -15,7 +15,7 @@ use Rattle.eevdf_ops.specs.Places.{places_in, IsPlaced, AreCpus}
 use Rattle.eevdf_ops.specs.{WholePull.offer, WholePull.load_of, WholePull.decision, WholePull.with_task, WholeEnd.ending}
 use Rattle.eevdf_ops.proofs.Carried.{Carries, running-carries, ending-carries, offer-carries, leaves-without, carried-stands, left-nowhere}
 use Rattle.eevdf_ops.proofs.Pulling.{IsTaken, decision-taken, with_task-put}
-use Rattle.eevdf_ops.proofs.{DeedNames.PullNames, DeedNames.decider_below, DeedNames.home_below, DeedNames.pull_names, WholeActs.sleep_by_home, WholeActs.end_by_home, WholeActs.ended-here, WholeActs.ended-away}
+use Rattle.eevdf_ops.proofs.{DeedNames.PullNames, DeedNames.decider_below, DeedNames.home_below, DeedNames.pull_names, WholeActs.sleep_by_home, WholeActs.end_by_home}
 use Rattle.eevdf_ops.proofs.MapCounts.{equal, contains-insert}
 use Rattle.eevdf_ops.proofs.QueuePlaces.{IsWith, IsWithout, tick-same, pick-same, yield-same, wake-same, renice-same, begin-same, set-same, rebase-same, asleep-with, runnable-with}
 use Rattle.eevdf_ops.proofs.MachinePlaces.{at-most, none-twice, places-at, SleepsAtHome, one-placed, same-placed, two-placed}
@@ -99,9 +99,8 @@ whole-placed homes (End cpu task) m ok cpus placed =
     let h : cpu < length m = decider_below _ homes (End cpu task) ok in
     let carries : (p : Contents) → o ≡ Some p → Carries (queue_at m cpu) task p = λ p e. ending-carries (queue_at m cpu) task p e in
     end_by_home (λ (r : Answer × Machine). IsPlaced homes r.1) homes cpu task m
-    (λ home. subst (λ (q : State). IsPlaced homes (set m cpu q)) (sym (ended-here o (queue_at m cpu))) (here-placed homes m cpu task o h home carries placed))
-    (λ away. subst (λ (two : State × State). IsPlaced homes (set (set m cpu two.0) (home_of homes task) two.1)) (sym (ended-away o (queue_at m cpu) (queue_at m (home_of homes task))))
-    (away-placed homes m cpu task (home_of homes task) o (record { puller = h; from = home_below _ homes cpu task ok cpus; apart = λ same. away (sym same) }) refl carries placed))
+    (λ home. here-placed homes m cpu task o h home carries placed)
+    (λ away. away-placed homes m cpu task (home_of homes task) o (record { puller = h; from = home_below _ homes cpu task ok cpus; apart = λ same. away (sym same) }) refl carries placed)
 whole-placed homes (Set cpu task nice slice) m ok cpus placed = same-placed homes m cpu _ (decider_below _ homes (Set cpu task nice slice) ok) (set-same (queue_at m cpu) task nice slice) placed
 whole-placed homes (Rebase cpu) m ok cpus placed = same-placed homes m cpu _ (decider_below _ homes (Rebase cpu) ok) (rebase-same (queue_at m cpu)) placed
 whole-placed homes (Pull cpu source) m ok cpus placed =

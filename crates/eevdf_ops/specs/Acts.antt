@@ -53,12 +53,8 @@ abbrev pub local_of : Op → Option LocalAct
 local_of (op.Tick ns) = Some (local.Tick ns)
 local_of op.Pick = Some local.Pick
 local_of op.Yield = Some local.Yield
-local_of (op.Sleep task) = None
-local_of (op.Post task) = None
-local_of op.Drain = None
-local_of (op.Pull source) = None
 local_of (op.Renice task nice) = Some (local.Renice task nice)
 local_of (op.Begin task nice slice) = Some (local.Begin task nice slice)
-local_of (op.End task) = None
 local_of (op.Set task nice slice) = Some (local.Set task nice slice)
 local_of op.Rebase = Some local.Rebase
+local_of other = None

@@ -6,21 +6,13 @@ use Rattle.eevdf_queue.specs.{declared.entry.Entry.Entry, declared.sleeper.Sleep
 use Rattle.eevdf_ops.specs.{declared.task_spec.TaskSpec.TaskSpec, declared.deeds.Deed.Deed, declared.deeds.Answer.Answer, declared.deeds.Line.Line}
 use Rattle.eevdf_ops.specs.{Setup.Setup, Setup.homes_of, Setup.allows, Machine.queue_at, Machine.start, Whole.machine_after, Whole.lines_of}
 use Rattle.eevdf_ops.specs.declared.deeds.Answer.TheVariants as answer
-use Rattle.eevdf_ops.specs.declared.deeds.Deed.TheVariants.{Tick, Pick, Yield, Sleep, Wake, Pull, Renice, Begin, End, Set, Rebase}
+use Rattle.eevdf_ops.specs.declared.deeds.Deed.TheVariants.{Renice, Begin, Set}
 
 -- whether a deed is to give a task another nice level and slice
 abbrev pub sets : Deed → ℕ → Bool
 sets (Begin cpu begun nice slice) task = task == begun
 sets (Set cpu given nice slice) task = task == given
-sets (Tick cpu ns) task = false
-sets (Pick cpu) task = false
-sets (Yield cpu) task = false
-sets (Sleep cpu sleeper) task = false
-sets (Wake cpu sleeper sender) task = false
-sets (Pull cpu source) task = false
-sets (Renice cpu reniced nice) task = false
-sets (End cpu ended) task = false
-sets (Rebase cpu) task = false
+sets other task = false
 
 -- whether one of the deeds is
 abbrev pub is_set : List Deed → ℕ → Bool
@@ -32,14 +24,7 @@ abbrev pub renices : Deed → ℕ → Bool
 renices (Renice cpu reniced nice) task = task == reniced
 renices (Begin cpu begun nice slice) task = task == begun
 renices (Set cpu given nice slice) task = task == given
-renices (End cpu ended) task = false
-renices (Rebase cpu) task = false
-renices (Tick cpu ns) task = false
-renices (Pick cpu) task = false
-renices (Yield cpu) task = false
-renices (Sleep cpu sleeper) task = false
-renices (Wake cpu sleeper sender) task = false
-renices (Pull cpu source) task = false
+renices other task = false
 
 -- whether one of the deeds is
 abbrev pub is_reniced : List Deed → ℕ → Bool

@@ -8,6 +8,7 @@ pub mod WholeSleep
 pub mod WholeEnd
 pub mod WholePull
 pub mod Places
+pub mod Halves
 pub mod Acts
 pub mod LocalActs
 pub mod Transfers

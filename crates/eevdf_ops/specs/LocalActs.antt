@@ -1,20 +1,19 @@
 -- What an act on one queue answers and leaves.
-use Rattle.std.specs.Prelude.{Option, Some, None}
-use Rattle.eevdf_queue.specs.{State.State, State.Contents, Moves.put_asleep, Leaving.carried_running, Leaving.leave}
-use Rattle.eevdf_ops.specs.{declared.acts.LocalAct.LocalAct, declared.deeds.Answer.Answer, declared.deeds.Answer.TheVariants.NotRunning, declared.deeds.Answer.TheVariants.NotHere, declared.deeds.Answer.TheVariants.Ended}
+use Rattle.std.specs.Prelude.{Option}
+use Rattle.eevdf_queue.specs.{State.State, State.Contents, Leaving.carried_running}
+use Rattle.eevdf_ops.specs.{declared.acts.LocalAct.LocalAct, declared.deeds.Answer.Answer}
 use Rattle.eevdf_ops.specs.declared.acts.LocalAct.TheVariants.{Tick, Pick, Yield, Sleep, Wake, Renice, Begin, End, Set, Rebase}
-use Rattle.eevdf_ops.specs.{OneQueue.one_tick, OneQueue.one_pick, OneQueue.one_yield, OneQueue.one_wake, OneQueue.one_renice, WholeSleep.slept}
+use Rattle.eevdf_ops.specs.{OneQueue.one_tick, OneQueue.one_pick, OneQueue.one_yield, OneQueue.one_wake, OneQueue.one_renice}
 use Rattle.eevdf_ops.specs.{OneQueue.one_begin, OneQueue.one_set, OneQueue.one_rebase, WholeEnd.ending}
+use Rattle.eevdf_ops.specs.Halves.{after_falling_asleep, after_leaving, answer_of_end, answer_of_sleep}
 
 -- a task falls asleep in the queue where it runs; what it carries, none where it doesn't run
 abbrev pub slept_here : Option Contents → State → Answer × State
-slept_here None q = (NotRunning, q)
-slept_here (Some p) q = (slept p, put_asleep (leave q p.task) p)
+slept_here o q = (answer_of_sleep o, after_falling_asleep o (after_leaving o q))
 
 -- a task ends in the queue that is its home; what it takes along, none where it isn't runnable
 abbrev pub ended_here : Option Contents → State → Answer × State
-ended_here None q = (NotHere, q)
-ended_here (Some p) q = (Ended, put_asleep (leave q p.task) p)
+ended_here o q = (answer_of_end o, after_falling_asleep o (after_leaving o q))
 
 abbrev pub local_done : LocalAct → State → Answer × State
 local_done (Tick ns) q = one_tick q ns

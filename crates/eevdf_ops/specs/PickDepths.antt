@@ -4,7 +4,7 @@ use Rattle.std.specs.FinMap as finite
 use Rattle.eevdf_queue.specs.{State.State, State.View, Pick.pick_of}
 use Rattle.eevdf_ops.specs.{declared.acts.LocalAct.LocalAct, declared.deeds.Deed.Deed, Machine.Machine, Machine.queue_at}
 use Rattle.eevdf_ops.specs.declared.acts.LocalAct.TheVariants as local
-use Rattle.eevdf_ops.specs.declared.deeds.Deed.TheVariants.{Tick, Pick, Yield, Sleep, Wake, Pull, Renice, Begin, End, Set, Rebase}
+use Rattle.eevdf_ops.specs.declared.deeds.Deed.TheVariants.{Pick}
 
 -- none where nobody is runnable, else at least one, and with n runnable tasks k such that 2 ^ (k / 2) is at most n + 1
 abbrev pub IsPickDepth : State → ℕ → Type 0
@@ -27,13 +27,4 @@ depth_at queues cpu = slice_index_or (depths_of queues) cpu 0
 -- a pick has set the depth of its CPU's queue; of another deed nothing is said
 abbrev pub HasPickDepth : Machine → Deed → List View → Type 0
 HasPickDepth m (Pick cpu) queues = IsPickDepth (queue_at m cpu) (depth_at queues cpu)
-HasPickDepth m (Tick cpu ns) queues = ⊤
-HasPickDepth m (Yield cpu) queues = ⊤
-HasPickDepth m (Sleep cpu task) queues = ⊤
-HasPickDepth m (Wake cpu task sender) queues = ⊤
-HasPickDepth m (Pull cpu source) queues = ⊤
-HasPickDepth m (Renice cpu task nice) queues = ⊤
-HasPickDepth m (Begin cpu task nice slice) queues = ⊤
-HasPickDepth m (End cpu task) queues = ⊤
-HasPickDepth m (Set cpu task nice slice) queues = ⊤
-HasPickDepth m (Rebase cpu) queues = ⊤
+HasPickDepth m other queues = ⊤

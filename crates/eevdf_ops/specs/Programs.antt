@@ -33,16 +33,7 @@ lines_by cpu lines = filter (λ (l : Line). decider l.deed == cpu) lines
 -- the task of a wake that this CPU asked for
 abbrev pub wake_from : ℕ → Deed → List ℕ
 wake_from sender (deed.Wake cpu task by) = if by == sender then task ∷ [] else []
-wake_from sender (deed.Tick cpu ns) = []
-wake_from sender (deed.Pick cpu) = []
-wake_from sender (deed.Yield cpu) = []
-wake_from sender (deed.Sleep cpu task) = []
-wake_from sender (deed.Pull cpu source) = []
-wake_from sender (deed.Renice cpu task nice) = []
-wake_from sender (deed.Begin cpu task nice slice) = []
-wake_from sender (deed.End cpu task) = []
-wake_from sender (deed.Set cpu task nice slice) = []
-wake_from sender (deed.Rebase cpu) = []
+wake_from sender other = []
 
 -- the tasks of the wakes that a CPU asked for, in order
 abbrev pub wakes_in : ℕ → List Deed → List ℕ
@@ -54,17 +45,7 @@ wakes_from sender lines = wakes_in sender (deeds_of lines)
 -- the tasks of a home that operations post, in order
 abbrev pub post_of : List ℕ → ℕ → Op → List ℕ
 post_of homes home (op.Post task) = if home_of homes task == home then task ∷ [] else []
-post_of homes home (op.Tick ns) = []
-post_of homes home op.Pick = []
-post_of homes home op.Yield = []
-post_of homes home (op.Sleep task) = []
-post_of homes home (op.Pull source) = []
-post_of homes home (op.Renice task nice) = []
-post_of homes home (op.Begin task nice slice) = []
-post_of homes home (op.End task) = []
-post_of homes home (op.Set task nice slice) = []
-post_of homes home op.Rebase = []
-post_of homes home op.Drain = []
+post_of homes home other = []
 
 abbrev pub posts_in : List ℕ → ℕ → List Op → List ℕ
 posts_in homes home ops = flat_map (post_of homes home) ops

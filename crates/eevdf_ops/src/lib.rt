@@ -6,16 +6,16 @@
 //!
 //! A deed is parted into its CPU and an act ([`parted`]): a [`LocalAct`] on the queue of that CPU alone, or a
 //! [`Transfer`], by which a task goes from one queue to another. [`Solo`] does acts on the queues that it has,
-//! threads on those that they have locked, by [`LocalAct::apply`] and [`Transfer::apply`]. A player does a sleep,
-//! an end and a pull by halves, between which others may do steps: [`sleep`], [`end`] and [`pull`] have the first
-//! half of each.
+//! threads on those that they have locked, by [`LocalAct::apply`] and [`Transfer::apply`]. In a sleep, an end and a
+//! pull a task is taken out of one queue and put into another or the same ([`Taking::take`], [`Putting::put`]).
+//! A player does these halves one by one, and others may do steps between them.
 #![tactic(auto)]
 
 mod acts;
 mod cpu_id;
 mod deeds;
-pub mod end;
 mod from_answers;
+mod halves;
 mod homes;
 pub mod laws;
 mod local_acts;
@@ -28,7 +28,6 @@ mod setup;
 mod setup_check;
 mod setup_fault;
 mod setup_tasks;
-pub mod sleep;
 mod solo;
 mod task_spec;
 mod texts;
@@ -38,6 +37,7 @@ mod whole_deeds;
 pub use acts::{Act, LocalAct, Transfer};
 pub use cpu_id::{BadCpuId, CpuId};
 pub use deeds::{Answer, Deed, Line, Op};
+pub use halves::{Putting, Taking};
 pub use homes::Homes;
 pub use outcome::Outcome;
 pub use parting::parted;

@@ -1,15 +1,13 @@
 //! How an act is done on the one run queue that it touches.
 
 ghost use Rattle.std.specs.Prelude.{◌≡◌};
-ghost use Rattle.eevdf_queue.specs.Leaving.{carried_running};
-ghost use Rattle.eevdf_ops.specs.{OneQueue.one_begin, WholeEnd.ending};
-ghost use Rattle.eevdf_ops.specs.LocalActs.{ended_here, local_done, slept_here};
-ghost use Rattle.eevdf_ops.specs.PickDepths.{HasActDepth};
+ghost use Rattle.eevdf_ops.specs.Halves.{CanTake, answer_of_taking, taken_out};
+ghost use Rattle.eevdf_ops.specs.{LocalActs.local_done, OneQueue.one_begin, PickDepths.HasActDepth};
+ghost use Rattle.eevdf_ops.specs.Parts.{after_falling_asleep, after_leaving};
 
 use crate::acts::LocalAct;
 use crate::deeds::Answer;
-use crate::end::leave_for_good;
-use crate::sleep::leave_running;
+use crate::halves::{Putting, Taking};
 use eevdf_queue::{Queue, TaskId};
 use eevdf_weight::{Nice, Slice};
 
@@ -25,28 +23,26 @@ impl LocalAct {
             LocalAct::Tick(ns) => Answer::from(queue.tick(ns)),
             LocalAct::Pick => Answer::from(queue.pick()),
             LocalAct::Yield => Answer::from(queue.yield_now()),
-            LocalAct::Sleep(task) => sleep_here(queue, task),
+            LocalAct::Sleep(task) => fall_asleep(queue, Taking::Sleep(task)),
             LocalAct::Wake { task, .. } => Answer::from(queue.wake(task)),
             LocalAct::Renice(task, nice) => Answer::from(queue.renice(task, nice)),
             LocalAct::Begin(task, nice, slice) => begin(queue, task, nice, slice),
-            LocalAct::End(task) => end_here(queue, task),
+            LocalAct::End(task) => fall_asleep(queue, Taking::End(task)),
             LocalAct::Set(task, nice, slice) => Answer::from(queue.set(task, nice, slice)),
             LocalAct::Rebase => Answer::Rebased(queue.rebase()),
         }
     }
 }
 
-/// Puts a task to sleep in the queue where it runs.
-fn sleep_here(queue: &mut Queue, task: TaskId) -> Answer
-    ensures answer { result
-        ≡ (slept_here (carried_running queue.old.state task) queue.old.state).0 }
-    ensures after { queue.new.state
-        ≡ (slept_here (carried_running queue.old.state task) queue.old.state).1 }
+/// Takes a task out of the queue and puts it to sleep there, at its home.
+fn fall_asleep(queue: &mut Queue, taking: Taking) -> Answer
+    requires { CanTake taking queue.old.state }
+    ensures answer { result ≡ answer_of_taking taking (taken_out taking queue.old.state) }
+    ensures after { queue.new.state ≡ after_falling_asleep (taken_out taking queue.old.state)
+        (after_leaving (taken_out taking queue.old.state) queue.old.state) }
 {
-    let (answer, parcel) = leave_running(queue, task);
-    if let Some(parcel) = parcel {
-        queue.put_asleep(parcel);
-    }
+    let (answer, parcel) = taking.take(queue);
+    Putting::Asleep.put(queue, parcel);
     answer
 }
 
@@ -60,17 +56,4 @@ fn begin(queue: &mut Queue, task: TaskId, nice: Nice, slice: Slice) -> Answer
     } else {
         Answer::Awake
     }
-}
-
-/// Ends a task in the queue that is its home.
-fn end_here(queue: &mut Queue, task: TaskId) -> Answer
-    ensures answer { result ≡ (ended_here (ending queue.old.state task) queue.old.state).0 }
-    ensures after { queue.new.state
-        ≡ (ended_here (ending queue.old.state task) queue.old.state).1 }
-{
-    let (answer, parcel) = leave_for_good(queue, task);
-    if let Some(ended) = parcel {
-        queue.put_asleep(ended);
-    }
-    answer
 }

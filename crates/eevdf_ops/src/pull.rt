@@ -1,33 +1,14 @@
-//! The first half of a pull: the CPU decides whether it takes the candidate of the source, which then leaves. In the second it joins
-//! the CPU's queue.
+//! What a CPU decides before a pull: whether it takes the candidate of the source.
 
 ghost use Rattle.std.specs.Prelude.{◌≡◌, ◌+◌, nat_lt, Err, IsTrue};
-ghost use Rattle.std.specs.Result.{result_ok};
 ghost use Rattle.eevdf_weight.specs.Weight.{weight_of};
 ghost use Rattle.eevdf_ops.specs.declared.deeds.Answer.TheVariants.{Balanced};
-ghost use Rattle.eevdf_ops.specs.Parts.{after_leaving, answer_of_pull};
 ghost use Rattle.eevdf_ops.specs.WholePull as whole;
 ghost use Rattle.eevdf_ops.specs.WholePull.{task_of};
 
 use crate::deeds::Answer;
-use eevdf_queue::{Parcel, Queue, TaskId};
+use eevdf_queue::{Queue, TaskId};
 use eevdf_weight::{Nice, weight};
-
-/// Takes out of the source the task that the CPU decides to pull, and says what the pull is answered: `Pulled`, or why it takes none
-/// (`Nothing`, `Balanced` or `Range`), and then nothing has changed.
-#[inline(always)]
-pub(crate) fn leave_to(puller: &Queue, source: &mut Queue) -> (Answer, Option<Parcel>)
-    ensures answer { result.0 ≡ answer_of_pull (whole.decision puller.now.state
-        (whole.load_of source.old.state) (whole.offer source.old.state)) }
-    ensures parcel { result.1 ≡ result_ok (whole.decision puller.now.state
-        (whole.load_of source.old.state) (whole.offer source.old.state)) }
-    ensures after { source.new.state ≡ after_leaving result.1 source.old.state }
-{
-    match decide(puller, source) {
-        Err(refusal) => (refusal, None),
-        Ok(task) => (Answer::Pulled(task), Some(source.detach(task))),
-    }
-}
 
 /// The task that the CPU takes, or why it takes none.
 pub fn decide(puller: &Queue, source: &Queue) -> Result<TaskId, Answer>

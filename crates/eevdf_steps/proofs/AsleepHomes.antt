@@ -8,7 +8,7 @@ use Rattle.eevdf_queue.specs.Leaving.{carried_running, leave, without_entry}
 use Rattle.eevdf_ops.specs.{declared.deeds.Answer.Answer, declared.deeds.Deed.Deed, declared.deeds.Line.Line}
 use Rattle.eevdf_ops.specs.{Histories.machine_told, Machine.Machine, Machine.queue_at, Programs.deeds_of, Setup.home_of}
 use Rattle.eevdf_ops.specs.{LocalActs.slept_here, Transfers.pulled, Transfers.slept_away, Transfers.ended_away, WholeEnd.ending, Whole.at_two, Whole.machine_after, Whole.whole}
-use Rattle.eevdf_ops.proofs.WholeActs.{sleep_by_home, end_by_home, ended-here, ended-away}
+use Rattle.eevdf_ops.proofs.WholeActs.{sleep_by_home, end_by_home}
 use Rattle.eevdf_ops.specs.declared.deeds.Deed.TheVariants.{Tick, Pick, Yield, Sleep, Wake, Pull, Renice, Begin, End, Set, Rebase}
 use Rattle.eevdf_ops.specs.Parts.{after_leaving, giver, only_at}
 use Rattle.eevdf_ops.specs.WholePull.{pull_decision, with_task}
@@ -111,9 +111,8 @@ module _ (homes : List ℕ) where
       let o : Option Contents = ending q task in
       let of : (p : Contents) → o ≡ Some p → p.task ≡ task = λ p e. (ending-carries q task p e).of_task in
       end_by_home (λ (r : Answer × Machine). AllAtHome homes r.1) homes cpu task m
-      (λ home. set_at_home m cpu _ (subst (SleepsAtHome homes cpu) (sym (ended-here o q)) (here_at_home cpu task q o of home (all cpu))) all)
-      (λ apart. two_at_home m cpu (home_of homes task) (ended_away o q r)
-      (subst (BothAtHome cpu (home_of homes task)) (sym (ended-away o q r)) (away_at_home cpu task q r o of (all cpu, all (home_of homes task)))) all)
+      (λ home. set_at_home m cpu _ (here_at_home cpu task q o of home (all cpu)) all)
+      (λ apart. two_at_home m cpu (home_of homes task) (ended_away o q r) (away_at_home cpu task q r o of (all cpu, all (home_of homes task))) all)
   whole_at_home (Wake cpu task sender) m all = less_at_home m cpu _ (wake_sleeper_less (queue_at m cpu) task _) all
   whole_at_home (Renice cpu task nice) m all = less_at_home m cpu _ (renice-same (queue_at m cpu) task nice).asleep all
   whole_at_home (Begin cpu task nice slice) m all = less_at_home m cpu _ (begin-same (queue_at m cpu) task nice slice).asleep all

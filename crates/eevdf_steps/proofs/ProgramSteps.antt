@@ -58,16 +58,7 @@ sleeps p a b o d deeds here e h = grind arith
 wakes_from_less : (p from more : ℕ) (deeds : List Deed) → from ≤ more → AreWakes p more deeds → AreWakes p from deeds
 wakes_from_less p from more [] h wakes = tt
 wakes_from_less p from more (deed.Wake cpu task sender ∷ deeds) h wakes = grind arith
-wakes_from_less p from more (deed.Tick cpu ns ∷ deeds) h wakes = wakes
-wakes_from_less p from more (deed.Pick cpu ∷ deeds) h wakes = wakes
-wakes_from_less p from more (deed.Yield cpu ∷ deeds) h wakes = wakes
-wakes_from_less p from more (deed.Renice cpu task nice ∷ deeds) h wakes = wakes
-wakes_from_less p from more (deed.Begin cpu task nice slice ∷ deeds) h wakes = wakes
-wakes_from_less p from more (deed.End cpu task ∷ deeds) h wakes = wakes
-wakes_from_less p from more (deed.Set cpu task nice slice ∷ deeds) h wakes = wakes
-wakes_from_less p from more (deed.Rebase cpu ∷ deeds) h wakes = wakes
-wakes_from_less p from more (deed.Sleep cpu task ∷ deeds) h wakes = wakes
-wakes_from_less p from more (deed.Pull cpu source ∷ deeds) h wakes = wakes
+wakes_from_less p from more (other ∷ deeds) h wakes = wakes
 
 -- a request of a sender is settled, and then those of the senders after it are
 settles : (p s : ℕ) (found : Option ℕ) (rest : List Deed) → AreWakes p (s + 1) rest → AreWakes p s (option_to_list (wake_of p s found) ++ rest)

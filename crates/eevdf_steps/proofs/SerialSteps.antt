@@ -16,18 +16,18 @@ use Rattle.eevdf_ops.specs.{WholeEnd.ending}
 use Rattle.eevdf_ops.specs.Parts.{after_falling_asleep, after_leaving, answer_of_end, answer_of_sleep, giver, only_at}
 use Rattle.eevdf_ops.specs.PartsLaws as laws
 use Rattle.eevdf_ops.proofs.LocalParts.{whole-after, whole-answer}
-use Rattle.eevdf_ops.specs.WholePull.{decision, load_of, offer, pull_decision}
+use Rattle.eevdf_ops.specs.declared.halves.Putting.TheVariants.{Asleep, Runnable}
 use Rattle.eevdf_ops.specs.OneQueue.{one_tick, one_pick, one_yield, one_renice, one_begin, one_set, one_rebase}
 use Rattle.eevdf_steps.specs.declared.micro.Micro.TheVariants.{Acquire, Act, Detach, Attach, Commit, Take, Settle, Release, Post}
 use Rattle.eevdf_steps.specs.Plan.{IsSound, Plan, callers, home, is_sound_op}
 use Rattle.eevdf_steps.specs.Counters.{Counters, counted, holder, holds, refused, step_next}
 use Rattle.eevdf_steps.specs.MicroState.{appends, home_for, line_of, works}
-use Rattle.eevdf_steps.specs.Work.{Work, answer, attach_asleep, hand, woken, acted}
+use Rattle.eevdf_steps.specs.Work.{Work, answer, hand, put_in, woken, acted}
 use Rattle.eevdf_steps.proofs.{Holders.nobody_past, Holders.not_blocked, Walking.walking, Positions.step_in, SoundSteps.home_below}
 use Rattle.eevdf_steps.proofs.{SoundSteps.is_caller, OtherCallers.IsStepOf, OtherCallers.followed_then, Ready.least_there}
 use Rattle.eevdf_steps.proofs.Walks.{Covers, FitsWalk, Walk, touched, is_acting, is_moving}
 use Rattle.eevdf_steps.proofs.OwnSteps.{AtStep, acquire_step, fresh_begun, quiet_step, release_step, sees_history, hand_empty}
-use Rattle.eevdf_steps.proofs.OwnWork.{AtAttach, acted_step, at_attach, home_step, joins_step, own_leaves, pull_leaves, room_then, ActsThere}
+use Rattle.eevdf_steps.proofs.OwnWork.{AtAttach, acted_step, at_attach, own_leaves, pull_leaves, put_step, room_then, ActsThere}
 use Rattle.eevdf_steps.proofs.OwnCommits.{commit_answer, commit_step, history_more, length-machine_after, machine_more, settle_answer, settle_step}
 use Rattle.eevdf_steps.proofs.SoundDeeds.{are_walking, deed_fits, next_fits_cpu, next_sound_op}
 
@@ -120,10 +120,8 @@ module _ (plan : Plan) (start : Machine) (counters : Counters) (p : ℕ) (w : Wo
       let covered : (c : ℕ) → holds plan counters c p ≡ touched plan p (op.Pull q) c = holds_covered (op.Pull q) s.at.walk s.at.fits.covers in
       let own : holds plan counters p p ≡ true = covered p ∙ or_left (p == p) (p == q) (eq-eqb p p refl) in
       let source : holds plan counters q p ≡ true = covered q ∙ or_right (q == p) (q == q) (eq-eqb q q refl) in
-      local_serial _ s (pull_leaves q (pull_decision w.machine p q) s.at (ap (λ (n : Option Step). under_way p n) s.at.fits.follows) source
-      (ltb-true q (callers plan) (next_sound_op plan counters p (step_in (op.Pull q) Detach) s.sound s.at.next))
-      (ap (λ (x : State). decision x (load_of (queue_at told q)) (offer (queue_at told q))) (sym (sees_history s.at refl p own))
-      ∙ ap (λ (x : State). decision (queue_at w.machine p) (load_of x) (offer x)) (sym (sees_history s.at refl q source))))
+      local_serial _ s (pull_leaves q s.at (ap (λ (n : Option Step). under_way p n) s.at.fits.follows) own source
+      (ltb-true q (callers plan) (next_sound_op plan counters p (step_in (op.Pull q) Detach) s.sound s.at.next)))
   detach_serial h _ f s = absurd (false≢true s.at.fits.moving)
 
   holds_own_queue : (q : ℕ) → Serial (op.Pull q) Attach → holds plan counters p p ≡ true
@@ -134,9 +132,9 @@ module _ (plan : Plan) (start : Machine) (counters : Counters) (p : ℕ) (w : Wo
       → ((c : ℕ) → touched plan p o c ≡ ((c == p) || (c == home plan t)))
       → (laws.Fits plan.homes d told → (c : ℕ) → queue_at (whole plan.homes d told).1 c
       ≡ only_at (home plan t) c (after_falling_asleep (leaves plan.homes told d)) (only_at (giver d) c (after_leaving (leaves plan.homes told d)) (queue_at told c)))
-      → Leaves (attach_asleep w p (home plan t) (hand w p)) []
+      → Leaves (put_in w p (home plan t) Asleep (hand w p)) []
   home_serial o d t s is task covers after =
-      local_serial _ s (home_step (home plan t) d (at_attach d s.at is)
+      local_serial _ s (put_step (home plan t) Asleep d (at_attach d s.at is)
       (holds_covered o s.at.walk s.at.fits.covers (home plan t) ∙ covers (home plan t)
       ∙ or_right (home plan t == p) (home plan t == home plan t) (eq-eqb (home plan t) (home plan t) refl))
       (home_below plan t s.sound (task (next_sound_op plan counters p (step_in o Attach) s.sound s.at.next)))
@@ -146,8 +144,8 @@ module _ (plan : Plan) (start : Machine) (counters : Counters) (p : ℕ) (w : Wo
   attach_serial (op.Sleep t) f s = home_serial (op.Sleep t) (deed.Sleep p t) t s refl (ltb-true t (length plan.homes)) (λ c. refl) (λ fits c. whole-after plan.homes (deed.Sleep p t) told c fits)
   attach_serial (op.End t) f s = home_serial (op.End t) (deed.End p t) t s refl (ltb-true t (length plan.homes)) (λ c. refl) (λ fits c. whole-after plan.homes (deed.End p t) told c fits)
   attach_serial (op.Pull q) f s =
-      local_serial _ s (joins_step q (at_attach (deed.Pull p q) s.at refl)
-      (deed_fits plan counters p (step_in (op.Pull q) Attach) (deed.Pull p q) s.sound s.at.next refl told s.at.long) (holds_own_queue q s))
+      local_serial _ s (put_step p Runnable (deed.Pull p q) (at_attach (deed.Pull p q) s.at refl) (holds_own_queue q s) s.at.caller
+      (λ c. whole-after plan.homes (deed.Pull p q) told c (deed_fits plan counters p (step_in (op.Pull q) Attach) (deed.Pull p q) s.sound s.at.next refl told s.at.long)))
   attach_serial _ f s = absurd (false≢true s.at.fits.moving)
 
   commit_serial : (o : Op) → Serial o Commit → Leaves w (line_of (deed_of p o) (answer w p))

@@ -1,11 +1,12 @@
 -- The work that the callers do on the queues.
-use Rattle.std.specs.Prelude.{ℕ, nat_lt, Bool, true, List, slice_index_or, slice_set, Option, Some, None, Result}
-use Rattle.std.specs.Result.{result_ok}
-use Rattle.eevdf_queue.specs.{State.State, State.Contents, Leaving.carried_running, Leaving.leave, Moves.put_asleep}
-use Rattle.eevdf_ops.specs.{declared.acts.LocalAct.LocalAct, declared.deeds.Op.Op, declared.deeds.Answer.Answer}
+use Rattle.std.specs.Prelude.{ℕ, nat_lt, Bool, true, List, slice_index_or, slice_set, Option, Some, None}
+use Rattle.eevdf_queue.specs.State.{State, Contents}
+use Rattle.eevdf_ops.specs.{declared.acts.LocalAct.LocalAct, declared.deeds.Op.Op, declared.deeds.Answer.Answer, declared.halves.Putting.Putting, declared.halves.Taking.Taking}
 use Rattle.eevdf_ops.specs.declared.deeds.Op.TheVariants as op
+use Rattle.eevdf_ops.specs.declared.halves.Putting.TheVariants.{Asleep, Runnable}
+use Rattle.eevdf_ops.specs.declared.halves.Taking.TheVariants as taking
 use Rattle.eevdf_ops.specs.{Acts.local_of, LocalActs.local_done, Machine.Machine, Machine.queue_at, OneQueue.one_wake}
-use Rattle.eevdf_ops.specs.{Parts.answer_of_end, Parts.answer_of_pull, Parts.answer_of_sleep, WholeEnd.ending, WholePull.pull_decision, WholePull.with_task}
+use Rattle.eevdf_ops.specs.{Halves.after_putting, Halves.answer_of_taking, Halves.taken_out, Parts.after_leaving, WholePull.pull_decision, WholePull.task_of}
 
 -- the queues, the task in each caller's hand, and the answer that each caller keeps
 pub record Work : Type 0 where
@@ -39,33 +40,22 @@ local_act w caller (Some a) = acted w caller (local_done a (queue_at w.machine c
 abbrev pub act : Work → ℕ → Op → Work
 act w caller o = local_act w caller (local_of o)
 
--- a caller keeps an answer, and takes a task into its hand, where there is one
-abbrev pub grasped : Work → ℕ → Answer → Option Contents → Work
-grasped w caller a None = answered w caller a
-grasped w caller a (Some p) = record (answered w caller a) { hands = slice_set w.hands caller (Some p) }
-
--- the task leaves a queue into the caller's hand, where there is one, and an answer is kept
+-- a task leaves a queue into the caller's hand, where one is taken out, and the caller keeps the answer
 abbrev pub detached : Work → ℕ → ℕ → Answer → Option Contents → Work
-detached w caller cpu a None = answered w caller a
-detached w caller cpu a (Some p) = grasped (with_queue w cpu (leave (queue_at w.machine cpu) p.task)) caller a (Some p)
+detached w caller giver a o = record {
+  machine = slice_set w.machine giver (after_leaving o (queue_at w.machine giver));
+  hands = slice_set w.hands caller o;
+  answers = slice_set w.answers caller (Some a);
+}
 
--- the task that is to sleep leaves, where it runs
-abbrev pub detach_running : Work → ℕ → Option Contents → Work
-detach_running w caller r = detached w caller caller (answer_of_sleep r) r
-
--- the task that is to end leaves, where it is runnable
-abbrev pub detach_ending : Work → ℕ → Option Contents → Work
-detach_ending w caller r = detached w caller caller (answer_of_end r) r
-
--- the task that is pulled leaves its source, unless the pull is refused
-abbrev pub detach_pulled : Work → ℕ → ℕ → Result Contents Answer → Work
-detach_pulled w caller source r = detached w caller source (answer_of_pull r) (result_ok r)
+abbrev pub take_out : Work → ℕ → ℕ → Taking → Work
+take_out w caller giver t = detached w caller giver (answer_of_taking t (taken_out t (queue_at w.machine giver))) (taken_out t (queue_at w.machine giver))
 
 -- the task of an operation leaves into the caller's hand
 abbrev pub detach : Work → ℕ → Op → Work
-detach w caller (op.Sleep task) = detach_running w caller (carried_running (queue_at w.machine caller) task)
-detach w caller (op.End task) = detach_ending w caller (ending (queue_at w.machine caller) task)
-detach w caller (op.Pull source) = detach_pulled w caller source (pull_decision w.machine caller source)
+detach w caller (op.Sleep task) = take_out w caller caller (taking.Sleep task)
+detach w caller (op.End task) = take_out w caller caller (taking.End task)
+detach w caller (op.Pull source) = take_out w caller source (taking.Pull (task_of (pull_decision w.machine caller source)))
 detach w caller _ = w
 
 -- a pull is from one of so many queues
@@ -77,20 +67,15 @@ pulls_from queues _ = true
 abbrev pub emptied : Work → ℕ → Work
 emptied w caller = record w { hands = slice_set w.hands caller None }
 
--- the task in the caller's hand is put down in a queue
-abbrev pub attach_asleep : Work → ℕ → ℕ → Option Contents → Work
-attach_asleep w caller cpu None = w
-attach_asleep w caller cpu (Some p) = with_queue (emptied w caller) cpu (put_asleep (queue_at w.machine cpu) p)
-
-abbrev pub attach_pulled : Work → ℕ → Option Contents → Work
-attach_pulled w caller None = w
-attach_pulled w caller (Some p) = with_queue (emptied w caller) caller (with_task (queue_at w.machine caller) p)
+-- the task in the caller's hand, where there is one, is put into a queue
+abbrev pub put_in : Work → ℕ → ℕ → Putting → Option Contents → Work
+put_in w caller taker how held = with_queue (emptied w caller) taker (after_putting how held (queue_at w.machine taker))
 
 -- the home of the task is given
 abbrev pub attach : ℕ → Work → ℕ → Op → Work
-attach home w caller (op.Sleep task) = attach_asleep w caller home (hand w caller)
-attach home w caller (op.End task) = attach_asleep w caller home (hand w caller)
-attach home w caller (op.Pull source) = attach_pulled w caller (hand w caller)
+attach home w caller (op.Sleep task) = put_in w caller home Asleep (hand w caller)
+attach home w caller (op.End task) = put_in w caller home Asleep (hand w caller)
+attach home w caller (op.Pull source) = put_in w caller caller Runnable (hand w caller)
 attach home w caller _ = w
 
 -- a task is woken on the caller's own queue, with this answer

@@ -28,20 +28,11 @@ impl Drop for Hand {
 }
 
 impl Hand {
-    /// An empty hand.
-    pub(crate) fn empty() -> Hand
-        ensures { result ≡ None }
+    /// A hand with this task in it, where there is one.
+    pub(crate) fn of(parcel: Option<Parcel>) -> Hand
+        ensures { result ≡ parcel }
     {
-        Hand { parcel: None }
-    }
-
-    /// A hand with this task in it.
-    pub(crate) fn with(parcel: Parcel) -> Hand
-        ensures { result ≡ Some parcel }
-    {
-        Hand {
-            parcel: Some(parcel),
-        }
+        Hand { parcel }
     }
 
     /// Takes the task out, and leaves the hand empty.

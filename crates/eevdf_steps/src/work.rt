@@ -2,19 +2,17 @@
 
 ghost use Rattle.std.specs.Prelude.{◌≡◌, ◌<◌, ◌≤◌, length, replicate, vec_len, true, None, IfOk};
 ghost use Rattle.std.specs.Prelude.{IfSome};
-ghost use Rattle.eevdf_queue.specs.{Leaving.carried_running, Moves.sleeper_of, Placing.can_place};
+ghost use Rattle.eevdf_ops.specs.{Halves.CanTake, Halves.HasRoom};
 ghost use Rattle.eevdf_ops.specs.{LocalActs.local_done, Machine.queue_at, Numbers.most_cpus};
-ghost use Rattle.eevdf_ops.specs.{Outcome.machine_of, Places.places_in, WholeEnd.ending, WholePull.pull_decision};
+ghost use Rattle.eevdf_ops.specs.{Outcome.machine_of, Places.places_in};
 ghost use Rattle.eevdf_ops.specs.Places.{places as machine_places};
 ghost use Rattle.eevdf_steps.specs.Places as places;
 ghost use Rattle.eevdf_steps.specs.Work as work;
 
 use crate::hand::Hand;
 use crate::place::Place;
-use eevdf_ops::end::leave_for_good;
 use eevdf_ops::pull::decide;
-use eevdf_ops::sleep::leave_running;
-use eevdf_ops::{Answer, CpuId, LocalAct, Op};
+use eevdf_ops::{Answer, CpuId, LocalAct, Op, Putting, Taking};
 use eevdf_queue::{Parcel, Queue, TaskId};
 use std::alloc::{AllocError, Global};
 use std::marker::Model;
@@ -130,7 +128,8 @@ impl Work {
         self.answers[cpu.index()]
     }
 
-    /// Does an operation that touches the caller's own queue alone, and keeps its answer. Of any other nothing is done here.
+    /// Does an operation that touches the caller's own queue alone, whatever the homes are, and keeps its answer. One that moves a task
+    /// is done by `detach` and `put_in`.
     pub(crate) fn act(&mut self, cpu: CpuId, op: Op)
         requires queue { cpu < length self.old.machine }
         requires answer { cpu < length self.old.answers }
@@ -162,62 +161,42 @@ impl Work {
         ensures { self.new ≡ work.detach self.old cpu op }
     {
         match op {
-            Op::Sleep(task) => {
-                let (answer, parcel) = leave_running(&mut self.queues[cpu.index()], task);
-                self.grasp(cpu, answer, parcel);
+            Op::Sleep(task) => self.take_out(cpu, cpu, Taking::Sleep(task)),
+            Op::End(task) => self.take_out(cpu, cpu, Taking::End(task)),
+            Op::Pull(source) => {
+                let decided = decide(self.queue(cpu), self.queue(source));
+                self.take_out(cpu, source, Taking::Pull(decided));
             }
-            Op::End(task) => {
-                let (answer, parcel) = leave_for_good(&mut self.queues[cpu.index()], task);
-                self.grasp(cpu, answer, parcel);
-            }
-            Op::Pull(source) => self.detach_pulled(cpu, source),
             _ => {}
         }
     }
 
-    fn detach_pulled(&mut self, cpu: CpuId, source: CpuId)
-        requires queue { cpu < length self.old.machine }
+    /// Takes a task out of a queue into the caller's hand, which is empty, and keeps the answer.
+    fn take_out(&mut self, cpu: CpuId, giver: CpuId, taking: Taking)
+        requires queue { giver < length self.old.machine }
         requires answer { cpu < length self.old.answers }
         requires hand { cpu < length self.old.hands }
-        requires source { source < length self.old.machine }
-        ensures { self.new ≡ work.detach_pulled self.old cpu source
-            (pull_decision self.old.machine cpu source) }
+        requires empty { work.hand self.old cpu ≡ None }
+        requires taking { CanTake taking (queue_at self.old.machine giver) }
+        ensures { self.new ≡ work.take_out self.old cpu giver taking }
     {
-        match decide(self.queue(cpu), self.queue(source)) {
-            Err(refusal) => self.keep(cpu, refusal),
-            Ok(task) => {
-                let parcel = self.queues[source.index()].detach(task);
-                self.grasp(cpu, Answer::Pulled(task), Some(parcel));
-            }
-        }
+        let (answer, parcel) = taking.take(&mut self.queues[giver.index()]);
+        self.hands[cpu.index()] = Hand::of(parcel);
+        self.keep(cpu, answer);
     }
 
-    /// Puts the task in the caller's hand to sleep at its home.
-    pub(crate) fn attach_asleep(&mut self, cpu: CpuId, home: CpuId)
-        requires queue { home < length self.old.machine }
+    /// Puts the task in the caller's hand, where there is one, into a queue.
+    pub(crate) fn put_in(&mut self, cpu: CpuId, taker: CpuId, putting: Putting)
+        requires queue { taker < length self.old.machine }
         requires hand { cpu < length self.old.hands }
         requires nowhere { IfSome (work.hand self.old cpu) (λ p.
-            places_in (queue_at self.old.machine home) p.task ≡ 0) }
-        ensures { self.new ≡ work.attach_asleep self.old cpu home (work.hand self.old cpu) }
+            places_in (queue_at self.old.machine taker) p.task ≡ 0) }
+        requires room { IfSome (work.hand self.old cpu)
+            (HasRoom putting (queue_at self.old.machine taker)) }
+        ensures { self.new ≡ work.put_in self.old cpu taker putting (work.hand self.old cpu) }
     {
-        if let Some(parcel) = self.let_go(cpu) {
-            self.queues[home.index()].put_asleep(parcel);
-        }
-    }
-
-    /// Places the task in the caller's hand in its own queue.
-    pub(crate) fn attach_pulled(&mut self, cpu: CpuId)
-        requires queue { cpu < length self.old.machine }
-        requires hand { cpu < length self.old.hands }
-        requires nowhere { IfSome (work.hand self.old cpu) (λ p.
-            places_in (queue_at self.old.machine cpu) p.task ≡ 0) }
-        requires room { IfSome (work.hand self.old cpu) (λ p.
-            can_place (queue_at self.old.machine cpu) (sleeper_of p) ≡ true) }
-        ensures { self.new ≡ work.attach_pulled self.old cpu (work.hand self.old cpu) }
-    {
-        if let Some(parcel) = self.let_go(cpu) {
-            self.queues[cpu.index()].attach(parcel);
-        }
+        let parcel = self.let_go(cpu);
+        putting.put(&mut self.queues[taker.index()], parcel);
     }
 
     /// Takes the task out of the caller's hand.
@@ -227,18 +206,6 @@ impl Work {
         ensures after { self.new ≡ work.emptied self.old cpu }
     {
         self.hands[cpu.index()].take()
-    }
-
-    /// Keeps the answer of a detach, and takes the task that has left into the caller's hand, where one has.
-    fn grasp(&mut self, cpu: CpuId, answer: Answer, parcel: Option<Parcel>)
-        requires answer { cpu < length self.old.answers }
-        requires hand { cpu < length self.old.hands }
-        ensures { self.new ≡ work.grasped self.old cpu answer parcel }
-    {
-        if let Some(parcel) = parcel {
-            self.hands[cpu.index()] = Hand::with(parcel);
-        }
-        self.keep(cpu, answer);
     }
 
     fn keep(&mut self, cpu: CpuId, answer: Answer)
@@ -255,7 +222,7 @@ fn empty_hands(alloc: Global, callers: usize) -> Result<Vec<Hand>, AllocError>
 {
     let mut hands = Vec::with_capacity(alloc, callers)?;
     for _caller in 0..callers {
-        hands.push(Hand::empty())?;
+        hands.push(Hand::of(None))?;
     }
     Ok(hands)
 }

@@ -15,7 +15,7 @@ use crate::micro::Micro;
 use crate::plan::{Plan, Step};
 use crate::requests::Requests;
 use crate::work::Work;
-use eevdf_ops::{Answer, CpuId, Deed, LocalAct, Op};
+use eevdf_ops::{Answer, CpuId, Deed, LocalAct, Op, Putting};
 use eevdf_queue::TaskId;
 
 /// Does a caller's micro-step on what it concerns: the queues, the history, the requests, or the request that the caller has
@@ -72,8 +72,8 @@ fn attach(work: &mut Work, plan: &Plan, cpu: CpuId, op: Op)
     ensures { work.new ≡ steps.attach (state.home_for plan.now cpu op) work.old cpu op }
 {
     match op {
-        Op::Sleep(task) | Op::End(task) => work.attach_asleep(cpu, plan.home(task)),
-        Op::Pull(_) => work.attach_pulled(cpu),
+        Op::Sleep(task) | Op::End(task) => work.put_in(cpu, plan.home(task), Putting::Asleep),
+        Op::Pull(_) => work.put_in(cpu, cpu, Putting::Runnable),
         _ => {}
     }
 }
