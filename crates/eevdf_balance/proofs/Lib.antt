@@ -7,3 +7,15 @@ pub mod Excuses
 pub mod Sweeps
 pub mod Runs
 pub mod Tries
+pub mod Weights
+pub mod Squares
+pub mod SameWeights
+pub mod FewPulls
+pub mod Ideals
+pub mod HalfShare
+pub mod NoneTwice
+pub mod AfterLastPull
+pub mod OncePerTurn
+pub mod Searching
+pub mod FailedPulls
+pub mod Searches

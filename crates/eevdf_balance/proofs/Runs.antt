@@ -17,9 +17,9 @@ use Rattle.eevdf_balance.specs.{Crowds.tasks_at, Crowds.IsIdle, Crowds.comes, Cr
 use Rattle.eevdf_balance.proofs.{Steps.stepped, Crowds.told-by-line, IdlePulls.lone_pull_is_refused}
 
 -- a task is the only runnable one
-record IsAlone (m : Tasks) (t : ℕ) : Type 0 where
-  here : contains_key m t ≡ true
-  one : len m ≤ 1
+pub record IsAlone (m : Tasks) (t : ℕ) : Type 0 where
+  pub here : contains_key m t ≡ true
+  pub one : len m ≤ 1
 
 -- a runnable task stays, where none goes by the line
 abbrev Stays : Deed → Answer → ℕ → Tasks → Tasks → Type 0
@@ -62,7 +62,7 @@ none_goes homes (End cpu task) m k few none = none
 none_goes homes (Set cpu task nice slice) m k few none = none
 none_goes homes (Rebase cpu) m k few none = none
 
-alone_stays : (homes : List ℕ) (deed : Deed) (m : Machine) (k t : ℕ) → IsAlone (queue_at m k).runnable t → comes k deed (whole homes deed m).0 ≡ false → leaves k deed (whole homes deed m).0 ≡ false
+pub alone_stays : (homes : List ℕ) (deed : Deed) (m : Machine) (k t : ℕ) → IsAlone (queue_at m k).runnable t → comes k deed (whole homes deed m).0 ≡ false → leaves k deed (whole homes deed m).0 ≡ false
     → IsAlone (queue_at (whole homes deed m).1 k).runnable t
 alone_stays homes deed m k t alone none_comes none_leaves = record {
   here = stays homes deed m k t (none_goes homes deed m k alone.one none_leaves) alone.here;
@@ -87,7 +87,7 @@ only_one m t u false e alone there =
     let absent : contains_key (remove m t) u ≡ false = ap (λ (n : Tasks). contains_key n u) (empty_of_len (remove m t) none) ∙ ap is_some (get-empty nat_cmp u) in
     absurd (let no : ⊥ = omega (arith, left, ap count absent, ap count e, ap count there) in no)
 
-picked_by : (m : Tasks) (t : ℕ) (o : Option ℕ) → PickIsFirst → PickOfNobody → pick_of m ≡ o → IsAlone m t → o ≡ Some t
+pub picked_by : (m : Tasks) (t : ℕ) (o : Option ℕ) → PickIsFirst → PickOfNobody → pick_of m ≡ o → IsAlone m t → o ≡ Some t
 picked_by m t None first nobody is alone =
     let none : m ≡ empty = (nobody m).0 (subst (λ (o : Option ℕ). IsNone o) (sym is) refl) in
     absurd (false≢true (sym (ap (λ (n : Tasks). contains_key n t) none ∙ ap is_some (get-empty nat_cmp t)) ∙ alone.here))
@@ -117,7 +117,7 @@ refused_not : (a : Answer) (t : ℕ) → IsRefusal a → a ≡ Pulled t → ⊥
 refused_not a t (inl h) e = cc
 refused_not a t (inr h) e = cc
 
-crowded_by : (homes : List ℕ) (m : Machine) (cpu source task : ℕ) → (whole homes (Pull cpu source) m).0 ≡ Pulled task → tasks_at m source ≤ 1 → ⊥
+pub crowded_by : (homes : List ℕ) (m : Machine) (cpu source task : ℕ) → (whole homes (Pull cpu source) m).0 ≡ Pulled task → tasks_at m source ≤ 1 → ⊥
 crowded_by homes m cpu source task answered few = refused_not (whole homes (Pull cpu source) m).0 task (lone_pull_is_refused homes m cpu source few) answered
 
 more_than_one : (n : ℕ) → (n ≤ 1 → ⊥) → 2 ≤ n
@@ -125,7 +125,7 @@ more_than_one zero h = absurd (h (omega arith))
 more_than_one (suc zero) h = absurd (h (omega arith))
 more_than_one (suc (suc n)) h = omega arith
 
-alone_at_first : (homes : List ℕ) (m : Machine) (cpu source task : ℕ) → cpu < length m → IsIdle m cpu → (whole homes (Pull cpu source) m).0 ≡ Pulled task
+pub alone_at_first : (homes : List ℕ) (m : Machine) (cpu source task : ℕ) → cpu < length m → IsIdle m cpu → (whole homes (Pull cpu source) m).0 ≡ Pulled task
     → IsAlone (queue_at (whole homes (Pull cpu source) m).1 cpu).runnable task
 alone_at_first homes m cpu source task own idle answered =
     let q : State = queue_at m cpu in

@@ -12,7 +12,7 @@ use Rattle.eevdf_balance.specs.{Crowds.tasks_at, Crowds.IsIdle, Crowds.IsCrowded
 use Rattle.eevdf_balance.proofs.{Crowds.lines_tell_tasks, IdlePulls.idle_pull_takes, Excuses.deeds-joined, Excuses.machine-joined, Excuses.told-behind, Excuses.same-parts}
 
 -- who comes to a CPU comes by a line of that CPU
-comes_none : (c : ℕ) (d : Deed) (a : Answer) → (decider d == c) ≡ false → comes c d a ≡ false
+pub comes_none : (c : ℕ) (d : Deed) (a : Answer) → (decider d == c) ≡ false → comes c d a ≡ false
 comes_none c (Tick cpu ns) a h = refl
 comes_none c (Pick cpu) a h = refl
 comes_none c (Yield cpu) a h = refl
@@ -68,6 +68,9 @@ ranged_by homes m cpu source a is idle none crowded =
     let t : Takes homes m cpu source = idle_pull_takes homes m cpu source idle crowded in
     ranged (can_place (queue_at m cpu) (sleeper_of t.task)) t.task.task a (is ∙ t.answered) none
 
+pub few-or-range : (homes : List ℕ) (m : Machine) (cpu source : ℕ) (a : Answer) → a ≡ (whole homes (Pull cpu source) m).0 → IsIdle m cpu → taken a ≡ None → (tasks_at m source ≤ 1) ⊎ (a ≡ Range)
+few-or-range homes m cpu source a is idle none = few_by (tasks_at m source) a (λ crowded. ranged_by homes m cpu source a is idle none crowded)
+
 tried : (homes : List ℕ) (start : Machine) (before : List Line) (cpu source : ℕ) (a : Answer) → AreHistory homes start (before ++ record { deed = Pull cpu source; answer = a } ∷ [])
     → IsIdle (machine_told homes start before) cpu → taken a ≡ None → (tasks_at (machine_told homes start before) source ≤ 1) ⊎ (a ≡ Range)
 tried homes start before cpu source a history idle none =
@@ -75,7 +78,7 @@ tried homes start before cpu source a history idle none =
     let line : Line = record { deed = Pull cpu source; answer = a } in
     let told : line ∷ [] ≡ lines_of homes m (deeds_of (line ∷ [])) = told-behind homes start before (line ∷ []) history in
     let same = same-parts (Pull cpu source) a (whole homes (Pull cpu source) m).0 [] [] told in
-    few_by (tasks_at m source) a (λ crowded. ranged_by homes m cpu source a same.0 idle none crowded)
+    few-or-range homes m cpu source a same.0 idle none
 
 -- the first lines of a history are one
 told-before : (homes : List ℕ) (m : Machine) (xs ys : List Line) → xs ++ ys ≡ lines_of homes m (deeds_of (xs ++ ys)) → xs ≡ lines_of homes m (deeds_of xs)
@@ -87,7 +90,7 @@ told-before homes m (x ∷ xs) ys h =
     let rest : xs ++ ys ≡ lines_of homes step (deeds_of (xs ++ ys)) = cc in
     ap (λ (l : Line). l ∷ xs) head ∙ ap (λ (ls : List Line). first ∷ ls) (told-before homes step xs ys rest)
 
-history-before : (homes : List ℕ) (start : Machine) (xs ys : List Line) → AreHistory homes start (xs ++ ys) → AreHistory homes start xs
+pub history-before : (homes : List ℕ) (start : Machine) (xs ys : List Line) → AreHistory homes start (xs ++ ys) → AreHistory homes start xs
 history-before homes start xs ys h = told-before homes start xs ys h
 
 pub own_lines_tell_idle : OwnLinesTellIdle

@@ -2,4 +2,11 @@ pub mod Crowds
 pub mod Refusals
 pub mod Excuses
 pub mod Sweeps
+pub mod Searches
 pub mod Runs
+pub mod Squares
+pub mod HalfShare
+pub mod AfterLastPull
+pub mod OncePerTurn
+pub mod FindWork
+pub mod FailedPulls

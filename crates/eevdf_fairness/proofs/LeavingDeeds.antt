@@ -12,9 +12,9 @@ use Rattle.eevdf_ops.specs.{declared.deeds.Answer.Answer, Setup.home_of, Machine
 use Rattle.eevdf_ops.specs.declared.deeds.Deed.TheVariants.{Sleep, Pull, End}
 use Rattle.eevdf_ops.specs.declared.deeds.Answer.TheVariants.{Slept, Pulled, Ended}
 use Rattle.eevdf_ops.specs.declared.acts.Transfer.TheVariants as transfer
-use Rattle.eevdf_ops.specs.{LocalActs.slept_here, Transfers.slept_away, Transfers.pulled, Transfers.transferred, Whole.whole}
+use Rattle.eevdf_ops.specs.{Parts.after_falling_asleep, Transfers.pulled, Transfers.transferred, Whole.whole}
 use Rattle.eevdf_ops.specs.{Parts.after_leaving, Parts.answer_of_sleep, Parts.answer_of_end, WholeEnd.ending, WholePull.load_of, WholePull.offer, WholePull.decision}
-use Rattle.eevdf_ops.proofs.{Carried.running-carries, Carried.ending-carries, LocalParts.whole-answer, MachinePlaces.other_queue, MachinePlaces.each-set, Pulling.unpulled, WholeActs.sleep_by_home, WholeActs.end_by_home, WholeActs.ended-here, WholeActs.ended-away}
+use Rattle.eevdf_ops.proofs.{Carried.running-carries, Carried.ending-carries, LocalParts.whole-answer, MachinePlaces.other_queue, MachinePlaces.each-set, Pulling.unpulled, WholeActs.sleep_by_home, WholeActs.end_by_home}
 use Rattle.eevdf_fairness.specs.{Turns.Turn, Turns.after_ticks, Turns.after_turn, Turns.after_turns}
 use Rattle.eevdf_fairness.specs.Leavings.{Step, Takes, Leaves, Rebases, after_steps, HaveSameRunnable, RunnableTasksDecide}
 use Rattle.eevdf_fairness.specs.LeavingDeeds.{DeedsLeave}
@@ -94,26 +94,17 @@ runnable_tasks_decide = record { of_turns = of_turns; of_steps = of_steps }
 
 -- ---- a sleep
 -- who falls asleep changes no runnable tasks
-here_left : (o : Option Contents) (q : State) → HaveSameRunnable (slept_here o q).1 (after_leaving o q)
-here_left None q = alike q
-here_left (Some p) q = record { runnable = refl; running = refl }
-
-away_left : (o : Option Contents) (q r : State) → (slept_away o q r).1.0 ≡ after_leaving o q
-away_left None q r = refl
-away_left (Some p) q r = refl
-
-away_stays : (o : Option Contents) (q r : State) → HaveSameRunnable (slept_away o q r).1.1 r
-away_stays None q r = alike r
-away_stays (Some p) q r = record { runnable = refl; running = refl }
+asleep_left : (o : Option Contents) (q : State) → HaveSameRunnable (after_falling_asleep o q) q
+asleep_left None q = alike q
+asleep_left (Some p) q = record { runnable = refl; running = refl }
 
 pub sleep_leaves : (homes : List ℕ) (m : Machine) (cpu task : ℕ) → cpu < length m
     → HaveSameRunnable (queue_at (whole homes (Sleep cpu task) m).1 cpu) (after_leaving (carried_running (queue_at m cpu) task) (queue_at m cpu))
 sleep_leaves homes m cpu task h =
     let o : Option Contents = carried_running (queue_at m cpu) task in
     sleep_by_home (λ (r : Answer × Machine). HaveSameRunnable (queue_at r.1 cpu) (after_leaving o (queue_at m cpu))) homes cpu task m
-    (λ e. then _ _ _ (of_same _ _ (get_or-set_same m cpu _ empty_state h)) (here_left o (queue_at m cpu)))
-    (λ e. of_same _ _ (other_queue (set m cpu _) (home_of homes task) cpu _ (λ f. e (sym f)) ∙ get_or-set_same m cpu _ empty_state h
-    ∙ away_left o (queue_at m cpu) (queue_at m (home_of homes task))))
+    (λ e. then _ _ _ (of_same _ _ (get_or-set_same m cpu _ empty_state h)) (asleep_left o (after_leaving o (queue_at m cpu))))
+    (λ e. of_same _ _ (other_queue (set m cpu _) (home_of homes task) cpu _ (λ f. e (sym f)) ∙ get_or-set_same m cpu _ empty_state h))
 
 pub sleep_stays : (homes : List ℕ) (m : Machine) (cpu task other : ℕ) → (other ≡ cpu → ⊥)
     → HaveSameRunnable (queue_at (whole homes (Sleep cpu task) m).1 other) (queue_at m other)
@@ -121,7 +112,7 @@ sleep_stays homes m cpu task other apart =
     let IsKept : ℕ → State → Type 0 = λ i q. (i ≡ cpu → ⊥) → HaveSameRunnable q (queue_at m i) in
     sleep_by_home (λ (r : Answer × Machine). HaveSameRunnable (queue_at r.1 other) (queue_at m other)) homes cpu task m
     (λ e. of_same _ _ (other_queue m cpu other _ apart))
-    (λ e. each-set IsKept (set m cpu _) (home_of homes task) _ (λ f. away_stays (carried_running (queue_at m cpu) task) (queue_at m cpu) (queue_at m (home_of homes task)))
+    (λ e. each-set IsKept (set m cpu _) (home_of homes task) _ (λ f. asleep_left (carried_running (queue_at m cpu) task) (queue_at m (home_of homes task)))
     (each-set IsKept m cpu _ (λ f. absurd (f refl)) (λ i f. alike (queue_at m i))) other apart)
 
 pub left_by_sleep : (q : State) (task : ℕ) (lag : ℤ) (o : Option Contents) → carried_running q task ≡ o → answer_of_sleep o ≡ Slept lag → after_leaving o q ≡ leave q task
@@ -133,22 +124,17 @@ pub end_leaves : (homes : List ℕ) (m : Machine) (cpu task : ℕ) → cpu < len
     → HaveSameRunnable (queue_at (whole homes (End cpu task) m).1 cpu) (after_leaving (ending (queue_at m cpu) task) (queue_at m cpu))
 end_leaves homes m cpu task h =
     let o : Option Contents = ending (queue_at m cpu) task in
-    let r : State = queue_at m (home_of homes task) in
     end_by_home (λ (r : Answer × Machine). HaveSameRunnable (queue_at r.1 cpu) (after_leaving o (queue_at m cpu))) homes cpu task m
-    (λ e. then _ _ _ (of_same _ _ (get_or-set_same m cpu _ empty_state h ∙ ended-here o (queue_at m cpu))) (here_left o (queue_at m cpu)))
-    (λ e. of_same _ _ (other_queue (set m cpu _) (home_of homes task) cpu _ (λ f. e (sym f)) ∙ get_or-set_same m cpu _ empty_state h
-    ∙ ap (λ (two : State × State). two.0) (ended-away o (queue_at m cpu) r) ∙ away_left o (queue_at m cpu) r))
+    (λ e. then _ _ _ (of_same _ _ (get_or-set_same m cpu _ empty_state h)) (asleep_left o (after_leaving o (queue_at m cpu))))
+    (λ e. of_same _ _ (other_queue (set m cpu _) (home_of homes task) cpu _ (λ f. e (sym f)) ∙ get_or-set_same m cpu _ empty_state h))
 
 pub end_stays : (homes : List ℕ) (m : Machine) (cpu task other : ℕ) → (other ≡ cpu → ⊥)
     → HaveSameRunnable (queue_at (whole homes (End cpu task) m).1 other) (queue_at m other)
 end_stays homes m cpu task other apart =
     let IsKept : ℕ → State → Type 0 = λ i q. (i ≡ cpu → ⊥) → HaveSameRunnable q (queue_at m i) in
-    let o : Option Contents = ending (queue_at m cpu) task in
-    let r : State = queue_at m (home_of homes task) in
     end_by_home (λ (r : Answer × Machine). HaveSameRunnable (queue_at r.1 other) (queue_at m other)) homes cpu task m
     (λ e. of_same _ _ (other_queue m cpu other _ apart))
-    (λ e. each-set IsKept (set m cpu _) (home_of homes task) _
-    (λ f. subst (λ (two : State × State). HaveSameRunnable two.1 r) (sym (ended-away o (queue_at m cpu) r)) (away_stays o (queue_at m cpu) r))
+    (λ e. each-set IsKept (set m cpu _) (home_of homes task) _ (λ f. asleep_left (ending (queue_at m cpu) task) (queue_at m (home_of homes task)))
     (each-set IsKept m cpu _ (λ f. absurd (f refl)) (λ i f. alike (queue_at m i))) other apart)
 
 pub left_by_end : (q : State) (task : ℕ) (o : Option Contents) → ending q task ≡ o → answer_of_end o ≡ Ended → after_leaving o q ≡ leave q task

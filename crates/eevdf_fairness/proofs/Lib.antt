@@ -35,3 +35,4 @@ pub mod RebasedHistories
 pub mod DailyTurns
 pub mod MachineDays
 pub mod SetupDays
+pub mod IdealTime

@@ -11,10 +11,10 @@ use Rattle.eevdf_ops.specs.{Whole.whole, Whole.lines_of, Whole.machine_after, On
 use Rattle.eevdf_ops.specs.declared.deeds.Deed.TheVariants.{Tick, Pick}
 use Rattle.eevdf_ops.specs.declared.deeds.Answer.TheVariants as answered
 use Rattle.eevdf_ops.proofs.{MapCounts.itself, WholePlaces.length-after, WholePlaces.length-whole}
-use Rattle.eevdf_fairness.specs.{Turns.Turn, Turns.after_ticks, Turns.after_turn, Tallies.Measure, Tallies.over_ticks, Tallies.over_turns}
+use Rattle.eevdf_fairness.specs.{Turns.Turn, Turns.after_ticks, Turns.after_turn, Turns.after_turns, Tallies.Measure, Tallies.over_ticks, Tallies.over_turns}
 use Rattle.eevdf_fairness.specs.{Tallies.if_charged, Tallies.if_charged_to, Tallies.task_time, Share.HasItsShare, Share.TurnsGiveShares}
 use Rattle.eevdf_fairness.specs.{Share.swing, Share.IsShareOfTime, OneCpu.ticks_on, OneCpu.turns_on, OneCpu.touching, OneCpu.OnlyTurnsTouch}
-use Rattle.eevdf_fairness.specs.Lines.{ticked_on, charged, charged_to, over_lines, TellTime, LinesTellTime, OneCpuGivesShares}
+use Rattle.eevdf_fairness.specs.Lines.{ticked_on, charged, charged_to, over_lines, TellTime, HasItsShareOfLines, LinesTellTime, OneCpuGivesShares}
 use Rattle.eevdf_fairness.proofs.{OneCpu.turns_of_one_cpu, OwnDeeds.AreOwn, OwnDeeds.own, OwnDeeds.turns_own, OwnDeeds.answer_own, OwnDeeds.queue_own}
 
 other_way : (a b : ℕ) → (a == b) ≡ false → (b == a) ≡ false
@@ -88,7 +88,7 @@ module _ (stay : OthersStay) (homes : List ℕ) (cpu : ℕ) (f : Answer → ℕ 
         ∙ in_turns turns (queue_at m cpu)
 
 -- ---- the time of all, and of one task
-none_charged : (a : Answer) → charged a 0 ≡ 0
+pub none_charged : (a : Answer) → charged a 0 ≡ 0
 none_charged (answered.Charged task resched) = refl
 none_charged answer = refl
 
@@ -96,7 +96,7 @@ either : (n : ℕ) (b : Bool) → cond b n n ≡ n
 either n true = refl
 either n false = refl
 
-none_charged_to : (t : ℕ) (a : Answer) → charged_to t a 0 ≡ 0
+pub none_charged_to : (t : ℕ) (a : Answer) → charged_to t a 0 ≡ 0
 none_charged_to t (answered.Charged task resched) = either 0 (task == t)
 none_charged_to t answer = refl
 
@@ -117,12 +117,17 @@ lines_tell_time stay homes m cpu deeds turns h only = record {
 }
 
 -- ---- shares
-pub one_cpu_gives_shares : OthersStay → TurnsGiveShares → OneCpuGivesShares
-one_cpu_gives_shares stay shares homes m cpu earlier deeds v ns before turns h only these fresh short more t e here =
+-- the shares over turns that begin at the queue that earlier turns leave
+pub shares_of_lines : OthersStay → (homes : List ℕ) (m : Machine) (cpu : ℕ) (earlier deeds : List Deed) (ns : ℕ) (before turns : List Turn) → cpu < length m
+    → OnlyTurnsTouch homes cpu earlier before → OnlyTurnsTouch homes cpu deeds turns
+    → ((u : ℕ) (f : Entry) → get (after_turns (queue_at m cpu) before).runnable u ≡ Some f → HasItsShare ns (after_turns (queue_at m cpu) before) turns u f)
+    → (t : ℕ) (e : Entry) → get (queue_at (machine_after homes m earlier) cpu).runnable t ≡ Some e
+    → HasItsShareOfLines ns cpu (lines_of homes (machine_after homes m earlier) deeds) (queue_at (machine_after homes m earlier) cpu) turns t e
+shares_of_lines stay homes m cpu earlier deeds ns before turns h only these shares t e here =
     let n : Machine = machine_after homes m earlier in
     let share : HasItsShare ns (queue_at n cpu) turns t e =
     subst (λ (q : State). (u : ℕ) (f : Entry) → get q.runnable u ≡ Some f → HasItsShare ns q turns u f)
-    (sym (turns_of_one_cpu stay homes m cpu earlier before h only)) (shares (queue_at m cpu) v ns before turns fresh short more) t e here in
+    (sym (turns_of_one_cpu stay homes m cpu earlier before h only)) shares t e here in
     let tell : TellTime cpu (lines_of homes n deeds) (queue_at n cpu) turns =
     lines_tell_time stay homes n cpu deeds turns (subst (λ (n : ℕ). cpu < n) (sym (length-after homes m earlier)) h) these in
     record {
@@ -134,3 +139,7 @@ one_cpu_gives_shares stay shares homes m cpu earlier deeds v ns before turns h o
           (subst (λ (x : ℕ). IsShareOfTime (weight_of e.nice) (total_weight (queue_at n cpu).runnable) (swing ns (queue_at n cpu).runnable e) least most
           x (task_time t (queue_at n cpu) turns)) (sym tell.of_all) (share.in_time least most long none));
     }
+
+pub one_cpu_gives_shares : OthersStay → TurnsGiveShares → OneCpuGivesShares
+one_cpu_gives_shares stay shares homes m cpu earlier deeds v ns before turns h only these fresh short more t e here =
+    shares_of_lines stay homes m cpu earlier deeds ns before turns h only these (shares (queue_at m cpu) v ns before turns fresh short more) t e here

@@ -18,3 +18,4 @@ pub mod RebasedTurns
 pub mod LoweredMachines
 pub mod MachineDays
 pub mod SetupDays
+pub mod IdealTime
