@@ -1,7 +1,8 @@
 /*
  * c_queue.c MIX TASKS TURNS: turns of calls of one queue through C, on the inputs of the program
  * queue_bench, and the same checksum of the answers (docs/speed.md has both). The mixes are
- * tick-pick and tick-sleep-pick-wake.
+ * tick-pick, tick-sleep-pick-wake, and pull-take-put, which queue_bench hasn't: another queue,
+ * without tasks, pulls the candidate, which goes back through a hand.
  */
 #include <eevdf.h>
 #include <inttypes.h>
@@ -13,7 +14,8 @@ enum { DRAWN = 16384, WARM_UP = 4096 };
 
 static const uint64_t slices[] = { 100000,  300000,  700000,  1000000,  2000000,  3000000,
 				   3000000, 3000000, 6000000, 10000000, 20000000, 100000000 };
-static eevdf_queue queue;
+static eevdf_queue queue, other;
+static eevdf_hand hand;
 static uint64_t state, sum, lengths[DRAWN], sleepers[2 * EEVDF_TASKS];
 static size_t length_at, first_sleeper, last_sleeper;
 static int64_t running;
@@ -95,6 +97,15 @@ static void sleep_pick_wake(void)
 		pick();
 }
 
+static void pull_take_put(void)
+{
+	int64_t pulled = eevdf_pull(&other, &queue);
+
+	add(pulled);
+	eevdf_take(&other, &hand, (uint64_t)pulled);
+	eevdf_put(&queue, &hand);
+}
+
 static void open_queue(uint64_t tasks)
 {
 	state = 0x45455644462d3031u + tasks;
@@ -123,6 +134,11 @@ int main(int count, char **words)
 			tick(length());
 			pick();
 		}
+	} else if (strcmp(words[1], "pull-take-put") == 0) {
+		eevdf_open(&other);
+		eevdf_hand_open(&hand);
+		for (; turns > 0; turns--)
+			pull_take_put();
 	} else {
 		for (uint64_t at = 0; at < tasks / 8; at++)
 			sleep_pick();

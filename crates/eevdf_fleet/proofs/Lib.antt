@@ -35,5 +35,8 @@ pub mod ProgramDrains
 pub mod ProgramOperations
 pub mod ProgramPlaces
 pub mod EndlessSeats
+pub mod Sweeps
+pub mod EndlessSweeps
+pub mod NoneCrowded
 pub mod PostsSeen
 pub mod SeenLines

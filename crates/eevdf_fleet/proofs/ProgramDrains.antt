@@ -41,17 +41,7 @@ oldest-waits (task ∷ taken) waiting = oldest-waits taken waiting
 taken-and-waiting : (homes : List ℕ) (cpu : ℕ) (waiting : List ℕ) (o : Op) → own_taken waiting o ++ own_after homes cpu waiting o ≡ waiting ++ post_of homes cpu o
 taken-and-waiting homes cpu [] op.Drain = refl
 taken-and-waiting homes cpu (task ∷ waiting) op.Drain = sym (append-nil (task ∷ waiting))
-taken-and-waiting homes cpu waiting (op.Tick ns) = refl
-taken-and-waiting homes cpu waiting op.Pick = refl
-taken-and-waiting homes cpu waiting op.Yield = refl
-taken-and-waiting homes cpu waiting (op.Sleep task) = refl
-taken-and-waiting homes cpu waiting (op.Post task) = refl
-taken-and-waiting homes cpu waiting (op.Pull source) = refl
-taken-and-waiting homes cpu waiting (op.Renice task nice) = refl
-taken-and-waiting homes cpu waiting (op.Begin task nice slice) = refl
-taken-and-waiting homes cpu waiting (op.End task) = refl
-taken-and-waiting homes cpu waiting (op.Set task nice slice) = refl
-taken-and-waiting homes cpu waiting op.Rebase = refl
+taken-and-waiting homes cpu waiting other = refl
 
 -- an operation on the seat of a CPU that has posted to itself what its drains have taken and then what waits
 module _ (cpu : ℕ) (seat : Seat) (waiting : List ℕ) (stands : posted_to seat cpu ≡ wakes_from cpu seat.log ++ waiting) (lines : List Line) where

@@ -54,17 +54,7 @@ posts-counted homes home (op.Post task) = few (home_of homes task == home)
     few : (b : Bool) → length (cond b (task ∷ []) []) ≤ 1
     few true = omega arith
     few false = omega arith
-posts-counted homes home (op.Tick ns) = omega arith
-posts-counted homes home op.Pick = omega arith
-posts-counted homes home op.Yield = omega arith
-posts-counted homes home (op.Sleep task) = omega arith
-posts-counted homes home (op.Pull source) = omega arith
-posts-counted homes home (op.Renice task nice) = omega arith
-posts-counted homes home (op.Begin task nice slice) = omega arith
-posts-counted homes home (op.End task) = omega arith
-posts-counted homes home (op.Set task nice slice) = omega arith
-posts-counted homes home op.Rebase = omega arith
-posts-counted homes home op.Drain = omega arith
+posts-counted homes home other = omega arith
 
 pub all-posts-counted : (homes : List ℕ) (home : ℕ) (ops : List Op) → length (posts_in homes home ops) ≤ program_posts ops
 all-posts-counted homes home [] = omega arith
@@ -73,14 +63,4 @@ all-posts-counted homes home (o ∷ ops) =
 
 pub posts-one : (homes : List ℕ) (home : ℕ) (o : Op) → post_of homes home o ≢ [] → posts_of o ≡ 1
 posts-one homes home (op.Post task) some = refl
-posts-one homes home (op.Tick ns) some = absurd (some refl)
-posts-one homes home op.Pick some = absurd (some refl)
-posts-one homes home op.Yield some = absurd (some refl)
-posts-one homes home (op.Sleep task) some = absurd (some refl)
-posts-one homes home (op.Pull source) some = absurd (some refl)
-posts-one homes home (op.Renice task nice) some = absurd (some refl)
-posts-one homes home (op.Begin task nice slice) some = absurd (some refl)
-posts-one homes home (op.End task) some = absurd (some refl)
-posts-one homes home (op.Set task nice slice) some = absurd (some refl)
-posts-one homes home op.Rebase some = absurd (some refl)
-posts-one homes home op.Drain some = absurd (some refl)
+posts-one homes home other some = absurd (some refl)

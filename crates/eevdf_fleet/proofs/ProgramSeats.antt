@@ -8,7 +8,7 @@ use Rattle.eevdf_ops.specs.{declared.deeds.Deed.Deed, declared.deeds.Line.Line, 
 use Rattle.eevdf_ops.specs.{Followed.program_of, Outcome.Outcome, OwnRequests.AllFitWaiting, OwnRequests.TakesOwnRequests}
 use Rattle.eevdf_ops.specs.Parts.{decider}
 use Rattle.eevdf_ops.proofs.DeedNames.{decider_below}
-use Rattle.eevdf_ops.specs.declared.deeds.Deed.TheVariants.{Tick, Pick, Yield, Sleep, Wake, Pull, Renice, Begin, End, Set, Rebase}
+use Rattle.eevdf_ops.specs.declared.deeds.Deed.TheVariants.{Wake}
 use Rattle.eevdf_ops.specs.Programs.{FitsProgram, deeds_of, lines_by, posts_in, wake_from, wakes_from}
 use Rattle.eevdf_ops.specs.Setup.{Setup, allows, cpus_of, homes_of, is_allowed}
 use Rattle.eevdf_fleet.specs.Fleets.{AllPostsTold, Seat, fresh}
@@ -36,16 +36,7 @@ no_wake : (cpus : ℕ) (hs : List ℕ) (q : ℕ) (d : Deed) → cpus ≤ q → i
 no_wake cpus hs q (Wake cpu task sender) past ok =
     let there : sender < cpus = ltb-true sender cpus (and_parts (nat_lt cpu cpus) _ (and_parts _ _ ok).0).1 in
     wake-other cpu task q sender (λ same. absurd (omega (arith, same, there, past)))
-no_wake cpus hs q (Tick cpu ns) past ok = refl
-no_wake cpus hs q (Pick cpu) past ok = refl
-no_wake cpus hs q (Yield cpu) past ok = refl
-no_wake cpus hs q (Sleep cpu task) past ok = refl
-no_wake cpus hs q (Pull cpu source) past ok = refl
-no_wake cpus hs q (Renice cpu task nice) past ok = refl
-no_wake cpus hs q (Begin cpu task nice slice) past ok = refl
-no_wake cpus hs q (End cpu task) past ok = refl
-no_wake cpus hs q (Set cpu task nice slice) past ok = refl
-no_wake cpus hs q (Rebase cpu) past ok = refl
+no_wake cpus hs q other past ok = refl
 
 no_wakes : (cpus : ℕ) (hs : List ℕ) (q c : ℕ) (lines : List Line) → cpus ≤ q → list_all (is_allowed cpus hs) (deeds_of lines) ≡ true → wakes_from q (lines_by c lines) ≡ []
 no_wakes cpus hs q c [] past ok = refl

@@ -6,7 +6,7 @@ use Rattle.std.specs.{List.filter, Option.option_to_list}
 use Rattle.std.proofs.lemmas.Bool.{cases_eq}
 use Rattle.std.proofs.lemmas.List.{length_push, append-nil, append_assoc, map-append}
 use Rattle.eevdf_ops.specs.{declared.deeds.Deed.Deed, declared.deeds.Line.Line}
-use Rattle.eevdf_ops.specs.declared.deeds.Deed.TheVariants.{Tick, Pick, Yield, Sleep, Wake, Pull, Renice, Begin, End, Set, Rebase}
+use Rattle.eevdf_ops.specs.declared.deeds.Deed.TheVariants.{Wake}
 use Rattle.eevdf_ops.specs.Programs.{AreWakes, deeds_of, wakes_from}
 use Rattle.eevdf_fleet.specs.{declared.drains.Drained.Drained, declared.wake_list.DrainedWake.DrainedWake}
 use Rattle.eevdf_fleet.specs.Fleets.{IsNoLess, IsRoomFor, Parts, PartsSeeMore, Seat, logged, posted_to}
@@ -29,16 +29,7 @@ WakesTo cpu from to (deed ∷ deeds) = IsWakeFrom cpu from deed × WakesTo cpu (
 
 first-wake : (cpu from : ℕ) (deed : Deed) (deeds : List Deed) → IsWakeFrom cpu from deed → AreWakes cpu (sender_of deed + 1) deeds → AreWakes cpu from (deed ∷ deeds)
 first-wake cpu from (Wake on task sender) deeds h more = (h.0, h.1, more)
-first-wake cpu from (Tick on ns) deeds h more = absurd h
-first-wake cpu from (Pick on) deeds h more = absurd h
-first-wake cpu from (Yield on) deeds h more = absurd h
-first-wake cpu from (Sleep on task) deeds h more = absurd h
-first-wake cpu from (Pull on source) deeds h more = absurd h
-first-wake cpu from (Renice on task nice) deeds h more = absurd h
-first-wake cpu from (Begin on task nice slice) deeds h more = absurd h
-first-wake cpu from (End on task) deeds h more = absurd h
-first-wake cpu from (Set on task nice slice) deeds h more = absurd h
-first-wake cpu from (Rebase on) deeds h more = absurd h
+first-wake cpu from other deeds h more = absurd h
 
 are-wakes : (cpu from to : ℕ) (deeds : List Deed) → WakesTo cpu from to deeds → AreWakes cpu from deeds
 are-wakes cpu from to [] h = tt

@@ -3,7 +3,7 @@ use Rattle.std.proofs.Common.{◌≡◌, inl, inr, ℕ, ◌<◌, List, [], ◌�
 use Rattle.std.specs.Prelude.{Option, Some}
 use Rattle.atomic_table.specs.{Seated.TableId, declared.badge.Badge.Badge}
 use Rattle.eevdf_ops.specs.{declared.deeds.Deed.Deed, declared.deeds.Line.Line, Parts.decider, Programs.lines_by, Programs.wakes_from}
-use Rattle.eevdf_ops.specs.declared.deeds.Deed.TheVariants.{Tick, Pick, Yield, Sleep, Wake, Pull, Renice, Begin, End, Set, Rebase}
+use Rattle.eevdf_ops.specs.declared.deeds.Deed.TheVariants.{Wake}
 use Rattle.eevdf_fleet.specs.declared.board.claims.{Claim.Claim, PostClaim.PostClaim, Said.Said, Terms.Terms, View.View}
 use Rattle.eevdf_fleet.specs.declared.board.claims.Claim.TheVariants as claim
 use Rattle.eevdf_fleet.specs.declared.board.claims.PostClaim.TheVariants.{Sent}
@@ -56,17 +56,8 @@ among-right c (d ∷ cs) ds among = inr (among-right c cs ds among)
 
 -- a wake that claims ask for is asked for by others that have as much
 asked-more : (own : List Line) (cs ds : List PostClaim) (d : Deed) → ((c : PostClaim) → IsAmong c cs → IsAmong c ds) → IsAsked own cs d → IsAsked own ds d
-asked-more own cs ds (Tick cpu ns) more h = tt
-asked-more own cs ds (Pick cpu) more h = tt
-asked-more own cs ds (Yield cpu) more h = tt
-asked-more own cs ds (Sleep cpu task) more h = tt
 asked-more own cs ds (Wake cpu task sender) more h = record { lists = h.lists; claimed = more (Sent sender h.lists) h.claimed; are = h.are }
-asked-more own cs ds (Pull cpu source) more h = tt
-asked-more own cs ds (Renice cpu task nice) more h = tt
-asked-more own cs ds (Begin cpu task nice slice) more h = tt
-asked-more own cs ds (End cpu task) more h = tt
-asked-more own cs ds (Set cpu task nice slice) more h = tt
-asked-more own cs ds (Rebase cpu) more h = tt
+asked-more own cs ds other more h = tt
 
 pub asked-left : (own : List Line) (cs ds : List PostClaim) (d : Deed) → IsAsked own cs d → IsAsked own (cs ++ ds) d
 asked-left own cs ds d h = asked-more own cs (cs ++ ds) d (λ c among. among-left c cs ds among) h
@@ -75,17 +66,8 @@ pub asked-right : (own : List Line) (cs ds : List PostClaim) (d : Deed) → IsAs
 asked-right own cs ds d h = asked-more own ds (cs ++ ds) d (λ c among. among-right c cs ds among) h
 
 pub no-wake-asked : (own : List Line) (cs : List PostClaim) (d : Deed) → IsNoWake d → IsAsked own cs d
-no-wake-asked own cs (Tick cpu ns) h = tt
-no-wake-asked own cs (Pick cpu) h = tt
-no-wake-asked own cs (Yield cpu) h = tt
-no-wake-asked own cs (Sleep cpu task) h = tt
 no-wake-asked own cs (Wake cpu task sender) h = absurd h
-no-wake-asked own cs (Pull cpu source) h = tt
-no-wake-asked own cs (Renice cpu task nice) h = tt
-no-wake-asked own cs (Begin cpu task nice slice) h = tt
-no-wake-asked own cs (End cpu task) h = tt
-no-wake-asked own cs (Set cpu task nice slice) h = tt
-no-wake-asked own cs (Rebase cpu) h = tt
+no-wake-asked own cs other h = tt
 
 -- a line of the log's CPU was asked for, by a token that has the log's claims in front
 pub owes-asked : (t : Terms) (cpu : ℕ) (own queues both : List Claim) (mine asking all : List PostClaim) (s : Said) → KnowsOwn t cpu own → decider s.line.deed ≡ cpu → both ≡ own ++ queues → all ≡ mine ++ asking

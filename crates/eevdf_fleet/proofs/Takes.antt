@@ -5,7 +5,7 @@ use Rattle.std.proofs.{lemmas.Bool.cases_eq, lemmas.Bool.false≢true, lemmas.Bo
 use Rattle.std.proofs.lemmas.List.{length-set, length-replicate, map-append, append-nil, get_or-replicate}
 use Rattle.std.proofs.lemmas.List.FromFn.{fill_by_all, get_or-map-range_with_len, length-map-range_with_len}
 use Rattle.eevdf_ops.specs.{declared.deeds.Answer.Answer, declared.deeds.Deed.Deed, declared.deeds.Line.Line}
-use Rattle.eevdf_ops.specs.declared.deeds.Deed.TheVariants.{Tick, Pick, Yield, Sleep, Wake, Pull, Renice, Begin, End, Set, Rebase}
+use Rattle.eevdf_ops.specs.declared.deeds.Deed.TheVariants.{Wake}
 use Rattle.eevdf_ops.specs.Programs.{wake_from, wakes_from, deeds_of}
 use Rattle.eevdf_fleet.specs.Rings.{taken_from, taken_more, no_takes}
 use Rattle.eevdf_fleet.specs.{Fleets.takes_by, TouchedQueues.IsNoWake}
@@ -34,17 +34,8 @@ pub wakes-one : (sender : ℕ) (l : Line) → wakes_from sender (l ∷ []) ≡ w
 wakes-one sender l = append-nil (wake_from sender l.deed)
 
 pub none-from : (sender : ℕ) (d : Deed) → IsNoWake d → wake_from sender d ≡ []
-none-from sender (Tick cpu ns) h = refl
-none-from sender (Pick cpu) h = refl
-none-from sender (Yield cpu) h = refl
-none-from sender (Sleep cpu task) h = refl
 none-from sender (Wake cpu task by) h = absurd h
-none-from sender (Pull cpu source) h = refl
-none-from sender (Renice cpu task nice) h = refl
-none-from sender (Begin cpu task nice slice) h = refl
-none-from sender (End cpu task) h = refl
-none-from sender (Set cpu task nice slice) h = refl
-none-from sender (Rebase cpu) h = refl
+none-from sender other h = refl
 
 asked_by : (b : Bool) (task : ℕ) → b ≡ true → (if b then task ∷ [] else []) ≡ task ∷ []
 asked_by true task e = refl

@@ -13,6 +13,8 @@ pub mod ProgramRuns
 pub mod SeatWorks
 pub mod Tried
 pub mod EndlessTried
+pub mod Sweeps
+pub mod EndlessSweeps
 pub mod Turns
 pub mod TouchedQueues
 pub mod RingEnds

@@ -3,7 +3,7 @@ use Rattle.std.specs.Prelude.{◌≡◌, ◌≤◌, ◌<◌, ◌+◌, ℕ, List,
 use Rattle.std.specs.{List.sum_by, Option.option_to_list}
 use Rattle.eevdf_ops.specs.{declared.deeds.Op.Op, declared.deeds.Line.Line, Followed.program_of, OwnRequests.AllFitWaiting}
 use Rattle.eevdf_ops.specs.OwnRequests.{own_waiting}
-use Rattle.eevdf_ops.specs.declared.deeds.Op.TheVariants.{Tick, Pick, Yield, Sleep, Post, Drain, Pull, Renice, Begin, End, Set, Rebase}
+use Rattle.eevdf_ops.specs.declared.deeds.Op.TheVariants.{Post, Drain}
 use Rattle.eevdf_ops.specs.Programs.{FitsOperation, FitsProgram, deeds_of, post_of, posts_in, wakes_from}
 use Rattle.eevdf_ops.specs.Setup.{Setup, cpus_of, homes_of}
 use Rattle.eevdf_fleet.specs.{Drains.oldest_own, Fleets.Seat, Fleets.posted_to}
@@ -12,16 +12,7 @@ use Rattle.eevdf_fleet.specs.{Drains.oldest_own, Fleets.Seat, Fleets.posted_to}
 abbrev pub room_for : ℕ → Op → ℕ
 room_for cpus (Post task) = 0
 room_for cpus Drain = cpus
-room_for cpus (Tick ns) = 1
-room_for cpus Pick = 1
-room_for cpus Yield = 1
-room_for cpus (Sleep task) = 1
-room_for cpus (Pull source) = 1
-room_for cpus (Renice task nice) = 1
-room_for cpus (Begin task nice slice) = 1
-room_for cpus (End task) = 1
-room_for cpus (Set task nice slice) = 1
-room_for cpus Rebase = 1
+room_for cpus other = 1
 
 abbrev pub program_room : ℕ → List Op → ℕ
 program_room cpus ops = sum_by (room_for cpus) ops
@@ -29,17 +20,7 @@ program_room cpus ops = sum_by (room_for cpus) ops
 -- how many requests an operation posts
 abbrev pub posts_of : Op → ℕ
 posts_of (Post task) = 1
-posts_of Drain = 0
-posts_of (Tick ns) = 0
-posts_of Pick = 0
-posts_of Yield = 0
-posts_of (Sleep task) = 0
-posts_of (Pull source) = 0
-posts_of (Renice task nice) = 0
-posts_of (Begin task nice slice) = 0
-posts_of (End task) = 0
-posts_of (Set task nice slice) = 0
-posts_of Rebase = 0
+posts_of other = 0
 
 abbrev pub program_posts : List Op → ℕ
 program_posts ops = sum_by posts_of ops

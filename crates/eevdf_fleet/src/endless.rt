@@ -5,6 +5,7 @@
 mod closed;
 mod exchange;
 mod exchange_turn;
+mod finding_work;
 mod fleet;
 mod kit;
 mod looking;

@@ -26,9 +26,9 @@ use std::alloc::{AllocError, Global};
 use std::marker::Model;
 use std::sync::Wait;
 
-/// The seat has room for fewer lines than the operation may need: one, or for a drain one for each CPU. It is decided
-/// before the first lock is taken, and nothing has changed. Room never grows, so the same call is refused until the fleet
-/// is closed.
+/// The seat has room for fewer lines than the operation may need: one, for a drain one for each CPU, and for `find_work` one for each
+/// other CPU. It is decided before the first lock is taken, and nothing has changed. Room never grows, so the same call is refused until
+/// the fleet is closed.
 #[derive(Clone, Copy, PartialEq, Eq, Debug, Drop)]
 pub struct SeatFull;
 

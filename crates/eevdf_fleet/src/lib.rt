@@ -21,6 +21,7 @@ mod closing;
 mod commit;
 mod drains;
 pub mod endless;
+mod finding_work;
 mod fleet;
 mod gate;
 mod journal;

@@ -1,6 +1,6 @@
-ghost use Rattle.std.specs.Prelude.{◌≡◌, ◌≤◌, [], nat_lt, vec_capacity, IfOk};
+ghost use Rattle.std.specs.Prelude.{◌≡◌, ◌≢◌, ◌<◌, ◌≤◌, [], nat_lt, vec_capacity, IfOk};
 ghost use Rattle.eevdf_ops.specs.Setup.{cpus_of, homes_of, is_at_home, is_task};
-ghost use Rattle.eevdf_fleet.specs.Fleets.{all_fresh_parts, setup_of};
+ghost use Rattle.eevdf_fleet.specs.{Fleets.all_fresh_parts, Fleets.setup_of, Sweeps.ComesAfter};
 
 use crate::board::NamedBoard;
 use crate::kit_parts::{KitParts, room_of};
@@ -127,6 +127,19 @@ impl<N: Names> RunQueues<N> {
         ensures { result ≡ nat_lt cpu (cpus_of (setup_of N.kit)) }
     {
         cpu.index() < self.locks.len()
+    }
+
+    /// The CPU that comes so many numbers after another one, where the first comes after the last.
+    pub(crate) fn cpu_after(&self, cpu: CpuId, steps: usize) -> CpuId
+        requires cpu { cpu < cpus_of (setup_of N.kit) }
+        requires few { steps < cpus_of (setup_of N.kit) }
+        requires some { 0 < steps }
+        ensures other { result ≢ cpu }
+        ensures after { ComesAfter (cpus_of (setup_of N.kit)) cpu steps result }
+    {
+        let cpus = self.locks.len();
+        let number = cpu.index() + steps;
+        CpuId::numbered(if number < cpus { number } else { number - cpus })
     }
 
     /// Whether the setup has a task that has its home at a CPU.
