@@ -1,3 +1,4 @@
 pub mod Numbers
 pub mod Comings
 pub mod Parts
+pub mod Openings

@@ -1,22 +1,24 @@
 -- What calls make of a part, and the parts of all CPUs as they are opened.
-use Rattle.std.proofs.Common.{◌≡◌, ℕ, ◌+◌, ◌-◌, ◌<◌, List, [], ◌∷◌, ◌++◌, get_or, set, ap, sym, subst, ◌∙◌, arith, Option, Some, None, IfSome, All, Bool, true, false, ◌==◌}
+use Rattle.std.proofs.Common.{◌≡◌, ℕ, ◌+◌, ◌-◌, ◌<◌, List, [], ◌∷◌, ◌++◌, ◌⊎◌, length, get_or, set, ap, sym, subst, ◌∙◌, arith, Option, Some, None, IfSome, All, Bool, true, false, ◌==◌}
 use Rattle.std.proofs.Math.Path.{refl}
 use Rattle.std.proofs.lemmas.List.{length-append, length-set, get_or_append_left, get_or-append_right, get_or-set_same, get_or-set_other}
 use Rattle.std.proofs.lemmas.Bool.{eqb-true, eqb-false}
 use Rattle.std.proofs.lemmas.List.Elements.{All-push}
 use Rattle.eevdf_ops.specs.Setup.{Setup}
-use Rattle.eevdf_free_tasks.specs.Slots.{slot_of, with_taken}
+use Rattle.eevdf_free_tasks.specs.Slots.{slot_of, with_taken, NoneFree}
 use Rattle.eevdf_free_tasks.specs.Parts.{AreFresh, HasTaken, HaveCome, IsFresh, Part}
 use Rattle.eevdf_free_tasks.specs.declared.slot.Slot.{Slot}
 use Rattle.eevdf_free_tasks.specs.declared.slot.Slot.TheVariants.{Free}
 
--- a number is taken after some came
-pub taken-after : {n : ℕ} (before : Part) {received : List (List ℕ)} {now own_before : List Slot} (own : List Slot) (result : Option ℕ) → HaveCome n before.received received own_before now → own_before ≡ before.own
+-- a number is taken, at once or after what came from all senders
+pub taken-after : {n : ℕ} (before : Part) {received : List (List ℕ)} {now own_before : List Slot} (own : List Slot) (result : Option ℕ)
+    → (n ≡ 0) ⊎ (NoneFree before.own × (n ≡ length before.received)) → HaveCome n before.received received own_before now → own_before ≡ before.own
     → IfSome result (λ task. slot_of now task ≡ Free) → IfSome result (λ task. own ≡ with_taken now task)
     → IfSome result (λ task. HasTaken task before (record before { own = own; received = received }))
-taken-after before own None come same free taken = tt
-taken-after {n = n} before {received = received} {now = now} own (Some task) come same free taken = record {
+taken-after before own None looked come same free taken = tt
+taken-after {n = n} before {received = received} {now = now} own (Some task) looked come same free taken = record {
   senders = n;
+  looked = looked;
   now = now;
   come = subst (λ (o : List Slot). HaveCome n before.received received o now) same come;
   was_free = free;

@@ -1,5 +1,5 @@
 -- The parts of the free numbers, one for each CPU, and what goes from one part to another.
-use Rattle.std.specs.Prelude.{◌≡◌, ◌≢◌, ◌<◌, ◌≤◌, ◌+◌, ◌++◌, ℕ, true, List, [], ◌∷◌, length, slice_index_or, slice_set}
+use Rattle.std.specs.Prelude.{◌≡◌, ◌≢◌, ◌<◌, ◌≤◌, ◌+◌, ◌++◌, ◌⊎◌, ℕ, true, List, [], ◌∷◌, length, slice_index_or, slice_set}
 use Rattle.std.specs.List.{All}
 use Rattle.eevdf_ops.specs.Setup.{Setup, homes_of, home_of, is_task}
 use Rattle.eevdf_free_tasks.specs.Slots.{slot_of, first_slots, given_back, with_taken, NoneFree}
@@ -44,9 +44,10 @@ pub record HaveCome (senders : ℕ) (before after : List (List ℕ)) (own own_af
   pub received : after ≡ appended before came
   pub own_is : own_after ≡ all_given_back own (concatenated came)
 
--- a number is taken from a part, after those that came back from so many senders if none was free before
+-- a number is taken from a part: at once where one is free, and else after what came back from all senders was given back
 pub record HasTaken (task : ℕ) (before after : Part) : Type 0 where
   pub senders : ℕ
+  pub looked : (senders ≡ 0) ⊎ (NoneFree before.own × (senders ≡ length before.received))
   pub now : List Slot
   pub come : HaveCome senders before.received after.received before.own now
   pub was_free : slot_of now task ≡ Free

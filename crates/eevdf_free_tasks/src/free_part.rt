@@ -51,7 +51,8 @@ impl FreePart {
 
     /// The part of a CPU of the setup, which has no ends of rings yet.
     pub(crate) fn of_cpu(alloc: Global, setup: &Setup, cpu: CpuId) -> Result<FreePart, AllocError>
-        ensures { IfOk result (λ part. IsFresh setup.now cpu part) }
+        ensures fresh { IfOk result (λ part. IsFresh setup.now cpu part) }
+        ensures alone { IfOk result (λ part. (part.sent ≡ []) × (part.free ≡ []) × (part.received ≡ [])) }
     {
         Ok(FreePart {
             cpu,
@@ -90,9 +91,9 @@ impl FreePart {
         self.cpu
     }
 
-    /// Takes a free number of the CPU's own. Only where none is, it first gives back what it sees that other parts have sent. `None`
-    /// exactly where none is free then: all of the home's numbers are taken, but for those that are still on their way. It neither waits
-    /// nor takes memory.
+    /// Takes a free number of the CPU's own, at once where one is free. Where none is, it first gives back what it sees that other parts
+    /// have sent. `None` exactly where none is free then: all of the home's numbers are taken, but for those that are still on their way.
+    /// No clause says that it sees what was sent. It neither waits nor takes memory.
     pub fn take(&mut self) -> Option<TakenTask>
         ensures some { IfSome result (λ task. HasTaken task self.old self.new) }
         ensures none { IfNone result (HasNone self.old self.new) }
@@ -118,10 +119,12 @@ impl FreePart {
         self.own.take_begun(task)
     }
 
-    /// Gives back a number: it is free at once where its home is the CPU, and else is sent to its home. It neither waits nor takes memory.
-    /// The number comes back, and nothing changes, exactly where it isn't one of this machine's: the setup hasn't the task, or it is of
-    /// the CPU's own and isn't taken from here; or where no place in the ring to its home is known to be free, after a look too. The ring
-    /// has a place for each number of the home. So it takes every number that was taken from a part of the same machine.
+    /// Gives back a number: it is free at once where its home is the CPU, and else is sent to its home. It neither waits nor takes
+    /// memory. The number comes back, and nothing changes, exactly where the setup hasn't the task, where it is of the CPU's own and
+    /// isn't taken from here, or where no place in the ring to its home is known to be free, after a look too. The ring has a place for
+    /// each number of the home. So of the values of one machine, those that were taken from its parts, none comes back. A value of
+    /// another machine, which may be one of the same setup, is told by its number alone: where that is taken from here it is free then,
+    /// though the value that was taken here is still out; and where it is sent home though nobody took it there, it is let go.
     pub fn give_back(&mut self, taken: TakenTask) -> Result<(), TakenTask>
         ensures given { OnOk result (HasGiven taken self.old self.new) }
         ensures refused { OnErr result (IsRefused taken self.old) }

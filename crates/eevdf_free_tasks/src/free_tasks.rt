@@ -91,8 +91,10 @@ impl FreeTasks {
         }
     }
 
-    /// Gives back a number, which is free from then on. It comes back, and nothing changes, exactly where it isn't taken from here: it is
-    /// of another home, or of another machine.
+    /// Gives back a number, which is free from then on. It comes back, and nothing changes, exactly where it isn't taken from here. Of
+    /// values that were taken from one `FreeTasks` for each home that is so where it is of another home. One of another machine, or of a
+    /// second `FreeTasks` of this home, is told by its number alone: where that is taken from here, it is free then, though the value
+    /// that was taken here is still out.
     pub fn give_back(&mut self, taken: TakenTask) -> Result<(), TakenTask>
         ensures result { IsOk result ↔ (slot_of self.old taken ≡ Taken) }
         ensures after { self.new ≡ given_back self.old taken }

@@ -5,7 +5,8 @@ use std::alloc::{AllocError, Global};
 use std::sync::atomic::{AtomicBool, Ordering};
 
 /// A place for each number of a machine, where the value of a taken one is put down for whoever ends its task, on whatever thread. A number
-/// comes out of its place once for each time that it was put there, so of several threads that end a task one alone gets the value.
+/// comes out of its place once for each time that it was put there, so of several threads that end a task one alone gets the value. That
+/// is tested: no clause speaks of what the places hold, as threads share them.
 #[derive(Drop)]
 pub struct TakenTasks {
     // whether the value of the number is there

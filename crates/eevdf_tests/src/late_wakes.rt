@@ -195,6 +195,47 @@ fn a_stray_that_was_pulled_ends_at_its_pick(rt: HostRuntime) {
     is_pulled_before::<Brand, _>(&rt, rt.alloc(), &setup, kit);
 }
 
+/// A stray and a task wait. The pick ends the stray, which comes first, and gives the task.
+fn comes_before_a_task<N: Names, R: Wait + Abort>(rt: &R, alloc: Global, setup: &Setup, kit: Kit)
+    requires { kit ≡ N.kit }
+{
+    let mut machine = open::<N>(rt, alloc, setup, kit);
+    wake_a_stray(rt, &mut machine);
+    machine.begins(rt, None);
+    machine.picks(rt, Some(1));
+    machine.begins(rt, Some(0));
+}
+
+#[test]
+fn a_stray_before_a_task_ends_at_the_pick(rt: HostRuntime) {
+    let setup = on_two_cpus(&rt, rt.alloc(), &[(0, true), (0, false)]);
+    let kit = endless_kit_of(&rt, rt.alloc(), &setup, 4);
+    comes_before_a_task::<Brand, _>(&rt, rt.alloc(), &setup, kit);
+}
+
+/// Numbers wake beside the task that runs. One that no task has is ended, and so a pick is asked for; one that a task has isn't.
+fn wake_beside_a_task<N: Names, R: Wait + Abort>(rt: &R, alloc: Global, setup: &Setup, kit: Kit)
+    requires { kit ≡ N.kit }
+{
+    let mut machine = open::<N>(rt, alloc, setup, kit);
+    machine.picks(rt, Some(0));
+    machine.wakes(rt, 1, Answer::Woken, true);
+    machine.begins(rt, Some(1));
+    machine.wakes(rt, 1, Answer::Woken, false);
+    machine.picks(rt, Some(0));
+    machine.ends(rt, 0);
+    machine.picks(rt, Some(1));
+    machine.ends(rt, 1);
+    machine.picks(rt, None);
+}
+
+#[test]
+fn only_a_stray_ends_at_its_wake_beside_a_task(rt: HostRuntime) {
+    let setup = on_two_cpus(&rt, rt.alloc(), &[(0, false), (0, true)]);
+    let kit = endless_kit_of(&rt, rt.alloc(), &setup, 4);
+    wake_beside_a_task::<Brand, _>(&rt, rt.alloc(), &setup, kit);
+}
+
 /// Of two tasks that the setup has awake on the first CPU one runs, and the other is pulled, runs on the second CPU and ends there. Its number
 /// comes home.
 fn ends_elsewhere<N: Names, R: Wait + Abort>(rt: &R, alloc: Global, setup: &Setup, kit: Kit)

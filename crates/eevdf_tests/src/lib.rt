@@ -10,6 +10,8 @@ mod endless_calls;
 #[cfg(test)]
 mod every_interleaving;
 #[cfg(test)]
+mod finding_work;
+#[cfg(test)]
 mod fixtures;
 #[cfg(test)]
 mod fleet_calls;

@@ -1,4 +1,5 @@
-use Rattle.std.proofs.Common.{map}
+use Rattle.std.proofs.Common.{map, sym, inr}
+use Rattle.std.proofs.lemmas.List.{length-map}
 use Rattle.rtrb.specs.Ring.{known_free, received, sent}
 use Rattle.eevdf_free_tasks.specs.Parts.{Part}
 use Rattle.eevdf_free_tasks.proofs.Parts.{taken-after}
@@ -14,4 +15,5 @@ returns-clause-some c =
       free = map known_free c.self.inside.producers.items;
       received = map received c.self.inside.consumers.items;
     } in
-    rw (← c.self.view_is) (taken-after before c.take-2.new.self c.take-2.result c.receive_all.ensures c.in_default.ensures.unchanged c.take-2.ensures.was_free c.take-2.ensures.taken)
+    rw (← c.self.view_is) (taken-after before c.take-2.new.self c.take-2.result
+    (inr (c.in_default.ensures.none, sym (length-map c.self.inside.consumers.items received))) c.receive_all.ensures c.in_default.ensures.unchanged c.take-2.ensures.was_free c.take-2.ensures.taken)
