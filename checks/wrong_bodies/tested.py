@@ -3,9 +3,10 @@
 calls allow, so that a test has to refuse them.
 
 Each is planted in a copy of the crates, and the test that its line `refused by:` names is run there, unproved. It is refused where
-the test fails or hasn't ended in time. All tests are run in a copy without a wrong body too, and those that are named have to pass
-there. With --look nothing is tried: it looks whether each wrong body has its place in the crates, and its test is there. The last
-line is 'N passed, M failed'."""
+the test fails or hasn't ended in time. In place of a test a program may stand there, with its words: it has to print the line that
+`prints:` says, and the body is refused where it doesn't, or hasn't ended in time. All tests are run in a copy without a wrong body too,
+and so are the programs, and those that are named have to pass there. With --look nothing is tried: it looks whether each wrong body has
+its place in the crates, and its test is there. The last line is 'N passed, M failed'."""
 
 import argparse
 import re
@@ -20,32 +21,42 @@ from edits import TOP, BadEdit, Change, apply, changed, read_lines
 sys.path.append(str(TOP / "tools"))
 
 from crate_copies import copy_crates, folder_of, read_crates, with_all_below  # noqa: E402
-from try_tests import try_tests  # noqa: E402
+from try_tests import try_program, try_tests  # noqa: E402
 
-# The crates of the tests.
+# The crates of the tests, and the programs.
 TESTS = ("eevdf_tests", "workbench_tests")
+PROGRAMS = ("eevdf_uses",)
 # A test that has run for so many seconds is ended, and has failed. A right body takes a few.
 SECONDS = 30
+# So is a program, which makes many tries of its own in one run.
+SECONDS_OF_A_PROGRAM = 900
 
 CRATES = read_crates()
-COPIED = with_all_below(CRATES, TESTS)
+COPIED = with_all_below(CRATES, TESTS + PROGRAMS)
 
 
 @dataclass(frozen=True)
 class Body:
     name: str
     test: str
+    prints: str
     changes: tuple[Change, ...]
 
     def __str__(self):
         return self.name
+
+    def is_of_a_program(self):
+        return self.test.split()[0] in PROGRAMS
 
 
 def read_body(file):
     changes, told = read_lines(file)
     if not told.get("refused by") or not changes:
         raise BadEdit(f"{file.stem}: a line `refused by:`, `file:`, `old:` or `new:` is missing")
-    return Body(file.stem, told["refused by"], changes)
+    body = Body(file.stem, told["refused by"], told.get("prints", ""), changes)
+    if body.is_of_a_program() != bool(body.prints):
+        raise BadEdit(f"{file.stem}: a line `prints:` says what a program prints, and nothing else does")
+    return body
 
 
 def bodies_named(names):
@@ -72,7 +83,7 @@ def has_its_place(body):
     except (BadEdit, OSError) as why:
         print(f"FAILED: {body}: {why}", flush=True)
         return False
-    if not crate_of(body.test):
+    if not body.is_of_a_program() and not crate_of(body.test):
         print(f"FAILED: {body}: there is no test {body.test}", flush=True)
         return False
     return True
@@ -91,8 +102,23 @@ def run_tests(crate, body, words):
     return results, said[-500:]
 
 
+def run_program(run, prints, body):
+    """Whether a program, run by its name and its words with a body in place, prints this line, and what is said of it."""
+    program, *words = run.split()
+    with tempfile.TemporaryDirectory(prefix="tested-") as held:
+        top = Path(held)
+        copy_crates(COPIED, top)
+        if body:
+            apply(body, top)
+        printed, said = try_program(top / "crates" / program, SECONDS_OF_A_PROGRAM, words)
+    return printed is None or prints in printed, " ".join((said if printed is None else printed[-1:]) or ["nothing is printed"])
+
+
 def try_body(body):
     """Whether the test of a wrong body refuses it, and what is said of it."""
+    if body.is_of_a_program():
+        prints, told = run_program(body.test, body.prints, body)
+        return not prints, f"{body.test}: {told}"
     crate = crate_of(body.test)
     results, said = run_tests(crate, body, [body.test]) if crate else ({}, "no crate has it")
     if body.test not in results:
@@ -103,11 +129,13 @@ def try_body(body):
     return True, f"{body.test}: {line}"
 
 
-def try_right_bodies(tests):
-    """Whether each test passes with no wrong body in place."""
-    tried = [run_tests(crate, None, []) for crate in TESTS]
+def try_right_bodies(bodies):
+    """Whether each test that these bodies name passes with no wrong body in place."""
+    tests = {body.test for body in bodies if not body.is_of_a_program()}
+    runs = {(body.test, body.prints) for body in bodies if body.is_of_a_program()}
+    tried = [run_tests(crate, None, []) for crate in TESTS if tests]
     passed = {test for results, _ in tried for test, (result, _) in results.items() if result == "ok"}
-    failed = sorted(tests - passed)
+    failed = sorted(tests - passed) + [run for run, prints in runs if not run_program(run, prints, None)[0]]
     told = " ".join(said for _, said in tried)
     return not failed, ", ".join(failed) + f" failed: {told}" if failed else "every test that is named passes"
 
@@ -115,7 +143,7 @@ def try_right_bodies(tests):
 def try_all(bodies, jobs):
     """Prints what comes of the right bodies and of each wrong one, and gives whether it is as it should be."""
     with ThreadPoolExecutor(jobs) as pool:
-        right = pool.submit(try_right_bodies, {body.test for body in bodies})
+        right = pool.submit(try_right_bodies, bodies)
         tries = [("no wrong body", right), *((body, pool.submit(try_body, body)) for body in bodies)]
         for body, tried in tries:
             passed, told = tried.result()

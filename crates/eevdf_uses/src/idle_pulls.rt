@@ -1,5 +1,5 @@
 //! Threads that share a fleet which keeps no history, one for each CPU, until a clock says stop. Tasks sleep and are woken by requests of
-//! other CPUs, and a CPU that has nothing to run looks at the others and pulls from the most loaded one of those that have a second task.
+//! other CPUs, and a CPU that has nothing to run looks for work on the others and picks next.
 
 ghost use Rattle.std.specs.Prelude.{◌≡◌};
 
@@ -7,7 +7,7 @@ use crate::machines::{empty_programs, task_at};
 use eevdf_fleet::endless::{Closed, Fleet, Kit, Seat, SeatTurn, run_turns};
 use eevdf_fleet::{Names, RunFault};
 use eevdf_ops::{Answer, CpuId, Setup, SetupFault};
-use eevdf_queue::{Queue, TaskId};
+use eevdf_queue::TaskId;
 use eevdf_weight::Ns;
 use std::alloc::Global;
 use std::ops::ControlFlow;
@@ -40,13 +40,13 @@ impl SeatTurn for UntilEnd {
 }
 
 /// Wakes the tasks that others ask this CPU to wake, and runs its next task until that has used up its request, or for 2 ms, if that is
-/// sooner.
+/// sooner. A CPU that has none looks for one on the others, and what it does next on its queue is the pick: so what it found runs.
 fn run_next<N: Names, R: Wait>(rt: &R, fleet: &Fleet<N>, seat: &mut Seat<N>)
     ensures { seat.new.cpu ≡ seat.old.cpu }
 {
     let _ = fleet.drain(rt, seat);
     if !has_next(rt, fleet, seat) {
-        pull_from_most_loaded(rt, fleet, seat);
+        let _ = fleet.find_work(rt, seat);
     }
     let Answer::Picked(task) = fleet.pick(rt, seat) else {
         return;
@@ -96,58 +96,6 @@ fn sleep_and_ask<N: Names, R: Wait>(rt: &R, fleet: &Fleet<N>, seat: &mut Seat<N>
         let _ = fleet.sleep(rt, seat, task);
         let _ = seat.post(task);
     }
-}
-
-/// Pulls a task from the most loaded of the other CPUs that have two tasks or more. That may have changed since the look; the pull
-/// decides anew, under the locks of both queues, and answers `Nothing` or `Balanced` where no task comes.
-pub fn pull_from_most_loaded<N: Names, R: Wait>(rt: &R, fleet: &Fleet<N>, seat: &mut Seat<N>)
-    ensures { seat.new.cpu ≡ seat.old.cpu }
-{
-    let source = most_loaded(rt, fleet, seat);
-    pull_from(rt, fleet, seat, source);
-}
-
-/// Pulls a task from a CPU, where there is such a CPU and it is another one.
-pub fn pull_from<N: Names, R: Wait>(
-    rt: &R,
-    fleet: &Fleet<N>,
-    seat: &mut Seat<N>,
-    source: Option<CpuId>,
-)
-    ensures { seat.new.cpu ≡ seat.old.cpu }
-{
-    if let Some(source) = source
-        && fleet.has_cpu(source)
-        && source != seat.cpu()
-    {
-        let _ = fleet.pull(rt, seat, source);
-    }
-}
-
-/// The most loaded of the other CPUs that have two tasks or more, of equal ones the lowest; `None` where there is none. One that has a
-/// single task gives none, whatever that weighs. Each look ends before the next one: two CPUs that each held a look and asked for the
-/// other's would wait for ever, and so the seat is lent for as long as a look lasts.
-fn most_loaded<N: Names, R: Wait>(rt: &R, fleet: &Fleet<N>, seat: &mut Seat<N>) -> Option<CpuId>
-    ensures { seat.new.cpu ≡ seat.old.cpu }
-{
-    let mut most = None;
-    let mut most_load = 0;
-    for number in 0..64 {
-        let cpu = CpuId::new(number)?;
-        if fleet.has_cpu(cpu) && cpu != seat.cpu() {
-            let load = fleet.look(rt, seat, cpu, |queue| load_to_share(queue));
-            if most_load < load {
-                most_load = load;
-                most = Some(cpu);
-            }
-        }
-    }
-    most
-}
-
-/// The load of a CPU that has a task which another one could run, and 0 of any other.
-fn load_to_share(queue: &Queue) -> u64 {
-    if queue.len() < 2 { 0 } else { queue.load() }
 }
 
 /// Runs the CPUs of a setup, each by a thread of its own, for so many turns, all together.

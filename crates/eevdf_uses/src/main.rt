@@ -2,7 +2,9 @@
 #![tactic(auto)]
 
 mod checked_input;
+mod finding_work;
 mod hundred_years;
+mod idle_flags;
 mod idle_pulls;
 mod machines;
 mod one_history;
@@ -10,13 +12,15 @@ mod one_queue;
 mod own_order;
 mod park;
 mod pool;
-mod start_line;
+mod shared_work;
+mod standstill;
 mod tickless;
 mod two_queues;
 mod two_threads;
 
 use crate::checked_input::{Order, answers, two_cpus};
 use crate::hundred_years::first_day_out_of_range;
+use crate::idle_flags::{ends_beside_a_crowded, four_idle_cpus};
 use crate::idle_pulls::{three_at_one, until_end};
 use crate::one_history::tell_picks;
 use crate::one_queue::{add, one_queue};
@@ -30,25 +34,44 @@ use eevdf_fleet::{Closed, RunFault, endless};
 use eevdf_ops::{Answer, CpuId, Deed, Line};
 use eevdf_queue::{Queue, TaskId};
 use std::alloc::{AllocError, Global};
-use std::io;
+use std::rt::Env;
 use std::sync::{Mutex, Wait};
 use std::thread::Threads;
+use std::{env, io};
+
+/// How many wakes the CPUs with flags make.
+const WAKES: u64 = 20_000;
 
 /// How many picks of all CPUs are told to another CPU.
 const PICKS_TOLD: u64 = 20_000;
 
 fn main(rt: HostRuntime) -> io::Result<()> {
-    show_one_queue(&rt)?;
-    show_tickless(&rt)?;
-    show_hundred_years(&rt)?;
-    show_two_queues(&rt)?;
-    show_checked_input(&rt)?;
-    show_own_order(&rt)?;
-    show_two_threads(&rt)?;
-    show_idle_pulls(&rt)?;
-    show_one_history(&rt)?;
-    show_park(&rt)?;
-    show_pool(&rt)
+    match asked_wakes(&rt, rt.alloc()) {
+        Some(wakes) => show_idle_flags(&rt, wakes),
+        None => show_all(&rt),
+    }
+}
+
+/// The number of wakes that the program's word says, if it has one: then it shows the CPUs with flags alone, for so many wakes.
+fn asked_wakes(rt: &(impl Env + AllocGlobal), alloc: Global) -> Option<u64> {
+    let words: Result<Vec<String>, _> = env::args(rt).ok()?.collect(alloc);
+    let words = words.ok()?;
+    words.get(1)?.parse::<u64>().ok()
+}
+
+fn show_all(rt: &(impl Print + AllocGlobal + Threads + Wait + Sync)) -> io::Result<()> {
+    show_one_queue(rt)?;
+    show_tickless(rt)?;
+    show_hundred_years(rt)?;
+    show_two_queues(rt)?;
+    show_checked_input(rt)?;
+    show_own_order(rt)?;
+    show_two_threads(rt)?;
+    show_idle_pulls(rt)?;
+    show_idle_flags(rt, WAKES)?;
+    show_one_history(rt)?;
+    show_park(rt)?;
+    show_pool(rt)
 }
 
 fn show_one_queue(rt: &(impl Print + AllocGlobal)) -> io::Result<()> {
@@ -198,6 +221,16 @@ fn print_places(rt: &impl Print, closed: &endless::Closed) -> io::Result<()> {
     }
     println!(rt; "{standing} tasks on {} CPUs", closed.queues.len())?;
     Ok(())
+}
+
+fn show_idle_flags(
+    rt: &(impl Print + AllocGlobal + Threads + Wait + Sync),
+    wakes: u64,
+) -> io::Result<()> {
+    println!(rt; "idle flags")?;
+    let setup = four_idle_cpus(rt.alloc()).map_err(|_| out_of_memory())?;
+    let ends = ends_beside_a_crowded(rt, rt.alloc(), &setup, wakes).map_err(no_run)?;
+    println!(rt; "{ends} times a CPU stayed parked beside a crowded one")
 }
 
 fn show_one_history(rt: &(impl Print + AllocGlobal + Threads + Wait + Sync)) -> io::Result<()> {

@@ -18,9 +18,10 @@ ghost use Rattle.std.specs.Prelude.{◌≡◌, true};
 ghost use Rattle.eevdf_ops.specs.Setup.{homes_of, is_task};
 ghost use Rattle.eevdf_fleet.specs.Fleets.{setup_of};
 
-use crate::idle_pulls::pull_from;
+use crate::finding_work::pick_or_pull;
 use crate::machines::{empty_programs, task_at};
-use crate::start_line::{Running, StartLine, Work, let_others_run};
+use crate::shared_work::{Running, Turns, Work, let_others_run};
+use crate::standstill::Standstill;
 use eevdf_fleet::endless::{Kit, Seat, run_turns};
 use eevdf_fleet::{DrainedWake, Names, RunFault};
 use eevdf_ops::{Answer, CpuId, Setup, SetupFault, TaskSpec};
@@ -31,14 +32,16 @@ use std::sync::atomic::{AtomicBool, AtomicU64, Ordering};
 use std::sync::{Mutex, Wait};
 use std::thread::Threads;
 
+/// How many CPUs there are, of which the first ones are the homes of the tasks in turn.
+const CPUS: usize = 4;
+
+const HOMES: usize = 2;
+
 /// How many tasks there are.
 const TASKS: u64 = 8;
 
 /// How many units of work are put down for each task.
 const UNITS: u64 = 2_000;
-
-/// After so many turns without a unit that was taken the CPUs give up.
-const PATIENCE: u64 = 1_000_000;
 
 /// What the threads share of a task.
 #[derive(Drop)]
@@ -58,6 +61,8 @@ pub struct OnCpu {
     /// The task that works, and for how many turns more. Meanwhile the next unit is put down, and its wake comes too early.
     worker: Option<TaskId>,
     turns_left: u64,
+    /// How many turns it has had.
+    turns: u64,
 }
 
 /// The turns of CPUs whose tasks park, and what the threads share.
@@ -66,9 +71,9 @@ pub struct Parking {
     tasks: Vec<Parked>,
     /// What each CPU has of its own. No other CPU takes its lock.
     on_cpus: Vec<Mutex<OnCpu>>,
-    /// How many units were taken by all tasks, and how many turns ended since the last one.
+    /// How many units were taken by all tasks.
     taken: AtomicU64,
-    turns: AtomicU64,
+    standstill: Standstill,
 }
 
 impl Work for Parking {
@@ -83,14 +88,16 @@ impl Work for Parking {
         seat: &mut Seat<N>,
         own: &mut OnCpu,
     ) -> bool {
-        let parking = running.work;
-        running.settle_next(seat, &mut own.wakes);
-        running.put_unit_down(seat, seat.cpu().get());
-        running.put_unit_down(seat, seat.cpu().get() + 4);
-        running.work_on(seat, own);
-        let turns = parking.turns.fetch_add(1, Ordering::SeqCst);
-        let_others_run(turns);
-        parking.taken.load(Ordering::SeqCst) < TASKS * UNITS && turns < PATIENCE
+        let (parking, cpu) = (running.work, seat.cpu());
+        let before = parking.standstill.begin_turn(cpu);
+        let has_settled = running.settle_next(seat, &mut own.wakes);
+        let has_put = running.put_unit_down(seat);
+        let has_worked = running.work_on(seat, own);
+        let has_done = has_settled || has_put || has_worked;
+        parking.standstill.end_turn(cpu, before, has_done);
+        own.turns = own.turns.saturating_add(1);
+        let_others_run(own.turns);
+        has_done || parking.goes_on(cpu)
     }
 }
 
@@ -110,14 +117,35 @@ impl Parking {
                 wakes: Vec::with_capacity(alloc, cpus)?,
                 worker: None,
                 turns_left: 0,
+                turns: 0,
             }))?;
         }
         Ok(Parking {
             tasks,
             on_cpus,
             taken: AtomicU64::new(0),
-            turns: AtomicU64::new(0),
+            standstill: Standstill::new(alloc, cpus)?,
         })
+    }
+
+    /// Whether a CPU that finds nothing to do has another turn. It waits for the tasks of its home and of those before, whose threads come
+    /// for certain, and not for a CPU whose thread may never be started.
+    fn goes_on(&self, cpu: CpuId) -> bool {
+        let goes_on = !self.have_taken_all(cpu) && !self.standstill.is_at(cpu);
+        if !goes_on {
+            self.standstill.go(cpu);
+        }
+        goes_on
+    }
+
+    /// Whether the tasks whose home is this CPU or one before have taken all that is put down for them.
+    fn have_taken_all(&self, cpu: CpuId) -> bool {
+        for (number, parked) in self.tasks.iter().enumerate() {
+            if number % HOMES <= cpu.index() && parked.taken.load(Ordering::SeqCst) < UNITS {
+                return false;
+            }
+        }
+        true
     }
 
     /// Takes a task's token, and says whether there was one.
@@ -128,17 +156,14 @@ impl Parking {
         }
     }
 
-    /// Puts a unit down, and says whether it did.
-    fn puts_down(&self, task: TaskId) -> bool {
-        let Some(parked) = self.tasks.get(task.index()) else {
-            return false;
-        };
-        let put = parked.put.load(Ordering::SeqCst);
-        let is_next = put < UNITS && parked.taken.load(Ordering::SeqCst) == put;
-        if is_next {
-            parked.put.store(put + 1, Ordering::SeqCst);
+    /// Puts a unit down for the first task that has taken all that it was given before, and gives the task.
+    fn puts_down(&self) -> Option<TaskId> {
+        for (number, parked) in self.tasks.iter().enumerate() {
+            if parked.puts_down() {
+                return TaskId::new(number as u64);
+            }
         }
-        is_next
+        None
     }
 
     /// Takes all that was put down for a task, and counts it.
@@ -148,31 +173,51 @@ impl Parking {
             let before = parked.taken.swap(put, Ordering::SeqCst);
             if before < put {
                 self.taken.fetch_add(put - before, Ordering::SeqCst);
-                self.turns.store(0, Ordering::SeqCst);
             }
         }
     }
 }
 
+impl Parked {
+    /// Puts a unit down where all were taken that were put down before, and says whether it did. Of several CPUs one does.
+    fn puts_down(&self) -> bool {
+        let put = self.put.load(Ordering::SeqCst);
+        put < UNITS
+            && self.taken.load(Ordering::SeqCst) == put
+            && self
+                .put
+                .compare_exchange(put, put + 1, Ordering::SeqCst, Ordering::SeqCst)
+                .is_ok()
+    }
+}
+
 impl<'a, N: Names, R: Wait> Running<'a, Parking, N, R> {
-    /// Leaves a token for the next of the drained wakes, where it wasn't answered `Woken`; or drains, where no wake is left.
-    fn settle_next(&self, seat: &mut Seat<N>, wakes: &mut Vec<DrainedWake>)
+    /// Leaves a token for the next of the drained wakes, where it wasn't answered `Woken`; or drains, where no wake is left. Says whether
+    /// there was a wake.
+    fn settle_next(&self, seat: &mut Seat<N>, wakes: &mut Vec<DrainedWake>) -> bool
         ensures { seat.new.cpu ≡ seat.old.cpu }
     {
         match wakes.pop() {
-            Some(wake) if wake.answer != Answer::Woken => self.leave_token(seat, wake.task),
-            Some(_) => (),
+            Some(wake) => {
+                if wake.answer != Answer::Woken {
+                    self.leave_token(seat, wake.task);
+                }
+                true
+            }
             None => self.drain(seat, wakes),
         }
     }
 
-    /// Takes the requests that were posted to the CPU, and lists the wakes.
-    fn drain(&self, seat: &mut Seat<N>, wakes: &mut Vec<DrainedWake>)
+    /// Takes the requests that were posted to the CPU, and lists the wakes. Says whether there were any.
+    fn drain(&self, seat: &mut Seat<N>, wakes: &mut Vec<DrainedWake>) -> bool
         ensures { seat.new.cpu ≡ seat.old.cpu }
     {
         wakes.clear();
         if self.fleet.cpus() <= wakes.capacity() {
-            let _ = self.fleet.drain_into(self.rt, seat, wakes);
+            let listed = self.fleet.drain_into(self.rt, seat, wakes);
+            listed.drained.taken > 0
+        } else {
+            false
         }
     }
 
@@ -220,65 +265,72 @@ impl<'a, N: Names, R: Wait> Running<'a, Parking, N, R> {
         }
     }
 
-    /// Puts a unit of work down for a task, where that has taken all that it was given before, and unparks the task. So each unpark
-    /// counts: without it the task would sleep for good. Each task is given its units by one CPU.
-    fn put_unit_down(&self, seat: &mut Seat<N>, number: u64)
+    /// Puts a unit of work down for a task, where one has taken all that it was given before, and unparks it. So each unpark counts:
+    /// without it the task would sleep for good. Says whether there was such a task.
+    fn put_unit_down(&self, seat: &mut Seat<N>) -> bool
         ensures { seat.new.cpu ≡ seat.old.cpu }
     {
-        if let Some(task) = TaskId::new(number)
-            && self.work.puts_down(task)
-        {
-            self.unpark(seat, task);
+        match self.work.puts_down() {
+            Some(task) => {
+                self.unpark(seat, task);
+                true
+            }
+            None => false,
         }
     }
 
-    /// Lets the task that works go on, and park in the end. Where none does, the next one takes what was put down for it.
-    fn work_on(&self, seat: &mut Seat<N>, own: &mut OnCpu)
+    /// Lets the task that works go on, and park in the end. Where none does, the next one takes what was put down for it. Says whether
+    /// there is one.
+    fn work_on(&self, seat: &mut Seat<N>, own: &mut OnCpu) -> bool
         ensures { seat.new.cpu ≡ seat.old.cpu }
     {
         match own.worker {
             None => {
                 own.worker = self.start_next(seat);
                 own.turns_left = 3;
+                own.worker.is_some()
             }
-            Some(_) if own.turns_left > 0 => own.turns_left -= 1,
+            Some(_) if own.turns_left > 0 => {
+                own.turns_left -= 1;
+                true
+            }
             Some(task) => {
                 own.worker = None;
                 let _ = self.fleet.tick(self.rt, seat, Ns::new(1_000).unwrap());
                 self.park(seat, task);
+                true
             }
         }
     }
 
-    /// Picks a task, which takes what was put down for it. Where none is runnable one is pulled.
+    /// Picks a task, one that is pulled where none is here, and this takes what was put down for it.
     fn start_next(&self, seat: &mut Seat<N>) -> Option<TaskId>
         ensures { seat.new.cpu ≡ seat.old.cpu }
     {
-        let Answer::Picked(task) = self.fleet.pick(self.rt, seat) else {
-            let turns = self.work.turns.load(Ordering::SeqCst);
-            pull_from(self.rt, self.fleet, seat, CpuId::new(turns % 4));
-            return None;
-        };
+        let task = pick_or_pull(self.rt, self.fleet, seat)?;
         self.work.take_units(task);
         Some(task)
     }
 }
 
-/// How many units of work were taken, of how many, when four CPUs had their turns until all were, each by a thread of its own.
+/// How many units of work were taken, of how many, when four CPUs had their turns until all were or nothing could happen any more, each by
+/// a thread of its own.
 pub fn units_taken<R: Threads + Wait + Sync>(
     rt: &R,
     alloc: Global,
     setup: &Setup,
 ) -> Result<(u64, u64), RunFault> {
     let kit = Kit::make(alloc, setup, (TASKS * UNITS) as usize)?;
-    let line = StartLine::new(alloc, 4, Parking::new(alloc, 4)?)?;
-    let _ = run_turns(rt, alloc, kit, &line)?;
-    Ok((line.work.taken.load(Ordering::SeqCst), TASKS * UNITS))
+    let turns = Turns {
+        work: Parking::new(alloc, CPUS)?,
+    };
+    let _ = run_turns(rt, alloc, kit, &turns)?;
+    Ok((turns.work.taken.load(Ordering::SeqCst), TASKS * UNITS))
 }
 
 /// Four CPUs, of which the first two have four sleeping tasks each and the others none.
 pub fn four_cpus(alloc: Global) -> Result<Setup, SetupFault> {
-    let programs = empty_programs(alloc, 4)?;
+    let programs = empty_programs(alloc, CPUS)?;
     let tasks = sleepers(alloc)?;
     Setup::make(alloc, &tasks, &programs)
 }

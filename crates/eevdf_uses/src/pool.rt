@@ -4,7 +4,7 @@
 //! A task that comes takes a number that sleeps at its home, from the home's part of the free numbers (`FreePart`). Whoever ends it gives
 //! the number back, through the part of the CPU that it ended on. Requests come to every other CPU. Where none of a CPU's numbers can
 //! begin, it hands the request to the next one. A task that falls asleep is given another level by its home, and is then there for others
-//! to wake. A CPU with nothing to run pulls from the most loaded of those with a second task, and each rebases at the end of its day.
+//! to wake. A CPU with nothing to run looks for work on the others and picks next, and each rebases at the end of its day.
 //!
 //! Wakes come twice, and once more when their task has ended or another one has its number. So a number may wake though no task has it. The
 //! threads begin, drain, pick and end by `LiveTasks`, which ends such a number before anybody is handed it.
@@ -19,10 +19,9 @@ mod lives;
 mod pool_cpu;
 mod task_list;
 
-use crate::idle_pulls::pull_from_most_loaded;
 use crate::pool::lives::{Lives, Next};
-use crate::pool::pool_cpu::{OnCpu, PoolCpu, home_index, next_index};
-use crate::start_line::{Running, Work, let_others_run};
+use crate::pool::pool_cpu::{OnCpu, PoolCpu, home_index};
+use crate::shared_work::{Running, Work, let_others_run};
 pub use counts::{PoolCount, four_pool_cpus, served};
 use eevdf_fleet::Names;
 use eevdf_fleet::endless::Seat;
@@ -32,6 +31,7 @@ use eevdf_queue::TaskId;
 use eevdf_weight::{Nice, Ns, Slice};
 use std::sync::atomic::{AtomicU64, Ordering};
 use std::sync::{Mutex, Wait};
+use std::thread;
 
 /// At most so many requests that were handed to a CPU wait there.
 const MOST_HANDED: u64 = 32;
@@ -41,13 +41,13 @@ const STEP: u64 = 1_000_000;
 
 const SECONDS_A_DAY: u64 = 86_400;
 
-/// After so many turns in a row in which no request has come to any CPU, a CPU gives up.
-const MOST_QUIET_TURNS: u64 = 1_000_000;
-
 /// What the threads share.
 #[derive(Drop)]
 struct Pool {
     cpus: Vec<PoolCpu>,
+    /// How many CPUs have come, each after those of lower numbers. One hands its requests to the next of these, and wakes the tasks of its
+    /// home, and so none waits for one that may never come.
+    come: AtomicU64,
     live: LiveTasks,
     lives: Lives,
 }
@@ -64,13 +64,17 @@ impl Work for Pool {
         seat: &mut Seat<N>,
         own: &mut OnCpu,
     ) -> bool {
+        if !running.work.has_come(seat.cpu()) {
+            thread::yield_now();
+            return true;
+        }
         running.pass_time(seat, own);
         running.drain(seat, own);
         running.accept(seat, own);
         running.accept(seat, own);
         running.set_fallen(seat);
         running.run_next(seat, own);
-        !running.work.lives.have_all_come() && own.quiet_turns <= MOST_QUIET_TURNS
+        !running.work.lives.have_all_come()
     }
 }
 
@@ -84,9 +88,28 @@ impl Pool {
         was_handed || cpu.get() % 2 == 0
     }
 
+    /// Whether a CPU has come. It comes by this where all of lower numbers have.
+    fn has_come(&self, cpu: CpuId) -> bool {
+        let come = self.come.load(Ordering::SeqCst);
+        if cpu.get() == come {
+            self.come.fetch_add(1, Ordering::SeqCst);
+        }
+        cpu.get() <= come
+    }
+
+    /// The next of the CPUs that have come.
+    fn next(&self, cpu: CpuId) -> Option<&PoolCpu> {
+        let next = cpu.get() + 1;
+        if next < self.come.load(Ordering::SeqCst) {
+            self.cpus.get(next as usize)
+        } else {
+            self.cpus.get(0)
+        }
+    }
+
     /// Hands a request to the next CPU. Where too many wait there, it is turned away.
     fn hand_on(&self, cpu: CpuId) {
-        if let Some(next) = self.cpus.get(next_index(cpu))
+        if let Some(next) = self.next(cpu)
             && next.handed.load(Ordering::SeqCst) < MOST_HANDED
         {
             next.handed.fetch_add(1, Ordering::SeqCst);
@@ -100,7 +123,6 @@ impl<'a, N: Names, R: Wait> Running<'a, Pool, N, R> {
         ensures { seat.new.cpu ≡ seat.old.cpu }
     {
         own.turns = own.turns.saturating_add(1);
-        own.look_for_requests(self.work.lives.requests());
         if own.turns % SECONDS_A_DAY == 0 {
             let _ = self.fleet.rebase(self.rt, seat);
         }
@@ -184,15 +206,27 @@ impl<'a, N: Names, R: Wait> Running<'a, Pool, N, R> {
         cpu.waiting.add(rt, task);
     }
 
-    /// Wakes a task, and lets the next one run for a step. Where there is none, the CPU pulls one for the next turn.
+    /// Wakes a task, and lets the next one run for a step.
     fn run_next(&self, seat: &mut Seat<N>, own: &mut OnCpu)
         ensures { seat.new.cpu ≡ seat.old.cpu }
     {
         self.wake_other(seat, own);
-        match self.work.live.pick(self.rt, self.fleet, seat) {
-            Some(task) => self.step(seat, own, task),
-            None => pull_from_most_loaded(self.rt, self.fleet, seat),
+        if let Some(task) = self.pick_or_pull(seat) {
+            self.step(seat, own, task);
         }
+    }
+
+    /// Picks a task, and where there is none pulls one and picks it. A drain or a begin in between could let another one run, and the
+    /// pulled task be pulled away before it has had a turn.
+    fn pick_or_pull(&self, seat: &mut Seat<N>) -> Option<TaskId>
+        ensures { seat.new.cpu ≡ seat.old.cpu }
+    {
+        let live = &self.work.live;
+        if let Some(task) = live.pick(self.rt, self.fleet, seat) {
+            return Some(task);
+        }
+        let _found = self.fleet.find_work(self.rt, seat)?;
+        live.pick(self.rt, self.fleet, seat)
     }
 
     /// Asks to wake a task whose home is the next CPU, if one waits for it: twice, and then asks once more for one that it has woken some
@@ -200,7 +234,7 @@ impl<'a, N: Names, R: Wait> Running<'a, Pool, N, R> {
     fn wake_other(&self, seat: &mut Seat<N>, own: &mut OnCpu)
         ensures { seat.new.cpu ≡ seat.old.cpu }
     {
-        let Some(next) = self.work.cpus.get(next_index(seat.cpu())) else {
+        let Some(next) = self.work.next(seat.cpu()) else {
             return;
         };
         let Some(task) = next.waiting.take(self.rt) else {

@@ -4,7 +4,7 @@ use crate::machines::{empty_programs, task_at};
 use crate::pool::Pool;
 use crate::pool::lives::{Lives, REQUESTS};
 use crate::pool::pool_cpu::{CPUS, NUMBERS, PoolCpu};
-use crate::start_line::StartLine;
+use crate::shared_work::Turns;
 use eevdf_fleet::RunFault;
 use eevdf_fleet::endless::{Closed, Kit, run_turns};
 use eevdf_free_tasks::free_parts;
@@ -13,6 +13,7 @@ use eevdf_ops::{CpuId, Setup, SetupFault, TaskSpec};
 use eevdf_queue::{Queue, TaskId};
 use std::alloc::{AllocError, Global};
 use std::sync::Wait;
+use std::sync::atomic::AtomicU64;
 use std::thread::Threads;
 
 /// What is found of the tasks that came, and of the numbers.
@@ -37,10 +38,12 @@ pub fn served<R: Threads + Wait + Sync>(
     setup: &Setup,
 ) -> Result<PoolCount, RunFault> {
     let kit = Kit::make(alloc, setup, NUMBERS)?;
-    let line = StartLine::new(alloc, CPUS, open_pool(alloc, setup)?)?;
-    let closed = run_turns(rt, alloc, kit, &line)?;
-    let free = free_numbers(rt, alloc, &line.work)?;
-    Ok(count(&line.work, &closed, &free))
+    let turns = Turns {
+        work: open_pool(alloc, setup)?,
+    };
+    let closed = run_turns(rt, alloc, kit, &turns)?;
+    let free = free_numbers(rt, alloc, &turns.work)?;
+    Ok(count(&turns.work, &closed, &free))
 }
 
 fn open_pool(alloc: Global, setup: &Setup) -> Result<Pool, AllocError> {
@@ -52,6 +55,7 @@ fn open_pool(alloc: Global, setup: &Setup) -> Result<Pool, AllocError> {
     }
     Ok(Pool {
         cpus,
+        come: AtomicU64::new(0),
         live,
         lives: Lives::new(alloc, NUMBERS)?,
     })

@@ -1,7 +1,6 @@
 use crate::pool::task_list::TaskList;
 use eevdf_fleet::DrainedWake;
 use eevdf_free_tasks::FreePart;
-use eevdf_ops::CpuId;
 use eevdf_queue::TaskId;
 use std::alloc::{AllocError, Global};
 use std::collections::VecDeque;
@@ -44,21 +43,6 @@ pub struct OnCpu {
     woken: VecDeque<TaskId>,
     /// How many turns it has had, which are the seconds on its clock.
     pub turns: u64,
-    /// How many requests it has seen come to all CPUs, and how many turns it has had since the last of them.
-    requests: u64,
-    pub quiet_turns: u64,
-}
-
-impl OnCpu {
-    /// Sees that so many requests have come to all CPUs.
-    pub fn look_for_requests(&mut self, requests: u64) {
-        if requests == self.requests {
-            self.quiet_turns = self.quiet_turns.saturating_add(1);
-        } else {
-            self.requests = requests;
-            self.quiet_turns = 0;
-        }
-    }
 }
 
 impl OnCpu {
@@ -88,16 +72,9 @@ impl PoolCpu {
                 wakes: Vec::with_capacity(alloc, CPUS)?,
                 woken: VecDeque::with_capacity(alloc, WAKES_REMEMBERED)?,
                 turns: 0,
-                requests: 0,
-                quiet_turns: 0,
             }),
         })
     }
-}
-
-/// The place of the CPU after this one.
-pub fn next_index(cpu: CpuId) -> usize {
-    (cpu.index() + 1) % CPUS
 }
 
 /// The place of a task's home.
