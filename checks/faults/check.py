@@ -68,13 +68,16 @@ def check_unread(checks, programs):
 
 
 def check_refused(checks, programs):
-    """Deeds that are refused are told, and all else is as it is."""
+    """Deeds that are refused are told, and all else is as it is, but under `--strict`."""
     eevdf = programs.path("eevdf")
     for case in OF_SCRIPTS:
         for words in ([], ["--history"]):
             report = run([eevdf, "solo", *words], case.text)
             is_report = (report.status, report.errors) == (0, case.said.encode()) and report.out.startswith(b"cpu 0\n")
             checks.expect(f"eevdf solo {words}: {case.name}", report, is_report)
+            fault = Printed(f"fault: refused deed at script at {case.first}\n".encode(), 1, case.said.encode())
+            strict = run([eevdf, "solo", "--strict", *words], case.text)
+            look(checks, f"eevdf solo --strict {words}: {case.name}", strict, report if case.first is None else fault)
         drawn = run([programs.path("eevdf_timeline"), "--stats"], case.text)
         checks.expect(f"eevdf_timeline: {case.name}", drawn, (drawn.status, drawn.errors) == (0, case.said.encode()))
 
@@ -101,7 +104,7 @@ def check_files(checks, programs, folder):
     file = Path(folder) / "workload.toml"
     file.write_bytes(TEXT)
     for program, command, words in (("eevdf", ["solo"], []), ("eevdf", ["solo"], ["--history"]),
-                                    ("eevdf_orders", [], []), ("eevdf_orders", [], ["--seed", "7"]), ("eevdf_timeline", [], []),
+                                    ("eevdf", ["solo"], ["--strict"]), ("eevdf_orders", [], []), ("eevdf_orders", [], ["--seed", "7"]), ("eevdf_timeline", [], []),
                                     ("eevdf_timeline", [], ["--stats"]), ("eevdf_timeline", [], ["--cpu", "0", "--perfetto"])):
         given = run([programs.path(program), *command, *words], TEXT)
         for name, data in ((str(file), b""), ("-", TEXT)):

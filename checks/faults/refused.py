@@ -1,5 +1,5 @@
 """Workloads with deeds that are refused, and with parts that a command doesn't do: what is said of them on standard error. What is printed
-and the status are as without."""
+and the status are as without, but under `--strict`, where the first deed that is refused is a fault."""
 
 from dataclasses import dataclass
 
@@ -17,12 +17,15 @@ class Refused:
     name: str
     text: bytes
     said: str
+    # the place in the script of the first of them
+    first: int | None = 0
 
 
 def refused(name, script, *lines, more=""):
     """A script whose marked deeds are refused, each with its line; and what is said of more of them."""
     text = f"{TOP}script = [{script}]\n{TASKS}"
-    return Refused(name, unmarked(text).encode(), said_of_each(text, lines) + more)
+    first = script.split(BEGIN)[0].count('",') if lines else None
+    return Refused(name, unmarked(text).encode(), said_of_each(text, lines) + more, first)
 
 
 def many(count):
@@ -53,7 +56,7 @@ MORE = (
 
 # Beyond so many bytes a workload isn't read again: the place in the script stands for that in the text.
 LONG = f'{TOP}script = ["0 pick", "0 sleep 1"] # {"-" * 2**16}\n{TASKS}'
-OF_LONG = Refused("a deed of a long text", LONG.encode(), "script at 1: 0 sleep 1: not running\n")
+OF_LONG = Refused("a deed of a long text", LONG.encode(), "script at 1: 0 sleep 1: not running\n", 1)
 
 
 def near_the_bound():
@@ -62,7 +65,7 @@ def near_the_bound():
     script = f'"0 pick", {BEGIN}"0 tick 1000000000"{END}'
     lines = ["0 tick 1000000000: range"]
     text = f'version = 1\nprogram = [[]]\nscript = [{script}]\n[[task]]\nstart = {start}\n'
-    return Refused("a tick out of range", unmarked(text).encode(), said_of_each(text, lines))
+    return Refused("a tick out of range", unmarked(text).encode(), said_of_each(text, lines), 1)
 
 
 OF_SCRIPTS = (*REFUSED, *MORE, OF_LONG, near_the_bound())

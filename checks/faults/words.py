@@ -3,13 +3,14 @@
 from marked import Case
 
 USAGE = {
-    "eevdf": "usage: eevdf solo|replay|run [--history] [FILE]\n",
+    "eevdf": "usage: eevdf solo|replay|run [--history] [--strict] [FILE]\n",
     "eevdf_orders": "usage: eevdf_orders [--seed N] [FILE]\n",
     "eevdf_timeline": "usage: eevdf_timeline [--replay|--run] [--perfetto|--stats [--json]] [--from NS] [--to NS] [--cpu N,..] [--task N,..]"
                       " [FILE]\n",
 }
 COMMANDS = "commands are solo, replay, run\n"
-BEHIND = "behind a command stand --history and the name of a file\n"
+BEHIND = "behind a command stand --history, of solo --strict, and the name of a file\n"
+STRICT = "--strict stands once, behind solo\n"
 NO_SEED = "--seed takes a whole number below 2^64, and"
 NOT_THERE = "no-such-folder/workload.toml"
 TEXT = b'version = 1\nprogram = [[]]\nscript = ["0 pick"]\n[[task]]\n'
@@ -31,6 +32,11 @@ WORDS = (
     words("eevdf", "solo --history a - b", 'one file is read, "a", and "-" is another\n'),
     words("eevdf", f"solo {NOT_THERE} --histories", f'unknown word "--histories"; {BEHIND}'),
     words("eevdf", "solo --history --history", "--history stands once\n"),
+    words("eevdf", "solo --strict --history --strict", STRICT),
+    words("eevdf", "replay --strict", STRICT),
+    words("eevdf", "run --strict --history", STRICT),
+    words("eevdf", "solo --strict=1", f'unknown word "--strict=1"; {BEHIND}'),
+    words("eevdf", "--strict solo", f'unknown command "--strict"; {COMMANDS}'),
     words("eevdf", f"solo {NOT_THERE} --history", f"{NOT_THERE}: No such file or directory (os error 2)\n"),
     words("eevdf", "solo no\x1b[31mfile", "no\\u{1b}[31mfile: No such file or directory (os error 2)\n"),
     words("eevdf", f"solo {NOT_THERE}", f"{NOT_THERE}: No such file or directory (os error 2)\n"),

@@ -12,6 +12,7 @@ from sweep import first_of, sweep
 CASES = [
     ("eevdf", ["solo"], "two-tasks"),
     ("eevdf", ["solo", "--history"], "two-tasks"),
+    ("eevdf", ["solo", "--strict"], "two-tasks"),
     ("eevdf", ["replay"], "two-tasks"),
     ("eevdf", ["run"], "two-tasks"),
     ("eevdf", ["solo"], "posts"),

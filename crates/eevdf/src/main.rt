@@ -4,14 +4,18 @@
 #![tactic(auto)]
 
 mod help;
+mod no_report;
 mod words;
 
+ghost use Rattle.std.specs.Prelude.{◌≡◌, false};
+
 use crate::help::{HELP, USAGE};
+use crate::no_report::NoReport;
 use crate::words::{Asked, unknown_word, words_of};
 use eevdf_bench::{
     BenchFault, NO_MEMORY, ProgramTexts, Reasoned, Watched, WorkloadText, engine_with_input,
-    fault_explanation, fault_text, named_file, print, status_of, tell, tell_notes, tell_reason,
-    tell_text, undone_text,
+    fault_explanation, named_file, print, tell, tell_notes, tell_reason, tell_refused_deeds,
+    tell_text, undone_text, write_text,
 };
 use std::alloc::Global;
 use std::fs::Files;
@@ -66,15 +70,13 @@ fn run<R: Print + Threads + Wait + Sync, W: Read + Drop>(
     workload: W,
 ) -> u8 {
     let mut reader = Watched::new(Reasoned::new(workload));
-    let mut writer = Watched::new(io::writer(rt));
     let mut input = WorkloadText::new(alloc);
-    let command = asked.command;
-    let done = engine_with_input(rt, alloc, &mut reader, &mut writer, command, &mut input);
+    let done = print_report(rt, alloc, asked, &mut reader, &mut input);
     let file = named_file(&asked.file);
     match done {
         Ok(()) => {
             tell_notes(errors, alloc, file, &input);
-            if let Some(undone) = undone_text(command.kind, input.notes.parts) {
+            if let Some(undone) = undone_text(asked.command.kind, input.notes.parts) {
                 tell(errors, undone.as_bytes());
             }
             0
@@ -86,6 +88,36 @@ fn run<R: Print + Threads + Wait + Sync, W: Read + Drop>(
     }
 }
 
+/// Runs the command and prints its report. Where it is strict, the report is kept until it is known that no deed was refused.
+fn print_report<R: Print + Threads + Wait + Sync, W: Read>(
+    rt: &R,
+    alloc: Global,
+    asked: &Asked,
+    reader: &mut Watched<W>,
+    input: &mut WorkloadText,
+) -> Result<(), NoReport>
+    requires { reader.old.failed ≡ false }
+{
+    let mut writer = Watched::new(io::writer(rt));
+    let command = asked.command;
+    if !asked.strict {
+        engine_with_input(rt, alloc, reader, &mut writer, command, input)?;
+        return Ok(());
+    }
+    let mut report = Watched::new(Vec::new(alloc));
+    match engine_with_input(rt, alloc, reader, &mut report, command, input) {
+        Ok(()) => {}
+        // a list of bytes fails where there is no memory for more
+        Err(BenchFault::Write) => return Err(NoReport::Fault(BenchFault::Memory)),
+        Err(fault) => return Err(NoReport::Fault(fault)),
+    }
+    if let Some(deed) = input.notes.refused.first {
+        return Err(NoReport::Refused(deed));
+    }
+    write_text(&mut writer, report.into_inner().as_slice())?;
+    Ok(())
+}
+
 /// Prints the line of a fault, and on standard error where it stands in the workload, or why that can't be read. Where standard output takes
 /// no line, standard error has it, but for a pipe that nobody reads any more.
 fn print_fault(
@@ -94,19 +126,20 @@ fn print_fault(
     alloc: Global,
     file: Option<&str>,
     input: &WorkloadText,
-    fault: &BenchFault,
+    fault: &NoReport,
     reason: Option<io::Error>,
 ) -> u8 {
-    let Ok(line) = fault_text(alloc, fault) else {
+    let Ok(line) = fault.line(alloc) else {
         return print(rt, NO_MEMORY, 3);
     };
     match (io::writer(rt).write_all(&line), fault) {
         (Err(error), _) if error.kind() == ErrorKind::BrokenPipe => {}
-        (Err(_), _) | (Ok(()), BenchFault::Write) => tell(errors, &line),
-        (Ok(()), BenchFault::Read) => tell_reason(errors, alloc, file, reason),
-        (Ok(()), _) => {
+        (Err(_), _) | (Ok(()), NoReport::Fault(BenchFault::Write)) => tell(errors, &line),
+        (Ok(()), NoReport::Fault(BenchFault::Read)) => tell_reason(errors, alloc, file, reason),
+        (Ok(()), NoReport::Fault(fault)) => {
             tell_text(errors, fault_explanation(alloc, file, &input.bytes, fault));
         }
+        (Ok(()), NoReport::Refused(_)) => tell_refused_deeds(errors, alloc, file, input),
     }
-    status_of(fault)
+    fault.status()
 }

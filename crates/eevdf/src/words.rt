@@ -1,6 +1,6 @@
 //! What the program's words ask for.
 
-use eevdf_bench::{Command, WordFault, command_of, may_name_file, take_file, told_word};
+use eevdf_bench::{Command, WordFault, command_of, may_name_file, take_file, take_flag, told_word};
 use std::alloc::Global;
 
 /// The words for commands, which come first, and those that may come behind.
@@ -8,10 +8,14 @@ const COMMANDS: [&str; 3] = ["solo", "replay", "run"];
 
 const HISTORY: &str = "--history";
 
+const STRICT: &str = "--strict";
+
 /// What is asked for.
 #[derive(Drop)]
 pub(crate) struct Asked {
     pub(crate) command: Command,
+    /// Whether a deed of the script that is refused is a fault.
+    pub(crate) strict: bool,
     /// The word for the file, which may be `-`.
     pub(crate) file: Option<String>,
 }
@@ -23,13 +27,26 @@ pub(crate) struct Refused {
     file: Option<String>,
 }
 
-/// Reads the program's words, of which the first is the program's name, the second a command; a flag and the name of a file may come behind in
-/// any order. The name is taken out of them.
+/// Reads the program's words, of which the first is the program's name, the second a command; flags and the name of a file may come behind in
+/// any order. The name is taken out of them, and so is `--strict` behind `solo`.
 pub(crate) fn words_of(alloc: Global, words: &mut Vec<String>) -> Result<Asked, Refused> {
     let file = take_file(words, 2, &[]);
+    let strict = is_solo(words) && take_flag(words, 2, STRICT);
     match command_of(alloc, words.as_slice()) {
-        Ok(command) => Ok(Asked { command, file }),
+        Ok(command) => Ok(Asked {
+            command,
+            strict,
+            file,
+        }),
         Err(fault) => Err(Refused { fault, file }),
+    }
+}
+
+/// Whether the words ask for `solo`.
+fn is_solo(words: &[String]) -> bool {
+    match words.get(1) {
+        Some(word) => word.as_str() == "solo",
+        None => false,
     }
 }
 
@@ -46,6 +63,9 @@ pub(crate) fn unknown_word(alloc: Global, words: &[String], refused: &Refused) -
     }
     for at in 2..words.len() {
         let word = words[at].as_str();
+        if word == STRICT {
+            return "--strict stands once, behind solo\n".to_string(alloc).ok();
+        }
         if word != HISTORY {
             return unknown_behind(alloc, word, &refused.file);
         }
@@ -63,7 +83,7 @@ fn unknown_behind(alloc: Global, word: &str, file: &Option<String>) -> Option<St
         }
         _ => {
             format!(in alloc;
-                "unknown word {told}; behind a command stand --history and the name of a file\n"
+                "unknown word {told}; behind a command stand --history, of solo --strict, and the name of a file\n"
             ).ok()
         }
     }

@@ -13,6 +13,8 @@ use Rattle.eevdf_bench.specs.declared.workbench_fault.BenchFault.TheVariants as 
 use Rattle.eevdf_workload.specs.Meaning.{Workload, meaning, read_limit, allowed, allowed_from}
 use Rattle.eevdf_steps.specs.declared.play_fault.PlayFault.{PlayFault}
 use Rattle.eevdf_bench.specs.Runs.{TextOrFault, Answers, Begins, IsAnswer, IsAnswerOf, IsAnswerTo, IsInside, Makes, Refuses, Writes}
+use Rattle.eevdf_bench.specs.RefusedDeeds.{refused_of, refused_of_read, refused_of_text}
+use Rattle.eevdf_bench.specs.declared.refused_deeds.RefusedDeed.{RefusedDeed}
 use Rattle.eevdf_bench.specs.Reports.{IsReport, IsReportOf, WritesReport}
 use Rattle.eevdf_workload.proofs.InputLimit.{meaning_cut}
 
@@ -127,3 +129,13 @@ results_differ f g differs is = differs cc
 pub any_input : (left : Option (List ℕ)) → IfSome left (λ _. Unit {0})
 any_input None = tt
 any_input (Some _) = tt
+
+-- the first deed that was refused of a workload that is read is that of its bytes
+pub noted : (bytes : List ℕ) (w : Workload) (first : Option RefusedDeed) → meaning bytes ≡ Ok w → first ≡ refused_of w → first ≡ refused_of_text bytes
+noted bytes w first e f = f ∙ sym (ap refused_of_read e)
+
+-- and of the whole from which the bytes are cut, where it is told
+pub noted_of_input : {Told : Type 0} (left : Option (List ℕ)) (input bytes : List ℕ) (first : Option RefusedDeed) → IfSome left (λ all. input ≡ take read_limit all) → bytes ≡ input
+    → (Told → first ≡ refused_of_text bytes) → Told → IfSome left (λ all. first ≡ refused_of_text all)
+noted_of_input left input bytes first cut b f told =
+    IfSome_then left cut (λ all cut. f told ∙ ap refused_of_text (b ∙ cut) ∙ ap refused_of_read (meaning_cut all))

@@ -37,9 +37,10 @@ pub use fleet_run::run_text;
 pub use parts::Parts;
 pub use piped::Piped;
 pub use program_ends::{
-    NO_MEMORY, NO_WRITE, ProgramTexts, VERSION, print, tell, tell_notes, tell_reason, tell_text,
+    NO_MEMORY, NO_WRITE, ProgramTexts, VERSION, print, tell, tell_notes, tell_reason,
+    tell_refused_deeds, tell_text,
 };
-pub use program_words::{asks_for, is_flag, may_name_file, named_file, take_file};
+pub use program_words::{asks_for, is_flag, may_name_file, named_file, take_file, take_flag};
 pub use reasoned::Reasoned;
 pub use refused_deeds::{RefusedDeed, RefusedDeeds, is_refused};
 pub use replay_run::replay_text;

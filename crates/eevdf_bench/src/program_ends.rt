@@ -133,7 +133,7 @@ pub fn tell_notes(errors: &impl Print, alloc: Global, file: Option<&str>, input:
 }
 
 /// Says which deeds of the workload's script were refused.
-fn tell_refused_deeds(
+pub fn tell_refused_deeds(
     errors: &impl Print,
     alloc: Global,
     file: Option<&str>,

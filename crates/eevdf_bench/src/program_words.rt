@@ -43,6 +43,28 @@ pub fn take_file(words: &mut Vec<String>, from: usize, with_value: &[&str]) -> O
     Some(words.remove(at))
 }
 
+/// Takes a flag out of a program's words, from a place on, and says whether it was there. Where it stands twice, the second stays.
+pub fn take_flag(words: &mut Vec<String>, from: usize, flag: &str) -> bool {
+    match flag_at(words, from, flag) {
+        Some(at) => {
+            let _ = words.remove(at);
+            true
+        }
+        None => false,
+    }
+}
+
+fn flag_at(words: &[String], from: usize, flag: &str) -> Option<usize>
+    ensures { IfSome result (λ at. at < length words.now) }
+{
+    for at in from..words.len() {
+        if words[at].as_str() == flag {
+            return Some(at);
+        }
+    }
+    None
+}
+
 /// The name of the file that a workload is read from, or `None` of standard input.
 pub fn named_file(word: &Option<String>) -> Option<&str> {
     match word {

@@ -41,40 +41,49 @@ impl RefusedDeeds {
         }
     }
 
-    /// Of the script whose deeds, with their answers, are these lines. How many are told and counted follows from no clause.
+    /// Of the script whose deeds, with their answers, are these lines. Which of them are told follows from no clause.
     pub fn of(alloc: Global, lines: &[Line]) -> Self
-        ensures { result.first ≡ spec.first_refused 0 lines.now }
+        ensures first { result.first ≡ spec.first_refused 0 lines.now }
+        ensures count { result.count ≡ spec.refused_among lines.now }
     {
-        let Some(first) = first_refused(lines) else {
-            return RefusedDeeds::none(alloc);
-        };
-        let mut told = Vec::new(alloc);
-        let count = tell_from(lines, first.at, &mut told);
+        let told = told_of(alloc, lines);
         RefusedDeeds {
-            first: Some(first),
+            first: first_refused(lines),
             told,
-            count,
+            count: refused_among(lines),
         }
     }
 }
 
-/// How many of these lines from a place on are refused; the first ten are told, as far as there is memory.
-fn tell_from(lines: &[Line], from: usize, told: &mut Vec<RefusedDeed>) -> usize {
-    let mut count = 0usize;
-    for at in from..lines.len() {
+/// The first ten of these lines that are refused, as far as there is memory.
+fn told_of(alloc: Global, lines: &[Line]) -> Vec<RefusedDeed> {
+    let mut told = Vec::new(alloc);
+    for at in 0..lines.len() {
         let line = lines[at];
-        if is_refused(&line) {
-            if count < MOST_TOLD {
-                let _ = told.push(RefusedDeed { at, line });
-            }
-            count = count.saturating_add(1);
+        if told.len() < MOST_TOLD && is_refused(&line) {
+            let _ = told.push(RefusedDeed { at, line });
         }
+    }
+    told
+}
+
+/// How many of these lines are refused.
+fn refused_among(lines: &[Line]) -> usize
+    ensures { result ≡ spec.refused_among lines.now }
+{
+    let mut count = 0;
+    let mut left = lines;
+    'lines: while let [line, after @ ..] = left {
+        if is_refused(line) {
+            count += 1;
+        }
+        left = after;
     }
     count
 }
 
 /// Whether a deed was refused: it changed nothing, since the machine wasn't as the deed takes it to be. A pick that finds nothing, the tick of
-/// idle time, and a pull that takes no task are none.
+/// idle time, and a pull that is `Nothing` or `Balanced` are none.
 pub fn is_refused(line: &Line) -> bool
     ensures { result ≡ spec.is_refused line.now }
 {

@@ -1,6 +1,7 @@
 //! From the bytes of a workload to the bytes of its report.
 
 ghost use Rattle.std.specs.Prelude.{◌≡◌, ◌≢◌, true, false, IfOk, IfErr, IfSome, OnOk, Err, take};
+ghost use Rattle.eevdf_bench.specs.RefusedDeeds.{refused_of, refused_of_text};
 ghost use Rattle.eevdf_bench.specs.Reports.{IsReport, IsReportOf, WritesReport};
 ghost use Rattle.eevdf_bench.specs.Runs.{Answers, Begins, IsAnswer, IsAnswerOf, Refuses, Writes};
 ghost use Rattle.eevdf_bench.specs.Streams.{ReadsTo, ReadsWithin};
@@ -69,8 +70,8 @@ pub fn engine<T: Threads + Wait + Sync, R: Read, W: Write>(
     engine_with_input(rt, alloc, reader, writer, command, &mut input)
 }
 
-/// As `engine`, and leaves in `input` the bytes that it has read. After `Read` and `Memory` they may be others. Where the workload isn't
-/// refused, `input` also has what is told of it beside the report, which follows from no clause.
+/// As `engine`, and leaves in `input` the bytes that it has read. After `Read` and `Memory` they may be others. Where the report is
+/// written, `input` also has what is told beside it: of a script the first deed that was refused; the rest follows from no clause.
 pub fn engine_with_input<T: Threads + Wait + Sync, R: Read, W: Write>(
     rt: &T,
     alloc: Global,
@@ -103,6 +104,8 @@ pub fn engine_with_input<T: Threads + Wait + Sync, R: Read, W: Write>(
     ensures unwritten { IfErr result (λ f. f ≢ BenchFault.Write → writer.new ≡ writer.old) }
     ensures kept { result ≢ Err BenchFault.Read → result ≢ Err BenchFault.Memory →
         IfSome (R.remaining reader.old.end) (λ all. input.new.bytes.items ≡ take read_limit all) }
+    ensures noted { OnOk result (command.kind ≡ Kind.Solo →
+        IfSome (R.remaining reader.old.end) (λ all. input.new.notes.refused.first ≡ refused_of_text all)) }
 {
     let bytes = read_input(alloc, reader)?;
     let answer = answer(rt, alloc, &bytes, command, &mut input.notes);
@@ -125,6 +128,7 @@ fn answer<T: Threads + Wait + Sync>(
     ensures answer { Answers (IsAnswerOf command input.now) result }
     ensures thread { result ≡ Err (BenchFault.Run RunFault.Start) → command.kind ≡ Kind.Run }
     ensures one_thread { IfOk result (λ t. IsReportOf command input.now t.items) }
+    ensures noted { OnOk result (command.kind ≡ Kind.Solo → notes.new.refused.first ≡ refused_of_text input.now) }
 {
     let workload = match read_workload(alloc, input) {
         Ok(workload) => workload,
@@ -147,6 +151,7 @@ fn text_of<T: Threads + Wait + Sync>(
     ensures thread { result ≡ Err (BenchFault.Run RunFault.Start) → command.kind ≡ Kind.Run }
     ensures one_thread { IfOk result (λ t.
         IsReport command.kind workload.now command.history t.items) }
+    ensures noted { OnOk result (command.kind ≡ Kind.Solo → refused.new.first ≡ refused_of workload.now) }
 {
     match command.kind {
         Kind::Solo => noted_solo_text(alloc, workload, command.history, refused),

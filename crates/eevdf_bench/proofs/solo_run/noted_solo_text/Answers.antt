@@ -18,4 +18,4 @@ returns-clause-one_thread c =
 pub returns-clause-refused : goal.returns-clause-refused
 returns-clause-refused c =
     script_refused c.args.workload.now c.setup.result.now c.in-Some.deeds.now _ _ c.in-Some.ensures.deeds c.setup.ensures
-    (c.history.ensures ∙ c.in_ok-outcome.ensures.lines) c.of.ensures
+    (c.history.ensures ∙ c.in_ok-outcome.ensures.lines) c.of.ensures.first

@@ -1,5 +1,5 @@
 use Rattle.std.proofs.Common.{refl}
-use Rattle.eevdf_bench.proofs.EngineAnswers.{answered_as, any_input, written, begun, no_other, results_differ, of_input, on_err, only_write, report_written}
+use Rattle.eevdf_bench.proofs.EngineAnswers.{answered_as, any_input, written, begun, no_other, results_differ, of_input, on_err, only_write, report_written, noted_of_input}
 use Rattle.std.proofs.lemmas.Result.{on_ok_weaker}
 use Rattle.eevdf_bench.proofs.workbench_engine.engine_with_input.Goals as goal
 
@@ -68,3 +68,9 @@ returns-clause-unwritten g c = only_write _ _ c.write_text.ensures.kind (λ diff
 
 pub returns-clause-read_whole : goal.returns-clause-read_whole
 returns-clause-read_whole g c = on_ok_weaker _ (λ _. c.in_ok-bytes.ensures.whole) c.write_text.ensures.whole
+
+pub returns-clause-noted : goal.returns-clause-noted
+returns-clause-noted g c =
+    on_ok_weaker _
+    (λ _. noted_of_input _ c.in_ok-bytes.bytes.items _ _ c.in_ok-bytes.ensures.bytes c.deref.ensures.value c.in-Ok.ensures.noted)
+    c.write_text.ensures.whole
