@@ -155,6 +155,16 @@ def check_late_pull(checks):
     expect("what is before the time", [event for event in part if event["ph"] != "M" and event["ts"] + event.get("dur", 0) < 2], [])
 
 
+def check_late_wake(checks):
+    """Nothing that a wake brings about is drawn before what its sender had done by then."""
+    data = made.late_wake()
+    check_script(checks, data)
+    events = checks.events((), data)
+    ran = {event["name"]: (event["ts"], event["dur"]) for event in events if event["ph"] == "X" and event["name"].startswith("task ")}
+    expect("when the tasks ran", ran, {"task 0": (0, 5000), "task 1": (5000, 1000)})
+    expect("the arrow", [(event["ph"], event["tid"], event["ts"]) for event in events if event["ph"] in "sf"], [("s", 0, 5000), ("f", 1, 5000)])
+
+
 def check_alone(checks):
     """A task that is alone has all of the time, and its weight gives it all, if that is one nanosecond too."""
     rows = json.loads(checks.written(("--stats", "--json"), made.alone()))["tasks"]
@@ -172,7 +182,7 @@ def check_crowd(checks):
 
 
 def check_made(checks):
-    for name, check in (("choices", check_choices), ("yields of tasks", check_yields), ("an early arrow", check_late_pull),
+    for name, check in (("choices", check_choices), ("yields of tasks", check_yields), ("an early arrow", check_late_pull), ("a late wake", check_late_wake),
                         ("a task alone of each level", check_alone), ("30 tasks", check_crowd), ("3000 stretches", check_dense)):
         checks.attempt(name, check, checks)
     checks.attempt("an empty machine", check_script, checks, made.empty())

@@ -80,7 +80,7 @@ def check_trace(text, timeline):
     """Raises Wrong where the trace of a whole timeline isn't as docs/pictures.md says."""
     events = events_in(text, timeline.setup.cpus())
     crossing = [(moment, moment.deed[1 if moment.deed[0] == "pull" else 2]) for moment in timeline.moments if is_of_another(moment)]
-    arrows = [((giver, min(moment.begin, moment.other)), (moment.cpu, moment.begin)) for moment, giver in crossing]
+    arrows = [((giver, moment.other), (moment.cpu, moment.begin)) for moment, giver in crossing]
     expect("the arrows", sorted(check_flows(events)), sorted(arrows))
     slices = [(event["tid"], event["name"], nanoseconds(event, "ts"), nanoseconds(event, "dur")) for event in events if event["ph"] == "X"]
     ran = [(cpu, f"task {task}", begin, end - begin) for cpu, task, begin, end in timeline.stretches]

@@ -143,23 +143,26 @@ def check_rows(rows, picture, lanes, bottom, last_rows):
 
 
 def check_arrows(picture, drawn, lanes, rows):
-    """Each pull from a lane has an arrow, from the source's boxes to the mark. Those to marks at one place begin beside one another."""
+    """Each pull from a lane has an arrow, from the source's boxes to the mark, and so has each wake by another CPU from the boxes of that.
+    Those to marks at one place begin beside one another."""
     wanted, last, shift = [], None, 0
     for mark in drawn:
-        if mark.sign != "pull":
+        other = {"pull": 1, "wake": 2}.get(mark.sign)
+        if other is None or mark.moment.deed[other] == mark.moment.cpu:
             continue
-        moment, source, end = mark.moment, mark.moment.deed[1], picture.place(mark.moment.begin)
+        moment, source, end = mark.moment, mark.moment.deed[other], picture.place(mark.moment.begin)
         shift = (shift + 50) % 200 if end == last else 0
         last = end
         if source in lanes:
             middle = lanes[moment.cpu] + rows[mark.row]
             start = lanes[source] + (HEIGHT if lanes[source] < middle else 0)
-            wanted.append((mark.title(), picture.place(min(moment.other, moment.begin)) + shift, start, end, middle))
-    arrows = [path for path in picture.named("path", "p") if title_of(path)]
+            wanted.append(({"pull": "p", "wake": "q"}[mark.sign], mark.title(), picture.place(moment.other) + shift, start, end, middle))
+    arrows = [path for kind in "pq" for path in picture.named("path", kind) if title_of(path)]
+    arrows.sort(key=picture.parts.index)
     expect("how many arrows there are", len(arrows), len(wanted))
-    for arrow, (title, *ends, middle) in zip(arrows, wanted):
+    for arrow, (kind, title, *ends, middle) in zip(arrows, wanted):
         *said, tip = map(tenths, read(ARROW, arrow.get("d")))
-        expect("an arrow", (title_of(arrow), *said), (title, *ends))
+        expect("an arrow", (arrow.get("class"), title_of(arrow), *said), (kind, title, *ends))
         start = ends[1]
         if not min(start, middle) <= tip <= max(start, middle) or abs(middle - tip) > MARK:
             raise Wrong(f"the arrow of {title} ends at {tip}, and its mark is at {middle}")

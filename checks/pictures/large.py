@@ -86,10 +86,12 @@ def check_fullest(checks):
 
 
 def check_terminal(checks, data):
-    """A long run says on a terminal how far it is, in one line that is written over and ends; a short one says nothing."""
+    """A long run says on a terminal how far it is, in one line that is written over and ends, before it tells which deeds were refused; a
+    short one says nothing."""
     printed, said = on_terminal(checks, data)
     expect("the status", printed.status, 0)
-    lines = re.fullmatch(rb"(?:\reevdf_timeline: \d+ of 640000 deeds)+\r\n", said)
+    refused = rb"(?:script at \d+: [^\r\n]+\r\n){10}\d+ more deeds are refused\r\n"
+    lines = re.fullmatch(rb"(?:\reevdf_timeline: \d+ of 640000 deeds)+\r\n" + refused, said)
     done = [int(number) for number in re.findall(rb"(\d+) of", said)]
     if not lines or len(done) < 5 or done != sorted(set(done)) or done[-1] > 640000:
         raise Wrong(f"on the terminal stands {said!r}")

@@ -129,6 +129,12 @@ def yields():
     return workload(1, tasks, ["0 pick", "0 tick 4000000", "0 yield", "0 pick", "0 tick 1000000", "0 yield"])
 
 
+def late_wake():
+    """CPU 0 runs for 5 ms, and only then wakes a task of CPU 1, which runs for 1 ms."""
+    tasks = [task_text(0, 0, 3000000, 0, False), task_text(1, 0, 3000000, 0, True)]
+    return workload(2, tasks, ["0 pick", "0 tick 5000000", "1 wake 1 from 0", "1 pick", "1 tick 1000000"])
+
+
 def late_pull():
     """CPU 1 pulls when CPU 0 is at 1000 ns and itself at 5000 ns."""
     tasks = [task_text(0, 0, 3000000, 0, False) for _ in range(3)]

@@ -129,12 +129,12 @@ class Timeline:
                 self.tasks[task].lags.append(lag_in_ns(self.queues[cpu], task))
 
     def begin_of(self, cpu, deed):
-        """A pull isn't before what its source has done, and what finds a task asleep isn't before the task fell asleep or ended."""
-        if deed[0] == "pull":
-            return max(self.clocks[cpu], self.clocks[deed[1]])
+        """A pull isn't before what its source has done, nor a wake before what its sender has; and what finds a task asleep isn't before the
+        task fell asleep or ended."""
+        begin = max(self.clocks[cpu], self.other_of(cpu, deed))
         if deed[0] in FINDS and deed[1] in self.queues[cpu].asleep:
-            return max(self.clocks[cpu], self.slept.get(deed[1], 0))
-        return self.clocks[cpu]
+            return max(begin, self.slept.get(deed[1], 0))
+        return begin
 
     def other_of(self, cpu, deed):
         named = {"pull": 1, "wake": 2}.get(deed[0])
@@ -146,7 +146,7 @@ class Timeline:
         before = self.state(cpu)
         answer = whole(self.setup, self.queues, cpu, deed)
         if answer != FINDS.get(deed[0], answer):
-            begin = self.clocks[cpu]
+            begin = max(self.clocks[cpu], other)
         took = deed[1] if deed[0] == "tick" and answer != "range" else 0
         moment = Moment(cpu, deed, answer, begin, begin + took, other)
         self.moments.append(moment)
@@ -240,6 +240,9 @@ def sign_of(moment, running):
     word = moment.answer.split()[0]
     if word == "picked":
         return "same" if running == int(moment.answer.split()[1]) else "pick"
+    # a yield where nobody runs is refused; a pick and a tick find nobody there, as some pulls find no task
+    if word in ("balanced", "nothing") or word == "idle" and moment.deed[0] != "yield":
+        return "nothing"
     return {"charged": None, "yielded": "yield", "slept": "sleep", "woken": "wake", "pulled": "pull",
             "reniced": "renice", "begun": "begin", "ended": "end", "set": "set", "rebased": "rebase"}.get(word, "refused")
 

@@ -13,7 +13,8 @@ PAGE, LETTER = 1000, 7
 LEFT, WIDTH, HEIGHT = 900, 8900, 240
 FILLS = 28
 LEGEND = {"pick": "pick", "same": "pick of the same", "wake": "wake", "sleep": "sleep", "pull": "pull", "renice": "renice",
-          "yield": "yield", "refused": "refused or idle", "begin": "begin", "end": "end", "set": "set", "rebase": "rebase"}
+          "yield": "yield", "refused": "refused", "begin": "begin", "end": "end", "set": "set", "rebase": "rebase",
+          "nothing": "found nothing"}
 
 
 class Wrong(Exception):

@@ -3,6 +3,7 @@
 use crate::moments::{Moment, named_task};
 use crate::scale::{Tenths, part};
 use crate::words::Words;
+use eevdf_bench::is_refused;
 use eevdf_ops::Answer;
 use eevdf_queue::TaskId;
 use std::fmt;
@@ -19,8 +20,10 @@ pub enum Sign {
     Pull,
     Renice,
     Yield,
-    /// A deed that was refused, or that found nothing to do.
+    /// A deed that was refused.
     Refused,
+    /// One that found nothing to do: nobody to pick or to charge, or no task to pull.
+    Nothing,
     /// A task begins.
     Begin,
     /// A task ends.
@@ -41,15 +44,16 @@ impl Sign {
         (Sign::Pull, "pull"),
         (Sign::Renice, "renice"),
         (Sign::Yield, "yield"),
-        (Sign::Refused, "refused or idle"),
+        (Sign::Refused, "refused"),
     ];
 
     /// Those in the second row.
-    pub const SECOND_ROW: [(Sign, &'static str); 4] = [
+    pub const SECOND_ROW: [(Sign, &'static str); 5] = [
         (Sign::Begin, "begin"),
         (Sign::End, "end"),
         (Sign::Set, "set"),
         (Sign::Rebase, "rebase"),
+        (Sign::Nothing, "found nothing"),
     ];
 }
 
@@ -69,6 +73,7 @@ impl fmt::Display for Sign {
             Sign::Set => "set",
             Sign::Rebase => "rebase",
             Sign::Refused => "refused",
+            Sign::Nothing => "nothing",
         })
     }
 }
@@ -94,7 +99,11 @@ pub(crate) fn sign_of(moment: &Moment, running: Option<TaskId>) -> Option<Sign> 
         | Answer::Balanced
         | Answer::Nothing
         | Answer::Range
-        | Answer::NotHere => Sign::Refused,
+        | Answer::NotHere => if is_refused(&moment.line) {
+            Sign::Refused
+        } else {
+            Sign::Nothing
+        },
     })
 }
 

@@ -2,7 +2,7 @@
 
 ghost use Rattle.std.specs.Prelude.{◌≡◌, map, IfOk};
 
-use eevdf_ops::{Answer, Deed, Line, Solo};
+use eevdf_ops::{Answer, CpuId, Deed, Line, Solo};
 use eevdf_queue::TaskId;
 use std::alloc::{AllocError, Global};
 
@@ -14,7 +14,8 @@ pub struct Moment {
     pub begin: u64,
     /// The same after it: only a tick takes time.
     pub end: u64,
-    /// The clock of the other CPU that the deed names, the source of a pull or the sender of a wake, and else of its own.
+    /// The clock of the other CPU that the deed names, the source of a pull or the sender of a wake, and else of its own. It is no later
+    /// than the begin.
     pub other: u64,
 }
 
@@ -64,9 +65,19 @@ pub(crate) fn moved_task(moment: &Moment) -> Option<TaskId> {
     }
 }
 
-/// The lines of a history with their times. Each CPU has a clock, which its ticks move on, charged or idle. Before a pull it moves on
-/// to the clock of the source, and before a deed that finds a task asleep to the moment at which it fell asleep or ended, where it is
-/// behind: the CPU has waited until then.
+/// The other CPU of a deed of two that was done: the one from which a task was pulled, or another one that asked for a wake.
+pub(crate) fn other_cpu(moment: &Moment) -> Option<CpuId> {
+    let answer = moment.line.answer;
+    match moment.line.deed {
+        Deed::Pull { source, .. } if matches!(answer, Answer::Pulled(_)) => Some(source),
+        Deed::Wake { cpu, sender, .. } if answer == Answer::Woken && cpu != sender => Some(sender),
+        _ => None,
+    }
+}
+
+/// The lines of a history with their times. Each CPU has a clock, which its ticks move on, charged or idle. Before a deed that names
+/// another CPU, a pull its source or a wake its sender, it moves on to the clock of that one, and before a deed that finds a task asleep to
+/// the moment at which it fell asleep or ended, where it is behind: the CPU has waited until then.
 pub fn timed(
     alloc: Global,
     cpus: usize,
@@ -102,9 +113,11 @@ impl Clocks {
         ensures { result.line ≡ line }
     {
         let cpu = line.deed.cpu().index();
-        let begin = time_at(&self.cpus, cpu).max(self.earliest(&line));
-        let end = begin.saturating_add(length_of(&line));
         let other = self.other(line.deed);
+        let begin = time_at(&self.cpus, cpu)
+            .max(other)
+            .max(self.found_at(&line));
+        let end = begin.saturating_add(length_of(&line));
         set_time(&mut self.cpus, cpu, end);
         if let Some(task) = slept_task(&line) {
             set_time(&mut self.slept, task.index(), begin);
@@ -117,17 +130,15 @@ impl Clocks {
         }
     }
 
-    /// What a deed can't have come before.
-    fn earliest(&self, line: &Line) -> u64 {
-        if let Deed::Pull { source, .. } = line.deed {
-            return time_at(&self.cpus, source.index());
-        }
+    /// When the task that a line found asleep had fallen asleep, and 0 where it found none.
+    fn found_at(&self, line: &Line) -> u64 {
         match found_task(line) {
             Some(task) => time_at(&self.slept, task.index()),
             None => 0,
         }
     }
 
+    /// The clock of the other CPU that a deed names, and else of its own.
     fn other(&self, deed: Deed) -> u64 {
         match deed {
             Deed::Pull { source, .. } => time_at(&self.cpus, source.index()),

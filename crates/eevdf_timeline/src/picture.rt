@@ -17,7 +17,7 @@ use crate::scene::Scene;
 use std::alloc::{AllocError, Global};
 
 /// The top of the first lane, in units of the picture.
-const TOP: u64 = 118;
+const TOP: u64 = 136;
 
 /// Where the notes stand of what is coarser: one, and one more below it, in units.
 const NOTE: u64 = 40;
@@ -39,17 +39,15 @@ const FOOT: u64 = 30;
 /// How far an entry of the legend is from the next one, in units.
 const ENTRY: u64 = 122;
 
-/// So many entries of the second row of the legend are taken by `KEYS`.
-const OF_KEYS: u64 = 3;
-
 /// How far the second row is below the first one, in units.
 const SECOND_ROW: u64 = 18;
 
-/// The beginning of the second row of the legend: the arrow, and the boxes that aren't of one chosen task.
+/// The third row of the legend: the arrows, and the boxes that aren't of one chosen task.
 const KEYS: &str =
-    "<path class=\"p\" d=\"M8 90H26\"/><text class=\"s\" x=\"32\" y=\"94\">pulled from</text>
-<rect class=\"b m\" x=\"130\" y=\"84\" width=\"12\" height=\"12\"/><text class=\"s\" x=\"147\" y=\"94\">several stretches</text>
-<rect class=\"b o\" x=\"252\" y=\"84\" width=\"12\" height=\"12\"/><text class=\"s\" x=\"269\" y=\"94\">task not chosen</text>
+    "<path class=\"p\" d=\"M8 108H26\"/><text class=\"s\" x=\"32\" y=\"112\">pulled from</text>
+<path class=\"q\" d=\"M130 108H148\"/><text class=\"s\" x=\"154\" y=\"112\">woken from</text>
+<rect class=\"b m\" x=\"252\" y=\"102\" width=\"12\" height=\"12\"/><text class=\"s\" x=\"269\" y=\"112\">several stretches</text>
+<rect class=\"b o\" x=\"396\" y=\"102\" width=\"12\" height=\"12\"/><text class=\"s\" x=\"413\" y=\"112\">task not chosen</text>
 ";
 
 /// The picture of a scene.
@@ -98,22 +96,20 @@ fn push_head(text: &mut String, scene: &Scene<'_>, height: u64) -> Result<(), Al
 }
 
 fn push_legend(text: &mut String) -> Result<(), AllocError> {
-    push_signs(text, &Sign::FIRST_ROW, 0, 0)?;
-    push_signs(text, &Sign::SECOND_ROW, OF_KEYS, SECOND_ROW)?;
+    push_signs(text, &Sign::FIRST_ROW, 0)?;
+    push_signs(text, &Sign::SECOND_ROW, SECOND_ROW)?;
     text.push_str(KEYS)
 }
 
-/// Writes the signs of a row of the legend that is so far below the first one, from an entry on.
+/// Writes the signs of a row of the legend that is so far below the first one.
 fn push_signs(
     text: &mut String,
     signs: &[(Sign, &'static str)],
-    first: u64,
     row: u64,
 ) -> Result<(), AllocError> {
     let (middle, base) = (row.saturating_add(72), row.saturating_add(76));
     for (number, (sign, word)) in signs.iter().enumerate() {
-        let entry = first.saturating_add(number as u64);
-        let place = entry.saturating_mul(ENTRY).saturating_add(16);
+        let place = (number as u64).saturating_mul(ENTRY).saturating_add(16);
         let after = place.saturating_add(9);
         writeln!(
             text,

@@ -3,11 +3,11 @@
 mod event;
 
 use crate::marks::{is_chosen, running_after};
-use crate::moments::Moment;
+use crate::moments::{Moment, other_cpu};
 use crate::scene::Scene;
 use crate::stretches::Stretch;
 use crate::trace::event::{CPUS, Head, LAGS, Phase, Values, head_of, push_event, push_plain};
-use eevdf_ops::{Answer, CpuId, Deed};
+use eevdf_ops::{Answer, CpuId};
 use eevdf_queue::TaskId;
 use std::alloc::{AllocError, Global};
 
@@ -124,7 +124,7 @@ fn push_deed(
     moment: &Moment,
     number: u64,
 ) -> Result<(), AllocError> {
-    let begin = moment.other.min(moment.begin);
+    let begin = moment.other;
     let other = if scene.scale.shows(begin, begin) {
         other_cpu(moment).filter(|other| scene.words.cpus.has(other.index()))
     } else {
@@ -143,16 +143,6 @@ fn push_deed(
         )?;
     }
     Ok(())
-}
-
-/// The CPU from which a task was pulled, or another one that asked for a wake.
-fn other_cpu(moment: &Moment) -> Option<CpuId> {
-    let answer = moment.line.answer;
-    match moment.line.deed {
-        Deed::Pull { source, .. } if matches!(answer, Answer::Pulled(_)) => Some(source),
-        Deed::Wake { cpu, sender, .. } if answer == Answer::Woken && cpu != sender => Some(sender),
-        _ => None,
-    }
 }
 
 fn push_counters(dues: &mut Vec<Due>, scene: &Scene<'_>) -> Result<(), AllocError> {

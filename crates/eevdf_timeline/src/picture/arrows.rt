@@ -1,4 +1,4 @@
-//! Where the arrows of pulls begin.
+//! Where the arrows of pulls and wakes begin.
 
 use crate::scale::Tenths;
 

@@ -1,13 +1,13 @@
 //! The lanes of CPUs: their boxes, their marks and the arrows between them.
 
 use crate::marks::{Rows, Sign, is_chosen, running_after, sign_of};
-use crate::moments::Moment;
+use crate::moments::{Moment, other_cpu};
 use crate::picture::arrows::Shifts;
 use crate::picture::boxes::{BOX, Group};
 use crate::scale::{Scale, Tenths, part};
 use crate::stretches::Stretch;
 use crate::words::Words;
-use eevdf_ops::{CpuId, Deed};
+use eevdf_ops::CpuId;
 use eevdf_queue::TaskId;
 use std::alloc::{AllocError, Global};
 
@@ -170,13 +170,13 @@ impl Lanes {
         Ok(())
     }
 
-    /// Writes the arrows of pulls, and then the marks.
+    /// Writes the arrows of pulls and of wakes by other CPUs, and then the marks.
     pub(crate) fn push_marks(&self, text: &mut String, scale: &Scale) -> Result<(), AllocError> {
         let mut shifts = Shifts::NONE;
         for mark in &self.marks {
-            if mark.sign == Sign::Pull {
+            if let Some(other) = other_cpu(&mark.moment) {
                 let shift = shifts.next(scale.place(mark.moment.begin));
-                self.push_arrow(text, mark, scale, shift)?;
+                self.push_arrow(text, mark, other, scale, shift)?;
             }
         }
         for mark in &self.marks {
@@ -203,18 +203,16 @@ impl Lanes {
         top.saturating_add(BOX + ROW / 2 + 2).saturating_add(row)
     }
 
-    /// Writes the arrow of a pull, from so far beside its place at the boxes of its source to its mark.
+    /// Writes the arrow of a deed of two CPUs, from so far beside its place at the boxes of the other one to its mark.
     fn push_arrow(
         &self,
         text: &mut String,
         mark: &Mark,
+        other: CpuId,
         scale: &Scale,
         shift: u64,
     ) -> Result<(), AllocError> {
-        let Deed::Pull { source, .. } = mark.moment.line.deed else {
-            return Ok(());
-        };
-        let Some(lane) = self.lanes.get(source.index()) else {
+        let Some(lane) = self.lanes.get(other.index()) else {
             return Ok(());
         };
         if !lane.shown {
@@ -230,13 +228,14 @@ impl Lanes {
             end.saturating_add(TIP)
         };
         let begin = mark.moment.begin;
-        let from = scale.place(mark.moment.other.min(begin));
+        let from = scale.place(mark.moment.other);
         let from = Tenths(from.0.saturating_add(shift));
         let to = scale.place(begin);
         let line = mark.moment.line;
+        let kind = if mark.sign == Sign::Pull { "p" } else { "q" };
         writeln!(
             text,
-            "<path class=\"p\" d=\"M{from} {start}L{to} {tip}\"><title>{line}, at {begin} ns</title></path>"
+            "<path class=\"{kind}\" d=\"M{from} {start}L{to} {tip}\"><title>{line}, at {begin} ns</title></path>"
         )
     }
 }

@@ -29,11 +29,14 @@ text{font-size:12px;fill:#000}
 .z{stroke:#999;stroke-width:1}
 .k{fill:none;stroke:#000;stroke-width:1.3}
 .p{fill:none;stroke:#d55e00;stroke-width:1.5;marker-end:url(#tip)}
+.q{fill:none;stroke:#009e73;stroke-width:1.5;stroke-dasharray:5 2;marker-end:url(#point)}
 ";
 
 const SHAPES: &str =
     "<marker id=\"tip\" viewBox=\"0 0 6 6\" refX=\"5\" refY=\"3\" markerWidth=\"6\" markerHeight=\"6\" orient=\"auto\">\
 <path d=\"M0 0L6 3L0 6Z\" fill=\"#d55e00\"/></marker>
+<marker id=\"point\" viewBox=\"0 0 6 6\" refX=\"5\" refY=\"3\" markerWidth=\"6\" markerHeight=\"6\" orient=\"auto\">\
+<path d=\"M0 0L6 3L0 6Z\" fill=\"#009e73\"/></marker>
 <path id=\"pick\" d=\"M-3.5 -4L4 0L-3.5 4Z\"/>
 <path id=\"same\" d=\"M-3 -3.5L3.5 0L-3 3.5Z\" fill=\"#fff\" stroke=\"#000\"/>
 <path id=\"wake\" d=\"M-4 3.5L4 3.5L0 -4Z\" fill=\"#009e73\"/>
@@ -46,6 +49,7 @@ const SHAPES: &str =
 <path id=\"rebase\" d=\"M-4 3.5H4M0 -4V2M-3 -1L0 2L3 -1\" fill=\"none\" stroke=\"#000\" stroke-width=\"1.6\"/>
 <path id=\"yield\" d=\"M-2.5 -4V4M2.5 -4V4\" fill=\"none\" stroke=\"#000\" stroke-width=\"2\"/>
 <path id=\"refused\" d=\"M-3.5 -3.5L3.5 3.5M-3.5 3.5L3.5 -3.5\" fill=\"none\" stroke=\"#b00\" stroke-width=\"1.6\"/>
+<path id=\"nothing\" d=\"M-3 0A3 3 0 0 0 3 0A3 3 0 0 0 -3 0Z\" fill=\"#fff\" stroke=\"#555\" stroke-width=\"1.2\"/>
 </defs>
 ";
 
