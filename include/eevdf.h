@@ -25,9 +25,9 @@
  *
  * WHAT C MUST KEEP. Each call tests its numbers, and who is here and who runs. It can't test its
  * pointers, so these are left to C:
- *   - `queue` points to a queue that eevdf_open has opened, and `hand` to a hand that
- *     eevdf_hand_open has opened; each that is opened points to so many bytes of the caller's own,
- *     aligned to 16;
+ *   - `queue` points to a queue that eevdf_open has opened, `to` and `from` to two different ones,
+ *     and `hand` to a hand that eevdf_hand_open has opened; each that is opened points to so many
+ *     bytes of the caller's own, aligned to 16;
  *   - from eevdf_open to eevdf_close only these calls read or write the queue's bytes, one call at
  *     a time, but that it may be moved, and there are no two copies of which both are used; the
  *     same holds of a hand from eevdf_hand_open to eevdf_hand_close;
@@ -43,8 +43,9 @@
  * a lock that the caller has beside each queue, interrupts off on the queue's only CPU, or a single
  * thread. The library has no locks and no data of its own, so calls on different queues need
  * nothing of each other, and a task moves between two queues through a hand without a need to hold
- * two locks. A hand belongs to whoever moves the task, and needs no lock as long as nobody else
- * uses it. A task's number goes with it, so the 1024 numbers are of all queues that exchange tasks.
+ * two locks; by eevdf_pull and eevdf_pull_task it moves in one call under both. A hand belongs to
+ * whoever moves the task, and needs no lock as long as nobody else uses it. A task's number goes
+ * with it, so the 1024 numbers are of all queues that exchange tasks.
  *
  * SEVERAL CPUS. eevdf_pick makes who ran before a task that another CPU may take, and eevdf_sleep
  * makes it one that can be woken, while its CPU is still on its stack. So hold the queue's lock
@@ -80,7 +81,7 @@
  * stack are of the object alone: what the kernel's memset and the two functions for memory use
  * comes on top. Neither has thread-local storage, threads or unwind tables, nor ends the
  * program: its instructions ud2 stand where no call comes, as the proofs say, while C keeps what it
- * must.
+ * must. What the archives for ARM of 64 bits ask is in docs/embedding-c.md.
  */
 #ifndef EEVDF_H
 #define EEVDF_H
@@ -156,6 +157,7 @@ extern "C" {
 /* The errors. */
 enum {
 	EEVDF_ABSENT = -2,     /* there is no such task here, nobody runs, or the hand is empty */
+	EEVDF_BALANCED = -11,  /* the task would bring two loads no closer */
 	EEVDF_NO_MEMORY = -12, /* the caller's function for memory gave none, or `at` is NULL */
 	EEVDF_BUSY = -16,      /* the hand holds a task, or `at` of the block isn't NULL */
 	EEVDF_PRESENT = -17,   /* the task is here already */
@@ -494,7 +496,7 @@ int64_t eevdf_hand_end_out(eevdf_hand *hand, eevdf_block *block);
 /*
  * Takes a task out of the queue into the hand, with its lag, whether it runs, waits or sleeps. If
  * it ran, nobody runs then. Answers 0. Who wants it only if it waits, as another CPU does, asks
- * eevdf_running and eevdf_is_asleep first, under the same lock.
+ * eevdf_running and eevdf_is_asleep first, under the same lock, or pulls it by eevdf_pull_task.
  * Lock: the queue's. Interrupts: yes.
  * INVALID: no number of a task. BUSY: the hand holds a task. ABSENT: the task isn't here.
  */
@@ -524,6 +526,30 @@ int64_t eevdf_put(eevdf_queue *queue, eevdf_hand *hand);
  * ABSENT: the hand is empty. PRESENT: the task's number is here. On an error the hand keeps it.
  */
 int64_t eevdf_put_asleep(eevdf_queue *queue, eevdf_hand *hand);
+
+/*
+ * Takes the candidate out of `from` and puts it into `to`, where that brings the two loads closer:
+ * where the load of `to` and its weight come to less than the load of `from`. The task is runnable
+ * there, placed with its lag, with a fresh request. Nobody is picked. Answers the task. So each
+ * pull levels, and no task goes to and fro without end. Where nothing is runnable in `to`, the
+ * loads come closer exactly if two tasks or more are runnable in `from`, whatever they weigh.
+ * Lock: those of both queues. Interrupts: yes.
+ * ABSENT: no task waits in `from`. BALANCED: the two loads would come no closer. PRESENT: the
+ * candidate's number is in `to` already. RANGE: it can't be placed there. On an error both queues
+ * are as before.
+ */
+int64_t eevdf_pull(eevdf_queue *to, eevdf_queue *from);
+
+/*
+ * Pulls as eevdf_pull does, but the task that is named, and only if it waits in `from`: one that
+ * runs or sleeps there stays. So a caller who keeps a mask of CPUs with each task pulls another one
+ * where the candidate may not come. Answers the task.
+ * Lock: those of both queues. Interrupts: yes.
+ * INVALID: no number of a task. ABSENT: it doesn't wait in `from`. BALANCED: the two loads would
+ * come no closer. PRESENT: its number is in `to` already. RANGE: it can't be placed there. On an
+ * error both queues are as before.
+ */
+int64_t eevdf_pull_task(eevdf_queue *to, eevdf_queue *from, uint64_t task);
 
 /*
  * How many tasks are runnable, of which the running one is one.

@@ -201,23 +201,15 @@ static void lock_both(struct cpu *one, struct cpu *other)
 
 /*
  * A CPU that has nobody pulls a waiting task from one that has two or more, and lets it run at once,
- * before anybody wakes here. A pull has to leave its source the greater load; where the puller has
- * none, it does as long as the source keeps a task, whatever the two weigh.
+ * before anybody wakes here. To a CPU that has nobody each such task brings the loads closer,
+ * whatever it weighs.
  */
 static void pull(struct cpu *own, struct cpu *from)
 {
-	eevdf_hand hand;
-
 	lock_both(own, from);
-	if (eevdf_len(&from->queue) >= 2) {
-		eevdf_hand_open(&hand);
-		eevdf_take(&from->queue, &hand, (uint64_t)eevdf_candidate(&from->queue));
-		if (eevdf_put(&own->queue, &hand) == 0) {
-			switch_to(own, &tasks[eevdf_pick(&own->queue)]);
-			own->pulls++;
-		} else {
-			eevdf_put(&from->queue, &hand);
-		}
+	if (eevdf_pull(&own->queue, &from->queue) >= 0) {
+		switch_to(own, &tasks[eevdf_pick(&own->queue)]);
+		own->pulls++;
 	}
 	pthread_mutex_unlock(&from->lock);
 	pthread_mutex_unlock(&own->lock);

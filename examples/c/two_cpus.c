@@ -15,9 +15,6 @@ static struct cpu {
 	uint64_t word, sleeps, wakes, pulls;
 } cpus[CPUS];
 
-/* What each task adds to the load of a queue where it is runnable. Nobody changes it. */
-static int64_t weights[TASKS];
-
 /* A number that is drawn for a CPU. Only its own thread draws it. */
 static uint64_t drawn(struct cpu *cpu, uint64_t below)
 {
@@ -68,27 +65,15 @@ static void unlock_all(void)
 }
 
 /*
- * Pulls a waiting task of the other CPU, where this one's load with the task is below the one that
- * the other has now: so the two come closer, and no task is pulled to and fro for ever. With both
- * locks held nobody sees it in neither queue.
+ * Pulls a waiting task of the other CPU, where that brings the two loads closer. With both locks
+ * held nobody sees it in neither queue.
  */
 static void pull(struct cpu *own, struct cpu *other)
 {
-	eevdf_hand hand;
-	int64_t task;
-
-	eevdf_hand_open(&hand);
 	lock_all();
-	task = eevdf_candidate(&other->queue);
-	if (task >= 0 && eevdf_load(&own->queue) + weights[task] < eevdf_load(&other->queue)) {
-		eevdf_take(&other->queue, &hand, (uint64_t)task);
-		if (eevdf_put(&own->queue, &hand) == 0)
-			own->pulls++;
-		else
-			eevdf_put(&other->queue, &hand);
-	}
+	if (eevdf_pull(&own->queue, &other->queue) >= 0)
+		own->pulls++;
 	unlock_all();
-	eevdf_hand_close(&hand);
 }
 
 static void *run(void *at)
@@ -126,11 +111,8 @@ int main(void)
 		pthread_mutex_init(&cpus[at].lock, NULL);
 		eevdf_open(&cpus[at].queue);
 	}
-	for (uint64_t task = 0; task < TASKS; task++) {
-		weights[task] = -eevdf_load(&cpus[0].queue);
+	for (uint64_t task = 0; task < TASKS; task++)
 		eevdf_admit(&cpus[0].queue, task, (int64_t)(task % 4), SLICE, 0);
-		weights[task] += eevdf_load(&cpus[0].queue);
-	}
 	for (unsigned at = 0; at < CPUS; at++)
 		if (pthread_create(&threads[at], NULL, run, &cpus[at]) != 0)
 			return 1;

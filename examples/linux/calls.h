@@ -100,10 +100,11 @@ static inline int64_t change_task(struct game *game, eevdf_queue *queue, uint64_
 /* A call that moves a task, or ends it. */
 static inline int64_t move_task(struct game *game, eevdf_queue *queue, uint64_t task)
 {
+	eevdf_queue *other = &game->queues[queue == &game->queues[0]];
 	eevdf_block block = { NULL };
 	int64_t answer;
 
-	switch (drawn(game, 12)) {
+	switch (drawn(game, 14)) {
 	case 0:
 		return eevdf_take(queue, &game->hand, task);
 	case 1:
@@ -118,6 +119,10 @@ static inline int64_t move_task(struct game *game, eevdf_queue *queue, uint64_t 
 	case 5:
 		answer = eevdf_hand_end_out(&game->hand, &block);
 		return with_block(answer, block);
+	case 6:
+		return eevdf_pull(queue, other);
+	case 7:
+		return eevdf_pull_task(queue, other, task);
 	default:
 		return eevdf_put(queue, &game->hand);
 	}

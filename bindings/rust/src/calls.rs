@@ -40,6 +40,8 @@ extern "C" {
     pub fn eevdf_take_any(queue: *mut c_void, hand: *mut c_void) -> i64;
     pub fn eevdf_put(queue: *mut c_void, hand: *mut c_void) -> i64;
     pub fn eevdf_put_asleep(queue: *mut c_void, hand: *mut c_void) -> i64;
+    pub fn eevdf_pull(to: *mut c_void, from: *mut c_void) -> i64;
+    pub fn eevdf_pull_task(to: *mut c_void, from: *mut c_void, task: u64) -> i64;
     pub fn eevdf_len(queue: *const c_void) -> i64;
     pub fn eevdf_load(queue: *const c_void) -> i64;
     pub fn eevdf_floor_time(queue: *const c_void, time: *mut i64) -> i64;

@@ -10,6 +10,7 @@ use core::fmt;
 /// fn code(error: eevdf::Error) -> i64 {
 ///     match error {
 ///         Absent => -2,
+///         Balanced => -11,
 ///         NoMemory => -12,
 ///         Busy => -16,
 ///         Present => -17,
@@ -23,6 +24,8 @@ use core::fmt;
 pub enum Error {
     /// There is no such task here, or nobody runs, or the hand is empty.
     Absent,
+    /// A task would bring two loads no closer.
+    Balanced,
     /// The allocator gave none.
     NoMemory,
     /// The hand holds a task already.
@@ -43,6 +46,7 @@ impl Error {
     fn of(code: i64) -> Error {
         match code {
             -2 => Error::Absent,
+            -11 => Error::Balanced,
             -12 => Error::NoMemory,
             -16 => Error::Busy,
             -17 => Error::Present,
@@ -69,6 +73,7 @@ impl fmt::Display for Error {
     fn fmt(&self, f: &mut fmt::Formatter<'_>) -> fmt::Result {
         f.write_str(match self {
             Error::Absent => "no such task here",
+            Error::Balanced => "the loads would come no closer",
             Error::NoMemory => "no memory for a task",
             Error::Busy => "the hand holds a task already",
             Error::Present => "the task is here already",

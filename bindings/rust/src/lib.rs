@@ -43,7 +43,7 @@
 //! # Threads
 //!
 //! A queue can be sent to another thread, and not be used by two: `Queue` is `Send` and not `Sync`. Queues of several CPUs stand each in
-//! a lock, and a task moves from one to the other in a [`Hand`], with one lock held at a time.
+//! a lock, and a task moves from one to the other in a [`Hand`], with one lock held at a time, or by [`Queue::pull`] under both.
 //!
 //! ```
 //! fn is_send<T: Send>() {}

@@ -292,6 +292,24 @@ impl<'a> Queue<'a> {
         done(unsafe { calls::eevdf_put_asleep(self.at.as_ptr(), hand.place()) })
     }
 
+    /// Pulls the candidate of another queue here, where that brings the two loads closer: where this load and its weight come to less than
+    /// the other load. Gives its number. On an error both queues are as before.
+    ///
+    /// `Absent` where no task waits there, `Balanced` where the loads would come no closer, `Present` where its number is here, or `Range`.
+    pub fn pull(&mut self, from: &mut Queue<'_>) -> Result<u64> {
+        // SAFETY: they are two queues, since both are borrowed alone
+        checked(unsafe { calls::eevdf_pull(self.at.as_ptr(), from.at.as_ptr()) })
+    }
+
+    /// Pulls as [`Queue::pull`] does, but the task that is named, and only if it waits there.
+    ///
+    /// `Absent` where it doesn't wait there, `Balanced` where the loads would come no closer, `Present` where its number is here, or
+    /// `Range`.
+    pub fn pull_task(&mut self, from: &mut Queue<'_>, task: u64) -> Result<u64> {
+        // SAFETY: they are two queues, since both are borrowed alone
+        checked(unsafe { calls::eevdf_pull_task(self.at.as_ptr(), from.at.as_ptr(), task) })
+    }
+
     /// How many tasks are runnable, of which the running one is one.
     pub fn len(&self) -> u64 {
         checked(unsafe { calls::eevdf_len(self.at.as_ptr()) }).unwrap_or(0)

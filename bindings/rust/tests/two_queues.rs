@@ -29,6 +29,27 @@ fn a_task_moves_in_a_hand() {
 }
 
 #[test]
+fn a_pull_levels_the_loads() {
+    let (mut first, mut second) = (QueueMemory::new(), QueueMemory::new());
+    let (mut from, mut to) = (Queue::open(&mut first), Queue::open(&mut second));
+    assert_eq!(to.pull(&mut from), Err(Error::Absent));
+    for task in 0..4 {
+        from.admit(task, 0, SLICE, 0).unwrap();
+    }
+    assert_eq!(from.pick(), Some(0));
+    assert_eq!(to.pull_task(&mut from, 0), Err(Error::Absent));
+    assert_eq!(to.pull_task(&mut from, 1), Ok(1));
+    assert_eq!(to.pull(&mut from), Ok(3));
+    assert_eq!(to.pull(&mut from), Err(Error::Balanced));
+    assert_eq!((from.load(), to.load()), (2048, 2048));
+    from.admit(1, -5, SLICE, 0).unwrap();
+    assert_eq!(to.pull_task(&mut from, 1), Err(Error::Balanced));
+    from.admit(3, -15, SLICE, 0).unwrap();
+    assert_eq!(to.pull_task(&mut from, 1), Err(Error::Present));
+    assert_eq!(to.pull_task(&mut from, 1024), Err(Error::Invalid));
+}
+
+#[test]
 fn threads_pull_from_each_other() {
     let mut memories = [QueueMemory::new(), QueueMemory::new()];
     let [first, second] = &mut memories;

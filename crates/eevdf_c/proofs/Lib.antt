@@ -2,3 +2,4 @@ pub mod Steps
 mod Emptied
 mod Few
 mod TaskCodes
+mod Pulling

@@ -10,6 +10,9 @@ time_to_pick = pos 1
 abbrev pub absent : ℤ
 absent = negsuc 1
 
+abbrev pub balanced : ℤ
+balanced = negsuc 10
+
 abbrev pub no_memory : ℤ
 no_memory = negsuc 11
 

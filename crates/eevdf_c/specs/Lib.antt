@@ -10,6 +10,7 @@ pub mod Attributes
 pub mod Admit
 pub mod Leaving
 pub mod Hands
+pub mod Pulls
 pub mod Readers
 pub mod Found
 pub mod EntryOut

@@ -6,5 +6,6 @@ pub mod changing;
 pub mod closing;
 pub mod coming;
 pub mod leaving;
+pub mod pulling;
 pub mod reading;
 pub mod turns;

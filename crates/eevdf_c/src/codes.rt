@@ -9,6 +9,9 @@ pub const TIME_TO_PICK: i64 = 1;
 /// What is asked about isn't here: a task, one that runs, or one in a hand.
 pub const ABSENT: i64 = -2;
 
+/// No task comes, since that wouldn't bring two loads closer.
+pub const BALANCED: i64 = -11;
+
 /// The allocator gave no memory.
 pub const NO_MEMORY: i64 = -12;
 

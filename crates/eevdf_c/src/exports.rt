@@ -3,6 +3,7 @@
 pub mod blocks;
 pub mod hands;
 pub mod opening;
+pub mod pulls;
 pub mod readers;
 pub mod sizes;
 pub mod tasks;

@@ -4,6 +4,7 @@ use eevdf_queue::Refusal;
 #[derive(Clone, Copy, PartialEq, Eq, Debug)]
 pub enum Fault {
     Absent,
+    Balanced,
     NoMemory,
     Busy,
     Present,
@@ -16,6 +17,7 @@ impl Fault {
     pub fn code(self) -> i64 {
         match self {
             Fault::Absent => -2,
+            Fault::Balanced => -11,
             Fault::NoMemory => -12,
             Fault::Busy => -16,
             Fault::Present => -17,

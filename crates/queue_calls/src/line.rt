@@ -34,7 +34,11 @@ impl Line {
         match *words {
             ["refuse", whether] => Line::at(NamedCall::Refuse(whether == "1"), "0", "0"),
             [name, place] => Line::at(NamedCall::plain(name)?, place, place),
+            ["pull", to, from] => Line::pull(to, from, NamedCall::Pull),
             [name, queue, number] => Line::with_number(name, queue, number),
+            ["pull_task", to, from, task] => {
+                Line::pull(to, from, NamedCall::PullTask(unsigned(task)?))
+            }
             ["take", queue, hand, task] => {
                 Line::at(NamedCall::Take(unsigned(task)?), queue, hand)
             }
@@ -75,6 +79,15 @@ impl Line {
         match NamedCall::of_hand(name) {
             Some(call) => Line::at(call, queue, number),
             None => Line::at(NamedCall::numbered(name, unsigned(number)?)?, queue, "0"),
+        }
+    }
+
+    /// A pull of one queue from the other one.
+    fn pull(to: &str, from: &str, call: NamedCall) -> Option<Line> {
+        if to == from {
+            None
+        } else {
+            Line::at(call, to, "0")
         }
     }
 

@@ -10,6 +10,7 @@ mod line;
 mod moves;
 mod named_call;
 mod one_call;
+mod pulls;
 mod queues;
 mod task_numbers;
 

@@ -22,6 +22,8 @@ pub enum NamedCall {
     TakeAny,
     Put,
     PutAsleep,
+    Pull,
+    PullTask(u64),
     Len,
     Load,
     Running,

@@ -1,9 +1,11 @@
 use crate::answers::write_answer;
+use crate::fault::Fault;
 use crate::hand::Hand;
 use crate::line::{Line, Place};
 use crate::moves::Memory;
 use crate::named_call::NamedCall;
 use crate::one_call::make_one;
+use crate::pulls::pull;
 use eevdf_queue::Queue;
 use std::alloc::Global;
 use std::io::{self, Write};
@@ -36,6 +38,9 @@ impl Queues {
             self.is_refused = is_refused;
             return write_answer(out, Ok(0));
         }
+        if let Some(task) = pulled_task(call) {
+            return write_answer(out, self.pull(line.queue, task));
+        }
         let memory = Memory {
             alloc,
             is_refused: self.is_refused,
@@ -54,5 +59,22 @@ impl Queues {
                 make_one(&mut self.second, &mut self.second_hand, memory, call, out)
             }
         }
+    }
+
+    /// The queue of a place pulls from the other one: a task that is named, or else the candidate.
+    fn pull(&mut self, to: Place, task: Option<u64>) -> Result<u64, Fault> {
+        match to {
+            Place::First => pull(&mut self.first, &mut self.second, task),
+            Place::Second => pull(&mut self.second, &mut self.first, task),
+        }
+    }
+}
+
+/// Which task a pull names, where the call is one.
+fn pulled_task(call: NamedCall) -> Option<Option<u64>> {
+    match call {
+        NamedCall::Pull => Some(None),
+        NamedCall::PullTask(task) => Some(Some(task)),
+        _ => None,
     }
 }
