@@ -1,4 +1,4 @@
-"""Runs the tests of a crate without a proof, by `rt try --test`. That compiles the crate and all below it from their sources, with
+"""Runs the tests of a crate or a program without a proof, by `rt try`. That compiles the crate and all below it from their sources, with
 checks."""
 
 import re
@@ -28,12 +28,24 @@ def wait_for_end(rt):
         rt.wait()
 
 
+def try_it(folder, words):
+    """What `rt try` says with these words in a crate's folder."""
+    with tempfile.TemporaryFile() as said:
+        wait_for_end(subprocess.Popen(["rt", "try", *words], cwd=folder, stdin=subprocess.DEVNULL, stdout=said, stderr=subprocess.STDOUT))
+        said.seek(0)
+        return said.read().decode(errors="replace")
+
+
 def try_tests(folder, seconds, names=()):
     """What comes of each test of the crate in a folder, or of those that are named: by its name 'ok' or 'FAILED', and the line after it.
     And all that was said. A test that has run for so many seconds is ended, and has failed."""
-    words = ["rt", "try", "--test", "--seconds", str(seconds), "--", *names]
-    with tempfile.TemporaryFile() as said:
-        wait_for_end(subprocess.Popen(words, cwd=folder, stdin=subprocess.DEVNULL, stdout=said, stderr=subprocess.STDOUT))
-        said.seek(0)
-        text = said.read().decode(errors="replace")
+    text = try_it(folder, ["--test", "--seconds", str(seconds), "--", *names])
     return {name: (result, line.strip()) for name, result, line in RESULT.findall(text)}, text
+
+
+def try_program(folder, seconds, words):
+    """The lines that the program in a folder prints when it is run with these words: None where it wasn't run, and what was said then. One
+    that has run for so many seconds is ended."""
+    lines = try_it(folder, ["--seconds", str(seconds), "--", *words]).splitlines()
+    ends = [place for place, line in enumerate(lines) if line.startswith("checked: ")]
+    return lines[:ends[0]] if ends else None, lines[-3:]

@@ -1,4 +1,4 @@
-"""Looks at the library for C, part by part: at the archive for programs, or at the one for kernels."""
+"""Looks at the library for C, part by part: at the archive for programs, at the one for kernels, or at both for another processor."""
 
 import argparse
 import os
@@ -6,6 +6,7 @@ import sys
 from dataclasses import replace
 from pathlib import Path
 
+import aarch64
 import callers
 import examples
 import header
@@ -24,7 +25,7 @@ from tools import TOP, Tools, fault_of, run
 C_ARCHIVES = TOP / "tools" / "c_archives"
 sys.path.append(str(C_ARCHIVES))
 
-from kernel_archive import KERNEL, LINUX, NotMade, kit_tools, make  # noqa: E402
+from kernel_archive import ARM_KERNEL, KERNEL, LINUX, NotMade, kit_tools, make  # noqa: E402
 from kept_module import KeptModule  # noqa: E402
 
 
@@ -48,15 +49,26 @@ def made_of(module, work):
     return tools
 
 
+def check_aarch64(folder, work, seed):
+    """Looks at what is made for ARM, and gives the count."""
+    tools = aarch64.ArmTools(work / "libeevdf_kernel.a", work, folder / "module")
+    make(kit_tools(), KeptModule.read(tools.module), tools.archive, ARM_KERNEL)
+    aarch64.check(tools, folder / "libeevdf_c.a", seed)
+    return tools.checks.end()
+
+
 def main():
     words = argparse.ArgumentParser()
     what = words.add_mutually_exclusive_group(required=True)
     what.add_argument("--archive", type=Path)
     what.add_argument("--module", type=Path)
+    what.add_argument("--aarch64", type=Path)
     words.add_argument("--work", type=Path, required=True)
     words.add_argument("--seed", default="1")
     asked = words.parse_args()
     try:
+        if asked.aarch64:
+            sys.exit(check_aarch64(asked.aarch64, asked.work, asked.seed))
         tools = made_of(asked.module, asked.work) if asked.module else with_names(asked.archive, asked.work)
     except (NotMade, FileNotFoundError) as failed:
         print(f"checks/c_library: there is no archive to look at: {failed}", file=sys.stderr)

@@ -107,6 +107,8 @@ class Sequence:
             "take_any": (2, lambda: (queue, hand)),
             "put": (8, lambda: (queue, hand)),
             "put_asleep": (4, lambda: (queue, hand)),
+            "pull": (6, lambda: (queue, 1 - queue)),
+            "pull_task": (4, lambda: (queue, 1 - queue, self.task_here(1 - queue))),
             "entry_of": (1, lambda: (queue, self.task())),
             "sleeper_of": (1, lambda: (queue, self.sleeper(queue))),
             "lag": (1, lambda: (queue, self.task())),

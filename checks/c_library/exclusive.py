@@ -61,7 +61,7 @@ def body(kind, held):
 
 
 def held_by(parameters):
-    return [name for name in arguments(parameters) if name in ("queue", "hand")]
+    return [name for name in arguments(parameters) if name in ("queue", "hand", "to", "from")]
 
 
 def source_and_flags():

@@ -5,6 +5,7 @@ says."""
 
 import re
 import sys
+from dataclasses import dataclass
 
 import object_file
 from object_file import Asks, declared, difference, is_readable, said_by
@@ -20,13 +21,22 @@ OTHER_RELOCATIONS = re.compile(r"^(?!R_X86_64_(?:PC32|PLT32)$)")
 OF_KERNELS = Asks({"memset"}, set(), OTHER_RELOCATIONS)
 OF_LINUX = Asks({*OF_KERNELS.names, "__x86_return_thunk"}, set(), OTHER_RELOCATIONS)
 
-# An instruction with its operands, and those that aren't to be found.
+# An instruction with its operands.
 INSTRUCTION = re.compile(r"^ +[0-9a-f]+:\t(.*)$", re.MULTILINE)
-BELOW_STACK = re.compile(r"^(?!lea).*-0x[0-9a-f]+\((?:%rsp|.*,%rsp)")
-INDIRECT = re.compile(r"^(?:\w+ )?(?:jmp|call)\w* +\*")
-ENTRY = re.compile(r"^endbr64")
 RETURN = re.compile(r"^(?:\w+ )?ret")
-TRAP = re.compile(r"^ud2")
+
+
+@dataclass(frozen=True)
+class Written:
+    """How a processor's instructions are written: those that aren't to be found, that by which each call begins, and the trap."""
+
+    below_stack: re.Pattern
+    indirect: re.Pattern
+    entry: str
+    trap: str
+
+
+OF_X86_64 = Written(re.compile(r"^(?!lea).*-0x[0-9a-f]+\((?:%rsp|.*,%rsp)"), re.compile(r"^(?:\w+ )?(?:jmp|call)\w* +\*"), "endbr64", "ud2")
 # A function, and its first instruction.
 BEGINNING = re.compile(r"^[0-9a-f]+ <(\w+)>:\n +[0-9a-f]+:\t(.*)$", re.MULTILINE)
 # A section that is loaded, and the symbol of a file that an object was made from.
@@ -49,36 +59,35 @@ def page():
     return (TOP / "docs" / "embedding-c.md").read_text()
 
 
-def documented_traps():
-    said = re.search(r"(\d+) instructions `ud2`", page())
+def documented_traps(trap):
+    said = re.search(rf"(\d+) instructions `{trap}`", page())
     return said and int(said[1])
 
 
-def undocumented_words():
-    """What the archives are made by that the page's table doesn't name, or names and they aren't made by."""
-    table = page().partition("| Attribute or flag | What for |")[2].partition("\n\n")[0]
+def undocumented_words(head, variant, aside):
+    """What an archive is made by that the page's table with this head doesn't name, or names and it isn't made by, but for what the table
+    says besides."""
+    table = page().partition(f"| {head} | What for |")[2].partition("\n\n")[0]
     first = [row.split("|")[1] for row in table.splitlines() if row.startswith("| ")]
     named = {word for cell in first for quoted in re.findall(r"`([^`]+)`", cell) for word in quoted.split()}
-    used = {*kernel_archive.LINUX.attributes, *kernel_archive.LINUX.flags, kernel_archive.LINUX.processor}
-    # what the table says besides
-    aside = {"--thunks", "target-cpu", kernel_archive.PROCESSOR}
-    return difference(named - aside, used)
+    return difference(named - aside, {*variant.attributes, *variant.flags, variant.processor} - aside)
 
 
-def look_at(archive, asks, look):
+def look_at(archive, asks, look, written=OF_X86_64):
     object_file.look_at(archive, asks, look)
     code = instructions(archive)
-    look("nothing is read or written below the stack pointer", found(code, BELOW_STACK), f"{len(code)} instructions")
+    look("nothing is read or written below the stack pointer", found(code, written.below_stack), f"{len(code)} instructions")
     if asks is OF_LINUX:
         look("no plain returns", found(code, RETURN))
     look_at_sections(archive, look)
-    look("each call begins with endbr64", ", ".join(sorted(declared() - entries(archive))))
-    look_at_jumps(code, look)
+    look(f"each call begins with {written.entry}", ", ".join(sorted(declared() - entries(archive, written.entry))))
+    look_at_jumps(code, look, written)
 
 
-def entries(archive):
+def entries(archive, entry):
     """The functions that may be called through a pointer where the processor looks at that."""
-    return {name for name, first in BEGINNING.findall(said_by("objdump", "-d", "--no-show-raw-insn", archive)) if ENTRY.match(first)}
+    said = said_by("objdump", "-d", "--no-show-raw-insn", archive)
+    return {name for name, first in BEGINNING.findall(said) if first.split() == entry.split()}
 
 
 def look_at_sections(archive, look):
@@ -90,11 +99,11 @@ def look_at_sections(archive, look):
     look("it isn't linked of several objects", None if files <= 1 else f"{files} symbols of files")
 
 
-def look_at_jumps(code, look):
+def look_at_jumps(code, look, written=OF_X86_64):
     """What holds of the archive for programs too."""
-    look("no indirect jumps or calls", found(code, INDIRECT))
-    traps = sum(bool(TRAP.match(text)) for text in code)
-    look("as many traps as the page says", None if traps == documented_traps() else f"{traps}, and not {documented_traps()}", str(traps))
+    look("no indirect jumps or calls", found(code, written.indirect))
+    traps, said = sum(text.split()[0] == written.trap for text in code), documented_traps(written.trap)
+    look("as many traps as the page says", None if traps == said else f"{traps}, and not {said}", str(traps))
 
 
 def object_of(archive):
@@ -108,10 +117,10 @@ def for_programs(tools):
     return tools.module.parent / "libeevdf_c.a"
 
 
-def look_at_module(tools):
+def look_at_module(tools, variant=kernel_archive.PROGRAMS):
     """Compiled without the attributes and flags for kernels, the kept module is the object of the archive for programs, byte for byte."""
     again, other = tools.work / "again.a", for_programs(tools)
-    kernel_archive.make(kernel_archive.kit_tools(), KeptModule.read(tools.module), again, kernel_archive.PROGRAMS)
+    kernel_archive.make(kernel_archive.kit_tools(), KeptModule.read(tools.module), again, variant)
     same = object_of(again) == object_of(other)
     tools.checks.look("the module gives the archive for programs byte for byte", None if same else f"{other} has another object")
 
@@ -122,5 +131,7 @@ def check(tools):
     for name, archive, asks in (("", tools.archive, OF_KERNELS), (", with thunks", tools.thunks, OF_LINUX)):
         look_at(archive, asks, lambda what, *said, name=name: tools.checks.look(f"{what}{name}", *said))
     look_at_jumps(instructions(for_programs(tools)), lambda what, *said: tools.checks.look(f"{what}, for programs", *said))
-    tools.checks.look("the page names the attributes and flags that it is made by", undocumented_words())
+    aside = {"--thunks", "target-cpu", kernel_archive.PROCESSOR}
+    undocumented = undocumented_words("Attribute or flag", kernel_archive.LINUX, aside)
+    tools.checks.look("the page names the attributes and flags that it is made by", undocumented)
     look_at_module(tools)

@@ -8,8 +8,8 @@ from pathlib import Path
 from tools import TOP, fault_of, run, runner
 
 WAYS = {"at a fixed address": ("-no-pie",), "at any address": ("-pie",), "at any address, without a loader": ("-static-pie",)}
-# What a kernel gives: the function that compilers ask for, and Linux's way to return.
-GIVEN = """
+# What a kernel gives: the function that compilers ask for, and on x86-64 Linux's way to return.
+MEMSET = """
 #include <stddef.h>
 
 void *memset(void *at, int byte, size_t size);
@@ -19,9 +19,8 @@ void *memset(void *at, int byte, size_t size)
 		*to++ = (unsigned char)byte;
 	return at;
 }
-
-__asm__(".globl __x86_return_thunk\\n__x86_return_thunk: ret\\n");
 """
+THUNK = '__asm__(".globl __x86_return_thunk\\n__x86_return_thunk: ret\\n");\n'
 # A table of calls, as a class of a scheduler has.
 TABLE = """
 #include <eevdf.h>
@@ -30,7 +29,8 @@ extern int64_t (*const table[])(eevdf_queue *queue);
 int64_t (*const table[])(eevdf_queue *queue) = { eevdf_pick, eevdf_yield, eevdf_stop };
 """
 OBJTOOL = "usr/lib/linux-kbuild-*/tools/objtool/objtool"
-BARE = ("-std=c11", "-O1", "-ffreestanding", "-fno-asynchronous-unwind-tables", "-fno-stack-protector", "-fno-pic", "-fcf-protection=none")
+BARE = ("-std=c11", "-O1", "-ffreestanding", "-fno-unwind-tables", "-fno-asynchronous-unwind-tables", "-fno-stack-protector", "-fno-pic")
+UNPROTECTED, PROTECTED = "-fcf-protection=none", "-fcf-protection=branch"
 
 
 def check_programs(tools):
@@ -47,8 +47,8 @@ def link_words(linker, script, made, given, archive):
 
 def check_kernels(tools):
     source, given = tools.work / "given.c", tools.work / "given.o"
-    source.write_text(GIVEN)
-    fault = fault_of(run([tools.cc, *BARE, "-c", "-o", given, source]))
+    source.write_text(MEMSET + THUNK)
+    fault = fault_of(run([tools.cc, *BARE, UNPROTECTED, "-c", "-o", given, source]))
     for linker in ("ld", "ld.lld"):
         if not shutil.which(linker):
             tools.checks.skip(f"linked into a kernel by {linker}", linker, "binutils" if linker == "ld" else "lld")
@@ -67,7 +67,7 @@ def check_objtool(tools):
         return
     source, table, both = (tools.work / file for file in ("table.c", "table.o", "table_and_calls.o"))
     source.write_text(TABLE)
-    fault = fault_of(run([tools.cc, *BARE, "-fcf-protection=branch", f"-I{TOP / 'include'}", "-c", "-o", table, source]))
+    fault = fault_of(run([tools.cc, *BARE, PROTECTED, f"-I{TOP / 'include'}", "-c", "-o", table, source]))
     for label, archive, more in (("", tools.archive, ()), (", with thunks", tools.thunks, ("--retpoline", "--rethunk", "--sls"))):
         alone = tools.work / "calls.o"
         alone.write_bytes(runner.run(["ar", "p", str(archive)]).out)

@@ -10,7 +10,7 @@ sys.path.append(str(TOP / "checks" / "drawn"))
 from plain.numbers import is_in_range, lag_limit_of, weight_of  # noqa: E402
 from plain.queue import Carried, Queue, fits, fresh_entry  # noqa: E402
 
-ABSENT, NO_MEMORY, BUSY, PRESENT, INVALID, RANGE = -2, -12, -16, -17, -22, -34
+ABSENT, BALANCED, NO_MEMORY, BUSY, PRESENT, INVALID, RANGE = -2, -11, -12, -16, -17, -22, -34
 TASKS = 1024
 
 
@@ -203,6 +203,33 @@ class Model:
         self.queues[queue].put_asleep(held.task, held.nice, held.length, held.lag)
         self.hands[hand] = None
         return 0
+
+    # Pulls.
+
+    def pull_waiting(self, to, source, task):
+        """A task that waits in the source comes to another queue, where its load with the task is below that of the source."""
+        here, there = self.queues[to], self.queues[source]
+        entry = there.runnable[task]
+        if here.load() + entry.weight() >= there.load():
+            return BALANCED
+        if self.is_here(to, task):
+            return PRESENT
+        if not here.can_place(entry.nice, entry.length, there.lag_of(task)):
+            return RANGE
+        carried = there.leave(task)
+        here.put(task, carried.nice, carried.length, carried.lag)
+        return task
+
+    def pull(self, to, source):
+        task = self.queues[source].candidate()
+        return ABSENT if task is None else self.pull_waiting(to, source, task)
+
+    def pull_task(self, to, source, task):
+        if not is_task(task):
+            return INVALID
+        there = self.queues[source]
+        waits = task in there.runnable and task != there.running
+        return self.pull_waiting(to, source, task) if waits else ABSENT
 
     # What can be read.
 

@@ -15,23 +15,28 @@ ABSOLUTE = re.compile(r"\bR_X86_64_(64|32S?|16|8)\b|\bR_AARCH64_ABS\d+\b")
 
 @dataclass(frozen=True)
 class Asks:
-    """What an object asks for, as the header says it: names, registers besides the general ones, and relocations."""
+    """What an object asks for, as the header says it: names, registers besides the general ones, and the relocations that aren't to be
+    found; and how such registers are written."""
 
     names: set
     registers: set
     relocations: re.Pattern
+    pattern: re.Pattern = REGISTER
 
+
+# What the names of binutils begin with that read the objects of the processor that is looked at.
+binutils = {"prefix": ""}
 
 # The functions for memory, which the caller defines.
 MEMORY = {"eevdf_alloc", "eevdf_dealloc"}
 OF_PROGRAMS = Asks({"memset", "__udivti3", *MEMORY}, {"xmm0", "xmm1"}, ABSOLUTE)
 
 
-def said_by(*words):
-    """What a tool prints. One that fails would print nothing, in which nothing wrong is found."""
-    made = run(words)
+def said_by(tool, *words):
+    """What a tool of binutils prints. One that fails would print nothing, in which nothing wrong is found."""
+    made = run([binutils["prefix"] + tool, *words])
     if made.returncode:
-        raise RuntimeError(f"{words[0]} fails: {fault_of(made)}")
+        raise RuntimeError(f"{tool} fails: {fault_of(made)}")
     return made.stdout
 
 
@@ -77,9 +82,9 @@ def difference(found, wanted):
     return None
 
 
-def registers(archive):
+def registers(archive, pattern):
     """The registers of vectors, of floating point and of segments that the code uses."""
-    return set(REGISTER.findall(said_by("objdump", "-d", "--no-show-raw-insn", archive)))
+    return set(pattern.findall(said_by("objdump", "-d", "--no-show-raw-insn", archive)))
 
 
 def is_readable(tools):
@@ -104,7 +109,7 @@ def look_at(archive, asks, look):
     missing = sorted(declared() - names(archive, "--defined-only"))
     look("the object defines what the header declares", f"not {missing}" if missing else None, f"{len(declared())} calls")
     kept = ", ".join(sorted(asks.registers)) or "none but the general ones"
-    look("the registers are those that the header says", difference(registers(archive), asks.registers), kept)
+    look("the registers are those that the header says", difference(registers(archive, asks.pattern), asks.registers), kept)
     look("no thread-local storage", "there is some" if has_thread_storage(archive) else None)
     sections = said_by("readelf", "-SW", archive)
     look("no unwind tables", ", ".join(re.findall(r"\.(?:eh_frame|gcc_except_table|ARM\.ex\w+)\S*", sections)))

@@ -82,6 +82,28 @@ BODIES = {
         if (answer == EEVDF_RANGE) eevdf_hand_close(hand);
         return answer;"""),
     "a put that can't be placed sleeps": ("put", "return RIGHT == EEVDF_RANGE ? eevdf_put_asleep(queue, hand) : RIGHT;"),
+    "a pull asks whether the load alone is lower": ("pull", """
+        int64_t answer = RIGHT;
+        if (answer != EEVDF_BALANCED || eevdf_load(to) >= eevdf_load(from)) return answer;
+        eevdf_hand hand;
+        eevdf_hand_open(&hand);
+        answer = eevdf_candidate(from);
+        eevdf_take(from, &hand, (uint64_t)answer);
+        if (eevdf_put(to, &hand) == 0) return answer;
+        eevdf_put(from, &hand);
+        eevdf_hand_close(&hand);
+        return EEVDF_BALANCED;"""),
+    "a pull that answers RANGE takes the task out and back": ("pull", """
+        int64_t answer = RIGHT, task = eevdf_candidate(from);
+        if (answer != EEVDF_RANGE) return answer;
+        eevdf_hand hand;
+        eevdf_hand_open(&hand);
+        eevdf_take(from, &hand, (uint64_t)task);
+        if (eevdf_put(from, &hand) != 0) eevdf_hand_close(&hand);
+        return answer;"""),
+    "a pull of a named task takes the running one too": ("pull_task", """
+        if (eevdf_running(from) == (int64_t)task) eevdf_stop(from);
+        return RIGHT;"""),
     "a close keeps the blocks": ("close", "eevdf_open(queue);"),
     "a closed queue is at the virtual time 0": ("close", "RIGHT; eevdf_open(queue);"),
     "an open writes a byte behind the queue": ("open", "RIGHT; *((unsigned char *)queue + EEVDF_QUEUE_SIZE) = 0;"),

@@ -11,7 +11,7 @@ from object_file import difference
 from tools import SANITIZED, TOP, runner
 
 CALLS, SANITIZED_CALLS = 100000, 10000
-ERRORS = "ABSENT", "NO_MEMORY", "BUSY", "PRESENT", "INVALID", "RANGE"
+ERRORS = "ABSENT", "BALANCED", "NO_MEMORY", "BUSY", "PRESENT", "INVALID", "RANGE"
 # The calls that no sequence names: callers/play.c makes them in the place of `admit`, `end` and `hand_close`, and callers/blocks.c comes to
 # their errors.
 UNNAMED = {"admit_in", "end_out", "hand_end_out"}
@@ -55,14 +55,19 @@ def jobs_of(tools, seed, in_rattle):
             yield f"drawn calls of {kind.name}{label}", (program, other, kind, seed, calls)
 
 
-def check(tools, seed):
-    jobs, errors = list(jobs_of(tools, seed, built_in_rattle(tools))), set()
+def all_compared(jobs):
+    """Each of the jobs, which have names, with what comes of it. They are done side by side."""
     with multiprocessing.Pool(max(1, min(len(jobs), os.cpu_count()))) as pool:
-        for (name, job), compared in zip(jobs, pool.imap(compare, [job for _, job in jobs])):
-            tools.checks.look(f"{name}, seed {seed}", compared.fault, f"{compared.count} calls are answered as by the model")
-            if job[1]:
-                tools.checks.look(f"{name} in Rattle, seed {seed}", compared.fault_in_rattle, "the same answers and states, byte for byte")
-            errors |= compared.errors
+        yield from zip(jobs, pool.imap(compare, [job for _, job in jobs]))
+
+
+def check(tools, seed):
+    errors = set()
+    for (name, job), compared in all_compared(list(jobs_of(tools, seed, built_in_rattle(tools)))):
+        tools.checks.look(f"{name}, seed {seed}", compared.fault, f"{compared.count} calls are answered as by the model")
+        if job[1]:
+            tools.checks.look(f"{name} in Rattle, seed {seed}", compared.fault_in_rattle, "the same answers and states, byte for byte")
+        errors |= compared.errors
     wanted = documented()
     name = f"drawn calls of seed {seed} come to the errors of the header"
     tools.checks.look(name, difference(named(errors), wanted), f"{len(wanted)} of them")

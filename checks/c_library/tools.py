@@ -18,9 +18,9 @@ SANITIZED = ("-g", "-fsanitize=address,undefined", "-fno-sanitize-recover=all")
 SECONDS = 300
 
 
-def run(words, input="", **more):
+def run(words, input="", seconds=SECONDS, **more):
     """A run of a program or a tool, with what it prints as text."""
-    printed = runner.run(list(map(str, words)), input.encode(), SECONDS, **more)
+    printed = runner.run(list(map(str, words)), input.encode(), seconds, **more)
     return CompletedProcess(words, printed.status, *(text.decode(errors="replace") for text in (printed.out, printed.errors)))
 
 

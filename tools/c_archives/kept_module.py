@@ -38,3 +38,8 @@ class KeptModule:
     @classmethod
     def read(cls, folder):
         return cls(folder / "module.bc", (folder / "words").read_text().splitlines())
+
+    @property
+    def target(self):
+        """What it is compiled for, as LLVM names it."""
+        return next(word.removeprefix("--target=") for word in self.words if word.startswith("--target="))

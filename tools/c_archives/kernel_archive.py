@@ -1,8 +1,8 @@
 #!/usr/bin/env -S python3 -B
 """kernel_archive.py [--thunks] MODULE ARCHIVE: makes the archive for kernels from the kept LLVM module of the library for C, by the kit's
 own clang and the words that it was given for the archive for programs, with the attributes and flags besides that docs/embedding-c.md
-lists. To the module it joins the functions for memory that a kernel may leave out or have by either name, as bindings/c has them. Ends
-with 3 where there is no module, no kit, or a module that isn't understood."""
+lists for the module's processor. To the module it joins the functions for memory that a kernel may leave out or have by either name, as
+bindings/c has them. Ends with 3 where there is no module, no kit, or a module that isn't understood."""
 
 import argparse
 import re
@@ -17,33 +17,61 @@ from kept_module import KeptModule
 
 @dataclass(frozen=True)
 class Variant:
-    """What one of the archives is made by: attributes of each function that the module defines, the processor that these name, flags
-    that come to those of the module, and the C files whose functions are joined to it."""
+    """What one of the archives is made by: attributes of each function that the module defines, the processor that these name and the one
+    that they name in the module, flags that come to those of the module, and the C files whose functions are joined to it."""
 
     attributes: tuple
     processor: str
-    flags: tuple
+    module_processor: str
+    flags: tuple = ()
     sources: tuple = ()
 
 
 PROCESSOR = "x86-64-v2"
-PROGRAMS = Variant((), PROCESSOR, ())
+PROGRAMS = Variant((), PROCESSOR, PROCESSOR)
+# What is the same for each processor.
+ONE_SECTION = (
+    "-fno-function-sections", "-fno-data-sections",  # all code in .text, as a kernel's linker script takes it
+    "-fno-addrsig",  # no section that such a script doesn't name
+)
+DIVISION = ("-mllvm", "-expand-div-rem-bits=64")  # the division of 128 bits in the code, so no __udivti3
+SOURCES = ("eevdf_names.c", "eevdf_no_memory.c")
 KERNEL = Variant(
     ("noredzone",),  # nothing below the stack pointer
     "x86-64",  # for each processor of 64 bits
+    PROCESSOR,
     (
         "-mno-sse", "-mno-sse2", "-mno-avx", "-mno-mmx",  # no registers but the general ones
-        "-fno-function-sections", "-fno-data-sections",  # all code in .text, as a kernel's linker script takes it
-        "-fno-addrsig",  # no section that such a script doesn't name
+        *ONE_SECTION,
         "-mllvm", "-x86-indirect-branch-tracking",  # endbr64 where a call may come through a pointer
-        "-mllvm", "-expand-div-rem-bits=64",  # the division of 128 bits in the code, so no __udivti3
+        *DIVISION,
     ),
-    ("eevdf_names.c", "eevdf_no_memory.c"),
+    SOURCES,
 )
 LINUX = replace(KERNEL, attributes=(*KERNEL.attributes, "fn_ret_thunk_extern"))  # returns by __x86_return_thunk
 
-# What the attributes are called where clang is given C, and how it compiles C for a place without an operating system.
-IN_C = {"noredzone": "-mno-red-zone", "fn_ret_thunk_extern": "-mfunction-return=thunk-extern"}
+ARM_PROCESSOR = "generic"
+ARM_PROGRAMS = Variant((), ARM_PROCESSOR, ARM_PROCESSOR)
+ARM_KERNEL = Variant(
+    (
+        '"target-features"="-fp-armv8,-neon,+reserve-x18"',  # no registers but the general ones, and of these not Linux's own
+        '"branch-target-enforcement"',  # bti where a call may come through a pointer
+    ),
+    ARM_PROCESSOR,
+    ARM_PROCESSOR,
+    ("-mgeneral-regs-only", *ONE_SECTION, *DIVISION),
+    SOURCES,
+)
+# The archive for kernels by what a module is compiled for.
+KERNELS = {"x86_64-unknown-linux-gnu": KERNEL, "aarch64-unknown-linux-gnu": ARM_KERNEL}
+
+# What the attributes are called where clang is given C, and how it compiles C for a place without an operating system. By the one that is
+# left out it would add sections that Linux's linker script may not name; nobody calls these functions through a pointer.
+IN_C = {
+    "noredzone": "-mno-red-zone",
+    "fn_ret_thunk_extern": "-mfunction-return=thunk-extern",
+    '"target-features"="-fp-armv8,-neon,+reserve-x18"': "-ffixed-x18",
+}
 BARE = ("-std=c11", "-O3", "-fPIC", "-Wall", "-Wextra", "-Werror", "-ffreestanding", "-nostdinc", "-fno-asynchronous-unwind-tables",
         "-fno-stack-protector")
 
@@ -59,11 +87,11 @@ class NotMade(Exception):
 def with_attributes(text, variant):
     """A module in words of LLVM, with the attributes of a variant on each function that it defines."""
     groups = {found[1] for found in DEFINITION.finditer(text)}
-    named = f'"target-cpu"="{PROCESSOR}"'
+    named = f'"target-cpu"="{variant.module_processor}"'
     for group in groups:
         head = re.search(rf"^attributes #{group} = {{ (?=.*{named})", text, re.MULTILINE)
         if not head:
-            raise NotMade(f"the module has a function of other attributes than for {PROCESSOR}")
+            raise NotMade(f"the module has a function of other attributes than for {variant.module_processor}")
         text = text[: head.end()] + "".join(f"{name} " for name in variant.attributes) + text[head.end() :]
     return text.replace(named, f'"target-cpu"="{variant.processor}"')
 
@@ -75,9 +103,11 @@ def run(*words):
 
 
 def compile_words(kept):
-    """The words by which the module was compiled, but for its name and that of the object."""
+    """The words by which the module was compiled, but for what is made, its name and that of the object. For some processors the kit has
+    clang print the module that comes of it, and then make the object of what is printed."""
     words = list(kept.words)
-    for gone in ("-c", "-x", "ir", "-o", *(word for word in words if re.search(r"^--sysroot=|\.bc$|\.o$", word))):
+    made = ("-S", "-emit-llvm", "-Xclang", "-emit-llvm-uselists") if "-S" in words else ("-c",)
+    for gone in (*made, "-x", "ir", "-o", *(word for word in words if re.search(r"^--sysroot=|\.(?:bc|o|ll)$", word))):
         if gone not in words:
             raise NotMade(f"the module was compiled without {gone}: {' '.join(kept.words)}")
         words.remove(gone)
@@ -86,8 +116,8 @@ def compile_words(kept):
 
 def compile_source(tools, kept, variant, source, made):
     """The module of a C file of bindings/c, by flags that come to those of the library's."""
-    target = [word for word in kept.words if word.startswith("--target=")]
-    flags = [*target, f"-march={variant.processor}", *BARE, *variant.flags, *(IN_C[name] for name in variant.attributes)]
+    target = [word for word in kept.words if word.startswith(("--target=", "-march="))]
+    flags = [*target, *BARE, *variant.flags, *(IN_C[name] for name in variant.attributes if name in IN_C)]
     run(tools / "clang", *flags, f"-I{TOP / 'include'}", "-c", "-emit-llvm", "-o", made, TOP / "bindings" / "c" / source)
 
 
@@ -103,6 +133,16 @@ def compile_module(tools, kept, variant, made):
         compile_source(tools, kept, variant, source, module)
         joined += ["-Xclang", "-mlink-bitcode-file", "-Xclang", module]
     run(tools / "clang", *words, *variant.flags, *joined, "-c", "-x", "ir", "-o", made, text)
+
+
+def kernel_variant(kept, has_thunks):
+    """How the archive for kernels is made of a module."""
+    variant = KERNELS.get(kept.target)
+    if not variant:
+        raise NotMade(f"there is no archive for kernels on {kept.target}")
+    if has_thunks and variant is not KERNEL:
+        raise NotMade(f"{kept.target} has no thunks")
+    return LINUX if has_thunks else variant
 
 
 def make(tools, kept, archive, variant):
@@ -130,7 +170,8 @@ def main():
     words.add_argument("archive", type=Path)
     asked = words.parse_args()
     try:
-        make(kit_tools(), KeptModule.read(asked.module), asked.archive, LINUX if asked.thunks else KERNEL)
+        kept = KeptModule.read(asked.module)
+        make(kit_tools(), kept, asked.archive, kernel_variant(kept, asked.thunks))
     except (NotMade, FileNotFoundError) as failed:
         print(f"{Path(__file__).name}: {failed}", file=sys.stderr)
         sys.exit(3)

@@ -101,6 +101,8 @@ static void look_at_empty(void)
 	ANSWERS(EEVDF_ABSENT, eevdf_take_any(&queue, &hand));
 	ANSWERS(EEVDF_ABSENT, eevdf_put(&queue, &hand));
 	ANSWERS(EEVDF_ABSENT, eevdf_put_asleep(&queue, &hand));
+	ANSWERS(EEVDF_ABSENT, eevdf_pull(&queue, &other));
+	ANSWERS(EEVDF_ABSENT, eevdf_pull_task(&queue, &other, 0));
 	ANSWERS(0, eevdf_is_asleep(&queue, 0));
 	ANSWERS(0, eevdf_contains(&queue, 0));
 }
@@ -136,6 +138,7 @@ static void look_at_numbers(void)
 		ANSWERS(EEVDF_INVALID, eevdf_set(&queue, tasks[at], 0, SLICE));
 		ANSWERS(EEVDF_INVALID, eevdf_begin(&queue, tasks[at], 0, SLICE));
 		ANSWERS(EEVDF_INVALID, eevdf_take(&queue, &full, tasks[at]));
+		ANSWERS(EEVDF_INVALID, eevdf_pull_task(&other, &queue, tasks[at]));
 		ANSWERS(EEVDF_INVALID, eevdf_entry_of(&queue, tasks[at], &entry));
 		ANSWERS(EEVDF_INVALID, eevdf_sleeper_of(&queue, tasks[at], &sleeper));
 		ANSWERS(EEVDF_INVALID, eevdf_lag(&queue, tasks[at], &number));
@@ -209,6 +212,33 @@ static void look_at_places(void)
 	ANSWERS(EEVDF_PRESENT, eevdf_put_asleep(&queue, &full));
 }
 
+/*
+ * In the queue are 6 and 7, and it is so late there that no task of the other one can be placed. In
+ * the other one 3 runs, and 7 is the candidate.
+ */
+static void look_at_pulls(void)
+{
+	DONE(eevdf_admit(&other, 3, 0, SLICE, 0));
+	DONE(eevdf_admit(&other, 4, 0, SLICE, 0));
+	DONE(eevdf_admit(&other, 7, 0, SLICE, 0));
+	DONE(eevdf_pick(&other) - 3);
+	ANSWERS(7, eevdf_candidate(&other));
+	ANSWERS(EEVDF_BALANCED, eevdf_pull(&queue, &other));
+	ANSWERS(EEVDF_BALANCED, eevdf_pull_task(&queue, &other, 7));
+	ANSWERS(EEVDF_BALANCED, eevdf_pull_task(&queue, &other, 4));
+	DONE(eevdf_admit(&other, 2, 0, SLICE, 0));
+	ANSWERS(EEVDF_PRESENT, eevdf_pull(&queue, &other));
+	ANSWERS(EEVDF_PRESENT, eevdf_pull_task(&queue, &other, 7));
+	ANSWERS(EEVDF_RANGE, eevdf_pull_task(&queue, &other, 4));
+	ANSWERS(EEVDF_ABSENT, eevdf_pull_task(&queue, &other, 3));
+	ANSWERS(EEVDF_ABSENT, eevdf_pull_task(&queue, &other, 5));
+	DONE(eevdf_end(&other, 7));
+	DONE(eevdf_admit(&other, 8, 0, SLICE, 0));
+	ANSWERS(EEVDF_RANGE, eevdf_pull(&queue, &other));
+	DONE(eevdf_sleep(&other, 3));
+	ANSWERS(EEVDF_ABSENT, eevdf_pull_task(&queue, &other, 3));
+}
+
 /* A task that runs on after ten yields has a request that no tick uses up, and before it has one. */
 static void look_at_yields(void)
 {
@@ -270,6 +300,7 @@ int main(void)
 	look_at_places();
 	look_at_yields();
 	look_at_range();
+	look_at_pulls();
 	eevdf_hand_close(&full);
 	eevdf_hand_close(&hand);
 	eevdf_close(&queue);

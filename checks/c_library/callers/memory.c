@@ -134,6 +134,9 @@ static void move(eevdf_queue *from, eevdf_queue *to, uint64_t task)
 	eevdf_rebase(to, &number);
 	eevdf_take_any(to, &between.hand);
 	eevdf_put(to, &between.hand);
+	eevdf_pull(from, to);
+	eevdf_pull(to, from);
+	eevdf_pull_task(to, from, task);
 	eevdf_stop(from);
 }
 

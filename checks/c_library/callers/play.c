@@ -1,6 +1,6 @@
 /*
  * play.c: makes the calls that standard input names, a line each, and prints each answer, with what
- * else the call gives. A line is the name of a call without `eevdf_`, the numbers of its queue and
+ * else the call gives. A line is the name of a call without `eevdf_`, the numbers of its queues and
  * its hand where it has them, and its numbers. Besides,
  *   state QUEUE TASKS   prints all that can be read of a queue and its tasks below a number,
  *   refuse 1, refuse 0  let every request for memory be refused from there on, or none.
@@ -208,6 +208,21 @@ static int64_t play_put_asleep(const struct line *line)
 	return eevdf_put_asleep(queue_of(line), hand_of(line, 1));
 }
 
+static eevdf_queue *other_queue_of(const struct line *line)
+{
+	return &queues[line->number[1] % QUEUES].queue;
+}
+
+static int64_t play_pull(const struct line *line)
+{
+	return eevdf_pull(queue_of(line), other_queue_of(line));
+}
+
+static int64_t play_pull_task(const struct line *line)
+{
+	return eevdf_pull_task(queue_of(line), other_queue_of(line), line->number[2]);
+}
+
 static int64_t play_floor_time(const struct line *line)
 {
 	written_count = 1;
@@ -298,6 +313,8 @@ static const struct {
 	{ .name = "take_any", .play = play_take_any },
 	{ .name = "put", .play = play_put },
 	{ .name = "put_asleep", .play = play_put_asleep },
+	{ .name = "pull", .play = play_pull },
+	{ .name = "pull_task", .play = play_pull_task },
 	{ .name = "len", .read = eevdf_len },
 	{ .name = "load", .read = eevdf_load },
 	{ .name = "running", .read = eevdf_running },

@@ -83,6 +83,21 @@ static inline void hand_end_out(void)
 		eevdf_dealloc(block.at);
 }
 
+/* The other queue pulls the candidate, and another task if it waits, and gives both back. */
+static inline void pull(uint64_t task)
+{
+	int64_t pulled = eevdf_pull(&other, &queue);
+
+	if (pulled >= 0) {
+		eevdf_take(&other, &hand, (uint64_t)pulled);
+		eevdf_put(&queue, &hand);
+	}
+	if (eevdf_pull_task(&other, &queue, task) >= 0) {
+		eevdf_take(&other, &hand, task);
+		eevdf_put(&queue, &hand);
+	}
+}
+
 /* A turn of each call that a queue has in its life. */
 static inline void turn(void)
 {
@@ -116,6 +131,7 @@ static inline void turn(void)
 		eevdf_rebase(&queue, &number);
 	if (eevdf_take_any(&queue, &hand) >= 0)
 		eevdf_put(&queue, &hand);
+	pull(task);
 	eevdf_candidate(&queue);
 	eevdf_len(&queue);
 	eevdf_load(&queue);
@@ -272,6 +288,13 @@ static void make_calls_at_plan(void)
 	for (unsigned place = 0; place <= plan.count; place++)
 		if (is_near_low(&plan, place))
 			visit_place(place);
+	eevdf_open(&other);
+	for (unsigned place = 0; place < plan.count; place++)
+		if (is_near_low(&plan, place) && eevdf_pull_task(&other, &queue, place) >= 0)
+			eevdf_end(&other, place);
+	while (eevdf_pull(&other, &queue) >= 0)
+		;
+	eevdf_close(&other);
 	eevdf_close(&queue);
 }
 
