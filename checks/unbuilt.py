@@ -25,8 +25,8 @@ from runner import TOP, Checks, run, stored
 SECONDS, SECONDS_WHERE_KEPT = 400, 2
 # How long a run may take that compiles the program first, on a busy machine.
 PATIENCE = 3600
-# A run is ended after so many seconds, when it is under way, and has so many to be cleared away.
-ENDED_AFTER, CLEARED = 4, 30
+# A run is ended so many seconds after it has begun a file, when it compiles, and has so many to be cleared away.
+ENDED_AFTER, CLEARED = 3, 30
 # By Ctrl-C or the end of the session it may be ended at any time: these are the seconds after which it is tried.
 MOMENTS = (0.2, 0.5, 0.8, 1.1, 1.5, 2, 3, 5)
 # How long a script may take to say how it is used.
@@ -122,13 +122,21 @@ def look_at_wrong_source(checks, copy):
     checks.expect("says where a source doesn't compile", printed, (printed.status, printed.out) == (3, b"") and is_told)
 
 
+def begun_in(folder, process):
+    """What a run has begun in the folder of its temporary files: it is waited for, since a busy machine takes its time."""
+    deadline = time.monotonic() + PATIENCE
+    while not os.listdir(folder) and process.poll() is None and time.monotonic() < deadline:
+        time.sleep(0.1)
+    return os.listdir(folder)
+
+
 def end_run(copy, folder, number):
     """Ends a run that compiles, by a signal: how it ended, what it had begun and what it left."""
     with open(WORKLOAD, "rb") as given:
         words = [copy / "eevdf", "solo"]
         process = subprocess.Popen(words, stdin=given, env={**os.environ, "TMPDIR": str(folder)}, stderr=subprocess.DEVNULL)
+    begun = begun_in(folder, process)
     time.sleep(ENDED_AFTER)
-    begun = os.listdir(folder)
     process.send_signal(number)
     status = process.wait()
     deadline = time.monotonic() + CLEARED
