@@ -2,13 +2,13 @@
 use Rattle.std.proofs.Common.{◌≡◌, ℕ, ◌+◌, ◌≤◌, ◌==◌, Bool, true, false, cond, Option, Some, None, refl, sym, ap, subst, ◌∙◌, inl, inr, arith}
 use Rattle.std.specs.Prelude.{ℤ, pos, ◌+ℤ◌, ◌-ℤ◌, ◌*ℤ◌, int_le, map}
 use Rattle.std.specs.{Option.option_map, Ordering.nat_cmp, Ordering.eq_by_cmp, Cmp.nat_cmp_total}
-use Rattle.std.specs.FinMap.{empty, entries, get, insert, remove, len, get-empty, get-insert}
+use Rattle.std.specs.FinMap.{empty, contains_key, entries, get, insert, remove, len, get-empty, get-insert}
 use Rattle.std.proofs.lemmas.{Bool.Decides.nat_tests, Int.ints}
 use Rattle.eevdf_weight.specs.{Limits.is_in_range, Weight.weight_of, Charge.charge_of, Placement.placement_of, Placement.floor_div}
 use Rattle.eevdf_queue.specs.{declared.entry.Entry.Entry, State.State, State.Sleeper, Lag.kept_lag, Lag.cut, Lag.limit_of, Lag.lag_by}
 use Rattle.eevdf_queue.specs.Sums.{Tasks, sum_weights, sum_moments, time_over, virtual_time, total_weight, total_moment}
 use Rattle.eevdf_queue.specs.Moves.{fresh_entry, is_entry_in_range, entry_in_range, with_runnable, request_of}
-use Rattle.eevdf_queue.specs.{Candidate.candidate_of, Pick.pick_of, Pick.picked_by, Pick.after_pick}
+use Rattle.eevdf_queue.specs.{Candidate.candidate_of, Pick.pick_of, Pick.picked_by, Pick.after_pick, Pick.adopted}
 use Rattle.eevdf_queue.specs.Tick.{aged, is_used_up, charged, tick, tick_to, tick_entry, tick_running}
 use Rattle.eevdf_queue.specs.Yield.{yielded, yield_now, yield_to, yield_entry, yield_running}
 use Rattle.eevdf_queue.specs.Placing.{runtime_of, placement, put}
@@ -119,6 +119,16 @@ module _ (by : ℤ) (q r : State) (h : IsLower by q r) where
   pick_lower : (o : Option ℕ) → IsLower by (picked_by q o) (picked_by r o)
   pick_lower None = h
   pick_lower (Some t) = record { runnable = h.runnable; running = refl; asleep = h.asleep; base = h.base }
+
+  adopt_where : (t : ℕ) (b : Bool) → IsLower by (cond b (picked_by q (Some t)) q) (cond b (picked_by r (Some t)) r)
+  adopt_where t false = h
+  adopt_where t true = pick_lower (Some t)
+
+  adopt_lower : (t : ℕ) → IsLower by (adopted q t) (adopted r t)
+  adopt_lower t =
+      subst (λ (b : Bool). IsLower by (adopted q t) (cond b (picked_by r (Some t)) r))
+      (sym (ap (λ (m : Tasks). contains_key m t) h.runnable ∙ contains-lowered by q.runnable t))
+      (adopt_where t (contains_key q.runnable t))
 
   lag_by_entry : (o : Option Entry) (s : Option Sleeper) → lag_by r (option_map (lowered_entry by) o) s ≡ lag_by q o s
   lag_by_entry None s = refl
@@ -329,6 +339,7 @@ lowered_queue_answers_alike by q r h = record {
   candidate = ap (λ (m : Tasks). candidate_of m r.running) h.runnable ∙ candidate-lowered by q.runnable r.running ∙ ap (candidate_of q.runnable) h.running;
   pick = ap pick_of h.runnable ∙ pick-lowered by q.runnable;
   picked = subst (λ (o : Option ℕ). IsLower by (after_pick q) (picked_by r o)) (sym (ap pick_of h.runnable ∙ pick-lowered by q.runnable)) (pick_lower by q r h (pick_of q.runnable));
+  adopted = adopt_lower by q r h;
   resched = λ i j ns. resched_alike by q r h i j ns q.running refl;
   tick = λ ns. subst (λ (o : Option ℕ). AreAlike ticks.Range by (tick q ns) (tick_running r o ns)) (sym h.running) (tick_run by q r h ns q.running);
   yields = subst (λ (o : Option ℕ). AreAlike yields.Range by (yield_now q) (yield_running r o)) (sym h.running) (yield_run by q r h q.running);

@@ -2,7 +2,7 @@
 use Rattle.std.specs.Prelude.{◌≡◌, ℕ, ℤ, pos, ◌-ℤ◌, ◌*ℤ◌, ◌⊎◌, Option, Some, None}
 use Rattle.std.specs.Option.{option_map}
 use Rattle.std.specs.FinMap as map
-use Rattle.eevdf_queue.specs.{State.State, State.Sleeper, State.Contents, Sums.total_weight, Sums.total_moment, Sums.virtual_time, Lag.lag_of, Pick.pick_of, Pick.after_pick}
+use Rattle.eevdf_queue.specs.{State.State, State.Sleeper, State.Contents, Sums.total_weight, Sums.total_moment, Sums.virtual_time, Lag.lag_of, Pick.pick_of, Pick.after_pick, Pick.adopted}
 use Rattle.eevdf_queue.specs.{Candidate.candidate_of, Tick.tick, Yield.yield_now, Wake.wake, Renice.renice, SliceChange.set_slice, Attributes.set, Attributes.begin}
 use Rattle.eevdf_queue.specs.{Kept.AreInRange, TimeToResched.ends_request, Closing.take_any}
 use Rattle.eevdf_queue.specs.{Moves.admit, Moves.put_asleep, Placing.put, Rebase.lowered_entry, Rebase.lowered_tasks, Rebase.rebased}
@@ -49,6 +49,7 @@ pub record AnswerAlike (by : ℤ) (q r : State) : Type 0 where
   pub candidate : candidate_of r.runnable r.running ≡ candidate_of q.runnable q.running
   pub pick : pick_of r.runnable ≡ pick_of q.runnable
   pub picked : IsLower by (after_pick q) (after_pick r)
+  pub adopted : (t : ℕ) → IsLower by (adopted q t) (adopted r t)
   pub resched : AreInRange q.runnable → AreInRange r.runnable → (ns : ℕ) → ends_request (tick r ns).0 ≡ ends_request (tick q ns).0
   pub tick : (ns : ℕ) → AreAlike ticks.Range by (tick q ns) (tick r ns)
   pub yields : AreAlike yields.Range by (yield_now q) (yield_now r)

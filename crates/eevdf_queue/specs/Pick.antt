@@ -1,5 +1,5 @@
 -- Which task is picked: the eligible one of earliest virtual deadline, ties by number.
-use Rattle.std.specs.Prelude.{◌≡◌, ℕ, ◌≤◌, ◌⊎◌, Bool, true, ℤ, pos, ◌*ℤ◌, ◌<ℤ◌, int_le, Option, Some, None, unwrap_or, option_and_then}
+use Rattle.std.specs.Prelude.{◌≡◌, ℕ, ◌≤◌, ◌⊎◌, Bool, true, ℤ, pos, ◌*ℤ◌, ◌<ℤ◌, int_le, if◌then◌else◌, Option, Some, None, unwrap_or, option_and_then}
 use Rattle.std.specs.Option.{option_map}
 use Rattle.std.specs.FinMap as map
 use Rattle.eevdf_queue.specs.{declared.entry.Entry.Entry, State.State, State.View, Order.earliest}
@@ -38,6 +38,10 @@ picked_by q (Some t) = record q { running = Some t }
 
 abbrev pub after_pick : State → State
 after_pick q = picked_by q (pick_of q.runnable)
+
+-- the same deed without a choice: the task runs that is named, where it is runnable
+abbrev pub adopted : State → ℕ → State
+adopted q task = if map.contains_key q.runnable task then picked_by q (Some task) else q
 
 -- what is seen of the queue after it: the depth is that of the pick's node, and 0 where there is no pick
 abbrev pub view_picked_by : View → Option ℕ → View

@@ -153,6 +153,16 @@ impl Parcel {
         self
     }
 
+    /// The same task under another number, so that queues which exchange tasks can give out their numbers each by itself.
+    pub fn with_number(mut self, task: TaskId) -> Parcel
+        ensures { result ≡ record self { task = task } }
+    {
+        let mut numbered = self.node.task();
+        numbered.number = task;
+        self.node.replace(numbered);
+        self
+    }
+
     /// The same task with another slice, and with its lag cut to the limit that it then has.
     pub fn with_slice(self, slice: Slice) -> Parcel
         ensures { result ≡ contents_with_slice self slice }

@@ -35,6 +35,9 @@ impl Line {
             ["refuse", whether] => Line::at(NamedCall::Refuse(whether == "1"), "0", "0"),
             [name, place] => Line::at(NamedCall::plain(name)?, place, place),
             ["pull", to, from] => Line::pull(to, from, NamedCall::Pull),
+            ["hand_renumber", hand, task] => {
+                Line::at(NamedCall::HandRenumber(unsigned(task)?), hand, hand)
+            }
             [name, queue, number] => Line::with_number(name, queue, number),
             ["pull_task", to, from, task] => {
                 Line::pull(to, from, NamedCall::PullTask(unsigned(task)?))

@@ -41,6 +41,14 @@ pub fn yield_now(queue: &mut Queue) -> Result<u64, Fault> {
     }
 }
 
+pub fn run(queue: &mut Queue, task: u64) -> Result<u64, Fault> {
+    if queue.adopt(task_of(task)?) {
+        Ok(0)
+    } else {
+        Err(Fault::Absent)
+    }
+}
+
 pub fn admit(queue: &mut Queue, memory: Memory, new: &NewTask) -> Result<u64, Fault> {
     let task = task_of(new.task)?;
     let nice = nice_of(new.nice)?;
@@ -203,6 +211,16 @@ pub fn put_asleep(queue: &mut Queue, hand: &mut Hand) -> Result<u64, Fault> {
         return Err(Fault::Present);
     }
     queue.put_asleep(parcel);
+    Ok(0)
+}
+
+/// Gives the task in a hand another number.
+pub fn hand_renumber(hand: &mut Hand, task: u64) -> Result<u64, Fault> {
+    let task = task_of(task)?;
+    let Some(parcel) = hand.take() else {
+        return Err(Fault::Absent);
+    };
+    hand.fill(parcel.with_number(task));
     Ok(0)
 }
 

@@ -8,6 +8,7 @@ pub enum NamedCall {
     Tick(u64),
     TimeToResched,
     Yield,
+    Run(u64),
     Stop,
     Sleep(u64),
     Wake(u64),
@@ -38,6 +39,7 @@ pub enum NamedCall {
     HandOpen,
     HandTask,
     HandParcel,
+    HandRenumber(u64),
     HandClose,
     /// Whether requests for memory are refused from there on.
     Refuse(bool),
@@ -99,6 +101,7 @@ impl NamedCall {
     pub fn numbered(name: &str, number: u64) -> Option<NamedCall> {
         match name {
             "tick" => Some(NamedCall::Tick(number)),
+            "run" => Some(NamedCall::Run(number)),
             "sleep" => Some(NamedCall::Sleep(number)),
             "wake" => Some(NamedCall::Wake(number)),
             "end" => Some(NamedCall::End(number)),

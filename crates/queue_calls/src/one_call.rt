@@ -42,6 +42,7 @@ fn answer(
         NamedCall::Pick => number_of(queue.pick()),
         NamedCall::Tick(ns) => moves::tick(queue, ns),
         NamedCall::Yield => moves::yield_now(queue),
+        NamedCall::Run(task) => moves::run(queue, task),
         NamedCall::Stop => number_of(queue.stop_running()),
         NamedCall::Sleep(task) => moves::sleep(queue, task),
         NamedCall::Wake(task) => moves::wake(queue, task),
@@ -55,6 +56,7 @@ fn answer(
         NamedCall::TakeAny => moves::take_any(queue, hand),
         NamedCall::Put => moves::put(queue, hand),
         NamedCall::PutAsleep => moves::put_asleep(queue, hand),
+        NamedCall::HandRenumber(task) => moves::hand_renumber(hand, task),
         NamedCall::HandOpen | NamedCall::HandClose => moves::hand_close(hand),
         _ => asked(queue, hand, call),
     }

@@ -179,7 +179,7 @@ fn takes_who_is_runnable(rt: &impl Abort, alloc: Global, queue: &mut Queue) {
 }
 
 /// A task that waits leaves the other one running. Its parcel gets another nice level and slice as a task that sleeps does, and
-/// loses its lag alone.
+/// loses its lag alone. It can come back under another number.
 fn changes_a_parcel(rt: &impl Abort, alloc: Global, queue: &mut Queue) {
     charge_first_of_two(rt, alloc, queue);
     let taken = queue
@@ -193,9 +193,11 @@ fn changes_a_parcel(rt: &impl Abort, alloc: Global, queue: &mut Queue) {
     let taken = taken.with_attributes(nice(rt, 5), slice(rt, 100_000));
     assert_eq!(rt; taken.lag(), 611_343);
     assert_eq!(rt; taken.slice(), slice(rt, 100_000));
-    let taken = taken.without_lag();
+    let taken = taken.without_lag().with_number(task(rt, 9));
+    assert_eq!(rt; taken.task(), task(rt, 9));
     put_asleep(rt, queue, taken);
-    is_asleep(rt, queue, 1, 0, 5, 100_000);
+    is_asleep(rt, queue, 9, 0, 5, 100_000);
+    assert!(rt; !queue.contains(task(rt, 1)));
 }
 
 #[test]

@@ -79,6 +79,33 @@ fn sleeps_and_wakes(rt: &impl Abort, alloc: Global, queue: &mut Queue) {
     stands_at(rt, queue, 0, &woken)
 }
 
+/// Of two tasks the one that waits runs where it is adopted, and the other one waits. Neither moves. A task that isn't here, or
+/// sleeps here, doesn't run.
+fn adopts_who_waits(rt: &impl Abort, alloc: Global, queue: &mut Queue) {
+    charge_first_of_two(rt, alloc, queue);
+    put_asleep(rt, queue, parcel(rt, alloc, 2, 3_000_000, 0));
+    assert!(rt; queue.adopt(task(rt, 1)));
+    assert_eq!(rt; queue.running(), Some(task(rt, 1)));
+    assert_eq!(rt; queue.candidate(), Some(task(rt, 0)));
+    let waiting = Place {
+        v: 1_000_000,
+        d: 3_000_000,
+        lag: -500_000,
+    };
+    stands_at(rt, queue, 0, &waiting);
+    for number in 1..4 {
+        assert_eq!(rt; queue.adopt(task(rt, number)), number == 1);
+        assert_eq!(rt; queue.running(), Some(task(rt, 1)));
+    }
+    assert_eq!(rt; queue.yield_now(), YieldAnswer::Yielded);
+    let yielded = Place {
+        v: 0,
+        d: 6_000_000,
+        lag: 500_000,
+    };
+    stands_at(rt, queue, 1, &yielded);
+}
+
 /// Asks that this task, which has nice level 0, is offered with this slice and lag.
 fn is_offered(rt: &impl Abort, queue: &Queue, number: u64, slice_ns: u64, lag: i64) {
     let offer = queue.offer().expect(rt, "nobody waits");
@@ -114,6 +141,7 @@ fn a_queue_comes_to_what_is_worked_out(rt: HostRuntime) {
     sleeps(rt, alloc, &mut Queue::open());
     leaves_and_joins(rt, alloc, &mut Queue::open());
     sleeps_and_wakes(rt, alloc, &mut Queue::open());
+    adopts_who_waits(rt, alloc, &mut Queue::open());
     offers_who_waits(rt, alloc, &mut Queue::open());
     offers_a_lag_at_its_limit(rt, alloc, &mut Queue::open());
 }

@@ -4,7 +4,7 @@ ghost use Rattle.std.specs.Prelude.{◌≡◌, ◌<◌, ◌≤◌, ◌↔◌, �
 ghost use Rattle.std.specs.Option.{option_map};
 ghost use Rattle.std.specs.FinMap as map;
 ghost use Rattle.eevdf_queue.specs.Moves as moves;
-ghost use Rattle.eevdf_queue.specs.Pick.{IsPick, pick_of, after_pick, view_after_pick};
+ghost use Rattle.eevdf_queue.specs.Pick.{IsPick, pick_of, after_pick, adopted, view_after_pick};
 ghost use Rattle.eevdf_queue.specs.Tick as ticks;
 ghost use Rattle.eevdf_queue.specs.TimeToResched.{IsShortest, ends_request};
 ghost use Rattle.eevdf_queue.specs.Yield as yields;
@@ -64,6 +64,20 @@ impl Queue {
         ensures none { IsNone result ↔ (self.now.state.runnable ≡ map.empty) }
     {
         self.runnable.peek()
+    }
+
+    /// Lets this task run as if it had been picked, whichever a pick would choose: who ran before waits, and no task's place
+    /// changes. Nothing changes where it runs already. `false` exactly where it isn't runnable here, and then nothing has changed.
+    pub fn adopt(&mut self, task: TaskId) -> bool
+        ensures here { result ≡ map.contains_key self.old.state.runnable task }
+        ensures after { self.new.state ≡ adopted self.old.state task }
+        ensures pick_depth { self.new.pick_depth ≡ self.old.pick_depth }
+    {
+        if self.entry(task).is_none() {
+            return false;
+        }
+        self.running = Some(task);
+        true
     }
 
     /// Lets the task of a pick run.
