@@ -45,11 +45,11 @@
  * nothing of each other, and a task moves between two queues through a hand without a need to hold
  * two locks; by eevdf_pull and eevdf_pull_task it moves in one call under both. A hand belongs to
  * whoever moves the task, and needs no lock as long as nobody else uses it. A task's number goes
- * with it, so the 1024 numbers are of all queues that exchange tasks.
+ * with it, unless eevdf_hand_renumber gives it another: numbers are each queue's own.
  *
- * SEVERAL CPUS. eevdf_pick makes who ran before a task that another CPU may take, and eevdf_sleep
- * makes it one that can be woken, while its CPU is still on its stack. So hold the queue's lock
- * until the switch has saved it; or keep a flag that it is on a CPU, which the switch clears and
+ * SEVERAL CPUS. eevdf_pick and eevdf_run make who ran before a task that another CPU may take, and
+ * eevdf_sleep makes it one that can be woken, while its CPU is still on its stack. So hold the
+ * queue's lock until the switch has saved it; or keep a flag that it is on a CPU, which the switch clears and
  * whoever runs it elsewhere awaits. A wake is done on the queue where the task sleeps, so keep with
  * each task which queue that is. A wake that comes before the sleep is answered PRESENT and leaves
  * nothing here: the caller remembers it, and lets the task not sleep. docs/embedding-c.md has these
@@ -130,7 +130,7 @@ extern "C" {
  * MAJOR where a program may have to be changed; as long as it is 0, MINOR stands for it too.
  */
 #define EEVDF_VERSION_MAJOR 0
-#define EEVDF_VERSION_MINOR 5
+#define EEVDF_VERSION_MINOR 6
 #define EEVDF_VERSION_PATCH 0
 #define EEVDF_VERSION \
 	(EEVDF_VERSION_MAJOR * 1000000 + EEVDF_VERSION_MINOR * 1000 + EEVDF_VERSION_PATCH)
@@ -330,6 +330,16 @@ int64_t eevdf_pick(eevdf_queue *queue);
 int64_t eevdf_peek(const eevdf_queue *queue);
 
 /*
+ * Lets a runnable task run that no pick chose. So a CPU begins with a task on it, one comes that
+ * runs already, or another rule than the deadline says who runs, as where cores schedule together.
+ * Who ran before waits, if it is another. The task is charged as any other, but what is proved of
+ * fairness is of picks alone. Answers 0.
+ * Lock: the queue's. Interrupts: yes.
+ * INVALID: no number of a task. ABSENT: it isn't runnable here, and whoever ran runs on.
+ */
+int64_t eevdf_run(eevdf_queue *queue, uint64_t task);
+
+/*
  * Charges the running task for `ns`. 0: its request stands. 1: its request is used up, and it has a
  * fresh one: time to pick. A charge is rounded down, and the rest isn't kept: at nice level -20 a
  * tick of fewer than 87 ns charges nothing. A time above EEVDF_TICK_MAX is charged in several
@@ -477,6 +487,13 @@ int64_t eevdf_hand_task(const eevdf_hand *hand);
  * Lock: none. Interrupts: yes. ABSENT: the hand is empty.
  */
 int64_t eevdf_hand_parcel(const eevdf_hand *hand, eevdf_parcel *out);
+
+/*
+ * Gives the task in the hand another number. So each queue can have EEVDF_TASKS of its own: a task
+ * whose number is taken where it goes is put there under one that is free. Answers 0.
+ * Lock: none. Interrupts: yes. INVALID: no number of a task. ABSENT: the hand is empty.
+ */
+int64_t eevdf_hand_renumber(eevdf_hand *hand, uint64_t task);
 
 /*
  * Ends the task in the hand, if there is one, and gives its memory back. The hand is then as newly

@@ -9,6 +9,7 @@ from tools import C11, SANITIZED, TOP, ending, fault_of, run
 
 FIRST = TOP / "examples" / "c" / "first.c"
 TICKLESS = TOP / "examples" / "c" / "tickless.c"
+OWN_NUMBERS = TOP / "examples" / "c" / "own_numbers.c"
 RUNTIME = TOP / "examples" / "c" / "runtime"
 TWO_CPUS = TOP / "examples" / "c" / "two_cpus.c"
 FOUR_CPUS = TOP / "examples" / "c" / "four_cpus.c"
@@ -166,6 +167,7 @@ def check(tools):
     check_pages(tools)
     check_one_thread(tools, FIRST)
     check_one_thread(tools, TICKLESS)
+    check_one_thread(tools, OWN_NUMBERS)
     check_runtime(tools, "")
     check_runtime(tools, ", sanitized", *SANITIZED)
     check_locks(tools)

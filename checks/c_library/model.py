@@ -2,6 +2,7 @@
 every sum is a scan. It shares no code with the library."""
 
 import sys
+from dataclasses import replace
 from pathlib import Path
 
 TOP = Path(__file__).resolve().parents[2]
@@ -84,6 +85,14 @@ class Model:
         task, self.queues[queue].running = self.queues[queue].running, None
         return ABSENT if task is None else task
 
+    def run(self, queue, task):
+        if not is_task(task):
+            return INVALID
+        if task not in self.queues[queue].runnable:
+            return ABSENT
+        self.queues[queue].running = task
+        return 0
+
     def running(self, queue):
         return ABSENT if self.queues[queue].running is None else self.queues[queue].running
 
@@ -162,6 +171,14 @@ class Model:
     def hand_parcel(self, hand):
         held = self.hands[hand]
         return [ABSENT, 1, -1, 1, -1, -1] if held is None else [0, held.task, held.nice, held.length, held.v, held.lag]
+
+    def hand_renumber(self, hand, task):
+        if not is_task(task):
+            return INVALID
+        if self.hands[hand] is None:
+            return ABSENT
+        self.hands[hand] = replace(self.hands[hand], task=task)
+        return 0
 
     def take(self, queue, hand, task):
         if not is_task(task):

@@ -49,6 +49,9 @@ BODIES = {
     "a tick that answers INVALID stops who runs": ("tick", "if (ns == 0) eevdf_stop(queue); return RIGHT;"),
     "a peek asks who runs": ("peek", "int64_t running = eevdf_running(queue); return running >= 0 ? running : RIGHT;"),
     "a time is a nanosecond too long": ("time_to_resched", "int64_t answer = RIGHT; return answer > 0 ? answer + 1 : answer;"),
+    "a run of a task that sleeps wakes it": ("run", "if (eevdf_is_asleep(queue, task) == 1) eevdf_wake(queue, task); return RIGHT;"),
+    "a run that answers ABSENT stops who runs": ("run", "int64_t answer = RIGHT; if (answer == EEVDF_ABSENT) eevdf_stop(queue); return answer;"),
+    "a run of who runs answers ABSENT": ("run", "return eevdf_running(queue) == (int64_t)task ? EEVDF_ABSENT : RIGHT;"),
     "a yield puts the deadline off twice": ("yield", "if (RIGHT != 0) return RIGHT; RIGHT; return 0;"),
     "a wake of a runnable task answers ABSENT": ("wake", """
         int64_t answer = RIGHT;
@@ -77,6 +80,11 @@ BODIES = {
     "a rebase tells 0": ("rebase", "int64_t answer = RIGHT; *by = 0; return answer;"),
     "a take of any task answers 0": ("take_any", "int64_t answer = RIGHT; return answer > 0 ? 0 : answer;"),
     "a take asks for the hand last": ("take", "return eevdf_contains(queue, task) == 0 ? EEVDF_ABSENT : RIGHT;"),
+    "another number of a hand is cut to 10 bits": ("hand_renumber", "task %= EEVDF_TASKS; return RIGHT;"),
+    "another number ends the task of a hand": ("hand_renumber", """
+        int64_t answer = RIGHT;
+        if (answer == 0) eevdf_hand_close(hand);
+        return answer;"""),
     "a put that answers RANGE loses the task": ("put", """
         int64_t answer = RIGHT;
         if (answer == EEVDF_RANGE) eevdf_hand_close(hand);

@@ -1,5 +1,6 @@
-"""Drawn sequences of calls, through the library, through the plain model and in Rattle, plainly built and sanitized, side by side. Together
-they have to come to each error that the header names with a call, and to no other."""
+"""Drawn sequences of calls, through the library, through the plain model and in Rattle, side by side: in a program at any address, in one
+at a fixed address, and in one that is sanitized. Together they have to come to each error that the header names with a call, and to no
+other."""
 
 import multiprocessing
 import os
@@ -10,7 +11,8 @@ from drawn_calls import KINDS, compare
 from object_file import difference
 from tools import SANITIZED, TOP, runner
 
-CALLS, SANITIZED_CALLS = 100000, 10000
+# How many calls of each kind a program makes, and how it is built. Those of the first one are made in Rattle too.
+BUILDS = {"": (100000, ("-fPIE", "-pie")), ", at a fixed address": (20000, ("-fno-pie", "-no-pie")), ", sanitized": (10000, SANITIZED)}
 ERRORS = "ABSENT", "BALANCED", "NO_MEMORY", "BUSY", "PRESENT", "INVALID", "RANGE"
 # The calls that no sequence names: callers/play.c makes them in the place of `admit`, `end` and `hand_close`, and callers/blocks.c comes to
 # their errors.
@@ -46,8 +48,9 @@ def built_in_rattle(tools):
 
 def jobs_of(tools, seed, in_rattle):
     """What is to be compared, with the program in Rattle once. Says which programs can't be built."""
-    for label, calls, other, flags in (("", CALLS, in_rattle, ()), (", sanitized", SANITIZED_CALLS, None, SANITIZED)):
-        program, fault = tools.compile(f"play{label[2:]}", [tools.callers / "play.c"], *flags)
+    for label, (calls, flags) in BUILDS.items():
+        other = None if label else in_rattle
+        program, fault = tools.compile("play" + label.replace(", ", "_").replace(" ", "_"), [tools.callers / "play.c"], *flags)
         if fault:
             tools.checks.look(f"callers/play.c{label}", fault)
             continue

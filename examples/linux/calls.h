@@ -27,15 +27,17 @@ static inline void add(struct game *game, int64_t answer)
 }
 
 /* A call that lets time go by, or asks who is next. */
-static inline int64_t take_turn(struct game *game, eevdf_queue *queue)
+static inline int64_t take_turn(struct game *game, eevdf_queue *queue, uint64_t task)
 {
-	switch (drawn(game, 4)) {
+	switch (drawn(game, 5)) {
 	case 0:
 		return eevdf_tick(queue, 1 + drawn(game, 4000000));
 	case 1:
 		return eevdf_yield(queue);
 	case 2:
 		return eevdf_time_to_resched(queue);
+	case 3:
+		return eevdf_run(queue, task);
 	default:
 		return eevdf_peek(queue);
 	}
@@ -104,7 +106,7 @@ static inline int64_t move_task(struct game *game, eevdf_queue *queue, uint64_t 
 	eevdf_block block = { NULL };
 	int64_t answer;
 
-	switch (drawn(game, 14)) {
+	switch (drawn(game, 15)) {
 	case 0:
 		return eevdf_take(queue, &game->hand, task);
 	case 1:
@@ -123,6 +125,8 @@ static inline int64_t move_task(struct game *game, eevdf_queue *queue, uint64_t 
 		return eevdf_pull(queue, other);
 	case 7:
 		return eevdf_pull_task(queue, other, task);
+	case 8:
+		return eevdf_hand_renumber(&game->hand, task);
 	default:
 		return eevdf_put(queue, &game->hand);
 	}
@@ -160,7 +164,7 @@ static inline uint64_t play(struct game *game)
 		uint64_t kind = drawn(game, 8), task = drawn(game, NUMBERS);
 
 		add(game, kind < 3 ? eevdf_pick(queue) :
-			  kind < 5 ? take_turn(game, queue) :
+			  kind < 5 ? take_turn(game, queue, task) :
 			  kind == 5 ? change_task(game, queue, task) :
 			  kind == 6 ? move_task(game, queue, task) : read_task(game, queue, task));
 		if (at % 65536 == 0) {

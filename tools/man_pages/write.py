@@ -2,8 +2,8 @@
 """write.py FOLDER: writes the manual pages of the library for C into a folder, from the comments of include/eevdf.h: eevdf.3 with what all
 calls have in common, and one for each call and function for memory."""
 
+import argparse
 import re
-import sys
 from pathlib import Path
 
 HEADER = Path(__file__).resolve().parents[2] / "include" / "eevdf.h"
@@ -70,7 +70,9 @@ def pages(header):
 
 
 def main():
-    folder = Path(sys.argv[1])
+    words = argparse.ArgumentParser(description=__doc__)
+    words.add_argument("folder", type=Path, metavar="FOLDER")
+    folder = words.parse_args().folder
     folder.mkdir(parents=True, exist_ok=True)
     for name, text in pages(HEADER.read_text()).items():
         (folder / f"{name}.3").write_text(text)

@@ -19,6 +19,7 @@ extern "C" {
     pub fn eevdf_admit_in(queue: *mut c_void, block: *mut Block, task: u64, nice: i64, slice_ns: u64, start: i64) -> i64;
     pub fn eevdf_pick(queue: *mut c_void) -> i64;
     pub fn eevdf_peek(queue: *const c_void) -> i64;
+    pub fn eevdf_run(queue: *mut c_void, task: u64) -> i64;
     pub fn eevdf_tick(queue: *mut c_void, ns: u64) -> i64;
     pub fn eevdf_time_to_resched(queue: *const c_void) -> i64;
     pub fn eevdf_yield(queue: *mut c_void) -> i64;
@@ -34,6 +35,7 @@ extern "C" {
     pub fn eevdf_hand_open(hand: *mut c_void);
     pub fn eevdf_hand_task(hand: *const c_void) -> i64;
     pub fn eevdf_hand_parcel(hand: *const c_void, out: *mut Parcel) -> i64;
+    pub fn eevdf_hand_renumber(hand: *mut c_void, task: u64) -> i64;
     pub fn eevdf_hand_close(hand: *mut c_void);
     pub fn eevdf_hand_end_out(hand: *mut c_void, block: *mut Block) -> i64;
     pub fn eevdf_take(queue: *mut c_void, hand: *mut c_void, task: u64) -> i64;

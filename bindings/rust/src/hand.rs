@@ -2,7 +2,7 @@
 
 use crate::calls;
 use crate::check_library;
-use crate::error::{checked, done};
+use crate::error::{checked, done, Result};
 use crate::memory::{HandMemory, TaskMemory};
 use core::ffi::c_void;
 use core::fmt;
@@ -61,6 +61,14 @@ impl<'a> Hand<'a> {
         // SAFETY: it points to an opened hand that is borrowed, and the parcel is written to alone
         done(unsafe { calls::eevdf_hand_parcel(self.at.as_ptr(), &mut parcel) }).ok()?;
         Some(parcel)
+    }
+
+    /// Gives the task in the hand another number, so that each queue can have 1024 tasks of its own.
+    ///
+    /// `Invalid`, or `Absent` where the hand is empty.
+    pub fn renumber(&mut self, task: u64) -> Result<()> {
+        // SAFETY: it points to an opened hand that is borrowed alone
+        done(unsafe { calls::eevdf_hand_renumber(self.at.as_ptr(), task) })
     }
 
     /// Ends the task in the hand, and gives the caller memory in which a task was, as [`Queue::end_out`](crate::Queue::end_out) does.

@@ -83,7 +83,7 @@ pub use nanoseconds::Nanoseconds;
 pub use queue::{Entry, Queue, Sleeper};
 
 /// The version of the library that the crate is written for.
-const VERSION: i64 = 5000;
+const VERSION: i64 = 6000;
 
 /// Of a version, the two numbers that say which programs run over it.
 const fn series(version: i64) -> i64 {

@@ -158,6 +158,14 @@ impl<'a> Queue<'a> {
         checked(unsafe { calls::eevdf_peek(self.at.as_ptr()) }).ok()
     }
 
+    /// Lets a runnable task run that no pick chose, as where a CPU begins with a task on it. Who ran before waits,
+    /// if it is another.
+    ///
+    /// `Absent` where it isn't runnable here, and whoever ran runs on.
+    pub fn run(&mut self, task: u64) -> Result<()> {
+        done(unsafe { calls::eevdf_run(self.at.as_ptr(), task) })
+    }
+
     /// Charges the running task for 1 ns to 1 s. Whether its request is used up, so that it is time to pick.
     ///
     /// `Invalid`, `Absent` where nobody runs, or `Range`.

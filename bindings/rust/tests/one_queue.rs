@@ -83,13 +83,17 @@ fn all_other_calls_do_what_they_say() {
     assert_eq!((queue.pick(), queue.running(), queue.candidate()), (Some(7), Some(7), Some(8)));
     queue.yield_now().unwrap();
     assert_eq!(queue.entry(7).unwrap().deadline, 6_000_005);
+    queue.run(8).unwrap();
+    assert_eq!((queue.run(9), queue.run(1024)), (Err(Error::Absent), Err(Error::Invalid)));
+    assert_eq!((queue.running(), queue.candidate()), (Some(8), Some(7)));
+    queue.run(7).unwrap();
     assert_eq!(queue.stop(), Some(7));
     assert_eq!(queue.running(), None);
     queue.renice(7, 5).unwrap();
     assert_eq!(queue.load(), 1024 + 335);
     queue.end(7).unwrap();
     assert_eq!(queue.len(), 1);
-    assert_eq!(eevdf::version(), 5000);
+    assert_eq!(eevdf::version(), 6000);
 }
 
 #[test]

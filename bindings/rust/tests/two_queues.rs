@@ -29,6 +29,25 @@ fn a_task_moves_in_a_hand() {
 }
 
 #[test]
+fn a_task_comes_under_another_number() {
+    let (mut first, mut second, mut between) = (QueueMemory::new(), QueueMemory::new(), HandMemory::new());
+    let (mut from, mut to) = (Queue::open(&mut first), Queue::open(&mut second));
+    let mut hand = Hand::open(&mut between);
+    assert_eq!(hand.renumber(0), Err(Error::Absent));
+    from.admit(0, 0, SLICE, 0).unwrap();
+    to.admit(0, 5, SLICE, 0).unwrap();
+    from.take(&mut hand, 0).unwrap();
+    assert_eq!(to.put(&mut hand), Err(Error::Present));
+    assert_eq!(hand.renumber(1024), Err(Error::Invalid));
+    assert_eq!(hand.task(), Some(0));
+    hand.renumber(1023).unwrap();
+    to.put(&mut hand).unwrap();
+    assert_eq!((to.entry(0).unwrap().nice, to.entry(1023).unwrap().nice), (5, 0));
+    to.run(1023).unwrap();
+    assert_eq!(to.running(), Some(1023));
+}
+
+#[test]
 fn a_pull_levels_the_loads() {
     let (mut first, mut second) = (QueueMemory::new(), QueueMemory::new());
     let (mut from, mut to) = (Queue::open(&mut first), Queue::open(&mut second));

@@ -18,8 +18,8 @@ enum { TURNS = 4000, TASKS = STATE_TASKS, EDGE = 64, MARK = 0xa5, BLOCK = EEVDF_
 /* The calls that change a queue or a hand; the first ones are drawn more often. */
 enum {
 	ADMIT, END, PICK, TICK, OFTEN,
-	YIELD = OFTEN, STOP, SLEEP, WAKE, RENICE, SET_SLICE, SET, BEGIN, REBASE, TAKE, TAKE_ANY, PUT,
-	PUT_ASLEEP, END_HELD,
+	YIELD = OFTEN, RUN, STOP, SLEEP, WAKE, RENICE, SET_SLICE, SET, BEGIN, REBASE, TAKE, TAKE_ANY,
+	RENUMBER, PUT, PUT_ASLEEP, END_HELD,
 	CALLS
 };
 
@@ -193,6 +193,8 @@ static int64_t answer_to(struct side *side, const struct call *call)
 		return eevdf_tick(queue, call->ns);
 	case YIELD:
 		return eevdf_yield(queue);
+	case RUN:
+		return eevdf_run(queue, call->task);
 	case STOP:
 		return eevdf_stop(queue);
 	case SLEEP:
@@ -213,6 +215,8 @@ static int64_t answer_to(struct side *side, const struct call *call)
 		return eevdf_take(queue, hand, call->task);
 	case TAKE_ANY:
 		return eevdf_take_any(queue, hand);
+	case RENUMBER:
+		return eevdf_hand_renumber(hand, call->task);
 	case PUT:
 		return eevdf_put(queue, hand);
 	case PUT_ASLEEP:

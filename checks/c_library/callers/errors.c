@@ -79,6 +79,7 @@ static void look_at_empty(void)
 	ANSWERS(EEVDF_ABSENT, eevdf_tick(&queue, 1));
 	ANSWERS(EEVDF_ABSENT, eevdf_time_to_resched(&queue));
 	ANSWERS(EEVDF_ABSENT, eevdf_yield(&queue));
+	ANSWERS(EEVDF_ABSENT, eevdf_run(&queue, 0));
 	ANSWERS(EEVDF_ABSENT, eevdf_stop(&queue));
 	ANSWERS(EEVDF_ABSENT, eevdf_running(&queue));
 	ANSWERS(EEVDF_ABSENT, eevdf_candidate(&queue));
@@ -97,6 +98,7 @@ static void look_at_empty(void)
 	ANSWERS(EEVDF_ABSENT, eevdf_lag(&queue, 0, &number));
 	ANSWERS(EEVDF_ABSENT, eevdf_hand_task(&hand));
 	ANSWERS(EEVDF_ABSENT, eevdf_hand_parcel(&hand, &parcel));
+	ANSWERS(EEVDF_ABSENT, eevdf_hand_renumber(&hand, 0));
 	ANSWERS(EEVDF_ABSENT, eevdf_take(&queue, &hand, 0));
 	ANSWERS(EEVDF_ABSENT, eevdf_take_any(&queue, &hand));
 	ANSWERS(EEVDF_ABSENT, eevdf_put(&queue, &hand));
@@ -130,6 +132,7 @@ static void look_at_numbers(void)
 
 	for (size_t at = 0; at < sizeof tasks / sizeof *tasks; at++) {
 		ANSWERS(EEVDF_INVALID, eevdf_admit(&queue, tasks[at], 0, SLICE, 0));
+		ANSWERS(EEVDF_INVALID, eevdf_run(&queue, tasks[at]));
 		ANSWERS(EEVDF_INVALID, eevdf_sleep(&queue, tasks[at]));
 		ANSWERS(EEVDF_INVALID, eevdf_wake(&queue, tasks[at]));
 		ANSWERS(EEVDF_INVALID, eevdf_end(&queue, tasks[at]));
@@ -137,6 +140,8 @@ static void look_at_numbers(void)
 		ANSWERS(EEVDF_INVALID, eevdf_set_slice(&queue, tasks[at], SLICE));
 		ANSWERS(EEVDF_INVALID, eevdf_set(&queue, tasks[at], 0, SLICE));
 		ANSWERS(EEVDF_INVALID, eevdf_begin(&queue, tasks[at], 0, SLICE));
+		ANSWERS(EEVDF_INVALID, eevdf_hand_renumber(&hand, tasks[at]));
+		ANSWERS(EEVDF_INVALID, eevdf_hand_renumber(&full, tasks[at]));
 		ANSWERS(EEVDF_INVALID, eevdf_take(&queue, &full, tasks[at]));
 		ANSWERS(EEVDF_INVALID, eevdf_pull_task(&other, &queue, tasks[at]));
 		ANSWERS(EEVDF_INVALID, eevdf_entry_of(&queue, tasks[at], &entry));
@@ -185,6 +190,11 @@ static void look_at_places(void)
 	ANSWERS(EEVDF_NO_MEMORY, admit_without_memory(4, EEVDF_TIME_MAX));
 	ANSWERS(EEVDF_RANGE, eevdf_admit(&queue, 4, 0, SLICE, EEVDF_TIME_MAX));
 	ANSWERS(EEVDF_PRESENT, eevdf_wake(&queue, 1));
+	DONE(eevdf_run(&queue, 1));
+	ANSWERS(EEVDF_ABSENT, eevdf_run(&queue, 3));
+	ANSWERS(EEVDF_ABSENT, eevdf_run(&queue, 4));
+	ANSWERS(1, eevdf_running(&queue));
+	eevdf_stop(&queue);
 	ANSWERS(EEVDF_ABSENT, eevdf_sleep(&queue, 3));
 	ANSWERS(EEVDF_ABSENT, eevdf_renice(&queue, 3, 1));
 	ANSWERS(EEVDF_ABSENT, eevdf_set(&queue, 4, 1, SLICE));

@@ -103,7 +103,7 @@ static void admit(eevdf_queue *queue, uint64_t task)
 static void turns(eevdf_queue *queue, unsigned count)
 {
 	while (count-- > 0) {
-		eevdf_pick(queue);
+		eevdf_run(queue, (uint64_t)eevdf_pick(queue));
 		if (eevdf_tick(queue, 1000000) == 1 && count % 3 == 0)
 			eevdf_yield(queue);
 	}
@@ -133,6 +133,9 @@ static void move(eevdf_queue *from, eevdf_queue *to, uint64_t task)
 	eevdf_renice(to, task, 3);
 	eevdf_rebase(to, &number);
 	eevdf_take_any(to, &between.hand);
+	running = eevdf_hand_task(&between.hand);
+	eevdf_hand_renumber(&between.hand, EEVDF_TASKS - 1);
+	eevdf_hand_renumber(&between.hand, (uint64_t)running);
 	eevdf_put(to, &between.hand);
 	eevdf_pull(from, to);
 	eevdf_pull(to, from);

@@ -14,8 +14,8 @@ enum { TURNS = 1000, TASKS = STATE_TASKS, MARK = 0xa5, PLACES = 3 };
 /* The calls that change a queue or a hand; the first ones are drawn more often. */
 enum {
 	ADMIT, PICK, TICK, OFTEN,
-	YIELD = OFTEN, STOP, SLEEP, WAKE, END, RENICE, SET_SLICE, SET, BEGIN, REBASE, TAKE, TAKE_ANY, PUT,
-	PUT_ASLEEP,
+	YIELD = OFTEN, RUN, STOP, SLEEP, WAKE, END, RENICE, SET_SLICE, SET, BEGIN, REBASE, TAKE, TAKE_ANY,
+	RENUMBER, PUT, PUT_ASLEEP,
 	CALLS
 };
 
@@ -82,6 +82,8 @@ static int64_t answer_to(struct side *side, const struct call *call)
 		return eevdf_tick(queue, call->ns);
 	case YIELD:
 		return eevdf_yield(queue);
+	case RUN:
+		return eevdf_run(queue, call->task);
 	case STOP:
 		return eevdf_stop(queue);
 	case SLEEP:
@@ -104,6 +106,8 @@ static int64_t answer_to(struct side *side, const struct call *call)
 		return eevdf_take(queue, hand, call->task);
 	case TAKE_ANY:
 		return eevdf_take_any(queue, hand);
+	case RENUMBER:
+		return eevdf_hand_renumber(hand, call->task);
 	case PUT:
 		return eevdf_put(queue, hand);
 	default:

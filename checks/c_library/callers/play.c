@@ -90,6 +90,11 @@ static int64_t play_hand_task(const struct line *line)
 	return eevdf_hand_task(hand_of(line, 0));
 }
 
+static int64_t play_hand_renumber(const struct line *line)
+{
+	return eevdf_hand_renumber(hand_of(line, 0), line->number[1]);
+}
+
 static int64_t play_refuse(const struct line *line)
 {
 	refuses = line->number[0] != 0;
@@ -299,6 +304,7 @@ static const struct {
 	{ .name = "tick", .play = play_tick },
 	{ .name = "time_to_resched", .read = eevdf_time_to_resched },
 	{ .name = "yield", .change = eevdf_yield },
+	{ .name = "run", .change_task = eevdf_run },
 	{ .name = "stop", .change = eevdf_stop },
 	{ .name = "sleep", .change_task = eevdf_sleep },
 	{ .name = "wake", .change_task = eevdf_wake },
@@ -331,6 +337,7 @@ static const struct {
 	{ .name = "hand_open", .play = play_hand_open },
 	{ .name = "hand_task", .play = play_hand_task },
 	{ .name = "hand_parcel", .play = play_hand_parcel },
+	{ .name = "hand_renumber", .play = play_hand_renumber },
 	{ .name = "hand_close", .play = play_hand_close },
 	{ .name = "refuse", .play = play_refuse },
 };

@@ -120,6 +120,7 @@ static inline void turn(void)
 	eevdf_begin(&queue, task, (int64_t)drawn(40) - 20, 3000000);
 	eevdf_take(&queue, &hand, task);
 	eevdf_hand_parcel(&hand, &parcel);
+	eevdf_hand_renumber(&hand, task);
 	eevdf_put(&other, &hand);
 	eevdf_pick(&other);
 	eevdf_take(&other, &hand, task);
@@ -136,6 +137,7 @@ static inline void turn(void)
 	eevdf_len(&queue);
 	eevdf_load(&queue);
 	eevdf_floor_time(&queue, &number);
+	eevdf_run(&queue, task);
 	eevdf_running(&queue);
 	eevdf_entry_of(&queue, task, &entry);
 	eevdf_lag(&queue, task, &number);

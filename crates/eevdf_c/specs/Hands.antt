@@ -56,6 +56,15 @@ abbrev pub put_asleep : State → Option Contents → Outcome
 put_asleep q None = record { answer = absent; queue = q; hand = None }
 put_asleep q (Some p) = put_asleep_where q p (is_here q p.task)
 
+abbrev pub renumber_by : Option Contents → Option ℕ → ℤ × Option Contents
+renumber_by h None = (invalid, h)
+renumber_by None (Some task) = (absent, None)
+renumber_by (Some p) (Some task) = (done, Some (record p { task = task }))
+
+-- the task of a hand gets another number
+abbrev pub renumber : Option Contents → ℕ → ℤ × Option Contents
+renumber h number = renumber_by h (checked_number number)
+
 -- the task in a hand
 abbrev pub hand_task : Option Contents → ℤ
 hand_task None = absent

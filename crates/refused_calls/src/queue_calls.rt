@@ -2,7 +2,7 @@
 
 use crate::called::{called, say};
 use crate::queue_lines::{say_queue, say_sums};
-use crate::queue_moves::{move_tasks, sleep_and_wake};
+use crate::queue_moves::{adopt_and_renumber, move_tasks, sleep_and_wake};
 use crate::stopped::Stopped;
 use eevdf_queue::{Parcel, Queue, Refused, TaskId};
 use eevdf_weight::{Nice, Ns, Slice};
@@ -37,6 +37,7 @@ fn use_both(rt: &impl Print, queue: &mut Queue, other: &mut Queue) {
     take_turns(rt, other);
     sleep_and_wake(other, MANY);
     say_queue(rt, other);
+    adopt_and_renumber(other, queue, MANY);
 }
 
 /// A queue of so many tasks.

@@ -77,3 +77,25 @@ fn wake(queue: &mut Queue, task: TaskId) {
         _ => {}
     }
 }
+
+/// Above the numbers that the queues have been filled with.
+const FREE: u64 = 64;
+
+/// Lets each task run that is runnable here, and gives each sleeping one to the other queue under a number that is free there.
+pub fn adopt_and_renumber(queue: &mut Queue, other: &mut Queue, tasks: u64) {
+    for number in 0..tasks {
+        if let Some(task) = TaskId::new(number) {
+            let _ = queue.adopt(task);
+            if let Some(parcel) = queue.detach_asleep(task) {
+                settle(other, renumbered(parcel));
+            }
+        }
+    }
+}
+
+fn renumbered(parcel: Parcel) -> Parcel {
+    match TaskId::new(parcel.task().get() + FREE) {
+        Some(number) => parcel.with_number(number),
+        None => parcel,
+    }
+}

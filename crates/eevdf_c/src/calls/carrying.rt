@@ -1,6 +1,6 @@
 //! A task in the caller's hand, on its way between two queues.
 
-ghost use Rattle.std.specs.Prelude.{◌≡◌, None, true};
+ghost use Rattle.std.specs.Prelude.{◌≡◌, Some, None, true};
 ghost use Rattle.eevdf_c.specs.Errors.{KeepsOnError};
 ghost use Rattle.eevdf_c.specs.Hands as hands;
 ghost use Rattle.eevdf_c.specs.ParcelOut as parcels;
@@ -35,6 +35,31 @@ pub fn hand_parcel(hand: &Hand, out: &mut ParcelOut) -> i64
     match &hand.parcel {
         Some(parcel) => {
             *out = ParcelOut::of(parcel);
+            DONE
+        }
+        None => ABSENT,
+    }
+}
+
+/// The task in a hand gets another number.
+pub fn hand_renumber(hand: &mut Hand, number: u64) -> i64
+    ensures answer { result ≡ (hands.renumber hand.old number).0 }
+    ensures hand { hand.new ≡ (hands.renumber hand.old number).1 }
+    ensures kept { KeepsOnError result hand.old hand.new }
+{
+    match TaskId::new(number) {
+        Some(task) => renumber_task(hand, task),
+        None => INVALID,
+    }
+}
+
+fn renumber_task(hand: &mut Hand, task: TaskId) -> i64
+    ensures answer { result ≡ (hands.renumber_by hand.old (Some task)).0 }
+    ensures hand { hand.new ≡ (hands.renumber_by hand.old (Some task)).1 }
+{
+    match hand.parcel.take() {
+        Some(parcel) => {
+            hand.fill(parcel.with_number(task));
             DONE
         }
         None => ABSENT,

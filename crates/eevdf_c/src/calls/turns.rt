@@ -47,6 +47,21 @@ pub fn peek(opened: &Opened) -> i64
     task_or_absent(opened.queue.peek())
 }
 
+/// Lets a runnable task run, whichever a pick would choose.
+pub fn run(opened: &mut Opened, number: u64) -> i64
+    ensures answer { result ≡ (turns.run opened.old number).0 }
+    ensures after { opened.new ≡ (turns.run opened.old number).1 }
+    ensures kept { KeepsOnError result opened.old opened.new }
+{
+    let Some(task) = TaskId::new(number) else {
+        return INVALID;
+    };
+    if !opened.queue.adopt(task) {
+        return ABSENT;
+    }
+    DONE
+}
+
 /// Lets nobody run.
 pub fn stop(opened: &mut Opened) -> i64
     ensures answer { result ≡ (turns.stop opened.old).0 }

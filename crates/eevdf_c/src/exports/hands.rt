@@ -53,6 +53,18 @@ pub unsafe extern "C" fn eevdf_hand_parcel(hand: *const u8, out: *mut ParcelOut)
     calls::carrying::hand_parcel(&*(hand as *const Hand), &mut *out)
 }
 
+/// The task in a hand gets another number. Answers 0. `INVALID`: no task has the number; `ABSENT`: the hand is empty.
+#[unsafe(no_mangle)]
+pub unsafe extern "C" fn eevdf_hand_renumber(hand: *mut u8, task: u64) -> i64
+    ghost h: { Option Contents }
+    requires* { sem 𝓛 (hand_at hand h) }
+    ensures* after { sem 𝓛 (hand_at hand (hands.renumber h task).1) }
+    ensures answer { result ≡ (hands.renumber h task).0 }
+    ensures kept { KeepsOnError result h (hands.renumber h task).1 }
+{
+    calls::carrying::hand_renumber(&mut *(hand as *mut Hand), task)
+}
+
 /// Ends the task in a hand, if there is one, and gives its memory back. The hand is then empty.
 #[unsafe(no_mangle)]
 pub unsafe extern "C" fn eevdf_hand_close(hand: *mut u8)

@@ -43,6 +43,19 @@ pub unsafe extern "C" fn eevdf_peek(queue: *const u8) -> i64
     calls::turns::peek(&*(queue as *const Opened))
 }
 
+/// Lets a runnable task run, whichever a pick would choose; who ran before waits. Answers 0. `INVALID`: no task has the number;
+/// `ABSENT`: the task isn't runnable here.
+#[unsafe(no_mangle)]
+pub unsafe extern "C" fn eevdf_run(queue: *mut u8, task: u64) -> i64
+    ghost q: { State }
+    requires* { sem 𝓛 (queue_at queue q) }
+    ensures* after { sem 𝓛 (queue_at queue (turns.run q task).1) }
+    ensures answer { result ≡ (turns.run q task).0 }
+    ensures kept { KeepsOnError result q (turns.run q task).1 }
+{
+    calls::turns::run(&mut *(queue as *mut Opened), task)
+}
+
 /// Charges the running task for `ns` nanoseconds. Answers 0, and 1 where it has used up its request: time to pick. `INVALID`: the
 /// time is out of its range; `ABSENT`: nobody runs; `RANGE`: the runtime or deadline would leave the range.
 #[unsafe(no_mangle)]
