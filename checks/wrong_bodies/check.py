@@ -52,11 +52,14 @@ FUNCTION = re.compile(r"^(?:so far: )?fn (\S+): (.*)$", re.MULTILINE)
 NOT_FOUND = re.compile(r"did not prove (.*)")
 # The same of one goal, with its place: all that is said of it where another of the function's goals is proved wrongly by hand.
 NOTE = re.compile(r"^note: (src/\S+):(\d+):\d+: (it is not proved that .*\(`([^`]+)`\).*)$", re.MULTILINE)
-# An error of a proof file, with its further lines, which are indented. Its first word is the goal that is answered there.
-PROOF_ERROR = re.compile(r"^(?:\./)?proofs/(\S+)/[^/]+\.antt:\d+:\d+: error: (.*(?:\n  .*)*)", re.MULTILINE)
+# An error of a proof file, with its folder, where it is one of a function, and its further lines, which are indented. Its first word is the
+# goal or the lemma that is answered there.
+PROOF_ERROR = re.compile(r"^(?:\./)?proofs/(?:(\S+)/)?[^/\s]+\.antt:\d+:\d+: error: (.*(?:\n  .*)*)", re.MULTILINE)
 GOAL = re.compile(r"`([^`]+)`")
-# The goals whose proofs use one that is wrong.
-NOT_CHECKED = re.compile(r"were not checked: (.*)")
+# The goals and the lemmas whose proofs use one that is wrong, and which that is.
+NOT_CHECKED = re.compile(r"(?:on `([^`]+)`, which .*)?w(?:as|ere) not checked: (.*)")
+# By which of these others one of them uses it.
+BY_WAY = re.compile(r" \(via [^)]*\)")
 # What it says where the file only names what isn't there or isn't proved. What is printed of a term may have names that can't be
 # written there; that is no such case.
 NAMES_ALONE = re.compile(r"has no field|has no `|was not admitted|\(nearest: |is not in scope(?! here, so what is shown)")
@@ -94,9 +97,11 @@ class Said:
         self.proved = set()
         error = FIRST_ERROR.search(text)
         self.error = error[0] if error else text[-300:]
+        errors = PROOF_ERROR.findall(text)
+        wrong_lemmas = wrong_lemmas_of(error for function, error in errors if not function)
         wrong_proofs = {}
-        for proof, error in PROOF_ERROR.findall(text):
-            if not NAMES_ALONE.search(error):
+        for proof, error in errors:
+            if is_of_goal(error, wrong_lemmas):
                 wrong_proofs.setdefault(function_of(proof), []).extend(goals_of(error))
         notes = {}
         for file, line, words, goal in NOTE.findall(text):
@@ -122,9 +127,27 @@ class Said:
 def goals_of(error):
     """The goals that an error of a proof file is of."""
     if others := NOT_CHECKED.search(error):
-        return [Unproved(goal, error) for goal in others[1].split(", ")]
+        return [Unproved(goal, error) for goal in BY_WAY.sub("", others[2]).split(", ")]
     goal = GOAL.match(error)
     return [Unproved(goal[1] if goal else "", error)]
+
+
+def is_of_goal(error, wrong_lemmas):
+    """Whether an error of a proof file is that a goal doesn't hold there, or in a lemma that is used there. Else a name is missing."""
+    others = NOT_CHECKED.search(error)
+    return bool(others and others[1] in wrong_lemmas) or not NAMES_ALONE.search(error)
+
+
+def wrong_lemmas_of(errors):
+    """The lemmas in which a goal doesn't hold, and those that use one, by the errors of their files. A file is read after those it uses."""
+    wrong = set()
+    for error in errors:
+        others = NOT_CHECKED.search(error)
+        used = others and others[1]
+        is_wrong = used in wrong if used else not NAMES_ALONE.search(error)
+        if is_wrong:
+            wrong.update(it.goal for it in goals_of(error))
+    return wrong
 
 
 def name_at(file, line):

@@ -1,7 +1,7 @@
 #!/usr/bin/env -S python3 -B
-"""checks/wrong_bodies/kept_check.py: looks which refusals check.py keeps, and when it tries a wrong body again. It runs over two small
-crates and a kit that are made for that: what stands for the prover refuses the functions that a file names, and writes down which it was
-asked for. The last line is 'N passed, M failed'."""
+"""checks/wrong_bodies/kept_check.py: looks which refusals check.py keeps, and when it tries a wrong body again; and by which lemmas a wrong
+definition is refused. It runs over two small crates and a kit that are made for that: what stands for the prover refuses the functions that
+a file names, and writes down which it was asked for. The last line is 'N passed, M failed'."""
 
 import os
 import shutil
@@ -39,7 +39,14 @@ pub fn same(number: u32) -> u32
     number
 }
 """
-EDIT = "refused: {}\nfile: src/lib.rt\nold: {}\nnew: {}\n"
+EDIT = "refused: {}\nfile: {}\nold: {}\nnew: {}\n"
+# A definition, and what is said of lemmas over it, of which the proof of `same` uses one, where it is wrong.
+DEFINITION = "fours : ℕ\nfours = {}\n"
+LEMMAS = """./proofs/Fours.antt:3:9: error: `four_is`: {}
+./proofs/Fours.antt:5:9: error: 1 declaration that depends on `four_is`, which was rejected, was not checked: eight_is
+./proofs/Twice.antt:2:9: error: 2 declarations that depend on `eight_is`, which was not admitted, were not checked: twice, all (via twice)
+./proofs/same/Answers.antt:2:9: error: 1 declaration that depends on `all`, which was not admitted, was not checked: returns
+"""
 # What stands for `rt` and for the prover: both are run in other folders, so they are told where the kit is.
 RT = """#!/bin/sh
 case $1 in doc) echo {kit}/START-HERE.md ;; version) cat {kit}/version ;; esac
@@ -52,8 +59,13 @@ asked = [after for word, after in zip(sys.argv, sys.argv[1:]) if word == "--only
 with open(kit / "asked", "a") as it:
     it.write("".join(name + "\\n" for name in asked))
 refused = (kit / "refused").read_text().split()
+definition = Path("specs/Fours.antt")
+is_wrong = definition.exists() and "5" in definition.read_text()
+if is_wrong:
+    print((kit / "lemmas").read_text())
 for name in asked:
-    print(f"fn high::{{name}}: " + ("no proof; `search` did not prove `returns`" if name in refused else "proved"))
+    no_proof = "no proof; `search` did not prove `returns`" if name in refused else "not proved" if is_wrong else ""
+    print(f"fn high::{{name}}: {{no_proof or 'proved'}}")
 """
 
 
@@ -74,8 +86,8 @@ class World:
         write(self.top / "crates.txt", "low:\nhigh: low\n")
         write(self.top / "crates" / "low" / "src" / "lib.rt", LOW)
         write(self.high / "src" / "lib.rt", HIGH)
-        write(self.high / "must-fail" / "adds.edit", EDIT.format("four_times", "twice(twice(number))", "twice(number)"))
-        write(self.high / "must-fail" / "is_one_more.edit", EDIT.format("same", "    number", "    number + 1"))
+        write(self.high / "must-fail" / "adds.edit", EDIT.format("four_times", "src/lib.rt", "twice(twice(number))", "twice(number)"))
+        write(self.high / "must-fail" / "is_one_more.edit", EDIT.format("same", "src/lib.rt", "    number", "    number + 1"))
         write(self.kit / "rlibs" / "std.rlib" / "format", "sum 1\n")
         write(self.kit / "version", "1\n")
         write(self.kit / "bin" / "rattle", PROVER.format(kit=self.kit), 0o755)
@@ -167,6 +179,19 @@ def look_at_trust(checks, world):
         look(checks, world, "nothing is taken from a folder of another user", BOTH, "2 passed, 0 failed")
 
 
+def look_at_definitions(checks, world):
+    write(world.high / "specs" / "Fours.antt", DEFINITION.format(4))
+    write(world.high / "must-fail" / "is_five.edit", EDIT.format("same by ensures", "specs/Fours.antt", "fours = 4", "fours = 5"))
+    tries = (
+        ("a lemma names what isn't there: that doesn't refuse a definition", "`five` is not in scope", ["same"], "0 passed, 1 failed"),
+        ("a lemma doesn't hold: that refuses a definition", "expected type `5 ≡ 4`, but `4 ≡ 4`", ["same"], "1 passed, 0 failed"),
+        ("the refusal of a definition is kept", "", [], "1 passed, 0 failed"),
+    )
+    for name, said, wanted, last in tries:
+        write(world.kit / "lemmas", LEMMAS.format(said))
+        look(checks, world, name, wanted, last, "high/is_five")
+
+
 def main():
     checks = Checks()
     with tempfile.TemporaryDirectory(prefix="kept-") as held:
@@ -174,6 +199,8 @@ def main():
         look_at_changes(checks, world)
         look_at_words(checks, world)
         look_at_trust(checks, world)
+    with tempfile.TemporaryDirectory(prefix="kept-") as held:
+        look_at_definitions(checks, World(Path(held)))
     return checks.end()
 
 

@@ -2,7 +2,7 @@
 use Rattle.std.proofs.Common.{◌≡◌, ℕ, Bool, true, false, cond, not, List, [], ◌∷◌, refl, ap, subst}
 use Rattle.std.specs.Prelude.{is_none, Option, Some, None}
 use Rattle.eevdf_ops.specs.{declared.deeds.Deed.Deed, declared.deeds.Line.Line}
-use Rattle.eevdf_ops.specs.declared.deeds.Deed.TheVariants.{Tick, Pick, Yield, Sleep, Wake, Pull, Renice, Begin, End, Set, Rebase}
+use Rattle.eevdf_ops.specs.declared.deeds.Deed.TheVariants.{Pull}
 use Rattle.eevdf_ops.specs.{Machine.Machine, Programs.deeds_of, Whole.whole, Whole.lines_of, Whole.machine_after}
 use Rattle.eevdf_balance.specs.{Sweeps.taken, FailedPulls.has_failed, FailedPulls.without_failed, FailedPulls.FailedPullsCanBeLeftOut}
 use Rattle.eevdf_balance.proofs.Searching.{unmoved}
@@ -13,16 +13,7 @@ none_of (Some t) h = cc
 
 failed_stays : (homes : List ℕ) (m : Machine) (d : Deed) → has_failed d (whole homes d m).0 ≡ true → (whole homes d m).1 ≡ m
 failed_stays homes m (Pull cpu source) h = unmoved homes m cpu source (none_of (taken (whole homes (Pull cpu source) m).0) h)
-failed_stays homes m (Tick cpu ns) h = cc
-failed_stays homes m (Pick cpu) h = cc
-failed_stays homes m (Yield cpu) h = cc
-failed_stays homes m (Sleep cpu task) h = cc
-failed_stays homes m (Wake cpu task sender) h = cc
-failed_stays homes m (Renice cpu task nice) h = cc
-failed_stays homes m (Begin cpu task nice slice) h = cc
-failed_stays homes m (End cpu task) h = cc
-failed_stays homes m (Set cpu task nice slice) h = cc
-failed_stays homes m (Rebase cpu) h = cc
+failed_stays homes m d h = cc
 
 -- the rest is left out of what follows a machine, be it this one or the one before
 abbrev IsLeftOut : List ℕ → Machine → List Line → Machine → Type 0

@@ -5,7 +5,7 @@ use Rattle.std.specs.{List.AllByRecursion, FinMap.contains_key}
 use Rattle.std.proofs.lemmas.Bool.{false≢true}
 use Rattle.eevdf_queue.specs.{State.State, State.Contents, Pick.pick_of, Laws.PickIsFirst, Laws.PickOfNobody}
 use Rattle.eevdf_ops.specs.{declared.deeds.Deed.Deed, declared.deeds.Answer.Answer}
-use Rattle.eevdf_ops.specs.declared.deeds.Deed.TheVariants.{Tick, Pick, Yield, Sleep, Wake, Pull, Renice, Begin, End, Set, Rebase}
+use Rattle.eevdf_ops.specs.declared.deeds.Deed.TheVariants.{Pick, Sleep, Pull, End}
 use Rattle.eevdf_ops.specs.declared.deeds.Answer.TheVariants.{Picked, Pulled, Slept, Ended}
 use Rattle.eevdf_ops.specs.{Machine.Machine, Machine.queue_at, OneQueue.answer_of_pick, Parts.decider, Programs.deeds_by, Transfers.pulled, Whole.whole, Whole.lines_of}
 use Rattle.eevdf_ops.specs.{Setup.is_allowed, Setup.is_task, Places.count, Places.AreCpus, Places.IsPlaced, WholePull.decision, WholePull.load_of, WholePull.offer}
@@ -27,15 +27,7 @@ leaves_none c (End cpu task) a h = ended a
     ended : (a : Answer) → leaves c (End cpu task) a ≡ false
     ended Ended = h
     ended a = refl
-leaves_none c (Tick cpu ns) a h = refl
-leaves_none c (Pick cpu) a h = refl
-leaves_none c (Yield cpu) a h = refl
-leaves_none c (Wake cpu task sender) a h = refl
-leaves_none c (Pull cpu source) a h = refl
-leaves_none c (Renice cpu task nice) a h = refl
-leaves_none c (Begin cpu task nice slice) a h = refl
-leaves_none c (Set cpu task nice slice) a h = refl
-leaves_none c (Rebase cpu) a h = refl
+leaves_none c d a h = refl
 
 -- whoever is pulled was runnable at the source
 stood_by : (q s : State) (task : ℕ) (d : Result Contents Answer) → decision q (load_of s) (offer s) ≡ d → (pulled d q s).0 ≡ Pulled task → contains_key s.runnable task ≡ true
@@ -58,16 +50,7 @@ pulled_it t cpu source a h = cc
 
 takes_it : (homes : List ℕ) (m : Machine) (d : Deed) (t : ℕ) → pulls_it t d (whole homes d m).0 ≡ true → TakesIt homes m d t
 takes_it homes m (Pull cpu source) t h = record { cpu = cpu; source = source; is = refl; answered = pulled_it t cpu source (whole homes (Pull cpu source) m).0 h }
-takes_it homes m (Tick cpu ns) t h = cc
-takes_it homes m (Pick cpu) t h = cc
-takes_it homes m (Yield cpu) t h = cc
-takes_it homes m (Sleep cpu task) t h = cc
-takes_it homes m (Wake cpu task sender) t h = cc
-takes_it homes m (Renice cpu task nice) t h = cc
-takes_it homes m (Begin cpu task nice slice) t h = cc
-takes_it homes m (End cpu task) t h = cc
-takes_it homes m (Set cpu task nice slice) t h = cc
-takes_it homes m (Rebase cpu) t h = cc
+takes_it homes m d t h = cc
 
 -- nobody takes a task that is alone on its CPU
 one_place : (b c : Bool) → b ≡ true → 1 ≤ count b + count c

@@ -7,7 +7,7 @@ use Rattle.std.proofs.lemmas.{Bool.false≢true}
 use Rattle.eevdf_queue.specs.{declared.entry.Entry.Entry, State.State, State.Contents, Sums.Tasks, Moves.sleeper_of, Moves.with_runnable}
 use Rattle.eevdf_queue.specs.{Placing.placed_entry, Pick.IsPick, Pick.pick_of, Laws.PickIsFirst, Laws.PickOfNobody}
 use Rattle.eevdf_ops.specs.{declared.deeds.Deed.Deed, declared.deeds.Answer.Answer}
-use Rattle.eevdf_ops.specs.declared.deeds.Deed.TheVariants.{Tick, Pick, Yield, Sleep, Wake, Pull, Renice, Begin, End, Set, Rebase}
+use Rattle.eevdf_ops.specs.declared.deeds.Deed.TheVariants.{Pull}
 use Rattle.eevdf_ops.specs.declared.deeds.Answer.TheVariants.{Pulled}
 use Rattle.eevdf_queue.proofs.Closing.{one_fewer}
 use Rattle.eevdf_ops.specs.{Places.count, Machine.Machine, Machine.queue_at, OneQueue.answer_of_pick, Transfers.pulled, Whole.whole, Whole.lines_of, Whole.machine_after}
@@ -50,17 +50,8 @@ goes_by homes m k cpu source false e few = apart_by (whole homes (Pull cpu sourc
 
 -- while nobody sleeps or ends on a CPU with one task, none goes
 none_goes : (homes : List ℕ) (deed : Deed) (m : Machine) (k : ℕ) → tasks_at m k ≤ 1 → leaves k deed (whole homes deed m).0 ≡ false → goes k deed (whole homes deed m).0 ≡ false
-none_goes homes (Tick cpu ns) m k few none = none
-none_goes homes (Pick cpu) m k few none = none
-none_goes homes (Yield cpu) m k few none = none
-none_goes homes (Sleep cpu task) m k few none = none
-none_goes homes (Wake cpu task sender) m k few none = none
 none_goes homes (Pull cpu source) m k few none = goes_by homes m k cpu source (source == k) refl few
-none_goes homes (Renice cpu task nice) m k few none = none
-none_goes homes (Begin cpu task nice slice) m k few none = none
-none_goes homes (End cpu task) m k few none = none
-none_goes homes (Set cpu task nice slice) m k few none = none
-none_goes homes (Rebase cpu) m k few none = none
+none_goes homes deed m k few none = none
 
 pub alone_stays : (homes : List ℕ) (deed : Deed) (m : Machine) (k t : ℕ) → IsAlone (queue_at m k).runnable t → comes k deed (whole homes deed m).0 ≡ false → leaves k deed (whole homes deed m).0 ≡ false
     → IsAlone (queue_at (whole homes deed m).1 k).runnable t

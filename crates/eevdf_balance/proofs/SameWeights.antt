@@ -15,7 +15,7 @@ use Rattle.eevdf_queue.specs.declared.answers.TickAnswer.TheVariants.{Charged, R
 use Rattle.eevdf_queue.specs.declared.answers.YieldAnswer.TheVariants as yield_answer
 use Rattle.eevdf_queue.proofs.LoweredMaps.{get-lowered, weight-lowered}
 use Rattle.eevdf_ops.specs.{declared.deeds.Deed.Deed, declared.deeds.Answer.Answer, declared.deeds.Answer.TheVariants.Pulled}
-use Rattle.eevdf_ops.specs.declared.deeds.Deed.TheVariants.{Tick, Pick, Yield, Sleep, Wake, Pull, Renice, Begin, End, Set, Rebase}
+use Rattle.eevdf_ops.specs.declared.deeds.Deed.TheVariants.{Tick, Pick, Yield, Pull, Rebase}
 use Rattle.eevdf_ops.specs.{Machine.Machine, Machine.queue_at, Transfers.pulled, Whole.at_two, Whole.whole}
 use Rattle.eevdf_ops.specs.OneQueue.{answer_of_tick, answer_of_pick, answer_of_yield}
 use Rattle.eevdf_ops.specs.WholePull.{decision, load_of, offer}
@@ -114,12 +114,7 @@ weighs-the-same homes (Yield cpu) m kind none = one m cpu (yield_now (queue_at m
 weighs-the-same homes (Pull cpu source) m kind none =
     refused-same m cpu source (decision (queue_at m cpu) (load_of (queue_at m source)) (offer (queue_at m source))) none
 weighs-the-same homes (Rebase cpu) m kind none = one m cpu (rebase (queue_at m cpu)).1 (rebase-same (queue_at m cpu))
-weighs-the-same homes (Sleep cpu task) m kind none = cc
-weighs-the-same homes (Wake cpu task sender) m kind none = cc
-weighs-the-same homes (Renice cpu task nice) m kind none = cc
-weighs-the-same homes (Begin cpu task nice slice) m kind none = cc
-weighs-the-same homes (End cpu task) m kind none = cc
-weighs-the-same homes (Set cpu task nice slice) m kind none = cc
+weighs-the-same homes deed m kind none = cc
 
 -- ---- of these deeds only a pull takes a task
 tick_takes : (a : TickAnswer) → taken (answer_of_tick a) ≡ None
@@ -148,12 +143,7 @@ turn_or_pull homes m (Pull cpu source) P kind other pull = by (taken (whole home
     by : (o : Option ℕ) → taken (whole homes (Pull cpu source) m).0 ≡ o → P (Pull cpu source)
     by None e = other e
     by (Some t) e = pull cpu source t refl e
-turn_or_pull homes m (Sleep cpu task) P kind other pull = cc
-turn_or_pull homes m (Wake cpu task sender) P kind other pull = cc
-turn_or_pull homes m (Renice cpu task nice) P kind other pull = cc
-turn_or_pull homes m (Begin cpu task nice slice) P kind other pull = cc
-turn_or_pull homes m (End cpu task) P kind other pull = cc
-turn_or_pull homes m (Set cpu task nice slice) P kind other pull = cc
+turn_or_pull homes m deed P kind other pull = cc
 
 pub took : (a : Answer) (t : ℕ) → taken a ≡ Some t → a ≡ Pulled t
 took (Pulled u) t e = let is : u ≡ t = cc in ap (λ (n : ℕ). Pulled n) is

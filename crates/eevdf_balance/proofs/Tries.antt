@@ -4,7 +4,7 @@ use Rattle.std.specs.Prelude.{◌⊎◌, ◌==◌, Some, None}
 use Rattle.std.proofs.lemmas.List.{append_assoc}
 use Rattle.eevdf_queue.specs.{Moves.sleeper_of, Placing.can_place}
 use Rattle.eevdf_ops.specs.{declared.deeds.Answer.Answer, declared.deeds.Deed.Deed, declared.deeds.Line.Line}
-use Rattle.eevdf_ops.specs.declared.deeds.Deed.TheVariants.{Tick, Pick, Yield, Sleep, Wake, Pull, Renice, Begin, End, Set, Rebase}
+use Rattle.eevdf_ops.specs.declared.deeds.Deed.TheVariants.{Wake, Pull}
 use Rattle.eevdf_ops.specs.declared.deeds.Answer.TheVariants.{Pulled, Range, Woken}
 use Rattle.eevdf_ops.specs.{Machine.Machine, Machine.queue_at, Parts.decider, Places.count, Programs.deeds_of, Programs.lines_by, Whole.whole, Whole.lines_of, Whole.machine_after}
 use Rattle.eevdf_ops.specs.Histories.{AreHistory, machine_told}
@@ -13,10 +13,6 @@ use Rattle.eevdf_balance.proofs.{Crowds.lines_tell_tasks, IdlePulls.idle_pull_ta
 
 -- who comes to a CPU comes by a line of that CPU
 pub comes_none : (c : ℕ) (d : Deed) (a : Answer) → (decider d == c) ≡ false → comes c d a ≡ false
-comes_none c (Tick cpu ns) a h = refl
-comes_none c (Pick cpu) a h = refl
-comes_none c (Yield cpu) a h = refl
-comes_none c (Sleep cpu task) a h = refl
 comes_none c (Wake cpu task sender) a h = woken a
   where
     woken : (a : Answer) → comes c (Wake cpu task sender) a ≡ false
@@ -27,11 +23,7 @@ comes_none c (Pull cpu source) a h = pulled a
     pulled : (a : Answer) → comes c (Pull cpu source) a ≡ false
     pulled (Pulled task) = h
     pulled a = refl
-comes_none c (Renice cpu task nice) a h = refl
-comes_none c (Begin cpu task nice slice) a h = refl
-comes_none c (End cpu task) a h = refl
-comes_none c (Set cpu task nice slice) a h = refl
-comes_none c (Rebase cpu) a h = refl
+comes_none c d a h = refl
 
 came_by : (c : ℕ) (l : Line) (ls : List Line) (b : Bool) → (decider l.deed == c) ≡ b → comings c ls ≡ comings c (lines_by c ls) → comings c (l ∷ ls) ≡ comings c (cond b (l ∷ lines_by c ls) (lines_by c ls))
 came_by c l ls true e rest = omega (arith, rest)
