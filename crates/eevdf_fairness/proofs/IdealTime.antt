@@ -6,7 +6,7 @@ use Rattle.std.proofs.Math.Nat.{mul-le-mul_left, mul-le-mul_right}
 use Rattle.eevdf_weight.specs.Weight.{weight_of}
 use Rattle.eevdf_queue.specs.{declared.entry.Entry.Entry, State.State, Sums.total_weight}
 use Rattle.eevdf_ops.specs.{declared.deeds.Answer.Answer, declared.deeds.Line.Line}
-use Rattle.eevdf_ops.specs.declared.deeds.Deed.TheVariants.{Tick, Pick, Yield, Sleep, Wake, Pull, Renice, Begin, End, Set, Rebase}
+use Rattle.eevdf_ops.specs.declared.deeds.Deed.TheVariants.{Tick, Pull}
 use Rattle.eevdf_ops.specs.{declared.deeds.Deed.Deed, Machine.Machine, Machine.queue_at, PartsLaws.OthersStay, Whole.lines_of, Whole.machine_after}
 use Rattle.eevdf_balance.specs.FailedPulls.{has_failed, without_failed, effective, FailedPullsCanBeLeftOut}
 use Rattle.eevdf_balance.specs.HalfShare.{ideal, IsIdealRate, RefusesTwo, BalancedGivesAtLeast}
@@ -21,15 +21,7 @@ use Rattle.eevdf_fairness.proofs.Lines.{shares_of_lines, none_charged, none_char
 unticked : (cpu : ℕ) (d : Deed) (a : Answer) → has_failed d a ≡ true → ticked_on cpu d ≡ 0
 unticked cpu (Pull at source) a h = refl
 unticked cpu (Tick at ns) a h = cc
-unticked cpu (Pick at) a h = refl
-unticked cpu (Yield at) a h = refl
-unticked cpu (Sleep at task) a h = refl
-unticked cpu (Wake at task sender) a h = refl
-unticked cpu (Renice at task nice) a h = refl
-unticked cpu (Begin at task nice slice) a h = refl
-unticked cpu (End at task) a h = refl
-unticked cpu (Set at task nice slice) a h = refl
-unticked cpu (Rebase at) a h = refl
+unticked cpu d a h = refl
 
 module _ (f : Answer → ℕ → ℕ) (none : (a : Answer) → f a 0 ≡ 0) (cpu : ℕ) where
   by_first : (l : Line) (rest all : List Line) (b : Bool) → has_failed l.deed l.answer ≡ b → over_lines f cpu rest ≡ over_lines f cpu all

@@ -6,7 +6,7 @@ use Rattle.eevdf_ops.specs.{Acts.act_of, declared.acts.LocalAct.LocalAct, declar
 use Rattle.eevdf_ops.specs.declared.acts.Act.TheVariants as act
 use Rattle.eevdf_ops.specs.declared.acts.LocalAct.TheVariants as local
 use Rattle.eevdf_ops.specs.declared.acts.Transfer.TheVariants as transfer
-use Rattle.eevdf_ops.specs.declared.deeds.Deed.TheVariants.{Tick, Pick, Yield, Sleep, Wake, Pull, End, Rebase}
+use Rattle.eevdf_ops.specs.declared.deeds.Deed.TheVariants.{Sleep, Pull, End}
 use Rattle.eevdf_ops.specs.Parts.{decider}
 
 pub unequal : (k c : ℕ) → (k == c) ≡ false → k ≢ c
@@ -35,11 +35,6 @@ other_names cpus cpu home other a s t false e h i is =
     record { puller = h; from = omega (arith, to, i); apart = λ same. unequal home cpu e (to ∙ sym same) }
 
 pub decider_below : (cpus : ℕ) (homes : List ℕ) (deed : Deed) → is_allowed cpus homes deed ≡ true → decider deed < cpus
-decider_below cpus homes (Tick cpu ns) ok = ltb-true cpu cpus ok
-decider_below cpus homes (Pick cpu) ok = ltb-true cpu cpus ok
-decider_below cpus homes (Yield cpu) ok = ltb-true cpu cpus ok
-decider_below cpus homes (Rebase cpu) ok = ltb-true cpu cpus ok
-decider_below cpus homes (Wake cpu task sender) ok = ltb-true cpu cpus (and_parts _ _ (and_parts _ _ ok).0).0
 decider_below cpus homes deed ok = ltb-true (decider deed) cpus (and_parts _ _ ok).0
 
 pub home_below : (cpus : ℕ) (homes : List ℕ) (cpu task : ℕ) → is_allowed cpus homes (Sleep cpu task) ≡ true → AreCpus cpus homes → home_of homes task < cpus

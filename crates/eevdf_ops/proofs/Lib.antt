@@ -10,6 +10,7 @@ pub mod MachinePlaces
 pub mod Carried
 pub mod Pulling
 pub mod SurelyBalanced
+pub mod Origins
 pub mod DeedNames
 pub mod WholePlaces
 pub mod StartingPlaces

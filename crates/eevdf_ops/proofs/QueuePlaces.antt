@@ -1,6 +1,6 @@
 -- How a step on one queue changes where tasks stand.
 use Rattle.std.proofs.Common.{◌≡◌, ℕ, ◌+◌, ◌≤◌, Bool, true, false, cond, refl, sym, ap, subst, ◌∙◌, arith}
-use Rattle.std.specs.Prelude.{◌==◌, ℤ, pos, is_some, Option, Some, None}
+use Rattle.std.specs.Prelude.{◌==◌, ℤ, pos, is_some, IfSome, Option, Some, None}
 use Rattle.std.specs.FinMap.{get, contains_key, insert, remove}
 use Rattle.std.proofs.lemmas.Bool.{false≢true}
 use Rattle.eevdf_weight.specs.Limits.{is_in_range}
@@ -20,6 +20,8 @@ use Rattle.eevdf_queue.specs.{Rebase.rebase, Rebase.rebased, Rebase.can_rebase, 
 use Rattle.eevdf_queue.specs.declared.answers.ReniceAnswer.{ReniceAnswer}
 use Rattle.eevdf_queue.specs.declared.answers.ReniceAnswer.TheVariants as renice_answer
 use Rattle.eevdf_queue.proofs.LoweredMaps.{contains-lowered}
+use Rattle.eevdf_ops.specs.{declared.acts.LocalAct.LocalAct, declared.deeds.Op.Op, Acts.local_of, LocalActs.local_done}
+use Rattle.eevdf_ops.specs.declared.deeds.Op.TheVariants as op
 use Rattle.eevdf_ops.specs.Places.{count, places_in}
 use Rattle.eevdf_queue.proofs.Sound.{gone}
 use Rattle.eevdf_ops.proofs.MapCounts.{count-insert, count-remove, contains-change, contains-removed}
@@ -176,6 +178,17 @@ rebased-same q = record {
 -- virtual times that are all lowered
 pub rebase-same : (q : State) → IsSame q (rebase q).1
 rebase-same q = either q (can_rebase q) (virtual_time q, rebased q) (pos 0, q) (rebased-same q) (itself q)
+
+-- an operation that touches its CPU's queue alone, whatever the homes are, leaves each task where it stands
+pub own-same : (o : Op) (q : State) → IfSome (local_of o) (λ (a : LocalAct). IsSame q (local_done a q).1)
+own-same (op.Tick ns) q = tick-same q ns
+own-same op.Pick q = pick-same q
+own-same op.Yield q = yield-same q
+own-same (op.Renice task nice) q = renice-same q task nice
+own-same (op.Begin task nice slice) q = begin-same q task nice slice
+own-same (op.Set task nice slice) q = set-same q task nice slice
+own-same op.Rebase q = rebase-same q
+own-same other q = tt
 
 -- a runnable task leaves
 pub leave-without : (q : State) (t : ℕ) (e : Entry) → get q.runnable t ≡ Some e → IsWithout q t (without_entry q t (Some e))

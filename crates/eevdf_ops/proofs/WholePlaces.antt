@@ -6,9 +6,9 @@ use Rattle.std.proofs.Math.ListN.{length-set}
 use Rattle.eevdf_queue.specs.{declared.entry.Entry.Entry, State.State, State.Contents, Leaving.carried_running, Leaving.leave, Placing.placed_entry}
 use Rattle.eevdf_queue.specs.Moves.{put_asleep, sleeper_of, with_runnable}
 use Rattle.eevdf_ops.specs.{declared.acts.Act.Act, declared.deeds.Answer.Answer, declared.deeds.Deed.Deed, Machine.Machine, Machine.queue_at}
-use Rattle.eevdf_ops.specs.{Acts.act_of, LocalActs.slept_here, Transfers.slept_away, Transfers.pulled, Parts.decider}
+use Rattle.eevdf_ops.specs.{Acts.act_of, LocalActs.slept_here, Transfers.slept_away, Transfers.pulled, Origins.decider, Origins.origin_of}
 use Rattle.eevdf_ops.specs.Whole.{at_two, done_at, whole, machine_after}
-use Rattle.eevdf_ops.specs.declared.deeds.Deed.TheVariants.{Tick, Pick, Yield, Sleep, Wake, Pull, Renice, Begin, End, Set, Rebase}
+use Rattle.eevdf_ops.specs.declared.deeds.Deed.TheVariants.{Sleep, Wake, Pull, End}
 use Rattle.eevdf_ops.specs.declared.acts.Act.TheVariants as act
 use Rattle.eevdf_ops.specs.Setup.{home_of, is_task, is_allowed}
 use Rattle.eevdf_ops.specs.Places.{places_in, IsPlaced, AreCpus}
@@ -17,7 +17,8 @@ use Rattle.eevdf_ops.proofs.Carried.{Carries, running-carries, ending-carries, o
 use Rattle.eevdf_ops.proofs.Pulling.{IsTaken, decision-taken, with_task-put}
 use Rattle.eevdf_ops.proofs.{DeedNames.PullNames, DeedNames.decider_below, DeedNames.home_below, DeedNames.pull_names, WholeActs.sleep_by_home, WholeActs.end_by_home}
 use Rattle.eevdf_ops.proofs.MapCounts.{equal, contains-insert}
-use Rattle.eevdf_ops.proofs.QueuePlaces.{IsWith, IsWithout, tick-same, pick-same, yield-same, wake-same, renice-same, begin-same, set-same, rebase-same, asleep-with, runnable-with}
+use Rattle.eevdf_ops.proofs.QueuePlaces.{IsWith, IsWithout, own-same, wake-same, asleep-with, runnable-with}
+use Rattle.eevdf_ops.proofs.Origins.{operation_in}
 use Rattle.eevdf_ops.proofs.MachinePlaces.{at-most, none-twice, places-at, SleepsAtHome, one-placed, same-placed, two-placed}
 
 pub few_places : (homes : List ℕ) (m : Machine) (cpu t : ℕ) → cpu < length m → IsPlaced homes m → places_in (queue_at m cpu) t ≤ 1
@@ -80,9 +81,6 @@ pulled-placed homes m cpu source (Ok p) named e placed =
     (λ u a. placed.at_home source u (less.asleep u a)) placed
 
 pub whole-placed : (homes : List ℕ) (deed : Deed) (m : Machine) → is_allowed (length m) homes deed ≡ true → AreCpus (length m) homes → IsPlaced homes m → IsPlaced homes (whole homes deed m).1
-whole-placed homes (Tick cpu ns) m ok cpus placed = same-placed homes m cpu _ (decider_below _ homes (Tick cpu ns) ok) (tick-same (queue_at m cpu) ns) placed
-whole-placed homes (Pick cpu) m ok cpus placed = same-placed homes m cpu _ (decider_below _ homes (Pick cpu) ok) (pick-same (queue_at m cpu)) placed
-whole-placed homes (Yield cpu) m ok cpus placed = same-placed homes m cpu _ (decider_below _ homes (Yield cpu) ok) (yield-same (queue_at m cpu)) placed
 whole-placed homes (Sleep cpu task) m ok cpus placed =
     let o : Option Contents = carried_running (queue_at m cpu) task in
     let h : cpu < length m = decider_below _ homes (Sleep cpu task) ok in
@@ -92,8 +90,6 @@ whole-placed homes (Sleep cpu task) m ok cpus placed =
 whole-placed homes (Wake cpu task sender) m ok cpus placed =
     let h : cpu < length m = decider_below _ homes (Wake cpu task sender) ok in
     same-placed homes m cpu _ h (wake-same (queue_at m cpu) task (few_places homes m cpu task h placed)) placed
-whole-placed homes (Renice cpu task nice) m ok cpus placed = same-placed homes m cpu _ (decider_below _ homes (Renice cpu task nice) ok) (renice-same (queue_at m cpu) task nice) placed
-whole-placed homes (Begin cpu task nice slice) m ok cpus placed = same-placed homes m cpu _ (decider_below _ homes (Begin cpu task nice slice) ok) (begin-same (queue_at m cpu) task nice slice) placed
 whole-placed homes (End cpu task) m ok cpus placed =
     let o : Option Contents = ending (queue_at m cpu) task in
     let h : cpu < length m = decider_below _ homes (End cpu task) ok in
@@ -101,10 +97,9 @@ whole-placed homes (End cpu task) m ok cpus placed =
     end_by_home (λ (r : Answer × Machine). IsPlaced homes r.1) homes cpu task m
     (λ home. here-placed homes m cpu task o h home carries placed)
     (λ away. away-placed homes m cpu task (home_of homes task) o (record { puller = h; from = home_below _ homes cpu task ok cpus; apart = λ same. away (sym same) }) refl carries placed)
-whole-placed homes (Set cpu task nice slice) m ok cpus placed = same-placed homes m cpu _ (decider_below _ homes (Set cpu task nice slice) ok) (set-same (queue_at m cpu) task nice slice) placed
-whole-placed homes (Rebase cpu) m ok cpus placed = same-placed homes m cpu _ (decider_below _ homes (Rebase cpu) ok) (rebase-same (queue_at m cpu)) placed
 whole-placed homes (Pull cpu source) m ok cpus placed =
     pulled-placed homes m cpu source (decision (queue_at m cpu) (load_of (queue_at m source)) (offer (queue_at m source))) (pull_names (length m) homes cpu source ok) refl placed
+whole-placed homes d m ok cpus placed = same-placed homes m (decider d) _ (decider_below _ homes d ok) (own-same (operation_in (origin_of d)) (queue_at m (decider d))) placed
 
 length-done : (cpu : ℕ) (a : Act) (m : Machine) → length (done_at cpu a m).1 ≡ length m
 length-done cpu (act.Local a) m = length-set m cpu _

@@ -1,30 +1,12 @@
 -- Deeds by the queues that they touch.
 use Rattle.std.specs.Prelude.{ℕ, ◌==◌, List, if◌then◌else◌, Option, Some, None}
 use Rattle.eevdf_ops.specs.{declared.deeds.Deed.Deed, declared.deeds.Op.Op, declared.acts.Act.Act, declared.acts.LocalAct.LocalAct, declared.acts.Transfer.Transfer, Setup.home_of}
-use Rattle.eevdf_ops.specs.declared.deeds.Deed.TheVariants.{Tick, Pick, Yield, Sleep, Wake, Pull, Renice, Begin, End, Set, Rebase}
+use Rattle.std.specs.Option.{unwrap_or}
+use Rattle.eevdf_ops.specs.{declared.origin.Origin.Origin, declared.origin.Origin.TheVariants.Operation, declared.origin.Origin.TheVariants.Request, Origins.decider, Origins.origin_of}
 use Rattle.eevdf_ops.specs.declared.deeds.Op.TheVariants as op
 use Rattle.eevdf_ops.specs.declared.acts.LocalAct.TheVariants as local
 use Rattle.eevdf_ops.specs.declared.acts.Transfer.TheVariants as transfer
 use Rattle.eevdf_ops.specs.declared.acts.Act.TheVariants as act
-
--- the deed that is an act of a CPU
-abbrev pub deed_at : ℕ → LocalAct → Deed
-deed_at cpu (local.Tick ns) = Tick cpu ns
-deed_at cpu local.Pick = Pick cpu
-deed_at cpu local.Yield = Yield cpu
-deed_at cpu (local.Sleep task) = Sleep cpu task
-deed_at cpu (local.Wake task sender) = Wake cpu task sender
-deed_at cpu (local.Renice task nice) = Renice cpu task nice
-deed_at cpu (local.Begin task nice slice) = Begin cpu task nice slice
-deed_at cpu (local.End task) = End cpu task
-deed_at cpu (local.Set task nice slice) = Set cpu task nice slice
-deed_at cpu local.Rebase = Rebase cpu
-
--- the deed that is an act of a CPU together with another CPU
-abbrev pub deed_across : ℕ → ℕ → Transfer → Deed
-deed_across cpu other (transfer.Sleep task) = Sleep cpu task
-deed_across cpu other transfer.Pull = Pull cpu other
-deed_across cpu other (transfer.End task) = End cpu task
 
 -- a sleep on a CPU of a task with this home
 abbrev pub sleep_from : ℕ → ℕ → ℕ → Act
@@ -33,20 +15,6 @@ sleep_from cpu task home = if home == cpu then act.Local (local.Sleep task) else
 -- an end on a CPU of a task with this home
 abbrev pub end_from : ℕ → ℕ → ℕ → Act
 end_from cpu task home = if home == cpu then act.Local (local.End task) else act.Transfer home (transfer.End task)
-
--- what a deed does, where tasks have these homes
-abbrev pub act_of : List ℕ → Deed → Act
-act_of homes (Tick cpu ns) = act.Local (local.Tick ns)
-act_of homes (Pick cpu) = act.Local local.Pick
-act_of homes (Yield cpu) = act.Local local.Yield
-act_of homes (Sleep cpu task) = sleep_from cpu task (home_of homes task)
-act_of homes (Wake cpu task sender) = act.Local (local.Wake task sender)
-act_of homes (Pull cpu source) = act.Transfer source transfer.Pull
-act_of homes (Renice cpu task nice) = act.Local (local.Renice task nice)
-act_of homes (Begin cpu task nice slice) = act.Local (local.Begin task nice slice)
-act_of homes (End cpu task) = end_from cpu task (home_of homes task)
-act_of homes (Set cpu task nice slice) = act.Local (local.Set task nice slice)
-act_of homes (Rebase cpu) = act.Local local.Rebase
 
 -- what an operation does that touches its CPU's queue alone, whatever the homes are
 abbrev pub local_of : Op → Option LocalAct
@@ -57,4 +25,20 @@ local_of (op.Renice task nice) = Some (local.Renice task nice)
 local_of (op.Begin task nice slice) = Some (local.Begin task nice slice)
 local_of (op.Set task nice slice) = Some (local.Set task nice slice)
 local_of op.Rebase = Some local.Rebase
-local_of other = None
+local_of (op.Sleep task) = None
+local_of (op.End task) = None
+local_of (op.Post task) = None
+local_of op.Drain = None
+local_of (op.Pull source) = None
+
+-- what comes of an operation or a request on a CPU, where tasks have these homes; of a post and a drain there is no deed
+abbrev pub act_from : List ℕ → ℕ → Origin → Act
+act_from homes cpu (Operation (op.Sleep task)) = sleep_from cpu task (home_of homes task)
+act_from homes cpu (Operation (op.End task)) = end_from cpu task (home_of homes task)
+act_from homes cpu (Operation (op.Pull source)) = act.Transfer source transfer.Pull
+act_from homes cpu (Operation o) = act.Local (unwrap_or (local_of o) local.Pick)
+act_from homes cpu (Request task sender) = act.Local (local.Wake task sender)
+
+-- what a deed does
+abbrev pub act_of : List ℕ → Deed → Act
+act_of homes deed = act_from homes (decider deed) (origin_of deed)

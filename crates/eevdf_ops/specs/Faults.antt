@@ -4,7 +4,8 @@ use Rattle.std.specs.Option.{option_or}
 use Rattle.eevdf_queue.specs.Moves.{fresh_entry, is_entry_in_range}
 use Rattle.eevdf_ops.specs.{declared.task_spec.TaskSpec.TaskSpec, declared.deeds.Op.Op, declared.setup_fault.SetupFault.SetupFault}
 use Rattle.eevdf_ops.specs.{Setup.Setup, Setup.is_at_home, Setup.is_source, Setup.is_task}
-use Rattle.eevdf_ops.specs.declared.deeds.Op.TheVariants as op
+use Rattle.eevdf_ops.specs.{declared.named.Named.Named, Setup.named}
+use Rattle.eevdf_ops.specs.declared.named.Named.TheVariants.{Nothing, Task, TaskAtHome, Source}
 use Rattle.eevdf_ops.specs.declared.setup_fault.SetupFault.TheVariants.{BadCpus, BadTasks, BadHome, BadStart, TooLong, UnknownTask, BadPull, BadBegin, Memory}
 use Rattle.eevdf_ops.specs.Numbers.{most_cpus, most_tasks, most_operations}
 
@@ -24,20 +25,15 @@ tasks_fault cpus place [] = None
 tasks_fault cpus place (t ∷ ts) = option_or (task_fault cpus place t) (tasks_fault cpus (place + 1) ts)
 
 -- an operation names only tasks of the setup, pulls from another CPU of it, and begins a task that has its home here
-abbrev pub operation_fault : List ℕ → ℕ → ℕ → ℕ → Op → Option SetupFault
-operation_fault homes cpus cpu place (op.Sleep task) = unless (is_task homes task) (UnknownTask cpu place)
-operation_fault homes cpus cpu place (op.Post task) = unless (is_task homes task) (UnknownTask cpu place)
-operation_fault homes cpus cpu place (op.Renice task nice) = unless (is_task homes task) (UnknownTask cpu place)
-operation_fault homes cpus cpu place (op.End task) = unless (is_task homes task) (UnknownTask cpu place)
-operation_fault homes cpus cpu place (op.Set task nice slice) = unless (is_task homes task) (UnknownTask cpu place)
-operation_fault homes cpus cpu place (op.Begin task nice slice) =
+abbrev pub named_fault : List ℕ → ℕ → ℕ → ℕ → Named → Option SetupFault
+named_fault homes cpus cpu place Nothing = None
+named_fault homes cpus cpu place (Task task) = unless (is_task homes task) (UnknownTask cpu place)
+named_fault homes cpus cpu place (TaskAtHome task) =
     option_or (unless (is_task homes task) (UnknownTask cpu place)) (unless (is_at_home homes task cpu) (BadBegin cpu place))
-operation_fault homes cpus cpu place (op.Pull source) = unless (is_source cpus cpu source) (BadPull cpu place)
-operation_fault homes cpus cpu place (op.Tick ns) = None
-operation_fault homes cpus cpu place op.Pick = None
-operation_fault homes cpus cpu place op.Yield = None
-operation_fault homes cpus cpu place op.Drain = None
-operation_fault homes cpus cpu place op.Rebase = None
+named_fault homes cpus cpu place (Source source) = unless (is_source cpus cpu source) (BadPull cpu place)
+
+abbrev pub operation_fault : List ℕ → ℕ → ℕ → ℕ → Op → Option SetupFault
+operation_fault homes cpus cpu place o = named_fault homes cpus cpu place (named o)
 
 abbrev pub operations_fault : List ℕ → ℕ → ℕ → ℕ → List Op → Option SetupFault
 operations_fault homes cpus cpu place [] = None

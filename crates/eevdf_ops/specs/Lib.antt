@@ -1,4 +1,5 @@
 pub mod Numbers
+pub mod Origins
 pub mod Setup
 pub mod Homes
 pub mod Faults

@@ -4,23 +4,10 @@ use Rattle.eevdf_queue.specs.{State.State, State.Contents, Leaving.carried_runni
 use Rattle.eevdf_ops.specs.{declared.deeds.Deed.Deed, declared.deeds.Answer.Answer, declared.deeds.Answer.TheVariants.Nothing, declared.deeds.Answer.TheVariants.Pulled}
 use Rattle.eevdf_ops.specs.{declared.acts.Act.Act, Acts.act_of, LocalActs.local_done, Setup.home_of, WholeEnd.ending}
 use Rattle.eevdf_ops.specs.declared.acts.Act.TheVariants as act
-use Rattle.eevdf_ops.specs.declared.deeds.Deed.TheVariants.{Tick, Pick, Yield, Sleep, Wake, Pull, Renice, Begin, End, Set, Rebase}
+use Rattle.eevdf_ops.specs.declared.deeds.Deed.TheVariants.{Sleep, Pull, End}
 use Rattle.eevdf_ops.specs.WholePull.{offer, load_of, decision}
+pub use Rattle.eevdf_ops.specs.Origins.{decider}
 pub use Rattle.eevdf_ops.specs.Halves.{answer_of_sleep, answer_of_end, answer_of_pull, after_leaving, after_falling_asleep, after_joining}
-
--- the CPU whose queue decides what is answered
-abbrev pub decider : Deed → ℕ
-decider (Tick cpu ns) = cpu
-decider (Pick cpu) = cpu
-decider (Yield cpu) = cpu
-decider (Sleep cpu task) = cpu
-decider (Wake cpu task sender) = cpu
-decider (Pull cpu source) = cpu
-decider (Renice cpu task nice) = cpu
-decider (Begin cpu task nice slice) = cpu
-decider (End cpu task) = cpu
-decider (Set cpu task nice slice) = cpu
-decider (Rebase cpu) = cpu
 
 -- the CPU whose queue a task may leave
 abbrev pub giver : Deed → ℕ

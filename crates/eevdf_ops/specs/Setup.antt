@@ -1,7 +1,10 @@
 -- What a machine is set up from.
-use Rattle.std.specs.Prelude.{ℕ, nat_lt, ◌==◌, Bool, ◌&&◌, not, List, map, length, slice_index_or}
+use Rattle.std.specs.Prelude.{ℕ, nat_lt, ◌==◌, Bool, true, ◌&&◌, not, List, map, length, slice_index_or}
 use Rattle.eevdf_ops.specs.{declared.task_spec.TaskSpec.TaskSpec, declared.deeds.Op.Op, declared.deeds.Deed.Deed}
-use Rattle.eevdf_ops.specs.declared.deeds.Deed.TheVariants.{Tick, Pick, Yield, Sleep, Wake, Pull, Renice, Begin, End, Set, Rebase}
+use Rattle.eevdf_ops.specs.{declared.named.Named.Named, declared.origin.Origin.Origin, Origins.decider, Origins.origin_of}
+use Rattle.eevdf_ops.specs.declared.deeds.Op.TheVariants as op
+use Rattle.eevdf_ops.specs.declared.named.Named.TheVariants.{Nothing, Task, TaskAtHome, Source}
+use Rattle.eevdf_ops.specs.declared.origin.Origin.TheVariants.{Operation, Request}
 
 -- the tasks by their numbers, and the program of each CPU
 pub record Setup : Type 0 where
@@ -30,20 +33,36 @@ is_at_home homes task cpu = is_task homes task && (home_of homes task == cpu)
 abbrev pub is_source : ℕ → ℕ → ℕ → Bool
 is_source cpus cpu source = nat_lt source cpus && not (source == cpu)
 
--- whether a deed names only CPUs and tasks that there are, wakes or begins at the task's own home, and doesn't pull
--- from its own CPU
+-- what an operation names
+abbrev pub named : Op → Named
+named (op.Sleep task) = Task task
+named (op.Post task) = Task task
+named (op.Renice task nice) = Task task
+named (op.End task) = Task task
+named (op.Set task nice slice) = Task task
+named (op.Begin task nice slice) = TaskAtHome task
+named (op.Pull source) = Source source
+named (op.Tick ns) = Nothing
+named op.Pick = Nothing
+named op.Yield = Nothing
+named op.Drain = Nothing
+named op.Rebase = Nothing
+
+-- whether a machine has what an operation of a CPU names
+abbrev pub has_named : ℕ → List ℕ → ℕ → Named → Bool
+has_named cpus homes cpu Nothing = true
+has_named cpus homes cpu (Task task) = is_task homes task
+has_named cpus homes cpu (TaskAtHome task) = is_at_home homes task cpu
+has_named cpus homes cpu (Source source) = is_source cpus cpu source
+
+-- whether it has what a deed of a CPU comes from: what the operation names, or the sender of the request, whose task has its home there
+abbrev pub has_origin : ℕ → List ℕ → ℕ → Origin → Bool
+has_origin cpus homes cpu (Operation o) = has_named cpus homes cpu (named o)
+has_origin cpus homes cpu (Request task sender) = nat_lt sender cpus && is_at_home homes task cpu
+
+-- whether a deed is one of a CPU of the machine, and names only what the machine has
 abbrev pub is_allowed : ℕ → List ℕ → Deed → Bool
-is_allowed cpus homes (Tick cpu ns) = nat_lt cpu cpus
-is_allowed cpus homes (Pick cpu) = nat_lt cpu cpus
-is_allowed cpus homes (Yield cpu) = nat_lt cpu cpus
-is_allowed cpus homes (Sleep cpu task) = nat_lt cpu cpus && is_task homes task
-is_allowed cpus homes (Wake cpu task sender) = nat_lt cpu cpus && nat_lt sender cpus && is_at_home homes task cpu
-is_allowed cpus homes (Pull cpu source) = nat_lt cpu cpus && is_source cpus cpu source
-is_allowed cpus homes (Renice cpu task nice) = nat_lt cpu cpus && is_task homes task
-is_allowed cpus homes (Begin cpu task nice slice) = nat_lt cpu cpus && is_at_home homes task cpu
-is_allowed cpus homes (End cpu task) = nat_lt cpu cpus && is_task homes task
-is_allowed cpus homes (Set cpu task nice slice) = nat_lt cpu cpus && is_task homes task
-is_allowed cpus homes (Rebase cpu) = nat_lt cpu cpus
+is_allowed cpus homes deed = nat_lt (decider deed) cpus && has_origin cpus homes (decider deed) (origin_of deed)
 
 abbrev pub allows : Setup → Deed → Bool
 allows s deed = is_allowed (cpus_of s) (homes_of s) deed

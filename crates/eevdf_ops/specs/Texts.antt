@@ -3,9 +3,9 @@ use Rattle.std.specs.Prelude.{ℕ, List, ◌++◌, codes, decimal}
 use Rattle.std.specs.Fmt.{signed_decimal}
 use Rattle.eevdf_queue.specs.Texts.{charged_text}
 use Rattle.eevdf_ops.specs.{declared.deeds.Op.Op, declared.deeds.Deed.Deed, declared.deeds.Answer.Answer, declared.deeds.Line.Line}
-use Rattle.eevdf_ops.specs.Parts.{decider}
+use Rattle.eevdf_ops.specs.{declared.origin.Origin.Origin, Origins.decider, Origins.origin_of}
 use Rattle.eevdf_ops.specs.declared.deeds.Op.TheVariants as op
-use Rattle.eevdf_ops.specs.declared.deeds.Deed.TheVariants.{Tick, Pick, Yield, Sleep, Wake, Pull, Renice, Begin, End, Set, Rebase}
+use Rattle.eevdf_ops.specs.declared.origin.Origin.TheVariants.{Operation, Request}
 use Rattle.eevdf_ops.specs.declared.deeds.Answer.TheVariants.{Charged, Picked, Idle, Yielded, Slept, NotRunning, Woken, Awake, Pulled, Balanced, Nothing, Range, Reniced, NotHere, Begun, Ended, Rebased}
 use Rattle.eevdf_ops.specs.declared.deeds.Answer.TheVariants as answer
 
@@ -24,19 +24,14 @@ operation_text (op.End task) = codes "end " ++ decimal task
 operation_text (op.Set task nice slice) = codes "set " ++ decimal task ++ codes " " ++ signed_decimal nice ++ codes " " ++ decimal slice
 operation_text op.Rebase = codes "rebase"
 
+-- an operation or a request as a schedule lists the deed of it
+abbrev pub origin_text : Origin → List ℕ
+origin_text (Operation o) = operation_text o
+origin_text (Request task sender) = codes "wake " ++ decimal task ++ codes " from " ++ decimal sender
+
 -- a deed as a schedule lists it, without its CPU
 abbrev pub deed_text : Deed → List ℕ
-deed_text (Tick cpu ns) = codes "tick " ++ decimal ns
-deed_text (Pick cpu) = codes "pick"
-deed_text (Yield cpu) = codes "yield"
-deed_text (Sleep cpu task) = codes "sleep " ++ decimal task
-deed_text (Wake cpu task sender) = codes "wake " ++ decimal task ++ codes " from " ++ decimal sender
-deed_text (Pull cpu source) = codes "pull " ++ decimal source
-deed_text (Renice cpu task nice) = codes "renice " ++ decimal task ++ codes " " ++ signed_decimal nice
-deed_text (Begin cpu task nice slice) = codes "begin " ++ decimal task ++ codes " " ++ signed_decimal nice ++ codes " " ++ decimal slice
-deed_text (End cpu task) = codes "end " ++ decimal task
-deed_text (Set cpu task nice slice) = codes "set " ++ decimal task ++ codes " " ++ signed_decimal nice ++ codes " " ++ decimal slice
-deed_text (Rebase cpu) = codes "rebase"
+deed_text d = origin_text (origin_of d)
 
 -- a deed with the CPU that does it, as a script lists it
 abbrev pub numbered_deed_text : Deed → List ℕ

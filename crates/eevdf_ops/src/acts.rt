@@ -1,7 +1,6 @@
 //! What deeds do to run queues, by the queues that they touch.
 
 use crate::cpu_id::CpuId;
-use crate::deeds::Deed;
 use eevdf_queue::TaskId;
 use eevdf_weight::{Nice, Ns, Slice};
 
@@ -48,55 +47,4 @@ pub enum Act {
     Local(LocalAct),
     /// It touches the run queue of this other CPU too.
     Transfer(CpuId, Transfer),
-}
-
-impl LocalAct {
-    ghost use Rattle.std.specs.Prelude.{◌≡◌};
-    ghost use Rattle.eevdf_ops.specs.Acts.{deed_at};
-
-    /// The deed that is this act of a CPU.
-    #[inline(always)]
-    pub fn on(&self, cpu: CpuId) -> Deed
-        ensures { result ≡ deed_at cpu self.now }
-    {
-        match *self {
-            LocalAct::Tick(ns) => Deed::Tick { cpu, ns },
-            LocalAct::Pick => Deed::Pick { cpu },
-            LocalAct::Yield => Deed::Yield { cpu },
-            LocalAct::Sleep(task) => Deed::Sleep { cpu, task },
-            LocalAct::Wake { task, sender } => Deed::Wake { cpu, task, sender },
-            LocalAct::Renice(task, nice) => Deed::Renice { cpu, task, nice },
-            LocalAct::Begin(task, nice, slice) => Deed::Begin {
-                cpu,
-                task,
-                nice,
-                slice,
-            },
-            LocalAct::End(task) => Deed::End { cpu, task },
-            LocalAct::Set(task, nice, slice) => Deed::Set {
-                cpu,
-                task,
-                nice,
-                slice,
-            },
-            LocalAct::Rebase => Deed::Rebase { cpu },
-        }
-    }
-}
-
-impl Transfer {
-    ghost use Rattle.std.specs.Prelude.{◌≡◌};
-    ghost use Rattle.eevdf_ops.specs.Acts.{deed_across};
-
-    /// The deed that is this act of a CPU together with another CPU.
-    #[inline(always)]
-    pub fn on(&self, cpu: CpuId, other: CpuId) -> Deed
-        ensures { result ≡ deed_across cpu other self.now }
-    {
-        match *self {
-            Transfer::Sleep(task) => Deed::Sleep { cpu, task },
-            Transfer::Pull => Deed::Pull { cpu, source: other },
-            Transfer::End(task) => Deed::End { cpu, task },
-        }
-    }
 }

@@ -84,7 +84,7 @@ impl Op {
     }
 }
 
-/// What is done on the machine at once. It becomes its CPU and an `Act`, by `parted`.
+/// What is done on the machine at once. It becomes its CPU and what it comes from, by `Deed::parts`, and an `Act`, by `parted`.
 #[derive(Clone, Copy, PartialEq, Eq, Debug)]
 pub enum Deed {
     /// The CPU's running task is charged so many nanoseconds.
@@ -148,30 +148,6 @@ pub enum Deed {
     Rebase {
         cpu: CpuId,
     },
-}
-
-impl Deed {
-    ghost use Rattle.std.specs.Prelude.{◌≡◌};
-    ghost use Rattle.eevdf_ops.specs.Parts.{decider};
-
-    /// The CPU that does it.
-    pub fn cpu(self) -> CpuId
-        ensures { result ≡ decider self }
-    {
-        match self {
-            Deed::Tick { cpu, .. }
-            | Deed::Pick { cpu }
-            | Deed::Yield { cpu }
-            | Deed::Sleep { cpu, .. }
-            | Deed::Wake { cpu, .. }
-            | Deed::Pull { cpu, .. }
-            | Deed::Renice { cpu, .. }
-            | Deed::Begin { cpu, .. }
-            | Deed::End { cpu, .. }
-            | Deed::Set { cpu, .. }
-            | Deed::Rebase { cpu } => cpu,
-        }
-    }
 }
 
 /// What a deed is answered. After `Idle`, `NotRunning`, `Awake`, `Balanced`, `Nothing`, `Range` and `NotHere` the

@@ -2,10 +2,12 @@
 
 ghost use Rattle.std.specs.Prelude.{◌≡◌, true};
 ghost use Rattle.eevdf_ops.specs.Homes.{homes_in};
-ghost use Rattle.eevdf_ops.specs.Setup.{home_of, is_allowed, is_at_home, is_task};
+ghost use Rattle.eevdf_ops.specs.Setup.{has_named, home_of, is_allowed, is_at_home, is_task};
 
 use crate::cpu_id::CpuId;
 use crate::deeds::Deed;
+use crate::named::Named;
+use crate::origin::Origin;
 use crate::task_spec::TaskSpec;
 use eevdf_queue::TaskId;
 
@@ -49,27 +51,31 @@ impl Homes<'_> {
         self.has_task(task) && self.home(task).get() == cpu.get()
     }
 
+    /// Whether a machine of so many CPUs has the task or the CPU that an operation of a CPU names.
+    #[inline(always)]
+    pub(crate) fn has_named(&self, cpus: usize, cpu: CpuId, named: Named) -> bool
+        ensures { result ≡ has_named cpus (homes_in self.now) cpu named }
+    {
+        match named {
+            Named::Nothing => true,
+            Named::Task(task) => self.has_task(task),
+            Named::TaskAtHome(task) => self.is_at_home(task, cpu),
+            Named::Source(source) => source.index() < cpus && source.get() != cpu.get(),
+        }
+    }
+
     /// Whether a machine of so many CPUs has the CPU, the task, the sender and the source that a deed names, a wake or a begin is at
     /// the task's home, and a pull is from another CPU.
     pub fn allows(&self, cpus: usize, deed: &Deed) -> bool
         ensures { result ≡ is_allowed cpus (homes_in self.now) deed.now }
     {
-        match *deed {
-            Deed::Tick { cpu, .. }
-            | Deed::Pick { cpu }
-            | Deed::Yield { cpu }
-            | Deed::Rebase { cpu } => cpu.index() < cpus,
-            Deed::Sleep { cpu, task }
-            | Deed::Renice { cpu, task, .. }
-            | Deed::End { cpu, task }
-            | Deed::Set { cpu, task, .. } => cpu.index() < cpus && self.has_task(task),
-            Deed::Begin { cpu, task, .. } => cpu.index() < cpus && self.is_at_home(task, cpu),
-            Deed::Wake { cpu, task, sender } => {
-                cpu.index() < cpus && sender.index() < cpus && self.is_at_home(task, cpu)
+        let (cpu, origin) = deed.parts();
+        let has_origin = match origin {
+            Origin::Operation(operation) => self.has_named(cpus, cpu, operation.named()),
+            Origin::Request { task, sender } => {
+                sender.index() < cpus && self.is_at_home(task, cpu)
             }
-            Deed::Pull { cpu, source } => {
-                cpu.index() < cpus && source.index() < cpus && source.get() != cpu.get()
-            }
-        }
+        };
+        cpu.index() < cpus && has_origin
     }
 }

@@ -4,6 +4,9 @@
 //! A machine is the list of its CPUs' run queues. A deed is done at once and answered; the history of a list
 //! of deeds is the list of deeds with their answers, and the machine that they leave.
 //!
+//! A deed comes from an operation of its CPU's program or from a request ([`Origin`]). What the operation names
+//! ([`Named`]) decides whether a setup allows it.
+//!
 //! A deed is parted into its CPU and an act ([`parted`]): a [`LocalAct`] on the queue of that CPU alone, or a
 //! [`Transfer`], by which a task goes from one queue to another. [`Solo`] does acts on the queues that it has,
 //! threads on those that they have locked, by [`LocalAct::apply`] and [`Transfer::apply`]. In a sleep, an end and a
@@ -20,7 +23,9 @@ mod homes;
 pub mod laws;
 mod local_acts;
 mod machine_start;
+mod named;
 pub mod one_thread;
+mod origin;
 mod outcome;
 mod parting;
 pub mod pull;
@@ -39,6 +44,8 @@ pub use cpu_id::{BadCpuId, CpuId};
 pub use deeds::{Answer, Deed, Line, Op};
 pub use halves::{Putting, Taking};
 pub use homes::Homes;
+pub use named::Named;
+pub use origin::Origin;
 pub use outcome::Outcome;
 pub use parting::parted;
 pub use setup::Setup;

@@ -1,12 +1,15 @@
 //! A deed, parted into its CPU and what it does.
 
 ghost use Rattle.std.specs.Prelude.{◌≡◌, ℕ, true};
-ghost use Rattle.eevdf_ops.specs.{Acts.act_of, Acts.end_from, Acts.sleep_from, Parts.decider, Setup.is_allowed};
+ghost use Rattle.eevdf_ops.specs.Acts.{act_from, act_of, end_from, sleep_from};
+ghost use Rattle.eevdf_ops.specs.{Origins.decider, Setup.has_named, Setup.is_allowed, Setup.named};
+ghost use Rattle.eevdf_ops.specs.declared.origin.Origin.TheVariants.{Operation};
 
 use crate::acts::{Act, LocalAct, Transfer};
 use crate::cpu_id::CpuId;
-use crate::deeds::Deed;
+use crate::deeds::{Deed, Op};
 use crate::homes::Homes;
+use crate::origin::Origin;
 use eevdf_queue::TaskId;
 
 /// The CPU that does a deed, and what it does, where tasks have these homes. The act is done by `LocalAct::apply` or
@@ -17,28 +20,25 @@ pub fn parted(homes: &[CpuId], deed: Deed) -> (CpuId, Act)
     ensures cpu { result.0 ≡ decider deed }
     ensures act { result.1 ≡ act_of homes.now deed }
 {
-    match deed {
-        Deed::Tick { cpu, ns } => (cpu, Act::Local(LocalAct::Tick(ns))),
-        Deed::Pick { cpu } => (cpu, Act::Local(LocalAct::Pick)),
-        Deed::Yield { cpu } => (cpu, Act::Local(LocalAct::Yield)),
-        Deed::Sleep { cpu, task } => (cpu, sleep_from(cpu, task, Homes::Alone(homes).home(task))),
-        Deed::Wake { cpu, task, sender } => (cpu, Act::Local(LocalAct::Wake { task, sender })),
-        Deed::Pull { cpu, source } => (cpu, Act::Transfer(source, Transfer::Pull)),
-        Deed::Renice { cpu, task, nice } => (cpu, Act::Local(LocalAct::Renice(task, nice))),
-        Deed::Begin {
-            cpu,
-            task,
-            nice,
-            slice,
-        } => (cpu, Act::Local(LocalAct::Begin(task, nice, slice))),
-        Deed::End { cpu, task } => (cpu, end_from(cpu, task, homes[task.index()])),
-        Deed::Set {
-            cpu,
-            task,
-            nice,
-            slice,
-        } => (cpu, Act::Local(LocalAct::Set(task, nice, slice))),
-        Deed::Rebase { cpu } => (cpu, Act::Local(LocalAct::Rebase)),
+    let (cpu, origin) = deed.parts();
+    let act = match origin {
+        Origin::Operation(operation) => act_by(homes, cpu, operation),
+        Origin::Request { task, sender } => Act::Local(LocalAct::Wake { task, sender }),
+    };
+    (cpu, act)
+}
+
+/// What an operation of a CPU does. Neither a post nor a drain comes here: no deed comes of them.
+#[inline(always)]
+fn act_by(homes: &[CpuId], cpu: CpuId, operation: Op) -> Act
+    requires { (cpus : ℕ) × (has_named cpus homes.now cpu (named operation) ≡ true) }
+    ensures { result ≡ act_from homes.now cpu (Operation operation) }
+{
+    match operation {
+        Op::Sleep(task) => sleep_from(cpu, task, Homes::Alone(homes).home(task)),
+        Op::End(task) => end_from(cpu, task, Homes::Alone(homes).home(task)),
+        Op::Pull(source) => Act::Transfer(source, Transfer::Pull),
+        _ => Act::Local(operation.local().unwrap_or(LocalAct::Pick)),
     }
 }
 

@@ -10,6 +10,7 @@ ghost use Rattle.eevdf_ops.specs.Setup.{is_at_home, is_source};
 use crate::cpu_id::CpuId;
 use crate::deeds::Op;
 use crate::homes::Homes;
+use crate::named::Named;
 use crate::setup::Setup;
 use crate::setup_fault::SetupFault;
 use crate::task_spec::TaskSpec;
@@ -105,18 +106,14 @@ fn operation_fault(
     ensures { result ≡ faults.operation_fault (homes_in homes.entry) cpus cpu at operation }
 {
     let unknown_task = SetupFault::UnknownTask { cpu, at };
-    match operation {
-        Op::Tick(_) | Op::Pick | Op::Yield | Op::Drain | Op::Rebase => None,
-        Op::Sleep(task)
-        | Op::Post(task)
-        | Op::Renice(task, _)
-        | Op::End(task)
-        | Op::Set(task, _, _) => unless(homes.has_task(task), unknown_task),
-        Op::Begin(task, _, _) => unless(homes.has_task(task), unknown_task).or(unless(
+    match operation.named() {
+        Named::Nothing => None,
+        Named::Task(task) => unless(homes.has_task(task), unknown_task),
+        Named::TaskAtHome(task) => unless(homes.has_task(task), unknown_task).or(unless(
             is_at_home(homes, task, cpu),
             SetupFault::BadBegin { cpu, at },
         )),
-        Op::Pull(source) => unless(
+        Named::Source(source) => unless(
             is_source(cpus, cpu, source),
             SetupFault::BadPull { cpu, at },
         ),

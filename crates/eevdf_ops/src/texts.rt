@@ -4,6 +4,7 @@ ghost use Rattle.std.specs.Prelude.{Some};
 ghost use Rattle.eevdf_ops.specs.Texts.{answer_text, line_text, numbered_deed_text, operation_text};
 
 use crate::deeds::{Answer, Deed, Line, Op};
+use crate::origin::Origin;
 use std::fmt;
 
 /// The operation as a program lists it, as `tick 1000`.
@@ -33,32 +34,11 @@ impl fmt::Display for Deed {
     ghost output = { λ deed. Some (numbered_deed_text deed) };
 
     fn fmt<W: fmt::Write>(&self, f: &mut fmt::Formatter<W>) -> fmt::Result {
-        let (cpu, operation) = match *self {
-            Deed::Wake { cpu, task, sender } => {
-                return write!(f, "{cpu} wake {task} from {sender}");
-            }
-            Deed::Tick { cpu, ns } => (cpu, Op::Tick(ns)),
-            Deed::Pick { cpu } => (cpu, Op::Pick),
-            Deed::Yield { cpu } => (cpu, Op::Yield),
-            Deed::Sleep { cpu, task } => (cpu, Op::Sleep(task)),
-            Deed::Pull { cpu, source } => (cpu, Op::Pull(source)),
-            Deed::Renice { cpu, task, nice } => (cpu, Op::Renice(task, nice)),
-            Deed::Begin {
-                cpu,
-                task,
-                nice,
-                slice,
-            } => (cpu, Op::Begin(task, nice, slice)),
-            Deed::End { cpu, task } => (cpu, Op::End(task)),
-            Deed::Set {
-                cpu,
-                task,
-                nice,
-                slice,
-            } => (cpu, Op::Set(task, nice, slice)),
-            Deed::Rebase { cpu } => (cpu, Op::Rebase),
-        };
-        write!(f, "{cpu} {operation}")
+        let (cpu, origin) = self.parts();
+        match origin {
+            Origin::Operation(operation) => write!(f, "{cpu} {operation}"),
+            Origin::Request { task, sender } => write!(f, "{cpu} wake {task} from {sender}"),
+        }
     }
 }
 

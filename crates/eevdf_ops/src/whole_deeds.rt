@@ -33,7 +33,8 @@ pub(crate) fn whole(homes: &[CpuId], deed: Deed, queues: &mut [Queue]) -> Answer
     }
 }
 
-/// Does an act of a CPU across its queue and another one.
+/// Does an act of a CPU across its queue and another one. It stands apart, so that deeds on one queue save no registers for it.
+#[inline(never)]
 fn across(queues: &mut [Queue], cpu: CpuId, other: CpuId, transfer: Transfer) -> Answer
     requires cpu { cpu < length queues.old }
     requires other { other < length queues.old }

@@ -5,7 +5,6 @@ use Rattle.std.proofs.lemmas.{List.get_or-set_other, Bool.and_from, Bool.and_par
 use Rattle.std.specs.{List.list_all, Option.option_to_list}
 use Rattle.std.specs.Prelude.{◌==◌, nat_lt, slice_get, IfSome, Option, Some, None}
 use Rattle.eevdf_ops.specs.{declared.deeds.Op.Op, declared.deeds.Deed.Deed}
-use Rattle.eevdf_ops.specs.declared.deeds.Op.TheVariants as op
 use Rattle.eevdf_ops.specs.Programs.{deed_of}
 use Rattle.eevdf_ops.specs.Setup.{Setup, allows, is_allowed, is_at_home}
 use Rattle.eevdf_steps.specs.{declared.micro.Micro.Micro, declared.plan.Step.Step, MicroSteps.steps_by, SoundSteps.is_sound_micro}
@@ -15,7 +14,7 @@ use Rattle.eevdf_steps.specs.Counters.{count_of, done_by, step_next}
 use Rattle.eevdf_steps.specs.Plan.{IsSound, Plan, callers, fits_cpu, home, is_sound_op, plan_of}
 use Rattle.eevdf_steps.specs.Requests.{Progress, found_by, oldest, post_to, posted, posts_to, progress_at_start, progress_by, progress_step, requested, taken_of, takes}
 use Rattle.eevdf_steps.specs.Commits.{commits, committed, committed_by, deeds_committed}
-use Rattle.eevdf_steps.proofs.{Holders.none_first, SoundDeeds.next_fits_cpu}
+use Rattle.eevdf_steps.proofs.{Holders.none_first, SoundDeeds.allowed_op, SoundDeeds.next_fits_cpu}
 use Rattle.eevdf_steps.proofs.SoundSteps.{all_joined, all_steps_sound, is_caller, some_all, step_sound}
 
 all_taken : {A : Type 0} (test : A → Bool) (xs : List A) (k : ℕ) → list_all test xs ≡ true → list_all test (take k xs) ≡ true
@@ -99,26 +98,15 @@ sound_step plan g x s sound e =
 abbrev AllAllowed : Plan → List Deed → Type 0
 AllAllowed plan deeds = list_all (is_allowed (callers plan) plan.homes) deeds ≡ true
 
-deed_allowed : (plan : Plan) (x : ℕ) (o : Op) → nat_lt x (callers plan) ≡ true → is_sound_op plan o ≡ true → fits_cpu plan.homes x o ≡ true
-    → AllAllowed plan (option_to_list (deed_of x o))
-deed_allowed plan x (op.Tick ns) h sound fits = and_from _ true h refl
-deed_allowed plan x op.Pick h sound fits = and_from _ true h refl
-deed_allowed plan x op.Yield h sound fits = and_from _ true h refl
-deed_allowed plan x (op.Sleep task) h sound fits = and_from _ true (and_from _ _ h sound) refl
-deed_allowed plan x (op.Renice task nice) h sound fits = and_from _ true (and_from _ _ h sound) refl
-deed_allowed plan x (op.Begin task nice slice) h sound fits = and_from _ true (and_from _ _ h fits) refl
-deed_allowed plan x (op.End task) h sound fits = and_from _ true (and_from _ _ h sound) refl
-deed_allowed plan x (op.Set task nice slice) h sound fits = and_from _ true (and_from _ _ h sound) refl
-deed_allowed plan x op.Rebase h sound fits = and_from _ true h refl
-deed_allowed plan x (op.Pull source) h sound fits = and_from _ true (and_from _ _ h (and_from _ _ sound fits)) refl
-deed_allowed plan x (op.Post task) h sound fits = refl
-deed_allowed plan x op.Drain h sound fits = refl
+if_any_allowed : (plan : Plan) (r : Option Deed) → ((d : Deed) → r ≡ Some d → is_allowed (callers plan) plan.homes d ≡ true) → AllAllowed plan (option_to_list r)
+if_any_allowed plan None all = refl
+if_any_allowed plan (Some d) all = and_from _ true (all d refl) refl
 
 micro_allowed : (plan : Plan) (found : Option ℕ) (x : ℕ) (o : Op) (m : Micro) → x < callers plan → is_sound_op plan o ≡ true → fits_cpu plan.homes x o ≡ true
     → is_sound_micro plan m ≡ true → IsForHome plan x found → AllAllowed plan (option_to_list (committed found x o m))
-micro_allowed plan found x o Commit h sound fits well own = deed_allowed plan x o (lt-ltb x (callers plan) h) sound fits
+micro_allowed plan found x o Commit h sound fits well own = if_any_allowed plan (deed_of x o) (λ d e. allowed_op plan x o d h sound fits e)
 micro_allowed plan None x o (Settle s) h sound fits well own = refl
-micro_allowed plan (Some task) x o (Settle s) h sound fits well own = and_from _ true (and_from _ _ (and_from _ _ (lt-ltb x (callers plan) h) well) own) refl
+micro_allowed plan (Some task) x o (Settle s) h sound fits well own = and_from _ true (and_from _ _ (lt-ltb x (callers plan) h) (and_from _ _ well own)) refl
 micro_allowed plan found x o _ h sound fits well own = refl
 
 -- a step commits what is allowed, and leaves each caller with requests of its own

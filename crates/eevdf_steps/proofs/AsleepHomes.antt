@@ -9,12 +9,13 @@ use Rattle.eevdf_ops.specs.{declared.deeds.Answer.Answer, declared.deeds.Deed.De
 use Rattle.eevdf_ops.specs.{Histories.machine_told, Machine.Machine, Machine.queue_at, Programs.deeds_of, Setup.home_of}
 use Rattle.eevdf_ops.specs.{LocalActs.slept_here, Transfers.pulled, Transfers.slept_away, Transfers.ended_away, WholeEnd.ending, Whole.at_two, Whole.machine_after, Whole.whole}
 use Rattle.eevdf_ops.proofs.WholeActs.{sleep_by_home, end_by_home}
-use Rattle.eevdf_ops.specs.declared.deeds.Deed.TheVariants.{Tick, Pick, Yield, Sleep, Wake, Pull, Renice, Begin, End, Set, Rebase}
+use Rattle.eevdf_ops.specs.declared.deeds.Deed.TheVariants.{Sleep, Wake, Pull, End}
+use Rattle.eevdf_ops.specs.{Origins.decider, Origins.origin_of}
 use Rattle.eevdf_ops.specs.Parts.{after_leaving, giver, only_at}
 use Rattle.eevdf_ops.specs.WholePull.{pull_decision, with_task}
 use Rattle.eevdf_ops.proofs.{Carried.running-carries, Carried.ending-carries, MachinePlaces.SleepsAtHome, MachinePlaces.each-set}
 use Rattle.eevdf_ops.proofs.MapCounts.{contains-insert, contains-removed, equal}
-use Rattle.eevdf_ops.proofs.QueuePlaces.{pick-same, renice-same, begin-same, set-same, rebase-same, tick-same, yield-same}
+use Rattle.eevdf_ops.proofs.{Origins.operation_in, QueuePlaces.own-same}
 use Rattle.eevdf_steps.specs.{Counters.Counters, Counters.holder, Counters.holds, Plan.Plan, Plan.callers, Work.Work, Serial.IsSerial, Serial.begun_by}
 use Rattle.eevdf_steps.specs.UnderWay.{UnderWay, leaves, queue_seen}
 use Rattle.eevdf_steps.proofs.{Ready.least_found, SerialSteps.free_queue}
@@ -96,9 +97,6 @@ module _ (homes : List ℕ) where
   two_at_home m cpu other step both all = set_at_home (set m cpu step.1.0) other step.1.1 both.1 (set_at_home m cpu step.1.0 both.0 all)
 
   whole_at_home : (deed : Deed) (m : Machine) → AllAtHome homes m → AllAtHome homes (whole homes deed m).1
-  whole_at_home (Tick cpu ns) m all = less_at_home m cpu _ (tick-same (queue_at m cpu) ns).asleep all
-  whole_at_home (Pick cpu) m all = less_at_home m cpu _ (pick-same (queue_at m cpu)).asleep all
-  whole_at_home (Yield cpu) m all = less_at_home m cpu _ (yield-same (queue_at m cpu)).asleep all
   whole_at_home (Sleep cpu task) m all =
       let o : Option Contents = carried_running (queue_at m cpu) task in
       let of : (p : Contents) → o ≡ Some p → p.task ≡ task = λ p e. (running-carries (queue_at m cpu) task p e).of_task in
@@ -114,12 +112,9 @@ module _ (homes : List ℕ) where
       (λ home. set_at_home m cpu _ (here_at_home cpu task q o of home (all cpu)) all)
       (λ apart. two_at_home m cpu (home_of homes task) (ended_away o q r) (away_at_home cpu task q r o of (all cpu, all (home_of homes task))) all)
   whole_at_home (Wake cpu task sender) m all = less_at_home m cpu _ (wake_sleeper_less (queue_at m cpu) task _) all
-  whole_at_home (Renice cpu task nice) m all = less_at_home m cpu _ (renice-same (queue_at m cpu) task nice).asleep all
-  whole_at_home (Begin cpu task nice slice) m all = less_at_home m cpu _ (begin-same (queue_at m cpu) task nice slice).asleep all
-  whole_at_home (Set cpu task nice slice) m all = less_at_home m cpu _ (set-same (queue_at m cpu) task nice slice).asleep all
-  whole_at_home (Rebase cpu) m all = less_at_home m cpu _ (rebase-same (queue_at m cpu)).asleep all
   whole_at_home (Pull cpu source) m all =
       two_at_home m cpu source (pulled (pull_decision m cpu source) (queue_at m cpu) (queue_at m source)) (pulled_at_home cpu source (queue_at m cpu) (queue_at m source) (pull_decision m cpu source) (all cpu, all source)) all
+  whole_at_home d m all = less_at_home m (decider d) _ (own-same (operation_in (origin_of d)) (queue_at m (decider d))).asleep all
 
   after_at_home : (ds : List Deed) (m : Machine) → AllAtHome homes m → AllAtHome homes (machine_after homes m ds)
   after_at_home [] m all = all

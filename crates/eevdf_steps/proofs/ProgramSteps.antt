@@ -69,18 +69,12 @@ drains p c zero s deeds h = subst (λ (ds : List Deed). AreWakes p s ds) (sym (h
 drains p c (suc n) s deeds h = grind (arith, drains p c n (s + 1) h.fits.rest, settles)
 
 operation_fits : (plan : Plan) (p : ℕ) (o : Op) (deeds : List Deed) → FitsSteps p deeds (steps_in o (micros_of plan p o)) → FitsOperation p deeds o
-operation_fits plan p (op.Tick ns) deeds h = acts p (op.Tick ns) (deed.Tick p ns) deeds refl h
-operation_fits plan p op.Pick deeds h = acts p op.Pick (deed.Pick p) deeds refl h
-operation_fits plan p op.Yield deeds h = acts p op.Yield (deed.Yield p) deeds refl h
-operation_fits plan p (op.Renice task nice) deeds h = acts p (op.Renice task nice) (deed.Renice p task nice) deeds refl h
-operation_fits plan p (op.Begin task nice slice) deeds h = acts p (op.Begin task nice slice) (deed.Begin p task nice slice) deeds refl h
-operation_fits plan p (op.Set task nice slice) deeds h = acts p (op.Set task nice slice) (deed.Set p task nice slice) deeds refl h
-operation_fits plan p op.Rebase deeds h = acts p op.Rebase (deed.Rebase p) deeds refl h
 operation_fits plan p (op.Sleep t) deeds h = grind arith
 operation_fits plan p (op.End t) deeds h = grind arith
 operation_fits plan p (op.Pull s) deeds h = moves_between p (min p s) (max p s) (op.Pull s) (deed.Pull p s) deeds refl h
 operation_fits plan p (op.Post t) deeds h = h.joined ∙ h.fits
 operation_fits plan p op.Drain deeds h = grind (arith, drains)
+operation_fits plan p o deeds h = acts p o _ deeds refl h
 
 pub operations_fit : (plan : Plan) (p : ℕ) (ops : List Op) (deeds : List Deed) → FitsSteps p deeds (steps_of plan p ops) → FitsOperations p deeds ops
 operations_fit plan p [] deeds h = h

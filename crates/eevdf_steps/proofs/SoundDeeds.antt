@@ -1,7 +1,9 @@
 -- The deeds of a sound plan name CPUs and tasks of the machine.
 use Rattle.std.proofs.Common.{◌≡◌, ℕ, ◌+◌, ◌<◌, Bool, true, List, [], ◌∷◌, length, map, sym, ap, subst, ◌∙◌, refl, arith}
-use Rattle.std.specs.{List.list_all, Prelude.Option, Prelude.Some}
-use Rattle.eevdf_ops.specs.{declared.deeds.Op.Op, declared.deeds.Deed.Deed, Places.AreCpus, Setup.is_allowed, Programs.deed_of}
+use Rattle.std.specs.Prelude.{nat_lt, ◌&&◌, Option, Some}
+use Rattle.std.specs.List.{list_all}
+use Rattle.eevdf_ops.specs.{declared.deeds.Op.Op, declared.deeds.Deed.Deed, Places.AreCpus, declared.origin.Origin.Origin, Programs.deed_of}
+use Rattle.eevdf_ops.specs.Setup.{has_named, has_origin, is_allowed, named}
 use Rattle.eevdf_ops.specs.declared.deeds.Op.TheVariants as op
 use Rattle.eevdf_steps.specs.{declared.micro.Micro.Micro, declared.plan.Step.Step, SoundSteps.is_sound_micro, UnderWay.UnderWay}
 use Rattle.eevdf_steps.specs.{UnderWay.under_way, Serial.begun_by}
@@ -11,7 +13,8 @@ use Rattle.eevdf_steps.specs.Plan.{IsSound, Plan, callers, fits_cpu, is_sound_op
 use Rattle.eevdf_steps.proofs.{Positions.step_in, Walks.Walk, Walking.program_fits_cpu, Walking.walking, OtherCallers.AreWalking}
 use Rattle.eevdf_steps.proofs.Begun.{FitsAll, Standing, standing}
 use Rattle.eevdf_steps.proofs.SoundSteps.{all_joined, home_below, is_caller, some_all, step_sound}
-use Rattle.std.proofs.lemmas.Bool.{and_parts, and_from}
+use Rattle.eevdf_ops.proofs.Origins.{parts-of}
+use Rattle.std.proofs.lemmas.Bool.{and_parts, and_from, lt-ltb}
 
 abbrev step_fits_cpu : List ℕ → ℕ → Step → Bool
 step_fits_cpu homes p s = fits_cpu homes p s.op
@@ -36,20 +39,16 @@ pub next_sound_op : (plan : Plan) (counters : Counters) (p : ℕ) (s : Step) →
 next_sound_op plan counters p s sound e =
     (and_parts (is_sound_op plan s.op) (is_sound_micro plan s.micro) (step_sound plan counters p s sound (is_caller plan counters p s e) e)).0
 
+has_names : (plan : Plan) (p : ℕ) (o : Op) → is_sound_op plan o ≡ true → fits_cpu plan.homes p o ≡ true → has_named (callers plan) plan.homes p (named o) ≡ true
+has_names plan p (op.Begin t nice slice) s k = k
+has_names plan p (op.Pull q) s k = and_from _ _ s k
+has_names plan p o s k = s
+
 pub allowed_op : (plan : Plan) (p : ℕ) (o : Op) (d : Deed) → p < callers plan → is_sound_op plan o ≡ true → fits_cpu plan.homes p o ≡ true → deed_of p o ≡ Some d
     → is_allowed (callers plan) plan.homes d ≡ true
-allowed_op plan p (op.Tick ns) d h s k e = grind arith
-allowed_op plan p op.Pick d h s k e = grind arith
-allowed_op plan p op.Yield d h s k e = grind arith
-allowed_op plan p (op.Renice t nice) d h s k e = grind arith
-allowed_op plan p (op.Sleep t) d h s k e = grind arith
-allowed_op plan p (op.Begin t nice slice) d h s k e = grind arith
-allowed_op plan p (op.End t) d h s k e = grind arith
-allowed_op plan p (op.Set t nice slice) d h s k e = grind arith
-allowed_op plan p op.Rebase d h s k e = grind arith
-allowed_op plan p (op.Pull q) d h s k e = grind arith
-allowed_op plan p (op.Post t) d h s k e = cc
-allowed_op plan p op.Drain d h s k e = cc
+allowed_op plan p o d h s k e =
+    subst (λ (x : ℕ × Origin). (nat_lt x.0 (callers plan) && has_origin (callers plan) plan.homes x.0 x.1) ≡ true) (sym (parts-of p o d e))
+    (and_from _ _ (lt-ltb p (callers plan) h) (has_names plan p o s k))
 
 pub deed_fits : (plan : Plan) (counters : Counters) (p : ℕ) (s : Step) (d : Deed) → IsSound plan → step_next plan counters p ≡ Some s → deed_of p s.op ≡ Some d → FitsAll plan d
 deed_fits plan counters p s d sound e is = λ m long. record {

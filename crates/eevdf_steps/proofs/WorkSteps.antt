@@ -3,7 +3,7 @@ use Rattle.std.proofs.Common.{◌≡◌, ℕ, zero, suc, ◌+◌, ◌<◌, ◌�
 use Rattle.std.proofs.Math.ListN.{length-set}
 use Rattle.std.specs.Prelude.{IfSome, Option, Some, None}
 use Rattle.eevdf_queue.specs.{State.State, State.Contents, Leaving.leave}
-use Rattle.eevdf_ops.specs.{declared.deeds.Op.Op, declared.deeds.Answer.Answer, declared.halves.Putting.Putting, declared.halves.Taking.Taking}
+use Rattle.eevdf_ops.specs.{Acts.local_of, LocalActs.local_done, declared.acts.LocalAct.LocalAct, declared.deeds.Op.Op, declared.deeds.Answer.Answer, declared.halves.Putting.Putting, declared.halves.Taking.Taking}
 use Rattle.eevdf_ops.specs.declared.halves.Putting.TheVariants.{Asleep, Runnable}
 use Rattle.eevdf_ops.specs.declared.halves.Taking.TheVariants as taking
 use Rattle.eevdf_ops.specs.{Halves.taken_out, Machine.queue_at, Setup.is_task, OneQueue.one_wake, WholePull.pull_decision, WholePull.task_of}
@@ -11,13 +11,13 @@ use Rattle.eevdf_ops.specs.Halves as halves
 use Rattle.eevdf_ops.specs.declared.deeds.Op.TheVariants as op
 use Rattle.eevdf_ops.specs.Places.{count, places, places_in}
 use Rattle.eevdf_ops.proofs.MachinePlaces.{places-set, places-at}
-use Rattle.eevdf_ops.proofs.QueuePlaces.{IsSame, IsWith, IsWithout, tick-same, pick-same, yield-same, wake-same, renice-same, begin-same, set-same, rebase-same, asleep-with, runnable-with}
+use Rattle.eevdf_ops.proofs.QueuePlaces.{IsSame, IsWith, IsWithout, own-same, wake-same, asleep-with, runnable-with}
 use Rattle.eevdf_ops.proofs.{Carried.leaves-without, Carried.taken-carries, Pulling.with_task-put}
 use Rattle.eevdf_steps.specs.{declared.micro.Micro.Micro, Plan.Plan, Plan.callers, Playing.IsWork, Working.FitsHand}
 use Rattle.eevdf_steps.specs.{Working.HasRoom, MicroState.settled, MicroState.works}
 use Rattle.eevdf_steps.specs.Places.{hands_with, is_in_hand, places_of}
 use Rattle.eevdf_steps.specs.declared.micro.Micro.TheVariants.{Act, Detach, Attach, Settle}
-use Rattle.eevdf_steps.specs.Work.{Work, act, attach, detach, detached, hand, pulls_from, put_in}
+use Rattle.eevdf_steps.specs.Work.{Work, act, local_act, attach, detach, detached, hand, pulls_from, put_in}
 use Rattle.eevdf_steps.proofs.WorkPlaces.{held_nowhere, count-le}
 use Rattle.std.proofs.lemmas.Bool.{ltb-true}
 
@@ -41,15 +41,13 @@ in_kept : (plan : Plan) (w : Work) (p c : ℕ) (q : State) (t : Contents) → Is
     → IsWork plan (record w { machine = set w.machine c q; hands = set w.hands p None })
 in_kept plan w p c q t works below target with full = grind (arith, length-set, places-set, hands-set)
 
+local_kept : (plan : Plan) (w : Work) (p : ℕ) (o : Option LocalAct) → IsWork plan w → p < callers plan → IfSome o (λ (a : LocalAct). IsSame (queue_at w.machine p) (local_done a (queue_at w.machine p)).1)
+    → IsWork plan (local_act w p o)
+local_kept plan w p None works below same = works
+local_kept plan w p (Some a) works below same = grind (arith, same_queue, same, length-set)
+
 act_kept : (plan : Plan) (w : Work) (p : ℕ) (o : Op) → IsWork plan w → p < callers plan → IsWork plan (act w p o)
-act_kept plan w p (op.Tick ns) works below = grind (arith, same_queue, tick-same, length-set)
-act_kept plan w p op.Pick works below = grind (arith, same_queue, pick-same, length-set)
-act_kept plan w p op.Yield works below = grind (arith, same_queue, yield-same, length-set)
-act_kept plan w p (op.Renice task nice) works below = grind (arith, same_queue, renice-same, length-set)
-act_kept plan w p (op.Begin task nice slice) works below = grind (arith, same_queue, begin-same, length-set)
-act_kept plan w p (op.Set task nice slice) works below = grind (arith, same_queue, set-same, length-set)
-act_kept plan w p op.Rebase works below = grind (arith, same_queue, rebase-same, length-set)
-act_kept plan w p _ works below = works
+act_kept plan w p o works below = local_kept plan w p (local_of o) works below (own-same o (queue_at w.machine p))
 
 take_kept : (plan : Plan) (w : Work) (p c : ℕ) (a : Answer) (t : Taking) (r : Option Contents) → IsWork plan w → p < callers plan → c < callers plan → hand w p ≡ None
     → taken_out t (queue_at w.machine c) ≡ r → IsWork plan (detached w p c a r)

@@ -33,18 +33,12 @@ draining (suc n) sender = Take sender ∷ Settle sender ∷ draining n (sender +
 
 -- the micro-steps of an operation of a caller
 abbrev pub micros_of : Plan → ℕ → Op → List Micro
-micros_of plan cpu (op.Tick ns) = under_lock cpu acting
-micros_of plan cpu op.Pick = under_lock cpu acting
-micros_of plan cpu op.Yield = under_lock cpu acting
-micros_of plan cpu (op.Renice task nice) = under_lock cpu acting
-micros_of plan cpu (op.Begin task nice slice) = under_lock cpu acting
-micros_of plan cpu (op.Set task nice slice) = under_lock cpu acting
-micros_of plan cpu op.Rebase = under_lock cpu acting
 micros_of plan cpu (op.Sleep task) = sleeping cpu (home plan task)
 micros_of plan cpu (op.End task) = sleeping cpu (home plan task)
 micros_of plan cpu (op.Pull source) = under_locks cpu source moving
 micros_of plan cpu op.Drain = under_lock cpu (draining (callers plan) 0)
 micros_of plan cpu (op.Post task) = Post task ∷ []
+micros_of plan cpu _ = under_lock cpu acting
 
 -- the steps of operations of a caller, one operation after the other, each with its operation
 abbrev pub steps_of : Plan → ℕ → List Op → List Step

@@ -1,7 +1,7 @@
 -- What the callers are to do.
 use Rattle.std.specs.Prelude.{◌≡◌, ℕ, ◌*◌, ◌+◌, ◌≤◌, ◌==◌, nat_lt, nat_le, Bool, ◌&&◌, not, true, List, [], ◌∷◌, length, slice_index_or}
 use Rattle.std.specs.List.{list_all}
-use Rattle.eevdf_ops.specs.{declared.deeds.Op.Op, Numbers.most_cpus, Numbers.most_operations, Setup.Setup, Setup.homes_of, Setup.is_at_home}
+use Rattle.eevdf_ops.specs.{declared.deeds.Op.Op, Numbers.most_cpus, Numbers.most_operations, Setup.Setup, Setup.homes_of, Setup.is_at_home, Setup.is_task, Setup.named, declared.named.Named.Named, declared.named.Named.TheVariants.Task, declared.named.Named.TheVariants.Source}
 use Rattle.eevdf_ops.specs.{Machine.Machine, Machine.start}
 use Rattle.eevdf_ops.specs.declared.deeds.Op.TheVariants as op
 
@@ -30,14 +30,13 @@ abbrev pub pair : Plan → ℕ → ℕ → ℕ
 pair plan sender home = sender * callers plan + home
 
 -- an operation names only tasks and callers that there are
+abbrev pub is_sound_name : Plan → Named → Bool
+is_sound_name plan (Task task) = is_task plan.homes task
+is_sound_name plan (Source source) = nat_lt source (callers plan)
+is_sound_name plan _ = true
+
 abbrev pub is_sound_op : Plan → Op → Bool
-is_sound_op plan (op.Sleep task) = nat_lt task (length plan.homes)
-is_sound_op plan (op.Post task) = nat_lt task (length plan.homes)
-is_sound_op plan (op.Renice task nice) = nat_lt task (length plan.homes)
-is_sound_op plan (op.End task) = nat_lt task (length plan.homes)
-is_sound_op plan (op.Set task nice slice) = nat_lt task (length plan.homes)
-is_sound_op plan (op.Pull source) = nat_lt source (callers plan)
-is_sound_op plan _ = true
+is_sound_op plan o = is_sound_name plan (named o)
 
 abbrev pub is_sound_program : Plan → List Op → Bool
 is_sound_program plan ops = nat_le (length ops) most_operations && list_all (is_sound_op plan) ops

@@ -154,13 +154,6 @@ impl Plan {
         ensures { result ≡ slice_get (micros_of self.now cpu op) at }
     {
         match op {
-            Op::Tick(_)
-            | Op::Pick
-            | Op::Yield
-            | Op::Renice(_, _)
-            | Op::Begin(_, _, _)
-            | Op::Set(_, _, _)
-            | Op::Rebase => act_step(cpu, at),
             Op::Sleep(task) | Op::End(task) => sleep_step(cpu, self.home(task), at),
             Op::Pull(source) => move_between_step(cpu, source, at),
             Op::Drain => drain_step(self.callers(), cpu, at),
@@ -171,6 +164,7 @@ impl Plan {
                     None
                 }
             }
+            _ => act_step(cpu, at),
         }
     }
 

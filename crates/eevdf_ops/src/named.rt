@@ -1,0 +1,40 @@
+//! What an operation names.
+
+ghost use Rattle.std.specs.Prelude.{◌≡◌};
+ghost use Rattle.eevdf_ops.specs.Setup.{named};
+
+use crate::cpu_id::CpuId;
+use crate::deeds::Op;
+use eevdf_queue::TaskId;
+
+/// What an operation of a CPU names, by what a machine has to have for it.
+#[derive(Clone, Copy, PartialEq, Eq, Debug)]
+pub enum Named {
+    /// Neither a task nor a CPU.
+    Nothing,
+    /// A task, wherever its home is.
+    Task(TaskId),
+    /// A task that has to have its home at the CPU.
+    TaskAtHome(TaskId),
+    /// Another CPU, from which a task is pulled.
+    Source(CpuId),
+}
+
+impl Op {
+    /// What the operation names.
+    #[inline(always)]
+    pub fn named(self) -> Named
+        ensures { result ≡ named self }
+    {
+        match self {
+            Op::Sleep(task)
+            | Op::Post(task)
+            | Op::Renice(task, _)
+            | Op::End(task)
+            | Op::Set(task, _, _) => Named::Task(task),
+            Op::Begin(task, _, _) => Named::TaskAtHome(task),
+            Op::Pull(source) => Named::Source(source),
+            Op::Tick(_) | Op::Pick | Op::Yield | Op::Drain | Op::Rebase => Named::Nothing,
+        }
+    }
+}
