@@ -1,6 +1,6 @@
 -- What is seen of a seat that keeps no history, from what is seen of its parts.
 use Rattle.std.proofs.Common.{◌≡◌, ◌==◌, ℕ, zero, suc, List, [], ◌∷◌, map, refl, sym, ap, subst, ◌∙◌}
-use Rattle.std.specs.Prelude.{Option, Some, None, slice_get, option_map}
+use Rattle.std.specs.Prelude.{IsSomeAnd, Option, Some, None, slice_get, option_map}
 use mathlib.Core.List.{IsPrefix}
 use Rattle.std.proofs.lemmas.List.{length-map}
 use Rattle.std.proofs.lemmas.List.Elements.{All-map, filter-append}
@@ -24,7 +24,7 @@ one-thread t lines kept = record { history = kept.history; allowed = kept.allowe
 pub has-seen : (t : Terms) (p : Parts) → AreKnown t p → HasSeen t.setup.value (seat_of_parts p)
 has-seen t p known = record { one_thread = one-thread t p.seen known.kept; own = known.own }
 
-pub has-done : (t : Terms) (deed : Deed) (answer : Answer) (before after : Parts) → HasCommitted before after (record { deed = deed; answer = answer }) → AreKnown t after
+has-done : (t : Terms) (deed : Deed) (answer : Answer) (before after : Parts) → HasCommitted before after (record { deed = deed; answer = answer }) → AreKnown t after
     → HasDone t.setup.value deed answer (seat_of_parts before) (seat_of_parts after)
 has-done t deed answer before after done known = record {
   others = done.others;
@@ -35,6 +35,12 @@ has-done t deed answer before after done known = record {
   free = done.free;
   has_seen = has-seen t after known;
 }
+
+-- and so by an operation that is a deed
+pub has-operated : (t : Terms) (o : Option Deed) (answer : Answer) (before after : Parts) → IsSomeAnd o (λ deed. HasCommitted before after (record { deed = deed; answer = answer })) → AreKnown t after
+    → IsSomeAnd o (λ deed. HasDone t.setup.value deed answer (seat_of_parts before) (seat_of_parts after))
+has-operated t None answer before after done known = absurd done
+has-operated t (Some deed) answer before after done known = has-done t deed answer before after done known
 
 pub has-drained : (t : Terms) (drained : Drained) (before after : Parts) → ArePartsDrained before after drained → AreKnown t after → HasDrained t.setup.value drained (seat_of_parts before) (seat_of_parts after)
 has-drained t drained before after done known = record {

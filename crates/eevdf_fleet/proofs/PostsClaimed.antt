@@ -9,7 +9,7 @@ use lib.ListN.{get_elem?}
 use base.Growing.{prefix_refl, prefix_trans}
 use Rattle.atomic_table.proofs.Lists.{at_set, at_snoc, set_else}
 use Rattle.eevdf_ops.specs.{declared.deeds.Deed.Deed, declared.deeds.Line.Line, Parts.decider, Programs.lines_by, Programs.wake_from, Programs.wakes_from}
-use Rattle.eevdf_ops.specs.declared.deeds.Deed.TheVariants.{Tick, Pick, Yield, Sleep, Wake, Pull, Renice, Begin, End, Set, Rebase}
+use Rattle.eevdf_ops.specs.declared.deeds.Deed.TheVariants.{Wake}
 use Rattle.eevdf_fleet.specs.declared.board.claims.{PostClaim.PostClaim, View.View}
 use Rattle.eevdf_fleet.specs.declared.board.claims.PostClaim.TheVariants.{Posts, Sent}
 use Rattle.eevdf_fleet.specs.Claims.{nothing}
@@ -195,16 +195,6 @@ module _ (posted : ℕ → List (List ℕ)) (lines : List Line) (cs : List PostC
       subst (λ (l : List ℕ). IsPrefix l (tasks_to (posted sender) home)) (sym (ap (λ (l : List ℕ). wakes_from sender (lines_by home lines) ++ l) none ∙ append-nil _)) (h sender home)
 
   next : (d : Deed) (sender : ℕ) → IsAsked (lines_by (decider d) lines) cs d → IsPrefix (wakes_from sender (lines_by (decider d) lines) ++ wake_from sender d) (tasks_to (posted sender) (decider d))
-  next (Tick cpu ns) sender asked = none-more sender cpu [] refl
-  next (Pick cpu) sender asked = none-more sender cpu [] refl
-  next (Yield cpu) sender asked = none-more sender cpu [] refl
-  next (Sleep cpu task) sender asked = none-more sender cpu [] refl
-  next (Pull cpu source) sender asked = none-more sender cpu [] refl
-  next (Renice cpu task nice) sender asked = none-more sender cpu [] refl
-  next (Begin cpu task nice slice) sender asked = none-more sender cpu [] refl
-  next (End cpu task) sender asked = none-more sender cpu [] refl
-  next (Set cpu task nice slice) sender asked = none-more sender cpu [] refl
-  next (Rebase cpu) sender asked = none-more sender cpu [] refl
   next (Wake cpu task by) sender asked =
       ⊎_elim
       (λ (same : sender ≡ by).
@@ -213,6 +203,7 @@ module _ (posted : ℕ → List (List ℕ)) (lines : List Line) (cs : List PostC
       (subst (λ (k : ℕ). HasSent cs k cpu (wakes_from k (lines_by cpu lines) ++ task ∷ [])) (sym same) asked)))
       (λ (apart : sender ≢ by). none-more sender cpu (wake_from sender (Wake cpu task by)) (wake-other cpu task sender by apart))
       (cases_eq sender by)
+  next d sender asked = none-more sender (decider d) [] refl
 
   -- the lines of a home with one more of it, or of another CPU
   by-home : (l : Line) (sender home : ℕ) (b : Bool) → (decider l.deed == home) ≡ b → IsAsked (lines_by (decider l.deed) lines) cs l.deed

@@ -50,17 +50,7 @@ module _ (cpu : ℕ) (seat : Seat) (waiting : List ℕ) (stands : posted_to seat
       subst (λ (c : ℕ). wakes_from c lines ≡ option_to_list (slice_get (posted_to seat c) (length (wakes_from c seat.log)))) own takes
       ∙ ap (λ (posted : List ℕ). option_to_list (slice_get posted (length (wakes_from cpu seat.log)))) stands
       ∙ oldest-waits (wakes_from cpu seat.log) waiting
-  takes-own (op.Tick ns) own fits takes = ap (wakes_in cpu) fits
-  takes-own op.Pick own fits takes = ap (wakes_in cpu) fits
-  takes-own op.Yield own fits takes = ap (wakes_in cpu) fits
-  takes-own (op.Sleep task) own fits takes = ap (wakes_in cpu) fits
-  takes-own (op.Post task) own fits takes = ap (wakes_in cpu) fits
-  takes-own (op.Pull source) own fits takes = ap (wakes_in cpu) fits
-  takes-own (op.Renice task nice) own fits takes = ap (wakes_in cpu) fits
-  takes-own (op.Begin task nice slice) own fits takes = ap (wakes_in cpu) fits
-  takes-own (op.End task) own fits takes = ap (wakes_in cpu) fits
-  takes-own (op.Set task nice slice) own fits takes = ap (wakes_in cpu) fits
-  takes-own op.Rebase own fits takes = ap (wakes_in cpu) fits
+  takes-own other own fits takes = ap (wakes_in cpu) fits
 
   pub waits-after : (homes : List ℕ) (o : Op) → wakes_from cpu lines ≡ own_taken waiting o
       → posted_to seat cpu ++ post_of homes cpu o ≡ wakes_from cpu (seat.log ++ lines) ++ own_after homes cpu waiting o

@@ -34,7 +34,7 @@ no_lines cpus hs p (l ∷ lines) past ok =
 -- and has asked for no wake
 no_wake : (cpus : ℕ) (hs : List ℕ) (q : ℕ) (d : Deed) → cpus ≤ q → is_allowed cpus hs d ≡ true → wake_from q d ≡ []
 no_wake cpus hs q (Wake cpu task sender) past ok =
-    let there : sender < cpus = ltb-true sender cpus (and_parts (nat_lt cpu cpus) _ (and_parts _ _ ok).0).1 in
+    let there : sender < cpus = ltb-true sender cpus (and_parts (nat_lt sender cpus) _ (and_parts (nat_lt cpu cpus) _ ok).1).0 in
     wake-other cpu task q sender (λ same. absurd (omega (arith, same, there, past)))
 no_wake cpus hs q other past ok = refl
 

@@ -3,8 +3,7 @@ use Rattle.std.proofs.Common.{◌≡◌, ℕ, ◌+◌, ◌<◌, List, [], ◌∷
 use Rattle.std.specs.Prelude.{IfNone, slice_get, Option, Some, None, Result, Ok, Err, OnOk, OnErr}
 use Rattle.std.proofs.{lemmas.Bool.cases_eq, lemmas.List.get_or-set_other, lemmas.List.length-set}
 use Rattle.std.proofs.lemmas.List.FromFn.{length-map-range_with_len}
-use Rattle.eevdf_ops.specs.{declared.acts.Transfer.Transfer, declared.deeds.Answer.Answer, declared.deeds.Line.Line, Acts.deed_across}
-use Rattle.eevdf_ops.specs.declared.acts.Transfer.TheVariants as transfer
+use Rattle.eevdf_ops.specs.{declared.deeds.Answer.Answer, declared.deeds.Line.Line}
 use Rattle.eevdf_ops.specs.declared.deeds.Deed.TheVariants.{Wake}
 use Rattle.eevdf_fleet.specs.Rings.{HasLooked, Posts, Takes, free_to, oldest, posted_to, taken_from, taken_more}
 use Rattle.eevdf_ops.specs.{Programs.wakes_from, Setup.cpus_of}
@@ -13,12 +12,6 @@ use Rattle.eevdf_fleet.specs.Rings as rings
 use Rattle.eevdf_fleet.specs.{declared.wake_list.DrainedWake.DrainedWake, Drains.PartsTaken, Drains.line_of, Drains.oldest_own, TouchedQueues.IsNoWake}
 use Rattle.eevdf_fleet.specs.Fleets.{AreParts, ArePartsOf, HasCommitted, HasLookedAt, HasPosted, HasWritten, IsNoLess, Kit, Parts, PartsLooked, Seat, SeatLog, free_at, logged, parts_of, seat_of, setup_of, takes_by, written}
 use Rattle.eevdf_fleet.proofs.Takes.{same-takes, more-takes, taken-of}
-
--- an act on two queues is no wake
-pub across-no-wake : (cpu other : ℕ) (t : Transfer) → IsNoWake (deed_across cpu other t)
-across-no-wake cpu other (transfer.Sleep task) = tt
-across-no-wake cpu other transfer.Pull = tt
-across-no-wake cpu other (transfer.End task) = tt
 
 -- a line that is no wake
 pub parts-written : (cpus : ℕ) (log log' : SeatLog) (p : Posts) (t : Takes) (l : Line) → AreParts cpus log p t → IsNoWake l.deed → HasWritten log log' l → AreParts cpus log' p t

@@ -4,7 +4,7 @@ use Rattle.eevdf_queue.specs.State.{State}
 use Rattle.eevdf_ops.specs.{declared.acts.LocalAct.LocalAct, declared.acts.Transfer.Transfer, declared.deeds.Deed.Deed, declared.deeds.Line.Line}
 use Rattle.eevdf_ops.specs.declared.acts.Act.TheVariants as act
 use Rattle.eevdf_ops.specs.declared.deeds.Deed.TheVariants.{Wake}
-use Rattle.eevdf_ops.specs.{Acts.act_of, Acts.deed_at, Acts.deed_across, LocalActs.local_done, Transfers.transferred}
+use Rattle.eevdf_ops.specs.{Acts.act_of, LocalActs.local_done, Transfers.transferred}
 use Rattle.eevdf_fleet.specs.declared.board.claims.{Claim.Claim, Claim.TheVariants.Queue, Said.Said}
 
 -- a deed that isn't a wake
@@ -12,18 +12,18 @@ abbrev pub IsNoWake : Deed → Type 0
 IsNoWake (Wake cpu task sender) = ⊥
 IsNoWake other = Unit {0}
 
--- an act of a CPU touches its queue alone
-abbrev pub IsLocal : List ℕ → ℕ → LocalAct → Type 0
-IsLocal homes cpu a = act_of homes (deed_at cpu a) ≡ act.Local a
+-- the act of a deed touches the queue of its CPU alone
+abbrev pub IsLocal : List ℕ → Deed → LocalAct → Type 0
+IsLocal homes deed a = act_of homes deed ≡ act.Local a
 
--- an act of a CPU touches its queue and that of this other one
-abbrev pub IsAcross : List ℕ → ℕ → ℕ → Transfer → Type 0
-IsAcross homes cpu other t = act_of homes (deed_across cpu other t) ≡ act.Transfer other t
+-- the act of a deed touches the queue of its CPU and that of this other one
+abbrev pub IsAcross : List ℕ → Deed → ℕ → Transfer → Type 0
+IsAcross homes deed other t = act_of homes deed ≡ act.Transfer other t
 
 -- the deed of a line was done on the queue of a CPU, which is claimed as it was
 pub record IsDoneFrom (homes : List ℕ) (claims : List Claim) (cpu : ℕ) (after : State) (line : Line) : Type 0 where
   pub by : LocalAct
-  pub local : act_of homes line.deed ≡ act.Local by
+  pub local : IsLocal homes line.deed by
   pub before : State
   pub claimed : claims ≡ Queue cpu before ∷ []
   pub answers : line.answer ≡ (local_done by before).0
@@ -32,7 +32,7 @@ pub record IsDoneFrom (homes : List ℕ) (claims : List Claim) (cpu : ℕ) (afte
 -- the same of the queues of two CPUs, which are told as they are now
 pub record AreDoneFrom (homes : List ℕ) (claims : List Claim) (s : Said) : Type 0 where
   pub by : Transfer
-  pub across : act_of homes s.line.deed ≡ act.Transfer s.second.cpu by
+  pub across : IsAcross homes s.line.deed s.second.cpu by
   pub before : State
   pub other_before : State
   pub claimed : claims ≡ Queue s.first.cpu before ∷ Queue s.second.cpu other_before ∷ []

@@ -3,7 +3,8 @@ use Rattle.std.specs.Prelude.{◌≡◌, ℕ, ◌≤◌, nat_lt, nat_le, ◌==�
 use Rattle.std.specs.Option.{option_or}
 use Rattle.eevdf_ops.specs.{declared.deeds.Op.Op, Programs.deed_of}
 use Rattle.eevdf_ops.specs.declared.deeds.Op.TheVariants as op
-use Rattle.eevdf_ops.specs.Setup.{Setup, cpus_of, home_of, homes_of, is_at_home, is_task}
+use Rattle.eevdf_ops.specs.{declared.named.Named.Named, declared.named.Named.TheVariants.Nothing, declared.named.Named.TheVariants.Task, declared.named.Named.TheVariants.TaskAtHome, declared.named.Named.TheVariants.Source}
+use Rattle.eevdf_ops.specs.Setup.{Setup, cpus_of, home_of, homes_of, has_named, is_at_home, is_task, named}
 use Rattle.eevdf_fleet.specs.declared.operated.Operated.{Operated}
 use Rattle.eevdf_fleet.specs.declared.operated.Operated.TheVariants.{Answer, Posted, Drained}
 use Rattle.eevdf_fleet.specs.declared.operated.Refused.{Refused}
@@ -18,22 +19,21 @@ unless passes reason = if passes then None else Some reason
 abbrev pub no_task : Setup → ℕ → Option Refused
 no_task s task = unless (is_task (homes_of s) task) (NoTask task)
 
--- why the setup doesn't allow an operation of a CPU: it hasn't the task that the operation names, or the task to begin has its home at
--- another CPU; or it hasn't the CPU to pull from, or that is the CPU itself
+-- whether the setup has what an operation of a CPU names
+abbrev pub has_what : Setup → ℕ → Op → Bool
+has_what s cpu o = has_named (cpus_of s) (homes_of s) cpu (named o)
+
+-- why the setup hasn't what an operation of a CPU names: it hasn't the task, or the task to begin has its home at another CPU; or it hasn't
+-- the CPU to pull from, or that is the CPU itself
+abbrev pub not_had : Setup → ℕ → Named → Option Refused
+not_had s cpu Nothing = None
+not_had s cpu (Task task) = no_task s task
+not_had s cpu (TaskAtHome task) = option_or (no_task s task) (unless (is_at_home (homes_of s) task cpu) (OtherHome task))
+not_had s cpu (Source source) = option_or (unless (nat_lt source (cpus_of s)) (NoCpu source)) (unless (not (source == cpu)) OwnCpu)
+
+-- why the setup doesn't allow an operation of a CPU
 abbrev pub not_allowed : Setup → ℕ → Op → Option Refused
-not_allowed s cpu (op.Sleep task) = no_task s task
-not_allowed s cpu (op.Post task) = no_task s task
-not_allowed s cpu (op.Renice task nice) = no_task s task
-not_allowed s cpu (op.End task) = no_task s task
-not_allowed s cpu (op.Set task nice slice) = no_task s task
-not_allowed s cpu (op.Begin task nice slice) = option_or (no_task s task) (unless (is_at_home (homes_of s) task cpu) (OtherHome task))
-not_allowed s cpu (op.Pull source) =
-    option_or (unless (nat_lt source (cpus_of s)) (NoCpu source)) (unless (not (source == cpu)) OwnCpu)
-not_allowed s cpu (op.Tick ns) = None
-not_allowed s cpu op.Pick = None
-not_allowed s cpu op.Yield = None
-not_allowed s cpu op.Drain = None
-not_allowed s cpu op.Rebase = None
+not_allowed s cpu o = not_had s cpu (named o)
 
 -- why a fleet that keeps its history doesn't begin an operation: the setup doesn't allow it, or else the seat has too little room
 abbrev pub refusal : Setup → Seat → Op → Option Refused

@@ -7,7 +7,7 @@ ghost use Rattle.eevdf_fleet.specs.Tried as tried;
 use crate::names::Names;
 use crate::operated::Refused;
 use crate::run_queues::RunQueues;
-use eevdf_ops::{CpuId, Op};
+use eevdf_ops::{CpuId, Named, Op};
 use eevdf_queue::TaskId;
 
 impl<N: Names> RunQueues<N> {
@@ -16,18 +16,14 @@ impl<N: Names> RunQueues<N> {
     pub(crate) fn not_allowed(&self, cpu: CpuId, op: &Op) -> Option<Refused>
         ensures { result ≡ tried.not_allowed (setup_of N.kit) cpu op.now }
     {
-        match *op {
-            Op::Tick(_) | Op::Pick | Op::Yield | Op::Drain | Op::Rebase => None,
-            Op::Sleep(task)
-            | Op::Post(task)
-            | Op::Renice(task, _)
-            | Op::End(task)
-            | Op::Set(task, _, _) => self.no_task(task),
-            Op::Begin(task, _, _) => self.no_task(task).or(unless(
+        match op.named() {
+            Named::Nothing => None,
+            Named::Task(task) => self.no_task(task),
+            Named::TaskAtHome(task) => self.no_task(task).or(unless(
                 self.is_at_home(task, cpu),
                 Refused::OtherHome(task),
             )),
-            Op::Pull(source) => unless(self.has_cpu(source), Refused::NoCpu(source)).or(unless(
+            Named::Source(source) => unless(self.has_cpu(source), Refused::NoCpu(source)).or(unless(
                 source != cpu,
                 Refused::OwnCpu,
             )),

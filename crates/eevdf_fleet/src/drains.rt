@@ -15,7 +15,7 @@ use crate::run_queues::RunQueues;
 use crate::seat_parts::SeatParts;
 use crate::slot::Slot;
 use crate::wake_list::{DrainedWake, Unlisted, WakeList};
-use eevdf_ops::{Answer, CpuId, LocalAct};
+use eevdf_ops::{Answer, CpuId};
 use std::sync::Wait;
 
 /// What a drain did: how many requests it took, and how many of these woke their task.
@@ -98,8 +98,7 @@ impl<N: Names> RunQueues<N> {
             token,
             lead: _,
         } = request;
-        let wake = LocalAct::Wake { task, sender };
-        let answer = self.wake_on_one(rt, &mut seat.log, slot, leave, wake, token);
+        let answer = self.wake_on_one(rt, &mut seat.log, slot, leave, task, sender, token);
         Some(DrainedWake {
             task,
             sender,

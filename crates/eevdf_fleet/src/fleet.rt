@@ -1,14 +1,13 @@
-ghost use Rattle.std.specs.Prelude.{◌≡◌, ◌≢◌, ◌*◌, ◌<◌, ◌≤◌, ◌↔◌, nat_lt, All, IfOk, IsErr, IsTrue};
+ghost use Rattle.std.specs.Prelude.{◌≡◌, ◌≢◌, ◌*◌, ◌<◌, ◌≤◌, ◌↔◌, nat_lt, All, IfOk, IsErr, IsSome, IsSomeAnd, IsTrue};
 ghost use Rattle.std.specs.Prelude.{MatchResult, length, true};
 ghost use Rattle.std.specs.List.{list_all};
 ghost use Rattle.eevdf_ops.specs.{Histories.IsOneThread, Machine.start, Outcome.machine_of};
-ghost use Rattle.eevdf_ops.specs.{Parts.decider, Places.IsPlaced, Programs.deeds_of};
-ghost use Rattle.eevdf_ops.specs.Programs.{lines_by};
+ghost use Rattle.eevdf_ops.specs.Places.{IsPlaced};
+ghost use Rattle.eevdf_ops.specs.Programs.{deed_of, deeds_of, lines_by};
 ghost use Rattle.eevdf_ops.specs.Setup.{allows, cpus_of, homes_of, is_at_home, is_task};
 ghost use Rattle.eevdf_fleet.specs.Drains.{HasDrained};
 ghost use Rattle.eevdf_fleet.specs.Fleets.{AllPostsTold, AreSeats, IsLogged, fresh_seats, quota_of};
-ghost use Rattle.eevdf_fleet.specs.Fleets.{setup_of};
-ghost use Rattle.eevdf_fleet.specs.TouchedQueues.{IsNoWake};
+ghost use Rattle.eevdf_fleet.specs.{Fleets.setup_of, Tried.has_what};
 
 use crate::call::Call;
 use crate::closing::ClosedQueues;
@@ -19,7 +18,7 @@ use crate::names::Names;
 use crate::run_queues::RunQueues;
 use crate::seat::{Seat, parts_in, seats_of};
 use crossbeam_utils::CachePadded;
-use eevdf_ops::{Answer, CpuId, Deed, Outcome};
+use eevdf_ops::{Answer, CpuId, Deed, Op, Outcome};
 use eevdf_queue::TaskId;
 use eevdf_weight::{Nice, Ns, Slice};
 use std::alloc::{AllocError, Global};
@@ -73,8 +72,7 @@ impl<N: Names> Fleet<N> {
         ensures cases { IsLogged (Deed.Tick seat.old.cpu ns) seat.old seat.new result }
         ensures full { IsErr result ↔ (seat.old.room < 1) }
     {
-        let cpu = seat.cpu();
-        self.operate(&Call::alone(rt), seat, Deed::Tick { cpu, ns })
+        self.operate(&Call::alone(rt), seat, Op::Tick(ns))
     }
 
     /// Makes the eligible task of earliest virtual deadline run on the seat's CPU, among equal deadlines that of lowest
@@ -84,8 +82,7 @@ impl<N: Names> Fleet<N> {
         ensures cases { IsLogged (Deed.Pick seat.old.cpu) seat.old seat.new result }
         ensures full { IsErr result ↔ (seat.old.room < 1) }
     {
-        let cpu = seat.cpu();
-        self.operate(&Call::alone(rt), seat, Deed::Pick { cpu })
+        self.operate(&Call::alone(rt), seat, Op::Pick)
     }
 
     /// Adds the charge of one slice to the virtual deadline of the task that runs on the seat's CPU, which runs until the
@@ -95,8 +92,7 @@ impl<N: Names> Fleet<N> {
         ensures cases { IsLogged (Deed.Yield seat.old.cpu) seat.old seat.new result }
         ensures full { IsErr result ↔ (seat.old.room < 1) }
     {
-        let cpu = seat.cpu();
-        self.operate(&Call::alone(rt), seat, Deed::Yield { cpu })
+        self.operate(&Call::alone(rt), seat, Op::Yield)
     }
 
     /// Gives a task another nice level, if it is runnable on the seat's CPU (`Deed::Renice`). `NotHere`: it isn't runnable
@@ -112,8 +108,7 @@ impl<N: Names> Fleet<N> {
         ensures cases { IsLogged (Deed.Renice seat.old.cpu task nice) seat.old seat.new result }
         ensures full { IsErr result ↔ (seat.old.room < 1) }
     {
-        let cpu = seat.cpu();
-        self.operate(&Call::alone(rt), seat, Deed::Renice { cpu, task, nice })
+        self.operate(&Call::alone(rt), seat, Op::Renice(task, nice))
     }
 
     /// Puts a task to sleep at its home, if it runs on the seat's CPU (`Deed::Sleep`). `Slept` has the lag that it keeps, in
@@ -128,8 +123,7 @@ impl<N: Names> Fleet<N> {
         ensures cases { IsLogged (Deed.Sleep seat.old.cpu task) seat.old seat.new result }
         ensures full { IsErr result ↔ (seat.old.room < 1) }
     {
-        let cpu = seat.cpu();
-        self.operate(&Call::alone(rt), seat, Deed::Sleep { cpu, task })
+        self.operate(&Call::alone(rt), seat, Op::Sleep(task))
     }
 
     /// Moves the waiting task of latest virtual deadline, of equal ones that of highest number, from the source to the seat's
@@ -147,8 +141,7 @@ impl<N: Names> Fleet<N> {
         ensures cases { IsLogged (Deed.Pull seat.old.cpu source) seat.old seat.new result }
         ensures full { IsErr result ↔ (seat.old.room < 1) }
     {
-        let cpu = seat.cpu();
-        self.operate(&Call::alone(rt), seat, Deed::Pull { cpu, source })
+        self.operate(&Call::alone(rt), seat, Op::Pull(source))
     }
 
     /// Lets a task that sleeps at its home, the seat's CPU, begin anew (`Deed::Begin`): it sleeps on as one that has just been
@@ -167,14 +160,7 @@ impl<N: Names> Fleet<N> {
             seat.old seat.new result }
         ensures full { IsErr result ↔ (seat.old.room < 1) }
     {
-        let cpu = seat.cpu();
-        let deed = Deed::Begin {
-            cpu,
-            task,
-            nice,
-            slice,
-        };
-        self.operate(&Call::alone(rt), seat, deed)
+        self.operate(&Call::alone(rt), seat, Op::Begin(task, nice, slice))
     }
 
     /// Ends a task, if it is runnable on the seat's CPU, running or waiting (`Deed::End`): it is put to sleep at its home with the
@@ -184,8 +170,7 @@ impl<N: Names> Fleet<N> {
         ensures cases { IsLogged (Deed.End seat.old.cpu task) seat.old seat.new result }
         ensures full { IsErr result ↔ (seat.old.room < 1) }
     {
-        let cpu = seat.cpu();
-        self.operate(&Call::alone(rt), seat, Deed::End { cpu, task })
+        self.operate(&Call::alone(rt), seat, Op::End(task))
     }
 
     /// Gives a task another nice level and slice, if it is runnable on the seat's CPU or sleeps there (`Deed::Set`). A runnable one
@@ -204,14 +189,7 @@ impl<N: Names> Fleet<N> {
         ensures cases { IsLogged (Deed.Set seat.old.cpu task nice slice) seat.old seat.new result }
         ensures full { IsErr result ↔ (seat.old.room < 1) }
     {
-        let cpu = seat.cpu();
-        let deed = Deed::Set {
-            cpu,
-            task,
-            nice,
-            slice,
-        };
-        self.operate(&Call::alone(rt), seat, deed)
+        self.operate(&Call::alone(rt), seat, Op::Set(task, nice, slice))
     }
 
     /// Lowers all virtual times of the seat's CPU by one number, so that its virtual time is 0 (`Deed::Rebase`). `Rebased` has
@@ -221,8 +199,7 @@ impl<N: Names> Fleet<N> {
         ensures cases { IsLogged (Deed.Rebase seat.old.cpu) seat.old seat.new result }
         ensures full { IsErr result ↔ (seat.old.room < 1) }
     {
-        let cpu = seat.cpu();
-        self.operate(&Call::alone(rt), seat, Deed::Rebase { cpu })
+        self.operate(&Call::alone(rt), seat, Op::Rebase)
     }
 
     /// Takes at most one of the requests that each CPU posted to the seat's CPU, senders in ascending order, and decides
@@ -301,18 +278,18 @@ impl<N: Names> Fleet<N> {
         }
     }
 
-    /// Does a deed of the seat's CPU that isn't a wake.
+    /// Does an operation of the seat's CPU that is a deed.
     #[inline(always)]
     pub(crate) fn operate<R: Wait, G: Gate>(
         &self,
         call: &Call<'_, R, G>,
         seat: &mut Seat<N>,
-        deed: Deed,
+        op: Op,
     ) -> Result<Answer, SeatFull>
-        requires no_wake { IsNoWake deed }
-        requires own { decider deed ≡ seat.old.cpu }
-        requires allowed { allows (setup_of N.kit) deed ≡ true }
-        ensures cases { IsLogged deed seat.old seat.new result }
+        requires deed { IsSome (deed_of seat.old.cpu op) }
+        requires named { has_what (setup_of N.kit) seat.old.cpu op ≡ true }
+        ensures cases { IsSomeAnd (deed_of seat.old.cpu op)
+            (λ deed. IsLogged deed seat.old seat.new result) }
         ensures full { IsErr result ↔ (seat.old.room < 1) }
     {
         if seat.room() == 0 {
@@ -320,7 +297,7 @@ impl<N: Names> Fleet<N> {
         }
         Ok(
             self.queues
-                .operate(call, &mut seat.parts, &mut seat.held, deed),
+                .operate(call, &mut seat.parts, &mut seat.held, op),
         )
     }
 

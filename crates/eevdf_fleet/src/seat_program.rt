@@ -54,16 +54,13 @@ impl<N: Names> Fleet<N> {
             → length (posted_to seat.old home) < N.kit.rings.capacity }
         ensures { HasOperated (setup_of N.kit) op seat.old seat.new }
     {
-        let cpu = seat.cpu();
         match op {
             Op::Post(task) => seat.parts.post(task).unwrap(),
             Op::Drain => {
                 self.drain_by(call, seat).unwrap();
             }
             _ => {
-                if let Some(deed) = op.on(cpu) {
-                    self.operate(call, seat, deed).unwrap();
-                }
+                self.operate(call, seat, op).unwrap();
             }
         }
     }

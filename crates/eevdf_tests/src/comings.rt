@@ -6,7 +6,6 @@ mod with_history;
 mod without_history;
 
 use crate::fixtures::on_two_cpus;
-use crate::fleet_calls::seat_call::Call;
 use crate::stand::{Stand, stand_of};
 use eevdf_ops::Setup;
 use eevdf_queue::Queue;
@@ -24,7 +23,7 @@ struct Stands {
 /// Calls of the seats of CPUs, each with what comes of it as it is printed, and what they leave in the queues of both CPUs.
 struct Case {
     name: &'static str,
-    calls: &'static [(usize, Call, &'static str)],
+    calls: &'static [(usize, &'static str, &'static str)],
     queues: [Stands; 2],
 }
 

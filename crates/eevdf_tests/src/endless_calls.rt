@@ -10,7 +10,6 @@ mod two_threads;
 
 ghost use Rattle.std.specs.Prelude.{◌≡◌};
 
-use crate::fleet_calls::seat_call::Call;
 use crate::kits::endless_kit_of;
 use crate::seats::make_told_calls;
 use eevdf_fleet::Names;
@@ -29,7 +28,7 @@ struct Case {
     name: &'static str,
     workload: &'static [u8],
     rings: usize,
-    calls: &'static [(usize, Call, &'static str)],
+    calls: &'static [(usize, &'static str, &'static str)],
     report: &'static str,
 }
 

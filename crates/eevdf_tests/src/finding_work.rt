@@ -1,6 +1,7 @@
-//! The call of both fleets for a CPU that has nothing to run, in one thread: which task it finds, at which CPUs it looks, and where it finds
-//! none.
+//! The call of both fleets for a CPU that has nothing to run: in one thread which task it finds, at which CPUs it looks, and where it finds
+//! none; and by threads, of the fleet without a history, that after one sweep no CPU is left without work.
 
+mod by_threads;
 mod with_history;
 mod without_history;
 

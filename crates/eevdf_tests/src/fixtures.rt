@@ -2,7 +2,7 @@
 
 use eevdf_ops::{CpuId, Op, Setup, TaskSpec};
 use eevdf_queue::TaskId;
-use eevdf_weight::{Nice, Slice};
+use eevdf_weight::{Nice, Ns, Slice};
 use std::alloc::Global;
 use std::process::Abort;
 
@@ -12,6 +12,10 @@ pub fn cpu(rt: &impl Abort, number: u64) -> CpuId {
 
 pub fn task(rt: &impl Abort, number: u64) -> TaskId {
     TaskId::new(number).expect(rt, "task")
+}
+
+pub fn ns(rt: &impl Abort, number: u64) -> Ns {
+    Ns::new(number).expect(rt, "time")
 }
 
 /// A setup of so many CPUs without programs. On each is a task of nice level 0, which has the CPU's number.

@@ -9,11 +9,12 @@ mod two_threads;
 ghost use Rattle.std.specs.Prelude.{◌≡◌};
 
 use crate::kits::kit_of;
+use crate::operation_texts::calls_of;
 use eevdf_fleet::{Fleet, Kit, Names, Seat};
-use eevdf_ops::Outcome;
+use eevdf_ops::{Op, Outcome};
 use eevdf_report::report;
 use eevdf_workload::read_workload;
-use seat_call::{Call, Done, call_on};
+use seat_call::{Done, call_on};
 use std::alloc::Global;
 use std::marker::Brand;
 use std::process::Abort;
@@ -26,7 +27,7 @@ struct Case {
     workload: &'static [u8],
     quota: usize,
     rings: usize,
-    calls: &'static [(usize, Call, Done)],
+    calls: &'static [(usize, &'static str, Done)],
     report: &'static str,
 }
 
@@ -35,13 +36,13 @@ fn make_calls<N: Names, R: Wait>(
     rt: &R,
     fleet: &Fleet<N>,
     seats: &mut [Seat<N>],
-    calls: &[(usize, Call, Done)],
+    calls: &[(usize, Op, Done)],
 ) -> bool {
-    for (cpu, call, done) in calls {
+    for (cpu, operation, done) in calls {
         let Some(seat) = seats.get_mut(*cpu) else {
             return false;
         };
-        if call_on(rt, fleet, seat, *call) != Some(*done) {
+        if call_on(rt, fleet, seat, *operation) != Some(*done) {
             return false;
         }
     }
@@ -53,7 +54,7 @@ fn outcome_of<N: Names, R: Wait + Abort>(
     rt: &R,
     alloc: Global,
     kit: Kit,
-    calls: &[(usize, Call, Done)],
+    calls: &[(usize, Op, Done)],
 ) -> Option<Outcome>
     requires { kit ≡ N.kit }
 {
@@ -81,7 +82,7 @@ fn outcome_of_calls<R: Wait + Abort>(
     workload: &[u8],
     quota: usize,
     rings: usize,
-    calls: &[(usize, Call, Done)],
+    calls: &[(usize, Op, Done)],
 ) -> Option<Outcome> {
     let workload = read_workload(alloc, workload).expect(rt, "workload");
     let kit = kit_of(rt, alloc, workload.setup(), quota, rings);
@@ -90,7 +91,8 @@ fn outcome_of_calls<R: Wait + Abort>(
 
 /// Whether a case comes to what it tells.
 fn holds<R: Wait + Abort>(rt: &R, alloc: Global, case: &Case) -> Option<bool> {
-    let outcome = outcome_of_calls(rt, alloc, case.workload, case.quota, case.rings, case.calls)?;
+    let calls = calls_of(rt, alloc, case.calls);
+    let outcome = outcome_of_calls(rt, alloc, case.workload, case.quota, case.rings, &calls)?;
     Some(is_reported(rt, alloc, &outcome, case.report))
 }
 

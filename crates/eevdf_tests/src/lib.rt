@@ -26,6 +26,8 @@ mod neighbours;
 #[cfg(test)]
 mod one_thread_again;
 #[cfg(test)]
+mod operation_texts;
+#[cfg(test)]
 mod ready_callers;
 #[cfg(test)]
 mod same_end;

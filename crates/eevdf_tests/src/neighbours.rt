@@ -4,11 +4,13 @@
 mod with_history;
 mod without_history;
 
-use crate::fixtures::{setup_of, task, task_at};
-use crate::fleet_calls::seat_call::Call;
+use crate::fixtures;
+use crate::fixtures::{ns, setup_of, task, task_at};
 use crate::seats::CallingSeat;
 use eevdf_fleet::{Drained, Operated};
 use eevdf_ops::{Answer, Op, Setup};
+use eevdf_queue::TaskId;
+use eevdf_weight::{Nice, Slice};
 use std::alloc::Global;
 use std::process::Abort;
 use std::sync::Wait;
@@ -18,9 +20,6 @@ const CPUS: u64 = 64;
 
 /// The CPUs whose calls are tried.
 const TRIED: [u64; 8] = [0, 1, 2, 4, 8, 16, 32, 63];
-
-/// The slice of a task that begins anew.
-const SLICE: u64 = 3_000_000;
 
 /// Each CPU whose calls are tried, with each of the CPUs beside it.
 fn pairs(rt: &impl Abort, alloc: Global) -> Vec<(u64, u64)> {
@@ -48,85 +47,131 @@ fn two_tasks_each(rt: &impl Abort, alloc: Global) -> Setup {
     setup_of(rt, alloc, &tasks, CPUS as usize, 0)
 }
 
-fn picked(rt: &impl Abort, number: u64) -> Operated {
-    Operated::Answer(Answer::Picked(task(rt, number)))
+/// An operation of the seat of a CPU, and what comes of it.
+type Told = (u64, Op, Operated);
+
+/// A CPU, and its neighbour. The CPU's own tasks are one of its number and a second one, and the third task is the neighbour's second.
+#[derive(Drop)]
+struct Pair {
+    cpu: u64,
+    neighbour: u64,
+    own: TaskId,
+    second: TaskId,
+    third: TaskId,
 }
 
-fn pulled(rt: &impl Abort, number: u64) -> Operated {
-    Operated::Answer(Answer::Pulled(task(rt, number)))
+impl Pair {
+    fn of(rt: &impl Abort, cpu: u64, neighbour: u64) -> Pair {
+        Pair {
+            cpu,
+            neighbour,
+            own: task(rt, cpu),
+            second: task(rt, cpu.saturating_add(CPUS)),
+            third: task(rt, neighbour.saturating_add(CPUS)),
+        }
+    }
+
+    /// The CPU's tasks sleep, and it pulls the neighbour's second task twice: it falls asleep, and then ends and begins anew.
+    fn pulls(&self, rt: &impl Abort, calls: &mut Vec<Told>) {
+        let (cpu, neighbour) = (self.cpu, self.neighbour);
+        let pull = (
+            cpu,
+            Op::Pull(fixtures::cpu(rt, neighbour)),
+            answered(Answer::Pulled(self.third)),
+        );
+        self.pick_and_sleep(rt, calls, self.own);
+        self.pick_and_sleep(rt, calls, self.second);
+        push(rt, calls, &[pull]);
+        self.pick_and_sleep(rt, calls, self.third);
+        push(rt, calls, &wake(cpu, neighbour, self.third));
+        let end = (cpu, Op::End(self.third), answered(Answer::Ended));
+        push(rt, calls, &[pull, end]);
+        let begin = Op::Begin(self.third, Nice::default(), Slice::default());
+        push(rt, calls, &[(neighbour, begin, answered(Answer::Begun))]);
+        push(rt, calls, &wake(cpu, neighbour, self.third));
+    }
+
+    /// A task of the CPU is picked, and falls asleep with the lag 0.
+    fn pick_and_sleep(&self, rt: &impl Abort, calls: &mut Vec<Told>, task: TaskId) {
+        let pick = (self.cpu, Op::Pick, answered(Answer::Picked(task)));
+        let sleep = (self.cpu, Op::Sleep(task), answered(Answer::Slept(0)));
+        push(rt, calls, &[pick, sleep]);
+    }
+
+    /// The CPU's tasks wake. One is charged, and the other ends, so that it is alone when its CPU is rebased.
+    fn rebases(&self, rt: &impl Abort, calls: &mut Vec<Told>) {
+        let cpu = self.cpu;
+        let charged = Answer::Charged {
+            task: self.own,
+            resched: false,
+        };
+        push(rt, calls, &wake(self.neighbour, cpu, self.own));
+        push(rt, calls, &wake(cpu, cpu, self.second));
+        let turn = [
+            (cpu, Op::Pick, answered(Answer::Picked(self.own))),
+            (cpu, Op::Tick(ns(rt, 1_000)), answered(charged)),
+            (cpu, Op::End(self.second), answered(Answer::Ended)),
+            (cpu, Op::Rebase, answered(Answer::Rebased(1_000))),
+        ];
+        push(rt, calls, &turn);
+    }
+
+    /// The task that has ended begins anew, is set to another level and slice, and the one that runs yields and gets another level.
+    fn changes(&self, rt: &impl Abort, calls: &mut Vec<Told>) {
+        let (cpu, second) = (self.cpu, self.second);
+        let light = Nice::new(5).expect(rt, "nice");
+        let begin = Op::Begin(second, light, Slice::default());
+        push(rt, calls, &[(cpu, begin, answered(Answer::Begun))]);
+        push(rt, calls, &wake(cpu, cpu, second));
+        let short = Slice::new(1_000_000).expect(rt, "slice");
+        let set = Op::Set(second, Nice::default(), short);
+        let changes = [
+            (cpu, set, answered(Answer::Set)),
+            (cpu, Op::Yield, answered(Answer::Yielded)),
+            (cpu, Op::Renice(self.own, light), answered(Answer::Reniced)),
+        ];
+        push(rt, calls, &changes);
+    }
 }
 
-fn begun() -> Operated {
-    Operated::Answer(Answer::Begun)
+fn answered(answer: Answer) -> Operated {
+    Operated::Answer(answer)
 }
 
-/// A sleep of a task that keeps no lag.
-fn slept() -> Operated {
-    Operated::Answer(Answer::Slept(0))
+/// A CPU posts a task to its home, where it wakes.
+fn wake(sender: u64, home: u64, task: TaskId) -> [Told; 2] {
+    let woken = Drained { taken: 1, woken: 1 };
+    [
+        (sender, Op::Post(task), Operated::Posted),
+        (home, Op::Drain, Operated::Drained(woken)),
+    ]
 }
 
-/// A drain of one request, which wakes its task.
-fn woke_one() -> Operated {
-    Operated::Drained(Drained { taken: 1, woken: 1 })
+fn push(rt: &impl Abort, calls: &mut Vec<Told>, more: &[Told]) {
+    calls.extend_from_slice(more).expect(rt, "memory");
 }
 
 /// Calls of a CPU and of a neighbour, with what comes of them. All tasks keep lag 0, so that each falls asleep with it, and of two that
-/// are runnable the one of the lower number is picked. The neighbour's second task is pulled twice: it falls asleep, and then ends. The
-/// task that is ticked is alone when its CPU is rebased.
-fn calls(rt: &impl Abort, alloc: Global, cpu: u64, neighbour: u64) -> Vec<(u64, Call, Operated)> {
-    let second = cpu.saturating_add(CPUS);
-    let third = neighbour.saturating_add(CPUS);
-    let charged = Operated::Answer(Answer::Charged {
-        task: task(rt, cpu),
-        resched: false,
-    });
-    vec![in alloc;
-        (cpu, Call::Pick, picked(rt, cpu)),
-        (cpu, Call::Sleep(cpu), slept()),
-        (cpu, Call::Pick, picked(rt, second)),
-        (cpu, Call::Sleep(second), slept()),
-        (cpu, Call::Pull(neighbour), pulled(rt, third)),
-        (cpu, Call::Pick, picked(rt, third)),
-        (cpu, Call::Sleep(third), slept()),
-        (cpu, Call::Post(third), Operated::Posted),
-        (neighbour, Call::Drain, woke_one()),
-        (cpu, Call::Pull(neighbour), pulled(rt, third)),
-        (cpu, Call::End(third), Operated::Answer(Answer::Ended)),
-        (neighbour, Call::Begin(third, 0, SLICE), begun()),
-        (cpu, Call::Post(third), Operated::Posted),
-        (neighbour, Call::Drain, woke_one()),
-        (neighbour, Call::Post(cpu), Operated::Posted),
-        (cpu, Call::Drain, woke_one()),
-        (cpu, Call::Post(second), Operated::Posted),
-        (cpu, Call::Drain, woke_one()),
-        (cpu, Call::Pick, picked(rt, cpu)),
-        (cpu, Call::Tick(1_000), charged),
-        (cpu, Call::End(second), Operated::Answer(Answer::Ended)),
-        (cpu, Call::Rebase, Operated::Answer(Answer::Rebased(1_000))),
-        (cpu, Call::Begin(second, 5, SLICE), begun()),
-        (cpu, Call::Post(second), Operated::Posted),
-        (cpu, Call::Drain, woke_one()),
-        (
-            cpu,
-            Call::Set(second, 0, 1_000_000),
-            Operated::Answer(Answer::Set)
-        ),
-        (cpu, Call::Yield, Operated::Answer(Answer::Yielded)),
-        (cpu, Call::Renice(cpu, 5), Operated::Answer(Answer::Reniced)),
-    ]
-    .expect(rt, "memory")
+/// are runnable the one of the lower number is picked.
+fn calls(rt: &impl Abort, alloc: Global, cpu: u64, neighbour: u64) -> Vec<Told> {
+    let pair = Pair::of(rt, cpu, neighbour);
+    let mut calls = Vec::new(alloc);
+    pair.pulls(rt, &mut calls);
+    pair.rebases(rt, &mut calls);
+    pair.changes(rt, &mut calls);
+    calls
 }
 
 /// Makes a call, and says what comes of it.
-fn came<S: CallingSeat, R: Wait>(
+fn came<S: CallingSeat, R: Wait + Abort>(
     rt: &R,
     fleet: &S::Fleet,
     seat: &mut S,
-    call: Call,
+    operation: Op,
 ) -> Option<Operated> {
-    match call.operation()? {
+    match operation {
         Op::Post(task) => seat.posted(fleet, task),
-        _ => seat.call(rt, fleet, call)?.ok(),
+        _ => seat.call(rt, fleet, operation).ok(),
     }
 }
 
@@ -139,9 +184,9 @@ fn call_both<S: CallingSeat, R: Wait + Abort>(
     cpu: u64,
     neighbour: u64,
 ) {
-    for (caller, call, wanted) in calls(rt, alloc, cpu, neighbour) {
+    for (caller, operation, wanted) in calls(rt, alloc, cpu, neighbour) {
         let seat = seats.get_mut(caller as usize).expect(rt, "seat");
-        let came = came(rt, fleet, seat, call);
+        let came = came(rt, fleet, seat, operation);
         assert!(rt; came == Some(wanted), "CPU {cpu} beside {neighbour}");
     }
 }

@@ -1,7 +1,8 @@
 //! Seats of fleets of both kinds, with a history and without, on which tests make the same calls.
 
-use crate::fleet_calls::seat_call::Call;
+use crate::operation_texts::calls_of;
 use eevdf_fleet::{Fleet, Names, Operated, Refused, Seat, endless};
+use eevdf_ops::Op;
 use eevdf_queue::TaskId;
 use std::alloc::Global;
 use std::process::Abort;
@@ -15,8 +16,8 @@ pub trait CallingSeat {
     /// The fleet that the seat is of.
     type Fleet;
 
-    /// Makes a call. `None` where its numbers are out of range.
-    fn call<R: Wait>(&mut self, rt: &R, fleet: &Self::Fleet, call: Call) -> Option<Came>;
+    /// Does an operation, and asks that its answer stands in the seat's log, where it has one.
+    fn call<R: Wait + Abort>(&mut self, rt: &R, fleet: &Self::Fleet, operation: Op) -> Came;
 
     /// Posts a request, where the setup has the task. It has no handle `Wait`, so it compiles only as long as a post doesn't wait.
     fn posted(&mut self, fleet: &Self::Fleet, task: TaskId) -> Option<Operated>;
@@ -25,14 +26,10 @@ pub trait CallingSeat {
 impl<N: Names> CallingSeat for Seat<N> {
     type Fleet = Fleet<N>;
 
-    /// The answer of a deed is that of the seat's last line too: else the call comes to nothing.
-    fn call<R: Wait>(&mut self, rt: &R, fleet: &Fleet<N>, call: Call) -> Option<Came> {
-        let came = fleet.try_operate(rt, self, call.operation()?);
-        if is_logged(self, &came) {
-            Some(came)
-        } else {
-            None
-        }
+    fn call<R: Wait + Abort>(&mut self, rt: &R, fleet: &Fleet<N>, operation: Op) -> Came {
+        let came = fleet.try_operate(rt, self, operation);
+        assert!(rt; is_logged(self, &came), "{operation}");
+        came
     }
 
     fn posted(&mut self, fleet: &Fleet<N>, task: TaskId) -> Option<Operated> {
@@ -58,8 +55,8 @@ fn is_logged<N: Names>(seat: &Seat<N>, came: &Came) -> bool {
 impl<N: Names> CallingSeat for endless::Seat<N> {
     type Fleet = endless::Fleet<N>;
 
-    fn call<R: Wait>(&mut self, rt: &R, fleet: &endless::Fleet<N>, call: Call) -> Option<Came> {
-        Some(fleet.try_operate(rt, self, call.operation()?))
+    fn call<R: Wait + Abort>(&mut self, rt: &R, fleet: &endless::Fleet<N>, operation: Op) -> Came {
+        fleet.try_operate(rt, self, operation)
     }
 
     fn posted(&mut self, fleet: &endless::Fleet<N>, task: TaskId) -> Option<Operated> {
@@ -87,13 +84,13 @@ pub fn make_told_calls<S: CallingSeat, R: Wait + Abort>(
     fleet: &S::Fleet,
     seats: &mut [S],
     case: &str,
-    calls: &[(usize, Call, &'static str)],
+    calls: &[(usize, &'static str, &'static str)],
 ) {
-    for (cpu, call, text) in calls {
-        let seat = seats.get_mut(*cpu).expect(rt, "seat");
-        let came = seat.call(rt, fleet, *call).expect(rt, "call");
+    for (cpu, operation, text) in calls_of(rt, alloc, calls) {
+        let seat = seats.get_mut(cpu).expect(rt, "seat");
+        let came = seat.call(rt, fleet, operation);
         assert!(rt;
-            text_of(rt, alloc, &came).as_str() == *text,
+            text_of(rt, alloc, &came).as_str() == text,
             "{case}: {text}"
         );
     }

@@ -3,7 +3,7 @@ use Rattle.std.proofs.Common.{◌≡◌, List, [], ◌∷◌, true, refl, rules}
 use Rattle.std.specs.Cmp.Lexicographic.{pointwise}
 use Rattle.eevdf_ops.specs.declared.deeds.Line.{Line}
 use Rattle.eevdf_ops.specs.declared.deeds.Deed.{Deed}
-use Rattle.eevdf_ops.specs.declared.deeds.Deed.TheVariants.{Tick, Pick, Yield, Sleep, Wake, Pull, Renice, Begin, End, Set, Rebase}
+use Rattle.eevdf_ops.specs.declared.deeds.Deed.TheVariants.{Tick}
 use Rattle.eevdf_ops.specs.declared.deeds.Answer.{Answer}
 use Rattle.eevdf_ops.specs.declared.deeds.Answer.TheVariants as answers
 use Rattle.eevdf_ops.specs.contracts.deeds.DeedPartialEq.TheImpl as deed
@@ -12,16 +12,7 @@ use Rattle.eevdf_ops.specs.contracts.deeds.LinePartialEq.TheImpl as line
 
 deed_itself : (d : Deed) → deed.eq-value.it d d ≡ true
 deed_itself (Tick cpu ns) = search rules
-deed_itself (Pick cpu) = search rules
-deed_itself (Yield cpu) = search rules
-deed_itself (Sleep cpu task) = search rules
-deed_itself (Wake cpu task sender) = search rules
-deed_itself (Pull cpu source) = search rules
-deed_itself (Renice cpu task nice) = search rules
-deed_itself (Begin cpu task nice slice) = search rules
-deed_itself (End cpu task) = search rules
-deed_itself (Set cpu task nice slice) = search rules
-deed_itself (Rebase cpu) = search rules
+deed_itself d = search rules
 
 answer_itself : (a : Answer) → answer.eq-value.it a a ≡ true
 answer_itself (answers.Charged task resched) = search rules

@@ -91,16 +91,10 @@ fn push_whole(
 /// How many steps an operation has, or 0 where it takes two locks.
 fn steps_alone(shape: &Shape, caller: usize, operation: &Op) -> u64 {
     match operation {
-        Op::Tick(_)
-        | Op::Pick
-        | Op::Yield
-        | Op::Renice(_, _)
-        | Op::Begin(_, _, _)
-        | Op::Set(_, _, _)
-        | Op::Rebase => 4,
         Op::Sleep(task) | Op::End(task) if task.get() % shape.cpus == caller as u64 => 5,
-        Op::Sleep(_) | Op::End(_) | Op::Pull(_) => 0,
         Op::Post(_) => 1,
         Op::Drain => 2 * shape.cpus + 2,
+        _ if operation.local().is_some() => 4,
+        _ => 0,
     }
 }

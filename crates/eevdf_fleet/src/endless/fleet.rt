@@ -1,11 +1,10 @@
-ghost use Rattle.std.specs.Prelude.{◌≡◌, ◌≢◌, ◌<◌, ◌≤◌, ◌↔◌, ◌+◌, length, nat_lt, vec_capacity, IfOk, IsTrue, map, true};
-ghost use Rattle.eevdf_ops.specs.{Acts.deed_at, Machine.queue_at, Outcome.machine_of, Parts.decider};
-ghost use Rattle.eevdf_ops.specs.Setup.{allows, cpus_of, homes_of, is_at_home, is_task};
+ghost use Rattle.std.specs.Prelude.{◌≡◌, ◌≢◌, ◌<◌, ◌≤◌, ◌↔◌, ◌+◌, length, nat_lt, vec_capacity, IfOk, IsSome, IsSomeAnd, IsTrue, map, true};
+ghost use Rattle.eevdf_ops.specs.{Machine.queue_at, Outcome.machine_of, Programs.deed_of};
+ghost use Rattle.eevdf_ops.specs.Setup.{cpus_of, homes_of, is_at_home, is_task};
 ghost use Rattle.eevdf_fleet.specs.{Drains.IsPickedAnew, Endless.Agree, Endless.AgreeOnPosts, Endless.AreListed};
 ghost use Rattle.eevdf_fleet.specs.Endless.{AreOfOneHistory, AreSeats, HasDone, HasDrained, IsOneThread};
 ghost use Rattle.eevdf_fleet.specs.Endless.{fresh_seats, told_by};
-ghost use Rattle.eevdf_fleet.specs.Fleets.{setup_of};
-ghost use Rattle.eevdf_fleet.specs.TouchedQueues.{IsLocal, IsNoWake};
+ghost use Rattle.eevdf_fleet.specs.{Fleets.setup_of, Tried.has_what};
 
 use crate::call::Call;
 use crate::closing::ClosedQueues;
@@ -20,7 +19,7 @@ use crate::run_queues::RunQueues;
 use crate::seen::Seen;
 use crate::wake_list::DrainedWake;
 use crossbeam_utils::CachePadded;
-use eevdf_ops::{Answer, CpuId, Deed, LocalAct};
+use eevdf_ops::{Answer, CpuId, Deed, Op};
 use eevdf_queue::TaskId;
 use eevdf_weight::{Nice, Ns, Slice};
 use std::alloc::{AllocError, Global};
@@ -62,7 +61,7 @@ impl<N: Names> Fleet<N> {
     pub fn tick<R: Wait>(&self, rt: &R, seat: &mut Seat<N>, ns: Ns) -> Answer
         ensures { HasDone (setup_of N.kit) (Deed.Tick seat.old.cpu ns) result seat.old seat.new }
     {
-        self.own(rt, seat, LocalAct::Tick(ns))
+        self.operate(rt, seat, Op::Tick(ns))
     }
 
     /// Makes the eligible task of earliest virtual deadline run on the seat's CPU, among equal deadlines that of lowest
@@ -70,7 +69,7 @@ impl<N: Names> Fleet<N> {
     pub fn pick<R: Wait>(&self, rt: &R, seat: &mut Seat<N>) -> Answer
         ensures { HasDone (setup_of N.kit) (Deed.Pick seat.old.cpu) result seat.old seat.new }
     {
-        self.own(rt, seat, LocalAct::Pick)
+        self.operate(rt, seat, Op::Pick)
     }
 
     /// Adds the charge of one slice to the virtual deadline of the task that runs on the seat's CPU, which runs until the
@@ -78,7 +77,7 @@ impl<N: Names> Fleet<N> {
     pub fn yield_now<R: Wait>(&self, rt: &R, seat: &mut Seat<N>) -> Answer
         ensures { HasDone (setup_of N.kit) (Deed.Yield seat.old.cpu) result seat.old seat.new }
     {
-        self.own(rt, seat, LocalAct::Yield)
+        self.operate(rt, seat, Op::Yield)
     }
 
     /// Gives a task another nice level, if it is runnable on the seat's CPU (`Deed::Renice`). `NotHere`: it isn't runnable
@@ -88,7 +87,7 @@ impl<N: Names> Fleet<N> {
         ensures { HasDone (setup_of N.kit) (Deed.Renice seat.old.cpu task nice)
             result seat.old seat.new }
     {
-        self.own(rt, seat, LocalAct::Renice(task, nice))
+        self.operate(rt, seat, Op::Renice(task, nice))
     }
 
     /// Puts a task to sleep at its home, if it runs on the seat's CPU (`Deed::Sleep`). `Slept` has the lag that it keeps, in
@@ -97,8 +96,7 @@ impl<N: Names> Fleet<N> {
         requires { is_task (homes_of (setup_of N.kit)) task ≡ true }
         ensures { HasDone (setup_of N.kit) (Deed.Sleep seat.old.cpu task) result seat.old seat.new }
     {
-        let cpu = seat.cpu();
-        self.operate(rt, seat, Deed::Sleep { cpu, task })
+        self.operate(rt, seat, Op::Sleep(task))
     }
 
     /// Moves the waiting task of latest virtual deadline, of equal ones that of highest number, from the source to the seat's
@@ -111,8 +109,7 @@ impl<N: Names> Fleet<N> {
         ensures { HasDone (setup_of N.kit) (Deed.Pull seat.old.cpu source)
             result seat.old seat.new }
     {
-        let cpu = seat.cpu();
-        self.operate(rt, seat, Deed::Pull { cpu, source })
+        self.operate(rt, seat, Op::Pull(source))
     }
 
     /// Lets a task that sleeps at its home, the seat's CPU, begin anew (`Deed::Begin`): it sleeps on as one that has just been
@@ -130,7 +127,7 @@ impl<N: Names> Fleet<N> {
         ensures { HasDone (setup_of N.kit) (Deed.Begin seat.old.cpu task nice slice)
             result seat.old seat.new }
     {
-        self.own(rt, seat, LocalAct::Begin(task, nice, slice))
+        self.operate(rt, seat, Op::Begin(task, nice, slice))
     }
 
     /// Ends a task, if it is runnable on the seat's CPU, running or waiting (`Deed::End`): it is put to sleep at its home with the
@@ -139,8 +136,7 @@ impl<N: Names> Fleet<N> {
         requires { is_task (homes_of (setup_of N.kit)) task ≡ true }
         ensures { HasDone (setup_of N.kit) (Deed.End seat.old.cpu task) result seat.old seat.new }
     {
-        let cpu = seat.cpu();
-        self.operate(rt, seat, Deed::End { cpu, task })
+        self.operate(rt, seat, Op::End(task))
     }
 
     /// Gives a task another nice level and slice, if it is runnable on the seat's CPU or sleeps there (`Deed::Set`). A runnable one
@@ -159,7 +155,7 @@ impl<N: Names> Fleet<N> {
         ensures { HasDone (setup_of N.kit) (Deed.Set seat.old.cpu task nice slice)
             result seat.old seat.new }
     {
-        self.own(rt, seat, LocalAct::Set(task, nice, slice))
+        self.operate(rt, seat, Op::Set(task, nice, slice))
     }
 
     /// Lowers all virtual times of the seat's CPU by one number, so that its virtual time is 0 (`Deed::Rebase`). `Rebased` has
@@ -167,7 +163,7 @@ impl<N: Names> Fleet<N> {
     pub fn rebase<R: Wait>(&self, rt: &R, seat: &mut Seat<N>) -> Answer
         ensures { HasDone (setup_of N.kit) (Deed.Rebase seat.old.cpu) result seat.old seat.new }
     {
-        self.own(rt, seat, LocalAct::Rebase)
+        self.operate(rt, seat, Op::Rebase)
     }
 
     /// Takes at most one of the requests that each CPU posted to the seat's CPU, senders in ascending order, and decides
@@ -209,33 +205,17 @@ impl<N: Names> Fleet<N> {
         listed
     }
 
-    /// Does an act of the seat's CPU that touches its queue alone, and isn't a wake.
+    /// Does an operation of the seat's CPU that is a deed.
     #[inline(always)]
-    fn own<R: Wait>(&self, rt: &R, seat: &mut Seat<N>, act: LocalAct) -> Answer
-        requires local { IsLocal (homes_of (setup_of N.kit)) seat.old.cpu act }
-        requires no_wake { IsNoWake (deed_at seat.old.cpu act) }
-        requires allowed { seat.old.cpu < cpus_of (setup_of N.kit)
-            → allows (setup_of N.kit) (deed_at seat.old.cpu act) ≡ true }
-        ensures { HasDone (setup_of N.kit) (deed_at seat.old.cpu act) result seat.old seat.new }
+    fn operate<R: Wait>(&self, rt: &R, seat: &mut Seat<N>, op: Op) -> Answer
+        requires deed { IsSome (deed_of seat.old.cpu op) }
+        requires named { has_what (setup_of N.kit) seat.old.cpu op ≡ true }
+        ensures { IsSomeAnd (deed_of seat.old.cpu op)
+            (λ deed. HasDone (setup_of N.kit) deed result seat.old seat.new) }
     {
         let answer = self
             .queues
-            .own(&Call::alone(rt), &mut seat.parts, &mut seat.held, act);
-        seat.parts.know();
-        answer
-    }
-
-    /// Does a deed of the seat's CPU that isn't a wake.
-    #[inline(always)]
-    fn operate<R: Wait>(&self, rt: &R, seat: &mut Seat<N>, deed: Deed) -> Answer
-        requires no_wake { IsNoWake deed }
-        requires own { decider deed ≡ seat.old.cpu }
-        requires allowed { allows (setup_of N.kit) deed ≡ true }
-        ensures { HasDone (setup_of N.kit) deed result seat.old seat.new }
-    {
-        let answer = self
-            .queues
-            .operate(&Call::alone(rt), &mut seat.parts, &mut seat.held, deed);
+            .operate(&Call::alone(rt), &mut seat.parts, &mut seat.held, op);
         seat.parts.know();
         answer
     }

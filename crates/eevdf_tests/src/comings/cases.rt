@@ -1,9 +1,6 @@
 //! Calls by which tasks come and go, with what comes of them. The values are those of docs/model.md's rules: level 5 weighs 335.
 
 use super::{Case, Stands};
-use crate::fleet_calls::seat_call::Call::{
-    Begin, Drain, End, Pick, Post, Pull, Rebase, Renice, Set, Sleep, Tick,
-};
 use crate::stand::Stand;
 use crate::stand::Stand::{Asleep, Elsewhere, Runnable};
 
@@ -24,11 +21,11 @@ pub const CASES: [Case; 9] = [
     Case {
         name: "a task that sleeps begins anew, and is woken by a drain",
         calls: &[
-            (0, Begin(0, 5, 1_000_000), "awake"),
-            (0, Begin(2, 5, 1_000_000), "begun"),
-            (1, Post(2), "posted"),
-            (0, Drain, "1 taken, 1 woken"),
-            (0, Begin(2, 0, 1_000_000), "awake"),
+            (0, "begin 0 5 1000000", "awake"),
+            (0, "begin 2 5 1000000", "begun"),
+            (1, "post 2", "posted"),
+            (0, "drain", "1 taken, 1 woken"),
+            (0, "begin 2 0 1000000", "awake"),
         ],
         queues: [
             Stands {
@@ -42,10 +39,10 @@ pub const CASES: [Case; 9] = [
     Case {
         name: "a task that begins anew loses its lag",
         calls: &[
-            (0, Pick, "picked 0"),
-            (0, Tick(1_000_000), "charged 0"),
-            (0, Sleep(0), "slept -500000"),
-            (0, Begin(0, 5, 1_000_000), "begun"),
+            (0, "pick", "picked 0"),
+            (0, "tick 1000000", "charged 0"),
+            (0, "sleep 0", "slept -500000"),
+            (0, "begin 0 5 1000000", "begun"),
         ],
         queues: [
             Stands {
@@ -60,12 +57,12 @@ pub const CASES: [Case; 9] = [
     Case {
         name: "a task ends where it waits and where it runs",
         calls: &[
-            (0, Pick, "picked 0"),
-            (0, Tick(1_000_000), "charged 0"),
-            (0, End(1), "ended"),
-            (0, End(1), "not here"),
-            (0, End(0), "ended"),
-            (0, Pick, "idle"),
+            (0, "pick", "picked 0"),
+            (0, "tick 1000000", "charged 0"),
+            (0, "end 1", "ended"),
+            (0, "end 1", "not here"),
+            (0, "end 0", "ended"),
+            (0, "pick", "idle"),
         ],
         queues: [
             Stands {
@@ -80,16 +77,16 @@ pub const CASES: [Case; 9] = [
     Case {
         name: "a task ends away from its home",
         calls: &[
-            (1, Pull(0), "pulled 1"),
-            (0, End(1), "not here"),
-            (0, Begin(1, 5, 1_000_000), "awake"),
-            (1, Pick, "picked 1"),
-            (1, Tick(1_000_000), "charged 1"),
-            (1, End(1), "ended"),
-            (1, Post(1), "posted"),
-            (0, Drain, "1 taken, 1 woken"),
-            (1, Pull(0), "pulled 1"),
-            (1, End(1), "ended"),
+            (1, "pull 0", "pulled 1"),
+            (0, "end 1", "not here"),
+            (0, "begin 1 5 1000000", "awake"),
+            (1, "pick", "picked 1"),
+            (1, "tick 1000000", "charged 1"),
+            (1, "end 1", "ended"),
+            (1, "post 1", "posted"),
+            (0, "drain", "1 taken, 1 woken"),
+            (1, "pull 0", "pulled 1"),
+            (1, "end 1", "ended"),
         ],
         queues: [
             Stands {
@@ -108,11 +105,11 @@ pub const CASES: [Case; 9] = [
     Case {
         name: "a sleeping task is set to another level and slice",
         calls: &[
-            (0, Pick, "picked 0"),
-            (0, Tick(1_000_000), "charged 0"),
-            (0, Sleep(0), "slept -500000"),
-            (0, Set(0, 5, 1_000_000), "set"),
-            (1, Set(0, 0, 3_000_000), "not here"),
+            (0, "pick", "picked 0"),
+            (0, "tick 1000000", "charged 0"),
+            (0, "sleep 0", "slept -500000"),
+            (0, "set 0 5 1000000", "set"),
+            (1, "set 0 0 3000000", "not here"),
         ],
         queues: [
             Stands {
@@ -127,10 +124,10 @@ pub const CASES: [Case; 9] = [
     Case {
         name: "the lag of a sleeping task is cut to its new limit",
         calls: &[
-            (0, Pick, "picked 0"),
-            (0, Tick(1_000_000), "charged 0"),
-            (0, Sleep(0), "slept -500000"),
-            (0, Set(0, 5, 100_000), "set"),
+            (0, "pick", "picked 0"),
+            (0, "tick 1000000", "charged 0"),
+            (0, "sleep 0", "slept -500000"),
+            (0, "set 0 5 100000", "set"),
         ],
         queues: [
             Stands {
@@ -145,10 +142,10 @@ pub const CASES: [Case; 9] = [
     Case {
         name: "a running task is set to another level and slice",
         calls: &[
-            (0, Pick, "picked 0"),
-            (0, Tick(3_000_000), "charged 0 resched"),
-            (1, Set(0, 5, 1_000_000), "not here"),
-            (0, Set(0, 5, 1_000_000), "set"),
+            (0, "pick", "picked 0"),
+            (0, "tick 3000000", "charged 0 resched"),
+            (1, "set 0 5 1000000", "not here"),
+            (0, "set 0 5 1000000", "set"),
         ],
         queues: [
             Stands {
@@ -162,11 +159,11 @@ pub const CASES: [Case; 9] = [
     Case {
         name: "a rebase lowers the virtual times of its CPU",
         calls: &[
-            (0, Pick, "picked 0"),
-            (0, Tick(3_000_000), "charged 0 resched"),
-            (1, Rebase, "rebased 0"),
-            (0, Rebase, "rebased 1500000"),
-            (0, Pick, "picked 1"),
+            (0, "pick", "picked 0"),
+            (0, "tick 3000000", "charged 0 resched"),
+            (1, "rebase", "rebased 0"),
+            (0, "rebase", "rebased 1500000"),
+            (0, "pick", "picked 1"),
         ],
         queues: [
             Stands {
@@ -185,15 +182,15 @@ pub const CASES: [Case; 9] = [
     Case {
         name: "what the setup hasn't is named, and nothing changes",
         calls: &[
-            (0, Sleep(3), "no task 3"),
-            (0, Renice(3, 5), "no task 3"),
-            (0, Post(3), "no task 3"),
-            (0, End(3), "no task 3"),
-            (0, Set(3, 5, 1_000_000), "no task 3"),
-            (0, Begin(3, 5, 1_000_000), "no task 3"),
-            (1, Begin(2, 5, 1_000_000), "other home of task 2"),
-            (0, Pull(2), "no cpu 2"),
-            (0, Pull(0), "own cpu"),
+            (0, "sleep 3", "no task 3"),
+            (0, "renice 3 5", "no task 3"),
+            (0, "post 3", "no task 3"),
+            (0, "end 3", "no task 3"),
+            (0, "set 3 5 1000000", "no task 3"),
+            (0, "begin 3 5 1000000", "no task 3"),
+            (1, "begin 2 5 1000000", "other home of task 2"),
+            (0, "pull 2", "no cpu 2"),
+            (0, "pull 0", "own cpu"),
         ],
         queues: [
             Stands {

@@ -5,8 +5,8 @@ ghost use Rattle.std.specs.Prelude.{◌≡◌};
 use super::cases::CASES;
 use super::{Case, stands_in, three_tasks};
 use crate::fixtures::{cpu, task};
-use crate::fleet_calls::seat_call::Call;
 use crate::kits::kit_of;
+use crate::operation_texts::operations_at;
 use crate::seats::{CallingSeat, make_told_calls};
 use eevdf_fleet::{Fleet, Kit, Names, Refused};
 use std::alloc::Global;
@@ -46,13 +46,9 @@ fn are_refused<N: Names, R: Wait + Abort>(rt: &R, alloc: Global, kit: Kit) -> bo
 {
     let (fleet, mut seats) = Fleet::<N>::open(alloc, kit).expect(rt, "memory");
     let seat = seats.get_mut(0).expect(rt, "seat");
-    for call in [
-        Call::Begin(2, 5, 1_000_000),
-        Call::End(0),
-        Call::Set(2, 5, 1_000_000),
-        Call::Rebase,
-    ] {
-        if seat.call(rt, &fleet, call) != Some(Err(Refused::SeatFull)) {
+    let lines = "begin 2 5 1000000\nend 0\nset 2 5 1000000\nrebase";
+    for operation in operations_at(rt, alloc, 0, lines) {
+        if seat.call(rt, &fleet, operation) != Err(Refused::SeatFull) {
             return false;
         }
     }

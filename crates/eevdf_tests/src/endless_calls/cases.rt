@@ -1,7 +1,6 @@
 //! Calls of seats of a fleet that keeps no history, with what comes of them.
 
 use super::Case;
-use crate::fleet_calls::seat_call::Call::{Drain, Pick, Post, Pull, Renice, Sleep, Tick, Yield};
 
 pub const CASES: [Case; 6] = [
     Case {
@@ -9,10 +8,10 @@ pub const CASES: [Case; 6] = [
         workload: b"version = 2\nprogram = [[]]\n[[task]]\n[[task]]\n",
         rings: 1,
         calls: &[
-            (0, Pick, "picked 0"),
-            (0, Tick(3_000_000), "charged 0 resched"),
-            (0, Renice(0, 5), "reniced"),
-            (0, Yield, "yielded"),
+            (0, "pick", "picked 0"),
+            (0, "tick 3000000", "charged 0 resched"),
+            (0, "renice 0 5", "reniced"),
+            (0, "yield", "yielded"),
         ],
         report: "cpu 0\nload 1359 floor 1500000\ntask 0 v 6085076 d 24425374 lag -4585076 running\ntask 1 v 0 d 3000000 lag 1500000\n",
     },
@@ -22,13 +21,13 @@ pub const CASES: [Case; 6] = [
         workload: b"version = 1\nprogram = [[], []]\n[[task]]\n[[task]]\n[[task]]\n",
         rings: 1,
         calls: &[
-            (1, Pull(0), "pulled 2"),
-            (1, Pick, "picked 2"),
-            (1, Tick(500_000), "charged 2"),
-            (1, Sleep(2), "slept 0"),
-            (1, Sleep(2), "not running"),
-            (1, Post(2), "posted"),
-            (0, Drain, "1 taken, 1 woken"),
+            (1, "pull 0", "pulled 2"),
+            (1, "pick", "picked 2"),
+            (1, "tick 500000", "charged 2"),
+            (1, "sleep 2", "slept 0"),
+            (1, "sleep 2", "not running"),
+            (1, "post 2", "posted"),
+            (0, "drain", "1 taken, 1 woken"),
         ],
         report: "cpu 0\nload 3072 floor 0\ntask 0 v 0 d 3000000 lag 0\ntask 1 v 0 d 3000000 lag 0\ntask 2 v 0 d 3000000 lag 0\ncpu 1\nload 0 floor 500000\n",
     },
@@ -37,12 +36,12 @@ pub const CASES: [Case; 6] = [
         workload: b"version = 1\nprogram = [[], []]\n[[task]]\nasleep = true\n[[task]]\nasleep = true\n[[task]]\nasleep = true\n",
         rings: 1,
         calls: &[
-            (1, Post(0), "posted"),
-            (1, Post(1), "ring full at task 1"),
-            (0, Drain, "1 taken, 1 woken"),
-            (1, Post(0), "posted"),
-            (0, Drain, "1 taken, 0 woken"),
-            (1, Post(2), "posted"),
+            (1, "post 0", "posted"),
+            (1, "post 1", "ring full at task 1"),
+            (0, "drain", "1 taken, 1 woken"),
+            (1, "post 0", "posted"),
+            (0, "drain", "1 taken, 0 woken"),
+            (1, "post 2", "posted"),
         ],
         report: "cpu 0\nload 1024 floor 0\ntask 0 v 0 d 3000000 lag 0\nasleep 1 lag 0\nasleep 2 lag 0\nleft 2 from 1\ncpu 1\nload 0 floor 0\n",
     },
@@ -51,9 +50,9 @@ pub const CASES: [Case; 6] = [
         workload: b"version = 1\nprogram = [[], []]\n[[task]]\nasleep = true\n",
         rings: 1,
         calls: &[
-            (1, Post(0), "posted"),
-            (0, Post(0), "posted"),
-            (0, Drain, "2 taken, 1 woken"),
+            (1, "post 0", "posted"),
+            (0, "post 0", "posted"),
+            (0, "drain", "2 taken, 1 woken"),
         ],
         report: "cpu 0\nload 1024 floor 0\ntask 0 v 0 d 3000000 lag 0\ncpu 1\nload 0 floor 0\n",
     },
@@ -62,8 +61,8 @@ pub const CASES: [Case; 6] = [
         workload: b"version = 1\nprogram = [[]]\n[[task]]\n",
         rings: 0,
         calls: &[
-            (0, Post(0), "ring full at task 0"),
-            (0, Drain, "0 taken, 0 woken"),
+            (0, "post 0", "ring full at task 0"),
+            (0, "drain", "0 taken, 0 woken"),
         ],
         report: "cpu 0\nload 1024 floor 0\ntask 0 v 0 d 3000000 lag 0\n",
     },
@@ -72,11 +71,11 @@ pub const CASES: [Case; 6] = [
         workload: b"version = 1\nprogram = [[]]\n[[task]]\n",
         rings: 1,
         calls: &[
-            (0, Sleep(1), "no task 1"),
-            (0, Renice(1, 5), "no task 1"),
-            (0, Post(1), "no task 1"),
-            (0, Pull(1), "no cpu 1"),
-            (0, Pull(0), "own cpu"),
+            (0, "sleep 1", "no task 1"),
+            (0, "renice 1 5", "no task 1"),
+            (0, "post 1", "no task 1"),
+            (0, "pull 1", "no cpu 1"),
+            (0, "pull 0", "own cpu"),
         ],
         report: "cpu 0\nload 1024 floor 0\ntask 0 v 0 d 3000000 lag 0\n",
     },

@@ -4,13 +4,12 @@ ghost use Rattle.std.specs.Prelude.{◌≡◌};
 ghost use Rattle.eevdf_fleet.specs.Fleets.{setup_of};
 
 use super::closed;
-use crate::fixtures::{give_back, one_task_each, take_pair};
-use crate::fleet_calls::seat_call::Call;
+use crate::fixtures::{give_back, ns, one_task_each, take_pair, task};
 use crate::kits::endless_kit_of;
 use crate::seats::CallingSeat;
 use eevdf_fleet::Names;
 use eevdf_fleet::endless::{Fleet, Kit, Seat};
-use eevdf_ops::Outcome;
+use eevdf_ops::{Op, Outcome};
 use std::alloc::Global;
 use std::hint::spin_loop;
 use std::marker::Brand;
@@ -61,10 +60,17 @@ impl Signals {
     }
 
     /// Calls of the other CPU, and a post to the one whose lock is held.
-    fn work<N: Names, R: Wait>(&self, rt: &R, fleet: &Fleet<N>, mut seat: Seat<N>) -> Seat<N> {
+    fn work<N: Names, R: Wait + Abort>(
+        &self,
+        rt: &R,
+        fleet: &Fleet<N>,
+        mut seat: Seat<N>,
+    ) -> Seat<N> {
+        let tick = Op::Tick(ns(rt, 1_000));
+        let post = Op::Post(task(rt, 0));
         self.await_signal(&self.is_looking);
-        for call in [Call::Pick, Call::Tick(1_000), Call::Post(0), Call::Drain] {
-            let _came = seat.call(rt, fleet, call);
+        for operation in [Op::Pick, tick, post, Op::Drain] {
+            let _came = seat.call(rt, fleet, operation);
         }
         self.is_done.store(true, Ordering::SeqCst);
         seat

@@ -1,8 +1,9 @@
 //! Seats of the least and the most room, rings of the least and the most room, and as many seats as there may be.
 
 use super::outcome_of_calls;
-use super::seat_call::{Call, Done};
-use eevdf_ops::Outcome;
+use super::seat_call::Done;
+use crate::fixtures;
+use eevdf_ops::{Op, Outcome};
 use std::alloc::Global;
 use std::process::Abort;
 use std::sync::Wait;
@@ -21,11 +22,11 @@ const SIXTY_FOUR_CPUS: &[u8] =
 fn repeated(
     rt: &impl Abort,
     alloc: Global,
-    call: Call,
+    call: Op,
     times: usize,
     done: Done,
     refused: Done,
-) -> Vec<(usize, Call, Done)> {
+) -> Vec<(usize, Op, Done)> {
     let mut calls = vec![in alloc; (1, call, done); times].expect(rt, "memory");
     calls.push((1, call, refused)).expect(rt, "memory");
     calls
@@ -33,7 +34,7 @@ fn repeated(
 
 /// What a fleet of two CPUs with this quota comes to, where CPU 1 has room for so many picks and no more.
 fn outcome_of_picks<R: Wait + Abort>(rt: &R, alloc: Global, quota: usize) -> Option<Outcome> {
-    let calls = repeated(rt, alloc, Call::Pick, quota, Done::Line, Done::SeatFull);
+    let calls = repeated(rt, alloc, Op::Pick, quota, Done::Line, Done::SeatFull);
     outcome_of_calls(rt, alloc, TWO_CPUS, quota, 1, &calls)
 }
 
@@ -42,7 +43,7 @@ fn outcome_of_posts<R: Wait + Abort>(rt: &R, alloc: Global, rings: usize) -> Opt
     let calls = repeated(
         rt,
         alloc,
-        Call::Post(0),
+        Op::Post(fixtures::task(rt, 0)),
         rings,
         Done::Posted,
         Done::RingFull,
@@ -86,12 +87,10 @@ fn outcome_of_drain<R: Wait + Abort>(
     let mut calls = Vec::new(alloc);
     for cpu in 0..64 {
         calls
-            .push((cpu, Call::Post(task), Done::Posted))
+            .push((cpu, Op::Post(fixtures::task(rt, task)), Done::Posted))
             .expect(rt, "memory");
     }
-    calls
-        .push((home, Call::Drain, drained))
-        .expect(rt, "memory");
+    calls.push((home, Op::Drain, drained)).expect(rt, "memory");
     outcome_of_calls(rt, alloc, SIXTY_FOUR_CPUS, quota, 1, &calls)
 }
 
@@ -115,9 +114,9 @@ fn a_drain_that_takes_nothing_needs_its_room(rt: HostRuntime) {
     let nothing = Done::Drained { taken: 0, woken: 0 };
     for cpu in [0, 63] {
         let calls = [
-            (cpu, Call::Drain, nothing),
-            (cpu, Call::Pick, Done::Line),
-            (cpu, Call::Drain, Done::SeatFull),
+            (cpu, Op::Drain, nothing),
+            (cpu, Op::Pick, Done::Line),
+            (cpu, Op::Drain, Done::SeatFull),
         ];
         let outcome = outcome_of_calls(&rt, rt.alloc(), SIXTY_FOUR_CPUS, 64, 1, &calls);
         let lines = lines(outcome);

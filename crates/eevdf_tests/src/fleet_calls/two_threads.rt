@@ -6,13 +6,14 @@ ghost use Rattle.eevdf_fleet.specs.Fleets.{setup_of};
 ghost use Rattle.eevdf_ops.specs.Programs.{deeds_of};
 ghost use Rattle.eevdf_ops.specs.Setup.{allows};
 
-use super::seat_call::{Call, call_on};
+use super::seat_call::call_on;
 use crate::fixtures::{give_back, take_pair};
 use crate::kits::kit_of;
 use crate::one_thread_again::done_alone;
 use crate::same_end::end_alike;
 use eevdf_fleet::{Fleet, Kit, Names, Seat};
-use eevdf_ops::{Outcome, Setup};
+use eevdf_ops::{CpuId, Op, Outcome, Setup};
+use eevdf_weight::Ns;
 use eevdf_workload::read_workload;
 use std::alloc::Global;
 use std::marker::Brand;
@@ -20,15 +21,21 @@ use std::process::Abort;
 use std::sync::Wait;
 use std::thread::{Threads, join};
 
-/// A hundred calls on one seat: a pick, a tick and a pull in turn.
+/// A pick, a tick and a pull in turn.
+fn operation_at(number: usize, other: u64) -> Option<Op> {
+    Some(match number % 3 {
+        0 => Op::Pick,
+        1 => Op::Tick(Ns::new(1_000)?),
+        _ => Op::Pull(CpuId::new(other)?),
+    })
+}
+
+/// A hundred such operations on one seat.
 fn operate<N: Names, R: Wait>(rt: &R, fleet: &Fleet<N>, mut seat: Seat<N>, other: u64) -> Seat<N> {
     for number in 0..100usize {
-        let call = match number % 3 {
-            0 => Call::Pick,
-            1 => Call::Tick(1_000),
-            _ => Call::Pull(other),
-        };
-        let _done = call_on(rt, fleet, &mut seat, call);
+        if let Some(operation) = operation_at(number, other) {
+            let _done = call_on(rt, fleet, &mut seat, operation);
+        }
     }
     seat
 }

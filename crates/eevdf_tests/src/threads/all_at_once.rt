@@ -5,9 +5,9 @@ use super::call_turns::{CallTurns, TurnCalls};
 use super::gate_call::{GateCall, Moment, Passing, PassingGate};
 use super::token::Token;
 use crate::fixtures::{one_task_each, picks_of_one_task_each};
-use crate::fleet_calls::seat_call::Call;
 use crate::kits::{endless_kit_of, kit_of};
 use eevdf_fleet::{endless, run_all, run_turns};
+use eevdf_ops::Op;
 
 /// So many CPUs there are in the tests.
 const CPUS: [usize; 3] = [2, 8, 64];
@@ -22,12 +22,12 @@ struct RoundsOfTurns {
 }
 
 impl TurnCalls for RoundsOfTurns {
-    fn call_at(&self, cpu: u64, turn: usize, at: usize) -> Option<Call> {
+    fn call_at(&self, cpu: u64, turn: usize, at: usize) -> Option<Op> {
         match at {
-            0 => Some(Call::Pick),
+            0 => Some(Op::Pick),
             1 => {
                 self.token.go_round(turn, cpu as usize);
-                Some(Call::Yield)
+                Some(Op::Yield)
             }
             _ => None,
         }

@@ -1,16 +1,15 @@
 //! Turns that are calls of a seat, of fleets of both kinds.
 
-ghost use Rattle.std.specs.Prelude.{◌≡◌};
-
-use crate::fleet_calls::seat_call::{Call, call_on};
+use crate::fleet_calls::seat_call::call_on;
 use eevdf_fleet::{Fleet, Names, Seat, SeatTurn, endless};
+use eevdf_ops::Op;
 use std::ops::ControlFlow;
 use std::sync::Wait;
 
 /// What the CPUs do in their turns.
 pub trait TurnCalls {
-    /// The call at a place of a CPU's turn of a number, or `None` behind the last one.
-    fn call_at(&self, cpu: u64, turn: usize, at: usize) -> Option<Call>;
+    /// The operation at a place of a CPU's turn of a number, or `None` behind the last one.
+    fn call_at(&self, cpu: u64, turn: usize, at: usize) -> Option<Op>;
 
     /// Whether a CPU has no turn after the one of a number.
     fn ends(&self, _cpu: u64, _turn: usize) -> bool {
@@ -36,8 +35,8 @@ impl<T: TurnCalls + Drop> SeatTurn for CallTurns<T> {
     ) -> ControlFlow<()> {
         let cpu = seat.cpu().get();
         for at in 0..MOST_CALLS {
-            if let Some(call) = self.each.call_at(cpu, turn, at) {
-                let _done = call_on(rt, fleet, seat, call);
+            if let Some(operation) = self.each.call_at(cpu, turn, at) {
+                let _done = call_on(rt, fleet, seat, operation);
             }
         }
         if self.each.ends(cpu, turn) {
@@ -58,24 +57,10 @@ impl<T: TurnCalls + Drop> endless::SeatTurn for CallTurns<T> {
     ) -> ControlFlow<()> {
         let cpu = seat.cpu().get();
         for at in 0..MOST_CALLS {
-            if let Some(call) = self.each.call_at(cpu, 0, at) {
-                operate(rt, fleet, seat, call);
+            if let Some(operation) = self.each.call_at(cpu, 0, at) {
+                let _ = fleet.try_operate(rt, seat, operation);
             }
         }
         ControlFlow::Break(())
-    }
-}
-
-/// Makes a call, if its numbers are in range.
-fn operate<N: Names, R: Wait>(
-    rt: &R,
-    fleet: &endless::Fleet<N>,
-    seat: &mut endless::Seat<N>,
-    call: Call,
-)
-    ensures { seat.new.cpu ≡ seat.old.cpu }
-{
-    if let Some(operation) = call.operation() {
-        let _ = fleet.try_operate(rt, seat, operation);
     }
 }

@@ -3,36 +3,51 @@
 
 use super::call_turns::{CallTurns, TurnCalls};
 use crate::fixtures::one_task_each;
-use crate::fleet_calls::seat_call::Call;
 use crate::kits::{endless_kit_of, kit_of};
+use crate::operation_texts::operations_at;
 use eevdf_fleet::{Closed, endless, run_turns};
-use eevdf_ops::Deed;
+use eevdf_ops::{Deed, Op};
+use std::alloc::Global;
 use std::process::Abort;
 
 /// Each operation once in each turn. CPU c pulls from CPU `cpus - 1 - c` and posts to it.
 #[derive(Drop)]
 struct EachOperation {
-    cpus: u64,
+    turns: Vec<Vec<Op>>,
+}
+
+impl EachOperation {
+    fn of(rt: &impl Abort, alloc: Global, cpus: usize) -> EachOperation {
+        let mut turns = Vec::new(alloc);
+        for own in 0..cpus {
+            let other = cpus.saturating_sub(own).saturating_sub(1);
+            let lines = lines_of(rt, alloc, own, other);
+            let turn = operations_at(rt, alloc, own as u64, lines.as_str());
+            turns.push(turn).expect(rt, "memory");
+        }
+        EachOperation { turns }
+    }
+}
+
+/// The operations of a turn, a line each.
+fn lines_of(rt: &impl Abort, alloc: Global, own: usize, other: usize) -> String {
+    let mut lines = String::new(alloc);
+    write!(
+        lines,
+        "pick\ntick 1000\nyield\nrenice {own} 5\npull {other}\npost {other}\ndrain\n"
+    )
+    .expect(rt, "memory");
+    write!(
+        lines,
+        "sleep {own}\nset {own} 0 3000000\nend {own}\nbegin {own} 0 1000000\nrebase\n"
+    )
+    .expect(rt, "memory");
+    lines
 }
 
 impl TurnCalls for EachOperation {
-    fn call_at(&self, own: u64, _turn: usize, at: usize) -> Option<Call> {
-        let other = self.cpus.saturating_sub(own).saturating_sub(1);
-        let calls = [
-            Call::Pick,
-            Call::Tick(1_000),
-            Call::Yield,
-            Call::Renice(own, 5),
-            Call::Pull(other),
-            Call::Post(other),
-            Call::Drain,
-            Call::Sleep(own),
-            Call::Set(own, 0, 3_000_000),
-            Call::End(own),
-            Call::Begin(own, 0, 1_000_000),
-            Call::Rebase,
-        ];
-        calls.get(at).copied()
+    fn call_at(&self, own: u64, _turn: usize, at: usize) -> Option<Op> {
+        self.turns.get(own as usize)?.get(at).copied()
     }
 }
 
@@ -74,7 +89,7 @@ fn every_cpu_does_each_operation(rt: HostRuntime) {
     for (cpus, turns, quota) in [(2, 10_000, 110_002), (64, 10, 174)] {
         let setup = one_task_each(&rt, rt.alloc(), cpus);
         let kit = kit_of(&rt, rt.alloc(), &setup, quota, turns);
-        let each = EachOperation { cpus: cpus as u64 };
+        let each = EachOperation::of(&rt, rt.alloc(), cpus);
         let calls = CallTurns { each };
         let closed = run_turns(&rt, rt.alloc(), kit, turns, &calls).expect(&rt, "turns");
         have_done_each(&rt, &closed, cpus, turns);
@@ -86,7 +101,7 @@ fn every_cpu_does_each_operation_without_a_history(rt: HostRuntime) {
     for cpus in [2, 64] {
         let setup = one_task_each(&rt, rt.alloc(), cpus);
         let kit = endless_kit_of(&rt, rt.alloc(), &setup, 1);
-        let each = EachOperation { cpus: cpus as u64 };
+        let each = EachOperation::of(&rt, rt.alloc(), cpus);
         let calls = CallTurns { each };
         let closed = endless::run_turns(&rt, rt.alloc(), kit, &calls).expect(&rt, "turns");
         assert!(rt; closed.queues.len() == cpus, "{cpus} CPUs");

@@ -2,8 +2,8 @@
 
 use super::call_turns::{CallTurns, TurnCalls};
 use crate::fixtures::one_task_each;
-use crate::fleet_calls::seat_call::Call;
 use eevdf_fleet::{Kit, run_turns};
+use eevdf_ops::Op;
 use std::alloc::Global;
 use std::process::Abort;
 use std::sync::atomic::{AtomicBool, AtomicUsize, Ordering};
@@ -50,12 +50,12 @@ impl CountedPicks {
 }
 
 impl TurnCalls for CountedPicks {
-    fn call_at(&self, cpu: u64, turn: usize, at: usize) -> Option<Call> {
+    fn call_at(&self, cpu: u64, turn: usize, at: usize) -> Option<Op> {
         if at > 0 {
             return None;
         }
         self.count(cpu as usize, turn);
-        Some(Call::Pick)
+        Some(Op::Pick)
     }
 
     fn ends(&self, cpu: u64, turn: usize) -> bool {

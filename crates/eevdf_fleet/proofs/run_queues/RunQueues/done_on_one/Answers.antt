@@ -1,7 +1,5 @@
-use Rattle.std.proofs.Common.{◌≡◌, ℕ, [], ◌∷◌, sym, ap, subst, ◌∙◌}
-use Rattle.eevdf_ops.specs.{Acts.act_of, Acts.deed_at, Setup.homes_of}
-use Rattle.eevdf_fleet.specs.{declared.board.claims.Claim.TheVariants.Queue, Board.claims_of, Fleets.Slot, Fleets.setup_of}
-use Rattle.eevdf_fleet.specs.{Board.posts_of, TouchedQueues.IsNoWake}
+use Rattle.std.proofs.Common.{◌≡◌, ℕ, [], ◌∷◌, ap, ◌∙◌}
+use Rattle.eevdf_fleet.specs.{declared.board.claims.Claim.TheVariants.Queue, Board.claims_of, Board.posts_of, Fleets.Slot}
 use Rattle.eevdf_fleet.proofs.SentTokens.{no-wake-asked}
 use Rattle.eevdf_fleet.proofs.run_queues.RunQueues.done_on_one.Goals as goal
 
@@ -10,7 +8,7 @@ commit_one-requires-clause-done g c =
     let number : c.slot.inside.number ≡ c.args.log.now.cpu = ap (λ (s : Slot). s.number) c.slot.view_is ∙ c.requires.number in
     record {
       by = c.args.act;
-      local = ap (act_of (homes_of (setup_of g.N.Names.kit))) (c.on-deed.ensures ∙ ap (λ (n : ℕ). deed_at n c.args.act) c.cpu.ensures.cpu) ∙ c.requires.local;
+      local = c.requires.local;
       before = c.slot.inside.queue.state;
       claimed = ap claims_of c.replace-token.ensures.value ∙ c.slot.invariant.1 ∙ ap (λ (n : ℕ). Queue n c.slot.inside.queue.state ∷ []) number;
       answers = c.apply-answer.ensures.answer;
@@ -18,6 +16,4 @@ commit_one-requires-clause-done g c =
     }
 
 pub commit_one-requires-clause-asked : goal.commit_one-requires-clause-asked
-commit_one-requires-clause-asked g c =
-    no-wake-asked c.args.log.now.lines (posts_of c.replace-token.result) c.on-deed.result
-    (subst IsNoWake (sym (c.on-deed.ensures ∙ ap (λ (n : ℕ). deed_at n c.args.act) c.cpu.ensures.cpu)) c.requires.no_wake)
+commit_one-requires-clause-asked g c = no-wake-asked c.args.log.now.lines (posts_of c.replace-token.result) c.args.deed.now c.requires.no_wake

@@ -1,6 +1,6 @@
 use Rattle.std.proofs.Common.{◌≡◌, ◌<◌, ◌++◌, ℕ, List, [], ◌∷◌, drop, sym, ap, subst, ◌∙◌}
 use Rattle.eevdf_queue.specs.State.{View}
-use Rattle.eevdf_ops.specs.{Acts.act_of, Acts.deed_across, Setup.cpus_of, Setup.homes_of}
+use Rattle.eevdf_ops.specs.{Acts.act_of, Setup.cpus_of, Setup.homes_of}
 use Rattle.eevdf_ops.specs.declared.acts.Act.TheVariants as act
 use Rattle.eevdf_fleet.specs.{declared.board.claims.Claim.Claim, declared.board.claims.Said.Said, declared.board.claims.Claim.TheVariants.Queue, Board.Known, Board.held}
 use Rattle.eevdf_ops.specs.declared.deeds.Line.{Line}
@@ -39,14 +39,11 @@ commit_two-own-requires-clause-done g c =
     let at : After-split-past g = (goal.at.commit_two-own-requires-clause-done g c).After-split-past in
     let hs : List ℕ = homes_of (setup_of g.N.Names.kit) in
     let said = c.said_both-said.ensures in
-    let first : c.said_both-said.result.first.cpu ≡ c.args.log.now.cpu = ap (λ (s : Said). s.first.cpu) said ∙ c.change-own_change.ensures.cpu ∙ c.cpu-3.ensures.cpu in
+    let first : c.said_both-said.result.first.cpu ≡ c.args.log.now.cpu = ap (λ (s : Said). s.first.cpu) said ∙ c.change-own_change.ensures.cpu ∙ c.cpu-2.ensures.cpu in
     let second : c.said_both-said.result.second.cpu ≡ c.args.away.now.number = ap (λ (s : Said). s.second.cpu) said ∙ c.change.ensures.cpu ∙ other_number g at in
-    let deed : c.on-deed.result ≡ deed_across c.args.log.now.cpu c.args.away.now.number c.args.transfer =
-    c.on-deed.ensures ∙ ap (λ (n : ℕ). deed_across n c.away.inside.number c.args.transfer) c.cpu.ensures.cpu
-    ∙ ap (λ (n : ℕ). deed_across c.args.log.now.cpu n c.args.transfer) (other_number g at) in
     record {
       by = c.args.transfer;
-      across = ap (λ (s : Said). act_of hs s.line.deed) said ∙ ap (act_of hs) deed ∙ c.requires.across ∙ ap (λ (n : ℕ). act.Transfer n c.args.transfer) (sym second);
+      across = ap (λ (s : Said). act_of hs s.line.deed) said ∙ c.requires.across ∙ ap (λ (n : ℕ). act.Transfer n c.args.transfer) (sym second);
       before = c.slot.inside.queue.state;
       other_before = c.away.inside.queue.state;
       claimed = c.split-past.ensures.other_claims ∙ ap (λ (cs : List Claim). drop 1 cs) c.look-token.ensures.looked.claims ∙ ap held (joined g at)

@@ -23,10 +23,11 @@ returns-in_err-request-clause-none g c = if_none c.from_residual.result (seat-lo
 pub wake_on_one-answer-requires-clause-allowed : goal.wake_on_one-answer-requires-clause-allowed
 wake_on_one-answer-requires-clause-allowed g c =
     let cpus = cpus_of (setup_of g.N.Names.kit) in
-    and_from _ _ (and_from _ _ (lt-ltb c.seat.inside.log.cpu cpus c.seat.invariant.0.within) (lt-ltb c.args.sender cpus c.requires.sender))
+    and_from _ _ (lt-ltb c.seat.inside.log.cpu cpus c.seat.invariant.0.within)
+    (and_from _ _ (lt-ltb c.args.sender cpus c.requires.sender)
     (ap (λ hs. is_at_home hs c.in_ok-request.request.task c.seat.inside.log.cpu) (sym c.seat.invariant.3)
     ∙ ap (λ n. is_at_home g.N.Names.kit.rings.homes c.in_ok-request.request.task n) (ap (λ (t : Takes). t.home) (sym c.seat.invariant.0.takes))
-    ∙ c.in_ok-request.ensures.follows.at_home)
+    ∙ c.in_ok-request.ensures.follows.at_home))
 
 pub returns-in_err-request-clause-none_own : goal.returns-in_err-request-clause-none_own
 returns-in_err-request-clause-none_own g c =
