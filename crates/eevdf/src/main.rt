@@ -14,9 +14,9 @@ use crate::no_report::NoReport;
 use crate::words::{Asked, unknown_word, words_of};
 use eevdf_bench::{
     BenchFault, NO_MEMORY, ProgramTexts, Reasoned, Watched, WorkloadText, engine_with_input,
-    fault_explanation, named_file, print, tell, tell_notes, tell_reason, tell_refused_deeds,
-    tell_text, undone_text, write_text,
+    named_file, print, tell, tell_reason, tell_text, undone_text, write_text,
 };
+use eevdf_explain::{fault_explanation, tell_notes, tell_refused_deeds};
 use std::alloc::Global;
 use std::fs::Files;
 use std::io;

@@ -1,6 +1,7 @@
 //! What the program's words ask for.
 
-use eevdf_bench::{Command, WordFault, command_of, may_name_file, take_file, take_flag, told_word};
+use eevdf_bench::{Command, WordFault, command_of, may_name_file, take_file, take_flag};
+use eevdf_explain::told_word;
 use std::alloc::Global;
 
 /// The words for commands, which come first, and those that may come behind.

@@ -3,13 +3,14 @@ use Rattle.std.proofs.Common.{◌≡◌, ◌↔◌, ℕ, codes, ◌<◌, true, l
 use Rattle.std.specs.{Prelude.IfSome, Fmt.decimal, List.join_with_byte}
 use Rattle.std.proofs.{lemmas.Bool.and_parts, lemmas.Option.none-some, lemmas.Option.option_and_then_some}
 use Rattle.eevdf_queue.specs.Numbers.{checked_number}
-use Rattle.eevdf_ops.specs.{Numbers.cpu_limit, Parts.decider, Programs.deed_of, Texts.deed_text}
+use Rattle.eevdf_ops.specs.{Numbers.cpu_limit, Origins.decider, Origins.origin_of, Programs.deed_of, Texts.deed_text}
 use Rattle.eevdf_ops.specs.{declared.deeds.Op.Op, declared.deeds.Deed.Deed}
 use Rattle.eevdf_ops.specs.declared.deeds.Op.TheVariants as op
-use Rattle.eevdf_ops.specs.declared.deeds.Deed.TheVariants.{Tick, Sleep, Wake, Pull, Renice, Begin, End, Set, Rebase}
+use Rattle.eevdf_ops.specs.declared.deeds.Deed.TheVariants.{Wake}
+use Rattle.eevdf_ops.proofs.Origins.{operation_in}
 use Rattle.eevdf_workload.specs.{declared.version.Version.Version, Versions.cpu_within, Versions.limits_of}
 use Rattle.eevdf_workload.specs.Words.{words, operation, operation_of, sender_of, wake_of, task_in, cpu_in, deed_on, deed_in}
-use Rattle.eevdf_bench.specs.WordsPrinted.{IsActInRange, knows_act, knows_deed, knows_operation, numbered_deed_text, operation_text}
+use Rattle.eevdf_bench.specs.WordsPrinted.{IsOriginInRange, knows_deed, knows_origin, knows_operation, numbered_deed_text, operation_text}
 use Rattle.eevdf_bench.proofs.ReadingPrinted.{number-decimal, words-decimal, words-after_decimal, joined_words}
 use Rattle.eevdf_bench.proofs.OperationsPrinted.{cpu_check, cpu_known, cpu_passes, task_check, task_passes, checked_word, one_number, mapped_parts, named, operation-read, text-operation_of}
 
@@ -19,13 +20,13 @@ wake_text cpu task sender = ap (λ (t : List ℕ). codes "wake " ++ t) (append_a
 
 -- ---- deeds that are read
 
--- the words are those of a deed on a CPU whose act a version knows
+-- the words are those of a deed on a CPU that a version knows
 abbrev pub IsPrintedOn : Version → ℕ → Deed → List (List ℕ) → Type 0
-IsPrintedOn version cpu d ws = (decider d ≡ cpu) × (join_with_byte 32 ws ≡ deed_text d) × (knows_act version d ≡ true)
+IsPrintedOn version cpu d ws = (decider d ≡ cpu) × (join_with_byte 32 ws ≡ deed_text d) × (knows_origin version (origin_of d) ≡ true)
 
 -- a deed is printed as its operation, and known where that is
 abbrev IsDeedOf : Version → ℕ → Op → Deed → Type 0
-IsDeedOf version cpu o d = (decider d ≡ cpu) × (deed_text d ≡ operation_text o) × (knows_act version d ≡ knows_operation version o)
+IsDeedOf version cpu o d = (decider d ≡ cpu) × (deed_text d ≡ operation_text o) × (knows_origin version (origin_of d) ≡ knows_operation version o)
 
 deed_is_of : (version : Version) (cpu : ℕ) (o : Op) → IfSome (deed_of cpu o) (IsDeedOf version cpu o)
 deed_is_of version cpu (op.Post task) = tt
@@ -55,7 +56,7 @@ text-wake version cpu (word ∷ ws) d h =
     let (behind, passes) = text-sender version ws sender sent in (
       sym (ap decider same),
       ap₂ (λ w rest. join_with_byte 32 (codes "wake" ∷ w ∷ rest)) printed behind ∙ sym (wake_text cpu task sender) ∙ ap deed_text same,
-      ap (knows_act version) (sym same) ∙ cpu_known version sender passes,
+      ap (λ (e : Deed). knows_origin version (origin_of e)) (sym same) ∙ cpu_known version sender passes,
     ))
 
 text-operation_deed : (version : Version) (cpu : ℕ) (verb : List ℕ) (ws : List (List ℕ)) (d : Deed) → option_and_then (deed_of cpu) (operation_of (limits_of version) verb ws) ≡ Some d → IsPrintedOn version cpu d (verb ∷ ws)
@@ -91,31 +92,23 @@ text-deed_in version (word ∷ verb ∷ ws) d h =
 -- ---- deeds that are printed
 
 -- a deed whose act a version knows is read back where it is printed behind its CPU
-act-read : (version : Version) (d : Deed) → IsActInRange d → knows_act version d ≡ true → deed_on (limits_of version) (decider d) (words (deed_text d)) ≡ Some d
+act-read : (version : Version) (d : Deed) → IsOriginInRange (origin_of d) → knows_origin version (origin_of d) ≡ true → deed_on (limits_of version) (decider d) (words (deed_text d)) ≡ Some d
 unfolding operation
-act-read version (Tick cpu ns) h known = ap (option_and_then (deed_of cpu)) (operation-read version (op.Tick ns) h known)
-act-read version (Sleep cpu task) h known = ap (option_and_then (deed_of cpu)) (operation-read version (op.Sleep task) h known)
-act-read version (Pull cpu source) h known = ap (option_and_then (deed_of cpu)) (operation-read version (op.Pull source) h known)
-act-read version (Renice cpu task nice) h known = ap (option_and_then (deed_of cpu)) (operation-read version (op.Renice task nice) h known)
-act-read version (Begin cpu task nice slice) h known = ap (option_and_then (deed_of cpu)) (operation-read version (op.Begin task nice slice) h known)
-act-read version (End cpu task) h known = ap (option_and_then (deed_of cpu)) (operation-read version (op.End task) h known)
-act-read version (Set cpu task nice slice) h known = ap (option_and_then (deed_of cpu)) (operation-read version (op.Set task nice slice) h known)
-act-read version (Rebase cpu) h known = ap (option_and_then (deed_of cpu)) (operation-read version op.Rebase h known)
 act-read version (Wake cpu task sender) h known =
     ap (λ t. deed_on (limits_of version) cpu (words t)) (wake_text cpu task sender)
     ∙ ap (wake_of (limits_of version) cpu) (words-after_decimal task (codes "from " ++ decimal sender) (omega (arith, h.0)))
     ∙ rw (words-decimal sender (omega (arith, h.1)), number-decimal task (omega (arith, h.0)), task_passes task h.0, number-decimal sender (omega (arith, h.1)), cpu_passes version sender h.1 known)
-act-read version _ h known = refl
+act-read version d h known = ap (option_and_then (deed_of (decider d))) (operation-read version (operation_in (origin_of d)) h known)
 
-deed-read : (version : Version) (d : Deed) → decider d < cpu_limit → IsActInRange d → knows_deed version d ≡ true → deed_in (limits_of version) (words (numbered_deed_text d)) ≡ Some d
+deed-read : (version : Version) (d : Deed) → decider d < cpu_limit → IsOriginInRange (origin_of d) → knows_deed version d ≡ true → deed_in (limits_of version) (words (numbered_deed_text d)) ≡ Some d
 unfolding deed_in
 deed-read version d below small known =
-    let (on, act) = and_parts (ltb (decider d) (limits_of version).cpus) (knows_act version d) known in
+    let (on, act) = and_parts (ltb (decider d) (limits_of version).cpus) (knows_origin version (origin_of d)) known in
     ap (λ t. deed_in (limits_of version) (words t)) (append_assoc (decimal (decider d)) (codes " ") (deed_text d)) ∙ ap (deed_in (limits_of version)) (words-after_decimal (decider d) (deed_text d) (omega arith))
     ∙ rw (number-decimal (decider d) (omega arith), cpu_passes version (decider d) below on, act-read version d small act)
 
 -- a text is read as a deed whose numbers are in range exactly where it is that deed as it is printed
-pub deed_is_text : (version : Version) (text : List ℕ) (d : Deed) → decider d < cpu_limit → IsActInRange d
+pub deed_is_text : (version : Version) (text : List ℕ) (d : Deed) → decider d < cpu_limit → IsOriginInRange (origin_of d)
     → (deed_in (limits_of version) (words text) ≡ Some d) ↔ ((text ≡ numbered_deed_text d) × (knows_deed version d ≡ true))
 deed_is_text version text d below small = (
   λ h. let (printed, known) = text-deed_in version (words text) d h in (sym (joined_words text) ∙ printed, known),

@@ -6,7 +6,6 @@
 
 mod byte_streams;
 mod command;
-mod explained_faults;
 mod fault_texts;
 mod fleet_run;
 mod parts;
@@ -18,7 +17,7 @@ mod reasoned;
 mod refused_deeds;
 mod replay_run;
 mod solo_run;
-mod told_places;
+mod told_names;
 mod undone_parts;
 mod watched;
 mod workbench_engine;
@@ -28,23 +27,20 @@ mod workload_text;
 pub use byte_streams::{read_input, write_text};
 pub use command::{Command, Kind, WordFault, command_of};
 pub use eevdf_report::report;
-pub use eevdf_workload::{Key, LoadFault, Version, Workload, read_workload, told_word};
-pub use explained_faults::{
-    fault_explanation, place_explanation, refused_deeds_text, unread_keys_text,
-};
+pub use eevdf_workload::{Key, LoadFault, Version, Workload, read_workload};
 pub use fault_texts::{fault_text, status_of};
 pub use fleet_run::run_text;
 pub use parts::Parts;
 pub use piped::Piped;
 pub use program_ends::{
-    NO_MEMORY, NO_WRITE, ProgramTexts, VERSION, print, tell, tell_notes, tell_reason,
-    tell_refused_deeds, tell_text,
+    NO_MEMORY, NO_WRITE, ProgramTexts, VERSION, print, tell, tell_reason, tell_text,
 };
 pub use program_words::{asks_for, is_flag, may_name_file, named_file, take_file, take_flag};
 pub use reasoned::Reasoned;
 pub use refused_deeds::{RefusedDeed, RefusedDeeds, is_refused};
 pub use replay_run::replay_text;
 pub use solo_run::solo_text;
+pub use told_names::told_name;
 pub use undone_parts::undone_text;
 pub use watched::Watched;
 pub use workbench_engine::{engine, engine_with_input};

@@ -2,10 +2,8 @@
 //! that they print of themselves. A status that comes as an error ends the program.
 
 use crate::command::WordFault;
-use crate::explained_faults::{refused_deeds_text, unread_keys_text};
 use crate::program_words::asks_for;
-use crate::told_places::told_name;
-use crate::workload_text::WorkloadText;
+use crate::told_names::told_name;
 use std::alloc::{AllocError, Global};
 use std::fs::Files;
 use std::io::{ErrorKind, Write};
@@ -19,7 +17,7 @@ pub const NO_MEMORY: &[u8] = b"fault: memory\n";
 pub const NO_WRITE: &[u8] = b"fault: writing\n";
 
 /// The version of the programs and of the library, MAJOR.MINOR.PATCH.
-pub const VERSION: &str = "0.5.0";
+pub const VERSION: &str = "0.6.0";
 
 /// What a program says of itself.
 #[derive(Clone, Copy)]
@@ -121,27 +119,6 @@ pub fn tell_reason(
     };
     if let Ok(name) = told_name(alloc, file.unwrap_or("standard input")) {
         let _ = println!(errors; "{name}: {error}");
-    }
-}
-
-/// Says which keys of the workload nothing reads, and which deeds of its script were refused, where there are any.
-pub fn tell_notes(errors: &impl Print, alloc: Global, file: Option<&str>, input: &WorkloadText) {
-    if input.notes.has_unread_keys {
-        tell_text(errors, unread_keys_text(alloc, file, &input.bytes));
-    }
-    tell_refused_deeds(errors, alloc, file, input);
-}
-
-/// Says which deeds of the workload's script were refused.
-pub fn tell_refused_deeds(
-    errors: &impl Print,
-    alloc: Global,
-    file: Option<&str>,
-    input: &WorkloadText,
-) {
-    if input.notes.refused.count > 0 {
-        let text = refused_deeds_text(alloc, file, &input.bytes, &input.notes.refused);
-        tell_text(errors, text);
     }
 }
 

@@ -1,11 +1,11 @@
 //! Laws of what is read: what the words of a workload are, and what its version decides.
 ghost use Rattle.std.specs.Prelude.{◌≡◌, ◌<◌, ◌↔◌, true, Some};
-ghost use Rattle.eevdf_ops.specs.{Numbers.cpu_limit, Parts.decider};
+ghost use Rattle.eevdf_ops.specs.{Numbers.cpu_limit, Origins.decider, Origins.origin_of};
 ghost use Rattle.eevdf_workload.specs.Versions.{limits_of};
 ghost use Rattle.eevdf_workload.specs.Words.{deed_in, operation, words};
-ghost use Rattle.eevdf_bench.specs.WordsPrinted.{IsInRange, IsActInRange, knows_deed, knows_operation, numbered_deed_text, operation_text};
+ghost use Rattle.eevdf_bench.specs.WordsPrinted.{IsInRange, IsOriginInRange, knows_deed, knows_operation, numbered_deed_text, operation_text};
 
-use eevdf_ops::{Deed, Op};
+use eevdf_ops::{Deed, Op, Origin};
 use eevdf_workload::Version;
 pub use eevdf_workload::laws::{version_three_keeps_meaning, version_two_keeps_meaning};
 
@@ -57,43 +57,15 @@ fn operation_is_in_range(op: Op)
 /// The numbers of a deed are in the ranges of their types.
 fn deed_is_in_range(deed: Deed)
     ensures cpu { decider deed < cpu_limit }
-    ensures act { IsActInRange deed }
+    ensures origin { IsOriginInRange (origin_of deed) }
 {
-    match deed {
-        Deed::Pick { .. } | Deed::Yield { .. } | Deed::Rebase { .. } => {}
-        Deed::Tick { ns, .. } => {
-            let _within = ns.get();
-        }
-        Deed::Sleep { task, .. } | Deed::End { task, .. } => {
-            let _known = task.get();
-        }
-        Deed::Wake { task, sender, .. } => {
+    let (cpu, origin) = deed.parts();
+    let _below = cpu.get();
+    match origin {
+        Origin::Operation(operation) => operation_is_in_range(operation),
+        Origin::Request { task, sender } => {
             let _known = task.get();
             let _sends = sender.get();
         }
-        Deed::Pull { source, .. } => {
-            let _pulled = source.get();
-        }
-        Deed::Renice { task, nice, .. } => {
-            let _known = task.get();
-            let _level = nice.get();
-        }
-        Deed::Begin {
-            task,
-            nice,
-            slice,
-            ..
-        }
-        | Deed::Set {
-            task,
-            nice,
-            slice,
-            ..
-        } => {
-            let _known = task.get();
-            let _level = nice.get();
-            let _length = slice.get();
-        }
     }
-    let _below = deed.cpu().get();
 }

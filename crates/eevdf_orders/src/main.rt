@@ -16,9 +16,9 @@ use crate::print_fault::{PrintFault, explanation, fault_line, status_of};
 use crate::word_seed::seed_of;
 use eevdf_bench::{
     BenchFault, NO_MEMORY, Piped, ProgramTexts, Reasoned, Watched, WorkloadText, is_flag,
-    may_name_file, named_file, print, take_file, tell, tell_notes, tell_reason, tell_text,
-    told_word,
+    may_name_file, named_file, print, take_file, tell, tell_reason, tell_text,
 };
+use eevdf_explain::{tell_notes, told_word};
 use std::alloc::Global;
 use std::fs::Files;
 use std::io;

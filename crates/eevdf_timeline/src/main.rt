@@ -29,9 +29,10 @@ use crate::unknown_words::{WITH_VALUE, beyond, unknown_word};
 use crate::words::{Words, words_of};
 use eevdf_bench::{
     BenchFault, Key, Kind, LoadFault, NO_MEMORY, Piped, ProgramTexts, Reasoned, Watched,
-    WorkloadText, fault_explanation, fault_text, named_file, print, status_of, take_file, tell,
-    tell_notes, tell_reason, tell_text,
+    WorkloadText, fault_text, named_file, print, status_of, take_file, tell, tell_reason,
+    tell_text,
 };
+use eevdf_explain::{fault_explanation, tell_notes};
 use std::alloc::Global;
 use std::fs::Files;
 use std::io;

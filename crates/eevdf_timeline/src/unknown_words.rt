@@ -1,6 +1,7 @@
 //! What is said of words that aren't known.
 
-use eevdf_bench::{is_flag, may_name_file, told_word};
+use eevdf_bench::{is_flag, may_name_file};
+use eevdf_explain::told_word;
 use eevdf_ops::CpuId;
 use eevdf_queue::TaskId;
 use std::alloc::{AllocError, Global};

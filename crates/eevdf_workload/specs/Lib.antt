@@ -5,4 +5,3 @@ pub mod Meaning
 pub mod Fronts
 pub mod MeaningLaws
 pub mod FaultTexts
-pub mod Places

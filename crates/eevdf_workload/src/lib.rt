@@ -5,18 +5,17 @@
 //! version of the format decides how many CPUs and deeds there may be and which words are known.
 #![tactic(auto)]
 
-mod explaining;
 pub mod laws;
 mod load_fault;
 mod reading;
 mod version;
 mod workload;
 
-pub use explaining::tokens::Place;
-pub use explaining::unread_keys::unread_keys;
-pub use explaining::word_texts::told_word;
-pub use explaining::{Explanation, Mark, explain, mark_at};
 pub use load_fault::{Key, LoadFault};
-pub use reading::read_workload;
-pub use version::Version;
+pub use reading::document_keys::version as version_of_document;
+pub use reading::level_text::level;
+pub use reading::number_text::number;
+pub use reading::unread::{IN_DOCUMENT, IN_TASK};
+pub use reading::{document_of, read_workload};
+pub use version::{Limits, Version};
 pub use workload::Workload;

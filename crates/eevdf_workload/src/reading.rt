@@ -49,8 +49,9 @@ pub fn read_workload(alloc: Global, bytes: &[u8]) -> Result<Workload, LoadFault>
     workload_of(alloc, document)
 }
 
+/// The document that the bytes are, or `NotToml`. `Memory` may come in place of either.
 #[tactic(auto, unfolding(crate::specs::Meaning::document_of))]
-pub(crate) fn document_of(alloc: Global, bytes: &[u8]) -> Result<Table, LoadFault>
+pub fn document_of(alloc: Global, bytes: &[u8]) -> Result<Table, LoadFault>
     ensures { Reads (λ t. table_view t) (document_of bytes.now) result }
 {
     match toml::table_from_slice(alloc, bytes) {

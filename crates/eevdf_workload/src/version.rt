@@ -28,20 +28,20 @@ impl fmt::Display for Version {
 
 /// What a workload of a version may hold.
 #[derive(Clone, Copy)]
-pub(crate) struct Limits {
+pub struct Limits {
     /// There are at most so many programs, and the numbers of CPUs are below this.
-    pub(crate) cpus: u64,
+    pub cpus: u64,
     /// A script has at most so many deeds.
-    pub(crate) deeds: usize,
+    pub deeds: usize,
     /// Whether the word `renice` is known.
-    pub(crate) renice: bool,
+    pub renice: bool,
     /// Whether the word `begin` is known, and with it `end`, `set` and `rebase`.
-    pub(crate) begin: bool,
+    pub begin: bool,
 }
 
 impl Version {
     /// What a workload of this version may hold.
-    pub(crate) fn limits(self) -> Limits
+    pub fn limits(self) -> Limits
         ensures { result ≡ limits_of self }
     {
         match self {

@@ -91,6 +91,14 @@ fn lines_of_all_kinds(rt: &impl Abort, alloc: Global) -> Vec<Line> {
     let source = cpu(rt, 2);
     let cpu = cpu(rt, 11);
     let mut lines = Vec::new(alloc);
+    push_turn_lines(rt, &mut lines, cpu, task);
+    push_moving_lines(rt, &mut lines, cpu, task, source);
+    push_later_lines(rt, &mut lines, cpu, task);
+    lines
+}
+
+/// Adds those of the deeds of a turn.
+fn push_turn_lines(rt: &impl Abort, lines: &mut Vec<Line>, cpu: CpuId, task: TaskId) {
     let tick = Deed::Tick {
         cpu,
         ns: ns(rt, 3_000_000),
@@ -103,18 +111,28 @@ fn lines_of_all_kinds(rt: &impl Abort, alloc: Global) -> Vec<Line> {
         task,
         resched: true,
     };
-    push_lines(rt, &mut lines, &tick, &[charged, rescheduled, Answer::Idle]);
-    push_lines(rt, &mut lines, &Deed::Pick { cpu }, &[Answer::Picked(task)]);
-    push_lines(rt, &mut lines, &Deed::Yield { cpu }, &[Answer::Yielded]);
+    push_lines(rt, lines, &tick, &[charged, rescheduled, Answer::Idle]);
+    push_lines(rt, lines, &Deed::Pick { cpu }, &[Answer::Picked(task)]);
+    push_lines(rt, lines, &Deed::Yield { cpu }, &[Answer::Yielded]);
+}
+
+/// Adds those of the deeds by which a task sleeps, wakes, is pulled and gets another level.
+fn push_moving_lines(
+    rt: &impl Abort,
+    lines: &mut Vec<Line>,
+    cpu: CpuId,
+    task: TaskId,
+    source: CpuId,
+) {
     let sleep = Deed::Sleep { cpu, task };
     let slept = Answer::Slept(-200_000);
-    push_lines(rt, &mut lines, &sleep, &[slept, Answer::NotRunning]);
+    push_lines(rt, lines, &sleep, &[slept, Answer::NotRunning]);
     let wake = Deed::Wake {
         cpu,
         task,
         sender: source,
     };
-    push_lines(rt, &mut lines, &wake, &[Answer::Woken, Answer::Awake]);
+    push_lines(rt, lines, &wake, &[Answer::Woken, Answer::Awake]);
     let pull = Deed::Pull { cpu, source };
     let pulls = [
         Answer::Pulled(task),
@@ -122,15 +140,13 @@ fn lines_of_all_kinds(rt: &impl Abort, alloc: Global) -> Vec<Line> {
         Answer::Nothing,
         Answer::Range,
     ];
-    push_lines(rt, &mut lines, &pull, &pulls);
+    push_lines(rt, lines, &pull, &pulls);
     let renice = Deed::Renice {
         cpu,
         task,
         nice: nice(rt, -20),
     };
-    push_lines(rt, &mut lines, &renice, &[Answer::Reniced, Answer::NotHere]);
-    push_later_lines(rt, &mut lines, cpu, task);
-    lines
+    push_lines(rt, lines, &renice, &[Answer::Reniced, Answer::NotHere]);
 }
 
 /// Adds those of the deeds by which tasks come and go.

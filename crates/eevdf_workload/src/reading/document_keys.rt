@@ -11,7 +11,7 @@ use toml::{Table, Value};
 
 /// The version of a workload.
 #[tactic(auto, unfolding(crate::specs::Meaning::version))]
-pub(crate) fn version(document: &Table) -> Result<Version, LoadFault>
+pub fn version(document: &Table) -> Result<Version, LoadFault>
     ensures { result ≡ version (table_view document.now) }
 {
     version_of(required(document, "version", Key::Version)?)

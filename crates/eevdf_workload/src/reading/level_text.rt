@@ -7,7 +7,7 @@ use eevdf_weight::Nice;
 
 /// The nice level that a word writes: a number, or `-` before a number from 1 on.
 #[tactic(auto, using(crate::proofs::ReadingLevels::without_sign))]
-pub(crate) fn level(word: &[u8]) -> Option<Nice>
+pub fn level(word: &[u8]) -> Option<Nice>
     ensures { result ≡ level_in word.now }
 {
     match word {

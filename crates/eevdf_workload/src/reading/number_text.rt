@@ -4,7 +4,7 @@ ghost use Rattle.eevdf_workload.specs.Words.{first_number, fitting, number, numb
 /// The number that a word writes: `0`, or a digit from 1 to 9 followed by digits. `None` also where it
 /// doesn't fit its type.
 #[tactic(auto, using(crate::proofs::ReadingWords::number_none, crate::proofs::ReadingWords::number_some, crate::proofs::ReadingWords::number_more))]
-pub(crate) fn number(word: &[u8]) -> Option<u64>
+pub fn number(word: &[u8]) -> Option<u64>
     ensures { result ≡ option_and_then fitting (number word.now) }
 {
     match split_number(word)? {

@@ -4,10 +4,10 @@ use crate::reading::document_keys::member;
 use toml::{Table, Value};
 
 /// The keys of a workload.
-pub(crate) const IN_DOCUMENT: [&str; 5] = ["version", "task", "program", "order", "script"];
+pub const IN_DOCUMENT: [&str; 5] = ["version", "task", "program", "order", "script"];
 
 /// The keys of a task.
-pub(crate) const IN_TASK: [&str; 5] = ["home", "nice", "slice", "start", "asleep"];
+pub const IN_TASK: [&str; 5] = ["home", "nice", "slice", "start", "asleep"];
 
 /// Whether a document has a key that nothing reads.
 pub(crate) fn has_unread_keys(document: &Table) -> bool {
