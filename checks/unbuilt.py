@@ -26,7 +26,7 @@ SECONDS, SECONDS_WHERE_KEPT = 400, 2
 # How long a run may take that compiles the program first, on a busy machine.
 PATIENCE = 3600
 # A run is ended so many seconds after it has begun a file, when it compiles, and has so many to be cleared away.
-ENDED_AFTER, CLEARED = 3, 30
+ENDED_AFTER, CLEARED = 6, 30
 # By Ctrl-C or the end of the session it may be ended at any time: these are the seconds after which it is tried.
 MOMENTS = (0.2, 0.5, 0.8, 1.1, 1.5, 2, 3, 5)
 # How long a script may take to say how it is used.
