@@ -30,7 +30,7 @@ ENDED_AFTER, CLEARED = 6, 30
 # By Ctrl-C or the end of the session it may be ended at any time: these are the seconds after which it is tried.
 MOMENTS = (0.2, 0.5, 0.8, 1.1, 1.5, 2, 3, 5)
 # How long a script may take to say how it is used.
-SAID_AFTER = 20
+SAID_AFTER = 120
 
 # A source of a crate below the program.
 SOURCE = "crates/eevdf_weight/src/lib.rt"

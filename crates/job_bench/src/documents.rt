@@ -1,6 +1,6 @@
 //! The texts of workloads.
 
-use eevdf_ops::{Deed, Op, TaskSpec};
+use eevdf_ops::{Deed, Op, Origin, TaskSpec};
 use eevdf_queue::TaskId;
 use eevdf_weight::Nice;
 use itoa::Buffer;
@@ -113,42 +113,19 @@ fn push_operation(text: &mut Vec<u8>, operation: &Op) -> Result<(), AllocError> 
 /// Writes a deed as a member of a script.
 pub fn push_deed(text: &mut Vec<u8>, deed: &Deed) -> Result<(), AllocError> {
     text.extend_from_slice(b"\"")?;
-    match deed {
-        Deed::Tick { cpu, ns } => push_done(text, cpu.get(), &Op::Tick(*ns)),
-        Deed::Pick { cpu } => push_done(text, cpu.get(), &Op::Pick),
-        Deed::Yield { cpu } => push_done(text, cpu.get(), &Op::Yield),
-        Deed::Sleep { cpu, task } => push_done(text, cpu.get(), &Op::Sleep(*task)),
-        Deed::Pull { cpu, source } => push_done(text, cpu.get(), &Op::Pull(*source)),
-        Deed::Renice { cpu, task, nice } => {
-            push_done(text, cpu.get(), &Op::Renice(*task, *nice))
+    let (cpu, origin) = deed.parts();
+    push_number(text, cpu.get())?;
+    match origin {
+        Origin::Operation(operation) => {
+            text.extend_from_slice(b" ")?;
+            push_operation(text, &operation)
         }
-        Deed::Begin {
-            cpu,
-            task,
-            nice,
-            slice,
-        } => push_done(text, cpu.get(), &Op::Begin(*task, *nice, *slice)),
-        Deed::End { cpu, task } => push_done(text, cpu.get(), &Op::End(*task)),
-        Deed::Set {
-            cpu,
-            task,
-            nice,
-            slice,
-        } => push_done(text, cpu.get(), &Op::Set(*task, *nice, *slice)),
-        Deed::Rebase { cpu } => push_done(text, cpu.get(), &Op::Rebase),
-        Deed::Wake { cpu, task, sender } => {
-            push_number(text, cpu.get())?;
+        Origin::Request { task, sender } => {
             push_with(text, b" wake ", task.get())?;
             push_with(text, b" from ", sender.get())
         }
     }?;
     text.extend_from_slice(b"\",\n")
-}
-
-fn push_done(text: &mut Vec<u8>, cpu: u64, operation: &Op) -> Result<(), AllocError> {
-    push_number(text, cpu)?;
-    text.extend_from_slice(b" ")?;
-    push_operation(text, operation)
 }
 
 /// Writes a word, a task and a nice level.
