@@ -1,8 +1,10 @@
 /*
  * c_queue.c MIX TASKS TURNS: turns of calls of one queue through C, on the inputs of the program
  * queue_bench, and the same checksum of the answers (docs/speed.md has both). The mixes are
- * tick-pick, tick-sleep-pick-wake, and pull-take-put, which queue_bench hasn't: another queue,
- * without tasks, pulls the candidate, which goes back through a hand.
+ * tick-pick, tick-sleep-pick-wake, and three that queue_bench hasn't. tick-run: a drawn task is
+ * made to run, as by a kernel that has chosen itself. pull-take-put: another queue, without tasks,
+ * pulls the candidate, which goes back through a hand. pull-take-renumber-put: the hand is given a
+ * number on its way, which is the task's own, since that is free where it goes.
  */
 #include <eevdf.h>
 #include <inttypes.h>
@@ -16,7 +18,7 @@ static const uint64_t slices[] = { 100000,  300000,  700000,  1000000,  2000000,
 				   3000000, 3000000, 6000000, 10000000, 20000000, 100000000 };
 static eevdf_queue queue, other;
 static eevdf_hand hand;
-static uint64_t state, sum, lengths[DRAWN], sleepers[2 * EEVDF_TASKS];
+static uint64_t state, sum, lengths[DRAWN], chosen[DRAWN], sleepers[2 * EEVDF_TASKS];
 static size_t length_at, first_sleeper, last_sleeper;
 static int64_t running;
 
@@ -48,12 +50,12 @@ static void admit(uint64_t task, uint64_t tasks)
 	eevdf_admit(&queue, task, tasks == 1 ? 0 : nice, tasks == 1 ? 3000000 : slice, start);
 }
 
-/* Beside each length queue_bench draws a task and a nice level for other mixes. */
+/* Beside each length queue_bench draws a task, and a nice level for other mixes. */
 static void draw_lengths(uint64_t tasks)
 {
 	for (size_t at = 0; at < DRAWN; at++) {
 		lengths[at] = 1 + drawn(2000000);
-		drawn(tasks);
+		chosen[at] = drawn(tasks);
 		drawn(21);
 	}
 }
@@ -82,6 +84,14 @@ static inline uint64_t length(void)
 	return lengths[length_at++ % DRAWN];
 }
 
+static void tick_run(void)
+{
+	uint64_t task = chosen[length_at % DRAWN];
+
+	tick(length());
+	add(eevdf_run(&queue, task));
+}
+
 static void sleep_pick(void)
 {
 	eevdf_sleep(&queue, (uint64_t)running);
@@ -97,12 +107,24 @@ static void sleep_pick_wake(void)
 		pick();
 }
 
-static void pull_take_put(void)
+static int64_t pull_take(void)
 {
 	int64_t pulled = eevdf_pull(&other, &queue);
 
 	add(pulled);
 	eevdf_take(&other, &hand, (uint64_t)pulled);
+	return pulled;
+}
+
+static void pull_take_put(void)
+{
+	pull_take();
+	eevdf_put(&queue, &hand);
+}
+
+static void pull_take_renumber_put(void)
+{
+	eevdf_hand_renumber(&hand, (uint64_t)pull_take());
 	eevdf_put(&queue, &hand);
 }
 
@@ -134,11 +156,19 @@ int main(int count, char **words)
 			tick(length());
 			pick();
 		}
+	} else if (strcmp(words[1], "tick-run") == 0) {
+		for (; turns > 0; turns--)
+			tick_run();
 	} else if (strcmp(words[1], "pull-take-put") == 0) {
 		eevdf_open(&other);
 		eevdf_hand_open(&hand);
 		for (; turns > 0; turns--)
 			pull_take_put();
+	} else if (strcmp(words[1], "pull-take-renumber-put") == 0) {
+		eevdf_open(&other);
+		eevdf_hand_open(&hand);
+		for (; turns > 0; turns--)
+			pull_take_renumber_put();
 	} else {
 		for (uint64_t at = 0; at < tasks / 8; at++)
 			sleep_pick();
