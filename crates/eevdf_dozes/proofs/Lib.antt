@@ -1,0 +1,15 @@
+pub mod Optional
+pub mod Ticking
+pub mod PicksInTime
+pub mod Steps
+pub mod Gains
+pub mod Punctual
+pub mod Touching
+pub mod Standing
+pub mod Changes
+pub mod PutPast
+pub mod Sleepers
+pub mod Histories
+pub mod Times
+pub mod Shares
+pub mod DueTasks

@@ -1,0 +1,65 @@
+-- Who is picked isn't past the deadline of any runnable task.
+use Rattle.std.proofs.Common.{◌≡◌, ℕ, Bool, true, false, Option, Some, None, refl, ap, ◌∙◌, inl, inr, arith}
+use Rattle.std.specs.Prelude.{ℤ, pos, ◌*ℤ◌, ◌≤ℤ◌, int_le, int_lt, is_some}
+use Rattle.std.specs.{Ordering.nat_cmp, FinMap.get, FinMap.empty, FinMap.get-empty}
+use Rattle.std.proofs.lemmas.Int.{ints}
+use Rattle.eevdf_queue.specs.{declared.entry.Entry.Entry, State.State, Laws.PickIsFirst, Laws.PickOfNobody}
+use Rattle.eevdf_queue.specs.Sums.{Tasks, total_weight, total_moment}
+use Rattle.eevdf_queue.specs.Pick.{IsNoLater, IsPick, is_eligible, pick_of, picked_by, after_pick}
+use Rattle.eevdf_queue.proofs.Scaled.{scaled_le}
+use Rattle.eevdf_dozes.specs.Stretches.{NoneIsPastDue}
+
+no_later : (v d e : ℤ) (p u : ℕ) (x f : Entry) → v ≤ℤ d → x.d ≡ d → f.d ≡ e → IsNoLater p x u f → v ≤ℤ e
+no_later v d e p u x f h i j (inl k) = omega (arith, ints, h, i, j, k)
+no_later v d e p u x f h i j (inr k) = omega (arith, ints, h, i, j, k.0)
+
+-- one that is eligible isn't past one that isn't
+not_past_one : (a b S : ℤ) (W : ℕ) → int_le (a *ℤ pos W) S ≡ true → int_le (b *ℤ pos W) S ≡ false → a ≤ℤ b
+not_past_one a b S W h k =
+    by (int_lt b a) refl
+  where
+    by : (t : Bool) → int_lt b a ≡ t → a ≤ℤ b
+    by true is =
+        let less : b ≤ℤ a = omega (arith, ints, is) in
+        absurd (omega (arith, ints, h, k, scaled_le b a W less))
+    by false is = omega (arith, ints, is)
+
+then : (a b c : ℤ) → a ≤ℤ b → b ≤ℤ c → a ≤ℤ c
+then a b c h k = omega (arith, ints, h, k)
+
+in_time_by : (tasks : Tasks) (p : ℕ) (pick : IsPick tasks p) → NoneIsPastDue tasks → (u : ℕ) (f : Entry) → get tasks u ≡ Some f
+    → (b : Bool) → is_eligible tasks f ≡ b → pick.entry.v ≤ℤ f.d
+in_time_by tasks p pick due u f here true is =
+    no_later pick.entry.v pick.entry.d f.d p u pick.entry f (due p pick.entry pick.eligible.here) refl refl (pick.first u f (record { here = here; owed = is }))
+in_time_by tasks p pick due u f here false is =
+    then pick.entry.v f.v f.d (not_past_one pick.entry.v f.v (total_moment tasks) (total_weight tasks) pick.eligible.owed is) (due u f here)
+
+-- ---- the queue after a pick
+pub same_tasks : (q : State) (o : Option ℕ) → (picked_by q o).runnable ≡ q.runnable
+same_tasks q None = refl
+same_tasks q (Some p) = refl
+
+-- where some task is runnable, who runs after a pick is the pick
+picked_runs : PickOfNobody → (q : State) (u t : ℕ) (f : Entry) → get q.runnable u ≡ Some f → (o : Option ℕ) → pick_of q.runnable ≡ o
+    → (picked_by q o).running ≡ Some t → pick_of q.runnable ≡ Some t
+picked_runs nobody q u t f here None is runs =
+    let none : q.runnable ≡ empty = (nobody q.runnable).0 (ap (λ (o : Option ℕ). is_some o) is) in
+    let absent : get q.runnable u ≡ None = ap (λ (m : Tasks). get m u) none ∙ get-empty nat_cmp u in
+    cc
+picked_runs nobody q u t f here (Some p) is runs = is ∙ runs
+
+-- a task is runnable, and isn't past a time
+pub record IsInTime (tasks : Tasks) (task : ℕ) (time : ℤ) : Type 0 where
+  pub entry : Entry
+  pub here : get tasks task ≡ Some entry
+  pub timely : entry.v ≤ℤ time
+
+pub runner_in_time : PickIsFirst → PickOfNobody → (q : State) (u t : ℕ) (f : Entry) → NoneIsPastDue q.runnable → get q.runnable u ≡ Some f
+    → (after_pick q).running ≡ Some t → IsInTime q.runnable t f.d
+runner_in_time first nobody q u t f due here runs =
+    let pick : IsPick q.runnable t = first q.runnable t (picked_runs nobody q u t f here (pick_of q.runnable) refl runs) in
+    record {
+      entry = pick.entry;
+      here = pick.eligible.here;
+      timely = in_time_by q.runnable t pick due u f here (is_eligible q.runnable f) refl;
+    }
