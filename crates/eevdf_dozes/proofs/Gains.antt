@@ -1,16 +1,16 @@
 -- Along a stretch no task that counts comes further than a turn past the deadline of the one that stays, and so none gains.
-use Rattle.std.proofs.Common.{◌≡◌, ℕ, suc, ◌+◌, ◌*◌, ◌≤◌, ◌⊎◌, true, List, [], ◌∷◌, length, Some, refl, ap, ◌∙◌, subst, inl, inr, arith}
+use Rattle.std.proofs.Common.{◌≡◌, ℕ, suc, ◌+◌, ◌*◌, ◌≤◌, ◌⊎◌, true, List, [], ◌∷◌, length, Some, refl, sym, ap, ◌∙◌, subst, inl, inr, arith}
 use Rattle.std.specs.Prelude.{ℤ, pos, ◌+ℤ◌, ◌≤ℤ◌}
 use Rattle.std.specs.{Option.option_map, FinMap.get}
 use Rattle.std.proofs.{lemmas.Int.ints, lemmas.Nat.le-div, Math.Nat.mul-le-mul_left}
 use Rattle.eevdf_weight.specs.{Weight.weight_of, Charge.charge_of}
 use Rattle.eevdf_weight.proofs.Weighing.{weight_of-least}
-use Rattle.eevdf_queue.specs.{declared.entry.Entry.Entry, Sums.Tasks, Laws.PickIsFirst, Laws.PickOfNobody, Pick.pick_of, Moves.request_of}
+use Rattle.eevdf_queue.specs.{declared.entry.Entry.Entry, Sums.Tasks, Laws.PickIsFirst, Laws.PickOfNobody, Pick.pick_of, Moves.request_of, Moves.fresh_entry}
 use Rattle.eevdf_fairness.proofs.Growing.{rounded_down}
 use Rattle.eevdf_dozes.specs.Places.{PlacedQueue, place_by, place_of}
 use Rattle.eevdf_dozes.specs.Stretches.{Event, Picks, Ticks, Becomes, Watch, IsStretch, BeginsWithPick, picked, ticked, after_events, charges, charged_for}
-use Rattle.eevdf_dozes.specs.Gains.{turn_charge, StaysWith, ComesNoFurther, NoneRunsFarPast, NobodyGains, IsLevel, sum_weights, sum_charges, TogetherNobodyGains}
-use Rattle.eevdf_dozes.proofs.Optional.{one_entry, there, IsThen, is_then}
+use Rattle.eevdf_dozes.specs.Gains.{turn_charge, StaysWith, ComesNoFurther, NoneRunsFarPast, NobodyGains, IsLevel, sum_weights, sum_charges, TogetherNobodyGains, FreshStartIsLevel}
+use Rattle.eevdf_dozes.proofs.Optional.{one_entry, there, IsThen, is_then, standing}
 use Rattle.eevdf_dozes.proofs.Ticking.{tick_moves, tick_running_stays, charged_runs}
 use Rattle.eevdf_dozes.proofs.PicksInTime.{same_tasks}
 use Rattle.eevdf_dozes.proofs.Steps.{Goes, stands, goes_then, goes_by_pick, goes_by_tick, goes_by_change, IsLittlePast, IsCarried, pick_carries, tick_carries, change_carries}
@@ -150,3 +150,24 @@ together_nobody_gains first nobody w q events e f begins stays short (t ∷ ts) 
     (nobody_gains first nobody w q events e f begins stays short t is.place is.counts is.there) is.not_behind)
     (rounded_down w.turn (weight_of (w.nice_of t)))
     (together_nobody_gains first nobody w q events e f begins stays short ts level.1)
+
+-- ---- a fresh start
+not_behind : (v u shift : ℤ) → v ≡ u → (v +ℤ shift) ≤ℤ (u +ℤ shift)
+not_behind v u shift h = omega (arith, ints, h)
+
+asked_after : (v d u : ℤ) (c : ℕ) → v ≡ u → d ≡ u +ℤ pos c → v ≤ℤ d
+asked_after v d u c h k = omega (arith, ints, h, k)
+
+pub fresh_start_is_level : FreshStartIsLevel
+fresh_start_is_level w q v e fresh here = (
+  λ t f there.
+  let is : f ≡ fresh_entry v f.nice f.slice = fresh t f there in
+  asked_after f.v f.d v (request_of f.nice f.slice) (ap (λ (x : Entry). x.v) is) (ap (λ (x : Entry). x.d) is),
+  λ t f counts there.
+  record {
+    counts = counts;
+    place = f.v +ℤ q.shift;
+    there = standing q.shift (get q.places t) (get q.queue.runnable t) f there;
+    not_behind = not_behind e.v f.v q.shift (ap (λ (x : Entry). x.v) (fresh w.stays e here) ∙ sym (ap (λ (x : Entry). x.v) (fresh t f there)));
+  },
+)

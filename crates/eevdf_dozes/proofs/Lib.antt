@@ -13,3 +13,5 @@ pub mod Histories
 pub mod Times
 pub mod Shares
 pub mod DueTasks
+pub mod SleepsAndDozes
+pub mod PlacesOfSleepers

@@ -60,7 +60,7 @@ not_picked first q t (Some p) is none stands runs =
     let here : get q.runnable t ≡ Some pick.entry = pick.eligible.here in
     cc
 
-same_sleepers : (q : State) (o : Option ℕ) → (picked_by q o).asleep ≡ q.asleep
+pub same_sleepers : (q : State) (o : Option ℕ) → (picked_by q o).asleep ≡ q.asleep
 same_sleepers q None = refl
 same_sleepers q (Some p) = refl
 
@@ -85,7 +85,7 @@ absent q t ns none =
     tick_cases (λ z. get (z.1).runnable t ≡ None) q ns none none
     (λ p e resched runs at. absent_by q.runnable p t e ns (p == t) refl at none)
 
-sleepers_ticked : (q : State) (ns : ℕ) → (tick q ns).1.asleep ≡ q.asleep
+pub sleepers_ticked : (q : State) (ns : ℕ) → (tick q ns).1.asleep ≡ q.asleep
 sleepers_ticked q ns = tick_cases (λ z. (z.1).asleep ≡ q.asleep) q ns refl refl (λ p e resched runs at. refl)
 
 pub tick_dozes : (w : Watch) (ns : ℕ) (q : PlacedQueue) → SleepersDoze w q → SleepersDoze w (ticked q ns)

@@ -2,11 +2,13 @@
 use Rattle.std.specs.Prelude.{◌≡◌, ℕ, ℤ, pos, ◌≤ℤ◌, true, false, is_some, Some, None}
 use Rattle.std.specs.FinMap.{get}
 use Rattle.eevdf_queue.specs.{declared.sleeper.Sleeper.Sleeper, State.State, State.Contents, Kept.IsSound}
-use Rattle.eevdf_queue.specs.{Leaving.leave, Leaving.leave_running, Leaving.leave_asleep, Leaving.nobody_runs}
+use Rattle.eevdf_queue.specs.{Leaving.leave, Leaving.leave_running, Leaving.leave_asleep, Leaving.carried_running, Leaving.nobody_runs}
 use Rattle.eevdf_queue.specs.{Moves.admit, Moves.put_asleep, Placing.put, Pick.adopted, Yield.yield_now}
 use Rattle.eevdf_queue.specs.{Renice.renice, SliceChange.set_slice, Attributes.set, Attributes.begin}
+use Rattle.eevdf_queue.specs.Wake as plain
 use Rattle.eevdf_dozes.specs.{Places.PlacedQueue, Stretches.Watch, Stretches.NoneIsPastDue, Stretches.IsChange}
-use Rattle.eevdf_dozes.specs.{Punctual.NoneStandsPast, Punctual.AllCount, Dozes.keeping, Dozes.forgetting, Dozes.doze, Dozes.wake, Dozes.rebase_placed}
+use Rattle.eevdf_dozes.specs.Punctual.{NoneStandsPast, AllCount}
+use Rattle.eevdf_dozes.specs.Dozes.{keeping, forgetting, doze, wake, rebase_placed}
 
 -- what becomes of a queue by a call that touches one task alone: all others stay where they are, and none of them begins to run
 pub record Touches (task : ℕ) (q r : PlacedQueue) : Type 0 where
@@ -82,3 +84,12 @@ pub record CallsPutNonePast : Type 0 where
   pub slices : (w : Watch) (q : PlacedQueue) (task slice : ℕ) → PutsNonePast w q (keeping q (set_slice q.queue task slice))
   pub stops : (w : Watch) (q : PlacedQueue) → PutsNonePast w q (keeping q (nobody_runs q.queue))
   pub rebases : (w : Watch) (q : PlacedQueue) → PutsNonePast w q (rebase_placed q)
+
+-- ---- what a doze has of a sleep
+-- a doze of a task that owes nothing leaves the queue as a sleep does, and a wake of one that has no place is that of a queue
+pub record DozesAreSleeps : Type 0 where
+  pub dozes : (q : PlacedQueue) (task : ℕ) (p : Contents) → carried_running q.queue task ≡ Some p → pos 0 ≤ℤ p.lag
+      → (doze q task).queue ≡ put_asleep (leave_running q.queue task) p
+  pub runs_on : (q : PlacedQueue) (task : ℕ) → carried_running q.queue task ≡ None → doze q task ≡ q
+  pub wakes : (q : PlacedQueue) (task : ℕ) → get q.places task ≡ None
+      → ((wake q task).0 ≡ (plain.wake q.queue task).0) × ((wake q task).1.queue ≡ (plain.wake q.queue task).1)

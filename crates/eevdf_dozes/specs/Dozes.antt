@@ -1,8 +1,10 @@
--- A doze and its wake: a task that dozes keeps its place and what it is owed, and no debt, and wakes at the later of its place and its placement.
+-- A doze and its wake: a task that dozes keeps its place and what it is owed, and no debt, and wakes at the later of its place and its
+-- placement.
 use Rattle.std.specs.Prelude.{ℕ, ℤ, pos, ◌+ℤ◌, ◌-ℤ◌, if◌then◌else◌, Option, Some, None}
 use Rattle.std.specs.Int.{int_max}
 use Rattle.std.specs.FinMap as map
-use Rattle.eevdf_queue.specs.{declared.entry.Entry.Entry, declared.sleeper.Sleeper.Sleeper, declared.answers.WakeAnswer.WakeAnswer, State.State}
+use Rattle.eevdf_queue.specs.{declared.entry.Entry.Entry, declared.sleeper.Sleeper.Sleeper, State.State}
+use Rattle.eevdf_queue.specs.declared.answers.WakeAnswer.{WakeAnswer}
 use Rattle.eevdf_queue.specs.declared.answers.WakeAnswer.TheVariants.{Woken, Awake, Range}
 use Rattle.eevdf_queue.specs.Moves.{fresh_entry, entry_in_range, with_runnable}
 use Rattle.eevdf_queue.specs.{Lag.kept_lag, Leaving.leave, Placing.placement, Candidate.is_running, Rebase.rebase}

@@ -3,9 +3,9 @@ use Rattle.std.specs.Prelude.{◌≡◌, ℕ, ◌+◌, ◌*◌, ◌≤◌, ◌�
 use Rattle.std.specs.{FinMap.get, List.AllByRecursion}
 use Rattle.eevdf_weight.specs.{Weight.weight_of, Charge.charge_of}
 use Rattle.eevdf_queue.specs.{declared.entry.Entry.Entry, Moves.request_of}
-use Rattle.eevdf_fairness.specs.Healing.{HasNotYielded}
+use Rattle.eevdf_fairness.specs.{Healing.HasNotYielded, Turns.IsFresh}
 use Rattle.eevdf_dozes.specs.{Places.PlacedQueue, Places.place_of}
-use Rattle.eevdf_dozes.specs.Stretches.{Event, Watch, BeginsWithPick, picked, after_events, charges}
+use Rattle.eevdf_dozes.specs.Stretches.{Event, Watch, NoneIsPastDue, BeginsWithPick, picked, after_events, charges}
 
 -- what a turn of a task that counts is charged at most
 abbrev pub turn_charge : Watch → ℕ → ℕ
@@ -31,7 +31,8 @@ NoneRunsFarPast =
 -- so it is charged for no more than the one that stays, that one's request, a turn and what it was behind that one at first
 abbrev pub NobodyGains : Type 0
 NobodyGains =
-    (w : Watch) (q : PlacedQueue) (events : List Event) (e f : Entry) → BeginsWithPick w q events → StaysWith w q events e f → HasNotYielded f
+    (w : Watch) (q : PlacedQueue) (events : List Event) (e f : Entry) → BeginsWithPick w q events → StaysWith w q events e f
+    → HasNotYielded f
     → (t : ℕ) (place : ℤ) → w.counts t ≡ true → place_of q t ≡ Some place
     → ComesNoFurther place (charges t (picked q) events)
     ((e.v +ℤ q.shift) +ℤ pos (charges w.stays (picked q) events + request_of f.nice f.slice + turn_charge w t))
@@ -43,6 +44,12 @@ pub record IsLevel (w : Watch) (q : PlacedQueue) (e : Entry) (task : ℕ) : Type
   pub place : ℤ
   pub there : place_of q task ≡ Some place
   pub not_behind : (e.v +ℤ q.shift) ≤ℤ place
+
+-- where all runnable tasks stand at one virtual runtime with fresh requests, each that counts is so, and none is past its own deadline
+abbrev pub FreshStartIsLevel : Type 0
+FreshStartIsLevel =
+    (w : Watch) (q : PlacedQueue) (v : ℤ) (e : Entry) → IsFresh v q.queue.runnable → get q.queue.runnable w.stays ≡ Some e
+    → NoneIsPastDue q.queue.runnable × ((t : ℕ) (f : Entry) → w.counts t ≡ true → get q.queue.runnable t ≡ Some f → IsLevel w q e t)
 
 abbrev pub sum_weights : Watch → List ℕ → ℕ
 sum_weights w [] = 0
@@ -57,7 +64,8 @@ sum_charges w q events (t ∷ ts) = weight_of (w.nice_of t) * charges t q events
 -- for each of them
 abbrev pub TogetherNobodyGains : Type 0
 TogetherNobodyGains =
-    (w : Watch) (q : PlacedQueue) (events : List Event) (e f : Entry) → BeginsWithPick w q events → StaysWith w q events e f → HasNotYielded f
+    (w : Watch) (q : PlacedQueue) (events : List Event) (e f : Entry) → BeginsWithPick w q events → StaysWith w q events e f
+    → HasNotYielded f
     → (ts : List ℕ) → AllByRecursion (IsLevel w q e) ts
     → sum_charges w (picked q) events ts
     ≤ sum_weights w ts * (charges w.stays (picked q) events + request_of f.nice f.slice) + length ts * (1024 * w.turn)

@@ -1,7 +1,9 @@
 -- Calls of a queue one after the other, of which those of the tasks that count are dozes and wakes: they are a stretch.
 use Rattle.std.specs.Prelude.{◌≡◌, ℕ, ◌+◌, ◌≤◌, false, List, [], ◌∷◌}
 use Rattle.eevdf_queue.specs.{Leaving.nobody_runs, Yield.yield_now, SliceChange.set_slice}
-use Rattle.eevdf_dozes.specs.{Places.PlacedQueue, Dozes.keeping, Dozes.doze, Dozes.wake, Dozes.rebase_placed, Punctual.AllCount, Punctual.NoneIsPutPast}
+use Rattle.eevdf_dozes.specs.Places.{PlacedQueue}
+use Rattle.eevdf_dozes.specs.{Dozes.keeping, Dozes.doze, Dozes.wake, Dozes.rebase_placed}
+use Rattle.eevdf_dozes.specs.Punctual.{AllCount, NoneIsPutPast}
 use Rattle.eevdf_dozes.specs.Stretches.{Event, Picks, Ticks, Becomes, Watch, NoneIsPastDue, IsWatched, IsStretch, picked, ticked}
 use Rattle.eevdf_dozes.specs.Calls.{Touches, DozesIfItCounts}
 
@@ -91,4 +93,5 @@ AreCalls q (call ∷ calls) = AreCalls (after_call q call) calls
 -- no runnable task is ever past its own deadline where none was at first, as in an empty queue
 abbrev pub NoneIsEverPastDue : Type 0
 NoneIsEverPastDue =
-    (q : PlacedQueue) (calls : List Call) → AreCalls q calls → NoneIsPastDue q.queue.runnable → NoneIsPastDue (after_calls q calls).queue.runnable
+    (q : PlacedQueue) (calls : List Call) → AreCalls q calls → NoneIsPastDue q.queue.runnable
+    → NoneIsPastDue (after_calls q calls).queue.runnable

@@ -6,3 +6,4 @@ pub mod Dozes
 pub mod Calls
 pub mod Histories
 pub mod Shares
+pub mod PlacesOfSleepers

@@ -66,7 +66,8 @@ pub record StaysServed (w : Watch) (q : PlacedQueue) (events : List Event) (f : 
 -- one that stays, and keeps its nice level, has its share beside others, whatever these doze, where none of them was behind it at first
 abbrev pub WhoStaysHasItsShare : Type 0
 WhoStaysHasItsShare =
-    (w : Watch) (q : PlacedQueue) (events : List Event) (e f : Entry) → BeginsWithPick w q events → StaysWith w q events e f → HasNotYielded f
+    (w : Watch) (q : PlacedQueue) (events : List Event) (e f : Entry) → BeginsWithPick w q events → StaysWith w q events e f
+    → HasNotYielded f
     → w.counts w.stays ≡ true → (ts : List ℕ) → AllByRecursion (IsLevel w q e) ts → StaysServed w (picked q) events f ts
 
 -- ---- one that counts, beside tasks that stay
@@ -88,14 +89,15 @@ sum_slices [] = 0
 sum_slices (t ∷ ts) = t.1.slice + sum_slices ts
 
 -- Let the task, of weight `w`, and the tasks that stay, of weight `others` in all, run for `T` ns together, of which it runs `s`; let `r`
--- be what rounding took from its charges, and `R` what it took from those of the others. But for rounding it runs for no more than its share
--- of `T` and of the slices of those that stay, and of a turn what is theirs
+-- be what rounding took from its charges, and `R` what it took from those of the others. But for rounding it runs for no more than its
+-- share of `T` and of the slices of those that stay, and of a turn what is theirs
 pub record HasNoMoreThanShare (w others slices turn T R s r : ℕ) : Type 0 where
   pub at_most : (w + others) * (1024 * s) + w * R ≤ w * (1024 * (T + slices)) + others * (1024 * turn) + others * r
 
 abbrev pub WhoSleepsHasNoMore : Type 0
 WhoSleepsHasNoMore =
-    (w : Watch) (q : PlacedQueue) (events : List Event) (t : ℕ) (place : ℤ) (ts : List (ℕ × Entry)) → w.counts t ≡ true → place_of q t ≡ Some place
-    → AllByRecursion (IsBeside w q events place) ts
+    (w : Watch) (q : PlacedQueue) (events : List Event) (t : ℕ) (place : ℤ) (ts : List (ℕ × Entry)) → w.counts t ≡ true
+    → place_of q t ≡ Some place → AllByRecursion (IsBeside w q events place) ts
     → HasNoMoreThanShare (weight_of (w.nice_of t)) (sum_weights w (numbers ts)) (sum_slices ts) w.turn
-    (sum_times (picked q) events (t ∷ numbers ts)) (sum_lost (picked q) events (numbers ts)) (time_of t (picked q) events) (lost_by t (picked q) events)
+    (sum_times (picked q) events (t ∷ numbers ts)) (sum_lost (picked q) events (numbers ts))
+    (time_of t (picked q) events) (lost_by t (picked q) events)

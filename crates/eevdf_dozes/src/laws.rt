@@ -1,8 +1,9 @@
 //! Laws of stretches in which one task stays and others doze and wake, each the contract of a function that does nothing.
 
-ghost use Rattle.eevdf_dozes.specs.Calls.{CallsAreChanges, CallsPutNonePast, CallsTouchOne, OthersMayBeTouched, SleepersAreAtRest};
-ghost use Rattle.eevdf_dozes.specs.Gains.{NobodyGains, NoneRunsFarPast, TogetherNobodyGains};
+ghost use Rattle.eevdf_dozes.specs.Calls.{CallsAreChanges, CallsPutNonePast, CallsTouchOne, DozesAreSleeps, OthersMayBeTouched, SleepersAreAtRest};
+ghost use Rattle.eevdf_dozes.specs.Gains.{FreshStartIsLevel, NobodyGains, NoneRunsFarPast, TogetherNobodyGains};
 ghost use Rattle.eevdf_dozes.specs.Histories.{CallsAreStretch, NoneIsEverPastDue};
+ghost use Rattle.eevdf_dozes.specs.PlacesOfSleepers.{PlacesStayOfSleepers};
 ghost use Rattle.eevdf_dozes.specs.Punctual.{LightestTurnIsLongest, RequestsStayPunctual};
 ghost use Rattle.eevdf_dozes.specs.Shares.{WhoSleepsHasNoMore, WhoStaysHasItsShare};
 
@@ -57,8 +58,8 @@ pub fn others_may_be_touched()
     ensures { OthersMayBeTouched }
 {}
 
-/// And so are, whomever they touch but the task that stays, a doze and a wake of a task that dozes; a yield and another slice of any task; a
-/// stop of whoever runs; and a rebase.
+/// And so are a doze of any task but the one that stays, and a wake of one that dozes; a yield and another slice of any task; a stop of
+/// whoever runs; and a rebase.
 pub fn calls_are_changes()
     ensures { CallsAreChanges }
 {}
@@ -73,8 +74,8 @@ pub fn sleepers_are_at_rest()
     ensures { SleepersAreAtRest }
 {}
 
-/// So calls one after the other are a stretch where those of the tasks that count are dozes, wakes, yields and other slices, and the task
-/// that stays neither dozes nor wakes; and while all runnable tasks count, they put none past where one stood.
+/// So calls one after the other are a stretch where those of the tasks that count are dozes, wakes, yields and other slices, and the
+/// task that stays neither dozes nor wakes; and while all runnable tasks count, they put none past where one stood.
 pub fn calls_are_stretch()
     ensures { CallsAreStretch }
 {
@@ -103,4 +104,19 @@ pub fn who_sleeps_has_no_more()
 /// Whatever is called, of whichever tasks: no runnable task is ever past its own deadline where none was at first, as in an empty queue.
 pub fn none_is_ever_past_due()
     ensures { NoneIsEverPastDue }
+{}
+
+/// Where all runnable tasks stand at one virtual runtime with fresh requests, none is past its own deadline, and none is behind another.
+pub fn fresh_start_is_level()
+    ensures { FreshStartIsLevel }
+{}
+
+/// A doze of a task that owes nothing leaves the queue as a sleep does, and the wake of a task that has no place is that of a queue.
+pub fn dozes_are_sleeps()
+    ensures { DozesAreSleeps }
+{}
+
+/// A place is kept of tasks that sleep here alone: where it was so before a call it is so afterwards.
+pub fn places_stay_of_sleepers()
+    ensures { PlacesStayOfSleepers }
 {}
