@@ -161,13 +161,13 @@ asked_after v d u c h k = omega (arith, ints, h, k)
 pub fresh_start_is_level : FreshStartIsLevel
 fresh_start_is_level w q v e fresh here = (
   λ t f there.
-  let is : f ≡ fresh_entry v f.nice f.slice = fresh t f there in
-  asked_after f.v f.d v (request_of f.nice f.slice) (ap (λ (x : Entry). x.v) is) (ap (λ (x : Entry). x.d) is),
+      let is : f ≡ fresh_entry v f.nice f.slice = fresh t f there in
+      asked_after f.v f.d v (request_of f.nice f.slice) (ap (λ (x : Entry). x.v) is) (ap (λ (x : Entry). x.d) is),
   λ t f counts there.
-  record {
-    counts = counts;
-    place = f.v +ℤ q.shift;
-    there = standing q.shift (get q.places t) (get q.queue.runnable t) f there;
-    not_behind = not_behind e.v f.v q.shift (ap (λ (x : Entry). x.v) (fresh w.stays e here) ∙ sym (ap (λ (x : Entry). x.v) (fresh t f there)));
-  },
+      record {
+        counts = counts;
+        place = f.v +ℤ q.shift;
+        there = standing q.shift (get q.places t) (get q.queue.runnable t) f there;
+        not_behind = not_behind e.v f.v q.shift (ap (λ (x : Entry). x.v) (fresh w.stays e here) ∙ sym (ap (λ (x : Entry). x.v) (fresh t f there)));
+      },
 )

@@ -15,3 +15,4 @@ pub mod Shares
 pub mod DueTasks
 pub mod SleepsAndDozes
 pub mod PlacesOfSleepers
+pub mod CpuTime

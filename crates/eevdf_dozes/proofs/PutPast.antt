@@ -114,14 +114,6 @@ of_both place shift placed time limit h k l = omega (arith, ints, clamps, h, k, 
 
 module _ (w : Watch) (q : PlacedQueue) (task : ℕ) (here : is_some (get q.queue.runnable w.stays) ≡ true) (all : AllCount w q.queue.runnable)
     (limit : ℤ) (none : NoneStandsPast w limit q) where
-  waking_in : (s : Sleeper) → IsDozing w q task s → w.counts task ≡ true
-      → (waking_runtime q s (get q.places task) +ℤ q.shift) ≤ℤ limit
-  waking_in s d counts =
-      subst (λ (o : Option ℤ). (waking_runtime q s o +ℤ q.shift) ≤ℤ limit) (sym d.kept)
-      (of_both d.place q.shift (placement q.queue s) (virtual_time q.queue) limit
-      (none task d.place counts (ap (place_by q.shift (get q.places task)) d.not_runnable ∙ d.kept))
-      (placed_in_time q.queue s d.no_debt) (time_in w q limit here all none))
-
   woken_in : (s : Sleeper) (o : Option State) (place : ℤ) → put_at q.queue task s (waking_runtime q s (get q.places task)) ≡ o → IsDozing w q task s
       → w.counts task ≡ true → place_of (woken q task o).1 task ≡ Some place → place ≤ℤ limit
   woken_in s None place is d counts at = none task place counts at
@@ -133,7 +125,12 @@ module _ (w : Watch) (q : PlacedQueue) (task : ℕ) (here : is_some (get q.queue
       let same : v +ℤ q.shift ≡ place =
       one_place (v +ℤ q.shift) place (place_of (woken q task (Some joined)).1 task)
       (standing q.shift (get (remove q.places task) task) (get joined.runnable task) e now) at in
-      subst (λ (z : ℤ). z ≤ℤ limit) same (waking_in s d counts)
+      let waking : (waking_runtime q s (get q.places task) +ℤ q.shift) ≤ℤ limit =
+      subst (λ (o : Option ℤ). (waking_runtime q s o +ℤ q.shift) ≤ℤ limit) (sym d.kept)
+      (of_both d.place q.shift (placement q.queue s) (virtual_time q.queue) limit
+      (none task d.place counts (ap (place_by q.shift (get q.places task)) d.not_runnable ∙ d.kept))
+      (placed_in_time q.queue s d.no_debt) (time_in w q limit here all none)) in
+      subst (λ (z : ℤ). z ≤ℤ limit) same waking
 
   wake_in : (o : Option Sleeper) (place : ℤ) → get q.queue.asleep task ≡ o → DozesIfItCounts w q task
       → w.counts task ≡ true → place_of (wake_sleeper q task o).1 task ≡ Some place → place ≤ℤ limit

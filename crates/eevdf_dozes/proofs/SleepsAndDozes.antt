@@ -57,9 +57,10 @@ wake_by : (q : PlacedQueue) (task : ℕ) (o : Option Sleeper) → get q.places t
 wake_by q task None none = (refl, refl)
 wake_by q task (Some s) none =
     let same : put_at q.queue task s (waking_runtime q s (get q.places task)) ≡ put q.queue task s =
-    ap (λ (o : Option ℤ). put_at q.queue task s (waking_runtime q s o)) none in
-    (ap (λ (o : Option State). (woken q task o).0) same ∙ (woken_agree q task (put q.queue task s)).0,
-    ap (λ (o : Option State). (woken q task o).1.queue) same ∙ (woken_agree q task (put q.queue task s)).1)
+    ap (λ (o : Option ℤ). put_at q.queue task s (waking_runtime q s o)) none in (
+      ap (λ (o : Option State). (woken q task o).0) same ∙ (woken_agree q task (put q.queue task s)).0,
+      ap (λ (o : Option State). (woken q task o).1.queue) same ∙ (woken_agree q task (put q.queue task s)).1,
+    )
 
 pub dozes_are_sleeps : DozesAreSleeps
 dozes_are_sleeps = record {

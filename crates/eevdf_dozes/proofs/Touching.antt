@@ -4,11 +4,13 @@ use Rattle.std.specs.Prelude.{ℤ, pos, ◌+ℤ◌, ◌≤ℤ◌}
 use Rattle.std.specs.{Ordering.nat_cmp, Ordering.eq_by_cmp, Cmp.nat_cmp_total}
 use Rattle.std.specs.FinMap.{FinMap, get, contains_key, insert, remove, get-insert, get-remove}
 use Rattle.std.proofs.{lemmas.Int.ints}
-use Rattle.eevdf_queue.specs.{declared.entry.Entry.Entry, declared.sleeper.Sleeper.Sleeper, State.State, Sums.Tasks}
+use Rattle.eevdf_queue.specs.{declared.entry.Entry.Entry, declared.sleeper.Sleeper.Sleeper, State.State, State.Contents, Sums.Tasks}
 use Rattle.eevdf_queue.specs.declared.answers.ReniceAnswer.{ReniceAnswer}
 use Rattle.eevdf_queue.specs.declared.answers.ReniceAnswer.TheVariants as reniced
-use Rattle.eevdf_queue.specs.Leaving.{leave, leave_running, leave_asleep, without_entry, without_sleeper, stopped}
-use Rattle.eevdf_queue.specs.Moves.{put_asleep, with_runnable, fresh_entry, is_entry_in_range}
+use Rattle.eevdf_queue.specs.Leaving.{leave, leave_running, leave_asleep, without_entry, without_sleeper, stopped, leaving, carried_running}
+use Rattle.std.specs.Option.{option_map}
+use Rattle.eevdf_queue.specs.Lag.{kept_lag}
+use Rattle.eevdf_queue.specs.Moves.{put_asleep, with_runnable, fresh_entry, is_entry_in_range, sleeper_of}
 use Rattle.eevdf_queue.specs.{Candidate.is_running, Placing.put, Placing.placement, Pick.adopted, Renice.renice, Renice.renice_to, Renice.renice_entry, Renice.reniced as rejoining}
 use Rattle.eevdf_queue.specs.SliceChange.{set_slice, set_entry_slice, set_sleeper_slice}
 use Rattle.eevdf_queue.specs.Attributes.{set, set_sleeper, set_reniced, begin, begin_sleeper}
@@ -169,6 +171,22 @@ begun : (q : State) (task : ℕ) (nice : ℤ) (slice : ℕ) (o : Option Sleeper)
 begun q task nice slice None = none_touched task q
 begun q task nice slice (Some s) = slept q task (record { lag = pos 0; nice = nice; slice = slice })
 
+-- a task sleeps with the lag that it carries
+carried_number : (q : State) (task : ℕ) (o : Option Entry) (b : Bool) (p : Contents)
+    → cond b (option_map (λ (e : Entry). leaving task (kept_lag q e) e) o) None ≡ Some p → p.task ≡ task
+carried_number q task None true p is = cc
+carried_number q task (Some e) true p is =
+    let same : leaving task (kept_lag q e) e ≡ p = cc in
+    sym (ap (λ (c : Contents). c.task) same)
+carried_number q task o false p is = cc
+
+slept_by : (q : State) (task : ℕ) (p : Contents) → carried_running q task ≡ Some p → TouchesQueue task q (put_asleep (leave_running q task) p)
+slept_by q task p is =
+    let r : State = leave_running q task in
+    subst (λ (u : ℕ). TouchesQueue task q (record r { asleep = insert r.asleep u (sleeper_of p) }))
+    (sym (carried_number q task (get q.runnable task) (is_running q.running task) p is))
+    (touched_then task q r (record r { asleep = insert r.asleep task (sleeper_of p) }) (left_running q task) (slept r task (sleeper_of p)))
+
 -- ---- a task becomes runnable
 pub entered : (q : State) (task : ℕ) (e : Entry) → e.v ≤ℤ e.d → TouchesQueue task q (record q { runnable = insert q.runnable task e })
 entered q task e timely = record {
@@ -300,6 +318,7 @@ pub calls_touch_one : CallsTouchOne
 calls_touch_one = record {
   leaves = λ q task. by_forgetting task q (leave q.queue task) (left q.queue task);
   leaves_running = λ q task. by_forgetting task q (leave_running q.queue task) (left_running q.queue task);
+  sleeps = λ q task p is. by_forgetting task q (put_asleep (leave_running q.queue task) p) (slept_by q.queue task p is);
   leaves_asleep = λ q task. by_forgetting task q (leave_asleep q.queue task) (taken_out q.queue task (get q.queue.asleep task));
   falls_asleep = λ q p. by_forgetting p.task q (put_asleep q.queue p) (slept q.queue p.task _);
   is_admitted = λ q p r is. by_forgetting p.task q r (put_touches q.queue r p.task (record { lag = p.lag; nice = p.nice; slice = p.slice }) p.start is);
@@ -312,4 +331,5 @@ calls_touch_one = record {
   is_adopted = λ q task. by_keeping task q (adopted q.queue task) (adopted_by q.queue task (contains_key q.queue.runnable task));
   dozes = doze_touches;
   wakes = wake_touches;
+  one_then_another = touches_then;
 }

@@ -19,12 +19,14 @@ pub record Touches (task : ℕ) (q r : PlacedQueue) : Type 0 where
   pub runs : (t : ℕ) → (t ≡ task → ⊥) → r.queue.running ≡ Some t → q.queue.running ≡ Some t
   pub due : NoneIsPastDue q.queue.runnable → NoneIsPastDue r.queue.runnable
 
--- A task leaves, falls asleep, is taken out of its sleep, joins, wakes or begins anew, and then no place is kept of it; or it gets another
--- nice level or slice, stops, or runs without being picked, and then its place stays
+-- A task leaves, sleeps, is taken out of its sleep, joins or begins anew, and then no place is kept of it; or it gets another nice level
+-- and slice, or runs without being picked, and then its place stays; or it dozes or wakes
 pub record CallsTouchOne : Type 0 where
   pub leaves : (q : PlacedQueue) (task : ℕ) → Touches task q (forgetting q task (leave q.queue task))
   pub leaves_running : (q : PlacedQueue) (task : ℕ) → Touches task q (forgetting q task (leave_running q.queue task))
   pub leaves_asleep : (q : PlacedQueue) (task : ℕ) → Touches task q (forgetting q task (leave_asleep q.queue task))
+  pub sleeps : (q : PlacedQueue) (task : ℕ) (p : Contents) → carried_running q.queue task ≡ Some p
+      → Touches task q (forgetting q task (put_asleep (leave_running q.queue task) p))
   pub falls_asleep : (q : PlacedQueue) (p : Contents) → Touches p.task q (forgetting q p.task (put_asleep q.queue p))
   pub is_admitted : (q : PlacedQueue) (p : Contents) (r : State) → admit q.queue p ≡ Some r → Touches p.task q (forgetting q p.task r)
   pub joins : (q : PlacedQueue) (task : ℕ) (s : Sleeper) (r : State) → put q.queue task s ≡ Some r → Touches task q (forgetting q task r)
@@ -34,6 +36,7 @@ pub record CallsTouchOne : Type 0 where
   pub is_adopted : (q : PlacedQueue) (task : ℕ) → Touches task q (keeping q (adopted q.queue task))
   pub dozes : (q : PlacedQueue) (task : ℕ) → Touches task q (doze q task)
   pub wakes : (q : PlacedQueue) (task : ℕ) → Touches task q (wake q task).1
+  pub one_then_another : (task : ℕ) (p q r : PlacedQueue) → Touches task p q → Touches task q r → Touches task p r
 
 -- a task that doesn't count, and isn't the one that stays, may be touched
 abbrev pub OthersMayBeTouched : Type 0

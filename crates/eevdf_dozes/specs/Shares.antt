@@ -1,9 +1,9 @@
 -- What these laws come to in time: the nanoseconds that each task ran, and what rounding took from its charges.
-use Rattle.std.specs.Prelude.{◌≡◌, ℕ, ◌+◌, ◌*◌, ◌≤◌, ℤ, ◌+ℤ◌, ◌≤ℤ◌, true, List, [], ◌∷◌, length, Some}
+use Rattle.std.specs.Prelude.{◌≡◌, ℕ, ◌+◌, ◌*◌, ◌≤◌, ℤ, ◌+ℤ◌, ◌≤ℤ◌, ◌==◌, if◌then◌else◌, true, List, [], ◌∷◌, length, Some}
 use Rattle.std.specs.{FinMap.get, List.AllByRecursion}
 use Rattle.eevdf_weight.specs.Weight.{weight_of}
 use Rattle.eevdf_queue.specs.{declared.entry.Entry.Entry, Moves.request_of, Tick.tick}
-use Rattle.eevdf_fairness.specs.{Healing.HasNotYielded, Share.most_lost, Tallies.if_charged_to, Tallies.remainder_of}
+use Rattle.eevdf_fairness.specs.{Healing.HasNotYielded, Share.most_lost, Tallies.if_charged, Tallies.if_charged_to, Tallies.remainder_of}
 use Rattle.eevdf_dozes.specs.Places.{PlacedQueue, place_of}
 use Rattle.eevdf_dozes.specs.Stretches.{Event, Picks, Ticks, Becomes, Watch, BeginsWithPick, picked, ticked}
 use Rattle.eevdf_dozes.specs.Gains.{StaysWith, IsLevel, sum_weights}
@@ -30,6 +30,30 @@ sum_times q events (t ∷ ts) = time_of t q events + sum_times q events ts
 abbrev pub sum_lost : PlacedQueue → List Event → List ℕ → ℕ
 sum_lost q events [] = 0
 sum_lost q events (t ∷ ts) = lost_by t q events + sum_lost q events ts
+
+-- how many nanoseconds of them were charged to anyone
+abbrev pub cpu_time : PlacedQueue → List Event → ℕ
+cpu_time q [] = 0
+cpu_time q (Picks ∷ events) = cpu_time (picked q) events
+cpu_time q (Ticks ns ∷ events) = if_charged (tick q.queue ns).0 ns + cpu_time (ticked q ns) events
+cpu_time q (Becomes r ∷ events) = cpu_time r events
+
+abbrev pub times_in : ℕ → List ℕ → ℕ
+times_in task [] = 0
+times_in task (t ∷ ts) = (if task == t then 1 else 0) + times_in task ts
+
+-- whoever runs at a tick stands once in the list
+abbrev pub OnlyTheseRun : List ℕ → PlacedQueue → List Event → Type 0
+OnlyTheseRun ts q [] = Unit {0}
+OnlyTheseRun ts q (Picks ∷ events) = OnlyTheseRun ts (picked q) events
+OnlyTheseRun ts q (Ticks ns ∷ events) =
+    ((t : ℕ) → q.queue.running ≡ Some t → times_in t ts ≡ 1) × OnlyTheseRun ts (ticked q ns) events
+OnlyTheseRun ts q (Becomes r ∷ events) = OnlyTheseRun ts r events
+
+-- then these run together for as long as the CPU does
+abbrev pub TheyHaveTheCpu : Type 0
+TheyHaveTheCpu =
+    (q : PlacedQueue) (events : List Event) (ts : List ℕ) → OnlyTheseRun ts q events → sum_times q events ts ≡ cpu_time q events
 
 -- no tick of them is shorter than this
 abbrev pub HaveNoShorterTicks : ℕ → List Event → Type 0

@@ -1,11 +1,18 @@
 //! Laws of stretches in which one task stays and others doze and wake, each the contract of a function that does nothing.
 
-ghost use Rattle.eevdf_dozes.specs.Calls.{CallsAreChanges, CallsPutNonePast, CallsTouchOne, DozesAreSleeps, OthersMayBeTouched, SleepersAreAtRest};
+ghost use Rattle.eevdf_dozes.specs.Calls.{
+  CallsAreChanges,
+  CallsPutNonePast,
+  CallsTouchOne,
+  DozesAreSleeps,
+  OthersMayBeTouched,
+  SleepersAreAtRest,
+};
 ghost use Rattle.eevdf_dozes.specs.Gains.{FreshStartIsLevel, NobodyGains, NoneRunsFarPast, TogetherNobodyGains};
 ghost use Rattle.eevdf_dozes.specs.Histories.{CallsAreStretch, NoneIsEverPastDue};
 ghost use Rattle.eevdf_dozes.specs.PlacesOfSleepers.{PlacesStayOfSleepers};
 ghost use Rattle.eevdf_dozes.specs.Punctual.{LightestTurnIsLongest, RequestsStayPunctual};
-ghost use Rattle.eevdf_dozes.specs.Shares.{WhoSleepsHasNoMore, WhoStaysHasItsShare};
+ghost use Rattle.eevdf_dozes.specs.Shares.{TheyHaveTheCpu, WhoSleepsHasNoMore, WhoStaysHasItsShare};
 
 /// From any state on in which no task is past its own deadline: while one task stays runnable, no other that counts comes further than a
 /// turn past the deadline that the first has in the end, however it dozes and wakes, and whatever all others do.
@@ -48,7 +55,7 @@ pub fn lightest_turn_is_longest()
     ensures { LightestTurnIsLongest }
 {}
 
-/// Calls of a queue, a doze and its wake among them, touch one task alone.
+/// Calls of a queue, a doze and its wake among them, touch one task alone, and so do two one after the other that touch the same one.
 pub fn calls_touch_one()
     ensures { CallsTouchOne }
 {}
@@ -119,4 +126,9 @@ pub fn dozes_are_sleeps()
 /// A place is kept of tasks that sleep here alone: where it was so before a call it is so afterwards.
 pub fn places_stay_of_sleepers()
     ensures { PlacesStayOfSleepers }
+{}
+
+/// Where whoever runs at a tick stands once in a list, the tasks of the list run together for as long as the CPU does.
+pub fn they_have_the_cpu()
+    ensures { TheyHaveTheCpu }
 {}
