@@ -1,5 +1,5 @@
 #!/usr/bin/env python3
-"""dozing.py [--seconds N] [--seed SEED]: searches for a break of what is proved of dozes ("A rule for tasks that sleep" of docs/model.md)
+"""dozing.py [--seconds N] [--seed SEED]: searches for a break of what is proved of dozes ("Dozes" of docs/model.md)
 in the plain model, and tells how near it comes. A pattern says who wakes, how long whoever is picked runs, and whether it dozes then; task
 0 never sleeps. Patterns are drawn, repeated, and changed as long as they come nearer. Of rules that fall short of a doze the search has to
 find a break of each. The last line is 'N passed, M failed'."""

@@ -1,4 +1,4 @@
-"""A queue whose tasks may doze: "A rule for tasks that sleep" of docs/model.md. Each other rule of RULES falls short of it in one thing."""
+"""A queue whose tasks may doze: "Dozes" of docs/model.md. Each other rule of RULES falls short of it in one thing."""
 
 from plain.queue import Queue, fits, fresh_entry
 

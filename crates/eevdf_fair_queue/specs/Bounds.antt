@@ -1,0 +1,60 @@
+-- What is kept of how far tasks can be past one another's deadlines, and what becomes of it.
+use Rattle.std.specs.Prelude.{ℕ, ◌^◌, ℤ, pos, neg_ℤ, ◌+ℤ◌, ◌-ℤ◌, Bool, int_lt, if◌then◌else◌, Option, Some, None}
+use Rattle.std.specs.Int.{w64, int_max, saturate_signed}
+use Rattle.eevdf_weight.specs.{Weight.weight_of, Charge.charge_of}
+use Rattle.eevdf_queue.specs.{declared.entry.Entry.Entry}
+use Rattle.eevdf_fair_queue.specs.{declared.bounds.Bounds.Bounds, declared.bounds.Mark.Mark}
+
+-- a sum as 64 bits have it: one that they can't hold is the greatest or the least number
+abbrev pub held : ℤ → ℤ
+held z = saturate_signed w64 z
+
+-- those of a queue without tasks
+abbrev pub fresh : Bounds
+fresh = record { front = neg_ℤ (pos (2 ^ 63)); longest = pos 0; turn = None }
+
+-- some task may have come to a virtual runtime out of its turn
+abbrev pub raised : Bounds → ℤ → Bounds
+raised b v = record b { front = int_max b.front v; turn = None }
+
+-- the turn that goes on has come to a charge
+abbrev pub grown : Bounds → ℤ → Bounds
+grown b turn = record b { longest = int_max b.longest turn; turn = Some turn }
+
+-- a turn begins
+abbrev pub picked : Bounds → Bounds
+picked b = record b { turn = Some (pos 0) }
+
+-- whoever runs was charged, and has come to a virtual runtime
+abbrev pub ticked_by : Bounds → ℤ → ℤ → Option ℤ → Bounds
+ticked_by b charge v None = raised b v
+ticked_by b charge v (Some turn) = grown b (held (turn +ℤ charge))
+
+abbrev pub ticked : Bounds → ℤ → ℤ → Bounds
+ticked b charge v = ticked_by b charge v b.turn
+
+-- the same where a task was charged for so many nanoseconds and has this entry now
+abbrev pub charged_to : Bounds → ℕ → Option Entry → Bounds
+charged_to b ns None = b
+charged_to b ns (Some e) = ticked b (pos (charge_of ns (weight_of e.nice))) e.v
+
+-- a task that stands at an entry now, beside the mark of before: its deadline may be earlier, and its virtual runtime later
+abbrev pub raised_where : Bool → ℤ → Bounds → Bounds
+raised_where is v b = if is then raised b v else b
+
+abbrev pub settled_at : Bounds → Option Mark → Entry → Bounds
+settled_at b None e = record fresh { front = e.v }
+settled_at b (Some m) e =
+    raised_where (int_lt m.v e.v) e.v (raised_where (int_lt e.d m.d) (held (m.d +ℤ b.longest)) b)
+
+abbrev pub settled : Bounds → Option Mark → Option Entry → Bounds
+settled b m None = b
+settled b m (Some e) = settled_at b m e
+
+-- all virtual times are lower by a number
+abbrev pub lowered : Bounds → ℤ → Bounds
+lowered b by = record b { front = held (b.front -ℤ by) }
+
+-- by how much the virtual time can be past a deadline
+abbrev pub late_by : Bounds → ℤ → ℤ
+late_by b deadline = int_max b.longest (held (b.front -ℤ deadline))

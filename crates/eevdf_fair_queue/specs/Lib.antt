@@ -1,0 +1,4 @@
+pub mod Bounds
+pub mod Fair
+pub mod Lateness
+pub mod Sleeping

@@ -1,0 +1,141 @@
+//! How far the runnable tasks of a queue can be past one another's deadlines.
+
+ghost use Rattle.std.specs.Prelude.{◌≡◌, pos};
+ghost use Rattle.std.specs.Int.{int_max, int_min};
+ghost use Rattle.eevdf_fair_queue.specs.Bounds as bounds;
+
+use eevdf_queue::Entry;
+
+/// How far the runnable tasks of a queue can be past one another's deadlines, in virtual time: no virtual runtime is past the front
+/// and, by more than the longest turn, past any deadline.
+#[derive(Clone, Copy, PartialEq, Eq, Debug)]
+pub struct Bounds {
+    /// A virtual time that some task may have come to out of its turn. Nobody who stands before it is late.
+    pub front: i64,
+    /// What the longest turn was charged, since the queue was empty.
+    pub longest: i64,
+    /// What was charged since the last pick, as long as the task picked is past no deadline by more than that: `None` from the moment on
+    /// at which another task comes before it.
+    pub turn: Option<i64>,
+}
+
+/// A virtual time and a deadline: where a task stood before a call, or, where it wasn't runnable, the virtual time and the deadline of the
+/// task that a pick would have let run.
+#[derive(Clone, Copy, PartialEq, Eq, Debug)]
+pub struct Mark {
+    /// The virtual runtime, or the virtual time.
+    pub v: i64,
+    /// The deadline.
+    pub d: i64,
+}
+
+impl Bounds {
+    /// Those of a queue without tasks.
+    pub(crate) fn fresh() -> Bounds
+        ensures { result ≡ bounds.fresh }
+    {
+        Bounds {
+            front: i64::MIN,
+            longest: 0,
+            turn: None,
+        }
+    }
+
+    /// Those after a pick, with which a turn begins.
+    pub(crate) fn picked(self) -> Bounds
+        ensures { result ≡ bounds.picked self }
+    {
+        Bounds {
+            turn: Some(0),
+            ..self
+        }
+    }
+
+    /// Those after the running task was charged, and has come to a virtual runtime.
+    pub(crate) fn ticked(self, charge: i64, v: i64) -> Bounds
+        ensures { result ≡ bounds.ticked self charge v }
+    {
+        match self.turn {
+            None => self.raised(v),
+            Some(turn) => self.grown(turn.saturating_add(charge)),
+        }
+    }
+
+    /// Those after a call that touched one task: where the task stands now, if it is runnable, beside the mark of before, which is
+    /// `None` where nothing was runnable.
+    pub(crate) fn settled(self, mark: Option<Mark>, now: Option<Entry>) -> Bounds
+        ensures { result ≡ bounds.settled self mark now }
+    {
+        let Some(entry) = now else {
+            return self;
+        };
+        let Some(mark) = mark else {
+            return Bounds {
+                front: entry.v,
+                ..Bounds::fresh()
+            };
+        };
+        self.raised_where(entry.d < mark.d, mark.d.saturating_add(self.longest))
+            .raised_where(mark.v < entry.v, entry.v)
+    }
+
+    /// Those after all virtual times were lowered by a number.
+    pub(crate) fn lowered(self, by: i64) -> Bounds
+        ensures { result ≡ bounds.lowered self by }
+    {
+        Bounds {
+            front: self.front.saturating_sub(by),
+            ..self
+        }
+    }
+
+    /// By how much the virtual time can be past a deadline.
+    pub fn late_by(self, deadline: i64) -> i64
+        ensures { result ≡ bounds.late_by self deadline }
+    {
+        greater(self.longest, self.front.saturating_sub(deadline))
+    }
+
+    /// Those where a task may have come to a virtual runtime out of its turn.
+    fn raised(self, v: i64) -> Bounds
+        ensures { result ≡ bounds.raised self v }
+    {
+        Bounds {
+            front: greater(self.front, v),
+            turn: None,
+            ..self
+        }
+    }
+
+    /// The same where that is so.
+    fn raised_where(self, is: bool, v: i64) -> Bounds
+        ensures { result ≡ bounds.raised_where is v self }
+    {
+        if is { self.raised(v) } else { self }
+    }
+
+    /// Those where the turn that goes on has come to a charge.
+    fn grown(self, turn: i64) -> Bounds
+        ensures { result ≡ bounds.grown self turn }
+    {
+        Bounds {
+            longest: greater(self.longest, turn),
+            turn: Some(turn),
+            ..self
+        }
+    }
+}
+
+/// The lesser one of two numbers.
+pub(crate) fn lesser(a: i64, b: i64) -> i64
+    ensures { result ≡ int_min a b }
+{
+    if b < a { b } else { a }
+}
+
+/// The greater one of two numbers.
+fn greater(a: i64, b: i64) -> i64
+    ensures { result ≡ int_max a b }
+{
+    if b < a { a } else { b }
+}

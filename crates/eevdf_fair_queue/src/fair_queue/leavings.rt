@@ -1,0 +1,59 @@
+//! How tasks fall asleep, begin anew and leave: no bound grows by that.
+
+ghost use Rattle.std.specs.Prelude.{◌≡◌, ◌↔◌, IfSome, IsNone, false, Some};
+ghost use Rattle.std.specs.Option.{option_map};
+ghost use Rattle.std.specs.FinMap as map;
+ghost use Rattle.eevdf_queue.specs.Attributes as attributes;
+ghost use Rattle.eevdf_queue.specs.Candidate.{is_running};
+ghost use Rattle.eevdf_queue.specs.Leaving.{IsNowhere, carried, carried_asleep, carried_running, leave, leave_asleep};
+ghost use Rattle.eevdf_fair_queue.specs.Sleeping.{slept};
+
+use crate::fair_queue::FairQueue;
+use eevdf_queue::{Parcel, TaskId};
+use eevdf_weight::{Nice, Slice};
+
+impl FairQueue {
+    /// The running task falls asleep here. Answers the lag that it keeps; `None` exactly where the task doesn't run here, and then nothing
+    /// has changed.
+    pub fn sleep(&mut self, task: TaskId) -> Option<i64>
+        ensures lag { result ≡ option_map (λ p. p.lag) (carried_running self.old.queue.state task) }
+        ensures after { self.new.queue.state ≡ slept self.old.queue.state task }
+        ensures bounds { self.new.bounds ≡ self.old.bounds }
+    {
+        let parcel = self.queue.detach_running(task)?;
+        let lag = parcel.lag();
+        self.queue.put_asleep(parcel);
+        Some(lag)
+    }
+
+    /// Takes out a runnable task as [`Queue::detach_runnable`](eevdf_queue::Queue::detach_runnable) does.
+    pub fn detach_runnable(&mut self, task: TaskId) -> Option<Parcel>
+        ensures parcel { result ≡ carried self.old.queue.state task }
+        ensures none { IsNone result ↔ (map.contains_key self.old.queue.state.runnable task ≡ false) }
+        ensures after { self.new.queue.state ≡ leave self.old.queue.state task }
+        ensures nowhere { IfSome result (λ parcel. IsNowhere self.new.queue.state parcel.task) }
+        ensures bounds { self.new.bounds ≡ self.old.bounds }
+    {
+        self.queue.detach_runnable(task)
+    }
+
+    /// Takes out a sleeping task as [`Queue::detach_asleep`](eevdf_queue::Queue::detach_asleep) does.
+    pub fn detach_asleep(&mut self, task: TaskId) -> Option<Parcel>
+        ensures parcel { result ≡ carried_asleep self.old.queue.state task }
+        ensures none { IsNone result ↔ (map.contains_key self.old.queue.state.asleep task ≡ false) }
+        ensures after { self.new.queue.state ≡ leave_asleep self.old.queue.state task }
+        ensures nowhere { IfSome result (λ parcel. IsNowhere self.new.queue.state parcel.task) }
+        ensures bounds { self.new.bounds ≡ self.old.bounds }
+    {
+        self.queue.detach_asleep(task)
+    }
+
+    /// Lets a sleeping task begin anew as [`Queue::begin`](eevdf_queue::Queue::begin) does.
+    pub fn begin(&mut self, task: TaskId, nice: Nice, slice: Slice) -> bool
+        ensures begun { result ≡ map.contains_key self.old.queue.state.asleep task }
+        ensures after { self.new.queue.state ≡ attributes.begin self.old.queue.state task nice slice }
+        ensures bounds { self.new.bounds ≡ self.old.bounds }
+    {
+        self.queue.begin(task, nice, slice)
+    }
+}
