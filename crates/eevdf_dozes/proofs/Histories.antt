@@ -6,7 +6,7 @@ use Rattle.eevdf_dozes.specs.Places.{PlacedQueue}
 use Rattle.eevdf_dozes.specs.Stretches.{Becomes, Watch, IsWatched, IsChange, IsStretch, picked, ticked}
 use Rattle.eevdf_dozes.specs.{Punctual.AllCount, Punctual.NoneIsPutPast, Dozes.keeping, Dozes.doze, Dozes.wake, Dozes.rebase_placed}
 use Rattle.eevdf_dozes.specs.Calls.{Touches, PutsNonePast}
-use Rattle.eevdf_dozes.specs.Histories.{Call, Pick, Tick, Doze, Wake, Yield, SetSlice, Stop, Rebase, Touch, events_of, AreAllowed, SleepersDoze, AllCountAlong, AreStretch, CallsAreStretch}
+use Rattle.eevdf_dozes.specs.Histories.{Call, Pick, Tick, Doze, Wake, Yield, SetSlice, Stop, Rebase, Touch, events_of, AreAllowed, SleepersDoze, AllCountAlong, AreStretch, CallsAreStretch, CallsBeginWithPick}
 use Rattle.eevdf_dozes.proofs.{Steps.pick_watched, Steps.tick_watched, Steps.change_watched}
 use Rattle.eevdf_dozes.proofs.Standing.{AllStand, standing_is_change, yields_stand, stops_stand, rebases_stand}
 use Rattle.eevdf_dozes.proofs.{Changes.others_may_be_touched, Changes.calls_are_changes, PutPast.by_stand, PutPast.calls_put_none_past}
@@ -114,3 +114,11 @@ module _ (first : PickIsFirst) (w : Watch) where
 
 pub calls_are_stretch : PickIsFirst → CallsAreStretch
 calls_are_stretch first w ran q calls watched doze allowed = are_stretch first w ran q calls (record { watched = watched; doze = doze }) allowed
+
+pub calls_begin_with_pick : PickIsFirst → CallsBeginWithPick
+calls_begin_with_pick first w q calls watched doze allowed =
+    let all : AreStretch w 0 q (Pick ∷ calls) = calls_are_stretch first w 0 q (Pick ∷ calls) watched doze (tt, allowed) in
+    record {
+      begins = record { watched = watched; stretch = all.stretch };
+      none_past = λ here along. all.none_past (here, along);
+    }

@@ -4,7 +4,8 @@ use Rattle.eevdf_queue.specs.{Leaving.nobody_runs, Yield.yield_now, SliceChange.
 use Rattle.eevdf_dozes.specs.Places.{PlacedQueue}
 use Rattle.eevdf_dozes.specs.{Dozes.keeping, Dozes.doze, Dozes.wake, Dozes.rebase_placed}
 use Rattle.eevdf_dozes.specs.Punctual.{AllCount, NoneIsPutPast}
-use Rattle.eevdf_dozes.specs.Stretches.{Event, Picks, Ticks, Becomes, Watch, NoneIsPastDue, IsWatched, IsStretch, picked, ticked}
+use Rattle.eevdf_dozes.specs.Stretches.{Event, Picks, Ticks, Becomes, picked, ticked}
+use Rattle.eevdf_dozes.specs.Stretches.{Watch, NoneIsPastDue, IsWatched, IsStretch, BeginsWithPick}
 use Rattle.eevdf_dozes.specs.Calls.{Touches, DozesIfItCounts}
 
 -- a call; the last kind touches one task alone, and is told by what the queue is afterwards
@@ -78,6 +79,16 @@ abbrev pub CallsAreStretch : Type 0
 CallsAreStretch =
     (w : Watch) (ran : ℕ) (q : PlacedQueue) (calls : List Call) → IsWatched w q → SleepersDoze w q → AreAllowed w ran q calls
     → AreStretch w ran q calls
+
+-- so after a pick they are what the laws of stretches ask
+pub record BeginWithPick (w : Watch) (q : PlacedQueue) (calls : List Call) : Type 0 where
+  pub begins : BeginsWithPick w q (events_of (picked q) calls)
+  pub none_past : AllCount w q.queue.runnable → AllCountAlong w (picked q) calls → NoneIsPutPast w (picked q) (events_of (picked q) calls)
+
+abbrev pub CallsBeginWithPick : Type 0
+CallsBeginWithPick =
+    (w : Watch) (q : PlacedQueue) (calls : List Call) → IsWatched w q → SleepersDoze w q → AreAllowed w 0 (picked q) calls
+    → BeginWithPick w q calls
 
 -- ---- whatever is called, of whichever tasks
 abbrev pub after_calls : PlacedQueue → List Call → PlacedQueue

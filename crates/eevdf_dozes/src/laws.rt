@@ -9,7 +9,7 @@ ghost use Rattle.eevdf_dozes.specs.Calls.{
   SleepersAreAtRest,
 };
 ghost use Rattle.eevdf_dozes.specs.Gains.{FreshStartIsLevel, NobodyGains, NoneRunsFarPast, TogetherNobodyGains};
-ghost use Rattle.eevdf_dozes.specs.Histories.{CallsAreStretch, NoneIsEverPastDue};
+ghost use Rattle.eevdf_dozes.specs.Histories.{CallsAreStretch, CallsBeginWithPick, NoneIsEverPastDue};
 ghost use Rattle.eevdf_dozes.specs.PlacesOfSleepers.{PlacesStayOfSleepers};
 ghost use Rattle.eevdf_dozes.specs.Punctual.{LightestTurnIsLongest, RequestsStayPunctual};
 ghost use Rattle.eevdf_dozes.specs.Shares.{TheyHaveTheCpu, WhoSleepsHasNoMore, WhoStaysHasItsShare};
@@ -85,6 +85,13 @@ pub fn sleepers_are_at_rest()
 /// task that stays neither dozes nor wakes; and while all runnable tasks count, they put none past where one stood.
 pub fn calls_are_stretch()
     ensures { CallsAreStretch }
+{
+    eevdf_queue::laws::pick_is_first();
+}
+
+/// And with a pick before them they are what each law of a stretch here asks.
+pub fn calls_begin_with_pick()
+    ensures { CallsBeginWithPick }
 {
     eevdf_queue::laws::pick_is_first();
 }
