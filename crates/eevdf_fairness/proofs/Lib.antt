@@ -24,6 +24,7 @@ pub mod JoiningDeeds
 pub mod AfterJoin
 pub mod OwnDeeds
 pub mod OneCpu
+pub mod OwnChanges
 pub mod OneCpuSteps
 pub mod Lines
 pub mod Opening

@@ -2,45 +2,27 @@
 use Rattle.std.proofs.Common.{◌≡◌, ℕ, ◌<◌, Bool, true, false, cond, List, [], ◌∷◌, ◌++◌, length, map, set, slice_set, Option, Some, None, refl, sym, ap, ◌∙◌, subst}
 use Rattle.std.specs.Prelude.{◌==◌, Result, Ok, Err}
 use Rattle.std.specs.FinMap.{get}
-use Rattle.eevdf_queue.specs.{declared.entry.Entry.Entry, Sums.Tasks, State.State, State.Contents, Leaving.carried_running, Leaving.leave, Pick.after_pick, Tick.tick, Rebase.rebase}
+use Rattle.std.proofs.{Math.ListN.length-set, lemmas.List.get_or-set_same}
+use Rattle.eevdf_queue.specs.{declared.entry.Entry.Entry, Sums.Tasks, State.State, State.Contents, State.empty_state, Leaving.carried_running, Leaving.leave, Pick.after_pick, Tick.tick, Rebase.rebase}
 use Rattle.eevdf_ops.specs.{declared.deeds.Deed.Deed, declared.deeds.Answer.Answer, Machine.Machine, Machine.queue_at}
 use Rattle.eevdf_ops.specs.declared.deeds.Deed.TheVariants.{Tick, Pick, Yield, Sleep, Wake, Pull, Renice, Begin, End, Set, Rebase}
-use Rattle.eevdf_ops.specs.{Parts.after_leaving, Parts.answer_of_sleep, Parts.answer_of_end, WholeEnd.ending, Transfers.pulled, Whole.whole, Whole.lines_of, Whole.machine_after}
-use Rattle.eevdf_ops.specs.WholePull.{load_of, offer, decision}
-use Rattle.eevdf_ops.proofs.{LocalParts.whole-answer, MapCounts.equal, MachinePlaces.other_queue, Pulling.refusals, WholePlaces.length-whole}
+use Rattle.eevdf_ops.specs.{OneQueue.one_tick, OneQueue.one_pick, OneQueue.one_yield, OneQueue.one_wake, OneQueue.one_renice, OneQueue.one_begin, OneQueue.one_set, OneQueue.one_rebase}
+use Rattle.eevdf_ops.specs.{Parts.after_leaving, Parts.answer_of_sleep, Parts.answer_of_end, WholeEnd.ending, Transfers.pulled, Whole.at_two, Whole.whole, Whole.machine_after}
+use Rattle.eevdf_ops.specs.WholePull.{load_of, offer, decision, with_task}
+use Rattle.eevdf_ops.proofs.{LocalParts.whole-answer, MapCounts.equal, MachinePlaces.other_queue, MachinePlaces.each-set, Pulling.refusals, WholePlaces.length-whole}
 use Rattle.eevdf_fairness.specs.{Turns.Turn, Turns.after_ticks, Turns.after_turn, Leavings.Step, Leavings.Takes, Leavings.Leaves, Leavings.Rebases, Leavings.after_steps, Leavings.HaveSameRunnable}
-use Rattle.eevdf_fairness.specs.OneCpuSteps.{Change, Picks, Ticks, Loses, Lowers, IsNoStep, change_of_sleep, change_of_end, change_of_pull, change_at, and_then, changes_at, after_ticks_of, leavings_last, changes_of}
+use Rattle.eevdf_fairness.specs.OneCpuSteps.{Change, Picks, Ticks, Loses, Lowers, IsNoStep, own_change, change_at, and_then, changes_at, after_ticks_of, leavings_last, changes_of}
 use Rattle.eevdf_fairness.specs.OneCpuSteps.{StepsOfOneCpu, OneCpuStaysFair, OneCpuJoinKeepsFair}
 use Rattle.eevdf_fairness.specs.{Leavings.IsStillFair, Leavings.LeavingsKeepFair, Joining.IsFairAfterJoin, Joining.JoinKeepsFair}
-use Rattle.eevdf_fairness.proofs.{RebasedAlike.rebased_alike, OwnDeeds.is_apart, OwnDeeds.queue_own, LeavingDeeds.alike, LeavingDeeds.of_same, LeavingDeeds.then, LeavingLater.leaves_later, LeavingDeeds.ticked, LeavingDeeds.picked, LeavingDeeds.left}
-use Rattle.eevdf_fairness.proofs.LeavingDeeds.{sleep_leaves, sleep_stays, left_by_sleep, end_leaves, end_stays, left_by_end, pull_leaves}
+use Rattle.eevdf_fairness.proofs.{RebasedAlike.rebased_alike, OwnDeeds.is_apart, LeavingDeeds.alike, LeavingDeeds.of_same, LeavingDeeds.then, LeavingLater.leaves_later, LeavingDeeds.ticked, LeavingDeeds.picked, LeavingDeeds.left}
+use Rattle.eevdf_fairness.proofs.LeavingDeeds.{sleep_leaves, sleep_stays, left_by_sleep, end_leaves, end_stays, left_by_end}
+use Rattle.eevdf_fairness.proofs.OwnChanges.{changed, changed_by, IsOfSteps, MayBeOfSteps, IsTold}
+use Rattle.eevdf_fairness.proofs.OwnChanges.{tick_told, pick_told, yield_told, wake_told, renice_told, begin_told, set_told, rebase_told}
 
--- ---- changes, and what they make of a queue
-abbrev changed : Change → State → State
-changed Picks q = after_pick q
-changed (Ticks ns) q = (tick q ns).1
-changed (Loses task) q = leave q task
-changed Lowers q = (rebase q).1
-changed IsNoStep q = q
-
-abbrev changed_by : Option Change → State → State
-changed_by None q = q
-changed_by (Some change) q = changed change q
-
+-- ---- changes, one after the other
 abbrev all_changed : List Change → State → State
 all_changed [] q = q
 all_changed (change ∷ changes) q = all_changed changes (changed change q)
-
-abbrev IsOfSteps : Change → Type 0
-IsOfSteps Picks = Unit {0}
-IsOfSteps (Ticks ns) = Unit {0}
-IsOfSteps (Loses task) = Unit {0}
-IsOfSteps Lowers = Unit {0}
-IsOfSteps IsNoStep = ⊥
-
-abbrev MayBeOfSteps : Option Change → Type 0
-MayBeOfSteps None = Unit {0}
-MayBeOfSteps (Some change) = IsOfSteps change
 
 abbrev AreOfSteps : List Change → Type 0
 AreOfSteps [] = Unit {0}
@@ -100,83 +82,88 @@ leavings_not_last (IsNoStep ∷ changes) these = absurd these.0
 
 -- ---- what one deed changes
 module _ (homes : List ℕ) (m : Machine) (cpu : ℕ) (h : cpu < length m) where
-  ticks_by : (at ns : ℕ) (b : Bool) → (at == cpu) ≡ b
-      → HaveSameRunnable (queue_at (whole homes (Tick at ns) m).1 cpu) (changed_by (cond b (Some (Ticks ns)) None) (queue_at m cpu))
-  ticks_by at ns true is = of_same _ _ (queue_own homes cpu m (Tick at ns) h (equal at cpu is))
-  ticks_by at ns false is = of_same _ _ (other_queue m at cpu ((tick (queue_at m at) ns).1) (is_apart at cpu is))
-
-  picks_by : (at : ℕ) (b : Bool) → (at == cpu) ≡ b
-      → HaveSameRunnable (queue_at (whole homes (Pick at) m).1 cpu) (changed_by (cond b (Some Picks) None) (queue_at m cpu))
-  picks_by at true is = of_same _ _ (queue_own homes cpu m (Pick at) h (equal at cpu is))
-  picks_by at false is = of_same _ _ (other_queue m at cpu (after_pick (queue_at m at)) (is_apart at cpu is))
-
-  lowers_by : (at : ℕ) (b : Bool) → (at == cpu) ≡ b
-      → HaveSameRunnable (queue_at (whole homes (Rebase at) m).1 cpu) (changed_by (cond b (Some Lowers) None) (queue_at m cpu))
-  lowers_by at true is = of_same _ _ (queue_own homes cpu m (Rebase at) h (equal at cpu is))
-  lowers_by at false is = of_same _ _ (other_queue m at cpu (rebase (queue_at m at)).1 (is_apart at cpu is))
-
-  -- a deed of which no step is made
-  other_by : (at : ℕ) (q : State) (b : Bool) → (at == cpu) ≡ b → MayBeOfSteps (cond b (Some IsNoStep) None)
-      → HaveSameRunnable (queue_at (slice_set m at q) cpu) (changed_by (cond b (Some IsNoStep) None) (queue_at m cpu))
-  other_by at q true is steps = absurd steps
-  other_by at q false is steps = of_same _ _ (other_queue m at cpu q (is_apart at cpu is))
+  -- one on the queue of its CPU alone
+  own_by : (at : ℕ) (change : State → Answer → Option Change) (step : State → Answer × State) → ((q : State) → IsTold (change q (step q).0) q (step q).1)
+      → (b : Bool) → (at == cpu) ≡ b
+      → IsTold (cond b (change (queue_at m cpu) (step (queue_at m at)).0) None) (queue_at m cpu) (queue_at (slice_set m at (step (queue_at m at)).1) cpu)
+  own_by at change step told true is =
+      subst (λ (a : ℕ). IsTold (change (queue_at m cpu) (step (queue_at m a)).0) (queue_at m cpu) (queue_at (slice_set m a (step (queue_at m a)).1) cpu))
+      (sym (equal at cpu is)) (λ steps. then _ _ _ (of_same _ _ (get_or-set_same m cpu _ empty_state h)) (told (queue_at m cpu) steps))
+  own_by at change step told false is = λ steps. of_same _ _ (other_queue m at cpu _ (is_apart at cpu is))
 
   -- ---- sleeps and ends
-  sleep_changes : (q : State) (task : ℕ) (o : Option Contents) → carried_running q task ≡ o → after_leaving o q ≡ changed_by (change_of_sleep task (answer_of_sleep o)) q
-  sleep_changes q task None is = refl
-  sleep_changes q task (Some p) is = left_by_sleep q task p.lag (Some p) is refl
+  sleep_changes : (q : State) (at task : ℕ) (o : Option Contents) → carried_running q task ≡ o
+      → after_leaving o q ≡ changed_by (own_change q (Sleep at task) (answer_of_sleep o)) q
+  sleep_changes q at task None is = refl
+  sleep_changes q at task (Some p) is = left_by_sleep q task p.lag (Some p) is refl
 
-  end_changes : (q : State) (task : ℕ) (o : Option Contents) → ending q task ≡ o → after_leaving o q ≡ changed_by (change_of_end task (answer_of_end o)) q
-  end_changes q task None is = refl
-  end_changes q task (Some p) is = left_by_end q task (Some p) is refl
+  end_changes : (q : State) (at task : ℕ) (o : Option Contents) → ending q task ≡ o
+      → after_leaving o q ≡ changed_by (own_change q (End at task) (answer_of_end o)) q
+  end_changes q at task None is = refl
+  end_changes q at task (Some p) is = left_by_end q task (Some p) is refl
 
   -- a deed by which a task leaves its CPU
   leaves_by : (deed : ℕ → Deed) (change : Answer → Option Change) (answer : Option Contents → Answer) (o : Option Contents) (at : ℕ) (b : Bool) → (at == cpu) ≡ b
       → (whole homes (deed cpu) m).0 ≡ answer o → HaveSameRunnable (queue_at (whole homes (deed cpu) m).1 cpu) (after_leaving o (queue_at m cpu))
       → after_leaving o (queue_at m cpu) ≡ changed_by (change (answer o)) (queue_at m cpu)
       → ((cpu ≡ at → ⊥) → HaveSameRunnable (queue_at (whole homes (deed at) m).1 cpu) (queue_at m cpu))
-      → HaveSameRunnable (queue_at (whole homes (deed at) m).1 cpu) (changed_by (cond b (change (whole homes (deed at) m).0) None) (queue_at m cpu))
+      → IsTold (cond b (change (whole homes (deed at) m).0) None) (queue_at m cpu) (queue_at (whole homes (deed at) m).1 cpu)
   leaves_by deed change answer o at true is answers leaves changes stays =
-      subst (λ (a : ℕ). HaveSameRunnable (queue_at (whole homes (deed a) m).1 cpu) (changed_by (change (whole homes (deed a) m).0) (queue_at m cpu)))
-      (sym (equal at cpu is))
-      (then _ _ _ leaves (of_same _ _ (changes ∙ ap (λ (a : Answer). changed_by (change a) (queue_at m cpu)) (sym answers))))
-  leaves_by deed change answer o at false is answers leaves changes stays = stays (is_apart at cpu is)
+      subst (λ (a : ℕ). IsTold (change (whole homes (deed a) m).0) (queue_at m cpu) (queue_at (whole homes (deed a) m).1 cpu)) (sym (equal at cpu is))
+      (λ steps. then _ _ _ leaves (of_same _ _ (changes ∙ ap (λ (a : Answer). changed_by (change a) (queue_at m cpu)) (sym answers))))
+  leaves_by deed change answer o at false is answers leaves changes stays = λ steps. stays (is_apart at cpu is)
 
   -- ---- pulls
-  pull_changes : (q r : State) (d : Result Contents Answer) → decision q (load_of r) (offer r) ≡ d → (pulled d q r).1.1 ≡ changed_by (change_of_pull (pulled d q r).0) r
-  pull_changes q r (Err why) is =
-      sym (ap (λ (o : Option Change). changed_by o r) (refusals (λ (a : Answer). change_of_pull a ≡ None) q (load_of r) (offer r) why is refl refl refl))
-  pull_changes q r (Ok p) is = refl
+  -- what is refused changes neither queue
+  both_stay : (at source : ℕ) → queue_at (set (set m at (queue_at m at)) source (queue_at m source)) cpu ≡ queue_at m cpu
+  both_stay at source =
+      each-set (λ i q. q ≡ queue_at m i) (set m at (queue_at m at)) source (queue_at m source) refl
+      (each-set (λ i q. q ≡ queue_at m i) m at (queue_at m at) refl (λ i. refl)) cpu
 
-  pulls_by : (at source : ℕ) (b c : Bool) → (at == cpu) ≡ b → (source == cpu) ≡ c
-      → MayBeOfSteps (cond b (Some IsNoStep) (cond c (change_of_pull (whole homes (Pull at source) m).0) None))
-      → HaveSameRunnable (queue_at (whole homes (Pull at source) m).1 cpu)
-      (changed_by (cond b (Some IsNoStep) (cond c (change_of_pull (whole homes (Pull at source) m).0) None)) (queue_at m cpu))
-  pulls_by at source true c is at_source steps = absurd steps
-  pulls_by at source false true is at_source steps =
-      subst (λ (s : ℕ). HaveSameRunnable (queue_at (whole homes (Pull at s) m).1 cpu) (changed_by (change_of_pull (whole homes (Pull at s) m).0) (queue_at m cpu)))
-      (sym (equal source cpu at_source))
-      (of_same _ _ (pull_leaves homes m at cpu h ∙ pull_changes (queue_at m at) (queue_at m cpu) (decision (queue_at m at) (load_of (queue_at m cpu)) (offer (queue_at m cpu))) refl))
-  pulls_by at source false false is at_source steps =
-      of_same _ _ (other_queue (set m at _) source cpu _ (is_apart source cpu at_source) ∙ other_queue m at cpu _ (is_apart at cpu is))
+  taken_by : (at source : ℕ) (q : State) (p : Contents) (b c : Bool) → (at == cpu) ≡ b → (source == cpu) ≡ c
+      → IsTold (cond b (Some IsNoStep) (cond c (Some (Loses p.task)) None)) (queue_at m cpu)
+      (queue_at (set (set m at q) source (leave (queue_at m source) p.task)) cpu)
+  taken_by at source q p true c is at_source = λ steps. absurd steps
+  taken_by at source q p false true is at_source =
+      subst (λ (i : ℕ). IsTold (Some (Loses p.task)) (queue_at m cpu) (queue_at (set (set m at q) i (leave (queue_at m i) p.task)) cpu)) (sym (equal source cpu at_source))
+      (λ steps. of_same _ _ (get_or-set_same (set m at q) cpu _ empty_state (subst (λ (n : ℕ). cpu < n) (sym (length-set m at q)) h)))
+  taken_by at source q p false false is at_source = λ steps.
+      of_same _ _ (other_queue (set m at q) source cpu _ (is_apart source cpu at_source) ∙ other_queue m at cpu q (is_apart at cpu is))
 
-  one_change : (d : Deed) → MayBeOfSteps (change_at cpu d (whole homes d m).0)
-      → HaveSameRunnable (queue_at (whole homes d m).1 cpu) (changed_by (change_at cpu d (whole homes d m).0) (queue_at m cpu))
-  one_change (Tick at ns) steps = ticks_by at ns (at == cpu) refl
-  one_change (Pick at) steps = picks_by at (at == cpu) refl
-  one_change (Yield at) steps = other_by at _ (at == cpu) refl steps
-  one_change (Sleep at task) steps =
-      leaves_by (λ (a : ℕ). Sleep a task) (change_of_sleep task) answer_of_sleep (carried_running (queue_at m cpu) task) at (at == cpu) refl
-      (whole-answer homes (Sleep cpu task) m) (sleep_leaves homes m cpu task h) (sleep_changes (queue_at m cpu) task _ refl) (sleep_stays homes m at task cpu)
-  one_change (Wake at task sender) steps = other_by at _ (at == cpu) refl steps
-  one_change (Pull at source) steps = pulls_by at source (at == cpu) (source == cpu) refl refl steps
-  one_change (Renice at task nice) steps = other_by at _ (at == cpu) refl steps
-  one_change (Begin at task nice slice) steps = other_by at _ (at == cpu) refl steps
-  one_change (End at task) steps =
-      leaves_by (λ (a : ℕ). End a task) (change_of_end task) answer_of_end (ending (queue_at m cpu) task) at (at == cpu) refl
-      (whole-answer homes (End cpu task) m) (end_leaves homes m cpu task h) (end_changes (queue_at m cpu) task _ refl) (end_stays homes m at task cpu)
-  one_change (Set at task nice slice) steps = other_by at _ (at == cpu) refl steps
-  one_change (Rebase at) steps = lowers_by at (at == cpu) refl
+  refused_by : (r : State) (b : Bool) → HaveSameRunnable r (queue_at m cpu) → IsTold (cond {A = Option Change} b None None) (queue_at m cpu) r
+  refused_by r true same steps = same
+  refused_by r false same steps = same
+
+  pull_by : (at source : ℕ) (d : Result Contents Answer) → decision (queue_at m at) (load_of (queue_at m source)) (offer (queue_at m source)) ≡ d
+      → IsTold (change_at cpu (queue_at m cpu) (Pull at source) (pulled d (queue_at m at) (queue_at m source)).0) (queue_at m cpu)
+      (queue_at (at_two m at source (pulled d (queue_at m at) (queue_at m source))).1 cpu)
+  pull_by at source (Err why) is =
+      let r : State = queue_at (set (set m at (queue_at m at)) source (queue_at m source)) cpu in
+      let same : HaveSameRunnable r (queue_at m cpu) = of_same _ _ (both_stay at source) in
+      refusals (λ (a : Answer). IsTold (change_at cpu (queue_at m cpu) (Pull at source) a) (queue_at m cpu) r) (queue_at m at) (load_of (queue_at m source)) (offer (queue_at m source))
+      why is (refused_by r (at == cpu) same) (refused_by r (at == cpu) same) (refused_by r (at == cpu) same)
+  pull_by at source (Ok p) is = taken_by at source (with_task (queue_at m at) p) p (at == cpu) (source == cpu) refl refl
+
+  one_change : (d : Deed) → IsTold (change_at cpu (queue_at m cpu) d (whole homes d m).0) (queue_at m cpu) (queue_at (whole homes d m).1 cpu)
+  one_change (Tick at ns) = own_by at (λ q a. own_change q (Tick at ns) a) (λ q. one_tick q ns) (λ q. tick_told q at ns) (at == cpu) refl
+  one_change (Pick at) = own_by at (λ q a. own_change q (Pick at) a) one_pick (λ q. pick_told q at) (at == cpu) refl
+  one_change (Yield at) = own_by at (λ q a. own_change q (Yield at) a) one_yield (λ q. yield_told q at) (at == cpu) refl
+  one_change (Sleep at task) =
+      leaves_by (λ (a : ℕ). Sleep a task) (own_change (queue_at m cpu) (Sleep at task)) answer_of_sleep (carried_running (queue_at m cpu) task) at (at == cpu) refl
+      (whole-answer homes (Sleep cpu task) m) (sleep_leaves homes m cpu task h) (sleep_changes (queue_at m cpu) at task _ refl) (sleep_stays homes m at task cpu)
+  one_change (Wake at task sender) =
+      own_by at (λ q a. own_change q (Wake at task sender) a) (λ q. one_wake q task) (λ q. wake_told q at task sender) (at == cpu) refl
+  one_change (Pull at source) = pull_by at source (decision (queue_at m at) (load_of (queue_at m source)) (offer (queue_at m source))) refl
+  one_change (Renice at task nice) =
+      own_by at (λ q a. own_change q (Renice at task nice) a) (λ q. one_renice q task nice) (λ q. renice_told q at task nice) (at == cpu) refl
+  one_change (Begin at task nice slice) =
+      own_by at (λ q a. own_change q (Begin at task nice slice) a) (λ q. one_begin q task nice slice) (λ q. begin_told q at task nice slice) (at == cpu) refl
+  one_change (End at task) =
+      leaves_by (λ (a : ℕ). End a task) (own_change (queue_at m cpu) (End at task)) answer_of_end (ending (queue_at m cpu) task) at (at == cpu) refl
+      (whole-answer homes (End cpu task) m) (end_leaves homes m cpu task h) (end_changes (queue_at m cpu) at task _ refl) (end_stays homes m at task cpu)
+  one_change (Set at task nice slice) =
+      own_by at (λ q a. own_change q (Set at task nice slice) a) (λ q. one_set q task nice slice) (λ q. set_told q at task nice slice) (at == cpu) refl
+  one_change (Rebase at) = own_by at (λ q a. own_change q (Rebase at) a) one_rebase (λ q. rebase_told q at) (at == cpu) refl
 
 -- ---- all deeds
 first_of : (o : Option Change) (rest : List Change) → AreOfSteps (and_then o rest) → MayBeOfSteps o
@@ -192,12 +179,11 @@ and_then_changed None rest q = refl
 and_then_changed (Some change) rest q = refl
 
 as_changed : (homes : List ℕ) (m : Machine) (cpu : ℕ) (deeds : List Deed) (q : State) → cpu < length m → HaveSameRunnable (queue_at m cpu) q
-    → AreOfSteps (changes_at cpu (lines_of homes m deeds))
-    → HaveSameRunnable (queue_at (machine_after homes m deeds) cpu) (all_changed (changes_at cpu (lines_of homes m deeds)) q)
+    → AreOfSteps (changes_at homes cpu m deeds) → HaveSameRunnable (queue_at (machine_after homes m deeds) cpu) (all_changed (changes_at homes cpu m deeds) q)
 as_changed homes m cpu [] q h same these = same
 as_changed homes m cpu (d ∷ ds) q h same these =
-    let change : Option Change = change_at cpu d (whole homes d m).0 in
-    let rest : List Change = changes_at cpu (lines_of homes (whole homes d m).1 ds) in
+    let change : Option Change = change_at cpu (queue_at m cpu) d (whole homes d m).0 in
+    let rest : List Change = changes_at homes cpu (whole homes d m).1 ds in
     subst (HaveSameRunnable (queue_at (machine_after homes (whole homes d m).1 ds) cpu)) (and_then_changed change rest q)
     (as_changed homes (whole homes d m).1 cpu ds (changed_by change q) (subst (λ (n : ℕ). cpu < n) (sym (length-whole homes d m)) h)
     (then _ _ _ (one_change homes m cpu h d (first_of change rest these)) (changed_by_alike change (queue_at m cpu) q same))
@@ -226,7 +212,7 @@ are_of_steps (Rebases ∷ steps) = (tt, are_of_steps steps)
 
 pub steps_of_one_cpu : StepsOfOneCpu
 steps_of_one_cpu homes m cpu deeds steps h only =
-    let changes : List Change = changes_at cpu (lines_of homes m deeds) in
+    let changes : List Change = changes_at homes cpu m deeds in
     let these : AreOfSteps changes = leavings_not_last changes (subst AreOfSteps (sym only) (are_of_steps steps)) in
     then _ (all_changed changes (queue_at m cpu)) _ (as_changed homes m cpu deeds (queue_at m cpu) h (alike (queue_at m cpu)) these)
     (then _ (all_changed (leavings_last changes) (queue_at m cpu)) _ (leavings_last_alike changes (queue_at m cpu))

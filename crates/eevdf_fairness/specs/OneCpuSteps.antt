@@ -1,16 +1,18 @@
 -- Turns, leavings and rebases of one CPU of a machine, among whatever the other CPUs do.
-use Rattle.std.specs.Prelude.{◌≡◌, ℕ, ◌<◌, ◌==◌, if◌then◌else◌, ℤ, List, [], ◌∷◌, ◌++◌, length, map, Option, Some, None}
-use Rattle.std.specs.FinMap.{get}
-use Rattle.eevdf_queue.specs.{declared.entry.Entry.Entry, declared.sleeper.Sleeper.Sleeper}
-use Rattle.eevdf_ops.specs.{declared.deeds.Deed.Deed, declared.deeds.Line.Line, declared.deeds.Answer.Answer}
+use Rattle.std.specs.Prelude.{◌≡◌, ℕ, zero, ◌<◌, ◌==◌, if◌then◌else◌, ℤ, pos, List, [], ◌∷◌, ◌++◌, length, map, Option, Some, None}
+use Rattle.std.specs.FinMap.{get, contains_key}
+use Rattle.eevdf_queue.specs.{State.State, declared.entry.Entry.Entry, declared.sleeper.Sleeper.Sleeper}
+use Rattle.eevdf_ops.specs.{declared.deeds.Deed.Deed, declared.deeds.Answer.Answer}
 use Rattle.eevdf_ops.specs.declared.deeds.Deed.TheVariants.{Tick, Pick, Sleep, Pull, End, Rebase}
-use Rattle.eevdf_ops.specs.declared.deeds.Answer.TheVariants.{Slept, Pulled, Ended}
-use Rattle.eevdf_ops.specs.{Machine.Machine, Machine.queue_at, Parts.decider, Whole.lines_of, Whole.machine_after}
+use Rattle.eevdf_ops.specs.declared.deeds.Deed.TheVariants as deed
+use Rattle.eevdf_ops.specs.declared.deeds.Answer.TheVariants.{Charged, Picked, Slept, Ended, Rebased, Yielded, Woken, Reniced, Pulled}
+use Rattle.eevdf_ops.specs.declared.deeds.Answer.TheVariants as answer
+use Rattle.eevdf_ops.specs.{Machine.Machine, Machine.queue_at, Parts.decider, Whole.whole, Whole.machine_after}
 use Rattle.eevdf_fairness.specs.{Turns.IsFresh, Joining.Joins, Joining.IsFairAfterJoin}
 use Rattle.eevdf_fairness.specs.Leavings.{Step, Takes, Leaves, Rebases, after_steps, HaveNoLongerTurns, HaveSameRunnable, IsStillFair}
 
--- what a deed does to the runnable tasks of a CPU and to who runs there; a yield, a wake, a renice, a begin, a set and a pull to there are
--- no steps
+-- what a deed does to the runnable tasks of a CPU and to who runs there. No step is what changes them otherwise: a yield, a wake, a renice,
+-- a pull to there, and a set of a runnable task, where they are done
 pub data Change : Type 0 where
   Picks : Change
   Ticks : ℕ → Change
@@ -18,37 +20,37 @@ pub data Change : Type 0 where
   Lowers : Change
   IsNoStep : Change
 
--- by a sleep there, by an end there, and by a pull from there, a task leaves where it is done
-abbrev pub change_of_sleep : ℕ → Answer → Option Change
-change_of_sleep task (Slept lag) = Some (Loses task)
-change_of_sleep task answer = None
+-- by a deed of the CPU itself with its answer, and the queue before it. Any other answer, as of a deed that is refused or finds nothing,
+-- leaves the runnable tasks, and who runs, as they are; so do a rebase by 0, a set of a task that sleeps, and a begin
+abbrev pub own_change : State → Deed → Answer → Option Change
+own_change q (Tick at ns) (Charged task resched) = Some (Ticks ns)
+own_change q (Pick at) (Picked task) = Some Picks
+own_change q (Sleep at task) (Slept lag) = Some (Loses task)
+own_change q (End at task) Ended = Some (Loses task)
+own_change q (Rebase at) (Rebased (pos zero)) = None
+own_change q (Rebase at) (Rebased by) = Some Lowers
+own_change q (deed.Set at task nice slice) answer.Set = if contains_key q.runnable task then Some IsNoStep else None
+own_change q deed Yielded = Some IsNoStep
+own_change q deed Woken = Some IsNoStep
+own_change q deed Reniced = Some IsNoStep
+own_change q deed (Pulled task) = Some IsNoStep
+own_change q deed answer = None
 
-abbrev pub change_of_end : ℕ → Answer → Option Change
-change_of_end task Ended = Some (Loses task)
-change_of_end task answer = None
-
-abbrev pub change_of_pull : Answer → Option Change
-change_of_pull (Pulled task) = Some (Loses task)
-change_of_pull answer = None
-
--- none by a deed of another CPU, but for such a pull
-abbrev pub change_at : ℕ → Deed → Answer → Option Change
-change_at cpu (Tick at ns) answer = if at == cpu then Some (Ticks ns) else None
-change_at cpu (Pick at) answer = if at == cpu then Some Picks else None
-change_at cpu (Rebase at) answer = if at == cpu then Some Lowers else None
-change_at cpu (Sleep at task) answer = if at == cpu then change_of_sleep task answer else None
-change_at cpu (End at task) answer = if at == cpu then change_of_end task answer else None
-change_at cpu (Pull at source) answer = if at == cpu then Some IsNoStep else (if source == cpu then change_of_pull answer else None)
-change_at cpu deed answer = if decider deed == cpu then Some IsNoStep else None
+-- by a deed of any CPU: a task leaves where another CPU pulls it from there
+abbrev pub change_at : ℕ → State → Deed → Answer → Option Change
+change_at cpu q (Pull at source) (Pulled task) =
+    if at == cpu then Some IsNoStep else (if source == cpu then Some (Loses task) else None)
+change_at cpu q deed answer = if decider deed == cpu then own_change q deed answer else None
 
 abbrev pub and_then : Option Change → List Change → List Change
 and_then None changes = changes
 and_then (Some change) changes = change ∷ changes
 
--- of lines, in order
-abbrev pub changes_at : ℕ → List Line → List Change
-changes_at cpu [] = []
-changes_at cpu (line ∷ lines) = and_then (change_at cpu line.deed line.answer) (changes_at cpu lines)
+-- of deeds, in order
+abbrev pub changes_at : List ℕ → ℕ → Machine → List Deed → List Change
+changes_at homes cpu m [] = []
+changes_at homes cpu m (d ∷ ds) =
+    and_then (change_at cpu (queue_at m cpu) d (whole homes d m).0) (changes_at homes cpu (whole homes d m).1 ds)
 
 -- a task that leaves in the middle of a turn may as well leave after it: a leaving counts as after the ticks that follow it. A rebase ends
 -- a turn: the next tick is one of the next turn
@@ -70,7 +72,7 @@ changes_of (Rebases ∷ steps) = Lowers ∷ changes_of steps
 
 -- deeds of all CPUs, of which those that change the runnable tasks of this CPU, or who runs there, are these steps
 abbrev pub OnlyStepsChange : List ℕ → ℕ → Machine → List Deed → List Step → Type 0
-OnlyStepsChange homes cpu m deeds steps = leavings_last (changes_at cpu (lines_of homes m deeds)) ≡ changes_of steps
+OnlyStepsChange homes cpu m deeds steps = leavings_last (changes_at homes cpu m deeds) ≡ changes_of steps
 
 -- they leave these tasks, and who runs, as the steps do
 abbrev pub StepsOfOneCpu : Type 0

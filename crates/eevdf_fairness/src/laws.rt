@@ -180,8 +180,8 @@ pub fn one_cpu_is_fair_anywhere()
 }
 
 /// And deeds of all CPUs, of which those that change one CPU's runnable tasks or who runs there are its turns, sleeps of who runs there,
-/// pulls from there and rebases, leave both as these steps do by themselves. A task that leaves in the middle of a turn counts as one that
-/// leaves after it.
+/// pulls from there and rebases, leave both as these steps do by themselves. What is refused, finds nothing or changes sleeping tasks alone
+/// may stand anywhere among them, whoever decides it. A task that leaves in the middle of a turn counts as one that leaves after it.
 pub fn steps_of_one_cpu()
     ensures { StepsOfOneCpu }
 {}

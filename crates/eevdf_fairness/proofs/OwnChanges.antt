@@ -1,0 +1,191 @@
+-- What a CPU's own deed on its queue alone changes of the runnable tasks and of who runs, by its answer.
+use Rattle.std.proofs.Common.{◌≡◌, ℕ, suc, zero, Bool, true, false, cond, Option, Some, None, refl, sym, ap, ◌∙◌, subst}
+use Rattle.std.specs.Prelude.{ℤ, pos, negsuc, is_some}
+use Rattle.std.specs.FinMap.{get, contains_key}
+use Rattle.eevdf_queue.specs.{declared.entry.Entry.Entry, declared.sleeper.Sleeper.Sleeper, State.State, Moves.is_entry_in_range, Leaving.leave, Placing.put, Rebase.lowered_tasks}
+use Rattle.eevdf_weight.specs.Limits.{is_in_range}
+use Rattle.eevdf_queue.specs.{declared.answers.TickAnswer.TickAnswer, declared.answers.ReniceAnswer.ReniceAnswer, declared.answers.SetAnswer.SetAnswer}
+use Rattle.eevdf_queue.specs.{declared.answers.YieldAnswer.YieldAnswer, declared.answers.WakeAnswer.WakeAnswer}
+use Rattle.eevdf_queue.specs.declared.answers.TickAnswer.TheVariants as ticked
+use Rattle.eevdf_queue.specs.declared.answers.ReniceAnswer.TheVariants as reniced
+use Rattle.eevdf_queue.specs.declared.answers.SetAnswer.TheVariants as set_to
+use Rattle.eevdf_queue.specs.declared.answers.YieldAnswer.TheVariants as yields
+use Rattle.eevdf_queue.specs.declared.answers.WakeAnswer.TheVariants as wakes
+use Rattle.eevdf_queue.specs.{Pick.pick_of, Pick.picked_by, Pick.after_pick, Rebase.rebase, Attributes.begin, Attributes.begin_sleeper, Attributes.set, Attributes.set_reniced, Attributes.set_sleeper}
+use Rattle.eevdf_queue.specs.{Tick.tick, Tick.tick_running, Tick.tick_entry, Tick.is_used_up, Tick.charged, Yield.yield_now, Yield.yield_running, Yield.yield_entry, Yield.yielded}
+use Rattle.eevdf_queue.specs.{Wake.wake, Wake.wake_sleeper, Wake.wake_to, Renice.renice, Renice.renice_entry, Renice.renice_to}
+use Rattle.eevdf_queue.specs.Renice.{reniced as joins_again}
+use Rattle.eevdf_ops.specs.declared.deeds.Answer.{Answer}
+use Rattle.eevdf_ops.specs.declared.deeds.Answer.TheVariants.{Rebased}
+use Rattle.eevdf_ops.specs.declared.deeds.Deed.TheVariants as deed
+use Rattle.eevdf_ops.specs.OneQueue.{answer_of_tick, answer_of_pick, answer_of_yield, answer_of_wake, answer_of_renice, answer_of_set, answer_of_begin}
+use Rattle.eevdf_fairness.specs.Leavings.{HaveSameRunnable}
+use Rattle.eevdf_fairness.specs.OneCpuSteps.{Change, Picks, Ticks, Loses, Lowers, IsNoStep, own_change}
+use Rattle.eevdf_fairness.proofs.{Falling.rebase_runnable, Falling.rebase_running, LoweredAgain.tasks_same, LeavingDeeds.alike, LeavingDeeds.of_same}
+
+-- ---- changes, and what they make of a queue
+abbrev pub changed : Change → State → State
+changed Picks q = after_pick q
+changed (Ticks ns) q = (tick q ns).1
+changed (Loses task) q = leave q task
+changed Lowers q = (rebase q).1
+changed IsNoStep q = q
+
+abbrev pub changed_by : Option Change → State → State
+changed_by None q = q
+changed_by (Some change) q = changed change q
+
+abbrev pub IsOfSteps : Change → Type 0
+IsOfSteps Picks = Unit {0}
+IsOfSteps (Ticks ns) = Unit {0}
+IsOfSteps (Loses task) = Unit {0}
+IsOfSteps Lowers = Unit {0}
+IsOfSteps IsNoStep = ⊥
+
+abbrev pub MayBeOfSteps : Option Change → Type 0
+MayBeOfSteps None = Unit {0}
+MayBeOfSteps (Some change) = IsOfSteps change
+
+-- a queue that was `q` is `r`, and of these changes it tells the one that it went by
+abbrev pub IsTold : Option Change → State → State → Type 0
+IsTold change q r = MayBeOfSteps change → HaveSameRunnable r (changed_by change q)
+
+by_either : {X : Type 0} (P : X → Type 0) (b : Bool) (x y : X) → P x → P y → P (cond b x y)
+by_either P true x y h k = h
+by_either P false x y h k = k
+
+-- ---- a tick that charges nobody
+abbrev IsRefused : TickAnswer → Type 0
+IsRefused (ticked.Charged task resched) = ⊥
+IsRefused ticked.Idle = Unit {0}
+IsRefused ticked.Range = Unit {0}
+
+abbrev StaysRefused : State → TickAnswer × State → Type 0
+StaysRefused q p = IsRefused p.0 → p.1 ≡ q
+
+tick_of : (q : State) (t ns : ℕ) (o : Option Entry) → StaysRefused q (tick_entry q t o ns)
+tick_of q t ns None = λ refused. refl
+tick_of q t ns (Some e) = by_either (StaysRefused q) (is_entry_in_range (charged e ns)) _ (ticked.Range, q) (λ refused. absurd refused) (λ refused. refl)
+
+tick_stays : (q : State) (ns : ℕ) (o : Option ℕ) → StaysRefused q (tick_running q o ns)
+tick_stays q ns None = λ refused. refl
+tick_stays q ns (Some t) = tick_of q t ns (get q.runnable t)
+
+pub tick_told : (q : State) (at ns : ℕ) → IsTold (own_change q (deed.Tick at ns) (answer_of_tick (tick q ns).0)) q (tick q ns).1
+tick_told q at ns = by (tick q ns).0 refl
+  where
+    by : (a : TickAnswer) → (tick q ns).0 ≡ a → IsTold (own_change q (deed.Tick at ns) (answer_of_tick a)) q (tick q ns).1
+    by (ticked.Charged task resched) is = λ steps. alike (tick q ns).1
+    by ticked.Idle is = λ steps. of_same _ _ (tick_stays q ns q.running (subst IsRefused (sym is) tt))
+    by ticked.Range is = λ steps. of_same _ _ (tick_stays q ns q.running (subst IsRefused (sym is) tt))
+
+-- ---- a pick of nobody
+pub pick_told : (q : State) (at : ℕ) → IsTold (own_change q (deed.Pick at) (answer_of_pick (pick_of q.runnable))) q (after_pick q)
+pick_told q at = by (pick_of q.runnable) refl
+  where
+    by : (o : Option ℕ) → pick_of q.runnable ≡ o → IsTold (own_change q (deed.Pick at) (answer_of_pick o)) q (after_pick q)
+    by None is = λ steps. of_same _ _ (ap (picked_by q) is)
+    by (Some t) is = λ steps. alike (after_pick q)
+
+-- ---- a rebase by 0
+pub rebase_told : (q : State) (at : ℕ) → IsTold (own_change q (deed.Rebase at) (Rebased (rebase q).0)) q (rebase q).1
+rebase_told q at = by (rebase q).0 refl
+  where
+    by : (z : ℤ) → (rebase q).0 ≡ z → IsTold (own_change q (deed.Rebase at) (Rebased z)) q (rebase q).1
+    by (pos zero) is = λ steps. record {
+      runnable = rebase_runnable q ∙ ap (λ (z : ℤ). lowered_tasks z q.runnable) is ∙ tasks_same q.runnable;
+      running = rebase_running q;
+    }
+    by (pos (suc n)) is = λ steps. alike (rebase q).1
+    by (negsuc n) is = λ steps. alike (rebase q).1
+
+-- ---- a yield
+module _ (q : State) (at : ℕ) where
+  abbrev Yields : YieldAnswer × State → Type 0
+  Yields p = IsTold (own_change q (deed.Yield at) (answer_of_yield p.0)) q p.1
+
+  yield_of : (t : ℕ) (o : Option Entry) → Yields (yield_entry q t o)
+  yield_of t None = λ steps. alike q
+  yield_of t (Some e) = by_either Yields (is_in_range (yielded e).d) _ (yields.Range, q) (λ steps. absurd steps) (λ steps. alike q)
+
+  yield_by : (o : Option ℕ) → Yields (yield_running q o)
+  yield_by None = λ steps. alike q
+  yield_by (Some t) = yield_of t (get q.runnable t)
+
+  pub yield_told : IsTold (own_change q (deed.Yield at) (answer_of_yield (yield_now q).0)) q (yield_now q).1
+  yield_told = yield_by q.running
+
+-- ---- a wake
+module _ (q : State) (at task sender : ℕ) where
+  abbrev Wakes : WakeAnswer × State → Type 0
+  Wakes p = IsTold (own_change q (deed.Wake at task sender) (answer_of_wake p.0)) q p.1
+
+  wake_by : (o : Option State) → Wakes (wake_to q task o)
+  wake_by None = λ steps. alike q
+  wake_by (Some placed) = λ steps. absurd steps
+
+  wake_of : (o : Option Sleeper) → Wakes (wake_sleeper q task o)
+  wake_of None = λ steps. alike q
+  wake_of (Some s) = wake_by (put q task s)
+
+  pub wake_told : IsTold (own_change q (deed.Wake at task sender) (answer_of_wake (wake q task).0)) q (wake q task).1
+  wake_told = wake_of (get q.asleep task)
+
+-- ---- a renice
+module _ (q : State) (at task : ℕ) (nice : ℤ) where
+  abbrev Renices : ReniceAnswer × State → Type 0
+  Renices p = IsTold (own_change q (deed.Renice at task nice) (answer_of_renice p.0)) q p.1
+
+  renice_by : (o : Option State) → Renices (renice_to q o)
+  renice_by None = λ steps. alike q
+  renice_by (Some placed) = λ steps. absurd steps
+
+  renice_of : (o : Option Entry) → Renices (renice_entry q task nice o)
+  renice_of None = λ steps. alike q
+  renice_of (Some e) = renice_by (put (leave q task) task (joins_again q e nice))
+
+  pub renice_told : IsTold (own_change q (deed.Renice at task nice) (answer_of_renice (renice q task nice).0)) q (renice q task nice).1
+  renice_told = renice_of (get q.runnable task)
+
+-- ---- a set
+absent_not_here : (q : State) (task : ℕ) (nice : ℤ) (o : Option Entry) → is_some o ≡ false → (renice_entry q task nice o).0 ≡ reniced.NotHere
+absent_not_here q task nice None absent = refl
+absent_not_here q task nice (Some e) absent = cc
+
+module _ (q : State) (at task : ℕ) (nice : ℤ) (slice : ℕ) where
+  abbrev Sets : SetAnswer × State → Type 0
+  Sets p = IsTold (own_change q (deed.Set at task nice slice) (answer_of_set p.0)) q p.1
+
+  -- a task that sleeps stays asleep
+  asleep_set : (o : Option Sleeper) (b : Bool) → contains_key q.runnable task ≡ b
+      → Sets (set_sleeper q task nice slice o)
+  asleep_set None b is = λ steps. alike q
+  asleep_set (Some s) true is = λ steps. absurd (subst (λ (b : Bool). MayBeOfSteps (cond b (Some IsNoStep) None)) is steps)
+  asleep_set (Some s) false is = λ steps. record {
+    runnable = ap (λ (b : Bool). (changed_by (cond b (Some IsNoStep) None) q).runnable) (sym is);
+    running = ap (λ (b : Bool). (changed_by (cond b (Some IsNoStep) None) q).running) (sym is);
+  }
+
+  runnable_set : (r : State) (b : Bool) → contains_key q.runnable task ≡ b → (renice q task nice).0 ≡ reniced.Reniced → MayBeOfSteps (cond b (Some IsNoStep) None)
+      → HaveSameRunnable r (changed_by (cond b (Some IsNoStep) None) q)
+  runnable_set r true here done steps = absurd steps
+  runnable_set r false here done steps =
+      let none : (renice q task nice).0 ≡ reniced.NotHere = absent_not_here q task nice (get q.runnable task) here in
+      cc
+
+  set_by : (a : ReniceAnswer) (r : State) → (renice q task nice).0 ≡ a → Sets (set_reniced q task nice slice a r)
+  set_by reniced.Reniced r is = λ steps. runnable_set _ (contains_key q.runnable task) refl is steps
+  set_by reniced.NotHere r is = asleep_set (get q.asleep task) (contains_key q.runnable task) refl
+  set_by reniced.Range r is = λ steps. alike q
+
+  pub set_told : IsTold (own_change q (deed.Set at task nice slice) (answer_of_set (set q task nice slice).0)) q (set q task nice slice).1
+  set_told = set_by (renice q task nice).0 (renice q task nice).1 refl
+
+-- ---- a begin
+pub begin_told : (q : State) (at task : ℕ) (nice : ℤ) (slice : ℕ)
+    → IsTold (own_change q (deed.Begin at task nice slice) (answer_of_begin (contains_key q.asleep task))) q (begin q task nice slice)
+begin_told q at task nice slice = by (get q.asleep task)
+  where
+    by : (o : Option Sleeper) → IsTold (own_change q (deed.Begin at task nice slice) (answer_of_begin (is_some o))) q (begin_sleeper q task nice slice o)
+    by None = λ steps. alike q
+    by (Some s) = λ steps. record { runnable = refl; running = refl }
