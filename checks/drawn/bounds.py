@@ -156,3 +156,14 @@ def after_join(before, seen, longest, number, task):
             yield "late after a join", seen.moment - seen.weight * entry.d, most
             if entry.d <= entry.v + entry.request:
                 yield "behind after a join", seen.moment - seen.weight * entry.v, seen.weight * entry.request + most
+
+
+def beyond(seen, longest, late, joined):
+    """No request is late by more than turns of the others and what the joins add, but for those of tasks that have joined themselves; and
+    none of these tasks is behind that hasn't yielded."""
+    most = seen.others(longest) + late
+    for task, entry in seen.entries.items():
+        if task not in joined:
+            yield "late after joins", seen.moment - seen.weight * entry.d, most
+            if entry.d <= entry.v + entry.request:
+                yield "behind after joins", seen.moment - seen.weight * entry.v, seen.weight * entry.request + most

@@ -16,7 +16,8 @@ from pathlib import Path
 
 sys.dont_write_bytecode = True
 sys.path.append(str(Path(__file__).resolve().parents[1]))
-from bounds import NEVER_MET, Seen, after_join, ahead, apart, behind, fair, has_passed, healed, joins, punctual, shares
+from bounds import NEVER_MET, Seen, after_join, ahead, apart, behind, beyond, fair, has_passed, healed, joins, punctual, shares
+from course import Course
 from draw.machines import level, slice_length
 from plain.numbers import BOUND, charge_of, weight_of
 from plain.workbench import answer
@@ -218,6 +219,16 @@ def look_at_leavings(dice, comparison, workload_with, tasks, longest, front):
         look_at_join(dice, comparison, lambda last: workload_with(more + last), tasks, longest, after, int(dice.choice(asleep)))
 
 
+def draw_course(dice, comparison, tasks, longest, start):
+    """Deeds of any kind in any order, but for ticks beyond a turn: several tasks join, also in the middle of a turn."""
+    course = Course(dice, tasks, longest, start)
+    for _ in range(dice.randint(1, dice.choice((10, 40, 150)))):
+        course.go_on()
+    workload = workload_of(tasks, start, course.script)
+    text = comparison.report(workload)
+    comparison.look(beyond(Seen(text, tasks_after(tasks, text)), longest, course.late, course.joined), workload)
+
+
 def look_at_examples(comparison):
     late = ("a-request-is-late-by-almost-two-turns-of-the-others", [(0, 100000), (0, 100000), (0, 100000000)], 10**9)
     ahead = ("a-task-is-ahead-by-a-whole-turn-of-the-others", [(0, 3000000)] * 2, 10**6)
@@ -270,7 +281,7 @@ def main():
     end = time.monotonic() + words.seconds
     while time.monotonic() < end and comparison.failed < 10:
         tasks, longest = drawn_tasks(dice), int(10 ** dice.uniform(dice.choice((0, 3, 3, 5)), 9))
-        draw = dice.choice((draw_fresh, draw_leaving, draw_joining, draw_anywhere))
+        draw = dice.choice((draw_fresh, draw_leaving, draw_joining, draw_anywhere, draw_course))
         draw(dice, comparison, tasks, longest, drawn_start(dice, tasks))
     for name, nearest in sorted(comparison.nearest.items()):
         print(f"{name}: {float(nearest):.5f} of the bound at the nearest")

@@ -5,7 +5,7 @@ use Rattle.std.specs.FinMap.{get, insert}
 use Rattle.std.proofs.{lemmas.Int.ints}
 use Rattle.eevdf_weight.specs.{Weight.weight_of, Placement.floor_div, Placement.placement_of}
 use Rattle.eevdf_queue.specs.{declared.entry.Entry.Entry, State.State, declared.sleeper.Sleeper.Sleeper, Placing.placement}
-use Rattle.eevdf_queue.specs.{Moves.fresh_entry, Moves.is_entry_in_range, Moves.with_runnable}
+use Rattle.eevdf_queue.specs.{Moves.fresh_entry, Moves.is_entry_in_range, Moves.with_runnable, Lag.is_lag}
 use Rattle.eevdf_queue.specs.Sums.{Tasks, total_weight, total_moment, virtual_time}
 use Rattle.eevdf_queue.proofs.Floors.{not_above, below_next}
 use Rattle.eevdf_queue.proofs.Scaled.{sum_scaled, scaled_sum, scaled_twice, difference_scaled, scaled_le}
@@ -60,17 +60,22 @@ joined_entry q r task s e j found =
     the_same (joiner q s) e
     (sym (get_here q.runnable task (joiner q s)) ∙ ap (λ (m : Tasks). get m task) (sym (joined_tasks q r task s j)) ∙ found)
 
+module _ (q : State) (s : Sleeper) (some : 1 ≤ total_weight q.runnable) (within : is_lag s.lag s.nice s.slice ≡ true) where
+  pub near_joiner : ((placement q s) *ℤ pos (total_weight q.runnable))
+      ≤ℤ (total_moment q.runnable +ℤ pos (lag_limit s * (total_weight q.runnable + weight_of s.nice) + total_weight q.runnable))
+  near_joiner =
+      subst (λ (z : ℤ). (z *ℤ pos (total_weight q.runnable))
+      ≤ℤ (total_moment q.runnable +ℤ pos (lag_limit s * (total_weight q.runnable + weight_of s.nice) + total_weight q.runnable))) (sym (placed_at q s some))
+      (near (floor_div (total_moment q.runnable) (total_weight q.runnable)) (floor_div (s.lag *ℤ pos (total_weight q.runnable + weight_of s.nice)) (total_weight q.runnable)) s.lag
+      (total_moment q.runnable) (total_weight q.runnable) (weight_of s.nice) (lag_limit s)
+      (not_above (total_moment q.runnable) (total_weight q.runnable) some)
+      (not_below (s.lag *ℤ pos (total_weight q.runnable + weight_of s.nice)) (total_weight q.runnable) some)
+      (limited s.lag (lag_limit s) within))
+
 module _ (q r : State) (task : ℕ) (s : Sleeper) (j : Joins q task s r) where
   pub joiner_near : ((placement q s) *ℤ pos (total_weight q.runnable))
       ≤ℤ (total_moment q.runnable +ℤ pos (lag_limit s * (total_weight q.runnable + weight_of s.nice) + total_weight q.runnable))
-  joiner_near =
-      subst (λ (z : ℤ). (z *ℤ pos (total_weight q.runnable))
-      ≤ℤ (total_moment q.runnable +ℤ pos (lag_limit s * (total_weight q.runnable + weight_of s.nice) + total_weight q.runnable))) (sym (placed_at q s j.some))
-      (near (floor_div (total_moment q.runnable) (total_weight q.runnable)) (floor_div (s.lag *ℤ pos (total_weight q.runnable + weight_of s.nice)) (total_weight q.runnable)) s.lag
-      (total_moment q.runnable) (total_weight q.runnable) (weight_of s.nice) (lag_limit s)
-      (not_above (total_moment q.runnable) (total_weight q.runnable) j.some)
-      (not_below (s.lag *ℤ pos (total_weight q.runnable + weight_of s.nice)) (total_weight q.runnable) j.some)
-      (limited s.lag (lag_limit s) j.limited))
+  joiner_near = near_joiner q s j.some j.limited
 
   joiner_far : total_moment q.runnable
       ≤ℤ (((placement q s) *ℤ pos (total_weight q.runnable)) +ℤ pos (lag_limit s * (total_weight q.runnable + weight_of s.nice) + total_weight q.runnable))

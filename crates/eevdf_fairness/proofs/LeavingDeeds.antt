@@ -72,7 +72,7 @@ left q r t same =
     (left_by q r t (get q.runnable t) same)
 
 -- ---- turns and leavings
-all_ticked : (q r : State) (turn : Turn) → HaveSameRunnable q r → HaveSameRunnable (after_ticks q turn) (after_ticks r turn)
+pub all_ticked : (q r : State) (turn : Turn) → HaveSameRunnable q r → HaveSameRunnable (after_ticks q turn) (after_ticks r turn)
 all_ticked q r [] same = same
 all_ticked q r (ns ∷ turn) same = all_ticked ((tick q ns).1) ((tick r ns).1) turn (ticked q r ns same)
 

@@ -36,7 +36,7 @@ removed_apart m t p f apart =
     ∙ sym (ap (cond (eq_by_cmp nat_cmp x t) None) (get-insert nat_cmp_total m p f x))
     ∙ sym (get-remove nat_cmp_total (insert m p f) t x))
 
-get_apart : (m : Tasks) (p t : ℕ) (f : Entry) → (t ≡ p → ⊥) → get (insert m p f) t ≡ get m t
+pub get_apart : (m : Tasks) (p t : ℕ) (f : Entry) → (t ≡ p → ⊥) → get (insert m p f) t ≡ get m t
 get_apart m p t f apart =
     get-insert nat_cmp_total m p f t ∙ ap (λ (b : Bool). cond b (Some f) (get m t)) (not_itself t p (eq_by_cmp nat_cmp t p) apart refl)
 
@@ -45,13 +45,13 @@ get_left m p t apart =
     get-remove nat_cmp_total m t p ∙ ap (λ (b : Bool). cond b None (get m p)) (not_itself p t (eq_by_cmp nat_cmp p t) (λ same. apart (sym same)) refl)
 
 -- ---- who runs, and whether a tick finds it
-nobody_ticks : (q : State) (ns : ℕ) → q.running ≡ None → (tick q ns).1 ≡ q
+pub nobody_ticks : (q : State) (ns : ℕ) → q.running ≡ None → (tick q ns).1 ≡ q
 nobody_ticks q ns is = ap (λ (o : Option ℕ). (tick_running q o ns).1) is
 
-absent_ticks : (q : State) (p ns : ℕ) → q.running ≡ Some p → get q.runnable p ≡ None → (tick q ns).1 ≡ q
+pub absent_ticks : (q : State) (p ns : ℕ) → q.running ≡ Some p → get q.runnable p ≡ None → (tick q ns).1 ≡ q
 absent_ticks q p ns is none = ap (λ (o : Option ℕ). (tick_running q o ns).1) is ∙ ap (λ (o : Option Entry). (tick_entry q p o ns).1) none
 
-ticks_there : (q : State) (p ns : ℕ) (g : Entry) → q.running ≡ Some p → get q.runnable p ≡ Some g
+pub ticks_there : (q : State) (p ns : ℕ) (g : Entry) → q.running ≡ Some p → get q.runnable p ≡ Some g
     → (tick q ns).1 ≡ (tick_to q p (is_used_up g ns) (charged g ns)).1
 ticks_there q p ns g is here = ap (λ (o : Option ℕ). (tick_running q o ns).1) is ∙ ap (λ (o : Option Entry). (tick_entry q p o ns).1) here
 

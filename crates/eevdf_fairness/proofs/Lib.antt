@@ -21,11 +21,14 @@ pub mod Shares
 pub mod Healing
 pub mod Joining
 pub mod JoiningDeeds
+pub mod Joiners
 pub mod AfterJoin
+pub mod GoingOn
 pub mod OwnDeeds
 pub mod OneCpu
 pub mod OwnChanges
 pub mod OneCpuSteps
+pub mod OneCpuJoins
 pub mod Lines
 pub mod Opening
 pub mod Days

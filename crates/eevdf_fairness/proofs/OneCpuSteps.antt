@@ -1,9 +1,10 @@
 -- Turns, leavings and rebases of one CPU: whatever else is done, its runnable tasks are as these steps leave them.
 use Rattle.std.proofs.Common.{◌≡◌, ℕ, ◌<◌, Bool, true, false, cond, List, [], ◌∷◌, ◌++◌, length, map, set, slice_set, Option, Some, None, refl, sym, ap, ◌∙◌, subst}
 use Rattle.std.specs.Prelude.{◌==◌, Result, Ok, Err}
-use Rattle.std.specs.FinMap.{get}
+use Rattle.std.specs.{FinMap.get, Option.unwrap_or}
 use Rattle.std.proofs.{Math.ListN.length-set, lemmas.List.get_or-set_same}
 use Rattle.eevdf_queue.specs.{declared.entry.Entry.Entry, Sums.Tasks, State.State, State.Contents, State.empty_state, Leaving.carried_running, Leaving.leave, Pick.after_pick, Tick.tick, Rebase.rebase}
+use Rattle.eevdf_queue.specs.{Moves.sleeper_of, Moves.with_runnable, Placing.placed_entry}
 use Rattle.eevdf_ops.specs.{declared.deeds.Deed.Deed, declared.deeds.Answer.Answer, Machine.Machine, Machine.queue_at}
 use Rattle.eevdf_ops.specs.declared.deeds.Deed.TheVariants.{Tick, Pick, Yield, Sleep, Wake, Pull, Renice, Begin, End, Set, Rebase}
 use Rattle.eevdf_ops.specs.{OneQueue.one_tick, OneQueue.one_pick, OneQueue.one_yield, OneQueue.one_wake, OneQueue.one_renice, OneQueue.one_begin, OneQueue.one_set, OneQueue.one_rebase}
@@ -11,12 +12,12 @@ use Rattle.eevdf_ops.specs.{Parts.after_leaving, Parts.answer_of_sleep, Parts.an
 use Rattle.eevdf_ops.specs.WholePull.{load_of, offer, decision, with_task}
 use Rattle.eevdf_ops.proofs.{LocalParts.whole-answer, MapCounts.equal, MachinePlaces.other_queue, MachinePlaces.each-set, Pulling.refusals, WholePlaces.length-whole}
 use Rattle.eevdf_fairness.specs.{Turns.Turn, Turns.after_ticks, Turns.after_turn, Leavings.Step, Leavings.Takes, Leavings.Leaves, Leavings.Rebases, Leavings.after_steps, Leavings.HaveSameRunnable}
-use Rattle.eevdf_fairness.specs.OneCpuSteps.{Change, Picks, Ticks, Loses, Lowers, IsNoStep, own_change, change_at, and_then, changes_at, after_ticks_of, leavings_last, changes_of}
+use Rattle.eevdf_fairness.specs.OneCpuSteps.{Change, Picks, Ticks, Loses, Lowers, Gains, Yields, own_change, change_at, and_then, changes_at, after_ticks_of, leavings_last, changes_of}
 use Rattle.eevdf_fairness.specs.OneCpuSteps.{StepsOfOneCpu, OneCpuStaysFair, OneCpuJoinKeepsFair}
 use Rattle.eevdf_fairness.specs.{Leavings.IsStillFair, Leavings.LeavingsKeepFair, Joining.IsFairAfterJoin, Joining.JoinKeepsFair}
 use Rattle.eevdf_fairness.proofs.{RebasedAlike.rebased_alike, OwnDeeds.is_apart, LeavingDeeds.alike, LeavingDeeds.of_same, LeavingDeeds.then, LeavingLater.leaves_later, LeavingDeeds.ticked, LeavingDeeds.picked, LeavingDeeds.left}
 use Rattle.eevdf_fairness.proofs.LeavingDeeds.{sleep_leaves, sleep_stays, left_by_sleep, end_leaves, end_stays, left_by_end}
-use Rattle.eevdf_fairness.proofs.OwnChanges.{changed, changed_by, IsOfSteps, MayBeOfSteps, IsTold}
+use Rattle.eevdf_fairness.proofs.OwnChanges.{changed, changed_by, IsOfSteps, MayBeOfSteps, IsTold, told_step}
 use Rattle.eevdf_fairness.proofs.OwnChanges.{tick_told, pick_told, yield_told, wake_told, renice_told, begin_told, set_told, rebase_told}
 
 -- ---- changes, one after the other
@@ -34,7 +35,8 @@ changed_alike Picks q r same = picked q r same
 changed_alike (Ticks ns) q r same = ticked q r ns same
 changed_alike (Loses task) q r same = left q r task same
 changed_alike Lowers q r same = rebased_alike q r same
-changed_alike IsNoStep q r same = same
+changed_alike (Gains task) q r same = same
+changed_alike Yields q r same = same
 
 changed_by_alike : (o : Option Change) (q r : State) → HaveSameRunnable q r → HaveSameRunnable (changed_by o q) (changed_by o r)
 changed_by_alike None q r same = same
@@ -53,7 +55,8 @@ after_ticks_alike task (Ticks ns ∷ changes) q =
 after_ticks_alike task (Picks ∷ changes) q = alike (all_changed changes (after_pick (leave q task)))
 after_ticks_alike task (Loses other ∷ changes) q = alike (all_changed changes (leave (leave q task) other))
 after_ticks_alike task (Lowers ∷ changes) q = alike (all_changed changes (rebase (leave q task)).1)
-after_ticks_alike task (IsNoStep ∷ changes) q = alike (all_changed changes (leave q task))
+after_ticks_alike task (Gains other ∷ changes) q = alike (all_changed changes (leave q task))
+after_ticks_alike task (Yields ∷ changes) q = alike (all_changed changes (leave q task))
 
 leavings_last_alike : (changes : List Change) (q : State) → HaveSameRunnable (all_changed changes q) (all_changed (leavings_last changes) q)
 leavings_last_alike [] q = alike q
@@ -62,7 +65,8 @@ leavings_last_alike (Picks ∷ changes) q = leavings_last_alike changes (after_p
 leavings_last_alike (Loses task ∷ changes) q =
     then _ _ _ (leavings_last_alike changes (leave q task)) (after_ticks_alike task (leavings_last changes) q)
 leavings_last_alike (Lowers ∷ changes) q = leavings_last_alike changes (rebase q).1
-leavings_last_alike (IsNoStep ∷ changes) q = leavings_last_alike changes q
+leavings_last_alike (Gains task ∷ changes) q = leavings_last_alike changes q
+leavings_last_alike (Yields ∷ changes) q = leavings_last_alike changes q
 
 before_ticks_of : (task : ℕ) (changes : List Change) → AreOfSteps (after_ticks_of task changes) → AreOfSteps changes
 before_ticks_of task [] these = tt
@@ -70,7 +74,8 @@ before_ticks_of task (Ticks ns ∷ changes) these = (tt, before_ticks_of task ch
 before_ticks_of task (Picks ∷ changes) these = these.1
 before_ticks_of task (Loses other ∷ changes) these = these.1
 before_ticks_of task (Lowers ∷ changes) these = these.1
-before_ticks_of task (IsNoStep ∷ changes) these = these.1
+before_ticks_of task (Gains other ∷ changes) these = these.1
+before_ticks_of task (Yields ∷ changes) these = these.1
 
 leavings_not_last : (changes : List Change) → AreOfSteps (leavings_last changes) → AreOfSteps changes
 leavings_not_last [] these = tt
@@ -78,7 +83,8 @@ leavings_not_last (Ticks ns ∷ changes) these = (tt, leavings_not_last changes 
 leavings_not_last (Picks ∷ changes) these = (tt, leavings_not_last changes these.1)
 leavings_not_last (Loses task ∷ changes) these = (tt, leavings_not_last changes (before_ticks_of task (leavings_last changes) these))
 leavings_not_last (Lowers ∷ changes) these = (tt, leavings_not_last changes these.1)
-leavings_not_last (IsNoStep ∷ changes) these = absurd these.0
+leavings_not_last (Gains task ∷ changes) these = absurd these.0
+leavings_not_last (Yields ∷ changes) these = absurd these.0
 
 -- ---- what one deed changes
 module _ (homes : List ℕ) (m : Machine) (cpu : ℕ) (h : cpu < length m) where
@@ -88,30 +94,30 @@ module _ (homes : List ℕ) (m : Machine) (cpu : ℕ) (h : cpu < length m) where
       → IsTold (cond b (change (queue_at m cpu) (step (queue_at m at)).0) None) (queue_at m cpu) (queue_at (slice_set m at (step (queue_at m at)).1) cpu)
   own_by at change step told true is =
       subst (λ (a : ℕ). IsTold (change (queue_at m cpu) (step (queue_at m a)).0) (queue_at m cpu) (queue_at (slice_set m a (step (queue_at m a)).1) cpu))
-      (sym (equal at cpu is)) (λ steps. then _ _ _ (of_same _ _ (get_or-set_same m cpu _ empty_state h)) (told (queue_at m cpu) steps))
-  own_by at change step told false is = λ steps. of_same _ _ (other_queue m at cpu _ (is_apart at cpu is))
+      (sym (equal at cpu is))
+      (subst (IsTold (change (queue_at m cpu) (step (queue_at m cpu)).0) (queue_at m cpu)) (sym (get_or-set_same m cpu _ empty_state h)) (told (queue_at m cpu)))
+  own_by at change step told false is = of_same _ _ (other_queue m at cpu _ (is_apart at cpu is))
 
   -- ---- sleeps and ends
-  sleep_changes : (q : State) (at task : ℕ) (o : Option Contents) → carried_running q task ≡ o
-      → after_leaving o q ≡ changed_by (own_change q (Sleep at task) (answer_of_sleep o)) q
-  sleep_changes q at task None is = refl
-  sleep_changes q at task (Some p) is = left_by_sleep q task p.lag (Some p) is refl
+  sleep_told : (q r : State) (at task : ℕ) (o : Option Contents) → carried_running q task ≡ o → HaveSameRunnable r (after_leaving o q)
+      → IsTold (own_change q (Sleep at task) (answer_of_sleep o)) q r
+  sleep_told q r at task None is same = same
+  sleep_told q r at task (Some p) is same = then _ _ _ same (of_same _ _ (left_by_sleep q task p.lag (Some p) is refl))
 
-  end_changes : (q : State) (at task : ℕ) (o : Option Contents) → ending q task ≡ o
-      → after_leaving o q ≡ changed_by (own_change q (End at task) (answer_of_end o)) q
-  end_changes q at task None is = refl
-  end_changes q at task (Some p) is = left_by_end q task (Some p) is refl
+  end_told : (q r : State) (at task : ℕ) (o : Option Contents) → ending q task ≡ o → HaveSameRunnable r (after_leaving o q)
+      → IsTold (own_change q (End at task) (answer_of_end o)) q r
+  end_told q r at task None is same = same
+  end_told q r at task (Some p) is same = then _ _ _ same (of_same _ _ (left_by_end q task (Some p) is refl))
 
   -- a deed by which a task leaves its CPU
-  leaves_by : (deed : ℕ → Deed) (change : Answer → Option Change) (answer : Option Contents → Answer) (o : Option Contents) (at : ℕ) (b : Bool) → (at == cpu) ≡ b
-      → (whole homes (deed cpu) m).0 ≡ answer o → HaveSameRunnable (queue_at (whole homes (deed cpu) m).1 cpu) (after_leaving o (queue_at m cpu))
-      → after_leaving o (queue_at m cpu) ≡ changed_by (change (answer o)) (queue_at m cpu)
+  leaves_by : (deed : ℕ → Deed) (change : Answer → Option Change) (answer : Answer) (at : ℕ) (b : Bool) → (at == cpu) ≡ b
+      → (whole homes (deed cpu) m).0 ≡ answer → IsTold (change answer) (queue_at m cpu) (queue_at (whole homes (deed cpu) m).1 cpu)
       → ((cpu ≡ at → ⊥) → HaveSameRunnable (queue_at (whole homes (deed at) m).1 cpu) (queue_at m cpu))
       → IsTold (cond b (change (whole homes (deed at) m).0) None) (queue_at m cpu) (queue_at (whole homes (deed at) m).1 cpu)
-  leaves_by deed change answer o at true is answers leaves changes stays =
+  leaves_by deed change answer at true is answers told stays =
       subst (λ (a : ℕ). IsTold (change (whole homes (deed a) m).0) (queue_at m cpu) (queue_at (whole homes (deed a) m).1 cpu)) (sym (equal at cpu is))
-      (λ steps. then _ _ _ leaves (of_same _ _ (changes ∙ ap (λ (a : Answer). changed_by (change a) (queue_at m cpu)) (sym answers))))
-  leaves_by deed change answer o at false is answers leaves changes stays = λ steps. stays (is_apart at cpu is)
+      (subst (λ (a : Answer). IsTold (change a) (queue_at m cpu) (queue_at (whole homes (deed cpu) m).1 cpu)) (sym answers) told)
+  leaves_by deed change answer at false is answers told stays = stays (is_apart at cpu is)
 
   -- ---- pulls
   -- what is refused changes neither queue
@@ -120,19 +126,27 @@ module _ (homes : List ℕ) (m : Machine) (cpu : ℕ) (h : cpu < length m) where
       each-set (λ i q. q ≡ queue_at m i) (set m at (queue_at m at)) source (queue_at m source) refl
       (each-set (λ i q. q ≡ queue_at m i) m at (queue_at m at) refl (λ i. refl)) cpu
 
-  taken_by : (at source : ℕ) (q : State) (p : Contents) (b c : Bool) → (at == cpu) ≡ b → (source == cpu) ≡ c
-      → IsTold (cond b (Some IsNoStep) (cond c (Some (Loses p.task)) None)) (queue_at m cpu)
-      (queue_at (set (set m at q) source (leave (queue_at m source) p.task)) cpu)
-  taken_by at source q p true c is at_source = λ steps. absurd steps
-  taken_by at source q p false true is at_source =
-      subst (λ (i : ℕ). IsTold (Some (Loses p.task)) (queue_at m cpu) (queue_at (set (set m at q) i (leave (queue_at m i) p.task)) cpu)) (sym (equal source cpu at_source))
-      (λ steps. of_same _ _ (get_or-set_same (set m at q) cpu _ empty_state (subst (λ (n : ℕ). cpu < n) (sym (length-set m at q)) h)))
-  taken_by at source q p false false is at_source = λ steps.
-      of_same _ _ (other_queue (set m at q) source cpu _ (is_apart source cpu at_source) ∙ other_queue m at cpu q (is_apart at cpu is))
+  still_runs : (q : State) (task : ℕ) (o : Option Entry) → (unwrap_or (with_runnable q task o) q).running ≡ q.running
+  still_runs q task None = refl
+  still_runs q task (Some e) = refl
+
+  taken_by : (at source : ℕ) (p : Contents) (b c : Bool) → (source == cpu) ≡ b → (at == cpu) ≡ c
+      → IsTold (cond b (Some (Loses p.task)) (cond c (Some (Gains p.task)) None)) (queue_at m cpu)
+      (queue_at (set (set m at (with_task (queue_at m at) p)) source (leave (queue_at m source) p.task)) cpu)
+  taken_by at source p true c at_source is =
+      subst (λ (i : ℕ). HaveSameRunnable (queue_at (set (set m at (with_task (queue_at m at) p)) i (leave (queue_at m i) p.task)) cpu) (leave (queue_at m cpu) p.task))
+      (sym (equal source cpu at_source))
+      (of_same _ _ (get_or-set_same (set m at _) cpu _ empty_state (subst (λ (n : ℕ). cpu < n) (sym (length-set m at _)) h)))
+  taken_by at source p false true at_source is =
+      ap (λ (q : State). q.running) (other_queue (set m at _) source cpu _ (is_apart source cpu at_source))
+      ∙ subst (λ (i : ℕ). (queue_at (set m i (with_task (queue_at m i) p)) cpu).running ≡ (queue_at m cpu).running) (sym (equal at cpu is))
+      (ap (λ (q : State). q.running) (get_or-set_same m cpu _ empty_state h) ∙ still_runs (queue_at m cpu) p.task (placed_entry (queue_at m cpu) (sleeper_of p)))
+  taken_by at source p false false at_source is =
+      of_same _ _ (other_queue (set m at _) source cpu _ (is_apart source cpu at_source) ∙ other_queue m at cpu _ (is_apart at cpu is))
 
   refused_by : (r : State) (b : Bool) → HaveSameRunnable r (queue_at m cpu) → IsTold (cond {A = Option Change} b None None) (queue_at m cpu) r
-  refused_by r true same steps = same
-  refused_by r false same steps = same
+  refused_by r true same = same
+  refused_by r false same = same
 
   pull_by : (at source : ℕ) (d : Result Contents Answer) → decision (queue_at m at) (load_of (queue_at m source)) (offer (queue_at m source)) ≡ d
       → IsTold (change_at cpu (queue_at m cpu) (Pull at source) (pulled d (queue_at m at) (queue_at m source)).0) (queue_at m cpu)
@@ -142,15 +156,16 @@ module _ (homes : List ℕ) (m : Machine) (cpu : ℕ) (h : cpu < length m) where
       let same : HaveSameRunnable r (queue_at m cpu) = of_same _ _ (both_stay at source) in
       refusals (λ (a : Answer). IsTold (change_at cpu (queue_at m cpu) (Pull at source) a) (queue_at m cpu) r) (queue_at m at) (load_of (queue_at m source)) (offer (queue_at m source))
       why is (refused_by r (at == cpu) same) (refused_by r (at == cpu) same) (refused_by r (at == cpu) same)
-  pull_by at source (Ok p) is = taken_by at source (with_task (queue_at m at) p) p (at == cpu) (source == cpu) refl refl
+  pull_by at source (Ok p) is = taken_by at source p (source == cpu) (at == cpu) refl refl
 
-  one_change : (d : Deed) → IsTold (change_at cpu (queue_at m cpu) d (whole homes d m).0) (queue_at m cpu) (queue_at (whole homes d m).1 cpu)
+  pub one_change : (d : Deed) → IsTold (change_at cpu (queue_at m cpu) d (whole homes d m).0) (queue_at m cpu) (queue_at (whole homes d m).1 cpu)
   one_change (Tick at ns) = own_by at (λ q a. own_change q (Tick at ns) a) (λ q. one_tick q ns) (λ q. tick_told q at ns) (at == cpu) refl
   one_change (Pick at) = own_by at (λ q a. own_change q (Pick at) a) one_pick (λ q. pick_told q at) (at == cpu) refl
   one_change (Yield at) = own_by at (λ q a. own_change q (Yield at) a) one_yield (λ q. yield_told q at) (at == cpu) refl
   one_change (Sleep at task) =
-      leaves_by (λ (a : ℕ). Sleep a task) (own_change (queue_at m cpu) (Sleep at task)) answer_of_sleep (carried_running (queue_at m cpu) task) at (at == cpu) refl
-      (whole-answer homes (Sleep cpu task) m) (sleep_leaves homes m cpu task h) (sleep_changes (queue_at m cpu) at task _ refl) (sleep_stays homes m at task cpu)
+      leaves_by (λ (a : ℕ). Sleep a task) (own_change (queue_at m cpu) (Sleep at task)) (answer_of_sleep (carried_running (queue_at m cpu) task)) at (at == cpu) refl
+      (whole-answer homes (Sleep cpu task) m) (sleep_told (queue_at m cpu) _ at task (carried_running (queue_at m cpu) task) refl (sleep_leaves homes m cpu task h))
+      (sleep_stays homes m at task cpu)
   one_change (Wake at task sender) =
       own_by at (λ q a. own_change q (Wake at task sender) a) (λ q. one_wake q task) (λ q. wake_told q at task sender) (at == cpu) refl
   one_change (Pull at source) = pull_by at source (decision (queue_at m at) (load_of (queue_at m source)) (offer (queue_at m source))) refl
@@ -159,8 +174,9 @@ module _ (homes : List ℕ) (m : Machine) (cpu : ℕ) (h : cpu < length m) where
   one_change (Begin at task nice slice) =
       own_by at (λ q a. own_change q (Begin at task nice slice) a) (λ q. one_begin q task nice slice) (λ q. begin_told q at task nice slice) (at == cpu) refl
   one_change (End at task) =
-      leaves_by (λ (a : ℕ). End a task) (own_change (queue_at m cpu) (End at task)) answer_of_end (ending (queue_at m cpu) task) at (at == cpu) refl
-      (whole-answer homes (End cpu task) m) (end_leaves homes m cpu task h) (end_changes (queue_at m cpu) at task _ refl) (end_stays homes m at task cpu)
+      leaves_by (λ (a : ℕ). End a task) (own_change (queue_at m cpu) (End at task)) (answer_of_end (ending (queue_at m cpu) task)) at (at == cpu) refl
+      (whole-answer homes (End cpu task) m) (end_told (queue_at m cpu) _ at task (ending (queue_at m cpu) task) refl (end_leaves homes m cpu task h))
+      (end_stays homes m at task cpu)
   one_change (Set at task nice slice) =
       own_by at (λ q a. own_change q (Set at task nice slice) a) (λ q. one_set q task nice slice) (λ q. set_told q at task nice slice) (at == cpu) refl
   one_change (Rebase at) = own_by at (λ q a. own_change q (Rebase at) a) one_rebase (λ q. rebase_told q at) (at == cpu) refl
@@ -186,7 +202,7 @@ as_changed homes m cpu (d ∷ ds) q h same these =
     let rest : List Change = changes_at homes cpu (whole homes d m).1 ds in
     subst (HaveSameRunnable (queue_at (machine_after homes (whole homes d m).1 ds) cpu)) (and_then_changed change rest q)
     (as_changed homes (whole homes d m).1 cpu ds (changed_by change q) (subst (λ (n : ℕ). cpu < n) (sym (length-whole homes d m)) h)
-    (then _ _ _ (one_change homes m cpu h d (first_of change rest these)) (changed_by_alike change (queue_at m cpu) q same))
+    (then _ _ _ (told_step change _ _ (one_change homes m cpu h d) (first_of change rest these)) (changed_by_alike change (queue_at m cpu) q same))
     (rest_of change rest these))
 
 -- ---- steps

@@ -24,7 +24,7 @@ idle q (ns ∷ turn) h = idle ((tick q ns).1) turn (idle_by q ns q.running h)
 
 -- ---- one turn and all turns
 module _ (first : PickIsFirst) (nobody : PickOfNobody) (r : Rule) where
-  turn_by : (q : State) (turn : Turn) (o : Option ℕ) → pick_of q.runnable ≡ o → turn_length turn ≤ r.ns → IsWithin r q.runnable
+  pub turn_by : (q : State) (turn : Turn) (o : Option ℕ) → pick_of q.runnable ≡ o → turn_length turn ≤ r.ns → IsWithin r q.runnable
       → IsWithin r (after_ticks (picked_by q o) turn).runnable
   turn_by q turn None is short w =
       let none : q.runnable ≡ empty = (nobody q.runnable).0 (ap (λ (o : Option ℕ). is_some o) is) in
@@ -42,7 +42,7 @@ module _ (first : PickIsFirst) (nobody : PickOfNobody) (r : Rule) where
       turns_within (after_turn q turn) turns h.1 (turn_by q turn (pick_of q.runnable) refl h.0 w)
 
 -- ---- while tasks leave
-leave_by : (r : Rule) (q : State) (task : ℕ) (o : Option Entry) → ((e : Entry) → r.Guard e → ⊥) → IsWithin r q.runnable
+pub leave_by : (r : Rule) (q : State) (task : ℕ) (o : Option Entry) → ((e : Entry) → r.Guard e → ⊥) → IsWithin r q.runnable
     → IsWithin r (without_entry q task o).runnable
 leave_by r q task None guarded w = w
 leave_by r q task (Some e) guarded w = leaving_within r q.runnable task guarded w

@@ -12,6 +12,7 @@ pub mod JoiningDeeds
 pub mod Opening
 pub mod OneCpu
 pub mod OneCpuSteps
+pub mod OneCpuJoins
 pub mod Lines
 pub mod Days
 pub mod RebasedTurns

@@ -3,7 +3,7 @@ use Rattle.std.specs.Prelude.{◌≡◌, ℕ, zero, ◌<◌, ◌==◌, if◌then
 use Rattle.std.specs.FinMap.{get, contains_key}
 use Rattle.eevdf_queue.specs.{State.State, declared.entry.Entry.Entry, declared.sleeper.Sleeper.Sleeper}
 use Rattle.eevdf_ops.specs.{declared.deeds.Deed.Deed, declared.deeds.Answer.Answer}
-use Rattle.eevdf_ops.specs.declared.deeds.Deed.TheVariants.{Tick, Pick, Sleep, Pull, End, Rebase}
+use Rattle.eevdf_ops.specs.declared.deeds.Deed.TheVariants.{Tick, Pick, Yield, Sleep, Wake, Pull, Renice, End, Rebase}
 use Rattle.eevdf_ops.specs.declared.deeds.Deed.TheVariants as deed
 use Rattle.eevdf_ops.specs.declared.deeds.Answer.TheVariants.{Charged, Picked, Slept, Ended, Rebased, Yielded, Woken, Reniced, Pulled}
 use Rattle.eevdf_ops.specs.declared.deeds.Answer.TheVariants as answer
@@ -11,14 +11,15 @@ use Rattle.eevdf_ops.specs.{Machine.Machine, Machine.queue_at, Parts.decider, Wh
 use Rattle.eevdf_fairness.specs.{Turns.IsFresh, Joining.Joins, Joining.IsFairAfterJoin}
 use Rattle.eevdf_fairness.specs.Leavings.{Step, Takes, Leaves, Rebases, after_steps, HaveNoLongerTurns, HaveSameRunnable, IsStillFair}
 
--- what a deed does to the runnable tasks of a CPU and to who runs there. No step is what changes them otherwise: a yield, a wake, a renice,
--- a pull to there, and a set of a runnable task, where they are done
+-- what a deed does to the runnable tasks of a CPU and to who runs there. A task joins there by a wake and by a pull to there, and joins again
+-- by a renice, and by a set where it is runnable; these, and yields, are no steps
 pub data Change : Type 0 where
   Picks : Change
   Ticks : ℕ → Change
   Loses : ℕ → Change
   Lowers : Change
-  IsNoStep : Change
+  Gains : ℕ → Change
+  Yields : Change
 
 -- by a deed of the CPU itself with its answer, and the queue before it. Any other answer, as of a deed that is refused or finds nothing,
 -- leaves the runnable tasks, and who runs, as they are; so do a rebase by 0, a set of a task that sleeps, and a begin
@@ -29,17 +30,16 @@ own_change q (Sleep at task) (Slept lag) = Some (Loses task)
 own_change q (End at task) Ended = Some (Loses task)
 own_change q (Rebase at) (Rebased (pos zero)) = None
 own_change q (Rebase at) (Rebased by) = Some Lowers
-own_change q (deed.Set at task nice slice) answer.Set = if contains_key q.runnable task then Some IsNoStep else None
-own_change q deed Yielded = Some IsNoStep
-own_change q deed Woken = Some IsNoStep
-own_change q deed Reniced = Some IsNoStep
-own_change q deed (Pulled task) = Some IsNoStep
+own_change q (Wake at task sender) Woken = Some (Gains task)
+own_change q (Renice at task nice) Reniced = Some (Gains task)
+own_change q (deed.Set at task nice slice) answer.Set = if contains_key q.runnable task then Some (Gains task) else None
+own_change q (Yield at) Yielded = Some Yields
 own_change q deed answer = None
 
--- by a deed of any CPU: a task leaves where another CPU pulls it from there
+-- by a deed of any CPU: a pull takes a task from one CPU to another
 abbrev pub change_at : ℕ → State → Deed → Answer → Option Change
 change_at cpu q (Pull at source) (Pulled task) =
-    if at == cpu then Some IsNoStep else (if source == cpu then Some (Loses task) else None)
+    if source == cpu then Some (Loses task) else (if at == cpu then Some (Gains task) else None)
 change_at cpu q deed answer = if decider deed == cpu then own_change q deed answer else None
 
 abbrev pub and_then : Option Change → List Change → List Change

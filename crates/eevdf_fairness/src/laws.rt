@@ -14,6 +14,7 @@ ghost use Rattle.eevdf_fairness.specs.{Days.DaysStayInRange, Keeping.TurnsKeepTa
 ghost use Rattle.eevdf_fairness.specs.Leavings.{LeavingsKeepFair, RunnableTasksDecide};
 ghost use Rattle.eevdf_fairness.specs.Lines.{LinesTellTime, OneCpuGivesShares};
 ghost use Rattle.eevdf_fairness.specs.OneCpu.{OneCpuIsFair, OneCpuIsFairAnywhere, TurnsOfOneCpu};
+ghost use Rattle.eevdf_fairness.specs.OneCpuJoins.{OneCpuJoinsKeepFair};
 ghost use Rattle.eevdf_fairness.specs.OneCpuSteps.{OneCpuJoinKeepsFair, OneCpuStaysFair, StepsOfOneCpu};
 ghost use Rattle.eevdf_fairness.specs.Share.{TurnsGiveShares};
 
@@ -198,6 +199,16 @@ pub fn one_cpu_join_keeps_fair()
     ensures { OneCpuJoinKeepsFair }
 {
     join_keeps_fair();
+}
+
+/// However many tasks join there, by wakes, by pulls to there and again by renices and sets, also in the middle of a turn, among whatever
+/// else the CPU does: of the tasks that were there all along since no virtual runtime was past any deadline no request is late by more than
+/// turns of the others and what each join adds.
+pub fn one_cpu_joins_keep_fair()
+    ensures { OneCpuJoinsKeepFair }
+{
+    eevdf_queue::laws::pick_is_first();
+    eevdf_queue::laws::pick_of_nobody();
 }
 
 /// The lines of these deeds tell how long the CPU and each task ran: the nanoseconds of its ticks, by their answers.
