@@ -79,7 +79,7 @@ all_ticked q r (ns ∷ turn) same = all_ticked ((tick q ns).1) ((tick r ns).1) t
 taken : (q r : State) (turn : Turn) → HaveSameRunnable q r → HaveSameRunnable (after_turn q turn) (after_turn r turn)
 taken q r turn same = all_ticked (after_pick q) (after_pick r) turn (picked q r same)
 
-of_turns : (q r : State) (turns : List Turn) → HaveSameRunnable q r → HaveSameRunnable (after_turns q turns) (after_turns r turns)
+pub of_turns : (q r : State) (turns : List Turn) → HaveSameRunnable q r → HaveSameRunnable (after_turns q turns) (after_turns r turns)
 of_turns q r [] same = same
 of_turns q r (turn ∷ turns) same = of_turns (after_turn q turn) (after_turn r turn) turns (taken q r turn same)
 

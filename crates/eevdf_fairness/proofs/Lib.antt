@@ -30,6 +30,7 @@ pub mod OwnChanges
 pub mod OneCpuSteps
 pub mod OneCpuJoins
 pub mod Lines
+pub mod OneCpuShares
 pub mod Opening
 pub mod Days
 pub mod RebasedTurns

@@ -6,7 +6,7 @@ use Rattle.std.proofs.lemmas.Bool.Decides.{nat_tests}
 use Rattle.eevdf_weight.specs.Weight.{weight_of}
 use Rattle.eevdf_queue.specs.{declared.entry.Entry.Entry, declared.answers.TickAnswer.TickAnswer, State.State, Pick.after_pick, Tick.tick, Sums.total_weight}
 use Rattle.eevdf_queue.specs.declared.answers.TickAnswer.TheVariants as ticked
-use Rattle.eevdf_ops.specs.{declared.deeds.Deed.Deed, declared.deeds.Answer.Answer, Machine.Machine, Machine.queue_at, Parts.touches, PartsLaws.OthersStay}
+use Rattle.eevdf_ops.specs.{declared.deeds.Deed.Deed, declared.deeds.Answer.Answer, declared.deeds.Line.Line, Machine.Machine, Machine.queue_at, Parts.touches, PartsLaws.OthersStay}
 use Rattle.eevdf_ops.specs.{Whole.whole, Whole.lines_of, Whole.machine_after, OneQueue.answer_of_tick}
 use Rattle.eevdf_ops.specs.declared.deeds.Deed.TheVariants.{Tick, Pick}
 use Rattle.eevdf_ops.specs.declared.deeds.Answer.TheVariants as answered
@@ -100,12 +100,12 @@ pub none_charged_to : (t : ℕ) (a : Answer) → charged_to t a 0 ≡ 0
 none_charged_to t (answered.Charged task resched) = either 0 (task == t)
 none_charged_to t answer = refl
 
-charged_alike : (a : TickAnswer) (ns : ℕ) → charged (answer_of_tick a) ns ≡ if_charged a ns
+pub charged_alike : (a : TickAnswer) (ns : ℕ) → charged (answer_of_tick a) ns ≡ if_charged a ns
 charged_alike (ticked.Charged task resched) ns = refl
 charged_alike ticked.Idle ns = refl
 charged_alike ticked.Range ns = refl
 
-charged_to_alike : (t : ℕ) (a : TickAnswer) (ns : ℕ) → charged_to t (answer_of_tick a) ns ≡ if_charged_to t a ns
+pub charged_to_alike : (t : ℕ) (a : TickAnswer) (ns : ℕ) → charged_to t (answer_of_tick a) ns ≡ if_charged_to t a ns
 charged_to_alike t (ticked.Charged task resched) ns = refl
 charged_to_alike t ticked.Idle ns = refl
 charged_to_alike t ticked.Range ns = refl
@@ -117,6 +117,18 @@ lines_tell_time stay homes m cpu deeds turns h only = record {
 }
 
 -- ---- shares
+-- a task's share of the time that lines tell
+pub shares_told : (ns cpu : ℕ) (lines : List Line) (q : State) (turns : List Turn) (t : ℕ) (e : Entry) → HasItsShare ns q turns t e → TellTime cpu lines q turns
+    → HasItsShareOfLines ns cpu lines q turns t e
+shares_told ns cpu lines q turns t e share tell = record {
+  share = share;
+  told = tell;
+  in_time = λ least most long none.
+      subst (λ (s : ℕ). IsShareOfTime (weight_of e.nice) (total_weight q.runnable) (swing ns q.runnable e) least most (over_lines charged cpu lines) s) (sym (tell.of_each t))
+      (subst (λ (x : ℕ). IsShareOfTime (weight_of e.nice) (total_weight q.runnable) (swing ns q.runnable e) least most x (task_time t q turns)) (sym tell.of_all)
+      (share.in_time least most long none));
+}
+
 -- the shares over turns that begin at the queue that earlier turns leave
 pub shares_of_lines : OthersStay → (homes : List ℕ) (m : Machine) (cpu : ℕ) (earlier deeds : List Deed) (ns : ℕ) (before turns : List Turn) → cpu < length m
     → OnlyTurnsTouch homes cpu earlier before → OnlyTurnsTouch homes cpu deeds turns
@@ -130,15 +142,7 @@ shares_of_lines stay homes m cpu earlier deeds ns before turns h only these shar
     (sym (turns_of_one_cpu stay homes m cpu earlier before h only)) shares t e here in
     let tell : TellTime cpu (lines_of homes n deeds) (queue_at n cpu) turns =
     lines_tell_time stay homes n cpu deeds turns (subst (λ (n : ℕ). cpu < n) (sym (length-after homes m earlier)) h) these in
-    record {
-      share = share;
-      told = tell;
-      in_time = λ least most long none.
-          subst (λ (s : ℕ). IsShareOfTime (weight_of e.nice) (total_weight (queue_at n cpu).runnable) (swing ns (queue_at n cpu).runnable e) least most
-          (over_lines charged cpu (lines_of homes n deeds)) s) (sym (tell.of_each t))
-          (subst (λ (x : ℕ). IsShareOfTime (weight_of e.nice) (total_weight (queue_at n cpu).runnable) (swing ns (queue_at n cpu).runnable e) least most
-          x (task_time t (queue_at n cpu) turns)) (sym tell.of_all) (share.in_time least most long none));
-    }
+    shares_told ns cpu (lines_of homes n deeds) (queue_at n cpu) turns t e share tell
 
 pub one_cpu_gives_shares : OthersStay → TurnsGiveShares → OneCpuGivesShares
 one_cpu_gives_shares stay shares homes m cpu earlier deeds v ns before turns h only these fresh short more t e here =

@@ -21,11 +21,11 @@ use Rattle.eevdf_fairness.proofs.OwnChanges.{changed, changed_by, IsOfSteps, May
 use Rattle.eevdf_fairness.proofs.OwnChanges.{tick_told, pick_told, yield_told, wake_told, renice_told, begin_told, set_told, rebase_told}
 
 -- ---- changes, one after the other
-abbrev all_changed : List Change → State → State
+abbrev pub all_changed : List Change → State → State
 all_changed [] q = q
 all_changed (change ∷ changes) q = all_changed changes (changed change q)
 
-abbrev AreOfSteps : List Change → Type 0
+abbrev pub AreOfSteps : List Change → Type 0
 AreOfSteps [] = Unit {0}
 AreOfSteps (change ∷ changes) = IsOfSteps change × AreOfSteps changes
 
@@ -38,7 +38,7 @@ changed_alike Lowers q r same = rebased_alike q r same
 changed_alike (Gains task) q r same = same
 changed_alike Yields q r same = same
 
-changed_by_alike : (o : Option Change) (q r : State) → HaveSameRunnable q r → HaveSameRunnable (changed_by o q) (changed_by o r)
+pub changed_by_alike : (o : Option Change) (q r : State) → HaveSameRunnable q r → HaveSameRunnable (changed_by o q) (changed_by o r)
 changed_by_alike None q r same = same
 changed_by_alike (Some change) q r same = changed_alike change q r same
 
@@ -182,11 +182,11 @@ module _ (homes : List ℕ) (m : Machine) (cpu : ℕ) (h : cpu < length m) where
   one_change (Rebase at) = own_by at (λ q a. own_change q (Rebase at) a) one_rebase (λ q. rebase_told q at) (at == cpu) refl
 
 -- ---- all deeds
-first_of : (o : Option Change) (rest : List Change) → AreOfSteps (and_then o rest) → MayBeOfSteps o
+pub first_of : (o : Option Change) (rest : List Change) → AreOfSteps (and_then o rest) → MayBeOfSteps o
 first_of None rest these = tt
 first_of (Some change) rest these = these.0
 
-rest_of : (o : Option Change) (rest : List Change) → AreOfSteps (and_then o rest) → AreOfSteps rest
+pub rest_of : (o : Option Change) (rest : List Change) → AreOfSteps (and_then o rest) → AreOfSteps rest
 rest_of None rest these = these
 rest_of (Some change) rest these = these.1
 
@@ -194,7 +194,7 @@ and_then_changed : (o : Option Change) (rest : List Change) (q : State) → all_
 and_then_changed None rest q = refl
 and_then_changed (Some change) rest q = refl
 
-as_changed : (homes : List ℕ) (m : Machine) (cpu : ℕ) (deeds : List Deed) (q : State) → cpu < length m → HaveSameRunnable (queue_at m cpu) q
+pub as_changed : (homes : List ℕ) (m : Machine) (cpu : ℕ) (deeds : List Deed) (q : State) → cpu < length m → HaveSameRunnable (queue_at m cpu) q
     → AreOfSteps (changes_at homes cpu m deeds) → HaveSameRunnable (queue_at (machine_after homes m deeds) cpu) (all_changed (changes_at homes cpu m deeds) q)
 as_changed homes m cpu [] q h same these = same
 as_changed homes m cpu (d ∷ ds) q h same these =
@@ -210,7 +210,7 @@ ticks_changed : (turn : Turn) (more : List Change) (q : State) → all_changed (
 ticks_changed [] more q = refl
 ticks_changed (ns ∷ turn) more q = ticks_changed turn more ((tick q ns).1)
 
-steps_changed : (steps : List Step) (q : State) → all_changed (changes_of steps) q ≡ after_steps q steps
+pub steps_changed : (steps : List Step) (q : State) → all_changed (changes_of steps) q ≡ after_steps q steps
 steps_changed [] q = refl
 steps_changed (Takes turn ∷ steps) q = ticks_changed turn (changes_of steps) (after_pick q) ∙ steps_changed steps (after_turn q turn)
 steps_changed (Leaves task ∷ steps) q = steps_changed steps (leave q task)
@@ -220,7 +220,7 @@ ticks_of_steps : (turn : Turn) (more : List Change) → AreOfSteps more → AreO
 ticks_of_steps [] more these = these
 ticks_of_steps (ns ∷ turn) more these = (tt, ticks_of_steps turn more these)
 
-are_of_steps : (steps : List Step) → AreOfSteps (changes_of steps)
+pub are_of_steps : (steps : List Step) → AreOfSteps (changes_of steps)
 are_of_steps [] = tt
 are_of_steps (Takes turn ∷ steps) = (tt, ticks_of_steps turn (changes_of steps) (are_of_steps steps))
 are_of_steps (Leaves task ∷ steps) = (tt, are_of_steps steps)

@@ -14,6 +14,7 @@ pub mod OneCpu
 pub mod OneCpuSteps
 pub mod OneCpuJoins
 pub mod Lines
+pub mod OneCpuShares
 pub mod Days
 pub mod RebasedTurns
 pub mod LoweredMachines

@@ -15,6 +15,7 @@ ghost use Rattle.eevdf_fairness.specs.Leavings.{LeavingsKeepFair, RunnableTasksD
 ghost use Rattle.eevdf_fairness.specs.Lines.{LinesTellTime, OneCpuGivesShares};
 ghost use Rattle.eevdf_fairness.specs.OneCpu.{OneCpuIsFair, OneCpuIsFairAnywhere, TurnsOfOneCpu};
 ghost use Rattle.eevdf_fairness.specs.OneCpuJoins.{OneCpuJoinsKeepFair};
+ghost use Rattle.eevdf_fairness.specs.OneCpuShares.{ChangesGiveShares, ChangesTellTime, HealedChangesGiveShares};
 ghost use Rattle.eevdf_fairness.specs.OneCpuSteps.{OneCpuJoinKeepsFair, OneCpuStaysFair, StepsOfOneCpu};
 ghost use Rattle.eevdf_fairness.specs.Share.{TurnsGiveShares};
 
@@ -224,4 +225,23 @@ pub fn one_cpu_gives_shares()
 {
     eevdf_ops::laws::others_stay();
     turns_give_shares();
+}
+
+/// And so they do where deeds that change none of its tasks, nor who runs there, stand among those of its turns, whoever decides them.
+pub fn changes_tell_time()
+    ensures { ChangesTellTime }
+{}
+
+/// And each task has its share then.
+pub fn changes_give_shares()
+    ensures { ChangesGiveShares }
+{
+    turns_give_shares();
+}
+
+/// So it has from any state on, once it has healed.
+pub fn healed_changes_give_shares()
+    ensures { HealedChangesGiveShares }
+{
+    healed_turns_give_shares();
 }

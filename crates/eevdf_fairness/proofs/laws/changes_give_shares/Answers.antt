@@ -1,0 +1,5 @@
+use Rattle.eevdf_fairness.proofs.OneCpuShares as one_cpu_shares
+use Rattle.eevdf_fairness.proofs.laws.changes_give_shares.Goals as goal
+
+pub returns : goal.returns
+returns c = one_cpu_shares.changes_give_shares c.turns_give_shares.ensures
