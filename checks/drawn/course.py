@@ -50,8 +50,13 @@ class Course:
         return (name, chosen, level(dice), slice_length(dice)) if name in ("set", "begin") else (name, chosen)
 
     def go_on(self):
-        """One deed more."""
-        deed, queue = self.drawn(), self.queues[0]
+        """One deed more, and where the tasks are level then, now and then all begins anew."""
+        self.follow(self.drawn())
+        if self.is_level() and self.dice.random() < 0.2:
+            self.begin_anew()
+
+    def follow(self, deed):
+        queue = self.queues[0]
         ran = queue.running
         others = [entry for task, entry in queue.runnable.items() if deed[1:2] != (task,)]
         had = queue.runnable.get(deed[1]) or queue.asleep.get(deed[1]) if len(deed) > 1 else None
@@ -59,15 +64,13 @@ class Course:
         word = answer.split()[0]
         if word == "picked":
             self.left = self.longest
-        elif word == "charged":
+        elif word == "charged" and self.left is not None:
             self.left -= deed[1]
         elif word == "yielded" or word == "rebased" and answer != "rebased 0":
             self.left = None
         elif word in ("woken", "reniced") or word == "set" and deed[1] in queue.runnable:
             self.join(others, deed[1], had.length, ran)
         self.script.append(text_of(deed))
-        if self.is_level() and self.dice.random() < 0.2:
-            self.begin_anew()
 
     def join(self, others, task, length, ran):
         if not others:

@@ -2,8 +2,8 @@
 """fair.py [--seconds N] [--seed SEED] [--top TOP] [--model]: draws turns of one CPU, sends them to the built program `eevdf`, and looks
 whether what it prints keeps within the bounds that "Fairness" of docs/model.md gives, and how near it comes to them. A turn is a pick
 and then ticks of the task picked. Of the examples that are kept in checks/cases/fair one has to come near the bounds of `late`, `past`,
-`rest`, `behind` and `apart`, another that of a late request after a join, and others to meet those of `ahead`, `owed`, a share and a wait.
-With --model the plain model answers in place of the program. The last line is 'N passed, M failed'."""
+`rest`, `behind` and `apart`, two others those of a late request after a join and after two, and others to meet those of `ahead`, `owed`, a
+share and a wait. With --model the plain model answers in place of the program. The last line is 'N passed, M failed'."""
 
 import argparse
 import os
@@ -234,12 +234,14 @@ def look_at_examples(comparison):
     ahead = ("a-task-is-ahead-by-a-whole-turn-of-the-others", [(0, 3000000)] * 2, 10**6)
     off = ("a-task-is-off-its-share-by-a-whole-turn", [(0, 1000000), (0, 1500000)], 10**6)
     joined = ("a-request-is-late-after-a-join-by-almost-four-slices", [(0, 3000000)] * 2, 12 * 10**6)
+    twice = ("a-request-is-late-after-two-joins-by-almost-nine-slices", [(0, 3000000)] * 3, 10**6)
     for (name, tasks, longest), looked_at, clause, least in (
         *((late, turns_alone, clause, Fraction(9999, 10000)) for clause in ("late", "past", "rest", "apart")),
         (late, turns_alone, "behind", Fraction(9998, 10000)),
         *((ahead, turns_alone, clause, Fraction(1)) for clause in ("ahead", "owed")),
         *((off, last_two_turns, clause, Fraction(1)) for clause in ("share", "wait")),
         (joined, last_wake, "late after a join", Fraction(11999998, 12000001)),
+        (twice, last_wakes, "late after joins", Fraction(26999997, 27000002)),
     ):
         workload = (EXAMPLES / f"{name}.toml").read_text()
         clauses = looked_at(lambda text: Seen(comparison.report(text), tasks), workload, tasks, longest)
@@ -265,6 +267,18 @@ def last_wake(seen_of, workload, tasks, longest):
     """The bounds of the others after the last deed, a wake of task 0."""
     before = seen_of(re.sub(r'  "[^"]*",\n\]', "]", workload))
     return list(after_join(before, seen_of(workload), longest, 0, tasks[0]))
+
+
+def last_wakes(seen_of, workload, tasks, longest):
+    """The bounds after the last two deeds, wakes of tasks 0 and 1, before which task 2 was alone."""
+    course = Course(None, tasks, longest, 0)
+    deeds = re.findall(r'^  "0 (.*)",$', workload, re.M)
+    for number, deed in enumerate(deeds):
+        name, *words = deed.replace(" from", "").split()
+        course.follow((name, *map(int, words)))
+        if number < len(deeds) - 2:
+            course.begin_anew()
+    return list(beyond(seen_of(workload), longest, course.late, course.joined))
 
 
 def main():

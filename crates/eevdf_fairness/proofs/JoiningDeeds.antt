@@ -48,7 +48,7 @@ within_limit q e nice =
     fits (unsigned_abs (reniced q e nice).lag) (lag_limit_of e.slice (weight_of nice))
     (cut_small (floor_div (kept_lag q e *ℤ pos (weight_of e.nice)) (weight_of nice)) (lag_limit_of e.slice (weight_of nice)))
 
-reniced_joins : (q : State) (task : ℕ) (nice : ℤ) (e : Entry) → get q.runnable task ≡ Some e → HasOthers (leave q task) task
+pub reniced_joins : (q : State) (task : ℕ) (nice : ℤ) (e : Entry) → get q.runnable task ≡ Some e → HasOthers (leave q task) task
     → (renice q task nice).0 ≡ Reniced → Joins (leave q task) task (reniced q e nice) (renice q task nice).1
 reniced_joins q task nice e here others =
     subst (λ (o : Option Entry). (renice_entry q task nice o).0 ≡ Reniced → Joins (leave q task) task (reniced q e nice) (renice_entry q task nice o).1) (sym here)

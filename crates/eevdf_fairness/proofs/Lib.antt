@@ -29,6 +29,7 @@ pub mod OneCpu
 pub mod OwnChanges
 pub mod OneCpuSteps
 pub mod OneCpuJoins
+pub mod JoiningOthers
 pub mod Lines
 pub mod OneCpuShares
 pub mod Opening

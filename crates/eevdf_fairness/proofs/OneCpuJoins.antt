@@ -25,7 +25,7 @@ waits_by : (q : State) (task : ℕ) (o : Option Entry) → is_running q.running 
 waits_by q task None waits = refl
 waits_by q task (Some e) waits = ap (λ (b : Bool). cond {A = Option ℕ} b None q.running) waits
 
-left_absent : (q : State) (task : ℕ) (o : Option Entry) → get q.runnable task ≡ o → get (without_entry q task o).runnable task ≡ None
+pub left_absent : (q : State) (task : ℕ) (o : Option Entry) → get q.runnable task ≡ o → get (without_entry q task o).runnable task ≡ None
 left_absent q task None is = is
 left_absent q task (Some e) is = gone q.runnable task
 

@@ -13,6 +13,7 @@ pub mod Opening
 pub mod OneCpu
 pub mod OneCpuSteps
 pub mod OneCpuJoins
+pub mod JoiningOthers
 pub mod Lines
 pub mod OneCpuShares
 pub mod Days

@@ -11,6 +11,7 @@ ghost use Rattle.eevdf_fairness.specs.Joining.{
 };
 ghost use Rattle.eevdf_fairness.specs.JoiningDeeds.{DeedsJoin};
 ghost use Rattle.eevdf_fairness.specs.{Days.DaysStayInRange, Keeping.TurnsKeepTasks, Opening.OpeningIsFresh};
+ghost use Rattle.eevdf_fairness.specs.JoiningOthers.{DeedsJoinOthers, StartsAreLevel};
 ghost use Rattle.eevdf_fairness.specs.Leavings.{LeavingsKeepFair, RunnableTasksDecide};
 ghost use Rattle.eevdf_fairness.specs.Lines.{LinesTellTime, OneCpuGivesShares};
 ghost use Rattle.eevdf_fairness.specs.OneCpu.{OneCpuIsFair, OneCpuIsFairAnywhere, TurnsOfOneCpu};
@@ -201,6 +202,13 @@ pub fn one_cpu_join_keeps_fair()
 {
     join_keeps_fair();
 }
+
+/// A wake, a pull, a renice and a set of a runnable task that are done let it join the others, where others are runnable, as the next law
+/// has it; a set may give the request after the next one another slice. Fresh starts, and a task alone, are level, as that law has it.
+pub fn deeds_join_others()
+    ensures joins { DeedsJoinOthers }
+    ensures level { StartsAreLevel }
+{}
 
 /// However many tasks join there, by wakes, by pulls to there and again by renices and sets, also in the middle of a turn, among whatever
 /// else the CPU does: of the tasks that were there all along since no virtual runtime was past any deadline no request is late by more than

@@ -1,0 +1,95 @@
+-- Wakes, pulls, renices and sets let a task join others, and a fresh start is level.
+use Rattle.std.proofs.Common.{◌≡◌, ℕ, ◌≤◌, true, Option, Some, None, refl, sym, ap, ◌∙◌, subst, arith}
+use Rattle.std.specs.Prelude.{ℤ, pos, ◌+ℤ◌, ◌≤ℤ◌}
+use Rattle.std.specs.FinMap.{get, insert}
+use Rattle.std.proofs.lemmas.Int.{ints}
+use Rattle.eevdf_queue.specs.{declared.entry.Entry.Entry, declared.sleeper.Sleeper.Sleeper, State.State, Sums.Tasks, Sums.total_weight, Lag.is_lag, Leaving.leave, Leaving.without_entry}
+use Rattle.eevdf_queue.specs.{declared.answers.ReniceAnswer.ReniceAnswer, Moves.request_of}
+use Rattle.eevdf_queue.specs.declared.answers.ReniceAnswer.TheVariants as reniced_to
+use Rattle.eevdf_queue.specs.declared.answers.SetAnswer.TheVariants.{Set}
+use Rattle.eevdf_queue.specs.{Renice.renice, Renice.reniced, Renice.renice_entry, Renice.renice_to, Placing.put, Attributes.set, Attributes.set_reniced, SliceChange.set_slice, SliceChange.set_entry_slice}
+use Rattle.eevdf_fairness.specs.{Joining.Joins, JoiningDeeds.HasOthers, OneCpuJoins.AreLevel, OneCpuJoins.JoinsOthers}
+use Rattle.eevdf_fairness.specs.JoiningOthers.{IsBesideOthers, DeedsJoinOthers, StartsAreLevel}
+use Rattle.eevdf_fairness.proofs.{Growing.get_here, Growing.insert_twice, Joining.joiner, Joining.joined_tasks, JoiningDeeds.reniced_joins, OneCpuJoins.left_absent}
+
+-- ---- a task that comes from elsewhere
+joins_others : (q : State) (task : ℕ) (s : Sleeper) (r : State) → Joins q task s r → JoinsOthers q task r
+joins_others q task s r j =
+    let gone : leave q task ≡ q = ap (without_entry q task) j.absent in
+    record {
+      sleeper = s;
+      next = s.slice;
+      some = subst (λ (p : State). 1 ≤ total_weight p.runnable) (sym gone) j.some;
+      limited = j.limited;
+      joined = subst (λ (p : State). r.runnable ≡ insert p.runnable task (joiner p s)) (sym gone) (joined_tasks q r task s j);
+    }
+
+-- ---- one that is there
+done_or_range : (q : State) (o : Option State) → (renice_to q o).0 ≡ reniced_to.NotHere → ⊥
+done_or_range q None is = cc
+done_or_range q (Some placed) is = cc
+
+here_not : (q : State) (task : ℕ) (nice : ℤ) (o : Option Entry) (e : Entry) → o ≡ Some e → (renice_entry q task nice o).0 ≡ reniced_to.NotHere → ⊥
+here_not q task nice None e here is = cc
+here_not q task nice (Some f) e here is = done_or_range q (put (leave q task) task (reniced q f nice)) is
+
+module _ (q : State) (task : ℕ) (nice : ℤ) (e : Entry) (beside : IsBesideOthers q task e) where
+  others : HasOthers (leave q task) task
+  others = record { some = beside.some; absent = left_absent q task (get q.runnable task) refl }
+
+  renice_joins : (renice q task nice).0 ≡ reniced_to.Reniced → Joins (leave q task) task (reniced q e nice) (renice q task nice).1
+  renice_joins done = reniced_joins q task nice e beside.here others done
+
+  others_joined : (r : State) (slice : ℕ) → r.runnable ≡ insert (leave q task).runnable task (record (joiner (leave q task) (reniced q e nice)) { slice = slice })
+      → is_lag (reniced q e nice).lag nice e.slice ≡ true → JoinsOthers q task r
+  others_joined r slice is limited = record { sleeper = reniced q e nice; next = slice; some = beside.some; limited = limited; joined = is }
+
+  renices_others : (renice q task nice).0 ≡ reniced_to.Reniced → JoinsOthers q task (renice q task nice).1
+  renices_others done =
+      let j : Joins (leave q task) task (reniced q e nice) (renice q task nice).1 = renice_joins done in
+      others_joined (renice q task nice).1 e.slice (joined_tasks (leave q task) (renice q task nice).1 task (reniced q e nice) j) j.limited
+
+  -- another slice of the task that has just joined
+  slice_set : (r : State) (slice : ℕ) (m : Tasks) (f : Entry) → r.runnable ≡ insert m task f → (set_slice r task slice).runnable ≡ insert m task (record f { slice = slice })
+  slice_set r slice m f is =
+      let here : get r.runnable task ≡ Some f = ap (λ (n : Tasks). get n task) is ∙ get_here m task f in
+      ap (λ (o : Option Entry). (set_entry_slice r task slice o).runnable) here
+      ∙ ap (λ (n : Tasks). insert n task (record f { slice = slice })) is ∙ insert_twice m task f (record f { slice = slice })
+
+  set_by : (slice : ℕ) (a : ReniceAnswer) → (renice q task nice).0 ≡ a → (set_reniced q task nice slice a (renice q task nice).1).0 ≡ Set
+      → JoinsOthers q task (set_reniced q task nice slice a (renice q task nice).1).1
+  set_by slice reniced_to.Reniced is done =
+      let j : Joins (leave q task) task (reniced q e nice) (renice q task nice).1 = renice_joins is in
+      others_joined (set_slice (renice q task nice).1 task slice) slice
+      (slice_set (renice q task nice).1 slice (leave q task).runnable (joiner (leave q task) (reniced q e nice))
+      (joined_tasks (leave q task) (renice q task nice).1 task (reniced q e nice) j)) j.limited
+  set_by slice reniced_to.NotHere is done = absurd (here_not q task nice (get q.runnable task) e beside.here is)
+  set_by slice reniced_to.Range is done = cc
+
+pub deeds_join_others : DeedsJoinOthers
+deeds_join_others = record {
+  joins = joins_others;
+  renices = renices_others;
+  sets = λ q task nice slice e beside done. set_by q task nice e beside slice (renice q task nice).0 refl done;
+}
+
+-- ---- level tasks
+no_more : (a b : ℤ) → a ≡ b → a ≤ℤ b
+no_more a b h = omega (arith, ints, h)
+
+due_after : (d v : ℤ) (c : ℕ) → d ≡ v +ℤ pos c → v ≤ℤ d
+due_after d v c h = omega (arith, ints, h)
+
+pub starts_are_level : StartsAreLevel
+starts_are_level = record {
+  fresh = λ v tasks fresh. record {
+    time = v;
+    none_past = λ t e here. no_more e.v v (ap (λ (x : Entry). x.v) (fresh t e here));
+    none_due = λ t e here. due_after e.d v (request_of e.nice e.slice) (ap (λ (x : Entry). x.d) (fresh t e here));
+  };
+  alone = λ tasks e only due. record {
+    time = e.v;
+    none_past = λ t f here. no_more f.v e.v (ap (λ (x : Entry). x.v) (only t f here));
+    none_due = λ t f here. subst (λ (x : Entry). e.v ≤ℤ x.d) (sym (only t f here)) due;
+  };
+}
