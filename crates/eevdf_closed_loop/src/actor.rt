@@ -1,0 +1,63 @@
+//! A task, and where it stands in its phases.
+
+use crate::draws::Draws;
+use eevdf_ops::CpuId;
+use eevdf_queue::TaskId;
+
+/// How deep loops stand in one another at most.
+pub(crate) const DEPTHS: usize = 8;
+
+/// Whether a task may run, and what it waits for.
+#[derive(Clone, Copy, PartialEq, Eq, Debug)]
+pub(crate) enum Condition {
+    Runnable,
+    /// It sleeps until this moment.
+    Until(u64),
+    /// It sleeps until it is resumed.
+    Suspended,
+    Ended,
+}
+
+/// A task that goes through its phases.
+#[derive(Drop)]
+pub(crate) struct Actor {
+    pub id: TaskId,
+    pub home: CpuId,
+    /// The place of its group.
+    pub group: usize,
+    pub condition: Condition,
+    /// The place of its next phase.
+    pub at: usize,
+    /// For how long it still has to run before that, in nanoseconds.
+    pub left: u64,
+    /// The moment at which it began.
+    pub begun: u64,
+    /// How many rounds of each loop, by depth, it has gone through.
+    pub rounds: [u64; DEPTHS],
+    pub draws: Draws,
+}
+
+impl Actor {
+    /// Where it goes at the end of a loop.
+    pub fn go_again(&mut self, first: usize, depth: usize, rounds: u64) {
+        let Some(done) = self.rounds.get_mut(depth) else {
+            self.at = self.at.saturating_add(1);
+            return;
+        };
+        *done = done.saturating_add(1);
+        if *done < rounds {
+            self.at = first;
+        } else {
+            *done = 0;
+            self.at = self.at.saturating_add(1);
+        }
+    }
+
+    /// The next moment that is a whole number of periods after it began.
+    pub fn next_period(&self, now: u64, period: u64) -> u64 {
+        let since = now.saturating_sub(self.begun);
+        let periods = since.checked_div(period).unwrap_or(since);
+        let next = periods.saturating_add(1).saturating_mul(period);
+        self.begun.saturating_add(next)
+    }
+}

@@ -1,0 +1,23 @@
+//! A scheduler's machine and the tasks on it, each of which goes through its phases: it runs for a while, sleeps, waits for others and
+//! wakes them. What the tasks do next depends on whom the scheduler lets run, so the two are played together, deed by deed, by one clock.
+//!
+//! [`ClosedLoop::step`] gives the next deed with its answer. The order of the deeds is fixed: docs/phases.md has its rules.
+#![tactic(auto)]
+
+mod actor;
+mod closed_loop;
+mod draws;
+mod opening;
+mod phase;
+mod phases_on;
+mod plan;
+mod processor;
+mod schedule;
+mod turns;
+
+pub use closed_loop::ClosedLoop;
+pub use draws::Draws;
+pub use opening::{OpenFault, setup_of};
+pub use phase::{Phase, Span};
+pub use plan::{Group, Plan, Preempt};
+pub use schedule::Stop;

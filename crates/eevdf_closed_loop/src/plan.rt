@@ -1,0 +1,46 @@
+//! The tasks of a machine with their phases, and how the machine is driven.
+
+use crate::phase::Phase;
+use eevdf_weight::{Nice, Slice};
+
+/// When a CPU looks whether another task is to run, besides where its running task has used up its request.
+#[derive(Clone, Copy, PartialEq, Eq, Debug)]
+pub enum Preempt {
+    /// At the clock's tick, where a task has woken there since the last pick.
+    Tick,
+    /// As soon as a task wakes there.
+    Wakeup,
+}
+
+/// Tasks of one kind, whose numbers follow one another.
+#[derive(Drop)]
+pub struct Group {
+    pub name: String,
+    /// How many tasks they are.
+    pub count: usize,
+    /// The CPU where all of them are at home. Where there is none, they are spread: the first is at home on CPU 0, the next on CPU 1, and
+    /// so on, around.
+    pub home: Option<usize>,
+    pub nice: Nice,
+    pub slice: Slice,
+    /// The moment at which they begin, in nanoseconds.
+    pub begins: u64,
+    /// What each of them does, from the beginning again after the last phase.
+    pub phases: Vec<Phase>,
+}
+
+/// What a machine is to do.
+#[derive(Drop)]
+pub struct Plan {
+    pub cpus: usize,
+    /// The length of the clock's tick in nanoseconds. Where it is 0, the end of a request is noticed when it comes.
+    pub tick: u64,
+    /// How long it is driven, in nanoseconds.
+    pub lasts: u64,
+    /// Whether a CPU that has nothing to run pulls a task from another one.
+    pub pull: bool,
+    pub preempt: Preempt,
+    /// From what lengths of time are drawn.
+    pub seed: u64,
+    pub groups: Vec<Group>,
+}

@@ -1,0 +1,302 @@
+//! Which deed comes next, and what is learned of its answer.
+
+use crate::actor::{Actor, Condition};
+use crate::opening::{actors_of, processors_of};
+use crate::plan::{Plan, Preempt};
+use crate::processor::{NEVER, Picks, Processor};
+use eevdf_ops::{Answer, CpuId, Deed, Line, Setup, Solo};
+use eevdf_queue::TaskId;
+use eevdf_weight::Ns;
+use std::alloc::{AllocError, Global};
+
+/// How often what comes next is looked for before it is said that nothing does.
+const MOST_LOOKS: usize = 1_000_000;
+
+/// Why a machine can't be driven on.
+#[derive(Clone, Copy, PartialEq, Eq, Debug)]
+pub enum Stop {
+    /// A virtual time would leave its range, or a deed was answered as it can't be.
+    Refused,
+    /// The task of this number goes through phases without end that take no time.
+    Endless(usize),
+}
+
+/// The tasks with their phases, the CPUs and the clock.
+#[derive(Drop)]
+pub(crate) struct Schedule {
+    pub plan: Plan,
+    pub actors: Vec<Actor>,
+    pub processors: Vec<Processor>,
+    /// How many resumes of each group have found no task suspended and were kept.
+    pub kept: Vec<u64>,
+    pub now: u64,
+    /// The least moment until which a task sleeps, and the place of the first such task.
+    pub wakes_at: u64,
+    pub wakes: usize,
+    pub stop: Option<Stop>,
+}
+
+impl Schedule {
+    /// The tasks and CPUs of a plan at the start.
+    pub fn open(alloc: Global, setup: &Setup, plan: Plan) -> Result<Schedule, AllocError> {
+        let actors = actors_of(alloc, setup, &plan)?;
+        let processors = processors_of(alloc, setup, plan.tick)?;
+        let mut kept = Vec::with_capacity(alloc, plan.groups.len())?;
+        for _group in 0..plan.groups.len() {
+            kept.push(0)?;
+        }
+        let mut schedule = Schedule {
+            plan,
+            actors,
+            processors,
+            kept,
+            now: 0,
+            wakes_at: NEVER,
+            wakes: 0,
+            stop: None,
+        };
+        schedule.find_sleeper();
+        Ok(schedule)
+    }
+
+    /// Why it can't go on.
+    pub fn stop(&self) -> Option<Stop> {
+        self.stop
+    }
+
+    /// What the machine is to do.
+    pub fn plan(&self) -> &Plan {
+        &self.plan
+    }
+
+    /// Up to which moment time has been charged on a CPU.
+    pub fn charged(&self, cpu: CpuId) -> u64 {
+        match self.processors.get(cpu.index()) {
+            Some(processor) => processor.charged,
+            None => self.now,
+        }
+    }
+
+    /// The next deed, if there is one.
+    pub fn next(&mut self, machine: &Solo) -> Option<Deed> {
+        if self.stop.is_some() {
+            return None;
+        }
+        for _look in 0..MOST_LOOKS {
+            let (place, moment) = self.first_processor();
+            let moment = moment.min(self.wakes_at);
+            if moment >= self.plan.lasts {
+                self.now = self.plan.lasts;
+                return self.last_charge();
+            }
+            self.now = moment;
+            if self.wakes_at <= moment {
+                return self.wake_up();
+            }
+            if let Some(deed) = self.turn(machine, place) {
+                return Some(deed);
+            }
+            if self.stop.is_some() {
+                return None;
+            }
+            self.plan_next(machine, place);
+        }
+        None
+    }
+
+    /// The place of the first CPU of those that do something next, and when it does it.
+    fn first_processor(&self) -> (usize, u64) {
+        let mut first = (0, NEVER);
+        for (place, processor) in self.processors.iter().enumerate() {
+            if processor.next < first.1 {
+                first = (place, processor.next);
+            }
+        }
+        first
+    }
+
+    /// What charges the time up to the end, CPU by CPU.
+    fn last_charge(&mut self) -> Option<Deed> {
+        for place in 0..self.processors.len() {
+            if let Some(deed) = self.charge(place) {
+                return Some(deed);
+            }
+        }
+        None
+    }
+
+    /// What charges a CPU the time up to now, unless it is charged.
+    pub fn charge(&self, place: usize) -> Option<Deed> {
+        let processor = self.processors.get(place)?;
+        let since = self.now.saturating_sub(processor.charged);
+        let ns = Ns::new(since.min(Ns::MAX.get()))?;
+        Some(Deed::Tick {
+            cpu: processor.id,
+            ns,
+        })
+    }
+
+    /// Wakes the task that sleeps until now, when its home is charged.
+    fn wake_up(&mut self) -> Option<Deed> {
+        let home = self.actors.get(self.wakes)?.home;
+        if let Some(deed) = self.charge(home.index()) {
+            return Some(deed);
+        }
+        let actor = self.actors.get_mut(self.wakes)?;
+        actor.condition = Condition::Runnable;
+        let task = actor.id;
+        self.find_sleeper();
+        Some(Deed::Wake {
+            cpu: home,
+            task,
+            sender: home,
+        })
+    }
+
+    /// Looks for the first of the tasks that sleep until the least moment.
+    fn find_sleeper(&mut self) {
+        self.wakes_at = NEVER;
+        for (place, actor) in self.actors.iter().enumerate() {
+            if let Condition::Until(moment) = actor.condition {
+                if moment < self.wakes_at {
+                    self.wakes_at = moment;
+                    self.wakes = place;
+                }
+            }
+        }
+    }
+
+    /// A task sleeps until a moment.
+    pub fn sleeps_until(&mut self, place: usize, moment: u64) {
+        let is_first = moment == self.wakes_at && place < self.wakes;
+        if moment < self.wakes_at || is_first {
+            self.wakes_at = moment;
+            self.wakes = place;
+        }
+    }
+
+    /// Learns what a deed was answered.
+    pub fn learn(&mut self, machine: &Solo, line: &Line) {
+        let place = line.deed.cpu().index();
+        let deed = line.deed;
+        match deed {
+            Deed::Tick { ns, .. } => self.has_ticked(machine, place, ns.get(), line.answer),
+            Deed::Pick { .. } => self.has_picked(place, line.answer),
+            Deed::Wake { .. } => self.has_woken(machine, place, line.answer),
+            Deed::Pull { source, .. } => {
+                self.has_pulled(place, line.answer);
+                self.plan_next(machine, source.index());
+            }
+            _ => self.has_done(line.answer),
+        }
+        self.plan_next(machine, place);
+    }
+
+    /// Time has been charged.
+    fn has_ticked(&mut self, machine: &Solo, place: usize, ns: u64, answer: Answer) {
+        match answer {
+            Answer::Charged { resched, .. } => self.has_run(machine, place, ns, resched),
+            Answer::Idle => self.has_idled(place, ns),
+            _ => self.stop = Some(Stop::Refused),
+        }
+    }
+
+    /// A deed has been done that is answered alike whatever else there is.
+    fn has_done(&mut self, answer: Answer) {
+        match answer {
+            Answer::Slept(_) | Answer::Yielded | Answer::Reniced | Answer::Ended => {}
+            _ => self.stop = Some(Stop::Refused),
+        }
+    }
+
+    /// The running task has been charged so much, and may have used up its request.
+    fn has_run(&mut self, machine: &Solo, place: usize, ns: u64, resched: bool) {
+        let others = self.has_others(machine, place);
+        let Some(processor) = self.processors.get_mut(place) else {
+            return;
+        };
+        processor.charged = processor.charged.saturating_add(ns);
+        if resched && others {
+            processor.pick_soon();
+        }
+        let Some(running) = processor.running else {
+            return;
+        };
+        if let Some(actor) = self.actors.get_mut(running) {
+            actor.left = actor.left.saturating_sub(ns);
+        }
+    }
+
+    /// So much time has gone by without a running task.
+    fn has_idled(&mut self, place: usize, ns: u64) {
+        if let Some(processor) = self.processors.get_mut(place) {
+            processor.charged = processor.charged.saturating_add(ns);
+        }
+    }
+
+    /// A CPU has picked.
+    fn has_picked(&mut self, place: usize, answer: Answer) {
+        match answer {
+            Answer::Picked(task) => self.has_next(place, task),
+            _ => self.has_none(place),
+        }
+    }
+
+    /// A task has been picked.
+    fn has_next(&mut self, place: usize, task: TaskId) {
+        let Some(processor) = self.processors.get_mut(place) else {
+            return;
+        };
+        processor.running = Some(task.index());
+        processor.picks = Picks::No;
+        processor.is_woken = false;
+        processor.tick_after(self.now, self.plan.tick);
+    }
+
+    /// There was nobody to pick.
+    fn has_none(&mut self, place: usize) {
+        if let Some(processor) = self.processors.get_mut(place) {
+            processor.running = None;
+            processor.picks = Picks::No;
+            processor.is_woken = false;
+            processor.looked = 0;
+        }
+    }
+
+    /// A CPU has pulled. A task that it got from another one is to be picked.
+    fn has_pulled(&mut self, place: usize, answer: Answer) {
+        if let Answer::Pulled(_) = answer {
+            if let Some(processor) = self.processors.get_mut(place) {
+                processor.picks = Picks::Now;
+            }
+        }
+    }
+
+    /// A task has woken. Where it is not alone there, the CPUs that have nothing to run look for work again.
+    fn has_woken(&mut self, machine: &Solo, place: usize, answer: Answer) {
+        if answer != Answer::Woken {
+            self.stop = Some(Stop::Refused);
+            return;
+        }
+        let preempt = self.plan.preempt;
+        if let Some(processor) = self.processors.get_mut(place) {
+            processor.is_woken = true;
+            if processor.running.is_none() || preempt == Preempt::Wakeup {
+                processor.pick_soon();
+            }
+        }
+        if self.plan.pull && self.has_others(machine, place) {
+            self.look_again();
+        }
+    }
+
+    /// Each CPU that has nothing to run looks for work again.
+    fn look_again(&mut self) {
+        for processor in self.processors.iter_mut() {
+            if processor.running.is_none() && processor.picks == Picks::No {
+                processor.looked = 0;
+                processor.next = self.now;
+            }
+        }
+    }
+}

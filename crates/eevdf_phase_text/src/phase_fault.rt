@@ -1,0 +1,207 @@
+//! Why a workload of phases is refused.
+
+use std::alloc::{AllocError, AllocFailed};
+use std::error::Error;
+use std::fmt;
+
+/// Where something is wrong. Places count from 0.
+#[derive(Clone, Copy, PartialEq, Eq, Debug)]
+pub enum Place {
+    Document,
+    Machine,
+    Task(usize),
+    /// A phase of a task, or one within it, where it is a loop.
+    Phase { task: usize, phase: usize },
+}
+
+impl fmt::Display for Place {
+    fn fmt<W: fmt::Write>(&self, f: &mut fmt::Formatter<W>) -> fmt::Result {
+        match *self {
+            Place::Document => Ok(()),
+            Place::Machine => f.write_str("machine: "),
+            Place::Task(task) => write!(f, "task {task}: "),
+            Place::Phase { task, phase } => write!(f, "task {task}, phase {phase}: "),
+        }
+    }
+}
+
+/// A key of the document.
+#[derive(Clone, Copy, PartialEq, Eq, Debug)]
+pub enum Key {
+    Version,
+    Seed,
+    Machine,
+    Cpus,
+    Lasts,
+    Tick,
+    Pull,
+    Preempt,
+    Task,
+    Name,
+    Count,
+    Home,
+    Nice,
+    Slice,
+    Begins,
+    Phases,
+    Run,
+    Sleep,
+    Timer,
+    Resume,
+    Loop,
+}
+
+impl Key {
+    /// The key as it is written.
+    pub fn name(self) -> &'static str {
+        match self {
+            Key::Version => "version",
+            Key::Seed => "seed",
+            Key::Machine => "machine",
+            Key::Cpus => "cpus",
+            Key::Lasts => "lasts",
+            Key::Tick => "tick",
+            Key::Pull => "pull",
+            Key::Preempt => "preempt",
+            Key::Task => "task",
+            Key::Name => "name",
+            Key::Count => "count",
+            Key::Home => "home",
+            Key::Nice => "nice",
+            Key::Slice => "slice",
+            Key::Begins => "begins",
+            Key::Phases => "phases",
+            Key::Run => "run",
+            Key::Sleep => "sleep",
+            Key::Timer => "timer",
+            Key::Resume => "resume",
+            Key::Loop => "loop",
+        }
+    }
+
+    /// What its value has to be.
+    pub fn expected(self) -> &'static str {
+        match self {
+            Key::Version => "the number 1",
+            Key::Seed => "a whole number from 0 on",
+            Key::Machine => "a table",
+            Key::Cpus => "a number from 1 to 64",
+            Key::Lasts | Key::Timer => "a length of time, as \"3ms\", of 1ns to 1000000s",
+            Key::Tick | Key::Begins => "a length of time, as \"3ms\", of 0 to 1000000s",
+            Key::Pull => "true or false",
+            Key::Preempt => "\"wakeup\" or \"tick\"",
+            Key::Task => "tables, as [[task]]",
+            Key::Name => "a text of 1 to 64 letters, digits, -, _ and .",
+            Key::Count => "a number from 1 to 1024",
+            Key::Home => "the number of a CPU of the machine",
+            Key::Nice => "a number from -20 to 19",
+            Key::Slice => "a length of time from 100us to 100ms",
+            Key::Phases => "a list of 1 to 1000 phases",
+            Key::Run | Key::Sleep => {
+                "a length of time, as \"3ms\", or a range, as \"2ms..5ms\", of 1ns to 1000000s"
+            }
+            Key::Resume => "the name of a task",
+            Key::Loop => "a number from 1 to 1000000000",
+        }
+    }
+}
+
+/// What is wrong at a place.
+#[derive(PartialEq, Eq, Debug, Drop)]
+pub enum Wrong {
+    /// Out of memory.
+    Memory,
+    /// The text has more than `MOST_BYTES` bytes.
+    TooLarge,
+    /// It isn't UTF-8, or no TOML document; from this byte on, where that is known.
+    NotToml,
+    /// The key has to be there and isn't.
+    Missing(Key),
+    /// The key's value isn't what it has to be.
+    Bad(Key),
+    /// This key isn't known here.
+    UnknownKey(String),
+    /// This word is no phase.
+    UnknownPhase(String),
+    /// A phase is neither a text nor a table of one phase.
+    NoPhase,
+    /// No task has this name.
+    NoTask(String),
+    /// Another task has this name.
+    SameName(String),
+    /// Loops stand in one another more than eight deep.
+    TooDeep,
+    /// A loop, or the whole, has neither a run nor a sleep nor a timer in it.
+    NoTime,
+    /// There are more than 1024 tasks.
+    TooMany,
+}
+
+/// Why a workload of phases is refused.
+#[derive(PartialEq, Eq, Debug, Drop)]
+pub struct PhaseFault {
+    pub place: Place,
+    pub wrong: Wrong,
+}
+
+impl fmt::Display for Wrong {
+    fn fmt<W: fmt::Write>(&self, f: &mut fmt::Formatter<W>) -> fmt::Result {
+        match self {
+            Wrong::Memory => f.write_str("memory"),
+            Wrong::TooLarge => f.write_str("longer than 16777216 bytes"),
+            Wrong::NotToml => f.write_str("not a TOML document"),
+            Wrong::Missing(key) => {
+                let name = key.name();
+                write!(f, "missing {name}")
+            }
+            Wrong::Bad(key) => {
+                let name = key.name();
+                let expected = key.expected();
+                write!(f, "bad value of {name}, which is {expected}")
+            }
+            Wrong::UnknownKey(word) => write!(f, "unknown key {word:?}"),
+            Wrong::UnknownPhase(word) => write!(f, "unknown phase {word:?}"),
+            Wrong::NoPhase => f.write_str("a phase is a text or a table of one phase"),
+            Wrong::NoTask(word) => write!(f, "no task has the name {word:?}"),
+            Wrong::SameName(word) => write!(f, "another task has the name {word:?}"),
+            Wrong::TooDeep => f.write_str("loops stand in one another more than 8 deep"),
+            Wrong::NoTime => f.write_str("a loop without run, sleep or timer takes no time"),
+            Wrong::TooMany => f.write_str("more than 1024 tasks"),
+        }
+    }
+}
+
+impl fmt::Display for PhaseFault {
+    fn fmt<W: fmt::Write>(&self, f: &mut fmt::Formatter<W>) -> fmt::Result {
+        let place = self.place;
+        let wrong = &self.wrong;
+        write!(f, "{place}{wrong}")
+    }
+}
+
+impl Error for PhaseFault {}
+
+impl From<AllocError> for PhaseFault {
+    fn from(_out_of_memory: AllocError) -> PhaseFault {
+        PhaseFault {
+            place: Place::Document,
+            wrong: Wrong::Memory,
+        }
+    }
+}
+
+impl<T: Drop> From<AllocFailed<T>> for PhaseFault {
+    fn from(_out_of_memory: AllocFailed<T>) -> PhaseFault {
+        PhaseFault {
+            place: Place::Document,
+            wrong: Wrong::Memory,
+        }
+    }
+}
+
+impl Place {
+    /// The fault that something is wrong here.
+    pub(crate) fn fault(self, wrong: Wrong) -> PhaseFault {
+        PhaseFault { place: self, wrong }
+    }
+}

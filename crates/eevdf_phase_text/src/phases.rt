@@ -1,0 +1,175 @@
+//! The phases of a task.
+
+use crate::keys::{known_alone, list, number_or};
+use crate::lengths::{length, span};
+use crate::phase_fault::{Key, PhaseFault, Place, Wrong};
+use crate::tasks::{nice_of, place_of};
+use eevdf_closed_loop::{Group, Phase, Span};
+use std::alloc::Global;
+use toml::{Table, Value};
+
+/// So many phases a task has at most, those in loops and the ends of loops included.
+const MOST_PHASES: usize = 1000;
+
+/// So deep loops stand in one another at most.
+const MOST_DEPTHS: usize = 8;
+
+/// The phases of the task at a place, of which the loops are laid flat: behind what is repeated stands how often.
+pub(crate) fn phases(
+    alloc: Global,
+    members: &[Value],
+    task: usize,
+    named: &[Group],
+) -> Result<Vec<Phase>, PhaseFault> {
+    let mut phases = Vec::new(alloc);
+    for (phase, member) in members.iter().enumerate() {
+        let place = Place::Phase { task, phase };
+        push_phase(alloc, &mut phases, member, place, named, 0)?;
+    }
+    if phases.is_empty() {
+        return Err(Place::Task(task).fault(Wrong::Bad(Key::Phases)));
+    }
+    if !takes_time(&phases, 0) {
+        return Err(Place::Task(task).fault(Wrong::NoTime));
+    }
+    Ok(phases)
+}
+
+/// Adds a phase, or a loop with all that stands in it, at a depth of loops.
+fn push_phase(
+    alloc: Global,
+    phases: &mut Vec<Phase>,
+    member: &Value,
+    place: Place,
+    named: &[Group],
+    depth: usize,
+) -> Result<(), PhaseFault> {
+    let table = match member {
+        Value::String(word) => return push(phases, place, word_phase(alloc, word.as_str(), place)?),
+        Value::Table(table) => table,
+        _ => return Err(place.fault(Wrong::NoPhase)),
+    };
+    if table.get(Key::Loop.name()).is_none() {
+        return push(phases, place, table_phase(alloc, table, place, named)?);
+    }
+    known_alone(alloc, table, place, &[Key::Loop, Key::Phases])?;
+    if depth >= MOST_DEPTHS {
+        return Err(place.fault(Wrong::TooDeep));
+    }
+    let rounds = number_or(table, place, Key::Loop, (1, 1_000_000_000), 1)?;
+    let first = phases.len();
+    for inner in list(table, place, Key::Phases)? {
+        push_phase(alloc, phases, inner, place, named, depth + 1)?;
+    }
+    if !takes_time(phases, first) {
+        return Err(place.fault(Wrong::NoTime));
+    }
+    let rounds = u64::try_from(rounds).unwrap_or(1);
+    push(
+        phases,
+        place,
+        Phase::Again {
+            first,
+            depth,
+            rounds,
+        },
+    )
+}
+
+fn push(phases: &mut Vec<Phase>, place: Place, phase: Phase) -> Result<(), PhaseFault> {
+    if phases.len() >= MOST_PHASES {
+        return Err(place.fault(Wrong::Bad(Key::Phases)));
+    }
+    phases.push(phase)?;
+    Ok(())
+}
+
+/// Whether one of the phases from a place on takes time.
+fn takes_time(phases: &[Phase], first: usize) -> bool {
+    for at in first..phases.len() {
+        let phase = phases[at];
+        match phase {
+            Phase::Run(_) | Phase::Sleep(_) | Phase::Timer(_) | Phase::End => return true,
+            _ => {}
+        }
+    }
+    false
+}
+
+/// The phase that a word is.
+fn word_phase(alloc: Global, word: &str, place: Place) -> Result<Phase, PhaseFault> {
+    match word {
+        "suspend" => Ok(Phase::Suspend),
+        "yield" => Ok(Phase::Yield),
+        "end" => Ok(Phase::End),
+        _ => {
+            let word = String::from_str(alloc, word)?;
+            Err(place.fault(Wrong::UnknownPhase(word)))
+        }
+    }
+}
+
+/// The phase that a table of one key is.
+fn table_phase(
+    alloc: Global,
+    table: &Table,
+    place: Place,
+    named: &[Group],
+) -> Result<Phase, PhaseFault> {
+    if table.len() != 1 {
+        return Err(place.fault(Wrong::NoPhase));
+    }
+    known_alone(
+        alloc,
+        table,
+        place,
+        &[Key::Run, Key::Sleep, Key::Timer, Key::Resume, Key::Nice],
+    )?;
+    if let Some(value) = table.get(Key::Run.name()) {
+        return Ok(Phase::Run(span_of(value, place, Key::Run)?));
+    }
+    if let Some(value) = table.get(Key::Sleep.name()) {
+        return Ok(Phase::Sleep(span_of(value, place, Key::Sleep)?));
+    }
+    if let Some(value) = table.get(Key::Timer.name()) {
+        return Ok(Phase::Timer(period_of(value, place)?));
+    }
+    if let Some(value) = table.get(Key::Resume.name()) {
+        return Ok(Phase::Resume(named_of(alloc, value, place, named)?));
+    }
+    Ok(Phase::Nice(nice_of(table, place, 0)?))
+}
+
+fn span_of(value: &Value, place: Place, key: Key) -> Result<Span, PhaseFault> {
+    match value.as_str() {
+        Some(text) => span(text).ok_or(place.fault(Wrong::Bad(key))),
+        None => Err(place.fault(Wrong::Bad(key))),
+    }
+}
+
+fn period_of(value: &Value, place: Place) -> Result<u64, PhaseFault> {
+    let text = value.as_str().ok_or(place.fault(Wrong::Bad(Key::Timer)))?;
+    match length(text) {
+        Some(ns) if ns >= 1 => Ok(ns),
+        _ => Err(place.fault(Wrong::Bad(Key::Timer))),
+    }
+}
+
+/// The place of the group that a value names.
+fn named_of(
+    alloc: Global,
+    value: &Value,
+    place: Place,
+    named: &[Group],
+) -> Result<usize, PhaseFault> {
+    let Some(name) = value.as_str() else {
+        return Err(place.fault(Wrong::Bad(Key::Resume)));
+    };
+    match place_of(named, name) {
+        Some(group) => Ok(group),
+        None => {
+            let name = String::from_str(alloc, name)?;
+            Err(place.fault(Wrong::NoTask(name)))
+        }
+    }
+}

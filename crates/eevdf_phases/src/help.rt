@@ -1,0 +1,25 @@
+//! What the program says of itself.
+
+/// What is printed where the words aren't known.
+pub(crate) const USAGE: &str = "usage: eevdf_phases [--run|--stats] [FILE]";
+
+/// What `--version` prints.
+pub(crate) const VERSION: &str = "eevdf_phases 0.6.0\n";
+
+/// What `--help` prints.
+pub(crate) const HELP: &str = "\
+eevdf_phases reads what tasks do, phase by phase, and prints the script that the scheduler does with them, for `eevdf solo`.
+
+usage: eevdf_phases [--run|--stats] [FILE]
+
+  --run        prints each deed with its answer and its moment instead
+  --stats      prints for how long each task ran and waited instead
+  FILE         the workload of phases; without it, or where it is -, standard input is read
+  --help, -h   prints this
+  --version    prints the version
+
+example: eevdf_phases examples/phases/web-server.toml | eevdf solo
+
+The format: docs/phases.md. The status is 0 where all went well, 1 where the workload is refused, or the machine could not be driven to the
+end, 2 where the words aren't known, and 3 where memory, reading or writing failed.
+";
