@@ -1,0 +1,158 @@
+#!/usr/bin/env -S python3 -B
+"""checks/phases/check.py: compares what the built program `eevdf_phases` makes of workloads of phases with a plain model of docs/phases.md:
+of those of examples/phases/, and of drawn ones until so many deeds are compared. `eevdf solo` has to take each script and give the answers
+that the program rested on. Faulty workloads have to be refused with their lines, and hostile ones answered within bounds. The last line is
+'N passed, M failed'."""
+
+import argparse
+import resource
+import sys
+from pathlib import Path
+from random import Random
+
+HERE = Path(__file__).resolve().parent
+sys.path[:0] = [str(HERE), str(HERE.parent)]
+
+from document import read  # noqa: E402
+from drawing import draw  # noqa: E402
+from faulty import faulty  # noqa: E402
+from figures import figure_lines  # noqa: E402
+from hostile import HOSTILE  # noqa: E402
+from runner import TOP, Checks, Printed, built  # noqa: E402
+from script import MOST_DEEDS, run_lines, script_lines  # noqa: E402
+
+# At least so many workloads are drawn.
+LEAST = 10
+
+# A hostile workload is answered within so many seconds of processor time, in an address space of so many bytes.
+SECONDS = 10
+MEMORY = 64 << 20
+
+
+def parse_words():
+    words = argparse.ArgumentParser(description=__doc__)
+    words.add_argument("--deeds", type=int, default=10000, help="how many deeds of drawn workloads are compared")
+    words.add_argument("--seed", default="1", help="what they are drawn from")
+    return words.parse_args()
+
+
+def lines_of(printed):
+    return printed.out.decode().splitlines()
+
+
+def first_difference(lines, expected):
+    for place, (line, other) in enumerate(zip(lines, expected)):
+        if line != other:
+            return f"line {place + 1} is {line!r}, and not {other!r}"
+    return None if len(lines) == len(expected) else f"{len(lines)} lines, and not {len(expected)}"
+
+
+def answers_by_cpu(lines):
+    """The deeds with their answers, by CPU, as a report has them: of lines as `1.500000 name: 0 pick: picked 1`."""
+    by_cpu = {}
+    for line in lines:
+        cpu, deed = line.split(": ", 1)[1].split(" ", 1)
+        by_cpu.setdefault(cpu, []).append(deed)
+    return by_cpu
+
+
+def reported_by_cpu(lines):
+    by_cpu = {}
+    for line in lines:
+        if line.startswith("cpu "):
+            cpu, is_deed = line[4:], True
+        elif line.startswith("load "):
+            is_deed = False
+        elif is_deed:
+            by_cpu.setdefault(cpu, []).append(line)
+    return by_cpu
+
+
+def difference(programs, text):
+    """What differs from the model, or None, and how many deeds were compared."""
+    data = text.encode()
+    plan = read(text)
+    scripted, run, figures = (programs.run("eevdf_phases", flag, data) for flag in ([], ["--run"], ["--stats"]))
+    if scripted.status or run.status or figures.status:
+        return f"is answered {scripted.errors!r}, {run.errors!r} and {figures.errors!r}", 0
+    expected = list(run_lines(plan))
+    differs = (first_difference(lines_of(run), expected) or first_difference(lines_of(scripted), list(script_lines(plan)))
+               or first_difference(lines_of(figures), list(figure_lines(plan))))
+    solo = programs.run("eevdf", ["solo"], scripted.out)
+    if not differs and (solo.status or reported_by_cpu(lines_of(solo)) != answers_by_cpu(expected)):
+        differs = "`eevdf solo` gives other answers"
+    return differs, len(expected)
+
+
+def check_examples(checks, programs):
+    for file in sorted((TOP / "examples" / "phases").glob("*.toml")):
+        differs, deeds = difference(programs, file.read_text())
+        figures = programs.run("eevdf_phases", ["--stats", file])
+        if not differs and figures != Printed(file.with_suffix(".out").read_bytes()):
+            differs = f"has the figures {figures}"
+        checks.look(f"{file.name}, {deeds} deeds", differs)
+
+
+def check_drawn(checks, programs, words):
+    random = Random(words.seed)
+    deeds = 0
+    drawn = 0
+    while deeds < words.deeds or drawn < LEAST:
+        text = draw(random)
+        differs, more = difference(programs, text)
+        drawn += 1
+        deeds += more
+        if differs:
+            checks.look(f"drawn workload {drawn} of the seed {words.seed}", f"{differs} in\n{text}")
+            return
+    checks.look("drawn workloads", None, f"{drawn} of them, {deeds} deeds")
+
+
+def check_faults(checks, programs):
+    wrong = []
+    for text, line in faulty():
+        printed = programs.run("eevdf_phases", [], text.encode())
+        if printed.status != 1 or printed.out or printed.errors.decode() != line:
+            wrong.append(f"{line!r} is {printed}")
+    checks.look("faulty workloads", "; ".join(wrong))
+
+
+def check_words(checks, programs):
+    usage = b"usage: eevdf_phases [--run|--stats] [FILE]\n"
+    for words in (["--rum"], ["a", "b"], ["--run", "--run"], ["--run", "--stats"], [""]):
+        printed = programs.run("eevdf_phases", words)
+        checks.expect(f"words {words}", printed, printed.status == 2 and not printed.out and printed.errors == usage)
+    helped = programs.run("eevdf_phases", ["--help"])
+    checks.expect("--help", helped, helped.status == 0 and usage.strip() in helped.out)
+    missing = programs.run("eevdf_phases", ["no-such-file"])
+    checks.expect("no such file", missing, missing.status == 3 and missing.errors == b"fault: reading\n")
+    with open("/dev/full", "w") as full:
+        text = (TOP / "examples" / "phases" / "web-server.toml").read_bytes()
+        printed = programs.run("eevdf_phases", [], text, stdout=full)
+    checks.expect("a full device", printed, printed.status == 3 and printed.errors == b"fault: writing\n")
+
+
+def check_hostile(checks, programs):
+    for name, (text, status, error) in HOSTILE.items():
+        printed = programs.run("eevdf_phases", [], text.encode(), limits={resource.RLIMIT_AS: MEMORY})
+        is_right = printed.status == status and printed.errors.startswith(error) and printed.out.count(b'"') <= 2 * MOST_DEEDS
+        if printed.processor > SECONDS:
+            checks.look(name, f"takes {printed.processor:.1f} s")
+        else:
+            checks.look(name, None if is_right else f"status {printed.status}, {printed.errors!r}", f"{printed.processor:.1f} s")
+
+
+def main():
+    words = parse_words()
+    programs = built("eevdf", "eevdf_phases")
+    checks = Checks()
+    check_examples(checks, programs)
+    check_drawn(checks, programs, words)
+    check_faults(checks, programs)
+    check_words(checks, programs)
+    check_hostile(checks, programs)
+    return checks.end()
+
+
+if __name__ == "__main__":
+    sys.exit(main())

@@ -1,0 +1,67 @@
+"""Draws workloads of phases."""
+
+LENGTHS = ["37us", "100us", "250us", "1ms", "1500us", "2ms", "3ms", "7ms", "999999ns"]
+RANGES = ["100us..900us", "1ms..4ms", "1ns..2ms", "3ms..3ms"]
+
+
+def length(random):
+    return random.choice(LENGTHS + RANGES)
+
+
+def timed(random):
+    word = random.choice(["run", "run", "run", "sleep", "sleep", "timer"])
+    return f'{{ {word} = "{random.choice(LENGTHS) if word == "timer" else length(random)}" }}'
+
+
+def timeless(random, names):
+    resume = f'{{ resume = "{random.choice(names)}" }}'
+    return random.choice(['"suspend"', '"yield"', f"{{ nice = {random.randint(-20, 19)} }}", resume, resume, resume])
+
+
+def phases(random, names, depth=0):
+    parts = [timed(random)]
+    for _ in range(random.randint(0, 3)):
+        kind = random.random()
+        if kind < 0.4:
+            parts.append(timed(random))
+        elif kind < 0.8 or depth == 3:
+            parts.append(timeless(random, names))
+        else:
+            parts.append(f"{{ loop = {random.randint(1, 3)}, phases = [{phases(random, names, depth + 1)}] }}")
+    if depth == 0 and random.random() < 0.1:
+        parts.append('"end"')
+    random.shuffle(parts)
+    return ", ".join(parts)
+
+
+def task(random, name, names, cpus):
+    lines = ["[[task]]", f'name = "{name}"']
+    if random.random() < 0.5:
+        lines.append(f"count = {random.randint(1, 5)}")
+    if random.random() < 0.5:
+        lines.append(f"home = {random.randrange(cpus)}")
+    if random.random() < 0.5:
+        lines.append(f"nice = {random.randint(-20, 19)}")
+    if random.random() < 0.3:
+        lines.append(f'slice = "{random.choice(["100us", "500us", "1ms", "10ms"])}"')
+    if random.random() < 0.2:
+        lines.append(f'begins = "{random.choice(LENGTHS)}"')
+    lines.append(f"phases = [{phases(random, names)}]")
+    return lines
+
+
+def draw(random):
+    """The text of a workload of phases without a fault."""
+    cpus = random.choice([1, 1, 2, 2, 3, 4, 7])
+    names = [f"t{number}" for number in range(random.randint(1, 5))]
+    lines = ["version = 1", f"seed = {random.randrange(1 << 63)}", "[machine]", f"cpus = {cpus}",
+             f'lasts = "{random.choice(["10ms", "25ms", "60ms"])}"']
+    if random.random() < 0.4:
+        lines.append(f'tick = "{random.choice(["1ms", "4ms", "333us"])}"')
+    if random.random() < 0.4:
+        lines.append('preempt = "tick"')
+    if random.random() < 0.2:
+        lines.append("pull = false")
+    for name in names:
+        lines += task(random, name, names, cpus)
+    return "\n".join(lines) + "\n"
