@@ -1,0 +1,65 @@
+#!/usr/bin/env bash
+# examples/sched_ext/build_linux.sh FOLDER: fetches the source of Linux 6.12 by Debian's package, 153 MB, and builds a small Linux with
+# sched_ext below the folder, as linux.config says, with what modules, programs of BPF and their loader are built against. It installs
+# nothing, and goes on where an earlier run was ended. It takes 3 GB and some minutes to an hour. JOBS says how many compilers run at once (2).
+# Ends with 3 where something is missing.
+set -eu
+here=$(cd "$(dirname "$0")" && pwd)
+package=linux-source-6.12
+
+fail() {
+  echo "examples/sched_ext/build_linux.sh: $1" >&2
+  exit "$2"
+}
+
+# need TOOL PACKAGE
+need() {
+  command -v "$1" >/dev/null || fail "there is no $1 (Debian package $2)" 3
+}
+
+[ $# = 1 ] || fail "give a folder" 2
+mkdir -p "$1"
+cd "$1"
+case $PWD in
+*[[:space:]:]*) fail "$PWD has a blank or a colon: Linux's makefiles take none" 2 ;;
+esac
+for tool in gcc make flex bison bc pahole; do
+  need "$tool" "$tool"
+done
+need xz xz-utils
+need dpkg-deb dpkg
+for header in gelf.h zlib.h; do
+  echo "#include <$header>" | gcc -E - >/dev/null 2>&1 || fail "there is no $header (Debian packages libelf-dev, zlib1g-dev)" 3
+done
+
+# The source, without most of what no such Linux is built of.
+unpack() {
+  local packages
+  packages=$(mktemp -d "$PWD/packages-XXXXXX")
+  trap 'rm -rf "$packages"' EXIT
+  (cd "$packages" && apt-get download "$package") || fail "there is no $package: it is in bookworm-security and bookworm-backports" 3
+  rm -rf tree
+  mkdir tree
+  dpkg-deb --fsys-tarfile "$packages"/*.deb | tar --extract --to-stdout "./usr/src/$package.tar.xz" |
+    tar --extract --xz --directory tree --strip-components=1 --exclude='*/Documentation/*/*' --exclude='*/arch/[a-wyz]*/*.[chS]' \
+      --exclude='*/drivers/gpu/*.[ch]' --exclude='*/drivers/media/*.[ch]' --exclude='*/sound/*.[ch]' \
+      --exclude='*/tools/perf/*' --exclude='*.dts' --exclude='*.dtsi'
+  touch unpacked
+}
+
+configure() {
+  local wanted
+  cp "$here/linux.config" tree/kernel/configs/eevdf.config
+  make -C tree tinyconfig eevdf.config >said 2>&1 || { tail -n 20 said; fail "Linux isn't configured" 1; }
+  for wanted in SMP SCHED_CLASS_EXT DEBUG_INFO_BTF_MODULES HIGH_RES_TIMERS PREEMPT MITIGATION_RETHUNK; do
+    grep -qx "CONFIG_$wanted=y" tree/.config || fail "Linux can't be configured by CONFIG_$wanted" 1
+  done
+}
+
+export LANG=C LC_ALL=C
+rm -f built
+[ -e unpacked ] || unpack
+configure
+make -C tree -j"${JOBS:-2}" bzImage modules >said 2>&1 || { tail -n 40 said; fail "Linux isn't built" 1; }
+make -s -C tree kernelrelease >built
+echo "Linux $(cat built) is built"

@@ -1,0 +1,68 @@
+/*
+ * calls.h: the calls of the library that the module makes, each of which is written into the trace
+ * where there is one, and counted. A call whose answer says that the module is wrong is kept as the
+ * fault of the run: it ends the scheduler.
+ */
+#ifndef CALLS_H
+#define CALLS_H
+
+#include <eevdf.h>
+#include <linux/hrtimer.h>
+#include <linux/spinlock.h>
+
+/* The calls by the numbers that they have in the trace; replay.py has the same list. */
+enum call {
+	CALL_OPEN, CALL_ADMIT, CALL_END, CALL_PICK, CALL_PEEK, CALL_TICK, CALL_TIME_TO_RESCHED, CALL_YIELD,
+	CALL_STOP, CALL_RUN, CALL_SLEEP, CALL_WAKE, CALL_SET, CALL_TAKE, CALL_PUT_ASLEEP, CALL_PULL,
+	CALL_PULL_TASK, CALL_REBASE, CALL_LEN, CALL_LOAD, CALL_RUNNING, CALL_CANDIDATE, CALL_IS_ASLEEP,
+	CALL_ENTRY_OF, CALLS
+};
+
+/* The run queue of a CPU. All but `cpu` and the hints needs the lock. */
+struct cpu_queue {
+	raw_spinlock_t lock;
+	int cpu;
+	eevdf_queue queue;
+	struct list_head waiting;	/* the tasks of the queue that Linux has left to this scheduler */
+	struct task_struct *on_cpu;	/* who runs on the CPU, and is charged from `since` on */
+	u64 since;
+	u64 rebased;
+	bool is_due;			/* a request was used up since the last pick */
+	struct hrtimer timer;
+	long tasks_hint, load_hint;	/* written under the lock, and read without */
+};
+
+int begin_trace(void);
+void end_trace(void);
+
+/* The first call that failed, in words, or NULL. */
+const char *fault_of_run(void);
+s64 fail(struct cpu_queue *queue, enum call call, u64 task, s64 answer);
+u64 calls_made(void);
+
+void call_open(struct cpu_queue *queue);
+s64 call_admit(struct cpu_queue *queue, eevdf_block *block, u64 task, s64 nice, u64 slice_ns);
+s64 call_end(struct cpu_queue *queue, eevdf_block *block, u64 task);
+s64 call_pick(struct cpu_queue *queue);
+s64 call_peek(struct cpu_queue *queue);
+s64 call_tick(struct cpu_queue *queue, u64 ns);
+s64 call_time_to_resched(struct cpu_queue *queue);
+s64 call_yield(struct cpu_queue *queue);
+s64 call_stop(struct cpu_queue *queue);
+s64 call_run(struct cpu_queue *queue, u64 task);
+s64 call_sleep(struct cpu_queue *queue, u64 task);
+s64 call_wake(struct cpu_queue *queue, u64 task);
+s64 call_set(struct cpu_queue *queue, u64 task, s64 nice, u64 slice_ns);
+s64 call_take(struct cpu_queue *queue, eevdf_hand *hand, u64 task);
+s64 call_put_asleep(struct cpu_queue *queue, eevdf_hand *hand);
+s64 call_pull(struct cpu_queue *to, struct cpu_queue *from);
+s64 call_pull_task(struct cpu_queue *to, struct cpu_queue *from, u64 task);
+s64 call_rebase(struct cpu_queue *queue);
+s64 call_len(struct cpu_queue *queue);
+s64 call_load(struct cpu_queue *queue);
+s64 call_running(struct cpu_queue *queue);
+s64 call_candidate(struct cpu_queue *queue);
+s64 call_is_asleep(struct cpu_queue *queue, u64 task);
+s64 call_deadline(struct cpu_queue *queue, u64 task, s64 *deadline);
+
+#endif

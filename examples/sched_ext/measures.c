@@ -1,0 +1,129 @@
+/* measures.c: shares of tasks that compute, how late one is that sleeps, and what one has that naps. */
+#define _GNU_SOURCE
+#include "machine.h"
+
+#include <stdio.h>
+#include <stdlib.h>
+#include <unistd.h>
+
+enum { HOGS = 4, WAKES = 20000, PERIOD = 10 * MILLISECOND };
+
+static const int levels[HOGS] = { 0, 0, 5, 5 };
+
+struct lateness {
+	int count;
+	int64_t late[WAKES];
+};
+
+static _Noreturn void compute(void)
+{
+	for (;;)
+		compute_until(INT64_MAX);
+}
+
+/* Sleeps to the next beginning of a period, and keeps how late it came to run. */
+static _Noreturn void sleep_and_wake(struct lateness *lateness)
+{
+	for (int64_t next = now_ns() + PERIOD;; next += PERIOD) {
+		sleep_until(next);
+		if (lateness->count < WAKES)
+			lateness->late[lateness->count++] = now_ns() - next;
+		compute_until(now_ns() + 100000);
+	}
+}
+
+static int compare(const void *one, const void *other)
+{
+	int64_t a = *(const int64_t *)one, b = *(const int64_t *)other;
+
+	return (a > b) - (a < b);
+}
+
+/* How late, in microseconds: of half the wakes, of 9 of 10, of 99 of 100, and of all, no more than so much. */
+static void say_lateness(const char *name, struct lateness *lateness)
+{
+	int count = lateness->count;
+	int64_t *late = lateness->late;
+
+	if (count == 0) {
+		say("FAULT: %s: nobody woke", name);
+		return;
+	}
+	qsort(late, (size_t)count, sizeof *late, compare);
+	say("%s: %s: %d wakes, late by at most %lld %lld %lld %lld us", is_loaded() ? "queues" : "fair", name, count,
+	    (long long)late[count / 2] / 1000, (long long)late[count * 9 / 10] / 1000,
+	    (long long)late[count * 99 / 100] / 1000, (long long)late[count - 1] / 1000);
+}
+
+static void say_parts(const char *name, const pid_t *children, const int64_t *before, int count)
+{
+	int64_t had[HOGS + 1], all = 0;
+	char text[128];
+	size_t length = 0;
+
+	for (int at = 0; at < count; at++) {
+		had[at] = had_ns(children[at]) - before[at];
+		all += had[at];
+	}
+	for (int at = 0; at < count; at++)
+		length += (size_t)snprintf(text + length, sizeof text - length, " %.2f", 100.0 * (double)had[at] / (double)all);
+	say("%s: %s:%s %%", is_loaded() ? "queues" : "fair", name, text);
+}
+
+/* Two hogs of nice level 0 and two of 5, beside one that mostly sleeps. */
+void measure_shares(int seconds)
+{
+	struct lateness *lateness = shared(sizeof *lateness);
+	pid_t hogs[HOGS], sleeper;
+	int64_t before[HOGS];
+
+	for (int at = 0; at < HOGS; at++) {
+		hogs[at] = fork_as("hog", levels[at]);
+		if (hogs[at] == 0)
+			compute();
+	}
+	sleeper = fork_as("sleeper", 0);
+	if (sleeper == 0)
+		sleep_and_wake(lateness);
+	sleep_ns(500 * MILLISECOND);
+	for (int at = 0; at < HOGS; at++)
+		before[at] = had_ns(hogs[at]);
+	sleep_ns((int64_t)seconds * SECOND);
+	say_parts("shares", hogs, before, HOGS);
+	end_child(sleeper);
+	for (int at = 0; at < HOGS; at++)
+		end_child(hogs[at]);
+	say_lateness("the sleeper", lateness);
+}
+
+/* A hog that naps: it runs for 4 ms, sleeps for an instant, and goes on. Beside seven that never do an eighth would be fair. */
+void measure_naps(int seconds)
+{
+	enum { OTHERS = 7 };
+	pid_t children[OTHERS + 1];
+	int64_t before[OTHERS + 1], all = 0, napped = 0;
+
+	for (int at = 0; at <= OTHERS; at++) {
+		children[at] = fork_as(at ? "hog" : "napping", 0);
+		if (children[at] == 0) {
+			while (at == 0) {
+				compute_until(now_ns() + 4 * MILLISECOND);
+				sleep_ns(1000);
+			}
+			compute();
+		}
+	}
+	sleep_ns(500 * MILLISECOND);
+	for (int at = 0; at <= OTHERS; at++)
+		before[at] = had_ns(children[at]);
+	sleep_ns((int64_t)seconds * SECOND);
+	for (int at = 0; at <= OTHERS; at++) {
+		int64_t had = had_ns(children[at]) - before[at];
+
+		all += had;
+		napped += at ? 0 : had;
+	}
+	for (int at = 0; at <= OTHERS; at++)
+		end_child(children[at]);
+	say("%s: a napping hog beside seven: %.2f %%, where an eighth is 12.50", is_loaded() ? "queues" : "fair", 100.0 * (double)napped / (double)all);
+}

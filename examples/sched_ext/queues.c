@@ -1,0 +1,262 @@
+/* queues.c: what goes on in the queue of a CPU, under its lock. */
+#include "queues.h"
+
+#include <linux/module.h>
+#include <linux/slab.h>
+#include <linux/timekeeping.h>
+
+unsigned int slice_us = 3000, rebase_ms = 86400000;
+module_param(slice_us, uint, 0444);
+MODULE_PARM_DESC(slice_us, "the slice of each task, in microseconds");
+module_param(rebase_ms, uint, 0444);
+MODULE_PARM_DESC(rebase_ms, "how often each queue's virtual times are lowered, in milliseconds: once a day by default");
+
+static struct cpu_queue *queues;
+
+struct cpu_queue *queue_of(int cpu)
+{
+	return &queues[cpu];
+}
+
+/* Where others look without the lock, to begin with the most loaded CPU. */
+void write_hints(struct cpu_queue *queue)
+{
+	WRITE_ONCE(queue->tasks_hint, eevdf_len(&queue->queue));
+	WRITE_ONCE(queue->load_hint, eevdf_load(&queue->queue));
+}
+
+void lock_queue(struct cpu_queue *queue)
+{
+	raw_spin_lock(&queue->lock);
+}
+
+void unlock_queue(struct cpu_queue *queue)
+{
+	write_hints(queue);
+	raw_spin_unlock(&queue->lock);
+}
+
+void lock_two(struct cpu_queue *one, struct cpu_queue *other)
+{
+	struct cpu_queue *first = one->cpu < other->cpu ? one : other;
+
+	raw_spin_lock(&first->lock);
+	if (one != other)
+		raw_spin_lock_nested(&(first == one ? other : one)->lock, SINGLE_DEPTH_NESTING);
+}
+
+struct cpu_queue *lock_home(struct task *task)
+{
+	for (;;) {
+		int home = READ_ONCE(task->home);
+
+		if (home == NOWHERE)
+			return NULL;
+		lock_queue(&queues[home]);
+		if (task->home == home)
+			return &queues[home];
+		unlock_queue(&queues[home]);
+	}
+}
+
+/* A task goes from one queue to another, where it sleeps. Both locks are held. */
+static void move_asleep(struct task *task, struct cpu_queue *from, struct cpu_queue *to)
+{
+	u64 number = number_of(task);
+	eevdf_hand hand;
+	s64 answer;
+
+	if (from->on_cpu == task->linux_task) {
+		charge(from);
+		from->on_cpu = NULL;
+	}
+	eevdf_hand_open(&hand);
+	answer = call_take(from, &hand, number);
+	if (answer < 0)
+		fail(from, CALL_TAKE, number, answer);
+	answer = call_put_asleep(to, &hand);
+	if (answer < 0)
+		fail(to, CALL_PUT_ASLEEP, number, answer);
+	is_taken_back(task);
+	WRITE_ONCE(task->home, to->cpu);
+}
+
+struct cpu_queue *bring(struct task *task, int cpu)
+{
+	struct cpu_queue *to = &queues[cpu];
+
+	for (;;) {
+		int home = READ_ONCE(task->home);
+		struct cpu_queue *from = home == NOWHERE ? to : &queues[home];
+		bool is_there;
+
+		lock_two(from, to);
+		is_there = task->home == home;
+		if (is_there && from != to)
+			move_asleep(task, from, to);
+		if (from != to)
+			unlock_queue(from);
+		if (is_there)
+			return to;
+		unlock_queue(to);
+	}
+}
+
+/*
+ * Charges whoever is on the CPU for the time since it was last charged. More than a second is
+ * charged in several ticks, and no time in none.
+ */
+s64 charge(struct cpu_queue *queue)
+{
+	u64 now = ktime_get_mono_fast_ns();
+	u64 left = now > queue->since ? now - queue->since : 0;
+	s64 answer = 0;
+
+	if (!queue->on_cpu)
+		return 0;
+	while (left > 0 && answer >= 0) {
+		u64 ns = min_t(u64, left, EEVDF_TICK_MAX);
+
+		answer = call_tick(queue, ns);
+		queue->is_due |= answer == 1;
+		queue->since += ns;
+		left -= ns;
+	}
+	return answer < 0 ? fail(queue, CALL_TICK, 0, answer) : 0;
+}
+
+static s64 admit(struct cpu_queue *queue, struct task *task)
+{
+	u64 number = number_of(task);
+	eevdf_block block = take_block();
+	s64 answer = call_admit(queue, &block, number, nice_of(task->linux_task), (u64)slice_us * NSEC_PER_USEC);
+
+	give_block(block);
+	if (answer < 0)
+		return fail(queue, CALL_ADMIT, number, answer);
+	WRITE_ONCE(task->home, queue->cpu);
+	return 0;
+}
+
+/* The task is runnable here, whether it slept here or is new. */
+s64 make_runnable(struct cpu_queue *queue, struct task *task)
+{
+	u64 number = number_of(task);
+	s64 answer;
+
+	if (task->home == NOWHERE)
+		return admit(queue, task);
+	if (!call_is_asleep(queue, number))
+		return 0;
+	answer = call_wake(queue, number);
+	return answer < 0 ? fail(queue, CALL_WAKE, number, answer) : 0;
+}
+
+/* Who runs falls asleep by one call; who waits is taken out, and put back asleep. */
+s64 fall_asleep(struct cpu_queue *queue, struct task *task)
+{
+	u64 number = number_of(task);
+	eevdf_hand hand;
+	s64 answer;
+
+	is_taken_back(task);
+	if (call_is_asleep(queue, number))
+		return 0;
+	if (call_running(queue) == number) {
+		answer = call_sleep(queue, number);
+		return answer < 0 ? fail(queue, CALL_SLEEP, number, answer) : 0;
+	}
+	eevdf_hand_open(&hand);
+	answer = call_take(queue, &hand, number);
+	if (answer < 0)
+		return fail(queue, CALL_TAKE, number, answer);
+	answer = call_put_asleep(queue, &hand);
+	return answer < 0 ? fail(queue, CALL_PUT_ASLEEP, number, answer) : 0;
+}
+
+s64 rebase_in_time(struct cpu_queue *queue)
+{
+	u64 now = ktime_get_mono_fast_ns();
+
+	if (now < queue->rebased + (u64)rebase_ms * NSEC_PER_MSEC)
+		return 0;
+	queue->rebased = now;
+	return call_rebase(queue);
+}
+
+void is_left_to_us(struct cpu_queue *queue, struct task *task)
+{
+	task->is_ours = true;
+	list_move_tail(&task->waiting, &queue->waiting);
+}
+
+void is_taken_back(struct task *task)
+{
+	task->is_ours = false;
+	list_del_init(&task->waiting);
+}
+
+/* The timer is set to the end of the running task's request, by the CPU itself. */
+void set_timer(struct cpu_queue *queue)
+{
+	s64 ns;
+
+	if (smp_processor_id() != queue->cpu)
+		return;
+	ns = call_time_to_resched(queue);
+	if (ns > 0)
+		hrtimer_start(&queue->timer, ns_to_ktime(ns), HRTIMER_MODE_REL_PINNED_HARD);
+}
+
+/* Lets Linux ask for the next pick as soon as the interrupt ends. The CPU's own task alone is changed. */
+static void end_turn(struct task_struct *linux_task)
+{
+	linux_task->scx.slice = 0;
+	set_tsk_need_resched(linux_task);
+	set_preempt_need_resched();
+}
+
+static enum hrtimer_restart on_timer(struct hrtimer *timer)
+{
+	struct cpu_queue *queue = container_of(timer, struct cpu_queue, timer);
+
+	lock_queue(queue);
+	if (queue->on_cpu && queue->on_cpu == current && queue->cpu == smp_processor_id()) {
+		charge(queue);
+		if (queue->is_due)
+			end_turn(queue->on_cpu);
+		else
+			set_timer(queue);
+	}
+	unlock_queue(queue);
+	return HRTIMER_NORESTART;
+}
+
+int begin_queues(void)
+{
+	if (nr_cpu_ids > MAX_CPUS)
+		return -E2BIG;
+	queues = kvcalloc(nr_cpu_ids, sizeof *queues, GFP_KERNEL);
+	if (!queues)
+		return -ENOMEM;
+	for (int cpu = 0; cpu < nr_cpu_ids; cpu++) {
+		struct cpu_queue *queue = &queues[cpu];
+
+		raw_spin_lock_init(&queue->lock);
+		queue->cpu = cpu;
+		queue->rebased = ktime_get_mono_fast_ns();
+		INIT_LIST_HEAD(&queue->waiting);
+		hrtimer_init(&queue->timer, CLOCK_MONOTONIC, HRTIMER_MODE_REL_HARD);
+		queue->timer.function = on_timer;
+		call_open(queue);
+	}
+	return 0;
+}
+
+/* No task has a number any more, so no queue has a task. */
+void end_queues(void)
+{
+	for (int cpu = 0; cpu < nr_cpu_ids; cpu++)
+		hrtimer_cancel(&queues[cpu].timer);
+	kvfree(queues);
+}

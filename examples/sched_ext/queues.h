@@ -1,0 +1,49 @@
+/*
+ * queues.h: the queues of the CPUs and their locks. A queue's lock is taken with interrupts off,
+ * inside of Linux's own lock of a run queue, and those of two queues in ascending order. No lock
+ * of Linux's is taken inside.
+ */
+#ifndef QUEUES_H
+#define QUEUES_H
+
+#include "tasks.h"
+
+enum { MAX_CPUS = 32 };
+
+int begin_queues(void);
+void end_queues(void);
+
+struct cpu_queue *queue_of(int cpu);
+void lock_queue(struct cpu_queue *queue);
+void unlock_queue(struct cpu_queue *queue);
+void lock_two(struct cpu_queue *one, struct cpu_queue *other);
+void write_hints(struct cpu_queue *queue);
+
+/* Takes the lock of the queue where the task is, and gives that, or NULL where it is in none. */
+struct cpu_queue *lock_home(struct task *task);
+
+/*
+ * Takes the lock of the CPU's queue. A task that was in another one sleeps in this one then; one
+ * that was in none is in none still.
+ */
+struct cpu_queue *bring(struct task *task, int cpu);
+
+/* What goes on in one queue, under its lock. Each answers 0 or more, or what has failed. */
+s64 charge(struct cpu_queue *queue);
+s64 make_runnable(struct cpu_queue *queue, struct task *task);
+s64 fall_asleep(struct cpu_queue *queue, struct task *task);
+s64 rebase_in_time(struct cpu_queue *queue);
+void set_timer(struct cpu_queue *queue);
+/* Linux has left the task to this scheduler, or takes it back. */
+void is_left_to_us(struct cpu_queue *queue, struct task *task);
+void is_taken_back(struct task *task);
+
+/* Pulls a task into the CPU's queue, of which neither lock is held, and leaves its lock taken. */
+struct cpu_queue *pull_for_idle(int cpu);
+struct cpu_queue *pull_for_balance(int cpu);
+bool may_come(struct task *task, int cpu);
+
+extern unsigned int slice_us, rebase_ms, balance_us;
+extern atomic64_t pulled, pulled_when_busy;
+
+#endif

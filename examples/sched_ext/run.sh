@@ -1,0 +1,94 @@
+#!/usr/bin/env bash
+# examples/sched_ext/run.sh FOLDER WORD..: builds the module, the scheduler of BPF and the machine's program for the Linux that
+# build_linux.sh has put into the folder, boots it in qemu, and has the machine do what the words say, in their order:
+#   load, unload       the module and the scheduler
+#   shares=SECONDS     shares of four hogs beside a task that sleeps, and how late that wakes
+#   naps=SECONDS       the share of a hog that naps
+#   hunt=SECONDS       a hunt for a task that stands still
+#   forks              forks until one is refused
+#   fault=1, fault=2   a planted fault: a task that is lost as it wakes, a call that fails
+# Prints what the machine says. Ends with 1 where that has a fault or is not to its end, with 3 where something is missing, and with 124
+# where qemu takes too long.
+# CPUS says how many the machine has (1), WORDS the module's parameters, TRACE a file where the trace of all calls goes, for replay.py. ICOUNT
+# says how qemu counts time (shift=3,sleep=off: by instructions; `off`: by the host's clock). MODULE names the kept LLVM module of the
+# library (crates/eevdf_c/out/module). LOG keeps all that Linux says, and SECONDS_OF_QEMU is how long it may take (600).
+set -eu
+here=$(cd "$(dirname "$0")" && pwd)
+top=$(cd "$here/../.." && pwd)
+export LANG=C LC_ALL=C
+
+fail() {
+  echo "examples/sched_ext/run.sh: $1" >&2
+  exit "$2"
+}
+
+# need TOOL PACKAGE
+need() {
+  command -v "$1" >/dev/null || fail "there is no $1 (Debian package $2)" 3
+}
+
+[ $# -ge 1 ] || fail "give the folder that build_linux.sh has filled" 2
+folder=$(realpath -m "$1")
+shift
+[ -e "$folder/built" ] || fail "there is no built Linux in $folder: examples/sched_ext/build_linux.sh FOLDER" 3
+tree=$folder/tree
+libbpf=$tree/tools/bpf/resolve_btfids/libbpf
+need gcc gcc
+need make make
+need clang clang
+need pahole pahole
+need qemu-system-x86_64 qemu-system-x86
+
+work=$(mktemp -d)
+trap 'rm -rf "$work"' EXIT
+module=$(realpath -m "${MODULE:-$top/crates/eevdf_c/out/module}")
+
+# quietly WHAT COMMAND..: does a command, and shows what it says where it fails or warns.
+quietly() {
+  local what=$1
+  shift
+  "$@" >"$work/said" 2>&1 || { tail -n 60 "$work/said"; fail "$what isn't built" 1; }
+  if grep -iE "warning|objtool:" "$work/said" | grep -vE "statically linked applications requires"; then
+    fail "something is said of $what" 1
+  fi
+}
+
+MODULE=$module quietly "the library" "$top/install" --kernel --thunks "$work/prefix"
+mkdir "$work/module"
+cp "$here"/Kbuild "$here"/{calls,tasks,queues,scheduler}.h "$here"/{module,scheduler,pulls,queues,tasks,calls}.c "$work/module"
+quietly "the module" make -C "$tree" M="$work/module" PREFIX="$work/prefix" modules
+quietly "the scheduler" clang -O2 -g -Wall -Werror -target bpf -mcpu=v3 -I "$libbpf/include" -I "/usr/include/$(gcc -dumpmachine)" -c \
+  -o "$work/scheduler.bpf.o" "$here/scheduler.bpf.c"
+quietly "the machine's program" gcc -std=gnu11 -O2 -Wall -Wextra -static -I "$libbpf/include" -o "$work/init" \
+  "$here"/{machine,loading,measures,hunt,faults}.c "$libbpf/libbpf.a" -lelf -lz
+"$here/../linux/initramfs.py" "$work/initramfs" init="$work/init" eevdf_queues.ko="$work/module/eevdf_queues.ko" \
+  scheduler.bpf.o="$work/scheduler.bpf.o"
+
+# The trace goes where Linux doesn't: the last quarter of the machine's memory, which is a file.
+machine=pc
+memory=()
+words=${WORDS:-}
+if [ -n "${TRACE:-}" ]; then
+  machine=pc,memory-backend=ram
+  memory=(-object "memory-backend-file,id=ram,size=512M,mem-path=$work/ram,share=on")
+  words="$words trace_at=402653184 trace_size=134217728"
+fi
+# without ACPI Linux finds one CPU in each socket
+cpus=${CPUS:-1}
+counted=()
+[ "${ICOUNT:=shift=3,sleep=off}" = off ] || counted=(-icount "$ICOUNT")
+
+status=0
+timeout "${SECONDS_OF_QEMU:-600}" qemu-system-x86_64 -machine "$machine" -accel tcg -m 512 "${memory[@]}" -smp "cpus=$cpus,sockets=$cpus" "${counted[@]}" \
+  -nodefaults -display none -serial stdio -no-reboot -kernel "$tree/arch/x86/boot/bzImage" -initrd "$work/initramfs" \
+  -append "console=ttyS0 mem=384M tsc=reliable panic=-1 \"module=$words\" -- $*" </dev/null >"$work/log" || status=$?
+[ -z "${LOG:-}" ] || cp "$work/log" "$LOG"
+[ -z "${TRACE:-}" ] || "$here/replay.py" --cut "$work/ram" "$TRACE"
+tr -d '\r' <"$work/log" | sed -n '/^[0-9]* CPUs$/,$p'
+[ "$status" != 124 ] || fail "qemu hasn't come to its end" 124
+[ "$status" = 0 ] || fail "qemu ended with $status" 1
+grep -q '^done' "$work/log" || { tail -n 40 "$work/log"; fail "the machine hasn't come to its end" 1; }
+# what is planted is a call of task 1024, which is no number of a task
+if grep -E 'FAULT|BUG|Oops|WARNING|general protection|Kernel panic|rcu.*stall|failed: call' "$work/log" | grep -v ' of task 1024 ' >"$work/found"; then
+  fail "a fault is found: $(head -n 1 "$work/found")" 1
+fi

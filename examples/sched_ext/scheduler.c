@@ -1,0 +1,327 @@
+/*
+ * scheduler.c: what Linux tells of its tasks, as calls on the queues. A task is runnable in a queue
+ * as long as Linux has left it to this scheduler, or it runs. Else it sleeps there: it has fallen
+ * asleep, or Linux changes it or moves it, and has it back meanwhile.
+ */
+#include "scheduler.h"
+
+#include <linux/module.h>
+#include <linux/timekeeping.h>
+
+/* A planted fault: 1 loses tasks that are named "lost" as they wake, and 2 makes a call that has to fail. */
+int planted;
+module_param(planted, int, 0644);
+
+atomic64_t picked, run_unpicked, cancelled;
+
+/* A bit for each CPU that has found nothing to do. It is set before the CPU tries the others. */
+static unsigned long looking;
+
+s64 begin_number(struct task_struct *linux_task)
+{
+	return begin_task(linux_task);
+}
+
+static eevdf_block take_out(struct task *task)
+{
+	eevdf_block block = { NULL };
+	struct cpu_queue *queue = lock_home(task);
+	s64 answer;
+
+	if (!queue)
+		return block;
+	if (queue->on_cpu == task->linux_task) {
+		charge(queue);
+		queue->on_cpu = NULL;
+	}
+	is_taken_back(task);
+	answer = call_end(queue, &block, number_of(task));
+	if (answer < 0)
+		fail(queue, CALL_END, number_of(task), answer);
+	WRITE_ONCE(task->home, NOWHERE);
+	unlock_queue(queue);
+	return block;
+}
+
+void end_number(struct task_struct *linux_task)
+{
+	struct task *task = task_of(linux_task);
+
+	if (task)
+		end_task(task, take_out(task));
+}
+
+void leave(struct task_struct *linux_task)
+{
+	struct task *task = task_of(linux_task);
+
+	if (task)
+		give_block(take_out(task));
+}
+
+int place(struct task_struct *linux_task, int cpu)
+{
+	int least = cpu, other;
+
+	for_each_cpu_and(other, linux_task->cpus_ptr, cpu_online_mask)
+		if (READ_ONCE(queue_of(other)->load_hint) < READ_ONCE(queue_of(least)->load_hint))
+			least = other;
+	return least;
+}
+
+/*
+ * Which CPUs are told of a task that has come: each that looks for work, where two tasks are here;
+ * this one, where it has nobody, and where somebody else is to run.
+ */
+static s64 whom_to_tell(struct cpu_queue *queue)
+{
+	s64 told = 0, running = call_running(queue);
+
+	write_hints(queue);
+	smp_mb();	/* with that of pick(): either the task is seen there, or the bit here */
+	if (queue->tasks_hint >= 2)
+		told = READ_ONCE(looking) & ~BIT(queue->cpu);
+	if (running < 0)
+		told |= BIT(queue->cpu);
+	else if (queue->on_cpu && (queue->is_due || call_peek(queue) != running))
+		told |= PREEMPT_HOME;
+	return told;
+}
+
+/* A task that Linux has preempted by another class waits, as the others do. */
+static s64 stop_waiting_one(struct cpu_queue *queue, u64 number)
+{
+	s64 answer;
+
+	if (call_running(queue) != number)
+		return 0;
+	answer = call_stop(queue);
+	return answer < 0 ? fail(queue, CALL_STOP, number, answer) : 0;
+}
+
+s64 enqueue(struct task_struct *linux_task)
+{
+	struct task *task = task_of(linux_task);
+	struct cpu_queue *queue;
+	s64 answer;
+
+	if (!task)
+		return -ESRCH;
+	if (planted == 1 && !strcmp(linux_task->comm, "lost"))
+		return 0;
+	queue = bring(task, task_cpu(linux_task));
+	if (planted == 2)
+		fail(queue, CALL_WAKE, EEVDF_TASKS, call_wake(queue, EEVDF_TASKS));
+	answer = charge(queue);
+	if (answer >= 0)
+		answer = make_runnable(queue, task);
+	if (answer >= 0)
+		answer = stop_waiting_one(queue, number_of(task));
+	if (answer >= 0) {
+		is_left_to_us(queue, task);
+		answer = whom_to_tell(queue);
+	}
+	unlock_queue(queue);
+	return planted == 2 ? EEVDF_INVALID : answer;
+}
+
+s64 take_back(struct task_struct *linux_task)
+{
+	struct task *task = task_of(linux_task);
+	struct cpu_queue *queue = task ? lock_home(task) : NULL;
+	s64 answer;
+
+	if (!queue)
+		return 0;
+	answer = charge(queue);
+	if (answer >= 0)
+		answer = fall_asleep(queue, task);
+	unlock_queue(queue);
+	return answer;
+}
+
+/* The task runs on the CPU from now on, and is the running one of the queue. */
+static void begin_turn(struct cpu_queue *queue, struct task_struct *linux_task)
+{
+	linux_task->scx.slice = SCX_SLICE_INF;	/* the queue's timer ends it */
+	queue->on_cpu = linux_task;
+	queue->since = ktime_get_mono_fast_ns();
+	queue->is_due = false;
+	clear_bit(queue->cpu, &looking);
+	set_timer(queue);
+}
+
+/* Whom Linux has chosen: as the scheduler comes and goes, and where it puts back a task that ran while it was changed. */
+static s64 run_unpicked_one(struct cpu_queue *queue, struct task *task)
+{
+	u64 number = number_of(task);
+	s64 answer = make_runnable(queue, task);
+
+	if (answer >= 0)
+		answer = call_run(queue, number);
+	atomic64_inc(&run_unpicked);
+	return answer < 0 ? fail(queue, CALL_RUN, number, answer) : 0;
+}
+
+s64 start(struct task_struct *linux_task)
+{
+	struct task *task = task_of(linux_task);
+	struct cpu_queue *queue;
+	s64 answer = 0;
+
+	if (!task)
+		return -ESRCH;
+	queue = bring(task, task_cpu(linux_task));
+	charge(queue);
+	is_taken_back(task);
+	if (call_running(queue) != number_of(task))
+		answer = run_unpicked_one(queue, task);
+	begin_turn(queue, linux_task);
+	unlock_queue(queue);
+	return answer;
+}
+
+s64 stop(struct task_struct *linux_task)
+{
+	struct cpu_queue *queue = queue_of(task_cpu(linux_task));
+	s64 answer = 0;
+
+	lock_queue(queue);
+	if (queue->on_cpu == linux_task) {
+		answer = charge(queue);
+		queue->on_cpu = NULL;
+	}
+	unlock_queue(queue);
+	return answer;
+}
+
+/* Whoever ran, and could go on; NULL where it sleeps now, or is of another class. */
+static struct task *task_that_ran(void)
+{
+	return current->scx.flags & SCX_TASK_QUEUED ? task_of(current) : NULL;
+}
+
+s64 go_on(int cpu)
+{
+	struct task *task = task_that_ran();
+	struct cpu_queue *queue;
+	s64 answer = 0;
+
+	if (!task)
+		return 0;
+	queue = bring(task, cpu);
+	if (call_running(queue) != number_of(task))
+		answer = run_unpicked_one(queue, task);
+	begin_turn(queue, current);
+	unlock_queue(queue);
+	return answer;
+}
+
+/* Takes the queue's lock, with a task of another CPU where one came over. */
+static struct cpu_queue *lock_with_pulled(int cpu)
+{
+	struct cpu_queue *queue = queue_of(cpu);
+	bool is_empty;
+
+	lock_queue(queue);
+	charge(queue);
+	queue->on_cpu = NULL;
+	rebase_in_time(queue);
+	is_empty = call_len(queue) == 0;
+	unlock_queue(queue);
+	if (!is_empty)
+		return pull_for_balance(cpu);
+	set_bit(cpu, &looking);
+	smp_mb();	/* with that of whom_to_tell() */
+	return pull_for_idle(cpu);
+}
+
+struct task_struct *pick(int cpu, s64 *failed)
+{
+	struct cpu_queue *queue = lock_with_pulled(cpu);
+	struct task *task = task_by_number(call_pick(queue));
+	struct task_struct *dispatched = NULL;
+
+	*failed = 0;
+	queue->is_due = false;
+	if (task)
+		atomic64_inc(&picked);
+	if (task && task == task_that_ran())
+		begin_turn(queue, current);
+	else if (task && task->is_ours)
+		dispatched = task->linux_task;
+	else if (task)
+		*failed = fail(queue, CALL_PICK, number_of(task), -EPERM);
+	unlock_queue(queue);
+	return dispatched;
+}
+
+/*
+ * Linux has noted in which state the task is dispatched: where anything of it changes from here on,
+ * it takes the dispatch for void. Whatever changed before is seen here.
+ */
+bool confirm(int cpu, struct task_struct *linux_task)
+{
+	struct task *task = task_of(linux_task);
+	struct cpu_queue *queue = queue_of(cpu);
+	bool is_confirmed;
+
+	lock_queue(queue);
+	is_confirmed = task && task->home == cpu && may_come(task, cpu) && call_running(queue) == number_of(task);
+	unlock_queue(queue);
+	if (!is_confirmed)
+		atomic64_inc(&cancelled);
+	return is_confirmed;
+}
+
+/* Linux's own tick is a net below the timer. */
+s64 tick(struct task_struct *linux_task)
+{
+	struct cpu_queue *queue = queue_of(task_cpu(linux_task));
+	s64 answer = 0;
+
+	lock_queue(queue);
+	if (queue->on_cpu == linux_task) {
+		answer = charge(queue);
+		if (queue->is_due)
+			linux_task->scx.slice = 0;
+		else if (!hrtimer_active(&queue->timer))
+			set_timer(queue);
+	}
+	unlock_queue(queue);
+	return answer;
+}
+
+/* A lone task has nobody to yield to. One that can yield no more, since its deadline would leave the range, isn't wrong. */
+s64 yield_turn(struct task_struct *linux_task)
+{
+	struct cpu_queue *queue = queue_of(task_cpu(linux_task));
+	s64 answer = 0;
+
+	lock_queue(queue);
+	if (queue->on_cpu == linux_task) {
+		answer = charge(queue);
+		if (call_len(queue) >= 2)
+			call_yield(queue);
+		linux_task->scx.slice = 0;
+	}
+	unlock_queue(queue);
+	return answer;
+}
+
+s64 change_weight(struct task_struct *linux_task)
+{
+	struct task *task = task_of(linux_task);
+	struct cpu_queue *queue = task ? lock_home(task) : NULL;
+	s64 answer;
+
+	if (!queue)
+		return 0;
+	answer = charge(queue);
+	if (answer >= 0)
+		answer = call_set(queue, number_of(task), nice_of(linux_task), (u64)slice_us * NSEC_PER_USEC);
+	if (answer < 0)
+		fail(queue, CALL_SET, number_of(task), answer);
+	unlock_queue(queue);
+	return answer;
+}
