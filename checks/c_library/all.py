@@ -19,6 +19,7 @@ import linux
 import memory_names
 import object_file
 import rust
+import sched_ext
 import sequences
 from tools import TOP, Tools, fault_of, run
 
@@ -80,6 +81,7 @@ def main():
         linked.check(tools)
         interrupted.check(tools, asked.seed)
         linux.check(tools)
+        sched_ext.check(tools)
     sys.exit(tools.checks.end())
 
 

@@ -11,10 +11,15 @@
 #include <linux/module.h>
 #include <linux/smp.h>
 
+/*
+ * A call, its numbers and its answer; and of a call that may change the queue, how the queue is
+ * after it.
+ */
 struct record {
 	u8 call, queue, other, hand;	/* `other` is where a pull takes from, `hand` the CPU whose hand it is */
 	u32 task;
 	s64 first, second, third, answer;
+	s64 time, load;
 };
 
 struct trace {
@@ -84,6 +89,7 @@ u64 calls_made(void)
 	return all;
 }
 
+/* A call that changes nothing. */
 static s64 note(struct record record)
 {
 	s64 at;
@@ -97,17 +103,6 @@ static s64 note(struct record record)
 	return record.answer;
 }
 
-/* A call that has no more than a task, and one that has none. */
-static s64 note_task(struct cpu_queue *queue, enum call call, u64 task, s64 answer)
-{
-	return note((struct record){ .call = call, .queue = queue->cpu, .task = task, .answer = answer });
-}
-
-static s64 note_queue(struct cpu_queue *queue, enum call call, s64 answer)
-{
-	return note_task(queue, call, 0, answer);
-}
-
 static s64 time_of(struct cpu_queue *queue)
 {
 	int64_t time = 0;
@@ -116,10 +111,32 @@ static s64 time_of(struct cpu_queue *queue)
 	return time;
 }
 
+/* A call that may change the queue. */
+static s64 note_change(struct cpu_queue *queue, struct record record)
+{
+	record.queue = queue->cpu;
+	if (trace) {
+		record.time = time_of(queue);
+		record.load = eevdf_load(&queue->queue);
+	}
+	return note(record);
+}
+
+/* Calls that have no more than a task. */
+static s64 note_task(struct cpu_queue *queue, enum call call, u64 task, s64 answer)
+{
+	return note_change(queue, (struct record){ .call = call, .task = task, .answer = answer });
+}
+
+static s64 note_answer(struct cpu_queue *queue, enum call call, u64 task, s64 answer)
+{
+	return note((struct record){ .call = call, .queue = queue->cpu, .task = task, .answer = answer });
+}
+
 void call_open(struct cpu_queue *queue)
 {
 	eevdf_open(&queue->queue);
-	note_queue(queue, CALL_OPEN, 0);
+	note_task(queue, CALL_OPEN, 0, 0);
 }
 
 /* A new task begins at the queue's virtual time. */
@@ -128,8 +145,8 @@ s64 call_admit(struct cpu_queue *queue, eevdf_block *block, u64 task, s64 nice, 
 	s64 start = time_of(queue);
 	s64 answer = eevdf_admit_in(&queue->queue, block, task, nice, slice_ns, start);
 
-	return note((struct record){ .call = CALL_ADMIT, .queue = queue->cpu, .task = task, .first = nice,
-				     .second = slice_ns, .third = start, .answer = answer });
+	return note_change(queue, (struct record){ .call = CALL_ADMIT, .task = task, .first = nice, .second = slice_ns,
+						   .third = start, .answer = answer });
 }
 
 s64 call_end(struct cpu_queue *queue, eevdf_block *block, u64 task)
@@ -139,36 +156,32 @@ s64 call_end(struct cpu_queue *queue, eevdf_block *block, u64 task)
 
 s64 call_pick(struct cpu_queue *queue)
 {
-	return note_queue(queue, CALL_PICK, eevdf_pick(&queue->queue));
+	return note_task(queue, CALL_PICK, 0, eevdf_pick(&queue->queue));
 }
 
 s64 call_peek(struct cpu_queue *queue)
 {
-	return note_queue(queue, CALL_PEEK, eevdf_peek(&queue->queue));
+	return note_answer(queue, CALL_PEEK, 0, eevdf_peek(&queue->queue));
 }
 
-/* A charge has the queue's virtual time after it in its record, which shows whether it is whole. */
 s64 call_tick(struct cpu_queue *queue, u64 ns)
 {
-	s64 answer = eevdf_tick(&queue->queue, ns);
-
-	return note((struct record){ .call = CALL_TICK, .queue = queue->cpu, .first = ns,
-				     .second = trace ? time_of(queue) : 0, .answer = answer });
+	return note_change(queue, (struct record){ .call = CALL_TICK, .first = ns, .answer = eevdf_tick(&queue->queue, ns) });
 }
 
 s64 call_time_to_resched(struct cpu_queue *queue)
 {
-	return note_queue(queue, CALL_TIME_TO_RESCHED, eevdf_time_to_resched(&queue->queue));
+	return note_answer(queue, CALL_TIME_TO_RESCHED, 0, eevdf_time_to_resched(&queue->queue));
 }
 
 s64 call_yield(struct cpu_queue *queue)
 {
-	return note_queue(queue, CALL_YIELD, eevdf_yield(&queue->queue));
+	return note_task(queue, CALL_YIELD, 0, eevdf_yield(&queue->queue));
 }
 
 s64 call_stop(struct cpu_queue *queue)
 {
-	return note_queue(queue, CALL_STOP, eevdf_stop(&queue->queue));
+	return note_task(queue, CALL_STOP, 0, eevdf_stop(&queue->queue));
 }
 
 s64 call_run(struct cpu_queue *queue, u64 task)
@@ -188,32 +201,32 @@ s64 call_wake(struct cpu_queue *queue, u64 task)
 
 s64 call_set(struct cpu_queue *queue, u64 task, s64 nice, u64 slice_ns)
 {
-	return note((struct record){ .call = CALL_SET, .queue = queue->cpu, .task = task, .first = nice,
-				     .second = slice_ns, .answer = eevdf_set(&queue->queue, task, nice, slice_ns) });
+	return note_change(queue, (struct record){ .call = CALL_SET, .task = task, .first = nice, .second = slice_ns,
+						   .answer = eevdf_set(&queue->queue, task, nice, slice_ns) });
 }
 
 s64 call_take(struct cpu_queue *queue, eevdf_hand *hand, u64 task)
 {
-	return note((struct record){ .call = CALL_TAKE, .queue = queue->cpu, .hand = smp_processor_id(), .task = task,
-				     .answer = eevdf_take(&queue->queue, hand, task) });
+	return note_change(queue, (struct record){ .call = CALL_TAKE, .hand = smp_processor_id(), .task = task,
+						   .answer = eevdf_take(&queue->queue, hand, task) });
 }
 
 s64 call_put_asleep(struct cpu_queue *queue, eevdf_hand *hand)
 {
-	return note((struct record){ .call = CALL_PUT_ASLEEP, .queue = queue->cpu, .hand = smp_processor_id(),
-				     .answer = eevdf_put_asleep(&queue->queue, hand) });
+	return note_change(queue, (struct record){ .call = CALL_PUT_ASLEEP, .hand = smp_processor_id(),
+						   .answer = eevdf_put_asleep(&queue->queue, hand) });
 }
 
 s64 call_pull(struct cpu_queue *to, struct cpu_queue *from)
 {
-	return note((struct record){ .call = CALL_PULL, .queue = to->cpu, .other = from->cpu,
-				     .answer = eevdf_pull(&to->queue, &from->queue) });
+	return note_change(to, (struct record){ .call = CALL_PULL, .other = from->cpu,
+						.answer = eevdf_pull(&to->queue, &from->queue) });
 }
 
 s64 call_pull_task(struct cpu_queue *to, struct cpu_queue *from, u64 task)
 {
-	return note((struct record){ .call = CALL_PULL_TASK, .queue = to->cpu, .other = from->cpu, .task = task,
-				     .answer = eevdf_pull_task(&to->queue, &from->queue, task) });
+	return note_change(to, (struct record){ .call = CALL_PULL_TASK, .other = from->cpu, .task = task,
+						.answer = eevdf_pull_task(&to->queue, &from->queue, task) });
 }
 
 s64 call_rebase(struct cpu_queue *queue)
@@ -221,32 +234,32 @@ s64 call_rebase(struct cpu_queue *queue)
 	int64_t by = 0;
 	s64 answer = eevdf_rebase(&queue->queue, &by);
 
-	return note((struct record){ .call = CALL_REBASE, .queue = queue->cpu, .first = by, .answer = answer });
+	return note_change(queue, (struct record){ .call = CALL_REBASE, .first = by, .answer = answer });
 }
 
 s64 call_len(struct cpu_queue *queue)
 {
-	return note_queue(queue, CALL_LEN, eevdf_len(&queue->queue));
+	return note_answer(queue, CALL_LEN, 0, eevdf_len(&queue->queue));
 }
 
 s64 call_load(struct cpu_queue *queue)
 {
-	return note_queue(queue, CALL_LOAD, eevdf_load(&queue->queue));
+	return note_answer(queue, CALL_LOAD, 0, eevdf_load(&queue->queue));
 }
 
 s64 call_running(struct cpu_queue *queue)
 {
-	return note_queue(queue, CALL_RUNNING, eevdf_running(&queue->queue));
+	return note_answer(queue, CALL_RUNNING, 0, eevdf_running(&queue->queue));
 }
 
 s64 call_candidate(struct cpu_queue *queue)
 {
-	return note_queue(queue, CALL_CANDIDATE, eevdf_candidate(&queue->queue));
+	return note_answer(queue, CALL_CANDIDATE, 0, eevdf_candidate(&queue->queue));
 }
 
 s64 call_is_asleep(struct cpu_queue *queue, u64 task)
 {
-	return note_task(queue, CALL_IS_ASLEEP, task, eevdf_is_asleep(&queue->queue, task));
+	return note_answer(queue, CALL_IS_ASLEEP, task, eevdf_is_asleep(&queue->queue, task));
 }
 
 s64 call_deadline(struct cpu_queue *queue, u64 task, s64 *deadline)

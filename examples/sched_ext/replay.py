@@ -2,7 +2,8 @@
 """replay.py TRACE: does each call of a trace once more, by the plain queue of checks/drawn/plain, which follows docs/model.md and scans where
 the library has a tree. Says how many calls there are of each kind. Ends with 1 at the first that answers something else.
 
-replay.py --plant TRACE: changes the trace in one place after the other, and says of each kind of change how many are noticed.
+replay.py --plant TRACE [COUNT]: changes the trace in one place after the other, and says of each kind of change, of which it plants so
+many (40), how many are noticed within the next 20000 calls.
 
 replay.py --cut MEMORY TRACE: takes the trace out of the memory of the machine, where run.sh has the module put it."""
 
@@ -24,10 +25,12 @@ from model import Model  # noqa: E402
 AT = 402653184
 MAGIC = 0x3163617274666465
 HEAD = struct.Struct("<QQQQ")
-RECORD = struct.Struct("<BBBBIqqqq")
+RECORD = struct.Struct("<BBBBIqqqqqq")
 CPUS = 32
-# So many changes of each kind are planted, and after each so many calls are done.
-PLANTED, FOLLOWED = 40, 20000
+# The calls that change nothing: their records don't have how the queue is afterwards.
+READING = {"peek", "time_to_resched", "len", "load", "running", "candidate", "is_asleep", "entry_of"}
+# After a change that is planted so many calls are done.
+FOLLOWED = 20000
 
 
 def names_of_calls():
@@ -50,6 +53,8 @@ class Record:
     second: int
     third: int
     answer: int
+    time: int
+    load: int
 
     @staticmethod
     def read(fields):
@@ -87,8 +92,10 @@ class Machine:
         self.model.queues = [None] * CPUS
         self.model.hands = [None] * CPUS
 
-    def time(self, queue):
-        return self.model.queues[queue].virtual_time()
+    def state(self, queue):
+        """What a record has of the queue after its call."""
+        here = self.model.queues[queue]
+        return here.virtual_time(), here.load()
 
     def numbers_of(self, record):
         """What the call is given."""
@@ -114,19 +121,19 @@ class Machine:
 
     def fault_in(self, record):
         """Does the call. What is different from what the record has, or None."""
-        if record.call == "admit" and record.third != self.time(record.queue):
-            return f"it begins at {record.third}, and the virtual time is {self.time(record.queue)}"
+        if record.call == "admit" and record.third != self.state(record.queue)[0]:
+            return f"it begins at {record.third}, and the virtual time is {self.state(record.queue)[0]}"
         name = "yield_" if record.call == "yield" else record.call
-        answer = getattr(self.model, name)(*self.numbers_of(record))
-        had = record.answer
-        match record.call:
-            case "rebase":
-                had = [record.answer, record.first]
-            case "entry_of":
-                answer, had = answer[:3], [record.answer, record.second, record.first]
-            case "tick":
-                answer, had = [answer, self.time(record.queue)], [record.answer, record.second]
-        return None if answer == had else f"the answer is {had}, and the model's {answer}"
+        answer, had = getattr(self.model, name)(*self.numbers_of(record)), record.answer
+        if record.call == "rebase":
+            had = [record.answer, record.first]
+        elif record.call == "entry_of":
+            answer, had = answer[:3], [record.answer, record.second, record.first]
+        if answer != had:
+            return f"the answer is {had}, and the model's {answer}"
+        if record.call not in READING and self.state(record.queue) != (record.time, record.load):
+            return f"the virtual time and the load are {record.time}, {record.load}, and the model's are {self.state(record.queue)}"
+        return None
 
 
 def first_fault(machine, records):
@@ -205,16 +212,16 @@ CHANGES = {
 }
 
 
-def places_of(records, change, random):
+def places_of(records, change, count, random):
     places = [at for at in range(len(records) - 1) if change(records[at], records[at + 1])]
-    return sorted(random.sample(places, min(PLANTED, len(places))))
+    return sorted(random.sample(places, min(count, len(places))))
 
 
-def planted(records):
+def planted(records, count):
     random = Random(1)
     at_place = {}
     for name, change in CHANGES.items():
-        for at in places_of(records, change, random):
+        for at in places_of(records, change, count, random):
             at_place.setdefault(at, []).append(name)
     made, noticed, soonest = Counter(), Counter(), {}
     machine = Machine()
@@ -239,8 +246,8 @@ def main():
         case ["--cut", memory, trace]:
             cut(memory, trace)
             return 0
-        case ["--plant", trace]:
-            return planted(read_trace(trace))
+        case ["--plant", trace, *count]:
+            return planted(read_trace(trace), int(count[0]) if count else 40)
         case [trace] if not trace.startswith("-"):
             return replayed(read_trace(trace))
     sys.exit(__doc__)

@@ -1,0 +1,96 @@
+"""Linux's own tasks in the queues: the machine of examples/sched_ext, in the Linux that build_linux.sh has put into the folder that the
+environment names as LINUX_SCHED_EXT. Shares are those of the weights, none of its tasks stands still, both planted faults end in Linux's own
+class, and each traced call is answered as by the plain model, which notices where a trace is changed."""
+
+import os
+import re
+import shutil
+from dataclasses import dataclass
+
+from tools import TOP, fault_of, run
+
+FOLDER = TOP / "examples" / "sched_ext"
+TOOLS = {"qemu-system-x86_64": "qemu-system-x86", "make": "make", "clang": "clang", "pahole": "pahole"}
+IS_MISSING, IS_LATE = 3, 124
+SECONDS = 170
+# What the weights of the four hogs come to, in percent.
+SHARES = (37.67, 37.67, 12.33, 12.33)
+CALLS, PLANTED = 100000, "10"
+# Of these changes some change nothing that a later call shows; examples/sched_ext/README.md says which. All of the others are noticed.
+UNSEEN = {"a charge is a nanosecond shorter", "a pick is left out", "an end is left out", "another level of a task that is set"}
+
+
+@dataclass(frozen=True)
+class Machine:
+    """How many CPUs it has, what it does, and by how much of a percent a share may be off."""
+
+    cpus: int
+    words: tuple
+    off: float
+
+    @property
+    def name(self):
+        return f"examples/sched_ext, {self.cpus} CPU{'s' * (self.cpus > 1)}"
+
+
+ONE = Machine(1, ("load", "fault=1", "unload", "load", "fault=2", "unload", "load", "forks", "shares=4", "unload"), 1.0)
+TWO = Machine(2, ("load", "shares=4", "hunt=6", "unload"), 2.0)
+
+
+def share_fault(said, off):
+    found = re.search(r"^queues: shares:([ \d.]+) %", said, re.MULTILINE)
+    shares = [float(word) for word in found[1].split()] if found else []
+    if len(shares) != len(SHARES):
+        return "no shares are said"
+    is_off = max(abs(one - other) for one, other in zip(shares, SHARES))
+    return f"the shares are{found[1]} %, and {is_off:.2f} off" if is_off > off else None
+
+
+def calls_fault(said):
+    found = re.search(r"^(\d+) calls on", said, re.MULTILINE)
+    return None if found and int(found[1]) >= CALLS else f"there are fewer than {CALLS} calls"
+
+
+def unnoticed(said):
+    counts = re.findall(r"^(.*): (\d+) of (\d+) are noticed", said, re.MULTILINE)
+    wrong = [name for name, seen, made in counts if int(seen) < int(made) and name not in UNSEEN]
+    return f"not always: {', '.join(wrong)}" if wrong or not counts else None
+
+
+def boot(tools, folder, machine, **env):
+    """Has the machine do what it does. What it says, or None where it can't be looked at."""
+    made = run([FOLDER / "run.sh", folder, *machine.words], seconds=2 * SECONDS, env={
+        **os.environ, "MODULE": str(tools.module), "SECONDS_OF_QEMU": str(SECONDS), "CPUS": str(machine.cpus), **env})
+    if made.returncode == IS_MISSING:
+        tools.checks.leave_out(machine.name, made.stderr.strip())
+    elif made.returncode == IS_LATE:
+        tools.checks.leave_out(machine.name, f"the machine is too slow, or too busy: qemu hasn't come to its end in {SECONDS} seconds")
+    else:
+        tools.checks.look(f"{machine.name}: {' '.join(machine.words)}", fault_of(made))
+        tools.checks.look(f"{machine.name}: shares by the weights", share_fault(made.stdout, machine.off))
+    return made.returncode == 0
+
+
+def check_trace(tools, trace):
+    again = run([FOLDER / "replay.py", trace])
+    said = again.stdout.strip().splitlines()
+    tools.checks.look("examples/sched_ext: each call is answered as by the model", fault_of(again) or calls_fault(again.stdout),
+                      said[-1] if said else "")
+    changed = run([FOLDER / "replay.py", "--plant", trace, PLANTED])
+    tools.checks.look("examples/sched_ext: changes of the trace are noticed", fault_of(changed) or unnoticed(changed.stdout))
+
+
+def check(tools):
+    folder = os.environ.get("LINUX_SCHED_EXT")
+    if not folder:
+        tools.checks.leave_out("examples/sched_ext", "no built Linux is named; by hand: examples/sched_ext/build_linux.sh FOLDER, and "
+                               "LINUX_SCHED_EXT=FOLDER")
+        return
+    for tool, package in TOOLS.items():
+        if not shutil.which(tool):
+            tools.checks.skip("examples/sched_ext", tool, package)
+            return
+    trace = tools.work / "sched_ext.trace"
+    boot(tools, folder, ONE)
+    if boot(tools, folder, TWO, TRACE=str(trace), WORDS="rebase_ms=500"):
+        check_trace(tools, trace)
