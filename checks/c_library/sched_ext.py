@@ -1,6 +1,6 @@
 """Linux's own tasks in the queues: the machine of examples/sched_ext, in the Linux that build_linux.sh has put into the folder that the
-environment names as LINUX_SCHED_EXT. Shares are those of the weights, none of its tasks stands still, both planted faults end in Linux's own
-class, and each traced call is answered as by the plain model, which notices where a trace is changed."""
+environment names as LINUX_SCHED_EXT. Shares are those of the weights, none of its tasks stands still, both planted faults end in Linux's
+own class, and each traced call is answered as by the plain model, which notices where a trace is changed."""
 
 import os
 import re

@@ -1,7 +1,8 @@
 #!/usr/bin/env bash
 # examples/sched_ext/build_linux.sh FOLDER: fetches the source of Linux 6.12 by Debian's package, 153 MB, and builds a small Linux with
 # sched_ext below the folder, as linux.config says, with what modules, programs of BPF and their loader are built against. It installs
-# nothing, and goes on where an earlier run was ended. It takes 3 GB and some minutes to an hour. JOBS says how many compilers run at once (2).
+# nothing, and goes on where an earlier run was ended. It takes 2 GB, and some minutes to an hour. JOBS says how many compilers run at once
+# (2).
 # Ends with 3 where something is missing.
 set -eu
 here=$(cd "$(dirname "$0")" && pwd)

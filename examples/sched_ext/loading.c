@@ -12,6 +12,7 @@
 #include <unistd.h>
 
 static struct bpf_object *object;
+static const char *loaded = "fair";
 static struct bpf_link *scheduler;
 
 static bool load_module(const char *words)
@@ -26,21 +27,27 @@ static bool load_module(const char *words)
 	return is_done;
 }
 
-static bool load_scheduler(void)
+static bool load_scheduler(const char *file, const char *name)
 {
 	struct bpf_map *map;
 
-	object = bpf_object__open_file("/scheduler.bpf.o", NULL);
+	object = bpf_object__open_file(file, NULL);
 	if (!object || bpf_object__load(object))
 		return false;
-	map = bpf_object__find_map_by_name(object, "eevdf");
+	map = bpf_object__find_map_by_name(object, name);
 	scheduler = map ? bpf_map__attach_struct_ops(map) : NULL;
-	return scheduler != NULL;
+	loaded = strcmp(name, "plain") ? "queues" : "plain";
+	return scheduler && is_loaded();
 }
 
 bool load(const char *words)
 {
-	return load_module(words) && load_scheduler() && is_loaded();
+	return load_module(words) && load_scheduler("/scheduler.bpf.o", "eevdf");
+}
+
+bool load_plain(void)
+{
+	return load_scheduler("/plain.bpf.o", "plain");
 }
 
 static bool state_is(const char *wanted)
@@ -61,6 +68,11 @@ bool is_loaded(void)
 	return state_is("enabled");
 }
 
+const char *name_of_class(void)
+{
+	return is_loaded() ? loaded : "fair";
+}
+
 bool has_ended(int seconds)
 {
 	int64_t last = now_ns() + (int64_t)seconds * SECOND;
@@ -73,15 +85,21 @@ bool has_ended(int seconds)
 	return true;
 }
 
+bool unload_plain(void)
+{
+	bpf_link__destroy(scheduler);
+	bpf_object__close(object);
+	scheduler = NULL;
+	object = NULL;
+	return has_ended(5);
+}
+
 /* Programs of BPF that nobody has any more go some time later, and the module as soon as they have. */
 bool unload(void)
 {
 	int64_t last = now_ns() + 5ll * SECOND;
 
-	bpf_link__destroy(scheduler);
-	bpf_object__close(object);
-	scheduler = NULL;
-	object = NULL;
+	unload_plain();
 	while (syscall(SYS_delete_module, "eevdf_queues", O_NONBLOCK)) {
 		if (now_ns() > last)
 			return false;

@@ -142,8 +142,11 @@ static void do_word(const char *word)
 	DO("hunt", hunt(number));
 	DO("forks", fork_until_refused());
 	DO("load", must_load(words ? words : ""));
+	DO("load_plain", if (!load_plain()) say("FAULT: the plain scheduler isn't loaded"));
+	DO("unload_plain", if (!unload_plain()) say("FAULT: the plain scheduler isn't ended"));
 	DO("unload", must_unload());
 	DO("fault", try_fault(number));
+	DO("real_time", spin_in_real_time(number));
 #undef DO
 	if (!done)
 		say("FAULT: no word %s", word);

@@ -28,10 +28,14 @@ pid_t fork_as(const char *name, int nice);
 /* Ends a child, and waits for it. */
 void end_child(pid_t child);
 
-/* The scheduler is loaded; it's this one that runs, and not Linux's own class. */
 bool load(const char *words);
+/* Whether a scheduler runs, and which: queues, plain, or fair, which is Linux's own class. */
 bool is_loaded(void);
+const char *name_of_class(void);
 bool unload(void);
+/* The same for a scheduler of Linux's own, without the module. */
+bool load_plain(void);
+bool unload_plain(void);
 /* Waits until Linux has put the scheduler out. */
 bool has_ended(int seconds);
 void plant(int fault);
@@ -42,5 +46,6 @@ void measure_naps(int seconds);
 void hunt(int seconds);
 void fork_until_refused(void);
 void try_fault(int fault);
+void spin_in_real_time(int seconds);
 
 #endif

@@ -50,7 +50,7 @@ static void say_lateness(const char *name, struct lateness *lateness)
 		return;
 	}
 	qsort(late, (size_t)count, sizeof *late, compare);
-	say("%s: %s: %d wakes, late by at most %lld %lld %lld %lld us", is_loaded() ? "queues" : "fair", name, count,
+	say("%s: %s: %d wakes, late by at most %lld %lld %lld %lld us", name_of_class(), name, count,
 	    (long long)late[count / 2] / 1000, (long long)late[count * 9 / 10] / 1000,
 	    (long long)late[count * 99 / 100] / 1000, (long long)late[count - 1] / 1000);
 }
@@ -67,7 +67,7 @@ static void say_parts(const char *name, const pid_t *children, const int64_t *be
 	}
 	for (int at = 0; at < count; at++)
 		length += (size_t)snprintf(text + length, sizeof text - length, " %.2f", 100.0 * (double)had[at] / (double)all);
-	say("%s: %s:%s %%", is_loaded() ? "queues" : "fair", name, text);
+	say("%s: %s:%s %%", name_of_class(), name, text);
 }
 
 /* Two hogs of nice level 0 and two of 5, beside one that mostly sleeps. */
@@ -96,34 +96,43 @@ void measure_shares(int seconds)
 	say_lateness("the sleeper", lateness);
 }
 
-/* A hog that naps: it runs for 4 ms, sleeps for an instant, and goes on. Beside seven that never do an eighth would be fair. */
-void measure_naps(int seconds)
+/* So many that run for a while, sleep for an instant and go on, beside so many that never sleep. What all of the former had. */
+static void measure_napping(int nappers, int64_t run_ns, int others, int seconds)
 {
-	enum { OTHERS = 7 };
-	pid_t children[OTHERS + 1];
-	int64_t before[OTHERS + 1], all = 0, napped = 0;
+	enum { MOST = 16 };
+	pid_t children[MOST];
+	int64_t before[MOST], all = 0, napped = 0;
+	int count = nappers + others;
 
-	for (int at = 0; at <= OTHERS; at++) {
-		children[at] = fork_as(at ? "hog" : "napping", 0);
+	for (int at = 0; at < count; at++) {
+		children[at] = fork_as(at < nappers ? "napping" : "hog", 0);
 		if (children[at] == 0) {
-			while (at == 0) {
-				compute_until(now_ns() + 4 * MILLISECOND);
+			while (at < nappers) {
+				compute_until(now_ns() + run_ns);
 				sleep_ns(1000);
 			}
 			compute();
 		}
 	}
 	sleep_ns(500 * MILLISECOND);
-	for (int at = 0; at <= OTHERS; at++)
+	for (int at = 0; at < count; at++)
 		before[at] = had_ns(children[at]);
 	sleep_ns((int64_t)seconds * SECOND);
-	for (int at = 0; at <= OTHERS; at++) {
+	for (int at = 0; at < count; at++) {
 		int64_t had = had_ns(children[at]) - before[at];
 
 		all += had;
-		napped += at ? 0 : had;
+		napped += at < nappers ? had : 0;
 	}
-	for (int at = 0; at <= OTHERS; at++)
+	for (int at = 0; at < count; at++)
 		end_child(children[at]);
-	say("%s: a napping hog beside seven: %.2f %%, where an eighth is 12.50", is_loaded() ? "queues" : "fair", 100.0 * (double)napped / (double)all);
+	say("%s: %d that nap, after %lld us each, beside %d: %.2f %%, where %.2f is theirs", name_of_class(), nappers, (long long)run_ns / 1000,
+	    others, 100.0 * (double)napped / (double)all, 100.0 * nappers / count);
+}
+
+void measure_naps(int seconds)
+{
+	measure_napping(1, 4 * MILLISECOND, 7, seconds);
+	measure_napping(2, 2 * MILLISECOND, 1, seconds);
+	measure_napping(2, MILLISECOND / 2, 1, seconds);
 }

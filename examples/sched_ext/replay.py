@@ -1,6 +1,7 @@
 #!/usr/bin/env -S python3 -B
-"""replay.py TRACE: does each call of a trace once more, by the plain queue of checks/drawn/plain, which follows docs/model.md and scans where
-the library has a tree. Says how many calls there are of each kind. Ends with 1 at the first that answers something else.
+"""replay.py TRACE: does each call of a trace once more, by the plain queue of checks/drawn/plain, which follows docs/model.md and scans
+where the library has a tree. Says how many calls there are of each kind, and after which time requests were used up. Ends with 1 at the
+first call that answers something else.
 
 replay.py --plant TRACE [COUNT]: changes the trace in one place after the other, and says of each kind of change, of which it plants so
 many (40), how many are noticed within the next 20000 calls.
@@ -148,6 +149,30 @@ def first_fault(machine, records):
     return None
 
 
+def used_up(records):
+    """For how many ns each request ran that was used up, in one turn or in several, but for those that a yield has made longer."""
+    running, ran, yielded = {}, Counter(), set()
+    for record in records:
+        if record.answer < 0:
+            continue
+        if record.call in ("pick", "run"):
+            running[record.queue] = record.answer if record.call == "pick" else record.task
+        elif record.call in ("wake", "admit", "set", "pull", "pull_task"):
+            task = record.answer if record.call == "pull" else record.task
+            ran[task] = 0
+            yielded.discard(task)
+        elif record.call == "yield" and record.queue in running:
+            yielded.add(running[record.queue])
+        elif record.call == "tick" and record.queue in running:
+            task = running[record.queue]
+            ran[task] += record.first
+            if record.answer == 1:
+                if task not in yielded:
+                    yield ran[task]
+                ran[task] = 0
+                yielded.discard(task)
+
+
 def replayed(records):
     fault = first_fault(Machine(), records)
     if fault:
@@ -156,6 +181,10 @@ def replayed(records):
         return 1
     kinds = Counter(record.call for record in records)
     print(", ".join(f"{count} {name}" for name, count in kinds.most_common()))
+    if lasted := sorted(ns // 1000 for ns in used_up(records)):
+        most = [lasted[len(lasted) * part // 100] for part in (50, 90, 99)]
+        print(f"{len(lasted)} requests were used up: after {lasted[0]} us or more, half of them within {most[0]}, "
+              f"9 of 10 within {most[1]}, 99 of 100 within {most[2]}, all within {lasted[-1]}")
     print(f"{len(records)} calls on {len({record.queue for record in records})} queues, and no answer differs")
     return 0
 

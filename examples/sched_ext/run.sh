@@ -2,16 +2,18 @@
 # examples/sched_ext/run.sh FOLDER WORD..: builds the module, the scheduler of BPF and the machine's program for the Linux that
 # build_linux.sh has put into the folder, boots it in qemu, and has the machine do what the words say, in their order:
 #   load, unload       the module and the scheduler
+#   load_plain, unload_plain  a scheduler without operations in their place, so that Linux's own part of sched_ext runs the tasks
 #   shares=SECONDS     shares of four hogs beside a task that sleeps, and how late that wakes
 #   naps=SECONDS       the share of a hog that naps
 #   hunt=SECONDS       a hunt for a task that stands still
 #   forks              forks until one is refused
 #   fault=1, fault=2   a planted fault: a task that is lost as it wakes, a call that fails
+#   real_time=SECONDS  tasks of real time that spin
 # Prints what the machine says. Ends with 1 where that has a fault or is not to its end, with 3 where something is missing, and with 124
 # where qemu takes too long.
-# CPUS says how many the machine has (1), WORDS the module's parameters, TRACE a file where the trace of all calls goes, for replay.py. ICOUNT
-# says how qemu counts time (shift=3,sleep=off: by instructions; `off`: by the host's clock). MODULE names the kept LLVM module of the
-# library (crates/eevdf_c/out/module). LOG keeps all that Linux says, and SECONDS_OF_QEMU is how long it may take (600).
+# CPUS says how many the machine has (1), WORDS the module's parameters, TRACE a file where the trace of all calls goes, for replay.py.
+# ICOUNT says how qemu counts time (shift=3,sleep=off: by instructions; `off`: by the host's clock). MODULE names the kept LLVM module of
+# the library (crates/eevdf_c/out/module). LOG keeps all that Linux says, and SECONDS_OF_QEMU is how long it may take (600).
 set -eu
 here=$(cd "$(dirname "$0")" && pwd)
 top=$(cd "$here/../.." && pwd)
@@ -57,12 +59,14 @@ MODULE=$module quietly "the library" "$top/install" --kernel --thunks "$work/pre
 mkdir "$work/module"
 cp "$here"/Kbuild "$here"/{calls,tasks,queues,scheduler}.h "$here"/{module,scheduler,pulls,queues,tasks,calls}.c "$work/module"
 quietly "the module" make -C "$tree" M="$work/module" PREFIX="$work/prefix" modules
-quietly "the scheduler" clang -O2 -g -Wall -Werror -target bpf -mcpu=v3 -I "$libbpf/include" -I "/usr/include/$(gcc -dumpmachine)" -c \
-  -o "$work/scheduler.bpf.o" "$here/scheduler.bpf.c"
+for name in scheduler plain; do
+  quietly "the scheduler" clang -O2 -g -Wall -Werror -target bpf -mcpu=v3 -I "$libbpf/include" -I "/usr/include/$(gcc -dumpmachine)" -c \
+    -o "$work/$name.bpf.o" "$here/$name.bpf.c"
+done
 quietly "the machine's program" gcc -std=gnu11 -O2 -Wall -Wextra -static -I "$libbpf/include" -o "$work/init" \
   "$here"/{machine,loading,measures,hunt,faults}.c "$libbpf/libbpf.a" -lelf -lz
 "$here/../linux/initramfs.py" "$work/initramfs" init="$work/init" eevdf_queues.ko="$work/module/eevdf_queues.ko" \
-  scheduler.bpf.o="$work/scheduler.bpf.o"
+  scheduler.bpf.o="$work/scheduler.bpf.o" plain.bpf.o="$work/plain.bpf.o"
 
 # The trace goes where Linux doesn't: the last quarter of the machine's memory, which is a file.
 machine=pc
@@ -79,9 +83,11 @@ counted=()
 [ "${ICOUNT:=shift=3,sleep=off}" = off ] || counted=(-icount "$ICOUNT")
 
 status=0
-timeout "${SECONDS_OF_QEMU:-600}" qemu-system-x86_64 -machine "$machine" -accel tcg -m 512 "${memory[@]}" -smp "cpus=$cpus,sockets=$cpus" "${counted[@]}" \
-  -nodefaults -display none -serial stdio -no-reboot -kernel "$tree/arch/x86/boot/bzImage" -initrd "$work/initramfs" \
-  -append "console=ttyS0 mem=384M tsc=reliable panic=-1 \"module=$words\" -- $*" </dev/null >"$work/log" || status=$?
+timeout "${SECONDS_OF_QEMU:-600}" qemu-system-x86_64 -machine "$machine" -accel tcg -m 512 "${memory[@]}" "${counted[@]}" \
+  -smp "cpus=$cpus,sockets=$cpus" -nodefaults -display none -serial stdio -no-reboot -kernel "$tree/arch/x86/boot/bzImage" \
+  -initrd "$work/initramfs" \
+  -append "console=ttyS0 mem=384M tsc=reliable panic=-1 \"module=$words\" -- $*" </dev/null >"$work/log" ||
+  status=$?
 [ -z "${LOG:-}" ] || cp "$work/log" "$LOG"
 [ -z "${TRACE:-}" ] || "$here/replay.py" --cut "$work/ram" "$TRACE"
 tr -d '\r' <"$work/log" | sed -n '/^[0-9]* CPUs$/,$p'
@@ -89,6 +95,7 @@ tr -d '\r' <"$work/log" | sed -n '/^[0-9]* CPUs$/,$p'
 [ "$status" = 0 ] || fail "qemu ended with $status" 1
 grep -q '^done' "$work/log" || { tail -n 40 "$work/log"; fail "the machine hasn't come to its end" 1; }
 # what is planted is a call of task 1024, which is no number of a task
-if grep -E 'FAULT|BUG|Oops|WARNING|general protection|Kernel panic|rcu.*stall|failed: call' "$work/log" | grep -v ' of task 1024 ' >"$work/found"; then
+faults='FAULT|BUG|Oops|WARNING|general protection|Kernel panic|rcu.*stall|failed: call'
+if grep -E "$faults" "$work/log" | grep -v ' of task 1024 ' >"$work/found"; then
   fail "a fault is found: $(head -n 1 "$work/found")" 1
 fi
