@@ -16,25 +16,28 @@ SECONDS = 170
 # What the weights of the four hogs come to, in percent.
 SHARES = (37.67, 37.67, 12.33, 12.33)
 CALLS, PLANTED = 100000, "10"
-# Of these changes some change nothing that a later call shows; examples/sched_ext/README.md says which. All of the others are noticed.
+# Of these changes many change nothing that a later call shows; examples/sched_ext/README.md says which. Of each other kind three quarters
+# are noticed, and of other answers all.
 UNSEEN = {"a charge is a nanosecond shorter", "a pick is left out", "an end is left out", "another level of a task that is set"}
+MOST = 0.75
 
 
 @dataclass(frozen=True)
 class Machine:
-    """How many CPUs it has, what it does, and by how much of a percent a share may be off."""
+    """How many CPUs it has, and what it does."""
 
     cpus: int
     words: tuple
-    off: float
 
     @property
     def name(self):
         return f"examples/sched_ext, {self.cpus} CPU{'s' * (self.cpus > 1)}"
 
 
-ONE = Machine(1, ("load", "fault=1", "unload", "load", "fault=2", "unload", "load", "forks", "shares=4", "unload"), 1.0)
-TWO = Machine(2, ("load", "shares=4", "hunt=6", "unload"), 2.0)
+ONE = Machine(1, ("load", "fault=1", "unload", "load", "fault=2", "unload", "load", "forks", "shares=4", "unload"))
+TWO = Machine(2, ("load", "shares=4", "hunt=6", "unload"))
+# With a wait on both sides of the second look at a task's CPUs, and without that look.
+FOUR = Machine(4, ("load", "plant=3", "cpus=2", "unload", "load", "plant=4", "cpus=2", "unload"))
 
 
 def share_fault(said, off):
@@ -46,6 +49,14 @@ def share_fault(said, off):
     return f"the shares are{found[1]} %, and {is_off:.2f} off" if is_off > off else None
 
 
+def look_fault(said):
+    """The second look finds tasks whose CPUs have changed; and where it isn't done Linux puts the scheduler out."""
+    found = re.search(r"(\d+) dispatches cancelled", said)
+    if not found or int(found[1]) == 0:
+        return "no dispatch is cancelled"
+    return None if said.count("not allowed for") == 1 else "without the look the scheduler isn't put out, or it is put out with it"
+
+
 def calls_fault(said):
     found = re.search(r"^(\d+) calls on", said, re.MULTILINE)
     return None if found and int(found[1]) >= CALLS else f"there are fewer than {CALLS} calls"
@@ -53,12 +64,13 @@ def calls_fault(said):
 
 def unnoticed(said):
     counts = re.findall(r"^(.*): (\d+) of (\d+) are noticed", said, re.MULTILINE)
-    wrong = [name for name, seen, made in counts if int(seen) < int(made) and name not in UNSEEN]
-    return f"not always: {', '.join(wrong)}" if wrong or not counts else None
+    wrong = [name for name, seen, made in counts
+             if name not in UNSEEN and int(seen) < int(made) * (1 if name.startswith("another answer") else MOST)]
+    return f"too seldom: {', '.join(wrong)}" if wrong or not counts else None
 
 
 def boot(tools, folder, machine, **env):
-    """Has the machine do what it does. What it says, or None where it can't be looked at."""
+    """Has the machine do what it does. What it says; nothing where it can't be looked at."""
     made = run([FOLDER / "run.sh", folder, *machine.words], seconds=2 * SECONDS, env={
         **os.environ, "MODULE": str(tools.module), "SECONDS_OF_QEMU": str(SECONDS), "CPUS": str(machine.cpus), **env})
     if made.returncode == IS_MISSING:
@@ -67,8 +79,7 @@ def boot(tools, folder, machine, **env):
         tools.checks.leave_out(machine.name, f"the machine is too slow, or too busy: qemu hasn't come to its end in {SECONDS} seconds")
     else:
         tools.checks.look(f"{machine.name}: {' '.join(machine.words)}", fault_of(made))
-        tools.checks.look(f"{machine.name}: shares by the weights", share_fault(made.stdout, machine.off))
-    return made.returncode == 0
+    return "" if made.returncode else made.stdout
 
 
 def check_trace(tools, trace):
@@ -91,6 +102,10 @@ def check(tools):
             tools.checks.skip("examples/sched_ext", tool, package)
             return
     trace = tools.work / "sched_ext.trace"
-    boot(tools, folder, ONE)
-    if boot(tools, folder, TWO, TRACE=str(trace), WORDS="rebase_ms=500"):
+    if said := boot(tools, folder, ONE):
+        tools.checks.look(f"{ONE.name}: shares within 1 % of the weights", share_fault(said, 1))
+    if said := boot(tools, folder, TWO, TRACE=str(trace), WORDS="rebase_ms=500"):
+        tools.checks.look(f"{TWO.name}: shares within 2 % of the weights", share_fault(said, 2))
         check_trace(tools, trace)
+    if said := boot(tools, folder, FOUR):
+        tools.checks.look(f"{FOUR.name}: a task whose CPUs change isn't dispatched where it may not run", look_fault(said))

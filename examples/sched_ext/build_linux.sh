@@ -35,7 +35,6 @@ done
 
 # The source, without most of what no such Linux is built of.
 unpack() {
-  local packages
   packages=$(mktemp -d "$PWD/packages-XXXXXX")
   trap 'rm -rf "$packages"' EXIT
   (cd "$packages" && apt-get download "$package") || fail "there is no $package: it is in bookworm-security and bookworm-backports" 3
@@ -45,6 +44,7 @@ unpack() {
     tar --extract --xz --directory tree --strip-components=1 --exclude='*/Documentation/*/*' --exclude='*/arch/[a-wyz]*/*.[chS]' \
       --exclude='*/drivers/gpu/*.[ch]' --exclude='*/drivers/media/*.[ch]' --exclude='*/sound/*.[ch]' \
       --exclude='*/tools/perf/*' --exclude='*.dts' --exclude='*.dtsi'
+  rm -rf "$packages"
   touch unpacked
 }
 

@@ -18,6 +18,7 @@ static struct hunted {
 	volatile pid_t processes[HUNTED];
 	volatile uint64_t steps[HUNTED];
 	int pipes[HUNTED][2];
+	bool only_cpus;	/* they compute, sleep, and change each other's CPUs, and do nothing else */
 } *hunted;
 
 static uint64_t drawn(uint64_t *word, uint64_t below)
@@ -78,9 +79,10 @@ static void talk(int number)
 
 static void take_step(int number, uint64_t *word)
 {
+	static const uint64_t steps_on_cpus[] = { 0, 4, 9, 9 };
 	pid_t other = hunted->processes[drawn(word, HUNTED)];
 
-	switch (drawn(word, 12)) {
+	switch (hunted->only_cpus ? steps_on_cpus[drawn(word, 4)] : drawn(word, 12)) {
 	case 0: case 1: case 2:
 		compute_until(now_ns() + (int64_t)drawn(word, 5 * MILLISECOND));
 		break;
@@ -121,9 +123,10 @@ static _Noreturn void be_hunted(int number)
 	}
 }
 
-static void begin_hunted(void)
+static void begin_hunted(bool only_cpus)
 {
 	hunted = shared(sizeof *hunted);
+	hunted->only_cpus = only_cpus;
 	for (int at = 0; at < HUNTED; at++) {
 		hunted->processes[at] = getpid();
 		if (pipe2(hunted->pipes[at], 02000000 | 04000))	/* O_CLOEXEC | O_NONBLOCK */
@@ -139,12 +142,12 @@ static void begin_hunted(void)
 }
 
 /* A task of nice level 19 beside heavy ones may wait for some time, so one stands still only where it did at several looks. */
-void hunt(int seconds)
+void hunt(int seconds, bool only_cpus)
 {
 	uint64_t seen[HUNTED] = { 0 }, all = 0;
 	int still[HUNTED] = { 0 }, longest = 0;
 
-	begin_hunted();
+	begin_hunted(only_cpus);
 	for (int look = 0; look < seconds * LOOKS_A_SECOND; look++) {
 		sleep_ns(SECOND / LOOKS_A_SECOND);
 		for (int at = 0; at < HUNTED; at++) {

@@ -114,42 +114,70 @@ void end_child(pid_t child)
 		;
 }
 
-static void must_load(const char *words)
+static void do_load(int number)
 {
-	if (!load(words))
-		say("FAULT: the scheduler isn't loaded");
-	else
-		say("the scheduler is loaded");
+	const char *parameters = getenv("module");
+
+	(void)number;
+	say(load(parameters ? parameters : "") ? "the scheduler is loaded" : "FAULT: the scheduler isn't loaded");
 }
 
-static void must_unload(void)
+static void do_unload(int number)
 {
+	(void)number;
 	say(unload() ? "the module is unloaded" : "FAULT: the module isn't unloaded");
 }
+
+static void do_load_plain(int number)
+{
+	(void)number;
+	say(load_plain() ? "the plain scheduler is loaded" : "FAULT: the plain scheduler isn't loaded");
+}
+
+static void do_unload_plain(int number)
+{
+	(void)number;
+	say(unload_plain() ? "the plain scheduler has ended" : "FAULT: the plain scheduler hasn't ended");
+}
+
+static void do_hunt(int number)
+{
+	hunt(number, false);
+}
+
+static void do_cpus(int number)
+{
+	hunt(number, true);
+}
+
+static void do_forks(int number)
+{
+	(void)number;
+	fork_until_refused();
+}
+
+static const struct {
+	const char *name;
+	void (*action)(int number);
+} actions[] = {
+	{ "load", do_load }, { "unload", do_unload }, { "load_plain", do_load_plain }, { "unload_plain", do_unload_plain },
+	{ "shares", measure_shares }, { "naps", measure_naps }, { "hunt", do_hunt }, { "cpus", do_cpus },
+	{ "forks", do_forks }, { "fault", try_fault }, { "plant", plant }, { "real_time", spin_in_real_time },
+};
 
 /* A word is a name, and a number behind "=". */
 static void do_word(const char *word)
 {
-	const char *behind = strchr(word, '=');
-	int number = behind ? atoi(behind + 1) : 0;
-	size_t length = behind ? (size_t)(behind - word) : strlen(word);
-	const char *words = getenv("module");
-	bool done = false;
+	size_t length = strcspn(word, "=");
+	int number = word[length] ? atoi(word + length + 1) : 0;
 
-#define DO(name, what) if (length == strlen(name) && !strncmp(word, name, length)) { what; done = true; }
-	DO("shares", measure_shares(number));
-	DO("naps", measure_naps(number));
-	DO("hunt", hunt(number));
-	DO("forks", fork_until_refused());
-	DO("load", must_load(words ? words : ""));
-	DO("load_plain", if (!load_plain()) say("FAULT: the plain scheduler isn't loaded"));
-	DO("unload_plain", if (!unload_plain()) say("FAULT: the plain scheduler isn't ended"));
-	DO("unload", must_unload());
-	DO("fault", try_fault(number));
-	DO("real_time", spin_in_real_time(number));
-#undef DO
-	if (!done)
-		say("FAULT: no word %s", word);
+	for (size_t at = 0; at < sizeof actions / sizeof actions[0]; at++) {
+		if (strlen(actions[at].name) == length && !strncmp(actions[at].name, word, length)) {
+			actions[at].action(number);
+			return;
+		}
+	}
+	say("FAULT: no word %s", word);
 }
 
 int main(int count, char **words)

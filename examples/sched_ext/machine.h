@@ -43,7 +43,7 @@ void plant(int fault);
 /* What there is to do, each for so many seconds. */
 void measure_shares(int seconds);
 void measure_naps(int seconds);
-void hunt(int seconds);
+void hunt(int seconds, bool only_cpus);
 void fork_until_refused(void);
 void try_fault(int fault);
 void spin_in_real_time(int seconds);

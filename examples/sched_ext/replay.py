@@ -201,7 +201,11 @@ def another_answer(name):
 
 
 def another_time(change):
-    return lambda one, other: [replace(one, first=change(one.first)), other] if one.call == "tick" and change(one.first) > 0 else None
+    def changed(one, other):
+        is_another = one.call == "tick" and 0 < change(one.first) != one.first
+        return [replace(one, first=change(one.first)), other] if is_another else None
+
+    return changed
 
 
 def another_level(name):

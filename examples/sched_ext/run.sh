@@ -6,9 +6,11 @@
 #   shares=SECONDS     shares of four hogs beside a task that sleeps, and how late that wakes
 #   naps=SECONDS       the share of a hog that naps
 #   hunt=SECONDS       a hunt for a task that stands still
+#   cpus=SECONDS       the same among tasks that change each other's CPUs
 #   forks              forks until one is refused
 #   fault=1, fault=2   a planted fault: a task that is lost as it wakes, a call that fails
 #   real_time=SECONDS  tasks of real time that spin
+#   plant=3, plant=4   waits where other CPUs may come between, and no second look at what they have changed
 # Prints what the machine says. Ends with 1 where that has a fault or is not to its end, with 3 where something is missing, and with 124
 # where qemu takes too long.
 # CPUS says how many the machine has (1), WORDS the module's parameters, TRACE a file where the trace of all calls goes, for replay.py.

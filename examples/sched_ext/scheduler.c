@@ -5,10 +5,15 @@
  */
 #include "scheduler.h"
 
+#include <linux/delay.h>
 #include <linux/module.h>
 #include <linux/timekeeping.h>
 
-/* A planted fault: 1 loses tasks that are named "lost" as they wake, and 2 makes a call that has to fail. */
+/*
+ * A planted fault: 1 loses tasks that are named "lost" as they wake, and 2 makes a call that has to
+ * fail. 3 waits before and after the second look at a task that comes from another CPU, and 4 waits
+ * and doesn't look.
+ */
 int planted;
 module_param(planted, int, 0644);
 
@@ -236,6 +241,13 @@ static struct cpu_queue *lock_with_pulled(int cpu)
 	return pull_for_idle(cpu);
 }
 
+/* Time for other CPUs to change what was picked, where that is planted. */
+static void wait_for_others(int cpu, const struct task_struct *linux_task)
+{
+	if (planted >= 3 && task_cpu(linux_task) != cpu)
+		mdelay(3);
+}
+
 struct task_struct *pick(int cpu, s64 *failed)
 {
 	struct cpu_queue *queue = lock_with_pulled(cpu);
@@ -253,6 +265,8 @@ struct task_struct *pick(int cpu, s64 *failed)
 	else if (task)
 		*failed = fail(queue, CALL_PICK, number_of(task), -EPERM);
 	unlock_queue(queue);
+	if (dispatched)
+		wait_for_others(cpu, dispatched);
 	return dispatched;
 }
 
@@ -269,9 +283,10 @@ bool confirm(int cpu, struct task_struct *linux_task)
 	lock_queue(queue);
 	is_confirmed = task && task->home == cpu && may_come(task, cpu) && call_running(queue) == number_of(task);
 	unlock_queue(queue);
+	wait_for_others(cpu, linux_task);
 	if (!is_confirmed)
 		atomic64_inc(&cancelled);
-	return is_confirmed;
+	return is_confirmed || planted == 4;
 }
 
 /* Linux's own tick is a net below the timer. */
