@@ -1,16 +1,16 @@
 -- What each call of a queue touches.
-use Rattle.std.proofs.Common.{◌≡◌, ℕ, Bool, true, false, cond, Option, Some, None, Result, Ok, Err, refl, sym, ap, ◌∙◌, subst}
+use Rattle.std.proofs.Common.{◌≡◌, ℕ, Bool, true, false, cond, Option, Some, None, Result, Ok, Err, refl, sym, ap, ◌∙◌}
 use Rattle.std.specs.Prelude.{ℤ, pos}
 use Rattle.std.specs.{FinMap.get, FinMap.insert, FinMap.empty}
 use Rattle.eevdf_queue.specs.{declared.entry.Entry.Entry, declared.sleeper.Sleeper.Sleeper, declared.refusal.Refusal.Refusal, State.State, State.Contents}
 use Rattle.eevdf_queue.specs.declared.refusal.Refusal.TheVariants.{Present}
 use Rattle.eevdf_queue.specs.declared.answers.ReniceAnswer.{ReniceAnswer}
 use Rattle.eevdf_queue.specs.declared.answers.ReniceAnswer.TheVariants as reniced
-use Rattle.eevdf_queue.specs.{Moves.admit, Moves.with_runnable, Moves.fresh_entry, Moves.is_entry_in_range, Placing.put, Placing.placement, Wake.wake, Wake.wake_to, Wake.wake_sleeper}
+use Rattle.eevdf_queue.specs.{Moves.admit, Moves.with_runnable, Placing.put, Wake.wake, Wake.wake_to, Wake.wake_sleeper}
 use Rattle.eevdf_queue.specs.{Renice.renice, Renice.renice_to, Renice.renice_entry, Renice.reniced as rejoining, Leaving.leave}
-use Rattle.eevdf_queue.specs.{SliceChange.set_slice, SliceChange.set_entry_slice, SliceChange.set_sleeper_slice, Attributes.set, Attributes.set_reniced, Attributes.set_sleeper}
+use Rattle.eevdf_queue.specs.{SliceChange.set_entry_slice, SliceChange.set_sleeper_slice, Attributes.set, Attributes.set_reniced, Attributes.set_sleeper}
 use Rattle.eevdf_queue.specs.{Trying.is_here, Trying.tried, Trying.unless_out_of_range}
-use Rattle.eevdf_dozes.specs.{Places.PlacedQueue, Stretches.NoneIsPastDue, Calls.Touches, Calls.CallsTouchOne}
+use Rattle.eevdf_dozes.specs.{Places.PlacedQueue, Calls.Touches}
 use Rattle.eevdf_dozes.proofs.Touching.{TouchesQueue, joined_touches, put_touches, calls_touch_one}
 use Rattle.eevdf_fair_queue.proofs.Settled.{IsOfOne}
 

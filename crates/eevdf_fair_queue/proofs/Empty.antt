@@ -1,9 +1,9 @@
 -- A queue without tasks is fair.
-use Rattle.std.proofs.Common.{◌≡◌, ℕ, Option, Some, None, sym, ◌∙◌, arith}
+use Rattle.std.proofs.Common.{◌≡◌, ℕ, Some, None, arith}
 use Rattle.std.specs.Prelude.{ℤ, pos, ◌≤ℤ◌}
-use Rattle.std.specs.{Ordering.nat_cmp, FinMap.get, FinMap.empty, FinMap.get-empty}
+use Rattle.std.specs.{Ordering.nat_cmp, FinMap.get, FinMap.get-empty}
 use Rattle.std.proofs.lemmas.Int.{ints}
-use Rattle.eevdf_queue.specs.{declared.entry.Entry.Entry, State.empty_state, Sums.Tasks}
+use Rattle.eevdf_queue.specs.{declared.entry.Entry.Entry, State.empty_state}
 use Rattle.eevdf_fair_queue.specs.{Bounds.fresh, Fair.IsFair}
 
 none_there : {A : Type 0} (t : ℕ) (x : Entry) → get empty_state.runnable t ≡ Some x → A

@@ -1,6 +1,6 @@
 -- Forms in which the functions of a fair queue use what keeps it fair.
 use Rattle.std.proofs.Common.{◌≡◌, ℕ, Bool, true, false, cond, Option, Some, None, Result, Ok, Err, refl, sym, ap, ◌∙◌, subst}
-use Rattle.std.specs.Prelude.{ℤ, pos, MatchResult}
+use Rattle.std.specs.Prelude.{ℤ, MatchResult}
 use Rattle.std.specs.{Ordering.nat_cmp, Ordering.eq_by_cmp, Cmp.nat_cmp_total, FinMap.get, FinMap.remove, FinMap.get-remove}
 use Rattle.eevdf_queue.specs.{declared.entry.Entry.Entry, declared.sleeper.Sleeper.Sleeper, State.State, State.Contents, Kept.IsKept, Laws.PickIsFirst, Laws.PickOfNobody}
 use Rattle.eevdf_queue.specs.{Attributes.begin, Attributes.begin_sleeper, Leaving.leave, Leaving.leave_running, Leaving.leave_asleep, Leaving.without_entry, Leaving.without_sleeper, Leaving.stopped, Candidate.is_running, Moves.put_asleep}

@@ -1,15 +1,15 @@
 -- How late requests can be, by what every fair queue keeps.
-use Rattle.std.proofs.Common.{◌≡◌, ℕ, ◌^◌, ◌≤◌, ◌⊎◌, Bool, true, false, cond, Option, Some, None, refl, sym, ap, ◌∙◌, subst, inl, inr, arith}
-use Rattle.std.specs.Prelude.{ℤ, pos, neg_ℤ, ◌+ℤ◌, ◌-ℤ◌, ◌*ℤ◌, ◌≤ℤ◌, ◌<ℤ◌, is_some}
+use Rattle.std.proofs.Common.{◌≡◌, ℕ, ◌^◌, ◌≤◌, ◌⊎◌, Bool, true, false, Option, Some, None, refl, ap, ◌∙◌, subst, inl, inr, arith}
+use Rattle.std.specs.Prelude.{ℤ, pos, neg_ℤ, ◌+ℤ◌, ◌-ℤ◌, ◌≤ℤ◌, ◌<ℤ◌, is_some}
 use Rattle.std.specs.{Ordering.nat_cmp, FinMap.get, FinMap.empty, FinMap.get-empty, Int.int_max, Int.int_min}
 use Rattle.std.proofs.{lemmas.Int.ints, lemmas.Int.clamps}
 use Rattle.eevdf_queue.specs.{declared.entry.Entry.Entry, State.State, Sums.Tasks, Sums.virtual_time, Sums.total_weight, Sums.total_moment, Kept.IsKept, Laws.PickIsFirst, Laws.PickOfNobody}
-use Rattle.eevdf_queue.specs.Pick.{IsNoLater, IsPick, is_eligible, pick_of}
+use Rattle.eevdf_queue.specs.Pick.{IsPick, is_eligible, pick_of}
 use Rattle.eevdf_dozes.specs.{Stretches.NoneIsPastDue, Punctual.IsTimeWithin}
 use Rattle.eevdf_dozes.proofs.Punctual.{time_within}
 use Rattle.eevdf_fair_queue.specs.{declared.bounds.Bounds.Bounds, Bounds.held, Bounds.late_by}
-use Rattle.eevdf_fair_queue.specs.{Fair.IsFair, Fair.IsNear, Lateness.IsLateBy, Lateness.NoneIsLaterThan}
-use Rattle.eevdf_fair_queue.proofs.{Nearness.small, Nearness.IsSmall, Nearness.held_past, MeanTimes.floor_within, MeanTimes.over_some, MeanTimes.weighs}
+use Rattle.eevdf_fair_queue.specs.{Fair.IsFair, Lateness.IsLateBy, Lateness.NoneIsLaterThan}
+use Rattle.eevdf_fair_queue.proofs.{Nearness.small, Nearness.held_past, MeanTimes.floor_within, MeanTimes.over_some, MeanTimes.weighs}
 
 from_front : (v front d x : ℤ) → v ≤ℤ front → x ≤ℤ d → v ≤ℤ (d +ℤ (front -ℤ x))
 from_front v front d x h k = omega (arith, ints, h, k)

@@ -1,14 +1,13 @@
 -- The virtual time is no further than the furthest task.
-use Rattle.std.proofs.Common.{◌≡◌, ℕ, ◌+◌, ◌*◌, ◌/◌, ◌≤◌, ◌⊎◌, Bool, true, false, cond, Some, refl, sym, ap, ◌∙◌, inl, inr, arith}
+use Rattle.std.proofs.Common.{◌≡◌, ℕ, ◌≤◌, ◌⊎◌, Bool, true, false, cond, Some, refl, inl, inr, arith}
 use Rattle.std.specs.Prelude.{ℤ, pos, negsuc, ◌+ℤ◌, ◌-ℤ◌, ◌*ℤ◌, ◌≤ℤ◌, int_lt, ◌==◌}
-use Rattle.std.specs.{Ordering.nat_cmp, FinMap.get, Int.int_max}
+use Rattle.std.specs.{FinMap.get, Int.int_max}
 use Rattle.std.proofs.{lemmas.Int.ints, lemmas.Int.clamps, lemmas.Bool.Decides.nat_tests, Math.Nat.div-le_self}
-use Rattle.eevdf_weight.specs.{Weight.weight_of, Placement.floor_div}
+use Rattle.eevdf_weight.specs.{Placement.floor_div}
 use Rattle.eevdf_weight.proofs.Weighing.{weight_of-least}
 use Rattle.eevdf_queue.specs.{declared.entry.Entry.Entry, State.State, Sums.Tasks, Sums.total_weight, Sums.total_moment, Sums.time_over, Sums.virtual_time}
 use Rattle.eevdf_queue.proofs.Floors.{floor_lowered}
 use Rattle.eevdf_fairness.proofs.EntrySums.{no_heavier}
-use Rattle.eevdf_dozes.specs.Punctual.{IsTimeWithin}
 use Rattle.eevdf_dozes.proofs.Punctual.{time_within}
 use Rattle.eevdf_fair_queue.specs.{declared.bounds.Bounds.Bounds, Fair.IsNear}
 

@@ -1,13 +1,12 @@
 -- Sums that 64 bits hold, and how bounds that are raised keep what others kept.
-use Rattle.std.proofs.Common.{◌≡◌, ℕ, ◌^◌, ◌≤◌, ◌⊎◌, Bool, true, false, Option, Some, None, refl, sym, ap, ◌∙◌, inl, inr, arith}
-use Rattle.std.specs.Prelude.{ℤ, pos, negsuc, neg_ℤ, ◌+ℤ◌, ◌-ℤ◌, ◌≤ℤ◌, ◌<ℤ◌, int_lt, unsigned_abs, ◌==◌}
-use Rattle.std.specs.{Ordering.nat_cmp, FinMap.get, Int.int_max}
+use Rattle.std.proofs.Common.{◌≡◌, ℕ, ◌^◌, ◌≤◌, ◌⊎◌, Bool, true, false, Some, None, refl, inl, inr, arith}
+use Rattle.std.specs.Prelude.{ℤ, pos, negsuc, neg_ℤ, ◌+ℤ◌, ◌≤ℤ◌, int_lt, unsigned_abs, ◌==◌}
+use Rattle.std.specs.{FinMap.get, Int.int_max}
 use Rattle.std.proofs.{lemmas.Int.ints, lemmas.Int.clamps, lemmas.Bool.Decides.nat_tests}
-use Rattle.eevdf_weight.specs.Limits.{is_in_range}
-use Rattle.eevdf_queue.specs.{declared.entry.Entry.Entry, State.State, Sums.Tasks, Kept.IsKept, Kept.AreInRange}
+use Rattle.eevdf_queue.specs.{declared.entry.Entry.Entry, Sums.Tasks, Kept.AreInRange}
 use Rattle.eevdf_queue.proofs.Bounds.{within, range_v, range_d}
 use Rattle.eevdf_fair_queue.specs.{declared.bounds.Bounds.Bounds, declared.bounds.Mark.Mark}
-use Rattle.eevdf_fair_queue.specs.Bounds.{held, raised, raised_where}
+use Rattle.eevdf_fair_queue.specs.Bounds.{held, raised_where}
 use Rattle.eevdf_fair_queue.specs.Fair.{IsNear}
 
 -- ---- sums

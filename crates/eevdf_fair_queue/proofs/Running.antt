@@ -1,11 +1,11 @@
 -- Picks, ticks, yields, rebases and leavings keep a queue fair.
-use Rattle.std.proofs.Common.{◌≡◌, ℕ, ◌^◌, ◌≤◌, ◌⊎◌, Bool, true, false, cond, Option, Some, None, refl, sym, ap, ◌∙◌, subst, inl, inr, arith}
-use Rattle.std.specs.Prelude.{ℤ, pos, ◌+ℤ◌, ◌-ℤ◌, ◌≤ℤ◌, int_lt}
+use Rattle.std.proofs.Common.{◌≡◌, ℕ, ◌^◌, ◌⊎◌, Bool, true, false, cond, Option, Some, None, refl, sym, ap, ◌∙◌, subst, inl, inr, arith}
+use Rattle.std.specs.Prelude.{ℤ, pos, ◌+ℤ◌, ◌-ℤ◌, ◌≤ℤ◌}
 use Rattle.std.specs.{Option.option_map, FinMap.get, FinMap.insert, Int.int_max}
 use Rattle.std.proofs.{lemmas.Int.ints, lemmas.Int.clamps}
 use Rattle.eevdf_weight.specs.{Weight.weight_of, Charge.charge_of}
-use Rattle.eevdf_queue.specs.{declared.entry.Entry.Entry, declared.answers.TickAnswer.TickAnswer, State.State, Sums.Tasks, Kept.IsKept, Kept.AreInRange, Laws.PickIsFirst, Laws.PickOfNobody}
-use Rattle.eevdf_queue.specs.declared.answers.TickAnswer.TheVariants.{Charged, Idle, Range}
+use Rattle.eevdf_queue.specs.{declared.entry.Entry.Entry, State.State, Sums.Tasks, Kept.IsKept, Kept.AreInRange, Laws.PickIsFirst, Laws.PickOfNobody}
+use Rattle.eevdf_queue.specs.declared.answers.TickAnswer.TheVariants.{Charged}
 use Rattle.eevdf_queue.specs.declared.answers.YieldAnswer.{YieldAnswer}
 use Rattle.eevdf_queue.specs.declared.answers.YieldAnswer.TheVariants as yields
 use Rattle.eevdf_queue.specs.declared.answers.YieldAnswer.TheVariants.{Yielded}
@@ -17,8 +17,8 @@ use Rattle.eevdf_queue.proofs.LoweredMaps.{get-lowered}
 use Rattle.eevdf_fairness.proofs.Growing.{get_here, found_at_after, charged_grown}
 use Rattle.eevdf_dozes.specs.Stretches.{NoneIsPastDue}
 use Rattle.eevdf_dozes.proofs.PicksInTime.{same_tasks, runner_in_time, IsInTime}
-use Rattle.eevdf_dozes.proofs.Ticking.{tick_cases, tick_due, other_entry}
-use Rattle.eevdf_fair_queue.specs.{declared.bounds.Bounds.Bounds, Bounds.held, Bounds.picked, Bounds.raised, Bounds.grown, Bounds.ticked, Bounds.ticked_by, Bounds.charged_to, Bounds.lowered}
+use Rattle.eevdf_dozes.proofs.Ticking.{tick_cases}
+use Rattle.eevdf_fair_queue.specs.{declared.bounds.Bounds.Bounds, Bounds.held, Bounds.picked, Bounds.ticked, Bounds.ticked_by, Bounds.charged_to, Bounds.lowered}
 use Rattle.eevdf_fair_queue.specs.Fair.{IsNear, AreNear, IsTurn, IsFair, charged_by}
 use Rattle.eevdf_fair_queue.proofs.Nearness.{same_or_other, small, IsSmall, held_above, held_past, held_some, stays_near, near_later}
 

@@ -1,15 +1,15 @@
 -- A call that touches one task keeps a queue fair.
-use Rattle.std.proofs.Common.{◌≡◌, ℕ, ◌+◌, ◌≤◌, ◌⊎◌, Bool, true, false, Option, Some, None, refl, sym, ap, ◌∙◌, subst, inl, inr, arith}
-use Rattle.std.specs.Prelude.{ℤ, pos, ◌+ℤ◌, ◌*ℤ◌, ◌≤ℤ◌, int_lt, is_some}
+use Rattle.std.proofs.Common.{◌≡◌, ℕ, ◌⊎◌, false, Option, Some, None, refl, sym, ap, ◌∙◌, subst, inl, inr, arith}
+use Rattle.std.specs.Prelude.{ℤ, pos, ◌+ℤ◌, ◌≤ℤ◌, int_lt, is_some}
 use Rattle.std.specs.{Ordering.nat_cmp, FinMap.get, FinMap.empty, FinMap.get-empty, FinMap.contains_key}
 use Rattle.std.proofs.lemmas.Int.{ints}
-use Rattle.eevdf_queue.specs.{declared.entry.Entry.Entry, State.State, Sums.Tasks, Sums.total_weight, Sums.total_moment, Sums.virtual_time}
+use Rattle.eevdf_queue.specs.{declared.entry.Entry.Entry, State.State, Sums.Tasks, Sums.virtual_time}
 use Rattle.eevdf_queue.specs.{Kept.IsKept, Kept.RunnerIsHere, Laws.PickIsFirst, Laws.PickOfNobody, Pick.pick_of, Pick.IsPick}
 use Rattle.eevdf_dozes.specs.Stretches.{NoneIsPastDue}
 use Rattle.eevdf_fair_queue.specs.{declared.bounds.Bounds.Bounds, declared.bounds.Mark.Mark}
 use Rattle.eevdf_fair_queue.specs.Bounds.{held, settled, settled_at}
 use Rattle.eevdf_fair_queue.specs.Fair.{IsNear, AreNear, IsTurn, IsFair, mark_of, mark_by, mark_of_pick, mark_at}
-use Rattle.eevdf_fair_queue.proofs.Nearness.{same_or_other, small, IsSmall, stays_near, near_before, near_later, behind_front, Becomes, becomes}
+use Rattle.eevdf_fair_queue.proofs.Nearness.{same_or_other, small, stays_near, near_before, near_later, behind_front, Becomes, becomes}
 use Rattle.eevdf_fair_queue.proofs.MeanTimes.{mean_near}
 
 -- one task may be another than before, all others are as they were, and nobody runs who didn't

@@ -1,7 +1,6 @@
-use Rattle.std.proofs.Common.{◌≡◌, ℤ, ◌+ℤ◌, Option, Some, SFits, w64, refl, sym, ap, ◌∙◌, rules}
+use Rattle.std.proofs.Common.{◌≡◌, ◌+ℤ◌, Option, Some, SFits, w64, refl, sym, ap, ◌∙◌, rules}
 use Rattle.std.specs.Prelude.{int_lt}
 use Rattle.std.proofs.lemmas.Int.{to_z-of_z}
-use Rattle.eevdf_queue.specs.declared.entry.Entry.{Entry}
 use Rattle.eevdf_fair_queue.specs.{declared.bounds.Mark.Mark, Bounds.held, Bounds.raised_where, Bounds.settled}
 use Rattle.eevdf_fair_queue.proofs.bounds.Bounds.settled.Goals as goal
 

@@ -1,4 +1,4 @@
-use Rattle.std.proofs.Common.{◌≡◌, ℤ, SFits, w64, ap, ◌∙◌, subst, sym, rules}
+use Rattle.std.proofs.Common.{ℤ, SFits, w64, ap, ◌∙◌, subst, rules}
 use Rattle.std.proofs.lemmas.Int.{to_z-of_z}
 use Rattle.eevdf_queue.specs.{State.State, Kept.AreInRange}
 use Rattle.eevdf_fair_queue.specs.Bounds.{lowered}

@@ -1,5 +1,4 @@
-use Rattle.std.proofs.Common.{◌≡◌, ap, ◌∙◌, sym, ℕ}
-use Rattle.eevdf_queue.specs.Moves.{sleeper_of}
+use Rattle.std.proofs.Common.{ap, ◌∙◌, sym}
 use Rattle.std.specs.FinMap.{get}
 use Rattle.eevdf_fair_queue.specs.Fair.{FairView, mark_of}
 use Rattle.eevdf_fair_queue.proofs.{Keeping.settles_as, Keeping.tried_one, Calls.try_admitted}

@@ -1,4 +1,4 @@
-use Rattle.std.proofs.Common.{◌≡◌, ap, ◌∙◌, sym, ℕ}
+use Rattle.std.proofs.Common.{ap, ◌∙◌, sym}
 use Rattle.eevdf_queue.specs.Moves.{sleeper_of}
 use Rattle.std.specs.FinMap.{get}
 use Rattle.eevdf_fair_queue.specs.Fair.{FairView, mark_of}
