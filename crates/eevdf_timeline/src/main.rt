@@ -17,6 +17,7 @@ mod picture;
 mod progress;
 mod scale;
 mod scene;
+mod signs;
 mod stretches;
 mod trace;
 mod unknown_words;

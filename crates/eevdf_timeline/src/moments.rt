@@ -2,7 +2,7 @@
 
 ghost use Rattle.std.specs.Prelude.{◌≡◌, map, IfOk};
 
-use eevdf_ops::{Answer, CpuId, Deed, Line, Solo};
+use eevdf_ops::{Answer, CpuId, Deed, Line, Named, Origin, Solo};
 use eevdf_queue::TaskId;
 use std::alloc::{AllocError, Global};
 
@@ -27,18 +27,13 @@ pub(crate) fn do_again(solo: &mut Solo, line: &Line) {
 
 /// The task that a deed names.
 pub(crate) fn named_task(deed: Deed) -> Option<TaskId> {
-    match deed {
-        Deed::Sleep { task, .. }
-        | Deed::Wake { task, .. }
-        | Deed::Renice { task, .. }
-        | Deed::Begin { task, .. }
-        | Deed::End { task, .. }
-        | Deed::Set { task, .. } => Some(task),
-        Deed::Tick { .. }
-        | Deed::Pick { .. }
-        | Deed::Yield { .. }
-        | Deed::Pull { .. }
-        | Deed::Rebase { .. } => None,
+    let (_cpu, origin) = deed.parts();
+    match origin {
+        Origin::Request { task, .. } => Some(task),
+        Origin::Operation(operation) => match operation.named() {
+            Named::Task(task) | Named::TaskAtHome(task) => Some(task),
+            Named::Nothing | Named::Source(_) => None,
+        },
     }
 }
 

@@ -8,12 +8,12 @@ mod panels;
 mod style;
 
 use crate::lags::{COLUMNS, MOST_CURVES};
-use crate::marks::Sign;
 use crate::picture::axis::push_axis;
 use crate::picture::lanes::Lanes;
 use crate::picture::panels::{PITCH, push_panel};
 use crate::picture::style::push_style;
 use crate::scene::Scene;
+use crate::signs::SIGNS;
 use std::alloc::{AllocError, Global};
 
 /// The top of the first lane, in units of the picture.
@@ -38,6 +38,9 @@ const FOOT: u64 = 30;
 
 /// How far an entry of the legend is from the next one, in units.
 const ENTRY: u64 = 122;
+
+/// So many entries a row of the legend has.
+const ENTRIES: u64 = 8;
 
 /// How far the second row is below the first one, in units.
 const SECOND_ROW: u64 = 18;
@@ -96,27 +99,23 @@ fn push_head(text: &mut String, scene: &Scene<'_>, height: u64) -> Result<(), Al
 }
 
 fn push_legend(text: &mut String) -> Result<(), AllocError> {
-    push_signs(text, &Sign::FIRST_ROW, 0)?;
-    push_signs(text, &Sign::SECOND_ROW, SECOND_ROW)?;
+    for (number, (shape, words)) in SIGNS.iter().enumerate() {
+        push_sign(text, number as u64, shape, words)?;
+    }
     text.push_str(KEYS)
 }
 
-/// Writes the signs of a row of the legend that is so far below the first one.
-fn push_signs(
-    text: &mut String,
-    signs: &[(Sign, &'static str)],
-    row: u64,
-) -> Result<(), AllocError> {
-    let (middle, base) = (row.saturating_add(72), row.saturating_add(76));
-    for (number, (sign, word)) in signs.iter().enumerate() {
-        let place = (number as u64).saturating_mul(ENTRY).saturating_add(16);
-        let after = place.saturating_add(9);
-        writeln!(
-            text,
-            "<use href=\"#{sign}\" x=\"{place}\" y=\"{middle}\"/><text class=\"s\" x=\"{after}\" y=\"{base}\">{word}</text>"
-        )?;
-    }
-    Ok(())
+/// Writes an entry of the legend: the shape of a sign, and the words beside it.
+fn push_sign(text: &mut String, number: u64, shape: &str, words: &str) -> Result<(), AllocError> {
+    let (column, row) = (number % ENTRIES, number / ENTRIES);
+    let place = column.saturating_mul(ENTRY).saturating_add(16);
+    let after = place.saturating_add(9);
+    let middle = row.saturating_mul(SECOND_ROW).saturating_add(72);
+    let base = middle.saturating_add(4);
+    writeln!(
+        text,
+        "<use href=\"#{shape}\" x=\"{place}\" y=\"{middle}\"/><text class=\"s\" x=\"{after}\" y=\"{base}\">{words}</text>"
+    )
 }
 
 /// Writes the axis below the lanes, and one more below the panels.

@@ -1,10 +1,11 @@
 //! The lanes of CPUs: their boxes, their marks and the arrows between them.
 
-use crate::marks::{Rows, Sign, is_chosen, running_after, sign_of};
+use crate::marks::{Rows, is_chosen, running_after};
 use crate::moments::{Moment, other_cpu};
 use crate::picture::arrows::Shifts;
 use crate::picture::boxes::{BOX, Group};
 use crate::scale::{Scale, Tenths, part};
+use crate::signs::{Sign, sign_of};
 use crate::stretches::Stretch;
 use crate::words::Words;
 use eevdf_ops::CpuId;
@@ -232,7 +233,7 @@ impl Lanes {
         let from = Tenths(from.0.saturating_add(shift));
         let to = scale.place(begin);
         let line = mark.moment.line;
-        let kind = if mark.sign == Sign::Pull { "p" } else { "q" };
+        let kind = if mark.sign == Sign::PULL { "p" } else { "q" };
         writeln!(
             text,
             "<path class=\"{kind}\" d=\"M{from} {start}L{to} {tip}\"><title>{line}, at {begin} ns</title></path>"
