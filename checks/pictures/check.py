@@ -29,6 +29,7 @@ from plain.workload import read_workload
 from program import SOURCES, Pictures, is_well, stored_workloads
 from refusals import check_refusals
 from runner import TOP
+from stretch_table import check_stretch_table
 from svg import Wrong, expect
 
 # How many small workloads are drawn of each kind.
@@ -46,6 +47,7 @@ def check_all(checks, data, script, words=()):
     timeline = Timeline(read_workload(data).setup, script)
     joined = check_picture(checks.written(words, data), timeline)
     check_trace(checks.written((*words, "--perfetto"), data), timeline)
+    check_stretch_table(checks.written((*words, "--table"), data), timeline)
     figures = checks.written((*words, "--stats", "--json"), data)
     check_json(figures, timeline)
     check_table(checks.written((*words, "--stats"), data), json.loads(figures))
@@ -103,6 +105,7 @@ def check_window(checks, data):
     cpus = list(range(0, timeline.setup.cpus(), 2))
     words = ("--from", str(begin), "--to", str(end), "--cpu", ",".join(map(str, cpus)))
     check_picture(checks.written(words, data), timeline, (begin, end), cpus)
+    check_stretch_table(checks.written((*words, "--table"), data), timeline, (begin, end), cpus)
 
 
 def check_order(checks, data):
@@ -155,6 +158,14 @@ def check_late_pull(checks):
     expect("what is before the time", [event for event in part if event["ph"] != "M" and event["ts"] + event.get("dur", 0) < 2], [])
 
 
+def check_ends(checks):
+    """What is said of each stretch of a workload in which each reason for an end is there."""
+    check_script(checks, made.ends())
+    rows = [row.split() for row in checks.written(("--table",), made.ends()).decode().splitlines()[1:]]
+    expect("why stretches ended", {row[-1] for row in rows}, {"yielded", "preempted", "gap", "slept", "ended", "-"})
+    expect("how long it was from a wake", [row[4] for row in rows if row[4] != "-"], ["3000"])
+
+
 def check_late_wake(checks):
     """Nothing that a wake brings about is drawn before what its sender had done by then."""
     data = made.late_wake()
@@ -183,6 +194,7 @@ def check_crowd(checks):
 
 def check_made(checks):
     for name, check in (("choices", check_choices), ("yields of tasks", check_yields), ("an early arrow", check_late_pull), ("a late wake", check_late_wake),
+                        ("why stretches end", check_ends),
                         ("a task alone of each level", check_alone), ("30 tasks", check_crowd), ("3000 stretches", check_dense)):
         checks.attempt(name, check, checks)
     checks.attempt("an empty machine", check_script, checks, made.empty())

@@ -63,6 +63,13 @@ def check_longest_trace(checks, data):
     expect("the ends of arrows", letters.count("s"), letters.count("f"))
 
 
+def check_longest_table(checks, data):
+    """A line for each stretch, in order of time."""
+    times = [int(line.split()[0]) for line in within_bounds(checks, ("--table",), data).splitlines()[1:]]
+    if times != sorted(times) or len(times) < 100000:
+        raise Wrong(f"a table of {len(times)} stretches")
+
+
 def check_longest_figures(checks, data):
     within_bounds(checks, ("--stats",), data)
     check_sums(within_bounds(checks, ("--stats", "--json"), data), data)
@@ -120,5 +127,5 @@ def check_large(checks):
     data = made.longest()
     checks.attempt("64 CPUs and 1024 tasks", check_widest, checks)
     checks.attempt("a full picture", check_fullest, checks)
-    for check in (check_longest_picture, check_longest_trace, check_longest_figures, check_part_of_longest, check_terminal):
+    for check in (check_longest_picture, check_longest_trace, check_longest_table, check_longest_figures, check_part_of_longest, check_terminal):
         checks.attempt(f"640000 deeds: {check.__name__}", check, checks, data)

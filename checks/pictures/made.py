@@ -129,6 +129,16 @@ def yields():
     return workload(1, tasks, ["0 pick", "0 tick 4000000", "0 yield", "0 pick", "0 tick 1000000", "0 yield"])
 
 
+def ends():
+    """Stretches that end for each reason. Task 2 wakes 3 microseconds before it runs."""
+    tasks = [task_text(0, 0, 3000000, 0, False), task_text(0, 0, 3000000, 0, False), task_text(0, 0, 3000000, 0, True),
+             task_text(1, 0, 3000000, 0, False)]
+    turn = ["0 pick", "0 tick 4000000"]
+    script = [*turn, "0 yield", *turn, *turn, *turn, "1 pick", "1 tick 30000000", "0 pull 1", "0 tick 1000", "0 wake 2 from 0", "0 tick 2000",
+              "0 sleep 0", "0 pick", "0 tick 1000", "0 end 1", "0 pick", "0 tick 1000"]
+    return workload(2, tasks, script)
+
+
 def late_wake():
     """CPU 0 runs for 5 ms, and only then wakes a task of CPU 1, which runs for 1 ms."""
     tasks = [task_text(0, 0, 3000000, 0, False), task_text(1, 0, 3000000, 0, True)]

@@ -10,7 +10,8 @@ use crate::picture::picture_of;
 use crate::progress::Progress;
 use crate::scale::Scale;
 use crate::scene::Scene;
-use crate::stretches::stretches_of;
+use crate::stretch_table::stretch_table_of;
+use crate::stretches::turns_of;
 use crate::trace::trace_of;
 use crate::words::{Output, Words};
 use eevdf_bench::{BenchFault, Watched, WorkloadText, read_input, read_workload, write_text};
@@ -103,10 +104,17 @@ struct Schedule<'a> {
 impl Schedule<'_> {
     fn output(&self, alloc: Global) -> Result<Vec<u8>, AllocError> {
         match self.words.output {
-            Output::Table => table_of(alloc, &self.counted(alloc)?),
+            Output::Table => self.listed(alloc),
+            Output::Figures => table_of(alloc, &self.counted(alloc)?),
             Output::Json => json_of(alloc, &self.counted(alloc)?),
             Output::Picture | Output::Trace => self.drawn(alloc),
         }
+    }
+
+    fn listed(&self, alloc: Global) -> Result<Vec<u8>, AllocError> {
+        let scale = scale_of(self.moments, self.words);
+        let turns = turns_of(alloc, self.setup, self.moments)?;
+        stretch_table_of(alloc, &turns.stretches, &scale, self.words)
     }
 
     fn counted(&self, alloc: Global) -> Result<Figures, AllocError> {
@@ -122,12 +130,12 @@ impl Schedule<'_> {
             progress,
         } = *self;
         let scale = scale_of(moments, words);
-        let stretches = stretches_of(alloc, setup.cpus(), moments)?;
+        let turns = turns_of(alloc, setup, moments)?;
         let lags = lags_of(alloc, setup, moments, &scale, &words.tasks, progress)?;
         let scene = Scene {
             setup,
             moments,
-            stretches: &stretches,
+            stretches: &turns.stretches,
             lags: &lags,
             scale,
             words,

@@ -2,17 +2,18 @@
 
 /// What is printed where the words aren't known.
 pub(crate) const USAGE: &[u8] =
-    b"usage: eevdf_timeline [--replay|--run] [--perfetto|--stats [--json]] [--from NS] [--to NS] [--cpu N,..] [--task N,..] [FILE]\n";
+    b"usage: eevdf_timeline [--replay|--run] [--perfetto|--table|--stats [--json]] [--from NS] [--to NS] [--cpu N,..] [--task N,..] [FILE]\n";
 
 /// What `--help` prints.
 pub(crate) const HELP: &[u8] = b"\
-eevdf_timeline draws what the scheduler answers to a workload: a picture (SVG), a trace or a table of figures.
+eevdf_timeline draws what the scheduler answers to a workload: a picture (SVG), a trace or a table.
 
-usage: eevdf_timeline [--replay|--run] [--perfetto|--stats [--json]] [--from NS] [--to NS] [--cpu N,..] [--task N,..] [FILE]
+usage: eevdf_timeline [--replay|--run] [--perfetto|--table|--stats [--json]] [--from NS] [--to NS] [--cpu N,..] [--task N,..] [FILE]
 
   --replay     draws the workload's order, in place of its script
   --run        draws the programs, each run by a thread of its own
   --perfetto   writes a trace, in the format that Perfetto and chrome://tracing read
+  --table      writes a table with a line for each stretch that a task ran
   --stats      writes a table of figures
   --json       with --stats, writes the figures as JSON
   --from NS    leaves out what is before this time, in nanoseconds; not with --stats

@@ -1,5 +1,5 @@
 //! `eevdf_timeline` reads a workload from a file or from standard input, as `eevdf` does, and draws what the scheduler answered: a picture
-//! (SVG), a trace (Trace Event JSON) or a table of figures.
+//! (SVG), a trace (Trace Event JSON), a table of what ran when, or a table of figures.
 //!
 //! `history` comes to the lines that the proved calls answer, and `moments` gives each its time; all that is written is made of these.
 //! `picture` and `trace` draw a `scene` of them, `figures` counts them. `lags` and `figures::counts` do the same deeds once more on a
@@ -18,6 +18,7 @@ mod progress;
 mod scale;
 mod scene;
 mod signs;
+mod stretch_table;
 mod stretches;
 mod trace;
 mod unknown_words;

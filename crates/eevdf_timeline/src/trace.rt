@@ -60,7 +60,7 @@ fn dues_of(alloc: Global, scene: &Scene<'_>) -> Result<Vec<Due>, AllocError> {
         }
     }
     for stretch in scene.stretches {
-        if is_stretch_drawn(scene, stretch) {
+        if stretch.is_chosen(&scene.scale, scene.words) {
             push_at(&mut dues, stretch.begin, What::Ran(*stretch))?;
         }
     }
@@ -98,13 +98,6 @@ fn running_before(turns: &mut [Turn], moment: &Moment) -> Option<TaskId> {
 fn push_at(dues: &mut Vec<Due>, time: u64, what: What) -> Result<(), AllocError> {
     dues.push(Due { time, what })?;
     Ok(())
-}
-
-fn is_stretch_drawn(scene: &Scene<'_>, stretch: &Stretch) -> bool {
-    let is_chosen = scene.words.tasks.has(stretch.task.index());
-    is_chosen
-        && scene.words.cpus.has(stretch.cpu.index())
-        && scene.scale.shows(stretch.begin, stretch.end)
 }
 
 /// Whether a deed is drawn before which this task ran on its CPU: it charged nobody, and its CPU and its task are chosen.

@@ -6,7 +6,14 @@ use eevdf_ops::CpuId;
 use eevdf_queue::TaskId;
 use std::alloc::{AllocError, Global};
 
-const FLAGS: [&str; 5] = ["--replay", "--run", "--perfetto", "--stats", "--json"];
+const FLAGS: [&str; 6] = [
+    "--replay",
+    "--run",
+    "--perfetto",
+    "--table",
+    "--stats",
+    "--json",
+];
 
 const WITH_TIME: [&str; 2] = ["--from", "--to"];
 
@@ -107,6 +114,8 @@ fn together(alloc: Global, words: &[String]) -> Result<String, AllocError> {
         "--replay and --run exclude each other\n"
     } else if has("--perfetto") && (has("--stats") || has("--json")) {
         "--perfetto excludes --stats and --json\n"
+    } else if has("--table") && (has("--perfetto") || has("--stats") || has("--json")) {
+        "--table excludes --perfetto, --stats and --json\n"
     } else if has("--json") && !has("--stats") {
         "--json stands with --stats\n"
     } else if has("--stats") && (has("--from") || has("--to")) {

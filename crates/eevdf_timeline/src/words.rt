@@ -14,8 +14,10 @@ pub enum Output {
     Picture,
     /// A trace, as Trace Event JSON.
     Trace,
-    /// Figures as text in columns.
+    /// A line for each stretch, as text in columns.
     Table,
+    /// Figures as text in columns.
+    Figures,
     /// The same figures as JSON.
     Json,
 }
@@ -103,16 +105,17 @@ fn source_of(replay: bool, run: bool) -> Result<Kind, WordFault> {
 }
 
 fn output_of(matches: &ArgMatches<'_>) -> Result<Output, WordFault> {
-    let stats = matches.get_flag("stats");
     match (
         matches.get_flag("perfetto"),
-        stats,
+        matches.get_flag("table"),
+        matches.get_flag("stats"),
         matches.get_flag("json"),
     ) {
-        (false, false, false) => Ok(Output::Picture),
-        (true, false, false) => Ok(Output::Trace),
-        (false, true, false) => Ok(Output::Table),
-        (false, true, true) => Ok(Output::Json),
+        (false, false, false, false) => Ok(Output::Picture),
+        (true, false, false, false) => Ok(Output::Trace),
+        (false, true, false, false) => Ok(Output::Table),
+        (false, false, true, false) => Ok(Output::Figures),
+        (false, false, true, true) => Ok(Output::Json),
         _ => Err(WordFault::Words),
     }
 }
@@ -121,7 +124,7 @@ fn output_of(matches: &ArgMatches<'_>) -> Result<Output, WordFault> {
 fn check_window(output: Output, from: Option<u64>, to: Option<u64>) -> Result<(), WordFault> {
     let is_of_all = from.is_none() && to.is_none();
     let is_empty = to.is_some_and(|end| end <= from.unwrap_or(0));
-    let counts = output == Output::Table || output == Output::Json;
+    let counts = output == Output::Figures || output == Output::Json;
     if is_empty || counts && !is_of_all {
         Err(WordFault::Words)
     } else {
@@ -173,6 +176,7 @@ fn program<'a>(alloc: Global) -> Result<Command<'a>, AllocError> {
     let source = bare.arg(flag(alloc, "replay"))?.arg(flag(alloc, "run"))?;
     let output = source
         .arg(flag(alloc, "perfetto"))?
+        .arg(flag(alloc, "table"))?
         .arg(flag(alloc, "stats"))?
         .arg(flag(alloc, "json"))?;
     let window = output.arg(value(alloc, "from"))?.arg(value(alloc, "to"))?;
