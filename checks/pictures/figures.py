@@ -7,7 +7,7 @@ from model import figures_of
 from svg import Wrong, expect
 
 TASK_HEADINGS = ("task", "ran ns", "share", "weight", "greatest lag ns", "least lag ns", "picks", "preempted", "wakes", "mean wake ns",
-                 "p99 wake ns", "greatest wake ns")
+                 "p99 wake ns", "greatest wake ns", "from ns", "waited ns", "migrations")
 CPU_HEADINGS = ("cpu", "charged ns", "load", "idle ticks", "idle ns", "pulls in", "pulls out")
 
 

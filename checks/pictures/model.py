@@ -12,6 +12,7 @@ sys.path.insert(0, str(Path(__file__).resolve().parent.parent / "drawn"))
 from plain.machine import queues_at_start, whole
 from plain.numbers import weight_of
 from plain.report import text_of
+from turns import rests_of
 
 
 @dataclass(frozen=True)
@@ -47,7 +48,9 @@ class TaskFigures:
     lags: list = field(default_factory=list)
     picks: int = 0
     preempted: int = 0
+    # (nanoseconds, when it woke) of each wake that a pick followed
     waits: list = field(default_factory=list)
+    migrations: int = 0
 
     def end_stay(self):
         """What the weight gives is cut where the task leaves a queue or joins it anew."""
@@ -190,8 +193,10 @@ class Timeline:
         elif words[0] == "pulled":
             cpu.pulls_in += 1
             self.cpus[moment.deed[1]].pulls_out += 1
+            self.tasks[int(words[1])].migrations += 1
         elif words[0] in ("slept", "ended"):
             self.slept[moment.deed[1]] = moment.begin
+            self.tasks[moment.deed[1]].migrations += self.setup.tasks[moment.deed[1]].home != moment.cpu
         elif words[0] == "woken":
             self.woken[moment.deed[1]] = moment.begin
 
@@ -208,7 +213,8 @@ class Timeline:
         if running is not None and running != task:
             self.tasks[running].preempted += 1
         if task in self.woken:
-            self.tasks[task].waits.append(time - self.woken.pop(task))
+            woken = self.woken.pop(task)
+            self.tasks[task].waits.append((time - woken, woken))
 
 
 def shown(points, begin, end):
@@ -267,8 +273,21 @@ def permille(part, all_of_it):
     return 1000 * part // all_of_it if all_of_it else None
 
 
+def wakes_of(waits):
+    """What is said of the waits of a task, each with its beginning: the last figure is the beginning of the first of the greatest."""
+    lengths = [length for length, _ in waits]
+    return {
+        "wakes_run": len(lengths),
+        "wake_mean_ns": sum(lengths) // len(lengths) if lengths else None,
+        "wake_p99_ns": percentile(lengths),
+        "wake_greatest_ns": max(lengths, default=None),
+        "wake_greatest_from_ns": next((begin for length, begin in waits if length == max(lengths)), None),
+    }
+
+
 def figures_of(timeline):
     """The rows of the table, of tasks and of CPUs. The share by weight is the least and the greatest that it may be."""
+    rests = rests_of(timeline)
     tasks = [{
         "task": number,
         "ran_ns": task.ran,
@@ -278,10 +297,9 @@ def figures_of(timeline):
         "least_lag_ns": min(task.lags, default=None),
         "picks": task.picks,
         "preempted": task.preempted,
-        "wakes_run": len(task.waits),
-        "wake_mean_ns": sum(task.waits) // len(task.waits) if task.waits else None,
-        "wake_p99_ns": percentile(task.waits),
-        "wake_greatest_ns": max(task.waits, default=None),
+        **wakes_of(task.waits),
+        "waited_ns": sum(end - begin for other, sleeps, begin, end in rests if other == number and not sleeps),
+        "migrations": task.migrations,
     } for number, task in enumerate(timeline.tasks)]
     cpus = [{
         "cpu": number,

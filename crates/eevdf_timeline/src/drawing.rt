@@ -118,7 +118,9 @@ impl Schedule<'_> {
     }
 
     fn counted(&self, alloc: Global) -> Result<Figures, AllocError> {
+        let turns = turns_of(alloc, self.setup, self.moments)?;
         let mut counts = counts_of(alloc, self.setup, self.moments, self.progress)?;
+        counts.add_waits(&turns.rests);
         figures_of(alloc, &mut counts, self.words)
     }
 

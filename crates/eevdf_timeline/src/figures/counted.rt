@@ -3,12 +3,14 @@
 use crate::figures::service::Service;
 use crate::figures::virtual_times::VirtualTimes;
 use crate::figures::waits::Waits;
+use eevdf_ops::CpuId;
 use eevdf_queue::{Entry, TaskId};
 use std::alloc::{AllocError, Global};
 
 /// What is counted of a task.
 #[derive(Drop)]
 pub struct TaskCounts {
+    pub home: CpuId,
     /// The nanoseconds that it was charged.
     pub ran: u64,
     /// The nanoseconds that its CPU charged while it was runnable there.
@@ -21,6 +23,10 @@ pub struct TaskCounts {
     /// How often another task was picked while it ran.
     pub preempted: u64,
     pub waits: Waits,
+    /// The nanoseconds in which it was runnable and didn't run.
+    pub waited: u64,
+    /// How often it went to another CPU.
+    pub migrations: u64,
     pub since: Option<Since>,
 }
 
@@ -52,8 +58,9 @@ pub struct CpuCounts {
 }
 
 impl TaskCounts {
-    pub(crate) fn new(alloc: Global) -> TaskCounts {
+    pub(crate) fn new(alloc: Global, home: CpuId) -> TaskCounts {
         TaskCounts {
+            home,
             ran: 0,
             shared: 0,
             fair: 0,
@@ -61,6 +68,8 @@ impl TaskCounts {
             picks: 0,
             preempted: 0,
             waits: Waits::new(alloc),
+            waited: 0,
+            migrations: 0,
             since: None,
         }
     }
@@ -70,6 +79,13 @@ impl TaskCounts {
             None => (greatest, least),
             Some((above, below)) => (above.max(greatest), below.min(least)),
         });
+    }
+
+    /// Counts that the task leaves a CPU: by a pull, or to sleep at its home.
+    pub(crate) fn leave(&mut self, cpu: CpuId, is_pulled: bool) {
+        if is_pulled || self.home != cpu {
+            self.migrations = self.migrations.saturating_add(1);
+        }
     }
 
     pub(crate) fn pick(&mut self, time: u64) -> Result<(), AllocError> {

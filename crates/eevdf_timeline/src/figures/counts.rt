@@ -1,11 +1,13 @@
 //! What is counted of a history, as its deeds are done once more.
 
 use crate::figures::counted::{CpuCounts, Since, TaskCounts};
+use crate::figures::virtual_times::lag_in_ns;
 use crate::moments::{Moment, charged_task, do_again, is_rebase, moved_task, named_task};
 use crate::progress::Progress;
+use crate::stretches::Rest;
 use eevdf_ops::{Answer, CpuId, Deed, Setup, Solo};
 use eevdf_queue::{Entry, TaskId};
-use eevdf_weight::{lag_limit, weight};
+use eevdf_weight::weight;
 use std::alloc::{AllocError, Global};
 
 /// What is counted of all tasks and CPUs.
@@ -47,7 +49,7 @@ impl Counts {
             counts.note_time(solo, CpuId::numbered(cpu), 0)?;
         }
         for (task, spec) in setup.each_task() {
-            counts.tasks.push(TaskCounts::new(alloc))?;
+            counts.tasks.push(TaskCounts::new(alloc, spec.home))?;
             counts.join(solo, task, spec.home, 0);
         }
         Ok(counts)
@@ -75,7 +77,20 @@ impl Counts {
         self.count_tick(solo, moment);
         self.count_turn(moment)?;
         self.count_pull(moment);
+        self.count_migration(moment);
         Ok(())
+    }
+
+    /// Adds the times in which tasks waited.
+    pub(crate) fn add_waits(&mut self, rests: &[Rest]) {
+        for rest in rests {
+            if !rest.sleeps {
+                if let Some(counts) = self.tasks.get_mut(rest.task.index()) {
+                    let length = rest.end.saturating_sub(rest.begin);
+                    counts.waited = counts.waited.saturating_add(length);
+                }
+            }
+        }
     }
 
     /// Ends what was so of the task that a deed charges or moves, and at a rebase of all tasks of its CPU.
@@ -343,6 +358,19 @@ impl Counts {
         }
     }
 
+    fn count_migration(&mut self, moment: &Moment) {
+        let (left, is_pulled) = match moment.line.answer {
+            Answer::Pulled(task) => (Some(task), true),
+            Answer::Slept(_) | Answer::Ended => (named_task(moment.line.deed), false),
+            _ => (None, false),
+        };
+        if let Some(task) = left {
+            if let Some(counts) = self.tasks.get_mut(task.index()) {
+                counts.leave(moment.line.deed.cpu(), is_pulled);
+            }
+        }
+    }
+
     fn count_pull(&mut self, moment: &Moment) {
         if !matches!(moment.line.answer, Answer::Pulled(_)) {
             return;
@@ -364,13 +392,4 @@ fn entry_in(solo: &Solo, cpu: CpuId, task: TaskId) -> Option<Entry> {
     } else {
         None
     }
-}
-
-/// The lag of a task at a virtual time, limited as a queue does it, in nanoseconds.
-fn lag_in_ns(time: i64, entry: &Entry) -> i64 {
-    let weight = weight(entry.nice);
-    let limit = lag_limit(entry.slice, weight);
-    let lag = time.saturating_sub(entry.v);
-    let lag = lag.min(limit).max(0i64.saturating_sub(limit));
-    lag.saturating_mul(weight as i64) / 1024
 }

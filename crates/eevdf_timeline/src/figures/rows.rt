@@ -22,6 +22,9 @@ pub struct TaskRow {
     pub wake_mean_ns: Option<u64>,
     pub wake_p99_ns: Option<u64>,
     pub wake_greatest_ns: Option<u64>,
+    pub wake_greatest_from_ns: Option<u64>,
+    pub waited_ns: u64,
+    pub migrations: u64,
 }
 
 /// The figures of a CPU, with its load at the end.
@@ -91,6 +94,9 @@ fn row_of(task: u64, counts: &TaskCounts) -> TaskRow {
         wake_mean_ns: mean_of(waits),
         wake_p99_ns: percentile_of(waits),
         wake_greatest_ns: waits.last().copied(),
+        wake_greatest_from_ns: counts.waits.greatest_from,
+        waited_ns: counts.waited,
+        migrations: counts.migrations,
     }
 }
 

@@ -7,7 +7,10 @@ use std::alloc::{AllocError, Global};
 const TASK_HEAD: &str =
     "task           ran ns  share weight  greatest lag ns     least lag ns     picks preempted ";
 
-const WAKE_HEAD: &str = "    wakes   mean wake ns    p99 wake ns greatest wake ns\n";
+const WAKE_HEAD: &str =
+    "    wakes   mean wake ns    p99 wake ns greatest wake ns          from ns ";
+
+const REST_HEAD: &str = "       waited ns migrations\n";
 
 const CPU_HEAD: &str =
     "\n cpu       charged ns         load idle ticks          idle ns  pulls in pulls out\n";
@@ -16,6 +19,7 @@ const CPU_HEAD: &str =
 pub(crate) fn table_of(alloc: Global, figures: &Figures) -> Result<Vec<u8>, AllocError> {
     let mut text = String::from_str(alloc, TASK_HEAD)?;
     text.push_str(WAKE_HEAD)?;
+    text.push_str(REST_HEAD)?;
     for row in &figures.tasks {
         push_task(alloc, &mut text, row)?;
     }
@@ -44,6 +48,7 @@ fn push_task(alloc: Global, text: &mut String, row: &TaskRow) -> Result<(), Allo
     let mean = number(alloc, row.wake_mean_ns)?;
     let p99 = number(alloc, row.wake_p99_ns)?;
     let longest = number(alloc, row.wake_greatest_ns)?;
+    let from = number(alloc, row.wake_greatest_from_ns)?;
     write!(
         text,
         "{:>4} {:>16} {share:>6} {weight:>6} ",
@@ -54,10 +59,15 @@ fn push_task(alloc: Global, text: &mut String, row: &TaskRow) -> Result<(), Allo
         "{greatest:>16} {least:>16} {:>9} {:>9} ",
         row.picks, row.preempted
     )?;
+    write!(
+        text,
+        "{:>9} {mean:>14} {p99:>14} {longest:>16} ",
+        row.wakes_run
+    )?;
     writeln!(
         text,
-        "{:>9} {mean:>14} {p99:>14} {longest:>16}",
-        row.wakes_run
+        "{from:>16} {:>16} {:>10}",
+        row.waited_ns, row.migrations
     )
 }
 

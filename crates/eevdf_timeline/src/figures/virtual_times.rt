@@ -1,5 +1,7 @@
 //! The greatest and the least virtual time of a CPU since a place of the history.
 
+use eevdf_queue::Entry;
+use eevdf_weight::{lag_limit, weight};
 use std::alloc::{AllocError, Global};
 
 /// A virtual time that a CPU had after the deed at a place of the history.
@@ -61,4 +63,13 @@ fn push_falling(times: &mut Vec<Noted>, noted: Noted) -> Result<(), AllocError> 
 fn first_since(times: &[Noted], place: usize) -> Option<i64> {
     let first = times.partition_point(|noted| noted.place < place);
     times.get(first).map(|noted| noted.time)
+}
+
+/// The lag of a task at a virtual time, limited as a queue does it, in nanoseconds.
+pub(crate) fn lag_in_ns(time: i64, entry: &Entry) -> i64 {
+    let weight = weight(entry.nice);
+    let limit = lag_limit(entry.slice, weight);
+    let lag = time.saturating_sub(entry.v);
+    let lag = lag.min(limit).max(0i64.saturating_sub(limit));
+    lag.saturating_mul(weight as i64) / 1024
 }

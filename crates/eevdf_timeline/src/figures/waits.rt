@@ -7,6 +7,9 @@ use std::alloc::{AllocError, Global};
 pub struct Waits {
     /// In nanoseconds.
     pub lengths: Vec<u64>,
+    /// When it woke before the first of the greatest of them.
+    pub greatest_from: Option<u64>,
+    greatest: u64,
     // when it woke, if it hasn't been picked since
     woken: Option<u64>,
 }
@@ -15,6 +18,8 @@ impl Waits {
     pub(crate) fn new(alloc: Global) -> Waits {
         Waits {
             lengths: Vec::new(alloc),
+            greatest_from: None,
+            greatest: 0,
             woken: None,
         }
     }
@@ -26,7 +31,12 @@ impl Waits {
     pub(crate) fn pick(&mut self, time: u64) -> Result<(), AllocError> {
         if let Some(woken) = self.woken {
             self.woken = None;
-            self.lengths.push(time.saturating_sub(woken))?;
+            let length = time.saturating_sub(woken);
+            if self.greatest_from.is_none() || length > self.greatest {
+                self.greatest = length;
+                self.greatest_from = Some(woken);
+            }
+            self.lengths.push(length)?;
         }
         Ok(())
     }
