@@ -16,7 +16,7 @@ sys.path[:0] = [str(HERE), str(HERE.parent), str(HERE.parent / "drawn")]
 
 import made
 from draw import cases
-from events import check_trace, check_unknown_trace
+from events import CPUS, check_trace, check_unknown_trace
 from figures import check_json, check_rows, check_table
 from large import check_large
 from model import Timeline
@@ -83,7 +83,7 @@ def check_run(checks, data):
     words, setup = SOURCES["run"], read_workload(data).setup
     if any(operation[0] in ("post", "drain", "pull") for program in setup.programs for operation in program):
         check_unknown(checks.written(words, data), setup.cpus())
-        check_unknown_trace(checks.written((*words, "--perfetto"), data), setup.cpus())
+        check_unknown_trace(checks.written((*words, "--perfetto"), data), setup.cpus(), len(setup.tasks))
         check_rows(json.loads(checks.written((*words, "--stats", "--json"), data))["tasks"])
     else:
         outcome, _ = play(setup, made_order(setup, 0))
@@ -139,7 +139,7 @@ def check_choices(checks):
     timeline = Timeline(read_workload(data).setup, read_workload(data).script)
     check_picture(checks.written(("--from", "500001", "--to", "600000"), data), timeline, (500001, 600000))
     events = checks.events(("--cpu", "1"), data)
-    expect("the tracks of one CPU", {event["tid"] for event in events if event["ph"] == "X"}, {1})
+    expect("the tracks of one CPU", {event["tid"] for event in events if event["ph"] == "X" and event["pid"] == CPUS}, {1})
     expect("its arrows", [event for event in events if event["ph"] in "sf"], [])
 
 
@@ -172,6 +172,8 @@ def check_late_wake(checks):
     check_script(checks, data)
     events = checks.events((), data)
     ran = {event["name"]: (event["ts"], event["dur"]) for event in events if event["ph"] == "X" and event["name"].startswith("task ")}
+    late = [(event["name"], event["tid"], event["ts"], event["dur"]) for event in events if event["name"] in ("waits", "sleeps")]
+    expect("what the woken task did before", late, [("sleeps", 1, 0, 5000)])
     expect("when the tasks ran", ran, {"task 0": (0, 5000), "task 1": (5000, 1000)})
     expect("the arrow", [(event["ph"], event["tid"], event["ts"]) for event in events if event["ph"] in "sf"], [("s", 0, 5000), ("f", 1, 5000)])
 

@@ -4,11 +4,13 @@ import json
 from collections import defaultdict
 
 from model import kept
+from plain.report import text_of
 from svg import Wrong, expect
+from turns import rests_of, turns_of
 from view import MOST_CURVES
 
-# The processes: tracks and loads of CPUs, and counters of lags.
-CPUS, LAGS = 1, 2
+# The processes: tracks and loads of CPUs, counters of lags, and tracks of tasks.
+CPUS, LAGS, TASKS = 1, 2, 3
 
 
 def nanoseconds(event, key):
@@ -33,7 +35,7 @@ def check_flows(events):
             if event["ph"] in ends[event["id"]]:
                 raise Wrong(f"{event} is there twice")
             ends[event["id"]][event["ph"]] = event
-    slices = {(event["tid"], event["ts"]) for event in events if event["ph"] == "X"}
+    slices = {(event["tid"], event["ts"]) for event in events if event["ph"] == "X" and event["pid"] == CPUS}
     for number, both in ends.items():
         expect(f"the ends of arrow {number}", sorted(both), ["f", "s"])
         if both["s"]["ts"] > both["f"]["ts"]:
@@ -46,27 +48,32 @@ def check_flows(events):
 
 
 def check_processes(events):
-    """Lags stand by their own process, and all else by that of the CPUs."""
+    """Lags stand by their own process, what tasks do by that of the tasks, and all else by that of the CPUs."""
     for event in events:
         is_lag = event["ph"] == "C" and event["name"].startswith("lag ")
-        expect(f"the process of {event}", event["pid"], LAGS if is_lag else CPUS)
+        of_task = event["name"] in ("waits", "sleeps") or event["name"].startswith("runs ")
+        expect(f"the process of {event}", event["pid"], LAGS if is_lag else TASKS if of_task else CPUS)
 
 
-def check_names(events, cpus):
-    """The processes and the track of each CPU have their names."""
-    wanted = [("process_name", CPUS, 0, "CPUs"), ("process_name", LAGS, 0, "lags")]
-    wanted += [("thread_name", CPUS, cpu, f"CPU {cpu}") for cpu in range(cpus)]
-    expect("the names", [(event["name"], event["pid"], event["tid"], event["args"]["name"]) for event in events], wanted)
+def check_names(events, cpus, tasks):
+    """The processes and the tracks of CPUs and tasks have their names, and their places."""
+    processes = [(CPUS, "CPUs"), (TASKS, "tasks"), (LAGS, "lags")]
+    wanted = [("process", process, 0, name, place) for place, (process, name) in enumerate(processes, 1)]
+    wanted += [("thread", CPUS, cpu, f"CPU {cpu}", cpu) for cpu in range(cpus)]
+    wanted += [("thread", TASKS, task, f"task {task}", task) for task in range(tasks)]
+    wanted = [row for kind, process, track, name, place in wanted
+              for row in ((f"{kind}_name", process, track, {"name": name}), (f"{kind}_sort_index", process, track, {"sort_index": place}))]
+    expect("the names", [(event["name"], event["pid"], event["tid"], event["args"]) for event in events], wanted)
 
 
-def events_in(text, cpus):
-    """The events of a trace of so many CPUs but for the names, with what holds of each trace."""
+def events_in(text, cpus, tasks):
+    """The events of a trace of so many CPUs and tasks but for the names, with what holds of each trace."""
     trace = json.loads(text)
     expect("the unit", trace["displayTimeUnit"], "ns")
     names = [event for event in trace["traceEvents"] if event["ph"] == "M"]
     events = [event for event in trace["traceEvents"] if event["ph"] != "M"]
     expect("the kinds of events", {event["ph"] for event in events} - set("XCsf"), set())
-    check_names(names, cpus)
+    check_names(names, cpus, tasks)
     check_order(events)
     check_processes(events)
     return events
@@ -76,17 +83,44 @@ def is_of_another(moment):
     return moment.answer.startswith("pulled") or moment.answer == "woken" and moment.deed[2] != moment.cpu
 
 
+def without_none(**values):
+    return {key: value for key, value in values.items() if value is not None}
+
+
+def done_of(timeline):
+    """The slices of deeds that charged nobody: an idle tick is as long as it took."""
+    for moment, task, lag in zip(timeline.moments, timeline.concerned, timeline.lags_after):
+        if moment.charged() is None:
+            args = without_none(deed=f"{moment.cpu} {text_of(moment.deed)}", answer=moment.answer, task=task,
+                                sender=moment.deed[2] if moment.deed[0] == "wake" else None, lag=lag)
+            yield CPUS, moment.cpu, moment.text(), moment.begin, moment.end - moment.begin, args
+
+
+def ran_of(timeline):
+    """The slices of stretches, on the tracks of CPUs and of tasks, with the lag after the last tick of each."""
+    ends = {(moment.cpu, moment.end): lag for moment, lag in zip(timeline.moments, timeline.lags_after) if moment.charged() is not None}
+    for turn in turns_of(timeline):
+        length, lag = turn.end - turn.begin, ends[turn.cpu, turn.end]
+        args = without_none(task=turn.task, waited_ns=turn.waited, delay_ns=turn.delay, why=turn.why, lag=lag)
+        yield CPUS, turn.cpu, f"task {turn.task}", turn.begin, length, args
+        yield TASKS, turn.task, f"runs on CPU {turn.cpu}", turn.begin, length, {"task": turn.task, "cpu": turn.cpu}
+
+
+def slices_of(timeline, crossing):
+    given = [(CPUS, giver, f"other end of {moment.text()}", moment.other, 0, {"cpu": moment.cpu}) for moment, giver in crossing]
+    rests = [(TASKS, task, "sleeps" if sleeps else "waits", begin, end - begin, {"task": task}) for task, sleeps, begin, end in rests_of(timeline)]
+    return [*ran_of(timeline), *done_of(timeline), *given, *rests]
+
+
 def check_trace(text, timeline):
     """Raises Wrong where the trace of a whole timeline isn't as docs/pictures.md says."""
-    events = events_in(text, timeline.setup.cpus())
+    events = events_in(text, timeline.setup.cpus(), len(timeline.setup.tasks))
     crossing = [(moment, moment.deed[1 if moment.deed[0] == "pull" else 2]) for moment in timeline.moments if is_of_another(moment)]
     arrows = [((giver, moment.other), (moment.cpu, moment.begin)) for moment, giver in crossing]
     expect("the arrows", sorted(check_flows(events)), sorted(arrows))
-    slices = [(event["tid"], event["name"], nanoseconds(event, "ts"), nanoseconds(event, "dur")) for event in events if event["ph"] == "X"]
-    ran = [(cpu, f"task {task}", begin, end - begin) for cpu, task, begin, end in timeline.stretches]
-    done = [(moment.cpu, moment.text(), moment.begin, 0) for moment in timeline.moments if moment.charged() is None]
-    given = [(giver, moment.text(), min(moment.begin, moment.other), 0) for moment, giver in crossing]
-    expect("the slices", sorted(slices), sorted(ran + done + given))
+    slices = [(event["pid"], event["tid"], event["name"], nanoseconds(event, "ts"), nanoseconds(event, "dur"), event["args"])
+              for event in events if event["ph"] == "X"]
+    expect("the slices", sorted(slices, key=str), sorted(slices_of(timeline, crossing), key=str))
     check_counters(events, timeline)
 
 
@@ -94,9 +128,9 @@ def counted(events, name, value):
     return [(nanoseconds(event, "ts"), event["args"][value]) for event in events if event["name"] == name]
 
 
-def check_unknown_trace(text, cpus):
+def check_unknown_trace(text, cpus, tasks):
     """What holds of the trace of a history that isn't known."""
-    check_flows(events_in(text, cpus))
+    check_flows(events_in(text, cpus, tasks))
 
 
 def check_counters(events, timeline):

@@ -97,6 +97,9 @@ class Timeline:
         # (time, load) where the load of a CPU changes, and (time, lag) of each task as its CPU is looked at
         self.loads = [[(0, 0)] for _ in self.queues]
         self.points = [[] for _ in setup.tasks]
+        # of each deed the task that it concerns, or None, and the lag of that after it, where it is on the deed's CPU or fell asleep
+        self.concerned = []
+        self.lags_after = []
         # the time of the last look at each CPU
         self.looked = {}
         for cpu in range(setup.cpus()):
@@ -154,6 +157,7 @@ class Timeline:
         moment = Moment(cpu, deed, answer, begin, begin + took, other)
         self.moments.append(moment)
         self.clocks[cpu] = moment.end
+        self.note_concerned(moment, running)
         self.count(moment, running)
         self.stretch(moment)
         if self.looked[cpu] != begin:
@@ -162,6 +166,14 @@ class Timeline:
         if deed[0] == "pull":
             self.note(deed[1], other, *self.state(deed[1]))
         self.note_lags({cpu, deed[1]} if deed[0] == "pull" else {cpu})
+
+    def note_concerned(self, moment, running):
+        word, *rest = moment.answer.split()
+        task = int(rest[0]) if word in ("charged", "picked", "pulled") else running if word == "yielded" else None
+        if moment.deed[0] in ("sleep", "wake", "renice", "begin", "end", "set"):
+            task = moment.deed[1]
+        self.concerned.append(task)
+        self.lags_after.append(int(rest[0]) if word == "slept" else dict(self.state(moment.cpu)[1]).get(task))
 
     def stretch(self, moment):
         task, at = moment.charged(), self.open.get(moment.cpu)

@@ -133,11 +133,11 @@ impl Schedule<'_> {
         } = *self;
         let scale = scale_of(moments, words);
         let turns = turns_of(alloc, setup, moments)?;
-        let lags = lags_of(alloc, setup, moments, &scale, &words.tasks, progress)?;
+        let lags = lags_of(alloc, setup, moments, &scale, words, progress)?;
         let scene = Scene {
             setup,
             moments,
-            stretches: &turns.stretches,
+            turns: &turns,
             lags: &lags,
             scale,
             words,

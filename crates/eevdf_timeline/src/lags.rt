@@ -1,10 +1,11 @@
 //! How the lags of tasks and the loads of CPUs change, as the deeds are done once more.
 
+use crate::marks::task_of;
 use crate::moments::{Moment, do_again};
 use crate::progress::Progress;
 use crate::scale::{Scale, part};
-use crate::words::Choice;
-use eevdf_ops::{CpuId, Deed, Setup, Solo};
+use crate::words::{Output, Words};
+use eevdf_ops::{Answer, CpuId, Deed, Setup, Solo};
 use eevdf_queue::TaskId;
 use std::alloc::{AllocError, Global};
 
@@ -39,11 +40,23 @@ pub struct Load {
     pub load: u64,
 }
 
+/// What is known after a deed.
+#[derive(Clone, Copy)]
+pub struct After {
+    /// The task that the deed concerns.
+    pub task: Option<TaskId>,
+    /// Its lag, in virtual time, where it is on the deed's CPU or fell asleep by the deed.
+    pub lag: Option<i64>,
+}
+
 /// What the curves of a picture or a trace are made of.
 #[derive(Drop)]
 pub struct Lags {
     pub curves: Vec<Curve>,
     pub loads: Vec<Load>,
+    /// Of each deed, where a trace is written.
+    pub after: Vec<After>,
+    keeps_all: bool,
     last_loads: Vec<u64>,
     // when each CPU was looked at last
     looked: Vec<Option<u64>>,
@@ -56,11 +69,11 @@ pub(crate) fn lags_of(
     setup: &Setup,
     moments: &[Moment],
     scale: &Scale,
-    tasks: &Choice,
+    words: &Words,
     progress: &Progress,
 ) -> Result<Lags, AllocError> {
     let mut solo = Solo::open(alloc, setup)?;
-    let mut lags = Lags::open(alloc, setup, tasks)?;
+    let mut lags = Lags::open(alloc, setup, words)?;
     for cpu in 0..setup.cpus() {
         lags.look(&solo, CpuId::numbered(cpu), 0, scale)?;
     }
@@ -71,10 +84,10 @@ pub(crate) fn lags_of(
 }
 
 impl Lags {
-    fn open(alloc: Global, setup: &Setup, tasks: &Choice) -> Result<Lags, AllocError> {
+    fn open(alloc: Global, setup: &Setup, words: &Words) -> Result<Lags, AllocError> {
         let mut curves = Vec::new(alloc);
         for (task, _spec) in setup.each_task() {
-            if tasks.has(task.index()) && curves.len() < MOST_CURVES {
+            if words.tasks.has(task.index()) && curves.len() < MOST_CURVES {
                 curves.push(Curve {
                     task,
                     points: Vec::new(alloc),
@@ -85,6 +98,8 @@ impl Lags {
         Ok(Lags {
             curves,
             loads: Vec::new(alloc),
+            after: Vec::new(alloc),
+            keeps_all: words.output == Output::Trace,
             last_loads: vec![in alloc; 0; setup.cpus()]?,
             looked: vec![in alloc; None; setup.cpus()]?,
         })
@@ -124,7 +139,11 @@ impl Lags {
         if self.looked.get(cpu.index()).copied().flatten() != Some(moment.begin) {
             self.look(solo, cpu, moment.begin, scale)?;
         }
+        let running = running_on(solo, cpu);
         do_again(solo, &moment.line);
+        if self.keeps_all {
+            self.after.push(after_of(solo, moment, running))?;
+        }
         self.look(solo, cpu, moment.end, scale)?;
         if let Deed::Pull { source, .. } = moment.line.deed {
             self.look(solo, source, moment.other, scale)?;
@@ -206,6 +225,40 @@ impl Curve {
             height = point.lag.unsigned_abs().max(height);
         }
         height
+    }
+}
+
+fn running_on(solo: &Solo, cpu: CpuId) -> Option<TaskId> {
+    if solo.has_cpu(cpu) {
+        solo.queue(cpu).running()
+    } else {
+        None
+    }
+}
+
+/// What is known after a deed, before which this task ran on its CPU.
+fn after_of(solo: &Solo, moment: &Moment, running: Option<TaskId>) -> After {
+    match task_of(moment, running) {
+        None => After {
+            task: None,
+            lag: None,
+        },
+        Some(task) => After {
+            task: Some(task),
+            lag: lag_after(solo, moment, task),
+        },
+    }
+}
+
+fn lag_after(solo: &Solo, moment: &Moment, task: TaskId) -> Option<i64> {
+    if let Answer::Slept(lag) = moment.line.answer {
+        return Some(lag);
+    }
+    let cpu = moment.line.deed.cpu();
+    if solo.has_cpu(cpu) {
+        solo.queue(cpu).lag_of(task)
+    } else {
+        None
     }
 }
 

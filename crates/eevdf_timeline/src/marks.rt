@@ -17,7 +17,7 @@ pub(crate) fn running_after(moment: &Moment, running: Option<TaskId>) -> Option<
 }
 
 /// The task that a line concerns, where it names one.
-fn task_of(moment: &Moment, running: Option<TaskId>) -> Option<TaskId> {
+pub(crate) fn task_of(moment: &Moment, running: Option<TaskId>) -> Option<TaskId> {
     match moment.line.answer {
         Answer::Charged { task, .. } | Answer::Picked(task) | Answer::Pulled(task) => Some(task),
         Answer::Yielded => running,

@@ -70,6 +70,14 @@ pub(crate) fn other_cpu(moment: &Moment) -> Option<CpuId> {
     }
 }
 
+/// The CPU that asked for a wake.
+pub(crate) fn sender_of(moment: &Moment) -> Option<CpuId> {
+    match moment.line.deed {
+        Deed::Wake { sender, .. } => Some(sender),
+        _ => None,
+    }
+}
+
 /// The lines of a history with their times. Each CPU has a clock, which its ticks move on, charged or idle. Before a deed that names
 /// another CPU, a pull its source or a wake its sender, it moves on to the clock of that one, and before a deed that finds a task asleep to
 /// the moment at which it fell asleep or ended, where it is behind: the CPU has waited until then.

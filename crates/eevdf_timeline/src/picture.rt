@@ -64,7 +64,7 @@ pub(crate) fn picture_of(alloc: Global, scene: &Scene<'_>) -> Result<Vec<u8>, Al
     let mut text = String::new(alloc);
     push_head(&mut text, scene, end.saturating_add(FOOT))?;
     push_grid(&mut text, scene, bottom, end)?;
-    lanes.push_boxes(&mut text, scene.stretches, &scene.scale, scene.words)?;
+    lanes.push_boxes(&mut text, &scene.turns.stretches, &scene.scale, scene.words)?;
     lanes.push_marks(&mut text, &scene.scale)?;
     push_panels(&mut text, scene, panels)?;
     push_notes(&mut text, scene, &lanes)?;

@@ -3,7 +3,7 @@
 use crate::lags::Lags;
 use crate::moments::Moment;
 use crate::scale::Scale;
-use crate::stretches::Stretch;
+use crate::stretches::Turns;
 use crate::words::Words;
 use eevdf_ops::Setup;
 
@@ -12,7 +12,7 @@ use eevdf_ops::Setup;
 pub struct Scene<'a> {
     pub setup: &'a Setup,
     pub moments: &'a [Moment],
-    pub stretches: &'a [Stretch],
+    pub turns: &'a Turns,
     pub lags: &'a Lags,
     pub scale: Scale,
     pub words: &'a Words,

@@ -1,25 +1,30 @@
-//! The trace of a schedule, as Trace Event JSON: a track for each CPU, and counters of loads and lags.
+//! The trace of a schedule, as Trace Event JSON: a track for each CPU and for each task, and counters of loads and lags.
 
 mod event;
+mod names;
+mod slices;
 
 use crate::marks::{is_chosen, running_after};
 use crate::moments::{Moment, other_cpu};
 use crate::scene::Scene;
-use crate::stretches::Stretch;
-use crate::trace::event::{CPUS, Head, LAGS, Phase, Values, head_of, push_event, push_plain};
+use crate::trace::event::{Head, LAGS, Phase, Values, head_of, push_event};
+use crate::trace::names::push_names;
+use crate::trace::slices::{push_arrow, push_done, push_other_end, push_rest, push_run};
 use eevdf_ops::{Answer, CpuId};
 use eevdf_queue::TaskId;
 use std::alloc::{AllocError, Global};
 
-/// What happens at a time.
+/// What happens at a time. Stretches, rests and deeds are named by their places, since there are many.
 #[derive(Clone, Copy)]
 enum What {
     /// A task ran.
-    Ran(Stretch),
-    /// A deed that charged nobody was done.
-    Done(Moment),
+    Ran(usize),
+    /// A task waited or slept.
+    Rested(usize),
+    /// A deed was done, and charged nobody.
+    Done(usize),
     /// The deed of another CPU took something from this one, or was asked for by it.
-    Gave(CpuId, Moment),
+    Gave(CpuId, usize),
     /// The arrow of this number begins on a CPU, or ends there.
     Begins(CpuId, u64),
     Ends(CpuId, u64),
@@ -42,9 +47,11 @@ pub(crate) fn trace_of(alloc: Global, scene: &Scene<'_>) -> Result<Vec<u8>, Allo
     text.extend_from_slice(b"{\"displayTimeUnit\":\"ns\",\"traceEvents\":[\n")?;
     push_names(alloc, &mut text, scene)?;
     for due in &dues {
-        text.extend_from_slice(b",\n")?;
-        push_due(alloc, &mut text, due)?;
+        push_due(alloc, &mut text, scene, due)?;
     }
+    // no comma stands behind the last event
+    let _ = text.pop();
+    let _ = text.pop();
     text.extend_from_slice(b"\n]}\n")?;
     Ok(text)
 }
@@ -52,20 +59,31 @@ pub(crate) fn trace_of(alloc: Global, scene: &Scene<'_>) -> Result<Vec<u8>, Allo
 /// All that happens, on each track in order of time but for what arrows add.
 fn dues_of(alloc: Global, scene: &Scene<'_>) -> Result<Vec<Due>, AllocError> {
     let mut dues = Vec::new(alloc);
-    let mut turns = turns_at_start(alloc, scene.setup.cpus())?;
-    for (number, moment) in scene.moments.iter().enumerate() {
-        let before = running_before(&mut turns, moment);
-        if is_drawn(scene, moment, before) {
-            push_deed(&mut dues, scene, moment, number as u64)?;
+    push_deeds(alloc, &mut dues, scene)?;
+    for (place, stretch) in scene.turns.stretches.iter().enumerate() {
+        if stretch.is_chosen(&scene.scale, scene.words) {
+            push_at(&mut dues, stretch.begin, What::Ran(place))?;
         }
     }
-    for stretch in scene.stretches {
-        if stretch.is_chosen(&scene.scale, scene.words) {
-            push_at(&mut dues, stretch.begin, What::Ran(*stretch))?;
+    for (place, rest) in scene.turns.rests.iter().enumerate() {
+        let is_chosen = scene.words.tasks.has(rest.task.index());
+        if is_chosen && scene.scale.shows(rest.begin, rest.end) {
+            push_at(&mut dues, rest.begin, What::Rested(place))?;
         }
     }
     push_counters(&mut dues, scene)?;
     Ok(dues)
+}
+
+fn push_deeds(alloc: Global, dues: &mut Vec<Due>, scene: &Scene<'_>) -> Result<(), AllocError> {
+    let mut turns = turns_at_start(alloc, scene.setup.cpus())?;
+    for (place, moment) in scene.moments.iter().enumerate() {
+        let before = running_before(&mut turns, moment);
+        if is_drawn(scene, moment, before) {
+            push_deed(dues, scene, moment, place)?;
+        }
+    }
+    Ok(())
 }
 
 /// Who runs on a CPU.
@@ -111,23 +129,25 @@ fn is_drawn(scene: &Scene<'_>, moment: &Moment, running: Option<TaskId>) -> bool
         && scene.scale.shows(moment.begin, moment.begin)
 }
 
+/// Adds the deed at a place of the history.
 fn push_deed(
     dues: &mut Vec<Due>,
     scene: &Scene<'_>,
     moment: &Moment,
-    number: u64,
+    place: usize,
 ) -> Result<(), AllocError> {
     let begin = moment.other;
+    let number = place as u64;
     let other = if scene.scale.shows(begin, begin) {
         other_cpu(moment).filter(|other| scene.words.cpus.has(other.index()))
     } else {
         None
     };
     if let Some(other) = other {
-        push_at(dues, begin, What::Gave(other, *moment))?;
+        push_at(dues, begin, What::Gave(other, place))?;
         push_at(dues, begin, What::Begins(other, number))?;
     }
-    push_at(dues, moment.begin, What::Done(*moment))?;
+    push_at(dues, moment.begin, What::Done(place))?;
     if other.is_some() {
         push_at(
             dues,
@@ -152,142 +172,64 @@ fn push_counters(dues: &mut Vec<Due>, scene: &Scene<'_>) -> Result<(), AllocErro
     Ok(())
 }
 
-/// The names of the processes and of the CPUs' tracks.
-fn push_names(alloc: Global, text: &mut Vec<u8>, scene: &Scene<'_>) -> Result<(), AllocError> {
-    push_process_name(alloc, text, CPUS, "CPUs")?;
-    text.extend_from_slice(b",\n")?;
-    push_process_name(alloc, text, LAGS, "lags")?;
-    push_cpu_names(alloc, text, scene)
-}
-
-fn push_cpu_names(alloc: Global, text: &mut Vec<u8>, scene: &Scene<'_>) -> Result<(), AllocError> {
-    for cpu in 0..scene.setup.cpus() {
-        if scene.words.cpus.has(cpu) {
-            push_cpu_name(alloc, text, cpu as u64)?;
-        }
+fn push_due(
+    alloc: Global,
+    text: &mut Vec<u8>,
+    scene: &Scene<'_>,
+    due: &Due,
+) -> Result<(), AllocError> {
+    let time = due.time;
+    match due.what {
+        What::Ran(place) => match scene.turns.stretches.get(place) {
+            None => Ok(()),
+            Some(stretch) => push_run(alloc, text, scene, stretch),
+        },
+        What::Rested(place) => match scene.turns.rests.get(place) {
+            None => Ok(()),
+            Some(rest) => push_rest(alloc, text, rest),
+        },
+        What::Done(place) => push_done(alloc, text, scene, place),
+        What::Gave(cpu, place) => match scene.moments.get(place) {
+            None => Ok(()),
+            Some(moment) => push_other_end(alloc, text, cpu, moment),
+        },
+        What::Begins(cpu, number) => push_arrow(alloc, text, Phase::ArrowBegins, time, cpu, number),
+        What::Ends(cpu, number) => push_arrow(alloc, text, Phase::ArrowEnds, time, cpu, number),
+        What::Load(cpu, load) => push_load(alloc, text, time, cpu, load),
+        What::Lag(task, lag) => push_lag(alloc, text, time, task, lag),
     }
-    Ok(())
 }
 
-fn push_process_name(
+fn push_load(
     alloc: Global,
     text: &mut Vec<u8>,
-    process: u64,
-    name: &str,
+    time: u64,
+    cpu: CpuId,
+    load: u64,
 ) -> Result<(), AllocError> {
-    let name = String::from_str(alloc, name)?;
-    push_name(alloc, text, "process_name", process, 0, name)
-}
-
-fn push_cpu_name(alloc: Global, text: &mut Vec<u8>, cpu: u64) -> Result<(), AllocError> {
-    text.extend_from_slice(b",\n")?;
-    let name = format!(in alloc; "CPU {cpu}")?;
-    push_name(alloc, text, "thread_name", CPUS, cpu, name)
-}
-
-/// Names a process or a track.
-fn push_name(
-    alloc: Global,
-    text: &mut Vec<u8>,
-    kind: &str,
-    process: u64,
-    track: u64,
-    name: String,
-) -> Result<(), AllocError> {
-    let head = Head {
-        process,
-        ..head_of(Phase::Name, 0, track)
-    };
+    let name = format!(in alloc; "load of CPU {cpu}")?;
     let args = Values {
-        name: Some(name),
+        load: Some(load),
         ..Values::none()
     };
-    push_event(alloc, text, &head, kind, args)
+    push_event(alloc, text, &head_of(Phase::Counter, time, 0), &name, args)
 }
 
-fn push_due(alloc: Global, text: &mut Vec<u8>, due: &Due) -> Result<(), AllocError> {
-    let time = due.time;
-    match &due.what {
-        What::Ran(stretch) => push_run(alloc, text, stretch),
-        What::Done(moment) => push_done(alloc, text, moment.line.deed.cpu(), time, moment),
-        What::Gave(cpu, moment) => push_done(alloc, text, *cpu, time, moment),
-        What::Begins(cpu, number) => push_arrow(
-            alloc,
-            text,
-            Phase::ArrowBegins,
-            time,
-            *cpu,
-            *number,
-        ),
-        What::Ends(cpu, number) => push_arrow(alloc, text, Phase::ArrowEnds, time, *cpu, *number),
-        What::Load(cpu, load) => {
-            let name = format!(in alloc; "load of CPU {cpu}")?;
-            let args = Values {
-                load: Some(*load),
-                ..Values::none()
-            };
-            push_event(alloc, text, &head_of(Phase::Counter, time, 0), &name, args)
-        }
-        What::Lag(task, lag) => {
-            let name = format!(in alloc; "lag of task {task}")?;
-            let head = Head {
-                process: LAGS,
-                ..head_of(Phase::Counter, time, 0)
-            };
-            let args = Values {
-                lag: Some(*lag),
-                ..Values::none()
-            };
-            push_event(alloc, text, &head, &name, args)
-        }
-    }
-}
-
-fn push_run(alloc: Global, text: &mut Vec<u8>, stretch: &Stretch) -> Result<(), AllocError> {
-    let name = format!(in alloc; "task {}", stretch.task)?;
-    let length = stretch.end.saturating_sub(stretch.begin);
-    push_slice(alloc, text, stretch.cpu, stretch.begin, length, &name)
-}
-
-/// Writes a deed as a slice of no length.
-fn push_done(
+fn push_lag(
     alloc: Global,
     text: &mut Vec<u8>,
-    cpu: CpuId,
     time: u64,
-    moment: &Moment,
+    task: TaskId,
+    lag: i64,
 ) -> Result<(), AllocError> {
-    let name = format!(in alloc; "{}", moment.line)?;
-    push_slice(alloc, text, cpu, time, 0, &name)
-}
-
-/// Writes a slice on the track of a CPU.
-fn push_slice(
-    alloc: Global,
-    text: &mut Vec<u8>,
-    cpu: CpuId,
-    begin: u64,
-    length: u64,
-    name: &str,
-) -> Result<(), AllocError> {
+    let name = format!(in alloc; "lag of task {task}")?;
     let head = Head {
-        length: Some(length),
-        ..head_of(Phase::Slice, begin, cpu.get())
+        process: LAGS,
+        ..head_of(Phase::Counter, time, 0)
     };
-    push_plain(alloc, text, &head, name)
-}
-
-fn push_arrow(
-    alloc: Global,
-    text: &mut Vec<u8>,
-    phase: Phase,
-    time: u64,
-    cpu: CpuId,
-    number: u64,
-) -> Result<(), AllocError> {
-    let head = Head {
-        arrow: Some(number),
-        ..head_of(phase, time, cpu.get())
+    let args = Values {
+        lag: Some(lag),
+        ..Values::none()
     };
-    push_plain(alloc, text, &head, "arrow")
+    push_event(alloc, text, &head, &name, args)
 }

@@ -11,10 +11,13 @@ pub const CPUS: u64 = 1;
 /// The counters of lags stand by this process.
 pub const LAGS: u64 = 2;
 
+/// The tasks are threads of this one.
+pub const TASKS: u64 = 3;
+
 /// What an event is.
 #[derive(Clone, Copy, PartialEq, Eq)]
 pub enum Phase {
-    /// The name of a process or a track.
+    /// The name of a process or a track, or its place among the others.
     Name,
     /// Something that has a length.
     Slice,
@@ -55,11 +58,29 @@ struct Event<'a> {
     args: Values,
 }
 
-/// The arguments of an event.
+/// The arguments of an event. Times are in nanoseconds, and lags in those of virtual time.
 #[derive(Drop, Serialize)]
 pub struct Values {
     #[serde(skip_serializing_if = "Option::is_none")]
     pub name: Option<String>,
+    #[serde(skip_serializing_if = "Option::is_none")]
+    pub sort_index: Option<u64>,
+    #[serde(skip_serializing_if = "Option::is_none")]
+    pub deed: Option<String>,
+    #[serde(skip_serializing_if = "Option::is_none")]
+    pub answer: Option<String>,
+    #[serde(skip_serializing_if = "Option::is_none")]
+    pub task: Option<u64>,
+    #[serde(skip_serializing_if = "Option::is_none")]
+    pub cpu: Option<u64>,
+    #[serde(skip_serializing_if = "Option::is_none")]
+    pub sender: Option<u64>,
+    #[serde(skip_serializing_if = "Option::is_none")]
+    pub waited_ns: Option<u64>,
+    #[serde(skip_serializing_if = "Option::is_none")]
+    pub delay_ns: Option<u64>,
+    #[serde(skip_serializing_if = "Option::is_none")]
+    pub why: Option<&'static str>,
     #[serde(skip_serializing_if = "Option::is_none")]
     pub lag: Option<i64>,
     #[serde(skip_serializing_if = "Option::is_none")]
@@ -70,6 +91,15 @@ impl Values {
     pub(crate) fn none() -> Values {
         Values {
             name: None,
+            sort_index: None,
+            deed: None,
+            answer: None,
+            task: None,
+            cpu: None,
+            sender: None,
+            waited_ns: None,
+            delay_ns: None,
+            why: None,
             lag: None,
             load: None,
         }
@@ -100,16 +130,7 @@ pub(crate) fn head_of(phase: Phase, time: u64, track: u64) -> Head {
     }
 }
 
-/// Writes an event without arguments.
-pub(crate) fn push_plain(
-    alloc: Global,
-    text: &mut Vec<u8>,
-    head: &Head,
-    name: &str,
-) -> Result<(), AllocError> {
-    push_event(alloc, text, head, name, Values::none())
-}
-
+/// Writes an event, and what is between it and the next one.
 pub(crate) fn push_event(
     alloc: Global,
     text: &mut Vec<u8>,
@@ -139,6 +160,7 @@ pub(crate) fn push_event(
         return Err(AllocError);
     };
     text.extend_from_slice(&written)?;
+    text.extend_from_slice(b",\n")?;
     Ok(())
 }
 
