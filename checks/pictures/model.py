@@ -238,6 +238,17 @@ def shown(points, begin, end):
             yield point
 
 
+def before(points, begin, end):
+    """Of these points the last one before this time, where none of it comes before that."""
+    last = None
+    for point in points:
+        if begin <= point[0] <= end:
+            break
+        if point[0] < begin and (last is None or point[0] >= last[0]):
+            last = point
+    return last
+
+
 def kept(points, begin, end):
     """Of these points those that a curve of this time has: in each of 220 parts of the time the first, the least, the greatest and the
     last."""

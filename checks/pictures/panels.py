@@ -4,8 +4,8 @@ import re
 
 from svg import FILLS, LEFT, PAGE, WIDTH, Wrong, expect, read, tenths, title_of
 
-# How high the half of a panel is, in tenths.
-HALF = 240
+# How high the half of a panel is, and how wide a sleep is that is drawn, in tenths.
+HALF, LEAST_SLEEP = 240, 30
 
 LINE = re.compile(r"M(\S+) (\S+)V(\S+)")
 LABEL = re.compile(r"(\d+) (ns|µs|ms|s)")
@@ -84,19 +84,28 @@ def check_panels(picture, view, above):
                 raise Wrong(f"{text.text} isn't beside the panel of task {task}")
     expect("the ends of scales that are left", list(ends), [])
     check_curves(picture, view, tops)
+    check_sleeps(picture, view, tops)
 
 
 def check_curves(picture, view, tops):
+    """Each curve goes from edge to edge through its lags."""
     curves, ends = picture.named("path", "k"), picture.named("text", "y")
-    expect("the curves", [title_of(curve) for curve in curves], [f"lag of task {task}" for task, points in view.curves.items() if points])
-    drawn = {title_of(curve): curve.get("d") for curve in curves}
-    unknown = [tenths(text.get("y")) for text in picture.named("text", "s") if text.text.startswith("No lag is known")]
-    empty = [top for top, points in zip(tops, view.curves.values()) if not points]
-    expect("the panels that say that no lag is known", [top for top in tops for y in unknown if top < y < top + HALF], empty)
-    for at, (top, (task, points)) in enumerate(zip(tops, view.curves.items())):
+    expect("the curves", [title_of(curve) for curve in curves], [f"lag of task {task}" for task in view.curves])
+    for at, (curve, top, (task, points)) in enumerate(zip(curves, tops, view.curves.items())):
+        points = [view.before[task] or points[0], *points]
         height = max([1, *(abs(lag) for _, lag in points)])
-        expect(f"the scale of task {task}", [text.text for text in ends[3 * at:3 * at + 3]], [f"{height}", "0", f"-{height}"])
-        if points:
-            wanted = [(picture.place(time), level(top, lag, height)) for time, lag in (points[0], *points)]
-            said = [tuple(map(tenths, point.split())) for point in re.split("[ML]", drawn[f"lag of task {task}"])[1:]]
-            expect(f"the lags of task {task}", said, wanted)
+        expect(f"the scale of task {task}", [text.text for text in ends[3 * at:3 * at + 3]], [f"{height} ns", "0", f"-{height} ns"])
+        wanted = [(picture.place(time), level(top, lag, height)) for time, lag in (*points, (view.end, points[-1][1]))]
+        said = [tuple(map(tenths, point.split())) for point in re.split("[ML]", curve.get("d"))[1:]]
+        expect(f"the lags of task {task}", said, wanted)
+
+
+def check_sleeps(picture, view, tops):
+    """Each time in which a task sleeps covers its panel, if it is wide enough, and the heading counts the others."""
+    places = [(task, picture.place(begin), picture.place(end) - picture.place(begin)) for task, begin, end in view.sleeps]
+    top_of = dict(zip(view.curves, tops))
+    wanted = sorted((top_of[task], place, width, 2 * HALF) for task, place, width in places if width >= LEAST_SLEEP)
+    rects = [rect for rect in picture.named("rect", "u") if tops and tenths(rect.get("y")) >= tops[0]]
+    said = sorted(tuple(tenths(rect.get(key)) for key in ("y", "x", "width", "height")) for rect in rects)
+    expect("where tasks sleep", said, wanted)
+    expect("sleeps that aren't drawn", picture.count(r"(\d+) sleeps are too short"), len(places) - len(wanted))

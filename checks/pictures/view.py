@@ -3,7 +3,8 @@
 from dataclasses import dataclass
 from itertools import groupby
 
-from model import Moment, kept, shown, signs_of
+from model import Moment, before, kept, shown, signs_of
+from turns import rests_of
 
 MOST_CURVES = 16
 # Of more stretches than these those are joined that begin in one part of a lane.
@@ -31,6 +32,10 @@ class View:
                         if moment.cpu in self.cpus and begin <= moment.begin <= end]
         looks = [list(shown(points, begin, end)) for points in timeline.points[:MOST_CURVES]]
         self.curves = {task: list(kept(points, begin, end)) for task, points in enumerate(timeline.points[:MOST_CURVES])}
+        # the lag with which the time begins, where that is one from before it
+        self.before = {task: before(timeline.points[task], begin, end) for task in self.curves}
+        self.sleeps = [(task, *times) for task, sleeps, *times in rests_of(timeline)
+                       if sleeps and task in self.curves and times[0] <= end and times[1] >= begin]
         self.is_thinned = any(len(curve) < len(times) for curve, times in zip(self.curves.values(), looks))
 
     def groups(self, cpu):

@@ -26,6 +26,8 @@ pub struct Point {
 #[derive(Drop)]
 pub struct Curve {
     pub task: TaskId,
+    /// The last lag before the time that is drawn.
+    pub before: Option<Point>,
     pub points: Vec<Point>,
     /// Whether some lags aren't kept.
     thinned: bool,
@@ -90,6 +92,7 @@ impl Lags {
             if words.tasks.has(task.index()) && curves.len() < MOST_CURVES {
                 curves.push(Curve {
                     task,
+                    before: None,
                     points: Vec::new(alloc),
                     thinned: false,
                 })?;
@@ -164,7 +167,7 @@ impl Lags {
         set_looked(&mut self.looked, cpu, time);
         let queue = solo.queue(cpu);
         self.note_load(cpu, time, queue.load())?;
-        if scale.shows(time, time) {
+        if time <= scale.to {
             for curve in self.curves.iter_mut() {
                 if let Some(lag) = queue.lag_of(curve.task) {
                     curve.add(Point { time, lag }, scale)?;
@@ -187,6 +190,10 @@ impl Lags {
 
 impl Curve {
     fn add(&mut self, point: Point, scale: &Scale) -> Result<(), AllocError> {
+        if point.time < scale.from {
+            self.note_before(point);
+            return Ok(());
+        }
         let count = self.points.len();
         if count > 0 && !is_after(self.points[count - 1], point) {
             return Ok(());
@@ -197,6 +204,14 @@ impl Curve {
         } else {
             self.points.push(point)?;
             Ok(())
+        }
+    }
+
+    /// Notes a lag before the time that is drawn, where it isn't earlier than the last one.
+    fn note_before(&mut self, point: Point) {
+        let last = self.before.map_or(0, |last| last.time);
+        if last <= point.time && self.points.is_empty() {
+            self.before = Some(point);
         }
     }
 
@@ -218,9 +233,19 @@ impl Curve {
         self.thinned = true;
     }
 
+    /// The lag with which the time that is drawn begins.
+    pub(crate) fn first(&self) -> Option<Point> {
+        match self.before {
+            None => self.points.first().copied(),
+            before => before,
+        }
+    }
+
     /// The greatest distance of a lag from 0, at least 1.
     pub(crate) fn height(&self) -> u64 {
-        let mut height = 1;
+        let mut height = self
+            .before
+            .map_or(1, |point| point.lag.unsigned_abs().max(1));
         for point in &self.points {
             height = point.lag.unsigned_abs().max(height);
         }

@@ -51,6 +51,7 @@ const KEYS: &str =
 <path class=\"q\" d=\"M130 108H148\"/><text class=\"s\" x=\"154\" y=\"112\">woken from</text>
 <rect class=\"b m\" x=\"252\" y=\"102\" width=\"12\" height=\"12\"/><text class=\"s\" x=\"269\" y=\"112\">several stretches</text>
 <rect class=\"b o\" x=\"396\" y=\"102\" width=\"12\" height=\"12\"/><text class=\"s\" x=\"413\" y=\"112\">task not chosen</text>
+<rect class=\"u\" x=\"540\" y=\"102\" width=\"12\" height=\"12\"/><text class=\"s\" x=\"557\" y=\"112\">task sleeps</text>
 ";
 
 /// The picture of a scene.
@@ -140,17 +141,24 @@ fn push_grid(
 fn push_panels(text: &mut String, scene: &Scene<'_>, top: u64) -> Result<(), AllocError> {
     let head = top.saturating_sub(10);
     let mut top = top;
-    if !scene.lags.curves.is_empty() {
-        writeln!(
-            text,
-            "<text class=\"s\" x=\"10\" y=\"{head}\">Lags in nanoseconds of virtual time: above 0 a task is eligible (shaded)</text>"
-        )?;
-    }
+    let mut left_out = 0u64;
     for curve in &scene.lags.curves {
-        push_panel(text, curve, &scene.scale, top)?;
+        let short = push_panel(text, curve, &scene.turns.rests, &scene.scale, top)?;
+        left_out = left_out.saturating_add(short);
         top = top.saturating_add(PITCH);
     }
-    Ok(())
+    if scene.lags.curves.is_empty() {
+        return Ok(());
+    }
+    write!(
+        text,
+        "<text class=\"s\" x=\"10\" y=\"{head}\">Lags in nanoseconds of virtual time: above 0 a task is eligible (shaded); "
+    )?;
+    write!(text, "it sleeps where a panel is hatched")?;
+    if left_out > 0 {
+        write!(text, "; {left_out} sleeps are too short")?;
+    }
+    writeln!(text, "</text>")
 }
 
 /// How many tasks are chosen.

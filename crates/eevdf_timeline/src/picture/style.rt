@@ -25,6 +25,7 @@ text{font-size:12px;fill:#000}
 .m{fill:#888;stroke:none}
 .o{fill:#ccc}
 .e{fill:#dff0e6}
+.u{fill:url(#asleep)}
 .g{stroke:#ccc;stroke-width:1}
 .z{stroke:#999;stroke-width:1}
 .k{fill:none;stroke:#000;stroke-width:1.3}
@@ -33,7 +34,9 @@ text{font-size:12px;fill:#000}
 ";
 
 const SHAPES: &str =
-    "<marker id=\"tip\" viewBox=\"0 0 6 6\" refX=\"5\" refY=\"3\" markerWidth=\"6\" markerHeight=\"6\" orient=\"auto\">\
+    "<pattern id=\"asleep\" width=\"6\" height=\"6\" patternUnits=\"userSpaceOnUse\"><rect width=\"6\" height=\"6\" fill=\"#fff\"/>\
+<path d=\"M0 6L6 0\" stroke=\"#999\" stroke-width=\"1\"/></pattern>
+<marker id=\"tip\" viewBox=\"0 0 6 6\" refX=\"5\" refY=\"3\" markerWidth=\"6\" markerHeight=\"6\" orient=\"auto\">\
 <path d=\"M0 0L6 3L0 6Z\" fill=\"#d55e00\"/></marker>
 <marker id=\"point\" viewBox=\"0 0 6 6\" refX=\"5\" refY=\"3\" markerWidth=\"6\" markerHeight=\"6\" orient=\"auto\">\
 <path d=\"M0 0L6 3L0 6Z\" fill=\"#009e73\"/></marker>
