@@ -5,8 +5,8 @@ from marked import Case
 USAGE = {
     "eevdf": "usage: eevdf solo|replay|run [--history] [--strict] [FILE]\n",
     "eevdf_orders": "usage: eevdf_orders [--seed N] [FILE]\n",
-    "eevdf_timeline": "usage: eevdf_timeline [--replay|--run] [--perfetto|--table|--stats [--json]] [--from NS] [--to NS] [--cpu N,..] [--task N,..]"
-                      " [FILE]\n",
+    "eevdf_timeline": "usage: eevdf_timeline [--replay|--run] [--perfetto|--table|--stats [--json]] [--rows cpus|tasks]"
+                      " [--from NS] [--to NS] [--cpu N,..] [--task N,..] [FILE]\n",
 }
 COMMANDS = "commands are solo, replay, run\n"
 BEHIND = "behind a command stand --history, of solo --strict, and the name of a file\n"
@@ -53,6 +53,8 @@ WORDS = (
     words("eevdf_timeline", "--perfetto --stats", "--perfetto excludes --stats and --json\n"),
     words("eevdf_timeline", "--table --stats", "--table excludes --perfetto, --stats and --json\n"),
     words("eevdf_timeline", "--perfetto --table", "--table excludes --perfetto, --stats and --json\n"),
+    words("eevdf_timeline", "--rows both", '--rows takes cpus or tasks, and "both" is neither\n'),
+    words("eevdf_timeline", "--rows=tasks --table", "rows are of a picture: --rows excludes --perfetto, --table and --stats\n"),
     words("eevdf_timeline", "--stats --from 1", "figures are of the whole schedule: --stats excludes --from and --to\n"),
     words("eevdf_timeline", "--from 5 --to 3", "the time of --to is after that of --from, which is 0 where it isn't given; each stands once\n"),
     words("eevdf_timeline", "--from x", '--from takes a whole number of nanoseconds below 2^64, and "x" is none\n'),

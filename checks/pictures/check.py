@@ -20,7 +20,7 @@ from events import CPUS, check_trace, check_unknown_trace
 from figures import check_json, check_rows, check_table
 from large import check_large
 from model import Timeline
-from pictured import check_picture, check_unknown
+from pictured import check_picture, check_task_picture, check_unknown
 from plain.fault import Fault
 from plain.made_order import made_order
 from plain.steps import play
@@ -46,6 +46,7 @@ def check_all(checks, data, script, words=()):
     """Looks at all outputs, and gives how many stretches the picture joins in boxes."""
     timeline = Timeline(read_workload(data).setup, script)
     joined = check_picture(checks.written(words, data), timeline)
+    check_task_picture(checks.written((*words, "--rows", "tasks"), data), timeline)
     check_trace(checks.written((*words, "--perfetto"), data), timeline)
     check_stretch_table(checks.written((*words, "--table"), data), timeline)
     figures = checks.written((*words, "--stats", "--json"), data)
@@ -106,6 +107,7 @@ def check_window(checks, data):
     words = ("--from", str(begin), "--to", str(end), "--cpu", ",".join(map(str, cpus)))
     check_picture(checks.written(words, data), timeline, (begin, end), cpus)
     check_stretch_table(checks.written((*words, "--table"), data), timeline, (begin, end), cpus)
+    check_task_picture(checks.written((*words[:4], "--rows=tasks"), data), timeline, (begin, end))
 
 
 def check_order(checks, data):

@@ -25,9 +25,9 @@ class Box:
     charged: int
 
 
-def lanes_of(picture):
-    """The top of each CPU's lane, beside which its name stands. The lanes are in the order of the CPUs and apart."""
-    names = [(tenths(text.get("y")), text) for text in picture.named("text", "c") if text.text.startswith("CPU ")]
+def lanes_of(picture, of="CPU "):
+    """The top of each CPU's lane, or of each task's, beside which its name stands. The lanes are in the order of their numbers and apart."""
+    names = [(tenths(text.get("y")), text) for text in picture.named("text", "c") if text.text.startswith(of)]
     lanes, bottom = {}, 0
     for rect in picture.named("rect", "l"):
         top = tenths(rect.get("y"))
@@ -36,7 +36,7 @@ def lanes_of(picture):
             raise Wrong(f"a lane at {top} in the one before it")
         beside = [text for y, text in names if top < y < top + HEIGHT and tenths(text.get("x")) < LEFT]
         expect(f"how many names are beside the lane at {top}", len(beside), 1)
-        lanes[int(beside[0].text.removeprefix("CPU "))] = top
+        lanes[int(beside[0].text.removeprefix(of))] = top
         bottom = top + HEIGHT
     expect("how many lanes have names", len(lanes), len(names))
     expect("the order of the lanes", list(lanes), sorted(lanes))

@@ -73,7 +73,7 @@ def check_panels(picture, view, above):
     if tops and tops[0] < above:
         raise Wrong(f"a panel at {tops[0]} above {above}")
     swatches = [rect for rect in picture.named("rect", "b") if not title_of(rect) and tenths(rect.get("y")) >= above]
-    names = [text for text in picture.named("text", "c") if not text.text.startswith("CPU ")]
+    names = [text for text in picture.named("text", "c") if text.text.isdigit()]
     ends = iter(picture.named("text", "y"))
     for top, task, swatch, name in zip(tops, view.curves, swatches, names, strict=True):
         expect(f"the fill and the number of task {task}", (swatch.get("class"), name.text), (f"b t{task % FILLS}", str(task)))

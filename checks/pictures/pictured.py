@@ -3,6 +3,7 @@
 from lanes import boxes_of, check_boxes, check_marks, lanes_of
 from panels import check_axes, check_panels, panels_of
 from svg import Picture, Wrong, expect, title_of
+from task_rows import check_rows
 from view import View
 
 
@@ -18,12 +19,26 @@ def check_picture(text, timeline, window=None, cpus=None):
     check_around("the lanes", axes[0], min(lanes.values()), max(lanes.values()))
     joined = check_boxes(picture, view, lanes)
     check_marks(picture, view, lanes, axes[0][1])
+    check_lags(picture, view, axes)
+    return joined
+
+
+def check_lags(picture, view, axes):
+    """The panels below the first axis, with an axis of their own."""
     check_panels(picture, view, axes[0][1])
     expect("whether a note says that lags are left out", "Curves keep 4 lags of each 1/220" in picture.notes, view.is_thinned)
     if view.curves:
         tops = panels_of(picture)
         check_around("the panels", axes[1], tops[0], tops[-1])
-    return joined
+
+
+def check_task_picture(text, timeline, window=None):
+    """Raises Wrong where the picture of what the tasks of a timeline did, or of a part of its time, shows anything else."""
+    view = View(timeline, *(window or (0, timeline.end())), range(timeline.setup.cpus()))
+    picture = Picture(text, view.begin, view.end, {})
+    axes = check_axes(picture)
+    check_rows(picture, timeline, axes[0][1])
+    check_lags(picture, view, axes)
 
 
 def check_around(what, axis, first, last):

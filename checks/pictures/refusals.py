@@ -14,8 +14,10 @@ sys.path.append(str(TOP / "checks/hostile"))
 
 from documents import DOCUMENTS
 
-USAGE = b"usage: eevdf_timeline [--replay|--run] [--perfetto|--table|--stats [--json]] [--from NS] [--to NS] [--cpu N,..] [--task N,..] [FILE]\n"
-BAD_WORDS = ("--replay --run", "--perfetto --stats", "--table --stats", "--table --perfetto", "--table --json", "--json", "--perfetto --json", "--stats --from 1", "--stats --to 5", "--from 5 --to 5",
+USAGE = (b"usage: eevdf_timeline [--replay|--run] [--perfetto|--table|--stats [--json]] [--rows cpus|tasks] [--from NS] [--to NS] [--cpu N,..]"
+         b" [--task N,..] [FILE]\n")
+BAD_WORDS = ("--replay --run", "--perfetto --stats", "--table --stats", "--table --perfetto", "--table --json", "--rows", "--rows task",
+             "--rows tasks --table", "--json", "--perfetto --json", "--stats --from 1", "--stats --to 5", "--from 5 --to 5",
              "--from x", "--from -1", "--to", "--cpu 64", "--cpu 0,", "--task 1024", "--task 0;1", "--task", "solo", "--helps", "help",
              "--replay --replay", "--to 18446744073709551616")
 

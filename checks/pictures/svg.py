@@ -44,9 +44,9 @@ def title_of(element):
 
 
 class Picture:
-    """The elements of a picture of the time from a beginning to an end."""
+    """The elements of a picture of the time from a beginning to an end, which has these signs in its legend."""
 
-    def __init__(self, text, begin, end):
+    def __init__(self, text, begin, end, legend=LEGEND):
         self.root = ElementTree.fromstring(text)
         self.begin, self.end = begin, end
         expect("the root", self.root.tag, SVG + "svg")
@@ -56,7 +56,7 @@ class Picture:
         for part in self.named("text", "s"):
             if int(part.get("x")) + LETTER * len(part.text.strip()) > PAGE:
                 raise Wrong(f"{part.text} hasn't room in a line")
-        self.check_legend()
+        self.check_legend(legend)
         check_fills(self.root)
 
     def named(self, tag, kind):
@@ -75,9 +75,9 @@ class Picture:
         found = re.search(pattern, self.notes)
         return int(found[1]) if found else 0
 
-    def check_legend(self):
+    def check_legend(self, legend):
         after = dict(zip(self.parts, self.parts[1:]))
-        expect("the legend", {use.get("href")[1:]: after[use].text for use in self.uses() if not title_of(use)}, LEGEND)
+        expect("the legend", {use.get("href")[1:]: after[use].text for use in self.uses() if not title_of(use)}, legend)
 
 
 def check_alone(text, root):

@@ -2,13 +2,15 @@
 
 /// What is printed where the words aren't known.
 pub(crate) const USAGE: &[u8] =
-    b"usage: eevdf_timeline [--replay|--run] [--perfetto|--table|--stats [--json]] [--from NS] [--to NS] [--cpu N,..] [--task N,..] [FILE]\n";
+    b"usage: eevdf_timeline [--replay|--run] [--perfetto|--table|--stats [--json]] [--rows cpus|tasks] \
+[--from NS] [--to NS] [--cpu N,..] [--task N,..] [FILE]\n";
 
 /// What `--help` prints.
 pub(crate) const HELP: &[u8] = b"\
 eevdf_timeline draws what the scheduler answers to a workload: a picture (SVG), a trace or a table.
 
-usage: eevdf_timeline [--replay|--run] [--perfetto|--table|--stats [--json]] [--from NS] [--to NS] [--cpu N,..] [--task N,..] [FILE]
+usage: eevdf_timeline [--replay|--run] [--perfetto|--table|--stats [--json]] [--rows cpus|tasks] \
+[--from NS] [--to NS] [--cpu N,..] [--task N,..] [FILE]
 
   --replay     draws the workload's order, in place of its script
   --run        draws the programs, each run by a thread of its own
@@ -16,6 +18,7 @@ usage: eevdf_timeline [--replay|--run] [--perfetto|--table|--stats [--json]] [--
   --table      writes a table with a line for each stretch that a task ran
   --stats      writes a table of figures
   --json       with --stats, writes the figures as JSON
+  --rows ROWS  with tasks, a picture has a row for each task; with cpus, a lane for each CPU, as without it
   --from NS    leaves out what is before this time, in nanoseconds; not with --stats
   --to NS      leaves out what is after this time; not with --stats
   --cpu N,..   these CPUs alone

@@ -6,12 +6,14 @@ mod boxes;
 mod lanes;
 mod panels;
 mod style;
+mod task_rows;
 
 use crate::lags::{COLUMNS, MOST_CURVES};
 use crate::picture::axis::push_axis;
 use crate::picture::lanes::Lanes;
 use crate::picture::panels::{PITCH, push_panel};
 use crate::picture::style::push_style;
+use crate::picture::task_rows::TaskRows;
 use crate::scene::Scene;
 use crate::signs::SIGNS;
 use std::alloc::{AllocError, Global};
@@ -54,23 +56,61 @@ const KEYS: &str =
 <rect class=\"u\" x=\"540\" y=\"102\" width=\"12\" height=\"12\"/><text class=\"s\" x=\"557\" y=\"112\">task sleeps</text>
 ";
 
+/// The legend of rows of tasks.
+const TASK_KEYS: &str =
+    "<rect class=\"b t0\" x=\"10\" y=\"66\" width=\"24\" height=\"12\"/><text class=\"s\" x=\"39\" y=\"76\">runs, on the CPU of the number</text>
+<rect class=\"v\" x=\"252\" y=\"66\" width=\"24\" height=\"12\"/><text class=\"s\" x=\"281\" y=\"76\">waits</text>
+<rect class=\"u\" x=\"396\" y=\"66\" width=\"24\" height=\"12\"/><text class=\"s\" x=\"425\" y=\"76\">sleeps</text>
+";
+
 /// The picture of a scene.
 pub(crate) fn picture_of(alloc: Global, scene: &Scene<'_>) -> Result<Vec<u8>, AllocError> {
+    let mut text = String::new(alloc);
+    if scene.words.by_task {
+        push_tasks(alloc, &mut text, scene)?;
+    } else {
+        push_cpus(alloc, &mut text, scene)?;
+    }
+    text.push_str("</svg>\n")?;
+    Ok(text.into_bytes())
+}
+
+/// Writes all of a picture that has a lane for each CPU.
+fn push_cpus(alloc: Global, text: &mut String, scene: &Scene<'_>) -> Result<(), AllocError> {
     let cpus = scene.setup.cpus();
     let mut lanes = Lanes::of(alloc, cpus, scene.moments, &scene.scale, scene.words, TOP)?;
     let bottom = lanes.bottom().max(TOP).saturating_add(MARGIN);
+    push_around(text, scene, bottom)?;
+    lanes.push_boxes(text, &scene.turns.stretches, &scene.scale, scene.words)?;
+    lanes.push_marks(text, &scene.scale)?;
+    push_panels(text, scene, bottom.saturating_add(HEADING))?;
+    push_notes(text, scene, &lanes)
+}
+
+/// Writes all of one that has a row for each task.
+fn push_tasks(alloc: Global, text: &mut String, scene: &Scene<'_>) -> Result<(), AllocError> {
+    let mut rows = TaskRows::of(alloc, scene, TOP)?;
+    let bottom = rows.bottom().max(TOP).saturating_add(MARGIN);
+    push_around(text, scene, bottom)?;
+    rows.push(text, scene)?;
+    push_panels(text, scene, bottom.saturating_add(HEADING))?;
+    let left_out = rows.left_out;
+    if left_out > 0 {
+        writeln!(
+            text,
+            "<text class=\"s\" x=\"10\" y=\"{NOTE}\">Drawn coarser: {left_out} boxes are too narrow to be drawn.</text>"
+        )?;
+    }
+    push_lag_note(text, scene, NEXT_NOTE)
+}
+
+/// Writes what stands around the lanes, whose axis is at this height: the head, the legend and the axes.
+fn push_around(text: &mut String, scene: &Scene<'_>, bottom: u64) -> Result<(), AllocError> {
     let panels = bottom.saturating_add(HEADING);
     let count = scene.lags.curves.len() as u64;
     let end = panels.saturating_add(count.saturating_mul(PITCH));
-    let mut text = String::new(alloc);
-    push_head(&mut text, scene, end.saturating_add(FOOT))?;
-    push_grid(&mut text, scene, bottom, end)?;
-    lanes.push_boxes(&mut text, &scene.turns.stretches, &scene.scale, scene.words)?;
-    lanes.push_marks(&mut text, &scene.scale)?;
-    push_panels(&mut text, scene, panels)?;
-    push_notes(&mut text, scene, &lanes)?;
-    text.push_str("</svg>\n")?;
-    Ok(text.into_bytes())
+    push_head(text, scene, end.saturating_add(FOOT))?;
+    push_grid(text, scene, bottom, end)
 }
 
 fn push_head(text: &mut String, scene: &Scene<'_>, height: u64) -> Result<(), AllocError> {
@@ -96,7 +136,11 @@ fn push_head(text: &mut String, scene: &Scene<'_>, height: u64) -> Result<(), Al
         text,
         "<text class=\"h\" x=\"10\" y=\"22\">CPUs {cpus}, tasks {tasks}, deeds {deeds}: what ran when, by the time that ticks took</text>"
     )?;
-    push_legend(text)
+    if scene.words.by_task {
+        text.push_str(TASK_KEYS)
+    } else {
+        push_legend(text)
+    }
 }
 
 fn push_legend(text: &mut String) -> Result<(), AllocError> {

@@ -72,6 +72,13 @@ pub struct Rest {
     pub end: u64,
 }
 
+impl Rest {
+    /// Whether some of it is in the time that is drawn, and its task is chosen.
+    pub(crate) fn is_chosen(&self, scale: &Scale, words: &Words) -> bool {
+        words.tasks.has(self.task.index()) && scale.shows(self.begin, self.end)
+    }
+}
+
 /// What the tasks of a history did.
 #[derive(Drop)]
 pub struct Turns {

@@ -66,8 +66,7 @@ fn dues_of(alloc: Global, scene: &Scene<'_>) -> Result<Vec<Due>, AllocError> {
         }
     }
     for (place, rest) in scene.turns.rests.iter().enumerate() {
-        let is_chosen = scene.words.tasks.has(rest.task.index());
-        if is_chosen && scene.scale.shows(rest.begin, rest.end) {
+        if rest.is_chosen(&scene.scale, scene.words) {
             push_at(&mut dues, rest.begin, What::Rested(place))?;
         }
     }

@@ -18,7 +18,7 @@ const FLAGS: [&str; 6] = [
 const WITH_TIME: [&str; 2] = ["--from", "--to"];
 
 /// The flags that have a value behind them.
-pub(crate) const WITH_VALUE: [&str; 4] = ["--from", "--to", "--cpu", "--task"];
+pub(crate) const WITH_VALUE: [&str; 5] = ["--rows", "--from", "--to", "--cpu", "--task"];
 
 fn takes_value(word: &str) -> bool {
     WITH_VALUE.contains(&word)
@@ -71,6 +71,14 @@ fn with_own_value(word: &str) -> Option<(&'static str, &str)> {
 
 fn bad_value(alloc: Global, flag: &str, value: &str) -> Result<Option<String>, AllocError> {
     let told = told_word(alloc, value)?;
+    if flag == "--rows" {
+        return if value == "cpus" || value == "tasks" {
+            Ok(None)
+        } else {
+            let text = format!(in alloc; "--rows takes cpus or tasks, and {told} is neither\n")?;
+            Ok(Some(text))
+        };
+    }
     if WITH_TIME.contains(&flag) {
         return match value.parse::<u64>() {
             Ok(_) => Ok(None),
@@ -116,6 +124,8 @@ fn together(alloc: Global, words: &[String]) -> Result<String, AllocError> {
         "--perfetto excludes --stats and --json\n"
     } else if has("--table") && (has("--perfetto") || has("--stats") || has("--json")) {
         "--table excludes --perfetto, --stats and --json\n"
+    } else if has("--rows") && (has("--perfetto") || has("--table") || has("--stats")) {
+        "rows are of a picture: --rows excludes --perfetto, --table and --stats\n"
     } else if has("--json") && !has("--stats") {
         "--json stands with --stats\n"
     } else if has("--stats") && (has("--from") || has("--to")) {

@@ -63,6 +63,8 @@ pub struct Words {
     /// Whether the script is done, the order played or the programs run.
     pub source: Kind,
     pub output: Output,
+    /// Whether a picture has a row for each task, and not a lane for each CPU.
+    pub by_task: bool,
     /// The first nanosecond that is drawn.
     pub from: u64,
     /// The nanosecond after the last one that is drawn, where one is named.
@@ -80,6 +82,7 @@ pub(crate) fn words_of<S: AsStr>(alloc: Global, words: &[S]) -> Result<Words, Wo
 fn asked_by(alloc: Global, matches: &ArgMatches<'_>) -> Result<Words, WordFault> {
     let source = source_of(matches.get_flag("replay"), matches.get_flag("run"))?;
     let output = output_of(matches)?;
+    let by_task = is_by_task(output, matches.get_str("rows"))?;
     let from = number_of(matches.get_str("from"))?;
     let to = number_of(matches.get_str("to"))?;
     check_window(output, from, to)?;
@@ -88,6 +91,7 @@ fn asked_by(alloc: Global, matches: &ArgMatches<'_>) -> Result<Words, WordFault>
     Ok(Words {
         source,
         output,
+        by_task,
         from: from.unwrap_or(0),
         to,
         cpus: Choice { chosen: cpus },
@@ -117,6 +121,20 @@ fn output_of(matches: &ArgMatches<'_>) -> Result<Output, WordFault> {
         (false, false, true, false) => Ok(Output::Figures),
         (false, false, true, true) => Ok(Output::Json),
         _ => Err(WordFault::Words),
+    }
+}
+
+/// Rows are chosen of a picture alone.
+fn is_by_task(output: Output, value: Option<&str>) -> Result<bool, WordFault> {
+    let Some(word) = value else {
+        return Ok(false);
+    };
+    if output == Output::Picture && word == "tasks" {
+        Ok(true)
+    } else if output == Output::Picture && word == "cpus" {
+        Ok(false)
+    } else {
+        Err(WordFault::Words)
     }
 }
 
@@ -179,7 +197,8 @@ fn program<'a>(alloc: Global) -> Result<Command<'a>, AllocError> {
         .arg(flag(alloc, "table"))?
         .arg(flag(alloc, "stats"))?
         .arg(flag(alloc, "json"))?;
-    let window = output.arg(value(alloc, "from"))?.arg(value(alloc, "to"))?;
+    let rows = output.arg(value(alloc, "rows"))?;
+    let window = rows.arg(value(alloc, "from"))?.arg(value(alloc, "to"))?;
     window.arg(value(alloc, "cpu"))?.arg(value(alloc, "task"))
 }
 

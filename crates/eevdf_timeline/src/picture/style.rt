@@ -26,6 +26,7 @@ text{font-size:12px;fill:#000}
 .o{fill:#ccc}
 .e{fill:#dff0e6}
 .u{fill:url(#asleep)}
+.v{fill:url(#waiting)}
 .g{stroke:#ccc;stroke-width:1}
 .z{stroke:#999;stroke-width:1}
 .k{fill:none;stroke:#000;stroke-width:1.3}
@@ -36,6 +37,8 @@ text{font-size:12px;fill:#000}
 const SHAPES: &str =
     "<pattern id=\"asleep\" width=\"6\" height=\"6\" patternUnits=\"userSpaceOnUse\"><rect width=\"6\" height=\"6\" fill=\"#fff\"/>\
 <path d=\"M0 6L6 0\" stroke=\"#999\" stroke-width=\"1\"/></pattern>
+<pattern id=\"waiting\" width=\"4\" height=\"4\" patternUnits=\"userSpaceOnUse\"><rect width=\"4\" height=\"4\" fill=\"#fff\"/>\
+<path d=\"M1 0V4\" stroke=\"#b00\" stroke-width=\"1.5\"/></pattern>
 <marker id=\"tip\" viewBox=\"0 0 6 6\" refX=\"5\" refY=\"3\" markerWidth=\"6\" markerHeight=\"6\" orient=\"auto\">\
 <path d=\"M0 0L6 3L0 6Z\" fill=\"#d55e00\"/></marker>
 <marker id=\"point\" viewBox=\"0 0 6 6\" refX=\"5\" refY=\"3\" markerWidth=\"6\" markerHeight=\"6\" orient=\"auto\">\
