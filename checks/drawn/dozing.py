@@ -133,9 +133,10 @@ class Stretch:
         counted = {task: tally for task, tally in self.tallies.items() if task != STAYS and task not in self.pattern.wild}
         for task, tally in counted.items():
             turn = charge_of(self.longest, self.weights[task])
+            # one that was charged for nothing may stand anywhere
             if tally.charged:
                 yield "place", tally.place + tally.charged - self.first, entry.d + queue.shift + turn - self.first
-            yield "gain", tally.charged - stays.charged, request + turn + self.first - tally.place
+                yield "gain", tally.charged - stays.charged, request + turn + self.first - tally.place
         yield from self.together({task: tally for task, tally in counted.items() if tally.place >= self.first}, request)
         if self.was_punctual and not self.pattern.wild:
             yield from self.late()
