@@ -87,7 +87,7 @@ class Stretch:
         self.first = queue.runnable[STAYS].v + queue.shift if STAYS in queue.runnable else None
         self.took = 0
         past = max((tally.place for tally in self.tallies.values()), default=0)
-        self.was_punctual = all(past <= entry.d + queue.shift + self.most_of_a_turn() for entry in queue.runnable.values())
+        self.was_punctual = STAYS in queue.runnable and past <= queue.runnable[STAYS].d + queue.shift + self.most_of_a_turn()
 
     def most_of_a_turn(self):
         return charge_of(self.longest, min(self.weights))
@@ -139,7 +139,7 @@ class Stretch:
                 yield "gain", tally.charged - stays.charged, request + turn + self.first - tally.place
         yield from self.together({task: tally for task, tally in counted.items() if tally.place >= self.first}, request)
         if self.was_punctual and not self.pattern.wild:
-            yield from self.late()
+            yield "late", queue.virtual_time() - entry.d, self.most_of_a_turn()
         if fresh and not self.pattern.wild:
             yield from self.share(counted, request)
         if fresh:
@@ -151,12 +151,6 @@ class Stretch:
         if counted:
             bound = weight * request + len(counted) * 1024 * self.longest
             yield "together", all_of_them - weight * self.tallies[STAYS].charged, bound
-
-    def late(self):
-        queue = self.queue
-        time = queue.virtual_time()
-        for entry in queue.runnable.values():
-            yield "late", time - entry.d, self.most_of_a_turn()
 
     def share(self, counted, request):
         weight, own, stays = sum(self.weights), self.weights[STAYS], self.tallies[STAYS]
