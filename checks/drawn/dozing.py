@@ -87,7 +87,8 @@ class Stretch:
         self.first = queue.runnable[STAYS].v + queue.shift if STAYS in queue.runnable else None
         self.took = 0
         past = max((tally.place for tally in self.tallies.values()), default=0)
-        self.was_punctual = STAYS in queue.runnable and past <= queue.runnable[STAYS].d + queue.shift + self.most_of_a_turn()
+        all_stand = len(self.tallies) == len(self.pattern.tasks) and STAYS in queue.runnable
+        self.was_punctual = all_stand and past <= queue.runnable[STAYS].d + queue.shift + self.most_of_a_turn()
 
     def most_of_a_turn(self):
         return charge_of(self.longest, min(self.weights))
