@@ -7,16 +7,9 @@
 set -eu
 here=$(cd "$(dirname "$0")" && pwd)
 package=linux-source-6.12
-
-fail() {
-  echo "examples/sched_ext/build_linux.sh: $1" >&2
-  exit "$2"
-}
-
-# need TOOL PACKAGE
-need() {
-  command -v "$1" >/dev/null || fail "there is no $1 (Debian package $2)" 3
-}
+# lies in a tree that this script has made: no other is removed
+mark=tree/.made_by_build_linux
+. "$here/common.sh"
 
 [ $# = 1 ] || fail "give a folder" 2
 mkdir -p "$1"
@@ -29,17 +22,18 @@ for tool in gcc make flex bison bc pahole; do
 done
 need xz xz-utils
 need dpkg-deb dpkg
-for header in gelf.h zlib.h; do
-  echo "#include <$header>" | gcc -E - >/dev/null 2>&1 || fail "there is no $header (Debian packages libelf-dev, zlib1g-dev)" 3
-done
+need_header gelf.h libelf-dev
+need_header zlib.h zlib1g-dev
 
-# The source, without most of what no such Linux is built of.
+# The source, without most of what no such Linux is built of, in place of what an earlier run has left of it.
 unpack() {
+  [ ! -e tree ] || [ -e "$mark" ] || fail "there is a tree in $PWD that this script hasn't made: give another folder" 2
   packages=$(mktemp -d "$PWD/packages-XXXXXX")
   trap 'rm -rf "$packages"' EXIT
   (cd "$packages" && apt-get download "$package") || fail "there is no $package: it is in bookworm-security and bookworm-backports" 3
   rm -rf tree
   mkdir tree
+  touch "$mark"
   dpkg-deb --fsys-tarfile "$packages"/*.deb | tar --extract --to-stdout "./usr/src/$package.tar.xz" |
     tar --extract --xz --directory tree --strip-components=1 --exclude='*/Documentation/*/*' --exclude='*/arch/[a-wyz]*/*.[chS]' \
       --exclude='*/drivers/gpu/*.[ch]' --exclude='*/drivers/media/*.[ch]' --exclude='*/sound/*.[ch]' \
@@ -57,7 +51,6 @@ configure() {
   done
 }
 
-export LANG=C LC_ALL=C
 rm -f built
 [ -e unpacked ] || unpack
 configure
