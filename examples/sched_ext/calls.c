@@ -16,7 +16,9 @@
  * after it.
  */
 struct record {
-	u8 call, queue, other, hand;	/* `other` is where a pull takes from, `hand` the CPU whose hand it is */
+	u8 call, queue;
+	u8 other;	/* the queue that a pull takes from */
+	u8 hand;	/* the CPU whose hand it is */
 	u32 task;
 	s64 first, second, third, answer;
 	s64 time, load;
@@ -29,8 +31,6 @@ struct trace {
 	struct record records[];
 };
 
-#define TRACE_MAGIC 0x3163617274666465ull
-
 static unsigned long trace_at, trace_size;
 module_param(trace_at, ulong, 0444);
 MODULE_PARM_DESC(trace_at, "where in physical memory the trace goes");
@@ -39,8 +39,9 @@ MODULE_PARM_DESC(trace_size, "how many bytes it may take; 0, as by default: ther
 
 static struct trace *trace;
 static DEFINE_PER_CPU(u64, made);
-static DEFINE_RAW_SPINLOCK(fault_lock);
-static char fault[96];
+static DEFINE_RAW_SPINLOCK(failure_lock);
+static s64 first_failure;
+static char words_of_failure[96];
 
 int begin_trace(void)
 {
@@ -62,21 +63,55 @@ void end_trace(void)
 	trace = NULL;
 }
 
-const char *fault_of_run(void)
+s64 failure(void)
 {
-	return fault[0] ? fault : NULL;
+	return READ_ONCE(first_failure);
 }
 
-/* Keeps the first call that failed. Gives its answer. */
-s64 fail(struct cpu_queue *queue, enum call call, u64 task, s64 answer)
+const char *failure_in_words(void)
+{
+	return first_failure ? words_of_failure : NULL;
+}
+
+static s64 keep_failure(int cpu, enum call call, u64 task, s64 answer)
 {
 	unsigned long flags;
 
-	raw_spin_lock_irqsave(&fault_lock, flags);
-	if (!fault[0])
-		snprintf(fault, sizeof fault, "call %d of task %llu on CPU %d answers %lld", call, task, queue->cpu, answer);
-	raw_spin_unlock_irqrestore(&fault_lock, flags);
+	raw_spin_lock_irqsave(&failure_lock, flags);
+	if (!first_failure) {
+		snprintf(words_of_failure, sizeof words_of_failure,
+			 "call %d of task %llu on CPU %d answers %lld", call, task, cpu, answer);
+		WRITE_ONCE(first_failure, answer);
+	}
+	raw_spin_unlock_irqrestore(&failure_lock, flags);
 	return answer;
+}
+
+s64 fail(struct cpu_queue *queue, enum call call, u64 task, s64 answer)
+{
+	return keep_failure(queue->cpu, call, task, answer);
+}
+
+/*
+ * Refusals of a good run: nobody is there to run or to be pulled, a pull would bring no loads
+ * closer, and a task has yielded so often that its deadline would leave the range.
+ */
+static bool is_good(enum call call, s64 answer)
+{
+	switch (call) {
+	case CALL_PICK:
+	case CALL_RUNNING:
+	case CALL_TIME_TO_RESCHED:
+	case CALL_CANDIDATE:
+		return answer == EEVDF_ABSENT;
+	case CALL_PULL:
+	case CALL_PULL_TASK:
+		return answer == EEVDF_BALANCED;
+	case CALL_YIELD:
+		return answer == EEVDF_RANGE;
+	default:
+		return false;
+	}
 }
 
 u64 calls_made(void)
@@ -89,17 +124,19 @@ u64 calls_made(void)
 	return all;
 }
 
-/* A call that changes nothing. */
+/* Counts a call, writes it into the trace, and looks whether it was refused. */
 static s64 note(struct record record)
 {
 	s64 at;
 
 	this_cpu_inc(made);
-	if (!trace)
-		return record.answer;
-	at = atomic64_fetch_inc(&trace->made);
-	if (at < trace->room)
-		trace->records[at] = record;
+	if (trace) {
+		at = atomic64_fetch_inc(&trace->made);
+		if (at < trace->room)
+			trace->records[at] = record;
+	}
+	if (record.answer < 0 && !is_good(record.call, record.answer))
+		keep_failure(record.queue, record.call, record.task, record.answer);
 	return record.answer;
 }
 
@@ -122,15 +159,17 @@ static s64 note_change(struct cpu_queue *queue, struct record record)
 	return note(record);
 }
 
-/* Calls that have no more than a task. */
+/* A call that has no more numbers than a task. */
 static s64 note_task(struct cpu_queue *queue, enum call call, u64 task, s64 answer)
 {
 	return note_change(queue, (struct record){ .call = call, .task = task, .answer = answer });
 }
 
+/* A call that changes nothing. */
 static s64 note_answer(struct cpu_queue *queue, enum call call, u64 task, s64 answer)
 {
-	return note((struct record){ .call = call, .queue = queue->cpu, .task = task, .answer = answer });
+	return note((struct record){
+		.call = call, .queue = queue->cpu, .task = task, .answer = answer });
 }
 
 void call_open(struct cpu_queue *queue)
@@ -145,8 +184,9 @@ s64 call_admit(struct cpu_queue *queue, eevdf_block *block, u64 task, s64 nice, 
 	s64 start = time_of(queue);
 	s64 answer = eevdf_admit_in(&queue->queue, block, task, nice, slice_ns, start);
 
-	return note_change(queue, (struct record){ .call = CALL_ADMIT, .task = task, .first = nice, .second = slice_ns,
-						   .third = start, .answer = answer });
+	return note_change(queue, (struct record){
+		.call = CALL_ADMIT, .task = task, .first = nice, .second = slice_ns, .third = start,
+		.answer = answer });
 }
 
 s64 call_end(struct cpu_queue *queue, eevdf_block *block, u64 task)
@@ -166,7 +206,10 @@ s64 call_peek(struct cpu_queue *queue)
 
 s64 call_tick(struct cpu_queue *queue, u64 ns)
 {
-	return note_change(queue, (struct record){ .call = CALL_TICK, .first = ns, .answer = eevdf_tick(&queue->queue, ns) });
+	s64 answer = eevdf_tick(&queue->queue, ns);
+
+	return note_change(queue, (struct record){
+		.call = CALL_TICK, .first = ns, .answer = answer });
 }
 
 s64 call_time_to_resched(struct cpu_queue *queue)
@@ -201,32 +244,43 @@ s64 call_wake(struct cpu_queue *queue, u64 task)
 
 s64 call_set(struct cpu_queue *queue, u64 task, s64 nice, u64 slice_ns)
 {
-	return note_change(queue, (struct record){ .call = CALL_SET, .task = task, .first = nice, .second = slice_ns,
-						   .answer = eevdf_set(&queue->queue, task, nice, slice_ns) });
+	s64 answer = eevdf_set(&queue->queue, task, nice, slice_ns);
+
+	return note_change(queue, (struct record){
+		.call = CALL_SET, .task = task, .first = nice, .second = slice_ns,
+		.answer = answer });
 }
 
 s64 call_take(struct cpu_queue *queue, eevdf_hand *hand, u64 task)
 {
-	return note_change(queue, (struct record){ .call = CALL_TAKE, .hand = smp_processor_id(), .task = task,
-						   .answer = eevdf_take(&queue->queue, hand, task) });
+	s64 answer = eevdf_take(&queue->queue, hand, task);
+
+	return note_change(queue, (struct record){
+		.call = CALL_TAKE, .hand = smp_processor_id(), .task = task, .answer = answer });
 }
 
 s64 call_put_asleep(struct cpu_queue *queue, eevdf_hand *hand)
 {
-	return note_change(queue, (struct record){ .call = CALL_PUT_ASLEEP, .hand = smp_processor_id(),
-						   .answer = eevdf_put_asleep(&queue->queue, hand) });
+	s64 answer = eevdf_put_asleep(&queue->queue, hand);
+
+	return note_change(queue, (struct record){
+		.call = CALL_PUT_ASLEEP, .hand = smp_processor_id(), .answer = answer });
 }
 
 s64 call_pull(struct cpu_queue *to, struct cpu_queue *from)
 {
-	return note_change(to, (struct record){ .call = CALL_PULL, .other = from->cpu,
-						.answer = eevdf_pull(&to->queue, &from->queue) });
+	s64 answer = eevdf_pull(&to->queue, &from->queue);
+
+	return note_change(to, (struct record){
+		.call = CALL_PULL, .other = from->cpu, .answer = answer });
 }
 
 s64 call_pull_task(struct cpu_queue *to, struct cpu_queue *from, u64 task)
 {
-	return note_change(to, (struct record){ .call = CALL_PULL_TASK, .other = from->cpu, .task = task,
-						.answer = eevdf_pull_task(&to->queue, &from->queue, task) });
+	s64 answer = eevdf_pull_task(&to->queue, &from->queue, task);
+
+	return note_change(to, (struct record){
+		.call = CALL_PULL_TASK, .other = from->cpu, .task = task, .answer = answer });
 }
 
 s64 call_rebase(struct cpu_queue *queue)
@@ -234,17 +288,13 @@ s64 call_rebase(struct cpu_queue *queue)
 	int64_t by = 0;
 	s64 answer = eevdf_rebase(&queue->queue, &by);
 
-	return note_change(queue, (struct record){ .call = CALL_REBASE, .first = by, .answer = answer });
+	return note_change(queue, (struct record){
+		.call = CALL_REBASE, .first = by, .answer = answer });
 }
 
 s64 call_len(struct cpu_queue *queue)
 {
 	return note_answer(queue, CALL_LEN, 0, eevdf_len(&queue->queue));
-}
-
-s64 call_load(struct cpu_queue *queue)
-{
-	return note_answer(queue, CALL_LOAD, 0, eevdf_load(&queue->queue));
 }
 
 s64 call_running(struct cpu_queue *queue)
@@ -268,6 +318,7 @@ s64 call_deadline(struct cpu_queue *queue, u64 task, s64 *deadline)
 	s64 answer = eevdf_entry_of(&queue->queue, task, &entry);
 
 	*deadline = entry.deadline;
-	return note((struct record){ .call = CALL_ENTRY_OF, .queue = queue->cpu, .task = task, .first = entry.deadline,
-				     .second = entry.vruntime, .answer = answer });
+	return note((struct record){
+		.call = CALL_ENTRY_OF, .queue = queue->cpu, .task = task, .first = entry.deadline,
+		.second = entry.vruntime, .answer = answer });
 }

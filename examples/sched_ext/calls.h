@@ -1,10 +1,12 @@
 /*
  * calls.h: the calls of the library that the module makes, each of which is written into the trace
- * where there is one, and counted. A call whose answer says that the module is wrong is kept as the
- * fault of the run: it ends the scheduler.
+ * where there is one, and counted. A refused call is kept as the failure of the run, which ends the
+ * scheduler; calls.c lists the refusals that are part of a good run.
  */
 #ifndef CALLS_H
 #define CALLS_H
+
+#include "common.h"
 
 #include <eevdf.h>
 #include <linux/hrtimer.h>
@@ -12,10 +14,10 @@
 
 /* The calls by the numbers that they have in the trace; replay.py has the same list. */
 enum call {
-	CALL_OPEN, CALL_ADMIT, CALL_END, CALL_PICK, CALL_PEEK, CALL_TICK, CALL_TIME_TO_RESCHED, CALL_YIELD,
-	CALL_STOP, CALL_RUN, CALL_SLEEP, CALL_WAKE, CALL_SET, CALL_TAKE, CALL_PUT_ASLEEP, CALL_PULL,
-	CALL_PULL_TASK, CALL_REBASE, CALL_LEN, CALL_LOAD, CALL_RUNNING, CALL_CANDIDATE, CALL_IS_ASLEEP,
-	CALL_ENTRY_OF, CALLS
+	CALL_OPEN, CALL_ADMIT, CALL_END, CALL_PICK, CALL_PEEK, CALL_TICK, CALL_TIME_TO_RESCHED,
+	CALL_YIELD, CALL_STOP, CALL_RUN, CALL_SLEEP, CALL_WAKE, CALL_SET, CALL_TAKE,
+	CALL_PUT_ASLEEP, CALL_PULL, CALL_PULL_TASK, CALL_REBASE, CALL_LEN, CALL_RUNNING,
+	CALL_CANDIDATE, CALL_IS_ASLEEP, CALL_ENTRY_OF
 };
 
 /* The run queue of a CPU. All but `cpu` and the hints needs the lock. */
@@ -23,7 +25,7 @@ struct cpu_queue {
 	raw_spinlock_t lock;
 	int cpu;
 	eevdf_queue queue;
-	struct list_head waiting;	/* the tasks of the queue that Linux has left to this scheduler */
+	struct list_head waiting;	/* its tasks that Linux has left to this scheduler */
 	struct task_struct *on_cpu;	/* who runs on the CPU, and is charged from `since` on */
 	u64 since;
 	u64 rebased;
@@ -35,8 +37,10 @@ struct cpu_queue {
 int begin_trace(void);
 void end_trace(void);
 
-/* The first call that failed, in words, or NULL. */
-const char *fault_of_run(void);
+/* What the first call answers that failed, or 0; and the same in words, or NULL. */
+s64 failure(void);
+const char *failure_in_words(void);
+/* Keeps that a call failed, or that its answer can't be right. Gives the answer. */
 s64 fail(struct cpu_queue *queue, enum call call, u64 task, s64 answer);
 u64 calls_made(void);
 
@@ -59,7 +63,6 @@ s64 call_pull(struct cpu_queue *to, struct cpu_queue *from);
 s64 call_pull_task(struct cpu_queue *to, struct cpu_queue *from, u64 task);
 s64 call_rebase(struct cpu_queue *queue);
 s64 call_len(struct cpu_queue *queue);
-s64 call_load(struct cpu_queue *queue);
 s64 call_running(struct cpu_queue *queue);
 s64 call_candidate(struct cpu_queue *queue);
 s64 call_is_asleep(struct cpu_queue *queue, u64 task);

@@ -1,6 +1,6 @@
 /*
- * module.c: offers the operations of scheduler.h to BPF, as functions of the kernel, and says at its
- * end what was done. A number below 0 from one of them ends the scheduler.
+ * module.c: offers the operations of scheduler.h to BPF, as functions of the kernel, and says at
+ * its end what was done. A number below 0 ends the scheduler.
  */
 #include "scheduler.h"
 
@@ -9,8 +9,20 @@
 #include <linux/btf_ids.h>
 #include <linux/module.h>
 
+/*
+ * What an operation answers to BPF: what was the first to fail in this run, or else its own answer.
+ * So a refused call ends the scheduler also where the operation that made it answers nothing.
+ */
+static s64 told(s64 answer)
+{
+	s64 failed = failure();
+
+	return failed < 0 ? failed : answer;
+}
+
 __bpf_kfunc_start_defs();
 
+/* A fork is refused where there is no number, and for nothing else. */
 __bpf_kfunc s64 queues_begin(struct task_struct *p)
 {
 	return begin_number(p);
@@ -33,19 +45,20 @@ __bpf_kfunc s32 queues_place(struct task_struct *p, s32 cpu)
 
 __bpf_kfunc s64 queues_enqueue(struct task_struct *p)
 {
-	return enqueue(p);
+	return told(enqueue(p));
 }
 
 __bpf_kfunc s64 queues_take_back(struct task_struct *p)
 {
-	return take_back(p);
+	return told(take_back(p));
 }
 
 /* What it gives has to be given back by bpf_task_release. */
 __bpf_kfunc struct task_struct *queues_pick(s32 cpu, s64 *failed)
 {
-	struct task_struct *picked_one = pick(cpu, failed);
+	struct task_struct *picked_one = pick(cpu);
 
+	*failed = told(0);
 	/* whoever is runnable has a user */
 	return picked_one && refcount_inc_not_zero(&picked_one->rcu_users) ? picked_one : NULL;
 }
@@ -57,32 +70,32 @@ __bpf_kfunc bool queues_confirm(s32 cpu, struct task_struct *p)
 
 __bpf_kfunc s64 queues_go_on(s32 cpu)
 {
-	return go_on(cpu);
+	return told(go_on(cpu));
 }
 
 __bpf_kfunc s64 queues_start(struct task_struct *p)
 {
-	return start(p);
+	return told(start(p));
 }
 
 __bpf_kfunc s64 queues_stop(struct task_struct *p)
 {
-	return stop(p);
+	return told(stop(p));
 }
 
 __bpf_kfunc s64 queues_tick(struct task_struct *p)
 {
-	return tick(p);
+	return told(tick(p));
 }
 
 __bpf_kfunc s64 queues_yield(struct task_struct *p)
 {
-	return yield_turn(p);
+	return told(yield_turn(p));
 }
 
 __bpf_kfunc s64 queues_set_weight(struct task_struct *p)
 {
-	return change_weight(p);
+	return told(change_weight(p));
 }
 
 __bpf_kfunc_end_defs();
@@ -114,22 +127,29 @@ static int __init begin(void)
 		return answer;
 	begin_tasks();
 	answer = begin_queues();
-	if (!answer)
-		answer = register_btf_kfunc_id_set(BPF_PROG_TYPE_STRUCT_OPS, &queues_set);
 	if (answer)
-		end_trace();
+		goto without_queues;
+	answer = register_btf_kfunc_id_set(BPF_PROG_TYPE_STRUCT_OPS, &queues_set);
+	if (!answer)
+		return 0;
+	end_queues();
+without_queues:
+	end_trace();
 	return answer;
 }
 
 static void __exit end(void)
 {
-	const char *fault = fault_of_run();
+	const char *failed = failure_in_words();
 
-	pr_info("queues: %llu calls, %lld picks, %lld run unpicked, %lld pulled by idle CPUs, %lld by busy ones, %lld dispatches cancelled\n",
-		calls_made(), atomic64_read(&picked), atomic64_read(&run_unpicked), atomic64_read(&pulled),
-		atomic64_read(&pulled_when_busy), atomic64_read(&cancelled));
-	pr_info("queues: %u numbers and %u blocks are still taken; failed: %s\n", numbers_taken(), blocks_taken(),
-		fault ? fault : "nothing");
+	pr_info("queues: %llu calls, %lld picks, %lld run unpicked\n", calls_made(),
+		atomic64_read(&picked), atomic64_read(&run_unpicked));
+	pr_info("queues: %lld pulled by idle CPUs, %lld by busy ones, %lld dispatches cancelled\n",
+		atomic64_read(&pulled), atomic64_read(&pulled_when_busy),
+		atomic64_read(&cancelled));
+	pr_info("queues: %u numbers, %u blocks and %u places in queues are still taken\n",
+		numbers_taken(), blocks_taken(), places_taken());
+	pr_info("queues: failed: %s\n", failed ? failed : "nothing");
 	end_queues();
 	end_trace();
 }

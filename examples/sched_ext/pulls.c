@@ -8,7 +8,7 @@
 #include <linux/module.h>
 #include <linux/timekeeping.h>
 
-unsigned int balance_us = 20000;
+static unsigned int balance_us = 20000;
 module_param(balance_us, uint, 0444);
 MODULE_PARM_DESC(balance_us, "how often a CPU that has tasks pulls, in microseconds; 0: never");
 
@@ -24,8 +24,11 @@ bool may_come(struct task *task, int cpu)
 {
 	struct task_struct *linux_task = task->linux_task;
 
-	return task->is_ours && (task_cpu(linux_task) == cpu ||
-				 (!linux_task->migration_disabled && cpumask_test_cpu(cpu, linux_task->cpus_ptr)));
+	if (!task->is_ours)
+		return false;
+	if (task_cpu(linux_task) == cpu)
+		return true;
+	return !linux_task->migration_disabled && cpumask_test_cpu(cpu, linux_task->cpus_ptr);
 }
 
 /* The task of latest deadline that waits there and may come, or NULL. */
@@ -37,7 +40,9 @@ static struct task *last_that_may_come(struct cpu_queue *from, int cpu)
 	list_for_each_entry(task, &from->waiting, waiting) {
 		u64 number = number_of(task);
 
-		if (number == running || !may_come(task, cpu) || call_deadline(from, number, &deadline) < 0)
+		if (number == running || !may_come(task, cpu))
+			continue;
+		if (call_deadline(from, number, &deadline) < 0)
 			continue;
 		if (deadline > latest) {
 			latest = deadline;
@@ -51,7 +56,6 @@ static struct task *last_that_may_come(struct cpu_queue *from, int cpu)
 static bool pull_from(struct cpu_queue *to, struct cpu_queue *from)
 {
 	struct task *task = task_by_number(call_candidate(from));
-	enum call call = CALL_PULL;
 	s64 answer;
 
 	if (!task)
@@ -62,20 +66,16 @@ static bool pull_from(struct cpu_queue *to, struct cpu_queue *from)
 		task = last_that_may_come(from, to->cpu);
 		if (!task)
 			return false;
-		call = CALL_PULL_TASK;
 		answer = call_pull_task(to, from, number_of(task));
 	}
-	if (answer >= 0) {
-		WRITE_ONCE(task->home, to->cpu);
-		is_left_to_us(to, task);
-		return true;
-	}
-	if (answer != EEVDF_BALANCED)
-		fail(to, call, number_of(task), answer);
-	return false;
+	if (answer < 0)
+		return false;
+	WRITE_ONCE(task->home, to->cpu);
+	is_left_to_us(to, task);
+	return true;
 }
 
-/* The CPU of greatest load among those with so many tasks that weren't tried yet, as they last said, or NULL. */
+/* By the hints the CPU of greatest load among those with two tasks that weren't tried, or NULL. */
 static struct cpu_queue *most_loaded(unsigned long tried)
 {
 	struct cpu_queue *most = NULL;
@@ -119,7 +119,7 @@ struct cpu_queue *pull_for_idle(int cpu)
 	return queue;
 }
 
-/* For a CPU that has tasks: now and then one pull from the most loaded CPU, which brings the two loads closer or does nothing. */
+/* For a CPU that has tasks: now and then one pull, from the CPU of greatest load. */
 struct cpu_queue *pull_for_balance(int cpu)
 {
 	struct cpu_queue *queue = queue_of(cpu), *from = most_loaded(BIT(cpu));

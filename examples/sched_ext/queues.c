@@ -5,11 +5,11 @@
 #include <linux/slab.h>
 #include <linux/timekeeping.h>
 
-unsigned int slice_us = 3000, rebase_ms = 86400000;
+static unsigned int slice_us = 3000, rebase_ms = 86400000;
 module_param(slice_us, uint, 0444);
-MODULE_PARM_DESC(slice_us, "the slice of each task, in microseconds");
+MODULE_PARM_DESC(slice_us, "the slice of each task, in microseconds: 100 to 100000");
 module_param(rebase_ms, uint, 0444);
-MODULE_PARM_DESC(rebase_ms, "how often each queue's virtual times are lowered, in milliseconds: once a day by default");
+MODULE_PARM_DESC(rebase_ms, "how often each queue is rebased, in milliseconds; default: each day");
 
 static struct cpu_queue *queues;
 
@@ -62,21 +62,15 @@ struct cpu_queue *lock_home(struct task *task)
 /* A task goes from one queue to another, where it sleeps. Both locks are held. */
 static void move_asleep(struct task *task, struct cpu_queue *from, struct cpu_queue *to)
 {
-	u64 number = number_of(task);
 	eevdf_hand hand;
-	s64 answer;
 
 	if (from->on_cpu == task->linux_task) {
 		charge(from);
 		from->on_cpu = NULL;
 	}
 	eevdf_hand_open(&hand);
-	answer = call_take(from, &hand, number);
-	if (answer < 0)
-		fail(from, CALL_TAKE, number, answer);
-	answer = call_put_asleep(to, &hand);
-	if (answer < 0)
-		fail(to, CALL_PUT_ASLEEP, number, answer);
+	call_take(from, &hand, number_of(task));
+	call_put_asleep(to, &hand);
 	is_taken_back(task);
 	WRITE_ONCE(task->home, to->cpu);
 }
@@ -122,34 +116,34 @@ s64 charge(struct cpu_queue *queue)
 		queue->since += ns;
 		left -= ns;
 	}
-	return answer < 0 ? fail(queue, CALL_TICK, 0, answer) : 0;
+	return min_t(s64, answer, 0);
+}
+
+u64 slice_ns(void)
+{
+	return (u64)slice_us * NSEC_PER_USEC;
 }
 
 static s64 admit(struct cpu_queue *queue, struct task *task)
 {
-	u64 number = number_of(task);
 	eevdf_block block = take_block();
-	s64 answer = call_admit(queue, &block, number, nice_of(task->linux_task), (u64)slice_us * NSEC_PER_USEC);
+	s64 nice = nice_of(task->linux_task);
+	s64 answer = call_admit(queue, &block, number_of(task), nice, slice_ns());
 
 	give_block(block);
-	if (answer < 0)
-		return fail(queue, CALL_ADMIT, number, answer);
-	WRITE_ONCE(task->home, queue->cpu);
-	return 0;
+	if (answer >= 0)
+		WRITE_ONCE(task->home, queue->cpu);
+	return answer;
 }
 
 /* The task is runnable here, whether it slept here or is new. */
 s64 make_runnable(struct cpu_queue *queue, struct task *task)
 {
 	u64 number = number_of(task);
-	s64 answer;
 
 	if (task->home == NOWHERE)
 		return admit(queue, task);
-	if (!call_is_asleep(queue, number))
-		return 0;
-	answer = call_wake(queue, number);
-	return answer < 0 ? fail(queue, CALL_WAKE, number, answer) : 0;
+	return call_is_asleep(queue, number) ? call_wake(queue, number) : 0;
 }
 
 /* Who runs falls asleep by one call; who waits is taken out, and put back asleep. */
@@ -162,26 +156,21 @@ s64 fall_asleep(struct cpu_queue *queue, struct task *task)
 	is_taken_back(task);
 	if (call_is_asleep(queue, number))
 		return 0;
-	if (call_running(queue) == number) {
-		answer = call_sleep(queue, number);
-		return answer < 0 ? fail(queue, CALL_SLEEP, number, answer) : 0;
-	}
+	if (call_running(queue) == number)
+		return call_sleep(queue, number);
 	eevdf_hand_open(&hand);
 	answer = call_take(queue, &hand, number);
-	if (answer < 0)
-		return fail(queue, CALL_TAKE, number, answer);
-	answer = call_put_asleep(queue, &hand);
-	return answer < 0 ? fail(queue, CALL_PUT_ASLEEP, number, answer) : 0;
+	return answer < 0 ? answer : call_put_asleep(queue, &hand);
 }
 
-s64 rebase_in_time(struct cpu_queue *queue)
+void rebase_in_time(struct cpu_queue *queue)
 {
 	u64 now = ktime_get_mono_fast_ns();
 
 	if (now < queue->rebased + (u64)rebase_ms * NSEC_PER_MSEC)
-		return 0;
+		return;
 	queue->rebased = now;
-	return call_rebase(queue);
+	call_rebase(queue);
 }
 
 void is_left_to_us(struct cpu_queue *queue, struct task *task)
@@ -208,7 +197,7 @@ void set_timer(struct cpu_queue *queue)
 		hrtimer_start(&queue->timer, ns_to_ktime(ns), HRTIMER_MODE_REL_PINNED_HARD);
 }
 
-/* Lets Linux ask for the next pick as soon as the interrupt ends. The CPU's own task alone is changed. */
+/* Has Linux ask for a pick as soon as the interrupt ends. The task is this CPU's own. */
 static void end_turn(struct task_struct *linux_task)
 {
 	linux_task->scx.slice = 0;
@@ -234,6 +223,8 @@ static enum hrtimer_restart on_timer(struct hrtimer *timer)
 
 int begin_queues(void)
 {
+	if (slice_ns() < EEVDF_SLICE_MIN || slice_ns() > EEVDF_SLICE_MAX)
+		return -EINVAL;
 	if (nr_cpu_ids > MAX_CPUS)
 		return -E2BIG;
 	queues = kvcalloc(nr_cpu_ids, sizeof *queues, GFP_KERNEL);
@@ -253,7 +244,17 @@ int begin_queues(void)
 	return 0;
 }
 
-/* No task has a number any more, so no queue has a task. */
+unsigned int places_taken(void)
+{
+	unsigned int taken = 0;
+
+	for (int cpu = 0; cpu < nr_cpu_ids; cpu++)
+		for (u64 number = 0; number < EEVDF_TASKS; number++)
+			taken += eevdf_contains(&queues[cpu].queue, number) == 1;
+	return taken;
+}
+
+/* Linux has ended the scheduler, and with it each task's number. */
 void end_queues(void)
 {
 	for (int cpu = 0; cpu < nr_cpu_ids; cpu++)

@@ -1,17 +1,19 @@
 /*
  * queues.h: the queues of the CPUs and their locks. A queue's lock is taken with interrupts off,
- * inside of Linux's own lock of a run queue, and those of two queues in ascending order. No lock
- * of Linux's is taken inside.
+ * and those of two queues in ascending order. An operation of Linux's takes it inside of Linux's
+ * own lock of a run queue, and the queue's timer without that. Inside of it come Linux's lock of
+ * its timers, where the queue's is set, and the module's for its numbers and for its failure.
  */
 #ifndef QUEUES_H
 #define QUEUES_H
 
 #include "tasks.h"
 
-enum { MAX_CPUS = 32 };
-
+/* 0, or why the queues can't be: too many CPUs, no memory, or a slice out of its limits. */
 int begin_queues(void);
 void end_queues(void);
+/* How many tasks the queues have in all, runnable and asleep. It asks for each number. */
+unsigned int places_taken(void);
 
 struct cpu_queue *queue_of(int cpu);
 void lock_queue(struct cpu_queue *queue);
@@ -28,11 +30,14 @@ struct cpu_queue *lock_home(struct task *task);
  */
 struct cpu_queue *bring(struct task *task, int cpu);
 
+/* The slice of each task. */
+u64 slice_ns(void);
+
 /* What goes on in one queue, under its lock. Each answers 0 or more, or what has failed. */
 s64 charge(struct cpu_queue *queue);
 s64 make_runnable(struct cpu_queue *queue, struct task *task);
 s64 fall_asleep(struct cpu_queue *queue, struct task *task);
-s64 rebase_in_time(struct cpu_queue *queue);
+void rebase_in_time(struct cpu_queue *queue);
 void set_timer(struct cpu_queue *queue);
 /* Linux has left the task to this scheduler, or takes it back. */
 void is_left_to_us(struct cpu_queue *queue, struct task *task);
@@ -43,7 +48,6 @@ struct cpu_queue *pull_for_idle(int cpu);
 struct cpu_queue *pull_for_balance(int cpu);
 bool may_come(struct task *task, int cpu);
 
-extern unsigned int slice_us, rebase_ms, balance_us;
 extern atomic64_t pulled, pulled_when_busy;
 
 #endif

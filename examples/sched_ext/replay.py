@@ -6,7 +6,7 @@ first call that answers something else.
 replay.py --plant TRACE [COUNT]: changes the trace in one place after the other, and says of each kind of change, of which it plants so
 many (40), how many are noticed within the next 20000 calls.
 
-replay.py --cut MEMORY TRACE: takes the trace out of the memory of the machine, where run.sh has the module put it."""
+replay.py --cut MEMORY AT TRACE: takes the trace out of the memory of the machine, where run.sh has the module put it."""
 
 import re
 import struct
@@ -22,14 +22,11 @@ sys.path.append(str(HERE.parent.parent / "checks" / "c_library"))
 
 from model import Model  # noqa: E402
 
-# As calls.c and run.sh have them.
-AT = 402653184
-MAGIC = 0x3163617274666465
+# As calls.c lays them out.
 HEAD = struct.Struct("<QQQQ")
 RECORD = struct.Struct("<BBBBIqqqqqq")
-CPUS = 32
 # The calls that change nothing: their records don't have how the queue is afterwards.
-READING = {"peek", "time_to_resched", "len", "load", "running", "candidate", "is_asleep", "entry_of"}
+READING = {"peek", "time_to_resched", "len", "running", "candidate", "is_asleep", "entry_of"}
 # After a change that is planted so many calls are done.
 FOLLOWED = 20000
 
@@ -40,7 +37,15 @@ def names_of_calls():
     return [name.lower() for name in re.findall(r"CALL_(\w+)", listed)]
 
 
+def number_named(name):
+    """A number that common.h defines."""
+    defined = re.search(rf"#define {name} (0x[0-9a-f]+|\d+)", (HERE / "common.h").read_text())[1]
+    return int(defined, 0)
+
+
 NAMES = names_of_calls()
+CPUS = number_named("MAX_CPUS")
+MAGIC = number_named("TRACE_MAGIC")
 
 
 @dataclass(frozen=True)
@@ -69,9 +74,9 @@ def head_of(data):
     return min(room, made), made
 
 
-def cut(memory, trace):
+def cut(memory, at, trace):
     with open(memory, "rb") as file:
-        file.seek(AT)
+        file.seek(at)
         head = file.read(HEAD.size)
         count, _ = head_of(head)
         Path(trace).write_bytes(head + file.read(count * RECORD.size))
@@ -276,8 +281,8 @@ def planted(records, count):
 
 def main():
     match sys.argv[1:]:
-        case ["--cut", memory, trace]:
-            cut(memory, trace)
+        case ["--cut", memory, at, trace]:
+            cut(memory, int(at), trace)
             return 0
         case ["--plant", trace, *count]:
             return planted(read_trace(trace), int(count[0]) if count else 40)

@@ -4,32 +4,24 @@
 #   load, unload       the module and the scheduler
 #   load_plain, unload_plain  a scheduler without operations in their place, so that Linux's own part of sched_ext runs the tasks
 #   shares=SECONDS     shares of four hogs beside a task that sleeps, and how late that wakes
-#   naps=SECONDS       the share of a hog that naps
+#   naps=SECONDS       what those have that nap: one after 4 ms each beside seven that compute, two after 2 ms beside one, and two after
+#                      0.5 ms beside one, for so long each
 #   hunt=SECONDS       a hunt for a task that stands still
 #   cpus=SECONDS       the same among tasks that change each other's CPUs
 #   forks              forks until one is refused
 #   fault=1, fault=2   a planted fault: a task that is lost as it wakes, a call that fails
 #   real_time=SECONDS  tasks of real time that spin
 #   plant=3, plant=4   waits where other CPUs may come between, and no second look at what they have changed
-# Prints what the machine says. Ends with 1 where that has a fault or is not to its end, with 3 where something is missing, and with 124
-# where qemu takes too long.
+#   plant=5            numbers of tasks that end aren't free again: a fault that is found as the module is unloaded
+# Prints what the machine says. Ends with 1 where that has a fault, or where the scheduler was loaded and the machine came to no end, with
+# 3 where something is missing, and with 124 where qemu takes too long before the scheduler is loaded.
 # CPUS says how many the machine has (1), WORDS the module's parameters, TRACE a file where the trace of all calls goes, for replay.py.
 # ICOUNT says how qemu counts time (shift=3,sleep=off: by instructions; `off`: by the host's clock). MODULE names the kept LLVM module of
-# the library (crates/eevdf_c/out/module). LOG keeps all that Linux says, and SECONDS_OF_QEMU is how long it may take (600).
+# the library (crates/eevdf_c/out/module). LOG keeps all that Linux says, and SECONDS_OF_QEMU is how long qemu may take (600).
 set -eu
 here=$(cd "$(dirname "$0")" && pwd)
 top=$(cd "$here/../.." && pwd)
-export LANG=C LC_ALL=C
-
-fail() {
-  echo "examples/sched_ext/run.sh: $1" >&2
-  exit "$2"
-}
-
-# need TOOL PACKAGE
-need() {
-  command -v "$1" >/dev/null || fail "there is no $1 (Debian package $2)" 3
-}
+. "$here/common.sh"
 
 [ $# -ge 1 ] || fail "give the folder that build_linux.sh has filled" 2
 folder=$(realpath -m "$1")
@@ -42,6 +34,11 @@ need make make
 need clang clang
 need pahole pahole
 need qemu-system-x86_64 qemu-system-x86
+need python3 python3
+need_header gelf.h libelf-dev
+need_header zlib.h zlib1g-dev
+need_archive libelf.a libelf-dev
+need_archive libz.a zlib1g-dev
 
 work=$(mktemp -d)
 trap 'rm -rf "$work"' EXIT
@@ -59,7 +56,8 @@ quietly() {
 
 MODULE=$module quietly "the library" "$top/install" --kernel --thunks "$work/prefix"
 mkdir "$work/module"
-cp "$here"/Kbuild "$here"/{calls,tasks,queues,scheduler}.h "$here"/{module,scheduler,pulls,queues,tasks,calls}.c "$work/module"
+cp "$here"/Kbuild "$here"/{common,calls,tasks,queues,scheduler}.h "$here"/{module,scheduler,pulls,queues,tasks,calls}.c "$work/module"
+cp "$here/../linux/Kbuild" "$work/module/Kbuild.linux"
 quietly "the module" make -C "$tree" M="$work/module" PREFIX="$work/prefix" modules
 for name in scheduler plain; do
   quietly "the scheduler" clang -O2 -g -Wall -Werror -target bpf -mcpu=v3 -I "$libbpf/include" -I "/usr/include/$(gcc -dumpmachine)" -c \
@@ -70,14 +68,18 @@ quietly "the machine's program" gcc -std=gnu11 -O2 -Wall -Wextra -static -I "$li
 "$here/../linux/initramfs.py" "$work/initramfs" init="$work/init" eevdf_queues.ko="$work/module/eevdf_queues.ko" \
   scheduler.bpf.o="$work/scheduler.bpf.o" plain.bpf.o="$work/plain.bpf.o"
 
-# The trace goes where Linux doesn't: the last quarter of the machine's memory, which is a file.
+# Of the machine's memory, in MB, Linux takes the first part. The trace goes into the rest, where the memory is a file.
+linux_memory=384
+trace_memory=128
+all_memory=$((linux_memory + trace_memory))
+trace_at=$((linux_memory << 20))
 machine=pc
 memory=()
 words=${WORDS:-}
 if [ -n "${TRACE:-}" ]; then
   machine=pc,memory-backend=ram
-  memory=(-object "memory-backend-file,id=ram,size=512M,mem-path=$work/ram,share=on")
-  words="$words trace_at=402653184 trace_size=134217728"
+  memory=(-object "memory-backend-file,id=ram,size=${all_memory}M,mem-path=$work/ram,share=on")
+  words="$words trace_at=$trace_at trace_size=$((trace_memory << 20))"
 fi
 # without ACPI Linux finds one CPU in each socket
 cpus=${CPUS:-1}
@@ -85,19 +87,28 @@ counted=()
 [ "${ICOUNT:=shift=3,sleep=off}" = off ] || counted=(-icount "$ICOUNT")
 
 status=0
-timeout "${SECONDS_OF_QEMU:-600}" qemu-system-x86_64 -machine "$machine" -accel tcg -m 512 "${memory[@]}" "${counted[@]}" \
+seconds=${SECONDS_OF_QEMU:-600}
+timeout "$seconds" qemu-system-x86_64 -machine "$machine" -accel tcg -m "$all_memory" "${memory[@]}" "${counted[@]}" \
   -smp "cpus=$cpus,sockets=$cpus" -nodefaults -display none -serial stdio -no-reboot -kernel "$tree/arch/x86/boot/bzImage" \
   -initrd "$work/initramfs" \
-  -append "console=ttyS0 mem=384M tsc=reliable panic=-1 \"module=$words\" -- $*" </dev/null >"$work/log" ||
+  -append "console=ttyS0 mem=${linux_memory}M tsc=reliable panic=-1 \"module=$words\" -- $*" </dev/null >"$work/log" ||
   status=$?
 [ -z "${LOG:-}" ] || cp "$work/log" "$LOG"
-[ -z "${TRACE:-}" ] || "$here/replay.py" --cut "$work/ram" "$TRACE"
+# a trace that can't be read is told last, since the machine may never have come to it
+has_trace=yes
+[ -z "${TRACE:-}" ] || "$here/replay.py" --cut "$work/ram" "$trace_at" "$TRACE" || has_trace=no
+rm -f "$work/ram"
 tr -d '\r' <"$work/log" | sed -n '/^[0-9]* CPUs$/,$p'
-[ "$status" != 124 ] || fail "qemu hasn't come to its end" 124
+if [ "$status" = 124 ]; then
+  ! grep -q '^the scheduler is loaded' "$work/log" || fail "the scheduler was loaded, and the machine had no end in $seconds seconds" 1
+  fail "qemu hasn't come to its end in $seconds seconds" 124
+fi
 [ "$status" = 0 ] || fail "qemu ended with $status" 1
 grep -q '^done' "$work/log" || { tail -n 40 "$work/log"; fail "the machine hasn't come to its end" 1; }
+faults='FAULT|BUG|Oops|WARNING|general protection|Kernel panic|rcu.*stall|failed: call|still taken'
 # what is planted is a call of task 1024, which is no number of a task
-faults='FAULT|BUG|Oops|WARNING|general protection|Kernel panic|rcu.*stall|failed: call'
-if grep -E "$faults" "$work/log" | grep -v ' of task 1024 ' >"$work/found"; then
+no_faults='failed: call .* of task 1024 |queues: 0 numbers, 0 blocks and 0 places in queues are still taken'
+if grep -E "$faults" "$work/log" | grep -vE "$no_faults" >"$work/found"; then
   fail "a fault is found: $(head -n 1 "$work/found")" 1
 fi
+[ "$has_trace" = yes ] || fail "the trace can't be read" 1

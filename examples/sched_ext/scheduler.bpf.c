@@ -8,6 +8,8 @@
 #include <bpf/bpf_helpers.h>
 #include <bpf/bpf_tracing.h>
 
+#include "common.h"
+
 typedef __s32 s32;
 typedef __s64 s64;
 typedef __u64 u64;
@@ -18,8 +20,7 @@ typedef __u64 u64;
 #define KICK_PREEMPT 2
 #define WAKE_FORK 4
 #define KEEP_EXITING 4	/* SCX_OPS_ENQ_EXITING: tasks that end are enqueued as others are */
-#define PREEMPT_HOME (1ull << 62)
-enum { MAX_CPUS = 32, TRIES = 8, WATCHDOG_MS = 5000 };
+#define TRIES 8
 
 struct task_struct {
 	int pid;
@@ -67,8 +68,10 @@ extern s64 queues_yield(struct task_struct *p) __ksym;
 extern s64 queues_set_weight(struct task_struct *p) __ksym;
 
 /* Linux's; from 6.13 on scx_bpf_dispatch is called scx_bpf_dsq_insert. */
-extern void scx_bpf_dispatch(struct task_struct *p, u64 queue, u64 slice, u64 flags) __ksym __weak;
-extern void scx_bpf_dsq_insert(struct task_struct *p, u64 queue, u64 slice, u64 flags) __ksym __weak;
+extern void scx_bpf_dispatch(struct task_struct *p, u64 queue, u64 slice, u64 flags)
+	__ksym __weak;
+extern void scx_bpf_dsq_insert(struct task_struct *p, u64 queue, u64 slice, u64 flags)
+	__ksym __weak;
 extern void bpf_task_release(struct task_struct *p) __ksym;
 extern void scx_bpf_dispatch_cancel(void) __ksym;
 extern s32 scx_bpf_task_cpu(const struct task_struct *p) __ksym;
@@ -88,7 +91,7 @@ static void look_at(s64 answer)
 		scx_bpf_error_bstr(text, numbers, sizeof numbers);
 }
 
-/* A task wakes where it slept, and is pulled from there; one that was forked begins on the CPU of least load. */
+/* A task wakes where it slept, and is pulled from there; a new one goes where the load is least. */
 SEC("struct_ops/select_cpu")
 s32 BPF_PROG(on_select_cpu, struct task_struct *p, s32 cpu, u64 flags)
 {

@@ -12,7 +12,7 @@
 /*
  * A planted fault: 1 loses tasks that are named "lost" as they wake, and 2 makes a call that has to
  * fail. 3 waits before and after the second look at a task that comes from another CPU, and 4 waits
- * and doesn't look.
+ * and doesn't look. 5 keeps the numbers of tasks that end.
  */
 int planted;
 module_param(planted, int, 0644);
@@ -31,7 +31,6 @@ static eevdf_block take_out(struct task *task)
 {
 	eevdf_block block = { NULL };
 	struct cpu_queue *queue = lock_home(task);
-	s64 answer;
 
 	if (!queue)
 		return block;
@@ -40,9 +39,7 @@ static eevdf_block take_out(struct task *task)
 		queue->on_cpu = NULL;
 	}
 	is_taken_back(task);
-	answer = call_end(queue, &block, number_of(task));
-	if (answer < 0)
-		fail(queue, CALL_END, number_of(task), answer);
+	call_end(queue, &block, number_of(task));
 	WRITE_ONCE(task->home, NOWHERE);
 	unlock_queue(queue);
 	return block;
@@ -52,7 +49,7 @@ void end_number(struct task_struct *linux_task)
 {
 	struct task *task = task_of(linux_task);
 
-	if (task)
+	if (task && planted != 5)
 		end_task(task, take_out(task));
 }
 
@@ -96,12 +93,7 @@ static s64 whom_to_tell(struct cpu_queue *queue)
 /* A task that Linux has preempted by another class waits, as the others do. */
 static s64 stop_waiting_one(struct cpu_queue *queue, u64 number)
 {
-	s64 answer;
-
-	if (call_running(queue) != number)
-		return 0;
-	answer = call_stop(queue);
-	return answer < 0 ? fail(queue, CALL_STOP, number, answer) : 0;
+	return call_running(queue) == number ? call_stop(queue) : 0;
 }
 
 s64 enqueue(struct task_struct *linux_task)
@@ -116,7 +108,7 @@ s64 enqueue(struct task_struct *linux_task)
 		return 0;
 	queue = bring(task, task_cpu(linux_task));
 	if (planted == 2)
-		fail(queue, CALL_WAKE, EEVDF_TASKS, call_wake(queue, EEVDF_TASKS));
+		call_wake(queue, EEVDF_TASKS);
 	answer = charge(queue);
 	if (answer >= 0)
 		answer = make_runnable(queue, task);
@@ -127,7 +119,7 @@ s64 enqueue(struct task_struct *linux_task)
 		answer = whom_to_tell(queue);
 	}
 	unlock_queue(queue);
-	return planted == 2 ? EEVDF_INVALID : answer;
+	return answer;
 }
 
 s64 take_back(struct task_struct *linux_task)
@@ -156,16 +148,16 @@ static void begin_turn(struct cpu_queue *queue, struct task_struct *linux_task)
 	set_timer(queue);
 }
 
-/* Whom Linux has chosen: as the scheduler comes and goes, and where it puts back a task that ran while it was changed. */
+/*
+ * Whom Linux has chosen: as the scheduler comes and goes, and where it puts back a task that ran
+ * while it was changed.
+ */
 static s64 run_unpicked_one(struct cpu_queue *queue, struct task *task)
 {
-	u64 number = number_of(task);
 	s64 answer = make_runnable(queue, task);
 
-	if (answer >= 0)
-		answer = call_run(queue, number);
 	atomic64_inc(&run_unpicked);
-	return answer < 0 ? fail(queue, CALL_RUN, number, answer) : 0;
+	return answer < 0 ? answer : call_run(queue, number_of(task));
 }
 
 s64 start(struct task_struct *linux_task)
@@ -248,13 +240,12 @@ static void wait_for_others(int cpu, const struct task_struct *linux_task)
 		mdelay(3);
 }
 
-struct task_struct *pick(int cpu, s64 *failed)
+struct task_struct *pick(int cpu)
 {
 	struct cpu_queue *queue = lock_with_pulled(cpu);
 	struct task *task = task_by_number(call_pick(queue));
 	struct task_struct *dispatched = NULL;
 
-	*failed = 0;
 	queue->is_due = false;
 	if (task)
 		atomic64_inc(&picked);
@@ -263,7 +254,7 @@ struct task_struct *pick(int cpu, s64 *failed)
 	else if (task && task->is_ours)
 		dispatched = task->linux_task;
 	else if (task)
-		*failed = fail(queue, CALL_PICK, number_of(task), -EPERM);
+		fail(queue, CALL_PICK, number_of(task), -EPERM);
 	unlock_queue(queue);
 	if (dispatched)
 		wait_for_others(cpu, dispatched);
@@ -281,7 +272,8 @@ bool confirm(int cpu, struct task_struct *linux_task)
 	bool is_confirmed;
 
 	lock_queue(queue);
-	is_confirmed = task && task->home == cpu && may_come(task, cpu) && call_running(queue) == number_of(task);
+	is_confirmed = task && task->home == cpu && may_come(task, cpu) &&
+		       call_running(queue) == number_of(task);
 	unlock_queue(queue);
 	wait_for_others(cpu, linux_task);
 	if (!is_confirmed)
@@ -307,7 +299,7 @@ s64 tick(struct task_struct *linux_task)
 	return answer;
 }
 
-/* A lone task has nobody to yield to. One that can yield no more, since its deadline would leave the range, isn't wrong. */
+/* A lone task has nobody to yield to. */
 s64 yield_turn(struct task_struct *linux_task)
 {
 	struct cpu_queue *queue = queue_of(task_cpu(linux_task));
@@ -334,9 +326,7 @@ s64 change_weight(struct task_struct *linux_task)
 		return 0;
 	answer = charge(queue);
 	if (answer >= 0)
-		answer = call_set(queue, number_of(task), nice_of(linux_task), (u64)slice_us * NSEC_PER_USEC);
-	if (answer < 0)
-		fail(queue, CALL_SET, number_of(task), answer);
+		answer = call_set(queue, number_of(task), nice_of(linux_task), slice_ns());
 	unlock_queue(queue);
 	return answer;
 }

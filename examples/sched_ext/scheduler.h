@@ -1,15 +1,12 @@
 /*
  * scheduler.h: what Linux tells of its tasks, as operations on the queues. All but begin_number are
- * done with interrupts off, and those of a task under Linux's lock of its run queue. Each that
- * answers a number answers less than 0 where a call of the library has failed.
+ * done with interrupts off, and those of a task under Linux's lock of its run queue. A number below
+ * 0 says what has failed.
  */
 #ifndef SCHEDULER_H
 #define SCHEDULER_H
 
 #include "queues.h"
-
-/* In what enqueue() answers: a bit for each CPU that is to look for work, and this one. */
-#define PREEMPT_HOME BIT_ULL(62)
 
 /* A task that was forked, or was there before the scheduler; and one that has ended. */
 s64 begin_number(struct task_struct *linux_task);
@@ -20,17 +17,17 @@ void leave(struct task_struct *linux_task);
 /* The CPU where a task goes that was just forked: the one of least load. */
 int place(struct task_struct *linux_task, int cpu);
 
-/* A task waits for its turn. Answers which CPUs have to be told. */
+/* A task waits for its turn. Answers which CPUs have to be told, by the bits of common.h. */
 s64 enqueue(struct task_struct *linux_task);
 /* Linux takes back a task that waited; and one falls asleep. */
 s64 take_back(struct task_struct *linux_task);
 
 /*
- * Who is to run on this CPU, or NULL: whoever ran goes on, or nobody is there. `failed` is below 0
- * where a call has failed. Linux asks while whoever ran is still the current task.
+ * Who is to run on this CPU, or NULL: whoever ran goes on, or nobody is there, or the pick has
+ * failed. Linux asks while whoever ran is still the current task.
  */
-struct task_struct *pick(int cpu, s64 *failed);
-/* Whether the task that was picked may still be dispatched, once Linux has noted that it is to be. */
+struct task_struct *pick(int cpu);
+/* Whether the task that was picked may still be dispatched, now that Linux has noted it. */
 bool confirm(int cpu, struct task_struct *linux_task);
 /* Nobody could be dispatched: whoever ran goes on. */
 s64 go_on(int cpu);

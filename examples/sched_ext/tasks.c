@@ -27,7 +27,7 @@ void begin_tasks(void)
 	free_block_count = EEVDF_TASKS;
 }
 
-/* The number is kept where sched_ext lets a scheduler keep one, and goes unused by dispatches without a time. */
+/* sched_ext lets a scheduler keep a number there, where no dispatch goes by a virtual time. */
 int begin_task(struct task_struct *linux_task)
 {
 	int answer = -EAGAIN;
@@ -65,7 +65,9 @@ struct task *task_of(const struct task_struct *linux_task)
 {
 	u64 number = linux_task->scx.dsq_vtime;
 
-	return number < EEVDF_TASKS && tasks[number].linux_task == linux_task ? &tasks[number] : NULL;
+	if (number >= EEVDF_TASKS || tasks[number].linux_task != linux_task)
+		return NULL;
+	return &tasks[number];
 }
 
 u64 number_of(const struct task *task)
@@ -110,5 +112,7 @@ unsigned int blocks_taken(void)
 /* A task of SCHED_IDLE is as light as the lightest nice level. */
 s64 nice_of(const struct task_struct *linux_task)
 {
-	return linux_task->policy == SCHED_IDLE ? EEVDF_NICE_MAX : PRIO_TO_NICE(linux_task->static_prio);
+	if (linux_task->policy == SCHED_IDLE)
+		return EEVDF_NICE_MAX;
+	return PRIO_TO_NICE(linux_task->static_prio);
 }

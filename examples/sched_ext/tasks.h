@@ -1,4 +1,4 @@
-/* tasks.h: what the module keeps of each of Linux's tasks, by the number that the task has in the queues. */
+/* tasks.h: what the module keeps of each of Linux's tasks, by its number in the queues. */
 #ifndef TASKS_H
 #define TASKS_H
 
@@ -11,8 +11,8 @@ enum { NOWHERE = -1 };
 
 struct task {
 	struct task_struct *linux_task;	/* who has the number, or NULL */
-	int home;			/* the CPU in whose queue it is, or NOWHERE; changes under the queue's lock */
-	bool is_ours;			/* Linux has left it to this scheduler, so it may be dispatched */
+	int home;			/* in whose queue it is, or NOWHERE; under that lock */
+	bool is_ours;			/* Linux has left it to this scheduler to dispatch */
 	struct list_head waiting;	/* in `waiting` of its queue while it is ours */
 };
 

@@ -1,0 +1,20 @@
+/*
+ * common.h: numbers by which several of the module, the program of BPF, the machine's program and
+ * replay.py go. The last reads them here.
+ */
+#ifndef COMMON_H
+#define COMMON_H
+
+/* A machine has no more CPUs. enqueue() answers a bit for each that is to look for work. */
+#define MAX_CPUS 32
+
+/* A further bit of that answer: on the task's own CPU somebody else is to run. */
+#define PREEMPT_HOME (1ull << 62)
+
+/* Linux puts the scheduler out once a task waits longer than this. */
+#define WATCHDOG_MS 5000
+
+/* A trace begins with it. */
+#define TRACE_MAGIC 0x3163617274666465ull
+
+#endif
