@@ -1,8 +1,9 @@
 /*
- * faults.c: numbers that run out, planted faults, after which all tasks have to go on in Linux's own
- * class, and tasks of real time that leave no time to the others.
+ * faults.c: numbers that run out, planted faults, after which all tasks have to go on in Linux's
+ * own class, and tasks of real time that leave no time to the others.
  */
 #define _GNU_SOURCE
+#include "common.h"
 #include "machine.h"
 
 #include <errno.h>
@@ -43,7 +44,8 @@ void fork_until_refused(void)
 	for (int at = 0; at < count; at++)
 		end_child(children[at]);
 	say("%sforks: %d children, and the next is refused: %s; once one has ended a fork is %s",
-	    refused == EAGAIN && again > 0 ? "" : "FAULT: ", count + 1, refused ? strerror(refused) : "no", again > 0 ? "done" : "refused");
+	    refused == EAGAIN && again > 0 ? "" : "FAULT: ", count + 1,
+	    refused ? strerror(refused) : "no", again > 0 ? "done" : "refused");
 }
 
 /* The first of them sleeps and wakes, under the name of those that the planted fault loses. */
@@ -81,7 +83,8 @@ void try_fault(int fault)
 		still += steps[at] == before[at];
 		end_child(children[at]);
 	}
-	say("%sfault %d: the scheduler is %s, and of %d tasks %d stand still", has_put_out && !still ? "" : "FAULT: ", fault,
+	say("%sfault %d: the scheduler is %s, and of %d tasks %d stand still",
+	    has_put_out && !still ? "" : "FAULT: ", fault,
 	    has_put_out ? "put out" : "STILL THERE", GOING, still);
 }
 
@@ -97,7 +100,8 @@ static void fork_spinners(pid_t *spinners, int count, int seconds)
 
 			CPU_ZERO(&cpus);
 			CPU_SET((size_t)at, &cpus);
-			if (sched_setaffinity(0, sizeof cpus, &cpus) || sched_setscheduler(0, SCHED_FIFO, &first))
+			if (sched_setaffinity(0, sizeof cpus, &cpus) ||
+			    sched_setscheduler(0, SCHED_FIFO, &first))
 				_exit(1);
 			compute_until(now_ns() + (int64_t)seconds * SECOND);
 			_exit(0);
@@ -120,11 +124,10 @@ static uint64_t sum_of(const volatile uint64_t *steps)
  */
 void spin_in_real_time(int seconds)
 {
-	enum { MOST_CPUS = 32 };
 	volatile uint64_t *steps = shared(GOING * sizeof *steps);
 	struct sched_param above = { 2 }, none = { 0 };
 	int cpus = (int)sysconf(_SC_NPROCESSORS_ONLN), still = 0;
-	pid_t children[GOING], spinners[MOST_CPUS];
+	pid_t children[GOING], spinners[MAX_CPUS];
 	uint64_t before[GOING], at_first;
 	bool was_loaded = is_loaded(), is_there;
 	const char *name = name_of_class();
@@ -153,5 +156,6 @@ void spin_in_real_time(int seconds)
 		end_child(children[at]);
 	}
 	say("%safterwards %s, and of %d tasks %d stand still", still ? "FAULT: " : "",
-	    !was_loaded ? "all is as before" : is_there ? "the scheduler is still there" : "the scheduler is put out", GOING, still);
+	    !was_loaded ? "all is as before" :
+	    is_there ? "the scheduler is still there" : "the scheduler is put out", GOING, still);
 }

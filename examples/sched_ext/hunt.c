@@ -1,8 +1,9 @@
 /*
  * hunt.c: a hunt for a task that stands still. Tasks compute, yield, sleep, talk, fork, and change
- * their own and each other's nice level, CPUs and class, and all have to get on.
+ * their own and each other's nice level, CPUs and class, and all have to get on, to the end.
  */
 #define _GNU_SOURCE
+#include "common.h"
 #include "machine.h"
 
 #include <sched.h>
@@ -12,11 +13,13 @@
 #include <sys/wait.h>
 #include <unistd.h>
 
-enum { HUNTED = 24, LOOKS_A_SECOND = 2, MOST_STILL = 6 };
+/* A task that takes no step for so long after the end stands still. */
+enum { HUNTED = 24, SECONDS_FOR_LAST_STEP = 10 };
 
 static struct hunted {
 	volatile pid_t processes[HUNTED];
 	volatile uint64_t steps[HUNTED];
+	volatile int64_t longest_ns[HUNTED];	/* the most from one step to the next */
 	int pipes[HUNTED][2];
 	bool only_cpus;	/* they compute, sleep, and change each other's CPUs, and do nothing else */
 } *hunted;
@@ -71,9 +74,10 @@ static void fork_one(void)
 /* One letter to the next task, which it reads some time; the pipe is full where it doesn't. */
 static void talk(int number)
 {
+	int to = hunted->pipes[(number + 1) % HUNTED][1];
 	char letter = 'x', read_letter;
 
-	if (write(hunted->pipes[(number + 1) % HUNTED][1], &letter, 1) < 0 || read(hunted->pipes[number][0], &read_letter, 1) < 0)
+	if (write(to, &letter, 1) < 0 || read(hunted->pipes[number][0], &read_letter, 1) < 0)
 		return;
 }
 
@@ -115,10 +119,17 @@ static void take_step(int number, uint64_t *word)
 static _Noreturn void be_hunted(int number)
 {
 	uint64_t word = (uint64_t)number + 1;
+	int64_t before = now_ns();
 
 	hunted->processes[number] = getpid();
 	for (;;) {
+		int64_t now;
+
 		take_step(number, &word);
+		now = now_ns();
+		if (now - before > hunted->longest_ns[number])
+			hunted->longest_ns[number] = now - before;
+		before = now;
 		hunted->steps[number]++;
 	}
 }
@@ -141,27 +152,49 @@ static void begin_hunted(bool only_cpus)
 	}
 }
 
-/* A task of nice level 19 beside heavy ones may wait for some time, so one stands still only where it did at several looks. */
+/* How many take no further step. */
+static int count_still(void)
+{
+	int64_t last = now_ns() + (int64_t)SECONDS_FOR_LAST_STEP * SECOND;
+	uint64_t before[HUNTED];
+	int still;
+
+	for (int at = 0; at < HUNTED; at++)
+		before[at] = hunted->steps[at];
+	do {
+		sleep_ns(10 * MILLISECOND);
+		still = 0;
+		for (int at = 0; at < HUNTED; at++)
+			still += hunted->steps[at] == before[at];
+	} while (still && now_ns() < last);
+	return still;
+}
+
+/*
+ * A task of nice level 19 beside heavy ones may wait for some time. One that waits for longer than
+ * Linux's watchdog lets it isn't told from one that is lost.
+ */
 void hunt(int seconds, bool only_cpus)
 {
-	uint64_t seen[HUNTED] = { 0 }, all = 0;
-	int still[HUNTED] = { 0 }, longest = 0;
+	int64_t longest = 0;
+	uint64_t steps = 0;
+	const char *name;
+	int still;
 
 	begin_hunted(only_cpus);
-	for (int look = 0; look < seconds * LOOKS_A_SECOND; look++) {
-		sleep_ns(SECOND / LOOKS_A_SECOND);
-		for (int at = 0; at < HUNTED; at++) {
-			still[at] = hunted->steps[at] == seen[at] ? still[at] + 1 : 0;
-			longest = still[at] > longest ? still[at] : longest;
-			seen[at] = hunted->steps[at];
-		}
-	}
+	sleep_ns((int64_t)seconds * SECOND);
+	still = count_still();
+	name = name_of_class();
 	for (int at = 0; at < HUNTED; at++) {
-		all += seen[at];
 		end_child(hunted->processes[at]);
 		close(hunted->pipes[at][0]);
 		close(hunted->pipes[at][1]);
+		steps += hunted->steps[at];
+		if (hunted->longest_ns[at] > longest)
+			longest = hunted->longest_ns[at];
 	}
-	say("%sthe hunt: %d tasks took %llu steps, none stood still for more than %d ms", longest > MOST_STILL ? "FAULT: " : "",
-	    HUNTED, (unsigned long long)all, longest * 1000 / LOOKS_A_SECOND);
+	longest /= MILLISECOND;
+	say("%s%s: the hunt: %d tasks took %llu steps, the longest of %lld ms, and %d stand still",
+	    still || longest > WATCHDOG_MS ? "FAULT: " : "", name, HUNTED,
+	    (unsigned long long)steps, (long long)longest, still);
 }

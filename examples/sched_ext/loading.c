@@ -94,7 +94,7 @@ bool unload_plain(void)
 	return has_ended(5);
 }
 
-/* Programs of BPF that nobody has any more go some time later, and the module as soon as they have. */
+/* Programs of BPF that nobody has any more go some time later, and the module once they have. */
 bool unload(void)
 {
 	int64_t last = now_ns() + 5ll * SECOND;
@@ -111,9 +111,11 @@ bool unload(void)
 void plant(int fault)
 {
 	FILE *file = fopen("/sys/module/eevdf_queues/parameters/planted", "we");
+	bool is_planted = file && fprintf(file, "%d\n", fault) > 0;
 
-	if (!file || fprintf(file, "%d\n", fault) < 0)
+	/* what is written may go to Linux only as the file is closed */
+	if (file && fclose(file))
+		is_planted = false;
+	if (!is_planted)
 		say("FAULT: nothing is planted");
-	if (file)
-		fclose(file);
 }

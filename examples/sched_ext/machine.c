@@ -2,6 +2,7 @@
 #define _GNU_SOURCE
 #include "machine.h"
 
+#include <errno.h>
 #include <sched.h>
 #include <signal.h>
 #include <stdarg.h>
@@ -110,16 +111,20 @@ void end_child(pid_t child)
 	if (child <= 0)
 		return;
 	kill(child, SIGKILL);
-	while (waitpid(child, NULL, 0) < 0)
+	while (waitpid(child, NULL, 0) < 0 && errno == EINTR)
 		;
 }
 
+/* run.sh looks for this line: where the machine comes to no end after it, that is a fault. */
 static void do_load(int number)
 {
 	const char *parameters = getenv("module");
 
 	(void)number;
-	say(load(parameters ? parameters : "") ? "the scheduler is loaded" : "FAULT: the scheduler isn't loaded");
+	if (load(parameters ? parameters : ""))
+		say("the scheduler is loaded");
+	else
+		say("FAULT: the scheduler isn't loaded");
 }
 
 static void do_unload(int number)
@@ -131,13 +136,15 @@ static void do_unload(int number)
 static void do_load_plain(int number)
 {
 	(void)number;
-	say(load_plain() ? "the plain scheduler is loaded" : "FAULT: the plain scheduler isn't loaded");
+	say("%s", load_plain() ? "the plain scheduler is loaded" :
+				 "FAULT: the plain scheduler isn't loaded");
 }
 
 static void do_unload_plain(int number)
 {
 	(void)number;
-	say(unload_plain() ? "the plain scheduler has ended" : "FAULT: the plain scheduler hasn't ended");
+	say("%s", unload_plain() ? "the plain scheduler has ended" :
+				   "FAULT: the plain scheduler hasn't ended");
 }
 
 static void do_hunt(int number)
@@ -160,9 +167,18 @@ static const struct {
 	const char *name;
 	void (*action)(int number);
 } actions[] = {
-	{ "load", do_load }, { "unload", do_unload }, { "load_plain", do_load_plain }, { "unload_plain", do_unload_plain },
-	{ "shares", measure_shares }, { "naps", measure_naps }, { "hunt", do_hunt }, { "cpus", do_cpus },
-	{ "forks", do_forks }, { "fault", try_fault }, { "plant", plant }, { "real_time", spin_in_real_time },
+	{ "load", do_load },
+	{ "unload", do_unload },
+	{ "load_plain", do_load_plain },
+	{ "unload_plain", do_unload_plain },
+	{ "shares", measure_shares },
+	{ "naps", measure_naps },
+	{ "hunt", do_hunt },
+	{ "cpus", do_cpus },
+	{ "forks", do_forks },
+	{ "fault", try_fault },
+	{ "plant", plant },
+	{ "real_time", spin_in_real_time },
 };
 
 /* A word is a name, and a number behind "=". */
@@ -172,7 +188,9 @@ static void do_word(const char *word)
 	int number = word[length] ? atoi(word + length + 1) : 0;
 
 	for (size_t at = 0; at < sizeof actions / sizeof actions[0]; at++) {
-		if (strlen(actions[at].name) == length && !strncmp(actions[at].name, word, length)) {
+		const char *name = actions[at].name;
+
+		if (strlen(name) == length && !strncmp(name, word, length)) {
 			actions[at].action(number);
 			return;
 		}

@@ -1,4 +1,4 @@
-/* measures.c: shares of tasks that compute, how late one is that sleeps, and what one has that naps. */
+/* measures.c: the shares of tasks that compute and of some that nap, and how late one wakes. */
 #define _GNU_SOURCE
 #include "machine.h"
 
@@ -39,7 +39,7 @@ static int compare(const void *one, const void *other)
 	return (a > b) - (a < b);
 }
 
-/* How late, in microseconds: of half the wakes, of 9 of 10, of 99 of 100, and of all, no more than so much. */
+/* How late in microseconds at most: half the wakes, 9 of 10, 99 of 100, and all. */
 static void say_lateness(const char *name, struct lateness *lateness)
 {
 	int count = lateness->count;
@@ -50,8 +50,8 @@ static void say_lateness(const char *name, struct lateness *lateness)
 		return;
 	}
 	qsort(late, (size_t)count, sizeof *late, compare);
-	say("%s: %s: %d wakes, late by at most %lld %lld %lld %lld us", name_of_class(), name, count,
-	    (long long)late[count / 2] / 1000, (long long)late[count * 9 / 10] / 1000,
+	say("%s: %s: %d wakes, late by at most %lld %lld %lld %lld us", name_of_class(), name,
+	    count, (long long)late[count / 2] / 1000, (long long)late[count * 9 / 10] / 1000,
 	    (long long)late[count * 99 / 100] / 1000, (long long)late[count - 1] / 1000);
 }
 
@@ -66,7 +66,8 @@ static void say_parts(const char *name, const pid_t *children, const int64_t *be
 		all += had[at];
 	}
 	for (int at = 0; at < count; at++)
-		length += (size_t)snprintf(text + length, sizeof text - length, " %.2f", 100.0 * (double)had[at] / (double)all);
+		length += (size_t)snprintf(text + length, sizeof text - length, " %.2f",
+					   100.0 * (double)had[at] / (double)all);
 	say("%s: %s:%s %%", name_of_class(), name, text);
 }
 
@@ -96,7 +97,10 @@ void measure_shares(int seconds)
 	say_lateness("the sleeper", lateness);
 }
 
-/* So many that run for a while, sleep for an instant and go on, beside so many that never sleep. What all of the former had. */
+/*
+ * So many that run for a while, sleep for a microsecond and go on, beside so many that never sleep.
+ * What all of the former had.
+ */
 static void measure_napping(int nappers, int64_t run_ns, int others, int seconds)
 {
 	enum { MOST = 16 };
@@ -126,8 +130,9 @@ static void measure_napping(int nappers, int64_t run_ns, int others, int seconds
 	}
 	for (int at = 0; at < count; at++)
 		end_child(children[at]);
-	say("%s: %d that nap, after %lld us each, beside %d: %.2f %%, where %.2f is theirs", name_of_class(), nappers, (long long)run_ns / 1000,
-	    others, 100.0 * (double)napped / (double)all, 100.0 * nappers / count);
+	say("%s: naps: %d after %lld us each, beside %d: %.2f %%, where %.2f is theirs",
+	    name_of_class(), nappers, (long long)run_ns / 1000, others,
+	    100.0 * (double)napped / (double)all, 100.0 * nappers / count);
 }
 
 void measure_naps(int seconds)
