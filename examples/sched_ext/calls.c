@@ -93,8 +93,8 @@ s64 fail(struct cpu_queue *queue, enum call call, u64 task, s64 answer)
 }
 
 /*
- * Refusals of a good run: nobody is there to run or to be pulled, a pull would bring no loads
- * closer, and a task has yielded so often that its deadline would leave the range.
+ * Refusals of a good run: nobody is there to run or to be pulled, or needs a timer, a pull would
+ * bring no loads closer, and a task has yielded so often that its deadline would leave the range.
  */
 static bool is_good(enum call call, s64 answer)
 {
