@@ -12,7 +12,7 @@
 #   fault=1, fault=2   a planted fault: a task that is lost as it wakes, a call that fails
 #   real_time=SECONDS  tasks of real time that spin
 #   plant=3, plant=4   waits where other CPUs may come between, and no second look at what they have changed
-#   plant=5            numbers of tasks that end aren't free again: a fault that is found as the module is unloaded
+#   plant=5            what tasks have that end isn't given back: a fault that is found as the module is unloaded
 # Prints what the machine says. Ends with 1 where that has a fault, or where the scheduler was loaded and the machine came to no end, with
 # 3 where something is missing, and with 124 where qemu takes too long before the scheduler is loaded.
 # CPUS says how many the machine has (1), WORDS the module's parameters, TRACE a file where the trace of all calls goes, for replay.py.

@@ -12,7 +12,7 @@
 /*
  * A planted fault: 1 loses tasks that are named "lost" as they wake, and 2 makes a call that has to
  * fail. 3 waits before and after the second look at a task that comes from another CPU, and 4 waits
- * and doesn't look. 5 keeps the numbers of tasks that end.
+ * and doesn't look. 5 keeps what tasks have that end, or go to another class of Linux's.
  */
 int planted;
 module_param(planted, int, 0644);
@@ -57,7 +57,7 @@ void leave(struct task_struct *linux_task)
 {
 	struct task *task = task_of(linux_task);
 
-	if (task)
+	if (task && planted != 5)
 		give_block(take_out(task));
 }
 
