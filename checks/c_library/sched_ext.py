@@ -36,7 +36,7 @@ class Machine:
 
 
 ONE = Machine(1, ("load", "fault=1", "unload", "load", "fault=2", "unload", "load", "forks", "shares=4", "unload"))
-TWO = Machine(2, ("load", "shares=4", "hunt=6", "unload"))
+TWO = Machine(2, ("load", "shares=4", "hunt=4", "unload"))
 # With a wait on both sides of the second look at a task's CPUs, and without that look.
 FOUR = Machine(4, ("load", "plant=3", "cpus=2", "unload", "load", "plant=4", "cpus=2", "unload"))
 

@@ -22,6 +22,7 @@ static struct hunted {
 	volatile int64_t longest_ns[HUNTED];	/* the most from one step to the next */
 	int pipes[HUNTED][2];
 	bool only_cpus;	/* they compute, sleep, and change each other's CPUs, and do nothing else */
+	volatile bool is_over;	/* they mostly sleep, so that whoever still waits has its turn */
 } *hunted;
 
 static uint64_t drawn(uint64_t *word, uint64_t below)
@@ -125,7 +126,10 @@ static _Noreturn void be_hunted(int number)
 	for (;;) {
 		int64_t now;
 
-		take_step(number, &word);
+		if (hunted->is_over)
+			sleep_ns(50 * MILLISECOND);
+		else
+			take_step(number, &word);
 		now = now_ns();
 		if (now - before > hunted->longest_ns[number])
 			hunted->longest_ns[number] = now - before;
@@ -171,8 +175,8 @@ static int count_still(void)
 }
 
 /*
- * A task of nice level 19 beside heavy ones may wait for some time. One that waits for longer than
- * Linux's watchdog lets it isn't told from one that is lost.
+ * A task of nice level 19 may rightly wait for long beside heavy ones, and Linux's watchdog doesn't
+ * know that. So hunts are shorter than it allows.
  */
 void hunt(int seconds, bool only_cpus)
 {
@@ -183,6 +187,7 @@ void hunt(int seconds, bool only_cpus)
 
 	begin_hunted(only_cpus);
 	sleep_ns((int64_t)seconds * SECOND);
+	hunted->is_over = true;
 	still = count_still();
 	name = name_of_class();
 	for (int at = 0; at < HUNTED; at++) {

@@ -6,7 +6,7 @@
 #   shares=SECONDS     shares of four hogs beside a task that sleeps, and how late that wakes
 #   naps=SECONDS       what those have that nap: one after 4 ms each beside seven that compute, two after 2 ms beside one, and two after
 #                      0.5 ms beside one, for so long each
-#   hunt=SECONDS       a hunt for a task that stands still
+#   hunt=SECONDS       a hunt for a task that stands still, of less than 5 s: Linux's watchdog allows no longer waits
 #   cpus=SECONDS       the same among tasks that change each other's CPUs
 #   forks              forks until one is refused
 #   fault=1, fault=2   a planted fault: a task that is lost as it wakes, a call that fails
