@@ -14,12 +14,14 @@ HERE = Path(__file__).resolve().parent
 sys.path[:0] = [str(HERE), str(HERE.parent)]
 
 from document import read  # noqa: E402
-from drawing import draw  # noqa: E402
+from drawing import LONG_REQUEST, draw  # noqa: E402
 from faulty import faulty  # noqa: E402
 from figures import figure_lines  # noqa: E402
-from hostile import HOSTILE  # noqa: E402
+from hostile import HOSTILE, MANY_DEEDS, ROWS_OF_MANY  # noqa: E402
+from moments import fall_of, moment_of  # noqa: E402
 from runner import TOP, Checks, Printed, built  # noqa: E402
-from script import MOST_DEEDS, run_lines, script_lines  # noqa: E402
+from script import MOST_BYTES, MOST_DEEDS, run_lines, script_lines  # noqa: E402
+from words import check_words  # noqa: E402
 
 # At least so many workloads are drawn.
 LEAST = 10
@@ -77,7 +79,7 @@ def difference(programs, text):
         return f"is answered {scripted.errors!r}, {run.errors!r} and {figures.errors!r}", 0
     expected = list(run_lines(plan))
     differs = (first_difference(lines_of(run), expected) or first_difference(lines_of(scripted), list(script_lines(plan)))
-               or first_difference(lines_of(figures), list(figure_lines(plan))))
+               or first_difference(lines_of(figures), list(figure_lines(plan))) or fall_of(lines_of(run)))
     solo = programs.run("eevdf", ["solo"], scripted.out)
     if not differs and (solo.status or reported_by_cpu(lines_of(solo)) != answers_by_cpu(expected)):
         differs = "`eevdf solo` gives other answers"
@@ -91,6 +93,11 @@ def check_examples(checks, programs):
         if not differs and figures != Printed(file.with_suffix(".out").read_bytes()):
             differs = f"has the figures {figures}"
         checks.look(f"{file.name}, {deeds} deeds", differs)
+
+
+def check_long_request(checks, programs):
+    differs, deeds = difference(programs, LONG_REQUEST)
+    checks.look(f"more than a second of a request is left, {deeds} deeds", differs)
 
 
 def check_drawn(checks, programs, words):
@@ -117,29 +124,38 @@ def check_faults(checks, programs):
     checks.look("faulty workloads", "; ".join(wrong))
 
 
-def check_words(checks, programs):
-    usage = b"usage: eevdf_phases [--run|--stats] [FILE]\n"
-    for words in (["--rum"], ["a", "b"], ["--run", "--run"], ["--run", "--stats"], [""]):
-        printed = programs.run("eevdf_phases", words)
-        checks.expect(f"words {words}", printed, printed.status == 2 and not printed.out and printed.errors == usage)
-    helped = programs.run("eevdf_phases", ["--help"])
-    checks.expect("--help", helped, helped.status == 0 and usage.strip() in helped.out)
-    missing = programs.run("eevdf_phases", ["no-such-file"])
-    checks.expect("no such file", missing, missing.status == 3 and missing.errors == b"fault: reading\n")
-    with open("/dev/full", "w") as full:
-        text = (TOP / "examples" / "phases" / "web-server.toml").read_bytes()
-        printed = programs.run("eevdf_phases", [], text, stdout=full)
-    checks.expect("a full device", printed, printed.status == 3 and printed.errors == b"fault: writing\n")
-
-
 def check_hostile(checks, programs):
     for name, (text, status, error) in HOSTILE.items():
         printed = programs.run("eevdf_phases", [], text.encode(), limits={resource.RLIMIT_AS: MEMORY})
-        is_right = printed.status == status and printed.errors.startswith(error) and printed.out.count(b'"') <= 2 * MOST_DEEDS
+        is_within = printed.out.count(b'"') <= 2 * MOST_DEEDS and len(printed.out) <= MOST_BYTES
+        is_right = printed.status == status and printed.errors == error and is_within
         if printed.processor > SECONDS:
             checks.look(name, f"takes {printed.processor:.1f} s")
         else:
             checks.look(name, None if is_right else f"status {printed.status}, {printed.errors!r}", f"{printed.processor:.1f} s")
+
+
+def check_full_size(checks, programs):
+    """`eevdf solo` takes a script of the greatest length, which has no room for another deed."""
+    text, _status, error = HOSTILE["a timer of 1 ns"]
+    scripted = programs.run("eevdf_phases", [], text.encode())
+    longest = max(map(len, scripted.out.splitlines(keepends=True)))
+    is_full = MOST_BYTES - 2 * longest <= len(scripted.out) <= MOST_BYTES
+    checks.look("a script of full size", None if is_full and scripted.errors == error else f"{len(scripted.out)} bytes, {scripted.errors}")
+    solo = programs.run("eevdf", ["solo"], scripted.out)
+    is_done = solo.status == 0 and solo.out.count(b"\n") >= scripted.out.count(b'"') // 2
+    checks.look("`eevdf solo` of it", None if is_done else f"status {solo.status}, {solo.out[:200]!r}")
+
+
+def check_many_deeds(checks, programs):
+    """There may be more deeds than a script has where none is written."""
+    text = MANY_DEEDS.encode()
+    figures, answers = (programs.run("eevdf_phases", [flag], text) for flag in ("--stats", "--run"))
+    is_right = figures.status == 0 and lines_of(figures)[1:] == ROWS_OF_MANY
+    checks.look("--stats of many deeds", None if is_right else f"{figures}")
+    lines = lines_of(answers)
+    is_right = answers.status == 0 and len(lines) > MOST_DEEDS and moment_of(lines[-1].split(" ", 1)[0]) == 400000000
+    checks.look("--run of many deeds", fall_of(lines) if is_right else f"status {answers.status}, {len(lines)} lines, {lines[-1:]}")
 
 
 def main():
@@ -147,10 +163,13 @@ def main():
     programs = built("eevdf", "eevdf_phases")
     checks = Checks()
     check_examples(checks, programs)
+    check_long_request(checks, programs)
     check_drawn(checks, programs, words)
     check_faults(checks, programs)
     check_words(checks, programs)
     check_hostile(checks, programs)
+    check_full_size(checks, programs)
+    check_many_deeds(checks, programs)
     return checks.end()
 
 

@@ -1,5 +1,23 @@
 """Draws workloads of phases."""
 
+# A task has two seconds of its request left when it runs for four, beside a CPU that does something each 300 ms.
+LONG_REQUEST = '''version = 1
+[machine]
+cpus = 2
+lasts = "9s"
+pull = false
+[[task]]
+name = "yields"
+count = 2
+home = 0
+slice = "100ms"
+phases = [{ loop = 20, phases = ["yield", { run = "1us" }] }, { run = "4s" }]
+[[task]]
+name = "beside"
+home = 1
+phases = [{ run = "300ms" }, { sleep = "300ms" }]
+'''
+
 LENGTHS = ["37us", "100us", "250us", "1ms", "1500us", "2ms", "3ms", "7ms", "999999ns"]
 RANGES = ["100us..900us", "1ms..4ms", "1ns..2ms", "3ms..3ms"]
 
@@ -43,15 +61,36 @@ def task(random, name, names, cpus):
     if random.random() < 0.5:
         lines.append(f"nice = {random.randint(-20, 19)}")
     if random.random() < 0.3:
-        lines.append(f'slice = "{random.choice(["100us", "500us", "1ms", "10ms"])}"')
+        lines.append(f'slice = "{random.choice(["100us", "500us", "1ms", "10ms", "100ms"])}"')
     if random.random() < 0.2:
         lines.append(f'begins = "{random.choice(LENGTHS)}"')
     lines.append(f"phases = [{phases(random, names)}]")
     return lines
 
 
+def draw_long(random):
+    """The text of a workload whose tasks yield so often that more than a second of a request is left, beside tasks of other CPUs."""
+    cpus = random.randint(1, 3)
+    lines = ["version = 1", f"seed = {random.randrange(1 << 63)}", "[machine]", f"cpus = {cpus}", 'lasts = "9s"']
+    if random.random() < 0.3:
+        lines.append('preempt = "tick"')
+    if random.random() < 0.2:
+        lines.append('tick = "1700ms"')
+    if random.random() < 0.7:
+        lines.append("pull = false")
+    loop = random.randint(10, 40)
+    for name in ("yields", "rests")[:random.randint(1, 2)]:
+        yields = f'{{ loop = {loop}, phases = ["yield", {{ run = "1us" }}] }}'
+        lines += ["[[task]]", f'name = "{name}"', f"count = {random.randint(2, 3)}", "home = 0", 'slice = "100ms"',
+                  f"nice = {random.randint(-20, 19)}", f'phases = [{yields}, {{ run = "2s..6s" }}]']
+    lines += ["[[task]]", 'name = "beside"', f"count = {cpus}", 'phases = [{ run = "10ms..90ms" }, { sleep = "10ms..900ms" }]']
+    return "\n".join(lines) + "\n"
+
+
 def draw(random):
     """The text of a workload of phases without a fault."""
+    if random.random() < 0.1:
+        return draw_long(random)
     cpus = random.choice([1, 1, 2, 2, 3, 4, 7])
     names = [f"t{number}" for number in range(random.randint(1, 5))]
     lines = ["version = 1", f"seed = {random.randrange(1 << 63)}", "[machine]", f"cpus = {cpus}",

@@ -15,6 +15,8 @@ phases = [{ sleep = "1ms" }]
 LENGTH = 'a length of time, as "3ms", of 1ns to 1000000s'
 LENGTH_OR_RANGE = 'a length of time, as "3ms", or a range, as "2ms..5ms", of 1ns to 1000000s'
 RUN = '{ run = "1ms" }'
+NAME = "a text of 1 to 64 letters, digits, - and _, and not - alone"
+NO_TIME = "a list of phases without run, sleep, timer or end takes no time"
 
 # (what is replaced, by what, the line)
 FAULTS = [
@@ -43,8 +45,12 @@ FAULTS = [
     ('lasts = "10ms"', 'lasts = "10ms"\npull = 1', "machine: bad value of pull, which is true or false"),
     ('lasts = "10ms"', 'lasts = "10ms"\npreempt = "wake"', 'machine: bad value of preempt, which is "wakeup" or "tick"'),
     ('name = "a"', "", "task 0: missing name"),
-    ('name = "a"', 'name = ""', "task 0: bad value of name, which is a text of 1 to 64 letters, digits, -, _ and ."),
-    ('name = "a"', 'name = "a\\n"', "task 0: bad value of name, which is a text of 1 to 64 letters, digits, -, _ and ."),
+    ('name = "a"', 'name = ""', f"task 0: bad value of name, which is {NAME}"),
+    ('name = "a"', 'name = "a\\n"', f"task 0: bad value of name, which is {NAME}"),
+    ('name = "a"', 'name = "b.0"', f"task 0: bad value of name, which is {NAME}"),
+    ('name = "a"', 'name = "-"', f"task 0: bad value of name, which is {NAME}"),
+    ('name = "a"', f'name = "{"a" * 65}"', f"task 0: bad value of name, which is {NAME}"),
+    (f'phases = [{RUN}]\n[[task]]\nname = "b"', '[[task]]\nname = "a"', 'task 1: another task has the name "a"'),
     ('name = "b"', 'name = "a"', 'task 1: another task has the name "a"'),
     ('name = "b"', 'name = "b"\ncount = 0', "task 1: bad value of count, which is a number from 1 to 1024"),
     ('name = "b"', 'name = "b"\ncount = 1000000', "task 1: bad value of count, which is a number from 1 to 1024"),
@@ -72,8 +78,8 @@ FAULTS = [
     (RUN, f"{RUN}, {{ nice = -21 }}", "task 0, phase 1: bad value of nice, which is a number from -20 to 19"),
     (RUN, f'{RUN}, {{ resume = "c" }}', 'task 0, phase 1: no task has the name "c"'),
     (RUN, f"{RUN}, {{ resume = 1 }}", "task 0, phase 1: bad value of resume, which is the name of a task"),
-    (RUN, '"yield"', "task 0: a loop without run, sleep or timer takes no time"),
-    (RUN, f'{RUN}, {{ loop = 2, phases = ["yield"] }}', "task 0, phase 1: a loop without run, sleep or timer takes no time"),
+    (RUN, '"yield"', f"task 0: {NO_TIME}"),
+    (RUN, f'{RUN}, {{ loop = 2, phases = ["yield"] }}', f"task 0, phase 1: {NO_TIME}"),
     (RUN, f"{{ loop = 0, phases = [{RUN}] }}", "task 0, phase 0: bad value of loop, which is a number from 1 to 1000000000"),
     (RUN, "{ loop = 2 }", "task 0, phase 0: missing phases"),
     (RUN, f"{{ loop = 2, phases = [{RUN}], run = 1 }}", 'task 0, phase 0: unknown key "run"'),

@@ -5,23 +5,27 @@ def workload(machine, *tasks):
     return f"version = 1\n[machine]\n{machine}\n" + "".join(f"[[task]]\n{task}\n" for task in tasks)
 
 
-TOO_MANY_DEEDS = b"fault: more than 640000 deeds"
+TOO_LONG = b"fault: script longer than 16777216 bytes; these are the first deeds\n"
 LOOPS = "{ loop = 1000000000, phases = [" * 8 + '{ run = "1ns" }, "yield"' + "] }" * 8
 PING = 'name = "ping"\nphases = [{ resume = "pong" }, "suspend", { run = "1ns" }]'
 PONG = 'name = "pong"\nphases = [{ resume = "ping" }, "suspend", { run = "1ns" }]'
 
 HOSTILE = {
-    "a timer of 1 ns": (workload('lasts = "1000000s"', 'name = "a"\nphases = [{ timer = "1ns" }]'), 1, TOO_MANY_DEEDS),
+    "a timer of 1 ns": (workload('lasts = "1000000s"', 'name = "a"\nphases = [{ timer = "1ns" }]'), 1, TOO_LONG),
     "runs of 1 ns": (workload('lasts = "1000000s"', 'name = "a"\ncount = 2\nphases = [{ run = "1ns" }, { sleep = "1ns" }]'), 1,
-                     TOO_MANY_DEEDS),
-    "loops in loops": (workload('lasts = "1000000s"', f'name = "a"\nphases = [{LOOPS}]'), 1, TOO_MANY_DEEDS),
-    "a clock of 1 ns": (workload('lasts = "1s"\ntick = "1ns"', 'name = "a"\nphases = [{ run = "1s" }]'), 1, TOO_MANY_DEEDS),
-    "tasks that wake one another": (workload('lasts = "1000000s"', PING, PONG), 1, TOO_MANY_DEEDS),
+                     TOO_LONG),
+    "loops in loops": (workload('lasts = "1000000s"', f'name = "a"\nphases = [{LOOPS}]'), 1, TOO_LONG),
+    "a clock of 1 ns": (workload('lasts = "1s"\ntick = "1ns"', 'name = "a"\nphases = [{ run = "1s" }]'), 1, TOO_LONG),
+    "tasks that wake one another": (workload('lasts = "1000000s"', PING, PONG), 1, TOO_LONG),
     "1024 tasks on 64 CPUs": (workload('cpus = 64\nlasts = "1000000s"',
                                        'name = "a"\ncount = 1024\nphases = [{ run = "1us..90us" }, { sleep = "1us..90us" }]'), 1,
-                              TOO_MANY_DEEDS),
+                              TOO_LONG),
     "the longest time": (workload('lasts = "1000000s"', 'name = "a"\nphases = [{ sleep = "1000000s" }, { timer = "1000000s" }]'), 1,
-                         TOO_MANY_DEEDS),
+                         TOO_LONG),
     "out of range": (workload('lasts = "1000000s"\ntick = "1000000s"', 'name = "a"\nnice = 19\nphases = [{ run = "1000000s" }]'), 1,
-                     TOO_MANY_DEEDS),
+                     TOO_LONG),
 }
+
+# It has 6 deeds in each 2 us.
+MANY_DEEDS = workload('lasts = "400ms"', 'name = "a"\nphases = [{ run = "1us" }, { sleep = "1us" }]')
+ROWS_OF_MANY = ["a: 200000000, 50.00 %; 200000, 0, 0; 200000; 0"]

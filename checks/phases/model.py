@@ -98,8 +98,7 @@ class Machine:
             moments.append((cpu.heard // self.plan.tick + 1) * self.plan.tick)
         elif self.has_others(number):
             left = self.queues[number].time_to_resched()
-            if left is not None:
-                moments.append(cpu.charged + left)
+            moments.append(cpu.charged + (LONGEST_TICK if left is None else left))
         return min(moments)
 
     def deeds(self):

@@ -2,6 +2,7 @@
 
 from model import Machine
 
+MOST_BYTES = 16777216
 MOST_DEEDS = 640000
 
 

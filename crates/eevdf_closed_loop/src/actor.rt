@@ -1,11 +1,9 @@
 //! A task, and where it stands in its phases.
 
 use crate::draws::Draws;
+use crate::phase::Phase;
 use eevdf_ops::CpuId;
 use eevdf_queue::TaskId;
-
-/// How deep loops stand in one another at most.
-pub(crate) const DEPTHS: usize = 8;
 
 /// Whether a task may run, and what it waits for.
 #[derive(Clone, Copy, PartialEq, Eq, Debug)]
@@ -33,7 +31,7 @@ pub(crate) struct Actor {
     /// The moment at which it began.
     pub begun: u64,
     /// How many rounds of each loop, by depth, it has gone through.
-    pub rounds: [u64; DEPTHS],
+    pub rounds: [u64; Phase::DEPTHS],
     pub draws: Draws,
 }
 

@@ -1,32 +1,22 @@
-//! Numbers drawn from a seed: splitmix64.
+//! Lengths of time drawn from a seed, by the words of splitmix64.
 
 use crate::phase::Span;
+use rand_core::{Rng, SeedableRng};
+use rand_xoshiro::SplitMix64;
 
-/// By what the state grows with each word.
-const STEP: u64 = 0x9E37_79B9_7F4A_7C15;
-
-/// A generator of words, splitmix64.
-#[derive(Clone, Copy, PartialEq, Eq, Debug)]
-pub struct Draws {
-    state: u64,
+/// From what the lengths of time of a task are drawn.
+#[derive(Drop)]
+pub(crate) struct Draws {
+    words: SplitMix64,
 }
 
 impl Draws {
-    /// The generator of a task: it begins at the seed, changed by the first word of the generator that begins at the task's number.
+    /// The words of a task: they begin at the seed, changed by the first of the words that begin at the task's number.
     pub fn of_task(seed: u64, number: u64) -> Draws {
-        let mut numbered = Draws { state: number };
+        let first = SplitMix64::seed_from_u64(number).next_u64();
         Draws {
-            state: seed ^ numbered.word(),
+            words: SplitMix64::seed_from_u64(seed ^ first),
         }
-    }
-
-    /// The next word.
-    pub fn word(&mut self) -> u64 {
-        self.state = self.state.wrapping_add(STEP);
-        let word = self.state;
-        let word = (word ^ (word >> 30)).wrapping_mul(0xBF58_476D_1CE4_E5B9);
-        let word = (word ^ (word >> 27)).wrapping_mul(0x94D0_49BB_1331_11EB);
-        word ^ (word >> 31)
     }
 
     /// A length of time within a span. A span of one length takes no word.
@@ -35,7 +25,7 @@ impl Draws {
         if room == 0 {
             return span.least;
         }
-        match self.word().checked_rem(room.saturating_add(1)) {
+        match self.words.next_u64().checked_rem(room.saturating_add(1)) {
             Some(more) => span.least.saturating_add(more),
             None => span.least,
         }

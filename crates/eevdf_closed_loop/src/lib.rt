@@ -13,11 +13,11 @@ mod phases_on;
 mod plan;
 mod processor;
 mod schedule;
+mod stop;
 mod turns;
 
 pub use closed_loop::ClosedLoop;
-pub use draws::Draws;
 pub use opening::{OpenFault, setup_of};
 pub use phase::{Phase, Span};
 pub use plan::{Group, Plan, Preempt};
-pub use schedule::Stop;
+pub use stop::Stop;

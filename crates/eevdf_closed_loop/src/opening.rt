@@ -1,7 +1,11 @@
 //! The machine and the tasks of a plan at the start.
 
-use crate::actor::{Actor, Condition, DEPTHS};
+ghost use Rattle.std.specs.Prelude.{◌≡◌, ◌≤◌, length, IfOk};
+ghost use Rattle.eevdf_ops.specs.Setup.{cpus_of};
+
+use crate::actor::{Actor, Condition};
 use crate::draws::Draws;
+use crate::phase::Phase;
 use crate::plan::{Group, Plan};
 use crate::processor::Processor;
 use eevdf_ops::{CpuId, Op, Setup, SetupFault, TaskSpec};
@@ -17,8 +21,12 @@ pub enum OpenFault {
     BadCpus,
     /// The groups have no task, or more than `TaskId::COUNT`.
     BadTasks,
-    /// The home of the tasks of this group is no CPU.
+    /// The home of the tasks of the group at this place is no CPU.
     BadHome(usize),
+    /// The group at this place has no phases.
+    NoPhases(usize),
+    /// A phase of the group at this place resumes no group, or is the end of a loop that begins behind it or stands too deep.
+    BadPhase(usize),
 }
 
 impl From<AllocError> for OpenFault {
@@ -28,23 +36,61 @@ impl From<AllocError> for OpenFault {
 }
 
 /// The setup of a plan: its tasks by group, each asleep that begins later than at 0, and a program without operations for each CPU.
-pub fn setup_of(alloc: Global, plan: &Plan) -> Result<Setup, OpenFault> {
-    let mut tasks = Vec::new(alloc);
-    for (place, group) in plan.groups.iter().enumerate() {
-        push_tasks(&mut tasks, place, group, plan.cpus)?;
-    }
-    let mut programs: Vec<Vec<Op>> = Vec::new(alloc);
-    if plan.cpus > CpuId::COUNT {
+pub fn setup_of(alloc: Global, plan: &Plan) -> Result<Setup, OpenFault>
+    ensures cpus { IfOk result (λ setup. cpus_of setup ≡ plan.now.cpus) }
+    ensures tasks { IfOk result (λ setup. 1 ≤ length setup.tasks) }
+{
+    if plan.cpus == 0 || plan.cpus > CpuId::COUNT {
         return Err(OpenFault::BadCpus);
     }
-    for _cpu in 0..plan.cpus {
-        programs.push(Vec::new(alloc)).map_err(AllocError::from)?;
+    let mut tasks = Vec::new(alloc);
+    for (place, group) in plan.groups.iter().enumerate() {
+        well_formed(group, place, plan.groups.len())?;
+        push_tasks(&mut tasks, place, group, plan.cpus)?;
     }
+    let programs = no_programs(alloc, plan.cpus)?;
     match Setup::make(alloc, &tasks, &programs) {
         Ok(setup) => Ok(setup),
         Err(SetupFault::Memory) => Err(OpenFault::Memory),
         Err(SetupFault::BadCpus) => Err(OpenFault::BadCpus),
         Err(_) => Err(OpenFault::BadTasks),
+    }
+}
+
+/// A program without operations for each of so many CPUs.
+fn no_programs(alloc: Global, cpus: usize) -> Result<Vec<Vec<Op>>, AllocError>
+    ensures { IfOk result (λ programs. length programs.items ≡ cpus) }
+{
+    let mut programs = Vec::with_capacity(alloc, cpus)?;
+    while programs.len() < cpus {
+        programs.push(Vec::new(alloc))?;
+    }
+    Ok(programs)
+}
+
+/// A fault where the group at a place has no phases, or one that can't be gone through where there are so many groups.
+fn well_formed(group: &Group, place: usize, groups: usize) -> Result<(), OpenFault> {
+    if group.phases.is_empty() {
+        return Err(OpenFault::NoPhases(place));
+    }
+    for (at, phase) in group.phases.iter().enumerate() {
+        if !can_be_gone_through(*phase, at, groups) {
+            return Err(OpenFault::BadPhase(place));
+        }
+    }
+    Ok(())
+}
+
+/// Whether a phase that stands at a place can be gone through where there are so many groups.
+fn can_be_gone_through(phase: Phase, at: usize, groups: usize) -> bool {
+    match phase {
+        Phase::Resume(resumed) => resumed < groups,
+        Phase::Again {
+            first,
+            depth,
+            rounds: _,
+        } => first <= at && depth < Phase::DEPTHS,
+        _ => true,
     }
 }
 
@@ -129,7 +175,7 @@ fn push_actors(
             at: 0,
             left: 0,
             begun: group.begins,
-            rounds: [0; DEPTHS],
+            rounds: [0; Phase::DEPTHS],
             draws: Draws::of_task(seed, number),
         })?;
     }

@@ -27,7 +27,7 @@ pub enum Phase {
     /// It gets this nice level.
     Nice(Nice),
     /// The end of a loop: back to the phase at the place `first` until the loop has been gone through so many times. A loop at depth 0
-    /// stands in no other.
+    /// stands in no other, and the depth is below `Phase::DEPTHS`.
     Again {
         first: usize,
         depth: usize,
@@ -35,4 +35,9 @@ pub enum Phase {
     },
     /// It ends.
     End,
+}
+
+impl Phase {
+    /// So deep loops stand in one another at most.
+    pub const DEPTHS: usize = 8;
 }

@@ -3,7 +3,8 @@
 use crate::actor::Condition;
 use crate::phase::Phase;
 use crate::processor::Picks;
-use crate::schedule::{Schedule, Stop};
+use crate::schedule::Schedule;
+use crate::stop::Stop;
 use eevdf_ops::{CpuId, Deed};
 use eevdf_queue::TaskId;
 
@@ -23,19 +24,18 @@ enum Step {
 
 impl Schedule {
     /// The deed of the task that runs on a CPU, where it has run for as long as it had to. `None` where it runs on.
-    pub fn go_on(&mut self, place: usize, running: usize) -> Option<Deed> {
+    pub fn go_on(&mut self, place: usize, running: usize) -> Result<Option<Deed>, Stop> {
         for _phase in 0..MOST_PHASES {
-            match self.go_on_once(place, running)? {
-                Step::Done(deed) => return Some(deed),
-                Step::Runs => return None,
+            match self.go_on_once(place, running).ok_or(Stop::OtherSetup)? {
+                Step::Done(deed) => return Ok(Some(deed)),
+                Step::Runs => return Ok(None),
                 Step::Next => {}
             }
         }
-        self.stop = Some(Stop::Endless(running));
-        None
+        Err(Stop::Endless(running))
     }
 
-    /// What the next phase of the running task comes to.
+    /// What the next phase of the running task comes to. `None` where the plan has no such task, CPU, group or phase.
     fn go_on_once(&mut self, place: usize, running: usize) -> Option<Step> {
         let actor = self.actors.get_mut(running)?;
         if actor.left > 0 {

@@ -4,6 +4,7 @@ use crate::actor::{Actor, Condition};
 use crate::opening::{actors_of, processors_of};
 use crate::plan::{Plan, Preempt};
 use crate::processor::{NEVER, Picks, Processor};
+use crate::stop::Stop;
 use eevdf_ops::{Answer, CpuId, Deed, Line, Setup, Solo};
 use eevdf_queue::TaskId;
 use eevdf_weight::Ns;
@@ -11,15 +12,6 @@ use std::alloc::{AllocError, Global};
 
 /// How often what comes next is looked for before it is said that nothing does.
 const MOST_LOOKS: usize = 1_000_000;
-
-/// Why a machine can't be driven on.
-#[derive(Clone, Copy, PartialEq, Eq, Debug)]
-pub enum Stop {
-    /// A virtual time would leave its range, or a deed was answered as it can't be.
-    Refused,
-    /// The task of this number goes through phases without end that take no time.
-    Endless(usize),
-}
 
 /// The tasks with their phases, the CPUs and the clock.
 #[derive(Drop)]
@@ -33,7 +25,6 @@ pub(crate) struct Schedule {
     /// The least moment until which a task sleeps, and the place of the first such task.
     pub wakes_at: u64,
     pub wakes: usize,
-    pub stop: Option<Stop>,
 }
 
 impl Schedule {
@@ -53,15 +44,9 @@ impl Schedule {
             now: 0,
             wakes_at: NEVER,
             wakes: 0,
-            stop: None,
         };
         schedule.find_sleeper();
         Ok(schedule)
-    }
-
-    /// Why it can't go on.
-    pub fn stop(&self) -> Option<Stop> {
-        self.stop
     }
 
     /// What the machine is to do.
@@ -77,31 +62,25 @@ impl Schedule {
         }
     }
 
-    /// The next deed, if there is one.
-    pub fn next(&mut self, machine: &Solo) -> Option<Deed> {
-        if self.stop.is_some() {
-            return None;
-        }
+    /// The next deed, or why there is none.
+    pub fn next(&mut self, machine: &Solo) -> Result<Deed, Stop> {
         for _look in 0..MOST_LOOKS {
             let (place, moment) = self.first_processor();
             let moment = moment.min(self.wakes_at);
             if moment >= self.plan.lasts {
                 self.now = self.plan.lasts;
-                return self.last_charge();
+                return self.last_charge().ok_or(Stop::Ended);
             }
             self.now = moment;
             if self.wakes_at <= moment {
-                return self.wake_up();
+                return self.wake_up().ok_or(Stop::OtherSetup);
             }
-            if let Some(deed) = self.turn(machine, place) {
-                return Some(deed);
-            }
-            if self.stop.is_some() {
-                return None;
+            if let Some(deed) = self.turn(machine, place)? {
+                return Ok(deed);
             }
             self.plan_next(machine, place);
         }
-        None
+        Err(Stop::Stuck)
     }
 
     /// The place of the first CPU of those that do something next, and when it does it.
@@ -175,38 +154,36 @@ impl Schedule {
         }
     }
 
-    /// Learns what a deed was answered.
-    pub fn learn(&mut self, machine: &Solo, line: &Line) {
+    /// Learns what a deed was answered, and why the machine is driven no further, where that ends it.
+    pub fn learn(&mut self, machine: &Solo, line: &Line) -> Option<Stop> {
         let place = line.deed.cpu().index();
         let deed = line.deed;
-        match deed {
-            Deed::Tick { ns, .. } => self.has_ticked(machine, place, ns.get(), line.answer),
-            Deed::Pick { .. } => self.has_picked(place, line.answer),
-            Deed::Wake { .. } => self.has_woken(machine, place, line.answer),
-            Deed::Pull { source, .. } => {
-                self.has_pulled(place, line.answer);
-                self.plan_next(machine, source.index());
-            }
-            _ => self.has_done(line.answer),
-        }
+        let answer = line.answer;
+        let is_expected = match deed {
+            Deed::Tick { ns, .. } => self.has_ticked(machine, place, ns.get(), answer),
+            Deed::Pick { .. } => self.has_picked(place, answer),
+            Deed::Wake { .. } => self.has_woken(machine, place, answer),
+            Deed::Pull { source, .. } => self.has_pulled(machine, place, source.index(), answer),
+            _ => is_of_phase(answer),
+        };
         self.plan_next(machine, place);
+        if is_expected {
+            None
+        } else if answer == Answer::Range {
+            Some(Stop::Range)
+        } else {
+            Some(Stop::Unexpected(*line))
+        }
     }
 
     /// Time has been charged.
-    fn has_ticked(&mut self, machine: &Solo, place: usize, ns: u64, answer: Answer) {
+    fn has_ticked(&mut self, machine: &Solo, place: usize, ns: u64, answer: Answer) -> bool {
         match answer {
             Answer::Charged { resched, .. } => self.has_run(machine, place, ns, resched),
             Answer::Idle => self.has_idled(place, ns),
-            _ => self.stop = Some(Stop::Refused),
+            _ => return false,
         }
-    }
-
-    /// A deed has been done that is answered alike whatever else there is.
-    fn has_done(&mut self, answer: Answer) {
-        match answer {
-            Answer::Slept(_) | Answer::Yielded | Answer::Reniced | Answer::Ended => {}
-            _ => self.stop = Some(Stop::Refused),
-        }
+        true
     }
 
     /// The running task has been charged so much, and may have used up its request.
@@ -235,11 +212,13 @@ impl Schedule {
     }
 
     /// A CPU has picked.
-    fn has_picked(&mut self, place: usize, answer: Answer) {
+    fn has_picked(&mut self, place: usize, answer: Answer) -> bool {
         match answer {
             Answer::Picked(task) => self.has_next(place, task),
-            _ => self.has_none(place),
+            Answer::Idle => self.has_none(place),
+            _ => return false,
         }
+        true
     }
 
     /// A task has been picked.
@@ -264,19 +243,20 @@ impl Schedule {
     }
 
     /// A CPU has pulled. A task that it got from another one is to be picked.
-    fn has_pulled(&mut self, place: usize, answer: Answer) {
+    fn has_pulled(&mut self, machine: &Solo, place: usize, source: usize, answer: Answer) -> bool {
         if let Answer::Pulled(_) = answer {
             if let Some(processor) = self.processors.get_mut(place) {
                 processor.picks = Picks::Now;
             }
         }
+        self.plan_next(machine, source);
+        true
     }
 
     /// A task has woken. Where it is not alone there, the CPUs that have nothing to run look for work again.
-    fn has_woken(&mut self, machine: &Solo, place: usize, answer: Answer) {
+    fn has_woken(&mut self, machine: &Solo, place: usize, answer: Answer) -> bool {
         if answer != Answer::Woken {
-            self.stop = Some(Stop::Refused);
-            return;
+            return false;
         }
         let preempt = self.plan.preempt;
         if let Some(processor) = self.processors.get_mut(place) {
@@ -288,6 +268,7 @@ impl Schedule {
         if self.plan.pull && self.has_others(machine, place) {
             self.look_again();
         }
+        true
     }
 
     /// Each CPU that has nothing to run looks for work again.
@@ -299,4 +280,12 @@ impl Schedule {
             }
         }
     }
+}
+
+/// Whether a deed that a phase is has been done.
+fn is_of_phase(answer: Answer) -> bool {
+    matches!(
+        answer,
+        Answer::Slept(_) | Answer::Yielded | Answer::Reniced | Answer::Ended
+    )
 }

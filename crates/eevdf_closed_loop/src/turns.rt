@@ -1,37 +1,36 @@
 //! What a CPU does when it is its turn, and when that is.
 
-use crate::plan::Preempt;
 use crate::processor::{NEVER, Picks};
 use crate::schedule::Schedule;
+use crate::stop::Stop;
 use eevdf_ops::{CpuId, Deed, Solo};
 use eevdf_weight::Ns;
 
 impl Schedule {
     /// The next deed of a CPU at this moment. `None` where it has nothing more to do at it.
-    pub fn turn(&mut self, machine: &Solo, place: usize) -> Option<Deed> {
+    pub fn turn(&mut self, machine: &Solo, place: usize) -> Result<Option<Deed>, Stop> {
         if let Some(deed) = self.charge(place) {
-            return Some(deed);
+            return Ok(Some(deed));
         }
         self.hear_tick(place);
-        let processor = self.processors.get(place)?;
+        let processor = self.processors.get(place).ok_or(Stop::OtherSetup)?;
         let cpu = processor.id;
         if processor.picks == Picks::Now {
-            return Some(Deed::Pick { cpu });
+            return Ok(Some(Deed::Pick { cpu }));
         }
-        if let Some(running) = processor.running {
-            let deed = self.go_on(place, running);
-            if deed.is_some() || self.stop.is_some() {
-                return deed;
-            }
+        let picks_soon = processor.picks == Picks::Soon;
+        let Some(running) = processor.running else {
+            return Ok(if picks_soon {
+                Some(Deed::Pick { cpu })
+            } else {
+                self.look_for_work(machine, place, cpu)
+            });
+        };
+        let deed = self.go_on(place, running)?;
+        if deed.is_none() && picks_soon {
+            return Ok(Some(Deed::Pick { cpu }));
         }
-        let processor = self.processors.get(place)?;
-        if processor.picks == Picks::Soon {
-            return Some(Deed::Pick { cpu });
-        }
-        if processor.running.is_none() {
-            return self.look_for_work(machine, place, cpu);
-        }
-        None
+        Ok(deed)
     }
 
     /// Where the clock ticks at this moment, the CPU is to pick if a task has woken there.
@@ -111,24 +110,26 @@ impl Schedule {
         if self.plan.tick > 0 {
             return end.min(processor.ticks_at);
         }
-        match self.request_left(machine, place) {
-            Some(ns) => end.min(processor.charged.saturating_add(ns.get())),
-            None => end,
-        }
-    }
-
-    /// How long the task that runs on a CPU may run until its request is used up, where others wait.
-    fn request_left(&self, machine: &Solo, place: usize) -> Option<Ns> {
         if !self.has_others(machine, place) {
-            return None;
+            return end;
         }
-        let cpu = self.processors.get(place)?.id;
-        if machine.has_cpu(cpu) {
-            machine.queue(cpu).time_to_resched()
-        } else {
-            None
-        }
+        end.min(
+            processor
+                .charged
+                .saturating_add(request_left(machine, processor.id).get()),
+        )
     }
+}
+
+/// How long the task that runs on a CPU may run until its request is used up, or the longest tick, where more is left: the clock is to stop
+/// within each tick that is charged, so that it never comes back to the end of a request.
+fn request_left(machine: &Solo, cpu: CpuId) -> Ns {
+    let left = if machine.has_cpu(cpu) {
+        machine.queue(cpu).time_to_resched()
+    } else {
+        None
+    };
+    left.unwrap_or(Ns::MAX)
 }
 
 /// The place so many steps on, around.

@@ -1,6 +1,8 @@
 //! The values at the keys of a table.
 
-use crate::lengths::length;
+ghost use Rattle.std.specs.Prelude.{◌≤◌, IfOk};
+
+use crate::lengths::{MOST_NS, length};
 use crate::phase_fault::{Key, PhaseFault, Place, Wrong};
 use std::alloc::Global;
 use toml::{Table, Value};
@@ -33,7 +35,10 @@ pub(crate) fn length_or(
     key: Key,
     least: u64,
     default: &'static str,
-) -> Result<u64, PhaseFault> {
+) -> Result<u64, PhaseFault>
+    ensures least { IfOk result (λ ns. least ≤ ns) }
+    ensures most { IfOk result (λ ns. ns ≤ MOST_NS) }
+{
     let text = text_or(table, place, key, default)?;
     match length(text) {
         Some(ns) if ns >= least => Ok(ns),
@@ -41,22 +46,30 @@ pub(crate) fn length_or(
     }
 }
 
-/// The whole number at a key, within bounds, or the default where the key is absent.
+/// The whole number at a key, from a least to a greatest one, or the default where the key is absent.
 pub(crate) fn number_or(
     table: &Table,
     place: Place,
     key: Key,
-    bounds: (i64, i64),
-    default: i64,
-) -> Result<i64, PhaseFault> {
+    bounds: (u64, u64),
+    default: u64,
+) -> Result<u64, PhaseFault>
+    ensures least { IfOk result (λ number. bounds.0 ≤ number) }
+    ensures most { IfOk result (λ number. number ≤ bounds.1) }
+{
     let number = match table.get(key.name()) {
-        Some(value) => value.as_integer(),
+        Some(value) => whole_number(value),
         None => Some(default),
     };
     match number {
         Some(number) if bounds.0 <= number && number <= bounds.1 => Ok(number),
         _ => Err(place.fault(Wrong::Bad(key))),
     }
+}
+
+/// The whole number from 0 on that a value is.
+fn whole_number(value: &Value) -> Option<u64> {
+    u64::try_from(value.as_integer()?).ok()
 }
 
 /// The members of the list at a key that has to be there.

@@ -1,5 +1,9 @@
 //! Lengths of time as they are written.
 
+ghost use Rattle.std.specs.Prelude.{◌≡◌, ◌≤◌, IfSome};
+ghost use Rattle.std.specs.Str.Parse.{IsNumeral, digits_value};
+ghost use Rattle.eevdf_phase_text.specs.Lengths.{IsLength, IsParted, IsSpan};
+
 use eevdf_closed_loop::Span;
 
 /// The greatest length of time, in nanoseconds: a million seconds.
@@ -7,7 +11,10 @@ pub const MOST_NS: u64 = 1_000_000_000_000_000;
 
 /// The length of time that a text is: a whole number and a unit, as `3ms`, `200us`, `5s` or `100ns`; 0 needs no unit. `None` where it is
 /// none, or more than `MOST_NS`.
-pub fn length(text: &str) -> Option<u64> {
+pub fn length(text: &str) -> Option<u64>
+    ensures length { IfSome result (IsLength text.now) }
+    ensures most { IfSome result (λ ns. ns ≤ MOST_NS) }
+{
     if text == "0" {
         return Some(0);
     }
@@ -17,7 +24,9 @@ pub fn length(text: &str) -> Option<u64> {
 }
 
 /// The digits of a text, and how many nanoseconds its unit has.
-fn parted(text: &str) -> Option<(&str, u64)> {
+fn parted(text: &str) -> Option<(&str, u64)>
+    ensures { IfSome result (λ p. IsParted text.now p.0.now p.1) }
+{
     if let Some(digits) = text.strip_suffix("ns") {
         return Some((digits, 1));
     }
@@ -32,27 +41,40 @@ fn parted(text: &str) -> Option<(&str, u64)> {
 }
 
 /// The number that digits are.
-fn number(digits: &str) -> Option<u64> {
-    for byte in digits.as_bytes() {
-        if !byte.is_ascii_digit() {
-            return None;
-        }
+fn number(digits: &str) -> Option<u64>
+    ensures { IfSome result (λ n. IsNumeral 10 digits.now × (n ≡ digits_value 10 digits.now)) }
+{
+    match digits.as_bytes() {
+        [b'+', ..] => None,
+        _ => digits.parse::<u64>().ok(),
     }
-    digits.parse::<u64>().ok()
 }
 
 /// The span that a text is: a length of time from 1 ns on, or two with `..` between them, the lesser first.
-pub fn span(text: &str) -> Option<Span> {
-    let (least, most) = match text.split_once("..") {
-        Some((least, most)) => (length(least)?, length(most)?),
-        None => {
-            let only = length(text)?;
-            (only, only)
-        }
-    };
+pub fn span(text: &str) -> Option<Span>
+    ensures span { IfSome result (λ s. IsSpan text.now s.least s.most) }
+    ensures some { IfSome result (λ s. 1 ≤ s.least) }
+    ensures order { IfSome result (λ s. s.least ≤ s.most) }
+    ensures most { IfSome result (λ s. s.most ≤ MOST_NS) }
+{
+    let (least, most) = ends(text)?;
     if 1 <= least && least <= most {
         Some(Span { least, most })
     } else {
         None
+    }
+}
+
+/// The two lengths of time that a text has, which are the same where it has one.
+fn ends(text: &str) -> Option<(u64, u64)>
+    ensures span { IfSome result (λ s. IsSpan text.now s.0 s.1) }
+    ensures most { IfSome result (λ s. s.1 ≤ MOST_NS) }
+{
+    match text.split_once("..") {
+        Some((least, most)) => Some((length(least)?, length(most)?)),
+        None => {
+            let only = length(text)?;
+            Some((only, only))
+        }
     }
 }

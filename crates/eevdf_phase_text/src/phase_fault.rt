@@ -91,7 +91,7 @@ impl Key {
             Key::Pull => "true or false",
             Key::Preempt => "\"wakeup\" or \"tick\"",
             Key::Task => "tables, as [[task]]",
-            Key::Name => "a text of 1 to 64 letters, digits, -, _ and .",
+            Key::Name => "a text of 1 to 64 letters, digits, - and _, and not - alone",
             Key::Count => "a number from 1 to 1024",
             Key::Home => "the number of a CPU of the machine",
             Key::Nice => "a number from -20 to 19",
@@ -113,7 +113,7 @@ pub enum Wrong {
     Memory,
     /// The text has more than `MOST_BYTES` bytes.
     TooLarge,
-    /// It isn't UTF-8, or no TOML document; from this byte on, where that is known.
+    /// It isn't UTF-8, or no TOML document.
     NotToml,
     /// The key has to be there and isn't.
     Missing(Key),
@@ -129,11 +129,11 @@ pub enum Wrong {
     NoTask(String),
     /// Another task has this name.
     SameName(String),
-    /// Loops stand in one another more than eight deep.
+    /// Loops stand in one another deeper than `Phase::DEPTHS`.
     TooDeep,
-    /// A loop, or the whole, has neither a run nor a sleep nor a timer in it.
+    /// A loop, or the whole, has no run, sleep, timer or end in it.
     NoTime,
-    /// There are more than 1024 tasks.
+    /// There are more tasks than `TaskId::COUNT`.
     TooMany,
 }
 
@@ -165,7 +165,9 @@ impl fmt::Display for Wrong {
             Wrong::NoTask(word) => write!(f, "no task has the name {word:?}"),
             Wrong::SameName(word) => write!(f, "another task has the name {word:?}"),
             Wrong::TooDeep => f.write_str("loops stand in one another more than 8 deep"),
-            Wrong::NoTime => f.write_str("a loop without run, sleep or timer takes no time"),
+            Wrong::NoTime => f.write_str(
+                "a list of phases without run, sleep, timer or end takes no time",
+            ),
             Wrong::TooMany => f.write_str("more than 1024 tasks"),
         }
     }

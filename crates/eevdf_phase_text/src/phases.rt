@@ -11,8 +11,8 @@ use toml::{Table, Value};
 /// So many phases a task has at most, those in loops and the ends of loops included.
 const MOST_PHASES: usize = 1000;
 
-/// So deep loops stand in one another at most.
-const MOST_DEPTHS: usize = 8;
+/// So often a loop is gone through at most.
+const MOST_ROUNDS: u64 = 1_000_000_000;
 
 /// The phases of the task at a place, of which the loops are laid flat: behind what is repeated stands how often.
 pub(crate) fn phases(
@@ -53,10 +53,10 @@ fn push_phase(
         return push(phases, place, table_phase(alloc, table, place, named)?);
     }
     known_alone(alloc, table, place, &[Key::Loop, Key::Phases])?;
-    if depth >= MOST_DEPTHS {
+    if depth >= Phase::DEPTHS {
         return Err(place.fault(Wrong::TooDeep));
     }
-    let rounds = number_or(table, place, Key::Loop, (1, 1_000_000_000), 1)?;
+    let rounds = number_or(table, place, Key::Loop, (1, MOST_ROUNDS), 1)?;
     let first = phases.len();
     for inner in list(table, place, Key::Phases)? {
         push_phase(alloc, phases, inner, place, named, depth + 1)?;
@@ -64,7 +64,6 @@ fn push_phase(
     if !takes_time(phases, first) {
         return Err(place.fault(Wrong::NoTime));
     }
-    let rounds = u64::try_from(rounds).unwrap_or(1);
     push(
         phases,
         place,
@@ -137,7 +136,7 @@ fn table_phase(
     if let Some(value) = table.get(Key::Resume.name()) {
         return Ok(Phase::Resume(named_of(alloc, value, place, named)?));
     }
-    Ok(Phase::Nice(nice_of(table, place, 0)?))
+    Ok(Phase::Nice(nice_of(table, place)?))
 }
 
 fn span_of(value: &Value, place: Place, key: Key) -> Result<Span, PhaseFault> {

@@ -1,9 +1,13 @@
 //! The reader of a workload of phases.
 
+ghost use Rattle.std.specs.Prelude.{IfOk};
+ghost use Rattle.eevdf_phase_text.specs.Bounds.{IsInBounds};
+
 use crate::keys::{known_alone, length_or, list, number_or, text_or};
 use crate::phase_fault::{Key, PhaseFault, Place, Wrong};
 use crate::tasks::groups;
 use eevdf_closed_loop::{Plan, Preempt};
+use eevdf_ops::CpuId;
 use std::alloc::Global;
 use toml::{Table, Value};
 
@@ -12,7 +16,9 @@ pub const MOST_BYTES: usize = 16_777_216;
 
 /// What the bytes of a TOML document say that a machine is to do, or the first fault that is found in them. `Memory` may come in place of
 /// either.
-pub fn read_phases(alloc: Global, bytes: &[u8]) -> Result<Plan, PhaseFault> {
+pub fn read_phases(alloc: Global, bytes: &[u8]) -> Result<Plan, PhaseFault>
+    ensures { IfOk result IsInBounds }
+{
     if bytes.len() > MOST_BYTES {
         return Err(Place::Document.fault(Wrong::TooLarge));
     }
@@ -24,7 +30,9 @@ pub fn read_phases(alloc: Global, bytes: &[u8]) -> Result<Plan, PhaseFault> {
 }
 
 /// What a document says.
-fn plan_of(alloc: Global, document: &Table) -> Result<Plan, PhaseFault> {
+fn plan_of(alloc: Global, document: &Table) -> Result<Plan, PhaseFault>
+    ensures { IfOk result IsInBounds }
+{
     let place = Place::Document;
     if document.get("version").is_none() {
         return Err(place.fault(Wrong::Missing(Key::Version)));
@@ -36,10 +44,10 @@ fn plan_of(alloc: Global, document: &Table) -> Result<Plan, PhaseFault> {
         place,
         &[Key::Version, Key::Seed, Key::Machine, Key::Task],
     )?;
-    let seed = number_or(document, place, Key::Seed, (0, i64::MAX), 0)?;
+    let seed = number_or(document, place, Key::Seed, (0, u64::MAX), 0)?;
     let machine = machine_of(document)?;
     let mut plan = plan_of_machine(alloc, machine)?;
-    plan.seed = u64::try_from(seed).unwrap_or(0);
+    plan.seed = seed;
     plan.groups = groups(alloc, list(document, place, Key::Task)?, plan.cpus)?;
     Ok(plan)
 }
@@ -54,7 +62,9 @@ fn machine_of(document: &Table) -> Result<&Table, PhaseFault> {
 }
 
 /// What the table of a machine says, without tasks.
-fn plan_of_machine(alloc: Global, machine: &Table) -> Result<Plan, PhaseFault> {
+fn plan_of_machine(alloc: Global, machine: &Table) -> Result<Plan, PhaseFault>
+    ensures { IfOk result IsInBounds }
+{
     let place = Place::Machine;
     known_alone(
         alloc,
@@ -62,14 +72,14 @@ fn plan_of_machine(alloc: Global, machine: &Table) -> Result<Plan, PhaseFault> {
         place,
         &[Key::Cpus, Key::Lasts, Key::Tick, Key::Pull, Key::Preempt],
     )?;
-    let cpus = number_or(machine, place, Key::Cpus, (1, 64), 1)?;
+    let cpus = number_or(machine, place, Key::Cpus, (1, CpuId::COUNT as u64), 1)?;
     if machine.get(Key::Lasts.name()).is_none() {
         return Err(place.fault(Wrong::Missing(Key::Lasts)));
     }
     let lasts = length_or(machine, place, Key::Lasts, 1, "1s")?;
     let tick = length_or(machine, place, Key::Tick, 0, "0")?;
     Ok(Plan {
-        cpus: usize::try_from(cpus).unwrap_or(1),
+        cpus: cpus as usize,
         tick,
         lasts,
         pull: pull_of(machine)?,

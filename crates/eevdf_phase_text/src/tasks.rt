@@ -4,6 +4,7 @@ use crate::keys::{known_alone, length_or, list, number_or, text};
 use crate::phase_fault::{Key, PhaseFault, Place, Wrong};
 use crate::phases::phases;
 use eevdf_closed_loop::Group;
+use eevdf_ops::CpuId;
 use eevdf_queue::TaskId;
 use eevdf_weight::{Nice, Slice};
 use std::alloc::Global;
@@ -65,15 +66,15 @@ fn named_groups(alloc: Global, members: &[Value]) -> Result<Vec<Group>, PhaseFau
     Ok(groups)
 }
 
-/// Whether a text may be a name: it has letters, digits, `-`, `_` and `.` alone.
+/// Whether a text may be a name: it has letters, digits, `-` and `_` alone, and isn't `-`, which stands for no task in what is printed. A
+/// point stands between a name and a number there.
 fn is_name(text: &str) -> bool {
     for byte in text.as_bytes() {
-        let is_sign = *byte == b'-' || *byte == b'_' || *byte == b'.';
-        if !byte.is_ascii_alphanumeric() && !is_sign {
+        if !byte.is_ascii_alphanumeric() && *byte != b'-' && *byte != b'_' {
             return false;
         }
     }
-    1 <= text.len() && text.len() <= 64
+    1 <= text.len() && text.len() <= 64 && text != "-"
 }
 
 /// The place of the group with this name.
@@ -109,14 +110,14 @@ fn group_of(
             Key::Phases,
         ],
     )?;
-    let count = number_or(table, place, Key::Count, (1, 1024), 1)?;
+    let count = number_or(table, place, Key::Count, (1, TaskId::COUNT as u64), 1)?;
     let name = String::from_str(alloc, text(table, place, Key::Name)?)?;
     let members = list(table, place, Key::Phases)?;
     Ok(Group {
         name,
-        count: usize::try_from(count).unwrap_or(1),
+        count: count as usize,
         home: home_of(table, place, cpus)?,
-        nice: nice_of(table, place, 0)?,
+        nice: nice_of(table, place)?,
         slice: slice_of(table, place)?,
         begins: length_or(table, place, Key::Begins, 0, "0")?,
         phases: phases(alloc, members, task, named)?,
@@ -127,17 +128,21 @@ fn home_of(table: &Table, place: Place, cpus: usize) -> Result<Option<usize>, Ph
     if table.get(Key::Home.name()).is_none() {
         return Ok(None);
     }
-    let home = number_or(table, place, Key::Home, (0, 63), 0)?;
-    match usize::try_from(home) {
-        Ok(home) if home < cpus => Ok(Some(home)),
-        _ => Err(place.fault(Wrong::Bad(Key::Home))),
+    let home = number_or(table, place, Key::Home, (0, CpuId::COUNT as u64), 0)? as usize;
+    if home < cpus {
+        Ok(Some(home))
+    } else {
+        Err(place.fault(Wrong::Bad(Key::Home)))
     }
 }
 
 /// The nice level of a table.
-pub(crate) fn nice_of(table: &Table, place: Place, default: i64) -> Result<Nice, PhaseFault> {
-    let level = number_or(table, place, Key::Nice, (-20, 19), default)?;
-    Nice::new(level).ok_or(place.fault(Wrong::Bad(Key::Nice)))
+pub(crate) fn nice_of(table: &Table, place: Place) -> Result<Nice, PhaseFault> {
+    let nice = match table.get(Key::Nice.name()) {
+        Some(value) => value.as_integer().and_then(Nice::new),
+        None => Some(Nice::default()),
+    };
+    nice.ok_or(place.fault(Wrong::Bad(Key::Nice)))
 }
 
 fn slice_of(table: &Table, place: Place) -> Result<Slice, PhaseFault> {

@@ -1,13 +1,10 @@
 //! What the program says of itself.
 
 /// What is printed where the words aren't known.
-pub(crate) const USAGE: &str = "usage: eevdf_phases [--run|--stats] [FILE]";
-
-/// What `--version` prints.
-pub(crate) const VERSION: &str = "eevdf_phases 0.6.0\n";
+pub(crate) const USAGE: &[u8] = b"usage: eevdf_phases [--run|--stats] [FILE]\n";
 
 /// What `--help` prints.
-pub(crate) const HELP: &str = "\
+pub(crate) const HELP: &[u8] = b"\
 eevdf_phases reads what tasks do, phase by phase, and prints the script that the scheduler does with them, for `eevdf solo`.
 
 usage: eevdf_phases [--run|--stats] [FILE]
@@ -20,6 +17,7 @@ usage: eevdf_phases [--run|--stats] [FILE]
 
 example: eevdf_phases examples/phases/web-server.toml | eevdf solo
 
-The format: docs/phases.md. The status is 0 where all went well, 1 where the workload is refused, or the machine could not be driven to the
-end, 2 where the words aren't known, and 3 where memory, reading or writing failed.
+The format of a workload of phases: docs/phases.md; of the script: docs/formats.md. The status is 0 where all went well, 1 where the
+workload is refused, or the machine could not be driven to the end, 2 where the words aren't known, and 3 where memory, reading or writing
+failed.
 ";

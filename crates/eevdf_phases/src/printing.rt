@@ -1,110 +1,53 @@
-//! What is printed of a machine that is driven.
+//! What is printed of a machine that is driven, beside its script.
 
+use crate::ending::Ending;
 use crate::figure_text::print_figures;
 use crate::figures::AllFigures;
 use crate::names::Names;
-use crate::words::Output;
-use eevdf_closed_loop::{ClosedLoop, Stop};
-use eevdf_ops::{Answer, Deed, Line, Setup};
+use eevdf_closed_loop::ClosedLoop;
+use eevdf_ops::{Answer, Deed, Line};
 use eevdf_queue::TaskId;
 use std::io;
 use std::io::Write;
 
-/// So many deeds `eevdf solo` takes at most.
-const MOST_DEEDS: usize = 640_000;
-
-/// How a play has ended.
-#[derive(Clone, Copy, PartialEq, Eq, Debug)]
-pub(crate) enum Ending {
-    /// The machine was driven as long as it lasts.
-    Whole,
-    /// There are more deeds than `eevdf solo` takes.
-    TooLong,
-    /// It couldn't be driven on.
-    Stopped(Stop),
-}
-
-/// Drives the machine, and prints it as a workload, or its deeds with their answers, or what its tasks come to.
-pub(crate) fn print_played<W: Write>(
-    out: &mut W,
-    setup: &Setup,
-    names: &Names,
-    machine: &mut ClosedLoop,
-    figures: &mut AllFigures,
-    output: Output,
-) -> io::Result<Ending> {
-    if output == Output::Script {
-        print_front(out, setup)?;
-    }
-    let ending = print_deeds(out, names, machine, figures, output)?;
-    match output {
-        Output::Script => print_tasks(out, setup, names)?,
-        Output::Answers => {}
-        Output::Figures => print_figures(out, names, figures, machine.plan().lasts)?,
-    }
-    out.flush()?;
-    Ok(ending)
-}
-
-/// Prints what stands before the deeds.
-fn print_front<W: Write>(out: &mut W, setup: &Setup) -> io::Result<()> {
-    out.write_all(b"version = 3\nprogram = [")?;
-    for cpu in 0..setup.cpus() {
-        let text: &[u8] = if cpu == 0 { b"[]" } else { b", []" };
-        out.write_all(text)?;
-    }
-    out.write_all(b"]\nscript = [\n")
-}
-
-/// Drives the machine until it has come to its end, and prints the deeds.
-fn print_deeds<W: Write>(
+/// Drives a machine to its end, and prints its deeds with their answers.
+pub(crate) fn print_answers<W: Write>(
     out: &mut W,
     names: &Names,
     machine: &mut ClosedLoop,
-    figures: &mut AllFigures,
-    output: Output,
 ) -> io::Result<Ending> {
-    for _deed in 0..MOST_DEEDS {
+    for _deed in 0..u64::MAX {
         let Some(line) = machine.step() else {
-            return Ok(ending_of(machine));
+            break;
         };
-        let moment = moment_of(machine, &line);
-        figures.count(&line, moment);
-        match output {
-            Output::Script => print_deed(out, names, moment, &line)?,
-            Output::Answers => print_answer(out, names, moment, &line)?,
-            Output::Figures => {}
-        }
+        print_answer(out, names, moment_of(machine, &line), &line)?;
     }
-    Ok(match machine.step() {
-        Some(_) => Ending::TooLong,
-        None => ending_of(machine),
-    })
+    Ok(Ending::of(machine))
 }
 
-/// How a play has ended that has no further deed.
-fn ending_of(machine: &ClosedLoop) -> Ending {
-    match machine.stop() {
-        Some(stop) => Ending::Stopped(stop),
-        None => Ending::Whole,
+/// Drives a machine to its end, and prints what its tasks came to.
+pub(crate) fn print_stats<W: Write>(
+    out: &mut W,
+    names: &Names,
+    machine: &mut ClosedLoop,
+    figures: &mut AllFigures,
+) -> io::Result<Ending> {
+    for _deed in 0..u64::MAX {
+        let Some(line) = machine.step() else {
+            break;
+        };
+        figures.count(&line, moment_of(machine, &line));
     }
+    print_figures(out, names, figures, machine.now())?;
+    Ok(Ending::of(machine))
 }
 
 /// The moment of a deed that was just done: up to then its CPU is charged.
-fn moment_of(machine: &ClosedLoop, line: &Line) -> u64 {
+pub(crate) fn moment_of(machine: &ClosedLoop, line: &Line) -> u64 {
     machine.charged(line.deed.cpu())
 }
 
-/// Prints a deed of the script, its moment in milliseconds, and whom it concerns.
-fn print_deed<W: Write>(out: &mut W, names: &Names, moment: u64, line: &Line) -> io::Result<()> {
-    let whole = moment / 1_000_000;
-    let rest = moment % 1_000_000;
-    let name = concerned(names, line);
-    let deed = line.deed;
-    writeln!(out, "  \"{deed}\", # {whole}.{rest:06} {name}")
-}
-
-/// Prints a deed with its answer, likewise.
+/// Prints a deed with its answer, its moment in milliseconds, and whom it concerns.
 fn print_answer<W: Write>(out: &mut W, names: &Names, moment: u64, line: &Line) -> io::Result<()> {
     let whole = moment / 1_000_000;
     let rest = moment % 1_000_000;
@@ -113,7 +56,7 @@ fn print_answer<W: Write>(out: &mut W, names: &Names, moment: u64, line: &Line) 
 }
 
 /// The name of the task that a line concerns.
-fn concerned<'a>(names: &'a Names, line: &Line) -> &'a str {
+pub(crate) fn concerned<'a>(names: &'a Names, line: &Line) -> &'a str {
     match task_of(line.deed, line.answer) {
         Some(task) => names.name(task),
         None => "-",
@@ -135,29 +78,4 @@ fn task_of(deed: Deed, answer: Answer) -> Option<TaskId> {
         | Deed::End { task, .. } => Some(task),
         _ => None,
     }
-}
-
-/// Prints what stands behind the deeds: the tasks.
-fn print_tasks<W: Write>(out: &mut W, setup: &Setup, names: &Names) -> io::Result<()> {
-    out.write_all(b"]\n")?;
-    for number in 0..setup.tasks() {
-        let Some(task) = TaskId::new(number as u64) else {
-            return Ok(());
-        };
-        if !setup.has_task(task) {
-            return Ok(());
-        }
-        let spec = setup.spec(task);
-        let name = names.name(task);
-        let home = spec.home;
-        let nice = spec.nice.get();
-        let slice = spec.slice.get();
-        let asleep = spec.asleep;
-        writeln!(out, "\n[[task]] # {name}")?;
-        writeln!(
-            out,
-            "home = {home}\nnice = {nice}\nslice = {slice}\nasleep = {asleep}"
-        )?;
-    }
-    Ok(())
 }

@@ -1,8 +1,8 @@
 //! What the process's words ask for.
 
-use std::alloc::Global;
-use std::rt::Env;
-use std::{env, io};
+use eevdf_bench::may_name_file;
+use eevdf_explain::told_word;
+use std::alloc::{AllocError, Global};
 
 /// What is printed.
 #[derive(Clone, Copy, PartialEq, Eq, Debug)]
@@ -15,36 +15,40 @@ pub(crate) enum Output {
     Figures,
 }
 
-/// What is asked for.
-#[derive(Drop)]
-pub(crate) enum Asked {
-    Help,
-    Version,
-    /// To play the workload in a file, or on standard input.
-    Play {
-        file: Option<String>,
-        output: Output,
-    },
-    /// The words aren't known.
-    Nothing,
+/// What the words ask to be printed, of which the first is the program's name and none is that of a file. `None` where they aren't known.
+pub(crate) fn output_of(words: &[String]) -> Option<Output> {
+    match words {
+        [] | [_] => Some(Output::Script),
+        [_, word] => output_named(word.as_str()),
+        _ => None,
+    }
 }
 
-/// What the process's words ask for.
-pub(crate) fn read_words(rt: &(impl Env + AllocGlobal), alloc: Global) -> io::Result<Asked> {
-    let words: Vec<String> = env::args(rt)?.collect(alloc)?;
-    let mut file = None;
-    let mut output = Output::Script;
-    for word in words.into_iter().skip(1) {
-        match word.as_str() {
-            "--help" | "-h" => return Ok(Asked::Help),
-            "--version" => return Ok(Asked::Version),
-            "--run" if output == Output::Script => output = Output::Answers,
-            "--stats" if output == Output::Script => output = Output::Figures,
-            "-" => {}
-            text if text.starts_with('-') || text.is_empty() => return Ok(Asked::Nothing),
-            _ if file.is_some() => return Ok(Asked::Nothing),
-            _ => file = Some(word),
+fn output_named(word: &str) -> Option<Output> {
+    match word {
+        "--run" => Some(Output::Answers),
+        "--stats" => Some(Output::Figures),
+        _ => None,
+    }
+}
+
+/// Which of the words isn't known, or what doesn't stand together.
+pub(crate) fn unknown_word(
+    alloc: Global,
+    words: &[String],
+    has_file: bool,
+) -> Result<String, AllocError> {
+    for at in 1..words.len() {
+        let word = words[at].as_str();
+        if output_named(word).is_none() {
+            let told = told_word(alloc, word)?;
+            if has_file && (word == "-" || may_name_file(word)) {
+                return format!(in alloc; "one file is read, and {told} is another\n");
+            }
+            return format!(in alloc;
+                "unknown word {told}; words are --run or --stats, and the name of a file\n"
+            );
         }
     }
-    Ok(Asked::Play { file, output })
+    "--run and --stats exclude each other, and each stands once\n".to_string(alloc)
 }

@@ -1,0 +1,117 @@
+//! Reading a workload of phases, playing it and printing what comes of it.
+
+use crate::ending::Ending;
+use crate::figures::AllFigures;
+use crate::names::Names;
+use crate::printing::{print_answers, print_stats};
+use crate::script::print_script;
+use crate::words::Output;
+use eevdf_bench::{NO_MEMORY, NO_WRITE, Piped, Workload, print};
+use eevdf_closed_loop::{ClosedLoop, OpenFault, Plan, setup_of};
+use eevdf_ops::Setup;
+use eevdf_phase_text::{MOST_BYTES, PhaseFault, Wrong, read_phases};
+use std::alloc::Global;
+use std::io;
+use std::io::{BufWriter, ErrorKind, Write};
+
+// what is read is no longer than a workload of phases
+const _: () = prove!(MOST_BYTES == Workload::MOST_BYTES);
+
+/// Plays the workload of phases that these bytes are, and gives the exit status.
+pub(crate) fn play_text<R: Print>(
+    rt: &R,
+    errors: &impl Print,
+    alloc: Global,
+    bytes: &[u8],
+    output: Output,
+) -> u8 {
+    match read_phases(alloc, bytes) {
+        Ok(plan) => play(rt, errors, alloc, plan, output),
+        Err(fault) => refuse(errors, &fault),
+    }
+}
+
+/// Says why a workload of phases is refused, and gives the status.
+fn refuse(errors: &impl Print, fault: &PhaseFault) -> u8 {
+    let _ = println!(errors; "fault: {fault}");
+    if fault.wrong == Wrong::Memory { 3 } else { 1 }
+}
+
+/// Plays a plan and prints what comes of it, and gives the status.
+fn play<R: Print>(rt: &R, errors: &impl Print, alloc: Global, plan: Plan, output: Output) -> u8 {
+    let Ok(names) = Names::of(alloc, &plan) else {
+        return print(errors, NO_MEMORY, 3);
+    };
+    let setup = match setup_of(alloc, &plan) {
+        Ok(setup) => setup,
+        Err(fault) => return not_set_up(errors, fault),
+    };
+    match ClosedLoop::open(alloc, &setup, plan) {
+        Ok(mut machine) => print_all(rt, errors, alloc, &setup, &names, &mut machine, output),
+        Err(_) => print(errors, NO_MEMORY, 3),
+    }
+}
+
+/// Says why no machine was set up, and gives the status.
+fn not_set_up(errors: &impl Print, fault: OpenFault) -> u8 {
+    match fault {
+        OpenFault::Memory => print(errors, NO_MEMORY, 3),
+        _ => print(errors, b"fault: no machine can be set up\n", 1),
+    }
+}
+
+/// Drives a machine and prints what comes of it, and gives the status. Of a pipe that nobody reads any more nothing is said.
+fn print_all<R: Print>(
+    rt: &R,
+    errors: &impl Print,
+    alloc: Global,
+    setup: &Setup,
+    names: &Names,
+    machine: &mut ClosedLoop,
+    output: Output,
+) -> u8 {
+    let mut pipe = Piped::new(io::writer(rt));
+    let ended = print_through(&mut pipe, alloc, setup, names, machine, output);
+    match ended {
+        Ok(ending) => ending.tell(errors),
+        Err(ErrorKind::OutOfMemory) => print(errors, NO_MEMORY, 3),
+        Err(_) if pipe.is_unread() => 3,
+        Err(_) => print(errors, NO_WRITE, 3),
+    }
+}
+
+/// Drives a machine and prints what comes of it through a buffer.
+fn print_through<W: Write + Drop>(
+    pipe: &mut W,
+    alloc: Global,
+    setup: &Setup,
+    names: &Names,
+    machine: &mut ClosedLoop,
+    output: Output,
+) -> Result<Ending, ErrorKind> {
+    let mut out = BufWriter::new(alloc, pipe).map_err(|error| error.kind())?;
+    let ending = print_output(&mut out, alloc, setup, names, machine, output).map_err(
+        |error| error.kind(),
+    )?;
+    out.flush().map_err(|error| error.kind())?;
+    Ok(ending)
+}
+
+/// Drives a machine and prints what is asked for.
+fn print_output<W: Write>(
+    out: &mut W,
+    alloc: Global,
+    setup: &Setup,
+    names: &Names,
+    machine: &mut ClosedLoop,
+    output: Output,
+) -> io::Result<Ending> {
+    match output {
+        Output::Script => print_script(out, alloc, setup, names, machine),
+        Output::Answers => print_answers(out, names, machine),
+        Output::Figures => {
+            let mut figures = AllFigures::of(alloc, setup)?;
+            print_stats(out, names, machine, &mut figures)
+        }
+    }
+}
