@@ -1,4 +1,4 @@
-ghost use Rattle.std.specs.Prelude.{◌≡◌, length, IfOk, IfSome, IfNone, IsSome, None};
+ghost use Rattle.std.specs.Prelude.{◌≡◌, ◌≤◌, length, IfOk, IfSome, IfNone, IsSome, None};
 ghost use Rattle.eevdf_ops.specs.Setup.{cpus_of, homes_of};
 ghost use Rattle.eevdf_ops.specs.Machine as machine;
 ghost use Rattle.eevdf_ops.specs.Outcome.{machine_of};
@@ -10,11 +10,16 @@ use crate::stop::Stop;
 use eevdf_ops::{CpuId, Deed, Line, Setup, Solo};
 use std::alloc::{AllocError, Global};
 
+/// How often what comes next is looked for before it is said that nothing does.
+const MOST_LOOKS: usize = 1_000_000;
+
 /// A machine and the tasks on it, each of which goes through its phases.
 #[derive(Drop)]
 pub struct ClosedLoop {
     /// The machine as the deeds so far have left it.
     pub machine: Solo,
+    /// The moment up to which it has been driven, in nanoseconds.
+    pub now: u64,
     /// Why it is driven no further, where it isn't.
     pub stop: Option<Stop>,
     schedule: Schedule,
@@ -27,31 +32,34 @@ impl ClosedLoop {
         ensures homes { IfOk result (λ l. l.machine.homes ≡ homes_of setup.now) }
         ensures start { IfOk result (λ l. machine_of l.machine.queues ≡ machine.start setup.now) }
         ensures cpus { IfOk result (λ l. length l.machine.queues ≡ cpus_of setup.now) }
+        ensures begins { IfOk result (λ l. l.now ≡ 0) }
         ensures fresh { IfOk result (λ l. l.stop ≡ None) }
     {
         let machine = Solo::open(alloc, setup)?;
         let schedule = Schedule::open(alloc, setup, plan)?;
         Ok(ClosedLoop {
             machine,
+            now: 0,
             stop: None,
             schedule,
         })
     }
 
     /// The next deed of the machine, with its answer: the machine allows it, and it is done as `Solo::apply` does it. `None`, with the
-    /// machine unchanged, where it is driven no further: from then on `stop` says why, and each further step answers `None`. It takes no
-    /// memory.
+    /// machine unchanged, where it is driven no further: from then on `stop` says why, and each further step answers `None`. The clock
+    /// never goes back. It takes no memory.
     pub fn step(&mut self) -> Option<Line>
         ensures step { IfSome result (λ line. IsStep self.old.machine line self.new.machine) }
         ensures none { IfNone result (self.new.machine ≡ self.old.machine) }
         ensures stop { IfNone result (IsSome self.new.stop) }
         ensures stopped { IfSome self.old.stop (λ _. result ≡ None) }
         ensures same { IfSome self.old.stop (λ _. self.new.stop ≡ self.old.stop) }
+        ensures clock { self.old.now ≤ self.new.now }
     {
         if self.stop.is_some() {
             return None;
         }
-        match self.schedule.next(&self.machine) {
+        match self.next_deed() {
             Ok(deed) => self.done(&deed),
             Err(stop) => {
                 self.stop = Some(stop);
@@ -60,11 +68,27 @@ impl ClosedLoop {
         }
     }
 
+    /// The next deed, at whose moment the clock then is, or why there is none.
+    fn next_deed(&mut self) -> Result<Deed, Stop>
+        ensures machine { self.new.machine ≡ self.old.machine }
+        ensures clock { self.old.now ≤ self.new.now }
+    {
+        for _look in 0..MOST_LOOKS {
+            let (now, deed) = self.schedule.next(&self.machine, self.now);
+            self.now = now;
+            if let Some(deed) = deed? {
+                return Ok(deed);
+            }
+        }
+        Err(Stop::Stuck)
+    }
+
     /// Does a deed, where the machine allows it.
     fn done(&mut self, deed: &Deed) -> Option<Line>
         ensures step { IfSome result (λ line. IsStep self.old.machine line self.new.machine) }
         ensures none { IfNone result (self.new.machine ≡ self.old.machine) }
         ensures stop { IfNone result (IsSome self.new.stop) }
+        ensures clock { self.new.now ≡ self.old.now }
     {
         match self.machine.try_apply(*deed) {
             Some(answer) => {
@@ -72,7 +96,7 @@ impl ClosedLoop {
                     deed: *deed,
                     answer,
                 };
-                self.stop = self.schedule.learn(&self.machine, &line);
+                self.stop = self.schedule.learn(&self.machine, &line, self.now);
                 Some(line)
             }
             None => {
@@ -82,13 +106,8 @@ impl ClosedLoop {
         }
     }
 
-    /// The moment up to which the machine has been driven, in nanoseconds.
-    pub fn now(&self) -> u64 {
-        self.schedule.now
-    }
-
-    /// Up to which moment time has been charged on a CPU, in nanoseconds.
-    pub fn charged(&self, cpu: CpuId) -> u64 {
+    /// Up to which moment time has been charged on a CPU, in nanoseconds. `None` where the machine has no such CPU.
+    pub fn charged(&self, cpu: CpuId) -> Option<u64> {
         self.schedule.charged(cpu)
     }
 

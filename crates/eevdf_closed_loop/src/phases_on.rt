@@ -24,9 +24,12 @@ enum Step {
 
 impl Schedule {
     /// The deed of the task that runs on a CPU, where it has run for as long as it had to. `None` where it runs on.
-    pub fn go_on(&mut self, place: usize, running: usize) -> Result<Option<Deed>, Stop> {
+    pub fn go_on(&mut self, place: usize, running: usize, now: u64) -> Result<Option<Deed>, Stop> {
         for _phase in 0..MOST_PHASES {
-            match self.go_on_once(place, running).ok_or(Stop::OtherSetup)? {
+            match self
+                .go_on_once(place, running, now)
+                .ok_or(Stop::OtherSetup)?
+            {
                 Step::Done(deed) => return Ok(Some(deed)),
                 Step::Runs => return Ok(None),
                 Step::Next => {}
@@ -36,7 +39,7 @@ impl Schedule {
     }
 
     /// What the next phase of the running task comes to. `None` where the plan has no such task, CPU, group or phase.
-    fn go_on_once(&mut self, place: usize, running: usize) -> Option<Step> {
+    fn go_on_once(&mut self, place: usize, running: usize, now: u64) -> Option<Step> {
         let actor = self.actors.get_mut(running)?;
         if actor.left > 0 {
             return Some(Step::Runs);
@@ -57,15 +60,15 @@ impl Schedule {
             }
             Phase::Sleep(span) => {
                 let length = actor.draws.length(span);
-                let until = self.now.saturating_add(length);
+                let until = now.saturating_add(length);
                 self.falls_asleep(cpu, running, Condition::Until(until))
             }
             Phase::Timer(period) => {
-                let until = actor.next_period(self.now, period);
+                let until = actor.next_period(now, period);
                 self.falls_asleep(cpu, running, Condition::Until(until))
             }
             Phase::Suspend => self.suspend(cpu, running, group),
-            Phase::Resume(resumed) => self.resume(cpu, running, resumed),
+            Phase::Resume(resumed) => self.resume(cpu, running, resumed, now),
             Phase::Yield => {
                 actor.at = actor.at.saturating_add(1);
                 self.processors.get_mut(place)?.picks = Picks::Now;
@@ -116,13 +119,13 @@ impl Schedule {
     }
 
     /// The running task resumes a task of a group, when the home of that one is charged.
-    fn resume(&mut self, cpu: CpuId, running: usize, group: usize) -> Option<Step> {
+    fn resume(&mut self, cpu: CpuId, running: usize, group: usize, now: u64) -> Option<Step> {
         let Some((resumed, task, home)) = self.suspended_of(group) else {
             let kept = self.kept.get_mut(group)?;
             *kept = kept.saturating_add(1);
             return self.pass(running);
         };
-        if let Some(deed) = self.charge(home.index()) {
+        if let Some(deed) = self.charge(home.index(), now) {
             return Some(Step::Done(deed));
         }
         self.actors.get_mut(resumed)?.condition = Condition::Runnable;

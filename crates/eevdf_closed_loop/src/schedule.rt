@@ -1,5 +1,7 @@
 //! Which deed comes next, and what is learned of its answer.
 
+ghost use Rattle.std.specs.Prelude.{◌≤◌};
+
 use crate::actor::{Actor, Condition};
 use crate::opening::{actors_of, processors_of};
 use crate::plan::{Plan, Preempt};
@@ -10,10 +12,7 @@ use eevdf_queue::TaskId;
 use eevdf_weight::Ns;
 use std::alloc::{AllocError, Global};
 
-/// How often what comes next is looked for before it is said that nothing does.
-const MOST_LOOKS: usize = 1_000_000;
-
-/// The tasks with their phases, the CPUs and the clock.
+/// The tasks with their phases, and the CPUs. `now` is the moment of the clock.
 #[derive(Drop)]
 pub(crate) struct Schedule {
     pub plan: Plan,
@@ -21,7 +20,6 @@ pub(crate) struct Schedule {
     pub processors: Vec<Processor>,
     /// How many resumes of each group have found no task suspended and were kept.
     pub kept: Vec<u64>,
-    pub now: u64,
     /// The least moment until which a task sleeps, and the place of the first such task.
     pub wakes_at: u64,
     pub wakes: usize,
@@ -41,7 +39,6 @@ impl Schedule {
             actors,
             processors,
             kept,
-            now: 0,
             wakes_at: NEVER,
             wakes: 0,
         };
@@ -55,32 +52,30 @@ impl Schedule {
     }
 
     /// Up to which moment time has been charged on a CPU.
-    pub fn charged(&self, cpu: CpuId) -> u64 {
-        match self.processors.get(cpu.index()) {
-            Some(processor) => processor.charged,
-            None => self.now,
-        }
+    pub fn charged(&self, cpu: CpuId) -> Option<u64> {
+        Some(self.processors.get(cpu.index())?.charged)
     }
 
-    /// The next deed, or why there is none.
-    pub fn next(&mut self, machine: &Solo) -> Result<Deed, Stop> {
-        for _look in 0..MOST_LOOKS {
-            let (place, moment) = self.first_processor();
-            let moment = moment.min(self.wakes_at);
-            if moment >= self.plan.lasts {
-                self.now = self.plan.lasts;
-                return self.last_charge().ok_or(Stop::Ended);
-            }
-            self.now = moment;
-            if self.wakes_at <= moment {
-                return self.wake_up().ok_or(Stop::OtherSetup);
-            }
-            if let Some(deed) = self.turn(machine, place)? {
-                return Ok(deed);
-            }
-            self.plan_next(machine, place);
+    /// The next moment from now on at which something happens, and the deed or why there is none. The second is `None` where none comes of
+    /// that moment.
+    pub fn next(&mut self, machine: &Solo, now: u64) -> (u64, Result<Option<Deed>, Stop>)
+        ensures clock { now ≤ result.0 }
+    {
+        let (place, moment) = self.first_processor();
+        let first = moment.min(self.wakes_at);
+        if first >= self.plan.lasts {
+            let now = now.max(self.plan.lasts);
+            return (now, self.last_charge(now));
         }
-        Err(Stop::Stuck)
+        let now = now.max(first);
+        if self.wakes_at <= now {
+            return (now, self.wake_up(now));
+        }
+        let deed = self.turn(machine, place, now);
+        if let Ok(None) = deed {
+            self.plan_next(machine, place, now);
+        }
+        (now, deed)
     }
 
     /// The place of the first CPU of those that do something next, and when it does it.
@@ -95,19 +90,19 @@ impl Schedule {
     }
 
     /// What charges the time up to the end, CPU by CPU.
-    fn last_charge(&mut self) -> Option<Deed> {
+    fn last_charge(&mut self, now: u64) -> Result<Option<Deed>, Stop> {
         for place in 0..self.processors.len() {
-            if let Some(deed) = self.charge(place) {
-                return Some(deed);
+            if let Some(deed) = self.charge(place, now) {
+                return Ok(Some(deed));
             }
         }
-        None
+        Err(Stop::Ended)
     }
 
     /// What charges a CPU the time up to now, unless it is charged.
-    pub fn charge(&self, place: usize) -> Option<Deed> {
+    pub fn charge(&self, place: usize, now: u64) -> Option<Deed> {
         let processor = self.processors.get(place)?;
-        let since = self.now.saturating_sub(processor.charged);
+        let since = now.saturating_sub(processor.charged);
         let ns = Ns::new(since.min(Ns::MAX.get()))?;
         Some(Deed::Tick {
             cpu: processor.id,
@@ -116,20 +111,20 @@ impl Schedule {
     }
 
     /// Wakes the task that sleeps until now, when its home is charged.
-    fn wake_up(&mut self) -> Option<Deed> {
-        let home = self.actors.get(self.wakes)?.home;
-        if let Some(deed) = self.charge(home.index()) {
-            return Some(deed);
+    fn wake_up(&mut self, now: u64) -> Result<Option<Deed>, Stop> {
+        let home = self.actors.get(self.wakes).ok_or(Stop::OtherSetup)?.home;
+        if let Some(deed) = self.charge(home.index(), now) {
+            return Ok(Some(deed));
         }
-        let actor = self.actors.get_mut(self.wakes)?;
+        let actor = self.actors.get_mut(self.wakes).ok_or(Stop::OtherSetup)?;
         actor.condition = Condition::Runnable;
         let task = actor.id;
         self.find_sleeper();
-        Some(Deed::Wake {
+        Ok(Some(Deed::Wake {
             cpu: home,
             task,
             sender: home,
-        })
+        }))
     }
 
     /// Looks for the first of the tasks that sleep until the least moment.
@@ -155,18 +150,22 @@ impl Schedule {
     }
 
     /// Learns what a deed was answered, and why the machine is driven no further, where that ends it.
-    pub fn learn(&mut self, machine: &Solo, line: &Line) -> Option<Stop> {
+    pub fn learn(&mut self, machine: &Solo, line: &Line, now: u64) -> Option<Stop> {
         let place = line.deed.cpu().index();
         let deed = line.deed;
         let answer = line.answer;
         let is_expected = match deed {
             Deed::Tick { ns, .. } => self.has_ticked(machine, place, ns.get(), answer),
-            Deed::Pick { .. } => self.has_picked(place, answer),
-            Deed::Wake { .. } => self.has_woken(machine, place, answer),
-            Deed::Pull { source, .. } => self.has_pulled(machine, place, source.index(), answer),
+            Deed::Pick { .. } => self.has_picked(place, answer, now),
+            Deed::Wake { .. } => self.has_woken(machine, place, answer, now),
+            Deed::Pull { source, .. } => {
+                self.has_pulled(place, answer);
+                self.plan_next(machine, source.index(), now);
+                true
+            }
             _ => is_of_phase(answer),
         };
-        self.plan_next(machine, place);
+        self.plan_next(machine, place, now);
         if is_expected {
             None
         } else if answer == Answer::Range {
@@ -212,9 +211,9 @@ impl Schedule {
     }
 
     /// A CPU has picked.
-    fn has_picked(&mut self, place: usize, answer: Answer) -> bool {
+    fn has_picked(&mut self, place: usize, answer: Answer, now: u64) -> bool {
         match answer {
-            Answer::Picked(task) => self.has_next(place, task),
+            Answer::Picked(task) => self.has_next(place, task, now),
             Answer::Idle => self.has_none(place),
             _ => return false,
         }
@@ -222,14 +221,14 @@ impl Schedule {
     }
 
     /// A task has been picked.
-    fn has_next(&mut self, place: usize, task: TaskId) {
+    fn has_next(&mut self, place: usize, task: TaskId, now: u64) {
         let Some(processor) = self.processors.get_mut(place) else {
             return;
         };
         processor.running = Some(task.index());
         processor.picks = Picks::No;
         processor.is_woken = false;
-        processor.tick_after(self.now, self.plan.tick);
+        processor.tick_after(now, self.plan.tick);
     }
 
     /// There was nobody to pick.
@@ -243,18 +242,16 @@ impl Schedule {
     }
 
     /// A CPU has pulled. A task that it got from another one is to be picked.
-    fn has_pulled(&mut self, machine: &Solo, place: usize, source: usize, answer: Answer) -> bool {
+    fn has_pulled(&mut self, place: usize, answer: Answer) {
         if let Answer::Pulled(_) = answer {
             if let Some(processor) = self.processors.get_mut(place) {
                 processor.picks = Picks::Now;
             }
         }
-        self.plan_next(machine, source);
-        true
     }
 
     /// A task has woken. Where it is not alone there, the CPUs that have nothing to run look for work again.
-    fn has_woken(&mut self, machine: &Solo, place: usize, answer: Answer) -> bool {
+    fn has_woken(&mut self, machine: &Solo, place: usize, answer: Answer, now: u64) -> bool {
         if answer != Answer::Woken {
             return false;
         }
@@ -266,17 +263,17 @@ impl Schedule {
             }
         }
         if self.plan.pull && self.has_others(machine, place) {
-            self.look_again();
+            self.look_again(now);
         }
         true
     }
 
     /// Each CPU that has nothing to run looks for work again.
-    fn look_again(&mut self) {
+    fn look_again(&mut self, now: u64) {
         for processor in self.processors.iter_mut() {
             if processor.running.is_none() && processor.picks == Picks::No {
                 processor.looked = 0;
-                processor.next = self.now;
+                processor.next = now;
             }
         }
     }

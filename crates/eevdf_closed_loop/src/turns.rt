@@ -8,11 +8,11 @@ use eevdf_weight::Ns;
 
 impl Schedule {
     /// The next deed of a CPU at this moment. `None` where it has nothing more to do at it.
-    pub fn turn(&mut self, machine: &Solo, place: usize) -> Result<Option<Deed>, Stop> {
-        if let Some(deed) = self.charge(place) {
+    pub fn turn(&mut self, machine: &Solo, place: usize, now: u64) -> Result<Option<Deed>, Stop> {
+        if let Some(deed) = self.charge(place, now) {
             return Ok(Some(deed));
         }
-        self.hear_tick(place);
+        self.hear_tick(place, now);
         let processor = self.processors.get(place).ok_or(Stop::OtherSetup)?;
         let cpu = processor.id;
         if processor.picks == Picks::Now {
@@ -23,10 +23,10 @@ impl Schedule {
             return Ok(if picks_soon {
                 Some(Deed::Pick { cpu })
             } else {
-                self.look_for_work(machine, place, cpu)
+                self.look_for_work(machine, place, cpu, now)
             });
         };
-        let deed = self.go_on(place, running)?;
+        let deed = self.go_on(place, running, now)?;
         if deed.is_none() && picks_soon {
             return Ok(Some(Deed::Pick { cpu }));
         }
@@ -34,12 +34,11 @@ impl Schedule {
     }
 
     /// Where the clock ticks at this moment, the CPU is to pick if a task has woken there.
-    fn hear_tick(&mut self, place: usize) {
+    fn hear_tick(&mut self, place: usize, now: u64) {
         let tick = self.plan.tick;
         if tick == 0 {
             return;
         }
-        let now = self.now;
         if let Some(processor) = self.processors.get_mut(place) {
             if processor.running.is_some() && processor.ticks_at <= now {
                 if processor.is_woken {
@@ -51,7 +50,13 @@ impl Schedule {
     }
 
     /// The pull from the next CPU in turn that has two tasks or more, when that one is charged.
-    fn look_for_work(&mut self, machine: &Solo, place: usize, cpu: CpuId) -> Option<Deed> {
+    fn look_for_work(
+        &mut self,
+        machine: &Solo,
+        place: usize,
+        cpu: CpuId,
+        now: u64,
+    ) -> Option<Deed> {
         if !self.plan.pull {
             return None;
         }
@@ -60,7 +65,7 @@ impl Schedule {
         for steps in looked.saturating_add(1)..cpus {
             let source_place = place_after(place, steps, cpus);
             if self.has_others(machine, source_place) {
-                if let Some(deed) = self.charge(source_place) {
+                if let Some(deed) = self.charge(source_place, now) {
                     return Some(deed);
                 }
                 let source = self.processors.get(source_place)?.id;
@@ -83,24 +88,24 @@ impl Schedule {
     }
 
     /// Plans when a CPU does something next.
-    pub fn plan_next(&mut self, machine: &Solo, place: usize) {
-        let next = self.next_of(machine, place);
+    pub fn plan_next(&mut self, machine: &Solo, place: usize, now: u64) {
+        let next = self.next_of(machine, place, now);
         if let Some(processor) = self.processors.get_mut(place) {
             processor.next = next;
         }
     }
 
     /// When a CPU does something next.
-    fn next_of(&self, machine: &Solo, place: usize) -> u64 {
+    fn next_of(&self, machine: &Solo, place: usize, now: u64) -> u64 {
         let Some(processor) = self.processors.get(place) else {
             return NEVER;
         };
         if processor.picks != Picks::No {
-            return self.now;
+            return now;
         }
         let Some(running) = processor.running else {
             let looks = self.plan.pull && processor.looked < self.processors.len();
-            return if looks { self.now } else { NEVER };
+            return if looks { now } else { NEVER };
         };
         let left = match self.actors.get(running) {
             Some(actor) => actor.left,

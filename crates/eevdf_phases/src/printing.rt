@@ -38,13 +38,13 @@ pub(crate) fn print_stats<W: Write>(
         };
         figures.count(&line, moment_of(machine, &line));
     }
-    print_figures(out, names, figures, machine.now())?;
+    print_figures(out, names, figures, machine.now)?;
     Ok(Ending::of(machine))
 }
 
 /// The moment of a deed that was just done: up to then its CPU is charged.
 pub(crate) fn moment_of(machine: &ClosedLoop, line: &Line) -> u64 {
-    machine.charged(line.deed.cpu())
+    machine.charged(line.deed.cpu()).unwrap_or(machine.now)
 }
 
 /// Prints a deed with its answer, its moment in milliseconds, and whom it concerns.

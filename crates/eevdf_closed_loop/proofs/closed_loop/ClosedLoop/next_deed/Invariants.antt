@@ -1,0 +1,8 @@
+use Rattle.std.proofs.Common.{◌≡◌, ◌≤◌}
+use Rattle.eevdf_closed_loop.proofs.closed_loop.ClosedLoop.next_deed.Given as goal
+
+abbrev pub invariant-loop-look : goal.invariant-loop-look
+invariant-loop-look l = record {
+  machine : l.self.machine ≡ l.initial.self.machine;
+  clock : l.initial.self.now ≤ l.self.now;
+}
