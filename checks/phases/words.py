@@ -1,7 +1,6 @@
 """Words, files and streams: `eevdf_phases` says of them what the other programs of the workbench say, with their statuses."""
 
 import os
-import resource
 import tempfile
 from pathlib import Path
 
@@ -70,16 +69,8 @@ def check_writes(checks, program):
         checks.expect(f"{words} into a pipe that nobody reads", printed, printed == Printed(b"", 3))
 
 
-def check_memory(checks, program):
-    """Eight million values have no room in 64 MiB, and that is said."""
-    values = b"version = [" + b"1," * 8000000 + b"]"
-    printed = run([program], values, limits={resource.RLIMIT_AS: 64 << 20})
-    checks.expect("a text in too little memory", printed, printed == Printed(b"", 3, b"fault: memory\n"))
-
-
 def check_words(checks, programs):
     program = programs.path("eevdf_phases")
     check_said(checks, program)
     check_files(checks, program)
     check_writes(checks, program)
-    check_memory(checks, program)
