@@ -107,6 +107,7 @@ def check_window(checks, data):
     words = ("--from", str(begin), "--to", str(end), "--cpu", ",".join(map(str, cpus)))
     check_picture(checks.written(words, data), timeline, (begin, end), cpus)
     check_stretch_table(checks.written((*words, "--table"), data), timeline, (begin, end), cpus)
+    check_trace(checks.written((*words, "--perfetto"), data), timeline, (begin, end), cpus)
     check_task_picture(checks.written((*words[:4], "--rows=tasks"), data), timeline, (begin, end))
 
 
@@ -168,6 +169,25 @@ def check_ends(checks):
     expect("how long it was from a wake", [row[4] for row in rows if row[4] != "-"], ["3000"])
 
 
+def check_edges(checks):
+    """What only touches the time isn't in it, and what is partly in it is told whole. Counters have from the beginning on what they had
+    before."""
+    data = made.three_turns()
+    timeline = Timeline(read_workload(data).setup, read_workload(data).script)
+    for begin, end in ((4000000, 8000000), (5000000, 7000000)):
+        words = ("--from", str(begin), "--to", str(end))
+        rows = [row.split() for row in checks.written((*words, "--table"), data).decode().splitlines()[1:]]
+        expect("the stretches", rows, [["4000000", "0", "1", "4000000", "-", "4000000", "slept"]])
+        picture = checks.written(words, data)
+        expect("the boxes", re.findall(rb"<title>(task .*?)</title>", picture), [b"task 1 on CPU 0, 4000000 ns, from 4000000 ns to 8000000 ns"])
+        if b"too short" in picture:
+            raise Wrong("a sleep that isn't in the time")
+        check_picture(picture, timeline, (begin, end))
+        check_trace(checks.written((*words, "--perfetto"), data), timeline, (begin, end))
+        loads = [event for event in checks.events(words, data) if event["name"] == "load of CPU 0"]
+        expect("the load at first", (loads[0]["ts"], loads[0]["args"]), (begin / 1000, {"load": 2048}))
+
+
 def check_late_wake(checks):
     """Nothing that a wake brings about is drawn before what its sender had done by then."""
     data = made.late_wake()
@@ -198,7 +218,7 @@ def check_crowd(checks):
 
 def check_made(checks):
     for name, check in (("choices", check_choices), ("yields of tasks", check_yields), ("an early arrow", check_late_pull), ("a late wake", check_late_wake),
-                        ("why stretches end", check_ends),
+                        ("why stretches end", check_ends), ("the edges of a time", check_edges),
                         ("a task alone of each level", check_alone), ("30 tasks", check_crowd), ("3000 stretches", check_dense)):
         checks.attempt(name, check, checks)
     checks.attempt("an empty machine", check_script, checks, made.empty())

@@ -3,10 +3,10 @@
 import json
 from collections import defaultdict
 
-from model import kept
+from model import before, kept
 from plain.report import text_of
 from svg import Wrong, expect
-from turns import rests_of, turns_of
+from turns import is_in, rests_of, turns_of
 from view import MOST_CURVES
 
 # The processes: tracks and loads of CPUs, counters of lags, and tracks of tasks.
@@ -56,10 +56,10 @@ def check_processes(events):
 
 
 def check_names(events, cpus, tasks):
-    """The processes and the tracks of CPUs and tasks have their names, and their places."""
+    """The processes and the tracks of these CPUs and of so many tasks have their names, and their places."""
     processes = [(CPUS, "CPUs"), (TASKS, "tasks"), (LAGS, "lags")]
     wanted = [("process", process, 0, name, place) for place, (process, name) in enumerate(processes, 1)]
-    wanted += [("thread", CPUS, cpu, f"CPU {cpu}", cpu) for cpu in range(cpus)]
+    wanted += [("thread", CPUS, cpu, f"CPU {cpu}", cpu) for cpu in cpus]
     wanted += [("thread", TASKS, task, f"task {task}", task) for task in range(tasks)]
     wanted = [row for kind, process, track, name, place in wanted
               for row in ((f"{kind}_name", process, track, {"name": name}), (f"{kind}_sort_index", process, track, {"sort_index": place}))]
@@ -67,7 +67,7 @@ def check_names(events, cpus, tasks):
 
 
 def events_in(text, cpus, tasks):
-    """The events of a trace of so many CPUs and tasks but for the names, with what holds of each trace."""
+    """The events of a trace of these CPUs and of so many tasks but for the names, with what holds of each trace."""
     trace = json.loads(text)
     expect("the unit", trace["displayTimeUnit"], "ns")
     names = [event for event in trace["traceEvents"] if event["ph"] == "M"]
@@ -106,22 +106,40 @@ def ran_of(timeline):
         yield TASKS, turn.task, f"runs on CPU {turn.cpu}", turn.begin, length, {"task": turn.task, "cpu": turn.cpu}
 
 
+def crossing_in(timeline, window, cpus):
+    """The deeds of two of these CPUs that were done in this time, and began in it on the other one, each with that."""
+    for moment in timeline.moments:
+        if is_of_another(moment):
+            giver = moment.deed[1 if moment.deed[0] == "pull" else 2]
+            if {moment.cpu, giver} <= set(cpus) and is_in(window, moment.begin, moment.begin) and is_in(window, moment.other, moment.other):
+                yield moment, giver
+
+
 def slices_of(timeline, crossing):
     given = [(CPUS, giver, f"other end of {moment.text()}", moment.other, 0, {"cpu": moment.cpu}) for moment, giver in crossing]
     rests = [(TASKS, task, "sleeps" if sleeps else "waits", begin, end - begin, {"task": task}) for task, sleeps, begin, end in rests_of(timeline)]
     return [*ran_of(timeline), *done_of(timeline), *given, *rests]
 
 
-def check_trace(text, timeline):
-    """Raises Wrong where the trace of a whole timeline isn't as docs/pictures.md says."""
-    events = events_in(text, timeline.setup.cpus(), len(timeline.setup.tasks))
-    crossing = [(moment, moment.deed[1 if moment.deed[0] == "pull" else 2]) for moment in timeline.moments if is_of_another(moment)]
+def check_trace(text, timeline, window=None, cpus=None):
+    """Raises Wrong where the trace of a timeline, or of a part of its time or some of its CPUs, isn't as docs/pictures.md says."""
+    window, cpus = window or (0, timeline.end()), cpus or range(timeline.setup.cpus())
+    events = events_in(text, cpus, len(timeline.setup.tasks))
+    crossing = list(crossing_in(timeline, window, cpus))
     arrows = [((giver, moment.other), (moment.cpu, moment.begin)) for moment, giver in crossing]
     expect("the arrows", sorted(check_flows(events)), sorted(arrows))
     slices = [(event["pid"], event["tid"], event["name"], nanoseconds(event, "ts"), nanoseconds(event, "dur"), event["args"])
               for event in events if event["ph"] == "X"]
-    expect("the slices", sorted(slices, key=str), sorted(slices_of(timeline, crossing), key=str))
-    check_counters(events, timeline)
+    wanted = [row for row in slices_of(timeline, crossing) if is_shown(row, window, cpus)]
+    expect("the slices", sorted(slices, key=str), sorted(wanted, key=str))
+    check_counters(events, timeline, window, cpus)
+
+
+def is_shown(row, window, cpus):
+    """Whether a slice is in this time, and on one of these CPUs if it is on any."""
+    process, track, _, begin, length, args = row
+    cpu = track if process == CPUS else args.get("cpu", cpus[0])
+    return cpu in cpus and is_in(window, begin, begin + length)
 
 
 def counted(events, name, value):
@@ -130,16 +148,25 @@ def counted(events, name, value):
 
 def check_unknown_trace(text, cpus, tasks):
     """What holds of the trace of a history that isn't known."""
-    check_flows(events_in(text, cpus, tasks))
+    check_flows(events_in(text, range(cpus), tasks))
 
 
-def check_counters(events, timeline):
-    """Each load is there as it changes, and of the lags those that a picture has."""
+def check_counters(events, timeline, window, cpus):
+    """Each load is there as it changes, and of the lags those that a picture has. What a counter had before the time is there as that
+    begins."""
+    begin, end = window
     for cpu, loads in enumerate(timeline.loads):
-        expect(f"the loads of CPU {cpu}", counted(events, f"load of CPU {cpu}", "load"), loads[1:])
+        earlier = [(begin, load) for time, load in loads[1:] if time < begin][-1:]
+        wanted = earlier + [(time, load) for time, load in loads[1:] if begin <= time <= end] if cpu in cpus else []
+        expect(f"the loads of CPU {cpu}", counted(events, f"load of CPU {cpu}", "load"), wanted)
     lags = {event["name"] for event in events if event["name"].startswith("lag ")}
-    drawn = enumerate(timeline.points[:MOST_CURVES])
-    wanted = {f"lag of task {task}": list(kept(points, 0, timeline.end())) for task, points in drawn if points}
+    wanted = {f"lag of task {task}": lags_of(points, begin, end) for task, points in enumerate(timeline.points[:MOST_CURVES])}
+    wanted = {name: points for name, points in wanted.items() if points}
     expect("the counters of lags", lags, set(wanted))
     for name, points in wanted.items():
         expect(name, counted(events, name, "lag"), points)
+
+
+def lags_of(points, begin, end):
+    earlier = before(points, begin, end)
+    return ([] if earlier is None else [(begin, earlier[1])]) + list(kept(points, begin, end))

@@ -114,7 +114,7 @@ def check_marks(picture, view, lanes, bottom):
     """Each mark that has room is there once, in its row below its CPU's boxes, and no other."""
     marks = list(view.marks(picture.place))
     drawn = [mark for mark in marks if mark.row is not None]
-    expect("marks left out", picture.count(r"(\d+) marks have no room"), len(marks) - len(drawn))
+    expect("marks left out", picture.count(r"(\d+) marks? ha(?:ve|s) no room"), len(marks) - len(drawn))
     uses = [use for use in picture.uses() if title_of(use)]
     said = on_each_cpu((use.get("href")[1:], tenths(use.get("x")), title_of(use), tenths(use.get("y"))) for use in uses)
     wanted = on_each_cpu((mark.sign, picture.place(mark.moment.begin), mark.title(), mark) for mark in drawn)

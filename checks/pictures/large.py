@@ -39,7 +39,7 @@ def check_widest(checks):
     check_json(within_bounds(checks, ("--stats", "--json"), data), timeline)
     one = checks.written(("--cpu", "5"), data)
     check_picture(one, timeline, cpus=[5])
-    expect("whether marks have no room on one CPU", b"have no room" in one, False)
+    expect("whether marks have no room on one CPU", b"no room" in one, False)
 
 
 def check_size(text, most):
@@ -78,7 +78,7 @@ def check_longest_figures(checks, data):
 def check_part_of_longest(checks, data):
     """Two milliseconds of it have room for all."""
     text = within_bounds(checks, ("--from", "100000000", "--to", "102000000", "--task", "0,1"), data)
-    if b"Drawn coarser" in text or b"have no room" in text:
+    if b"Drawn coarser" in text or b"no room" in text:
         raise Wrong("a part that is coarse")
     if text.count(b"<title>task ") < 20:
         raise Wrong("a part without its boxes")

@@ -139,6 +139,12 @@ def ends():
     return workload(2, tasks, script)
 
 
+def three_turns():
+    """Tasks 0, 1 and 0 run for 4 ms each, and task 1 falls asleep when it has run."""
+    tasks = [task_text(0, 0, 3000000, 0, False) for _ in range(2)]
+    return workload(1, tasks, ["0 pick", "0 tick 4000000", "0 pick", "0 tick 4000000", "0 sleep 1", "0 pick", "0 tick 4000000"])
+
+
 def late_wake():
     """CPU 0 runs for 5 ms, and only then wakes a task of CPU 1, which runs for 1 ms."""
     tasks = [task_text(0, 0, 3000000, 0, False), task_text(1, 0, 3000000, 0, True)]

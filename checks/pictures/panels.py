@@ -108,4 +108,4 @@ def check_sleeps(picture, view, tops):
     rects = [rect for rect in picture.named("rect", "u") if tops and tenths(rect.get("y")) >= tops[0]]
     said = sorted(tuple(tenths(rect.get(key)) for key in ("y", "x", "width", "height")) for rect in rects)
     expect("where tasks sleep", said, wanted)
-    expect("sleeps that aren't drawn", picture.count(r"(\d+) sleeps are too short"), len(places) - len(wanted))
+    expect("sleeps that aren't drawn", picture.count(r"(\d+) sleeps? (?:is|are) too short"), len(places) - len(wanted))

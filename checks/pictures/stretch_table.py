@@ -3,15 +3,19 @@
 import re
 
 from svg import expect
-from turns import turns_of
+from turns import is_in, turns_of
 
 HEADINGS = ("time ns", "cpu", "task", "waited ns", "delay ns", "ran ns", "why")
 
 
+def listed(timeline, window, cpus):
+    """The stretches that are in this time on these CPUs, in the order of time."""
+    turns = [turn for turn in turns_of(timeline) if turn.cpu in cpus and is_in(window, turn.begin, turn.end)]
+    return sorted(turns, key=lambda turn: turn.begin)
+
+
 def rows_of(timeline, window, cpus):
-    begin, end = window
-    turns = [turn for turn in turns_of(timeline) if turn.cpu in cpus and turn.begin <= end and turn.end >= begin]
-    for turn in sorted(turns, key=lambda turn: turn.begin):
+    for turn in listed(timeline, window, cpus):
         delay = "-" if turn.delay is None else turn.delay
         yield [str(value) for value in (turn.begin, turn.cpu, turn.task, turn.waited, delay, turn.end - turn.begin, turn.why)]
 

@@ -56,6 +56,8 @@ class Picture:
         for part in self.named("text", "s"):
             if int(part.get("x")) + LETTER * len(part.text.strip()) > PAGE:
                 raise Wrong(f"{part.text} hasn't room in a line")
+        if re.search(r"\b1 \w+ (?:are|have) ", self.notes):
+            raise Wrong(f"one of several: {self.notes}")
         self.check_legend(legend)
         check_fills(self.root)
 

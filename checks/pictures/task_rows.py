@@ -4,7 +4,7 @@ import re
 
 from lanes import lanes_of
 from svg import FILLS, HEIGHT, WIDTH, Wrong, expect, read, tenths, title_of
-from turns import rests_of
+from turns import is_in, rests_of
 
 BOX = re.compile(r"task (\d+) (?:runs on CPU (\d+)|(waits|sleeps)), from (\d+) ns to (\d+) ns")
 # Of more boxes than these the narrow ones are left out.
@@ -17,7 +17,7 @@ def shown(timeline, begin, end):
     """(task, CPU or None, what the task does, begin, end) of each stretch and each rest that is in this time."""
     ran = [(task, cpu, "runs", first, last) for cpu, task, first, last in timeline.stretches]
     rested = [(task, None, "sleeps" if sleeps else "waits", first, last) for task, sleeps, first, last in rests_of(timeline)]
-    return [row for row in ran + rested if row[3] <= end and row[4] >= begin]
+    return [row for row in ran + rested if is_in((begin, end), *row[3:])]
 
 
 def box_of(picture, rows, row):
@@ -48,6 +48,6 @@ def check_rows(picture, timeline, bottom):
     parts = zip(picture.parts, [*picture.parts[1:], None])
     said = [drawn_of(part, after) for part, after in parts if part.tag.endswith("rect") and title_of(part)]
     expect("the boxes", sorted(said, key=str), sorted(wanted, key=str))
-    expect("boxes that aren't drawn", picture.count(r"(\d+) boxes are too narrow"), len(boxes) - len(wanted))
+    expect("boxes that aren't drawn", picture.count(r"(\d+) box(?:es)? (?:is|are) too narrow"), len(boxes) - len(wanted))
     if max(rows.values()) + HEIGHT > bottom:
         raise Wrong(f"a row below {bottom}")

@@ -16,6 +16,12 @@ class Turn:
     why: str
 
 
+def is_in(window, begin, end):
+    """Whether what lasts from a begin to an end shares time with a window, or is itself a moment of it."""
+    first, last = window
+    return begin < last and first < end if begin < end else first <= begin <= last
+
+
 def changes_of(timeline):
     """Of each task the moments at which it falls asleep or ends, and those at which it wakes: (time, whether it sleeps)."""
     changes = defaultdict(list)

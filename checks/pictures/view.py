@@ -4,7 +4,7 @@ from dataclasses import dataclass
 from itertools import groupby
 
 from model import Moment, before, kept, shown, signs_of
-from turns import rests_of
+from turns import is_in, rests_of
 
 MOST_CURVES = 16
 # Of more stretches than these those are joined that begin in one part of a lane.
@@ -26,7 +26,7 @@ class View:
     def __init__(self, timeline, begin, end, cpus):
         self.begin, self.end, self.cpus = begin, end, list(cpus)
         self.stretches = sorted((stretch for stretch in timeline.stretches
-                                 if stretch[0] in self.cpus and stretch[2] <= end and stretch[3] >= begin),
+                                 if stretch[0] in self.cpus and is_in((begin, end), *stretch[2:])),
                                 key=lambda stretch: (stretch[0], stretch[2]))
         self.moments = [(moment, sign) for moment, sign in zip(timeline.moments, signs_of(timeline.moments))
                         if moment.cpu in self.cpus and begin <= moment.begin <= end]
@@ -35,7 +35,7 @@ class View:
         # the lag with which the time begins, where that is one from before it
         self.before = {task: before(timeline.points[task], begin, end) for task in self.curves}
         self.sleeps = [(task, *times) for task, sleeps, *times in rests_of(timeline)
-                       if sleeps and task in self.curves and times[0] <= end and times[1] >= begin]
+                       if sleeps and task in self.curves and is_in((begin, end), *times)]
         self.is_thinned = any(len(curve) < len(times) for curve, times in zip(self.curves.values(), looks))
 
     def groups(self, cpu):

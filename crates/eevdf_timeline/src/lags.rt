@@ -1,5 +1,6 @@
 //! How the lags of tasks and the loads of CPUs change, as the deeds are done once more.
 
+use crate::lists::set_at;
 use crate::marks::task_of;
 use crate::moments::{Moment, do_again};
 use crate::progress::Progress;
@@ -164,7 +165,7 @@ impl Lags {
         if !solo.has_cpu(cpu) {
             return Ok(());
         }
-        set_looked(&mut self.looked, cpu, time);
+        set_at(&mut self.looked, cpu.index(), Some(time));
         let queue = solo.queue(cpu);
         self.note_load(cpu, time, queue.load())?;
         if time <= scale.to {
@@ -284,13 +285,6 @@ fn lag_after(solo: &Solo, moment: &Moment, task: TaskId) -> Option<i64> {
         solo.queue(cpu).lag_of(task)
     } else {
         None
-    }
-}
-
-fn set_looked(looked: &mut [Option<u64>], cpu: CpuId, time: u64) {
-    let cpu = cpu.index();
-    if cpu < looked.len() {
-        looked[cpu] = Some(time);
     }
 }
 

@@ -11,6 +11,7 @@ mod figures;
 mod help;
 mod history;
 mod lags;
+mod lists;
 mod marks;
 mod moments;
 mod picture;

@@ -2,7 +2,6 @@
 
 use crate::moments::{Moment, named_task};
 use crate::scale::{Tenths, part};
-use crate::words::Words;
 use eevdf_ops::Answer;
 use eevdf_queue::TaskId;
 
@@ -22,14 +21,6 @@ pub(crate) fn task_of(moment: &Moment, running: Option<TaskId>) -> Option<TaskId
         Answer::Charged { task, .. } | Answer::Picked(task) | Answer::Pulled(task) => Some(task),
         Answer::Yielded => running,
         _ => named_task(moment.line.deed),
-    }
-}
-
-/// Whether a deed is of a chosen task, or no tasks are named.
-pub(crate) fn is_chosen(moment: &Moment, running: Option<TaskId>, words: &Words) -> bool {
-    match task_of(moment, running) {
-        None => !words.tasks.is_named(),
-        Some(task) => words.tasks.has(task.index()),
     }
 }
 

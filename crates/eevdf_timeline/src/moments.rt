@@ -2,6 +2,7 @@
 
 ghost use Rattle.std.specs.Prelude.{◌≡◌, map, IfOk};
 
+use crate::lists::set_at;
 use eevdf_ops::{Answer, CpuId, Deed, Line, Named, Origin, Solo};
 use eevdf_queue::TaskId;
 use std::alloc::{AllocError, Global};
@@ -121,9 +122,9 @@ impl Clocks {
             .max(other)
             .max(self.found_at(&line));
         let end = begin.saturating_add(length_of(&line));
-        set_time(&mut self.cpus, cpu, end);
+        set_at(&mut self.cpus, cpu, end);
         if let Some(task) = slept_task(&line) {
-            set_time(&mut self.slept, task.index(), begin);
+            set_at(&mut self.slept, task.index(), begin);
         }
         Moment {
             line,
@@ -169,12 +170,6 @@ fn found_task(line: &Line) -> Option<TaskId> {
 
 fn time_at(times: &[u64], place: usize) -> u64 {
     times.get(place).copied().unwrap_or(0)
-}
-
-fn set_time(times: &mut [u64], place: usize, time: u64) {
-    if place < times.len() {
-        times[place] = time;
-    }
 }
 
 /// The nanoseconds that a line takes: those of a tick, unless it was refused.

@@ -96,9 +96,10 @@ fn push_tasks(alloc: Global, text: &mut String, scene: &Scene<'_>) -> Result<(),
     push_panels(text, scene, bottom.saturating_add(HEADING))?;
     let left_out = rows.left_out;
     if left_out > 0 {
+        let boxes = if left_out == 1 { "box is" } else { "boxes are" };
         writeln!(
             text,
-            "<text class=\"s\" x=\"10\" y=\"{NOTE}\">Drawn coarser: {left_out} boxes are too narrow to be drawn.</text>"
+            "<text class=\"s\" x=\"10\" y=\"{NOTE}\">Drawn coarser: {left_out} {boxes} too narrow to be drawn.</text>"
         )?;
     }
     push_lag_note(text, scene, NEXT_NOTE)
@@ -115,6 +116,8 @@ fn push_around(text: &mut String, scene: &Scene<'_>, bottom: u64) -> Result<(), 
 
 fn push_head(text: &mut String, scene: &Scene<'_>, height: u64) -> Result<(), AllocError> {
     let (cpus, tasks, deeds) = (scene.setup.cpus(), scene.setup.tasks(), scene.moments.len());
+    let of_cpus = if cpus == 1 { "CPU" } else { "CPUs" };
+    let of_tasks = if tasks == 1 { "task" } else { "tasks" };
     write!(
         text,
         "<svg xmlns=\"http://www.w3.org/2000/svg\" viewBox=\"0 0 {PAGE} {height}\" width=\"{PAGE}\" height=\"{height}\" "
@@ -125,7 +128,7 @@ fn push_head(text: &mut String, scene: &Scene<'_>, height: u64) -> Result<(), Al
     )?;
     writeln!(
         text,
-        "<title>A schedule of {cpus} CPUs and {tasks} tasks</title>"
+        "<title>A schedule of {cpus} {of_cpus} and {tasks} {of_tasks}</title>"
     )?;
     push_style(text)?;
     writeln!(
@@ -200,20 +203,14 @@ fn push_panels(text: &mut String, scene: &Scene<'_>, top: u64) -> Result<(), All
     )?;
     write!(text, "it sleeps where a panel is hatched")?;
     if left_out > 0 {
-        write!(text, "; {left_out} sleeps are too short")?;
+        let sleeps = if left_out == 1 {
+            "sleep is"
+        } else {
+            "sleeps are"
+        };
+        write!(text, "; {left_out} {sleeps} too short")?;
     }
     writeln!(text, "</text>")
-}
-
-/// How many tasks are chosen.
-fn chosen_tasks(scene: &Scene<'_>) -> usize {
-    let mut chosen = 0usize;
-    for task in 0..scene.setup.tasks() {
-        if scene.words.tasks.has(task) {
-            chosen = chosen.saturating_add(1);
-        }
-    }
-    chosen
 }
 
 /// Says what is left out or drawn coarser: in one line of lanes, and in one of lags.
@@ -236,13 +233,18 @@ fn push_lane_note(text: &mut String, lanes: &Lanes) -> Result<(), AllocError> {
         )?;
     }
     if lanes.left_out > 0 {
-        write!(text, "{} marks have no room. ", lanes.left_out)?;
+        let marks = if lanes.left_out == 1 {
+            "mark has"
+        } else {
+            "marks have"
+        };
+        write!(text, "{} {marks} no room. ", lanes.left_out)?;
     }
     writeln!(text, "</text>")
 }
 
 fn push_lag_note(text: &mut String, scene: &Scene<'_>, height: u64) -> Result<(), AllocError> {
-    let chosen = chosen_tasks(scene);
+    let chosen = scene.words.tasks.count(scene.setup.tasks());
     let thinned = scene.lags.are_thinned();
     if !thinned && chosen <= MOST_CURVES {
         return Ok(());

@@ -1,5 +1,8 @@
 //! From times to places in the picture.
 
+ghost use Rattle.std.specs.Prelude.{◌≡◌};
+ghost use Rattle.eevdf_timeline.specs.Windows as spec;
+
 use std::fmt;
 
 /// A length or a place in tenths of a unit of the picture.
@@ -37,9 +40,22 @@ impl Scale {
         self.to.saturating_sub(self.from)
     }
 
-    /// Whether some of the time from one moment to another is drawn.
-    pub(crate) fn shows(&self, begin: u64, end: u64) -> bool {
-        begin <= self.to && end >= self.from
+    /// Whether a moment is drawn, as those at the edges are.
+    pub(crate) fn has(&self, time: u64) -> bool
+        ensures { result ≡ spec.has self.now time }
+    {
+        self.from <= time && time <= self.to
+    }
+
+    /// Whether something that lasts from one moment to another is drawn: it shares time with what is drawn, or is itself a moment of it.
+    pub(crate) fn shows(&self, begin: u64, end: u64) -> bool
+        ensures { result ≡ spec.shows self.now begin end }
+    {
+        if begin < end {
+            begin < self.to && self.from < end
+        } else {
+            self.has(begin)
+        }
     }
 
     /// The place of a time, at an edge where it isn't drawn.

@@ -1,5 +1,6 @@
 //! The stretches that tasks ran, and their rests between them.
 
+use crate::lists::set_at;
 use crate::moments::{Moment, named_task};
 use crate::scale::Scale;
 use crate::words::Words;
@@ -153,14 +154,14 @@ impl Turns {
     /// Follows the deed at a place of the history.
     fn follow(&mut self, moment: &Moment, at: usize) -> Result<(), AllocError> {
         let cpu = moment.line.deed.cpu();
-        set_clock(&mut self.clocks, cpu, moment.end);
+        set_at(&mut self.clocks, cpu.index(), moment.end);
         match moment.line.answer {
             Answer::Charged { task, .. } => self.run(task, moment, at)?,
             Answer::Picked(task) => self.pick(cpu, task),
             Answer::Yielded => self.stop(cpu, Stop::Yielded),
             Answer::Slept(_) => {
                 self.stop(cpu, Stop::Slept);
-                set_open(&mut self.open, cpu, None);
+                set_at(&mut self.open, cpu.index(), None);
                 self.change(moment, true)?;
             }
             Answer::Ended => {
@@ -198,7 +199,7 @@ impl Turns {
         let since = self.standing(task).map_or(begin, |standing| standing.since);
         let woken = self.standing(task).and_then(|standing| standing.woken);
         self.push_rest(task, false, since, begin)?;
-        set_open(&mut self.open, cpu, Some(self.stretches.len()));
+        set_at(&mut self.open, cpu.index(), Some(self.stretches.len()));
         self.stretches.push(Stretch {
             cpu,
             task,
@@ -264,7 +265,7 @@ impl Turns {
         let ran = self.last_on(cpu).map(|stretch| stretch.task);
         if ran.is_some() && ran == named_task(moment.line.deed) {
             self.stop(cpu, Stop::Ended);
-            set_open(&mut self.open, cpu, None);
+            set_at(&mut self.open, cpu.index(), None);
         }
     }
 
@@ -329,9 +330,7 @@ impl Turns {
     }
 
     fn set_standing(&mut self, task: TaskId, standing: Standing) {
-        if let Some(place) = self.tasks.get_mut(task.index()) {
-            *place = standing;
-        }
+        set_at(&mut self.tasks, task.index(), standing);
     }
 
     /// Adds a rest, where it has some length.
@@ -351,19 +350,5 @@ impl Turns {
             })?;
         }
         Ok(())
-    }
-}
-
-fn set_open(open: &mut [Option<usize>], cpu: CpuId, at: Option<usize>) {
-    let cpu = cpu.index();
-    if cpu < open.len() {
-        open[cpu] = at;
-    }
-}
-
-fn set_clock(clocks: &mut [u64], cpu: CpuId, time: u64) {
-    let cpu = cpu.index();
-    if cpu < clocks.len() {
-        clocks[cpu] = time;
     }
 }

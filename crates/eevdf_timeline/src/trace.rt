@@ -1,15 +1,18 @@
 //! The trace of a schedule, as Trace Event JSON: a track for each CPU and for each task, and counters of loads and lags.
 
+mod counters;
 mod event;
 mod names;
 mod slices;
 
-use crate::marks::{is_chosen, running_after};
 use crate::moments::{Moment, other_cpu};
 use crate::scene::Scene;
-use crate::trace::event::{Head, LAGS, Phase, Values, head_of, push_event};
+use crate::trace::counters::{push_counters, push_lag, push_load};
+use crate::trace::event::Phase;
 use crate::trace::names::push_names;
-use crate::trace::slices::{push_arrow, push_done, push_other_end, push_rest, push_run};
+use crate::trace::slices::{
+    push_arrow, push_done, push_other_end, push_rest, push_run, task_after,
+};
 use eevdf_ops::{Answer, CpuId};
 use eevdf_queue::TaskId;
 use std::alloc::{AllocError, Global};
@@ -59,7 +62,7 @@ pub(crate) fn trace_of(alloc: Global, scene: &Scene<'_>) -> Result<Vec<u8>, Allo
 /// All that happens, on each track in order of time but for what arrows add.
 fn dues_of(alloc: Global, scene: &Scene<'_>) -> Result<Vec<Due>, AllocError> {
     let mut dues = Vec::new(alloc);
-    push_deeds(alloc, &mut dues, scene)?;
+    push_deeds(&mut dues, scene)?;
     for (place, stretch) in scene.turns.stretches.iter().enumerate() {
         if stretch.is_chosen(&scene.scale, scene.words) {
             push_at(&mut dues, stretch.begin, What::Ran(place))?;
@@ -70,46 +73,17 @@ fn dues_of(alloc: Global, scene: &Scene<'_>) -> Result<Vec<Due>, AllocError> {
             push_at(&mut dues, rest.begin, What::Rested(place))?;
         }
     }
-    push_counters(&mut dues, scene)?;
+    push_counters(alloc, &mut dues, scene)?;
     Ok(dues)
 }
 
-fn push_deeds(alloc: Global, dues: &mut Vec<Due>, scene: &Scene<'_>) -> Result<(), AllocError> {
-    let mut turns = turns_at_start(alloc, scene.setup.cpus())?;
+fn push_deeds(dues: &mut Vec<Due>, scene: &Scene<'_>) -> Result<(), AllocError> {
     for (place, moment) in scene.moments.iter().enumerate() {
-        let before = running_before(&mut turns, moment);
-        if is_drawn(scene, moment, before) {
+        if is_drawn(scene, moment, place) {
             push_deed(dues, scene, moment, place)?;
         }
     }
     Ok(())
-}
-
-/// Who runs on a CPU.
-#[derive(Clone, Copy)]
-struct Turn {
-    running: Option<TaskId>,
-}
-
-fn turns_at_start(alloc: Global, cpus: usize) -> Result<Vec<Turn>, AllocError> {
-    let mut turns = Vec::new(alloc);
-    for _cpu in 0..cpus {
-        turns.push(Turn { running: None })?;
-    }
-    Ok(turns)
-}
-
-/// Who ran on a deed's CPU before it, after which the next one is noted.
-fn running_before(turns: &mut [Turn], moment: &Moment) -> Option<TaskId> {
-    match turns.get_mut(moment.line.deed.cpu().index()) {
-        None => None,
-        Some(turn) => {
-            let after = running_after(moment, turn.running);
-            let before = turn.running;
-            turn.running = after;
-            before
-        }
-    }
 }
 
 fn push_at(dues: &mut Vec<Due>, time: u64, what: What) -> Result<(), AllocError> {
@@ -117,15 +91,15 @@ fn push_at(dues: &mut Vec<Due>, time: u64, what: What) -> Result<(), AllocError>
     Ok(())
 }
 
-/// Whether a deed is drawn before which this task ran on its CPU: it charged nobody, and its CPU and its task are chosen.
-fn is_drawn(scene: &Scene<'_>, moment: &Moment, running: Option<TaskId>) -> bool {
+/// Whether the deed at a place of the history is drawn: it charged nobody, and its CPU and its task are chosen.
+fn is_drawn(scene: &Scene<'_>, moment: &Moment, place: usize) -> bool {
     if let Answer::Charged { .. } = moment.line.answer {
         return false;
     }
     let cpu = moment.line.deed.cpu().index();
-    is_chosen(moment, running, scene.words)
+    scene.words.tasks.has_task(task_after(scene, place))
         && scene.words.cpus.has(cpu)
-        && scene.scale.shows(moment.begin, moment.begin)
+        && scene.scale.shows(moment.begin, moment.end)
 }
 
 /// Adds the deed at a place of the history.
@@ -137,7 +111,7 @@ fn push_deed(
 ) -> Result<(), AllocError> {
     let begin = moment.other;
     let number = place as u64;
-    let other = if scene.scale.shows(begin, begin) {
+    let other = if scene.scale.has(begin) {
         other_cpu(moment).filter(|other| scene.words.cpus.has(other.index()))
     } else {
         None
@@ -153,20 +127,6 @@ fn push_deed(
             moment.begin,
             What::Ends(moment.line.deed.cpu(), number),
         )?;
-    }
-    Ok(())
-}
-
-fn push_counters(dues: &mut Vec<Due>, scene: &Scene<'_>) -> Result<(), AllocError> {
-    for load in &scene.lags.loads {
-        if scene.words.cpus.has(load.cpu.index()) && scene.scale.shows(load.time, load.time) {
-            push_at(dues, load.time, What::Load(load.cpu, load.load))?;
-        }
-    }
-    for curve in &scene.lags.curves {
-        for point in &curve.points {
-            push_at(dues, point.time, What::Lag(curve.task, point.lag))?;
-        }
     }
     Ok(())
 }
@@ -197,38 +157,4 @@ fn push_due(
         What::Load(cpu, load) => push_load(alloc, text, time, cpu, load),
         What::Lag(task, lag) => push_lag(alloc, text, time, task, lag),
     }
-}
-
-fn push_load(
-    alloc: Global,
-    text: &mut Vec<u8>,
-    time: u64,
-    cpu: CpuId,
-    load: u64,
-) -> Result<(), AllocError> {
-    let name = format!(in alloc; "load of CPU {cpu}")?;
-    let args = Values {
-        load: Some(load),
-        ..Values::none()
-    };
-    push_event(alloc, text, &head_of(Phase::Counter, time, 0), &name, args)
-}
-
-fn push_lag(
-    alloc: Global,
-    text: &mut Vec<u8>,
-    time: u64,
-    task: TaskId,
-    lag: i64,
-) -> Result<(), AllocError> {
-    let name = format!(in alloc; "lag of task {task}")?;
-    let head = Head {
-        process: LAGS,
-        ..head_of(Phase::Counter, time, 0)
-    };
-    let args = Values {
-        lag: Some(lag),
-        ..Values::none()
-    };
-    push_event(alloc, text, &head, &name, args)
 }

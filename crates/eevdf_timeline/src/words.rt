@@ -51,9 +51,23 @@ impl Choice {
         None
     }
 
-    /// Whether numbers are named.
-    pub(crate) fn is_named(&self) -> bool {
-        self.chosen.is_some()
+    /// How many of the numbers below a count are chosen.
+    pub(crate) fn count(&self, all: usize) -> usize {
+        let mut count = 0usize;
+        for number in 0..all {
+            if self.has(number) {
+                count = count.saturating_add(1);
+            }
+        }
+        count
+    }
+
+    /// Whether what concerns this task is chosen. What concerns none is so only where no numbers are named.
+    pub(crate) fn has_task(&self, task: Option<TaskId>) -> bool {
+        match task {
+            None => self.chosen.is_none(),
+            Some(task) => self.has(task.index()),
+        }
     }
 }
 

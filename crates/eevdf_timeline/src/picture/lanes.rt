@@ -1,6 +1,6 @@
 //! The lanes of CPUs: their boxes, their marks and the arrows between them.
 
-use crate::marks::{Rows, is_chosen, running_after};
+use crate::marks::{Rows, running_after, task_of};
 use crate::moments::{Moment, other_cpu};
 use crate::picture::arrows::Shifts;
 use crate::picture::boxes::{BOX, Group};
@@ -139,7 +139,7 @@ impl Lanes {
             }
         }
         if stretches_shown(stretches, scale, words) > MOST_BOXES {
-            let lanes = lanes_shown(self.lanes.len(), words) as u64;
+            let lanes = words.cpus.count(self.lanes.len()) as u64;
             self.cell = part(scale.length(), lanes, MOST_BOXES as u64);
         }
         for stretch in stretches {
@@ -241,17 +241,6 @@ impl Lanes {
     }
 }
 
-/// How many lanes are shown.
-fn lanes_shown(cpus: usize, words: &Words) -> usize {
-    let mut shown = 0usize;
-    for cpu in 0..cpus {
-        if words.cpus.has(cpu) {
-            shown = shown.saturating_add(1);
-        }
-    }
-    shown
-}
-
 /// How many stretches are shown.
 fn stretches_shown(stretches: &[Stretch], scale: &Scale, words: &Words) -> usize {
     let mut shown = 0usize;
@@ -268,7 +257,7 @@ fn deeds_shown(moments: &[Moment], scale: &Scale, words: &Words) -> usize {
     let mut shown = 0usize;
     for moment in moments {
         let is_shown = words.cpus.has(moment.line.deed.cpu().index());
-        if is_shown && scale.shows(moment.begin, moment.begin) {
+        if is_shown && scale.has(moment.begin) {
             shown = shown.saturating_add(1);
         }
     }
@@ -282,7 +271,7 @@ fn all_lanes(
     deeds: usize,
     words: &Words,
 ) -> Result<Vec<Lane>, AllocError> {
-    let shown = lanes_shown(cpus, words);
+    let shown = words.cpus.count(cpus);
     let mut lanes = Vec::new(alloc);
     for cpu in 0..cpus.min(CpuId::COUNT) {
         lanes.push(Lane {
@@ -303,8 +292,8 @@ impl Lane {
     fn follow(&mut self, moment: &Moment, scale: &Scale, words: &Words) -> Option<Sign> {
         let after = running_after(moment, self.running);
         let is_drawn = self.shown
-            && scale.shows(moment.begin, moment.begin)
-            && is_chosen(moment, self.running, words);
+            && scale.has(moment.begin)
+            && words.tasks.has_task(task_of(moment, self.running));
         let sign = sign_of(moment, self.running);
         self.running = after;
         if is_drawn { sign } else { None }

@@ -43,17 +43,16 @@ impl TaskRows {
             least: 0,
             left_out: 0,
         };
-        let mut chosen = 0u64;
         for task in 0..scene.setup.tasks() {
             if scene.words.tasks.has(task) {
                 rows.tops.push(Some(rows.bottom))?;
                 rows.bottom = rows.bottom.saturating_add(PITCH);
-                chosen = chosen.saturating_add(1);
             } else {
                 rows.tops.push(None)?;
             }
         }
         if boxes_shown(scene) > MOST_BOXES {
+            let chosen = scene.words.tasks.count(scene.setup.tasks()) as u64;
             rows.least = part(10 * Scale::WIDTH, chosen, MOST_BOXES as u64);
         }
         Ok(rows)

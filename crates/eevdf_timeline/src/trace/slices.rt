@@ -5,6 +5,7 @@ use crate::scene::Scene;
 use crate::stretches::{Rest, Stretch};
 use crate::trace::event::{Head, Phase, TASKS, Values, head_of, push_event};
 use eevdf_ops::CpuId;
+use eevdf_queue::TaskId;
 use std::alloc::{AllocError, Global};
 
 /// Writes a stretch on the track of its CPU, and on that of its task.
@@ -64,7 +65,7 @@ pub(crate) fn push_done(
     let args = Values {
         deed: Some(format!(in alloc; "{}", moment.line.deed)?),
         answer: Some(format!(in alloc; "{}", moment.line.answer)?),
-        task: task_after(scene, place),
+        task: task_after(scene, place).map(|task| task.get()),
         sender: sender_of(moment).map(|sender| sender.get()),
         lag: lag_after(scene, place),
         ..Values::none()
@@ -121,8 +122,8 @@ fn of_task(head: Head) -> Head {
 }
 
 /// The task that the deed at a place of the history concerns.
-fn task_after(scene: &Scene<'_>, place: usize) -> Option<u64> {
-    scene.lags.after.get(place)?.task.map(|task| task.get())
+pub(crate) fn task_after(scene: &Scene<'_>, place: usize) -> Option<TaskId> {
+    scene.lags.after.get(place)?.task
 }
 
 /// The lag of that task after it.

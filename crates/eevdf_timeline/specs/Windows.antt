@@ -1,0 +1,11 @@
+-- What is in the time that is drawn.
+use Rattle.std.specs.Prelude.{ℕ, nat_lt, nat_le, Bool, ◌&&◌, if◌then◌else◌}
+use Rattle.eevdf_timeline.specs.declared.scale.Scale.{Scale}
+
+-- a moment is in it at its edges too
+abbrev pub has : Scale → ℕ → Bool
+has w time = nat_le w.from time && nat_le time w.to
+
+-- what lasts is in it where it shares time with it, and what begins and ends at one moment as that moment
+abbrev pub shows : Scale → ℕ → ℕ → Bool
+shows w begin end = if nat_lt begin end then nat_lt begin w.to && nat_lt w.from end else has w begin
